@@ -1,0 +1,255 @@
+-- Worked rows: bytes, the front that they spell, and the stop there.
+use Rattle.std.proofs.Common.{◌≡◌, ℕ, List, [], ◌∷◌, ◌++◌, Some, None, false, refl, arith, lit≤}
+use Rattle.dcm_base.specs.declared.tag.Tag.{Tag}
+use Rattle.dcm_base.specs.declared.vr.Vr.TheVariants.{PN, SQ, UI, US, UN, OB}
+use Rattle.dcm_base.specs.declared.syntax.Syntax.TheVariants.{Little, Big}
+use Rattle.dcm_base.specs.declared.fault.Fault.TheVariants.{PassesEnd, UnknownRepresentation}
+use Rattle.dcm_base.specs.declared.length.Length.{Length}
+use Rattle.dcm_base.specs.declared.length.Length.TheVariants.{Known, Undefined}
+use Rattle.dcm_base.specs.Tree.{Trees, no_tree, leaf, sequence, fragments, Items, no_item, item}
+use Rattle.dcm_base.specs.Front.{Front, front, nothing_open, open_sequence, OpenItem, no_open_item, open_item}
+use Rattle.dcm_base.specs.Representation.{vr_of}
+use Rattle.dcm_base.specs.Dictionary.{dict_vr, element, elements}
+use Rattle.dcm_base.specs.Head.{vr_at, length_at}
+use Rattle.dcm_base.specs.Value.{order}
+use Rattle.dcm_base.specs.Spelling.{form, inside, FragmentsAt, TreesAt, ItemsAt, last_tag, SpellsFront}
+use Rattle.dcm_base.specs.Size.{fragments_size, trees_size}
+use Rattle.dcm_base.specs.Place.{set_levels, levels, value_open, room, depth, is_allowed}
+use Rattle.dcm_base.specs.Stop.{complete, refused, Bar, stop_at}
+
+unfoldable pub no_bar : Bar
+no_bar f tag vr declared = None
+
+-- all that a row computes with
+unfoldable pub all : ℕ
+unfolding no_bar vr_of dict_vr element elements vr_at length_at form inside FragmentsAt TreesAt last_tag SpellsFront fragments_size trees_size set_levels levels value_open room depth is_allowed stop_at
+all = 0
+
+abbrev pub patient_name : Tag
+patient_name = record { group = 0x0010; element = 0x0010 }
+
+abbrev name_bytes : List ℕ
+name_bytes = 0x10 ∷ 0x00 ∷ 0x10 ∷ 0x00 ∷ 0x50 ∷ 0x4E ∷ 0x06 ∷ 0x00 ∷ 0x41 ∷ 0x42 ∷ 0x5E ∷ 0x43 ∷ 0x44 ∷ 0x20 ∷ []
+
+abbrev name_front : Front
+name_front = front (leaf patient_name PN (0x41 ∷ 0x42 ∷ 0x5E ∷ 0x43 ∷ 0x44 ∷ 0x20 ∷ []) no_tree) nothing_open (Some patient_name) false
+
+name_spelled : SpellsFront Little name_front name_bytes
+unfolding all
+name_spelled = ([], ([], refl, record { no_item = λ e. omega (arith, e); head = record { tag_is = refl; vr_is = refl; whole = lit≤ tt; length_is = refl; after_is = refl } }, refl), refl, refl, refl)
+
+name_stop : stop_at no_bar Little 172 name_front 186 [] ≡ Some complete
+unfolding all
+name_stop = refl
+
+-- ---- an empty sequence of known length
+
+abbrev images : Tag
+images = record { group = 0x0008; element = 0x1140 }
+
+abbrev empty_bytes : List ℕ
+empty_bytes = 0x08 ∷ 0x00 ∷ 0x40 ∷ 0x11 ∷ 0x53 ∷ 0x51 ∷ 0x00 ∷ 0x00 ∷ 0x00 ∷ 0x00 ∷ 0x00 ∷ 0x00 ∷ []
+
+abbrev empty_front : Front
+empty_front = front (sequence images SQ (Known 0) no_item no_tree) nothing_open (Some images) false
+
+empty_spelled : SpellsFront Little empty_front empty_bytes
+unfolding all
+empty_spelled = ([], ([], [], refl, record { no_item = λ e. omega (arith, e); head = record { tag_is = refl; vr_is = refl; whole = lit≤ tt; length_is = refl; after_is = refl } }, ([], refl, refl, refl), refl), refl, refl, refl)
+
+empty_stop : stop_at no_bar Little 172 empty_front 184 [] ≡ Some complete
+unfolding all
+empty_stop = refl
+
+-- ---- an item of known length in a sequence of undefined length
+
+abbrev instance : Tag
+instance = record { group = 0x0008; element = 0x1155 }
+
+abbrev leaf_bytes : List ℕ
+leaf_bytes = 0x08 ∷ 0x00 ∷ 0x55 ∷ 0x11 ∷ 0x55 ∷ 0x49 ∷ 0x04 ∷ 0x00 ∷ 0x31 ∷ 0x2E ∷ 0x32 ∷ 0x00 ∷ []
+
+abbrev end_bytes : List ℕ
+end_bytes = 0xFE ∷ 0xFF ∷ 0xDD ∷ 0xE0 ∷ 0x00 ∷ 0x00 ∷ 0x00 ∷ 0x00 ∷ []
+
+abbrev item_bytes : List ℕ
+item_bytes = (0xFE ∷ 0xFF ∷ 0x00 ∷ 0xE0 ∷ 0x0C ∷ 0x00 ∷ 0x00 ∷ 0x00 ∷ []) ++ leaf_bytes
+
+abbrev sequence_bytes : List ℕ
+sequence_bytes = (0x08 ∷ 0x00 ∷ 0x40 ∷ 0x11 ∷ 0x53 ∷ 0x51 ∷ 0x00 ∷ 0x00 ∷ 0xFF ∷ 0xFF ∷ 0xFF ∷ 0xFF ∷ []) ++ item_bytes ++ end_bytes
+
+abbrev instance_leaf : Trees
+instance_leaf = leaf instance UI (0x31 ∷ 0x2E ∷ 0x32 ∷ 0x00 ∷ []) no_tree
+
+abbrev sequence_front : Front
+sequence_front = front (sequence images SQ Undefined (item (Known 12) instance_leaf no_item) no_tree) nothing_open (Some images) false
+
+leaf_spelled : TreesAt Little instance_leaf leaf_bytes []
+unfolding all
+leaf_spelled = ([], refl, record { no_item = λ e. omega (arith, e); head = record { tag_is = refl; vr_is = refl; whole = lit≤ tt; length_is = refl; after_is = refl } }, refl)
+
+items_spelled : ItemsAt Little (item (Known 12) instance_leaf no_item) (item_bytes ++ end_bytes) end_bytes
+unfolding all
+items_spelled = (leaf_bytes ++ end_bytes, end_bytes, record { tag_is = refl; whole = lit≤ tt; length_is = refl; after_is = refl }, (leaf_bytes, refl, refl, leaf_spelled), refl)
+
+sequence_spelled : SpellsFront Little sequence_front sequence_bytes
+unfolding all
+sequence_spelled = (
+  [],
+  (
+    item_bytes ++ end_bytes,
+    [],
+    refl,
+    record { no_item = λ e. omega (arith, e); head = record { tag_is = refl; vr_is = refl; whole = lit≤ tt; length_is = refl; after_is = refl } },
+    (end_bytes, items_spelled, record { tag_is = refl; whole = lit≤ tt; after_is = refl }),
+    refl,
+  ),
+  refl,
+  refl,
+  refl,
+)
+
+sequence_stop : stop_at no_bar Little 172 sequence_front 212 [] ≡ Some complete
+unfolding all
+sequence_stop = refl
+
+-- ---- an item that passes its sequence, and one that has no room for its end
+
+abbrev open_front : Length → OpenItem → Front
+open_front declared last = front no_tree (open_sequence images SQ declared no_item last) (Some images) false
+
+known_spelled : SpellsFront Little (open_front (Known 16) no_open_item) (0x08 ∷ 0x00 ∷ 0x40 ∷ 0x11 ∷ 0x53 ∷ 0x51 ∷ 0x00 ∷ 0x00 ∷ 0x10 ∷ 0x00 ∷ 0x00 ∷ 0x00 ∷ [])
+unfolding all
+known_spelled = (
+  0x08 ∷ 0x00 ∷ 0x40 ∷ 0x11 ∷ 0x53 ∷ 0x51 ∷ 0x00 ∷ 0x00 ∷ 0x10 ∷ 0x00 ∷ 0x00 ∷ 0x00 ∷ [],
+  refl,
+  ([], [], refl, record { no_item = λ e. omega (arith, e); head = record { tag_is = refl; vr_is = refl; whole = lit≤ tt; length_is = refl; after_is = refl } }, lit≤ tt, refl, refl),
+  refl,
+  refl,
+)
+
+known_stop : stop_at no_bar Little 172 (open_front (Known 16) no_open_item) 184 (0xFE ∷ 0xFF ∷ 0x00 ∷ 0xE0 ∷ 0x14 ∷ 0x00 ∷ 0x00 ∷ 0x00 ∷ []) ≡ Some (refused PassesEnd 184)
+unfolding all
+known_stop = refl
+
+full_spelled : SpellsFront Little (open_front (Known 8) (open_item Undefined (front no_tree nothing_open None false)))
+    (0x08 ∷ 0x00 ∷ 0x40 ∷ 0x11 ∷ 0x53 ∷ 0x51 ∷ 0x00 ∷ 0x00 ∷ 0x08 ∷ 0x00 ∷ 0x00 ∷ 0x00 ∷ 0xFE ∷ 0xFF ∷ 0x00 ∷ 0xE0 ∷ 0xFF ∷ 0xFF ∷ 0xFF ∷ 0xFF ∷ [])
+unfolding all
+full_spelled = (
+  _,
+  refl,
+  (
+    0xFE ∷ 0xFF ∷ 0x00 ∷ 0xE0 ∷ 0xFF ∷ 0xFF ∷ 0xFF ∷ 0xFF ∷ [],
+    _,
+    refl,
+    record { no_item = λ e. omega (arith, e); head = record { tag_is = refl; vr_is = refl; whole = lit≤ tt; length_is = refl; after_is = refl } },
+    lit≤ tt,
+    refl,
+    ([], record { tag_is = refl; whole = lit≤ tt; length_is = refl; after_is = refl }, tt, ([], refl, refl, refl, refl)),
+  ),
+  refl,
+  refl,
+)
+
+full_stop : stop_at no_bar Little 172 (open_front (Known 8) (open_item Undefined (front no_tree nothing_open None false))) 192 [] ≡ Some (refused PassesEnd 192)
+unfolding all
+full_stop = refl
+
+-- ---- a big endian value with a byte behind its last unit
+
+abbrev rows : Tag
+rows = record { group = 0x0028; element = 0x0010 }
+
+big_spelled : SpellsFront Big (front (leaf rows US (0x01 ∷ 0x00 ∷ 0x00 ∷ 0x02 ∷ 0x05 ∷ []) no_tree) nothing_open (Some rows) false)
+    (0x00 ∷ 0x28 ∷ 0x00 ∷ 0x10 ∷ 0x55 ∷ 0x53 ∷ 0x00 ∷ 0x05 ∷ 0x00 ∷ 0x01 ∷ 0x02 ∷ 0x00 ∷ 0x05 ∷ [])
+unfolding all
+big_spelled = ([], ([], refl, record { no_item = λ e. omega (arith, e); head = record { tag_is = refl; vr_is = refl; whole = lit≤ tt; length_is = refl; after_is = refl } }, refl), refl, refl, refl)
+
+-- ---- UN of undefined length in big endian holds implicit little endian
+
+abbrev private : Tag
+private = record { group = 0x0009; element = 0x1010 }
+
+abbrev in_private : Items
+in_private = item Undefined (leaf patient_name PN (0x41 ∷ 0x42 ∷ []) no_tree) no_item
+
+abbrev item_end : List ℕ
+item_end = 0xFE ∷ 0xFF ∷ 0x0D ∷ 0xE0 ∷ 0x00 ∷ 0x00 ∷ 0x00 ∷ 0x00 ∷ []
+
+abbrev in_item : List ℕ
+in_item = 0x10 ∷ 0x00 ∷ 0x10 ∷ 0x00 ∷ 0x02 ∷ 0x00 ∷ 0x00 ∷ 0x00 ∷ 0x41 ∷ 0x42 ∷ []
+
+abbrev opening : List ℕ
+opening = 0xFE ∷ 0xFF ∷ 0x00 ∷ 0xE0 ∷ 0xFF ∷ 0xFF ∷ 0xFF ∷ 0xFF ∷ []
+
+private_spelled : SpellsFront Big (front (sequence private UN Undefined in_private no_tree) nothing_open (Some private) false)
+    ((0x00 ∷ 0x09 ∷ 0x10 ∷ 0x10 ∷ 0x55 ∷ 0x4E ∷ 0x00 ∷ 0x00 ∷ 0xFF ∷ 0xFF ∷ 0xFF ∷ 0xFF ∷ []) ++ opening ++ in_item ++ item_end ++ end_bytes)
+unfolding all
+private_spelled = (
+  [],
+  (
+    opening ++ in_item ++ item_end ++ end_bytes,
+    [],
+    refl,
+    record { no_item = λ e. omega (arith, e); head = record { tag_is = refl; vr_is = refl; whole = lit≤ tt; length_is = refl; after_is = refl } },
+    (
+      end_bytes,
+      (
+        in_item ++ item_end ++ end_bytes,
+        end_bytes,
+        record { tag_is = refl; whole = lit≤ tt; length_is = refl; after_is = refl },
+        (
+          item_end ++ end_bytes,
+          (item_end ++ end_bytes, refl, record { no_item = λ e. omega (arith, e); head = record { tag_is = refl; vr_is = refl; whole = lit≤ tt; length_is = refl; after_is = refl } }, refl),
+          record { tag_is = refl; whole = lit≤ tt; after_is = refl },
+        ),
+        refl,
+      ),
+      record { tag_is = refl; whole = lit≤ tt; after_is = refl },
+    ),
+    refl,
+  ),
+  refl,
+  refl,
+  refl,
+)
+
+-- ---- a fragment list
+
+abbrev pixels : Tag
+pixels = record { group = 0x7FE0; element = 0x0010 }
+
+abbrev fragment_bytes : List ℕ
+fragment_bytes = 0xFE ∷ 0xFF ∷ 0x00 ∷ 0xE0 ∷ 0x02 ∷ 0x00 ∷ 0x00 ∷ 0x00 ∷ 0xFF ∷ 0xD8 ∷ []
+
+pixels_spelled : SpellsFront Little (front (fragments pixels OB ([] ∷ (0xFF ∷ 0xD8 ∷ []) ∷ []) no_tree) nothing_open (Some pixels) false)
+    ((0xE0 ∷ 0x7F ∷ 0x10 ∷ 0x00 ∷ 0x4F ∷ 0x42 ∷ 0x00 ∷ 0x00 ∷ 0xFF ∷ 0xFF ∷ 0xFF ∷ 0xFF ∷ []) ++ (0xFE ∷ 0xFF ∷ 0x00 ∷ 0xE0 ∷ 0x00 ∷ 0x00 ∷ 0x00 ∷ 0x00 ∷ []) ++ fragment_bytes ++ end_bytes)
+unfolding all
+pixels_spelled = (
+  [],
+  (
+    (0xFE ∷ 0xFF ∷ 0x00 ∷ 0xE0 ∷ 0x00 ∷ 0x00 ∷ 0x00 ∷ 0x00 ∷ []) ++ fragment_bytes ++ end_bytes,
+    [],
+    refl,
+    record { no_item = λ e. omega (arith, e); head = record { tag_is = refl; vr_is = refl; whole = lit≤ tt; length_is = refl; after_is = refl } },
+    (
+      end_bytes,
+      (
+        fragment_bytes ++ end_bytes,
+        record { tag_is = refl; whole = lit≤ tt; length_is = refl; after_is = refl },
+        (end_bytes, record { tag_is = refl; whole = lit≤ tt; length_is = refl; after_is = refl }, refl),
+      ),
+      record { tag_is = refl; whole = lit≤ tt; after_is = refl },
+    ),
+    refl,
+  ),
+  refl,
+  refl,
+  refl,
+)
+
+-- ---- letters that are no capitals
+
+no_letters_stop : stop_at no_bar Little 172 (front no_tree nothing_open None false) 172 (0x10 ∷ 0x00 ∷ 0x10 ∷ 0x00 ∷ 0x70 ∷ 0x6E ∷ 0x02 ∷ 0x00 ∷ []) ≡ Some (refused UnknownRepresentation 172)
+unfolding all
+no_letters_stop = refl

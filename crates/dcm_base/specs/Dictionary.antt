@@ -1,0 +1,50 @@
+-- The extract of the data dictionary (PS3.6 section 6).
+use Rattle.std.specs.Prelude.{ℕ, Bool, true, ◌&&◌, ◌==◌, nat_le, ◌%◌, if◌then◌else◌, List, map, find, codes, Option, Some, None, option_map, bytes_eq}
+use Rattle.std.specs.Option.{option_map_or}
+use Rattle.dcm_base.specs.declared.tag.Tag.{Tag}
+use Rattle.dcm_base.specs.declared.vr.Vr.{Vr}
+use Rattle.dcm_base.specs.declared.vr.Vr.TheVariants.{UL, LO, UN}
+use Rattle.dcm_base.specs.declared.dictionary.TheConstants.{ELEMENTS}
+use Rattle.dcm_base.specs.Tag.{number, tag_of_number}
+
+-- the number of a tag, its value representation and its keyword
+abbrev pub Element : Type 0
+Element = ℕ × Vr × List ℕ
+
+unfoldable pub elements : List Element
+elements = map (λ e. (e.0, e.1, e.2.now)) ELEMENTS
+
+-- the value representation and the keyword of a number
+abbrev pub numbered : List Element → ℕ → Option (Vr × List ℕ)
+numbered es n = option_map (λ e. (e.1, e.2)) (find (λ e. e.0 == n) es)
+
+-- the number that has a keyword
+abbrev pub called : List Element → List ℕ → Option ℕ
+called es k = option_map (λ e. e.0) (find (λ e. bytes_eq e.2 k) es)
+
+-- the value representation and the keyword of a tag of the extract
+unfoldable pub element : Tag → Option (Vr × List ℕ)
+element t = numbered elements (number t)
+
+-- the length of a group, in its element 0000
+abbrev pub is_group_length : Tag → Bool
+is_group_length t = t.element == 0
+
+-- a block of private elements is reserved by an element 0010 to 00FF of an odd group (PS3.5 7.8.1)
+abbrev pub is_private_creator : Tag → Bool
+is_private_creator t = t.group % 2 == 1 && (nat_le 16 t.element && nat_le t.element 255)
+
+-- the value representation of an implicit head
+unfoldable pub dict_vr : Tag → Vr
+dict_vr t = option_map_or (λ e. e.0) (element t) (if is_group_length t then UL else if is_private_creator t then LO else UN)
+
+-- what items and delimiters are called, and what all other tags are
+abbrev pub other_keyword : ℕ → List ℕ
+other_keyword n = if n == 0xFFFEE000 then codes "Item" else if n == 0xFFFEE00D then codes "ItemDelimitationItem" else if n == 0xFFFEE0DD then codes "SequenceDelimitationItem" else codes "Unknown Tag & Data"
+
+unfoldable pub keyword : Tag → List ℕ
+keyword t = option_map_or (λ e. e.1) (element t) (if is_group_length t then codes "GenericGroupLength" else if is_private_creator t then codes "PrivateCreator" else other_keyword (number t))
+
+-- the tag of the extract's element that has the keyword
+unfoldable pub tag_of : List ℕ → Option Tag
+tag_of k = option_map tag_of_number (called elements k)

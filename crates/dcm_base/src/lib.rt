@@ -1,0 +1,33 @@
+//! Tags, value representations, syntaxes, refusals and devices, and the definitions that every contract cites.
+#![tactic(auto)]
+
+mod calls;
+mod device;
+mod dictionary;
+mod fault;
+pub mod laws;
+mod length;
+mod memory;
+mod mode;
+mod std_device;
+mod syntax;
+mod tag;
+mod transfer;
+mod uid;
+mod vr;
+mod watched;
+
+pub use calls::{flush_out, get_some, put_all, put_decimal};
+pub use device::{Device, DeviceIn, DeviceOut, ReadFailed, WriteFailed};
+pub use dictionary::{ELEMENTS, dict_vr, keyword, tag_of};
+pub use fault::{EditRefusal, Fault, LineFault, Stop};
+pub use length::Length;
+pub use memory::{MemIn, MemOut};
+pub use mode::Mode;
+pub use std_device::Std;
+pub use syntax::{Coding, Syntax};
+pub use tag::Tag;
+pub use transfer::{Deflated, coding_of};
+pub use uid::{uid_name, uid_of};
+pub use vr::{Vr, vr_of};
+pub use watched::Watched;

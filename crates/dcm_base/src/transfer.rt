@@ -1,0 +1,44 @@
+// Transfer syntaxes (PS3.5 annex A).
+ghost use Rattle.std.specs.Prelude.{◌≡◌};
+ghost use Rattle.dcm_base.specs.Transfer as spec;
+
+use crate::syntax::{Coding, Syntax};
+
+/// A transfer syntax whose data set is deflated, and is not read.
+#[derive(Clone, Copy, Debug, PartialEq, Eq)]
+pub struct Deflated;
+
+fn is_deflated(uid: &[u8]) -> bool
+    ensures { result ≡ spec.is_deflated uid.now }
+{
+    uid == b"1.2.840.10008.1.2.1.99".as_slice()
+        || uid == b"1.2.840.10008.1.2.4.95".as_slice()
+        || uid == b"1.2.840.10008.1.2.4.205".as_slice()
+}
+
+/// How a data set of this transfer syntax is spelled (PS3.5 A.1, A.2, A.3, A.4).
+#[tactic(auto, unfolding(crate::specs::Transfer::coding_of))]
+pub fn coding_of(uid: &[u8]) -> Result<Coding, Deflated>
+    ensures { result ≡ spec.coding_of uid.now }
+{
+    let native = |syntax| Coding {
+        syntax,
+        encapsulated: false,
+    };
+    if uid == b"1.2.840.10008.1.2".as_slice() {
+        return Ok(native(Syntax::Implicit));
+    }
+    if uid == b"1.2.840.10008.1.2.1".as_slice() {
+        return Ok(native(Syntax::Little));
+    }
+    if uid == b"1.2.840.10008.1.2.2".as_slice() {
+        return Ok(native(Syntax::Big));
+    }
+    if is_deflated(uid) {
+        return Err(Deflated);
+    }
+    Ok(Coding {
+        syntax: Syntax::Little,
+        encapsulated: true,
+    })
+}

@@ -1,0 +1,165 @@
+ghost use Rattle.std.specs.Prelude.{◌≡◌, find, bytes_eq};
+ghost use Rattle.std.specs.Option.{option_copied};
+ghost use Rattle.dcm_base.specs.Representation as spec;
+
+/// The value representations (PS3.5 6.2).
+#[derive(Clone, Copy, Debug, PartialEq, Eq)]
+pub enum Vr {
+    AE,
+    AS,
+    AT,
+    CS,
+    DA,
+    DS,
+    DT,
+    FD,
+    FL,
+    IS,
+    LO,
+    LT,
+    OB,
+    OD,
+    OF,
+    OL,
+    OV,
+    OW,
+    PN,
+    SH,
+    SL,
+    SQ,
+    SS,
+    ST,
+    SV,
+    TM,
+    UC,
+    UI,
+    UL,
+    UN,
+    UR,
+    US,
+    UT,
+    UV,
+}
+
+/// The value representations and their letters (PS3.5 6.2).
+pub const LETTERS: [(Vr, [u8; 2]); 34] = [
+    (Vr::AE, *b"AE"),
+    (Vr::AS, *b"AS"),
+    (Vr::AT, *b"AT"),
+    (Vr::CS, *b"CS"),
+    (Vr::DA, *b"DA"),
+    (Vr::DS, *b"DS"),
+    (Vr::DT, *b"DT"),
+    (Vr::FD, *b"FD"),
+    (Vr::FL, *b"FL"),
+    (Vr::IS, *b"IS"),
+    (Vr::LO, *b"LO"),
+    (Vr::LT, *b"LT"),
+    (Vr::OB, *b"OB"),
+    (Vr::OD, *b"OD"),
+    (Vr::OF, *b"OF"),
+    (Vr::OL, *b"OL"),
+    (Vr::OV, *b"OV"),
+    (Vr::OW, *b"OW"),
+    (Vr::PN, *b"PN"),
+    (Vr::SH, *b"SH"),
+    (Vr::SL, *b"SL"),
+    (Vr::SQ, *b"SQ"),
+    (Vr::SS, *b"SS"),
+    (Vr::ST, *b"ST"),
+    (Vr::SV, *b"SV"),
+    (Vr::TM, *b"TM"),
+    (Vr::UC, *b"UC"),
+    (Vr::UI, *b"UI"),
+    (Vr::UL, *b"UL"),
+    (Vr::UN, *b"UN"),
+    (Vr::UR, *b"UR"),
+    (Vr::US, *b"US"),
+    (Vr::UT, *b"UT"),
+    (Vr::UV, *b"UV"),
+];
+
+impl Vr {
+    /// Whether an explicit head has two reserved bytes and a length of four.
+    pub fn is_long(self) -> bool
+        ensures { result ≡ spec.is_long self }
+    {
+        matches!(
+            self,
+            Vr::OB
+                | Vr::OD
+                | Vr::OF
+                | Vr::OL
+                | Vr::OV
+                | Vr::OW
+                | Vr::SQ
+                | Vr::SV
+                | Vr::UC
+                | Vr::UN
+                | Vr::UR
+                | Vr::UT
+                | Vr::UV
+        )
+    }
+
+    /// The bytes of one unit, in which a big endian value is turned round.
+    pub fn unit(self) -> usize
+        ensures { result ≡ spec.unit self }
+    {
+        match self {
+            Vr::AT | Vr::US | Vr::SS | Vr::OW => 2,
+            Vr::UL | Vr::SL | Vr::FL | Vr::OF | Vr::OL => 4,
+            Vr::FD | Vr::OD | Vr::OV | Vr::SV | Vr::UV => 8,
+            _ => 1,
+        }
+    }
+
+    /// The byte that makes an odd value even.
+    pub fn pad(self) -> u8
+        ensures { result ≡ spec.pad self }
+    {
+        match self {
+            Vr::AE
+            | Vr::AS
+            | Vr::CS
+            | Vr::DA
+            | Vr::DS
+            | Vr::DT
+            | Vr::IS
+            | Vr::LO
+            | Vr::LT
+            | Vr::PN
+            | Vr::SH
+            | Vr::ST
+            | Vr::TM
+            | Vr::UC
+            | Vr::UR
+            | Vr::UT => b' ',
+            _ => 0,
+        }
+    }
+
+    /// Its two letters.
+    #[tactic(auto, unfolding(crate::specs::Representation::letters))]
+    pub fn letters(self) -> [u8; 2]
+        ensures { result ≡ spec.letters self }
+    {
+        LETTERS[self as usize].1
+    }
+}
+
+/// The row that has the letters.
+fn lettered<'a>(rows: &'a [(Vr, [u8; 2])], letters: &[u8; 2]) -> Option<&'a (Vr, [u8; 2])>
+    ensures { option_copied result ≡ find (λ r. bytes_eq r.1 letters.now) rows.now }
+{
+    rows.iter().find(|row| row.1 == *letters)
+}
+
+/// The value representation of two letters.
+#[tactic(auto, unfolding(crate::specs::Representation::vr_of))]
+pub fn vr_of(letters: &[u8; 2]) -> Option<Vr>
+    ensures { result ≡ spec.vr_of letters.now }
+{
+    let row = lettered(&LETTERS, letters)?;
+    Some(row.0)
+}
