@@ -19,3 +19,4 @@ pub mod Between
 pub mod OneShown
 pub mod Answered
 pub mod Puts
+pub mod Runs

@@ -21,3 +21,4 @@ pub mod Dump
 pub mod Recode
 pub mod Device
 pub mod Decimal
+pub mod Steps

@@ -10,15 +10,11 @@ use Rattle.dcm_base.specs.Tag.{is_item, is_item_end, is_sequence_end}
 use Rattle.dcm_base.specs.Spelling.{inside}
 use Rattle.dcm_base.specs.Size.{trees_size, items_size}
 
-pub data Container : Type 0 where
-  the_data_set an_item a_sequence a_fragment_list : Container
+pub use Rattle.dcm_base.specs.declared.level.Container.{Container}
+pub use Rattle.dcm_base.specs.declared.level.Container.TheVariants.{DataSet as the_data_set, Item as an_item, Sequence as a_sequence, FragmentList as a_fragment_list}
 
 -- a container that stands open: the syntax of what it holds, its length, and the offset of its end where that is known
-pub record Level : Type 0 where
-  pub container : Container
-  pub syntax : Syntax
-  pub declared : Length
-  pub end_offset : Option ℕ
+pub use Rattle.dcm_base.specs.declared.level.Level.{Level}
 
 abbrev pub end_of : Length → ℕ → Option ℕ
 end_of (Known size) begin = Some (begin + size)

@@ -14,8 +14,8 @@ use Rattle.dcm_base.specs.Tag.{item_end_tag, sequence_end_tag}
 use Rattle.dcm_base.specs.Value.{order}
 
 -- what a head says that follows it
-pub data Form : Type 0 where
-  a_value a_sequence a_fragment_list no_form : Form
+pub use Rattle.dcm_base.specs.declared.form.Form.{Form}
+pub use Rattle.dcm_base.specs.declared.form.Form.TheVariants.{Value as a_value, Sequence as a_sequence, FragmentList as a_fragment_list, Nothing as no_form}
 
 unfoldable pub form : Syntax → Vr → Length → Form
 form s SQ declared = a_sequence

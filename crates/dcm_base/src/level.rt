@@ -1,0 +1,21 @@
+use crate::length::Length;
+use crate::syntax::Syntax;
+
+/// What holds elements, items or fragments.
+#[derive(Clone, Copy, Debug, PartialEq, Eq)]
+pub enum Container {
+    DataSet,
+    Item,
+    Sequence,
+    FragmentList,
+}
+
+/// A container that stands open: the syntax of what it holds, the length that its head declares, and the offset of
+/// its end in bytes where that is known.
+#[derive(Clone, Copy, Debug, PartialEq, Eq)]
+pub struct Level {
+    pub container: Container,
+    pub syntax: Syntax,
+    pub declared: Length,
+    pub end_offset: Option<u64>,
+}
