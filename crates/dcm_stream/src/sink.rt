@@ -1,0 +1,51 @@
+// What takes tokens.
+ghost use Rattle.std.specs.Prelude.{◌≡◌, ℕ, Bool, List, Option, OnOk, fold};
+ghost use Rattle.dcm_base.specs.Device.{Puts, Tells};
+ghost use Rattle.dcm_base.specs.Atoms.{Atom};
+ghost use Rattle.dcm_stream.specs.declared.token.Bar.{Bar};
+ghost use Rattle.dcm_head.specs.declared.head.Head.{Head};
+ghost use Rattle.dcm_base.specs.Steps.{outputs};
+ghost use Rattle.dcm_stream.specs.Tokens.{atoms_of, Bars};
+
+use super::{Bar, Token};
+use dcm_base::WriteFailed;
+use dcm_head::Head;
+
+/// What takes tokens, one after another.
+pub trait Sink {
+    /// What the tokens so far leave it in, apart from what was written.
+    ghost State: { Type 0 };
+
+    ghost state: { Self → State };
+
+    /// The state behind an atom.
+    ghost step: { State → Atom → State };
+
+    /// The bytes that an atom makes it write.
+    ghost writes: { State → Atom → List ℕ };
+
+    /// Why it refuses a head, where it does.
+    ghost bar: { State → Head → Option Bar };
+
+    /// What its writer holds, where that is told.
+    ghost contents: { Self → Option (List ℕ) };
+
+    /// Whether its writer has failed.
+    ghost has_failed: { Self → Bool };
+
+    /// What no call changes, as the name of a writer that it was lent.
+    ghost Kept: { Type 0 };
+
+    ghost kept: { Self → Kept };
+
+    /// Takes a token. An `Err` is a writer that failed in this call.
+    fn take(&mut self, token: Token) -> Result<(), WriteFailed>
+        ensures state { OnOk result (state self.new ≡ fold step (state self.old) (atoms_of token.entry)) }
+        ensures bytes { Puts (contents self.old) (contents self.new) (outputs step writes (state self.old) (atoms_of token.entry)) result }
+        ensures failed { Tells (has_failed self.old) (has_failed self.new) result }
+        ensures kept { kept self.new ≡ kept self.old };
+
+    /// Whether it takes an element with this head.
+    fn accepts(&self, head: &Head) -> Result<(), Bar>
+        ensures { Bars (bar (state self.now) head.now) result };
+}
