@@ -20,3 +20,4 @@ pub mod OneShown
 pub mod Answered
 pub mod Puts
 pub mod Runs
+pub mod PartsOut

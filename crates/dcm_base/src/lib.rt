@@ -19,7 +19,7 @@ mod uid;
 mod vr;
 mod watched;
 
-pub use calls::{flush_out, get_some, put_all, put_decimal};
+pub use calls::{flush_out, get_some, put_all, put_decimal, put_parts};
 pub use device::{Device, DeviceIn, DeviceOut, ReadFailed, WriteFailed};
 pub use dictionary::{ELEMENTS, dict_vr, keyword, tag_of};
 pub use fault::{EditRefusal, Fault, LineFault, Stop};
