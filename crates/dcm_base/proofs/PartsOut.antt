@@ -20,3 +20,14 @@ parts_failed {X} {T} {E} f old mid new xs i d r h went failed front =
   where
     behind : (old mid new : Option (List ℕ)) (xs ys : List ℕ) → mid ≡ append_known old xs → AppendsFront mid new ys → AppendsFront old new (xs ++ ys)
     behind old mid new xs ys went front = puts_behind {T = ℕ} {E = ℕ} old mid new xs ys (Err 0) went front
+
+-- a failure in the first part
+pub part_failed : {T E : Type 0} (old new : Option (List ℕ)) (first put rest all : List ℕ) (r : Result T E) → IsErr r → put ≡ first → all ≡ first ++ rest → AppendsFront old new put → Puts old new all r
+part_failed {T} {E} old new first put rest all r failed same whole front =
+    subst (λ bs. Puts {T = T} {E = E} old new bs r) (sym whole) (puts_err old new (first ++ rest) r failed (front_longer rest (subst (AppendsFront old new) same front)))
+
+-- one part and then another
+pub parts_put : {T E : Type 0} (old mid new : Option (List ℕ)) (first put second put_next all : List ℕ) (r : Result T E) → put ≡ first → put_next ≡ second → all ≡ first ++ second → mid ≡ append_known old put → Puts mid new put_next r → Puts old new all r
+parts_put {T} {E} old mid new first put second put_next all r same same_next whole went next =
+    subst (λ bs. Puts {T = T} {E = E} old new bs r) (sym whole)
+    (puts_behind old mid new first second r (went ∙ ap (append_known old) same) (subst (λ bs. Puts {T = T} {E = E} mid new bs r) same_next next))

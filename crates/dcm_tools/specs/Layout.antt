@@ -1,0 +1,15 @@
+-- The lines of a dump, in parts.
+use Rattle.std.specs.Prelude.{ℕ, ◌-◌, List, ◌∷◌, [], ◌++◌, length, codes, decimal, replicate}
+use Rattle.dcm_base.specs.declared.tag.Tag.{Tag}
+use Rattle.dcm_base.specs.declared.length.Length.{Length}
+use Rattle.dcm_base.specs.declared.length.Length.TheVariants.{Known, Undefined}
+use Rattle.dcm_base.specs.Dictionary.{keyword}
+
+abbrev pub length_digits_of : Length → List ℕ
+length_digits_of (Known n) = decimal n
+length_digits_of Undefined = codes "u/l"
+
+-- a line behind its display
+abbrev pub line_rest : Tag → Length → ℕ → List ℕ
+line_rest tag declared count =
+    codes " # " ++ (replicate (3 - length (length_digits_of declared)) 32 ++ length_digits_of declared) ++ codes ", " ++ decimal count ++ codes " " ++ keyword tag ++ 10 ∷ []
