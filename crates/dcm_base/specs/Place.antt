@@ -9,10 +9,8 @@ use Rattle.dcm_base.specs.Head.{head_size}
 use Rattle.dcm_base.specs.Tag.{is_item, is_item_end, is_sequence_end}
 use Rattle.dcm_base.specs.Spelling.{inside}
 use Rattle.dcm_base.specs.Size.{trees_size, items_size}
-
 pub use Rattle.dcm_base.specs.declared.level.Container.{Container}
 pub use Rattle.dcm_base.specs.declared.level.Container.TheVariants.{DataSet as the_data_set, Item as an_item, Sequence as a_sequence, FragmentList as a_fragment_list}
-
 -- a container that stands open: the syntax of what it holds, its length, and the offset of its end where that is known
 pub use Rattle.dcm_base.specs.declared.level.Level.{Level}
 

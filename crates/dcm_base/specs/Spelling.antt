@@ -12,7 +12,6 @@ use Rattle.dcm_base.specs.Front.{Front, front, OpenTree, nothing_open, open_leaf
 use Rattle.dcm_base.specs.Head.{ElementHead, ItemHead, Delimiter}
 use Rattle.dcm_base.specs.Tag.{item_end_tag, sequence_end_tag}
 use Rattle.dcm_base.specs.Value.{order}
-
 -- what a head says that follows it
 pub use Rattle.dcm_base.specs.declared.form.Form.{Form}
 pub use Rattle.dcm_base.specs.declared.form.Form.TheVariants.{Value as a_value, Sequence as a_sequence, FragmentList as a_fragment_list, Nothing as no_form}

@@ -1,3 +1,10 @@
+ghost use Rattle.std.specs.Prelude.{◌≡◌};
+ghost use Rattle.dcm_base.specs.Spelling as spec;
+
+use crate::length::Length;
+use crate::syntax::Syntax;
+use crate::vr::Vr;
+
 /// What follows the head of an element: a value, items, fragments, or nothing that may stand there (PS3.5 7.5, A.4).
 #[derive(Clone, Copy, Debug, PartialEq, Eq)]
 pub enum Form {
@@ -5,4 +12,17 @@ pub enum Form {
     Sequence,
     FragmentList,
     Nothing,
+}
+
+/// What follows a head of this syntax, representation and length (PS3.5 7.5, 6.2.2, A.4).
+#[tactic(auto, unfolding(crate::specs::Spelling::form))]
+pub fn form_of(syntax: Syntax, vr: Vr, length: Length) -> Form
+    ensures { result ≡ spec.form syntax vr length }
+{
+    match (vr, length) {
+        (Vr::SQ, _) | (Vr::UN, Length::Undefined) => Form::Sequence,
+        (_, Length::Known(_)) => Form::Value,
+        (Vr::OB | Vr::OW, Length::Undefined) if syntax == Syntax::Little => Form::FragmentList,
+        (_, Length::Undefined) => Form::Nothing,
+    }
 }

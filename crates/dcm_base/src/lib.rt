@@ -23,7 +23,7 @@ pub use calls::{flush_out, get_some, put_all, put_decimal, put_parts};
 pub use device::{Device, DeviceIn, DeviceOut, ReadFailed, WriteFailed};
 pub use dictionary::{ELEMENTS, dict_vr, keyword, tag_of};
 pub use fault::{EditRefusal, Fault, LineFault, Stop};
-pub use form::Form;
+pub use form::{Form, form_of};
 pub use length::Length;
 pub use level::{Container, Level};
 pub use memory::{MemIn, MemOut};
