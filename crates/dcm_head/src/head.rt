@@ -1,8 +1,10 @@
 // Heads as they stand in bytes (PS3.5 7.1.2, 7.1.3, 7.5).
-ghost use Rattle.std.specs.Prelude.{◌≡◌, ◌≤◌, length, slice_index};
-ghost use Rattle.dcm_base.specs.Head.{tag_at, long_length};
+ghost use Rattle.std.specs.Prelude.{◌≡◌, ◌≢◌, ◌≤◌, length};
+ghost use Rattle.dcm_base.specs.Head.{tag_at, vr_at, long_length};
 ghost use Rattle.dcm_base.specs.Number.{number};
+ghost use Rattle.dcm_base.specs.Tag.{is_item as is_item_tag};
 ghost use Rattle.dcm_base.specs.Representation.{is_capital as is_capital_letter, vr_read};
+ghost use Rattle.dcm_head.specs.HeadRead as spec;
 
 use byteorder::{BigEndian, ByteOrder, LittleEndian};
 use dcm_base::{Length, Syntax, Tag, Vr, dict_vr, vr_of};
@@ -23,6 +25,23 @@ pub enum HeadRead {
     More(usize),
     BadVr,
 }
+
+/// The sizes of a head: with a length of two bytes or no representation, and with two reserved bytes and a length of four.
+const SHORT_HEAD: usize = 8;
+
+const LONG_HEAD: usize = 12;
+
+/// How the undefined length is spelled.
+const UNDEFINED: u32 = 0xFFFF_FFFF;
+
+/// The group of items and delimiters, and the elements of each (PS3.5 7.5).
+const ITEMS: u16 = 0xFFFE;
+
+const ITEM: u16 = 0xE000;
+
+const ITEM_END: u16 = 0xE00D;
+
+const SEQUENCE_END: u16 = 0xE0DD;
 
 /// The tag that the first four bytes spell.
 pub fn read_tag(syntax: Syntax, bytes: &[u8]) -> Tag
@@ -61,7 +80,7 @@ fn read_long(syntax: Syntax, bytes: &[u8]) -> Length
         Syntax::Implicit | Syntax::Little => LittleEndian::read_u32(bytes),
         Syntax::Big => BigEndian::read_u32(bytes),
     };
-    if n == 0xFFFF_FFFF {
+    if n == UNDEFINED {
         Length::Undefined
     } else {
         Length::Known(n)
@@ -74,13 +93,12 @@ fn is_capital(letter: u8) -> bool
     65 <= letter && letter <= 90
 }
 
-/// How two letters are read.
-fn read_vr(letters: &[u8]) -> Option<Vr>
-    requires { 2 ≤ length letters.now }
-    ensures { result ≡ vr_read (slice_index letters.now 0) (slice_index letters.now 1) }
+/// How two letters are read: capitals that name nothing are UN.
+fn read_vr(first: u8, second: u8) -> Option<Vr>
+    ensures { result ≡ vr_read first second }
 {
-    if is_capital(letters[0]) && is_capital(letters[1]) {
-        Some(vr_of(&[letters[0], letters[1]]).unwrap_or(Vr::UN))
+    if is_capital(first) && is_capital(second) {
+        Some(vr_of(&[first, second]).unwrap_or(Vr::UN))
     } else {
         None
     }
@@ -88,36 +106,80 @@ fn read_vr(letters: &[u8]) -> Option<Vr>
 
 /// The head of an element in an explicit syntax.
 fn read_explicit(syntax: Syntax, bytes: &[u8]) -> HeadRead
-    requires { 8 ≤ length bytes.now }
+    requires explicit { syntax ≢ Syntax.Implicit }
+    requires eight { 8 ≤ length bytes.now }
+    ensures { result ≡ spec.element_read syntax bytes.now (vr_at syntax bytes.now) }
 {
-    let Some(vr) = read_vr(&bytes[4..]) else {
+    let Some(vr) = read_vr(bytes[4], bytes[5]) else {
         return HeadRead::BadVr;
     };
     let tag = read_tag(syntax, bytes);
     if !vr.is_long() {
         let length = Length::Known(u32::from(read_short(syntax, &bytes[6..])));
-        return HeadRead::Done(Head { tag, vr, length }, 8);
+        return HeadRead::Done(Head { tag, vr, length }, SHORT_HEAD);
     }
-    if bytes.len() < 12 {
-        return HeadRead::More(12);
+    if bytes.len() < LONG_HEAD {
+        return HeadRead::More(LONG_HEAD);
     }
     let length = read_long(syntax, &bytes[8..]);
-    HeadRead::Done(Head { tag, vr, length }, 12)
+    HeadRead::Done(Head { tag, vr, length }, LONG_HEAD)
 }
 
-/// The head that the bytes begin with.
-pub fn read_head(syntax: Syntax, bytes: &[u8]) -> HeadRead {
-    if bytes.len() < 8 {
-        return HeadRead::More(8);
+/// The head of an element.
+fn read_element(syntax: Syntax, bytes: &[u8]) -> HeadRead
+    requires { 8 ≤ length bytes.now }
+    ensures { result ≡ spec.element_read syntax bytes.now (vr_at syntax bytes.now) }
+{
+    match syntax {
+        Syntax::Implicit => {
+            let tag = read_tag(syntax, bytes);
+            let (vr, length) = (dict_vr(tag), read_long(syntax, &bytes[4..]));
+            HeadRead::Done(Head { tag, vr, length }, SHORT_HEAD)
+        }
+        Syntax::Little | Syntax::Big => read_explicit(syntax, bytes),
+    }
+}
+
+fn is_item(tag: Tag) -> bool
+    ensures { result ≡ is_item_tag tag }
+{
+    tag.group == ITEMS && tag.element == ITEM
+}
+
+fn is_delimiter(tag: Tag) -> bool
+    ensures { result ≡ spec.is_delimiter tag }
+{
+    tag.group == ITEMS && (tag.element == ITEM_END || tag.element == SEQUENCE_END)
+}
+
+/// The head of an item or a delimiter, which has no representation.
+fn without_vr(tag: Tag, length: Length) -> HeadRead
+    ensures { result ≡ HeadRead.Done (record { tag = tag; vr = Vr.UN; length = length }) 8 }
+{
+    HeadRead::Done(
+        Head {
+            tag,
+            vr: Vr::UN,
+            length,
+        },
+        SHORT_HEAD,
+    )
+}
+
+/// The head that the bytes begin with (PS3.5 7.1.2, 7.1.3, 7.5).
+pub fn read_head(syntax: Syntax, bytes: &[u8]) -> HeadRead
+    ensures { result ≡ spec.head_read syntax bytes.now }
+{
+    if bytes.len() < SHORT_HEAD {
+        return HeadRead::More(SHORT_HEAD);
     }
     let tag = read_tag(syntax, bytes);
-    let plain = |vr, length| HeadRead::Done(Head { tag, vr, length }, 8);
-    match (tag.group, tag.element) {
-        (0xFFFE, 0xE000) => plain(Vr::UN, read_long(syntax, &bytes[4..])),
-        (0xFFFE, 0xE00D) | (0xFFFE, 0xE0DD) => plain(Vr::UN, Length::Known(0)),
-        _ => match syntax {
-            Syntax::Implicit => plain(dict_vr(tag), read_long(syntax, &bytes[4..])),
-            Syntax::Little | Syntax::Big => read_explicit(syntax, bytes),
-        },
+    if is_item(tag) {
+        let length = read_long(syntax, &bytes[4..]);
+        return without_vr(tag, length);
     }
+    if is_delimiter(tag) {
+        return without_vr(tag, Length::Known(0));
+    }
+    read_element(syntax, bytes)
 }

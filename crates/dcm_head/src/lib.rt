@@ -2,5 +2,6 @@
 #![tactic(auto)]
 
 mod head;
+pub mod laws;
 
 pub use head::{Head, HeadRead, read_head, read_tag};

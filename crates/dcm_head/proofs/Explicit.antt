@@ -1,0 +1,49 @@
+-- Heads of elements in an explicit syntax.
+use Rattle.std.proofs.Common.{◌≡◌, ◌≢◌, ℕ, ◌≤◌, List, length, get_or, drop, Option, Some, None, Bool, cond, refl, sym, ap, ◌∙◌, subst, length-drop, take, ◌-◌}
+use Rattle.std.proofs.Math.Seq.{take-length}
+use Rattle.dcm_base.specs.declared.tag.Tag.{Tag}
+use Rattle.dcm_base.specs.declared.vr.Vr.{Vr}
+use Rattle.dcm_base.specs.declared.syntax.Syntax.{Syntax}
+use Rattle.dcm_base.specs.declared.syntax.Syntax.TheVariants.{Implicit, Little, Big}
+use Rattle.dcm_base.specs.declared.length.Length.{Length}
+use Rattle.dcm_base.specs.declared.length.Length.TheVariants.{Known}
+use Rattle.dcm_base.specs.Number.{number}
+use Rattle.dcm_base.specs.Representation.{vr_read, is_long}
+use Rattle.dcm_base.specs.Head.{PlainHead, tag_at, vr_at, head_size, length_at, long_length}
+
+pub vr_is : (s : Syntax) (b : List ℕ) (r : Option Vr) → s ≢ Implicit → r ≡ vr_read (get_or b 4 0) (get_or b 5 0) → r ≡ vr_at s b
+unfolding vr_at
+vr_is Implicit b r h e = absurd (h refl)
+vr_is Little b r h e = e
+vr_is Big b r h e = e
+
+pub size_is : (s : Syntax) (vr : Vr) (long : Bool) → s ≢ Implicit → is_long vr ≡ long → head_size s vr ≡ cond long 12 8
+size_is Implicit vr long h e = absurd (h refl)
+size_is Little vr long h e = ap (λ (x : Bool). cond x 12 8) e
+size_is Big vr long h e = ap (λ (x : Bool). cond x 12 8) e
+
+pub length_is : (s : Syntax) (vr : Vr) (long : Bool) (b : List ℕ) → s ≢ Implicit → is_long vr ≡ long → length_at s vr b ≡ cond long (long_length (number s 4 (drop 8 b))) (Known (number s 2 (drop 6 b)))
+unfolding length_at
+length_is Implicit vr long b h e = absurd (h refl)
+length_is Little vr long b h e = ap (λ (x : Bool). cond x (long_length (number Little 4 (drop 8 b))) (Known (number Little 2 (drop 6 b)))) e
+length_is Big vr long b h e = ap (λ (x : Bool). cond x (long_length (number Big 4 (drop 8 b))) (Known (number Big 2 (drop 6 b)))) e
+
+pub head_is : (s : Syntax) (tag : Tag) (vr : Vr) (declared : Length) (long : Bool) (b : List ℕ) → s ≢ Implicit → is_long vr ≡ long → tag ≡ tag_at s b
+    → Some vr ≡ vr_read (get_or b 4 0) (get_or b 5 0) → cond long 12 8 ≤ length b
+    → declared ≡ cond long (long_length (number s 4 (drop 8 b))) (Known (number s 2 (drop 6 b)))
+    → PlainHead s tag vr declared b (drop (cond long 12 8) b)
+head_is s tag vr declared long b h e t v le d =
+    record {
+      tag_is = t;
+      vr_is = vr_is s b (Some vr) h v;
+      whole = subst (λ (n : ℕ). n ≤ length b) (sym (size_is s vr long h e)) le;
+      length_is = d ∙ sym (length_is s vr long b h e);
+      after_is = ap (λ (n : ℕ). drop n b) (sym (size_is s vr long h e));
+    }
+
+pub tail_is : (n : ℕ) (b : List ℕ) → take (length b - n) (drop n b) ≡ drop n b
+tail_is n b = ap (λ (k : ℕ). take k (drop n b)) (sym (length-drop n b)) ∙ take-length (drop n b)
+
+pub none_from : (o : Option Vr) → ((x : Vr) → o ≡ Some x → ⊥) → o ≡ None
+none_from None h = refl
+none_from (Some x) h = absurd (h x refl)

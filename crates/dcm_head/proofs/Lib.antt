@@ -1,0 +1,3 @@
+pub mod Explicit
+pub mod HeadReads
+pub mod HeadLaws
