@@ -14,6 +14,8 @@ pub mod Size
 pub mod Place
 pub mod Stop
 pub mod Reads
+pub mod MetaGroup
+pub mod MetaReads
 pub mod Atoms
 pub mod Bars
 pub mod ValueText

@@ -1,6 +1,6 @@
 -- What the front of bytes is read as, by what is known of them.
 use Rattle.std.proofs.Common.{◌≡◌, ℕ, ◌≤◌, ◌<◌, List, length, drop, Option, Some, None, Bool, true, false, cond, nat_lt, refl, sym, ap, ◌∙◌, subst}
-use Rattle.std.proofs.lemmas.Bool.{lt-ltb, le-ltb}
+use Rattle.std.proofs.lemmas.Bool.{lt-ltb, le-ltb, ltb-true, ltb-false}
 use Rattle.dcm_base.specs.declared.tag.Tag.{Tag}
 use Rattle.dcm_base.specs.declared.vr.Vr.{Vr}
 use Rattle.dcm_base.specs.declared.vr.Vr.TheVariants.{UN}
@@ -9,7 +9,8 @@ use Rattle.dcm_base.specs.declared.length.Length.{Length}
 use Rattle.dcm_base.specs.declared.length.Length.TheVariants.{Known}
 use Rattle.dcm_base.specs.Number.{number}
 use Rattle.dcm_base.specs.Tag.{is_item}
-use Rattle.dcm_base.specs.Head.{tag_at, vr_at, head_size, length_at, long_length}
+use Rattle.dcm_base.specs.Head.{PlainHead, tag_at, vr_at, head_size, length_at, long_length}
+use Rattle.dcm_head.specs.declared.head.HeadRead.{HeadRead}
 use Rattle.dcm_head.specs.declared.head.HeadRead.TheVariants.{Done, More, BadVr}
 use Rattle.dcm_head.specs.HeadRead.{is_delimiter, element_done, element_read, tag_read, head_read}
 
@@ -59,3 +60,23 @@ head_delimiter s b tag le t e f = head_long s b le ∙ ap (tag_read s b) (sym t)
 pub head_element : (s : Syntax) (b : List ℕ) (tag : Tag) → 8 ≤ length b → tag ≡ tag_at s b → is_item tag ≡ false → is_delimiter tag ≡ false
     → head_read s b ≡ element_read s b (vr_at s b)
 head_element s b tag le t e f = head_long s b le ∙ ap (tag_read s b) (sym t) ∙ by_tests s b tag false false e f
+
+-- ---- what the answer for an element tells
+
+abbrev pub ElementTold : Syntax → List ℕ → HeadRead → Type 0
+ElementTold s b (Done head n) = PlainHead s head.tag head.vr head.length b (drop n b) × (n ≡ head_size s head.vr)
+ElementTold s b (More n) = (vr : Vr) × (vr_at s b ≡ Some vr) × (length b < head_size s vr)
+ElementTold s b BadVr = vr_at s b ≡ None
+
+done_told : (s : Syntax) (b : List ℕ) (vr : Vr) (short : Bool) → vr_at s b ≡ Some vr → nat_lt (length b) (head_size s vr) ≡ short → ElementTold s b (element_done s b vr)
+done_told s b vr true e test = subst (ElementTold s b) (sym (done_by_test s b vr true test)) (vr, e, ltb-true (length b) (head_size s vr) test)
+done_told s b vr false e test =
+    subst (ElementTold s b) (sym (done_by_test s b vr false test))
+    (record { tag_is = refl; vr_is = sym e; whole = ltb-false (length b) (head_size s vr) test; length_is = refl; after_is = refl }, refl)
+
+read_told : (s : Syntax) (b : List ℕ) (o : Option Vr) → vr_at s b ≡ o → ElementTold s b (element_read s b o)
+read_told s b None e = e
+read_told s b (Some vr) e = done_told s b vr (nat_lt (length b) (head_size s vr)) e refl
+
+pub element_told : (s : Syntax) (b : List ℕ) (r : HeadRead) → r ≡ element_read s b (vr_at s b) → ElementTold s b r
+element_told s b r e = subst (ElementTold s b) (sym e) (read_told s b (vr_at s b) refl)

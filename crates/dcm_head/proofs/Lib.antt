@@ -1,3 +1,14 @@
 pub mod Explicit
 pub mod HeadReads
 pub mod HeadLaws
+pub mod Places
+pub mod Transfers
+pub mod Elements
+pub mod Kept
+pub mod Stays
+pub mod OneGroup
+pub mod OneMeta
+pub mod Settles
+pub mod Snoc
+pub mod Described
+pub mod Told

@@ -1,1 +1,3 @@
 pub mod HeadRead
+pub mod GroupPlaces
+pub mod MetaReading

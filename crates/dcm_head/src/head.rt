@@ -27,7 +27,7 @@ pub enum HeadRead {
 }
 
 /// The sizes of a head: with a length of two bytes or no representation, and with two reserved bytes and a length of four.
-const SHORT_HEAD: usize = 8;
+pub const SHORT_HEAD: usize = 8;
 
 const LONG_HEAD: usize = 12;
 
@@ -61,7 +61,7 @@ pub fn read_tag(syntax: Syntax, bytes: &[u8]) -> Tag
 }
 
 /// A length of two bytes.
-fn read_short(syntax: Syntax, bytes: &[u8]) -> u16
+pub fn read_short(syntax: Syntax, bytes: &[u8]) -> u16
     requires { 2 ≤ length bytes.now }
     ensures { result ≡ number syntax 2 bytes.now }
 {
@@ -105,7 +105,7 @@ fn read_vr(first: u8, second: u8) -> Option<Vr>
 }
 
 /// The head of an element in an explicit syntax.
-fn read_explicit(syntax: Syntax, bytes: &[u8]) -> HeadRead
+pub fn read_explicit(syntax: Syntax, bytes: &[u8]) -> HeadRead
     requires explicit { syntax ≢ Syntax.Implicit }
     requires eight { 8 ≤ length bytes.now }
     ensures { result ≡ spec.element_read syntax bytes.now (vr_at syntax bytes.now) }

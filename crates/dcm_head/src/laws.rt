@@ -1,9 +1,12 @@
 //! Laws of the definitions. Each function takes nothing and makes no call: its contract is the law.
-ghost use Rattle.std.specs.Prelude.{◌≡◌, ◌↔◌, ℕ, List};
+ghost use Rattle.std.specs.Prelude.{◌≡◌, ◌↔◌, ◌++◌, ℕ, List, IsTrue, None, Some, length, fold};
 ghost use Rattle.dcm_base.specs.declared.syntax.Syntax.{Syntax};
 ghost use Rattle.dcm_head.specs.declared.head.Head.{Head};
 ghost use Rattle.dcm_head.specs.declared.head.HeadRead.TheVariants.{Done, More, BadVr};
 ghost use Rattle.dcm_head.specs.HeadRead.{head_read, Begins, IsShort, HasBadVr};
+ghost use Rattle.dcm_base.specs.MetaReads.{MetaAnswer, MetaReads, is_undecided};
+ghost use Rattle.dcm_head.specs.declared.meta_read.MetaEnd.{MetaEnd};
+ghost use Rattle.dcm_head.specs.MetaReading.{Reading, Says, at_start, meta_step, meta_finished};
 
 /// A head is read exactly where the bytes begin with its spelling, more bytes are asked for exactly where a head
 /// misses them, and a representation is refused exactly where it is not two capitals.
@@ -11,4 +14,22 @@ pub fn heads_read()
     ensures done { (s : Syntax) (bytes : List ℕ) (head : Head) (size : ℕ) → (head_read s bytes ≡ Done head size) ↔ Begins s bytes head size }
     ensures more { (s : Syntax) (bytes : List ℕ) (size : ℕ) → (head_read s bytes ≡ More size) ↔ IsShort s bytes size }
     ensures bad { (s : Syntax) (bytes : List ℕ) → (head_read s bytes ≡ BadVr) ↔ HasBadVr s bytes }
+{}
+
+/// A file's head has at most one answer.
+pub fn meta_reads_one()
+    ensures { (file : List ℕ) (answer other : MetaAnswer) → MetaReads file answer → MetaReads file other → answer ≡ other }
+{}
+
+/// A file's head has an answer.
+pub fn meta_reads()
+    ensures { (file : List ℕ) → (answer : MetaAnswer) × MetaReads file answer }
+{}
+
+/// The reading byte by byte ends with the answer to the whole, and goes on just as long as more bytes can change that.
+pub fn meta_steps()
+    ensures said { (file : List ℕ) (answer : MetaAnswer) → MetaReads file answer → Says (meta_finished (fold meta_step at_start file)) answer }
+    ensures cuts { (r : Reading) (piece more : List ℕ) → fold meta_step r (piece ++ more) ≡ fold meta_step (fold meta_step r piece) more }
+    ensures stays { (r : Reading) (end : MetaEnd) (piece : List ℕ) → r.end ≡ Some end → fold meta_step r piece ≡ r }
+    ensures going { (file : List ℕ) (answer : MetaAnswer) → MetaReads file answer → IsTrue (is_undecided (length file) answer) ↔ ((fold meta_step at_start file).end ≡ None) }
 {}

@@ -1,7 +1,13 @@
 //! Heads of elements, items and delimiters, and the head of a file.
 #![tactic(auto)]
 
+mod group;
 mod head;
 pub mod laws;
+mod meta;
+mod meta_read;
+mod pads;
 
 pub use head::{Head, HeadRead, read_head, read_tag};
+pub use meta::Meta;
+pub use meta_read::{MetaEnd, MetaRead};

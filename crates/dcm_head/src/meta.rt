@@ -1,0 +1,292 @@
+// The head of a file: preamble, prefix and meta group (PS3.10 7.1).
+ghost use Rattle.std.specs.Prelude.{◌≡◌, ◌+◌, ◌≤◌, ◌<◌, None, Some, take, length, fold};
+ghost use Rattle.dcm_head.specs.MetaReading as reading;
+
+use crate::group::{Place, place_of};
+use crate::meta_read::{MetaEnd, MetaRead};
+use crate::pads::size_without_pads;
+use arrayvec::ArrayVec;
+use dcm_base::{Coding, Fault, Stop, Tag, coding_of};
+use std::marker::Model;
+
+/// The sizes of the preamble, and of preamble and prefix.
+const PREAMBLE: usize = 128;
+
+const GROUP_AT: usize = 132;
+
+/// Preamble, prefix, a group, and the longest head behind it.
+const ROOM: usize = 16_528;
+
+/// The element that names the transfer syntax, TransferSyntaxUID.
+const META_GROUP: u16 = 0x0002;
+
+const TRANSFER_SYNTAX: u16 = 0x0010;
+
+/// The reader of a file's head, which is fed in pieces of any size up to the end of the meta group.
+#[derive(Drop)]
+pub struct Meta {
+    bytes: ArrayVec<u8, ROOM>,
+    place: usize,
+    uid_at: usize,
+    uid_size: usize,
+    end: Option<MetaEnd>,
+}
+
+impl Model for Meta {
+    ghost use Rattle.dcm_head.specs.MetaReading.{Reading, Keeps};
+
+    ghost Value = { Reading };
+
+    ghost view = { λ m. record { bytes = m.bytes.items; place = m.place; uid_at = m.uid_at; uid_size = m.uid_size; end = m.end } };
+
+    ghost invariant = { λ m. Keeps (record { bytes = m.bytes.items; place = m.place; uid_at = m.uid_at; uid_size = m.uid_size; end = m.end }) };
+}
+
+/// The answer where the data set begins at a place, so many bytes came before the piece and these in all.
+fn begins_at(bytes: &[u8], before: usize, place: usize) -> MetaRead
+    requires behind { before ≤ place + 1 }
+    requires within { before ≤ length bytes.now }
+    ensures { reading.EndsIn (take before bytes.now) place result }
+{
+    if before > place {
+        MetaRead::Ended {
+            used: 0,
+            ahead: Some(bytes[place]),
+        }
+    } else {
+        MetaRead::Ended {
+            used: place - before,
+            ahead: None,
+        }
+    }
+}
+
+/// How a group ends at a place.
+fn group_end(place: usize, uid: &[u8]) -> MetaEnd
+    ensures { result ≡ reading.group_end place uid.now }
+{
+    if uid.is_empty() {
+        return MetaEnd::Refused(Stop {
+            fault: Fault::NoTransferSyntax,
+            at: place as u64,
+        });
+    }
+    match coding_of(uid) {
+        Ok(coding) => MetaEnd::Ended(coding),
+        Err(_) => MetaEnd::Refused(Stop {
+            fault: Fault::Deflated,
+            at: place as u64,
+        }),
+    }
+}
+
+fn is_first_syntax(uid_at: usize, tag: Tag) -> bool
+    ensures { result ≡ reading.is_first_syntax uid_at tag }
+{
+    uid_at == 0 && tag.group == META_GROUP && tag.element == TRANSFER_SYNTAX
+}
+
+fn has_prefix(bytes: &[u8]) -> bool
+    requires { length bytes.now ≡ 132 }
+    ensures { result ≡ reading.has_prefix bytes.now }
+{
+    let (_, prefix) = bytes.split_at(PREAMBLE);
+    prefix == b"DICM".as_slice()
+}
+
+impl Meta {
+    /// A reader that was fed nothing.
+    pub fn new() -> Self
+        ensures { result ≡ reading.at_start }
+    {
+        Meta {
+            bytes: ArrayVec::new(),
+            place: GROUP_AT,
+            uid_at: 0,
+            uid_size: 0,
+            end: None,
+        }
+    }
+    /// Goes over a byte of the preamble or the prefix.
+    fn step_before(&mut self, byte: u8)
+        requires going { self.old.end ≡ None }
+        requires before { length self.old.bytes < 132 }
+        ensures { self.new ≡ reading.meta_step self.old byte }
+    {
+        self.bytes.push(byte);
+        if self.bytes.len() == GROUP_AT && !has_prefix(self.bytes.as_slice()) {
+            self.end = Some(MetaEnd::Refused(Stop {
+                fault: Fault::NoPrefix,
+                at: PREAMBLE as u64,
+            }));
+        }
+    }
+
+    /// Goes over a byte of the group.
+    fn step_within(&mut self, byte: u8)
+        requires going { self.old.end ≡ None }
+        requires within { 132 ≤ length self.old.bytes }
+        ensures { self.new ≡ reading.meta_step self.old byte }
+    {
+        self.bytes.push(byte);
+        let (_, rest) = self.bytes.as_slice().split_at(self.place);
+        match place_of(self.place - GROUP_AT, rest) {
+            Place::TooFew => {}
+            Place::Bad(fault) => {
+                self.end = Some(MetaEnd::Refused(Stop {
+                    fault,
+                    at: self.place as u64,
+                }))
+            }
+            Place::End => {
+                let (_, from) = self.bytes.as_slice().split_at(self.uid_at);
+                let (uid, _) = from.split_at(self.uid_size);
+                self.end = Some(group_end(self.place, uid));
+            }
+            Place::Element(tag, _, head, size) => {
+                let value = self.place + head;
+                if is_first_syntax(self.uid_at, tag) {
+                    let (_, from) = self.bytes.as_slice().split_at(value);
+                    let (whole, _) = from.split_at(size);
+                    self.uid_size = size_without_pads(whole);
+                    self.uid_at = value;
+                }
+                self.place = value + size;
+            }
+        }
+    }
+
+    fn end(&self) -> Option<MetaEnd>
+        ensures { result ≡ self.now.end }
+    {
+        self.end
+    }
+
+    /// How many bytes came, up to the end.
+    fn len(&self) -> usize
+        ensures { result ≡ length self.now.bytes }
+    {
+        self.bytes.len()
+    }
+
+    /// Goes over a byte.
+    fn step(&mut self, byte: u8)
+        requires { self.old.end ≡ None }
+        ensures { self.new ≡ reading.meta_step self.old byte }
+    {
+        if self.len() < GROUP_AT {
+            self.step_before(byte);
+        } else {
+            self.step_within(byte);
+        }
+    }
+
+    /// Goes over bytes as long as there is no end.
+    fn go_over(&mut self, piece: &[u8])
+        ensures { self.new ≡ fold reading.meta_step self.old piece.now }
+    {
+        for byte in piece {
+            if self.end().is_some() {
+                return;
+            }
+            self.step(*byte);
+        }
+    }
+
+    /// Where the data set begins, if so many bytes came before the piece.
+    fn answer(&self, before: usize, coding: Coding) -> MetaRead
+        requires ended { self.now.end ≡ Some (MetaEnd.Ended coding) }
+        requires before { before < length self.now.bytes }
+        ensures { reading.EndsIn (take before self.now.bytes) self.now.place result }
+    {
+        begins_at(self.bytes.as_slice(), before, self.place)
+    }
+
+    /// Goes over a piece of the file, of which it looks at no byte behind the first two after the group. After a
+    /// refusal it answers the same again; it is not fed once the group has ended.
+    pub fn feed(&mut self, piece: &[u8]) -> MetaRead
+        requires { reading.IsOpen self.old.end }
+        ensures state { self.new ≡ fold reading.meta_step self.old piece.now }
+        ensures answer { reading.Answers self.old.bytes self.new result }
+    {
+        let before = self.len();
+        self.go_over(piece);
+        match self.end() {
+            None => MetaRead::More,
+            Some(MetaEnd::Refused(stop)) => MetaRead::Refused(stop),
+            Some(MetaEnd::Ended(coding)) => self.answer(before, coding),
+        }
+    }
+
+    /// Goes over the end of the file, at which the group may end too.
+    pub fn finish(&mut self) -> Result<(), Stop>
+        ensures state { self.new ≡ reading.meta_finished self.old }
+        ensures answer { reading.FinishAnswers self.new.end result }
+    {
+        if self.end().is_none() {
+            self.finish_open();
+        }
+        match self.end() {
+            Some(MetaEnd::Refused(stop)) => Err(stop),
+            Some(MetaEnd::Ended(_)) => Ok(()),
+            None => unreachable!(),
+        }
+    }
+
+    /// The coding of the data set.
+    pub fn coding(&self) -> Coding
+        requires { reading.HasEnded self.now.end }
+        ensures { self.now.end ≡ Some (MetaEnd.Ended result) }
+    {
+        match self.end {
+            Some(MetaEnd::Ended(coding)) => coding,
+            _ => unreachable!(),
+        }
+    }
+
+    /// The transfer syntax, without the bytes 00 and 20 at its end.
+    pub fn uid(&self) -> &[u8]
+        requires { reading.HasEnded self.now.end }
+        ensures { result.now ≡ reading.uid_of self.now }
+    {
+        let (_, from) = self.bytes.as_slice().split_at(self.uid_at);
+        let (uid, _) = from.split_at(self.uid_size);
+        uid
+    }
+
+    /// The first 128 bytes of the file.
+    pub fn preamble(&self) -> &[u8]
+        requires { reading.HasEnded self.now.end }
+        ensures { result.now ≡ take 128 self.now.bytes }
+    {
+        let (preamble, _) = self.bytes.as_slice().split_at(PREAMBLE);
+        preamble
+    }
+
+    /// The meta group: the bytes behind the prefix, up to the data set.
+    pub fn bytes(&self) -> &[u8]
+        requires { reading.HasEnded self.now.end }
+        ensures group { result.now ≡ reading.group_of self.now }
+        ensures limit { length result.now ≤ 16384 }
+    {
+        let (_, from) = self.bytes.as_slice().split_at(GROUP_AT);
+        let (group, _) = from.split_at(self.place - GROUP_AT);
+        group
+    }
+
+    fn finish_open(&mut self)
+        requires { self.old.end ≡ None }
+        ensures { self.new ≡ reading.meta_finished self.old }
+    {
+        if self.bytes.len() == self.place {
+            let (_, from) = self.bytes.as_slice().split_at(self.uid_at);
+            let (uid, _) = from.split_at(self.uid_size);
+            self.end = Some(group_end(self.place, uid));
+        } else {
+            self.end = Some(MetaEnd::Refused(Stop {
+                fault: Fault::EndsEarly,
+                at: self.bytes.len() as u64,
+            }));
+        }
+    }
+}
