@@ -7,6 +7,8 @@ pub mod laws;
 mod meta;
 mod meta_read;
 mod pads;
+#[cfg(test)]
+mod tests;
 
 pub use head::{Head, HeadRead, read_head, read_tag};
 pub use meta::Meta;

@@ -1,5 +1,5 @@
 // The head of a file: preamble, prefix and meta group (PS3.10 7.1).
-ghost use Rattle.std.specs.Prelude.{◌≡◌, ◌+◌, ◌≤◌, ◌<◌, None, Some, take, length, fold};
+ghost use Rattle.std.specs.Prelude.{◌≡◌, ◌+◌, ◌≤◌, ◌<◌, None, Some, take, drop, length, fold};
 ghost use Rattle.dcm_head.specs.MetaReading as reading;
 
 use crate::group::{Place, place_of};
@@ -61,6 +61,16 @@ fn begins_at(bytes: &[u8], before: usize, place: usize) -> MetaRead
     }
 }
 
+/// So many bytes from a place on.
+fn part(bytes: &[u8], at: usize, size: usize) -> &[u8]
+    requires { at + size ≤ length bytes.now }
+    ensures { result.now ≡ take size (drop at bytes.now) }
+{
+    let (_, from) = bytes.split_at(at);
+    let (part, _) = from.split_at(size);
+    part
+}
+
 /// How a group ends at a place.
 fn group_end(place: usize, uid: &[u8]) -> MetaEnd
     ensures { result ≡ reading.group_end place uid.now }
@@ -107,6 +117,74 @@ impl Meta {
             end: None,
         }
     }
+
+    /// Goes over a piece of the file, of which it looks at no byte behind the first two after the group. After a
+    /// refusal it answers the same again; it is not fed once the group has ended.
+    pub fn feed(&mut self, piece: &[u8]) -> MetaRead
+        requires { reading.IsOpen self.old.end }
+        ensures state { self.new ≡ fold reading.meta_step self.old piece.now }
+        ensures answer { reading.Answers self.old.bytes self.new result }
+    {
+        let before = self.len();
+        self.go_over(piece);
+        match self.end() {
+            None => MetaRead::More,
+            Some(MetaEnd::Refused(stop)) => MetaRead::Refused(stop),
+            Some(MetaEnd::Ended(coding)) => self.answer(before, coding),
+        }
+    }
+
+    /// Goes over the end of the file, at which the group may end too.
+    pub fn finish(&mut self) -> Result<(), Stop>
+        ensures state { self.new ≡ reading.meta_finished self.old }
+        ensures answer { reading.FinishAnswers self.new.end result }
+    {
+        if self.end().is_none() {
+            self.finish_open();
+        }
+        match self.end() {
+            Some(MetaEnd::Refused(stop)) => Err(stop),
+            Some(MetaEnd::Ended(_)) => Ok(()),
+            None => unreachable!(),
+        }
+    }
+
+    /// The coding of the data set.
+    pub fn coding(&self) -> Coding
+        requires { reading.HasEnded self.now.end }
+        ensures { self.now.end ≡ Some (MetaEnd.Ended result) }
+    {
+        match self.end {
+            Some(MetaEnd::Ended(coding)) => coding,
+            _ => unreachable!(),
+        }
+    }
+
+    /// The transfer syntax, without the bytes 00 and 20 at its end.
+    pub fn uid(&self) -> &[u8]
+        requires { reading.HasEnded self.now.end }
+        ensures { result.now ≡ reading.uid_of self.now }
+    {
+        part(self.bytes.as_slice(), self.uid_at, self.uid_size)
+    }
+
+    /// The first 128 bytes of the file.
+    pub fn preamble(&self) -> &[u8]
+        requires { reading.HasEnded self.now.end }
+        ensures { result.now ≡ take 128 self.now.bytes }
+    {
+        part(self.bytes.as_slice(), 0, PREAMBLE)
+    }
+
+    /// The meta group: the bytes behind the prefix, up to the data set.
+    pub fn bytes(&self) -> &[u8]
+        requires { reading.HasEnded self.now.end }
+        ensures group { result.now ≡ reading.group_of self.now }
+        ensures limit { length result.now ≤ 16384 }
+    {
+        part(self.bytes.as_slice(), GROUP_AT, self.place - GROUP_AT)
+    }
+
     /// Goes over a byte of the preamble or the prefix.
     fn step_before(&mut self, byte: u8)
         requires going { self.old.end ≡ None }
@@ -139,16 +217,13 @@ impl Meta {
                 }))
             }
             Place::End => {
-                let (_, from) = self.bytes.as_slice().split_at(self.uid_at);
-                let (uid, _) = from.split_at(self.uid_size);
+                let uid = part(self.bytes.as_slice(), self.uid_at, self.uid_size);
                 self.end = Some(group_end(self.place, uid));
             }
             Place::Element(tag, _, head, size) => {
                 let value = self.place + head;
                 if is_first_syntax(self.uid_at, tag) {
-                    let (_, from) = self.bytes.as_slice().split_at(value);
-                    let (whole, _) = from.split_at(size);
-                    self.uid_size = size_without_pads(whole);
+                    self.uid_size = size_without_pads(part(self.bytes.as_slice(), value, size));
                     self.uid_at = value;
                 }
                 self.place = value + size;
@@ -202,85 +277,13 @@ impl Meta {
         begins_at(self.bytes.as_slice(), before, self.place)
     }
 
-    /// Goes over a piece of the file, of which it looks at no byte behind the first two after the group. After a
-    /// refusal it answers the same again; it is not fed once the group has ended.
-    pub fn feed(&mut self, piece: &[u8]) -> MetaRead
-        requires { reading.IsOpen self.old.end }
-        ensures state { self.new ≡ fold reading.meta_step self.old piece.now }
-        ensures answer { reading.Answers self.old.bytes self.new result }
-    {
-        let before = self.len();
-        self.go_over(piece);
-        match self.end() {
-            None => MetaRead::More,
-            Some(MetaEnd::Refused(stop)) => MetaRead::Refused(stop),
-            Some(MetaEnd::Ended(coding)) => self.answer(before, coding),
-        }
-    }
-
-    /// Goes over the end of the file, at which the group may end too.
-    pub fn finish(&mut self) -> Result<(), Stop>
-        ensures state { self.new ≡ reading.meta_finished self.old }
-        ensures answer { reading.FinishAnswers self.new.end result }
-    {
-        if self.end().is_none() {
-            self.finish_open();
-        }
-        match self.end() {
-            Some(MetaEnd::Refused(stop)) => Err(stop),
-            Some(MetaEnd::Ended(_)) => Ok(()),
-            None => unreachable!(),
-        }
-    }
-
-    /// The coding of the data set.
-    pub fn coding(&self) -> Coding
-        requires { reading.HasEnded self.now.end }
-        ensures { self.now.end ≡ Some (MetaEnd.Ended result) }
-    {
-        match self.end {
-            Some(MetaEnd::Ended(coding)) => coding,
-            _ => unreachable!(),
-        }
-    }
-
-    /// The transfer syntax, without the bytes 00 and 20 at its end.
-    pub fn uid(&self) -> &[u8]
-        requires { reading.HasEnded self.now.end }
-        ensures { result.now ≡ reading.uid_of self.now }
-    {
-        let (_, from) = self.bytes.as_slice().split_at(self.uid_at);
-        let (uid, _) = from.split_at(self.uid_size);
-        uid
-    }
-
-    /// The first 128 bytes of the file.
-    pub fn preamble(&self) -> &[u8]
-        requires { reading.HasEnded self.now.end }
-        ensures { result.now ≡ take 128 self.now.bytes }
-    {
-        let (preamble, _) = self.bytes.as_slice().split_at(PREAMBLE);
-        preamble
-    }
-
-    /// The meta group: the bytes behind the prefix, up to the data set.
-    pub fn bytes(&self) -> &[u8]
-        requires { reading.HasEnded self.now.end }
-        ensures group { result.now ≡ reading.group_of self.now }
-        ensures limit { length result.now ≤ 16384 }
-    {
-        let (_, from) = self.bytes.as_slice().split_at(GROUP_AT);
-        let (group, _) = from.split_at(self.place - GROUP_AT);
-        group
-    }
-
+    /// Goes over the end of the file, where there is no end yet.
     fn finish_open(&mut self)
         requires { self.old.end ≡ None }
         ensures { self.new ≡ reading.meta_finished self.old }
     {
         if self.bytes.len() == self.place {
-            let (_, from) = self.bytes.as_slice().split_at(self.uid_at);
-            let (uid, _) = from.split_at(self.uid_size);
+            let uid = part(self.bytes.as_slice(), self.uid_at, self.uid_size);
             self.end = Some(group_end(self.place, uid));
         } else {
             self.end = Some(MetaEnd::Refused(Stop {

@@ -39,8 +39,8 @@ overflow_add-value c =
     let longer = ap length c.push.ensures.items ∙ length-append c.self.inside.bytes.items (c.args.byte ∷ []) in
     omega arith
 
-pub split_at-requires-then-is_first_syntax : goal.split_at-requires-then-is_first_syntax
-split_at-requires-then-is_first_syntax c =
+pub part-requires : goal.part-requires
+part-requires c =
     let going = ap (λ (r : Reading). r.end) c.self.view_is ∙ c.requires.going in
     let within : 132 ≤ length c.self.inside.bytes.items = subst (λ (r : Reading). 132 ≤ length r.bytes) (sym c.self.view_is) c.requires.within in
     let p = passed _ c.args.byte _ _ _ _ _ _ _ c.self.invariant going within c.push.ensures.items c.as_slice.ensures.value c.split_at.ensures.back c.in-Element.ensures in
@@ -48,18 +48,6 @@ split_at-requires-then-is_first_syntax c =
     let high = p.high in
     let longer = ap length c.push.ensures.items ∙ length-append c.self.inside.bytes.items (c.args.byte ∷ []) in
     let same = ap length c.as_slice-then-is_first_syntax.ensures.value in
-    omega arith
-
-pub split_at-requires-then-is_first_syntax-2 : goal.split_at-requires-then-is_first_syntax-2
-split_at-requires-then-is_first_syntax-2 c =
-    let going = ap (λ (r : Reading). r.end) c.self.view_is ∙ c.requires.going in
-    let within : 132 ≤ length c.self.inside.bytes.items = subst (λ (r : Reading). 132 ≤ length r.bytes) (sym c.self.view_is) c.requires.within in
-    let p = passed _ c.args.byte _ _ _ _ _ _ _ c.self.invariant going within c.push.ensures.items c.as_slice.ensures.value c.split_at.ensures.back c.in-Element.ensures in
-    let all = p.all in
-    let high = p.high in
-    let longer = ap length c.push.ensures.items ∙ length-append c.self.inside.bytes.items (c.args.byte ∷ []) in
-    let same = ap length c.as_slice-then-is_first_syntax.ensures.value in
-    let back = ap length c.split_at-then-is_first_syntax.ensures.back ∙ length-drop (c.self.inside.place + c.in-Element.head) c.as_slice-then-is_first_syntax.result.now in
     omega arith
 
 pub overflow_add-self : goal.overflow_add-self
@@ -92,7 +80,7 @@ invariant_of-self-in-Element c =
           let at = ap (λ (x : Inside). x.uid_at) w.self-inside-is in
           let size = ap (λ (x : Inside). x.uid_size) w.self-inside-is in
           let most = w.size_without_pads-self-inside.ensures.within in
-          let whole = ap length w.split_at-then-is_first_syntax-2.ensures.front ∙ length-take c.in-Element.size w.split_at-then-is_first_syntax.result.1.now in
+          let whole = ap length w.part.ensures ∙ length-take c.in-Element.size (drop (c.self.inside.place + c.in-Element.head) w.as_slice-then-is_first_syntax.result.now) in
           kept_behind _ q c.args.byte _ _ c.self.invariant (ap (λ (x : Inside). x.end) w.self-inside-is ∙ going) p (ap (λ (x : Inside). x.bytes.items) w.self-inside-is ∙ c.push.ensures.items) refl (omega arith)
       | else-is_first_syntax w ↦
           let at = ap (λ (x : Inside). x.uid_at) w.self-inside-is in
