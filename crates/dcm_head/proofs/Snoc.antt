@@ -9,7 +9,6 @@ use Rattle.dcm_base.specs.Tag.{is_tag}
 use Rattle.dcm_base.specs.declared.length.Length.{Length}
 use Rattle.dcm_base.specs.declared.length.Length.TheVariants.{Known}
 use Rattle.dcm_base.specs.Tree.{Trees, no_tree, leaf, sequence, fragments, Items}
-use Rattle.dcm_base.specs.Value.{order}
 use Rattle.dcm_base.specs.declared.form.Form.TheVariants.{Value as a_value}
 use Rattle.dcm_base.specs.Spelling.{form, TreesAt, Spells}
 use Rattle.dcm_base.specs.MetaGroup.{is_sequence, AreMeta}

@@ -1,4 +1,4 @@
-use Rattle.std.proofs.Common.{◌∙◌, ◌<◌, sym, arith, length, ℕ, eq-eqb}
+use Rattle.std.proofs.Common.{◌∙◌, ◌<◌, sym, arith, length, eq-eqb}
 use Rattle.std.proofs.lemmas.Bool.{ne_eqb, eqb-false, eqb-true}
 use Rattle.dcm_base.specs.declared.syntax.Syntax.TheVariants.{Little}
 use Rattle.dcm_head.proofs.HeadReads.{element_told}

@@ -1,4 +1,4 @@
-use Rattle.std.proofs.Common.{◌≡◌, ◌∙◌, ◌+◌, ◌-◌, ◌≤◌, Some, drop, length, [], ◌∷◌, ◌++◌, sym, ap, arith, subst, refl, length-drop, length-append}
+use Rattle.std.proofs.Common.{◌≡◌, ◌∙◌, ◌+◌, ◌-◌, ◌≤◌, Some, drop, length, [], ◌∷◌, ◌++◌, sym, ap, arith, subst, refl, length-append}
 use Rattle.std.proofs.lemmas.List.{length-take}
 use Rattle.dcm_head.specs.declared.meta.Meta.TheInside.{Inside}
 use Rattle.dcm_base.specs.MetaGroup.{group_place}
