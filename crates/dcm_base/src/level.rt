@@ -19,3 +19,15 @@ pub struct Level {
     pub declared: Length,
     pub end_offset: Option<u64>,
 }
+
+impl Default for Level {
+    /// The data set itself, which ends where the input does.
+    fn default() -> Self {
+        Level {
+            container: Container::DataSet,
+            syntax: Syntax::Little,
+            declared: Length::Undefined,
+            end_offset: None,
+        }
+    }
+}

@@ -1,8 +1,13 @@
 //! Tokens of a data set, sinks that take them, and the machine that reads bytes into them.
 #![tactic(auto)]
 
+mod judge;
+pub mod laws;
+mod machine;
+mod place;
 mod sink;
 mod token;
 
+pub use machine::{Halt, INPUT_LIMIT, Machine};
 pub use sink::Sink;
 pub use token::{Bar, Token};

@@ -1,0 +1,13 @@
+pub mod Ends
+pub mod Full
+pub mod Judged
+pub mod Room
+pub mod FragmentRow
+pub mod Opening
+pub mod Behind
+pub mod Values
+pub mod Passing
+pub mod Follow
+pub mod Bounds
+pub mod Ascending
+pub mod Turned
