@@ -180,8 +180,8 @@ levels_keep : (bar : HeadBar) (ls : List Level) (position : ℕ) (z : List ℕ) 
 levels_keep bar [] position z never u = absurd (cc)
 levels_keep bar (inner ∷ outer) position z never u = let short = place_short bar inner (inner ∷ outer) position z never u in short.small
 
-stopped_small : (r : Reading) (stop : Stop) → IsSmall r → IsSmall (record r { halt = Some stop })
-stopped_small r stop h = record { head_is = h.head_is; nested = h.nested; shallow = h.shallow; no_head = h.no_head; room_for = λ going none. absurd (cc) }
+stopped_small : (r : Reading) (stop : Stop) → IsSmall r → IsSmall (record r { head = []; halt = Some stop })
+stopped_small r stop h = record { head_is = omega arith; nested = h.nested; shallow = h.shallow; no_head = λ lt. refl; room_for = λ going none. absurd (cc) }
 
 read_small : (bar : HeadBar) (r : Reading) (z : List ℕ) (stop : Option Stop) → NeverEarly bar → IsSmall r → r.left ≡ 0 → innermost_stop bar r.levels r.position z ≡ stop → IsSmall (head_read r z stop).0
 read_small bar r z None never h left e =
@@ -189,9 +189,9 @@ read_small bar r z None never h left e =
     settled_small (r.position + length z) o o.left (levels_accept bar (r.position + length z) r.levels r.position z (record { nested = h.nested; shallow = h.shallow }) e)
 read_small bar r z (Some stop) never h left e =
     elim (cases_Bool (is_undecided (Some stop))) [
-      | inl u ↦ subst (λ (x : Bool). IsSmall (cond {A = Reading × List Atom} x (record r { head = z }, []) (record r { halt = Some stop }, [])).0) (sym u)
+      | inl u ↦ subst (λ (x : Bool). IsSmall (cond {A = Reading × List Atom} x (record r { head = z }, []) (record r { head = []; halt = Some stop }, [])).0) (sym u)
           (record { head_is = levels_keep bar r.levels r.position z never (ap is_undecided e ∙ u); nested = h.nested; shallow = h.shallow; no_head = λ lt. absurd (omega arith); room_for = h.room_for })
-      | inr u ↦ subst (λ (x : Bool). IsSmall (cond {A = Reading × List Atom} x (record r { head = z }, []) (record r { halt = Some stop }, [])).0) (sym u) (stopped_small r stop h)
+      | inr u ↦ subst (λ (x : Bool). IsSmall (cond {A = Reading × List Atom} x (record r { head = z }, []) (record r { head = []; halt = Some stop }, [])).0) (sym u) (stopped_small r stop h)
     ]
 
 byte_small : (bar : HeadBar) (r : Reading) (b : ℕ) (halt : Option Stop) (within : Bool) (n : ℕ) → NeverEarly bar → IsSmall r → r.left ≡ n → IsSmall (byte_read bar r b halt within n).0

@@ -11,3 +11,6 @@ pub mod Follow
 pub mod Bounds
 pub mod Ascending
 pub mod Turned
+pub mod Rooms
+pub mod Elements
+pub mod Waits

@@ -34,7 +34,7 @@ abbrev pub start_of : Syntax → (start : ℕ) → Reading
 start_of s start = record { position = start; head = []; left = 0; levels = level the_data_set s Undefined start ∷ []; halt = None }
 
 abbrev pub halted : Reading → Stop → Reading
-halted r stop = record r { halt = Some stop }
+halted r stop = record r { head = []; halt = Some stop }
 
 -- what is open behind a head or a byte of a value, how many bytes of a value are to come, and the atoms
 pub record Opened : Type 0 where

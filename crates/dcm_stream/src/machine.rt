@@ -180,18 +180,19 @@ impl Place {
             self.head.as_slice(),
             sink,
         );
-        match judged {
-            Ok(None) => Ok(()),
-            Ok(Some(opening)) => {
-                self.position += self.head.len() as u64;
-                self.head.clear();
-                self.enter(opening, sink)
-            }
+        let opening = match judged {
+            Ok(opening) => opening,
             Err(fault) => {
                 self.head.clear();
-                Err(refused(fault, self.position))
+                return Err(refused(fault, self.position));
             }
-        }
+        };
+        let Some(opening) = opening else {
+            return Ok(());
+        };
+        self.position += self.head.len() as u64;
+        self.head.clear();
+        self.enter(opening, sink)
     }
 
     /// Goes over a beginning of the bytes, and tells how many.

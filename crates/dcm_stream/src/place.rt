@@ -1,5 +1,6 @@
 // Where the reading of a data set stands: the open containers, the outermost first, and the room in them.
 ghost use Rattle.std.specs.Prelude.{◌≡◌, ℕ, ◌+◌, ◌^◌, ◌<◌, ◌≤◌, reverse, length};
+ghost use Rattle.dcm_base.specs.Tag as tags;
 ghost use Rattle.dcm_base.specs.Place as spec;
 ghost use Rattle.dcm_base.specs.Stop as stops;
 
@@ -14,24 +15,35 @@ const SEQUENCE_END: u16 = 0xE0DD;
 /// The group of the meta elements, which stand in no data set (PS3.10 7.1).
 const META_GROUP: u16 = 0x0002;
 
-pub fn is_item(tag: Tag) -> bool {
+pub fn is_item(tag: Tag) -> bool
+    ensures { result ≡ tags.is_item tag }
+{
     tag.group == ITEM_GROUP && tag.element == ITEM
 }
 
-fn is_item_end(tag: Tag) -> bool {
+fn is_item_end(tag: Tag) -> bool
+    ensures { result ≡ tags.is_item_end tag }
+{
     tag.group == ITEM_GROUP && tag.element == ITEM_END
 }
 
-fn is_sequence_end(tag: Tag) -> bool {
+fn is_sequence_end(tag: Tag) -> bool
+    ensures { result ≡ tags.is_sequence_end tag }
+{
     tag.group == ITEM_GROUP && tag.element == SEQUENCE_END
 }
 
-fn is_data(tag: Tag) -> bool {
+fn is_data(tag: Tag) -> bool
+    ensures { result ≡ spec.is_data tag }
+{
     tag.group != ITEM_GROUP && tag.group != META_GROUP
 }
 
 /// Whether a head of this tag may come in a container (PS3.5 7.5).
-pub fn is_allowed(container: Container, declared: Length, tag: Tag) -> bool {
+#[tactic(auto, unfolding(dcm_base::specs::Place::is_allowed))]
+pub fn is_allowed(container: Container, declared: Length, tag: Tag) -> bool
+    ensures { result ≡ spec.is_allowed container declared tag }
+{
     let is_undefined = declared == Length::Undefined;
     match container {
         Container::DataSet => is_data(tag),
@@ -43,7 +55,8 @@ pub fn is_allowed(container: Container, declared: Length, tag: Tag) -> bool {
 
 /// A container whose contents begin at this offset.
 pub fn level_at(container: Container, syntax: Syntax, declared: Length, begin: u64) -> Level
-    requires { begin ≤ 2 ^ 63 }
+    requires { begin ≤ 2 ^ 62 }
+    ensures { result ≡ spec.level container syntax declared begin }
 {
     let end_offset = match declared {
         Length::Known(size) => Some(begin + u64::from(size)),
@@ -58,7 +71,9 @@ pub fn level_at(container: Container, syntax: Syntax, declared: Length, begin: u
 }
 
 /// The bytes up to an end.
-fn distance(position: u64, end_offset: Option<u64>) -> Option<u64> {
+fn distance(position: u64, end_offset: Option<u64>) -> Option<u64>
+    ensures { result ≡ spec.distance position end_offset }
+{
     match end_offset {
         Some(end) => Some(end.saturating_sub(position)),
         None => None,
@@ -66,7 +81,9 @@ fn distance(position: u64, end_offset: Option<u64>) -> Option<u64> {
 }
 
 /// The lesser of two numbers, where there are any.
-fn least(a: Option<u64>, b: Option<u64>) -> Option<u64> {
+fn least(a: Option<u64>, b: Option<u64>) -> Option<u64>
+    ensures { result ≡ spec.least a b }
+{
     match (a, b) {
         (Some(a), Some(b)) => Some(a.min(b)),
         (Some(a), None) => Some(a),
@@ -75,7 +92,9 @@ fn least(a: Option<u64>, b: Option<u64>) -> Option<u64> {
 }
 
 /// The bytes up to the nearest end of an open container, where one is known.
-pub fn room(position: u64, levels: &[Level]) -> Option<u64> {
+pub fn room(position: u64, levels: &[Level]) -> Option<u64>
+    ensures { result ≡ spec.room position (reverse levels.now) }
+{
     let mut nearest = None;
     for level in levels {
         nearest = least(distance(position, level.end_offset), nearest);
@@ -84,7 +103,9 @@ pub fn room(position: u64, levels: &[Level]) -> Option<u64> {
 }
 
 /// Whether so many bytes do not fit into the room.
-pub fn passes(size: u64, room: Option<u64>) -> bool {
+pub fn passes(size: u64, room: Option<u64>) -> bool
+    ensures { result ≡ spec.passes size room }
+{
     match room {
         Some(room) => room < size,
         None => false,
@@ -92,7 +113,9 @@ pub fn passes(size: u64, room: Option<u64>) -> bool {
 }
 
 /// How many sequences and fragment lists are open.
-pub fn depth(levels: &[Level]) -> usize {
+pub fn depth(levels: &[Level]) -> usize
+    ensures { result ≡ spec.depth (reverse levels.now) }
+{
     let mut count = 0;
     for level in levels {
         count += counts(level.container);
@@ -110,13 +133,16 @@ fn counts(container: Container) -> usize
 }
 
 /// Whether an element of this form opens a sequence or a fragment list.
-pub fn opens_list(form: Form) -> bool {
+pub fn opens_list(form: Form) -> bool
+    ensures { result ≡ stops.opens_list form }
+{
     matches!(form, Form::Sequence | Form::FragmentList)
 }
 
 /// The bytes of a head and of what it declares.
 pub fn with_length(head: u64, declared: Length) -> u64
-    requires { head ≤ 12 }
+    requires { head ≤ 2 ^ 62 }
+    ensures { result ≡ stops.with_length head declared }
 {
     match declared {
         Length::Known(size) => head + u64::from(size),

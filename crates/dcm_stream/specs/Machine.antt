@@ -1,0 +1,70 @@
+-- A machine and the sink that it drives.
+use Rattle.std.specs.Prelude.{◌≡◌, ℕ, ◌+◌, ◌≤◌, List, [], ◌∷◌, ◌++◌, length, map, reverse, Bool, true, false, Option, Some, None, Result, Ok, Err, fold}
+use Rattle.std.specs.Io.KnownBytes.{append_known}
+use Rattle.dcm_base.specs.declared.fault.Fault.{Fault}
+use Rattle.dcm_base.specs.declared.level.Level.{Level}
+use Rattle.dcm_base.specs.Atoms.{Atom, value_byte}
+use Rattle.dcm_base.specs.Device.{AppendsFront}
+use Rattle.dcm_base.specs.Steps.{outputs, Goes}
+use Rattle.dcm_base.specs.Stop.{Stop, HeadBar, complete, refused}
+use Rattle.dcm_base.specs.Reads.{INPUT_LIMIT}
+use Rattle.dcm_head.specs.declared.head.Head.{Head}
+use Rattle.dcm_stream.specs.declared.token.Bar.{Bar}
+use Rattle.dcm_stream.specs.declared.machine.Halt.{Halt}
+use Rattle.dcm_stream.specs.declared.machine.Halt.TheVariants.{Refused, Output}
+use Rattle.dcm_stream.specs.Reading.{Reading, Opened, closing, settled, read_byte, drives_byte, finish, end_shows}
+use Rattle.dcm_stream.specs.Judging.{bars_head}
+use Rattle.dcm_stream.specs.Bounds.{IsSmall}
+
+-- what a machine and its sink come to at a byte, and what the sink writes
+abbrev pub steps : {S : Type 0} → (S → Head → Option Bar) → (S → Atom → S) → Reading × S → ℕ → Reading × S
+steps bars step = drives_byte (bars_head bars) step
+
+abbrev pub steps_write : {S : Type 0} → (S → Head → Option Bar) → (S → Atom → S) → (S → Atom → List ℕ) → Reading × S → ℕ → List ℕ
+steps_write bars step writes p b = outputs step writes p.1 (read_byte (bars_head bars p.1) p.0 b).1
+
+-- no more bytes than the limit were read, and little is held
+pub record Stands (r : Reading) : Type 0 where
+  pub small : IsSmall r
+  pub within : r.position + length r.head ≤ INPUT_LIMIT
+
+-- ---- what a call answers
+
+-- whether the output went well
+abbrev pub went : {T : Type 0} → Result T Halt → Result (Unit {0}) (Unit {0})
+went (Ok x) = Ok tt
+went (Err (Refused stop)) = Ok tt
+went (Err Output) = Err tt
+
+-- the stop by which the input is refused
+abbrev pub halt_of : {T : Type 0} → Result T Halt → Option Stop
+halt_of (Ok x) = None
+halt_of (Err (Refused stop)) = Some (refused stop.fault stop.at)
+halt_of (Err Output) = None
+
+-- the writer failed in the call just where the output did
+abbrev pub TellsHalt : {T : Type 0} → Bool → Bool → Result T Halt → Type 0
+TellsHalt old new (Ok x) = new ≡ old
+TellsHalt old new (Err (Refused stop)) = new ≡ old
+TellsHalt old new (Err Output) = new ≡ true
+
+-- ---- parts of a call
+
+-- a sink took these atoms, and the machine came to this reading; or a beginning of their output went out
+abbrev pub Comes : {S T : Type 0} → (S → Atom → S) → (S → Atom → List ℕ) → S → Option (List ℕ) → S → Option (List ℕ) → (Option Stop → Reading) → Reading × List Atom → Result T Halt → Type 0
+Comes step writes s held t holds new p (Ok x) = (new None ≡ p.0) × (t ≡ fold step s p.1) × (holds ≡ append_known held (outputs step writes s p.1))
+Comes step writes s held t holds new p (Err (Refused stop)) = (new (Some (refused stop.fault stop.at)) ≡ p.0) × (t ≡ fold step s p.1) × (holds ≡ append_known held (outputs step writes s p.1))
+Comes step writes s held t holds new p (Err Output) = AppendsFront held holds (outputs step writes s p.1)
+
+-- behind bytes of a value
+abbrev pub value_read : Reading → (left : ℕ) → List ℕ → Reading × List Atom
+value_read r left bytes = settled (r.position + length bytes) (record { levels = r.levels; left = left; atoms = map value_byte bytes ++ closing left }) left
+
+-- what was opened is entered at an offset
+abbrev pub entered : ℕ → Opened → Reading × List Atom
+entered position o = settled position o o.left
+
+-- a machine and its sink went over these bytes, or a beginning of the output went out
+abbrev pub Feeds : {S T : Type 0} → (S → Head → Option Bar) → (S → Atom → S) → (S → Atom → List ℕ) → Reading → S → Option (List ℕ) → (Option Stop → Reading) → S → Option (List ℕ) → List ℕ → Result T Halt → Type 0
+Feeds bars step writes old s held new t holds bytes r =
+    Goes (steps bars step) (steps_write bars step writes) (old, s) held (new (halt_of r), t) holds bytes (went r)
