@@ -1,15 +1,13 @@
 -- The definitions at worked rows, computed.
-use Rattle.std.proofs.Common.{◌≡◌, ℕ, List, [], ◌∷◌, ◌++◌, length, take, drop, codes, refl, Some, None, Option, true, false, replicate, decimal}
+use Rattle.std.proofs.Common.{◌≡◌, ℕ, [], ◌∷◌, ◌++◌, length, take, codes, refl, Some, None, true, false, replicate}
 use Rattle.std.specs.Fmt.{digits}
 use Rattle.dcm_base.specs.declared.tag.Tag.{Tag}
-use Rattle.dcm_base.specs.declared.vr.Vr.{Vr}
 use Rattle.dcm_base.specs.declared.vr.Vr.TheVariants.{UL, UI, PN, LT, LO, UN, SQ, US, OB, OW, AT, FD, SS}
 use Rattle.dcm_base.specs.declared.mode.Mode.TheVariants.{Short, Full}
-use Rattle.dcm_base.specs.declared.syntax.Syntax.TheVariants.{Implicit, Little, Big}
-use Rattle.dcm_base.specs.declared.length.Length.{Length}
+use Rattle.dcm_base.specs.declared.syntax.Syntax.TheVariants.{Little, Big}
 use Rattle.dcm_base.specs.declared.length.Length.TheVariants.{Known, Undefined}
-use Rattle.dcm_base.specs.Tree.{Trees, no_tree, leaf, sequence, fragments, Items, no_item, item}
-use Rattle.dcm_base.specs.Front.{Front, front, OpenTree, nothing_open, open_leaf, open_sequence, open_fragments, OpenItem, no_open_item, open_item}
+use Rattle.dcm_base.specs.Tree.{Trees, no_tree, leaf, sequence, fragments, no_item, item}
+use Rattle.dcm_base.specs.Front.{Front, front, nothing_open, open_leaf, open_sequence, no_open_item, open_item}
 use Rattle.dcm_base.specs.Dictionary.{keyword, element, elements}
 use Rattle.dcm_base.specs.Representation.{letters}
 use Rattle.dcm_base.specs.Uid.{uid_name, uids}

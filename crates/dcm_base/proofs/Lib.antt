@@ -18,6 +18,12 @@ pub mod Stops
 pub mod Between
 pub mod OneShown
 pub mod Answered
+pub mod TagLemmas
+pub mod EditLemmas
+pub mod OverlapLemmas
+pub mod OneByOne
+pub mod OneByOneFront
+pub mod EditRows
 pub mod Puts
 pub mod Runs
 pub mod PartsOut

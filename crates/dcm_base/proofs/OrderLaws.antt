@@ -1,12 +1,11 @@
 -- A value in the order of a syntax, unit by unit.
-use Rattle.std.proofs.Common.{◌≡◌, ◌≤◌, ◌<◌, ℕ, zero, suc, ◌+◌, ◌-◌, ◌*◌, ◌/◌, List, [], ◌∷◌, ◌++◌, length, take, drop, reverse, map, flat_map, ap, sym, ◌∙◌, arith, refl, append_assoc}
+use Rattle.std.proofs.Common.{◌≡◌, ◌≤◌, ◌<◌, ℕ, zero, suc, ◌+◌, ◌*◌, ◌/◌, List, [], ◌∷◌, ◌++◌, length, take, drop, reverse, map, flat_map, ap, sym, ◌∙◌, arith, refl, append_assoc}
 use Rattle.std.proofs.lemmas.Bool.{cases_lt}
 use mathlib.Core.Logic.{⊎_elim}
-use Rattle.std.proofs.lemmas.List.{length-append, append-nil, length-reverse, length-take, length-drop, take-append-drop, map-id}
-use Rattle.std.proofs.Math.ListN.{drop_of_length-le}
+use Rattle.std.proofs.lemmas.List.{length-append, append-nil, length-reverse, length-take, length-drop, take-append-drop}
 use Rattle.std.proofs.Math.Seq.{drop-append-add}
 use Rattle.std.proofs.Math.Nat.{div-eq_of_lt, add-div_left}
-use Rattle.dcm_base.specs.Value.{pieces, units, rest_part, turned}
+use Rattle.dcm_base.specs.Value.{units, rest_part, turned}
 use Rattle.dcm_base.proofs.UnitLaws.{units_cons, units_none}
 
 module _ (k : ℕ) (some : 0 < k) where

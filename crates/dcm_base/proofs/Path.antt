@@ -7,6 +7,7 @@ use Rattle.dcm_base.specs.declared.syntax.Syntax.{Syntax}
 use Rattle.dcm_base.specs.declared.length.Length.{Length}
 use Rattle.dcm_base.specs.declared.length.Length.TheVariants.{Known, Undefined}
 use Rattle.dcm_base.specs.Tree.{Trees, no_tree, leaf, sequence, fragments, Items, no_item, item}
+pub use Rattle.dcm_base.specs.Tree.{then_trees, then_items}
 use Rattle.dcm_base.specs.Front.{Front, front, OpenTree, nothing_open, open_leaf, open_sequence, open_fragments, no_open_item, open_item}
 use Rattle.dcm_base.specs.Head.{ElementHead, ItemHead, Delimiter}
 use Rattle.dcm_base.specs.Tag.{item_end_tag, sequence_end_tag}
@@ -17,25 +18,15 @@ use Rattle.dcm_base.proofs.Extend.{element_extends, item_extends, fragments_exte
 
 -- ---- more at the end
 
-unfoldable pub then_trees : Trees → Trees → Trees
-then_trees no_tree y = y
-then_trees (leaf tag vr value rest) y = leaf tag vr value (then_trees rest y)
-then_trees (sequence tag vr declared items rest) y = sequence tag vr declared items (then_trees rest y)
-then_trees (fragments tag vr values rest) y = fragments tag vr values (then_trees rest y)
-
-unfoldable pub then_items : Items → Items → Items
-then_items no_item y = y
-then_items (item declared set rest) y = item declared set (then_items rest y)
-
 pub trees_then_at : (s : Syntax) (x y : Trees) (b p q : List ℕ) → TreesAt s x b p → TreesAt s y p q → TreesAt s (then_trees x y) b q
-unfolding TreesAt then_trees
+unfolding TreesAt
 trees_then_at s no_tree y b p q h k = subst (λ (z : List ℕ). TreesAt s y z q) (sym h) k
 trees_then_at s (leaf tag vr value rest) y b p q (others, fo, head, more) k = (others, fo, head, trees_then_at s rest y others p q more k)
 trees_then_at s (sequence tag vr declared items rest) y b p q (contents, others, fo, head, inner, more) k = (contents, others, fo, head, inner, trees_then_at s rest y others p q more k)
 trees_then_at s (fragments tag vr values rest) y b p q (contents, others, fo, head, inner, more) k = (contents, others, fo, head, inner, trees_then_at s rest y others p q more k)
 
 pub items_then_at : (s : Syntax) (x y : Items) (b p q : List ℕ) → ItemsAt s x b p → ItemsAt s y p q → ItemsAt s (then_items x y) b q
-unfolding ItemsAt then_items
+unfolding ItemsAt
 items_then_at s no_item y b p q h k = subst (λ (z : List ℕ). ItemsAt s y z q) (sym h) k
 items_then_at s (item declared set rest) y b p q (contents, others, head, inner, more) k = (contents, others, head, inner, items_then_at s rest y others p q more k)
 

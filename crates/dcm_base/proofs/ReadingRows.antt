@@ -11,7 +11,6 @@ use Rattle.dcm_base.specs.Front.{Front, front, nothing_open, open_sequence, Open
 use Rattle.dcm_base.specs.Representation.{vr_of}
 use Rattle.dcm_base.specs.Dictionary.{dict_vr, element, elements}
 use Rattle.dcm_base.specs.Head.{vr_at, length_at}
-use Rattle.dcm_base.specs.Value.{order}
 use Rattle.dcm_base.specs.Spelling.{form, inside, FragmentsAt, TreesAt, ItemsAt, last_tag, SpellsFront}
 use Rattle.dcm_base.specs.Size.{fragments_size, trees_size}
 use Rattle.dcm_base.specs.Place.{set_levels, levels, value_open, room, depth, is_allowed}

@@ -44,14 +44,14 @@ mutual
       ∙ ap (λ (y : List Atom). opens_item declared ∷ y) (trees_then-append s set (closes_item ∷ items_then s rest a) b)
 
 pub trees_then-then : (s : Syntax) (x y : Trees) (others : List Atom) → trees_then s (then_trees x y) others ≡ trees_then s x (trees_then s y others)
-unfolding trees_then then_trees
+unfolding trees_then
 trees_then-then s no_tree y others = refl
 trees_then-then s (leaf tag vr value rest) y others = ap (λ (z : List Atom). opens tag vr (Known (length value)) s ∷ (map value_byte (order s vr value) ++ closes_leaf ∷ z)) (trees_then-then s rest y others)
 trees_then-then s (sequence tag vr declared items rest) y others = ap (λ (z : List Atom). opens tag vr declared s ∷ items_then (inside s vr) items (closes_sequence ∷ z)) (trees_then-then s rest y others)
 trees_then-then s (fragments tag vr values rest) y others = ap (λ (z : List Atom). opens tag vr Undefined s ∷ fragments_then values (closes_sequence ∷ z)) (trees_then-then s rest y others)
 
 pub items_then-then : (s : Syntax) (x y : Items) (others : List Atom) → items_then s (then_items x y) others ≡ items_then s x (items_then s y others)
-unfolding items_then then_items
+unfolding items_then
 items_then-then s no_item y others = refl
 items_then-then s (item declared set rest) y others = ap (λ (z : List Atom). opens_item declared ∷ trees_then s set (closes_item ∷ z)) (items_then-then s rest y others)
 

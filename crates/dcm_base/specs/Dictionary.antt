@@ -1,11 +1,11 @@
 -- The extract of the data dictionary (PS3.6 section 6).
-use Rattle.std.specs.Prelude.{ℕ, Bool, true, ◌&&◌, ◌==◌, nat_le, ◌%◌, if◌then◌else◌, List, map, find, codes, Option, Some, None, option_map, bytes_eq}
+use Rattle.std.specs.Prelude.{ℕ, Bool, ◌&&◌, ◌==◌, nat_le, if◌then◌else◌, List, map, find, codes, Option, option_map, bytes_eq}
 use Rattle.std.specs.Option.{option_map_or}
 use Rattle.dcm_base.specs.declared.tag.Tag.{Tag}
 use Rattle.dcm_base.specs.declared.vr.Vr.{Vr}
 use Rattle.dcm_base.specs.declared.vr.Vr.TheVariants.{UL, LO, UN}
 use Rattle.dcm_base.specs.declared.dictionary.TheConstants.{ELEMENTS}
-use Rattle.dcm_base.specs.Tag.{number, tag_of_number}
+use Rattle.dcm_base.specs.Tag.{number, tag_of_number, is_private}
 
 -- the number of a tag, its value representation and its keyword
 abbrev pub Element : Type 0
@@ -32,7 +32,7 @@ is_group_length t = t.element == 0
 
 -- a block of private elements is reserved by an element 0010 to 00FF of an odd group (PS3.5 7.8.1)
 abbrev pub is_private_creator : Tag → Bool
-is_private_creator t = t.group % 2 == 1 && (nat_le 16 t.element && nat_le t.element 255)
+is_private_creator t = is_private t && (nat_le 16 t.element && nat_le t.element 255)
 
 -- the value representation of an implicit head
 unfoldable pub dict_vr : Tag → Vr

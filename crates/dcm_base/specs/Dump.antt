@@ -1,5 +1,5 @@
 -- The dump of a data set, whole or as far as it was read.
-use Rattle.std.specs.Prelude.{ℕ, ◌+◌, ◌-◌, ◌*◌, ◌==◌, List, [], ◌∷◌, ◌++◌, length, map, flat_map, replicate, codes, decimal, Option, Some, None}
+use Rattle.std.specs.Prelude.{ℕ, ◌+◌, ◌-◌, ◌*◌, List, [], ◌∷◌, ◌++◌, length, flat_map, replicate, codes, decimal, Option, Some, None}
 use Rattle.dcm_base.specs.declared.tag.Tag.{Tag}
 use Rattle.dcm_base.specs.Tag.{item_tag, item_end_tag, sequence_end_tag}
 use Rattle.dcm_base.specs.declared.vr.Vr.{Vr}
@@ -12,7 +12,7 @@ use Rattle.dcm_base.specs.declared.length.Length.{Length}
 use Rattle.dcm_base.specs.declared.length.Length.TheVariants.{Known, Undefined}
 use Rattle.dcm_base.specs.Tree.{Trees, no_tree, leaf, sequence, fragments, Items, no_item, item}
 use Rattle.dcm_base.specs.Front.{Front, front, OpenTree, nothing_open, open_leaf, open_sequence, open_fragments, OpenItem, no_open_item, open_item}
-use Rattle.dcm_base.specs.ValueText.{shape, Shape, hexadecimal, count, display, shortened, padded, tag_text, shown_so_far}
+use Rattle.dcm_base.specs.ValueText.{shape, hexadecimal, count, display, shortened, padded, tag_text, shown_so_far}
 
 -- right in three places
 abbrev pub length_text : Length → List ℕ

@@ -1,5 +1,5 @@
 -- Heads of elements, items and delimiters, as they stand at the front of bytes (PS3.5 7.1.2, 7.1.3, 7.5).
-use Rattle.std.specs.Prelude.{◌≡◌, ◌≢◌, ℕ, ◌≤◌, List, length, drop, [], slice_index, Bool, Option, Some, ◌==◌, ◌||◌, if◌then◌else◌}
+use Rattle.std.specs.Prelude.{◌≡◌, ◌≢◌, ℕ, ◌≤◌, List, length, drop, [], slice_index, Option, Some, ◌==◌, ◌||◌, if◌then◌else◌}
 use Rattle.std.specs.Bool.{MatchBool}
 use Rattle.dcm_base.specs.declared.tag.Tag.{Tag}
 use Rattle.dcm_base.specs.Tag.{item_tag, is_item, is_item_end, is_sequence_end}

@@ -21,6 +21,10 @@ pub mod Bars
 pub mod ValueText
 pub mod Dump
 pub mod Recode
+pub mod Edit
+pub mod Ascending
+pub mod Overlap
+pub mod Together
 pub mod Device
 pub mod Decimal
 pub mod Steps

@@ -1,11 +1,11 @@
 -- A data set, whole or as far as it was read, in a target syntax (PS3.5 7.1, 7.5, A.4).
-use Rattle.std.specs.Prelude.{ℕ, ◌+◌, ◌%◌, ◌==◌, ◌||◌, ◌&&◌, not, nat_lt, Bool, true, false, if◌then◌else◌, List, [], ◌∷◌, ◌++◌, length, flat_map, Option, Some, None}
+use Rattle.std.specs.Prelude.{ℕ, ◌+◌, ◌%◌, ◌==◌, ◌&&◌, not, nat_lt, Bool, true, false, if◌then◌else◌, List, [], ◌∷◌, ◌++◌, length, flat_map, Option, Some, None}
 use Rattle.std.specs.Int.{Width, w16, w32, to_le_bytes, to_be_bytes}
 use Rattle.dcm_base.specs.declared.tag.Tag.{Tag}
 use Rattle.dcm_base.specs.declared.vr.Vr.{Vr}
 use Rattle.dcm_base.specs.declared.vr.Vr.TheVariants.{SQ, UN}
 use Rattle.dcm_base.specs.declared.syntax.Syntax.{Syntax}
-use Rattle.dcm_base.specs.declared.syntax.Syntax.TheVariants.{Implicit, Little, Big}
+use Rattle.dcm_base.specs.declared.syntax.Syntax.TheVariants.{Implicit, Big}
 use Rattle.dcm_base.specs.Representation.{letters, is_long, pad, unit}
 use Rattle.dcm_base.specs.Value.{order, evened, whole_part}
 use Rattle.dcm_base.specs.declared.length.Length.{Length}

@@ -1,9 +1,9 @@
 -- Values as bytes: units, orders and pads (PS3.5 6.2, 7.3).
-use Rattle.std.specs.Prelude.{ℕ, zero, suc, ◌+◌, ◌-◌, ◌*◌, ◌/◌, ◌%◌, ◌==◌, if◌then◌else◌, List, [], ◌∷◌, ◌++◌, length, take, drop, reverse, flat_map}
+use Rattle.std.specs.Prelude.{ℕ, zero, suc, ◌+◌, ◌*◌, ◌/◌, ◌%◌, ◌==◌, if◌then◌else◌, List, [], ◌∷◌, ◌++◌, length, take, drop, reverse, flat_map}
 use Rattle.dcm_base.specs.declared.vr.Vr.{Vr}
 use Rattle.dcm_base.specs.declared.syntax.Syntax.{Syntax}
 use Rattle.dcm_base.specs.declared.syntax.Syntax.TheVariants.{Implicit, Little, Big}
-use Rattle.dcm_base.specs.Representation.{unit, pad}
+use Rattle.dcm_base.specs.Representation.{unit}
 
 -- the first n pieces of k bytes
 abbrev pub pieces : ℕ → ℕ → List ℕ → List (List ℕ)

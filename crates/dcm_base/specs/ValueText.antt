@@ -1,9 +1,9 @@
 -- What a dump shows of a value.
-use Rattle.std.specs.Prelude.{ℕ, zero, suc, ◌+◌, ◌-◌, ◌*◌, ◌/◌, ◌%◌, ◌^◌, ◌==◌, ◌&&◌, ◌||◌, nat_lt, nat_le, Bool, true, false, if◌then◌else◌, List, [], ◌∷◌, ◌++◌, length, take, drop, map, reverse, flat_map, count_by, replicate, slice_index, codes, decimal, Option, Some, None}
+use Rattle.std.specs.Prelude.{ℕ, ◌+◌, ◌-◌, ◌*◌, ◌/◌, ◌%◌, ◌^◌, ◌==◌, ◌&&◌, ◌||◌, nat_lt, nat_le, Bool, true, false, if◌then◌else◌, List, [], ◌∷◌, ◌++◌, length, take, drop, map, reverse, flat_map, count_by, replicate, slice_index, codes, decimal}
 use Rattle.std.specs.List.{join_with_byte}
 use Rattle.std.specs.Option.{option_map_or}
 use Rattle.dcm_base.specs.declared.vr.Vr.{Vr}
-use Rattle.dcm_base.specs.declared.vr.Vr.TheVariants.{AE, AS, AT, CS, DA, DS, DT, FD, FL, IS, LO, LT, OB, OD, OF, OL, OV, OW, PN, SH, SL, SQ, SS, ST, SV, TM, UC, UI, UL, UN, UR, US, UT, UV}
+use Rattle.dcm_base.specs.declared.vr.Vr.TheVariants.{AE, AS, AT, CS, DA, DS, DT, IS, LO, LT, OB, OD, OF, OL, OV, OW, PN, SH, SL, SS, ST, SV, TM, UC, UI, UL, UN, UR, US, UT, UV}
 use Rattle.dcm_base.specs.declared.mode.Mode.{Mode}
 use Rattle.dcm_base.specs.declared.mode.Mode.TheVariants.{Short, Full}
 use Rattle.dcm_base.specs.Representation.{unit, pad}
