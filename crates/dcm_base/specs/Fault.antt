@@ -6,6 +6,8 @@ use Rattle.dcm_base.specs.declared.fault.LineFault.{LineFault}
 use Rattle.dcm_base.specs.declared.fault.LineFault.TheVariants as line
 use Rattle.dcm_base.specs.declared.fault.EditRefusal.{EditRefusal}
 use Rattle.dcm_base.specs.declared.fault.EditRefusal.TheVariants as edit
+use Rattle.dcm_base.specs.declared.fault.WordFault.{WordFault}
+use Rattle.dcm_base.specs.declared.fault.WordFault.TheVariants as word
 
 -- why a file is refused
 abbrev pub fault_number : Fault → List ℕ
@@ -85,3 +87,20 @@ edit_refusal_text edit.SequenceMisused = codes "sequence misused"
 edit_refusal_text edit.MetaGroup = codes "group 0002 cannot be edited"
 edit_refusal_text edit.Overlap = codes "edits overlap"
 edit_refusal_text edit.TooMany = codes "too many edits"
+
+-- why the words of a command line are refused
+abbrev pub word_fault_number : WordFault → List ℕ
+word_fault_number word.UnknownTool = codes "V1"
+word_fault_number word.UnknownOption = codes "V2"
+word_fault_number word.BadOptionValue = codes "V3"
+word_fault_number word.WrongPaths = codes "V4"
+word_fault_number word.OptionsApart = codes "V5"
+word_fault_number word.SamePath = codes "V6"
+
+abbrev pub word_fault_text : WordFault → List ℕ
+word_fault_text word.UnknownTool = codes "unknown tool"
+word_fault_text word.UnknownOption = codes "unknown option"
+word_fault_text word.BadOptionValue = codes "bad option value"
+word_fault_text word.WrongPaths = codes "wrong number of paths"
+word_fault_text word.OptionsApart = codes "options do not go together"
+word_fault_text word.SamePath = codes "input and output are the same path"

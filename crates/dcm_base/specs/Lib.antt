@@ -25,6 +25,11 @@ pub mod Edit
 pub mod Ascending
 pub mod Overlap
 pub mod Together
+pub mod ReadValue
+pub mod Line
+pub mod Build
+pub mod EditWords
+pub mod Words
 pub mod Device
 pub mod Decimal
 pub mod Steps

@@ -59,6 +59,10 @@ pad UR = 32
 pad UT = 32
 pad _ = 0
 
+abbrev pub is_sequence : Vr → Bool
+is_sequence SQ = true
+is_sequence _ = false
+
 -- the two letters
 unfoldable pub letters : Vr → List ℕ
 letters AE = codes "AE"

@@ -201,6 +201,53 @@ impl EditRefusal {
     }
 }
 
+/// Why the words of a command line are refused.
+#[derive(Clone, Copy, Debug, PartialEq, Eq, Error)]
+pub enum WordFault {
+    #[error("unknown tool")]
+    UnknownTool,
+    #[error("unknown option")]
+    UnknownOption,
+    #[error("bad option value")]
+    BadOptionValue,
+    #[error("wrong number of paths")]
+    WrongPaths,
+    #[error("options do not go together")]
+    OptionsApart,
+    #[error("input and output are the same path")]
+    SamePath,
+}
+
+impl WordFault {
+    /// The number by which it is told.
+    pub fn number(self) -> &'static str
+        ensures { result.now ≡ spec.word_fault_number self }
+    {
+        match self {
+            WordFault::UnknownTool => "V1",
+            WordFault::UnknownOption => "V2",
+            WordFault::BadOptionValue => "V3",
+            WordFault::WrongPaths => "V4",
+            WordFault::OptionsApart => "V5",
+            WordFault::SamePath => "V6",
+        }
+    }
+
+    /// The words by which it is told.
+    pub fn text(self) -> &'static str
+        ensures { result.now ≡ spec.word_fault_text self }
+    {
+        match self {
+            WordFault::UnknownTool => "unknown tool",
+            WordFault::UnknownOption => "unknown option",
+            WordFault::BadOptionValue => "bad option value",
+            WordFault::WrongPaths => "wrong number of paths",
+            WordFault::OptionsApart => "options do not go together",
+            WordFault::SamePath => "input and output are the same path",
+        }
+    }
+}
+
 /// A fault and the offset in bytes at which it is told.
 #[derive(Clone, Copy, Debug, PartialEq, Eq)]
 pub struct Stop {

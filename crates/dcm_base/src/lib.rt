@@ -18,11 +18,12 @@ mod transfer;
 mod uid;
 mod vr;
 mod watched;
+mod words;
 
 pub use calls::{flush_out, get_some, put_all, put_decimal, put_parts};
 pub use device::{Device, DeviceIn, DeviceOut, ReadFailed, WriteFailed};
 pub use dictionary::{ELEMENTS, dict_vr, keyword, tag_of};
-pub use fault::{EditRefusal, Fault, LineFault, Stop};
+pub use fault::{EditRefusal, Fault, LineFault, Stop, WordFault};
 pub use form::{Form, form_of};
 pub use length::Length;
 pub use level::{Container, Level};
@@ -35,3 +36,4 @@ pub use transfer::{Deflated, coding_of};
 pub use uid::{uid_name, uid_of};
 pub use vr::{Vr, vr_of};
 pub use watched::Watched;
+pub use words::{Usage, Word};

@@ -1,0 +1,38 @@
+// What the words of a command line say.
+use crate::fault::{EditRefusal, WordFault};
+use crate::mode::Mode;
+use crate::syntax::Syntax;
+
+/// What one word says to dcmdump, dcmconv or dump2dcm.
+#[derive(Clone, Copy, Debug, PartialEq, Eq)]
+pub enum Word {
+    /// How much of a long value is shown.
+    Show(Mode),
+    /// The input is a file with a meta group.
+    WholeFile,
+    /// The input is a data set alone.
+    DataSet,
+    /// The syntax of a data set alone.
+    Bare(Syntax),
+    /// The syntax that is written, or none for that of the input.
+    Target(Option<Syntax>),
+    /// The next word is the limit of a line.
+    Limit,
+    /// An option that changes nothing.
+    Accepted,
+    Path,
+    Unknown,
+}
+
+/// Why no plan follows from the words of a command line.
+#[derive(Clone, Copy, Debug, PartialEq, Eq)]
+pub enum Usage {
+    /// A word is refused; words are counted from 1, the tool's name.
+    AtWord(WordFault, usize),
+    /// The words as a whole are refused.
+    Whole(WordFault),
+    /// An edit is refused; edits are counted from 1.
+    InEdit(EditRefusal, usize),
+    /// The memory for the edits was refused.
+    Memory,
+}
