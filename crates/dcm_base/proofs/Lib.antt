@@ -24,6 +24,8 @@ pub mod OverlapLemmas
 pub mod OneByOne
 pub mod OneByOneFront
 pub mod EditRows
+pub mod ReadValueLemmas
+pub mod EditWordLemmas
 pub mod Puts
 pub mod Runs
 pub mod PartsOut
