@@ -26,6 +26,7 @@ pub mod OneByOneFront
 pub mod EditRows
 pub mod ReadValueLemmas
 pub mod EditWordLemmas
+pub mod LineRows
 pub mod Puts
 pub mod Runs
 pub mod PartsOut

@@ -1,0 +1,122 @@
+-- Worked rows of lines: what they build, and the fault that is told.
+use Rattle.std.proofs.Common.{◌≡◌, ℕ, List, [], ◌∷◌, ◌++◌, Option, Some, None, true, false, refl, replicate}
+use Rattle.std.specs.Prelude.{codes}
+use Rattle.dcm_base.specs.declared.tag.Tag.{Tag}
+use Rattle.dcm_base.specs.declared.vr.Vr.TheVariants.{UI, PN, LO, SQ, LT, UL, OB, UV, UN}
+use Rattle.dcm_base.specs.declared.fault.LineFault.{LineFault}
+use Rattle.dcm_base.specs.declared.fault.LineFault.TheVariants.{LineTooLong, NotALine, ValueDoesNotFit, NotAllowed, NotAscending, BadMetaGroup, NoTransferSyntax, TooDeep, EndsEarly}
+use Rattle.dcm_base.specs.declared.length.Length.TheVariants.{Undefined}
+use Rattle.dcm_base.specs.Tree.{Trees, no_tree, leaf, sequence, fragments, no_item, item}
+use Rattle.dcm_base.specs.Front.{Front, front, nothing_open, open_sequence, no_open_item}
+use Rattle.dcm_base.specs.Representation.{vr_of}
+use Rattle.dcm_base.specs.Uid.{uid_of, uids}
+use Rattle.dcm_base.specs.Transfer.{without_pads, coding_of}
+use Rattle.dcm_base.specs.Size.{trees_size}
+use Rattle.dcm_base.specs.Place.{set_levels, levels, depth}
+use Rattle.dcm_base.specs.Bars.{innermost_reached}
+use Rattle.dcm_base.specs.Build.{built, Built, Progress, Told, with_step, no_elements}
+
+-- all that a row computes with
+unfoldable pub all : ℕ
+unfolding vr_of uid_of uids without_pads coding_of trees_size set_levels levels depth innermost_reached with_step built
+all = 0
+
+-- the lines before the first fault build this, and the fault is told so
+abbrev Builds : Progress → Built → Option Told → Type 0
+Builds p b t = (p.built ≡ b) × (p.told ≡ t)
+
+abbrev tag : ℕ → ℕ → Tag
+tag g e = record { group = g; element = e }
+
+abbrev at_line : LineFault → ℕ → ℕ → Option Told
+at_line fault offset line = Some (record { fault = fault; offset = offset; line = line })
+
+abbrev syntax_line : List ℕ
+syntax_line = codes "(0002,0010) UI =LittleEndianExplicit\n"
+
+abbrev syntax_leaf : Trees
+syntax_leaf = leaf (tag 2 0x10) UI (codes "1.2.840.10008.1.2.1") no_tree
+
+-- the meta group of one element, behind which these elements stand
+abbrev shown : Front → Built
+shown f = record { meta = syntax_leaf; meta_ended = true; set = f }
+
+abbrev unended : Trees → Built
+unended meta = record { meta = meta; meta_ended = false; set = no_elements }
+
+abbrev set_of : Trees → Tag → Front
+set_of whole reached = front whole nothing_open (Some reached) false
+
+name_line : Builds (built 4096 (syntax_line ++ codes "(0010,0010) PN [AB^CD]                                  #   6, 1 PatientName\n"))
+    (shown (set_of (leaf (tag 0x10 0x10) PN (codes "AB^CD") no_tree) (tag 0x10 0x10))) None
+unfolding all
+name_line = (refl, refl)
+
+empty_input : Builds (built 4096 []) (unended no_tree) (at_line NoTransferSyntax 0 1)
+unfolding all
+empty_input = (refl, refl)
+
+no_syntax : Builds (built 4096 (codes "(0010,0010) PN [A]")) (unended no_tree) (at_line NoTransferSyntax 0 1)
+unfolding all
+no_syntax = (refl, refl)
+
+no_value_field : Builds (built 4096 (syntax_line ++ codes "(0010,0010) PN")) (unended syntax_leaf) (at_line NotALine 37 2)
+unfolding all
+no_value_field = (refl, refl)
+
+-- the end of no item; the meta group has ended
+end_of_nothing : Builds (built 4096 (syntax_line ++ codes "(fffe,e00d) na (ItemDelimitationItem)")) (shown no_elements) (at_line NotAllowed 37 2)
+unfolding all
+end_of_nothing = (refl, refl)
+
+descending_tag : Builds (built 4096 (syntax_line ++ codes "(0010,0020) LO [7]\n(0010,0010) PN [A]"))
+    (shown (set_of (leaf (tag 0x10 0x20) LO (codes "7") no_tree) (tag 0x10 0x20))) (at_line NotAscending 56 3)
+unfolding all
+descending_tag = (refl, refl)
+
+-- a line of the meta group behind one of the data set
+late_meta_line : Builds (built 4096 (syntax_line ++ codes "(0010,0010) PN [A]\n" ++ syntax_line))
+    (shown (set_of (leaf (tag 0x10 0x10) PN (codes "A") no_tree) (tag 0x10 0x10))) (at_line BadMetaGroup 56 3)
+unfolding all
+late_meta_line = (refl, refl)
+
+open_at_the_end : Builds (built 4096 (syntax_line ++ codes "(0008,1140) SQ (Sequence with undefined length)\n"))
+    (shown (front no_tree (open_sequence (tag 8 0x1140) SQ Undefined no_item no_open_item) (Some (tag 8 0x1140)) false)) (at_line EndsEarly 85 3)
+unfolding all
+open_at_the_end = (refl, refl)
+
+-- a line of just the usual limit, one past it, and a value without its bracket
+longest_line : Builds (built 4096 (syntax_line ++ codes "(0010,4000) LT [" ++ replicate 4079 97 ++ codes "]"))
+    (shown (set_of (leaf (tag 0x10 0x4000) LT (replicate 4079 97) no_tree) (tag 0x10 0x4000))) None
+unfolding all
+longest_line = (refl, refl)
+
+too_long_line : Builds (built 4096 (syntax_line ++ codes "(0010,4000) LT [" ++ replicate 4080 97 ++ codes "]")) (unended syntax_leaf) (at_line LineTooLong 37 2)
+unfolding all
+too_long_line = (refl, refl)
+
+shortened_value : Builds (built 4096 (syntax_line ++ codes "(0010,0010) PN [AB...")) (shown no_elements) (at_line ValueDoesNotFit 37 2)
+unfolding all
+shortened_value = (refl, refl)
+
+-- the greatest number of eight bytes, and one more
+greatest_number : Builds (built 4096 (syntax_line ++ codes "(0009,1001) UV 18446744073709551615"))
+    (shown (set_of (leaf (tag 9 0x1001) UV (replicate 8 255) no_tree) (tag 9 0x1001))) None
+unfolding all
+greatest_number = (refl, refl)
+
+number_too_great : Builds (built 4096 (syntax_line ++ codes "(0009,1001) UV 18446744073709551616")) (shown no_elements) (at_line ValueDoesNotFit 37 2)
+unfolding all
+number_too_great = (refl, refl)
+
+-- a whole dump, with its header, a carriage return and an item
+whole_dump : Builds
+    (built 4096 (codes "# Dicom-File-Format\n\n# Dicom-Meta-Information-Header\n(0002,0000) UL 28                                       #   4, 1 FileMetaInformationGroupLength\n(0002,0010) UI =LittleEndianExplicit                    #  20, 1 TransferSyntaxUID\r\n\n(0008,1140) SQ (Sequence with undefined length)         # u/l, 1 ReferencedImageSequence\n  (fffe,e000) na (Item with explicit length)              #  12, 1 Item\n    (0008,1155) UI [1.2]                                    #   4, 1 ReferencedSOPInstanceUID\n  (fffe,e00d) na (ItemDelimitationItem for re-encoding)   #   0, 0 ItemDelimitationItem\n(fffe,e0dd) na (SequenceDelimitationItem)               #   0, 0 SequenceDelimitationItem\n"))
+    (record {
+      meta = leaf (tag 2 0) UL (28 ∷ 0 ∷ 0 ∷ 0 ∷ []) syntax_leaf;
+      meta_ended = true;
+      set = set_of (sequence (tag 8 0x1140) SQ Undefined (item Undefined (leaf (tag 8 0x1155) UI (codes "1.2") no_tree) no_item) no_tree) (tag 8 0x1140);
+    })
+    None
+unfolding all
+whole_dump = (refl, refl)
