@@ -6,10 +6,11 @@ use Rattle.dcm_base.specs.Tree.{no_tree, leaf}
 use Rattle.dcm_base.specs.Front.{Front, front, nothing_open}
 use Rattle.dcm_base.specs.Spelling.{SpellsFront}
 use Rattle.dcm_base.specs.Stop.{complete, stop_at}
+use Rattle.dcm_base.specs.Bars.{no_bar}
 use Rattle.dcm_base.specs.Reads.{StopsFirst, Reads}
 use Rattle.dcm_base.proofs.Fronts.{front_same}
 use Rattle.dcm_base.proofs.Between.{between}
-use Rattle.dcm_base.proofs.ReadingRows.{no_bar, all, patient_name}
+use Rattle.dcm_base.proofs.ReadingRows.{all, patient_name}
 
 abbrev bytes : List ℕ
 bytes = 0x10 ∷ 0x00 ∷ 0x10 ∷ 0x00 ∷ 0x50 ∷ 0x4E ∷ 0x00 ∷ 0x00 ∷ []

@@ -7,7 +7,9 @@ pub mod Apart
 pub mod Fronts
 pub mod Reading
 pub mod ReadingRows
+pub mod DeepRows
 pub mod DumpRows
+pub mod RecodeRows
 pub mod Sizes
 pub mod Extend
 pub mod Shown

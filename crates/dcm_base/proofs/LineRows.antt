@@ -2,11 +2,11 @@
 use Rattle.std.proofs.Common.{◌≡◌, ℕ, List, [], ◌∷◌, ◌++◌, Option, Some, None, true, false, refl, replicate}
 use Rattle.std.specs.Prelude.{codes}
 use Rattle.dcm_base.specs.declared.tag.Tag.{Tag}
-use Rattle.dcm_base.specs.declared.vr.Vr.TheVariants.{UI, PN, LO, SQ, LT, UL, OB, UV, UN}
+use Rattle.dcm_base.specs.declared.vr.Vr.TheVariants.{UI, PN, LO, SQ, LT, UL, UV}
 use Rattle.dcm_base.specs.declared.fault.LineFault.{LineFault}
-use Rattle.dcm_base.specs.declared.fault.LineFault.TheVariants.{LineTooLong, NotALine, ValueDoesNotFit, NotAllowed, NotAscending, BadMetaGroup, NoTransferSyntax, TooDeep, EndsEarly}
+use Rattle.dcm_base.specs.declared.fault.LineFault.TheVariants.{LineTooLong, NotALine, ValueDoesNotFit, NotAllowed, NotAscending, BadMetaGroup, NoTransferSyntax, EndsEarly}
 use Rattle.dcm_base.specs.declared.length.Length.TheVariants.{Undefined}
-use Rattle.dcm_base.specs.Tree.{Trees, no_tree, leaf, sequence, fragments, no_item, item}
+use Rattle.dcm_base.specs.Tree.{Trees, no_tree, leaf, sequence, no_item, item}
 use Rattle.dcm_base.specs.Front.{Front, front, nothing_open, open_sequence, no_open_item}
 use Rattle.dcm_base.specs.Representation.{vr_of}
 use Rattle.dcm_base.specs.Uid.{uid_of, uids}

@@ -1,28 +1,39 @@
--- Worked rows: bytes, the front that they spell, and the stop there.
+-- Worked rows: bytes, the data set that they spell as far as it was read, and the stop there.
 use Rattle.std.proofs.Common.{◌≡◌, ℕ, List, [], ◌∷◌, ◌++◌, Some, None, false, refl, arith, lit≤}
 use Rattle.dcm_base.specs.declared.tag.Tag.{Tag}
-use Rattle.dcm_base.specs.declared.vr.Vr.TheVariants.{PN, SQ, UI, US, UN, OB}
-use Rattle.dcm_base.specs.declared.syntax.Syntax.TheVariants.{Little, Big}
-use Rattle.dcm_base.specs.declared.fault.Fault.TheVariants.{PassesEnd, UnknownRepresentation}
+use Rattle.dcm_base.specs.declared.vr.Vr.{Vr}
+use Rattle.dcm_base.specs.declared.vr.Vr.TheVariants.{PN, SQ, UI, US, UN, OB, OW, OV, SV, UV, UL, CS, LT, LO, AT}
+use Rattle.dcm_base.specs.declared.syntax.Syntax.TheVariants.{Implicit, Little, Big}
+use Rattle.dcm_base.specs.declared.fault.Fault.TheVariants.{PassesEnd, UnknownRepresentation, UndefinedLength, EndsEarly, NotAscending, FragmentsBarred}
 use Rattle.dcm_base.specs.declared.length.Length.{Length}
 use Rattle.dcm_base.specs.declared.length.Length.TheVariants.{Known, Undefined}
 use Rattle.dcm_base.specs.Tree.{Trees, no_tree, leaf, sequence, fragments, Items, no_item, item}
-use Rattle.dcm_base.specs.Front.{Front, front, nothing_open, open_sequence, OpenItem, no_open_item, open_item}
+use Rattle.dcm_base.specs.Front.{Front, front, nothing_open, open_leaf, open_sequence, OpenItem, no_open_item, open_item}
 use Rattle.dcm_base.specs.Representation.{vr_of}
 use Rattle.dcm_base.specs.Dictionary.{dict_vr, element, elements}
 use Rattle.dcm_base.specs.Head.{vr_at, length_at}
 use Rattle.dcm_base.specs.Spelling.{form, inside, FragmentsAt, TreesAt, ItemsAt, last_tag, SpellsFront}
 use Rattle.dcm_base.specs.Size.{fragments_size, trees_size}
 use Rattle.dcm_base.specs.Place.{set_levels, levels, value_open, room, depth, is_allowed}
-use Rattle.dcm_base.specs.Stop.{complete, refused, Bar, stop_at}
-
-unfoldable pub no_bar : Bar
-no_bar f tag vr declared = None
+use Rattle.dcm_base.specs.Stop.{complete, refused, stop_at}
+use Rattle.dcm_base.specs.Bars.{innermost_reached, no_bar, ascending_bar, fragments_bar}
 
 -- all that a row computes with
 unfoldable pub all : ℕ
-unfolding no_bar vr_of dict_vr element elements vr_at length_at form inside FragmentsAt TreesAt last_tag SpellsFront fragments_size trees_size set_levels levels value_open room depth is_allowed stop_at
+unfolding vr_of dict_vr element elements innermost_reached vr_at length_at form inside FragmentsAt TreesAt last_tag SpellsFront fragments_size trees_size set_levels levels value_open room depth is_allowed stop_at
 all = 0
+
+abbrev tag : ℕ → ℕ → Tag
+tag g e = record { group = g; element = e }
+
+abbrev nothing_read : Front
+nothing_read = front no_tree nothing_open None false
+
+abbrev whole_set : Trees → Tag → Front
+whole_set set reached = front set nothing_open (Some reached) false
+
+abbrev open_value : Tag → Vr → ℕ → List ℕ → Front
+open_value t vr size value = front no_tree (open_leaf t vr size value) (Some t) false
 
 abbrev pub patient_name : Tag
 patient_name = record { group = 0x0010; element = 0x0010 }
@@ -164,6 +175,10 @@ big_spelled : SpellsFront Big (front (leaf rows US (0x01 ∷ 0x00 ∷ 0x00 ∷ 0
 unfolding all
 big_spelled = ([], ([], refl, record { no_item = λ e. omega (arith, e); head = record { tag_is = refl; vr_is = refl; whole = lit≤ tt; length_is = refl; after_is = refl } }, refl), refl, refl, refl)
 
+big_stop : stop_at no_bar Big 172 (front (leaf rows US (0x01 ∷ 0x00 ∷ 0x00 ∷ 0x02 ∷ 0x05 ∷ []) no_tree) nothing_open (Some rows) false) 185 [] ≡ Some complete
+unfolding all
+big_stop = refl
+
 -- ---- UN of undefined length in big endian holds implicit little endian
 
 abbrev private : Tag
@@ -213,6 +228,10 @@ private_spelled = (
   refl,
 )
 
+private_stop : stop_at no_bar Big 172 (front (sequence private UN Undefined in_private no_tree) nothing_open (Some private) false) 218 [] ≡ Some complete
+unfolding all
+private_stop = refl
+
 -- ---- a fragment list
 
 abbrev pixels : Tag
@@ -247,8 +266,165 @@ pixels_spelled = (
   refl,
 )
 
--- ---- letters that are no capitals
+pixels_stop : stop_at no_bar Little 174 (front (fragments pixels OB ([] ∷ (0xFF ∷ 0xD8 ∷ []) ∷ []) no_tree) nothing_open (Some pixels) false) 212 [] ≡ Some complete
+unfolding all
+pixels_stop = refl
 
-no_letters_stop : stop_at no_bar Little 172 (front no_tree nothing_open None false) 172 (0x10 ∷ 0x00 ∷ 0x10 ∷ 0x00 ∷ 0x70 ∷ 0x6E ∷ 0x02 ∷ 0x00 ∷ []) ≡ Some (refused UnknownRepresentation 172)
+-- and where the target has no such lists
+pixels_barred : stop_at fragments_bar Little 172 nothing_read 172 (0xE0 ∷ 0x7F ∷ 0x10 ∷ 0x00 ∷ 0x4F ∷ 0x42 ∷ 0x00 ∷ 0x00 ∷ 0xFF ∷ 0xFF ∷ 0xFF ∷ 0xFF ∷ []) ≡ Some (refused FragmentsBarred 172)
+unfolding all
+pixels_barred = refl
+
+-- ---- letters that are no capitals, and other capitals
+
+no_letters_stop : stop_at no_bar Little 172 nothing_read 172 (0x10 ∷ 0x00 ∷ 0x10 ∷ 0x00 ∷ 0x70 ∷ 0x6E ∷ 0x02 ∷ 0x00 ∷ []) ≡ Some (refused UnknownRepresentation 172)
 unfolding all
 no_letters_stop = refl
+
+-- other capitals are UN in the long form, whatever the reserved bytes are
+capitals_spelled : SpellsFront Little (whole_set (leaf (tag 0x0009 0x1001) UN (0x41 ∷ 0x42 ∷ []) no_tree) (tag 0x0009 0x1001)) (0x09 ∷ 0x00 ∷ 0x01 ∷ 0x10 ∷ 0x5A ∷ 0x5A ∷ 0x01 ∷ 0x02 ∷ 0x02 ∷ 0x00 ∷ 0x00 ∷ 0x00 ∷ 0x41 ∷ 0x42 ∷ [])
+unfolding all
+capitals_spelled = ([], ([], refl, record { no_item = λ e. omega (arith, e); head = record { tag_is = refl; vr_is = refl; whole = lit≤ tt; length_is = refl; after_is = refl } }, refl), refl, refl, refl)
+
+capitals_stop : stop_at no_bar Little 172 (whole_set (leaf (tag 0x0009 0x1001) UN (0x41 ∷ 0x42 ∷ []) no_tree) (tag 0x0009 0x1001)) 186 [] ≡ Some complete
+unfolding all
+capitals_stop = refl
+
+-- ---- elements of other kinds
+
+-- the dictionary lacks the tag
+implicit_spelled : SpellsFront Implicit (whole_set (leaf (tag 0x0009 0x1001) UN (0x41 ∷ 0x42 ∷ []) no_tree) (tag 0x0009 0x1001)) (0x09 ∷ 0x00 ∷ 0x01 ∷ 0x10 ∷ 0x02 ∷ 0x00 ∷ 0x00 ∷ 0x00 ∷ 0x41 ∷ 0x42 ∷ [])
+unfolding all
+implicit_spelled = ([], ([], refl, record { no_item = λ e. omega (arith, e); head = record { tag_is = refl; vr_is = refl; whole = lit≤ tt; length_is = refl; after_is = refl } }, refl), refl, refl, refl)
+
+implicit_stop : stop_at no_bar Implicit 170 (whole_set (leaf (tag 0x0009 0x1001) UN (0x41 ∷ 0x42 ∷ []) no_tree) (tag 0x0009 0x1001)) 180 [] ≡ Some complete
+unfolding all
+implicit_stop = refl
+
+-- a data set alone begins at 0
+bare_spelled : SpellsFront Implicit (whole_set (leaf (tag 0x0010 0x0010) PN (0x41 ∷ 0x42 ∷ []) no_tree) (tag 0x0010 0x0010)) (0x10 ∷ 0x00 ∷ 0x10 ∷ 0x00 ∷ 0x02 ∷ 0x00 ∷ 0x00 ∷ 0x00 ∷ 0x41 ∷ 0x42 ∷ [])
+unfolding all
+bare_spelled = ([], ([], refl, record { no_item = λ e. omega (arith, e); head = record { tag_is = refl; vr_is = refl; whole = lit≤ tt; length_is = refl; after_is = refl } }, refl), refl, refl, refl)
+
+bare_stop : stop_at no_bar Implicit 0 (whole_set (leaf (tag 0x0010 0x0010) PN (0x41 ∷ 0x42 ∷ []) no_tree) (tag 0x0010 0x0010)) 10 [] ≡ Some complete
+unfolding all
+bare_stop = refl
+
+odd_value_spelled : SpellsFront Little (whole_set (leaf (tag 0x0010 0x4000) LT (0x20 ∷ []) no_tree) (tag 0x0010 0x4000)) (0x10 ∷ 0x00 ∷ 0x00 ∷ 0x40 ∷ 0x4C ∷ 0x54 ∷ 0x01 ∷ 0x00 ∷ 0x20 ∷ [])
+unfolding all
+odd_value_spelled = ([], ([], refl, record { no_item = λ e. omega (arith, e); head = record { tag_is = refl; vr_is = refl; whole = lit≤ tt; length_is = refl; after_is = refl } }, refl), refl, refl, refl)
+
+odd_value_stop : stop_at no_bar Little 172 (whole_set (leaf (tag 0x0010 0x4000) LT (0x20 ∷ []) no_tree) (tag 0x0010 0x4000)) 181 [] ≡ Some complete
+unfolding all
+odd_value_stop = refl
+
+pointer_spelled : SpellsFront Little (whole_set (leaf (tag 0x0028 0x0009) AT (0x18 ∷ 0x00 ∷ 0x63 ∷ 0x10 ∷ []) no_tree) (tag 0x0028 0x0009)) (0x28 ∷ 0x00 ∷ 0x09 ∷ 0x00 ∷ 0x41 ∷ 0x54 ∷ 0x04 ∷ 0x00 ∷ 0x18 ∷ 0x00 ∷ 0x63 ∷ 0x10 ∷ [])
+unfolding all
+pointer_spelled = ([], ([], refl, record { no_item = λ e. omega (arith, e); head = record { tag_is = refl; vr_is = refl; whole = lit≤ tt; length_is = refl; after_is = refl } }, refl), refl, refl, refl)
+
+pointer_stop : stop_at no_bar Little 172 (whole_set (leaf (tag 0x0028 0x0009) AT (0x18 ∷ 0x00 ∷ 0x63 ∷ 0x10 ∷ []) no_tree) (tag 0x0028 0x0009)) 184 [] ≡ Some complete
+unfolding all
+pointer_stop = refl
+
+long_number_spelled : SpellsFront Little (whole_set (leaf (tag 0x0009 0x1001) UV (0x02 ∷ 0x01 ∷ 0x00 ∷ 0x00 ∷ 0x00 ∷ 0x00 ∷ 0x00 ∷ 0x00 ∷ []) no_tree) (tag 0x0009 0x1001)) (0x09 ∷ 0x00 ∷ 0x01 ∷ 0x10 ∷ 0x55 ∷ 0x56 ∷ 0x00 ∷ 0x00 ∷ 0x08 ∷ 0x00 ∷ 0x00 ∷ 0x00 ∷ 0x02 ∷ 0x01 ∷ 0x00 ∷ 0x00 ∷ 0x00 ∷ 0x00 ∷ 0x00 ∷ 0x00 ∷ [])
+unfolding all
+long_number_spelled = ([], ([], refl, record { no_item = λ e. omega (arith, e); head = record { tag_is = refl; vr_is = refl; whole = lit≤ tt; length_is = refl; after_is = refl } }, refl), refl, refl, refl)
+
+long_number_stop : stop_at no_bar Little 172 (whole_set (leaf (tag 0x0009 0x1001) UV (0x02 ∷ 0x01 ∷ 0x00 ∷ 0x00 ∷ 0x00 ∷ 0x00 ∷ 0x00 ∷ 0x00 ∷ []) no_tree) (tag 0x0009 0x1001)) 192 [] ≡ Some complete
+unfolding all
+long_number_stop = refl
+
+long_negative_spelled : SpellsFront Little (whole_set (leaf (tag 0x0009 0x1001) SV (0xFF ∷ 0xFF ∷ 0xFF ∷ 0xFF ∷ 0xFF ∷ 0xFF ∷ 0xFF ∷ 0xFF ∷ []) no_tree) (tag 0x0009 0x1001)) (0x09 ∷ 0x00 ∷ 0x01 ∷ 0x10 ∷ 0x53 ∷ 0x56 ∷ 0x00 ∷ 0x00 ∷ 0x08 ∷ 0x00 ∷ 0x00 ∷ 0x00 ∷ 0xFF ∷ 0xFF ∷ 0xFF ∷ 0xFF ∷ 0xFF ∷ 0xFF ∷ 0xFF ∷ 0xFF ∷ [])
+unfolding all
+long_negative_spelled = ([], ([], refl, record { no_item = λ e. omega (arith, e); head = record { tag_is = refl; vr_is = refl; whole = lit≤ tt; length_is = refl; after_is = refl } }, refl), refl, refl, refl)
+
+long_negative_stop : stop_at no_bar Little 172 (whole_set (leaf (tag 0x0009 0x1001) SV (0xFF ∷ 0xFF ∷ 0xFF ∷ 0xFF ∷ 0xFF ∷ 0xFF ∷ 0xFF ∷ 0xFF ∷ []) no_tree) (tag 0x0009 0x1001)) 192 [] ≡ Some complete
+unfolding all
+long_negative_stop = refl
+
+long_words_spelled : SpellsFront Little (whole_set (leaf (tag 0x0009 0x1001) OV (0x01 ∷ 0x02 ∷ 0x03 ∷ 0x04 ∷ 0x05 ∷ 0x06 ∷ 0x07 ∷ 0x08 ∷ []) no_tree) (tag 0x0009 0x1001)) (0x09 ∷ 0x00 ∷ 0x01 ∷ 0x10 ∷ 0x4F ∷ 0x56 ∷ 0x00 ∷ 0x00 ∷ 0x08 ∷ 0x00 ∷ 0x00 ∷ 0x00 ∷ 0x01 ∷ 0x02 ∷ 0x03 ∷ 0x04 ∷ 0x05 ∷ 0x06 ∷ 0x07 ∷ 0x08 ∷ [])
+unfolding all
+long_words_spelled = ([], ([], refl, record { no_item = λ e. omega (arith, e); head = record { tag_is = refl; vr_is = refl; whole = lit≤ tt; length_is = refl; after_is = refl } }, refl), refl, refl, refl)
+
+long_words_stop : stop_at no_bar Little 172 (whole_set (leaf (tag 0x0009 0x1001) OV (0x01 ∷ 0x02 ∷ 0x03 ∷ 0x04 ∷ 0x05 ∷ 0x06 ∷ 0x07 ∷ 0x08 ∷ []) no_tree) (tag 0x0009 0x1001)) 192 [] ≡ Some complete
+unfolding all
+long_words_stop = refl
+
+words_spelled : SpellsFront Little (whole_set (leaf (tag 0x7FE0 0x0010) OW (0x01 ∷ 0x02 ∷ 0x03 ∷ 0x04 ∷ []) no_tree) (tag 0x7FE0 0x0010)) (0xE0 ∷ 0x7F ∷ 0x10 ∷ 0x00 ∷ 0x4F ∷ 0x57 ∷ 0x00 ∷ 0x00 ∷ 0x04 ∷ 0x00 ∷ 0x00 ∷ 0x00 ∷ 0x01 ∷ 0x02 ∷ 0x03 ∷ 0x04 ∷ [])
+unfolding all
+words_spelled = ([], ([], refl, record { no_item = λ e. omega (arith, e); head = record { tag_is = refl; vr_is = refl; whole = lit≤ tt; length_is = refl; after_is = refl } }, refl), refl, refl, refl)
+
+words_stop : stop_at no_bar Little 172 (whole_set (leaf (tag 0x7FE0 0x0010) OW (0x01 ∷ 0x02 ∷ 0x03 ∷ 0x04 ∷ []) no_tree) (tag 0x7FE0 0x0010)) 188 [] ≡ Some complete
+unfolding all
+words_stop = refl
+
+undefined_long_words : stop_at no_bar Little 172 nothing_read 172 (0x09 ∷ 0x00 ∷ 0x01 ∷ 0x10 ∷ 0x4F ∷ 0x56 ∷ 0x00 ∷ 0x00 ∷ 0xFF ∷ 0xFF ∷ 0xFF ∷ 0xFF ∷ []) ≡ Some (refused UndefinedLength 172)
+unfolding all
+undefined_long_words = refl
+
+-- the length of a group, and an element behind it
+group_spelled : SpellsFront Little (whole_set (leaf (tag 0x0008 0x0000) UL (0x0A ∷ 0x00 ∷ 0x00 ∷ 0x00 ∷ []) (leaf (tag 0x0008 0x0060) CS (0x4D ∷ 0x52 ∷ []) no_tree)) (tag 0x0008 0x0060)) (0x08 ∷ 0x00 ∷ 0x00 ∷ 0x00 ∷ 0x55 ∷ 0x4C ∷ 0x04 ∷ 0x00 ∷ 0x0A ∷ 0x00 ∷ 0x00 ∷ 0x00 ∷ 0x08 ∷ 0x00 ∷ 0x60 ∷ 0x00 ∷ 0x43 ∷ 0x53 ∷ 0x02 ∷ 0x00 ∷ 0x4D ∷ 0x52 ∷ [])
+unfolding all
+group_spelled = (
+  [],
+  (0x08 ∷ 0x00 ∷ 0x60 ∷ 0x00 ∷ 0x43 ∷ 0x53 ∷ 0x02 ∷ 0x00 ∷ 0x4D ∷ 0x52 ∷ [], refl, record { no_item = λ e. omega (arith, e); head = record { tag_is = refl; vr_is = refl; whole = lit≤ tt; length_is = refl; after_is = refl } }, ([], refl, record { no_item = λ e. omega (arith, e); head = record { tag_is = refl; vr_is = refl; whole = lit≤ tt; length_is = refl; after_is = refl } }, refl)),
+  refl,
+  refl,
+  refl,
+)
+
+-- ---- tags that do not ascend
+
+same_tag_again : stop_at ascending_bar Little 172 (whole_set (leaf (tag 0x0010 0x0020) LO (0x37 ∷ 0x20 ∷ []) no_tree) (tag 0x0010 0x0020)) 182 (0x10 ∷ 0x00 ∷ 0x20 ∷ 0x00 ∷ 0x4C ∷ 0x4F ∷ 0x02 ∷ 0x00 ∷ 0x37 ∷ 0x20 ∷ []) ≡ Some (refused NotAscending 182)
+unfolding all
+same_tag_again = refl
+
+-- ---- values that are cut
+
+cut_spelled : SpellsFront Little (open_value patient_name PN 6 (0x41 ∷ 0x42 ∷ [])) (0x10 ∷ 0x00 ∷ 0x10 ∷ 0x00 ∷ 0x50 ∷ 0x4E ∷ 0x06 ∷ 0x00 ∷ 0x41 ∷ 0x42 ∷ [])
+unfolding all
+cut_spelled = (_, refl, (refl, lit≤ tt, record { no_item = λ e. omega (arith, e); head = record { tag_is = refl; vr_is = refl; whole = lit≤ tt; length_is = refl; after_is = refl } }), refl, refl)
+
+cut_stop : stop_at no_bar Little 172 (open_value patient_name PN 6 (0x41 ∷ 0x42 ∷ [])) 182 [] ≡ Some (refused EndsEarly 182)
+unfolding all
+cut_stop = refl
+
+-- the greatest length that is known
+great_spelled : SpellsFront Little (open_value pixels OW 0xFFFFFFFE []) (0xE0 ∷ 0x7F ∷ 0x10 ∷ 0x00 ∷ 0x4F ∷ 0x57 ∷ 0x00 ∷ 0x00 ∷ 0xFE ∷ 0xFF ∷ 0xFF ∷ 0xFF ∷ [])
+unfolding all
+great_spelled = (_, refl, (refl, lit≤ tt, record { no_item = λ e. omega (arith, e); head = record { tag_is = refl; vr_is = refl; whole = lit≤ tt; length_is = refl; after_is = refl } }), refl, refl)
+
+great_stop : stop_at no_bar Little 172 (open_value pixels OW 0xFFFFFFFE []) 184 [] ≡ Some (refused EndsEarly 184)
+unfolding all
+great_stop = refl
+
+-- an item of that length passes its sequence
+great_item_stop : stop_at no_bar Little 172 (open_front (Known 16) no_open_item) 184 (0xFE ∷ 0xFF ∷ 0x00 ∷ 0xE0 ∷ 0xFE ∷ 0xFF ∷ 0xFF ∷ 0xFF ∷ []) ≡ Some (refused PassesEnd 184)
+unfolding all
+great_item_stop = refl
+
+-- an item that the input's end cuts, in a sequence of 100 bytes
+cut_item : Front
+cut_item = open_front (Known 100) (open_item Undefined (whole_set instance_leaf instance))
+
+cut_item_spelled : SpellsFront Little cut_item ((0x08 ∷ 0x00 ∷ 0x40 ∷ 0x11 ∷ 0x53 ∷ 0x51 ∷ 0x00 ∷ 0x00 ∷ 0x64 ∷ 0x00 ∷ 0x00 ∷ 0x00 ∷ []) ++ opening ++ leaf_bytes)
+unfolding all cut_item
+cut_item_spelled = (
+  _,
+  refl,
+  (
+    opening ++ leaf_bytes,
+    _,
+    refl,
+    record { no_item = λ e. omega (arith, e); head = record { tag_is = refl; vr_is = refl; whole = lit≤ tt; length_is = refl; after_is = refl } },
+    lit≤ tt,
+    refl,
+    (leaf_bytes, record { tag_is = refl; whole = lit≤ tt; length_is = refl; after_is = refl }, tt, ([], leaf_spelled, refl, refl, refl)),
+  ),
+  refl,
+  refl,
+)
+
+cut_item_stop : stop_at no_bar Little 172 cut_item 204 [] ≡ Some (refused EndsEarly 204)
+unfolding all cut_item
+cut_item_stop = refl
