@@ -1,0 +1,4 @@
+pub mod Display
+pub mod Progress
+pub mod Shown
+pub mod ValueText

@@ -1,0 +1,6 @@
+-- What a `Shown` stands for.
+use Rattle.dcm_value.specs.declared.display.Shown.{Shown}
+use Rattle.dcm_value.specs.Display.{Display}
+
+abbrev pub display : Shown → Display
+display s = record { mode = s.mode; shown = s.count; front = s.front.items }
