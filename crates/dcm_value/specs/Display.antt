@@ -1,5 +1,5 @@
 -- A display that is shown piece by piece, and padded to 40 bytes.
-use Rattle.std.specs.Prelude.{ℕ, ◌+◌, ◌-◌, min, nat_lt, if◌then◌else◌, List, [], ◌++◌, length, take, replicate, codes}
+use Rattle.std.specs.Prelude.{ℕ, ◌+◌, ◌-◌, min, nat_lt, Bool, true, false, ◌&&◌, if◌then◌else◌, List, [], ◌++◌, length, take, replicate, codes}
 use Rattle.dcm_base.specs.declared.mode.Mode.{Mode}
 use Rattle.dcm_base.specs.declared.mode.Mode.TheVariants.{Short, Full}
 use Rattle.dcm_base.specs.ValueText.{padded}
@@ -17,6 +17,19 @@ blank mode = record { mode = mode; shown = 0; front = [] }
 abbrev pub front_after : Mode → List ℕ → List ℕ → List ℕ
 front_after Short front bytes = take 66 (front ++ bytes)
 front_after Full front bytes = front
+
+-- how many bytes the front has
+abbrev pub front_size : Mode → ℕ → ℕ
+front_size Short shown = min 66 shown
+front_size Full shown = 0
+
+-- what more is shown is not seen
+abbrev pub is_short : Mode → Bool
+is_short Short = true
+is_short Full = false
+
+abbrev pub is_cut : Display → Bool
+is_cut d = is_short d.mode && nat_lt 66 d.shown
 
 -- these bytes are shown next
 unfoldable pub emit : Display → List ℕ → Display

@@ -1,11 +1,14 @@
 -- A value that is shown byte by byte.
-use Rattle.std.specs.Prelude.{ℕ, ◌+◌, ◌%◌, ◌==◌, ◌&&◌, nat_lt, nat_le, Bool, true, false, if◌then◌else◌, List, [], ◌∷◌, ◌++◌, length, codes}
+use Rattle.std.specs.Prelude.{ℕ, ◌+◌, ◌-◌, ◌%◌, ◌==◌, ◌&&◌, nat_lt, nat_le, Bool, true, false, if◌then◌else◌, List, [], ◌∷◌, ◌++◌, length, codes, count_by}
 use Rattle.dcm_base.specs.declared.vr.Vr.{Vr}
 use Rattle.dcm_base.specs.declared.syntax.Syntax.{Syntax}
 use Rattle.dcm_base.specs.declared.mode.Mode.{Mode}
 use Rattle.dcm_base.specs.Representation.{pad}
 use Rattle.dcm_base.specs.Value.{order}
 use Rattle.dcm_base.specs.ValueText.{Shape, text, identifier, unsigned, signed, tags, hexadecimal, shape, shown_unit, is_single, escape, unit_text, unpadded, identified}
+use Rattle.dcm_value.specs.declared.way.Way.{Way}
+use Rattle.dcm_value.specs.declared.way.Way.TheVariants.{InBrackets, ByName, InUnits}
+use Rattle.dcm_value.specs.Way.{way_of}
 use Rattle.dcm_value.specs.Display.{Display, blank, emit, at_once, ending}
 
 pub record Progress : Type 0 where
@@ -22,23 +25,12 @@ pub record Progress : Type 0 where
 abbrev pub started : Vr → Syntax → ℕ → Mode → Progress
 started vr syntax size mode = record { vr = vr; syntax = syntax; size = size; seen = 0; held = []; values = 0; display = blank mode }
 
--- how a value is shown: in brackets as it comes, in units, or where all of it is there, since it may have a name
-pub data Way : Type 0 where
-  in_brackets : Way
-  by_name : Way
-  in_units : Way
-
-abbrev pub way_of : Shape → ℕ → Way
-way_of text size = in_brackets
-way_of identifier size = if nat_le size 64 then by_name else in_brackets
-way_of _ size = in_units
-
 abbrev pub way : Progress → Way
 way p = way_of (shape p.vr) p.size
 
 -- a value in brackets begins with one
 abbrev pub is_bracketed : Way → Bool
-is_bracketed in_brackets = true
+is_bracketed InBrackets = true
 is_bracketed _ = false
 
 abbrev pub is_unopened : Progress → Bool
@@ -63,27 +55,36 @@ separator values = if values == 0 then [] else codes "\\"
 
 -- what one byte more shows, in the order of the syntax
 abbrev pub adds_as : Way → Progress → ℕ → List ℕ
-adds_as in_brackets p b = if is_pad_byte p b then [] else escape b
-adds_as by_name p b = []
-adds_as in_units p b = if is_whole p b then separator p.values ++ unit_text (shape p.vr) (order p.syntax p.vr (p.held ++ b ∷ [])) else []
+adds_as InBrackets p b = if is_pad_byte p b then [] else escape b
+adds_as ByName p b = []
+adds_as InUnits p b = if is_whole p b then separator p.values ++ unit_text (shape p.vr) (order p.syntax p.vr (p.held ++ b ∷ [])) else []
 
 abbrev pub adds : Progress → ℕ → List ℕ
 adds p b = adds_as (way p) p b
 
 -- the bytes that wait behind it
 abbrev pub held_as : Way → Progress → ℕ → List ℕ
-held_as in_brackets p b = p.held
-held_as by_name p b = p.held ++ b ∷ []
-held_as in_units p b = if is_whole p b then [] else p.held ++ b ∷ []
+held_as InBrackets p b = p.held
+held_as ByName p b = p.held ++ b ∷ []
+held_as InUnits p b = if is_whole p b then [] else p.held ++ b ∷ []
 
--- the units or backslashes that it makes
+-- the units or backslashes that it makes, which are not counted in bytes that wait
 abbrev pub counts_as : Way → Progress → ℕ → ℕ
-counts_as in_units p b = if is_whole p b then 1 else 0
-counts_as _ p b = if b == 92 then 1 else 0
+counts_as InBrackets p b = if b == 92 then 1 else 0
+counts_as ByName p b = 0
+counts_as InUnits p b = if is_whole p b then 1 else 0
 
 -- behind n bytes, of which these wait, and that many units or backslashes, with this text shown
 abbrev pub further : Progress → ℕ → List ℕ → ℕ → List ℕ → Progress
 further p n held values bytes = record p { seen = p.seen + n; held = held; values = p.values + values; display = emit p.display bytes }
+
+-- bytes more that wait
+abbrev pub waits : Progress → List ℕ → Progress
+waits p bytes = record p { seen = p.seen + length bytes; held = p.held ++ bytes }
+
+-- the bytes that a unit lacks that waits for more, as the first always does
+abbrev pub lacking : Progress → ℕ
+lacking p = if length p.held == 0 && nat_lt 0 p.values then 0 else shown_unit p.vr - length p.held
 
 -- one byte more
 unfoldable pub step : Progress → ℕ → Progress
@@ -95,9 +96,9 @@ writes p b = at_once p.display.mode (adds p b)
 
 -- what is shown in the end
 abbrev pub closing_as : Way → Progress → List ℕ
-closing_as in_brackets p = codes "]"
-closing_as by_name p = identified (unpadded p.vr p.held)
-closing_as in_units p = []
+closing_as InBrackets p = codes "]"
+closing_as ByName p = identified (unpadded p.vr p.held)
+closing_as InUnits p = []
 
 abbrev pub closing : Progress → List ℕ
 closing p = if p.size == 0 then codes "(no value available)" else closing_as (way p) p
@@ -107,9 +108,10 @@ unfoldable pub finishes : Progress → List ℕ
 finishes p = at_once p.display.mode (closing p) ++ ending (emit p.display (closing p))
 
 -- how many values there were
-abbrev pub counted_as : Way → ℕ → ℕ
-counted_as in_units values = values
-counted_as _ values = values + 1
+abbrev pub counted_as : Way → Progress → ℕ
+counted_as InBrackets p = 1 + p.values
+counted_as ByName p = 1 + count_by (λ b. b == 92) p.held
+counted_as InUnits p = p.values
 
 abbrev pub multiplicity : Progress → ℕ
-multiplicity p = if p.size == 0 then 0 else if is_single p.vr then 1 else counted_as (way p) p.values
+multiplicity p = if p.size == 0 then 0 else if is_single p.vr then 1 else counted_as (way p) p

@@ -1,8 +1,15 @@
 // What is shown of a value, cut or whole.
-ghost use Rattle.std.specs.Prelude.{◌≡◌, ◌≤◌};
+ghost use Rattle.std.specs.Prelude.{◌≡◌, ◌==◌, ◌&&◌, nat_lt, ◌+◌, ◌-◌, ◌<◌, ◌≤◌, ◌++◌, length, take, replicate, List, ℕ, OnOk, true};
+ghost use Rattle.dcm_base.specs.Device.{Puts, Tells};
+ghost use Rattle.dcm_value.specs.Display as spec;
 
+use crate::escapes::append_text;
+use crate::units::{LONGEST, append_units, shown_unit};
 use arrayvec::ArrayVec;
-use dcm_base::Mode;
+use dcm_base::{DeviceOut, Mode, Syntax, Vr, Watched, WriteFailed, put_all, uid_name};
+
+/// The most bytes that are shown at a time.
+const TEXT: usize = 3072;
 
 /// What was shown of a value.
 #[derive(Drop)]
@@ -11,20 +18,147 @@ pub struct Shown {
     count: usize,
     front: ArrayVec<u8, 66>,
     ghost capped: { count ≤ 67 },
+    ghost filled: { length front.items ≡ spec.front_size mode count },
+}
+
+/// As many of the bytes as there is room for.
+fn fill(front: &mut ArrayVec<u8, 66>, bytes: &[u8])
+    ensures { front.new.items ≡ take 66 (front.old.items ++ bytes.now) }
+{
+    let count = front.remaining_capacity().min(bytes.len());
+    for byte in &bytes[..count] {
+        front.push(*byte);
+    }
+}
+
+/// Spaces up to 40 bytes.
+#[tactic(auto, using(crate::proofs::Shows::spaces))]
+fn pad<W: DeviceOut>(shown: usize, out: &mut Watched<W>) -> Result<(), WriteFailed>
+    ensures bytes { Puts (W.contents out.old) (W.contents out.new) (replicate (40 - shown) 32) result }
+    ensures failed { Tells (W.has_failed out.old) (W.has_failed out.new) result }
+{
+    let spaces = [b' '; 40];
+    let (_, rest) = spaces.split_at(shown.min(40));
+    put_all(out, rest)
 }
 
 impl Shown {
-    ghost use Rattle.dcm_value.specs.Display.{blank};
     ghost use Rattle.dcm_value.specs.Shown.{display};
 
     /// Nothing yet.
     pub fn new(mode: Mode) -> Shown
-        ensures { display result ≡ blank mode }
+        ensures { display result ≡ spec.blank mode }
     {
         Shown {
             mode,
             count: 0,
             front: ArrayVec::new(),
         }
+    }
+
+    /// Whether nothing was shown.
+    pub fn is_blank(&self) -> bool
+        ensures { result ≡ (self.now.count == 0) }
+    {
+        self.count == 0
+    }
+
+    /// Whether it is cut, so that nothing more can be shown.
+    pub fn is_cut(&self) -> bool
+        ensures { result ≡ spec.is_cut (display self.now) }
+    {
+        self.mode == Mode::Short && self.count > 66
+    }
+
+    /// Shows these bytes.
+    #[tactic(auto, unfolding(crate::specs::Display::emit))]
+    pub fn emit<W: DeviceOut>(
+        &mut self,
+        bytes: &[u8],
+        out: &mut Watched<W>,
+    ) -> Result<(), WriteFailed>
+        ensures state { OnOk result (display self.new ≡ spec.emit (display self.old) bytes.now) }
+        ensures bytes { Puts (W.contents out.old) (W.contents out.new) (spec.at_once self.old.mode bytes.now) result }
+        ensures failed { Tells (W.has_failed out.old) (W.has_failed out.new) result }
+    {
+        match self.mode {
+            Mode::Full => put_all(out, bytes)?,
+            Mode::Short => fill(&mut self.front, bytes),
+        }
+        self.count = self.count.saturating_add(bytes.len()).min(67);
+        Ok(())
+    }
+
+    /// Writes what is left to write, and the spaces after it.
+    pub fn end<W: DeviceOut>(&self, out: &mut Watched<W>) -> Result<(), WriteFailed>
+        ensures bytes { Puts (W.contents out.old) (W.contents out.new) (spec.ending (display self.now)) result }
+        ensures failed { Tells (W.has_failed out.old) (W.has_failed out.new) result }
+    {
+        match self.mode {
+            Mode::Full => pad(self.count, out),
+            Mode::Short if self.count > 66 => {
+                let cut = self.front.len().min(63);
+                put_all(out, &self.front.as_slice()[..cut])?;
+                put_all(out, b"...")
+            }
+            Mode::Short => {
+                put_all(out, self.front.as_slice())?;
+                pad(self.front.len(), out)
+            }
+        }
+    }
+
+    /// Shows bytes of a text.
+    pub fn emit_text<W: DeviceOut>(
+        &mut self,
+        bytes: &[u8],
+        out: &mut Watched<W>,
+    ) -> Result<(), WriteFailed> {
+        let mut text: ArrayVec<u8, TEXT> = ArrayVec::new();
+        let mut rest = bytes;
+        while !rest.is_empty() && !self.is_cut() {
+            let (block, after) = rest.split_at(rest.len().min(TEXT / 3));
+            text.clear();
+            append_text(block, &mut text);
+            self.emit(text.as_slice(), out)?;
+            rest = after;
+        }
+        Ok(())
+    }
+
+    /// Shows units, each behind a backslash.
+    pub fn emit_units<W: DeviceOut>(
+        &mut self,
+        vr: Vr,
+        syntax: Syntax,
+        units: &[u8],
+        out: &mut Watched<W>,
+    ) -> Result<(), WriteFailed> {
+        let most = TEXT / LONGEST * shown_unit(vr);
+        let mut text: ArrayVec<u8, TEXT> = ArrayVec::new();
+        let mut rest = units;
+        while !rest.is_empty() && !self.is_cut() {
+            let (block, after) = rest.split_at(rest.len().min(most));
+            text.clear();
+            append_units(vr, syntax, block, &mut text);
+            self.emit(text.as_slice(), out)?;
+            rest = after;
+        }
+        Ok(())
+    }
+
+    /// Shows a unique identifier, by its name where it has one.
+    pub fn emit_name<W: DeviceOut>(
+        &mut self,
+        uid: &[u8],
+        out: &mut Watched<W>,
+    ) -> Result<(), WriteFailed> {
+        if let Some(name) = uid_name(uid) {
+            self.emit(b"=", out)?;
+            return self.emit(name.as_bytes(), out);
+        }
+        self.emit(b"[", out)?;
+        self.emit_text(uid, out)?;
+        self.emit(b"]", out)
     }
 }

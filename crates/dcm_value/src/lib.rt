@@ -2,7 +2,15 @@
 #![tactic(auto)]
 
 mod display;
+mod escapes;
+mod lanes;
+#[cfg(test)]
+mod tests;
+mod units;
 mod value_text;
+mod way;
 
 pub use dcm_base::Mode;
+pub use escapes::escape;
+pub use lanes::swap;
 pub use value_text::ValueText;

@@ -1,7 +1,13 @@
 // The text of a value.
-ghost use Rattle.std.specs.Prelude.{◌≡◌, ◌+◌, ◌≤◌, length};
+ghost use Rattle.std.specs.Prelude.{◌≡◌, ◌+◌, ◌*◌, ◌/◌, ◌<◌, ◌≤◌, [], ◌++◌, length, OnOk};
+ghost use Rattle.dcm_base.specs.Device.{Puts, Tells};
+ghost use Rattle.dcm_base.specs.ValueText.{shown_unit, shape};
+ghost use Rattle.dcm_value.specs.Way as ways;
 
 use crate::display::Shown;
+use crate::escapes::{backslashes, escape};
+use crate::units::{LONGEST, append_units, shown_unit};
+use crate::way::{Way, is_single, unpadded, way_of};
 use arrayvec::ArrayVec;
 use dcm_base::{DeviceOut, Mode, Syntax, Vr, Watched, WriteFailed};
 
@@ -16,6 +22,8 @@ pub struct ValueText {
     values: u32,
     shown: Shown,
     ghost within: { seen ≤ size },
+    ghost counted: { values + length held.items ≤ seen },
+    ghost waiting: { length held.items < ways.room (ways.way_of (shape vr) size) vr },
 }
 
 impl ValueText {
@@ -51,21 +59,251 @@ impl ValueText {
         self.size - self.seen
     }
 
+    /// How it is shown.
+    fn way(&self) -> Way
+        ensures { result ≡ spec.way (progress self.now) }
+    {
+        way_of(self.vr, self.size)
+    }
+
     /// Takes the next bytes of the value, at most as many as are missing, and shows what can be shown of them. Of a
     /// text that is not cut the opening bracket is shown by the first call, also where no byte comes.
     pub fn feed<W: DeviceOut>(
         &mut self,
         bytes: &[u8],
-        _out: &mut Watched<W>,
+        out: &mut Watched<W>,
     ) -> Result<(), WriteFailed>
         requires within { (progress self.old).seen + length bytes.now ≤ (progress self.old).size }
     {
-        self.seen += bytes.len() as u32;
+        self.open(out)?;
+        match self.way() {
+            Way::InBrackets => self.feed_text(bytes, out),
+            Way::ByName => {
+                self.hold(bytes);
+                Ok(())
+            }
+            Way::InUnits => self.feed_units(bytes, out),
+        }
+    }
+
+    /// Shows what stands before the first byte.
+    fn open<W: DeviceOut>(&mut self, out: &mut Watched<W>) -> Result<(), WriteFailed>
+        ensures seen { self.new.seen ≡ self.old.seen }
+        ensures size { self.new.size ≡ self.old.size }
+        ensures vr { self.new.vr ≡ self.old.vr }
+        ensures held { self.new.held ≡ self.old.held }
+    {
+        if self.way() == Way::InBrackets && self.size > 0 && self.shown.is_blank() {
+            self.shown.emit(b"[", out)?;
+        }
         Ok(())
     }
 
-    /// Shows the end of the value, with spaces up to 40 bytes, and answers how many values there were.
-    pub fn finish<W: DeviceOut>(&mut self, _out: &mut Watched<W>) -> Result<u64, WriteFailed> {
-        Ok(0)
+    /// Takes bytes of a text.
+    fn feed_text<W: DeviceOut>(
+        &mut self,
+        bytes: &[u8],
+        out: &mut Watched<W>,
+    ) -> Result<(), WriteFailed>
+        requires way { spec.way (progress self.old) ≡ Way.InBrackets }
+        requires within { self.old.seen + length bytes.now ≤ self.old.size }
+    {
+        if bytes.len() < self.missing() as usize {
+            return self.show_text(bytes, out);
+        }
+        let [inner @ .., last] = bytes else {
+            return Ok(());
+        };
+        self.show_text(inner, out)?;
+        self.show_last(*last, out)
+    }
+
+    /// Shows bytes of a text that are not the last.
+    fn show_text<W: DeviceOut>(
+        &mut self,
+        bytes: &[u8],
+        out: &mut Watched<W>,
+    ) -> Result<(), WriteFailed>
+        requires way { spec.way (progress self.old) ≡ Way.InBrackets }
+        requires within { self.old.seen + length bytes.now ≤ self.old.size }
+        ensures seen { self.new.seen ≡ self.old.seen + length bytes.now }
+        ensures size { self.new.size ≡ self.old.size }
+        ensures vr { self.new.vr ≡ self.old.vr }
+    {
+        self.seen += bytes.len() as u32;
+        self.values += backslashes(bytes) as u32;
+        self.shown.emit_text(bytes, out)
+    }
+
+    /// Shows the last byte of a text, unless it is a pad byte.
+    fn show_last<W: DeviceOut>(&mut self, byte: u8, out: &mut Watched<W>) -> Result<(), WriteFailed>
+        requires way { spec.way (progress self.old) ≡ Way.InBrackets }
+        requires more { self.old.seen < self.old.size }
+    {
+        let is_pad = self.size % 2 == 0 && byte == self.vr.pad();
+        self.seen += 1;
+        self.values += u32::from(byte == b'\\');
+        if is_pad {
+            return Ok(());
+        }
+        self.shown.emit(escape(byte).as_slice(), out)
+    }
+
+    /// Takes bytes of units.
+    fn feed_units<W: DeviceOut>(
+        &mut self,
+        bytes: &[u8],
+        out: &mut Watched<W>,
+    ) -> Result<(), WriteFailed>
+        requires way { spec.way (progress self.old) ≡ Way.InUnits }
+        requires within { self.old.seen + length bytes.now ≤ self.old.size }
+    {
+        let lacking = self.lacking();
+        if bytes.len() < lacking {
+            self.hold(bytes);
+            return Ok(());
+        }
+        let (start, rest) = bytes.split_at(lacking);
+        self.complete(start, out)?;
+        self.feed_whole(rest, out)
+    }
+
+    /// How many bytes the unit lacks that waits for more. The first unit of a value always waits.
+    fn lacking(&self) -> usize
+        requires { spec.way (progress self.now) ≡ Way.InUnits }
+        ensures { result ≡ spec.lacking (progress self.now) }
+    {
+        if self.held.is_empty() && self.values > 0 {
+            0
+        } else {
+            shown_unit(self.vr) - self.held.len()
+        }
+    }
+
+    /// Takes the bytes that the waiting unit lacks, and shows it.
+    fn complete<W: DeviceOut>(
+        &mut self,
+        bytes: &[u8],
+        out: &mut Watched<W>,
+    ) -> Result<(), WriteFailed>
+        requires way { spec.way (progress self.old) ≡ Way.InUnits }
+        requires within { self.old.seen + length bytes.now ≤ self.old.size }
+        requires lacking { length bytes.now ≡ spec.lacking (progress self.old) }
+        ensures seen { OnOk result (self.new.seen ≡ self.old.seen + length bytes.now) }
+        ensures size { self.new.size ≡ self.old.size }
+        ensures vr { self.new.vr ≡ self.old.vr }
+        ensures held { OnOk result (self.new.held.items ≡ []) }
+    {
+        if bytes.is_empty() {
+            return Ok(());
+        }
+        let mut unit = self.held.take();
+        let _ = unit.try_extend_from_slice(bytes);
+        self.seen += bytes.len() as u32;
+        self.show_unit(unit.as_slice(), out)
+    }
+
+    /// Takes bytes of units that begin with a unit.
+    fn feed_whole<W: DeviceOut>(
+        &mut self,
+        bytes: &[u8],
+        out: &mut Watched<W>,
+    ) -> Result<(), WriteFailed>
+        requires way { spec.way (progress self.old) ≡ Way.InUnits }
+        requires within { self.old.seen + length bytes.now ≤ self.old.size }
+        requires held { self.old.held.items ≡ [] }
+    {
+        let size = shown_unit(self.vr);
+        let (whole, tail) = bytes.split_at(bytes.len() / size * size);
+        self.show_units(whole, out)?;
+        self.hold(tail);
+        Ok(())
+    }
+
+    /// Keeps bytes that wait for more.
+    fn hold(&mut self, bytes: &[u8])
+        requires within { self.old.seen + length bytes.now ≤ self.old.size }
+        requires room { length self.old.held.items + length bytes.now < ways.room (spec.way (progress self.old)) self.old.vr }
+        ensures { progress self.new ≡ spec.waits (progress self.old) bytes.now }
+    {
+        self.seen += bytes.len() as u32;
+        let _ = self.held.try_extend_from_slice(bytes);
+    }
+
+    /// Shows a unit, and a backslash before it where it is not the first.
+    fn show_unit<W: DeviceOut>(
+        &mut self,
+        unit: &[u8],
+        out: &mut Watched<W>,
+    ) -> Result<(), WriteFailed>
+        requires way { spec.way (progress self.old) ≡ Way.InUnits }
+        requires whole { length unit.now ≡ shown_unit self.old.vr }
+        requires held { self.old.held.items ≡ [] }
+        requires seen { self.old.values + length unit.now ≤ self.old.seen }
+        ensures seen { self.new.seen ≡ self.old.seen }
+        ensures size { self.new.size ≡ self.old.size }
+        ensures vr { self.new.vr ≡ self.old.vr }
+        ensures held { self.new.held.items ≡ [] }
+    {
+        let mut text: ArrayVec<u8, LONGEST> = ArrayVec::new();
+        append_units(self.vr, self.syntax, unit, &mut text);
+        let start = usize::from(self.values == 0).min(text.len());
+        self.values += 1;
+        self.shown.emit(&text.as_slice()[start..], out)
+    }
+
+    /// Shows units that are not the first.
+    fn show_units<W: DeviceOut>(
+        &mut self,
+        units: &[u8],
+        out: &mut Watched<W>,
+    ) -> Result<(), WriteFailed>
+        requires way { spec.way (progress self.old) ≡ Way.InUnits }
+        requires within { self.old.seen + length units.now ≤ self.old.size }
+        ensures seen { OnOk result (self.new.seen ≡ self.old.seen + length units.now) }
+        ensures size { self.new.size ≡ self.old.size }
+        ensures vr { self.new.vr ≡ self.old.vr }
+        ensures held { self.new.held ≡ self.old.held }
+    {
+        self.seen += units.len() as u32;
+        self.values += (units.len() / shown_unit(self.vr)) as u32;
+        self.shown.emit_units(self.vr, self.syntax, units, out)
+    }
+
+    /// Ends the display and pads it to 40 bytes. The answer is how many values there were.
+    pub fn finish<W: DeviceOut>(&mut self, out: &mut Watched<W>) -> Result<u64, WriteFailed> {
+        self.close(out)?;
+        self.shown.end(out)?;
+        Ok(self.count())
+    }
+
+    /// Shows what stands behind the last byte.
+    fn close<W: DeviceOut>(&mut self, out: &mut Watched<W>) -> Result<(), WriteFailed> {
+        if self.size == 0 {
+            return self.shown.emit(b"(no value available)", out);
+        }
+        match self.way() {
+            Way::InBrackets => self.shown.emit(b"]", out),
+            Way::ByName => {
+                let uid = unpadded(self.vr, self.held.as_slice());
+                self.shown.emit_name(uid, out)
+            }
+            Way::InUnits => Ok(()),
+        }
+    }
+
+    /// How many values there were.
+    fn count(&self) -> u64 {
+        if self.size == 0 {
+            0
+        } else if is_single(self.vr) {
+            1
+        } else {
+            match self.way() {
+                Way::InBrackets => u64::from(self.values) + 1,
+                Way::ByName => backslashes(self.held.as_slice()) as u64 + 1,
+                Way::InUnits => u64::from(self.values),
+            }
+        }
     }
 }

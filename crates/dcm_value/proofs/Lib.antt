@@ -1,0 +1,5 @@
+pub mod Shows
+pub mod Reversals
+pub mod Blocks
+pub mod Numbers
+pub mod Pieces

@@ -1,0 +1,6 @@
+use Rattle.std.proofs.Common.{◌≡◌, ◌*◌}
+use Rattle.dcm_value.proofs.Reversals.{units_reversed}
+use Rattle.dcm_value.proofs.lanes.swap_eights.Given as goal
+
+abbrev pub invariant-loop-block : goal.invariant-loop-block
+invariant-loop-block l = l.bytes ≡ units_reversed 8 (2 * l.block) l.fn.bytes

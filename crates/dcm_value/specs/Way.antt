@@ -1,0 +1,17 @@
+-- How a value is shown: in brackets as it comes, in units, or when all of it is there, since it may have a name.
+use Rattle.std.specs.Prelude.{ℕ, nat_le, if◌then◌else◌}
+use Rattle.dcm_base.specs.declared.vr.Vr.{Vr}
+use Rattle.dcm_base.specs.ValueText.{Shape, text, identifier, unsigned, signed, tags, hexadecimal, shown_unit}
+use Rattle.dcm_value.specs.declared.way.Way.{Way}
+use Rattle.dcm_value.specs.declared.way.Way.TheVariants.{InBrackets, ByName, InUnits}
+
+abbrev pub way_of : Shape → ℕ → Way
+way_of text size = InBrackets
+way_of identifier size = if nat_le size 64 then ByName else InBrackets
+way_of _ size = InUnits
+
+-- fewer bytes than these wait for more
+abbrev pub room : Way → Vr → ℕ
+room InBrackets vr = 1
+room ByName vr = 65
+room InUnits vr = shown_unit vr

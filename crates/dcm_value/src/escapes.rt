@@ -1,0 +1,60 @@
+// The bytes of a text as a dump shows them.
+ghost use Rattle.std.specs.Prelude.{◌≡◌, ◌<◌, ◌≤◌, ◌+◌, ◌*◌, ◌++◌, ◌==◌, length, count_by};
+ghost use Rattle.dcm_base.specs.ValueText as spec;
+
+use arrayvec::ArrayVec;
+
+/// The digit of a half byte, in upper case.
+fn upper(half: u8) -> u8
+    requires { half < 16 }
+    ensures { result ≡ spec.upper half }
+{
+    if half < 10 {
+        b'0' + half
+    } else {
+        b'A' - 10 + half
+    }
+}
+
+/// A byte of a text as a dump shows it: a control, `%` and `]` by `%` and two digits in upper case, and each other byte
+/// as it is.
+pub fn escape(byte: u8) -> ArrayVec<u8, 3>
+    ensures { result.items ≡ spec.escape byte }
+{
+    let mut shown = ArrayVec::new();
+    append_escaped(byte, &mut shown);
+    shown
+}
+
+/// One byte more.
+fn append_escaped<const N: usize>(byte: u8, text: &mut ArrayVec<u8, N>)
+    requires { length text.old.items + 3 ≤ N }
+    ensures items { text.new.items ≡ text.old.items ++ spec.escape byte }
+    ensures len { length text.new.items ≤ length text.old.items + 3 }
+{
+    if byte < 32 || byte == 127 || byte == b'%' || byte == b']' {
+        text.push(b'%');
+        text.push(upper(byte / 16));
+        text.push(upper(byte % 16));
+    } else {
+        text.push(byte);
+    }
+}
+
+/// Some bytes more.
+pub fn append_text<const N: usize>(bytes: &[u8], text: &mut ArrayVec<u8, N>)
+    requires { length text.old.items + 3 * length bytes.now ≤ N }
+    ensures { text.new.items ≡ text.old.items ++ spec.escaped bytes.now }
+{
+    for byte in bytes {
+        append_escaped(*byte, text);
+    }
+}
+
+/// How many backslashes there are.
+pub fn backslashes(bytes: &[u8]) -> usize
+    ensures count { result ≡ count_by (λ b. b == 92) bytes.now }
+    ensures bound { result ≤ length bytes.now }
+{
+    bytes.iter().filter(|byte| **byte == b'\\').count()
+}

@@ -1,0 +1,222 @@
+// Units of a value as a dump shows them. A unit is handed over with its highest byte first.
+ghost use Rattle.std.specs.Prelude.{◌≡◌, ◌<◌, ◌≤◌, ◌+◌, ◌*◌, ◌^◌, ◌++◌, ◌∷◌, ◌/◌, length, reverse, flat_map, decimal};
+ghost use Rattle.dcm_base.specs.ValueText as spec;
+ghost use Rattle.dcm_base.specs.Value.{number_of, units as units_of};
+ghost use Rattle.dcm_value.specs.Units as high;
+ghost use Rattle.dcm_value.specs.Swap.{IsUnit};
+
+use crate::lanes::swap;
+use arrayvec::ArrayVec;
+use dcm_base::{Syntax, Tag, Vr};
+use itoa::Buffer;
+
+/// How the units of a value are shown.
+#[derive(Clone, Copy, Debug, PartialEq, Eq)]
+pub enum Kind {
+    Unsigned,
+    Signed,
+    Tags,
+    Hexadecimal,
+}
+
+/// The bytes of the longest text of a unit with a backslash: a number of eight bytes with its sign.
+pub const LONGEST: usize = 24;
+
+/// How a value is shown whose units are no text.
+pub fn kind_of(vr: Vr) -> Kind
+    ensures { result ≡ high.kind_of (spec.shape vr) }
+{
+    match vr {
+        Vr::US | Vr::UL | Vr::UV => Kind::Unsigned,
+        Vr::SS | Vr::SL | Vr::SV => Kind::Signed,
+        Vr::AT => Kind::Tags,
+        _ => Kind::Hexadecimal,
+    }
+}
+
+/// The bytes of what is shown and counted as one.
+pub fn shown_unit(vr: Vr) -> usize
+    ensures value { result ≡ spec.shown_unit vr }
+    ensures unit { IsUnit result }
+{
+    match vr {
+        Vr::AT => 4,
+        _ => vr.unit(),
+    }
+}
+
+/// Some bytes more.
+fn append<const N: usize>(bytes: &[u8], text: &mut ArrayVec<u8, N>)
+    requires { length text.old.items + length bytes.now ≤ N }
+    ensures { text.new.items ≡ text.old.items ++ bytes.now }
+{
+    for byte in bytes {
+        text.push(*byte);
+    }
+}
+
+/// The digit of a half byte, in lower case.
+fn lower(half: u8) -> u8
+    requires { half < 16 }
+    ensures { result ≡ spec.lower half }
+{
+    if half < 10 {
+        b'0' + half
+    } else {
+        b'a' - 10 + half
+    }
+}
+
+/// The two digits of each byte more.
+fn append_hexadecimal<const N: usize>(bytes: &[u8], text: &mut ArrayVec<u8, N>)
+    requires { length text.old.items + 2 * length bytes.now ≤ N }
+    ensures text { text.new.items ≡ text.old.items ++ flat_map spec.hex_byte bytes.now }
+    ensures size { length text.new.items ≡ length text.old.items + 2 * length bytes.now }
+{
+    for byte in bytes {
+        text.push(lower(*byte / 16));
+        text.push(lower(*byte % 16));
+    }
+}
+
+/// The number that the bytes are, the highest first.
+fn number(bytes: &[u8]) -> u64
+    requires { length bytes.now ≤ 8 }
+    ensures value { result ≡ number_of (reverse bytes.now) }
+    ensures small { result < 256 ^ length bytes.now }
+{
+    let mut number = 0;
+    for byte in bytes {
+        number = number * 256 + u64::from(*byte);
+    }
+    number
+}
+
+/// A decimal more.
+fn append_decimal<const N: usize>(number: u64, text: &mut ArrayVec<u8, N>)
+    requires { length text.old.items + 20 ≤ N }
+    ensures text { text.new.items ≡ text.old.items ++ decimal number }
+    ensures size { length text.new.items ≤ length text.old.items + 20 }
+{
+    let mut buffer = Buffer::new();
+    append(buffer.format(number).as_bytes(), text);
+}
+
+/// The highest number of so many bytes.
+fn highest(size: usize) -> u64
+    requires { IsUnit size }
+    ensures { result + 1 ≡ 2 ^ (8 * size) }
+{
+    match size {
+        2 => u64::from(u16::MAX),
+        4 => u64::from(u32::MAX),
+        8 => u64::MAX,
+        _ => u64::from(u8::MAX),
+    }
+}
+
+/// A number more whose highest bit tells the sign.
+fn append_signed<const N: usize>(unit: &[u8], text: &mut ArrayVec<u8, N>)
+    requires room { length text.old.items + 21 ≤ N }
+    requires unit { IsUnit (length unit.now) }
+    ensures text { text.new.items ≡ text.old.items ++ spec.signed_text (length unit.now) (number_of (reverse unit.now)) }
+    ensures size { length text.new.items ≤ length text.old.items + 21 }
+{
+    let number = number(unit);
+    let highest = highest(unit.len());
+    if number <= highest / 2 {
+        append_decimal(number, text);
+    } else {
+        text.push(b'-');
+        append_decimal(highest - number + 1, text);
+    }
+}
+
+/// A tag more.
+fn append_tag<const N: usize>(unit: &[u8], text: &mut ArrayVec<u8, N>)
+    requires room { length text.old.items + 11 ≤ N }
+    requires unit { length unit.now ≡ 4 }
+    ensures text { text.new.items ≡ text.old.items ++ high.high_text Kind.Tags unit.now }
+    ensures size { length text.new.items ≤ length text.old.items + 11 }
+{
+    let (group, element) = unit.split_at(2);
+    let tag = Tag {
+        group: number(group) as u16,
+        element: number(element) as u16,
+    };
+    append(&tag.text(), text);
+}
+
+/// A unit more.
+pub fn append_unit<const N: usize>(kind: Kind, unit: &[u8], text: &mut ArrayVec<u8, N>)
+    requires room { length text.old.items + 23 ≤ N }
+    requires unit { IsUnit (length unit.now) }
+    requires tags { kind ≡ Kind.Tags → length unit.now ≡ 4 }
+    ensures text { text.new.items ≡ text.old.items ++ high.high_text kind unit.now }
+    ensures size { length text.new.items ≤ length text.old.items + 23 }
+{
+    match kind {
+        Kind::Unsigned => append_decimal(number(unit), text),
+        Kind::Signed => append_signed(unit, text),
+        Kind::Tags => append_tag(unit, text),
+        Kind::Hexadecimal => append_hexadecimal(unit, text),
+    }
+}
+
+/// Units of K bytes more, each behind a backslash.
+fn append_sized<const K: usize, const N: usize>(
+    kind: Kind,
+    units: &[u8],
+    text: &mut ArrayVec<u8, N>,
+)
+    requires size { IsUnit K }
+    requires tags { kind ≡ Kind.Tags → K ≡ 4 }
+    requires room { length text.old.items + LONGEST * (length units.now / K) ≤ N }
+    ensures text { text.new.items ≡ text.old.items ++ high.separated (high.high_text kind) (units_of K units.now) }
+{
+    for at in 0..units.len() / K {
+        text.push(b'\\');
+        append_unit(kind, &units[K * at..K * at + K], text);
+    }
+}
+
+/// The units of a value of this kind more, each behind a backslash.
+fn append_high<const N: usize>(kind: Kind, size: usize, units: &[u8], text: &mut ArrayVec<u8, N>)
+    requires size { IsUnit size }
+    requires tags { kind ≡ Kind.Tags → size ≡ 4 }
+    requires room { length text.old.items + LONGEST * (length units.now / size) ≤ N }
+    ensures text { text.new.items ≡ text.old.items ++ high.separated (high.high_text kind) (units_of size units.now) }
+{
+    match size {
+        2 => append_sized::<2, N>(kind, units, text),
+        4 => append_sized::<4, N>(kind, units, text),
+        8 => append_sized::<8, N>(kind, units, text),
+        _ => append_sized::<1, N>(kind, units, text),
+    }
+}
+
+/// The most units that are shown at a time.
+pub const BLOCK: usize = 128;
+
+/// The units of a value more, each behind a backslash. They come in the order of the syntax.
+pub fn append_units<const N: usize>(
+    vr: Vr,
+    syntax: Syntax,
+    units: &[u8],
+    text: &mut ArrayVec<u8, N>,
+)
+    requires room { length text.old.items + LONGEST * (length units.now / spec.shown_unit vr) ≤ N }
+    requires few { length units.now ≤ BLOCK * spec.shown_unit vr }
+{
+    let kind = kind_of(vr);
+    let size = shown_unit(vr);
+    if syntax == Syntax::Big || vr.unit() == 1 {
+        append_high(kind, size, units, text);
+        return;
+    }
+    let mut block = [0; 8 * BLOCK];
+    let high = &mut block[..units.len()];
+    high.copy_from_slice(units);
+    swap(vr.unit(), high);
+    append_high(kind, size, high, text);
+}

@@ -1,0 +1,77 @@
+// How a value is shown.
+ghost use Rattle.std.specs.Prelude.{◌≡◌};
+ghost use Rattle.dcm_base.specs.ValueText as text;
+ghost use Rattle.dcm_value.specs.Way as spec;
+
+use dcm_base::Vr;
+
+/// The longest value that may be shown by a name.
+const NAMED: u32 = 64;
+
+/// How a value is shown.
+#[derive(Clone, Copy, Debug, PartialEq, Eq)]
+pub enum Way {
+    /// As a text, while it comes.
+    InBrackets,
+    /// By its name, or as a text, when all of it is there.
+    ByName,
+    /// Unit by unit.
+    InUnits,
+}
+
+/// How a value of this size is shown.
+pub fn way_of(vr: Vr, size: u32) -> Way
+    ensures { result ≡ spec.way_of (text.shape vr) size }
+{
+    match vr {
+        Vr::UI if size <= NAMED => Way::ByName,
+        Vr::UI
+        | Vr::AE
+        | Vr::AS
+        | Vr::CS
+        | Vr::DA
+        | Vr::DS
+        | Vr::DT
+        | Vr::IS
+        | Vr::LO
+        | Vr::LT
+        | Vr::PN
+        | Vr::SH
+        | Vr::ST
+        | Vr::TM
+        | Vr::UC
+        | Vr::UR
+        | Vr::UT => Way::InBrackets,
+        _ => Way::InUnits,
+    }
+}
+
+/// Whether a value is one however long it is.
+pub fn is_single(vr: Vr) -> bool
+    ensures { result ≡ text.is_single vr }
+{
+    matches!(
+        vr,
+        Vr::ST
+            | Vr::LT
+            | Vr::UT
+            | Vr::UR
+            | Vr::OB
+            | Vr::OW
+            | Vr::OD
+            | Vr::OF
+            | Vr::OL
+            | Vr::OV
+            | Vr::UN
+    )
+}
+
+/// The bytes of a value without the pad byte that made it even.
+pub fn unpadded(vr: Vr, value: &[u8]) -> &[u8]
+    ensures { result.now ≡ text.unpadded vr value.now }
+{
+    match value {
+        [front @ .., last] if value.len() % 2 == 0 && *last == vr.pad() => front,
+        _ => value,
+    }
+}
