@@ -21,6 +21,7 @@ pub mod Bars
 pub mod ValueText
 pub mod Dump
 pub mod Recode
+pub mod NewMeta
 pub mod Edit
 pub mod Ascending
 pub mod Overlap

@@ -12,3 +12,4 @@ pub mod Settles
 pub mod Snoc
 pub mod Described
 pub mod Told
+pub mod Firsts

@@ -1,3 +1,5 @@
 pub mod HeadRead
+pub mod HeadBytes
 pub mod GroupPlaces
 pub mod MetaReading
+pub mod Rewriting

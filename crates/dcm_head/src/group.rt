@@ -2,6 +2,7 @@
 ghost use Rattle.std.specs.Prelude.{◌≡◌, ◌≤◌, length};
 ghost use Rattle.dcm_base.specs.Head.{head_size};
 ghost use Rattle.dcm_base.specs.MetaGroup as spec;
+ghost use Rattle.dcm_base.specs.Tag.{is_tag};
 ghost use Rattle.dcm_base.specs.declared.syntax.Syntax.TheVariants.{Little};
 ghost use Rattle.dcm_head.specs.GroupPlaces.{place_is};
 
@@ -22,7 +23,16 @@ pub const META_LIMIT: usize = 16_384;
 
 const META_GROUP: u16 = 0x0002;
 
+const TRANSFER_SYNTAX: u16 = 0x0010;
+
 const GROUP_SIZE: usize = 2;
+
+/// Whether this is the element that names the transfer syntax, TransferSyntaxUID.
+pub fn names_syntax(tag: Tag) -> bool
+    ensures { result ≡ is_tag 2 0x10 tag }
+{
+    tag.group == META_GROUP && tag.element == TRANSFER_SYNTAX
+}
 
 /// At a whole head of so many bytes, where so many bytes are left from it on.
 fn place_of_head(taken: usize, left: usize, head: Head, used: usize) -> Place

@@ -29,10 +29,10 @@ pub enum HeadRead {
 /// The sizes of a head: with a length of two bytes or no representation, and with two reserved bytes and a length of four.
 pub const SHORT_HEAD: usize = 8;
 
-const LONG_HEAD: usize = 12;
+pub const LONG_HEAD: usize = 12;
 
 /// How the undefined length is spelled.
-const UNDEFINED: u32 = 0xFFFF_FFFF;
+pub const UNDEFINED: u32 = 0xFFFF_FFFF;
 
 /// The group of items and delimiters, and the elements of each (PS3.5 7.5).
 const ITEMS: u16 = 0xFFFE;
@@ -140,13 +140,13 @@ fn read_element(syntax: Syntax, bytes: &[u8]) -> HeadRead
     }
 }
 
-fn is_item(tag: Tag) -> bool
+pub fn is_item(tag: Tag) -> bool
     ensures { result ≡ is_item_tag tag }
 {
     tag.group == ITEMS && tag.element == ITEM
 }
 
-fn is_delimiter(tag: Tag) -> bool
+pub fn is_delimiter(tag: Tag) -> bool
     ensures { result ≡ spec.is_delimiter tag }
 {
     tag.group == ITEMS && (tag.element == ITEM_END || tag.element == SEQUENCE_END)

@@ -7,9 +7,12 @@ pub mod laws;
 mod meta;
 mod meta_read;
 mod pads;
+mod rewriting;
+mod write;
 #[cfg(test)]
 mod tests;
 
 pub use head::{Head, HeadRead, read_head, read_tag};
 pub use meta::Meta;
 pub use meta_read::{MetaEnd, MetaRead};
+pub use write::write_head;

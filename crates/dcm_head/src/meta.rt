@@ -2,7 +2,7 @@
 ghost use Rattle.std.specs.Prelude.{◌≡◌, ◌+◌, ◌≤◌, ◌<◌, None, Some, take, drop, length, fold};
 ghost use Rattle.dcm_head.specs.MetaReading as reading;
 
-use crate::group::{Place, place_of};
+use crate::group::{Place, names_syntax, place_of};
 use crate::meta_read::{MetaEnd, MetaRead};
 use crate::pads::size_without_pads;
 use arrayvec::ArrayVec;
@@ -16,11 +16,6 @@ const GROUP_AT: usize = 132;
 
 /// Preamble, prefix, a group, and the longest head behind it.
 const ROOM: usize = 16_528;
-
-/// The element that names the transfer syntax, TransferSyntaxUID.
-const META_GROUP: u16 = 0x0002;
-
-const TRANSFER_SYNTAX: u16 = 0x0010;
 
 /// The reader of a file's head, which is fed in pieces of any size up to the end of the meta group.
 #[derive(Drop)]
@@ -93,7 +88,7 @@ fn group_end(place: usize, uid: &[u8]) -> MetaEnd
 fn is_first_syntax(uid_at: usize, tag: Tag) -> bool
     ensures { result ≡ reading.is_first_syntax uid_at tag }
 {
-    uid_at == 0 && tag.group == META_GROUP && tag.element == TRANSFER_SYNTAX
+    uid_at == 0 && names_syntax(tag)
 }
 
 fn has_prefix(bytes: &[u8]) -> bool

@@ -1,0 +1,26 @@
+-- The bytes that a head is written as (PS3.5 7.1.2, 7.1.3, 7.5).
+use Rattle.std.specs.Prelude.{ℕ, ◌<◌, Bool, ◌&&◌, ◌||◌, not, if◌then◌else◌, List}
+use Rattle.dcm_base.specs.declared.syntax.Syntax.{Syntax}
+use Rattle.dcm_base.specs.declared.length.Length.{Length}
+use Rattle.dcm_base.specs.declared.length.Length.TheVariants.{Known, Undefined}
+use Rattle.dcm_base.specs.Tag.{is_item}
+use Rattle.dcm_base.specs.Representation.{is_long}
+use Rattle.dcm_base.specs.Recode.{head, plain_head, is_explicit}
+use Rattle.dcm_head.specs.declared.head.Head.{Head}
+use Rattle.dcm_head.specs.HeadRead.{is_delimiter}
+
+-- an item has its length and no representation, a delimiter the length 0
+abbrev pub head_bytes : Syntax → Head → List ℕ
+head_bytes s h =
+    if is_item h.tag then plain_head s h.tag h.length
+    else if is_delimiter h.tag then plain_head s h.tag (Known 0)
+    else head s h.tag h.vr h.length
+
+-- whether the length stands in two bytes
+abbrev pub is_short_form : Syntax → Head → Bool
+is_short_form s h = is_explicit s && not (is_item h.tag || (is_delimiter h.tag || is_long h.vr))
+
+-- two bytes hold this length
+abbrev pub FitsShort : Length → Type 0
+FitsShort (Known n) = n < 65536
+FitsShort Undefined = ⊥

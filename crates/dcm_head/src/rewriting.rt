@@ -1,0 +1,135 @@
+// A meta group written anew, with a transfer syntax (PS3.10 7.1).
+ghost use Rattle.std.specs.Prelude.{◌≡◌, ◌≤◌, ◌<◌, ◌||◌, ◌^◌, IfSome, IfNone, [], length};
+ghost use Rattle.std.specs.Int.{to_le_bytes, w32};
+ghost use Rattle.dcm_base.specs.Device.{Puts, Tells};
+ghost use Rattle.dcm_base.specs.NewMeta.{new_elements, new_meta};
+ghost use Rattle.dcm_base.specs.Recode.{even as even_size, head as recoded_head, recoded_leaf};
+ghost use Rattle.dcm_base.specs.Tag.{is_tag};
+ghost use Rattle.dcm_base.specs.declared.length.Length.TheVariants.{Known};
+ghost use Rattle.dcm_base.specs.declared.syntax.Syntax.TheVariants.{Little};
+ghost use Rattle.dcm_head.specs.Rewriting as spec;
+
+use crate::group::{Place, names_syntax, place_of};
+use crate::head::{Head, LONG_HEAD};
+use crate::write::explicit_head;
+use arrayvec::ArrayVec;
+use dcm_base::{DeviceOut, Length, Syntax, Tag, Vr, Watched, WriteFailed, put_parts};
+
+/// An element at the front of bytes: its tag, representation and value, and the bytes behind it.
+#[derive(Clone, Copy)]
+struct First<'a> {
+    tag: Tag,
+    vr: Vr,
+    value: &'a [u8],
+    after: &'a [u8],
+}
+
+fn first_element<'a>(bytes: &'a [u8]) -> Option<First<'a>>
+    requires { length bytes.now ≤ 16384 }
+    ensures some { IfSome result (λ f. spec.FirstIs bytes.now f.tag f.vr f.value.now f.after.now) }
+    ensures none { IfNone result (spec.NoneIs bytes.now) }
+{
+    let Place::Element(tag, vr, head, size) = place_of(0, bytes) else {
+        return None;
+    };
+    let (own, after) = bytes.split_at(head + size);
+    let (_, value) = own.split_at(head);
+    Some(First {
+        tag,
+        vr,
+        value,
+        after,
+    })
+}
+
+/// The size of a value with its pad byte.
+fn even(size: usize) -> usize
+    requires { size < 65535 }
+    ensures value { result ≡ even_size size }
+    ensures limit { result < 65535 }
+{
+    size + size % 2
+}
+
+/// The head of a value of this size.
+fn leaf_head(tag: Tag, vr: Vr, size: usize) -> ArrayVec<u8, LONG_HEAD>
+    requires { size < 65535 }
+    ensures { result.items ≡ recoded_head Little tag vr (Known (even_size size)) }
+{
+    let length = Length::Known(even(size) as u32);
+    explicit_head(Syntax::Little, &Head { tag, vr, length })
+}
+
+/// The size of an element that is written.
+fn leaf_size(tag: Tag, vr: Vr, value: &[u8]) -> usize
+    requires { length value.now < 65535 }
+    ensures size { result ≡ length (recoded_leaf Little tag vr value.now) }
+    ensures limit { result < 65547 }
+{
+    leaf_head(tag, vr, value.len()).len() + even(value.len())
+}
+
+fn put_leaf<W: DeviceOut>(
+    out: &mut Watched<W>,
+    tag: Tag,
+    vr: Vr,
+    value: &[u8],
+) -> Result<(), WriteFailed>
+    requires { length value.now < 65535 }
+    ensures bytes { Puts (W.contents out.old) (W.contents out.new) (recoded_leaf Little tag vr value.now) result }
+    ensures failed { Tells (W.has_failed out.old) (W.has_failed out.new) result }
+{
+    let head = leaf_head(tag, vr, value.len());
+    let pad = [vr.pad()];
+    let (pad, _) = pad.split_at(value.len() % 2);
+    put_parts(out, &[head.as_slice(), value, pad])
+}
+
+/// The representation and value that stand in the new group for an element, if any do: the first that names a transfer
+/// syntax names this one.
+fn renewed<'a>(first: First<'a>, named: bool, uid: &'a [u8]) -> Option<(Vr, &'a [u8])>
+    requires value { length first.value.now < 65535 }
+    requires uid { length uid.now < 65535 }
+    ensures some { IfSome result (λ r. recoded_leaf Little first.entry.tag r.0 r.1.now ≡ spec.written_element named uid.now first.entry.tag first.entry.vr first.entry.value.now) }
+    ensures none { IfNone result (spec.written_element named uid.now first.entry.tag first.entry.vr first.entry.value.now ≡ []) }
+    ensures limit { IfSome result (λ r. length r.1.now < 65535) }
+{
+    let is_syntax = names_syntax(first.tag);
+    if first.tag.element == 0 || (is_syntax && named) {
+        None
+    } else if is_syntax {
+        Some((Vr::UI, uid))
+    } else {
+        Some((first.vr, first.value))
+    }
+}
+
+/// The size of what stands for an element in the new group.
+fn element_size(first: First<'_>, named: bool, uid: &[u8]) -> usize
+    requires value { length first.value.now < 65535 }
+    requires uid { length uid.now < 65535 }
+    ensures size { result ≡ length (spec.written_element named uid.now first.entry.tag first.entry.vr first.entry.value.now) }
+    ensures limit { result < 65547 }
+{
+    match renewed(first, named, uid) {
+        Some((vr, value)) => leaf_size(first.tag, vr, value),
+        None => 0,
+    }
+}
+
+fn put_element<W: DeviceOut>(
+    out: &mut Watched<W>,
+    first: First<'_>,
+    named: bool,
+    uid: &[u8],
+) -> Result<(), WriteFailed>
+    requires value { length first.value.now < 65535 }
+    requires uid { length uid.now < 65535 }
+    ensures bytes { Puts (W.contents out.old) (W.contents out.new) (spec.written_element named uid.now first.entry.tag first.entry.vr first.entry.value.now) result }
+    ensures failed { Tells (W.has_failed out.old) (W.has_failed out.new) result }
+{
+    match renewed(first, named, uid) {
+        Some((vr, value)) => put_leaf(out, first.tag, vr, value),
+        None => Ok(()),
+    }
+}
