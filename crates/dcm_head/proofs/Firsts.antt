@@ -42,9 +42,9 @@ next_is bytes tag vr head size (leaf t v value rest) le h s m =
     let sizes : length value ≡ size = cc in
     let behind : drop (head_size Little v) bytes ≡ value ++ f.0 = sym f.1.head.after_is in
     let value_is : drop head (take (head + size) bytes) ≡ value =
-        drop-take head size bytes ∙ (λ i. take (sym sizes i) (drop (sym heads i) bytes)) ∙ ap (take (length value)) behind ∙ take_at value f.0 (length value) refl in
+    drop-take head size bytes ∙ (λ i. take (sym sizes i) (drop (sym heads i) bytes)) ∙ ap (take (length value)) behind ∙ take_at value f.0 (length value) refl in
     let after_is : drop (head + size) bytes ≡ f.0 =
-        (λ i. drop (sym heads i + sym sizes i) bytes) ∙ sym (drop-drop (length value) (head_size Little v) bytes) ∙ ap (drop (length value)) behind ∙ drop_at value f.0 (length value) refl in
+    (λ i. drop (sym heads i + sym sizes i) bytes) ∙ sym (drop-drop (length value) (head_size Little v) bytes) ∙ ap (drop (length value)) behind ∙ drop_at value f.0 (length value) refl in
     (rest, λ i. leaf (tags i) (vrs i) (sym value_is i) rest, subst (Spells Little rest) (sym after_is) f.2, (meta_first t v value rest m).1)
 next_is bytes tag vr head size (sequence t v declared items rest) le h s m = absurd (not_meta_sequence t v declared items rest m)
 next_is bytes tag vr head size (fragments t v values rest) le h s m = absurd (not_meta_fragments t v values rest m)

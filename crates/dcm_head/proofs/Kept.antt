@@ -1,5 +1,5 @@
 -- What a reading that goes on knows.
-use Rattle.std.proofs.Common.{◌≡◌, ◌⊎◌, inl, inr, ℕ, ◌+◌, ◌-◌, ◌≤◌, ◌<◌, List, [], ◌∷◌, ◌++◌, length, drop, Some, None, sym, ap, ◌∙◌, subst, arith, length-drop, length-append}
+use Rattle.std.proofs.Common.{◌≡◌, ◌⊎◌, inl, inr, ℕ, ◌+◌, ◌-◌, ◌≤◌, ◌<◌, List, [], ◌∷◌, ◌++◌, length, drop, Option, Some, None, sym, ap, ◌∙◌, subst, arith, length-drop, length-append}
 use Rattle.std.proofs.lemmas.List.{drop-append-le}
 use Rattle.std.proofs.lemmas.Bool.Decides.{leb_tells}
 use Rattle.dcm_base.specs.declared.tag.Tag.{Tag}
@@ -8,7 +8,7 @@ use Rattle.dcm_base.specs.MetaGroup.{an_element, the_end, too_few}
 use Rattle.dcm_head.specs.declared.meta_read.MetaEnd.{MetaEnd}
 use Rattle.dcm_head.specs.declared.meta_read.MetaEnd.TheVariants.{Refused, Ended}
 use Rattle.dcm_base.specs.MetaGroup.{group_place}
-use Rattle.dcm_head.specs.MetaReading.{Reading, Keeps, Waits}
+use Rattle.dcm_head.specs.MetaReading.{Reading, Keeps, Waits, HasEnded}
 use Rattle.dcm_head.proofs.Elements.{element_tells, element_exact, end_exact, cut_room}
 
 waits_here : (r : Reading) → Keeps r → r.end ≡ None → (length r.bytes ≤ r.place) ⊎ (group_place (r.place - 132) (drop r.place r.bytes) ≡ too_few)
@@ -97,3 +97,12 @@ kept_behind r q byte head size k h p b e u =
       begun = λ _. omega arith;
       waits = subst (Waits q) (sym h) (inl (omega arith));
     }
+
+ended_at : (r : Reading) (end : Option MetaEnd) → Waits r end → HasEnded end → r.place ≤ length r.bytes
+ended_at r (Some (Ended coding)) w h = w.0
+ended_at r (Some (Refused stop)) w h = absurd h
+ended_at r None w h = absurd h
+
+-- where the group has ended, all of it came
+pub ended_whole : (r : Reading) → Keeps r → HasEnded r.end → r.place ≤ length r.bytes
+ended_whole r k h = ended_at r r.end k.waits h

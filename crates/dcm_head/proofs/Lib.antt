@@ -13,3 +13,4 @@ pub mod Snoc
 pub mod Described
 pub mod Told
 pub mod Firsts
+pub mod Rewritten

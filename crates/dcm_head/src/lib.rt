@@ -8,11 +8,12 @@ mod meta;
 mod meta_read;
 mod pads;
 mod rewriting;
-mod write;
 #[cfg(test)]
 mod tests;
+mod write;
 
 pub use head::{Head, HeadRead, read_head, read_tag};
 pub use meta::Meta;
 pub use meta_read::{MetaEnd, MetaRead};
+pub use rewriting::write_meta;
 pub use write::write_head;

@@ -1,12 +1,16 @@
 // The head of a file: preamble, prefix and meta group (PS3.10 7.1).
 ghost use Rattle.std.specs.Prelude.{◌≡◌, ◌+◌, ◌≤◌, ◌<◌, None, Some, take, drop, length, fold};
+ghost use Rattle.dcm_base.specs.Device.{Puts, Tells};
+ghost use Rattle.dcm_base.specs.NewMeta.{new_meta};
 ghost use Rattle.dcm_head.specs.MetaReading as reading;
+ghost use Rattle.dcm_head.specs.Rewriting.{OfElements};
 
 use crate::group::{Place, names_syntax, place_of};
 use crate::meta_read::{MetaEnd, MetaRead};
 use crate::pads::size_without_pads;
+use crate::rewriting::write_meta;
 use arrayvec::ArrayVec;
-use dcm_base::{Coding, Fault, Stop, Tag, coding_of};
+use dcm_base::{Coding, DeviceOut, Fault, Stop, Tag, Watched, WriteFailed, coding_of};
 use std::marker::Model;
 
 /// The sizes of the preamble, and of preamble and prefix.
@@ -158,7 +162,8 @@ impl Meta {
     /// The transfer syntax, without the bytes 00 and 20 at its end.
     pub fn uid(&self) -> &[u8]
         requires { reading.HasEnded self.now.end }
-        ensures { result.now ≡ reading.uid_of self.now }
+        ensures value { result.now ≡ reading.uid_of self.now }
+        ensures limit { length result.now < 65535 }
     {
         part(self.bytes.as_slice(), self.uid_at, self.uid_size)
     }
@@ -166,7 +171,8 @@ impl Meta {
     /// The first 128 bytes of the file.
     pub fn preamble(&self) -> &[u8]
         requires { reading.HasEnded self.now.end }
-        ensures { result.now ≡ take 128 self.now.bytes }
+        ensures value { result.now ≡ take 128 self.now.bytes }
+        ensures size { length result.now ≡ 128 }
     {
         part(self.bytes.as_slice(), 0, PREAMBLE)
     }
@@ -178,6 +184,22 @@ impl Meta {
         ensures limit { length result.now ≤ 16384 }
     {
         part(self.bytes.as_slice(), GROUP_AT, self.place - GROUP_AT)
+    }
+
+    /// Writes the meta group anew, with its length and this transfer syntax (PS3.10 7.1).
+    ///
+    /// Fails where the writer fails, and has then written a beginning of the group.
+    pub fn rewritten<W: DeviceOut>(
+        &self,
+        uid: &[u8],
+        out: &mut Watched<W>,
+    ) -> Result<(), WriteFailed>
+        requires ended { reading.HasEnded self.now.end }
+        requires uid { length uid.now < 65535 }
+        ensures bytes { OfElements (reading.group_of self.now) (λ elements. Puts (W.contents out.old) (W.contents out.new) (new_meta elements uid.now) result) }
+        ensures failed { Tells (W.has_failed out.old) (W.has_failed out.new) result }
+    {
+        write_meta(self.bytes(), uid, out)
     }
 
     /// Goes over a byte of the preamble or the prefix.

@@ -15,6 +15,12 @@ use crate::write::explicit_head;
 use arrayvec::ArrayVec;
 use dcm_base::{DeviceOut, Length, Syntax, Tag, Vr, Watched, WriteFailed, put_parts};
 
+/// The element that tells how many bytes of the group follow it, FileMetaInformationGroupLength.
+const GROUP_LENGTH: Tag = Tag {
+    group: 0x0002,
+    element: 0x0000,
+};
+
 /// An element at the front of bytes: its tag, representation and value, and the bytes behind it.
 #[derive(Clone, Copy)]
 struct First<'a> {
@@ -132,4 +138,67 @@ fn put_element<W: DeviceOut>(
         Some((vr, value)) => put_leaf(out, first.tag, vr, value),
         None => Ok(()),
     }
+}
+
+fn is_named(named: bool, tag: Tag) -> bool
+    ensures { result ≡ (named || is_tag 2 0x10 tag) }
+{
+    named || names_syntax(tag)
+}
+
+/// The size of the elements of the new group.
+fn elements_size(group: &[u8], uid: &[u8]) -> usize
+    requires group { length group.now ≤ 16384 }
+    requires uid { length uid.now < 65535 }
+    ensures size { spec.OfElements group.now (λ elements. result ≡ length (new_elements elements uid.now)) }
+    ensures limit { result < 2 ^ 32 }
+{
+    let mut rest = group;
+    let mut named = false;
+    let mut size = 0;
+    'elements: while let Some(first) = first_element(rest) {
+        size += element_size(first, named, uid);
+        named = is_named(named, first.tag);
+        rest = first.after;
+    }
+    size
+}
+
+/// Writes the elements of the new group.
+fn put_elements<W: DeviceOut>(
+    out: &mut Watched<W>,
+    group: &[u8],
+    uid: &[u8],
+) -> Result<(), WriteFailed>
+    requires group { length group.now ≤ 16384 }
+    requires uid { length uid.now < 65535 }
+    ensures bytes { spec.OfElements group.now (λ elements. Puts (W.contents out.old) (W.contents out.new) (new_elements elements uid.now) result) }
+    ensures failed { Tells (W.has_failed out.old) (W.has_failed out.new) result }
+{
+    let mut rest = group;
+    let mut named = false;
+    'elements: while let Some(first) = first_element(rest) {
+        put_element(out, first, named, uid)?;
+        named = is_named(named, first.tag);
+        rest = first.after;
+    }
+    Ok(())
+}
+
+/// Writes a whole meta group anew, with its length and this transfer syntax (PS3.10 7.1).
+///
+/// Fails where the writer fails, and has then written a beginning of the group.
+pub fn write_meta<W: DeviceOut>(
+    run: &[u8],
+    uid: &[u8],
+    out: &mut Watched<W>,
+) -> Result<(), WriteFailed>
+    requires run { length run.now ≤ 16384 }
+    requires uid { length uid.now < 65535 }
+    ensures bytes { spec.OfElements run.now (λ elements. Puts (W.contents out.old) (W.contents out.new) (new_meta elements uid.now) result) }
+    ensures failed { Tells (W.has_failed out.old) (W.has_failed out.new) result }
+{
+    let size = elements_size(run, uid) as u32;
+    put_leaf(out, GROUP_LENGTH, Vr::UL, &size.to_le_bytes())?;
+    put_elements(out, run, uid)
 }

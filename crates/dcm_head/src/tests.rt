@@ -1,8 +1,8 @@
 ghost use Rattle.std.specs.Prelude.{◌<◌};
 ghost use Rattle.dcm_head.specs.MetaReading.{IsOpen};
 
-use crate::{Head, HeadRead, Meta, MetaRead, read_head};
-use dcm_base::{Coding, Fault, Length, Stop, Syntax, Tag, Vr};
+use crate::{Head, HeadRead, Meta, MetaRead, read_head, write_head, write_meta};
+use dcm_base::{Coding, Fault, Length, MemOut, Stop, Syntax, Tag, Vr, Watched};
 use std::alloc::{AllocError, Global};
 use std::test::Fail;
 
@@ -307,5 +307,90 @@ fn items(rt: HostRuntime) -> Result<(), Fail> {
     assert!(rt;
         read_head(Syntax::Big, b"\xFF\xFE\xE0\xDD\x00\x00\x00\x09") == HeadRead::Done(end, 8)
     );
+    Ok(())
+}
+
+#[test]
+fn written_heads(rt: HostRuntime) -> Result<(), Fail> {
+    let tag = Tag {
+        group: 0x0010,
+        element: 0x0010,
+    };
+    let name = Head {
+        tag,
+        vr: Vr::PN,
+        length: Length::Known(6),
+    };
+    assert!(rt;
+        write_head(Syntax::Little, &name).as_slice() == b"\x10\x00\x10\x00PN\x06\x00".as_slice()
+    );
+    assert!(rt;
+        write_head(Syntax::Big, &name).as_slice() == b"\x00\x10\x00\x10PN\x00\x06".as_slice()
+    );
+    assert!(rt;
+        write_head(Syntax::Implicit, &name).as_slice()
+            == b"\x10\x00\x10\x00\x06\x00\x00\x00".as_slice()
+    );
+    let tag = Tag {
+        group: 0x0009,
+        element: 0x1001,
+    };
+    let unknown = Head {
+        tag,
+        vr: Vr::UN,
+        length: Length::Undefined,
+    };
+    assert!(rt;
+        write_head(Syntax::Big, &unknown).as_slice()
+            == b"\x00\x09\x10\x01UN\x00\x00\xFF\xFF\xFF\xFF".as_slice()
+    );
+    let tag = Tag {
+        group: 0xFFFE,
+        element: 0xE00D,
+    };
+    let end = Head {
+        tag,
+        vr: Vr::UN,
+        length: Length::Known(9),
+    };
+    assert!(rt;
+        write_head(Syntax::Little, &end).as_slice()
+            == b"\xFE\xFF\x0D\xE0\x00\x00\x00\x00".as_slice()
+    );
+    Ok(())
+}
+
+/// A group with an old length, reserved bytes, an odd value, and two transfer syntaxes.
+const OLD_GROUP: &[u8] =
+    b"\x02\x00\x00\x00UL\x04\x00\x63\x00\x00\x00\x02\x00\x01\x00OB\x07\x08\x01\x00\x00\x00\x05\x02\x00\x10\x00LO\x02\x001 \x02\x00\x10\x00UI\x02\x002\x00\x02\x00\x16\x00AE\x01\x00A";
+
+const NEW_GROUP: &[u8] =
+    b"\x02\x00\x00\x00UL\x04\x00\x32\x00\x00\x00\x02\x00\x01\x00OB\x00\x00\x02\x00\x00\x00\x05\x00\x02\x00\x10\x00UI\x12\x001.2.840.10008.1.2\x00\x02\x00\x16\x00AE\x02\x00A ";
+
+#[test]
+fn rewritten(rt: HostRuntime) -> Result<(), Fail> {
+    let mut whole = file(rt.alloc(), OLD_GROUP)?;
+    whole.extend_from_slice(&[0x10, 0x00])?;
+    let mut meta = Meta::new();
+    let MetaRead::Ended { .. } = meta.feed(whole.as_slice()) else {
+        return Err("the group did not end".into());
+    };
+    let mut room = Vec::new(rt.alloc());
+    room.extend_from_slice(&[0; 100])?;
+    let mut out = Watched::new(MemOut::new(room));
+    assert!(rt; meta.rewritten(b"1.2.840.10008.1.2", &mut out).is_ok());
+    assert!(rt; out.device().written() == NEW_GROUP);
+    Ok(())
+}
+
+#[test]
+fn rewritten_without_room(rt: HostRuntime) -> Result<(), Fail> {
+    let mut room = Vec::new(rt.alloc());
+    room.extend_from_slice(&[0; 31])?;
+    let mut out = Watched::new(MemOut::new(room));
+    assert!(rt; write_meta(OLD_GROUP, b"1.2.840.10008.1.2", &mut out).is_err());
+    assert!(rt; out.failed());
+    assert!(rt; NEW_GROUP.starts_with(out.device().written()));
+    assert!(rt; out.device().written().len() == 31);
     Ok(())
 }

@@ -79,7 +79,10 @@ pub fn explicit_head(syntax: Syntax, head: &Head) -> HeadBytes
         put(&mut bytes, &[0, 0]);
         put(&mut bytes, &long_bytes(syntax, length_number(head.length)));
     } else {
-        put(&mut bytes, &short_bytes(syntax, length_number(head.length) as u16));
+        put(
+            &mut bytes,
+            &short_bytes(syntax, length_number(head.length) as u16),
+        );
     }
     bytes
 }

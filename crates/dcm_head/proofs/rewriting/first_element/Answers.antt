@@ -33,4 +33,4 @@ returns-clause-some c =
     let value : c.split_at-2.result.1.now ≡ drop c.in-Element.head (take n c.args.bytes.now) = c.split_at-2.ensures.back ∙ ap (drop c.in-Element.head) c.split_at.ensures.front in
     subst (λ (v : List ℕ). FirstIs c.args.bytes.now c.in-Element.tag c.in-Element.vr v c.split_at.result.1.now) (sym value)
     (subst (λ (a : List ℕ). FirstIs c.args.bytes.now c.in-Element.tag c.in-Element.vr (drop c.in-Element.head (take n c.args.bytes.now)) a) (sym c.split_at.ensures.back)
-      (first_is c.args.bytes.now _ _ _ _ c.requires (sym c.in-Element.ensures)))
+    (first_is c.args.bytes.now _ _ _ _ c.requires (sym c.in-Element.ensures)))

@@ -1,0 +1,39 @@
+use Rattle.std.proofs.Common.{◌∙◌, refl, sym, ap, arith}
+use Rattle.std.specs.Io.KnownBytes.{append_known}
+use Rattle.dcm_base.proofs.Puts.{append_known_none, append_known_twice}
+use Rattle.dcm_head.specs.Rewriting.{written_element}
+use Rattle.dcm_head.proofs.Rewritten.{left_all, left_more, left_none, failed_at}
+use Rattle.dcm_head.proofs.rewriting.put_elements.Goals as goal
+
+pub elements-init : goal.elements-init
+elements-init g c = record {
+  short = c.requires.group;
+  gone = λ all s m. (left_all c.args.group.now c.args.uid.now all s m, sym (append_known_none _));
+  failed = refl;
+}
+
+pub returns-in_err-put_element-clause-bytes : goal.returns-in_err-put_element-clause-bytes
+returns-in_err-put_element-clause-bytes g c = λ all s m.
+    let l = c.elements.invariant.gone all s m in
+    failed_at _ _ _ c.elements.rest.now c.args.uid.now c.elements.named all _ _ _ _ c.from_residual.result l.0 c.in-Some.ensures.some l.1 c.in_err-put_element.ensures.bytes c.from_residual.ensures.0
+
+pub elements-preserved : goal.elements-preserved
+elements-preserved g c =
+    let first = c.in-Some.ensures.some in
+    let less = first.0 in
+    record {
+      short = omega arith;
+      gone = λ all s m.
+          let l = c.elements.invariant.gone all s m in (
+            left_more c.elements.rest.now c.args.uid.now c.elements.named all _ _ _ _ c.is_named-named.result l.0 first c.is_named-named.ensures,
+            c.in_ok-put_element.ensures.bytes
+                ∙ ap (λ known. append_known known (written_element c.elements.named c.args.uid.now c.in-Some.first.tag c.in-Some.first.vr c.in-Some.first.value.now)) l.1
+                ∙ append_known_twice _ l.0.gone (written_element c.elements.named c.args.uid.now c.in-Some.first.tag c.in-Some.first.vr c.in-Some.first.value.now),
+          );
+      failed = c.in_ok-put_element.ensures.failed ∙ c.elements.invariant.failed;
+    }
+
+pub returns-clause-bytes : goal.returns-clause-bytes
+returns-clause-bytes g c = λ all s m.
+    let l = c.elements.invariant.gone all s m in
+    l.1 ∙ ap (append_known _) (left_none c.elements.rest.now c.args.uid.now c.elements.named all l.0 c.in_default.ensures.none)
