@@ -1,13 +1,28 @@
--- The definitions of edits, computed.
-use Rattle.std.proofs.Common.{◌≡◌, ℕ, List, [], ◌∷◌, ◌++◌, Some, true, false, refl}
+-- Worked rows: edits of data sets, one after another and all at once, as they are written.
+use Rattle.std.proofs.Common.{◌≡◌, ℕ, List, [], ◌∷◌, Some, true, false, refl}
 use Rattle.std.specs.Prelude.{codes}
 use Rattle.dcm_base.specs.declared.tag.Tag.{Tag}
 use Rattle.dcm_base.specs.declared.vr.Vr.TheVariants.{UI, PN, LO, SQ, SH, CS, DA}
+use Rattle.dcm_base.specs.declared.syntax.Syntax.TheVariants.{Little}
+use Rattle.dcm_base.specs.declared.length.Length.TheVariants.{Known, Undefined}
 use Rattle.dcm_base.specs.Tree.{Trees, no_tree, leaf, sequence, Items, no_item, item}
-use Rattle.dcm_base.specs.declared.length.Length.TheVariants.{Undefined, Known}
 use Rattle.dcm_base.specs.Front.{Front, front, nothing_open, open_leaf}
+use Rattle.dcm_base.specs.Representation.{letters}
+use Rattle.dcm_base.specs.Recode.{recode, recode_set}
 use Rattle.dcm_base.specs.Edit.{number, every, step, insert, modify, erase, erase_item, Edit, on_path, modify_all, erase_private, edited, found}
 use Rattle.dcm_base.specs.Together.{together}
+
+-- all that a row computes with
+unfoldable all : ℕ
+unfolding recode recode_set letters
+all = 0
+
+-- what is written of a data set behind the edits
+abbrev after : List Edit → Front → List ℕ
+after edits f = recode Little (edited edits f)
+
+abbrev at_once : List Edit → Front → List ℕ
+at_once edits f = recode Little (together edits f)
 
 abbrev tag : ℕ → ℕ → Tag
 tag g e = record { group = g; element = e }
@@ -15,121 +30,192 @@ tag g e = record { group = g; element = e }
 abbrev closed_set : Trees → Tag → Front
 closed_set whole reached = front whole nothing_open (Some reached) true
 
--- a sequence with one item of known declared
-abbrev set_7 : Items → Front
-set_7 items = closed_set (sequence (tag 8 0x1140) SQ Undefined items no_tree) (tag 8 0x1140)
+-- a sequence, with one item and with none
+abbrev images_with : Items → Front
+images_with items = closed_set (sequence (tag 0x0008 0x1140) SQ Undefined items no_tree) (tag 0x0008 0x1140)
 
-abbrev item_7 : List ℕ → Items
-item_7 uid = item (Known 12) (leaf (tag 8 0x1155) UI uid no_tree) no_item
+abbrev images_set : Front
+images_set = images_with (item (Known 12) (leaf (tag 0x0008 0x1155) UI (codes "1.2\0") no_tree) no_item)
 
-row_7 : edited (on_path (erase_item (tag 8 0x1140) (number 0)) ∷ []) (set_7 (item_7 (codes "1.2" ++ 0 ∷ []))) ≡ set_7 no_item
-row_7 = refl
+abbrev empty_set : Front
+empty_set = images_with no_item
 
-row_7a : edited (modify_all (tag 8 0x1155) UI (codes "1.3") ∷ []) (set_7 (item_7 (codes "1.2" ++ 0 ∷ []))) ≡ set_7 (item_7 (codes "1.3"))
-row_7a = refl
+abbrev private_set : Front
+private_set = closed_set (leaf (tag 0x0009 0x0010) LO (codes "AB") (leaf (tag 0x0010 0x0010) PN (codes "A ") no_tree)) (tag 0x0010 0x0010)
 
-row_7b : edited (erase_private ∷ []) (closed_set (leaf (tag 9 0x10) LO (codes "AB") (leaf (tag 0x10 0x10) PN (codes "A ") no_tree)) (tag 0x10 0x10))
-    ≡ closed_set (leaf (tag 0x10 0x10) PN (codes "A ") no_tree) (tag 0x10 0x10)
-row_7b = refl
+abbrev name_set : Front
+name_set = closed_set (leaf (tag 0x0010 0x0010) PN (codes "AB^CD ") no_tree) (tag 0x0010 0x0010)
 
--- the name alone
-abbrev set_2 : Front
-set_2 = closed_set (leaf (tag 0x10 0x10) PN (codes "AB^CD ") no_tree) (tag 0x10 0x10)
+-- a value that the input's end cuts
+abbrev cut_set : Front
+cut_set = front (leaf (tag 0x0008 0x0020) DA (codes "20240102") no_tree) (open_leaf (tag 0x0008 0x0060) CS 2 (codes "C")) (Some (tag 0x0008 0x0060)) false
 
--- a missing sequence is made
-abbrev put_uid : Edit
-put_uid = on_path (step (tag 8 0x1140) (number 0) (insert (tag 8 0x1155) UI (codes "1.2")))
-
-abbrev put_class : Edit
-put_class = on_path (step (tag 8 0x1140) (number 0) (insert (tag 8 0x1150) UI (codes "1.3")))
-
-abbrev name : Trees
-name = leaf (tag 0x10 0x10) PN (codes "AB^CD ") no_tree
-
-abbrev one_uid : Trees
-one_uid = leaf (tag 8 0x1155) UI (codes "1.2") no_tree
-
-abbrev both : Trees
-both = leaf (tag 8 0x1150) UI (codes "1.3") one_uid
-
-row_14a : edited (put_uid ∷ []) set_2 ≡ closed_set (sequence (tag 8 0x1140) SQ Undefined (item Undefined one_uid no_item) name) (tag 0x10 0x10)
-row_14a = refl
-
--- a second edit through the same missing sequence
-row_14b : edited (put_uid ∷ put_class ∷ []) set_2 ≡ closed_set (sequence (tag 8 0x1140) SQ Undefined (item Undefined both no_item) name) (tag 0x10 0x10)
-row_14b = refl
-
-row_14b_at_once : together (put_uid ∷ put_class ∷ []) set_2 ≡ closed_set (sequence (tag 8 0x1140) SQ Undefined (item Undefined both no_item) name) (tag 0x10 0x10)
-row_14b_at_once = refl
-
-row_14b_found : found put_class set_2 ≡ true
-row_14b_found = refl
-
--- nothing is made for another index
-row_14c_first : edited (on_path (step (tag 8 0x1140) (number 1) (insert (tag 8 0x1155) UI (codes "1.2"))) ∷ []) set_2 ≡ set_2
-row_14c_first = refl
-
-row_14c_every : edited (on_path (step (tag 8 0x1140) every (insert (tag 8 0x1155) UI (codes "1.2"))) ∷ []) set_2 ≡ set_2
-row_14c_every = refl
-
-deeper : Edit
-deeper = on_path (step (tag 8 0x1140) (number 0) (step (tag 0x40 0xa043) (number 1) (insert (tag 8 0x100) SH (codes "A"))))
-
-row_14c_deeper : edited (deeper ∷ []) set_2 ≡ set_2
-unfolding deeper
-row_14c_deeper = refl
-
-row_14c_not_found : found deeper set_2 ≡ false
-unfolding deeper
-row_14c_not_found = refl
-
--- a sequence without items is not missing
-row_14c_empty : edited (put_uid ∷ []) (set_7 no_item) ≡ set_7 no_item
-row_14c_empty = refl
-
-row_14c_empty_not_found : found put_uid (set_7 no_item) ≡ false
-row_14c_empty_not_found = refl
-
-row_16 : edited (on_path (modify (tag 0x10 0x20) LO (codes "7")) ∷ []) set_2 ≡ set_2
-row_16 = refl
-
-row_24 : edited (on_path (insert (tag 0x10 0x20) LO (codes "7")) ∷ on_path (modify (tag 0x10 0x10) PN (codes "Q")) ∷ []) set_2
-    ≡ closed_set (leaf (tag 0x10 0x10) PN (codes "Q") (leaf (tag 0x10 0x20) LO (codes "7") no_tree)) (tag 0x10 0x10)
-row_24 = refl
-
--- an erased date, and a new element before the open one
-set_15 : Front
-set_15 = front (leaf (tag 8 0x20) DA (codes "20240102") no_tree) (open_leaf (tag 8 0x60) CS 2 (codes "C")) (Some (tag 8 0x60)) false
-
-row_15 : edited (on_path (erase (tag 8 0x20)) ∷ on_path (insert (tag 8 0x50) SH (codes "X")) ∷ []) set_15
-    ≡ front (leaf (tag 8 0x50) SH (codes "X") no_tree) (open_leaf (tag 8 0x60) CS 2 (codes "C")) (Some (tag 8 0x60)) false
-unfolding set_15
-row_15 = refl
-
--- new elements in tag order, in whatever order the words come
-abbrev id : Trees
-id = leaf (tag 0x20 0x10) SH (codes "1 ") no_tree
-
-row_9a : edited (on_path (insert (tag 0x10 0x20) LO (codes "1")) ∷ on_path (insert (tag 0x10 0x10) PN (codes "Q")) ∷ []) (closed_set id (tag 0x20 0x10))
-    ≡ closed_set (leaf (tag 0x10 0x10) PN (codes "Q") (leaf (tag 0x10 0x20) LO (codes "1") id)) (tag 0x20 0x10)
-row_9a = refl
+abbrev id_leaf : Trees
+id_leaf = leaf (tag 0x0020 0x0010) SH (codes "1 ") no_tree
 
 abbrev cut_id : Front
-cut_id = front no_tree (open_leaf (tag 0x20 0x10) SH 2 (codes "1")) (Some (tag 0x20 0x10)) false
+cut_id = front no_tree (open_leaf (tag 0x0020 0x0010) SH 2 (codes "1")) (Some (tag 0x0020 0x0010)) false
 
-row_9b : edited (on_path (insert (tag 0x10 0x20) LO (codes "1")) ∷ on_path (insert (tag 0x10 0x10) PN (codes "Q")) ∷ []) cut_id
-    ≡ front (leaf (tag 0x10 0x10) PN (codes "Q") (leaf (tag 0x10 0x20) LO (codes "1") no_tree)) (open_leaf (tag 0x20 0x10) SH 2 (codes "1")) (Some (tag 0x20 0x10)) false
-row_9b = refl
+abbrev put_instance : Edit
+put_instance = on_path (step (tag 0x0008 0x1140) (number 0) (insert (tag 0x0008 0x1155) UI (codes "1.2")))
 
-row_9c : edited (on_path (erase (tag 0x20 0x10)) ∷ on_path (insert (tag 0x10 0x10) PN (codes "Q")) ∷ []) cut_id
-    ≡ front (leaf (tag 0x10 0x10) PN (codes "Q") no_tree) nothing_open (Some (tag 0x20 0x10)) false
-row_9c = refl
+abbrev put_class : Edit
+put_class = on_path (step (tag 0x0008 0x1140) (number 0) (insert (tag 0x0008 0x1150) UI (codes "1.3")))
 
--- the same at once
-row_9a_at_once : together (on_path (insert (tag 0x10 0x20) LO (codes "1")) ∷ on_path (insert (tag 0x10 0x10) PN (codes "Q")) ∷ []) (closed_set id (tag 0x20 0x10))
-    ≡ closed_set (leaf (tag 0x10 0x10) PN (codes "Q") (leaf (tag 0x10 0x20) LO (codes "1") id)) (tag 0x20 0x10)
-row_9a_at_once = refl
+-- edits of a private tag are not apart from the edit that erases all of these: the order decides
+private_after : edited (on_path (modify (tag 0x0009 0x0010) LO (codes "B")) ∷ erase_private ∷ []) (closed_set (leaf (tag 0x0009 0x0010) LO (codes "AB") no_tree) (tag 0x0009 0x0010))
+    ≡ closed_set no_tree (tag 0x0009 0x0010)
+private_after = refl
 
-row_9c_at_once : together (on_path (erase (tag 0x20 0x10)) ∷ on_path (insert (tag 0x10 0x10) PN (codes "Q")) ∷ []) cut_id
-    ≡ front (leaf (tag 0x10 0x10) PN (codes "Q") no_tree) nothing_open (Some (tag 0x20 0x10)) false
-row_9c_at_once = refl
+private_at_once : together (on_path (modify (tag 0x0009 0x0010) LO (codes "B")) ∷ erase_private ∷ []) (closed_set (leaf (tag 0x0009 0x0010) LO (codes "AB") no_tree) (tag 0x0009 0x0010))
+    ≡ closed_set (leaf (tag 0x0009 0x0010) LO (codes "B") no_tree) (tag 0x0009 0x0010)
+private_at_once = refl
+
+-- an item is erased
+erased_item : after (on_path (erase_item (tag 0x0008 0x1140) (number 0)) ∷ []) images_set ≡ 0x08 ∷ 0x00 ∷ 0x40 ∷ 0x11 ∷ 0x53 ∷ 0x51 ∷ 0x00 ∷ 0x00 ∷ 0xFF ∷ 0xFF ∷ 0xFF ∷ 0xFF ∷ 0xFE ∷ 0xFF ∷ 0xDD ∷ 0xE0 ∷ 0x00 ∷ 0x00 ∷ 0x00 ∷ 0x00 ∷ []
+unfolding all
+erased_item = refl
+
+erased_item_at_once : at_once (on_path (erase_item (tag 0x0008 0x1140) (number 0)) ∷ []) images_set ≡ 0x08 ∷ 0x00 ∷ 0x40 ∷ 0x11 ∷ 0x53 ∷ 0x51 ∷ 0x00 ∷ 0x00 ∷ 0xFF ∷ 0xFF ∷ 0xFF ∷ 0xFF ∷ 0xFE ∷ 0xFF ∷ 0xDD ∷ 0xE0 ∷ 0x00 ∷ 0x00 ∷ 0x00 ∷ 0x00 ∷ []
+unfolding all
+erased_item_at_once = refl
+
+-- an element is replaced at all depths
+replaced_everywhere : after (modify_all (tag 0x0008 0x1155) UI (codes "1.3") ∷ []) images_set ≡ 0x08 ∷ 0x00 ∷ 0x40 ∷ 0x11 ∷ 0x53 ∷ 0x51 ∷ 0x00 ∷ 0x00 ∷ 0xFF ∷ 0xFF ∷ 0xFF ∷ 0xFF ∷ 0xFE ∷ 0xFF ∷ 0x00 ∷ 0xE0 ∷ 0xFF ∷ 0xFF ∷ 0xFF ∷ 0xFF ∷ 0x08 ∷ 0x00 ∷ 0x55 ∷ 0x11 ∷ 0x55 ∷ 0x49 ∷ 0x04 ∷ 0x00 ∷ 0x31 ∷ 0x2E ∷ 0x33 ∷ 0x00 ∷ 0xFE ∷ 0xFF ∷ 0x0D ∷ 0xE0 ∷ 0x00 ∷ 0x00 ∷ 0x00 ∷ 0x00 ∷ 0xFE ∷ 0xFF ∷ 0xDD ∷ 0xE0 ∷ 0x00 ∷ 0x00 ∷ 0x00 ∷ 0x00 ∷ []
+unfolding all
+replaced_everywhere = refl
+
+replaced_everywhere_at_once : at_once (modify_all (tag 0x0008 0x1155) UI (codes "1.3") ∷ []) images_set ≡ 0x08 ∷ 0x00 ∷ 0x40 ∷ 0x11 ∷ 0x53 ∷ 0x51 ∷ 0x00 ∷ 0x00 ∷ 0xFF ∷ 0xFF ∷ 0xFF ∷ 0xFF ∷ 0xFE ∷ 0xFF ∷ 0x00 ∷ 0xE0 ∷ 0xFF ∷ 0xFF ∷ 0xFF ∷ 0xFF ∷ 0x08 ∷ 0x00 ∷ 0x55 ∷ 0x11 ∷ 0x55 ∷ 0x49 ∷ 0x04 ∷ 0x00 ∷ 0x31 ∷ 0x2E ∷ 0x33 ∷ 0x00 ∷ 0xFE ∷ 0xFF ∷ 0x0D ∷ 0xE0 ∷ 0x00 ∷ 0x00 ∷ 0x00 ∷ 0x00 ∷ 0xFE ∷ 0xFF ∷ 0xDD ∷ 0xE0 ∷ 0x00 ∷ 0x00 ∷ 0x00 ∷ 0x00 ∷ []
+unfolding all
+replaced_everywhere_at_once = refl
+
+-- the elements of odd groups are erased
+erased_private : after (erase_private ∷ []) private_set ≡ 0x10 ∷ 0x00 ∷ 0x10 ∷ 0x00 ∷ 0x50 ∷ 0x4E ∷ 0x02 ∷ 0x00 ∷ 0x41 ∷ 0x20 ∷ []
+unfolding all
+erased_private = refl
+
+erased_private_at_once : at_once (erase_private ∷ []) private_set ≡ 0x10 ∷ 0x00 ∷ 0x10 ∷ 0x00 ∷ 0x50 ∷ 0x4E ∷ 0x02 ∷ 0x00 ∷ 0x41 ∷ 0x20 ∷ []
+unfolding all
+erased_private_at_once = refl
+
+-- a missing sequence is made
+made_sequence : after (put_instance ∷ []) name_set ≡ 0x08 ∷ 0x00 ∷ 0x40 ∷ 0x11 ∷ 0x53 ∷ 0x51 ∷ 0x00 ∷ 0x00 ∷ 0xFF ∷ 0xFF ∷ 0xFF ∷ 0xFF ∷ 0xFE ∷ 0xFF ∷ 0x00 ∷ 0xE0 ∷ 0xFF ∷ 0xFF ∷ 0xFF ∷ 0xFF ∷ 0x08 ∷ 0x00 ∷ 0x55 ∷ 0x11 ∷ 0x55 ∷ 0x49 ∷ 0x04 ∷ 0x00 ∷ 0x31 ∷ 0x2E ∷ 0x32 ∷ 0x00 ∷ 0xFE ∷ 0xFF ∷ 0x0D ∷ 0xE0 ∷ 0x00 ∷ 0x00 ∷ 0x00 ∷ 0x00 ∷ 0xFE ∷ 0xFF ∷ 0xDD ∷ 0xE0 ∷ 0x00 ∷ 0x00 ∷ 0x00 ∷ 0x00 ∷ 0x10 ∷ 0x00 ∷ 0x10 ∷ 0x00 ∷ 0x50 ∷ 0x4E ∷ 0x06 ∷ 0x00 ∷ 0x41 ∷ 0x42 ∷ 0x5E ∷ 0x43 ∷ 0x44 ∷ 0x20 ∷ []
+unfolding all
+made_sequence = refl
+
+made_sequence_at_once : at_once (put_instance ∷ []) name_set ≡ 0x08 ∷ 0x00 ∷ 0x40 ∷ 0x11 ∷ 0x53 ∷ 0x51 ∷ 0x00 ∷ 0x00 ∷ 0xFF ∷ 0xFF ∷ 0xFF ∷ 0xFF ∷ 0xFE ∷ 0xFF ∷ 0x00 ∷ 0xE0 ∷ 0xFF ∷ 0xFF ∷ 0xFF ∷ 0xFF ∷ 0x08 ∷ 0x00 ∷ 0x55 ∷ 0x11 ∷ 0x55 ∷ 0x49 ∷ 0x04 ∷ 0x00 ∷ 0x31 ∷ 0x2E ∷ 0x32 ∷ 0x00 ∷ 0xFE ∷ 0xFF ∷ 0x0D ∷ 0xE0 ∷ 0x00 ∷ 0x00 ∷ 0x00 ∷ 0x00 ∷ 0xFE ∷ 0xFF ∷ 0xDD ∷ 0xE0 ∷ 0x00 ∷ 0x00 ∷ 0x00 ∷ 0x00 ∷ 0x10 ∷ 0x00 ∷ 0x10 ∷ 0x00 ∷ 0x50 ∷ 0x4E ∷ 0x06 ∷ 0x00 ∷ 0x41 ∷ 0x42 ∷ 0x5E ∷ 0x43 ∷ 0x44 ∷ 0x20 ∷ []
+unfolding all
+made_sequence_at_once = refl
+
+-- and a second edit through it finds it
+made_once : after (put_instance ∷ put_class ∷ []) name_set ≡ 0x08 ∷ 0x00 ∷ 0x40 ∷ 0x11 ∷ 0x53 ∷ 0x51 ∷ 0x00 ∷ 0x00 ∷ 0xFF ∷ 0xFF ∷ 0xFF ∷ 0xFF ∷ 0xFE ∷ 0xFF ∷ 0x00 ∷ 0xE0 ∷ 0xFF ∷ 0xFF ∷ 0xFF ∷ 0xFF ∷ 0x08 ∷ 0x00 ∷ 0x50 ∷ 0x11 ∷ 0x55 ∷ 0x49 ∷ 0x04 ∷ 0x00 ∷ 0x31 ∷ 0x2E ∷ 0x33 ∷ 0x00 ∷ 0x08 ∷ 0x00 ∷ 0x55 ∷ 0x11 ∷ 0x55 ∷ 0x49 ∷ 0x04 ∷ 0x00 ∷ 0x31 ∷ 0x2E ∷ 0x32 ∷ 0x00 ∷ 0xFE ∷ 0xFF ∷ 0x0D ∷ 0xE0 ∷ 0x00 ∷ 0x00 ∷ 0x00 ∷ 0x00 ∷ 0xFE ∷ 0xFF ∷ 0xDD ∷ 0xE0 ∷ 0x00 ∷ 0x00 ∷ 0x00 ∷ 0x00 ∷ 0x10 ∷ 0x00 ∷ 0x10 ∷ 0x00 ∷ 0x50 ∷ 0x4E ∷ 0x06 ∷ 0x00 ∷ 0x41 ∷ 0x42 ∷ 0x5E ∷ 0x43 ∷ 0x44 ∷ 0x20 ∷ []
+unfolding all
+made_once = refl
+
+made_once_at_once : at_once (put_instance ∷ put_class ∷ []) name_set ≡ 0x08 ∷ 0x00 ∷ 0x40 ∷ 0x11 ∷ 0x53 ∷ 0x51 ∷ 0x00 ∷ 0x00 ∷ 0xFF ∷ 0xFF ∷ 0xFF ∷ 0xFF ∷ 0xFE ∷ 0xFF ∷ 0x00 ∷ 0xE0 ∷ 0xFF ∷ 0xFF ∷ 0xFF ∷ 0xFF ∷ 0x08 ∷ 0x00 ∷ 0x50 ∷ 0x11 ∷ 0x55 ∷ 0x49 ∷ 0x04 ∷ 0x00 ∷ 0x31 ∷ 0x2E ∷ 0x33 ∷ 0x00 ∷ 0x08 ∷ 0x00 ∷ 0x55 ∷ 0x11 ∷ 0x55 ∷ 0x49 ∷ 0x04 ∷ 0x00 ∷ 0x31 ∷ 0x2E ∷ 0x32 ∷ 0x00 ∷ 0xFE ∷ 0xFF ∷ 0x0D ∷ 0xE0 ∷ 0x00 ∷ 0x00 ∷ 0x00 ∷ 0x00 ∷ 0xFE ∷ 0xFF ∷ 0xDD ∷ 0xE0 ∷ 0x00 ∷ 0x00 ∷ 0x00 ∷ 0x00 ∷ 0x10 ∷ 0x00 ∷ 0x10 ∷ 0x00 ∷ 0x50 ∷ 0x4E ∷ 0x06 ∷ 0x00 ∷ 0x41 ∷ 0x42 ∷ 0x5E ∷ 0x43 ∷ 0x44 ∷ 0x20 ∷ []
+unfolding all
+made_once_at_once = refl
+
+made_found : found put_instance name_set ≡ true
+unfolding all
+made_found = refl
+
+second_found : found put_class name_set ≡ true
+unfolding all
+second_found = refl
+
+-- nothing is made for another index
+not_made_second_item : after (on_path (step (tag 0x0008 0x1140) (number 1) (insert (tag 0x0008 0x1155) UI (codes "1.2"))) ∷ []) name_set ≡ 0x10 ∷ 0x00 ∷ 0x10 ∷ 0x00 ∷ 0x50 ∷ 0x4E ∷ 0x06 ∷ 0x00 ∷ 0x41 ∷ 0x42 ∷ 0x5E ∷ 0x43 ∷ 0x44 ∷ 0x20 ∷ []
+unfolding all
+not_made_second_item = refl
+
+not_found_second_item : found (on_path (step (tag 0x0008 0x1140) (number 1) (insert (tag 0x0008 0x1155) UI (codes "1.2")))) name_set ≡ false
+unfolding all
+not_found_second_item = refl
+
+not_made_every_item : after (on_path (step (tag 0x0008 0x1140) every (insert (tag 0x0008 0x1155) UI (codes "1.2"))) ∷ []) name_set ≡ 0x10 ∷ 0x00 ∷ 0x10 ∷ 0x00 ∷ 0x50 ∷ 0x4E ∷ 0x06 ∷ 0x00 ∷ 0x41 ∷ 0x42 ∷ 0x5E ∷ 0x43 ∷ 0x44 ∷ 0x20 ∷ []
+unfolding all
+not_made_every_item = refl
+
+not_found_every_item : found (on_path (step (tag 0x0008 0x1140) every (insert (tag 0x0008 0x1155) UI (codes "1.2")))) name_set ≡ false
+unfolding all
+not_found_every_item = refl
+
+not_made_deeper : after (on_path (step (tag 0x0008 0x1140) (number 0) (step (tag 0x0040 0xA043) (number 1) (insert (tag 0x0008 0x0100) SH (codes "A")))) ∷ []) name_set ≡ 0x10 ∷ 0x00 ∷ 0x10 ∷ 0x00 ∷ 0x50 ∷ 0x4E ∷ 0x06 ∷ 0x00 ∷ 0x41 ∷ 0x42 ∷ 0x5E ∷ 0x43 ∷ 0x44 ∷ 0x20 ∷ []
+unfolding all
+not_made_deeper = refl
+
+not_found_deeper : found (on_path (step (tag 0x0008 0x1140) (number 0) (step (tag 0x0040 0xA043) (number 1) (insert (tag 0x0008 0x0100) SH (codes "A"))))) name_set ≡ false
+unfolding all
+not_found_deeper = refl
+
+-- a sequence without items is not missing
+not_made_where_it_is : after (put_instance ∷ []) empty_set ≡ 0x08 ∷ 0x00 ∷ 0x40 ∷ 0x11 ∷ 0x53 ∷ 0x51 ∷ 0x00 ∷ 0x00 ∷ 0xFF ∷ 0xFF ∷ 0xFF ∷ 0xFF ∷ 0xFE ∷ 0xFF ∷ 0xDD ∷ 0xE0 ∷ 0x00 ∷ 0x00 ∷ 0x00 ∷ 0x00 ∷ []
+unfolding all
+not_made_where_it_is = refl
+
+not_found_where_it_is : found put_instance empty_set ≡ false
+unfolding all
+not_found_where_it_is = refl
+
+-- what is not there is not replaced
+missing_stays : after (on_path (modify (tag 0x0010 0x0020) LO (codes "7")) ∷ []) name_set ≡ 0x10 ∷ 0x00 ∷ 0x10 ∷ 0x00 ∷ 0x50 ∷ 0x4E ∷ 0x06 ∷ 0x00 ∷ 0x41 ∷ 0x42 ∷ 0x5E ∷ 0x43 ∷ 0x44 ∷ 0x20 ∷ []
+unfolding all
+missing_stays = refl
+
+missing_stays_at_once : at_once (on_path (modify (tag 0x0010 0x0020) LO (codes "7")) ∷ []) name_set ≡ 0x10 ∷ 0x00 ∷ 0x10 ∷ 0x00 ∷ 0x50 ∷ 0x4E ∷ 0x06 ∷ 0x00 ∷ 0x41 ∷ 0x42 ∷ 0x5E ∷ 0x43 ∷ 0x44 ∷ 0x20 ∷ []
+unfolding all
+missing_stays_at_once = refl
+
+missing_not_found : found (on_path (modify (tag 0x0010 0x0020) LO (codes "7"))) name_set ≡ false
+unfolding all
+missing_not_found = refl
+
+-- a new element at the end of a closed data set
+put_and_replaced : after (on_path (insert (tag 0x0010 0x0020) LO (codes "7")) ∷ on_path (modify (tag 0x0010 0x0010) PN (codes "Q")) ∷ []) name_set ≡ 0x10 ∷ 0x00 ∷ 0x10 ∷ 0x00 ∷ 0x50 ∷ 0x4E ∷ 0x02 ∷ 0x00 ∷ 0x51 ∷ 0x20 ∷ 0x10 ∷ 0x00 ∷ 0x20 ∷ 0x00 ∷ 0x4C ∷ 0x4F ∷ 0x02 ∷ 0x00 ∷ 0x37 ∷ 0x20 ∷ []
+unfolding all
+put_and_replaced = refl
+
+put_and_replaced_at_once : at_once (on_path (insert (tag 0x0010 0x0020) LO (codes "7")) ∷ on_path (modify (tag 0x0010 0x0010) PN (codes "Q")) ∷ []) name_set ≡ 0x10 ∷ 0x00 ∷ 0x10 ∷ 0x00 ∷ 0x50 ∷ 0x4E ∷ 0x02 ∷ 0x00 ∷ 0x51 ∷ 0x20 ∷ 0x10 ∷ 0x00 ∷ 0x20 ∷ 0x00 ∷ 0x4C ∷ 0x4F ∷ 0x02 ∷ 0x00 ∷ 0x37 ∷ 0x20 ∷ []
+unfolding all
+put_and_replaced_at_once = refl
+
+-- a new element before one that stands open
+put_before_open : after (on_path (erase (tag 0x0008 0x0020)) ∷ on_path (insert (tag 0x0008 0x0050) SH (codes "X")) ∷ []) cut_set ≡ 0x08 ∷ 0x00 ∷ 0x50 ∷ 0x00 ∷ 0x53 ∷ 0x48 ∷ 0x02 ∷ 0x00 ∷ 0x58 ∷ 0x20 ∷ 0x08 ∷ 0x00 ∷ 0x60 ∷ 0x00 ∷ 0x43 ∷ 0x53 ∷ 0x02 ∷ 0x00 ∷ 0x43 ∷ []
+unfolding all
+put_before_open = refl
+
+put_before_open_at_once : at_once (on_path (erase (tag 0x0008 0x0020)) ∷ on_path (insert (tag 0x0008 0x0050) SH (codes "X")) ∷ []) cut_set ≡ 0x08 ∷ 0x00 ∷ 0x50 ∷ 0x00 ∷ 0x53 ∷ 0x48 ∷ 0x02 ∷ 0x00 ∷ 0x58 ∷ 0x20 ∷ 0x08 ∷ 0x00 ∷ 0x60 ∷ 0x00 ∷ 0x43 ∷ 0x53 ∷ 0x02 ∷ 0x00 ∷ 0x43 ∷ []
+unfolding all
+put_before_open_at_once = refl
+
+-- new elements stand in the order of their tags, in whatever order the words come
+put_in_tag_order : after (on_path (insert (tag 0x0010 0x0020) LO (codes "1")) ∷ on_path (insert (tag 0x0010 0x0010) PN (codes "Q")) ∷ []) (closed_set id_leaf (tag 0x0020 0x0010)) ≡ 0x10 ∷ 0x00 ∷ 0x10 ∷ 0x00 ∷ 0x50 ∷ 0x4E ∷ 0x02 ∷ 0x00 ∷ 0x51 ∷ 0x20 ∷ 0x10 ∷ 0x00 ∷ 0x20 ∷ 0x00 ∷ 0x4C ∷ 0x4F ∷ 0x02 ∷ 0x00 ∷ 0x31 ∷ 0x20 ∷ 0x20 ∷ 0x00 ∷ 0x10 ∷ 0x00 ∷ 0x53 ∷ 0x48 ∷ 0x02 ∷ 0x00 ∷ 0x31 ∷ 0x20 ∷ []
+unfolding all
+put_in_tag_order = refl
+
+put_in_tag_order_at_once : at_once (on_path (insert (tag 0x0010 0x0020) LO (codes "1")) ∷ on_path (insert (tag 0x0010 0x0010) PN (codes "Q")) ∷ []) (closed_set id_leaf (tag 0x0020 0x0010)) ≡ 0x10 ∷ 0x00 ∷ 0x10 ∷ 0x00 ∷ 0x50 ∷ 0x4E ∷ 0x02 ∷ 0x00 ∷ 0x51 ∷ 0x20 ∷ 0x10 ∷ 0x00 ∷ 0x20 ∷ 0x00 ∷ 0x4C ∷ 0x4F ∷ 0x02 ∷ 0x00 ∷ 0x31 ∷ 0x20 ∷ 0x20 ∷ 0x00 ∷ 0x10 ∷ 0x00 ∷ 0x53 ∷ 0x48 ∷ 0x02 ∷ 0x00 ∷ 0x31 ∷ 0x20 ∷ []
+unfolding all
+put_in_tag_order_at_once = refl
+
+put_before_cut : after (on_path (insert (tag 0x0010 0x0020) LO (codes "1")) ∷ on_path (insert (tag 0x0010 0x0010) PN (codes "Q")) ∷ []) cut_id ≡ 0x10 ∷ 0x00 ∷ 0x10 ∷ 0x00 ∷ 0x50 ∷ 0x4E ∷ 0x02 ∷ 0x00 ∷ 0x51 ∷ 0x20 ∷ 0x10 ∷ 0x00 ∷ 0x20 ∷ 0x00 ∷ 0x4C ∷ 0x4F ∷ 0x02 ∷ 0x00 ∷ 0x31 ∷ 0x20 ∷ 0x20 ∷ 0x00 ∷ 0x10 ∷ 0x00 ∷ 0x53 ∷ 0x48 ∷ 0x02 ∷ 0x00 ∷ 0x31 ∷ []
+unfolding all
+put_before_cut = refl
+
+put_before_cut_at_once : at_once (on_path (insert (tag 0x0010 0x0020) LO (codes "1")) ∷ on_path (insert (tag 0x0010 0x0010) PN (codes "Q")) ∷ []) cut_id ≡ 0x10 ∷ 0x00 ∷ 0x10 ∷ 0x00 ∷ 0x50 ∷ 0x4E ∷ 0x02 ∷ 0x00 ∷ 0x51 ∷ 0x20 ∷ 0x10 ∷ 0x00 ∷ 0x20 ∷ 0x00 ∷ 0x4C ∷ 0x4F ∷ 0x02 ∷ 0x00 ∷ 0x31 ∷ 0x20 ∷ 0x20 ∷ 0x00 ∷ 0x10 ∷ 0x00 ∷ 0x53 ∷ 0x48 ∷ 0x02 ∷ 0x00 ∷ 0x31 ∷ []
+unfolding all
+put_before_cut_at_once = refl
+
+-- the reached tag stays where its element is erased
+put_before_erased : after (on_path (erase (tag 0x0020 0x0010)) ∷ on_path (insert (tag 0x0010 0x0010) PN (codes "Q")) ∷ []) cut_id ≡ 0x10 ∷ 0x00 ∷ 0x10 ∷ 0x00 ∷ 0x50 ∷ 0x4E ∷ 0x02 ∷ 0x00 ∷ 0x51 ∷ 0x20 ∷ []
+unfolding all
+put_before_erased = refl
+
+put_before_erased_at_once : at_once (on_path (erase (tag 0x0020 0x0010)) ∷ on_path (insert (tag 0x0010 0x0010) PN (codes "Q")) ∷ []) cut_id ≡ 0x10 ∷ 0x00 ∷ 0x10 ∷ 0x00 ∷ 0x50 ∷ 0x4E ∷ 0x02 ∷ 0x00 ∷ 0x51 ∷ 0x20 ∷ []
+unfolding all
+put_before_erased_at_once = refl
+
+-- and no new element is put before its place is reached
+not_put_yet : after (on_path (insert (tag 0x0020 0x0010) SH (codes "1")) ∷ []) cut_set ≡ 0x08 ∷ 0x00 ∷ 0x20 ∷ 0x00 ∷ 0x44 ∷ 0x41 ∷ 0x08 ∷ 0x00 ∷ 0x32 ∷ 0x30 ∷ 0x32 ∷ 0x34 ∷ 0x30 ∷ 0x31 ∷ 0x30 ∷ 0x32 ∷ 0x08 ∷ 0x00 ∷ 0x60 ∷ 0x00 ∷ 0x43 ∷ 0x53 ∷ 0x02 ∷ 0x00 ∷ 0x43 ∷ []
+unfolding all
+not_put_yet = refl

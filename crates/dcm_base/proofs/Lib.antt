@@ -26,6 +26,8 @@ pub mod OverlapLemmas
 pub mod OneByOne
 pub mod OneByOneFront
 pub mod EditRows
+pub mod OverlapRows
+pub mod ValueRows
 pub mod ReadValueLemmas
 pub mod EditWordLemmas
 pub mod LineRows
