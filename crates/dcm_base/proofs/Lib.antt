@@ -30,7 +30,9 @@ pub mod OverlapRows
 pub mod ValueRows
 pub mod ReadValueLemmas
 pub mod EditWordLemmas
+pub mod MeaningRows
 pub mod LineRows
+pub mod WordRows
 pub mod Puts
 pub mod Runs
 pub mod PartsOut

@@ -1,0 +1,346 @@
+-- Worked rows: the words of a command line.
+use Rattle.std.proofs.Common.{◌≡◌, ℕ, List, [], ◌∷◌, ◌++◌, length, flat_map, replicate, Some, None, Result, Ok, Err, refl}
+use Rattle.std.specs.Prelude.{codes}
+use Rattle.dcm_base.specs.declared.tag.Tag.{Tag}
+use Rattle.dcm_base.specs.declared.vr.Vr.TheVariants.{UI, PN, LO, US}
+use Rattle.dcm_base.specs.declared.mode.Mode.TheVariants.{Short, Full}
+use Rattle.dcm_base.specs.declared.syntax.Syntax.TheVariants.{Implicit, Little, Big}
+use Rattle.dcm_base.specs.declared.fault.EditRefusal.TheVariants.{BadOption, UnknownTag, ValueDoesNotFit, SequenceMisused, MetaGroup, Overlap, TooMany}
+use Rattle.dcm_base.specs.declared.fault.WordFault.TheVariants.{UnknownTool, UnknownOption, BadOptionValue, WrongPaths, OptionsApart, SamePath}
+use Rattle.dcm_base.specs.declared.words.Usage.{Usage}
+use Rattle.dcm_base.specs.declared.words.Usage.TheVariants.{AtWord, Whole, InEdit}
+use Rattle.dcm_base.specs.Dictionary.{element, elements, tag_of}
+use Rattle.dcm_base.specs.Edit.{Edit, number, every, step, insert, modify, erase, erase_item, on_path, modify_all, erase_private}
+use Rattle.dcm_base.specs.EditWords.{meant_edits, in_edit, InEdit as EditFault}
+use Rattle.dcm_base.specs.Words.{meant, Plan, Job, dump, convert, build, modify as modifies}
+
+-- all that a row computes with
+unfoldable all : ℕ
+unfolding meant element elements tag_of
+all = 0
+
+abbrev tag : ℕ → ℕ → Tag
+tag g e = record { group = g; element = e }
+
+abbrev planned : List ℕ → List ℕ → Job → Result Plan Usage
+planned input output job = Ok (record { input = input; output = output; job = job })
+
+abbrev length_of : Result (List Edit) EditFault → Result ℕ EditFault
+length_of (Ok es) = Ok (length es)
+length_of (Err f) = Err f
+
+-- the tool
+no_words : meant ([]) ≡ Err (AtWord UnknownTool 1)
+unfolding all
+no_words = refl
+
+no_such_tool : meant (codes "dcmsort" ∷ codes "a" ∷ []) ≡ Err (AtWord UnknownTool 1)
+unfolding all
+no_such_tool = refl
+
+-- dcmdump
+plain_dump : meant (codes "dcmdump" ∷ codes "-" ∷ []) ≡ planned (codes "-") (codes "-") (dump Short None)
+unfolding all
+plain_dump = refl
+
+dump_full : meant (codes "dcmdump" ∷ codes "+L" ∷ codes "in" ∷ []) ≡ planned (codes "in") (codes "-") (dump Full None)
+unfolding all
+dump_full = refl
+
+last_mode_counts : meant (codes "dcmdump" ∷ codes "+L" ∷ codes "-L" ∷ codes "in" ∷ []) ≡ planned (codes "in") (codes "-") (dump Short None)
+unfolding all
+last_mode_counts = refl
+
+dump_of_set : meant (codes "dcmdump" ∷ codes "-f" ∷ codes "-te" ∷ codes "-" ∷ []) ≡ planned (codes "-") (codes "-") (dump Short (Some Little))
+unfolding all
+dump_of_set = refl
+
+set_without_syntax : meant (codes "dcmdump" ∷ codes "-f" ∷ codes "in" ∷ []) ≡ Err (Whole OptionsApart)
+unfolding all
+set_without_syntax = refl
+
+file_with_syntax : meant (codes "dcmdump" ∷ codes "-f" ∷ codes "-te" ∷ codes "+fo" ∷ codes "in" ∷ []) ≡ Err (Whole OptionsApart)
+unfolding all
+file_with_syntax = refl
+
+set_at_last : meant (codes "dcmdump" ∷ codes "+fo" ∷ codes "-ti" ∷ codes "-f" ∷ codes "in" ∷ []) ≡ planned (codes "in") (codes "-") (dump Short (Some Implicit))
+unfolding all
+set_at_last = refl
+
+unknown_option : meant (codes "dcmdump" ∷ codes "in" ∷ codes "-x" ∷ []) ≡ Err (AtWord UnknownOption 3)
+unfolding all
+unknown_option = refl
+
+option_of_another_tool : meant (codes "dcmdump" ∷ codes "+te" ∷ codes "in" ∷ []) ≡ Err (AtWord UnknownOption 2)
+unfolding all
+option_of_another_tool = refl
+
+-- options are judged before paths
+option_before_paths : meant (codes "dcmdump" ∷ codes "-x" ∷ []) ≡ Err (AtWord UnknownOption 2)
+unfolding all
+option_before_paths = refl
+
+no_path : meant (codes "dcmdump" ∷ []) ≡ Err (Whole WrongPaths)
+unfolding all
+no_path = refl
+
+two_paths : meant (codes "dcmdump" ∷ codes "a" ∷ codes "b" ∷ []) ≡ Err (Whole WrongPaths)
+unfolding all
+two_paths = refl
+
+empty_path : meant (codes "dcmdump" ∷ codes "" ∷ []) ≡ Err (Whole WrongPaths)
+unfolding all
+empty_path = refl
+
+paths_before_options_apart : meant (codes "dcmdump" ∷ codes "-f" ∷ []) ≡ Err (Whole WrongPaths)
+unfolding all
+paths_before_options_apart = refl
+
+-- dcmconv
+plain_convert : meant (codes "dcmconv" ∷ codes "in" ∷ codes "out" ∷ []) ≡ planned (codes "in") (codes "out") (convert None)
+unfolding all
+plain_convert = refl
+
+convert_to_big : meant (codes "dcmconv" ∷ codes "+te" ∷ codes "in" ∷ codes "+tb" ∷ codes "-e" ∷ codes "out" ∷ []) ≡ planned (codes "in") (codes "out") (convert (Some Big))
+unfolding all
+convert_to_big = refl
+
+convert_to_same : meant (codes "dcmconv" ∷ codes "+te" ∷ codes "+t=" ∷ codes "in" ∷ codes "out" ∷ []) ≡ planned (codes "in") (codes "out") (convert None)
+unfolding all
+convert_to_same = refl
+
+same_path : meant (codes "dcmconv" ∷ codes "a" ∷ codes "a" ∷ []) ≡ Err (Whole SamePath)
+unfolding all
+same_path = refl
+
+standard_twice : meant (codes "dcmconv" ∷ codes "-" ∷ codes "-" ∷ []) ≡ planned (codes "-") (codes "-") (convert None)
+unfolding all
+standard_twice = refl
+
+one_path : meant (codes "dcmconv" ∷ codes "a" ∷ []) ≡ Err (Whole WrongPaths)
+unfolding all
+one_path = refl
+
+-- dump2dcm
+plain_build : meant (codes "dump2dcm" ∷ codes "-e" ∷ codes "in" ∷ codes "out" ∷ []) ≡ planned (codes "in") (codes "out") (build 4096)
+unfolding all
+plain_build = refl
+
+build_with_limit : meant (codes "dump2dcm" ∷ codes "+l" ∷ codes "0016384" ∷ codes "in" ∷ codes "out" ∷ []) ≡ planned (codes "in") (codes "out") (build 16384)
+unfolding all
+build_with_limit = refl
+
+last_limit_counts : meant (codes "dump2dcm" ∷ codes "+l" ∷ codes "80" ∷ codes "+l" ∷ codes "81" ∷ codes "in" ∷ codes "out" ∷ []) ≡ planned (codes "in") (codes "out") (build 81)
+unfolding all
+last_limit_counts = refl
+
+limit_too_small : meant (codes "dump2dcm" ∷ codes "+l" ∷ codes "79" ∷ codes "in" ∷ codes "out" ∷ []) ≡ Err (AtWord BadOptionValue 2)
+unfolding all
+limit_too_small = refl
+
+limit_too_great : meant (codes "dump2dcm" ∷ codes "+l" ∷ codes "16385" ∷ codes "in" ∷ codes "out" ∷ []) ≡ Err (AtWord BadOptionValue 2)
+unfolding all
+limit_too_great = refl
+
+-- a word for an option is taken whatever it is
+limit_is_option : meant (codes "dump2dcm" ∷ codes "in" ∷ codes "+l" ∷ codes "-e" ∷ []) ≡ Err (AtWord BadOptionValue 3)
+unfolding all
+limit_is_option = refl
+
+no_limit : meant (codes "dump2dcm" ∷ codes "in" ∷ codes "out" ∷ codes "+l" ∷ []) ≡ Err (AtWord BadOptionValue 4)
+unfolding all
+no_limit = refl
+
+empty_limit : meant (codes "dump2dcm" ∷ codes "+l" ∷ codes "" ∷ codes "in" ∷ codes "out" ∷ []) ≡ Err (AtWord BadOptionValue 2)
+unfolding all
+empty_limit = refl
+
+-- dcmodify
+no_edits : meant (codes "dcmodify" ∷ codes "in" ∷ codes "out" ∷ []) ≡ planned (codes "in") (codes "out") (modifies [])
+unfolding all
+no_edits = refl
+
+edits : meant (codes "dcmodify" ∷ codes "-i" ∷ codes "(0010,0020)=7" ∷ codes "-m" ∷ codes "PatientName=Q" ∷ codes "-" ∷ codes "out" ∷ []) ≡ planned (codes "-") (codes "out") (modifies (on_path (insert (tag 0x0010 0x0020) LO (codes "7")) ∷ on_path (modify (tag 0x0010 0x0010) PN (codes "Q")) ∷ []))
+unfolding all
+edits = refl
+
+one_word : meant (codes "dcmodify" ∷ codes "in" ∷ []) ≡ Err (Whole WrongPaths)
+unfolding all
+one_word = refl
+
+-- the last two words are paths, and judged first
+option_for_path : meant (codes "dcmodify" ∷ codes "-ep" ∷ codes "-e" ∷ codes "+x" ∷ []) ≡ Err (Whole WrongPaths)
+unfolding all
+option_for_path = refl
+
+edit_before_same_path : meant (codes "dcmodify" ∷ codes "-x" ∷ codes "a" ∷ codes "a" ∷ []) ≡ Err (InEdit BadOption 1)
+unfolding all
+edit_before_same_path = refl
+
+modify_same_path : meant (codes "dcmodify" ∷ codes "-ep" ∷ codes "a" ∷ codes "a" ∷ []) ≡ Err (Whole SamePath)
+unfolding all
+modify_same_path = refl
+
+edit_takes_any_word : meant (codes "dcmodify" ∷ codes "-e" ∷ codes "-i" ∷ codes "X=1" ∷ codes "in" ∷ codes "out" ∷ []) ≡ Err (InEdit UnknownTag 1)
+unfolding all
+edit_takes_any_word = refl
+
+-- edits
+item : meant_edits (codes "-e" ∷ codes "ReferencedImageSequence[0]" ∷ []) ≡ Ok (on_path (erase_item (tag 0x0008 0x1140) (number 0)) ∷ [])
+unfolding all
+item = refl
+
+all_elements : meant_edits (codes "-ma" ∷ codes "(0008,1155)=1.3" ∷ []) ≡ Ok (modify_all (tag 0x0008 0x1155) UI (codes "1.3") ∷ [])
+unfolding all
+all_elements = refl
+
+private_elements : meant_edits (codes "-ep" ∷ []) ≡ Ok (erase_private ∷ [])
+unfolding all
+private_elements = refl
+
+a_path : meant_edits (codes "-i" ∷ codes "ReferencedImageSequence[0].ReferencedSOPInstanceUID=1.2" ∷ []) ≡ Ok (on_path (step (tag 0x0008 0x1140) (number 0) (insert (tag 0x0008 0x1155) UI (codes "1.2"))) ∷ [])
+unfolding all
+a_path = refl
+
+a_star : meant_edits (codes "-e" ∷ codes "(0008,1140)[*].(0008,1150)" ∷ []) ≡ Ok (on_path (step (tag 0x0008 0x1140) every (erase (tag 0x0008 0x1150))) ∷ [])
+unfolding all
+a_star = refl
+
+-- without = the value is empty
+no_equals_sign : meant_edits (codes "-i" ∷ codes "PatientName" ∷ []) ≡ Ok (on_path (insert (tag 0x0010 0x0010) PN []) ∷ [])
+unfolding all
+no_equals_sign = refl
+
+second_equals_sign : meant_edits (codes "-m" ∷ codes "PatientID=a=b" ∷ []) ≡ Ok (on_path (modify (tag 0x0010 0x0020) LO (codes "a=b")) ∷ [])
+unfolding all
+second_equals_sign = refl
+
+no_value_word : meant_edits (codes "-i" ∷ codes "Rows=(no value available)" ∷ []) ≡ Ok (on_path (insert (tag 0x0028 0x0010) US []) ∷ [])
+unfolding all
+no_value_word = refl
+
+-- bad options and paths
+no_option : meant_edits (codes "PatientID=7" ∷ []) ≡ Err (in_edit BadOption 1)
+unfolding all
+no_option = refl
+
+no_word : meant_edits (codes "-ep" ∷ codes "-e" ∷ []) ≡ Err (in_edit BadOption 2)
+unfolding all
+no_word = refl
+
+empty_word : meant_edits (codes "-e" ∷ codes "" ∷ []) ≡ Err (in_edit BadOption 1)
+unfolding all
+empty_word = refl
+
+half_a_number : meant_edits (codes "-e" ∷ codes "(0010,001)" ∷ []) ≡ Err (in_edit BadOption 1)
+unfolding all
+half_a_number = refl
+
+value_behind_item : meant_edits (codes "-m" ∷ codes "PatientName[0]=A" ∷ []) ≡ Err (in_edit BadOption 1)
+unfolding all
+value_behind_item = refl
+
+index_behind_all : meant_edits (codes "-ea" ∷ codes "(0008,1140)[0]" ∷ []) ≡ Err (in_edit BadOption 1)
+unfolding all
+index_behind_all = refl
+
+path_behind_all : meant_edits (codes "-ma" ∷ codes "(0008,1140)[0].(0008,1155)=1" ∷ []) ≡ Err (in_edit BadOption 1)
+unfolding all
+path_behind_all = refl
+
+no_index : meant_edits (codes "-e" ∷ codes "ReferencedImageSequence.ReferencedSOPInstanceUID" ∷ []) ≡ Err (in_edit BadOption 1)
+unfolding all
+no_index = refl
+
+ten_digits : meant_edits (codes "-e" ∷ codes "ReferencedImageSequence[0000000000]" ∷ []) ≡ Err (in_edit BadOption 1)
+unfolding all
+ten_digits = refl
+
+bracket_in_keyword : meant_edits (codes "-e" ∷ codes "Rows]" ∷ []) ≡ Err (in_edit BadOption 1)
+unfolding all
+bracket_in_keyword = refl
+
+behind_the_bracket : meant_edits (codes "-e" ∷ codes "Rows[0]x" ∷ []) ≡ Err (in_edit BadOption 1)
+unfolding all
+behind_the_bracket = refl
+
+-- any other name has the form of a keyword
+other_keywords : meant_edits (codes "-e" ∷ codes "Foo-Bar" ∷ []) ≡ Err (in_edit UnknownTag 1)
+unfolding all
+other_keywords = refl
+
+keyword_with_equals_sign : meant_edits (codes "-e" ∷ codes "A=1" ∷ []) ≡ Err (in_edit UnknownTag 1)
+unfolding all
+keyword_with_equals_sign = refl
+
+outside_the_extract : meant_edits (codes "-m" ∷ codes "(0009,0010)=A" ∷ []) ≡ Err (in_edit UnknownTag 1)
+unfolding all
+outside_the_extract = refl
+
+group_length : meant_edits (codes "-e" ∷ codes "(0008,0000)" ∷ []) ≡ Err (in_edit UnknownTag 1)
+unfolding all
+group_length = refl
+
+no_keyword_of_item : meant_edits (codes "-e" ∷ codes "Item" ∷ []) ≡ Err (in_edit UnknownTag 1)
+unfolding all
+no_keyword_of_item = refl
+
+-- every tag is looked up before the use of sequences is judged
+tags_before_sequences : meant_edits (codes "-m" ∷ codes "Rows[0].Foo=1" ∷ []) ≡ Err (in_edit UnknownTag 1)
+unfolding all
+tags_before_sequences = refl
+
+meta_element : meant_edits (codes "-i" ∷ codes "(0002,0010)=1" ∷ []) ≡ Err (in_edit MetaGroup 1)
+unfolding all
+meta_element = refl
+
+meta_keyword : meant_edits (codes "-e" ∷ codes "TransferSyntaxUID" ∷ []) ≡ Err (in_edit MetaGroup 1)
+unfolding all
+meta_keyword = refl
+
+unknown_meta_element : meant_edits (codes "-e" ∷ codes "(0002,9999)" ∷ []) ≡ Err (in_edit MetaGroup 1)
+unfolding all
+unknown_meta_element = refl
+
+item_of_number : meant_edits (codes "-e" ∷ codes "Rows" ∷ codes "-e" ∷ codes "Rows[0]" ∷ []) ≡ Err (in_edit SequenceMisused 2)
+unfolding all
+item_of_number = refl
+
+value_of_sequence : meant_edits (codes "-ma" ∷ codes "ReferencedImageSequence=1" ∷ []) ≡ Err (in_edit SequenceMisused 1)
+unfolding all
+value_of_sequence = refl
+
+value_too_great : meant_edits (codes "-i" ∷ codes "Rows=70000" ∷ []) ≡ Err (in_edit ValueDoesNotFit 1)
+unfolding all
+value_too_great = refl
+
+-- overlaps are judged behind all others
+same_edit : meant_edits (codes "-m" ∷ codes "PatientID=7" ∷ codes "-m" ∷ codes "PatientID=7" ∷ []) ≡ Err (in_edit Overlap 2)
+unfolding all
+same_edit = refl
+
+two_items : meant_edits (codes "-e" ∷ codes "ReferencedImageSequence[0]" ∷ codes "-e" ∷ codes "ReferencedImageSequence[1]" ∷ []) ≡ Err (in_edit Overlap 2)
+unfolding all
+two_items = refl
+
+bad_before_overlap : meant_edits (codes "-e" ∷ codes "Rows" ∷ codes "-e" ∷ codes "Rows" ∷ codes "-x" ∷ []) ≡ Err (in_edit BadOption 3)
+unfolding all
+bad_before_overlap = refl
+
+-- 64 edits, and no more
+sixty_four_edits : meant_edits (replicate 64 (codes "-ep")) ≡ Ok (replicate 64 erase_private)
+unfolding all
+sixty_four_edits = refl
+
+too_many_edits : meant_edits (replicate 64 (codes "-ep") ++ codes "-x" ∷ []) ≡ Err (in_edit TooMany 65)
+unfolding all
+too_many_edits = refl
+
+-- 64 indexes, and no more
+sixty_four_indexes : length_of (meant_edits (codes "-e" ∷ (flat_map {X = ℕ} (λ n. codes "(0008,1140)[0].") (replicate 63 0) ++ codes "(0008,1140)[0]") ∷ [])) ≡ Ok 1
+unfolding all
+sixty_four_indexes = refl
+
+too_many_indexes : meant_edits (codes "-e" ∷ (flat_map {X = ℕ} (λ n. codes "(0008,1140)[0].") (replicate 64 0) ++ codes "(0008,1140)[0]") ∷ []) ≡ Err (in_edit BadOption 1)
+unfolding all
+too_many_indexes = refl
