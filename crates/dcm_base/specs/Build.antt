@@ -12,7 +12,7 @@ use Rattle.dcm_base.specs.declared.syntax.Syntax.TheVariants.{Little}
 use Rattle.dcm_base.specs.declared.fault.LineFault.{LineFault}
 use Rattle.dcm_base.specs.declared.fault.LineFault.TheVariants.{LineTooLong, NotALine, ValueDoesNotFit, NotAllowed, NotAscending, BadMetaGroup, NoTransferSyntax, TooDeep, EndsEarly, TooLong}
 use Rattle.dcm_base.specs.declared.length.Length.TheVariants.{Undefined}
-use Rattle.dcm_base.specs.Tag.{is_tag, is_above}
+use Rattle.dcm_base.specs.Tag.{is_above}
 use Rattle.dcm_base.specs.Tree.{Trees, no_tree, leaf, sequence, fragments, Items, no_item, item, then_trees, then_items}
 use Rattle.dcm_base.specs.Front.{Front, front, OpenTree, nothing_open, open_leaf, open_sequence, open_fragments, OpenItem, no_open_item, open_item}
 use Rattle.dcm_base.specs.Transfer.{without_pads, coding_of}
@@ -20,6 +20,8 @@ use Rattle.dcm_base.specs.Size.{trees_size}
 use Rattle.dcm_base.specs.Place.{Container, the_data_set, an_item, a_sequence, a_fragment_list, Level, levels, depth}
 use Rattle.dcm_base.specs.Bars.{innermost_reached}
 use Rattle.dcm_base.specs.Reads.{INPUT_LIMIT}
+use Rattle.dcm_base.specs.MetaGroup.{META_LIMIT}
+use Rattle.dcm_base.specs.MetaReads.{syntax_value}
 use Rattle.dcm_base.specs.Line.{Step, show_leaf, begin_sequence, begin_fragments, begin_item, show_fragment, end_item, end_sequence, Meaning, nothing, one, no_line, means}
 
 -- what the lines so far have shown: the meta group, whether it has ended, and the data set
@@ -35,17 +37,6 @@ abbrev pub nothing_built : Built
 nothing_built = record { meta = no_tree; meta_ended = false; set = no_elements }
 
 -- ---- the meta group (PS3.10 7.1)
-
--- the value of the first (0002,0010)
-abbrev pub syntax_value : Trees → List ℕ
-syntax_value no_tree = []
-syntax_value (leaf tag vr value rest) = if is_tag 2 0x10 tag then value else syntax_value rest
-syntax_value (sequence tag vr declared items rest) = syntax_value rest
-syntax_value (fragments tag vr values rest) = syntax_value rest
-
--- the bytes of a built meta group at most, heads and values without pad bytes
-abbrev pub BUILT_META_LIMIT : ℕ
-BUILT_META_LIMIT = 16384
 
 abbrev pub usable : List ℕ → Option Coding
 usable [] = None
@@ -191,8 +182,9 @@ abbrev pub with_meta : Step → Trees → Trees
 with_meta (show_leaf tag vr value) meta = then_trees meta (leaf tag vr (unwrap_or value []) no_tree)
 with_meta _ meta = meta
 
+-- heads and values of the group without pad bytes, its length and all transfer syntaxes among them
 abbrev pub is_meta_too_large : Step → Built → Bool
-is_meta_too_large s b = is_meta s && nat_lt BUILT_META_LIMIT (trees_size Little (with_meta s b.meta))
+is_meta_too_large s b = is_meta s && nat_lt META_LIMIT (trees_size Little (with_meta s b.meta))
 
 -- what the step adds, once no check refuses it
 abbrev pub accepted : Step → Built → Built

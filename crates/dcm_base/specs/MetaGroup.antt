@@ -2,7 +2,6 @@
 use Rattle.std.specs.Prelude.{◌≡◌, ◌≤◌, ◌+◌, ◌==◌, ℕ, Bool, true, false, not, nat_lt, List, [], ◌∷◌, ◌++◌, length, Option, Some, None, if◌then◌else◌}
 use Rattle.dcm_base.specs.declared.tag.Tag.{Tag}
 use Rattle.dcm_base.specs.declared.vr.Vr.{Vr}
-use Rattle.dcm_base.specs.declared.vr.Vr.TheVariants.{SQ}
 use Rattle.dcm_base.specs.declared.syntax.Syntax.TheVariants.{Little}
 use Rattle.dcm_base.specs.declared.fault.Fault.{Fault}
 use Rattle.dcm_base.specs.declared.fault.Fault.TheVariants.{BadMeta, MetaTooLarge}
@@ -12,6 +11,7 @@ use Rattle.dcm_base.specs.Tree.{Trees, no_tree, leaf, sequence, fragments}
 use Rattle.dcm_base.specs.Number.{number}
 use Rattle.dcm_base.specs.Head.{tag_at, vr_at, head_size, length_at}
 use Rattle.dcm_base.specs.Spelling.{Spells}
+pub use Rattle.dcm_base.specs.Representation.{is_sequence}
 
 -- the bytes of a meta group at most
 abbrev pub META_LIMIT : ℕ
@@ -24,10 +24,6 @@ pub data GroupPlace : Type 0 where
   the_end : GroupPlace
   too_few : GroupPlace
   a_fault : (fault : Fault) → GroupPlace
-
-abbrev pub is_sequence : Vr → Bool
-is_sequence SQ = true
-is_sequence _ = false
 
 -- at a whole head, where the group has so many bytes before it and so many bytes are left from it on
 abbrev pub group_place_of_head : (taken left : ℕ) → Tag → Vr → Length → GroupPlace
