@@ -74,7 +74,7 @@ Told s b (Done head n) = Begins s b head n
 Told s b (More n) = IsShort s b n
 Told s b BadVr = HasBadVr s b
 
-head_at : (x y : Bool) (s : Syntax) (t : Tag) (v : Vr) (l : Length) (b after : List ℕ) → is_item t ≡ x → is_delimiter t ≡ y
+pub head_at : (x y : Bool) (s : Syntax) (t : Tag) (v : Vr) (l : Length) (b after : List ℕ) → is_item t ≡ x → is_delimiter t ≡ y
     → MatchBool x ((v ≡ UN) × ItemHead s l b after) (MatchBool y ((v ≡ UN) × (l ≡ Known 0) × Delimiter s t b after) (PlainHead s t v l b after))
     → HeadAt s t v l b after
 head_at x y s t v l b after e f h =

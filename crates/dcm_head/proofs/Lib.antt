@@ -1,6 +1,7 @@
 pub mod Explicit
 pub mod HeadReads
 pub mod HeadLaws
+pub mod HeadsWritten
 pub mod Places
 pub mod Transfers
 pub mod Elements

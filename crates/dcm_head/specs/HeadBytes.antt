@@ -1,8 +1,12 @@
 -- The bytes that a head is written as (PS3.5 7.1.2, 7.1.3, 7.5).
-use Rattle.std.specs.Prelude.{ℕ, ◌<◌, Bool, ◌&&◌, ◌||◌, not, if◌then◌else◌, List}
+use Rattle.std.specs.Prelude.{◌≡◌, ℕ, ◌<◌, Bool, true, false, ◌&&◌, ◌||◌, not, if◌then◌else◌, List}
 use Rattle.dcm_base.specs.declared.syntax.Syntax.{Syntax}
 use Rattle.dcm_base.specs.declared.length.Length.{Length}
 use Rattle.dcm_base.specs.declared.length.Length.TheVariants.{Known, Undefined}
+use Rattle.std.specs.Bool.{MatchBool}
+use Rattle.dcm_base.specs.declared.vr.Vr.TheVariants.{UN}
+use Rattle.dcm_base.specs.Number.{IsTag}
+use Rattle.dcm_base.specs.Dictionary.{dict_vr}
 use Rattle.dcm_base.specs.Tag.{is_item}
 use Rattle.dcm_base.specs.Representation.{is_long}
 use Rattle.dcm_base.specs.Recode.{head, plain_head, is_explicit}
@@ -24,3 +28,22 @@ is_short_form s h = is_explicit s && not (is_item h.tag || (is_delimiter h.tag |
 abbrev pub FitsShort : Length → Type 0
 FitsShort (Known n) = n < 65536
 FitsShort Undefined = ⊥
+
+-- four bytes hold this length, and FFFFFFFF stands for the undefined one
+abbrev pub FitsLong : Length → Type 0
+FitsLong (Known n) = n < 0xFFFFFFFF
+FitsLong Undefined = Unit {0}
+
+-- the representation and the length are those that the head's bytes can tell
+abbrev pub IsTold : Syntax → Head → Type 0
+IsTold s h =
+    MatchBool (is_item h.tag) (h.vr ≡ UN)
+    (MatchBool (is_delimiter h.tag) ((h.vr ≡ UN) × (h.length ≡ Known 0))
+    (MatchBool (is_explicit s) (Unit {0}) (h.vr ≡ dict_vr h.tag)))
+
+-- a head that has a spelling
+pub record HasSpelling (s : Syntax) (h : Head) : Type 0 where
+  pub tag : IsTag h.tag
+  pub told : IsTold s h
+  pub short : is_short_form s h ≡ true → FitsShort h.length
+  pub long : is_short_form s h ≡ false → FitsLong h.length

@@ -1,0 +1,5 @@
+use Rattle.dcm_head.proofs.HeadsWritten.{head_spelled}
+use Rattle.dcm_head.proofs.laws.heads_written.Goals as goal
+
+pub returns : goal.returns
+returns c = head_spelled
