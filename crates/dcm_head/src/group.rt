@@ -18,13 +18,16 @@ pub enum Place {
     Bad(Fault),
 }
 
-/// The bytes of a group at most.
+/// The bytes of a meta group at most.
 pub const META_LIMIT: usize = 16_384;
 
+/// The group of the meta elements.
 const META_GROUP: u16 = 0x0002;
 
+/// The element of TransferSyntaxUID.
 const TRANSFER_SYNTAX: u16 = 0x0010;
 
+/// The bytes that spell a group's number.
 const GROUP_SIZE: usize = 2;
 
 /// Whether this is the element that names the transfer syntax, TransferSyntaxUID.

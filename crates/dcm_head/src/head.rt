@@ -17,33 +17,39 @@ pub struct Head {
     pub length: Length,
 }
 
-/// What stands at the front of bytes: a head and the bytes that it takes, too few bytes and how many are needed,
-/// or letters that are no capitals.
+/// What stands at the front of bytes.
 #[derive(Clone, Copy, Debug, PartialEq, Eq)]
 pub enum HeadRead {
+    /// A head, and the number of its bytes.
     Done(Head, usize),
+    /// A beginning of a head, which needs at least so many bytes.
     More(usize),
+    /// The head of an element whose representation is not two capital letters.
     BadVr,
 }
 
-/// The sizes of a head: with a length of two bytes or no representation, and with two reserved bytes and a length of four.
+/// The bytes of a head without a representation, or with a length of two bytes.
 pub const SHORT_HEAD: usize = 8;
 
+/// The bytes of a head with two reserved bytes and a length of four.
 pub const LONG_HEAD: usize = 12;
 
-/// How the undefined length is spelled.
+/// How the undefined length is spelled (PS3.5 7.1.1).
 pub const UNDEFINED: u32 = 0xFFFF_FFFF;
 
-/// The group of items and delimiters, and the elements of each (PS3.5 7.5).
+/// The group of items and delimiters (PS3.5 7.5).
 const ITEMS: u16 = 0xFFFE;
 
+/// The element of an item.
 const ITEM: u16 = 0xE000;
 
+/// The element of an item's delimiter.
 const ITEM_END: u16 = 0xE00D;
 
+/// The element of a sequence's delimiter.
 const SEQUENCE_END: u16 = 0xE0DD;
 
-/// The tag that the first four bytes spell.
+/// The tag that the first four bytes spell (PS3.5 7.1.1).
 pub fn read_tag(syntax: Syntax, bytes: &[u8]) -> Tag
     requires { 4 ≤ length bytes.now }
     ensures { result ≡ tag_at syntax bytes.now }
@@ -90,7 +96,7 @@ fn read_long(syntax: Syntax, bytes: &[u8]) -> Length
 fn is_capital(letter: u8) -> bool
     ensures { result ≡ is_capital_letter letter }
 {
-    65 <= letter && letter <= 90
+    b'A' <= letter && letter <= b'Z'
 }
 
 /// How two letters are read: capitals that name nothing are UN.
@@ -140,12 +146,14 @@ fn read_element(syntax: Syntax, bytes: &[u8]) -> HeadRead
     }
 }
 
+/// Whether an item begins with this tag.
 pub fn is_item(tag: Tag) -> bool
     ensures { result ≡ is_item_tag tag }
 {
     tag.group == ITEMS && tag.element == ITEM
 }
 
+/// Whether this tag is that of an item's or a sequence's delimiter.
 pub fn is_delimiter(tag: Tag) -> bool
     ensures { result ≡ spec.is_delimiter tag }
 {
@@ -166,7 +174,10 @@ fn without_vr(tag: Tag, length: Length) -> HeadRead
     )
 }
 
-/// The head that the bytes begin with (PS3.5 7.1.2, 7.1.3, 7.5).
+/// The head of an element, item or delimiter that the bytes begin with (PS3.5 7.1.2, 7.1.3, 7.5).
+///
+/// Two capitals that name no representation are UN, and a delimiter's length is 0 whatever its bytes. Under 8 bytes,
+/// and under 12 of a head that has so many, more are asked for.
 pub fn read_head(syntax: Syntax, bytes: &[u8]) -> HeadRead
     ensures { result ≡ spec.head_read syntax bytes.now }
 {

@@ -3,7 +3,7 @@ ghost use Rattle.std.specs.Prelude.{◌≡◌, ◌↔◌, ◌++◌, ℕ, List, I
 ghost use Rattle.dcm_base.specs.declared.syntax.Syntax.{Syntax};
 ghost use Rattle.dcm_head.specs.declared.head.Head.{Head};
 ghost use Rattle.dcm_head.specs.declared.head.HeadRead.TheVariants.{Done, More, BadVr};
-ghost use Rattle.dcm_base.specs.Head.{HeadSpells};
+ghost use Rattle.dcm_base.specs.Head.{HeadAt, HeadSpells};
 ghost use Rattle.dcm_head.specs.HeadBytes.{HasSpelling, head_bytes};
 ghost use Rattle.dcm_head.specs.HeadRead.{head_read, Begins, IsShort, HasBadVr};
 ghost use Rattle.dcm_base.specs.MetaReads.{MetaAnswer, MetaReads, is_undecided};
@@ -16,6 +16,11 @@ pub fn heads_read()
     ensures done { (s : Syntax) (bytes : List ℕ) (head : Head) (size : ℕ) → (head_read s bytes ≡ Done head size) ↔ Begins s bytes head size }
     ensures more { (s : Syntax) (bytes : List ℕ) (size : ℕ) → (head_read s bytes ≡ More size) ↔ IsShort s bytes size }
     ensures bad { (s : Syntax) (bytes : List ℕ) → (head_read s bytes ≡ BadVr) ↔ HasBadVr s bytes }
+{}
+
+/// Bytes begin with at most one head.
+pub fn one_head()
+    ensures { (s : Syntax) (bytes after others : List ℕ) (head other : Head) → HeadAt s head.tag head.vr head.length bytes after → HeadAt s other.tag other.vr other.length bytes others → (head ≡ other) × (after ≡ others) }
 {}
 
 /// The bytes that a head is written as spell it.

@@ -1,6 +1,7 @@
 //! Heads of elements, items and delimiters, and the head of a file.
 #![tactic(auto)]
 
+mod element;
 mod group;
 mod head;
 pub mod laws;
@@ -12,6 +13,7 @@ mod rewriting;
 mod tests;
 mod write;
 
+pub use element::{MetaElement, first_element};
 pub use head::{Head, HeadRead, read_head, read_tag};
 pub use meta::Meta;
 pub use meta_read::{MetaEnd, MetaRead};

@@ -13,9 +13,10 @@ use arrayvec::ArrayVec;
 use dcm_base::{Coding, DeviceOut, Fault, Stop, Tag, Watched, WriteFailed, coding_of};
 use std::marker::Model;
 
-/// The sizes of the preamble, and of preamble and prefix.
+/// The bytes of the preamble.
 const PREAMBLE: usize = 128;
 
+/// The bytes of preamble and prefix, behind which the group begins.
 const GROUP_AT: usize = 132;
 
 /// Preamble, prefix, a group, and the longest head behind it.

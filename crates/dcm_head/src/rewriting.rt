@@ -9,7 +9,8 @@ ghost use Rattle.dcm_base.specs.declared.length.Length.TheVariants.{Known};
 ghost use Rattle.dcm_base.specs.declared.syntax.Syntax.TheVariants.{Little};
 ghost use Rattle.dcm_head.specs.Rewriting as spec;
 
-use crate::group::{Place, names_syntax, place_of};
+use crate::element::{MetaElement, first_element};
+use crate::group::names_syntax;
 use crate::head::{Head, LONG_HEAD};
 use crate::write::explicit_head;
 use arrayvec::ArrayVec;
@@ -20,33 +21,6 @@ const GROUP_LENGTH: Tag = Tag {
     group: 0x0002,
     element: 0x0000,
 };
-
-/// An element at the front of bytes: its tag, representation and value, and the bytes behind it.
-#[derive(Clone, Copy)]
-struct First<'a> {
-    tag: Tag,
-    vr: Vr,
-    value: &'a [u8],
-    after: &'a [u8],
-}
-
-fn first_element<'a>(bytes: &'a [u8]) -> Option<First<'a>>
-    requires { length bytes.now ≤ 16384 }
-    ensures some { IfSome result (λ f. spec.FirstIs bytes.now f.tag f.vr f.value.now f.after.now) }
-    ensures none { IfNone result (spec.NoneIs bytes.now) }
-{
-    let Place::Element(tag, vr, head, size) = place_of(0, bytes) else {
-        return None;
-    };
-    let (own, after) = bytes.split_at(head + size);
-    let (_, value) = own.split_at(head);
-    Some(First {
-        tag,
-        vr,
-        value,
-        after,
-    })
-}
 
 /// The size of a value with its pad byte.
 fn even(size: usize) -> usize
@@ -93,7 +67,7 @@ fn put_leaf<W: DeviceOut>(
 
 /// The representation and value that stand in the new group for an element, if any do: the first that names a transfer
 /// syntax names this one.
-fn renewed<'a>(first: First<'a>, named: bool, uid: &'a [u8]) -> Option<(Vr, &'a [u8])>
+fn renewed<'a>(first: MetaElement<'a>, named: bool, uid: &'a [u8]) -> Option<(Vr, &'a [u8])>
     requires value { length first.value.now < 65535 }
     requires uid { length uid.now < 65535 }
     ensures some { IfSome result (λ r. recoded_leaf Little first.entry.tag r.0 r.1.now ≡ spec.written_element named uid.now first.entry.tag first.entry.vr first.entry.value.now) }
@@ -111,7 +85,7 @@ fn renewed<'a>(first: First<'a>, named: bool, uid: &'a [u8]) -> Option<(Vr, &'a 
 }
 
 /// The size of what stands for an element in the new group.
-fn element_size(first: First<'_>, named: bool, uid: &[u8]) -> usize
+fn element_size(first: MetaElement<'_>, named: bool, uid: &[u8]) -> usize
     requires value { length first.value.now < 65535 }
     requires uid { length uid.now < 65535 }
     ensures size { result ≡ length (spec.written_element named uid.now first.entry.tag first.entry.vr first.entry.value.now) }
@@ -125,7 +99,7 @@ fn element_size(first: First<'_>, named: bool, uid: &[u8]) -> usize
 
 fn put_element<W: DeviceOut>(
     out: &mut Watched<W>,
-    first: First<'_>,
+    first: MetaElement<'_>,
     named: bool,
     uid: &[u8],
 ) -> Result<(), WriteFailed>
