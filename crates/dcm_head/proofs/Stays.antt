@@ -1,7 +1,7 @@
 -- An end stays, and what was read stays in front.
-use Rattle.std.proofs.Common.{◌≡◌, ◌∙◌, ◌⊎◌, inl, inr, ◌-◌, ◌<◌, List, [], ◌∷◌, ◌++◌, length, take, ℕ, Bool, true, false, cond, nat_lt, nat_eq, Option, Some, None, refl, ap, sym, subst, drop, arith, append_assoc, length-append}
-use Rattle.std.proofs.lemmas.List.{take_at}
-use Rattle.std.specs.Prelude.{fold, is_some}
+use Rattle.std.proofs.Common.{◌≡◌, ◌∙◌, ◌⊎◌, inl, inr, ◌+◌, ◌-◌, ◌<◌, ◌≤◌, List, [], ◌∷◌, ◌++◌, length, take, ℕ, Bool, true, false, cond, nat_lt, nat_eq, Option, Some, None, refl, ap, sym, subst, drop, arith, append_assoc, length-append}
+use Rattle.std.proofs.lemmas.List.{take_at, drop_at, drop-drop, append-nil, length-take}
+use Rattle.std.specs.Prelude.{fold, is_some, option_to_list}
 use Rattle.dcm_base.specs.declared.syntax.Coding.{Coding}
 use Rattle.dcm_base.specs.MetaGroup.{GroupPlace}
 use Rattle.dcm_base.specs.MetaGroup.{an_element, the_end, too_few, a_fault}
@@ -10,7 +10,7 @@ use Rattle.dcm_head.specs.declared.meta_read.MetaEnd.TheVariants.{Ended}
 use Rattle.dcm_head.specs.declared.meta_read.MetaRead.{MetaRead}
 use Rattle.dcm_head.specs.declared.meta_read.MetaRead.TheVariants as reads
 use Rattle.dcm_base.specs.MetaGroup.{group_place}
-use Rattle.dcm_head.specs.MetaReading.{Reading, meta_step, step_from, reached, at_place, is_first_syntax, has_prefix, IsOpen, Answers, EndsIn, HasEnded}
+use Rattle.dcm_head.specs.MetaReading.{Reading, meta_step, step_from, reached, at_place, is_first_syntax, has_prefix, IsOpen, Answers, BeginsAt, EndsIn, HasEnded, UsesWithin}
 
 pub stays : (r : Reading) (end : MetaEnd) (bytes : List ℕ) → r.end ≡ Some end → fold meta_step r bytes ≡ r
 stays r end [] h = refl
@@ -77,3 +77,50 @@ answers before r coding (reads.Refused stop) h e = absurd e
 pub stays_some : (r : Reading) (end : Option MetaEnd) (bytes : List ℕ) → end ≡ r.end → is_some end ≡ true → fold meta_step r bytes ≡ r
 stays_some r (Some end) bytes h s = stays r end bytes (sym h)
 stays_some r None bytes h s = cc
+
+kept_by : (r : Reading) (end : Option MetaEnd) (byte : ℕ) (bytes : List ℕ) → r.end ≡ end → (fold meta_step r (byte ∷ bytes)).end ≡ None → (meta_step r byte).bytes ≡ r.bytes ++ byte ∷ []
+kept_by r (Some end) byte bytes e h = absurd (let no : Some end ≡ None = sym e ∙ sym (ap (λ (x : Reading). x.end) (stays r end (byte ∷ bytes) e)) ∙ h in cc)
+kept_by r None byte bytes e h = ap (λ (x : Option MetaEnd). (step_from r byte x).bytes) e ∙ reached_bytes (record r { bytes = r.bytes ++ byte ∷ [] })
+
+-- a reading that goes on has kept all bytes
+pub kept_all : (r : Reading) (bytes : List ℕ) → (fold meta_step r bytes).end ≡ None → (fold meta_step r bytes).bytes ≡ r.bytes ++ bytes
+kept_all r [] h = sym (append-nil r.bytes)
+kept_all r (byte ∷ bytes) h =
+    kept_all (meta_step r byte) bytes h ∙ ap (λ (x : List ℕ). x ++ bytes) (kept_by r r.end byte bytes refl h) ∙ append_assoc r.bytes (byte ∷ []) bytes
+
+-- the bytes of the data set are the byte ahead and those from the place in the piece
+pub data_set_there : (before piece : List ℕ) (place used : ℕ) (ahead : Option ℕ) → BeginsAt before place used ahead → drop place (before ++ piece) ≡ option_to_list ahead ++ drop used piece
+data_set_there before piece place used None h =
+    ap (λ (n : ℕ). drop n (before ++ piece)) (sym h) ∙ sym (drop-drop used (length before) (before ++ piece)) ∙ ap (drop used) (drop_at before piece (length before) refl)
+data_set_there before piece place used (Some byte) h =
+    let size = ap length h.1 ∙ length-append (take place before) (byte ∷ []) in
+    let front = length-take place before in
+    let place_is : place ≡ length (take place before) = omega arith in
+    ap (λ (x : List ℕ). drop place (x ++ piece)) h.1 ∙ ap (drop place) (append_assoc (take place before) (byte ∷ []) piece)
+    ∙ drop_at (take place before) (byte ∷ piece) place (sym place_is) ∙ ap (λ (n : ℕ). byte ∷ drop n piece) (sym h.0)
+
+step_most : (r : Reading) (byte : ℕ) → length (meta_step r byte).bytes ≤ length r.bytes + 1
+step_most r byte =
+    elim (step_keeps r byte r.end) [
+      | inl same ↦ let size = ap (λ (x : Reading). length x.bytes) same in omega arith
+      | inr more ↦ let size = ap length more ∙ length-append r.bytes (byte ∷ []) in omega arith
+    ]
+
+-- no more bytes are kept than came
+pub kept_most : (r : Reading) (bytes : List ℕ) → length (fold meta_step r bytes).bytes ≤ length r.bytes + length bytes
+kept_most r [] = omega arith
+kept_most r (byte ∷ bytes) =
+    let more = kept_most (meta_step r byte) bytes in
+    let one = step_most r byte in
+    omega arith
+
+uses_more : (m n : ℕ) (result : MetaRead) → m ≤ n → UsesWithin m result → UsesWithin n result
+uses_more m n (reads.Ended used ahead) le h = omega arith
+uses_more m n reads.More le h = tt
+uses_more m n (reads.Refused stop) le h = tt
+
+pub uses_piece : (r q : Reading) (bytes : List ℕ) (result : MetaRead) → q ≡ fold meta_step r bytes → UsesWithin (length q.bytes - length r.bytes) result → UsesWithin (length bytes) result
+uses_piece r q bytes result is h =
+    let most = kept_most r bytes in
+    let size = ap (λ (x : Reading). length x.bytes) is in
+    uses_more (length q.bytes - length r.bytes) (length bytes) result (omega arith) h

@@ -115,6 +115,12 @@ Answers before r reads.More = r.end ≡ None
 Answers before r (reads.Refused stop) = r.end ≡ Some (Refused stop)
 Answers before r (reads.Ended used ahead) = HasEnded r.end × BeginsAt before r.place used ahead
 
+-- a piece of this size has the bytes that were used of it
+abbrev pub UsesWithin : ℕ → MetaRead → Type 0
+UsesWithin size (reads.Ended used ahead) = used ≤ size
+UsesWithin size reads.More = Unit {0}
+UsesWithin size (reads.Refused stop) = Unit {0}
+
 -- what a reading waits for: the prefix, an element, or more bytes of one
 abbrev pub Waits : Reading → Option MetaEnd → Type 0
 Waits r None = (length r.bytes ≤ r.place) ⊎ (group_place (r.place - 132) (drop r.place r.bytes) ≡ too_few)

@@ -1,5 +1,5 @@
 // The head of a file: preamble, prefix and meta group (PS3.10 7.1).
-ghost use Rattle.std.specs.Prelude.{◌≡◌, ◌+◌, ◌≤◌, ◌<◌, None, Some, take, drop, length, fold};
+ghost use Rattle.std.specs.Prelude.{◌≡◌, ◌+◌, ◌-◌, ◌≤◌, ◌<◌, None, Some, take, drop, length, fold};
 ghost use Rattle.dcm_base.specs.Device.{Puts, Tells};
 ghost use Rattle.dcm_base.specs.NewMeta.{new_meta};
 ghost use Rattle.dcm_head.specs.MetaReading as reading;
@@ -46,7 +46,9 @@ impl Model for Meta {
 fn begins_at(bytes: &[u8], before: usize, place: usize) -> MetaRead
     requires behind { before ≤ place + 1 }
     requires within { before ≤ length bytes.now }
-    ensures { reading.EndsIn (take before bytes.now) place result }
+    requires place { place ≤ length bytes.now }
+    ensures begins { reading.EndsIn (take before bytes.now) place result }
+    ensures used { reading.UsesWithin (length bytes.now - before) result }
 {
     if before > place {
         MetaRead::Ended {
@@ -124,6 +126,7 @@ impl Meta {
         requires { reading.IsOpen self.old.end }
         ensures state { self.new ≡ fold reading.meta_step self.old piece.now }
         ensures answer { reading.Answers self.old.bytes self.new result }
+        ensures used { reading.UsesWithin (length piece.now) result }
     {
         let before = self.len();
         self.go_over(piece);
@@ -182,6 +185,7 @@ impl Meta {
     pub fn bytes(&self) -> &[u8]
         requires { reading.HasEnded self.now.end }
         ensures group { result.now ≡ reading.group_of self.now }
+        ensures place { 132 + length result.now ≡ self.now.place }
         ensures limit { length result.now ≤ 16384 }
     {
         part(self.bytes.as_slice(), GROUP_AT, self.place - GROUP_AT)
@@ -290,7 +294,8 @@ impl Meta {
     fn answer(&self, before: usize, coding: Coding) -> MetaRead
         requires ended { self.now.end ≡ Some (MetaEnd.Ended coding) }
         requires before { before < length self.now.bytes }
-        ensures { reading.EndsIn (take before self.now.bytes) self.now.place result }
+        ensures begins { reading.EndsIn (take before self.now.bytes) self.now.place result }
+        ensures used { reading.UsesWithin (length self.now.bytes - before) result }
     {
         begins_at(self.bytes.as_slice(), before, self.place)
     }

@@ -3,7 +3,7 @@ use Rattle.std.specs.Prelude.{fold}
 use Rattle.dcm_base.specs.MetaReads.{MetaAnswer, is_undecided}
 use Rattle.dcm_head.specs.MetaReading.{Says, at_start, meta_step, meta_finished}
 use Rattle.std.proofs.lemmas.List.Sums.{fold-append}
-use Rattle.dcm_head.proofs.Stays.{stays}
+use Rattle.dcm_head.proofs.Stays.{stays, kept_all}
 use Rattle.dcm_head.proofs.OneMeta.{one_meta}
 use Rattle.dcm_head.proofs.Described.{described}
 use Rattle.dcm_head.proofs.Told.{told, going_exactly}
@@ -18,6 +18,9 @@ returns-clause-cuts c = λ r piece more. fold-append meta_step r piece more
 
 pub returns-clause-stays : goal.returns-clause-stays
 returns-clause-stays c = λ r end piece h. stays r end piece h
+
+pub returns-clause-kept : goal.returns-clause-kept
+returns-clause-kept c = λ file h. kept_all at_start file h
 
 pub returns-clause-going : goal.returns-clause-going
 returns-clause-going c = λ file answer reads.

@@ -1,4 +1,3 @@
-use Rattle.std.proofs.Common.{◌≡◌}
 use Rattle.dcm_base.proofs.Heads.{head_same}
 use Rattle.dcm_head.proofs.laws.one_head.Goals as goal
 
