@@ -6,6 +6,8 @@ pub mod laws;
 mod machine;
 mod place;
 mod sink;
+#[cfg(test)]
+mod tests;
 mod token;
 
 pub use machine::{Halt, INPUT_LIMIT, Machine};

@@ -14,6 +14,7 @@ pub const INPUT_LIMIT: u64 = 1 << 62;
 
 /// The bytes of the shortest head.
 const SHORT_HEAD: usize = 8;
+
 const LONG_HEAD: usize = 12;
 
 /// The data set, 64 sequences or fragment lists, and 64 items.
@@ -255,12 +256,7 @@ impl Machine {
         requires { start ≤ 2 ^ 62 }
     {
         let mut levels = ArrayVec::new();
-        levels.push(level_at(
-            Container::DataSet,
-            coding.syntax,
-            Length::Undefined,
-            start,
-        ));
+        levels.push(level_at(Container::DataSet, coding.syntax, Length::Undefined, start));
         let place = Place {
             position: start,
             head: ArrayVec::new(),

@@ -8,8 +8,11 @@ use dcm_base::{Container, Form, Length, Level, Syntax, Tag};
 
 /// The group of items and delimiters, and the elements of each (PS3.5 7.5).
 pub const ITEM_GROUP: u16 = 0xFFFE;
+
 const ITEM: u16 = 0xE000;
+
 const ITEM_END: u16 = 0xE00D;
+
 const SEQUENCE_END: u16 = 0xE0DD;
 
 /// The group of the meta elements, which stand in no data set (PS3.10 7.1).
