@@ -5,6 +5,7 @@ use Rattle.dcm_base.specs.declared.syntax.Syntax.{Syntax}
 use Rattle.dcm_base.specs.declared.mode.Mode.{Mode}
 use Rattle.dcm_base.specs.Representation.{pad}
 use Rattle.dcm_base.specs.Value.{order}
+use Rattle.dcm_base.specs.Steps.{outputs}
 use Rattle.dcm_base.specs.ValueText.{Shape, text, identifier, unsigned, signed, tags, hexadecimal, shape, shown_unit, is_single, escape, unit_text, unpadded, identified}
 use Rattle.dcm_value.specs.declared.way.Way.{Way}
 use Rattle.dcm_value.specs.declared.way.Way.TheVariants.{InBrackets, ByName, InUnits}
@@ -93,6 +94,13 @@ step p b = further p 1 (held_as (way p) p b) (counts_as (way p) p b) (adds p b)
 -- what it writes
 unfoldable pub writes : Progress → ℕ → List ℕ
 writes p b = at_once p.display.mode (adds p b)
+
+-- what is written of the opening, and with bytes behind it
+abbrev pub opening_writes : Progress → List ℕ
+opening_writes p = at_once p.display.mode (opening p)
+
+abbrev pub feeds : Progress → List ℕ → List ℕ
+feeds p bytes = opening_writes p ++ outputs step writes (opened p) bytes
 
 -- what is shown in the end
 abbrev pub closing_as : Way → Progress → List ℕ

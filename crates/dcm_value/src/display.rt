@@ -1,6 +1,9 @@
 // What is shown of a value, cut or whole.
 ghost use Rattle.std.specs.Prelude.{◌≡◌, ◌==◌, ◌&&◌, nat_lt, ◌+◌, ◌-◌, ◌<◌, ◌≤◌, ◌++◌, length, take, replicate, List, ℕ, OnOk, true};
 ghost use Rattle.dcm_base.specs.Device.{Puts, Tells};
+ghost use Rattle.dcm_base.specs.ValueText.{escaped, identified, shown_unit as unit_size};
+ghost use Rattle.dcm_base.specs.Value.{units as units_of};
+ghost use Rattle.dcm_value.specs.Units.{one_text, separated};
 ghost use Rattle.dcm_value.specs.Display as spec;
 
 use crate::escapes::append_text;
@@ -113,7 +116,11 @@ impl Shown {
         &mut self,
         bytes: &[u8],
         out: &mut Watched<W>,
-    ) -> Result<(), WriteFailed> {
+    ) -> Result<(), WriteFailed>
+        ensures state { OnOk result (display self.new ≡ spec.emit (display self.old) (escaped bytes.now)) }
+        ensures bytes { Puts (W.contents out.old) (W.contents out.new) (spec.at_once self.old.mode (escaped bytes.now)) result }
+        ensures failed { Tells (W.has_failed out.old) (W.has_failed out.new) result }
+    {
         let mut text: ArrayVec<u8, TEXT> = ArrayVec::new();
         let mut rest = bytes;
         while !rest.is_empty() && !self.is_cut() {
@@ -133,7 +140,11 @@ impl Shown {
         syntax: Syntax,
         units: &[u8],
         out: &mut Watched<W>,
-    ) -> Result<(), WriteFailed> {
+    ) -> Result<(), WriteFailed>
+        ensures state { OnOk result (display self.new ≡ spec.emit (display self.old) (separated (one_text vr syntax) (units_of (unit_size vr) units.now))) }
+        ensures bytes { Puts (W.contents out.old) (W.contents out.new) (spec.at_once self.old.mode (separated (one_text vr syntax) (units_of (unit_size vr) units.now))) result }
+        ensures failed { Tells (W.has_failed out.old) (W.has_failed out.new) result }
+    {
         let most = TEXT / LONGEST * shown_unit(vr);
         let mut text: ArrayVec<u8, TEXT> = ArrayVec::new();
         let mut rest = units;
@@ -152,13 +163,21 @@ impl Shown {
         &mut self,
         uid: &[u8],
         out: &mut Watched<W>,
-    ) -> Result<(), WriteFailed> {
-        if let Some(name) = uid_name(uid) {
-            self.emit(b"=", out)?;
-            return self.emit(name.as_bytes(), out);
+    ) -> Result<(), WriteFailed>
+        ensures state { OnOk result (display self.new ≡ spec.emit (display self.old) (identified uid.now)) }
+        ensures bytes { Puts (W.contents out.old) (W.contents out.new) (spec.at_once self.old.mode (identified uid.now)) result }
+        ensures failed { Tells (W.has_failed out.old) (W.has_failed out.new) result }
+    {
+        match uid_name(uid) {
+            Some(name) => {
+                self.emit(b"=", out)?;
+                self.emit(name.as_bytes(), out)
+            }
+            None => {
+                self.emit(b"[", out)?;
+                self.emit_text(uid, out)?;
+                self.emit(b"]", out)
+            }
         }
-        self.emit(b"[", out)?;
-        self.emit_text(uid, out)?;
-        self.emit(b"]", out)
     }
 }

@@ -1,5 +1,5 @@
 // Units of a value as a dump shows them. A unit is handed over with its highest byte first.
-ghost use Rattle.std.specs.Prelude.{◌≡◌, ◌<◌, ◌≤◌, ◌+◌, ◌*◌, ◌^◌, ◌++◌, ◌∷◌, ◌/◌, length, reverse, flat_map, decimal};
+ghost use Rattle.std.specs.Prelude.{◌≡◌, ◌<◌, ◌≤◌, ◌+◌, ◌*◌, ◌^◌, ◌++◌, [], ◌∷◌, ◌/◌, if◌then◌else◌, codes, length, reverse, flat_map, decimal};
 ghost use Rattle.dcm_base.specs.ValueText as spec;
 ghost use Rattle.dcm_base.specs.Value.{number_of, units as units_of};
 ghost use Rattle.dcm_value.specs.Units as high;
@@ -173,6 +173,7 @@ fn append_sized<const K: usize, const N: usize>(
     requires tags { kind ≡ Kind.Tags → K ≡ 4 }
     requires room { length text.old.items + LONGEST * (length units.now / K) ≤ N }
     ensures text { text.new.items ≡ text.old.items ++ high.separated (high.high_text kind) (units_of K units.now) }
+    ensures size { length text.new.items ≤ length text.old.items + LONGEST * (length units.now / K) }
 {
     for at in 0..units.len() / K {
         text.push(b'\\');
@@ -186,6 +187,7 @@ fn append_high<const N: usize>(kind: Kind, size: usize, units: &[u8], text: &mut
     requires tags { kind ≡ Kind.Tags → size ≡ 4 }
     requires room { length text.old.items + LONGEST * (length units.now / size) ≤ N }
     ensures text { text.new.items ≡ text.old.items ++ high.separated (high.high_text kind) (units_of size units.now) }
+    ensures size { length text.new.items ≤ length text.old.items + LONGEST * (length units.now / size) }
 {
     match size {
         2 => append_sized::<2, N>(kind, units, text),
@@ -207,6 +209,8 @@ pub fn append_units<const N: usize>(
 )
     requires room { length text.old.items + LONGEST * (length units.now / spec.shown_unit vr) ≤ N }
     requires few { length units.now ≤ BLOCK * spec.shown_unit vr }
+    ensures text { text.new.items ≡ text.old.items ++ high.separated (high.one_text vr syntax) (units_of (spec.shown_unit vr) units.now) }
+    ensures size { length text.new.items ≤ length text.old.items + LONGEST * (length units.now / spec.shown_unit vr) }
 {
     let kind = kind_of(vr);
     let size = shown_unit(vr);
@@ -219,4 +223,18 @@ pub fn append_units<const N: usize>(
     high.copy_from_slice(units);
     swap(vr.unit(), high);
     append_high(kind, size, high, text);
+}
+
+/// A unit of a value as it is shown, behind a backslash unless it is the first.
+pub fn unit_text(vr: Vr, syntax: Syntax, is_first: bool, unit: &[u8]) -> ArrayVec<u8, LONGEST>
+    requires { length unit.now ≡ spec.shown_unit vr }
+    ensures { result.items ≡ (if is_first then [] else codes "\\") ++ high.one_text vr syntax unit.now }
+{
+    let mut text = ArrayVec::new();
+    append_units(vr, syntax, unit, &mut text);
+    if !is_first {
+        return text;
+    }
+    let _ = text.remove(0);
+    text
 }

@@ -1,12 +1,15 @@
 // The text of a value.
-ghost use Rattle.std.specs.Prelude.{◌≡◌, ◌+◌, ◌*◌, ◌/◌, ◌<◌, ◌≤◌, [], ◌++◌, length, OnOk};
+ghost use Rattle.std.specs.Prelude.{◌≡◌, ◌+◌, ◌*◌, ◌/◌, ◌<◌, ◌≤◌, [], ◌∷◌, ◌++◌, length, fold, OnOk, IfOk};
 ghost use Rattle.dcm_base.specs.Device.{Puts, Tells};
-ghost use Rattle.dcm_base.specs.ValueText.{shown_unit, shape};
+ghost use Rattle.dcm_base.specs.ValueText.{shown_unit as unit_size, shape};
+ghost use Rattle.dcm_base.specs.Steps.{Goes};
+ghost use Rattle.dcm_value.specs.Display.{emit, at_once};
+ghost use Rattle.dcm_value.specs.Units.{one_text};
 ghost use Rattle.dcm_value.specs.Way as ways;
 
 use crate::display::Shown;
-use crate::escapes::{backslashes, escape};
-use crate::units::{LONGEST, append_units, shown_unit};
+use crate::escapes::{backslashes, last_text};
+use crate::units::{shown_unit, unit_text};
 use crate::way::{Way, is_single, unpadded, way_of};
 use arrayvec::ArrayVec;
 use dcm_base::{DeviceOut, Mode, Syntax, Vr, Watched, WriteFailed};
@@ -29,6 +32,7 @@ pub struct ValueText {
 impl ValueText {
     ghost use Rattle.dcm_value.specs.ValueText.{progress};
     ghost use Rattle.dcm_value.specs.Progress as spec;
+    ghost use Rattle.dcm_value.specs.Shown.{display};
 
     /// A value of this declared size, whose bytes come in the order of the syntax. SQ is shown as UN.
     pub fn new(vr: Vr, syntax: Syntax, size: u32, mode: Mode) -> ValueText
@@ -74,6 +78,11 @@ impl ValueText {
         out: &mut Watched<W>,
     ) -> Result<(), WriteFailed>
         requires within { (progress self.old).seen + length bytes.now ≤ (progress self.old).size }
+        ensures state { OnOk result (progress self.new ≡ fold spec.step (spec.opened (progress self.old)) bytes.now) }
+        ensures bytes { Puts (W.contents out.old) (W.contents out.new) (spec.feeds (progress self.old) bytes.now) result }
+        ensures failed { Tells (W.has_failed out.old) (W.has_failed out.new) result }
+        ensures seen { OnOk result ((progress self.new).seen ≡ (progress self.old).seen + length bytes.now) }
+        ensures size { OnOk result ((progress self.new).size ≡ (progress self.old).size) }
     {
         self.open(out)?;
         match self.way() {
@@ -92,6 +101,9 @@ impl ValueText {
         ensures size { self.new.size ≡ self.old.size }
         ensures vr { self.new.vr ≡ self.old.vr }
         ensures held { self.new.held ≡ self.old.held }
+        ensures state { OnOk result (progress self.new ≡ spec.opened (progress self.old)) }
+        ensures bytes { Puts (W.contents out.old) (W.contents out.new) (spec.opening_writes (progress self.old)) result }
+        ensures failed { Tells (W.has_failed out.old) (W.has_failed out.new) result }
     {
         if self.way() == Way::InBrackets && self.size > 0 && self.shown.is_blank() {
             self.shown.emit(b"[", out)?;
@@ -107,6 +119,10 @@ impl ValueText {
     ) -> Result<(), WriteFailed>
         requires way { spec.way (progress self.old) ≡ Way.InBrackets }
         requires within { self.old.seen + length bytes.now ≤ self.old.size }
+        ensures goes { Goes spec.step spec.writes (progress self.old) (W.contents out.old) (progress self.new) (W.contents out.new) bytes.now result }
+        ensures failed { Tells (W.has_failed out.old) (W.has_failed out.new) result }
+        ensures seen { OnOk result (self.new.seen ≡ self.old.seen + length bytes.now) }
+        ensures size { self.new.size ≡ self.old.size }
     {
         if bytes.len() < self.missing() as usize {
             return self.show_text(bytes, out);
@@ -125,10 +141,12 @@ impl ValueText {
         out: &mut Watched<W>,
     ) -> Result<(), WriteFailed>
         requires way { spec.way (progress self.old) ≡ Way.InBrackets }
-        requires within { self.old.seen + length bytes.now ≤ self.old.size }
+        requires within { self.old.seen + length bytes.now < self.old.size }
         ensures seen { self.new.seen ≡ self.old.seen + length bytes.now }
         ensures size { self.new.size ≡ self.old.size }
         ensures vr { self.new.vr ≡ self.old.vr }
+        ensures goes { Goes spec.step spec.writes (progress self.old) (W.contents out.old) (progress self.new) (W.contents out.new) bytes.now result }
+        ensures failed { Tells (W.has_failed out.old) (W.has_failed out.new) result }
     {
         self.seen += bytes.len() as u32;
         self.values += backslashes(bytes) as u32;
@@ -138,15 +156,16 @@ impl ValueText {
     /// Shows the last byte of a text, unless it is a pad byte.
     fn show_last<W: DeviceOut>(&mut self, byte: u8, out: &mut Watched<W>) -> Result<(), WriteFailed>
         requires way { spec.way (progress self.old) ≡ Way.InBrackets }
-        requires more { self.old.seen < self.old.size }
+        requires last { self.old.seen + 1 ≡ self.old.size }
+        ensures goes { Goes spec.step spec.writes (progress self.old) (W.contents out.old) (progress self.new) (W.contents out.new) (byte ∷ []) result }
+        ensures failed { Tells (W.has_failed out.old) (W.has_failed out.new) result }
+        ensures seen { OnOk result (self.new.seen ≡ self.old.seen + 1) }
+        ensures size { self.new.size ≡ self.old.size }
     {
-        let is_pad = self.size % 2 == 0 && byte == self.vr.pad();
         self.seen += 1;
         self.values += u32::from(byte == b'\\');
-        if is_pad {
-            return Ok(());
-        }
-        self.shown.emit(escape(byte).as_slice(), out)
+        let shown = last_text(self.vr, self.size, byte);
+        self.shown.emit(shown.as_slice(), out)
     }
 
     /// Takes bytes of units.
@@ -157,6 +176,10 @@ impl ValueText {
     ) -> Result<(), WriteFailed>
         requires way { spec.way (progress self.old) ≡ Way.InUnits }
         requires within { self.old.seen + length bytes.now ≤ self.old.size }
+        ensures goes { Goes spec.step spec.writes (progress self.old) (W.contents out.old) (progress self.new) (W.contents out.new) bytes.now result }
+        ensures failed { Tells (W.has_failed out.old) (W.has_failed out.new) result }
+        ensures seen { OnOk result (self.new.seen ≡ self.old.seen + length bytes.now) }
+        ensures size { self.new.size ≡ self.old.size }
     {
         let lacking = self.lacking();
         if bytes.len() < lacking {
@@ -193,6 +216,9 @@ impl ValueText {
         ensures size { self.new.size ≡ self.old.size }
         ensures vr { self.new.vr ≡ self.old.vr }
         ensures held { OnOk result (self.new.held.items ≡ []) }
+        ensures goes { Goes spec.step spec.writes (progress self.old) (W.contents out.old) (progress self.new) (W.contents out.new) bytes.now result }
+        ensures failed { Tells (W.has_failed out.old) (W.has_failed out.new) result }
+        ensures values { OnOk result (0 < self.new.values) }
     {
         if bytes.is_empty() {
             return Ok(());
@@ -212,6 +238,11 @@ impl ValueText {
         requires way { spec.way (progress self.old) ≡ Way.InUnits }
         requires within { self.old.seen + length bytes.now ≤ self.old.size }
         requires held { self.old.held.items ≡ [] }
+        requires values { 0 < self.old.values }
+        ensures goes { Goes spec.step spec.writes (progress self.old) (W.contents out.old) (progress self.new) (W.contents out.new) bytes.now result }
+        ensures failed { Tells (W.has_failed out.old) (W.has_failed out.new) result }
+        ensures seen { OnOk result (self.new.seen ≡ self.old.seen + length bytes.now) }
+        ensures size { self.new.size ≡ self.old.size }
     {
         let size = shown_unit(self.vr);
         let (whole, tail) = bytes.split_at(bytes.len() / size * size);
@@ -237,19 +268,20 @@ impl ValueText {
         out: &mut Watched<W>,
     ) -> Result<(), WriteFailed>
         requires way { spec.way (progress self.old) ≡ Way.InUnits }
-        requires whole { length unit.now ≡ shown_unit self.old.vr }
+        requires whole { length unit.now ≡ unit_size self.old.vr }
         requires held { self.old.held.items ≡ [] }
         requires seen { self.old.values + length unit.now ≤ self.old.seen }
         ensures seen { self.new.seen ≡ self.old.seen }
         ensures size { self.new.size ≡ self.old.size }
         ensures vr { self.new.vr ≡ self.old.vr }
         ensures held { self.new.held.items ≡ [] }
+        ensures state { OnOk result (progress self.new ≡ spec.further (progress self.old) 0 [] 1 (spec.separator self.old.values ++ one_text self.old.vr self.old.syntax unit.now)) }
+        ensures bytes { Puts (W.contents out.old) (W.contents out.new) (at_once self.old.shown.mode (spec.separator self.old.values ++ one_text self.old.vr self.old.syntax unit.now)) result }
+        ensures failed { Tells (W.has_failed out.old) (W.has_failed out.new) result }
     {
-        let mut text: ArrayVec<u8, LONGEST> = ArrayVec::new();
-        append_units(self.vr, self.syntax, unit, &mut text);
-        let start = usize::from(self.values == 0).min(text.len());
+        let text = unit_text(self.vr, self.syntax, self.values == 0, unit);
         self.values += 1;
-        self.shown.emit(&text.as_slice()[start..], out)
+        self.shown.emit(text.as_slice(), out)
     }
 
     /// Shows units that are not the first.
@@ -260,10 +292,15 @@ impl ValueText {
     ) -> Result<(), WriteFailed>
         requires way { spec.way (progress self.old) ≡ Way.InUnits }
         requires within { self.old.seen + length units.now ≤ self.old.size }
+        requires held { self.old.held.items ≡ [] }
+        requires values { 0 < self.old.values }
+        requires whole { length units.now / unit_size self.old.vr * unit_size self.old.vr ≡ length units.now }
         ensures seen { OnOk result (self.new.seen ≡ self.old.seen + length units.now) }
         ensures size { self.new.size ≡ self.old.size }
         ensures vr { self.new.vr ≡ self.old.vr }
         ensures held { self.new.held ≡ self.old.held }
+        ensures goes { Goes spec.step spec.writes (progress self.old) (W.contents out.old) (progress self.new) (W.contents out.new) units.now result }
+        ensures failed { Tells (W.has_failed out.old) (W.has_failed out.new) result }
     {
         self.seen += units.len() as u32;
         self.values += (units.len() / shown_unit(self.vr)) as u32;
@@ -271,14 +308,23 @@ impl ValueText {
     }
 
     /// Ends the display and pads it to 40 bytes. The answer is how many values there were.
-    pub fn finish<W: DeviceOut>(&mut self, out: &mut Watched<W>) -> Result<u64, WriteFailed> {
+    pub fn finish<W: DeviceOut>(&mut self, out: &mut Watched<W>) -> Result<u64, WriteFailed>
+        ensures bytes { Puts (W.contents out.old) (W.contents out.new) (spec.finishes (progress self.old)) result }
+        ensures count { IfOk result (λ n. n ≡ spec.multiplicity (progress self.old)) }
+        ensures failed { Tells (W.has_failed out.old) (W.has_failed out.new) result }
+    {
         self.close(out)?;
         self.shown.end(out)?;
         Ok(self.count())
     }
 
     /// Shows what stands behind the last byte.
-    fn close<W: DeviceOut>(&mut self, out: &mut Watched<W>) -> Result<(), WriteFailed> {
+    fn close<W: DeviceOut>(&mut self, out: &mut Watched<W>) -> Result<(), WriteFailed>
+        ensures display { OnOk result (display self.new.shown ≡ emit (display self.old.shown) (spec.closing (progress self.old))) }
+        ensures kept { OnOk result (progress self.new ≡ record (progress self.old) { display = display self.new.shown }) }
+        ensures bytes { Puts (W.contents out.old) (W.contents out.new) (at_once self.old.shown.mode (spec.closing (progress self.old))) result }
+        ensures failed { Tells (W.has_failed out.old) (W.has_failed out.new) result }
+    {
         if self.size == 0 {
             return self.shown.emit(b"(no value available)", out);
         }
@@ -293,7 +339,9 @@ impl ValueText {
     }
 
     /// How many values there were.
-    fn count(&self) -> u64 {
+    fn count(&self) -> u64
+        ensures { result ≡ spec.multiplicity (progress self.now) }
+    {
         if self.size == 0 {
             0
         } else if is_single(self.vr) {

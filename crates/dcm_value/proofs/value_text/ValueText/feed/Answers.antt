@@ -1,0 +1,29 @@
+use Rattle.std.proofs.Common.{rules, sym, ◌∙◌, ap, ◌≡◌, fold}
+use Rattle.dcm_value.specs.declared.way.Way.TheVariants.{ByName}
+use Rattle.dcm_value.specs.ValueText.{progress}
+use Rattle.dcm_value.specs.Progress.{way, step}
+use Rattle.dcm_value.proofs.Emits.{settled_of}
+use Rattle.dcm_value.proofs.Steps.{leads_name, feeds_on, opening_waits, opening_failed}
+use Rattle.dcm_value.proofs.value_text.ValueText.feed.Goals as goal
+
+pub returns-in_err-open-clause-bytes : goal.returns-in_err-open-clause-bytes
+returns-in_err-open-clause-bytes g c = opening_failed _ _ (progress c.args.self.now) c.args.bytes.now _ c.from_residual.ensures.0 c.in_err-open.ensures.bytes
+
+pub returns-in-InBrackets-clause-bytes : goal.returns-in-InBrackets-clause-bytes
+returns-in-InBrackets-clause-bytes g c = feeds_on (progress c.args.self.now) _ _ _ _ _ c.args.bytes.now c.feed_text.result c.in_ok-open.ensures.state c.in_ok-open.ensures.bytes c.feed_text.ensures.goes
+
+pub returns-in-ByName-clause-state : goal.returns-in-ByName-clause-state
+returns-in-ByName-clause-state g c =
+    let q = progress c.open.new.self in
+    let s = c.open.new.self.shown in
+    let is_way : way q ≡ ByName = search rules in
+    let name = leads_name q c.args.bytes.now is_way (settled_of s.mode s.count s.front.items s.capped s.filled) in
+    c.hold.ensures ∙ sym name.state ∙ ap (λ x. fold step x c.args.bytes.now) c.in_ok-open.ensures.state
+
+pub returns-in-ByName-clause-bytes : goal.returns-in-ByName-clause-bytes
+returns-in-ByName-clause-bytes g c =
+    let q = progress c.open.new.self in
+    let s = c.open.new.self.shown in
+    let is_way : way q ≡ ByName = search rules in
+    let name = leads_name q c.args.bytes.now is_way (settled_of s.mode s.count s.front.items s.capped s.filled) in
+    opening_waits (progress c.args.self.now) q _ _ c.args.bytes.now c.in_ok-open.ensures.state c.in_ok-open.ensures.bytes name

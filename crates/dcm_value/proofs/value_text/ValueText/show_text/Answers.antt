@@ -1,0 +1,19 @@
+use Rattle.std.proofs.Common.{refl, ap, ◌+◌, length}
+use Rattle.std.specs.Prelude.{count_by, ◌==◌}
+use Rattle.dcm_base.specs.ValueText.{escaped}
+use Rattle.dcm_value.specs.ValueText.{progress}
+use Rattle.dcm_value.proofs.Emits.{settled_of}
+use Rattle.dcm_value.proofs.Steps.{leads_text, shown_goes, same_progress}
+use Rattle.dcm_value.proofs.value_text.ValueText.show_text.Goals as goal
+
+pub returns-clause-goes : goal.returns-clause-goes
+returns-clause-goes g c =
+    let p = progress c.args.self.now in
+    let s = c.args.self.now.shown in
+    let v = c.args.bytes.now in
+    let settled = settled_of s.mode s.count s.front.items s.capped s.filled in
+    shown_goes p _ _ _ v (length v) p.held (count_by (λ b. b == 92) v) (escaped v) c.emit_text.result
+    (leads_text p v c.requires.way settled c.requires.within)
+    (same_progress p _ _ _ _ _ _ _ _ refl refl (ap (λ k. p.values + k) c.backslashes.ensures.count) refl)
+    c.emit_text.ensures.state
+    c.emit_text.ensures.bytes
