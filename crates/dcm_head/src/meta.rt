@@ -133,7 +133,7 @@ impl Meta {
         match self.end() {
             None => MetaRead::More,
             Some(MetaEnd::Refused(stop)) => MetaRead::Refused(stop),
-            Some(MetaEnd::Ended(coding)) => self.answer(before, coding),
+            Some(MetaEnd::Ended(_)) => self.answer(before),
         }
     }
 
@@ -291,8 +291,8 @@ impl Meta {
     }
 
     /// Where the data set begins, if so many bytes came before the piece.
-    fn answer(&self, before: usize, coding: Coding) -> MetaRead
-        requires ended { self.now.end ≡ Some (MetaEnd.Ended coding) }
+    fn answer(&self, before: usize) -> MetaRead
+        requires ended { reading.HasEnded self.now.end }
         requires before { before < length self.now.bytes }
         ensures begins { reading.EndsIn (take before self.now.bytes) self.now.place result }
         ensures used { reading.UsesWithin (length self.now.bytes - before) result }
