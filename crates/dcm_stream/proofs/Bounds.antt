@@ -65,7 +65,7 @@ slack_one an_item = omega arith
 slack_one a_sequence = omega arith
 slack_one a_fragment_list = omega arith
 
-few : (ls : List Level) → are_nested ls ≡ true → depth ls ≤ 64 → length ls ≤ 129
+pub few : (ls : List Level) → are_nested ls ≡ true → depth ls ≤ 64 → length ls ≤ 129
 unfolding are_nested
 few [] h le = omega arith
 few (inner ∷ outer) h le = omega (arith, few_by inner outer h, slack_one inner.container)
@@ -85,9 +85,10 @@ no_end : (position : ℕ) (e : Option ℕ) → not (is_some e) ≡ true → ends
 no_end position None h = refl
 no_end position (Some end) h = absurd (cc)
 
-record Small (ls : List Level) : Type 0 where
-  nested : are_nested ls ≡ true
-  shallow : depth ls ≤ 64
+-- nested right, and not too deep
+pub record Small (ls : List Level) : Type 0 where
+  pub nested : are_nested ls ≡ true
+  pub shallow : depth ls ≤ 64
 
 closed_small : (position : ℕ) (ls : List Level) → Small ls → Small (full_closed position ls).0
 unfolding full_closed are_nested
@@ -172,7 +173,7 @@ settled_small position o zero h =
     record { head_is = omega arith; nested = k.nested; shallow = k.shallow; no_head = λ lt. refl; room_for = λ going none. room_left position ls (passes 8 (room position ls)) refl going }
 settled_small position o (suc n) h = record { head_is = omega arith; nested = h.nested; shallow = h.shallow; no_head = λ lt. refl; room_for = λ going none. absurd (omega arith) }
 
-levels_accept : (bar : HeadBar) (begin : ℕ) (ls : List Level) (position : ℕ) (z : List ℕ) → Small ls → innermost_stop bar ls position z ≡ None → Small (head_opens begin z ls).levels
+pub levels_accept : (bar : HeadBar) (begin : ℕ) (ls : List Level) (position : ℕ) (z : List ℕ) → Small ls → innermost_stop bar ls position z ≡ None → Small (head_opens begin z ls).levels
 levels_accept bar begin [] position z h e = h
 levels_accept bar begin (inner ∷ outer) position z h e = let fits = place_none bar inner (inner ∷ outer) position z e in head_small begin inner outer position z h fits fits.head
 

@@ -14,3 +14,9 @@ pub mod Turned
 pub mod Rooms
 pub mod Elements
 pub mod Waits
+pub mod Drives
+pub mod Fed
+pub mod Closes
+pub mod Enters
+pub mod HeadBytes
+pub mod Pieces

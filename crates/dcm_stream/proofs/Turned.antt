@@ -12,7 +12,7 @@ get_at_end (y ∷ xs) x = get_at_end xs x
 pub turned_more : {X : Type 0} (xs : List X) (x : X) → reverse (xs ++ x ∷ []) ≡ x ∷ reverse xs
 turned_more xs x = reverse-append xs (x ∷ [])
 
-turned_cons : {X : Type 0} (x : X) (xs : List X) → reverse (x ∷ xs) ≡ reverse xs ++ x ∷ []
+pub turned_cons : {X : Type 0} (x : X) (xs : List X) → reverse (x ∷ xs) ≡ reverse xs ++ x ∷ []
 turned_cons x xs = reverse-append (x ∷ []) xs
 
 last_of_turned : {X : Type 0} (xs : List X) → slice_get (reverse xs) (length (reverse xs) - 1) ≡ innermost xs

@@ -9,7 +9,7 @@ use Rattle.dcm_base.specs.declared.level.Container.{Container}
 use Rattle.dcm_base.specs.declared.level.Level.{Level}
 use Rattle.dcm_base.specs.declared.fault.Fault.{Fault}
 use Rattle.dcm_base.specs.declared.fault.Fault.TheVariants.{EndsEarly, UndefinedLength, PassesEnd, TooDeep, NotAscending, FragmentsBarred}
-use Rattle.dcm_base.specs.Atoms.{opens, opens_item, opens_fragment}
+use Rattle.dcm_base.specs.Atoms.{Atom, opens, opens_item, opens_fragment}
 use Rattle.dcm_base.specs.Place.{room, passes, depth, is_undefined}
 use Rattle.dcm_base.specs.Stop.{Stop, refused, HeadBar, opens_list, has_no_form, is_fragment_list, with_length, element_stop, item_stop, place_stop}
 use Rattle.dcm_base.specs.Head.{vr_at}
@@ -28,6 +28,14 @@ fault_of Fragments = FragmentsBarred
 -- what a sink refuses of itself, in a state
 abbrev pub bars_head : {S : Type 0} → (S → Head → Option Bar) → S → HeadBar
 bars_head bars s tag vr declared = option_map fault_of (bars s (record { tag = tag; vr = vr; length = declared }))
+
+-- the atom of what a head opens or closes
+abbrev pub opening_atom : Opening → Atom
+opening_atom (opening.Leaf head s size) = opens head.tag head.vr head.length s
+opening_atom (opening.List head s level) = opens head.tag head.vr head.length s
+opening_atom (opening.Item level) = opens_item level.declared
+opening_atom (opening.Fragment size) = opens_fragment size
+opening_atom (opening.End container) = closes container
 
 -- what is open behind it
 abbrev pub opened_by : List Level → Opening → Opened

@@ -1,5 +1,5 @@
 -- A machine and the sink that it drives.
-use Rattle.std.specs.Prelude.{◌≡◌, ℕ, ◌+◌, ◌≤◌, List, [], ◌∷◌, ◌++◌, length, map, reverse, Bool, true, false, Option, Some, None, Result, Ok, Err, fold}
+use Rattle.std.specs.Prelude.{◌≡◌, ℕ, ◌+◌, ◌≤◌, List, [], ◌∷◌, ◌++◌, length, take, map, reverse, Bool, true, false, Option, Some, None, Result, Ok, Err, fold}
 use Rattle.std.specs.Io.KnownBytes.{append_known}
 use Rattle.dcm_base.specs.declared.fault.Fault.{Fault}
 use Rattle.dcm_base.specs.declared.level.Level.{Level}
@@ -10,6 +10,7 @@ use Rattle.dcm_base.specs.Stop.{Stop, HeadBar, complete, refused}
 use Rattle.dcm_base.specs.Reads.{INPUT_LIMIT}
 use Rattle.dcm_head.specs.declared.head.Head.{Head}
 use Rattle.dcm_stream.specs.declared.token.Bar.{Bar}
+use Rattle.dcm_stream.specs.declared.place.Place.{Place}
 use Rattle.dcm_stream.specs.declared.machine.Halt.{Halt}
 use Rattle.dcm_stream.specs.declared.machine.Halt.TheVariants.{Refused, Output}
 use Rattle.dcm_stream.specs.Reading.{Reading, Opened, closing, settled, read_byte, drives_byte, finish, end_shows}
@@ -22,6 +23,10 @@ steps bars step = drives_byte (bars_head bars) step
 
 abbrev pub steps_write : {S : Type 0} → (S → Head → Option Bar) → (S → Atom → S) → (S → Atom → List ℕ) → Reading × S → ℕ → List ℕ
 steps_write bars step writes p b = outputs step writes p.1 (read_byte (bars_head bars p.1) p.0 b).1
+
+-- what is read of a data set at a place, and why it goes no further
+abbrev pub reading : Place → Option Stop → Reading
+reading p halt = record { position = p.position; head = p.head.items; left = p.left; levels = reverse p.levels.items; halt = halt }
 
 -- no more bytes than the limit were read, and little is held
 pub record Stands (r : Reading) : Type 0 where
@@ -60,6 +65,13 @@ Comes step writes s held t holds new p (Err Output) = AppendsFront held holds (o
 abbrev pub value_read : Reading → (left : ℕ) → List ℕ → Reading × List Atom
 value_read r left bytes = settled (r.position + length bytes) (record { levels = r.levels; left = left; atoms = map value_byte bytes ++ closing left }) left
 
+-- behind a place where no byte of a value is to come, and where so many are
+abbrev pub settles : Place → Reading × List Atom
+settles p = settled p.position (record { levels = reverse p.levels.items; left = 0; atoms = [] }) 0
+
+abbrev pub settles_value : Place → Reading × List Atom
+settles_value p = settled p.position (record { levels = reverse p.levels.items; left = p.left; atoms = closing p.left }) p.left
+
 -- what was opened is entered at an offset
 abbrev pub entered : ℕ → Opened → Reading × List Atom
 entered position o = settled position o o.left
@@ -68,3 +80,8 @@ entered position o = settled position o o.left
 abbrev pub Feeds : {S T : Type 0} → (S → Head → Option Bar) → (S → Atom → S) → (S → Atom → List ℕ) → Reading → S → Option (List ℕ) → (Option Stop → Reading) → S → Option (List ℕ) → List ℕ → Result T Halt → Type 0
 Feeds bars step writes old s held new t holds bytes r =
     Goes (steps bars step) (steps_write bars step writes) (old, s) held (new (halt_of r), t) holds bytes (went r)
+
+-- the bytes that were gone over: so many, or all where it goes no further
+abbrev pub bytes_read : Result ℕ Halt → List ℕ → List ℕ
+bytes_read (Ok n) piece = take n piece
+bytes_read (Err halt) piece = piece

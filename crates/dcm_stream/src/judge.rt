@@ -9,7 +9,7 @@ ghost use Rattle.dcm_base.specs.Spelling as spelling;
 ghost use Rattle.dcm_stream.specs.Reading as reading;
 ghost use Rattle.dcm_stream.specs.Judging as spec;
 
-use super::place::{
+use super::levels::{
     ITEM_GROUP, depth, is_allowed, is_item, level_at, opens_list, passes, room, with_length,
 };
 use super::{Bar, Sink};
@@ -195,11 +195,9 @@ pub fn judge<S: Sink>(
     requires eight { 8 ≤ length bytes.now }
     requires within { position + length bytes.now ≤ 2 ^ 62 }
     requires inner { innermost (reverse levels.now) ≡ Some inner }
+    requires room { place.passes 8 (place.room position (reverse levels.now)) ≡ false }
     ensures { spec.Judges (spec.bars_head S.bar (S.state sink.now)) inner (reverse levels.now) position bytes.now result }
 {
-    if passes(ITEM_HEAD, room(position, levels)) {
-        return Err(Fault::PassesEnd);
-    }
     let tag = read_tag(inner.syntax, bytes);
     if !is_allowed(inner.container, inner.declared, tag) {
         return Err(Fault::TagNotAllowed);

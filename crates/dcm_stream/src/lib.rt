@@ -1,8 +1,10 @@
 //! Tokens of a data set, sinks that take them, and the machine that reads bytes into them.
 #![tactic(auto)]
 
+mod close;
 mod judge;
 pub mod laws;
+mod levels;
 mod machine;
 mod place;
 mod sink;

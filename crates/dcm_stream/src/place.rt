@@ -1,154 +1,224 @@
-// Where the reading of a data set stands: the open containers, the outermost first, and the room in them.
-ghost use Rattle.std.specs.Prelude.{◌≡◌, ℕ, ◌+◌, ◌^◌, ◌<◌, ◌≤◌, reverse, length};
-ghost use Rattle.dcm_base.specs.Tag as tags;
-ghost use Rattle.dcm_base.specs.Place as spec;
-ghost use Rattle.dcm_base.specs.Stop as stops;
+// Where the reading of a data set stands (PS3.5 7).
+ghost use Rattle.std.specs.Prelude.{◌≡◌, ◌+◌, ◌-◌, ◌^◌, ◌<◌, ◌≤◌, [], ◌∷◌, ◌++◌, None, length, reverse, IfOk};
+ghost use Rattle.dcm_base.specs.Steps.{Goes};
+ghost use Rattle.dcm_stream.specs.Bounds as bounds;
+ghost use Rattle.dcm_stream.specs.Judging.{opened_by};
+ghost use Rattle.dcm_stream.specs.Reading as steps;
+ghost use Rattle.dcm_stream.specs.Machine as spec;
 
-use dcm_base::{Container, Form, Length, Level, Syntax, Tag};
+use super::close::{MOST_LEVELS, close_full, opening_token};
+use super::judge::{Opening, judge};
+use super::levels::{level_at, passes, room};
+use super::machine::INPUT_LIMIT;
+use super::{Halt, Sink, Token};
+use arrayvec::ArrayVec;
+use dcm_base::{Container, Fault, Length, Level, Stop, Syntax};
 
-/// The group of items and delimiters, and the elements of each (PS3.5 7.5).
-pub const ITEM_GROUP: u16 = 0xFFFE;
+/// The bytes of the shortest head and of the longest.
+const SHORT_HEAD: usize = 8;
+const LONG_HEAD: usize = 12;
 
-const ITEM: u16 = 0xE000;
-
-const ITEM_END: u16 = 0xE00D;
-
-const SEQUENCE_END: u16 = 0xE0DD;
-
-/// The group of the meta elements, which stand in no data set (PS3.10 7.1).
-const META_GROUP: u16 = 0x0002;
-
-pub fn is_item(tag: Tag) -> bool
-    ensures { result ≡ tags.is_item tag }
-{
-    tag.group == ITEM_GROUP && tag.element == ITEM
+/// The offset up to which heads and values were read whole, the bytes of a head behind it, the bytes of a value that are
+/// to come, and the open containers, the outermost first.
+#[derive(Drop)]
+pub struct Place {
+    pub position: u64,
+    pub head: ArrayVec<u8, LONG_HEAD>,
+    pub left: u32,
+    pub levels: ArrayVec<Level, MOST_LEVELS>,
 }
 
-fn is_item_end(tag: Tag) -> bool
-    ensures { result ≡ tags.is_item_end tag }
+fn refused(fault: Fault, at: u64) -> Halt
+    ensures { result ≡ Halt.Refused (record { fault = fault; at = at }) }
 {
-    tag.group == ITEM_GROUP && tag.element == ITEM_END
+    Halt::Refused(Stop { fault, at })
 }
 
-fn is_sequence_end(tag: Tag) -> bool
-    ensures { result ≡ tags.is_sequence_end tag }
-{
-    tag.group == ITEM_GROUP && tag.element == SEQUENCE_END
-}
-
-fn is_data(tag: Tag) -> bool
-    ensures { result ≡ spec.is_data tag }
-{
-    tag.group != ITEM_GROUP && tag.group != META_GROUP
-}
-
-/// Whether a head of this tag may come in a container (PS3.5 7.5).
-#[tactic(auto, unfolding(dcm_base::specs::Place::is_allowed))]
-pub fn is_allowed(container: Container, declared: Length, tag: Tag) -> bool
-    ensures { result ≡ spec.is_allowed container declared tag }
-{
-    let is_undefined = declared == Length::Undefined;
-    match container {
-        Container::DataSet => is_data(tag),
-        Container::Item => is_data(tag) || (is_undefined && is_item_end(tag)),
-        Container::Sequence => is_item(tag) || (is_undefined && is_sequence_end(tag)),
-        Container::FragmentList => is_item(tag) || is_sequence_end(tag),
+impl Place {
+    /// The beginning of a data set at this offset.
+    pub fn new(syntax: Syntax, start: u64) -> Self
+        requires { start ≤ 2 ^ 62 }
+        ensures { spec.reading result None ≡ steps.start_of syntax start }
+    {
+        let mut levels = ArrayVec::new();
+        levels.push(level_at(
+            Container::DataSet,
+            syntax,
+            Length::Undefined,
+            start,
+        ));
+        Place {
+            position: start,
+            head: ArrayVec::new(),
+            left: 0,
+            levels,
+        }
     }
-}
 
-/// A container whose contents begin at this offset.
-pub fn level_at(container: Container, syntax: Syntax, declared: Length, begin: u64) -> Level
-    requires { begin ≤ 2 ^ 62 }
-    ensures { result ≡ spec.level container syntax declared begin }
-{
-    let end_offset = match declared {
-        Length::Known(size) => Some(begin + u64::from(size)),
-        Length::Undefined => None,
-    };
-    Level {
-        container,
-        syntax,
-        declared,
-        end_offset,
+    /// Closes what is full here. No head may come where less room is left than the shortest takes.
+    fn settle<S: Sink>(&mut self, sink: &mut S) -> Result<(), Halt>
+        requires head { self.old.head.items ≡ [] }
+        requires left { self.old.left ≡ 0 }
+        ensures comes { spec.Comes S.step S.writes (S.state sink.old) (S.contents sink.old) (S.state sink.new) (S.contents sink.new) (spec.reading self.new) (spec.settles self.old) result }
+        ensures failed { spec.TellsHalt (S.has_failed sink.old) (S.has_failed sink.new) result }
+        ensures kept { S.kept sink.new ≡ S.kept sink.old }
+    {
+        close_full(&mut self.levels, self.position, sink)?;
+        if passes(
+            SHORT_HEAD as u64,
+            room(self.position, self.levels.as_slice()),
+        ) {
+            return Err(refused(Fault::PassesEnd, self.position));
+        }
+        Ok(())
     }
-}
 
-/// The bytes up to an end.
-fn distance(position: u64, end_offset: Option<u64>) -> Option<u64>
-    ensures { result ≡ spec.distance position end_offset }
-{
-    match end_offset {
-        Some(end) => Some(end.saturating_sub(position)),
-        None => None,
+    /// Closes a value of which no byte is left.
+    fn settle_value<S: Sink>(&mut self, sink: &mut S) -> Result<(), Halt>
+        requires head { self.old.head.items ≡ [] }
+        ensures comes { spec.Comes S.step S.writes (S.state sink.old) (S.contents sink.old) (S.state sink.new) (S.contents sink.new) (spec.reading self.new) (spec.settles_value self.old) result }
+        ensures failed { spec.TellsHalt (S.has_failed sink.old) (S.has_failed sink.new) result }
+        ensures kept { S.kept sink.new ≡ S.kept sink.old }
+    {
+        if self.left > 0 {
+            return Ok(());
+        }
+        sink.take(Token::CloseLeaf)?;
+        self.settle(sink)
     }
-}
 
-/// The lesser of two numbers, where there are any.
-fn least(a: Option<u64>, b: Option<u64>) -> Option<u64>
-    ensures { result ≡ spec.least a b }
-{
-    match (a, b) {
-        (Some(a), Some(b)) => Some(a.min(b)),
-        (Some(a), None) => Some(a),
-        (None, b) => b,
+    /// Goes over bytes of the open value.
+    fn read_value<S: Sink>(&mut self, value: &[u8], sink: &mut S) -> Result<(), Halt>
+        requires head { self.old.head.items ≡ [] }
+        requires fits { length value.now ≤ self.old.left }
+        requires within { self.old.position + length value.now ≤ 2 ^ 62 }
+        ensures comes { spec.Comes S.step S.writes (S.state sink.old) (S.contents sink.old) (S.state sink.new) (S.contents sink.new) (spec.reading self.new) (spec.value_read (spec.reading self.old None) (self.old.left - length value.now) value.now) result }
+        ensures failed { spec.TellsHalt (S.has_failed sink.old) (S.has_failed sink.new) result }
+        ensures kept { S.kept sink.new ≡ S.kept sink.old }
+    {
+        sink.take(Token::Bytes(value))?;
+        self.position += value.len() as u64;
+        self.left -= value.len() as u32;
+        self.settle_value(sink)
     }
-}
 
-/// The bytes up to the nearest end of an open container, where one is known.
-pub fn room(position: u64, levels: &[Level]) -> Option<u64>
-    ensures { result ≡ spec.room position (reverse levels.now) }
-{
-    let mut nearest = None;
-    for level in levels {
-        nearest = least(distance(position, level.end_offset), nearest);
+    /// Goes into what a head opens, or out of what it closes.
+    fn enter<S: Sink>(&mut self, opening: Opening, sink: &mut S) -> Result<(), Halt>
+        requires head { self.old.head.items ≡ [] }
+        requires left { self.old.left ≡ 0 }
+        requires few { length (opened_by (reverse self.old.levels.items) opening).levels ≤ 129 }
+        ensures comes { spec.Comes S.step S.writes (S.state sink.old) (S.contents sink.old) (S.state sink.new) (S.contents sink.new) (spec.reading self.new) (spec.entered self.old.position (opened_by (reverse self.old.levels.items) opening)) result }
+        ensures failed { spec.TellsHalt (S.has_failed sink.old) (S.has_failed sink.new) result }
+        ensures kept { S.kept sink.new ≡ S.kept sink.old }
+    {
+        sink.take(opening_token(opening))?;
+        match opening {
+            Opening::Leaf(_, _, size) | Opening::Fragment(size) => {
+                self.left = size;
+                return self.settle_value(sink);
+            }
+            Opening::List(_, _, level) | Opening::Item(level) => self.levels.push(level),
+            Opening::End(_) => {
+                self.levels.pop();
+            }
+        }
+        self.settle(sink)
     }
-    nearest
-}
 
-/// Whether so many bytes do not fit into the room.
-pub fn passes(size: u64, room: Option<u64>) -> bool
-    ensures { result ≡ spec.passes size room }
-{
-    match room {
-        Some(room) => room < size,
-        None => false,
+    /// Goes over bytes that end no head.
+    fn read_head_bytes(&mut self, bytes: &[u8])
+        requires { length self.old.head.items + length bytes.now < 8 }
+        ensures { spec.reading self.new None ≡ record (spec.reading self.old None) { head = self.old.head.items ++ bytes.now } }
+    {
+        let _ = self.head.try_extend_from_slice(bytes);
     }
-}
 
-/// How many sequences and fragment lists are open.
-pub fn depth(levels: &[Level]) -> usize
-    ensures { result ≡ spec.depth (reverse levels.now) }
-{
-    let mut count = 0;
-    for level in levels {
-        count += counts(level.container);
+    /// Goes over a byte that may end a head.
+    fn read_head_byte<S: Sink>(&mut self, byte: u8, sink: &mut S) -> Result<(), Halt>
+        requires stands { spec.Stands (spec.reading self.old None) }
+        requires left { self.old.left ≡ 0 }
+        requires long { 7 ≤ length self.old.head.items }
+        requires within { self.old.position + length self.old.head.items < 2 ^ 62 }
+        ensures feeds { spec.Feeds S.bar S.step S.writes (spec.reading self.old None) (S.state sink.old) (S.contents sink.old) (spec.reading self.new) (S.state sink.new) (S.contents sink.new) (byte ∷ []) result }
+        ensures failed { spec.TellsHalt (S.has_failed sink.old) (S.has_failed sink.new) result }
+        ensures kept { S.kept sink.new ≡ S.kept sink.old }
+    {
+        let Some(inner) = self.levels.as_slice().last() else {
+            return Ok(());
+        };
+        let inner = *inner;
+        self.head.push(byte);
+        let judged = judge(
+            inner,
+            self.levels.as_slice(),
+            self.position,
+            self.head.as_slice(),
+            sink,
+        );
+        let opening = match judged {
+            Ok(opening) => opening,
+            Err(fault) => {
+                self.head.clear();
+                return Err(refused(fault, self.position));
+            }
+        };
+        let Some(opening) = opening else {
+            return Ok(());
+        };
+        self.position += self.head.len() as u64;
+        self.head.clear();
+        self.enter(opening, sink)
     }
-    count
-}
 
-fn counts(container: Container) -> usize
-    ensures { result ≡ spec.counts container }
-{
-    match container {
-        Container::Sequence | Container::FragmentList => 1,
-        Container::DataSet | Container::Item => 0,
+    /// Goes over a beginning of the bytes, and tells how many.
+    pub fn read_some<S: Sink>(&mut self, piece: &[u8], sink: &mut S) -> Result<usize, Halt>
+        requires some { 0 < length piece.now }
+        requires stands { spec.Stands (spec.reading self.old None) }
+        ensures some { IfOk result (λ n. (0 < n) × (n ≤ length piece.now)) }
+        ensures feeds { spec.Feeds S.bar S.step S.writes (spec.reading self.old None) (S.state sink.old) (S.contents sink.old) (spec.reading self.new) (S.state sink.new) (S.contents sink.new) (spec.bytes_read result piece.now) result }
+        ensures failed { spec.TellsHalt (S.has_failed sink.old) (S.has_failed sink.new) result }
+        ensures kept { S.kept sink.new ≡ S.kept sink.old }
+    {
+        let read = self.position + self.head.len() as u64;
+        if read >= INPUT_LIMIT {
+            self.head.clear();
+            return Err(refused(Fault::TooLong, INPUT_LIMIT));
+        }
+        let most = (INPUT_LIMIT - read).min(piece.len() as u64);
+        if self.left > 0 {
+            let n = most.min(u64::from(self.left)) as usize;
+            let (value, _) = piece.split_at(n);
+            self.read_value(value, sink)?;
+            return Ok(n);
+        }
+        let n = (most as usize).min((SHORT_HEAD - 1).saturating_sub(self.head.len()));
+        if n > 0 {
+            let (bytes, _) = piece.split_at(n);
+            self.read_head_bytes(bytes);
+            return Ok(n);
+        }
+        self.read_head_byte(piece[0], sink)?;
+        Ok(1)
     }
-}
 
-/// Whether an element of this form opens a sequence or a fragment list.
-pub fn opens_list(form: Form) -> bool
-    ensures { result ≡ stops.opens_list form }
-{
-    matches!(form, Form::Sequence | Form::FragmentList)
-}
+    /// Whether the data set may end here: it alone is open, and no byte of a head stands behind it.
+    fn may_end(&self) -> bool {
+        let is_top = match self.levels.as_slice().last() {
+            Some(inner) => inner.container == Container::DataSet,
+            None => false,
+        };
+        self.left == 0 && is_top && self.head.is_empty()
+    }
 
-/// The bytes of a head and of what it declares.
-pub fn with_length(head: u64, declared: Length) -> u64
-    requires { head ≤ 2 ^ 62 }
-    ensures { result ≡ stops.with_length head declared }
-{
-    match declared {
-        Length::Known(size) => head + u64::from(size),
-        Length::Undefined => head,
+    /// The input ends here.
+    pub fn end<S: Sink>(&self, sink: &mut S) -> Result<(), Halt>
+        requires { spec.Stands (spec.reading self.now None) }
+    {
+        if !self.may_end() {
+            let read = self.position + self.head.len() as u64;
+            return Err(refused(Fault::EndsEarly, read));
+        }
+        sink.take(Token::End)?;
+        Ok(())
     }
 }

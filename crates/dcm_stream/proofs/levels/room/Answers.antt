@@ -1,5 +1,5 @@
 use Rattle.dcm_stream.proofs.Rooms.{no_room, room_step}
-use Rattle.dcm_stream.proofs.place.room.Goals as goal
+use Rattle.dcm_stream.proofs.levels.room.Goals as goal
 
 pub loop-level-init : goal.loop-level-init
 loop-level-init c = no_room c.args.position

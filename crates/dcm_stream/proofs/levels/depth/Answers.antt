@@ -1,6 +1,6 @@
 use Rattle.std.proofs.Common.{◌≤◌, arith}
 use Rattle.dcm_stream.proofs.Rooms.{no_depth, depth_step, counts_few}
-use Rattle.dcm_stream.proofs.place.depth.Goals as goal
+use Rattle.dcm_stream.proofs.levels.depth.Goals as goal
 
 pub loop-level-init : goal.loop-level-init
 loop-level-init c = record { count = no_depth; few = omega arith }

@@ -1,6 +1,6 @@
 use Rattle.std.proofs.Common.{◌≡◌, ◌≤◌, take, reverse}
 use Rattle.dcm_base.specs.Place as spec
-use Rattle.dcm_stream.proofs.place.depth.Given as goal
+use Rattle.dcm_stream.proofs.levels.depth.Given as goal
 
 -- the depth of the outer containers so far, one at most for each
 abbrev pub invariant-loop-level : goal.invariant-loop-level

@@ -1,0 +1,154 @@
+// The open containers, the outermost first, and the room in them.
+ghost use Rattle.std.specs.Prelude.{◌≡◌, ℕ, ◌+◌, ◌^◌, ◌<◌, ◌≤◌, reverse, length};
+ghost use Rattle.dcm_base.specs.Tag as tags;
+ghost use Rattle.dcm_base.specs.Place as spec;
+ghost use Rattle.dcm_base.specs.Stop as stops;
+
+use dcm_base::{Container, Form, Length, Level, Syntax, Tag};
+
+/// The group of items and delimiters, and the elements of each (PS3.5 7.5).
+pub const ITEM_GROUP: u16 = 0xFFFE;
+
+const ITEM: u16 = 0xE000;
+
+const ITEM_END: u16 = 0xE00D;
+
+const SEQUENCE_END: u16 = 0xE0DD;
+
+/// The group of the meta elements, which stand in no data set (PS3.10 7.1).
+const META_GROUP: u16 = 0x0002;
+
+pub fn is_item(tag: Tag) -> bool
+    ensures { result ≡ tags.is_item tag }
+{
+    tag.group == ITEM_GROUP && tag.element == ITEM
+}
+
+fn is_item_end(tag: Tag) -> bool
+    ensures { result ≡ tags.is_item_end tag }
+{
+    tag.group == ITEM_GROUP && tag.element == ITEM_END
+}
+
+fn is_sequence_end(tag: Tag) -> bool
+    ensures { result ≡ tags.is_sequence_end tag }
+{
+    tag.group == ITEM_GROUP && tag.element == SEQUENCE_END
+}
+
+fn is_data(tag: Tag) -> bool
+    ensures { result ≡ spec.is_data tag }
+{
+    tag.group != ITEM_GROUP && tag.group != META_GROUP
+}
+
+/// Whether a head of this tag may come in a container (PS3.5 7.5).
+#[tactic(auto, unfolding(dcm_base::specs::Place::is_allowed))]
+pub fn is_allowed(container: Container, declared: Length, tag: Tag) -> bool
+    ensures { result ≡ spec.is_allowed container declared tag }
+{
+    let is_undefined = declared == Length::Undefined;
+    match container {
+        Container::DataSet => is_data(tag),
+        Container::Item => is_data(tag) || (is_undefined && is_item_end(tag)),
+        Container::Sequence => is_item(tag) || (is_undefined && is_sequence_end(tag)),
+        Container::FragmentList => is_item(tag) || is_sequence_end(tag),
+    }
+}
+
+/// A container whose contents begin at this offset.
+pub fn level_at(container: Container, syntax: Syntax, declared: Length, begin: u64) -> Level
+    requires { begin ≤ 2 ^ 62 }
+    ensures { result ≡ spec.level container syntax declared begin }
+{
+    let end_offset = match declared {
+        Length::Known(size) => Some(begin + u64::from(size)),
+        Length::Undefined => None,
+    };
+    Level {
+        container,
+        syntax,
+        declared,
+        end_offset,
+    }
+}
+
+/// The bytes up to an end.
+fn distance(position: u64, end_offset: Option<u64>) -> Option<u64>
+    ensures { result ≡ spec.distance position end_offset }
+{
+    match end_offset {
+        Some(end) => Some(end.saturating_sub(position)),
+        None => None,
+    }
+}
+
+/// The lesser of two numbers, where there are any.
+fn least(a: Option<u64>, b: Option<u64>) -> Option<u64>
+    ensures { result ≡ spec.least a b }
+{
+    match (a, b) {
+        (Some(a), Some(b)) => Some(a.min(b)),
+        (Some(a), None) => Some(a),
+        (None, b) => b,
+    }
+}
+
+/// The bytes up to the nearest end of an open container, where one is known.
+pub fn room(position: u64, levels: &[Level]) -> Option<u64>
+    ensures { result ≡ spec.room position (reverse levels.now) }
+{
+    let mut nearest = None;
+    for level in levels {
+        nearest = least(distance(position, level.end_offset), nearest);
+    }
+    nearest
+}
+
+/// Whether so many bytes do not fit into the room.
+pub fn passes(size: u64, room: Option<u64>) -> bool
+    ensures { result ≡ spec.passes size room }
+{
+    match room {
+        Some(room) => room < size,
+        None => false,
+    }
+}
+
+/// How many sequences and fragment lists are open.
+pub fn depth(levels: &[Level]) -> usize
+    ensures { result ≡ spec.depth (reverse levels.now) }
+{
+    let mut count = 0;
+    for level in levels {
+        count += counts(level.container);
+    }
+    count
+}
+
+fn counts(container: Container) -> usize
+    ensures { result ≡ spec.counts container }
+{
+    match container {
+        Container::Sequence | Container::FragmentList => 1,
+        Container::DataSet | Container::Item => 0,
+    }
+}
+
+/// Whether an element of this form opens a sequence or a fragment list.
+pub fn opens_list(form: Form) -> bool
+    ensures { result ≡ stops.opens_list form }
+{
+    matches!(form, Form::Sequence | Form::FragmentList)
+}
+
+/// The bytes of a head and of what it declares.
+pub fn with_length(head: u64, declared: Length) -> u64
+    requires { head ≤ 2 ^ 62 }
+    ensures { result ≡ stops.with_length head declared }
+{
+    match declared {
+        Length::Known(size) => head + u64::from(size),
+        Length::Undefined => head,
+    }
+}
