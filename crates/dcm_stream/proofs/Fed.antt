@@ -18,10 +18,11 @@ use Rattle.dcm_stream.specs.declared.token.Bar.{Bar}
 use Rattle.dcm_stream.specs.declared.place.Place.{Place}
 use Rattle.dcm_stream.specs.declared.machine.Halt.{Halt}
 use Rattle.dcm_stream.specs.declared.machine.Halt.TheVariants.{Refused, Output}
-use Rattle.dcm_stream.specs.Reading.{Reading, halted, Opened, closing, settled, is_undecided, head_opens, head_read, byte_read, read_byte}
+use Rattle.dcm_base.specs.declared.syntax.Syntax.{Syntax}
+use Rattle.dcm_stream.specs.Reading.{Reading, start_of, halted, Opened, closing, settled, is_undecided, head_opens, head_read, byte_read, read_byte}
 use Rattle.dcm_stream.specs.Judging.{bars_head}
 use Rattle.dcm_stream.specs.Machine.{steps, steps_write, reading, Stands, went, halt_of, Feeds}
-use Rattle.dcm_stream.proofs.Bounds.{stays_small}
+use Rattle.dcm_stream.proofs.Bounds.{stays_small, start_small}
 use Rattle.dcm_stream.proofs.Waits.{sinks_never_early}
 use Rattle.dcm_stream.proofs.Drives.{halted_stays, halted_silent, limit_byte}
 
@@ -47,6 +48,10 @@ byte_within bar r b None true (suc n) le lt = omega (arith, lt refl, settled_at 
 byte_within bar r b None true zero le lt =
     let less = lt refl in
     head_within r (r.head ++ b ∷ []) (innermost_stop bar r.levels r.position (r.head ++ b ∷ [])) (rw length-append (omega (arith, less)))
+
+-- at the beginning
+pub start_stands : (s : Syntax) (start : ℕ) → start ≤ INPUT_LIMIT → Stands (start_of s start)
+start_stands s start le = record { small = start_small s start; within = omega arith }
 
 module _ {S : Type 0} (bars : S → Head → Option Bar) (step : S → Atom → S) (writes : S → Atom → List ℕ) where
   pub stands_byte : (r : Reading) (s : S) (b : ℕ) → Stands r → Stands (read_byte (bars_head bars s) r b).0

@@ -20,3 +20,5 @@ pub mod Closes
 pub mod Enters
 pub mod HeadBytes
 pub mod Pieces
+pub mod Finishes
+pub mod Calls

@@ -1,19 +1,19 @@
 -- A machine and the sink that it drives.
-use Rattle.std.specs.Prelude.{◌≡◌, ℕ, ◌+◌, ◌≤◌, List, [], ◌∷◌, ◌++◌, length, take, map, reverse, Bool, true, false, Option, Some, None, Result, Ok, Err, fold}
+use Rattle.std.specs.Prelude.{◌≡◌, ℕ, ◌+◌, ◌≤◌, List, [], ◌∷◌, ◌++◌, length, take, map, reverse, Bool, true, false, Option, Some, None, Result, Ok, Err, fold, ⊤, is_some, ◌||◌, ◌&&◌, ◌==◌}
 use Rattle.std.specs.Io.KnownBytes.{append_known}
 use Rattle.dcm_base.specs.declared.fault.Fault.{Fault}
 use Rattle.dcm_base.specs.declared.level.Level.{Level}
 use Rattle.dcm_base.specs.Atoms.{Atom, value_byte}
 use Rattle.dcm_base.specs.Device.{AppendsFront}
 use Rattle.dcm_base.specs.Steps.{outputs, Goes}
-use Rattle.dcm_base.specs.Stop.{Stop, HeadBar, complete, refused}
+use Rattle.dcm_base.specs.Stop.{Stop, complete, refused, is_empty}
 use Rattle.dcm_base.specs.Reads.{INPUT_LIMIT}
 use Rattle.dcm_head.specs.declared.head.Head.{Head}
 use Rattle.dcm_stream.specs.declared.token.Bar.{Bar}
 use Rattle.dcm_stream.specs.declared.place.Place.{Place}
 use Rattle.dcm_stream.specs.declared.machine.Halt.{Halt}
 use Rattle.dcm_stream.specs.declared.machine.Halt.TheVariants.{Refused, Output}
-use Rattle.dcm_stream.specs.Reading.{Reading, Opened, closing, settled, read_byte, drives_byte, finish, end_shows}
+use Rattle.dcm_stream.specs.Reading.{Reading, Opened, closing, settled, read_byte, is_top, drives_byte}
 use Rattle.dcm_stream.specs.Judging.{bars_head}
 use Rattle.dcm_stream.specs.Bounds.{IsSmall}
 
@@ -85,3 +85,59 @@ Feeds bars step writes old s held new t holds bytes r =
 abbrev pub bytes_read : Result ℕ Halt → List ℕ → List ℕ
 bytes_read (Ok n) piece = take n piece
 bytes_read (Err halt) piece = piece
+
+-- whether the data set may end at a place
+abbrev pub may_end : Place → Bool
+may_end p = (p.left == 0) && is_top (reverse p.levels.items) && is_empty p.head.items
+
+-- how the input's end is answered
+abbrev pub EndsWith : {T : Type 0} → Stop → Result T Halt → Type 0
+EndsWith complete (Ok x) = ⊤
+EndsWith complete (Err (Refused stop)) = ⊥
+EndsWith complete (Err Output) = ⊤
+EndsWith (refused fault offset) (Ok x) = ⊥
+EndsWith (refused fault offset) (Err (Refused stop)) = (stop.fault ≡ fault) × (stop.at ≡ offset)
+EndsWith (refused fault offset) (Err Output) = ⊥
+
+-- ---- the machine
+
+-- what a machine has read, and whether its sink's output failed
+pub record Progress : Type 0 where
+  pub reading : Reading
+  pub failed : Bool
+
+abbrev pub stop_of : Option Halt → Option Stop
+stop_of None = None
+stop_of (Some (Refused stop)) = Some (refused stop.fault stop.at)
+stop_of (Some Output) = None
+
+abbrev pub is_output : Option Halt → Bool
+is_output None = false
+is_output (Some (Refused stop)) = false
+is_output (Some Output) = true
+
+-- whether it goes no further
+abbrev pub is_halted : Progress → Bool
+is_halted p = p.failed || is_some p.reading.halt
+
+-- what a call answers
+abbrev pub answer : Option Stop → (failed : Bool) → Result (Unit {0}) Halt
+answer halt true = Err Output
+answer None false = Ok tt
+answer (Some complete) false = Ok tt
+answer (Some (refused fault offset)) false = Err (Refused (record { fault = fault; at = offset }))
+
+-- whether the output went well
+abbrev pub well : (failed : Bool) → Result (Unit {0}) (Unit {0})
+well true = Err tt
+well false = Ok tt
+
+-- the writer failed in the call just where the output did
+abbrev pub TellsFailed : (old new : Bool) → (failed : Bool) → Type 0
+TellsFailed old new true = new ≡ true
+TellsFailed old new false = new ≡ old
+
+-- behind the input's end
+abbrev pub ended : Stop → Reading → Reading
+ended complete r = r
+ended (refused fault offset) r = record r { halt = Some (refused fault offset) }

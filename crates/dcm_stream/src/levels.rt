@@ -3,6 +3,7 @@ ghost use Rattle.std.specs.Prelude.{◌≡◌, ℕ, ◌+◌, ◌^◌, ◌<◌, �
 ghost use Rattle.dcm_base.specs.Tag as tags;
 ghost use Rattle.dcm_base.specs.Place as spec;
 ghost use Rattle.dcm_base.specs.Stop as stops;
+ghost use Rattle.dcm_stream.specs.Reading as reading;
 
 use dcm_base::{Container, Form, Length, Level, Syntax, Tag};
 
@@ -150,5 +151,15 @@ pub fn with_length(head: u64, declared: Length) -> u64
     match declared {
         Length::Known(size) => head + u64::from(size),
         Length::Undefined => head,
+    }
+}
+
+/// Whether the data set alone is open.
+pub fn is_top(levels: &[Level]) -> bool
+    ensures { result ≡ reading.is_top (reverse levels.now) }
+{
+    match levels.last() {
+        Some(inner) => inner.container == Container::DataSet,
+        None => false,
     }
 }

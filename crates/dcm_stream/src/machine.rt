@@ -1,9 +1,13 @@
 // The machine that reads a data set in pieces (PS3.5 7).
-ghost use Rattle.std.specs.Prelude.{◌≡◌, ◌≤◌, ◌^◌};
+ghost use Rattle.std.specs.Prelude.{◌≡◌, ◌≤◌, ◌^◌, true, false};
+ghost use Rattle.dcm_base.specs.Steps.{Goes};
+ghost use Rattle.dcm_stream.specs.Reading as steps;
+ghost use Rattle.dcm_stream.specs.Machine as spec;
 
 use super::Sink;
 use super::place::Place;
 use dcm_base::{Coding, Stop, WriteFailed};
+use std::marker::Model;
 
 /// No more than so many bytes of an input are read.
 pub const INPUT_LIMIT: u64 = 1 << 62;
@@ -35,10 +39,22 @@ pub struct Machine {
     halt: Option<Halt>,
 }
 
+impl Model for Machine {
+    ghost use Rattle.std.specs.Prelude.{◌≡◌, None};
+    ghost use Rattle.dcm_stream.specs.Machine.{Progress, Stands, reading, stop_of, is_output};
+
+    ghost Value = { Progress };
+
+    ghost view = { λ m. record { reading = reading m.place (stop_of m.halt); failed = is_output m.halt } };
+
+    ghost invariant = { λ m. m.halt ≡ None → Stands (reading m.place None) };
+}
+
 impl Machine {
     /// A machine for a data set in this coding, whose first byte is at this offset of the input.
     pub fn new(coding: Coding, start: u64) -> Self
         requires { start ≤ 2 ^ 62 }
+        ensures { result ≡ record { reading = steps.start_of coding.syntax start; failed = false } }
     {
         Machine {
             place: Place::new(coding.syntax, start),
@@ -47,7 +63,13 @@ impl Machine {
     }
 
     /// Goes over the next bytes of the data set. After a halt each call answers the same halt.
-    pub fn feed<S: Sink>(&mut self, piece: &[u8], sink: &mut S) -> Result<(), Halt> {
+    pub fn feed<S: Sink>(&mut self, piece: &[u8], sink: &mut S) -> Result<(), Halt>
+        ensures goes { Goes (spec.steps S.bar S.step) (spec.steps_write S.bar S.step S.writes) (self.old.reading, S.state sink.old) (S.contents sink.old) (self.new.reading, S.state sink.new) (S.contents sink.new) piece.now (spec.well self.new.failed) }
+        ensures answer { result ≡ spec.answer self.new.reading.halt self.new.failed }
+        ensures halted { spec.is_halted self.old ≡ true → (self.new ≡ self.old) × (sink.new ≡ sink.old) }
+        ensures failed { spec.is_halted self.old ≡ false → spec.TellsFailed (S.has_failed sink.old) (S.has_failed sink.new) self.new.failed }
+        ensures kept { S.kept sink.new ≡ S.kept sink.old }
+    {
         let mut rest = piece;
         while !rest.is_empty() && self.halt.is_none() {
             match self.place.read_some(rest, sink) {
@@ -61,21 +83,31 @@ impl Machine {
                 }
             }
         }
-        self.answer()
+        answer(self.halt)
     }
 
     /// The input ends. Where that is no fault, the data set is closed.
-    pub fn finish<S: Sink>(&mut self, sink: &mut S) -> Result<(), Halt> {
+    pub fn finish<S: Sink>(&mut self, sink: &mut S) -> Result<(), Halt>
+        ensures goes { Goes S.step S.writes (S.state sink.old) (S.contents sink.old) (S.state sink.new) (S.contents sink.new) (steps.end_shows (steps.finish self.old.reading)) (spec.well self.new.failed) }
+        ensures answer { result ≡ spec.answer self.new.reading.halt self.new.failed }
+        ensures reading { self.old.failed ≡ false → self.new.reading ≡ spec.ended (steps.finish self.old.reading) self.old.reading }
+        ensures halted { spec.is_halted self.old ≡ true → (self.new ≡ self.old) × (sink.new ≡ sink.old) }
+        ensures failed { spec.is_halted self.old ≡ false → spec.TellsFailed (S.has_failed sink.old) (S.has_failed sink.new) self.new.failed }
+        ensures kept { S.kept sink.new ≡ S.kept sink.old }
+    {
         if self.halt.is_none() {
             self.halt = self.place.end(sink).err();
         }
-        self.answer()
+        answer(self.halt)
     }
+}
 
-    fn answer(&self) -> Result<(), Halt> {
-        match self.halt {
-            None => Ok(()),
-            Some(halt) => Err(halt),
-        }
+/// What a call answers.
+fn answer(halt: Option<Halt>) -> Result<(), Halt>
+    ensures { result ≡ spec.answer (spec.stop_of halt) (spec.is_output halt) }
+{
+    match halt {
+        None => Ok(()),
+        Some(halt) => Err(halt),
     }
 }

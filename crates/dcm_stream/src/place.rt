@@ -8,7 +8,7 @@ ghost use Rattle.dcm_stream.specs.Machine as spec;
 
 use super::close::{MOST_LEVELS, close_full, opening_token};
 use super::judge::{Opening, judge};
-use super::levels::{level_at, passes, room};
+use super::levels::{is_top, level_at, passes, room};
 use super::machine::INPUT_LIMIT;
 use super::{Halt, Sink, Token};
 use arrayvec::ArrayVec;
@@ -202,17 +202,19 @@ impl Place {
     }
 
     /// Whether the data set may end here: it alone is open, and no byte of a head stands behind it.
-    fn may_end(&self) -> bool {
-        let is_top = match self.levels.as_slice().last() {
-            Some(inner) => inner.container == Container::DataSet,
-            None => false,
-        };
-        self.left == 0 && is_top && self.head.is_empty()
+    fn may_end(&self) -> bool
+        ensures { result ≡ spec.may_end self.now }
+    {
+        self.left == 0 && is_top(self.levels.as_slice()) && self.head.is_empty()
     }
 
-    /// The input ends here.
+    /// The input ends here: the data set is closed where it may end.
     pub fn end<S: Sink>(&self, sink: &mut S) -> Result<(), Halt>
         requires { spec.Stands (spec.reading self.now None) }
+        ensures answer { spec.EndsWith (steps.finish (spec.reading self.now None)) result }
+        ensures goes { Goes S.step S.writes (S.state sink.old) (S.contents sink.old) (S.state sink.new) (S.contents sink.new) (steps.end_shows (steps.finish (spec.reading self.now None))) (spec.went result) }
+        ensures failed { spec.TellsHalt (S.has_failed sink.old) (S.has_failed sink.new) result }
+        ensures kept { S.kept sink.new ≡ S.kept sink.old }
     {
         if !self.may_end() {
             let read = self.position + self.head.len() as u64;
