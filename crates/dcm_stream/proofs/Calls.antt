@@ -4,6 +4,9 @@ use Rattle.std.specs.Prelude.{◌==◌, fold, is_some, ◌||◌}
 use Rattle.std.proofs.lemmas.Bool.{eqb-true}
 use Rattle.std.proofs.lemmas.List.{nil_from_length}
 use Rattle.std.specs.Io.KnownBytes.{append_known}
+use Rattle.std.specs.Result.{result_err}
+use Rattle.dcm_base.specs.declared.fault.Fault.{Fault}
+use Rattle.dcm_base.specs.declared.fault.Stop.{Stop as Refusal}
 use Rattle.dcm_base.specs.Atoms.{Atom}
 use Rattle.dcm_base.specs.Device.{AppendsFront}
 use Rattle.dcm_base.specs.Steps.{outputs, Goes}
@@ -104,3 +107,62 @@ module _ {S : Type 0} (bars : S → Head → Option Bar) (step : S → Atom → 
 
 pub empty_by : (xs : List ℕ) → true ≡ (length xs == 0) → xs ≡ []
 empty_by xs e = nil_from_length xs (eqb-true (length xs) 0 (sym e))
+
+-- ---- the input's end
+
+abbrev pub View : Place → Option Halt → Progress → Type 0
+View place halt p = ◌≡◌ {A = Progress} (record { reading = reading place (stop_of halt); failed = is_output halt }) p
+
+view_at : (place : Place) (before : Option Halt) (p : Progress) → View place before p → before ≡ None → reading place None ≡ p.reading
+view_at place before p view e = ap (λ (h : Option Halt). reading place (stop_of h)) (sym e) ∙ ap (λ (q : Progress). q.reading) view
+
+refusal : (stop : Refusal) (fault : Fault) (offset : ℕ) → stop.fault ≡ fault → stop.at ≡ offset → Some (refused stop.fault stop.at) ≡ Some (refused fault offset)
+refusal stop fault offset e f = ap (λ (x : Fault). Some (refused x stop.at)) e ∙ ap (λ (n : ℕ). Some (refused fault n)) f
+
+ended_by : (place : Place) (r : Reading) (end : Stop) (result : Result (Unit {0}) Halt) → reading place None ≡ r → EndsWith end result → reading place (stop_of (result_err result)) ≡ ended end r
+ended_by place r complete (Ok x) e h = e
+ended_by place r complete (Err (Refused stop)) e h = absurd h
+ended_by place r complete (Err Output) e h = e
+ended_by place r (refused fault offset) (Ok x) e h = absurd h
+ended_by place r (refused fault offset) (Err (Refused stop)) e h = ap (λ (o : Option Stop). reading place o) (refusal stop fault offset h.0 h.1) ∙ ap (λ (x : Reading). record x { halt = Some (refused fault offset) }) e
+ended_by place r (refused fault offset) (Err Output) e h = absurd h
+
+-- what is read behind the end
+pub ended_reading : (place : Place) (before after : Option Halt) (p : Progress) (result : Result (Unit {0}) Halt) → View place before p → before ≡ None → after ≡ result_err result → EndsWith (finish (reading place None)) result
+    → reading place (stop_of after) ≡ ended (finish p.reading) p.reading
+ended_reading place before after p result view e f h =
+    let at = view_at place before p view e in
+    ap (λ (o : Option Halt). reading place (stop_of o)) f ∙ ended_by place p.reading (finish p.reading) result at (subst (λ (r : Reading). EndsWith (finish r) result) at h)
+
+still_at : (place : Place) (halt : Option Halt) → is_some halt ≡ true → is_output halt ≡ false → reading place (stop_of halt) ≡ ended (finish (reading place (stop_of halt))) (reading place (stop_of halt))
+unfolding finish
+still_at place None e f = absurd (cc)
+still_at place (Some (Refused stop)) e f = refl
+still_at place (Some Output) e f = absurd (cc)
+
+pub still_reading : (place : Place) (halt : Option Halt) (p : Progress) → View place halt p → is_some halt ≡ true → p.failed ≡ false → reading place (stop_of halt) ≡ ended (finish p.reading) p.reading
+still_reading place halt p view e f =
+    let failed = ap (λ (q : Progress). q.failed) view ∙ f in
+    still_at place halt e failed ∙ ap (λ (r : Reading). ended (finish r) r) (ap (λ (q : Progress). q.reading) view)
+
+well_of : (result : Result (Unit {0}) Halt) → well (is_output (result_err result)) ≡ went result
+well_of (Ok x) = refl
+well_of (Err (Refused stop)) = refl
+well_of (Err Output) = refl
+
+module _ {S : Type 0} (step : S → Atom → S) (writes : S → Atom → List ℕ) where
+  -- what is shown at the end
+  pub ended_goes : (place : Place) (before after : Option Halt) (p : Progress) (result : Result (Unit {0}) Halt) (s : S) (held : Option (List ℕ)) (t : S) (holds : Option (List ℕ)) → View place before p → before ≡ None → after ≡ result_err result
+      → Goes step writes s held t holds (end_shows (finish (reading place None))) (went result) → Goes step writes s held t holds (end_shows (finish p.reading)) (well (is_output after))
+  ended_goes place before after p result s held t holds view e f h =
+      subst (λ (r : Reading). Goes step writes s held t holds (end_shows (finish r)) (well (is_output after))) (view_at place before p view e)
+      (subst (λ (x : Result (Unit {0}) (Unit {0})). Goes step writes s held t holds (end_shows (finish (reading place None))) x) (sym (ap (λ (o : Option Halt). well (is_output o)) f ∙ well_of result)) h)
+
+  silent_at : (place : Place) (halt : Option Halt) (s : S) (held : Option (List ℕ)) → is_some halt ≡ true → Goes step writes s held s held (end_shows (finish (reading place (stop_of halt)))) (well (is_output halt))
+  unfolding finish
+  silent_at place None s held e = absurd (cc)
+  silent_at place (Some (Refused stop)) s held e = (refl, sym (append_known_none held))
+  silent_at place (Some Output) s held e = record { front = []; rest = _; whole = refl; grown = sym (append_known_none held) }
+
+  pub still_goes : (place : Place) (halt : Option Halt) (p : Progress) (s : S) (held : Option (List ℕ)) → View place halt p → is_some halt ≡ true → Goes step writes s held s held (end_shows (finish p.reading)) (well (is_output halt))
+  still_goes place halt p s held view e = subst (λ (q : Progress). Goes step writes s held s held (end_shows (finish q.reading)) (well (is_output halt))) view (silent_at place halt s held e)

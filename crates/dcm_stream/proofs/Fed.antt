@@ -95,10 +95,10 @@ module _ {S : Type 0} (bars : S → Head → Option Bar) (step : S → Atom → 
       let byte = limit_byte bars step writes old s b none le in
       let r = halted old (refused TooLong INPUT_LIMIT) in (
         ap (λ (x : Rattle.dcm_base.specs.declared.fault.Fault.Fault). (new (Some (refused x stop.at)), s)) f
-        ∙ ap (λ (n : ℕ). (new (Some (refused TooLong n)), s)) a
-        ∙ ap (λ (n : Reading). (n, s)) e
-        ∙ sym (ap (λ (q : Reading × List Atom). fold (steps bars step) (q.0, fold step s q.1) bs) byte ∙ halted_stays bars step writes r.position r.head r.left r.levels (refused TooLong INPUT_LIMIT) s bs),
+            ∙ ap (λ (n : ℕ). (new (Some (refused TooLong n)), s)) a
+            ∙ ap (λ (n : Reading). (n, s)) e
+            ∙ sym (ap (λ (q : Reading × List Atom). fold (steps bars step) (q.0, fold step s q.1) bs) byte ∙ halted_stays bars step writes r.position r.head r.left r.levels (refused TooLong INPUT_LIMIT) s bs),
         sym (append_known_none held)
-        ∙ ap (append_known held) (sym (ap (λ (q : Reading × List Atom). outputs step writes s q.1 ++ outputs (steps bars step) (steps_write bars step writes) (q.0, fold step s q.1) bs) byte
-        ∙ halted_silent bars step writes r.position r.head r.left r.levels (refused TooLong INPUT_LIMIT) s bs)),
+            ∙ ap (append_known held) (sym (ap (λ (q : Reading × List Atom). outputs step writes s q.1 ++ outputs (steps bars step) (steps_write bars step writes) (q.0, fold step s q.1) bs) byte
+            ∙ halted_silent bars step writes r.position r.head r.left r.levels (refused TooLong INPUT_LIMIT) s bs)),
       )

@@ -16,6 +16,7 @@ use dcm_base::{Container, Fault, Length, Level, Stop, Syntax};
 
 /// The bytes of the shortest head and of the longest.
 const SHORT_HEAD: usize = 8;
+
 const LONG_HEAD: usize = 12;
 
 /// The offset up to which heads and values were read whole, the bytes of a head behind it, the bytes of a value that are
@@ -41,12 +42,7 @@ impl Place {
         ensures { spec.reading result None ≡ steps.start_of syntax start }
     {
         let mut levels = ArrayVec::new();
-        levels.push(level_at(
-            Container::DataSet,
-            syntax,
-            Length::Undefined,
-            start,
-        ));
+        levels.push(level_at(Container::DataSet, syntax, Length::Undefined, start));
         Place {
             position: start,
             head: ArrayVec::new(),

@@ -29,7 +29,7 @@ loop-self-preserved-in-Ok g c =
       front = front ++ take n rest;
       whole = c.loop-self.invariant.whole ∙ ap (λ (xs : List ℕ). front ++ xs) (sym (take-append-drop n rest) ∙ ap (λ (xs : List ℕ). take n rest ++ xs) (sym c.split_at.ensures.back)) ∙ sym (append_assoc front (take n rest) c.split_at.result.1.now);
       goes = gone_on g.S.Sink.bar g.S.Sink.step g.S.Sink.writes c.args.self.now.reading (g.S.Sink.state c.args.sink.now) (g.S.Sink.contents c.args.sink.now) place (g.S.Sink.state c.loop-self.sink) (g.S.Sink.contents c.loop-self.sink)
-      c.read_some.new.self (g.S.Sink.state c.read_some.new.sink) (g.S.Sink.contents c.read_some.new.sink) front (take n rest) c.loop-self.self-inside.halt n none c.loop-self.invariant.goes c.in-Ok.ensures.feeds;
+          c.read_some.new.self (g.S.Sink.state c.read_some.new.sink) (g.S.Sink.contents c.read_some.new.sink) front (take n rest) c.loop-self.self-inside.halt n none c.loop-self.invariant.goes c.in-Ok.ensures.feeds;
       stands = λ h. stands_behind g.S.Sink.bar g.S.Sink.step g.S.Sink.writes (reading place None) (g.S.Sink.state c.loop-self.sink) (take n rest) (reading c.read_some.new.self None) (g.S.Sink.state c.read_some.new.sink) (c.loop-self.invariant.stands none) c.in-Ok.ensures.feeds.0;
       halted = λ h. absurd (not_halted c.self.inside.place c.self.inside.halt c.args.self.now c.self.view_is (ap (λ (i : Inside). i.halt) (sym (c.loop-self.invariant.halted h).0) ∙ none) h);
       failed = λ h. tells_still _ _ c.loop-self.self-inside.halt none (c.in-Ok.ensures.failed ∙ tells_none _ _ c.loop-self.self-inside.halt none (c.loop-self.invariant.failed h));
@@ -46,7 +46,7 @@ loop-self-preserved g c =
       front = front ++ rest;
       whole = c.loop-self.invariant.whole ∙ sym (append-nil (front ++ rest));
       goes = gone_halted g.S.Sink.bar g.S.Sink.step g.S.Sink.writes c.args.self.now.reading (g.S.Sink.state c.args.sink.now) (g.S.Sink.contents c.args.sink.now) place (g.S.Sink.state c.loop-self.sink) (g.S.Sink.contents c.loop-self.sink)
-      c.read_some.new.self (g.S.Sink.state c.read_some.new.sink) (g.S.Sink.contents c.read_some.new.sink) front rest c.loop-self.self-inside.halt c.in-Err.halt none c.loop-self.invariant.goes c.in-Err.ensures.feeds;
+          c.read_some.new.self (g.S.Sink.state c.read_some.new.sink) (g.S.Sink.contents c.read_some.new.sink) front rest c.loop-self.self-inside.halt c.in-Err.halt none c.loop-self.invariant.goes c.in-Err.ensures.feeds;
       stands = λ h. absurd (cc);
       halted = λ h. absurd (not_halted c.self.inside.place c.self.inside.halt c.args.self.now c.self.view_is (ap (λ (i : Inside). i.halt) (sym (c.loop-self.invariant.halted h).0) ∙ none) h);
       failed = λ h. tells_halt ℕ _ _ _ c.in-Err.halt (tells_none _ _ c.loop-self.self-inside.halt none (c.loop-self.invariant.failed h)) c.in-Err.ensures.failed;
