@@ -22,3 +22,4 @@ pub mod HeadBytes
 pub mod Pieces
 pub mod Finishes
 pub mod Calls
+pub mod Driven
