@@ -213,8 +213,8 @@ impl Place {
         ensures kept { S.kept sink.new ≡ S.kept sink.old }
     {
         if !self.may_end() {
-            let read = self.position + self.head.len() as u64;
-            return Err(refused(Fault::EndsEarly, read));
+            let end = self.position + self.head.len() as u64;
+            return Err(refused(Fault::EndsEarly, end));
         }
         sink.take(Token::End)?;
         Ok(())
