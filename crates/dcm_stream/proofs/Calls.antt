@@ -27,6 +27,10 @@ pub none_of : (halt : Option Halt) → is_some halt ≡ false → halt ≡ None
 none_of None e = refl
 none_of (Some halt) e = absurd (cc)
 
+pub no_some : (halt : Option Halt) → halt ≡ None → is_some halt ≡ true → ⊥
+no_some None e f = cc
+no_some (Some halt) e f = cc
+
 pub some_of : (halt : Option Halt) → is_some halt ≡ true → (h : Halt) × (halt ≡ Some h)
 some_of None e = absurd (cc)
 some_of (Some halt) e = (halt, refl)
@@ -38,6 +42,12 @@ halted_by place (Some halt) e h = cc
 -- a machine without a halt is not halted
 pub not_halted : (place : Place) (halt : Option Halt) (p : Progress) → ◌≡◌ {A = Progress} (record { reading = reading place (stop_of halt); failed = is_output halt }) p → halt ≡ None → is_halted p ≡ true → ⊥
 not_halted place halt p view e h = halted_by place halt e (ap is_halted view ∙ h)
+
+-- one that is not halted has no halt
+pub going_none : (halt : Option Halt) → (is_output halt || is_some (stop_of halt)) ≡ false → halt ≡ None
+going_none None e = refl
+going_none (Some (Refused stop)) e = absurd (cc)
+going_none (Some Output) e = absurd (cc)
 
 tells_not : (x failed halts : Bool) → (failed || halts) ≡ false → TellsFailed x x failed
 tells_not x true halts e = absurd (cc)
@@ -113,7 +123,7 @@ empty_by xs e = nil_from_length xs (eqb-true (length xs) 0 (sym e))
 abbrev pub View : Place → Option Halt → Progress → Type 0
 View place halt p = ◌≡◌ {A = Progress} (record { reading = reading place (stop_of halt); failed = is_output halt }) p
 
-view_at : (place : Place) (before : Option Halt) (p : Progress) → View place before p → before ≡ None → reading place None ≡ p.reading
+pub view_at : (place : Place) (before : Option Halt) (p : Progress) → View place before p → before ≡ None → reading place None ≡ p.reading
 view_at place before p view e = ap (λ (h : Option Halt). reading place (stop_of h)) (sym e) ∙ ap (λ (q : Progress). q.reading) view
 
 refusal : (stop : Refusal) (fault : Fault) (offset : ℕ) → stop.fault ≡ fault → stop.at ≡ offset → Some (refused stop.fault stop.at) ≡ Some (refused fault offset)

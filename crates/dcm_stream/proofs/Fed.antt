@@ -21,7 +21,7 @@ use Rattle.dcm_stream.specs.declared.machine.Halt.TheVariants.{Refused, Output}
 use Rattle.dcm_base.specs.declared.syntax.Syntax.{Syntax}
 use Rattle.dcm_stream.specs.Reading.{Reading, start_of, halted, Opened, closing, settled, is_undecided, head_opens, head_read, byte_read, read_byte}
 use Rattle.dcm_stream.specs.Judging.{bars_head}
-use Rattle.dcm_stream.specs.Machine.{steps, steps_write, reading, Stands, went, halt_of, Feeds}
+use Rattle.dcm_stream.specs.Machine.{steps, steps_write, reading, next_offset, Stands, went, halt_of, Feeds}
 use Rattle.dcm_stream.proofs.Bounds.{stays_small, start_small}
 use Rattle.dcm_stream.proofs.Waits.{sinks_never_early}
 use Rattle.dcm_stream.proofs.Drives.{halted_stays, halted_silent, limit_byte}
@@ -49,6 +49,27 @@ byte_within bar r b None true zero le lt =
     let less = lt refl in
     head_within r (r.head ++ b ∷ []) (innermost_stop bar r.levels r.position (r.head ++ b ∷ [])) (rw length-append (omega (arith, less)))
 
+head_reads : (r : Reading) (z : List ℕ) (o : Option Stop) → (head_read r z o).0.halt ≡ None → next_offset (head_read r z o).0 ≡ r.position + length z
+head_reads r z None e = let opened = head_opens (r.position + length z) z r.levels in settled_at (r.position + length z) opened opened.left
+head_reads r z (Some stop) e = undecided_reads r z stop (is_undecided (Some stop)) e
+  where
+    undecided_reads : (r : Reading) (z : List ℕ) (stop : Stop) (u : Bool) → (cond {A = Reading × List Atom} u (record r { head = z }, []) (halted r stop, [])).0.halt ≡ None
+        → next_offset (cond {A = Reading × List Atom} u (record r { head = z }, []) (halted r stop, [])).0 ≡ r.position + length z
+    undecided_reads r z stop true e = refl
+    undecided_reads r z stop false e = absurd (cc)
+
+byte_reads : (bar : HeadBar) (r : Reading) (b : ℕ) (halt : Option Stop) (within : Bool) (n : ℕ) → r.halt ≡ halt → r.left ≡ n → (0 < r.left → r.head ≡ []) → (byte_read bar r b halt within n).0.halt ≡ None
+    → next_offset (byte_read bar r b halt within n).0 ≡ next_offset r + 1
+byte_reads bar r b (Some stop) within n h l no_head e = absurd (cc)
+byte_reads bar r b None false n h l no_head e = absurd (cc)
+byte_reads bar r b None true (suc n) h l no_head e =
+    let none : length r.head ≡ 0 = ap length (no_head (omega arith)) in
+    omega (arith, none, settled_at (r.position + 1) (record { levels = r.levels; left = n; atoms = value_byte b ∷ closing n }) n)
+byte_reads bar r b None true zero h l no_head e =
+    let z = r.head ++ b ∷ [] in
+    let size : length z ≡ length r.head + 1 = length-append r.head (b ∷ []) in
+    omega (arith, size, head_reads r z (innermost_stop bar r.levels r.position z) e)
+
 -- at the beginning
 pub start_stands : (s : Syntax) (start : ℕ) → start ≤ INPUT_LIMIT → Stands (start_of s start)
 start_stands s start le = record { small = start_small s start; within = omega arith }
@@ -68,6 +89,31 @@ module _ {S : Type 0} (bars : S → Head → Option Bar) (step : S → Atom → 
 
   pub stands_behind : (r : Reading) (s : S) (bs : List ℕ) (n : Reading) (t : S) → Stands r → (n, t) ≡ fold (steps bars step) (r, s) bs → Stands n
   stands_behind r s bs n t h e = subst (λ (p : Reading × S). Stands p.0) (sym e) (stands_after r s bs h)
+
+  byte_going : (bar : HeadBar) (r : Reading) (b : ℕ) (halt : Option Stop) (within : Bool) (n : ℕ) → r.halt ≡ halt → (byte_read bar r b halt within n).0.halt ≡ None → r.halt ≡ None
+  byte_going bar r b None within n h e = h
+  byte_going bar r b (Some stop) within n h e = e
+
+  going_before : (r : Reading) (s : S) (bs : List ℕ) → (fold (steps bars step) (r, s) bs).0.halt ≡ None → r.halt ≡ None
+  unfolding read_byte
+  going_before r s [] e = e
+  going_before r s (b ∷ bs) e =
+      byte_going (bars_head bars s) r b r.halt (nat_lt (r.position + length r.head) INPUT_LIMIT) r.left refl (going_before (read_byte (bars_head bars s) r b).0 (fold step s (read_byte (bars_head bars s) r b).1) bs e)
+
+  -- each byte is gone over where nothing halts
+  goes_over : (r : Reading) (s : S) (bs : List ℕ) → Stands r → (fold (steps bars step) (r, s) bs).0.halt ≡ None → next_offset (fold (steps bars step) (r, s) bs).0 ≡ next_offset r + length bs
+  unfolding read_byte
+  goes_over r s [] h e = omega arith
+  goes_over r s (b ∷ bs) h e =
+      let q = read_byte (bars_head bars s) r b in
+      let later = goes_over q.0 (fold step s q.1) bs (stands_byte r s b h) e in
+      let one = byte_reads (bars_head bars s) r b r.halt (nat_lt (r.position + length r.head) INPUT_LIMIT) r.left refl refl h.small.no_head (going_before q.0 (fold step s q.1) bs e) in
+      omega (arith, later, one)
+
+  pub offset_behind : (r : Reading) (s : S) (bs : List ℕ) (n : Reading) (t : S) → Stands r → (n, t) ≡ fold (steps bars step) (r, s) bs → n.halt ≡ None → next_offset n ≡ next_offset r + length bs
+  offset_behind r s bs n t h e none =
+      let same : n ≡ (fold (steps bars step) (r, s) bs).0 = ap (λ (p : Reading × S). p.0) e in
+      ap next_offset same ∙ goes_over r s bs h (ap (λ (x : Reading). x.halt) (sym same) ∙ none)
 
   -- ---- halts
 

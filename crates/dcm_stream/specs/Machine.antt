@@ -32,10 +32,14 @@ steps_write bars step writes p b = outputs step writes p.1 (read_byte (bars_head
 abbrev pub reading : Place → Option Stop → Reading
 reading p halt = record { position = p.position; head = p.head.items; left = p.left; levels = reverse p.levels.items; halt = halt }
 
+-- the offset of the next byte
+abbrev pub next_offset : Reading → ℕ
+next_offset r = r.position + length r.head
+
 -- no more bytes than the limit were read, and little is held
 pub record Stands (r : Reading) : Type 0 where
   pub small : IsSmall r
-  pub within : r.position + length r.head ≤ INPUT_LIMIT
+  pub within : next_offset r ≤ INPUT_LIMIT
 
 -- ---- what a call answers
 

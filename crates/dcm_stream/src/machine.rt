@@ -1,5 +1,5 @@
 // The machine that reads a data set in pieces (PS3.5 7).
-ghost use Rattle.std.specs.Prelude.{◌≡◌, ◌≤◌, ◌^◌, true, false};
+ghost use Rattle.std.specs.Prelude.{◌≡◌, ◌+◌, ◌≤◌, ◌^◌, length, true, false};
 ghost use Rattle.dcm_base.specs.Steps.{Goes};
 ghost use Rattle.dcm_stream.specs.Reading as steps;
 ghost use Rattle.dcm_stream.specs.Machine as spec;
@@ -69,6 +69,9 @@ impl Machine {
         ensures halted { spec.is_halted self.old ≡ true → (self.new ≡ self.old) × (sink.new ≡ sink.old) }
         ensures failed { spec.is_halted self.old ≡ false → spec.TellsFailed (S.has_failed sink.old) (S.has_failed sink.new) self.new.failed }
         ensures kept { S.kept sink.new ≡ S.kept sink.old }
+        // While nothing halts it, it goes over each byte, and over no more than the limit.
+        ensures place { spec.is_halted self.new ≡ false → spec.next_offset self.new.reading ≡ spec.next_offset self.old.reading + length piece.now }
+        ensures within { spec.is_halted self.new ≡ false → spec.next_offset self.new.reading ≤ 2 ^ 62 }
     {
         let mut rest = piece;
         while !rest.is_empty() && self.halt.is_none() {
