@@ -32,6 +32,7 @@ pub mod ReadValueLemmas
 pub mod EditWordLemmas
 pub mod MeaningRows
 pub mod LineRows
+pub mod BuildRows
 pub mod WordRows
 pub mod Puts
 pub mod Runs

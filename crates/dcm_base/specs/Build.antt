@@ -1,5 +1,5 @@
 -- The file that the lines of a dump build.
-use Rattle.std.specs.Prelude.{ℕ, suc, List, [], ◌∷◌, ◌++◌, length, take, fold, reverse, Option, Some, None, unwrap_or, Result, Ok, Err, Bool, true, false, ◌&&◌, ◌||◌, not, ◌==◌, nat_le, nat_lt, ◌+◌, if◌then◌else◌}
+use Rattle.std.specs.Prelude.{ℕ, suc, List, [], ◌∷◌, ◌++◌, length, take, fold, replicate, reverse, Option, Some, None, unwrap_or, Result, Ok, Err, Bool, true, false, ◌&&◌, ◌||◌, not, ◌==◌, nat_le, nat_lt, ◌+◌, if◌then◌else◌}
 use Rattle.std.specs.List.{slice_split}
 use Rattle.std.specs.Option.{is_some, is_none}
 use Rattle.std.specs.Result.{result_ok}
@@ -21,7 +21,9 @@ use Rattle.dcm_base.specs.Place.{Container, the_data_set, an_item, a_sequence, a
 use Rattle.dcm_base.specs.Bars.{innermost_reached}
 use Rattle.dcm_base.specs.Reads.{INPUT_LIMIT}
 use Rattle.dcm_base.specs.MetaGroup.{META_LIMIT}
-use Rattle.dcm_base.specs.MetaReads.{syntax_value}
+use Rattle.dcm_base.specs.MetaReads.{PREFIX, syntax_value}
+use Rattle.dcm_base.specs.NewMeta.{new_meta}
+use Rattle.dcm_base.specs.Recode.{recode}
 use Rattle.dcm_base.specs.Line.{Step, show_leaf, begin_sequence, begin_fragments, begin_item, show_fragment, end_item, end_sequence, Meaning, nothing, one, no_line, means}
 
 -- what the lines so far have shown: the meta group, whether it has ended, and the data set
@@ -345,3 +347,20 @@ built limit bytes = elim (nat_lt INPUT_LIMIT (length bytes)) [
   | true ↦ built_cut limit (lines_of (take INPUT_LIMIT bytes))
   | false ↦ built_whole limit (length bytes) (lines_of bytes)
 ]
+
+-- ---- what is written
+
+abbrev pub coding_or_little : Option Coding → Syntax
+coding_or_little None = Little
+coding_or_little (Some coding) = coding.syntax
+
+-- behind the end of the meta group: a preamble of zeros, the prefix, the group and the data set; and before it nothing
+abbrev pub built_bytes : Built → List ℕ
+built_bytes b =
+    if b.meta_ended
+    then replicate 128 0 ++ PREFIX ++ new_meta b.meta (named_syntax b.meta) ++ recode (coding_or_little (named_coding b.meta)) b.set
+    else []
+
+-- of the beginning of an input: what the lines that have ended have built
+abbrev pub written_so_far : (limit : ℕ) → List ℕ → List ℕ
+written_so_far limit bytes = built_bytes (built_by limit (lines_of bytes).ended).built
