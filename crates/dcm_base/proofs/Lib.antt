@@ -7,6 +7,7 @@ pub mod Apart
 pub mod Fronts
 pub mod Reading
 pub mod ReadingRows
+pub mod CutRows
 pub mod DeepRows
 pub mod DumpRows
 pub mod RecodeRows
@@ -23,7 +24,9 @@ pub mod Answered
 pub mod TagLemmas
 pub mod EditLemmas
 pub mod OverlapLemmas
+pub mod OverlapSteps
 pub mod OneByOne
+pub mod FrontEdits
 pub mod OneByOneFront
 pub mod EditRows
 pub mod OverlapRows
