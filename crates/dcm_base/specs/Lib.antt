@@ -20,6 +20,7 @@ pub mod MetaReads
 pub mod Decimal
 pub mod ValueText
 pub mod Dump
+pub mod Header
 pub mod Recode
 pub mod NewMeta
 pub mod Edit
