@@ -1,1 +1,5 @@
-pub mod Lines
+pub mod LineParts
+pub mod Showing
+pub mod Shown
+pub mod Begun
+pub mod ValueLines

@@ -1,1 +1,4 @@
 pub mod Layout
+pub mod Lengths
+pub mod DumpSink
+pub mod Lines

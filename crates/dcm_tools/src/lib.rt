@@ -1,6 +1,11 @@
 //! What the tools write: the dump of a data set.
 #![tactic(auto)]
 
+mod dump;
+mod header;
 mod layout;
+mod lengths;
+mod lines;
 
-pub use layout::{put_line, put_line_rest, put_line_start};
+pub use dump::DumpSink;
+pub use header::{dump_header, set_header};

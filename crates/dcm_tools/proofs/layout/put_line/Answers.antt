@@ -1,9 +1,9 @@
 use Rattle.std.proofs.Common.{refl, List, ℕ, ◌++◌}
 use Rattle.dcm_base.proofs.PartsOut.{part_failed, parts_put}
 use Rattle.dcm_base.specs.ValueText.{padded}
-use Rattle.dcm_base.specs.Dump.{line, line_start}
+use Rattle.dcm_base.specs.Dump.{line_start}
 use Rattle.dcm_tools.specs.Layout.{line_rest}
-use Rattle.dcm_tools.proofs.Lines.{line_in_parts}
+use Rattle.dcm_tools.proofs.LineParts.{line_in_parts}
 use Rattle.dcm_tools.proofs.layout.put_line.Goals as goal
 
 pub returns-in_err-put_line_start-clause-bytes : goal.returns-in_err-put_line_start-clause-bytes

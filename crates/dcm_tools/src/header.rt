@@ -1,0 +1,98 @@
+// What stands before the lines of a data set.
+ghost use Rattle.std.specs.Prelude.{◌≡◌, ◌≤◌, ◌<◌, ◌^◌, length};
+ghost use Rattle.dcm_base.specs.Device.{Puts, Tells};
+ghost use Rattle.dcm_base.specs.Header as spec;
+ghost use Rattle.dcm_head.specs.MetaReading.{HasEnded};
+
+use crate::lines::Lines;
+use dcm_base::{DeviceOut, Length, Mode, Syntax, Watched, WriteFailed, put_all, uid_name};
+use dcm_head::{Head, Meta, MetaElement, first_element};
+use dcm_stream::Token;
+use dcm_value::escape;
+
+/// Writes bytes of a text, escaped.
+fn put_escaped<W: DeviceOut>(out: &mut Watched<W>, text: &[u8]) -> Result<(), WriteFailed>
+    ensures bytes { Puts (W.contents out.old) (W.contents out.new) (spec.escaped text.now) result }
+    ensures failed { Tells (W.has_failed out.old) (W.has_failed out.new) result }
+{
+    for byte in text {
+        put_all(out, escape(*byte).as_slice())?;
+    }
+    Ok(())
+}
+
+/// Writes the name of a transfer syntax, or its unique identifier.
+fn put_syntax<W: DeviceOut>(uid: &[u8], out: &mut Watched<W>) -> Result<(), WriteFailed>
+    ensures bytes { Puts (W.contents out.old) (W.contents out.new) (spec.syntax_name uid.now) result }
+    ensures failed { Tells (W.has_failed out.old) (W.has_failed out.new) result }
+{
+    match uid_name(uid) {
+        Some(name) => put_all(out, name.as_bytes()),
+        None => put_escaped(out, uid),
+    }
+}
+
+/// Writes what stands before the lines of a data set in this transfer syntax, which is given without its pad.
+pub fn set_header<W: DeviceOut>(uid: &[u8], out: &mut Watched<W>) -> Result<(), WriteFailed>
+    ensures bytes { Puts (W.contents out.old) (W.contents out.new) (spec.set_header uid.now) result }
+    ensures failed { Tells (W.has_failed out.old) (W.has_failed out.new) result }
+{
+    put_all(out, b"# Dicom-Data-Set\n# Used TransferSyntax: ")?;
+    put_syntax(uid, out)?;
+    put_all(out, b"\n")
+}
+
+/// Writes the line of an element of a meta group.
+fn put_element<W: DeviceOut>(
+    lines: &mut Lines,
+    out: &mut Watched<W>,
+    element: MetaElement,
+) -> Result<(), WriteFailed>
+    requires { length element.value.now < 2 ^ 32 }
+    ensures failed { Tells (W.has_failed out.old) (W.has_failed out.new) result }
+{
+    let head = Head {
+        tag: element.tag,
+        vr: element.vr,
+        length: Length::Known(element.value.len() as u32),
+    };
+    lines.take(out, Token::Open(head, Syntax::Little))?;
+    lines.take(out, Token::Bytes(element.value))?;
+    lines.take(out, Token::CloseLeaf)
+}
+
+/// Writes the lines of a meta group.
+fn put_elements<W: DeviceOut>(
+    group: &[u8],
+    mode: Mode,
+    out: &mut Watched<W>,
+) -> Result<(), WriteFailed>
+    requires { length group.now ≤ 16384 }
+    ensures failed { Tells (W.has_failed out.old) (W.has_failed out.new) result }
+{
+    let mut lines = Lines::new(mode);
+    let mut rest = group;
+    'elements: while let Some(element) = first_element(rest) {
+        put_element(&mut lines, out, element)?;
+        rest = element.after;
+    }
+    Ok(())
+}
+
+/// Writes what stands before the lines of a file's data set: the lines of the meta group, and the transfer syntax.
+pub fn dump_header<W: DeviceOut>(
+    meta: &Meta,
+    mode: Mode,
+    out: &mut Watched<W>,
+) -> Result<(), WriteFailed>
+    requires { HasEnded meta.now.end }
+    ensures failed { Tells (W.has_failed out.old) (W.has_failed out.new) result }
+{
+    put_all(
+        out,
+        b"# Dicom-File-Format\n\n# Dicom-Meta-Information-Header\n# Used TransferSyntax: LittleEndianExplicit\n",
+    )?;
+    put_elements(meta.bytes(), mode, out)?;
+    put_all(out, b"\n")?;
+    set_header(meta.uid(), out)
+}
