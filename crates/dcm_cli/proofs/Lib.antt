@@ -1,0 +1,2 @@
+pub mod DumpWordLemmas
+pub mod Composed

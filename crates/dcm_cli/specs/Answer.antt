@@ -1,0 +1,218 @@
+-- What a run answers: the output, the lines on standard error, and the status.
+use Rattle.std.specs.Prelude.{◌≡◌, ℕ, zero, suc, ◌+◌, ◌<◌, ◌≤◌, Bool, true, false, List, [], ◌∷◌, ◌++◌, length, drop, codes, decimal, replicate, Option, Some, None, if◌then◌else◌}
+use Rattle.dcm_base.specs.declared.syntax.Syntax.{Syntax}
+use Rattle.dcm_base.specs.declared.syntax.Syntax.TheVariants.{Implicit, Little, Big}
+use Rattle.dcm_base.specs.declared.syntax.Coding.{Coding}
+use Rattle.dcm_base.specs.declared.fault.Fault.{Fault}
+use Rattle.dcm_base.specs.declared.fault.Fault.TheVariants.{EndsEarly, CannotChange}
+use Rattle.dcm_base.specs.Front.{Front, front}
+use Rattle.dcm_base.specs.Stop.{Stop, complete, refused, Bar}
+use Rattle.dcm_base.specs.Reads.{INPUT_LIMIT, Reads}
+use Rattle.dcm_base.specs.Bars.{no_bar, ascending_bar, fragments_bar}
+use Rattle.dcm_base.specs.MetaReads as meta
+use Rattle.dcm_base.specs.MetaReads.{Meta, MetaReads, PREFIX}
+use Rattle.dcm_base.specs.NewMeta.{new_meta}
+use Rattle.dcm_base.specs.Header.{set_header, meta_header}
+use Rattle.dcm_base.specs.Dump.{dump_front}
+use Rattle.dcm_base.specs.Recode.{recode}
+use Rattle.dcm_base.specs.Edit.{Edit, edited, found}
+use Rattle.dcm_base.specs.Fault.{fault_number, fault_text, line_fault_number, line_fault_text}
+use Rattle.dcm_base.specs.Build as build
+use Rattle.dcm_base.specs.Words.{Job, dump, convert, build as building, modify}
+use Rattle.dcm_cli.specs.Told.{told}
+
+pub record Answer : Type 0 where
+  pub output : List ℕ
+  pub told : List ℕ
+  pub status : ℕ
+
+-- ---- how an input is read
+
+-- refused before its data set, a data set behind a meta group, or a data set alone
+pub data Source : Type 0 where
+  unopened : (fault : Fault) (offset : ℕ) → Source
+  file : (meta : Meta) (coding : Coding) (set : Front) (stop : Stop) → Source
+  alone : (syntax : Syntax) (set : Front) (stop : Stop) → Source
+
+-- the transfer syntaxes that are not encapsulated (PS3.5 annex A)
+abbrev pub uid_of_syntax : Syntax → List ℕ
+uid_of_syntax Implicit = codes "1.2.840.10008.1.2"
+uid_of_syntax Little = codes "1.2.840.10008.1.2.1"
+uid_of_syntax Big = codes "1.2.840.10008.1.2.2"
+
+-- what a conversion writes
+abbrev pub target_syntax : Option Syntax → Coding → Syntax
+target_syntax None coding = coding.syntax
+target_syntax (Some syntax) coding = syntax
+
+abbrev pub target_uid : Option Syntax → Meta → List ℕ
+target_uid None m = m.uid
+target_uid (Some syntax) m = uid_of_syntax syntax
+
+abbrev pub target_bar : Syntax → Bar
+target_bar Little = no_bar
+target_bar _ = fragments_bar
+
+-- what a tool bars of itself
+abbrev pub job_bar : Job → Coding → Bar
+job_bar (convert target) coding = target_bar (target_syntax target coding)
+job_bar (modify edits) coding = ascending_bar
+job_bar _ coding = no_bar
+
+-- an encapsulated file keeps its transfer syntax
+abbrev pub refuses_change : Job → Coding → Bool
+refuses_change (convert (Some syntax)) coding = coding.encapsulated
+refuses_change _ coding = false
+
+-- a data set begins behind the preamble, the prefix and the group
+abbrev pub set_at : List ℕ → ℕ
+set_at group = 132 + length group
+
+-- how a file is read for a job
+pub data FileReads (job : Job) (bytes : List ℕ) (source : Source) : Type 0 where
+  not_opened : (fault : Fault) (offset : ℕ) → MetaReads bytes (meta.refused fault offset) → source ≡ unopened fault offset → FileReads job bytes source
+  not_changed : (m : Meta) (group : List ℕ) (coding : Coding) → MetaReads bytes (meta.begins m group coding) → refuses_change job coding ≡ true
+      → source ≡ unopened CannotChange (set_at group) → FileReads job bytes source
+  opened : (m : Meta) (group : List ℕ) (coding : Coding) (set : Front) (stop : Stop) → MetaReads bytes (meta.begins m group coding) → refuses_change job coding ≡ false
+      → Reads (job_bar job coding) coding.syntax (set_at group) (drop (set_at group) bytes) set stop → source ≡ file m coding set stop → FileReads job bytes source
+
+-- a data set alone
+pub record AloneReads (syntax : Syntax) (bytes : List ℕ) (source : Source) : Type 0 where
+  pub set : Front
+  pub stop : Stop
+  pub reads : Reads no_bar syntax 0 bytes set stop
+  pub source_is : source ≡ alone syntax set stop
+
+abbrev pub InputReads : Job → List ℕ → Source → Type 0
+InputReads (dump mode (Some syntax)) bytes source = AloneReads syntax bytes source
+InputReads job bytes source = FileReads job bytes source
+
+-- ---- what is written of it
+
+-- a file in a transfer syntax
+abbrev pub written_file : List ℕ → Syntax → Meta → Front → List ℕ
+written_file uid syntax m set = m.preamble ++ PREFIX ++ new_meta m.elements uid ++ recode syntax set
+
+abbrev pub file_output : Job → Meta → Coding → Front → List ℕ
+file_output (dump mode bare) m coding set = meta_header mode m.elements ++ set_header m.uid ++ dump_front mode 0 set
+file_output (convert target) m coding set = written_file (target_uid target m) (target_syntax target coding) m set
+file_output (modify edits) m coding set = written_file m.uid coding.syntax m (edited edits set)
+file_output (building limit) m coding set = []
+
+abbrev pub alone_output : Job → Syntax → Front → List ℕ
+alone_output (dump mode bare) syntax set = set_header (uid_of_syntax syntax) ++ dump_front mode 0 set
+alone_output _ syntax set = []
+
+abbrev pub output_of : Job → Source → List ℕ
+output_of job (unopened fault offset) = []
+output_of job (file m coding set stop) = file_output job m coding set
+output_of job (alone syntax set stop) = alone_output job syntax set
+
+-- ---- what is told of it
+
+abbrev pub reading_line : Fault → ℕ → List ℕ
+reading_line fault offset = told (fault_number fault ++ codes " at byte " ++ decimal offset ++ codes ": " ++ fault_text fault)
+
+-- each edit that found no place, from number n on
+abbrev pub unplaced_lines : ℕ → List Edit → Front → List ℕ
+unplaced_lines n [] set = []
+unplaced_lines n (e ∷ edits) set =
+    let more = unplaced_lines (suc n) edits set in
+    if found e set then more else told (codes "edit " ++ decimal n ++ codes " found no place") ++ more
+
+abbrev pub edits_of : Job → List Edit
+edits_of (modify edits) = edits
+edits_of _ = []
+
+abbrev pub status_of_lines : List ℕ → ℕ
+status_of_lines [] = 0
+status_of_lines (c ∷ cs) = 3
+
+abbrev pub stop_line : Job → Front → Stop → List ℕ
+stop_line job set complete = unplaced_lines 1 (edits_of job) set
+stop_line job set (refused fault offset) = reading_line fault offset
+
+abbrev pub stop_status : Job → Front → Stop → ℕ
+stop_status job set complete = status_of_lines (unplaced_lines 1 (edits_of job) set)
+stop_status job set (refused fault offset) = 2
+
+abbrev pub answer : Job → Source → Answer
+answer job (unopened fault offset) = record { output = []; told = reading_line fault offset; status = 2 }
+answer job (file m coding set stop) = record { output = output_of job (file m coding set stop); told = stop_line job set stop; status = stop_status job set stop }
+answer job (alone syntax set stop) = record { output = output_of job (alone syntax set stop); told = stop_line job set stop; status = stop_status job set stop }
+
+-- ---- lines of a dump that are built into a file
+
+abbrev pub built_syntax : Option Coding → Syntax
+built_syntax None = Little
+built_syntax (Some coding) = coding.syntax
+
+abbrev pub built_output : build.Built → List ℕ
+built_output b =
+    if b.meta_ended then replicate 128 0 ++ PREFIX ++ new_meta b.meta (build.named_syntax b.meta) ++ recode (built_syntax (build.named_coding b.meta)) b.set else []
+
+-- a fault that is no line's has no number of a line
+abbrev pub line_place : ℕ → List ℕ
+line_place zero = []
+line_place (suc n) = codes ", line " ++ decimal (suc n)
+
+abbrev pub building_line : build.Told → List ℕ
+building_line t = told (line_fault_number t.fault ++ codes " at byte " ++ decimal t.offset ++ line_place t.line ++ codes ": " ++ line_fault_text t.fault)
+
+abbrev pub built_answer : build.Progress → Answer
+built_answer p = elim p.told [
+  | None ↦ record { output = built_output p.built; told = []; status = 0 }
+  | Some t ↦ record { output = built_output p.built; told = building_line t; status = 2 }
+]
+
+-- ---- answers
+
+-- what a run of a job on an input answers
+pub record ReadAnswers (job : Job) (bytes : List ℕ) (a : Answer) : Type 0 where
+  pub source : Source
+  pub reads : InputReads job bytes source
+  pub answer_is : a ≡ answer job source
+
+abbrev pub Answers : Job → List ℕ → Answer → Type 0
+Answers (building limit) bytes a = a ≡ built_answer (build.built limit bytes)
+Answers job bytes a = ReadAnswers job bytes a
+
+-- ---- what is sure of a beginning
+
+-- what was read of a data set that goes on
+abbrev pub going_on : Front → Front
+going_on (front whole open_tree reached closed) = front whole open_tree reached false
+
+-- an end that more bytes may change
+abbrev pub is_open_stop : Stop → Bool
+is_open_stop complete = true
+is_open_stop (refused EndsEarly offset) = true
+is_open_stop (refused fault offset) = false
+
+-- of a beginning of a file: nothing until two bytes have ended its meta group
+pub data FileSure (job : Job) (p out : List ℕ) : Type 0 where
+  before_set : (a : meta.MetaAnswer) → MetaReads p a → meta.is_undecided (length p) a ≡ true → out ≡ [] → FileSure job p out
+  within_set : (m : Meta) (group : List ℕ) (coding : Coding) (set : Front) (stop : Stop) → MetaReads p (meta.begins m group coding) → set_at group < length p → refuses_change job coding ≡ false
+      → Reads (job_bar job coding) coding.syntax (set_at group) (drop (set_at group) p) set stop → is_open_stop stop ≡ true
+      → out ≡ file_output job m coding (going_on set) → FileSure job p out
+
+-- of a beginning of a data set alone the header stands from the start
+pub record AloneSure (job : Job) (syntax : Syntax) (p out : List ℕ) : Type 0 where
+  pub set : Front
+  pub stop : Stop
+  pub reads : Reads no_bar syntax 0 p set stop
+  pub open_end : is_open_stop stop ≡ true
+  pub out_is : out ≡ alone_output job syntax (going_on set)
+
+-- of lines: those that a newline has ended, none at fault and the last not past the limit
+pub record LinesSure (limit : ℕ) (p out : List ℕ) : Type 0 where
+  pub within : length p ≤ INPUT_LIMIT
+  pub no_fault : (build.built_by limit (build.lines_of p).ended).told ≡ None
+  pub short : length (build.lines_of p).rest ≤ limit
+  pub out_is : out ≡ built_output (build.built_by limit (build.lines_of p).ended).built
+
+-- what stands written after p, where more bytes can still change how its reading ends
+abbrev pub Sure : Job → List ℕ → List ℕ → Type 0
+Sure (building limit) p out = LinesSure limit p out
+Sure (dump mode (Some syntax)) p out = AloneSure (dump mode (Some syntax)) syntax p out
+Sure job p out = FileSure job p out

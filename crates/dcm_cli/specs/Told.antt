@@ -1,0 +1,39 @@
+-- The lines on standard error.
+use Rattle.std.specs.Prelude.{◌≡◌, ◌⊎◌, ℕ, List, [], ◌∷◌, ◌++◌, codes, decimal, Bool, true, false, Option}
+use Rattle.std.specs.Io.KnownBytes.{append_known}
+use Rattle.dcm_base.specs.declared.fault.Stop.{Stop}
+use Rattle.dcm_base.specs.Device.{AppendsFront}
+use Rattle.dcm_base.specs.Fault.{fault_number, fault_text, edit_refusal_number, edit_refusal_text, word_fault_number, word_fault_text}
+use Rattle.dcm_base.specs.declared.words.Usage.{Usage}
+use Rattle.dcm_base.specs.declared.words.Usage.TheVariants.{AtWord, Whole, InEdit, Memory}
+
+-- a line was told, or the writer failed in the call and has a beginning of it
+abbrev pub Tries : Option (List ℕ) → Option (List ℕ) → Bool → Bool → List ℕ → Type 0
+Tries old new failed_before failed_after line =
+    ((new ≡ append_known old line) × (failed_after ≡ failed_before)) ⊎ (AppendsFront old new line × (failed_after ≡ true))
+
+abbrev pub told : List ℕ → List ℕ
+told text = codes "dcmtools: " ++ text ++ 10 ∷ []
+
+abbrev pub usage_line : Usage → List ℕ
+usage_line (AtWord refusal word) = told (word_fault_number refusal ++ codes " at word " ++ decimal word ++ codes ": " ++ word_fault_text refusal)
+usage_line (Whole refusal) = told (word_fault_number refusal ++ codes ": " ++ word_fault_text refusal)
+usage_line (InEdit refusal edit) = told (edit_refusal_number refusal ++ codes " in edit " ++ decimal edit ++ codes ": " ++ edit_refusal_text refusal)
+usage_line Memory = told (codes "out of memory")
+
+abbrev pub usage_status : Usage → ℕ
+usage_status Memory = 5
+usage_status _ = 1
+
+abbrev pub open_line : Bool → List ℕ
+open_line false = told (codes "input cannot be opened")
+open_line true = told (codes "output cannot be opened")
+
+abbrev pub fault_line : Stop → List ℕ
+fault_line stop = told (fault_number stop.fault ++ codes " at byte " ++ decimal stop.at ++ codes ": " ++ fault_text stop.fault)
+
+abbrev pub unread_line : ℕ → List ℕ
+unread_line read = told (codes "reading failed after " ++ decimal read ++ codes " bytes")
+
+abbrev pub output_line : List ℕ
+output_line = told (codes "output failed")

@@ -1,0 +1,73 @@
+// The devices of a program.
+use std::fs::File;
+use std::io::{Read, Stderr, Stdin, Stdout, Write};
+use std::{io, str};
+
+/// The path of a standard stream.
+const STANDARD: &[u8] = b"-";
+
+/// The input of a job.
+#[derive(Drop)]
+pub enum Input {
+    Standard(Stdin),
+    File(File),
+}
+
+/// The output of a job.
+#[derive(Drop)]
+pub enum Output {
+    Standard(Stdout),
+    File(File),
+}
+
+impl Read for Input {
+    fn read(&mut self, bytes: &mut [u8]) -> io::Result<usize> {
+        match self {
+            Input::Standard(input) => input.read(bytes),
+            Input::File(file) => file.read(bytes),
+        }
+    }
+}
+
+impl Write for Output {
+    fn write(&mut self, bytes: &[u8]) -> io::Result<usize> {
+        match self {
+            Output::Standard(output) => output.write(bytes),
+            Output::File(file) => file.write(bytes),
+        }
+    }
+
+    fn flush(&mut self) -> io::Result<()> {
+        match self {
+            Output::Standard(output) => output.flush(),
+            Output::File(file) => file.flush(),
+        }
+    }
+}
+
+fn path(word: &[u8]) -> io::Result<&str> {
+    match str::from_utf8(word) {
+        Ok(path) => Ok(path),
+        Err(_) => Err(io::Error::from(io::ErrorKind::InvalidFilename)),
+    }
+}
+
+/// Opens an input, `-` for standard input.
+pub fn open_input(rt: HostRuntime, word: &[u8]) -> io::Result<Input> {
+    if word == STANDARD {
+        return Ok(Input::Standard(rt.stdin()));
+    }
+    Ok(Input::File(File::open(&rt, path(word)?)?))
+}
+
+/// Opens an output, `-` for standard output.
+pub fn open_output(rt: HostRuntime, word: &[u8]) -> io::Result<Output> {
+    if word == STANDARD {
+        return Ok(Output::Standard(rt.stdout()));
+    }
+    Ok(Output::File(File::create(&rt, path(word)?)?))
+}
+
+pub fn errors(rt: HostRuntime) -> Stderr {
+    rt.stderr()
+}

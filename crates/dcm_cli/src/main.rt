@@ -1,0 +1,106 @@
+//! The tools of dcmtools.
+#![tactic(auto)]
+
+mod devices;
+mod job;
+mod run;
+mod told;
+mod words;
+
+use crate::devices::{errors, open_input, open_output};
+use crate::job::Planned;
+use crate::run::run;
+use crate::told::{tell, tell_open};
+use crate::words::plan;
+use dcm_base::{DeviceOut, Std, Usage, Watched, WordFault};
+use std::alloc::AllocError;
+use std::io::BufWriter;
+use std::process::ExitCode;
+use std::{env, io};
+
+/// The bytes that are written at a time.
+const BUFFER: usize = 65536;
+
+fn read_words(rt: HostRuntime) -> io::Result<Vec<String>> {
+    let mut words = Vec::new(rt.alloc());
+    for word in env::args(&rt)?.skip(1) {
+        words.push(word)?;
+    }
+    Ok(words)
+}
+
+fn views<'a>(rt: HostRuntime, words: &'a [String]) -> Result<Vec<&'a [u8]>, AllocError> {
+    let mut views = Vec::new(rt.alloc());
+    for word in words {
+        views.push(word.as_bytes())?;
+    }
+    Ok(views)
+}
+
+/// Opens the devices of a job and runs it. The input is opened before the output.
+fn work(rt: HostRuntime, planned: &Planned) -> u8 {
+    let mut errors = Watched::new(Std::new(errors(rt)));
+    let mut input = match open_input(rt, planned.input) {
+        Ok(input) => Watched::new(Std::new(input)),
+        Err(e) => return tell_unopened(&e, false, &mut errors),
+    };
+    let output = match open_output(rt, planned.output) {
+        Ok(output) => output,
+        Err(e) => return tell_unopened(&e, true, &mut errors),
+    };
+    let mut out = match BufWriter::with_capacity(rt.alloc(), BUFFER, output) {
+        Ok(output) => Watched::new(Std::new(output)),
+        Err(_) => return tell(&Usage::Memory, &mut errors),
+    };
+    let outcome = run(&planned.job, &mut input, &mut out, &mut errors);
+    let failed = out.failed();
+    let writer = out.into_device().into_inner();
+    if failed {
+        // What a failed writer still holds is not written again.
+        let (_output, _unwritten) = writer.into_parts();
+    }
+    outcome.status
+}
+
+/// Tells that a device cannot be opened.
+fn tell_unopened<E: DeviceOut>(e: &io::Error, output: bool, errors: &mut Watched<E>) -> u8 {
+    match e.kind() {
+        io::ErrorKind::OutOfMemory => tell(&Usage::Memory, errors),
+        _ => tell_open(output, errors),
+    }
+}
+
+/// Words that are no text are the words of no tool.
+fn tell_unread_words(e: &io::Error, rt: HostRuntime) -> u8 {
+    let mut errors = Watched::new(Std::new(errors(rt)));
+    match e.kind() {
+        io::ErrorKind::OutOfMemory => tell(&Usage::Memory, &mut errors),
+        _ => tell(&Usage::AtWord(WordFault::UnknownTool, 1), &mut errors),
+    }
+}
+
+fn tell_usage(usage: &Usage, rt: HostRuntime) -> u8 {
+    tell(usage, &mut Watched::new(Std::new(errors(rt))))
+}
+
+fn status(rt: HostRuntime) -> u8 {
+    let words = match read_words(rt) {
+        Ok(words) => words,
+        Err(e) => return tell_unread_words(&e, rt),
+    };
+    let views = match views(rt, words.as_slice()) {
+        Ok(views) => views,
+        Err(AllocError) => return tell_usage(&Usage::Memory, rt),
+    };
+    match plan(rt.alloc(), views.as_slice()) {
+        Ok(planned) => work(rt, &planned),
+        Err(usage) => tell_usage(&usage, rt),
+    }
+}
+
+fn main(rt: HostRuntime) -> ExitCode {
+    ExitCode::from(status(rt))
+}
+
+#[cfg(test)]
+mod tests;

@@ -1,0 +1,130 @@
+mod nested;
+mod rows;
+
+use crate::run::run;
+use crate::told::tell;
+use crate::words::plan;
+use dcm_base::{MemIn, MemOut, Std, Watched};
+use rows::{ROWS, Row, bytes_of, header_of};
+use std::io;
+use std::io::Read;
+use std::process::Abort;
+use std::test::Fail;
+
+/// What a run answers: the status, the output, and standard error.
+#[derive(Drop)]
+struct Answer {
+    status: u8,
+    output: Vec<u8>,
+    told: Vec<u8>,
+}
+
+/// The bytes of a file.
+fn joined(rt: HostRuntime, first: &[u8], second: &[u8]) -> Result<Vec<u8>, Fail> {
+    let mut all = first.to_vec(rt.alloc())?;
+    all.extend_from_slice(second)?;
+    Ok(all)
+}
+
+fn room(rt: HostRuntime, size: usize) -> Result<Vec<u8>, Fail> {
+    let mut bytes = Vec::new(rt.alloc());
+    for _ in 0..size {
+        bytes.push(0)?;
+    }
+    Ok(bytes)
+}
+
+/// The words of a line.
+fn split(rt: HostRuntime, line: &'static str) -> Result<Vec<&'static [u8]>, Fail> {
+    let mut words = Vec::new(rt.alloc());
+    for word in line.split(' ') {
+        words.push(word.as_bytes())?;
+    }
+    Ok(words)
+}
+
+/// A run over memory, that reads so many bytes at a time and has room for so many.
+fn over_memory(
+    rt: HostRuntime,
+    line: &'static str,
+    input: &[u8],
+    step: usize,
+    size: usize,
+) -> Result<Answer, Fail> {
+    let words = split(rt, line)?;
+    let mut input = Watched::new(MemIn::new(input, step.max(1)));
+    let mut out = Watched::new(MemOut::new(room(rt, size)?));
+    let mut errors = Watched::new(MemOut::new(room(rt, 200)?));
+    let status = match plan(rt.alloc(), words.as_slice()) {
+        Ok(planned) => run(&planned.job, &mut input, &mut out, &mut errors).status,
+        Err(usage) => tell(&usage, &mut errors),
+    };
+    Ok(Answer {
+        status,
+        output: out.device().written().to_vec(rt.alloc())?,
+        told: errors.device().written().to_vec(rt.alloc())?,
+    })
+}
+
+/// A reader that gives at most so many bytes at a time.
+#[derive(Drop)]
+struct Steps<'a> {
+    rest: &'a [u8],
+    step: usize,
+}
+
+impl<'a> Read for Steps<'a> {
+    fn read(&mut self, bytes: &mut [u8]) -> io::Result<usize> {
+        let n = self.step.min(bytes.len()).min(self.rest.len());
+        let (front, rest) = self.rest.split_at(n);
+        bytes[..n].copy_from_slice(front);
+        self.rest = rest;
+        Ok(n)
+    }
+}
+
+/// A run over std's reader and writers.
+fn over_std(
+    rt: HostRuntime,
+    line: &'static str,
+    input: &[u8],
+    step: usize,
+) -> Result<Answer, Fail> {
+    let words = split(rt, line)?;
+    let mut input = Watched::new(Std::new(Steps { rest: input, step }));
+    let mut out = Watched::new(Std::new(Vec::new(rt.alloc())));
+    let mut errors = Watched::new(Std::new(Vec::new(rt.alloc())));
+    let status = match plan(rt.alloc(), words.as_slice()) {
+        Ok(planned) => run(&planned.job, &mut input, &mut out, &mut errors).status,
+        Err(usage) => tell(&usage, &mut errors),
+    };
+    Ok(Answer {
+        status,
+        output: out.into_device().into_inner(),
+        told: errors.into_device().into_inner(),
+    })
+}
+
+const STEPS: [usize; 5] = [1, 2, 3, 7, 100_000];
+
+fn expect(rt: &impl Abort, row: &Row, wanted: &[u8], answer: &Answer) {
+    let name = row.name;
+    assert_eq!(rt; answer.status, row.status, "{name}");
+    assert!(rt; answer.output.as_slice() == wanted, "{name}");
+    assert!(rt; answer.told.as_slice() == row.told, "{name}");
+}
+
+#[test]
+fn dumps(rt: HostRuntime) -> Result<(), Fail> {
+    for row in ROWS {
+        let input = joined(rt, bytes_of(row.start), row.input)?;
+        let wanted = joined(rt, header_of(row.header), row.lines)?;
+        for step in STEPS {
+            let answer = over_memory(rt, row.words, input.as_slice(), step, 3000)?;
+            expect(&rt, &row, wanted.as_slice(), &answer);
+            let answer = over_std(rt, row.words, input.as_slice(), step)?;
+            expect(&rt, &row, wanted.as_slice(), &answer);
+        }
+    }
+    Ok(())
+}

@@ -1,0 +1,115 @@
+// Dumps of deep and of long files.
+use super::rows::{Start, bytes_of, header_of};
+use super::{STEPS, over_memory, over_std};
+use std::test::Fail;
+
+const SEQUENCE: &[u8] = b"\x08\0@\x11SQ\0\0\xff\xff\xff\xff";
+
+const ITEM: &[u8] = b"\xfe\xff\0\xe0\xff\xff\xff\xff";
+
+const ITEM_END: &[u8] = b"\xfe\xff\x0d\xe0\0\0\0\0";
+
+const SEQUENCE_END: &[u8] = b"\xfe\xff\xdd\xe0\0\0\0\0";
+
+const FRAGMENTS: &[u8] = b"\xe0\x7f\x10\0OB\0\0\xff\xff\xff\xff";
+
+const SEQUENCE_LINE: &[u8] =
+    b"(0008,1140) SQ (Sequence with undefined length)         # u/l, 1 ReferencedImageSequence\n";
+
+const ITEM_LINE: &[u8] = b"(fffe,e000) na (Item with undefined length)             # u/l, 1 Item\n";
+
+const ITEM_END_LINE: &[u8] =
+    b"(fffe,e00d) na (ItemDelimitationItem)                   #   0, 0 ItemDelimitationItem\n";
+
+const SEQUENCE_END_LINE: &[u8] =
+    b"(fffe,e0dd) na (SequenceDelimitationItem)               #   0, 0 SequenceDelimitationItem\n";
+
+const DEPTH: usize = 64;
+
+/// A line at a level.
+fn indent(all: &mut Vec<u8>, level: usize, line: &[u8]) -> Result<(), Fail> {
+    for _ in 0..level {
+        all.extend_from_slice(b"  ")?;
+    }
+    all.extend_from_slice(line)?;
+    Ok(())
+}
+
+/// A file of 64 sequences, each with an item that holds the next, and what follows the innermost item's opening.
+fn nested(rt: HostRuntime, behind: &[u8]) -> Result<Vec<u8>, Fail> {
+    let mut file = bytes_of(Start::ExplicitLittle).to_vec(rt.alloc())?;
+    for _ in 0..DEPTH {
+        file.extend_from_slice(SEQUENCE)?;
+        file.extend_from_slice(ITEM)?;
+    }
+    file.extend_from_slice(behind)?;
+    Ok(file)
+}
+
+/// The lines of the openings.
+fn opening_lines(rt: HostRuntime) -> Result<Vec<u8>, Fail> {
+    let mut lines = header_of(Start::ExplicitLittle).to_vec(rt.alloc())?;
+    for level in 0..DEPTH {
+        indent(&mut lines, 2 * level, SEQUENCE_LINE)?;
+        indent(&mut lines, 2 * level + 1, ITEM_LINE)?;
+    }
+    Ok(lines)
+}
+
+#[test]
+fn sixty_four_sequences(rt: HostRuntime) -> Result<(), Fail> {
+    let mut file = nested(rt, b"")?;
+    let mut lines = opening_lines(rt)?;
+    for level in (0..DEPTH).rev() {
+        file.extend_from_slice(ITEM_END)?;
+        file.extend_from_slice(SEQUENCE_END)?;
+        indent(&mut lines, 2 * level + 1, ITEM_END_LINE)?;
+        indent(&mut lines, 2 * level, SEQUENCE_END_LINE)?;
+    }
+    for step in STEPS {
+        let answer = over_memory(rt, "dcmdump -", file.as_slice(), step, 60_000)?;
+        assert_eq!(rt; answer.status, 0);
+        assert!(rt; answer.output == lines);
+        assert!(rt; answer.told.is_empty());
+    }
+    Ok(())
+}
+
+#[test]
+fn one_more(rt: HostRuntime) -> Result<(), Fail> {
+    let lines = opening_lines(rt)?;
+    for behind in [SEQUENCE, FRAGMENTS] {
+        let file = nested(rt, behind)?;
+        for step in STEPS {
+            let answer = over_std(rt, "dcmdump -", file.as_slice(), step)?;
+            assert_eq!(rt; answer.status, 2);
+            assert!(rt; answer.output == lines);
+            assert!(rt;
+                answer.told.as_slice()
+                    == b"dcmtools: R11 at byte 1452: nested too deep\n".as_slice()
+            );
+        }
+    }
+    Ok(())
+}
+
+/// The largest value of the largest meta group.
+const LARGEST: usize = 16_332;
+
+#[test]
+fn largest_meta_group(rt: HostRuntime) -> Result<(), Fail> {
+    let mut file = bytes_of(Start::ExplicitLittle).to_vec(rt.alloc())?;
+    file.extend_from_slice(b"\x02\0\x02\x01OB\0\0\xcc\x3f\0\0")?;
+    for _ in 0..LARGEST {
+        file.push(0)?;
+    }
+    let wanted =
+        b"(0002,0102) OB 00\\00\\00\\00\\00\\00\\00\\00\\00\\00\\00\\00\\00\\00\\00\\00\\00\\00\\00\\00\\00\\... # 16332, 1 PrivateInformation\n\n# Dicom-Data-Set\n# Used TransferSyntax: LittleEndianExplicit\n".as_slice();
+    for step in STEPS {
+        let answer = over_memory(rt, "dcmdump -", file.as_slice(), step, 3000)?;
+        assert_eq!(rt; answer.status, 0);
+        assert!(rt; answer.output.ends_with(wanted));
+        assert!(rt; answer.told.is_empty());
+    }
+    Ok(())
+}
