@@ -3,6 +3,7 @@ pub mod Emits
 pub mod Reversals
 pub mod Blocks
 pub mod Numbers
+pub mod Digits
 pub mod Pieces
 pub mod High
 pub mod Steps

@@ -55,16 +55,16 @@ fn append<const N: usize>(bytes: &[u8], text: &mut ArrayVec<u8, N>)
     }
 }
 
-/// The digit of a half byte, in lower case.
-fn lower(half: u8) -> u8
-    requires { half < 16 }
-    ensures { result ≡ spec.lower half }
+/// The two digits of each byte, in lower case.
+pub const DIGITS: [u8; 512] =
+    *b"000102030405060708090a0b0c0d0e0f101112131415161718191a1b1c1d1e1f202122232425262728292a2b2c2d2e2f303132333435363738393a3b3c3d3e3f404142434445464748494a4b4c4d4e4f505152535455565758595a5b5c5d5e5f606162636465666768696a6b6c6d6e6f707172737475767778797a7b7c7d7e7f808182838485868788898a8b8c8d8e8f909192939495969798999a9b9c9d9e9fa0a1a2a3a4a5a6a7a8a9aaabacadaeafb0b1b2b3b4b5b6b7b8b9babbbcbdbebfc0c1c2c3c4c5c6c7c8c9cacbcccdcecfd0d1d2d3d4d5d6d7d8d9dadbdcdddedfe0e1e2e3e4e5e6e7e8e9eaebecedeeeff0f1f2f3f4f5f6f7f8f9fafbfcfdfeff";
+
+/// The two digits of a byte.
+fn digits(byte: u8) -> [u8; 2]
+    ensures { result ≡ spec.hex_byte byte }
 {
-    if half < 10 {
-        b'0' + half
-    } else {
-        b'a' - 10 + half
-    }
+    let at = 2 * byte as usize;
+    [DIGITS[at], DIGITS[at + 1]]
 }
 
 /// The two digits of each byte more.
@@ -74,8 +74,9 @@ fn append_hexadecimal<const N: usize>(bytes: &[u8], text: &mut ArrayVec<u8, N>)
     ensures size { length text.new.items ≡ length text.old.items + 2 * length bytes.now }
 {
     for byte in bytes {
-        text.push(lower(*byte / 16));
-        text.push(lower(*byte % 16));
+        let [high, low] = digits(*byte);
+        text.push(high);
+        text.push(low);
     }
 }
 
@@ -181,6 +182,19 @@ fn append_sized<const K: usize, const N: usize>(
     }
 }
 
+/// Units of K bytes more in hexadecimal, each behind a backslash.
+fn append_hexadecimals<const K: usize, const N: usize>(units: &[u8], text: &mut ArrayVec<u8, N>)
+    requires size { IsUnit K }
+    requires room { length text.old.items + LONGEST * (length units.now / K) ≤ N }
+    ensures text { text.new.items ≡ text.old.items ++ high.separated (high.high_text Kind.Hexadecimal) (units_of K units.now) }
+    ensures size { length text.new.items ≤ length text.old.items + LONGEST * (length units.now / K) }
+{
+    for at in 0..units.len() / K {
+        text.push(b'\\');
+        append_hexadecimal(&units[K * at..K * at + K], text);
+    }
+}
+
 /// The units of a value of this kind more, each behind a backslash.
 fn append_high<const N: usize>(kind: Kind, size: usize, units: &[u8], text: &mut ArrayVec<u8, N>)
     requires size { IsUnit size }
@@ -189,11 +203,15 @@ fn append_high<const N: usize>(kind: Kind, size: usize, units: &[u8], text: &mut
     ensures text { text.new.items ≡ text.old.items ++ high.separated (high.high_text kind) (units_of size units.now) }
     ensures size { length text.new.items ≤ length text.old.items + LONGEST * (length units.now / size) }
 {
-    match size {
-        2 => append_sized::<2, N>(kind, units, text),
-        4 => append_sized::<4, N>(kind, units, text),
-        8 => append_sized::<8, N>(kind, units, text),
-        _ => append_sized::<1, N>(kind, units, text),
+    match (kind, size) {
+        (Kind::Hexadecimal, 2) => append_hexadecimals::<2, N>(units, text),
+        (Kind::Hexadecimal, 4) => append_hexadecimals::<4, N>(units, text),
+        (Kind::Hexadecimal, 8) => append_hexadecimals::<8, N>(units, text),
+        (Kind::Hexadecimal, _) => append_hexadecimals::<1, N>(units, text),
+        (_, 2) => append_sized::<2, N>(kind, units, text),
+        (_, 4) => append_sized::<4, N>(kind, units, text),
+        (_, 8) => append_sized::<8, N>(kind, units, text),
+        (_, _) => append_sized::<1, N>(kind, units, text),
     }
 }
 
