@@ -1,5 +1,5 @@
 -- What is shown piece by piece.
-use Rattle.std.proofs.Common.{◌≡◌, ◌≤◌, ◌<◌, ℕ, ◌+◌, ◌-◌, min, List, [], ◌∷◌, ◌++◌, length, take, drop, ap, sym, ◌∙◌, arith, refl, append_assoc, cond, true, false, Bool, ◌&&◌, nat_lt, le-ltb, subst, Option, Some, None, Result, Ok, Err, codes}
+use Rattle.std.proofs.Common.{◌≡◌, ◌≤◌, ℕ, ◌+◌, min, List, [], ◌++◌, length, take, drop, ap, sym, ◌∙◌, arith, refl, append_assoc, true, Bool, ◌&&◌, nat_lt, le-ltb, subst, Option, Some, None, Result, Ok, Err, codes}
 use Rattle.std.proofs.lemmas.Bool.{cases_lt, false≢true}
 use mathlib.Core.Logic.{⊎_elim}
 use Rattle.std.specs.Prelude.{IsErr, OnOk}
@@ -13,7 +13,7 @@ use Rattle.dcm_base.specs.Device.{AppendsFront, Puts}
 use Rattle.dcm_base.specs.ValueText.{escape, escaped, identified, bracketed}
 use Rattle.std.proofs.lemmas.Grind.{flat_map-append}
 use Rattle.dcm_base.proofs.Puts.{append_known_twice, append_known_none, puts_behind, puts_err, front_longer}
-use Rattle.dcm_value.specs.Display.{Display, emit, front_after, front_size, at_once, is_cut, is_short}
+use Rattle.dcm_value.specs.Display.{Display, emit, front_after, front_size, at_once, is_short}
 use Rattle.dcm_value.proofs.Shows.{take_within}
 
 pub take_take : (n : ℕ) (xs ys : List ℕ) → take n (take n xs ++ ys) ≡ take n (xs ++ ys)

@@ -1,9 +1,9 @@
 -- Units whose highest byte stands first show what the units of a value show.
-use Rattle.std.proofs.Common.{◌≡◌, ◌≢◌, ◌≤◌, ◌<◌, ℕ, zero, suc, ◌+◌, ◌-◌, ◌*◌, ◌/◌, List, [], ◌∷◌, ◌++◌, length, take, drop, refl, sym, ap, ◌∙◌, arith, append_assoc, lit<, suc-mul, subst}
+use Rattle.std.proofs.Common.{◌≡◌, ◌≢◌, ◌≤◌, ◌<◌, ℕ, zero, suc, ◌*◌, ◌/◌, List, [], ◌∷◌, ◌++◌, length, take, drop, refl, sym, ap, ◌∙◌, arith, lit<, suc-mul, subst}
 use Rattle.std.specs.Prelude.{reverse, flat_map, map, decimal}
 use mathlib.Core.Logic.{⊎_elim}
 use Rattle.std.proofs.lemmas.Bool.{cases_lt}
-use Rattle.std.proofs.lemmas.List.{reverse-reverse, length-reverse, length-take, length-drop, take-append-drop, length-append}
+use Rattle.std.proofs.lemmas.List.{reverse-reverse, length-reverse, length-take, length-drop, take-append-drop}
 use Rattle.std.proofs.Math.Nat.{mul-div-le}
 use Rattle.dcm_base.specs.declared.vr.Vr.{Vr}
 use Rattle.dcm_base.specs.declared.vr.Vr.TheVariants.{AE, AS, AT, CS, DA, DS, DT, FD, FL, IS, LO, LT, OB, OD, OF, OL, OV, OW, PN, SH, SL, SQ, SS, ST, SV, TM, UC, UI, UL, UN, UR, US, UT, UV}
@@ -181,3 +181,23 @@ shown_some vr = go (kinds vr)
     go : Kinds vr → 0 < shown_unit vr
     go (of_tags is) = let P : Vr → Type 0 = λ x. 0 < shown_unit x in subst P (sym is) (lit< tt)
     go (of_ones o) = let same = o.same in let some = o.some in omega arith
+
+-- units of what is ordered are units that are ordered
+ordered_ones : (syntax : Syntax) (vr : Vr) → IsOne vr → (v : List ℕ) → units (unit vr) (order syntax vr v) ≡ map (order syntax vr) (units (unit vr) v)
+ordered_ones Implicit vr o v = sym (map_same (units (unit vr) v))
+ordered_ones Little vr o v = sym (map_same (units (unit vr) v))
+ordered_ones Big vr o v = turns_units (unit vr) o.some v
+
+ordered_tags : (syntax : Syntax) (v : List ℕ) → units 4 (order syntax AT v) ≡ map (order syntax AT) (units 4 v)
+ordered_tags Implicit v = sym (map_same (units 4 v))
+ordered_tags Little v = sym (map_same (units 4 v))
+ordered_tags Big v = turns_fours (length v) v (omega arith)
+
+pub ordered_units : (syntax : Syntax) (vr : Vr) (v : List ℕ) → units (shown_unit vr) (order syntax vr v) ≡ map (order syntax vr) (units (shown_unit vr) v)
+ordered_units syntax vr v = go (kinds vr)
+  where
+    go : Kinds vr → units (shown_unit vr) (order syntax vr v) ≡ map (order syntax vr) (units (shown_unit vr) v)
+    go (of_tags is) =
+        let P : Vr → Type 0 = λ x. units (shown_unit x) (order syntax x v) ≡ map (order syntax x) (units (shown_unit x) v) in
+        subst P (sym is) (ordered_tags syntax v)
+    go (of_ones o) = ap (λ k. units k (order syntax vr v)) o.same ∙ ordered_ones syntax vr o v ∙ ap (λ k. map (order syntax vr) (units k v)) (sym o.same)

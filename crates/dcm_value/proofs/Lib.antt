@@ -7,3 +7,9 @@ pub mod Digits
 pub mod Pieces
 pub mod High
 pub mod Steps
+pub mod Openings
+pub mod Endings
+pub mod Opens
+pub mod TextLaws
+pub mod WholeUnits
+pub mod TextSteps

@@ -1,5 +1,5 @@
 -- How the units are reversed one after the other.
-use Rattle.std.proofs.Common.{ℕ, zero, suc, ◌≡◌, ◌+◌, ◌*◌, ◌/◌, ◌<◌, ◌≤◌, List, [], ◌∷◌, ◌++◌, length, take, drop, drop-drop, suc-mul, refl, sym, ap, ◌∙◌, arith, zero-add, append_assoc}
+use Rattle.std.proofs.Common.{ℕ, zero, suc, ◌≡◌, ◌+◌, ◌*◌, ◌/◌, ◌<◌, ◌≤◌, List, ◌++◌, length, take, drop, drop-drop, suc-mul, refl, sym, ap, ◌∙◌, arith, zero-add, append_assoc}
 use Rattle.std.specs.Prelude.{reverse, flat_map}
 use Rattle.std.proofs.Math.Nat.{mul-suc, mul-zero, suc-add, mul-le-mul_left, mul-div-le}
 use Rattle.std.proofs.Math.Seq.{take-append-add, drop-append-add}

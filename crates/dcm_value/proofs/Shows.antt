@@ -1,5 +1,5 @@
 -- Facts on what is shown of a value.
-use Rattle.std.proofs.Common.{◌≡◌, ◌≤◌, ◌<◌, ℕ, ◌+◌, ◌-◌, min, replicate, codes, append_assoc, List, [], ◌∷◌, ◌++◌, length, take, drop, ap, sym, ◌∙◌, arith, refl}
+use Rattle.std.proofs.Common.{◌≡◌, ◌≤◌, ◌<◌, ℕ, ◌+◌, ◌-◌, min, replicate, codes, List, ◌++◌, length, take, drop, ap, sym, ◌∙◌, arith}
 use Rattle.std.proofs.Common.{Option, Result, subst, cond, lt-ltb, le-ltb}
 use Rattle.std.specs.Io.KnownBytes.{append_known}
 use Rattle.dcm_base.specs.declared.mode.Mode.{Mode}

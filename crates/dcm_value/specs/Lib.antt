@@ -5,3 +5,4 @@ pub mod Way
 pub mod Progress
 pub mod Shown
 pub mod ValueText
+pub mod Laws

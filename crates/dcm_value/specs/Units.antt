@@ -1,11 +1,11 @@
 -- Units as they are shown, handed over with the highest byte first.
-use Rattle.std.specs.Prelude.{ℕ, List, ◌∷◌, ◌++◌, length, take, drop, reverse, flat_map, decimal}
+use Rattle.std.specs.Prelude.{ℕ, List, ◌∷◌, length, take, drop, reverse, flat_map, decimal}
 use Rattle.dcm_base.specs.declared.vr.Vr.{Vr}
 use Rattle.dcm_base.specs.declared.syntax.Syntax.{Syntax}
 use Rattle.dcm_base.specs.declared.syntax.Syntax.TheVariants.{Implicit, Little, Big}
 use Rattle.dcm_base.specs.Representation.{unit}
 use Rattle.dcm_base.specs.Value.{number_of, turned, order}
-use Rattle.dcm_base.specs.ValueText.{Shape, text, identifier, unsigned, signed, tags, hexadecimal, hex_byte, signed_text, tag_text, shape, unit_text}
+use Rattle.dcm_base.specs.ValueText.{Shape, unsigned, signed, tags, hex_byte, signed_text, tag_text, shape, unit_text}
 use Rattle.dcm_value.specs.declared.units.Kind.{Kind}
 use Rattle.dcm_value.specs.declared.units.Kind.TheVariants.{Unsigned, Signed, Tags, Hexadecimal}
 

@@ -4,6 +4,7 @@
 mod display;
 mod escapes;
 mod lanes;
+pub mod laws;
 #[cfg(test)]
 mod tests;
 mod units;

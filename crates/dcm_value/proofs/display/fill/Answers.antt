@@ -1,4 +1,4 @@
-use Rattle.std.proofs.Common.{rules, arith, ◌≡◌, ◌≤◌, ◌++◌, [], length, take, drop, sym, ◌∙◌, ap, min}
+use Rattle.std.proofs.Common.{arith}
 use Rattle.std.proofs.lemmas.Grind.{common_steps}
 use Rattle.dcm_value.proofs.Shows.{fills, take_within}
 use Rattle.dcm_value.proofs.display.fill.Goals as goal

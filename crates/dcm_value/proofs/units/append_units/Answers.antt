@@ -1,4 +1,4 @@
-use Rattle.std.proofs.Common.{rules, sym, ◌∙◌, ap, ◌≡◌, ◌≢◌, ◌++◌}
+use Rattle.std.proofs.Common.{rules, sym, ◌∙◌, ◌≡◌, ◌≢◌, ◌++◌}
 use Rattle.dcm_base.specs.Value.{turned, units}
 use Rattle.dcm_base.specs.ValueText.{shape, shown_unit}
 use Rattle.dcm_base.specs.Representation.{unit}

@@ -1,4 +1,4 @@
-use Rattle.std.proofs.Common.{rules, sym, ◌∙◌, ap, ◌≡◌, [], List, ℕ}
+use Rattle.std.proofs.Common.{rules, sym, ◌∙◌, ap, ◌≡◌, []}
 use Rattle.dcm_value.specs.Display.{emit}
 use Rattle.dcm_value.specs.Shown.{display}
 use Rattle.dcm_value.specs.ValueText.{progress}

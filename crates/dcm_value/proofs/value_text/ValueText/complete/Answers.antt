@@ -1,9 +1,9 @@
-use Rattle.std.proofs.Common.{rules, refl, arith, sym, ◌+◌, ◌-◌, ◌∙◌, ap, ◌≡◌, ◌<◌, ◌++◌, length, [], List, ℕ, subst}
+use Rattle.std.proofs.Common.{rules, ◌+◌, ◌≡◌, ◌<◌, ◌++◌, length, List, ℕ, subst}
 use Rattle.dcm_base.specs.ValueText.{shown_unit}
 use Rattle.dcm_value.specs.Way.{room}
 use Rattle.dcm_value.specs.Units.{one_text}
 use Rattle.dcm_value.specs.ValueText.{progress}
-use Rattle.dcm_value.specs.Progress.{separator, lacking}
+use Rattle.dcm_value.specs.Progress.{separator}
 use Rattle.dcm_value.proofs.Emits.{settled_of}
 use Rattle.dcm_value.proofs.Steps.{leads_unit, completed_goes, lacks_all}
 use Rattle.dcm_value.proofs.value_text.ValueText.complete.Goals as goal

@@ -1,4 +1,4 @@
-use Rattle.std.proofs.Common.{refl, arith}
+use Rattle.std.proofs.Common.{arith}
 use Rattle.dcm_value.specs.ValueText.{progress}
 use Rattle.dcm_value.proofs.Steps.{goes_parts, goes_stops, last_apart}
 use Rattle.dcm_value.proofs.value_text.ValueText.feed_text.Goals as goal

@@ -1,4 +1,4 @@
-use Rattle.std.proofs.Common.{rules, arith, sym, ◌∙◌, ap, ◌≡◌, ◌<◌, ◌+◌, length, [], List, ℕ}
+use Rattle.std.proofs.Common.{rules, ◌<◌, ◌+◌, length}
 use Rattle.dcm_base.specs.ValueText.{shown_unit}
 use Rattle.dcm_value.specs.ValueText.{progress}
 use Rattle.dcm_value.proofs.Emits.{settled_of}

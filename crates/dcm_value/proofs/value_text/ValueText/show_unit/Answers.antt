@@ -1,4 +1,4 @@
-use Rattle.std.proofs.Common.{rules, refl, arith, ◌+◌, ◌∙◌, ap, ◌≡◌, ◌++◌, [], List, ℕ}
+use Rattle.std.proofs.Common.{refl, arith, ◌∙◌, ◌≡◌, ◌++◌, [], List, ℕ}
 use Rattle.dcm_value.specs.Units.{one_text}
 use Rattle.dcm_value.specs.ValueText.{progress}
 use Rattle.dcm_value.specs.Progress.{separator}

@@ -1,4 +1,4 @@
-use Rattle.std.proofs.Common.{rules, refl, sym, ◌∙◌, ap, ◌≡◌, ◌+◌, ◌*◌, ◌/◌, length, [], List, ℕ}
+use Rattle.std.proofs.Common.{refl, sym, ap, ◌+◌, ◌/◌, length, [], ℕ}
 use Rattle.dcm_base.specs.Value.{pieces}
 use Rattle.dcm_base.specs.ValueText.{shown_unit}
 use Rattle.dcm_value.specs.Units.{one_text, separated}
