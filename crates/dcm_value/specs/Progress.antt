@@ -111,6 +111,9 @@ closing_as InUnits p = []
 abbrev pub closing : Progress → List ℕ
 closing p = if p.size == 0 then codes "(no value available)" else closing_as (way p) p
 
+abbrev pub closed : Progress → Progress
+closed p = record p { display = emit p.display (closing p) }
+
 -- what is written in the end
 unfoldable pub finishes : Progress → List ℕ
 finishes p = at_once p.display.mode (closing p) ++ ending (emit p.display (closing p))

@@ -309,6 +309,7 @@ impl ValueText {
 
     /// Ends the display and pads it to 40 bytes. The answer is how many values there were.
     pub fn finish<W: DeviceOut>(&mut self, out: &mut Watched<W>) -> Result<u64, WriteFailed>
+        ensures state { OnOk result (progress self.new ≡ spec.closed (progress self.old)) }
         ensures bytes { Puts (W.contents out.old) (W.contents out.new) (spec.finishes (progress self.old)) result }
         ensures count { IfOk result (λ n. n ≡ spec.multiplicity (progress self.old)) }
         ensures failed { Tells (W.has_failed out.old) (W.has_failed out.new) result }
