@@ -127,6 +127,7 @@ impl Meta {
         ensures state { self.new ≡ fold reading.meta_step self.old piece.now }
         ensures answer { reading.Answers self.old.bytes self.new result }
         ensures used { reading.UsesWithin (length piece.now) result }
+        ensures room { self.new.end ≡ None → length self.new.bytes < 16528 }
     {
         let before = self.len();
         self.go_over(piece);
@@ -254,7 +255,8 @@ impl Meta {
     }
 
     fn end(&self) -> Option<MetaEnd>
-        ensures { result ≡ self.now.end }
+        ensures end { result ≡ self.now.end }
+        ensures room { self.now.end ≡ None → length self.now.bytes < 16528 }
     {
         self.end
     }

@@ -1,5 +1,5 @@
 // The machine that reads a data set in pieces (PS3.5 7).
-ghost use Rattle.std.specs.Prelude.{◌≡◌, ◌+◌, ◌≤◌, ◌^◌, length, true, false};
+ghost use Rattle.std.specs.Prelude.{◌≡◌, ◌+◌, ◌≤◌, ◌^◌, OnOk, None, length, true, false};
 ghost use Rattle.dcm_base.specs.Steps.{Goes};
 ghost use Rattle.dcm_stream.specs.Reading as steps;
 ghost use Rattle.dcm_stream.specs.Machine as spec;
@@ -66,6 +66,7 @@ impl Machine {
     pub fn feed<S: Sink>(&mut self, piece: &[u8], sink: &mut S) -> Result<(), Halt>
         ensures goes { Goes (spec.steps S.bar S.step) (spec.steps_write S.bar S.step S.writes) (self.old.reading, S.state sink.old) (S.contents sink.old) (self.new.reading, S.state sink.new) (S.contents sink.new) piece.now (spec.well self.new.failed) }
         ensures answer { result ≡ spec.answer self.new.reading.halt self.new.failed }
+        ensures going { OnOk result (spec.is_halted self.new ≡ false) }
         ensures halted { spec.is_halted self.old ≡ true → (self.new ≡ self.old) × (sink.new ≡ sink.old) }
         ensures failed { spec.is_halted self.old ≡ false → spec.TellsFailed (S.has_failed sink.old) (S.has_failed sink.new) self.new.failed }
         ensures kept { S.kept sink.new ≡ S.kept sink.old }
@@ -107,7 +108,8 @@ impl Machine {
 
 /// What a call answers.
 fn answer(halt: Option<Halt>) -> Result<(), Halt>
-    ensures { result ≡ spec.answer (spec.stop_of halt) (spec.is_output halt) }
+    ensures going { OnOk result (halt ≡ None) }
+    ensures value { result ≡ spec.answer (spec.stop_of halt) (spec.is_output halt) }
 {
     match halt {
         None => Ok(()),
