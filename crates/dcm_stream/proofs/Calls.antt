@@ -1,15 +1,13 @@
 -- A call of a machine, part by part.
-use Rattle.std.proofs.Common.{◌≡◌, ◌∙◌, sym, ap, subst, refl, ℕ, List, [], ◌∷◌, ◌++◌, length, Bool, true, false, Option, Some, None, Result, Ok, Err, append_assoc}
-use Rattle.std.specs.Prelude.{◌==◌, fold, is_some, ◌||◌}
+use Rattle.std.proofs.Common.{◌≡◌, ◌∙◌, sym, ap, subst, refl, ℕ, List, [], ◌++◌, length, Bool, true, false, Option, Some, None, Result, Ok, Err}
+use Rattle.std.specs.Prelude.{◌==◌, is_some, ◌||◌}
 use Rattle.std.proofs.lemmas.Bool.{eqb-true}
 use Rattle.std.proofs.lemmas.List.{nil_from_length}
-use Rattle.std.specs.Io.KnownBytes.{append_known}
 use Rattle.std.specs.Result.{result_err}
 use Rattle.dcm_base.specs.declared.fault.Fault.{Fault}
 use Rattle.dcm_base.specs.declared.fault.Stop.{Stop as Refusal}
 use Rattle.dcm_base.specs.Atoms.{Atom}
-use Rattle.dcm_base.specs.Device.{AppendsFront}
-use Rattle.dcm_base.specs.Steps.{outputs, Goes}
+use Rattle.dcm_base.specs.Steps.{Goes}
 use Rattle.dcm_base.specs.Stop.{Stop, complete, refused}
 use Rattle.dcm_base.proofs.Puts.{append_known_none}
 use Rattle.dcm_base.proofs.Runs.{goes_on}
@@ -19,7 +17,7 @@ use Rattle.dcm_stream.specs.declared.place.Place.{Place}
 use Rattle.dcm_stream.specs.declared.machine.Halt.{Halt}
 use Rattle.dcm_stream.specs.declared.machine.Halt.TheVariants.{Refused, Output}
 use Rattle.dcm_stream.specs.Reading.{Reading, finish, end_shows}
-use Rattle.dcm_stream.specs.Machine.{steps, steps_write, reading, went, halt_of, TellsHalt, Feeds, EndsWith, Progress, stop_of, is_output, is_halted, well, TellsFailed, ended}
+use Rattle.dcm_stream.specs.Machine.{steps, steps_write, reading, went, TellsHalt, Feeds, EndsWith, Progress, stop_of, is_output, is_halted, well, TellsFailed, ended}
 use Rattle.dcm_stream.proofs.Drives.{feeds_on}
 use Rattle.dcm_stream.proofs.Fed.{feeds_halted}
 

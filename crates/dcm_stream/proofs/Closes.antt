@@ -1,12 +1,12 @@
 -- Containers that close one by one.
-use Rattle.std.proofs.Common.{◌≡◌, ◌∙◌, sym, ap, subst, refl, ℕ, ◌+◌, ◌-◌, List, [], ◌∷◌, ◌++◌, length, take, drop, reverse, append_assoc, Bool, true, false, cond, Option, Some, None, Result, Ok, Err, arith, length-append}
-use Rattle.std.specs.Prelude.{fold, OnOk, IsErr}
+use Rattle.std.proofs.Common.{◌≡◌, ◌∙◌, sym, ap, subst, refl, ℕ, ◌-◌, List, [], ◌∷◌, ◌++◌, length, take, drop, reverse, append_assoc, Bool, true, false, cond, Option, Some, None, Result, Ok, arith, length-append}
+use Rattle.std.specs.Prelude.{fold, IsErr}
 use Rattle.std.specs.Io.KnownBytes.{append_known}
-use Rattle.std.proofs.lemmas.List.{reverse-reverse, take-append-le, append-nil, take_all}
+use Rattle.std.proofs.lemmas.List.{reverse-reverse, take-append-le, take_all}
 use Rattle.dcm_base.specs.declared.level.Container.{Container}
 use Rattle.dcm_base.specs.declared.level.Level.{Level}
 use Rattle.dcm_base.specs.Atoms.{Atom}
-use Rattle.dcm_base.specs.Device.{Puts, AppendsFront}
+use Rattle.dcm_base.specs.Device.{AppendsFront}
 use Rattle.dcm_base.specs.Steps.{outputs, Goes}
 use Rattle.dcm_base.proofs.Runs.{goes_on, goes_failed}
 use Rattle.dcm_stream.specs.Reading.{ends_at, closes, full_closed}

@@ -1,30 +1,28 @@
 -- A machine and its sink, over parts of an input.
-use Rattle.std.proofs.Common.{◌≡◌, ◌∙◌, sym, ap, subst, refl, ℕ, zero, suc, ◌+◌, ◌-◌, ◌<◌, ◌≤◌, ◌^◌, List, [], ◌∷◌, ◌++◌, length, map, take, drop, reverse, append_assoc, Bool, true, false, cond, Option, Some, None, Result, Ok, Err, arith, length-append}
+use Rattle.std.proofs.Common.{◌≡◌, ◌∙◌, sym, ap, subst, refl, ℕ, zero, suc, ◌+◌, ◌-◌, ◌<◌, ◌≤◌, List, [], ◌∷◌, ◌++◌, length, map, reverse, append_assoc, Bool, true, false, cond, Option, Some, None, Result, Ok, Err, arith, length-append}
 use Rattle.std.specs.Prelude.{fold, nat_lt, IsErrAnd}
 use Rattle.std.specs.Io.KnownBytes.{append_known}
 use Rattle.std.proofs.lemmas.Bool.{lt-ltb, le-ltb}
-use Rattle.std.proofs.lemmas.List.{append-nil, take-append-drop}
+use Rattle.std.proofs.lemmas.List.{append-nil}
 use Rattle.dcm_base.specs.declared.level.Level.{Level}
-use Rattle.dcm_base.specs.declared.fault.Fault.{Fault}
 use Rattle.dcm_base.specs.declared.fault.Fault.TheVariants.{TooLong}
 use Rattle.dcm_base.specs.Atoms.{Atom, value_byte, closes_leaf}
 use Rattle.dcm_base.specs.Device.{AppendsFront}
-use Rattle.dcm_base.specs.Steps.{outputs, Goes}
+use Rattle.dcm_base.specs.Steps.{outputs}
 use Rattle.dcm_base.specs.Place.{room, passes}
-use Rattle.dcm_base.specs.Stop.{Stop, refused, HeadBar, innermost_stop}
+use Rattle.dcm_base.specs.Stop.{Stop, refused, innermost_stop}
 use Rattle.dcm_base.specs.Reads.{INPUT_LIMIT}
-use Rattle.dcm_base.proofs.Puts.{append_known_twice, append_known_none, front_longer}
-use Rattle.dcm_base.proofs.Runs.{outputs-append, goes_on, goes_failed}
+use Rattle.dcm_base.proofs.Puts.{append_known_none}
+use Rattle.dcm_base.proofs.Runs.{goes_on, goes_failed}
 use Rattle.dcm_head.specs.declared.head.Head.{Head}
 use Rattle.dcm_stream.specs.declared.token.Bar.{Bar}
 use Rattle.dcm_stream.specs.declared.place.Place.{Place}
 use Rattle.dcm_stream.specs.declared.machine.Halt.{Halt}
 use Rattle.dcm_stream.specs.declared.machine.Halt.TheVariants.{Refused, Output}
-use Rattle.dcm_stream.specs.Reading.{Reading, halted, Opened, closing, settled, is_undecided, head_read, byte_read, read_byte, drives_byte}
+use Rattle.dcm_stream.specs.Reading.{Reading, halted, closing, settled, is_undecided, head_read, byte_read, read_byte}
 use Rattle.dcm_stream.specs.Judging.{bars_head}
 use Rattle.dcm_stream.specs.Machine.{steps, steps_write, went, halt_of, Comes, settles, settles_value, value_read, Feeds}
 use Rattle.dcm_stream.proofs.Judged.{place_waits}
-use Rattle.dcm_stream.proofs.Waits.{sinks_never_early}
 
 -- ---- parts of what a sink takes
 

@@ -1,5 +1,5 @@
 -- What is judged of the head of an element.
-use Rattle.std.proofs.Common.{◌≡◌, ◌∙◌, ap, sym, refl, subst, ℕ, ◌+◌, ◌≤◌, ◌<◌, List, [], ◌∷◌, length, drop, Bool, true, false, cond, Option, Some, None, Result, Ok, Err, ◌⊎◌, inl, inr, arith}
+use Rattle.std.proofs.Common.{◌≡◌, ◌∙◌, ap, sym, refl, subst, ℕ, ◌+◌, ◌≤◌, List, ◌∷◌, length, drop, Bool, true, false, cond, Option, Some, None, Ok, Err, ◌⊎◌, inl, inr}
 use Rattle.std.specs.Prelude.{◌==◌, ◌&&◌, ◌||◌, nat_lt, nat_le, MatchOption}
 use Rattle.std.proofs.lemmas.Bool.{le-ltb, ltb-false}
 use Rattle.dcm_base.specs.declared.tag.Tag.{Tag}
@@ -21,12 +21,12 @@ use Rattle.dcm_base.specs.Stop.{Stop, refused, HeadBar, first_case, opens_list, 
 use Rattle.dcm_head.specs.declared.head.Head.{Head}
 use Rattle.dcm_head.specs.declared.head.HeadRead.{HeadRead}
 use Rattle.dcm_head.specs.declared.head.HeadRead.TheVariants.{Done, More, BadVr}
-use Rattle.dcm_head.specs.HeadRead.{element_done, element_read, tag_read, head_read}
+use Rattle.dcm_head.specs.HeadRead.{element_read, tag_read, head_read}
 use Rattle.dcm_stream.specs.declared.token.Bar.{Bar}
 use Rattle.dcm_stream.specs.declared.judge.Opening.{Opening}
 use Rattle.dcm_stream.specs.Tokens.{Bars}
 use Rattle.dcm_stream.specs.Reading.{Opened, element_opens, plain_opens, is_early}
-use Rattle.dcm_stream.specs.Judging.{fault_of, bars_head, opened_by, shape_fault, Judged, JudgesElement}
+use Rattle.dcm_stream.specs.Judging.{fault_of, opened_by, shape_fault, Judged}
 
 -- ---- what was read
 

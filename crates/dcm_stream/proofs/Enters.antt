@@ -1,5 +1,5 @@
 -- What a head opens or closes is entered.
-use Rattle.std.proofs.Common.{◌≡◌, ◌∙◌, sym, ap, subst, refl, ℕ, ◌+◌, ◌-◌, List, [], ◌∷◌, ◌++◌, length, take, drop, reverse, ◌⊎◌, inl, inr, Option, Some, None, Result, Ok, Err}
+use Rattle.std.proofs.Common.{◌≡◌, ◌∙◌, sym, ap, subst, ℕ, ◌-◌, List, [], ◌∷◌, ◌++◌, length, take, drop, reverse, ◌⊎◌, inl, inr, Option, Result}
 use Rattle.std.specs.Prelude.{fold, IsErrAnd}
 use Rattle.std.specs.Io.KnownBytes.{append_known}
 use Rattle.dcm_base.specs.declared.syntax.Syntax.{Syntax}
@@ -17,7 +17,7 @@ use Rattle.dcm_stream.specs.declared.machine.Halt.{Halt}
 use Rattle.dcm_stream.specs.declared.machine.Halt.TheVariants.{Output}
 use Rattle.dcm_stream.specs.Reading.{Reading, Opened, closing, settled}
 use Rattle.dcm_stream.specs.Judging.{opening_atom, opened_by}
-use Rattle.dcm_stream.specs.Machine.{Comes, settles, settles_value, entered}
+use Rattle.dcm_stream.specs.Machine.{Comes, settles, entered}
 use Rattle.dcm_stream.proofs.Drives.{comes_behind, fails_behind}
 use Rattle.dcm_stream.proofs.Turned.{turned_more}
 use Rattle.dcm_stream.proofs.Closes.{turned_but_last}

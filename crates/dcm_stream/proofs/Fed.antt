@@ -1,18 +1,16 @@
 -- What a machine holds stays small, and a halt stays.
-use Rattle.std.proofs.Common.{◌≡◌, ◌∙◌, sym, ap, subst, refl, ℕ, zero, suc, ◌+◌, ◌<◌, ◌≤◌, List, [], ◌∷◌, ◌++◌, length, take, drop, Bool, true, false, cond, inl, inr, Option, Some, None, Result, Ok, Err, arith, length-append}
+use Rattle.std.proofs.Common.{◌≡◌, ◌∙◌, sym, ap, subst, refl, ℕ, zero, suc, ◌+◌, ◌<◌, ◌≤◌, List, [], ◌∷◌, ◌++◌, length, take, drop, Bool, true, false, cond, inl, inr, Option, Some, None, Ok, Err, arith, length-append}
 use Rattle.std.specs.Prelude.{fold, nat_lt}
 use Rattle.std.specs.Io.KnownBytes.{append_known}
 use Rattle.std.proofs.lemmas.Bool.{cases_Bool, ltb-true}
-use Rattle.std.proofs.lemmas.List.{append-nil, take-append-drop}
-use Rattle.dcm_base.specs.declared.level.Level.{Level}
+use Rattle.std.proofs.lemmas.List.{take-append-drop}
 use Rattle.dcm_base.specs.declared.fault.Fault.TheVariants.{TooLong}
 use Rattle.dcm_base.specs.Atoms.{Atom, value_byte}
-use Rattle.dcm_base.specs.Device.{AppendsFront}
 use Rattle.dcm_base.specs.Steps.{outputs}
 use Rattle.dcm_base.specs.Stop.{Stop, refused, HeadBar, innermost_stop}
 use Rattle.dcm_base.specs.Reads.{INPUT_LIMIT}
-use Rattle.dcm_base.proofs.Puts.{append_known_none, front_longer}
-use Rattle.dcm_base.proofs.Runs.{outputs-append, goes_on, goes_failed}
+use Rattle.dcm_base.proofs.Puts.{append_known_none}
+use Rattle.dcm_base.proofs.Runs.{goes_on, goes_failed}
 use Rattle.dcm_head.specs.declared.head.Head.{Head}
 use Rattle.dcm_stream.specs.declared.token.Bar.{Bar}
 use Rattle.dcm_stream.specs.declared.place.Place.{Place}
@@ -21,7 +19,7 @@ use Rattle.dcm_stream.specs.declared.machine.Halt.TheVariants.{Refused, Output}
 use Rattle.dcm_base.specs.declared.syntax.Syntax.{Syntax}
 use Rattle.dcm_stream.specs.Reading.{Reading, start_of, halted, Opened, closing, settled, is_undecided, head_opens, head_read, byte_read, read_byte}
 use Rattle.dcm_stream.specs.Judging.{bars_head}
-use Rattle.dcm_stream.specs.Machine.{steps, steps_write, reading, next_offset, Stands, went, halt_of, Feeds}
+use Rattle.dcm_stream.specs.Machine.{steps, steps_write, reading, next_offset, Stands, Feeds}
 use Rattle.dcm_stream.proofs.Bounds.{stays_small, start_small}
 use Rattle.dcm_stream.proofs.Waits.{sinks_never_early}
 use Rattle.dcm_stream.proofs.Drives.{halted_stays, halted_silent, limit_byte}

@@ -1,17 +1,17 @@
 -- The end of an input.
-use Rattle.std.proofs.Common.{◌≡◌, ◌∙◌, sym, ap, subst, refl, ℕ, zero, suc, ◌+◌, List, [], ◌∷◌, ◌++◌, length, reverse, Bool, true, false, cond, Option, Some, None, Result, Ok, Err}
-use Rattle.std.specs.Prelude.{◌==◌, ◌&&◌, fold, IsErrAnd, ⊤}
+use Rattle.std.proofs.Common.{◌≡◌, sym, ap, subst, refl, ℕ, ◌+◌, List, [], ◌∷◌, length, Bool, true, false, cond, Option, None, Result, Ok, Err}
+use Rattle.std.specs.Prelude.{fold, IsErrAnd}
 use Rattle.std.specs.Io.KnownBytes.{append_known}
 use Rattle.dcm_base.specs.declared.fault.Fault.TheVariants.{EndsEarly}
 use Rattle.dcm_base.specs.Atoms.{Atom, ends}
 use Rattle.dcm_base.specs.Device.{AppendsFront}
 use Rattle.dcm_base.specs.Steps.{outputs, Goes}
-use Rattle.dcm_base.specs.Stop.{Stop, complete, refused, is_empty}
+use Rattle.dcm_base.specs.Stop.{Stop, complete, refused}
 use Rattle.dcm_base.proofs.Puts.{append_known_none}
 use Rattle.dcm_stream.specs.declared.place.Place.{Place}
 use Rattle.dcm_stream.specs.declared.machine.Halt.{Halt}
 use Rattle.dcm_stream.specs.declared.machine.Halt.TheVariants.{Refused, Output}
-use Rattle.dcm_stream.specs.Reading.{is_top, finish, end_shows}
+use Rattle.dcm_stream.specs.Reading.{finish, end_shows}
 use Rattle.dcm_stream.specs.Machine.{reading, may_end, went, EndsWith}
 
 pub at_end : (p : Place) (t : Bool) → may_end p ≡ t → finish (reading p None) ≡ cond t complete (refused EndsEarly (p.position + length p.head.items))

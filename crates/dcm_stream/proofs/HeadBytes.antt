@@ -1,12 +1,10 @@
 -- A byte that may end a head.
-use Rattle.std.proofs.Common.{◌≡◌, ◌∙◌, sym, ap, subst, refl, ℕ, ◌+◌, ◌≤◌, ◌<◌, List, [], ◌∷◌, ◌++◌, length, reverse, Bool, true, false, cond, Option, Some, None, Result, Ok, Err, arith}
-use Rattle.std.specs.Prelude.{◌-◌, fold, nat_lt, slice_get}
-use Rattle.std.specs.Io.KnownBytes.{append_known}
+use Rattle.std.proofs.Common.{◌≡◌, ◌∙◌, sym, ap, subst, refl, ℕ, ◌+◌, ◌≤◌, ◌<◌, List, [], ◌∷◌, ◌++◌, length, reverse, Bool, true, false, cond, Option, Some, None, Result, Ok, Err}
+use Rattle.std.specs.Prelude.{◌-◌, nat_lt, slice_get}
 use Rattle.std.proofs.lemmas.Bool.{lt-ltb}
 use Rattle.dcm_base.specs.declared.level.Level.{Level}
 use Rattle.dcm_base.specs.declared.fault.Fault.{Fault}
 use Rattle.dcm_base.specs.declared.fault.Fault.TheVariants.{EndsEarly}
-use Rattle.dcm_base.specs.declared.fault.Stop.{Stop as Refusal}
 use Rattle.dcm_base.specs.Atoms.{Atom}
 use Rattle.dcm_base.specs.Stop.{Stop, refused, HeadBar, innermost_stop, place_stop}
 use Rattle.dcm_base.specs.Reads.{INPUT_LIMIT}
@@ -19,7 +17,7 @@ use Rattle.dcm_stream.specs.declared.machine.Halt.{Halt}
 use Rattle.dcm_stream.specs.declared.machine.Halt.TheVariants.{Refused}
 use Rattle.dcm_stream.specs.Bounds.{are_nested}
 use Rattle.dcm_stream.specs.Places.{innermost}
-use Rattle.dcm_stream.specs.Reading.{Reading, halted, Opened, settled, is_early, is_undecided, head_opens, head_read, byte_read, read_byte}
+use Rattle.dcm_stream.specs.Reading.{Reading, halted, Opened, settled, is_early, head_opens, head_read, byte_read, read_byte}
 use Rattle.dcm_stream.specs.Judging.{bars_head, opened_by, Judges}
 use Rattle.dcm_stream.specs.Machine.{reading, Stands, Comes, entered, Feeds}
 use Rattle.dcm_stream.proofs.Bounds.{few, Small, levels_accept}

@@ -1,12 +1,11 @@
 -- A machine goes over the beginning of a piece.
-use Rattle.std.proofs.Common.{◌≡◌, ◌∙◌, sym, ap, subst, refl, ℕ, zero, suc, ◌+◌, ◌-◌, ◌<◌, ◌≤◌, List, [], ◌∷◌, ◌++◌, length, take, get_or, reverse, Option, Some, None, Result, Ok, Err, true, false, arith}
-use Rattle.std.specs.Prelude.{fold, IsErrAnd}
-use Rattle.std.specs.Io.KnownBytes.{append_known}
+use Rattle.std.proofs.Common.{◌≡◌, ◌∙◌, sym, ap, subst, refl, ℕ, ◌+◌, ◌-◌, ◌<◌, ◌≤◌, List, [], ◌∷◌, ◌++◌, length, take, get_or, reverse, Option, Some, None, Result, Ok, Err, true, false, arith}
+use Rattle.std.specs.Prelude.{IsErrAnd}
 use Rattle.dcm_base.specs.declared.level.Level.{Level}
 use Rattle.dcm_base.specs.declared.fault.Fault.TheVariants.{TooLong}
 use Rattle.dcm_base.specs.Atoms.{Atom}
 use Rattle.dcm_base.specs.Place.{room, passes}
-use Rattle.dcm_base.specs.Stop.{Stop, refused}
+use Rattle.dcm_base.specs.Stop.{refused}
 use Rattle.dcm_base.specs.Reads.{INPUT_LIMIT}
 use Rattle.dcm_head.specs.declared.head.Head.{Head}
 use Rattle.dcm_stream.specs.declared.token.Bar.{Bar}

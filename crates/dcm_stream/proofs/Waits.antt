@@ -1,18 +1,18 @@
 -- A head that more bytes are wanted for is short.
-use Rattle.std.proofs.Common.{◌≡◌, ◌∙◌, ap, subst, refl, ℕ, ◌+◌, ◌<◌, List, [], ◌∷◌, length, Option, Some, None, Result, Ok, Bool, true, false}
+use Rattle.std.proofs.Common.{◌≡◌, ◌∙◌, ap, subst, refl, ℕ, ◌+◌, ◌<◌, List, length, Option, Some, None, Result, Ok, false}
 use Rattle.dcm_base.specs.declared.fault.Fault.TheVariants.{EndsEarly}
 use Rattle.dcm_base.specs.declared.level.Level.{Level}
 use Rattle.dcm_base.specs.declared.tag.Tag.{Tag}
 use Rattle.dcm_base.specs.declared.vr.Vr.{Vr}
 use Rattle.dcm_base.specs.declared.length.Length.{Length}
-use Rattle.dcm_base.specs.Stop.{Stop, refused, HeadBar, place_stop}
+use Rattle.dcm_base.specs.Stop.{refused, place_stop}
 use Rattle.dcm_head.specs.declared.head.Head.{Head}
 use Rattle.dcm_stream.specs.declared.token.Bar.{Bar}
 use Rattle.dcm_stream.specs.declared.token.Bar.TheVariants.{Order, Fragments}
 use Rattle.dcm_stream.specs.Reading.{is_undecided, is_early_bar}
 use Rattle.dcm_base.specs.declared.fault.Fault.{Fault}
 use Rattle.dcm_stream.specs.declared.judge.Opening.{Opening}
-use Rattle.dcm_stream.specs.Judging.{bars_head, fault_of, Judges}
+use Rattle.dcm_stream.specs.Judging.{bars_head, Judges}
 use Rattle.dcm_stream.proofs.Judged.{place_short}
 
 bar_not_early : {S : Type 0} (bars : S → Head → Option Bar) (s : S) (o : Option Bar) (tag : Tag) (vr : Vr) (l : Length) → bars s (record { tag = tag; vr = vr; length = l }) ≡ o → is_early_bar (bars_head bars s tag vr l) ≡ false

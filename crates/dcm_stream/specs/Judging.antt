@@ -1,7 +1,5 @@
 -- What a head leads to: a fault, the want of more bytes, or what it opens or closes.
-use Rattle.std.specs.Prelude.{◌≡◌, ℕ, ◌+◌, List, [], ◌∷◌, length, drop, Bool, false, ◌&&◌, nat_le, if◌then◌else◌, Option, Some, None, option_map, Result, Ok, Err}
-use Rattle.dcm_base.specs.declared.tag.Tag.{Tag}
-use Rattle.dcm_base.specs.declared.vr.Vr.{Vr}
+use Rattle.std.specs.Prelude.{◌≡◌, ℕ, ◌+◌, List, [], ◌∷◌, length, drop, false, ◌&&◌, nat_le, if◌then◌else◌, Option, Some, None, option_map, Result, Ok, Err}
 use Rattle.dcm_base.specs.declared.syntax.Syntax.{Syntax}
 use Rattle.dcm_base.specs.declared.length.Length.{Length}
 use Rattle.dcm_base.specs.declared.form.Form.{Form}
@@ -11,14 +9,14 @@ use Rattle.dcm_base.specs.declared.fault.Fault.{Fault}
 use Rattle.dcm_base.specs.declared.fault.Fault.TheVariants.{EndsEarly, UndefinedLength, PassesEnd, TooDeep, NotAscending, FragmentsBarred}
 use Rattle.dcm_base.specs.Atoms.{Atom, opens, opens_item, opens_fragment}
 use Rattle.dcm_base.specs.Place.{room, passes, depth, is_undefined}
-use Rattle.dcm_base.specs.Stop.{Stop, refused, HeadBar, opens_list, has_no_form, is_fragment_list, with_length, element_stop, item_stop, place_stop}
+use Rattle.dcm_base.specs.Stop.{Stop, refused, HeadBar, opens_list, has_no_form, is_fragment_list, with_length, element_stop, place_stop}
 use Rattle.dcm_base.specs.Head.{vr_at}
 use Rattle.dcm_head.specs.declared.head.Head.{Head}
 use Rattle.dcm_stream.specs.declared.token.Bar.{Bar}
 use Rattle.dcm_stream.specs.declared.token.Bar.TheVariants.{Order, Fragments}
 use Rattle.dcm_stream.specs.declared.judge.Opening.{Opening}
 use Rattle.dcm_stream.specs.declared.judge.Opening.TheVariants as opening
-use Rattle.dcm_stream.specs.Reading.{Opened, value_opens, container_opens, plain_opens, item_opens, head_opens, closes, is_early}
+use Rattle.dcm_stream.specs.Reading.{Opened, value_opens, container_opens, plain_opens, head_opens, closes, is_early}
 
 -- the fault by which a sink's bar is told
 abbrev pub fault_of : Bar → Fault

@@ -1,13 +1,10 @@
-use Rattle.std.proofs.Common.{◌≡◌, ◌∙◌, ◌++◌, ◌∷◌, [], ap, sym, refl, subst, append_assoc, reverse, List}
+use Rattle.std.proofs.Common.{◌∙◌, ◌++◌, ap, sym, reverse, List}
 use Rattle.std.proofs.lemmas.List.{append-nil}
-use Rattle.std.specs.Io.KnownBytes.{append_known}
 use Rattle.dcm_base.specs.Atoms.{Atom}
-use Rattle.dcm_base.specs.Device.{AppendsFront}
-use Rattle.dcm_base.specs.Steps.{outputs}
 use Rattle.dcm_base.specs.declared.level.Level.{Level}
 use Rattle.dcm_stream.specs.Tokens.{atoms_of}
 use Rattle.dcm_stream.specs.Places.{full_innermost}
-use Rattle.dcm_stream.specs.Reading.{closes, full_closed}
+use Rattle.dcm_stream.specs.Reading.{full_closed}
 use Rattle.dcm_stream.proofs.Closes.{turned_but_last, closes_one, closes_none, closes_first, closes_next, taken_more, failed_more}
 use Rattle.dcm_stream.proofs.close.close_full.Goals as goal
 

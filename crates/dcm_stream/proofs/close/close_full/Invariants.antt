@@ -1,4 +1,4 @@
-use Rattle.std.proofs.Common.{◌≡◌, ◌++◌, ℕ, List, reverse}
+use Rattle.std.proofs.Common.{◌≡◌, ◌++◌, List, reverse}
 use Rattle.std.specs.Prelude.{fold}
 use Rattle.std.specs.Io.KnownBytes.{append_known}
 use Rattle.arrayvec.specs.ArrayVec.{array_vec_len}

@@ -1,10 +1,8 @@
-use Rattle.std.proofs.Common.{◌≡◌, ◌≤◌, ◌+◌, ◌∙◌, ap, sym, refl, ℕ, length, reverse, arith}
-use Rattle.std.specs.Prelude.{Option, Some, None, option_map}
+use Rattle.std.proofs.Common.{◌≡◌, ◌+◌, ◌∙◌, ap, sym, refl, ℕ, length, reverse, arith}
+use Rattle.std.specs.Prelude.{Some, None, option_map}
 use Rattle.dcm_base.specs.declared.form.Form.{Form}
-use Rattle.dcm_base.specs.declared.fault.Fault.{Fault}
 use Rattle.dcm_base.specs.Spelling.{form}
 use Rattle.dcm_base.specs.Place.{room, passes, depth}
-use Rattle.dcm_stream.specs.declared.token.Bar.{Bar}
 use Rattle.dcm_stream.specs.Judging.{bars_head, fault_of, shape_fault}
 use Rattle.dcm_head.specs.declared.head.Head.{Head}
 use Rattle.dcm_stream.specs.Reading.{element_opens, is_early}

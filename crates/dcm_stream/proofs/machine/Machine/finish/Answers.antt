@@ -1,6 +1,5 @@
-use Rattle.std.proofs.Common.{◌≡◌, ◌∙◌, ap, sym, subst, Option, None, false}
+use Rattle.std.proofs.Common.{◌≡◌, sym, subst}
 use Rattle.dcm_base.specs.Steps.{Goes}
-use Rattle.dcm_stream.specs.declared.machine.Halt.{Halt}
 use Rattle.dcm_stream.specs.declared.machine.Machine.TheInside.{Inside}
 use Rattle.dcm_stream.specs.Reading.{finish, end_shows}
 use Rattle.dcm_stream.specs.Machine.{reading, stop_of, is_output, well, ended}

@@ -1,6 +1,6 @@
 use Rattle.std.proofs.Common.{◌≡◌, ◌∙◌, ◌+◌, ◌++◌, ◌∷◌, [], ap, sym, refl, reverse, length, ℕ, Some, None}
 use Rattle.dcm_stream.specs.Places.{innermost}
-use Rattle.dcm_stream.specs.Judging.{bars_head, Judges}
+use Rattle.dcm_stream.specs.Judging.{bars_head}
 use Rattle.dcm_stream.specs.Machine.{reading}
 use Rattle.dcm_stream.proofs.HeadBytes.{some_container, judged_at, innermost_at, feeds_refused, feeds_waiting, opens_few, feeds_opening}
 use Rattle.dcm_stream.proofs.place.Place.read_head_byte.Goals as goal

@@ -1,6 +1,4 @@
-use Rattle.std.proofs.Common.{◌≡◌, ◌∙◌, ◌<◌, ◌≤◌, ◌+◌, ◌∷◌, [], ap, sym, refl, subst, length, take, get_or, ℕ, List, Ok, Err, arith}
-use Rattle.std.proofs.lemmas.List.{length-take-le}
-use Rattle.dcm_stream.specs.Machine.{reading, Feeds}
+use Rattle.std.proofs.Common.{◌≡◌, ◌∷◌, [], refl, length, get_or, ℕ, Ok, Err, arith}
 use Rattle.dcm_stream.proofs.Pieces.{first_byte, limit_at, value_goes, fails_first, heads_at}
 use Rattle.dcm_stream.proofs.place.Place.read_some.Goals as goal
 

@@ -1,4 +1,4 @@
-use Rattle.std.proofs.Common.{◌≡◌, ◌-◌, ◌+◌, map, length, reverse, ℕ}
+use Rattle.std.proofs.Common.{◌-◌, ◌+◌, map, length, reverse, ℕ}
 use Rattle.dcm_base.specs.Atoms.{value_byte}
 use Rattle.dcm_stream.specs.Reading.{closing}
 use Rattle.dcm_stream.specs.Machine.{reading}
