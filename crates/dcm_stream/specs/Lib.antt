@@ -6,3 +6,4 @@ pub mod Follows
 pub mod Bounds
 pub mod Ascending
 pub mod Machine
+pub mod Driven

@@ -1,0 +1,63 @@
+-- What a machine and its sink come to over the bytes of a data set.
+use Rattle.std.specs.Prelude.{◌≡◌, ℕ, List, [], ◌∷◌, ◌++◌, true, false, if◌then◌else◌, Option, Some, None, fold}
+use Rattle.dcm_base.specs.declared.syntax.Syntax.{Syntax}
+use Rattle.dcm_base.specs.declared.syntax.Syntax.TheVariants.{Little}
+use Rattle.dcm_base.specs.declared.fault.Fault.{Fault}
+use Rattle.dcm_base.specs.Atoms.{Atom, front_atoms}
+use Rattle.dcm_base.specs.Bars.{is_fragment_form, is_above}
+use Rattle.dcm_base.specs.Front.{Front}
+use Rattle.dcm_base.specs.Reads.{Reads, ended}
+use Rattle.dcm_base.specs.Spelling.{form}
+use Rattle.dcm_base.specs.Steps.{outputs}
+use Rattle.dcm_base.specs.Stop.{Bar, refused}
+use Rattle.dcm_head.specs.declared.head.Head.{Head}
+use Rattle.dcm_stream.specs.declared.token.Bar.{Bar as SinkBar}
+use Rattle.dcm_stream.specs.declared.token.Bar.TheVariants.{Fragments, Order}
+use Rattle.dcm_stream.specs.Reading.{Reading, start_of, finish, end_shows, is_early, is_undecided}
+use Rattle.dcm_stream.specs.Ascending.{reached_after, innermost}
+use Rattle.dcm_stream.specs.Machine.{steps, steps_write}
+
+-- the reading, the sink's state and the output behind the bytes
+abbrev pub driven : {S : Type 0} → (S → Head → Option SinkBar) → (S → Atom → S) → S → Syntax → (start : ℕ) → List ℕ → Reading × S
+driven bars step first s start bytes = fold (steps bars step) (start_of s start, first) bytes
+
+abbrev pub driven_output : {S : Type 0} → (S → Head → Option SinkBar) → (S → Atom → S) → (S → Atom → List ℕ) → S → Syntax → (start : ℕ) → List ℕ → List ℕ
+driven_output bars step writes first s start bytes = outputs (steps bars step) (steps_write bars step writes) (start_of s start, first) bytes
+
+-- the input ends with the bytes: f is read of it, and the sink has made of it what it makes of the atoms of f
+pub record EndsAs {S : Type 0} (bars : S → Head → Option SinkBar) (step : S → Atom → S) (writes : S → Atom → List ℕ) (bar : Bar) (first : S) (s : Syntax) (start : ℕ) (bytes : List ℕ) : Type 0 where
+  pub f : Front
+  pub reads : Reads bar s start bytes f (finish (driven bars step first s start bytes).0)
+  pub state : fold step (driven bars step first s start bytes).1 (end_shows (finish (driven bars step first s start bytes).0)) ≡ fold step first (front_atoms s f)
+  pub output : driven_output bars step writes first s start bytes ++ outputs step writes (driven bars step first s start bytes).1 (end_shows (finish (driven bars step first s start bytes).0))
+      ≡ outputs step writes first (front_atoms s f)
+
+-- each input that begins with the bytes is refused by this fault at this offset: f is read of it, and shown
+pub record RefusesAs {S : Type 0} (bars : S → Head → Option SinkBar) (step : S → Atom → S) (writes : S → Atom → List ℕ) (bar : Bar) (first : S) (s : Syntax) (start : ℕ) (bytes : List ℕ) (fault : Fault) (offset : ℕ) : Type 0 where
+  pub f : Front
+  pub decided : is_early fault ≡ false
+  pub reads : (later : List ℕ) → Reads bar s start (bytes ++ later) f (refused fault offset)
+  pub state : (driven bars step first s start bytes).1 ≡ fold step first (front_atoms s f)
+  pub output : driven_output bars step writes first s start bytes ≡ outputs step writes first (front_atoms s f)
+
+-- more bytes may still come to another end: f is read of these, not closed, and shown
+pub record WaitsAs {S : Type 0} (bars : S → Head → Option SinkBar) (step : S → Atom → S) (writes : S → Atom → List ℕ) (bar : Bar) (first : S) (s : Syntax) (start : ℕ) (bytes : List ℕ) : Type 0 where
+  pub f : Front
+  pub undecided : is_undecided (Some (finish (driven bars step first s start bytes).0)) ≡ true
+  pub reads : Reads bar s start bytes (ended (finish (driven bars step first s start bytes).0) f) (finish (driven bars step first s start bytes).0)
+  pub state : (driven bars step first s start bytes).1 ≡ fold step first (front_atoms s f)
+  pub output : driven_output bars step writes first s start bytes ≡ outputs step writes first (front_atoms s f)
+
+-- ---- sinks by what they bar, in each state that atoms lead them to
+
+-- no head
+abbrev pub BarsNone : {S : Type 0} → (S → Head → Option SinkBar) → (S → Atom → S) → S → Type 0
+BarsNone bars step first = (atoms : List Atom) (head : Head) → bars (fold step first atoms) head ≡ None
+
+-- just the fragment lists
+abbrev pub BarsFragments : {S : Type 0} → (S → Head → Option SinkBar) → (S → Atom → S) → S → Type 0
+BarsFragments bars step first = (atoms : List Atom) (head : Head) → bars (fold step first atoms) head ≡ (if is_fragment_form (form Little head.vr head.length) then Some Fragments else None)
+
+-- just the tags that aren't above those before them in their data set
+abbrev pub BarsOrder : {S : Type 0} → (S → Head → Option SinkBar) → (S → Atom → S) → S → Type 0
+BarsOrder bars step first = (atoms : List Atom) (head : Head) → bars (fold step first atoms) head ≡ (if is_above head.tag (innermost (fold reached_after (None ∷ []) atoms)) then None else Some Order)
