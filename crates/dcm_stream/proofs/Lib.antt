@@ -7,6 +7,7 @@ pub mod Opening
 pub mod Behind
 pub mod Values
 pub mod Passing
+pub mod Stood
 pub mod Follow
 pub mod Bounds
 pub mod Ascending
