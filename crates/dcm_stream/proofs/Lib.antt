@@ -24,3 +24,4 @@ pub mod Pieces
 pub mod Finishes
 pub mod Calls
 pub mod Driven
+pub mod Inputs

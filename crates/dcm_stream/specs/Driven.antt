@@ -1,21 +1,23 @@
 -- What a machine and its sink come to over the bytes of a data set.
-use Rattle.std.specs.Prelude.{◌≡◌, ℕ, List, [], ◌∷◌, ◌++◌, true, false, if◌then◌else◌, Option, Some, None, fold}
+use Rattle.std.specs.Prelude.{◌≡◌, ℕ, List, [], ◌∷◌, ◌++◌, true, false, if◌then◌else◌, Option, Some, None, Result, fold}
+use Rattle.std.specs.Io.KnownBytes.{append_known}
 use Rattle.dcm_base.specs.declared.syntax.Syntax.{Syntax}
 use Rattle.dcm_base.specs.declared.syntax.Syntax.TheVariants.{Little}
 use Rattle.dcm_base.specs.declared.fault.Fault.{Fault}
 use Rattle.dcm_base.specs.Atoms.{Atom, front_atoms}
+use Rattle.dcm_base.specs.Device.{Puts}
 use Rattle.dcm_base.specs.Bars.{is_fragment_form, is_above}
 use Rattle.dcm_base.specs.Front.{Front}
 use Rattle.dcm_base.specs.Reads.{Reads, ended}
 use Rattle.dcm_base.specs.Spelling.{form}
 use Rattle.dcm_base.specs.Steps.{outputs}
-use Rattle.dcm_base.specs.Stop.{Bar, refused}
+use Rattle.dcm_base.specs.Stop.{Bar, Stop, refused}
 use Rattle.dcm_head.specs.declared.head.Head.{Head}
 use Rattle.dcm_stream.specs.declared.token.Bar.{Bar as SinkBar}
 use Rattle.dcm_stream.specs.declared.token.Bar.TheVariants.{Fragments, Order}
 use Rattle.dcm_stream.specs.Reading.{Reading, start_of, finish, end_shows, is_early, is_undecided}
 use Rattle.dcm_stream.specs.Ascending.{reached_after, innermost}
-use Rattle.dcm_stream.specs.Machine.{steps, steps_write}
+use Rattle.dcm_stream.specs.Machine.{steps, steps_write, Progress}
 
 -- the reading, the sink's state and the output behind the bytes
 abbrev pub driven : {S : Type 0} → (S → Head → Option SinkBar) → (S → Atom → S) → S → Syntax → (start : ℕ) → List ℕ → Reading × S
@@ -47,6 +49,23 @@ pub record WaitsAs {S : Type 0} (bars : S → Head → Option SinkBar) (step : S
   pub reads : Reads bar s start bytes (ended (finish (driven bars step first s start bytes).0) f) (finish (driven bars step first s start bytes).0)
   pub state : (driven bars step first s start bytes).1 ≡ fold step first (front_atoms s f)
   pub output : driven_output bars step writes first s start bytes ≡ outputs step writes first (front_atoms s f)
+
+-- at the beginning of a data set
+abbrev pub begun : Syntax → (start : ℕ) → Progress
+begun s start = record { reading = start_of s start; failed = false }
+
+-- of these bytes f is read, and all that the sink makes of it went out, or a beginning of that where the output failed
+pub record Shown {S : Type 0} (step : S → Atom → S) (writes : S → Atom → List ℕ) (bar : Bar) (first : S) (s : Syntax) (start : ℕ) (bytes : List ℕ) (stop : Stop) (held holds : Option (List ℕ)) (r : Result (Unit {0}) (Unit {0})) : Type 0 where
+  pub f : Front
+  pub reads : Reads bar s start bytes f stop
+  pub puts : Puts held holds (outputs step writes first (front_atoms s f)) r
+
+-- more bytes may still come to another end: f is read of these, not closed, and all that the sink makes of it went out
+pub record ShownSoFar {S : Type 0} (step : S → Atom → S) (writes : S → Atom → List ℕ) (bar : Bar) (first : S) (s : Syntax) (start : ℕ) (bytes : List ℕ) (stop : Stop) (held holds : Option (List ℕ)) : Type 0 where
+  pub f : Front
+  pub undecided : is_undecided (Some stop) ≡ true
+  pub reads : Reads bar s start bytes (ended stop f) stop
+  pub shown : holds ≡ append_known held (outputs step writes first (front_atoms s f))
 
 -- ---- sinks by what they bar, in each state that atoms lead them to
 

@@ -143,6 +143,10 @@ abbrev pub TellsFailed : (old new : Bool) → (failed : Bool) → Type 0
 TellsFailed old new true = new ≡ true
 TellsFailed old new false = new ≡ old
 
+-- a machine and its sink went over these bytes, or a beginning of the output went out
+abbrev pub GoesOver : {S : Type 0} → (S → Head → Option Bar) → (S → Atom → S) → (S → Atom → List ℕ) → Progress → S → Option (List ℕ) → Progress → S → Option (List ℕ) → List ℕ → Type 0
+GoesOver bars step writes old s held new t holds bytes = Goes (steps bars step) (steps_write bars step writes) (old.reading, s) held (new.reading, t) holds bytes (well new.failed)
+
 -- behind the input's end
 abbrev pub ended : Stop → Reading → Reading
 ended complete r = r

@@ -64,7 +64,7 @@ impl Machine {
 
     /// Goes over the next bytes of the data set. After a halt each call answers the same halt.
     pub fn feed<S: Sink>(&mut self, piece: &[u8], sink: &mut S) -> Result<(), Halt>
-        ensures goes { Goes (spec.steps S.bar S.step) (spec.steps_write S.bar S.step S.writes) (self.old.reading, S.state sink.old) (S.contents sink.old) (self.new.reading, S.state sink.new) (S.contents sink.new) piece.now (spec.well self.new.failed) }
+        ensures goes { spec.GoesOver S.bar S.step S.writes self.old (S.state sink.old) (S.contents sink.old) self.new (S.state sink.new) (S.contents sink.new) piece.now }
         ensures answer { result ≡ spec.answer self.new.reading.halt self.new.failed }
         ensures going { OnOk result (spec.is_halted self.new ≡ false) }
         ensures halted { spec.is_halted self.old ≡ true → (self.new ≡ self.old) × (sink.new ≡ sink.old) }
