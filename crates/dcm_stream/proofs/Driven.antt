@@ -7,10 +7,11 @@ use Rattle.dcm_base.specs.declared.syntax.Syntax.{Syntax}
 use Rattle.dcm_base.specs.declared.syntax.Syntax.TheVariants.{Little}
 use Rattle.dcm_base.specs.declared.fault.Fault.{Fault}
 use Rattle.dcm_base.specs.declared.fault.Fault.TheVariants.{FragmentsBarred, NotAscending}
-use Rattle.dcm_base.specs.Atoms.{Atom}
+use Rattle.dcm_base.specs.Atoms.{Atom, is_closed}
+use Rattle.dcm_base.specs.Front.{Front, front}
 use Rattle.dcm_base.specs.Bars.{is_fragment_form, is_above, no_bar, fragments_bar, ascending_bar}
 use Rattle.dcm_base.specs.Reads.{INPUT_LIMIT, Reads, ended}
-use Rattle.dcm_base.specs.Spelling.{form}
+use Rattle.dcm_base.specs.Spelling.{form, SpellsFront}
 use Rattle.dcm_base.specs.Steps.{outputs}
 use Rattle.dcm_base.specs.Stop.{Stop, Bar, refused}
 use Rattle.dcm_base.proofs.Runs.{outputs-append}
@@ -99,6 +100,10 @@ module _ {S : Type 0} (bars : S → Head → Option SinkBar) (step : S → Atom 
       let q = read_all (bars_by bars step first) s start bytes in
       refuses_by bar first s start bytes q.0 q.1 fault offset (driven_is first s start bytes) (output_is first s start bytes) is (follows (bars_by bars step first) bar h s start bytes le)
 
+  stays_open : (s : Syntax) (f : Front) (bytes : List ℕ) → SpellsFront s f bytes → is_closed f ≡ false
+  unfolding SpellsFront
+  stays_open s (front whole open_tree reached closed) bytes h = h.4
+
   waits_by : (bar : Bar) (first : S) (s : Syntax) (start : ℕ) (bytes : List ℕ) (r : Reading) (atoms : List Atom) → driven bars step first s start bytes ≡ (r, fold step first atoms)
       → driven_output bars step writes first s start bytes ≡ outputs step writes first atoms → (driven bars step first s start bytes).0.halt ≡ None
       → GoesOn bar s start bytes r atoms ⊎ HaltsAt bar s start bytes r atoms → WaitsAs bars step writes bar first s start bytes
@@ -106,6 +111,7 @@ module _ {S : Type 0} (bars : S → Head → Option SinkBar) (step : S → Atom 
       let same : (driven bars step first s start bytes).0 ≡ r = ap (λ (q : Reading × S). q.0) d in
       record {
         f = g.f;
+        not_closed = stays_open s g.f g.read g.spelled;
         undecided = ap (λ (x : Reading). is_undecided (Some (finish x))) same ∙ g.undecided;
         reads = subst (λ (x : Reading). Reads bar s start bytes (ended (finish x) g.f) (finish x)) (sym same) g.reads;
         state = ap (λ (q : Reading × S). q.1) d ∙ ap (fold step first) g.atoms_are;

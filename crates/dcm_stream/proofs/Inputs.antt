@@ -1,15 +1,13 @@
 -- What a machine and its sink leave of a whole input.
-use Rattle.std.proofs.Common.{◌≡◌, ◌∙◌, sym, ap, subst, refl, ℕ, ◌≤◌, List, [], ◌∷◌, ◌++◌, Option, Some, None, Result, Ok, Err, Bool, true, false, append_assoc}
-use Rattle.std.specs.Prelude.{fold}
+use Rattle.std.proofs.Common.{◌≡◌, ◌∙◌, sym, ap, subst, ℕ, ◌≤◌, List, ◌++◌, Option, Some, None, Ok, Err, Bool, true, false}
 use Rattle.std.specs.Io.KnownBytes.{append_known}
-use Rattle.std.proofs.lemmas.List.Sums.{fold-append}
 use Rattle.dcm_base.specs.declared.syntax.Syntax.{Syntax}
 use Rattle.dcm_base.specs.declared.fault.Fault.{Fault}
 use Rattle.dcm_base.specs.Atoms.{Atom, front_atoms}
 use Rattle.dcm_base.specs.Device.{AppendsFront, Puts}
 use Rattle.dcm_base.specs.Reads.{INPUT_LIMIT, Reads, ended}
 use Rattle.dcm_base.specs.Steps.{outputs, Goes}
-use Rattle.dcm_base.specs.Stop.{Stop, Bar, refused}
+use Rattle.dcm_base.specs.Stop.{Bar, refused}
 use Rattle.dcm_base.proofs.Puts.{front_longer, puts_behind}
 use Rattle.dcm_base.proofs.Runs.{outputs-append, goes_on}
 use Rattle.dcm_head.specs.declared.head.Head.{Head}
@@ -17,7 +15,7 @@ use Rattle.dcm_stream.specs.declared.token.Bar.{Bar as SinkBar}
 use Rattle.dcm_stream.specs.Reading.{Reading, start_of, finish, end_shows, is_undecided}
 use Rattle.dcm_stream.specs.Follows.{BarsAs}
 use Rattle.dcm_stream.specs.Machine.{steps, steps_write, bars_by, Progress, well, GoesOver}
-use Rattle.dcm_stream.specs.Driven.{driven, driven_output, begun, EndsAs, RefusesAs, Shown, ShownSoFar}
+use Rattle.dcm_stream.specs.Driven.{driven, driven_output, begun, Shown, ShownSoFar}
 use Rattle.dcm_stream.proofs.Driven.{ends_as, refuses_as, waits_as}
 
 puts_of : {S : Type 0} (step : S → Atom → S) (writes : S → Atom → List ℕ) (m : S) (held : Option (List ℕ)) (t : S) (holds : Option (List ℕ)) (atoms : List Atom) (failed : Bool) → Goes step writes m held t holds atoms (well failed)
@@ -83,6 +81,7 @@ module _ {S : Type 0} (bars : S → Head → Option SinkBar) (step : S → Atom 
         let waits = waits_as bars step writes bar first bars_as s start bytes le (ap (λ (q : Reading × S). q.0.halt) (sym d.0) ∙ halt) in
         record {
           f = waits.f;
+          not_closed = waits.not_closed;
           undecided = ap (λ (q : Reading × S). is_undecided (Some (finish q.0))) d.0 ∙ waits.undecided;
           reads = subst (λ (q : Reading × S). Reads bar s start bytes (ended (finish q.0) waits.f) (finish q.0)) (sym d.0) waits.reads;
           shown = d.1 ∙ ap (append_known held) waits.output;

@@ -4,7 +4,7 @@ use Rattle.std.specs.Io.KnownBytes.{append_known}
 use Rattle.dcm_base.specs.declared.syntax.Syntax.{Syntax}
 use Rattle.dcm_base.specs.declared.syntax.Syntax.TheVariants.{Little}
 use Rattle.dcm_base.specs.declared.fault.Fault.{Fault}
-use Rattle.dcm_base.specs.Atoms.{Atom, front_atoms}
+use Rattle.dcm_base.specs.Atoms.{Atom, front_atoms, is_closed}
 use Rattle.dcm_base.specs.Device.{Puts}
 use Rattle.dcm_base.specs.Bars.{is_fragment_form, is_above}
 use Rattle.dcm_base.specs.Front.{Front}
@@ -45,6 +45,7 @@ pub record RefusesAs {S : Type 0} (bars : S → Head → Option SinkBar) (step :
 -- more bytes may still come to another end: f is read of these, not closed, and shown
 pub record WaitsAs {S : Type 0} (bars : S → Head → Option SinkBar) (step : S → Atom → S) (writes : S → Atom → List ℕ) (bar : Bar) (first : S) (s : Syntax) (start : ℕ) (bytes : List ℕ) : Type 0 where
   pub f : Front
+  pub not_closed : is_closed f ≡ false
   pub undecided : is_undecided (Some (finish (driven bars step first s start bytes).0)) ≡ true
   pub reads : Reads bar s start bytes (ended (finish (driven bars step first s start bytes).0) f) (finish (driven bars step first s start bytes).0)
   pub state : (driven bars step first s start bytes).1 ≡ fold step first (front_atoms s f)
@@ -63,6 +64,7 @@ pub record Shown {S : Type 0} (step : S → Atom → S) (writes : S → Atom →
 -- more bytes may still come to another end: f is read of these, not closed, and all that the sink makes of it went out
 pub record ShownSoFar {S : Type 0} (step : S → Atom → S) (writes : S → Atom → List ℕ) (bar : Bar) (first : S) (s : Syntax) (start : ℕ) (bytes : List ℕ) (stop : Stop) (held holds : Option (List ℕ)) : Type 0 where
   pub f : Front
+  pub not_closed : is_closed f ≡ false
   pub undecided : is_undecided (Some stop) ≡ true
   pub reads : Reads bar s start bytes (ended stop f) stop
   pub shown : holds ≡ append_known held (outputs step writes first (front_atoms s f))
