@@ -22,8 +22,8 @@ use Rattle.dcm_stream.specs.Reading.{Reading, start_of, read_byte, reads_byte, r
 use Rattle.dcm_stream.specs.Follows.{BarsAs, GoesOn, HaltsAt, Answered}
 use Rattle.dcm_stream.specs.Judging.{fault_of, bars_head}
 use Rattle.dcm_stream.specs.Ascending.{reached_after, innermost}
-use Rattle.dcm_stream.specs.Machine.{steps, steps_write, bars_by, DrivesAs}
-use Rattle.dcm_stream.specs.Driven.{driven, driven_output, EndsAs, RefusesAs, WaitsAs, BarsNone, BarsFragments, BarsOrder}
+use Rattle.dcm_stream.specs.Machine.{steps, steps_write}
+use Rattle.dcm_stream.specs.Driven.{bars_by, DrivesAs, driven, driven_output, EndsAs, RefusesAs, WaitsAs, BarsNone, BarsFragments, BarsOrder}
 use Rattle.dcm_stream.proofs.Ascending.{ascending_bars}
 use Rattle.dcm_stream.proofs.Follow.{drives, follows, answers}
 

@@ -14,8 +14,8 @@ use Rattle.dcm_head.specs.declared.head.Head.{Head}
 use Rattle.dcm_stream.specs.declared.token.Bar.{Bar as SinkBar}
 use Rattle.dcm_stream.specs.Reading.{Reading, start_of, finish, end_shows, is_undecided}
 use Rattle.dcm_stream.specs.Follows.{BarsAs}
-use Rattle.dcm_stream.specs.Machine.{steps, steps_write, bars_by, Progress, well, GoesOver}
-use Rattle.dcm_stream.specs.Driven.{driven, driven_output, begun, Shown, ShownSoFar}
+use Rattle.dcm_stream.specs.Machine.{steps, steps_write, Progress, well, GoesOver}
+use Rattle.dcm_stream.specs.Driven.{bars_by, driven, driven_output, begun, Shown, ShownSoFar}
 use Rattle.dcm_stream.proofs.Driven.{ends_as, refuses_as, waits_as}
 
 puts_of : {S : Type 0} (step : S → Atom → S) (writes : S → Atom → List ℕ) (m : S) (held : Option (List ℕ)) (t : S) (holds : Option (List ℕ)) (atoms : List Atom) (failed : Bool) → Goes step writes m held t holds atoms (well failed)

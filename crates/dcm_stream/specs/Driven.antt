@@ -1,6 +1,9 @@
 -- What a machine and its sink come to over the bytes of a data set.
 use Rattle.std.specs.Prelude.{◌≡◌, ℕ, List, [], ◌∷◌, ◌++◌, true, false, if◌then◌else◌, Option, Some, None, Result, fold}
 use Rattle.std.specs.Io.KnownBytes.{append_known}
+use Rattle.dcm_base.specs.declared.tag.Tag.{Tag}
+use Rattle.dcm_base.specs.declared.vr.Vr.{Vr}
+use Rattle.dcm_base.specs.declared.length.Length.{Length}
 use Rattle.dcm_base.specs.declared.syntax.Syntax.{Syntax}
 use Rattle.dcm_base.specs.declared.syntax.Syntax.TheVariants.{Little}
 use Rattle.dcm_base.specs.declared.fault.Fault.{Fault}
@@ -11,13 +14,29 @@ use Rattle.dcm_base.specs.Front.{Front}
 use Rattle.dcm_base.specs.Reads.{Reads, ended}
 use Rattle.dcm_base.specs.Spelling.{form}
 use Rattle.dcm_base.specs.Steps.{outputs}
-use Rattle.dcm_base.specs.Stop.{Bar, Stop, refused}
+use Rattle.dcm_base.specs.Stop.{Bar, HeadBar, Stop, refused}
 use Rattle.dcm_head.specs.declared.head.Head.{Head}
 use Rattle.dcm_stream.specs.declared.token.Bar.{Bar as SinkBar}
 use Rattle.dcm_stream.specs.declared.token.Bar.TheVariants.{Fragments, Order}
-use Rattle.dcm_stream.specs.Reading.{Reading, start_of, finish, end_shows, is_early, is_undecided}
+use Rattle.dcm_stream.specs.Reading.{Reading, start_of, finish, end_shows, is_early, is_undecided, read_all, is_early_bar}
+use Rattle.dcm_stream.specs.Judging.{bars_head}
 use Rattle.dcm_stream.specs.Ascending.{reached_after, innermost}
 use Rattle.dcm_stream.specs.Machine.{steps, steps_write, Progress}
+
+-- heads are barred by the atoms so far as by the state that they lead to
+abbrev pub bars_by : {S : Type 0} → (S → Head → Option SinkBar) → (S → Atom → S) → S → List Atom → HeadBar
+bars_by bars step first atoms = bars_head bars (fold step first atoms)
+
+-- they come to what is read of the bytes, and to what the sink makes of its atoms
+abbrev pub DrivesAs : {S : Type 0} → (S → Head → Option SinkBar) → (S → Atom → S) → (S → Atom → List ℕ) → Type 0
+DrivesAs {S} bars step writes = (first : S) (s : Syntax) (start : ℕ) (bytes : List ℕ) →
+    let r = read_all (bars_by bars step first) s start bytes in
+    (fold (steps bars step) (start_of s start, first) bytes ≡ (r.0, fold step first r.1))
+    × (outputs (steps bars step) (steps_write bars step writes) (start_of s start, first) bytes ≡ outputs step writes first r.1)
+
+-- no bar is told as an early end
+abbrev pub DecidesBars : {S : Type 0} → (S → Head → Option SinkBar) → Type 0
+DecidesBars {S} bars = (s : S) (tag : Tag) (vr : Vr) (declared : Length) → is_early_bar (bars_head bars s tag vr declared) ≡ false
 
 -- the reading, the sink's state and the output behind the bytes
 abbrev pub driven : {S : Type 0} → (S → Head → Option SinkBar) → (S → Atom → S) → S → Syntax → (start : ℕ) → List ℕ → Reading × S

@@ -1,21 +1,17 @@
 -- A machine and the sink that it drives.
 use Rattle.std.specs.Prelude.{◌≡◌, ℕ, ◌+◌, ◌≤◌, List, [], ◌++◌, length, take, map, reverse, Bool, true, false, Option, Some, None, Result, Ok, Err, fold, ⊤, is_some, ◌||◌, ◌&&◌, ◌==◌}
 use Rattle.std.specs.Io.KnownBytes.{append_known}
-use Rattle.dcm_base.specs.declared.tag.Tag.{Tag}
-use Rattle.dcm_base.specs.declared.vr.Vr.{Vr}
-use Rattle.dcm_base.specs.declared.syntax.Syntax.{Syntax}
-use Rattle.dcm_base.specs.declared.length.Length.{Length}
 use Rattle.dcm_base.specs.Atoms.{Atom, value_byte}
 use Rattle.dcm_base.specs.Device.{AppendsFront}
 use Rattle.dcm_base.specs.Steps.{outputs, Goes}
-use Rattle.dcm_base.specs.Stop.{Stop, HeadBar, complete, refused, is_empty}
+use Rattle.dcm_base.specs.Stop.{Stop, complete, refused, is_empty}
 use Rattle.dcm_base.specs.Reads.{INPUT_LIMIT}
 use Rattle.dcm_head.specs.declared.head.Head.{Head}
 use Rattle.dcm_stream.specs.declared.token.Bar.{Bar}
 use Rattle.dcm_stream.specs.declared.place.Place.{Place}
 use Rattle.dcm_stream.specs.declared.machine.Halt.{Halt}
 use Rattle.dcm_stream.specs.declared.machine.Halt.TheVariants.{Refused, Output}
-use Rattle.dcm_stream.specs.Reading.{Reading, Opened, closing, settled, read_byte, is_top, drives_byte, start_of, read_all, is_early_bar}
+use Rattle.dcm_stream.specs.Reading.{Reading, Opened, closing, settled, read_byte, is_top, drives_byte}
 use Rattle.dcm_stream.specs.Judging.{bars_head}
 use Rattle.dcm_stream.specs.Bounds.{IsSmall}
 
@@ -151,20 +147,3 @@ GoesOver bars step writes old s held new t holds bytes = Goes (steps bars step) 
 abbrev pub ended : Stop → Reading → Reading
 ended complete r = r
 ended (refused fault offset) r = record r { halt = Some (refused fault offset) }
-
--- ---- a machine and its sink over a whole input
-
--- heads are barred by the atoms so far as by the state that they lead to
-abbrev pub bars_by : {S : Type 0} → (S → Head → Option Bar) → (S → Atom → S) → S → List Atom → HeadBar
-bars_by bars step first atoms = bars_head bars (fold step first atoms)
-
--- they come to what is read of the bytes, and to what the sink makes of its atoms
-abbrev pub DrivesAs : {S : Type 0} → (S → Head → Option Bar) → (S → Atom → S) → (S → Atom → List ℕ) → Type 0
-DrivesAs {S} bars step writes = (first : S) (s : Syntax) (start : ℕ) (bytes : List ℕ) →
-    let r = read_all (bars_by bars step first) s start bytes in
-    (fold (steps bars step) (start_of s start, first) bytes ≡ (r.0, fold step first r.1))
-    × (outputs (steps bars step) (steps_write bars step writes) (start_of s start, first) bytes ≡ outputs step writes first r.1)
-
--- no bar is told as an early end
-abbrev pub DecidesBars : {S : Type 0} → (S → Head → Option Bar) → Type 0
-DecidesBars {S} bars = (s : S) (tag : Tag) (vr : Vr) (declared : Length) → is_early_bar (bars_head bars s tag vr declared) ≡ false
