@@ -3,3 +3,7 @@ pub mod Showing
 pub mod Shown
 pub mod Begun
 pub mod ValueLines
+pub mod ValueRuns
+pub mod DumpRuns
+pub mod Shallow
+pub mod DumpReads

@@ -2,3 +2,4 @@ pub mod Layout
 pub mod Lengths
 pub mod DumpSink
 pub mod Lines
+pub mod Laws

@@ -3,6 +3,7 @@
 
 mod dump;
 mod header;
+pub mod laws;
 mod layout;
 mod lengths;
 mod lines;

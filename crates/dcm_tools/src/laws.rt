@@ -1,0 +1,25 @@
+//! Laws of the definitions. Each function takes nothing and makes no call: its contract is the law.
+ghost use Rattle.std.specs.Prelude.{◌≡◌, ◌≤◌, ℕ, List, false};
+ghost use Rattle.dcm_base.specs.Atoms.{Atom, Shows, front_atoms, is_closed};
+ghost use Rattle.dcm_base.specs.Bars.{no_bar};
+ghost use Rattle.dcm_base.specs.Dump.{dump_front};
+ghost use Rattle.dcm_base.specs.Front.{Front};
+ghost use Rattle.dcm_base.specs.Reads.{INPUT_LIMIT, Reads, ended};
+ghost use Rattle.dcm_base.specs.Steps.{outputs};
+ghost use Rattle.dcm_base.specs.Stop.{Stop};
+ghost use Rattle.dcm_base.specs.declared.mode.Mode.{Mode};
+ghost use Rattle.dcm_base.specs.declared.syntax.Syntax.{Syntax};
+ghost use Rattle.dcm_tools.specs.DumpSink.{dump_start, dump_step, dump_writes};
+ghost use Rattle.dcm_tools.specs.Laws.{MissesBytes, StaysShallow};
+
+/// Over atoms that show a data set, whole or as far as it was read, the dump sink writes its dump, where an open value misses
+/// bytes and no more than 64 sequences and fragment lists are open at a time.
+pub fn dump_steps()
+    ensures { (mode : Mode) (f : Front) (atoms : List Atom) → MissesBytes f → StaysShallow 0 atoms → Shows f atoms → outputs dump_step dump_writes (dump_start mode) atoms ≡ dump_front mode 0 f }
+{}
+
+/// So it is with all that is read of an input, and with what was read of it so far.
+pub fn dump_reads()
+    ensures whole { (mode : Mode) (s : Syntax) (start : ℕ) (bytes : List ℕ) (f : Front) (stop : Stop) → start ≤ INPUT_LIMIT → Reads no_bar s start bytes f stop → outputs dump_step dump_writes (dump_start mode) (front_atoms s f) ≡ dump_front mode 0 f }
+    ensures so_far { (mode : Mode) (s : Syntax) (start : ℕ) (bytes : List ℕ) (f : Front) (stop : Stop) → start ≤ INPUT_LIMIT → is_closed f ≡ false → Reads no_bar s start bytes (ended stop f) stop → outputs dump_step dump_writes (dump_start mode) (front_atoms s f) ≡ dump_front mode 0 f }
+{}
