@@ -5,5 +5,6 @@ pub mod Begun
 pub mod ValueLines
 pub mod ValueRuns
 pub mod DumpRuns
+pub mod MetaLines
 pub mod Shallow
 pub mod DumpReads

@@ -1,8 +1,14 @@
 // What stands before the lines of a data set.
-ghost use Rattle.std.specs.Prelude.{◌≡◌, ◌≤◌, ◌<◌, ◌^◌, length};
+ghost use Rattle.std.specs.Prelude.{◌≡◌, ◌≤◌, ◌<◌, ◌^◌, ◌++◌, length};
+ghost use Rattle.dcm_base.specs.declared.form.Form.TheVariants.{Value as a_value};
+ghost use Rattle.dcm_base.specs.declared.length.Length.TheVariants.{Known};
+ghost use Rattle.dcm_base.specs.declared.syntax.Syntax.TheVariants.{Little};
 ghost use Rattle.dcm_base.specs.Device.{Puts, Tells};
+ghost use Rattle.dcm_base.specs.Dump.{leaf_line, dump_set};
 ghost use Rattle.dcm_base.specs.Header as spec;
-ghost use Rattle.dcm_head.specs.MetaReading.{HasEnded};
+ghost use Rattle.dcm_base.specs.Spelling.{form};
+ghost use Rattle.dcm_head.specs.MetaReading.{HasEnded, group_of, uid_of};
+ghost use Rattle.dcm_head.specs.Rewriting.{OfElements};
 
 use crate::lines::Lines;
 use dcm_base::{DeviceOut, Length, Mode, Syntax, Watched, WriteFailed, put_all, uid_name};
@@ -44,11 +50,12 @@ pub fn set_header<W: DeviceOut>(uid: &[u8], out: &mut Watched<W>) -> Result<(), 
 
 /// Writes the line of an element of a meta group.
 fn put_element<W: DeviceOut>(
-    lines: &mut Lines,
-    out: &mut Watched<W>,
     element: MetaElement,
+    mode: Mode,
+    out: &mut Watched<W>,
 ) -> Result<(), WriteFailed>
     requires { length element.value.now < 2 ^ 32 }
+    ensures bytes { form Little element.entry.vr (Known (length element.entry.value.now)) ≡ a_value → Puts (W.contents out.old) (W.contents out.new) (leaf_line mode 0 element.entry.tag element.entry.vr element.entry.value.now) result }
     ensures failed { Tells (W.has_failed out.old) (W.has_failed out.new) result }
 {
     let head = Head {
@@ -56,6 +63,7 @@ fn put_element<W: DeviceOut>(
         vr: element.vr,
         length: Length::Known(element.value.len() as u32),
     };
+    let mut lines = Lines::new(mode);
     lines.take(out, Token::Open(head, Syntax::Little))?;
     lines.take(out, Token::Bytes(element.value))?;
     lines.take(out, Token::CloseLeaf)
@@ -68,12 +76,12 @@ fn put_elements<W: DeviceOut>(
     out: &mut Watched<W>,
 ) -> Result<(), WriteFailed>
     requires { length group.now ≤ 16384 }
+    ensures bytes { OfElements group.now (λ elements. Puts (W.contents out.old) (W.contents out.new) (dump_set mode 0 elements) result) }
     ensures failed { Tells (W.has_failed out.old) (W.has_failed out.new) result }
 {
-    let mut lines = Lines::new(mode);
     let mut rest = group;
     'elements: while let Some(element) = first_element(rest) {
-        put_element(&mut lines, out, element)?;
+        put_element(element, mode, out)?;
         rest = element.after;
     }
     Ok(())
@@ -86,6 +94,7 @@ pub fn dump_header<W: DeviceOut>(
     out: &mut Watched<W>,
 ) -> Result<(), WriteFailed>
     requires { HasEnded meta.now.end }
+    ensures bytes { OfElements (group_of meta.now) (λ elements. Puts (W.contents out.old) (W.contents out.new) (spec.meta_header mode elements ++ spec.set_header (uid_of meta.now)) result) }
     ensures failed { Tells (W.has_failed out.old) (W.has_failed out.new) result }
 {
     put_all(
