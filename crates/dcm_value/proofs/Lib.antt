@@ -3,7 +3,8 @@ pub mod Emits
 pub mod Reversals
 pub mod Blocks
 pub mod Numbers
-pub mod Digits
+pub mod DigitTable
+pub mod DigitSteps
 pub mod Pieces
 pub mod High
 pub mod Steps

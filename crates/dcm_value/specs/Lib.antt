@@ -6,3 +6,4 @@ pub mod Progress
 pub mod Shown
 pub mod ValueText
 pub mod Laws
+pub mod Parts

@@ -46,7 +46,7 @@ pub fn shown_unit(vr: Vr) -> usize
 }
 
 /// Some bytes more.
-fn append<const N: usize>(bytes: &[u8], text: &mut ArrayVec<u8, N>)
+pub fn append<const N: usize>(bytes: &[u8], text: &mut ArrayVec<u8, N>)
     requires { length text.old.items + length bytes.now ≤ N }
     ensures { text.new.items ≡ text.old.items ++ bytes.now }
 {
@@ -104,9 +104,10 @@ fn append_decimal<const N: usize>(number: u64, text: &mut ArrayVec<u8, N>)
 }
 
 /// The highest number of so many bytes.
-fn highest(size: usize) -> u64
+pub fn highest(size: usize) -> u64
     requires { IsUnit size }
-    ensures { result + 1 ≡ 2 ^ (8 * size) }
+    ensures bits { result + 1 ≡ 2 ^ (8 * size) }
+    ensures bytes { result + 1 ≡ 256 ^ size }
 {
     match size {
         2 => u64::from(u16::MAX),
