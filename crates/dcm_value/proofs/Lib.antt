@@ -14,3 +14,4 @@ pub mod Opens
 pub mod TextLaws
 pub mod WholeUnits
 pub mod TextSteps
+pub mod Takings

@@ -7,3 +7,4 @@ pub mod Shown
 pub mod ValueText
 pub mod Laws
 pub mod Parts
+pub mod Taking

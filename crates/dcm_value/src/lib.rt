@@ -7,6 +7,7 @@ mod escapes;
 mod lanes;
 pub mod laws;
 mod parts;
+mod reading;
 #[cfg(test)]
 mod tests;
 mod units;
@@ -17,4 +18,5 @@ pub use dcm_base::Mode;
 pub use digits::unescape;
 pub use escapes::escape;
 pub use lanes::swap;
+pub use reading::{BadValue, read_value, read_value_into};
 pub use value_text::ValueText;
