@@ -13,7 +13,7 @@ use Rattle.dcm_base.specs.declared.vr.Vr.TheVariants.{AE, AS, AT, CS, DA, DS, DT
 use Rattle.dcm_base.specs.Representation.{unit}
 use Rattle.dcm_base.specs.ValueText.{Shape, text, identifier, unsigned, signed, tags, hexadecimal, shape}
 use Rattle.dcm_base.specs.ReadValue.{◌>>=◌, within_limit, VALUE_LIMIT, only_if, each_part, joined, hex_number, bracketed_value, value_in, value_of_text, is_no_value}
-use Rattle.dcm_value.specs.declared.way.Way.TheVariants.{InBrackets, ByName, InUnits}
+use Rattle.dcm_value.specs.declared.way.Way.TheVariants.{InUnits}
 use Rattle.dcm_value.specs.Way.{way_of}
 use Rattle.dcm_value.specs.Units.{kind_of}
 use Rattle.dcm_value.specs.Parts.{part_value}

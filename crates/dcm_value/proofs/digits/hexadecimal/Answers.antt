@@ -1,4 +1,4 @@
-use Rattle.std.proofs.Common.{rules, arith}
+use Rattle.std.proofs.Common.{arith}
 use Rattle.dcm_value.proofs.DigitSteps.{within_long}
 use Rattle.dcm_value.proofs.digits.hexadecimal.Goals as goal
 

@@ -1,4 +1,4 @@
-use Rattle.std.proofs.Common.{◌≡◌, ◌∙◌, ap, Some, ◌∷◌, []}
+use Rattle.std.proofs.Common.{◌∙◌, ap, Some, ◌∷◌, []}
 use Rattle.dcm_base.specs.ReadValue.{bracketed_value}
 use Rattle.dcm_value.specs.Taking.{behind}
 use Rattle.dcm_value.proofs.Takings.{took, failed, reads_err}

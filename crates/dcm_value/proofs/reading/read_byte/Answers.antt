@@ -1,4 +1,4 @@
-use Rattle.std.proofs.Common.{rules, arith, ◌≡◌, ◌≢◌, get_or}
+use Rattle.std.proofs.Common.{rules, arith, ◌≢◌, get_or}
 use Rattle.dcm_value.proofs.Takings.{plain_text}
 use Rattle.dcm_value.proofs.reading.read_byte.Goals as goal
 

@@ -1,4 +1,4 @@
-use Rattle.std.proofs.Common.{◌≡◌, ◌∙◌, ap, sym, Some, ◌+◌, take, drop, drop-drop, List, ℕ, Option, arith}
+use Rattle.std.proofs.Common.{◌≡◌, ◌∙◌, ap, sym, ◌+◌, take, drop, drop-drop, List, ℕ, Option}
 use Rattle.dcm_base.specs.ReadValue.{◌>>=◌, joined}
 use Rattle.dcm_value.specs.Parts.{part_value}
 use Rattle.dcm_value.specs.Taking.{behind}
