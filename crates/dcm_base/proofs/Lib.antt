@@ -40,3 +40,5 @@ pub mod WordRows
 pub mod Puts
 pub mod Runs
 pub mod PartsOut
+pub mod ReadsBack
+pub mod NumbersBack
