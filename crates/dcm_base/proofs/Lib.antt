@@ -42,3 +42,4 @@ pub mod Runs
 pub mod PartsOut
 pub mod ReadsBack
 pub mod NumbersBack
+pub mod PartsBack
