@@ -40,6 +40,7 @@ pub mod WordRows
 pub mod Puts
 pub mod Runs
 pub mod PartsOut
-pub mod ReadsBack
+pub mod TextsBack
 pub mod NumbersBack
 pub mod PartsBack
+pub mod ValuesBack

@@ -15,7 +15,7 @@ use Rattle.dcm_base.specs.ReadValue.{◌>>=◌, tag_value, digit, number_in, dec
 use Rattle.dcm_base.specs.declared.tag.Tag.{Tag}
 use Rattle.dcm_base.specs.Value.{number_of}
 use Rattle.dcm_base.specs.ValueText.{lower, hex_byte, hex_word, signed_text, tag_text}
-use Rattle.dcm_base.proofs.ReadsBack.{Bytes, lower_digit}
+use Rattle.dcm_base.proofs.TextsBack.{Bytes, lower_digit}
 
 -- ---- the bytes of a number
 
@@ -87,15 +87,15 @@ pub Bytes-append : (u v : List ℕ) → Bytes u → Bytes v → Bytes (u ++ v)
 Bytes-append [] v h k = k
 Bytes-append (b ∷ u) v h k = (h.0, Bytes-append u v h.1 k)
 
-Bytes-reverse : (u : List ℕ) → Bytes u → Bytes (reverse u)
+pub Bytes-reverse : (u : List ℕ) → Bytes u → Bytes (reverse u)
 Bytes-reverse [] h = tt
 Bytes-reverse (b ∷ u) h = subst Bytes (sym (reverse_cons b u)) (Bytes-append (reverse u) (b ∷ []) (Bytes-reverse u h.1) (h.0, tt))
 
-length-hex : (w : List ℕ) → length (flat_map hex_byte w) ≡ 2 * length w
+pub length-hex : (w : List ℕ) → length (flat_map hex_byte w) ≡ 2 * length w
 length-hex [] = refl
 length-hex (b ∷ w) = let e : length (flat_map hex_byte w) ≡ 2 * length w = length-hex w in omega (arith, e)
 
-number_below : (u : List ℕ) → Bytes u → number_of u < 256 ^ length u
+pub number_below : (u : List ℕ) → Bytes u → number_of u < 256 ^ length u
 number_below [] h = omega arith
 number_below (b ∷ u) h =
     let e : number_of u < 256 ^ length u = number_below u h.1 in

@@ -1,15 +1,12 @@
 -- The text of a value stands for the value: units between backslashes.
-use Rattle.std.proofs.Common.{◌≡◌, ℕ, zero, suc, ◌≤◌, ◌<◌, ◌+◌, ◌-◌, ◌*◌, ◌/◌, ◌%◌, List, [], ◌∷◌, ◌++◌, length, map, take, drop, reverse, Option, Some, None, Bool, true, false, refl, sym, ◌∙◌, ap, subst, arith, decimal, flat_map, length-append}
-use Rattle.std.specs.Prelude.{if◌then◌else◌, ◌==◌}
-use Rattle.std.specs.Fmt.{digits}
+use Rattle.std.proofs.Common.{◌≡◌, ℕ, zero, suc, ◌≤◌, ◌<◌, ◌+◌, ◌*◌, List, [], ◌∷◌, ◌++◌, length, map, take, drop, Option, Some, Bool, false, refl, ◌∙◌, ap, arith, length-append}
+use Rattle.std.specs.Prelude.{◌==◌}
 use Rattle.std.specs.List.{join_with_byte, slice_split, onto_first}
-use Rattle.std.specs.Int.Digits.{AllBelowBase, digits_of}
-use Rattle.std.proofs.lemmas.Bool.Decides.{nat_tests}
 use Rattle.std.proofs.lemmas.List.Splits.{slice_split-cons_yes, slice_split-cons_no}
 use Rattle.std.proofs.lemmas.List.{length-take-le, length-drop, take-append-drop}
 use Rattle.dcm_base.specs.ReadValue.{◌>>=◌, each_part, joined}
 use Rattle.dcm_base.specs.Value.{pieces}
-use Rattle.dcm_base.proofs.ReadsBack.{Bytes}
+use Rattle.dcm_base.proofs.TextsBack.{Bytes}
 
 -- no byte is a backslash
 abbrev pub Apart : List ℕ → Type 0
@@ -94,12 +91,12 @@ module _ (read : List ℕ → Option (List ℕ)) (write : List ℕ → List ℕ)
 
 -- ---- whole units
 
-Bytes-take : (k : ℕ) (v : List ℕ) → Bytes v → Bytes (take k v)
+pub Bytes-take : (k : ℕ) (v : List ℕ) → Bytes v → Bytes (take k v)
 Bytes-take zero v h = tt
 Bytes-take (suc k) [] h = tt
 Bytes-take (suc k) (b ∷ v) h = (h.0, Bytes-take k v h.1)
 
-Bytes-drop : (k : ℕ) (v : List ℕ) → Bytes v → Bytes (drop k v)
+pub Bytes-drop : (k : ℕ) (v : List ℕ) → Bytes v → Bytes (drop k v)
 Bytes-drop zero v h = h
 Bytes-drop (suc k) [] h = tt
 Bytes-drop (suc k) (b ∷ v) h = Bytes-drop k v h.1
@@ -111,5 +108,6 @@ each_piece P (suc m) k v f l h =
   where
     enough : (m k : ℕ) (v : List ℕ) → length v ≡ suc m * k → k ≤ length v
     enough m k v l = let p : suc m * k ≡ m * k + k = omega arith in omega (arith, l, p)
+
     dropped : (m k : ℕ) (v : List ℕ) → length v ≡ suc m * k → length (drop k v) ≡ m * k
     dropped m k v l = let p : suc m * k ≡ m * k + k = omega arith in omega (arith, l, p, length-drop k v)

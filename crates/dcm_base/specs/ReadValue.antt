@@ -9,7 +9,7 @@ use Rattle.dcm_base.specs.declared.vr.Vr.{Vr}
 use Rattle.dcm_base.specs.declared.vr.Vr.TheVariants.{SQ}
 use Rattle.dcm_base.specs.Representation.{unit}
 use Rattle.dcm_base.specs.Uid.{uid_of}
-use Rattle.dcm_base.specs.ValueText.{Shape, text, identifier, unsigned, signed, tags, hexadecimal, shape}
+use Rattle.dcm_base.specs.ValueText.{Shape, text, identifier, unsigned, signed, tags, hexadecimal, shape, unpadded}
 
 -- each step fails or goes on
 infixl 10 ◌>>=◌
@@ -119,11 +119,15 @@ abbrev pub value_of_text : Vr → List ℕ → Option (List ℕ)
 value_of_text SQ cs = None
 value_of_text vr cs = if is_no_value cs then Some [] else (value_in (shape vr) (unit vr) cs >>= within_limit)
 
--- whether an edit gives the value's bytes themselves
+-- whether a value is shown as its bytes, and given so in an edit
 abbrev pub takes_bytes : Shape → Bool
 takes_bytes text = true
 takes_bytes identifier = true
 takes_bytes _ = false
+
+-- a value without the pad byte that its text drops
+abbrev pub value_shown : Vr → List ℕ → List ℕ
+value_shown vr v = if takes_bytes (shape vr) then unpadded vr v else v
 
 -- the value that a word of an edit stands for
 abbrev pub value_of_word : Vr → List ℕ → Option (List ℕ)

@@ -64,7 +64,7 @@ one_more b r v l p q = by_test (nat_lt b 32 || b == 127 || b == 37 || b == 93) r
 some_left : (r : List ℕ) → 0 < length (r ++ 93 ∷ [])
 some_left r = omega (arith, length-append r (93 ∷ []))
 
-escaped_back : (v : List ℕ) → Bytes v → bracketed_value (escaped v ++ 93 ∷ []) ≡ Some v
+pub escaped_back : (v : List ℕ) → Bytes v → bracketed_value (escaped v ++ 93 ∷ []) ≡ Some v
 escaped_back [] h = refl
 escaped_back (b ∷ v) h =
     ap bracketed_value (append_assoc (escape b) (escaped v) (93 ∷ []))

@@ -1,0 +1,6 @@
+use Rattle.dcm_base.proofs.TextsBack.{bytes_of}
+use Rattle.dcm_base.proofs.ValuesBack.{value_back}
+use Rattle.dcm_base.proofs.laws.value_reads_back.Goals as goal
+
+pub returns : goal.returns
+returns c = λ vr v plain bytes units long. value_back vr v plain (bytes_of v bytes) units long
