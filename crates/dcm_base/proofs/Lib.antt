@@ -44,3 +44,5 @@ pub mod TextsBack
 pub mod NumbersBack
 pub mod PartsBack
 pub mod ValuesBack
+pub mod FieldsBack
+pub mod LinesBack

@@ -230,7 +230,7 @@ unsigned_back size u most l bytes =
 
 -- ---- tags
 
-word_back : (n : ℕ) → n < 65536 → hex_number 4 (hex_word n) ≡ Some n
+pub word_back : (n : ℕ) → n < 65536 → hex_number 4 (hex_word n) ≡ Some n
 word_back n l =
     byte_goes 0 (n / 256) (hex_byte (n % 256)) (omega (arith, l))
     ∙ byte_goes (0 * 256 + n / 256) (n % 256) [] (omega arith)
