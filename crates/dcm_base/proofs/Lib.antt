@@ -45,4 +45,5 @@ pub mod NumbersBack
 pub mod PartsBack
 pub mod ValuesBack
 pub mod FieldsBack
+pub mod DisplaysBack
 pub mod LinesBack

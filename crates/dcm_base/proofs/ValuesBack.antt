@@ -47,7 +47,7 @@ read_is s size cs v none is small = by_test (is_no_value cs) refl
 
 -- ---- texts
 
-Bytes-unpadded : (vr : Vr) (v : List ℕ) → Bytes v → Bytes (unpadded vr v)
+pub Bytes-unpadded : (vr : Vr) (v : List ℕ) → Bytes v → Bytes (unpadded vr v)
 Bytes-unpadded vr v h = by_test (length v % 2 == 0 && slice_index v (length v - 1) == pad vr)
   where
     by_test : (t : Bool) → Bytes (if t then take (length v - 1) v else v)
@@ -85,15 +85,15 @@ all_read_back : list_all reads_back uids ≡ true
 unfolding uids reads_back
 all_read_back = refl
 
-and_one : (a b : Bool) → (a && b) ≡ true → a ≡ true
+pub and_one : (a b : Bool) → (a && b) ≡ true → a ≡ true
 and_one true b p = refl
 and_one false b p = cc
 
-and_two : (a b : Bool) → (a && b) ≡ true → b ≡ true
+pub and_two : (a b : Bool) → (a && b) ≡ true → b ≡ true
 and_two true b p = p
 and_two false b p = cc
 
-found : (p q : Named → Bool) (l : List Named) (e : Named) → list_all q l ≡ true → find p l ≡ Some e → (q e ≡ true) × (p e ≡ true)
+pub found : (p q : Named → Bool) (l : List Named) (e : Named) → list_all q l ≡ true → find p l ≡ Some e → (q e ≡ true) × (p e ≡ true)
 found p q [] e a f = cc
 found p q (x ∷ l) e a f = by_test (p x) refl f (found p q l e (and_two (q x) _ a))
   where
@@ -101,7 +101,7 @@ found p q (x ∷ l) e a f = by_test (p x) refl f (found p q l e (and_two (q x) _
     by_test true t g more = let same : x ≡ e = cc in let P : Named → Type 0 = λ y. (q y ≡ true) × (p y ≡ true) in subst P same (and_one _ _ a, sym t)
     by_test false t g more = more g
 
-mapped : {A B : Type 0} (f : A → B) (o : Option A) (y : B) → option_map f o ≡ Some y → (x : A) × (o ≡ Some x) × (f x ≡ y)
+pub mapped : {A B : Type 0} (f : A → B) (o : Option A) (y : B) → option_map f o ≡ Some y → (x : A) × (o ≡ Some x) × (f x ≡ y)
 mapped f (Some x) y p = (x, refl, cc)
 mapped f None y p = cc
 
@@ -149,18 +149,18 @@ Apart-bytes [] h = tt
 Apart-bytes (b ∷ w) h = Apart-hex b (flat_map hex_byte w) h.0 (Apart-bytes w h.1)
 
 -- what the definitions say of units of a size
-abbrev HasParts : Shape → (List ℕ → Option (List ℕ)) → ℕ → Type 0
+abbrev pub HasParts : Shape → (List ℕ → Option (List ℕ)) → ℕ → Type 0
 HasParts s read k = (u : List ℕ) → length u ≡ k → Bytes u → IsPart read (unit_text s) u
 
-below_64 : (u : List ℕ) (k : ℕ) → 256 ^ k ≤ 2 ^ 64 → length u ≡ k → Bytes u → number_of u < 2 ^ 64
+pub below_64 : (u : List ℕ) (k : ℕ) → 256 ^ k ≤ 2 ^ 64 → length u ≡ k → Bytes u → number_of u < 2 ^ 64
 below_64 u k most l h = let e : number_of u < 256 ^ k = subst (λ n. number_of u < 256 ^ n) l (number_below u h) in omega (arith, e, most)
 
-unsigned_parts : (k : ℕ) → 256 ^ k ≤ 2 ^ 64 → HasParts unsigned (unsigned_value k) k
+pub unsigned_parts : (k : ℕ) → 256 ^ k ≤ 2 ^ 64 → HasParts unsigned (unsigned_value k) k
 unsigned_parts k most u l h =
     let n : number_of u < 2 ^ 64 = below_64 u k most l h in
     record { back = unsigned_back k u most l h; some = decimal_nonempty (number_of u) n; apart = Apart-decimal (number_of u) n }
 
-hex_parts : (k : ℕ) → 0 < k → HasParts hexadecimal (hex_value k) k
+pub hex_parts : (k : ℕ) → 0 < k → HasParts hexadecimal (hex_value k) k
 hex_parts k some u l h =
     record {
       back = hex_back k u l h;
@@ -168,7 +168,7 @@ hex_parts k some u l h =
       apart = Apart-bytes (reverse u) (Bytes-reverse u h);
     }
 
-two_below : (x : List ℕ) → length x ≡ 2 → Bytes x → number_of x < 65536
+pub two_below : (x : List ℕ) → length x ≡ 2 → Bytes x → number_of x < 65536
 two_below x m b = subst (λ n. number_of x < 256 ^ n) m (number_below x b)
 
 Apart-word : (n : ℕ) (r : List ℕ) → n < 65536 → Apart r → Apart (hex_word n ++ r)
@@ -177,7 +177,7 @@ Apart-word n r l h = Apart-append (hex_word n) r (Apart-hex (n / 256) (hex_byte 
 Apart-tag : (g e : ℕ) → g < 65536 → e < 65536 → Apart (tag_text g e)
 Apart-tag g e l m = (refl, Apart-word g (44 ∷ (hex_word e ++ 41 ∷ [])) l (refl, Apart-word e (41 ∷ []) m (refl, tt)))
 
-tag_parts : HasParts tags tag_value 4
+pub tag_parts : HasParts tags tag_value 4
 tag_parts u l h =
     record {
       back = tag_back u l h;
@@ -185,7 +185,7 @@ tag_parts u l h =
       apart = Apart-tag _ _ (two_below (take 2 u) (length-take-le 2 u (omega (arith, l))) (Bytes-take 2 u h)) (two_below (drop 2 u) (omega (arith, l, length-drop 2 u)) (Bytes-drop 2 u h));
     }
 
-signed_parts : (k half full : ℕ) → 2 ^ (8 * k - 1) ≡ half → 2 ^ (8 * k) ≡ full → 256 ^ k ≡ full → full ≡ 2 * half → full ≤ 2 ^ 64 → HasParts signed (signed_value k) k
+pub signed_parts : (k half full : ℕ) → 2 ^ (8 * k - 1) ≡ half → 2 ^ (8 * k) ≡ full → 256 ^ k ≡ full → full ≡ 2 * half → full ≤ 2 ^ 64 → HasParts signed (signed_value k) k
 signed_parts k half full p q r t most u l h =
     let is = by_test (nat_lt n (2 ^ (8 * length u - 1))) refl in
     record { back = ap (λ i. signed_value k (signed_text i n)) l ∙ signed_back k half full u p q r t most l h; some = is.0; apart = is.1 }
@@ -213,13 +213,13 @@ signed_parts k half full p q r t most u l h =
 
 -- ---- values of whole units
 
-whole : (n k : ℕ) → 0 < k → n % k ≡ 0 → n ≡ n / k * k
+pub whole : (n k : ℕ) → 0 < k → n % k ≡ 0 → n ≡ n / k * k
 whole n k some e = let d : k * (n / k) + n % k ≡ n = div-add-mod n k in let c : k * (n / k) ≡ n / k * k = mul_comm k (n / k) in omega (arith, d, c, e)
 
-units_are : (k m : ℕ) (v : List ℕ) → 0 < k → length v ≡ m * k → units k v ≡ pieces m k v
+pub units_are : (k m : ℕ) (v : List ℕ) → 0 < k → length v ≡ m * k → units k v ≡ pieces m k v
 units_are k m v some l = ap (λ n. pieces n k v) (ap (λ n. n / k) l ∙ mul-div_cancel m some)
 
-more_than_none : (m k : ℕ) (b : ℕ) (v : List ℕ) → length (b ∷ v) ≡ m * k → (j : ℕ) × (m ≡ suc j)
+pub more_than_none : (m k : ℕ) (b : ℕ) (v : List ℕ) → length (b ∷ v) ≡ m * k → (j : ℕ) × (m ≡ suc j)
 more_than_none zero k b v l = absurd (omega (arith, l))
 more_than_none (suc j) k b v l = (j, refl)
 
