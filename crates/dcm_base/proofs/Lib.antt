@@ -47,3 +47,4 @@ pub mod ValuesBack
 pub mod FieldsBack
 pub mod DisplaysBack
 pub mod LinesBack
+pub mod LineMeanings
