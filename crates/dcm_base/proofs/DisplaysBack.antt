@@ -1,5 +1,5 @@
 -- A line of a dump means what it shows: displays.
-use Rattle.std.proofs.Common.{◌≡◌, ℕ, zero, suc, ◌≤◌, ◌<◌, ◌+◌, ◌-◌, ◌*◌, ◌/◌, ◌%◌, ◌^◌, List, [], ◌∷◌, ◌++◌, length, map, take, drop, reverse, Option, Some, None, Bool, true, false, not, ◌&&◌, refl, sym, ◌∙◌, ap, subst, arith, decimal, codes, flat_map}
+use Rattle.std.proofs.Common.{◌≡◌, ℕ, suc, ◌≤◌, ◌<◌, ◌-◌, ◌*◌, ◌/◌, ◌%◌, ◌^◌, List, [], ◌∷◌, ◌++◌, length, map, take, drop, reverse, Option, Some, None, Bool, true, false, not, ◌&&◌, refl, sym, ◌∙◌, ap, subst, arith, decimal, codes, flat_map}
 use Rattle.std.specs.Prelude.{if◌then◌else◌, ◌==◌, nat_lt, find, bytes_eq}
 use Rattle.std.specs.List.{join_with_byte, list_all}
 use Rattle.std.specs.Option.{option_map_or}
@@ -11,12 +11,12 @@ use Rattle.dcm_base.specs.declared.vr.Vr.TheVariants.{AE, AS, AT, CS, DA, DS, DT
 use Rattle.dcm_base.specs.Representation.{is_sequence}
 use Rattle.dcm_base.specs.Uid.{uids, uid_name, Named}
 use Rattle.dcm_base.specs.Value.{pieces, units, number_of}
-use Rattle.dcm_base.specs.ValueText.{Shape, hex_byte, unsigned, signed, tags, hexadecimal, shown_unit, unpadded, bracketed, identified, signed_text, unit_text, units_text, display}
+use Rattle.dcm_base.specs.ValueText.{Shape, hex_byte, unsigned, signed, tags, hexadecimal, shown_unit, unpadded, bracketed, identified, unit_text, units_text, display}
 use Rattle.dcm_base.proofs.TextsBack.{Bytes}
 use Rattle.dcm_base.proofs.NumbersBack.{Bytes-reverse, length-hex}
 use Rattle.dcm_base.proofs.PartsBack.{Each, each_piece, Bytes-take, Bytes-drop}
 use Rattle.dcm_base.proofs.ValuesBack.{Bytes-unpadded, found, mapped, and_one, and_two, below_64, whole, units_are, more_than_none, two_below}
-use Rattle.dcm_base.proofs.FieldsBack.{Bytewise, Bytewise-append, Shows, IsPlain, IsTagText, text_shows, plain_shows, decimal_is_plain, minus_is_plain, hex_is_plain, joined_is_plain, tags_show}
+use Rattle.dcm_base.proofs.FieldsBack.{Bytewise, Shows, IsPlain, IsTagText, text_shows, plain_shows, decimal_is_plain, minus_is_plain, hex_is_plain, joined_is_plain, tags_show}
 
 -- ---- names of unique identifiers
 
@@ -83,12 +83,16 @@ signed_texts k most full half u l h = by_test (nat_lt n (2 ^ (8 * length u - 1))
   where
     n : ℕ
     n = number_of u
+
     below : n < 2 ^ 64
     below = below_64 u k most l h
+
     is_past : (a b : ℕ) → nat_lt a b ≡ false → b ≤ a
     is_past a b e = grind (arith, nat_tests, e)
+
     m : ℕ
     m = 2 ^ (8 * length u) - n
+
     by_test : (t : Bool) → nat_lt n (2 ^ (8 * length u - 1)) ≡ t → IsPlainText (if t then decimal n else 45 ∷ decimal m)
     by_test true e = some_text (decimal n) (decimal_nonempty n below) (decimal_is_plain n below)
     by_test false e =
@@ -126,33 +130,54 @@ plain_show write u us h =
     subst Shows (sym b.2) (plain_shows b.0 b.1 (subst (Bytewise IsPlain) b.2 (joined_is_plain write u us (each_plain write (u ∷ us) h))))
 
 -- the text of a value of whole units
-units_show : (P : List ℕ → Type 0) (s : Shape) (k b : ℕ) (v : List ℕ) → 0 < k → AreTexts P s k
-    → ((u : List ℕ) (us : List (List ℕ)) → Each (λ x. P (unit_text s x)) (u ∷ us) → Shows (join_with_byte 92 (map (unit_text s) (u ∷ us))))
-    → Bytes (b ∷ v) → length (b ∷ v) % k ≡ 0 → Shows (units_text s k (b ∷ v))
-units_show P s k b v some texts show h e = with_parts (more_than_none (length w / k) k b v is)
+units_have : (Q P : List ℕ → Type 0) (s : Shape) (k b : ℕ) (v : List ℕ) → 0 < k → AreTexts P s k
+    → ((u : List ℕ) (us : List (List ℕ)) → Each (λ x. P (unit_text s x)) (u ∷ us) → Q (join_with_byte 92 (map (unit_text s) (u ∷ us))))
+    → Bytes (b ∷ v) → length (b ∷ v) % k ≡ 0 → Q (units_text s k (b ∷ v))
+units_have Q P s k b v some texts show h e = with_parts (more_than_none (length w / k) k b v is)
   where
     w : List ℕ
     w = b ∷ v
+
     is : length w ≡ length w / k * k
     is = whole (length w) k some e
-    with_parts : (j : ℕ) × (length w / k ≡ suc j) → Shows (units_text s k w)
+
+    with_parts : (j : ℕ) × (length w / k ≡ suc j) → Q (units_text s k w)
     with_parts m =
         let l : length w ≡ suc m.0 * k = is ∙ ap (λ n. n * k) m.1 in
         let u : units k w ≡ pieces (suc m.0) k w = units_are k (suc m.0) w some l in
         let each : Each (λ x. P (unit_text s x)) (pieces (suc m.0) k w) = each_piece (λ x. P (unit_text s x)) (suc m.0) k w texts l h in
-        subst (λ us. Shows (join_with_byte 92 (map (unit_text s) us))) (sym u) (show (take k w) (pieces m.0 k (drop k w)) each)
+        subst (λ us. Q (join_with_byte 92 (map (unit_text s) us))) (sym u) (show (take k w) (pieces m.0 k (drop k w)) each)
+
+-- bytes begin with a plain one
+pub record BeginsPlain (d : List ℕ) : Type 0 where
+  pub first : ℕ
+  pub more : List ℕ
+  pub is : d ≡ first ∷ more
+  pub plain : IsPlain first
+
+first_is_plain : (c : ℕ) (cs t : List ℕ) → t ≡ c ∷ cs → Bytewise IsPlain t → IsPlain c
+first_is_plain c cs [] e h = cc
+first_is_plain c cs (b ∷ t) e h = let same : b ≡ c = cc in subst IsPlain same h.0
+
+begins_plain : (write : List ℕ → List ℕ) (u : List ℕ) (us : List (List ℕ)) → Each (λ x. IsPlainText (write x)) (u ∷ us) → BeginsPlain (join_with_byte 92 (map write (u ∷ us)))
+begins_plain write u us h =
+    let b = begins write u us h.0 in
+    record { first = b.0; more = b.1; is = b.2; plain = first_is_plain b.0 b.1 _ b.2 (joined_is_plain write u us (each_plain write (u ∷ us) h)) }
+
+pub hex_begins_plain : (k b : ℕ) (v : List ℕ) → 0 < k → Bytes (b ∷ v) → length (b ∷ v) % k ≡ 0 → BeginsPlain (units_text hexadecimal k (b ∷ v))
+hex_begins_plain k b v some h e = units_have BeginsPlain IsPlainText hexadecimal k b v some (hex_texts k some) (begins_plain (unit_text hexadecimal)) h e
 
 unsigned_shows : (k b : ℕ) (v : List ℕ) → 0 < k → 256 ^ k ≤ 2 ^ 64 → Bytes (b ∷ v) → length (b ∷ v) % k ≡ 0 → Shows (units_text unsigned k (b ∷ v))
-unsigned_shows k b v some most h e = units_show IsPlainText unsigned k b v some (unsigned_texts k most) (plain_show (unit_text unsigned)) h e
+unsigned_shows k b v some most h e = units_have Shows IsPlainText unsigned k b v some (unsigned_texts k most) (plain_show (unit_text unsigned)) h e
 
 signed_shows : (k b : ℕ) (v : List ℕ) → 0 < k → 256 ^ k ≤ 2 ^ 64 → 2 ^ (8 * k) ≡ 256 ^ k → 0 < 2 ^ (8 * k - 1) → Bytes (b ∷ v) → length (b ∷ v) % k ≡ 0 → Shows (units_text signed k (b ∷ v))
-signed_shows k b v some most full half h e = units_show IsPlainText signed k b v some (signed_texts k most full half) (plain_show (unit_text signed)) h e
+signed_shows k b v some most full half h e = units_have Shows IsPlainText signed k b v some (signed_texts k most full half) (plain_show (unit_text signed)) h e
 
 hex_shows : (k b : ℕ) (v : List ℕ) → 0 < k → Bytes (b ∷ v) → length (b ∷ v) % k ≡ 0 → Shows (units_text hexadecimal k (b ∷ v))
-hex_shows k b v some h e = units_show IsPlainText hexadecimal k b v some (hex_texts k some) (plain_show (unit_text hexadecimal)) h e
+hex_shows k b v some h e = units_have Shows IsPlainText hexadecimal k b v some (hex_texts k some) (plain_show (unit_text hexadecimal)) h e
 
 tag_shows : (b : ℕ) (v : List ℕ) → Bytes (b ∷ v) → length (b ∷ v) % 4 ≡ 0 → Shows (units_text tags 4 (b ∷ v))
-tag_shows b v h e = units_show IsTagText tags 4 b v (omega arith) tag_texts (tags_show (unit_text tags)) h e
+tag_shows b v h e = units_have Shows IsTagText tags 4 b v (omega arith) tag_texts (tags_show (unit_text tags)) h e
 
 -- ---- displays
 

@@ -48,3 +48,4 @@ pub mod FieldsBack
 pub mod DisplaysBack
 pub mod LinesBack
 pub mod LineMeanings
+pub mod LinesRead

@@ -1,16 +1,11 @@
 -- A line of a dump means what it shows.
-use Rattle.std.proofs.Common.{◌≡◌, ℕ, zero, suc, ◌≤◌, ◌<◌, ◌+◌, ◌-◌, ◌*◌, ◌/◌, ◌%◌, List, [], ◌∷◌, ◌++◌, length, map, take, drop, Option, Some, None, Bool, true, false, not, ◌&&◌, refl, sym, ◌∙◌, ap, subst, arith, replicate, append_assoc, codes, decimal}
-use Rattle.std.specs.Prelude.{if◌then◌else◌, ◌==◌, nat_eq, slice_index}
-use Rattle.std.specs.List.{starts_with, join_with_byte}
-use Rattle.std.proofs.lemmas.Bool.Decides.{nat_tests}
-use Rattle.dcm_base.specs.declared.tag.Tag.{Tag}
-use Rattle.dcm_base.specs.declared.vr.Vr.{Vr}
+use Rattle.std.proofs.Common.{◌≡◌, ℕ, zero, suc, ◌<◌, ◌-◌, ◌*◌, List, [], ◌∷◌, ◌++◌, length, Some, true, false, refl, ◌∙◌, ap, replicate, append_assoc, decimal}
+use Rattle.std.specs.Prelude.{◌==◌}
 use Rattle.dcm_base.specs.declared.length.Length.{Length}
-use Rattle.dcm_base.specs.Representation.{letters, vr_of}
 use Rattle.dcm_base.specs.Dictionary.{keyword}
-use Rattle.dcm_base.specs.ValueText.{tag_text, padded}
-use Rattle.dcm_base.specs.Dump.{length_text, line_start, line}
-use Rattle.dcm_base.specs.Line.{without_spaces, is_end, is_skipped, Parts, meaning_of, means}
+use Rattle.dcm_base.specs.ValueText.{tag_text}
+use Rattle.dcm_base.specs.Dump.{length_text, line}
+use Rattle.dcm_base.specs.Line.{is_end, is_skipped, meaning_of, means}
 use Rattle.dcm_base.proofs.LinesBack.{past_indent, line_means, tag_from}
 
 -- spaces, one space more and a comment are a space and what is skipped

@@ -1,14 +1,10 @@
 -- A line of a dump means what it shows: its parts.
-use Rattle.std.proofs.Common.{◌≡◌, ℕ, zero, suc, ◌≤◌, ◌<◌, ◌+◌, ◌-◌, ◌*◌, ◌/◌, ◌%◌, List, [], ◌∷◌, ◌++◌, length, map, take, drop, Option, Some, None, Bool, true, false, not, ◌&&◌, ◌||◌, refl, sym, ◌∙◌, ap, subst, arith, replicate, append_assoc, codes, decimal}
-use Rattle.std.specs.Prelude.{if◌then◌else◌, ◌==◌, nat_eq, slice_index}
-use Rattle.std.specs.List.{starts_with}
-use Rattle.std.proofs.lemmas.Bool.Decides.{nat_tests}
+use Rattle.std.proofs.Common.{◌≡◌, ℕ, zero, suc, ◌<◌, List, [], ◌∷◌, ◌++◌, take, drop, Option, Some, None, Bool, false, refl, ◌∙◌, ap, replicate}
+use Rattle.std.specs.Prelude.{if◌then◌else◌, ◌==◌}
 use Rattle.dcm_base.specs.declared.tag.Tag.{Tag}
-use Rattle.dcm_base.specs.declared.vr.Vr.{Vr}
-use Rattle.dcm_base.specs.Representation.{letters, vr_of}
 use Rattle.dcm_base.specs.ValueText.{tag_text, hex_word}
 use Rattle.dcm_base.specs.ReadValue.{◌>>=◌, hex_number, tag_of_text}
-use Rattle.dcm_base.specs.Line.{Field, field, with_front, without_spaces, past_spaces, is_end, is_skipped, value_field, through_bracket, through_parenthesis, up_to_space, Parts, parts, Meaning, nothing, meaning_of, means}
+use Rattle.dcm_base.specs.Line.{without_spaces, past_spaces, is_end, Parts, parts, nothing, meaning_of, means}
 use Rattle.dcm_base.proofs.NumbersBack.{word_back}
 
 abbrev pub tag_from : ℕ → ℕ → Tag

@@ -1,5 +1,5 @@
 -- What the lines of a dump mean.
-use Rattle.std.specs.Prelude.{ℕ, List, [], ◌∷◌, take, drop, Option, Some, None, Bool, true, false, ◌&&◌, ◌==◌, nat_eq, if◌then◌else◌, codes, bytes_eq}
+use Rattle.std.specs.Prelude.{◌≡◌, ℕ, List, [], ◌∷◌, ◌++◌, take, drop, Option, Some, None, Bool, true, false, ◌&&◌, ◌==◌, nat_eq, if◌then◌else◌, codes, bytes_eq}
 use Rattle.std.specs.List.{starts_with}
 use Rattle.std.specs.Str.{byte}
 use Rattle.dcm_base.specs.declared.tag.Tag.{Tag}
@@ -140,3 +140,7 @@ meaning_of (Some p) = if is_item_group p.tag then item_meaning p.tag p.letters p
 -- what one line means, without its newline and a carriage return before it
 abbrev pub means : List ℕ → Meaning
 means line = if is_skipped line then nothing else meaning_of (parts line)
+
+-- a line with its newline means this
+abbrev pub LineMeans : List ℕ → Meaning → Type 0
+LineMeans line m = (body : List ℕ) × (line ≡ body ++ 10 ∷ []) × (means body ≡ m)
