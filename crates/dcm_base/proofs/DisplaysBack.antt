@@ -1,6 +1,6 @@
 -- A line of a dump means what it shows: displays.
 use Rattle.std.proofs.Common.{◌≡◌, ℕ, suc, ◌≤◌, ◌<◌, ◌-◌, ◌*◌, ◌/◌, ◌%◌, ◌^◌, List, [], ◌∷◌, ◌++◌, length, map, take, drop, reverse, Option, Some, None, Bool, true, false, not, ◌&&◌, refl, sym, ◌∙◌, ap, subst, arith, decimal, codes, flat_map}
-use Rattle.std.specs.Prelude.{if◌then◌else◌, ◌==◌, nat_lt, find, bytes_eq}
+use Rattle.std.specs.Prelude.{if◌then◌else◌, ◌==◌, nat_lt, nat_le, find, bytes_eq}
 use Rattle.std.specs.List.{join_with_byte, list_all}
 use Rattle.std.specs.Option.{option_map_or}
 use Rattle.std.proofs.lemmas.Bool.Decides.{nat_tests}
@@ -16,12 +16,12 @@ use Rattle.dcm_base.proofs.TextsBack.{Bytes}
 use Rattle.dcm_base.proofs.NumbersBack.{Bytes-reverse, length-hex}
 use Rattle.dcm_base.proofs.PartsBack.{Each, each_piece, Bytes-take, Bytes-drop}
 use Rattle.dcm_base.proofs.ValuesBack.{Bytes-unpadded, found, mapped, and_one, and_two, below_64, whole, units_are, more_than_none, two_below}
-use Rattle.dcm_base.proofs.FieldsBack.{Bytewise, Shows, IsPlain, IsTagText, text_shows, plain_shows, decimal_is_plain, minus_is_plain, hex_is_plain, joined_is_plain, tags_show}
+use Rattle.dcm_base.proofs.FieldsBack.{printed_text, Bytewise, Shows, IsPlain, IsTagText, text_shows, plain_shows, decimal_is_plain, minus_is_plain, hex_is_plain, joined_is_plain, tags_show}
 
 -- ---- names of unique identifiers
 
 is_plain_byte : ℕ → Bool
-is_plain_byte c = not (c == 32) && not (c == 35) && not (c == 91) && not (c == 40)
+is_plain_byte c = not (c == 32) && not (c == 35) && not (c == 91) && not (c == 40) && nat_le 32 c
 
 has_plain_name : Named → Bool
 has_plain_name u = list_all is_plain_byte u.1
@@ -36,7 +36,7 @@ is_not false p = refl
 
 plain_byte : (c : ℕ) → is_plain_byte c ≡ true → IsPlain c
 unfolding is_plain_byte
-plain_byte c p = record { no_space = grind (arith, nat_tests, p); no_comment = grind (arith, nat_tests, p); no_bracket = grind (arith, nat_tests, p); no_parenthesis = grind (arith, nat_tests, p) }
+plain_byte c p = record { no_space = grind (arith, nat_tests, p); no_comment = grind (arith, nat_tests, p); no_bracket = grind (arith, nat_tests, p); no_parenthesis = grind (arith, nat_tests, p); printed = grind (arith, nat_tests, p) }
 
 plain_bytes : (cs : List ℕ) → list_all is_plain_byte cs ≡ true → Bytewise IsPlain cs
 plain_bytes [] p = tt
@@ -54,7 +54,7 @@ identifier_shows v h = by_name (uid_name v) refl
   where
     by_name : (o : Option (List ℕ)) → uid_name v ≡ o → Shows (option_map_or (λ name. 61 ∷ name) o (bracketed v))
     by_name None e = text_shows v h
-    by_name (Some name) e = plain_shows 61 name (record { no_space = refl; no_comment = refl; no_bracket = refl; no_parenthesis = refl }, name_is_plain v name e)
+    by_name (Some name) e = plain_shows 61 name (record { no_space = refl; no_comment = refl; no_bracket = refl; no_parenthesis = refl; printed = omega arith }, name_is_plain v name e)
 
 -- ---- units
 
@@ -182,7 +182,7 @@ tag_shows b v h e = units_have Shows IsTagText tags 4 b v (omega arith) tag_text
 -- ---- displays
 
 nothing_shows : Shows (codes "(no value available)")
-nothing_shows = record { first = 40; more = codes "no value available)"; is = refl; no_space = refl; no_comment = refl; field_is = λ tail. refl }
+nothing_shows = record { first = 40; more = codes "no value available)"; is = refl; no_space = refl; no_comment = refl; printed = printed_text (codes "(no value available)") refl; field_is = λ tail. refl }
 
 texts_show : (vr : Vr) (v : List ℕ) → Bytes v → Shows (bracketed (unpadded vr v))
 texts_show vr v h = text_shows (unpadded vr v) (Bytes-unpadded vr v h)

@@ -1,6 +1,6 @@
 -- What the lines of a dump mean.
-use Rattle.std.specs.Prelude.{◌≡◌, ℕ, List, [], ◌∷◌, ◌++◌, take, drop, Option, Some, None, Bool, true, false, ◌&&◌, ◌==◌, nat_eq, if◌then◌else◌, codes, bytes_eq}
-use Rattle.std.specs.List.{starts_with}
+use Rattle.std.specs.Prelude.{◌≡◌, ℕ, List, [], ◌∷◌, ◌++◌, take, drop, Option, Some, None, Bool, true, false, ◌&&◌, ◌==◌, nat_eq, nat_le, if◌then◌else◌, codes, bytes_eq}
+use Rattle.std.specs.List.{list_all, starts_with}
 use Rattle.std.specs.Str.{byte}
 use Rattle.dcm_base.specs.declared.tag.Tag.{Tag}
 use Rattle.dcm_base.specs.declared.vr.Vr.{Vr}
@@ -141,6 +141,9 @@ meaning_of (Some p) = if is_item_group p.tag then item_meaning p.tag p.letters p
 abbrev pub means : List ℕ → Meaning
 means line = if is_skipped line then nothing else meaning_of (parts line)
 
--- a line with its newline means this
-abbrev pub LineMeans : List ℕ → Meaning → Type 0
-LineMeans line m = (body : List ℕ) × (line ≡ body ++ 10 ∷ []) × (means body ≡ m)
+-- a line means this, whose bytes before its newline are no controls
+pub record LineMeans (line : List ℕ) (m : Meaning) : Type 0 where
+  pub body : List ℕ
+  pub is : line ≡ body ++ 10 ∷ []
+  pub printed : list_all (λ c. nat_le 32 c) body ≡ true
+  pub means_is : means body ≡ m
