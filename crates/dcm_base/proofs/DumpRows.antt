@@ -13,6 +13,7 @@ use Rattle.dcm_base.specs.Dictionary.{keyword, element, elements}
 use Rattle.dcm_base.specs.Representation.{letters}
 use Rattle.dcm_base.specs.Uid.{uid_name, uids}
 use Rattle.dcm_base.specs.Dump.{dump_set, dump_front}
+use Rattle.dcm_base.specs.Header.{meta_header, set_header}
 
 -- all that a row computes with
 unfoldable all : ℕ
@@ -172,3 +173,25 @@ open_numbers = refl
 open_identifier : dump_front Full 0 (open_value (tag 0x0008 0x0016) UI 6 (codes "1.")) ≡ codes "(0008,0016) UI "
 unfolding all
 open_identifier = refl
+
+-- ---- headers
+
+meta_elements : Trees
+meta_elements = leaf (tag 0x0002 0x0000) UL (0x1C ∷ 0x00 ∷ 0x00 ∷ 0x00 ∷ []) (leaf (tag 0x0002 0x0010) UI (codes "1.2.840.10008.1.2.1\0") no_tree)
+
+file_header : meta_header Short meta_elements ++ set_header (codes "1.2.840.10008.1.2.1") ≡ codes "# Dicom-File-Format\n"
+    ++ codes "\n"
+    ++ codes "# Dicom-Meta-Information-Header\n"
+    ++ codes "# Used TransferSyntax: LittleEndianExplicit\n"
+    ++ codes "(0002,0000) UL 28                                       #   4, 1 FileMetaInformationGroupLength\n"
+    ++ codes "(0002,0010) UI =LittleEndianExplicit                    #  20, 1 TransferSyntaxUID\n"
+    ++ codes "\n"
+    ++ codes "# Dicom-Data-Set\n"
+    ++ codes "# Used TransferSyntax: LittleEndianExplicit\n"
+unfolding all meta_elements
+file_header = refl
+
+-- a transfer syntax without a name
+unnamed_syntax : set_header (codes "1.2.3]") ≡ codes "# Dicom-Data-Set\n" ++ codes "# Used TransferSyntax: 1.2.3%5D\n"
+unfolding all
+unnamed_syntax = refl
