@@ -49,3 +49,4 @@ pub mod DisplaysBack
 pub mod LinesBack
 pub mod LineMeanings
 pub mod LinesRead
+pub mod Rebuilt

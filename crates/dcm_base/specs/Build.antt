@@ -24,6 +24,7 @@ use Rattle.dcm_base.specs.MetaGroup.{META_LIMIT}
 use Rattle.dcm_base.specs.MetaReads.{PREFIX, syntax_value}
 use Rattle.dcm_base.specs.NewMeta.{new_meta}
 use Rattle.dcm_base.specs.Recode.{recode}
+use Rattle.dcm_base.specs.ReadValue.{value_shown}
 use Rattle.dcm_base.specs.Line.{Step, show_leaf, begin_sequence, begin_fragments, begin_item, show_fragment, end_item, end_sequence, Meaning, nothing, one, no_line, means}
 
 -- what the lines so far have shown: the meta group, whether it has ended, and the data set
@@ -364,3 +365,16 @@ built_bytes b =
 -- of the beginning of an input: what the lines that have ended have built
 abbrev pub written_so_far : (limit : ℕ) → List ℕ → List ℕ
 written_so_far limit bytes = built_bytes (built_by limit (lines_of bytes).ended).built
+
+-- ---- what the lines of a full dump build of these trees: values as they are shown, and undefined lengths
+
+unfoldable mutual
+  pub rebuilt : Trees → Trees
+  rebuilt no_tree = no_tree
+  rebuilt (leaf tag vr value rest) = leaf tag vr (value_shown vr value) (rebuilt rest)
+  rebuilt (sequence tag vr declared items rest) = sequence tag vr Undefined (rebuilt_items items) (rebuilt rest)
+  rebuilt (fragments tag vr values rest) = fragments tag vr values (rebuilt rest)
+
+  pub rebuilt_items : Items → Items
+  rebuilt_items no_item = no_item
+  rebuilt_items (item declared set rest) = item Undefined (rebuilt set) (rebuilt_items rest)
