@@ -1,2 +1,10 @@
 pub mod DumpWordLemmas
 pub mod Composed
+pub mod Fed
+pub mod Passes
+pub mod Heads
+pub mod Sets
+pub mod Alone
+pub mod MetaHeads
+pub mod Rans
+pub mod Files

@@ -4,7 +4,7 @@ use Rattle.dcm_base.specs.declared.syntax.Syntax.{Syntax}
 use Rattle.dcm_base.specs.declared.syntax.Syntax.TheVariants.{Implicit, Little, Big}
 use Rattle.dcm_base.specs.declared.syntax.Coding.{Coding}
 use Rattle.dcm_base.specs.declared.fault.Fault.{Fault}
-use Rattle.dcm_base.specs.declared.fault.Fault.TheVariants.{EndsEarly, CannotChange}
+use Rattle.dcm_base.specs.declared.fault.Fault.TheVariants.{CannotChange}
 use Rattle.dcm_base.specs.Front.{Front, front}
 use Rattle.dcm_base.specs.Stop.{Stop, complete, refused, Bar}
 use Rattle.dcm_base.specs.Reads.{INPUT_LIMIT, Reads}
@@ -19,6 +19,7 @@ use Rattle.dcm_base.specs.Edit.{Edit, edited, found}
 use Rattle.dcm_base.specs.Fault.{fault_number, fault_text, line_fault_number, line_fault_text}
 use Rattle.dcm_base.specs.Build as build
 use Rattle.dcm_base.specs.Words.{Job, dump, convert, build as building, modify}
+use Rattle.dcm_stream.specs.Reading.{is_undecided}
 use Rattle.dcm_cli.specs.Told.{told}
 
 pub record Answer : Type 0 where
@@ -183,17 +184,11 @@ Answers job bytes a = ReadAnswers job bytes a
 abbrev pub going_on : Front → Front
 going_on (front whole open_tree reached closed) = front whole open_tree reached false
 
--- an end that more bytes may change
-abbrev pub is_open_stop : Stop → Bool
-is_open_stop complete = true
-is_open_stop (refused EndsEarly offset) = true
-is_open_stop (refused fault offset) = false
-
 -- of a beginning of a file: nothing until two bytes have ended its meta group
 pub data FileSure (job : Job) (p out : List ℕ) : Type 0 where
   before_set : (a : meta.MetaAnswer) → MetaReads p a → meta.is_undecided (length p) a ≡ true → out ≡ [] → FileSure job p out
   within_set : (m : Meta) (group : List ℕ) (coding : Coding) (set : Front) (stop : Stop) → MetaReads p (meta.begins m group coding) → set_at group < length p → refuses_change job coding ≡ false
-      → Reads (job_bar job coding) coding.syntax (set_at group) (drop (set_at group) p) set stop → is_open_stop stop ≡ true
+      → Reads (job_bar job coding) coding.syntax (set_at group) (drop (set_at group) p) set stop → is_undecided (Some stop) ≡ true
       → out ≡ file_output job m coding (going_on set) → FileSure job p out
 
 -- of a beginning of a data set alone the header stands from the start
@@ -201,7 +196,7 @@ pub record AloneSure (job : Job) (syntax : Syntax) (p out : List ℕ) : Type 0 w
   pub set : Front
   pub stop : Stop
   pub reads : Reads no_bar syntax 0 p set stop
-  pub open_end : is_open_stop stop ≡ true
+  pub open_end : is_undecided (Some stop) ≡ true
   pub out_is : out ≡ alone_output job syntax (going_on set)
 
 -- of lines: those that a newline has ended, none at fault and the last not past the limit

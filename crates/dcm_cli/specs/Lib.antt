@@ -1,3 +1,5 @@
 pub mod Words
 pub mod Told
 pub mod Answer
+pub mod Pass
+pub mod Run

@@ -2,7 +2,11 @@
 #![tactic(auto)]
 
 mod devices;
+mod dump;
+mod ending;
+mod head;
 mod job;
+mod pass;
 mod run;
 mod told;
 mod words;

@@ -1,0 +1,12 @@
+use Rattle.dcm_cli.proofs.pass.feed.Goals as goal
+
+pub returns-clause-fed : goal.returns-clause-fed
+returns-clause-fed g c =
+    record {
+      goes = c.feed.ensures.goes;
+      answer_is = c.feed.ensures.answer;
+      going = c.feed.ensures.going;
+      failed = c.feed.ensures.failed c.requires;
+      place = c.feed.ensures.place;
+      within = c.feed.ensures.within;
+    }

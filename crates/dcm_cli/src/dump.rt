@@ -1,0 +1,102 @@
+// The dump of an input.
+ghost use Rattle.std.specs.Prelude.{◌≡◌, ◌≤◌, ◌<◌, ℕ, List, length, Option, None, Some};
+ghost use Rattle.dcm_base.specs.declared.mode.Mode.{Mode};
+ghost use Rattle.dcm_base.specs.declared.syntax.Syntax.{Syntax};
+ghost use Rattle.dcm_base.specs.Words.{Job, dump as dump_job};
+ghost use Rattle.dcm_cli.specs.Answer.{uid_of_syntax};
+ghost use Rattle.dcm_cli.specs.Pass as spec;
+ghost use Rattle.dcm_cli.specs.Run.{Worked};
+
+use crate::ending::Ending;
+use crate::head::read_head_of;
+use crate::job::Dump;
+use crate::pass::{read_rest, read_set};
+use dcm_base::{Coding, DeviceIn, DeviceOut, Mode, Syntax, Watched};
+use dcm_head::Meta;
+use dcm_stream::Machine;
+use dcm_tools::{DumpSink, dump_header, set_header};
+
+/// The bytes that are read at a time.
+const PIECE: usize = 65536;
+
+/// Where the meta group begins.
+const GROUP_AT: u64 = 132;
+
+/// Writes the dump of a file.
+fn dump_file<R: DeviceIn, W: DeviceOut>(
+    mode: Mode,
+    input: &mut Watched<R>,
+    out: &mut Watched<W>,
+    buffer: &mut [u8],
+) -> Ending
+    requires room { 0 < length buffer.old }
+    requires bound { length buffer.old ≤ 65536 }
+    ensures worked { (file : List ℕ) → R.remaining input.old ≡ Some file → Worked (dump_job mode None) file (W.contents out.old) (W.contents out.new) result }
+    ensures unread { spec.TellsUnread (R.has_failed input.old) (R.has_failed input.new) result }
+    ensures failed { spec.TellsOutput (W.has_failed out.old) (W.has_failed out.new) result }
+{
+    let mut meta = Meta::new();
+    let begun = match read_head_of(&mut meta, input, buffer) {
+        Ok(begun) => begun,
+        Err(ending) => return ending,
+    };
+    if dump_header(&meta, mode, out).is_err() {
+        return Ending::Output;
+    }
+    let start = GROUP_AT + meta.bytes().len() as u64;
+    let mut sink = DumpSink::new(out, mode);
+    read_set(begun, meta.coding(), start, input, buffer, &mut sink)
+}
+
+/// The unique identifier of the transfer syntax of a data set that is not encapsulated (PS3.5 annex A).
+fn uid_of_syntax(syntax: Syntax) -> &'static [u8]
+    ensures { result.now ≡ uid_of_syntax syntax }
+{
+    match syntax {
+        Syntax::Implicit => b"1.2.840.10008.1.2",
+        Syntax::Little => b"1.2.840.10008.1.2.1",
+        Syntax::Big => b"1.2.840.10008.1.2.2",
+    }
+}
+
+/// Writes the dump of a data set alone.
+fn dump_set<R: DeviceIn, W: DeviceOut>(
+    mode: Mode,
+    syntax: Syntax,
+    input: &mut Watched<R>,
+    out: &mut Watched<W>,
+    buffer: &mut [u8],
+) -> Ending
+    requires room { 0 < length buffer.old }
+    requires bound { length buffer.old ≤ 65536 }
+    ensures worked { (file : List ℕ) → R.remaining input.old ≡ Some file → Worked (dump_job mode (Some syntax)) file (W.contents out.old) (W.contents out.new) result }
+    ensures unread { spec.TellsUnread (R.has_failed input.old) (R.has_failed input.new) result }
+    ensures failed { spec.TellsOutput (W.has_failed out.old) (W.has_failed out.new) result }
+{
+    if set_header(uid_of_syntax(syntax), out).is_err() {
+        return Ending::Output;
+    }
+    let coding = Coding {
+        syntax,
+        encapsulated: false,
+    };
+    let mut sink = DumpSink::new(out, mode);
+    let mut machine = Machine::new(coding, 0);
+    read_rest(0, input, buffer, &mut machine, &mut sink)
+}
+
+pub fn dump<R: DeviceIn, W: DeviceOut>(
+    dump: Dump,
+    input: &mut Watched<R>,
+    out: &mut Watched<W>,
+) -> Ending
+    ensures worked { (file : List ℕ) → R.remaining input.old ≡ Some file → Worked (dump_job dump.mode dump.bare) file (W.contents out.old) (W.contents out.new) result }
+    ensures unread { spec.TellsUnread (R.has_failed input.old) (R.has_failed input.new) result }
+    ensures failed { spec.TellsOutput (W.has_failed out.old) (W.has_failed out.new) result }
+{
+    let mut buffer = [0u8; PIECE];
+    match dump.bare {
+        None => dump_file(dump.mode, input, out, &mut buffer),
+        Some(syntax) => dump_set(dump.mode, syntax, input, out, &mut buffer),
+    }
+}

@@ -1,0 +1,76 @@
+// The head of a file, out of a device.
+ghost use Rattle.std.specs.Prelude.{◌≡◌, ◌≤◌, ◌<◌, length, IfOk, MatchResult};
+ghost use Rattle.std.specs.Io.KnownBytes.{prepend_known};
+ghost use Rattle.dcm_head.specs.MetaReading.{at_start, meta_finished};
+ghost use Rattle.dcm_cli.specs.Pass as spec;
+
+use crate::ending::Ending;
+use dcm_base::{DeviceIn, Watched, get_some};
+use dcm_head::{Meta, MetaRead};
+
+/// Where a data set begins: with a byte of an earlier piece, and then within the bytes that the buffer holds.
+#[derive(Clone, Copy, Debug, PartialEq, Eq)]
+pub struct Begun {
+    pub ahead: Option<u8>,
+    pub used: usize,
+    pub filled: usize,
+    /// How many bytes were read of the input, and whether it has ended.
+    pub read: u64,
+    pub is_over: bool,
+}
+
+/// The input ends with the head of a file, or within it.
+fn finish_head(meta: &mut Meta, read: u64) -> Result<Begun, Ending>
+    ensures state { meta.new ≡ meta_finished meta.old }
+    ensures answer { spec.FinishesHead meta.new.end read result }
+{
+    match meta.finish() {
+        Err(stop) => Err(Ending::Refused(stop)),
+        Ok(()) => Ok(Begun {
+            ahead: None,
+            used: 0,
+            filled: 0,
+            read,
+            is_over: true,
+        }),
+    }
+}
+
+/// Reads the head of a file.
+pub fn read_head_of<R: DeviceIn>(
+    meta: &mut Meta,
+    input: &mut Watched<R>,
+    buffer: &mut [u8],
+) -> Result<Begun, Ending>
+    requires start { meta.old ≡ at_start }
+    requires room { 0 < length buffer.old }
+    requires bound { length buffer.old ≤ 65536 }
+    ensures within { IfOk result (λ b. (b.used ≤ b.filled) × (b.filled ≤ length buffer.new)) }
+    ensures read { spec.HeadReads (R.remaining input.old) (R.remaining input.new) meta.new buffer.new result }
+    ensures failed { MatchResult result (λ b. R.has_failed input.new ≡ R.has_failed input.old) (λ e. spec.TellsUnread (R.has_failed input.old) (R.has_failed input.new) e) }
+    ensures kept { length buffer.new ≡ length buffer.old }
+{
+    let mut read: u64 = 0;
+    loop {
+        let n = match get_some(input, buffer) {
+            Ok(0) => return finish_head(meta, read),
+            Ok(n) => n,
+            Err(_) => return Err(Ending::Unread(read)),
+        };
+        read += n as u64;
+        let (piece, _) = buffer.split_at(n);
+        match meta.feed(piece) {
+            MetaRead::More => {}
+            MetaRead::Refused(stop) => return Err(Ending::Refused(stop)),
+            MetaRead::Ended { used, ahead } => {
+                return Ok(Begun {
+                    ahead,
+                    used,
+                    filled: n,
+                    read,
+                    is_over: false,
+                });
+            }
+        }
+    }
+}

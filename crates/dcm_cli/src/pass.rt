@@ -1,0 +1,119 @@
+// A data set, out of a device into a sink.
+ghost use Rattle.std.specs.Prelude.{◌≡◌, ◌≤◌, ◌<◌, ◌+◌, ◌^◌, length, true, false};
+ghost use Rattle.std.specs.Io.KnownBytes.{IsAtEnd};
+ghost use Rattle.dcm_stream.specs.Machine as machine_spec;
+ghost use Rattle.dcm_stream.specs.Reading.{start_of};
+ghost use Rattle.dcm_cli.specs.Pass as spec;
+
+use crate::ending::{Ending, ending_of};
+use crate::head::Begun;
+use dcm_base::{Coding, DeviceIn, Watched, get_some};
+use dcm_stream::{Halt, Machine, Sink};
+
+/// Feeds a machine that has not halted.
+fn feed<S: Sink>(piece: &[u8], machine: &mut Machine, sink: &mut S) -> Result<(), Halt>
+    requires { machine_spec.is_halted machine.old ≡ false }
+    ensures fed { spec.Fed S.bar S.step S.writes machine.old (S.state sink.old) (S.contents sink.old) (S.has_failed sink.old) machine.new (S.state sink.new) (S.contents sink.new) (S.has_failed sink.new) piece.now result }
+    ensures kept { S.kept sink.new ≡ S.kept sink.old }
+{
+    machine.feed(piece, sink)
+}
+
+/// Feeds a machine what the head of a file left of a data set.
+fn feed_begun<S: Sink>(
+    begun: Begun,
+    buffer: &[u8],
+    machine: &mut Machine,
+    sink: &mut S,
+) -> Result<(), Halt>
+    requires within { (begun.used ≤ begun.filled) × (begun.filled ≤ length buffer.now) }
+    requires going { machine_spec.is_halted machine.old ≡ false }
+    ensures fed { spec.Fed S.bar S.step S.writes machine.old (S.state sink.old) (S.contents sink.old) (S.has_failed sink.old) machine.new (S.state sink.new) (S.contents sink.new) (S.has_failed sink.new) (spec.set_bytes begun buffer.now) result }
+    ensures kept { S.kept sink.new ≡ S.kept sink.old }
+{
+    let rest = &buffer[begun.used..begun.filled];
+    match begun.ahead {
+        None => feed(rest, machine, sink),
+        Some(byte) => {
+            feed(&[byte], machine, sink)?;
+            feed(rest, machine, sink)
+        }
+    }
+}
+
+/// Ends the data set of a machine.
+fn end<S: Sink>(machine: &mut Machine, sink: &mut S) -> Ending
+    requires { machine_spec.is_halted machine.old ≡ false }
+    ensures ends { spec.EndsSet S.step S.writes machine.old.reading (S.state sink.old) (S.contents sink.old) (S.contents sink.new) result }
+    ensures failed { spec.TellsOutput (S.has_failed sink.old) (S.has_failed sink.new) result }
+    ensures kept { S.kept sink.new ≡ S.kept sink.old }
+{
+    match machine.finish(sink) {
+        Ok(()) => Ending::Done,
+        Err(halt) => ending_of(halt),
+    }
+}
+
+/// Feeds a machine all that an input has still to give, behind so many bytes.
+pub fn read_rest<R: DeviceIn, S: Sink>(
+    read_before: u64,
+    input: &mut Watched<R>,
+    buffer: &mut [u8],
+    machine: &mut Machine,
+    sink: &mut S,
+) -> Ending
+    requires room { 0 < length buffer.old }
+    requires bound { length buffer.old ≤ 65536 }
+    requires going { machine_spec.is_halted machine.old ≡ false }
+    requires before { read_before ≡ machine_spec.next_offset machine.old.reading }
+    requires limit { read_before ≤ 2 ^ 62 }
+    ensures pumps { spec.Pumps S.bar S.step S.writes (R.remaining input.old) machine.old.reading (S.state sink.old) (S.contents sink.old) (R.remaining input.new) (S.contents sink.new) result }
+    ensures unread { spec.TellsUnread (R.has_failed input.old) (R.has_failed input.new) result }
+    ensures failed { spec.TellsOutput (S.has_failed sink.old) (S.has_failed sink.new) result }
+    ensures kept { S.kept sink.new ≡ S.kept sink.old }
+{
+    let mut read = read_before;
+    loop {
+        let n = match get_some(input, buffer) {
+            Ok(0) => return end(machine, sink),
+            Ok(n) => n,
+            Err(_) => return Ending::Unread(read),
+        };
+        read += n as u64;
+        let (piece, _) = buffer.split_at(n);
+        if let Err(halt) = feed(piece, machine, sink) {
+            return ending_of(halt);
+        }
+    }
+}
+
+/// Reads the data set of a file into a sink.
+pub fn read_set<R: DeviceIn, S: Sink>(
+    begun: Begun,
+    coding: Coding,
+    start: u64,
+    input: &mut Watched<R>,
+    buffer: &mut [u8],
+    sink: &mut S,
+) -> Ending
+    requires start { start ≤ 2 ^ 62 }
+    requires room { 0 < length buffer.old }
+    requires bound { length buffer.old ≤ 65536 }
+    requires within { (begun.used ≤ begun.filled) × (begun.filled ≤ length buffer.old) }
+    requires count { start + length (spec.set_bytes begun buffer.old) ≡ begun.read }
+    requires over { begun.is_over ≡ true → IsAtEnd (R.remaining input.old) }
+    ensures ends { spec.BehindBegun S.bar S.step S.writes (R.remaining input.old) (spec.set_bytes begun buffer.old) (start_of coding.syntax start) (S.state sink.old) (S.contents sink.old) (R.remaining input.new) (S.contents sink.new) result }
+    ensures over { begun.is_over ≡ true → spec.WasRead result }
+    ensures unread { spec.TellsUnread (R.has_failed input.old) (R.has_failed input.new) result }
+    ensures failed { spec.TellsOutput (S.has_failed sink.old) (S.has_failed sink.new) result }
+    ensures kept { S.kept sink.new ≡ S.kept sink.old }
+{
+    let mut machine = Machine::new(coding, start);
+    if let Err(halt) = feed_begun(begun, buffer, &mut machine, sink) {
+        return ending_of(halt);
+    }
+    if begun.is_over {
+        return end(&mut machine, sink);
+    }
+    read_rest(begun.read, input, buffer, &mut machine, sink)
+}
