@@ -15,3 +15,6 @@ pub mod TextLaws
 pub mod WholeUnits
 pub mod TextSteps
 pub mod Takings
+pub mod BackTexts
+pub mod BackUnits
+pub mod ReadsBack

@@ -50,7 +50,7 @@ reads_last meant part old new (Ok x) is t = (took meant part (Some []) old new i
 reads_last meant part old new (Err x) is f = failed meant part (Some []) old is f
 
 -- a byte as it stands
-plain_byte : (x : ℕ) (xs : List ℕ) → (x == byte "]") ≡ false → (x == byte "%") ≡ false → bracketed_value (x ∷ xs) ≡ behind (x ∷ []) (bracketed_value xs)
+pub plain_byte : (x : ℕ) (xs : List ℕ) → (x == byte "]") ≡ false → (x == byte "%") ≡ false → bracketed_value (x ∷ xs) ≡ behind (x ∷ []) (bracketed_value xs)
 plain_byte x [] a b = ap (λ t. cond t (Some []) None) a
 plain_byte x (y ∷ []) a b =
     ap (λ t. cond (t || x == byte "%") None (bracketed_value (y ∷ []) >>= λ more. Some (x ∷ more))) a ∙ ap (λ t. cond (false || t) None (bracketed_value (y ∷ []) >>= λ more. Some (x ∷ more))) b

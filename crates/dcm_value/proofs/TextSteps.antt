@@ -28,17 +28,17 @@ use Rattle.dcm_value.proofs.TextLaws.{brackets_whole, brackets_count, brackets_s
 use Rattle.dcm_value.proofs.WholeUnits.{units_whole, units_count, units_so_far}
 
 -- shown in units
-abbrev IsNumber : Shape → Type 0
+abbrev pub IsNumber : Shape → Type 0
 IsNumber text = ⊥
 IsNumber identifier = ⊥
 IsNumber _ = Unit {0}
 
-data Sort (vr : Vr) : Type 0 where
+pub data Sort (vr : Vr) : Type 0 where
   of_text : (is : shape vr ≡ text) (one : unit vr ≡ 1) → Sort vr
   of_name : (is : shape vr ≡ identifier) (one : unit vr ≡ 1) → Sort vr
   of_number : (is : IsNumber (shape vr)) → Sort vr
 
-sort : (vr : Vr) → Sort vr
+pub sort : (vr : Vr) → Sort vr
 sort AE = of_text refl refl
 sort AS = of_text refl refl
 sort AT = of_number tt
@@ -74,7 +74,7 @@ sort US = of_number tt
 sort UT = of_text refl refl
 sort UV = of_number tt
 
-number_way : (s : Shape) (size : ℕ) → IsNumber s → way_of s size ≡ InUnits
+pub number_way : (s : Shape) (size : ℕ) → IsNumber s → way_of s size ≡ InUnits
 number_way text size h = absurd h
 number_way identifier size h = absurd h
 number_way unsigned size h = refl
@@ -82,7 +82,7 @@ number_way signed size h = refl
 number_way tags size h = refl
 number_way hexadecimal size h = refl
 
-number_shown : (s : Shape) (vr : Vr) (v : List ℕ) → IsNumber s → shown s vr v ≡ units_text s (shown_unit vr) v
+pub number_shown : (s : Shape) (vr : Vr) (v : List ℕ) → IsNumber s → shown s vr v ≡ units_text s (shown_unit vr) v
 number_shown text vr v h = absurd h
 number_shown identifier vr v h = absurd h
 number_shown unsigned vr v h = refl
@@ -130,7 +130,7 @@ last_of b [] = record { init = []; last = b; is = refl }
 last_of b (c ∷ cs) = let r = last_of c cs in record { init = b ∷ r.init; last = r.last; is = ap (λ zs. b ∷ zs) r.is }
 
 -- a value that is not empty
-display_some : (vr : Vr) (v : List ℕ) → 0 < length v → display vr v ≡ shown (shape vr) vr v
+pub display_some : (vr : Vr) (v : List ℕ) → 0 < length v → display vr v ≡ shown (shape vr) vr v
 display_some vr [] l = absurd (omega arith)
 display_some vr (b ∷ bs) l = refl
 

@@ -1,10 +1,13 @@
 -- What a value that is fed in any pieces comes to.
-use Rattle.std.specs.Prelude.{◌≡◌, ◌<◌, ℕ, List, ◌++◌, length, fold}
+use Rattle.std.specs.Prelude.{◌≡◌, ◌≢◌, ◌<◌, ◌≤◌, ◌%◌, ℕ, Some, List, ◌++◌, length, fold}
 use Rattle.dcm_base.specs.declared.vr.Vr.{Vr}
 use Rattle.dcm_base.specs.declared.syntax.Syntax.{Syntax}
 use Rattle.dcm_base.specs.declared.mode.Mode.{Mode}
 use Rattle.dcm_base.specs.Value.{order}
-use Rattle.dcm_base.specs.ValueText.{text_of, count, shape, shown_so_far}
+use Rattle.dcm_base.specs.ValueText.{Shape, text, identifier, text_of, count, shape, shown_unit, shown_so_far, display, unpadded}
+use Rattle.dcm_base.specs.declared.vr.Vr.TheVariants.{SQ}
+use Rattle.dcm_base.specs.Number.{AreBytes}
+use Rattle.dcm_base.specs.ReadValue.{value_of_text}
 use Rattle.dcm_value.specs.Display.{at_once}
 use Rattle.dcm_value.specs.Progress.{Progress, started, opened, step, feeds, finishes, multiplicity}
 
@@ -30,3 +33,13 @@ WholeCount = (vr : Vr) (syntax : Syntax) (mode : Mode) (v : List ℕ) → multip
 -- while bytes are missing, what is shown so far stands written, or in Short nothing
 abbrev pub TextSoFar : Type 0
 TextSoFar = (vr : Vr) (syntax : Syntax) (size : ℕ) (mode : Mode) (v : List ℕ) → length v < size → written vr syntax size mode v ≡ at_once mode (shown_so_far (shape vr) vr size (order syntax vr v))
+
+-- the bytes of a value that its text shows
+abbrev pub kept : Shape → Vr → List ℕ → List ℕ
+kept text vr v = unpadded vr v
+kept identifier vr v = unpadded vr v
+kept _ vr v = v
+
+-- the text of a value of whole units stands for it
+abbrev pub ReadsBack : Type 0
+ReadsBack = (vr : Vr) (v : List ℕ) → vr ≢ SQ → AreBytes v → length v % shown_unit vr ≡ 0 → length (display vr v) ≤ 16384 → value_of_text vr (display vr v) ≡ Some (kept (shape vr) vr v)

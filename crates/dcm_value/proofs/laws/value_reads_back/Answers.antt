@@ -1,0 +1,5 @@
+use Rattle.dcm_value.proofs.ReadsBack.{reads_back}
+use Rattle.dcm_value.proofs.laws.value_reads_back.Goals as goal
+
+pub returns : goal.returns
+returns c = reads_back
