@@ -36,6 +36,13 @@ FlushedAs (Refused stop) after old new = ((after ≡ Refused stop) × (new ≡ o
 FlushedAs (Unread read) after old new = after ≡ Unread read
 FlushedAs Output after old new = (after ≡ Output) × (new ≡ old)
 
+-- the output did not fail before that
+abbrev pub IsWritten : Ending → Type 0
+IsWritten Done = Unit {0}
+IsWritten (Refused stop) = Unit {0}
+IsWritten (Unread read) = Unit {0}
+IsWritten Output = ⊥
+
 -- what is told of it, and the status
 abbrev pub ending_line : Ending → List ℕ
 ending_line Done = []

@@ -23,6 +23,7 @@ pub struct Outcome {
 fn flushed<W: DeviceOut>(ending: Ending, out: &mut Watched<W>) -> Ending
     ensures contents { W.contents out.new ≡ W.contents out.old }
     ensures flushed { spec.FlushedAs ending result (W.has_failed out.old) (W.has_failed out.new) }
+    ensures drained { spec.IsWritten ending → W.has_failed out.new ≡ false → W.is_flushed out.new ≡ true }
 {
     match ending {
         Ending::Output => Ending::Output,
@@ -68,6 +69,7 @@ pub fn run<R: DeviceIn, W: DeviceOut, E: DeviceOut>(
     errors: &mut Watched<E>,
 ) -> Outcome
     ensures ran { (file : List ℕ) → R.remaining input.old ≡ Some file → R.has_failed input.old ≡ false → W.has_failed out.old ≡ false → spec.Ran (job_of job.now) file (record { held = W.contents out.old; holds = W.contents out.new; told = E.contents errors.old; tells = E.contents errors.new; unread = R.has_failed input.new; unwritten = W.has_failed out.new; untold_before = E.has_failed errors.old; untold = E.has_failed errors.new }) result.status }
+    ensures flushed { W.has_failed out.old ≡ false → W.has_failed out.new ≡ false → W.is_flushed out.new ≡ true }
     ensures failed { R.has_failed input.old ≡ false → W.has_failed out.old ≡ false → (result.status ≡ 4) ↔ ((R.has_failed input.new ≡ true) ⊎ (W.has_failed out.new ≡ true)) }
 {
     let ending = match *job {
