@@ -7,9 +7,6 @@ use Rattle.dcm_base.specs.Uid.{uid_name}
 use Rattle.dcm_base.specs.ValueText as text
 use Rattle.dcm_base.specs.Dump.{dump_set}
 
-abbrev pub escaped : List ℕ → List ℕ
-escaped bytes = text.escaped bytes
-
 -- a transfer syntax by its name, or its unique identifier
 abbrev pub syntax_name : List ℕ → List ℕ
 syntax_name uid = option_map_or (λ name. name) (uid_name uid) (text.escaped uid)

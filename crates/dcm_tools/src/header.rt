@@ -6,6 +6,7 @@ ghost use Rattle.dcm_base.specs.declared.syntax.Syntax.TheVariants.{Little};
 ghost use Rattle.dcm_base.specs.Device.{Puts, Tells};
 ghost use Rattle.dcm_base.specs.Dump.{leaf_line, dump_set};
 ghost use Rattle.dcm_base.specs.Header as spec;
+ghost use Rattle.dcm_base.specs.ValueText.{escaped};
 ghost use Rattle.dcm_base.specs.Spelling.{form};
 ghost use Rattle.dcm_head.specs.MetaReading.{HasEnded, group_of, uid_of};
 ghost use Rattle.dcm_head.specs.Rewriting.{OfElements};
@@ -18,7 +19,7 @@ use dcm_value::escape;
 
 /// Writes bytes of a text, escaped.
 fn put_escaped<W: DeviceOut>(out: &mut Watched<W>, text: &[u8]) -> Result<(), WriteFailed>
-    ensures bytes { Puts (W.contents out.old) (W.contents out.new) (spec.escaped text.now) result }
+    ensures bytes { Puts (W.contents out.old) (W.contents out.new) (escaped text.now) result }
     ensures failed { Tells (W.has_failed out.old) (W.has_failed out.new) result }
 {
     for byte in text {
