@@ -8,3 +8,4 @@ pub mod Alone
 pub mod MetaHeads
 pub mod Rans
 pub mod Files
+pub mod Sures

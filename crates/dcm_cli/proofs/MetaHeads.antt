@@ -42,7 +42,7 @@ by_place m group coding size preamble elements others too_few e = cc
 by_place m group coding size preamble elements others (a_fault fault) e = cc
 by_place m group coding size preamble elements others (an_element tag vr head value) e = cc
 
-group_spelled : (file : List ℕ) (m : Meta) (group : List ℕ) (coding : Coding) → MetaReads file (begins m group coding) → Spells Little m.elements group × AreMeta m.elements × (length group ≤ META_LIMIT)
+pub group_spelled : (file : List ℕ) (m : Meta) (group : List ℕ) (coding : Coding) → MetaReads file (begins m group coding) → Spells Little m.elements group × AreMeta m.elements × (length group ≤ META_LIMIT)
 group_spelled file m group coding (too_short few e) = cc
 group_spelled file m group coding (no_prefix preamble prefix bytes parts long four not e) = cc
 group_spelled file m group coding (with_group preamble bytes others elements behind parts long reads e) =

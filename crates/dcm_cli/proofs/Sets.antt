@@ -39,7 +39,7 @@ pub none_left : (left : Option (List ℕ)) (rest : List ℕ) → IsAtEnd left �
 none_left None rest h e = cc
 none_left (Some xs) rest h e = cc
 
-going_back : (stop : Stop) (f : Front) → is_closed f ≡ false → going_on (ended stop f) ≡ f
+pub going_back : (stop : Stop) (f : Front) → is_closed f ≡ false → going_on (ended stop f) ≡ f
 going_back complete (front whole open_tree reached closed) h = ap (front whole open_tree reached) (sym h)
 going_back (refused fault offset) (front whole open_tree reached closed) h = ap (front whole open_tree reached) (sym h)
 

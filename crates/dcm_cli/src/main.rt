@@ -6,6 +6,7 @@ mod dump;
 mod ending;
 mod head;
 mod job;
+mod laws;
 mod pass;
 mod run;
 mod told;

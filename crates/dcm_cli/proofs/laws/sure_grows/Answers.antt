@@ -1,0 +1,5 @@
+use Rattle.dcm_cli.proofs.Sures.{sure_grows}
+use Rattle.dcm_cli.proofs.laws.sure_grows.Goals as goal
+
+pub returns : goal.returns
+returns c = sure_grows
