@@ -71,11 +71,12 @@ module _ (mode : Mode) (s : Syntax) (start : ℕ) (le : start ≤ INPUT_LIMIT) w
       let a = all_read mode s start le None (p ++ later) in
       let two = reads_once no_bar s start (p ++ later) a.0 g a.1 end a.2 others in
       let more = outputs (steps bars_nothing dump_step) (steps_write bars_nothing dump_step dump_writes) (driven bars_nothing dump_step (dump_start mode) s start p) later in
-      let last = outputs dump_step dump_writes (driven bars_nothing dump_step (dump_start mode) s start (p ++ later)).1 (end_shows (finish (driven bars_nothing dump_step (dump_start mode) s start (p ++ later)).0)) in
-      (more ++ last,
-      ap (dump_front mode 0) (sym two.0) ∙ sym a.4
-      ∙ ap (λ (bs : List ℕ). bs ++ last) (outputs-append (steps bars_nothing dump_step) (steps_write bars_nothing dump_step dump_writes) (start_of s start, dump_start mode) p later)
-      ∙ ap (λ (bs : List ℕ). (bs ++ more) ++ last) out ∙ append_assoc (dump_front mode 0 (going_on f)) more last)
+      let last = outputs dump_step dump_writes (driven bars_nothing dump_step (dump_start mode) s start (p ++ later)).1 (end_shows (finish (driven bars_nothing dump_step (dump_start mode) s start (p ++ later)).0)) in (
+        more ++ last,
+        ap (dump_front mode 0) (sym two.0) ∙ sym a.4
+            ∙ ap (λ (bs : List ℕ). bs ++ last) (outputs-append (steps bars_nothing dump_step) (steps_write bars_nothing dump_step dump_writes) (start_of s start, dump_start mode) p later)
+            ∙ ap (λ (bs : List ℕ). (bs ++ more) ++ last) out ∙ append_assoc (dump_front mode 0 (going_on f)) more last,
+      )
 
 -- behind a header
 behind : (header whole part rest : List ℕ) → whole ≡ part ++ rest → header ++ whole ≡ (header ++ part) ++ rest
@@ -85,11 +86,12 @@ pub alone_grows : (mode : Mode) (s : Syntax) (p later out : List ℕ) (a : Answe
     → (rest : List ℕ) × (a.output ≡ out ++ rest)
 alone_grows mode s p later out a sure x =
     let r : AloneReads s (p ++ later) x.source = x.reads in
-    let more = set_grows mode s 0 (omega arith) p later sure.set r.set sure.stop r.stop sure.reads sure.open_end r.reads in
-    (more.0,
-    ap (λ (b : Answer). b.output) x.answer_is ∙ ap (λ (z : Source). (answer (dump mode (Some s)) z).output) r.source_is
-    ∙ behind (set_header (uid_of_syntax s)) (dump_front mode 0 r.set) (dump_front mode 0 (going_on sure.set)) more.0 more.1
-    ∙ ap (λ (bs : List ℕ). bs ++ more.0) (sym sure.out_is))
+    let more = set_grows mode s 0 (omega arith) p later sure.set r.set sure.stop r.stop sure.reads sure.open_end r.reads in (
+      more.0,
+      ap (λ (b : Answer). b.output) x.answer_is ∙ ap (λ (z : Source). (answer (dump mode (Some s)) z).output) r.source_is
+          ∙ behind (set_header (uid_of_syntax s)) (dump_front mode 0 r.set) (dump_front mode 0 (going_on sure.set)) more.0 more.1
+          ∙ ap (λ (bs : List ℕ). bs ++ more.0) (sym sure.out_is),
+    )
 
 -- ---- a file
 
@@ -150,13 +152,14 @@ module _ (p later : List ℕ) (m : Meta) (group : List ℕ) (coding : Coding) (r
       let more = set_grows mode coding.syntax (132 + length group) (omega (arith, small)) (drop (132 + length group) p) later set set' stop stop' set_reads undecided
       (subst (λ (bs : List ℕ). Reads no_bar coding.syntax (132 + length group) bs set' stop') split there) in
       let elements : m'.elements ≡ m.elements = ap (λ (x : Meta). x.elements) metas ∙ other.elements_are in
-      let uids : m'.uid ≡ m.uid = ap (λ (x : Meta). x.uid) metas ∙ other.uid_is in
-      (more.0,
-      ap (λ (b : Answer). b.output) is ∙ ap (λ (z : Source). (answer (dump mode None) z).output) said
-      ∙ ap (λ (t : Trees). meta_header mode t ++ set_header m'.uid ++ dump_front mode 0 set') elements
-      ∙ ap (λ (uid : List ℕ). meta_header mode m.elements ++ set_header uid ++ dump_front mode 0 set') uids
-      ∙ behind (meta_header mode m.elements ++ set_header m.uid) (dump_front mode 0 set') (dump_front mode 0 (going_on set)) more.0 more.1
-      ∙ ap (λ (bs : List ℕ). bs ++ more.0) (sym out_is))
+      let uids : m'.uid ≡ m.uid = ap (λ (x : Meta). x.uid) metas ∙ other.uid_is in (
+        more.0,
+        ap (λ (b : Answer). b.output) is ∙ ap (λ (z : Source). (answer (dump mode None) z).output) said
+            ∙ ap (λ (t : Trees). meta_header mode t ++ set_header m'.uid ++ dump_front mode 0 set') elements
+            ∙ ap (λ (uid : List ℕ). meta_header mode m.elements ++ set_header uid ++ dump_front mode 0 set') uids
+            ∙ behind (meta_header mode m.elements ++ set_header m.uid) (dump_front mode 0 set') (dump_front mode 0 (going_on set)) more.0 more.1
+            ∙ ap (λ (bs : List ℕ). bs ++ more.0) (sym out_is),
+      )
 
 pub file_grows : (mode : Mode) (p later out : List ℕ) (a : Answer) → FileSure (dump mode None) p out → ReadAnswers (dump mode None) (p ++ later) a → (rest : List ℕ) × (a.output ≡ out ++ rest)
 file_grows mode p later out a (before_set said reads undecided none) x = (a.output, ap (λ (bs : List ℕ). bs ++ a.output) (sym none))
