@@ -375,3 +375,25 @@ fn telling_fails(rt: HostRuntime) -> Result<(), Fail> {
     }
     Ok(())
 }
+
+/// Expects what stands written of a row where reading fails behind so many bytes.
+fn expect_written(
+    rt: HostRuntime,
+    abort: &impl Abort,
+    row: &Row,
+    reads: usize,
+    written: &[u8],
+) -> Result<(), Fail> {
+    let case = case_of(rt, abort, row)?;
+    let good = Good { reads, ..SOUND };
+    let left = run_over(rt, &case.job, case.input.as_slice(), good)?;
+    assert!(abort; left.output.as_slice() == written, "{reads}");
+    Ok(())
+}
+
+#[test]
+fn output_begins_behind_the_group(rt: HostRuntime) -> Result<(), Fail> {
+    let row = &ROWS[1];
+    expect_written(rt, &rt, row, 172, b"")?;
+    expect_written(rt, &rt, row, 174, header_of(row.header))
+}
