@@ -1,0 +1,314 @@
+#!/usr/bin/env python3
+"""Measures `dcmtools dcmdump` beside `cat`, and beside DCMTK's dcmdump where it is installed.
+
+    bench/run.py [--binary PATH] [--mebibytes N] [--full-mebibytes N] [--rounds N] [--starts N]
+
+The inputs are made in a temporary directory, which takes a little more than four times `--mebibytes` and is removed at the end. They
+are read from the page cache, and all output goes to /dev/null. One run prints three tables: throughput (the median
+of the rounds, over the bytes of the input), time of a whole process on a small file, and peak memory.
+"""
+
+import argparse
+import os
+import random
+import shutil
+import statistics
+import struct
+import sys
+import tempfile
+import time
+from pathlib import Path
+
+MEBIBYTE = 1 << 20
+UNDEFINED = 0xFFFFFFFF
+LONG_FORM = {"OB", "OD", "OF", "OL", "OV", "OW", "SQ", "SV", "UC", "UN", "UR", "UT", "UV"}
+
+IMPLICIT = "1.2.840.10008.1.2"
+LITTLE = "1.2.840.10008.1.2.1"
+BIG = "1.2.840.10008.1.2.2"
+JPEG = "1.2.840.10008.1.2.4.50"
+
+NESTED_OUTER = 1_000
+NESTED_INNER = 10
+NESTED_LEAVES = 20
+
+
+# ---- the bytes of an input (PS3.5 7, PS3.10 7.1)
+
+
+def even(value, vr):
+    pad = b"\0" if vr in LONG_FORM | {"UI"} else b" "
+    return value + pad if len(value) % 2 else value
+
+
+def head(syntax, group, element, vr, length):
+    order = ">" if syntax == BIG else "<"
+    tag = struct.pack(order + "HH", group, element)
+    if syntax == IMPLICIT or group == 0xFFFE:
+        return tag + struct.pack(order + "I", length)
+    if vr in LONG_FORM:
+        return tag + vr.encode() + b"\0\0" + struct.pack(order + "I", length)
+    return tag + vr.encode() + struct.pack(order + "H", length)
+
+
+def leaf(syntax, group, element, vr, value):
+    value = even(value, vr)
+    return head(syntax, group, element, vr, len(value)) + value
+
+
+def short(syntax, number):
+    return struct.pack(">H" if syntax == BIG else "<H", number)
+
+
+def meta(uid):
+    group = b"".join(
+        leaf(LITTLE, 0x0002, element, vr, value)
+        for element, vr, value in [
+            (0x0001, "OB", b"\0\1"),
+            (0x0002, "UI", b"1.2.840.10008.5.1.4.1.1.7"),
+            (0x0003, "UI", b"2.25.1"),
+            (0x0010, "UI", uid.encode()),
+            (0x0012, "UI", b"2.25.2"),
+        ]
+    )
+    length = leaf(LITTLE, 0x0002, 0x0000, "UL", struct.pack("<I", len(group)))
+    return bytes(128) + b"DICM" + length + group
+
+
+def front(syntax):
+    return b"".join(
+        leaf(syntax, group, element, vr, value)
+        for group, element, vr, value in [
+            (0x0008, 0x0060, "CS", b"OT"),
+            (0x0010, 0x0010, "PN", b"Bench^Mark"),
+            (0x0028, 0x0010, "US", short(syntax, 16384)),
+            (0x0028, 0x0011, "US", short(syntax, 16384)),
+            (0x0028, 0x0100, "US", short(syntax, 16)),
+        ]
+    )
+
+
+def write_blocks(out, mebibytes):
+    block = random.Random(1).randbytes(MEBIBYTE)
+    for _ in range(mebibytes):
+        out.write(block)
+
+
+def make_native(path, syntax, mebibytes):
+    with open(path, "wb") as out:
+        out.write(meta(syntax) + front(syntax))
+        out.write(head(syntax, 0x7FE0, 0x0010, "OW", mebibytes * MEBIBYTE))
+        write_blocks(out, mebibytes)
+
+
+def make_fragments(path, mebibytes):
+    with open(path, "wb") as out:
+        out.write(meta(JPEG) + front(LITTLE))
+        out.write(head(LITTLE, 0x7FE0, 0x0010, "OB", UNDEFINED))
+        out.write(head(LITTLE, 0xFFFE, 0xE000, "", 0))
+        for _ in range(mebibytes):
+            out.write(head(LITTLE, 0xFFFE, 0xE000, "", MEBIBYTE))
+            write_blocks(out, 1)
+        out.write(head(LITTLE, 0xFFFE, 0xE0DD, "", 0))
+
+
+def nested_leaf(number):
+    kinds = [
+        (0x0100, "SH", b"T-%05d" % number),
+        (0x0102, "SH", b"SRT"),
+        (0x0104, "LO", b"a meaning of number %d" % number),
+        (0x1150, "UI", b"1.2.840.10008.5.1.4.1.1.2"),
+        (0x1155, "UI", b"2.25.%d" % number),
+    ]
+    element, vr, value = kinds[number % len(kinds)]
+    return leaf(LITTLE, 0x0008, element, vr, value)
+
+
+def make_nested(path):
+    """200,000 elements, in items of known length within items of undefined length."""
+    leaves = b"".join(nested_leaf(number) for number in range(NESTED_LEAVES))
+    item = head(LITTLE, 0xFFFE, 0xE000, "", len(leaves)) + leaves
+    inner = item * NESTED_INNER
+    outer = (
+        head(LITTLE, 0xFFFE, 0xE000, "", UNDEFINED)
+        + head(LITTLE, 0x0008, 0x1140, "SQ", len(inner))
+        + inner
+        + head(LITTLE, 0xFFFE, 0xE00D, "", 0)
+    )
+    with open(path, "wb") as out:
+        out.write(meta(LITTLE) + front(LITTLE))
+        out.write(head(LITTLE, 0x0008, 0x1115, "SQ", UNDEFINED))
+        for _ in range(NESTED_OUTER):
+            out.write(outer)
+        out.write(head(LITTLE, 0xFFFE, 0xE0DD, "", 0))
+
+
+def make_small(path):
+    Path(path).write_bytes(meta(LITTLE) + front(LITTLE))
+
+
+def make_inputs(folder, mebibytes, full_mebibytes):
+    """The inputs, each as (what it is, options of dcmdump, path)."""
+    path = lambda name: os.path.join(folder, name)
+    make_native(path("little"), LITTLE, mebibytes)
+    make_native(path("big"), BIG, mebibytes)
+    make_native(path("implicit"), IMPLICIT, mebibytes)
+    make_fragments(path("fragments"), mebibytes)
+    make_native(path("full_little"), LITTLE, full_mebibytes)
+    make_native(path("full_big"), BIG, full_mebibytes)
+    make_nested(path("nested"))
+    make_small(path("small"))
+    return [
+        (f"native little endian, {mebibytes} MiB of OW", ["-L"], path("little")),
+        (f"native big endian, {mebibytes} MiB of OW", ["-L"], path("big")),
+        (f"implicit, {mebibytes} MiB of OW", ["-L"], path("implicit")),
+        (f"{mebibytes} fragments of 1 MiB", ["-L"], path("fragments")),
+        ("200,000 elements in nested sequences", ["-L"], path("nested")),
+        ("200,000 elements in nested sequences", ["+L"], path("nested")),
+        (f"native little endian, {full_mebibytes} MiB of OW", ["+L"], path("full_little")),
+        (f"native big endian, {full_mebibytes} MiB of OW", ["+L"], path("full_big")),
+    ], path("small")
+
+
+# ---- processes
+
+
+GNU_TIME = "/usr/bin/time"
+NULL_OUTPUT = [(os.POSIX_SPAWN_OPEN, 1, os.devnull, os.O_WRONLY, 0)]
+
+
+def spawn(words):
+    return os.posix_spawn(words[0], words, os.environ, file_actions=NULL_OUTPUT)
+
+
+def check_status(words, status):
+    if status != 0:
+        sys.exit(f"status {os.waitstatus_to_exitcode(status)} of {' '.join(words)}")
+
+
+def seconds_of(words):
+    begin = time.perf_counter()
+    process = spawn(words)
+    _, status = os.waitpid(process, 0)
+    elapsed = time.perf_counter() - begin
+    check_status(words, status)
+    return elapsed
+
+
+def peak_of(words):
+    """The peak resident memory in KiB, as GNU time tells it, or nothing where it is not installed.
+
+    ru_maxrss of a child of this process will not do: it counts what the interpreter held before the program took its
+    place. What GNU time holds itself is less than any program here.
+    """
+    if not os.access(GNU_TIME, os.X_OK):
+        return None
+    with tempfile.NamedTemporaryFile("r") as told:
+        seconds_of([GNU_TIME, "-f", "%M", "-o", told.name, *words])
+        return int(told.read())
+
+
+# ---- the tables
+
+
+def programs(binary):
+    """Each program, as a function of options and path."""
+    found = {
+        "cat": lambda options, path: [shutil.which("cat"), path],
+        "dcmtools": lambda options, path: [binary, "dcmdump", *options, path],
+    }
+    dcmtk = shutil.which("dcmdump")
+    if dcmtk:
+        found["DCMTK"] = lambda options, path: [dcmtk, *options, path]
+    return found
+
+
+def row(cells):
+    return "| " + " | ".join(cells) + " |"
+
+
+def print_table(title, heading, rows):
+    print(f"\n{title}\n")
+    print(row(heading))
+    print("|" + "---|" * len(heading))
+    for cells in rows:
+        print(row(cells))
+
+
+def throughput_row(name, options, path, run, rounds):
+    size = os.path.getsize(path)
+    medians = {}
+    for program, words in run.items():
+        times = [seconds_of(words(options, path)) for _ in range(rounds)]
+        medians[program] = statistics.median(times)
+    cells = [name, " ".join(options)]
+    for program, seconds in medians.items():
+        cells.append(f"{size / seconds / 1e6:,.0f}")
+        if program != "cat":
+            cells.append(f"{seconds / medians['cat']:.2f}")
+    return cells
+
+
+def with_ratios(run):
+    return [title for program in run for title in ([program] if program == "cat" else [program, "time / cat"])]
+
+
+def print_throughput(inputs, run, rounds):
+    rows = [throughput_row(name, options, path, run, rounds) for name, options, path in inputs]
+    print_table("MB/s of input", ["Input", "Options", *with_ratios(run)], rows)
+
+
+def print_starts(small, run, starts):
+    means = {}
+    for program, words in run.items():
+        means[program] = statistics.mean(seconds_of(words([], small)) for _ in range(starts))
+    cells = []
+    for program, seconds in means.items():
+        cells.append(f"{seconds * 1e3:.2f}")
+        if program != "cat":
+            cells.append(f"{seconds / means['cat']:.2f}")
+    title = f"Milliseconds from spawn to exit, mean of {starts} runs on a file of {os.path.getsize(small)} bytes"
+    print_table(title, with_ratios(run), [cells])
+
+
+def print_memory(inputs, run):
+    rows = []
+    for name, options, path in inputs:
+        peaks = [peak_of(words(options, path)) for words in run.values()]
+        rows.append([name, " ".join(options), *("-" if peak is None else f"{peak:,}" for peak in peaks)])
+    print_table("Peak resident memory in KiB", ["Input", "Options", *run], rows)
+
+
+def machine():
+    model = "unknown processor"
+    for line in Path("/proc/cpuinfo").read_text().splitlines():
+        if line.startswith("model name"):
+            model = line.split(":", 1)[1].strip()
+            break
+    load = ", ".join(f"{average:.2f}" for average in os.getloadavg())
+    return f"{model}, {os.cpu_count()} processors, load {load}"
+
+
+def main():
+    top = Path(__file__).resolve().parent.parent
+    options = argparse.ArgumentParser(description=__doc__.splitlines()[0])
+    options.add_argument("--binary", default=str(top / "crates/dcm_cli/out/dcm_cli"))
+    options.add_argument("--mebibytes", type=int, default=512, help="pixels of the large inputs")
+    options.add_argument("--full-mebibytes", type=int, default=32, help="pixels of the inputs that are shown whole")
+    options.add_argument("--rounds", type=int, default=5)
+    options.add_argument("--starts", type=int, default=200)
+    chosen = options.parse_args()
+    if not os.access(chosen.binary, os.X_OK):
+        sys.exit(f"{chosen.binary} is not there: build it by `cd crates/dcm_cli && rt run -- dcmdump ../../examples/name.dcm`")
+    run = programs(os.path.abspath(chosen.binary))
+    print(f"Before: {machine()}")
+    with tempfile.TemporaryDirectory() as folder:
+        inputs, small = make_inputs(folder, chosen.mebibytes, chosen.full_mebibytes)
+        print_throughput(inputs, run, chosen.rounds)
+        print_starts(small, run, chosen.starts)
+        print_memory(inputs, run)
+    print(f"\nAfter: {machine()}")
+
+
+if __name__ == "__main__":
+    main()
