@@ -3,9 +3,9 @@
 
     bench/run.py [--binary PATH] [--mebibytes N] [--full-mebibytes N] [--rounds N] [--starts N]
 
-The inputs are made in a temporary directory, which takes a little more than four times `--mebibytes` and is removed at the end. They
-are read from the page cache, and all output goes to /dev/null. One run prints three tables: throughput (the median
-of the rounds, over the bytes of the input), time of a whole process on a small file, and peak memory.
+The inputs are made in a temporary directory, which takes a little more than four times `--mebibytes` and is removed at
+the end. They are read from the page cache, and all output goes to /dev/null. One run prints three tables: throughput
+(the median of the rounds, over the bytes of the input), time of a whole process on a small file, and peak memory.
 """
 
 import argparse
