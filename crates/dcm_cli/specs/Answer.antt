@@ -8,7 +8,7 @@ use Rattle.dcm_base.specs.declared.fault.Fault.TheVariants.{CannotChange}
 use Rattle.dcm_base.specs.Front.{Front, front}
 use Rattle.dcm_base.specs.Stop.{Stop, complete, refused, Bar}
 use Rattle.dcm_base.specs.Reads.{INPUT_LIMIT, Reads}
-use Rattle.dcm_base.specs.Bars.{no_bar, ascending_bar, fragments_bar}
+use Rattle.dcm_base.specs.Bars.{no_bar, ascending_bar, target_bar}
 use Rattle.dcm_base.specs.MetaReads as meta
 use Rattle.dcm_base.specs.MetaReads.{Meta, MetaReads, PREFIX}
 use Rattle.dcm_base.specs.NewMeta.{new_meta}
@@ -49,10 +49,6 @@ target_syntax (Some syntax) coding = syntax
 abbrev pub target_uid : Option Syntax → Meta → List ℕ
 target_uid None m = m.uid
 target_uid (Some syntax) m = uid_of_syntax syntax
-
-abbrev pub target_bar : Syntax → Bar
-target_bar Little = no_bar
-target_bar _ = fragments_bar
 
 -- what a tool bars of itself
 abbrev pub job_bar : Job → Coding → Bar

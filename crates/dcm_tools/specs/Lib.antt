@@ -1,5 +1,6 @@
 pub mod Layout
 pub mod Lengths
 pub mod DumpSink
+pub mod EncodeSink
 pub mod Lines
 pub mod Laws
