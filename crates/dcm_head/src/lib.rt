@@ -14,8 +14,8 @@ mod tests;
 mod write;
 
 pub use element::{MetaElement, first_element};
-pub use head::{Head, HeadRead, read_head, read_tag};
+pub use head::{Head, HeadRead, LONG_HEAD, read_head, read_tag};
 pub use meta::Meta;
 pub use meta_read::{MetaEnd, MetaRead};
 pub use rewriting::write_meta;
-pub use write::write_head;
+pub use write::{element_head, write_head};

@@ -87,6 +87,18 @@ pub fn explicit_head(syntax: Syntax, head: &Head) -> HeadBytes
     bytes
 }
 
+/// The bytes of an element's head: with its representation's own letters and reserved bytes of zero in an explicit syntax, and
+/// without both in the implicit one.
+pub fn element_head(syntax: Syntax, head: &Head) -> ArrayVec<u8, LONG_HEAD>
+    requires { recode.is_explicit syntax ≡ true → has_long_form head.now.vr ≡ false → spec.FitsShort head.now.length }
+    ensures { result.items ≡ recode.head syntax head.now.tag head.now.vr head.now.length }
+{
+    match syntax {
+        Syntax::Implicit => plain_head(syntax, head.tag, head.length),
+        Syntax::Little | Syntax::Big => explicit_head(syntax, head),
+    }
+}
+
 /// The bytes of a head: with its representation's own letters, reserved bytes of zero, and 0 as a delimiter's length.
 pub fn write_head(syntax: Syntax, head: &Head) -> ArrayVec<u8, LONG_HEAD>
     requires { spec.is_short_form syntax head.now ≡ true → spec.FitsShort head.now.length }
@@ -99,8 +111,5 @@ pub fn write_head(syntax: Syntax, head: &Head) -> ArrayVec<u8, LONG_HEAD>
     if is_delimiter(tag) {
         return plain_head(syntax, tag, Length::Known(0));
     }
-    match syntax {
-        Syntax::Implicit => plain_head(syntax, tag, head.length),
-        Syntax::Little | Syntax::Big => explicit_head(syntax, head),
-    }
+    element_head(syntax, head)
 }

@@ -8,3 +8,7 @@ pub mod DumpRuns
 pub mod MetaLines
 pub mod Shallow
 pub mod DumpReads
+pub mod Turned
+pub mod Copies
+pub mod Dropping
+pub mod Evened

@@ -103,6 +103,11 @@ dropped_behind n closes_sequence = behind_list n
 dropped_behind n (opens_fragment size) = Some n
 dropped_behind n ends = Some n
 
+-- behind a token: one atom, or the bytes of a value, which change nothing
+abbrev pub dropped_by : ℕ → List Atom → Option ℕ
+dropped_by n [] = Some n
+dropped_by n (a ∷ atoms) = dropped_behind n a
+
 abbrev pub encode_opens : Form → EncodeState → Vr → Length → Syntax → EncodeState
 encode_opens a_value s vr (Known size) syntax = record s { copying = Some (leaf_copy syntax s.target vr size) }
 encode_opens a_value s vr Undefined syntax = s

@@ -1,7 +1,10 @@
-//! What the tools write: the dump of a data set.
+//! What the tools write: the dump of a data set, and the data set in another syntax.
 #![tactic(auto)]
 
+mod copier;
 mod dump;
+mod encode;
+mod encoder;
 mod header;
 pub mod laws;
 mod layout;
@@ -9,4 +12,5 @@ mod lengths;
 mod lines;
 
 pub use dump::DumpSink;
+pub use encode::EncodeSink;
 pub use header::{dump_header, set_header};
