@@ -22,7 +22,8 @@ use Rattle.dcm_stream.proofs.Follow.{answers, follows}
 use Rattle.dcm_tools.specs.DumpSink.{dump_start, dump_step, dump_writes}
 use Rattle.dcm_tools.specs.Laws.{StaysShallow, FragmentMisses, MissesBytes, TreeMisses, ItemMisses}
 use Rattle.dcm_tools.proofs.ValueRuns.{dumps}
-use Rattle.dcm_tools.proofs.DumpRuns.{trees_dump, open_dump, stays_trees}
+use Rattle.dcm_tools.proofs.DumpRuns.{trees_dump, open_dump}
+use Rattle.dcm_tools.proofs.OpenLists.{stays_trees}
 use Rattle.dcm_tools.proofs.Shallow.{machine_shallow, machine_shallow_ended}
 
 -- ---- what is spelled misses bytes where it is open

@@ -4,6 +4,7 @@ pub mod Shown
 pub mod Begun
 pub mod ValueLines
 pub mod ValueRuns
+pub mod OpenLists
 pub mod DumpRuns
 pub mod MetaLines
 pub mod Shallow
@@ -12,3 +13,5 @@ pub mod Turned
 pub mod Copies
 pub mod Dropping
 pub mod Evened
+pub mod EncodeValues
+pub mod EncodeRuns

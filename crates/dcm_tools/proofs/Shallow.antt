@@ -28,7 +28,7 @@ use Rattle.dcm_stream.proofs.Behind.{data_false}
 use Rattle.dcm_stream.proofs.Judged.{NeverEarly, FitsHead, fits_element, fits_item, fits_delimiter, Fits, place_none}
 use Rattle.dcm_stream.proofs.Opening.{opens_element, opens_other}
 use Rattle.dcm_tools.specs.Laws.{one_less, lists_behind, StaysShallow}
-use Rattle.dcm_tools.proofs.DumpRuns.{stays_on}
+use Rattle.dcm_tools.proofs.OpenLists.{stays_on}
 
 -- ---- atoms, one after another
 

@@ -5,11 +5,13 @@ ghost use Rattle.dcm_base.specs.Bars.{no_bar};
 ghost use Rattle.dcm_base.specs.Dump.{dump_front};
 ghost use Rattle.dcm_base.specs.Front.{Front};
 ghost use Rattle.dcm_base.specs.Reads.{INPUT_LIMIT, Reads, ended};
+ghost use Rattle.dcm_base.specs.Recode.{recode};
 ghost use Rattle.dcm_base.specs.Steps.{outputs};
 ghost use Rattle.dcm_base.specs.Stop.{Stop};
 ghost use Rattle.dcm_base.specs.declared.mode.Mode.{Mode};
 ghost use Rattle.dcm_base.specs.declared.syntax.Syntax.{Syntax};
 ghost use Rattle.dcm_tools.specs.DumpSink.{dump_start, dump_step, dump_writes};
+ghost use Rattle.dcm_tools.specs.EncodeSink.{encode_start, encode_step, encode_writes};
 ghost use Rattle.dcm_tools.specs.Laws.{MissesBytes, StaysShallow};
 
 /// Over atoms that show a data set, whole or as far as it was read, the dump sink writes its dump, where an open value misses
@@ -22,4 +24,10 @@ pub fn dump_steps()
 pub fn dump_reads()
     ensures whole { (mode : Mode) (s : Syntax) (start : ℕ) (bytes : List ℕ) (f : Front) (stop : Stop) → start ≤ INPUT_LIMIT → Reads no_bar s start bytes f stop → outputs dump_step dump_writes (dump_start mode) (front_atoms s f) ≡ dump_front mode 0 f }
     ensures so_far { (mode : Mode) (s : Syntax) (start : ℕ) (bytes : List ℕ) (f : Front) (stop : Stop) → start ≤ INPUT_LIMIT → is_closed f ≡ false → Reads no_bar s start bytes (ended stop f) stop → outputs dump_step dump_writes (dump_start mode) (front_atoms s f) ≡ dump_front mode 0 f }
+{}
+
+/// Over atoms that show a data set, whole or as far as it was read, the encode sink writes it in the target syntax, where no
+/// more than 64 sequences and fragment lists are open at a time.
+pub fn encode_steps()
+    ensures { (target : Syntax) (f : Front) (atoms : List Atom) → StaysShallow 0 atoms → Shows f atoms → outputs encode_step encode_writes (encode_start target) atoms ≡ recode target f }
 {}
