@@ -185,7 +185,7 @@ module _ (target : Syntax) where
   mutual
     unfolding ShowTrees recode_set
 
-    trees_encode : (k : ℕ) (x : Trees) (atoms after : List Atom) → StaysShallow k atoms → ShowTrees x atoms after → ready atoms ≡ recode_set target x ++ ready after
+    pub trees_encode : (k : ℕ) (x : Trees) (atoms after : List Atom) → StaysShallow k atoms → ShowTrees x atoms after → ready atoms ≡ recode_set target x ++ ready after
     trees_encode k no_tree atoms after h w = ap ready w
     trees_encode k (leaf tag vr value rest) atoms after h w =
         let s : Syntax = w.0 in
@@ -265,7 +265,7 @@ module _ (target : Syntax) where
         trees_encode k whole atoms w.0 h w.1
         ∙ ap (λ z. recode_set target whole ++ z) (open_encodes k open_tree closed w.0 (stays_trees k whole atoms w.0 w.1 h) w.2)
 
-    open_encodes : (k : ℕ) (o : OpenTree) (closed : Bool) (atoms : List Atom) → StaysShallow k atoms → ShowsOpen o (end_atoms closed) atoms → ready atoms ≡ recode_open target o
+    pub open_encodes : (k : ℕ) (o : OpenTree) (closed : Bool) (atoms : List Atom) → StaysShallow k atoms → ShowsOpen o (end_atoms closed) atoms → ready atoms ≡ recode_open target o
     open_encodes k nothing_open closed atoms h w = ap ready w ∙ end_encodes closed
     open_encodes k (open_leaf tag vr size value) closed atoms h w =
         let s : Syntax = w.0 in

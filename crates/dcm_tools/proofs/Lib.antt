@@ -8,6 +8,7 @@ pub mod OpenLists
 pub mod DumpRuns
 pub mod MetaLines
 pub mod Shallow
+pub mod IsRead
 pub mod DumpReads
 pub mod Turned
 pub mod Copies
@@ -15,3 +16,4 @@ pub mod Dropping
 pub mod Evened
 pub mod EncodeValues
 pub mod EncodeRuns
+pub mod EncodeReads

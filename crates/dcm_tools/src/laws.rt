@@ -1,7 +1,7 @@
 //! Laws of the definitions. Each function takes nothing and makes no call: its contract is the law.
 ghost use Rattle.std.specs.Prelude.{◌≡◌, ◌≤◌, ℕ, List, false};
 ghost use Rattle.dcm_base.specs.Atoms.{Atom, Shows, front_atoms, is_closed};
-ghost use Rattle.dcm_base.specs.Bars.{no_bar};
+ghost use Rattle.dcm_base.specs.Bars.{no_bar, target_bar};
 ghost use Rattle.dcm_base.specs.Dump.{dump_front};
 ghost use Rattle.dcm_base.specs.Front.{Front};
 ghost use Rattle.dcm_base.specs.Reads.{INPUT_LIMIT, Reads, ended};
@@ -10,8 +10,10 @@ ghost use Rattle.dcm_base.specs.Steps.{outputs};
 ghost use Rattle.dcm_base.specs.Stop.{Stop};
 ghost use Rattle.dcm_base.specs.declared.mode.Mode.{Mode};
 ghost use Rattle.dcm_base.specs.declared.syntax.Syntax.{Syntax};
+ghost use Rattle.dcm_stream.specs.Driven.{bars_by};
+ghost use Rattle.dcm_stream.specs.Follows.{BarsAs};
 ghost use Rattle.dcm_tools.specs.DumpSink.{dump_start, dump_step, dump_writes};
-ghost use Rattle.dcm_tools.specs.EncodeSink.{encode_start, encode_step, encode_writes};
+ghost use Rattle.dcm_tools.specs.EncodeSink.{encode_bar, encode_start, encode_step, encode_writes};
 ghost use Rattle.dcm_tools.specs.Laws.{MissesBytes, StaysShallow};
 
 /// Over atoms that show a data set, whole or as far as it was read, the dump sink writes its dump, where an open value misses
@@ -30,4 +32,15 @@ pub fn dump_reads()
 /// more than 64 sequences and fragment lists are open at a time.
 pub fn encode_steps()
     ensures { (target : Syntax) (f : Front) (atoms : List Atom) → StaysShallow 0 atoms → Shows f atoms → outputs encode_step encode_writes (encode_start target) atoms ≡ recode target f }
+{}
+
+/// So it is with all that is read of an input for a target syntax, and with what was read of it so far.
+pub fn encode_reads()
+    ensures whole { (target s : Syntax) (start : ℕ) (bytes : List ℕ) (f : Front) (stop : Stop) → start ≤ INPUT_LIMIT → Reads (target_bar target) s start bytes f stop → outputs encode_step encode_writes (encode_start target) (front_atoms s f) ≡ recode target f }
+    ensures so_far { (target s : Syntax) (start : ℕ) (bytes : List ℕ) (f : Front) (stop : Stop) → start ≤ INPUT_LIMIT → is_closed f ≡ false → Reads (target_bar target) s start bytes (ended stop f) stop → outputs encode_step encode_writes (encode_start target) (front_atoms s f) ≡ recode target f }
+{}
+
+/// The sink bars what a conversion to its target bars: the fragment lists that the target has no place for.
+pub fn encode_bars()
+    ensures { (target : Syntax) → BarsAs (bars_by encode_bar encode_step (encode_start target)) (target_bar target) }
 {}
