@@ -18,7 +18,6 @@ use Rattle.dcm_base.specs.Representation.{letters}
 use Rattle.dcm_base.specs.Tree.{Trees, no_tree, leaf, sequence, fragments, Items, no_item, item}
 use Rattle.dcm_base.specs.Front.{Front, front, OpenTree, nothing_open, open_leaf, open_sequence, open_fragments, OpenItem, no_open_item, open_item}
 use Rattle.dcm_base.specs.Spelling.{form}
-use Rattle.dcm_base.specs.Stop.{opens_list}
 use Rattle.dcm_base.specs.Value.{order}
 use Rattle.dcm_base.specs.ValueText.{shape, hexadecimal, text_of, count, shown_so_far, padded, shortened, display}
 use Rattle.dcm_base.specs.Dump.{line_start, line, leaf_line, fragment_line, open_line, sequence_line, item_line, sequence_end_line, item_end_line, dump_set, dump_items, dump_front, dump_open, dump_open_item, open_fragment}
@@ -30,7 +29,7 @@ use Rattle.dcm_value.proofs.TextSteps.{whole_text, whole_count, text_so_far}
 use Rattle.dcm_tools.specs.declared.lines.Owner.TheVariants.{Element, Fragment}
 use Rattle.dcm_tools.specs.Layout.{line_rest}
 use Rattle.dcm_tools.specs.DumpSink.{dump_start, deeper, dump_opens, dump_opens_writes}
-use Rattle.dcm_tools.specs.Laws.{lists_behind, StaysShallow, FragmentMisses, MissesBytes, TreeMisses, ItemMisses}
+use Rattle.dcm_tools.specs.Laws.{StaysShallow, FragmentMisses, MissesBytes, TreeMisses, ItemMisses}
 use Rattle.dcm_tools.proofs.OpenLists.{stays_on, stays_opened, stays_bytes, stays_fragments, stays_same, stays_trees, stays_items}
 use Rattle.dcm_tools.proofs.Showing.{between, lost}
 use Rattle.dcm_tools.specs.DumpSink.{no_value}

@@ -1,7 +1,6 @@
 -- What the encode sink bars, and what it writes of what a machine shows.
 use Rattle.std.proofs.Common.{◌≡◌, ◌∙◌, ap, refl, ℕ, ◌≤◌, List, [], ◌∷◌, ◌++◌, Bool, true, false, cond, Option, Some, None}
 use Rattle.std.specs.Prelude.{fold, ◌==◌}
-use Rattle.dcm_base.specs.declared.tag.Tag.{Tag}
 use Rattle.dcm_base.specs.declared.vr.Vr.{Vr}
 use Rattle.dcm_base.specs.declared.syntax.Syntax.{Syntax}
 use Rattle.dcm_base.specs.declared.syntax.Syntax.TheVariants.{Implicit, Little, Big}
@@ -21,7 +20,7 @@ use Rattle.dcm_head.specs.declared.head.Head.{Head}
 use Rattle.dcm_stream.specs.declared.token.Bar.{Bar as SinkBar}
 use Rattle.dcm_stream.specs.declared.token.Bar.TheVariants.{Fragments}
 use Rattle.dcm_stream.specs.Follows.{BarsAs}
-use Rattle.dcm_stream.specs.Driven.{bars_by, BarsNone, BarsFragments}
+use Rattle.dcm_stream.specs.Driven.{bars_by}
 use Rattle.dcm_stream.proofs.Driven.{bars_none, bars_fragments}
 use Rattle.dcm_stream.proofs.Judged.{NeverEarly}
 use Rattle.dcm_stream.proofs.Waits.{sinks_never_early}
