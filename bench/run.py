@@ -292,14 +292,14 @@ def machine():
 def main():
     top = Path(__file__).resolve().parent.parent
     options = argparse.ArgumentParser(description=__doc__.splitlines()[0])
-    options.add_argument("--binary", default=str(top / "crates/dcm_cli/out/dcm_cli"))
+    options.add_argument("--binary", default=str(top / "crates/dcmtools/out/dcmtools"))
     options.add_argument("--mebibytes", type=int, default=512, help="pixels of the large inputs")
     options.add_argument("--full-mebibytes", type=int, default=32, help="pixels of the inputs that are shown whole")
     options.add_argument("--rounds", type=int, default=5)
     options.add_argument("--starts", type=int, default=200)
     chosen = options.parse_args()
     if not os.access(chosen.binary, os.X_OK):
-        sys.exit(f"{chosen.binary} is not there: build it by `cd crates/dcm_cli && rt run -- dcmdump ../../examples/name.dcm`")
+        sys.exit(f"{chosen.binary} is not there: build it by `cd crates/dcmtools && rt run -- dcmdump ../../examples/name.dcm`")
     run = programs(os.path.abspath(chosen.binary))
     print(f"Before: {machine()}")
     with tempfile.TemporaryDirectory() as folder:

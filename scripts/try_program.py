@@ -3,7 +3,7 @@
 
     scripts/try_program.py [BINARY]
 
-BINARY is crates/dcm_cli/out/dcm_cli if it is not given. Exits with 0 if each case ends as it should.
+BINARY is crates/dcmtools/out/dcmtools if it is not given. Exits with 0 if each case ends as it should.
 """
 import os
 import subprocess
@@ -55,7 +55,7 @@ def ends_well(binary, folder, words, status, line):
 
 
 def main():
-    binary = os.path.abspath(sys.argv[1] if len(sys.argv) > 1 else os.path.join(ROOT, "crates/dcm_cli/out/dcm_cli"))
+    binary = os.path.abspath(sys.argv[1] if len(sys.argv) > 1 else os.path.join(ROOT, "crates/dcmtools/out/dcmtools"))
     wrong = 0
     with tempfile.TemporaryDirectory() as folder:
         prepare(folder)

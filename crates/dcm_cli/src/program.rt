@@ -1,17 +1,4 @@
-//! The tools of dcmtools.
-#![tactic(auto)]
-
-mod devices;
-mod dump;
-mod ending;
-mod head;
-mod job;
-mod laws;
-mod pass;
-mod run;
-mod told;
-mod words;
-
+// The program: words, devices, and the exit status.
 use crate::devices::{errors, open_input, open_output};
 use crate::job::Planned;
 use crate::run::run;
@@ -88,7 +75,8 @@ fn tell_usage(usage: &Usage, rt: HostRuntime) -> u8 {
     tell(usage, &mut Watched::new(Std::new(errors(rt))))
 }
 
-fn status(rt: HostRuntime) -> u8 {
+/// Does what the words of the command line say, with the devices that they name, and answers the exit status.
+pub fn dcmtools(rt: HostRuntime) -> u8 {
     let words = match read_words(rt) {
         Ok(words) => words,
         Err(e) => return tell_unread_words(&e, rt),
@@ -102,10 +90,3 @@ fn status(rt: HostRuntime) -> u8 {
         Err(usage) => tell_usage(&usage, rt),
     }
 }
-
-fn main(rt: HostRuntime) -> ExitCode {
-    ExitCode::from(status(rt))
-}
-
-#[cfg(test)]
-mod tests;
