@@ -16,7 +16,7 @@ bytes_same n [] = refl
 bytes_same n (b ∷ bytes) = refl
 
 -- outside of dropped elements
-abbrev live : EncodeState → Option Copying → EncodeState
+abbrev pub live : EncodeState → Option Copying → EncodeState
 live s copying = record s { dropped = None; copying = copying }
 
 still : (s : EncodeState) (copying : Option Copying) → s.dropped ≡ None → s.copying ≡ copying → s ≡ live s copying
@@ -26,7 +26,7 @@ none_over : (s : EncodeState) (bytes : List ℕ) → (fold encode_step (live s N
 none_over s [] = (refl, refl)
 none_over s (b ∷ bytes) = none_over s bytes
 
-some_over : (s : EncodeState) (c : Copying) (bytes : List ℕ) → (fold encode_step (live s (Some c)) (map value_byte bytes) ≡ live s (Some (fold copies c bytes)))
+pub some_over : (s : EncodeState) (c : Copying) (bytes : List ℕ) → (fold encode_step (live s (Some c)) (map value_byte bytes) ≡ live s (Some (fold copies c bytes)))
     × (outputs encode_step encode_writes (live s (Some c)) (map value_byte bytes) ≡ outputs copies copy_writes c bytes)
 some_over s c [] = (refl, refl)
 some_over s c (b ∷ bytes) = let more = some_over s (copies c b) bytes in (more.0, ap (λ z. copy_writes c b ++ z) more.1)

@@ -1,5 +1,5 @@
 -- A value, whole or open, that the encode sink takes byte by byte.
-use Rattle.std.proofs.Common.{◌≡◌, ◌≢◌, ◌<◌, ◌≤◌, ℕ, zero, suc, ◌+◌, ◌*◌, ◌/◌, ◌%◌, ◌==◌, List, [], ◌∷◌, ◌++◌, length, take, drop, reverse, ap, sym, ◌∙◌, refl, append_assoc, arith, map, flat_map, Bool, true, false, cond, not, Some, None}
+use Rattle.std.proofs.Common.{◌≡◌, ◌≢◌, ◌<◌, ◌≤◌, ℕ, zero, suc, ◌+◌, ◌*◌, ◌/◌, ◌%◌, ◌==◌, List, [], ◌∷◌, ◌++◌, length, take, drop, reverse, ap, sym, ◌∙◌, refl, append_assoc, arith, map, flat_map, fold, Bool, true, false, cond, not, Some, None}
 use Rattle.std.proofs.lemmas.Bool.{cases_lt}
 use Rattle.std.proofs.lemmas.Bool.Decides.{eqb_tells}
 use mathlib.Core.Logic.{⊎_elim}
@@ -14,9 +14,12 @@ use Rattle.dcm_base.specs.Value.{units, order, evened, whole_part, rest_part, tu
 use Rattle.dcm_base.specs.Recode.{leaf_bytes, too_long}
 use Rattle.dcm_base.specs.Atoms.{Atom, value_byte, closes_leaf}
 use Rattle.dcm_base.specs.Steps.{outputs}
-use Rattle.dcm_base.proofs.UnitLaws.{units_cons, units_none, cut, left, cut_units}
+use Rattle.dcm_base.proofs.Runs.{outputs-append}
+use Rattle.dcm_base.proofs.UnitLaws.{units_cons, units_none}
 use Rattle.dcm_base.proofs.OrderLaws.{keeps_length}
 use Rattle.dcm_base.proofs.Order.{rest_cons, rest_short, turned_cons, turned_short, turned_unit, unit_some}
+use Rattle.dcm_tools.proofs.Copies.{copies_rest, copies_units}
+use Rattle.dcm_tools.proofs.Dropping.{some_over}
 use Rattle.dcm_tools.specs.EncodeSink.{Copying, EncodeState, turns, ordered, padding, leaf_copy, fragment_copy, encode_start, encode_step, encode_writes}
 
 -- ---- a unit on its way from one order to another
@@ -87,18 +90,6 @@ module _ (k : ℕ) (some : 0 < k) where
 
   whole_short : (v : List ℕ) → length v < k → whole_part k v ≡ []
   whole_short v l = ap (λ n. take (n * k) v) (div-eq_of_lt l) ∙ ap (λ n. take n v) (let e : 0 * k ≡ 0 = omega arith in e)
-
-  -- what is left of the last unit is the rest
-  left_rest : (h v : List ℕ) → length h < k → left k some h v ≡ rest_part k (h ++ v)
-  unfolding left
-  left_rest h [] l = sym (ap (rest_part k) (append-nil h) ∙ rest_short k some h l)
-  left_rest h (b ∷ bs) l =
-      let u : List ℕ = h ++ b ∷ [] in
-      let long : length u ≡ length h + 1 = length-append h (b ∷ []) in
-      ⊎_elim
-      (λ t. ap (λ t. cond t (left k some [] bs) (left k some u bs)) t.0 ∙ left_rest [] bs some ∙ sym (rest_cons k some u bs t.1) ∙ ap (rest_part k) (append_assoc h (b ∷ []) bs))
-      (λ t. ap (λ t. cond t (left k some [] bs) (left k some u bs)) t.0 ∙ left_rest u bs (let ne : length u ≢ k = t.1 in omega arith) ∙ ap (rest_part k) (append_assoc h (b ∷ []) bs))
-      (eqb_tells (length u) k)
 
   -- the units of a value in one order, each put into another
   module _ (f g one : List ℕ → List ℕ) (uf : Unitwise k f) (ug : Unitwise k g) (each : (u : List ℕ) → length u ≡ k → one (f u) ≡ g u) where
@@ -181,19 +172,14 @@ module _ (target source : Syntax) (vr : Vr) (size : ℕ) where
   abbrev holding : List ℕ → EncodeState
   holding held = sending target (record { unit = unit vr; is_turned = turns source target vr size; held = held; padding = padding size (pad vr) })
 
-  copied : (held bytes : List ℕ) (others : List Atom)
-      → encodes (holding held) (map value_byte bytes ++ others) ≡ flat_map one (cut (unit vr) some held bytes) ++ encodes (holding (left (unit vr) some held bytes)) others
-  unfolding cut left
-  copied held [] others = refl
-  copied held (b ∷ bs) others = by_unit (length (held ++ b ∷ []) == unit vr) (copied [] bs others) (copied (held ++ b ∷ []) bs others)
-    where
-      by_unit : (t : Bool)
-          → encodes (holding []) (map value_byte bs ++ others) ≡ flat_map one (cut (unit vr) some [] bs) ++ encodes (holding (left (unit vr) some [] bs)) others
-          → encodes (holding (held ++ b ∷ [])) (map value_byte bs ++ others) ≡ flat_map one (cut (unit vr) some (held ++ b ∷ []) bs) ++ encodes (holding (left (unit vr) some (held ++ b ∷ []) bs)) others
-          → cond t (one (held ++ b ∷ [])) [] ++ encodes (holding (cond t [] (held ++ b ∷ []))) (map value_byte bs ++ others)
-          ≡ flat_map one (cond t ((held ++ b ∷ []) ∷ cut (unit vr) some [] bs) (cut (unit vr) some (held ++ b ∷ []) bs)) ++ encodes (holding (cond t (left (unit vr) some [] bs) (left (unit vr) some (held ++ b ∷ []) bs))) others
-      by_unit true a c = ap (λ z. one (held ++ b ∷ []) ++ z) a ∙ sym (append_assoc (one (held ++ b ∷ [])) _ _)
-      by_unit false a c = c
+  copied : (bytes : List ℕ) (others : List Atom)
+      → encodes (holding []) (map value_byte bytes ++ others) ≡ flat_map one (units (unit vr) bytes) ++ encodes (holding (rest_part (unit vr) bytes)) others
+  copied bytes others =
+      let c : Copying = leaf_copy source target vr size in
+      let over = some_over (encode_start target) c bytes in
+      outputs-append encode_step encode_writes (holding []) (map value_byte bytes) others
+      ∙ ap (λ z. z ++ encodes (fold encode_step (holding []) (map value_byte bytes)) others) (over.1 ∙ copies_units c some some bytes)
+      ∙ ap (λ (s : EncodeState). flat_map one (units (unit vr) bytes) ++ encodes s others) (over.0 ∙ ap (λ (d : Copying). sending target d) (copies_rest c some some bytes))
 
   in_parts : (value : List ℕ) → Parts (unit vr) some (order source vr) (leaf_bytes target vr size) one (order_unitwise source vr) (bytes_unitwise target vr size) (unit_ordered source target vr size) value
   in_parts value = parts (unit vr) some (order source vr) (leaf_bytes target vr size) one (order_unitwise source vr) (bytes_unitwise target vr size) (unit_ordered source target vr size) value
@@ -206,10 +192,9 @@ module _ (target source : Syntax) (vr : Vr) (size : ℕ) where
       let raw : List ℕ = order source vr value in
       let k : ℕ = unit vr in
       let p = in_parts value in
-      copied [] raw others
-      ∙ ap (λ us. flat_map one us ++ encodes (holding (left k some [] raw)) others) (cut_units k some [] raw some)
-      ∙ ap (λ z. z ++ encodes (holding (left k some [] raw)) others) p.in_units
-      ∙ ap (λ h. leaf_bytes target vr size (whole_part k value) ++ encodes (holding h) others) (left_rest k some [] raw some ∙ p.rest)
+      copied raw others
+      ∙ ap (λ z. z ++ encodes (holding (rest_part k raw)) others) p.in_units
+      ∙ ap (λ h. leaf_bytes target vr size (whole_part k value) ++ encodes (holding h) others) p.rest
 
   -- and its rest and its pad byte at its end
   pub copied_leaf : (value : List ℕ) (others : List Atom) → length value ≡ size

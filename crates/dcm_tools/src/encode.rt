@@ -57,7 +57,7 @@ impl<'w, W: DeviceOut> Sink for EncodeSink<'w, W> {
     }
 
     fn accepts(&self, head: &Head) -> Result<(), Bar> {
-        if self.encoder.target() == Syntax::Little {
+        if self.encoder.holds_fragments() {
             return Ok(());
         }
         match form_of(Syntax::Little, head.vr, head.length) {

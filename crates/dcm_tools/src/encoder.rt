@@ -2,6 +2,7 @@
 ghost use Rattle.std.specs.Prelude.{◌≡◌, ◌<◌, if◌then◌else◌, OnOk, None, Some, map, fold, false, true};
 ghost use Rattle.std.specs.Int.{w32};
 ghost use Rattle.dcm_base.specs.Atoms.{opens, value_byte, closes_leaf, opens_fragment};
+ghost use Rattle.dcm_base.specs.Bars.{holds_fragments as syntax_holds_fragments};
 ghost use Rattle.dcm_base.specs.Device.{Puts, Tells};
 ghost use Rattle.dcm_base.specs.Recode as recode;
 ghost use Rattle.dcm_base.specs.Representation.{is_long as has_long_form};
@@ -143,11 +144,11 @@ impl Encoder {
         }
     }
 
-    /// The syntax that is written.
-    pub fn target(&self) -> Syntax
-        ensures { result ≡ (state self.now).target }
+    /// Whether the syntax that is written has fragment lists (PS3.5 A.4).
+    pub fn holds_fragments(&self) -> bool
+        ensures { result ≡ syntax_holds_fragments (state self.now).target }
     {
-        self.target
+        matches!(self.target, Syntax::Little)
     }
 
     /// An element that is not written begins.
