@@ -50,3 +50,5 @@ pub mod LinesBack
 pub mod LineMeanings
 pub mod LinesRead
 pub mod Rebuilt
+pub mod NormalForm
+pub mod Fits

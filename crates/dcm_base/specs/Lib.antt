@@ -22,6 +22,7 @@ pub mod ValueText
 pub mod Dump
 pub mod Header
 pub mod Recode
+pub mod Normal
 pub mod NewMeta
 pub mod Edit
 pub mod Ascending

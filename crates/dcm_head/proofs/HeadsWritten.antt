@@ -101,7 +101,7 @@ nothing_behind n bytes e = sym (drop_all n bytes (omega arith))
 eight : (bytes : List ℕ) → length bytes ≡ 8 → 8 ≤ length bytes
 eight bytes e = omega arith
 
-item_spelled : (s : Syntax) (t : Tag) (l : Length) → IsTag t → t ≡ item_tag → FitsLong l → ItemHead s l (plain_head s t l) []
+pub item_spelled : (s : Syntax) (t : Tag) (l : Length) → IsTag t → t ≡ item_tag → FitsLong l → ItemHead s l (plain_head s t l) []
 item_spelled s t l h e fits =
     let size = plain_size s t l in
     record {
@@ -111,7 +111,7 @@ item_spelled s t l h e fits =
       after_is = nothing_behind 8 (plain_head s t l) size;
     }
 
-delimiter_spelled : (s : Syntax) (t : Tag) (l : Length) → IsTag t → Delimiter s t (plain_head s t l) []
+pub delimiter_spelled : (s : Syntax) (t : Tag) (l : Length) → IsTag t → Delimiter s t (plain_head s t l) []
 delimiter_spelled s t l h =
     let size = plain_size s t l in
     record {
@@ -173,7 +173,7 @@ and_false : (b : Bool) → (b && false) ≡ false
 and_false true = refl
 and_false false = refl
 
-element_spelled : (s : Syntax) (t : Tag) (vr : Vr) (l : Length) → IsTag t → MatchBool (is_explicit s) (Unit {0}) (vr ≡ dict_vr t)
+pub element_spelled : (s : Syntax) (t : Tag) (vr : Vr) (l : Length) → IsTag t → MatchBool (is_explicit s) (Unit {0}) (vr ≡ dict_vr t)
     → ((is_explicit s && not (is_long vr)) ≡ true → FitsShort l) → ((is_explicit s && not (is_long vr)) ≡ false → FitsLong l) → PlainHead s t vr l (head s t vr l) []
 element_spelled Implicit t vr l tag told short wide = implicit_spelled t vr l tag told (wide refl)
 element_spelled Little t vr l tag told short wide = explicit_spelled Little t vr l (λ e. cc) tag (λ e. short (ap not e)) (λ e. wide (ap not e))

@@ -17,3 +17,10 @@ pub mod Evened
 pub mod EncodeValues
 pub mod EncodeRuns
 pub mod EncodeReads
+pub mod Ready
+pub mod Written
+pub mod Onward
+pub mod WrittenRead
+pub mod Accepted
+pub mod Sources
+pub mod RecodeReads

@@ -6,3 +6,4 @@ pub mod Copier
 pub mod Encoder
 pub mod Lines
 pub mod Laws
+pub mod Conversion

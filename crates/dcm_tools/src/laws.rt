@@ -5,13 +5,15 @@ ghost use Rattle.dcm_base.specs.Bars.{no_bar, target_bar};
 ghost use Rattle.dcm_base.specs.Dump.{dump_front};
 ghost use Rattle.dcm_base.specs.Front.{Front};
 ghost use Rattle.dcm_base.specs.Reads.{INPUT_LIMIT, Reads, ended};
+ghost use Rattle.dcm_base.specs.Normal.{normal_front};
 ghost use Rattle.dcm_base.specs.Recode.{recode};
 ghost use Rattle.dcm_base.specs.Steps.{outputs};
-ghost use Rattle.dcm_base.specs.Stop.{Stop};
+ghost use Rattle.dcm_base.specs.Stop.{Stop, complete};
 ghost use Rattle.dcm_base.specs.declared.mode.Mode.{Mode};
 ghost use Rattle.dcm_base.specs.declared.syntax.Syntax.{Syntax};
 ghost use Rattle.dcm_stream.specs.Driven.{bars_by};
 ghost use Rattle.dcm_stream.specs.Follows.{BarsAs};
+ghost use Rattle.dcm_tools.specs.Conversion.{Converts};
 ghost use Rattle.dcm_tools.specs.DumpSink.{dump_start, dump_step, dump_writes};
 ghost use Rattle.dcm_tools.specs.EncodeSink.{encode_bar, encode_start, encode_step, encode_writes};
 ghost use Rattle.dcm_tools.specs.Laws.{MissesBytes, StaysShallow};
@@ -43,4 +45,14 @@ pub fn encode_reads()
 /// The sink bars what a conversion to its target bars: the fragment lists that the target has no place for.
 pub fn encode_bars()
     ensures { (target : Syntax) → BarsAs (bars_by encode_bar encode_step (encode_start target)) (target_bar target) }
+{}
+
+/// What is converted without fault reads back in the target syntax, without fault, as its normal form.
+pub fn recode_reads()
+    ensures { (target s : Syntax) (start at : ℕ) (bytes : List ℕ) (f : Front) → Converts target s start at bytes f → Reads (target_bar target) target at (recode target f) (normal_front target f) complete }
+{}
+
+/// To convert it again changes nothing.
+pub fn recode_twice()
+    ensures { (target s : Syntax) (start at : ℕ) (bytes : List ℕ) (f g : Front) (stop : Stop) → Converts target s start at bytes f → Reads (target_bar target) target at (recode target f) g stop → (stop ≡ complete) × (recode target g ≡ recode target f) }
 {}

@@ -1,7 +1,7 @@
-use Rattle.std.proofs.Common.{rules, arith, ◌≡◌, ◌<◌, ◌+◌, ◌*◌, ◌++◌, [], length, List, ℕ}
+use Rattle.std.proofs.Common.{rules, arith, ◌≡◌, ◌<◌, ◌+◌, ◌*◌, ◌++◌, [], length, List, ℕ, ap}
 use Rattle.dcm_base.specs.Representation.{unit}
 use Rattle.dcm_tools.specs.Copier.{copying}
-use Rattle.dcm_tools.proofs.Copies.{completed_goes}
+use Rattle.dcm_tools.proofs.Copies.{holding, completed_goes}
 use Rattle.dcm_tools.proofs.copier.Copier.complete.Goals as goal
 
 pub returns-clause-goes : goal.returns-clause-goes
@@ -9,6 +9,5 @@ returns-clause-goes g c =
     let p = copying c.args.self.now in
     let v = c.args.bytes.now in
     let whole : c.as_slice.result.now ≡ p.held ++ v = search rules in
-    let none : _ ≡ record p { held = [] } = search rules in
     let some : 0 < length v = search rules in
-    completed_goes p c.args.self.now.short _ _ v (c.as_slice.result.now) _ c.put_units.result some c.requires whole none c.put_units.ensures.bytes
+    completed_goes p c.args.self.now.short _ _ v (c.as_slice.result.now) _ c.put_units.result some c.requires whole (ap (holding p) (search rules)) c.put_units.ensures.bytes

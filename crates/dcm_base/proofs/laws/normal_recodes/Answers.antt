@@ -1,0 +1,5 @@
+use Rattle.dcm_base.proofs.NormalForm.{recodes_normal, normal_once}
+use Rattle.dcm_base.proofs.laws.normal_recodes.Goals as goal
+
+pub returns : goal.returns
+returns c = record { bytes = recodes_normal; once = normal_once }

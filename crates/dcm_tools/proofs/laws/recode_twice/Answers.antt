@@ -1,0 +1,5 @@
+use Rattle.dcm_tools.proofs.RecodeReads.{recode_twice}
+use Rattle.dcm_tools.proofs.laws.recode_twice.Goals as goal
+
+pub returns : goal.returns
+returns c = recode_twice
