@@ -3,3 +3,4 @@ pub mod Told
 pub mod Answer
 pub mod Pass
 pub mod Run
+pub mod Devices

@@ -1,6 +1,9 @@
 // The devices of a program.
+ghost use Rattle.std.specs.Prelude.{◌≡◌, ◌≢◌, MatchResult, IfOk};
+ghost use Rattle.dcm_cli.specs.Devices.{standard, IsInputAt, IsOutputAt};
+
 use std::fs::File;
-use std::io::{Read, Stderr, Stdin, Stdout, Write};
+use std::io::{Read, Stdin, Stdout, Write};
 use std::{io, str};
 
 /// The path of a standard stream.
@@ -45,7 +48,10 @@ impl Write for Output {
     }
 }
 
-fn path(word: &[u8]) -> io::Result<&str> {
+/// A path as a text.
+fn path(word: &[u8]) -> io::Result<&str>
+    ensures { IfOk result (λ path. path.now ≡ word.now) }
+{
     match str::from_utf8(word) {
         Ok(path) => Ok(path),
         Err(_) => Err(io::Error::from(io::ErrorKind::InvalidFilename)),
@@ -53,7 +59,9 @@ fn path(word: &[u8]) -> io::Result<&str> {
 }
 
 /// Opens an input, `-` for standard input.
-pub fn open_input(rt: HostRuntime, word: &[u8]) -> io::Result<Input> {
+pub fn open_input(rt: HostRuntime, word: &[u8]) -> io::Result<Input>
+    ensures { MatchResult result (λ input. IsInputAt input word.now) (λ _. word.now ≢ standard) }
+{
     if word == STANDARD {
         return Ok(Input::Standard(rt.stdin()));
     }
@@ -61,13 +69,11 @@ pub fn open_input(rt: HostRuntime, word: &[u8]) -> io::Result<Input> {
 }
 
 /// Opens an output, `-` for standard output.
-pub fn open_output(rt: HostRuntime, word: &[u8]) -> io::Result<Output> {
+pub fn open_output(rt: HostRuntime, word: &[u8]) -> io::Result<Output>
+    ensures { MatchResult result (λ output. IsOutputAt output word.now) (λ _. word.now ≢ standard) }
+{
     if word == STANDARD {
         return Ok(Output::Standard(rt.stdout()));
     }
     Ok(Output::File(File::create(&rt, path(word)?)?))
-}
-
-pub fn errors(rt: HostRuntime) -> Stderr {
-    rt.stderr()
 }

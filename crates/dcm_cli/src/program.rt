@@ -1,13 +1,12 @@
 // The program: words, devices, and the exit status.
-use crate::devices::{errors, open_input, open_output};
+use crate::devices::{open_input, open_output};
 use crate::job::Planned;
 use crate::run::run;
 use crate::told::{tell, tell_open};
 use crate::words::plan;
 use dcm_base::{DeviceOut, Std, Usage, Watched, WordFault};
 use std::alloc::AllocError;
-use std::io::BufWriter;
-use std::process::ExitCode;
+use std::io::{BufWriter, Stderr};
 use std::{env, io};
 
 /// The bytes that are written at a time.
@@ -29,9 +28,13 @@ fn views<'a>(rt: HostRuntime, words: &'a [String]) -> Result<Vec<&'a [u8]>, Allo
     Ok(views)
 }
 
+fn standard_error(rt: HostRuntime) -> Watched<Std<Stderr>> {
+    Watched::new(Std::new(rt.stderr()))
+}
+
 /// Opens the devices of a job and runs it. The input is opened before the output.
 fn work(rt: HostRuntime, planned: &Planned) -> u8 {
-    let mut errors = Watched::new(Std::new(errors(rt)));
+    let mut errors = standard_error(rt);
     let mut input = match open_input(rt, planned.input) {
         Ok(input) => Watched::new(Std::new(input)),
         Err(e) => return tell_unopened(&e, false, &mut errors),
@@ -64,7 +67,7 @@ fn tell_unopened<E: DeviceOut>(e: &io::Error, output: bool, errors: &mut Watched
 
 /// Words that are no text are the words of no tool.
 fn tell_unread_words(e: &io::Error, rt: HostRuntime) -> u8 {
-    let mut errors = Watched::new(Std::new(errors(rt)));
+    let mut errors = standard_error(rt);
     match e.kind() {
         io::ErrorKind::OutOfMemory => tell(&Usage::Memory, &mut errors),
         _ => tell(&Usage::AtWord(WordFault::UnknownTool, 1), &mut errors),
@@ -72,7 +75,7 @@ fn tell_unread_words(e: &io::Error, rt: HostRuntime) -> u8 {
 }
 
 fn tell_usage(usage: &Usage, rt: HostRuntime) -> u8 {
-    tell(usage, &mut Watched::new(Std::new(errors(rt))))
+    tell(usage, &mut standard_error(rt))
 }
 
 /// Does what the words of the command line say, with the devices that they name, and answers the exit status.
