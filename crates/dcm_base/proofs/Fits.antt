@@ -1,5 +1,5 @@
 -- Where an implicit head tells a value from a sequence.
-use Rattle.std.proofs.Common.{◌≡◌, ◌≢◌, ◌∙◌, ap, sym, refl, subst, ℕ, List, [], Some, Bool, true}
+use Rattle.std.proofs.Common.{◌≡◌, ◌≢◌, ◌∙◌, ap, sym, refl, subst, ℕ, List, [], true}
 use Rattle.dcm_base.specs.declared.tag.Tag.{Tag}
 use Rattle.dcm_base.specs.declared.vr.Vr.{Vr}
 use Rattle.dcm_base.specs.declared.vr.Vr.TheVariants.{SQ, UN}
@@ -11,23 +11,23 @@ use Rattle.dcm_base.specs.Tree.{Trees, no_tree, leaf, sequence, fragments, Items
 use Rattle.dcm_base.specs.Front.{Front, front}
 use Rattle.dcm_base.specs.Tag.{item_end_tag, sequence_end_tag}
 use Rattle.dcm_base.specs.Dictionary.{dict_vr}
-use Rattle.dcm_base.specs.Head.{ElementHead, vr_at}
+use Rattle.dcm_base.specs.Head.{ElementHead, vr_at, tag_at}
 use Rattle.dcm_base.specs.Spelling.{a_value, a_sequence, form, inside, Enclosed, TreesAt, ItemsAt, SpellsFront}
 use Rattle.dcm_base.specs.Stop.{Stop, complete, refused, Bar}
 use Rattle.dcm_base.specs.Reads.{Reads, ended}
 use Rattle.dcm_base.specs.Recode.{is_explicit}
-use Rattle.dcm_base.specs.Normal.{FitsTarget, ItemsFit, FrontFits}
+use Rattle.dcm_base.specs.Normal.{FitsTarget, ItemsFit, FrontFits, TellsValue, TellsSequence}
 use Rattle.dcm_base.proofs.Heads.{some_same}
 
 -- ---- an explicit target
 
 module _ (target : Syntax) (e : is_explicit target ≡ true) where
-  tells_value : (s : Syntax) (t : Tag) → is_explicit s ≡ true → Rattle.dcm_base.specs.Normal.TellsValue s t
+  tells_value : (s : Syntax) (t : Tag) → is_explicit s ≡ true → TellsValue s t
   tells_value Implicit t h = absurd (cc)
   tells_value Little t h = tt
   tells_value Big t h = tt
 
-  tells_sequence : (s : Syntax) (t : Tag) → is_explicit s ≡ true → Rattle.dcm_base.specs.Normal.TellsSequence s t
+  tells_sequence : (s : Syntax) (t : Tag) → is_explicit s ≡ true → TellsSequence s t
   tells_sequence Implicit t h = absurd (cc)
   tells_sequence Little t h = tt
   tells_sequence Big t h = tt
@@ -52,7 +52,7 @@ explicit_fits target (front whole open_tree reached closed) e = trees_told targe
 
 told_by_dictionary : (t : Tag) (vr : Vr) (l : Length) (b c : List ℕ) → ElementHead Implicit t vr l b c → vr ≡ dict_vr t
 unfolding vr_at
-told_by_dictionary t vr l b c h = some_same vr (dict_vr (Rattle.dcm_base.specs.Head.tag_at Implicit b)) h.vr_is ∙ ap dict_vr (sym h.tag_is)
+told_by_dictionary t vr l b c h = some_same vr (dict_vr (tag_at Implicit b)) h.vr_is ∙ ap dict_vr (sym h.tag_is)
 
 value_told : (vr : Vr) (n : ℕ) → form Implicit vr (Known n) ≡ a_value → vr ≢ SQ
 unfolding form
@@ -82,12 +82,14 @@ mutual
   trees_fit no_tree b p h = tt
   trees_fit (leaf t vr v rest) b p (others, fo, head, more) =
       (λ k. subst (λ (w : Vr). w ≢ SQ) (told_by_dictionary t vr _ b _ head) (value_told vr _ fo), trees_fit rest others p more)
-  trees_fit (sequence t vr declared items rest) b p (contents, others, fo, head, inner, more) =
-      (λ k. (
-        subst (λ (w : Vr). form Implicit w Undefined ≡ a_sequence) (told_by_dictionary t vr declared b contents head) (sequence_told vr declared fo),
-        enclosed_told (inside Implicit vr) sequence_end_tag declared (ItemsAt (inside Implicit vr) items) contents others (ItemsFit Implicit items)
-            (λ c d r. items_fit items c d (subst (λ (s : Syntax). ItemsAt s items c d) (still_implicit vr) r)) inner,
-      ), trees_fit rest others p more)
+  trees_fit (sequence t vr declared items rest) b p (contents, others, fo, head, inner, more) = (
+    λ k. (
+      subst (λ (w : Vr). form Implicit w Undefined ≡ a_sequence) (told_by_dictionary t vr declared b contents head) (sequence_told vr declared fo),
+      enclosed_told (inside Implicit vr) sequence_end_tag declared (ItemsAt (inside Implicit vr) items) contents others (ItemsFit Implicit items)
+          (λ c d r. items_fit items c d (subst (λ (s : Syntax). ItemsAt s items c d) (still_implicit vr) r)) inner,
+    ),
+    trees_fit rest others p more,
+  )
   trees_fit (fragments t vr values rest) b p (contents, others, fo, head, inner, more) = trees_fit rest others p more
 
   items_fit : (x : Items) (b p : List ℕ) → ItemsAt Implicit x b p → ItemsFit Implicit x

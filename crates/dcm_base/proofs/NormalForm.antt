@@ -1,5 +1,5 @@
 -- The normal form of a data set is converted to the same bytes.
-use Rattle.std.proofs.Common.{◌≡◌, ℕ, ◌+◌, ◌%◌, List, [], ◌∷◌, ◌++◌, length, map, flat_map, Bool, true, false, cond, not, refl, sym, ap, ◌∙◌, arith, length-append}
+use Rattle.std.proofs.Common.{◌≡◌, ℕ, ◌%◌, List, [], ◌∷◌, ◌++◌, length, map, flat_map, Bool, true, false, not, refl, ap, ◌∙◌, arith, length-append}
 use Rattle.std.specs.Prelude.{◌==◌, ◌&&◌, if◌then◌else◌, nat_lt}
 use Rattle.std.proofs.lemmas.Bool.Decides.{nat_tests}
 use Rattle.dcm_base.specs.declared.tag.Tag.{Tag}
@@ -50,8 +50,8 @@ normal_size s t vr v =
 same_size : (s : Syntax) (vr : Vr) (n : ℕ) → too_long s vr (even n) ≡ too_long s vr n
 same_size s vr n = ap (λ (k : ℕ). is_explicit s && (not (is_long vr) && nat_lt 65534 k)) (even_even n)
 
--- the head is the same, and the bytes, by whether the value is too long
-module _ (s : Syntax) (t : Tag) (vr : Vr) (n : ℕ) (u : List ℕ) where
+-- the head is the same, and the bytes are, whether the value is too long or not
+module _ (s : Syntax) (t : Tag) (vr : Vr) (n : ℕ) where
   head_again : (c : Bool) → too_long s vr n ≡ c → head s t (if too_long s (if c then UN else vr) (even n) then UN else (if c then UN else vr)) (Known (even (even n))) ≡ head s t (if c then UN else vr) (Known (even n))
   head_again true e = unknown (too_long s UN (even n))
     where
@@ -87,7 +87,7 @@ explicit_again : (s : Syntax) (t : Tag) (vr : Vr) (n m : ℕ) (u : List ℕ) (c 
     → leaf_head s t (if c then UN else vr) m ++ evened (pad (if c then UN else vr)) (leaf_bytes s (if c then UN else vr) m (order s (if c then UN else vr) u)) ≡ head s t (if c then UN else vr) (Known (even n)) ++ u
 explicit_again s t vr n m u c e l k =
     ap (λ (x : ℕ). leaf_head s t (if c then UN else vr) x ++ evened (pad (if c then UN else vr)) (leaf_bytes s (if c then UN else vr) x (order s (if c then UN else vr) u))) k
-    ∙ both (head_again s t vr n u c e) (explicit_same s vr n u c e l)
+    ∙ both (head_again s t vr n c e) (explicit_same s vr n u c e l)
 
 pub leaf_again : (s : Syntax) (t : Tag) (vr : Vr) (v : List ℕ) → recoded_leaf s t (normal_vr s t vr (length v)) (normal_value s t vr v) ≡ recoded_leaf s t vr v
 leaf_again Implicit t vr v =

@@ -1,32 +1,29 @@
 -- A machine over the bytes of heads and values, where no container has a known end.
 use Rattle.std.proofs.Common.{◌≡◌, ℕ, zero, suc, ◌+◌, ◌≤◌, ◌<◌, List, [], ◌∷◌, ◌++◌, length, drop, Option, Some, None, Bool, true, false, cond, not, inl, inr, refl, sym, ap, ◌∙◌, subst, arith, length-append, length-drop, append_assoc}
 use Rattle.std.specs.Prelude.{◌==◌, ◌&&◌, nat_lt, nat_le, fold}
-use Rattle.std.proofs.lemmas.Bool.{cases_Bool, lt-ltb, le-ltb, ne_eqb}
-use Rattle.std.proofs.lemmas.List.{append-nil}
+use Rattle.std.proofs.lemmas.Bool.{cases_Bool, lt-ltb, le-ltb}
 use Rattle.std.proofs.lemmas.List.Sums.{fold-append}
+use Rattle.dcm_base.specs.declared.level.Container.{Container}
 use Rattle.dcm_base.specs.declared.tag.Tag.{Tag}
 use Rattle.dcm_base.specs.declared.vr.Vr.{Vr}
 use Rattle.dcm_base.specs.declared.syntax.Syntax.{Syntax}
 use Rattle.dcm_base.specs.declared.fault.Fault.{Fault}
 use Rattle.dcm_base.specs.declared.fault.Fault.TheVariants.{EndsEarly, UndefinedLength, PassesEnd, TooDeep}
 use Rattle.dcm_base.specs.declared.length.Length.{Length}
-use Rattle.dcm_base.specs.declared.length.Length.TheVariants.{Known, Undefined}
-use Rattle.dcm_base.specs.declared.form.Form.{Form}
-use Rattle.dcm_base.specs.declared.form.Form.TheVariants.{Value as a_value, Sequence as a_sequence, FragmentList as a_fragment_list, Nothing as no_form}
 use Rattle.dcm_base.specs.Number.{number}
 use Rattle.dcm_base.specs.Tag.{is_item, item_tag}
-use Rattle.dcm_base.specs.Head.{ElementHead, ItemHead, Delimiter, tag_at, vr_at, length_at, long_length, head_size}
+use Rattle.dcm_base.specs.Head.{ElementHead, ItemHead, Delimiter, tag_at, vr_at, long_length, head_size}
 use Rattle.dcm_base.specs.Spelling.{form}
 use Rattle.dcm_base.specs.declared.level.Level.{Level}
-use Rattle.dcm_base.specs.Place.{room, passes, depth, is_allowed, is_undefined}
-use Rattle.dcm_base.specs.Stop.{Stop, refused, HeadBar, is_empty, is_the_data_set, is_fragment_list, opens_list, has_no_form, with_length, barred, element_stop, item_stop, head_stop, place_stop, innermost_stop}
+use Rattle.dcm_base.specs.Place.{room, passes, depth, is_allowed, is_undefined, least, distance}
+use Rattle.dcm_base.specs.Stop.{Stop, refused, HeadBar, is_empty, is_the_data_set, is_fragment_list, opens_list, has_no_form, with_length, barred, element_stop, item_stop, head_stop, place_stop, first_case}
 use Rattle.dcm_base.specs.Reads.{INPUT_LIMIT}
-use Rattle.dcm_base.specs.Atoms.{value_byte}
+use Rattle.dcm_base.specs.Atoms.{value_byte, Atom}
 use Rattle.dcm_base.proofs.Extend.{tag_at_extends, vr_at_extends}
 use Rattle.dcm_base.proofs.Heads.{some_same, eight_le_head_size}
 use Rattle.dcm_stream.specs.Reading.{Reading, Opened, closing, element_opens, item_opens, head_opens, ends_at, closes, full_closed, settled, is_undecided, head_read, byte_read, read_byte}
 use Rattle.dcm_stream.proofs.Ends.{tests, element_tests, place_extends}
-use Rattle.dcm_stream.proofs.Judged.{FitsElement, FitsHead, fits_element, fits_item, fits_delimiter, Fits, place_none}
+use Rattle.dcm_stream.proofs.Judged.{FitsHead, fits_element, fits_item, fits_delimiter, Fits, place_none}
 use Rattle.dcm_stream.proofs.Opening.{JustHead, opens_element, opens_other}
 
 -- ---- a reading on its way
@@ -73,7 +70,7 @@ unfolding room
 endless_room position [] h = refl
 endless_room position (inner ∷ outer) h = by_end inner.end_offset (room position outer) h.0 (endless_room position outer h.1)
   where
-    by_end : (e r : Option ℕ) → e ≡ None → r ≡ None → Rattle.dcm_base.specs.Place.least (Rattle.dcm_base.specs.Place.distance position e) r ≡ None
+    by_end : (e r : Option ℕ) → e ≡ None → r ≡ None → least (distance position e) r ≡ None
     by_end None r p q = q
     by_end (Some n) r p q = absurd (cc)
 
@@ -81,12 +78,12 @@ endless_closed : (position : ℕ) (ls : List Level) → Endless ls → full_clos
 unfolding full_closed
 endless_closed position [] h = refl
 endless_closed position (inner ∷ outer) h =
-    ap (λ (e : Option ℕ). cond {A = List Level × List Rattle.dcm_base.specs.Atoms.Atom} (ends_at position e) ((full_closed position outer).0, closes inner.container ∷ (full_closed position outer).1) (inner ∷ outer, [])) h.0
+    ap (λ (e : Option ℕ). cond {A = List Level × List Atom} (ends_at position e) ((full_closed position outer).0, closes inner.container ∷ (full_closed position outer).1) (inner ∷ outer, [])) h.0
 
 pub settled_at : (position : ℕ) (o : Opened) (left : ℕ) → Endless o.levels → (settled position o left).0 ≡ at_value position left o.levels
 settled_at position o (suc n) h = refl
 settled_at position o zero h =
-    let e : (full_closed position o.levels).0 ≡ o.levels = ap (λ (p : List Level × List Rattle.dcm_base.specs.Atoms.Atom). p.0) (endless_closed position o.levels h) in
+    let e : (full_closed position o.levels).0 ≡ o.levels = ap (λ (p : List Level × List Atom). p.0) (endless_closed position o.levels h) in
     ap (λ (ls : List Level). record { position = position; head = []; left = 0; levels = ls; halt = cond (passes 8 (room position ls)) (Some (refused PassesEnd position)) None }) e
     ∙ ap (λ (r : Option ℕ). record { position = position; head = []; left = 0; levels = o.levels; halt = cond (passes 8 r) (Some (refused PassesEnd position)) None }) (endless_room position o.levels h)
 
@@ -152,13 +149,13 @@ asks bar p h inner outer b lt = ap (λ (t : Bool). (byte_read bar (within_head p
 
 waits_by : (r : Reading) (z : List ℕ) (stop : Option Stop) → is_undecided stop ≡ true → (head_read r z stop).0 ≡ record r { head = z }
 waits_by r z None u = absurd (cc)
-waits_by r z (Some stop) u = ap (λ (t : Bool). (cond {A = Reading × List Rattle.dcm_base.specs.Atoms.Atom} t (record r { head = z }, []) (record r { head = []; halt = Some stop }, [])).0) u
+waits_by r z (Some stop) u = ap (λ (t : Bool). (cond {A = Reading × List Atom} t (record r { head = z }, []) (record r { head = []; halt = Some stop }, [])).0) u
 
-opened_at : HeadBar → (position : ℕ) → List ℕ → List Level → Reading
-opened_at bar begin z ls = (settled begin (head_opens begin z ls) (head_opens begin z ls).left).0
+opened_at : (position : ℕ) → List ℕ → List Level → Reading
+opened_at begin z ls = (settled begin (head_opens begin z ls) (head_opens begin z ls).left).0
 
 head_goes : (bar : HeadBar) (p : ℕ) (inner : Level) (outer : List Level) (h : List ℕ) (b : ℕ) (t : List ℕ) → place_stop bar inner (inner ∷ outer) p (h ++ b ∷ t) ≡ None → JustHead inner.syntax (h ++ b ∷ t) → p + length (h ++ b ∷ t) ≤ INPUT_LIMIT
-    → goes bar (within_head p h (inner ∷ outer)) (b ∷ t) ≡ opened_at bar (p + length (h ++ b ∷ t)) (h ++ b ∷ t) (inner ∷ outer)
+    → goes bar (within_head p h (inner ∷ outer)) (b ∷ t) ≡ opened_at (p + length (h ++ b ∷ t)) (h ++ b ∷ t) (inner ∷ outer)
 unfolding opened_at
 head_goes bar p inner outer h b [] none just le =
     asks bar p h inner outer b (omega (arith, length-append h (b ∷ [])))
@@ -172,7 +169,7 @@ head_goes bar p inner outer h b (c ∷ t) none just le =
     (asks bar p h inner outer b (omega (arith, size))
     ∙ waits_by (within_head p h (inner ∷ outer)) (h ++ b ∷ []) (place_stop bar inner (inner ∷ outer) p (h ++ b ∷ [])) (before_whole bar inner (inner ∷ outer) p (h ++ b ∷ []) (c ∷ t) none' just' (omega arith)))
     ∙ head_goes bar p inner outer (h ++ b ∷ []) c t none' just' (subst (λ (z : List ℕ). p + length z ≤ INPUT_LIMIT) (sym same) le)
-    ∙ ap (λ (z : List ℕ). opened_at bar (p + length z) z (inner ∷ outer)) same
+    ∙ ap (λ (z : List ℕ). opened_at (p + length z) z (inner ∷ outer)) same
 
 -- a head that nothing refuses
 pub head_leads : (bar : HeadBar) (p : ℕ) (inner : Level) (outer : List Level) (z : List ℕ) (o : Opened) → place_stop bar inner (inner ∷ outer) p z ≡ None → JustHead inner.syntax z → p + length z ≤ INPUT_LIMIT
@@ -237,7 +234,7 @@ element_free bar s around p z t vr l free h has shallow unbarred =
     roomy n (Some k) e = absurd (cc)
 
     all_free : (c1 c3 c4 c5 : Bool) → c1 ≡ false → c3 ≡ false → c4 ≡ false → c5 ≡ false
-        → Rattle.dcm_base.specs.Stop.first_case ((c1, refused PassesEnd p) ∷ (false, refused EndsEarly (p + length z)) ∷ (c3, refused UndefinedLength p) ∷ (c4, refused PassesEnd p) ∷ (c5, refused TooDeep p) ∷ barred None p) ≡ None
+        → first_case ((c1, refused PassesEnd p) ∷ (false, refused EndsEarly (p + length z)) ∷ (c3, refused UndefinedLength p) ∷ (c4, refused PassesEnd p) ∷ (c5, refused TooDeep p) ∷ barred None p) ≡ None
     all_free false false false false a b c d = refl
     all_free true c3 c4 c5 a b c d = absurd (cc)
     all_free false true c4 c5 a b c d = absurd (cc)
@@ -271,10 +268,10 @@ special_just s t z is g eight = record {
   element = λ v e f. let k : (t.group == 0xFFFE) ≡ false = ap (λ (x : Tag). x.group == 0xFFFE) is ∙ e in absurd (cc);
 }
 
-item_free : (c : Rattle.dcm_base.specs.declared.level.Container.Container) (around : List Level) (p : ℕ) (l : Length) → Endless around → (is_fragment_list c && is_undefined l) ≡ false → item_stop c around p l ≡ None
+item_free : (c : Container) (around : List Level) (p : ℕ) (l : Length) → Endless around → (is_fragment_list c && is_undefined l) ≡ false → item_stop c around p l ≡ None
 item_free c around p l free h = by_tests (is_fragment_list c && is_undefined l) (room p around) h (endless_room p around free)
   where
-    by_tests : (c1 : Bool) (r : Option ℕ) → c1 ≡ false → r ≡ None → Rattle.dcm_base.specs.Stop.first_case ((c1, refused UndefinedLength p) ∷ (passes (with_length 8 l) r, refused PassesEnd p) ∷ []) ≡ None
+    by_tests : (c1 : Bool) (r : Option ℕ) → c1 ≡ false → r ≡ None → first_case ((c1, refused UndefinedLength p) ∷ (passes (with_length 8 l) r, refused PassesEnd p) ∷ []) ≡ None
     by_tests false None a b = refl
     by_tests true r a b = absurd (cc)
     by_tests false (Some n) a b = absurd (cc)

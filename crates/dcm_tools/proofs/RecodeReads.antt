@@ -4,34 +4,29 @@ use Rattle.std.specs.Prelude.{fold, ◌==◌, ◌&&◌}
 use Rattle.std.proofs.lemmas.List.{append-nil}
 use Rattle.dcm_base.specs.declared.tag.Tag.{Tag}
 use Rattle.dcm_base.specs.declared.vr.Vr.{Vr}
-use Rattle.dcm_base.specs.declared.vr.Vr.TheVariants.{SQ, UN}
 use Rattle.dcm_base.specs.declared.syntax.Syntax.{Syntax}
 use Rattle.dcm_base.specs.declared.syntax.Syntax.TheVariants.{Implicit, Little, Big}
 use Rattle.dcm_base.specs.declared.fault.Fault.{Fault}
 use Rattle.dcm_base.specs.declared.fault.Fault.TheVariants.{EndsEarly, FragmentsBarred}
 use Rattle.dcm_base.specs.declared.length.Length.{Length}
-use Rattle.dcm_base.specs.declared.length.Length.TheVariants.{Known, Undefined}
-use Rattle.dcm_base.specs.declared.form.Form.TheVariants.{Value as a_value, Sequence as a_sequence}
-use Rattle.dcm_base.specs.Tree.{Trees, no_tree, leaf, sequence, fragments, Items, no_item, item}
+use Rattle.dcm_base.specs.declared.length.Length.TheVariants.{Undefined}
+use Rattle.dcm_base.specs.Tree.{Trees}
 use Rattle.dcm_base.specs.Front.{Front, front, OpenTree, nothing_open, open_leaf, open_sequence, open_fragments}
 use Rattle.dcm_base.specs.Number.{AreBytes}
-use Rattle.dcm_base.specs.Dictionary.{dict_vr}
-use Rattle.dcm_base.specs.Head.{ElementHead, vr_at, tag_at}
-use Rattle.dcm_base.specs.Spelling.{form, inside, last_tag, Enclosed, TreesAt, ItemsAt, SpellsFront}
-use Rattle.dcm_base.specs.declared.level.Level.{Level}
+use Rattle.dcm_base.specs.Spelling.{form, TreesAt, SpellsFront}
 use Rattle.dcm_base.specs.declared.level.Container.TheVariants.{DataSet as the_data_set}
 use Rattle.dcm_base.specs.Place.{depth}
 use Rattle.dcm_base.specs.Stop.{Stop, complete, refused, Bar, HeadBar, is_empty}
 use Rattle.dcm_base.specs.Bars.{is_fragment_form, target_bar}
 use Rattle.dcm_base.specs.Reads.{INPUT_LIMIT, Reads, ended}
-use Rattle.dcm_base.specs.Recode.{is_explicit, recode, recode_set}
-use Rattle.dcm_base.specs.Normal.{normal, whole_front, normal_front, FitsTarget, ItemsFit, FrontFits}
-use Rattle.dcm_base.specs.Atoms.{Atom, ends, front_atoms, open_atoms, trees_then}
+use Rattle.dcm_base.specs.Recode.{recode, recode_set}
+use Rattle.dcm_base.specs.Normal.{normal, whole_front, normal_front, FitsTarget, FrontFits}
+use Rattle.dcm_base.specs.Atoms.{Atom, ends, front_atoms, trees_then}
 use Rattle.dcm_base.proofs.TextsBack.{bytes_of}
 use Rattle.dcm_base.proofs.Whole.{trees_same, at_end_NoElement}
 use Rattle.dcm_base.proofs.Reading.{reads_once}
 use Rattle.dcm_stream.specs.Reading.{Reading, start_of, is_early_bar, reads_byte, read_all, read_byte, is_top, stop_at_end, finish, end_shows}
-use Rattle.dcm_stream.specs.Follows.{BarsAs, GoesOn}
+use Rattle.dcm_stream.specs.Follows.{BarsAs}
 use Rattle.dcm_stream.proofs.Follow.{answers, follows}
 use Rattle.dcm_tools.specs.Laws.{StaysShallow}
 use Rattle.dcm_tools.specs.Conversion.{Converts}
@@ -39,7 +34,7 @@ use Rattle.dcm_tools.proofs.Shallow.{machine_shallow_ended}
 use Rattle.dcm_base.proofs.NormalForm.{recodes_normal}
 use Rattle.dcm_tools.proofs.Ready.{Ready}
 use Rattle.dcm_tools.proofs.Written.{trees_written}
-use Rattle.dcm_tools.proofs.Onward.{goes_by, goes}
+use Rattle.dcm_tools.proofs.Onward.{goes}
 use Rattle.dcm_tools.proofs.WrittenRead.{target_heads, endless_level, set_takes, trees_read}
 use Rattle.dcm_tools.proofs.Accepted.{AllAccepted, machine_accepted}
 use Rattle.dcm_tools.proofs.Sources.{all_fine, trees_ready}

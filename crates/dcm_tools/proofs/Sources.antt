@@ -1,7 +1,8 @@
 -- What was read without fault has room in a target syntax.
-use Rattle.std.proofs.Common.{◌≡◌, ◌≢◌, ◌∙◌, ap, sym, refl, subst, ℕ, zero, suc, ◌+◌, ◌≤◌, ◌<◌, List, [], ◌∷◌, ◌++◌, length, drop, map, Option, Some, None, Bool, true, false, cond, inl, inr, arith}
-use Rattle.std.specs.Prelude.{fold, ◌==◌, ◌&&◌, slice_index}
+use Rattle.std.proofs.Common.{◌≡◌, ◌≢◌, ◌∙◌, ap, sym, refl, subst, ℕ, zero, suc, ◌≤◌, ◌<◌, List, [], ◌∷◌, ◌++◌, length, drop, map, Some, None, Bool, true, false, cond, arith}
+use Rattle.std.specs.Prelude.{◌==◌, slice_index}
 use Rattle.std.proofs.lemmas.Bool.{eqb-false}
+use Rattle.dcm_base.specs.Place.{is_data}
 use Rattle.dcm_base.specs.declared.tag.Tag.{Tag}
 use Rattle.dcm_base.specs.declared.vr.Vr.{Vr}
 use Rattle.dcm_base.specs.declared.vr.Vr.TheVariants.{SQ, UN, OB, OW}
@@ -19,18 +20,18 @@ use Rattle.dcm_base.specs.Tag.{item_end_tag, sequence_end_tag}
 use Rattle.dcm_base.specs.Dictionary.{dict_vr}
 use Rattle.dcm_base.specs.Representation.{is_long}
 use Rattle.dcm_base.specs.Value.{order}
-use Rattle.dcm_base.specs.Head.{ElementHead, ItemHead, Delimiter, tag_at, vr_at, length_at, long_length, head_size}
+use Rattle.dcm_base.specs.Head.{ElementHead, tag_at, length_at, long_length, head_size}
 use Rattle.dcm_base.specs.Spelling.{form, inside, Enclosed, FragmentsAt, TreesAt, ItemsAt}
 use Rattle.dcm_base.specs.Stop.{HeadBar, opens_list}
 use Rattle.dcm_base.specs.Bars.{is_fragment_form}
 use Rattle.dcm_base.specs.Recode.{even, too_long}
-use Rattle.dcm_base.specs.Normal.{normal_vr, normal_sequence_vr, TellsValue, TellsSequence, UnlessGroupLength, FitsTarget, ItemsFit}
-use Rattle.dcm_base.specs.Atoms.{Atom, opens, value_byte, closes_leaf, opens_item, closes_item, closes_sequence, opens_fragment, fragments_then, trees_then, items_then}
+use Rattle.dcm_base.specs.Normal.{normal_vr, normal_sequence_vr, TellsValue, TellsSequence, FitsTarget, ItemsFit}
+use Rattle.dcm_base.specs.Atoms.{Atom, opens, value_byte, closes_leaf, closes_item, closes_sequence, fragments_then, trees_then, items_then}
 use Rattle.dcm_base.proofs.TextsBack.{Bytes}
 use Rattle.dcm_tools.specs.Laws.{lists_behind, StaysShallow}
 use Rattle.dcm_tools.proofs.OpenLists.{stays_on}
 use Rattle.dcm_tools.proofs.Accepted.{Accepted, AllAccepted}
-use Rattle.dcm_tools.proofs.Ready.{IsElement, AreShort, Ready, ReadyItems}
+use Rattle.dcm_tools.proofs.Ready.{AreShort, Ready, ReadyItems}
 use Rattle.dcm_tools.proofs.WrittenRead.{target_heads}
 
 -- ---- bytes
@@ -151,7 +152,7 @@ lists_of n f t vr l s e = ap (λ (g : Form). cond (opens_list g) (suc n) n) e
 
 -- behind a head
 record Begun (bar : HeadBar) (n m : ℕ) (t : Tag) (vr : Vr) (l : Length) (atoms : List Atom) : Type 0 where
-  accepted : (Rattle.dcm_base.specs.Place.is_data t ≡ true) × (bar t vr l ≡ None)
+  accepted : (is_data t ≡ true) × (bar t vr l ≡ None)
   few : m ≤ 64
   more : Fine bar m atoms
 
@@ -189,11 +190,13 @@ mutual
       let bar : HeadBar = target_heads target in
       let g = begun bar n n t vr (Known (length v)) s (map value_byte (order s vr v) ++ closes_leaf ∷ trees_then s rest others) (lists_of n a_value t vr (Known (length v)) s fo) f in
       let behind = bytes_parts (order s vr v) o (bytes_of_head s t vr (Known (length v)) b (order s vr v ++ o) head k) in
-      let after = trees_ready target s n rest o p others more behind.1 (fine_bytes bar n (order s vr v) (closes_leaf ∷ trees_then s rest others) g.more).2 in
-      ((
-        λ fits. (λ e. ((element_tag s t vr (Known (length v)) b (order s vr v ++ o) head k, g.accepted.0), length_known s vr b (length v) k head.length_is, target_value target s t vr (length v) fo (fits.0 e)), after.0.0 fits.1),
-        after.0.1,
-      ), after.1)
+      let after = trees_ready target s n rest o p others more behind.1 (fine_bytes bar n (order s vr v) (closes_leaf ∷ trees_then s rest others) g.more).2 in (
+        (
+          λ fits. (λ e. ((element_tag s t vr (Known (length v)) b (order s vr v ++ o) head k, g.accepted.0), length_known s vr b (length v) k head.length_is, target_value target s t vr (length v) fo (fits.0 e)), after.0.0 fits.1),
+          after.0.1,
+        ),
+        after.1,
+      )
   trees_ready target s n (sequence t vr declared items rest) b p others (contents, o, fo, head, inner, more) k f =
       let bar : HeadBar = target_heads target in
       let g = begun bar n (suc n) t vr declared s (items_then (inside s vr) items (closes_sequence ∷ trees_then s rest others)) (lists_of n a_sequence t vr declared s fo) f in
@@ -201,11 +204,13 @@ mutual
       (bytes_of_head s t vr declared b contents head k)
       (λ c d kc r. items_ready target (inside s vr) (suc n) items c d (closes_sequence ∷ trees_then s rest others) r kc g.more) inner in
       let after = trees_ready target s n rest o p others more held.1 held.0.1.2 in
-      let few = g.few in
-      ((
-        λ fits. (λ e. ((element_tag s t vr declared b contents head k, g.accepted.0), omega (arith, few), target_sequence target t (fits.0 e).0, held.0.0 (fits.0 e).1), after.0.0 fits.1),
-        after.0.1,
-      ), after.1)
+      let few = g.few in (
+        (
+          λ fits. (λ e. ((element_tag s t vr declared b contents head k, g.accepted.0), omega (arith, few), target_sequence target t (fits.0 e).0, held.0.0 (fits.0 e).1), after.0.0 fits.1),
+          after.0.1,
+        ),
+        after.1,
+      )
   trees_ready target s n (fragments t vr values rest) b p others (contents, o, fo, head, inner, more) k f =
       let bar : HeadBar = target_heads target in
       let g = begun bar n (suc n) t vr Undefined s (fragments_then values (closes_sequence ∷ trees_then s rest others)) (lists_of n a_fragment_list t vr Undefined s fo) f in
@@ -214,11 +219,13 @@ mutual
       let held = enclosed_ready s sequence_end_tag Undefined (FragmentsAt s values) contents o (AreShort values × Fine bar (suc n) (closes_sequence ∷ trees_then s rest others)) (bytes_of_head s t vr Undefined b contents head k)
       (λ c d kc r. fragments_ready s values c d bar (suc n) (closes_sequence ∷ trees_then s rest others) r kc g.more) inner in
       let after = trees_ready target s n rest o p others more held.1 held.0.1.2 in
-      let few = g.few in
-      ((
-        λ fits. (λ e. ((element_tag s t vr Undefined b contents head k, g.accepted.0), omega (arith, few), little, ap (λ (x : Syntax). form x vr Undefined) (little ∙ sym two.0) ∙ fo, held.0.0), after.0.0 fits),
-        after.0.1,
-      ), after.1)
+      let few = g.few in (
+        (
+          λ fits. (λ e. ((element_tag s t vr Undefined b contents head k, g.accepted.0), omega (arith, few), little, ap (λ (x : Syntax). form x vr Undefined) (little ∙ sym two.0) ∙ fo, held.0.0), after.0.0 fits),
+          after.0.1,
+        ),
+        after.1,
+      )
 
   pub items_ready : (target s : Syntax) (n : ℕ) (x : Items) (b p : List ℕ) (others : List Atom) → ItemsAt s x b p → Bytes b → Fine (target_heads target) n (items_then s x others)
       → ((ItemsFit target x → ReadyItems target n x) × Fine (target_heads target) n others) × Bytes p

@@ -1,13 +1,12 @@
 -- The bytes that a data set is converted to spell its normal form.
-use Rattle.std.proofs.Common.{◌≡◌, ◌≢◌, ℕ, suc, ◌<◌, ◌≤◌, List, [], ◌∷◌, ◌++◌, length, map, flat_map, Bool, true, false, cond, not, refl, sym, ap, ◌∙◌, subst, arith, append_assoc}
+use Rattle.std.proofs.Common.{◌≡◌, ◌≢◌, ℕ, suc, ◌<◌, ◌≤◌, List, [], ◌∷◌, ◌++◌, length, map, flat_map, Bool, true, false, not, refl, sym, ap, ◌∙◌, subst, arith, append_assoc}
 use Rattle.std.specs.Prelude.{◌==◌, ◌&&◌, if◌then◌else◌, nat_lt}
 use Rattle.std.proofs.lemmas.Bool.{eqb-false, ltb-false}
 use Rattle.dcm_base.specs.declared.tag.Tag.{Tag}
 use Rattle.dcm_base.specs.declared.vr.Vr.{Vr}
-use Rattle.dcm_base.specs.declared.vr.Vr.TheVariants.{SQ, UN}
+use Rattle.dcm_base.specs.declared.vr.Vr.TheVariants.{SQ, UN, OB, OW}
 use Rattle.dcm_base.specs.declared.syntax.Syntax.{Syntax}
 use Rattle.dcm_base.specs.declared.syntax.Syntax.TheVariants.{Implicit, Little, Big}
-use Rattle.dcm_base.specs.declared.length.Length.{Length}
 use Rattle.dcm_base.specs.declared.length.Length.TheVariants.{Known, Undefined}
 use Rattle.dcm_base.specs.Tree.{Trees, no_tree, leaf, sequence, fragments, Items, no_item, item}
 use Rattle.dcm_base.specs.Number.{IsTag}
@@ -75,8 +74,8 @@ sequence_told s t h = record { no_item = eqb-false _ _ (no_special t h.1); head 
 
 fragments_long : (vr : Vr) → form Little vr Undefined ≡ a_fragment_list → is_long vr ≡ true
 unfolding form
-fragments_long Rattle.dcm_base.specs.declared.vr.Vr.TheVariants.OB e = refl
-fragments_long Rattle.dcm_base.specs.declared.vr.Vr.TheVariants.OW e = refl
+fragments_long OB e = refl
+fragments_long OW e = refl
 fragments_long SQ e = refl
 fragments_long UN e = refl
 fragments_long vr e = absurd (cc)
@@ -131,50 +130,64 @@ three_parts a b c r z = append_assoc ((a ++ b) ++ c) r z ∙ append_assoc (a ++ 
 leaf_at : (s : Syntax) (t : Tag) (vr : Vr) (size : ℕ) (value h u r z : List ℕ) (more : Trees) → length value ≡ size → form s vr (Known size) ≡ a_value → ElementHead s t vr (Known size) h [] → order s vr value ≡ u
     → TreesAt s more (r ++ z) z → TreesAt s (leaf t vr value more) (((h ++ u) ++ r) ++ z) z
 unfolding TreesAt
-leaf_at s t vr size value h u r z more l fo head o rest =
-    (r ++ z, ap (λ (k : ℕ). form s vr (Known k)) l ∙ fo,
-      subst (λ (k : ℕ). ElementHead s t vr (Known k) (((h ++ u) ++ r) ++ z) (order s vr value ++ (r ++ z))) (sym l)
+leaf_at s t vr size value h u r z more l fo head o rest = (
+  r ++ z,
+  ap (λ (k : ℕ). form s vr (Known k)) l ∙ fo,
+  subst (λ (k : ℕ). ElementHead s t vr (Known k) (((h ++ u) ++ r) ++ z) (order s vr value ++ (r ++ z))) (sym l)
       (subst (λ (x : List ℕ). ElementHead s t vr (Known size) x (order s vr value ++ (r ++ z))) (sym (two_parts h u r z))
       (subst (λ (x : List ℕ). ElementHead s t vr (Known size) (h ++ (u ++ (r ++ z))) (x ++ (r ++ z))) (sym o) (element_extends s t vr (Known size) h [] (u ++ (r ++ z)) head))),
-      rest)
+  rest,
+)
 
 sequence_at : (s : Syntax) (t : Tag) (vr : Vr) (items : Items) (h c d r z : List ℕ) (more : Trees) → inside s vr ≡ s → form s vr Undefined ≡ a_sequence → ElementHead s t vr Undefined h [] → Delimiter s sequence_end_tag d []
     → ((y : List ℕ) → ItemsAt s items (c ++ y) y) → TreesAt s more (r ++ z) z → TreesAt s (sequence t vr Undefined items more) ((((h ++ c) ++ d) ++ r) ++ z) z
 unfolding TreesAt
-sequence_at s t vr items h c d r z more i fo head end inner rest =
-    (c ++ (d ++ (r ++ z)), r ++ z, fo,
-      subst (λ (x : List ℕ). ElementHead s t vr Undefined x (c ++ (d ++ (r ++ z)))) (sym (three_parts h c d r z)) (element_extends s t vr Undefined h [] (c ++ (d ++ (r ++ z))) head),
-      (d ++ (r ++ z), subst (λ (x : Syntax). ItemsAt x items (c ++ (d ++ (r ++ z))) (d ++ (r ++ z))) (sym i) (inner (d ++ (r ++ z))),
-        subst (λ (x : Syntax). Delimiter x sequence_end_tag (d ++ (r ++ z)) (r ++ z)) (sym i) (delimiter_extends s sequence_end_tag d [] (r ++ z) end)),
-      rest)
+sequence_at s t vr items h c d r z more i fo head end inner rest = (
+  c ++ (d ++ (r ++ z)),
+  r ++ z,
+  fo,
+  subst (λ (x : List ℕ). ElementHead s t vr Undefined x (c ++ (d ++ (r ++ z)))) (sym (three_parts h c d r z)) (element_extends s t vr Undefined h [] (c ++ (d ++ (r ++ z))) head),
+  (
+    d ++ (r ++ z),
+    subst (λ (x : Syntax). ItemsAt x items (c ++ (d ++ (r ++ z))) (d ++ (r ++ z))) (sym i) (inner (d ++ (r ++ z))),
+    subst (λ (x : Syntax). Delimiter x sequence_end_tag (d ++ (r ++ z)) (r ++ z)) (sym i) (delimiter_extends s sequence_end_tag d [] (r ++ z) end),
+  ),
+  rest,
+)
 
 fragments_at : (s : Syntax) (t : Tag) (vr : Vr) (values : List (List ℕ)) (h c d r z : List ℕ) (more : Trees) → form s vr Undefined ≡ a_fragment_list → ElementHead s t vr Undefined h [] → Delimiter s sequence_end_tag d []
     → ((y : List ℕ) → FragmentsAt s values (c ++ y) y) → TreesAt s more (r ++ z) z → TreesAt s (fragments t vr values more) ((((h ++ c) ++ d) ++ r) ++ z) z
 unfolding TreesAt
-fragments_at s t vr values h c d r z more fo head end inner rest =
-    (c ++ (d ++ (r ++ z)), r ++ z, fo,
-      subst (λ (x : List ℕ). ElementHead s t vr Undefined x (c ++ (d ++ (r ++ z)))) (sym (three_parts h c d r z)) (element_extends s t vr Undefined h [] (c ++ (d ++ (r ++ z))) head),
-      (d ++ (r ++ z), inner (d ++ (r ++ z)), delimiter_extends s sequence_end_tag d [] (r ++ z) end),
-      rest)
+fragments_at s t vr values h c d r z more fo head end inner rest = (
+  c ++ (d ++ (r ++ z)),
+  r ++ z,
+  fo,
+  subst (λ (x : List ℕ). ElementHead s t vr Undefined x (c ++ (d ++ (r ++ z)))) (sym (three_parts h c d r z)) (element_extends s t vr Undefined h [] (c ++ (d ++ (r ++ z))) head),
+  (d ++ (r ++ z), inner (d ++ (r ++ z)), delimiter_extends s sequence_end_tag d [] (r ++ z) end),
+  rest,
+)
 
 item_at : (s : Syntax) (set : Trees) (h c d r z : List ℕ) (more : Items) → ItemHead s Undefined h [] → Delimiter s item_end_tag d []
     → ((y : List ℕ) → TreesAt s set (c ++ y) y) → ItemsAt s more (r ++ z) z → ItemsAt s (item Undefined set more) ((((h ++ c) ++ d) ++ r) ++ z) z
 unfolding ItemsAt
-item_at s set h c d r z more head end inner rest =
-    (c ++ (d ++ (r ++ z)), r ++ z,
-      subst (λ (x : List ℕ). ItemHead s Undefined x (c ++ (d ++ (r ++ z)))) (sym (three_parts h c d r z)) (item_extends s Undefined h [] (c ++ (d ++ (r ++ z))) head),
-      (d ++ (r ++ z), inner (d ++ (r ++ z)), delimiter_extends s item_end_tag d [] (r ++ z) end),
-      rest)
+item_at s set h c d r z more head end inner rest = (
+  c ++ (d ++ (r ++ z)),
+  r ++ z,
+  subst (λ (x : List ℕ). ItemHead s Undefined x (c ++ (d ++ (r ++ z)))) (sym (three_parts h c d r z)) (item_extends s Undefined h [] (c ++ (d ++ (r ++ z))) head),
+  (d ++ (r ++ z), inner (d ++ (r ++ z)), delimiter_extends s item_end_tag d [] (r ++ z) end),
+  rest,
+)
 
 -- ---- fragments
 
 fragment_at : (s : Syntax) (size : ℕ) (value h r z : List ℕ) (values : List (List ℕ)) → length value ≡ size → ItemHead s (Known size) h [] → FragmentsAt s values (r ++ z) z → FragmentsAt s (value ∷ values) (((h ++ value) ++ r) ++ z) z
 unfolding FragmentsAt
-fragment_at s size value h r z values l head rest =
-    (r ++ z,
-      subst (λ (k : ℕ). ItemHead s (Known k) (((h ++ value) ++ r) ++ z) (value ++ (r ++ z))) (sym l)
+fragment_at s size value h r z values l head rest = (
+  r ++ z,
+  subst (λ (k : ℕ). ItemHead s (Known k) (((h ++ value) ++ r) ++ z) (value ++ (r ++ z))) (sym l)
       (subst (λ (x : List ℕ). ItemHead s (Known size) x (value ++ (r ++ z))) (sym (two_parts h value r z)) (item_extends s (Known size) h [] (value ++ (r ++ z)) head)),
-      rest)
+  rest,
+)
 
 fragments_written : (s : Syntax) (values : List (List ℕ)) (z : List ℕ) → AreShort values → FragmentsAt s (map (evened 0) values) (flat_map (recoded_fragment s) values ++ z) z
 unfolding FragmentsAt

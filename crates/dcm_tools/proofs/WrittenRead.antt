@@ -1,37 +1,35 @@
 -- The bytes that a data set is converted to are read without fault.
-use Rattle.std.proofs.Common.{◌≡◌, ◌≢◌, ℕ, zero, suc, ◌+◌, ◌<◌, ◌≤◌, List, [], ◌∷◌, ◌++◌, length, map, flat_map, Option, Some, None, Bool, true, false, cond, not, refl, sym, ap, ◌∙◌, subst, arith}
-use Rattle.std.specs.Prelude.{◌==◌, ◌&&◌, ◌||◌, if◌then◌else◌, nat_lt, nat_le}
+use Rattle.std.proofs.Common.{◌≡◌, ℕ, suc, ◌+◌, ◌<◌, List, [], ◌∷◌, ◌++◌, length, flat_map, Some, None, Bool, true, false, cond, refl, sym, ap, ◌∙◌, subst, arith}
+use Rattle.std.specs.Prelude.{◌==◌, ◌&&◌, ◌||◌, if◌then◌else◌, nat_le}
 use Rattle.std.proofs.lemmas.Bool.Decides.{nat_tests}
 use Rattle.dcm_base.specs.declared.tag.Tag.{Tag}
 use Rattle.dcm_base.specs.declared.vr.Vr.{Vr}
 use Rattle.dcm_base.specs.declared.vr.Vr.TheVariants.{SQ, UN}
 use Rattle.dcm_base.specs.declared.syntax.Syntax.{Syntax}
 use Rattle.dcm_base.specs.declared.syntax.Syntax.TheVariants.{Implicit, Little, Big}
-use Rattle.dcm_base.specs.declared.fault.Fault.{Fault}
 use Rattle.dcm_base.specs.declared.fault.Fault.TheVariants.{FragmentsBarred}
 use Rattle.dcm_base.specs.declared.length.Length.{Length}
 use Rattle.dcm_base.specs.declared.length.Length.TheVariants.{Known, Undefined}
 use Rattle.dcm_base.specs.declared.form.Form.{Form}
-use Rattle.dcm_base.specs.declared.form.Form.TheVariants.{Value as a_value, Sequence as a_sequence, FragmentList as a_fragment_list, Nothing as no_form}
+use Rattle.dcm_base.specs.declared.form.Form.TheVariants.{Value as a_value, Sequence as a_sequence, FragmentList as a_fragment_list}
 use Rattle.dcm_base.specs.Tree.{Trees, no_tree, leaf, sequence, fragments, Items, no_item, item}
 use Rattle.dcm_base.specs.Front.{front, nothing_open}
-use Rattle.dcm_base.specs.Tag.{item_end_tag, sequence_end_tag}
+use Rattle.dcm_base.specs.Tag.{item_end_tag, sequence_end_tag, is_item_end}
 use Rattle.dcm_base.specs.Dictionary.{dict_vr}
 use Rattle.dcm_base.specs.Representation.{pad}
 use Rattle.dcm_base.specs.Value.{evened}
 use Rattle.dcm_base.specs.Head.{ElementHead}
-use Rattle.dcm_base.specs.Spelling.{form, inside}
+use Rattle.dcm_base.specs.Spelling.{form}
 use Rattle.dcm_base.specs.declared.level.Container.{Container}
 use Rattle.dcm_base.specs.declared.level.Level.{Level}
 use Rattle.dcm_base.specs.declared.level.Container.TheVariants.{DataSet as the_data_set, Item as an_item, Sequence as sequence_container, FragmentList as fragment_container}
 use Rattle.dcm_base.specs.Place.{depth, is_data, is_allowed}
 use Rattle.dcm_base.specs.Stop.{HeadBar, opens_list, has_no_form}
 use Rattle.dcm_base.specs.Bars.{is_fragment_form, target_bar}
-use Rattle.dcm_base.specs.Reads.{INPUT_LIMIT}
-use Rattle.dcm_base.specs.Atoms.{Atom, opens, opens_item, opens_fragment}
+use Rattle.dcm_base.specs.Atoms.{opens, opens_item, opens_fragment}
 use Rattle.dcm_base.specs.Recode.{head, even, leaf_head, leaf_bytes, item_head, item_delimiter, sequence_delimiter, recoded_leaf, recoded_fragment, recode_set, recode_items}
 use Rattle.dcm_base.specs.Normal.{normal_vr, normal_sequence_vr, UnlessGroupLength}
-use Rattle.dcm_stream.specs.Reading.{Opened, value_opens, container_opens, element_opens}
+use Rattle.dcm_stream.specs.Reading.{value_opens, container_opens, element_opens}
 use Rattle.dcm_base.proofs.NormalForm.{evened_size, leaf_size}
 use Rattle.dcm_tools.proofs.Ready.{IsElement, AreShort, Ready, ReadyItems}
 use Rattle.dcm_tools.proofs.Written.{no_special, leaf_told, sequence_told, fragments_told, item_told, fragment_told, item_end_told, sequence_end_told, inside_target}
@@ -79,7 +77,7 @@ set_takes t h = h
 
 item_takes : TakesElements an_item Undefined
 unfolding is_allowed
-item_takes t h = ap (λ (x : Bool). x || (true && Rattle.dcm_base.specs.Tag.is_item_end t)) h
+item_takes t h = ap (λ (x : Bool). x || (true && is_item_end t)) h
 
 below_64 : (n : ℕ) → n < 64 → nat_le 64 n ≡ false
 below_64 n h = grind (arith, nat_tests)
