@@ -1,4 +1,8 @@
 // The program: words, devices, and the exit status.
+ghost use Rattle.std.specs.Prelude.{◌≡◌, ◌≢◌};
+ghost use Rattle.std.specs.IoError.{error_kind};
+ghost use Rattle.dcm_cli.specs.Told as spec;
+
 use crate::devices::{open_input, open_output};
 use crate::job::Planned;
 use crate::run::run;
@@ -6,7 +10,7 @@ use crate::told::{tell, tell_open};
 use crate::words::plan;
 use dcm_base::{DeviceOut, Std, Usage, Watched, WordFault};
 use std::alloc::AllocError;
-use std::io::{BufWriter, Stderr};
+use std::io::{BufWriter, ErrorKind, Stderr};
 use std::{env, io};
 
 /// The bytes that are written at a time.
@@ -58,23 +62,33 @@ fn work(rt: HostRuntime, planned: &Planned) -> u8 {
 }
 
 /// Tells that a device cannot be opened.
-fn tell_unopened<E: DeviceOut>(e: &io::Error, output: bool, errors: &mut Watched<E>) -> u8 {
+fn tell_unopened<E: DeviceOut>(e: &io::Error, output: bool, errors: &mut Watched<E>) -> u8
+    ensures line { error_kind e.now ≢ ErrorKind.OutOfMemory → spec.Tries (E.contents errors.old) (E.contents errors.new) (E.has_failed errors.old) (E.has_failed errors.new) (spec.open_line output) }
+    ensures status { error_kind e.now ≢ ErrorKind.OutOfMemory → result ≡ 4 }
+    ensures memory { error_kind e.now ≡ ErrorKind.OutOfMemory → result ≡ 5 }
+{
     match e.kind() {
-        io::ErrorKind::OutOfMemory => tell(&Usage::Memory, errors),
+        ErrorKind::OutOfMemory => tell(&Usage::Memory, errors),
         _ => tell_open(output, errors),
     }
 }
 
 /// Words that are no text are the words of no tool.
-fn tell_unread_words(e: &io::Error, rt: HostRuntime) -> u8 {
+fn tell_unread_words(e: &io::Error, rt: HostRuntime) -> u8
+    ensures status { error_kind e.now ≢ ErrorKind.OutOfMemory → result ≡ 1 }
+    ensures memory { error_kind e.now ≡ ErrorKind.OutOfMemory → result ≡ 5 }
+{
     let mut errors = standard_error(rt);
     match e.kind() {
-        io::ErrorKind::OutOfMemory => tell(&Usage::Memory, &mut errors),
+        ErrorKind::OutOfMemory => tell(&Usage::Memory, &mut errors),
         _ => tell(&Usage::AtWord(WordFault::UnknownTool, 1), &mut errors),
     }
 }
 
-fn tell_usage(usage: &Usage, rt: HostRuntime) -> u8 {
+/// Tells why words are refused, on standard error.
+fn tell_usage(usage: &Usage, rt: HostRuntime) -> u8
+    ensures { result ≡ spec.usage_status usage.now }
+{
     tell(usage, &mut standard_error(rt))
 }
 
