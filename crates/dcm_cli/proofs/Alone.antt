@@ -18,7 +18,8 @@ use Rattle.dcm_cli.specs.declared.ending.Ending.TheVariants.{Unread, Output}
 use Rattle.dcm_cli.specs.Pass.{Pumps}
 use Rattle.dcm_cli.specs.Answer.{alone, uid_of_syntax, going_on}
 use Rattle.dcm_cli.specs.Run.{Worked, answered, could_not_read, could_not_write}
-use Rattle.dcm_cli.proofs.Sets.{SetDumped, set_read, set_unread, set_unwritten, dumped, all_read}
+use Rattle.dcm_cli.proofs.Makers.{dumper}
+use Rattle.dcm_cli.proofs.Sets.{SetMade, set_read, set_unread, set_unwritten, set_made, all_read}
 
 -- what is left of an input, where some of it was read
 pub splits : (had left : Option (List ℕ)) (read file : List ℕ) → had ≡ Some file → had ≡ prepend_known read left → (rest : List ℕ) × (left ≡ Some rest) × (file ≡ read ++ rest)
@@ -31,19 +32,19 @@ module _ (mode : Mode) (s : Syntax) (file : List ℕ) (held : Option (List ℕ))
 
   pub alone_unheaded : (holds : Option (List ℕ)) → AppendsFront held holds header → Worked (dump mode (Some s)) file held holds Output
   alone_unheaded holds begun =
-      let a = all_read mode s 0 (omega arith) held file in
+      let a = all_read (dumper mode) s 0 (omega arith) file in
       could_not_write (alone s a.0 a.1) (record { set = a.0; stop = a.1; reads = a.2; source_is = refl }) refl (front_longer (dump_front mode 0 a.0) begun)
 
   pub alone_worked : (had mid left holds : Option (List ℕ)) (ending : Ending) → had ≡ Some file → mid ≡ append_known held header
       → Pumps bars_nothing dump_step dump_writes had (start_of s 0) (dump_start mode) mid left holds ending → Worked (dump mode (Some s)) file held holds ending
   alone_worked had mid left holds ending some went pumps =
       let parts = splits had left pumps.read file some pumps.given in
-      of_set pumps.read parts.0 parts.2 (dumped mode s 0 (omega arith) mid left holds pumps.read parts.0 ending parts.1 pumps.ends)
+      of_set pumps.read parts.0 parts.2 (set_made (dumper mode) s 0 (omega arith) mid left holds pumps.read parts.0 ending parts.1 pumps.ends)
     where
       behind : (text : List ℕ) → holds ≡ append_known mid text → holds ≡ append_known held (header ++ text)
       behind text e = e ∙ ap (λ (known : Option (List ℕ)). append_known known text) went ∙ append_known_twice held header text
 
-      of_set : (read rest : List ℕ) → file ≡ read ++ rest → SetDumped mode s 0 read rest mid holds ending → Worked (dump mode (Some s)) file held holds ending
+      of_set : (read rest : List ℕ) → file ≡ read ++ rest → SetMade no_bar (dump_front mode 0) s 0 read rest mid holds ending → Worked (dump mode (Some s)) file held holds ending
       of_set read rest parts (set_read f stop reads is e) =
           answered (alone s f stop) (record { set = f; stop = stop; reads = subst (λ (bs : List ℕ). Reads no_bar s 0 bs f stop) (sym parts) reads; source_is = refl }) is (behind (dump_front mode 0 f) e)
       of_set read rest parts (set_unread f stop reads undecided is e) =

@@ -1,39 +1,86 @@
--- The dump of a file, in the words of the definitions.
-use Rattle.std.proofs.Common.{◌≡◌, ◌∙◌, ap, sym, subst, ℕ, ◌+◌, ◌≤◌, List, [], ◌++◌, append_assoc, length, length-append, drop, Option, None, Some, refl, arith, true, Err, inl, inr}
+-- A file that a job reads, in the words of the definitions.
+use Rattle.std.proofs.Common.{◌≡◌, ◌∙◌, ap, sym, subst, ℕ, ◌+◌, ◌≤◌, List, [], ◌++◌, append_assoc, length, length-append, drop, Bool, true, false, Option, None, Some, refl, arith, Err, inl, inr}
 use Rattle.std.specs.Prelude.{◌⊎◌}
 use Rattle.std.specs.Io.KnownBytes.{append_known, prepend_known, IsAtEnd}
 use Rattle.std.proofs.lemmas.List.{append-nil, drop-append-le}
 use Rattle.dcm_base.specs.declared.fault.Stop.{Stop as HaltStop}
+use Rattle.dcm_base.specs.declared.fault.Fault.TheVariants.{CannotChange}
 use Rattle.dcm_base.specs.declared.mode.Mode.{Mode}
-use Rattle.dcm_base.specs.Bars.{no_bar}
+use Rattle.dcm_base.specs.declared.syntax.Coding.{Coding}
+use Rattle.dcm_base.specs.declared.syntax.Syntax.{Syntax}
 use Rattle.dcm_base.specs.Device.{AppendsFront}
 use Rattle.dcm_base.specs.Dump.{dump_front}
 use Rattle.dcm_base.specs.Header.{set_header, meta_header}
 use Rattle.dcm_base.specs.Front.{Front}
 use Rattle.dcm_base.specs.Stop.{Stop}
-use Rattle.dcm_base.specs.Tree.{Trees}
-use Rattle.dcm_base.specs.Spelling.{Spells}
-use Rattle.dcm_base.specs.MetaGroup.{AreMeta}
-use Rattle.dcm_base.specs.declared.syntax.Coding.{Coding}
-use Rattle.dcm_base.specs.declared.syntax.Syntax.TheVariants.{Little}
-use Rattle.dcm_base.specs.MetaReads.{MetaReads, refused}
+use Rattle.dcm_base.specs.MetaReads.{Meta, MetaReads, refused, PREFIX}
+use Rattle.dcm_base.specs.NewMeta.{new_meta}
+use Rattle.dcm_base.specs.Recode.{recode}
 use Rattle.dcm_base.specs.Reads.{INPUT_LIMIT, Reads}
-use Rattle.dcm_base.specs.Words.{dump}
+use Rattle.dcm_base.specs.Words.{Job, dump, convert, build, modify}
 use Rattle.dcm_base.proofs.Puts.{append_known_twice, append_known_none, front_longer, puts_behind}
 use Rattle.dcm_head.specs.declared.meta_read.MetaEnd.{MetaEnd}
 use Rattle.dcm_head.specs.declared.meta_read.MetaEnd.TheVariants as meta_end
-use Rattle.dcm_head.specs.MetaReading.{Reading, meta_finished, group_of, uid_of}
+use Rattle.dcm_head.specs.MetaReading.{Reading, meta_finished}
 use Rattle.dcm_stream.specs.Reading.{start_of, is_undecided}
-use Rattle.dcm_tools.specs.DumpSink.{dump_start, dump_step, dump_writes, bars_nothing}
 use Rattle.dcm_cli.specs.declared.ending.Ending.{Ending}
 use Rattle.dcm_cli.specs.declared.ending.Ending.TheVariants.{Done, Refused, Unread, Output}
 use Rattle.dcm_cli.specs.declared.head.Begun.{Begun}
 use Rattle.dcm_cli.specs.Pass.{Begins, FailsHead, BehindBegun, WasRead, head_read, set_bytes}
-use Rattle.dcm_cli.specs.Answer.{file as of_file, unopened, going_on, FileSure, not_opened as was_not_opened, opened as was_opened, before_set, within_set}
+use Rattle.dcm_cli.specs.Answer.{Source, file as of_file, unopened, going_on, job_bar, refuses_change, target_syntax, target_uid, file_output, InputReads, Sure, FileReads, FileSure, not_opened as was_not_opened, not_changed, opened as was_opened, before_set, within_set}
 use Rattle.dcm_cli.specs.Run.{Worked, answered, could_not_read, could_not_write}
 use Rattle.dcm_cli.proofs.Alone.{splits}
-use Rattle.dcm_cli.proofs.Sets.{SetDumped, set_read, set_unread, set_unwritten, dumped, all_read, none_left}
-use Rattle.dcm_cli.proofs.MetaHeads.{Opened, opened, not_opened, ended_stays, finished_same, has_end, goes_on_still, ends_before}
+use Rattle.dcm_cli.proofs.Makers.{Maker, dumper, encoder}
+use Rattle.dcm_cli.proofs.Sets.{SetMade, set_read, set_unread, set_unwritten, set_made, all_read, none_left}
+use Rattle.dcm_cli.proofs.MetaHeads.{Opened, opened, one_head, not_opened, ended_stays, finished_same, has_end, goes_on_still, ends_before}
+
+-- ---- jobs that read files
+
+abbrev pub reads_file : Job → Bool
+reads_file (dump mode None) = true
+reads_file (dump mode (Some syntax)) = false
+reads_file (convert target) = true
+reads_file (build limit) = false
+reads_file (modify edits) = true
+
+file_reads : (job : Job) → reads_file job ≡ true → (bytes : List ℕ) (source : Source) → FileReads job bytes source → InputReads job bytes source
+file_reads (dump mode None) is bytes source reads = reads
+file_reads (dump mode (Some syntax)) is bytes source reads = cc
+file_reads (convert target) is bytes source reads = reads
+file_reads (build limit) is bytes source reads = cc
+file_reads (modify edits) is bytes source reads = reads
+
+file_sure : (job : Job) → reads_file job ≡ true → (p out : List ℕ) → FileSure job p out → Sure job p out
+file_sure (dump mode None) is p out sure = sure
+file_sure (dump mode (Some syntax)) is p out sure = cc
+file_sure (convert target) is p out sure = sure
+file_sure (build limit) is p out sure = cc
+file_sure (modify edits) is p out sure = sure
+
+-- what a job makes of a file in a coding: what stands for its head, and then what a sink makes of the data set
+pub record FileMaker (job : Job) (coding : Coding) : Type 1 where
+  pub header : Meta → List ℕ
+  pub text : Front → List ℕ
+  pub maker : Maker (job_bar job coding) text
+  pub output_is : (m : Meta) (f : Front) → file_output job m coding f ≡ header m ++ text f
+
+-- the dump
+abbrev pub file_dumper : (mode : Mode) (coding : Coding) → FileMaker (dump mode None) coding
+file_dumper mode coding = record {
+  header = λ m. meta_header mode m.elements ++ set_header m.uid;
+  text = dump_front mode 0;
+  maker = dumper mode;
+  output_is = λ m f. refl;
+}
+
+-- the conversion
+abbrev pub file_encoder : (target : Option Syntax) (coding : Coding) → FileMaker (convert target) coding
+file_encoder target coding = record {
+  header = λ m. m.preamble ++ PREFIX ++ new_meta m.elements (target_uid target m);
+  text = recode (target_syntax target coding);
+  maker = encoder (target_syntax target coding);
+  output_is = λ m f. refl;
+}
 
 -- ---- before the data set
 
@@ -45,9 +92,9 @@ finished_at : (r : Reading) (left : Option (List ℕ)) (read rest : List ℕ) �
 finished_at r left read rest some over e =
     ap (λ (bs : List ℕ). meta_finished (head_read (read ++ bs))) (none_left left rest over some) ∙ ap (λ (bs : List ℕ). meta_finished (head_read bs)) (append-nil read) ∙ sym e
 
-pub file_unopened : (mode : Mode) (file : List ℕ) (held had left : Option (List ℕ)) (r : Reading) (read : List ℕ) (ending : Ending) → had ≡ Some file → had ≡ prepend_known read left
-    → FailsHead r left read ending → Worked (dump mode None) file held held ending
-file_unopened mode file held had left r read ending some given fails =
+pub file_unopened : (job : Job) → reads_file job ≡ true → (file : List ℕ) (held had left : Option (List ℕ)) (r : Reading) (read : List ℕ) (ending : Ending) → had ≡ Some file → had ≡ prepend_known read left
+    → FailsHead r left read ending → Worked job file held held ending
+file_unopened job is_file file held had left r read ending some given fails =
     let parts = splits had left read file some given in
     by_ending ending parts.0 parts.1 parts.2 fails
   where
@@ -55,14 +102,15 @@ file_unopened mode file held had left r read ending some given fails =
     by_finish stop rest at h (inl e) = finished_over r read rest (meta_end.Refused stop) h e
     by_finish stop rest at h (inr x) = finished_at r left read rest at x.0 x.1
 
-    by_ending : (ending : Ending) (rest : List ℕ) → left ≡ Some rest → file ≡ read ++ rest → FailsHead r left read ending → Worked (dump mode None) file held held ending
+    by_ending : (ending : Ending) (rest : List ℕ) → left ≡ Some rest → file ≡ read ++ rest → FailsHead r left read ending → Worked job file held held ending
     by_ending Done rest at whole f = absurd f
     by_ending (Refused stop) rest at whole f =
         let said = not_opened r (read ++ rest) stop (by_finish stop rest at f.0 f.1) f.0 in
-        answered (unopened stop.fault stop.at) (was_not_opened stop.fault stop.at (subst (λ (bs : List ℕ). MetaReads bs (refused stop.fault stop.at)) (sym whole) said) refl) refl (sym (append_known_none held))
+        let reads = was_not_opened stop.fault stop.at (subst (λ (bs : List ℕ). MetaReads bs (refused stop.fault stop.at)) (sym whole) said) refl in
+        answered (unopened stop.fault stop.at) (file_reads job is_file file (unopened stop.fault stop.at) reads) refl (sym (append_known_none held))
     by_ending (Unread count) rest at whole f =
         let still = goes_on_still read (ap (λ (x : Reading). x.end) (sym f.0) ∙ f.1) in
-        could_not_read read rest [] whole (before_set still.0 still.1 still.2 refl) (ap Unread f.2) (sym (append_known_none held))
+        could_not_read read rest [] whole (file_sure job is_file read [] (before_set still.0 still.1 still.2 refl)) (ap Unread f.2) (sym (append_known_none held))
     by_ending Output rest at whole f = absurd f
 
 -- ---- a head that was read
@@ -76,88 +124,91 @@ file_opened r b buffer had left read file some given begun =
     let parts = splits had left read file some given in
     subst (Opened r) (sym parts.2) (opened r (read ++ parts.0) (by_reading r b buffer left read parts.0 parts.1 begun begun.reading) begun.ended)
 
-module _ (mode : Mode) (file : List ℕ) (held : Option (List ℕ)) (r : Reading) (o : Opened r file) where
-  abbrev header : List ℕ
-  header = meta_header mode o.m.elements ++ set_header o.m.uid
-
+module _ (job : Job) (is_file : reads_file job ≡ true) (file : List ℕ) (held : Option (List ℕ)) (r : Reading) (o : Opened r file) where
   abbrev start : ℕ
   start = 132 + length o.group
 
   small : start ≤ INPUT_LIMIT
   small = omega (arith, o.within)
 
-  -- not even all of the header was written
-  pub file_unheaded : (holds : Option (List ℕ)) → AppendsFront held holds header → Worked (dump mode None) file held holds Output
-  file_unheaded holds begun =
-      let a = all_read mode o.coding.syntax start small held (drop start file) in
-      could_not_write (of_file o.m o.coding a.0 a.1) (was_opened o.m o.group o.coding a.0 a.1 o.reads refl a.2 refl) refl
-      (front_longer (dump_front mode 0 a.0) begun)
+  -- the job cannot change it
+  pub file_unchanged : refuses_change job o.coding ≡ true → Worked job file held held (Refused (record { fault = CannotChange; at = start }))
+  file_unchanged refuses =
+      answered (unopened CannotChange start) (file_reads job is_file file (unopened CannotChange start) (not_changed o.m o.group o.coding o.reads refuses refl)) refl (sym (append_known_none held))
 
-  pub file_worked : (had left after mid holds : Option (List ℕ)) (b : Begun) (buffer read : List ℕ) (ending : Ending) → had ≡ Some file → had ≡ prepend_known read left → Begins r b buffer left read
-      → ((elements : Trees) → Spells Little elements (group_of r) → AreMeta elements → mid ≡ append_known held (meta_header mode elements ++ set_header (uid_of r)))
-      → (b.is_over ≡ true → WasRead ending)
-      → BehindBegun bars_nothing dump_step dump_writes left (set_bytes b buffer) (start_of o.coding.syntax start) (dump_start mode) mid after holds ending
-      → Worked (dump mode None) file held holds ending
-  file_worked had left after mid holds b buffer read ending some given begun went was passed =
-      let parts = splits had left read file some given in
-      let more = splits left after passed.more parts.0 parts.1 passed.given in
-      of_set parts.0 more.0 parts.2 more.2 (dumped mode o.coding.syntax start small mid after holds (set_bytes b buffer ++ passed.more) more.0 ending more.1 passed.ends)
-    where
-      -- the head of the file, as it was written
-      head_of : (bytes : List ℕ) (x : Opened r bytes) → mid ≡ append_known held (meta_header mode x.m.elements ++ set_header x.m.uid)
-      head_of bytes x =
-          went x.m.elements (subst (Spells Little x.m.elements) (sym x.group_is) x.spelled) x.meta ∙ ap (λ (uid : List ℕ). append_known held (meta_header mode x.m.elements ++ set_header uid)) x.uid_is
+  module _ (kept : refuses_change job o.coding ≡ false) (k : FileMaker job o.coding) where
+    abbrev SetReads : List ℕ → Front → Stop → Type 0
+    SetReads bytes f stop = Reads (job_bar job o.coding) o.coding.syntax start bytes f stop
 
-      behind : (bytes : List ℕ) (x : Opened r bytes) (text : List ℕ) → holds ≡ append_known mid text → holds ≡ append_known held (meta_header mode x.m.elements ++ set_header x.m.uid ++ text)
-      behind bytes x text e = e ∙ ap (λ (known : Option (List ℕ)). append_known known text) (head_of bytes x) ∙ append_known_twice held (meta_header mode x.m.elements ++ set_header x.m.uid) text
+    read_as : (f : Front) (stop : Stop) → SetReads (drop start file) f stop → InputReads job file (of_file o.m o.coding f stop)
+    read_as f stop reads = file_reads job is_file file (of_file o.m o.coding f stop) (was_opened o.m o.group o.coding f stop o.reads kept reads refl)
 
-      -- the data set of what was read, and of the file
-      within : start ≤ length read
-      within = let p = begun.place in let q = o.place_is in omega arith
+    -- not even all that stands for the head was written
+    pub file_unheaded : (holds : Option (List ℕ)) → AppendsFront held holds (k.header o.m) → Worked job file held holds Output
+    file_unheaded holds begun =
+        let a = all_read k.maker o.coding.syntax start small (drop start file) in
+        could_not_write (of_file o.m o.coding a.0 a.1) (read_as a.0 a.1 a.2) refl
+        (subst (AppendsFront held holds) (sym (k.output_is o.m a.0)) (front_longer (k.text a.0) begun))
 
-      set_there : (bytes : List ℕ) → drop start (read ++ bytes) ≡ set_bytes b buffer ++ bytes
-      set_there bytes = drop-append-le start read bytes within ∙ ap (λ (n : ℕ). drop n read ++ bytes) (sym o.place_is) ∙ ap (λ (bs : List ℕ). bs ++ bytes) begun.set
+    pub file_worked : (had left after mid holds : Option (List ℕ)) (b : Begun) (buffer read : List ℕ) (ending : Ending) → had ≡ Some file → had ≡ prepend_known read left → Begins r b buffer left read
+        → mid ≡ append_known held (k.header o.m)
+        → (b.is_over ≡ true → WasRead ending)
+        → BehindBegun k.maker.bars k.maker.step k.maker.writes left (set_bytes b buffer) (start_of o.coding.syntax start) k.maker.first mid after holds ending
+        → Worked job file held holds ending
+    file_worked had left after mid holds b buffer read ending some given begun went was passed =
+        let parts = splits had left read file some given in
+        let more = splits left after passed.more parts.0 parts.1 passed.given in
+        of_set parts.0 more.0 parts.2 more.2 (set_made k.maker o.coding.syntax start small mid after holds (set_bytes b buffer ++ passed.more) more.0 ending more.1 passed.ends)
+      where
+        behind : (f : Front) → holds ≡ append_known mid (k.text f) → holds ≡ append_known held (file_output job o.m o.coding f)
+        behind f e =
+            e ∙ ap (λ (known : Option (List ℕ)). append_known known (k.text f)) went
+            ∙ append_known_twice held (k.header o.m) (k.text f)
+            ∙ ap (append_known held) (sym (k.output_is o.m f))
 
-      file_set : (rest later : List ℕ) → file ≡ read ++ rest → rest ≡ passed.more ++ later → (set_bytes b buffer ++ passed.more) ++ later ≡ drop start file
-      file_set rest later whole split =
-          append_assoc (set_bytes b buffer) passed.more later ∙ ap (λ (bs : List ℕ). set_bytes b buffer ++ bs) (sym split) ∙ sym (set_there rest) ∙ ap (drop start) (sym whole)
+        -- the data set of what was read, and of the file
+        within : start ≤ length read
+        within = let p = begun.place in let q = o.place_is in omega arith
 
-      -- what is sure, where a group that was ended by what follows it
-      sure_of : (x : Opened r (read ++ passed.more)) (f : Front) (stop : Stop) → r ≡ head_read (read ++ passed.more) → Reads no_bar o.coding.syntax start (set_bytes b buffer ++ passed.more) f stop → is_undecided (Some stop) ≡ true
-          → FileSure (dump mode None) (read ++ passed.more) (meta_header mode x.m.elements ++ set_header x.m.uid ++ dump_front mode 0 (going_on f))
-      sure_of x f stop e reads undecided =
-          let groups : o.group ≡ x.group = sym o.group_is ∙ x.group_is in
-          let codings : Some (meta_end.Ended o.coding) ≡ Some (meta_end.Ended x.coding) = sym o.end_is ∙ x.end_is in
-          let coding : o.coding ≡ x.coding = cc in
-          let at_set : Reads no_bar o.coding.syntax start (drop start (read ++ passed.more)) f stop = subst (λ (bs : List ℕ). Reads no_bar o.coding.syntax start bs f stop) (sym (set_there passed.more)) reads in
-          let long = length-append read passed.more in
-          within_set x.m x.group x.coding f stop x.reads (ends_before r (read ++ passed.more) e x (let p = o.place_is in let w = within in omega arith)) refl
-          (subst (λ (c : Coding). Reads no_bar c.syntax (132 + length x.group) (drop (132 + length x.group) (read ++ passed.more)) f stop) coding
-          (subst (λ (g : List ℕ). Reads no_bar o.coding.syntax (132 + length g) (drop (132 + length g) (read ++ passed.more)) f stop) groups at_set))
-          undecided refl
+        set_there : (bytes : List ℕ) → drop start (read ++ bytes) ≡ set_bytes b buffer ++ bytes
+        set_there bytes = drop-append-le start read bytes within ∙ ap (λ (n : ℕ). drop n read ++ bytes) (sym o.place_is) ∙ ap (λ (bs : List ℕ). bs ++ bytes) begun.set
 
-      by_over : (rest later : List ℕ) → file ≡ read ++ rest → rest ≡ passed.more ++ later → (f : Front) (stop : Stop) → Reads no_bar o.coding.syntax start (set_bytes b buffer ++ passed.more) f stop → is_undecided (Some stop) ≡ true
-          → ending ≡ Unread (start + length (set_bytes b buffer ++ passed.more)) → holds ≡ append_known mid (dump_front mode 0 (going_on f))
-          → (r ≡ head_read read) ⊎ ((b.is_over ≡ true) × (r ≡ meta_finished (head_read read))) → Worked (dump mode None) file held holds ending
-      by_over rest later whole split f stop reads undecided is e (inr over) = absurd (subst WasRead is (was over.0))
-      by_over rest later whole split f stop reads undecided is e (inl same) =
-          let end = has_end r begun.ended in
-          let still : head_read (read ++ passed.more) ≡ r = ended_stays r read passed.more end.0 same end.1 in
-          let x : Opened r (read ++ passed.more) = opened r (read ++ passed.more) (ap meta_finished still ∙ finished_same r end.0 end.1) begun.ended in
-          let longer = length-append (set_bytes b buffer) passed.more in
-          let long = length-append read passed.more in
-          let count : start + length (set_bytes b buffer ++ passed.more) ≡ length (read ++ passed.more) = (let p = begun.place in let q = o.place_is in omega arith) in
-          could_not_read (read ++ passed.more) later (meta_header mode x.m.elements ++ set_header x.m.uid ++ dump_front mode 0 (going_on f))
-          (whole ∙ ap (λ (bs : List ℕ). read ++ bs) split ∙ sym (append_assoc read passed.more later)) (sure_of x f stop (sym still) reads undecided) (is ∙ ap Unread count)
-          (behind (read ++ passed.more) x (dump_front mode 0 (going_on f)) e)
+        file_set : (rest later : List ℕ) → file ≡ read ++ rest → rest ≡ passed.more ++ later → (set_bytes b buffer ++ passed.more) ++ later ≡ drop start file
+        file_set rest later whole split =
+            append_assoc (set_bytes b buffer) passed.more later ∙ ap (λ (bs : List ℕ). set_bytes b buffer ++ bs) (sym split) ∙ sym (set_there rest) ∙ ap (drop start) (sym whole)
 
-      of_set : (rest later : List ℕ) → file ≡ read ++ rest → rest ≡ passed.more ++ later → SetDumped mode o.coding.syntax start (set_bytes b buffer ++ passed.more) later mid holds ending → Worked (dump mode None) file held holds ending
-      of_set rest later whole split (set_read f stop reads is e) =
-          answered (of_file o.m o.coding f stop)
-          (was_opened o.m o.group o.coding f stop o.reads refl (subst (λ (bs : List ℕ). Reads no_bar o.coding.syntax start bs f stop) (file_set rest later whole split) reads) refl) is
-          (behind file o (dump_front mode 0 f) e)
-      of_set rest later whole split (set_unread f stop reads undecided is e) = by_over rest later whole split f stop reads undecided is e begun.reading
-      of_set rest later whole split (set_unwritten f stop reads is e) =
-          could_not_write (of_file o.m o.coding f stop)
-          (was_opened o.m o.group o.coding f stop o.reads refl (subst (λ (bs : List ℕ). Reads no_bar o.coding.syntax start bs f stop) (file_set rest later whole split) reads) refl) is
-          (puts_behind {T = Unit {0}} {E = Unit {0}} held mid holds (meta_header mode o.m.elements ++ set_header o.m.uid) (dump_front mode 0 f) (Err tt) (head_of file o) e)
+        -- what is sure, where a group that was ended by what follows it
+        sure_of : (f : Front) (stop : Stop) → r ≡ head_read (read ++ passed.more) → SetReads (set_bytes b buffer ++ passed.more) f stop → is_undecided (Some stop) ≡ true
+            → FileSure job (read ++ passed.more) (file_output job o.m o.coding (going_on f))
+        sure_of f stop e reads undecided =
+            let end = has_end r begun.ended in
+            let x : Opened r (read ++ passed.more) = opened r (read ++ passed.more) (ap meta_finished (sym e) ∙ finished_same r end.0 end.1) begun.ended in
+            let groups : length x.group ≡ length o.group = ap length (sym x.group_is ∙ o.group_is) in
+            let long = length-append read passed.more in
+            let less = ends_before r (read ++ passed.more) e x (let p = o.place_is in let w = within in omega arith) in
+            within_set o.m o.group o.coding f stop (one_head r file (read ++ passed.more) o.m o.group o.coding o.reads (o.end_is, o.place_is, o.preamble_is, o.group_is, o.uid_is) x) (omega (arith, less, groups)) kept
+            (subst (λ (bs : List ℕ). SetReads bs f stop) (sym (set_there passed.more)) reads) undecided refl
+
+        by_over : (rest later : List ℕ) → file ≡ read ++ rest → rest ≡ passed.more ++ later → (f : Front) (stop : Stop) → SetReads (set_bytes b buffer ++ passed.more) f stop → is_undecided (Some stop) ≡ true
+            → ending ≡ Unread (start + length (set_bytes b buffer ++ passed.more)) → holds ≡ append_known mid (k.text (going_on f))
+            → (r ≡ head_read read) ⊎ ((b.is_over ≡ true) × (r ≡ meta_finished (head_read read))) → Worked job file held holds ending
+        by_over rest later whole split f stop reads undecided is e (inr over) = absurd (subst WasRead is (was over.0))
+        by_over rest later whole split f stop reads undecided is e (inl same) =
+            let end = has_end r begun.ended in
+            let still : head_read (read ++ passed.more) ≡ r = ended_stays r read passed.more end.0 same end.1 in
+            let longer = length-append (set_bytes b buffer) passed.more in
+            let long = length-append read passed.more in
+            let count : start + length (set_bytes b buffer ++ passed.more) ≡ length (read ++ passed.more) = (let p = begun.place in let q = o.place_is in omega arith) in
+            let out = file_output job o.m o.coding (going_on f) in
+            could_not_read (read ++ passed.more) later out
+            (whole ∙ ap (λ (bs : List ℕ). read ++ bs) split ∙ sym (append_assoc read passed.more later))
+            (file_sure job is_file (read ++ passed.more) out (sure_of f stop (sym still) reads undecided)) (is ∙ ap Unread count) (behind (going_on f) e)
+
+        of_set : (rest later : List ℕ) → file ≡ read ++ rest → rest ≡ passed.more ++ later
+            → SetMade (job_bar job o.coding) k.text o.coding.syntax start (set_bytes b buffer ++ passed.more) later mid holds ending → Worked job file held holds ending
+        of_set rest later whole split (set_read f stop reads is e) =
+            answered (of_file o.m o.coding f stop) (read_as f stop (subst (λ (bs : List ℕ). SetReads bs f stop) (file_set rest later whole split) reads)) is (behind f e)
+        of_set rest later whole split (set_unread f stop reads undecided is e) = by_over rest later whole split f stop reads undecided is e begun.reading
+        of_set rest later whole split (set_unwritten f stop reads is e) =
+            could_not_write (of_file o.m o.coding f stop) (read_as f stop (subst (λ (bs : List ℕ). SetReads bs f stop) (file_set rest later whole split) reads)) is
+            (subst (AppendsFront held holds) (sym (k.output_is o.m f)) (puts_behind {T = Unit {0}} {E = Unit {0}} held mid holds (k.header o.m) (k.text f) (Err tt) went e))

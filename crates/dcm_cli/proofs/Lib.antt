@@ -1,8 +1,9 @@
-pub mod DumpWordLemmas
+pub mod WordLemmas
 pub mod Composed
 pub mod Fed
 pub mod Passes
 pub mod Heads
+pub mod Makers
 pub mod Sets
 pub mod Alone
 pub mod MetaHeads

@@ -1,5 +1,5 @@
 -- What the reading of a file's head has said of the file.
-use Rattle.std.proofs.Common.{◌≡◌, ◌∙◌, ap, sym, subst, ℕ, ◌+◌, ◌≤◌, ◌<◌, List, [], ◌∷◌, ◌++◌, length, true, false, Option, None, Some, refl, arith, inl, inr}
+use Rattle.std.proofs.Common.{◌≡◌, ◌∙◌, ap, sym, subst, ℕ, ◌+◌, ◌≤◌, ◌<◌, List, [], ◌∷◌, ◌++◌, length, take, true, false, Option, None, Some, refl, arith, inl, inr}
 use Rattle.std.specs.Prelude.{fold, nat_eq, ◌⊎◌, Result, Ok, Err}
 use Rattle.std.proofs.lemmas.List.Sums.{fold-append}
 use Rattle.std.proofs.lemmas.Bool.Decides.{nat_tests}
@@ -11,7 +11,9 @@ use Rattle.dcm_base.specs.Tree.{Trees}
 use Rattle.dcm_base.specs.Spelling.{Spells}
 use Rattle.dcm_base.specs.Transfer.{coding_of, without_pads}
 use Rattle.dcm_base.specs.MetaGroup.{META_LIMIT, AreMeta, GroupPlace, an_element, the_end, too_few, a_fault}
-use Rattle.dcm_base.specs.MetaReads.{Meta, MetaAnswer, MetaReads, begins, refused, coded, named, answer_behind, syntax_value, too_short, no_prefix, with_group, is_undecided}
+use Rattle.dcm_base.proofs.Whole.{trees_same, at_end_NoElement}
+use Rattle.dcm_base.specs.MetaReads.{Meta, MetaAnswer, MetaReads, begins, refused, coded, named, answer_behind, syntax_value, too_short, no_prefix, with_group, is_undecided, PREFIX}
+use Rattle.dcm_base.specs.NewMeta.{new_meta}
 use Rattle.dcm_head.specs.declared.meta_read.MetaEnd.{MetaEnd}
 use Rattle.dcm_head.specs.declared.meta_read.MetaEnd.TheVariants.{Refused, Ended}
 use Rattle.dcm_head.specs.MetaReading.{Reading, HasEnded, Says, meta_step, meta_finished, finished_from, group_of, uid_of}
@@ -58,6 +60,7 @@ pub record Opened (r : Reading) (file : List ℕ) : Type 0 where
   pub reads : MetaReads file (begins m group coding)
   pub end_is : r.end ≡ Some (Ended coding)
   pub place_is : r.place ≡ 132 + length group
+  pub preamble_is : take 128 r.bytes ≡ m.preamble
   pub group_is : group_of r ≡ group
   pub uid_is : uid_of r ≡ m.uid
   pub spelled : Spells Little m.elements group
@@ -80,6 +83,7 @@ opened_by r file (begins m group coding) h reads said =
       reads = reads;
       end_is = said.0;
       place_is = said.1;
+      preamble_is = said.2;
       group_is = said.3;
       uid_is = said.4;
       spelled = spelled.0;
@@ -102,6 +106,25 @@ refused_by r file stop (refused fault offset) e reads said =
     let same : Some (Refused stop) ≡ Some (Refused (record { fault = fault; at = offset })) = sym e ∙ said in
     let is : stop ≡ record { fault = fault; at = offset } = cc in
     subst (λ (s : HaltStop). MetaReads file (refused s.fault s.at)) (sym is) reads
+
+one_meta_of : (m n : Meta) → m.preamble ≡ n.preamble → m.elements ≡ n.elements → m.uid ≡ n.uid → m ≡ n
+one_meta_of m n p e u =
+    let x : Meta = record { preamble = m.preamble; elements = m.elements; uid = m.uid } in
+    let y : Meta = record { preamble = n.preamble; elements = n.elements; uid = n.uid } in
+    let same : x ≡ y = cc in
+    same
+
+-- two inputs of one such reading begin with the same head
+pub one_head : (r : Reading) (file other : List ℕ) (m : Meta) (group : List ℕ) (coding : Coding) → MetaReads file (begins m group coding) → Says r (begins m group coding) → Opened r other → MetaReads other (begins m group coding)
+one_head r file other m group coding reads said x =
+    let groups : x.group ≡ group = sym x.group_is ∙ said.3 in
+    let codings : Some (Ended x.coding) ≡ Some (Ended coding) = sym x.end_is ∙ said.0 in
+    let coding_is : x.coding ≡ coding = cc in
+    let elements : x.m.elements ≡ m.elements =
+    (trees_same Little x.m.elements m.elements group [] [] (subst (Spells Little x.m.elements) groups x.spelled) (group_spelled file m group coding reads).0 (at_end_NoElement Little) (at_end_NoElement Little)).0 in
+    let metas : x.m ≡ m = one_meta_of x.m m (sym x.preamble_is ∙ said.2) elements (sym x.uid_is ∙ said.4) in
+    let same : begins x.m x.group x.coding ≡ begins m group coding = cc in
+    subst (MetaReads other) same x.reads
 
 -- it is at fault
 pub not_opened : (r : Reading) (file : List ℕ) (stop : HaltStop) → meta_finished (head_read file) ≡ r → r.end ≡ Some (Refused stop) → MetaReads file (refused stop.fault stop.at)
@@ -150,3 +173,8 @@ ends_before r read e o le =
 
     apart : (m n : ℕ) → nat_eq m n ≡ false → m ≤ n → m < n
     apart m n not le = grind (arith, nat_tests, not, le)
+
+-- its head written anew
+pub head_anew : (r : Reading) (file : List ℕ) (o : Opened r file) (uid written : List ℕ) → written ≡ uid → take 128 r.bytes ++ PREFIX ++ new_meta o.m.elements written ≡ o.m.preamble ++ PREFIX ++ new_meta o.m.elements uid
+head_anew r file o uid written e =
+    ap (λ (bs : List ℕ). bs ++ PREFIX ++ new_meta o.m.elements written) o.preamble_is ∙ ap (λ (u : List ℕ). o.m.preamble ++ PREFIX ++ new_meta o.m.elements u) e

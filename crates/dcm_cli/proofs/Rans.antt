@@ -1,31 +1,21 @@
 -- What a run leaves, by how the work on its job ended.
 use Rattle.std.proofs.Common.{◌≡◌, ◌∙◌, ap, sym, subst, ℕ, List, [], length, Bool, true, false, Option, refl, inl, inr, ◌⊎◌}
 use Rattle.std.proofs.lemmas.List.{append-nil}
-use borrow.Enum.Total.{values_d}
 use Rattle.std.specs.Io.KnownBytes.{append_known}
-use Rattle.dcm_base.specs.declared.mode.Mode.{Mode}
-use Rattle.dcm_base.specs.declared.syntax.Syntax.{Syntax}
 use Rattle.dcm_base.specs.Device.{AppendsFront}
-use Rattle.dcm_base.specs.Stop.{complete, refused}
-use Rattle.dcm_base.specs.Words.{Job, dump}
-use Rattle.dcm_cli.specs.contracts.job.Job.{enum}
-use Rattle.dcm_cli.specs.declared.job.Dump.{Dump as Dumping}
+use Rattle.dcm_base.specs.Edit.{Edit}
+use Rattle.dcm_base.specs.Front.{Front}
+use Rattle.dcm_base.specs.Stop.{Stop, complete, refused}
+use Rattle.dcm_base.specs.Words.{Job}
 use Rattle.dcm_cli.specs.declared.job.Job.{Job as RunJob}
-use Rattle.dcm_cli.specs.declared.job.Job.TheVariants.{Dump}
+use Rattle.dcm_cli.specs.declared.job.Job.TheVariants.{Dump, Convert}
 use Rattle.dcm_cli.specs.declared.ending.Ending.{Ending}
 use Rattle.dcm_cli.specs.declared.ending.Ending.TheVariants.{Unread, Output}
-use Rattle.dcm_cli.specs.Answer.{Source, unopened, file, alone, InputReads, ReadAnswers, answer, output_of}
+use Rattle.dcm_cli.specs.Answer.{Answer, Answers, Source, unopened, file, alone, InputReads, ReadAnswers, answer, output_of, edits_of, unplaced_lines, status_of_lines, stop_line, stop_status}
 use Rattle.dcm_cli.specs.Pass.{TellsUnread, TellsOutput}
-use Rattle.dcm_cli.specs.Run.{Worked, answered, could_not_read, could_not_write, FlushedAs, ending_of_source, ending_line, ending_status, Ran, as_answered, not_read, not_written, Devices}
+use Rattle.dcm_cli.specs.Run.{Worked, answered, could_not_read, could_not_write, FlushedAs, ending_of_stop, ending_of_source, ending_line, ending_status, Ran, as_answered, not_read, not_written, Devices}
 use Rattle.dcm_cli.specs.Told.{Tries}
 use Rattle.dcm_cli.specs.Words.{job_of}
-
--- what a job has to dump, as a match on it takes it
-abbrev pub dumping : Dumping → RunJob → Dumping
-dumping other job = (values_d enum 0 (other, tt) job).0
-
-pub job_is : (other : Dumping) (job : RunJob) → dump (dumping other job).mode (dumping other job).bare ≡ job_of job
-job_is other (Dump d) = refl
 
 -- the answer of an input that was read
 output_is : (job : Job) (source : Source) → output_of job source ≡ (answer job source).output
@@ -33,19 +23,34 @@ output_is job (unopened fault offset) = refl
 output_is job (file meta coding set stop) = refl
 output_is job (alone syntax set stop) = refl
 
-told_is : (mode : Mode) (bare : Option Syntax) (source : Source) → ending_line (ending_of_source source) ≡ (answer (dump mode bare) source).told
-told_is mode bare (unopened fault offset) = refl
-told_is mode bare (file meta coding set complete) = refl
-told_is mode bare (file meta coding set (refused fault offset)) = refl
-told_is mode bare (alone syntax set complete) = refl
-told_is mode bare (alone syntax set (refused fault offset)) = refl
+-- of a job that makes no edits
+module _ (job : Job) (none : edits_of job ≡ []) where
+  told_at : (set : Front) (stop : Stop) → ending_line (ending_of_stop stop) ≡ stop_line job set stop
+  told_at set complete = sym (ap (λ (edits : List Edit). unplaced_lines 1 edits set) none)
+  told_at set (refused fault offset) = refl
 
-status_is : (mode : Mode) (bare : Option Syntax) (source : Source) → ending_status (ending_of_source source) ≡ (answer (dump mode bare) source).status
-status_is mode bare (unopened fault offset) = refl
-status_is mode bare (file meta coding set complete) = refl
-status_is mode bare (file meta coding set (refused fault offset)) = refl
-status_is mode bare (alone syntax set complete) = refl
-status_is mode bare (alone syntax set (refused fault offset)) = refl
+  told_is : (source : Source) → ending_line (ending_of_source source) ≡ (answer job source).told
+  told_is (unopened fault offset) = refl
+  told_is (file meta coding set stop) = told_at set stop
+  told_is (alone syntax set stop) = told_at set stop
+
+  status_at : (set : Front) (stop : Stop) → ending_status (ending_of_stop stop) ≡ stop_status job set stop
+  status_at set complete = sym (ap (λ (edits : List Edit). status_of_lines (unplaced_lines 1 edits set)) none)
+  status_at set (refused fault offset) = refl
+
+  status_is : (source : Source) → ending_status (ending_of_source source) ≡ (answer job source).status
+  status_is (unopened fault offset) = refl
+  status_is (file meta coding set stop) = status_at set stop
+  status_is (alone syntax set stop) = status_at set stop
+
+-- the program's jobs make none, and answer what is read
+no_edits : (job : RunJob) → edits_of (job_of job) ≡ []
+no_edits (Dump d) = refl
+no_edits (Convert c) = refl
+
+read_answers : (job : RunJob) (input : List ℕ) (a : Answer) → ReadAnswers (job_of job) input a → Answers (job_of job) input a
+read_answers (Dump d) input a reads = reads
+read_answers (Convert c) input a reads = reads
 
 -- its ending is told by no device, but its flush can fail
 flush_of : (source : Source) (after : Ending) (old new : Bool) → FlushedAs (ending_of_source source) after old new
@@ -70,14 +75,14 @@ all_put (file meta coding set (refused fault offset)) old new h = h
 all_put (alone syntax set complete) old new h = h
 all_put (alone syntax set (refused fault offset)) old new h = h
 
-module _ (mode : Mode) (bare : Option Syntax) (input : List ℕ) (held worked holds told tells : Option (List ℕ)) (r_old r_new w_old w_mid w_new e_old e_new : Bool) (ending after : Ending) (status : ℕ)
+module _ (job : RunJob) (input : List ℕ) (held worked holds told tells : Option (List ℕ)) (r_old r_new w_old w_mid w_new e_old e_new : Bool) (ending after : Ending) (status : ℕ)
     (kept : holds ≡ worked) (flushed : FlushedAs ending after w_mid w_new) (unread : TellsUnread r_old r_new ending) (failed : TellsOutput w_old w_mid ending)
     (line : Tries told tells e_old e_new (ending_line after)) (status_was : status ≡ ending_status after) (readable : r_old ≡ false) (writable : w_old ≡ false) where
   abbrev devices : Devices
   devices = record { held = held; holds = holds; told = told; tells = tells; unread = r_new; unwritten = w_new; untold_before = e_old; untold = e_new }
 
-  answers : (source : Source) → InputReads (dump mode bare) input source → ReadAnswers (dump mode bare) input (answer (dump mode bare) source)
-  answers source reads = record { source = source; reads = reads; answer_is = refl }
+  answers : (source : Source) → InputReads (job_of job) input source → Answers (job_of job) input (answer (job_of job) source)
+  answers source reads = read_answers job input (answer (job_of job) source) (record { source = source; reads = reads; answer_is = refl })
 
   told_of : (x : Ending) → after ≡ x → Tries told tells e_old e_new (ending_line x)
   told_of x is = subst (λ (y : Ending). Tries told tells e_old e_new (ending_line y)) is line
@@ -85,38 +90,35 @@ module _ (mode : Mode) (bare : Option Syntax) (input : List ℕ) (held worked ho
   status_of : (x : Ending) → after ≡ x → status ≡ ending_status x
   status_of x is = status_was ∙ ap ending_status is
 
-  after_answer : (source : Source) → InputReads (dump mode bare) input source → worked ≡ append_known held (output_of (dump mode bare) source) → r_new ≡ r_old → w_mid ≡ w_old
-      → ((after ≡ ending_of_source source) × (w_new ≡ w_mid)) ⊎ ((after ≡ Output) × (w_new ≡ true)) → Ran (dump mode bare) input devices status
+  after_answer : (source : Source) → InputReads (job_of job) input source → worked ≡ append_known held (output_of (job_of job) source) → r_new ≡ r_old → w_mid ≡ w_old
+      → ((after ≡ ending_of_source source) × (w_new ≡ w_mid)) ⊎ ((after ≡ Output) × (w_new ≡ true)) → Ran (job_of job) input devices status
   after_answer source reads out r w (inl (is, same)) =
-      as_answered (answer (dump mode bare) source) (answers source reads) (r ∙ readable) (same ∙ w ∙ writable)
-      (kept ∙ out ∙ ap (append_known held) (output_is (dump mode bare) source))
-      (subst (Tries told tells e_old e_new) (told_is mode bare source) (told_of (ending_of_source source) is))
-      (status_of (ending_of_source source) is ∙ status_is mode bare source)
+      as_answered (answer (job_of job) source) (answers source reads) (r ∙ readable) (same ∙ w ∙ writable)
+      (kept ∙ out ∙ ap (append_known held) (output_is (job_of job) source))
+      (subst (Tries told tells e_old e_new) (told_is (job_of job) (no_edits job) source) (told_of (ending_of_source source) is))
+      (status_of (ending_of_source source) is ∙ status_is (job_of job) (no_edits job) source)
   after_answer source reads out r w (inr (is, fails)) =
-      not_written (answer (dump mode bare) source) (answers source reads) (r ∙ readable) fails
+      not_written (answer (job_of job) source) (answers source reads) (r ∙ readable) fails
       (record {
-        front = output_of (dump mode bare) source;
+        front = output_of (job_of job) source;
         rest = [];
-        whole = sym (output_is (dump mode bare) source) ∙ sym (append-nil (output_of (dump mode bare) source));
+        whole = sym (output_is (job_of job) source) ∙ sym (append-nil (output_of (job_of job) source));
         grown = kept ∙ out;
       })
       (told_of Output is) (status_of Output is)
 
-  dump_ran : Worked (dump mode bare) input held worked ending → Ran (dump mode bare) input devices status
-  dump_ran (answered source reads is out) =
+  pub run_ran : Worked (job_of job) input held worked ending → Ran (job_of job) input devices status
+  run_ran (answered source reads is out) =
       after_answer source reads out (all_read source r_old r_new (subst (λ (x : Ending). TellsUnread r_old r_new x) is unread))
       (all_put source w_old w_mid (subst (λ (x : Ending). TellsOutput w_old w_mid x) is failed))
       (flush_of source after w_mid w_new (subst (λ (x : Ending). FlushedAs x after w_mid w_new) is flushed))
-  dump_ran (could_not_read p rest out whole sure is grown) =
+  run_ran (could_not_read p rest out whole sure is grown) =
       let still : after ≡ Unread (length p) = subst (λ (x : Ending). FlushedAs x after w_mid w_new) is flushed in
       not_read p rest out whole (subst (λ (x : Ending). TellsUnread r_old r_new x) is unread) sure (kept ∙ grown) (told_of (Unread (length p)) still) (status_of (Unread (length p)) still)
-  dump_ran (could_not_write source reads is grown) =
+  run_ran (could_not_write source reads is grown) =
       let still : (after ≡ Output) × (w_new ≡ w_mid) = subst (λ (x : Ending). FlushedAs x after w_mid w_new) is flushed in
-      not_written (answer (dump mode bare) source) (answers source reads) (subst (λ (x : Ending). TellsUnread r_old r_new x) is unread ∙ readable)
+      not_written (answer (job_of job) source) (answers source reads) (subst (λ (x : Ending). TellsUnread r_old r_new x) is unread ∙ readable)
       (still.1 ∙ subst (λ (x : Ending). TellsOutput w_old w_mid x) is failed)
-      (subst (λ (known : Option (List ℕ)). AppendsFront held known (answer (dump mode bare) source).output) (sym kept)
-      (subst (AppendsFront held worked) (output_is (dump mode bare) source) grown))
+      (subst (λ (known : Option (List ℕ)). AppendsFront held known (answer (job_of job) source).output) (sym kept)
+      (subst (AppendsFront held worked) (output_is (job_of job) source) grown))
       (told_of Output still.0) (status_of Output still.0)
-
-  pub run_ran : (job : Job) → dump mode bare ≡ job → Worked (dump mode bare) input held worked ending → Ran job input devices status
-  run_ran job is work = subst (λ (j : Job). Ran j input devices status) is (dump_ran work)

@@ -1,20 +1,30 @@
 -- What a function made of the words of a command line.
-use Rattle.std.specs.Prelude.{◌≡◌, ℕ, List, [], ◌∷◌, Result, Ok, Err, if◌then◌else◌, codes, bytes_eq}
+use Rattle.std.specs.Prelude.{◌≡◌, ℕ, ◌<◌, List, [], ◌∷◌, length, Result, Ok, Err, if◌then◌else◌, codes, bytes_eq}
 use Rattle.dcm_base.specs.declared.words.Usage.{Usage}
 use Rattle.dcm_base.specs.declared.words.Usage.TheVariants.{AtWord}
+use Rattle.dcm_base.specs.declared.words.Word.{Word}
 use Rattle.dcm_base.specs.declared.fault.WordFault.TheVariants.{UnknownTool}
 use Rattle.dcm_base.specs.Words as words
 use Rattle.dcm_cli.specs.declared.job.Job.{Job}
-use Rattle.dcm_cli.specs.declared.job.Job.TheVariants.{Dump}
+use Rattle.dcm_cli.specs.declared.job.Job.TheVariants.{Dump, Convert}
 use Rattle.dcm_cli.specs.declared.job.Planned.{Planned}
+use Rattle.dcm_cli.specs.declared.words.Tool.{Tool}
+use Rattle.dcm_cli.specs.declared.words.Tool.TheVariants as tools
+use Rattle.dcm_cli.specs.declared.words.Paths.{Paths}
+use Rattle.dcm_cli.specs.declared.words.Paths.TheVariants as paths
+use Rattle.dcm_cli.specs.declared.words.Said.{Said}
 
 -- the words behind the program's name, as far as the tools are there
 abbrev pub meant : List (List ℕ) → Result words.Plan Usage
 meant [] = Err (AtWord UnknownTool 1)
-meant (tool ∷ others) = if bytes_eq tool (codes "dcmdump") then words.dump_plan others else Err (AtWord UnknownTool 1)
+meant (tool ∷ others) =
+    if bytes_eq tool (codes "dcmdump") then words.dump_plan others
+    else if bytes_eq tool (codes "dcmconv") then words.convert_plan others
+    else Err (AtWord UnknownTool 1)
 
 abbrev pub job_of : Job → words.Job
 job_of (Dump d) = words.dump d.mode d.bare
+job_of (Convert c) = words.convert c.target
 
 abbrev pub planned : Planned → words.Plan
 planned p = record { input = p.input.now; output = p.output.now; job = job_of p.job }
@@ -23,3 +33,26 @@ planned p = record { input = p.input.now; output = p.output.now; job = job_of p.
 abbrev pub Gives : Result Planned Usage → Result words.Plan Usage → Type 0
 Gives (Ok p) meant = meant ≡ Ok (planned p)
 Gives (Err u) meant = meant ≡ Err u
+
+-- ---- word by word
+
+-- what a word says to a tool
+abbrev pub reader : Tool → List ℕ → Word
+reader tools.Dump w = words.dump_word w
+reader tools.Convert w = words.convert_word w
+
+-- the paths so far
+abbrev pub PathsAre : Paths → List (List ℕ) → Type 0
+PathsAre paths.None ps = ps ≡ []
+PathsAre (paths.One first) ps = ps ≡ first.now ∷ []
+PathsAre (paths.Two first second) ps = ps ≡ first.now ∷ second.now ∷ []
+PathsAre paths.More ps = 2 < length ps
+
+-- what was said so far, with these paths
+abbrev pub said_with_paths : Said → List (List ℕ) → words.Said
+said_with_paths s ps = record { mode = s.mode; data_set = s.data_set; bare = s.bare; target = s.target; limit = words.USUAL_LIMIT; paths = ps }
+
+-- what a function made of all the words
+abbrev pub SaidAs : Result Said Usage → Result words.Said Usage → Type 0
+SaidAs (Ok s) meant = (ps : List (List ℕ)) × PathsAre s.paths ps × (meant ≡ Ok (said_with_paths s ps))
+SaidAs (Err u) meant = meant ≡ Err u

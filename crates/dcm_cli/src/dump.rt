@@ -1,26 +1,20 @@
 // The dump of an input.
-ghost use Rattle.std.specs.Prelude.{◌≡◌, ◌≤◌, ◌<◌, ℕ, List, length, Option, None, Some};
+ghost use Rattle.std.specs.Prelude.{◌≡◌, ◌≤◌, ◌<◌, ℕ, List, length, None, Some};
 ghost use Rattle.dcm_base.specs.declared.mode.Mode.{Mode};
 ghost use Rattle.dcm_base.specs.declared.syntax.Syntax.{Syntax};
-ghost use Rattle.dcm_base.specs.Words.{Job, dump as dump_job};
-ghost use Rattle.dcm_cli.specs.Answer.{uid_of_syntax};
+ghost use Rattle.dcm_base.specs.Words.{dump as dump_job};
 ghost use Rattle.dcm_cli.specs.Pass as spec;
 ghost use Rattle.dcm_cli.specs.Run.{Worked};
 
 use crate::ending::Ending;
-use crate::head::read_head_of;
+use crate::head::{read_head_of, set_start};
 use crate::job::Dump;
-use crate::pass::{read_rest, read_set};
+use crate::pass::{PIECE, read_rest, read_set};
+use crate::syntax::uid_of_syntax;
 use dcm_base::{Coding, DeviceIn, DeviceOut, Mode, Syntax, Watched};
 use dcm_head::Meta;
 use dcm_stream::Machine;
 use dcm_tools::{DumpSink, dump_header, set_header};
-
-/// The bytes that are read at a time.
-const PIECE: usize = 65536;
-
-/// Where the meta group begins.
-const GROUP_AT: u64 = 132;
 
 /// Writes the dump of a file.
 fn dump_file<R: DeviceIn, W: DeviceOut>(
@@ -43,20 +37,9 @@ fn dump_file<R: DeviceIn, W: DeviceOut>(
     if dump_header(&meta, mode, out).is_err() {
         return Ending::Output;
     }
-    let start = GROUP_AT + meta.bytes().len() as u64;
+    let start = set_start(&meta);
     let mut sink = DumpSink::new(out, mode);
     read_set(begun, meta.coding(), start, input, buffer, &mut sink)
-}
-
-/// The unique identifier of the transfer syntax of a data set that is not encapsulated (PS3.5 annex A).
-fn uid_of_syntax(syntax: Syntax) -> &'static [u8]
-    ensures { result.now ≡ uid_of_syntax syntax }
-{
-    match syntax {
-        Syntax::Implicit => b"1.2.840.10008.1.2",
-        Syntax::Little => b"1.2.840.10008.1.2.1",
-        Syntax::Big => b"1.2.840.10008.1.2.2",
-    }
 }
 
 /// Writes the dump of a data set alone.

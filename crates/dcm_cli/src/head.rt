@@ -1,7 +1,6 @@
 // The head of a file, out of a device.
-ghost use Rattle.std.specs.Prelude.{◌≡◌, ◌≤◌, ◌<◌, length, IfOk, MatchResult};
-ghost use Rattle.std.specs.Io.KnownBytes.{prepend_known};
-ghost use Rattle.dcm_head.specs.MetaReading.{at_start, meta_finished};
+ghost use Rattle.std.specs.Prelude.{◌≡◌, ◌≤◌, ◌<◌, ◌^◌, length, IfOk, MatchResult};
+ghost use Rattle.dcm_head.specs.MetaReading.{HasEnded, at_start, meta_finished};
 ghost use Rattle.dcm_cli.specs.Pass as spec;
 
 use crate::ending::Ending;
@@ -18,6 +17,9 @@ pub struct Begun {
     pub read: u64,
     pub is_over: bool,
 }
+
+/// Where the meta group begins.
+const GROUP_AT: u64 = 132;
 
 /// The input ends with the head of a file, or within it.
 fn finish_head(meta: &mut Meta, read: u64) -> Result<Begun, Ending>
@@ -73,4 +75,13 @@ pub fn read_head_of<R: DeviceIn>(
             }
         }
     }
+}
+
+/// Where the data set of a file begins.
+pub fn set_start(meta: &Meta) -> u64
+    requires { HasEnded meta.now.end }
+    ensures place { result ≡ meta.now.place }
+    ensures limit { result ≤ 2 ^ 62 }
+{
+    GROUP_AT + meta.bytes().len() as u64
 }

@@ -5,6 +5,7 @@ use dcm_base::{Mode, Syntax};
 #[derive(Clone, Copy, Debug, PartialEq, Eq)]
 pub enum Job {
     Dump(Dump),
+    Convert(Convert),
 }
 
 /// The dump of a file, or of a data set alone in a syntax.
@@ -12,6 +13,12 @@ pub enum Job {
 pub struct Dump {
     pub mode: Mode,
     pub bare: Option<Syntax>,
+}
+
+/// The conversion of a file to a transfer syntax, or none for its own.
+#[derive(Clone, Copy, Debug, PartialEq, Eq)]
+pub struct Convert {
+    pub target: Option<Syntax>,
 }
 
 /// A job, and the paths of its input and its output, where `-` is a standard stream.

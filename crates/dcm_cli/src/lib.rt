@@ -1,6 +1,7 @@
 //! The program dcmtools: the job that words mean, its run over devices, lines on standard error, and the exit status.
 #![tactic(auto)]
 
+mod convert;
 mod devices;
 mod dump;
 mod ending;
@@ -10,12 +11,13 @@ pub mod laws;
 mod pass;
 mod program;
 pub mod run;
+mod syntax;
 #[cfg(test)]
 mod tests;
 mod told;
 mod words;
 
-pub use job::{Dump, Job, Planned};
+pub use job::{Convert, Dump, Job, Planned};
 pub use program::dcmtools;
 pub use told::{tell, tell_open};
 pub use words::plan;

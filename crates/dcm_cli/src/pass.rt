@@ -10,6 +10,9 @@ use crate::head::Begun;
 use dcm_base::{Coding, DeviceIn, Watched, get_some};
 use dcm_stream::{Halt, Machine, Sink};
 
+/// The bytes that are read at a time.
+pub const PIECE: usize = 65536;
+
 /// Feeds a machine that has not halted.
 fn feed<S: Sink>(piece: &[u8], machine: &mut Machine, sink: &mut S) -> Result<(), Halt>
     requires { machine_spec.is_halted machine.old ≡ false }

@@ -1,9 +1,11 @@
 // A job over devices.
 ghost use Rattle.std.specs.Prelude.{◌≡◌, ◌⊎◌, ◌↔◌, ℕ, List, Some, true, false};
+ghost use Rattle.dcm_cli.specs.Pass.{TellsUnread, TellsOutput};
 ghost use Rattle.dcm_cli.specs.Run as spec;
 ghost use Rattle.dcm_cli.specs.Told.{Tries};
 ghost use Rattle.dcm_cli.specs.Words.{job_of};
 
+use crate::convert::convert;
 use crate::dump::dump;
 use crate::ending::Ending;
 use crate::job::Job;
@@ -60,6 +62,22 @@ fn tell_ending<E: DeviceOut>(ending: Ending, errors: &mut Watched<E>) -> u8
     }
 }
 
+/// Does the work on a job, before its output is flushed.
+fn work<R: DeviceIn, W: DeviceOut>(
+    job: &Job,
+    input: &mut Watched<R>,
+    out: &mut Watched<W>,
+) -> Ending
+    ensures worked { (file : List ℕ) → R.remaining input.old ≡ Some file → spec.Worked (job_of job.now) file (W.contents out.old) (W.contents out.new) result }
+    ensures unread { TellsUnread (R.has_failed input.old) (R.has_failed input.new) result }
+    ensures failed { TellsOutput (W.has_failed out.old) (W.has_failed out.new) result }
+{
+    match *job {
+        Job::Dump(what) => dump(what, input, out),
+        Job::Convert(what) => convert(what, input, out),
+    }
+}
+
 /// Does a job: reads its input in pieces, writes its output as it goes, tells what is wrong on one line, and answers
 /// how it ended.
 pub fn run<R: DeviceIn, W: DeviceOut, E: DeviceOut>(
@@ -72,9 +90,7 @@ pub fn run<R: DeviceIn, W: DeviceOut, E: DeviceOut>(
     ensures flushed { W.has_failed out.old ≡ false → W.has_failed out.new ≡ false → W.is_flushed out.new ≡ true }
     ensures failed { R.has_failed input.old ≡ false → W.has_failed out.old ≡ false → (result.status ≡ 4) ↔ ((R.has_failed input.new ≡ true) ⊎ (W.has_failed out.new ≡ true)) }
 {
-    let ending = match *job {
-        Job::Dump(what) => dump(what, input, out),
-    };
+    let ending = work(job, input, out);
     let ending = flushed(ending, out);
     Outcome {
         status: tell_ending(ending, errors),

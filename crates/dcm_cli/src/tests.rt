@@ -1,3 +1,5 @@
+mod command_lines;
+mod conversions;
 mod failing;
 mod nested;
 mod rows;
@@ -5,8 +7,9 @@ mod rows;
 use crate::run::run;
 use crate::told::tell;
 use crate::words::plan;
+use conversions::CONVERSIONS;
 use dcm_base::{MemIn, MemOut, Std, Watched};
-use rows::{ROWS, Row, bytes_of, header_of};
+use rows::{ROWS, Row, bytes_of, front_of};
 use std::io;
 use std::io::Read;
 use std::process::Abort;
@@ -115,17 +118,30 @@ fn expect(rt: &impl Abort, row: &Row, wanted: &[u8], answer: &Answer) {
     assert!(rt; answer.told.as_slice() == row.told, "{name}");
 }
 
+fn expect_answers(rt: HostRuntime, abort: &impl Abort, row: &Row) -> Result<(), Fail> {
+    let input = joined(rt, bytes_of(row.start), row.input)?;
+    let wanted = joined(rt, front_of(row), row.lines)?;
+    for step in STEPS {
+        let answer = over_memory(rt, row.words, input.as_slice(), step, 3000)?;
+        expect(abort, row, wanted.as_slice(), &answer);
+        let answer = over_std(rt, row.words, input.as_slice(), step)?;
+        expect(abort, row, wanted.as_slice(), &answer);
+    }
+    Ok(())
+}
+
 #[test]
 fn dumps(rt: HostRuntime) -> Result<(), Fail> {
     for row in ROWS {
-        let input = joined(rt, bytes_of(row.start), row.input)?;
-        let wanted = joined(rt, header_of(row.header), row.lines)?;
-        for step in STEPS {
-            let answer = over_memory(rt, row.words, input.as_slice(), step, 3000)?;
-            expect(&rt, &row, wanted.as_slice(), &answer);
-            let answer = over_std(rt, row.words, input.as_slice(), step)?;
-            expect(&rt, &row, wanted.as_slice(), &answer);
-        }
+        expect_answers(rt, &rt, &row)?;
+    }
+    Ok(())
+}
+
+#[test]
+fn converts(rt: HostRuntime) -> Result<(), Fail> {
+    for row in CONVERSIONS {
+        expect_answers(rt, &rt, &row)?;
     }
     Ok(())
 }

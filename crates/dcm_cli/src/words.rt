@@ -1,14 +1,55 @@
 // The words of a command line.
-ghost use Rattle.std.specs.Prelude.{◌≡◌, map};
+ghost use Rattle.std.specs.Prelude.{◌≡◌, List, ℕ, map};
 ghost use Rattle.dcm_base.specs.Words as spec;
-ghost use Rattle.dcm_cli.specs.Words.{meant, Gives};
+ghost use Rattle.dcm_cli.specs.Words.{meant, reader, job_of, Gives, PathsAre, SaidAs};
 
-use crate::job::{Dump, Job, Planned};
+use crate::job::{Convert, Dump, Job, Planned};
 use dcm_base::{Mode, Syntax, Usage, Word, WordFault};
 use std::alloc::Global;
 
 /// The path of a standard stream.
 const STANDARD: &[u8] = b"-";
+
+/// A tool whose words are options and paths.
+#[derive(Clone, Copy, Debug, PartialEq, Eq)]
+enum Tool {
+    Dump,
+    Convert,
+}
+
+/// The paths among the words so far, in their order.
+#[derive(Clone, Copy)]
+enum Paths<'a> {
+    None,
+    One(&'a [u8]),
+    Two(&'a [u8], &'a [u8]),
+    More,
+}
+
+/// What the words so far have said; of two that exclude each other the last counts.
+#[derive(Clone, Copy)]
+struct Said<'a> {
+    mode: Mode,
+    data_set: bool,
+    bare: Option<Syntax>,
+    target: Option<Syntax>,
+    paths: Paths<'a>,
+}
+
+/// A path, unless the word has the form of an option.
+fn other_word(word: &[u8]) -> Word
+    ensures { result ≡ spec.other_word word.now }
+{
+    if word == b"-".as_slice() {
+        Word::Path
+    } else if word.is_empty() {
+        Word::Path
+    } else if word[0] == b'-' || word[0] == b'+' {
+        Word::Unknown
+    } else {
+        Word::Path
+    }
+}
 
 fn dump_word(word: &[u8]) -> Word
     ensures { result ≡ spec.dump_word word.now }
@@ -27,53 +68,141 @@ fn dump_word(word: &[u8]) -> Word
         Word::Bare(Syntax::Little)
     } else if word == b"-tb".as_slice() {
         Word::Bare(Syntax::Big)
-    } else if word == b"-".as_slice() {
-        Word::Path
-    } else if word.is_empty() {
-        Word::Path
-    } else if word[0] == b'-' || word[0] == b'+' {
-        Word::Unknown
     } else {
-        Word::Path
+        other_word(word)
     }
+}
+
+fn convert_word(word: &[u8]) -> Word
+    ensures { result ≡ spec.convert_word word.now }
+{
+    if word == b"+t=".as_slice() {
+        Word::Target(None)
+    } else if word == b"+ti".as_slice() {
+        Word::Target(Some(Syntax::Implicit))
+    } else if word == b"+te".as_slice() {
+        Word::Target(Some(Syntax::Little))
+    } else if word == b"+tb".as_slice() {
+        Word::Target(Some(Syntax::Big))
+    } else if word == b"-e".as_slice() {
+        Word::Accepted
+    } else if word == b"+fo".as_slice() {
+        Word::Accepted
+    } else {
+        other_word(word)
+    }
+}
+
+/// What a word says to a tool.
+fn word_of(tool: Tool, word: &[u8]) -> Word
+    ensures { result ≡ reader tool word.now }
+{
+    match tool {
+        Tool::Dump => dump_word(word),
+        Tool::Convert => convert_word(word),
+    }
+}
+
+/// The paths so far, and one behind them.
+fn and_path<'a>(paths: Paths<'a>, path: &'a [u8]) -> Paths<'a>
+    ensures { (ps : List (List ℕ)) → PathsAre paths.entry ps → PathsAre result (spec.and_path ps path.now) }
+{
+    match paths {
+        Paths::None => Paths::One(path),
+        Paths::One(first) => Paths::Two(first, path),
+        Paths::Two(_, _) => Paths::More,
+        Paths::More => Paths::More,
+    }
+}
+
+/// What the words behind a tool's name have said, or the first refusal.
+fn said_by<'a>(tool: Tool, words: &'a [&'a [u8]]) -> Result<Said<'a>, Usage>
+    ensures { SaidAs result (spec.said_by (reader tool) (map (λ w. w.now) words.now)) }
+{
+    let mut said: Said<'a> = Said {
+        mode: Mode::Short,
+        data_set: false,
+        bare: None,
+        target: None,
+        paths: Paths::None,
+    };
+    for (i, word) in words.iter().enumerate() {
+        match word_of(tool, word) {
+            Word::Show(mode) => said.mode = mode,
+            Word::WholeFile => said.data_set = false,
+            Word::DataSet => said.data_set = true,
+            Word::Bare(syntax) => said.bare = Some(syntax),
+            Word::Target(syntax) => said.target = syntax,
+            Word::Limit => {}
+            Word::Accepted => {}
+            Word::Path => said.paths = and_path(said.paths, word),
+            Word::Unknown => return Err(Usage::AtWord(WordFault::UnknownOption, i + 2)),
+        }
+    }
+    Ok(said)
 }
 
 /// What the words of dcmdump behind its name mean, or the first refusal.
 fn plan_dump<'a>(words: &'a [&'a [u8]]) -> Result<Planned<'a>, Usage>
     ensures { Gives result (spec.dump_plan (map (λ w. w.now) words.now)) }
 {
-    let mut mode = Mode::Short;
-    let mut data_set = false;
-    let mut syntax = None;
-    let mut paths: usize = 0;
-    let mut input: &'a [u8] = &[];
-    for (i, word) in words.iter().enumerate() {
-        match dump_word(word) {
-            Word::Show(m) => mode = m,
-            Word::WholeFile => data_set = false,
-            Word::DataSet => data_set = true,
-            Word::Bare(s) => syntax = Some(s),
-            Word::Path => {
-                paths += 1;
-                input = word;
-            }
-            Word::Target(_) => {}
-            Word::Limit => {}
-            Word::Accepted => {}
-            Word::Unknown => return Err(Usage::AtWord(WordFault::UnknownOption, i + 2)),
-        }
-    }
-    if paths != 1 || input.is_empty() {
-        return Err(Usage::Whole(WordFault::WrongPaths));
-    }
-    if data_set != syntax.is_some() {
+    let said = match said_by(Tool::Dump, words) {
+        Ok(said) => said,
+        Err(usage) => return Err(usage),
+    };
+    let input = match said.paths {
+        Paths::One(input) if !input.is_empty() => input,
+        _ => return Err(Usage::Whole(WordFault::WrongPaths)),
+    };
+    if said.data_set != said.bare.is_some() {
         return Err(Usage::Whole(WordFault::OptionsApart));
     }
     Ok(Planned {
         input,
         output: STANDARD,
-        job: Job::Dump(Dump { mode, bare: syntax }),
+        job: Job::Dump(Dump {
+            mode: said.mode,
+            bare: said.bare,
+        }),
     })
+}
+
+/// A job from one path to another, unless they are the same.
+fn plan_if_apart<'a>(input: &'a [u8], output: &'a [u8], job: Job) -> Result<Planned<'a>, Usage>
+    ensures { Gives result (spec.plan_if_apart input.now output.now (job_of job)) }
+{
+    if input == output && input != STANDARD {
+        return Err(Usage::Whole(WordFault::SamePath));
+    }
+    Ok(Planned { input, output, job })
+}
+
+/// A job with an input and an output.
+fn plan_with_two<'a>(paths: Paths<'a>, job: Job) -> Result<Planned<'a>, Usage>
+    ensures { (ps : List (List ℕ)) → PathsAre paths.entry ps → Gives result (spec.plan_with_two ps (job_of job)) }
+{
+    match paths {
+        Paths::Two(input, output) if !input.is_empty() && !output.is_empty() => {
+            plan_if_apart(input, output, job)
+        }
+        _ => Err(Usage::Whole(WordFault::WrongPaths)),
+    }
+}
+
+/// What the words of dcmconv behind its name mean, or the first refusal.
+fn plan_convert<'a>(words: &'a [&'a [u8]]) -> Result<Planned<'a>, Usage>
+    ensures { Gives result (spec.convert_plan (map (λ w. w.now) words.now)) }
+{
+    let said = match said_by(Tool::Convert, words) {
+        Ok(said) => said,
+        Err(usage) => return Err(usage),
+    };
+    plan_with_two(
+        said.paths,
+        Job::Convert(Convert {
+            target: said.target,
+        }),
+    )
 }
 
 /// The job that the words behind the program's name mean, with the paths borrowed from them, or the first refusal.
@@ -82,6 +211,7 @@ pub fn plan<'a>(_alloc: Global, words: &'a [&'a [u8]]) -> Result<Planned<'a>, Us
 {
     match words {
         [tool, rest @ ..] if *tool == b"dcmdump".as_slice() => plan_dump(rest),
+        [tool, rest @ ..] if *tool == b"dcmconv".as_slice() => plan_convert(rest),
         _ => Err(Usage::AtWord(WordFault::UnknownTool, 1)),
     }
 }

@@ -1,7 +1,8 @@
 // Runs over devices that fail.
 ghost use Rattle.std.specs.Prelude.{◌≡◌, true, None};
 
-use super::rows::{ROWS, Row, bytes_of, header_of};
+use super::conversions::CONVERSIONS;
+use super::rows::{ROWS, Row, bytes_of, front_of, header_of};
 use super::{joined, room, split};
 use crate::job::Job;
 use crate::run::run;
@@ -214,7 +215,7 @@ fn case_of(rt: HostRuntime, abort: &impl Abort, row: &Row) -> Result<Case, Fail>
     Ok(Case {
         job: planned.job,
         input: joined(rt, bytes_of(row.start), row.input)?,
-        whole: joined(rt, header_of(row.header), row.lines)?,
+        whole: joined(rt, front_of(row), row.lines)?,
     })
 }
 
@@ -361,6 +362,15 @@ fn reading_fails(rt: HostRuntime) -> Result<(), Fail> {
 }
 
 #[test]
+fn reading_fails_in_conversions(rt: HostRuntime) -> Result<(), Fail> {
+    for row in CONVERSIONS {
+        read_failing(rt, &rt, &row, true)?;
+        read_failing(rt, &rt, &row, false)?;
+    }
+    Ok(())
+}
+
+#[test]
 fn writing_fails(rt: HostRuntime) -> Result<(), Fail> {
     for row in ROWS {
         write_failing(rt, &rt, &row)?;
@@ -369,8 +379,24 @@ fn writing_fails(rt: HostRuntime) -> Result<(), Fail> {
 }
 
 #[test]
+fn writing_fails_in_conversions(rt: HostRuntime) -> Result<(), Fail> {
+    for row in CONVERSIONS {
+        write_failing(rt, &rt, &row)?;
+    }
+    Ok(())
+}
+
+#[test]
 fn telling_fails(rt: HostRuntime) -> Result<(), Fail> {
     for row in ROWS {
+        tell_failing(rt, &rt, &row)?;
+    }
+    Ok(())
+}
+
+#[test]
+fn telling_fails_in_conversions(rt: HostRuntime) -> Result<(), Fail> {
+    for row in CONVERSIONS {
         tell_failing(rt, &rt, &row)?;
     }
     Ok(())

@@ -45,6 +45,15 @@ pub fn header_of(start: Start) -> &'static [u8] {
     }
 }
 
+/// What the output of a row begins with: the header of a dump, or the head of a file.
+pub fn front_of(row: &Row) -> &'static [u8] {
+    if row.words.starts_with("dcmdump") {
+        header_of(row.header)
+    } else {
+        bytes_of(row.header)
+    }
+}
+
 const EXPLICIT_LITTLE: &[u8] =
     b"\0\0\0\0\0\0\0\0\0\0\0\0\0\0\0\0\0\0\0\0\0\0\0\0\0\0\0\0\0\0\0\0\0\0\0\0\0\0\0\0\0\0\0\0\0\0\0\0\0\0\0\0\0\0\0\0\0\0\0\0\0\0\0\0\0\0\0\0\0\0\0\0\0\0\0\0\0\0\0\0\0\0\0\0\0\0\0\0\0\0\0\0\0\0\0\0\0\0\0\0\0\0\0\0\0\0\0\0\0\0\0\0\0\0\0\0\0\0\0\0\0\0\0\0\0\0\0\0DICM\x02\0\0\0UL\x04\0\x1c\0\0\0\x02\0\x10\0UI\x14\01.2.840.10008.1.2.1\0";
 

@@ -14,12 +14,12 @@ use Rattle.dcm_cli.proofs.dump.dump_set.Goals as goal
 pub returns-then-is_err-clause-worked : goal.returns-then-is_err-clause-worked
 returns-then-is_err-clause-worked g c = λ file is.
     alone_unheaded c.args.mode c.args.syntax file (g.W.DeviceOut.contents c.args.out.now) (g.W.DeviceOut.contents c.set_header.new.out)
-    (subst (λ uid. AppendsFront (g.W.DeviceOut.contents c.args.out.now) (g.W.DeviceOut.contents c.set_header.new.out) (set_header uid)) c.uid_of_syntax.ensures
+    (subst (λ uid. AppendsFront (g.W.DeviceOut.contents c.args.out.now) (g.W.DeviceOut.contents c.set_header.new.out) (set_header uid)) c.uid_of_syntax.ensures.value
     (put_failed _ _ (set_header c.uid_of_syntax.result.now) c.set_header.result (sym c.if-is_err.ensures.value) c.set_header.ensures.bytes))
 
 pub returns-clause-worked : goal.returns-clause-worked
 returns-clause-worked g c = λ file is.
-    let went = put_whole _ _ (set_header c.uid_of_syntax.result.now) c.set_header.result (sym c.if-is_err.ensures.value) c.set_header.ensures.bytes ∙ ap (λ uid. append_known (g.W.DeviceOut.contents c.args.out.now) (set_header uid)) c.uid_of_syntax.ensures in
+    let went = put_whole _ _ (set_header c.uid_of_syntax.result.now) c.set_header.result (sym c.if-is_err.ensures.value) c.set_header.ensures.bytes ∙ ap (λ uid. append_known (g.W.DeviceOut.contents c.args.out.now) (set_header uid)) c.uid_of_syntax.ensures.value in
     let mid = ap (λ (x : g.row.W.Denot). g.W.DeviceOut.contents x) c.new-sink.ensures.out ∙ went in
     let first = ap (λ (p : Progress). p.reading) c.new-machine.ensures in
     let pumps = subst (λ (r : Reading). spec.Pumps bars_nothing dump_step dump_writes (g.R.DeviceIn.remaining c.args.input.now) r (dump_start c.args.mode) (g.W.DeviceOut.contents c.new-sink.result.out.now) (g.R.DeviceIn.remaining c.read_rest.new.input) (g.W.DeviceOut.contents c.read_rest.new.sink.out.now) c.read_rest.result) first

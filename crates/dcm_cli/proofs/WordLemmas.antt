@@ -1,7 +1,5 @@
--- The words of dcmdump, one after another.
-use Rattle.std.proofs.Common.{◌≡◌, ℕ, suc, ◌<◌, ◌+◌, List, [], ◌∷◌, length, map, drop, get_or, Option, None, Bool, true, false, cond, Result, Err, refl, sym, ◌∙◌, ap, arith, drop-cons, add-one, Bor}
-use Rattle.dcm_base.specs.declared.syntax.Syntax.{Syntax}
-use Rattle.dcm_base.specs.declared.mode.Mode.{Mode}
+-- The words of a tool, one after another.
+use Rattle.std.proofs.Common.{◌≡◌, ℕ, suc, ◌<◌, ◌+◌, List, [], ◌∷◌, length, map, drop, get_or, None, Some, Bool, true, false, cond, Result, Err, refl, sym, ◌∙◌, ap, arith, drop-cons, add-one, Bor}
 use Rattle.dcm_base.specs.declared.mode.Mode.TheVariants.{Short, Full}
 use Rattle.dcm_base.specs.declared.syntax.Syntax.TheVariants.{Implicit, Little, Big}
 use Rattle.std.specs.Prelude.{codes, bytes_eq}
@@ -10,7 +8,12 @@ use Rattle.dcm_base.specs.declared.words.Word.TheVariants.{Show, WholeFile, Data
 use Rattle.dcm_base.specs.declared.words.Usage.{Usage}
 use Rattle.dcm_base.specs.declared.words.Usage.TheVariants.{AtWord}
 use Rattle.dcm_base.specs.declared.fault.WordFault.TheVariants.{UnknownOption}
-use Rattle.dcm_base.specs.Words.{Said, said_with, said_after, and_path, USUAL_LIMIT, dump_word, is_option}
+use Rattle.dcm_base.specs.Words.{Said, said_with, said_after, and_path, is_option}
+use Rattle.dcm_cli.specs.declared.words.Tool.{Tool}
+use Rattle.dcm_cli.specs.declared.words.Tool.TheVariants as tools
+use Rattle.dcm_cli.specs.declared.words.Paths.{Paths}
+use Rattle.dcm_cli.specs.declared.words.Paths.TheVariants as paths
+use Rattle.dcm_cli.specs.Words.{reader, PathsAre}
 
 abbrev texts : List (Bor (List ℕ)) → List (List ℕ)
 texts ws = map (λ w. w.now) ws
@@ -69,49 +72,57 @@ module _ (read : List ℕ → Word) where
       ap (λ (l : List (List ℕ)). said_after read (i + 2) s l) (next_word i ws d h)
       ∙ no_word (i + 2) s (get_or ws i d).now (texts (drop (i + 1) ws)) (sym p)
 
--- what dcmdump's words so far have said
-abbrev pub state : Mode → Bool → Option Syntax → List (List ℕ) → Said
-state m b s ps = record { mode = m; data_set = b; bare = s; target = None; limit = USUAL_LIMIT; paths = ps }
-
 pub length-and_path : (ps : List (List ℕ)) (w : List ℕ) → length (and_path ps w) ≡ length ps + 1
 length-and_path [] w = refl
 length-and_path (p ∷ ps) w = omega (arith, length-and_path ps w)
 
-pub only_path : (ps : List (List ℕ)) (w : List ℕ) → length (and_path ps w) ≡ 1 → and_path ps w ≡ w ∷ []
-only_path [] w h = refl
-only_path (p ∷ ps) w h = absurd (omega (arith, length-and_path ps w))
+-- there were more than two paths
+pub more_than_two : (p : Paths) (ps : List (List ℕ)) → p ≡ paths.More → PathsAre p ps → 2 < length ps
+more_than_two paths.None ps e h = cc
+more_than_two (paths.One first) ps e h = cc
+more_than_two (paths.Two first second) ps e h = cc
+more_than_two paths.More ps e h = h
 
--- the words that dcmdump knows
-abbrev pub is_dump : Word → Bool
-is_dump (Target y) = false
-is_dump Limit = false
-is_dump _ = true
+-- no word of these tools is a limit
+abbrev no_limit : Word → Bool
+no_limit Limit = false
+no_limit _ = true
 
-tests : (a b c d e f g h : Bool)
-    → is_dump (cond a (Show Short) (cond b (Show Full) (cond c WholeFile (cond d DataSet (cond e (Bare Implicit) (cond f (Bare Little) (cond g (Bare Big) (cond h Unknown Path)))))))) ≡ true
-tests true b c d e f g h = refl
-tests false true c d e f g h = refl
-tests false false true d e f g h = refl
-tests false false false true e f g h = refl
-tests false false false false true f g h = refl
-tests false false false false false true g h = refl
-tests false false false false false false true h = refl
-tests false false false false false false false true = refl
-tests false false false false false false false false = refl
+others : (h : Bool) → no_limit (cond h Unknown Path) ≡ true
+others true = refl
+others false = refl
 
-pub dump_words : (w : List ℕ) → is_dump (dump_word w) ≡ true
-dump_words w = tests (bytes_eq w (codes "-L")) (bytes_eq w (codes "+L")) (bytes_eq w (codes "+fo")) (bytes_eq w (codes "-f")) (bytes_eq w (codes "-ti")) (bytes_eq w (codes "-te")) (bytes_eq w (codes "-tb")) (is_option w)
+dump_tests : (a b c d e f g h : Bool)
+    → no_limit (cond a (Show Short) (cond b (Show Full) (cond c WholeFile (cond d DataSet (cond e (Bare Implicit) (cond f (Bare Little) (cond g (Bare Big) (cond h Unknown Path)))))))) ≡ true
+dump_tests true b c d e f g h = refl
+dump_tests false true c d e f g h = refl
+dump_tests false false true d e f g h = refl
+dump_tests false false false true e f g h = refl
+dump_tests false false false false true f g h = refl
+dump_tests false false false false false true g h = refl
+dump_tests false false false false false false true h = refl
+dump_tests false false false false false false false h = others h
 
-pub no_target : (w : List ℕ) (y : Option Syntax) → Target y ≡ dump_word w → ⊥
-no_target w y e = let known : is_dump (Target y) ≡ true = ap is_dump e ∙ dump_words w in cc
+convert_tests : (a b c d e f h : Bool)
+    → no_limit (cond a (Target None) (cond b (Target (Some Implicit)) (cond c (Target (Some Little)) (cond d (Target (Some Big)) (cond e Accepted (cond f Accepted (cond h Unknown Path))))))) ≡ true
+convert_tests true b c d e f h = refl
+convert_tests false true c d e f h = refl
+convert_tests false false true d e f h = refl
+convert_tests false false false true e f h = refl
+convert_tests false false false false true f h = refl
+convert_tests false false false false false true h = refl
+convert_tests false false false false false false h = others h
 
-pub no_limit : (w : List ℕ) → Limit ≡ dump_word w → ⊥
-no_limit w e = let known : is_dump Limit ≡ true = ap is_dump e ∙ dump_words w in cc
+known : (tool : Tool) (w : List ℕ) → no_limit (reader tool w) ≡ true
+known tools.Dump w =
+    dump_tests (bytes_eq w (codes "-L")) (bytes_eq w (codes "+L")) (bytes_eq w (codes "+fo")) (bytes_eq w (codes "-f")) (bytes_eq w (codes "-ti")) (bytes_eq w (codes "-te")) (bytes_eq w (codes "-tb")) (is_option w)
+known tools.Convert w =
+    convert_tests (bytes_eq w (codes "+t=")) (bytes_eq w (codes "+ti")) (bytes_eq w (codes "+te")) (bytes_eq w (codes "+tb")) (bytes_eq w (codes "-e")) (bytes_eq w (codes "+fo")) (is_option w)
+
+pub never_limit : (tool : Tool) (w : List ℕ) → Limit ≡ reader tool w → ⊥
+never_limit tool w e = let yes : no_limit Limit ≡ true = ap no_limit e ∙ known tool w in cc
 
 -- one turn of the loop
-pub turn : {M : Result Said Usage} (i : ℕ) (ws : List (Bor (List ℕ))) (d : Bor (List ℕ)) (s t : Said) (x : Word) → i < length ws → x ≡ dump_word (get_or ws i d).now → goes x ≡ true
-    → said_with x (get_or ws i d).now s ≡ t → said_after dump_word (i + 2) s (texts (drop i ws)) ≡ M → said_after dump_word (i + 1 + 2) t (texts (drop (i + 1) ws)) ≡ M
-turn i ws d s t x h p g e v = ap (λ (u : Said). said_after dump_word (i + 1 + 2) u (texts (drop (i + 1) ws))) (sym e) ∙ (sym (goes_on dump_word i ws d s x h p g) ∙ v)
-
-pub alike : (m m' : Mode) (b b' : Bool) (y y' : Option Syntax) (ps : List (List ℕ)) → m' ≡ m → b' ≡ b → y' ≡ y → state m b y ps ≡ state m' b' y' ps
-alike m m' b b' y y' ps e f g = cc
+pub turn : {M : Result Said Usage} (read : List ℕ → Word) (i : ℕ) (ws : List (Bor (List ℕ))) (d : Bor (List ℕ)) (s t : Said) (x : Word) → i < length ws → x ≡ read (get_or ws i d).now → goes x ≡ true
+    → said_with x (get_or ws i d).now s ≡ t → said_after read (i + 2) s (texts (drop i ws)) ≡ M → said_after read (i + 1 + 2) t (texts (drop (i + 1) ws)) ≡ M
+turn read i ws d s t x h p g e v = ap (λ (u : Said). said_after read (i + 1 + 2) u (texts (drop (i + 1) ws))) (sym e) ∙ (sym (goes_on read i ws d s x h p g) ∙ v)

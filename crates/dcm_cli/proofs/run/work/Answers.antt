@@ -1,0 +1,13 @@
+use Rattle.std.proofs.Common.{sym, subst}
+use Rattle.dcm_cli.specs.declared.job.Job.{Job}
+use Rattle.dcm_cli.specs.Run.{Worked}
+use Rattle.dcm_cli.specs.Words.{job_of}
+use Rattle.dcm_cli.proofs.run.work.Goals as goal
+
+pub returns-in-Dump-clause-worked : goal.returns-in-Dump-clause-worked
+returns-in-Dump-clause-worked g c = λ file is.
+    subst (λ (job : Job). Worked (job_of job) file (g.W.DeviceOut.contents c.args.out.now) (g.W.DeviceOut.contents c.dump.new.out) c.dump.result) (sym c.in-Dump.is) (c.dump.ensures.worked file is)
+
+pub returns-in-Convert-clause-worked : goal.returns-in-Convert-clause-worked
+returns-in-Convert-clause-worked g c = λ file is.
+    subst (λ (job : Job). Worked (job_of job) file (g.W.DeviceOut.contents c.args.out.now) (g.W.DeviceOut.contents c.convert.new.out) c.convert.result) (sym c.in-Convert.is) (c.convert.ensures.worked file is)
