@@ -6,6 +6,9 @@ use std::fs::File;
 use std::io::{Read, Stdin, Stdout, Write};
 use std::{io, str};
 
+/// What gives no byte, for a standard stream that is closed.
+const NOTHING: &str = "/dev/null";
+
 /// The path of a standard stream.
 const STANDARD: &[u8] = b"-";
 
@@ -45,6 +48,24 @@ impl Write for Output {
             Output::Standard(output) => output.flush(),
             Output::File(file) => file.flush(),
         }
+    }
+}
+
+/// The numbers of standard streams that were closed when the program began.
+#[derive(Drop)]
+pub struct Reserved {
+    _input: Option<File>,
+    _output: Option<File>,
+    _errors: Option<File>,
+}
+
+/// Takes the numbers of standard streams that are closed, so that no file that is opened after it gets one of them, and with
+/// it what is written to the stream. They are kept as long as the answer is.
+pub fn reserve(rt: HostRuntime) -> Reserved {
+    Reserved {
+        _input: File::open(&rt, NOTHING).ok(),
+        _output: File::open(&rt, NOTHING).ok(),
+        _errors: File::open(&rt, NOTHING).ok(),
     }
 }
 

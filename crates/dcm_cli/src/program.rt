@@ -3,7 +3,7 @@ ghost use Rattle.std.specs.Prelude.{◌≡◌, ◌≢◌};
 ghost use Rattle.std.specs.IoError.{error_kind};
 ghost use Rattle.dcm_cli.specs.Told as spec;
 
-use crate::devices::{open_input, open_output};
+use crate::devices::{open_input, open_output, reserve};
 use crate::job::Planned;
 use crate::run::run;
 use crate::told::{tell, tell_open};
@@ -38,6 +38,7 @@ fn standard_error(rt: HostRuntime) -> Watched<Std<Stderr>> {
 
 /// Opens the devices of a job and runs it. The input is opened before the output.
 fn work(rt: HostRuntime, planned: &Planned) -> u8 {
+    let _reserved = reserve(rt);
     let mut errors = standard_error(rt);
     let mut input = match open_input(rt, planned.input) {
         Ok(input) => Watched::new(Std::new(input)),
