@@ -1,11 +1,13 @@
 #!/usr/bin/env python3
-"""Measures `dcmtools dcmdump` beside `cat`, and beside DCMTK's dcmdump where it is installed.
+"""Measures `dcmtools dcmdump` and `dcmtools dcmconv` beside `cat`, and beside DCMTK's tools where they are installed.
 
     bench/run.py [--binary PATH] [--mebibytes N] [--full-mebibytes N] [--rounds N] [--starts N]
 
-The inputs are made in a temporary directory, which takes a little more than four times `--mebibytes` and is removed at
-the end. They are read from the page cache, and all output goes to /dev/null. One run prints three tables: throughput
-(the median of the rounds, over the bytes of the input), time of a whole process on a small file, and peak memory.
+The inputs are made in a temporary directory, which takes a little more than five times `--mebibytes` and is removed at
+the end. They are read from the page cache. Dumps go to /dev/null. A conversion writes a file into the same directory,
+as does `cat FILE > OUTPUT` beside it, and each starts without that file. One run prints four tables: throughput of dumps
+and of conversions (the median of the rounds, over the bytes of the input), time of a whole process on a small file, and
+peak memory.
 """
 
 import argparse
@@ -18,6 +20,7 @@ import sys
 import tempfile
 import time
 from pathlib import Path
+from typing import NamedTuple
 
 MEBIBYTE = 1 << 20
 UNDEFINED = 0xFFFFFFFF
@@ -30,7 +33,6 @@ JPEG = "1.2.840.10008.1.2.4.50"
 
 NESTED_OUTER = 1_000
 NESTED_INNER = 10
-NESTED_LEAVES = 20
 
 
 # ---- the bytes of an input (PS3.5 7, PS3.10 7.1)
@@ -112,21 +114,25 @@ def make_fragments(path, mebibytes):
         out.write(head(LITTLE, 0xFFFE, 0xE0DD, "", 0))
 
 
+# elements by their tags, which ascend without repeats
+NESTED_TAGS = [
+    ("SH", (0x0008, 0x0100)), ("SH", (0x0008, 0x0102)), ("LO", (0x0008, 0x0104)), ("UI", (0x0008, 0x1150)),
+    ("UI", (0x0008, 0x1155)), ("LO", (0x0010, 0x0020)), ("LO", (0x0010, 0x1000)), ("SH", (0x0010, 0x2160)),
+    ("LO", (0x0018, 0x1000)), ("LO", (0x0018, 0x1020)), ("UI", (0x0020, 0x000D)), ("UI", (0x0020, 0x000E)),
+    ("SH", (0x0020, 0x0010)), ("UI", (0x0020, 0x0052)), ("LO", (0x0020, 0x1040)), ("SH", (0x0028, 0x0A02)),
+    ("LO", (0x0032, 0x1060)), ("LO", (0x0040, 0x0007)), ("SH", (0x0040, 0x0009)), ("UI", (0x0040, 0xA124)),
+]
+
+
 def nested_leaf(number):
-    kinds = [
-        (0x0100, "SH", b"T-%05d" % number),
-        (0x0102, "SH", b"SRT"),
-        (0x0104, "LO", b"a meaning of number %d" % number),
-        (0x1150, "UI", b"1.2.840.10008.5.1.4.1.1.2"),
-        (0x1155, "UI", b"2.25.%d" % number),
-    ]
-    element, vr, value = kinds[number % len(kinds)]
-    return leaf(LITTLE, 0x0008, element, vr, value)
+    vr, (group, element) = NESTED_TAGS[number]
+    value = {"SH": b"T-%05d" % number, "LO": b"a meaning of number %d" % number, "UI": b"2.25.%d" % number}[vr]
+    return leaf(LITTLE, group, element, vr, value)
 
 
 def make_nested(path):
     """200,000 elements, in items of known length within items of undefined length."""
-    leaves = b"".join(nested_leaf(number) for number in range(NESTED_LEAVES))
+    leaves = b"".join(nested_leaf(number) for number in range(len(NESTED_TAGS)))
     item = head(LITTLE, 0xFFFE, 0xE000, "", len(leaves)) + leaves
     inner = item * NESTED_INNER
     outer = (
@@ -137,7 +143,7 @@ def make_nested(path):
     )
     with open(path, "wb") as out:
         out.write(meta(LITTLE) + front(LITTLE))
-        out.write(head(LITTLE, 0x0008, 0x1115, "SQ", UNDEFINED))
+        out.write(head(LITTLE, 0x0040, 0xA730, "SQ", UNDEFINED))
         for _ in range(NESTED_OUTER):
             out.write(outer)
         out.write(head(LITTLE, 0xFFFE, 0xE0DD, "", 0))
@@ -147,9 +153,20 @@ def make_small(path):
     Path(path).write_bytes(meta(LITTLE) + front(LITTLE))
 
 
+class Work(NamedTuple):
+    """What a program has to do: a dump of an input, or a conversion where there is an output."""
+
+    name: str
+    options: list
+    path: str
+    output: str | None = None
+
+
 def make_inputs(folder, mebibytes, full_mebibytes):
-    """The inputs, each as (what it is, options of dcmdump, path)."""
+    """The dumps, the conversions, and the dump of a small file."""
     path = lambda name: os.path.join(folder, name)
+    dump = lambda name, option, file: Work(name, [option], path(file))
+    convert = lambda name, option, file: Work(name, [option], path(file), path("output"))
     make_native(path("little"), LITTLE, mebibytes)
     make_native(path("big"), BIG, mebibytes)
     make_native(path("implicit"), IMPLICIT, mebibytes)
@@ -158,27 +175,40 @@ def make_inputs(folder, mebibytes, full_mebibytes):
     make_native(path("full_big"), BIG, full_mebibytes)
     make_nested(path("nested"))
     make_small(path("small"))
-    return [
-        (f"native little endian, {mebibytes} MiB of OW", ["-L"], path("little")),
-        (f"native big endian, {mebibytes} MiB of OW", ["-L"], path("big")),
-        (f"implicit, {mebibytes} MiB of OW", ["-L"], path("implicit")),
-        (f"{mebibytes} fragments of 1 MiB", ["-L"], path("fragments")),
-        ("200,000 elements in nested sequences", ["-L"], path("nested")),
-        ("200,000 elements in nested sequences", ["+L"], path("nested")),
-        (f"native little endian, {full_mebibytes} MiB of OW", ["+L"], path("full_little")),
-        (f"native big endian, {full_mebibytes} MiB of OW", ["+L"], path("full_big")),
-    ], path("small")
+    little = f"native little endian, {mebibytes} MiB of OW"
+    big = f"native big endian, {mebibytes} MiB of OW"
+    implicit = f"implicit, {mebibytes} MiB of OW"
+    nested = "200,000 elements in nested sequences"
+    dumps = [
+        dump(little, "-L", "little"),
+        dump(big, "-L", "big"),
+        dump(implicit, "-L", "implicit"),
+        dump(f"{mebibytes} fragments of 1 MiB", "-L", "fragments"),
+        dump(nested, "-L", "nested"),
+        dump(nested, "+L", "nested"),
+        dump(f"native little endian, {full_mebibytes} MiB of OW", "+L", "full_little"),
+        dump(f"native big endian, {full_mebibytes} MiB of OW", "+L", "full_big"),
+    ]
+    conversions = [
+        convert(little, "+t=", "little"),
+        convert(little, "+tb", "little"),
+        convert(big, "+te", "big"),
+        convert(implicit, "+te", "implicit"),
+        convert(f"{mebibytes} fragments of 1 MiB", "+t=", "fragments"),
+        convert(nested, "+t=", "nested"),
+    ]
+    return dumps, conversions, Work("small", [], path("small"))
 
 
 # ---- processes
 
 
 GNU_TIME = "/usr/bin/time"
-NULL_OUTPUT = [(os.POSIX_SPAWN_OPEN, 1, os.devnull, os.O_WRONLY, 0)]
+WRITE = os.O_WRONLY | os.O_CREAT | os.O_TRUNC
 
 
-def spawn(words):
-    return os.posix_spawn(words[0], words, os.environ, file_actions=NULL_OUTPUT)
+def spawn(words, output):
+    return os.posix_spawn(words[0], words, os.environ, file_actions=[(os.POSIX_SPAWN_OPEN, 1, output, WRITE, 0o644)])
 
 
 def check_status(words, status):
@@ -186,16 +216,16 @@ def check_status(words, status):
         sys.exit(f"status {os.waitstatus_to_exitcode(status)} of {' '.join(words)}")
 
 
-def seconds_of(words):
+def seconds_of(words, output):
     begin = time.perf_counter()
-    process = spawn(words)
+    process = spawn(words, output)
     _, status = os.waitpid(process, 0)
     elapsed = time.perf_counter() - begin
     check_status(words, status)
     return elapsed
 
 
-def peak_of(words):
+def peak_of(words, output):
     """The peak resident memory in KiB, as GNU time tells it, or nothing where it is not installed.
 
     ru_maxrss of a child of this process will not do: it counts what the interpreter held before the program took its
@@ -204,23 +234,44 @@ def peak_of(words):
     if not os.access(GNU_TIME, os.X_OK):
         return None
     with tempfile.NamedTemporaryFile("r") as told:
-        seconds_of([GNU_TIME, "-f", "%M", "-o", told.name, *words])
+        seconds_of([GNU_TIME, "-f", "%M", "-o", told.name, *words], output)
         return int(told.read())
 
 
-# ---- the tables
+# ---- the programs
+
+
+def cat(work):
+    return [shutil.which("cat"), work.path], work.output or os.devnull
+
+
+def tool_of(work):
+    return "dcmconv" if work.output else "dcmdump"
+
+
+def words_behind(work):
+    return [*work.options, work.path, *([work.output] if work.output else [])]
 
 
 def programs(binary):
-    """Each program, as a function of options and path."""
+    """Each program, as a function of the work that gives its words and where its standard output goes."""
     found = {
-        "cat": lambda options, path: [shutil.which("cat"), path],
-        "dcmtools": lambda options, path: [binary, "dcmdump", *options, path],
+        "cat": cat,
+        "dcmtools": lambda work: ([binary, tool_of(work), *words_behind(work)], os.devnull),
     }
-    dcmtk = shutil.which("dcmdump")
-    if dcmtk:
-        found["DCMTK"] = lambda options, path: [dcmtk, *options, path]
+    if shutil.which("dcmdump") and shutil.which("dcmconv"):
+        found["DCMTK"] = lambda work: ([shutil.which(tool_of(work)), *words_behind(work)], os.devnull)
     return found
+
+
+def measured(measure, program, work):
+    """What is measured of a program, where no output of an earlier run is there."""
+    if work.output and os.path.exists(work.output):
+        os.remove(work.output)
+    return measure(*program(work))
+
+
+# ---- the tables
 
 
 def row(cells):
@@ -235,16 +286,15 @@ def print_table(title, heading, rows):
         print(row(cells))
 
 
-def throughput_row(name, options, path, run, rounds):
-    size = os.path.getsize(path)
+def throughput_row(work, run, rounds):
+    size = os.path.getsize(work.path)
     medians = {}
-    for program, words in run.items():
-        times = [seconds_of(words(options, path)) for _ in range(rounds)]
-        medians[program] = statistics.median(times)
-    cells = [name, " ".join(options)]
-    for program, seconds in medians.items():
+    for name, program in run.items():
+        medians[name] = statistics.median(measured(seconds_of, program, work) for _ in range(rounds))
+    cells = [work.name, " ".join(work.options)]
+    for name, seconds in medians.items():
         cells.append(f"{size / seconds / 1e6:,.0f}")
-        if program != "cat":
+        if name != "cat":
             cells.append(f"{seconds / medians['cat']:.2f}")
     return cells
 
@@ -253,30 +303,31 @@ def with_ratios(run):
     return [title for program in run for title in ([program] if program == "cat" else [program, "time / cat"])]
 
 
-def print_throughput(inputs, run, rounds):
-    rows = [throughput_row(name, options, path, run, rounds) for name, options, path in inputs]
-    print_table("MB/s of input", ["Input", "Options", *with_ratios(run)], rows)
+def print_throughput(title, works, run, rounds):
+    rows = [throughput_row(work, run, rounds) for work in works]
+    print_table(title, ["Input", "Options", *with_ratios(run)], rows)
 
 
 def print_starts(small, run, starts):
     means = {}
-    for program, words in run.items():
-        means[program] = statistics.mean(seconds_of(words([], small)) for _ in range(starts))
+    for name, program in run.items():
+        means[name] = statistics.mean(measured(seconds_of, program, small) for _ in range(starts))
     cells = []
-    for program, seconds in means.items():
+    for name, seconds in means.items():
         cells.append(f"{seconds * 1e3:.2f}")
-        if program != "cat":
+        if name != "cat":
             cells.append(f"{seconds / means['cat']:.2f}")
-    title = f"Milliseconds from spawn to exit, mean of {starts} runs on a file of {os.path.getsize(small)} bytes"
+    title = f"Milliseconds from spawn to exit, mean of {starts} dumps of a file of {os.path.getsize(small.path)} bytes"
     print_table(title, with_ratios(run), [cells])
 
 
-def print_memory(inputs, run):
+def print_memory(works, run):
     rows = []
-    for name, options, path in inputs:
-        peaks = [peak_of(words(options, path)) for words in run.values()]
-        rows.append([name, " ".join(options), *("-" if peak is None else f"{peak:,}" for peak in peaks)])
-    print_table("Peak resident memory in KiB", ["Input", "Options", *run], rows)
+    for work in works:
+        peaks = [measured(peak_of, program, work) for program in run.values()]
+        cells = ["-" if peak is None else f"{peak:,}" for peak in peaks]
+        rows.append([work.name, f"{tool_of(work)} {' '.join(work.options)}", *cells])
+    print_table("Peak resident memory in KiB", ["Input", "Tool", *run], rows)
 
 
 def machine():
@@ -303,10 +354,11 @@ def main():
     run = programs(os.path.abspath(chosen.binary))
     print(f"Before: {machine()}")
     with tempfile.TemporaryDirectory() as folder:
-        inputs, small = make_inputs(folder, chosen.mebibytes, chosen.full_mebibytes)
-        print_throughput(inputs, run, chosen.rounds)
+        dumps, conversions, small = make_inputs(folder, chosen.mebibytes, chosen.full_mebibytes)
+        print_throughput("Dumps, in MB/s of input", dumps, run, chosen.rounds)
+        print_throughput("Conversions, in MB/s of input", conversions, run, chosen.rounds)
         print_starts(small, run, chosen.starts)
-        print_memory(inputs, run)
+        print_memory(dumps + conversions, run)
     print(f"\nAfter: {machine()}")
 
 

@@ -19,15 +19,19 @@ _dcmtools_words() {
 }
 
 _dcmtools() {
-    local current=${COMP_WORDS[COMP_CWORD]}
+    local current=${COMP_WORDS[COMP_CWORD]} switches
     COMPREPLY=()
     if ((COMP_CWORD == 1)); then
-        _dcmtools_words dcmdump "$current"
+        _dcmtools_words 'dcmdump dcmconv' "$current"
         return
     fi
-    [[ ${COMP_WORDS[1]} == dcmdump ]] || return
+    case ${COMP_WORDS[1]} in
+        dcmdump) switches='-L +L +fo -f -ti -te -tb' ;;
+        dcmconv) switches='+t= +ti +te +tb -e +fo' ;;
+        *) return ;;
+    esac
     case $current in
-        [-+]*) _dcmtools_words '-L +L +fo -f -ti -te -tb' "$current" ;;
+        [-+]*) _dcmtools_words "$switches" "$current" ;;
         *) _dcmtools_files "$current" ;;
     esac
 }

@@ -1,5 +1,5 @@
 #!/usr/bin/env python3
-"""Tries what a built dcmtools does at its edge: words, paths, standard streams, and the exit status.
+"""Tries what a built dcmtools does at its edge: words, paths, standard streams, files that it writes, and the exit status.
 
     scripts/try_program.py [BINARY]
 
@@ -11,7 +11,16 @@ import sys
 import tempfile
 
 ROOT = os.path.dirname(os.path.dirname(os.path.abspath(__file__)))
-NAME = os.path.join(ROOT, "examples", "name.dcm")
+with open(os.path.join(ROOT, "examples", "name.dcm"), "rb") as example:
+    NAME = example.read()
+with open(os.path.join(ROOT, "crates", "converts", "stdout"), "rb") as converted:
+    BIG = converted.read()
+
+# the preamble, the prefix and a meta group of a JPEG syntax
+JPEG = bytes(128) + b"DICM\2\0\0\0UL\4\0\x1e\0\0\0\2\0\x10\0UI\x16\0001.2.840.10008.1.2.4.50"
+
+# the files of the folder that a case runs in
+FILES = {"name.dcm": NAME, "jpeg.dcm": JPEG, "empty": b"", "cut": NAME[:182], "older": b"older" * 100}
 
 # what it is, the words behind the program for a shell, the status, the line on standard error
 CASES = [
@@ -35,36 +44,122 @@ CASES = [
     ("a full disk that nothing is written to", "dcmdump empty > /dev/full", 2, "R1 at byte 0: input ends too early"),
     ("a full disk for the line", "dcmdump empty 2> /dev/full", 2, ""),
     ("a closed standard error", "dcmdump missing 2>&-", 4, ""),
+    ("an option of the other tool", "dcmconv -ti name.dcm out", 1, "V2 at word 2: unknown option"),
+    ("one path of a conversion", "dcmconv name.dcm", 1, "V4: wrong number of paths"),
+    ("an empty path", "dcmconv name.dcm ''", 1, "V4: wrong number of paths"),
+    ("a full disk for a conversion", "dcmconv name.dcm - > /dev/full", 4, "output failed"),
+    ("a full disk by its path", "dcmconv name.dcm /dev/full", 4, "output failed"),
+    ("an output that is a directory", "dcmconv name.dcm .", 4, "output cannot be opened"),
+    ("an output in no directory", "dcmconv name.dcm nowhere/out", 4, "output cannot be opened"),
+    ("a closed standard output of a conversion", "dcmconv name.dcm - >&-", 4, "output failed"),
 ]
+
+# the same, and a path with what is to stand there afterwards, or nothing where there is to be no file
+WRITTEN = [
+    ("a conversion", "dcmconv +tb name.dcm out", 0, "", "out", BIG),
+    ("a conversion of standard streams", "dcmconv +tb - - < name.dcm > out", 0, "", "out", BIG),
+    ("a conversion to a pipe", "dcmconv +tb name.dcm - | cat > out", 0, "", "out", BIG),
+    ("options behind the paths", "dcmconv name.dcm out +tb -e +fo", 0, "", "out", BIG),
+    ("a conversion to its own syntax", "dcmconv name.dcm out", 0, "", "out", NAME),
+    ("the last of two options", "dcmconv +tb +t= name.dcm out", 0, "", "out", NAME),
+    ("an older output", "dcmconv name.dcm older", 0, "", "older", NAME),
+    ("a cut file", "dcmconv cut out", 2, "R1 at byte 182: input ends too early", "out", NAME[:182]),
+    ("an empty file", "dcmconv empty older", 2, "R1 at byte 0: input ends too early", "older", b""),
+    (
+        "an encapsulated file",
+        "dcmconv +te jpeg.dcm out",
+        2,
+        "R14 at byte 174: encapsulated syntax cannot be changed",
+        "out",
+        b"",
+    ),
+    ("a missing input", "dcmconv missing out", 4, "input cannot be opened", "out", None),
+    ("a missing input beside an older output", "dcmconv missing older", 4, "input cannot be opened", "older", FILES["older"]),
+    ("refused words", "dcmconv +e name.dcm out", 1, "V2 at word 2: unknown option", "out", None),
+    (
+        "the same path",
+        "dcmconv name.dcm name.dcm",
+        1,
+        "V6: input and output are the same path",
+        "name.dcm",
+        NAME,
+    ),
+    (
+        "another path of the same file",
+        "dcmconv name.dcm ./name.dcm",
+        2,
+        "R1 at byte 0: input ends too early",
+        "name.dcm",
+        b"",
+    ),
+]
+
+# words that write to a pipe that nobody reads
+CLOSED_PIPE = [("a closed pipe of a dump", ["dcmdump", "name.dcm"]), ("a closed pipe", ["dcmconv", "name.dcm", "-"])]
 
 
 def prepare(folder):
-    with open(NAME, "rb") as file:
-        name = file.read()
-    for path, content in [("name.dcm", name), ("empty", b""), ("cut", name[:182])]:
+    for path, content in FILES.items():
         with open(os.path.join(folder, path), "wb") as file:
             file.write(content)
 
 
-def ends_well(binary, folder, words, status, line):
-    done = subprocess.run(
-        ["bash", "-c", f'"$0" {words}', binary], cwd=folder, capture_output=True, timeout=60, check=False
-    )
+def content_of(path):
+    if not os.path.exists(path):
+        return None
+    with open(path, "rb") as file:
+        return file.read()
+
+
+def ends_well(done, status, line):
     told = f"dcmtools: {line}\n".encode() if line else b""
-    return done.returncode == status and done.stderr == told, done
+    if done.returncode == status and done.stderr == told:
+        return ""
+    return f"status {done.returncode}, {done.stderr!r}"
+
+
+def run_words(binary, folder, words):
+    return subprocess.run(
+        ["bash", "-o", "pipefail", "-c", f'"$0" {words}', binary],
+        cwd=folder,
+        capture_output=True,
+        timeout=60,
+        check=False,
+    )
+
+
+def wrong_case(binary, words, status, line, path=None, content=None):
+    """What is wrong with a case, or nothing."""
+    with tempfile.TemporaryDirectory() as folder:
+        prepare(folder)
+        wrong = ends_well(run_words(binary, folder, words), status, line)
+        if path and not wrong and content_of(os.path.join(folder, path)) != content:
+            wrong = f"{path} is {content_of(os.path.join(folder, path))!r}"
+        return wrong
+
+
+def wrong_pipe(binary, words):
+    """The same of words whose output goes to a pipe that nobody reads."""
+    with tempfile.TemporaryDirectory() as folder:
+        prepare(folder)
+        reader, writer = os.pipe()
+        os.close(reader)
+        done = subprocess.run(
+            [binary, *words], cwd=folder, stdout=writer, stderr=subprocess.PIPE, timeout=60, check=False
+        )
+        os.close(writer)
+        return ends_well(done, 4, "output failed")
 
 
 def main():
     binary = os.path.abspath(sys.argv[1] if len(sys.argv) > 1 else os.path.join(ROOT, "crates/dcmtools/out/dcmtools"))
-    wrong = 0
-    with tempfile.TemporaryDirectory() as folder:
-        prepare(folder)
-        for what, words, status, line in CASES:
-            well, done = ends_well(binary, folder, words, status, line)
-            if not well:
-                wrong += 1
-                print(f"{what}: status {done.returncode}, {done.stderr!r}")
-    print(f"{len(CASES)} cases, {wrong} wrong")
+    answers = [(what, wrong_case(binary, *rest)) for what, *rest in CASES + WRITTEN]
+    answers += [(what, wrong_pipe(binary, words)) for what, words in CLOSED_PIPE]
+    for what, wrong in answers:
+        if wrong:
+            print(f"{what}: {wrong}")
+    wrong = sum(bool(wrong) for _, wrong in answers)
+    print(f"{len(answers)} cases, {wrong} wrong")
     return 1 if wrong else 0
 
 

@@ -1,6 +1,6 @@
-// Dumps of deep and of long files.
+// Deep and long files.
 use super::rows::{Start, bytes_of, header_of};
-use super::{STEPS, over_memory, over_std};
+use super::{STEPS, joined, over_memory, over_std};
 use std::test::Fail;
 
 const SEQUENCE: &[u8] = b"\x08\0@\x11SQ\0\0\xff\xff\xff\xff";
@@ -76,6 +76,22 @@ fn sixty_four_sequences(rt: HostRuntime) -> Result<(), Fail> {
 }
 
 #[test]
+fn sixty_four_sequences_kept(rt: HostRuntime) -> Result<(), Fail> {
+    let mut file = nested(rt, b"")?;
+    for _ in 0..DEPTH {
+        file.extend_from_slice(ITEM_END)?;
+        file.extend_from_slice(SEQUENCE_END)?;
+    }
+    for step in STEPS {
+        let answer = over_memory(rt, "dcmconv - -", file.as_slice(), step, 60_000)?;
+        assert_eq!(rt; answer.status, 0);
+        assert!(rt; answer.output == file);
+        assert!(rt; answer.told.is_empty());
+    }
+    Ok(())
+}
+
+#[test]
 fn one_more(rt: HostRuntime) -> Result<(), Fail> {
     let lines = opening_lines(rt)?;
     for behind in [SEQUENCE, FRAGMENTS] {
@@ -109,6 +125,33 @@ fn largest_meta_group(rt: HostRuntime) -> Result<(), Fail> {
         let answer = over_memory(rt, "dcmdump -", file.as_slice(), step, 3000)?;
         assert_eq!(rt; answer.status, 0);
         assert!(rt; answer.output.ends_with(wanted));
+        assert!(rt; answer.told.is_empty());
+    }
+    Ok(())
+}
+
+/// The longest value of a short form.
+const LONGEST_SHORT: usize = 65_535;
+
+/// What stands before a text, so many letters, and what stands behind them.
+fn letters(rt: HostRuntime, start: Start, head: &[u8], behind: &[u8]) -> Result<Vec<u8>, Fail> {
+    let mut file = joined(rt, bytes_of(start), head)?;
+    for _ in 0..LONGEST_SHORT {
+        file.push(b'a')?;
+    }
+    file.extend_from_slice(behind)?;
+    Ok(file)
+}
+
+#[test]
+fn text_past_its_short_form(rt: HostRuntime) -> Result<(), Fail> {
+    let file = letters(rt, Start::Implicit, b"\x10\0\0@\xff\xff\0\0", b"")?;
+    let head = b"\x10\0\0@UN\0\0\0\0\x01\0";
+    let wanted = letters(rt, Start::ExplicitLittle, head, b" ")?;
+    for step in STEPS {
+        let answer = over_std(rt, "dcmconv +te - -", file.as_slice(), step)?;
+        assert_eq!(rt; answer.status, 0);
+        assert!(rt; answer.output == wanted);
         assert!(rt; answer.told.is_empty());
     }
     Ok(())

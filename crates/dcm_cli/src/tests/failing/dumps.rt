@@ -1,0 +1,57 @@
+// Dumps over devices that fail.
+use super::{expect_written, read_failing, tell_failing, write_failing};
+use crate::tests::rows::{ROWS, Row, header_of};
+use std::process::Abort;
+use std::test::Fail;
+
+/// The rows before this place take about as long as those behind it.
+const HALF: usize = 20;
+
+#[test]
+fn reading_fails(rt: HostRuntime) -> Result<(), Fail> {
+    for row in ROWS {
+        read_failing(rt, &rt, &row, true)?;
+    }
+    Ok(())
+}
+
+#[test]
+fn reading_and_flushing_fail(rt: HostRuntime) -> Result<(), Fail> {
+    for row in ROWS {
+        read_failing(rt, &rt, &row, false)?;
+    }
+    Ok(())
+}
+
+/// Runs these rows over writers that fail.
+fn writing_fails(rt: HostRuntime, abort: &impl Abort, rows: &[Row]) -> Result<(), Fail> {
+    for row in rows {
+        write_failing(rt, abort, row)?;
+    }
+    Ok(())
+}
+
+#[test]
+fn writing_fails_in_first_rows(rt: HostRuntime) -> Result<(), Fail> {
+    writing_fails(rt, &rt, &ROWS[..HALF])
+}
+
+#[test]
+fn writing_fails_in_last_rows(rt: HostRuntime) -> Result<(), Fail> {
+    writing_fails(rt, &rt, &ROWS[HALF..])
+}
+
+#[test]
+fn telling_fails(rt: HostRuntime) -> Result<(), Fail> {
+    for row in ROWS {
+        tell_failing(rt, &rt, &row)?;
+    }
+    Ok(())
+}
+
+#[test]
+fn output_begins_behind_the_group(rt: HostRuntime) -> Result<(), Fail> {
+    let row = &ROWS[1];
+    expect_written(rt, &rt, row, 172, b"")?;
+    expect_written(rt, &rt, row, 174, header_of(row.header))
+}
