@@ -1,5 +1,5 @@
 // The program: words, devices, and the exit status.
-ghost use Rattle.std.specs.Prelude.{◌≡◌, ◌≢◌};
+ghost use Rattle.std.specs.Prelude.{◌≤◌, ◌≡◌, ◌≢◌};
 ghost use Rattle.std.specs.IoError.{error_kind};
 ghost use Rattle.dcm_cli.specs.Told as spec;
 
@@ -37,7 +37,9 @@ fn standard_error(rt: HostRuntime) -> Watched<Std<Stderr>> {
 }
 
 /// Opens the devices of a job and runs it. The input is opened before the output.
-fn work(rt: HostRuntime, planned: &Planned) -> u8 {
+fn work(rt: HostRuntime, planned: &Planned) -> u8
+    ensures { result ≤ 5 }
+{
     let _reserved = reserve(rt);
     let mut errors = standard_error(rt);
     let mut input = match open_input(rt, planned.input) {
@@ -67,6 +69,7 @@ fn tell_unopened<E: DeviceOut>(e: &io::Error, output: bool, errors: &mut Watched
     ensures line { error_kind e.now ≢ ErrorKind.OutOfMemory → spec.Tries (E.contents errors.old) (E.contents errors.new) (E.has_failed errors.old) (E.has_failed errors.new) (spec.open_line output) }
     ensures status { error_kind e.now ≢ ErrorKind.OutOfMemory → result ≡ 4 }
     ensures memory { error_kind e.now ≡ ErrorKind.OutOfMemory → result ≡ 5 }
+    ensures within { result ≤ 5 }
 {
     match e.kind() {
         ErrorKind::OutOfMemory => tell(&Usage::Memory, errors),
@@ -78,6 +81,7 @@ fn tell_unopened<E: DeviceOut>(e: &io::Error, output: bool, errors: &mut Watched
 fn tell_unread_words(e: &io::Error, rt: HostRuntime) -> u8
     ensures status { error_kind e.now ≢ ErrorKind.OutOfMemory → result ≡ 1 }
     ensures memory { error_kind e.now ≡ ErrorKind.OutOfMemory → result ≡ 5 }
+    ensures within { result ≤ 5 }
 {
     let mut errors = standard_error(rt);
     match e.kind() {
@@ -88,13 +92,16 @@ fn tell_unread_words(e: &io::Error, rt: HostRuntime) -> u8
 
 /// Tells why words are refused, on standard error.
 fn tell_usage(usage: &Usage, rt: HostRuntime) -> u8
-    ensures { result ≡ spec.usage_status usage.now }
+    ensures status { result ≡ spec.usage_status usage.now }
+    ensures within { result ≤ 5 }
 {
     tell(usage, &mut standard_error(rt))
 }
 
 /// Does what the words of the command line say, with the devices that they name, and answers the exit status.
-pub fn dcmtools(rt: HostRuntime) -> u8 {
+pub fn dcmtools(rt: HostRuntime) -> u8
+    ensures { result ≤ 5 }
+{
     let words = match read_words(rt) {
         Ok(words) => words,
         Err(e) => return tell_unread_words(&e, rt),

@@ -1,5 +1,5 @@
 // A job over devices.
-ghost use Rattle.std.specs.Prelude.{◌≡◌, ◌⊎◌, ◌↔◌, ℕ, List, Some, true, false};
+ghost use Rattle.std.specs.Prelude.{◌≡◌, ◌≤◌, ◌⊎◌, ◌↔◌, ℕ, List, Some, true, false};
 ghost use Rattle.dcm_cli.specs.Pass.{TellsUnread, TellsOutput};
 ghost use Rattle.dcm_cli.specs.Run as spec;
 ghost use Rattle.dcm_cli.specs.Told.{Tries};
@@ -44,6 +44,7 @@ fn flushed<W: DeviceOut>(ending: Ending, out: &mut Watched<W>) -> Ending
 fn tell_ending<E: DeviceOut>(ending: Ending, errors: &mut Watched<E>) -> u8
     ensures line { Tries (E.contents errors.old) (E.contents errors.new) (E.has_failed errors.old) (E.has_failed errors.new) (spec.ending_line ending) }
     ensures status { result ≡ spec.ending_status ending }
+    ensures within { result ≤ 4 }
 {
     match ending {
         Ending::Done => 0,
@@ -88,6 +89,7 @@ pub fn run<R: DeviceIn, W: DeviceOut, E: DeviceOut>(
 ) -> Outcome
     ensures ran { (file : List ℕ) → R.remaining input.old ≡ Some file → R.has_failed input.old ≡ false → W.has_failed out.old ≡ false → spec.Ran (job_of job.now) file (record { held = W.contents out.old; holds = W.contents out.new; told = E.contents errors.old; tells = E.contents errors.new; unread = R.has_failed input.new; unwritten = W.has_failed out.new; untold_before = E.has_failed errors.old; untold = E.has_failed errors.new }) result.status }
     ensures flushed { W.has_failed out.old ≡ false → W.has_failed out.new ≡ false → W.is_flushed out.new ≡ true }
+    ensures within { result.status ≤ 4 }
     ensures failed { R.has_failed input.old ≡ false → W.has_failed out.old ≡ false → (result.status ≡ 4) ↔ ((R.has_failed input.new ≡ true) ⊎ (W.has_failed out.new ≡ true)) }
 {
     let ending = work(job, input, out);
