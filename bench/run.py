@@ -6,8 +6,8 @@
 The inputs are made in a temporary directory, which takes a little more than five times `--mebibytes` and is removed at
 the end. They are read from the page cache. Dumps go to /dev/null. A conversion writes a file into the same directory,
 as does `cat FILE > OUTPUT` beside it, and each starts without that file. One run prints four tables: throughput of dumps
-and of conversions (the median of the rounds, over the bytes of the input), time of a whole process on a small file, and
-peak memory.
+and of conversions (the median of the rounds, in which the programs take turns, over the bytes of the input), time of a
+whole process on a small file, and peak memory.
 """
 
 import argparse
@@ -288,9 +288,11 @@ def print_table(title, heading, rows):
 
 def throughput_row(work, run, rounds):
     size = os.path.getsize(work.path)
-    medians = {}
-    for name, program in run.items():
-        medians[name] = statistics.median(measured(seconds_of, program, work) for _ in range(rounds))
+    times = {name: [] for name in run}
+    for _ in range(rounds):
+        for name, program in run.items():
+            times[name].append(measured(seconds_of, program, work))
+    medians = {name: statistics.median(seconds) for name, seconds in times.items()}
     cells = [work.name, " ".join(work.options)]
     for name, seconds in medians.items():
         cells.append(f"{size / seconds / 1e6:,.0f}")
