@@ -1,5 +1,5 @@
 -- The head of a value whose size was made even.
-use Rattle.std.proofs.Common.{◌≡◌, ◌≢◌, ◌∙◌, ap, sym, subst, refl, ℕ, ◌+◌, ◌%◌, ◌<◌, ◌≤◌, List, [], ◌∷◌, ◌++◌, Bool, true, false, cond, arith, not, ◌&&◌, nat_lt}
+use Rattle.std.proofs.Common.{◌≡◌, ◌∙◌, ap, sym, subst, refl, ℕ, ◌<◌, ◌≤◌, ◌∷◌, ◌++◌, Bool, true, false, cond, arith, not, ◌&&◌, nat_lt}
 use Rattle.std.specs.Int.{w16, w32}
 use Rattle.std.proofs.lemmas.Bool.Decides.{nat_tests}
 use Rattle.dcm_base.specs.declared.tag.Tag.{Tag}
@@ -10,7 +10,7 @@ use Rattle.dcm_base.specs.declared.length.Length.TheVariants.{Known, Undefined}
 use Rattle.dcm_base.specs.declared.syntax.Syntax.{Syntax}
 use Rattle.dcm_base.specs.declared.syntax.Syntax.TheVariants.{Implicit, Little, Big}
 use Rattle.dcm_base.specs.Representation.{letters, is_long}
-use Rattle.dcm_base.specs.Recode.{number_bytes, length_number, tag_bytes, plain_head, head, even, is_explicit, too_long, leaf_head}
+use Rattle.dcm_base.specs.Recode.{number_bytes, length_number, tag_bytes, head, even, is_explicit, too_long, leaf_head}
 use Rattle.dcm_base.specs.Spelling.{form}
 use Rattle.dcm_base.specs.declared.form.Form.TheVariants.{Value as a_value, FragmentList as a_fragment_list, Nothing as no_form}
 use Rattle.dcm_head.specs.HeadBytes.{FitsShort}

@@ -1,5 +1,5 @@
 -- Units that are turned round part by part.
-use Rattle.std.proofs.Common.{◌≡◌, ◌∙◌, ap, sym, subst, refl, ℕ, zero, suc, ◌+◌, ◌*◌, ◌<◌, ◌≤◌, List, [], ◌∷◌, ◌++◌, append_assoc, length, take, drop, min, Option, arith, inl, inr}
+use Rattle.std.proofs.Common.{◌≡◌, ◌∙◌, ap, sym, refl, ℕ, zero, suc, ◌+◌, ◌*◌, ◌<◌, List, [], ◌∷◌, ◌++◌, append_assoc, length, take, drop, min, Option, arith, inl, inr}
 use Rattle.std.specs.Prelude.{Result, Err, Ok, IsErr, reverse}
 use Rattle.std.specs.Io.KnownBytes.{append_known}
 use Rattle.std.proofs.lemmas.Bool.{cases_lt}
@@ -10,7 +10,7 @@ use Rattle.dcm_base.specs.Device.{AppendsFront, Puts}
 use Rattle.dcm_base.specs.Representation.{unit}
 use Rattle.dcm_base.specs.Value.{turned}
 use Rattle.dcm_base.proofs.Order.{turned_cons, turned_short, unit_some}
-use Rattle.dcm_base.proofs.Puts.{append_known_twice, append_known_none, front_longer}
+use Rattle.dcm_base.proofs.Puts.{append_known_twice, append_known_none}
 
 -- some of the bytes went out, and these are left
 pub record PutSoFar (held holds : Option (List ℕ)) (all left : List ℕ) : Type 0 where

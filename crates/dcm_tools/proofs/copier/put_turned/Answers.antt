@@ -1,5 +1,4 @@
-use Rattle.std.proofs.Common.{rules, refl, ◌≡◌, ◌∙◌, ap, sym, subst, List, ℕ}
-use Rattle.dcm_base.specs.Device.{Puts}
+use Rattle.std.proofs.Common.{rules, refl, ◌≡◌, ◌∙◌, ap, sym}
 use Rattle.dcm_base.specs.Representation.{unit}
 use Rattle.dcm_base.specs.Value.{turned}
 use Rattle.dcm_value.proofs.Reversals.{turned-one}

@@ -1,6 +1,6 @@
-use Rattle.std.proofs.Common.{◌≡◌, ◌∙◌, ap, subst, false, true}
+use Rattle.std.proofs.Common.{◌≡◌, ◌∙◌, ap, subst, false}
 use Rattle.dcm_base.specs.declared.vr.Vr.{Vr}
-use Rattle.dcm_base.specs.Recode.{head, is_explicit}
+use Rattle.dcm_base.specs.Recode.{head}
 use Rattle.dcm_base.specs.Representation.{is_long}
 use Rattle.dcm_tools.proofs.Evened.{head_evened, fits_short}
 use Rattle.dcm_tools.proofs.encoder.leaf_head.Goals as goal

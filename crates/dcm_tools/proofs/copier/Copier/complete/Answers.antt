@@ -1,5 +1,4 @@
-use Rattle.std.proofs.Common.{rules, arith, ◌≡◌, ◌<◌, ◌+◌, ◌*◌, ◌++◌, [], length, List, ℕ, ap}
-use Rattle.dcm_base.specs.Representation.{unit}
+use Rattle.std.proofs.Common.{rules, ◌≡◌, ◌<◌, ◌++◌, length, ap}
 use Rattle.dcm_tools.specs.Copier.{copying}
 use Rattle.dcm_tools.proofs.Copies.{holding, completed_goes}
 use Rattle.dcm_tools.proofs.copier.Copier.complete.Goals as goal

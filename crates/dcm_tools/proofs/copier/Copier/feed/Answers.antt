@@ -1,5 +1,4 @@
 use Rattle.std.proofs.Common.{rules, ◌<◌, ◌+◌, length}
-use Rattle.dcm_base.specs.Representation.{unit}
 use Rattle.dcm_tools.specs.Copier.{copying}
 use Rattle.dcm_tools.proofs.Copies.{held_goes, parts_go, parts_stop}
 use Rattle.dcm_tools.proofs.copier.Copier.feed.Goals as goal

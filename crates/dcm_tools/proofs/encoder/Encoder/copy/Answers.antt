@@ -1,8 +1,5 @@
-use Rattle.std.proofs.Common.{rules, refl, ◌≡◌, ap, None, Some, map}
-use Rattle.dcm_base.specs.Atoms.{value_byte}
-use Rattle.dcm_base.specs.Steps.{outputs}
+use Rattle.std.proofs.Common.{rules, ◌≡◌, ap, None, Some}
 use Rattle.dcm_base.proofs.Puts.{puts_err}
-use Rattle.dcm_tools.specs.EncodeSink.{EncodeState, encode_step, encode_writes}
 use Rattle.dcm_tools.specs.Copier.{copying}
 use Rattle.dcm_tools.specs.Encoder.{state, copying_of}
 use Rattle.dcm_tools.proofs.Dropping.{no_copy_state, no_copy_bytes, copy_state, copy_bytes}

@@ -1,4 +1,4 @@
-use Rattle.std.proofs.Common.{rules, ◌≡◌, ◌∙◌, sym}
+use Rattle.std.proofs.Common.{rules, ◌≡◌}
 use Rattle.dcm_base.specs.Spelling.{form}
 use Rattle.dcm_base.specs.declared.form.Form.TheVariants.{FragmentList as a_fragment_list}
 use Rattle.dcm_tools.proofs.Evened.{fragments_long}

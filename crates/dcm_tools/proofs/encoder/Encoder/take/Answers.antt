@@ -1,4 +1,4 @@
-use Rattle.std.proofs.Common.{rules, ◌≡◌, ◌∙◌, ap, sym, Some, Option, ℕ}
+use Rattle.std.proofs.Common.{rules, ◌≡◌, ◌∙◌, ap, Some, Option, ℕ}
 use Rattle.dcm_tools.specs.EncodeSink.{EncodeState}
 use Rattle.dcm_tools.specs.Encoder.{state}
 use Rattle.dcm_tools.proofs.Dropping.{dropped_state, dropped_bytes}
