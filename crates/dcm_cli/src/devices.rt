@@ -6,8 +6,8 @@ use std::fs::File;
 use std::io::{Read, Stdin, Stdout, Write};
 use std::{io, str};
 
-/// What gives no byte, for a standard stream that is closed.
-const NOTHING: &str = "/dev/null";
+/// What can be neither read nor written, for a standard stream that is closed.
+const NOTHING: &str = "/";
 
 /// The path of a standard stream.
 const STANDARD: &[u8] = b"-";
