@@ -17,5 +17,6 @@ pub use element::{MetaElement, first_element};
 pub use head::{Head, HeadRead, LONG_HEAD, read_head, read_tag};
 pub use meta::Meta;
 pub use meta_read::{MetaEnd, MetaRead};
+pub use pads::size_without_pads;
 pub use rewriting::write_meta;
 pub use write::{element_head, write_head};

@@ -58,22 +58,22 @@ pub record Leads (n : ℕ) (atoms : List Atom) (m : ℕ) : Type 0 where
   pub comes : fold lists_behind n atoms ≡ m
   pub shallow : StaysShallow n atoms
 
-leads_nowhere : (n : ℕ) → n ≤ 64 → Leads n [] n
+pub leads_nowhere : (n : ℕ) → n ≤ 64 → Leads n [] n
 leads_nowhere n h = record { comes = refl; shallow = shallow_none n h }
 
-leads_more : (n k m : ℕ) (a : Atom) (atoms : List Atom) → n ≤ 64 → lists_behind n a ≡ k → Leads k atoms m → Leads n (a ∷ atoms) m
+pub leads_more : (n k m : ℕ) (a : Atom) (atoms : List Atom) → n ≤ 64 → lists_behind n a ≡ k → Leads k atoms m → Leads n (a ∷ atoms) m
 leads_more n k m a atoms h e l = record {
   comes = ap (λ (x : ℕ). fold lists_behind x atoms) e ∙ l.comes;
   shallow = shallow_more n a atoms h (subst (λ (x : ℕ). StaysShallow x atoms) (sym e) l.shallow);
 }
 
-leads_both : (n k m : ℕ) (xs ys : List Atom) → Leads n xs k → Leads k ys m → Leads n (xs ++ ys) m
+pub leads_both : (n k m : ℕ) (xs ys : List Atom) → Leads n xs k → Leads k ys m → Leads n (xs ++ ys) m
 leads_both n k m xs ys l r = record {
   comes = fold-append lists_behind n xs ys ∙ ap (λ (x : ℕ). fold lists_behind x ys) l.comes ∙ r.comes;
   shallow = shallow_both n xs ys l.shallow (subst (λ (x : ℕ). StaysShallow x ys) (sym l.comes) r.shallow);
 }
 
-leads_within : (n m : ℕ) (xs : List Atom) → Leads n xs m → m ≤ 64
+pub leads_within : (n m : ℕ) (xs : List Atom) → Leads n xs m → m ≤ 64
 leads_within n m xs l = subst (λ (x : ℕ). x ≤ 64) l.comes (l.shallow xs [] (sym (append-nil xs)))
 
 -- ---- containers that close

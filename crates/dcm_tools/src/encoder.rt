@@ -57,7 +57,7 @@ fn written_vr(target: Syntax, vr: Vr, size: u32) -> Vr
 }
 
 /// The head of a value of this size.
-fn leaf_head(target: Syntax, tag: Tag, vr: Vr, size: u32) -> ArrayVec<u8, LONG_HEAD>
+pub fn leaf_head(target: Syntax, tag: Tag, vr: Vr, size: u32) -> ArrayVec<u8, LONG_HEAD>
     ensures { result.items ≡ recode.leaf_head target tag vr size }
 {
     let (vr, length) = (written_vr(target, vr, size), even(size));

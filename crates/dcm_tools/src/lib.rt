@@ -5,11 +5,17 @@ mod copier;
 mod dump;
 mod encode;
 mod encoder;
+mod file;
+mod group;
 mod header;
 pub mod laws;
 mod layout;
 mod lengths;
+mod line;
 mod lines;
+mod standing;
+#[cfg(test)]
+mod tests;
 
 pub use dump::DumpSink;
 pub use encode::EncodeSink;

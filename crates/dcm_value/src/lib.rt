@@ -18,5 +18,6 @@ pub use dcm_base::Mode;
 pub use digits::unescape;
 pub use escapes::escape;
 pub use lanes::swap;
+pub use parts::tag_of_text;
 pub use reading::{BadValue, read_value, read_value_into};
 pub use value_text::ValueText;

@@ -8,6 +8,7 @@ ghost use Rattle.dcm_value.specs.Parts.{part_value};
 use crate::digits::{decimal, hexadecimal};
 use crate::units::{Kind, append, highest};
 use arrayvec::ArrayVec;
+use dcm_base::Tag;
 
 /// The lowest bytes of a number, the lowest first.
 fn little(size: usize, number: u64) -> ArrayVec<u8, 8>
@@ -70,17 +71,25 @@ fn signed(size: usize, text: &[u8]) -> Option<ArrayVec<u8, 8>>
     }
 }
 
-/// A tag, as `(gggg,eeee)`.
-fn tag(text: &[u8]) -> Option<ArrayVec<u8, 8>>
-    ensures { option_map (λ v. v.items) result ≡ spec.tag_value text.now }
+/// The tag that `(gggg,eeee)` names, with digits in either case.
+pub fn tag_of_text(text: &[u8]) -> Option<Tag>
+    ensures { result ≡ spec.tag_of_text text.now }
 {
     if text.len() != 11 || text[0] != b'(' || text[5] != b',' || text[10] != b')' {
         return None;
     }
-    let group = hexadecimal(4, &text[1..5])?;
-    let element = hexadecimal(4, &text[6..10])?;
-    let mut bytes = little(2, group);
-    append(little(2, element).as_slice(), &mut bytes);
+    let group = hexadecimal(4, &text[1..5])? as u16;
+    let element = hexadecimal(4, &text[6..10])? as u16;
+    Some(Tag { group, element })
+}
+
+/// A tag as its two numbers.
+fn tag(text: &[u8]) -> Option<ArrayVec<u8, 8>>
+    ensures { option_map (λ v. v.items) result ≡ spec.tag_value text.now }
+{
+    let tag = tag_of_text(text)?;
+    let mut bytes = little(2, u64::from(tag.group));
+    append(little(2, u64::from(tag.element)).as_slice(), &mut bytes);
     Some(bytes)
 }
 
