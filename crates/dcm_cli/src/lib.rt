@@ -12,8 +12,6 @@ mod pass;
 mod program;
 pub mod run;
 mod syntax;
-#[cfg(test)]
-mod tests;
 mod told;
 mod words;
 

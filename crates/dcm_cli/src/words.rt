@@ -146,10 +146,7 @@ fn said_by<'a>(tool: Tool, words: &'a [&'a [u8]]) -> Result<Said<'a>, Usage>
 fn plan_dump<'a>(words: &'a [&'a [u8]]) -> Result<Planned<'a>, Usage>
     ensures { Gives result (spec.dump_plan (map (λ w. w.now) words.now)) }
 {
-    let said = match said_by(Tool::Dump, words) {
-        Ok(said) => said,
-        Err(usage) => return Err(usage),
-    };
+    let said = said_by(Tool::Dump, words)?;
     let input = match said.paths {
         Paths::One(input) if !input.is_empty() => input,
         _ => return Err(Usage::Whole(WordFault::WrongPaths)),
@@ -193,10 +190,7 @@ fn plan_with_two<'a>(paths: Paths<'a>, job: Job) -> Result<Planned<'a>, Usage>
 fn plan_convert<'a>(words: &'a [&'a [u8]]) -> Result<Planned<'a>, Usage>
     ensures { Gives result (spec.convert_plan (map (λ w. w.now) words.now)) }
 {
-    let said = match said_by(Tool::Convert, words) {
-        Ok(said) => said,
-        Err(usage) => return Err(usage),
-    };
+    let said = said_by(Tool::Convert, words)?;
     plan_with_two(
         said.paths,
         Job::Convert(Convert {

@@ -14,6 +14,10 @@ ghost use Rattle.dcm_tools.specs.Encoder as encoders;
 ghost use Rattle.dcm_tools.specs.LineShown.{step_of, meaning_of};
 ghost use Rattle.dcm_tools.specs.NewFile as files;
 
+use crate::checks::{
+    allows_fragments, coding_or_little, element_tag, first_fault, has_place_in, is_after,
+    is_fragment_opening, is_meta, is_opening,
+};
 use crate::encoder::Encoder;
 use crate::group::NewGroup;
 use crate::line::{Meaning, Step, means, without_return};
@@ -28,9 +32,6 @@ use dcm_value::read_value_into;
 
 /// The most bytes of a value that is read from a text.
 const MOST_VALUE: usize = 65_536;
-
-/// The group of the meta elements.
-const META_GROUP: u16 = 0x0002;
 
 /// The most sequences and fragment lists that are open at a time.
 const MOST_LISTS: usize = 64;
@@ -146,95 +147,6 @@ fn put_step<W: DeviceOut>(
         Step::Fragment(_) => put_value(encoder, out, Token::OpenFragment(size), value),
         Step::ItemEnd => encoder.take(out, Token::CloseItem),
         Step::SequenceEnd => encoder.take(out, Token::CloseSeq),
-    }
-}
-
-/// The fault of the first check that fails.
-fn first_fault(checks: &[(bool, LineFault)]) -> Option<LineFault>
-    ensures { result ≡ build.first_fault checks.now }
-{
-    let mut rest = checks;
-    while let [(fails, fault), after @ ..] = rest {
-        if *fails {
-            return Some(*fault);
-        }
-        rest = after;
-    }
-    None
-}
-
-/// The tag of the element that a step shows or opens.
-fn element_tag(step: Step<'_>) -> Option<Tag>
-    ensures { result ≡ build.element_tag (step_of step.entry) }
-{
-    match step {
-        Step::Leaf(tag, _, _) | Step::Sequence(tag, _) | Step::FragmentList(tag, _) => Some(tag),
-        Step::Item | Step::Fragment(_) | Step::ItemEnd | Step::SequenceEnd => None,
-    }
-}
-
-fn is_meta(step: Step<'_>) -> bool
-    ensures { result ≡ build.is_meta (step_of step.entry) }
-{
-    match element_tag(step) {
-        Some(tag) => tag.group == META_GROUP,
-        None => false,
-    }
-}
-
-fn is_fragment_opening(step: Step<'_>) -> bool
-    ensures { result ≡ build.is_fragment_opening (step_of step.entry) }
-{
-    matches!(step, Step::FragmentList(_, _))
-}
-
-fn is_opening(step: Step<'_>) -> bool
-    ensures { result ≡ build.is_opening (step_of step.entry) }
-{
-    matches!(step, Step::Sequence(_, _) | Step::FragmentList(_, _))
-}
-
-fn has_place_in(container: Container, step: Step<'_>) -> bool
-    ensures { result ≡ build.has_place_in container (step_of step.entry) }
-{
-    match step {
-        Step::Leaf(_, _, _) | Step::Sequence(_, _) | Step::FragmentList(_, _) => {
-            matches!(container, Container::DataSet | Container::Item)
-        }
-        Step::Item => container == Container::Sequence,
-        Step::Fragment(_) => container == Container::FragmentList,
-        Step::ItemEnd => container == Container::Item,
-        Step::SequenceEnd => matches!(container, Container::Sequence | Container::FragmentList),
-    }
-}
-
-/// Whether a tag, if there is one, is above the one that was reached.
-fn is_after(reached: Option<Tag>, tag: Option<Tag>) -> bool
-    ensures { result ≡ build.is_after reached tag }
-{
-    match (reached, tag) {
-        (_, None) | (None, Some(_)) => true,
-        (Some(reached), Some(tag)) => tag.number() > reached.number(),
-    }
-}
-
-/// Fragment lists stand in explicit little endian alone (PS3.5 A.4).
-fn allows_fragments(coding: Option<Coding>) -> bool
-    ensures { result ≡ build.allows_fragments coding }
-{
-    match coding {
-        Some(coding) => coding.syntax == Syntax::Little,
-        None => false,
-    }
-}
-
-/// The syntax of a coding, or the one that stands where there is none.
-fn coding_or_little(coding: Option<Coding>) -> Syntax
-    ensures { result ≡ build.coding_or_little coding }
-{
-    match coding {
-        Some(coding) => coding.syntax,
-        None => Syntax::Little,
     }
 }
 

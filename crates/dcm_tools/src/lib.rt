@@ -1,6 +1,7 @@
 //! What the tools write: the dump of a data set, and the data set in another syntax.
 #![tactic(auto)]
 
+mod checks;
 mod copier;
 mod dump;
 mod encode;

@@ -4,11 +4,10 @@ mod failing;
 mod nested;
 mod rows;
 
-use crate::run::run;
-use crate::told::tell;
-use crate::words::plan;
 use conversions::CONVERSIONS;
 use dcm_base::{MemIn, MemOut, Std, Watched};
+use dcm_cli::run::run;
+use dcm_cli::{plan, tell};
 use rows::{ROWS, Row, bytes_of, front_of};
 use std::io;
 use std::io::Read;

@@ -1,6 +1,6 @@
 use Rattle.std.proofs.Common.{◌≡◌, length}
 use Rattle.dcm_base.specs.Build.{first_fault}
-use Rattle.dcm_tools.proofs.file.first_fault.Given as goal
+use Rattle.dcm_tools.proofs.checks.first_fault.Given as goal
 
 -- no check so far fails
 abbrev pub invariant-loop-rest : goal.invariant-loop-rest

@@ -5,8 +5,7 @@ mod dumps;
 
 use super::rows::{Row, bytes_of, front_of};
 use super::{joined, split};
-use crate::job::Job;
-use crate::words::plan;
+use dcm_cli::{Job, plan};
 use devices::{Good, Left, SOUND, run_over};
 use itoa::Buffer;
 use std::process::Abort;

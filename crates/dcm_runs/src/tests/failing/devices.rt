@@ -1,10 +1,10 @@
 // Devices that fail, and what a run over them leaves.
 ghost use Rattle.std.specs.Prelude.{◌≡◌, true, None};
 
-use crate::job::Job;
-use crate::run::run;
 use crate::tests::room;
 use dcm_base::{Device, DeviceIn, DeviceOut, MemOut, ReadFailed, Watched, WriteFailed};
+use dcm_cli::Job;
+use dcm_cli::run::run;
 use std::cell::Cell;
 use std::test::Fail;
 
