@@ -52,3 +52,4 @@ pub mod LinesRead
 pub mod Rebuilt
 pub mod NormalForm
 pub mod Fits
+pub mod Numbered

@@ -1,0 +1,6 @@
+use Rattle.dcm_base.proofs.Numbered.{rows_ascend}
+use Rattle.dcm_base.proofs.dictionary.element.Goals as goal
+
+-- the table's numbers ascend
+pub numbered-requires : goal.numbered-requires
+numbered-requires c = rows_ascend c.rows.result.now c.rows.ensures
