@@ -39,3 +39,6 @@ pub mod GroupBytes
 pub mod ThreeParts
 pub mod Placed
 pub mod BuildPieces
+pub mod LineEnds
+pub mod LinePieces
+pub mod BuildCalls

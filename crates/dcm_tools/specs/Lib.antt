@@ -12,4 +12,5 @@ pub mod Standing
 pub mod Nesting
 pub mod Building
 pub mod NewFile
+pub mod Builder
 pub mod BuildLaws

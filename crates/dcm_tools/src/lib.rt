@@ -1,6 +1,7 @@
 //! What the tools write: the dump of a data set, and the data set in another syntax.
 #![tactic(auto)]
 
+mod build;
 mod checks;
 mod copier;
 mod dump;
@@ -14,10 +15,12 @@ mod layout;
 mod lengths;
 mod line;
 mod lines;
+mod place;
 mod standing;
 #[cfg(test)]
 mod tests;
 
+pub use build::{BuildHalt, Builder, LineStop};
 pub use dump::DumpSink;
 pub use encode::EncodeSink;
 pub use header::{dump_header, set_header};
