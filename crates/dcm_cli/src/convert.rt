@@ -17,11 +17,14 @@ ghost use Rattle.dcm_cli.specs.Run.{Worked};
 use crate::ending::Ending;
 use crate::head::{Begun, read_head_of, set_start};
 use crate::job::Convert;
-use crate::pass::{PIECE, read_set};
+use crate::pass::read_set;
 use crate::syntax::uid_of_syntax;
 use dcm_base::{Coding, DeviceIn, DeviceOut, Fault, Stop, Syntax, Watched, WriteFailed, put_parts};
 use dcm_head::Meta;
 use dcm_tools::EncodeSink;
+
+/// The bytes that are read at a time. Most of them are written again, each piece by one call.
+const PIECE: usize = 262_144;
 
 /// What stands between the preamble and the meta group (PS3.10 7.1).
 const PREFIX: &[u8] = b"DICM";
@@ -82,7 +85,7 @@ fn encode_set<R: DeviceIn, W: DeviceOut>(
 ) -> Ending
     requires start { start ≤ 2 ^ 62 }
     requires room { 0 < length buffer.old }
-    requires bound { length buffer.old ≤ 65536 }
+    requires bound { length buffer.old ≤ 262144 }
     requires within { (begun.used ≤ begun.filled) × (begun.filled ≤ length buffer.old) }
     requires count { start + length (spec.set_bytes begun buffer.old) ≡ begun.read }
     requires over { begun.is_over ≡ true → IsAtEnd (R.remaining input.old) }
@@ -103,7 +106,7 @@ fn convert_file<R: DeviceIn, W: DeviceOut>(
     buffer: &mut [u8],
 ) -> Ending
     requires room { 0 < length buffer.old }
-    requires bound { length buffer.old ≤ 65536 }
+    requires bound { length buffer.old ≤ 262144 }
     ensures worked { (file : List ℕ) → R.remaining input.old ≡ Some file → Worked (convert_job target) file (W.contents out.old) (W.contents out.new) result }
     ensures unread { spec.TellsUnread (R.has_failed input.old) (R.has_failed input.new) result }
     ensures failed { spec.TellsOutput (W.has_failed out.old) (W.has_failed out.new) result }

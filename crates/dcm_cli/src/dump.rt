@@ -9,12 +9,15 @@ ghost use Rattle.dcm_cli.specs.Run.{Worked};
 use crate::ending::Ending;
 use crate::head::{read_head_of, set_start};
 use crate::job::Dump;
-use crate::pass::{PIECE, read_rest, read_set};
+use crate::pass::{read_rest, read_set};
 use crate::syntax::uid_of_syntax;
 use dcm_base::{Coding, DeviceIn, DeviceOut, Mode, Syntax, Watched};
 use dcm_head::Meta;
 use dcm_stream::Machine;
 use dcm_tools::{DumpSink, dump_header, set_header};
+
+/// The bytes that are read at a time.
+const PIECE: usize = 65_536;
 
 /// Writes the dump of a file.
 fn dump_file<R: DeviceIn, W: DeviceOut>(

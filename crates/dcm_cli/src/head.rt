@@ -46,7 +46,7 @@ pub fn read_head_of<R: DeviceIn>(
 ) -> Result<Begun, Ending>
     requires start { meta.old ≡ at_start }
     requires room { 0 < length buffer.old }
-    requires bound { length buffer.old ≤ 65536 }
+    requires bound { length buffer.old ≤ 262144 }
     ensures within { IfOk result (λ b. (b.used ≤ b.filled) × (b.filled ≤ length buffer.new)) }
     ensures read { spec.HeadReads (R.remaining input.old) (R.remaining input.new) meta.new buffer.new result }
     ensures failed { MatchResult result (λ b. R.has_failed input.new ≡ R.has_failed input.old) (λ e. spec.TellsUnread (R.has_failed input.old) (R.has_failed input.new) e) }

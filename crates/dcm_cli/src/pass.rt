@@ -10,9 +10,6 @@ use crate::head::Begun;
 use dcm_base::{Coding, DeviceIn, Watched, get_some};
 use dcm_stream::{Halt, Machine, Sink};
 
-/// The bytes that are read at a time.
-pub const PIECE: usize = 65536;
-
 /// Feeds a machine that has not halted.
 fn feed<S: Sink>(piece: &[u8], machine: &mut Machine, sink: &mut S) -> Result<(), Halt>
     requires { machine_spec.is_halted machine.old ≡ false }
@@ -66,7 +63,7 @@ pub fn read_rest<R: DeviceIn, S: Sink>(
     sink: &mut S,
 ) -> Ending
     requires room { 0 < length buffer.old }
-    requires bound { length buffer.old ≤ 65536 }
+    requires bound { length buffer.old ≤ 262144 }
     requires going { machine_spec.is_halted machine.old ≡ false }
     requires before { read_before ≡ machine_spec.next_offset machine.old.reading }
     requires limit { read_before ≤ 2 ^ 62 }
@@ -101,7 +98,7 @@ pub fn read_set<R: DeviceIn, S: Sink>(
 ) -> Ending
     requires start { start ≤ 2 ^ 62 }
     requires room { 0 < length buffer.old }
-    requires bound { length buffer.old ≤ 65536 }
+    requires bound { length buffer.old ≤ 262144 }
     requires within { (begun.used ≤ begun.filled) × (begun.filled ≤ length buffer.old) }
     requires count { start + length (spec.set_bytes begun buffer.old) ≡ begun.read }
     requires over { begun.is_over ≡ true → IsAtEnd (R.remaining input.old) }

@@ -4,11 +4,11 @@ mod failing;
 mod nested;
 mod rows;
 
-use conversions::CONVERSIONS;
+use conversions::conversions;
 use dcm_base::{MemIn, MemOut, Std, Watched};
 use dcm_cli::run::run;
 use dcm_cli::{plan, tell};
-use rows::{ROWS, Row, bytes_of, front_of};
+use rows::{Row, bytes_of, front_of};
 use std::io;
 use std::io::Read;
 use std::process::Abort;
@@ -131,16 +131,16 @@ fn expect_answers(rt: HostRuntime, abort: &impl Abort, row: &Row) -> Result<(), 
 
 #[test]
 fn dumps(rt: HostRuntime) -> Result<(), Fail> {
-    for row in ROWS {
-        expect_answers(rt, &rt, &row)?;
+    for row in rows::dumps() {
+        expect_answers(rt, &rt, row)?;
     }
     Ok(())
 }
 
 #[test]
 fn converts(rt: HostRuntime) -> Result<(), Fail> {
-    for row in CONVERSIONS {
-        expect_answers(rt, &rt, &row)?;
+    for row in conversions() {
+        expect_answers(rt, &rt, row)?;
     }
     Ok(())
 }

@@ -313,3 +313,8 @@ pub const CONVERSIONS: [Row; 31] = [
         told: b"dcmtools: R1 at byte 173: input ends too early\n",
     },
 ];
+
+/// All conversions.
+pub fn conversions() -> &'static [Row] {
+    &CONVERSIONS
+}

@@ -490,3 +490,8 @@ pub const ROWS: [Row; 41] = [
         told: b"dcmtools: R8 at byte 172: undefined length not allowed\n",
     },
 ];
+
+/// All dumps.
+pub fn dumps() -> &'static [Row] {
+    &ROWS
+}

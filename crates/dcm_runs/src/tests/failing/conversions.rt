@@ -1,38 +1,38 @@
 // Conversions over devices that fail.
 use super::{expect_written, read_failing, tell_failing, write_failing};
-use crate::tests::conversions::CONVERSIONS;
+use crate::tests::conversions::{CONVERSIONS, conversions};
 use crate::tests::joined;
 use crate::tests::rows::{Start, bytes_of};
 use std::test::Fail;
 
 #[test]
 fn reading_fails(rt: HostRuntime) -> Result<(), Fail> {
-    for row in CONVERSIONS {
-        read_failing(rt, &rt, &row, true)?;
+    for row in conversions() {
+        read_failing(rt, &rt, row, true)?;
     }
     Ok(())
 }
 
 #[test]
 fn reading_and_flushing_fail(rt: HostRuntime) -> Result<(), Fail> {
-    for row in CONVERSIONS {
-        read_failing(rt, &rt, &row, false)?;
+    for row in conversions() {
+        read_failing(rt, &rt, row, false)?;
     }
     Ok(())
 }
 
 #[test]
 fn writing_fails(rt: HostRuntime) -> Result<(), Fail> {
-    for row in CONVERSIONS {
-        write_failing(rt, &rt, &row)?;
+    for row in conversions() {
+        write_failing(rt, &rt, row)?;
     }
     Ok(())
 }
 
 #[test]
 fn telling_fails(rt: HostRuntime) -> Result<(), Fail> {
-    for row in CONVERSIONS {
-        tell_failing(rt, &rt, &row)?;
+    for row in conversions() {
+        tell_failing(rt, &rt, row)?;
     }
     Ok(())
 }

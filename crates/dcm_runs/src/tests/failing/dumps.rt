@@ -1,6 +1,6 @@
 // Dumps over devices that fail.
 use super::{expect_written, read_failing, tell_failing, write_failing};
-use crate::tests::rows::{ROWS, Row, header_of};
+use crate::tests::rows::{ROWS, Row, dumps, header_of};
 use std::process::Abort;
 use std::test::Fail;
 
@@ -9,16 +9,16 @@ const HALF: usize = 20;
 
 #[test]
 fn reading_fails(rt: HostRuntime) -> Result<(), Fail> {
-    for row in ROWS {
-        read_failing(rt, &rt, &row, true)?;
+    for row in dumps() {
+        read_failing(rt, &rt, row, true)?;
     }
     Ok(())
 }
 
 #[test]
 fn reading_and_flushing_fail(rt: HostRuntime) -> Result<(), Fail> {
-    for row in ROWS {
-        read_failing(rt, &rt, &row, false)?;
+    for row in dumps() {
+        read_failing(rt, &rt, row, false)?;
     }
     Ok(())
 }
@@ -33,18 +33,24 @@ fn writing_fails(rt: HostRuntime, abort: &impl Abort, rows: &[Row]) -> Result<()
 
 #[test]
 fn writing_fails_in_first_rows(rt: HostRuntime) -> Result<(), Fail> {
-    writing_fails(rt, &rt, &ROWS[..HALF])
+    let Some(rows) = dumps().get(..HALF) else {
+        panic!(rt; "too few rows");
+    };
+    writing_fails(rt, &rt, rows)
 }
 
 #[test]
 fn writing_fails_in_last_rows(rt: HostRuntime) -> Result<(), Fail> {
-    writing_fails(rt, &rt, &ROWS[HALF..])
+    let Some(rows) = dumps().get(HALF..) else {
+        panic!(rt; "too few rows");
+    };
+    writing_fails(rt, &rt, rows)
 }
 
 #[test]
 fn telling_fails(rt: HostRuntime) -> Result<(), Fail> {
-    for row in ROWS {
-        tell_failing(rt, &rt, &row)?;
+    for row in dumps() {
+        tell_failing(rt, &rt, row)?;
     }
     Ok(())
 }
