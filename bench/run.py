@@ -197,6 +197,8 @@ def make_inputs(folder, mebibytes, full_mebibytes):
         convert(f"{mebibytes} fragments of 1 MiB", "+t=", "fragments"),
         convert(nested, "+t=", "nested"),
     ]
+    # what is still to be written to the disk would slow the conversions
+    os.sync()
     return dumps, conversions, Work("small", [], path("small"))
 
 
