@@ -2,6 +2,5 @@ pub mod Words
 pub mod Told
 pub mod Answer
 pub mod Pass
-pub mod Lines
 pub mod Run
 pub mod Devices

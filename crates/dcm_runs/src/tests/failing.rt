@@ -1,5 +1,4 @@
 // Runs over devices that fail.
-mod buildings;
 mod conversions;
 mod devices;
 mod dumps;
