@@ -22,12 +22,13 @@ _dcmtools() {
     local current=${COMP_WORDS[COMP_CWORD]} switches
     COMPREPLY=()
     if ((COMP_CWORD == 1)); then
-        _dcmtools_words 'dcmdump dcmconv' "$current"
+        _dcmtools_words 'dcmdump dcmconv dump2dcm' "$current"
         return
     fi
     case ${COMP_WORDS[1]} in
         dcmdump) switches='-L +L +fo -f -ti -te -tb' ;;
         dcmconv) switches='+t= +ti +te +tb -e +fo' ;;
+        dump2dcm) switches='+l -e' ;;
         *) return ;;
     esac
     case $current in

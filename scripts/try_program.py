@@ -19,8 +19,12 @@ with open(os.path.join(ROOT, "crates", "converts", "stdout"), "rb") as converted
 # the preamble, the prefix and a meta group of a JPEG syntax
 JPEG = bytes(128) + b"DICM\2\0\0\0UL\4\0\x1e\0\0\0\2\0\x10\0UI\x16\0001.2.840.10008.1.2.4.50"
 
+# lines that are built into name.dcm, and others that are at fault
+LINES = b"(0002,0010) UI =LittleEndianExplicit\n(0010,0010) PN [AB^CD]\n"
+BAD_LINES = LINES + b"(0010,0010) PN [AB^CD]\n"
+
 # the files of the folder that a case runs in
-FILES = {"name.dcm": NAME, "jpeg.dcm": JPEG, "empty": b"", "cut": NAME[:182], "older": b"older" * 100}
+FILES = {"lines": LINES, "bad_lines": BAD_LINES, "name.dcm": NAME, "jpeg.dcm": JPEG, "empty": b"", "cut": NAME[:182], "older": b"older" * 100}
 
 # what it is, the words behind the program for a shell, the status, the line on standard error
 CASES = [
@@ -52,6 +56,12 @@ CASES = [
     ("an output that is a directory", "dcmconv name.dcm .", 4, "output cannot be opened"),
     ("an output in no directory", "dcmconv name.dcm nowhere/out", 4, "output cannot be opened"),
     ("a closed standard output of a conversion", "dcmconv name.dcm - >&-", 4, "output failed"),
+    ("an option without its value", "dump2dcm lines out +l", 1, "V3 at word 4: bad option value"),
+    ("a limit that is too low", "dump2dcm +l 79 lines out", 1, "V3 at word 2: bad option value"),
+    ("one path of lines", "dump2dcm lines", 1, "V4: wrong number of paths"),
+    ("lines on a full disk", "dump2dcm lines - > /dev/full", 4, "output failed"),
+    ("a directory of lines", "dump2dcm . -", 4, "reading failed after 0 bytes"),
+    ("no lines", "dump2dcm empty -", 2, "B7 at byte 0, line 1: no usable transfer syntax"),
 ]
 
 # the same, and a path with what is to stand there afterwards, or nothing where there is to be no file
@@ -78,6 +88,11 @@ WRITTEN = [
     ("standard output and error closed", "dcmconv cut out >&- 2>&-", 2, "", "out", NAME[:182]),
     ("all standard streams closed", "dcmconv +tb name.dcm out <&- >&- 2>&-", 0, "", "out", BIG),
     ("standard input and error closed", "dcmconv - out <&- 2>&-", 4, "", "out", b""),
+    ("lines", "dump2dcm lines out", 0, "", "out", NAME),
+    ("lines of standard streams", "dump2dcm +l 80 - - < lines > out", 0, "", "out", NAME),
+    ("the lines of a dump", 'dcmdump +L name.dcm | "$0" dump2dcm - out', 0, "", "out", NAME),
+    ("bad lines", "dump2dcm bad_lines out", 2, "B5 at byte 60, line 3: tags not ascending", "out", NAME),
+    ("lines of a missing path", "dump2dcm missing older", 4, "input cannot be opened", "older", FILES["older"]),
     ("a missing input", "dcmconv missing out", 4, "input cannot be opened", "out", None),
     ("a missing input beside an older output", "dcmconv missing older", 4, "input cannot be opened", "older", FILES["older"]),
     ("refused words", "dcmconv +e name.dcm out", 1, "V2 at word 2: unknown option", "out", None),

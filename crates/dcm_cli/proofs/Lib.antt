@@ -1,4 +1,5 @@
 pub mod WordLemmas
+pub mod Limits
 pub mod Composed
 pub mod Fed
 pub mod Passes
@@ -8,5 +9,7 @@ pub mod Sets
 pub mod Alone
 pub mod MetaHeads
 pub mod Rans
+pub mod Lines
+pub mod LinesGrow
 pub mod Files
 pub mod Sures

@@ -17,7 +17,7 @@ use Rattle.dcm_stream.specs.declared.machine.Halt.TheVariants.{Refused as halt_r
 use Rattle.dcm_stream.specs.Reading.{Reading, finish, end_shows}
 use Rattle.dcm_stream.specs.Machine.{Progress, steps, steps_write, answer, well, next_offset}
 use Rattle.dcm_cli.specs.declared.ending.Ending.{Ending}
-use Rattle.dcm_cli.specs.declared.ending.Ending.TheVariants.{Done, Refused, Unread, Output}
+use Rattle.dcm_cli.specs.declared.ending.Ending.TheVariants.{Done, Refused, RefusedLine, Unread, Output}
 use Rattle.dcm_cli.specs.Pass.{Fed, Ends, EndsSet, ending_of, at_end, at_fault, halted, unread, unwritten, end_unwritten}
 use Rattle.dcm_cli.proofs.Fed.{not_failed, going_none}
 
@@ -92,6 +92,7 @@ module _ {S : Type 0} (bars : S → Head → Option Bar) (step : S → Atom → 
           ∙ ap (λ (q : Reading × S). append_known held (out ++ outputs step writes q.1 (end_shows complete))) w.0)
       by_ending (Refused stop) e =
           at_fault stop over none (ap (λ (q : Reading × S). finish q.0) (sym w.0) ∙ e.0) refl (e.1 ∙ w.1)
+      by_ending (RefusedLine stop) e = absurd e
       by_ending (Unread count) e = absurd e
       by_ending Output e =
           end_unwritten over none refl

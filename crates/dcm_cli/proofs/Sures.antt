@@ -4,6 +4,7 @@ use Rattle.std.specs.Prelude.{◌⊎◌, nat_eq}
 use Rattle.std.proofs.lemmas.List.{append-nil, drop-append-le}
 use Rattle.std.proofs.lemmas.Bool.Decides.{nat_tests}
 use Rattle.dcm_base.specs.declared.mode.Mode.{Mode}
+use Rattle.dcm_base.specs.Build.{built}
 use Rattle.dcm_base.specs.declared.syntax.Syntax.{Syntax}
 use Rattle.dcm_base.specs.declared.syntax.Coding.{Coding}
 use Rattle.dcm_base.specs.Dump.{dump_front}
@@ -12,7 +13,7 @@ use Rattle.dcm_base.specs.Header.{set_header}
 use Rattle.dcm_base.specs.MetaReads.{Meta, MetaAnswer, MetaReads, begins, refused as meta_refused, is_undecided as meta_undecided}
 use Rattle.dcm_base.specs.Reads.{INPUT_LIMIT, Reads, ended}
 use Rattle.dcm_base.specs.Stop.{Bar, Stop, refused}
-use Rattle.dcm_base.specs.Words.{Job, dump, convert}
+use Rattle.dcm_base.specs.Words.{Job, dump, convert, build as building}
 use Rattle.dcm_base.proofs.Reading.{reads_once}
 use Rattle.dcm_head.specs.declared.meta_read.MetaEnd.{MetaEnd}
 use Rattle.dcm_head.specs.MetaReading.{Reading, HasEnded, Says, meta_finished}
@@ -24,13 +25,14 @@ use Rattle.dcm_stream.specs.Driven.{bars_by}
 use Rattle.dcm_stream.proofs.Driven.{waits_as, drives_as}
 use Rattle.dcm_stream.proofs.Follow.{follows}
 use Rattle.dcm_cli.specs.declared.job.Job.{Job as RunJob}
-use Rattle.dcm_cli.specs.declared.job.Job.TheVariants.{Dump, Convert}
+use Rattle.dcm_cli.specs.declared.job.Job.TheVariants.{Dump, Convert, Build}
 use Rattle.dcm_cli.specs.Words.{job_of}
 use Rattle.dcm_cli.specs.Answer.{Answer, Answers, Sure, ReadAnswers, Source, answer, going_on, job_bar, refuses_change, file_output, uid_of_syntax, AloneReads, AloneSure, FileReads, FileSure, not_opened, not_changed, opened as was_opened, before_set, within_set}
 use Rattle.dcm_cli.specs.Pass.{head_read}
 use Rattle.dcm_cli.proofs.Makers.{Maker, dumper, made, made_output, last_output, more_made, made_behind}
 use Rattle.dcm_cli.proofs.Sets.{all_read, going_back}
 use Rattle.dcm_cli.proofs.MetaHeads.{opened, one_head, ended_stays, finished_same, group_spelled}
+use Rattle.dcm_cli.proofs.LinesGrow.{sure_lines_grow, answer_output}
 use Rattle.dcm_cli.proofs.Files.{FileMaker, file_dumper, file_encoder}
 
 -- ---- a data set
@@ -148,6 +150,13 @@ dump_grows : (mode : Mode) (bare : Option Syntax) (p later out : List ℕ) (a : 
 dump_grows mode None p later out a sure x = file_grows (dump mode None) (file_dumper mode) p later out a x.source sure x.answer_is x.reads
 dump_grows mode (Some s) p later out a sure x = alone_grows mode s p later out a sure x
 
+-- lines that are built
+build_grows : (limit : ℕ) (p later out : List ℕ) (a : Answer) → Sure (building limit) p out → Answers (building limit) (p ++ later) a → (rest : List ℕ) × (a.output ≡ out ++ rest)
+build_grows limit p later out a sure x =
+    let more = sure_lines_grow limit p later out sure in
+    (more.0, ap (λ (b : Answer). b.output) x ∙ answer_output (built limit (p ++ later)) ∙ more.1)
+
 pub sure_grows : (job : RunJob) (p later out : List ℕ) (a : Answer) → Sure (job_of job) p out → Answers (job_of job) (p ++ later) a → (rest : List ℕ) × (a.output ≡ out ++ rest)
 sure_grows (Dump d) p later out a sure x = dump_grows d.mode d.bare p later out a sure x
 sure_grows (Convert c) p later out a sure x = file_grows (convert c.target) (file_encoder c.target) p later out a x.source sure x.answer_is x.reads
+sure_grows (Build b) p later out a sure x = build_grows b.limit p later out a sure x

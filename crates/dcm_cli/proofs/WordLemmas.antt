@@ -1,5 +1,5 @@
 -- The words of a tool, one after another.
-use Rattle.std.proofs.Common.{◌≡◌, ℕ, suc, ◌<◌, ◌+◌, List, [], ◌∷◌, length, map, drop, get_or, None, Some, Bool, true, false, cond, Result, Err, refl, sym, ◌∙◌, ap, arith, drop-cons, add-one, Bor}
+use Rattle.std.proofs.Common.{◌≡◌, ℕ, zero, suc, ◌<◌, ◌+◌, List, [], ◌∷◌, length, map, drop, get_or, Option, None, Some, Bool, true, false, cond, Result, Ok, Err, refl, sym, ◌∙◌, ap, arith, drop-cons, add-one, Bor}
 use Rattle.dcm_base.specs.declared.mode.Mode.TheVariants.{Short, Full}
 use Rattle.dcm_base.specs.declared.syntax.Syntax.TheVariants.{Implicit, Little, Big}
 use Rattle.std.specs.Prelude.{codes, bytes_eq}
@@ -7,13 +7,13 @@ use Rattle.dcm_base.specs.declared.words.Word.{Word}
 use Rattle.dcm_base.specs.declared.words.Word.TheVariants.{Show, WholeFile, DataSet, Bare, Target, Limit, Accepted, Path, Unknown}
 use Rattle.dcm_base.specs.declared.words.Usage.{Usage}
 use Rattle.dcm_base.specs.declared.words.Usage.TheVariants.{AtWord}
-use Rattle.dcm_base.specs.declared.fault.WordFault.TheVariants.{UnknownOption}
-use Rattle.dcm_base.specs.Words.{Said, said_with, said_after, and_path, is_option}
+use Rattle.dcm_base.specs.declared.fault.WordFault.TheVariants.{UnknownOption, BadOptionValue}
+use Rattle.dcm_base.specs.Words.{Said, said_with, said_after, and_path, limit_of}
 use Rattle.dcm_cli.specs.declared.words.Tool.{Tool}
 use Rattle.dcm_cli.specs.declared.words.Tool.TheVariants as tools
 use Rattle.dcm_cli.specs.declared.words.Paths.{Paths}
 use Rattle.dcm_cli.specs.declared.words.Paths.TheVariants as paths
-use Rattle.dcm_cli.specs.Words.{reader, PathsAre}
+use Rattle.dcm_cli.specs.Words.{reader, given, limit_behind, PathsAre}
 
 abbrev texts : List (Bor (List ℕ)) → List (List ℕ)
 texts ws = map (λ w. w.now) ws
@@ -26,6 +26,15 @@ goes _ = true
 
 next_word : (i : ℕ) (ws : List (Bor (List ℕ))) (d : Bor (List ℕ)) → i < length ws → texts (drop i ws) ≡ (get_or ws i d).now ∷ texts (drop (i + 1) ws)
 next_word i ws d h = rw (add-one, drop-cons ws i d)
+
+behind_one_more : (i : ℕ) (ws : List (Bor (List ℕ))) → drop 1 (texts (drop i ws)) ≡ texts (drop (suc i) ws)
+behind_one_more zero [] = refl
+behind_one_more zero (w ∷ ws) = refl
+behind_one_more (suc i) [] = refl
+behind_one_more (suc i) (w ∷ ws) = behind_one_more i ws
+
+behind_one : (i : ℕ) (ws : List (Bor (List ℕ))) → drop 1 (texts (drop i ws)) ≡ texts (drop (i + 1) ws)
+behind_one i ws = behind_one_more i ws ∙ ap (λ k. texts (drop k ws)) (sym (add-one i))
 
 module _ (read : List ℕ → Word) where
   one_alone : (n : ℕ) (s : Said) (w : List ℕ) (x : Word) → read w ≡ x → goes x ≡ true → said_after read n s (w ∷ []) ≡ said_after read (suc n) (said_with x w s) []
@@ -66,6 +75,50 @@ module _ (read : List ℕ → Word) where
       ∙ (one_word (i + 2) s (get_or ws i d).now (texts (drop (i + 1) ws)) x (sym p) g
       ∙ ap (λ (m : ℕ). said_after read m (said_with x (get_or ws i d).now s) (texts (drop (i + 1) ws))) n)
 
+  -- the word behind that for a limit is its value
+  limit_alone : (n : ℕ) (s : Said) (w : List ℕ) → read w ≡ Limit → said_after read n s (w ∷ []) ≡ Err (AtWord BadOptionValue n)
+  limit_alone n s w e = rw (e, said_after) refl
+
+  limit_bad : (n : ℕ) (s : Said) (w v : List ℕ) (words : List (List ℕ)) → read w ≡ Limit → limit_of v ≡ None → said_after read n s (w ∷ v ∷ words) ≡ Err (AtWord BadOptionValue n)
+  limit_bad n s w v words e l = rw (e, l, said_after) refl
+
+  limit_good : (n : ℕ) (s : Said) (w v : List ℕ) (words : List (List ℕ)) (limit : ℕ) → read w ≡ Limit → limit_of v ≡ Some limit → said_after read n s (w ∷ v ∷ words) ≡ said_after read (n + 2) (record s { limit = limit }) words
+  limit_good n s w v words limit e l = rw (e, l, said_after) refl
+
+  limit_goes : (n : ℕ) (s : Said) (w : List ℕ) (vs : List (List ℕ)) (limit : ℕ) → read w ≡ Limit → limit_behind n vs ≡ Ok limit → said_after read n s (w ∷ vs) ≡ said_after read (n + 2) (record s { limit = limit }) (drop 1 vs)
+  limit_goes n s w [] limit e l = absurd (cc)
+  limit_goes n s w (v ∷ words) limit e l = goes_by (limit_of v) refl l
+    where
+      goes_by : (o : Option ℕ) → limit_of v ≡ o → given n o ≡ Ok limit → said_after read n s (w ∷ v ∷ words) ≡ said_after read (n + 2) (record s { limit = limit }) words
+      goes_by None is l = absurd (cc)
+      goes_by (Some k) is l = let same : k ≡ limit = cc in limit_good n s w v words k e is ∙ ap (λ k. said_after read (n + 2) (record s { limit = k }) words) same
+
+  limit_stops : (n : ℕ) (s : Said) (w : List ℕ) (vs : List (List ℕ)) (u : Usage) → read w ≡ Limit → limit_behind n vs ≡ Err u → said_after read n s (w ∷ vs) ≡ Err u
+  limit_stops n s w [] u e l = let same : AtWord BadOptionValue n ≡ u = cc in limit_alone n s w e ∙ ap Err same
+  limit_stops n s w (v ∷ words) u e l = stops_by (limit_of v) refl l
+    where
+      stops_by : (o : Option ℕ) → limit_of v ≡ o → given n o ≡ Err u → said_after read n s (w ∷ v ∷ words) ≡ Err u
+      stops_by None is l = let same : AtWord BadOptionValue n ≡ u = cc in limit_bad n s w v words e is ∙ ap Err same
+      stops_by (Some k) is l = absurd (cc)
+
+  -- the turn of the loop that takes a limit and its value
+  pub limit_turn : {M : Result Said Usage} (i : ℕ) (ws : List (Bor (List ℕ))) (d : Bor (List ℕ)) (s t : Said) (limit : ℕ) → i < length ws → Limit ≡ read (get_or ws i d).now → limit_behind (i + 2) (texts (drop (i + 1) ws)) ≡ Ok limit
+      → record s { limit = limit } ≡ t → said_after read (i + 2) s (texts (drop i ws)) ≡ M → said_after read (i + 1 + 1 + 2) t (texts (drop (i + 1 + 1) ws)) ≡ M
+  limit_turn i ws d s t limit h p l e v =
+      let n : i + 1 + 1 + 2 ≡ i + 2 + 2 = omega arith in
+      ap (λ m. said_after read m t (texts (drop (i + 1 + 1) ws))) n
+      ∙ ap (λ r. said_after read (i + 2 + 2) t r) (sym (behind_one (i + 1) ws))
+      ∙ ap (λ u. said_after read (i + 2 + 2) u (drop 1 (texts (drop (i + 1) ws)))) (sym e)
+      ∙ sym (limit_goes (i + 2) s (get_or ws i d).now (texts (drop (i + 1) ws)) limit (sym p) l)
+      ∙ sym (ap (λ (r : List (List ℕ)). said_after read (i + 2) s r) (next_word i ws d h))
+      ∙ v
+
+  pub limit_refused : (i : ℕ) (ws : List (Bor (List ℕ))) (d : Bor (List ℕ)) (s : Said) (u : Usage) → i < length ws → Limit ≡ read (get_or ws i d).now → limit_behind (i + 2) (texts (drop (i + 1) ws)) ≡ Err u
+      → said_after read (i + 2) s (texts (drop i ws)) ≡ Err u
+  limit_refused i ws d s u h p l =
+      ap (λ (r : List (List ℕ)). said_after read (i + 2) s r) (next_word i ws d h)
+      ∙ limit_stops (i + 2) s (get_or ws i d).now (texts (drop (i + 1) ws)) u (sym p) l
+
   pub stops : (i : ℕ) (ws : List (Bor (List ℕ))) (d : Bor (List ℕ)) (s : Said) → i < length ws → Unknown ≡ read (get_or ws i d).now
       → said_after read (i + 2) s (texts (drop i ws)) ≡ Err (AtWord UnknownOption (i + 2))
   stops i ws d s h p =
@@ -83,46 +136,11 @@ more_than_two (paths.One first) ps e h = cc
 more_than_two (paths.Two first second) ps e h = cc
 more_than_two paths.More ps e h = h
 
--- no word of these tools is a limit
-abbrev no_limit : Word → Bool
-no_limit Limit = false
-no_limit _ = true
-
-others : (h : Bool) → no_limit (cond h Unknown Path) ≡ true
-others true = refl
-others false = refl
-
-dump_tests : (a b c d e f g h : Bool)
-    → no_limit (cond a (Show Short) (cond b (Show Full) (cond c WholeFile (cond d DataSet (cond e (Bare Implicit) (cond f (Bare Little) (cond g (Bare Big) (cond h Unknown Path)))))))) ≡ true
-dump_tests true b c d e f g h = refl
-dump_tests false true c d e f g h = refl
-dump_tests false false true d e f g h = refl
-dump_tests false false false true e f g h = refl
-dump_tests false false false false true f g h = refl
-dump_tests false false false false false true g h = refl
-dump_tests false false false false false false true h = refl
-dump_tests false false false false false false false h = others h
-
-convert_tests : (a b c d e f h : Bool)
-    → no_limit (cond a (Target None) (cond b (Target (Some Implicit)) (cond c (Target (Some Little)) (cond d (Target (Some Big)) (cond e Accepted (cond f Accepted (cond h Unknown Path))))))) ≡ true
-convert_tests true b c d e f h = refl
-convert_tests false true c d e f h = refl
-convert_tests false false true d e f h = refl
-convert_tests false false false true e f h = refl
-convert_tests false false false false true f h = refl
-convert_tests false false false false false true h = refl
-convert_tests false false false false false false h = others h
-
-known : (tool : Tool) (w : List ℕ) → no_limit (reader tool w) ≡ true
-known tools.Dump w =
-    dump_tests (bytes_eq w (codes "-L")) (bytes_eq w (codes "+L")) (bytes_eq w (codes "+fo")) (bytes_eq w (codes "-f")) (bytes_eq w (codes "-ti")) (bytes_eq w (codes "-te")) (bytes_eq w (codes "-tb")) (is_option w)
-known tools.Convert w =
-    convert_tests (bytes_eq w (codes "+t=")) (bytes_eq w (codes "+ti")) (bytes_eq w (codes "+te")) (bytes_eq w (codes "+tb")) (bytes_eq w (codes "-e")) (bytes_eq w (codes "+fo")) (is_option w)
-
-pub never_limit : (tool : Tool) (w : List ℕ) → Limit ≡ reader tool w → ⊥
-never_limit tool w e = let yes : no_limit Limit ≡ true = ap no_limit e ∙ known tool w in cc
-
 -- one turn of the loop
 pub turn : {M : Result Said Usage} (read : List ℕ → Word) (i : ℕ) (ws : List (Bor (List ℕ))) (d : Bor (List ℕ)) (s t : Said) (x : Word) → i < length ws → x ≡ read (get_or ws i d).now → goes x ≡ true
     → said_with x (get_or ws i d).now s ≡ t → said_after read (i + 2) s (texts (drop i ws)) ≡ M → said_after read (i + 1 + 2) t (texts (drop (i + 1) ws)) ≡ M
 turn read i ws d s t x h p g e v = ap (λ (u : Said). said_after read (i + 1 + 2) u (texts (drop (i + 1) ws))) (sym e) ∙ (sym (goes_on read i ws d s x h p g) ∙ v)
+
+-- the place that the next turn begins behind
+pub placed : {M : Result Said Usage} (read : List ℕ → Word) (k i : ℕ) (ws : List (Bor (List ℕ))) (s : Said) → k ≡ i → said_after read (i + 1 + 2) s (texts (drop (i + 1) ws)) ≡ M → said_after read (k + 1 + 2) s (texts (drop (k + 1) ws)) ≡ M
+placed read k i ws s e h = ap (λ j. said_after read (j + 1 + 2) s (texts (drop (j + 1) ws))) e ∙ h

@@ -1,5 +1,5 @@
 -- What a run answers: the output, the lines on standard error, and the status.
-use Rattle.std.specs.Prelude.{◌≡◌, ℕ, zero, suc, ◌+◌, ◌<◌, ◌≤◌, Bool, true, false, List, [], ◌∷◌, ◌++◌, length, drop, codes, decimal, replicate, Option, Some, None, if◌then◌else◌}
+use Rattle.std.specs.Prelude.{◌≡◌, ℕ, zero, suc, ◌+◌, ◌<◌, ◌≤◌, Bool, true, false, List, [], ◌∷◌, ◌++◌, length, drop, codes, decimal, Option, Some, None, if◌then◌else◌}
 use Rattle.dcm_base.specs.declared.syntax.Syntax.{Syntax}
 use Rattle.dcm_base.specs.declared.syntax.Syntax.TheVariants.{Implicit, Little, Big}
 use Rattle.dcm_base.specs.declared.syntax.Coding.{Coding}
@@ -140,14 +140,6 @@ answer job (alone syntax set stop) = record { output = output_of job (alone synt
 
 -- ---- lines of a dump that are built into a file
 
-abbrev pub built_syntax : Option Coding → Syntax
-built_syntax None = Little
-built_syntax (Some coding) = coding.syntax
-
-abbrev pub built_output : build.Built → List ℕ
-built_output b =
-    if b.meta_ended then replicate 128 0 ++ PREFIX ++ new_meta b.meta (build.named_syntax b.meta) ++ recode (built_syntax (build.named_coding b.meta)) b.set else []
-
 -- a fault that is no line's has no number of a line
 abbrev pub line_place : ℕ → List ℕ
 line_place zero = []
@@ -158,8 +150,8 @@ building_line t = told (line_fault_number t.fault ++ codes " at byte " ++ decima
 
 abbrev pub built_answer : build.Progress → Answer
 built_answer p = elim p.told [
-  | None ↦ record { output = built_output p.built; told = []; status = 0 }
-  | Some t ↦ record { output = built_output p.built; told = building_line t; status = 2 }
+  | None ↦ record { output = build.built_bytes p.built; told = []; status = 0 }
+  | Some t ↦ record { output = build.built_bytes p.built; told = building_line t; status = 2 }
 ]
 
 -- ---- answers
@@ -200,7 +192,7 @@ pub record LinesSure (limit : ℕ) (p out : List ℕ) : Type 0 where
   pub within : length p ≤ INPUT_LIMIT
   pub no_fault : (build.built_by limit (build.lines_of p).ended).told ≡ None
   pub short : length (build.lines_of p).rest ≤ limit
-  pub out_is : out ≡ built_output (build.built_by limit (build.lines_of p).ended).built
+  pub out_is : out ≡ build.written_so_far limit p
 
 -- what stands written after p, where more bytes can still change how its reading ends
 abbrev pub Sure : Job → List ℕ → List ℕ → Type 0

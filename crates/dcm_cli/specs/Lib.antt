@@ -2,5 +2,6 @@ pub mod Words
 pub mod Told
 pub mod Answer
 pub mod Pass
+pub mod Lines
 pub mod Run
 pub mod Devices

@@ -17,7 +17,7 @@ use Rattle.dcm_stream.specs.declared.machine.Halt.{Halt}
 use Rattle.dcm_stream.specs.declared.machine.Halt.TheVariants as halts
 use Rattle.dcm_stream.specs.Machine.{Progress, steps, steps_write, next_offset, answer, well, is_halted, TellsFailed}
 use Rattle.dcm_cli.specs.declared.ending.Ending.{Ending}
-use Rattle.dcm_cli.specs.declared.ending.Ending.TheVariants.{Done, Refused, Unread, Output}
+use Rattle.dcm_cli.specs.declared.ending.Ending.TheVariants.{Done, Refused, RefusedLine, Unread, Output}
 use Rattle.dcm_cli.specs.declared.head.Begun.{Begun}
 
 -- ---- the devices
@@ -26,6 +26,7 @@ use Rattle.dcm_cli.specs.declared.head.Begun.{Begun}
 abbrev pub TellsUnread : (old new : Bool) → Ending → Type 0
 TellsUnread old new Done = new ≡ old
 TellsUnread old new (Refused stop) = new ≡ old
+TellsUnread old new (RefusedLine stop) = new ≡ old
 TellsUnread old new (Unread read) = new ≡ true
 TellsUnread old new Output = new ≡ old
 
@@ -33,6 +34,7 @@ TellsUnread old new Output = new ≡ old
 abbrev pub WasRead : Ending → Type 0
 WasRead Done = Unit {0}
 WasRead (Refused stop) = Unit {0}
+WasRead (RefusedLine stop) = Unit {0}
 WasRead (Unread read) = ⊥
 WasRead Output = Unit {0}
 
@@ -40,6 +42,7 @@ WasRead Output = Unit {0}
 abbrev pub TellsOutput : (old new : Bool) → Ending → Type 0
 TellsOutput old new Done = new ≡ old
 TellsOutput old new (Refused stop) = new ≡ old
+TellsOutput old new (RefusedLine stop) = new ≡ old
 TellsOutput old new (Unread read) = new ≡ old
 TellsOutput old new Output = new ≡ true
 
@@ -66,6 +69,7 @@ pub record Begins (r : meta.Reading) (b : Begun) (buffer : List ℕ) (left : Opt
 abbrev pub FailsHead : meta.Reading → (left : Option (List ℕ)) → (read : List ℕ) → Ending → Type 0
 FailsHead r left read Done = ⊥
 FailsHead r left read (Refused stop) = (r.end ≡ Some (meta_end.Refused stop)) × ((r ≡ head_read read) ⊎ (IsAtEnd left × (r ≡ meta.meta_finished (head_read read))))
+FailsHead r left read (RefusedLine stop) = ⊥
 FailsHead r left read (Unread count) = (r ≡ head_read read) × (r.end ≡ None) × (count ≡ length read)
 FailsHead r left read Output = ⊥
 
@@ -74,6 +78,7 @@ abbrev pub FinishesHead : Option MetaEnd → (read : ℕ) → Result Begun Endin
 FinishesHead end read (Ok b) = meta.HasEnded end × (b ≡ record { ahead = None; used = 0; filled = 0; read = read; is_over = true })
 FinishesHead end read (Err Done) = ⊥
 FinishesHead end read (Err (Refused stop)) = end ≡ Some (meta_end.Refused stop)
+FinishesHead end read (Err (RefusedLine stop)) = ⊥
 FinishesHead end read (Err (Unread count)) = ⊥
 FinishesHead end read (Err Output) = ⊥
 
@@ -106,6 +111,7 @@ pub record Fed {S : Type 0} (bars : S → Head → Option Bar) (step : S → Ato
 abbrev pub EndsSet : {S : Type 0} → (S → Atom → S) → (S → Atom → List ℕ) → Reading → S → (held holds : Option (List ℕ)) → Ending → Type 0
 EndsSet step writes r s held holds Done = (finish r ≡ complete) × (holds ≡ append_known held (outputs step writes s (end_shows complete)))
 EndsSet step writes r s held holds (Refused stop) = (finish r ≡ refused stop.fault stop.at) × (holds ≡ held)
+EndsSet step writes r s held holds (RefusedLine stop) = ⊥
 EndsSet step writes r s held holds (Unread count) = ⊥
 EndsSet step writes r s held holds Output = AppendsFront held holds (outputs step writes s (end_shows (finish r)))
 

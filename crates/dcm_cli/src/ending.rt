@@ -4,12 +4,15 @@ ghost use Rattle.dcm_cli.specs.Pass as spec;
 
 use dcm_base::Stop;
 use dcm_stream::Halt;
+use dcm_tools::LineStop;
 
 /// How the work on a job ended, before its output is flushed.
 #[derive(Clone, Copy, Debug, PartialEq, Eq)]
 pub enum Ending {
     Done,
     Refused(Stop),
+    /// The lines of a dump are refused.
+    RefusedLine(LineStop),
     /// Reading failed behind so many bytes.
     Unread(u64),
     /// The output failed.

@@ -1,4 +1,7 @@
 // What a run has to do.
+ghost use Rattle.std.specs.Prelude.{◌≤◌};
+ghost use Rattle.dcm_base.specs.Words.{LEAST_LIMIT, GREATEST_LIMIT};
+
 use dcm_base::{Mode, Syntax};
 
 /// What a run has to do.
@@ -6,6 +9,7 @@ use dcm_base::{Mode, Syntax};
 pub enum Job {
     Dump(Dump),
     Convert(Convert),
+    Build(Build),
 }
 
 /// The dump of a file, or of a data set alone in a syntax.
@@ -19,6 +23,13 @@ pub struct Dump {
 #[derive(Clone, Copy, Debug, PartialEq, Eq)]
 pub struct Convert {
     pub target: Option<Syntax>,
+}
+
+/// The building of a file from the lines of a dump, with the most bytes that a line may have.
+#[derive(Clone, Copy, Debug, PartialEq, Eq)]
+pub struct Build {
+    pub limit: usize,
+    ghost within: { (LEAST_LIMIT ≤ limit) × (limit ≤ GREATEST_LIMIT) },
 }
 
 /// A job, and the paths of its input and its output, where `-` is a standard stream.

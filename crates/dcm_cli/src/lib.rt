@@ -1,6 +1,7 @@
 //! The program dcmtools: the job that words mean, its run over devices, lines on standard error, and the exit status.
 #![tactic(auto)]
 
+mod build;
 mod convert;
 mod devices;
 mod dump;
@@ -15,7 +16,7 @@ mod syntax;
 mod told;
 mod words;
 
-pub use job::{Convert, Dump, Job, Planned};
+pub use job::{Build, Convert, Dump, Job, Planned};
 pub use program::dcmtools;
 pub use told::{tell, tell_open};
 pub use words::plan;

@@ -14,7 +14,7 @@ use std::io::{BufWriter, ErrorKind, Stderr};
 use std::{env, io};
 
 /// The bytes that are written at a time.
-const BUFFER: usize = 65536;
+const BUFFER: usize = 262_144;
 
 fn read_words(rt: HostRuntime) -> io::Result<Vec<String>> {
     let mut words = Vec::new(rt.alloc());

@@ -5,11 +5,12 @@ ghost use Rattle.dcm_cli.specs.Run as spec;
 ghost use Rattle.dcm_cli.specs.Told.{Tries};
 ghost use Rattle.dcm_cli.specs.Words.{job_of};
 
+use crate::build::build;
 use crate::convert::convert;
 use crate::dump::dump;
 use crate::ending::Ending;
 use crate::job::Job;
-use crate::told::{DEVICE, tell_fault, tell_output, tell_unread};
+use crate::told::{DEVICE, tell_fault, tell_line_fault, tell_output, tell_unread};
 use dcm_base::{DeviceIn, DeviceOut, Watched, flush_out};
 
 /// The status of an input at fault.
@@ -33,7 +34,7 @@ fn flushed<W: DeviceOut>(ending: Ending, out: &mut Watched<W>) -> Ending
             let _ = flush_out(out);
             Ending::Unread(read)
         }
-        Ending::Done | Ending::Refused(_) => match flush_out(out) {
+        Ending::Done | Ending::Refused(_) | Ending::RefusedLine(_) => match flush_out(out) {
             Ok(()) => ending,
             Err(_) => Ending::Output,
         },
@@ -50,6 +51,10 @@ fn tell_ending<E: DeviceOut>(ending: Ending, errors: &mut Watched<E>) -> u8
         Ending::Done => 0,
         Ending::Refused(stop) => {
             tell_fault(stop, errors);
+            FAULT
+        }
+        Ending::RefusedLine(stop) => {
+            tell_line_fault(stop, errors);
             FAULT
         }
         Ending::Unread(read) => {
@@ -76,6 +81,7 @@ fn work<R: DeviceIn, W: DeviceOut>(
     match *job {
         Job::Dump(what) => dump(what, input, out),
         Job::Convert(what) => convert(what, input, out),
+        Job::Build(what) => build(what, input, out),
     }
 }
 

@@ -1,10 +1,13 @@
 // Lines on standard error, each by one write.
-ghost use Rattle.std.specs.Prelude.{◌≡◌, ◌≤◌, length, flat_map};
+ghost use Rattle.std.specs.Prelude.{◌≡◌, ◌≤◌, ◌+◌, ◌++◌, length, flat_map};
 ghost use Rattle.dcm_base.specs.Fault.{fault_text, fault_number, edit_refusal_text, edit_refusal_number};
+ghost use Rattle.dcm_tools.specs.Builder.{told_of};
+ghost use Rattle.dcm_cli.specs.Answer as answer;
 ghost use Rattle.dcm_cli.specs.Told as spec;
 
 use arrayvec::ArrayVec;
 use dcm_base::{DeviceOut, Stop, Usage, Watched, put_all};
+use dcm_tools::LineStop;
 use itoa::Buffer;
 
 /// The status of words that are refused.
@@ -115,6 +118,45 @@ pub fn tell_fault<E: DeviceOut>(stop: Stop, errors: &mut Watched<E>)
             digits.format(stop.at).as_bytes(),
             b": ".as_slice(),
             stop.fault.text().as_bytes(),
+            b"\n".as_slice(),
+        ],
+    );
+}
+
+/// Which line a fault is of, where it is one's: what stands before its number, and that.
+fn line_place(line: u64, digits: &mut Buffer) -> (&'static [u8], &[u8])
+    ensures bytes { result.0.now ++ result.1.now ≡ answer.line_place line }
+    ensures within { length result.0.now + length result.1.now ≤ 27 }
+{
+    if line == 0 {
+        return (b"".as_slice(), b"".as_slice());
+    }
+    (b", line ".as_slice(), digits.format(line).as_bytes())
+}
+
+/// Tells why lines that were to be built are refused.
+pub fn tell_line_fault<E: DeviceOut>(stop: LineStop, errors: &mut Watched<E>)
+    ensures { spec.Tries (E.contents errors.old) (E.contents errors.new) (E.has_failed errors.old) (E.has_failed errors.new) (answer.building_line (told_of stop)) }
+{
+    let LineStop {
+        fault,
+        offset,
+        line,
+    } = stop;
+    let mut digits = Buffer::new();
+    let mut line_digits = Buffer::new();
+    let (behind, number) = line_place(line, &mut line_digits);
+    tell_line(
+        errors,
+        &[
+            b"dcmtools: ".as_slice(),
+            fault.number().as_bytes(),
+            b" at byte ".as_slice(),
+            digits.format(offset).as_bytes(),
+            behind,
+            number,
+            b": ".as_slice(),
+            fault.text().as_bytes(),
             b"\n".as_slice(),
         ],
     );

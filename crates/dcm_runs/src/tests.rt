@@ -1,9 +1,11 @@
+mod buildings;
 mod command_lines;
 mod conversions;
 mod failing;
 mod nested;
 mod rows;
 
+use buildings::buildings;
 use conversions::conversions;
 use dcm_base::{MemIn, MemOut, Std, Watched};
 use dcm_cli::run::run;
@@ -140,6 +142,14 @@ fn dumps(rt: HostRuntime) -> Result<(), Fail> {
 #[test]
 fn converts(rt: HostRuntime) -> Result<(), Fail> {
     for row in conversions() {
+        expect_answers(rt, &rt, row)?;
+    }
+    Ok(())
+}
+
+#[test]
+fn builds(rt: HostRuntime) -> Result<(), Fail> {
+    for row in buildings() {
         expect_answers(rt, &rt, row)?;
     }
     Ok(())

@@ -156,7 +156,7 @@ impl NewFile {
     {
         !has_place_in(self.standing.container(), step)
             || (is_opening(step) && is_meta(step))
-            || (is_fragment_opening(step) && !allows_fragments(self.group.coding()))
+            || (is_fragment_opening(step) && !allows_fragments(self.group.coding))
     }
 
     fn is_out_of_order(&self, step: Step<'_>) -> bool
@@ -195,7 +195,7 @@ impl NewFile {
         first_fault(&[
             (is_meta(step) && self.meta_ended, LineFault::BadMetaGroup),
             (
-                self.ends_group(step) && self.group.coding().is_none(),
+                self.ends_group(step) && self.group.coding.is_none(),
                 LineFault::NoTransferSyntax,
             ),
         ])
@@ -267,7 +267,7 @@ impl NewFile {
     {
         self.group.put(out)?;
         self.meta_ended = true;
-        self.encoder = Encoder::new(coding_or_little(self.group.coding()));
+        self.encoder = Encoder::new(coding_or_little(self.group.coding));
         Ok(())
     }
 
@@ -334,7 +334,7 @@ impl NewFile {
     {
         first_fault(&[
             (
-                !self.meta_ended && self.group.coding().is_none(),
+                !self.meta_ended && self.group.coding.is_none(),
                 LineFault::NoTransferSyntax,
             ),
             (
@@ -348,7 +348,7 @@ impl NewFile {
     fn ends_at_end(&self) -> bool
         ensures { result ≡ (not self.now.meta_ended && is_some self.now.group.coding) }
     {
-        !self.meta_ended && self.group.coding().is_some()
+        !self.meta_ended && self.group.coding.is_some()
     }
 
     /// The meta group ends where no line of another group came.

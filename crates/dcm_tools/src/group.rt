@@ -52,7 +52,7 @@ pub struct NewGroup {
     elements: ArrayVec<u8, MOST_BYTES>,
     shown: usize,
     is_named: bool,
-    coding: Option<Coding>,
+    pub coding: Option<Coding>,
     ghost shown_few: { shown ≤ 16384 },
     ghost few: { 8 * length elements.items ≤ 9 * shown },
 }
@@ -152,13 +152,6 @@ impl NewGroup {
             is_named: false,
             coding: None,
         }
-    }
-
-    /// The coding that the group's transfer syntax means.
-    pub fn coding(&self) -> Option<Coding>
-        ensures { result ≡ self.now.coding }
-    {
-        self.coding
     }
 
     /// Whether an element is too much for the group.

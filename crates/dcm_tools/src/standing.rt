@@ -149,13 +149,6 @@ impl Standing {
         self.outermost_first.push(Open::Item(None));
     }
 
-    /// The innermost is closed.
-    pub fn leave(&mut self)
-        ensures { self.new ≡ spec.leaving self.old }
-    {
-        self.outermost_first.pop();
-    }
-
     /// Goes into what a step opens, or out of what it ends.
     pub fn take(&mut self, step: Step<'_>)
         requires placed { has_place_in (spec.container_of self.old.containers) (step_of step) ≡ true }
@@ -174,7 +167,9 @@ impl Standing {
             }
             Step::Item => self.enter_item(),
             Step::Fragment(_) => {}
-            Step::ItemEnd | Step::SequenceEnd => self.leave(),
+            Step::ItemEnd | Step::SequenceEnd => {
+                self.outermost_first.pop();
+            }
         }
     }
 }

@@ -3,7 +3,7 @@ use super::over_memory;
 use std::test::Fail;
 
 /// Words, and the line that is told of them.
-const REFUSED: [(&str, &[u8]); 12] = [
+const REFUSED: [(&str, &[u8]); 17] = [
     ("dcmcopy a b", b"dcmtools: V1 at word 1: unknown tool\n"),
     ("dcmdump +ti a", b"dcmtools: V2 at word 2: unknown option\n"),
     ("dcmdump a b", b"dcmtools: V4: wrong number of paths\n"),
@@ -29,6 +29,26 @@ const REFUSED: [(&str, &[u8]); 12] = [
     ),
     (
         "dcmconv +ti a +te a",
+        b"dcmtools: V6: input and output are the same path\n",
+    ),
+    (
+        "dump2dcm +l 79 a b",
+        b"dcmtools: V3 at word 2: bad option value\n",
+    ),
+    (
+        "dump2dcm a +l 16385 b",
+        b"dcmtools: V3 at word 3: bad option value\n",
+    ),
+    (
+        "dump2dcm a b +l",
+        b"dcmtools: V3 at word 4: bad option value\n",
+    ),
+    (
+        "dump2dcm +L a b",
+        b"dcmtools: V2 at word 2: unknown option\n",
+    ),
+    (
+        "dump2dcm +l 080 a a",
         b"dcmtools: V6: input and output are the same path\n",
     ),
 ];

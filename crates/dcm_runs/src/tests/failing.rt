@@ -1,4 +1,5 @@
 // Runs over devices that fail.
+mod buildings;
 mod conversions;
 mod devices;
 mod dumps;

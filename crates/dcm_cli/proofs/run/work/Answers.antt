@@ -11,3 +11,7 @@ returns-in-Dump-clause-worked g c = λ file is.
 pub returns-in-Convert-clause-worked : goal.returns-in-Convert-clause-worked
 returns-in-Convert-clause-worked g c = λ file is.
     subst (λ (job : Job). Worked (job_of job) file (g.W.DeviceOut.contents c.args.out.now) (g.W.DeviceOut.contents c.convert.new.out) c.convert.result) (sym c.in-Convert.is) (c.convert.ensures.worked file is)
+
+pub returns-in-Build-clause-worked : goal.returns-in-Build-clause-worked
+returns-in-Build-clause-worked g c = λ file is.
+    subst (λ (job : Job). Worked (job_of job) file (g.W.DeviceOut.contents c.args.out.now) (g.W.DeviceOut.contents c.build.new.out) c.build.result) (sym c.in-Build.is) (c.build.ensures.worked file is)

@@ -1,4 +1,4 @@
-use Rattle.std.proofs.Common.{◌≡◌, map, ◌+◌, drop, List, ℕ}
+use Rattle.std.proofs.Common.{◌≡◌, map, ◌+◌, ◌-◌, drop, List, ℕ, length}
 use Rattle.dcm_base.specs.Words.{said_after, said_by}
 use Rattle.dcm_cli.specs.Words.{reader, PathsAre, said_with_paths}
 use Rattle.dcm_cli.proofs.words.said_by.Given as goal
@@ -10,3 +10,6 @@ invariant-loop-i l = record {
   paths : PathsAre l.said.paths read;
   the_rest : said_after (reader l.tool) (l.i + 2) (said_with_paths l.said read) (map (λ w. w.now) (drop l.i l.words)) ≡ said_by (reader l.tool) (map (λ w. w.now) l.words);
 }
+
+abbrev pub decreases-loop-i : goal.decreases-loop-i
+decreases-loop-i l = length l.words - l.i

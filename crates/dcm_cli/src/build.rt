@@ -1,0 +1,80 @@
+// The building of a file from the lines of a dump.
+ghost use Rattle.std.specs.Prelude.{◌≡◌, ◌≤◌, ◌<◌, ℕ, List, length, Some, false};
+ghost use Rattle.dcm_base.specs.Words.{build as build_job};
+ghost use Rattle.dcm_tools.specs.Builder as builder_spec;
+ghost use Rattle.dcm_cli.specs.Lines as lines;
+ghost use Rattle.dcm_cli.specs.Pass as spec;
+ghost use Rattle.dcm_cli.specs.Run.{Worked};
+
+use crate::ending::Ending;
+use crate::job::Build;
+use dcm_base::{DeviceIn, DeviceOut, Watched, get_some};
+use dcm_tools::{BuildHalt, Builder};
+
+/// The bytes that are read at a time.
+const PIECE: usize = 65_536;
+
+/// How a halted builder ends the work.
+fn ending_of(halt: BuildHalt) -> Ending
+    ensures { result ≡ lines.ending_of halt }
+{
+    match halt {
+        BuildHalt::Refused(stop) => Ending::RefusedLine(stop),
+        BuildHalt::Output => Ending::Output,
+    }
+}
+
+/// Ends the input of a builder.
+fn end<W: DeviceOut>(builder: &mut Builder, out: &mut Watched<W>) -> Ending
+    requires { builder_spec.is_halted builder.old ≡ false }
+    ensures ends { lines.EndsLines builder.old.state (W.contents out.old) (W.contents out.new) result }
+    ensures failed { spec.TellsOutput (W.has_failed out.old) (W.has_failed out.new) result }
+{
+    match builder.finish(out) {
+        Ok(()) => Ending::Done,
+        Err(halt) => ending_of(halt),
+    }
+}
+
+/// Writes the file that the lines of an input build.
+fn build_lines<R: DeviceIn, W: DeviceOut>(
+    limit: usize,
+    input: &mut Watched<R>,
+    out: &mut Watched<W>,
+    buffer: &mut [u8],
+) -> Ending
+    requires limit { limit ≤ 16384 }
+    requires room { 0 < length buffer.old }
+    requires bound { length buffer.old ≤ 65536 }
+    ensures worked { (file : List ℕ) → R.remaining input.old ≡ Some file → Worked (build_job limit) file (W.contents out.old) (W.contents out.new) result }
+    ensures unread { spec.TellsUnread (R.has_failed input.old) (R.has_failed input.new) result }
+    ensures failed { spec.TellsOutput (W.has_failed out.old) (W.has_failed out.new) result }
+{
+    let mut builder = Builder::new(limit);
+    let mut read = 0;
+    loop {
+        let n = match get_some(input, buffer) {
+            Ok(0) => return end(&mut builder, out),
+            Ok(n) => n,
+            Err(_) => return Ending::Unread(read),
+        };
+        read += n as u64;
+        let (piece, _) = buffer.split_at(n);
+        if let Err(halt) = builder.feed(piece, out) {
+            return ending_of(halt);
+        }
+    }
+}
+
+pub fn build<R: DeviceIn, W: DeviceOut>(
+    build: Build,
+    input: &mut Watched<R>,
+    out: &mut Watched<W>,
+) -> Ending
+    ensures worked { (file : List ℕ) → R.remaining input.old ≡ Some file → Worked (build_job build.limit) file (W.contents out.old) (W.contents out.new) result }
+    ensures unread { spec.TellsUnread (R.has_failed input.old) (R.has_failed input.new) result }
+    ensures failed { spec.TellsOutput (W.has_failed out.old) (W.has_failed out.new) result }
+{
+    let mut buffer = [0u8; PIECE];
+    build_lines(build.limit, input, out, &mut buffer)
+}
