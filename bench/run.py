@@ -1,13 +1,13 @@
 #!/usr/bin/env python3
-"""Measures `dcmtools dcmdump` and `dcmtools dcmconv` beside `cat`, and beside DCMTK's tools where they are installed.
+"""Measures `dcmtools dcmdump`, `dcmconv` and `dump2dcm` beside `cat`, and beside DCMTK's tools where they are installed.
 
     bench/run.py [--binary PATH] [--mebibytes N] [--full-mebibytes N] [--rounds N] [--starts N]
 
 The inputs are made in a temporary directory, which takes a little more than five times `--mebibytes` and is removed at
-the end. They are read from the page cache. Dumps go to /dev/null. A conversion writes a file into the same directory,
-as does `cat FILE > OUTPUT` beside it, and each starts without that file. One run prints four tables: throughput of dumps
-and of conversions (the median of the rounds, in which the programs take turns, over the bytes of the input), time of a
-whole process on a small file, and peak memory.
+the end. They are read from the page cache. Dumps go to /dev/null. A conversion, or a file that is built from a dump, is
+written into the same directory, as is that of `cat FILE > OUTPUT` beside it, and each starts without that file. One run
+prints five tables: throughput of dumps, of conversions and of files that are built (the median of the rounds, in which the
+programs take turns, over the bytes of the input), time of a whole process on a small file, and peak memory.
 """
 
 import argparse
@@ -16,6 +16,7 @@ import random
 import shutil
 import statistics
 import struct
+import subprocess
 import sys
 import tempfile
 import time
@@ -119,7 +120,7 @@ NESTED_TAGS = [
     ("SH", (0x0008, 0x0100)), ("SH", (0x0008, 0x0102)), ("LO", (0x0008, 0x0104)), ("UI", (0x0008, 0x1150)),
     ("UI", (0x0008, 0x1155)), ("LO", (0x0010, 0x0020)), ("LO", (0x0010, 0x1000)), ("SH", (0x0010, 0x2160)),
     ("LO", (0x0018, 0x1000)), ("LO", (0x0018, 0x1020)), ("UI", (0x0020, 0x000D)), ("UI", (0x0020, 0x000E)),
-    ("SH", (0x0020, 0x0010)), ("UI", (0x0020, 0x0052)), ("LO", (0x0020, 0x1040)), ("SH", (0x0028, 0x0A02)),
+    ("SH", (0x0020, 0x0010)), ("UI", (0x0020, 0x0052)), ("LO", (0x0020, 0x1040)), ("SH", (0x0020, 0x9056)),
     ("LO", (0x0032, 0x1060)), ("LO", (0x0040, 0x0007)), ("SH", (0x0040, 0x0009)), ("UI", (0x0040, 0xA124)),
 ]
 
@@ -154,19 +155,26 @@ def make_small(path):
 
 
 class Work(NamedTuple):
-    """What a program has to do: a dump of an input, or a conversion where there is an output."""
+    """What a tool has to do with an input. A dump goes to standard output, and has no other."""
 
+    tool: str
     name: str
     options: list
     path: str
     output: str | None = None
 
 
-def make_inputs(folder, mebibytes, full_mebibytes):
-    """The dumps, the conversions, and the dump of a small file."""
+def make_dump(binary, path, dump):
+    with open(dump, "wb") as out:
+        subprocess.run([binary, "dcmdump", "+L", path], stdout=out, check=True)
+
+
+def make_inputs(binary, folder, mebibytes, full_mebibytes):
+    """The dumps, the conversions, the files that are built, and the dump of a small file."""
     path = lambda name: os.path.join(folder, name)
-    dump = lambda name, option, file: Work(name, [option], path(file))
-    convert = lambda name, option, file: Work(name, [option], path(file), path("output"))
+    dump = lambda name, option, file: Work("dcmdump", name, [option], path(file))
+    convert = lambda name, option, file: Work("dcmconv", name, [option], path(file), path("output"))
+    build = lambda name, file: Work("dump2dcm", name, [], path(file), path("output"))
     make_native(path("little"), LITTLE, mebibytes)
     make_native(path("big"), BIG, mebibytes)
     make_native(path("implicit"), IMPLICIT, mebibytes)
@@ -174,6 +182,7 @@ def make_inputs(folder, mebibytes, full_mebibytes):
     make_native(path("full_little"), LITTLE, full_mebibytes)
     make_native(path("full_big"), BIG, full_mebibytes)
     make_nested(path("nested"))
+    make_dump(binary, path("nested"), path("nested.dump"))
     make_small(path("small"))
     little = f"native little endian, {mebibytes} MiB of OW"
     big = f"native big endian, {mebibytes} MiB of OW"
@@ -197,9 +206,10 @@ def make_inputs(folder, mebibytes, full_mebibytes):
         convert(f"{mebibytes} fragments of 1 MiB", "+t=", "fragments"),
         convert(nested, "+t=", "nested"),
     ]
-    # what is still to be written to the disk would slow the conversions
+    builds = [build(f"the dump of {nested}", "nested.dump")]
+    # what is still to be written to the disk would slow what writes
     os.sync()
-    return dumps, conversions, Work("small", [], path("small"))
+    return dumps, conversions, builds, Work("dcmdump", "small", [], path("small"))
 
 
 # ---- processes
@@ -247,10 +257,6 @@ def cat(work):
     return [shutil.which("cat"), work.path], work.output or os.devnull
 
 
-def tool_of(work):
-    return "dcmconv" if work.output else "dcmdump"
-
-
 def words_behind(work):
     return [*work.options, work.path, *([work.output] if work.output else [])]
 
@@ -259,10 +265,10 @@ def programs(binary):
     """Each program, as a function of the work that gives its words and where its standard output goes."""
     found = {
         "cat": cat,
-        "dcmtools": lambda work: ([binary, tool_of(work), *words_behind(work)], os.devnull),
+        "dcmtools": lambda work: ([binary, work.tool, *words_behind(work)], os.devnull),
     }
-    if shutil.which("dcmdump") and shutil.which("dcmconv"):
-        found["DCMTK"] = lambda work: ([shutil.which(tool_of(work)), *words_behind(work)], os.devnull)
+    if all(shutil.which(tool) for tool in ("dcmdump", "dcmconv", "dump2dcm")):
+        found["DCMTK"] = lambda work: ([shutil.which(work.tool), *words_behind(work)], os.devnull)
     return found
 
 
@@ -330,7 +336,7 @@ def print_memory(works, run):
     for work in works:
         peaks = [measured(peak_of, program, work) for program in run.values()]
         cells = ["-" if peak is None else f"{peak:,}" for peak in peaks]
-        rows.append([work.name, f"{tool_of(work)} {' '.join(work.options)}", *cells])
+        rows.append([work.name, " ".join([work.tool, *work.options]), *cells])
     print_table("Peak resident memory in KiB", ["Input", "Tool", *run], rows)
 
 
@@ -355,14 +361,16 @@ def main():
     chosen = options.parse_args()
     if not os.access(chosen.binary, os.X_OK):
         sys.exit(f"{chosen.binary} is not there: build it by `cd crates/dcmtools && rt run -- dcmdump ../../examples/name.dcm`")
-    run = programs(os.path.abspath(chosen.binary))
+    binary = os.path.abspath(chosen.binary)
+    run = programs(binary)
     print(f"Before: {machine()}")
     with tempfile.TemporaryDirectory() as folder:
-        dumps, conversions, small = make_inputs(folder, chosen.mebibytes, chosen.full_mebibytes)
+        dumps, conversions, builds, small = make_inputs(binary, folder, chosen.mebibytes, chosen.full_mebibytes)
         print_throughput("Dumps, in MB/s of input", dumps, run, chosen.rounds)
         print_throughput("Conversions, in MB/s of input", conversions, run, chosen.rounds)
+        print_throughput("Files that are built, in MB/s of input", builds, run, chosen.rounds)
         print_starts(small, run, chosen.starts)
-        print_memory(dumps + conversions, run)
+        print_memory(dumps + conversions + builds, run)
     print(f"\nAfter: {machine()}")
 
 
