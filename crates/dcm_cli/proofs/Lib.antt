@@ -1,5 +1,3 @@
-pub mod WordLemmas
-pub mod Limits
 pub mod Composed
 pub mod Fed
 pub mod Passes

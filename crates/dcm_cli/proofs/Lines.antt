@@ -10,11 +10,11 @@ use Rattle.dcm_base.specs.Words.{build as building}
 use Rattle.dcm_base.proofs.Puts.{append_known_twice, front_longer, puts_behind}
 use Rattle.dcm_base.proofs.Runs.{outputs-append, goes_on}
 use Rattle.dcm_stream.specs.Machine.{well, TellsFailed}
-use Rattle.dcm_tools.specs.declared.build.BuildHalt.{BuildHalt}
-use Rattle.dcm_tools.specs.declared.build.BuildHalt.TheVariants as halts
-use Rattle.dcm_tools.specs.Builder.{Progress, answer, is_halted, told_of}
-use Rattle.dcm_tools.specs.Building.{BuildState, build_start, build_step, build_writes, finishes, finish_writes}
-use Rattle.dcm_tools.proofs.BuildRuns.{whole, so_far, refused}
+use Rattle.dcm_build.specs.declared.build.BuildHalt.{BuildHalt}
+use Rattle.dcm_build.specs.declared.build.BuildHalt.TheVariants as halts
+use Rattle.dcm_build.specs.Builder.{Progress, answer, is_halted, told_of}
+use Rattle.dcm_build.specs.Building.{BuildState, build_start, build_step, build_writes, finishes, finish_writes}
+use Rattle.dcm_build.proofs.BuildRuns.{whole, so_far, refused}
 use Rattle.dcm_cli.specs.declared.ending.Ending.{Ending}
 use Rattle.dcm_cli.specs.declared.ending.Ending.TheVariants.{Done, Refused, RefusedLine, Unread, Output}
 use Rattle.dcm_cli.specs.Answer.{LinesSure}

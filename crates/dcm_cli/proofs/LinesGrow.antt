@@ -6,9 +6,9 @@ use Rattle.dcm_base.specs.declared.fault.LineFault.{LineFault}
 use Rattle.dcm_base.specs.Build as build
 use Rattle.dcm_base.specs.Build.{Progress, Told, Lines, lines, more_lines, lines_of, at_start, at_input_end, at_the_cut, with_rest, first_fault, end_checks, meta_has_ended, tell}
 use Rattle.dcm_base.specs.Reads.{INPUT_LIMIT}
-use Rattle.dcm_tools.specs.Building.{BuildState}
-use Rattle.dcm_tools.proofs.BuildLines.{lines_from, lines_are, result, overlong, run_lines, Ran, runs, told_of, all_ran}
-use Rattle.dcm_tools.proofs.BuildRuns.{so_far}
+use Rattle.dcm_build.specs.Building.{BuildState}
+use Rattle.dcm_build.proofs.BuildLines.{lines_from, lines_are, result, overlong, run_lines, Ran, runs, told_of, all_ran}
+use Rattle.dcm_build.proofs.BuildRuns.{so_far}
 use Rattle.dcm_cli.specs.Answer.{Answer, LinesSure, built_answer, building_line}
 use Rattle.dcm_cli.proofs.Lines.{state, written, output, lines_grow}
 

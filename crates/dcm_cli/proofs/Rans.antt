@@ -8,15 +8,15 @@ use Rattle.dcm_base.specs.Edit.{Edit}
 use Rattle.dcm_base.specs.Front.{Front}
 use Rattle.dcm_base.specs.Stop.{Stop, complete, refused}
 use Rattle.dcm_base.specs.Words.{Job, dump, convert, build as building}
-use Rattle.dcm_cli.specs.declared.job.Job.{Job as RunJob}
-use Rattle.dcm_cli.specs.declared.job.Job.TheVariants.{Dump, Convert, Build}
+use Rattle.dcm_words.specs.declared.job.Job.{Job as RunJob}
+use Rattle.dcm_words.specs.declared.job.Job.TheVariants.{Dump, Convert, Build}
 use Rattle.dcm_cli.specs.declared.ending.Ending.{Ending}
 use Rattle.dcm_cli.specs.declared.ending.Ending.TheVariants.{Done, Refused, RefusedLine, Unread, Output}
 use Rattle.dcm_cli.specs.Answer.{Answer, Answers, Source, unopened, file, alone, ReadAnswers, answer, building_line, output_of, edits_of, unplaced_lines, status_of_lines, stop_line, stop_status}
 use Rattle.dcm_cli.specs.Pass.{TellsUnread, TellsOutput}
 use Rattle.dcm_cli.specs.Run.{Answered, ReadEnds, BuildEnds, Worked, answered, could_not_read, could_not_write, FlushedAs, ending_of_stop, ending_of_source, ending_of_told, ending_line, ending_status, Ran, as_answered, not_read, not_written, Devices}
 use Rattle.dcm_cli.specs.Told.{Tries}
-use Rattle.dcm_cli.specs.Words.{job_of}
+use Rattle.dcm_words.specs.Words.{job_of}
 
 -- the answer of an input that was read
 output_is : (job : Job) (source : Source) → output_of job source ≡ (answer job source).output

@@ -24,9 +24,9 @@ use Rattle.dcm_stream.specs.Reading.{finish, is_undecided}
 use Rattle.dcm_stream.specs.Driven.{bars_by}
 use Rattle.dcm_stream.proofs.Driven.{waits_as, drives_as}
 use Rattle.dcm_stream.proofs.Follow.{follows}
-use Rattle.dcm_cli.specs.declared.job.Job.{Job as RunJob}
-use Rattle.dcm_cli.specs.declared.job.Job.TheVariants.{Dump, Convert, Build}
-use Rattle.dcm_cli.specs.Words.{job_of}
+use Rattle.dcm_words.specs.declared.job.Job.{Job as RunJob}
+use Rattle.dcm_words.specs.declared.job.Job.TheVariants.{Dump, Convert, Build}
+use Rattle.dcm_words.specs.Words.{job_of}
 use Rattle.dcm_cli.specs.Answer.{Answer, Answers, Sure, ReadAnswers, Source, answer, going_on, job_bar, refuses_change, file_output, uid_of_syntax, AloneReads, AloneSure, FileReads, FileSure, not_opened, not_changed, opened as was_opened, before_set, within_set}
 use Rattle.dcm_cli.specs.Pass.{head_read}
 use Rattle.dcm_cli.proofs.Makers.{Maker, dumper, made, made_output, last_output, more_made, made_behind}

@@ -1,4 +1,3 @@
-pub mod Words
 pub mod Told
 pub mod Answer
 pub mod Pass

@@ -2,10 +2,10 @@
 use Rattle.std.specs.Prelude.{◌≡◌, ℕ, List, Option, Some, None}
 use Rattle.std.specs.Io.KnownBytes.{append_known}
 use Rattle.dcm_base.specs.Device.{AppendsFront}
-use Rattle.dcm_tools.specs.declared.build.BuildHalt.{BuildHalt}
-use Rattle.dcm_tools.specs.declared.build.BuildHalt.TheVariants as halts
-use Rattle.dcm_tools.specs.Builder.{told_of}
-use Rattle.dcm_tools.specs.Building.{BuildState, finishes, finish_writes}
+use Rattle.dcm_build.specs.declared.build.BuildHalt.{BuildHalt}
+use Rattle.dcm_build.specs.declared.build.BuildHalt.TheVariants as halts
+use Rattle.dcm_build.specs.Builder.{told_of}
+use Rattle.dcm_build.specs.Building.{BuildState, finishes, finish_writes}
 use Rattle.dcm_cli.specs.declared.ending.Ending.{Ending}
 use Rattle.dcm_cli.specs.declared.ending.Ending.TheVariants.{Done, Refused, RefusedLine, Unread, Output}
 

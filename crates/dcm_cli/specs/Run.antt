@@ -5,7 +5,7 @@ use Rattle.dcm_base.specs.Build as build
 use Rattle.dcm_base.specs.Device.{AppendsFront}
 use Rattle.dcm_base.specs.Stop.{Stop, complete, refused}
 use Rattle.dcm_base.specs.Words.{Job, build as building}
-use Rattle.dcm_tools.specs.Builder.{told_of}
+use Rattle.dcm_build.specs.Builder.{told_of}
 use Rattle.dcm_cli.specs.declared.ending.Ending.{Ending}
 use Rattle.dcm_cli.specs.declared.ending.Ending.TheVariants.{Done, Refused, RefusedLine, Unread, Output}
 use Rattle.dcm_cli.specs.Answer.{Answer, Source, unopened, file, alone, InputReads, output_of, building_line, Answers, Sure}

@@ -1,15 +1,15 @@
 // The building of a file from the lines of a dump.
 ghost use Rattle.std.specs.Prelude.{◌≡◌, ◌≤◌, ◌<◌, ℕ, List, length, Some, false};
 ghost use Rattle.dcm_base.specs.Words.{build as build_job};
-ghost use Rattle.dcm_tools.specs.Builder as builder_spec;
+ghost use Rattle.dcm_build.specs.Builder as builder_spec;
 ghost use Rattle.dcm_cli.specs.Lines as lines;
 ghost use Rattle.dcm_cli.specs.Pass as spec;
 ghost use Rattle.dcm_cli.specs.Run.{Worked};
 
 use crate::ending::Ending;
-use crate::job::Build;
 use dcm_base::{DeviceIn, DeviceOut, Watched, get_some};
-use dcm_tools::{BuildHalt, Builder};
+use dcm_build::{BuildHalt, Builder};
+use dcm_words::Build;
 
 /// The bytes that are read at a time.
 const PIECE: usize = 65_536;

@@ -16,12 +16,12 @@ ghost use Rattle.dcm_cli.specs.Run.{Worked};
 
 use crate::ending::Ending;
 use crate::head::{Begun, read_head_of, set_start};
-use crate::job::Convert;
 use crate::pass::read_set;
 use crate::syntax::uid_of_syntax;
 use dcm_base::{Coding, DeviceIn, DeviceOut, Fault, Stop, Syntax, Watched, WriteFailed, put_parts};
 use dcm_head::Meta;
 use dcm_tools::EncodeSink;
+use dcm_words::Convert;
 
 /// The bytes that are read at a time. Most of them are written again, each piece by one call.
 const PIECE: usize = 262_144;

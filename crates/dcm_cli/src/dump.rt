@@ -8,13 +8,13 @@ ghost use Rattle.dcm_cli.specs.Run.{Worked};
 
 use crate::ending::Ending;
 use crate::head::{read_head_of, set_start};
-use crate::job::Dump;
 use crate::pass::{read_rest, read_set};
 use crate::syntax::uid_of_syntax;
 use dcm_base::{Coding, DeviceIn, DeviceOut, Mode, Syntax, Watched};
 use dcm_head::Meta;
 use dcm_stream::Machine;
 use dcm_tools::{DumpSink, dump_header, set_header};
+use dcm_words::Dump;
 
 /// The bytes that are read at a time.
 const PIECE: usize = 65_536;

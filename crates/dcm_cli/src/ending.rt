@@ -3,8 +3,8 @@ ghost use Rattle.std.specs.Prelude.{◌≡◌};
 ghost use Rattle.dcm_cli.specs.Pass as spec;
 
 use dcm_base::Stop;
+use dcm_build::LineStop;
 use dcm_stream::Halt;
-use dcm_tools::LineStop;
 
 /// How the work on a job ended, before its output is flushed.
 #[derive(Clone, Copy, Debug, PartialEq, Eq)]

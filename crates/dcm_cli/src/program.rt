@@ -4,11 +4,10 @@ ghost use Rattle.std.specs.IoError.{error_kind};
 ghost use Rattle.dcm_cli.specs.Told as spec;
 
 use crate::devices::{open_input, open_output, reserve};
-use crate::job::Planned;
 use crate::run::run;
 use crate::told::{tell, tell_open};
-use crate::words::plan;
 use dcm_base::{DeviceOut, Std, Usage, Watched, WordFault};
+use dcm_words::{Planned, plan};
 use std::alloc::AllocError;
 use std::io::{BufWriter, ErrorKind, Stderr};
 use std::{env, io};

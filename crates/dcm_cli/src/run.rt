@@ -3,15 +3,15 @@ ghost use Rattle.std.specs.Prelude.{◌≡◌, ◌≤◌, ◌⊎◌, ◌↔◌, 
 ghost use Rattle.dcm_cli.specs.Pass.{TellsUnread, TellsOutput};
 ghost use Rattle.dcm_cli.specs.Run as spec;
 ghost use Rattle.dcm_cli.specs.Told.{Tries};
-ghost use Rattle.dcm_cli.specs.Words.{job_of};
+ghost use Rattle.dcm_words.specs.Words.{job_of};
 
 use crate::build::build;
 use crate::convert::convert;
 use crate::dump::dump;
 use crate::ending::Ending;
-use crate::job::Job;
 use crate::told::{DEVICE, tell_fault, tell_line_fault, tell_output, tell_unread};
 use dcm_base::{DeviceIn, DeviceOut, Watched, flush_out};
+use dcm_words::Job;
 
 /// The status of an input at fault.
 const FAULT: u8 = 2;

@@ -1,13 +1,13 @@
 // Lines on standard error, each by one write.
 ghost use Rattle.std.specs.Prelude.{◌≡◌, ◌≤◌, ◌+◌, ◌++◌, length, flat_map};
 ghost use Rattle.dcm_base.specs.Fault.{fault_text, fault_number, edit_refusal_text, edit_refusal_number};
-ghost use Rattle.dcm_tools.specs.Builder.{told_of};
+ghost use Rattle.dcm_build.specs.Builder.{told_of};
 ghost use Rattle.dcm_cli.specs.Answer as answer;
 ghost use Rattle.dcm_cli.specs.Told as spec;
 
 use arrayvec::ArrayVec;
 use dcm_base::{DeviceOut, Stop, Usage, Watched, put_all};
-use dcm_tools::LineStop;
+use dcm_build::LineStop;
 use itoa::Buffer;
 
 /// The status of words that are refused.

@@ -37,7 +37,7 @@ use Rattle.dcm_tools.proofs.Written.{trees_written}
 use Rattle.dcm_tools.proofs.Onward.{goes}
 use Rattle.dcm_tools.proofs.WrittenRead.{target_heads, endless_level, set_takes, trees_read}
 use Rattle.dcm_tools.proofs.Accepted.{AllAccepted, machine_accepted}
-use Rattle.dcm_tools.proofs.Sources.{all_fine, trees_ready}
+use Rattle.dcm_tools.proofs.Sources.{Fine, all_fine, trees_ready}
 
 -- ---- bars
 
@@ -74,10 +74,10 @@ nothing_is_open s whole (open_sequence tag vr declared items last) reached was a
 nothing_is_open s whole (open_fragments tag vr values last) reached was atoms a e = absurd (longer atoms (e ∙ sym a))
 
 -- these trees are spelled by all bytes, and are what is read
-record Whole (s : Syntax) (bytes : List ℕ) (f : Front) : Type 0 where
-  trees : Trees
-  spelled : TreesAt s trees bytes []
-  is : f ≡ whole_front trees
+pub record Whole (s : Syntax) (bytes : List ℕ) (f : Front) : Type 0 where
+  pub trees : Trees
+  pub spelled : TreesAt s trees bytes []
+  pub is : f ≡ whole_front trees
 
 whole_by : (s : Syntax) (bytes : List ℕ) (whole : Trees) (o : OpenTree) (reached : Option Tag) (was : Bool) (f : Front) → o ≡ nothing_open → SpellsFront s (front whole o reached was) bytes → front whole o reached true ≡ f → Whole s bytes f
 unfolding SpellsFront
@@ -142,11 +142,11 @@ unfolding front_atoms
 whole_atoms s trees = refl
 
 module _ (target s : Syntax) (start : ℕ) (bytes : List ℕ) (f : Front) (le : start ≤ INPUT_LIMIT) (are : AreBytes bytes) (reads : Reads (target_bar target) s start bytes f complete) where
-  source_whole : Whole s bytes f
+  pub source_whole : Whole s bytes f
   source_whole = read_whole (target_atoms target) (target_bar target) (target_bars target) s start bytes f le (finishes (target_atoms target) (target_bar target) (target_bars target) s start bytes f le reads) reads
 
-  source_ready : FitsTarget target source_whole.trees → Ready target 0 source_whole.trees
-  source_ready fits =
+  pub source_fine : Fine (target_heads target) 0 (trees_then s source_whole.trees (ends ∷ []))
+  source_fine =
       let w = source_whole in
       let bars = target_atoms target in
       let end = finish (read_all bars s start bytes).0 in
@@ -155,7 +155,10 @@ module _ (target s : Syntax) (start : ℕ) (bytes : List ℕ) (f : Front) (le : 
       let accepted : AllAccepted (target_heads target) (trees_then s w.trees (ends ∷ [])) = subst (AllAccepted (target_heads target)) atoms_are (machine_accepted (target_heads target) s start bytes end) in
       let shallow : StaysShallow 0 (trees_then s w.trees (ends ∷ [])) = subst (StaysShallow 0) atoms_are
       (machine_shallow_ended bars (λ atoms tag vr declared. ap is_early_bar (same_heads target f tag vr declared) ∙ never_early target f tag vr declared) s start bytes end) in
-      (trees_ready target s 0 w.trees bytes [] (ends ∷ []) w.spelled (bytes_of bytes are) (all_fine (target_heads target) 0 (trees_then s w.trees (ends ∷ [])) accepted shallow)).0.0 fits
+      all_fine (target_heads target) 0 (trees_then s w.trees (ends ∷ [])) accepted shallow
+
+  source_ready : FitsTarget target source_whole.trees → Ready target 0 source_whole.trees
+  source_ready fits = (trees_ready target s 0 source_whole.trees bytes [] (ends ∷ []) source_whole.spelled (bytes_of bytes are) source_fine).0.0 fits
 
 -- ---- the target
 

@@ -36,16 +36,16 @@ use Rattle.dcm_tools.proofs.WrittenRead.{target_heads}
 
 -- ---- bytes
 
-bytes_behind : (n : ℕ) (b : List ℕ) → Bytes b → Bytes (drop n b)
+pub bytes_behind : (n : ℕ) (b : List ℕ) → Bytes b → Bytes (drop n b)
 bytes_behind zero b h = h
 bytes_behind (suc n) [] h = tt
 bytes_behind (suc n) (x ∷ b) h = bytes_behind n b h.1
 
-bytes_parts : (x y : List ℕ) → Bytes (x ++ y) → Bytes x × Bytes y
+pub bytes_parts : (x y : List ℕ) → Bytes (x ++ y) → Bytes x × Bytes y
 bytes_parts [] y h = (tt, h)
 bytes_parts (b ∷ x) y h = let k = bytes_parts x y h.1 in ((h.0, k.0), k.1)
 
-a_byte : (b : List ℕ) (i : ℕ) → Bytes b → slice_index b i < 256
+pub a_byte : (b : List ℕ) (i : ℕ) → Bytes b → slice_index b i < 256
 a_byte [] zero h = omega arith
 a_byte [] (suc i) h = omega arith
 a_byte (x ∷ b) zero h = h.0
@@ -56,7 +56,7 @@ two_bytes Implicit b h = let x = a_byte b 0 h in let y = a_byte b 1 h in omega (
 two_bytes Little b h = let x = a_byte b 0 h in let y = a_byte b 1 h in omega (arith, x, y)
 two_bytes Big b h = let x = a_byte b 0 h in let y = a_byte b 1 h in omega (arith, x, y)
 
-four_bytes : (s : Syntax) (b : List ℕ) → Bytes b → number s 4 b < 4294967296
+pub four_bytes : (s : Syntax) (b : List ℕ) → Bytes b → number s 4 b < 4294967296
 four_bytes Implicit b h = let x = a_byte b 0 h in let y = a_byte b 1 h in let z = a_byte b 2 h in let w = a_byte b 3 h in omega (arith, x, y, z, w)
 four_bytes Little b h = let x = a_byte b 0 h in let y = a_byte b 1 h in let z = a_byte b 2 h in let w = a_byte b 3 h in omega (arith, x, y, z, w)
 four_bytes Big b h = let x = a_byte b 0 h in let y = a_byte b 1 h in let z = a_byte b 2 h in let w = a_byte b 3 h in omega (arith, x, y, z, w)
@@ -68,7 +68,7 @@ long_by : (n m : ℕ) (e : Bool) → (n == 0xFFFFFFFF) ≡ e → n < 4294967296 
 long_by n m true e h k = absurd (cc)
 long_by n m false e h k = let ne : n ≢ 0xFFFFFFFF = eqb-false n 0xFFFFFFFF e in let same : m ≡ n = cc in omega (arith, ne, h, same)
 
-long_known : (n m : ℕ) → n < 4294967296 → Known m ≡ long_length n → m < 0xFFFFFFFF
+pub long_known : (n m : ℕ) → n < 4294967296 → Known m ≡ long_length n → m < 0xFFFFFFFF
 long_known n m h k = long_by n m (n == 0xFFFFFFFF) refl h k
 
 short_known : (n m : ℕ) → n < 65536 → Known m ≡ Known n → m < 0xFFFFFFFF
@@ -78,13 +78,13 @@ explicit_known : (s : Syntax) (long : Bool) (b : List ℕ) (m : ℕ) → Bytes b
 explicit_known s true b m h e = long_known (number s 4 (drop 8 b)) m (four_bytes s (drop 8 b) (bytes_behind 8 b h)) e
 explicit_known s false b m h e = short_known (number s 2 (drop 6 b)) m (two_bytes s (drop 6 b) (bytes_behind 6 b h)) e
 
-length_known : (s : Syntax) (vr : Vr) (b : List ℕ) (m : ℕ) → Bytes b → Known m ≡ length_at s vr b → m < 0xFFFFFFFF
+pub length_known : (s : Syntax) (vr : Vr) (b : List ℕ) (m : ℕ) → Bytes b → Known m ≡ length_at s vr b → m < 0xFFFFFFFF
 unfolding length_at
 length_known Implicit vr b m h e = long_known (number Implicit 4 (drop 4 b)) m (four_bytes Implicit (drop 4 b) (bytes_behind 4 b h)) e
 length_known Little vr b m h e = explicit_known Little (is_long vr) b m h e
 length_known Big vr b m h e = explicit_known Big (is_long vr) b m h e
 
-bytes_of_head : (s : Syntax) (t : Tag) (vr : Vr) (l : Length) (b c : List ℕ) → ElementHead s t vr l b c → Bytes b → Bytes c
+pub bytes_of_head : (s : Syntax) (t : Tag) (vr : Vr) (l : Length) (b c : List ℕ) → ElementHead s t vr l b c → Bytes b → Bytes c
 bytes_of_head s t vr l b c h k = subst Bytes (sym h.after_is) (bytes_behind (head_size s vr) b k)
 
 -- ---- forms
@@ -94,7 +94,7 @@ unfolding form
 value_of s SQ n m h = absurd (h refl)
 value_of s vr n m h = refl
 
-no_sequence : (s : Syntax) (vr : Vr) (n : ℕ) → form s vr (Known n) ≡ a_value → vr ≢ SQ
+pub no_sequence : (s : Syntax) (vr : Vr) (n : ℕ) → form s vr (Known n) ≡ a_value → vr ≢ SQ
 unfolding form
 no_sequence s SQ n e = absurd (cc)
 no_sequence s vr n e = λ k. cc
@@ -115,7 +115,7 @@ target_sequence Implicit t tells = tells
 target_sequence Little t tells = refl
 target_sequence Big t tells = refl
 
-fragments_little : (s : Syntax) (vr : Vr) → form s vr Undefined ≡ a_fragment_list → (s ≡ Little) × (is_fragment_form (form Little vr Undefined) ≡ true)
+pub fragments_little : (s : Syntax) (vr : Vr) → form s vr Undefined ≡ a_fragment_list → (s ≡ Little) × (is_fragment_form (form Little vr Undefined) ≡ true)
 unfolding form
 fragments_little s SQ e = absurd (cc)
 fragments_little s UN e = absurd (cc)
@@ -143,25 +143,25 @@ pub all_fine : (bar : HeadBar) (n : ℕ) (atoms : List Atom) → AllAccepted bar
 all_fine bar n [] h k = tt
 all_fine bar n (a ∷ atoms) h k = (h.0, k (a ∷ []) atoms refl, all_fine bar (lists_behind n a) atoms h.1 (stays_on n a atoms k))
 
-fine_bytes : (bar : HeadBar) (n : ℕ) (v : List ℕ) (others : List Atom) → Fine bar n (map value_byte v ++ others) → Fine bar n others
+pub fine_bytes : (bar : HeadBar) (n : ℕ) (v : List ℕ) (others : List Atom) → Fine bar n (map value_byte v ++ others) → Fine bar n others
 fine_bytes bar n [] others h = h
 fine_bytes bar n (b ∷ v) others h = fine_bytes bar n v others h.2
 
-lists_of : (n : ℕ) (f : Form) (t : Tag) (vr : Vr) (l : Length) (s : Syntax) → form s vr l ≡ f → lists_behind n (opens t vr l s) ≡ cond (opens_list f) (suc n) n
+pub lists_of : (n : ℕ) (f : Form) (t : Tag) (vr : Vr) (l : Length) (s : Syntax) → form s vr l ≡ f → lists_behind n (opens t vr l s) ≡ cond (opens_list f) (suc n) n
 lists_of n f t vr l s e = ap (λ (g : Form). cond (opens_list g) (suc n) n) e
 
 -- behind a head
-record Begun (bar : HeadBar) (n m : ℕ) (t : Tag) (vr : Vr) (l : Length) (atoms : List Atom) : Type 0 where
-  accepted : (is_data t ≡ true) × (bar t vr l ≡ None)
-  few : m ≤ 64
-  more : Fine bar m atoms
+pub record Begun (bar : HeadBar) (n m : ℕ) (t : Tag) (vr : Vr) (l : Length) (atoms : List Atom) : Type 0 where
+  pub accepted : (is_data t ≡ true) × (bar t vr l ≡ None)
+  pub few : m ≤ 64
+  pub more : Fine bar m atoms
 
-begun : (bar : HeadBar) (n m : ℕ) (t : Tag) (vr : Vr) (l : Length) (s : Syntax) (atoms : List Atom) → lists_behind n (opens t vr l s) ≡ m → Fine bar n (opens t vr l s ∷ atoms) → Begun bar n m t vr l atoms
+pub begun : (bar : HeadBar) (n m : ℕ) (t : Tag) (vr : Vr) (l : Length) (s : Syntax) (atoms : List Atom) → lists_behind n (opens t vr l s) ≡ m → Fine bar n (opens t vr l s ∷ atoms) → Begun bar n m t vr l atoms
 begun bar n m t vr l s atoms e h = record { accepted = h.0; few = subst (λ (k : ℕ). k ≤ 64) e h.1; more = subst (λ (k : ℕ). Fine bar k atoms) e h.2 }
 
 -- ---- trees
 
-enclosed_ready : (s : Syntax) (end_tag : Tag) (declared : Length) (R : List ℕ → List ℕ → Type 0) (c e : List ℕ) (P : Type 0) → Bytes c → ((b p : List ℕ) → Bytes b → R b p → P × Bytes p) → Enclosed s end_tag declared R c e → P × Bytes e
+pub enclosed_ready : (s : Syntax) (end_tag : Tag) (declared : Length) (R : List ℕ → List ℕ → Type 0) (c e : List ℕ) (P : Type 0) → Bytes c → ((b p : List ℕ) → Bytes b → R b p → P × Bytes p) → Enclosed s end_tag declared R c e → P × Bytes e
 enclosed_ready s end_tag (Known size) R c e P h ready (i, ci, li, r) =
     let k = bytes_parts i e (subst Bytes ci h) in
     ((ready i [] k.0 r).0, k.1)
@@ -177,7 +177,7 @@ fragments_ready s (v ∷ values) b p bar n others (o, head, more) k f =
     let rest = fragments_ready s values o p bar n others more (bytes_parts v o behind).1 (fine_bytes bar n v (closes_leaf ∷ fragments_then values others) f.2).2 in
     (((long_known (number s 4 (drop 4 b)) (length v) (four_bytes s (drop 4 b) (bytes_behind 4 b k)) head.length_is, rest.0.0), rest.0.1), rest.1)
 
-element_tag : (s : Syntax) (t : Tag) (vr : Vr) (l : Length) (b c : List ℕ) → ElementHead s t vr l b c → Bytes b → IsTag t
+pub element_tag : (s : Syntax) (t : Tag) (vr : Vr) (l : Length) (b c : List ℕ) → ElementHead s t vr l b c → Bytes b → IsTag t
 element_tag s t vr l b c h k = subst IsTag (sym h.tag_is) (tag_of_bytes s b k)
 
 mutual

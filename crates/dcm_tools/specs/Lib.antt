@@ -7,10 +7,3 @@ pub mod Encoder
 pub mod Lines
 pub mod Laws
 pub mod Conversion
-pub mod LineShown
-pub mod Standing
-pub mod Nesting
-pub mod Building
-pub mod NewFile
-pub mod Builder
-pub mod BuildLaws

@@ -56,7 +56,7 @@ fn written_vr(target: Syntax, vr: Vr, size: u32) -> Vr
     }
 }
 
-/// The head of a value of this size.
+/// The head of a value of this size (PS3.5 7.1.2, 7.1.3).
 pub fn leaf_head(target: Syntax, tag: Tag, vr: Vr, size: u32) -> ArrayVec<u8, LONG_HEAD>
     ensures { result.items ≡ recode.leaf_head target tag vr size }
 {
@@ -134,6 +134,7 @@ fn dropped_behind(lists: u8, token: Token) -> Option<u8>
 impl Encoder {
     ghost use Rattle.dcm_tools.specs.Encoder.{state};
 
+    /// The beginning of a data set in this syntax.
     pub fn new(target: Syntax) -> Encoder
         ensures { state result ≡ spec.encode_start target }
     {

@@ -1,8 +1,7 @@
 //! Laws of the definitions. Each function takes nothing and makes no call: its contract is the law.
-ghost use Rattle.std.specs.Prelude.{◌≡◌, ◌≤◌, ◌++◌, ℕ, List, Option, Some, None, false, fold};
+ghost use Rattle.std.specs.Prelude.{◌≡◌, ◌≤◌, ℕ, List, false};
 ghost use Rattle.dcm_base.specs.Atoms.{Atom, Shows, front_atoms, is_closed};
 ghost use Rattle.dcm_base.specs.Bars.{no_bar, target_bar};
-ghost use Rattle.dcm_base.specs.Build.{Told};
 ghost use Rattle.dcm_base.specs.Dump.{dump_front};
 ghost use Rattle.dcm_base.specs.Front.{Front};
 ghost use Rattle.dcm_base.specs.Reads.{INPUT_LIMIT, Reads, ended};
@@ -14,8 +13,6 @@ ghost use Rattle.dcm_base.specs.declared.mode.Mode.{Mode};
 ghost use Rattle.dcm_base.specs.declared.syntax.Syntax.{Syntax};
 ghost use Rattle.dcm_stream.specs.Driven.{bars_by};
 ghost use Rattle.dcm_stream.specs.Follows.{BarsAs};
-ghost use Rattle.dcm_tools.specs.BuildLaws.{Builds, BuiltSoFar, Stays};
-ghost use Rattle.dcm_tools.specs.Building.{build_start, build_step, build_writes};
 ghost use Rattle.dcm_tools.specs.Conversion.{Converts};
 ghost use Rattle.dcm_tools.specs.DumpSink.{dump_start, dump_step, dump_writes};
 ghost use Rattle.dcm_tools.specs.EncodeSink.{encode_bar, encode_start, encode_step, encode_writes};
@@ -58,12 +55,4 @@ pub fn recode_reads()
 /// To convert it again changes nothing.
 pub fn recode_twice()
     ensures { (target s : Syntax) (start at : ℕ) (bytes : List ℕ) (f g : Front) (stop : Stop) → Converts target s start at bytes f → Reads (target_bar target) target at (recode target f) g stop → (stop ≡ complete) × (recode target g ≡ recode target f) }
-{}
-
-/// Over the bytes of an input, one by one, the state of a file that is built writes and tells what the lines of the input build;
-/// over a beginning of it without fault, what the lines that have ended build; and a fault that was told stays, whatever follows.
-pub fn build_steps()
-    ensures whole { (limit : ℕ) (bytes : List ℕ) → Builds limit bytes (fold build_step (build_start limit) bytes) (outputs build_step build_writes (build_start limit) bytes) }
-    ensures so_far { (limit : ℕ) (bytes : List ℕ) → (fold build_step (build_start limit) bytes).told ≡ None → BuiltSoFar limit bytes (fold build_step (build_start limit) bytes) (outputs build_step build_writes (build_start limit) bytes) }
-    ensures refused { (limit : ℕ) (bytes later : List ℕ) (told : Told) → (fold build_step (build_start limit) bytes).told ≡ Some told → Stays limit (bytes ++ later) told (outputs build_step build_writes (build_start limit) bytes) }
 {}

@@ -2,8 +2,8 @@ use Rattle.std.proofs.Common.{◌≡◌, ◌≤◌, ℕ, List, length, ◌-◌, 
 use Rattle.std.specs.Prelude.{fold}
 use Rattle.std.specs.Io.KnownBytes.{append_known, prepend_known}
 use Rattle.dcm_base.specs.Steps.{outputs}
-use Rattle.dcm_tools.specs.Builder.{is_halted}
-use Rattle.dcm_tools.specs.Building.{build_start, build_step, build_writes, read_size}
+use Rattle.dcm_build.specs.Builder.{is_halted}
+use Rattle.dcm_build.specs.Building.{build_start, build_step, build_writes, read_size}
 use Rattle.dcm_cli.proofs.build.build_lines.Given as goal
 
 -- these bytes were read, and the builder went over them

@@ -1,0 +1,87 @@
+use Rattle.std.proofs.Common.{◌≡◌, ◌++◌, ◌∙◌, ap, sym, ℕ, length, take, None, [], append_assoc, refl, List, ◌+◌, length-append, arith}
+use Rattle.std.proofs.lemmas.List.{take-append-drop, append-nil, length-take-le}
+use Rattle.dcm_stream.proofs.Calls.{empty_by}
+use Rattle.dcm_build.specs.declared.build.Builder.TheInside.{Inside}
+use Rattle.dcm_build.specs.Building.{read_size}
+use Rattle.dcm_build.proofs.BuildCalls.{view_at, going_none, no_some, none_of, not_halted, tells_begin, tells_none, tells_still, tells_halt, gone_nowhere, gone_on, gone_halted, gone_still}
+use Rattle.dcm_build.proofs.build.Builder.feed.Goals as goal
+use Rattle.dcm_build.proofs.build.Builder.feed.Goals.{then-loop-self-test+else-is_none, else-loop-self-test}
+
+pub loop-self-init : goal.loop-self-init
+loop-self-init g c = record {
+  front = [];
+  whole = refl;
+  goes = gone_nowhere c.self.inside.place c.self.inside.halt c.args.self.now (g.W.DeviceOut.contents c.args.out.now) c.self.view_is;
+  place = λ none. let same = ap read_size (view_at c.self.inside.place c.self.inside.halt c.args.self.now c.self.view_is none) in omega (arith, same);
+  within = λ none. let same = ap read_size (view_at c.self.inside.place c.self.inside.halt c.args.self.now c.self.view_is none) in λ le. omega (arith, same, le);
+  stands = c.self.invariant;
+  halted = λ h. (refl, refl);
+  failed = λ h. tells_begin (g.W.Device.has_failed c.args.out.now) c.self.inside.place c.self.inside.halt c.args.self.now c.self.view_is h;
+}
+
+pub loop-self-preserved-in-Ok : goal.loop-self-preserved-in-Ok
+loop-self-preserved-in-Ok g c =
+    let none : c.loop-self.self-inside.halt ≡ None = none_of c.loop-self.self-inside.halt c.if-is_none.ensures in
+    let n : ℕ = c.in-Ok.n in
+    let rest = c.loop-self.rest.now in
+    let front = c.loop-self.invariant.front in
+    let place = c.loop-self.self-inside.place in
+    record {
+      front = front ++ take n rest;
+      whole = c.loop-self.invariant.whole ∙ ap (λ (xs : List ℕ). front ++ xs) (sym (take-append-drop n rest) ∙ ap (λ (xs : List ℕ). take n rest ++ xs) (sym c.split_at.ensures.back)) ∙ sym (append_assoc front (take n rest) c.split_at.result.1.now);
+      goes = gone_on c.args.self.now.state (g.W.DeviceOut.contents c.args.out.now) place (g.W.DeviceOut.contents c.loop-self.out) c.read_some.new.self (g.W.DeviceOut.contents c.read_some.new.out) front (take n rest) c.loop-self.self-inside.halt n none c.loop-self.invariant.goes c.in-Ok.ensures.feeds;
+      place = λ h.
+          let size : length (front ++ take n rest) ≡ length front + length (take n rest) = length-append front (take n rest) in
+          let taken : length (take n rest) ≡ n = length-take-le n rest c.in-Ok.ensures.some.1 in
+          let more = c.in-Ok.ensures.size in
+          let before = c.loop-self.invariant.place none in
+          omega (arith, size, taken, more, before);
+      within = λ h. λ le. c.in-Ok.ensures.within;
+      stands = λ h. c.in-Ok.ensures.stands;
+      halted = λ h. absurd (not_halted c.self.inside.place c.self.inside.halt c.args.self.now c.self.view_is (ap (λ (i : Inside). i.halt) (sym (c.loop-self.invariant.halted h).0) ∙ none) h);
+      failed = λ h. tells_still _ _ c.loop-self.self-inside.halt none (c.in-Ok.ensures.failed ∙ tells_none _ _ c.loop-self.self-inside.halt none (c.loop-self.invariant.failed h));
+    }
+
+pub loop-self-preserved : goal.loop-self-preserved
+loop-self-preserved g c =
+    let none : c.loop-self.self-inside.halt ≡ None = none_of c.loop-self.self-inside.halt c.if-is_none.ensures in
+    let rest = c.loop-self.rest.now in
+    let front = c.loop-self.invariant.front in
+    let place = c.loop-self.self-inside.place in
+    record {
+      front = front ++ rest;
+      whole = c.loop-self.invariant.whole ∙ sym (append-nil (front ++ rest));
+      goes = gone_halted c.args.self.now.state (g.W.DeviceOut.contents c.args.out.now) place (g.W.DeviceOut.contents c.loop-self.out) c.read_some.new.self (g.W.DeviceOut.contents c.read_some.new.out) front rest c.loop-self.self-inside.halt c.in-Err.halt none c.loop-self.invariant.goes c.in-Err.ensures.feeds;
+      place = λ h. absurd (cc);
+      within = λ h. absurd (cc);
+      stands = λ h. absurd (cc);
+      halted = λ h. absurd (not_halted c.self.inside.place c.self.inside.halt c.args.self.now c.self.view_is (ap (λ (i : Inside). i.halt) (sym (c.loop-self.invariant.halted h).0) ∙ none) h);
+      failed = λ h. tells_halt ℕ _ _ _ c.in-Err.halt (tells_none _ _ c.loop-self.self-inside.halt none (c.loop-self.invariant.failed h)) c.in-Err.ensures.failed;
+    }
+
+pub returns-clause-goes : goal.returns-clause-goes
+returns-clause-goes g c =
+    let front = c.loop-self.invariant.front in
+    let rest = c.loop-self.rest.now in
+    elim c.loop-self-test.branch [
+      | then-loop-self-test+else-is_none w ↦ rw c.loop-self.invariant.whole
+          (gone_still c.args.self.now.state (g.W.DeviceOut.contents c.args.out.now) c.loop-self.self-inside.place (g.W.DeviceOut.contents c.loop-self.out) front rest c.loop-self.self-inside.halt w.if-is_none.ensures c.loop-self.invariant.goes)
+      | else-loop-self-test w ↦ let none : rest ≡ [] = empty_by rest w.loop-self-test.ensures in rw (c.loop-self.invariant.whole, none, append-nil) c.loop-self.invariant.goes
+    ]
+
+pub returns-clause-place : goal.returns-clause-place
+returns-clause-place g c = λ going.
+    let none : c.loop-self.self-inside.halt ≡ None = going_none c.loop-self.self-inside.halt going in
+    let before = c.loop-self.invariant.place none in
+    let front = c.loop-self.invariant.front in
+    let rest = c.loop-self.rest.now in
+    elim c.loop-self-test.branch [
+      | then-loop-self-test+else-is_none w ↦ absurd (no_some c.loop-self.self-inside.halt none w.if-is_none.ensures)
+      | else-loop-self-test w ↦
+          let empty : rest ≡ [] = empty_by rest w.loop-self-test.ensures in
+          let whole : length c.args.piece.now ≡ length front = ap length (c.loop-self.invariant.whole ∙ ap (λ (xs : List ℕ). front ++ xs) empty ∙ append-nil front) in
+          omega (arith, before, whole)
+    ]
+
+pub returns-clause-within : goal.returns-clause-within
+returns-clause-within g c = λ going. c.loop-self.invariant.within (going_none c.loop-self.self-inside.halt going)

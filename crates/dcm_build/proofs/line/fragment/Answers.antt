@@ -1,0 +1,11 @@
+use Rattle.dcm_base.specs.declared.vr.Vr.TheVariants.{OB}
+use Rattle.dcm_base.specs.Line as spec
+use Rattle.dcm_base.specs.ReadValue.{value_of_text}
+use Rattle.dcm_build.proofs.LineSteps.{shows_value, shows_none}
+use Rattle.dcm_build.proofs.line.fragment.Goals as goal
+
+pub returns-in-Some : goal.returns-in-Some
+returns-in-Some c = shows_value (λ v. spec.show_fragment (value_of_text OB v)) c.args.bytes.now c.in-Some.text.now c.in-Some.ensures
+
+pub returns-in-None : goal.returns-in-None
+returns-in-None c = shows_none (λ v. spec.show_fragment (value_of_text OB v)) c.args.bytes.now c.in-None.ensures

@@ -1,0 +1,8 @@
+use Rattle.std.proofs.Common.{drop}
+use Rattle.dcm_base.specs.Line.{through_parenthesis}
+use Rattle.dcm_build.proofs.Fields.{Passed}
+use Rattle.dcm_build.proofs.line.parenthesis_end.Given as goal
+
+-- the bytes so far don't end the field
+abbrev pub invariant-loop-i : goal.invariant-loop-i
+invariant-loop-i l = Passed through_parenthesis l.bytes l.i (drop l.i l.bytes)

@@ -1,0 +1,121 @@
+-- A builder and the output that it drives.
+use Rattle.std.specs.Prelude.{◌≡◌, ℕ, suc, ◌+◌, ◌<◌, ◌≤◌, List, [], ◌∷◌, ◌++◌, length, take, Bool, true, false, Option, Some, None, Result, Ok, Err, ◌||◌, ◌==◌, is_some, ⊤}
+use Rattle.std.specs.Str.{byte}
+use Rattle.std.specs.Io.KnownBytes.{append_known}
+use Rattle.dcm_base.specs.Build.{Told}
+use Rattle.dcm_base.specs.Device.{AppendsFront}
+use Rattle.dcm_base.specs.Reads.{INPUT_LIMIT}
+use Rattle.dcm_base.specs.Steps.{Goes}
+use Rattle.dcm_build.specs.declared.build.BuildHalt.{BuildHalt}
+use Rattle.dcm_build.specs.declared.build.BuildHalt.TheVariants.{Refused, Output}
+use Rattle.dcm_build.specs.declared.build.LineStop.{LineStop}
+use Rattle.dcm_build.specs.declared.file.Stopped.{Stopped}
+use Rattle.dcm_build.specs.declared.file.Stopped.TheVariants.{Refused as refused_line, Output as failed_output}
+use Rattle.dcm_build.specs.declared.place.Place.{Place}
+use Rattle.dcm_build.specs.Building.{BuildState, build_step, build_writes}
+use Rattle.dcm_build.specs.NewFile.{LineAt, state}
+
+-- where the line of a place stands
+abbrev pub line_at : Place → LineAt
+line_at p = record { limit = p.limit; line = p.line.items; offset = p.offset; number = p.number }
+
+-- what was built at a place, and the fault that was told
+abbrev pub building : Place → Option Told → BuildState
+building p told = state p.file (line_at p) told
+
+-- how many bytes were read
+abbrev pub read : LineAt → ℕ
+read at = at.offset + length at.line
+
+-- the line fits its limit, and each count its bounds; the last line may pass the limit of an input by the newline that it lacks
+pub record Stands (at : LineAt) : Type 0 where
+  pub limit : at.limit ≤ 16384
+  pub line : length at.line ≤ at.limit
+  pub within : 0 < length at.line → read at ≤ INPUT_LIMIT
+  pub offset : at.offset ≤ INPUT_LIMIT + 1
+  pub number : at.number ≤ at.offset + 1
+
+-- no byte is a newline
+abbrev pub Plain : List ℕ → Type 0
+Plain [] = ⊤
+Plain (b ∷ bs) = ((b == byte "\n") ≡ false) × Plain bs
+
+-- the line goes on with these bytes
+abbrev pub more : LineAt → List ℕ → LineAt
+more at bs = record at { line = at.line ++ bs }
+
+-- where the next line begins
+abbrev pub behind : LineAt → LineAt
+behind at = record at { line = []; offset = at.offset + length at.line + 1; number = suc at.number }
+
+-- ---- what a call answers
+
+abbrev pub told_of : LineStop → Told
+told_of stop = record { fault = stop.fault; offset = stop.offset; line = stop.line }
+
+-- why nothing more is built, where a line is refused at this offset or the output failed
+abbrev pub halts : Stopped → (offset line : ℕ) → BuildHalt
+halts (refused_line fault) offset line = Refused (record { fault = fault; offset = offset; line = line })
+halts failed_output offset line = Output
+
+-- whether the output went well
+abbrev pub went : {T : Type 0} → Result T BuildHalt → Result (Unit {0}) (Unit {0})
+went (Ok x) = Ok tt
+went (Err (Refused stop)) = Ok tt
+went (Err Output) = Err tt
+
+-- the fault that is told
+abbrev pub fault_of : {T : Type 0} → Result T BuildHalt → Option Told
+fault_of (Ok x) = None
+fault_of (Err (Refused stop)) = Some (told_of stop)
+fault_of (Err Output) = None
+
+-- the output failed in the call just where it tells so
+abbrev pub TellsHalt : {T : Type 0} → Bool → Bool → Result T BuildHalt → Type 0
+TellsHalt old new (Ok x) = new ≡ old
+TellsHalt old new (Err (Refused stop)) = new ≡ old
+TellsHalt old new (Err Output) = new ≡ true
+
+-- ---- parts of a call
+
+-- what was built came to this state, and these bytes went out, or a beginning of them
+abbrev pub Reaches : {T : Type 0} → (held holds : Option (List ℕ)) → (Option Told → BuildState) → BuildState → List ℕ → Result T BuildHalt → Type 0
+Reaches held holds new s bytes (Ok x) = (new None ≡ s) × (holds ≡ append_known held bytes)
+Reaches held holds new s bytes (Err (Refused stop)) = (new (Some (told_of stop)) ≡ s) × (holds ≡ append_known held bytes)
+Reaches held holds new s bytes (Err Output) = AppendsFront held holds bytes
+
+-- these bytes were gone over, or a beginning of what they write went out
+abbrev pub Feeds : {T : Type 0} → BuildState → (held : Option (List ℕ)) → (Option Told → BuildState) → (holds : Option (List ℕ)) → List ℕ → Result T BuildHalt → Type 0
+Feeds old held new holds bytes r = Goes build_step build_writes old held (new (fault_of r)) holds bytes (went r)
+
+-- the bytes that were gone over: so many, or all where it goes no further
+abbrev pub bytes_read : Result ℕ BuildHalt → List ℕ → List ℕ
+bytes_read (Ok n) piece = take n piece
+bytes_read (Err halt) piece = piece
+
+-- ---- the builder
+
+-- what was built, and whether the output failed
+pub record Progress : Type 0 where
+  pub state : BuildState
+  pub failed : Bool
+
+abbrev pub stop_of : Option BuildHalt → Option Told
+stop_of None = None
+stop_of (Some (Refused stop)) = Some (told_of stop)
+stop_of (Some Output) = None
+
+abbrev pub is_output : Option BuildHalt → Bool
+is_output None = false
+is_output (Some (Refused stop)) = false
+is_output (Some Output) = true
+
+-- whether it goes no further
+abbrev pub is_halted : Progress → Bool
+is_halted p = p.failed || is_some p.state.told
+
+-- what a call answers
+abbrev pub answer : Option Told → (failed : Bool) → Result (Unit {0}) BuildHalt
+answer told true = Err Output
+answer None false = Ok tt
+answer (Some t) false = Err (Refused (record { fault = t.fault; offset = t.offset; line = t.line }))

@@ -1,0 +1,10 @@
+pub mod LineShown
+pub mod Standing
+pub mod Nesting
+pub mod Building
+pub mod NewFile
+pub mod Builder
+pub mod BuildLaws
+pub mod DumpLines
+pub mod StepsBuild
+pub mod DumpBuilds

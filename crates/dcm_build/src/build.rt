@@ -1,0 +1,117 @@
+// A file that is built from the lines of a dump, which come in pieces.
+ghost use Rattle.std.specs.Prelude.{◌≡◌, ◌+◌, ◌≤◌, ◌^◌, OnOk, None, length, true, false};
+ghost use Rattle.dcm_base.specs.Device.{Puts};
+ghost use Rattle.dcm_base.specs.Steps.{Goes};
+ghost use Rattle.dcm_stream.specs.Machine.{TellsFailed, well};
+ghost use Rattle.dcm_build.specs.Builder as spec;
+ghost use Rattle.dcm_build.specs.Building as steps;
+
+use crate::place::Place;
+use dcm_base::{DeviceOut, LineFault, Watched};
+use std::marker::Model;
+
+/// Why the input is refused: a fault, the offset at which the line begins, and the number of the line, from 1. An input that ends
+/// too early is refused at its size, and one that is too long at the limit of an input, with no line.
+#[derive(Clone, Copy, Debug, PartialEq, Eq)]
+pub struct LineStop {
+    pub fault: LineFault,
+    pub offset: u64,
+    pub line: u64,
+}
+
+/// Why a builder goes no further.
+#[derive(Clone, Copy, Debug, PartialEq, Eq)]
+pub enum BuildHalt {
+    /// The input is refused.
+    Refused(LineStop),
+    /// The output failed.
+    Output,
+}
+
+/// Builds a file from the lines of a dump, and writes what is sure of it. It holds one line, the meta group and one value.
+#[derive(Drop)]
+pub struct Builder {
+    place: Place,
+    halt: Option<BuildHalt>,
+}
+
+impl Model for Builder {
+    ghost use Rattle.std.specs.Prelude.{◌≡◌, None};
+    ghost use Rattle.dcm_build.specs.Builder.{Progress, Stands, building, line_at, stop_of, is_output};
+
+    ghost Value = { Progress };
+
+    ghost view = { λ b. record { state = building b.place (stop_of b.halt); failed = is_output b.halt } };
+
+    ghost invariant = { λ b. b.halt ≡ None → Stands (line_at b.place) };
+}
+
+impl Builder {
+    /// A builder that refuses lines of more bytes than the limit.
+    pub fn new(limit: usize) -> Self
+        requires { limit ≤ 16384 }
+        ensures { result ≡ record { state = steps.build_start limit; failed = false } }
+    {
+        Builder {
+            place: Place::new(limit),
+            halt: None,
+        }
+    }
+
+    /// Goes over the next bytes of the input. After a halt each call answers the same halt.
+    pub fn feed<W: DeviceOut>(
+        &mut self,
+        piece: &[u8],
+        out: &mut Watched<W>,
+    ) -> Result<(), BuildHalt>
+        ensures goes { Goes steps.build_step steps.build_writes self.old.state (W.contents out.old) self.new.state (W.contents out.new) piece.now (well self.new.failed) }
+        ensures answer { result ≡ spec.answer self.new.state.told self.new.failed }
+        ensures going { OnOk result (spec.is_halted self.new ≡ false) }
+        ensures halted { spec.is_halted self.old ≡ true → (self.new ≡ self.old) × (out.new ≡ out.old) }
+        ensures failed { spec.is_halted self.old ≡ false → TellsFailed (W.has_failed out.old) (W.has_failed out.new) self.new.failed }
+        // While nothing halts it, it goes over each byte, and over no more than the limit.
+        ensures place { spec.is_halted self.new ≡ false → steps.read_size self.new.state ≡ steps.read_size self.old.state + length piece.now }
+        ensures within { spec.is_halted self.new ≡ false → steps.read_size self.old.state ≤ 2 ^ 62 → steps.read_size self.new.state ≤ 2 ^ 62 }
+    {
+        let mut rest = piece;
+        while !rest.is_empty() && self.halt.is_none() {
+            match self.place.read_some(rest, out) {
+                Ok(n) => {
+                    let (_, after) = rest.split_at(n);
+                    rest = after;
+                }
+                Err(halt) => {
+                    self.halt = Some(halt);
+                    rest = &[];
+                }
+            }
+        }
+        answer(self.halt)
+    }
+
+    /// The input ends. Where that is no fault, the file is whole.
+    pub fn finish<W: DeviceOut>(&mut self, out: &mut Watched<W>) -> Result<(), BuildHalt>
+        ensures bytes { Puts (W.contents out.old) (W.contents out.new) (steps.finish_writes self.old.state) (well self.new.failed) }
+        ensures state { self.new.failed ≡ false → self.new.state ≡ steps.finishes self.old.state }
+        ensures answer { result ≡ spec.answer self.new.state.told self.new.failed }
+        ensures going { OnOk result (spec.is_halted self.new ≡ false) }
+        ensures halted { spec.is_halted self.old ≡ true → (self.new ≡ self.old) × (out.new ≡ out.old) }
+        ensures failed { spec.is_halted self.old ≡ false → TellsFailed (W.has_failed out.old) (W.has_failed out.new) self.new.failed }
+    {
+        if self.halt.is_none() {
+            self.halt = self.place.end(out).err();
+        }
+        answer(self.halt)
+    }
+}
+
+/// What a call answers.
+fn answer(halt: Option<BuildHalt>) -> Result<(), BuildHalt>
+    ensures going { OnOk result (halt ≡ None) }
+    ensures value { result ≡ spec.answer (spec.stop_of halt) (spec.is_output halt) }
+{
+    match halt {
+        None => Ok(()),
+        Some(halt) => Err(halt),
+    }
+}

@@ -1,0 +1,391 @@
+// A file that is built, step by step.
+ghost use Rattle.std.specs.Prelude.{◌≡◌, ◌≤◌, ◌&&◌, ◌++◌, ◌∷◌, [], OnOk, None, false, true, is_some, unwrap_or, not, fold, length, if◌then◌else◌};
+ghost use Rattle.dcm_base.specs.Atoms.{opens};
+ghost use Rattle.dcm_base.specs.Build as build;
+ghost use Rattle.dcm_base.specs.Device.{Puts, Tells};
+ghost use Rattle.dcm_base.specs.Line as lines;
+ghost use Rattle.dcm_base.specs.ReadValue.{value_of_text};
+ghost use Rattle.dcm_base.specs.Steps.{outputs};
+ghost use Rattle.dcm_base.specs.declared.syntax.Syntax.TheVariants.{Little};
+ghost use Rattle.dcm_stream.specs.Tokens.{atoms_of};
+ghost use Rattle.dcm_build.specs.Building as spec;
+ghost use Rattle.dcm_tools.specs.EncodeSink.{encode_step, encode_writes};
+ghost use Rattle.dcm_tools.specs.Encoder as encoders;
+ghost use Rattle.dcm_build.specs.LineShown.{step_of, meaning_of};
+ghost use Rattle.dcm_build.specs.NewFile as files;
+
+use crate::checks::{
+    allows_fragments, coding_or_little, element_tag, first_fault, has_place_in, is_after,
+    is_fragment_opening, is_meta, is_opening,
+};
+use crate::group::NewGroup;
+use crate::line::{Meaning, Step, means, without_return};
+use crate::standing::Standing;
+use arrayvec::ArrayVec;
+use dcm_base::{
+    Coding, Container, DeviceOut, Length, LineFault, Syntax, Tag, Vr, Watched, WriteFailed,
+};
+use dcm_head::Head;
+use dcm_stream::Token;
+use dcm_tools::Encoder;
+use dcm_value::read_value_into;
+
+/// The most bytes of a value that is read from a text.
+const MOST_VALUE: usize = 65_536;
+
+/// The most sequences and fragment lists that are open at a time.
+const MOST_LISTS: usize = 64;
+
+/// Why a line stops the building of a file.
+#[derive(Clone, Copy, Debug, PartialEq, Eq)]
+pub enum Stopped {
+    Refused(LineFault),
+    /// The writer failed.
+    Output,
+}
+
+impl From<WriteFailed> for Stopped {
+    ghost use Rattle.dcm_build.specs.declared.file.Stopped.{Stopped};
+
+    ghost from_gives = { λ _ s. s ≡ Stopped.Output };
+
+    fn from(_failed: WriteFailed) -> Self {
+        Stopped::Output
+    }
+}
+
+/// A file that is built: its meta group as it grows, what stands open of its data set, how that is written, and the value
+/// that was read last.
+#[derive(Drop)]
+pub struct NewFile {
+    group: NewGroup,
+    meta_ended: bool,
+    standing: Standing,
+    encoder: Encoder,
+    value: ArrayVec<u8, MOST_VALUE>,
+}
+
+/// Reads a value from its text, and tells whether that stands for one. Where it does not, the value is empty.
+fn read_text(vr: Vr, text: &[u8], value: &mut ArrayVec<u8, MOST_VALUE>) -> bool
+    ensures is_read { result ≡ is_some (value_of_text vr text.now) }
+    ensures value { value.new.items ≡ unwrap_or (value_of_text vr text.now) [] }
+{
+    match read_value_into(vr, text, value) {
+        Ok(()) => true,
+        Err(_) => {
+            value.clear();
+            false
+        }
+    }
+}
+
+/// Reads the value that a step shows, where it shows one, and tells whether it stands for one.
+fn read_value(step: Step<'_>, value: &mut ArrayVec<u8, MOST_VALUE>) -> bool
+    ensures is_read { result ≡ not (build.lacks_value (step_of step.entry)) }
+    ensures value { value.new.items ≡ files.value_in (step_of step.entry) }
+{
+    match step {
+        Step::Leaf(_, vr, text) => read_text(vr, text, value),
+        Step::Fragment(text) => read_text(Vr::OB, text, value),
+        Step::Sequence(_, _)
+        | Step::FragmentList(_, _)
+        | Step::Item
+        | Step::ItemEnd
+        | Step::SequenceEnd => {
+            value.clear();
+            true
+        }
+    }
+}
+
+/// Writes a value or fragment whole.
+fn put_value<W: DeviceOut>(
+    encoder: &mut Encoder,
+    out: &mut Watched<W>,
+    opening: Token<'_>,
+    value: &[u8],
+) -> Result<(), WriteFailed>
+    ensures state { OnOk result (encoders.state encoder.new ≡ fold encode_step (encoders.state encoder.old) (atoms_of opening.entry ++ spec.value_atoms value.now)) }
+    ensures bytes { Puts (W.contents out.old) (W.contents out.new) (outputs encode_step encode_writes (encoders.state encoder.old) (atoms_of opening.entry ++ spec.value_atoms value.now)) result }
+    ensures failed { Tells (W.has_failed out.old) (W.has_failed out.new) result }
+{
+    encoder.take(out, opening)?;
+    encoder.take(out, Token::Bytes(value))?;
+    encoder.take(out, Token::CloseLeaf)?;
+    Ok(())
+}
+
+/// What opens an element of this length.
+fn opening<'a>(tag: Tag, vr: Vr, length: Length) -> Token<'a>
+    ensures { atoms_of result ≡ opens tag vr length Little ∷ [] }
+{
+    Token::Open(Head { tag, vr, length }, Syntax::Little)
+}
+
+/// Writes what a step shows.
+fn put_step<W: DeviceOut>(
+    encoder: &mut Encoder,
+    out: &mut Watched<W>,
+    step: Step<'_>,
+    value: &[u8],
+) -> Result<(), WriteFailed>
+    requires value { value.now ≡ files.value_in (step_of step) }
+    requires size { length value.now ≤ 65536 }
+    ensures state { OnOk result (encoders.state encoder.new ≡ fold encode_step (encoders.state encoder.old) (spec.step_atoms (step_of step.entry))) }
+    ensures bytes { Puts (W.contents out.old) (W.contents out.new) (outputs encode_step encode_writes (encoders.state encoder.old) (spec.step_atoms (step_of step.entry))) result }
+    ensures failed { Tells (W.has_failed out.old) (W.has_failed out.new) result }
+{
+    let size = value.len() as u32;
+    match step {
+        Step::Leaf(tag, vr, _) => {
+            put_value(encoder, out, opening(tag, vr, Length::Known(size)), value)
+        }
+        Step::Sequence(tag, vr) | Step::FragmentList(tag, vr) => {
+            encoder.take(out, opening(tag, vr, Length::Undefined))
+        }
+        Step::Item => encoder.take(out, Token::OpenItem(Length::Undefined)),
+        Step::Fragment(_) => put_value(encoder, out, Token::OpenFragment(size), value),
+        Step::ItemEnd => encoder.take(out, Token::CloseItem),
+        Step::SequenceEnd => encoder.take(out, Token::CloseSeq),
+    }
+}
+
+impl NewFile {
+    fn is_misplaced(&self, step: Step<'_>) -> bool
+        ensures { result ≡ spec.is_misplaced (step_of step.entry) (files.seen self.now) }
+    {
+        !has_place_in(self.standing.container(), step)
+            || (is_opening(step) && is_meta(step))
+            || (is_fragment_opening(step) && !allows_fragments(self.group.coding))
+    }
+
+    fn is_out_of_order(&self, step: Step<'_>) -> bool
+        ensures { result ≡ spec.is_out_of_order (step_of step.entry) (files.seen self.now) }
+    {
+        !is_meta(step) && !is_after(self.standing.reached(), element_tag(step))
+    }
+
+    fn is_too_deep(&self, step: Step<'_>) -> bool
+        ensures { result ≡ spec.is_too_deep (step_of step.entry) (files.seen self.now) }
+    {
+        is_opening(step) && self.standing.lists() >= MOST_LISTS
+    }
+
+    /// Whether the step is an element that is too much for the meta group.
+    fn is_meta_too_large(&self, step: Step<'_>) -> bool
+        requires { self.now.value.items ≡ files.value_in (step_of step) }
+        ensures { result ≡ spec.is_meta_too_large (step_of step.entry) (files.seen self.now) }
+    {
+        match step {
+            Step::Leaf(_, vr, _) => is_meta(step) && self.group.is_full_for(vr, self.value.len()),
+            _ => false,
+        }
+    }
+
+    /// Whether the step ends the meta group.
+    fn ends_group(&self, step: Step<'_>) -> bool
+        ensures { result ≡ spec.ends_meta (step_of step.entry) (files.seen self.now) }
+    {
+        !is_meta(step) && !self.meta_ended
+    }
+
+    fn group_fault(&self, step: Step<'_>) -> Option<LineFault>
+        ensures { result ≡ build.first_fault (spec.group_checks (step_of step.entry) (files.seen self.now)) }
+    {
+        first_fault(&[
+            (is_meta(step) && self.meta_ended, LineFault::BadMetaGroup),
+            (
+                self.ends_group(step) && self.group.coding.is_none(),
+                LineFault::NoTransferSyntax,
+            ),
+        ])
+    }
+
+    fn step_fault(&self, step: Step<'_>, is_read: bool) -> Option<LineFault>
+        requires is_read { is_read ≡ not (build.lacks_value (step_of step)) }
+        requires value { self.now.value.items ≡ files.value_in (step_of step) }
+        ensures { result ≡ build.first_fault (spec.step_checks (step_of step.entry) (files.seen self.now)) }
+    {
+        first_fault(&[
+            (self.is_misplaced(step), LineFault::NotAllowed),
+            (self.is_out_of_order(step), LineFault::NotAscending),
+            (!is_read, LineFault::ValueDoesNotFit),
+            (self.is_too_deep(step), LineFault::TooDeep),
+            (self.is_meta_too_large(step), LineFault::BadMetaGroup),
+        ])
+    }
+
+    /// Adds an element to the meta group.
+    fn add_meta(&mut self, step: Step<'_>)
+        requires value { self.old.value.items ≡ files.value_in (step_of step) }
+        requires meta { build.is_meta (step_of step) ≡ true }
+        requires small { spec.is_meta_too_large (step_of step) (files.seen self.old) ≡ false }
+        ensures { (at : files.LineAt) → files.state self.new at None ≡ spec.with_meta (step_of step.entry) (files.state self.old at None) }
+    {
+        if let Step::Leaf(tag, vr, _) = step {
+            self.group.push(tag, vr, self.value.as_slice());
+        }
+    }
+
+    /// Adds what a step shows to the data set.
+    fn add_to_set<W: DeviceOut>(
+        &mut self,
+        step: Step<'_>,
+        out: &mut Watched<W>,
+    ) -> Result<(), WriteFailed>
+        requires value { self.old.value.items ≡ files.value_in (step_of step) }
+        requires placed { spec.is_misplaced (step_of step) (files.seen self.old) ≡ false }
+        requires few { spec.is_too_deep (step_of step) (files.seen self.old) ≡ false }
+        ensures state { OnOk result ((at : files.LineAt) → files.state self.new at None ≡ spec.with_set (step_of step.entry) (files.state self.old at None)) }
+        ensures bytes { Puts (W.contents out.old) (W.contents out.new) (outputs encode_step encode_writes (encoders.state self.old.encoder) (spec.step_atoms (step_of step.entry))) result }
+        ensures failed { Tells (W.has_failed out.old) (W.has_failed out.new) result }
+    {
+        self.standing.take(step);
+        put_step(&mut self.encoder, out, step, self.value.as_slice())
+    }
+
+    /// Adds what a step shows, which no check refuses.
+    fn add<W: DeviceOut>(&mut self, step: Step<'_>, out: &mut Watched<W>) -> Result<(), WriteFailed>
+        requires value { self.old.value.items ≡ files.value_in (step_of step) }
+        requires fits { build.first_fault (spec.step_checks (step_of step) (files.seen self.old)) ≡ None }
+        ensures state { OnOk result ((at : files.LineAt) → files.state self.new at None ≡ spec.taken (step_of step.entry) (files.state self.old at None)) }
+        ensures bytes { Puts (W.contents out.old) (W.contents out.new) (spec.taken_writes (step_of step.entry) (files.seen self.old)) result }
+        ensures failed { Tells (W.has_failed out.old) (W.has_failed out.new) result }
+    {
+        if is_meta(step) {
+            self.add_meta(step);
+            return Ok(());
+        }
+        self.add_to_set(step, out)
+    }
+
+    /// The meta group ends: it is written, and what stands before it.
+    fn end_group<W: DeviceOut>(&mut self, out: &mut Watched<W>) -> Result<(), WriteFailed>
+        ensures state { OnOk result ((at : files.LineAt) → files.state self.new at None ≡ spec.meta_over (files.state self.old at None)) }
+        ensures bytes { Puts (W.contents out.old) (W.contents out.new) (spec.file_start (files.seen self.old)) result }
+        ensures failed { Tells (W.has_failed out.old) (W.has_failed out.new) result }
+    {
+        self.group.put(out)?;
+        self.meta_ended = true;
+        self.encoder = Encoder::new(coding_or_little(self.group.coding));
+        Ok(())
+    }
+
+    /// The meta group ends before the first step that is no element of it.
+    fn leave_group<W: DeviceOut>(
+        &mut self,
+        step: Step<'_>,
+        out: &mut Watched<W>,
+    ) -> Result<(), WriteFailed>
+        ensures state { OnOk result ((at : files.LineAt) → files.state self.new at None ≡ spec.in_group (step_of step.entry) (files.state self.old at None)) }
+        ensures bytes { Puts (W.contents out.old) (W.contents out.new) (if spec.ends_meta (step_of step.entry) (files.seen self.old) then spec.file_start (files.seen self.old) else []) result }
+        ensures failed { Tells (W.has_failed out.old) (W.has_failed out.new) result }
+    {
+        if self.ends_group(step) {
+            return self.end_group(out);
+        }
+        Ok(())
+    }
+
+    /// Takes a step of a group that may come here.
+    fn place<W: DeviceOut>(&mut self, step: Step<'_>, out: &mut Watched<W>) -> Result<(), Stopped>
+        ensures comes { (at : files.LineAt) → files.Comes (W.contents out.old) (W.contents out.new) (files.state self.new at None) (spec.placed (step_of step.entry) (files.state self.old at None)) (spec.placed_writes (step_of step.entry) (files.state self.old at None)) result }
+        ensures failed { files.TellsStopped (W.has_failed out.old) (W.has_failed out.new) result }
+    {
+        let is_read = read_value(step, &mut self.value);
+        if let Some(fault) = self.step_fault(step, is_read) {
+            return Err(Stopped::Refused(fault));
+        }
+        self.add(step, out)?;
+        Ok(())
+    }
+
+    /// Takes what a line shows.
+    fn show<W: DeviceOut>(&mut self, step: Step<'_>, out: &mut Watched<W>) -> Result<(), Stopped>
+        ensures comes { (at : files.LineAt) → files.Comes (W.contents out.old) (W.contents out.new) (files.state self.new at None) (spec.shows (step_of step.entry) (files.state self.old at None)) (spec.shows_writes (step_of step.entry) (files.state self.old at None)) result }
+        ensures failed { files.TellsStopped (W.has_failed out.old) (W.has_failed out.new) result }
+    {
+        if let Some(fault) = self.group_fault(step) {
+            return Err(Stopped::Refused(fault));
+        }
+        self.leave_group(step, out)?;
+        self.place(step, out)
+    }
+
+    /// Takes a line, without its newline.
+    pub fn take_line<W: DeviceOut>(
+        &mut self,
+        line: &[u8],
+        out: &mut Watched<W>,
+    ) -> Result<(), Stopped>
+        ensures comes { (at : files.LineAt) → files.Comes (W.contents out.old) (W.contents out.new) (files.state self.new at None) (spec.meaning_taken (lines.means (build.without_return line.now)) (files.state self.old at None)) (spec.meaning_writes (lines.means (build.without_return line.now)) (files.state self.old at None)) result }
+        ensures failed { files.TellsStopped (W.has_failed out.old) (W.has_failed out.new) result }
+    {
+        match means(without_return(line)) {
+            Meaning::Nothing => Ok(()),
+            Meaning::Step(step) => self.show(step, out),
+            Meaning::NoLine => Err(Stopped::Refused(LineFault::NotALine)),
+        }
+    }
+
+    /// Why the input may not end here, where it may not.
+    fn end_fault(&self) -> Option<LineFault>
+        ensures { result ≡ build.first_fault (spec.end_checks (files.seen self.now)) }
+    {
+        first_fault(&[
+            (
+                !self.meta_ended && self.group.coding.is_none(),
+                LineFault::NoTransferSyntax,
+            ),
+            (
+                self.standing.container() != Container::DataSet,
+                LineFault::EndsEarly,
+            ),
+        ])
+    }
+
+    /// Whether the end of the input ends the meta group.
+    fn ends_at_end(&self) -> bool
+        ensures { result ≡ (not self.now.meta_ended && is_some self.now.group.coding) }
+    {
+        !self.meta_ended && self.group.coding.is_some()
+    }
+
+    /// The meta group ends where no line of another group came.
+    fn leave_group_at_end<W: DeviceOut>(&mut self, out: &mut Watched<W>) -> Result<(), WriteFailed>
+        ensures state { OnOk result ((at : files.LineAt) → files.state self.new at None ≡ spec.ended_meta (files.state self.old at None)) }
+        ensures bytes { Puts (W.contents out.old) (W.contents out.new) (spec.end_writes (files.seen self.old)) result }
+        ensures failed { Tells (W.has_failed out.old) (W.has_failed out.new) result }
+    {
+        if self.ends_at_end() {
+            return self.end_group(out);
+        }
+        Ok(())
+    }
+
+    /// The input ends.
+    pub fn finish<W: DeviceOut>(&mut self, out: &mut Watched<W>) -> Result<(), Stopped>
+        ensures ends { (at : files.LineAt) → files.Ends (W.contents out.old) (W.contents out.new) (files.state self.new at None) (spec.ended_meta (files.state self.old at None)) (build.first_fault (spec.end_checks (files.seen self.old))) (spec.end_writes (files.seen self.old)) result }
+        ensures failed { files.TellsStopped (W.has_failed out.old) (W.has_failed out.new) result }
+    {
+        let fault = self.end_fault();
+        self.leave_group_at_end(out)?;
+        match fault {
+            Some(fault) => Err(Stopped::Refused(fault)),
+            None => Ok(()),
+        }
+    }
+
+    /// Nothing was built.
+    pub fn new() -> Self
+        ensures { (at : files.LineAt) → files.state result at None ≡ record (spec.build_start at.limit) { line = at.line; offset = at.offset; number = at.number } }
+    {
+        NewFile {
+            group: NewGroup::new(),
+            meta_ended: false,
+            standing: Standing::new(),
+            encoder: Encoder::new(Syntax::Little),
+            value: ArrayVec::new(),
+        }
+    }
+}

@@ -1,0 +1,41 @@
+//! Laws of the definitions. Each function takes nothing and makes no call: its contract is the law.
+ghost use Rattle.std.specs.Prelude.{◌≡◌, ◌++◌, ℕ, List, Some, None, fold};
+ghost use Rattle.dcm_base.specs.Ascending.{Ascend};
+ghost use Rattle.dcm_base.specs.Build.{Told};
+ghost use Rattle.dcm_base.specs.Dump.{dump_set};
+ghost use Rattle.dcm_base.specs.MetaReads.{Meta};
+ghost use Rattle.dcm_base.specs.Steps.{outputs};
+ghost use Rattle.dcm_base.specs.Tree.{Trees};
+ghost use Rattle.dcm_base.specs.declared.mode.Mode.TheVariants.{Full};
+ghost use Rattle.dcm_base.specs.declared.syntax.Coding.{Coding};
+ghost use Rattle.dcm_build.specs.BuildLaws.{Builds, BuiltSoFar, Stays};
+ghost use Rattle.dcm_build.specs.Building.{build_start, build_step, build_writes};
+ghost use Rattle.dcm_build.specs.DumpBuilds.{BuildsFile, CanBuild, FileRead, FitsLines, ShowsWhole, full_dump};
+ghost use Rattle.dcm_build.specs.DumpLines.{SetReadsBack, TextMeans, set_steps};
+ghost use Rattle.dcm_build.specs.StepsBuild.{BuildAgain, MayStand};
+
+/// Over the bytes of an input, one by one, the state of a file that is built writes and tells what the lines of the input build;
+/// over a beginning of it without fault, what the lines that have ended build; and a fault that was told stays, whatever follows.
+pub fn build_steps()
+    ensures whole { (limit : ℕ) (bytes : List ℕ) → Builds limit bytes (fold build_step (build_start limit) bytes) (outputs build_step build_writes (build_start limit) bytes) }
+    ensures so_far { (limit : ℕ) (bytes : List ℕ) → (fold build_step (build_start limit) bytes).told ≡ None → BuiltSoFar limit bytes (fold build_step (build_start limit) bytes) (outputs build_step build_writes (build_start limit) bytes) }
+    ensures refused { (limit : ℕ) (bytes later : List ℕ) (told : Told) → (fold build_step (build_start limit) bytes).told ≡ Some told → Stays limit (bytes ++ later) told (outputs build_step build_writes (build_start limit) bytes) }
+{}
+
+/// The lines of a full dump of a data set mean, one after another, the steps of what it shows.
+pub fn dump_lines()
+    ensures { (level : ℕ) (set : Trees) → SetReadsBack set → TextMeans (dump_set Full level set) (set_steps set) }
+{}
+
+/// These steps, from an empty data set on, build it again: its values as they are shown, and its sequences and items with
+/// undefined lengths.
+pub fn steps_build()
+    ensures { (coding : Coding) (set : Trees) → Ascend None set → MayStand coding 0 set → BuildAgain coding set }
+{}
+
+/// The full dump of a file that is read without fault builds it again, in its own transfer syntax and but for its preamble, where
+/// the dump shows all of its values whole and the tags of each of its data sets ascend. So does that of any trees that can be built.
+pub fn dump_builds()
+    ensures file { (limit : ℕ) (file : List ℕ) (meta : Meta) (coding : Coding) (set : Trees) → FileRead file meta coding set → ShowsWhole meta.elements → ShowsWhole set → Ascend None set → FitsLines limit (full_dump meta.elements set) → BuildsFile limit (full_dump meta.elements set) meta.elements coding set }
+    ensures trees { (limit : ℕ) (meta : Trees) (coding : Coding) (set : Trees) → CanBuild meta coding set → FitsLines limit (full_dump meta set) → BuildsFile limit (full_dump meta set) meta coding set }
+{}

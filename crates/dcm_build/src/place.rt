@@ -1,0 +1,157 @@
+// Where the building of a file stands.
+ghost use Rattle.std.specs.Prelude.{◌≡◌, ◌+◌, ◌++◌, ◌<◌, ◌≤◌, None, Option, get_or, length, take, IfOk, OnOk};
+ghost use Rattle.dcm_base.specs.Reads.{INPUT_LIMIT as MOST_READ};
+ghost use Rattle.dcm_build.specs.Builder as spec;
+ghost use Rattle.dcm_build.specs.Building as steps;
+
+use crate::build::{BuildHalt, LineStop};
+use crate::file::{NewFile, Stopped};
+use arrayvec::ArrayVec;
+use dcm_base::{DeviceOut, LineFault, Watched};
+use dcm_stream::INPUT_LIMIT;
+
+/// The most bytes of a line.
+const MOST_LINE: usize = 16_384;
+
+/// What the lines so far have built, the bytes of the line that has not ended, how many it may have, where it begins, and which
+/// it is.
+#[derive(Drop)]
+pub struct Place {
+    pub file: NewFile,
+    pub line: ArrayVec<u8, MOST_LINE>,
+    pub limit: usize,
+    pub offset: u64,
+    pub number: u64,
+}
+
+/// How many bytes there are before the first newline, or in all.
+fn line_end(bytes: &[u8]) -> usize
+    ensures plain { spec.Plain (take result bytes.now) }
+    ensures within { result ≤ length bytes.now }
+    ensures newline { result < length bytes.now → get_or bytes.now result 0 ≡ 10 }
+{
+    for (i, byte) in bytes.iter().enumerate() {
+        if *byte == b'\n' {
+            return i;
+        }
+    }
+    bytes.len()
+}
+
+/// Why nothing more is built.
+fn halt(stopped: Stopped, offset: u64, line: u64) -> BuildHalt
+    ensures { result ≡ spec.halts stopped offset line }
+{
+    match stopped {
+        Stopped::Refused(fault) => BuildHalt::Refused(LineStop {
+            fault,
+            offset,
+            line,
+        }),
+        Stopped::Output => BuildHalt::Output,
+    }
+}
+
+impl Place {
+    /// The beginning of the first line.
+    pub fn new(limit: usize) -> Self
+        ensures { spec.building result None ≡ steps.build_start limit }
+    {
+        Place {
+            file: NewFile::new(),
+            line: ArrayVec::new(),
+            limit,
+            offset: 0,
+            number: 1,
+        }
+    }
+
+    /// Goes over bytes that do not end the line.
+    fn read_line_bytes(&mut self, bytes: &[u8])
+        requires { length self.old.line.items + length bytes.now ≤ 16384 }
+        ensures file { self.new.file ≡ self.old.file }
+        ensures line { spec.line_at self.new ≡ spec.more (spec.line_at self.old) bytes.now }
+    {
+        let _ = self.line.try_extend_from_slice(bytes);
+    }
+
+    /// The line ends.
+    fn end_line<W: DeviceOut>(&mut self, out: &mut Watched<W>) -> Result<(), BuildHalt>
+        requires { spec.Stands (spec.line_at self.old) }
+        ensures reaches { spec.Reaches (W.contents out.old) (W.contents out.new) (spec.building self.new) (steps.line_taken (spec.building self.old None)) (steps.line_writes (spec.building self.old None)) result }
+        ensures place { OnOk result (spec.line_at self.new ≡ spec.behind (spec.line_at self.old)) }
+        ensures failed { spec.TellsHalt (W.has_failed out.old) (W.has_failed out.new) result }
+    {
+        if let Err(stopped) = self.file.take_line(self.line.as_slice(), out) {
+            return Err(halt(stopped, self.offset, self.number));
+        }
+        self.offset += self.line.len() as u64 + 1;
+        self.number += 1;
+        self.line.clear();
+        Ok(())
+    }
+
+    /// The last line ends, which may lack its newline.
+    fn end_last_line<W: DeviceOut>(&mut self, out: &mut Watched<W>) -> Result<(), BuildHalt>
+        requires { spec.Stands (spec.line_at self.old) }
+        ensures reaches { spec.Reaches (W.contents out.old) (W.contents out.new) (spec.building self.new) (steps.last_line (spec.building self.old None)) (steps.last_writes (spec.building self.old None)) result }
+        ensures stands { OnOk result (spec.Stands (spec.line_at self.new)) }
+        ensures failed { spec.TellsHalt (W.has_failed out.old) (W.has_failed out.new) result }
+    {
+        if self.line.is_empty() {
+            return Ok(());
+        }
+        self.end_line(out)
+    }
+
+    /// Goes over a beginning of the bytes, and tells how many.
+    pub fn read_some<W: DeviceOut>(
+        &mut self,
+        piece: &[u8],
+        out: &mut Watched<W>,
+    ) -> Result<usize, BuildHalt>
+        requires some { 0 < length piece.now }
+        requires stands { spec.Stands (spec.line_at self.old) }
+        ensures some { IfOk result (λ n. (0 < n) × (n ≤ length piece.now)) }
+        ensures feeds { spec.Feeds (spec.building self.old None) (W.contents out.old) (spec.building self.new) (W.contents out.new) (spec.bytes_read result piece.now) result }
+        ensures stands { OnOk result (spec.Stands (spec.line_at self.new)) }
+        ensures size { IfOk result (λ n. spec.read (spec.line_at self.new) ≡ spec.read (spec.line_at self.old) + n) }
+        ensures within { OnOk result (spec.read (spec.line_at self.new) ≤ MOST_READ) }
+        ensures failed { spec.TellsHalt (W.has_failed out.old) (W.has_failed out.new) result }
+    {
+        let read = self.offset + self.line.len() as u64;
+        if read >= INPUT_LIMIT {
+            let fault = Stopped::Refused(LineFault::TooLong);
+            return Err(halt(fault, INPUT_LIMIT, 0));
+        }
+        let most = (INPUT_LIMIT - read).min(piece.len() as u64) as usize;
+        let (front, _) = piece.split_at(most.min(self.limit - self.line.len()));
+        let n = line_end(front);
+        if n > 0 {
+            let (bytes, _) = front.split_at(n);
+            self.read_line_bytes(bytes);
+            return Ok(n);
+        }
+        if piece[0] == b'\n' {
+            self.end_line(out)?;
+            return Ok(1);
+        }
+        let fault = Stopped::Refused(LineFault::LineTooLong);
+        Err(halt(fault, self.offset, self.number))
+    }
+
+    /// The input ends here: the last line ends, and the file is closed where it may be.
+    pub fn end<W: DeviceOut>(&mut self, out: &mut Watched<W>) -> Result<(), BuildHalt>
+        requires { spec.Stands (spec.line_at self.old) }
+        ensures reaches { spec.Reaches (W.contents out.old) (W.contents out.new) (spec.building self.new) (steps.finishes (spec.building self.old None)) (steps.finish_writes (spec.building self.old None)) result }
+        ensures stands { OnOk result (spec.Stands (spec.line_at self.new)) }
+        ensures failed { spec.TellsHalt (W.has_failed out.old) (W.has_failed out.new) result }
+    {
+        let size = self.offset + self.line.len() as u64;
+        self.end_last_line(out)?;
+        if let Err(stopped) = self.file.finish(out) {
+            return Err(halt(stopped, size, self.number));
+        }
+        Ok(())
+    }
+}

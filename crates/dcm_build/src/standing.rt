@@ -1,0 +1,175 @@
+// What stands open of a data set that is built.
+ghost use Rattle.std.specs.Prelude.{◌≡◌, ◌<◌, [], ◌∷◌, None, reverse, true};
+ghost use Rattle.dcm_base.specs.declared.level.Container.TheVariants.{Sequence as a_sequence};
+ghost use Rattle.dcm_base.specs.Build.{has_place_in, is_opening};
+ghost use Rattle.dcm_build.specs.LineShown.{step_of};
+ghost use Rattle.dcm_build.specs.Nesting.{is_list};
+ghost use Rattle.dcm_build.specs.Standing as spec;
+
+use crate::line::Step;
+use arrayvec::ArrayVec;
+use dcm_base::{Container, Tag};
+use dcm_tools::MOST_OPEN;
+use std::marker::Model;
+
+/// What stands open: a sequence, a fragment list, or an item with the tag of its last element.
+#[derive(Clone, Copy, Debug, Default, PartialEq, Eq)]
+pub enum Open {
+    #[default]
+    Sequence,
+    FragmentList,
+    Item(Option<Tag>),
+}
+
+/// The tag of the last element of the top data set, and what is open in it: at most 64 sequences and fragment lists, and
+/// items that stand in sequences.
+#[derive(Drop)]
+pub struct Standing {
+    top_reached: Option<Tag>,
+    outermost_first: ArrayVec<Open, MOST_OPEN>,
+}
+
+impl Model for Standing {
+    ghost use Rattle.std.specs.Prelude.{reverse};
+    ghost use Rattle.dcm_build.specs.Nesting.{Nests};
+    ghost use Rattle.dcm_build.specs.Standing as spec;
+
+    ghost Value = { spec.Standing };
+
+    ghost view = { λ s. record { reached = s.top_reached; containers = reverse s.outermost_first.items } };
+
+    ghost invariant = { λ s. Nests (reverse s.outermost_first.items) };
+}
+
+/// Behind one thing more that is open.
+fn reached_in(outer: Option<Tag>, inner: Open) -> Option<Tag>
+    ensures { result ≡ spec.reached_in outer (inner ∷ []) }
+{
+    match inner {
+        Open::Sequence | Open::FragmentList => outer,
+        Open::Item(reached) => reached,
+    }
+}
+
+/// Behind all that is open, the outermost first.
+fn reached_behind(top: Option<Tag>, outermost_first: &[Open]) -> Option<Tag>
+    ensures { result ≡ spec.reached_in top (reverse outermost_first.now) }
+{
+    let mut reached = top;
+    for inner in outermost_first {
+        reached = reached_in(reached, *inner);
+    }
+    reached
+}
+
+fn counts(container: Open) -> usize
+    ensures { result ≡ spec.lists_open (container ∷ []) }
+{
+    match container {
+        Open::Sequence | Open::FragmentList => 1,
+        Open::Item(_) => 0,
+    }
+}
+
+/// How many sequences and fragment lists there are.
+fn lists_among(outermost_first: &[Open]) -> usize
+    ensures { result ≡ spec.lists_open (reverse outermost_first.now) }
+{
+    let mut count = 0;
+    for container in outermost_first {
+        count += counts(*container);
+    }
+    count
+}
+
+impl Standing {
+    /// Nothing is open, and no element has come.
+    pub fn new() -> Self
+        ensures { result ≡ spec.at_top }
+    {
+        Standing {
+            top_reached: None,
+            outermost_first: ArrayVec::new(),
+        }
+    }
+
+    /// The innermost open container.
+    pub fn container(&self) -> Container
+        ensures { result ≡ spec.container_of self.now.containers }
+    {
+        match self.outermost_first.as_slice().last() {
+            None => Container::DataSet,
+            Some(Open::Sequence) => Container::Sequence,
+            Some(Open::FragmentList) => Container::FragmentList,
+            Some(Open::Item(_)) => Container::Item,
+        }
+    }
+
+    /// The tag of the last element of the innermost data set.
+    pub fn reached(&self) -> Option<Tag>
+        ensures { result ≡ spec.reached_in self.now.reached self.now.containers }
+    {
+        reached_behind(self.top_reached, self.outermost_first.as_slice())
+    }
+
+    /// How many sequences and fragment lists are open.
+    pub fn lists(&self) -> usize
+        ensures { result ≡ spec.lists_open self.now.containers }
+    {
+        lists_among(self.outermost_first.as_slice())
+    }
+
+    /// An element of the innermost data set came.
+    pub fn reach(&mut self, tag: Tag)
+        ensures { self.new ≡ spec.reaching tag self.old }
+    {
+        match self.outermost_first.as_slice().last() {
+            Some(Open::Item(_)) => {
+                self.outermost_first.pop();
+                self.outermost_first.push(Open::Item(Some(tag)));
+            }
+            _ => self.top_reached = Some(tag),
+        }
+    }
+
+    /// A sequence or fragment list is opened.
+    pub fn enter_list(&mut self, list: Open)
+        requires list { is_list list ≡ true }
+        requires few { spec.lists_open self.old.containers < 64 }
+        ensures { self.new ≡ spec.entering list self.old }
+    {
+        self.outermost_first.push(list);
+    }
+
+    /// An item of the open sequence is opened.
+    pub fn enter_item(&mut self)
+        requires { spec.container_of self.old.containers ≡ a_sequence }
+        ensures { self.new ≡ spec.entering (Open.Item None) self.old }
+    {
+        self.outermost_first.push(Open::Item(None));
+    }
+
+    /// Goes into what a step opens, or out of what it ends.
+    pub fn take(&mut self, step: Step<'_>)
+        requires placed { has_place_in (spec.container_of self.old.containers) (step_of step) ≡ true }
+        requires few { is_opening (step_of step) ≡ true → spec.lists_open self.old.containers < 64 }
+        ensures { self.new ≡ spec.standing_with (step_of step.entry) self.old }
+    {
+        match step {
+            Step::Leaf(tag, _, _) => self.reach(tag),
+            Step::Sequence(tag, _) => {
+                self.reach(tag);
+                self.enter_list(Open::Sequence);
+            }
+            Step::FragmentList(tag, _) => {
+                self.reach(tag);
+                self.enter_list(Open::FragmentList);
+            }
+            Step::Item => self.enter_item(),
+            Step::Fragment(_) => {}
+            Step::ItemEnd | Step::SequenceEnd => {
+                self.outermost_first.pop();
+            }
+        }
+    }
+}

@@ -1,0 +1,146 @@
+-- The words of a tool, one after another.
+use Rattle.std.proofs.Common.{◌≡◌, ℕ, zero, suc, ◌<◌, ◌+◌, List, [], ◌∷◌, length, map, drop, get_or, Option, None, Some, Bool, true, false, cond, Result, Ok, Err, refl, sym, ◌∙◌, ap, arith, drop-cons, add-one, Bor}
+use Rattle.dcm_base.specs.declared.mode.Mode.TheVariants.{Short, Full}
+use Rattle.dcm_base.specs.declared.syntax.Syntax.TheVariants.{Implicit, Little, Big}
+use Rattle.std.specs.Prelude.{codes, bytes_eq}
+use Rattle.dcm_base.specs.declared.words.Word.{Word}
+use Rattle.dcm_base.specs.declared.words.Word.TheVariants.{Show, WholeFile, DataSet, Bare, Target, Limit, Accepted, Path, Unknown}
+use Rattle.dcm_base.specs.declared.words.Usage.{Usage}
+use Rattle.dcm_base.specs.declared.words.Usage.TheVariants.{AtWord}
+use Rattle.dcm_base.specs.declared.fault.WordFault.TheVariants.{UnknownOption, BadOptionValue}
+use Rattle.dcm_base.specs.Words.{Said, said_with, said_after, and_path, limit_of}
+use Rattle.dcm_words.specs.declared.words.Tool.{Tool}
+use Rattle.dcm_words.specs.declared.words.Tool.TheVariants as tools
+use Rattle.dcm_words.specs.declared.words.Paths.{Paths}
+use Rattle.dcm_words.specs.declared.words.Paths.TheVariants as paths
+use Rattle.dcm_words.specs.Words.{reader, given, limit_behind, PathsAre}
+
+abbrev texts : List (Bor (List ℕ)) → List (List ℕ)
+texts ws = map (λ w. w.now) ws
+
+-- words that go on
+abbrev pub goes : Word → Bool
+goes Unknown = false
+goes Limit = false
+goes _ = true
+
+next_word : (i : ℕ) (ws : List (Bor (List ℕ))) (d : Bor (List ℕ)) → i < length ws → texts (drop i ws) ≡ (get_or ws i d).now ∷ texts (drop (i + 1) ws)
+next_word i ws d h = rw (add-one, drop-cons ws i d)
+
+behind_one_more : (i : ℕ) (ws : List (Bor (List ℕ))) → drop 1 (texts (drop i ws)) ≡ texts (drop (suc i) ws)
+behind_one_more zero [] = refl
+behind_one_more zero (w ∷ ws) = refl
+behind_one_more (suc i) [] = refl
+behind_one_more (suc i) (w ∷ ws) = behind_one_more i ws
+
+behind_one : (i : ℕ) (ws : List (Bor (List ℕ))) → drop 1 (texts (drop i ws)) ≡ texts (drop (i + 1) ws)
+behind_one i ws = behind_one_more i ws ∙ ap (λ k. texts (drop k ws)) (sym (add-one i))
+
+module _ (read : List ℕ → Word) where
+  one_alone : (n : ℕ) (s : Said) (w : List ℕ) (x : Word) → read w ≡ x → goes x ≡ true → said_after read n s (w ∷ []) ≡ said_after read (suc n) (said_with x w s) []
+  one_alone n s w (Show m) e g = rw (e, said_after) refl
+  one_alone n s w WholeFile e g = rw (e, said_after) refl
+  one_alone n s w DataSet e g = rw (e, said_after) refl
+  one_alone n s w (Bare y) e g = rw (e, said_after) refl
+  one_alone n s w (Target y) e g = rw (e, said_after) refl
+  one_alone n s w Limit e g = cc
+  one_alone n s w Accepted e g = rw (e, said_after) refl
+  one_alone n s w Path e g = rw (e, said_after) refl
+  one_alone n s w Unknown e g = cc
+
+  one_before : (n : ℕ) (s : Said) (w v : List ℕ) (words : List (List ℕ)) (x : Word) → read w ≡ x → goes x ≡ true → said_after read n s (w ∷ v ∷ words) ≡ said_after read (suc n) (said_with x w s) (v ∷ words)
+  one_before n s w v words (Show m) e g = rw (e, said_after) refl
+  one_before n s w v words WholeFile e g = rw (e, said_after) refl
+  one_before n s w v words DataSet e g = rw (e, said_after) refl
+  one_before n s w v words (Bare y) e g = rw (e, said_after) refl
+  one_before n s w v words (Target y) e g = rw (e, said_after) refl
+  one_before n s w v words Limit e g = cc
+  one_before n s w v words Accepted e g = rw (e, said_after) refl
+  one_before n s w v words Path e g = rw (e, said_after) refl
+  one_before n s w v words Unknown e g = cc
+
+  one_word : (n : ℕ) (s : Said) (w : List ℕ) (words : List (List ℕ)) (x : Word) → read w ≡ x → goes x ≡ true → said_after read n s (w ∷ words) ≡ said_after read (suc n) (said_with x w s) words
+  one_word n s w [] x e g = one_alone n s w x e g
+  one_word n s w (v ∷ words) x e g = one_before n s w v words x e g
+
+  no_word : (n : ℕ) (s : Said) (w : List ℕ) (words : List (List ℕ)) → read w ≡ Unknown → said_after read n s (w ∷ words) ≡ Err (AtWord UnknownOption n)
+  no_word n s w [] e = rw (e, said_after) refl
+  no_word n s w (v ∷ words) e = rw (e, said_after) refl
+
+  pub goes_on : (i : ℕ) (ws : List (Bor (List ℕ))) (d : Bor (List ℕ)) (s : Said) (x : Word) → i < length ws → x ≡ read (get_or ws i d).now → goes x ≡ true
+      → said_after read (i + 2) s (texts (drop i ws)) ≡ said_after read (i + 1 + 2) (said_with x (get_or ws i d).now s) (texts (drop (i + 1) ws))
+  goes_on i ws d s x h p g =
+      let n : suc (i + 2) ≡ i + 1 + 2 = omega arith in
+      ap (λ (l : List (List ℕ)). said_after read (i + 2) s l) (next_word i ws d h)
+      ∙ (one_word (i + 2) s (get_or ws i d).now (texts (drop (i + 1) ws)) x (sym p) g
+      ∙ ap (λ (m : ℕ). said_after read m (said_with x (get_or ws i d).now s) (texts (drop (i + 1) ws))) n)
+
+  -- the word behind that for a limit is its value
+  limit_alone : (n : ℕ) (s : Said) (w : List ℕ) → read w ≡ Limit → said_after read n s (w ∷ []) ≡ Err (AtWord BadOptionValue n)
+  limit_alone n s w e = rw (e, said_after) refl
+
+  limit_bad : (n : ℕ) (s : Said) (w v : List ℕ) (words : List (List ℕ)) → read w ≡ Limit → limit_of v ≡ None → said_after read n s (w ∷ v ∷ words) ≡ Err (AtWord BadOptionValue n)
+  limit_bad n s w v words e l = rw (e, l, said_after) refl
+
+  limit_good : (n : ℕ) (s : Said) (w v : List ℕ) (words : List (List ℕ)) (limit : ℕ) → read w ≡ Limit → limit_of v ≡ Some limit → said_after read n s (w ∷ v ∷ words) ≡ said_after read (n + 2) (record s { limit = limit }) words
+  limit_good n s w v words limit e l = rw (e, l, said_after) refl
+
+  limit_goes : (n : ℕ) (s : Said) (w : List ℕ) (vs : List (List ℕ)) (limit : ℕ) → read w ≡ Limit → limit_behind n vs ≡ Ok limit → said_after read n s (w ∷ vs) ≡ said_after read (n + 2) (record s { limit = limit }) (drop 1 vs)
+  limit_goes n s w [] limit e l = absurd (cc)
+  limit_goes n s w (v ∷ words) limit e l = goes_by (limit_of v) refl l
+    where
+      goes_by : (o : Option ℕ) → limit_of v ≡ o → given n o ≡ Ok limit → said_after read n s (w ∷ v ∷ words) ≡ said_after read (n + 2) (record s { limit = limit }) words
+      goes_by None is l = absurd (cc)
+      goes_by (Some k) is l = let same : k ≡ limit = cc in limit_good n s w v words k e is ∙ ap (λ k. said_after read (n + 2) (record s { limit = k }) words) same
+
+  limit_stops : (n : ℕ) (s : Said) (w : List ℕ) (vs : List (List ℕ)) (u : Usage) → read w ≡ Limit → limit_behind n vs ≡ Err u → said_after read n s (w ∷ vs) ≡ Err u
+  limit_stops n s w [] u e l = let same : AtWord BadOptionValue n ≡ u = cc in limit_alone n s w e ∙ ap Err same
+  limit_stops n s w (v ∷ words) u e l = stops_by (limit_of v) refl l
+    where
+      stops_by : (o : Option ℕ) → limit_of v ≡ o → given n o ≡ Err u → said_after read n s (w ∷ v ∷ words) ≡ Err u
+      stops_by None is l = let same : AtWord BadOptionValue n ≡ u = cc in limit_bad n s w v words e is ∙ ap Err same
+      stops_by (Some k) is l = absurd (cc)
+
+  -- the turn of the loop that takes a limit and its value
+  pub limit_turn : {M : Result Said Usage} (i : ℕ) (ws : List (Bor (List ℕ))) (d : Bor (List ℕ)) (s t : Said) (limit : ℕ) → i < length ws → Limit ≡ read (get_or ws i d).now → limit_behind (i + 2) (texts (drop (i + 1) ws)) ≡ Ok limit
+      → record s { limit = limit } ≡ t → said_after read (i + 2) s (texts (drop i ws)) ≡ M → said_after read (i + 1 + 1 + 2) t (texts (drop (i + 1 + 1) ws)) ≡ M
+  limit_turn i ws d s t limit h p l e v =
+      let n : i + 1 + 1 + 2 ≡ i + 2 + 2 = omega arith in
+      ap (λ m. said_after read m t (texts (drop (i + 1 + 1) ws))) n
+      ∙ ap (λ r. said_after read (i + 2 + 2) t r) (sym (behind_one (i + 1) ws))
+      ∙ ap (λ u. said_after read (i + 2 + 2) u (drop 1 (texts (drop (i + 1) ws)))) (sym e)
+      ∙ sym (limit_goes (i + 2) s (get_or ws i d).now (texts (drop (i + 1) ws)) limit (sym p) l)
+      ∙ sym (ap (λ (r : List (List ℕ)). said_after read (i + 2) s r) (next_word i ws d h))
+      ∙ v
+
+  pub limit_refused : (i : ℕ) (ws : List (Bor (List ℕ))) (d : Bor (List ℕ)) (s : Said) (u : Usage) → i < length ws → Limit ≡ read (get_or ws i d).now → limit_behind (i + 2) (texts (drop (i + 1) ws)) ≡ Err u
+      → said_after read (i + 2) s (texts (drop i ws)) ≡ Err u
+  limit_refused i ws d s u h p l =
+      ap (λ (r : List (List ℕ)). said_after read (i + 2) s r) (next_word i ws d h)
+      ∙ limit_stops (i + 2) s (get_or ws i d).now (texts (drop (i + 1) ws)) u (sym p) l
+
+  pub stops : (i : ℕ) (ws : List (Bor (List ℕ))) (d : Bor (List ℕ)) (s : Said) → i < length ws → Unknown ≡ read (get_or ws i d).now
+      → said_after read (i + 2) s (texts (drop i ws)) ≡ Err (AtWord UnknownOption (i + 2))
+  stops i ws d s h p =
+      ap (λ (l : List (List ℕ)). said_after read (i + 2) s l) (next_word i ws d h)
+      ∙ no_word (i + 2) s (get_or ws i d).now (texts (drop (i + 1) ws)) (sym p)
+
+pub length-and_path : (ps : List (List ℕ)) (w : List ℕ) → length (and_path ps w) ≡ length ps + 1
+length-and_path [] w = refl
+length-and_path (p ∷ ps) w = omega (arith, length-and_path ps w)
+
+-- there were more than two paths
+pub more_than_two : (p : Paths) (ps : List (List ℕ)) → p ≡ paths.More → PathsAre p ps → 2 < length ps
+more_than_two paths.None ps e h = cc
+more_than_two (paths.One first) ps e h = cc
+more_than_two (paths.Two first second) ps e h = cc
+more_than_two paths.More ps e h = h
+
+-- one turn of the loop
+pub turn : {M : Result Said Usage} (read : List ℕ → Word) (i : ℕ) (ws : List (Bor (List ℕ))) (d : Bor (List ℕ)) (s t : Said) (x : Word) → i < length ws → x ≡ read (get_or ws i d).now → goes x ≡ true
+    → said_with x (get_or ws i d).now s ≡ t → said_after read (i + 2) s (texts (drop i ws)) ≡ M → said_after read (i + 1 + 2) t (texts (drop (i + 1) ws)) ≡ M
+turn read i ws d s t x h p g e v = ap (λ (u : Said). said_after read (i + 1 + 2) u (texts (drop (i + 1) ws))) (sym e) ∙ (sym (goes_on read i ws d s x h p g) ∙ v)
+
+-- the place that the next turn begins behind
+pub placed : {M : Result Said Usage} (read : List ℕ → Word) (k i : ℕ) (ws : List (Bor (List ℕ))) (s : Said) → k ≡ i → said_after read (i + 1 + 2) s (texts (drop (i + 1) ws)) ≡ M → said_after read (k + 1 + 2) s (texts (drop (k + 1) ws)) ≡ M
+placed read k i ws s e h = ap (λ j. said_after read (j + 1 + 2) s (texts (drop (j + 1) ws))) e ∙ h

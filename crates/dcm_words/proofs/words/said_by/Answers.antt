@@ -1,0 +1,54 @@
+use Rattle.std.proofs.Common.{sym, subst, ap, refl, get_or, ℕ, List, []}
+use Rattle.dcm_base.specs.Words.{and_path}
+use Rattle.dcm_words.specs.declared.words.Said.{Said}
+use Rattle.dcm_words.specs.Words.{reader, PathsAre, said_with_paths}
+use Rattle.dcm_words.proofs.WordLemmas.{placed, turn, limit_turn}
+use Rattle.dcm_words.proofs.words.said_by.Goals as goal
+use Rattle.dcm_words.proofs.words.said_by.Goals.{in-Show, in-WholeFile, in-DataSet, in-Bare, in-Target, in-Limit+in_ok-said-in-Limit, in-Accepted, in-Path}
+
+pub loop-i-preserved : goal.loop-i-preserved
+loop-i-preserved c =
+    let read = c.loop-i.invariant.read in
+    let word : List ℕ = (get_or c.args.words.now c.loop-i.i (record { ref_ptr = (0, 0); now = [] })).now in
+    elim c.match-word_of.branch [
+      | in-Show w ↦ record {
+        read = read;
+        paths = subst (λ (s : Said). PathsAre s.paths read) (sym w.said-is) c.loop-i.invariant.paths;
+        the_rest = placed _ _ _ _ _ w.i-is (turn (reader c.args.tool) c.loop-i.i c.args.words.now _ _ _ _ c.loop-i-test.true w.in-Show.ensures refl (ap (λ (s : Said). said_with_paths s read) (sym w.said-is)) c.loop-i.invariant.the_rest);
+      }
+      | in-WholeFile w ↦ record {
+        read = read;
+        paths = subst (λ (s : Said). PathsAre s.paths read) (sym w.said-is) c.loop-i.invariant.paths;
+        the_rest = placed _ _ _ _ _ w.i-is (turn (reader c.args.tool) c.loop-i.i c.args.words.now _ _ _ _ c.loop-i-test.true w.in-WholeFile.ensures refl (ap (λ (s : Said). said_with_paths s read) (sym w.said-is)) c.loop-i.invariant.the_rest);
+      }
+      | in-DataSet w ↦ record {
+        read = read;
+        paths = subst (λ (s : Said). PathsAre s.paths read) (sym w.said-is) c.loop-i.invariant.paths;
+        the_rest = placed _ _ _ _ _ w.i-is (turn (reader c.args.tool) c.loop-i.i c.args.words.now _ _ _ _ c.loop-i-test.true w.in-DataSet.ensures refl (ap (λ (s : Said). said_with_paths s read) (sym w.said-is)) c.loop-i.invariant.the_rest);
+      }
+      | in-Bare w ↦ record {
+        read = read;
+        paths = subst (λ (s : Said). PathsAre s.paths read) (sym w.said-is) c.loop-i.invariant.paths;
+        the_rest = placed _ _ _ _ _ w.i-is (turn (reader c.args.tool) c.loop-i.i c.args.words.now _ _ _ _ c.loop-i-test.true w.in-Bare.ensures refl (ap (λ (s : Said). said_with_paths s read) (sym w.said-is)) c.loop-i.invariant.the_rest);
+      }
+      | in-Target w ↦ record {
+        read = read;
+        paths = subst (λ (s : Said). PathsAre s.paths read) (sym w.said-is) c.loop-i.invariant.paths;
+        the_rest = placed _ _ _ _ _ w.i-is (turn (reader c.args.tool) c.loop-i.i c.args.words.now _ _ _ _ c.loop-i-test.true w.in-Target.ensures refl (ap (λ (s : Said). said_with_paths s read) (sym w.said-is)) c.loop-i.invariant.the_rest);
+      }
+      | in-Accepted w ↦ record {
+        read = read;
+        paths = subst (λ (s : Said). PathsAre s.paths read) (sym w.said-is) c.loop-i.invariant.paths;
+        the_rest = placed _ _ _ _ _ w.i-is (turn (reader c.args.tool) c.loop-i.i c.args.words.now _ _ _ _ c.loop-i-test.true w.in-Accepted.ensures refl (ap (λ (s : Said). said_with_paths s read) (sym w.said-is)) c.loop-i.invariant.the_rest);
+      }
+      | in-Path w ↦ record {
+        read = and_path read word;
+        paths = subst (λ (s : Said). PathsAre s.paths (and_path read word)) (sym w.said-is) (w.and_path-said.ensures read c.loop-i.invariant.paths);
+        the_rest = placed _ _ _ _ _ w.i-is (turn (reader c.args.tool) c.loop-i.i c.args.words.now _ _ _ _ c.loop-i-test.true w.in-Path.ensures refl (ap (λ (s : Said). said_with_paths s (and_path read word)) (sym w.said-is)) c.loop-i.invariant.the_rest);
+      }
+      | in-Limit+in_ok-said-in-Limit w ↦ record {
+        read = read;
+        paths = subst (λ (s : Said). PathsAre s.paths read) (sym w.said-is) c.loop-i.invariant.paths;
+        the_rest = placed _ _ _ _ _ w.i-is (limit_turn (reader c.args.tool) c.loop-i.i c.args.words.now _ _ _ _ c.loop-i-test.true w.in-Limit.ensures w.in_ok-said-in-Limit.ensures (ap (λ (s : Said). said_with_paths s read) (sym w.said-is)) c.loop-i.invariant.the_rest);
+      }
+    ]

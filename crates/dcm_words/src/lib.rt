@@ -1,0 +1,8 @@
+//! The words of a command line, and the jobs that they mean.
+#![tactic(auto)]
+
+mod job;
+mod words;
+
+pub use job::{Build, Convert, Dump, Job, Planned};
+pub use words::plan;

@@ -1,0 +1,293 @@
+// The words of a command line.
+ghost use Rattle.std.specs.Prelude.{◌≡◌, ◌+◌, ◌<◌, List, ℕ, drop, length, map, option_map, IfSome};
+ghost use Rattle.dcm_base.specs.ReadValue.{digit as spec_digit, number_in};
+ghost use Rattle.dcm_base.specs.Words as spec;
+ghost use Rattle.dcm_words.specs.Words.{meant, reader, job_of, capped, limit_behind as said_limit, LimitAs, Gives, PathsAre, SaidAs};
+
+use crate::job::{Build, Convert, Dump, Job, Planned};
+use dcm_base::{Mode, Syntax, Usage, Word, WordFault};
+use std::alloc::Global;
+
+/// The path of a standard stream.
+const STANDARD: &[u8] = b"-";
+
+/// The most bytes that a line may have without an option, and the limits that an option may give.
+const USUAL_LIMIT: usize = 4096;
+
+const LEAST_LIMIT: usize = 80;
+
+const GREATEST_LIMIT: usize = 16_384;
+
+/// A tool whose words are options and paths.
+#[derive(Clone, Copy, Debug, PartialEq, Eq)]
+enum Tool {
+    Dump,
+    Convert,
+    Build,
+}
+
+/// The paths among the words so far, in their order.
+#[derive(Clone, Copy)]
+enum Paths<'a> {
+    None,
+    One(&'a [u8]),
+    Two(&'a [u8], &'a [u8]),
+    More,
+}
+
+/// What the words so far have said; of two that exclude each other the last counts.
+#[derive(Clone, Copy)]
+struct Said<'a> {
+    mode: Mode,
+    data_set: bool,
+    bare: Option<Syntax>,
+    target: Option<Syntax>,
+    build: Build,
+    paths: Paths<'a>,
+}
+
+/// A path, unless the word has the form of an option.
+fn other_word(word: &[u8]) -> Word
+    ensures { result ≡ spec.other_word word.now }
+{
+    if word == b"-".as_slice() {
+        Word::Path
+    } else if word.is_empty() {
+        Word::Path
+    } else if word[0] == b'-' || word[0] == b'+' {
+        Word::Unknown
+    } else {
+        Word::Path
+    }
+}
+
+fn dump_word(word: &[u8]) -> Word
+    ensures { result ≡ spec.dump_word word.now }
+{
+    if word == b"-L".as_slice() {
+        Word::Show(Mode::Short)
+    } else if word == b"+L".as_slice() {
+        Word::Show(Mode::Full)
+    } else if word == b"+fo".as_slice() {
+        Word::WholeFile
+    } else if word == b"-f".as_slice() {
+        Word::DataSet
+    } else if word == b"-ti".as_slice() {
+        Word::Bare(Syntax::Implicit)
+    } else if word == b"-te".as_slice() {
+        Word::Bare(Syntax::Little)
+    } else if word == b"-tb".as_slice() {
+        Word::Bare(Syntax::Big)
+    } else {
+        other_word(word)
+    }
+}
+
+fn convert_word(word: &[u8]) -> Word
+    ensures { result ≡ spec.convert_word word.now }
+{
+    if word == b"+t=".as_slice() {
+        Word::Target(None)
+    } else if word == b"+ti".as_slice() {
+        Word::Target(Some(Syntax::Implicit))
+    } else if word == b"+te".as_slice() {
+        Word::Target(Some(Syntax::Little))
+    } else if word == b"+tb".as_slice() {
+        Word::Target(Some(Syntax::Big))
+    } else if word == b"-e".as_slice() {
+        Word::Accepted
+    } else if word == b"+fo".as_slice() {
+        Word::Accepted
+    } else {
+        other_word(word)
+    }
+}
+
+fn build_word(word: &[u8]) -> Word
+    ensures { result ≡ spec.build_word word.now }
+{
+    if word == b"+l".as_slice() {
+        Word::Limit
+    } else if word == b"-e".as_slice() {
+        Word::Accepted
+    } else {
+        other_word(word)
+    }
+}
+
+/// What a word says to a tool.
+fn word_of(tool: Tool, word: &[u8]) -> Word
+    ensures { result ≡ reader tool word.now }
+{
+    match tool {
+        Tool::Dump => dump_word(word),
+        Tool::Convert => convert_word(word),
+        Tool::Build => build_word(word),
+    }
+}
+
+fn decimal_digit(byte: u8) -> Option<usize>
+    ensures value { result ≡ spec_digit 10 byte }
+    ensures below { IfSome result (λ d. d < 10) }
+{
+    match byte {
+        b'0'..=b'9' => Some(usize::from(byte - b'0')),
+        _ => None,
+    }
+}
+
+/// The number that digits spell, or one past the greatest limit where it is higher.
+fn limited_number(digits: &[u8]) -> Option<usize>
+    ensures { result ≡ option_map capped (number_in 10 0 digits.now) }
+{
+    let mut number = 0;
+    for byte in digits {
+        number = (10 * number + decimal_digit(*byte)?).min(GREATEST_LIMIT + 1);
+    }
+    Some(number)
+}
+
+/// The limit of a line that a word gives.
+fn limit_of(word: &[u8]) -> Option<Build>
+    ensures { option_map (λ b. b.limit) result ≡ spec.limit_of word.now }
+{
+    let limit = limited_number(word)?;
+    if limit < LEAST_LIMIT || limit > GREATEST_LIMIT {
+        return None;
+    }
+    Some(Build { limit })
+}
+
+/// The limit that the word behind this place gives.
+fn limit_behind(words: &[&[u8]], place: usize) -> Result<Build, Usage>
+    requires { place < length words.now }
+    ensures { LimitAs result (said_limit (place + 2) (map (λ w. w.now) (drop (place + 1) words.now))) }
+{
+    match words.get(place + 1) {
+        Some(word) => limit_of(word).ok_or(Usage::AtWord(WordFault::BadOptionValue, place + 2)),
+        None => Err(Usage::AtWord(WordFault::BadOptionValue, place + 2)),
+    }
+}
+
+/// The paths so far, and one behind them.
+fn and_path<'a>(paths: Paths<'a>, path: &'a [u8]) -> Paths<'a>
+    ensures { (ps : List (List ℕ)) → PathsAre paths.entry ps → PathsAre result (spec.and_path ps path.now) }
+{
+    match paths {
+        Paths::None => Paths::One(path),
+        Paths::One(first) => Paths::Two(first, path),
+        Paths::Two(_, _) => Paths::More,
+        Paths::More => Paths::More,
+    }
+}
+
+/// What the words behind a tool's name have said, or the first refusal.
+fn said_by<'a>(tool: Tool, words: &'a [&'a [u8]]) -> Result<Said<'a>, Usage>
+    ensures { SaidAs result (spec.said_by (reader tool) (map (λ w. w.now) words.now)) }
+{
+    let mut said: Said<'a> = Said {
+        mode: Mode::Short,
+        data_set: false,
+        bare: None,
+        target: None,
+        build: Build { limit: USUAL_LIMIT },
+        paths: Paths::None,
+    };
+    let mut i = 0;
+    while i < words.len() {
+        let word = words[i];
+        match word_of(tool, word) {
+            Word::Show(mode) => said.mode = mode,
+            Word::WholeFile => said.data_set = false,
+            Word::DataSet => said.data_set = true,
+            Word::Bare(syntax) => said.bare = Some(syntax),
+            Word::Target(syntax) => said.target = syntax,
+            Word::Limit => {
+                said.build = limit_behind(words, i)?;
+                i += 1;
+            }
+            Word::Accepted => {}
+            Word::Path => said.paths = and_path(said.paths, word),
+            Word::Unknown => return Err(Usage::AtWord(WordFault::UnknownOption, i + 2)),
+        }
+        i += 1;
+    }
+    Ok(said)
+}
+
+/// What the words of dcmdump behind its name mean, or the first refusal.
+fn plan_dump<'a>(words: &'a [&'a [u8]]) -> Result<Planned<'a>, Usage>
+    ensures { Gives result (spec.dump_plan (map (λ w. w.now) words.now)) }
+{
+    let said = said_by(Tool::Dump, words)?;
+    let input = match said.paths {
+        Paths::One(input) if !input.is_empty() => input,
+        _ => return Err(Usage::Whole(WordFault::WrongPaths)),
+    };
+    if said.data_set != said.bare.is_some() {
+        return Err(Usage::Whole(WordFault::OptionsApart));
+    }
+    Ok(Planned {
+        input,
+        output: STANDARD,
+        job: Job::Dump(Dump {
+            mode: said.mode,
+            bare: said.bare,
+        }),
+    })
+}
+
+/// A job from one path to another, unless they are the same.
+fn plan_if_apart<'a>(input: &'a [u8], output: &'a [u8], job: Job) -> Result<Planned<'a>, Usage>
+    ensures { Gives result (spec.plan_if_apart input.now output.now (job_of job)) }
+{
+    if input == output && input != STANDARD {
+        return Err(Usage::Whole(WordFault::SamePath));
+    }
+    Ok(Planned { input, output, job })
+}
+
+/// A job with an input and an output.
+fn plan_with_two<'a>(paths: Paths<'a>, job: Job) -> Result<Planned<'a>, Usage>
+    ensures { (ps : List (List ℕ)) → PathsAre paths.entry ps → Gives result (spec.plan_with_two ps (job_of job)) }
+{
+    match paths {
+        Paths::Two(input, output) if !input.is_empty() && !output.is_empty() => {
+            plan_if_apart(input, output, job)
+        }
+        _ => Err(Usage::Whole(WordFault::WrongPaths)),
+    }
+}
+
+/// What the words of dcmconv behind its name mean, or the first refusal.
+fn plan_convert<'a>(words: &'a [&'a [u8]]) -> Result<Planned<'a>, Usage>
+    ensures { Gives result (spec.convert_plan (map (λ w. w.now) words.now)) }
+{
+    let said = said_by(Tool::Convert, words)?;
+    plan_with_two(
+        said.paths,
+        Job::Convert(Convert {
+            target: said.target,
+        }),
+    )
+}
+
+/// What the words of dump2dcm behind its name mean, or the first refusal.
+fn plan_build<'a>(words: &'a [&'a [u8]]) -> Result<Planned<'a>, Usage>
+    ensures { Gives result (spec.build_plan (map (λ w. w.now) words.now)) }
+{
+    let said = said_by(Tool::Build, words)?;
+    plan_with_two(said.paths, Job::Build(said.build))
+}
+
+/// The job that the words behind the program's name mean, with the paths borrowed from them, or the first refusal.
+pub fn plan<'a>(_alloc: Global, words: &'a [&'a [u8]]) -> Result<Planned<'a>, Usage>
+    ensures { Gives result (meant (map (λ w. w.now) words.now)) }
+{
+    match words {
+        [tool, rest @ ..] if *tool == b"dcmdump".as_slice() => plan_dump(rest),
+        [tool, rest @ ..] if *tool == b"dcmconv".as_slice() => plan_convert(rest),
+        [tool, rest @ ..] if *tool == b"dump2dcm".as_slice() => plan_build(rest),
+        _ => Err(Usage::AtWord(WordFault::UnknownTool, 1)),
+    }
+}
