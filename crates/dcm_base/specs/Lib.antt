@@ -24,15 +24,10 @@ pub mod Header
 pub mod Recode
 pub mod Normal
 pub mod NewMeta
-pub mod Edit
 pub mod Ascending
-pub mod Overlap
-pub mod Together
 pub mod ReadValue
 pub mod Line
 pub mod Build
-pub mod EditWords
-pub mod Words
 pub mod Atoms
 pub mod Device
 pub mod Steps

@@ -18,7 +18,6 @@ mod transfer;
 mod uid;
 mod vr;
 mod watched;
-mod words;
 
 pub use calls::{flush_out, get_some, put_all, put_decimal, put_parts};
 pub use device::{Device, DeviceIn, DeviceOut, ReadFailed, WriteFailed};
@@ -36,4 +35,3 @@ pub use transfer::{Deflated, coding_of};
 pub use uid::{uid_name, uid_of};
 pub use vr::{Vr, vr_of};
 pub use watched::Watched;
-pub use words::{Usage, Word};

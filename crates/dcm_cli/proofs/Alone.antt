@@ -11,7 +11,7 @@ use Rattle.dcm_base.specs.Front.{Front}
 use Rattle.dcm_base.specs.Reads.{Reads}
 use Rattle.dcm_base.specs.Header.{set_header}
 use Rattle.dcm_base.specs.Stop.{Stop}
-use Rattle.dcm_base.specs.Words.{dump}
+use Rattle.dcm_words.specs.Words.{dump}
 use Rattle.dcm_base.proofs.Puts.{append_known_twice, front_longer, puts_behind}
 use Rattle.dcm_stream.specs.Reading.{start_of}
 use Rattle.dcm_tools.specs.DumpSink.{dump_start, dump_step, dump_writes, bars_nothing}

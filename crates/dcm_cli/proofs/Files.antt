@@ -17,7 +17,7 @@ use Rattle.dcm_base.specs.MetaReads.{Meta, MetaReads, refused, PREFIX}
 use Rattle.dcm_base.specs.NewMeta.{new_meta}
 use Rattle.dcm_base.specs.Recode.{recode}
 use Rattle.dcm_base.specs.Reads.{INPUT_LIMIT, Reads}
-use Rattle.dcm_base.specs.Words.{Job, dump, convert, build, modify}
+use Rattle.dcm_words.specs.Words.{Job, dump, convert, build, modify}
 use Rattle.dcm_base.proofs.Puts.{append_known_twice, append_known_none, front_longer, puts_behind}
 use Rattle.dcm_head.specs.declared.meta_read.MetaEnd.{MetaEnd}
 use Rattle.dcm_head.specs.declared.meta_read.MetaEnd.TheVariants as meta_end

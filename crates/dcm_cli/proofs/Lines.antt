@@ -6,7 +6,7 @@ use Rattle.dcm_base.specs.Build as build
 use Rattle.dcm_base.specs.Build.{Told}
 use Rattle.dcm_base.specs.Device.{AppendsFront}
 use Rattle.dcm_base.specs.Steps.{outputs, Goes}
-use Rattle.dcm_base.specs.Words.{build as building}
+use Rattle.dcm_words.specs.Words.{build as building}
 use Rattle.dcm_base.proofs.Puts.{append_known_twice, front_longer, puts_behind}
 use Rattle.dcm_base.proofs.Runs.{outputs-append, goes_on}
 use Rattle.dcm_stream.specs.Machine.{well, TellsFailed}

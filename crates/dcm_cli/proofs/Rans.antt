@@ -4,10 +4,10 @@ use Rattle.std.proofs.lemmas.List.{append-nil}
 use Rattle.std.specs.Io.KnownBytes.{append_known}
 use Rattle.dcm_base.specs.Build as build
 use Rattle.dcm_base.specs.Device.{AppendsFront}
-use Rattle.dcm_base.specs.Edit.{Edit}
+use Rattle.dcm_edit.specs.Edit.{Edit}
 use Rattle.dcm_base.specs.Front.{Front}
 use Rattle.dcm_base.specs.Stop.{Stop, complete, refused}
-use Rattle.dcm_base.specs.Words.{Job, dump, convert, build as building}
+use Rattle.dcm_words.specs.Words.{Job, dump, convert, build as building}
 use Rattle.dcm_words.specs.declared.job.Job.{Job as RunJob}
 use Rattle.dcm_words.specs.declared.job.Job.TheVariants.{Dump, Convert, Build}
 use Rattle.dcm_cli.specs.declared.ending.Ending.{Ending}
@@ -16,7 +16,7 @@ use Rattle.dcm_cli.specs.Answer.{Answer, Answers, Source, unopened, file, alone,
 use Rattle.dcm_cli.specs.Pass.{TellsUnread, TellsOutput}
 use Rattle.dcm_cli.specs.Run.{Answered, ReadEnds, BuildEnds, Worked, answered, could_not_read, could_not_write, FlushedAs, ending_of_stop, ending_of_source, ending_of_told, ending_line, ending_status, Ran, as_answered, not_read, not_written, Devices}
 use Rattle.dcm_cli.specs.Told.{Tries}
-use Rattle.dcm_words.specs.Words.{job_of}
+use Rattle.dcm_words.specs.Plans.{job_of}
 
 -- the answer of an input that was read
 output_is : (job : Job) (source : Source) → output_of job source ≡ (answer job source).output

@@ -13,7 +13,7 @@ use Rattle.dcm_base.specs.Header.{set_header}
 use Rattle.dcm_base.specs.MetaReads.{Meta, MetaAnswer, MetaReads, begins, refused as meta_refused, is_undecided as meta_undecided}
 use Rattle.dcm_base.specs.Reads.{INPUT_LIMIT, Reads, ended}
 use Rattle.dcm_base.specs.Stop.{Bar, Stop, refused}
-use Rattle.dcm_base.specs.Words.{Job, dump, convert, build as building}
+use Rattle.dcm_words.specs.Words.{Job, dump, convert, build as building}
 use Rattle.dcm_base.proofs.Reading.{reads_once}
 use Rattle.dcm_head.specs.declared.meta_read.MetaEnd.{MetaEnd}
 use Rattle.dcm_head.specs.MetaReading.{Reading, HasEnded, Says, meta_finished}
@@ -26,7 +26,7 @@ use Rattle.dcm_stream.proofs.Driven.{waits_as, drives_as}
 use Rattle.dcm_stream.proofs.Follow.{follows}
 use Rattle.dcm_words.specs.declared.job.Job.{Job as RunJob}
 use Rattle.dcm_words.specs.declared.job.Job.TheVariants.{Dump, Convert, Build}
-use Rattle.dcm_words.specs.Words.{job_of}
+use Rattle.dcm_words.specs.Plans.{job_of}
 use Rattle.dcm_cli.specs.Answer.{Answer, Answers, Sure, ReadAnswers, Source, answer, going_on, job_bar, refuses_change, file_output, uid_of_syntax, AloneReads, AloneSure, FileReads, FileSure, not_opened, not_changed, opened as was_opened, before_set, within_set}
 use Rattle.dcm_cli.specs.Pass.{head_read}
 use Rattle.dcm_cli.proofs.Makers.{Maker, dumper, made, made_output, last_output, more_made, made_behind}

@@ -4,7 +4,7 @@ use Rattle.std.specs.Io.KnownBytes.{append_known}
 use Rattle.dcm_base.specs.Build as build
 use Rattle.dcm_base.specs.Device.{AppendsFront}
 use Rattle.dcm_base.specs.Stop.{Stop, complete, refused}
-use Rattle.dcm_base.specs.Words.{Job, build as building}
+use Rattle.dcm_words.specs.Words.{Job, build as building}
 use Rattle.dcm_build.specs.Builder.{told_of}
 use Rattle.dcm_cli.specs.declared.ending.Ending.{Ending}
 use Rattle.dcm_cli.specs.declared.ending.Ending.TheVariants.{Done, Refused, RefusedLine, Unread, Output}

@@ -4,8 +4,8 @@ use Rattle.std.specs.Io.KnownBytes.{append_known}
 use Rattle.dcm_base.specs.declared.fault.Stop.{Stop}
 use Rattle.dcm_base.specs.Device.{AppendsFront}
 use Rattle.dcm_base.specs.Fault.{fault_number, fault_text, edit_refusal_number, edit_refusal_text, word_fault_number, word_fault_text}
-use Rattle.dcm_base.specs.declared.words.Usage.{Usage}
-use Rattle.dcm_base.specs.declared.words.Usage.TheVariants.{AtWord, Whole, InEdit, Memory}
+use Rattle.dcm_words.specs.declared.usage.Usage.{Usage}
+use Rattle.dcm_words.specs.declared.usage.Usage.TheVariants.{AtWord, Whole, InEdit, Memory}
 
 -- a line was told, or the writer failed in the call and has a beginning of it
 abbrev pub Tries : Option (List ℕ) → Option (List ℕ) → Bool → Bool → List ℕ → Type 0

@@ -1,6 +1,6 @@
 // The building of a file from the lines of a dump.
 ghost use Rattle.std.specs.Prelude.{◌≡◌, ◌≤◌, ◌<◌, ℕ, List, length, Some, false};
-ghost use Rattle.dcm_base.specs.Words.{build as build_job};
+ghost use Rattle.dcm_words.specs.Words.{build as build_job};
 ghost use Rattle.dcm_build.specs.Builder as builder_spec;
 ghost use Rattle.dcm_cli.specs.Lines as lines;
 ghost use Rattle.dcm_cli.specs.Pass as spec;

@@ -5,7 +5,7 @@ ghost use Rattle.dcm_base.specs.declared.syntax.Syntax.{Syntax};
 ghost use Rattle.dcm_base.specs.Device.{Puts, Tells};
 ghost use Rattle.dcm_base.specs.MetaReads.{Meta as FileMeta, PREFIX as prefix};
 ghost use Rattle.dcm_base.specs.NewMeta.{new_meta};
-ghost use Rattle.dcm_base.specs.Words.{convert as convert_job};
+ghost use Rattle.dcm_words.specs.Words.{convert as convert_job};
 ghost use Rattle.dcm_head.specs.MetaReading.{HasEnded, group_of, uid_of};
 ghost use Rattle.dcm_head.specs.Rewriting.{OfElements};
 ghost use Rattle.dcm_stream.specs.Reading.{start_of};

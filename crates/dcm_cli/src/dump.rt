@@ -2,7 +2,7 @@
 ghost use Rattle.std.specs.Prelude.{◌≡◌, ◌≤◌, ◌<◌, ℕ, List, length, None, Some};
 ghost use Rattle.dcm_base.specs.declared.mode.Mode.{Mode};
 ghost use Rattle.dcm_base.specs.declared.syntax.Syntax.{Syntax};
-ghost use Rattle.dcm_base.specs.Words.{dump as dump_job};
+ghost use Rattle.dcm_words.specs.Words.{dump as dump_job};
 ghost use Rattle.dcm_cli.specs.Pass as spec;
 ghost use Rattle.dcm_cli.specs.Run.{Worked};
 

@@ -1,7 +1,7 @@
 //! Laws of the definitions. Each function takes nothing and makes no call: its contract is the law.
 ghost use Rattle.dcm_words.specs.declared.job.Job.{Job};
 ghost use Rattle.dcm_cli.specs.Answer.{Answer, Answers, Sure};
-ghost use Rattle.dcm_words.specs.Words.{job_of};
+ghost use Rattle.dcm_words.specs.Plans.{job_of};
 ghost use Rattle.std.specs.Prelude.{◌++◌, ◌≡◌, List, ℕ};
 
 /// What is sure of a beginning of an input is a beginning of the output for every input that begins so.

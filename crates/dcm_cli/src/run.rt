@@ -3,7 +3,7 @@ ghost use Rattle.std.specs.Prelude.{◌≡◌, ◌≤◌, ◌⊎◌, ◌↔◌, 
 ghost use Rattle.dcm_cli.specs.Pass.{TellsUnread, TellsOutput};
 ghost use Rattle.dcm_cli.specs.Run as spec;
 ghost use Rattle.dcm_cli.specs.Told.{Tries};
-ghost use Rattle.dcm_words.specs.Words.{job_of};
+ghost use Rattle.dcm_words.specs.Plans.{job_of};
 
 use crate::build::build;
 use crate::convert::convert;

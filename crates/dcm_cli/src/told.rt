@@ -6,8 +6,9 @@ ghost use Rattle.dcm_cli.specs.Answer as answer;
 ghost use Rattle.dcm_cli.specs.Told as spec;
 
 use arrayvec::ArrayVec;
-use dcm_base::{DeviceOut, Stop, Usage, Watched, put_all};
+use dcm_base::{DeviceOut, Stop, Watched, put_all};
 use dcm_build::LineStop;
+use dcm_words::Usage;
 use itoa::Buffer;
 
 /// The status of words that are refused.

@@ -2,7 +2,7 @@
 use Rattle.std.proofs.Common.{◌≡◌, ℕ, suc, ◌+◌, ◌*◌, List, [], ◌∷◌, drop, length, ◌<◌, get_or, Option, Some, None, option_map, refl, ap, sym, ◌∙◌, arith, drop-cons, add-one}
 use Rattle.std.proofs.lemmas.Bool.Decides.{nat_tests}
 use Rattle.dcm_base.specs.ReadValue.{◌>>=◌, digit, number_in}
-use Rattle.dcm_words.specs.Words.{capped}
+use Rattle.dcm_words.specs.Plans.{capped}
 
 cap_step : (n m d : ℕ) → capped n ≡ capped m → capped (n * 10 + d) ≡ capped (m * 10 + d)
 cap_step n m d e = grind (arith, nat_tests, e)

@@ -1,80 +1,221 @@
--- What a function made of the words of a command line.
-use Rattle.std.specs.Prelude.{◌≡◌, ℕ, ◌+◌, ◌<◌, nat_le, List, [], ◌∷◌, length, Option, Some, None, Result, Ok, Err, if◌then◌else◌, codes, bytes_eq}
-use Rattle.dcm_base.specs.declared.words.Usage.{Usage}
-use Rattle.dcm_base.specs.declared.words.Usage.TheVariants.{AtWord}
-use Rattle.dcm_base.specs.declared.words.Word.{Word}
-use Rattle.dcm_base.specs.declared.fault.WordFault.TheVariants.{UnknownTool, BadOptionValue}
-use Rattle.dcm_base.specs.Words as words
-use Rattle.dcm_words.specs.declared.job.Build.{Build}
-use Rattle.dcm_words.specs.declared.job.Job.{Job}
-use Rattle.dcm_words.specs.declared.job.Job.TheVariants as jobs
-use Rattle.dcm_words.specs.declared.job.Planned.{Planned}
-use Rattle.dcm_words.specs.declared.words.Tool.{Tool}
-use Rattle.dcm_words.specs.declared.words.Tool.TheVariants as tools
-use Rattle.dcm_words.specs.declared.words.Paths.{Paths}
-use Rattle.dcm_words.specs.declared.words.Paths.TheVariants as paths
-use Rattle.dcm_words.specs.declared.words.Said.{Said}
+-- What the words of a command line mean.
+use Rattle.std.specs.Prelude.{ℕ, suc, ◌+◌, List, [], ◌∷◌, Option, Some, None, Result, Ok, Err, Bool, true, false, ◌||◌, ◌&&◌, not, ◌==◌, nat_le, if◌then◌else◌, codes, bytes_eq}
+use Rattle.std.specs.Option.{is_some}
+use Rattle.std.specs.Str.{byte}
+use Rattle.dcm_base.specs.declared.syntax.Syntax.{Syntax}
+use Rattle.dcm_base.specs.declared.syntax.Syntax.TheVariants.{Implicit, Little, Big}
+use Rattle.dcm_base.specs.declared.mode.Mode.{Mode}
+use Rattle.dcm_base.specs.declared.mode.Mode.TheVariants.{Short, Full}
+use Rattle.dcm_base.specs.declared.fault.WordFault.TheVariants.{UnknownTool, UnknownOption, BadOptionValue, WrongPaths, OptionsApart, SamePath}
+use Rattle.dcm_words.specs.declared.usage.Word.{Word}
+use Rattle.dcm_words.specs.declared.usage.Word.TheVariants.{Show, WholeFile, DataSet, Bare, Target, Limit, Accepted, Path, Unknown}
+use Rattle.dcm_words.specs.declared.usage.Usage.{Usage}
+use Rattle.dcm_words.specs.declared.usage.Usage.TheVariants.{AtWord, Whole, InEdit}
+use Rattle.dcm_base.specs.ReadValue.{number_in}
+use Rattle.dcm_edit.specs.Edit.{Edit}
+use Rattle.dcm_edit.specs.EditWords.{meant_edits}
 
--- the words behind the program's name, as far as the tools are there
-abbrev pub meant : List (List ℕ) → Result words.Plan Usage
+-- what a tool is to do
+pub data Job : Type 0 where
+  dump : (mode : Mode) (bare : Option Syntax) → Job
+  convert : (target : Option Syntax) → Job
+  build : (limit : ℕ) → Job
+  modify : (edits : List Edit) → Job
+
+pub record Plan : Type 0 where
+  pub input : List ℕ
+  pub output : List ℕ
+  pub job : Job
+
+-- ---- words
+
+-- standard input or output
+abbrev pub standard : List ℕ
+standard = codes "-"
+
+abbrev pub is_option : List ℕ → Bool
+is_option [] = false
+is_option (c ∷ cs) = not (bytes_eq (c ∷ cs) standard) && (c == byte "-" || c == byte "+")
+
+abbrev pub other_word : List ℕ → Word
+other_word w = if is_option w then Unknown else Path
+
+abbrev pub dump_word : List ℕ → Word
+dump_word w =
+    if bytes_eq w (codes "-L") then Show Short
+    else if bytes_eq w (codes "+L") then Show Full
+    else if bytes_eq w (codes "+fo") then WholeFile
+    else if bytes_eq w (codes "-f") then DataSet
+    else if bytes_eq w (codes "-ti") then Bare Implicit
+    else if bytes_eq w (codes "-te") then Bare Little
+    else if bytes_eq w (codes "-tb") then Bare Big
+    else other_word w
+
+abbrev pub convert_word : List ℕ → Word
+convert_word w =
+    if bytes_eq w (codes "+t=") then Target None
+    else if bytes_eq w (codes "+ti") then Target (Some Implicit)
+    else if bytes_eq w (codes "+te") then Target (Some Little)
+    else if bytes_eq w (codes "+tb") then Target (Some Big)
+    else if bytes_eq w (codes "-e") then Accepted
+    else if bytes_eq w (codes "+fo") then Accepted
+    else other_word w
+
+abbrev pub build_word : List ℕ → Word
+build_word w =
+    if bytes_eq w (codes "+l") then Limit
+    else if bytes_eq w (codes "-e") then Accepted
+    else other_word w
+
+-- the limits that a line may have, and the one that it has without an option
+abbrev pub LEAST_LIMIT : ℕ
+LEAST_LIMIT = 80
+
+abbrev pub GREATEST_LIMIT : ℕ
+GREATEST_LIMIT = 16384
+
+abbrev pub USUAL_LIMIT : ℕ
+USUAL_LIMIT = 4096
+
+abbrev pub limit_within : Option ℕ → Option ℕ
+limit_within None = None
+limit_within (Some n) = if nat_le LEAST_LIMIT n && nat_le n GREATEST_LIMIT then Some n else None
+
+-- the number that digits spell, leading zeros allowed
+abbrev pub limit_of : List ℕ → Option ℕ
+limit_of w = limit_within (number_in 10 0 w)
+
+-- ---- the words of dcmdump, dcmconv and dump2dcm
+
+-- what the words so far have said; of two that exclude each other the last counts
+pub record Said : Type 0 where
+  pub mode : Mode
+  pub data_set : Bool
+  pub bare : Option Syntax
+  pub target : Option Syntax
+  pub limit : ℕ
+  pub paths : List (List ℕ)
+
+abbrev pub nothing_said : Said
+nothing_said = record { mode = Short; data_set = false; bare = None; target = None; limit = USUAL_LIMIT; paths = [] }
+
+-- paths are kept in the order of the words
+abbrev pub and_path : List (List ℕ) → List ℕ → List (List ℕ)
+and_path [] w = w ∷ []
+and_path (p ∷ ps) w = p ∷ and_path ps w
+
+abbrev pub said_with : Word → List ℕ → Said → Said
+said_with (Show mode) w s = record s { mode = mode }
+said_with WholeFile w s = record s { data_set = false }
+said_with DataSet w s = record s { data_set = true }
+said_with (Bare syntax) w s = record s { bare = Some syntax }
+said_with (Target syntax) w s = record s { target = syntax }
+said_with Path w s = record s { paths = and_path s.paths w }
+said_with _ w s = s
+
+-- the words from number n on, after what the ones before have said; the word behind that for a limit is its value
+abbrev pub said_after : (List ℕ → Word) → ℕ → Said → List (List ℕ) → Result Said Usage
+said_after read n s [] = Ok s
+said_after read n s (w ∷ []) = elim (read w) [
+  | Unknown ↦ Err (AtWord UnknownOption n)
+  | Limit ↦ Err (AtWord BadOptionValue n)
+  | word ↦ Ok (said_with word w s)
+]
+said_after read n s (w ∷ v ∷ words) = elim (read w) [
+  | Unknown ↦ Err (AtWord UnknownOption n)
+  | Limit ↦ elim (limit_of v) [ None ↦ Err (AtWord BadOptionValue n) | Some limit ↦ said_after read (n + 2) (record s { limit = limit }) words ]
+  | word ↦ said_after read (suc n) (said_with word w s) (v ∷ words)
+]
+
+-- the tool's name is word 1
+abbrev pub said_by : (List ℕ → Word) → List (List ℕ) → Result Said Usage
+said_by read words = said_after read 2 nothing_said words
+
+-- ---- plans
+
+abbrev pub is_empty_word : List ℕ → Bool
+is_empty_word [] = true
+is_empty_word (c ∷ cs) = false
+
+abbrev pub differ : List ℕ → List ℕ → Bool
+differ input output = not (bytes_eq input output) || bytes_eq input standard
+
+abbrev pub plan_if_apart : List ℕ → List ℕ → Job → Result Plan Usage
+plan_if_apart input output job = if differ input output then Ok (record { input = input; output = output; job = job }) else Err (Whole SamePath)
+
+abbrev pub plan_with_two : List (List ℕ) → Job → Result Plan Usage
+plan_with_two (input ∷ output ∷ []) job = if is_empty_word input || is_empty_word output then Err (Whole WrongPaths) else plan_if_apart input output job
+plan_with_two _ job = Err (Whole WrongPaths)
+
+abbrev pub same : Bool → Bool → Bool
+same true b = b
+same false b = not b
+
+-- a data set alone is read only in a syntax that the words name, which are for it alone
+abbrev pub dump_plan_of : List ℕ → Said → Result Plan Usage
+dump_plan_of input s = if same s.data_set (is_some s.bare) then Ok (record { input = input; output = standard; job = dump s.mode s.bare }) else Err (Whole OptionsApart)
+
+abbrev pub dump_plan_with : List (List ℕ) → Said → Result Plan Usage
+dump_plan_with (input ∷ []) s = if is_empty_word input then Err (Whole WrongPaths) else dump_plan_of input s
+dump_plan_with _ s = Err (Whole WrongPaths)
+
+abbrev pub dump_plan : List (List ℕ) → Result Plan Usage
+dump_plan words = elim (said_by dump_word words) [ Ok s ↦ dump_plan_with s.paths s | Err u ↦ Err u ]
+
+abbrev pub convert_plan : List (List ℕ) → Result Plan Usage
+convert_plan words = elim (said_by convert_word words) [ Ok s ↦ plan_with_two s.paths (convert s.target) | Err u ↦ Err u ]
+
+abbrev pub build_plan : List (List ℕ) → Result Plan Usage
+build_plan words = elim (said_by build_word words) [ Ok s ↦ plan_with_two s.paths (build s.limit) | Err u ↦ Err u ]
+
+-- the edits, and the last two words, which are the paths
+pub record EditWords : Type 0 where
+  pub edits : List (List ℕ)
+  pub input : List ℕ
+  pub output : List ℕ
+
+abbrev pub and_edit_word : List ℕ → Option EditWords → Option EditWords
+and_edit_word w None = None
+and_edit_word w (Some e) = Some (record e { edits = w ∷ e.edits })
+
+abbrev pub paths_apart : List (List ℕ) → Option EditWords
+paths_apart [] = None
+paths_apart (w ∷ []) = None
+paths_apart (input ∷ output ∷ []) = Some (record { edits = []; input = input; output = output })
+paths_apart (w ∷ v ∷ u ∷ words) = and_edit_word w (paths_apart (v ∷ u ∷ words))
+
+abbrev pub is_path : List ℕ → Bool
+is_path w = not (is_empty_word w) && not (is_option w)
+
+abbrev pub modify_plan_with : EditWords → Result Plan Usage
+modify_plan_with e = elim (meant_edits e.edits) [ Ok edits ↦ plan_if_apart e.input e.output (modify edits) | Err u ↦ Err (InEdit u.refusal u.number) ]
+
+abbrev pub modify_plan : List (List ℕ) → Result Plan Usage
+modify_plan words = elim (paths_apart words) [
+  | None ↦ Err (Whole WrongPaths)
+  | Some e ↦ elim (is_path e.input && is_path e.output) [ true ↦ modify_plan_with e | false ↦ Err (Whole WrongPaths) ]
+]
+
+-- the four tools
+pub data Tool : Type 0 where
+  dcmdump dcmconv dump2dcm dcmodify : Tool
+
+abbrev pub tool_of : List ℕ → Option Tool
+tool_of w =
+    if bytes_eq w (codes "dcmdump") then Some dcmdump
+    else if bytes_eq w (codes "dcmconv") then Some dcmconv
+    else if bytes_eq w (codes "dump2dcm") then Some dump2dcm
+    else if bytes_eq w (codes "dcmodify") then Some dcmodify
+    else None
+
+abbrev pub tool_plan : Option Tool → List (List ℕ) → Result Plan Usage
+tool_plan None words = Err (AtWord UnknownTool 1)
+tool_plan (Some dcmdump) words = dump_plan words
+tool_plan (Some dcmconv) words = convert_plan words
+tool_plan (Some dump2dcm) words = build_plan words
+tool_plan (Some dcmodify) words = modify_plan words
+
+-- the plan that the words mean, or the first refusal
+unfoldable pub meant : List (List ℕ) → Result Plan Usage
 meant [] = Err (AtWord UnknownTool 1)
-meant (tool ∷ others) =
-    if bytes_eq tool (codes "dcmdump") then words.dump_plan others
-    else if bytes_eq tool (codes "dcmconv") then words.convert_plan others
-    else if bytes_eq tool (codes "dump2dcm") then words.build_plan others
-    else Err (AtWord UnknownTool 1)
-
-abbrev pub job_of : Job → words.Job
-job_of (jobs.Dump d) = words.dump d.mode d.bare
-job_of (jobs.Convert c) = words.convert c.target
-job_of (jobs.Build b) = words.build b.limit
-
-abbrev pub planned : Planned → words.Plan
-planned p = record { input = p.input.now; output = p.output.now; job = job_of p.job }
-
--- what a function returned is what the words mean
-abbrev pub Gives : Result Planned Usage → Result words.Plan Usage → Type 0
-Gives (Ok p) meant = meant ≡ Ok (planned p)
-Gives (Err u) meant = meant ≡ Err u
-
--- ---- word by word
-
--- what a word says to a tool
-abbrev pub reader : Tool → List ℕ → Word
-reader tools.Dump w = words.dump_word w
-reader tools.Convert w = words.convert_word w
-reader tools.Build w = words.build_word w
-
--- a number, or one past the greatest limit where it is higher
-abbrev pub capped : ℕ → ℕ
-capped n = if nat_le n words.GREATEST_LIMIT then n else words.GREATEST_LIMIT + 1
-
--- the limit that the words behind word n begin with
-abbrev pub given : ℕ → Option ℕ → Result ℕ Usage
-given n None = Err (AtWord BadOptionValue n)
-given n (Some limit) = Ok limit
-
-abbrev pub limit_behind : ℕ → List (List ℕ) → Result ℕ Usage
-limit_behind n [] = given n None
-limit_behind n (v ∷ others) = given n (words.limit_of v)
-
--- what a function made of them
-abbrev pub LimitAs : Result Build Usage → Result ℕ Usage → Type 0
-LimitAs (Ok b) meant = meant ≡ Ok b.limit
-LimitAs (Err u) meant = meant ≡ Err u
-
--- the paths so far
-abbrev pub PathsAre : Paths → List (List ℕ) → Type 0
-PathsAre paths.None ps = ps ≡ []
-PathsAre (paths.One first) ps = ps ≡ first.now ∷ []
-PathsAre (paths.Two first second) ps = ps ≡ first.now ∷ second.now ∷ []
-PathsAre paths.More ps = 2 < length ps
-
--- what was said so far, with these paths
-abbrev pub said_with_paths : Said → List (List ℕ) → words.Said
-said_with_paths s ps = record { mode = s.mode; data_set = s.data_set; bare = s.bare; target = s.target; limit = s.build.limit; paths = ps }
-
--- what a function made of all the words
-abbrev pub SaidAs : Result Said Usage → Result words.Said Usage → Type 0
-SaidAs (Ok s) meant = (ps : List (List ℕ)) × PathsAre s.paths ps × (meant ≡ Ok (said_with_paths s ps))
-SaidAs (Err u) meant = meant ≡ Err u
+meant (tool ∷ words) = tool_plan (tool_of tool) words

@@ -1,6 +1,6 @@
 // What a run has to do.
 ghost use Rattle.std.specs.Prelude.{◌≤◌};
-ghost use Rattle.dcm_base.specs.Words.{LEAST_LIMIT, GREATEST_LIMIT};
+ghost use Rattle.dcm_words.specs.Words.{LEAST_LIMIT, GREATEST_LIMIT};
 
 use dcm_base::{Mode, Syntax};
 

@@ -2,7 +2,9 @@
 #![tactic(auto)]
 
 mod job;
+mod usage;
 mod words;
 
 pub use job::{Build, Convert, Dump, Job, Planned};
+pub use usage::Usage;
 pub use words::plan;

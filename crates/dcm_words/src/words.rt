@@ -1,11 +1,12 @@
 // The words of a command line.
 ghost use Rattle.std.specs.Prelude.{◌≡◌, ◌+◌, ◌<◌, List, ℕ, drop, length, map, option_map, IfSome};
 ghost use Rattle.dcm_base.specs.ReadValue.{digit as spec_digit, number_in};
-ghost use Rattle.dcm_base.specs.Words as spec;
-ghost use Rattle.dcm_words.specs.Words.{meant, reader, job_of, capped, limit_behind as said_limit, LimitAs, Gives, PathsAre, SaidAs};
+ghost use Rattle.dcm_words.specs.Words as spec;
+ghost use Rattle.dcm_words.specs.Plans.{meant, reader, job_of, capped, limit_behind as said_limit, LimitAs, Gives, PathsAre, SaidAs};
 
 use crate::job::{Build, Convert, Dump, Job, Planned};
-use dcm_base::{Mode, Syntax, Usage, Word, WordFault};
+use crate::usage::{Usage, Word};
+use dcm_base::{Mode, Syntax, WordFault};
 use std::alloc::Global;
 
 /// The path of a standard stream.

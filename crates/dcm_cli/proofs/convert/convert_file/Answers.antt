@@ -8,7 +8,7 @@ use Rattle.dcm_base.specs.Device.{AppendsFront}
 use Rattle.dcm_base.specs.MetaReads.{PREFIX}
 use Rattle.dcm_base.specs.NewMeta.{new_meta}
 use Rattle.dcm_base.specs.Spelling.{Spells}
-use Rattle.dcm_base.specs.Words.{convert}
+use Rattle.dcm_words.specs.Words.{convert}
 use Rattle.dcm_head.specs.declared.meta_read.MetaEnd.TheVariants.{Ended}
 use Rattle.dcm_stream.specs.Reading.{start_of}
 use Rattle.dcm_tools.specs.EncodeSink.{encode_start, encode_step, encode_writes, encode_bar}

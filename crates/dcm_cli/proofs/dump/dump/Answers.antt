@@ -1,6 +1,6 @@
 use Rattle.std.proofs.Common.{sym, subst, Option}
 use Rattle.dcm_base.specs.declared.syntax.Syntax.{Syntax}
-use Rattle.dcm_base.specs.Words.{dump}
+use Rattle.dcm_words.specs.Words.{dump}
 use Rattle.dcm_cli.specs.Run.{Worked}
 use Rattle.dcm_cli.proofs.dump.dump.Goals as goal
 

@@ -5,7 +5,7 @@ use Rattle.dcm_base.specs.declared.syntax.Syntax.TheVariants.{Little}
 use Rattle.dcm_base.specs.Device.{AppendsFront}
 use Rattle.dcm_base.specs.Header.{set_header, meta_header}
 use Rattle.dcm_base.specs.Spelling.{Spells}
-use Rattle.dcm_base.specs.Words.{dump}
+use Rattle.dcm_words.specs.Words.{dump}
 use Rattle.dcm_head.specs.declared.meta_read.MetaEnd.TheVariants.{Ended}
 use Rattle.dcm_head.specs.MetaReading.{uid_of}
 use Rattle.dcm_stream.specs.Reading.{start_of}

@@ -6,7 +6,7 @@ use Rattle.dcm_stream.specs.Machine.{Progress}
 use Rattle.dcm_stream.specs.Reading.{Reading}
 use Rattle.dcm_tools.specs.DumpSink.{DumpState, dump_start, dump_step, dump_writes, bars_nothing}
 use Rattle.dcm_cli.specs.Pass as spec
-use Rattle.dcm_base.specs.Words.{dump}
+use Rattle.dcm_words.specs.Words.{dump}
 use Rattle.dcm_cli.specs.Run.{Worked}
 use Rattle.dcm_cli.proofs.Alone.{alone_unheaded, alone_worked, put_failed, put_whole}
 use Rattle.dcm_cli.proofs.dump.dump_set.Goals as goal

@@ -1,7 +1,7 @@
 use Rattle.std.proofs.Common.{sym, subst}
 use Rattle.dcm_words.specs.declared.job.Job.{Job}
 use Rattle.dcm_cli.specs.Run.{Worked}
-use Rattle.dcm_words.specs.Words.{job_of}
+use Rattle.dcm_words.specs.Plans.{job_of}
 use Rattle.dcm_cli.proofs.run.work.Goals as goal
 
 pub returns-in-Dump-clause-worked : goal.returns-in-Dump-clause-worked

@@ -1,7 +1,7 @@
 use Rattle.std.proofs.Common.{◌≡◌, ℕ, ◌+◌, ◌*◌, get_or, Some, sym, ◌∙◌, arith}
 use Rattle.std.proofs.lemmas.Bool.Decides.{nat_tests}
 use Rattle.dcm_base.specs.ReadValue.{digit}
-use Rattle.dcm_words.specs.Words.{capped}
+use Rattle.dcm_words.specs.Plans.{capped}
 use Rattle.dcm_words.proofs.Limits.{limit_step}
 use Rattle.dcm_words.proofs.words.limited_number.Goals as goal
 

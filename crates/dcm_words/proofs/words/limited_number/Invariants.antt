@@ -1,6 +1,6 @@
 use Rattle.std.proofs.Common.{◌≡◌, ◌≤◌, drop, option_map}
 use Rattle.dcm_base.specs.ReadValue.{number_in}
-use Rattle.dcm_words.specs.Words.{capped}
+use Rattle.dcm_words.specs.Plans.{capped}
 use Rattle.dcm_words.proofs.words.limited_number.Given as goal
 
 -- the digits that are left lead to where all of them lead

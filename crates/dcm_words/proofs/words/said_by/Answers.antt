@@ -1,7 +1,7 @@
 use Rattle.std.proofs.Common.{sym, subst, ap, refl, get_or, ℕ, List, []}
-use Rattle.dcm_base.specs.Words.{and_path}
+use Rattle.dcm_words.specs.Words.{and_path}
 use Rattle.dcm_words.specs.declared.words.Said.{Said}
-use Rattle.dcm_words.specs.Words.{reader, PathsAre, said_with_paths}
+use Rattle.dcm_words.specs.Plans.{reader, PathsAre, said_with_paths}
 use Rattle.dcm_words.proofs.WordLemmas.{placed, turn, limit_turn}
 use Rattle.dcm_words.proofs.words.said_by.Goals as goal
 use Rattle.dcm_words.proofs.words.said_by.Goals.{in-Show, in-WholeFile, in-DataSet, in-Bare, in-Target, in-Limit+in_ok-said-in-Limit, in-Accepted, in-Path}

@@ -1,6 +1,6 @@
 use Rattle.std.proofs.Common.{◌≡◌, map, ◌+◌, ◌-◌, drop, List, ℕ, length}
-use Rattle.dcm_base.specs.Words.{said_after, said_by}
-use Rattle.dcm_words.specs.Words.{reader, PathsAre, said_with_paths}
+use Rattle.dcm_words.specs.Words.{said_after, said_by}
+use Rattle.dcm_words.specs.Plans.{reader, PathsAre, said_with_paths}
 use Rattle.dcm_words.proofs.words.said_by.Given as goal
 
 -- the rest of the words, after what the ones before have said, say what all of them say

@@ -9,8 +9,8 @@ use Rattle.dcm_base.specs.Tree.{Trees, no_tree, leaf, sequence, Items, no_item, 
 use Rattle.dcm_base.specs.Front.{Front, front, nothing_open, open_leaf}
 use Rattle.dcm_base.specs.Representation.{letters}
 use Rattle.dcm_base.specs.Recode.{recode, recode_set}
-use Rattle.dcm_base.specs.Edit.{number, every, step, insert, modify, erase, erase_item, Edit, on_path, modify_all, erase_private, edited, found}
-use Rattle.dcm_base.specs.Together.{together}
+use Rattle.dcm_edit.specs.Edit.{number, every, step, insert, modify, erase, erase_item, Edit, on_path, modify_all, erase_private, edited, found}
+use Rattle.dcm_edit.specs.Together.{together}
 
 -- all that a row computes with
 unfoldable all : ℕ

@@ -9,9 +9,9 @@ use Rattle.dcm_base.specs.declared.fault.EditRefusal.{EditRefusal}
 use Rattle.dcm_base.specs.declared.fault.EditRefusal.TheVariants.{BadOption, UnknownTag, SequenceMisused, MetaGroup, Overlap, TooMany}
 use Rattle.dcm_base.specs.Tag.{number, tag_of_number, is_private}
 use Rattle.dcm_base.specs.Dictionary.{Element, elements, element, called, tag_of}
-use Rattle.dcm_base.specs.Edit.{Index, PathEdit, Edit, erase_private}
-use Rattle.dcm_base.specs.Overlap.{path, overlaps, overlaps_one, first_overlap, ApartFrom, AreApart, is_public_path, is_public, ArePublic}
-use Rattle.dcm_base.specs.EditWords.{InEdit, ◌>>=◌, PathPart, TagName, by_number, by_keyword, tag_name, Known, known_tag, known_part, known_parts, Kind, inserts, modifies, erases, modifies_all, erases_all, on_steps, step_to, item_or_element, edit_on, value_for, edit_of_known, edit_of_parts, uses_sequences, has_form, cut, cut_at, with_index, index_of, part_of, part_of_cut, prepended, or_refuse, parts_of, meant_edit, meant_word, meant_from, meant_edits, apart, and_then, at_edit, option_word, OptionWord, private_word, takes_word, unknown_word, in_edit, takes_value, EDIT_LIMIT}
+use Rattle.dcm_edit.specs.Edit.{Index, PathEdit, Edit, erase_private}
+use Rattle.dcm_edit.specs.Overlap.{path, overlaps, overlaps_one, first_overlap, ApartFrom, AreApart, is_public_path, is_public, ArePublic}
+use Rattle.dcm_edit.specs.EditWords.{InEdit, ◌>>=◌, PathPart, TagName, by_number, by_keyword, tag_name, Known, known_tag, known_part, known_parts, Kind, inserts, modifies, erases, modifies_all, erases_all, on_steps, step_to, item_or_element, edit_on, value_for, edit_of_known, edit_of_parts, uses_sequences, has_form, cut, cut_at, with_index, index_of, part_of, part_of_cut, prepended, or_refuse, parts_of, meant_edit, meant_word, meant_from, meant_edits, apart, and_then, at_edit, option_word, OptionWord, private_word, takes_word, unknown_word, in_edit, takes_value, EDIT_LIMIT}
 use Rattle.dcm_base.proofs.ReadValueLemmas.{tag_within}
 
 -- no overlap found

@@ -11,8 +11,8 @@ use Rattle.dcm_base.specs.declared.fault.EditRefusal.TheVariants.{BadOption, Unk
 use Rattle.dcm_base.specs.Representation.{is_sequence}
 use Rattle.dcm_base.specs.Dictionary.{element, tag_of}
 use Rattle.dcm_base.specs.ReadValue.{tag_of_text, number_in, value_of_word}
-use Rattle.dcm_base.specs.Edit.{Index, number, every, PathEdit, step, insert, modify, erase, erase_item, Edit, on_path, modify_all, erase_all, erase_private}
-use Rattle.dcm_base.specs.Overlap.{first_overlap}
+use Rattle.dcm_edit.specs.Edit.{Index, number, every, PathEdit, step, insert, modify, erase, erase_item, Edit, on_path, modify_all, erase_all, erase_private}
+use Rattle.dcm_edit.specs.Overlap.{first_overlap}
 
 infixl 10 ◌>>=◌
 abbrev pub ◌>>=◌ : {A B : Type 0} → Result A EditRefusal → (A → Result B EditRefusal) → Result B EditRefusal

@@ -7,12 +7,12 @@ use Rattle.dcm_base.specs.declared.mode.Mode.TheVariants.{Short, Full}
 use Rattle.dcm_base.specs.declared.syntax.Syntax.TheVariants.{Implicit, Little, Big}
 use Rattle.dcm_base.specs.declared.fault.EditRefusal.TheVariants.{BadOption, UnknownTag, ValueDoesNotFit, SequenceMisused, MetaGroup, Overlap, TooMany}
 use Rattle.dcm_base.specs.declared.fault.WordFault.TheVariants.{UnknownTool, UnknownOption, BadOptionValue, WrongPaths, OptionsApart, SamePath}
-use Rattle.dcm_base.specs.declared.words.Usage.{Usage}
-use Rattle.dcm_base.specs.declared.words.Usage.TheVariants.{AtWord, Whole, InEdit}
+use Rattle.dcm_words.specs.declared.usage.Usage.{Usage}
+use Rattle.dcm_words.specs.declared.usage.Usage.TheVariants.{AtWord, Whole, InEdit}
 use Rattle.dcm_base.specs.Dictionary.{element, elements, tag_of}
-use Rattle.dcm_base.specs.Edit.{Edit, number, every, step, insert, modify, erase, erase_item, on_path, modify_all, erase_private}
-use Rattle.dcm_base.specs.EditWords.{meant_edits, in_edit, InEdit as EditFault}
-use Rattle.dcm_base.specs.Words.{meant, Plan, Job, dump, convert, build, modify as modifies}
+use Rattle.dcm_edit.specs.Edit.{Edit, number, every, step, insert, modify, erase, erase_item, on_path, modify_all, erase_private}
+use Rattle.dcm_edit.specs.EditWords.{meant_edits, in_edit, InEdit as EditFault}
+use Rattle.dcm_words.specs.Words.{meant, Plan, Job, dump, convert, build, modify as modifies}
 
 -- all that a row computes with
 unfoldable all : ℕ

@@ -3,11 +3,11 @@ use Rattle.std.proofs.Common.{◌≡◌, ℕ, suc, pred, ◌≤◌, List, [], �
 use Rattle.std.specs.Prelude.{if◌then◌else◌}
 use Rattle.dcm_base.specs.declared.tag.Tag.{Tag}
 use Rattle.dcm_base.specs.Tag.{same_tag, is_private}
-use Rattle.dcm_base.specs.Edit.{Index, selects, PathEdit, step, insert, modify, erase, erase_item, Edit, on_path, modify_all, erase_all, erase_private, elsewhere, within, Fate, stays, becomes, goes, fate, erases}
-use Rattle.dcm_base.specs.Together.{first_fate, any_erases, all_within}
-use Rattle.dcm_base.specs.Overlap.{at_index, path, same_index, clash, meets, is_on, overlaps, ApartFrom, AreApart, ArePublic}
-use Rattle.dcm_base.proofs.EditLemmas.{or_left}
-use Rattle.dcm_base.proofs.OverlapLemmas.{chosen_false, same_tag_false, or_else_quiet, within_public, all_within_apart, and_false}
+use Rattle.dcm_edit.specs.Edit.{Index, selects, PathEdit, step, insert, modify, erase, erase_item, Edit, on_path, modify_all, erase_all, erase_private, elsewhere, within, Fate, stays, becomes, goes, fate, erases}
+use Rattle.dcm_edit.specs.Together.{first_fate, any_erases, all_within}
+use Rattle.dcm_edit.specs.Overlap.{at_index, path, same_index, clash, meets, is_on, overlaps, ApartFrom, AreApart, ArePublic}
+use Rattle.dcm_edit.proofs.EditLemmas.{or_left}
+use Rattle.dcm_edit.proofs.OverlapLemmas.{chosen_false, same_tag_false, or_else_quiet, within_public, all_within_apart, and_false}
 
 -- the lists of what edits ask of items
 pub all_within_all_apart : (es : List Edit) (v : Tag) (n : ℕ) → AreApart es → AreApart (all_within es v n)

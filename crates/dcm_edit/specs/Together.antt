@@ -3,7 +3,7 @@ use Rattle.std.specs.Prelude.{ℕ, List, [], ◌∷◌, Bool, false, ◌||◌, m
 use Rattle.dcm_base.specs.declared.tag.Tag.{Tag}
 use Rattle.dcm_base.specs.Tree.{Trees, no_tree, leaf, sequence, fragments, Items, no_item, item, then_trees, item_count}
 use Rattle.dcm_base.specs.Front.{Front, front, OpenTree, nothing_open, open_leaf, open_sequence, open_fragments, OpenItem, no_open_item, open_item}
-use Rattle.dcm_base.specs.Edit.{Edit, within, Fate, stays, becomes, goes, fate, settled, erases, NewElement, no_element, new_leaf, new_sequence, element_of, with_new, with_new_so_far, edited_sets, made_whole, while_it_stays}
+use Rattle.dcm_edit.specs.Edit.{Edit, within, Fate, stays, becomes, goes, fate, settled, erases, NewElement, no_element, new_leaf, new_sequence, element_of, with_new, with_new_so_far, edited_sets, made_whole, while_it_stays}
 
 -- the first fate that changes anything
 abbrev pub or_else : Fate → Fate → Fate

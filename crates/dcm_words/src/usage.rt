@@ -1,7 +1,5 @@
 // What the words of a command line say.
-use crate::fault::{EditRefusal, WordFault};
-use crate::mode::Mode;
-use crate::syntax::Syntax;
+use dcm_base::{EditRefusal, Mode, Syntax, WordFault};
 
 /// What one word says to dcmdump, dcmconv or dump2dcm.
 #[derive(Clone, Copy, Debug, PartialEq, Eq)]

@@ -9,8 +9,8 @@ use Rattle.dcm_base.specs.Front.{Front, front, OpenTree, nothing_open, open_leaf
 use Rattle.dcm_base.specs.Tag.{below, is_above}
 use Rattle.dcm_base.specs.Ascending.{Ascend}
 use Rattle.dcm_base.proofs.TagLemmas.{below_other, is_above_below}
-use Rattle.dcm_base.specs.Edit.{NewElement, no_element, new_leaf, new_sequence, before, element_of, with_new, with_new_so_far, has, put, Edit, within, Fate, stays, becomes, goes, fate, settled, erases, made_whole, while_it_stays, changed, changed_items, edited_by, still_open, open_item_by, open_made_whole}
-use Rattle.dcm_base.specs.Together.{completed, or_else, all_changed, all_changed_items, together, all_still_open, all_open_item, all_open_made_whole}
+use Rattle.dcm_edit.specs.Edit.{NewElement, no_element, new_leaf, new_sequence, before, element_of, with_new, with_new_so_far, has, put, Edit, within, Fate, stays, becomes, goes, fate, settled, erases, made_whole, while_it_stays, changed, changed_items, edited_by, still_open, open_item_by, open_made_whole}
+use Rattle.dcm_edit.specs.Together.{completed, or_else, all_changed, all_changed_items, together, all_still_open, all_open_item, all_open_made_whole}
 
 pub or_else_stays : (f : Fate) → or_else f stays ≡ f
 or_else_stays stays = refl

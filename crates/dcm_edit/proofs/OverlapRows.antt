@@ -2,8 +2,8 @@
 use Rattle.std.proofs.Common.{◌≡◌, ℕ, [], ◌∷◌, Some, None, true, false, refl}
 use Rattle.dcm_base.specs.declared.tag.Tag.{Tag}
 use Rattle.dcm_base.specs.declared.vr.Vr.TheVariants.{UI, LO}
-use Rattle.dcm_base.specs.Edit.{number, every, step, modify, erase, erase_item, on_path, modify_all, erase_all, erase_private}
-use Rattle.dcm_base.specs.Overlap.{overlaps, first_overlap}
+use Rattle.dcm_edit.specs.Edit.{number, every, step, modify, erase, erase_item, on_path, modify_all, erase_all, erase_private}
+use Rattle.dcm_edit.specs.Overlap.{overlaps, first_overlap}
 
 abbrev tag : ℕ → ℕ → Tag
 tag g e = record { group = g; element = e }

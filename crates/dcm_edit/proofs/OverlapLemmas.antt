@@ -5,11 +5,11 @@ use Rattle.std.proofs.lemmas.Bool.Decides.{nat_tests}
 use Rattle.dcm_base.specs.declared.tag.Tag.{Tag}
 use Rattle.dcm_base.specs.declared.vr.Vr.{Vr}
 use Rattle.dcm_base.specs.Tag.{same_tag, is_private}
-use Rattle.dcm_base.specs.Edit.{Index, number, every, selects, PathEdit, step, insert, modify, erase, erase_item, Edit, on_path, modify_all, erase_all, erase_private, elsewhere, within, Fate, stays, becomes, goes, fate, path_fate, erases}
-use Rattle.dcm_base.specs.Together.{or_else, first_fate, any_erases, all_within}
-use Rattle.dcm_base.specs.Overlap.{Mark, at_tag, at_index, path, same_index, ends, is_every, clash, meets, is_on, is_named, overlaps, ApartFrom, is_public}
+use Rattle.dcm_edit.specs.Edit.{Index, number, every, selects, PathEdit, step, insert, modify, erase, erase_item, Edit, on_path, modify_all, erase_all, erase_private, elsewhere, within, Fate, stays, becomes, goes, fate, path_fate, erases}
+use Rattle.dcm_edit.specs.Together.{or_else, first_fate, any_erases, all_within}
+use Rattle.dcm_edit.specs.Overlap.{Mark, at_tag, at_index, path, same_index, ends, is_every, clash, meets, is_on, is_named, overlaps, ApartFrom, is_public}
 use Rattle.dcm_base.proofs.TagLemmas.{tag_is, same_tag_both, number_is, number_self}
-use Rattle.dcm_base.proofs.EditLemmas.{or_left, or_right}
+use Rattle.dcm_edit.proofs.EditLemmas.{or_left, or_right}
 
 abbrev pub IfBecomes : Fate → Type 0 → Type 0
 IfBecomes stays P = Unit {0}

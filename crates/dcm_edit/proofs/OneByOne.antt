@@ -8,14 +8,14 @@ use Rattle.dcm_base.specs.declared.length.Length.{Length}
 use Rattle.dcm_base.specs.declared.length.Length.TheVariants.{Undefined}
 use Rattle.dcm_base.specs.Tree.{Trees, no_tree, leaf, sequence, fragments, Items, no_item, item}
 use Rattle.dcm_base.specs.Tag.{same_tag, below, is_above}
-use Rattle.dcm_base.specs.Edit.{number, every, NewElement, no_element, new_leaf, new_sequence, before, around, new_element, element_of, with_new, edited_set, edited_sets, PathEdit, step, insert, modify, erase, erase_item, Edit, on_path, modify_all, erase_all, erase_private, elsewhere, within, Fate, stays, becomes, goes, fate, settled, erases, has, put, changed, changed_items}
-use Rattle.dcm_base.specs.Together.{completed, or_else, first_fate, any_erases, all_within, with_all_missing, all_changed, all_changed_items}
-use Rattle.dcm_base.specs.Overlap.{ApartFrom, AreApart, is_public, ArePublic}
+use Rattle.dcm_edit.specs.Edit.{number, every, NewElement, no_element, new_leaf, new_sequence, before, around, new_element, element_of, with_new, edited_set, edited_sets, PathEdit, step, insert, modify, erase, erase_item, Edit, on_path, modify_all, erase_all, erase_private, elsewhere, within, Fate, stays, becomes, goes, fate, settled, erases, has, put, changed, changed_items}
+use Rattle.dcm_edit.specs.Together.{completed, or_else, first_fate, any_erases, all_within, with_all_missing, all_changed, all_changed_items}
+use Rattle.dcm_edit.specs.Overlap.{ApartFrom, AreApart, is_public, ArePublic}
 use Rattle.dcm_base.specs.Ascending.{Ascend, ItemsAscend}
 use Rattle.dcm_base.proofs.TagLemmas.{same_tag_self, tag_is}
-use Rattle.dcm_base.proofs.EditLemmas.{chosen, Ascend-weaker, NewAscends, Ascend-with_new, completed-none, all_changed-one, all_changed-none}
-use Rattle.dcm_base.proofs.OverlapLemmas.{IfBecomes, quiet_all_after, not_true, and_left, all_within_apart, within_public, counts_alike, CountsAlike, AreBlind}
-use Rattle.dcm_base.proofs.OverlapSteps.{quiet_all_step, all_keep_items, all_within_all_apart, all_within_public, depth, AreWithin, depth-within, AreWithin-all_within, steps}
+use Rattle.dcm_edit.proofs.EditLemmas.{chosen, Ascend-weaker, NewAscends, Ascend-with_new, completed-none, all_changed-one, all_changed-none}
+use Rattle.dcm_edit.proofs.OverlapLemmas.{IfBecomes, quiet_all_after, not_true, and_left, all_within_apart, within_public, counts_alike, CountsAlike, AreBlind}
+use Rattle.dcm_edit.proofs.OverlapSteps.{quiet_all_step, all_keep_items, all_within_all_apart, all_within_public, depth, AreWithin, depth-within, AreWithin-all_within, steps}
 
 -- the new elements of edits, and what later edits make of them
 pub NewAscends-around : (tag : Tag) (x : NewElement) → NewAscends x → NewAscends (around tag x)

@@ -7,14 +7,14 @@ use Rattle.dcm_base.specs.declared.length.Length.{Length}
 use Rattle.dcm_base.specs.Tree.{Trees, no_tree, leaf, sequence, fragments, Items, no_item, item, then_trees, item_count}
 use Rattle.dcm_base.specs.Front.{Front, front, OpenTree, nothing_open, open_leaf, open_sequence, open_fragments, OpenItem, no_open_item, open_item}
 use Rattle.dcm_base.specs.Tag.{same_tag, below, is_above}
-use Rattle.dcm_base.specs.Edit.{NewElement, no_element, new_leaf, new_sequence, before, element_of, with_new_so_far, with_tag, Edit, Fate, stays, becomes, goes, fate, settled, erases, has, has_open, put, is_passed, made_whole, while_it_stays}
-use Rattle.dcm_base.specs.Together.{completed, or_else, first_fate, any_erases, all_within, with_all_missing, with_all_missing_so_far, all_changed, all_changed_items, together, all_still_open, all_open_item, all_open_made_whole}
-use Rattle.dcm_base.specs.Overlap.{ApartFrom, is_public}
+use Rattle.dcm_edit.specs.Edit.{NewElement, no_element, new_leaf, new_sequence, before, element_of, with_new_so_far, with_tag, Edit, Fate, stays, becomes, goes, fate, settled, erases, has, has_open, put, is_passed, made_whole, while_it_stays}
+use Rattle.dcm_edit.specs.Together.{completed, or_else, first_fate, any_erases, all_within, with_all_missing, with_all_missing_so_far, all_changed, all_changed_items, together, all_still_open, all_open_item, all_open_made_whole}
+use Rattle.dcm_edit.specs.Overlap.{ApartFrom, is_public}
 use Rattle.dcm_base.specs.Ascending.{Ascend, AllBelow, ReachedLast, FrontAscends, OpenAscends}
 use Rattle.dcm_base.proofs.TagLemmas.{tag_is}
-use Rattle.dcm_base.proofs.EditLemmas.{chosen, or_left, or_right, or_false, Ascend-put, Leads, NewAscends, then_trees-none}
-use Rattle.dcm_base.proofs.OverlapLemmas.{IfBecomes, quiet_all_after, CountsAlike, AreBlind}
-use Rattle.dcm_base.proofs.OneByOne.{Ascend-all_changed, all_changed-put, has-all_changed, Turns, Turns-new, Quiet, NewAscends-element_of, NewAscends-completed}
+use Rattle.dcm_edit.proofs.EditLemmas.{chosen, or_left, or_right, or_false, Ascend-put, Leads, NewAscends, then_trees-none}
+use Rattle.dcm_edit.proofs.OverlapLemmas.{IfBecomes, quiet_all_after, CountsAlike, AreBlind}
+use Rattle.dcm_edit.proofs.OneByOne.{Ascend-all_changed, all_changed-put, has-all_changed, Turns, Turns-new, Quiet, NewAscends-element_of, NewAscends-completed}
 
 -- every element but the missing ones
 abbrev pub touched : List Edit → Front → Front

@@ -3,15 +3,15 @@ use Rattle.std.proofs.Common.{◌≡◌, ℕ, pred, ◌≤◌, ◌+◌, List, []
 use Rattle.dcm_base.specs.declared.tag.Tag.{Tag}
 use Rattle.dcm_base.specs.Tree.{Trees, no_tree, then_trees, item_count}
 use Rattle.dcm_base.specs.Front.{Front, front, OpenTree, nothing_open, open_leaf, open_sequence, open_fragments, OpenItem, no_open_item, open_item}
-use Rattle.dcm_base.specs.Edit.{NewElement, element_of, with_new_so_far, Edit, within, Fate, stays, becomes, goes, fate, erases, made_whole, while_it_stays, edited_by, edited}
-use Rattle.dcm_base.specs.Together.{completed, first_fate, any_erases, all_within, with_all_missing_so_far, all_changed, all_changed_items, together, all_still_open, all_open_item, all_open_made_whole}
-use Rattle.dcm_base.specs.Overlap.{AreApart, ArePublic}
+use Rattle.dcm_edit.specs.Edit.{NewElement, element_of, with_new_so_far, Edit, within, Fate, stays, becomes, goes, fate, erases, made_whole, while_it_stays, edited_by, edited}
+use Rattle.dcm_edit.specs.Together.{completed, first_fate, any_erases, all_within, with_all_missing_so_far, all_changed, all_changed_items, together, all_still_open, all_open_item, all_open_made_whole}
+use Rattle.dcm_edit.specs.Overlap.{AreApart, ArePublic}
 use Rattle.dcm_base.specs.Ascending.{FrontAscends, OpenAscends, OpenItemAscends}
-use Rattle.dcm_base.proofs.EditLemmas.{chosen, completed-none, together-one, together-none}
-use Rattle.dcm_base.proofs.OverlapLemmas.{counts_alike}
-use Rattle.dcm_base.proofs.OverlapSteps.{depth, AreWithin}
-use Rattle.dcm_base.proofs.OneByOne.{ItemsAscend-all_changed, all_changed-after, all_changed_items-after, Good, Good-within, always_quiet}
-use Rattle.dcm_base.proofs.FrontEdits.{touched, together-touched, then_trees-assoc, all_changed-then_trees, all_open_made_whole-after, still_step, same_number, open_item_step, front_alike, open_sequence_alike, touched-with_new, reached_still, Ascend-touched, FrontAscends-with_all_missing}
+use Rattle.dcm_edit.proofs.EditLemmas.{chosen, completed-none, together-one, together-none}
+use Rattle.dcm_edit.proofs.OverlapLemmas.{counts_alike}
+use Rattle.dcm_edit.proofs.OverlapSteps.{depth, AreWithin}
+use Rattle.dcm_edit.proofs.OneByOne.{ItemsAscend-all_changed, all_changed-after, all_changed_items-after, Good, Good-within, always_quiet}
+use Rattle.dcm_edit.proofs.FrontEdits.{touched, together-touched, then_trees-assoc, all_changed-then_trees, all_open_made_whole-after, still_step, same_number, open_item_step, front_alike, open_sequence_alike, touched-with_new, reached_still, Ascend-touched, FrontAscends-with_all_missing}
 
 -- an open element that stays
 pub OpenAscends-still : (f : Fate) (tag : Tag) (w : Trees) (reached : Option Tag) (closed : Bool) (o : OpenTree)

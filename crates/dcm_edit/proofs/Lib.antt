@@ -1,0 +1,9 @@
+pub mod EditLemmas
+pub mod OverlapLemmas
+pub mod OverlapSteps
+pub mod OneByOne
+pub mod FrontEdits
+pub mod OneByOneFront
+pub mod EditRows
+pub mod OverlapRows
+pub mod EditWordLemmas

@@ -1,0 +1,4 @@
+pub mod Edit
+pub mod EditWords
+pub mod Overlap
+pub mod Together

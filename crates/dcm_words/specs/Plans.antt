@@ -1,0 +1,80 @@
+-- What a function made of the words of a command line.
+use Rattle.std.specs.Prelude.{◌≡◌, ℕ, ◌+◌, ◌<◌, nat_le, List, [], ◌∷◌, length, Option, Some, None, Result, Ok, Err, if◌then◌else◌, codes, bytes_eq}
+use Rattle.dcm_words.specs.declared.usage.Usage.{Usage}
+use Rattle.dcm_words.specs.declared.usage.Usage.TheVariants.{AtWord}
+use Rattle.dcm_words.specs.declared.usage.Word.{Word}
+use Rattle.dcm_base.specs.declared.fault.WordFault.TheVariants.{UnknownTool, BadOptionValue}
+use Rattle.dcm_words.specs.Words as words
+use Rattle.dcm_words.specs.declared.job.Build.{Build}
+use Rattle.dcm_words.specs.declared.job.Job.{Job}
+use Rattle.dcm_words.specs.declared.job.Job.TheVariants as jobs
+use Rattle.dcm_words.specs.declared.job.Planned.{Planned}
+use Rattle.dcm_words.specs.declared.words.Tool.{Tool}
+use Rattle.dcm_words.specs.declared.words.Tool.TheVariants as tools
+use Rattle.dcm_words.specs.declared.words.Paths.{Paths}
+use Rattle.dcm_words.specs.declared.words.Paths.TheVariants as paths
+use Rattle.dcm_words.specs.declared.words.Said.{Said}
+
+-- the words behind the program's name, as far as the tools are there
+abbrev pub meant : List (List ℕ) → Result words.Plan Usage
+meant [] = Err (AtWord UnknownTool 1)
+meant (tool ∷ others) =
+    if bytes_eq tool (codes "dcmdump") then words.dump_plan others
+    else if bytes_eq tool (codes "dcmconv") then words.convert_plan others
+    else if bytes_eq tool (codes "dump2dcm") then words.build_plan others
+    else Err (AtWord UnknownTool 1)
+
+abbrev pub job_of : Job → words.Job
+job_of (jobs.Dump d) = words.dump d.mode d.bare
+job_of (jobs.Convert c) = words.convert c.target
+job_of (jobs.Build b) = words.build b.limit
+
+abbrev pub planned : Planned → words.Plan
+planned p = record { input = p.input.now; output = p.output.now; job = job_of p.job }
+
+-- what a function returned is what the words mean
+abbrev pub Gives : Result Planned Usage → Result words.Plan Usage → Type 0
+Gives (Ok p) meant = meant ≡ Ok (planned p)
+Gives (Err u) meant = meant ≡ Err u
+
+-- ---- word by word
+
+-- what a word says to a tool
+abbrev pub reader : Tool → List ℕ → Word
+reader tools.Dump w = words.dump_word w
+reader tools.Convert w = words.convert_word w
+reader tools.Build w = words.build_word w
+
+-- a number, or one past the greatest limit where it is higher
+abbrev pub capped : ℕ → ℕ
+capped n = if nat_le n words.GREATEST_LIMIT then n else words.GREATEST_LIMIT + 1
+
+-- the limit that the words behind word n begin with
+abbrev pub given : ℕ → Option ℕ → Result ℕ Usage
+given n None = Err (AtWord BadOptionValue n)
+given n (Some limit) = Ok limit
+
+abbrev pub limit_behind : ℕ → List (List ℕ) → Result ℕ Usage
+limit_behind n [] = given n None
+limit_behind n (v ∷ others) = given n (words.limit_of v)
+
+-- what a function made of them
+abbrev pub LimitAs : Result Build Usage → Result ℕ Usage → Type 0
+LimitAs (Ok b) meant = meant ≡ Ok b.limit
+LimitAs (Err u) meant = meant ≡ Err u
+
+-- the paths so far
+abbrev pub PathsAre : Paths → List (List ℕ) → Type 0
+PathsAre paths.None ps = ps ≡ []
+PathsAre (paths.One first) ps = ps ≡ first.now ∷ []
+PathsAre (paths.Two first second) ps = ps ≡ first.now ∷ second.now ∷ []
+PathsAre paths.More ps = 2 < length ps
+
+-- what was said so far, with these paths
+abbrev pub said_with_paths : Said → List (List ℕ) → words.Said
+said_with_paths s ps = record { mode = s.mode; data_set = s.data_set; bare = s.bare; target = s.target; limit = s.build.limit; paths = ps }
+
+-- what a function made of all the words
+abbrev pub SaidAs : Result Said Usage → Result words.Said Usage → Type 0
+SaidAs (Ok s) meant = (ps : List (List ℕ)) × PathsAre s.paths ps × (meant ≡ Ok (said_with_paths s ps))
+SaidAs (Err u) meant = meant ≡ Err u
