@@ -2,3 +2,5 @@ pub mod Edit
 pub mod EditWords
 pub mod Overlap
 pub mod Together
+pub mod EditCode
+pub mod Meaning

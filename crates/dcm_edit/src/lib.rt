@@ -1,4 +1,9 @@
 //! What edits do to a data set, and the words that mean them.
 #![tactic(auto)]
 
+mod edit;
+mod edits;
 pub mod laws;
+
+pub use edit::{Action, Edit, Index, NewElement, PathEdit, Step};
+pub use edits::Edits;

@@ -1,0 +1,41 @@
+-- The edits of the program, as the definitions have them.
+use Rattle.std.specs.Prelude.{◌≡◌, ℕ, List, [], ◌∷◌, Ok}
+use Rattle.dcm_edit.specs.declared.edit.Index.{Index}
+use Rattle.dcm_edit.specs.declared.edit.Index.TheVariants.{Number, Every}
+use Rattle.dcm_edit.specs.declared.edit.Step.{Step}
+use Rattle.dcm_edit.specs.declared.edit.Action.{Action}
+use Rattle.dcm_edit.specs.declared.edit.Action.TheVariants.{Insert, Modify, Erase, EraseItem}
+use Rattle.dcm_edit.specs.declared.edit.PathEdit.{PathEdit}
+use Rattle.dcm_edit.specs.declared.edit.Edit.{Edit}
+use Rattle.dcm_edit.specs.declared.edit.Edit.TheVariants.{OnPath, ModifyAll, EraseAll, ErasePrivate}
+use Rattle.dcm_edit.specs.Edit as spec
+use Rattle.dcm_edit.specs.EditWords.{meant_edits}
+
+abbrev pub index_of : Index → spec.Index
+index_of (Number n) = spec.number n
+index_of Every = spec.every
+
+abbrev pub action_of : Action → spec.PathEdit
+action_of (Insert e) = spec.insert e.tag e.vr e.value.items
+action_of (Modify e) = spec.modify e.tag e.vr e.value.items
+action_of (Erase tag) = spec.erase tag
+action_of (EraseItem s) = spec.erase_item s.tag (index_of s.index)
+
+-- the steps of a path, before what is done at its end
+abbrev pub along : List Step → spec.PathEdit → spec.PathEdit
+along [] edit = edit
+along (s ∷ steps) edit = spec.step s.tag (index_of s.index) (along steps edit)
+
+abbrev pub path_edit_of : PathEdit → spec.PathEdit
+path_edit_of p = along p.steps.items (action_of p.action)
+
+abbrev pub edit_of : Edit → spec.Edit
+edit_of (OnPath p) = spec.on_path (path_edit_of p)
+edit_of (ModifyAll e) = spec.modify_all e.tag e.vr e.value.items
+edit_of (EraseAll tag) = spec.erase_all tag
+edit_of ErasePrivate = spec.erase_private
+
+-- some words mean the edits
+pub record AreMeant (edits : List spec.Edit) : Type 0 where
+  pub words : List (List ℕ)
+  pub mean : meant_edits words ≡ Ok edits

@@ -1,0 +1,55 @@
+// The edits that the words of a command line ask for.
+use dcm_base::{Tag, Vr};
+
+/// Which items of a sequence a step leads into: one by its number, from 0, or every one.
+#[derive(Clone, Copy, Debug, PartialEq, Eq)]
+pub enum Index {
+    Number(u32),
+    Every,
+}
+
+/// A step of a path, from a data set into items of its sequence with this tag.
+#[derive(Clone, Copy, Debug, PartialEq, Eq)]
+pub struct Step {
+    pub tag: Tag,
+    pub index: Index,
+}
+
+/// An element that an edit puts. Its value is in little endian order and has no pad byte.
+#[derive(Debug, Drop)]
+pub struct NewElement {
+    pub tag: Tag,
+    pub vr: Vr,
+    pub value: Vec<u8>,
+}
+
+/// What an edit does at the end of its path.
+#[derive(Debug, Drop)]
+pub enum Action {
+    /// Replaces the element, or puts it where it is missing.
+    Insert(NewElement),
+    /// Replaces the element where it is there.
+    Modify(NewElement),
+    Erase(Tag),
+    /// Erases items of a sequence.
+    EraseItem(Step),
+}
+
+/// An edit of the elements and items to which a path leads.
+#[derive(Debug, Drop)]
+pub struct PathEdit {
+    pub steps: Vec<Step>,
+    pub action: Action,
+}
+
+/// One edit.
+#[derive(Debug, Drop)]
+pub enum Edit {
+    OnPath(PathEdit),
+    /// Replaces each element of the tag, at all depths.
+    ModifyAll(NewElement),
+    /// Erases each element of the tag, at all depths.
+    EraseAll(Tag),
+    /// Erases each element of an odd group, at all depths.
+    ErasePrivate,
+}

@@ -1,0 +1,45 @@
+// The edits of a command line.
+ghost use Rattle.std.specs.Prelude.{◌≡◌, ◌≤◌, length, map};
+ghost use Rattle.dcm_edit.specs.Meaning.{edit_of};
+
+use crate::edit::Edit;
+use std::marker::Model;
+
+/// The edits that some words mean, in the order of the words: at most 64, of which no two overlap.
+#[derive(Debug, Drop)]
+pub struct Edits {
+    list: Vec<Edit>,
+}
+
+impl Model for Edits {
+    ghost use Rattle.std.specs.Prelude.{List, map};
+    ghost use Rattle.dcm_edit.specs.Edit as spec;
+    ghost use Rattle.dcm_edit.specs.EditCode.{edit_code};
+    ghost use Rattle.std.specs.Coded.{coded_list};
+
+    ghost Value = { List spec.Edit };
+
+    ghost coded = { coded_list edit_code };
+
+    ghost use Rattle.dcm_edit.specs.Meaning.{edit_of, AreMeant};
+
+    ghost view = { λ e. map edit_of e.list.items };
+
+    ghost invariant = { λ e. AreMeant (map edit_of e.list.items) };
+}
+
+impl Edits {
+    /// The edits, in the order of the words.
+    pub fn list(&self) -> &[Edit]
+        ensures { map edit_of result.now ≡ self.now }
+    {
+        self.list.as_slice()
+    }
+
+    /// How many edits there are.
+    pub fn len(&self) -> usize
+        ensures { result ≡ length self.now }
+    {
+        self.list.len()
+    }
+}
