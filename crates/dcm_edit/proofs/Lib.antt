@@ -7,3 +7,4 @@ pub mod OneByOneFront
 pub mod EditRows
 pub mod OverlapRows
 pub mod EditWordLemmas
+pub mod Paths

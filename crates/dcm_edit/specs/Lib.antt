@@ -4,3 +4,6 @@ pub mod Overlap
 pub mod Together
 pub mod EditCode
 pub mod Meaning
+pub mod NewOnes
+pub mod EditSink
+pub mod Masks

@@ -1,9 +1,11 @@
 //! What edits do to a data set, and the words that mean them.
 #![tactic(auto)]
 
+mod asked;
 mod edit;
 mod edits;
 pub mod laws;
 
+pub use asked::answers;
 pub use edit::{Action, Edit, Index, NewElement, PathEdit, Step};
 pub use edits::Edits;

@@ -1,0 +1,122 @@
+-- What the edits of a command line ask of an open data set: a mask with one bit an edit, and the number of items around it.
+use Rattle.std.specs.Prelude.{◌≡◌, ℕ, zero, suc, List, [], ◌∷◌, Option, Some, None, Bool, true, false, ◌&&◌, ◌||◌, ◌==◌, if◌then◌else◌}
+use Rattle.std.specs.Int.{bit_at}
+use Rattle.std.specs.List.{list_all}
+use Rattle.std.specs.Borrow.{Bor}
+use Rattle.dcm_base.specs.declared.tag.Tag.{Tag}
+use Rattle.dcm_base.specs.declared.vr.Vr.{Vr}
+use Rattle.dcm_base.specs.Tag.{same_tag}
+use Rattle.dcm_edit.specs.Edit.{Index, number, every, selects, PathEdit, step, insert, modify, erase, erase_item, Edit, on_path, modify_all, erase_all, erase_private, elsewhere, within, fate, acts, erases, NewElement, no_element, new_leaf, new_sequence, element_of}
+use Rattle.dcm_edit.specs.Edit as spec
+use Rattle.dcm_edit.specs.NewOnes.{above_last, is_between}
+use Rattle.dcm_edit.specs.EditSink.{has_place, makes}
+use Rattle.dcm_edit.specs.Meaning.{index_of}
+use Rattle.dcm_edit.specs.declared.edit.NewElement.{NewElement as Element}
+use Rattle.dcm_edit.specs.declared.edit.Step.{Step}
+use Rattle.dcm_edit.specs.declared.asked.Fate.{Fate}
+use Rattle.dcm_edit.specs.declared.asked.Fate.TheVariants as fates
+use Rattle.dcm_edit.specs.declared.asked.Gap.{Gap}
+use Rattle.dcm_edit.specs.declared.asked.New.{New}
+use Rattle.dcm_edit.specs.declared.asked.New.TheVariants as news
+use Rattle.dcm_edit.specs.declared.asked.Question.{Question}
+use Rattle.dcm_edit.specs.declared.asked.Question.TheVariants as questions
+
+-- ---- one edit
+
+-- what is left of a path after its first steps
+abbrev pub rest_of_path : ℕ → PathEdit → PathEdit
+rest_of_path zero edit = edit
+rest_of_path (suc n) (step tag index edit) = rest_of_path n edit
+rest_of_path (suc n) (insert tag vr value) = insert tag vr value
+rest_of_path (suc n) (modify tag vr value) = modify tag vr value
+rest_of_path (suc n) (erase tag) = erase tag
+rest_of_path (suc n) (erase_item tag index) = erase_item tag index
+
+-- what an edit that selects each item on the way asks of a data set within so many items
+abbrev pub at_depth : ℕ → Edit → Edit
+at_depth depth (on_path edit) = on_path (rest_of_path depth edit)
+at_depth depth (modify_all tag vr value) = modify_all tag vr value
+at_depth depth (erase_all tag) = erase_all tag
+at_depth depth erase_private = erase_private
+at_depth depth elsewhere = elsewhere
+
+-- whether an edit asks something of the data set in item n of the sequence with this tag
+abbrev pub goes_along : Edit → Tag → ℕ → Bool
+goes_along (on_path (step tag index edit)) t n = same_tag tag t && selects index n
+goes_along (on_path (insert tag vr value)) t n = false
+goes_along (on_path (modify tag vr value)) t n = false
+goes_along (on_path (erase tag)) t n = false
+goes_along (on_path (erase_item tag index)) t n = false
+goes_along (modify_all tag vr value) t n = true
+goes_along (erase_all tag) t n = true
+goes_along erase_private t n = true
+goes_along elsewhere t n = false
+
+abbrev pub is_first : Index → Bool
+is_first (number n) = n == 0
+is_first every = false
+
+-- what becomes of an element, as the program says it
+abbrev pub fate_of : Fate → spec.Fate
+fate_of fates.Stays = spec.stays
+fate_of (fates.Becomes e) = spec.becomes e.now.vr e.now.value.items
+fate_of fates.Goes = spec.goes
+
+-- what is seen of a new element from outside: a value, or the tag of a sequence on the way to one
+pub data Seen : Type 0 where
+  nothing_new : Seen
+  a_value : (tag : Tag) (vr : Vr) (value : List ℕ) → Seen
+  a_sequence : (tag : Tag) → Seen
+
+abbrev pub seen : NewElement → Seen
+seen no_element = nothing_new
+seen (new_leaf tag vr value) = a_value tag vr value
+seen (new_sequence tag held) = a_sequence tag
+
+abbrev pub seen_of : Option New → Seen
+seen_of None = nothing_new
+seen_of (Some (news.Leaf e)) = a_value e.now.tag e.now.vr e.now.value.items
+seen_of (Some (news.Sequence tag)) = a_sequence tag
+
+abbrev pub seen_value : Option (Bor Element) → Seen
+seen_value None = nothing_new
+seen_value (Some e) = a_value e.now.tag e.now.vr e.now.value.items
+
+-- the tag of the first step, where each leads into the first item
+abbrev pub sequence_on : List Step → Option Tag
+sequence_on [] = None
+sequence_on (s ∷ steps) = if list_all (λ x. is_first (index_of x.index)) (s ∷ steps) then Some s.tag else None
+
+abbrev pub new_tag : New → Tag
+new_tag (news.Leaf e) = e.now.tag
+new_tag (news.Sequence tag) = tag
+
+abbrev pub lies_in : Option Tag → Option Tag → Tag → Bool
+lies_in last None tag = above_last last tag
+lies_in last (Some next) tag = is_between last next tag
+
+abbrev pub in_gap : Gap → Tag → Bool
+in_gap gap tag = lies_in gap.last gap.next tag
+
+-- the answers of an edit to the questions about a place of the input
+abbrev pub answer_of : Question → Edit → Bool
+answer_of (questions.AtHead tag last) e = acts (fate e tag) || makes (is_between last tag) (element_of e)
+answer_of (questions.AtItem tag n) e = erases e tag n || has_place (element_of (within e tag n))
+answer_of (questions.AtEnd last) e = makes (above_last last) (element_of e)
+answer_of (questions.GoesAlong tag n) e = goes_along e tag n
+answer_of (questions.Erases tag n) e = erases e tag n
+
+-- ---- the edits of a command line
+
+abbrev pub is_set : ℕ → ℕ → Bool
+is_set mask k = bit_at mask k == 1
+
+-- what a mask means within so many items, for the edits from number k on
+abbrev pub asked : ℕ → ℕ → ℕ → List Edit → List Edit
+asked depth mask k [] = []
+asked depth mask k (e ∷ es) = (if is_set mask k then at_depth depth e else elsewhere) ∷ asked depth mask (suc k) es
+
+-- the bits of the edits from number k on
+abbrev pub bits : ℕ → ℕ → List Edit → List Bool
+bits mask k [] = []
+bits mask k (e ∷ es) = is_set mask k ∷ bits mask (suc k) es
