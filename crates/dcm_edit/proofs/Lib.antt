@@ -7,3 +7,12 @@ pub mod OneByOneFront
 pub mod EditRows
 pub mod OverlapRows
 pub mod EditWordLemmas
+pub mod Unbounded
+pub mod NewOnes
+pub mod Kept
+pub mod SoFar
+pub mod Shown
+pub mod Runs
+pub mod Passes
+pub mod Fronts
+pub mod Found
