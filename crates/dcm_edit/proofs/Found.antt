@@ -314,10 +314,10 @@ mutual
       or_group (erases e tag n) (has_place (element_of (within e tag n))) (seen_front (within e tag n) set)
       ∙ ap (λ (b : Bool). erases e tag n || b) (front_seen (within e tag n) set contents a more)
 
--- the law
-pub edit_steps : (es : List Edit) (f : Front) (atoms : List Atom) → AreApart es → ArePublic es → HaveValues es → FrontAscends f → Shows f atoms
+-- the law, of the steps without bounds
+pub edit_unbounded : (es : List Edit) (f : Front) (atoms : List Atom) → AreApart es → ArePublic es → HaveValues es → FrontAscends f → Shows f atoms
     → Shows (reached_anew (edited es f)) (out (begun es) atoms) × ((fold next_unbounded (begun es) atoms).found ≡ map (λ e. found e f) es)
-edit_steps es f atoms p b h a shown = (
+edit_unbounded es f atoms p b h a shown = (
   edit_passes es f atoms p b h a shown,
   found_front f es [] 0 (map (λ e. has_place (element_of e)) es) atoms shown ∙ all_seen es,
 )

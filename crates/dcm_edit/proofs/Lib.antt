@@ -16,3 +16,6 @@ pub mod Runs
 pub mod Passes
 pub mod Fronts
 pub mod Found
+pub mod Bounds
+pub mod Rooms
+pub mod EditSteps

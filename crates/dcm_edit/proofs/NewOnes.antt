@@ -1,4 +1,4 @@
--- New elements round the element of a tag.
+-- New elements around the element of a tag.
 use Rattle.std.proofs.Common.{◌≡◌, ℕ, zero, suc, List, [], ◌∷◌, Option, Some, Bool, true, false, not, ◌||◌, ◌&&◌, refl, sym, ◌∙◌, ap, arith, ◌⊎◌, inl, inr}
 use Rattle.std.specs.Prelude.{if◌then◌else◌}
 use Rattle.std.proofs.lemmas.Bool.Decides.{nat_tests}
@@ -65,7 +65,7 @@ has-below t u (leaf tag vr value rest) p q = or_both _ _ (same_above t tag (belo
 has-below t u (sequence tag vr declared items rest) p q = or_both _ _ (same_above t tag (below_trans tag u t p.0 q)) (has-below t u rest p.1 q)
 has-below t u (fragments tag vr values rest) p q = or_both _ _ (same_above t tag (below_trans tag u t p.0 q)) (has-below t u rest p.1 q)
 
--- what the element of a tag does to the new ones: the lesser come before it, the greater behind it
+-- what the element of a tag does to the new ones: the lesser come before it, the greater after it
 pub record Heads (tag : Tag) (k : Trees → Trees) : Type 0 where
   pub low_has : (t : Tag) (x : Trees) → Ascend (Some tag) x → below t tag ≡ true → has t (k x) ≡ false
   pub low_put : (t : Tag) (w : NewElement) (x : Trees) → Ascend (Some tag) x → below t tag ≡ true → put t w (k x) ≡ before w (k x)
@@ -112,7 +112,7 @@ settled_heads stays tag k h = h
 settled_heads (becomes vr value) tag k h = leaf_heads tag vr value
 settled_heads goes tag k h = none_heads tag
 
--- ---- one new element, round the element of a tag
+-- ---- one new element, around the element of a tag
 
 pub and_none : (a b : Bool) → b ≡ false → (a && b) ≡ false
 and_none true b p = p
@@ -347,7 +347,7 @@ settled_covers stays tag k es there none = inl there
 settled_covers (becomes vr value) tag k es there none = inl (λ t x p. or_is _ _ p)
 settled_covers goes tag k es there none = inr (none refl)
 
--- ---- all new elements, round the element of a tag
+-- ---- all new elements, around the element of a tag
 
 covers_new : (tag : Tag) (k : Trees → Trees) (w : NewElement) (t : Tag) (x : Trees) → ((u : Tag) (y : Trees) → same_tag u tag ≡ true → has u (k y) ≡ true) ⊎ (same_tag t tag ≡ false)
     → same_tag t tag ≡ true → has t (k x) ≡ true

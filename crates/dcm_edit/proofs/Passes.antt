@@ -122,7 +122,7 @@ item_by false es inner tag n m declared set put rest last up bs cs contents othe
 
 -- ---- all elements
 
--- the found bits behind a sequence
+-- the found bits after a sequence
 pub seen_sequence : (bs : List Bool) (es : List Edit) (last : Option Tag) (tag : Tag) (vr : Vr) (declared : Length) (items : Items) (rest : Trees)
     → either (either (either bs (map (λ e. head_seen e last tag) es)) (map (λ e. seen_items e tag 0 items) es)) (map (λ e. seen e (Some tag) rest) es)
     ≡ either bs (map (λ e. seen e last (sequence tag vr declared items rest)) es)

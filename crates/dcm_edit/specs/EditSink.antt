@@ -94,7 +94,7 @@ found_at_end s = either s.found (map (λ e. makes (above_last s.level.last) (ele
 
 -- after the end of an item, with the data sets around it
 abbrev pub after_item : State → List Level → State
-after_item s [] = s
+after_item s [] = record { level = s.level; outer = []; dropped = dropped_after_end s.dropped; found = s.found }
 after_item s (level ∷ outer) = record { level = level; outer = outer; dropped = dropped_after_end s.dropped; found = found_at_end s }
 
 -- after the head of an element
