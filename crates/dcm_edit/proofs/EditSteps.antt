@@ -13,7 +13,7 @@ use Rattle.dcm_edit.proofs.Bounds.{Fits, HasRoom, same_output, same_state}
 use Rattle.dcm_edit.proofs.Rooms.{front_room}
 use Rattle.dcm_edit.proofs.Found.{edit_unbounded}
 
-begun_fits : (es : List Edit) → HaveShortIndexes es → Fits 0 0 (begun es)
+pub begun_fits : (es : List Edit) → HaveShortIndexes es → Fits 0 0 (begun es)
 begun_fits es h = record { few = omega arith; dropped = omega arith; short = h; all_short = tt }
 
 pub edit_steps : (es : List Edit) (f : Front) (atoms : List Atom) → AreApart es → ArePublic es → HaveValues es → HaveShortIndexes es → FrontAscends f → StaysShallow 0 atoms → Shows f atoms

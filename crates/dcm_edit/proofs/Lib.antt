@@ -19,3 +19,7 @@ pub mod Found
 pub mod Bounds
 pub mod Rooms
 pub mod EditSteps
+pub mod Rises
+pub mod Ascends
+pub mod ReadsAscend
+pub mod Bars
