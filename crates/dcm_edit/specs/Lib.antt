@@ -1,7 +1,7 @@
 pub mod Edit
-pub mod EditWords
 pub mod Overlap
 pub mod Together
+pub mod EditWords
 pub mod EditCode
 pub mod Meaning
 pub mod NewOnes

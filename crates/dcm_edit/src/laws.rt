@@ -1,8 +1,20 @@
 //! Laws of the definitions. Each function takes nothing and makes no call: its contract is the law.
-ghost use Rattle.std.specs.Prelude.{◌≡◌, ℕ, List, Ok};
+ghost use Rattle.std.specs.Prelude.{◌≡◌, ◌≤◌, ℕ, List, Ok, false, fold, map};
 ghost use Rattle.dcm_base.specs.Ascending.{FrontAscends};
+ghost use Rattle.dcm_base.specs.Atoms.{Atom, Shows, is_closed};
+ghost use Rattle.dcm_base.specs.Bars.{ascending_bar};
 ghost use Rattle.dcm_base.specs.Front.{Front};
-ghost use Rattle.dcm_edit.specs.Edit.{Edit, edited};
+ghost use Rattle.dcm_base.specs.Reads.{INPUT_LIMIT, Reads, ended};
+ghost use Rattle.dcm_base.specs.Steps.{outputs};
+ghost use Rattle.dcm_base.specs.Stop.{Stop};
+ghost use Rattle.dcm_base.specs.declared.length.Length.{Length};
+ghost use Rattle.dcm_base.specs.declared.syntax.Syntax.{Syntax};
+ghost use Rattle.dcm_base.specs.declared.tag.Tag.{Tag};
+ghost use Rattle.dcm_base.specs.declared.vr.Vr.{Vr};
+ghost use Rattle.dcm_stream.specs.Driven.{bars_by};
+ghost use Rattle.dcm_tools.specs.Laws.{StaysShallow};
+ghost use Rattle.dcm_edit.specs.Edit.{Edit, edited, found};
+ghost use Rattle.dcm_edit.specs.EditSink.{HaveShortIndexes, HaveValues, begun, edit_bar, next, passed, reached_anew};
 ghost use Rattle.dcm_edit.specs.EditWords.{meant_edits};
 ghost use Rattle.dcm_edit.specs.Overlap.{AreApart, ArePublic};
 ghost use Rattle.dcm_edit.specs.Together.{together};
@@ -15,4 +27,22 @@ pub fn one_by_one()
 /// The edits that the words of a command line mean do not overlap, and name no tag of an odd group.
 pub fn edits_are_apart()
     ensures { (words : List (List ℕ)) (edits : List Edit) → meant_edits words ≡ Ok edits → AreApart edits × ArePublic edits }
+{}
+
+/// What is passed on of the atoms of a data set, whole or as far as it was read, shows it as the edits one after another leave
+/// it, reached tags aside, and the edits that have found their place are known, where the tags of each data set ascend and no
+/// more than 64 sequences and fragment lists are open at a time.
+pub fn edit_steps()
+    ensures { (edits : List Edit) (f : Front) (atoms : List Atom) → AreApart edits → ArePublic edits → HaveValues edits → HaveShortIndexes edits → FrontAscends f → StaysShallow 0 atoms → Shows f atoms → Shows (reached_anew (edited edits f)) (outputs next passed (begun edits) atoms) × ((fold next (begun edits) atoms).found ≡ map (λ e. found e f) edits) }
+{}
+
+/// The sink bars a head exactly where its tag is not above the last one of its data set.
+pub fn bar_steps()
+    ensures { (edits : List Edit) (f : Front) (atoms : List Atom) (tag : Tag) (vr : Vr) (declared : Length) → HaveShortIndexes edits → StaysShallow 0 atoms → Shows f atoms → bars_by edit_bar next (begun edits) atoms tag vr declared ≡ ascending_bar f tag vr declared }
+{}
+
+/// What is read of an input under that bar ascends, and so does what was read of it so far.
+pub fn reads_ascend()
+    ensures whole { (s : Syntax) (start : ℕ) (bytes : List ℕ) (f : Front) (stop : Stop) → start ≤ INPUT_LIMIT → Reads ascending_bar s start bytes f stop → FrontAscends f }
+    ensures so_far { (s : Syntax) (start : ℕ) (bytes : List ℕ) (f : Front) (stop : Stop) → start ≤ INPUT_LIMIT → is_closed f ≡ false → Reads ascending_bar s start bytes (ended stop f) stop → FrontAscends f }
 {}

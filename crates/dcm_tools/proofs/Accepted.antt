@@ -163,7 +163,7 @@ module _ (bar : HeadBar) where
       by_test true = tt
       by_test false = tt
 
-  byte_accepted : (r : Reading) (b : ℕ) (halt : Option Stop) (within : Bool) (n : ℕ) → AllAccepted bar (byte_read bar r b halt within n).1
+  pub byte_accepted : (r : Reading) (b : ℕ) (halt : Option Stop) (within : Bool) (n : ℕ) → AllAccepted bar (byte_read bar r b halt within n).1
   byte_accepted r b (Some stop) within n = tt
   byte_accepted r b None false n = tt
   byte_accepted r b None true (suc n) = settled_accepted (r.position + 1) (record { levels = r.levels; left = n; atoms = value_byte b ∷ closing n }) n (tt, closing_accepted n)

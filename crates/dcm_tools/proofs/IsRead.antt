@@ -25,7 +25,7 @@ pub record IsRead (s : Syntax) (f : Front) : Type 0 where
   pub spelled : SpellsFront s (unclosed f) bytes
   pub shallow : StaysShallow 0 (front_atoms s f)
 
-not_closed : (s : Syntax) (f : Front) (bytes : List ℕ) → SpellsFront s f bytes → is_closed f ≡ false
+pub not_closed : (s : Syntax) (f : Front) (bytes : List ℕ) → SpellsFront s f bytes → is_closed f ≡ false
 unfolding SpellsFront
 not_closed s (front whole o reached closed) bytes w = w.4
 
@@ -59,21 +59,24 @@ module _ (bars : List Atom → HeadBar) (bar : Bar) (same_bars : BarsAs bars bar
   refused_open : (f : Front) (fault : Fault) (offset : ℕ) → Reads bar s start bytes f (refused fault offset) → is_closed f ≡ false
   refused_open f fault offset (reached, why, first, told, is) = ap is_closed is ∙ not_closed s reached first.read first.spelled
 
-  far_shallow : (f : Front) (stop : Stop) → is_closed f ≡ false → Reads bar s start bytes (ended stop f) stop → StaysShallow 0 (front_atoms s f)
-  far_shallow f stop c reads =
+  -- the atoms of a machine over all bytes
+  pub far_atoms : (f : Front) (stop : Stop) → is_closed f ≡ false → Reads bar s start bytes (ended stop f) stop → (read_all bars s start bytes).1 ≡ front_atoms s f
+  far_atoms f stop c reads =
       let r : Reading = (read_all bars s start bytes).0 in
-      let shown : StaysShallow 0 (read_all bars s start bytes).1 = machine_shallow bars never_early s start bytes in
       elim (follows bars bar same_bars s start bytes le) [
         | inl h ↦
             let one = reads_once bar s start bytes (ended (finish r) h.f) (ended stop f) (finish r) stop h.reads reads in
             let same : h.f ≡ f = ended_same (finish r) stop h.f f (not_closed s h.f h.read h.spelled) c one.1 one.0 in
-            subst (λ (x : Front). StaysShallow 0 (front_atoms s x)) same (subst (StaysShallow 0) h.atoms_are shown)
+            h.atoms_are ∙ ap (front_atoms s) same
         | inr h ↦
             let here : Reads bar s start bytes h.f (refused h.fault h.offset) = subst (λ (x : List ℕ). Reads bar s start x h.f (refused h.fault h.offset)) (append-nil bytes) (h.reads []) in
             let one = reads_once bar s start bytes h.f (ended stop f) (refused h.fault h.offset) stop here reads in
             let same : h.f ≡ f = ended_same (refused h.fault h.offset) stop h.f f (refused_open h.f h.fault h.offset here) c one.1 one.0 in
-            subst (λ (x : Front). StaysShallow 0 (front_atoms s x)) same (subst (StaysShallow 0) h.atoms_are shown)
+            h.atoms_are ∙ ap (front_atoms s) same
       ]
+
+  far_shallow : (f : Front) (stop : Stop) → is_closed f ≡ false → Reads bar s start bytes (ended stop f) stop → StaysShallow 0 (front_atoms s f)
+  far_shallow f stop c reads = subst (StaysShallow 0) (far_atoms f stop c reads) (machine_shallow bars never_early s start bytes)
 
   pub far_read : (f : Front) (stop : Stop) → is_closed f ≡ false → Reads bar s start bytes (ended stop f) stop → IsRead s f
   far_read f stop c (reached, why, first, told, is) =
