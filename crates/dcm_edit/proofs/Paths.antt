@@ -9,7 +9,6 @@ use Rattle.dcm_edit.specs.declared.edit.Index.TheVariants as indexes
 use Rattle.dcm_edit.specs.declared.edit.Step.{Step}
 use Rattle.dcm_edit.specs.declared.edit.Action.{Action}
 use Rattle.dcm_edit.specs.declared.edit.Action.TheVariants as actions
-use Rattle.dcm_edit.specs.declared.edit.NewElement.{NewElement as Element}
 use Rattle.dcm_base.specs.declared.vr.Vr.{Vr}
 use Rattle.dcm_base.specs.Tag.{same_tag}
 use Rattle.dcm_edit.specs.Edit.{Index, selects, PathEdit, step, insert, modify, erase, erase_item, Edit, on_path, modify_all, erase_all, erase_private, elsewhere, within, stays, path_fate, erases, NewElement, no_element, new_leaf, new_sequence, new_element, around}

@@ -1,11 +1,11 @@
 -- What the edits of a command line ask of an open data set: a mask with one bit an edit, and the number of items around it.
-use Rattle.std.specs.Prelude.{◌≡◌, ℕ, zero, suc, List, [], ◌∷◌, Option, Some, None, Bool, true, false, ◌&&◌, ◌||◌, ◌==◌, if◌then◌else◌}
+use Rattle.std.specs.Prelude.{ℕ, zero, suc, List, [], ◌∷◌, Option, Some, None, Bool, true, false, ◌&&◌, ◌||◌, ◌==◌, if◌then◌else◌}
 use Rattle.std.specs.Int.{bit_at}
 use Rattle.std.specs.List.{list_all}
 use Rattle.std.specs.Borrow.{Bor}
 use Rattle.dcm_base.specs.declared.tag.Tag.{Tag}
 use Rattle.dcm_base.specs.declared.vr.Vr.{Vr}
-use Rattle.dcm_base.specs.Tag.{same_tag}
+use Rattle.dcm_base.specs.Tag.{same_tag, below}
 use Rattle.dcm_edit.specs.Edit.{Index, number, every, selects, PathEdit, step, insert, modify, erase, erase_item, Edit, on_path, modify_all, erase_all, erase_private, elsewhere, within, fate, acts, erases, NewElement, no_element, new_leaf, new_sequence, element_of}
 use Rattle.dcm_edit.specs.Edit as spec
 use Rattle.dcm_edit.specs.NewOnes.{above_last, is_between}
@@ -102,6 +102,7 @@ in_gap gap tag = lies_in gap.last gap.next tag
 abbrev pub answer_of : Question → Edit → Bool
 answer_of (questions.AtHead tag last) e = acts (fate e tag) || makes (is_between last tag) (element_of e)
 answer_of (questions.AtItem tag n) e = erases e tag n || has_place (element_of (within e tag n))
+answer_of questions.AtTop e = has_place (element_of e)
 answer_of (questions.AtEnd last) e = makes (above_last last) (element_of e)
 answer_of (questions.GoesAlong tag n) e = goes_along e tag n
 answer_of (questions.Erases tag n) e = erases e tag n
@@ -111,12 +112,42 @@ answer_of (questions.Erases tag n) e = erases e tag n
 abbrev pub is_set : ℕ → ℕ → Bool
 is_set mask k = bit_at mask k == 1
 
--- what a mask means within so many items, for the edits from number k on
+-- what a mask means within so many items, for edit k and for the edits from number k on
+abbrev pub asked_one : ℕ → ℕ → ℕ → Edit → Edit
+asked_one depth mask k e = if is_set mask k then at_depth depth e else elsewhere
+
 abbrev pub asked : ℕ → ℕ → ℕ → List Edit → List Edit
 asked depth mask k [] = []
-asked depth mask k (e ∷ es) = (if is_set mask k then at_depth depth e else elsewhere) ∷ asked depth mask (suc k) es
+asked depth mask k (e ∷ es) = asked_one depth mask k e ∷ asked depth mask (suc k) es
 
 -- the bits of the edits from number k on
 abbrev pub bits : ℕ → ℕ → List Edit → List Bool
 bits mask k [] = []
 bits mask k (e ∷ es) = is_set mask k ∷ bits mask (suc k) es
+
+-- whether one of them answers yes
+abbrev pub any_answer : Question → List Edit → Bool
+any_answer q [] = false
+any_answer q (e ∷ es) = answer_of q e || any_answer q es
+
+-- ---- the new element with the least tag
+
+abbrev pub seen_in : Gap → Seen → Seen
+seen_in gap nothing_new = nothing_new
+seen_in gap (a_value tag vr value) = if in_gap gap tag then a_value tag vr value else nothing_new
+seen_in gap (a_sequence tag) = if in_gap gap tag then a_sequence tag else nothing_new
+
+abbrev pub is_above_seen : Seen → Tag → Bool
+is_above_seen nothing_new t = true
+is_above_seen (a_value tag vr value) t = below t tag
+is_above_seen (a_sequence tag) t = below t tag
+
+-- of two with one tag the first
+abbrev pub lesser : Seen → Seen → Seen
+lesser first nothing_new = first
+lesser first (a_value tag vr value) = if is_above_seen first tag then a_value tag vr value else first
+lesser first (a_sequence tag) = if is_above_seen first tag then a_sequence tag else first
+
+abbrev pub least_new : Gap → Seen → List Edit → Seen
+least_new gap least [] = least
+least_new gap least (e ∷ es) = least_new gap (lesser least (seen_in gap (seen (element_of e)))) es

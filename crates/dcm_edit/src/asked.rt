@@ -39,6 +39,8 @@ pub enum Question {
     AtHead(Tag, Option<Tag>),
     /// Whether it finds its place at the head of this item of a sequence.
     AtItem(Tag, u32),
+    /// Whether it has its place in the data set of a file, whatever that holds.
+    AtTop,
     /// Whether it finds its place at the end of a data set.
     AtEnd(Option<Tag>),
     /// Whether it asks something of the data set in this item of a sequence.
@@ -315,6 +317,7 @@ pub fn answers(edit: &Edit, depth: usize, question: Question) -> bool
         Question::AtItem(tag, item) => {
             erases(edit, depth, tag, item) || has_place_in(edit, depth, tag, item)
         }
+        Question::AtTop => has_place(edit, depth),
         Question::AtEnd(last) => makes(edit, depth, Gap { last, next: None }),
         Question::GoesAlong(tag, item) => goes_along(edit, depth, tag, item),
         Question::Erases(tag, item) => erases(edit, depth, tag, item),

@@ -5,7 +5,8 @@ mod asked;
 mod edit;
 mod edits;
 pub mod laws;
+mod mask;
 
-pub use asked::answers;
 pub use edit::{Action, Edit, Index, NewElement, PathEdit, Step};
 pub use edits::Edits;
+pub use mask::{all, answering, any_answers, first_fate, least_new};

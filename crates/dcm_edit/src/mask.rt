@@ -1,0 +1,168 @@
+// Which edits of a command line ask something of an open data set, as a mask: bit k for edit k, counted from 0.
+ghost use Rattle.std.specs.Prelude.{◌≡◌, ◌≢◌, ◌<◌, ◌≤◌, ◌^◌, ℕ, length, map, true, false, Some};
+ghost use Rattle.dcm_edit.specs.Edit as spec;
+ghost use Rattle.dcm_edit.specs.Masks as masks;
+ghost use Rattle.dcm_edit.specs.Meaning.{edit_of};
+ghost use Rattle.dcm_edit.specs.Together as together;
+
+use crate::asked::{Fate, Gap, New, Question, answers, fate_by, is_below, new_element};
+use crate::edit::Edit;
+use dcm_base::Tag;
+
+/// The bits of a mask.
+const MOST_EDITS: usize = 64;
+
+fn is_set(mask: u64, place: usize) -> bool
+    requires { place < 64 }
+    ensures { result ≡ masks.is_set mask place }
+{
+    (mask >> place) & 1 == 1
+}
+
+/// The mask with this bit set.
+fn with_bit(mask: u64, place: usize) -> u64
+    requires { place < 64 }
+    ensures same { masks.is_set result place ≡ true }
+    ensures others { (k : ℕ) → k ≢ place → masks.is_set result k ≡ masks.is_set mask k }
+{
+    mask | (1 << place)
+}
+
+/// The mask of so many edits.
+pub fn all(count: usize) -> u64
+    requires { count ≤ 64 }
+    ensures { (k : ℕ) → k < count → masks.is_set result k ≡ true }
+{
+    if count == MOST_EDITS {
+        return u64::MAX;
+    }
+    (1 << count) - 1
+}
+
+/// The answers so far, and that of one more edit, if the mask has it.
+fn with_answer(
+    yes: u64,
+    edit: &Edit,
+    depth: usize,
+    mask: u64,
+    place: usize,
+    question: Question,
+) -> u64
+    requires place { place < 64 }
+    requires depth { depth < 2 ^ 32 }
+    requires unset { masks.is_set yes place ≡ false }
+    ensures here { masks.is_set result place ≡ masks.answer_of question (masks.asked_one depth mask place (edit_of edit.now)) }
+    ensures others { (k : ℕ) → k ≢ place → masks.is_set result k ≡ masks.is_set yes k }
+{
+    if is_set(mask, place) && answers(edit, depth, question) {
+        return with_bit(yes, place);
+    }
+    yes
+}
+
+/// The edits of a mask that answer yes.
+pub fn answering(edits: &[Edit], depth: usize, mask: u64, question: Question) -> u64
+    requires few { length edits.now ≤ 64 }
+    requires depth { depth < 2 ^ 32 }
+    ensures { masks.bits result 0 (map edit_of edits.now) ≡ map (masks.answer_of question) (masks.asked depth mask 0 (map edit_of edits.now)) }
+{
+    let mut yes = 0;
+    let mut place = 0;
+    let mut rest = edits;
+    while let Some((edit, after)) = rest.split_first() {
+        yes = with_answer(yes, edit, depth, mask, place, question);
+        place += 1;
+        rest = after;
+    }
+    yes
+}
+
+/// Whether an edit of a mask answers yes.
+pub fn any_answers(edits: &[Edit], depth: usize, mask: u64, question: Question) -> bool
+    requires few { length edits.now ≤ 64 }
+    requires depth { depth < 2 ^ 32 }
+    ensures { result ≡ masks.any_answer question (masks.asked depth mask 0 (map edit_of edits.now)) }
+{
+    let mut place = 0;
+    let mut rest = edits;
+    while let [edit, after @ ..] = rest {
+        if is_set(mask, place) && answers(edit, depth, question) {
+            return true;
+        }
+        place += 1;
+        rest = after;
+    }
+    false
+}
+
+/// What an edit makes of an element, if the mask has it.
+fn fate_in(edit: &Edit, depth: usize, mask: u64, place: usize, tag: Tag) -> Fate<'_>
+    requires { place < 64 }
+    ensures { masks.fate_of result ≡ spec.fate (masks.asked_one depth mask place (edit_of edit.now)) tag }
+{
+    if is_set(mask, place) {
+        return fate_by(edit, depth, tag);
+    }
+    Fate::Stays
+}
+
+/// What the first edit of a mask that changes an element makes of it.
+pub fn first_fate(edits: &[Edit], depth: usize, mask: u64, tag: Tag) -> Fate<'_>
+    requires few { length edits.now ≤ 64 }
+    ensures { masks.fate_of result ≡ together.first_fate (masks.asked depth mask 0 (map edit_of edits.now)) tag }
+{
+    let mut place = 0;
+    let mut rest = edits;
+    while let [edit, after @ ..] = rest {
+        match fate_in(edit, depth, mask, place, tag) {
+            Fate::Stays => {}
+            Fate::Becomes(element) => return Fate::Becomes(element),
+            Fate::Goes => return Fate::Goes,
+        }
+        place += 1;
+        rest = after;
+    }
+    Fate::Stays
+}
+
+/// The lesser of two new elements; of two with one tag the first.
+fn lesser<'e>(first: Option<New<'e>>, other: New<'e>) -> New<'e>
+    ensures { masks.seen_of (Some result) ≡ masks.lesser (masks.seen_of first.entry) (masks.seen_of (Some other.entry)) }
+{
+    match first {
+        Some(new) if !is_below(other.tag(), new.tag()) => new,
+        _ => other,
+    }
+}
+
+/// What an edit puts in a gap, if the mask has it.
+fn new_in(edit: &Edit, depth: usize, mask: u64, place: usize, gap: Gap) -> Option<New<'_>>
+    requires { place < 64 }
+    ensures { masks.seen_of result ≡ masks.seen_in gap (masks.seen (spec.element_of (masks.asked_one depth mask place (edit_of edit.now)))) }
+{
+    if !is_set(mask, place) {
+        return None;
+    }
+    match new_element(edit, depth) {
+        Some(new) if gap.holds(new.tag()) => Some(new),
+        _ => None,
+    }
+}
+
+/// The new element with the least tag in a gap, of the edits of a mask.
+pub fn least_new(edits: &[Edit], depth: usize, mask: u64, gap: Gap) -> Option<New<'_>>
+    requires few { length edits.now ≤ 64 }
+    ensures { masks.seen_of result ≡ masks.least_new gap masks.nothing_new (masks.asked depth mask 0 (map edit_of edits.now)) }
+{
+    let mut least = None;
+    let mut place = 0;
+    let mut rest = edits;
+    while let [edit, after @ ..] = rest {
+        if let Some(new) = new_in(edit, depth, mask, place, gap) {
+            least = Some(lesser(least, new));
+        }
+        place += 1;
+        rest = after;
+    }
+    least
+}
