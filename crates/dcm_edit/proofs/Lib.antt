@@ -23,3 +23,4 @@ pub mod Rises
 pub mod Ascends
 pub mod ReadsAscend
 pub mod Bars
+pub mod RecodeAnew
