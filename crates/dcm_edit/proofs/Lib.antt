@@ -24,3 +24,4 @@ pub mod Ascends
 pub mod ReadsAscend
 pub mod Bars
 pub mod RecodeAnew
+pub mod Selection
