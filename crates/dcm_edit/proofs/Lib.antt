@@ -25,3 +25,4 @@ pub mod ReadsAscend
 pub mod Bars
 pub mod RecodeAnew
 pub mod Selection
+pub mod MadeSequences

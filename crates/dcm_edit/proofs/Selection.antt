@@ -6,12 +6,12 @@ use Rattle.dcm_base.specs.declared.tag.Tag.{Tag}
 use Rattle.dcm_base.specs.declared.vr.Vr.TheVariants.{SQ}
 use Rattle.dcm_base.specs.declared.length.Length.TheVariants.{Undefined}
 use Rattle.dcm_base.specs.Tag.{same_tag, below, is_above}
-use Rattle.dcm_base.specs.Tree.{Trees, no_tree, leaf, sequence, fragments, item, no_item}
-use Rattle.dcm_base.proofs.TagLemmas.{below_trans, below_other, below_other_way, tag_is, same_tag_self}
+use Rattle.dcm_base.specs.Tree.{Trees, no_tree, leaf, sequence, fragments}
+use Rattle.dcm_base.proofs.TagLemmas.{below_other, below_other_way, tag_is, same_tag_self}
 use Rattle.dcm_edit.specs.Edit.{Edit, has, put, before, NewElement, no_element, new_leaf, new_sequence, element_of}
 use Rattle.dcm_edit.specs.Together.{completed}
 use Rattle.dcm_edit.specs.NewOnes.{put_at, put_new, puts, above_last, is_between, passes_new, any_new, passing, lesser, least_new, first_new}
-use Rattle.dcm_edit.proofs.NewOnes.{Heads, leaf_heads, sequence_heads, off, alike, if_true, or_is, and_none, and_all, below_not_back, same_not_above, same_not_below}
+use Rattle.dcm_edit.proofs.NewOnes.{Heads, leaf_heads, sequence_heads, off, alike, if_true, or_is, below_not_back, same_not_above, same_not_below}
 
 -- ---- where none passes
 
