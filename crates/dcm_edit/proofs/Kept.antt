@@ -76,7 +76,7 @@ missing_puts no_element set = refl
 missing_puts (new_leaf t vr value) set = if_other (has t set) _ _
 missing_puts (new_sequence t held) set = if_other (has t set) _ _
 
-all_missing_puts : (es : List Edit) (set : Trees) → with_all_missing es set ≡ puts (λ t. true) es set
+pub all_missing_puts : (es : List Edit) (set : Trees) → with_all_missing es set ≡ puts (λ t. true) es set
 all_missing_puts [] set = refl
 all_missing_puts (e ∷ es) set =
     let w : NewElement = completed es (element_of e) in

@@ -25,3 +25,6 @@ pub mod Ascends
 pub mod ReadsAscend
 pub mod Bars
 pub mod Bits
+pub mod RecodeAnew
+pub mod Selection
+pub mod MadeSequences

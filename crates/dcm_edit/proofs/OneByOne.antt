@@ -364,7 +364,7 @@ quiet_new n (erase_all tag) es h g = tt
 quiet_new n erase_private es h g = tt
 quiet_new n elsewhere es h g = tt
 
--- by induction on the declared of the paths
+-- by induction on the length of the paths
 pub shorter_agree : (n m : ℕ) → m < n → SetsAgree m
 shorter_agree zero m p = absurd (let q : ⊥ = omega arith in q)
 shorter_agree (suc n) m p = sets_agree m (λ j q e es g. quiet_new j e es (λ k r. shorter_agree n k (omega arith)) g)

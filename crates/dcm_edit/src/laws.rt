@@ -5,6 +5,7 @@ ghost use Rattle.dcm_base.specs.Atoms.{Atom, Shows, is_closed};
 ghost use Rattle.dcm_base.specs.Bars.{ascending_bar};
 ghost use Rattle.dcm_base.specs.Front.{Front};
 ghost use Rattle.dcm_base.specs.Reads.{INPUT_LIMIT, Reads, ended};
+ghost use Rattle.dcm_base.specs.Recode.{recode};
 ghost use Rattle.dcm_base.specs.Steps.{outputs};
 ghost use Rattle.dcm_base.specs.Stop.{Stop};
 ghost use Rattle.dcm_base.specs.declared.length.Length.{Length};
@@ -45,4 +46,9 @@ pub fn bar_steps()
 pub fn reads_ascend()
     ensures whole { (s : Syntax) (start : ℕ) (bytes : List ℕ) (f : Front) (stop : Stop) → start ≤ INPUT_LIMIT → Reads ascending_bar s start bytes f stop → FrontAscends f }
     ensures so_far { (s : Syntax) (start : ℕ) (bytes : List ℕ) (f : Front) (stop : Stop) → start ≤ INPUT_LIMIT → is_closed f ≡ false → Reads ascending_bar s start bytes (ended stop f) stop → FrontAscends f }
+{}
+
+/// What is written of a data set in a target syntax does not depend on its reached tags.
+pub fn recode_anew()
+    ensures { (target : Syntax) (f : Front) → recode target (reached_anew f) ≡ recode target f }
 {}

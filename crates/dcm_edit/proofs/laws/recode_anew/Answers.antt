@@ -1,0 +1,5 @@
+use Rattle.dcm_edit.proofs.RecodeAnew.{recode_anew}
+use Rattle.dcm_edit.proofs.laws.recode_anew.Goals as goal
+
+pub returns : goal.returns
+returns c = recode_anew
