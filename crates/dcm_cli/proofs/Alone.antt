@@ -19,9 +19,9 @@ use Rattle.dcm_cli.specs.declared.ending.Ending.{Ending}
 use Rattle.dcm_cli.specs.declared.ending.Ending.TheVariants.{Unread, Output}
 use Rattle.dcm_cli.specs.Pass.{Pumps}
 use Rattle.dcm_cli.specs.Answer.{alone, uid_of_syntax, going_on}
-use Rattle.dcm_cli.specs.Run.{Answered, Worked, answered, could_not_read, could_not_write, ending_of_stop}
+use Rattle.dcm_cli.specs.Run.{Answered, Worked, answered, could_not_read, could_not_write, verdict_of_stop}
 use Rattle.dcm_cli.proofs.Makers.{dumper}
-use Rattle.dcm_cli.proofs.Sets.{SetMade, set_read, set_unread, set_unwritten, set_made, all_read}
+use Rattle.dcm_cli.proofs.Sets.{SetMade, set_read, set_unread, set_unwritten, set_made, all_read, no_edits}
 
 -- what is left of an input, where some of it was read
 pub splits : (had left : Option (List ℕ)) (read file : List ℕ) → had ≡ Some file → had ≡ prepend_known read left → (rest : List ℕ) × (left ≡ Some rest) × (file ≡ read ++ rest)
@@ -32,13 +32,13 @@ module _ (mode : Mode) (s : Syntax) (file : List ℕ) (held : Option (List ℕ))
   abbrev header : List ℕ
   header = set_header (uid_of_syntax s)
 
-  read_as : (f : Front) (stop : Stop) (ending : Ending) → ending ≡ ending_of_stop stop → Reads no_bar s 0 file f stop → Answered (dump mode (Some s)) file (header ++ dump_front mode 0 f) ending
-  read_as f stop ending ends reads = record { source = alone s f stop; reads = record { set = f; stop = stop; reads = reads; source_is = refl }; out_is = refl; ending_is = ends }
+  read_as : (f : Front) (stop : Stop) → Reads no_bar s 0 file f stop → Answered (dump mode (Some s)) file (header ++ dump_front mode 0 f) (verdict_of_stop stop)
+  read_as f stop reads = record { source = alone s f stop; reads = record { set = f; stop = stop; reads = reads; source_is = refl }; out_is = refl; verdict_is = no_edits (dump mode (Some s)) refl f stop }
 
   pub alone_unheaded : (holds : Option (List ℕ)) → AppendsFront held holds header → Worked (dump mode (Some s)) file held holds Output
   alone_unheaded holds begun =
       let a = all_read (dumper mode) s 0 (omega arith) file in
-      could_not_write (header ++ dump_front mode 0 a.0) (ending_of_stop a.1) (read_as a.0 a.1 (ending_of_stop a.1) refl a.2) refl (front_longer (dump_front mode 0 a.0) begun)
+      could_not_write (header ++ dump_front mode 0 a.0) (verdict_of_stop a.1) (read_as a.0 a.1 a.2) refl (front_longer (dump_front mode 0 a.0) begun)
 
   pub alone_worked : (had mid left holds : Option (List ℕ)) (ending : Ending) → had ≡ Some file → mid ≡ append_known held header
       → Pumps bars_nothing dump_step dump_writes had (start_of s 0) (dump_start mode) mid left holds ending → Worked (dump mode (Some s)) file held holds ending
@@ -51,11 +51,11 @@ module _ (mode : Mode) (s : Syntax) (file : List ℕ) (held : Option (List ℕ))
 
       of_set : (read rest : List ℕ) → file ≡ read ++ rest → SetMade no_bar (dump_front mode 0) s 0 read rest mid holds ending → Worked (dump mode (Some s)) file held holds ending
       of_set read rest parts (set_read f stop reads is e) =
-          answered (header ++ dump_front mode 0 f) (read_as f stop ending is (subst (λ (bs : List ℕ). Reads no_bar s 0 bs f stop) (sym parts) reads)) (behind (dump_front mode 0 f) e)
+          answered (header ++ dump_front mode 0 f) (verdict_of_stop stop) (read_as f stop (subst (λ (bs : List ℕ). Reads no_bar s 0 bs f stop) (sym parts) reads)) is (behind (dump_front mode 0 f) e)
       of_set read rest parts (set_unread f stop reads undecided is e) =
           could_not_read read rest (header ++ dump_front mode 0 (going_on f)) parts (record { set = f; stop = stop; reads = reads; open_end = undecided; out_is = refl }) (is ∙ ap Unread (omega arith)) (behind (dump_front mode 0 (going_on f)) e)
       of_set read rest parts (set_unwritten f stop reads is e) =
-          could_not_write (header ++ dump_front mode 0 f) (ending_of_stop stop) (read_as f stop (ending_of_stop stop) refl (subst (λ (bs : List ℕ). Reads no_bar s 0 bs f stop) (sym parts) reads)) is
+          could_not_write (header ++ dump_front mode 0 f) (verdict_of_stop stop) (read_as f stop (subst (λ (bs : List ℕ). Reads no_bar s 0 bs f stop) (sym parts) reads)) is
           (puts_behind {T = Unit {0}} {E = Unit {0}} held mid holds header (dump_front mode 0 f) (Err tt) went e)
 
 -- what a call that fails, and one that does not, has written

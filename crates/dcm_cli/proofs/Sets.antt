@@ -14,18 +14,27 @@ use Rattle.dcm_stream.specs.Reading.{start_of, finish, end_shows, is_undecided}
 use Rattle.dcm_stream.specs.Machine.{next_offset}
 use Rattle.dcm_stream.proofs.Driven.{ends_as, refuses_as, waits_as}
 use Rattle.dcm_cli.specs.declared.ending.Ending.{Ending}
-use Rattle.dcm_cli.specs.declared.ending.Ending.TheVariants.{Unread, Output}
+use Rattle.dcm_cli.specs.declared.ending.Ending.TheVariants.{Worked, Unread, Output}
 use Rattle.dcm_cli.specs.Pass.{Ends, at_end, at_fault, halted, unread, unwritten, end_unwritten}
-use Rattle.dcm_cli.specs.Answer.{going_on}
-use Rattle.dcm_cli.specs.Run.{ending_of_stop}
+use Rattle.dcm_edit.specs.Edit.{Edit}
+use Rattle.dcm_words.specs.Words.{Job}
+use Rattle.dcm_cli.specs.declared.ending.Verdict.TheVariants.{Done}
+use Rattle.dcm_cli.specs.Answer.{going_on, edits_of}
+use Rattle.dcm_cli.specs.Run.{verdict_of_stop, verdict_at, unplaced_mask}
 use Rattle.dcm_cli.proofs.Makers.{Maker, made, made_output, last_output, more_made, made_behind}
 
 -- of a data set from start on, of which this was read: all of its text was written, or what is sure of a beginning, or a beginning of the text
 pub data SetMade (bar : Bar) (text : Front → List ℕ) (s : Syntax) (start : ℕ) (read rest : List ℕ) (held holds : Option (List ℕ)) (ending : Ending) : Type 0 where
-  set_read : (f : Front) (stop : Stop) → Reads bar s start (read ++ rest) f stop → ending ≡ ending_of_stop stop → holds ≡ append_known held (text f) → SetMade bar text s start read rest held holds ending
+  set_read : (f : Front) (stop : Stop) → Reads bar s start (read ++ rest) f stop → ending ≡ Worked (verdict_of_stop stop) → holds ≡ append_known held (text f) → SetMade bar text s start read rest held holds ending
   set_unread : (f : Front) (stop : Stop) → Reads bar s start read f stop → is_undecided (Some stop) ≡ true → ending ≡ Unread (start + length read)
       → holds ≡ append_known held (text (going_on f)) → SetMade bar text s start read rest held holds ending
   set_unwritten : (f : Front) (stop : Stop) → Reads bar s start (read ++ rest) f stop → ending ≡ Output → AppendsFront held holds (text f) → SetMade bar text s start read rest held holds ending
+
+-- what the work comes to of a job that makes no edits
+pub no_edits : (job : Job) → edits_of job ≡ [] → (set : Front) (stop : Stop) → verdict_of_stop stop ≡ verdict_at job set stop
+unfolding unplaced_mask
+no_edits job none set complete = sym (ap (λ (edits : List Edit). Done (unplaced_mask edits set)) none)
+no_edits job none set (refused fault offset) = refl
 
 -- nothing is left
 pub none_left : (left : Option (List ℕ)) (rest : List ℕ) → IsAtEnd left → left ≡ Some rest → rest ≡ []

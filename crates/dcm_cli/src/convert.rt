@@ -14,7 +14,7 @@ ghost use Rattle.dcm_cli.specs.Answer as answer;
 ghost use Rattle.dcm_cli.specs.Pass as spec;
 ghost use Rattle.dcm_cli.specs.Run.{Worked};
 
-use crate::ending::Ending;
+use crate::ending::{Ending, Verdict, ending_of_head};
 use crate::head::{Begun, read_head_of, set_start};
 use crate::pass::read_set;
 use crate::syntax::uid_of_syntax;
@@ -114,15 +114,15 @@ fn convert_file<R: DeviceIn, W: DeviceOut>(
     let mut meta = Meta::new();
     let begun = match read_head_of(&mut meta, input, buffer) {
         Ok(begun) => begun,
-        Err(ending) => return ending,
+        Err(ending) => return ending_of_head(ending),
     };
     let coding = meta.coding();
     let start = set_start(&meta);
     if refuses_change(target, coding) {
-        return Ending::Refused(Stop {
+        return Ending::Worked(Verdict::Refused(Stop {
             fault: Fault::CannotChange,
             at: start,
-        });
+        }));
     }
     if write_head(&meta, target_uid(target, &meta), out).is_err() {
         return Ending::Output;

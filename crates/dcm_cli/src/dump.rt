@@ -6,7 +6,7 @@ ghost use Rattle.dcm_words.specs.Words.{dump as dump_job};
 ghost use Rattle.dcm_cli.specs.Pass as spec;
 ghost use Rattle.dcm_cli.specs.Run.{Worked};
 
-use crate::ending::Ending;
+use crate::ending::{Ending, ending_of_head};
 use crate::head::{read_head_of, set_start};
 use crate::pass::{read_rest, read_set};
 use crate::syntax::uid_of_syntax;
@@ -35,7 +35,7 @@ fn dump_file<R: DeviceIn, W: DeviceOut>(
     let mut meta = Meta::new();
     let begun = match read_head_of(&mut meta, input, buffer) {
         Ok(begun) => begun,
-        Err(ending) => return ending,
+        Err(ending) => return ending_of_head(ending),
     };
     if dump_header(&meta, mode, out).is_err() {
         return Ending::Output;

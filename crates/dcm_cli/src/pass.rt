@@ -41,17 +41,14 @@ fn feed_begun<S: Sink>(
     }
 }
 
-/// Ends the data set of a machine.
-fn end<S: Sink>(machine: &mut Machine, sink: &mut S) -> Ending
+/// Ends the data set of a machine that has not halted.
+fn end<S: Sink>(machine: &mut Machine, sink: &mut S) -> Result<(), Halt>
     requires { machine_spec.is_halted machine.old ≡ false }
     ensures ends { spec.EndsSet S.step S.writes machine.old.reading (S.state sink.old) (S.contents sink.old) (S.contents sink.new) result }
-    ensures failed { spec.TellsOutput (S.has_failed sink.old) (S.has_failed sink.new) result }
+    ensures failed { spec.TellsOutput (S.has_failed sink.old) (S.has_failed sink.new) (spec.ending_of result) }
     ensures kept { S.kept sink.new ≡ S.kept sink.old }
 {
-    match machine.finish(sink) {
-        Ok(()) => Ending::Done,
-        Err(halt) => ending_of(halt),
-    }
+    machine.finish(sink)
 }
 
 /// Feeds a machine all that an input has still to give, behind so many bytes.
@@ -75,14 +72,14 @@ pub fn read_rest<R: DeviceIn, S: Sink>(
     let mut read = read_before;
     loop {
         let n = match get_some(input, buffer) {
-            Ok(0) => return end(machine, sink),
+            Ok(0) => return ending_of(end(machine, sink)),
             Ok(n) => n,
             Err(_) => return Ending::Unread(read),
         };
         read += n as u64;
         let (piece, _) = buffer.split_at(n);
         if let Err(halt) = feed(piece, machine, sink) {
-            return ending_of(halt);
+            return ending_of(Err(halt));
         }
     }
 }
@@ -110,10 +107,10 @@ pub fn read_set<R: DeviceIn, S: Sink>(
 {
     let mut machine = Machine::new(coding, start);
     if let Err(halt) = feed_begun(begun, buffer, &mut machine, sink) {
-        return ending_of(halt);
+        return ending_of(Err(halt));
     }
     if begun.is_over {
-        return end(&mut machine, sink);
+        return ending_of(end(&mut machine, sink));
     }
     read_rest(begun.read, input, buffer, &mut machine, sink)
 }

@@ -12,7 +12,9 @@ use Rattle.dcm_words.specs.Words.{convert}
 use Rattle.dcm_head.specs.declared.meta_read.MetaEnd.TheVariants.{Ended}
 use Rattle.dcm_stream.specs.Reading.{start_of}
 use Rattle.dcm_tools.specs.EncodeSink.{encode_start, encode_step, encode_writes, encode_bar}
-use Rattle.dcm_cli.specs.declared.ending.Ending.TheVariants.{Refused}
+use Rattle.dcm_cli.specs.declared.ending.Ending.{Ending}
+use Rattle.dcm_cli.specs.declared.ending.Ending.TheVariants as endings
+use Rattle.dcm_cli.specs.declared.ending.Verdict.TheVariants.{Refused}
 use Rattle.dcm_cli.specs.Answer.{refuses_change, target_syntax, target_uid}
 use Rattle.dcm_cli.specs.Pass as spec
 use Rattle.dcm_cli.specs.Run.{Worked}
@@ -24,7 +26,8 @@ use Rattle.dcm_cli.proofs.convert.convert_file.Goals as goal
 pub returns-in-Err-clause-worked : goal.returns-in-Err-clause-worked
 returns-in-Err-clause-worked g c = λ file is.
     let head = c.in-Err.ensures.read in
-    file_unopened (convert c.args.target) refl file (g.W.DeviceOut.contents c.args.out.now) (g.R.DeviceIn.remaining c.args.input.now) (g.R.DeviceIn.remaining c.read_head_of.new.input) c.read_head_of.new.meta head.read c.in-Err.ending is head.given head.outcome
+    subst (λ (x : Ending). Worked (convert c.args.target) file (g.W.DeviceOut.contents c.args.out.now) (g.W.DeviceOut.contents c.args.out.now) x) (sym c.ending_of_head.ensures)
+    (file_unopened (convert c.args.target) refl file (g.W.DeviceOut.contents c.args.out.now) (g.R.DeviceIn.remaining c.args.input.now) (g.R.DeviceIn.remaining c.read_head_of.new.input) c.read_head_of.new.meta head.read c.in-Err.ending is head.given head.outcome)
 
 pub returns-then-refuses_change-clause-worked : goal.returns-then-refuses_change-clause-worked
 returns-then-refuses_change-clause-worked g c = λ file is.
@@ -34,7 +37,7 @@ returns-then-refuses_change-clause-worked g c = λ file is.
     let codings : Some (Ended c.coding-coding.result) ≡ Some (Ended o.coding) = sym c.coding-coding.ensures ∙ o.end_is in
     let coding : c.coding-coding.result ≡ o.coding = cc in
     let refuses : refuses_change (convert c.args.target) o.coding ≡ true = ap (refuses_change (convert c.args.target)) (sym coding) ∙ sym c.if-refuses_change.ensures in
-    subst (λ (n : ℕ). Worked (convert c.args.target) file (g.W.DeviceOut.contents c.args.out.now) (g.W.DeviceOut.contents c.args.out.now) (Refused (record { fault = CannotChange; at = n })))
+    subst (λ (n : ℕ). Worked (convert c.args.target) file (g.W.DeviceOut.contents c.args.out.now) (g.W.DeviceOut.contents c.args.out.now) (endings.Worked (Refused (record { fault = CannotChange; at = n }))))
     (sym (c.set_start-start.ensures.place ∙ o.place_is))
     (file_unchanged (convert c.args.target) refl file (g.W.DeviceOut.contents c.args.out.now) r o refuses)
 
@@ -74,6 +77,6 @@ returns-clause-worked g c = λ file is.
     (subst (λ n. Passed c.coding-coding.result n (target_syntax c.args.target c.coding-coding.result)) start
     (subst (λ t. Passed c.coding-coding.result c.set_start-start.result t) c.target_syntax.ensures c.encode_set.ensures.ends))
     in
-    file_worked (convert c.args.target) refl file (g.W.DeviceOut.contents c.args.out.now) r o keeps (file_encoder c.args.target o.coding)
+    file_worked (convert c.args.target) refl file (g.W.DeviceOut.contents c.args.out.now) r o keeps (file_encoder c.args.target o.coding) refl
     (g.R.DeviceIn.remaining c.args.input.now) (g.R.DeviceIn.remaining c.read_head_of.new.input) (g.R.DeviceIn.remaining c.encode_set.new.input)
     (g.W.DeviceOut.contents c.write_head.new.out) (g.W.DeviceOut.contents c.encode_set.new.out) c.in-Ok.begun c.read_head_of.new.buffer head.read c.encode_set.result is head.given head.outcome mid c.encode_set.ensures.over passed

@@ -10,6 +10,7 @@ use Rattle.dcm_head.specs.declared.meta_read.MetaEnd.TheVariants.{Ended}
 use Rattle.dcm_head.specs.MetaReading.{uid_of}
 use Rattle.dcm_stream.specs.Reading.{start_of}
 use Rattle.dcm_tools.specs.DumpSink.{DumpState, dump_start, dump_step, dump_writes, bars_nothing}
+use Rattle.dcm_cli.specs.declared.ending.Ending.{Ending}
 use Rattle.dcm_cli.specs.Pass as spec
 use Rattle.dcm_cli.specs.Run.{Worked}
 use Rattle.dcm_cli.proofs.Alone.{put_failed, put_whole}
@@ -19,7 +20,8 @@ use Rattle.dcm_cli.proofs.dump.dump_file.Goals as goal
 pub returns-in-Err-clause-worked : goal.returns-in-Err-clause-worked
 returns-in-Err-clause-worked g c = λ file is.
     let head = c.in-Err.ensures.read in
-    file_unopened (dump c.args.mode None) refl file (g.W.DeviceOut.contents c.args.out.now) (g.R.DeviceIn.remaining c.args.input.now) (g.R.DeviceIn.remaining c.read_head_of.new.input) c.read_head_of.new.meta head.read c.in-Err.ending is head.given head.outcome
+    subst (λ (x : Ending). Worked (dump c.args.mode None) file (g.W.DeviceOut.contents c.args.out.now) (g.W.DeviceOut.contents c.args.out.now) x) (sym c.ending_of_head.ensures)
+    (file_unopened (dump c.args.mode None) refl file (g.W.DeviceOut.contents c.args.out.now) (g.R.DeviceIn.remaining c.args.input.now) (g.R.DeviceIn.remaining c.read_head_of.new.input) c.read_head_of.new.meta head.read c.in-Err.ending is head.given head.outcome)
 
 pub returns-then-is_err-clause-worked : goal.returns-then-is_err-clause-worked
 returns-then-is_err-clause-worked g c = λ file is.
@@ -54,7 +56,7 @@ returns-clause-worked g c = λ file is.
     (subst (λ n. Passed c.coding.result n (dump_start c.args.mode)) start
     (subst (λ s. Passed c.coding.result c.set_start-start.result s) c.new-sink.ensures.state c.read_set.ensures.ends))
     in
-    let f = file_worked (dump c.args.mode None) refl file (g.W.DeviceOut.contents c.args.out.now) r o refl (file_dumper c.args.mode o.coding)
+    let f = file_worked (dump c.args.mode None) refl file (g.W.DeviceOut.contents c.args.out.now) r o refl (file_dumper c.args.mode o.coding) refl
     (g.R.DeviceIn.remaining c.args.input.now) (g.R.DeviceIn.remaining c.read_head_of.new.input) (g.R.DeviceIn.remaining c.read_set.new.input)
     (g.W.DeviceOut.contents c.new-sink.result.out.now) (g.W.DeviceOut.contents c.read_set.new.sink.out.now) c.in-Ok.begun c.read_head_of.new.buffer head.read c.read_set.result is head.given head.outcome mid c.read_set.ensures.over passed
     in

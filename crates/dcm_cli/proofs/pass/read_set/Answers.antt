@@ -1,4 +1,4 @@
-use Rattle.std.proofs.Common.{ℕ, List, [], ◌++◌, ap, sym, subst}
+use Rattle.std.proofs.Common.{ℕ, List, [], ◌++◌, ap, sym, subst, Err}
 use Rattle.std.proofs.lemmas.List.{append-nil}
 use Rattle.dcm_stream.specs.Reading.{Reading, start_of}
 use Rattle.dcm_stream.specs.Machine.{Progress}
@@ -20,9 +20,9 @@ returns-in-Err-clause-ends g c =
       ends = subst (λ ending. spec.Ends g.S.Sink.bar g.S.Sink.step g.S.Sink.writes (start_of c.args.coding.syntax c.args.start) (g.S.Sink.state c.args.sink.now) (g.S.Sink.contents c.args.sink.now)
           (g.R.DeviceIn.remaining c.args.input.now) (g.S.Sink.contents c.feed_begun.new.sink) (bytes ++ []) ending) (sym c.ending_of.ensures)
           (subst (λ xs. spec.Ends g.S.Sink.bar g.S.Sink.step g.S.Sink.writes (start_of c.args.coding.syntax c.args.start) (g.S.Sink.state c.args.sink.now) (g.S.Sink.contents c.args.sink.now)
-          (g.R.DeviceIn.remaining c.args.input.now) (g.S.Sink.contents c.feed_begun.new.sink) xs (spec.ending_of c.in-Err.halt)) (sym (append-nil bytes))
+          (g.R.DeviceIn.remaining c.args.input.now) (g.S.Sink.contents c.feed_begun.new.sink) xs (spec.ending_of (Err c.in-Err.halt))) (sym (append-nil bytes))
           (subst (λ (r : Reading). spec.Ends g.S.Sink.bar g.S.Sink.step g.S.Sink.writes r (g.S.Sink.state c.args.sink.now) (g.S.Sink.contents c.args.sink.now)
-          (g.R.DeviceIn.remaining c.args.input.now) (g.S.Sink.contents c.feed_begun.new.sink) bytes (spec.ending_of c.in-Err.halt)) first ends));
+          (g.R.DeviceIn.remaining c.args.input.now) (g.S.Sink.contents c.feed_begun.new.sink) bytes (spec.ending_of (Err c.in-Err.halt))) first ends));
     }
 
 pub returns-then-begun-clause-ends : goal.returns-then-begun-clause-ends
@@ -36,10 +36,12 @@ returns-then-begun-clause-ends g c =
     record {
       more = [];
       given = read_nothing (g.R.DeviceIn.remaining c.args.input.now);
-      ends = subst (λ xs. spec.Ends g.S.Sink.bar g.S.Sink.step g.S.Sink.writes (start_of c.args.coding.syntax c.args.start) (g.S.Sink.state c.args.sink.now) (g.S.Sink.contents c.args.sink.now)
-          (g.R.DeviceIn.remaining c.args.input.now) (g.S.Sink.contents c.end.new.sink) xs c.end.result) (sym (append-nil bytes))
+      ends = subst (λ ending. spec.Ends g.S.Sink.bar g.S.Sink.step g.S.Sink.writes (start_of c.args.coding.syntax c.args.start) (g.S.Sink.state c.args.sink.now) (g.S.Sink.contents c.args.sink.now)
+          (g.R.DeviceIn.remaining c.args.input.now) (g.S.Sink.contents c.end.new.sink) (bytes ++ []) ending) (sym c.ending_of-then-begun.ensures)
+          (subst (λ xs. spec.Ends g.S.Sink.bar g.S.Sink.step g.S.Sink.writes (start_of c.args.coding.syntax c.args.start) (g.S.Sink.state c.args.sink.now) (g.S.Sink.contents c.args.sink.now)
+          (g.R.DeviceIn.remaining c.args.input.now) (g.S.Sink.contents c.end.new.sink) xs (spec.ending_of c.end.result)) (sym (append-nil bytes))
           (subst (λ (r : Reading). spec.Ends g.S.Sink.bar g.S.Sink.step g.S.Sink.writes r (g.S.Sink.state c.args.sink.now) (g.S.Sink.contents c.args.sink.now)
-          (g.R.DeviceIn.remaining c.args.input.now) (g.S.Sink.contents c.end.new.sink) bytes c.end.result) first ends);
+          (g.R.DeviceIn.remaining c.args.input.now) (g.S.Sink.contents c.end.new.sink) bytes (spec.ending_of c.end.result)) first ends));
     }
 
 pub returns-clause-ends : goal.returns-clause-ends
