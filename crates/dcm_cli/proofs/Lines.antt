@@ -91,8 +91,8 @@ module _ (limit : ℕ) (held : Option (List ℕ)) (s : BuildState) (mid : Option
   built_on going = subst (λ (f : Bool). Goes build_step build_writes (build_start limit) held p.state holds (front ++ piece) (well f)) (going_is p.state.told p.failed going).0 went
 
   -- or halts at it
-  pub built_halted : (file rest : List ℕ) (h : BuildHalt) → file ≡ (front ++ piece) ++ rest → Err h ≡ answer p.state.told p.failed → Worked (building limit) file held holds (ending_of (Err h))
-  built_halted file rest h is e = by_halt (halt_is p.state.told p.failed h e)
+  pub built_halted : (file rest : List ℕ) (left : Option (List ℕ)) (h : BuildHalt) → file ≡ (front ++ piece) ++ rest → Err h ≡ answer p.state.told p.failed → Worked (building limit) file left held holds (ending_of (Err h))
+  built_halted file rest left h is e = by_halt (halt_is p.state.told p.failed h e)
     where
       read : List ℕ
       read = front ++ piece
@@ -100,7 +100,7 @@ module _ (limit : ℕ) (held : Option (List ℕ)) (s : BuildState) (mid : Option
       there : output limit (read ++ rest) ≡ output limit file
       there = ap (output limit) (sym is)
 
-      by_halt : ((p.failed ≡ true) × (h ≡ halts.Output)) ⊎ ((p.failed ≡ false) × (t : Told) × (p.state.told ≡ Some t) × (ending_of (Err h) ≡ endings.Worked (verdict_of_told (Some t)))) → Worked (building limit) file held holds (ending_of (Err h))
+      by_halt : ((p.failed ≡ true) × (h ≡ halts.Output)) ⊎ ((p.failed ≡ false) × (t : Told) × (p.state.told ≡ Some t) × (ending_of (Err h) ≡ endings.Worked (verdict_of_told (Some t)))) → Worked (building limit) file left held holds (ending_of (Err h))
       by_halt (inl x) =
           let grown : AppendsFront held holds (written limit read) = subst (λ (f : Bool). Goes build_step build_writes (build_start limit) held p.state holds read (well f)) x.0 went in
           could_not_write (output limit file) (verdict_of_told (build.built limit file).told) (record { out_is = refl; verdict_is = refl }) (ap (λ (z : BuildHalt). ending_of (Err z)) x.1)
@@ -115,10 +115,10 @@ module _ (limit : ℕ) (held : Option (List ℕ)) (s : BuildState) (mid : Option
           })
           x.3 w.1
 
-module _ (limit : ℕ) (file read : List ℕ) (held : Option (List ℕ)) (s : BuildState) (mid : Option (List ℕ)) (at : s ≡ state limit read) (out : mid ≡ append_known held (written limit read)) where
+module _ (limit : ℕ) (file read : List ℕ) (left held : Option (List ℕ)) (s : BuildState) (mid : Option (List ℕ)) (at : s ≡ state limit read) (out : mid ≡ append_known held (written limit read)) where
   -- reading fails
-  pub built_unread : (rest : List ℕ) → s.told ≡ None → file ≡ read ++ rest → Worked (building limit) file held mid (Unread (length read))
-  built_unread rest none is = could_not_read read rest (written limit read) is (lines_sure limit read (ap (λ (z : BuildState). z.told) (sym at) ∙ none)) refl out
+  pub built_unread : (rest : List ℕ) → s.told ≡ None → file ≡ read ++ rest → left ≡ Some rest → Worked (building limit) file left held mid (Unread (length read))
+  built_unread rest none is left_is = could_not_read read rest (written limit read) is left_is (lines_sure limit read (ap (λ (z : BuildState). z.told) (sym at) ∙ none)) refl out
 
   -- the input ends
   module _ (is : file ≡ read) (holds : Option (List ℕ)) where
@@ -126,7 +126,7 @@ module _ (limit : ℕ) (file read : List ℕ) (held : Option (List ℕ)) (s : Bu
     there =
         ap (λ (z : BuildState). written limit read ++ finish_writes z) at ∙ all_written limit read ∙ ap (output limit) (sym is)
 
-    ends : (told : Option Told) → (finishes s).told ≡ told → holds ≡ append_known mid (finish_writes s) → Worked (building limit) file held holds (endings.Worked (verdict_of_told told))
+    ends : (told : Option Told) → (finishes s).told ≡ told → holds ≡ append_known mid (finish_writes s) → Worked (building limit) file left held holds (endings.Worked (verdict_of_told told))
     ends told e grown =
         answered (output limit file) (verdict_of_told told)
         (record {
@@ -136,7 +136,7 @@ module _ (limit : ℕ) (file read : List ℕ) (held : Option (List ℕ)) (s : Bu
         refl
         (grown ∙ ap (λ (known : Option (List ℕ)). append_known known (finish_writes s)) out ∙ append_known_twice held (written limit read) (finish_writes s) ∙ ap (append_known held) there)
 
-    pub built_ended : (ended : Result (Unit {0}) BuildHalt) → EndsLines s mid holds ended → Worked (building limit) file held holds (ending_of ended)
+    pub built_ended : (ended : Result (Unit {0}) BuildHalt) → EndsLines s mid holds ended → Worked (building limit) file left held holds (ending_of ended)
     built_ended (Ok x) e = ends None e.0 e.1
     built_ended (Err (halts.Refused stop)) e = ends (Some (told_of stop)) e.0 e.1
     built_ended (Err halts.Output) e =

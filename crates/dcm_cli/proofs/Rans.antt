@@ -102,11 +102,11 @@ given (Dump d) input out verdict h = reads_given (dump d.mode d.bare) input out 
 given (Convert c) input out verdict h = reads_given (convert c.target) input out verdict few_without (λ a reads. reads) h
 given (Build b) input out verdict h = built_given b.limit input out verdict h
 
-module _ (job : RunJob) (input : List ℕ) (held worked holds told tells : Option (List ℕ)) (r_old r_new w_old w_mid w_new e_old e_new : Bool) (ending after : Ending) (status : ℕ)
+module _ (job : RunJob) (input : List ℕ) (left held worked holds told tells : Option (List ℕ)) (r_old r_new w_old w_mid w_new e_old e_new : Bool) (ending after : Ending) (status : ℕ)
     (kept : holds ≡ worked) (flushed : FlushedAs ending after w_mid w_new) (unread : TellsUnread r_old r_new ending) (failed : TellsOutput w_old w_mid ending)
     (line : Tries told tells e_old e_new (ending_lines after)) (status_was : status ≡ ending_status after) (readable : r_old ≡ false) (writable : w_old ≡ false) where
   abbrev devices : Devices
-  devices = record { held = held; holds = holds; told = told; tells = tells; unread = r_new; unwritten = w_new; untold_before = e_old; untold = e_new }
+  devices = record { left = left; held = held; holds = holds; told = told; tells = tells; unread = r_new; unwritten = w_new; untold_before = e_old; untold = e_new }
 
   told_of : (x : Ending) → after ≡ x → Tries told tells e_old e_new (ending_lines x)
   told_of x is = subst (λ (y : Ending). Tries told tells e_old e_new (ending_lines y)) is line
@@ -128,11 +128,11 @@ module _ (job : RunJob) (input : List ℕ) (held worked holds told tells : Optio
           not_written k.a k.answers read x.1
           (record { front = out; rest = []; whole = sym k.output_is ∙ sym (append-nil out); grown = kept ∙ grown }) (told_of Output x.0) (status_of Output x.0)
 
-  pub run_ran : Worked (job_of job) input held worked ending → Ran (job_of job) input devices status
+  pub run_ran : Worked (job_of job) input left held worked ending → Ran (job_of job) input devices status
   run_ran (answered out verdict was is grown) = after_answer out verdict (given job input out verdict was) is grown
-  run_ran (could_not_read p rest out whole sure is grown) =
+  run_ran (could_not_read p rest out whole at sure is grown) =
       let still : after ≡ Unread (length p) = subst (λ (x : Ending). FlushedAs x after w_mid w_new) is flushed in
-      not_read p rest out whole (subst (λ (x : Ending). TellsUnread r_old r_new x) is unread) sure (kept ∙ grown) (told_of (Unread (length p)) still) (status_of (Unread (length p)) still)
+      not_read p rest out whole at (subst (λ (x : Ending). TellsUnread r_old r_new x) is unread) sure (kept ∙ grown) (told_of (Unread (length p)) still) (status_of (Unread (length p)) still)
   run_ran (could_not_write out verdict was is grown) =
       let k = given job input out verdict was in
       let still : (after ≡ Output) × (w_new ≡ w_mid) = subst (λ (x : Ending). FlushedAs x after w_mid w_new) is flushed in

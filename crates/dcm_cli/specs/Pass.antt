@@ -106,45 +106,46 @@ pub record Fed {S : Type 0} (bars : S → Head → Option Bar) (step : S → Ato
   pub within : is_halted new ≡ false → next_offset new.reading ≤ INPUT_LIMIT
 
 -- the input has ended where a data set was read up to here
-abbrev pub EndsSet : {S : Type 0} → (S → Atom → S) → (S → Atom → List ℕ) → Reading → S → (held holds : Option (List ℕ)) → Result (Unit {0}) Halt → Type 0
-EndsSet step writes r s held holds (Ok x) = (finish r ≡ complete) × (holds ≡ append_known held (outputs step writes s (end_shows complete)))
-EndsSet step writes r s held holds (Err (halts.Refused stop)) = (finish r ≡ refused stop.fault stop.at) × (holds ≡ held)
-EndsSet step writes r s held holds (Err halts.Output) = AppendsFront held holds (outputs step writes s (end_shows (finish r)))
+abbrev pub EndsSet : {S : Type 0} → (S → Atom → S) → (S → Atom → List ℕ) → Reading → S → (held : Option (List ℕ)) → S → (holds : Option (List ℕ)) → Result (Unit {0}) Halt → Type 0
+EndsSet step writes r s held t holds (Ok x) = (finish r ≡ complete) × (t ≡ fold step s (end_shows complete)) × (holds ≡ append_known held (outputs step writes s (end_shows complete)))
+EndsSet step writes r s held t holds (Err (halts.Refused stop)) = (finish r ≡ refused stop.fault stop.at) × (holds ≡ held)
+EndsSet step writes r s held t holds (Err halts.Output) = AppendsFront held holds (outputs step writes s (end_shows (finish r)))
 
--- how the reading of a data set ended, where these bytes of it were read, and what was written
-pub data Ends {S : Type 0} (bars : S → Head → Option Bar) (step : S → Atom → S) (writes : S → Atom → List ℕ) (old : Reading) (s : S) (held left holds : Option (List ℕ)) (read : List ℕ) (ending : Ending) : Type 0 where
+-- how the reading of a data set ended, where these bytes of it were read, what was written, and where it was no fault the sink's state
+pub data Ends {S : Type 0} (bars : S → Head → Option Bar) (step : S → Atom → S) (writes : S → Atom → List ℕ) (old : Reading) (s : S) (held left : Option (List ℕ)) (t : S) (holds : Option (List ℕ)) (read : List ℕ) (ending : Ending) : Type 0 where
   -- the input has ended
   at_end : IsAtEnd left → (fold (steps bars step) (old, s) read).0.halt ≡ None → finish (fold (steps bars step) (old, s) read).0 ≡ complete → ending ≡ Worked (Done 0)
+      → t ≡ fold step (fold (steps bars step) (old, s) read).1 (end_shows complete)
       → holds ≡ append_known held (outputs (steps bars step) (steps_write bars step writes) (old, s) read ++ outputs step writes (fold (steps bars step) (old, s) read).1 (end_shows complete))
-      → Ends bars step writes old s held left holds read ending
+      → Ends bars step writes old s held left t holds read ending
   -- and that is a fault
   at_fault : (stop : HaltStop) → IsAtEnd left → (fold (steps bars step) (old, s) read).0.halt ≡ None → finish (fold (steps bars step) (old, s) read).0 ≡ refused stop.fault stop.at → ending ≡ Worked (Refused stop)
       → holds ≡ append_known held (outputs (steps bars step) (steps_write bars step writes) (old, s) read)
-      → Ends bars step writes old s held left holds read ending
+      → Ends bars step writes old s held left t holds read ending
   -- the data set is at fault
   halted : (stop : HaltStop) → (fold (steps bars step) (old, s) read).0.halt ≡ Some (refused stop.fault stop.at) → ending ≡ Worked (Refused stop)
       → holds ≡ append_known held (outputs (steps bars step) (steps_write bars step writes) (old, s) read)
-      → Ends bars step writes old s held left holds read ending
+      → Ends bars step writes old s held left t holds read ending
   -- reading failed
   unread : (fold (steps bars step) (old, s) read).0.halt ≡ None → ending ≡ Unread (next_offset old + length read)
       → holds ≡ append_known held (outputs (steps bars step) (steps_write bars step writes) (old, s) read)
-      → Ends bars step writes old s held left holds read ending
+      → Ends bars step writes old s held left t holds read ending
   -- the output failed
   unwritten : ending ≡ Output → AppendsFront held holds (outputs (steps bars step) (steps_write bars step writes) (old, s) read)
-      → Ends bars step writes old s held left holds read ending
+      → Ends bars step writes old s held left t holds read ending
   -- with the last bytes of it
   end_unwritten : IsAtEnd left → (fold (steps bars step) (old, s) read).0.halt ≡ None → ending ≡ Output
       → AppendsFront held holds (outputs (steps bars step) (steps_write bars step writes) (old, s) read ++ outputs step writes (fold (steps bars step) (old, s) read).1 (end_shows (finish (fold (steps bars step) (old, s) read).0)))
-      → Ends bars step writes old s held left holds read ending
+      → Ends bars step writes old s held left t holds read ending
 
 -- the rest of an input was read as a data set that was read up to here
-pub record Pumps {S : Type 0} (bars : S → Head → Option Bar) (step : S → Atom → S) (writes : S → Atom → List ℕ) (had : Option (List ℕ)) (old : Reading) (s : S) (held left holds : Option (List ℕ)) (ending : Ending) : Type 0 where
+pub record Pumps {S : Type 0} (bars : S → Head → Option Bar) (step : S → Atom → S) (writes : S → Atom → List ℕ) (had : Option (List ℕ)) (old : Reading) (s : S) (held left : Option (List ℕ)) (t : S) (holds : Option (List ℕ)) (ending : Ending) : Type 0 where
   pub read : List ℕ
   pub given : had ≡ prepend_known read left
-  pub ends : Ends bars step writes old s held left holds read ending
+  pub ends : Ends bars step writes old s held left t holds read ending
 
 -- and a data set whose first bytes stand in the buffer
-pub record BehindBegun {S : Type 0} (bars : S → Head → Option Bar) (step : S → Atom → S) (writes : S → Atom → List ℕ) (had : Option (List ℕ)) (begun : List ℕ) (first : Reading) (s : S) (held left holds : Option (List ℕ)) (ending : Ending) : Type 0 where
+pub record BehindBegun {S : Type 0} (bars : S → Head → Option Bar) (step : S → Atom → S) (writes : S → Atom → List ℕ) (had : Option (List ℕ)) (begun : List ℕ) (first : Reading) (s : S) (held left : Option (List ℕ)) (t : S) (holds : Option (List ℕ)) (ending : Ending) : Type 0 where
   pub more : List ℕ
   pub given : had ≡ prepend_known more left
-  pub ends : Ends bars step writes first s held left holds (begun ++ more) ending
+  pub ends : Ends bars step writes first s held left t holds (begun ++ more) ending

@@ -60,13 +60,13 @@ Answered (building limit) input out verdict = BuildEnds limit input out verdict
 Answered job input out verdict = ReadEnds job input out verdict
 
 -- of an input that was to be read from here on
-pub data Worked (job : Job) (input : List ℕ) (held holds : Option (List ℕ)) (ending : Ending) : Type 0 where
+pub data Worked (job : Job) (input : List ℕ) (left held holds : Option (List ℕ)) (ending : Ending) : Type 0 where
   -- all of it was read, or as much as decides, and all of the output was written
-  answered : (out : List ℕ) (verdict : Verdict) → Answered job input out verdict → ending ≡ endings.Worked verdict → holds ≡ append_known held out → Worked job input held holds ending
-  -- reading failed behind p
-  could_not_read : (p rest out : List ℕ) → input ≡ p ++ rest → Sure job p out → ending ≡ Unread (length p) → holds ≡ append_known held out → Worked job input held holds ending
+  answered : (out : List ℕ) (verdict : Verdict) → Answered job input out verdict → ending ≡ endings.Worked verdict → holds ≡ append_known held out → Worked job input left held holds ending
+  -- reading failed after p, and the rest was left
+  could_not_read : (p rest out : List ℕ) → input ≡ p ++ rest → left ≡ Some rest → Sure job p out → ending ≡ Unread (length p) → holds ≡ append_known held out → Worked job input left held holds ending
   -- the output failed
-  could_not_write : (out : List ℕ) (verdict : Verdict) → Answered job input out verdict → ending ≡ Output → AppendsFront held holds out → Worked job input held holds ending
+  could_not_write : (out : List ℕ) (verdict : Verdict) → Answered job input out verdict → ending ≡ Output → AppendsFront held holds out → Worked job input left held holds ending
 
 -- the output is flushed: it fails there just where it is then told
 abbrev pub FlushedAs : Ending → Ending → (old new : Bool) → Type 0
@@ -107,8 +107,9 @@ ending_status Output = 4
 
 -- ---- a run
 
--- what its writers hold before and after, and which devices failed in it
+-- what it left of its input, what its writers hold before and after, and which devices failed in it
 pub record Devices : Type 0 where
+  pub left : Option (List ℕ)
   pub held : Option (List ℕ)
   pub holds : Option (List ℕ)
   pub told : Option (List ℕ)
@@ -123,8 +124,8 @@ pub data Ran (job : Job) (input : List ℕ) (d : Devices) (status : ℕ) : Type 
   -- no device failed: just the output, the lines and the status of the answer
   as_answered : (a : Answer) → Answers job input a → d.unread ≡ false → d.unwritten ≡ false
       → d.holds ≡ append_known d.held a.output → Tries d.told d.tells d.untold_before d.untold a.told → status ≡ a.status → Ran job input d status
-  -- reading failed behind p: just what is sure of p was written
-  not_read : (p rest out : List ℕ) → input ≡ p ++ rest → d.unread ≡ true → Sure job p out
+  -- reading failed after p, and the rest was left: exactly what is sure of p was written
+  not_read : (p rest out : List ℕ) → input ≡ p ++ rest → d.left ≡ Some rest → d.unread ≡ true → Sure job p out
       → d.holds ≡ append_known d.held out → Tries d.told d.tells d.untold_before d.untold (unread_line (length p)) → status ≡ 4 → Ran job input d status
   -- the output failed: a beginning of it was written
   not_written : (a : Answer) → Answers job input a → d.unread ≡ false → d.unwritten ≡ true

@@ -44,7 +44,7 @@ fn build_lines<R: DeviceIn, W: DeviceOut>(
     requires limit { limit ≤ 16384 }
     requires room { 0 < length buffer.old }
     requires bound { length buffer.old ≤ 65536 }
-    ensures worked { (file : List ℕ) → R.remaining input.old ≡ Some file → Worked (build_job limit) file (W.contents out.old) (W.contents out.new) result }
+    ensures worked { (file : List ℕ) → R.remaining input.old ≡ Some file → Worked (build_job limit) file (R.remaining input.new) (W.contents out.old) (W.contents out.new) result }
     ensures unread { spec.TellsUnread (R.has_failed input.old) (R.has_failed input.new) result }
     ensures failed { spec.TellsOutput (W.has_failed out.old) (W.has_failed out.new) result }
 {
@@ -69,7 +69,7 @@ pub fn build<R: DeviceIn, W: DeviceOut>(
     input: &mut Watched<R>,
     out: &mut Watched<W>,
 ) -> Ending
-    ensures worked { (file : List ℕ) → R.remaining input.old ≡ Some file → Worked (build_job build.limit) file (W.contents out.old) (W.contents out.new) result }
+    ensures worked { (file : List ℕ) → R.remaining input.old ≡ Some file → Worked (build_job build.limit) file (R.remaining input.new) (W.contents out.old) (W.contents out.new) result }
     ensures unread { spec.TellsUnread (R.has_failed input.old) (R.has_failed input.new) result }
     ensures failed { spec.TellsOutput (W.has_failed out.old) (W.has_failed out.new) result }
 {

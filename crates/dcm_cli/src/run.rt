@@ -98,7 +98,7 @@ fn work<R: DeviceIn, W: DeviceOut>(
     input: &mut Watched<R>,
     out: &mut Watched<W>,
 ) -> Ending
-    ensures worked { (file : List ℕ) → R.remaining input.old ≡ Some file → spec.Worked (job_of job.now) file (W.contents out.old) (W.contents out.new) result }
+    ensures worked { (file : List ℕ) → R.remaining input.old ≡ Some file → spec.Worked (job_of job.now) file (R.remaining input.new) (W.contents out.old) (W.contents out.new) result }
     ensures unread { TellsUnread (R.has_failed input.old) (R.has_failed input.new) result }
     ensures failed { TellsOutput (W.has_failed out.old) (W.has_failed out.new) result }
 {
@@ -117,7 +117,7 @@ pub fn run<R: DeviceIn, W: DeviceOut, E: DeviceOut>(
     out: &mut Watched<W>,
     errors: &mut Watched<E>,
 ) -> Outcome
-    ensures ran { (file : List ℕ) → R.remaining input.old ≡ Some file → R.has_failed input.old ≡ false → W.has_failed out.old ≡ false → spec.Ran (job_of job.now) file (record { held = W.contents out.old; holds = W.contents out.new; told = E.contents errors.old; tells = E.contents errors.new; unread = R.has_failed input.new; unwritten = W.has_failed out.new; untold_before = E.has_failed errors.old; untold = E.has_failed errors.new }) result.status }
+    ensures ran { (file : List ℕ) → R.remaining input.old ≡ Some file → R.has_failed input.old ≡ false → W.has_failed out.old ≡ false → spec.Ran (job_of job.now) file (record { left = R.remaining input.new; held = W.contents out.old; holds = W.contents out.new; told = E.contents errors.old; tells = E.contents errors.new; unread = R.has_failed input.new; unwritten = W.has_failed out.new; untold_before = E.has_failed errors.old; untold = E.has_failed errors.new }) result.status }
     ensures flushed { W.has_failed out.old ≡ false → W.has_failed out.new ≡ false → W.is_flushed out.new ≡ true }
     ensures within { result.status ≤ 4 }
     ensures failed { R.has_failed input.old ≡ false → W.has_failed out.old ≡ false → (result.status ≡ 4) ↔ ((R.has_failed input.new ≡ true) ⊎ (W.has_failed out.new ≡ true)) }
