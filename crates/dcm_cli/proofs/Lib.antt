@@ -6,6 +6,7 @@ pub mod Makers
 pub mod Sets
 pub mod Alone
 pub mod MetaHeads
+pub mod Unplaced
 pub mod Rans
 pub mod Lines
 pub mod LinesGrow

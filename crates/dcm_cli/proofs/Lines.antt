@@ -1,6 +1,6 @@
 -- The building of a file from the lines of a dump, by what was fed.
 use Rattle.std.proofs.Common.{◌≡◌, ◌∙◌, ap, sym, subst, ℕ, ◌≤◌, List, ◌++◌, append_assoc, length, Bool, true, false, Option, None, Some, refl, Err, inl, inr, ◌⊎◌}
-use Rattle.std.specs.Prelude.{fold, is_some, ◌||◌}
+use Rattle.std.specs.Prelude.{Result, Ok, fold, is_some, ◌||◌}
 use Rattle.std.specs.Io.KnownBytes.{append_known}
 use Rattle.dcm_base.specs.Build as build
 use Rattle.dcm_base.specs.Build.{Told}
@@ -15,11 +15,11 @@ use Rattle.dcm_build.specs.declared.build.BuildHalt.TheVariants as halts
 use Rattle.dcm_build.specs.Builder.{Progress, answer, is_halted, told_of}
 use Rattle.dcm_build.specs.Building.{BuildState, build_start, build_step, build_writes, finishes, finish_writes}
 use Rattle.dcm_build.proofs.BuildRuns.{whole, so_far, refused}
-use Rattle.dcm_cli.specs.declared.ending.Ending.{Ending}
-use Rattle.dcm_cli.specs.declared.ending.Ending.TheVariants.{Done, Refused, RefusedLine, Unread, Output}
+use Rattle.dcm_cli.specs.declared.ending.Ending.TheVariants as endings
+use Rattle.dcm_cli.specs.declared.ending.Ending.TheVariants.{Unread, Output}
 use Rattle.dcm_cli.specs.Answer.{LinesSure}
 use Rattle.dcm_cli.specs.Lines.{ending_of, EndsLines}
-use Rattle.dcm_cli.specs.Run.{Worked, answered, could_not_read, could_not_write, ending_of_told}
+use Rattle.dcm_cli.specs.Run.{Worked, answered, could_not_read, could_not_write, verdict_of_told}
 
 -- ---- the file
 
@@ -64,7 +64,7 @@ module _ (limit : ℕ) where
 -- ---- the work
 
 -- which halt was answered
-halt_is : (told : Option Told) (failed : Bool) (h : BuildHalt) → Err h ≡ answer told failed → ((failed ≡ true) × (h ≡ halts.Output)) ⊎ ((failed ≡ false) × (t : Told) × (told ≡ Some t) × (ending_of h ≡ ending_of_told (Some t)))
+halt_is : (told : Option Told) (failed : Bool) (h : BuildHalt) → Err h ≡ answer told failed → ((failed ≡ true) × (h ≡ halts.Output)) ⊎ ((failed ≡ false) × (t : Told) × (told ≡ Some t) × (ending_of (Err h) ≡ endings.Worked (verdict_of_told (Some t))))
 halt_is told true h e = inl (refl, cc)
 halt_is None false h e = cc
 halt_is (Some t) false (halts.Refused stop) e = inr (refl, t, refl, cc)
@@ -91,8 +91,8 @@ module _ (limit : ℕ) (held : Option (List ℕ)) (s : BuildState) (mid : Option
   built_on going = subst (λ (f : Bool). Goes build_step build_writes (build_start limit) held p.state holds (front ++ piece) (well f)) (going_is p.state.told p.failed going).0 went
 
   -- or halts at it
-  pub built_halted : (file rest : List ℕ) (h : BuildHalt) → file ≡ (front ++ piece) ++ rest → Err h ≡ answer p.state.told p.failed → Worked (building limit) file held holds (ending_of h)
-  built_halted file rest h is e = by_halt (halt_is p.state.told p.failed h e)
+  pub built_halted : (file rest : List ℕ) (left : Option (List ℕ)) (h : BuildHalt) → file ≡ (front ++ piece) ++ rest → Err h ≡ answer p.state.told p.failed → Worked (building limit) file left held holds (ending_of (Err h))
+  built_halted file rest left h is e = by_halt (halt_is p.state.told p.failed h e)
     where
       read : List ℕ
       read = front ++ piece
@@ -100,25 +100,25 @@ module _ (limit : ℕ) (held : Option (List ℕ)) (s : BuildState) (mid : Option
       there : output limit (read ++ rest) ≡ output limit file
       there = ap (output limit) (sym is)
 
-      by_halt : ((p.failed ≡ true) × (h ≡ halts.Output)) ⊎ ((p.failed ≡ false) × (t : Told) × (p.state.told ≡ Some t) × (ending_of h ≡ ending_of_told (Some t))) → Worked (building limit) file held holds (ending_of h)
+      by_halt : ((p.failed ≡ true) × (h ≡ halts.Output)) ⊎ ((p.failed ≡ false) × (t : Told) × (p.state.told ≡ Some t) × (ending_of (Err h) ≡ endings.Worked (verdict_of_told (Some t)))) → Worked (building limit) file left held holds (ending_of (Err h))
       by_halt (inl x) =
           let grown : AppendsFront held holds (written limit read) = subst (λ (f : Bool). Goes build_step build_writes (build_start limit) held p.state holds read (well f)) x.0 went in
-          could_not_write (output limit file) (ending_of_told (build.built limit file).told) (record { out_is = refl; ending_is = refl }) (ap ending_of x.1)
+          could_not_write (output limit file) (verdict_of_told (build.built limit file).told) (record { out_is = refl; verdict_is = refl }) (ap (λ (z : BuildHalt). ending_of (Err z)) x.1)
           (subst (AppendsFront held holds) (begins limit read rest ∙ there) (front_longer (outputs build_step build_writes (state limit read) rest ++ finish_writes (state limit (read ++ rest))) grown))
       by_halt (inr x) =
           let w = subst (λ (f : Bool). Goes build_step build_writes (build_start limit) held p.state holds read (well f)) x.0 went in
           let stays = refused limit read rest x.1 (ap (λ (z : BuildState). z.told) (sym w.0) ∙ x.2) in
-          answered (written limit read)
+          answered (written limit read) (verdict_of_told (Some x.1))
           (record {
             out_is = stays.file ∙ there;
-            ending_is = x.3 ∙ ap ending_of_told (sym stays.told_is ∙ ap (λ (bs : List ℕ). (build.built limit bs).told) (sym is));
+            verdict_is = ap verdict_of_told (sym stays.told_is ∙ ap (λ (bs : List ℕ). (build.built limit bs).told) (sym is));
           })
-          w.1
+          x.3 w.1
 
-module _ (limit : ℕ) (file read : List ℕ) (held : Option (List ℕ)) (s : BuildState) (mid : Option (List ℕ)) (at : s ≡ state limit read) (out : mid ≡ append_known held (written limit read)) where
+module _ (limit : ℕ) (file read : List ℕ) (left held : Option (List ℕ)) (s : BuildState) (mid : Option (List ℕ)) (at : s ≡ state limit read) (out : mid ≡ append_known held (written limit read)) where
   -- reading fails
-  pub built_unread : (rest : List ℕ) → s.told ≡ None → file ≡ read ++ rest → Worked (building limit) file held mid (Unread (length read))
-  built_unread rest none is = could_not_read read rest (written limit read) is (lines_sure limit read (ap (λ (z : BuildState). z.told) (sym at) ∙ none)) refl out
+  pub built_unread : (rest : List ℕ) → s.told ≡ None → file ≡ read ++ rest → left ≡ Some rest → Worked (building limit) file left held mid (Unread (length read))
+  built_unread rest none is left_is = could_not_read read rest (written limit read) is left_is (lines_sure limit read (ap (λ (z : BuildState). z.told) (sym at) ∙ none)) refl out
 
   -- the input ends
   module _ (is : file ≡ read) (holds : Option (List ℕ)) where
@@ -126,20 +126,19 @@ module _ (limit : ℕ) (file read : List ℕ) (held : Option (List ℕ)) (s : Bu
     there =
         ap (λ (z : BuildState). written limit read ++ finish_writes z) at ∙ all_written limit read ∙ ap (output limit) (sym is)
 
-    ends : (told : Option Told) → (finishes s).told ≡ told → holds ≡ append_known mid (finish_writes s) → Worked (building limit) file held holds (ending_of_told told)
+    ends : (told : Option Told) → (finishes s).told ≡ told → holds ≡ append_known mid (finish_writes s) → Worked (building limit) file left held holds (endings.Worked (verdict_of_told told))
     ends told e grown =
-        answered (output limit file)
+        answered (output limit file) (verdict_of_told told)
         (record {
           out_is = refl;
-          ending_is = ap ending_of_told (sym e ∙ ap (λ (z : BuildState). (finishes z).told) at ∙ (whole limit read).told ∙ ap (λ (bs : List ℕ). (build.built limit bs).told) (sym is));
+          verdict_is = ap verdict_of_told (sym e ∙ ap (λ (z : BuildState). (finishes z).told) at ∙ (whole limit read).told ∙ ap (λ (bs : List ℕ). (build.built limit bs).told) (sym is));
         })
+        refl
         (grown ∙ ap (λ (known : Option (List ℕ)). append_known known (finish_writes s)) out ∙ append_known_twice held (written limit read) (finish_writes s) ∙ ap (append_known held) there)
 
-    pub built_ended : (ending : Ending) → EndsLines s mid holds ending → Worked (building limit) file held holds ending
-    built_ended Done e = ends None e.0 e.1
-    built_ended (Refused stop) e = absurd e
-    built_ended (RefusedLine stop) e = ends (Some (told_of stop)) e.0 e.1
-    built_ended (Unread count) e = absurd e
-    built_ended Output e =
-        could_not_write (output limit file) (ending_of_told (build.built limit file).told) (record { out_is = refl; ending_is = refl }) refl
+    pub built_ended : (ended : Result (Unit {0}) BuildHalt) → EndsLines s mid holds ended → Worked (building limit) file left held holds (ending_of ended)
+    built_ended (Ok x) e = ends None e.0 e.1
+    built_ended (Err (halts.Refused stop)) e = ends (Some (told_of stop)) e.0 e.1
+    built_ended (Err halts.Output) e =
+        could_not_write (output limit file) (verdict_of_told (build.built limit file).told) (record { out_is = refl; verdict_is = refl }) refl
         (subst (AppendsFront held holds) there (puts_behind {T = Unit {0}} {E = Unit {0}} held mid holds (written limit read) (finish_writes s) (Err tt) out e))

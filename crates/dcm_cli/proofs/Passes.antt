@@ -1,6 +1,6 @@
 -- How the reading of a data set ends, by what was fed.
 use Rattle.std.proofs.Common.{◌≡◌, ◌∙◌, ap, sym, subst, ℕ, ◌+◌, List, [], ◌++◌, append_assoc, length, length-append, arith, Bool, true, false, Option, None, Some, refl}
-use Rattle.std.specs.Prelude.{Ok, Err, fold}
+use Rattle.std.specs.Prelude.{Result, Ok, Err, fold}
 use Rattle.std.specs.Io.KnownBytes.{append_known, prepend_known, IsAtEnd}
 use Rattle.dcm_base.specs.declared.fault.Stop.{Stop as HaltStop}
 use Rattle.dcm_base.specs.Atoms.{Atom}
@@ -17,7 +17,7 @@ use Rattle.dcm_stream.specs.declared.machine.Halt.TheVariants.{Refused as halt_r
 use Rattle.dcm_stream.specs.Reading.{Reading, finish, end_shows}
 use Rattle.dcm_stream.specs.Machine.{Progress, steps, steps_write, answer, well, next_offset}
 use Rattle.dcm_cli.specs.declared.ending.Ending.{Ending}
-use Rattle.dcm_cli.specs.declared.ending.Ending.TheVariants.{Done, Refused, RefusedLine, Unread, Output}
+use Rattle.dcm_cli.specs.declared.ending.Ending.TheVariants.{Unread}
 use Rattle.dcm_cli.specs.Pass.{Fed, Ends, EndsSet, ending_of, at_end, at_fault, halted, unread, unwritten, end_unwritten}
 use Rattle.dcm_cli.proofs.Fed.{not_failed, going_none}
 
@@ -55,14 +55,14 @@ module _ {S : Type 0} (bars : S → Head → Option Bar) (step : S → Atom → 
 
   -- reading fails behind these bytes
   pub ends_unread : (left : Option (List ℕ)) → Fed bars step writes old s held had_failed new t holds has_failed read (Ok tt)
-      → Ends bars step writes old.reading s held left holds read (Unread (next_offset old.reading + length read))
+      → Ends bars step writes old.reading s held left t holds read (Unread (next_offset old.reading + length read))
   ends_unread left fed =
       let w = went fed in
       unread (ap (λ (q : Reading × S). q.0.halt) (sym w.0) ∙ going_none new fed.going) refl w.1
 
   -- the machine halts
   pub ends_halted : (left : Option (List ℕ)) (h : Halt) → Fed bars step writes old s held had_failed new t holds has_failed read (Err h)
-      → Ends bars step writes old.reading s held left holds read (ending_of h)
+      → Ends bars step writes old.reading s held left t holds read (ending_of (Err h))
   ends_halted left (halt_refused stop) fed =
       let is = is_refused new.reading.halt new.failed stop fed.answer_is in
       let w = subst (λ (f : Bool). Goes (steps bars step) (steps_write bars step writes) (old.reading, s) held (new.reading, t) holds read (well f)) is.0 fed.goes in
@@ -72,9 +72,9 @@ module _ {S : Type 0} (bars : S → Head → Option Bar) (step : S → Atom → 
       unwritten refl (subst (λ (f : Bool). Goes (steps bars step) (steps_write bars step writes) (old.reading, s) held (new.reading, t) holds read (well f)) is fed.goes)
 
   -- the input ends
-  pub ends_at_end : (left after : Option (List ℕ)) (ending : Ending) → IsAtEnd left → Fed bars step writes old s held had_failed new t holds has_failed read (Ok tt)
-      → EndsSet step writes new.reading t holds after ending → Ends bars step writes old.reading s held left after read ending
-  ends_at_end left after ending over fed ends = by_ending ending ends
+  pub ends_at_end : (left : Option (List ℕ)) (u : S) (after : Option (List ℕ)) (ended : Result (Unit {0}) Halt) → IsAtEnd left → Fed bars step writes old s held had_failed new t holds has_failed read (Ok tt)
+      → EndsSet step writes new.reading t holds u after ended → Ends bars step writes old.reading s held left u after read (ending_of ended)
+  ends_at_end left u after ended over fed ends = by_answer ended ends
     where
       w : ((new.reading, t) ≡ fold (steps bars step) (old.reading, s) read) × (holds ≡ append_known held (outputs (steps bars step) (steps_write bars step writes) (old.reading, s) read))
       w = went fed
@@ -85,16 +85,15 @@ module _ {S : Type 0} (bars : S → Head → Option Bar) (step : S → Atom → 
       out : List ℕ
       out = outputs (steps bars step) (steps_write bars step writes) (old.reading, s) read
 
-      by_ending : (ending : Ending) → EndsSet step writes new.reading t holds after ending → Ends bars step writes old.reading s held left after read ending
-      by_ending Done e =
+      by_answer : (ended : Result (Unit {0}) Halt) → EndsSet step writes new.reading t holds u after ended → Ends bars step writes old.reading s held left u after read (ending_of ended)
+      by_answer (Ok x) e =
           at_end over none (ap (λ (q : Reading × S). finish q.0) (sym w.0) ∙ e.0) refl
-          (e.1 ∙ ap (λ (known : Option (List ℕ)). append_known known (outputs step writes t (end_shows complete))) w.1 ∙ append_known_twice held out (outputs step writes t (end_shows complete))
+          (e.1 ∙ ap (λ (q : Reading × S). fold step q.1 (end_shows complete)) w.0)
+          (e.2 ∙ ap (λ (known : Option (List ℕ)). append_known known (outputs step writes t (end_shows complete))) w.1 ∙ append_known_twice held out (outputs step writes t (end_shows complete))
           ∙ ap (λ (q : Reading × S). append_known held (out ++ outputs step writes q.1 (end_shows complete))) w.0)
-      by_ending (Refused stop) e =
+      by_answer (Err (halt_refused stop)) e =
           at_fault stop over none (ap (λ (q : Reading × S). finish q.0) (sym w.0) ∙ e.0) refl (e.1 ∙ w.1)
-      by_ending (RefusedLine stop) e = absurd e
-      by_ending (Unread count) e = absurd e
-      by_ending Output e =
+      by_answer (Err halt_output) e =
           end_unwritten over none refl
           (subst (λ (q : Reading × S). AppendsFront held after (out ++ outputs step writes q.1 (end_shows (finish q.0)))) w.0
           (puts_behind {T = Unit {0}} {E = Unit {0}} held holds after out (outputs step writes t (end_shows (finish new.reading))) (Err tt) w.1 e))
@@ -134,21 +133,22 @@ module _ {S : Type 0} (bars : S → Head → Option Bar) (step : S → Atom → 
       ∙ ap (λ bytes. bytes ++ last stop (fold (steps bars step) (mid.reading, m) more)) outs
       ∙ ap (λ (q : Reading × S). outputs (steps bars step) (steps_write bars step writes) (old.reading, s) (first ++ more) ++ last stop q) (sym same)
 
-  pub ends_behind : (left holds : Option (List ℕ)) (ending : Ending) → Ends bars step writes mid.reading m mid_held left holds more ending
-      → Ends bars step writes old.reading s held left holds (first ++ more) ending
-  ends_behind left holds ending (at_end over none fin is e) =
+  pub ends_behind : (left : Option (List ℕ)) (u : S) (holds : Option (List ℕ)) (ending : Ending) → Ends bars step writes mid.reading m mid_held left u holds more ending
+      → Ends bars step writes old.reading s held left u holds (first ++ more) ending
+  ends_behind left u holds ending (at_end over none fin is last_is e) =
       let end = last (λ r. complete) (fold (steps bars step) (mid.reading, m) more) in
       at_end over (ap (λ (q : Reading × S). q.0.halt) same ∙ none) (ap (λ (q : Reading × S). finish q.0) same ∙ fin) is
+      (last_is ∙ ap (λ (q : Reading × S). fold step q.1 (end_shows complete)) (sym same))
       (e ∙ ap (λ (known : Option (List ℕ)). append_known known (more_out ++ end)) gone.1 ∙ append_known_twice held first_out (more_out ++ end) ∙ ap (append_known held) (all_is (λ r. complete)))
-  ends_behind left holds ending (at_fault stop over none fin is e) =
+  ends_behind left u holds ending (at_fault stop over none fin is e) =
       at_fault stop over (ap (λ (q : Reading × S). q.0.halt) same ∙ none) (ap (λ (q : Reading × S). finish q.0) same ∙ fin) is (out_is holds e)
-  ends_behind left holds ending (halted stop halt is e) = halted stop (ap (λ (q : Reading × S). q.0.halt) same ∙ halt) is (out_is holds e)
-  ends_behind left holds ending (unread none is e) =
+  ends_behind left u holds ending (halted stop halt is e) = halted stop (ap (λ (q : Reading × S). q.0.halt) same ∙ halt) is (out_is holds e)
+  ends_behind left u holds ending (unread none is e) =
       let count : next_offset mid.reading + length more ≡ next_offset old.reading + length (first ++ more) = omega (arith, fed.place fed.going, length-append first more) in
       unread (ap (λ (q : Reading × S). q.0.halt) same ∙ none) (is ∙ ap Unread count) (out_is holds e)
-  ends_behind left holds ending (unwritten is e) =
+  ends_behind left u holds ending (unwritten is e) =
       unwritten is (subst (AppendsFront held holds) outs (puts_behind {T = Unit {0}} {E = Unit {0}} held mid_held holds first_out more_out (Err tt) gone.1 e))
-  ends_behind left holds ending (end_unwritten over none is e) =
+  ends_behind left u holds ending (end_unwritten over none is e) =
       end_unwritten over (ap (λ (q : Reading × S). q.0.halt) same ∙ none) is
       (subst (AppendsFront held holds) (all_is finish)
       (puts_behind {T = Unit {0}} {E = Unit {0}} held mid_held holds first_out (more_out ++ last finish (fold (steps bars step) (mid.reading, m) more)) (Err tt) gone.1 e))

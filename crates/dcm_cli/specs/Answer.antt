@@ -20,7 +20,7 @@ use Rattle.dcm_base.specs.Fault.{fault_number, fault_text, line_fault_number, li
 use Rattle.dcm_base.specs.Build as build
 use Rattle.dcm_words.specs.Words.{Job, dump, convert, build as building, modify}
 use Rattle.dcm_stream.specs.Reading.{is_undecided}
-use Rattle.dcm_cli.specs.Told.{told}
+use Rattle.dcm_cli.specs.Told.{told, unplaced_line}
 
 pub record Answer : Type 0 where
   pub output : List ℕ
@@ -115,7 +115,7 @@ abbrev pub unplaced_lines : ℕ → List Edit → Front → List ℕ
 unplaced_lines n [] set = []
 unplaced_lines n (e ∷ edits) set =
     let more = unplaced_lines (suc n) edits set in
-    if found e set then more else told (codes "edit " ++ decimal n ++ codes " found no place") ++ more
+    if found e set then more else unplaced_line n ++ more
 
 abbrev pub edits_of : Job → List Edit
 edits_of (modify edits) = edits

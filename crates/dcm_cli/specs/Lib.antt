@@ -1,6 +1,7 @@
 pub mod Told
 pub mod Answer
 pub mod Pass
+pub mod SinkPass
 pub mod Lines
 pub mod Run
 pub mod Devices

@@ -17,36 +17,38 @@ use Rattle.dcm_stream.specs.declared.machine.Halt.{Halt}
 use Rattle.dcm_stream.specs.declared.machine.Halt.TheVariants as halts
 use Rattle.dcm_stream.specs.Machine.{Progress, steps, steps_write, next_offset, answer, well, is_halted, TellsFailed}
 use Rattle.dcm_cli.specs.declared.ending.Ending.{Ending}
-use Rattle.dcm_cli.specs.declared.ending.Ending.TheVariants.{Done, Refused, RefusedLine, Unread, Output}
+use Rattle.dcm_cli.specs.declared.ending.Ending.TheVariants.{Worked, Unread, Output}
+use Rattle.dcm_cli.specs.declared.ending.HeadEnding.{HeadEnding}
+use Rattle.dcm_cli.specs.declared.ending.HeadEnding.TheVariants as heads
+use Rattle.dcm_cli.specs.declared.ending.Verdict.TheVariants.{Done, Refused}
 use Rattle.dcm_cli.specs.declared.head.Begun.{Begun}
 
 -- ---- the devices
 
 -- the reader failed in the call just where that is told
 abbrev pub TellsUnread : (old new : Bool) → Ending → Type 0
-TellsUnread old new Done = new ≡ old
-TellsUnread old new (Refused stop) = new ≡ old
-TellsUnread old new (RefusedLine stop) = new ≡ old
+TellsUnread old new (Worked verdict) = new ≡ old
 TellsUnread old new (Unread read) = new ≡ true
 TellsUnread old new Output = new ≡ old
 
 -- reading did not fail
 abbrev pub WasRead : Ending → Type 0
-WasRead Done = Unit {0}
-WasRead (Refused stop) = Unit {0}
-WasRead (RefusedLine stop) = Unit {0}
+WasRead (Worked verdict) = Unit {0}
 WasRead (Unread read) = ⊥
 WasRead Output = Unit {0}
 
 -- the output's writer failed in the call just where that is told
 abbrev pub TellsOutput : (old new : Bool) → Ending → Type 0
-TellsOutput old new Done = new ≡ old
-TellsOutput old new (Refused stop) = new ≡ old
-TellsOutput old new (RefusedLine stop) = new ≡ old
+TellsOutput old new (Worked verdict) = new ≡ old
 TellsOutput old new (Unread read) = new ≡ old
 TellsOutput old new Output = new ≡ true
 
 -- ---- the head of a file
+
+-- how the work ends without a data set
+abbrev pub ending_of_head : HeadEnding → Ending
+ending_of_head (heads.Refused stop) = Worked (Refused stop)
+ending_of_head (heads.Unread count) = Unread count
 
 -- the reading of a file's head over these bytes
 abbrev pub head_read : List ℕ → meta.Reading
@@ -66,37 +68,33 @@ pub record Begins (r : meta.Reading) (b : Begun) (buffer : List ℕ) (left : Opt
   pub over : b.is_over ≡ true → IsAtEnd left
 
 -- why it was not
-abbrev pub FailsHead : meta.Reading → (left : Option (List ℕ)) → (read : List ℕ) → Ending → Type 0
-FailsHead r left read Done = ⊥
-FailsHead r left read (Refused stop) = (r.end ≡ Some (meta_end.Refused stop)) × ((r ≡ head_read read) ⊎ (IsAtEnd left × (r ≡ meta.meta_finished (head_read read))))
-FailsHead r left read (RefusedLine stop) = ⊥
-FailsHead r left read (Unread count) = (r ≡ head_read read) × (r.end ≡ None) × (count ≡ length read)
-FailsHead r left read Output = ⊥
+abbrev pub FailsHead : meta.Reading → (left : Option (List ℕ)) → (read : List ℕ) → HeadEnding → Type 0
+FailsHead r left read (heads.Refused stop) = (r.end ≡ Some (meta_end.Refused stop)) × ((r ≡ head_read read) ⊎ (IsAtEnd left × (r ≡ meta.meta_finished (head_read read))))
+FailsHead r left read (heads.Unread count) = (r ≡ head_read read) × (r.end ≡ None) × (count ≡ length read)
 
 -- the input ended with it, where so many bytes were read, or is at fault
-abbrev pub FinishesHead : Option MetaEnd → (read : ℕ) → Result Begun Ending → Type 0
+abbrev pub FinishesHead : Option MetaEnd → (read : ℕ) → Result Begun HeadEnding → Type 0
 FinishesHead end read (Ok b) = meta.HasEnded end × (b ≡ record { ahead = None; used = 0; filled = 0; read = read; is_over = true })
-FinishesHead end read (Err Done) = ⊥
-FinishesHead end read (Err (Refused stop)) = end ≡ Some (meta_end.Refused stop)
-FinishesHead end read (Err (RefusedLine stop)) = ⊥
-FinishesHead end read (Err (Unread count)) = ⊥
-FinishesHead end read (Err Output) = ⊥
+FinishesHead end read (Err (heads.Refused stop)) = end ≡ Some (meta_end.Refused stop)
+FinishesHead end read (Err (heads.Unread count)) = ⊥
 
 -- these bytes were read for it, or it was refused or could not be read behind them
-abbrev pub HeadReadOf : meta.Reading → (buffer : List ℕ) → (left : Option (List ℕ)) → (read : List ℕ) → Result Begun Ending → Type 0
+abbrev pub HeadReadOf : meta.Reading → (buffer : List ℕ) → (left : Option (List ℕ)) → (read : List ℕ) → Result Begun HeadEnding → Type 0
 HeadReadOf r buffer left read (Ok b) = Begins r b buffer left read
 HeadReadOf r buffer left read (Err ending) = FailsHead r left read ending
 
-pub record HeadReads (had left : Option (List ℕ)) (r : meta.Reading) (buffer : List ℕ) (result : Result Begun Ending) : Type 0 where
+pub record HeadReads (had left : Option (List ℕ)) (r : meta.Reading) (buffer : List ℕ) (result : Result Begun HeadEnding) : Type 0 where
   pub read : List ℕ
   pub given : had ≡ prepend_known read left
   pub outcome : HeadReadOf r buffer left read result
 
 -- ---- a data set
 
-abbrev pub ending_of : Halt → Ending
-ending_of (halts.Refused stop) = Refused stop
-ending_of halts.Output = Output
+-- how the work ends, by the last answer of the machine
+abbrev pub ending_of : Result (Unit {0}) Halt → Ending
+ending_of (Ok x) = Worked (Done 0)
+ending_of (Err (halts.Refused stop)) = Worked (Refused stop)
+ending_of (Err halts.Output) = Output
 
 -- a machine and its sink were fed these bytes
 pub record Fed {S : Type 0} (bars : S → Head → Option Bar) (step : S → Atom → S) (writes : S → Atom → List ℕ) (old : Progress) (s : S) (held : Option (List ℕ)) (had_failed : Bool) (new : Progress) (t : S) (holds : Option (List ℕ)) (has_failed : Bool) (bytes : List ℕ) (result : Result (Unit {0}) Halt) : Type 0 where
@@ -108,47 +106,46 @@ pub record Fed {S : Type 0} (bars : S → Head → Option Bar) (step : S → Ato
   pub within : is_halted new ≡ false → next_offset new.reading ≤ INPUT_LIMIT
 
 -- the input has ended where a data set was read up to here
-abbrev pub EndsSet : {S : Type 0} → (S → Atom → S) → (S → Atom → List ℕ) → Reading → S → (held holds : Option (List ℕ)) → Ending → Type 0
-EndsSet step writes r s held holds Done = (finish r ≡ complete) × (holds ≡ append_known held (outputs step writes s (end_shows complete)))
-EndsSet step writes r s held holds (Refused stop) = (finish r ≡ refused stop.fault stop.at) × (holds ≡ held)
-EndsSet step writes r s held holds (RefusedLine stop) = ⊥
-EndsSet step writes r s held holds (Unread count) = ⊥
-EndsSet step writes r s held holds Output = AppendsFront held holds (outputs step writes s (end_shows (finish r)))
+abbrev pub EndsSet : {S : Type 0} → (S → Atom → S) → (S → Atom → List ℕ) → Reading → S → (held : Option (List ℕ)) → S → (holds : Option (List ℕ)) → Result (Unit {0}) Halt → Type 0
+EndsSet step writes r s held t holds (Ok x) = (finish r ≡ complete) × (t ≡ fold step s (end_shows complete)) × (holds ≡ append_known held (outputs step writes s (end_shows complete)))
+EndsSet step writes r s held t holds (Err (halts.Refused stop)) = (finish r ≡ refused stop.fault stop.at) × (holds ≡ held)
+EndsSet step writes r s held t holds (Err halts.Output) = AppendsFront held holds (outputs step writes s (end_shows (finish r)))
 
--- how the reading of a data set ended, where these bytes of it were read, and what was written
-pub data Ends {S : Type 0} (bars : S → Head → Option Bar) (step : S → Atom → S) (writes : S → Atom → List ℕ) (old : Reading) (s : S) (held left holds : Option (List ℕ)) (read : List ℕ) (ending : Ending) : Type 0 where
+-- how the reading of a data set ended, where these bytes of it were read, what was written, and where it was no fault the sink's state
+pub data Ends {S : Type 0} (bars : S → Head → Option Bar) (step : S → Atom → S) (writes : S → Atom → List ℕ) (old : Reading) (s : S) (held left : Option (List ℕ)) (t : S) (holds : Option (List ℕ)) (read : List ℕ) (ending : Ending) : Type 0 where
   -- the input has ended
-  at_end : IsAtEnd left → (fold (steps bars step) (old, s) read).0.halt ≡ None → finish (fold (steps bars step) (old, s) read).0 ≡ complete → ending ≡ Done
+  at_end : IsAtEnd left → (fold (steps bars step) (old, s) read).0.halt ≡ None → finish (fold (steps bars step) (old, s) read).0 ≡ complete → ending ≡ Worked (Done 0)
+      → t ≡ fold step (fold (steps bars step) (old, s) read).1 (end_shows complete)
       → holds ≡ append_known held (outputs (steps bars step) (steps_write bars step writes) (old, s) read ++ outputs step writes (fold (steps bars step) (old, s) read).1 (end_shows complete))
-      → Ends bars step writes old s held left holds read ending
+      → Ends bars step writes old s held left t holds read ending
   -- and that is a fault
-  at_fault : (stop : HaltStop) → IsAtEnd left → (fold (steps bars step) (old, s) read).0.halt ≡ None → finish (fold (steps bars step) (old, s) read).0 ≡ refused stop.fault stop.at → ending ≡ Refused stop
+  at_fault : (stop : HaltStop) → IsAtEnd left → (fold (steps bars step) (old, s) read).0.halt ≡ None → finish (fold (steps bars step) (old, s) read).0 ≡ refused stop.fault stop.at → ending ≡ Worked (Refused stop)
       → holds ≡ append_known held (outputs (steps bars step) (steps_write bars step writes) (old, s) read)
-      → Ends bars step writes old s held left holds read ending
+      → Ends bars step writes old s held left t holds read ending
   -- the data set is at fault
-  halted : (stop : HaltStop) → (fold (steps bars step) (old, s) read).0.halt ≡ Some (refused stop.fault stop.at) → ending ≡ Refused stop
+  halted : (stop : HaltStop) → (fold (steps bars step) (old, s) read).0.halt ≡ Some (refused stop.fault stop.at) → ending ≡ Worked (Refused stop)
       → holds ≡ append_known held (outputs (steps bars step) (steps_write bars step writes) (old, s) read)
-      → Ends bars step writes old s held left holds read ending
+      → Ends bars step writes old s held left t holds read ending
   -- reading failed
   unread : (fold (steps bars step) (old, s) read).0.halt ≡ None → ending ≡ Unread (next_offset old + length read)
       → holds ≡ append_known held (outputs (steps bars step) (steps_write bars step writes) (old, s) read)
-      → Ends bars step writes old s held left holds read ending
+      → Ends bars step writes old s held left t holds read ending
   -- the output failed
   unwritten : ending ≡ Output → AppendsFront held holds (outputs (steps bars step) (steps_write bars step writes) (old, s) read)
-      → Ends bars step writes old s held left holds read ending
+      → Ends bars step writes old s held left t holds read ending
   -- with the last bytes of it
   end_unwritten : IsAtEnd left → (fold (steps bars step) (old, s) read).0.halt ≡ None → ending ≡ Output
       → AppendsFront held holds (outputs (steps bars step) (steps_write bars step writes) (old, s) read ++ outputs step writes (fold (steps bars step) (old, s) read).1 (end_shows (finish (fold (steps bars step) (old, s) read).0)))
-      → Ends bars step writes old s held left holds read ending
+      → Ends bars step writes old s held left t holds read ending
 
 -- the rest of an input was read as a data set that was read up to here
-pub record Pumps {S : Type 0} (bars : S → Head → Option Bar) (step : S → Atom → S) (writes : S → Atom → List ℕ) (had : Option (List ℕ)) (old : Reading) (s : S) (held left holds : Option (List ℕ)) (ending : Ending) : Type 0 where
+pub record Pumps {S : Type 0} (bars : S → Head → Option Bar) (step : S → Atom → S) (writes : S → Atom → List ℕ) (had : Option (List ℕ)) (old : Reading) (s : S) (held left : Option (List ℕ)) (t : S) (holds : Option (List ℕ)) (ending : Ending) : Type 0 where
   pub read : List ℕ
   pub given : had ≡ prepend_known read left
-  pub ends : Ends bars step writes old s held left holds read ending
+  pub ends : Ends bars step writes old s held left t holds read ending
 
 -- and a data set whose first bytes stand in the buffer
-pub record BehindBegun {S : Type 0} (bars : S → Head → Option Bar) (step : S → Atom → S) (writes : S → Atom → List ℕ) (had : Option (List ℕ)) (begun : List ℕ) (first : Reading) (s : S) (held left holds : Option (List ℕ)) (ending : Ending) : Type 0 where
+pub record BehindBegun {S : Type 0} (bars : S → Head → Option Bar) (step : S → Atom → S) (writes : S → Atom → List ℕ) (had : Option (List ℕ)) (begun : List ℕ) (first : Reading) (s : S) (held left : Option (List ℕ)) (t : S) (holds : Option (List ℕ)) (ending : Ending) : Type 0 where
   pub more : List ℕ
   pub given : had ≡ prepend_known more left
-  pub ends : Ends bars step writes first s held left holds (begun ++ more) ending
+  pub ends : Ends bars step writes first s held left t holds (begun ++ more) ending

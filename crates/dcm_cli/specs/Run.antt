@@ -1,92 +1,115 @@
 -- What a run leaves.
-use Rattle.std.specs.Prelude.{◌≡◌, ◌⊎◌, ℕ, Bool, true, false, List, [], ◌++◌, length, Option, None, Some}
+use Rattle.std.specs.Prelude.{◌≡◌, ◌⊎◌, ℕ, zero, suc, ◌+◌, ◌*◌, Bool, true, false, List, [], ◌∷◌, ◌++◌, length, Option, None, Some, if◌then◌else◌}
 use Rattle.std.specs.Io.KnownBytes.{append_known}
 use Rattle.dcm_base.specs.Build as build
 use Rattle.dcm_base.specs.Device.{AppendsFront}
+use Rattle.dcm_base.specs.Front.{Front}
 use Rattle.dcm_base.specs.Stop.{Stop, complete, refused}
+use Rattle.dcm_edit.specs.Edit.{Edit, found}
 use Rattle.dcm_words.specs.Words.{Job, build as building}
 use Rattle.dcm_build.specs.Builder.{told_of}
 use Rattle.dcm_cli.specs.declared.ending.Ending.{Ending}
-use Rattle.dcm_cli.specs.declared.ending.Ending.TheVariants.{Done, Refused, RefusedLine, Unread, Output}
-use Rattle.dcm_cli.specs.Answer.{Answer, Source, unopened, file, alone, InputReads, output_of, building_line, Answers, Sure}
-use Rattle.dcm_cli.specs.Told.{Tries, fault_line, unread_line, output_line}
+use Rattle.dcm_cli.specs.declared.ending.Ending.TheVariants as endings
+use Rattle.dcm_cli.specs.declared.ending.Ending.TheVariants.{Unread, Output}
+use Rattle.dcm_cli.specs.declared.ending.Verdict.{Verdict}
+use Rattle.dcm_cli.specs.declared.ending.Verdict.TheVariants.{Done, Refused, RefusedLine}
+use Rattle.dcm_cli.specs.Answer.{Answer, Source, unopened, file, alone, InputReads, output_of, edits_of, building_line, Answers, Sure}
+use Rattle.dcm_cli.specs.Told.{Tries, fault_line, unread_line, output_line, mask_lines}
 
 -- ---- the work on a job, before its output is flushed
 
-abbrev pub ending_of_stop : Stop → Ending
-ending_of_stop complete = Done
-ending_of_stop (refused fault offset) = Refused (record { fault = fault; at = offset })
+-- how the reading of a data set ends
+abbrev pub verdict_of_stop : Stop → Verdict
+verdict_of_stop complete = Done 0
+verdict_of_stop (refused fault offset) = Refused (record { fault = fault; at = offset })
 
-abbrev pub ending_of_source : Source → Ending
-ending_of_source (unopened fault offset) = Refused (record { fault = fault; at = offset })
-ending_of_source (file meta coding set stop) = ending_of_stop stop
-ending_of_source (alone syntax set stop) = ending_of_stop stop
+-- which of the edits found no place in a data set: bit 0 is set for the first
+unfoldable pub unplaced_mask : List Edit → Front → ℕ
+unplaced_mask [] set = 0
+unplaced_mask (e ∷ edits) set = (if found e set then 0 else 1) + 2 * unplaced_mask edits set
 
-abbrev pub ending_of_told : Option build.Told → Ending
-ending_of_told None = Done
-ending_of_told (Some t) = RefusedLine (record { fault = t.fault; offset = t.offset; line = t.line })
+-- what the work comes to
+abbrev pub verdict_at : Job → Front → Stop → Verdict
+verdict_at job set complete = Done (unplaced_mask (edits_of job) set)
+verdict_at job set (refused fault offset) = Refused (record { fault = fault; at = offset })
 
--- the output of an input that was read, and how the work on it ends
-pub record ReadEnds (job : Job) (input out : List ℕ) (ending : Ending) : Type 0 where
+abbrev pub verdict_of_source : Job → Source → Verdict
+verdict_of_source job (unopened fault offset) = Refused (record { fault = fault; at = offset })
+verdict_of_source job (file meta coding set stop) = verdict_at job set stop
+verdict_of_source job (alone syntax set stop) = verdict_at job set stop
+
+abbrev pub verdict_of_told : Option build.Told → Verdict
+verdict_of_told None = Done 0
+verdict_of_told (Some t) = RefusedLine (record { fault = t.fault; offset = t.offset; line = t.line })
+
+-- the output of an input that was read, and what the work on it comes to
+pub record ReadEnds (job : Job) (input out : List ℕ) (verdict : Verdict) : Type 0 where
   pub source : Source
   pub reads : InputReads job input source
   pub out_is : out ≡ output_of job source
-  pub ending_is : ending ≡ ending_of_source source
+  pub verdict_is : verdict ≡ verdict_of_source job source
 
 -- and of lines that were built into a file
-pub record BuildEnds (limit : ℕ) (input out : List ℕ) (ending : Ending) : Type 0 where
+pub record BuildEnds (limit : ℕ) (input out : List ℕ) (verdict : Verdict) : Type 0 where
   pub out_is : out ≡ build.built_bytes (build.built limit input).built
-  pub ending_is : ending ≡ ending_of_told (build.built limit input).told
+  pub verdict_is : verdict ≡ verdict_of_told (build.built limit input).told
 
 -- where no device fails
-abbrev pub Answered : Job → (input out : List ℕ) → Ending → Type 0
-Answered (building limit) input out ending = BuildEnds limit input out ending
-Answered job input out ending = ReadEnds job input out ending
+abbrev pub Answered : Job → (input out : List ℕ) → Verdict → Type 0
+Answered (building limit) input out verdict = BuildEnds limit input out verdict
+Answered job input out verdict = ReadEnds job input out verdict
 
 -- of an input that was to be read from here on
-pub data Worked (job : Job) (input : List ℕ) (held holds : Option (List ℕ)) (ending : Ending) : Type 0 where
+pub data Worked (job : Job) (input : List ℕ) (left held holds : Option (List ℕ)) (ending : Ending) : Type 0 where
   -- all of it was read, or as much as decides, and all of the output was written
-  answered : (out : List ℕ) → Answered job input out ending → holds ≡ append_known held out → Worked job input held holds ending
-  -- reading failed behind p
-  could_not_read : (p rest out : List ℕ) → input ≡ p ++ rest → Sure job p out → ending ≡ Unread (length p) → holds ≡ append_known held out → Worked job input held holds ending
+  answered : (out : List ℕ) (verdict : Verdict) → Answered job input out verdict → ending ≡ endings.Worked verdict → holds ≡ append_known held out → Worked job input left held holds ending
+  -- reading failed after p, and the rest was left
+  could_not_read : (p rest out : List ℕ) → input ≡ p ++ rest → left ≡ Some rest → Sure job p out → ending ≡ Unread (length p) → holds ≡ append_known held out → Worked job input left held holds ending
   -- the output failed
-  could_not_write : (out : List ℕ) (last : Ending) → Answered job input out last → ending ≡ Output → AppendsFront held holds out → Worked job input held holds ending
+  could_not_write : (out : List ℕ) (verdict : Verdict) → Answered job input out verdict → ending ≡ Output → AppendsFront held holds out → Worked job input left held holds ending
 
 -- the output is flushed: it fails there just where it is then told
 abbrev pub FlushedAs : Ending → Ending → (old new : Bool) → Type 0
-FlushedAs Done after old new = ((after ≡ Done) × (new ≡ old)) ⊎ ((after ≡ Output) × (new ≡ true))
-FlushedAs (Refused stop) after old new = ((after ≡ Refused stop) × (new ≡ old)) ⊎ ((after ≡ Output) × (new ≡ true))
-FlushedAs (RefusedLine stop) after old new = ((after ≡ RefusedLine stop) × (new ≡ old)) ⊎ ((after ≡ Output) × (new ≡ true))
+FlushedAs (endings.Worked verdict) after old new = ((after ≡ endings.Worked verdict) × (new ≡ old)) ⊎ ((after ≡ Output) × (new ≡ true))
 FlushedAs (Unread read) after old new = after ≡ Unread read
 FlushedAs Output after old new = (after ≡ Output) × (new ≡ old)
 
 -- the output did not fail before that
 abbrev pub IsWritten : Ending → Type 0
-IsWritten Done = Unit {0}
-IsWritten (Refused stop) = Unit {0}
-IsWritten (RefusedLine stop) = Unit {0}
+IsWritten (endings.Worked verdict) = Unit {0}
 IsWritten (Unread read) = Unit {0}
 IsWritten Output = ⊥
 
 -- what is told of it, and the status
-abbrev pub ending_line : Ending → List ℕ
-ending_line Done = []
-ending_line (Refused stop) = fault_line stop
-ending_line (RefusedLine stop) = building_line (told_of stop)
-ending_line (Unread read) = unread_line read
-ending_line Output = output_line
+abbrev pub verdict_lines : Verdict → List ℕ
+verdict_lines (Done unplaced) = mask_lines 64 1 unplaced
+verdict_lines (Refused stop) = fault_line stop
+verdict_lines (RefusedLine stop) = building_line (told_of stop)
+
+abbrev pub ending_lines : Ending → List ℕ
+ending_lines (endings.Worked verdict) = verdict_lines verdict
+ending_lines (Unread read) = unread_line read
+ending_lines Output = output_line
+
+abbrev pub mask_status : ℕ → ℕ
+mask_status zero = 0
+mask_status (suc n) = 3
+
+abbrev pub verdict_status : Verdict → ℕ
+verdict_status (Done unplaced) = mask_status unplaced
+verdict_status (Refused stop) = 2
+verdict_status (RefusedLine stop) = 2
 
 abbrev pub ending_status : Ending → ℕ
-ending_status Done = 0
-ending_status (Refused stop) = 2
-ending_status (RefusedLine stop) = 2
+ending_status (endings.Worked verdict) = verdict_status verdict
 ending_status (Unread read) = 4
 ending_status Output = 4
 
 -- ---- a run
 
--- what its writers hold before and after, and which devices failed in it
+-- what it left of its input, what its writers hold before and after, and which devices failed in it
 pub record Devices : Type 0 where
+  pub left : Option (List ℕ)
   pub held : Option (List ℕ)
   pub holds : Option (List ℕ)
   pub told : Option (List ℕ)
@@ -101,8 +124,8 @@ pub data Ran (job : Job) (input : List ℕ) (d : Devices) (status : ℕ) : Type 
   -- no device failed: just the output, the lines and the status of the answer
   as_answered : (a : Answer) → Answers job input a → d.unread ≡ false → d.unwritten ≡ false
       → d.holds ≡ append_known d.held a.output → Tries d.told d.tells d.untold_before d.untold a.told → status ≡ a.status → Ran job input d status
-  -- reading failed behind p: just what is sure of p was written
-  not_read : (p rest out : List ℕ) → input ≡ p ++ rest → d.unread ≡ true → Sure job p out
+  -- reading failed after p, and the rest was left: exactly what is sure of p was written
+  not_read : (p rest out : List ℕ) → input ≡ p ++ rest → d.left ≡ Some rest → d.unread ≡ true → Sure job p out
       → d.holds ≡ append_known d.held out → Tries d.told d.tells d.untold_before d.untold (unread_line (length p)) → status ≡ 4 → Ran job input d status
   -- the output failed: a beginning of it was written
   not_written : (a : Answer) → Answers job input a → d.unread ≡ false → d.unwritten ≡ true

@@ -1,5 +1,5 @@
 -- The lines on standard error.
-use Rattle.std.specs.Prelude.{◌≡◌, ◌⊎◌, ℕ, List, [], ◌∷◌, ◌++◌, codes, decimal, Bool, true, false, Option}
+use Rattle.std.specs.Prelude.{◌≡◌, ◌⊎◌, ℕ, zero, suc, ◌/◌, ◌%◌, ◌==◌, List, [], ◌∷◌, ◌++◌, codes, decimal, Bool, true, false, Option, if◌then◌else◌}
 use Rattle.std.specs.Io.KnownBytes.{append_known}
 use Rattle.dcm_base.specs.declared.fault.Stop.{Stop}
 use Rattle.dcm_base.specs.Device.{AppendsFront}
@@ -7,7 +7,7 @@ use Rattle.dcm_base.specs.Fault.{fault_number, fault_text, edit_refusal_number, 
 use Rattle.dcm_words.specs.declared.usage.Usage.{Usage}
 use Rattle.dcm_words.specs.declared.usage.Usage.TheVariants.{AtWord, Whole, InEdit, Memory}
 
--- a line was told, or the writer failed in the call and has a beginning of it
+-- lines were told, or the writer failed in the call and has a beginning of them
 abbrev pub Tries : Option (List ℕ) → Option (List ℕ) → Bool → Bool → List ℕ → Type 0
 Tries old new failed_before failed_after line =
     ((new ≡ append_known old line) × (failed_after ≡ failed_before)) ⊎ (AppendsFront old new line × (failed_after ≡ true))
@@ -37,3 +37,16 @@ unread_line read = told (codes "reading failed after " ++ decimal read ++ codes 
 
 abbrev pub output_line : List ℕ
 output_line = told (codes "output failed")
+
+-- an edit found no place; it is counted from 1
+abbrev pub unplaced_line : ℕ → List ℕ
+unplaced_line n = told (codes "edit " ++ decimal n ++ codes " found no place")
+
+-- the line of edit n, where it found none
+abbrev pub line_where : Bool → ℕ → List ℕ
+line_where unplaced n = if unplaced then unplaced_line n else []
+
+-- a line for each edit that found none, of so many from edit n on: bit 0 of the mask is set for edit n
+unfoldable pub mask_lines : (count n mask : ℕ) → List ℕ
+mask_lines zero n mask = []
+mask_lines (suc count) n mask = line_where (mask % 2 == 1) n ++ mask_lines count (suc n) (mask / 2)

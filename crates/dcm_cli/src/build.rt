@@ -6,7 +6,7 @@ ghost use Rattle.dcm_cli.specs.Lines as lines;
 ghost use Rattle.dcm_cli.specs.Pass as spec;
 ghost use Rattle.dcm_cli.specs.Run.{Worked};
 
-use crate::ending::Ending;
+use crate::ending::{Ending, Verdict};
 use dcm_base::{DeviceIn, DeviceOut, Watched, get_some};
 use dcm_build::{BuildHalt, Builder};
 use dcm_words::Build;
@@ -14,26 +14,24 @@ use dcm_words::Build;
 /// The bytes that are read at a time.
 const PIECE: usize = 65_536;
 
-/// How a halted builder ends the work.
-fn ending_of(halt: BuildHalt) -> Ending
-    ensures { result ≡ lines.ending_of halt }
+/// How the work ends where a builder has ended its input, or halted.
+fn ending_of(answer: Result<(), BuildHalt>) -> Ending
+    ensures { result ≡ lines.ending_of answer }
 {
-    match halt {
-        BuildHalt::Refused(stop) => Ending::RefusedLine(stop),
-        BuildHalt::Output => Ending::Output,
+    match answer {
+        Ok(()) => Ending::Worked(Verdict::Done { unplaced: 0 }),
+        Err(BuildHalt::Refused(stop)) => Ending::Worked(Verdict::RefusedLine(stop)),
+        Err(BuildHalt::Output) => Ending::Output,
     }
 }
 
-/// Ends the input of a builder.
-fn end<W: DeviceOut>(builder: &mut Builder, out: &mut Watched<W>) -> Ending
+/// Ends the input of a builder that has not halted.
+fn end<W: DeviceOut>(builder: &mut Builder, out: &mut Watched<W>) -> Result<(), BuildHalt>
     requires { builder_spec.is_halted builder.old ≡ false }
     ensures ends { lines.EndsLines builder.old.state (W.contents out.old) (W.contents out.new) result }
-    ensures failed { spec.TellsOutput (W.has_failed out.old) (W.has_failed out.new) result }
+    ensures failed { spec.TellsOutput (W.has_failed out.old) (W.has_failed out.new) (lines.ending_of result) }
 {
-    match builder.finish(out) {
-        Ok(()) => Ending::Done,
-        Err(halt) => ending_of(halt),
-    }
+    builder.finish(out)
 }
 
 /// Writes the file that the lines of an input build.
@@ -46,7 +44,7 @@ fn build_lines<R: DeviceIn, W: DeviceOut>(
     requires limit { limit ≤ 16384 }
     requires room { 0 < length buffer.old }
     requires bound { length buffer.old ≤ 65536 }
-    ensures worked { (file : List ℕ) → R.remaining input.old ≡ Some file → Worked (build_job limit) file (W.contents out.old) (W.contents out.new) result }
+    ensures worked { (file : List ℕ) → R.remaining input.old ≡ Some file → Worked (build_job limit) file (R.remaining input.new) (W.contents out.old) (W.contents out.new) result }
     ensures unread { spec.TellsUnread (R.has_failed input.old) (R.has_failed input.new) result }
     ensures failed { spec.TellsOutput (W.has_failed out.old) (W.has_failed out.new) result }
 {
@@ -54,14 +52,14 @@ fn build_lines<R: DeviceIn, W: DeviceOut>(
     let mut read = 0;
     loop {
         let n = match get_some(input, buffer) {
-            Ok(0) => return end(&mut builder, out),
+            Ok(0) => return ending_of(end(&mut builder, out)),
             Ok(n) => n,
             Err(_) => return Ending::Unread(read),
         };
         read += n as u64;
         let (piece, _) = buffer.split_at(n);
         if let Err(halt) = builder.feed(piece, out) {
-            return ending_of(halt);
+            return ending_of(Err(halt));
         }
     }
 }
@@ -71,7 +69,7 @@ pub fn build<R: DeviceIn, W: DeviceOut>(
     input: &mut Watched<R>,
     out: &mut Watched<W>,
 ) -> Ending
-    ensures worked { (file : List ℕ) → R.remaining input.old ≡ Some file → Worked (build_job build.limit) file (W.contents out.old) (W.contents out.new) result }
+    ensures worked { (file : List ℕ) → R.remaining input.old ≡ Some file → Worked (build_job build.limit) file (R.remaining input.new) (W.contents out.old) (W.contents out.new) result }
     ensures unread { spec.TellsUnread (R.has_failed input.old) (R.has_failed input.new) result }
     ensures failed { spec.TellsOutput (W.has_failed out.old) (W.has_failed out.new) result }
 {

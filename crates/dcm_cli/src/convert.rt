@@ -9,12 +9,12 @@ ghost use Rattle.dcm_words.specs.Words.{convert as convert_job};
 ghost use Rattle.dcm_head.specs.MetaReading.{HasEnded, group_of, uid_of};
 ghost use Rattle.dcm_head.specs.Rewriting.{OfElements};
 ghost use Rattle.dcm_stream.specs.Reading.{start_of};
-ghost use Rattle.dcm_tools.specs.EncodeSink.{encode_bar, encode_step, encode_writes, encode_start};
+ghost use Rattle.dcm_tools.specs.EncodeSink.{EncodeState, encode_bar, encode_step, encode_writes, encode_start};
 ghost use Rattle.dcm_cli.specs.Answer as answer;
 ghost use Rattle.dcm_cli.specs.Pass as spec;
 ghost use Rattle.dcm_cli.specs.Run.{Worked};
 
-use crate::ending::Ending;
+use crate::ending::{Ending, Verdict, ending_of_head};
 use crate::head::{Begun, read_head_of, set_start};
 use crate::pass::read_set;
 use crate::syntax::uid_of_syntax;
@@ -89,7 +89,7 @@ fn encode_set<R: DeviceIn, W: DeviceOut>(
     requires within { (begun.used ≤ begun.filled) × (begun.filled ≤ length buffer.old) }
     requires count { start + length (spec.set_bytes begun buffer.old) ≡ begun.read }
     requires over { begun.is_over ≡ true → IsAtEnd (R.remaining input.old) }
-    ensures ends { spec.BehindBegun encode_bar encode_step encode_writes (R.remaining input.old) (spec.set_bytes begun buffer.old) (start_of coding.syntax start) (encode_start target) (W.contents out.old) (R.remaining input.new) (W.contents out.new) result }
+    ensures ends { (t : EncodeState) × spec.BehindBegun encode_bar encode_step encode_writes (R.remaining input.old) (spec.set_bytes begun buffer.old) (start_of coding.syntax start) (encode_start target) (W.contents out.old) (R.remaining input.new) t (W.contents out.new) result }
     ensures over { begun.is_over ≡ true → spec.WasRead result }
     ensures unread { spec.TellsUnread (R.has_failed input.old) (R.has_failed input.new) result }
     ensures failed { spec.TellsOutput (W.has_failed out.old) (W.has_failed out.new) result }
@@ -107,22 +107,22 @@ fn convert_file<R: DeviceIn, W: DeviceOut>(
 ) -> Ending
     requires room { 0 < length buffer.old }
     requires bound { length buffer.old ≤ 262144 }
-    ensures worked { (file : List ℕ) → R.remaining input.old ≡ Some file → Worked (convert_job target) file (W.contents out.old) (W.contents out.new) result }
+    ensures worked { (file : List ℕ) → R.remaining input.old ≡ Some file → Worked (convert_job target) file (R.remaining input.new) (W.contents out.old) (W.contents out.new) result }
     ensures unread { spec.TellsUnread (R.has_failed input.old) (R.has_failed input.new) result }
     ensures failed { spec.TellsOutput (W.has_failed out.old) (W.has_failed out.new) result }
 {
     let mut meta = Meta::new();
     let begun = match read_head_of(&mut meta, input, buffer) {
         Ok(begun) => begun,
-        Err(ending) => return ending,
+        Err(ending) => return ending_of_head(ending),
     };
     let coding = meta.coding();
     let start = set_start(&meta);
     if refuses_change(target, coding) {
-        return Ending::Refused(Stop {
+        return Ending::Worked(Verdict::Refused(Stop {
             fault: Fault::CannotChange,
             at: start,
-        });
+        }));
     }
     if write_head(&meta, target_uid(target, &meta), out).is_err() {
         return Ending::Output;
@@ -143,7 +143,7 @@ pub fn convert<R: DeviceIn, W: DeviceOut>(
     input: &mut Watched<R>,
     out: &mut Watched<W>,
 ) -> Ending
-    ensures worked { (file : List ℕ) → R.remaining input.old ≡ Some file → Worked (convert_job convert.target) file (W.contents out.old) (W.contents out.new) result }
+    ensures worked { (file : List ℕ) → R.remaining input.old ≡ Some file → Worked (convert_job convert.target) file (R.remaining input.new) (W.contents out.old) (W.contents out.new) result }
     ensures unread { spec.TellsUnread (R.has_failed input.old) (R.has_failed input.new) result }
     ensures failed { spec.TellsOutput (W.has_failed out.old) (W.has_failed out.new) result }
 {

@@ -6,7 +6,7 @@ ghost use Rattle.dcm_words.specs.Words.{dump as dump_job};
 ghost use Rattle.dcm_cli.specs.Pass as spec;
 ghost use Rattle.dcm_cli.specs.Run.{Worked};
 
-use crate::ending::Ending;
+use crate::ending::{Ending, ending_of_head};
 use crate::head::{read_head_of, set_start};
 use crate::pass::{read_rest, read_set};
 use crate::syntax::uid_of_syntax;
@@ -28,14 +28,14 @@ fn dump_file<R: DeviceIn, W: DeviceOut>(
 ) -> Ending
     requires room { 0 < length buffer.old }
     requires bound { length buffer.old ≤ 65536 }
-    ensures worked { (file : List ℕ) → R.remaining input.old ≡ Some file → Worked (dump_job mode None) file (W.contents out.old) (W.contents out.new) result }
+    ensures worked { (file : List ℕ) → R.remaining input.old ≡ Some file → Worked (dump_job mode None) file (R.remaining input.new) (W.contents out.old) (W.contents out.new) result }
     ensures unread { spec.TellsUnread (R.has_failed input.old) (R.has_failed input.new) result }
     ensures failed { spec.TellsOutput (W.has_failed out.old) (W.has_failed out.new) result }
 {
     let mut meta = Meta::new();
     let begun = match read_head_of(&mut meta, input, buffer) {
         Ok(begun) => begun,
-        Err(ending) => return ending,
+        Err(ending) => return ending_of_head(ending),
     };
     if dump_header(&meta, mode, out).is_err() {
         return Ending::Output;
@@ -55,7 +55,7 @@ fn dump_set<R: DeviceIn, W: DeviceOut>(
 ) -> Ending
     requires room { 0 < length buffer.old }
     requires bound { length buffer.old ≤ 65536 }
-    ensures worked { (file : List ℕ) → R.remaining input.old ≡ Some file → Worked (dump_job mode (Some syntax)) file (W.contents out.old) (W.contents out.new) result }
+    ensures worked { (file : List ℕ) → R.remaining input.old ≡ Some file → Worked (dump_job mode (Some syntax)) file (R.remaining input.new) (W.contents out.old) (W.contents out.new) result }
     ensures unread { spec.TellsUnread (R.has_failed input.old) (R.has_failed input.new) result }
     ensures failed { spec.TellsOutput (W.has_failed out.old) (W.has_failed out.new) result }
 {
@@ -76,7 +76,7 @@ pub fn dump<R: DeviceIn, W: DeviceOut>(
     input: &mut Watched<R>,
     out: &mut Watched<W>,
 ) -> Ending
-    ensures worked { (file : List ℕ) → R.remaining input.old ≡ Some file → Worked (dump_job dump.mode dump.bare) file (W.contents out.old) (W.contents out.new) result }
+    ensures worked { (file : List ℕ) → R.remaining input.old ≡ Some file → Worked (dump_job dump.mode dump.bare) file (R.remaining input.new) (W.contents out.old) (W.contents out.new) result }
     ensures unread { spec.TellsUnread (R.has_failed input.old) (R.has_failed input.new) result }
     ensures failed { spec.TellsOutput (W.has_failed out.old) (W.has_failed out.new) result }
 {

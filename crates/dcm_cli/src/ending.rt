@@ -6,25 +6,51 @@ use dcm_base::Stop;
 use dcm_build::LineStop;
 use dcm_stream::Halt;
 
-/// How the work on a job ended, before its output is flushed.
+/// What the work on a job came to, where no device failed.
 #[derive(Clone, Copy, Debug, PartialEq, Eq)]
-pub enum Ending {
-    Done,
+pub enum Verdict {
+    /// All was done, except the edits that found no place: bit k is set for edit k, counted from 0.
+    Done { unplaced: u64 },
     Refused(Stop),
     /// The lines of a dump are refused.
     RefusedLine(LineStop),
-    /// Reading failed behind so many bytes.
+}
+
+/// How the work on a job ended, before its output is flushed.
+#[derive(Clone, Copy, Debug, PartialEq, Eq)]
+pub enum Ending {
+    Worked(Verdict),
+    /// Reading failed after so many bytes.
     Unread(u64),
     /// The output failed.
     Output,
 }
 
-/// How a halted machine ends the work.
-pub fn ending_of(halt: Halt) -> Ending
-    ensures { result ≡ spec.ending_of halt }
+/// Why the data set of a file was not reached.
+#[derive(Clone, Copy, Debug, PartialEq, Eq)]
+pub enum HeadEnding {
+    Refused(Stop),
+    /// Reading failed after so many bytes.
+    Unread(u64),
+}
+
+/// How the work ends where a machine has ended a data set, or halted.
+pub fn ending_of(answer: Result<(), Halt>) -> Ending
+    ensures { result ≡ spec.ending_of answer }
 {
-    match halt {
-        Halt::Refused(stop) => Ending::Refused(stop),
-        Halt::Output => Ending::Output,
+    match answer {
+        Ok(()) => Ending::Worked(Verdict::Done { unplaced: 0 }),
+        Err(Halt::Refused(stop)) => Ending::Worked(Verdict::Refused(stop)),
+        Err(Halt::Output) => Ending::Output,
+    }
+}
+
+/// How the work ends without a data set.
+pub fn ending_of_head(ending: HeadEnding) -> Ending
+    ensures { result ≡ spec.ending_of_head ending }
+{
+    match ending {
+        HeadEnding::Refused(stop) => Ending::Worked(Verdict::Refused(stop)),
+        HeadEnding::Unread(read) => Ending::Unread(read),
     }
 }

@@ -3,7 +3,7 @@ ghost use Rattle.std.specs.Prelude.{◌≡◌, ◌≤◌, ◌<◌, ◌^◌, leng
 ghost use Rattle.dcm_head.specs.MetaReading.{HasEnded, at_start, meta_finished};
 ghost use Rattle.dcm_cli.specs.Pass as spec;
 
-use crate::ending::Ending;
+use crate::ending::HeadEnding;
 use dcm_base::{DeviceIn, Watched, get_some};
 use dcm_head::{Meta, MetaRead};
 
@@ -22,12 +22,12 @@ pub struct Begun {
 const GROUP_AT: u64 = 132;
 
 /// The input ends with the head of a file, or within it.
-fn finish_head(meta: &mut Meta, read: u64) -> Result<Begun, Ending>
+fn finish_head(meta: &mut Meta, read: u64) -> Result<Begun, HeadEnding>
     ensures state { meta.new ≡ meta_finished meta.old }
     ensures answer { spec.FinishesHead meta.new.end read result }
 {
     match meta.finish() {
-        Err(stop) => Err(Ending::Refused(stop)),
+        Err(stop) => Err(HeadEnding::Refused(stop)),
         Ok(()) => Ok(Begun {
             ahead: None,
             used: 0,
@@ -43,13 +43,13 @@ pub fn read_head_of<R: DeviceIn>(
     meta: &mut Meta,
     input: &mut Watched<R>,
     buffer: &mut [u8],
-) -> Result<Begun, Ending>
+) -> Result<Begun, HeadEnding>
     requires start { meta.old ≡ at_start }
     requires room { 0 < length buffer.old }
     requires bound { length buffer.old ≤ 262144 }
     ensures within { IfOk result (λ b. (b.used ≤ b.filled) × (b.filled ≤ length buffer.new)) }
     ensures read { spec.HeadReads (R.remaining input.old) (R.remaining input.new) meta.new buffer.new result }
-    ensures failed { MatchResult result (λ b. R.has_failed input.new ≡ R.has_failed input.old) (λ e. spec.TellsUnread (R.has_failed input.old) (R.has_failed input.new) e) }
+    ensures failed { MatchResult result (λ b. R.has_failed input.new ≡ R.has_failed input.old) (λ e. spec.TellsUnread (R.has_failed input.old) (R.has_failed input.new) (spec.ending_of_head e)) }
     ensures kept { length buffer.new ≡ length buffer.old }
 {
     let mut read: u64 = 0;
@@ -57,13 +57,13 @@ pub fn read_head_of<R: DeviceIn>(
         let n = match get_some(input, buffer) {
             Ok(0) => return finish_head(meta, read),
             Ok(n) => n,
-            Err(_) => return Err(Ending::Unread(read)),
+            Err(_) => return Err(HeadEnding::Unread(read)),
         };
         read += n as u64;
         let (piece, _) = buffer.split_at(n);
         match meta.feed(piece) {
             MetaRead::More => {}
-            MetaRead::Refused(stop) => return Err(Ending::Refused(stop)),
+            MetaRead::Refused(stop) => return Err(HeadEnding::Refused(stop)),
             MetaRead::Ended { used, ahead } => {
                 return Ok(Begun {
                     ahead,

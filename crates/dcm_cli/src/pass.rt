@@ -3,7 +3,9 @@ ghost use Rattle.std.specs.Prelude.{◌≡◌, ◌≤◌, ◌<◌, ◌+◌, ◌^
 ghost use Rattle.std.specs.Io.KnownBytes.{IsAtEnd};
 ghost use Rattle.dcm_stream.specs.Machine as machine_spec;
 ghost use Rattle.dcm_stream.specs.Reading.{start_of};
+ghost use Rattle.dcm_stream.specs.Sinks as sinks;
 ghost use Rattle.dcm_cli.specs.Pass as spec;
+ghost use Rattle.dcm_cli.specs.SinkPass as sink_pass;
 
 use crate::ending::{Ending, ending_of};
 use crate::head::Begun;
@@ -13,8 +15,8 @@ use dcm_stream::{Halt, Machine, Sink};
 /// Feeds a machine that has not halted.
 fn feed<S: Sink>(piece: &[u8], machine: &mut Machine, sink: &mut S) -> Result<(), Halt>
     requires { machine_spec.is_halted machine.old ≡ false }
-    ensures fed { spec.Fed S.bar S.step S.writes machine.old (S.state sink.old) (S.contents sink.old) (S.has_failed sink.old) machine.new (S.state sink.new) (S.contents sink.new) (S.has_failed sink.new) piece.now result }
-    ensures kept { S.kept sink.new ≡ S.kept sink.old }
+    ensures fed { sink_pass.Fed S.Sink sink.old sink.new machine.old machine.new piece.now result }
+    ensures kept { sinks.Keeps S.Sink sink.old sink.new }
 {
     machine.feed(piece, sink)
 }
@@ -28,8 +30,8 @@ fn feed_begun<S: Sink>(
 ) -> Result<(), Halt>
     requires within { (begun.used ≤ begun.filled) × (begun.filled ≤ length buffer.now) }
     requires going { machine_spec.is_halted machine.old ≡ false }
-    ensures fed { spec.Fed S.bar S.step S.writes machine.old (S.state sink.old) (S.contents sink.old) (S.has_failed sink.old) machine.new (S.state sink.new) (S.contents sink.new) (S.has_failed sink.new) (spec.set_bytes begun buffer.now) result }
-    ensures kept { S.kept sink.new ≡ S.kept sink.old }
+    ensures fed { sink_pass.Fed S.Sink sink.old sink.new machine.old machine.new (spec.set_bytes begun buffer.now) result }
+    ensures kept { sinks.Keeps S.Sink sink.old sink.new }
 {
     let rest = &buffer[begun.used..begun.filled];
     match begun.ahead {
@@ -41,17 +43,14 @@ fn feed_begun<S: Sink>(
     }
 }
 
-/// Ends the data set of a machine.
-fn end<S: Sink>(machine: &mut Machine, sink: &mut S) -> Ending
+/// Ends the data set of a machine that has not halted.
+fn end<S: Sink>(machine: &mut Machine, sink: &mut S) -> Result<(), Halt>
     requires { machine_spec.is_halted machine.old ≡ false }
-    ensures ends { spec.EndsSet S.step S.writes machine.old.reading (S.state sink.old) (S.contents sink.old) (S.contents sink.new) result }
-    ensures failed { spec.TellsOutput (S.has_failed sink.old) (S.has_failed sink.new) result }
-    ensures kept { S.kept sink.new ≡ S.kept sink.old }
+    ensures ends { sink_pass.EndsSet S.Sink sink.old sink.new machine.old.reading result }
+    ensures failed { sink_pass.TellsOutput S.Sink sink.old sink.new (spec.ending_of result) }
+    ensures kept { sinks.Keeps S.Sink sink.old sink.new }
 {
-    match machine.finish(sink) {
-        Ok(()) => Ending::Done,
-        Err(halt) => ending_of(halt),
-    }
+    machine.finish(sink)
 }
 
 /// Feeds a machine all that an input has still to give, behind so many bytes.
@@ -67,22 +66,22 @@ pub fn read_rest<R: DeviceIn, S: Sink>(
     requires going { machine_spec.is_halted machine.old ≡ false }
     requires before { read_before ≡ machine_spec.next_offset machine.old.reading }
     requires limit { read_before ≤ 2 ^ 62 }
-    ensures pumps { spec.Pumps S.bar S.step S.writes (R.remaining input.old) machine.old.reading (S.state sink.old) (S.contents sink.old) (R.remaining input.new) (S.contents sink.new) result }
+    ensures pumps { sink_pass.Pumps S.Sink sink.old sink.new (R.remaining input.old) (R.remaining input.new) machine.old.reading result }
     ensures unread { spec.TellsUnread (R.has_failed input.old) (R.has_failed input.new) result }
-    ensures failed { spec.TellsOutput (S.has_failed sink.old) (S.has_failed sink.new) result }
-    ensures kept { S.kept sink.new ≡ S.kept sink.old }
+    ensures failed { sink_pass.TellsOutput S.Sink sink.old sink.new result }
+    ensures kept { sinks.Keeps S.Sink sink.old sink.new }
 {
     let mut read = read_before;
     loop {
         let n = match get_some(input, buffer) {
-            Ok(0) => return end(machine, sink),
+            Ok(0) => return ending_of(end(machine, sink)),
             Ok(n) => n,
             Err(_) => return Ending::Unread(read),
         };
         read += n as u64;
         let (piece, _) = buffer.split_at(n);
         if let Err(halt) = feed(piece, machine, sink) {
-            return ending_of(halt);
+            return ending_of(Err(halt));
         }
     }
 }
@@ -102,18 +101,18 @@ pub fn read_set<R: DeviceIn, S: Sink>(
     requires within { (begun.used ≤ begun.filled) × (begun.filled ≤ length buffer.old) }
     requires count { start + length (spec.set_bytes begun buffer.old) ≡ begun.read }
     requires over { begun.is_over ≡ true → IsAtEnd (R.remaining input.old) }
-    ensures ends { spec.BehindBegun S.bar S.step S.writes (R.remaining input.old) (spec.set_bytes begun buffer.old) (start_of coding.syntax start) (S.state sink.old) (S.contents sink.old) (R.remaining input.new) (S.contents sink.new) result }
+    ensures ends { sink_pass.BehindBegun S.Sink sink.old sink.new (R.remaining input.old) (R.remaining input.new) (spec.set_bytes begun buffer.old) (start_of coding.syntax start) result }
     ensures over { begun.is_over ≡ true → spec.WasRead result }
     ensures unread { spec.TellsUnread (R.has_failed input.old) (R.has_failed input.new) result }
-    ensures failed { spec.TellsOutput (S.has_failed sink.old) (S.has_failed sink.new) result }
-    ensures kept { S.kept sink.new ≡ S.kept sink.old }
+    ensures failed { sink_pass.TellsOutput S.Sink sink.old sink.new result }
+    ensures kept { sinks.Keeps S.Sink sink.old sink.new }
 {
     let mut machine = Machine::new(coding, start);
     if let Err(halt) = feed_begun(begun, buffer, &mut machine, sink) {
-        return ending_of(halt);
+        return ending_of(Err(halt));
     }
     if begun.is_over {
-        return end(&mut machine, sink);
+        return ending_of(end(&mut machine, sink));
     }
     read_rest(begun.read, input, buffer, &mut machine, sink)
 }

@@ -8,13 +8,16 @@ ghost use Rattle.dcm_words.specs.Plans.{job_of};
 use crate::build::build;
 use crate::convert::convert;
 use crate::dump::dump;
-use crate::ending::Ending;
-use crate::told::{DEVICE, tell_fault, tell_line_fault, tell_output, tell_unread};
+use crate::ending::{Ending, Verdict};
+use crate::told::{DEVICE, tell_fault, tell_line_fault, tell_output, tell_unplaced, tell_unread};
 use dcm_base::{DeviceIn, DeviceOut, Watched, flush_out};
 use dcm_words::Job;
 
 /// The status of an input at fault.
 const FAULT: u8 = 2;
+
+/// The status where an edit found no place.
+const UNPLACED: u8 = 3;
 
 /// How a run ended.
 #[derive(Clone, Copy, Debug, PartialEq, Eq)]
@@ -34,29 +37,50 @@ fn flushed<W: DeviceOut>(ending: Ending, out: &mut Watched<W>) -> Ending
             let _ = flush_out(out);
             Ending::Unread(read)
         }
-        Ending::Done | Ending::Refused(_) | Ending::RefusedLine(_) => match flush_out(out) {
+        Ending::Worked(_) => match flush_out(out) {
             Ok(()) => ending,
             Err(_) => Ending::Output,
         },
     }
 }
 
+/// The status of a job that was done, by the edits that found no place.
+fn done_status(unplaced: u64) -> u8
+    ensures { result ≡ spec.mask_status unplaced }
+{
+    if unplaced == 0 { 0 } else { UNPLACED }
+}
+
+/// Tells what the work on a job came to, and answers the status.
+fn tell_verdict<E: DeviceOut>(verdict: Verdict, errors: &mut Watched<E>) -> u8
+    ensures lines { Tries (E.contents errors.old) (E.contents errors.new) (E.has_failed errors.old) (E.has_failed errors.new) (spec.verdict_lines verdict) }
+    ensures status { result ≡ spec.verdict_status verdict }
+    ensures within { result ≤ 3 }
+{
+    match verdict {
+        Verdict::Done { unplaced } => {
+            tell_unplaced(unplaced, errors);
+            done_status(unplaced)
+        }
+        Verdict::Refused(stop) => {
+            tell_fault(stop, errors);
+            FAULT
+        }
+        Verdict::RefusedLine(stop) => {
+            tell_line_fault(stop, errors);
+            FAULT
+        }
+    }
+}
+
 /// Tells how a job ended, and answers the status.
 fn tell_ending<E: DeviceOut>(ending: Ending, errors: &mut Watched<E>) -> u8
-    ensures line { Tries (E.contents errors.old) (E.contents errors.new) (E.has_failed errors.old) (E.has_failed errors.new) (spec.ending_line ending) }
+    ensures lines { Tries (E.contents errors.old) (E.contents errors.new) (E.has_failed errors.old) (E.has_failed errors.new) (spec.ending_lines ending) }
     ensures status { result ≡ spec.ending_status ending }
     ensures within { result ≤ 4 }
 {
     match ending {
-        Ending::Done => 0,
-        Ending::Refused(stop) => {
-            tell_fault(stop, errors);
-            FAULT
-        }
-        Ending::RefusedLine(stop) => {
-            tell_line_fault(stop, errors);
-            FAULT
-        }
+        Ending::Worked(verdict) => tell_verdict(verdict, errors),
         Ending::Unread(read) => {
             tell_unread(read, errors);
             DEVICE
@@ -74,7 +98,7 @@ fn work<R: DeviceIn, W: DeviceOut>(
     input: &mut Watched<R>,
     out: &mut Watched<W>,
 ) -> Ending
-    ensures worked { (file : List ℕ) → R.remaining input.old ≡ Some file → spec.Worked (job_of job.now) file (W.contents out.old) (W.contents out.new) result }
+    ensures worked { (file : List ℕ) → R.remaining input.old ≡ Some file → spec.Worked (job_of job.now) file (R.remaining input.new) (W.contents out.old) (W.contents out.new) result }
     ensures unread { TellsUnread (R.has_failed input.old) (R.has_failed input.new) result }
     ensures failed { TellsOutput (W.has_failed out.old) (W.has_failed out.new) result }
 {
@@ -93,7 +117,7 @@ pub fn run<R: DeviceIn, W: DeviceOut, E: DeviceOut>(
     out: &mut Watched<W>,
     errors: &mut Watched<E>,
 ) -> Outcome
-    ensures ran { (file : List ℕ) → R.remaining input.old ≡ Some file → R.has_failed input.old ≡ false → W.has_failed out.old ≡ false → spec.Ran (job_of job.now) file (record { held = W.contents out.old; holds = W.contents out.new; told = E.contents errors.old; tells = E.contents errors.new; unread = R.has_failed input.new; unwritten = W.has_failed out.new; untold_before = E.has_failed errors.old; untold = E.has_failed errors.new }) result.status }
+    ensures ran { (file : List ℕ) → R.remaining input.old ≡ Some file → R.has_failed input.old ≡ false → W.has_failed out.old ≡ false → spec.Ran (job_of job.now) file (record { left = R.remaining input.new; held = W.contents out.old; holds = W.contents out.new; told = E.contents errors.old; tells = E.contents errors.new; unread = R.has_failed input.new; unwritten = W.has_failed out.new; untold_before = E.has_failed errors.old; untold = E.has_failed errors.new }) result.status }
     ensures flushed { W.has_failed out.old ≡ false → W.has_failed out.new ≡ false → W.is_flushed out.new ≡ true }
     ensures within { result.status ≤ 4 }
     ensures failed { R.has_failed input.old ≡ false → W.has_failed out.old ≡ false → (result.status ≡ 4) ↔ ((R.has_failed input.new ≡ true) ⊎ (W.has_failed out.new ≡ true)) }

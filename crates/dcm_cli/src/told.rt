@@ -1,12 +1,13 @@
 // Lines on standard error, each by one write.
 ghost use Rattle.std.specs.Prelude.{◌≡◌, ◌≤◌, ◌+◌, ◌++◌, length, flat_map};
+ghost use Rattle.dcm_base.specs.Device.{Puts, Tells};
 ghost use Rattle.dcm_base.specs.Fault.{fault_text, fault_number, edit_refusal_text, edit_refusal_number};
 ghost use Rattle.dcm_build.specs.Builder.{told_of};
 ghost use Rattle.dcm_cli.specs.Answer as answer;
 ghost use Rattle.dcm_cli.specs.Told as spec;
 
 use arrayvec::ArrayVec;
-use dcm_base::{DeviceOut, Stop, Watched, put_all};
+use dcm_base::{DeviceOut, Stop, Watched, WriteFailed, put_all};
 use dcm_build::LineStop;
 use dcm_words::Usage;
 use itoa::Buffer;
@@ -19,6 +20,9 @@ pub const DEVICE: u8 = 4;
 
 /// The status of want of memory.
 pub const MEMORY: u8 = 5;
+
+/// The most edits of a command line.
+const MOST_EDITS: u64 = 64;
 
 /// The most bytes of a line.
 const LONGEST: usize = 192;
@@ -34,13 +38,22 @@ fn compose(parts: &[&[u8]]) -> ArrayVec<u8, LONGEST>
     line
 }
 
-/// Tells a line. A failing writer has a beginning of it.
+/// Writes a line. A failing writer has a beginning of it.
+fn put_line<E: DeviceOut>(errors: &mut Watched<E>, parts: &[&[u8]]) -> Result<(), WriteFailed>
+    requires { length (flat_map (λ part. part.now) parts.now) ≤ 192 }
+    ensures bytes { Puts (E.contents errors.old) (E.contents errors.new) (flat_map (λ part. part.now) parts.now) result }
+    ensures failed { Tells (E.has_failed errors.old) (E.has_failed errors.new) result }
+{
+    let line = compose(parts);
+    put_all(errors, line.as_slice())
+}
+
+/// Writes a line, after which no other comes.
 fn tell_line<E: DeviceOut>(errors: &mut Watched<E>, parts: &[&[u8]])
     requires { length (flat_map (λ part. part.now) parts.now) ≤ 192 }
     ensures { spec.Tries (E.contents errors.old) (E.contents errors.new) (E.has_failed errors.old) (E.has_failed errors.new) (flat_map (λ part. part.now) parts.now) }
 {
-    let line = compose(parts);
-    let _ = put_all(errors, line.as_slice());
+    let _ = put_line(errors, parts);
 }
 
 /// Tells why words are refused, and answers the status.
@@ -185,4 +198,41 @@ pub fn tell_output<E: DeviceOut>(errors: &mut Watched<E>)
     ensures { spec.Tries (E.contents errors.old) (E.contents errors.new) (E.has_failed errors.old) (E.has_failed errors.new) spec.output_line }
 {
     tell_line(errors, &[b"dcmtools: output failed\n".as_slice()]);
+}
+
+/// Writes the line of an edit that found no place; it is counted from 1. Of another edit nothing is written.
+fn put_unplaced<E: DeviceOut>(
+    is_unplaced: bool,
+    number: u64,
+    errors: &mut Watched<E>,
+) -> Result<(), WriteFailed>
+    ensures bytes { Puts (E.contents errors.old) (E.contents errors.new) (spec.line_where is_unplaced number) result }
+    ensures failed { Tells (E.has_failed errors.old) (E.has_failed errors.new) result }
+{
+    if !is_unplaced {
+        return Ok(());
+    }
+    let mut digits = Buffer::new();
+    put_line(
+        errors,
+        &[
+            b"dcmtools: edit ".as_slice(),
+            digits.format(number).as_bytes(),
+            b" found no place\n".as_slice(),
+        ],
+    )
+}
+
+/// Tells which edits found no place, each on a line: bit k is set for edit k, counted from 0. After a line that failed
+/// no other is tried.
+pub fn tell_unplaced<E: DeviceOut>(unplaced: u64, errors: &mut Watched<E>)
+    ensures { spec.Tries (E.contents errors.old) (E.contents errors.new) (E.has_failed errors.old) (E.has_failed errors.new) (spec.mask_lines 64 1 unplaced) }
+{
+    let mut rest = unplaced;
+    for number in 1..=MOST_EDITS {
+        if put_unplaced(rest % 2 == 1, number, errors).is_err() {
+            return;
+        }
+        rest /= 2;
+    }
 }

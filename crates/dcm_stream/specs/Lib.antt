@@ -7,3 +7,4 @@ pub mod Bounds
 pub mod Ascending
 pub mod Machine
 pub mod Driven
+pub mod Sinks

@@ -1,7 +1,6 @@
 // The ends of containers, and the tokens of heads.
 ghost use Rattle.std.specs.Prelude.{◌≡◌, [], ◌∷◌, reverse, OnOk};
-ghost use Rattle.dcm_base.specs.Device.{Tells};
-ghost use Rattle.dcm_base.specs.Steps.{Goes};
+ghost use Rattle.dcm_stream.specs.Sinks as sinks;
 ghost use Rattle.dcm_stream.specs.Tokens.{atoms_of};
 ghost use Rattle.dcm_stream.specs.Places.{full_innermost};
 ghost use Rattle.dcm_stream.specs.Judging.{opening_atom};
@@ -58,9 +57,9 @@ pub fn close_full<S: Sink>(
     sink: &mut S,
 ) -> Result<(), WriteFailed>
     ensures levels { OnOk result (reverse levels.new.items ≡ (full_closed position (reverse levels.old.items)).0) }
-    ensures goes { Goes S.step S.writes (S.state sink.old) (S.contents sink.old) (S.state sink.new) (S.contents sink.new) (full_closed position (reverse levels.old.items)).1 result }
-    ensures failed { Tells (S.has_failed sink.old) (S.has_failed sink.new) result }
-    ensures kept { S.kept sink.new ≡ S.kept sink.old }
+    ensures goes { sinks.Takes S.Sink sink.old sink.new (full_closed position (reverse levels.old.items)).1 result }
+    ensures failed { sinks.Tells S.Sink sink.old sink.new result }
+    ensures kept { sinks.Keeps S.Sink sink.old sink.new }
 {
     while let Some(container) = full_container(levels.as_slice(), position) {
         sink.take(closing_token(container))?;

@@ -1,8 +1,8 @@
 // The machine that reads a data set in pieces (PS3.5 7).
 ghost use Rattle.std.specs.Prelude.{◌≡◌, ◌+◌, ◌≤◌, ◌^◌, OnOk, None, length, true, false};
-ghost use Rattle.dcm_base.specs.Steps.{Goes};
 ghost use Rattle.dcm_stream.specs.Reading as steps;
 ghost use Rattle.dcm_stream.specs.Machine as spec;
+ghost use Rattle.dcm_stream.specs.Sinks as sinks;
 
 use super::Sink;
 use super::place::Place;
@@ -64,12 +64,12 @@ impl Machine {
 
     /// Goes over the next bytes of the data set. After a halt each call answers the same halt.
     pub fn feed<S: Sink>(&mut self, piece: &[u8], sink: &mut S) -> Result<(), Halt>
-        ensures goes { spec.GoesOver S.bar S.step S.writes self.old (S.state sink.old) (S.contents sink.old) self.new (S.state sink.new) (S.contents sink.new) piece.now }
+        ensures goes { sinks.GoesOver S.Sink sink.old sink.new self.old self.new piece.now }
         ensures answer { result ≡ spec.answer self.new.reading.halt self.new.failed }
         ensures going { OnOk result (spec.is_halted self.new ≡ false) }
         ensures halted { spec.is_halted self.old ≡ true → (self.new ≡ self.old) × (sink.new ≡ sink.old) }
-        ensures failed { spec.is_halted self.old ≡ false → spec.TellsFailed (S.has_failed sink.old) (S.has_failed sink.new) self.new.failed }
-        ensures kept { S.kept sink.new ≡ S.kept sink.old }
+        ensures failed { spec.is_halted self.old ≡ false → sinks.TellsFailed S.Sink sink.old sink.new self.new.failed }
+        ensures kept { sinks.Keeps S.Sink sink.old sink.new }
         // While nothing halts it, it goes over each byte, and over no more than the limit.
         ensures place { spec.is_halted self.new ≡ false → spec.next_offset self.new.reading ≡ spec.next_offset self.old.reading + length piece.now }
         ensures within { spec.is_halted self.new ≡ false → spec.next_offset self.new.reading ≤ 2 ^ 62 }
@@ -92,12 +92,12 @@ impl Machine {
 
     /// The input ends. Where that is no fault, the data set is closed.
     pub fn finish<S: Sink>(&mut self, sink: &mut S) -> Result<(), Halt>
-        ensures goes { Goes S.step S.writes (S.state sink.old) (S.contents sink.old) (S.state sink.new) (S.contents sink.new) (steps.end_shows (steps.finish self.old.reading)) (spec.well self.new.failed) }
+        ensures goes { sinks.Takes S.Sink sink.old sink.new (steps.end_shows (steps.finish self.old.reading)) (spec.well self.new.failed) }
         ensures answer { result ≡ spec.answer self.new.reading.halt self.new.failed }
         ensures reading { self.old.failed ≡ false → self.new.reading ≡ spec.ended (steps.finish self.old.reading) self.old.reading }
         ensures halted { spec.is_halted self.old ≡ true → (self.new ≡ self.old) × (sink.new ≡ sink.old) }
-        ensures failed { spec.is_halted self.old ≡ false → spec.TellsFailed (S.has_failed sink.old) (S.has_failed sink.new) self.new.failed }
-        ensures kept { S.kept sink.new ≡ S.kept sink.old }
+        ensures failed { spec.is_halted self.old ≡ false → sinks.TellsFailed S.Sink sink.old sink.new self.new.failed }
+        ensures kept { sinks.Keeps S.Sink sink.old sink.new }
     {
         if self.halt.is_none() {
             self.halt = self.place.end(sink).err();

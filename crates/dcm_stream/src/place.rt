@@ -1,10 +1,10 @@
 // Where the reading of a data set stands (PS3.5 7).
 ghost use Rattle.std.specs.Prelude.{◌≡◌, ◌+◌, ◌-◌, ◌^◌, ◌<◌, ◌≤◌, [], ◌∷◌, ◌++◌, None, length, reverse, IfOk};
-ghost use Rattle.dcm_base.specs.Steps.{Goes};
 ghost use Rattle.dcm_stream.specs.Bounds as bounds;
 ghost use Rattle.dcm_stream.specs.Judging.{opened_by};
 ghost use Rattle.dcm_stream.specs.Reading as steps;
 ghost use Rattle.dcm_stream.specs.Machine as spec;
+ghost use Rattle.dcm_stream.specs.Sinks as sinks;
 
 use super::close::{MOST_LEVELS, close_full, opening_token};
 use super::judge::{Opening, judge};
@@ -55,9 +55,9 @@ impl Place {
     fn settle<S: Sink>(&mut self, sink: &mut S) -> Result<(), Halt>
         requires head { self.old.head.items ≡ [] }
         requires left { self.old.left ≡ 0 }
-        ensures comes { spec.Comes S.step S.writes (S.state sink.old) (S.contents sink.old) (S.state sink.new) (S.contents sink.new) (spec.reading self.new) (spec.settles self.old) result }
-        ensures failed { spec.TellsHalt (S.has_failed sink.old) (S.has_failed sink.new) result }
-        ensures kept { S.kept sink.new ≡ S.kept sink.old }
+        ensures comes { sinks.Comes S.Sink sink.old sink.new (spec.reading self.new) (spec.settles self.old) result }
+        ensures failed { sinks.TellsHalt S.Sink sink.old sink.new result }
+        ensures kept { sinks.Keeps S.Sink sink.old sink.new }
     {
         close_full(&mut self.levels, self.position, sink)?;
         if passes(
@@ -72,9 +72,9 @@ impl Place {
     /// Closes a value of which no byte is left.
     fn settle_value<S: Sink>(&mut self, sink: &mut S) -> Result<(), Halt>
         requires head { self.old.head.items ≡ [] }
-        ensures comes { spec.Comes S.step S.writes (S.state sink.old) (S.contents sink.old) (S.state sink.new) (S.contents sink.new) (spec.reading self.new) (spec.settles_value self.old) result }
-        ensures failed { spec.TellsHalt (S.has_failed sink.old) (S.has_failed sink.new) result }
-        ensures kept { S.kept sink.new ≡ S.kept sink.old }
+        ensures comes { sinks.Comes S.Sink sink.old sink.new (spec.reading self.new) (spec.settles_value self.old) result }
+        ensures failed { sinks.TellsHalt S.Sink sink.old sink.new result }
+        ensures kept { sinks.Keeps S.Sink sink.old sink.new }
     {
         if self.left > 0 {
             return Ok(());
@@ -88,9 +88,9 @@ impl Place {
         requires head { self.old.head.items ≡ [] }
         requires fits { length value.now ≤ self.old.left }
         requires within { self.old.position + length value.now ≤ 2 ^ 62 }
-        ensures comes { spec.Comes S.step S.writes (S.state sink.old) (S.contents sink.old) (S.state sink.new) (S.contents sink.new) (spec.reading self.new) (spec.value_read (spec.reading self.old None) (self.old.left - length value.now) value.now) result }
-        ensures failed { spec.TellsHalt (S.has_failed sink.old) (S.has_failed sink.new) result }
-        ensures kept { S.kept sink.new ≡ S.kept sink.old }
+        ensures comes { sinks.Comes S.Sink sink.old sink.new (spec.reading self.new) (spec.value_read (spec.reading self.old None) (self.old.left - length value.now) value.now) result }
+        ensures failed { sinks.TellsHalt S.Sink sink.old sink.new result }
+        ensures kept { sinks.Keeps S.Sink sink.old sink.new }
     {
         sink.take(Token::Bytes(value))?;
         self.position += value.len() as u64;
@@ -103,9 +103,9 @@ impl Place {
         requires head { self.old.head.items ≡ [] }
         requires left { self.old.left ≡ 0 }
         requires few { length (opened_by (reverse self.old.levels.items) opening).levels ≤ 129 }
-        ensures comes { spec.Comes S.step S.writes (S.state sink.old) (S.contents sink.old) (S.state sink.new) (S.contents sink.new) (spec.reading self.new) (spec.entered self.old.position (opened_by (reverse self.old.levels.items) opening)) result }
-        ensures failed { spec.TellsHalt (S.has_failed sink.old) (S.has_failed sink.new) result }
-        ensures kept { S.kept sink.new ≡ S.kept sink.old }
+        ensures comes { sinks.Comes S.Sink sink.old sink.new (spec.reading self.new) (spec.entered self.old.position (opened_by (reverse self.old.levels.items) opening)) result }
+        ensures failed { sinks.TellsHalt S.Sink sink.old sink.new result }
+        ensures kept { sinks.Keeps S.Sink sink.old sink.new }
     {
         sink.take(opening_token(opening))?;
         match opening {
@@ -135,9 +135,9 @@ impl Place {
         requires left { self.old.left ≡ 0 }
         requires long { 7 ≤ length self.old.head.items }
         requires within { self.old.position + length self.old.head.items < 2 ^ 62 }
-        ensures feeds { spec.Feeds S.bar S.step S.writes (spec.reading self.old None) (S.state sink.old) (S.contents sink.old) (spec.reading self.new) (S.state sink.new) (S.contents sink.new) (byte ∷ []) result }
-        ensures failed { spec.TellsHalt (S.has_failed sink.old) (S.has_failed sink.new) result }
-        ensures kept { S.kept sink.new ≡ S.kept sink.old }
+        ensures feeds { sinks.Feeds S.Sink sink.old sink.new (spec.reading self.old None) (spec.reading self.new) (byte ∷ []) result }
+        ensures failed { sinks.TellsHalt S.Sink sink.old sink.new result }
+        ensures kept { sinks.Keeps S.Sink sink.old sink.new }
     {
         let Some(inner) = self.levels.as_slice().last() else {
             return Ok(());
@@ -171,9 +171,9 @@ impl Place {
         requires some { 0 < length piece.now }
         requires stands { spec.Stands (spec.reading self.old None) }
         ensures some { IfOk result (λ n. (0 < n) × (n ≤ length piece.now)) }
-        ensures feeds { spec.Feeds S.bar S.step S.writes (spec.reading self.old None) (S.state sink.old) (S.contents sink.old) (spec.reading self.new) (S.state sink.new) (S.contents sink.new) (spec.bytes_read result piece.now) result }
-        ensures failed { spec.TellsHalt (S.has_failed sink.old) (S.has_failed sink.new) result }
-        ensures kept { S.kept sink.new ≡ S.kept sink.old }
+        ensures feeds { sinks.Feeds S.Sink sink.old sink.new (spec.reading self.old None) (spec.reading self.new) (spec.bytes_read result piece.now) result }
+        ensures failed { sinks.TellsHalt S.Sink sink.old sink.new result }
+        ensures kept { sinks.Keeps S.Sink sink.old sink.new }
     {
         let read = self.position + self.head.len() as u64;
         if read >= INPUT_LIMIT {
@@ -208,9 +208,9 @@ impl Place {
     pub fn end<S: Sink>(&self, sink: &mut S) -> Result<(), Halt>
         requires { spec.Stands (spec.reading self.now None) }
         ensures answer { spec.EndsWith (steps.finish (spec.reading self.now None)) result }
-        ensures goes { Goes S.step S.writes (S.state sink.old) (S.contents sink.old) (S.state sink.new) (S.contents sink.new) (steps.end_shows (steps.finish (spec.reading self.now None))) (spec.went result) }
-        ensures failed { spec.TellsHalt (S.has_failed sink.old) (S.has_failed sink.new) result }
-        ensures kept { S.kept sink.new ≡ S.kept sink.old }
+        ensures goes { sinks.Takes S.Sink sink.old sink.new (steps.end_shows (steps.finish (spec.reading self.now None))) (spec.went result) }
+        ensures failed { sinks.TellsHalt S.Sink sink.old sink.new result }
+        ensures kept { sinks.Keeps S.Sink sink.old sink.new }
     {
         if !self.may_end() {
             let end = self.position + self.head.len() as u64;

@@ -21,15 +21,16 @@ returns-in-Ok-eq0-clause-worked g c = λ file is.
     in
     let parts = splits (g.R.DeviceIn.remaining c.args.input.now) left loop.invariant.front file is given in
     let whole : file ≡ loop.invariant.front = parts.2 ∙ ap (λ bytes. loop.invariant.front ++ bytes) (none_left left parts.0 (c.in-Ok-eq0.ensures.end c.in-Ok-eq0.field-0-test) parts.1) ∙ append-nil loop.invariant.front in
-    built_ended c.args.limit file loop.invariant.front (g.W.DeviceOut.contents c.args.out.now) loop.builder.state (g.W.DeviceOut.contents loop.out) loop.invariant.state loop.invariant.out whole (g.W.DeviceOut.contents c.end.new.out) c.end.result c.end.ensures.ends
+    subst (λ (ending : Ending). Worked (build_job c.args.limit) file left (g.W.DeviceOut.contents c.args.out.now) (g.W.DeviceOut.contents c.end.new.out) ending) (sym c.ending_of.ensures)
+    (built_ended c.args.limit file loop.invariant.front left (g.W.DeviceOut.contents c.args.out.now) loop.builder.state (g.W.DeviceOut.contents loop.out) loop.invariant.state loop.invariant.out whole (g.W.DeviceOut.contents c.end.new.out) c.end.result c.end.ensures.ends)
 
 pub returns-in-Err-clause-worked : goal.returns-in-Err-clause-worked
 returns-in-Err-clause-worked g c = λ file is.
     let loop = c.loop-builder in
     let parts = splits (g.R.DeviceIn.remaining c.args.input.now) (g.R.DeviceIn.remaining loop.input) loop.invariant.front file is loop.invariant.given in
-    subst (λ (n : ℕ). Worked (build_job c.args.limit) file (g.W.DeviceOut.contents c.args.out.now) (g.W.DeviceOut.contents loop.out) (Unread n)) (sym loop.invariant.count)
-    (built_unread c.args.limit file loop.invariant.front (g.W.DeviceOut.contents c.args.out.now) loop.builder.state (g.W.DeviceOut.contents loop.out) loop.invariant.state loop.invariant.out
-    parts.0 (going_is loop.builder.state.told loop.builder.failed loop.invariant.going).1 parts.2)
+    subst (λ (n : ℕ). Worked (build_job c.args.limit) file (g.R.DeviceIn.remaining c.get_some.new.input) (g.W.DeviceOut.contents c.args.out.now) (g.W.DeviceOut.contents loop.out) (Unread n)) (sym loop.invariant.count)
+    (built_unread c.args.limit file loop.invariant.front (g.R.DeviceIn.remaining c.get_some.new.input) (g.W.DeviceOut.contents c.args.out.now) loop.builder.state (g.W.DeviceOut.contents loop.out) loop.invariant.state loop.invariant.out
+    parts.0 (going_is loop.builder.state.told loop.builder.failed loop.invariant.going).1 parts.2 (c.in-Err.ensures.err ∙ parts.1))
 
 pub returns-in-Err-feed-clause-worked : goal.returns-in-Err-feed-clause-worked
 returns-in-Err-feed-clause-worked g c = λ file is.
@@ -38,9 +39,9 @@ returns-in-Err-feed-clause-worked g c = λ file is.
     let left = g.R.DeviceIn.remaining c.get_some.new.input in
     let given = read_twice _ _ _ loop.invariant.front piece loop.invariant.given (c.in-Ok.ensures.bytes ∙ ap (λ bytes. prepend_known bytes left) (sym c.split_at.ensures.front)) in
     let parts = splits (g.R.DeviceIn.remaining c.args.input.now) left (loop.invariant.front ++ piece) file is given in
-    subst (λ (ending : Ending). Worked (build_job c.args.limit) file (g.W.DeviceOut.contents c.args.out.now) (g.W.DeviceOut.contents c.feed.new.out) ending) (sym c.ending_of.ensures)
+    subst (λ (ending : Ending). Worked (build_job c.args.limit) file left (g.W.DeviceOut.contents c.args.out.now) (g.W.DeviceOut.contents c.feed.new.out) ending) (sym c.ending_of-in-Err-feed.ensures)
     (built_halted c.args.limit (g.W.DeviceOut.contents c.args.out.now) loop.builder.state (g.W.DeviceOut.contents loop.out) c.feed.new.self (g.W.DeviceOut.contents c.feed.new.out) loop.invariant.front piece
-    loop.invariant.state loop.invariant.out c.in-Err-feed.ensures.goes file parts.0 c.in-Err-feed.halt parts.2 c.in-Err-feed.ensures.answer)
+    loop.invariant.state loop.invariant.out c.in-Err-feed.ensures.goes file parts.0 left c.in-Err-feed.halt parts.2 c.in-Err-feed.ensures.answer)
 
 pub loop-builder-preserved : goal.loop-builder-preserved
 loop-builder-preserved g c =

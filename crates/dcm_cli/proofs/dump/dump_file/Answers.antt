@@ -10,16 +10,19 @@ use Rattle.dcm_head.specs.declared.meta_read.MetaEnd.TheVariants.{Ended}
 use Rattle.dcm_head.specs.MetaReading.{uid_of}
 use Rattle.dcm_stream.specs.Reading.{start_of}
 use Rattle.dcm_tools.specs.DumpSink.{DumpState, dump_start, dump_step, dump_writes, bars_nothing}
+use Rattle.dcm_cli.specs.declared.ending.Ending.{Ending}
+use Rattle.dcm_tools.specs.Lines.{state as lines_state}
 use Rattle.dcm_cli.specs.Pass as spec
 use Rattle.dcm_cli.specs.Run.{Worked}
 use Rattle.dcm_cli.proofs.Alone.{put_failed, put_whole}
-use Rattle.dcm_cli.proofs.Files.{file_unopened, file_unheaded, file_worked, file_opened, file_dumper}
+use Rattle.dcm_cli.proofs.Files.{file_unopened, file_unheaded, file_worked, concludes_same, file_opened, file_dumper}
 use Rattle.dcm_cli.proofs.dump.dump_file.Goals as goal
 
 pub returns-in-Err-clause-worked : goal.returns-in-Err-clause-worked
 returns-in-Err-clause-worked g c = λ file is.
     let head = c.in-Err.ensures.read in
-    file_unopened (dump c.args.mode None) refl file (g.W.DeviceOut.contents c.args.out.now) (g.R.DeviceIn.remaining c.args.input.now) (g.R.DeviceIn.remaining c.read_head_of.new.input) c.read_head_of.new.meta head.read c.in-Err.ending is head.given head.outcome
+    subst (λ (x : Ending). Worked (dump c.args.mode None) file (g.R.DeviceIn.remaining c.read_head_of.new.input) (g.W.DeviceOut.contents c.args.out.now) (g.W.DeviceOut.contents c.args.out.now) x) (sym c.ending_of_head.ensures)
+    (file_unopened (dump c.args.mode None) refl file (g.W.DeviceOut.contents c.args.out.now) (g.R.DeviceIn.remaining c.args.input.now) (g.R.DeviceIn.remaining c.read_head_of.new.input) c.read_head_of.new.meta head.read c.in-Err.ending is head.given head.outcome)
 
 pub returns-then-is_err-clause-worked : goal.returns-then-is_err-clause-worked
 returns-then-is_err-clause-worked g c = λ file is.
@@ -28,7 +31,7 @@ returns-then-is_err-clause-worked g c = λ file is.
     let o = file_opened r c.in-Ok.begun c.read_head_of.new.buffer (g.R.DeviceIn.remaining c.args.input.now) (g.R.DeviceIn.remaining c.read_head_of.new.input) head.read file is head.given head.outcome in
     let went = c.dump_header.ensures.bytes o.m.elements (subst (Spells Little o.m.elements) (sym o.group_is) o.spelled) o.meta in
     let header : List ℕ → List ℕ = λ uid. meta_header c.args.mode o.m.elements ++ set_header uid in
-    file_unheaded (dump c.args.mode None) refl file (g.W.DeviceOut.contents c.args.out.now) r o refl (file_dumper c.args.mode o.coding) (g.W.DeviceOut.contents c.dump_header.new.out)
+    file_unheaded (dump c.args.mode None) refl file (g.R.DeviceIn.remaining c.read_head_of.new.input) (g.W.DeviceOut.contents c.args.out.now) r o refl (file_dumper c.args.mode o.coding) (g.W.DeviceOut.contents c.dump_header.new.out)
     (subst (λ uid. AppendsFront (g.W.DeviceOut.contents c.args.out.now) (g.W.DeviceOut.contents c.dump_header.new.out) (header uid)) o.uid_is
     (put_failed _ _ (header (uid_of r)) c.dump_header.result (sym c.if-is_err.ensures.value) went))
 
@@ -47,17 +50,20 @@ returns-clause-worked g c = λ file is.
     let codings : Some (Ended c.coding.result) ≡ Some (Ended o.coding) = sym c.coding.ensures ∙ o.end_is in
     let coding : c.coding.result ≡ o.coding = cc in
     let start : c.set_start-start.result ≡ 132 + length o.group = c.set_start-start.ensures.place ∙ o.place_is in
+    let last : DumpState = lines_state c.read_set.new.sink.lines in
     let Passed : Coding → ℕ → DumpState → Type 0 = λ x n s. spec.BehindBegun bars_nothing dump_step dump_writes (g.R.DeviceIn.remaining c.read_head_of.new.input) (spec.set_bytes c.in-Ok.begun c.read_head_of.new.buffer)
-    (start_of x.syntax n) s (g.W.DeviceOut.contents c.new-sink.result.out.now) (g.R.DeviceIn.remaining c.read_set.new.input) (g.W.DeviceOut.contents c.read_set.new.sink.out.now) c.read_set.result
+    (start_of x.syntax n) s (g.W.DeviceOut.contents c.new-sink.result.out.now) (g.R.DeviceIn.remaining c.read_set.new.input) last (g.W.DeviceOut.contents c.read_set.new.sink.out.now) c.read_set.result
     in
     let passed = subst (λ x. Passed x (132 + length o.group) (dump_start c.args.mode)) coding
     (subst (λ n. Passed c.coding.result n (dump_start c.args.mode)) start
     (subst (λ s. Passed c.coding.result c.set_start-start.result s) c.new-sink.ensures.state c.read_set.ensures.ends))
     in
-    let f = file_worked (dump c.args.mode None) refl file (g.W.DeviceOut.contents c.args.out.now) r o refl (file_dumper c.args.mode o.coding)
-    (g.R.DeviceIn.remaining c.args.input.now) (g.R.DeviceIn.remaining c.read_head_of.new.input) (g.R.DeviceIn.remaining c.read_set.new.input)
-    (g.W.DeviceOut.contents c.new-sink.result.out.now) (g.W.DeviceOut.contents c.read_set.new.sink.out.now) c.in-Ok.begun c.read_head_of.new.buffer head.read c.read_set.result is head.given head.outcome mid c.read_set.ensures.over passed
+    let after = g.R.DeviceIn.remaining c.read_set.new.input in
+    let same = concludes_same (dump c.args.mode None) refl file after (g.W.DeviceOut.contents c.args.out.now) r o refl (file_dumper c.args.mode o.coding) refl last c.read_set.result in
+    let f = file_worked (dump c.args.mode None) refl file after (g.W.DeviceOut.contents c.args.out.now) r o refl (file_dumper c.args.mode o.coding)
+    (g.R.DeviceIn.remaining c.args.input.now) (g.R.DeviceIn.remaining c.read_head_of.new.input)
+    (g.W.DeviceOut.contents c.new-sink.result.out.now) last (g.W.DeviceOut.contents c.read_set.new.sink.out.now) c.in-Ok.begun c.read_head_of.new.buffer head.read c.read_set.result c.read_set.result same is head.given head.outcome mid c.read_set.ensures.over passed
     in
     let k = c.read_set.ensures.kept in
     let n = c.new-sink.ensures.same_reference in
-    subst (λ (holds : Option (List ℕ)). Worked (dump c.args.mode None) file (g.W.DeviceOut.contents c.args.out.now) holds c.read_set.result) (search (rules, k, n)) f
+    subst (λ (holds : Option (List ℕ)). Worked (dump c.args.mode None) file (g.R.DeviceIn.remaining c.read_set.new.input) (g.W.DeviceOut.contents c.args.out.now) holds c.read_set.result) (search (rules, k, n)) f

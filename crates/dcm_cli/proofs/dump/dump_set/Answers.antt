@@ -5,6 +5,7 @@ use Rattle.dcm_base.specs.Device.{AppendsFront}
 use Rattle.dcm_stream.specs.Machine.{Progress}
 use Rattle.dcm_stream.specs.Reading.{Reading}
 use Rattle.dcm_tools.specs.DumpSink.{DumpState, dump_start, dump_step, dump_writes, bars_nothing}
+use Rattle.dcm_tools.specs.Lines.{state as lines_state}
 use Rattle.dcm_cli.specs.Pass as spec
 use Rattle.dcm_words.specs.Words.{dump}
 use Rattle.dcm_cli.specs.Run.{Worked}
@@ -13,7 +14,7 @@ use Rattle.dcm_cli.proofs.dump.dump_set.Goals as goal
 
 pub returns-then-is_err-clause-worked : goal.returns-then-is_err-clause-worked
 returns-then-is_err-clause-worked g c = λ file is.
-    alone_unheaded c.args.mode c.args.syntax file (g.W.DeviceOut.contents c.args.out.now) (g.W.DeviceOut.contents c.set_header.new.out)
+    alone_unheaded c.args.mode c.args.syntax file (g.R.DeviceIn.remaining c.args.input.now) (g.W.DeviceOut.contents c.args.out.now) (g.W.DeviceOut.contents c.set_header.new.out)
     (subst (λ uid. AppendsFront (g.W.DeviceOut.contents c.args.out.now) (g.W.DeviceOut.contents c.set_header.new.out) (set_header uid)) c.uid_of_syntax.ensures.value
     (put_failed _ _ (set_header c.uid_of_syntax.result.now) c.set_header.result (sym c.if-is_err.ensures.value) c.set_header.ensures.bytes))
 
@@ -22,11 +23,12 @@ returns-clause-worked g c = λ file is.
     let went = put_whole _ _ (set_header c.uid_of_syntax.result.now) c.set_header.result (sym c.if-is_err.ensures.value) c.set_header.ensures.bytes ∙ ap (λ uid. append_known (g.W.DeviceOut.contents c.args.out.now) (set_header uid)) c.uid_of_syntax.ensures.value in
     let mid = ap (λ (x : g.row.W.Denot). g.W.DeviceOut.contents x) c.new-sink.ensures.out ∙ went in
     let first = ap (λ (p : Progress). p.reading) c.new-machine.ensures in
-    let pumps = subst (λ (r : Reading). spec.Pumps bars_nothing dump_step dump_writes (g.R.DeviceIn.remaining c.args.input.now) r (dump_start c.args.mode) (g.W.DeviceOut.contents c.new-sink.result.out.now) (g.R.DeviceIn.remaining c.read_rest.new.input) (g.W.DeviceOut.contents c.read_rest.new.sink.out.now) c.read_rest.result) first
-    (subst (λ (s : DumpState). spec.Pumps bars_nothing dump_step dump_writes (g.R.DeviceIn.remaining c.args.input.now) c.new-machine.result.reading s (g.W.DeviceOut.contents c.new-sink.result.out.now) (g.R.DeviceIn.remaining c.read_rest.new.input) (g.W.DeviceOut.contents c.read_rest.new.sink.out.now) c.read_rest.result) c.new-sink.ensures.state
+    let last : DumpState = lines_state c.read_rest.new.sink.lines in
+    let pumps = subst (λ (r : Reading). spec.Pumps bars_nothing dump_step dump_writes (g.R.DeviceIn.remaining c.args.input.now) r (dump_start c.args.mode) (g.W.DeviceOut.contents c.new-sink.result.out.now) (g.R.DeviceIn.remaining c.read_rest.new.input) last (g.W.DeviceOut.contents c.read_rest.new.sink.out.now) c.read_rest.result) first
+    (subst (λ (s : DumpState). spec.Pumps bars_nothing dump_step dump_writes (g.R.DeviceIn.remaining c.args.input.now) c.new-machine.result.reading s (g.W.DeviceOut.contents c.new-sink.result.out.now) (g.R.DeviceIn.remaining c.read_rest.new.input) last (g.W.DeviceOut.contents c.read_rest.new.sink.out.now) c.read_rest.result) c.new-sink.ensures.state
     c.read_rest.ensures.pumps)
     in
-    let f = alone_worked c.args.mode c.args.syntax file (g.W.DeviceOut.contents c.args.out.now) (g.R.DeviceIn.remaining c.args.input.now) (g.W.DeviceOut.contents c.new-sink.result.out.now) (g.R.DeviceIn.remaining c.read_rest.new.input) (g.W.DeviceOut.contents c.read_rest.new.sink.out.now) c.read_rest.result is mid pumps in
+    let f = alone_worked c.args.mode c.args.syntax file (g.R.DeviceIn.remaining c.read_rest.new.input) (g.W.DeviceOut.contents c.args.out.now) (g.R.DeviceIn.remaining c.args.input.now) (g.W.DeviceOut.contents c.new-sink.result.out.now) last (g.W.DeviceOut.contents c.read_rest.new.sink.out.now) c.read_rest.result is mid pumps in
     let k = c.read_rest.ensures.kept in
     let n = c.new-sink.ensures.same_reference in
-    subst (λ (holds : Option (List ℕ)). Worked (dump c.args.mode (Some c.args.syntax)) file (g.W.DeviceOut.contents c.args.out.now) holds c.read_rest.result) (search (rules, k, n)) f
+    subst (λ (holds : Option (List ℕ)). Worked (dump c.args.mode (Some c.args.syntax)) file (g.R.DeviceIn.remaining c.read_rest.new.input) (g.W.DeviceOut.contents c.args.out.now) holds c.read_rest.result) (search (rules, k, n)) f

@@ -14,9 +14,11 @@ returns-in-Ok-eq0-clause-pumps g c =
       given = read_twice _ _ _ loop.invariant.front (take c.in-Ok-eq0.field-0 c.get_some.new.buf) loop.invariant.given c.in-Ok-eq0.ensures.bytes
           ∙ ap (λ n. prepend_known (loop.invariant.front ++ take n c.get_some.new.buf) (g.R.DeviceIn.remaining c.get_some.new.input)) c.in-Ok-eq0.field-0-test
           ∙ ap (λ bytes. prepend_known bytes (g.R.DeviceIn.remaining c.get_some.new.input)) (append-nil loop.invariant.front);
-      ends = ends_at_end g.S.Sink.bar g.S.Sink.step g.S.Sink.writes c.args.machine.now (g.S.Sink.state c.args.sink.now) (g.S.Sink.contents c.args.sink.now) (g.S.Sink.has_failed c.args.sink.now)
+      ends = subst (λ ending. spec.Ends g.S.Sink.bar g.S.Sink.step g.S.Sink.writes c.args.machine.now.reading (g.S.Sink.state c.args.sink.now) (g.S.Sink.contents c.args.sink.now)
+          (g.R.DeviceIn.remaining c.get_some.new.input) (g.S.Sink.state c.end.new.sink) (g.S.Sink.contents c.end.new.sink) loop.invariant.front ending) (sym c.ending_of.ensures)
+          (ends_at_end g.S.Sink.bar g.S.Sink.step g.S.Sink.writes c.args.machine.now (g.S.Sink.state c.args.sink.now) (g.S.Sink.contents c.args.sink.now) (g.S.Sink.has_failed c.args.sink.now)
           loop.machine (g.S.Sink.state loop.sink) (g.S.Sink.contents loop.sink) (g.S.Sink.has_failed loop.sink) loop.invariant.front
-          (g.R.DeviceIn.remaining c.get_some.new.input) (g.S.Sink.contents c.end.new.sink) c.end.result (c.in-Ok-eq0.ensures.end c.in-Ok-eq0.field-0-test) loop.invariant.fed c.end.ensures.ends;
+          (g.R.DeviceIn.remaining c.get_some.new.input) (g.S.Sink.state c.end.new.sink) (g.S.Sink.contents c.end.new.sink) c.end.result (c.in-Ok-eq0.ensures.end c.in-Ok-eq0.field-0-test) loop.invariant.fed c.end.ensures.ends);
     }
 
 pub returns-in-Err-feed-clause-pumps : goal.returns-in-Err-feed-clause-pumps
@@ -27,7 +29,7 @@ returns-in-Err-feed-clause-pumps g c =
       read = loop.invariant.front ++ piece;
       given = read_twice _ _ _ loop.invariant.front piece loop.invariant.given (c.in-Ok.ensures.bytes ∙ ap (λ bytes. prepend_known bytes (g.R.DeviceIn.remaining c.get_some.new.input)) (sym c.split_at.ensures.front));
       ends = subst (λ ending. spec.Ends g.S.Sink.bar g.S.Sink.step g.S.Sink.writes c.args.machine.now.reading (g.S.Sink.state c.args.sink.now) (g.S.Sink.contents c.args.sink.now)
-          (g.R.DeviceIn.remaining c.get_some.new.input) (g.S.Sink.contents c.feed.new.sink) (loop.invariant.front ++ piece) ending) (sym c.ending_of.ensures)
+          (g.R.DeviceIn.remaining c.get_some.new.input) (g.S.Sink.state c.feed.new.sink) (g.S.Sink.contents c.feed.new.sink) (loop.invariant.front ++ piece) ending) (sym c.ending_of-in-Err-feed.ensures)
           (ends_halted g.S.Sink.bar g.S.Sink.step g.S.Sink.writes c.args.machine.now (g.S.Sink.state c.args.sink.now) (g.S.Sink.contents c.args.sink.now) (g.S.Sink.has_failed c.args.sink.now)
           c.feed.new.machine (g.S.Sink.state c.feed.new.sink) (g.S.Sink.contents c.feed.new.sink) (g.S.Sink.has_failed c.feed.new.sink) (loop.invariant.front ++ piece)
           (g.R.DeviceIn.remaining c.get_some.new.input) c.in-Err-feed.halt

@@ -1,4 +1,4 @@
-use Rattle.std.proofs.Common.{ℕ, List, [], ◌++◌, ap, sym, subst}
+use Rattle.std.proofs.Common.{ℕ, List, [], ◌++◌, ap, sym, subst, Err}
 use Rattle.std.proofs.lemmas.List.{append-nil}
 use Rattle.dcm_stream.specs.Reading.{Reading, start_of}
 use Rattle.dcm_stream.specs.Machine.{Progress}
@@ -18,11 +18,11 @@ returns-in-Err-clause-ends g c =
       more = [];
       given = read_nothing (g.R.DeviceIn.remaining c.args.input.now);
       ends = subst (λ ending. spec.Ends g.S.Sink.bar g.S.Sink.step g.S.Sink.writes (start_of c.args.coding.syntax c.args.start) (g.S.Sink.state c.args.sink.now) (g.S.Sink.contents c.args.sink.now)
-          (g.R.DeviceIn.remaining c.args.input.now) (g.S.Sink.contents c.feed_begun.new.sink) (bytes ++ []) ending) (sym c.ending_of.ensures)
+          (g.R.DeviceIn.remaining c.args.input.now) (g.S.Sink.state c.feed_begun.new.sink) (g.S.Sink.contents c.feed_begun.new.sink) (bytes ++ []) ending) (sym c.ending_of.ensures)
           (subst (λ xs. spec.Ends g.S.Sink.bar g.S.Sink.step g.S.Sink.writes (start_of c.args.coding.syntax c.args.start) (g.S.Sink.state c.args.sink.now) (g.S.Sink.contents c.args.sink.now)
-          (g.R.DeviceIn.remaining c.args.input.now) (g.S.Sink.contents c.feed_begun.new.sink) xs (spec.ending_of c.in-Err.halt)) (sym (append-nil bytes))
+          (g.R.DeviceIn.remaining c.args.input.now) (g.S.Sink.state c.feed_begun.new.sink) (g.S.Sink.contents c.feed_begun.new.sink) xs (spec.ending_of (Err c.in-Err.halt))) (sym (append-nil bytes))
           (subst (λ (r : Reading). spec.Ends g.S.Sink.bar g.S.Sink.step g.S.Sink.writes r (g.S.Sink.state c.args.sink.now) (g.S.Sink.contents c.args.sink.now)
-          (g.R.DeviceIn.remaining c.args.input.now) (g.S.Sink.contents c.feed_begun.new.sink) bytes (spec.ending_of c.in-Err.halt)) first ends));
+          (g.R.DeviceIn.remaining c.args.input.now) (g.S.Sink.state c.feed_begun.new.sink) (g.S.Sink.contents c.feed_begun.new.sink) bytes (spec.ending_of (Err c.in-Err.halt))) first ends));
     }
 
 pub returns-then-begun-clause-ends : goal.returns-then-begun-clause-ends
@@ -31,15 +31,17 @@ returns-then-begun-clause-ends g c =
     let first = ap (λ (p : Progress). p.reading) c.new-machine.ensures in
     let ends = ends_at_end g.S.Sink.bar g.S.Sink.step g.S.Sink.writes c.new-machine.result (g.S.Sink.state c.args.sink.now) (g.S.Sink.contents c.args.sink.now) (g.S.Sink.has_failed c.args.sink.now)
     c.feed_begun.new.machine (g.S.Sink.state c.feed_begun.new.sink) (g.S.Sink.contents c.feed_begun.new.sink) (g.S.Sink.has_failed c.feed_begun.new.sink) bytes
-    (g.R.DeviceIn.remaining c.args.input.now) (g.S.Sink.contents c.end.new.sink) c.end.result (c.requires.over c.if-begun.true) c.in_default.ensures.fed c.end.ensures.ends
+    (g.R.DeviceIn.remaining c.args.input.now) (g.S.Sink.state c.end.new.sink) (g.S.Sink.contents c.end.new.sink) c.end.result (c.requires.over c.if-begun.true) c.in_default.ensures.fed c.end.ensures.ends
     in
     record {
       more = [];
       given = read_nothing (g.R.DeviceIn.remaining c.args.input.now);
-      ends = subst (λ xs. spec.Ends g.S.Sink.bar g.S.Sink.step g.S.Sink.writes (start_of c.args.coding.syntax c.args.start) (g.S.Sink.state c.args.sink.now) (g.S.Sink.contents c.args.sink.now)
-          (g.R.DeviceIn.remaining c.args.input.now) (g.S.Sink.contents c.end.new.sink) xs c.end.result) (sym (append-nil bytes))
+      ends = subst (λ ending. spec.Ends g.S.Sink.bar g.S.Sink.step g.S.Sink.writes (start_of c.args.coding.syntax c.args.start) (g.S.Sink.state c.args.sink.now) (g.S.Sink.contents c.args.sink.now)
+          (g.R.DeviceIn.remaining c.args.input.now) (g.S.Sink.state c.end.new.sink) (g.S.Sink.contents c.end.new.sink) (bytes ++ []) ending) (sym c.ending_of-then-begun.ensures)
+          (subst (λ xs. spec.Ends g.S.Sink.bar g.S.Sink.step g.S.Sink.writes (start_of c.args.coding.syntax c.args.start) (g.S.Sink.state c.args.sink.now) (g.S.Sink.contents c.args.sink.now)
+          (g.R.DeviceIn.remaining c.args.input.now) (g.S.Sink.state c.end.new.sink) (g.S.Sink.contents c.end.new.sink) xs (spec.ending_of c.end.result)) (sym (append-nil bytes))
           (subst (λ (r : Reading). spec.Ends g.S.Sink.bar g.S.Sink.step g.S.Sink.writes r (g.S.Sink.state c.args.sink.now) (g.S.Sink.contents c.args.sink.now)
-          (g.R.DeviceIn.remaining c.args.input.now) (g.S.Sink.contents c.end.new.sink) bytes c.end.result) first ends);
+          (g.R.DeviceIn.remaining c.args.input.now) (g.S.Sink.state c.end.new.sink) (g.S.Sink.contents c.end.new.sink) bytes (spec.ending_of c.end.result)) first ends));
     }
 
 pub returns-clause-ends : goal.returns-clause-ends
@@ -49,11 +51,11 @@ returns-clause-ends g c =
     let pumps = c.read_rest.ensures.pumps in
     let ends = ends_behind g.S.Sink.bar g.S.Sink.step g.S.Sink.writes c.new-machine.result (g.S.Sink.state c.args.sink.now) (g.S.Sink.contents c.args.sink.now) (g.S.Sink.has_failed c.args.sink.now)
     c.feed_begun.new.machine (g.S.Sink.state c.feed_begun.new.sink) (g.S.Sink.contents c.feed_begun.new.sink) (g.S.Sink.has_failed c.feed_begun.new.sink) bytes pumps.read c.in_default.ensures.fed
-    (g.R.DeviceIn.remaining c.read_rest.new.input) (g.S.Sink.contents c.read_rest.new.sink) c.read_rest.result pumps.ends
+    (g.R.DeviceIn.remaining c.read_rest.new.input) (g.S.Sink.state c.read_rest.new.sink) (g.S.Sink.contents c.read_rest.new.sink) c.read_rest.result pumps.ends
     in
     record {
       more = pumps.read;
       given = pumps.given;
       ends = subst (λ (r : Reading). spec.Ends g.S.Sink.bar g.S.Sink.step g.S.Sink.writes r (g.S.Sink.state c.args.sink.now) (g.S.Sink.contents c.args.sink.now)
-          (g.R.DeviceIn.remaining c.read_rest.new.input) (g.S.Sink.contents c.read_rest.new.sink) (bytes ++ pumps.read) c.read_rest.result) first ends;
+          (g.R.DeviceIn.remaining c.read_rest.new.input) (g.S.Sink.state c.read_rest.new.sink) (g.S.Sink.contents c.read_rest.new.sink) (bytes ++ pumps.read) c.read_rest.result) first ends;
     }

@@ -6,12 +6,12 @@ use Rattle.dcm_cli.proofs.run.work.Goals as goal
 
 pub returns-in-Dump-clause-worked : goal.returns-in-Dump-clause-worked
 returns-in-Dump-clause-worked g c = λ file is.
-    subst (λ (job : Job). Worked (job_of job) file (g.W.DeviceOut.contents c.args.out.now) (g.W.DeviceOut.contents c.dump.new.out) c.dump.result) (sym c.in-Dump.is) (c.dump.ensures.worked file is)
+    subst (λ (job : Job). Worked (job_of job) file (g.R.DeviceIn.remaining c.dump.new.input) (g.W.DeviceOut.contents c.args.out.now) (g.W.DeviceOut.contents c.dump.new.out) c.dump.result) (sym c.in-Dump.is) (c.dump.ensures.worked file is)
 
 pub returns-in-Convert-clause-worked : goal.returns-in-Convert-clause-worked
 returns-in-Convert-clause-worked g c = λ file is.
-    subst (λ (job : Job). Worked (job_of job) file (g.W.DeviceOut.contents c.args.out.now) (g.W.DeviceOut.contents c.convert.new.out) c.convert.result) (sym c.in-Convert.is) (c.convert.ensures.worked file is)
+    subst (λ (job : Job). Worked (job_of job) file (g.R.DeviceIn.remaining c.convert.new.input) (g.W.DeviceOut.contents c.args.out.now) (g.W.DeviceOut.contents c.convert.new.out) c.convert.result) (sym c.in-Convert.is) (c.convert.ensures.worked file is)
 
 pub returns-in-Build-clause-worked : goal.returns-in-Build-clause-worked
 returns-in-Build-clause-worked g c = λ file is.
-    subst (λ (job : Job). Worked (job_of job) file (g.W.DeviceOut.contents c.args.out.now) (g.W.DeviceOut.contents c.build.new.out) c.build.result) (sym c.in-Build.is) (c.build.ensures.worked file is)
+    subst (λ (job : Job). Worked (job_of job) file (g.R.DeviceIn.remaining c.build.new.input) (g.W.DeviceOut.contents c.args.out.now) (g.W.DeviceOut.contents c.build.new.out) c.build.result) (sym c.in-Build.is) (c.build.ensures.worked file is)

@@ -1,0 +1,29 @@
+-- What the pass over a data set leaves of a sink, by the sink's members.
+use Rattle.std.specs.Prelude.{ℕ, List, Option, Result}
+use Rattle.dcm_stream.specs.declared.machine.Halt.{Halt}
+use Rattle.dcm_stream.specs.declared.sink.Sink.{Ghosts}
+use Rattle.dcm_stream.specs.Machine.{Progress}
+use Rattle.dcm_stream.specs.Reading.{Reading}
+use Rattle.dcm_cli.specs.declared.ending.Ending.{Ending}
+use Rattle.dcm_cli.specs.Pass as pass
+
+-- a machine and the sink were fed these bytes
+abbrev pub Fed : {S : Type 0} → Ghosts S → (old new : S) → (before after : Progress) → List ℕ → Result (Unit {0}) Halt → Type 0
+Fed sink old new before after bytes r =
+    pass.Fed sink.bar sink.step sink.writes before (sink.state old) (sink.contents old) (sink.has_failed old) after (sink.state new) (sink.contents new) (sink.has_failed new) bytes r
+
+-- the input has ended where a data set was read up to here
+abbrev pub EndsSet : {S : Type 0} → Ghosts S → (old new : S) → Reading → Result (Unit {0}) Halt → Type 0
+EndsSet sink old new before r = pass.EndsSet sink.step sink.writes before (sink.state old) (sink.contents old) (sink.state new) (sink.contents new) r
+
+-- the rest of an input was read as a data set that was read up to here
+abbrev pub Pumps : {S : Type 0} → Ghosts S → (old new : S) → (had left : Option (List ℕ)) → Reading → Ending → Type 0
+Pumps sink old new had left before ending = pass.Pumps sink.bar sink.step sink.writes had before (sink.state old) (sink.contents old) left (sink.state new) (sink.contents new) ending
+
+-- and a data set whose first bytes were read with the head of its file
+abbrev pub BehindBegun : {S : Type 0} → Ghosts S → (old new : S) → (had left : Option (List ℕ)) → (begun : List ℕ) → Reading → Ending → Type 0
+BehindBegun sink old new had left begun first ending = pass.BehindBegun sink.bar sink.step sink.writes had begun first (sink.state old) (sink.contents old) left (sink.state new) (sink.contents new) ending
+
+-- its writer failed in the call exactly where that is the ending
+abbrev pub TellsOutput : {S : Type 0} → Ghosts S → (old new : S) → Ending → Type 0
+TellsOutput sink old new ending = pass.TellsOutput (sink.has_failed old) (sink.has_failed new) ending
