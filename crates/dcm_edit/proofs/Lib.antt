@@ -26,3 +26,4 @@ pub mod Bars
 pub mod RecodeAnew
 pub mod Selection
 pub mod MadeSequences
+pub mod Masks
