@@ -6,7 +6,8 @@ use Rattle.std.proofs.Math.Pow.{pow-lt}
 use Rattle.std.proofs.Math.Nat.{mod-eq_of_lt}
 use Rattle.std.proofs.lemmas.Nat.Bits.{bit_at_set_same, bit_at_set_other, bit_at_ones}
 use Rattle.dcm_edit.specs.Edit.{Edit}
-use Rattle.dcm_edit.specs.Masks.{is_set, bits, asked, asked_one}
+use Rattle.dcm_edit.specs.Masks.{is_set, bits, asked}
+use Rattle.dcm_edit.specs.Asking.{asked_one}
 
 pub set_same : (n k : ℕ) → k < 64 → is_set (bit_or n (1 * 2 ^ k % 18446744073709551616)) k ≡ true
 set_same n k l = ap (λ (b : ℕ). b == 1) (bit_at_set_same w64 n k l)

@@ -28,3 +28,4 @@ pub mod Bits
 pub mod RecodeAnew
 pub mod Selection
 pub mod MadeSequences
+pub mod Masks

@@ -13,7 +13,8 @@ use Rattle.dcm_base.specs.declared.vr.Vr.{Vr}
 use Rattle.dcm_base.specs.Tag.{same_tag}
 use Rattle.dcm_edit.specs.Edit.{Index, selects, PathEdit, step, insert, modify, erase, erase_item, Edit, on_path, modify_all, erase_all, erase_private, elsewhere, within, stays, path_fate, erases, NewElement, no_element, new_leaf, new_sequence, new_element, around}
 use Rattle.dcm_edit.specs.Meaning.{index_of, action_of, along}
-use Rattle.dcm_edit.specs.Masks.{rest_of_path, at_depth, goes_along, is_first, sequence_on, Seen, nothing_new, a_value, a_sequence, seen}
+use Rattle.dcm_edit.specs.Masks.{rest_of_path, at_depth, goes_along}
+use Rattle.dcm_edit.specs.Asking.{is_first, sequence_on, Seen, nothing_new, a_value, a_sequence, seen}
 
 rest_of_action : (d : ℕ) (a : Action) → rest_of_path d (action_of a) ≡ action_of a
 rest_of_action zero a = refl

@@ -1,9 +1,10 @@
 pub mod Edit
+pub mod EditSink
+pub mod EditWords
+pub mod Masks
+pub mod NewOnes
 pub mod Overlap
 pub mod Together
-pub mod EditWords
+pub mod Asking
 pub mod EditCode
 pub mod Meaning
-pub mod NewOnes
-pub mod EditSink
-pub mod Masks

@@ -1,27 +1,15 @@
--- What the edits of a command line ask of an open data set: a mask with one bit an edit, and the number of items around it.
-use Rattle.std.specs.Prelude.{ℕ, zero, suc, List, [], ◌∷◌, Option, Some, None, Bool, true, false, ◌&&◌, ◌||◌, ◌==◌, if◌then◌else◌}
+-- The edits that ask something of an open data set, as a mask of the edits of the command line.
+use Rattle.std.specs.Prelude.{◌≡◌, ℕ, zero, suc, min, List, [], ◌∷◌, length, Option, Some, None, Bool, true, false, ◌&&◌, ◌==◌, if◌then◌else◌}
 use Rattle.std.specs.Int.{bit_at}
-use Rattle.std.specs.List.{list_all}
-use Rattle.std.specs.Borrow.{Bor}
 use Rattle.dcm_base.specs.declared.tag.Tag.{Tag}
-use Rattle.dcm_base.specs.declared.vr.Vr.{Vr}
-use Rattle.dcm_base.specs.Tag.{same_tag, below}
-use Rattle.dcm_edit.specs.Edit.{Index, number, every, selects, PathEdit, step, insert, modify, erase, erase_item, Edit, on_path, modify_all, erase_all, erase_private, elsewhere, within, fate, acts, erases, NewElement, no_element, new_leaf, new_sequence, element_of}
-use Rattle.dcm_edit.specs.Edit as spec
-use Rattle.dcm_edit.specs.NewOnes.{above_last, is_between}
-use Rattle.dcm_edit.specs.EditSink.{has_place, makes}
-use Rattle.dcm_edit.specs.Meaning.{index_of}
-use Rattle.dcm_edit.specs.declared.edit.NewElement.{NewElement as Element}
-use Rattle.dcm_edit.specs.declared.edit.Step.{Step}
-use Rattle.dcm_edit.specs.declared.asked.Fate.{Fate}
-use Rattle.dcm_edit.specs.declared.asked.Fate.TheVariants as fates
-use Rattle.dcm_edit.specs.declared.asked.Gap.{Gap}
-use Rattle.dcm_edit.specs.declared.asked.New.{New}
-use Rattle.dcm_edit.specs.declared.asked.New.TheVariants as news
-use Rattle.dcm_edit.specs.declared.asked.Question.{Question}
-use Rattle.dcm_edit.specs.declared.asked.Question.TheVariants as questions
+use Rattle.dcm_base.specs.Tag.{same_tag}
+use Rattle.dcm_edit.specs.Edit.{number, every, selects, PathEdit, step, insert, modify, erase, erase_item, Edit, on_path, modify_all, erase_all, erase_private, elsewhere, acts}
+use Rattle.dcm_edit.specs.Together.{first_fate, any_erases}
+use Rattle.dcm_edit.specs.EditSink.{Level, State, MOST_COUNTED, dropped_after_head, dropped_after_end}
 
--- ---- one edit
+-- bit k of a mask stands for the edit with k others before it
+abbrev pub is_set : ℕ → ℕ → Bool
+is_set mask k = bit_at mask k == 1
 
 -- what is left of a path after its first steps
 abbrev pub rest_of_path : ℕ → PathEdit → PathEdit
@@ -32,7 +20,7 @@ rest_of_path (suc n) (modify tag vr value) = modify tag vr value
 rest_of_path (suc n) (erase tag) = erase tag
 rest_of_path (suc n) (erase_item tag index) = erase_item tag index
 
--- what an edit that selects each item on the way asks of a data set within so many items
+-- what an edit that has gone along into each item on the way asks of a data set within so many items
 abbrev pub at_depth : ℕ → Edit → Edit
 at_depth depth (on_path edit) = on_path (rest_of_path depth edit)
 at_depth depth (modify_all tag vr value) = modify_all tag vr value
@@ -40,114 +28,136 @@ at_depth depth (erase_all tag) = erase_all tag
 at_depth depth erase_private = erase_private
 at_depth depth elsewhere = elsewhere
 
--- whether an edit asks something of the data set in item n of the sequence with this tag
+-- what a mask means at a depth, for the edits from number k on
+abbrev pub asked : ℕ → ℕ → ℕ → List Edit → List Edit
+asked depth mask k [] = []
+asked depth mask k (e ∷ es) = (if is_set mask k then at_depth depth e else elsewhere) ∷ asked depth mask (suc k) es
+
+-- whether an edit goes along into item n of the sequence with this tag
 abbrev pub goes_along : Edit → Tag → ℕ → Bool
 goes_along (on_path (step tag index edit)) t n = same_tag tag t && selects index n
-goes_along (on_path (insert tag vr value)) t n = false
-goes_along (on_path (modify tag vr value)) t n = false
-goes_along (on_path (erase tag)) t n = false
-goes_along (on_path (erase_item tag index)) t n = false
+goes_along (on_path _) t n = false
 goes_along (modify_all tag vr value) t n = true
 goes_along (erase_all tag) t n = true
 goes_along erase_private t n = true
 goes_along elsewhere t n = false
 
-abbrev pub is_first : Index → Bool
-is_first (number n) = n == 0
-is_first every = false
-
--- what becomes of an element, as the program says it
-abbrev pub fate_of : Fate → spec.Fate
-fate_of fates.Stays = spec.stays
-fate_of (fates.Becomes e) = spec.becomes e.now.vr e.now.value.items
-fate_of fates.Goes = spec.goes
-
--- what is seen of a new element from outside: a value, or the tag of a sequence on the way to one
-pub data Seen : Type 0 where
-  nothing_new : Seen
-  a_value : (tag : Tag) (vr : Vr) (value : List ℕ) → Seen
-  a_sequence : (tag : Tag) → Seen
-
-abbrev pub seen : NewElement → Seen
-seen no_element = nothing_new
-seen (new_leaf tag vr value) = a_value tag vr value
-seen (new_sequence tag held) = a_sequence tag
-
-abbrev pub seen_of : Option New → Seen
-seen_of None = nothing_new
-seen_of (Some (news.Leaf e)) = a_value e.now.tag e.now.vr e.now.value.items
-seen_of (Some (news.Sequence tag)) = a_sequence tag
-
-abbrev pub seen_value : Option (Bor Element) → Seen
-seen_value None = nothing_new
-seen_value (Some e) = a_value e.now.tag e.now.vr e.now.value.items
-
--- the tag of the first step, where each leads into the first item
-abbrev pub sequence_on : List Step → Option Tag
-sequence_on [] = None
-sequence_on (s ∷ steps) = if list_all (λ x. is_first (index_of x.index)) (s ∷ steps) then Some s.tag else None
-
-abbrev pub new_tag : New → Tag
-new_tag (news.Leaf e) = e.now.tag
-new_tag (news.Sequence tag) = tag
-
-abbrev pub lies_in : Option Tag → Option Tag → Tag → Bool
-lies_in last None tag = above_last last tag
-lies_in last (Some next) tag = is_between last next tag
-
-abbrev pub in_gap : Gap → Tag → Bool
-in_gap gap tag = lies_in gap.last gap.next tag
-
--- the answers of an edit to the questions about a place of the input
-abbrev pub answer_of : Question → Edit → Bool
-answer_of (questions.AtHead tag last) e = acts (fate e tag) || makes (is_between last tag) (element_of e)
-answer_of (questions.AtItem tag n) e = erases e tag n || has_place (element_of (within e tag n))
-answer_of questions.AtTop e = has_place (element_of e)
-answer_of (questions.AtEnd last) e = makes (above_last last) (element_of e)
-answer_of (questions.GoesAlong tag n) e = goes_along e tag n
-answer_of (questions.Erases tag n) e = erases e tag n
-
--- ---- the edits of a command line
-
-abbrev pub is_set : ℕ → ℕ → Bool
-is_set mask k = bit_at mask k == 1
-
--- what a mask means within so many items, for edit k and for the edits from number k on
-abbrev pub asked_one : ℕ → ℕ → ℕ → Edit → Edit
-asked_one depth mask k e = if is_set mask k then at_depth depth e else elsewhere
-
-abbrev pub asked : ℕ → ℕ → ℕ → List Edit → List Edit
-asked depth mask k [] = []
-asked depth mask k (e ∷ es) = asked_one depth mask k e ∷ asked depth mask (suc k) es
+-- the mask of an item has the edits of the mask around it that go along
+abbrev pub GoAlong : ℕ → ℕ → ℕ → Tag → ℕ → ℕ → List Edit → Type 0
+GoAlong depth mask inner tag n k [] = Unit {0}
+GoAlong depth mask inner tag n k (e ∷ es) =
+    (is_set inner k ≡ (is_set mask k && goes_along (at_depth depth e) tag n)) × GoAlong depth mask inner tag n (suc k) es
 
 -- the bits of the edits from number k on
 abbrev pub bits : ℕ → ℕ → List Edit → List Bool
 bits mask k [] = []
 bits mask k (e ∷ es) = is_set mask k ∷ bits mask (suc k) es
 
--- whether one of them answers yes
-abbrev pub any_answer : Question → List Edit → Bool
-any_answer q [] = false
-any_answer q (e ∷ es) = answer_of q e || any_answer q es
+abbrev pub AllSet : ℕ → ℕ → List Edit → Type 0
+AllSet mask k [] = Unit {0}
+AllSet mask k (e ∷ es) = (is_set mask k ≡ true) × AllSet mask (suc k) es
 
--- ---- the new element with the least tag
+-- ---- new elements of paths
 
-abbrev pub seen_in : Gap → Seen → Seen
-seen_in gap nothing_new = nothing_new
-seen_in gap (a_value tag vr value) = if in_gap gap tag then a_value tag vr value else nothing_new
-seen_in gap (a_sequence tag) = if in_gap gap tag then a_sequence tag else nothing_new
+-- the first tag of a path
+abbrev pub first_tag : PathEdit → Tag
+first_tag (step tag index edit) = tag
+first_tag (insert tag vr value) = tag
+first_tag (modify tag vr value) = tag
+first_tag (erase tag) = tag
+first_tag (erase_item tag index) = tag
 
-abbrev pub is_above_seen : Seen → Tag → Bool
-is_above_seen nothing_new t = true
-is_above_seen (a_value tag vr value) t = below t tag
-is_above_seen (a_sequence tag) t = below t tag
+abbrev pub is_insert : PathEdit → Bool
+is_insert (insert tag vr value) = true
+is_insert (step tag index edit) = false
+is_insert (modify tag vr value) = false
+is_insert (erase tag) = false
+is_insert (erase_item tag index) = false
 
--- of two with one tag the first
-abbrev pub lesser : Seen → Seen → Seen
-lesser first nothing_new = first
-lesser first (a_value tag vr value) = if is_above_seen first tag then a_value tag vr value else first
-lesser first (a_sequence tag) = if is_above_seen first tag then a_sequence tag else first
+-- an insertion after steps into first items: the only path that makes an element where its first tag is missing
+abbrev pub makes_element : PathEdit → Bool
+makes_element (step tag (number zero) edit) = makes_element edit
+makes_element (step tag (number (suc n)) edit) = false
+makes_element (step tag every edit) = false
+makes_element (insert tag vr value) = true
+makes_element (modify tag vr value) = false
+makes_element (erase tag) = false
+makes_element (erase_item tag index) = false
 
-abbrev pub least_new : Gap → Seen → List Edit → Seen
-least_new gap least [] = least
-least_new gap least (e ∷ es) = least_new gap (lesser least (seen_in gap (seen (element_of e)))) es
+-- whether a path makes a sequence whose tag passes
+abbrev pub makes_sequence : (Tag → Bool) → PathEdit → Bool
+makes_sequence p (step tag index edit) = makes_element (step tag index edit) && p tag
+makes_sequence p (insert tag vr value) = false
+makes_sequence p (modify tag vr value) = false
+makes_sequence p (erase tag) = false
+makes_sequence p (erase_item tag index) = false
+
+-- ---- the state
+
+-- an open data set, with the mask of what the edits ask of it
+pub record MaskLevel : Type 0 where
+  pub mask : ℕ
+  pub last : Option Tag
+  pub count : ℕ
+
+pub record MaskState : Type 0 where
+  pub level : MaskLevel
+  pub outer : List MaskLevel
+  pub dropped : ℕ
+  pub found : ℕ
+
+abbrev pub level_meant : List Edit → ℕ → MaskLevel → Level
+level_meant edits depth level = record { edits = asked depth level.mask 0 edits; last = level.last; count = level.count }
+
+-- a data set is within as many items as there are data sets around it
+abbrev pub outer_meant : List Edit → List MaskLevel → List Level
+outer_meant edits [] = []
+outer_meant edits (level ∷ outer) = level_meant edits (length outer) level ∷ outer_meant edits outer
+
+abbrev pub meant : List Edit → MaskState → State
+meant edits s = record {
+  level = level_meant edits (length s.outer) s.level;
+  outer = outer_meant edits s.outer;
+  dropped = s.dropped;
+  found = bits s.found 0 edits;
+}
+
+-- what the edits ask of the innermost open data set
+abbrev pub asked_here : List Edit → MaskState → List Edit
+asked_here edits s = asked (length s.outer) s.level.mask 0 edits
+
+-- before the first atom, with the masks of all edits and of those that have found their place
+abbrev pub masks_begun : ℕ → ℕ → MaskState
+masks_begun all found = record { level = record { mask = all; last = None; count = 0 }; outer = []; dropped = 0; found = found }
+
+-- after the head of an element, with the mask of what is found
+abbrev pub masks_after_head : List Edit → MaskState → Tag → ℕ → MaskState
+masks_after_head edits s tag found = record {
+  level = record { mask = s.level.mask; last = Some tag; count = 0 };
+  outer = s.outer;
+  dropped = dropped_after_head s.dropped (acts (first_fate (asked_here edits s) tag));
+  found = found;
+}
+
+-- after the head of an item, with its mask
+abbrev pub masks_in_item : List Edit → MaskState → Tag → ℕ → ℕ → MaskState
+masks_in_item edits s tag inner found = record {
+  level = record { mask = inner; last = None; count = 0 };
+  outer = record { mask = s.level.mask; last = s.level.last; count = min MOST_COUNTED (suc s.level.count) } ∷ s.outer;
+  dropped = dropped_after_head s.dropped (any_erases (asked_here edits s) tag s.level.count);
+  found = found;
+}
+
+abbrev pub masks_after_item : MaskState → MaskLevel → List MaskLevel → ℕ → MaskState
+masks_after_item s level outer found = record { level = level; outer = outer; dropped = dropped_after_end s.dropped; found = found }
+
+-- after the end of a value, a sequence or a fragment list
+abbrev pub masks_after_end : MaskState → MaskState
+masks_after_end s = record { level = s.level; outer = s.outer; dropped = dropped_after_end s.dropped; found = s.found }
+
+abbrev pub masks_in_fragment : MaskState → MaskState
+masks_in_fragment s = record { level = s.level; outer = s.outer; dropped = dropped_after_head s.dropped false; found = s.found }
+
+-- at the end of the data set
+abbrev pub masks_at_end : MaskState → ℕ → MaskState
+masks_at_end s found = record { level = s.level; outer = s.outer; dropped = s.dropped; found = found }

@@ -4,6 +4,7 @@ ghost use Rattle.std.specs.List.{list_all};
 ghost use Rattle.dcm_base.specs.Tag.{same_tag, below, is_private as is_private_tag};
 ghost use Rattle.dcm_edit.specs.Edit as spec;
 ghost use Rattle.dcm_edit.specs.EditSink.{has_place as has_place_spec, makes as makes_spec};
+ghost use Rattle.dcm_edit.specs.Asking as asking;
 ghost use Rattle.dcm_edit.specs.Masks as masks;
 ghost use Rattle.dcm_edit.specs.Meaning.{index_of, action_of, along, path_edit_of, edit_of};
 
@@ -81,7 +82,7 @@ fn selects(index: Index, item: u32) -> bool
 impl Gap {
     /// Whether a tag lies in it.
     pub fn holds(self, tag: Tag) -> bool
-        ensures { result ≡ masks.in_gap self tag }
+        ensures { result ≡ asking.in_gap self tag }
     {
         let is_above = match self.last {
             None => true,
@@ -97,7 +98,7 @@ impl Gap {
 
 impl New<'_> {
     pub fn tag(&self) -> Tag
-        ensures { result ≡ masks.new_tag self.now }
+        ensures { result ≡ asking.new_tag self.now }
     {
         match self {
             New::Leaf(element) => element.tag,
@@ -107,7 +108,7 @@ impl New<'_> {
 }
 
 fn becomes_if(element: &NewElement, tag: Tag) -> Fate<'_>
-    ensures { masks.fate_of result ≡ (if same_tag element.now.tag tag then spec.becomes element.now.vr element.now.value.items else spec.stays) }
+    ensures { asking.fate_of result ≡ (if same_tag element.now.tag tag then spec.becomes element.now.vr element.now.value.items else spec.stays) }
 {
     if is_same(element.tag, tag) {
         Fate::Becomes(element)
@@ -117,13 +118,13 @@ fn becomes_if(element: &NewElement, tag: Tag) -> Fate<'_>
 }
 
 fn goes_if(goes: bool) -> Fate<'static>
-    ensures { masks.fate_of result ≡ (if goes then spec.goes else spec.stays) }
+    ensures { asking.fate_of result ≡ (if goes then spec.goes else spec.stays) }
 {
     if goes { Fate::Goes } else { Fate::Stays }
 }
 
 fn action_fate(action: &Action, tag: Tag) -> Fate<'_>
-    ensures { masks.fate_of result ≡ spec.path_fate (action_of action.now) tag }
+    ensures { asking.fate_of result ≡ spec.path_fate (action_of action.now) tag }
 {
     match action {
         Action::Insert(element) => becomes_if(element, tag),
@@ -146,7 +147,7 @@ fn steps_left(path: &PathEdit, depth: usize) -> &[Step]
 }
 
 fn path_fate(path: &PathEdit, depth: usize, tag: Tag) -> Fate<'_>
-    ensures { masks.fate_of result ≡ spec.path_fate (masks.rest_of_path depth (path_edit_of path.now)) tag }
+    ensures { asking.fate_of result ≡ spec.path_fate (masks.rest_of_path depth (path_edit_of path.now)) tag }
 {
     match steps_left(path, depth) {
         [] => action_fate(&path.action, tag),
@@ -156,7 +157,7 @@ fn path_fate(path: &PathEdit, depth: usize, tag: Tag) -> Fate<'_>
 
 /// What becomes of an element with this tag.
 pub fn fate_by(edit: &Edit, depth: usize, tag: Tag) -> Fate<'_>
-    ensures { masks.fate_of result ≡ spec.fate (masks.at_depth depth (edit_of edit.now)) tag }
+    ensures { asking.fate_of result ≡ spec.fate (masks.at_depth depth (edit_of edit.now)) tag }
 {
     match edit {
         Edit::OnPath(path) => path_fate(path, depth, tag),
@@ -213,7 +214,7 @@ fn goes_along(edit: &Edit, depth: usize, tag: Tag, item: u32) -> bool
 }
 
 fn is_first(index: Index) -> bool
-    ensures { result ≡ masks.is_first (index_of index) }
+    ensures { result ≡ asking.is_first (index_of index) }
 {
     match index {
         Index::Number(number) => number == 0,
@@ -223,14 +224,14 @@ fn is_first(index: Index) -> bool
 
 /// Whether each step leads into the first item.
 fn lead_to_first_items(steps: &[Step]) -> bool
-    ensures { result ≡ list_all (λ s. masks.is_first (index_of s.index)) steps.now }
+    ensures { result ≡ list_all (λ s. asking.is_first (index_of s.index)) steps.now }
 {
     steps.iter().all(|step| is_first(step.index))
 }
 
 /// The element that is put where it is missing, if the action puts one.
 fn inserted(action: &Action) -> Option<&NewElement>
-    ensures { masks.seen_value result ≡ masks.seen (spec.new_element (action_of action.now)) }
+    ensures { asking.seen_value result ≡ asking.seen (spec.new_element (action_of action.now)) }
 {
     match action {
         Action::Insert(element) => Some(element),
@@ -240,7 +241,7 @@ fn inserted(action: &Action) -> Option<&NewElement>
 
 /// The sequence on the way to an element that is put where it is missing: each step on that way leads into the first item.
 fn sequence_on(steps: &[Step]) -> Option<Tag>
-    ensures { result ≡ masks.sequence_on (steps.now) }
+    ensures { result ≡ asking.sequence_on (steps.now) }
 {
     match steps {
         [step, ..] if lead_to_first_items(steps) => Some(step.tag),
@@ -249,7 +250,7 @@ fn sequence_on(steps: &[Step]) -> Option<Tag>
 }
 
 fn path_new(path: &PathEdit, depth: usize) -> Option<New<'_>>
-    ensures { masks.seen_of result ≡ masks.seen (spec.new_element (masks.rest_of_path depth (path_edit_of path.now))) }
+    ensures { asking.seen_of result ≡ asking.seen (spec.new_element (masks.rest_of_path depth (path_edit_of path.now))) }
 {
     let left = steps_left(path, depth);
     let element = inserted(&path.action)?;
@@ -264,7 +265,7 @@ fn path_new(path: &PathEdit, depth: usize) -> Option<New<'_>>
 
 /// What an edit puts where the data set lacks it.
 pub fn new_element(edit: &Edit, depth: usize) -> Option<New<'_>>
-    ensures { masks.seen_of result ≡ masks.seen (spec.element_of (masks.at_depth depth (edit_of edit.now))) }
+    ensures { asking.seen_of result ≡ asking.seen (spec.element_of (masks.at_depth depth (edit_of edit.now))) }
 {
     match edit {
         Edit::OnPath(path) => path_new(path, depth),
@@ -289,7 +290,7 @@ fn has_place_in(edit: &Edit, depth: usize, tag: Tag, item: u32) -> bool
 
 /// A sequence on the way has its place where it is put.
 fn makes(edit: &Edit, depth: usize, gap: Gap) -> bool
-    ensures { result ≡ makes_spec (masks.in_gap gap) (spec.element_of (masks.at_depth depth (edit_of edit.now))) }
+    ensures { result ≡ makes_spec (asking.in_gap gap) (spec.element_of (masks.at_depth depth (edit_of edit.now))) }
 {
     match new_element(edit, depth) {
         Some(New::Sequence(tag)) => gap.holds(tag),
@@ -307,7 +308,7 @@ fn acts(edit: &Edit, depth: usize, tag: Tag) -> bool
 /// The answer of an edit that asks something of a data set within so many items.
 pub fn answers(edit: &Edit, depth: usize, question: Question) -> bool
     requires { depth < 2 ^ 32 }
-    ensures { result ≡ masks.answer_of question (masks.at_depth depth (edit_of edit.now)) }
+    ensures { result ≡ asking.answer_of question (masks.at_depth depth (edit_of edit.now)) }
 {
     match question {
         Question::AtHead(tag, last) => {

@@ -1,6 +1,7 @@
 // Which edits of a command line ask something of an open data set, as a mask: bit k for edit k, counted from 0.
 ghost use Rattle.std.specs.Prelude.{◌≡◌, ◌≢◌, ◌<◌, ◌≤◌, ◌^◌, ℕ, length, map, true, false, Some};
 ghost use Rattle.dcm_edit.specs.Edit as spec;
+ghost use Rattle.dcm_edit.specs.Asking as asking;
 ghost use Rattle.dcm_edit.specs.Masks as masks;
 ghost use Rattle.dcm_edit.specs.Meaning.{edit_of};
 ghost use Rattle.dcm_edit.specs.Together as together;
@@ -51,7 +52,7 @@ fn with_answer(
     requires place { place < 64 }
     requires depth { depth < 2 ^ 32 }
     requires unset { masks.is_set yes place ≡ false }
-    ensures here { masks.is_set result place ≡ masks.answer_of question (masks.asked_one depth mask place (edit_of edit.now)) }
+    ensures here { masks.is_set result place ≡ asking.answer_of question (asking.asked_one depth mask place (edit_of edit.now)) }
     ensures others { (k : ℕ) → k ≢ place → masks.is_set result k ≡ masks.is_set yes k }
 {
     if is_set(mask, place) && answers(edit, depth, question) {
@@ -64,7 +65,7 @@ fn with_answer(
 pub fn answering(edits: &[Edit], depth: usize, mask: u64, question: Question) -> u64
     requires few { length edits.now ≤ 64 }
     requires depth { depth < 2 ^ 32 }
-    ensures { masks.bits result 0 (map edit_of edits.now) ≡ map (masks.answer_of question) (masks.asked depth mask 0 (map edit_of edits.now)) }
+    ensures { masks.bits result 0 (map edit_of edits.now) ≡ map (asking.answer_of question) (masks.asked depth mask 0 (map edit_of edits.now)) }
 {
     let mut yes = 0;
     let mut place = 0;
@@ -81,7 +82,7 @@ pub fn answering(edits: &[Edit], depth: usize, mask: u64, question: Question) ->
 pub fn any_answers(edits: &[Edit], depth: usize, mask: u64, question: Question) -> bool
     requires few { length edits.now ≤ 64 }
     requires depth { depth < 2 ^ 32 }
-    ensures { result ≡ masks.any_answer question (masks.asked depth mask 0 (map edit_of edits.now)) }
+    ensures { result ≡ asking.any_answer question (masks.asked depth mask 0 (map edit_of edits.now)) }
 {
     let mut place = 0;
     let mut rest = edits;
@@ -98,7 +99,7 @@ pub fn any_answers(edits: &[Edit], depth: usize, mask: u64, question: Question) 
 /// What an edit makes of an element, if the mask has it.
 fn fate_in(edit: &Edit, depth: usize, mask: u64, place: usize, tag: Tag) -> Fate<'_>
     requires { place < 64 }
-    ensures { masks.fate_of result ≡ spec.fate (masks.asked_one depth mask place (edit_of edit.now)) tag }
+    ensures { asking.fate_of result ≡ spec.fate (asking.asked_one depth mask place (edit_of edit.now)) tag }
 {
     if is_set(mask, place) {
         return fate_by(edit, depth, tag);
@@ -109,7 +110,7 @@ fn fate_in(edit: &Edit, depth: usize, mask: u64, place: usize, tag: Tag) -> Fate
 /// What the first edit of a mask that changes an element makes of it.
 pub fn first_fate(edits: &[Edit], depth: usize, mask: u64, tag: Tag) -> Fate<'_>
     requires few { length edits.now ≤ 64 }
-    ensures { masks.fate_of result ≡ together.first_fate (masks.asked depth mask 0 (map edit_of edits.now)) tag }
+    ensures { asking.fate_of result ≡ together.first_fate (masks.asked depth mask 0 (map edit_of edits.now)) tag }
 {
     let mut place = 0;
     let mut rest = edits;
@@ -127,7 +128,7 @@ pub fn first_fate(edits: &[Edit], depth: usize, mask: u64, tag: Tag) -> Fate<'_>
 
 /// The lesser of two new elements; of two with one tag the first.
 fn lesser<'e>(first: Option<New<'e>>, other: New<'e>) -> New<'e>
-    ensures { masks.seen_of (Some result) ≡ masks.lesser (masks.seen_of first.entry) (masks.seen_of (Some other.entry)) }
+    ensures { asking.seen_of (Some result) ≡ asking.lesser (asking.seen_of first.entry) (asking.seen_of (Some other.entry)) }
 {
     match first {
         Some(new) if !is_below(other.tag(), new.tag()) => new,
@@ -138,7 +139,7 @@ fn lesser<'e>(first: Option<New<'e>>, other: New<'e>) -> New<'e>
 /// What an edit puts in a gap, if the mask has it.
 fn new_in(edit: &Edit, depth: usize, mask: u64, place: usize, gap: Gap) -> Option<New<'_>>
     requires { place < 64 }
-    ensures { masks.seen_of result ≡ masks.seen_in gap (masks.seen (spec.element_of (masks.asked_one depth mask place (edit_of edit.now)))) }
+    ensures { asking.seen_of result ≡ asking.seen_in gap (asking.seen (spec.element_of (asking.asked_one depth mask place (edit_of edit.now)))) }
 {
     if !is_set(mask, place) {
         return None;
@@ -152,7 +153,7 @@ fn new_in(edit: &Edit, depth: usize, mask: u64, place: usize, gap: Gap) -> Optio
 /// The new element with the least tag in a gap, of the edits of a mask.
 pub fn least_new(edits: &[Edit], depth: usize, mask: u64, gap: Gap) -> Option<New<'_>>
     requires few { length edits.now ≤ 64 }
-    ensures { masks.seen_of result ≡ masks.least_new gap masks.nothing_new (masks.asked depth mask 0 (map edit_of edits.now)) }
+    ensures { asking.seen_of result ≡ asking.least_new gap asking.nothing_new (masks.asked depth mask 0 (map edit_of edits.now)) }
 {
     let mut least = None;
     let mut place = 0;

@@ -1,5 +1,6 @@
 use Rattle.std.proofs.Common.{◌≡◌, ◌<◌, ◌≤◌, ℕ, ◌+◌, length, map, false}
 use Rattle.dcm_edit.specs.Masks as masks
+use Rattle.dcm_edit.specs.Asking as asking
 use Rattle.dcm_edit.specs.Meaning.{edit_of}
 use Rattle.dcm_edit.proofs.mask.answering.Given as goal
 
@@ -9,8 +10,8 @@ invariant-loop-edit l = record {
   few : l.place + length l.rest ≡ length l.edits;
   high : (k : ℕ) → l.place ≤ k → masks.is_set l.yes k ≡ false;
   right : (final : ℕ) → ((k : ℕ) → k < l.place → masks.is_set final k ≡ masks.is_set l.yes k)
-      → masks.bits final l.place (map edit_of l.rest) ≡ map (masks.answer_of l.fn.question) (masks.asked l.fn.depth l.fn.mask l.place (map edit_of l.rest))
-      → masks.bits final 0 (map edit_of l.edits) ≡ map (masks.answer_of l.fn.question) (masks.asked l.fn.depth l.fn.mask 0 (map edit_of l.edits));
+      → masks.bits final l.place (map edit_of l.rest) ≡ map (asking.answer_of l.fn.question) (masks.asked l.fn.depth l.fn.mask l.place (map edit_of l.rest))
+      → masks.bits final 0 (map edit_of l.edits) ≡ map (asking.answer_of l.fn.question) (masks.asked l.fn.depth l.fn.mask 0 (map edit_of l.edits));
 }
 
 abbrev pub decreases-loop-edit : goal.decreases-loop-edit

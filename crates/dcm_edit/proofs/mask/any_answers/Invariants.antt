@@ -1,5 +1,6 @@
 use Rattle.std.proofs.Common.{◌≡◌, ◌+◌, length, map}
 use Rattle.dcm_edit.specs.Masks as masks
+use Rattle.dcm_edit.specs.Asking as asking
 use Rattle.dcm_edit.specs.Meaning.{edit_of}
 use Rattle.dcm_edit.proofs.mask.any_answers.Given as goal
 
@@ -7,7 +8,7 @@ use Rattle.dcm_edit.proofs.mask.any_answers.Given as goal
 abbrev pub invariant-loop-rest : goal.invariant-loop-rest
 invariant-loop-rest l = record {
   few : l.place + length l.rest ≡ length l.edits;
-  same : masks.any_answer l.fn.question (masks.asked l.fn.depth l.fn.mask l.place (map edit_of l.rest)) ≡ masks.any_answer l.fn.question (masks.asked l.fn.depth l.fn.mask 0 (map edit_of l.edits));
+  same : asking.any_answer l.fn.question (masks.asked l.fn.depth l.fn.mask l.place (map edit_of l.rest)) ≡ asking.any_answer l.fn.question (masks.asked l.fn.depth l.fn.mask 0 (map edit_of l.edits));
 }
 
 abbrev pub decreases-loop-rest : goal.decreases-loop-rest

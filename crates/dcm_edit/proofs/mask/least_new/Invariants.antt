@@ -1,5 +1,6 @@
 use Rattle.std.proofs.Common.{◌≡◌, ◌+◌, length, map}
 use Rattle.dcm_edit.specs.Masks as masks
+use Rattle.dcm_edit.specs.Asking as asking
 use Rattle.dcm_edit.specs.Meaning.{edit_of}
 use Rattle.dcm_edit.proofs.mask.least_new.Given as goal
 
@@ -7,7 +8,7 @@ use Rattle.dcm_edit.proofs.mask.least_new.Given as goal
 abbrev pub invariant-loop-rest : goal.invariant-loop-rest
 invariant-loop-rest l = record {
   few : l.place + length l.rest ≡ length l.edits;
-  same : masks.least_new l.fn.gap (masks.seen_of l.least) (masks.asked l.fn.depth l.fn.mask l.place (map edit_of l.rest)) ≡ masks.least_new l.fn.gap masks.nothing_new (masks.asked l.fn.depth l.fn.mask 0 (map edit_of l.edits));
+  same : asking.least_new l.fn.gap (asking.seen_of l.least) (masks.asked l.fn.depth l.fn.mask l.place (map edit_of l.rest)) ≡ asking.least_new l.fn.gap asking.nothing_new (masks.asked l.fn.depth l.fn.mask 0 (map edit_of l.edits));
 }
 
 abbrev pub decreases-loop-rest : goal.decreases-loop-rest

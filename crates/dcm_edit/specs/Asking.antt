@@ -1,0 +1,131 @@
+-- What an edit asks of an open data set, as the program finds it out.
+use Rattle.std.specs.Prelude.{ℕ, suc, ◌≤◌, List, [], ◌∷◌, Option, Some, None, Bool, true, false, ◌||◌, ◌==◌, if◌then◌else◌}
+use Rattle.std.specs.List.{list_all}
+use Rattle.std.specs.Borrow.{Bor}
+use Rattle.dcm_base.specs.declared.tag.Tag.{Tag}
+use Rattle.dcm_base.specs.declared.vr.Vr.{Vr}
+use Rattle.dcm_base.specs.Tag.{below}
+use Rattle.dcm_edit.specs.Edit.{Index, number, every, selects, PathEdit, step, insert, modify, erase, erase_item, Edit, on_path, modify_all, erase_all, erase_private, elsewhere, within, fate, acts, erases, NewElement, no_element, new_leaf, new_sequence, element_of}
+use Rattle.dcm_edit.specs.Edit as spec
+use Rattle.dcm_edit.specs.NewOnes.{above_last, is_between}
+use Rattle.dcm_edit.specs.EditSink.{has_place, makes}
+use Rattle.dcm_edit.specs.Masks.{is_set, at_depth, goes_along}
+use Rattle.dcm_edit.specs.Meaning.{index_of}
+use Rattle.dcm_edit.specs.declared.edit.NewElement.{NewElement as Element}
+use Rattle.dcm_edit.specs.declared.edit.Step.{Step}
+use Rattle.dcm_edit.specs.declared.asked.Fate.{Fate}
+use Rattle.dcm_edit.specs.declared.asked.Fate.TheVariants as fates
+use Rattle.dcm_edit.specs.declared.asked.Gap.{Gap}
+use Rattle.dcm_edit.specs.declared.asked.New.{New}
+use Rattle.dcm_edit.specs.declared.asked.New.TheVariants as news
+use Rattle.dcm_edit.specs.declared.asked.Question.{Question}
+use Rattle.dcm_edit.specs.declared.asked.Question.TheVariants as questions
+
+-- ---- one edit
+
+abbrev pub is_first : Index → Bool
+is_first (number n) = n == 0
+is_first every = false
+
+-- what becomes of an element, as the program says it
+abbrev pub fate_of : Fate → spec.Fate
+fate_of fates.Stays = spec.stays
+fate_of (fates.Becomes e) = spec.becomes e.now.vr e.now.value.items
+fate_of fates.Goes = spec.goes
+
+-- what is seen of a new element from outside: a value, or the tag of a sequence on the way to one
+pub data Seen : Type 0 where
+  nothing_new : Seen
+  a_value : (tag : Tag) (vr : Vr) (value : List ℕ) → Seen
+  a_sequence : (tag : Tag) → Seen
+
+abbrev pub seen : NewElement → Seen
+seen no_element = nothing_new
+seen (new_leaf tag vr value) = a_value tag vr value
+seen (new_sequence tag held) = a_sequence tag
+
+abbrev pub seen_of : Option New → Seen
+seen_of None = nothing_new
+seen_of (Some (news.Leaf e)) = a_value e.now.tag e.now.vr e.now.value.items
+seen_of (Some (news.Sequence tag)) = a_sequence tag
+
+abbrev pub seen_value : Option (Bor Element) → Seen
+seen_value None = nothing_new
+seen_value (Some e) = a_value e.now.tag e.now.vr e.now.value.items
+
+-- the tag of the first step, where each leads into the first item
+abbrev pub sequence_on : List Step → Option Tag
+sequence_on [] = None
+sequence_on (s ∷ steps) = if list_all (λ x. is_first (index_of x.index)) (s ∷ steps) then Some s.tag else None
+
+abbrev pub new_tag : New → Tag
+new_tag (news.Leaf e) = e.now.tag
+new_tag (news.Sequence tag) = tag
+
+abbrev pub lies_in : Option Tag → Option Tag → Tag → Bool
+lies_in last None tag = above_last last tag
+lies_in last (Some next) tag = is_between last next tag
+
+abbrev pub in_gap : Gap → Tag → Bool
+in_gap gap tag = lies_in gap.last gap.next tag
+
+-- the answers of an edit to the questions about a place of the input
+abbrev pub answer_of : Question → Edit → Bool
+answer_of (questions.AtHead tag last) e = acts (fate e tag) || makes (is_between last tag) (element_of e)
+answer_of (questions.AtItem tag n) e = erases e tag n || has_place (element_of (within e tag n))
+answer_of questions.AtTop e = has_place (element_of e)
+answer_of (questions.AtEnd last) e = makes (above_last last) (element_of e)
+answer_of (questions.GoesAlong tag n) e = goes_along e tag n
+answer_of (questions.Erases tag n) e = erases e tag n
+
+-- ---- the edits of a command line
+
+-- what a mask means within so many items, for edit k and for the edits from number k on
+abbrev pub asked_one : ℕ → ℕ → ℕ → Edit → Edit
+asked_one depth mask k e = if is_set mask k then at_depth depth e else elsewhere
+
+-- whether one of them answers yes
+abbrev pub any_answer : Question → List Edit → Bool
+any_answer q [] = false
+any_answer q (e ∷ es) = answer_of q e || any_answer q es
+
+-- ---- the new element with the least tag
+
+abbrev pub seen_in : Gap → Seen → Seen
+seen_in gap nothing_new = nothing_new
+seen_in gap (a_value tag vr value) = if in_gap gap tag then a_value tag vr value else nothing_new
+seen_in gap (a_sequence tag) = if in_gap gap tag then a_sequence tag else nothing_new
+
+abbrev pub is_above_seen : Seen → Tag → Bool
+is_above_seen nothing_new t = true
+is_above_seen (a_value tag vr value) t = below t tag
+is_above_seen (a_sequence tag) t = below t tag
+
+-- of two with one tag the first
+abbrev pub lesser : Seen → Seen → Seen
+lesser first nothing_new = first
+lesser first (a_value tag vr value) = if is_above_seen first tag then a_value tag vr value else first
+lesser first (a_sequence tag) = if is_above_seen first tag then a_sequence tag else first
+
+abbrev pub least_new : Gap → Seen → List Edit → Seen
+least_new gap least [] = least
+least_new gap least (e ∷ es) = least_new gap (lesser least (seen_in gap (seen (element_of e)))) es
+
+-- each path has so many steps at most
+abbrev pub path_size : PathEdit → ℕ
+path_size (step tag index edit) = suc (path_size edit)
+path_size (insert tag vr value) = 0
+path_size (modify tag vr value) = 0
+path_size (erase tag) = 0
+path_size (erase_item tag index) = 0
+
+abbrev pub edit_size : Edit → ℕ
+edit_size (on_path edit) = path_size edit
+edit_size (modify_all tag vr value) = 0
+edit_size (erase_all tag) = 0
+edit_size erase_private = 0
+edit_size elsewhere = 0
+
+abbrev pub AreShort : List Edit → Type 0
+AreShort [] = Unit {0}
+AreShort (e ∷ es) = (edit_size e ≤ 64) × AreShort es
