@@ -29,3 +29,5 @@ pub mod RecodeAnew
 pub mod Selection
 pub mod MadeSequences
 pub mod Masks
+pub mod Answering
+pub mod Editing

@@ -8,3 +8,4 @@ pub mod Together
 pub mod Asking
 pub mod EditCode
 pub mod Meaning
+pub mod Editing

@@ -3,10 +3,11 @@
 
 mod asked;
 mod edit;
+mod editor;
 mod edits;
 pub mod laws;
 mod mask;
 
 pub use edit::{Action, Edit, Index, NewElement, PathEdit, Step};
+pub use editor::Editor;
 pub use edits::Edits;
-pub use mask::{all, answering, any_answers, first_fate, least_new};

@@ -1,0 +1,31 @@
+-- The state of the edits, as the program holds it.
+use Rattle.std.specs.Prelude.{List, map, length, reverse, Bool}
+use Rattle.dcm_base.specs.declared.tag.Tag.{Tag}
+use Rattle.dcm_edit.specs.declared.edit.Edit.{Edit as AnEdit}
+use Rattle.dcm_edit.specs.declared.editor.Level.{Level}
+use Rattle.dcm_edit.specs.declared.editor.Editor.{Editor}
+use Rattle.dcm_edit.specs.Edit.{Edit, Fate}
+use Rattle.dcm_edit.specs.EditSink.{State}
+use Rattle.dcm_edit.specs.Masks as masks
+use Rattle.dcm_edit.specs.Meaning.{edit_of}
+use Rattle.dcm_edit.specs.Together as together
+
+abbrev pub level_of : Level → masks.MaskLevel
+level_of l = record { mask = l.mask; last = l.last; count = l.items }
+
+abbrev pub state : Editor → masks.MaskState
+state e = record { level = level_of e.level; outer = map level_of (reverse e.outermost_first.items); dropped = e.dropped; found = e.found }
+
+-- the state of the definitions
+abbrev pub meant : List AnEdit → Editor → State
+meant edits e = masks.meant (map edit_of edits) (state e)
+
+-- what the edits ask of the innermost open data set
+abbrev pub asked_here : List AnEdit → Editor → List Edit
+asked_here edits e = masks.asked (length (reverse e.outermost_first.items)) e.level.mask 0 (map edit_of edits)
+
+abbrev pub first_fate : List AnEdit → Editor → Tag → Fate
+first_fate edits e tag = together.first_fate (asked_here edits e) tag
+
+abbrev pub any_erases : List AnEdit → Editor → Tag → Bool
+any_erases edits e tag = together.any_erases (asked_here edits e) tag e.level.items

@@ -1,0 +1,204 @@
+// How far edits have come along an input.
+ghost use Rattle.std.specs.Prelude.{◌≡◌, ◌≤◌, ◌<◌, length, map, fold, Some, None, reverse};
+ghost use Rattle.dcm_base.specs.Atoms.{opens, closes_leaf, closes_item, opens_item, opens_fragment, ends};
+ghost use Rattle.dcm_base.specs.declared.length.Length.{Length as AnyLength};
+ghost use Rattle.dcm_base.specs.declared.syntax.Syntax.{Syntax as AnySyntax};
+ghost use Rattle.dcm_base.specs.declared.vr.Vr.{Vr as AnyVr};
+ghost use Rattle.dcm_stream.specs.Tokens.{atoms_of};
+ghost use Rattle.dcm_edit.specs.Asking as asking;
+ghost use Rattle.dcm_edit.specs.EditSink as spec;
+ghost use Rattle.dcm_edit.specs.Editing as editing;
+ghost use Rattle.dcm_edit.specs.Masks as masks;
+ghost use Rattle.dcm_edit.specs.Meaning.{edit_of};
+
+use crate::asked::{Fate, Question};
+use crate::edit::Edit;
+use crate::mask::{all, answering, any_answers, first_fate};
+use arrayvec::ArrayVec;
+use dcm_base::Tag;
+use dcm_stream::Token;
+
+/// The most data sets that are open around another.
+pub const MOST_AROUND: usize = 64;
+
+/// An open data set: which edits ask something of it, the tag of its last element, and how many items that has so far.
+#[derive(Clone, Copy, Debug, Default, PartialEq, Eq)]
+pub struct Level {
+    pub mask: u64,
+    pub last: Option<Tag>,
+    pub items: u32,
+}
+
+/// The open data sets, how many of the open elements and items are dropped, and which edits have found their place.
+#[derive(Drop)]
+pub struct Editor {
+    pub level: Level,
+    pub outermost_first: ArrayVec<Level, MOST_AROUND>,
+    pub dropped: u32,
+    pub found: u64,
+}
+
+/// One more thing is open within what is dropped, or is dropped itself.
+fn one_more(dropped: u32, is_dropped: bool) -> u32
+    ensures { result ≡ spec.dropped_after_head dropped is_dropped }
+{
+    if dropped > 0 || is_dropped {
+        dropped.saturating_add(1)
+    } else {
+        0
+    }
+}
+
+/// A data set of which these edits ask something.
+fn new_level(mask: u64) -> Level
+    ensures { editing.level_of result ≡ record { mask = mask; last = None; count = 0 } }
+{
+    Level {
+        mask,
+        last: None,
+        items: 0,
+    }
+}
+
+impl Editor {
+    /// Before the first token of an input.
+    pub fn new(edits: &[Edit]) -> Editor
+        requires { length edits.now ≤ 64 }
+        ensures { editing.meant edits.now result ≡ spec.begun (map edit_of edits.now) }
+    {
+        let mask = all(edits.len());
+        Editor {
+            level: new_level(mask),
+            outermost_first: ArrayVec::new(),
+            dropped: 0,
+            found: answering(edits, 0, mask, Question::AtTop),
+        }
+    }
+
+    /// How many data sets are open around the innermost one.
+    pub fn depth(&self) -> usize
+        ensures value { result ≡ length (reverse self.now.outermost_first.items) }
+        ensures limit { result ≤ 64 }
+    {
+        self.outermost_first.len()
+    }
+
+    /// The edits that have found their place so far or find it here.
+    fn found_with(&self, edits: &[Edit], question: Question) -> u64
+        requires { length edits.now ≤ 64 }
+        ensures { masks.bits result 0 (map edit_of edits.now) ≡ spec.either (masks.bits self.now.found 0 (map edit_of edits.now)) (map (asking.answer_of question) (editing.asked_here edits.now self.now)) }
+    {
+        self.found | answering(edits, self.depth(), self.level.mask, question)
+    }
+
+    /// What becomes of an element of the innermost data set.
+    pub fn fate_of<'e>(&self, edits: &'e [Edit], tag: Tag) -> Fate<'e>
+        requires { length edits.now ≤ 64 }
+        ensures { asking.fate_of result ≡ editing.first_fate edits.now self.now tag }
+    {
+        first_fate(edits, self.depth(), self.level.mask, tag)
+    }
+
+    /// Whether the next item of the last element is erased.
+    pub fn erases_item(&self, edits: &[Edit], tag: Tag) -> bool
+        requires { length edits.now ≤ 64 }
+        ensures { result ≡ editing.any_erases edits.now self.now tag }
+    {
+        let question = Question::Erases(tag, self.level.items);
+        any_answers(edits, self.depth(), self.level.mask, question)
+    }
+
+    /// After the head of an element.
+    fn open(&mut self, edits: &[Edit], tag: Tag)
+        requires { length edits.now ≤ 64 }
+        ensures { (vr : AnyVr) (declared : AnyLength) (syntax : AnySyntax) → editing.meant edits.now self.new ≡ spec.next (editing.meant edits.now self.old) (opens tag vr declared syntax) }
+    {
+        let found = self.found_with(edits, Question::AtHead(tag, self.level.last));
+        let stays = matches!(self.fate_of(edits, tag), Fate::Stays);
+        self.found = found;
+        self.dropped = one_more(self.dropped, !stays);
+        self.level.last = Some(tag);
+        self.level.items = 0;
+    }
+
+    /// After the head of an item of the element with this tag, where there is room for its data set.
+    fn enter_item(&mut self, edits: &[Edit], tag: Tag)
+        requires few { length edits.now ≤ 64 }
+        requires last { self.old.level.last ≡ Some tag }
+        requires room { length self.old.outermost_first.items < 64 }
+        ensures { (declared : AnyLength) → editing.meant edits.now self.new ≡ spec.next (editing.meant edits.now self.old) (opens_item declared) }
+    {
+        let item = self.level.items;
+        let found = self.found_with(edits, Question::AtItem(tag, item));
+        let is_erased = self.erases_item(edits, tag);
+        let question = Question::GoesAlong(tag, item);
+        let inner = answering(edits, self.depth(), self.level.mask, question);
+        self.found = found;
+        self.dropped = one_more(self.dropped, is_erased);
+        self.level.items = item.saturating_add(1);
+        self.outermost_first.push(self.level);
+        self.level = new_level(inner);
+    }
+
+    /// After the head of an item.
+    fn open_item(&mut self, edits: &[Edit])
+        requires { length edits.now ≤ 64 }
+        ensures { (declared : AnyLength) → editing.meant edits.now self.new ≡ spec.next (editing.meant edits.now self.old) (opens_item declared) }
+    {
+        match self.level.last {
+            Some(tag) if self.outermost_first.len() < MOST_AROUND => self.enter_item(edits, tag),
+            _ => {}
+        }
+    }
+
+    /// After the end of a value, a sequence or a fragment list.
+    fn close(&mut self)
+        ensures { editing.state self.new ≡ masks.masks_after_end (editing.state self.old) }
+    {
+        self.dropped = self.dropped.saturating_sub(1);
+    }
+
+    /// At the end of the innermost data set.
+    fn end_set(&mut self, edits: &[Edit])
+        requires { length edits.now ≤ 64 }
+        ensures { editing.meant edits.now self.new ≡ spec.next (editing.meant edits.now self.old) ends }
+    {
+        self.found = self.found_with(edits, Question::AtEnd(self.level.last));
+    }
+
+    /// After the end of an item.
+    fn close_item(&mut self, edits: &[Edit])
+        requires { length edits.now ≤ 64 }
+        ensures { editing.meant edits.now self.new ≡ spec.next (editing.meant edits.now self.old) closes_item }
+    {
+        let found = self.found_with(edits, Question::AtEnd(self.level.last));
+        self.close();
+        if let Some(level) = self.outermost_first.pop() {
+            self.level = level;
+            self.found = found;
+        }
+    }
+
+    /// After the head of a fragment.
+    fn open_fragment(&mut self)
+        ensures { editing.state self.new ≡ masks.masks_in_fragment (editing.state self.old) }
+    {
+        self.dropped = one_more(self.dropped, false);
+    }
+
+    /// After a token.
+    pub fn go_on(&mut self, edits: &[Edit], token: Token)
+        requires { length edits.now ≤ 64 }
+        ensures { editing.meant edits.now self.new ≡ fold spec.next (editing.meant edits.now self.old) (atoms_of token.entry) }
+    {
+        match token {
+            Token::Open(head, _) => self.open(edits, head.tag),
+            Token::Bytes(_) => {}
+            Token::CloseLeaf | Token::CloseSeq => self.close(),
+            Token::OpenItem(_) => self.open_item(edits),
+            Token::CloseItem => self.close_item(edits),
+            Token::OpenFragment(_) => self.open_fragment(),
+            Token::End => self.end_set(edits),
+        }
+    }
+}
