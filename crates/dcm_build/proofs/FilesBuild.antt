@@ -244,12 +244,14 @@ named_bytes (fragments t vr values rest) m h = absurd m
 
 -- ---- the head of the file
 
-record Headed (file : List ℕ) (meta : Meta) (group : List ℕ) (coding : Coding) : Type 0 where
-  spelled : TreesAt Little meta.elements group []
-  of_meta : AreMeta meta.elements
-  within : length group ≤ META_LIMIT
-  names : named_coding meta.elements ≡ Some coding
-  bytes : Bytes file → Bytes group
+pub record Headed (file : List ℕ) (meta : Meta) (group : List ℕ) (coding : Coding) : Type 0 where
+  pub preamble_size : length meta.preamble ≡ 128
+  pub uid_is : meta.uid ≡ named_syntax meta.elements
+  pub spelled : TreesAt Little meta.elements group []
+  pub of_meta : AreMeta meta.elements
+  pub within : length group ≤ META_LIMIT
+  pub names : named_coding meta.elements ≡ Some coding
+  pub bytes : Bytes file → Bytes group
 
 by_coding : (m meta : Meta) (g group : List ℕ) (c : Coding) (r : Result Coding DeflatedSyntax) → begins m g c ≡ coded meta group r → (m ≡ meta) × (g ≡ group) × (result_ok r ≡ Some c)
 by_coding m meta g group c (Ok d) e = (cc, cc, cc)
@@ -260,25 +262,28 @@ by_uid m meta g group c [] is e = cc
 by_uid m meta g group c (x ∷ uid) is e = let k = by_coding m meta g group c (coding_of meta.uid) e in (k.0, k.1, ap (λ (u : List ℕ). result_ok (coding_of u)) (sym is) ∙ k.2)
 
 by_place : (m : Meta) (g : List ℕ) (c : Coding) (size : ℕ) (preamble : List ℕ) (elements : Trees) (group : List ℕ) (behind : GroupPlace) → begins m g c ≡ answer_behind size preamble elements group behind
-    → (m.elements ≡ elements) × (g ≡ group) × (named_coding elements ≡ Some c)
+    → (m ≡ record { preamble = preamble; elements = elements; uid = without_pads (syntax_value elements) }) × (g ≡ group) × (named_coding elements ≡ Some c)
 by_place m g c size preamble elements group the_end e =
     let uid = without_pads (syntax_value elements) in
     let meta : Meta = record { preamble = preamble; elements = elements; uid = uid } in
-    let k = by_uid m meta g group c uid refl e in (ap (λ (x : Meta). x.elements) k.0, k.1, k.2)
+    let k = by_uid m meta g group c uid refl e in (k.0, k.1, k.2)
 by_place m g c size preamble elements group too_few e = cc
 by_place m g c size preamble elements group (a_fault fault) e = cc
 by_place m g c size preamble elements group (an_element tag vr head value) e = cc
 
-headed : (file : List ℕ) (meta : Meta) (group : List ℕ) (coding : Coding) → MetaReads file (begins meta group coding) → Headed file meta group coding
+pub headed : (file : List ℕ) (meta : Meta) (group : List ℕ) (coding : Coding) → MetaReads file (begins meta group coding) → Headed file meta group coding
 headed file meta group coding (too_short l e) = absurd (let no : begins meta group coding ≡ MetaAnswer.refused _ _ = e in cc)
 headed file meta group coding (no_prefix preamble prefix bytes parts l m other e) = absurd (cc)
 headed file meta group coding (with_group preamble bytes others elements behind parts l reads e) =
     let k = by_place meta group coding (length file) preamble elements others behind e in
+    let same : meta.elements ≡ elements = ap (λ (x : Meta). x.elements) k.0 in
     record {
-      spelled = subst (λ (x : Trees). TreesAt Little x group []) (sym k.0) (subst (λ (g : List ℕ). TreesAt Little elements g []) (sym k.1) reads.spelled);
-      of_meta = subst AreMeta (sym k.0) reads.meta;
+      preamble_size = ap (λ (x : Meta). length x.preamble) k.0 ∙ l;
+      uid_is = ap (λ (x : Meta). x.uid) k.0 ∙ ap (λ (x : Trees). without_pads (syntax_value x)) (sym same);
+      spelled = subst (λ (x : Trees). TreesAt Little x group []) (sym same) (subst (λ (g : List ℕ). TreesAt Little elements g []) (sym k.1) reads.spelled);
+      of_meta = subst AreMeta (sym same) reads.meta;
       within = subst (λ (g : List ℕ). length g ≤ META_LIMIT) (sym k.1) reads.within;
-      names = ap named_coding k.0 ∙ k.2;
+      names = ap named_coding same ∙ k.2;
       bytes = λ h. (
           let behind_prefix = (bytes_parts preamble (PREFIX ++ bytes) (subst Bytes parts h)).1 in
           let of_group = (bytes_parts others reads.rest (subst Bytes reads.parts (bytes_parts PREFIX bytes behind_prefix).1)).0 in
