@@ -144,7 +144,7 @@ element_reads level t vr c more size n m is other space comment printed small fe
     apart : (g : ℕ) → g ≢ 0xFFFE → (g == 0xFFFE) ≡ false
     apart g h = grind (arith, nat_tests, h)
 
--- whatever the text stands for
+-- a line means its step, whatever value its text is read as
 pub leaf_shows : (level : ℕ) (t : Tag) (vr : Vr) (v : List ℕ) → IsTag t → t.group ≢ 0xFFFE → is_sequence vr ≡ false → Bytes v → length v < 2 ^ 32 → length v % shown_unit vr ≡ 0
     → LineMeans (leaf_line Full level t vr v) (one (show_leaf t vr (value_of_text vr (display vr v))))
 leaf_shows level t vr v is other s h few e =
@@ -164,7 +164,7 @@ fragment_shows level v h few =
     (λ tail skipped. subst (λ x. with_value (λ z. show_fragment (value_of_text OB z)) (x ++ 32 ∷ tail) ≡ m) d.is
     (field_means (λ z. show_fragment (value_of_text OB z)) (display OB v) tail d skipped)))
 
--- where it is not too long, for the value
+-- and where the text is not too long, that is the value
 pub leaf_reads : (level : ℕ) (t : Tag) (vr : Vr) (v : List ℕ) → IsTag t → t.group ≢ 0xFFFE → is_sequence vr ≡ false → Bytes v → length v < 2 ^ 32 → length v % shown_unit vr ≡ 0 → length (display vr v) ≤ 16384
     → LineMeans (leaf_line Full level t vr v) (one (show_leaf t vr (Some (value_shown vr v))))
 leaf_reads level t vr v is other s h few e long = subst (λ o. LineMeans (leaf_line Full level t vr v) (one (show_leaf t vr o))) (value_back vr v s h e long) (leaf_shows level t vr v is other s h few e)

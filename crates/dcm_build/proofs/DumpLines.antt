@@ -73,7 +73,7 @@ both_texts a b ss ts h k = record {
 
 -- ---- values
 
--- behind its beginning a line has its display and more
+-- a line has its display, and more before and after it
 longer : (start d spaces a b c e f g : List ℕ) → length d < length (start ++ (d ++ spaces) ++ a ++ b ++ c ++ e ++ f ++ g ++ 10 ∷ [])
 longer start d spaces a b c e f g =
     let display : length d ≤ length (d ++ spaces) = grows (length d) d spaces (omega arith) in

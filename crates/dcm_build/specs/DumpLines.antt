@@ -35,11 +35,11 @@ abbrev pub joined : List (List ℕ) → List ℕ
 joined [] = []
 joined (line ∷ lines) = line ++ 10 ∷ joined lines
 
--- the greatest limit that a line may have
+-- the greatest limit that the lines of a dump may have
 abbrev pub GREATEST_LIMIT : ℕ
 GREATEST_LIMIT = 16384
 
--- none passes a limit
+-- none of these lines passes a limit
 abbrev pub AllWithin : ℕ → List (List ℕ) → Type 0
 AllWithin limit [] = Unit {0}
 AllWithin limit (line ∷ lines) = (length line ≤ limit) × AllWithin limit lines

@@ -1,4 +1,4 @@
--- The full dump of a file, that is then built again.
+-- The full dump of a file, which is then built again.
 use Rattle.std.proofs.Common.{◌≡◌, ◌∙◌, ap, sym, subst, ℕ, ◌≤◌, List, [], ◌++◌, append_assoc, length, drop, replicate, Option, None, Some}
 use Rattle.std.proofs.lemmas.List.{append-nil}
 use Rattle.std.proofs.Math.Seq.{drop-append_seam}
@@ -59,9 +59,9 @@ whole_recode : (s : Syntax) (set : Trees) → recode s (whole_front set) ≡ rec
 unfolding recode
 whole_recode s set = append-nil (recode_set s set)
 
--- behind the preamble
-behind : (preamble prefix group set : List ℕ) → length preamble ≡ 128 → drop 128 (preamble ++ prefix ++ group ++ set) ≡ prefix ++ group ++ set
-behind preamble prefix group set size =
+-- after the preamble
+after_preamble : (preamble prefix group set : List ℕ) → length preamble ≡ 128 → drop 128 (preamble ++ prefix ++ group ++ set) ≡ prefix ++ group ++ set
+after_preamble preamble prefix group set size =
     ap (λ (bs : List ℕ). drop 128 (bs ++ set)) (append_assoc preamble prefix group)
     ∙ ap (drop 128) (append_assoc preamble (prefix ++ group) set)
     ∙ ap (λ (n : ℕ). drop n (preamble ++ (prefix ++ group ++ set))) (sym size)
@@ -110,7 +110,7 @@ module _ (limit : ℕ) (file : List ℕ) (dumped built converted : Answer) (allo
   converted_is =
       ap (λ (a : Answer). drop 128 a.output) converts.answer_is
       ∙ ap (λ (z : Source). drop 128 (answer (convert None) z).output) (one_source (convert None) file converts.source source converts.reads (own_source Full file source h.reads))
-      ∙ behind h.meta.preamble PREFIX (new_meta h.meta.elements h.meta.uid) (recode h.coding.syntax (whole_front h.set)) head.preamble_size
+      ∙ after_preamble h.meta.preamble PREFIX (new_meta h.meta.elements h.meta.uid) (recode h.coding.syntax (whole_front h.set)) head.preamble_size
       ∙ ap (λ (uid : List ℕ). PREFIX ++ new_meta h.meta.elements uid ++ recode h.coding.syntax (whole_front h.set)) head.uid_is
       ∙ ap (λ (bs : List ℕ). PREFIX ++ new_meta h.meta.elements (named_syntax h.meta.elements) ++ bs) (whole_recode h.coding.syntax h.set)
 

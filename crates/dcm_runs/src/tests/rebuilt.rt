@@ -5,7 +5,7 @@ use super::{Answer, STEPS, joined, over_memory, over_std};
 use std::process::Abort;
 use std::test::Fail;
 
-/// A file, and what its dump builds: its start, and what stands behind that.
+/// A file, and what its dump builds: its start, and the bytes after that.
 #[derive(Clone, Copy)]
 struct File {
     name: &'static str,
