@@ -4,3 +4,4 @@ pub mod Pass
 pub mod Lines
 pub mod Run
 pub mod Devices
+pub mod DumpBuilds
