@@ -144,24 +144,35 @@ element_reads level t vr c more size n m is other space comment printed small fe
     apart : (g : ℕ) → g ≢ 0xFFFE → (g == 0xFFFE) ≡ false
     apart g h = grind (arith, nat_tests, h)
 
-pub leaf_reads : (level : ℕ) (t : Tag) (vr : Vr) (v : List ℕ) → IsTag t → t.group ≢ 0xFFFE → is_sequence vr ≡ false → Bytes v → length v < 2 ^ 32 → length v % shown_unit vr ≡ 0 → length (display vr v) ≤ 16384
-    → LineMeans (leaf_line Full level t vr v) (one (show_leaf t vr (Some (value_shown vr v))))
-leaf_reads level t vr v is other s h few e long =
+-- a line means its step, whatever value its text is read as
+pub leaf_shows : (level : ℕ) (t : Tag) (vr : Vr) (v : List ℕ) → IsTag t → t.group ≢ 0xFFFE → is_sequence vr ≡ false → Bytes v → length v < 2 ^ 32 → length v % shown_unit vr ≡ 0
+    → LineMeans (leaf_line Full level t vr v) (one (show_leaf t vr (value_of_text vr (display vr v))))
+leaf_shows level t vr v is other s h few e =
     let d = display_shows vr v s h e in
-    let m : Meaning = one (show_leaf t vr (Some (value_shown vr v))) in
+    let m : Meaning = one (show_leaf t vr (value_of_text vr (display vr v))) in
     subst (λ x. LineMeans (line level t (letters vr) x (Known (length v)) (count vr v)) m) (sym d.is)
     (element_reads level t vr d.first d.more (Known (length v)) (count vr v) m is other d.no_space d.no_comment (subst (Bytewise IsPrinted) d.is d.printed) (omega (arith, few)) (count_small vr v few)
-    (λ tail skipped. subst (λ x. element_meaning t (Some vr) (x ++ 32 ∷ tail) ≡ m) d.is (leaf_means t vr v tail s h e skipped ∙ ap (λ o. one (show_leaf t vr o)) (value_back vr v s h e long))))
+    (λ tail skipped. subst (λ x. element_meaning t (Some vr) (x ++ 32 ∷ tail) ≡ m) d.is (leaf_means t vr v tail s h e skipped)))
+
+pub fragment_shows : (level : ℕ) (v : List ℕ) → Bytes v → length v < 2 ^ 32 → LineMeans (fragment_line Full level v) (one (show_fragment (value_of_text OB (display OB v))))
+fragment_shows level v h few =
+    let whole : length v % 1 ≡ 0 = omega arith in
+    let d = display_shows OB v refl h whole in
+    let m : Meaning = one (show_fragment (value_of_text OB (display OB v))) in
+    subst (λ x. LineMeans (line level (record { group = 0xFFFE; element = 0xE000 }) (codes "pi") x (Known (length v)) 1) m) (sym d.is)
+    (line_reads _ 0xFFFE 0xE000 112 105 (d.first ∷ d.more) m (line_meant level 0xFFFE 0xE000 112 105 d.first d.more (omega arith) (omega arith) refl d.no_space d.no_comment (omega arith) (omega arith) (subst (Bytewise IsPrinted) d.is d.printed) (Known (length v)) 1 (omega (arith, few)) (omega arith))
+    (λ tail skipped. subst (λ x. with_value (λ z. show_fragment (value_of_text OB z)) (x ++ 32 ∷ tail) ≡ m) d.is
+    (field_means (λ z. show_fragment (value_of_text OB z)) (display OB v) tail d skipped)))
+
+-- and where the text is not too long, that is the value
+pub leaf_reads : (level : ℕ) (t : Tag) (vr : Vr) (v : List ℕ) → IsTag t → t.group ≢ 0xFFFE → is_sequence vr ≡ false → Bytes v → length v < 2 ^ 32 → length v % shown_unit vr ≡ 0 → length (display vr v) ≤ 16384
+    → LineMeans (leaf_line Full level t vr v) (one (show_leaf t vr (Some (value_shown vr v))))
+leaf_reads level t vr v is other s h few e long = subst (λ o. LineMeans (leaf_line Full level t vr v) (one (show_leaf t vr o))) (value_back vr v s h e long) (leaf_shows level t vr v is other s h few e)
 
 pub fragment_reads : (level : ℕ) (v : List ℕ) → Bytes v → length v < 2 ^ 32 → length (display OB v) ≤ 16384 → LineMeans (fragment_line Full level v) (one (show_fragment (Some v)))
 fragment_reads level v h few long =
     let whole : length v % 1 ≡ 0 = omega arith in
-    let d = display_shows OB v refl h whole in
-    let m : Meaning = one (show_fragment (Some v)) in
-    subst (λ x. LineMeans (line level (record { group = 0xFFFE; element = 0xE000 }) (codes "pi") x (Known (length v)) 1) m) (sym d.is)
-    (line_reads _ 0xFFFE 0xE000 112 105 (d.first ∷ d.more) m (line_meant level 0xFFFE 0xE000 112 105 d.first d.more (omega arith) (omega arith) refl d.no_space d.no_comment (omega arith) (omega arith) (subst (Bytewise IsPrinted) d.is d.printed) (Known (length v)) 1 (omega (arith, few)) (omega arith))
-    (λ tail skipped. subst (λ x. with_value (λ z. show_fragment (value_of_text OB z)) (x ++ 32 ∷ tail) ≡ m) d.is
-    (field_means (λ z. show_fragment (value_of_text OB z)) (display OB v) tail d skipped ∙ ap (λ o. one (show_fragment o)) (value_back OB v refl h whole long))))
+    subst (λ o. LineMeans (fragment_line Full level v) (one (show_fragment o))) (value_back OB v refl h whole long) (fragment_shows level v h few)
 
 -- ---- openings and ends, behind whose beginning the rest of the line has no meaning
 

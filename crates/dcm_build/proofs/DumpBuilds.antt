@@ -1,5 +1,5 @@
 -- A full dump builds its file again.
-use Rattle.std.proofs.Common.{◌≡◌, ◌∙◌, ap, sym, refl, subst, ℕ, List, [], ◌∷◌, ◌++◌, length, take, replicate, codes, cond, Option, Some, None, Bool, true, false, ◌&&◌, ◌||◌, not, arith}
+use Rattle.std.proofs.Common.{◌≡◌, ◌∙◌, ap, sym, refl, subst, ℕ, ◌≤◌, List, [], ◌∷◌, ◌++◌, length, take, replicate, codes, cond, Option, Some, None, Bool, true, false, ◌&&◌, ◌||◌, not, arith}
 use Rattle.std.specs.Prelude.{find, bytes_eq, nat_le, is_none, is_some}
 use Rattle.std.specs.List.{list_all}
 use Rattle.std.specs.Option.{option_map_or}
@@ -28,12 +28,12 @@ use Rattle.dcm_base.proofs.FieldsBack.{Bytewise, IsPrinted, all_printed, text_sh
 use Rattle.dcm_base.proofs.TextsBack.{Bytes, bytes_of}
 use Rattle.dcm_base.proofs.ValuesBack.{found, mapped}
 use Rattle.dcm_base.proofs.Rebuilt.{recodes_same}
-use Rattle.dcm_build.specs.DumpBuilds.{full_dump, CanBuild, AllWithin, FitsLines, BuildsFile}
-use Rattle.dcm_build.specs.DumpLines.{joined, set_steps}
-use Rattle.dcm_build.proofs.BuildLines.{lines_from, lines_are, run_lines}
+use Rattle.dcm_build.specs.DumpBuilds.{full_dump, CanBuild, FitsLines, BuildsFile}
+use Rattle.dcm_build.specs.DumpLines.{joined, set_steps, GREATEST_LIMIT, AllWithin}
+use Rattle.dcm_build.proofs.BuildLines.{run_lines}
 use Rattle.dcm_build.proofs.BuildStanding.{standing_in, all_alike}
 use Rattle.dcm_build.proofs.DumpLines.{set_means}
-use Rattle.dcm_build.proofs.LinesLead.{is_printed, TextLeads, text_leads, texts_lead, silent_line, lines_of_joined, lines_run}
+use Rattle.dcm_build.proofs.LinesLead.{is_printed, TextLeads, text_leads, texts_lead, silent_line, lines_of_text, lines_run}
 use Rattle.dcm_build.proofs.MetaBuilds.{group_built, group_leads, same_syntax, same_group}
 use Rattle.dcm_build.proofs.StepsBuild.{all_built}
 
@@ -72,7 +72,7 @@ head_leads b = record {
   its_lines = codes "# Dicom-File-Format" ∷ [] ∷ codes "# Dicom-Meta-Information-Header" ∷ codes "# Used TransferSyntax: LittleEndianExplicit" ∷ [];
   is = refl;
   printed = (refl, (refl, (refl, (refl, tt))));
-  leads = (b, refl, (b, refl, (b, refl, (b, refl, refl))));
+  leads = λ w. (b, refl, (b, refl, (b, refl, (b, refl, refl))));
 }
 
 header_is : (meta : Trees) → meta_header Full meta ≡ (dump_head ++ dump_set Full 0 meta) ++ 10 ∷ []
@@ -86,7 +86,7 @@ set_header_leads uid b h = record {
   its_lines = codes "# Dicom-Data-Set" ∷ (codes "# Used TransferSyntax: " ++ syntax_name uid) ∷ [];
   is = refl;
   printed = (refl, (used_printed (syntax_name uid) (syntax_is_printed uid h), tt));
-  leads = (b, refl, (b, refl, refl));
+  leads = λ w. (b, refl, (b, refl, refl));
 }
 
 -- ---- the end of the input
@@ -103,6 +103,10 @@ or_true false t h = h
 top_is_open : (whole : Trees) (reached : Option Tag) → is_the_top (innermost (open_levels (front whole nothing_open reached false))) ≡ true
 unfolding standing_in
 top_is_open whole reached = ap is_the_top (sym (all_alike (front whole nothing_open reached false)).container)
+
+within_more : (m n : ℕ) → m ≤ n → (ls : List (List ℕ)) → AllWithin m ls → AllWithin n ls
+within_more m n h [] w = tt
+within_more m n h (l ∷ ls) w = let k = w.0 in (omega (arith, h, k), within_more m n h ls w.1)
 
 abbrev by_told : ℕ → Option Told → Option LineFault → Progress → Progress
 by_told size told fault p = elim told as (λ x. Progress) [
@@ -162,7 +166,7 @@ module _ (meta : Trees) (coding : Coding) (set : Trees) (h : CanBuild meta codin
       no_fault_at_end e (is_none (named_coding m)) (is_the_top (innermost (open_levels f))) (ap (λ (x : Trees). is_none (named_coding x)) is ∙ ap is_none again)
       (ap (λ (x : Front). is_the_top (innermost (open_levels x))) set_is ∙ top_is_open (rebuilt set) (last_tag None set))
 
-  module _ (limit : ℕ) (fits : FitsLines limit (full_dump meta set)) where
+  module _ (limit : ℕ) (allowed : limit ≤ GREATEST_LIMIT) (fits : FitsLines limit (full_dump meta set)) where
     abbrev text : List ℕ
     text = full_dump meta set
 
@@ -170,10 +174,13 @@ module _ (meta : Trees) (coding : Coding) (set : Trees) (h : CanBuild meta codin
     ran = run_lines limit at_start all.leads.its_lines
 
     split : lines_of text ≡ lines all.leads.its_lines []
-    split = lines_are text ∙ ap (lines_from []) all.leads.is ∙ lines_of_joined all.leads.its_lines all.leads.printed
+    split = lines_of_text text all.leads.its_lines all.leads.is all.leads.printed
+
+    within : AllWithin limit all.leads.its_lines
+    within = subst (λ (l : Lines). AllWithin limit l.ended) split fits.lines
 
     runs : (ran.told ≡ None) × (ran.built ≡ all.last)
-    runs = lines_run limit all.leads.its_lines at_start nothing_built all.last all.leads.printed (subst (λ (l : Lines). AllWithin limit l.ended) split fits.lines) refl refl all.leads.leads
+    runs = lines_run limit all.leads.its_lines at_start nothing_built all.last all.leads.printed within refl refl (all.leads.leads (within_more limit GREATEST_LIMIT allowed all.leads.its_lines within))
 
     whole : built limit text ≡ at_input_end (length text) ran
     unfolding built
@@ -192,5 +199,5 @@ module _ (meta : Trees) (coding : Coding) (set : Trees) (h : CanBuild meta codin
       file = ap (λ (p : Progress). built_bytes p.built) (whole ∙ ended) ∙ ap (λ (b : Built). built_bytes (meta_has_ended b)) runs.1 ∙ file_by all.last.meta all.last.set all.last.meta_ended all.meta_is all.set_is;
     }
 
-pub dump_builds : (limit : ℕ) (meta : Trees) (coding : Coding) (set : Trees) → CanBuild meta coding set → FitsLines limit (full_dump meta set) → BuildsFile limit (full_dump meta set) meta coding set
-dump_builds limit meta coding set h fits = dump_builds_file meta coding set h limit fits
+pub dump_builds : (limit : ℕ) (meta : Trees) (coding : Coding) (set : Trees) → limit ≤ GREATEST_LIMIT → CanBuild meta coding set → FitsLines limit (full_dump meta set) → BuildsFile limit (full_dump meta set) meta coding set
+dump_builds limit meta coding set allowed h fits = dump_builds_file meta coding set h limit allowed fits

@@ -1,8 +1,7 @@
 -- A file that is read without fault can be built from its full dump.
-use Rattle.std.proofs.Common.{◌≡◌, ◌≢◌, ◌∙◌, ap, sym, refl, subst, ℕ, zero, suc, ◌+◌, ◌/◌, ◌≤◌, ◌<◌, List, [], ◌∷◌, ◌++◌, length, length-append, take, drop, map, flat_map, reverse, Option, Some, None, Bool, true, false, ◌&&◌, not, cond, Result, Ok, Err, inl, inr, ◌⊎◌, arith}
-use Rattle.std.specs.Prelude.{◌==◌, slice_index}
+use Rattle.std.proofs.Common.{◌≡◌, ◌≢◌, ◌∙◌, ap, sym, refl, subst, ℕ, zero, suc, ◌+◌, ◌/◌, ◌%◌, ◌≤◌, ◌<◌, List, [], ◌∷◌, ◌++◌, length, take, drop, map, flat_map, reverse, Some, None, Bool, true, false, ◌&&◌, not, cond, Result, Ok, Err, inl, inr, ◌⊎◌, arith}
+use Rattle.std.specs.Prelude.{◌==◌}
 use Rattle.std.specs.Result.{result_ok}
-use Rattle.std.proofs.lemmas.List.{append-nil}
 use Rattle.dcm_base.specs.declared.tag.Tag.{Tag}
 use Rattle.dcm_base.specs.declared.vr.Vr.{Vr}
 use Rattle.dcm_base.specs.declared.vr.Vr.TheVariants.{SQ, UN, OB, OW}
@@ -10,25 +9,25 @@ use Rattle.dcm_base.specs.declared.syntax.Coding.{Coding}
 use Rattle.dcm_base.specs.declared.syntax.Syntax.{Syntax}
 use Rattle.dcm_base.specs.declared.syntax.Syntax.TheVariants.{Implicit, Little, Big}
 use Rattle.dcm_base.specs.declared.transfer.Deflated.{Deflated as DeflatedSyntax}
-use Rattle.dcm_base.specs.declared.fault.Fault.{Fault}
 use Rattle.dcm_base.specs.declared.length.Length.{Length}
 use Rattle.dcm_base.specs.declared.length.Length.TheVariants.{Known, Undefined}
 use Rattle.dcm_base.specs.declared.form.Form.TheVariants.{Value as a_value, Sequence as a_sequence, FragmentList as a_fragment_list}
 use Rattle.dcm_base.specs.Tree.{Trees, no_tree, leaf, sequence, fragments, Items, no_item, item}
-use Rattle.dcm_base.specs.Number.{number, AreBytes, IsTag, HasLength}
+use Rattle.dcm_base.specs.Number.{number, AreBytes, HasLength}
 use Rattle.dcm_base.specs.Tag.{is_tag, item_end_tag, sequence_end_tag}
 use Rattle.dcm_base.specs.Representation.{is_sequence, unit}
-use Rattle.dcm_base.specs.Value.{pieces, turned, order}
+use Rattle.dcm_base.specs.ValueText.{shown_unit}
+use Rattle.dcm_base.specs.Value.{pieces, order}
 use Rattle.dcm_base.specs.Head.{length_at, long_length}
 use Rattle.dcm_base.specs.Reads.{INPUT_LIMIT}
 use Rattle.dcm_base.specs.Size.{trees_size}
 use Rattle.dcm_base.specs.Spelling.{form, inside, FragmentsAt, TreesAt, ItemsAt}
 use Rattle.dcm_base.specs.Place.{is_data}
-use Rattle.dcm_base.specs.Stop.{HeadBar, complete}
+use Rattle.dcm_base.specs.Stop.{HeadBar}
 use Rattle.dcm_base.specs.Transfer.{is_pad, before_pads, without_pads, coding_of}
-use Rattle.dcm_base.specs.MetaGroup.{META_LIMIT, AreMeta, GroupPlace, an_element, the_end, too_few, a_fault, GroupReads}
+use Rattle.dcm_base.specs.MetaGroup.{META_LIMIT, AreMeta, GroupPlace, an_element, the_end, too_few, a_fault}
 use Rattle.dcm_base.specs.MetaReads.{PREFIX, Meta, MetaAnswer, MetaReads, begins, coded, named, answer_behind, syntax_value, too_short, no_prefix, with_group}
-use Rattle.dcm_base.specs.Atoms.{Atom, ends, value_byte, closes_leaf, closes_item, closes_sequence, opens_fragment, fragments_then, trees_then, items_then}
+use Rattle.dcm_base.specs.Atoms.{Atom, ends, value_byte, closes_leaf, closes_item, closes_sequence, fragments_then, trees_then, items_then}
 use Rattle.dcm_base.specs.Normal.{whole_front}
 use Rattle.dcm_base.specs.Ascending.{Ascend}
 use Rattle.dcm_base.specs.Line.{may_be_sequence, may_be_fragments}
@@ -41,8 +40,8 @@ use Rattle.dcm_base.proofs.TextsBack.{Bytes, bytes_of}
 use Rattle.dcm_tools.proofs.RecodeReads.{source_whole, source_fine}
 use Rattle.dcm_tools.proofs.Sources.{bytes_behind, bytes_parts, a_byte, four_bytes, long_known, length_known, bytes_of_head, no_sequence, fragments_little, Fine, fine_bytes, lists_of, begun, enclosed_ready, element_tag}
 use Rattle.dcm_tools.proofs.WrittenRead.{target_heads}
-use Rattle.dcm_build.specs.DumpBuilds.{full_dump, CanBuild, FitsLines, BuildsFile, FileRead, IsShownWhole, AllShownWhole, ShowsWhole, ItemsShowWhole}
-use Rattle.dcm_build.specs.DumpLines.{IsElement, ReadsBack, AllReadBack, SetReadsBack, ItemsReadBack}
+use Rattle.dcm_build.specs.DumpBuilds.{full_dump, CanBuild, FitsLines, BuildsFile, FileRead, WholeUnits, ItemsOfWholeUnits}
+use Rattle.dcm_build.specs.DumpLines.{GREATEST_LIMIT, ReadsBack, AllReadBack, SetReadsBack, ItemsReadBack}
 use Rattle.dcm_build.specs.StepsBuild.{MayStand, ItemsMayStand}
 use Rattle.dcm_build.proofs.DumpBuilds.{dump_builds}
 
@@ -105,8 +104,11 @@ item_length : (s : Syntax) (b : List ℕ) (l : Length) → Bytes b → l ≡ lon
 item_length s b (Known n) h e = let k = long_known (number s 4 (drop 4 b)) n (four_bytes s (drop 4 b) (bytes_behind 4 b h)) e in omega (arith, k)
 item_length s b Undefined h e = tt
 
-reads_back : (vr : Vr) (v : List ℕ) → is_sequence vr ≡ false → Bytes v → length v < 0xFFFFFFFF → IsShownWhole vr v → ReadsBack vr v
-reads_back vr v plain h l w = record { no_sequence = plain; bytes = are_bytes v h; size = omega (arith, l); units = w.0; text = w.1 }
+reads_back : (vr : Vr) (v : List ℕ) → is_sequence vr ≡ false → Bytes v → length v < 0xFFFFFFFF → length v % shown_unit vr ≡ 0 → ReadsBack vr v
+reads_back vr v plain h l w = record { no_sequence = plain; bytes = are_bytes v h; size = omega (arith, l); units = w }
+
+of_bytes : (v : List ℕ) → length v % shown_unit OB ≡ 0
+of_bytes v = omega arith
 
 -- ---- data sets
 
@@ -124,21 +126,21 @@ module _ (coding : Coding) where
   right_little s (inl e) l = sym e ∙ l
   right_little s (inr e) l = absurd (let no : Implicit ≡ Little = sym e ∙ l in cc)
 
-  fragments_can : (s : Syntax) (values : List (List ℕ)) (b p : List ℕ) (n : ℕ) (others : List Atom) → FragmentsAt s values b p → Bytes b → Fine (target_heads Little) n (fragments_then values others) → AllShownWhole values
+  fragments_can : (s : Syntax) (values : List (List ℕ)) (b p : List ℕ) (n : ℕ) (others : List Atom) → FragmentsAt s values b p → Bytes b → Fine (target_heads Little) n (fragments_then values others)
       → (AllReadBack values × Fine (target_heads Little) n others) × Bytes p
   unfolding FragmentsAt fragments_then
-  fragments_can s [] b p n others h k f w = ((tt, f), subst Bytes h k)
-  fragments_can s (v ∷ values) b p n others (o, head, more) k f w =
+  fragments_can s [] b p n others h k f = ((tt, f), subst Bytes h k)
+  fragments_can s (v ∷ values) b p n others (o, head, more) k f =
       let behind : Bytes (v ++ o) = subst Bytes (sym head.after_is) (bytes_behind 8 b k) in
       let parts = bytes_parts v o behind in
-      let rest = fragments_can s values o p n others more parts.1 (fine_bytes (target_heads Little) n v (closes_leaf ∷ fragments_then values others) f.2).2 w.1 in
+      let rest = fragments_can s values o p n others more parts.1 (fine_bytes (target_heads Little) n v (closes_leaf ∷ fragments_then values others) f.2).2 in
       let known = long_known (number s 4 (drop 4 b)) (length v) (four_bytes s (drop 4 b) (bytes_behind 4 b k)) head.length_is in
-      (((reads_back OB v refl parts.0 known w.0, rest.0.0), rest.0.1), rest.1)
+      (((reads_back OB v refl parts.0 known (of_bytes v), rest.0.0), rest.0.1), rest.1)
 
   mutual
-    unfolding TreesAt trees_then SetReadsBack MayStand ShowsWhole
+    unfolding TreesAt trees_then SetReadsBack MayStand WholeUnits
 
-    set_can : (s : Syntax) (n : ℕ) (x : Trees) (b p : List ℕ) (others : List Atom) → Right s → TreesAt s x b p → Bytes b → Fine (target_heads Little) n (trees_then s x others) → ShowsWhole x
+    set_can : (s : Syntax) (n : ℕ) (x : Trees) (b p : List ℕ) (others : List Atom) → Right s → TreesAt s x b p → Bytes b → Fine (target_heads Little) n (trees_then s x others) → WholeUnits x
         → ((SetReadsBack x × MayStand coding n x) × Fine (target_heads Little) n others) × Bytes p
     set_can s n no_tree b p others r h k f w = (((tt, tt), f), subst Bytes h k)
     set_can s n (leaf t vr v rest) b p others r (o, fo, head, more) k f w =
@@ -178,8 +180,8 @@ module _ (coding : Coding) where
         let bar : HeadBar = target_heads Little in
         let g = begun bar n (suc n) t vr Undefined s (fragments_then values (closes_sequence ∷ trees_then s rest others)) (lists_of n a_fragment_list t vr Undefined s fo) f in
         let held = enclosed_ready s sequence_end_tag Undefined (FragmentsAt s values) contents o (AllReadBack values × Fine bar (suc n) (closes_sequence ∷ trees_then s rest others)) (bytes_of_head s t vr Undefined b contents head k)
-        (λ c d kc rd. fragments_can s values c d (suc n) (closes_sequence ∷ trees_then s rest others) rd kc g.more w.0) inner in
-        let after = set_can s n rest o p others r more held.1 held.0.1.2 w.1 in
+        (λ c d kc rd. fragments_can s values c d (suc n) (closes_sequence ∷ trees_then s rest others) rd kc g.more) inner in
+        let after = set_can s n rest o p others r more held.1 held.0.1.2 w in
         let apart = data_group t g.accepted.0 in
         let few = g.few in (
           (
@@ -192,7 +194,7 @@ module _ (coding : Coding) where
           after.1,
         )
 
-    items_can : (s : Syntax) (n : ℕ) (x : Items) (b p : List ℕ) (others : List Atom) → Right s → ItemsAt s x b p → Bytes b → Fine (target_heads Little) n (items_then s x others) → ItemsShowWhole x
+    items_can : (s : Syntax) (n : ℕ) (x : Items) (b p : List ℕ) (others : List Atom) → Right s → ItemsAt s x b p → Bytes b → Fine (target_heads Little) n (items_then s x others) → ItemsOfWholeUnits x
         → ((ItemsReadBack x × ItemsMayStand coding n x) × Fine (target_heads Little) n others) × Bytes p
     items_can s n no_item b p others r h k f w = (((tt, tt), f), subst Bytes h k)
     items_can s n (item declared set rest) b p others r (contents, o, head, inner, more) k f w =
@@ -204,8 +206,8 @@ module _ (coding : Coding) where
 
 -- ---- the meta group
 
-group_can : (x : Trees) (b p : List ℕ) → AreMeta x → TreesAt Little x b p → Bytes b → ShowsWhole x → SetReadsBack x × Bytes p
-unfolding TreesAt AreMeta SetReadsBack ShowsWhole
+group_can : (x : Trees) (b p : List ℕ) → AreMeta x → TreesAt Little x b p → Bytes b → WholeUnits x → SetReadsBack x × Bytes p
+unfolding TreesAt AreMeta SetReadsBack WholeUnits
 group_can no_tree b p m h k w = (tt, subst Bytes h k)
 group_can (leaf t vr v rest) b p m (o, fo, head, more) k w =
     let behind = bytes_parts v o (bytes_of_head Little t vr (Known (length v)) b (v ++ o) head k) in
@@ -242,12 +244,14 @@ named_bytes (fragments t vr values rest) m h = absurd m
 
 -- ---- the head of the file
 
-record Headed (file : List ℕ) (meta : Meta) (group : List ℕ) (coding : Coding) : Type 0 where
-  spelled : TreesAt Little meta.elements group []
-  of_meta : AreMeta meta.elements
-  within : length group ≤ META_LIMIT
-  names : named_coding meta.elements ≡ Some coding
-  bytes : Bytes file → Bytes group
+pub record Headed (file : List ℕ) (meta : Meta) (group : List ℕ) (coding : Coding) : Type 0 where
+  pub preamble_size : length meta.preamble ≡ 128
+  pub uid_is : meta.uid ≡ named_syntax meta.elements
+  pub spelled : TreesAt Little meta.elements group []
+  pub of_meta : AreMeta meta.elements
+  pub within : length group ≤ META_LIMIT
+  pub names : named_coding meta.elements ≡ Some coding
+  pub bytes : Bytes file → Bytes group
 
 by_coding : (m meta : Meta) (g group : List ℕ) (c : Coding) (r : Result Coding DeflatedSyntax) → begins m g c ≡ coded meta group r → (m ≡ meta) × (g ≡ group) × (result_ok r ≡ Some c)
 by_coding m meta g group c (Ok d) e = (cc, cc, cc)
@@ -258,25 +262,28 @@ by_uid m meta g group c [] is e = cc
 by_uid m meta g group c (x ∷ uid) is e = let k = by_coding m meta g group c (coding_of meta.uid) e in (k.0, k.1, ap (λ (u : List ℕ). result_ok (coding_of u)) (sym is) ∙ k.2)
 
 by_place : (m : Meta) (g : List ℕ) (c : Coding) (size : ℕ) (preamble : List ℕ) (elements : Trees) (group : List ℕ) (behind : GroupPlace) → begins m g c ≡ answer_behind size preamble elements group behind
-    → (m.elements ≡ elements) × (g ≡ group) × (named_coding elements ≡ Some c)
+    → (m ≡ record { preamble = preamble; elements = elements; uid = without_pads (syntax_value elements) }) × (g ≡ group) × (named_coding elements ≡ Some c)
 by_place m g c size preamble elements group the_end e =
     let uid = without_pads (syntax_value elements) in
     let meta : Meta = record { preamble = preamble; elements = elements; uid = uid } in
-    let k = by_uid m meta g group c uid refl e in (ap (λ (x : Meta). x.elements) k.0, k.1, k.2)
+    let k = by_uid m meta g group c uid refl e in (k.0, k.1, k.2)
 by_place m g c size preamble elements group too_few e = cc
 by_place m g c size preamble elements group (a_fault fault) e = cc
 by_place m g c size preamble elements group (an_element tag vr head value) e = cc
 
-headed : (file : List ℕ) (meta : Meta) (group : List ℕ) (coding : Coding) → MetaReads file (begins meta group coding) → Headed file meta group coding
+pub headed : (file : List ℕ) (meta : Meta) (group : List ℕ) (coding : Coding) → MetaReads file (begins meta group coding) → Headed file meta group coding
 headed file meta group coding (too_short l e) = absurd (let no : begins meta group coding ≡ MetaAnswer.refused _ _ = e in cc)
 headed file meta group coding (no_prefix preamble prefix bytes parts l m other e) = absurd (cc)
 headed file meta group coding (with_group preamble bytes others elements behind parts l reads e) =
     let k = by_place meta group coding (length file) preamble elements others behind e in
+    let same : meta.elements ≡ elements = ap (λ (x : Meta). x.elements) k.0 in
     record {
-      spelled = subst (λ (x : Trees). TreesAt Little x group []) (sym k.0) (subst (λ (g : List ℕ). TreesAt Little elements g []) (sym k.1) reads.spelled);
-      of_meta = subst AreMeta (sym k.0) reads.meta;
+      preamble_size = ap (λ (x : Meta). length x.preamble) k.0 ∙ l;
+      uid_is = ap (λ (x : Meta). x.uid) k.0 ∙ ap (λ (x : Trees). without_pads (syntax_value x)) (sym same);
+      spelled = subst (λ (x : Trees). TreesAt Little x group []) (sym same) (subst (λ (g : List ℕ). TreesAt Little elements g []) (sym k.1) reads.spelled);
+      of_meta = subst AreMeta (sym same) reads.meta;
       within = subst (λ (g : List ℕ). length g ≤ META_LIMIT) (sym k.1) reads.within;
-      names = ap named_coding k.0 ∙ k.2;
+      names = ap named_coding same ∙ k.2;
       bytes = λ h. (
           let behind_prefix = (bytes_parts preamble (PREFIX ++ bytes) (subst Bytes parts h)).1 in
           let of_group = (bytes_parts others reads.rest (subst Bytes reads.parts (bytes_parts PREFIX bytes behind_prefix).1)).0 in
@@ -289,12 +296,12 @@ headed file meta group coding (with_group preamble bytes others elements behind 
 same_trees : (x y : Trees) → whole_front x ≡ whole_front y → x ≡ y
 same_trees x y e = cc
 
-pub can_build : (file : List ℕ) (meta : Meta) (coding : Coding) (set : Trees) → FileRead file meta coding set → ShowsWhole meta.elements → ShowsWhole set → Ascend None set → CanBuild meta.elements coding set
-can_build file meta coding set h shows_group shows ascends =
+pub can_build : (file : List ℕ) (meta : Meta) (coding : Coding) (set : Trees) → FileRead file meta coding set → WholeUnits meta.elements → WholeUnits set → Ascend None set → CanBuild meta.elements coding set
+can_build file meta coding set h units_group units ascends =
     let group = h.group in
     let head = headed file meta group coding h.head in
     let file_bytes : Bytes file = bytes_of file h.bytes in
-    let elements = group_can meta.elements group [] head.of_meta head.spelled (head.bytes file_bytes) shows_group in
+    let elements = group_can meta.elements group [] head.of_meta head.spelled (head.bytes file_bytes) units_group in
     let takes : length group ≡ trees_size Little meta.elements + 0 = trees_take Little meta.elements group [] head.spelled in
     let within = head.within in
     let at : ℕ = 132 + length group in
@@ -306,7 +313,7 @@ can_build file meta coding set h shows_group shows ascends =
     let is : whole.trees ≡ set = same_trees whole.trees set (sym whole.is) in
     let can = set_can coding coding.syntax 0 set rest [] (ends ∷ []) (inl refl)
     (subst (λ (x : Trees). TreesAt coding.syntax x rest []) is whole.spelled) rest_bytes
-    (subst (λ (x : Trees). Fine (target_heads Little) 0 (trees_then coding.syntax x (ends ∷ []))) is fine) shows in
+    (subst (λ (x : Trees). Fine (target_heads Little) 0 (trees_then coding.syntax x (ends ∷ []))) is fine) units in
     record {
       group = head.of_meta;
       size = omega (arith, takes, within);
@@ -318,6 +325,6 @@ can_build file meta coding set h shows_group shows ascends =
       stands = can.0.0.1;
     }
 
-pub file_builds : (limit : ℕ) (file : List ℕ) (meta : Meta) (coding : Coding) (set : Trees) → FileRead file meta coding set → ShowsWhole meta.elements → ShowsWhole set → Ascend None set
+pub file_builds : (limit : ℕ) (file : List ℕ) (meta : Meta) (coding : Coding) (set : Trees) → limit ≤ GREATEST_LIMIT → FileRead file meta coding set → WholeUnits meta.elements → WholeUnits set → Ascend None set
     → FitsLines limit (full_dump meta.elements set) → BuildsFile limit (full_dump meta.elements set) meta.elements coding set
-file_builds limit file meta coding set h shows_group shows ascends fits = dump_builds limit meta.elements coding set (can_build file meta coding set h shows_group shows ascends) fits
+file_builds limit file meta coding set allowed h units_group units ascends fits = dump_builds limit meta.elements coding set allowed (can_build file meta coding set h units_group units ascends) fits

@@ -6,12 +6,14 @@ use Rattle.std.proofs.lemmas.Bool.Decides.{nat_tests}
 use Rattle.std.proofs.lemmas.List.{append-nil, reverse-append, reverse-reverse}
 use Rattle.std.proofs.lemmas.List.Folds.{list_all-append}
 use Rattle.dcm_base.specs.Line.{Step, nothing, means}
-use Rattle.dcm_base.specs.Build.{Built, Progress, lines, more_lines, with_line, moved, with_meaning, without_return, without_return_reversed}
-use Rattle.dcm_build.specs.DumpBuilds.{AllWithin}
-use Rattle.dcm_build.specs.DumpLines.{joined, ArePrinted, EachMeans, TextMeans}
+use Rattle.dcm_base.specs.declared.mode.Mode.TheVariants.{Full}
+use Rattle.dcm_base.specs.Tree.{Trees}
+use Rattle.dcm_base.specs.Dump.{dump_set}
+use Rattle.dcm_base.specs.Build.{Built, Progress, Lines, lines, lines_of, more_lines, with_line, moved, with_meaning, without_return, without_return_reversed}
+use Rattle.dcm_build.specs.DumpLines.{set_steps, joined, GREATEST_LIMIT, AllWithin, ArePrinted, EachMeans, TextMeans, SetReadsBack}
 use Rattle.dcm_build.specs.StepsBuild.{Leads}
-use Rattle.dcm_build.proofs.BuildLines.{lines_from, run_lines, line_means}
-use Rattle.dcm_build.proofs.DumpLines.{joined_both, printed_both}
+use Rattle.dcm_build.proofs.BuildLines.{lines_from, lines_are, run_lines, line_means}
+use Rattle.dcm_build.proofs.DumpLines.{joined_both, printed_both, first_within, rest_within, ShortMeans, set_means}
 
 abbrev pub is_printed : List ℕ → Bool
 is_printed line = list_all (λ c. nat_le 32 c) line
@@ -32,26 +34,27 @@ by_steps [] (s ∷ steps) b c h k = absurd h
 by_steps (l ∷ ls) [] b c h k = absurd h
 by_steps (l ∷ ls) (s ∷ steps) b c h k = (k.0, ap (λ m. with_meaning m b) h.0 ∙ k.1, by_steps ls steps k.0 c h.1 k.2)
 
+-- a text is lines that lead from one state to another, where none of them is too long
 pub record TextLeads (text : List ℕ) (b c : Built) : Type 0 where
   pub its_lines : List (List ℕ)
   pub is : text ≡ joined its_lines
   pub printed : ArePrinted its_lines
-  pub leads : LinesLead its_lines b c
+  pub leads : AllWithin GREATEST_LIMIT its_lines → LinesLead its_lines b c
 
-pub text_leads : (text : List ℕ) (steps : List Step) (b c : Built) → TextMeans text steps → Leads steps b c → TextLeads text b c
-text_leads text steps b c h k = record { its_lines = h.lines; is = h.is; printed = h.printed; leads = by_steps h.lines steps b c h.mean k }
+pub text_leads : (text : List ℕ) (steps : List Step) (b c : Built) → ShortMeans text steps → Leads steps b c → TextLeads text b c
+text_leads text steps b c h k = record { its_lines = h.lines; is = h.is; printed = h.printed; leads = λ w. by_steps h.lines steps b c (h.mean w) k }
 
 pub texts_lead : (x y : List ℕ) (b c d : Built) → TextLeads x b c → TextLeads y c d → TextLeads (x ++ y) b d
 texts_lead x y b c d h k = record {
   its_lines = h.its_lines ++ k.its_lines;
   is = ap (λ (z : List ℕ). z ++ y) h.is ∙ ap (λ (z : List ℕ). joined h.its_lines ++ z) k.is ∙ sym (joined_both h.its_lines k.its_lines);
   printed = printed_both h.its_lines k.its_lines h.printed k.printed;
-  leads = lead_both h.its_lines k.its_lines b c d h.leads k.leads;
+  leads = λ w. lead_both h.its_lines k.its_lines b c d (h.leads (first_within GREATEST_LIMIT h.its_lines k.its_lines w)) (k.leads (rest_within GREATEST_LIMIT h.its_lines k.its_lines w));
 }
 
 -- a line that shows nothing
 pub silent_line : (line : List ℕ) (b : Built) → is_printed line ≡ true → means line ≡ nothing → TextLeads (line ++ 10 ∷ []) b b
-silent_line line b h e = record { its_lines = line ∷ []; is = refl; printed = (h, tt); leads = (b, ap (λ m. with_meaning m b) e, refl) }
+silent_line line b h e = record { its_lines = line ∷ []; is = refl; printed = (h, tt); leads = λ w. (b, ap (λ m. with_meaning m b) e, refl) }
 
 -- ---- the lines of a text
 
@@ -79,9 +82,17 @@ line_ends before (c ∷ cs) rest h =
     ∙ line_ends (before ++ c ∷ []) cs rest (others_printed c cs h)
     ∙ ap (λ (l : List ℕ). more_lines l (lines_from [] rest)) (append_assoc before (c ∷ []) cs)
 
-pub lines_of_joined : (ls : List (List ℕ)) → ArePrinted ls → lines_from [] (joined ls) ≡ lines ls []
+lines_of_joined : (ls : List (List ℕ)) → ArePrinted ls → lines_from [] (joined ls) ≡ lines ls []
 lines_of_joined [] h = refl
 lines_of_joined (l ∷ ls) h = line_ends [] l (joined ls) h.0 ∙ ap (more_lines l) (lines_of_joined ls h.1)
+
+pub lines_of_text : (text : List ℕ) (ls : List (List ℕ)) → text ≡ joined ls → ArePrinted ls → lines_of text ≡ lines ls []
+lines_of_text text ls is h = lines_are text ∙ ap (lines_from []) is ∙ lines_of_joined ls h
+
+pub lines_mean : (level : ℕ) (set : Trees) → SetReadsBack set → AllWithin GREATEST_LIMIT (lines_of (dump_set Full level set)).ended → TextMeans (dump_set Full level set) (set_steps set)
+lines_mean level set h w =
+    let m = set_means level set h in
+    record { lines = m.lines; is = m.is; printed = m.printed; mean = m.mean (subst (λ (l : Lines). AllWithin GREATEST_LIMIT l.ended) (lines_of_text (dump_set Full level set) m.lines m.is m.printed) w) }
 
 -- ---- no carriage return
 

@@ -7,7 +7,7 @@ use Rattle.dcm_base.specs.declared.vr.Vr.TheVariants.{OB}
 use Rattle.dcm_base.specs.Number.{AreBytes, HasLength, IsLength, IsTag}
 use Rattle.dcm_base.specs.Representation.{is_sequence}
 use Rattle.dcm_base.specs.Tree.{Trees, no_tree, leaf, sequence, fragments, Items, no_item, item}
-use Rattle.dcm_base.specs.ValueText.{display, shown_unit}
+use Rattle.dcm_base.specs.ValueText.{shown_unit}
 use Rattle.dcm_base.specs.ReadValue.{value_shown}
 use Rattle.dcm_base.specs.Line.{Step, show_leaf, begin_sequence, begin_fragments, begin_item, show_fragment, end_item, end_sequence, one, means, may_be_sequence, may_be_fragments}
 
@@ -35,6 +35,15 @@ abbrev pub joined : List (List ℕ) → List ℕ
 joined [] = []
 joined (line ∷ lines) = line ++ 10 ∷ joined lines
 
+-- the greatest limit that the lines of a dump may have
+abbrev pub GREATEST_LIMIT : ℕ
+GREATEST_LIMIT = 16384
+
+-- none of these lines passes a limit
+abbrev pub AllWithin : ℕ → List (List ℕ) → Type 0
+AllWithin limit [] = Unit {0}
+AllWithin limit (line ∷ lines) = (length line ≤ limit) × AllWithin limit lines
+
 -- none holds a control
 abbrev pub ArePrinted : List (List ℕ) → Type 0
 ArePrinted [] = Unit {0}
@@ -54,18 +63,17 @@ pub record TextMeans (text : List ℕ) (steps : List Step) : Type 0 where
   pub printed : ArePrinted lines
   pub mean : EachMeans lines steps
 
--- ---- data sets whose full dump can be read back
+-- ---- data sets whose full dump can be read back, where none of its lines is too long
 
 abbrev pub IsElement : Tag → Type 0
 IsElement tag = IsTag tag × (tag.group ≢ 0xFFFE)
 
--- a value of whole units, whose text is no longer than the longest line
+-- a value of whole units
 pub record ReadsBack (vr : Vr) (value : List ℕ) : Type 0 where
   pub no_sequence : is_sequence vr ≡ false
   pub bytes : AreBytes value
   pub size : IsLength (length value)
   pub units : length value % shown_unit vr ≡ 0
-  pub text : length (display vr value) ≤ 16384
 
 abbrev pub AllReadBack : List (List ℕ) → Type 0
 AllReadBack [] = Unit {0}

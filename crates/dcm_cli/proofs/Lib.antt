@@ -12,3 +12,6 @@ pub mod Lines
 pub mod LinesGrow
 pub mod Files
 pub mod Sures
+pub mod OwnSyntax
+pub mod OneSource
+pub mod DumpBuilds

@@ -88,7 +88,7 @@ alone_grows mode s p later out a sure x =
 apart : (m n : ℕ) → m < n → nat_eq m n ≡ true → ⊥
 apart m n less e = grind (arith, nat_tests, less, e)
 
-begun_alike : (m n : Meta) (group others : List ℕ) (coding other : Coding) → begins m group coding ≡ begins n others other → (m ≡ n) × (group ≡ others) × (coding ≡ other)
+pub begun_alike : (m n : Meta) (group others : List ℕ) (coding other : Coding) → begins m group coding ≡ begins n others other → (m ≡ n) × (group ≡ others) × (coding ≡ other)
 begun_alike m n group others coding other e = (cc, cc, cc)
 
 -- a head that two bytes have ended stays

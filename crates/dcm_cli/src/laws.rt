@@ -1,10 +1,18 @@
 //! Laws of the definitions. Each function takes nothing and makes no call: its contract is the law.
 ghost use Rattle.dcm_words.specs.declared.job.Job.{Job};
 ghost use Rattle.dcm_cli.specs.Answer.{Answer, Answers, Sure};
+ghost use Rattle.dcm_cli.specs.DumpBuilds.{DumpBuilds};
 ghost use Rattle.dcm_words.specs.Plans.{job_of};
 ghost use Rattle.std.specs.Prelude.{◌++◌, ◌≡◌, List, ℕ};
 
 /// What is sure of a beginning of an input is a beginning of the output for every input that begins so.
 pub fn sure_grows()
     ensures { (job : Job) (p later out : List ℕ) (a : Answer) → Sure (job_of job) p out → Answers (job_of job) (p ++ later) a → (rest : List ℕ) × (a.output ≡ out ++ rest) }
+{}
+
+/// Two runs in a row: the full dump of a file, and what it builds. Where the file is read without fault, its values are of whole
+/// units, the tags of each of its data sets ascend, and no line of the dump passes the limit, the second run ends with status 0,
+/// and its output is that of a conversion to the file's own transfer syntax, but for the first 128 bytes, which are 0.
+pub fn dump_builds_runs()
+    ensures { DumpBuilds }
 {}

@@ -3,6 +3,7 @@ mod command_lines;
 mod conversions;
 mod failing;
 mod nested;
+mod rebuilt;
 mod rows;
 
 use buildings::buildings;

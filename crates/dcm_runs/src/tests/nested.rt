@@ -75,13 +75,19 @@ fn sixty_four_sequences(rt: HostRuntime) -> Result<(), Fail> {
     Ok(())
 }
 
-#[test]
-fn sixty_four_sequences_kept(rt: HostRuntime) -> Result<(), Fail> {
+/// A file of 64 sequences, all of them closed.
+pub fn sixty_four(rt: HostRuntime) -> Result<Vec<u8>, Fail> {
     let mut file = nested(rt, b"")?;
     for _ in 0..DEPTH {
         file.extend_from_slice(ITEM_END)?;
         file.extend_from_slice(SEQUENCE_END)?;
     }
+    Ok(file)
+}
+
+#[test]
+fn sixty_four_sequences_kept(rt: HostRuntime) -> Result<(), Fail> {
+    let file = sixty_four(rt)?;
     for step in STEPS {
         let answer = over_memory(rt, "dcmconv - -", file.as_slice(), step, 60_000)?;
         assert_eq!(rt; answer.status, 0);

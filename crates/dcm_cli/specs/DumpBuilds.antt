@@ -1,0 +1,38 @@
+-- What two runs make of a file, one after the other: its full dump, and the file that this builds.
+use Rattle.std.specs.Prelude.{◌≡◌, ◌≤◌, ℕ, List, [], ◌++◌, drop, replicate, None}
+use Rattle.dcm_base.specs.declared.syntax.Coding.{Coding}
+use Rattle.dcm_base.specs.declared.mode.Mode.TheVariants.{Full}
+use Rattle.dcm_base.specs.Ascending.{Ascend}
+use Rattle.dcm_base.specs.MetaReads.{Meta}
+use Rattle.dcm_base.specs.Normal.{whole_front}
+use Rattle.dcm_base.specs.Number.{AreBytes}
+use Rattle.dcm_base.specs.Stop.{complete}
+use Rattle.dcm_base.specs.Tree.{Trees}
+use Rattle.dcm_build.specs.DumpBuilds.{FitsLines, WholeUnits}
+use Rattle.dcm_words.specs.Words.{GREATEST_LIMIT, dump, convert, build}
+use Rattle.dcm_cli.specs.Answer.{Answer, Answers, FileReads, file as a_file}
+
+-- a file that is read without fault, whose values are of whole units, and where the tags of each data set ascend without repeats
+pub record CanBeBuilt (file : List ℕ) : Type 0 where
+  pub bytes : AreBytes file
+  pub meta : Meta
+  pub coding : Coding
+  pub set : Trees
+  pub reads : FileReads (dump Full None) file (a_file meta coding (whole_front set) complete)
+  pub units_of_group : WholeUnits meta.elements
+  pub units : WholeUnits set
+  pub ascends : Ascend None set
+
+-- a file is built without fault: the one that is converted, with a preamble of zeros
+pub record BuildsWhatConverts (built converted : Answer) : Type 0 where
+  pub status : built.status ≡ 0
+  pub told : built.told ≡ []
+  pub output : built.output ≡ replicate 128 0 ++ drop 128 converted.output
+
+-- where no line of its full dump passes the limit, that dump builds what a conversion to the file's own transfer syntax writes
+abbrev pub DumpBuilds : Type 0
+DumpBuilds =
+    (limit : ℕ) (file : List ℕ) (dumped built converted : Answer) → limit ≤ GREATEST_LIMIT → CanBeBuilt file
+    → Answers (dump Full None) file dumped → FitsLines limit dumped.output
+    → Answers (build limit) dumped.output built → Answers (convert None) file converted
+    → BuildsWhatConverts built converted

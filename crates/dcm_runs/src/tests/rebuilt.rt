@@ -1,0 +1,294 @@
+// Files that are dumped in full, and built again of their dumps.
+use super::nested::sixty_four;
+use super::rows::{Start, bytes_of, header_of};
+use super::{Answer, STEPS, joined, over_memory, over_std};
+use std::process::Abort;
+use std::test::Fail;
+
+/// A file, and what its dump builds: its start, and the bytes after that.
+#[derive(Clone, Copy)]
+struct File {
+    name: &'static str,
+    start: Start,
+    input: &'static [u8],
+    built: &'static [u8],
+}
+
+const FILES: [File; 17] = [
+    File {
+        name: "no elements",
+        start: Start::ExplicitLittle,
+        input: b"",
+        built: b"",
+    },
+    File {
+        name: "a name",
+        start: Start::ExplicitLittle,
+        input: b"\x10\0\x10\0PN\x06\0AB^CD ",
+        built: b"\x10\0\x10\0PN\x06\0AB^CD ",
+    },
+    File {
+        name: "an odd text",
+        start: Start::ExplicitLittle,
+        input: b"\x10\0\0@LT\x01\0 ",
+        built: b"\x10\0\0@LT\x02\0  ",
+    },
+    File {
+        name: "three values and an escape",
+        start: Start::ExplicitLittle,
+        input: b"\x08\0p\0LO\x06\0a\\b\\c\n",
+        built: b"\x08\0p\0LO\x06\0a\\b\\c\n",
+    },
+    File {
+        name: "an unknown tag in implicit",
+        start: Start::Implicit,
+        input: b"\x09\0\x01\x10\x02\0\0\0AB",
+        built: b"\x09\0\x01\x10\x02\0\0\0AB",
+    },
+    File {
+        name: "an empty sequence",
+        start: Start::ExplicitLittle,
+        input: b"\x08\0@\x11SQ\0\0\0\0\0\0",
+        built: b"\x08\0@\x11SQ\0\0\xff\xff\xff\xff\xfe\xff\xdd\xe0\0\0\0\0",
+    },
+    File {
+        name: "a sequence and an item of known length",
+        start: Start::ExplicitLittle,
+        input: b"\x08\0@\x11SQ\0\0\xff\xff\xff\xff\xfe\xff\0\xe0\x0c\0\0\0\x08\0U\x11UI\x04\01.2\0\xfe\xff\xdd\xe0\0\0\0\0",
+        built: b"\x08\0@\x11SQ\0\0\xff\xff\xff\xff\xfe\xff\0\xe0\xff\xff\xff\xff\x08\0U\x11UI\x04\01.2\0\xfe\xff\r\xe0\0\0\0\0\xfe\xff\xdd\xe0\0\0\0\0",
+    },
+    File {
+        name: "fragments",
+        start: Start::Jpeg,
+        input: b"\xe0\x7f\x10\0OB\0\0\xff\xff\xff\xff\xfe\xff\0\xe0\0\0\0\0\xfe\xff\0\xe0\x02\0\0\0\xff\xd8\xfe\xff\xdd\xe0\0\0\0\0",
+        built: b"\xe0\x7f\x10\0OB\0\0\xff\xff\xff\xff\xfe\xff\0\xe0\0\0\0\0\xfe\xff\0\xe0\x02\0\0\0\xff\xd8\xfe\xff\xdd\xe0\0\0\0\0",
+    },
+    File {
+        name: "fragments in a native syntax",
+        start: Start::ExplicitLittle,
+        input: b"\xe0\x7f\x10\0OB\0\0\xff\xff\xff\xff\xfe\xff\0\xe0\0\0\0\0\xfe\xff\0\xe0\x02\0\0\0\xff\xd8\xfe\xff\xdd\xe0\0\0\0\0",
+        built: b"\xe0\x7f\x10\0OB\0\0\xff\xff\xff\xff\xfe\xff\0\xe0\0\0\0\0\xfe\xff\0\xe0\x02\0\0\0\xff\xd8\xfe\xff\xdd\xe0\0\0\0\0",
+    },
+    File {
+        name: "words",
+        start: Start::ExplicitLittle,
+        input: b"\xe0\x7f\x10\0OW\0\0\x04\0\0\0\x01\x02\x03\x04",
+        built: b"\xe0\x7f\x10\0OW\0\0\x04\0\0\0\x01\x02\x03\x04",
+    },
+    File {
+        name: "unknown of undefined length in big endian",
+        start: Start::Big,
+        input: b"\0\x09\x10\x10UN\0\0\xff\xff\xff\xff\xfe\xff\0\xe0\xff\xff\xff\xff\x10\0\x10\0\x02\0\0\0AB\xfe\xff\r\xe0\0\0\0\0\xfe\xff\xdd\xe0\0\0\0\0",
+        built: b"\0\x09\x10\x10SQ\0\0\xff\xff\xff\xff\xff\xfe\xe0\0\xff\xff\xff\xff\0\x10\0\x10PN\0\x02AB\xff\xfe\xe0\r\0\0\0\0\xff\xfe\xe0\xdd\0\0\0\0",
+    },
+    File {
+        name: "a tag",
+        start: Start::ExplicitLittle,
+        input: b"(\0\x09\0AT\x04\0\x18\0c\x10",
+        built: b"(\0\x09\0AT\x04\0\x18\0c\x10",
+    },
+    File {
+        name: "a number of eight bytes",
+        start: Start::ExplicitLittle,
+        input: b"\x18\0\x87\x90FD\x08\0\0\0\0\0\0@\x8f@",
+        built: b"\x18\0\x87\x90FD\x08\0\0\0\0\0\0@\x8f@",
+    },
+    File {
+        name: "a signed number",
+        start: Start::ExplicitLittle,
+        input: b"\x09\0\x01\x10SS\x02\0\xff\xff",
+        built: b"\x09\0\x01\x10SS\x02\0\xff\xff",
+    },
+    File {
+        name: "a long number",
+        start: Start::ExplicitLittle,
+        input: b"\x09\0\x01\x10UV\0\0\x08\0\0\0\x02\x01\0\0\0\0\0\0",
+        built: b"\x09\0\x01\x10UV\0\0\x08\0\0\0\x02\x01\0\0\0\0\0\0",
+    },
+    File {
+        name: "a long signed number",
+        start: Start::ExplicitLittle,
+        input: b"\x09\0\x01\x10SV\0\0\x08\0\0\0\xff\xff\xff\xff\xff\xff\xff\xff",
+        built: b"\x09\0\x01\x10SV\0\0\x08\0\0\0\xff\xff\xff\xff\xff\xff\xff\xff",
+    },
+    File {
+        name: "very long words",
+        start: Start::ExplicitLittle,
+        input: b"\x09\0\x01\x10OV\0\0\x08\0\0\0\x01\x02\x03\x04\x05\x06\x07\x08",
+        built: b"\x09\0\x01\x10OV\0\0\x08\0\0\0\x01\x02\x03\x04\x05\x06\x07\x08",
+    },
+];
+
+/// All files.
+fn files() -> &'static [File] {
+    &FILES
+}
+
+/// What a run reads and writes.
+#[derive(Clone, Copy, PartialEq, Eq)]
+enum Devices {
+    Memory,
+    Std,
+}
+
+/// More than any of these runs writes.
+const ROOM: usize = 60_000;
+
+fn over(
+    rt: HostRuntime,
+    devices: Devices,
+    words: &'static str,
+    input: &[u8],
+    step: usize,
+) -> Result<Answer, Fail> {
+    match devices {
+        Devices::Memory => over_memory(rt, words, input, step, ROOM),
+        Devices::Std => over_std(rt, words, input, step),
+    }
+}
+
+/// A run without fault, and its output.
+fn output_of(
+    rt: HostRuntime,
+    abort: &impl Abort,
+    devices: Devices,
+    words: &'static str,
+    input: &[u8],
+    step: usize,
+) -> Result<Vec<u8>, Fail> {
+    let answer = over(rt, devices, words, input, step)?;
+    assert_eq!(abort; answer.status, 0, "{words}");
+    assert!(abort; answer.told.is_empty(), "{words}");
+    Ok(answer.output)
+}
+
+/// A file, what its dump builds, and what a conversion to its own transfer syntax writes.
+fn expect_rebuilt(
+    rt: HostRuntime,
+    abort: &impl Abort,
+    name: &str,
+    file: &[u8],
+    built: &[u8],
+    converted: &[u8],
+) -> Result<(), Fail> {
+    for step in STEPS {
+        for devices in [Devices::Memory, Devices::Std] {
+            let dump = output_of(rt, abort, devices, "dcmdump +L -", file, step)?;
+            let answer = output_of(
+                rt,
+                abort,
+                devices,
+                "dump2dcm +l 16384 - -",
+                dump.as_slice(),
+                step,
+            )?;
+            assert!(abort; answer.as_slice() == built, "{name}");
+            let answer = output_of(rt, abort, devices, "dcmconv - -", file, step)?;
+            assert!(abort; answer.as_slice() == converted, "{name}");
+        }
+    }
+    Ok(())
+}
+
+#[test]
+fn files_are_rebuilt(rt: HostRuntime) -> Result<(), Fail> {
+    for file in files() {
+        let input = joined(rt, bytes_of(file.start), file.input)?;
+        let built = joined(rt, bytes_of(file.start), file.built)?;
+        expect_rebuilt(
+            rt,
+            &rt,
+            file.name,
+            input.as_slice(),
+            built.as_slice(),
+            built.as_slice(),
+        )?;
+    }
+    Ok(())
+}
+
+/// A meta group of three elements, the preamble of which holds other bytes than zeros.
+const OTHER_PREAMBLE: &[u8] =
+    b"AAAAAAAAAAAAAAAAAAAAAAAAAAAAAAAAAAAAAAAAAAAAAAAAAAAAAAAAAAAAAAAAAAAAAAAAAAAAAAAAAAAAAAAAAAAAAAAAAAAAAAAAAAAAAAAAAAAAAAAAAAAAAAAA";
+
+const ZEROS: &[u8] =
+    b"\0\0\0\0\0\0\0\0\0\0\0\0\0\0\0\0\0\0\0\0\0\0\0\0\0\0\0\0\0\0\0\0\0\0\0\0\0\0\0\0\0\0\0\0\0\0\0\0\0\0\0\0\0\0\0\0\0\0\0\0\0\0\0\0\0\0\0\0\0\0\0\0\0\0\0\0\0\0\0\0\0\0\0\0\0\0\0\0\0\0\0\0\0\0\0\0\0\0\0\0\0\0\0\0\0\0\0\0\0\0\0\0\0\0\0\0\0\0\0\0\0\0\0\0\0\0\0\0";
+
+const BEHIND_PREAMBLE: &[u8] =
+    b"DICM\x02\0\0\0UL\x04\0*\0\0\0\x02\0\x01\0OB\0\0\x02\0\0\0\0\x01\x02\0\x10\0UI\x14\01.2.840.10008.1.2.1\0\x10\0\x10\0PN\x06\0AB^CD ";
+
+#[test]
+fn a_preamble_is_not_rebuilt(rt: HostRuntime) -> Result<(), Fail> {
+    let file = joined(rt, OTHER_PREAMBLE, BEHIND_PREAMBLE)?;
+    let built = joined(rt, ZEROS, BEHIND_PREAMBLE)?;
+    expect_rebuilt(
+        rt,
+        &rt,
+        "a preamble",
+        file.as_slice(),
+        built.as_slice(),
+        file.as_slice(),
+    )
+}
+
+#[test]
+fn sixty_four_sequences_are_rebuilt(rt: HostRuntime) -> Result<(), Fail> {
+    let file = sixty_four(rt)?;
+    expect_rebuilt(
+        rt,
+        &rt,
+        "64 sequences",
+        file.as_slice(),
+        file.as_slice(),
+        file.as_slice(),
+    )
+}
+
+/// A value that ends within a number: the dump has its whole numbers alone.
+#[test]
+fn a_byte_behind_numbers_is_not_rebuilt(rt: HostRuntime) -> Result<(), Fail> {
+    let file = joined(
+        rt,
+        bytes_of(Start::Big),
+        b"\0(\0\x10US\0\x05\0\x01\x02\0\x05",
+    )?;
+    let built = joined(rt, bytes_of(Start::Big), b"\0(\0\x10US\0\x04\0\x01\x02\0")?;
+    let converted = joined(
+        rt,
+        bytes_of(Start::Big),
+        b"\0(\0\x10US\0\x06\0\x01\x02\0\x05\0",
+    )?;
+    expect_rebuilt(
+        rt,
+        &rt,
+        "a byte behind numbers",
+        file.as_slice(),
+        built.as_slice(),
+        converted.as_slice(),
+    )
+}
+
+/// The longest value of a short form, which no line holds.
+const LETTERS: usize = 65_535;
+
+#[test]
+fn a_long_line_is_refused(rt: HostRuntime) -> Result<(), Fail> {
+    let mut file = joined(rt, bytes_of(Start::Implicit), b"\x10\0\0@\xff\xff\0\0")?;
+    for _ in 0..LETTERS {
+        file.push(b'a')?;
+    }
+    for step in STEPS {
+        let dump = output_of(rt, &rt, Devices::Std, "dcmdump +L -", file.as_slice(), step)?;
+        assert!(rt; dump.as_slice().starts_with(header_of(Start::Implicit)));
+        for devices in [Devices::Memory, Devices::Std] {
+            let answer = over(rt, devices, "dump2dcm +l 16384 - -", dump.as_slice(), step)?;
+            assert_eq!(rt; answer.status, 2);
+            assert!(rt; answer.output.is_empty());
+            assert!(rt;
+                answer.told.as_slice()
+                    == b"dcmtools: B1 at byte 338, line 10: line too long\n".as_slice()
+            );
+        }
+    }
+    Ok(())
+}
