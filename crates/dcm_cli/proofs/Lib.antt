@@ -11,4 +11,5 @@ pub mod Rans
 pub mod Lines
 pub mod LinesGrow
 pub mod Files
+pub mod Opens
 pub mod Sures

@@ -5,3 +5,4 @@ pub mod SinkPass
 pub mod Lines
 pub mod Run
 pub mod Devices
+pub mod Opening
