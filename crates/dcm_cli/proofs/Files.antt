@@ -12,7 +12,7 @@ use Rattle.dcm_base.specs.Device.{AppendsFront}
 use Rattle.dcm_base.specs.Dump.{dump_front}
 use Rattle.dcm_base.specs.Header.{set_header, meta_header}
 use Rattle.dcm_base.specs.Front.{Front}
-use Rattle.dcm_base.specs.Stop.{Stop, complete}
+use Rattle.dcm_base.specs.Stop.{Stop, complete, refused as stop_refused}
 use Rattle.dcm_base.specs.MetaReads.{Meta, MetaReads, refused, PREFIX}
 use Rattle.dcm_base.specs.NewMeta.{new_meta}
 use Rattle.dcm_base.specs.Recode.{recode}
@@ -28,11 +28,11 @@ use Rattle.dcm_cli.specs.declared.ending.Ending.TheVariants as endings
 use Rattle.dcm_cli.specs.declared.ending.Ending.TheVariants.{Unread, Output}
 use Rattle.dcm_cli.specs.declared.ending.HeadEnding.{HeadEnding}
 use Rattle.dcm_cli.specs.declared.ending.HeadEnding.TheVariants as heads
-use Rattle.dcm_cli.specs.declared.ending.Verdict.TheVariants.{Refused}
+use Rattle.dcm_cli.specs.declared.ending.Verdict.TheVariants.{Done, Refused}
 use Rattle.dcm_cli.specs.declared.head.Begun.{Begun}
-use Rattle.dcm_cli.specs.Pass.{Begins, FailsHead, BehindBegun, WasRead, head_read, set_bytes, ending_of_head}
+use Rattle.dcm_cli.specs.Pass.{Begins, FailsHead, BehindBegun, WasRead, head_read, set_bytes, ending_of_head, with_unplaced}
 use Rattle.dcm_cli.specs.Answer.{edits_of, Source, file as of_file, unopened, going_on, job_bar, refuses_change, target_syntax, target_uid, file_output, output_of, Sure, FileReads, FileSure, not_opened as was_not_opened, not_changed, opened as was_opened, before_set, within_set}
-use Rattle.dcm_cli.specs.Run.{Answered, Worked, answered, could_not_read, could_not_write, verdict_of_source, verdict_of_stop, verdict_at}
+use Rattle.dcm_cli.specs.Run.{Answered, Worked, answered, could_not_read, could_not_write, verdict_of_source, verdict_of_stop, verdict_at, unplaced_mask}
 use Rattle.dcm_cli.proofs.Alone.{splits}
 use Rattle.dcm_cli.proofs.Makers.{Maker, dumper, encoder}
 use Rattle.dcm_cli.proofs.Sets.{SetMade, set_read, set_unread, set_unwritten, Last, set_made, all_read, none_left, no_edits}
@@ -161,6 +161,18 @@ module _ (job : Job) (is_file : reads_file job ≡ true) (file : List ℕ) (afte
       pub done : (f : Front) (stop : Stop) → SetReads (drop start file) f stop → (stop ≡ complete → LastOf t f) → passed ≡ endings.Worked (verdict_of_stop stop) → ending ≡ endings.Worked (verdict_at job f stop)
       pub not_read : (count : ℕ) → passed ≡ Unread count → ending ≡ Unread count
       pub not_written : passed ≡ Output → ending ≡ Output
+
+    -- of a job whose sink says which of its edits found no place
+    pub concludes_unplaced : (t : k.maker.State) (passed : Ending) (mask : ℕ) → ((f : Front) → SetReads (drop start file) f complete → LastOf t f → mask ≡ unplaced_mask (edits_of job) f) → Concludes t passed (with_unplaced passed mask)
+    concludes_unplaced t passed mask mask_is = record {
+      done = by_stop;
+      not_read = λ count is. ap (λ (x : Ending). with_unplaced x mask) is;
+      not_written = λ is. ap (λ (x : Ending). with_unplaced x mask) is;
+    }
+      where
+        by_stop : (f : Front) (stop : Stop) → SetReads (drop start file) f stop → (stop ≡ complete → LastOf t f) → passed ≡ endings.Worked (verdict_of_stop stop) → with_unplaced passed mask ≡ endings.Worked (verdict_at job f stop)
+        by_stop f complete reads last is = ap (λ (x : Ending). with_unplaced x mask) is ∙ ap (λ (m : ℕ). endings.Worked (Done m)) (mask_is f reads (last refl))
+        by_stop f (stop_refused fault offset) reads last is = ap (λ (x : Ending). with_unplaced x mask) is
 
     -- of a job that makes no edits
     pub concludes_same : edits_of job ≡ [] → (t : k.maker.State) (ending : Ending) → Concludes t ending ending

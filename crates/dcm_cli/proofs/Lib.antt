@@ -11,6 +11,7 @@ pub mod Rans
 pub mod Lines
 pub mod LinesGrow
 pub mod Files
+pub mod Opens
 pub mod Sures
 pub mod OwnSyntax
 pub mod OneSource

@@ -1,5 +1,5 @@
 -- The lines and the status of edits that found no place, by their mask.
-use Rattle.std.proofs.Common.{◌≡◌, ◌∙◌, ap, sym, subst, ℕ, zero, suc, ◌+◌, ◌-◌, ◌*◌, ◌/◌, ◌%◌, ◌<◌, ◌≤◌, ◌^◌, List, [], ◌∷◌, ◌++◌, append_assoc, Bool, true, false, Option, refl, arith, inl, inr}
+use Rattle.std.proofs.Common.{◌≡◌, ◌∙◌, ap, sym, subst, ℕ, zero, suc, ◌+◌, ◌-◌, ◌*◌, ◌/◌, ◌%◌, ◌<◌, ◌≤◌, ◌^◌, List, [], ◌∷◌, ◌++◌, append_assoc, length, Bool, true, false, Option, refl, arith, inl, inr}
 use Rattle.std.specs.Prelude.{Result, Ok, Err, is_err, ◌==◌, if◌then◌else◌}
 use Rattle.std.specs.Io.KnownBytes.{append_known}
 use native.Mathlib.Numerals.{unary_clauses}
@@ -73,6 +73,23 @@ lines_of_mask (suc count) n (e ∷ edits) set short =
     let rest = unplaced_mask edits set in
     bit_lines (found e set) count n rest ((if found e set then 0 else 1) + 2 * rest) refl
     ∙ line_on (found e set) n (mask_lines count (suc n) rest) (unplaced_lines (suc n) edits set) (lines_of_mask count (suc n) edits set (below_half (found e set) rest (2 ^ count) (subst (λ (power : ℕ). (if found e set then 0 else 1) + 2 * rest < power) (twice_power count) short)))
+
+-- so many edits have a mask of so many bits
+some_power : (count : ℕ) → 0 < 2 ^ count
+some_power zero = omega arith
+some_power (suc count) = let less = some_power count in subst (λ (power : ℕ). 0 < power) (sym (twice_power count)) (omega (arith, less))
+
+bit_more : (bit : Bool) (rest power : ℕ) → rest < power → (if bit then 0 else 1) + 2 * rest < power * 2
+bit_more true rest power h = omega (arith, h)
+bit_more false rest power h = omega (arith, h)
+
+pub few_edits : (count : ℕ) (edits : List Edit) (set : Front) → length edits ≤ count → unplaced_mask edits set < 2 ^ count
+unfolding unplaced_mask
+few_edits count [] set few = some_power count
+few_edits zero (e ∷ edits) set few = absurd (omega (arith, few))
+few_edits (suc count) (e ∷ edits) set few =
+    subst (λ (power : ℕ). (if found e set then 0 else 1) + 2 * unplaced_mask edits set < power) (sym (twice_power count))
+    (bit_more (found e set) (unplaced_mask edits set) (2 ^ count) (few_edits count edits set (omega (arith, few))))
 
 -- ---- the status
 

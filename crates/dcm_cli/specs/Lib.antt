@@ -6,3 +6,4 @@ pub mod Lines
 pub mod Run
 pub mod Devices
 pub mod DumpBuilds
+pub mod Opening

@@ -20,7 +20,7 @@ use Rattle.dcm_cli.specs.declared.ending.Ending.{Ending}
 use Rattle.dcm_cli.specs.declared.ending.Ending.TheVariants.{Worked, Unread, Output}
 use Rattle.dcm_cli.specs.declared.ending.HeadEnding.{HeadEnding}
 use Rattle.dcm_cli.specs.declared.ending.HeadEnding.TheVariants as heads
-use Rattle.dcm_cli.specs.declared.ending.Verdict.TheVariants.{Done, Refused}
+use Rattle.dcm_cli.specs.declared.ending.Verdict.TheVariants.{Done, Refused, RefusedLine}
 use Rattle.dcm_cli.specs.declared.head.Begun.{Begun}
 
 -- ---- the devices
@@ -87,6 +87,14 @@ pub record HeadReads (had left : Option (List ℕ)) (r : meta.Reading) (buffer :
   pub read : List ℕ
   pub given : had ≡ prepend_known read left
   pub outcome : HeadReadOf r buffer left read result
+
+-- the edits that found no place are those of this mask
+abbrev pub with_unplaced : Ending → ℕ → Ending
+with_unplaced (Worked (Done none)) mask = Worked (Done mask)
+with_unplaced (Worked (Refused stop)) mask = Worked (Refused stop)
+with_unplaced (Worked (RefusedLine stop)) mask = Worked (RefusedLine stop)
+with_unplaced (Unread count) mask = Unread count
+with_unplaced Output mask = Output
 
 -- ---- a data set
 

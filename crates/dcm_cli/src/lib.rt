@@ -10,6 +10,7 @@ mod head;
 pub mod laws;
 mod pass;
 mod program;
+mod rewrite;
 pub mod run;
 mod syntax;
 mod told;

@@ -1,0 +1,60 @@
+-- What the opening of a file that is written again leaves: its head was read, and was written with another transfer syntax.
+use Rattle.std.specs.Prelude.{◌≡◌, ℕ, List, ◌++◌, take, true, false, Option, Some, Result, Ok, Err}
+use Rattle.std.specs.Io.KnownBytes.{append_known, prepend_known}
+use Rattle.dcm_base.specs.declared.fault.Fault.TheVariants.{CannotChange}
+use Rattle.dcm_base.specs.declared.syntax.Coding.{Coding}
+use Rattle.dcm_base.specs.declared.syntax.Syntax.{Syntax}
+use Rattle.dcm_base.specs.Device.{AppendsFront}
+use Rattle.dcm_base.specs.MetaReads.{Meta, PREFIX}
+use Rattle.dcm_base.specs.NewMeta.{new_meta}
+use Rattle.dcm_base.specs.Tree.{Trees}
+use Rattle.dcm_words.specs.Words.{convert}
+use Rattle.dcm_head.specs.declared.meta_read.MetaEnd.TheVariants.{Ended}
+use Rattle.dcm_head.specs.MetaReading as meta
+use Rattle.dcm_head.specs.Rewriting.{OfElements}
+use Rattle.dcm_cli.specs.declared.ending.Ending.{Ending}
+use Rattle.dcm_cli.specs.declared.ending.Ending.TheVariants.{Worked, Output}
+use Rattle.dcm_cli.specs.declared.ending.HeadEnding.{HeadEnding}
+use Rattle.dcm_cli.specs.declared.ending.Verdict.TheVariants.{Refused}
+use Rattle.dcm_cli.specs.declared.head.Begun.{Begun}
+use Rattle.dcm_cli.specs.declared.rewrite.Opened.{Opened}
+use Rattle.dcm_cli.specs.Answer.{refuses_change, target_uid}
+use Rattle.dcm_cli.specs.Pass.{Begins, FailsHead, ending_of_head}
+
+-- the head of a file was read
+pub record HeadRead (had left : Option (List ℕ)) (buffer : List ℕ) (r : meta.Reading) (b : Begun) (coding : Coding) (start : ℕ) : Type 0 where
+  pub read : List ℕ
+  pub given : had ≡ prepend_known read left
+  pub begins : Begins r b buffer left read
+  pub coding_is : r.end ≡ Some (Ended coding)
+  pub start_is : start ≡ r.place
+
+-- the unique identifier of the target
+abbrev pub TargetUid : Option Syntax → meta.Reading → List ℕ → Type 0
+TargetUid target r uid = (m : Meta) → meta.uid_of r ≡ m.uid → uid ≡ target_uid target m
+
+-- what is written before the data set
+abbrev pub head_text : meta.Reading → (uid : List ℕ) → Trees → List ℕ
+head_text r uid elements = take 128 r.bytes ++ PREFIX ++ new_meta elements uid
+
+-- it was written
+pub record OpenedAs (target : Option Syntax) (had left held holds : Option (List ℕ)) (buffer : List ℕ) (o : Opened) : Type 0 where
+  pub reading : meta.Reading
+  pub uid : List ℕ
+  pub head : HeadRead had left buffer reading o.begun o.coding o.start
+  pub keeps : refuses_change (convert target) o.coding ≡ false
+  pub uid_is : TargetUid target reading uid
+  pub written : OfElements (meta.group_of reading) (λ elements. holds ≡ append_known held (head_text reading uid elements))
+
+-- or the file has no such data set, or cannot be changed, or its head was not written whole
+pub data NotOpened (target : Option Syntax) (had left held holds : Option (List ℕ)) (ending : Ending) : Type 0 where
+  no_set : (r : meta.Reading) (read : List ℕ) (head : HeadEnding) → had ≡ prepend_known read left → FailsHead r left read head → holds ≡ held → ending ≡ ending_of_head head
+      → NotOpened target had left held holds ending
+  no_change : (buffer : List ℕ) (r : meta.Reading) (b : Begun) (coding : Coding) (start : ℕ) → HeadRead had left buffer r b coding start → refuses_change (convert target) coding ≡ true
+      → holds ≡ held → ending ≡ Worked (Refused (record { fault = CannotChange; at = start })) → NotOpened target had left held holds ending
+  no_head : (buffer : List ℕ) (r : meta.Reading) (b : Begun) (coding : Coding) (start : ℕ) (uid : List ℕ) → HeadRead had left buffer r b coding start → refuses_change (convert target) coding ≡ false
+      → TargetUid target r uid → OfElements (meta.group_of r) (λ elements. AppendsFront held holds (head_text r uid elements)) → ending ≡ Output → NotOpened target had left held holds ending
+
+abbrev pub Opens : Option Syntax → (had left held holds : Option (List ℕ)) → (buffer : List ℕ) → Result Opened Ending → Type 0
+Opens target had left held holds buffer (Ok o) = OpenedAs target had left held holds buffer o
+Opens target had left held holds buffer (Err ending) = NotOpened target had left held holds ending

@@ -1,0 +1,115 @@
+// A file that is written again: what comes before its data set.
+ghost use Rattle.std.specs.Prelude.{◌≡◌, ◌≤◌, ◌<◌, ◌+◌, ◌++◌, ◌^◌, length, take, Option, IfOk, MatchResult, true};
+ghost use Rattle.std.specs.Io.KnownBytes.{IsAtEnd};
+ghost use Rattle.dcm_base.specs.declared.syntax.Syntax.{Syntax};
+ghost use Rattle.dcm_base.specs.Device.{Puts, Tells};
+ghost use Rattle.dcm_base.specs.MetaReads.{Meta as FileMeta, PREFIX as prefix};
+ghost use Rattle.dcm_base.specs.NewMeta.{new_meta};
+ghost use Rattle.dcm_words.specs.Words.{convert as convert_job};
+ghost use Rattle.dcm_head.specs.MetaReading.{HasEnded, group_of, uid_of};
+ghost use Rattle.dcm_head.specs.Rewriting.{OfElements};
+ghost use Rattle.dcm_cli.specs.Answer as answer;
+ghost use Rattle.dcm_cli.specs.Opening.{Opens};
+ghost use Rattle.dcm_cli.specs.Pass as spec;
+
+use crate::ending::{Ending, Verdict, ending_of_head};
+use crate::head::{Begun, read_head_of, set_start};
+use crate::syntax::uid_of_syntax;
+use dcm_base::{Coding, DeviceIn, DeviceOut, Fault, Stop, Syntax, Watched, WriteFailed, put_parts};
+use dcm_head::Meta;
+
+/// What stands between the preamble and the meta group (PS3.10 7.1).
+const PREFIX: &[u8] = b"DICM";
+
+/// A file whose data set is to be written again: the coding and the offset of the data set, and what was read of it.
+#[derive(Clone, Copy, Debug, PartialEq, Eq)]
+pub struct Opened {
+    pub begun: Begun,
+    pub coding: Coding,
+    pub start: u64,
+}
+
+/// Whether a file in this coding keeps its transfer syntax, and another is wanted.
+fn refuses_change(target: Option<Syntax>, coding: Coding) -> bool
+    ensures { result ≡ answer.refuses_change (convert_job target) coding }
+{
+    coding.encapsulated && target.is_some()
+}
+
+/// The syntax that is written.
+pub fn target_syntax(target: Option<Syntax>, coding: Coding) -> Syntax
+    ensures { result ≡ answer.target_syntax target coding }
+{
+    match target {
+        None => coding.syntax,
+        Some(syntax) => syntax,
+    }
+}
+
+/// The unique identifier of the transfer syntax that is written.
+fn target_uid<'m>(target: Option<Syntax>, meta: &'m Meta) -> &'m [u8]
+    requires { HasEnded meta.now.end }
+    ensures value { (m : FileMeta) → uid_of meta.now ≡ m.uid → result.now ≡ answer.target_uid target m }
+    ensures limit { length result.now < 65535 }
+{
+    match target {
+        None => meta.uid(),
+        Some(syntax) => uid_of_syntax(syntax),
+    }
+}
+
+/// Writes what stands before the data set: the preamble, the prefix, and the meta group with this transfer syntax.
+fn write_head<W: DeviceOut>(
+    meta: &Meta,
+    uid: &[u8],
+    out: &mut Watched<W>,
+) -> Result<(), WriteFailed>
+    requires ended { HasEnded meta.now.end }
+    requires uid { length uid.now < 65535 }
+    ensures bytes { OfElements (group_of meta.now) (λ elements. Puts (W.contents out.old) (W.contents out.new) (take 128 meta.now.bytes ++ prefix ++ new_meta elements uid.now) result) }
+    ensures failed { Tells (W.has_failed out.old) (W.has_failed out.new) result }
+{
+    put_parts(out, &[meta.preamble(), PREFIX])?;
+    meta.rewritten(uid, out)
+}
+
+/// Reads the head of a file, and writes it again with the transfer syntax of the target.
+pub fn open_file<R: DeviceIn, W: DeviceOut>(
+    target: Option<Syntax>,
+    input: &mut Watched<R>,
+    out: &mut Watched<W>,
+    buffer: &mut [u8],
+) -> Result<Opened, Ending>
+    requires room { 0 < length buffer.old }
+    requires bound { length buffer.old ≤ 262144 }
+    ensures opens { Opens target (R.remaining input.old) (R.remaining input.new) (W.contents out.old) (W.contents out.new) buffer.new result }
+    ensures start { IfOk result (λ o. o.start ≤ 2 ^ 62) }
+    ensures within { IfOk result (λ o. (o.begun.used ≤ o.begun.filled) × (o.begun.filled ≤ length buffer.new)) }
+    ensures count { IfOk result (λ o. o.start + length (spec.set_bytes o.begun buffer.new) ≡ o.begun.read) }
+    ensures over { IfOk result (λ o. o.begun.is_over ≡ true → IsAtEnd (R.remaining input.new)) }
+    ensures kept { length buffer.new ≡ length buffer.old }
+    ensures unread { MatchResult result (λ _. R.has_failed input.new ≡ R.has_failed input.old) (λ e. spec.TellsUnread (R.has_failed input.old) (R.has_failed input.new) e) }
+    ensures failed { MatchResult result (λ _. W.has_failed out.new ≡ W.has_failed out.old) (λ e. spec.TellsOutput (W.has_failed out.old) (W.has_failed out.new) e) }
+{
+    let mut meta = Meta::new();
+    let begun = match read_head_of(&mut meta, input, buffer) {
+        Ok(begun) => begun,
+        Err(ending) => return Err(ending_of_head(ending)),
+    };
+    let coding = meta.coding();
+    let start = set_start(&meta);
+    if refuses_change(target, coding) {
+        return Err(Ending::Worked(Verdict::Refused(Stop {
+            fault: Fault::CannotChange,
+            at: start,
+        })));
+    }
+    if write_head(&meta, target_uid(target, &meta), out).is_err() {
+        return Err(Ending::Output);
+    }
+    Ok(Opened {
+        begun,
+        coding,
+        start,
+    })
+}
