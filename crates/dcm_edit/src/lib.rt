@@ -3,7 +3,17 @@
 
 mod edit;
 mod edits;
+mod fault;
+mod form;
+mod known;
 pub mod laws;
+mod making;
+mod overlap;
+mod parse;
+mod path;
+#[cfg(test)]
+mod tests;
 
 pub use edit::{Action, Edit, Index, NewElement, PathEdit, Step};
 pub use edits::Edits;
+pub use fault::EditFault;
