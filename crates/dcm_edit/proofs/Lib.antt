@@ -7,3 +7,9 @@ pub mod OneByOneFront
 pub mod EditRows
 pub mod OverlapRows
 pub mod EditWordLemmas
+pub mod Cuts
+pub mod IndexNumbers
+pub mod ManyParts
+pub mod Fronts
+pub mod KnownParts
+pub mod Steps

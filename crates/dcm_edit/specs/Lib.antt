@@ -4,3 +4,5 @@ pub mod Overlap
 pub mod Together
 pub mod EditCode
 pub mod Meaning
+pub mod Parts
+pub mod Making

@@ -1,5 +1,7 @@
 // The edits of a command line.
 ghost use Rattle.std.specs.Prelude.{◌≡◌, ◌≤◌, length, map};
+ghost use Rattle.dcm_edit.specs.EditWords.{meant_edits};
+ghost use Rattle.dcm_edit.specs.Making.{MakesAll, texts};
 ghost use Rattle.dcm_edit.specs.Meaning.{edit_of};
 
 use crate::edit::Edit;
@@ -35,7 +37,9 @@ impl Model for Edits {
 
 impl Edits {
     /// The edits that words mean, or the first refusal.
-    pub fn parse(alloc: Global, words: &[&[u8]]) -> Result<Edits, EditFault> {
+    pub fn parse(alloc: Global, words: &[&[u8]]) -> Result<Edits, EditFault>
+        ensures { MakesAll (λ edits. edits) result (meant_edits (texts words.now)) }
+    {
         let list = edits_of(alloc, words)?;
         match first_overlap(list.as_slice()) {
             Some(number) => Err(EditFault::Refused(EditRefusal::Overlap, number)),

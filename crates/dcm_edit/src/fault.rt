@@ -1,5 +1,6 @@
 // Why no edits follow from words.
 ghost use Rattle.std.specs.Prelude.{◌≡◌};
+ghost use Rattle.dcm_edit.specs.declared.fault.EditFault.TheVariants.{Memory as no_room};
 ghost use Rattle.dcm_edit.specs.declared.fault.Failure.TheVariants.{Memory as no_memory};
 
 use dcm_base::EditRefusal;
@@ -19,6 +20,14 @@ pub enum EditFault {
 pub enum Failure {
     Refused(EditRefusal),
     Memory,
+}
+
+impl<T: Drop> From<AllocFailed<T>> for EditFault {
+    ghost from_gives = { λ _ f. f ≡ no_room };
+
+    fn from(_error: AllocFailed<T>) -> EditFault {
+        EditFault::Memory
+    }
 }
 
 impl From<AllocError> for Failure {

@@ -1,4 +1,9 @@
 // The edits that words mean.
+ghost use Rattle.std.specs.Prelude.{◌≡◌, ◌+◌, ◌<◌, ◌≤◌, drop, length, map, IfOk};
+ghost use Rattle.dcm_edit.specs.EditWords as spec;
+ghost use Rattle.dcm_edit.specs.Making.{option_as, fault_of, texts, MakesFrom, MakesAll, first_edit};
+ghost use Rattle.dcm_edit.specs.Meaning.{edit_of as edit_as};
+
 use crate::edit::Edit;
 use crate::fault::{EditFault, Failure};
 use crate::form::Kind;
@@ -18,7 +23,9 @@ enum OptionWord {
     Unknown,
 }
 
-fn option_word(word: &[u8]) -> OptionWord {
+fn option_word(word: &[u8]) -> OptionWord
+    ensures { option_as result ≡ spec.option_word word.now }
+{
     if word == b"-i".as_slice() {
         OptionWord::Takes(Kind::Inserts)
     } else if word == b"-m".as_slice() {
@@ -36,47 +43,53 @@ fn option_word(word: &[u8]) -> OptionWord {
     }
 }
 
-/// The edit that an option begins, and the words that follow it.
-fn next_edit<'a>(
-    alloc: Global,
-    option: &[u8],
-    after: &'a [&'a [u8]],
-) -> Result<(Edit, &'a [&'a [u8]]), Failure> {
-    match option_word(option) {
-        OptionWord::Private => Ok((Edit::ErasePrivate, after)),
-        OptionWord::Takes(kind) => match after {
-            [word, rest @ ..] => Ok((edit_of_word(alloc, kind, word)?, rest)),
-            [] => Err(Failure::Refused(EditRefusal::BadOption)),
-        },
-        OptionWord::Unknown => Err(Failure::Refused(EditRefusal::BadOption)),
-    }
-}
-
 /// A failure of the edit with this number.
-fn in_edit(failure: Failure, number: usize) -> EditFault {
+fn in_edit(failure: Failure, number: usize) -> EditFault
+    ensures { result ≡ fault_of failure number }
+{
     match failure {
         Failure::Refused(refusal) => EditFault::Refused(refusal, number),
         Failure::Memory => EditFault::Memory,
     }
 }
 
+/// The edit whose words begin at this place, which has this number, and how many words it has.
+fn next_edit(
+    alloc: Global,
+    number: usize,
+    words: &[&[u8]],
+    place: usize,
+) -> Result<(Edit, usize), EditFault>
+    requires { place < length words.now }
+    ensures edit { MakesFrom (λ r. (edit_as r.0, texts (drop (place + r.1) words.now))) number result (first_edit (texts (drop place words.now))) }
+    ensures used { IfOk result (λ r. (0 < r.1) × (place + r.1 ≤ length words.now)) }
+{
+    match option_word(words[place]) {
+        OptionWord::Private => Ok((Edit::ErasePrivate, 1)),
+        OptionWord::Takes(kind) => match words.get(place + 1) {
+            Some(word) => match edit_of_word(alloc, kind, word) {
+                Ok(edit) => Ok((edit, 2)),
+                Err(failure) => Err(in_edit(failure, number)),
+            },
+            None => Err(EditFault::Refused(EditRefusal::BadOption, number)),
+        },
+        OptionWord::Unknown => Err(EditFault::Refused(EditRefusal::BadOption, number)),
+    }
+}
+
 /// The edits of words, which may overlap.
-pub fn edits_of<'a>(alloc: Global, words: &'a [&'a [u8]]) -> Result<Vec<Edit>, EditFault> {
+pub fn edits_of(alloc: Global, words: &[&[u8]]) -> Result<Vec<Edit>, EditFault>
+    ensures { MakesAll (λ v. map edit_as v.items) result (spec.meant_from 1 (texts words.now)) }
+{
     let mut edits = Vec::new(alloc);
-    let mut rest = words;
-    while let [option, after @ ..] = rest {
+    let mut place = 0;
+    while place < words.len() {
         if edits.len() == MOST_EDITS {
             return Err(EditFault::Refused(EditRefusal::TooMany, MOST_EDITS + 1));
         }
-        match next_edit(alloc, option, after) {
-            Ok((edit, behind)) => {
-                if edits.push(edit).is_err() {
-                    return Err(EditFault::Memory);
-                }
-                rest = behind;
-            }
-            Err(failure) => return Err(in_edit(failure, edits.len() + 1)),
-        }
+        let (edit, used) = next_edit(alloc, edits.len() + 1, words, place)?;
+        edits.push(edit)?;
+        place += used;
     }
     Ok(edits)
 }

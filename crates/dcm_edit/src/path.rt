@@ -1,4 +1,10 @@
 // The parts of a path.
+ghost use Rattle.std.specs.Prelude.{◌≡◌, ◌<◌, ◌≤◌, length, map, option_map, IfSome};
+ghost use Rattle.dcm_base.specs.ReadValue.{digit as spec_digit, number_in};
+ghost use Rattle.dcm_edit.specs.EditWords as spec;
+ghost use Rattle.dcm_edit.specs.Meaning.{index_of as index_as};
+ghost use Rattle.dcm_edit.specs.Parts.{name_as, part_as, index_in as said_index, few, path_parts};
+
 use crate::edit::Index;
 use arrayvec::ArrayVec;
 use bstr::ByteSlice;
@@ -35,7 +41,9 @@ impl<'a> Default for Part<'a> {
 }
 
 /// A text up to the first such byte, and what follows that byte, where it is there.
-pub fn cut_at(byte: u8, text: &[u8]) -> (&[u8], Option<&[u8]>) {
+pub fn cut_at(byte: u8, text: &[u8]) -> (&[u8], Option<&[u8]>)
+    ensures { spec.cut_at byte text.now ≡ spec.cut result.0.now (option_map (λ t. t.now) result.1) }
+{
     match text.find_byte(byte) {
         Some(at) => {
             let (before, rest) = text.split_at(at);
@@ -47,16 +55,22 @@ pub fn cut_at(byte: u8, text: &[u8]) -> (&[u8], Option<&[u8]>) {
 }
 
 /// Whether a byte has a meaning in a path, so that no keyword has it.
-fn is_of_path(byte: u8) -> bool {
+fn is_of_path(byte: u8) -> bool
+    ensures { result ≡ spec.is_of_path byte }
+{
     byte == b'.' || byte == b'[' || byte == b']'
 }
 
-fn is_keyword(text: &[u8]) -> bool {
+fn is_keyword(text: &[u8]) -> bool
+    ensures { result ≡ spec.is_keyword text.now }
+{
     text.iter().all(|byte| !is_of_path(*byte))
 }
 
 /// A name that begins with a parenthesis is a number, and any other one is a keyword.
-fn name_of(text: &[u8]) -> Option<Name> {
+fn name_of(text: &[u8]) -> Option<Name>
+    ensures { option_map name_as result ≡ spec.tag_name text.now }
+{
     match text {
         [] => None,
         [b'(', ..] => Some(Name::Number(tag_of_text(text)?)),
@@ -65,7 +79,10 @@ fn name_of(text: &[u8]) -> Option<Name> {
     }
 }
 
-fn digit(byte: u8) -> Option<u32> {
+fn digit(byte: u8) -> Option<u32>
+    ensures value { result ≡ spec_digit 10 byte }
+    ensures below { IfSome result (λ d. d < 10) }
+{
     match byte {
         b'0'..=b'9' => Some(u32::from(byte - b'0')),
         _ => None,
@@ -73,7 +90,10 @@ fn digit(byte: u8) -> Option<u32> {
 }
 
 /// The number that at most 9 digits spell.
-fn number(digits: &[u8]) -> Option<u32> {
+fn number(digits: &[u8]) -> Option<u32>
+    requires { length digits.now ≤ 9 }
+    ensures { result ≡ number_in 10 0 digits.now }
+{
     let mut number = 0;
     for byte in digits {
         number = 10 * number + digit(*byte)?;
@@ -82,7 +102,9 @@ fn number(digits: &[u8]) -> Option<u32> {
 }
 
 /// A star, or 1 to 9 digits.
-fn index_of(text: &[u8]) -> Option<Index> {
+fn index_of(text: &[u8]) -> Option<Index>
+    ensures { option_map index_as result ≡ spec.index_of text.now }
+{
     if text == b"*".as_slice() {
         return Some(Index::Every);
     }
@@ -93,14 +115,18 @@ fn index_of(text: &[u8]) -> Option<Index> {
 }
 
 /// The index that ends a part, after its opening bracket.
-fn index_in(inside: &[u8]) -> Option<Index> {
+fn index_in(inside: &[u8]) -> Option<Index>
+    ensures { option_map index_as result ≡ said_index inside.now }
+{
     match cut_at(b']', inside) {
         (text, Some([])) => index_of(text),
         _ => None,
     }
 }
 
-fn part_of(text: &[u8]) -> Option<Part> {
+fn part_of(text: &[u8]) -> Option<Part>
+    ensures { option_map part_as result ≡ spec.part_of text.now }
+{
     let (name, inside) = cut_at(b'[', text);
     let name = name_of(name)?;
     match inside {
@@ -113,12 +139,18 @@ fn part_of(text: &[u8]) -> Option<Part> {
 }
 
 /// The parts of a path between its dots, unless there are too many.
-pub fn parts_of(path: &[u8]) -> Option<ArrayVec<Part, MOST_PARTS>> {
+pub fn parts_of(path: &[u8]) -> Option<ArrayVec<Part, MOST_PARTS>>
+    ensures { option_map (λ ps. map part_as ps.items) result ≡ few (path_parts path.now) }
+{
     let mut parts = ArrayVec::new();
     let mut rest = Some(path);
     while let Some(text) = rest {
-        let (part, after) = cut_at(b'.', text);
-        parts.try_push(part_of(part)?).ok()?;
+        let (first, after) = cut_at(b'.', text);
+        let part = part_of(first)?;
+        if parts.is_full() {
+            return None;
+        }
+        parts.push(part);
         rest = after;
     }
     Some(parts)
