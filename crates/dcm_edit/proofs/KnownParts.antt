@@ -1,5 +1,5 @@
 -- The known parts of a path, one after another.
-use Rattle.std.proofs.Common.{◌≡◌, ℕ, List, [], ◌∷◌, ◌++◌, length, map, Result, Ok, Err, refl, sym, ◌∙◌, ap}
+use Rattle.std.proofs.Common.{◌≡◌, ℕ, List, [], ◌∷◌, ◌++◌, length, map, ◌<◌, Result, Ok, Err, refl, sym, ◌∙◌, ap, arith}
 use Rattle.dcm_base.specs.declared.fault.EditRefusal.{EditRefusal}
 use Rattle.dcm_edit.specs.EditWords.{◌>>=◌, PathPart, Known, known_part, known_parts}
 use Rattle.dcm_edit.specs.Making.{after_known}
@@ -12,7 +12,7 @@ after_err : (ks : List Known) (u : EditRefusal) → after_known ks (Err u) ≡ E
 after_err [] u = refl
 after_err (x ∷ ks) u = ap (λ s. s >>= λ more. Ok (x ∷ more)) (after_err ks u)
 
-pub after_none : (ks : List Known) → after_known ks (Ok []) ≡ Ok ks
+after_none : (ks : List Known) → after_known ks (Ok []) ≡ Ok ks
 after_none [] = refl
 after_none (x ∷ ks) = ap (λ s. s >>= λ more. Ok (x ∷ more)) (after_none ks)
 
@@ -29,3 +29,7 @@ one_known ks m k all ms e p = ap (λ l. after_known ks (known_parts l)) e ∙ ap
 pub one_refused : (ks : List Known) (m : PathPart) (u : EditRefusal) (all ms : List PathPart) → all ≡ m ∷ ms → known_part m.name m.index ≡ Err u
     → after_known ks (known_parts all) ≡ Err u
 one_refused ks m u all ms e p = ap (λ l. after_known ks (known_parts l)) e ∙ ap (after_known ks) (bind_err (known_part m.name m.index) u ms p) ∙ after_err ks u
+
+pub all_known : {A : Type 0} (ks : List Known) (f : A → PathPart) (xs : List A) → length xs < 1 → after_known ks (known_parts (map f xs)) ≡ Ok ks
+all_known ks f [] h = after_none ks
+all_known ks f (x ∷ xs) h = absurd (omega arith)

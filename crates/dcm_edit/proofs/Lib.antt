@@ -13,3 +13,8 @@ pub mod ManyParts
 pub mod Fronts
 pub mod KnownParts
 pub mod Steps
+pub mod Meetings
+pub mod Overlaps
+pub mod Makings
+pub mod Forms
+pub mod ManyEdits

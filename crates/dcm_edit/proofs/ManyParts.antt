@@ -100,3 +100,10 @@ append_nil (m ∷ ms) = ap (λ l. m ∷ l) (append_nil ms)
 
 pub ended : (ms : List PathPart) → length ms ≤ PART_LIMIT → few (after_parts ms (Some [])) ≡ Some ms
 ended ms h = ap few (after_some ms [] ∙ ap Some (append_nil ms)) ∙ few_by (nat_le (length ms) PART_LIMIT) ms (not_many (length ms) h)
+
+pub room : (n m : ℕ) → false ≡ (n == 65) → n ≤ 65 → m ≡ n + 1 → m ≤ 65
+room n m p h e = grind (arith, nat_tests)
+
+pub map_length : {A B : Type 0} (f : A → B) (xs : List A) → length (map f xs) ≡ length xs
+map_length f [] = refl
+map_length f (x ∷ xs) = ap suc (map_length f xs)

@@ -107,3 +107,8 @@ edit_after words.unknown_word after = Err BadOption
 abbrev pub first_edit : List (List ℕ) → Result (Edit × List (List ℕ)) EditRefusal
 first_edit [] = Err BadOption
 first_edit (w ∷ after) = edit_after (words.option_word w) after
+
+-- edits before those to come
+abbrev pub after_edits : List Edit → Result (List Edit) words.InEdit → Result (List Edit) words.InEdit
+after_edits [] r = r
+after_edits (e ∷ es) r = words.and_then e (after_edits es r)

@@ -1,5 +1,5 @@
 // Edits that overlap.
-ghost use Rattle.std.specs.Prelude.{◌≡◌, [], map};
+ghost use Rattle.std.specs.Prelude.{◌≡◌, ◌||◌, [], map};
 ghost use Rattle.dcm_edit.specs.Meaning.{index_of as index_as, action_of as action_as, along, path_edit_of as path_edit_as, edit_of as edit_as, first_tag};
 ghost use Rattle.dcm_edit.specs.Overlap as spec;
 
@@ -13,6 +13,19 @@ fn is_every(index: Index) -> bool
         Index::Number(_) => false,
         Index::Every => true,
     }
+}
+
+fn same_index(left: Index, right: Index) -> bool
+    ensures { result ≡ spec.same_index (index_as left) (index_as right) }
+{
+    left == right
+}
+
+/// Whether different indexes before the end of their paths may select the same item.
+fn one_is_every(left: Index, right: Index) -> bool
+    ensures { result ≡ (spec.is_every (index_as left) || spec.is_every (index_as right)) }
+{
+    is_every(left) || is_every(right)
 }
 
 /// The tag at the end of a path.
@@ -42,17 +55,20 @@ fn meets(left: &PathEdit, right: &PathEdit) -> bool
 {
     let mut left_steps = left.steps.as_slice();
     let mut right_steps = right.steps.as_slice();
-    while let ([x, left_rest @ ..], [y, right_rest @ ..]) = (left_steps, right_steps) {
+    while let [x, left_rest @ ..] = left_steps {
+        let [y, right_rest @ ..] = right_steps else {
+            return x.tag == action_tag(&right.action);
+        };
         if x.tag != y.tag {
             return false;
         }
-        if x.index != y.index {
-            return is_every(x.index) || is_every(y.index);
+        if !same_index(x.index, y.index) {
+            return one_is_every(x.index, y.index);
         }
         left_steps = left_rest;
         right_steps = right_rest;
     }
-    next_tag(left_steps, &left.action) == next_tag(right_steps, &right.action)
+    action_tag(&left.action) == next_tag(right_steps, &right.action)
 }
 
 /// Whether a path names the tag.
