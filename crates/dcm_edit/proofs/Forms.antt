@@ -1,5 +1,5 @@
 -- Paths that have the form of an edit's.
-use Rattle.std.proofs.Common.{◌≡◌, ℕ, zero, suc, ◌<◌, ◌≤◌, List, [], ◌∷◌, length, map, Option, Some, None, Result, Ok, Err, Bool, true, false, cond, not, ◌&&◌, ◌==◌, refl, sym, ◌∙◌, ap, arith, eqb-true}
+use Rattle.std.proofs.Common.{◌≡◌, ℕ, suc, ◌<◌, ◌≤◌, List, [], ◌∷◌, length, map, Option, Some, None, Result, Ok, Err, Bool, true, false, cond, ◌&&◌, ◌==◌, refl, sym, ◌∙◌, ap, arith, eqb-true}
 use Rattle.std.specs.Prelude.{nat_le, if◌then◌else◌}
 use Rattle.std.proofs.lemmas.Bool.Decides.{nat_tests}
 use Rattle.dcm_base.specs.declared.fault.EditRefusal.{EditRefusal}
@@ -7,10 +7,9 @@ use Rattle.dcm_base.specs.declared.fault.EditRefusal.TheVariants.{BadOption}
 use Rattle.dcm_edit.specs.declared.form.Kind as declared
 use Rattle.dcm_edit.specs.declared.form.Kind.TheVariants as kinds
 use Rattle.dcm_edit.specs.declared.known.Known as declared_known
-use Rattle.dcm_edit.specs.Edit.{Edit}
 use Rattle.dcm_edit.specs.EditWords.{◌>>=◌, PathPart, Known, known_part, known_parts, Kind, inserts, modifies, erases, modifies_all, erases_all, has_index, leads, ends_in_tag, index_count, has_form, DEPTH_LIMIT, or_refuse, edit_of_known, edit_of_parts, meant_edit}
 use Rattle.dcm_edit.specs.Making.{kind_as, known_as, is_of_all, Fit}
-use Rattle.dcm_edit.specs.Parts.{few, unless_many, path_parts, PART_LIMIT}
+use Rattle.dcm_edit.specs.Parts.{few, path_parts, PART_LIMIT}
 use Rattle.dcm_edit.proofs.EditWordLemmas.{bind_ok, ok_is}
 use Rattle.dcm_edit.proofs.ManyParts.{map_length}
 

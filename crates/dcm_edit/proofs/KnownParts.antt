@@ -1,5 +1,5 @@
 -- The known parts of a path, one after another.
-use Rattle.std.proofs.Common.{◌≡◌, ℕ, List, [], ◌∷◌, ◌++◌, length, map, ◌<◌, Result, Ok, Err, refl, sym, ◌∙◌, ap, arith}
+use Rattle.std.proofs.Common.{◌≡◌, List, [], ◌∷◌, ◌++◌, length, map, ◌<◌, Result, Ok, Err, refl, sym, ◌∙◌, ap, arith}
 use Rattle.dcm_base.specs.declared.fault.EditRefusal.{EditRefusal}
 use Rattle.dcm_edit.specs.EditWords.{◌>>=◌, PathPart, Known, known_part, known_parts}
 use Rattle.dcm_edit.specs.Making.{after_known}

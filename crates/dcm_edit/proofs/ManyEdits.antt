@@ -1,17 +1,19 @@
 -- The edits of words, one after another.
-use Rattle.std.proofs.Common.{◌≡◌, ℕ, zero, suc, ◌<◌, ◌≤◌, ◌+◌, List, [], ◌∷◌, ◌++◌, length, map, drop, Result, Ok, Err, Bool, true, false, not, refl, sym, ◌∙◌, ap, subst, arith, Bor, length-append}
+use Rattle.std.proofs.Common.{◌≡◌, ℕ, zero, suc, ◌<◌, ◌≤◌, ◌+◌, List, [], ◌∷◌, ◌++◌, length, drop, Option, Some, None, Result, Ok, Err, Bool, true, false, refl, sym, ◌∙◌, ap, arith, Bor, length-append}
 use Rattle.std.specs.Prelude.{nat_lt, if◌then◌else◌}
 use Rattle.std.proofs.lemmas.Bool.Decides.{nat_tests}
 use Rattle.dcm_base.specs.declared.fault.EditRefusal.{EditRefusal}
-use Rattle.dcm_base.specs.declared.fault.EditRefusal.TheVariants.{BadOption, TooMany}
+use Rattle.dcm_base.specs.declared.fault.EditRefusal.TheVariants.{BadOption, TooMany, Overlap}
 use Rattle.dcm_edit.specs.declared.fault.EditFault.{EditFault}
 use Rattle.dcm_edit.specs.declared.fault.EditFault.TheVariants.{Refused, Memory}
 use Rattle.dcm_edit.specs.Edit.{Edit, erase_private}
-use Rattle.dcm_edit.specs.EditWords.{◌>>=◌, InEdit, OptionWord, private_word, takes_word, unknown_word, option_word, meant_word, meant_from, and_then, at_edit, in_edit, EDIT_LIMIT}
+use Rattle.dcm_edit.specs.EditWords.{◌>>=◌, InEdit, OptionWord, private_word, takes_word, unknown_word, option_word, meant_word, meant_from, and_then, at_edit, in_edit, apart, EDIT_LIMIT}
 use Rattle.dcm_edit.specs.Making.{edit_after, first_edit, after_edits, texts, MakesFrom, MakesAll}
+use Rattle.dcm_edit.specs.Meaning.{AreMeant}
+use Rattle.dcm_edit.specs.Overlap.{first_overlap}
 use Rattle.dcm_edit.proofs.EditWordLemmas.{ok_is}
 
-abbrev First : Type 0
+abbrev pub First : Type 0
 First = Edit × List (List ℕ)
 
 -- what the first edit leads to
@@ -118,3 +120,19 @@ failed f g es Memory n k ws h l p = tt
 
 pub one_longer : {A : Type 0} (xs : List A) (x : A) → suc (length xs + 1) ≡ length (xs ++ x ∷ []) + 1
 one_longer xs x = omega (arith, length-append xs (x ∷ []))
+
+pub longer : {A : Type 0} (xs : List A) (x : A) (ys : List A) → ys ≡ xs ++ x ∷ [] → length xs + 1 ≤ EDIT_LIMIT → length ys ≤ EDIT_LIMIT
+longer xs x ys e h = let l = ap length e in omega (arith, length-append xs (x ∷ []))
+
+-- the edits mean themselves where none overlaps an earlier one
+not_overlapping : (es : List Edit) (o : Option ℕ) → o ≡ None → (let s : Result (List Edit) InEdit = elim o [ None ↦ Ok es | Some n ↦ Err (in_edit Overlap n) ] in s ≡ Ok es)
+not_overlapping es None p = refl
+not_overlapping es (Some n) p = cc
+
+edits_are : (ws : List (List ℕ)) (es : List Edit) (r : Result (List Edit) InEdit) → r ≡ Ok es → first_overlap 1 [] es ≡ None
+    → (let s : Result (List Edit) InEdit = elim r [ Ok fs ↦ apart fs | Err u ↦ Err u ] in s ≡ Ok es)
+edits_are ws es (Ok fs) p q = let e : fs ≡ es = ok_is fs es p in ap apart e ∙ not_overlapping es (first_overlap 1 [] es) q
+edits_are ws es (Err u) p q = cc
+
+pub are_meant : (ws : List (List ℕ)) (es : List Edit) → meant_from 1 ws ≡ Ok es → None ≡ first_overlap 1 [] es → AreMeant es
+are_meant ws es p q = record { words = ws; mean = edits_are ws es (meant_from 1 ws) p (sym q) }

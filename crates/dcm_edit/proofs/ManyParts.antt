@@ -5,7 +5,7 @@ use Rattle.std.specs.List.{slice_split, onto_first}
 use Rattle.std.specs.Str.{byte}
 use Rattle.std.proofs.lemmas.Bool.Decides.{nat_tests}
 use Rattle.dcm_edit.specs.EditWords.{Cut, cut, onto, cut_at, PathPart, part_of, parts_of, prepended}
-use Rattle.dcm_edit.specs.Parts.{unless_many, few, path_parts, after_parts, rest_parts, rest_length, PART_LIMIT}
+use Rattle.dcm_edit.specs.Parts.{few, after_parts, rest_parts, rest_length, PART_LIMIT}
 
 -- ---- a text between bytes
 

@@ -1,10 +1,10 @@
 -- Paths that meet.
-use Rattle.std.proofs.Common.{◌≡◌, ℕ, List, [], ◌∷◌, Bool, true, false, not, ◌||◌, cond, refl, sym, ◌∙◌, ap}
+use Rattle.std.proofs.Common.{◌≡◌, List, ◌∷◌, Bool, true, false, not, ◌||◌, cond, refl, sym, ◌∙◌, ap}
 use Rattle.dcm_base.specs.Tag.{same_tag}
 use Rattle.dcm_edit.specs.declared.edit.Step as declared
 use Rattle.dcm_edit.specs.Edit.{PathEdit, step, insert, modify, erase, erase_item}
 use Rattle.dcm_edit.specs.Meaning.{index_of, along}
-use Rattle.dcm_edit.specs.Overlap.{path, meets, same_index, is_every, ends, clash, at_index, Mark}
+use Rattle.dcm_edit.specs.Overlap.{path, meets, same_index, is_every, ends}
 
 goes_on : (e : PathEdit) → ends (path e) ≡ false
 goes_on (step tag index edit) = refl

@@ -1,5 +1,5 @@
 -- The first edit that overlaps an earlier one.
-use Rattle.std.proofs.Common.{◌≡◌, ℕ, zero, suc, ◌+◌, ◌<◌, List, [], ◌∷◌, ◌++◌, length, map, take, drop, get_or, Option, None, Some, Bool, true, false, ◌||◌, cond, refl, sym, ◌∙◌, ap, arith, add-one, drop-cons}
+use Rattle.std.proofs.Common.{◌≡◌, ℕ, zero, suc, ◌+◌, ◌<◌, List, [], ◌∷◌, ◌++◌, length, map, take, drop, get_or, Option, Some, Bool, true, false, ◌||◌, cond, refl, sym, ◌∙◌, ap, arith, add-one, drop-cons}
 use Rattle.std.proofs.lemmas.List.{map-append}
 use Rattle.dcm_edit.specs.declared.edit.Edit as declared
 use Rattle.dcm_edit.specs.Edit.{Edit}
@@ -50,9 +50,9 @@ pub goes_on : (i : ℕ) (es : List declared.Edit) (e : declared.Edit) → i < le
     → from_place (i + 1) es ≡ from_place i es
 goes_on i es e h g p =
     let front : map edit_of (take (suc i) es) ≡ map edit_of (take i es) ++ edit_of e ∷ [] =
-      ap (map edit_of) (taken i es e h) ∙ map-append edit_of (take i es) (get_or es i e ∷ []) ∙ ap (λ (x : declared.Edit). map edit_of (take i es) ++ edit_of x ∷ []) (sym g) in
+    ap (map edit_of) (taken i es e h) ∙ map-append edit_of (take i es) (get_or es i e ∷ []) ∙ ap (λ (x : declared.Edit). map edit_of (take i es) ++ edit_of x ∷ []) (sym g) in
     let back : map edit_of (drop i es) ≡ edit_of e ∷ map edit_of (drop (suc i) es) =
-      ap (map edit_of) (drop-cons es i e h) ∙ ap (λ (x : declared.Edit). edit_of x ∷ map edit_of (drop (suc i) es)) (sym g) in
+    ap (map edit_of) (drop-cons es i e h) ∙ ap (λ (x : declared.Edit). edit_of x ∷ map edit_of (drop (suc i) es)) (sym g) in
     ap (λ k. first_overlap (k + 1) (map edit_of (take k es)) (map edit_of (drop k es))) (add-one i)
     ∙ ap (λ n. first_overlap n (map edit_of (take (suc i) es)) (map edit_of (drop (suc i) es))) (counts i)
     ∙ ap (λ l. first_overlap (suc (i + 1)) l (map edit_of (drop (suc i) es))) front

@@ -1,10 +1,10 @@
 -- The steps of a path, one after another.
-use Rattle.std.proofs.Common.{◌≡◌, ℕ, List, [], ◌∷◌, ◌++◌, map, Option, Some, None, refl, sym, ◌∙◌, ap}
+use Rattle.std.proofs.Common.{◌≡◌, List, [], ◌∷◌, ◌++◌, map, Option, Some, refl, sym, ◌∙◌, ap}
 use Rattle.std.specs.Prelude.{option_map}
 use Rattle.dcm_edit.specs.declared.edit.Step.{Step}
 use Rattle.dcm_edit.specs.declared.edit.Index as meant
 use Rattle.dcm_edit.specs.declared.known.Known as declared
-use Rattle.dcm_edit.specs.Edit.{Index, PathEdit, step}
+use Rattle.dcm_edit.specs.Edit.{PathEdit, step}
 use Rattle.dcm_edit.specs.EditWords.{Known, step_to, on_steps, last_vr}
 use Rattle.dcm_edit.specs.Making.{known_as, steps_to}
 use Rattle.dcm_edit.specs.Meaning.{index_of, along}

@@ -33,7 +33,10 @@ fn refuses_edits(rt: HostRuntime) -> Result<(), Fail> {
         ("-m PatientID=7 -m PatientID=7", EditRefusal::Overlap, 2),
         ("-i Rows=70000", EditRefusal::ValueDoesNotFit, 1),
     ] {
-        assert!(rt; answer(rt, line)? == Err(EditFault::Refused(refusal, number)), "{line}");
+        assert!(rt;
+            answer(rt, line)? == Err(EditFault::Refused(refusal, number)),
+            "{line}"
+        );
     }
     Ok(())
 }

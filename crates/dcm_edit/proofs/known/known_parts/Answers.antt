@@ -1,4 +1,4 @@
-use Rattle.std.proofs.Common.{rules, ◌≡◌, ◌∷◌, [], ◌++◌, List, map, length, take, drop, ◌-◌, sym, ◌∙◌, ap, subst, arith, length-append}
+use Rattle.std.proofs.Common.{rules, ◌∷◌, [], List, map, length, take, drop, ◌-◌, sym, ◌∙◌, ap, arith, length-append}
 use Rattle.std.proofs.lemmas.List.{map-append}
 use Rattle.dcm_edit.specs.EditWords as words
 use Rattle.dcm_edit.specs.Parts.{part_as}

@@ -1,4 +1,4 @@
-use Rattle.std.proofs.Common.{rules, ◌≡◌, ◌∙◌, sym, ap, subst, map, Bool, Ok, Err}
+use Rattle.std.proofs.Common.{◌∙◌, sym, ap, subst, map, Ok}
 use Rattle.dcm_edit.specs.EditWords as words
 use Rattle.dcm_edit.specs.Parts.{part_as}
 use Rattle.dcm_edit.specs.Making.{known_as, kind_as, Makes, Fit}

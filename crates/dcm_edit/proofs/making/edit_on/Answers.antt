@@ -1,9 +1,6 @@
-use Rattle.std.proofs.Common.{rules, ◌≡◌, ◌∷◌, [], ◌++◌, List, ℕ, Result, Ok, Err, map, refl, sym, ◌∙◌, ap, subst}
-use Rattle.dcm_base.specs.declared.fault.EditRefusal.{EditRefusal}
-use Rattle.dcm_edit.specs.declared.fault.Failure.{Failure}
-use Rattle.dcm_edit.specs.declared.edit.Edit as declared
+use Rattle.std.proofs.Common.{rules, ◌∷◌, [], ◌++◌, Ok, Err, map, sym, ◌∙◌, ap, subst}
 use Rattle.dcm_edit.specs.declared.form.Kind.{Kind}
-use Rattle.dcm_edit.specs.Edit.{Edit, insert, modify, modify_all, on_path}
+use Rattle.dcm_edit.specs.Edit.{insert, modify, on_path}
 use Rattle.dcm_edit.specs.EditWords as words
 use Rattle.dcm_edit.specs.Making.{known_as, kind_as, Makes, valued_edit, steps_to, is_of_all}
 use Rattle.dcm_edit.specs.Meaning.{edit_of}

@@ -1,8 +1,4 @@
-use Rattle.std.proofs.Common.{◌≡◌, ◌∷◌, [], ◌++◌, List, map, sym, ◌∙◌, ap}
-use Rattle.dcm_edit.specs.declared.edit.Step.{Step}
-use Rattle.dcm_edit.specs.Edit.{PathEdit}
-use Rattle.dcm_edit.specs.Meaning.{along}
-use Rattle.dcm_edit.specs.Making.{known_as, steps_to}
+use Rattle.std.proofs.Common.{◌∙◌}
 use Rattle.dcm_edit.proofs.Fronts.{front}
 use Rattle.dcm_edit.proofs.Steps.{one_step}
 use Rattle.dcm_edit.proofs.making.steps_of.Goals as goal

@@ -1,4 +1,4 @@
-use Rattle.std.proofs.Common.{◌≡◌, ◌∙◌, map, ap}
+use Rattle.std.proofs.Common.{◌∙◌, map, ap}
 use Rattle.dcm_edit.specs.Meaning.{edit_of}
 use Rattle.dcm_edit.specs.Overlap.{overlaps_one}
 use Rattle.dcm_edit.proofs.Overlaps.{goes_on}

@@ -1,4 +1,4 @@
-use Rattle.std.proofs.Common.{◌≡◌, ◌+◌, [], drop, take, reverse, map}
+use Rattle.std.proofs.Common.{◌≡◌, ◌+◌, [], drop, take, map}
 use Rattle.dcm_edit.specs.Meaning.{edit_of}
 use Rattle.dcm_edit.specs.Overlap.{first_overlap}
 use Rattle.dcm_edit.proofs.overlap.first_overlap.Given as goal

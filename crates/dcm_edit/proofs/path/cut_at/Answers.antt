@@ -1,5 +1,4 @@
-use Rattle.std.proofs.Common.{◌≡◌, ℕ, ◌+◌, ◌<◌, ◌≤◌, suc, List, take, drop, add-one, drop-drop, Some, sym, ◌∙◌, ap, arith}
-use Rattle.dcm_edit.specs.EditWords.{cut}
+use Rattle.std.proofs.Common.{drop, add-one, drop-drop, sym, ◌∙◌, ap, arith}
 use Rattle.dcm_edit.proofs.Cuts.{cut_first, cut_nowhere, cut_is}
 use Rattle.dcm_edit.proofs.path.cut_at.Goals as goal
 

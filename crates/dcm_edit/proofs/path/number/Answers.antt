@@ -1,4 +1,4 @@
-use Rattle.std.proofs.Common.{◌≡◌, ◌≤◌, ◌<◌, ℕ, ◌+◌, ◌*◌, ◌^◌, arith, lit≤}
+use Rattle.std.proofs.Common.{◌+◌, arith}
 use Rattle.dcm_edit.proofs.IndexNumbers.{tenfold, within_nine}
 use Rattle.dcm_edit.proofs.path.number.Goals as goal
 

@@ -1,8 +1,7 @@
-use Rattle.std.proofs.Common.{rules, ◌≡◌, ◌∷◌, [], ◌++◌, List, ℕ, Option, Some, None, map, option_map, length, sym, ◌∙◌, ap, arith, length-append, eqb-true, Bor}
+use Rattle.std.proofs.Common.{rules, ◌≡◌, ◌∷◌, [], ◌++◌, List, ℕ, Option, Some, None, map, option_map, length, sym, ◌∙◌, ap, arith, eqb-true, Bor}
 use Rattle.std.specs.Str.{byte}
 use Rattle.std.proofs.lemmas.List.{map-append}
-use Rattle.dcm_edit.specs.EditWords as words
-use Rattle.dcm_edit.specs.Parts.{part_as, few, path_parts, after_parts, rest_parts, rest_length, PART_LIMIT}
+use Rattle.dcm_edit.specs.Parts.{part_as, few, path_parts, after_parts, rest_parts, rest_length}
 use Rattle.dcm_edit.proofs.ManyParts.{no_part, one_part, rest_shorter, after_more, refused, too_long, ended, room, map_length}
 use Rattle.dcm_edit.proofs.path.parts_of.Goals as goal
 
