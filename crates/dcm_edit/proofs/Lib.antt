@@ -18,3 +18,5 @@ pub mod Overlaps
 pub mod Makings
 pub mod Forms
 pub mod ManyEdits
+pub mod EachEdit
+pub mod SoundEdits

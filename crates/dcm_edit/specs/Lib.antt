@@ -6,3 +6,4 @@ pub mod EditCode
 pub mod Meaning
 pub mod Parts
 pub mod Making
+pub mod Sound
