@@ -31,3 +31,16 @@ pub mod MadeSequences
 pub mod Masks
 pub mod Answering
 pub mod Editing
+pub mod Cuts
+pub mod IndexNumbers
+pub mod ManyParts
+pub mod KnownParts
+pub mod Steps
+pub mod Meetings
+pub mod Overlaps
+pub mod Makings
+pub mod Forms
+pub mod ManyEdits
+pub mod EachEdit
+pub mod SoundEdits
+pub mod FirstOnes

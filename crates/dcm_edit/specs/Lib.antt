@@ -9,3 +9,6 @@ pub mod Asking
 pub mod EditCode
 pub mod Meaning
 pub mod Editing
+pub mod Parts
+pub mod Making
+pub mod Sound

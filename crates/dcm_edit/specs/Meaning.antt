@@ -1,5 +1,6 @@
 -- The edits of the program, as the definitions have them.
 use Rattle.std.specs.Prelude.{◌≡◌, ℕ, List, [], ◌∷◌, Ok}
+use Rattle.dcm_base.specs.declared.tag.Tag.{Tag}
 use Rattle.dcm_edit.specs.declared.edit.Index.{Index}
 use Rattle.dcm_edit.specs.declared.edit.Index.TheVariants.{Number, Every}
 use Rattle.dcm_edit.specs.declared.edit.Step.{Step}
@@ -34,6 +35,14 @@ edit_of (OnPath p) = spec.on_path (path_edit_of p)
 edit_of (ModifyAll e) = spec.modify_all e.tag e.vr e.value.items
 edit_of (EraseAll tag) = spec.erase_all tag
 edit_of ErasePrivate = spec.erase_private
+
+-- the first tag of a path
+abbrev pub first_tag : spec.PathEdit → Tag
+first_tag (spec.step tag index edit) = tag
+first_tag (spec.insert tag vr value) = tag
+first_tag (spec.modify tag vr value) = tag
+first_tag (spec.erase tag) = tag
+first_tag (spec.erase_item tag index) = tag
 
 -- some words mean the edits
 pub record AreMeant (edits : List spec.Edit) : Type 0 where

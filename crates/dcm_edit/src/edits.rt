@@ -1,8 +1,15 @@
 // The edits of a command line.
 ghost use Rattle.std.specs.Prelude.{◌≡◌, ◌≤◌, length, map};
+ghost use Rattle.dcm_edit.specs.EditWords.{meant_edits};
+ghost use Rattle.dcm_edit.specs.Making.{MakesAll, texts};
 ghost use Rattle.dcm_edit.specs.Meaning.{edit_of};
 
 use crate::edit::Edit;
+use crate::fault::EditFault;
+use crate::overlap::first_overlap;
+use crate::parse::edits_of;
+use dcm_base::EditRefusal;
+use std::alloc::Global;
 use std::marker::Model;
 
 /// The edits that some words mean, in the order of the words: at most 64, of which no two overlap.
@@ -29,6 +36,17 @@ impl Model for Edits {
 }
 
 impl Edits {
+    /// The edits that words mean, or the first refusal.
+    pub fn parse(alloc: Global, words: &[&[u8]]) -> Result<Edits, EditFault>
+        ensures { MakesAll (λ edits. edits) result (meant_edits (texts words.now)) }
+    {
+        let list = edits_of(alloc, words)?;
+        match first_overlap(list.as_slice()) {
+            Some(number) => Err(EditFault::Refused(EditRefusal::Overlap, number)),
+            None => Ok(Edits { list }),
+        }
+    }
+
     /// The edits, in the order of the words.
     pub fn list(&self) -> &[Edit]
         ensures { map edit_of result.now ≡ self.now }

@@ -1,5 +1,5 @@
 //! Laws of the definitions. Each function takes nothing and makes no call: its contract is the law.
-ghost use Rattle.std.specs.Prelude.{◌≡◌, ◌≤◌, ℕ, List, Ok, false, fold, map};
+ghost use Rattle.std.specs.Prelude.{◌≡◌, ◌≤◌, ℕ, List, length, Ok, false, fold, map};
 ghost use Rattle.dcm_base.specs.Ascending.{FrontAscends};
 ghost use Rattle.dcm_base.specs.Atoms.{Atom, Shows, is_closed};
 ghost use Rattle.dcm_base.specs.Bars.{ascending_bar};
@@ -18,6 +18,7 @@ ghost use Rattle.dcm_edit.specs.Edit.{Edit, edited, found};
 ghost use Rattle.dcm_edit.specs.EditSink.{HaveShortIndexes, HaveValues, begun, edit_bar, next, passed, reached_anew};
 ghost use Rattle.dcm_edit.specs.EditWords.{meant_edits};
 ghost use Rattle.dcm_edit.specs.Overlap.{AreApart, ArePublic};
+ghost use Rattle.dcm_edit.specs.Sound.{AllAre, HasValue, HasSmallIndexes};
 ghost use Rattle.dcm_edit.specs.Together.{together};
 
 /// Edits that do not overlap, done all at once, do what they do one after another, where the tags of each data set ascend.
@@ -51,4 +52,19 @@ pub fn reads_ascend()
 /// What is written of a data set in a target syntax does not depend on its reached tags.
 pub fn recode_anew()
     ensures { (target : Syntax) (f : Front) → recode target (reached_anew f) ≡ recode target f }
+{}
+
+/// The words of a command line mean at most 64 edits.
+pub fn edits_are_few()
+    ensures { (words : List (List ℕ)) (edits : List Edit) → meant_edits words ≡ Ok edits → length edits ≤ 64 }
+{}
+
+/// The edits that the words of a command line mean put no sequences.
+pub fn edits_have_values()
+    ensures { (words : List (List ℕ)) (edits : List Edit) → meant_edits words ≡ Ok edits → AllAre HasValue edits }
+{}
+
+/// The indexes in the edits that the words of a command line mean have at most nine digits.
+pub fn edits_have_small_indexes()
+    ensures { (words : List (List ℕ)) (edits : List Edit) → meant_edits words ≡ Ok edits → AllAre HasSmallIndexes edits }
 {}

@@ -5,9 +5,19 @@ mod asked;
 mod edit;
 mod editor;
 mod edits;
+mod fault;
+mod form;
+mod known;
 pub mod laws;
+mod making;
 mod mask;
+mod overlap;
+mod parse;
+mod path;
+#[cfg(test)]
+mod tests;
 
 pub use edit::{Action, Edit, Index, NewElement, PathEdit, Step};
 pub use editor::Editor;
 pub use edits::Edits;
+pub use fault::EditFault;

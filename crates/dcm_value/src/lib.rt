@@ -21,3 +21,4 @@ pub use lanes::swap;
 pub use parts::tag_of_text;
 pub use reading::{BadValue, read_value, read_value_into};
 pub use value_text::ValueText;
+pub use way::takes_bytes;

@@ -1,5 +1,6 @@
 // How a value is shown.
 ghost use Rattle.std.specs.Prelude.{◌≡◌};
+ghost use Rattle.dcm_base.specs.ReadValue.{takes_bytes};
 ghost use Rattle.dcm_base.specs.ValueText as text;
 ghost use Rattle.dcm_value.specs.Way as spec;
 
@@ -44,6 +45,13 @@ pub fn way_of(vr: Vr, size: u32) -> Way
         | Vr::UT => Way::InBrackets,
         _ => Way::InUnits,
     }
+}
+
+/// Whether a value is shown as its bytes, and given so in an edit.
+pub fn takes_bytes(vr: Vr) -> bool
+    ensures { result ≡ takes_bytes (text.shape vr) }
+{
+    way_of(vr, 0) != Way::InUnits
 }
 
 /// Whether a value is one however long it is.

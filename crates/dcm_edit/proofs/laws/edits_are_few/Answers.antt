@@ -1,0 +1,5 @@
+use Rattle.dcm_edit.proofs.EachEdit.{few}
+use Rattle.dcm_edit.proofs.laws.edits_are_few.Goals as goal
+
+pub returns : goal.returns
+returns c = few

@@ -1,0 +1,52 @@
+use Rattle.std.proofs.Common.{rules, ◌≡◌, ◌+◌, ◌≤◌, ◌∷◌, [], ◌++◌, ℕ, suc, List, length, map, drop, Err, sym, ◌∙◌, ap, subst, arith, Vec, Global}
+use Rattle.std.proofs.lemmas.List.{map-append}
+use Rattle.dcm_base.specs.declared.fault.EditRefusal.TheVariants.{TooMany}
+use Rattle.dcm_edit.specs.declared.edit.Edit as declared
+use Rattle.dcm_edit.specs.Edit.{Edit}
+use Rattle.dcm_edit.specs.EditWords.{meant_from, in_edit}
+use Rattle.dcm_edit.specs.Making.{texts, after_edits, first_edit, MakesFrom, MakesAll}
+use Rattle.dcm_edit.specs.Meaning.{edit_of}
+use Rattle.dcm_edit.proofs.ManyEdits.{First, all_done, too_many, one_edit, failed, one_longer, longer}
+use Rattle.dcm_edit.proofs.parse.edits_of.Goals as goal
+
+pub returns-then-len-eq-MOST_EDITS : goal.returns-then-len-eq-MOST_EDITS
+returns-then-len-eq-MOST_EDITS c =
+    let full : length c.loop-place.edits.items ≡ 64 = omega (arith, c.len.ensures, c.if-len-eq-MOST_EDITS.true) in
+    let es = map edit_of c.loop-place.edits.items in
+    c.loop-place.invariant.same
+    ∙ too_many es (length c.loop-place.edits.items + 1) c.loop-place.place c.args.words.now c.loop-place-test.true (omega arith)
+    ∙ ap (λ n. Err (in_edit TooMany (n + 1))) full
+
+pub returns-in_err-edit : goal.returns-in_err-edit
+returns-in_err-edit c =
+    let es = map edit_of c.loop-place.edits.items in
+    let some : length c.loop-place.edits.items + 1 ≤ 64 = omega (arith, c.if-len-eq-MOST_EDITS.false, c.len.ensures, c.loop-place.invariant.few) in
+    let number : c.len-in-loop-place.result + 1 ≡ length c.loop-place.edits.items + 1 = omega (arith, c.len-in-loop-place.ensures) in
+    let view : declared.Edit × ℕ → First = λ r. (edit_of r.0, texts (drop (c.loop-place.place + r.1) c.args.words.now)) in
+    let fault = c.in_err-edit.field-0.0 in
+    let first = first_edit (texts (drop c.loop-place.place c.args.words.now)) in
+    let here = subst (λ n. MakesFrom view n (Err fault) first) number c.in_err-edit.ensures.edit in
+    let listed : Vec declared.Edit Global → List Edit = λ v. map edit_of v.items in
+    let all = failed view listed es fault (length c.loop-place.edits.items + 1) c.loop-place.place c.args.words.now c.loop-place-test.true some here in
+    let made = subst (MakesAll listed (Err fault)) (sym c.loop-place.invariant.same) all in
+    search rules
+
+pub loop-place-preserved : goal.loop-place-preserved
+loop-place-preserved c =
+    let items = c.loop-place.edits.items in
+    let es = map edit_of items in
+    let new = c.in_ok-push.ensures.items in
+    let some : length items + 1 ≤ 64 = omega (arith, c.if-len-eq-MOST_EDITS.false, c.len.ensures, c.loop-place.invariant.few) in
+    let rest = texts (drop (c.loop-place.place + c.in_ok-edit.used) c.args.words.now) in
+    let meant = c.loop-place.invariant.same ∙ one_edit es (edit_of c.in_ok-edit.edit) (length items + 1) c.loop-place.place c.args.words.now rest c.loop-place-test.true some c.in_ok-edit.ensures.edit in
+    let edits : map edit_of c.push.new.self.items ≡ es ++ edit_of c.in_ok-edit.edit ∷ [] = ap (map edit_of) new ∙ map-append edit_of items (c.in_ok-edit.edit ∷ []) in
+    record {
+      same = meant
+          ∙ ap (λ l. after_edits l (meant_from (suc (length items + 1)) rest)) (sym edits)
+          ∙ ap (λ n. after_edits (map edit_of c.push.new.self.items) (meant_from n rest)) (one_longer items c.in_ok-edit.edit ∙ ap (λ (l : List declared.Edit). length l + 1) (sym new));
+      few = longer items c.in_ok-edit.edit c.push.new.self.items new some;
+      within = c.in_ok-edit.ensures.used.1;
+    }
+
+pub returns : goal.returns
+returns c = c.loop-place.invariant.same ∙ all_done (map edit_of c.loop-place.edits.items) _ c.loop-place.place c.args.words.now c.loop-place-test.false

@@ -1,0 +1,16 @@
+use Rattle.std.proofs.Common.{◌≡◌, ◌≤◌, ◌+◌, ◌-◌, drop, length, map}
+use Rattle.dcm_edit.specs.EditWords.{meant_from, EDIT_LIMIT}
+use Rattle.dcm_edit.specs.Making.{texts, after_edits}
+use Rattle.dcm_edit.specs.Meaning.{edit_of}
+use Rattle.dcm_edit.proofs.parse.edits_of.Given as goal
+
+-- the edits so far, and those of the words that are left
+abbrev pub invariant-loop-place : goal.invariant-loop-place
+invariant-loop-place l = record {
+  same : meant_from 1 (texts l.words) ≡ after_edits (map edit_of l.edits.items) (meant_from (length l.edits.items + 1) (texts (drop l.place l.words)));
+  few : length l.edits.items ≤ EDIT_LIMIT;
+  within : l.place ≤ length l.words;
+}
+
+abbrev pub decreases-loop-place : goal.decreases-loop-place
+decreases-loop-place l = length l.words - l.place

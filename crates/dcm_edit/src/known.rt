@@ -1,0 +1,95 @@
+// Parts of a path whose tags are known.
+ghost use Rattle.std.specs.Prelude.{◌≡◌, ◌≤◌, [], ◌∷◌, length, map, option_map, MatchResult};
+ghost use Rattle.dcm_edit.specs.EditWords as spec;
+ghost use Rattle.dcm_edit.specs.Making.{known_as};
+ghost use Rattle.dcm_edit.specs.Meaning.{index_of as index_as};
+ghost use Rattle.dcm_edit.specs.Parts.{part_as, PART_LIMIT};
+
+use crate::edit::Index;
+use crate::path::{MOST_PARTS, Name, Part};
+use arrayvec::ArrayVec;
+use dcm_base::{EditRefusal, Tag, Vr, element, tag_of};
+
+/// The group of the meta group's elements.
+const META_GROUP: u16 = 2;
+
+/// A tag of the extract with its representation, and an index where the part has one.
+#[derive(Clone, Copy, Debug, PartialEq, Eq)]
+pub struct Known {
+    pub tag: Tag,
+    pub vr: Vr,
+    pub index: Option<Index>,
+}
+
+impl Default for Known {
+    fn default() -> Known {
+        Known {
+            tag: Tag::ITEM,
+            vr: Vr::UN,
+            index: None,
+        }
+    }
+}
+
+/// A tag that edits may name.
+fn known_tag(index: Option<Index>, tag: Tag) -> Result<Known, EditRefusal>
+    ensures { MatchResult result (λ k. spec.known_tag (option_map index_as index) tag ≡ Ok (known_as k)) (λ u. spec.known_tag (option_map index_as index) tag ≡ Err u) }
+{
+    if tag.group == META_GROUP {
+        return Err(EditRefusal::MetaGroup);
+    }
+    match element(tag) {
+        Some((vr, _)) => Ok(Known { tag, vr, index }),
+        None => Err(EditRefusal::UnknownTag),
+    }
+}
+
+fn known_part(part: Part) -> Result<Known, EditRefusal>
+    ensures { let meant = spec.known_part (part_as part.entry).name (part_as part.entry).index in MatchResult result (λ k. meant ≡ Ok (known_as k)) (λ u. meant ≡ Err u) }
+{
+    match part.name {
+        Name::Number(tag) => known_tag(part.index, tag),
+        Name::Keyword(word) => match tag_of(word) {
+            Some(tag) => known_tag(part.index, tag),
+            None => Err(EditRefusal::UnknownTag),
+        },
+    }
+}
+
+/// The parts with their tags, or the first refusal.
+pub fn known_parts(parts: &[Part]) -> Result<ArrayVec<Known, MOST_PARTS>, EditRefusal>
+    requires { length parts.now ≤ PART_LIMIT }
+    ensures { let meant = spec.known_parts (map part_as parts.now) in MatchResult result (λ ks. meant ≡ Ok (map known_as ks.items)) (λ u. meant ≡ Err u) }
+{
+    let mut known = ArrayVec::new();
+    let mut rest = parts;
+    while let [part, after @ ..] = rest {
+        known.push(known_part(*part)?);
+        rest = after;
+    }
+    Ok(known)
+}
+
+/// Whether an indexed tag is a sequence's, and that of a new value is not.
+fn uses_sequence(valued: bool, known: Known) -> bool
+    ensures { result ≡ spec.uses_sequences valued (known_as known ∷ []) }
+{
+    let is_sequence = known.vr == Vr::SQ;
+    if known.index.is_some() {
+        is_sequence
+    } else {
+        !(valued && is_sequence)
+    }
+}
+
+pub fn uses_sequences(valued: bool, mut known: &[Known]) -> bool
+    ensures { result ≡ spec.uses_sequences valued (map known_as known.entry.now) }
+{
+    while let [part, rest @ ..] = known {
+        if !uses_sequence(valued, *part) {
+            return false;
+        }
+        known = rest;
+    }
+    true
+}

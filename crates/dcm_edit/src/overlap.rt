@@ -1,0 +1,136 @@
+// Edits that overlap.
+ghost use Rattle.std.specs.Prelude.{◌≡◌, ◌||◌, [], map};
+ghost use Rattle.dcm_edit.specs.Meaning.{index_of as index_as, action_of as action_as, along, path_edit_of as path_edit_as, edit_of as edit_as, first_tag};
+ghost use Rattle.dcm_edit.specs.Overlap as spec;
+
+use crate::edit::{Action, Edit, Index, PathEdit, Step};
+use dcm_base::Tag;
+
+fn is_every(index: Index) -> bool
+    ensures { result ≡ spec.is_every (index_as index) }
+{
+    match index {
+        Index::Number(_) => false,
+        Index::Every => true,
+    }
+}
+
+fn same_index(left: Index, right: Index) -> bool
+    ensures { result ≡ spec.same_index (index_as left) (index_as right) }
+{
+    left == right
+}
+
+/// Whether different indexes before the end of their paths may select the same item.
+fn one_is_every(left: Index, right: Index) -> bool
+    ensures { result ≡ (spec.is_every (index_as left) || spec.is_every (index_as right)) }
+{
+    is_every(left) || is_every(right)
+}
+
+/// The tag at the end of a path.
+fn action_tag(action: &Action) -> Tag
+    ensures { result ≡ first_tag (action_as action.now) }
+{
+    match action {
+        Action::Insert(element) | Action::Modify(element) => element.tag,
+        Action::Erase(tag) => *tag,
+        Action::EraseItem(step) => step.tag,
+    }
+}
+
+/// The first tag of the rest of a path.
+fn next_tag(steps: &[Step], action: &Action) -> Tag
+    ensures { result ≡ first_tag (along steps.now (action_as action.now)) }
+{
+    match steps {
+        [step, ..] => step.tag,
+        [] => action_tag(action),
+    }
+}
+
+/// Whether one path begins the other, or both part at indexes of which one is a star or ends its path.
+fn meets(left: &PathEdit, right: &PathEdit) -> bool
+    ensures { result ≡ spec.meets (spec.path (path_edit_as left.now)) (spec.path (path_edit_as right.now)) }
+{
+    let mut left_steps = left.steps.as_slice();
+    let mut right_steps = right.steps.as_slice();
+    while let [x, left_rest @ ..] = left_steps {
+        let [y, right_rest @ ..] = right_steps else {
+            return x.tag == action_tag(&right.action);
+        };
+        if x.tag != y.tag {
+            return false;
+        }
+        if !same_index(x.index, y.index) {
+            return one_is_every(x.index, y.index);
+        }
+        left_steps = left_rest;
+        right_steps = right_rest;
+    }
+    action_tag(&left.action) == next_tag(right_steps, &right.action)
+}
+
+/// Whether a path names the tag.
+fn is_on(tag: Tag, path: &PathEdit) -> bool
+    ensures { result ≡ spec.is_on tag (spec.path (path_edit_as path.now)) }
+{
+    let mut steps = path.steps.as_slice();
+    while let [step, rest @ ..] = steps {
+        if tag == step.tag {
+            return true;
+        }
+        steps = rest;
+    }
+    tag == action_tag(&path.action)
+}
+
+fn is_named(tag: Tag, edit: &Edit) -> bool
+    ensures { result ≡ spec.is_named tag (edit_as edit.now) }
+{
+    match edit {
+        Edit::OnPath(path) => is_on(tag, path),
+        Edit::ModifyAll(element) => tag == element.tag,
+        Edit::EraseAll(erased) => tag == *erased,
+        Edit::ErasePrivate => false,
+    }
+}
+
+fn overlaps(earlier: &Edit, later: &Edit) -> bool
+    ensures { result ≡ spec.overlaps (edit_as earlier.now) (edit_as later.now) }
+{
+    match (earlier, later) {
+        (Edit::OnPath(left), Edit::OnPath(right)) => meets(left, right),
+        (Edit::OnPath(path), Edit::ModifyAll(element)) => is_on(element.tag, path),
+        (Edit::OnPath(path), Edit::EraseAll(tag)) => is_on(*tag, path),
+        (Edit::OnPath(_), Edit::ErasePrivate) => false,
+        (Edit::ModifyAll(element), _) => is_named(element.tag, later),
+        (Edit::EraseAll(tag), _) => is_named(*tag, later),
+        (Edit::ErasePrivate, _) => false,
+    }
+}
+
+fn overlaps_one(mut earlier: &[Edit], later: &Edit) -> bool
+    ensures { result ≡ spec.overlaps_one (map edit_as earlier.entry.now) (edit_as later.now) }
+{
+    while let [edit, rest @ ..] = earlier {
+        if overlaps(edit, later) {
+            return true;
+        }
+        earlier = rest;
+    }
+    false
+}
+
+/// The number of the first edit, from 1, that overlaps an earlier one.
+pub fn first_overlap(edits: &[Edit]) -> Option<usize>
+    ensures { result ≡ spec.first_overlap 1 [] (map edit_as edits.now) }
+{
+    for i in 0..edits.len() {
+        let (earlier, _) = edits.split_at(i);
+        if overlaps_one(earlier, &edits[i]) {
+            return Some(i + 1);
+        }
+    }
+    None
+}

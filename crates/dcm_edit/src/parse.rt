@@ -1,0 +1,95 @@
+// The edits that words mean.
+ghost use Rattle.std.specs.Prelude.{◌≡◌, ◌+◌, ◌<◌, ◌≤◌, drop, length, map, IfOk};
+ghost use Rattle.dcm_edit.specs.EditWords as spec;
+ghost use Rattle.dcm_edit.specs.Making.{option_as, fault_of, texts, MakesFrom, MakesAll, first_edit};
+ghost use Rattle.dcm_edit.specs.Meaning.{edit_of as edit_as};
+
+use crate::edit::Edit;
+use crate::fault::{EditFault, Failure};
+use crate::form::Kind;
+use crate::making::edit_of_word;
+use dcm_base::EditRefusal;
+use std::alloc::Global;
+
+/// The most edits of a command line.
+const MOST_EDITS: usize = 64;
+
+/// What a word says that begins an edit.
+#[derive(Clone, Copy, Debug, PartialEq, Eq)]
+enum OptionWord {
+    /// The next word has a path.
+    Takes(Kind),
+    Private,
+    Unknown,
+}
+
+fn option_word(word: &[u8]) -> OptionWord
+    ensures { option_as result ≡ spec.option_word word.now }
+{
+    if word == b"-i".as_slice() {
+        OptionWord::Takes(Kind::Inserts)
+    } else if word == b"-m".as_slice() {
+        OptionWord::Takes(Kind::Modifies)
+    } else if word == b"-e".as_slice() {
+        OptionWord::Takes(Kind::Erases)
+    } else if word == b"-ma".as_slice() {
+        OptionWord::Takes(Kind::ModifiesAll)
+    } else if word == b"-ea".as_slice() {
+        OptionWord::Takes(Kind::ErasesAll)
+    } else if word == b"-ep".as_slice() {
+        OptionWord::Private
+    } else {
+        OptionWord::Unknown
+    }
+}
+
+/// A failure of the edit with this number.
+fn in_edit(failure: Failure, number: usize) -> EditFault
+    ensures { result ≡ fault_of failure number }
+{
+    match failure {
+        Failure::Refused(refusal) => EditFault::Refused(refusal, number),
+        Failure::Memory => EditFault::Memory,
+    }
+}
+
+/// The edit whose words begin at this place, which has this number, and how many words it has.
+fn next_edit(
+    alloc: Global,
+    number: usize,
+    words: &[&[u8]],
+    place: usize,
+) -> Result<(Edit, usize), EditFault>
+    requires { place < length words.now }
+    ensures edit { MakesFrom (λ r. (edit_as r.0, texts (drop (place + r.1) words.now))) number result (first_edit (texts (drop place words.now))) }
+    ensures used { IfOk result (λ r. (0 < r.1) × (place + r.1 ≤ length words.now)) }
+{
+    match option_word(words[place]) {
+        OptionWord::Private => Ok((Edit::ErasePrivate, 1)),
+        OptionWord::Takes(kind) => match words.get(place + 1) {
+            Some(word) => match edit_of_word(alloc, kind, word) {
+                Ok(edit) => Ok((edit, 2)),
+                Err(failure) => Err(in_edit(failure, number)),
+            },
+            None => Err(EditFault::Refused(EditRefusal::BadOption, number)),
+        },
+        OptionWord::Unknown => Err(EditFault::Refused(EditRefusal::BadOption, number)),
+    }
+}
+
+/// The edits of words, which may overlap.
+pub fn edits_of(alloc: Global, words: &[&[u8]]) -> Result<Vec<Edit>, EditFault>
+    ensures { MakesAll (λ v. map edit_as v.items) result (spec.meant_from 1 (texts words.now)) }
+{
+    let mut edits = Vec::new(alloc);
+    let mut place = 0;
+    while place < words.len() {
+        if edits.len() == MOST_EDITS {
+            return Err(EditFault::Refused(EditRefusal::TooMany, MOST_EDITS + 1));
+        }
+        let (edit, used) = next_edit(alloc, edits.len() + 1, words, place)?;
+        edits.push(edit)?;
+        place += used;
+    }
+    Ok(edits)
+}
