@@ -27,3 +27,4 @@ pub mod RecodeAnew
 pub mod Selection
 pub mod MadeSequences
 pub mod Masks
+pub mod DrivesEdits
