@@ -28,3 +28,5 @@ pub mod Selection
 pub mod MadeSequences
 pub mod Masks
 pub mod DrivesEdits
+pub mod WordIndexes
+pub mod WordValues

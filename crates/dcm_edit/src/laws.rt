@@ -52,3 +52,8 @@ pub fn reads_ascend()
 pub fn recode_anew()
     ensures { (target : Syntax) (f : Front) → recode target (reached_anew f) ≡ recode target f }
 {}
+
+/// The new elements of the edits that the words of a command line mean are no sequences, and their indexes have at most nine digits.
+pub fn edits_fit()
+    ensures { (words : List (List ℕ)) (edits : List Edit) → meant_edits words ≡ Ok edits → HaveValues edits × HaveShortIndexes edits }
+{}
