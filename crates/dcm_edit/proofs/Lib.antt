@@ -30,3 +30,4 @@ pub mod Masks
 pub mod DrivesEdits
 pub mod WordIndexes
 pub mod WordValues
+pub mod Depths
