@@ -31,3 +31,4 @@ pub mod DrivesEdits
 pub mod WordIndexes
 pub mod WordValues
 pub mod Depths
+pub mod DepthAtoms
