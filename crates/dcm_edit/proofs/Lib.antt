@@ -29,6 +29,8 @@ pub mod MadeSequences
 pub mod Masks
 pub mod DrivesEdits
 pub mod WordIndexes
+pub mod WordDepths
 pub mod WordValues
 pub mod Depths
 pub mod DepthAtoms
+pub mod EditReads

@@ -1,5 +1,5 @@
 -- The new values that words name are of no sequences.
-use Rattle.std.proofs.Common.{◌≡◌, ℕ, suc, List, [], ◌∷◌, length, Option, Some, None, Result, Ok, Err, Bool, true, false, not, ◌&&◌, refl, sym, ◌∙◌, ap, subst, arith}
+use Rattle.std.proofs.Common.{◌≡◌, ◌≤◌, ℕ, suc, List, [], ◌∷◌, length, Option, Some, None, Result, Ok, Err, Bool, true, false, not, ◌&&◌, refl, sym, ◌∙◌, ap, subst, arith}
 use Rattle.std.specs.Prelude.{if◌then◌else◌, ◌==◌, nat_lt, unwrap_or}
 use Rattle.std.specs.List.{slice_split}
 use Rattle.std.specs.Str.{byte}
@@ -17,9 +17,10 @@ use Rattle.dcm_base.specs.Representation.{is_sequence}
 use Rattle.dcm_base.specs.Spelling.{form}
 use Rattle.dcm_edit.specs.Edit.{Index, PathEdit, insert, modify, Edit, erase_private}
 use Rattle.dcm_edit.specs.Overlap.{first_overlap}
-use Rattle.dcm_edit.specs.EditSink.{PathHasValue, HasValue, HaveValues, HasShortIndexes, HaveShortIndexes}
+use Rattle.dcm_edit.specs.EditSink.{PathHasValue, HasValue, HaveValues, HasShortIndexes, HaveShortIndexes, depth, AreWithin}
 use Rattle.dcm_edit.specs.EditWords.{InEdit, ◌>>=◌, or_refuse, PathPart, Known, known_part, known_parts, parts_of, has_index, leads, ends_in_tag, has_form, is_indexed, uses_sequences, takes_value, Kind, inserts, modifies, erases, modifies_all, erases_all, on_steps, step_to, item_or_element, edit_on, value_for, edit_of_known, edit_of_parts, meant_edit, meant_word, meant_from, meant_edits, apart, and_then, at_edit, in_edit, OptionWord, takes_word, private_word, unknown_word, option_word, cut_at, EDIT_LIMIT}
 use Rattle.dcm_edit.proofs.EditWordLemmas.{bind_ok, ok_is, if_ok, or_refused, in_turn}
+use Rattle.dcm_edit.proofs.WordDepths.{edit_depth}
 use Rattle.dcm_edit.proofs.WordIndexes.{part_index, parts_short, known_short, edit_short}
 
 abbrev EndsPlain : List Known → Type 0
@@ -143,7 +144,7 @@ if_test false u r y p = absurd cc
 -- ---- one edit
 
 abbrev Fits : Edit → Type 0
-Fits e = HasValue e × HasShortIndexes e
+Fits e = HasValue e × HasShortIndexes e × (depth e ≤ 64)
 
 value_by_kind : (kind : Kind) (t : Bool) (ms : List PathPart) (ks : List Known) (value : List ℕ) → takes_value kind ≡ t → has_form kind ms ≡ true → known_parts ms ≡ Ok ks → uses_sequences (takes_value kind) ks ≡ true
     → HasValue (edit_on kind ks value)
@@ -159,7 +160,7 @@ edit_fits kind p v e h =
     let used : uses_sequences (takes_value kind) b.0 ≡ true = if_test (uses_sequences (takes_value kind) b.0) SequenceMisused _ e b.2 in
     let r = bind_ok (value_for kind b.0 v) (λ value. Ok (edit_on kind b.0 value)) e (if_ok (uses_sequences (takes_value kind) b.0) SequenceMisused _ e b.2) in
     let short = parts_short (slice_split (λ c. c == byte ".") p) a.0 (or_refused BadOption _ a.0 a.1) in
-    subst (λ (x : Edit). Fits x) (ok_is _ _ r.2) (value_by_kind kind (takes_value kind) a.0 b.0 r.0 refl formed b.1 used, edit_short kind b.0 r.0 (known_short a.0 b.0 short b.1))
+    subst (λ (x : Edit). Fits x) (ok_is _ _ r.2) (value_by_kind kind (takes_value kind) a.0 b.0 r.0 refl formed b.1 used, edit_short kind b.0 r.0 (known_short a.0 b.0 short b.1), edit_depth kind a.0 b.0 r.0 formed b.1)
 
 word_fits : (kind : Kind) (w : List ℕ) (e : Edit) → meant_word kind w ≡ Ok e → Fits e
 word_fits kind w e h = by_test (takes_value kind) _ _ h (λ g. edit_fits kind (cut_at (byte "=") w).before (unwrap_or (cut_at (byte "=") w).after []) e g) (λ g. edit_fits kind w [] e g)
@@ -188,7 +189,7 @@ word_then n (Err u) more es p h q = absurd cc
 
 one_word : (o : OptionWord) (n : ℕ) (es : List Edit)
     → (let s : Result (List Edit) InEdit = elim o [ private_word ↦ Ok (erase_private ∷ []) | takes_word kind ↦ Err (in_edit BadOption n) | unknown_word ↦ Err (in_edit BadOption n) ] in s ≡ Ok es) → AllFit es
-one_word private_word n es q = all_is (erase_private ∷ []) es (ok_is _ _ q) ((tt, tt), tt)
+one_word private_word n es q = all_is (erase_private ∷ []) es (ok_is _ _ q) ((tt, tt, omega arith), tt)
 one_word (takes_word kind) n es q = absurd cc
 one_word unknown_word n es q = absurd cc
 
@@ -199,7 +200,7 @@ two_words : (o : OptionWord) (n : ℕ) (v : List ℕ) (skip more : Result (List 
       | takes_word kind ↦ elim (at_edit n (meant_word kind v)) [ Ok e ↦ and_then e more | Err u ↦ Err u ]
       | unknown_word ↦ Err (in_edit BadOption n)
     ] in s ≡ Ok es) → AllFit es
-two_words private_word n v skip more es g h q = then_fit erase_private skip es (tt, tt) g q
+two_words private_word n v skip more es g h q = then_fit erase_private skip es (tt, tt, omega arith) g q
 two_words (takes_word kind) n v skip more es g h q = word_then n (meant_word kind v) more es (λ e r. word_fits kind v e r) h q
 two_words unknown_word n v skip more es g h q = absurd cc
 
@@ -218,10 +219,10 @@ all_fit (Ok fs) es q h = by_overlap (first_overlap 1 [] fs) q
     by_overlap (Some n) g = absurd cc
 all_fit (Err u) es q h = absurd cc
 
-both_of : (es : List Edit) → AllFit es → HaveValues es × HaveShortIndexes es
-both_of [] h = (tt, tt)
-both_of (e ∷ es) h = let more = both_of es h.1 in ((h.0.0, more.0), (h.0.1, more.1))
+all_of : (es : List Edit) → AllFit es → HaveValues es × HaveShortIndexes es × AreWithin 64 es
+all_of [] h = (tt, tt, tt)
+all_of (e ∷ es) h = let more = all_of es h.1 in ((h.0.0, more.0), (h.0.1, more.1), (h.0.2, more.2))
 
 -- the law
-pub edits_fit : (words : List (List ℕ)) (es : List Edit) → meant_edits words ≡ Ok es → HaveValues es × HaveShortIndexes es
-edits_fit words es q = both_of es (all_fit (meant_from 1 words) es q (words_fit 1 words))
+pub edits_fit : (words : List (List ℕ)) (es : List Edit) → meant_edits words ≡ Ok es → HaveValues es × HaveShortIndexes es × AreWithin 64 es
+edits_fit words es q = all_of es (all_fit (meant_from 1 words) es q (words_fit 1 words))

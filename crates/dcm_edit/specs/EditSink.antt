@@ -1,5 +1,5 @@
 -- All edits in one pass over the atoms of a data set.
-use Rattle.std.specs.Prelude.{◌≡◌, ◌<◌, ℕ, zero, suc, min, nat_lt, length, List, [], ◌∷◌, Option, Some, None, Bool, true, false, ◌||◌, map, if◌then◌else◌}
+use Rattle.std.specs.Prelude.{◌≡◌, ◌<◌, ◌≤◌, ℕ, zero, suc, min, nat_lt, length, List, [], ◌∷◌, Option, Some, None, Bool, true, false, ◌||◌, map, if◌then◌else◌}
 use Rattle.dcm_base.specs.declared.tag.Tag.{Tag}
 use Rattle.dcm_base.specs.declared.vr.Vr.{Vr}
 use Rattle.dcm_base.specs.declared.length.Length.{Length}
@@ -220,3 +220,23 @@ HasShortIndexes elsewhere = Unit {0}
 abbrev pub HaveShortIndexes : List Edit → Type 0
 HaveShortIndexes [] = Unit {0}
 HaveShortIndexes (e ∷ es) = HasShortIndexes e × HaveShortIndexes es
+
+-- how many steps a path has
+abbrev pub steps : PathEdit → ℕ
+steps (step tag index edit) = suc (steps edit)
+steps (insert tag vr value) = 0
+steps (modify tag vr value) = 0
+steps (erase tag) = 0
+steps (erase_item tag index) = 0
+
+abbrev pub depth : Edit → ℕ
+depth (on_path edit) = steps edit
+depth (modify_all tag vr value) = 0
+depth (erase_all tag) = 0
+depth erase_private = 0
+depth elsewhere = 0
+
+-- no path has more than n steps
+abbrev pub AreWithin : ℕ → List Edit → Type 0
+AreWithin n [] = Unit {0}
+AreWithin n (e ∷ es) = (depth e ≤ n) × AreWithin n es
