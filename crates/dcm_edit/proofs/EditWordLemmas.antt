@@ -116,7 +116,7 @@ pub ok_is : {A E : Type 0} (x y : A) → (let r : Result A E = Ok x in let s : R
 unfolding value_or
 ok_is x y p = ap (λ r. value_or x r) p
 
-or_refused : {A : Type 0} (u : EditRefusal) (o : Option A) (x : A) → or_refuse u o ≡ Ok x → o ≡ Some x
+pub or_refused : {A : Type 0} (u : EditRefusal) (o : Option A) (x : A) → or_refuse u o ≡ Ok x → o ≡ Some x
 or_refused u None x p = cc
 or_refused u (Some y) x p = ap Some (ok_is y x p)
 

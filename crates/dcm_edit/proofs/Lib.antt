@@ -44,3 +44,10 @@ pub mod ManyEdits
 pub mod EachEdit
 pub mod SoundEdits
 pub mod FirstOnes
+pub mod DrivesEdits
+pub mod WordIndexes
+pub mod WordDepths
+pub mod WordValues
+pub mod Depths
+pub mod DepthAtoms
+pub mod EditReads

@@ -4,7 +4,13 @@ use Rattle.std.specs.Prelude.{if◌then◌else◌, ◌==◌}
 use Rattle.std.proofs.Math.Dec.{eqb-suc-zero}
 use Rattle.dcm_base.specs.declared.tag.Tag.{Tag}
 use Rattle.dcm_base.specs.Tag.{same_tag}
-use Rattle.dcm_base.specs.Tree.{Trees, no_tree}
+use Rattle.dcm_base.specs.declared.vr.Vr.{Vr}
+use Rattle.dcm_base.specs.declared.vr.Vr.TheVariants.{SQ}
+use Rattle.dcm_base.specs.declared.length.Length.TheVariants.{Undefined}
+use Rattle.dcm_base.specs.declared.syntax.Syntax.TheVariants.{Little}
+use Rattle.dcm_base.specs.Atoms.{Atom, opens, opens_item, closes_item, closes_sequence, trees_then}
+use Rattle.dcm_base.specs.Spelling.{inside}
+use Rattle.dcm_base.specs.Tree.{Trees, no_tree, leaf}
 use Rattle.dcm_base.specs.Ascending.{Ascend}
 use Rattle.dcm_base.proofs.TagLemmas.{same_tag_sym, same_tag_trans, same_tag_self}
 use Rattle.dcm_edit.specs.Edit.{number, every, PathEdit, step, insert, modify, erase, erase_item, Edit, on_path, modify_all, erase_all, erase_private, elsewhere, within, NewElement, no_element, new_leaf, new_sequence, before, around, new_element, element_of, edited_sets}
@@ -176,3 +182,17 @@ made_holds t held (e ∷ es) p n f = by_test (passes_new (same_tag t) (element_o
         let g : first_new t es ≡ new_sequence t held = is_other (passes_new (same_tag t) (element_of e)) (completed es (element_of e)) _ _ f h in
         more g
         ∙ ap (λ (w : NewElement). puts (above_last None) (all_within es t 0) (put_new (above_last None) (completed (all_within es t 0) w) no_tree)) (sym (quiet_item t e (beside t held e es g p.0) h))
+
+-- ---- the atoms of new elements
+
+pub new_leaf_atoms : (tag : Tag) (vr : Vr) (value : List ℕ) (rest : Trees) (others : List Atom)
+    → trees_then Little (before (new_leaf tag vr value) rest) others ≡ trees_then Little (leaf tag vr value no_tree) (trees_then Little rest others)
+unfolding trees_then
+new_leaf_atoms tag vr value rest others = refl
+
+-- a made sequence has one item
+pub new_sequence_atoms : (tag : Tag) (held rest : Trees) (others : List Atom)
+    → trees_then Little (before (new_sequence tag held) rest) others
+    ≡ opens tag SQ Undefined Little ∷ opens_item Undefined ∷ trees_then Little held (closes_item ∷ closes_sequence ∷ trees_then Little rest others)
+unfolding trees_then inside
+new_sequence_atoms tag held rest others = refl

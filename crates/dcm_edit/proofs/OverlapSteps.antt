@@ -1,5 +1,6 @@
 -- What edits that do not overlap ask of items.
-use Rattle.std.proofs.Common.{◌≡◌, ℕ, suc, pred, ◌≤◌, List, [], ◌∷◌, Bool, true, false, ◌||◌, ◌&&◌, refl, sym, ◌∙◌, ap, arith}
+pub use Rattle.dcm_edit.specs.EditSink.{steps, depth, AreWithin}
+use Rattle.std.proofs.Common.{◌≡◌, ℕ, pred, ◌≤◌, List, [], ◌∷◌, Bool, true, false, ◌||◌, ◌&&◌, refl, sym, ◌∙◌, ap, arith}
 use Rattle.std.specs.Prelude.{if◌then◌else◌}
 use Rattle.dcm_base.specs.declared.tag.Tag.{Tag}
 use Rattle.dcm_base.specs.Tag.{same_tag, is_private}
@@ -73,25 +74,6 @@ or_both a b p q = cc
 pub all_keep_items : (t : Tag) (i : Index) (x : PathEdit) (es : List Edit) (n : ℕ) → ApartFrom (on_path (step t i x)) es → any_erases es t n ≡ false
 all_keep_items t i x [] n o = refl
 all_keep_items t i x (b ∷ es) n o = or_both _ _ (keeps_items t i x b n o.0) (all_keep_items t i x es n o.1)
-
--- how many steps a path has
-abbrev pub steps : PathEdit → ℕ
-steps (step t i x) = suc (steps x)
-steps (insert t vr value) = 0
-steps (modify t vr value) = 0
-steps (erase t) = 0
-steps (erase_item t i) = 0
-
-abbrev pub depth : Edit → ℕ
-depth (on_path x) = steps x
-depth (modify_all t vr value) = 0
-depth (erase_all t) = 0
-depth erase_private = 0
-depth elsewhere = 0
-
-abbrev pub AreWithin : ℕ → List Edit → Type 0
-AreWithin n [] = Unit {0}
-AreWithin n (e ∷ es) = (depth e ≤ n) × AreWithin n es
 
 pub depth_case : (c : Bool) (x : PathEdit) (n : ℕ) → steps x ≤ n → depth (if c then on_path x else elsewhere) ≤ n
 depth_case true x n p = p

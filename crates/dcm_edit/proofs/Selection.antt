@@ -7,7 +7,7 @@ use Rattle.dcm_base.specs.declared.vr.Vr.TheVariants.{SQ}
 use Rattle.dcm_base.specs.declared.length.Length.TheVariants.{Undefined}
 use Rattle.dcm_base.specs.Tag.{same_tag, below, is_above}
 use Rattle.dcm_base.specs.Tree.{Trees, no_tree, leaf, sequence, fragments}
-use Rattle.dcm_base.proofs.TagLemmas.{below_other, below_other_way, tag_is, same_tag_self}
+use Rattle.dcm_base.proofs.TagLemmas.{below_trans, below_other, below_other_way, tag_is, same_tag_self}
 use Rattle.dcm_edit.specs.Edit.{Edit, has, put, before, NewElement, no_element, new_leaf, new_sequence, element_of}
 use Rattle.dcm_edit.specs.Together.{completed}
 use Rattle.dcm_edit.specs.NewOnes.{put_at, put_new, puts, above_last, is_between, passes_new, any_new, passing, lesser, least_new, first_new}
@@ -317,3 +317,27 @@ pub puts_above : (last : Option Tag) (t : Tag) (es : List Edit) → least_new (a
 puts_above last t es e =
     let h = is_least (above_last last) es t e in
     puts_first (above_last last) (above_last (Some t)) t es no_tree h.passes h.is_there h.none_below (above_above last t h.passes) tt
+
+-- ---- the least tag, edit by edit
+
+pub lesser_none : (a : Option Tag) → lesser a None ≡ a
+lesser_none None = refl
+lesser_none (Some t) = refl
+
+if_lesser : (b : Bool) (x y : Tag) (c : Bool) → b ≡ c → (if b then Some y else Some x) ≡ (if c then Some y else Some x)
+if_lesser b x y c e = ap (λ (d : Bool). if d then Some y else Some x) e
+
+lesser_three : (x y z : Tag) (p q r : Bool) → below y x ≡ p → below z y ≡ q → below z x ≡ r → lesser (if p then Some y else Some x) (Some z) ≡ lesser (Some x) (if q then Some z else Some y)
+lesser_three x y z true true true e f g = if_lesser (below z y) y z true f ∙ sym (if_lesser (below z x) x z true g)
+lesser_three x y z true true false e f g = absurd (not_both (below z x) (below_trans z y x f e) g)
+lesser_three x y z true false r e f g = if_lesser (below z y) y z false f ∙ sym (if_lesser (below y x) x y true e)
+lesser_three x y z false true r e f g = refl
+lesser_three x y z false false true e f g = absurd (not_both (below z x) g (lower z x y f e))
+lesser_three x y z false false false e f g = if_lesser (below z x) x z false g ∙ sym (if_lesser (below y x) x y false e)
+
+-- the least of what comes first, and then the least of the rest
+pub lesser_assoc : (a b c : Option Tag) → lesser (lesser a b) c ≡ lesser a (lesser b c)
+lesser_assoc None b c = refl
+lesser_assoc (Some x) None c = refl
+lesser_assoc (Some x) (Some y) None = lesser_none (lesser (Some x) (Some y))
+lesser_assoc (Some x) (Some y) (Some z) = lesser_three x y z (below y x) (below z y) (below z x) refl refl refl

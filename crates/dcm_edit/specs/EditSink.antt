@@ -1,6 +1,8 @@
 -- All edits in one pass over the atoms of a data set.
-use Rattle.std.specs.Prelude.{◌≡◌, ◌<◌, ℕ, zero, suc, min, nat_lt, length, List, [], ◌∷◌, Option, Some, None, Bool, true, false, ◌||◌, map, if◌then◌else◌}
+use Rattle.std.specs.Prelude.{◌≡◌, ◌<◌, ◌≤◌, ℕ, zero, suc, min, nat_lt, length, List, [], ◌∷◌, Option, Some, None, Bool, true, false, ◌||◌, map, if◌then◌else◌}
 use Rattle.dcm_base.specs.declared.tag.Tag.{Tag}
+use Rattle.dcm_base.specs.declared.vr.Vr.{Vr}
+use Rattle.dcm_base.specs.declared.length.Length.{Length}
 use Rattle.dcm_base.specs.declared.length.Length.TheVariants.{Known}
 use Rattle.dcm_base.specs.declared.syntax.Syntax.TheVariants.{Little}
 use Rattle.dcm_base.specs.Tag.{is_above}
@@ -8,10 +10,13 @@ use Rattle.dcm_base.specs.Tree.{no_tree, leaf}
 use Rattle.dcm_base.specs.Front.{Front, front, OpenTree, nothing_open, open_leaf, open_sequence, open_fragments, OpenItem, no_open_item, open_item}
 use Rattle.dcm_base.specs.declared.form.Form.TheVariants.{Value as a_value}
 use Rattle.dcm_base.specs.Spelling.{form, reached_tag}
-use Rattle.dcm_base.specs.Atoms.{Atom, opens, value_byte, closes_leaf, opens_item, closes_item, closes_sequence, opens_fragment, ends, trees_then}
+use Rattle.dcm_base.specs.Atoms.{Atom, opens, value_byte, closes_leaf, opens_item, closes_item, closes_sequence, opens_fragment, ends, Shows, trees_then}
+use Rattle.dcm_base.specs.Bars.{ascending_bar}
 use Rattle.dcm_head.specs.declared.head.Head.{Head}
 use Rattle.dcm_stream.specs.declared.token.Bar.{Bar as SinkBar}
 use Rattle.dcm_stream.specs.declared.token.Bar.TheVariants.{Order}
+use Rattle.dcm_stream.specs.Driven.{bars_by}
+use Rattle.dcm_tools.specs.Laws.{StaysShallow}
 use Rattle.dcm_edit.specs.Edit.{Index, number, every, PathEdit, step, insert, modify, erase, erase_item, Edit, on_path, modify_all, erase_all, erase_private, elsewhere, within, Fate, stays, becomes, goes, fate, erases, acts, NewElement, no_element, new_leaf, new_sequence, element_of}
 use Rattle.dcm_edit.specs.Together.{first_fate, any_erases, all_within}
 use Rattle.dcm_edit.specs.NewOnes.{puts, above_last, is_between}
@@ -154,6 +159,11 @@ passed s ends = unless_dropped s.dropped (new_ones (above_last s.level.last) s.l
 abbrev pub edit_bar : State → Head → Option SinkBar
 edit_bar s head = if is_above head.tag s.level.last then None else Some Order
 
+-- a sink bars the tags that do not ascend, where no more than 64 sequences and fragment lists are open at a time
+abbrev pub BarsShallow : {S : Type 0} → (S → Head → Option SinkBar) → (S → Atom → S) → S → Type 0
+BarsShallow bars takes first = (f : Front) (atoms : List Atom) (tag : Tag) (vr : Vr) (declared : Length) → StaysShallow 0 atoms → Shows f atoms
+    → bars_by bars takes first atoms tag vr declared ≡ ascending_bar f tag vr declared
+
 -- a data set whose reached tags are those of its last elements
 abbrev mutual
   pub reached_anew : Front → Front
@@ -210,3 +220,23 @@ HasShortIndexes elsewhere = Unit {0}
 abbrev pub HaveShortIndexes : List Edit → Type 0
 HaveShortIndexes [] = Unit {0}
 HaveShortIndexes (e ∷ es) = HasShortIndexes e × HaveShortIndexes es
+
+-- how many steps a path has
+abbrev pub steps : PathEdit → ℕ
+steps (step tag index edit) = suc (steps edit)
+steps (insert tag vr value) = 0
+steps (modify tag vr value) = 0
+steps (erase tag) = 0
+steps (erase_item tag index) = 0
+
+abbrev pub depth : Edit → ℕ
+depth (on_path edit) = steps edit
+depth (modify_all tag vr value) = 0
+depth (erase_all tag) = 0
+depth erase_private = 0
+depth elsewhere = 0
+
+-- no path has more than n steps
+abbrev pub AreWithin : ℕ → List Edit → Type 0
+AreWithin n [] = Unit {0}
+AreWithin n (e ∷ es) = (depth e ≤ n) × AreWithin n es

@@ -7,7 +7,7 @@ use Rattle.dcm_edit.specs.Edit.{number, every, selects, PathEdit, step, insert, 
 use Rattle.dcm_edit.specs.Together.{first_fate, any_erases}
 use Rattle.dcm_edit.specs.EditSink.{Level, State, MOST_COUNTED, dropped_after_head, dropped_after_end}
 
--- bit k of a mask stands for the edit with k others before it
+-- bit k of a mask is for the edit with k others before it
 abbrev pub is_set : ℕ → ℕ → Bool
 is_set mask k = bit_at mask k == 1
 

@@ -1,7 +1,7 @@
 //! Laws of the definitions. Each function takes nothing and makes no call: its contract is the law.
 ghost use Rattle.std.specs.Prelude.{◌≡◌, ◌≤◌, ℕ, List, length, Ok, false, fold, map};
 ghost use Rattle.dcm_base.specs.Ascending.{FrontAscends};
-ghost use Rattle.dcm_base.specs.Atoms.{Atom, Shows, is_closed};
+ghost use Rattle.dcm_base.specs.Atoms.{Atom, Shows, front_atoms, is_closed};
 ghost use Rattle.dcm_base.specs.Bars.{ascending_bar};
 ghost use Rattle.dcm_base.specs.Front.{Front};
 ghost use Rattle.dcm_base.specs.Reads.{INPUT_LIMIT, Reads, ended};
@@ -13,12 +13,12 @@ ghost use Rattle.dcm_base.specs.declared.syntax.Syntax.{Syntax};
 ghost use Rattle.dcm_base.specs.declared.tag.Tag.{Tag};
 ghost use Rattle.dcm_base.specs.declared.vr.Vr.{Vr};
 ghost use Rattle.dcm_stream.specs.Driven.{bars_by};
+ghost use Rattle.dcm_tools.specs.EncodeSink.{encode_start, encode_step, encode_writes};
 ghost use Rattle.dcm_tools.specs.Laws.{StaysShallow};
 ghost use Rattle.dcm_edit.specs.Edit.{Edit, edited, found};
-ghost use Rattle.dcm_edit.specs.EditSink.{HaveShortIndexes, HaveValues, begun, edit_bar, next, passed, reached_anew};
+ghost use Rattle.dcm_edit.specs.EditSink.{AreWithin, HaveShortIndexes, HaveValues, begun, edit_bar, next, passed, reached_anew};
 ghost use Rattle.dcm_edit.specs.EditWords.{meant_edits};
 ghost use Rattle.dcm_edit.specs.Overlap.{AreApart, ArePublic};
-ghost use Rattle.dcm_edit.specs.Sound.{AllAre, HasValue, HasSmallIndexes};
 ghost use Rattle.dcm_edit.specs.Together.{together};
 
 /// Edits that do not overlap, done all at once, do what they do one after another, where the tags of each data set ascend.
@@ -59,12 +59,15 @@ pub fn edits_are_few()
     ensures { (words : List (List ℕ)) (edits : List Edit) → meant_edits words ≡ Ok edits → length edits ≤ 64 }
 {}
 
-/// The edits that the words of a command line mean put no sequences.
-pub fn edits_have_values()
-    ensures { (words : List (List ℕ)) (edits : List Edit) → meant_edits words ≡ Ok edits → AllAre HasValue edits }
+/// The new elements of the edits that the words of a command line mean are no sequences, their indexes have at most nine digits,
+/// and their paths at most 64 steps.
+pub fn edits_fit()
+    ensures { (words : List (List ℕ)) (edits : List Edit) → meant_edits words ≡ Ok edits → HaveValues edits × HaveShortIndexes edits × AreWithin 64 edits }
 {}
 
-/// The indexes in the edits that the words of a command line mean have at most nine digits.
-pub fn edits_have_small_indexes()
-    ensures { (words : List (List ℕ)) (edits : List Edit) → meant_edits words ≡ Ok edits → AllAre HasSmallIndexes edits }
+/// Of what is read of an input under the bar of the edit sink, and of what was read of it so far, the edit sink and the encode
+/// sink after it write the edited data set in the target syntax, and the edits that have found their place are known.
+pub fn edit_reads()
+    ensures whole { (target : Syntax) (edits : List Edit) → AreApart edits → ArePublic edits → HaveValues edits → HaveShortIndexes edits → AreWithin 64 edits → (s : Syntax) (start : ℕ) (bytes : List ℕ) (f : Front) (stop : Stop) → start ≤ INPUT_LIMIT → Reads ascending_bar s start bytes f stop → (outputs encode_step encode_writes (encode_start target) (outputs next passed (begun edits) (front_atoms s f)) ≡ recode target (edited edits f)) × ((fold next (begun edits) (front_atoms s f)).found ≡ map (λ e. found e f) edits) }
+    ensures so_far { (target : Syntax) (edits : List Edit) → AreApart edits → ArePublic edits → HaveValues edits → HaveShortIndexes edits → AreWithin 64 edits → (s : Syntax) (start : ℕ) (bytes : List ℕ) (f : Front) (stop : Stop) → start ≤ INPUT_LIMIT → is_closed f ≡ false → Reads ascending_bar s start bytes (ended stop f) stop → (outputs encode_step encode_writes (encode_start target) (outputs next passed (begun edits) (front_atoms s f)) ≡ recode target (edited edits f)) × ((fold next (begun edits) (front_atoms s f)).found ≡ map (λ e. found e f) edits) }
 {}

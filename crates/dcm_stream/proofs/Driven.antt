@@ -46,14 +46,14 @@ module _ {S : Type 0} (bars : S → Head → Option SinkBar) (step : S → Atom 
   -- ---- what is read
 
   -- a machine with its sink, in the machine's own terms
-  driven_is : (first : S) (s : Syntax) (start : ℕ) (bytes : List ℕ) → driven bars step first s start bytes ≡ ((read_all (bars_by bars step first) s start bytes).0, fold step first (read_all (bars_by bars step first) s start bytes).1)
+  pub driven_is : (first : S) (s : Syntax) (start : ℕ) (bytes : List ℕ) → driven bars step first s start bytes ≡ ((read_all (bars_by bars step first) s start bytes).0, fold step first (read_all (bars_by bars step first) s start bytes).1)
   driven_is first s start bytes = (drives_as first s start bytes).0
 
-  output_is : (first : S) (s : Syntax) (start : ℕ) (bytes : List ℕ) → driven_output bars step writes first s start bytes ≡ outputs step writes first (read_all (bars_by bars step first) s start bytes).1
+  pub output_is : (first : S) (s : Syntax) (start : ℕ) (bytes : List ℕ) → driven_output bars step writes first s start bytes ≡ outputs step writes first (read_all (bars_by bars step first) s start bytes).1
   output_is first s start bytes = (drives_as first s start bytes).1
 
   -- the bytes that are shown, and then the end
-  ends_by : (bar : Bar) (first : S) (s : Syntax) (start : ℕ) (bytes : List ℕ) (r : Reading) (atoms : List Atom) → driven bars step first s start bytes ≡ (r, fold step first atoms)
+  pub ends_by : (bar : Bar) (first : S) (s : Syntax) (start : ℕ) (bytes : List ℕ) (r : Reading) (atoms : List Atom) → driven bars step first s start bytes ≡ (r, fold step first atoms)
       → driven_output bars step writes first s start bytes ≡ outputs step writes first atoms → Answered bar s start bytes r atoms → EndsAs bars step writes bar first s start bytes
   ends_by bar first s start bytes r atoms d o a =
       let p = driven bars step first s start bytes in
@@ -75,7 +75,7 @@ module _ {S : Type 0} (bars : S → Head → Option SinkBar) (step : S → Atom 
       let q = read_all (bars_by bars step first) s start bytes in
       ends_by bar first s start bytes q.0 q.1 (driven_is first s start bytes) (output_is first s start bytes) (answers (bars_by bars step first) bar h s start bytes le)
 
-  refuses_by : (bar : Bar) (first : S) (s : Syntax) (start : ℕ) (bytes : List ℕ) (r : Reading) (atoms : List Atom) (fault : Fault) (offset : ℕ) → driven bars step first s start bytes ≡ (r, fold step first atoms)
+  pub refuses_by : (bar : Bar) (first : S) (s : Syntax) (start : ℕ) (bytes : List ℕ) (r : Reading) (atoms : List Atom) (fault : Fault) (offset : ℕ) → driven bars step first s start bytes ≡ (r, fold step first atoms)
       → driven_output bars step writes first s start bytes ≡ outputs step writes first atoms → (driven bars step first s start bytes).0.halt ≡ Some (refused fault offset)
       → GoesOn bar s start bytes r atoms ⊎ HaltsAt bar s start bytes r atoms → RefusesAs bars step writes bar first s start bytes fault offset
   refuses_by bar first s start bytes r atoms fault offset d o is (inl g) =
@@ -104,7 +104,7 @@ module _ {S : Type 0} (bars : S → Head → Option SinkBar) (step : S → Atom 
   unfolding SpellsFront
   stays_open s (front whole open_tree reached closed) bytes h = h.4
 
-  waits_by : (bar : Bar) (first : S) (s : Syntax) (start : ℕ) (bytes : List ℕ) (r : Reading) (atoms : List Atom) → driven bars step first s start bytes ≡ (r, fold step first atoms)
+  pub waits_by : (bar : Bar) (first : S) (s : Syntax) (start : ℕ) (bytes : List ℕ) (r : Reading) (atoms : List Atom) → driven bars step first s start bytes ≡ (r, fold step first atoms)
       → driven_output bars step writes first s start bytes ≡ outputs step writes first atoms → (driven bars step first s start bytes).0.halt ≡ None
       → GoesOn bar s start bytes r atoms ⊎ HaltsAt bar s start bytes r atoms → WaitsAs bars step writes bar first s start bytes
   waits_by bar first s start bytes r atoms d o is (inl g) =
