@@ -2,7 +2,7 @@
 ghost use Rattle.std.specs.Prelude.{◌≡◌, ◌≤◌, length, map};
 ghost use Rattle.dcm_edit.specs.EditWords.{meant_edits};
 ghost use Rattle.dcm_edit.specs.Making.{MakesAll, texts};
-ghost use Rattle.dcm_edit.specs.Meaning.{edit_of};
+ghost use Rattle.dcm_edit.specs.Meaning.{edit_of, AreMeant};
 
 use crate::edit::Edit;
 use crate::fault::EditFault;
@@ -49,7 +49,8 @@ impl Edits {
 
     /// The edits, in the order of the words.
     pub fn list(&self) -> &[Edit]
-        ensures { map edit_of result.now ≡ self.now }
+        ensures list { map edit_of result.now ≡ self.now }
+        ensures meant { AreMeant self.now }
     {
         self.list.as_slice()
     }

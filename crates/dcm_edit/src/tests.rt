@@ -1,17 +1,17 @@
-use crate::{EditFault, Edits};
-use dcm_base::EditRefusal;
+use crate::{Action, Edit, EditFault, Edits, Index};
+use dcm_base::{EditRefusal, Tag, Vr};
 use std::test::Fail;
 
-/// How many edits words mean, or why none.
-fn answer(rt: HostRuntime, line: &'static str) -> Result<Result<usize, EditFault>, Fail> {
+/// The edits that the words of a line mean, or the refusal.
+fn parsed(rt: HostRuntime, line: &'static str) -> Result<Result<Edits, EditFault>, Fail> {
     let mut words: Vec<&[u8]> = Vec::new(rt.alloc());
     for word in line.split(' ') {
         words.push(word.as_bytes())?;
     }
-    Ok(match Edits::parse(rt.alloc(), words.as_slice()) {
-        Ok(edits) => Ok(edits.len()),
-        Err(fault) => Err(fault),
-    })
+    match Edits::parse(rt.alloc(), words.as_slice()) {
+        Err(EditFault::Memory) => Err(Fail::new("out of memory")),
+        answer => Ok(answer),
+    }
 }
 
 #[test]
@@ -21,8 +21,17 @@ fn takes_edits(rt: HostRuntime) -> Result<(), Fail> {
         ("-e StudyDate -i AccessionNumber=X", 2),
         ("-i (0010,0020)=7 -m PatientName=Q", 2),
         ("-m PatientID=7", 1),
+        (
+            "-i ReferencedImageSequence[0].ReferencedSOPInstanceUID=1.2",
+            1,
+        ),
+        ("-ep -ma PatientName=A=B -ea PatientID -ep", 4),
+        ("-m PatientName", 1),
     ] {
-        assert!(rt; answer(rt, line)? == Ok(count), "{line}");
+        match parsed(rt, line)? {
+            Ok(edits) => assert!(rt; edits.len() == count, "{line}"),
+            Err(fault) => assert!(rt; false, "{line}: {fault:?}"),
+        }
     }
     Ok(())
 }
@@ -32,11 +41,59 @@ fn refuses_edits(rt: HostRuntime) -> Result<(), Fail> {
     for (line, refusal, number) in [
         ("-m PatientID=7 -m PatientID=7", EditRefusal::Overlap, 2),
         ("-i Rows=70000", EditRefusal::ValueDoesNotFit, 1),
+        ("-e Rows -e Rows[0]", EditRefusal::SequenceMisused, 2),
+        (
+            "-e ReferencedImageSequence[0] -e ReferencedImageSequence[1]",
+            EditRefusal::Overlap,
+            2,
+        ),
+        ("-i (0002,0010)=1", EditRefusal::MetaGroup, 1),
+        ("-m (0009,0010)=A", EditRefusal::UnknownTag, 1),
+        ("-m PatientName[0]=A", EditRefusal::BadOption, 1),
+        (
+            "-e ReferencedImageSequence[0000000000]",
+            EditRefusal::BadOption,
+            1,
+        ),
+        ("-ep -e", EditRefusal::BadOption, 2),
     ] {
-        assert!(rt;
-            answer(rt, line)? == Err(EditFault::Refused(refusal, number)),
-            "{line}"
-        );
+        match parsed(rt, line)? {
+            Ok(_) => assert!(rt; false, "{line}"),
+            Err(fault) => assert!(rt; fault == EditFault::Refused(refusal, number), "{line}"),
+        }
+    }
+    Ok(())
+}
+
+/// Whether an edit inserts this element into an item.
+fn inserts(edit: &Edit, number: u32, tag: Tag, vr: Vr, value: &[u8]) -> bool {
+    match edit {
+        Edit::OnPath(path) => match (path.steps.as_slice(), &path.action) {
+            ([step], Action::Insert(element)) => {
+                step.index == Index::Number(number)
+                    && element.tag == tag
+                    && element.vr == vr
+                    && element.value.as_slice() == value
+            }
+            _ => false,
+        },
+        _ => false,
+    }
+}
+
+#[test]
+fn keeps_paths_and_values(rt: HostRuntime) -> Result<(), Fail> {
+    let line = "-i ReferencedImageSequence[12].ReferencedSOPInstanceUID=1.2";
+    let tag = Tag {
+        group: 0x0008,
+        element: 0x1155,
+    };
+    match parsed(rt, line)? {
+        Ok(edits) => match edits.list() {
+            [edit] => assert!(rt; inserts(edit, 12, tag, Vr::UI, b"1.2")),
+            _ => assert!(rt; false),
+        },
+        Err(_) => assert!(rt; false),
     }
     Ok(())
 }
