@@ -41,8 +41,7 @@ pub mod Overlaps
 pub mod Makings
 pub mod Forms
 pub mod ManyEdits
-pub mod EachEdit
-pub mod SoundEdits
+pub mod EditCount
 pub mod FirstOnes
 pub mod DrivesEdits
 pub mod WordIndexes

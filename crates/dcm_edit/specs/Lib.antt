@@ -11,4 +11,3 @@ pub mod Meaning
 pub mod Editing
 pub mod Parts
 pub mod Making
-pub mod Sound

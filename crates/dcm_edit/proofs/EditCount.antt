@@ -1,4 +1,4 @@
--- What holds of each edit that words mean.
+-- How many edits words mean.
 use Rattle.std.proofs.Common.{◌≡◌, ℕ, suc, ◌≤◌, ◌-◌, List, [], ◌∷◌, length, Option, Some, None, Result, Ok, Err, Bool, true, false, refl, sym, ap, subst, arith}
 use Rattle.std.specs.Prelude.{if◌then◌else◌, nat_lt}
 use Rattle.std.proofs.lemmas.Bool.Decides.{nat_tests}
@@ -7,41 +7,7 @@ use Rattle.dcm_base.specs.declared.fault.EditRefusal.TheVariants.{BadOption, Ove
 use Rattle.dcm_edit.specs.Edit.{Edit, erase_private}
 use Rattle.dcm_edit.specs.EditWords.{InEdit, Kind, OptionWord, private_word, takes_word, unknown_word, option_word, meant_word, meant_from, meant_edits, apart, and_then, at_edit, in_edit, EDIT_LIMIT}
 use Rattle.dcm_edit.specs.Overlap.{first_overlap}
-use Rattle.dcm_edit.specs.Sound.{AllAre}
 use Rattle.dcm_edit.proofs.EditWordLemmas.{ok_is, in_turn}
-
-module _ (P : Edit → Type 0) (private_is : P erase_private) (word_is : (kind : Kind) (w : List ℕ) (e : Edit) → meant_word kind w ≡ Ok e → P e) where
-  then_are : (e : Edit) (r : Result (List Edit) InEdit) (es : List Edit) → P e → ((fs : List Edit) → r ≡ Ok fs → AllAre P fs) → and_then e r ≡ Ok es → AllAre P es
-  then_are e (Ok fs) es p h q = let Q : List Edit → Type 0 = AllAre P in subst Q (ok_is _ _ q) (p, h fs refl)
-  then_are e (Err u) es p h q = cc
-
-  word_then : (n : ℕ) (r : Result Edit EditRefusal) (more : Result (List Edit) InEdit) (es : List Edit) → ((e : Edit) → r ≡ Ok e → P e)
-      → ((fs : List Edit) → more ≡ Ok fs → AllAre P fs) → (let s : Result (List Edit) InEdit = elim (at_edit n r) [ Ok e ↦ and_then e more | Err u ↦ Err u ] in s ≡ Ok es) → AllAre P es
-  word_then n (Ok e) more es p h q = then_are e more es (p e refl) h q
-  word_then n (Err u) more es p h q = cc
-
-  one_word : (o : OptionWord) (n : ℕ) (es : List Edit)
-      → (let s : Result (List Edit) InEdit = elim o [ private_word ↦ Ok (erase_private ∷ []) | takes_word kind ↦ Err (in_edit BadOption n) | unknown_word ↦ Err (in_edit BadOption n) ] in s ≡ Ok es) → AllAre P es
-  one_word private_word n es q = let Q : List Edit → Type 0 = AllAre P in subst Q (ok_is _ _ q) (private_is, tt)
-  one_word (takes_word kind) n es q = cc
-  one_word unknown_word n es q = cc
-
-  two_words : (o : OptionWord) (n : ℕ) (v : List ℕ) (skip more : Result (List Edit) InEdit) (es : List Edit)
-      → ((fs : List Edit) → skip ≡ Ok fs → AllAre P fs) → ((fs : List Edit) → more ≡ Ok fs → AllAre P fs)
-      → (let s : Result (List Edit) InEdit = elim o [
-        | private_word ↦ and_then erase_private skip
-        | takes_word kind ↦ elim (at_edit n (meant_word kind v)) [ Ok e ↦ and_then e more | Err u ↦ Err u ]
-        | unknown_word ↦ Err (in_edit BadOption n)
-      ] in s ≡ Ok es) → AllAre P es
-  two_words private_word n v skip more es g h q = then_are erase_private skip es private_is g q
-  two_words (takes_word kind) n v skip more es g h q = word_then n (meant_word kind v) more es (word_is kind v) h q
-  two_words unknown_word n v skip more es g h q = cc
-
-  from_number : (n : ℕ) (words : List (List ℕ)) (es : List Edit) → meant_from n words ≡ Ok es → AllAre P es
-  from_number n [] es q = let Q : List Edit → Type 0 = AllAre P in subst Q (ok_is _ _ q) tt
-  from_number n (w ∷ []) es q = one_word (option_word w) n es (in_turn (nat_lt EDIT_LIMIT n) (in_edit TooMany n) _ es q)
-  from_number n (w ∷ v ∷ words) es q =
-      two_words (option_word w) n v _ _ es (from_number (suc n) (v ∷ words)) (from_number (suc n) words) (in_turn (nat_lt EDIT_LIMIT n) (in_edit TooMany n) _ es q)
 
 -- the edits are those of the words, where none overlaps an earlier one
 by_overlap : (o : Option ℕ) (fs es : List Edit) → (let s : Result (List Edit) InEdit = elim o [ None ↦ Ok fs | Some n ↦ Err (in_edit Overlap n) ] in s ≡ Ok es) → fs ≡ es
@@ -51,10 +17,6 @@ by_overlap (Some n) fs es q = cc
 by_words : (r : Result (List Edit) InEdit) (es : List Edit) → (let s : Result (List Edit) InEdit = elim r [ Ok fs ↦ apart fs | Err u ↦ Err u ] in s ≡ Ok es) → r ≡ Ok es
 by_words (Ok fs) es q = ap Ok (by_overlap (first_overlap 1 [] fs) fs es q)
 by_words (Err u) es q = cc
-
-pub all_are : (P : Edit → Type 0) → P erase_private → ((kind : Kind) (w : List ℕ) (e : Edit) → meant_word kind w ≡ Ok e → P e)
-    → (words : List (List ℕ)) (es : List Edit) → meant_edits words ≡ Ok es → AllAre P es
-all_are P private_is word_is words es q = from_number P private_is word_is 1 words es (by_words (meant_from 1 words) es q)
 
 -- ---- how many there are
 
