@@ -1,13 +1,15 @@
 #!/usr/bin/env python3
-"""Measures `dcmtools dcmdump`, `dcmconv` and `dump2dcm` beside `cat`, and beside DCMTK's tools where they are installed.
+"""Measures the tools of dcmtools beside `cat`, and beside DCMTK's where they are installed; but dcmodify, of which DCMTK's
+changes its input, beside `dcmconv +t=`.
 
     bench/run.py [--binary PATH] [--mebibytes N] [--full-mebibytes N] [--rounds N] [--starts N]
 
 The inputs are made in a temporary directory, which takes a little more than five times `--mebibytes` and is removed at
 the end. They are read from the page cache. Dumps go to /dev/null. A conversion, or a file that is built from a dump, is
-written into the same directory, as is that of `cat FILE > OUTPUT` beside it, and each starts without that file. One run
-prints five tables: throughput of dumps, of conversions and of files that are built (the median of the rounds, in which the
-programs take turns, over the bytes of the input), time of a whole process on a small file, and peak memory.
+written into the same directory, as is that of `cat FILE > OUTPUT` beside it, and each starts without that file; so is a
+file with edits. One run prints seven tables: throughput of dumps, of conversions, of files that are built and of files
+with edits (the median of the rounds, in which the programs take turns, over the bytes of the input), time of a whole
+process on a small file, and peak memory, of files with edits in a table of its own.
 """
 
 import argparse
@@ -34,6 +36,9 @@ JPEG = "1.2.840.10008.1.2.4.50"
 
 NESTED_OUTER = 1_000
 NESTED_INNER = 10
+
+# as many edits as there may be, with the two that look at each element
+PATH_EDITS = 62
 
 
 # ---- the bytes of an input (PS3.5 7, PS3.10 7.1)
@@ -131,8 +136,8 @@ def nested_leaf(number):
     return leaf(LITTLE, group, element, vr, value)
 
 
-def make_nested(path):
-    """200,000 elements, in items of known length within items of undefined length."""
+def make_nested(path, after=b""):
+    """200,000 elements, in items of known length within items of undefined length, and what is to come after them."""
     leaves = b"".join(nested_leaf(number) for number in range(len(NESTED_TAGS)))
     item = head(LITTLE, 0xFFFE, 0xE000, "", len(leaves)) + leaves
     inner = item * NESTED_INNER
@@ -148,6 +153,12 @@ def make_nested(path):
         for _ in range(NESTED_OUTER):
             out.write(outer)
         out.write(head(LITTLE, 0xFFFE, 0xE0DD, "", 0))
+        out.write(after)
+
+
+def make_private(path):
+    """The same with a private element, so that `-ep` finds a place."""
+    make_nested(path, leaf(LITTLE, 0x0041, 0x0010, "LO", b"a creator"))
 
 
 def make_small(path):
@@ -155,13 +166,23 @@ def make_small(path):
 
 
 class Work(NamedTuple):
-    """What a tool has to do with an input. A dump goes to standard output, and has no other."""
+    """What a tool has to do with an input. A dump goes to standard output, and has no other. A label is for many options."""
 
     tool: str
     name: str
     options: list
     path: str
     output: str | None = None
+    label: str | None = None
+
+
+def label_of(work):
+    return work.label or " ".join(work.options)
+
+
+def path_edits():
+    paths = [f"ContentSequence[{number}].ReferencedImageSequence[*].CodeMeaning" for number in range(PATH_EDITS)]
+    return [word for path in paths for word in ("-m", f"{path}=another meaning")]
 
 
 def make_dump(binary, path, dump):
@@ -170,11 +191,12 @@ def make_dump(binary, path, dump):
 
 
 def make_inputs(binary, folder, mebibytes, full_mebibytes):
-    """The dumps, the conversions, the files that are built, and the dump of a small file."""
+    """The dumps, the conversions, the files that are built, those with edits, and the dump of a small file."""
     path = lambda name: os.path.join(folder, name)
     dump = lambda name, option, file: Work("dcmdump", name, [option], path(file))
     convert = lambda name, option, file: Work("dcmconv", name, [option], path(file), path("output"))
     build = lambda name, file: Work("dump2dcm", name, [], path(file), path("output"))
+    modify = lambda name, edits, file, label=None: Work("dcmodify", name, edits, path(file), path("output"), label)
     make_native(path("little"), LITTLE, mebibytes)
     make_native(path("big"), BIG, mebibytes)
     make_native(path("implicit"), IMPLICIT, mebibytes)
@@ -182,6 +204,7 @@ def make_inputs(binary, folder, mebibytes, full_mebibytes):
     make_native(path("full_little"), LITTLE, full_mebibytes)
     make_native(path("full_big"), BIG, full_mebibytes)
     make_nested(path("nested"))
+    make_private(path("private"))
     make_dump(binary, path("nested"), path("nested.dump"))
     make_small(path("small"))
     little = f"native little endian, {mebibytes} MiB of OW"
@@ -207,9 +230,16 @@ def make_inputs(binary, folder, mebibytes, full_mebibytes):
         convert(nested, "+t=", "nested"),
     ]
     builds = [build(f"the dump of {nested}", "nested.dump")]
+    all_depths = ["-ma", "PatientID=7", "-ep"]
+    modifications = [
+        modify(little, ["-m", "PatientName=Mark^Bench"], "little"),
+        modify(nested, ["-ep"], "private"),
+        modify(nested, all_depths, "private"),
+        modify(nested, all_depths + path_edits(), "private", f"-ma, -ep and {PATH_EDITS} of -m with paths"),
+    ]
     # what is still to be written to the disk would slow what writes
     os.sync()
-    return dumps, conversions, builds, Work("dcmdump", "small", [], path("small"))
+    return dumps, conversions, builds, modifications, Work("dcmdump", "small", [], path("small"))
 
 
 # ---- processes
@@ -272,6 +302,15 @@ def programs(binary):
     return found
 
 
+def editing_programs(binary):
+    """The same for files with edits. DCMTK's dcmodify changes its input, and has no output."""
+    return {
+        "cat": cat,
+        "dcmconv +t=": lambda work: ([binary, "dcmconv", "+t=", work.path, work.output], os.devnull),
+        "dcmodify": lambda work: ([binary, work.tool, *words_behind(work)], os.devnull),
+    }
+
+
 def measured(measure, program, work):
     """What is measured of a program, where no output of an earlier run is there."""
     if work.output and os.path.exists(work.output):
@@ -301,7 +340,7 @@ def throughput_row(work, run, rounds):
         for name, program in run.items():
             times[name].append(measured(seconds_of, program, work))
     medians = {name: statistics.median(seconds) for name, seconds in times.items()}
-    cells = [work.name, " ".join(work.options)]
+    cells = [work.name, label_of(work)]
     for name, seconds in medians.items():
         cells.append(f"{size / seconds / 1e6:,.0f}")
         if name != "cat":
@@ -336,7 +375,7 @@ def print_memory(works, run):
     for work in works:
         peaks = [measured(peak_of, program, work) for program in run.values()]
         cells = ["-" if peak is None else f"{peak:,}" for peak in peaks]
-        rows.append([work.name, " ".join([work.tool, *work.options]), *cells])
+        rows.append([work.name, f"{work.tool} {label_of(work)}".strip(), *cells])
     print_table("Peak resident memory in KiB", ["Input", "Tool", *run], rows)
 
 
@@ -363,14 +402,18 @@ def main():
         sys.exit(f"{chosen.binary} is not there: build it by `cd crates/dcmtools && rt run -- dcmdump ../../examples/name.dcm`")
     binary = os.path.abspath(chosen.binary)
     run = programs(binary)
+    editing = editing_programs(binary)
     print(f"Before: {machine()}")
     with tempfile.TemporaryDirectory() as folder:
-        dumps, conversions, builds, small = make_inputs(binary, folder, chosen.mebibytes, chosen.full_mebibytes)
+        inputs = make_inputs(binary, folder, chosen.mebibytes, chosen.full_mebibytes)
+        dumps, conversions, builds, modifications, small = inputs
         print_throughput("Dumps, in MB/s of input", dumps, run, chosen.rounds)
         print_throughput("Conversions, in MB/s of input", conversions, run, chosen.rounds)
         print_throughput("Files that are built, in MB/s of input", builds, run, chosen.rounds)
+        print_throughput("Files with edits, in MB/s of input", modifications, editing, chosen.rounds)
         print_starts(small, run, chosen.starts)
         print_memory(dumps + conversions + builds, run)
+        print_memory(modifications, editing)
     print(f"\nAfter: {machine()}")
 
 

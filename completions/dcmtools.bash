@@ -18,18 +18,71 @@ _dcmtools_words() {
     done < <(compgen -W "$1" -- "$2")
 }
 
+# The keywords of the dictionary (crates/dcm_base/src/dictionary.rt) that an edit may name: those of values, and those of
+# sequences.
+_dcmtools_values='
+    SpecificCharacterSet ImageType InstanceCreationDate InstanceCreationTime SOPClassUID SOPInstanceUID StudyDate
+    SeriesDate AcquisitionDate ContentDate AcquisitionDateTime StudyTime SeriesTime AcquisitionTime ContentTime
+    AccessionNumber Modality Manufacturer InstitutionName ReferringPhysicianName CodeValue CodingSchemeDesignator
+    CodeMeaning StudyDescription SeriesDescription ManufacturerModelName ReferencedSOPClassUID
+    ReferencedSOPInstanceUID PatientName PatientID PatientBirthDate PatientSex PatientAge PatientSize PatientWeight
+    PatientComments BodyPartExamined SliceThickness KVP SoftwareVersions ProtocolName PatientPosition DiffusionBValue
+    StudyInstanceUID SeriesInstanceUID StudyID SeriesNumber AcquisitionNumber InstanceNumber ImagePositionPatient
+    ImageOrientationPatient FrameOfReferenceUID SliceLocation SamplesPerPixel PhotometricInterpretation
+    PlanarConfiguration NumberOfFrames FrameIncrementPointer Rows Columns PixelSpacing BitsAllocated BitsStored
+    HighBit PixelRepresentation WindowCenter WindowWidth RescaleIntercept RescaleSlope ValueType TextValue PixelData
+'
+_dcmtools_sequences='
+    ReferencedStudySequence ReferencedPerformedProcedureStepSequence ReferencedSeriesSequence ReferencedImageSequence
+    ReferencedSOPSequence SourceImageSequence ConceptNameCodeSequence ContentSequence
+'
+
+# Adds to COMPREPLY the paths of an edit that begin with $1. A path to a value ends in $2, which is '=' where a value follows.
+_dcmtools_paths() {
+    local keyword before='' words=()
+    [[ $1 == *.* ]] && before=${1%.*}.
+    for keyword in $_dcmtools_values; do
+        words+=("$keyword$2")
+    done
+    for keyword in $_dcmtools_sequences; do
+        words+=("${keyword}[")
+        [[ $2 ]] || words+=("$keyword")
+    done
+    compopt -o nospace 2>/dev/null
+    while IFS= read -r keyword; do
+        COMPREPLY+=("$keyword")
+    done < <(compgen -P "$before" -W "${words[*]}" -- "${1##*.}")
+}
+
+# Adds to COMPREPLY the keywords of values that begin with $1, each with a '=' after it.
+_dcmtools_replaced() {
+    local keyword words=()
+    for keyword in $_dcmtools_values; do
+        words+=("$keyword=")
+    done
+    compopt -o nospace 2>/dev/null
+    _dcmtools_words "${words[*]}" "$1"
+}
+
 _dcmtools() {
     local current=${COMP_WORDS[COMP_CWORD]} switches
     COMPREPLY=()
     if ((COMP_CWORD == 1)); then
-        _dcmtools_words 'dcmdump dcmconv dump2dcm' "$current"
+        _dcmtools_words 'dcmdump dcmconv dump2dcm dcmodify' "$current"
         return
     fi
     case ${COMP_WORDS[1]} in
         dcmdump) switches='-L +L +fo -f -ti -te -tb' ;;
         dcmconv) switches='+t= +ti +te +tb -e +fo' ;;
         dump2dcm) switches='+l -e' ;;
+        dcmodify) switches='-i -m -e -ma -ea -ep' ;;
         *) return ;;
+    esac
+    case ${COMP_WORDS[1]}${COMP_WORDS[COMP_CWORD - 1]} in
+        dcmodify-i | dcmodify-m) _dcmtools_paths "$current" '='; return ;;
+        dcmodify-e) _dcmtools_paths "$current" ''; return ;;
+        dcmodify-ma) _dcmtools_replaced "$current"; return ;;
+        dcmodify-ea) _dcmtools_words "$_dcmtools_values $_dcmtools_sequences" "$current"; return ;;
     esac
     case $current in
         [-+]*) _dcmtools_words "$switches" "$current" ;;

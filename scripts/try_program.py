@@ -19,12 +19,36 @@ with open(os.path.join(ROOT, "crates", "converts", "stdout"), "rb") as converted
 # the preamble, the prefix and a meta group of a JPEG syntax
 JPEG = bytes(128) + b"DICM\2\0\0\0UL\4\0\x1e\0\0\0\2\0\x10\0UI\x16\0001.2.840.10008.1.2.4.50"
 
+# the meta group of name.dcm, and files that edits make of it
+GROUP = NAME[:172]
+REPLACED = GROUP + b"\x10\0\x10\0PN\2\0Q "
+SPACED = GROUP + b"\x10\0\x10\0PN\x0a\0Doe^Jane M"
+WITH_ID = NAME + b"\x10\0\x20\0LO\2\x007 "
+TWICE = WITH_ID + WITH_ID[186:]
+WITH_SEQUENCE = (
+    GROUP
+    + b"\x08\0\x40\x11SQ\0\0\xff\xff\xff\xff\xfe\xff\0\xe0\xff\xff\xff\xff"
+    + b"\x08\0\x55\x11UI\4\x001.2\0"
+    + b"\xfe\xff\x0d\xe0\0\0\0\0\xfe\xff\xdd\xe0\0\0\0\0"
+    + NAME[172:]
+)
+
 # lines that are built into name.dcm, and others that are at fault
 LINES = b"(0002,0010) UI =LittleEndianExplicit\n(0010,0010) PN [AB^CD]\n"
 BAD_LINES = LINES + b"(0010,0010) PN [AB^CD]\n"
 
 # the files of the folder that a case runs in
-FILES = {"lines": LINES, "bad_lines": BAD_LINES, "name.dcm": NAME, "jpeg.dcm": JPEG, "empty": b"", "cut": NAME[:182], "older": b"older" * 100}
+FILES = {
+    "lines": LINES,
+    "bad_lines": BAD_LINES,
+    "name.dcm": NAME,
+    "jpeg.dcm": JPEG,
+    "sequence.dcm": WITH_SEQUENCE,
+    "twice.dcm": TWICE,
+    "empty": b"",
+    "cut": NAME[:182],
+    "older": b"older" * 100,
+}
 
 # what it is, the words behind the program for a shell, the status, the line on standard error
 CASES = [
@@ -62,6 +86,25 @@ CASES = [
     ("lines on a full disk", "dump2dcm lines - > /dev/full", 4, "output failed"),
     ("a directory of lines", "dump2dcm . -", 4, "reading failed after 0 bytes"),
     ("no lines", "dump2dcm empty -", 2, "B7 at byte 0, line 1: no usable transfer syntax"),
+    ("no path of a modification", "dcmodify", 1, "V4: wrong number of paths"),
+    ("one path of a modification", "dcmodify name.dcm", 1, "V4: wrong number of paths"),
+    ("an edit after the paths", "dcmodify name.dcm out -ep", 1, "V4: wrong number of paths"),
+    ("an empty path of a modification", "dcmodify -ep name.dcm ''", 1, "V4: wrong number of paths"),
+    ("an edit without its path", "dcmodify -m name.dcm out", 1, "U1 in edit 1: bad option or path"),
+    ("an option of dcmconv", "dcmodify -ep +te name.dcm out", 1, "U1 in edit 2: bad option or path"),
+    ("three paths of a modification", "dcmodify -ep name.dcm out out", 1, "U1 in edit 2: bad option or path"),
+    ("an unknown keyword", "dcmodify -e Patient name.dcm out", 1, "U2 in edit 1: unknown tag"),
+    ("a private tag", "dcmodify -ep -m '(0009,0010)=A' name.dcm out", 1, "U2 in edit 2: unknown tag"),
+    ("a number that is too large", "dcmodify -i Rows=70000 name.dcm out", 1, "U3 in edit 1: value does not fit"),
+    ("an item of a number", "dcmodify -e 'Rows[0]' name.dcm out", 1, "U4 in edit 1: sequence misused"),
+    ("a value for a sequence", "dcmodify -i ContentSequence=1 name.dcm out", 1, "U4 in edit 1: sequence misused"),
+    ("the meta group", "dcmodify -e TransferSyntaxUID name.dcm out", 1, "U5 in edit 1: group 0002 cannot be edited"),
+    ("edits that overlap", "dcmodify -m PatientID=7 -e PatientID name.dcm out", 1, "U6 in edit 2: edits overlap"),
+    ("65 edits", "dcmodify" + " -ep" * 65 + " name.dcm out", 1, "U7 in edit 65: too many edits"),
+    ("an edit that is no text", "dcmodify -m $'PatientName=\\xfc' name.dcm out", 1, "V1 at word 1: unknown tool"),
+    ("a full disk for a modification", "dcmodify -ep name.dcm - > /dev/full", 4, "output failed"),
+    ("a directory that is modified", "dcmodify -ep . -", 4, "reading failed after 0 bytes"),
+    ("a full disk for the line of an edit", "dcmodify -ep name.dcm out 2> /dev/full", 3, ""),
 ]
 
 # the same, and a path with what is to stand there afterwards, or nothing where there is to be no file
@@ -104,6 +147,49 @@ WRITTEN = [
         "name.dcm",
         NAME,
     ),
+    ("an edit", "dcmodify -m PatientName=Q name.dcm out", 0, "", "out", REPLACED),
+    ("an edit of standard streams", "dcmodify -m PatientName=Q - - < name.dcm > out", 0, "", "out", REPLACED),
+    ("an edit by its number", "dcmodify -i '(0010,0020)=7' name.dcm out", 0, "", "out", WITH_ID),
+    ("a value with a space", "dcmodify -m 'PatientName=Doe^Jane M' name.dcm out", 0, "", "out", SPACED),
+    ("no edits", "dcmodify name.dcm older", 0, "", "older", NAME),
+    ("an edit that finds no place", "dcmodify -m PatientID=7 name.dcm out", 3, "edit 1 found no place", "out", NAME),
+    (
+        "an edit that finds its place beside two others",
+        "dcmodify -ep -m PatientName=Q -e Rows name.dcm out",
+        3,
+        "edit 1 found no place\ndcmtools: edit 3 found no place",
+        "out",
+        REPLACED,
+    ),
+    (
+        "a missing sequence that is made",
+        "dcmodify -i 'ReferencedImageSequence[0].ReferencedSOPInstanceUID=1.2' name.dcm out",
+        0,
+        "",
+        "out",
+        WITH_SEQUENCE,
+    ),
+    ("an erased sequence", "dcmodify -e ReferencedImageSequence sequence.dcm out", 0, "", "out", NAME),
+    ("a tag twice", "dcmodify twice.dcm out", 2, "R12 at byte 196: tags not ascending", "out", WITH_ID),
+    (
+        "edits of a cut file",
+        "dcmodify -i PatientID=7 -m PatientName=Q cut out",
+        2,
+        "R1 at byte 182: input ends too early",
+        "out",
+        REPLACED,
+    ),
+    ("an edit of an empty file", "dcmodify -ep empty older", 2, "R1 at byte 0: input ends too early", "older", b""),
+    ("refused edits", "dcmodify -ep -x name.dcm older", 1, "U1 in edit 2: bad option or path", "older", FILES["older"]),
+    ("edits of a missing path", "dcmodify -ep missing older", 4, "input cannot be opened", "older", FILES["older"]),
+    (
+        "the same path of a modification",
+        "dcmodify -ep name.dcm name.dcm",
+        1,
+        "V6: input and output are the same path",
+        "name.dcm",
+        NAME,
+    ),
     (
         "another path of the same file",
         "dcmconv name.dcm ./name.dcm",
@@ -115,7 +201,11 @@ WRITTEN = [
 ]
 
 # words that write to a pipe that nobody reads
-CLOSED_PIPE = [("a closed pipe of a dump", ["dcmdump", "name.dcm"]), ("a closed pipe", ["dcmconv", "name.dcm", "-"])]
+CLOSED_PIPE = [
+    ("a closed pipe of a dump", ["dcmdump", "name.dcm"]),
+    ("a closed pipe", ["dcmconv", "name.dcm", "-"]),
+    ("a closed pipe of a modification", ["dcmodify", "name.dcm", "-"]),
+]
 
 
 def prepare(folder):

@@ -7,11 +7,14 @@ pub mod Sets
 pub mod Alone
 pub mod MetaHeads
 pub mod Unplaced
+pub mod MakesEdits
 pub mod Rans
 pub mod Lines
 pub mod LinesGrow
 pub mod Files
 pub mod Opens
+pub mod FoundMasks
+pub mod EditPasses
 pub mod Sures
 pub mod OwnSyntax
 pub mod OneSource

@@ -1,14 +1,15 @@
 -- What a run leaves, by how the work on its job ended.
-use Rattle.std.proofs.Common.{◌≡◌, ◌∙◌, ap, sym, subst, ℕ, ◌<◌, ◌^◌, List, [], length, Bool, true, false, Option, None, Some, refl, inl, inr, ◌⊎◌}
+use Rattle.std.proofs.Common.{◌≡◌, ◌∙◌, ap, sym, subst, ℕ, ◌<◌, ◌≤◌, ◌^◌, List, [], length, Bool, true, false, Option, None, Some, refl, inl, inr, ◌⊎◌}
 use Rattle.std.proofs.lemmas.List.{append-nil}
 use Rattle.std.specs.Io.KnownBytes.{append_known}
 use Rattle.dcm_base.specs.Build as build
 use Rattle.dcm_base.specs.Device.{AppendsFront}
 use Rattle.dcm_base.specs.Front.{Front}
 use Rattle.dcm_base.specs.Stop.{Stop, complete, refused}
-use Rattle.dcm_words.specs.Words.{Job, dump, convert, build as building}
+use Rattle.dcm_edit.specs.Edit.{Edit}
+use Rattle.dcm_words.specs.Words.{Job, dump, convert, build as building, modify}
 use Rattle.dcm_words.specs.declared.job.Job.{Job as RunJob}
-use Rattle.dcm_words.specs.declared.job.Job.TheVariants.{Dump, Convert, Build}
+use Rattle.dcm_words.specs.declared.job.Job.TheVariants.{Dump, Convert, Build, Modify}
 use Rattle.dcm_cli.specs.declared.ending.Ending.{Ending}
 use Rattle.dcm_cli.specs.declared.ending.Ending.TheVariants as endings
 use Rattle.dcm_cli.specs.declared.ending.Ending.TheVariants.{Unread, Output}
@@ -16,10 +17,11 @@ use Rattle.dcm_cli.specs.declared.ending.Verdict.{Verdict}
 use Rattle.dcm_cli.specs.declared.ending.Verdict.TheVariants.{Done, RefusedLine}
 use Rattle.dcm_cli.specs.Answer.{Answer, Answers, Source, unopened, file, alone, ReadAnswers, answer, building_line, output_of, edits_of, stop_line, stop_status}
 use Rattle.dcm_cli.specs.Pass.{TellsUnread, TellsOutput}
-use Rattle.dcm_cli.specs.Run.{Answered, ReadEnds, BuildEnds, Worked, answered, could_not_read, could_not_write, FlushedAs, verdict_at, verdict_of_source, verdict_of_told, unplaced_mask, verdict_lines, verdict_status, ending_lines, ending_status, Ran, as_answered, not_read, not_written, Devices}
+use Rattle.dcm_cli.specs.Run.{IsMeant, Answered, ReadEnds, BuildEnds, Worked, answered, could_not_read, could_not_write, FlushedAs, verdict_at, verdict_of_source, verdict_of_told, unplaced_mask, verdict_lines, verdict_status, ending_lines, ending_status, Ran, as_answered, not_read, not_written, Devices}
 use Rattle.dcm_cli.specs.Told.{Tries}
 use Rattle.dcm_words.specs.Plans.{job_of}
-use Rattle.dcm_cli.proofs.Unplaced.{no_lines, lines_of_mask, status_of_mask, few_without}
+use Rattle.dcm_cli.proofs.MakesEdits.{are_few}
+use Rattle.dcm_cli.proofs.Unplaced.{no_lines, lines_of_mask, status_of_mask, few_without, few_edits}
 
 -- the answer of an input that was read
 output_is : (job : Job) (source : Source) → output_of job source ≡ (answer job source).output
@@ -97,12 +99,17 @@ module _ (limit : ℕ) (input out : List ℕ) (verdict : Verdict) (h : BuildEnds
   built_given : Given (building limit) input out verdict
   built_given = by_told (build.built limit input).told refl
 
-given : (job : RunJob) (input out : List ℕ) (verdict : Verdict) → Answered (job_of job) input out verdict → Given (job_of job) input out verdict
-given (Dump d) input out verdict h = reads_given (dump d.mode d.bare) input out verdict few_without (λ a reads. reads) h
-given (Convert c) input out verdict h = reads_given (convert c.target) input out verdict few_without (λ a reads. reads) h
-given (Build b) input out verdict h = built_given b.limit input out verdict h
+-- a file that was edited
+edits_given : (edits : List Edit) (input out : List ℕ) (verdict : Verdict) → length edits ≤ 64 → ReadEnds (modify edits) input out verdict → Given (modify edits) input out verdict
+edits_given edits input out verdict few h = reads_given (modify edits) input out verdict (λ set. few_edits 64 edits set few) (λ a reads. reads) h
 
-module _ (job : RunJob) (input : List ℕ) (left held worked holds told tells : Option (List ℕ)) (r_old r_new w_old w_mid w_new e_old e_new : Bool) (ending after : Ending) (status : ℕ)
+given : (job : RunJob) → IsMeant (job_of job) → (input out : List ℕ) (verdict : Verdict) → Answered (job_of job) input out verdict → Given (job_of job) input out verdict
+given (Dump d) meant input out verdict h = reads_given (dump d.mode d.bare) input out verdict few_without (λ a reads. reads) h
+given (Convert c) meant input out verdict h = reads_given (convert c.target) input out verdict few_without (λ a reads. reads) h
+given (Build b) meant input out verdict h = built_given b.limit input out verdict h
+given (Modify edits) meant input out verdict h = edits_given edits input out verdict (are_few edits meant) h
+
+module _ (job : RunJob) (meant : IsMeant (job_of job)) (input : List ℕ) (left held worked holds told tells : Option (List ℕ)) (r_old r_new w_old w_mid w_new e_old e_new : Bool) (ending after : Ending) (status : ℕ)
     (kept : holds ≡ worked) (flushed : FlushedAs ending after w_mid w_new) (unread : TellsUnread r_old r_new ending) (failed : TellsOutput w_old w_mid ending)
     (line : Tries told tells e_old e_new (ending_lines after)) (status_was : status ≡ ending_status after) (readable : r_old ≡ false) (writable : w_old ≡ false) where
   abbrev devices : Devices
@@ -129,12 +136,12 @@ module _ (job : RunJob) (input : List ℕ) (left held worked holds told tells : 
           (record { front = out; rest = []; whole = sym k.output_is ∙ sym (append-nil out); grown = kept ∙ grown }) (told_of Output x.0) (status_of Output x.0)
 
   pub run_ran : Worked (job_of job) input left held worked ending → Ran (job_of job) input devices status
-  run_ran (answered out verdict was is grown) = after_answer out verdict (given job input out verdict was) is grown
+  run_ran (answered out verdict was is grown) = after_answer out verdict (given job meant input out verdict was) is grown
   run_ran (could_not_read p rest out whole at sure is grown) =
       let still : after ≡ Unread (length p) = subst (λ (x : Ending). FlushedAs x after w_mid w_new) is flushed in
       not_read p rest out whole at (subst (λ (x : Ending). TellsUnread r_old r_new x) is unread) sure (kept ∙ grown) (told_of (Unread (length p)) still) (status_of (Unread (length p)) still)
   run_ran (could_not_write out verdict was is grown) =
-      let k = given job input out verdict was in
+      let k = given job meant input out verdict was in
       let still : (after ≡ Output) × (w_new ≡ w_mid) = subst (λ (x : Ending). FlushedAs x after w_mid w_new) is flushed in
       not_written k.a k.answers (subst (λ (x : Ending). TellsUnread r_old r_new x) is unread ∙ readable)
       (still.1 ∙ subst (λ (x : Ending). TellsOutput w_old w_mid x) is failed)

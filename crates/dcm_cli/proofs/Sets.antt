@@ -13,7 +13,6 @@ use Rattle.dcm_base.specs.Stop.{Bar, Stop, complete, refused}
 use Rattle.dcm_base.proofs.Puts.{front_longer}
 use Rattle.dcm_stream.specs.Reading.{start_of, finish, end_shows, is_undecided}
 use Rattle.dcm_stream.specs.Machine.{next_offset}
-use Rattle.dcm_stream.proofs.Driven.{ends_as, refuses_as, waits_as}
 use Rattle.dcm_cli.specs.declared.ending.Ending.{Ending}
 use Rattle.dcm_cli.specs.declared.ending.Ending.TheVariants.{Worked, Unread, Output}
 use Rattle.dcm_cli.specs.Pass.{Ends, at_end, at_fault, halted, unread, unwritten, end_unwritten}
@@ -22,7 +21,7 @@ use Rattle.dcm_words.specs.Words.{Job}
 use Rattle.dcm_cli.specs.declared.ending.Verdict.TheVariants.{Done}
 use Rattle.dcm_cli.specs.Answer.{going_on, edits_of}
 use Rattle.dcm_cli.specs.Run.{verdict_of_stop, verdict_at, unplaced_mask}
-use Rattle.dcm_cli.proofs.Makers.{Maker, made, made_output, last_output, more_made, made_behind}
+use Rattle.dcm_cli.proofs.Makers.{Maker, made, made_output, last_output, more_made, ends_as, refuses_as, waits_as, made_behind}
 
 -- of a data set from start on, of which this was read: all of its text was written, and where nothing was at fault the sink has gone over all of it; or
 -- what is sure of a beginning, or a beginning of the text
@@ -55,14 +54,14 @@ module _ {bar : Bar} {text : Front → List ℕ} (m : Maker bar text) (s : Synta
   -- the text of what is read of all the bytes
   pub all_read : (bytes : List ℕ) → (f : Front) × (stop : Stop) × Reads bar s start bytes f stop × (stop ≡ finish (made m s start bytes).0) × (made_output m s start bytes ++ last_output m s start bytes ≡ text f)
   all_read bytes =
-      let e = ends_as m.bars m.step m.writes bar m.first m.bars_as s start bytes le in
+      let e = ends_as m s start bytes le in
       (e.f, finish (made m s start bytes).0, e.reads, refl, e.output ∙ m.whole s start bytes e.f (finish (made m s start bytes).0) le e.reads)
 
   -- and the state
   last_state : (bytes : List ℕ) (t : m.State) → finish (made m s start bytes).0 ≡ complete → t ≡ fold m.step (made m s start bytes).1 (end_shows complete) → Last t (all_read bytes).0
   unfolding all_read
   last_state bytes t fin is =
-      let e = ends_as m.bars m.step m.writes bar m.first m.bars_as s start bytes le in
+      let e = ends_as m s start bytes le in
       is ∙ ap (λ (x : Stop). fold m.step (made m s start bytes).1 (end_shows x)) (sym fin) ∙ e.state
 
   module _ (held : Option (List ℕ)) (t : m.State) where
@@ -95,11 +94,11 @@ module _ {bar : Bar} {text : Front → List ℕ} (m : Maker bar text) (s : Synta
         set_read (all_read read).0 (refused stop.fault stop.at) (ended_there left read rest (refused stop.fault stop.at) some over fin) (λ never. absurd (cc)) is
         (e ∙ ap (append_known held) (sym (append-nil (made_output m s start read)) ∙ last_there read (refused stop.fault stop.at) fin))
     set_made left holds read rest ending some (halted stop halt is e) =
-        let r = refuses_as m.bars m.step m.writes bar m.first m.bars_as s start read stop.fault stop.at le halt in
+        let r = refuses_as m s start read le stop.fault stop.at halt in
         let reads = r.reads rest in
         set_read r.f (refused stop.fault stop.at) reads (λ never. absurd (cc)) is (e ∙ ap (append_known held) (r.output ∙ m.whole s start (read ++ rest) r.f (refused stop.fault stop.at) le reads))
     set_made left holds read rest ending some (unread none is e) =
-        let w = waits_as m.bars m.step m.writes bar m.first m.bars_as s start read le none in
+        let w = waits_as m s start read le none in
         let stop = finish (made m s start read).0 in
         set_unread (ended stop w.f) stop w.reads w.undecided (is ∙ ap (λ (n : ℕ). Unread (n + length read)) (starts_at start))
         (e ∙ ap (append_known held) (w.output ∙ m.so_far s start read w.f stop le w.not_closed w.reads ∙ ap text (sym (going_back stop w.f w.not_closed))))

@@ -13,7 +13,9 @@ use Rattle.dcm_base.specs.Header.{set_header}
 use Rattle.dcm_base.specs.MetaReads.{Meta, MetaAnswer, MetaReads, begins, refused as meta_refused, is_undecided as meta_undecided}
 use Rattle.dcm_base.specs.Reads.{INPUT_LIMIT, Reads, ended}
 use Rattle.dcm_base.specs.Stop.{Bar, Stop, refused}
-use Rattle.dcm_words.specs.Words.{Job, dump, convert, build as building}
+use Rattle.dcm_edit.specs.Edit.{Edit}
+use Rattle.dcm_edit.specs.Meaning.{AreMeant}
+use Rattle.dcm_words.specs.Words.{Job, dump, convert, build as building, modify}
 use Rattle.dcm_base.proofs.Reading.{reads_once}
 use Rattle.dcm_head.specs.declared.meta_read.MetaEnd.{MetaEnd}
 use Rattle.dcm_head.specs.MetaReading.{Reading, HasEnded, Says, meta_finished}
@@ -21,19 +23,18 @@ use Rattle.dcm_head.proofs.Described.{described}
 use Rattle.dcm_head.proofs.Told.{told}
 use Rattle.dcm_head.proofs.OneMeta.{one_meta}
 use Rattle.dcm_stream.specs.Reading.{finish, is_undecided}
-use Rattle.dcm_stream.specs.Driven.{bars_by}
-use Rattle.dcm_stream.proofs.Driven.{waits_as, drives_as}
-use Rattle.dcm_stream.proofs.Follow.{follows}
 use Rattle.dcm_words.specs.declared.job.Job.{Job as RunJob}
-use Rattle.dcm_words.specs.declared.job.Job.TheVariants.{Dump, Convert, Build}
+use Rattle.dcm_words.specs.declared.job.Job.TheVariants.{Dump, Convert, Build, Modify}
 use Rattle.dcm_words.specs.Plans.{job_of}
 use Rattle.dcm_cli.specs.Answer.{Answer, Answers, Sure, ReadAnswers, Source, answer, going_on, job_bar, refuses_change, file_output, uid_of_syntax, AloneReads, AloneSure, FileReads, FileSure, not_opened, not_changed, opened as was_opened, before_set, within_set}
 use Rattle.dcm_cli.specs.Pass.{head_read}
-use Rattle.dcm_cli.proofs.Makers.{Maker, dumper, made, made_output, last_output, more_made, made_behind}
+use Rattle.dcm_cli.specs.Run.{IsMeant}
+use Rattle.dcm_cli.proofs.Makers.{Maker, dumper, made, made_output, last_output, more_made, waits_as, made_behind}
 use Rattle.dcm_cli.proofs.Sets.{all_read, going_back}
 use Rattle.dcm_cli.proofs.MetaHeads.{opened, one_head, ended_stays, finished_same, group_spelled}
 use Rattle.dcm_cli.proofs.LinesGrow.{sure_lines_grow, answer_output}
 use Rattle.dcm_cli.proofs.Files.{FileMaker, file_dumper, file_encoder}
+use Rattle.dcm_cli.proofs.MakesEdits.{file_editor}
 
 -- ---- a data set
 
@@ -41,9 +42,9 @@ module _ {bar : Bar} {text : Front → List ℕ} (m : Maker bar text) (s : Synta
   -- the machine goes on where more bytes may come to another end
   not_halted : (p : List ℕ) (f : Front) (stop : Stop) → Reads bar s start p f stop → is_undecided (Some stop) ≡ true → (made m s start p).0.halt ≡ None
   not_halted p f stop reads undecided =
-      let d = (drives_as m.bars m.step m.writes m.first s start p).0 in
-      elim (follows (bars_by m.bars m.step m.first) bar m.bars_as s start p le) [
-        | inl h ↦ ap (λ q. q.0.halt) d ∙ h.going
+      let d = m.drives s start p le in
+      elim d.followed [
+        | inl h ↦ ap (λ q. q.0.halt) d.driven_is ∙ h.going
         | inr h ↦
             let here : Reads bar s start p h.f (refused h.fault h.offset) = subst (λ (x : List ℕ). Reads bar s start x h.f (refused h.fault h.offset)) (append-nil p) (h.reads []) in
             let one = reads_once bar s start p h.f f (refused h.fault h.offset) stop here reads in
@@ -53,7 +54,7 @@ module _ {bar : Bar} {text : Front → List ℕ} (m : Maker bar text) (s : Synta
 
   pub set_grows : (p later : List ℕ) (f g : Front) (stop end : Stop) → Reads bar s start p f stop → is_undecided (Some stop) ≡ true → Reads bar s start (p ++ later) g end → (rest : List ℕ) × (text g ≡ text (going_on f) ++ rest)
   set_grows p later f g stop end reads undecided others =
-      let w = waits_as m.bars m.step m.writes bar m.first m.bars_as s start p le (not_halted p f stop reads undecided) in
+      let w = waits_as m s start p le (not_halted p f stop reads undecided) in
       let at = finish (made m s start p).0 in
       let one = reads_once bar s start p (ended at w.f) f at stop w.reads reads in
       let same : going_on f ≡ w.f = ap going_on (sym one.0) ∙ going_back at w.f w.not_closed in
@@ -156,7 +157,12 @@ build_grows limit p later out a sure x =
     let more = sure_lines_grow limit p later out sure in
     (more.0, ap (λ (b : Answer). b.output) x ∙ answer_output (built limit (p ++ later)) ∙ more.1)
 
-pub sure_grows : (job : RunJob) (p later out : List ℕ) (a : Answer) → Sure (job_of job) p out → Answers (job_of job) (p ++ later) a → (rest : List ℕ) × (a.output ≡ out ++ rest)
-sure_grows (Dump d) p later out a sure x = dump_grows d.mode d.bare p later out a sure x
-sure_grows (Convert c) p later out a sure x = file_grows (convert c.target) (file_encoder c.target) p later out a x.source sure x.answer_is x.reads
-sure_grows (Build b) p later out a sure x = build_grows b.limit p later out a sure x
+-- a file that is edited
+modify_grows : (edits : List Edit) → AreMeant edits → (p later out : List ℕ) (a : Answer) → Sure (modify edits) p out → Answers (modify edits) (p ++ later) a → (rest : List ℕ) × (a.output ≡ out ++ rest)
+modify_grows edits meant p later out a sure x = file_grows (modify edits) (file_editor edits meant) p later out a x.source sure x.answer_is x.reads
+
+pub sure_grows : (job : RunJob) (p later out : List ℕ) (a : Answer) → IsMeant (job_of job) → Sure (job_of job) p out → Answers (job_of job) (p ++ later) a → (rest : List ℕ) × (a.output ≡ out ++ rest)
+sure_grows (Dump d) p later out a meant sure x = dump_grows d.mode d.bare p later out a sure x
+sure_grows (Convert c) p later out a meant sure x = file_grows (convert c.target) (file_encoder c.target) p later out a x.source sure x.answer_is x.reads
+sure_grows (Build b) p later out a meant sure x = build_grows b.limit p later out a sure x
+sure_grows (Modify edits) p later out a meant sure x = modify_grows edits meant p later out a sure x

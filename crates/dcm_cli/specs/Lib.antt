@@ -2,6 +2,7 @@ pub mod Told
 pub mod Answer
 pub mod Pass
 pub mod SinkPass
+pub mod EditPass
 pub mod Lines
 pub mod Run
 pub mod Devices

@@ -6,7 +6,8 @@ use Rattle.dcm_base.specs.Device.{AppendsFront}
 use Rattle.dcm_base.specs.Front.{Front}
 use Rattle.dcm_base.specs.Stop.{Stop, complete, refused}
 use Rattle.dcm_edit.specs.Edit.{Edit, found}
-use Rattle.dcm_words.specs.Words.{Job, build as building}
+use Rattle.dcm_edit.specs.Meaning.{AreMeant}
+use Rattle.dcm_words.specs.Words.{Job, build as building, modify}
 use Rattle.dcm_build.specs.Builder.{told_of}
 use Rattle.dcm_cli.specs.declared.ending.Ending.{Ending}
 use Rattle.dcm_cli.specs.declared.ending.Ending.TheVariants as endings
@@ -15,6 +16,11 @@ use Rattle.dcm_cli.specs.declared.ending.Verdict.{Verdict}
 use Rattle.dcm_cli.specs.declared.ending.Verdict.TheVariants.{Done, Refused, RefusedLine}
 use Rattle.dcm_cli.specs.Answer.{Answer, Source, unopened, file, alone, InputReads, output_of, edits_of, building_line, Answers, Sure}
 use Rattle.dcm_cli.specs.Told.{Tries, fault_line, unread_line, output_line, mask_lines}
+
+-- the edits of a job are those that some words mean
+abbrev pub IsMeant : Job → Type 0
+IsMeant (modify edits) = AreMeant edits
+IsMeant _ = Unit {0}
 
 -- ---- the work on a job, before its output is flushed
 

@@ -2,12 +2,14 @@
 ghost use Rattle.dcm_words.specs.declared.job.Job.{Job};
 ghost use Rattle.dcm_cli.specs.Answer.{Answer, Answers, Sure};
 ghost use Rattle.dcm_cli.specs.DumpBuilds.{DumpBuilds};
+ghost use Rattle.dcm_cli.specs.Run.{IsMeant};
 ghost use Rattle.dcm_words.specs.Plans.{job_of};
 ghost use Rattle.std.specs.Prelude.{◌++◌, ◌≡◌, List, ℕ};
 
-/// What is sure of a beginning of an input is a beginning of the output for every input that begins so.
+/// What is sure of a beginning of an input is a beginning of the output for every input that begins so. Edits are those that
+/// some words mean.
 pub fn sure_grows()
-    ensures { (job : Job) (p later out : List ℕ) (a : Answer) → Sure (job_of job) p out → Answers (job_of job) (p ++ later) a → (rest : List ℕ) × (a.output ≡ out ++ rest) }
+    ensures { (job : Job) (p later out : List ℕ) (a : Answer) → IsMeant (job_of job) → Sure (job_of job) p out → Answers (job_of job) (p ++ later) a → (rest : List ℕ) × (a.output ≡ out ++ rest) }
 {}
 
 /// Two runs in a row: the full dump of a file, and what it builds. Where the file is read without fault, its values are of whole

@@ -8,6 +8,7 @@ mod dump;
 mod ending;
 mod head;
 pub mod laws;
+mod modify;
 mod pass;
 mod program;
 mod rewrite;

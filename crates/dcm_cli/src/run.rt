@@ -9,6 +9,7 @@ use crate::build::build;
 use crate::convert::convert;
 use crate::dump::dump;
 use crate::ending::{Ending, Verdict};
+use crate::modify::modify;
 use crate::told::{DEVICE, tell_fault, tell_line_fault, tell_output, tell_unplaced, tell_unread};
 use dcm_base::{DeviceIn, DeviceOut, Watched, flush_out};
 use dcm_words::Job;
@@ -101,11 +102,13 @@ fn work<R: DeviceIn, W: DeviceOut>(
     ensures worked { (file : List ℕ) → R.remaining input.old ≡ Some file → spec.Worked (job_of job.now) file (R.remaining input.new) (W.contents out.old) (W.contents out.new) result }
     ensures unread { TellsUnread (R.has_failed input.old) (R.has_failed input.new) result }
     ensures failed { TellsOutput (W.has_failed out.old) (W.has_failed out.new) result }
+    ensures meant { spec.IsMeant (job_of job.now) }
 {
-    match *job {
-        Job::Dump(what) => dump(what, input, out),
-        Job::Convert(what) => convert(what, input, out),
-        Job::Build(what) => build(what, input, out),
+    match job {
+        Job::Dump(what) => dump(*what, input, out),
+        Job::Convert(what) => convert(*what, input, out),
+        Job::Build(what) => build(*what, input, out),
+        Job::Modify(edits) => modify(edits, input, out),
     }
 }
 

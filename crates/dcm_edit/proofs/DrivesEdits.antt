@@ -74,10 +74,11 @@ module _ {S : Type 0} (bars : S → Head → Option SinkBar) (step : S → Atom 
   read_same : read_all (bars_by bars step first) s start bytes ≡ read_all ascending s start bytes
   read_same = reads_alike (bars_by bars step first) ascending s start agree_now bytes
 
-  driven_same : driven bars step first s start bytes ≡ ((read_all ascending s start bytes).0, fold step first (read_all ascending s start bytes).1)
+  -- its machine reads what one with that bar reads, and the sink takes what that shows
+  pub driven_same : driven bars step first s start bytes ≡ ((read_all ascending s start bytes).0, fold step first (read_all ascending s start bytes).1)
   driven_same = driven_is bars step writes first s start bytes ∙ ap (λ (q : Reading × List Atom). (q.0, fold step first q.1)) read_same
 
-  output_same : driven_output bars step writes first s start bytes ≡ outputs step writes first (read_all ascending s start bytes).1
+  pub output_same : driven_output bars step writes first s start bytes ≡ outputs step writes first (read_all ascending s start bytes).1
   output_same = output_is bars step writes first s start bytes ∙ ap (λ (q : Reading × List Atom). outputs step writes first q.1) read_same
 
   -- the input ends with the bytes

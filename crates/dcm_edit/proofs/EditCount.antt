@@ -1,11 +1,11 @@
 -- How many edits words mean.
-use Rattle.std.proofs.Common.{◌≡◌, ℕ, suc, ◌≤◌, ◌-◌, List, [], ◌∷◌, length, Option, Some, None, Result, Ok, Err, Bool, true, false, refl, sym, ap, subst, arith}
+use Rattle.std.proofs.Common.{◌≡◌, ℕ, suc, ◌≤◌, ◌-◌, List, [], ◌∷◌, length, Option, Some, None, Result, Ok, Err, Bool, true, false, refl, ap, arith}
 use Rattle.std.specs.Prelude.{if◌then◌else◌, nat_lt}
 use Rattle.std.proofs.lemmas.Bool.Decides.{nat_tests}
 use Rattle.dcm_base.specs.declared.fault.EditRefusal.{EditRefusal}
 use Rattle.dcm_base.specs.declared.fault.EditRefusal.TheVariants.{BadOption, Overlap, TooMany}
 use Rattle.dcm_edit.specs.Edit.{Edit, erase_private}
-use Rattle.dcm_edit.specs.EditWords.{InEdit, Kind, OptionWord, private_word, takes_word, unknown_word, option_word, meant_word, meant_from, meant_edits, apart, and_then, at_edit, in_edit, EDIT_LIMIT}
+use Rattle.dcm_edit.specs.EditWords.{InEdit, OptionWord, private_word, takes_word, unknown_word, option_word, meant_word, meant_from, meant_edits, apart, and_then, at_edit, in_edit, EDIT_LIMIT}
 use Rattle.dcm_edit.specs.Overlap.{first_overlap}
 use Rattle.dcm_edit.proofs.EditWordLemmas.{ok_is, in_turn}
 

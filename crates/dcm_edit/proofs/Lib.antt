@@ -50,3 +50,11 @@ pub mod WordValues
 pub mod Depths
 pub mod DepthAtoms
 pub mod EditReads
+pub mod Through
+pub mod Taken
+pub mod LeastNew
+pub mod NewRows
+pub mod SoundSteps
+pub mod Passing
+pub mod MeantEdits
+pub mod ThroughSink

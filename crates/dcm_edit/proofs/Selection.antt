@@ -288,7 +288,7 @@ none_new p es e = subst (Least p es) e (least_is p es)
 pub puts_none_new : (p : Tag → Bool) (es : List Edit) → least_new p es ≡ None → puts p es no_tree ≡ no_tree
 puts_none_new p es e = puts_nothing p es no_tree (none_new p es e)
 
-above_between : (last : Option Tag) (next t : Tag) → is_above t last ≡ true → Above (is_between (Some t) next) (is_between last next) t
+pub above_between : (last : Option Tag) (next t : Tag) → is_above t last ≡ true → Above (is_between (Some t) next) (is_between last next) t
 above_between None next t e u = swapped (below t u) (below u next)
   where
     swapped : (a b : Bool) → (a && b) ≡ (b && a)
@@ -308,7 +308,7 @@ puts_between last next t es e =
     and_left true b p = refl
     and_left false b p = absurd (false_true p)
 
-above_above : (last : Option Tag) (t : Tag) → is_above t last ≡ true → Above (above_last (Some t)) (above_last last) t
+pub above_above : (last : Option Tag) (t : Tag) → is_above t last ≡ true → Above (above_last (Some t)) (above_last last) t
 above_above None t e u = refl
 above_above (Some last) t e u = grind (arith, nat_tests)
 

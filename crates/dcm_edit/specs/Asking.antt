@@ -1,5 +1,5 @@
 -- What an edit asks of an open data set, as the program finds it out.
-use Rattle.std.specs.Prelude.{ℕ, suc, ◌≤◌, List, [], ◌∷◌, Option, Some, None, Bool, true, false, ◌||◌, ◌==◌, if◌then◌else◌}
+use Rattle.std.specs.Prelude.{ℕ, List, [], ◌∷◌, Option, Some, None, Bool, true, false, ◌||◌, ◌==◌, if◌then◌else◌}
 use Rattle.std.specs.List.{list_all}
 use Rattle.std.specs.Borrow.{Bor}
 use Rattle.dcm_base.specs.declared.tag.Tag.{Tag}
@@ -8,7 +8,7 @@ use Rattle.dcm_base.specs.Tag.{below}
 use Rattle.dcm_edit.specs.Edit.{Index, number, every, selects, PathEdit, step, insert, modify, erase, erase_item, Edit, on_path, modify_all, erase_all, erase_private, elsewhere, within, fate, acts, erases, NewElement, no_element, new_leaf, new_sequence, element_of}
 use Rattle.dcm_edit.specs.Edit as spec
 use Rattle.dcm_edit.specs.NewOnes.{above_last, is_between}
-use Rattle.dcm_edit.specs.EditSink.{has_place, makes}
+use Rattle.dcm_edit.specs.EditSink.{has_place, makes, steps, depth, AreWithin}
 use Rattle.dcm_edit.specs.Masks.{is_set, at_depth, goes_along}
 use Rattle.dcm_edit.specs.Meaning.{index_of}
 use Rattle.dcm_edit.specs.declared.edit.NewElement.{NewElement as Element}
@@ -111,21 +111,12 @@ abbrev pub least_new : Gap → Seen → List Edit → Seen
 least_new gap least [] = least
 least_new gap least (e ∷ es) = least_new gap (lesser least (seen_in gap (seen (element_of e)))) es
 
--- each path has so many steps at most
+-- no path has more than 64 steps
 abbrev pub path_size : PathEdit → ℕ
-path_size (step tag index edit) = suc (path_size edit)
-path_size (insert tag vr value) = 0
-path_size (modify tag vr value) = 0
-path_size (erase tag) = 0
-path_size (erase_item tag index) = 0
+path_size p = steps p
 
 abbrev pub edit_size : Edit → ℕ
-edit_size (on_path edit) = path_size edit
-edit_size (modify_all tag vr value) = 0
-edit_size (erase_all tag) = 0
-edit_size erase_private = 0
-edit_size elsewhere = 0
+edit_size e = depth e
 
 abbrev pub AreShort : List Edit → Type 0
-AreShort [] = Unit {0}
-AreShort (e ∷ es) = (edit_size e ≤ 64) × AreShort es
+AreShort es = AreWithin 64 es

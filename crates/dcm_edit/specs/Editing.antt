@@ -1,5 +1,5 @@
 -- The state of the edits, as the program holds it.
-use Rattle.std.specs.Prelude.{List, map, length, reverse, Bool}
+use Rattle.std.specs.Prelude.{◌≡◌, ◌⊎◌, List, [], ◌∷◌, map, length, reverse, Option, Some, None, Bool, false}
 use Rattle.dcm_base.specs.declared.tag.Tag.{Tag}
 use Rattle.dcm_edit.specs.declared.edit.Edit.{Edit as AnEdit}
 use Rattle.dcm_edit.specs.declared.editor.Level.{Level}
@@ -7,6 +7,10 @@ use Rattle.dcm_edit.specs.declared.editor.Editor.{Editor}
 use Rattle.dcm_edit.specs.Edit.{Edit, Fate}
 use Rattle.dcm_edit.specs.EditSink.{State}
 use Rattle.dcm_edit.specs.Masks as masks
+use Rattle.dcm_base.specs.Atoms.{Atom, closes_item, ends}
+use Rattle.dcm_base.specs.Tree.{Trees, no_tree}
+use Rattle.dcm_edit.specs.Asking.{lies_in}
+use Rattle.dcm_edit.specs.NewOnes.{puts}
 use Rattle.dcm_edit.specs.Meaning.{edit_of}
 use Rattle.dcm_edit.specs.Together as together
 
@@ -29,3 +33,16 @@ first_fate edits e tag = together.first_fate (asked_here edits e) tag
 
 abbrev pub any_erases : List AnEdit → Editor → Tag → Bool
 any_erases edits e tag = together.any_erases (asked_here edits e) tag e.level.items
+
+-- of the last element
+abbrev pub erases_next : List AnEdit → Editor → Option Tag → Bool
+erases_next edits e None = false
+erases_next edits e (Some tag) = any_erases edits e tag
+
+-- the elements that edits put above the last one of the innermost open data set, and below the next one
+abbrev pub missing : List AnEdit → Editor → Option Tag → Trees
+missing edits e to = puts (lies_in e.level.last to) (asked_here edits e) no_tree
+
+-- the end of a data set
+abbrev pub IsEnd : List Atom → Type 0
+IsEnd atoms = (atoms ≡ closes_item ∷ []) ⊎ (atoms ≡ ends ∷ [])

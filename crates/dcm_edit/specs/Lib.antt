@@ -11,3 +11,5 @@ pub mod Meaning
 pub mod Editing
 pub mod Parts
 pub mod Making
+pub mod Through
+pub mod Sound

@@ -1,4 +1,6 @@
 // The edits that the words of a command line ask for.
+ghost use Rattle.std.specs.Prelude.{◌≡◌, ◌≤◌, length};
+
 use dcm_base::{Tag, Vr};
 
 /// Which items of a sequence a step leads into: one by its number, from 0, or every one.
@@ -21,6 +23,16 @@ pub struct NewElement {
     pub tag: Tag,
     pub vr: Vr,
     pub value: Vec<u8>,
+    ghost short: { length value.items ≤ 65536 },
+}
+
+impl NewElement {
+    /// The number of bytes of its value.
+    pub fn size(&self) -> u32
+        ensures { result ≡ length self.now.value.items }
+    {
+        self.value.len() as u32
+    }
 }
 
 /// What an edit does at the end of its path.

@@ -108,6 +108,17 @@ impl Editor {
         any_answers(edits, self.depth(), self.level.mask, question)
     }
 
+    /// Whether the next item is erased, where there is an element that it belongs to.
+    pub fn erases_next(&self, edits: &[Edit]) -> bool
+        requires { length edits.now ≤ 64 }
+        ensures { result ≡ editing.erases_next edits.now self.now self.now.level.last }
+    {
+        match self.level.last {
+            Some(tag) => self.erases_item(edits, tag),
+            None => false,
+        }
+    }
+
     /// After the head of an element.
     fn open(&mut self, edits: &[Edit], tag: Tag)
         requires { length edits.now ≤ 64 }

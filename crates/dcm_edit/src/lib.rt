@@ -11,9 +11,11 @@ mod known;
 pub mod laws;
 mod making;
 mod mask;
+mod new;
 mod overlap;
 mod parse;
 mod path;
+mod sink;
 #[cfg(test)]
 mod tests;
 
@@ -21,3 +23,4 @@ pub use edit::{Action, Edit, Index, NewElement, PathEdit, Step};
 pub use editor::Editor;
 pub use edits::Edits;
 pub use fault::EditFault;
+pub use sink::EditSink;

@@ -1,5 +1,5 @@
 // An edit from its path and its value.
-ghost use Rattle.std.specs.Prelude.{◌≡◌, [], ◌∷◌, ◌++◌, map, IfOk, true};
+ghost use Rattle.std.specs.Prelude.{◌≡◌, ◌≤◌, [], ◌∷◌, ◌++◌, length, map, IfOk, true};
 ghost use Rattle.dcm_edit.specs.Edit as spec_edit;
 ghost use Rattle.dcm_edit.specs.EditWords as spec;
 ghost use Rattle.dcm_edit.specs.Making.{kind_as, known_as, Makes, word_value, with_value, steps_to, is_of_all, Fit, valued_edit};
@@ -27,7 +27,8 @@ fn copy_of(alloc: Global, bytes: &[u8]) -> Result<Vec<u8>, Failure>
 
 /// The value that a word stands for in this representation.
 fn value_of_word(alloc: Global, vr: Vr, word: &[u8]) -> Result<Vec<u8>, Failure>
-    ensures { Makes (λ v. v.items) result (word_value vr word.now) }
+    ensures value { Makes (λ v. v.items) result (word_value vr word.now) }
+    ensures short { IfOk result (λ v. length v.items ≤ 65536) }
 {
     if word.is_empty() {
         return Ok(Vec::new(alloc));

@@ -1,5 +1,5 @@
 // Which edits of a command line ask something of an open data set, as a mask: bit k for edit k, counted from 0.
-ghost use Rattle.std.specs.Prelude.{◌≡◌, ◌≢◌, ◌<◌, ◌≤◌, ◌^◌, ℕ, length, map, true, false, Some};
+ghost use Rattle.std.specs.Prelude.{◌≡◌, ◌≢◌, ◌<◌, ◌≤◌, ◌^◌, ℕ, length, map, not, true, false, Some};
 ghost use Rattle.dcm_edit.specs.Edit as spec;
 ghost use Rattle.dcm_edit.specs.Asking as asking;
 ghost use Rattle.dcm_edit.specs.Masks as masks;
@@ -166,4 +166,32 @@ pub fn least_new(edits: &[Edit], depth: usize, mask: u64, gap: Gap) -> Option<Ne
         rest = after;
     }
     least
+}
+
+/// The bits so far, and this one too where the mask lacks it.
+fn with_unset(bits: u64, mask: u64, place: usize) -> u64
+    requires place { place < 64 }
+    requires unset { masks.is_set bits place ≡ false }
+    ensures here { masks.is_set result place ≡ not (masks.is_set mask place) }
+    ensures others { (k : ℕ) → k ≢ place → masks.is_set result k ≡ masks.is_set bits k }
+{
+    if is_set(mask, place) {
+        return bits;
+    }
+    with_bit(bits, place)
+}
+
+/// The bits of so many edits that a mask lacks.
+pub fn unset_bits(mask: u64, count: usize) -> u64
+    requires { count ≤ 64 }
+    ensures below { (k : ℕ) → k < count → masks.is_set result k ≡ not (masks.is_set mask k) }
+    ensures above { (k : ℕ) → count ≤ k → masks.is_set result k ≡ false }
+{
+    let mut bits = 0;
+    let mut place = 0;
+    while place < count {
+        bits = with_unset(bits, mask, place);
+        place += 1;
+    }
+    bits
 }

@@ -2,6 +2,7 @@ mod buildings;
 mod command_lines;
 mod conversions;
 mod failing;
+mod modifications;
 mod nested;
 mod rebuilt;
 mod rows;
@@ -11,6 +12,7 @@ use conversions::conversions;
 use dcm_base::{MemIn, MemOut, Std, Watched};
 use dcm_cli::run::run;
 use dcm_cli::{plan, tell};
+use modifications::modifications;
 use rows::{Row, bytes_of, front_of};
 use std::io;
 use std::io::Read;
@@ -151,6 +153,14 @@ fn converts(rt: HostRuntime) -> Result<(), Fail> {
 #[test]
 fn builds(rt: HostRuntime) -> Result<(), Fail> {
     for row in buildings() {
+        expect_answers(rt, &rt, row)?;
+    }
+    Ok(())
+}
+
+#[test]
+fn modifies(rt: HostRuntime) -> Result<(), Fail> {
+    for row in modifications() {
         expect_answers(rt, &rt, row)?;
     }
     Ok(())

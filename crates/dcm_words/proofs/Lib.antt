@@ -1,3 +1,4 @@
 pub mod WordLemmas
 pub mod Limits
 pub mod WordRows
+pub mod ModifyWords

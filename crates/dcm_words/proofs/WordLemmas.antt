@@ -1,19 +1,14 @@
 -- The words of a tool, one after another.
-use Rattle.std.proofs.Common.{◌≡◌, ℕ, zero, suc, ◌<◌, ◌+◌, List, [], ◌∷◌, length, map, drop, get_or, Option, None, Some, Bool, true, false, cond, Result, Ok, Err, refl, sym, ◌∙◌, ap, arith, drop-cons, add-one, Bor}
-use Rattle.dcm_base.specs.declared.mode.Mode.TheVariants.{Short, Full}
-use Rattle.dcm_base.specs.declared.syntax.Syntax.TheVariants.{Implicit, Little, Big}
-use Rattle.std.specs.Prelude.{codes, bytes_eq}
+use Rattle.std.proofs.Common.{◌≡◌, ℕ, zero, suc, ◌<◌, ◌+◌, List, [], ◌∷◌, length, map, drop, get_or, Option, None, Some, Bool, true, false, Result, Ok, Err, refl, sym, ◌∙◌, ap, arith, drop-cons, add-one, Bor}
 use Rattle.dcm_words.specs.declared.usage.Word.{Word}
 use Rattle.dcm_words.specs.declared.usage.Word.TheVariants.{Show, WholeFile, DataSet, Bare, Target, Limit, Accepted, Path, Unknown}
 use Rattle.dcm_words.specs.declared.usage.Usage.{Usage}
 use Rattle.dcm_words.specs.declared.usage.Usage.TheVariants.{AtWord}
 use Rattle.dcm_base.specs.declared.fault.WordFault.TheVariants.{UnknownOption, BadOptionValue}
 use Rattle.dcm_words.specs.Words.{Said, said_with, said_after, and_path, limit_of}
-use Rattle.dcm_words.specs.declared.words.Tool.{Tool}
-use Rattle.dcm_words.specs.declared.words.Tool.TheVariants as tools
 use Rattle.dcm_words.specs.declared.words.Paths.{Paths}
 use Rattle.dcm_words.specs.declared.words.Paths.TheVariants as paths
-use Rattle.dcm_words.specs.Plans.{reader, given, limit_behind, PathsAre}
+use Rattle.dcm_words.specs.Plans.{given, limit_behind, PathsAre}
 
 abbrev texts : List (Bor (List ℕ)) → List (List ℕ)
 texts ws = map (λ w. w.now) ws

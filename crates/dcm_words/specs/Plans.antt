@@ -1,9 +1,9 @@
 -- What a function made of the words of a command line.
-use Rattle.std.specs.Prelude.{◌≡◌, ℕ, ◌+◌, ◌<◌, nat_le, List, [], ◌∷◌, length, Option, Some, None, Result, Ok, Err, if◌then◌else◌, codes, bytes_eq}
+use Rattle.std.specs.Prelude.{◌≡◌, ℕ, ◌+◌, ◌<◌, nat_le, List, [], ◌∷◌, length, Option, Some, None, Result, Ok, Err, Bool, false, if◌then◌else◌, codes, bytes_eq}
 use Rattle.dcm_words.specs.declared.usage.Usage.{Usage}
-use Rattle.dcm_words.specs.declared.usage.Usage.TheVariants.{AtWord}
+use Rattle.dcm_words.specs.declared.usage.Usage.TheVariants.{AtWord, Whole, InEdit, Memory}
 use Rattle.dcm_words.specs.declared.usage.Word.{Word}
-use Rattle.dcm_base.specs.declared.fault.WordFault.TheVariants.{UnknownTool, BadOptionValue}
+use Rattle.dcm_base.specs.declared.fault.WordFault.TheVariants.{BadOptionValue}
 use Rattle.dcm_words.specs.Words as words
 use Rattle.dcm_words.specs.declared.job.Build.{Build}
 use Rattle.dcm_words.specs.declared.job.Job.{Job}
@@ -15,19 +15,11 @@ use Rattle.dcm_words.specs.declared.words.Paths.{Paths}
 use Rattle.dcm_words.specs.declared.words.Paths.TheVariants as paths
 use Rattle.dcm_words.specs.declared.words.Said.{Said}
 
--- the words behind the program's name, as far as the tools are there
-abbrev pub meant : List (List ℕ) → Result words.Plan Usage
-meant [] = Err (AtWord UnknownTool 1)
-meant (tool ∷ others) =
-    if bytes_eq tool (codes "dcmdump") then words.dump_plan others
-    else if bytes_eq tool (codes "dcmconv") then words.convert_plan others
-    else if bytes_eq tool (codes "dump2dcm") then words.build_plan others
-    else Err (AtWord UnknownTool 1)
-
 abbrev pub job_of : Job → words.Job
 job_of (jobs.Dump d) = words.dump d.mode d.bare
 job_of (jobs.Convert c) = words.convert c.target
 job_of (jobs.Build b) = words.build b.limit
+job_of (jobs.Modify edits) = words.modify edits
 
 abbrev pub planned : Planned → words.Plan
 planned p = record { input = p.input.now; output = p.output.now; job = job_of p.job }
@@ -36,6 +28,23 @@ planned p = record { input = p.input.now; output = p.output.now; job = job_of p.
 abbrev pub Gives : Result Planned Usage → Result words.Plan Usage → Type 0
 Gives (Ok p) meant = meant ≡ Ok (planned p)
 Gives (Err u) meant = meant ≡ Err u
+
+-- the same, but where the memory for edits was refused
+abbrev pub GivesUnlessMemory : Result Planned Usage → Result words.Plan Usage → Type 0
+GivesUnlessMemory (Ok p) meant = meant ≡ Ok (planned p)
+GivesUnlessMemory (Err Memory) meant = Unit {0}
+GivesUnlessMemory (Err (AtWord u n)) meant = meant ≡ Err (AtWord u n)
+GivesUnlessMemory (Err (Whole u)) meant = meant ≡ Err (Whole u)
+GivesUnlessMemory (Err (InEdit u n)) meant = meant ≡ Err (InEdit u n)
+
+-- the edits before the last two words, and these
+abbrev pub edits_between : List (List ℕ) → List ℕ → List ℕ → words.EditWords
+edits_between edits input output = record { edits = edits; input = input; output = output }
+
+-- whether the first word is dcmodify, which has edits
+abbrev pub is_modify : List (List ℕ) → Bool
+is_modify [] = false
+is_modify (tool ∷ others) = bytes_eq tool (codes "dcmodify")
 
 -- ---- word by word
 

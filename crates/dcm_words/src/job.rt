@@ -3,13 +3,16 @@ ghost use Rattle.std.specs.Prelude.{◌≤◌};
 ghost use Rattle.dcm_words.specs.Words.{LEAST_LIMIT, GREATEST_LIMIT};
 
 use dcm_base::{Mode, Syntax};
+use dcm_edit::Edits;
 
 /// What a run has to do.
-#[derive(Clone, Copy, Debug, PartialEq, Eq)]
+#[derive(Debug, Drop)]
 pub enum Job {
     Dump(Dump),
     Convert(Convert),
     Build(Build),
+    /// The edits of a file.
+    Modify(Edits),
 }
 
 /// The dump of a file, or of a data set alone in a syntax.
@@ -33,7 +36,7 @@ pub struct Build {
 }
 
 /// A job, and the paths of its input and its output, where `-` is a standard stream.
-#[derive(Clone, Copy)]
+#[derive(Drop)]
 pub struct Planned<'a> {
     pub input: &'a [u8],
     pub output: &'a [u8],

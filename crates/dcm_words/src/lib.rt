@@ -2,6 +2,8 @@
 #![tactic(auto)]
 
 mod job;
+#[cfg(test)]
+mod tests;
 mod usage;
 mod words;
 

@@ -1,12 +1,13 @@
 // The words of a command line.
-ghost use Rattle.std.specs.Prelude.{◌≡◌, ◌+◌, ◌<◌, List, ℕ, drop, length, map, option_map, IfSome};
+ghost use Rattle.std.specs.Prelude.{◌≡◌, ◌+◌, ◌<◌, List, ℕ, drop, length, map, option_map, IfSome, false};
 ghost use Rattle.dcm_base.specs.ReadValue.{digit as spec_digit, number_in};
 ghost use Rattle.dcm_words.specs.Words as spec;
-ghost use Rattle.dcm_words.specs.Plans.{meant, reader, job_of, capped, limit_behind as said_limit, LimitAs, Gives, PathsAre, SaidAs};
+ghost use Rattle.dcm_words.specs.Plans.{reader, job_of, is_modify, GivesUnlessMemory, edits_between, capped, limit_behind as said_limit, LimitAs, Gives, PathsAre, SaidAs};
 
 use crate::job::{Build, Convert, Dump, Job, Planned};
 use crate::usage::{Usage, Word};
 use dcm_base::{Mode, Syntax, WordFault};
+use dcm_edit::{EditFault, Edits};
 use std::alloc::Global;
 
 /// The path of a standard stream.
@@ -281,14 +282,54 @@ fn plan_build<'a>(words: &'a [&'a [u8]]) -> Result<Planned<'a>, Usage>
     plan_with_two(said.paths, Job::Build(said.build))
 }
 
-/// The job that the words behind the program's name mean, with the paths borrowed from them, or the first refusal.
-pub fn plan<'a>(_alloc: Global, words: &'a [&'a [u8]]) -> Result<Planned<'a>, Usage>
-    ensures { Gives result (meant (map (λ w. w.now) words.now)) }
+/// Whether a word is a path of dcmodify.
+fn is_path(word: &[u8]) -> bool
+    ensures { result ≡ spec.is_path word.now }
+{
+    !word.is_empty() && other_word(word) == Word::Path
+}
+
+/// The edits that words mean, from one path to another, or the first refusal.
+fn plan_edits<'a>(
+    alloc: Global,
+    edit_words: &[&[u8]],
+    input: &'a [u8],
+    output: &'a [u8],
+) -> Result<Planned<'a>, Usage>
+    ensures { GivesUnlessMemory result (spec.modify_plan_with (edits_between (map (λ w. w.now) edit_words.now) input.now output.now)) }
+{
+    match Edits::parse(alloc, edit_words) {
+        Ok(edits) => plan_if_apart(input, output, Job::Modify(edits)),
+        Err(EditFault::Refused(refusal, number)) => Err(Usage::InEdit(refusal, number)),
+        Err(EditFault::Memory) => Err(Usage::Memory),
+    }
+}
+
+/// What the words of dcmodify after its name mean, or the first refusal.
+fn plan_modify<'a>(alloc: Global, words: &'a [&'a [u8]]) -> Result<Planned<'a>, Usage>
+    ensures { GivesUnlessMemory result (spec.modify_plan (map (λ w. w.now) words.now)) }
+{
+    let [edit_words @ .., input, output] = words else {
+        return Err(Usage::Whole(WordFault::WrongPaths));
+    };
+    if !is_path(input) || !is_path(output) {
+        return Err(Usage::Whole(WordFault::WrongPaths));
+    }
+    plan_edits(alloc, edit_words, input, output)
+}
+
+/// The job that the words after the program's name mean, with the paths borrowed from them, or the first refusal. Memory is
+/// taken for the edits of dcmodify alone.
+#[tactic(auto, unfolding(crate::specs::Words::meant))]
+pub fn plan<'a>(alloc: Global, words: &'a [&'a [u8]]) -> Result<Planned<'a>, Usage>
+    ensures meant { GivesUnlessMemory result (spec.meant (map (λ w. w.now) words.now)) }
+    ensures memory { is_modify (map (λ w. w.now) words.now) ≡ false → Gives result (spec.meant (map (λ w. w.now) words.now)) }
 {
     match words {
         [tool, rest @ ..] if *tool == b"dcmdump".as_slice() => plan_dump(rest),
         [tool, rest @ ..] if *tool == b"dcmconv".as_slice() => plan_convert(rest),
         [tool, rest @ ..] if *tool == b"dump2dcm".as_slice() => plan_build(rest),
+        [tool, rest @ ..] if *tool == b"dcmodify".as_slice() => plan_modify(alloc, rest),
         _ => Err(Usage::AtWord(WordFault::UnknownTool, 1)),
     }
 }

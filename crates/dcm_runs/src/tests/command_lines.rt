@@ -63,3 +63,118 @@ fn refuses_words(rt: HostRuntime) -> Result<(), Fail> {
     }
     Ok(())
 }
+
+/// Words of dcmodify, and the line that is told of them.
+const REFUSED_EDITS: [(&str, &[u8]); 26] = [
+    ("dcmodify", b"dcmtools: V4: wrong number of paths\n"),
+    ("dcmodify a", b"dcmtools: V4: wrong number of paths\n"),
+    ("dcmodify -ep a", b"dcmtools: V4: wrong number of paths\n"),
+    (
+        "dcmodify -e Rows a -b",
+        b"dcmtools: V4: wrong number of paths\n",
+    ),
+    (
+        "dcmodify -e Rows a ",
+        b"dcmtools: V4: wrong number of paths\n",
+    ),
+    (
+        "dcmodify -e Rows a a",
+        b"dcmtools: V6: input and output are the same path\n",
+    ),
+    (
+        "dcmodify a a",
+        b"dcmtools: V6: input and output are the same path\n",
+    ),
+    (
+        "dcmodify -e a b",
+        b"dcmtools: U1 in edit 1: bad option or path\n",
+    ),
+    (
+        "dcmodify +x a b",
+        b"dcmtools: U1 in edit 1: bad option or path\n",
+    ),
+    (
+        "dcmodify -e Rows c a b",
+        b"dcmtools: U1 in edit 2: bad option or path\n",
+    ),
+    (
+        "dcmodify -m PatientName[0]=A a b",
+        b"dcmtools: U1 in edit 1: bad option or path\n",
+    ),
+    (
+        "dcmodify -e ReferencedImageSequence[1234567890] a b",
+        b"dcmtools: U1 in edit 1: bad option or path\n",
+    ),
+    (
+        "dcmodify -ma ReferencedImageSequence[0]=A a b",
+        b"dcmtools: U1 in edit 1: bad option or path\n",
+    ),
+    (
+        "dcmodify -m (0009,0010)=A a b",
+        b"dcmtools: U2 in edit 1: unknown tag\n",
+    ),
+    (
+        "dcmodify -e Foo-Bar a b",
+        b"dcmtools: U2 in edit 1: unknown tag\n",
+    ),
+    (
+        "dcmodify -e -i X=1 a b",
+        b"dcmtools: U2 in edit 1: unknown tag\n",
+    ),
+    (
+        "dcmodify -m Rows[0].Foo=1 a b",
+        b"dcmtools: U2 in edit 1: unknown tag\n",
+    ),
+    (
+        "dcmodify -i Rows=70000 a b",
+        b"dcmtools: U3 in edit 1: value does not fit\n",
+    ),
+    (
+        "dcmodify -i (0028,0009)=(0018,106) a b",
+        b"dcmtools: U3 in edit 1: value does not fit\n",
+    ),
+    (
+        "dcmodify -e Rows -e Rows[0] a b",
+        b"dcmtools: U4 in edit 2: sequence misused\n",
+    ),
+    (
+        "dcmodify -m ReferencedImageSequence=A a b",
+        b"dcmtools: U4 in edit 1: sequence misused\n",
+    ),
+    (
+        "dcmodify -i (0002,0010)=1 a b",
+        b"dcmtools: U5 in edit 1: group 0002 cannot be edited\n",
+    ),
+    (
+        "dcmodify -m PatientID=7 -m PatientID=7 a b",
+        b"dcmtools: U6 in edit 2: edits overlap\n",
+    ),
+    (
+        "dcmodify -e ReferencedImageSequence[0] -e ReferencedImageSequence[1] a b",
+        b"dcmtools: U6 in edit 2: edits overlap\n",
+    ),
+    (
+        "dcmodify -ea PatientID -i ReferencedImageSequence[0].PatientID=7 a b",
+        b"dcmtools: U6 in edit 2: edits overlap\n",
+    ),
+    (
+        "dcmodify -ep -ep -ep -ep -ep -ep -ep -ep -ep -ep -ep -ep -ep -ep -ep -ep -ep -ep -ep -ep -ep -ep -ep -ep -ep -ep -ep -ep -ep -ep -ep -ep -ep -ep -ep -ep -ep -ep -ep -ep -ep -ep -ep -ep -ep -ep -ep -ep -ep -ep -ep -ep -ep -ep -ep -ep -ep -ep -ep -ep -ep -ep -ep -ep -ep a b",
+        b"dcmtools: U7 in edit 65: too many edits\n",
+    ),
+];
+
+fn refused_edits() -> &'static [(&'static str, &'static [u8])] {
+    &REFUSED_EDITS
+}
+
+#[test]
+fn refuses_edits(rt: HostRuntime) -> Result<(), Fail> {
+    for refused in refused_edits() {
+        let (words, line) = *refused;
+        let answer = over_memory(rt, words, b"", 1, 10)?;
+        assert_eq!(rt; answer.status, 1, "{words}");
+        assert!(rt; answer.output.is_empty(), "{words}");
+        assert!(rt; answer.told.as_slice() == line, "{words}");
+    }
+    Ok(())
+}

@@ -3,6 +3,7 @@ mod buildings;
 mod conversions;
 mod devices;
 mod dumps;
+mod modifications;
 
 use super::rows::{Row, bytes_of, front_of};
 use super::{joined, split};

@@ -1,6 +1,6 @@
 use Rattle.std.proofs.Common.{sym, subst}
 use Rattle.dcm_words.specs.declared.job.Job.{Job}
-use Rattle.dcm_cli.specs.Run.{Worked}
+use Rattle.dcm_cli.specs.Run.{IsMeant, Worked}
 use Rattle.dcm_words.specs.Plans.{job_of}
 use Rattle.dcm_cli.proofs.run.work.Goals as goal
 
@@ -15,3 +15,19 @@ returns-in-Convert-clause-worked g c = λ file is.
 pub returns-in-Build-clause-worked : goal.returns-in-Build-clause-worked
 returns-in-Build-clause-worked g c = λ file is.
     subst (λ (job : Job). Worked (job_of job) file (g.R.DeviceIn.remaining c.build.new.input) (g.W.DeviceOut.contents c.args.out.now) (g.W.DeviceOut.contents c.build.new.out) c.build.result) (sym c.in-Build.is) (c.build.ensures.worked file is)
+
+pub returns-in-Modify-clause-worked : goal.returns-in-Modify-clause-worked
+returns-in-Modify-clause-worked g c = λ file is.
+    subst (λ (job : Job). Worked (job_of job) file (g.R.DeviceIn.remaining c.modify.new.input) (g.W.DeviceOut.contents c.args.out.now) (g.W.DeviceOut.contents c.modify.new.out) c.modify.result) (sym c.in-Modify.is) (c.modify.ensures.worked file is)
+
+pub returns-in-Modify-clause-meant : goal.returns-in-Modify-clause-meant
+returns-in-Modify-clause-meant g c = subst (λ (job : Job). IsMeant (job_of job)) (sym c.in-Modify.is) c.modify.ensures.meant
+
+pub returns-in-Dump-clause-meant : goal.returns-in-Dump-clause-meant
+returns-in-Dump-clause-meant g c = subst (λ (job : Job). IsMeant (job_of job)) (sym c.in-Dump.is) tt
+
+pub returns-in-Convert-clause-meant : goal.returns-in-Convert-clause-meant
+returns-in-Convert-clause-meant g c = subst (λ (job : Job). IsMeant (job_of job)) (sym c.in-Convert.is) tt
+
+pub returns-in-Build-clause-meant : goal.returns-in-Build-clause-meant
+returns-in-Build-clause-meant g c = subst (λ (job : Job). IsMeant (job_of job)) (sym c.in-Build.is) tt

@@ -1,0 +1,22 @@
+-- What the pass over a data set through edits leaves.
+use Rattle.std.specs.Prelude.{◌≡◌, ℕ, ◌+◌, ◌*◌, List, [], ◌∷◌, Bool, true, Option, if◌then◌else◌}
+use Rattle.dcm_stream.specs.declared.sink.Sink.{Ghosts}
+use Rattle.dcm_stream.specs.Reading.{Reading}
+use Rattle.dcm_edit.specs.Edit.{Edit}
+use Rattle.dcm_edit.specs.EditSink.{State, begun}
+use Rattle.dcm_edit.specs.Through.{through_bar, through_step, through_writes}
+use Rattle.dcm_cli.specs.declared.ending.Ending.{Ending}
+use Rattle.dcm_cli.specs.Pass.{BehindBegun, WasRead, with_unplaced}
+
+-- of answers one after another those that are no: bit 0 is set for the first
+unfoldable pub not_found : List Bool → ℕ
+not_found [] = 0
+not_found (b ∷ bs) = (if b then 0 else 1) + 2 * not_found bs
+
+-- the edits went between the machine and the sink, and those that found no place are told
+pub record EditPass {S : Type 0} (sink : Ghosts S) (edits : List Edit) (old new : S) (had left : Option (List ℕ)) (buffered : List ℕ) (first : Reading) (is_over : Bool) (ending : Ending) : Type 0 where
+  pub last : State
+  pub passed : Ending
+  pub ends : BehindBegun through_bar (through_step sink.step) (through_writes sink.step sink.writes) had buffered first (begun edits, sink.state old) (sink.contents old) left (last, sink.state new) (sink.contents new) passed
+  pub was : is_over ≡ true → WasRead passed
+  pub ending_is : ending ≡ with_unplaced passed (not_found last.found)

@@ -1,0 +1,102 @@
+// The edits of a file.
+ghost use Rattle.std.specs.Prelude.{◌≡◌, ◌≤◌, ◌<◌, ◌+◌, ◌^◌, ℕ, List, length, Some, true};
+ghost use Rattle.std.specs.Io.KnownBytes.{IsAtEnd};
+ghost use Rattle.dcm_edit.specs.Meaning.{AreMeant};
+ghost use Rattle.dcm_stream.specs.Reading.{start_of};
+ghost use Rattle.dcm_stream.specs.Sinks as sinks;
+ghost use Rattle.dcm_words.specs.Words.{modify as modify_job};
+ghost use Rattle.dcm_cli.specs.EditPass.{EditPass};
+ghost use Rattle.dcm_cli.specs.Pass as spec;
+ghost use Rattle.dcm_cli.specs.Run.{Worked};
+ghost use Rattle.dcm_cli.specs.SinkPass as sink_pass;
+
+use crate::ending::{Ending, Verdict};
+use crate::pass::read_set;
+use crate::rewrite::{Opened, open_file};
+use dcm_base::{DeviceIn, DeviceOut, Watched};
+use dcm_edit::{EditSink, Edits};
+use dcm_stream::Sink;
+use dcm_tools::EncodeSink;
+
+/// The bytes that are read at a time. Most of them are written again, each piece by one call.
+const PIECE: usize = 262_144;
+
+/// How the work ends where these edits found no place.
+fn with_unplaced(ending: Ending, unplaced: u64) -> Ending
+    ensures { result ≡ spec.with_unplaced ending unplaced }
+{
+    match ending {
+        Ending::Worked(Verdict::Done { .. }) => Ending::Worked(Verdict::Done { unplaced }),
+        _ => ending,
+    }
+}
+
+/// Reads the data set of a file through edits into a sink.
+fn read_edited<R: DeviceIn, S: Sink>(
+    edits: &Edits,
+    opened: Opened,
+    input: &mut Watched<R>,
+    buffer: &mut [u8],
+    sink: &mut S,
+) -> Ending
+    requires start { opened.start ≤ 2 ^ 62 }
+    requires room { 0 < length buffer.old }
+    requires bound { length buffer.old ≤ 262144 }
+    requires within { (opened.begun.used ≤ opened.begun.filled) × (opened.begun.filled ≤ length buffer.old) }
+    requires count { opened.start + length (spec.set_bytes opened.begun buffer.old) ≡ opened.begun.read }
+    requires over { opened.begun.is_over ≡ true → IsAtEnd (R.remaining input.old) }
+    ensures passes { EditPass S.Sink edits.now sink.old sink.new (R.remaining input.old) (R.remaining input.new) (spec.set_bytes opened.begun buffer.old) (start_of opened.coding.syntax opened.start) opened.begun.is_over result }
+    ensures unread { spec.TellsUnread (R.has_failed input.old) (R.has_failed input.new) result }
+    ensures failed { sink_pass.TellsOutput S.Sink sink.old sink.new result }
+    ensures kept { sinks.Keeps S.Sink sink.old sink.new }
+{
+    let mut edited = EditSink::new(edits, sink);
+    let ending = read_set(
+        opened.begun,
+        opened.coding,
+        opened.start,
+        input,
+        buffer,
+        &mut edited,
+    );
+    with_unplaced(ending, edited.unplaced())
+}
+
+/// Writes a file as the edits make it.
+fn modify_file<R: DeviceIn, W: DeviceOut>(
+    edits: &Edits,
+    input: &mut Watched<R>,
+    out: &mut Watched<W>,
+    buffer: &mut [u8],
+) -> Ending
+    requires meant { AreMeant edits.now }
+    requires room { 0 < length buffer.old }
+    requires bound { length buffer.old ≤ 262144 }
+    ensures worked { (file : List ℕ) → R.remaining input.old ≡ Some file → Worked (modify_job edits.now) file (R.remaining input.new) (W.contents out.old) (W.contents out.new) result }
+    ensures unread { spec.TellsUnread (R.has_failed input.old) (R.has_failed input.new) result }
+    ensures failed { spec.TellsOutput (W.has_failed out.old) (W.has_failed out.new) result }
+{
+    let opened = match open_file(None, input, out, buffer) {
+        Ok(opened) => opened,
+        Err(ending) => return ending,
+    };
+    let mut sink = EncodeSink::new(out, opened.coding.syntax);
+    read_edited(edits, opened, input, buffer, &mut sink)
+}
+
+/// Writes a file as the edits make it.
+pub fn modify<R: DeviceIn, W: DeviceOut>(
+    edits: &Edits,
+    input: &mut Watched<R>,
+    out: &mut Watched<W>,
+) -> Ending
+    ensures worked { (file : List ℕ) → R.remaining input.old ≡ Some file → Worked (modify_job edits.now) file (R.remaining input.new) (W.contents out.old) (W.contents out.new) result }
+    ensures unread { spec.TellsUnread (R.has_failed input.old) (R.has_failed input.new) result }
+    ensures failed { spec.TellsOutput (W.has_failed out.old) (W.has_failed out.new) result }
+    ensures meant { AreMeant edits.now }
+{
+    // The list is asked for since it is said of it that some words mean the edits.
+    let _list = edits.list();
+    let mut buffer = [0u8; PIECE];
+    modify_file(edits, input, out, &mut buffer)
+}

@@ -1,0 +1,19 @@
+use Rattle.std.proofs.Common.{List, [], ◌∷◌}
+use Rattle.dcm_base.specs.Atoms.{Atom, opens, opens_item}
+use Rattle.dcm_base.specs.declared.length.Length.TheVariants.{Undefined}
+use Rattle.dcm_base.specs.declared.syntax.Syntax.TheVariants.{Little}
+use Rattle.dcm_base.specs.declared.vr.Vr.TheVariants.{SQ}
+use Rattle.dcm_edit.proofs.Taken.{token_taken, then_taken, failed_taken}
+use Rattle.dcm_edit.proofs.new.open_made.Goals as goal
+
+pub returns-in_err-take-clause-takes : goal.returns-in_err-take-clause-takes
+returns-in_err-take-clause-takes g c =
+    let head : List Atom = opens c.args.tag SQ Undefined Little ∷ [] in
+    failed_taken g.S.Sink c.args.sink.now c.take.new.self head (opens_item Undefined ∷ []) c.from_residual.result c.from_residual.ensures.0 c.in_err-take.ensures.bytes
+
+pub returns-clause-takes : goal.returns-clause-takes
+returns-clause-takes g c =
+    let head : List Atom = opens c.args.tag SQ Undefined Little ∷ [] in
+    let r = c.take-2.result in
+    then_taken g.S.Sink c.args.sink.now c.take.new.self c.take-2.new.self head (opens_item Undefined ∷ []) r (c.in_ok-take.ensures.state, c.in_ok-take.ensures.bytes)
+    (token_taken g.S.Sink c.take.new.self c.take-2.new.self (opens_item Undefined ∷ []) r c.take-2.ensures.state c.take-2.ensures.bytes)

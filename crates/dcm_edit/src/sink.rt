@@ -1,0 +1,222 @@
+// Edits, between what reads a data set and what takes it.
+ghost use Rattle.std.specs.Prelude.{◌≡◌, ◌≤◌, ◌<◌, ℕ, [], length, map, not, false};
+ghost use Rattle.std.specs.Borrow.{GName};
+ghost use Rattle.dcm_base.specs.Atoms.{Atom, opens, opens_item, trees_then};
+ghost use Rattle.dcm_base.specs.Steps.{outputs};
+ghost use Rattle.dcm_base.specs.Tree.{no_tree, leaf};
+ghost use Rattle.dcm_base.specs.declared.syntax.Syntax.TheVariants.{Little as little};
+ghost use Rattle.dcm_stream.specs.Sinks as sinks;
+ghost use Rattle.dcm_stream.specs.Tokens.{atoms_of};
+ghost use Rattle.dcm_edit.specs.Asking as asking;
+ghost use Rattle.dcm_edit.specs.EditSink as spec;
+ghost use Rattle.dcm_edit.specs.EditSink.{State as EditState, next, passed, begun};
+ghost use Rattle.dcm_edit.specs.Sound.{IsSound, IsSound-prop};
+ghost use Rattle.dcm_edit.specs.Editing as editing;
+ghost use Rattle.dcm_edit.specs.Masks as masks;
+ghost use Rattle.dcm_edit.specs.Meaning.{edit_of};
+ghost use Rattle.dcm_edit.specs.Through.{through_step, through_writes, through_bar};
+
+use crate::asked::{Fate, Gap, is_below};
+use crate::edit::{Edit, NewElement};
+use crate::editor::Editor;
+use crate::edits::Edits;
+use crate::mask::unset_bits;
+use crate::new::{put_leaf_at, put_new};
+use dcm_base::{Length, Syntax, Tag, WriteFailed};
+use dcm_head::Head;
+use dcm_stream::{Bar, Sink, Token};
+
+/// Hands on what edits put in a gap of the innermost open data set.
+fn put_gap<S: Sink>(
+    editor: &Editor,
+    edits: &[Edit],
+    next: Option<Tag>,
+    sink: &mut S,
+) -> Result<(), WriteFailed>
+    requires few { length edits.now ≤ 64 }
+    requires short { asking.AreShort (map edit_of edits.now) }
+    requires sound { IsSound (editing.meant edits.now editor.now) }
+    ensures takes { sinks.Takes S.Sink sink.old sink.new (trees_then little (editing.missing edits.now editor.now next) []) result }
+    ensures failed { sinks.Tells S.Sink sink.old sink.new result }
+    ensures kept { sinks.Keeps S.Sink sink.old sink.new }
+{
+    let last = editor.level.last;
+    put_new(
+        edits,
+        editor.depth(),
+        editor.level.mask,
+        Gap { last, next },
+        sink,
+    )
+}
+
+/// Hands on what becomes of an element's head.
+fn put_head<S: Sink>(
+    fate: Fate<'_>,
+    head: Head,
+    syntax: Syntax,
+    sink: &mut S,
+) -> Result<(), WriteFailed>
+    ensures takes { sinks.Takes S.Sink sink.old sink.new (spec.head_by (asking.fate_of fate.entry) head.tag (opens head.tag head.vr head.length syntax)) result }
+    ensures failed { sinks.Tells S.Sink sink.old sink.new result }
+    ensures kept { sinks.Keeps S.Sink sink.old sink.new }
+{
+    match fate {
+        Fate::Stays => sink.take(Token::Open(head, syntax)),
+        Fate::Becomes(element) => put_leaf_at(head.tag, element, sink),
+        Fate::Goes => Ok(()),
+    }
+}
+
+/// Hands on the head of an element that is not dropped already, after the new elements before it.
+fn pass_element<S: Sink>(
+    editor: &Editor,
+    edits: &[Edit],
+    head: Head,
+    syntax: Syntax,
+    sink: &mut S,
+) -> Result<(), WriteFailed>
+    requires few { length edits.now ≤ 64 }
+    requires short { asking.AreShort (map edit_of edits.now) }
+    requires sound { IsSound (editing.meant edits.now editor.now) }
+    requires kept { editor.now.dropped ≡ 0 }
+    ensures takes { sinks.Takes S.Sink sink.old sink.new (passed (editing.meant edits.now editor.now) (opens head.tag head.vr head.length syntax)) result }
+    ensures failed { sinks.Tells S.Sink sink.old sink.new result }
+    ensures kept { sinks.Keeps S.Sink sink.old sink.new }
+{
+    put_gap(editor, edits, Some(head.tag), sink)?;
+    put_head(editor.fate_of(edits, head.tag), head, syntax, sink)
+}
+
+/// Hands on the head of an item that is not dropped already.
+fn pass_item<S: Sink>(
+    editor: &Editor,
+    edits: &[Edit],
+    declared: Length,
+    sink: &mut S,
+) -> Result<(), WriteFailed>
+    requires few { length edits.now ≤ 64 }
+    requires kept { editor.now.dropped ≡ 0 }
+    ensures takes { sinks.Takes S.Sink sink.old sink.new (passed (editing.meant edits.now editor.now) (opens_item declared)) result }
+    ensures failed { sinks.Tells S.Sink sink.old sink.new result }
+    ensures kept { sinks.Keeps S.Sink sink.old sink.new }
+{
+    if editor.erases_next(edits) {
+        return Ok(());
+    }
+    sink.take(Token::OpenItem(declared))
+}
+
+/// Hands on the end of the innermost data set, after the new elements above its last one.
+fn pass_end<S: Sink>(
+    editor: &Editor,
+    edits: &[Edit],
+    end: Token,
+    sink: &mut S,
+) -> Result<(), WriteFailed>
+    requires few { length edits.now ≤ 64 }
+    requires short { asking.AreShort (map edit_of edits.now) }
+    requires sound { IsSound (editing.meant edits.now editor.now) }
+    requires kept { editor.now.dropped ≡ 0 }
+    requires end { editing.IsEnd (atoms_of end) }
+    ensures takes { sinks.Takes S.Sink sink.old sink.new (outputs next passed (editing.meant edits.now editor.now) (atoms_of end.entry)) result }
+    ensures failed { sinks.Tells S.Sink sink.old sink.new result }
+    ensures kept { sinks.Keeps S.Sink sink.old sink.new }
+{
+    put_gap(editor, edits, None, sink)?;
+    sink.take(end)
+}
+
+/// Hands on what a token of the input becomes.
+fn pass<S: Sink>(
+    editor: &Editor,
+    edits: &[Edit],
+    token: Token,
+    sink: &mut S,
+) -> Result<(), WriteFailed>
+    requires few { length edits.now ≤ 64 }
+    requires short { asking.AreShort (map edit_of edits.now) }
+    requires sound { IsSound (editing.meant edits.now editor.now) }
+    ensures takes { sinks.Takes S.Sink sink.old sink.new (outputs next passed (editing.meant edits.now editor.now) (atoms_of token.entry)) result }
+    ensures failed { sinks.Tells S.Sink sink.old sink.new result }
+    ensures kept { sinks.Keeps S.Sink sink.old sink.new }
+{
+    if editor.dropped > 0 {
+        return Ok(());
+    }
+    match token {
+        Token::Open(head, syntax) => pass_element(editor, edits, head, syntax, sink),
+        Token::OpenItem(length) => pass_item(editor, edits, length, sink),
+        Token::CloseItem | Token::End => pass_end(editor, edits, token, sink),
+        Token::Bytes(_) | Token::CloseLeaf | Token::CloseSeq | Token::OpenFragment(_) => {
+            sink.take(token)
+        }
+    }
+}
+
+/// A sink that passes the tokens of a data set on to another one, as edits make them. It bars tags that do not ascend, and
+/// does not ask what the other one bars.
+#[derive(Drop)]
+pub struct EditSink<'e, S> {
+    edits: &'e Edits,
+    inner: &'e mut S,
+    editor: Editor,
+    ghost sound: { IsSound (masks.meant edits.now (editing.state editor)) } by { IsSound-prop (masks.meant edits.now (editing.state editor)) },
+}
+
+impl<'e, S: Sink> EditSink<'e, S> {
+    pub fn new(edits: &'e Edits, inner: &'e mut S) -> Self
+        ensures same_reference { result.inner.ghost_name ≡ inner.entry.ghost_name }
+        ensures inner { result.inner.now ≡ inner.old }
+        ensures edits { result.edits.now ≡ edits.now }
+        ensures state { masks.meant edits.now (editing.state result.editor) ≡ begun edits.now }
+    {
+        EditSink {
+            edits,
+            inner,
+            editor: Editor::new(edits.list()),
+        }
+    }
+
+    /// The edits that have found no place so far: bit k for edit k, counted from 0.
+    pub fn unplaced(&self) -> u64
+        ensures placed { (k : ℕ) → k < length self.now.edits.now → masks.is_set result k ≡ not (masks.is_set self.now.editor.found k) }
+        ensures few { (k : ℕ) → length self.now.edits.now ≤ k → masks.is_set result k ≡ false }
+    {
+        unset_bits(self.editor.found, self.edits.list().len())
+    }
+}
+
+impl<'e, S: Sink> Sink for EditSink<'e, S> {
+    ghost State = { EditState × S.State };
+
+    ghost state = { λ e. (masks.meant e.edits.now (editing.state e.editor), S.state e.inner.now) };
+
+    ghost step = { through_step S.step };
+
+    ghost writes = { through_writes S.step S.writes };
+
+    ghost bar = { through_bar };
+
+    ghost contents = { λ e. S.contents e.inner.now };
+
+    ghost has_failed = { λ e. S.has_failed e.inner.now };
+
+    ghost Kept = { GName × S.Kept };
+
+    ghost kept = { λ e. (e.inner.ghost_name, S.kept e.inner.now) };
+
+    fn take(&mut self, token: Token) -> Result<(), WriteFailed> {
+        let edits = self.edits.list();
+        pass(&self.editor, edits, token, self.inner)?;
+        self.editor.go_on(edits, token);
+        Ok(())
+    }
+
+    fn accepts(&self, head: &Head) -> Result<(), Bar> {
+        match self.editor.level.last {
+            Some(last) if !is_below(last, head.tag) => Err(Bar::Order),
+            _ => Ok(()),
+        }
+    }
+}

@@ -1,0 +1,9 @@
+//! The program dcmtools, for the gate to run with an edit that finds no place.
+#![tactic(auto)]
+
+use dcm_cli::dcmtools;
+use std::process::ExitCode;
+
+fn main(rt: HostRuntime) -> ExitCode {
+    ExitCode::from(dcmtools(rt))
+}
