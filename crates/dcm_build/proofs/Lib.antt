@@ -10,7 +10,6 @@ pub mod BuildLines
 pub mod BuildRuns
 pub mod Nested
 pub mod GroupBytes
-pub mod ThreeParts
 pub mod Placed
 pub mod BuildPieces
 pub mod LineEnds

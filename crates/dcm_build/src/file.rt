@@ -1,5 +1,5 @@
 // A file that is built, step by step.
-ghost use Rattle.std.specs.Prelude.{◌≡◌, ◌≤◌, ◌&&◌, ◌++◌, ◌∷◌, [], OnOk, None, false, true, is_some, unwrap_or, not, fold, length, if◌then◌else◌};
+ghost use Rattle.std.specs.Prelude.{◌≡◌, ◌≤◌, ◌&&◌, ◌∷◌, [], OnOk, None, false, true, is_some, unwrap_or, not, flat_map, fold, length, if◌then◌else◌};
 ghost use Rattle.dcm_base.specs.Atoms.{opens};
 ghost use Rattle.dcm_base.specs.Build as build;
 ghost use Rattle.dcm_base.specs.Device.{Puts, Tells};
@@ -98,20 +98,19 @@ fn read_value(step: Step<'_>, value: &mut ArrayVec<u8, MOST_VALUE>) -> bool
     }
 }
 
-/// Writes a value or fragment whole.
-fn put_value<W: DeviceOut>(
+/// Writes what tokens show, one after another.
+fn put_tokens<W: DeviceOut>(
     encoder: &mut Encoder,
     out: &mut Watched<W>,
-    opening: Token<'_>,
-    value: &[u8],
+    tokens: &[Token<'_>],
 ) -> Result<(), WriteFailed>
-    ensures state { OnOk result (encoders.state encoder.new ≡ fold encode_step (encoders.state encoder.old) (atoms_of opening.entry ++ spec.value_atoms value.now)) }
-    ensures bytes { Puts (W.contents out.old) (W.contents out.new) (outputs encode_step encode_writes (encoders.state encoder.old) (atoms_of opening.entry ++ spec.value_atoms value.now)) result }
+    ensures state { OnOk result (encoders.state encoder.new ≡ fold encode_step (encoders.state encoder.old) (flat_map atoms_of tokens.now)) }
+    ensures bytes { Puts (W.contents out.old) (W.contents out.new) (outputs encode_step encode_writes (encoders.state encoder.old) (flat_map atoms_of tokens.now)) result }
     ensures failed { Tells (W.has_failed out.old) (W.has_failed out.new) result }
 {
-    encoder.take(out, opening)?;
-    encoder.take(out, Token::Bytes(value))?;
-    encoder.take(out, Token::CloseLeaf)?;
+    for token in tokens {
+        encoder.take(out, *token)?;
+    }
     Ok(())
 }
 
@@ -135,16 +134,13 @@ fn put_step<W: DeviceOut>(
     ensures bytes { Puts (W.contents out.old) (W.contents out.new) (outputs encode_step encode_writes (encoders.state encoder.old) (spec.step_atoms (step_of step.entry))) result }
     ensures failed { Tells (W.has_failed out.old) (W.has_failed out.new) result }
 {
-    let size = value.len() as u32;
     match step {
-        Step::Leaf(tag, vr, _) => {
-            put_value(encoder, out, opening(tag, vr, Length::Known(size)), value)
-        }
+        Step::Leaf(tag, vr, _) => put_tokens(encoder, out, Token::leaf(tag, vr, value).as_slice()),
         Step::Sequence(tag, vr) | Step::FragmentList(tag, vr) => {
             encoder.take(out, opening(tag, vr, Length::Undefined))
         }
         Step::Item => encoder.take(out, Token::OpenItem(Length::Undefined)),
-        Step::Fragment(_) => put_value(encoder, out, Token::OpenFragment(size), value),
+        Step::Fragment(_) => put_tokens(encoder, out, Token::fragment(value).as_slice()),
         Step::ItemEnd => encoder.take(out, Token::CloseItem),
         Step::SequenceEnd => encoder.take(out, Token::CloseSeq),
     }

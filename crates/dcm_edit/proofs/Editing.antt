@@ -1,5 +1,5 @@
 -- The state of the edits, as the program holds it, at each step.
-use Rattle.std.proofs.Common.{◌≡◌, ℕ, suc, ◌+◌, ◌<◌, ◌≤◌, min, List, [], ◌∷◌, ◌++◌, map, length, reverse, Option, Some, None, Bool, true, refl, sym, ◌∙◌, ap, arith}
+use Rattle.std.proofs.Common.{◌≡◌, ℕ, suc, ◌+◌, ◌<◌, ◌≤◌, min, List, [], ◌∷◌, ◌++◌, map, length, reverse, Option, Some, None, Bool, true, sym, ◌∙◌, ap, arith}
 use Rattle.std.proofs.lemmas.List.{reverse-append, length-reverse, length-map}
 use Rattle.std.proofs.lemmas.Bool.{lt-ltb, le-ltb}
 use Rattle.std.proofs.Math.Nat.{min_comm}
@@ -36,11 +36,11 @@ alike l k o p d e f x y z = cc
 
 -- ---- before the first atom
 
-pub begins : (edits : List Edit) (mask found : ℕ) (level : MaskLevel) (items : List Level) → level ≡ record { mask = mask; last = None; count = 0 } → items ≡ []
-    → ((j : ℕ) → j < length edits → is_set mask j ≡ true) → bits found 0 edits ≡ map (answer_of AtTop) (asked 0 mask 0 edits) → meant edits (state_of level (around items) 0 found) ≡ begun edits
-begins edits mask found level items l e all p =
+pub begins : (edits : List Edit) (mask found d : ℕ) (level : MaskLevel) (items : List Level) → level ≡ record { mask = mask; last = None; count = 0 } → items ≡ [] → d ≡ 0
+    → ((j : ℕ) → j < length edits → is_set mask j ≡ true) → bits found 0 edits ≡ map (answer_of AtTop) (asked 0 mask 0 edits) → meant edits (state_of level (around items) d found) ≡ begun edits
+begins edits mask found d level items l e none all p =
     let set : AllSet mask 0 edits = all_set mask 0 edits (λ j k. all j (omega (arith, k))) in
-    ap (meant edits) (alike _ _ _ _ 0 0 found l (ap around e) refl)
+    ap (meant edits) (alike _ _ _ _ d 0 found l (ap around e) none)
     ∙ meant_begun edits mask found set (p ∙ ap (λ (es : List Edit). map (answer_of AtTop) es) (asked_first mask 0 edits set))
 
 -- ---- the head of an item

@@ -17,6 +17,7 @@ use Rattle.dcm_base.proofs.Row.{trees_then-append}
 use Rattle.dcm_stream.specs.declared.sink.Sink.{Ghosts}
 use Rattle.dcm_stream.specs.declared.token.Token.{Token}
 use Rattle.dcm_stream.specs.declared.token.Token.TheVariants as tokens
+use Rattle.dcm_stream.specs.Skip.{depth}
 use Rattle.dcm_stream.specs.Tokens.{atoms_of}
 use Rattle.dcm_edit.specs.Edit.{Edit}
 use Rattle.dcm_edit.specs.Together.{first_fate}
@@ -43,16 +44,16 @@ new_then x atoms = trees_then-append Little x [] atoms
 abbrev row_of : Trees → List Atom
 row_of x = trees_then Little x []
 
-pub head_passed : (edits : List AnEdit) (e : Editor) (tag : Tag) (vr : Vr) (declared : Length) (syntax : Syntax) → e.dropped ≡ 0
+pub head_passed : (edits : List AnEdit) (e : Editor) (tag : Tag) (vr : Vr) (declared : Length) (syntax : Syntax) → depth e.skip ≡ 0
     → row_of (missing edits e (Some tag)) ++ head_by (first_fate (asked_here edits e) tag) tag (opens tag vr declared syntax) ≡ passed (meant edits e) (opens tag vr declared syntax)
 head_passed edits e tag vr declared syntax none =
     let of = λ (es : List Edit). new_ones (is_between e.level.last tag) es (head_by (first_fate es tag) tag (opens tag vr declared syntax)) in
-    sym (kept e.dropped (of (meant edits e).level.edits) none ∙ ap of (same_asked edits e) ∙ new_then (missing edits e (Some tag)) (head_by (first_fate (asked_here edits e) tag) tag (opens tag vr declared syntax)))
+    sym (kept (depth e.skip) (of (meant edits e).level.edits) none ∙ ap of (same_asked edits e) ∙ new_then (missing edits e (Some tag)) (head_by (first_fate (asked_here edits e) tag) tag (opens tag vr declared syntax)))
 
-pub item_passed : (edits : List AnEdit) (e : Editor) (declared : Length) (b : Bool) → e.dropped ≡ 0 → b ≡ erases_next edits e e.level.last → passed (meant edits e) (opens_item declared) ≡ (if b then [] else opens_item declared ∷ [])
+pub item_passed : (edits : List AnEdit) (e : Editor) (declared : Length) (b : Bool) → depth e.skip ≡ 0 → b ≡ erases_next edits e e.level.last → passed (meant edits e) (opens_item declared) ≡ (if b then [] else opens_item declared ∷ [])
 item_passed edits e declared b none is =
     let of = λ (es : List Edit). item_head_by es e.level.last e.level.items (opens_item declared) in
-    kept e.dropped (of (meant edits e).level.edits) none ∙ ap of (same_asked edits e) ∙ by_last e.level.last is
+    kept (depth e.skip) (of (meant edits e).level.edits) none ∙ ap of (same_asked edits e) ∙ by_last e.level.last is
   where
     by_last : (l : Option Tag) → b ≡ erases_next edits e l → item_head_by (asked_here edits e) l e.level.items (opens_item declared) ≡ (if b then [] else opens_item declared ∷ [])
     by_last None q = ap (λ (x : Bool). if x then [] else opens_item declared ∷ []) (sym q)
@@ -62,14 +63,14 @@ with_none : (a : Atom) (xs : List Atom) → xs ++ a ∷ [] ≡ (xs ++ a ∷ []) 
 with_none a [] = refl
 with_none a (x ∷ xs) = ap (λ (ys : List Atom). x ∷ ys) (with_none a xs)
 
-ending : (edits : List AnEdit) (e : Editor) (a : Atom) → e.dropped ≡ 0
-    → row_of (missing edits e None) ++ a ∷ [] ≡ unless_dropped e.dropped (new_ones (above_last e.level.last) (meant edits e).level.edits (a ∷ [])) ++ []
+ending : (edits : List AnEdit) (e : Editor) (a : Atom) → depth e.skip ≡ 0
+    → row_of (missing edits e None) ++ a ∷ [] ≡ unless_dropped (depth e.skip) (new_ones (above_last e.level.last) (meant edits e).level.edits (a ∷ [])) ++ []
 ending edits e a none =
     let of = λ (es : List Edit). new_ones (above_last e.level.last) es (a ∷ []) in
     with_none a (row_of (missing edits e None))
-    ∙ ap (λ (xs : List Atom). xs ++ []) (sym (kept e.dropped (of (meant edits e).level.edits) none ∙ ap of (same_asked edits e) ∙ new_then (missing edits e None) (a ∷ [])))
+    ∙ ap (λ (xs : List Atom). xs ++ []) (sym (kept (depth e.skip) (of (meant edits e).level.edits) none ∙ ap of (same_asked edits e) ∙ new_then (missing edits e None) (a ∷ [])))
 
-pub end_passed : (edits : List AnEdit) (e : Editor) (atoms : List Atom) → e.dropped ≡ 0 → IsEnd atoms → row_of (missing edits e None) ++ atoms ≡ outputs next passed (meant edits e) atoms
+pub end_passed : (edits : List AnEdit) (e : Editor) (atoms : List Atom) → depth e.skip ≡ 0 → IsEnd atoms → row_of (missing edits e None) ++ atoms ≡ outputs next passed (meant edits e) atoms
 end_passed edits e atoms none (inl is) =
     ap (λ (xs : List Atom). row_of (missing edits e None) ++ xs) is ∙ ending edits e closes_item none ∙ ap (outputs next passed (meant edits e)) (sym is)
 end_passed edits e atoms none (inr is) =

@@ -16,6 +16,7 @@ use Rattle.dcm_head.specs.declared.head.Head.{Head}
 use Rattle.dcm_stream.specs.declared.token.Bar.{Bar as SinkBar}
 use Rattle.dcm_stream.specs.declared.token.Bar.TheVariants.{Order}
 use Rattle.dcm_stream.specs.Driven.{bars_by}
+use Rattle.dcm_stream.specs.Skip.{opened, closed}
 use Rattle.dcm_tools.specs.Laws.{StaysShallow}
 use Rattle.dcm_edit.specs.Edit.{Index, number, every, PathEdit, step, insert, modify, erase, erase_item, Edit, on_path, modify_all, erase_all, erase_private, elsewhere, within, Fate, stays, becomes, goes, fate, erases, acts, NewElement, no_element, new_leaf, new_sequence, element_of}
 use Rattle.dcm_edit.specs.Together.{first_fate, any_erases, all_within}
@@ -62,12 +63,10 @@ begun edits = record { level = new_level edits; outer = []; dropped = 0; found =
 
 -- what is opened is dropped where it is to go, and within what is dropped
 abbrev pub dropped_after_head : ℕ → Bool → ℕ
-dropped_after_head zero is_dropped = if is_dropped then 1 else 0
-dropped_after_head (suc n) is_dropped = min MOST_COUNTED (suc (suc n))
+dropped_after_head = opened
 
 abbrev pub dropped_after_end : ℕ → ℕ
-dropped_after_end zero = 0
-dropped_after_end (suc n) = n
+dropped_after_end = closed
 
 abbrev pub either : List Bool → List Bool → List Bool
 either [] others = []

@@ -1,6 +1,7 @@
 -- The state of the edits, as the program holds it.
 use Rattle.std.specs.Prelude.{◌≡◌, ◌⊎◌, List, [], ◌∷◌, map, length, reverse, Option, Some, None, Bool, false}
 use Rattle.dcm_base.specs.declared.tag.Tag.{Tag}
+use Rattle.dcm_stream.specs.Skip.{depth}
 use Rattle.dcm_edit.specs.declared.edit.Edit.{Edit as AnEdit}
 use Rattle.dcm_edit.specs.declared.editor.Level.{Level}
 use Rattle.dcm_edit.specs.declared.editor.Editor.{Editor}
@@ -18,7 +19,7 @@ abbrev pub level_of : Level → masks.MaskLevel
 level_of l = record { mask = l.mask; last = l.last; count = l.items }
 
 abbrev pub state : Editor → masks.MaskState
-state e = record { level = level_of e.level; outer = map level_of (reverse e.outermost_first.items); dropped = e.dropped; found = e.found }
+state e = record { level = level_of e.level; outer = map level_of (reverse e.outermost_first.items); dropped = depth e.skip; found = e.found }
 
 -- the state of the definitions
 abbrev pub meant : List AnEdit → Editor → State

@@ -1,5 +1,5 @@
 // The edits that the words of a command line ask for.
-ghost use Rattle.std.specs.Prelude.{◌≡◌, ◌≤◌, length};
+ghost use Rattle.std.specs.Prelude.{◌≤◌, length};
 
 use dcm_base::{Tag, Vr};
 
@@ -24,15 +24,6 @@ pub struct NewElement {
     pub vr: Vr,
     pub value: Vec<u8>,
     ghost short: { length value.items ≤ 65536 },
-}
-
-impl NewElement {
-    /// The number of bytes of its value.
-    pub fn size(&self) -> u32
-        ensures { result ≡ length self.now.value.items }
-    {
-        self.value.len() as u32
-    }
 }
 
 /// What an edit does at the end of its path.

@@ -16,7 +16,7 @@ use crate::edit::Edit;
 use crate::mask::{all, answering, any_answers, first_fate};
 use arrayvec::ArrayVec;
 use dcm_base::Tag;
-use dcm_stream::Token;
+use dcm_stream::{Skip, Token};
 
 /// The most data sets that are open around another.
 pub const MOST_AROUND: usize = 64;
@@ -29,24 +29,13 @@ pub struct Level {
     pub items: u32,
 }
 
-/// The open data sets, how many of the open elements and items are dropped, and which edits have found their place.
+/// The open data sets, what is open of a dropped element or item, and which edits have found their place.
 #[derive(Drop)]
 pub struct Editor {
     pub level: Level,
     pub outermost_first: ArrayVec<Level, MOST_AROUND>,
-    pub dropped: u32,
+    pub skip: Skip,
     pub found: u64,
-}
-
-/// One more thing is open within what is dropped, or is dropped itself.
-fn one_more(dropped: u32, is_dropped: bool) -> u32
-    ensures { result ≡ spec.dropped_after_head dropped is_dropped }
-{
-    if dropped > 0 || is_dropped {
-        dropped.saturating_add(1)
-    } else {
-        0
-    }
 }
 
 /// A data set of which these edits ask something.
@@ -70,7 +59,7 @@ impl Editor {
         Editor {
             level: new_level(mask),
             outermost_first: ArrayVec::new(),
-            dropped: 0,
+            skip: Skip::nothing(),
             found: answering(edits, 0, mask, Question::AtTop),
         }
     }
@@ -127,7 +116,7 @@ impl Editor {
         let found = self.found_with(edits, Question::AtHead(tag, self.level.last));
         let stays = matches!(self.fate_of(edits, tag), Fate::Stays);
         self.found = found;
-        self.dropped = one_more(self.dropped, !stays);
+        self.skip.open(!stays);
         self.level.last = Some(tag);
         self.level.items = 0;
     }
@@ -145,7 +134,7 @@ impl Editor {
         let question = Question::GoesAlong(tag, item);
         let inner = answering(edits, self.depth(), self.level.mask, question);
         self.found = found;
-        self.dropped = one_more(self.dropped, is_erased);
+        self.skip.open(is_erased);
         self.level.items = item.saturating_add(1);
         self.outermost_first.push(self.level);
         self.level = new_level(inner);
@@ -166,7 +155,7 @@ impl Editor {
     fn close(&mut self)
         ensures { editing.state self.new ≡ masks.masks_after_end (editing.state self.old) }
     {
-        self.dropped = self.dropped.saturating_sub(1);
+        self.skip.close();
     }
 
     /// At the end of the innermost data set.
@@ -194,7 +183,7 @@ impl Editor {
     fn open_fragment(&mut self)
         ensures { editing.state self.new ≡ masks.masks_in_fragment (editing.state self.old) }
     {
-        self.dropped = one_more(self.dropped, false);
+        self.skip.open(false);
     }
 
     /// After a token.

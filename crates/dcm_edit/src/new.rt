@@ -1,6 +1,6 @@
 // New elements, put where a data set lacks them.
 ghost use Rattle.std.specs.Prelude.{◌≡◌, ◌<◌, ◌≤◌, [], ◌∷◌, Some, length, map};
-ghost use Rattle.dcm_base.specs.Atoms.{trees_then, value_byte, opens, opens_item, closes_item, closes_sequence};
+ghost use Rattle.dcm_base.specs.Atoms.{trees_then, opens, opens_item, closes_item, closes_sequence};
 ghost use Rattle.dcm_base.specs.Tree.{no_tree, leaf};
 ghost use Rattle.dcm_base.specs.declared.length.Length.TheVariants.{Undefined};
 ghost use Rattle.dcm_base.specs.declared.syntax.Syntax.TheVariants.{Little};
@@ -18,19 +18,7 @@ use crate::edit::{Edit, NewElement};
 use crate::mask::{answering, least_new};
 use dcm_base::{Length, Syntax, Tag, Vr, WriteFailed};
 use dcm_head::Head;
-use dcm_stream::{Sink, Token};
-
-/// Hands the bytes of a value on, if it has any.
-fn put_value<S: Sink>(value: &[u8], sink: &mut S) -> Result<(), WriteFailed>
-    ensures takes { sinks.Takes S.Sink sink.old sink.new (map value_byte value.now) result }
-    ensures failed { sinks.Tells S.Sink sink.old sink.new result }
-    ensures kept { sinks.Keeps S.Sink sink.old sink.new }
-{
-    if value.is_empty() {
-        return Ok(());
-    }
-    sink.take(Token::Bytes(value))
-}
+use dcm_stream::{Sink, Token, take_all};
 
 /// Hands the value of a new element on, with this tag.
 pub fn put_leaf_at<S: Sink>(tag: Tag, element: &NewElement, sink: &mut S) -> Result<(), WriteFailed>
@@ -38,14 +26,8 @@ pub fn put_leaf_at<S: Sink>(tag: Tag, element: &NewElement, sink: &mut S) -> Res
     ensures failed { sinks.Tells S.Sink sink.old sink.new result }
     ensures kept { sinks.Keeps S.Sink sink.old sink.new }
 {
-    let head = Head {
-        tag,
-        vr: element.vr,
-        length: Length::Known(element.size()),
-    };
-    sink.take(Token::Open(head, Syntax::Little))?;
-    put_value(element.value.as_slice(), sink)?;
-    sink.take(Token::CloseLeaf)
+    let tokens = Token::leaf(tag, element.vr, element.value.as_slice());
+    take_all(tokens.as_slice(), sink)
 }
 
 /// Hands a new value on.

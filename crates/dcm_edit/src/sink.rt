@@ -6,7 +6,8 @@ ghost use Rattle.dcm_base.specs.Steps.{outputs};
 ghost use Rattle.dcm_base.specs.Tree.{no_tree, leaf};
 ghost use Rattle.dcm_base.specs.declared.syntax.Syntax.TheVariants.{Little as little};
 ghost use Rattle.dcm_stream.specs.Sinks as sinks;
-ghost use Rattle.dcm_stream.specs.Tokens.{atoms_of};
+ghost use Rattle.dcm_stream.specs.Skip.{depth};
+ghost use Rattle.dcm_stream.specs.Tokens.{IsFilled, atoms_of};
 ghost use Rattle.dcm_edit.specs.Asking as asking;
 ghost use Rattle.dcm_edit.specs.EditSink as spec;
 ghost use Rattle.dcm_edit.specs.EditSink.{State as EditState, next, passed, begun};
@@ -79,7 +80,7 @@ fn pass_element<S: Sink>(
     requires few { length edits.now ≤ 64 }
     requires short { asking.AreShort (map edit_of edits.now) }
     requires sound { IsSound (editing.meant edits.now editor.now) }
-    requires kept { editor.now.dropped ≡ 0 }
+    requires kept { depth editor.now.skip ≡ 0 }
     ensures takes { sinks.Takes S.Sink sink.old sink.new (passed (editing.meant edits.now editor.now) (opens head.tag head.vr head.length syntax)) result }
     ensures failed { sinks.Tells S.Sink sink.old sink.new result }
     ensures kept { sinks.Keeps S.Sink sink.old sink.new }
@@ -96,7 +97,7 @@ fn pass_item<S: Sink>(
     sink: &mut S,
 ) -> Result<(), WriteFailed>
     requires few { length edits.now ≤ 64 }
-    requires kept { editor.now.dropped ≡ 0 }
+    requires kept { depth editor.now.skip ≡ 0 }
     ensures takes { sinks.Takes S.Sink sink.old sink.new (passed (editing.meant edits.now editor.now) (opens_item declared)) result }
     ensures failed { sinks.Tells S.Sink sink.old sink.new result }
     ensures kept { sinks.Keeps S.Sink sink.old sink.new }
@@ -117,8 +118,9 @@ fn pass_end<S: Sink>(
     requires few { length edits.now ≤ 64 }
     requires short { asking.AreShort (map edit_of edits.now) }
     requires sound { IsSound (editing.meant edits.now editor.now) }
-    requires kept { editor.now.dropped ≡ 0 }
+    requires kept { depth editor.now.skip ≡ 0 }
     requires end { editing.IsEnd (atoms_of end) }
+    requires filled { IsFilled end }
     ensures takes { sinks.Takes S.Sink sink.old sink.new (outputs next passed (editing.meant edits.now editor.now) (atoms_of end.entry)) result }
     ensures failed { sinks.Tells S.Sink sink.old sink.new result }
     ensures kept { sinks.Keeps S.Sink sink.old sink.new }
@@ -137,11 +139,12 @@ fn pass<S: Sink>(
     requires few { length edits.now ≤ 64 }
     requires short { asking.AreShort (map edit_of edits.now) }
     requires sound { IsSound (editing.meant edits.now editor.now) }
+    requires filled { IsFilled token }
     ensures takes { sinks.Takes S.Sink sink.old sink.new (outputs next passed (editing.meant edits.now editor.now) (atoms_of token.entry)) result }
     ensures failed { sinks.Tells S.Sink sink.old sink.new result }
     ensures kept { sinks.Keeps S.Sink sink.old sink.new }
 {
-    if editor.dropped > 0 {
+    if editor.skip.is_open() {
         return Ok(());
     }
     match token {

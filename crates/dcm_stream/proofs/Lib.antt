@@ -25,3 +25,5 @@ pub mod Finishes
 pub mod Calls
 pub mod Driven
 pub mod Inputs
+pub mod Skipped
+pub mod Handed

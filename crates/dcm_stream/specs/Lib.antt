@@ -8,3 +8,4 @@ pub mod Ascending
 pub mod Machine
 pub mod Driven
 pub mod Sinks
+pub mod Skip

@@ -1,7 +1,7 @@
 // The ends of containers, and the tokens of heads.
 ghost use Rattle.std.specs.Prelude.{◌≡◌, [], ◌∷◌, reverse, OnOk};
 ghost use Rattle.dcm_stream.specs.Sinks as sinks;
-ghost use Rattle.dcm_stream.specs.Tokens.{atoms_of};
+ghost use Rattle.dcm_stream.specs.Tokens.{IsFilled, atoms_of};
 ghost use Rattle.dcm_stream.specs.Places.{full_innermost};
 ghost use Rattle.dcm_stream.specs.Judging.{opening_atom};
 ghost use Rattle.dcm_stream.specs.Reading.{closes, full_closed};
@@ -16,7 +16,8 @@ pub const MOST_LEVELS: usize = 129;
 
 /// The token that ends a container.
 fn closing_token(container: Container) -> Token<'static>
-    ensures { atoms_of result ≡ closes container ∷ [] }
+    ensures atoms { atoms_of result ≡ closes container ∷ [] }
+    ensures filled { IsFilled result }
 {
     match container {
         Container::Item => Token::CloseItem,
@@ -26,7 +27,8 @@ fn closing_token(container: Container) -> Token<'static>
 
 /// The token of what a head opens or closes.
 pub fn opening_token(opening: Opening) -> Token<'static>
-    ensures { atoms_of result ≡ opening_atom opening ∷ [] }
+    ensures atoms { atoms_of result ≡ opening_atom opening ∷ [] }
+    ensures filled { IsFilled result }
 {
     match opening {
         Opening::Leaf(head, syntax, _) | Opening::List(head, syntax, _) => {

@@ -8,10 +8,14 @@ mod levels;
 mod machine;
 mod place;
 mod sink;
+mod skip;
+mod taking;
 #[cfg(test)]
 mod tests;
 mod token;
 
 pub use machine::{Halt, INPUT_LIMIT, Machine};
 pub use sink::Sink;
+pub use skip::Skip;
+pub use taking::take_all;
 pub use token::{Bar, Token};

@@ -86,6 +86,7 @@ impl Place {
     /// Goes over bytes of the open value.
     fn read_value<S: Sink>(&mut self, value: &[u8], sink: &mut S) -> Result<(), Halt>
         requires head { self.old.head.items ≡ [] }
+        requires some { 0 < length value.now }
         requires fits { length value.now ≤ self.old.left }
         requires within { self.old.position + length value.now ≤ 2 ^ 62 }
         ensures comes { sinks.Comes S.Sink sink.old sink.new (spec.reading self.new) (spec.value_read (spec.reading self.old None) (self.old.left - length value.now) value.now) result }

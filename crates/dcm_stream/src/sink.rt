@@ -5,7 +5,7 @@ ghost use Rattle.dcm_base.specs.Atoms.{Atom};
 ghost use Rattle.dcm_stream.specs.declared.token.Bar.{Bar};
 ghost use Rattle.dcm_head.specs.declared.head.Head.{Head};
 ghost use Rattle.dcm_base.specs.Steps.{outputs};
-ghost use Rattle.dcm_stream.specs.Tokens.{atoms_of, Bars};
+ghost use Rattle.dcm_stream.specs.Tokens.{atoms_of, Bars, IsFilled};
 
 use super::{Bar, Token};
 use dcm_base::WriteFailed;
@@ -38,8 +38,10 @@ pub trait Sink {
 
     ghost kept: { Self → Kept };
 
-    /// Takes a token. An `Err` is a writer that failed in this call.
+    /// Takes a token. No sink is handed empty `Bytes`: a value without bytes is opened and closed. An `Err` is a writer that
+    /// failed in this call.
     fn take(&mut self, token: Token) -> Result<(), WriteFailed>
+        requires { IsFilled token }
         ensures state { OnOk result (state self.new ≡ fold step (state self.old) (atoms_of token.entry)) }
         ensures bytes { Puts (contents self.old) (contents self.new) (outputs step writes (state self.old) (atoms_of token.entry)) result }
         ensures failed { Tells (has_failed self.old) (has_failed self.new) result }

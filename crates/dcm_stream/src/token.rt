@@ -1,14 +1,24 @@
 // What a machine tells its sink.
-use dcm_base::{Length, Syntax};
+ghost use Rattle.std.specs.Prelude.{◌≡◌, ◌<◌, ◌^◌, ◌++◌, ◌∷◌, [], All, flat_map, length, map};
+ghost use Rattle.dcm_base.specs.Atoms.{opens, opens_fragment, value_byte, closes_leaf};
+ghost use Rattle.dcm_base.specs.declared.length.Length.TheVariants.{Known};
+ghost use Rattle.dcm_base.specs.declared.syntax.Syntax.TheVariants.{Little};
+ghost use Rattle.dcm_stream.specs.Tokens.{IsFilled, atoms_of};
+
+use arrayvec::ArrayVec;
+use dcm_base::{Length, Syntax, Tag, Vr};
 use dcm_head::Head;
+
+/// The most tokens of a whole value or fragment.
+pub const MOST_OF_VALUE: usize = 3;
 
 /// What has been read of a data set. The bytes of a value come in any cuts, in the order in which they stand in the
 /// input, and are lent out of the piece.
-#[derive(Clone, Copy)]
+#[derive(Clone, Copy, Default)]
 pub enum Token<'a> {
     /// An element, and the syntax in which it is spelled.
     Open(Head, Syntax),
-    /// Bytes of the open value or fragment.
+    /// Bytes of the open value or fragment, at least one.
     Bytes(&'a [u8]),
     /// The open value or fragment is whole.
     CloseLeaf,
@@ -20,7 +30,44 @@ pub enum Token<'a> {
     /// A fragment of so many bytes.
     OpenFragment(u32),
     /// The data set ends without fault.
+    #[default]
     End,
+}
+
+/// A whole value or fragment: its opening, its bytes unless there are none, and its end.
+fn whole<'a>(opening: Token<'a>, value: &'a [u8]) -> ArrayVec<Token<'a>, MOST_OF_VALUE>
+    requires { IsFilled opening }
+    ensures atoms { flat_map atoms_of result.items ≡ atoms_of opening.entry ++ (map value_byte value.now ++ closes_leaf ∷ []) }
+    ensures filled { All IsFilled result.items }
+{
+    let mut tokens = ArrayVec::new();
+    tokens.push(opening);
+    if !value.is_empty() {
+        tokens.push(Token::Bytes(value));
+    }
+    tokens.push(Token::CloseLeaf);
+    tokens
+}
+
+impl<'a> Token<'a> {
+    /// The tokens of an element with a whole value, in explicit little endian.
+    pub fn leaf(tag: Tag, vr: Vr, value: &'a [u8]) -> ArrayVec<Token<'a>, MOST_OF_VALUE>
+        requires { length value.now < 2 ^ 32 }
+        ensures atoms { flat_map atoms_of result.items ≡ opens tag vr (Known (length value.now)) Little ∷ (map value_byte value.now ++ closes_leaf ∷ []) }
+        ensures filled { All IsFilled result.items }
+    {
+        let length = Length::Known(value.len() as u32);
+        whole(Token::Open(Head { tag, vr, length }, Syntax::Little), value)
+    }
+
+    /// The tokens of a whole fragment.
+    pub fn fragment(value: &'a [u8]) -> ArrayVec<Token<'a>, MOST_OF_VALUE>
+        requires { length value.now < 2 ^ 32 }
+        ensures atoms { flat_map atoms_of result.items ≡ opens_fragment (length value.now) ∷ (map value_byte value.now ++ closes_leaf ∷ []) }
+        ensures filled { All IsFilled result.items }
+    {
+        whole(Token::OpenFragment(value.len() as u32), value)
+    }
 }
 
 /// Why a sink refuses a head.

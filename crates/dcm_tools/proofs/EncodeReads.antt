@@ -1,5 +1,5 @@
 -- What the encode sink bars, and what it writes of what a machine shows.
-use Rattle.std.proofs.Common.{◌≡◌, ◌∙◌, ap, refl, ℕ, ◌≤◌, List, [], ◌∷◌, ◌++◌, Bool, true, false, cond, Option, Some, None}
+use Rattle.std.proofs.Common.{◌≡◌, ◌∙◌, ap, refl, ℕ, zero, suc, ◌≤◌, List, [], ◌∷◌, ◌++◌, Bool, true, false, cond, Option, Some, None}
 use Rattle.std.specs.Prelude.{fold, ◌==◌}
 use Rattle.dcm_base.specs.declared.vr.Vr.{Vr}
 use Rattle.dcm_base.specs.declared.syntax.Syntax.{Syntax}
@@ -24,7 +24,8 @@ use Rattle.dcm_stream.specs.Driven.{bars_by}
 use Rattle.dcm_stream.proofs.Driven.{bars_none, bars_fragments}
 use Rattle.dcm_stream.proofs.Judged.{NeverEarly}
 use Rattle.dcm_stream.proofs.Waits.{sinks_never_early}
-use Rattle.dcm_tools.specs.EncodeSink.{EncodeState, Copying, drops, encode_opens, takes_byte, live_step, step_at, encode_start, encode_step, encode_writes, encode_bar}
+use Rattle.dcm_stream.specs.Skip.{opened}
+use Rattle.dcm_tools.specs.EncodeSink.{EncodeState, Copying, encode_opens, takes_byte, live_step, step_at, encode_start, encode_step, encode_writes, encode_bar}
 use Rattle.dcm_tools.proofs.OpenLists.{stays_trees}
 use Rattle.dcm_tools.proofs.EncodeValues.{encodes}
 use Rattle.dcm_tools.proofs.EncodeRuns.{trees_encode, open_encodes}
@@ -39,7 +40,7 @@ opens_keeps a_sequence s vr declared syntax = refl
 opens_keeps a_fragment_list s vr declared syntax = refl
 opens_keeps no_form s vr declared syntax = refl
 
-unless_dropped_keeps : (t : Bool) (f : Form) (s : EncodeState) (vr : Vr) (declared : Length) (syntax : Syntax) → (cond t (record s { dropped = drops f }) (encode_opens f s vr declared syntax)).target ≡ s.target
+unless_dropped_keeps : (t : Bool) (f : Form) (s : EncodeState) (vr : Vr) (declared : Length) (syntax : Syntax) → (cond t (record s { dropped = opened s.dropped true }) (encode_opens f s vr declared syntax)).target ≡ s.target
 unless_dropped_keeps true f s vr declared syntax = refl
 unless_dropped_keeps false f s vr declared syntax = opens_keeps f s vr declared syntax
 
@@ -57,9 +58,9 @@ live_keeps s closes_sequence = refl
 live_keeps s (opens_fragment size) = refl
 live_keeps s ends = refl
 
-step_keeps : (d : Option ℕ) (s : EncodeState) (a : Atom) → (step_at d s a).target ≡ s.target
-step_keeps None s a = live_keeps s a
-step_keeps (Some n) s a = refl
+step_keeps : (d : ℕ) (s : EncodeState) (a : Atom) → (step_at d s a).target ≡ s.target
+step_keeps zero s a = live_keeps s a
+step_keeps (suc n) s a = refl
 
 target_stays : (s : EncodeState) (atoms : List Atom) → (fold encode_step s atoms).target ≡ s.target
 target_stays s [] = refl

@@ -1,5 +1,5 @@
 -- The encode sink over the atoms of a data set.
-use Rattle.std.proofs.Common.{◌≡◌, ℕ, suc, ◌==◌, ◌≤◌, List, [], ◌∷◌, ◌++◌, length, ap, sym, subst, ◌∙◌, refl, append_assoc, arith, map, flat_map, Bool, true, false, cond, Option, Some, None}
+use Rattle.std.proofs.Common.{◌≡◌, ℕ, suc, ◌+◌, ◌==◌, ◌≤◌, List, [], ◌∷◌, ◌++◌, length, ap, sym, subst, ◌∙◌, refl, append_assoc, arith, map, flat_map, Bool, true, false, cond, Option, Some, None}
 use Rattle.std.specs.Prelude.{min}
 use Rattle.std.proofs.lemmas.List.{append-nil}
 use Rattle.dcm_base.specs.declared.tag.Tag.{Tag}
@@ -14,11 +14,11 @@ use Rattle.dcm_base.specs.Representation.{unit}
 use Rattle.dcm_base.specs.Tree.{Trees, no_tree, leaf, sequence, fragments, Items, no_item, item}
 use Rattle.dcm_base.specs.Front.{Front, front, OpenTree, nothing_open, open_leaf, open_sequence, open_fragments, OpenItem, no_open_item, open_item}
 use Rattle.dcm_base.specs.Spelling.{form}
-use Rattle.dcm_base.specs.Stop.{opens_list}
 use Rattle.dcm_base.specs.Value.{order, whole_part}
 use Rattle.dcm_base.specs.Recode.{head, even, leaf_head, leaf_bytes, recoded_leaf, item_head, item_delimiter, sequence_delimiter, recoded_fragment, recode_set, recode_items, recode, recode_open, recode_open_item, recode_open_fragment}
 use Rattle.dcm_base.specs.Atoms.{Atom, value_byte, closes_leaf, opens_item, closes_item, closes_sequence, fragments_then, ShowTrees, ShowItems, Shows, ShowsOpen, ShowsOpenItem, open_fragment_atoms, end_atoms}
-use Rattle.dcm_tools.specs.EncodeSink.{EncodeState, MOST_LISTS, drops, leaf_copy, fragment_copy, padding, encode_start, encode_opens, encode_opens_writes}
+use Rattle.dcm_stream.specs.Skip.{MOST_DEEP}
+use Rattle.dcm_tools.specs.EncodeSink.{leaf_copy, fragment_copy, padding, encode_start, encode_opens, encode_opens_writes}
 use Rattle.dcm_tools.specs.Laws.{StaysShallow}
 use Rattle.dcm_tools.proofs.OpenLists.{stays_on, stays_opened, stays_bytes, stays_fragments, stays_trees, stays_items}
 use Rattle.dcm_tools.proofs.EncodeValues.{encodes, dropping, sending, evened_padding, copied_value, copied_leaf, copied_fragment}
@@ -29,83 +29,91 @@ four a b c d e = simp append_assoc
 three : (a b c d : List ℕ) → a ++ (b ++ (c ++ d)) ≡ ((a ++ b) ++ c) ++ d
 three a b c d = simp append_assoc
 
--- one more list than these, of which there are no more than are open
-one_deeper : (n k : ℕ) → suc n ≤ k → suc (suc n) ≤ suc k
-one_deeper n k l = omega arith
-
-counted : (n k : ℕ) (atoms : List Atom) → n ≤ k → StaysShallow k atoms → min MOST_LISTS n ≡ n
+-- a list and its items are two things that are open, and with a value or fragment in them one more
+counted : (n k : ℕ) (atoms : List Atom) → n ≤ suc (k + k) → StaysShallow k atoms → min MOST_DEEP n ≡ n
 counted n k atoms l h = let within : k ≤ 64 = h [] atoms refl in omega arith
+
+-- what is open within an item, and with a list in it
+within_item : (n k : ℕ) → suc n ≤ k + k → suc (suc n) ≤ suc (k + k)
+within_item n k l = omega arith
+
+within_list : (n k : ℕ) → suc n ≤ k + k → suc (suc n) ≤ suc (suc k + suc k)
+within_list n k l = omega arith
+
+item_deeper : (n k : ℕ) → suc n ≤ k + k → suc (suc (suc n)) ≤ suc k + suc k
+item_deeper n k l = omega arith
+
+fragment_deeper : (n k : ℕ) → suc n ≤ k + k → suc (suc (suc n)) ≤ suc (suc k + suc k)
+fragment_deeper n k l = omega arith
+
+item_within : (n k : ℕ) → suc (suc n) ≤ k + k → suc (suc n) ≤ suc (k + k)
+item_within n k l = omega arith
 
 module _ (target : Syntax) where
   -- ---- in a dropped element
 
-  bytes_dropped : (n : ℕ) (v : List ℕ) (others : List Atom) → encodes (dropping target n) (map value_byte v ++ others) ≡ encodes (dropping target n) others
+  bytes_dropped : (n : ℕ) (v : List ℕ) (others : List Atom) → encodes (dropping target (suc n)) (map value_byte v ++ others) ≡ encodes (dropping target (suc n)) others
   bytes_dropped n [] others = refl
   bytes_dropped n (b ∷ bs) others = bytes_dropped n bs others
 
-  last_bytes_dropped : (n : ℕ) (v : List ℕ) → encodes (dropping target n) (map value_byte v) ≡ []
+  last_bytes_dropped : (n : ℕ) (v : List ℕ) → encodes (dropping target (suc n)) (map value_byte v) ≡ []
   last_bytes_dropped n [] = refl
   last_bytes_dropped n (b ∷ bs) = last_bytes_dropped n bs
 
-  fragments_dropped : (n : ℕ) (values : List (List ℕ)) (others : List Atom) → encodes (dropping target (suc n)) (fragments_then values others) ≡ encodes (dropping target (suc n)) others
+  fragments_dropped : (n : ℕ) (values : List (List ℕ)) (others : List Atom) → min MOST_DEEP (suc (suc n)) ≡ suc (suc n) → encodes (dropping target (suc n)) (fragments_then values others) ≡ encodes (dropping target (suc n)) others
   unfolding fragments_then
-  fragments_dropped n [] others = refl
-  fragments_dropped n (value ∷ rest) others = bytes_dropped (suc n) value (closes_leaf ∷ fragments_then rest others) ∙ fragments_dropped n rest others
+  fragments_dropped n [] others e = refl
+  fragments_dropped n (value ∷ rest) others e =
+      ap (λ (m : ℕ). encodes (dropping target m) (map value_byte value ++ closes_leaf ∷ fragments_then rest others)) e
+      ∙ bytes_dropped (suc n) value (closes_leaf ∷ fragments_then rest others)
+      ∙ fragments_dropped n rest others e
 
-  -- where an element of this form opens within it
-  abbrev opened_within : ℕ → Form → EncodeState
-  opened_within n f = record { target = target; dropped = cond (opens_list f) (Some (min MOST_LISTS (suc n))) (Some n); copying = None }
-
-  value_within : (n : ℕ) (f : Form) (contents : List Atom) → f ≡ a_value → encodes (opened_within n f) contents ≡ encodes (dropping target n) contents
-  value_within n f contents e = ap (λ (g : Form). encodes (opened_within n g) contents) e
-
-  sequence_within : (n k : ℕ) (f : Form) (contents : List Atom) → f ≡ a_sequence → suc n ≤ k → StaysShallow k contents → encodes (opened_within n f) contents ≡ encodes (dropping target (suc n)) contents
-  sequence_within n k f contents e l h = ap (λ (g : Form). encodes (opened_within n g) contents) e ∙ ap (λ (m : ℕ). encodes (dropping target m) contents) (counted (suc n) k contents l h)
-
-  list_within : (n k : ℕ) (f : Form) (contents : List Atom) → f ≡ a_fragment_list → suc n ≤ k → StaysShallow k contents → encodes (opened_within n f) contents ≡ encodes (dropping target (suc n)) contents
-  list_within n k f contents e l h = ap (λ (g : Form). encodes (opened_within n g) contents) e ∙ ap (λ (m : ℕ). encodes (dropping target m) contents) (counted (suc n) k contents l h)
+  -- where an element or item opens within it
+  opened_within : (n k : ℕ) (contents : List Atom) → suc (suc n) ≤ suc (k + k) → StaysShallow k contents → encodes (dropping target (min MOST_DEEP (suc (suc n)))) contents ≡ encodes (dropping target (suc (suc n))) contents
+  opened_within n k contents l h = ap (λ (m : ℕ). encodes (dropping target m) contents) (counted (suc (suc n)) k contents l h)
 
   mutual
     unfolding ShowTrees
 
-    trees_dropped : (n k : ℕ) (x : Trees) (atoms after : List Atom) → suc n ≤ k → StaysShallow k atoms → ShowTrees x atoms after → encodes (dropping target (suc n)) atoms ≡ encodes (dropping target (suc n)) after
+    trees_dropped : (n k : ℕ) (x : Trees) (atoms after : List Atom) → suc n ≤ k + k → StaysShallow k atoms → ShowTrees x atoms after → encodes (dropping target (suc n)) atoms ≡ encodes (dropping target (suc n)) after
     trees_dropped n k no_tree atoms after l h w = ap (encodes (dropping target (suc n))) w
     trees_dropped n k (leaf tag vr value rest) atoms after l h w =
         let raw : List ℕ = order w.0 vr value in
         let in_h : StaysShallow k (map value_byte raw ++ closes_leaf ∷ w.1) = stays_opened k a_value tag vr (Known (length value)) w.0 (map value_byte raw ++ closes_leaf ∷ w.1) w.2 (subst (StaysShallow k) w.3 h) in
         let rest_h : StaysShallow k w.1 = stays_on k closes_leaf w.1 (stays_bytes k raw (closes_leaf ∷ w.1) in_h) in
         ap (encodes (dropping target (suc n))) w.3
-        ∙ value_within (suc n) (form w.0 vr (Known (length value))) (map value_byte raw ++ closes_leaf ∷ w.1) w.2
+        ∙ opened_within n k (map value_byte raw ++ closes_leaf ∷ w.1) (within_item n k l) in_h
         ∙ bytes_dropped (suc n) raw (closes_leaf ∷ w.1)
         ∙ trees_dropped n k rest w.1 after l rest_h w.4
     trees_dropped n k (sequence tag vr declared items rest) atoms after l h w =
         let in_h : StaysShallow (suc k) w.1 = stays_opened k a_sequence tag vr declared w.0 w.1 w.3 (subst (StaysShallow k) w.4 h) in
         let rest_h : StaysShallow k w.2 = stays_on (suc k) closes_sequence w.2 (stays_items (suc k) items w.1 (closes_sequence ∷ w.2) w.5 in_h) in
         ap (encodes (dropping target (suc n))) w.4
-        ∙ sequence_within (suc n) (suc k) (form w.0 vr declared) w.1 w.3 (one_deeper n k l) in_h
-        ∙ items_dropped (suc n) (suc k) items w.1 (closes_sequence ∷ w.2) (one_deeper n k l) in_h w.5
+        ∙ opened_within n (suc k) w.1 (within_list n k l) in_h
+        ∙ items_dropped (suc n) (suc k) items w.1 (closes_sequence ∷ w.2) (item_deeper n k l) in_h w.5
         ∙ trees_dropped n k rest w.2 after l rest_h w.6
     trees_dropped n k (fragments tag vr values rest) atoms after l h w =
         let contents : List Atom = fragments_then values (closes_sequence ∷ w.1) in
         let in_h : StaysShallow (suc k) contents = stays_opened k a_fragment_list tag vr Undefined w.0 contents w.2 (subst (StaysShallow k) w.3 h) in
         let rest_h : StaysShallow k w.1 = stays_on (suc k) closes_sequence w.1 (stays_fragments (suc k) values (closes_sequence ∷ w.1) in_h) in
         ap (encodes (dropping target (suc n))) w.3
-        ∙ list_within (suc n) (suc k) (form w.0 vr Undefined) contents w.2 (one_deeper n k l) in_h
-        ∙ fragments_dropped (suc n) values (closes_sequence ∷ w.1)
+        ∙ opened_within n (suc k) contents (within_list n k l) in_h
+        ∙ fragments_dropped (suc n) values (closes_sequence ∷ w.1) (counted (suc (suc (suc n))) (suc k) contents (fragment_deeper n k l) in_h)
         ∙ trees_dropped n k rest w.1 after l rest_h w.4
 
-    items_dropped : (n k : ℕ) (x : Items) (atoms after : List Atom) → suc n ≤ k → StaysShallow k atoms → ShowItems x atoms after → encodes (dropping target (suc n)) atoms ≡ encodes (dropping target (suc n)) after
+    items_dropped : (n k : ℕ) (x : Items) (atoms after : List Atom) → suc (suc n) ≤ k + k → StaysShallow k atoms → ShowItems x atoms after → encodes (dropping target (suc n)) atoms ≡ encodes (dropping target (suc n)) after
     items_dropped n k no_item atoms after l h w = ap (encodes (dropping target (suc n))) w
     items_dropped n k (item declared set rest) atoms after l h w =
         let in_h : StaysShallow k w.0 = stays_on k (opens_item declared) w.0 (subst (StaysShallow k) w.2 h) in
         let rest_h : StaysShallow k w.1 = stays_on k closes_item w.1 (stays_trees k set w.0 (closes_item ∷ w.1) w.3 in_h) in
         ap (encodes (dropping target (suc n))) w.2
-        ∙ trees_dropped n k set w.0 (closes_item ∷ w.1) l in_h w.3
+        ∙ opened_within n k w.0 (item_within n k l) in_h
+        ∙ trees_dropped (suc n) k set w.0 (closes_item ∷ w.1) l in_h w.3
         ∙ items_dropped n k rest w.1 after l rest_h w.4
 
-  fragment_dropped : (n : ℕ) (last : Option (ℕ × List ℕ)) → encodes (dropping target (suc n)) (open_fragment_atoms last) ≡ []
-  fragment_dropped n None = refl
-  fragment_dropped n (Some f) = last_bytes_dropped (suc n) f.1
+  fragment_dropped : (n : ℕ) (last : Option (ℕ × List ℕ)) → min MOST_DEEP (suc (suc n)) ≡ suc (suc n) → encodes (dropping target (suc n)) (open_fragment_atoms last) ≡ []
+  fragment_dropped n None e = refl
+  fragment_dropped n (Some f) e = ap (λ (m : ℕ). encodes (dropping target m) (map value_byte f.1)) e ∙ last_bytes_dropped (suc n) f.1
 
   end_dropped : (n : ℕ) (closed : Bool) → encodes (dropping target (suc n)) (end_atoms closed) ≡ []
   end_dropped n true = refl
@@ -114,51 +122,53 @@ module _ (target : Syntax) where
   mutual
     unfolding Shows
 
-    front_dropped : (n k : ℕ) (f : Front) (atoms : List Atom) → suc n ≤ k → StaysShallow k atoms → Shows f atoms → encodes (dropping target (suc n)) atoms ≡ []
+    front_dropped : (n k : ℕ) (f : Front) (atoms : List Atom) → suc n ≤ k + k → StaysShallow k atoms → Shows f atoms → encodes (dropping target (suc n)) atoms ≡ []
     front_dropped n k (front whole open_tree reached closed) atoms l h w =
         trees_dropped n k whole atoms w.0 l h w.1
         ∙ open_dropped n k open_tree closed w.0 l (stays_trees k whole atoms w.0 w.1 h) w.2
 
-    open_dropped : (n k : ℕ) (o : OpenTree) (closed : Bool) (atoms : List Atom) → suc n ≤ k → StaysShallow k atoms → ShowsOpen o (end_atoms closed) atoms → encodes (dropping target (suc n)) atoms ≡ []
+    open_dropped : (n k : ℕ) (o : OpenTree) (closed : Bool) (atoms : List Atom) → suc n ≤ k + k → StaysShallow k atoms → ShowsOpen o (end_atoms closed) atoms → encodes (dropping target (suc n)) atoms ≡ []
     open_dropped n k nothing_open closed atoms l h w = ap (encodes (dropping target (suc n))) w ∙ end_dropped n closed
     open_dropped n k (open_leaf tag vr size value) closed atoms l h w =
+        let contents : List Atom = map value_byte (order w.0 vr value) in
+        let in_h : StaysShallow k contents = stays_opened k a_value tag vr (Known size) w.0 contents w.1 (subst (StaysShallow k) w.3 h) in
         ap (encodes (dropping target (suc n))) w.3
-        ∙ value_within (suc n) (form w.0 vr (Known size)) (map value_byte (order w.0 vr value)) w.1
+        ∙ opened_within n k contents (within_item n k l) in_h
         ∙ last_bytes_dropped (suc n) (order w.0 vr value)
     open_dropped n k (open_sequence tag vr declared items last) closed atoms l h w =
         let in_h : StaysShallow (suc k) w.1 = stays_opened k a_sequence tag vr declared w.0 w.1 w.3 (subst (StaysShallow k) w.4 h) in
         ap (encodes (dropping target (suc n))) w.4
-        ∙ sequence_within (suc n) (suc k) (form w.0 vr declared) w.1 w.3 (one_deeper n k l) in_h
-        ∙ items_dropped (suc n) (suc k) items w.1 w.2 (one_deeper n k l) in_h w.5
-        ∙ open_item_dropped (suc n) (suc k) last w.2 (one_deeper n k l) (stays_items (suc k) items w.1 w.2 w.5 in_h) w.6
+        ∙ opened_within n (suc k) w.1 (within_list n k l) in_h
+        ∙ items_dropped (suc n) (suc k) items w.1 w.2 (item_deeper n k l) in_h w.5
+        ∙ open_item_dropped (suc n) (suc k) last w.2 (item_deeper n k l) (stays_items (suc k) items w.1 w.2 w.5 in_h) w.6
     open_dropped n k (open_fragments tag vr values last) closed atoms l h w =
         let contents : List Atom = fragments_then values (open_fragment_atoms last) in
         let in_h : StaysShallow (suc k) contents = stays_opened k a_fragment_list tag vr Undefined w.0 contents w.1 (subst (StaysShallow k) w.2 h) in
+        let room : min MOST_DEEP (suc (suc (suc n))) ≡ suc (suc (suc n)) = counted (suc (suc (suc n))) (suc k) contents (fragment_deeper n k l) in_h in
         ap (encodes (dropping target (suc n))) w.2
-        ∙ list_within (suc n) (suc k) (form w.0 vr Undefined) contents w.1 (one_deeper n k l) in_h
-        ∙ fragments_dropped (suc n) values (open_fragment_atoms last)
-        ∙ fragment_dropped (suc n) last
+        ∙ opened_within n (suc k) contents (within_list n k l) in_h
+        ∙ fragments_dropped (suc n) values (open_fragment_atoms last) room
+        ∙ fragment_dropped (suc n) last room
 
-    open_item_dropped : (n k : ℕ) (o : OpenItem) (atoms : List Atom) → suc n ≤ k → StaysShallow k atoms → ShowsOpenItem o atoms → encodes (dropping target (suc n)) atoms ≡ []
+    open_item_dropped : (n k : ℕ) (o : OpenItem) (atoms : List Atom) → suc (suc n) ≤ k + k → StaysShallow k atoms → ShowsOpenItem o atoms → encodes (dropping target (suc n)) atoms ≡ []
     open_item_dropped n k no_open_item atoms l h w = ap (encodes (dropping target (suc n))) w
     open_item_dropped n k (open_item declared set) atoms l h w =
+        let in_h : StaysShallow k w.0 = stays_on k (opens_item declared) w.0 (subst (StaysShallow k) w.1 h) in
         ap (encodes (dropping target (suc n))) w.1
-        ∙ front_dropped n k set w.0 l (stays_on k (opens_item declared) w.0 (subst (StaysShallow k) w.1 h)) w.3
+        ∙ opened_within n k w.0 (item_within n k l) in_h
+        ∙ front_dropped (suc n) k set w.0 l in_h w.3
 
   -- ---- in no dropped element
 
   abbrev ready : List Atom → List ℕ
   ready atoms = encodes (encode_start target) atoms
 
-  abbrev dropped_from : Form → EncodeState
-  dropped_from f = record { target = target; dropped = drops f; copying = None }
-
   -- an element that is written, of a form, or else dropped
   element_encodes : (t : Bool) (f g : Form) (tag : Tag) (vr : Vr) (declared : Length) (s : Syntax) (contents : List Atom) (bytes behind : List ℕ) → f ≡ g
       → encode_opens_writes g target tag vr declared ++ encodes (encode_opens g (encode_start target) vr declared s) contents ≡ bytes ++ behind
-      → encodes (dropped_from g) contents ≡ behind
-      → cond t [] (encode_opens_writes f target tag vr declared) ++ encodes (cond t (dropped_from f) (encode_opens f (encode_start target) vr declared s)) contents ≡ cond t [] bytes ++ behind
-  element_encodes true f g tag vr declared s contents bytes behind e live dropped = ap (λ (f : Form). encodes (dropped_from f) contents) e ∙ dropped
+      → encodes (dropping target 1) contents ≡ behind
+      → cond t [] (encode_opens_writes f target tag vr declared) ++ encodes (cond t (dropping target 1) (encode_opens f (encode_start target) vr declared s)) contents ≡ cond t [] bytes ++ behind
+  element_encodes true f g tag vr declared s contents bytes behind e live dropped = dropped
   element_encodes false f g tag vr declared s contents bytes behind e live dropped =
       ap (λ (f : Form). encode_opens_writes f target tag vr declared ++ encodes (encode_opens f (encode_start target) vr declared s) contents) e ∙ live
 
@@ -179,7 +189,7 @@ module _ (target : Syntax) where
       ∙ four first value (padding n 0) (flat_map (recoded_fragment target) rest) (ready others)
       ∙ ap (λ z. (z ++ flat_map (recoded_fragment target) rest) ++ ready others) (append_assoc first value (padding n 0) ∙ ap (λ z. first ++ z) (sym (evened_padding 0 value)))
 
-  within_itself : (k : ℕ) → 1 ≤ suc k
+  within_itself : (k : ℕ) → 2 ≤ suc k + suc k
   within_itself k = omega arith
 
   mutual
@@ -222,7 +232,7 @@ module _ (target : Syntax) where
         ap ready w.3
         ∙ element_encodes (tag.element == 0) (form w.0 vr Undefined) a_fragment_list tag vr Undefined w.0 contents bytes (ready w.1) w.2
         (ap (λ z. first ++ z) (fragments_encode values (closes_sequence ∷ w.1)) ∙ three first inner last (ready w.1))
-        (fragments_dropped 0 values (closes_sequence ∷ w.1))
+        (fragments_dropped 0 values (closes_sequence ∷ w.1) refl)
         ∙ ap (λ z. cond (tag.element == 0) [] bytes ++ z) (trees_encode k rest w.1 after rest_h w.4)
         ∙ sym (append_assoc (cond (tag.element == 0) [] bytes) _ _)
 
@@ -299,7 +309,7 @@ module _ (target : Syntax) where
         ∙ ap (λ z. first ++ (inner ++ z)) (fragment_open last)
         ∙ sym (append_assoc first _ _)
         ∙ sym (append-nil bytes))
-        (fragments_dropped 0 values (open_fragment_atoms last) ∙ fragment_dropped 0 last)
+        (fragments_dropped 0 values (open_fragment_atoms last) refl ∙ fragment_dropped 0 last refl)
         ∙ append-nil (cond (tag.element == 0) [] bytes)
 
     open_item_encodes : (k : ℕ) (o : OpenItem) (atoms : List Atom) → StaysShallow k atoms → ShowsOpenItem o atoms → ready atoms ≡ recode_open_item target o

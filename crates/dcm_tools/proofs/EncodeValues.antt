@@ -147,12 +147,12 @@ module _ (k : ℕ) (some : 0 < k) where
 abbrev pub encodes : EncodeState → List Atom → List ℕ
 encodes s atoms = outputs encode_step encode_writes s atoms
 
--- in a dropped element, of which so many lists are open
+-- in a dropped element, of which so many elements, items and fragments are open
 abbrev pub dropping : Syntax → ℕ → EncodeState
-dropping target n = record { target = target; dropped = Some n; copying = None }
+dropping target n = record { target = target; dropped = n; copying = None }
 
 abbrev pub sending : Syntax → Copying → EncodeState
-sending target c = record { target = target; dropped = None; copying = Some c }
+sending target c = record { target = target; dropped = 0; copying = Some c }
 
 pub evened_padding : (p : ℕ) (v : List ℕ) → evened p v ≡ v ++ padding (length v) p
 evened_padding p v = even_or (length v % 2 == 0)

@@ -1,6 +1,6 @@
 -- The lines of a meta group's elements, one after another.
-use Rattle.std.proofs.Common.{◌≡◌, ◌∙◌, ℕ, List, [], ◌∷◌, ◌++◌, length, map, Option, Result, Err, refl, ap, sym, subst, append_assoc}
-use Rattle.std.specs.Prelude.{IsErr, fold}
+use Rattle.std.proofs.Common.{◌≡◌, ◌∙◌, ℕ, List, [], ◌∷◌, ◌++◌, length, map, Option, Result, Ok, Err, refl, ap, sym, subst, append_assoc}
+use Rattle.std.specs.Prelude.{IsErr}
 use Rattle.std.proofs.lemmas.List.{append-nil}
 use Rattle.std.specs.Io.KnownBytes.{append_known}
 use Rattle.dcm_base.specs.declared.tag.Tag.{Tag}
@@ -15,56 +15,28 @@ use Rattle.dcm_base.specs.MetaGroup.{AreMeta}
 use Rattle.dcm_base.specs.Atoms.{Atom, opens, value_byte, closes_leaf}
 use Rattle.dcm_base.specs.Dump.{leaf_line, dump_set}
 use Rattle.dcm_base.specs.Device.{Puts, AppendsFront}
+use Rattle.dcm_base.specs.Steps.{Goes}
 use Rattle.dcm_base.proofs.Puts.{append_known_twice, front_longer, puts_behind, puts_err}
-use Rattle.dcm_base.proofs.PartsOut.{part_failed, parts_put}
-use Rattle.dcm_base.proofs.Runs.{outputs-append}
 use Rattle.dcm_head.specs.Rewriting.{FirstIs, NoneIs}
 use Rattle.dcm_tools.specs.DumpSink.{DumpState, dump_start, dump_step, dump_writes}
 use Rattle.dcm_tools.proofs.ValueRuns.{dumps}
 use Rattle.dcm_tools.proofs.DumpRuns.{leaf_dumps}
 
--- the atoms of an element, one call after another
-pub leaf_in_parts : (mode : Mode) (tag : Tag) (vr : Vr) (value : List ℕ) (first second third : DumpState) → form Little vr (Known (length value)) ≡ a_value
-    → first ≡ dump_start mode
-    → second ≡ fold dump_step first (opens tag vr (Known (length value)) Little ∷ [])
-    → third ≡ fold dump_step second (map value_byte value)
-    → leaf_line mode 0 tag vr value ≡ dumps first (opens tag vr (Known (length value)) Little ∷ []) ++ (dumps second (map value_byte value) ++ dumps third (closes_leaf ∷ []))
-leaf_in_parts mode tag vr value first second third f e1 e2 e3 =
-    let a : Atom = opens tag vr (Known (length value)) Little in
-    let bytes : List Atom = map value_byte value in
-    sym (append-nil (leaf_line mode 0 tag vr value))
-    ∙ sym (leaf_dumps mode [] tag vr value Little [] f)
-    ∙ ap (λ s. dumps s (a ∷ (bytes ++ closes_leaf ∷ []))) (sym e1)
-    ∙ outputs-append dump_step dump_writes first (a ∷ []) (bytes ++ closes_leaf ∷ [])
-    ∙ ap (λ s. dumps first (a ∷ []) ++ dumps s (bytes ++ closes_leaf ∷ [])) (sym e2)
-    ∙ ap (λ xs. dumps first (a ∷ []) ++ xs) (outputs-append dump_step dump_writes second bytes (closes_leaf ∷ []))
-    ∙ ap (λ s. dumps first (a ∷ []) ++ (dumps second bytes ++ dumps s (closes_leaf ∷ []))) (sym e3)
+-- the atoms of an element make its line
+pub leaf_line_of : (mode : Mode) (tag : Tag) (vr : Vr) (value : List ℕ) (first : DumpState) (atoms : List Atom) → form Little vr (Known (length value)) ≡ a_value
+    → first ≡ dump_start mode → atoms ≡ opens tag vr (Known (length value)) Little ∷ (map value_byte value ++ closes_leaf ∷ []) → dumps first atoms ≡ leaf_line mode 0 tag vr value
+leaf_line_of mode tag vr value first atoms f starts are =
+    ap (λ (xs : List Atom). dumps first xs) are
+    ∙ ap (λ (s : DumpState). dumps s (opens tag vr (Known (length value)) Little ∷ (map value_byte value ++ closes_leaf ∷ []))) starts
+    ∙ leaf_dumps mode [] tag vr value Little [] f
+    ∙ append-nil (leaf_line mode 0 tag vr value)
 
-module _ {T E : Type 0} (mode : Mode) (tag : Tag) (vr : Vr) (value : List ℕ) (first : DumpState) (is : form Little vr (Known (length value)) ≡ a_value) (starts : first ≡ dump_start mode) where
-  -- the first call failed, or the second, or the last is still to come
-  pub opening_failed : (old new : Option (List ℕ)) (r : Result T E) → IsErr r → AppendsFront old new (dumps first (opens tag vr (Known (length value)) Little ∷ [])) → Puts old new (leaf_line mode 0 tag vr value) r
-  opening_failed old new r failed front =
-      let opens_it : List Atom = opens tag vr (Known (length value)) Little ∷ [] in
-      let second : DumpState = fold dump_step first opens_it in
-      let third : DumpState = fold dump_step second (map value_byte value) in
-      part_failed old new (dumps first opens_it) _ (dumps second (map value_byte value) ++ dumps third (closes_leaf ∷ [])) (leaf_line mode 0 tag vr value) r failed refl
-      (leaf_in_parts mode tag vr value first second third is starts refl refl) front
-
-  pub bytes_failed : (second : DumpState) (old mid new : Option (List ℕ)) (r : Result T E) → second ≡ fold dump_step first (opens tag vr (Known (length value)) Little ∷ [])
-      → mid ≡ append_known old (dumps first (opens tag vr (Known (length value)) Little ∷ [])) → IsErr r → AppendsFront mid new (dumps second (map value_byte value)) → Puts old new (leaf_line mode 0 tag vr value) r
-  bytes_failed second old mid new r then went failed front =
-      let third : DumpState = fold dump_step second (map value_byte value) in
-      let rest : List ℕ = dumps second (map value_byte value) ++ dumps third (closes_leaf ∷ []) in
-      parts_put old mid new (dumps first (opens tag vr (Known (length value)) Little ∷ [])) _ rest _ (leaf_line mode 0 tag vr value) r refl refl (leaf_in_parts mode tag vr value first second third is starts then refl) went
-      (part_failed mid new (dumps second (map value_byte value)) _ (dumps third (closes_leaf ∷ [])) rest r failed refl refl front)
-
-  pub element_put : (second third : DumpState) (old mid next new : Option (List ℕ)) (r : Result T E) → second ≡ fold dump_step first (opens tag vr (Known (length value)) Little ∷ []) → third ≡ fold dump_step second (map value_byte value)
-      → mid ≡ append_known old (dumps first (opens tag vr (Known (length value)) Little ∷ [])) → next ≡ append_known mid (dumps second (map value_byte value)) → Puts next new (dumps third (closes_leaf ∷ [])) r
-      → Puts old new (leaf_line mode 0 tag vr value) r
-  element_put second third old mid next new r then last went went_next puts =
-      let rest : List ℕ = dumps second (map value_byte value) ++ dumps third (closes_leaf ∷ []) in
-      parts_put old mid new (dumps first (opens tag vr (Known (length value)) Little ∷ [])) _ rest _ (leaf_line mode 0 tag vr value) r refl refl (leaf_in_parts mode tag vr value first second third is starts then last) went
-      (parts_put mid next new (dumps second (map value_byte value)) _ (dumps third (closes_leaf ∷ [])) _ rest r refl refl refl went_next puts)
+-- and a sink that takes them puts it
+pub line_put : {T E : Type 0} (mode : Mode) (tag : Tag) (vr : Vr) (value : List ℕ) (first last : DumpState) (old new : Option (List ℕ)) (atoms : List Atom) (r : Result T E) → form Little vr (Known (length value)) ≡ a_value
+    → first ≡ dump_start mode → atoms ≡ opens tag vr (Known (length value)) Little ∷ (map value_byte value ++ closes_leaf ∷ [])
+    → Goes dump_step dump_writes first old last new atoms r → Puts old new (leaf_line mode 0 tag vr value) r
+line_put mode tag vr value first last old new atoms (Ok x) f starts are went = went.1 ∙ ap (append_known old) (leaf_line_of mode tag vr value first atoms f starts are)
+line_put mode tag vr value first last old new atoms (Err x) f starts are went = subst (AppendsFront old new) (leaf_line_of mode tag vr value first atoms f starts are) went
 
 -- these bytes are left of the spelling of all elements, and the lines of those before them are gone
 pub record Left (mode : Mode) (rest : List ℕ) (all : Trees) : Type 0 where

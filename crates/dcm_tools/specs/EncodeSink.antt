@@ -1,5 +1,5 @@
 -- A data set in a target syntax, written atom by atom (PS3.5 7.1, 7.5, A.4).
-use Rattle.std.specs.Prelude.{ℕ, zero, suc, ◌%◌, ◌==◌, ◌&&◌, not, min, Bool, true, false, if◌then◌else◌, List, [], ◌∷◌, ◌++◌, length, reverse, Option, Some, None}
+use Rattle.std.specs.Prelude.{ℕ, zero, suc, ◌%◌, ◌==◌, ◌&&◌, not, Bool, true, false, if◌then◌else◌, List, [], ◌∷◌, ◌++◌, length, reverse, Option, Some, None}
 use Rattle.dcm_base.specs.declared.tag.Tag.{Tag}
 use Rattle.dcm_base.specs.declared.vr.Vr.{Vr}
 use Rattle.dcm_base.specs.declared.vr.Vr.TheVariants.{SQ}
@@ -12,10 +12,10 @@ use Rattle.dcm_base.specs.declared.form.Form.TheVariants.{Value as a_value, Sequ
 use Rattle.dcm_base.specs.Representation.{pad, unit}
 use Rattle.dcm_base.specs.Recode.{head, even, too_long, leaf_head, item_head, item_delimiter, sequence_delimiter}
 use Rattle.dcm_base.specs.Spelling.{form}
-use Rattle.dcm_base.specs.Stop.{opens_list}
 use Rattle.dcm_base.specs.Bars.{is_fragment_form, holds_fragments}
 use Rattle.dcm_base.specs.Atoms.{Atom, opens, value_byte, closes_leaf, opens_item, closes_item, closes_sequence, opens_fragment, ends}
 use Rattle.dcm_head.specs.declared.head.Head.{Head}
+use Rattle.dcm_stream.specs.Skip.{opened, after}
 use Rattle.dcm_stream.specs.declared.token.Bar.{Bar}
 use Rattle.dcm_stream.specs.declared.token.Bar.TheVariants.{Fragments}
 
@@ -68,45 +68,12 @@ copy_ends c = c.held ++ c.padding
 
 pub record EncodeState : Type 0 where
   pub target : Syntax
-  -- in an element that is dropped: how many sequences and fragment lists of it are open, with itself
-  pub dropped : Option ℕ
+  -- in an element that is dropped: how many elements, items and fragments of it are open, with itself
+  pub dropped : ℕ
   pub copying : Option Copying
 
 abbrev pub encode_start : Syntax → EncodeState
-encode_start target = record { target = target; dropped = None; copying = None }
-
--- no more than 64 sequences and fragment lists are open at a time
-abbrev pub MOST_LISTS : ℕ
-MOST_LISTS = 64
-
--- a dropped element begins: a list, or a value
-abbrev pub drops : Form → Option ℕ
-drops f = if opens_list f then Some 1 else Some 0
-
-abbrev pub behind_leaf : ℕ → Option ℕ
-behind_leaf zero = None
-behind_leaf (suc n) = Some (suc n)
-
-abbrev pub behind_list : ℕ → Option ℕ
-behind_list zero = None
-behind_list (suc zero) = None
-behind_list (suc (suc n)) = Some (suc n)
-
--- within a dropped element
-abbrev pub dropped_behind : ℕ → Atom → Option ℕ
-dropped_behind n (opens tag vr declared s) = if opens_list (form s vr declared) then Some (min MOST_LISTS (suc n)) else Some n
-dropped_behind n (value_byte b) = Some n
-dropped_behind n closes_leaf = behind_leaf n
-dropped_behind n (opens_item declared) = Some n
-dropped_behind n closes_item = Some n
-dropped_behind n closes_sequence = behind_list n
-dropped_behind n (opens_fragment size) = Some n
-dropped_behind n ends = Some n
-
--- behind a token: one atom, or the bytes of a value, which change nothing
-abbrev pub dropped_by : ℕ → List Atom → Option ℕ
-dropped_by n [] = Some n
-dropped_by n (a ∷ atoms) = dropped_behind n a
+encode_start target = record { target = target; dropped = 0; copying = None }
 
 abbrev pub encode_opens : Form → EncodeState → Vr → Length → Syntax → EncodeState
 encode_opens a_value s vr (Known size) syntax = record s { copying = Some (leaf_copy syntax s.target vr size) }
@@ -137,7 +104,7 @@ close_writes (Some c) = copy_ends c
 -- outside of dropped elements; an element with number 0 is dropped
 abbrev pub live_step : EncodeState → Atom → EncodeState
 live_step s (opens tag vr declared syntax) =
-    if tag.element == 0 then record s { dropped = drops (form syntax vr declared) } else encode_opens (form syntax vr declared) s vr declared syntax
+    if tag.element == 0 then record s { dropped = opened s.dropped true } else encode_opens (form syntax vr declared) s vr declared syntax
 live_step s (value_byte b) = takes_byte s s.copying b
 live_step s closes_leaf = record s { copying = None }
 live_step s (opens_item declared) = s
@@ -156,13 +123,13 @@ live_writes s closes_sequence = sequence_delimiter s.target
 live_writes s (opens_fragment size) = item_head s.target (Known (even size))
 live_writes s ends = []
 
-abbrev pub step_at : Option ℕ → EncodeState → Atom → EncodeState
-step_at None s a = live_step s a
-step_at (Some n) s a = record s { dropped = dropped_behind n a }
+abbrev pub step_at : (dropped : ℕ) → EncodeState → Atom → EncodeState
+step_at zero s a = live_step s a
+step_at (suc n) s a = record s { dropped = after (suc n) a }
 
-abbrev pub writes_at : Option ℕ → EncodeState → Atom → List ℕ
-writes_at None s a = live_writes s a
-writes_at (Some n) s a = []
+abbrev pub writes_at : (dropped : ℕ) → EncodeState → Atom → List ℕ
+writes_at zero s a = live_writes s a
+writes_at (suc n) s a = []
 
 abbrev pub encode_step : EncodeState → Atom → EncodeState
 encode_step s a = step_at s.dropped s a

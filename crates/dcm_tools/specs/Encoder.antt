@@ -1,5 +1,6 @@
 -- What an `Encoder` stands for.
 use Rattle.std.specs.Prelude.{Option, None, Some}
+use Rattle.dcm_stream.specs.Skip.{depth}
 use Rattle.dcm_tools.specs.declared.copier.Copier.{Copier}
 use Rattle.dcm_tools.specs.declared.encoder.Encoder.{Encoder}
 use Rattle.dcm_tools.specs.Copier.{copying}
@@ -10,4 +11,4 @@ copying_of None = None
 copying_of (Some c) = Some (copying c)
 
 abbrev pub state : Encoder → EncodeState
-state e = record { target = e.target; dropped = e.dropped; copying = copying_of e.copier }
+state e = record { target = e.target; dropped = depth e.skip; copying = copying_of e.copier }

@@ -1,16 +1,16 @@
 // A data set in a target syntax, token by token (PS3.5 7.1, 7.5, A.4).
-ghost use Rattle.std.specs.Prelude.{◌≡◌, ◌<◌, if◌then◌else◌, OnOk, None, Some, map, fold, false, true};
+ghost use Rattle.std.specs.Prelude.{◌≡◌, ◌<◌, if◌then◌else◌, OnOk, Some, map, fold, false, true};
 ghost use Rattle.std.specs.Int.{w32};
 ghost use Rattle.dcm_base.specs.Atoms.{opens, value_byte, closes_leaf, opens_fragment};
 ghost use Rattle.dcm_base.specs.Bars.{holds_fragments as syntax_holds_fragments};
 ghost use Rattle.dcm_base.specs.Device.{Puts, Tells};
 ghost use Rattle.dcm_base.specs.Recode as recode;
 ghost use Rattle.dcm_base.specs.Representation.{is_long as has_long_form};
-ghost use Rattle.dcm_base.specs.Stop.{opens_list as form_opens_list};
 ghost use Rattle.dcm_base.specs.Steps.{outputs};
 ghost use Rattle.dcm_base.specs.declared.length.Length.TheVariants as lengths;
 ghost use Rattle.dcm_base.specs.declared.syntax.Syntax.{Syntax as AnySyntax};
 ghost use Rattle.dcm_base.specs.declared.vr.Vr.TheVariants as representations;
+ghost use Rattle.dcm_stream.specs.Skip.{depth};
 ghost use Rattle.dcm_stream.specs.Tokens.{atoms_of};
 ghost use Rattle.dcm_head.specs.HeadRead.{is_delimiter as is_delimiter_tag};
 ghost use Rattle.dcm_base.specs.Spelling.{form};
@@ -20,10 +20,7 @@ use crate::copier::{Copier, is_too_long};
 use arrayvec::ArrayVec;
 use dcm_base::{DeviceOut, Form, Length, Syntax, Tag, Vr, Watched, WriteFailed, form_of, put_all};
 use dcm_head::{Head, LONG_HEAD, element_head, write_head};
-use dcm_stream::Token;
-
-/// The most sequences and fragment lists that are open at a time.
-const MOST_LISTS: u8 = 64;
+use dcm_stream::{Skip, Token};
 
 /// The number of the element that tells the length of its group (PS3.5 7.2).
 const GROUP_LENGTH: u16 = 0x0000;
@@ -32,8 +29,8 @@ const GROUP_LENGTH: u16 = 0x0000;
 #[derive(Drop)]
 pub struct Encoder {
     target: Syntax,
-    /// In an element that is dropped: how many sequences and fragment lists of it are open, with itself.
-    dropped: Option<u8>,
+    /// What is open of an element that is not written.
+    skip: Skip,
     copier: Option<Copier>,
 }
 
@@ -90,47 +87,6 @@ fn delimiter(target: Syntax, tag: Tag) -> ArrayVec<u8, LONG_HEAD>
     write_head(target, &Head { tag, vr, length })
 }
 
-/// Whether a sequence or fragment list begins.
-fn opens_list(form: Form) -> bool
-    ensures { result ≡ form_opens_list form }
-{
-    matches!(form, Form::Sequence | Form::FragmentList)
-}
-
-/// What stands open of a dropped element behind the end of a value or fragment: nothing of one that is a value.
-fn behind_leaf(lists: u8) -> Option<u8>
-    ensures { result ≡ spec.behind_leaf lists }
-{
-    if lists == 0 { None } else { Some(lists) }
-}
-
-/// Behind the end of a sequence or fragment list.
-fn behind_list(lists: u8) -> Option<u8>
-    ensures { result ≡ spec.behind_list lists }
-{
-    if lists > 1 { Some(lists - 1) } else { None }
-}
-
-/// Behind a token.
-#[tactic(auto, using(crate::proofs::Dropping::bytes_same))]
-fn dropped_behind(lists: u8, token: Token) -> Option<u8>
-    ensures { result ≡ spec.dropped_by lists (atoms_of token.entry) }
-{
-    match token {
-        Token::Open(head, syntax) if opens_list(form_of(syntax, head.vr, head.length)) => {
-            Some(lists.saturating_add(1).min(MOST_LISTS))
-        }
-        Token::CloseLeaf => behind_leaf(lists),
-        Token::CloseSeq => behind_list(lists),
-        Token::Open(_, _)
-        | Token::Bytes(_)
-        | Token::OpenItem(_)
-        | Token::CloseItem
-        | Token::OpenFragment(_)
-        | Token::End => Some(lists),
-    }
-}
-
 impl Encoder {
     ghost use Rattle.dcm_tools.specs.Encoder.{state};
 
@@ -140,7 +96,7 @@ impl Encoder {
     {
         Encoder {
             target,
-            dropped: None,
+            skip: Skip::nothing(),
             copier: None,
         }
     }
@@ -150,13 +106,6 @@ impl Encoder {
         ensures { result ≡ syntax_holds_fragments (state self.now).target }
     {
         matches!(self.target, Syntax::Little)
-    }
-
-    /// An element that is not written begins.
-    fn drop_element(&mut self, form: Form)
-        ensures { state self.new ≡ record (state self.old) { dropped = spec.drops form } }
-    {
-        self.dropped = Some(u8::from(opens_list(form)));
     }
 
     fn open_leaf<W: DeviceOut>(
@@ -210,14 +159,14 @@ impl Encoder {
         ensures failed { Tells (W.has_failed out.old) (W.has_failed out.new) result }
     {
         if head.tag.element == GROUP_LENGTH {
-            self.drop_element(form_of(syntax, head.vr, head.length));
+            self.skip.open(true);
             return Ok(());
         }
         self.open_element(out, head, syntax)
     }
 
     fn copy<W: DeviceOut>(&mut self, out: &mut Watched<W>, bytes: &[u8]) -> Result<(), WriteFailed>
-        requires { self.old.dropped ≡ None }
+        requires { depth self.old.skip ≡ 0 }
         ensures state { OnOk result (state self.new ≡ fold spec.encode_step (state self.old) (map value_byte bytes.now)) }
         ensures bytes { Puts (W.contents out.old) (W.contents out.new) (outputs spec.encode_step spec.encode_writes (state self.old) (map value_byte bytes.now)) result }
         ensures failed { Tells (W.has_failed out.old) (W.has_failed out.new) result }
@@ -263,7 +212,7 @@ impl Encoder {
         out: &mut Watched<W>,
         token: Token,
     ) -> Result<(), WriteFailed>
-        requires { self.old.dropped ≡ None }
+        requires { depth self.old.skip ≡ 0 }
         ensures state { OnOk result (state self.new ≡ fold spec.encode_step (state self.old) (atoms_of token.entry)) }
         ensures bytes { Puts (W.contents out.old) (W.contents out.new) (outputs spec.encode_step spec.encode_writes (state self.old) (atoms_of token.entry)) result }
         ensures failed { Tells (W.has_failed out.old) (W.has_failed out.new) result }
@@ -292,12 +241,10 @@ impl Encoder {
         ensures bytes { Puts (W.contents out.old) (W.contents out.new) (outputs spec.encode_step spec.encode_writes (state self.old) (atoms_of token.entry)) result }
         ensures failed { Tells (W.has_failed out.old) (W.has_failed out.new) result }
     {
-        match self.dropped {
-            Some(lists) => {
-                self.dropped = dropped_behind(lists, token);
-                Ok(())
-            }
-            None => self.take_live(out, token),
+        if self.skip.is_open() {
+            self.skip.pass(token);
+            return Ok(());
         }
+        self.take_live(out, token)
     }
 }

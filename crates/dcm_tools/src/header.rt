@@ -11,10 +11,10 @@ ghost use Rattle.dcm_base.specs.Spelling.{form};
 ghost use Rattle.dcm_head.specs.MetaReading.{HasEnded, group_of, uid_of};
 ghost use Rattle.dcm_head.specs.Rewriting.{OfElements};
 
-use crate::lines::Lines;
-use dcm_base::{DeviceOut, Length, Mode, Syntax, Watched, WriteFailed, put_all, uid_name};
-use dcm_head::{Head, Meta, MetaElement, first_element};
-use dcm_stream::Token;
+use crate::dump::DumpSink;
+use dcm_base::{DeviceOut, Mode, Watched, WriteFailed, put_all, uid_name};
+use dcm_head::{Meta, MetaElement, first_element};
+use dcm_stream::{Token, take_all};
 use dcm_value::escape;
 
 /// Writes bytes of a text, escaped.
@@ -59,15 +59,9 @@ fn put_element<W: DeviceOut>(
     ensures bytes { form Little element.entry.vr (Known (length element.entry.value.now)) ≡ a_value → Puts (W.contents out.old) (W.contents out.new) (leaf_line mode 0 element.entry.tag element.entry.vr element.entry.value.now) result }
     ensures failed { Tells (W.has_failed out.old) (W.has_failed out.new) result }
 {
-    let head = Head {
-        tag: element.tag,
-        vr: element.vr,
-        length: Length::Known(element.value.len() as u32),
-    };
-    let mut lines = Lines::new(mode);
-    lines.take(out, Token::Open(head, Syntax::Little))?;
-    lines.take(out, Token::Bytes(element.value))?;
-    lines.take(out, Token::CloseLeaf)
+    let tokens = Token::leaf(element.tag, element.vr, element.value);
+    let mut sink = DumpSink::new(out, mode);
+    take_all(tokens.as_slice(), &mut sink)
 }
 
 /// Writes the lines of a meta group.

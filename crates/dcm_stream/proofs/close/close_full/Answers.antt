@@ -15,7 +15,7 @@ returns-in_err-take-clause-goes g c =
     let one = closes_one c.args.position (reverse levels) c.in-Some.container full in
     failed_more g.S.Sink.step g.S.Sink.writes (g.S.Sink.state c.args.sink.now) (g.S.Sink.contents c.args.sink.now) (g.S.Sink.state c.loop-container.sink) (g.S.Sink.contents c.loop-container.sink) _ _
     c.loop-container.invariant.front (atoms_of c.closing_token.result) _ _ _ c.loop-container.invariant.state c.loop-container.invariant.bytes c.from_residual.ensures.0
-    (closes_first c.args.position (reverse levels) c.in-Some.container (atoms_of c.closing_token.result) _ c.loop-container.invariant.front c.closing_token.ensures one c.loop-container.invariant.atoms)
+    (closes_first c.args.position (reverse levels) c.in-Some.container (atoms_of c.closing_token.result) _ c.loop-container.invariant.front c.closing_token.ensures.atoms one c.loop-container.invariant.atoms)
     c.in_err-take.ensures.bytes
 
 pub loop-container-preserved : goal.loop-container-preserved
@@ -31,7 +31,7 @@ loop-container-preserved g c =
     record {
       front = front ++ token;
       levels = c.loop-container.invariant.levels ∙ one.levels ∙ ap (λ (ls : List Level). (full_closed c.args.position ls).0) (sym popped);
-      atoms = closes_next c.args.position (reverse levels) _ c.in-Some.container token _ front c.closing_token.ensures one popped c.loop-container.invariant.atoms;
+      atoms = closes_next c.args.position (reverse levels) _ c.in-Some.container token _ front c.closing_token.ensures.atoms one popped c.loop-container.invariant.atoms;
       state = taken.0;
       bytes = taken.1;
       failed = c.in_ok-take.ensures.failed ∙ c.loop-container.invariant.failed;

@@ -1,16 +1,21 @@
-use Rattle.dcm_tools.proofs.MetaLines.{opening_failed, bytes_failed, element_put}
+use Rattle.std.proofs.Common.{List, ℕ, Option, ap, subst, ◌∙◌, rules}
+use Rattle.std.specs.Prelude.{flat_map}
+use Rattle.dcm_base.specs.Device.{Puts}
+use Rattle.dcm_base.specs.Dump.{leaf_line}
+use Rattle.dcm_stream.specs.Tokens.{atoms_of}
+use Rattle.dcm_tools.specs.Lines.{state}
+use Rattle.dcm_tools.proofs.MetaLines.{line_put}
 use Rattle.dcm_tools.proofs.header.put_element.Goals as goal
-
-pub returns-in_err-take-clause-bytes : goal.returns-in_err-take-clause-bytes
-returns-in_err-take-clause-bytes g c = λ is.
-    opening_failed c.args.mode c.args.element.tag c.args.element.vr c.args.element.value.now _ is c.new-lines.ensures _ _ c.from_residual.result c.from_residual.ensures.0 c.in_err-take.ensures.bytes
-
-pub returns-in_err-take-2-clause-bytes : goal.returns-in_err-take-2-clause-bytes
-returns-in_err-take-2-clause-bytes g c = λ is.
-    bytes_failed c.args.mode c.args.element.tag c.args.element.vr c.args.element.value.now _ is c.new-lines.ensures _ _ _ _ c.from_residual-in_err-take-2.result c.in_ok-take.ensures.state c.in_ok-take.ensures.bytes
-    c.from_residual-in_err-take-2.ensures.0 c.in_err-take-2.ensures.bytes
 
 pub returns-clause-bytes : goal.returns-clause-bytes
 returns-clause-bytes g c = λ is.
-    element_put c.args.mode c.args.element.tag c.args.element.vr c.args.element.value.now _ is c.new-lines.ensures _ _ _ _ _ _ c.take-3.result c.in_ok-take.ensures.state c.in_ok-take-2.ensures.state
-    c.in_ok-take.ensures.bytes c.in_ok-take-2.ensures.bytes c.take-3.ensures.bytes
+    let element = c.args.element in
+    let line : List ℕ = leaf_line c.args.mode 0 element.tag element.vr element.value.now in
+    let last : Option (List ℕ) = g.W.DeviceOut.contents c.take_all.new.sink.out.now in
+    let begun = ap (λ (x : g.row.W.Denot). g.W.DeviceOut.contents x) c.new-sink.ensures.out in
+    let went = line_put c.args.mode element.tag element.vr element.value.now (state c.new-sink.result.lines) (state c.take_all.new.sink.lines) (g.W.DeviceOut.contents c.new-sink.result.out.now) last
+    (flat_map atoms_of c.as_slice.result.now) c.take_all.result is c.new-sink.ensures.state (ap (flat_map atoms_of) c.as_slice.ensures.value ∙ c.leaf-tokens.ensures.atoms) c.take_all.ensures.takes in
+    let k = c.take_all.ensures.kept in
+    let n = c.new-sink.ensures.same_reference in
+    subst (λ (holds : Option (List ℕ)). Puts (g.W.DeviceOut.contents c.args.out.now) holds line c.take_all.result) (search (rules, k, n))
+    (subst (λ (held : Option (List ℕ)). Puts held last line c.take_all.result) begun went)

@@ -1,4 +1,5 @@
 use Rattle.std.proofs.Common.{map, arith}
+use Rattle.dcm_stream.specs.Skip.{depth}
 use Rattle.dcm_edit.specs.Editing.{level_of}
 use Rattle.dcm_edit.specs.Meaning.{edit_of}
 use Rattle.dcm_edit.proofs.Editing.{full_stays}
@@ -8,4 +9,4 @@ pub returns-else-len-lt-MOST_AROUND : goal.returns-else-len-lt-MOST_AROUND
 returns-else-len-lt-MOST_AROUND c = λ declared.
     let size = c.len.ensures.value in
     let full = c.if-len-lt-MOST_AROUND.false in
-    full_stays (map edit_of c.args.edits.now) (level_of c.args.self.now.level) c.args.self.now.outermost_first.items c.args.self.now.dropped c.args.self.now.found declared (omega (arith, size, full))
+    full_stays (map edit_of c.args.edits.now) (level_of c.args.self.now.level) c.args.self.now.outermost_first.items (depth c.args.self.now.skip) c.args.self.now.found declared (omega (arith, size, full))

@@ -10,14 +10,14 @@ pub returns-in_err-take-clause-comes : goal.returns-in_err-take-clause-comes
 returns-in_err-take-clause-comes g c =
     let place = c.args.self.now in
     fails_enter g.S.Sink.step g.S.Sink.writes place.position (reverse place.levels.items) c.args.opening (g.S.Sink.state c.args.sink.now) (g.S.Sink.contents c.args.sink.now)
-    (g.S.Sink.state c.take.new.self) (g.S.Sink.contents c.take.new.self) (reading place) (atoms_of c.opening_token.result) c.from_residual.result c.opening_token.ensures c.from_residual.ensures.1 c.in_err-take.ensures.bytes
+    (g.S.Sink.state c.take.new.self) (g.S.Sink.contents c.take.new.self) (reading place) (atoms_of c.opening_token.result) c.from_residual.result c.opening_token.ensures.atoms c.from_residual.ensures.1 c.in_err-take.ensures.bytes
 
 pub returns-in-Leaf-clause-comes : goal.returns-in-Leaf-clause-comes
 returns-in-Leaf-clause-comes g c =
     let place = c.args.self.now in
     enters_value g.S.Sink.step g.S.Sink.writes place.position (reverse place.levels.items) c.args.opening c.in-Leaf.size (g.S.Sink.state c.args.sink.now) (g.S.Sink.contents c.args.sink.now)
     (g.S.Sink.state c.take.new.self) (g.S.Sink.contents c.take.new.self) (g.S.Sink.state c.settle_value.new.sink) (g.S.Sink.contents c.settle_value.new.sink) (reading c.settle_value.new.self)
-    (atoms_of c.opening_token.result) c.settle_value.result c.in-Leaf.is c.opening_token.ensures c.in_ok-take.ensures.state c.in_ok-take.ensures.bytes c.settle_value.ensures.comes
+    (atoms_of c.opening_token.result) c.settle_value.result c.in-Leaf.is c.opening_token.ensures.atoms c.in_ok-take.ensures.state c.in_ok-take.ensures.bytes c.settle_value.ensures.comes
 
 pub returns-clause-comes : goal.returns-clause-comes
 returns-clause-comes g c =
@@ -34,4 +34,4 @@ returns-clause-comes g c =
     ] in
     enters_container g.S.Sink.step g.S.Sink.writes place.position (reverse place.levels.items) c.args.opening c.match-opening.self (g.S.Sink.state c.args.sink.now) (g.S.Sink.contents c.args.sink.now)
     (g.S.Sink.state c.take.new.self) (g.S.Sink.contents c.take.new.self) (g.S.Sink.state c.settle.new.sink) (g.S.Sink.contents c.settle.new.sink) (reading c.settle.new.self)
-    (atoms_of c.opening_token.result) c.settle.result leads at c.opening_token.ensures c.in_ok-take.ensures.state c.in_ok-take.ensures.bytes c.settle.ensures.comes
+    (atoms_of c.opening_token.result) c.settle.result leads at c.opening_token.ensures.atoms c.in_ok-take.ensures.state c.in_ok-take.ensures.bytes c.settle.ensures.comes

@@ -1,15 +1,16 @@
-use Rattle.std.proofs.Common.{rules, ◌≡◌, ◌∙◌, ap, Some, Option, ℕ}
+use Rattle.std.proofs.Common.{◌∙◌, ap, sym, ℕ}
+use Rattle.dcm_stream.proofs.Skipped.{none_open}
 use Rattle.dcm_tools.specs.EncodeSink.{EncodeState}
 use Rattle.dcm_tools.specs.Encoder.{state}
 use Rattle.dcm_tools.proofs.Dropping.{dropped_state, dropped_bytes}
 use Rattle.dcm_tools.proofs.encoder.Encoder.take.Goals as goal
 
-pub returns-in-Some-clause-state : goal.returns-in-Some-clause-state
-returns-in-Some-clause-state g c =
-    let some : c.args.self.now.dropped ≡ Some c.in-Some.lists = search rules in
-    ap (λ (d : Option ℕ). let t : EncodeState = record (state c.args.self.now) { dropped = d } in t) c.dropped_behind-self.ensures ∙ dropped_state (state c.args.self.now) c.in-Some.lists c.args.token some
+pub returns-then-is_open-clause-state : goal.returns-then-is_open-clause-state
+returns-then-is_open-clause-state g c =
+    ap (λ (d : ℕ). let t : EncodeState = record (state c.args.self.now) { dropped = d } in t) c.pass.ensures ∙ dropped_state (state c.args.self.now) c.args.token (sym c.if-is_open.ensures)
 
-pub returns-in-Some-clause-bytes : goal.returns-in-Some-clause-bytes
-returns-in-Some-clause-bytes g c =
-    let some : c.args.self.now.dropped ≡ Some c.in-Some.lists = search rules in
-    dropped_bytes (state c.args.self.now) c.in-Some.lists c.args.token _ some
+pub returns-then-is_open-clause-bytes : goal.returns-then-is_open-clause-bytes
+returns-then-is_open-clause-bytes g c = dropped_bytes (state c.args.self.now) c.args.token _ (sym c.if-is_open.ensures)
+
+pub take_live-requires : goal.take_live-requires
+take_live-requires g c = none_open _ c.if-is_open.ensures
