@@ -43,3 +43,5 @@ pub mod Rebuilt
 pub mod NormalForm
 pub mod Fits
 pub mod Numbered
+pub mod OwnSyntax
+pub mod Unbarred

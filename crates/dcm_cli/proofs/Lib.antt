@@ -16,6 +16,6 @@ pub mod Opens
 pub mod FoundMasks
 pub mod EditPasses
 pub mod Sures
-pub mod OwnSyntax
 pub mod OneSource
+pub mod NoEdits
 pub mod DumpBuilds

@@ -12,7 +12,7 @@ use Rattle.dcm_words.specs.Words.{Job, dump, convert}
 use Rattle.dcm_base.proofs.Reading.{reads_once}
 use Rattle.dcm_head.proofs.OneMeta.{one_meta}
 use Rattle.dcm_cli.specs.Answer.{Source, unopened, file as a_file, set_at, job_bar, refuses_change, FileReads, not_opened, not_changed, opened}
-use Rattle.dcm_cli.proofs.OwnSyntax.{own_reads}
+use Rattle.dcm_base.proofs.OwnSyntax.{own_reads}
 use Rattle.dcm_cli.proofs.Sures.{begun_alike}
 
 faults_alike : (f g : Fault) (m n : ℕ) → meta_refused f m ≡ meta_refused g n → unopened f m ≡ unopened g n

@@ -7,4 +7,5 @@ pub mod Lines
 pub mod Run
 pub mod Devices
 pub mod DumpBuilds
+pub mod NoEdits
 pub mod Opening

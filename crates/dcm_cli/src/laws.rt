@@ -2,6 +2,7 @@
 ghost use Rattle.dcm_words.specs.declared.job.Job.{Job};
 ghost use Rattle.dcm_cli.specs.Answer.{Answer, Answers, Sure};
 ghost use Rattle.dcm_cli.specs.DumpBuilds.{DumpBuilds};
+ghost use Rattle.dcm_cli.specs.NoEdits.{NoEditsConvert};
 ghost use Rattle.dcm_cli.specs.Run.{IsMeant};
 ghost use Rattle.dcm_words.specs.Plans.{job_of};
 ghost use Rattle.std.specs.Prelude.{◌++◌, ◌≡◌, List, ℕ};
@@ -17,4 +18,10 @@ pub fn sure_grows()
 /// and its output is that of a conversion to the file's own transfer syntax, but for the first 128 bytes, which are 0.
 pub fn dump_builds_runs()
     ensures { DumpBuilds }
+{}
+
+/// What dcmodify answers without edits is what dcmconv answers for the file's own transfer syntax, where no tag is refused for
+/// its order.
+pub fn no_edits_convert()
+    ensures { NoEditsConvert }
 {}

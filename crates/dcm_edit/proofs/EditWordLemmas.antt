@@ -65,7 +65,7 @@ found_step : (p q : Element → Bool) (x e : Element) (r : Option Element) → q
 found_step p q x e r h g true t f = let same : x ≡ e = cc in let P : Element → Type 0 = λ y. (q y ≡ true) × (p y ≡ true) in subst P same (h, sym t)
 found_step p q x e r h g false t f = g f
 
-found_passes : (p q : Element → Bool) (l : List Element) (e : Element) → list_all q l ≡ true → find p l ≡ Some e → (q e ≡ true) × (p e ≡ true)
+pub found_passes : (p q : Element → Bool) (l : List Element) (e : Element) → list_all q l ≡ true → find p l ≡ Some e → (q e ≡ true) × (p e ≡ true)
 found_passes p q [] e a f = cc
 found_passes p q (x ∷ l) e a f = found_step p q x e (find p l) (and_one _ _ a) (found_passes p q l e (and_two (q x) _ a)) (p x) refl f
 
@@ -77,11 +77,11 @@ extract_is_even : list_all is_even elements ≡ true
 unfolding elements
 extract_is_even = refl
 
-mapped : {A B : Type 0} (f : A → B) (o : Option A) (y : B) → option_map f o ≡ Some y → (x : A) × (o ≡ Some x) × (f x ≡ y)
+pub mapped : {A B : Type 0} (f : A → B) (o : Option A) (y : B) → option_map f o ≡ Some y → (x : A) × (o ≡ Some x) × (f x ≡ y)
 mapped f (Some x) y p = (x, refl, cc)
 mapped f None y p = cc
 
-same_group : (tag : Tag) (n : ℕ) → tag.element < 65536 → (n == number tag) ≡ true → (tag_of_number n).group ≡ tag.group
+pub same_group : (tag : Tag) (n : ℕ) → tag.element < 65536 → (n == number tag) ≡ true → (tag_of_number n).group ≡ tag.group
 same_group tag n h p = let e : n ≡ number tag = eqb-true n (number tag) p in omega (arith, e, h)
 
 element_public : (tag : Tag) (x : Vr × List ℕ) → tag.element < 65536 → element tag ≡ Some x → not (is_private tag) ≡ true
@@ -121,7 +121,7 @@ or_refused u None x p = cc
 or_refused u (Some y) x p = ap Some (ok_is y x p)
 
 -- a tag by its number has no greater element than a number of two bytes
-Within : TagName → Type 0
+unfoldable pub Within : TagName → Type 0
 Within (by_number tag) = tag.element < 65536
 Within (by_keyword word) = Unit {0}
 
@@ -162,7 +162,7 @@ cut_within : (before : List ℕ) (after : Option (List ℕ)) (m : PathPart) → 
 cut_within before None m p = plain_within (tag_name before) m (name_within before) p
 cut_within before (Some inside) m p = index_within (tag_name before) (cut_at (byte "]") inside).before (cut_at (byte "]") inside).after m (name_within before) p
 
-AllWithin : List PathPart → Type 0
+unfoldable pub AllWithin : List PathPart → Type 0
 AllWithin [] = Unit {0}
 AllWithin (m ∷ ms) = Within m.name × AllWithin ms
 
@@ -175,7 +175,7 @@ one_more (Some m) r ps h g p =
     let P : List PathPart → Type 0 = AllWithin in
     subst P q.2 (h m refl, g q.0 q.1)
 
-parts_within : (texts : List (List ℕ)) (ps : List PathPart) → parts_of texts ≡ Some ps → AllWithin ps
+pub parts_within : (texts : List (List ℕ)) (ps : List PathPart) → parts_of texts ≡ Some ps → AllWithin ps
 unfolding AllWithin
 parts_within [] ps p = let e : [] ≡ ps = cc in let P : List PathPart → Type 0 = AllWithin in subst P e tt
 parts_within (text ∷ texts) ps p =

@@ -58,3 +58,7 @@ pub mod SoundSteps
 pub mod Passing
 pub mod MeantEdits
 pub mod ThroughSink
+pub mod StaysReady
+pub mod KnownTags
+pub mod WordsReady
+pub mod EditedReads

@@ -23,7 +23,7 @@ use Rattle.dcm_edit.proofs.EditWordLemmas.{bind_ok, ok_is, if_ok, or_refused, in
 use Rattle.dcm_edit.proofs.WordDepths.{edit_depth}
 use Rattle.dcm_edit.proofs.WordIndexes.{part_index, parts_short, known_short, edit_short}
 
-abbrev EndsPlain : List Known → Type 0
+abbrev pub EndsPlain : List Known → Type 0
 EndsPlain [] = (false ≡ true)
 EndsPlain (k ∷ []) = (is_indexed k ≡ false)
 EndsPlain (k ∷ l ∷ ks) = EndsPlain (l ∷ ks)
@@ -33,15 +33,15 @@ unfolding form
 form_of SQ e = absurd cc
 form_of _ e = refl
 
-and_one : (a b : Bool) → (a && b) ≡ true → a ≡ true
+pub and_one : (a b : Bool) → (a && b) ≡ true → a ≡ true
 and_one true b p = refl
 and_one false b p = absurd cc
 
-and_two : (a b : Bool) → (a && b) ≡ true → b ≡ true
+pub and_two : (a b : Bool) → (a && b) ≡ true → b ≡ true
 and_two true b p = p
 and_two false b p = absurd cc
 
-plain_last : (i s : Bool) → i ≡ false → (if i then s else not (true && s)) ≡ true → s ≡ false
+pub plain_last : (i s : Bool) → i ≡ false → (if i then s else not (true && s)) ≡ true → s ≡ false
 plain_last true s p q = absurd cc
 plain_last false true p q = absurd cc
 plain_last false false p q = refl
@@ -88,7 +88,7 @@ ends_more : (k : Known) (ks : List Known) → EndsPlain ks → EndsPlain (k ∷ 
 ends_more k [] p = absurd cc
 ends_more k (l ∷ ks) p = p
 
-parts_end : (ms : List PathPart) (ks : List Known) → known_parts ms ≡ Ok ks → ends_in_tag ms ≡ true → EndsPlain ks
+pub parts_end : (ms : List PathPart) (ks : List Known) → known_parts ms ≡ Ok ks → ends_in_tag ms ≡ true → EndsPlain ks
 parts_end [] ks p e = absurd cc
 parts_end (m ∷ []) ks p e =
     let first = bind_ok (known_part m.name m.index) (λ k. known_parts [] >>= λ more. Ok (k ∷ more)) ks p in
@@ -98,7 +98,7 @@ parts_end (m ∷ n ∷ ms) ks p e =
     let rest = bind_ok (known_parts (n ∷ ms)) (λ more. Ok (first.0 ∷ more)) ks first.2 in
     subst (λ (l : List Known). EndsPlain l) (ok_is _ _ rest.2) (ends_more first.0 rest.0 (parts_end (n ∷ ms) rest.0 rest.1 e))
 
-parts_count : (ms : List PathPart) (ks : List Known) → known_parts ms ≡ Ok ks → length ks ≡ length ms
+pub parts_count : (ms : List PathPart) (ks : List Known) → known_parts ms ≡ Ok ks → length ks ≡ length ms
 parts_count [] ks p = ap (λ (l : List Known). length l) (sym (ok_is [] ks p))
 parts_count (m ∷ ms) ks p =
     let first = bind_ok (known_part m.name m.index) (λ k. known_parts ms >>= λ more. Ok (k ∷ more)) ks p in
@@ -113,7 +113,7 @@ erases_any modifies_all ks value p = absurd cc
 erases_any erases_all [] value p = tt
 erases_any erases_all (k ∷ ks) value p = tt
 
-form_ends : (kind : Kind) (ms : List PathPart) → takes_value kind ≡ true → has_form kind ms ≡ true → ends_in_tag ms ≡ true
+pub form_ends : (kind : Kind) (ms : List PathPart) → takes_value kind ≡ true → has_form kind ms ≡ true → ends_in_tag ms ≡ true
 form_ends inserts ms p h = and_middle (leads ms) (ends_in_tag ms) _ h
   where
     and_middle : (a b c : Bool) → (a && b && c) ≡ true → b ≡ true
@@ -130,14 +130,14 @@ form_ends erases ms p h = absurd cc
 form_ends modifies_all ms p h = and_two _ _ h
 form_ends erases_all ms p h = absurd cc
 
-form_one : (kind : Kind) (ms : List PathPart) → has_form kind ms ≡ true → kind ≡ modifies_all → length ms ≡ 1
+pub form_one : (kind : Kind) (ms : List PathPart) → has_form kind ms ≡ true → kind ≡ modifies_all → length ms ≡ 1
 form_one inserts ms h e = absurd cc
 form_one modifies ms h e = absurd cc
 form_one erases ms h e = absurd cc
 form_one modifies_all ms h e = eqb-true (length ms) 1 (and_one _ _ h)
 form_one erases_all ms h e = absurd cc
 
-if_test : {A : Type 0} (c : Bool) (u : EditRefusal) (r : Result A EditRefusal) (y : A) → (if c then r else Err u) ≡ Ok y → c ≡ true
+pub if_test : {A : Type 0} (c : Bool) (u : EditRefusal) (r : Result A EditRefusal) (y : A) → (if c then r else Err u) ≡ Ok y → c ≡ true
 if_test true u r y p = refl
 if_test false u r y p = absurd cc
 
@@ -162,67 +162,72 @@ edit_fits kind p v e h =
     let short = parts_short (slice_split (λ c. c == byte ".") p) a.0 (or_refused BadOption _ a.0 a.1) in
     subst (λ (x : Edit). Fits x) (ok_is _ _ r.2) (value_by_kind kind (takes_value kind) a.0 b.0 r.0 refl formed b.1 used, edit_short kind b.0 r.0 (known_short a.0 b.0 short b.1), edit_depth kind a.0 b.0 r.0 formed b.1)
 
-word_fits : (kind : Kind) (w : List ℕ) (e : Edit) → meant_word kind w ≡ Ok e → Fits e
-word_fits kind w e h = by_test (takes_value kind) _ _ h (λ g. edit_fits kind (cut_at (byte "=") w).before (unwrap_or (cut_at (byte "=") w).after []) e g) (λ g. edit_fits kind w [] e g)
-  where
-    by_test : (c : Bool) (r q : Result Edit EditRefusal) → (if c then r else q) ≡ Ok e → (r ≡ Ok e → Fits e) → (q ≡ Ok e → Fits e) → Fits e
-    by_test true r q k f g = f k
-    by_test false r q k f g = g k
-
 -- ---- all edits
 
-abbrev AllFit : List Edit → Type 0
-AllFit [] = Unit {0}
-AllFit (e ∷ es) = Fits e × AllFit es
+abbrev pub AllHave : (Edit → Type 0) → List Edit → Type 0
+AllHave P [] = Unit {0}
+AllHave P (e ∷ es) = P e × AllHave P es
 
-all_is : (fs es : List Edit) → fs ≡ es → AllFit fs → AllFit es
-all_is fs es p h = subst (λ (l : List Edit). AllFit l) p h
+-- what is so of each edit that a word means is so of all that the words of a command line mean
+module _ (P : Edit → Type 0) (private_has : P erase_private) (one_has : (kind : Kind) (p v : List ℕ) (e : Edit) → meant_edit kind p v ≡ Ok e → P e) where
+  word_has : (kind : Kind) (w : List ℕ) (e : Edit) → meant_word kind w ≡ Ok e → P e
+  word_has kind w e h = by_test (takes_value kind) _ _ h (λ g. one_has kind (cut_at (byte "=") w).before (unwrap_or (cut_at (byte "=") w).after []) e g) (λ g. one_has kind w [] e g)
+    where
+      by_test : (c : Bool) (r q : Result Edit EditRefusal) → (if c then r else q) ≡ Ok e → (r ≡ Ok e → P e) → (q ≡ Ok e → P e) → P e
+      by_test true r q k f g = f k
+      by_test false r q k f g = g k
 
-then_fit : (e : Edit) (r : Result (List Edit) InEdit) (es : List Edit) → Fits e → ((fs : List Edit) → r ≡ Ok fs → AllFit fs) → and_then e r ≡ Ok es → AllFit es
-then_fit e (Ok fs) es p h q = all_is (e ∷ fs) es (ok_is _ _ q) (p, h fs refl)
-then_fit e (Err u) es p h q = absurd cc
+  all_is : (fs es : List Edit) → fs ≡ es → AllHave P fs → AllHave P es
+  all_is fs es p h = subst (λ (l : List Edit). AllHave P l) p h
 
-word_then : (n : ℕ) (r : Result Edit EditRefusal) (more : Result (List Edit) InEdit) (es : List Edit) → ((e : Edit) → r ≡ Ok e → Fits e)
-    → ((fs : List Edit) → more ≡ Ok fs → AllFit fs) → (let s : Result (List Edit) InEdit = elim (at_edit n r) [ Ok e ↦ and_then e more | Err u ↦ Err u ] in s ≡ Ok es) → AllFit es
-word_then n (Ok e) more es p h q = then_fit e more es (p e refl) h q
-word_then n (Err u) more es p h q = absurd cc
+  then_have : (e : Edit) (r : Result (List Edit) InEdit) (es : List Edit) → P e → ((fs : List Edit) → r ≡ Ok fs → AllHave P fs) → and_then e r ≡ Ok es → AllHave P es
+  then_have e (Ok fs) es p h q = all_is (e ∷ fs) es (ok_is _ _ q) (p, h fs refl)
+  then_have e (Err u) es p h q = absurd cc
 
-one_word : (o : OptionWord) (n : ℕ) (es : List Edit)
-    → (let s : Result (List Edit) InEdit = elim o [ private_word ↦ Ok (erase_private ∷ []) | takes_word kind ↦ Err (in_edit BadOption n) | unknown_word ↦ Err (in_edit BadOption n) ] in s ≡ Ok es) → AllFit es
-one_word private_word n es q = all_is (erase_private ∷ []) es (ok_is _ _ q) ((tt, tt, omega arith), tt)
-one_word (takes_word kind) n es q = absurd cc
-one_word unknown_word n es q = absurd cc
+  word_then : (n : ℕ) (r : Result Edit EditRefusal) (more : Result (List Edit) InEdit) (es : List Edit) → ((e : Edit) → r ≡ Ok e → P e)
+      → ((fs : List Edit) → more ≡ Ok fs → AllHave P fs) → (let s : Result (List Edit) InEdit = elim (at_edit n r) [ Ok e ↦ and_then e more | Err u ↦ Err u ] in s ≡ Ok es) → AllHave P es
+  word_then n (Ok e) more es p h q = then_have e more es (p e refl) h q
+  word_then n (Err u) more es p h q = absurd cc
 
-two_words : (o : OptionWord) (n : ℕ) (v : List ℕ) (skip more : Result (List Edit) InEdit) (es : List Edit)
-    → ((fs : List Edit) → skip ≡ Ok fs → AllFit fs) → ((fs : List Edit) → more ≡ Ok fs → AllFit fs)
-    → (let s : Result (List Edit) InEdit = elim o [
-      | private_word ↦ and_then erase_private skip
-      | takes_word kind ↦ elim (at_edit n (meant_word kind v)) [ Ok e ↦ and_then e more | Err u ↦ Err u ]
-      | unknown_word ↦ Err (in_edit BadOption n)
-    ] in s ≡ Ok es) → AllFit es
-two_words private_word n v skip more es g h q = then_fit erase_private skip es (tt, tt, omega arith) g q
-two_words (takes_word kind) n v skip more es g h q = word_then n (meant_word kind v) more es (λ e r. word_fits kind v e r) h q
-two_words unknown_word n v skip more es g h q = absurd cc
+  one_word : (o : OptionWord) (n : ℕ) (es : List Edit)
+      → (let s : Result (List Edit) InEdit = elim o [ private_word ↦ Ok (erase_private ∷ []) | takes_word kind ↦ Err (in_edit BadOption n) | unknown_word ↦ Err (in_edit BadOption n) ] in s ≡ Ok es) → AllHave P es
+  one_word private_word n es q = all_is (erase_private ∷ []) es (ok_is _ _ q) (private_has, tt)
+  one_word (takes_word kind) n es q = absurd cc
+  one_word unknown_word n es q = absurd cc
 
-words_fit : (n : ℕ) (words : List (List ℕ)) (es : List Edit) → meant_from n words ≡ Ok es → AllFit es
-words_fit n [] es q = all_is [] es (ok_is _ _ q) tt
-words_fit n (w ∷ []) es q = one_word (option_word w) n es (in_turn (nat_lt EDIT_LIMIT n) (in_edit TooMany n) _ es q)
-words_fit n (w ∷ v ∷ words) es q =
-    two_words (option_word w) n v _ _ es (words_fit (suc n) (v ∷ words)) (words_fit (suc n) words) (in_turn (nat_lt EDIT_LIMIT n) (in_edit TooMany n) _ es q)
+  two_words : (o : OptionWord) (n : ℕ) (v : List ℕ) (skip more : Result (List Edit) InEdit) (es : List Edit)
+      → ((fs : List Edit) → skip ≡ Ok fs → AllHave P fs) → ((fs : List Edit) → more ≡ Ok fs → AllHave P fs)
+      → (let s : Result (List Edit) InEdit = elim o [
+        | private_word ↦ and_then erase_private skip
+        | takes_word kind ↦ elim (at_edit n (meant_word kind v)) [ Ok e ↦ and_then e more | Err u ↦ Err u ]
+        | unknown_word ↦ Err (in_edit BadOption n)
+      ] in s ≡ Ok es) → AllHave P es
+  two_words private_word n v skip more es g h q = then_have erase_private skip es private_has g q
+  two_words (takes_word kind) n v skip more es g h q = word_then n (meant_word kind v) more es (λ e r. word_has kind v e r) h q
+  two_words unknown_word n v skip more es g h q = absurd cc
 
-all_fit : (r : Result (List Edit) InEdit) (es : List Edit) → (let s : Result (List Edit) InEdit = elim r [ Ok fs ↦ apart fs | Err u ↦ Err u ] in s ≡ Ok es)
-    → ((fs : List Edit) → r ≡ Ok fs → AllFit fs) → AllFit es
-all_fit (Ok fs) es q h = by_overlap (first_overlap 1 [] fs) q
-  where
-    by_overlap : (o : Option ℕ) → (let s : Result (List Edit) InEdit = elim o [ None ↦ Ok fs | Some n ↦ Err (in_edit Overlap n) ] in s ≡ Ok es) → AllFit es
-    by_overlap None g = all_is fs es (ok_is _ _ g) (h fs refl)
-    by_overlap (Some n) g = absurd cc
-all_fit (Err u) es q h = absurd cc
+  words_have : (n : ℕ) (words : List (List ℕ)) (es : List Edit) → meant_from n words ≡ Ok es → AllHave P es
+  words_have n [] es q = all_is [] es (ok_is _ _ q) tt
+  words_have n (w ∷ []) es q = one_word (option_word w) n es (in_turn (nat_lt EDIT_LIMIT n) (in_edit TooMany n) _ es q)
+  words_have n (w ∷ v ∷ words) es q =
+      two_words (option_word w) n v _ _ es (words_have (suc n) (v ∷ words)) (words_have (suc n) words) (in_turn (nat_lt EDIT_LIMIT n) (in_edit TooMany n) _ es q)
 
-all_of : (es : List Edit) → AllFit es → HaveValues es × HaveShortIndexes es × AreWithin 64 es
+  all_have : (r : Result (List Edit) InEdit) (es : List Edit) → (let s : Result (List Edit) InEdit = elim r [ Ok fs ↦ apart fs | Err u ↦ Err u ] in s ≡ Ok es)
+      → ((fs : List Edit) → r ≡ Ok fs → AllHave P fs) → AllHave P es
+  all_have (Ok fs) es q h = by_overlap (first_overlap 1 [] fs) q
+    where
+      by_overlap : (o : Option ℕ) → (let s : Result (List Edit) InEdit = elim o [ None ↦ Ok fs | Some n ↦ Err (in_edit Overlap n) ] in s ≡ Ok es) → AllHave P es
+      by_overlap None g = all_is fs es (ok_is _ _ g) (h fs refl)
+      by_overlap (Some n) g = absurd cc
+  all_have (Err u) es q h = absurd cc
+
+  pub all_edits_have : (words : List (List ℕ)) (es : List Edit) → meant_edits words ≡ Ok es → AllHave P es
+  all_edits_have words es q = all_have (meant_from 1 words) es q (words_have 1 words)
+
+all_of : (es : List Edit) → AllHave Fits es → HaveValues es × HaveShortIndexes es × AreWithin 64 es
 all_of [] h = (tt, tt, tt)
 all_of (e ∷ es) h = let more = all_of es h.1 in ((h.0.0, more.0), (h.0.1, more.1), (h.0.2, more.2))
 
 -- the law
 pub edits_fit : (words : List (List ℕ)) (es : List Edit) → meant_edits words ≡ Ok es → HaveValues es × HaveShortIndexes es × AreWithin 64 es
-edits_fit words es q = all_of es (all_fit (meant_from 1 words) es q (words_fit 1 words))
+edits_fit words es q = all_of es (all_edits_have Fits (tt, tt, omega arith) edit_fits words es q)

@@ -1,13 +1,15 @@
 //! Laws of the definitions. Each function takes nothing and makes no call: its contract is the law.
-ghost use Rattle.std.specs.Prelude.{◌≡◌, ◌≤◌, ℕ, List, length, Ok, false, fold, map};
+ghost use Rattle.std.specs.Prelude.{◌≡◌, ◌+◌, ◌≤◌, ℕ, List, length, Ok, false, fold, map};
 ghost use Rattle.dcm_base.specs.Ascending.{FrontAscends};
 ghost use Rattle.dcm_base.specs.Atoms.{Atom, Shows, front_atoms, is_closed};
-ghost use Rattle.dcm_base.specs.Bars.{ascending_bar};
+ghost use Rattle.dcm_base.specs.Bars.{ascending_bar, target_bar};
 ghost use Rattle.dcm_base.specs.Front.{Front};
+ghost use Rattle.dcm_base.specs.Normal.{normal_front};
+ghost use Rattle.dcm_base.specs.Number.{AreBytes};
 ghost use Rattle.dcm_base.specs.Reads.{INPUT_LIMIT, Reads, ended};
 ghost use Rattle.dcm_base.specs.Recode.{recode};
 ghost use Rattle.dcm_base.specs.Steps.{outputs};
-ghost use Rattle.dcm_base.specs.Stop.{Stop};
+ghost use Rattle.dcm_base.specs.Stop.{Stop, complete};
 ghost use Rattle.dcm_base.specs.declared.length.Length.{Length};
 ghost use Rattle.dcm_base.specs.declared.syntax.Syntax.{Syntax};
 ghost use Rattle.dcm_base.specs.declared.tag.Tag.{Tag};
@@ -70,4 +72,10 @@ pub fn edits_fit()
 pub fn edit_reads()
     ensures whole { (target : Syntax) (edits : List Edit) → AreApart edits → ArePublic edits → HaveValues edits → HaveShortIndexes edits → AreWithin 64 edits → (s : Syntax) (start : ℕ) (bytes : List ℕ) (f : Front) (stop : Stop) → start ≤ INPUT_LIMIT → Reads ascending_bar s start bytes f stop → (outputs encode_step encode_writes (encode_start target) (outputs next passed (begun edits) (front_atoms s f)) ≡ recode target (edited edits f)) × ((fold next (begun edits) (front_atoms s f)).found ≡ map (λ e. found e f) edits) }
     ensures so_far { (target : Syntax) (edits : List Edit) → AreApart edits → ArePublic edits → HaveValues edits → HaveShortIndexes edits → AreWithin 64 edits → (s : Syntax) (start : ℕ) (bytes : List ℕ) (f : Front) (stop : Stop) → start ≤ INPUT_LIMIT → is_closed f ≡ false → Reads ascending_bar s start bytes (ended stop f) stop → (outputs encode_step encode_writes (encode_start target) (outputs next passed (begun edits) (front_atoms s f)) ≡ recode target (edited edits f)) × ((fold next (begun edits) (front_atoms s f)).found ≡ map (λ e. found e f) edits) }
+{}
+
+/// What is written of a data set that was read without fault, as the edits of a command line leave it, reads back without fault,
+/// in the syntax of the input, as the normal form of the edited data set.
+pub fn edited_reads()
+    ensures { (words : List (List ℕ)) (edits : List Edit) → meant_edits words ≡ Ok edits → (s : Syntax) (start : ℕ) (bytes : List ℕ) (f : Front) → start ≤ INPUT_LIMIT → AreBytes bytes → Reads ascending_bar s start bytes f complete → (at : ℕ) → at + length (recode s (edited edits f)) ≤ INPUT_LIMIT → Reads (target_bar s) s at (recode s (edited edits f)) (normal_front s (edited edits f)) complete }
 {}

@@ -13,7 +13,7 @@ use Rattle.dcm_base.specs.declared.length.Length.TheVariants.{Undefined}
 use Rattle.dcm_base.specs.Tree.{Trees}
 use Rattle.dcm_base.specs.Front.{Front, front, OpenTree, nothing_open, open_leaf, open_sequence, open_fragments}
 use Rattle.dcm_base.specs.Number.{AreBytes}
-use Rattle.dcm_base.specs.Spelling.{form, TreesAt, SpellsFront}
+use Rattle.dcm_base.specs.Spelling.{form, last_tag, TreesAt, SpellsFront}
 use Rattle.dcm_base.specs.declared.level.Container.TheVariants.{DataSet as the_data_set}
 use Rattle.dcm_base.specs.Place.{depth}
 use Rattle.dcm_base.specs.Stop.{Stop, complete, refused, Bar, HeadBar, is_empty}
@@ -197,18 +197,38 @@ module _ (target : Syntax) (at : ℕ) (set : Trees) (limit : at + length (recode
 
 -- ---- the laws
 
-whole_recodes : (target : Syntax) (set : Trees) → recode target (whole_front set) ≡ recode_set target set
+-- a data set in which nothing is open
+set_recodes : (target : Syntax) (set : Trees) (reached : Option Tag) (closed : Bool) → recode target (front set nothing_open reached closed) ≡ recode_set target set
 unfolding recode
-whole_recodes target set = append-nil (recode_set target set)
+set_recodes target set reached closed = append-nil (recode_set target set)
+
+whole_recodes : (target : Syntax) (set : Trees) → recode target (whole_front set) ≡ recode_set target set
+whole_recodes target set = set_recodes target set (last_tag None set) true
+
+-- f is whole, and the target has room for it
+pub record IsReady (target : Syntax) (f : Front) : Type 0 where
+  pub trees : Trees
+  pub is : f ≡ whole_front trees
+  pub ready : Ready target 0 trees
+
+pub read_ready : (target s : Syntax) (start : ℕ) (bytes : List ℕ) (f : Front) → start ≤ INPUT_LIMIT → AreBytes bytes → Reads (target_bar target) s start bytes f complete → FrontFits target f → IsReady target f
+read_ready target s start bytes f le are reads fits =
+    let w = source_whole target s start bytes f le are reads in
+    record { trees = w.trees; is = w.is; ready = source_ready target s start bytes f le are reads (subst (FrontFits target) w.is fits) }
+
+-- what is written of it reads back
+pub ready_reads : (target : Syntax) (at : ℕ) (set : Trees) (reached : Option Tag) (closed : Bool) → at + length (recode target (front set nothing_open reached closed)) ≤ INPUT_LIMIT → Ready target 0 set
+    → Reads (target_bar target) target at (recode target (front set nothing_open reached closed)) (whole_front (normal target set)) complete
+ready_reads target at set reached closed limit ready =
+    let same : recode target (front set nothing_open reached closed) ≡ recode_set target set = set_recodes target set reached closed in
+    subst (λ (x : List ℕ). Reads (target_bar target) target at x (whole_front (normal target set)) complete) (sym same)
+    (target_reads target at set (subst (λ (x : List ℕ). at + length x ≤ INPUT_LIMIT) same limit) ready)
 
 pub recode_reads : (target s : Syntax) (start at : ℕ) (bytes : List ℕ) (f : Front) → Converts target s start at bytes f → Reads (target_bar target) target at (recode target f) (normal_front target f) complete
 recode_reads target s start at bytes f h =
-    let w = source_whole target s start bytes f h.begins h.are_bytes h.reads in
-    let same : recode target f ≡ recode_set target w.trees = ap (recode target) w.is ∙ whole_recodes target w.trees in
-    let ready = source_ready target s start bytes f h.begins h.are_bytes h.reads (subst (FrontFits target) w.is h.fits) in
-    let read = target_reads target at w.trees (subst (λ (x : List ℕ). at + length x ≤ INPUT_LIMIT) same h.within) ready in
-    subst (λ (x : List ℕ). Reads (target_bar target) target at x (normal_front target f) complete) (sym same)
-    (subst (λ (x : Front). Reads (target_bar target) target at (recode_set target w.trees) (normal_front target x) complete) (sym w.is) read)
+    let r = read_ready target s start bytes f h.begins h.are_bytes h.reads h.fits in
+    let limit : at + length (recode target (whole_front r.trees)) ≤ INPUT_LIMIT = subst (λ (x : Front). at + length (recode target x) ≤ INPUT_LIMIT) r.is h.within in
+    subst (λ (x : Front). Reads (target_bar target) target at (recode target x) (normal_front target x) complete) (sym r.is) (ready_reads target at r.trees (last_tag None r.trees) true limit r.ready)
 
 pub recode_twice : (target s : Syntax) (start at : ℕ) (bytes : List ℕ) (f g : Front) (stop : Stop) → Converts target s start at bytes f → Reads (target_bar target) target at (recode target f) g stop → (stop ≡ complete) × (recode target g ≡ recode target f)
 recode_twice target s start at bytes f g stop h again =

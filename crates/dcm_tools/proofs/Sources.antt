@@ -104,12 +104,12 @@ unfolding form
 explicit_value s vr n m true h = refl
 explicit_value s vr n m false h = value_of s vr n m h
 
-target_value : (target s : Syntax) (t : Tag) (vr : Vr) (n : ℕ) → form s vr (Known n) ≡ a_value → TellsValue target t → form target (normal_vr target t vr n) (Known (even n)) ≡ a_value
+pub target_value : (target s : Syntax) (t : Tag) (vr : Vr) (n : ℕ) → form s vr (Known n) ≡ a_value → TellsValue target t → form target (normal_vr target t vr n) (Known (even n)) ≡ a_value
 target_value Implicit s t vr n fo tells = value_of Implicit (dict_vr t) n (even n) tells
 target_value Little s t vr n fo tells = explicit_value Little vr n (even n) (too_long Little vr n) (no_sequence s vr n fo)
 target_value Big s t vr n fo tells = explicit_value Big vr n (even n) (too_long Big vr n) (no_sequence s vr n fo)
 
-target_sequence : (target : Syntax) (t : Tag) → TellsSequence target t → form target (normal_sequence_vr target t) Undefined ≡ a_sequence
+pub target_sequence : (target : Syntax) (t : Tag) → TellsSequence target t → form target (normal_sequence_vr target t) Undefined ≡ a_sequence
 unfolding form
 target_sequence Implicit t tells = tells
 target_sequence Little t tells = refl
