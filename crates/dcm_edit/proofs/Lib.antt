@@ -62,3 +62,4 @@ pub mod StaysReady
 pub mod KnownTags
 pub mod WordsReady
 pub mod EditedReads
+pub mod Skips

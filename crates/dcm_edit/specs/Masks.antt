@@ -1,5 +1,5 @@
 -- The edits that ask something of an open data set, as a mask of the edits of the command line.
-use Rattle.std.specs.Prelude.{◌≡◌, ℕ, zero, suc, min, List, [], ◌∷◌, length, Option, Some, None, Bool, true, false, ◌&&◌, ◌==◌, if◌then◌else◌}
+use Rattle.std.specs.Prelude.{◌≡◌, ◌⊎◌, ℕ, zero, suc, min, List, [], ◌∷◌, length, Option, Some, None, Bool, true, false, ◌&&◌, ◌==◌, if◌then◌else◌}
 use Rattle.std.specs.Int.{bit_at}
 use Rattle.dcm_base.specs.declared.tag.Tag.{Tag}
 use Rattle.dcm_base.specs.Tag.{same_tag}
@@ -32,6 +32,11 @@ at_depth depth elsewhere = elsewhere
 abbrev pub asked : ℕ → ℕ → ℕ → List Edit → List Edit
 asked depth mask k [] = []
 asked depth mask k (e ∷ es) = (if is_set mask k then at_depth depth e else elsewhere) ∷ asked depth mask (suc k) es
+
+-- from number k on, the mask lacks the edits up to number j, and these are left then
+abbrev pub Skips : ℕ → ℕ → List Edit → ℕ → List Edit → Type 0
+Skips mask k [] j left = (j ≡ k) × (left ≡ [])
+Skips mask k (e ∷ es) j left = ((j ≡ k) × (left ≡ e ∷ es)) ⊎ ((is_set mask k ≡ false) × Skips mask (suc k) es j left)
 
 -- whether an edit goes along into item n of the sequence with this tag
 abbrev pub goes_along : Edit → Tag → ℕ → Bool

@@ -1,5 +1,5 @@
 // Which edits of a command line ask something of an open data set, as a mask: bit k for edit k, counted from 0.
-ghost use Rattle.std.specs.Prelude.{◌≡◌, ◌≢◌, ◌<◌, ◌≤◌, ◌^◌, ℕ, length, map, not, true, false, Some};
+ghost use Rattle.std.specs.Prelude.{◌≡◌, ◌≢◌, ◌<◌, ◌≤◌, ◌+◌, ◌^◌, ℕ, length, map, not, true, false, Some};
 ghost use Rattle.dcm_edit.specs.Edit as spec;
 ghost use Rattle.dcm_edit.specs.Asking as asking;
 ghost use Rattle.dcm_edit.specs.Masks as masks;
@@ -40,6 +40,41 @@ pub fn all(count: usize) -> u64
     (1 << count) - 1
 }
 
+/// The edits from a number on.
+#[derive(Clone, Copy)]
+struct Rest<'e> {
+    edits: &'e [Edit],
+    place: usize,
+}
+
+/// The edits from the first one on that the mask has.
+fn rest_of(edits: &[Edit], mask: u64, place: usize) -> Rest<'_>
+    requires few { place + length edits.now ≤ 64 }
+    ensures few { result.place + length result.edits.now ≡ place + length edits.now }
+    ensures fewer { length result.edits.now ≤ length edits.now }
+    ensures skips { masks.Skips mask place (map edit_of edits.now) result.place (map edit_of result.edits.now) }
+{
+    if edits.is_empty() {
+        return Rest { edits, place };
+    }
+    let lacking = (mask >> place).trailing_zeros() as usize;
+    let skipped = lacking.min(edits.len());
+    let (_, left) = edits.split_at(skipped);
+    Rest {
+        edits: left,
+        place: place + skipped,
+    }
+}
+
+/// The answer of an edit, if the mask has it.
+fn says_yes(edit: &Edit, depth: usize, mask: u64, place: usize, question: Question) -> bool
+    requires place { place < 64 }
+    requires depth { depth < 2 ^ 32 }
+    ensures { result ≡ asking.answer_of question (asking.asked_one depth mask place (edit_of edit.now)) }
+{
+    is_set(mask, place) && answers(edit, depth, question)
+}
+
 /// The answers so far, and that of one more edit, if the mask has it.
 fn with_answer(
     yes: u64,
@@ -55,7 +90,7 @@ fn with_answer(
     ensures here { masks.is_set result place ≡ asking.answer_of question (asking.asked_one depth mask place (edit_of edit.now)) }
     ensures others { (k : ℕ) → k ≢ place → masks.is_set result k ≡ masks.is_set yes k }
 {
-    if is_set(mask, place) && answers(edit, depth, question) {
+    if says_yes(edit, depth, mask, place, question) {
         return with_bit(yes, place);
     }
     yes
@@ -68,30 +103,27 @@ pub fn answering(edits: &[Edit], depth: usize, mask: u64, question: Question) ->
     ensures { masks.bits result 0 (map edit_of edits.now) ≡ map (asking.answer_of question) (masks.asked depth mask 0 (map edit_of edits.now)) }
 {
     let mut yes = 0;
-    let mut place = 0;
-    let mut rest = edits;
-    while let Some((edit, after)) = rest.split_first() {
-        yes = with_answer(yes, edit, depth, mask, place, question);
-        place += 1;
-        rest = after;
+    let mut rest = rest_of(edits, mask, 0);
+    while let Some((edit, after)) = rest.edits.split_first() {
+        yes = with_answer(yes, edit, depth, mask, rest.place, question);
+        rest = rest_of(after, mask, rest.place + 1);
     }
     yes
 }
 
 /// Whether an edit of a mask answers yes.
+#[tactic(auto, using(crate::proofs::Skips::any_skips, crate::proofs::Skips::any_next))]
 pub fn any_answers(edits: &[Edit], depth: usize, mask: u64, question: Question) -> bool
     requires few { length edits.now ≤ 64 }
     requires depth { depth < 2 ^ 32 }
     ensures { result ≡ asking.any_answer question (masks.asked depth mask 0 (map edit_of edits.now)) }
 {
-    let mut place = 0;
-    let mut rest = edits;
-    while let [edit, after @ ..] = rest {
-        if is_set(mask, place) && answers(edit, depth, question) {
+    let mut rest = rest_of(edits, mask, 0);
+    while let Some((edit, after)) = rest.edits.split_first() {
+        if says_yes(edit, depth, mask, rest.place, question) {
             return true;
         }
-        place += 1;
-        rest = after;
+        rest = rest_of(after, mask, rest.place + 1);
     }
     false
 }
@@ -108,20 +140,19 @@ fn fate_in(edit: &Edit, depth: usize, mask: u64, place: usize, tag: Tag) -> Fate
 }
 
 /// What the first edit of a mask that changes an element makes of it.
+#[tactic(auto, using(crate::proofs::Skips::fate_skips, crate::proofs::Skips::fate_next))]
 pub fn first_fate(edits: &[Edit], depth: usize, mask: u64, tag: Tag) -> Fate<'_>
     requires few { length edits.now ≤ 64 }
     ensures { asking.fate_of result ≡ together.first_fate (masks.asked depth mask 0 (map edit_of edits.now)) tag }
 {
-    let mut place = 0;
-    let mut rest = edits;
-    while let [edit, after @ ..] = rest {
-        match fate_in(edit, depth, mask, place, tag) {
+    let mut rest = rest_of(edits, mask, 0);
+    while let Some((edit, after)) = rest.edits.split_first() {
+        match fate_in(edit, depth, mask, rest.place, tag) {
             Fate::Stays => {}
             Fate::Becomes(element) => return Fate::Becomes(element),
             Fate::Goes => return Fate::Goes,
         }
-        place += 1;
-        rest = after;
+        rest = rest_of(after, mask, rest.place + 1);
     }
     Fate::Stays
 }
@@ -151,19 +182,18 @@ fn new_in(edit: &Edit, depth: usize, mask: u64, place: usize, gap: Gap) -> Optio
 }
 
 /// The new element with the least tag in a gap, of the edits of a mask.
+#[tactic(auto, using(crate::proofs::Skips::least_skips, crate::proofs::Skips::least_next))]
 pub fn least_new(edits: &[Edit], depth: usize, mask: u64, gap: Gap) -> Option<New<'_>>
     requires few { length edits.now ≤ 64 }
     ensures { asking.seen_of result ≡ asking.least_new gap asking.nothing_new (masks.asked depth mask 0 (map edit_of edits.now)) }
 {
     let mut least = None;
-    let mut place = 0;
-    let mut rest = edits;
-    while let [edit, after @ ..] = rest {
-        if let Some(new) = new_in(edit, depth, mask, place, gap) {
+    let mut rest = rest_of(edits, mask, 0);
+    while let Some((edit, after)) = rest.edits.split_first() {
+        if let Some(new) = new_in(edit, depth, mask, rest.place, gap) {
             least = Some(lesser(least, new));
         }
-        place += 1;
-        rest = after;
+        rest = rest_of(after, mask, rest.place + 1);
     }
     least
 }

@@ -1,20 +1,35 @@
-use Rattle.std.proofs.Common.{subst, List, map, arith}
+use Rattle.std.proofs.Common.{subst, ℕ, ◌+◌, List, map, arith}
 use Rattle.dcm_edit.specs.declared.edit.Edit.{Edit}
 use Rattle.dcm_edit.specs.Asking as asking
 use Rattle.dcm_edit.specs.Meaning.{edit_of}
 use Rattle.dcm_edit.proofs.Bits.{SoFar, goes_on, high_on}
+use Rattle.dcm_edit.proofs.Skips.{none_set, high_skips, so_far_skips}
 use Rattle.dcm_edit.proofs.mask.answering.Goals as goal
+
+pub loop-edit-init : goal.loop-edit-init
+loop-edit-init c =
+    let all = map edit_of c.args.edits.now in
+    let few = c.rest_of-rest.ensures.few in
+    record {
+      few = omega (arith, few);
+      high = λ k l. none_set k;
+      right = so_far_skips c.args.question c.args.depth c.args.mask all 0 0 all _ _ c.rest_of-rest.ensures.skips (λ i l. none_set i) (λ final agrees right. right);
+    }
 
 pub loop-edit-preserved : goal.loop-edit-preserved
 loop-edit-preserved c =
     let split = c.in-Some.ensures.cases in
     let answer = asking.answer_of c.args.question in
     let all = map edit_of c.args.edits.now in
-    let before = subst (λ (l : List Edit). SoFar answer c.args.depth c.args.mask all c.loop-edit.yes c.loop-edit.place (map edit_of l)) split.0 c.loop-edit.invariant.right in
+    let place = c.loop-edit.rest.place in
+    let before = subst (λ (l : List Edit). SoFar answer c.args.depth c.args.mask all c.loop-edit.yes place (map edit_of l)) split.0 c.loop-edit.invariant.right in
+    let high = high_on answer c.args.depth c.args.mask all c.loop-edit.yes c.with_answer-yes.result place c.loop-edit.invariant.high c.with_answer-yes.ensures.others in
+    let after = goes_on answer c.args.depth c.args.mask all c.loop-edit.yes c.with_answer-yes.result place _ _ before c.with_answer-yes.ensures.here c.with_answer-yes.ensures.others in
     let few = c.loop-edit.invariant.few in
     let size = split.1 in
+    let left = c.rest_of-rest-in-Some.ensures.few in
     record {
-      few = omega (arith, few, size);
-      high = high_on answer c.args.depth c.args.mask all c.loop-edit.yes c.with_answer-yes.result c.loop-edit.place c.loop-edit.invariant.high c.with_answer-yes.ensures.others;
-      right = goes_on answer c.args.depth c.args.mask all c.loop-edit.yes c.with_answer-yes.result c.loop-edit.place _ _ before c.with_answer-yes.ensures.here c.with_answer-yes.ensures.others;
+      few = omega (arith, few, size, left);
+      high = high_skips c.args.mask c.with_answer-yes.result (place + 1) _ _ _ c.rest_of-rest-in-Some.ensures.skips high;
+      right = so_far_skips c.args.question c.args.depth c.args.mask all c.with_answer-yes.result (place + 1) _ _ _ c.rest_of-rest-in-Some.ensures.skips high after;
     }

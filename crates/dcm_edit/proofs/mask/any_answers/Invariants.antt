@@ -5,11 +5,11 @@ use Rattle.dcm_edit.specs.Meaning.{edit_of}
 use Rattle.dcm_edit.proofs.mask.any_answers.Given as goal
 
 -- no edit so far answers yes
-abbrev pub invariant-loop-rest : goal.invariant-loop-rest
-invariant-loop-rest l = record {
-  few : l.place + length l.rest ≡ length l.edits;
-  same : asking.any_answer l.fn.question (masks.asked l.fn.depth l.fn.mask l.place (map edit_of l.rest)) ≡ asking.any_answer l.fn.question (masks.asked l.fn.depth l.fn.mask 0 (map edit_of l.edits));
+abbrev pub invariant-loop-edit : goal.invariant-loop-edit
+invariant-loop-edit l = record {
+  few : l.rest.place + length l.rest.edits.now ≡ length l.edits;
+  same : asking.any_answer l.fn.question (masks.asked l.fn.depth l.fn.mask l.rest.place (map edit_of l.rest.edits.now)) ≡ asking.any_answer l.fn.question (masks.asked l.fn.depth l.fn.mask 0 (map edit_of l.edits));
 }
 
-abbrev pub decreases-loop-rest : goal.decreases-loop-rest
-decreases-loop-rest l = length l.rest
+abbrev pub decreases-loop-edit : goal.decreases-loop-edit
+decreases-loop-edit l = length l.rest.edits.now
