@@ -1,0 +1,34 @@
+#!/usr/bin/env bash
+# Runs every block of docs/COOKBOOK.md that is marked `sh`, each in a folder of its own with a small tree of files.
+#   scripts/try_cookbook.sh [BINARY]
+set -u
+here=$(cd "$(dirname "$0")/.." && pwd)
+binary=$(readlink -f "${1:-$here/crates/dcmtools/out/dcmtools}")
+room=$(mktemp -d)
+trap 'rm -rf "$room"' EXIT
+mkdir "$room/bin" "$room/blocks"
+ln -s "$binary" "$room/bin/dcmtools"
+export PATH="$room/bin:$PATH"
+
+# one file a block
+awk -v room="$room/blocks" '/^```sh$/ { n++; inside = 1; next } /^```/ { inside = 0 } inside { print > (room "/" sprintf("%02d", n) ".sh") }' \
+    "$here/docs/COOKBOOK.md"
+
+failed=0
+for block in "$room"/blocks/*.sh; do
+    name=$(basename "$block" .sh)
+    work="$room/work-$name"
+    mkdir -p "$work/in/deeper"
+    cp "$here/examples/name.dcm" "$work/scan.dcm"
+    cp "$here/examples/name.dcm" "$work/in/one.dcm"
+    cp "$here/examples/name.dcm" "$work/in/deeper/two.dcm"
+    if (cd "$work" && bash "$block") > "$work/stdout" 2> "$work/stderr"; then
+        echo "block $name: ok"
+    else
+        echo "block $name: FAILED with status $?"
+        sed 's/^/    /' "$block" "$work/stdout" "$work/stderr"
+        failed=$((failed + 1))
+    fi
+done
+echo "$failed failed"
+[ $failed -eq 0 ]
