@@ -1,21 +1,18 @@
 -- What is read where tags must ascend, and is not refused for their order, is read the same where nothing is barred.
-use Rattle.std.proofs.Common.{◌≡◌, ◌≢◌, ◌∙◌, ap, sym, subst, ℕ, List, [], ◌∷◌, ◌++◌, length, drop, take, Option, Some, None, Bool, true, false, not, refl, inl, inr, ◌⊎◌}
-use Rattle.std.specs.Prelude.{◌+◌, ◌-◌, ◌==◌, ◌&&◌, nat_le, nat_lt, if◌then◌else◌}
-use Rattle.dcm_base.specs.declared.tag.Tag.{Tag}
+use Rattle.std.proofs.Common.{◌≡◌, ◌≢◌, ◌∙◌, ap, sym, ℕ, List, [], ◌∷◌, length, drop, Option, Some, None, Bool, true, false, not, refl, inl, inr, ◌⊎◌}
+use Rattle.std.specs.Prelude.{◌+◌, ◌==◌, ◌&&◌, nat_le, nat_lt, if◌then◌else◌}
 use Rattle.dcm_base.specs.declared.vr.Vr.{Vr}
 use Rattle.dcm_base.specs.declared.syntax.Syntax.{Syntax}
 use Rattle.dcm_base.specs.declared.level.Level.{Level}
-use Rattle.dcm_base.specs.declared.fault.Fault.{Fault}
-use Rattle.dcm_base.specs.declared.fault.Fault.TheVariants.{EndsEarly, NotAscending, PassesEnd, TagNotAllowed, TooDeep, TooLong, UndefinedLength, UnknownRepresentation}
-use Rattle.dcm_base.specs.declared.length.Length.{Length}
+use Rattle.dcm_base.specs.declared.fault.Fault.TheVariants.{EndsEarly, NotAscending, PassesEnd, TooDeep, UndefinedLength}
 use Rattle.dcm_base.specs.Bars.{ascending_bar, innermost_reached, no_bar}
 use Rattle.dcm_base.specs.Front.{Front}
 use Rattle.dcm_base.specs.Head.{head_size, tag_at, vr_at, length_at, long_length}
 use Rattle.dcm_base.specs.Number.{number}
-use Rattle.dcm_base.specs.Place.{depth, is_allowed, passes, room, levels, value_open}
-use Rattle.dcm_base.specs.Reads.{INPUT_LIMIT, Reads, StopsFirst, end_too_long, at_the_cut, told}
-use Rattle.dcm_base.specs.Spelling.{SpellsFront, form}
-use Rattle.dcm_base.specs.Stop.{Stop, complete, refused, is_empty, is_the_data_set, barred, opens_list, with_length, first_case, has_no_form, element_cases, element_stop, item_stop, head_stop, place_stop, innermost_stop, value_stop, stop_at, or_else}
+use Rattle.dcm_base.specs.Place.{depth, passes, room, levels, value_open}
+use Rattle.dcm_base.specs.Reads.{INPUT_LIMIT, Reads, at_the_cut, told}
+use Rattle.dcm_base.specs.Spelling.{form}
+use Rattle.dcm_base.specs.Stop.{Stop, refused, barred, opens_list, with_length, first_case, has_no_form, element_stop, item_stop, head_stop, innermost_stop, value_stop, stop_at, or_else}
 use Rattle.dcm_base.specs.Tag.{is_above, is_item}
 
 -- with the bar, the same stop, or one for the order of tags where there is none without it

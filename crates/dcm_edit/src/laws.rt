@@ -75,7 +75,7 @@ pub fn edit_reads()
 {}
 
 /// What is written of a data set that was read without fault, as the edits of a command line leave it, reads back without fault,
-/// in the syntax of the input, as the normal form of the edited data set.
+/// in the syntax of the input, as the normal form of the edited data set, where it ends within the limit of an input.
 pub fn edited_reads()
     ensures { (words : List (List ℕ)) (edits : List Edit) → meant_edits words ≡ Ok edits → (s : Syntax) (start : ℕ) (bytes : List ℕ) (f : Front) → start ≤ INPUT_LIMIT → AreBytes bytes → Reads ascending_bar s start bytes f complete → (at : ℕ) → at + length (recode s (edited edits f)) ≤ INPUT_LIMIT → Reads (target_bar s) s at (recode s (edited edits f)) (normal_front s (edited edits f)) complete }
 {}
