@@ -63,3 +63,6 @@ pub mod KnownTags
 pub mod WordsReady
 pub mod EditedReads
 pub mod Skips
+pub mod Everywhere
+pub mod Gone
+pub mod Others

@@ -13,3 +13,6 @@ pub mod Parts
 pub mod Making
 pub mod Through
 pub mod Sound
+pub mod Modification
+pub mod Everywhere
+pub mod Others

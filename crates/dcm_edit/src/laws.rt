@@ -1,11 +1,10 @@
 //! Laws of the definitions. Each function takes nothing and makes no call: its contract is the law.
-ghost use Rattle.std.specs.Prelude.{◌≡◌, ◌+◌, ◌≤◌, ℕ, List, length, Ok, false, fold, map};
+ghost use Rattle.std.specs.Prelude.{◌≡◌, ◌≤◌, ℕ, List, length, Ok, false, fold, map};
 ghost use Rattle.dcm_base.specs.Ascending.{FrontAscends};
 ghost use Rattle.dcm_base.specs.Atoms.{Atom, Shows, front_atoms, is_closed};
-ghost use Rattle.dcm_base.specs.Bars.{ascending_bar, target_bar};
+ghost use Rattle.dcm_base.specs.Bars.{ascending_bar};
 ghost use Rattle.dcm_base.specs.Front.{Front};
 ghost use Rattle.dcm_base.specs.Normal.{normal_front};
-ghost use Rattle.dcm_base.specs.Number.{AreBytes};
 ghost use Rattle.dcm_base.specs.Reads.{INPUT_LIMIT, Reads, ended};
 ghost use Rattle.dcm_base.specs.Recode.{recode};
 ghost use Rattle.dcm_base.specs.Steps.{outputs};
@@ -17,9 +16,12 @@ ghost use Rattle.dcm_base.specs.declared.vr.Vr.{Vr};
 ghost use Rattle.dcm_stream.specs.Driven.{bars_by};
 ghost use Rattle.dcm_tools.specs.EncodeSink.{encode_start, encode_step, encode_writes};
 ghost use Rattle.dcm_tools.specs.Laws.{StaysShallow};
-ghost use Rattle.dcm_edit.specs.Edit.{Edit, edited, found};
+ghost use Rattle.dcm_edit.specs.Edit.{Edit, edited, erase_all, erase_private, found, modify_all};
 ghost use Rattle.dcm_edit.specs.EditSink.{AreWithin, HaveShortIndexes, HaveValues, begun, edit_bar, next, passed, reached_anew};
 ghost use Rattle.dcm_edit.specs.EditWords.{meant_edits};
+ghost use Rattle.dcm_edit.specs.Everywhere.{Among, EverywhereIn, IsOther, IsPublic, IsWrittenJust};
+ghost use Rattle.dcm_edit.specs.Modification.{Modifies, ReadsAgain};
+ghost use Rattle.dcm_edit.specs.Others.{any_changes, set_without};
 ghost use Rattle.dcm_edit.specs.Overlap.{AreApart, ArePublic};
 ghost use Rattle.dcm_edit.specs.Together.{together};
 
@@ -77,5 +79,27 @@ pub fn edit_reads()
 /// What is written of a data set that was read without fault, as the edits of a command line leave it, reads back without fault,
 /// in the syntax of the input, as the normal form of the edited data set, where it ends within the limit of an input.
 pub fn edited_reads()
-    ensures { (words : List (List ℕ)) (edits : List Edit) → meant_edits words ≡ Ok edits → (s : Syntax) (start : ℕ) (bytes : List ℕ) (f : Front) → start ≤ INPUT_LIMIT → AreBytes bytes → Reads ascending_bar s start bytes f complete → (at : ℕ) → at + length (recode s (edited edits f)) ≤ INPUT_LIMIT → Reads (target_bar s) s at (recode s (edited edits f)) (normal_front s (edited edits f)) complete }
+    ensures { (edits : List Edit) (s : Syntax) (at : ℕ) (f : Front) → Modifies edits s at f → ReadsAgain edits s at f (normal_front s (edited edits f)) complete }
+{}
+
+/// With `-ea` it reads back as a data set in which no element has the tag, at any depth.
+pub fn erased_all_is_gone()
+    ensures { (edits : List Edit) (s : Syntax) (at : ℕ) (f again : Front) (stop : Stop) (tag : Tag) → Modifies edits s at f → Among (erase_all tag) edits → ReadsAgain edits s at f again stop → (stop ≡ complete) × EverywhereIn (IsOther tag) again }
+{}
+
+/// With `-ep` no element of an odd group is left in it, at any depth.
+pub fn erased_private_is_gone()
+    ensures { (edits : List Edit) (s : Syntax) (at : ℕ) (f again : Front) (stop : Stop) → Modifies edits s at f → Among erase_private edits → ReadsAgain edits s at f again stop → (stop ≡ complete) × EverywhereIn IsPublic again }
+{}
+
+/// With `-ma` each element of the tag has the value in it, as it is written, at any depth.
+pub fn modified_all_is_so()
+    ensures { (edits : List Edit) (s : Syntax) (at : ℕ) (f again : Front) (stop : Stop) (tag : Tag) (vr : Vr) (value : List ℕ) → Modifies edits s at f → Among (modify_all tag vr value) edits → ReadsAgain edits s at f again stop → (stop ≡ complete) × EverywhereIn (IsWrittenJust s tag vr value) again }
+{}
+
+/// What no edit may change stays as it was: without the elements of the tags that edits may change, at every depth, the edited
+/// data set and the one that was read are the same. These are the last tag of each edit, each tag on the path of an `-i`, and with
+/// `-ep` those of odd groups.
+pub fn others_stay()
+    ensures { (edits : List Edit) (s : Syntax) (at : ℕ) (f : Front) → Modifies edits s at f → set_without (any_changes edits) (edited edits f) ≡ set_without (any_changes edits) f }
 {}

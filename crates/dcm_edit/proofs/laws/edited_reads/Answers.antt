@@ -2,4 +2,4 @@ use Rattle.dcm_edit.proofs.EditedReads.{edited_reads}
 use Rattle.dcm_edit.proofs.laws.edited_reads.Goals as goal
 
 pub returns : goal.returns
-returns c = edited_reads
+returns c = λ edits s at f h. edited_reads h.words edits h.mean s h.start h.bytes f h.begins h.are_bytes h.reads at h.within

@@ -1,0 +1,27 @@
+-- What the laws of a file that is written with edits speak of.
+use Rattle.std.specs.Prelude.{◌≡◌, ℕ, ◌+◌, ◌≤◌, List, length, Ok}
+use Rattle.dcm_base.specs.declared.syntax.Syntax.{Syntax}
+use Rattle.dcm_base.specs.Number.{AreBytes}
+use Rattle.dcm_base.specs.Front.{Front}
+use Rattle.dcm_base.specs.Stop.{Stop, complete}
+use Rattle.dcm_base.specs.Bars.{ascending_bar, target_bar}
+use Rattle.dcm_base.specs.Reads.{INPUT_LIMIT, Reads}
+use Rattle.dcm_base.specs.Recode.{recode}
+use Rattle.dcm_edit.specs.Edit.{Edit, edited}
+use Rattle.dcm_edit.specs.EditWords.{meant_edits}
+
+-- the edits are those that some words mean, the data set f is read without fault, its tags ascend, and what is written of it with
+-- the edits begins at an offset
+pub record Modifies (edits : List Edit) (s : Syntax) (at : ℕ) (f : Front) : Type 0 where
+  pub words : List (List ℕ)
+  pub mean : meant_edits words ≡ Ok edits
+  pub start : ℕ
+  pub begins : start ≤ INPUT_LIMIT
+  pub bytes : List ℕ
+  pub are_bytes : AreBytes bytes
+  pub reads : Reads ascending_bar s start bytes f complete
+  pub within : at + length (recode s (edited edits f)) ≤ INPUT_LIMIT
+
+-- what is written is read again, in the same syntax
+abbrev pub ReadsAgain : List Edit → Syntax → (at : ℕ) → Front → (again : Front) → Stop → Type 0
+ReadsAgain edits s at f again stop = Reads (target_bar s) s at (recode s (edited edits f)) again stop
