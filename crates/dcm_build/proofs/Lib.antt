@@ -8,6 +8,8 @@ pub mod BuildForms
 pub mod BuildStep
 pub mod BuildLines
 pub mod BuildRuns
+pub mod LinesTold
+pub mod Halts
 pub mod Nested
 pub mod GroupBytes
 pub mod Placed

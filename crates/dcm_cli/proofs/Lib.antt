@@ -19,3 +19,4 @@ pub mod Sures
 pub mod OneSource
 pub mod NoEdits
 pub mod DumpBuilds
+pub mod OneAnswer

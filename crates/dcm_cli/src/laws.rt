@@ -5,7 +5,18 @@ ghost use Rattle.dcm_cli.specs.DumpBuilds.{DumpBuilds};
 ghost use Rattle.dcm_cli.specs.NoEdits.{NoEditsConvert};
 ghost use Rattle.dcm_cli.specs.Run.{IsMeant};
 ghost use Rattle.dcm_words.specs.Plans.{job_of};
+ghost use Rattle.dcm_words.specs.Words as words;
 ghost use Rattle.std.specs.Prelude.{◌++◌, ◌≡◌, List, ℕ};
+
+/// A job has at most one answer to an input.
+pub fn answers_one()
+    ensures { (job : words.Job) (input : List ℕ) (a b : Answer) → Answers job input a → Answers job input b → a ≡ b }
+{}
+
+/// A job has an answer to each input, whatever its bytes are.
+pub fn answers_some()
+    ensures { (job : words.Job) (input : List ℕ) → (a : Answer) × Answers job input a }
+{}
 
 /// What is sure of a beginning of an input is a beginning of the output for every input that begins so. Edits are those that
 /// some words mean.

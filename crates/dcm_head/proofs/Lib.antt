@@ -15,3 +15,4 @@ pub mod Described
 pub mod Told
 pub mod Firsts
 pub mod Rewritten
+pub mod Halts

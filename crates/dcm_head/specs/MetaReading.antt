@@ -1,5 +1,5 @@
 -- The reading of a file's head, byte by byte.
-use Rattle.std.specs.Prelude.{◌≡◌, ◌+◌, ◌-◌, ◌≤◌, ◌<◌, ◌==◌, ◌⊎◌, ◌&&◌, ℕ, Bool, nat_lt, bytes_eq, List, [], ◌∷◌, ◌++◌, length, take, drop, Option, Some, None, Result, Ok, Err, if◌then◌else◌}
+use Rattle.std.specs.Prelude.{◌≡◌, ◌↔◌, ◌+◌, ◌-◌, ◌≤◌, ◌<◌, ◌==◌, ◌⊎◌, ◌&&◌, ℕ, Bool, false, nat_lt, bytes_eq, List, [], ◌∷◌, ◌++◌, length, take, drop, Option, Some, None, Result, Ok, Err, if◌then◌else◌, fold}
 use Rattle.dcm_base.specs.declared.tag.Tag.{Tag}
 use Rattle.dcm_base.specs.declared.fault.Fault.{Fault}
 use Rattle.dcm_base.specs.declared.fault.Fault.TheVariants.{EndsEarly, NoPrefix, NoTransferSyntax, Deflated}
@@ -13,7 +13,7 @@ use Rattle.dcm_head.specs.declared.meta_read.MetaRead.{MetaRead}
 use Rattle.dcm_head.specs.declared.meta_read.MetaRead.TheVariants as reads
 use Rattle.dcm_base.specs.Transfer.{without_pads, coding_of}
 use Rattle.dcm_base.specs.MetaGroup.{GroupPlace, an_element, the_end, too_few, a_fault, group_place}
-use Rattle.dcm_base.specs.MetaReads.{PREFIX, MetaAnswer, begins, refused}
+use Rattle.dcm_base.specs.MetaReads.{PREFIX, MetaAnswer, begins, refused, is_undecided}
 
 -- the bytes so far; where the element that comes begins; where the transfer syntax stands, 0 where it doesn't yet; how the reading ended
 pub record Reading : Type 0 where
@@ -149,3 +149,27 @@ abbrev pub Says : Reading → MetaAnswer → Type 0
 Says r (refused fault offset) = r.end ≡ Some (Refused (record { fault = fault; at = offset }))
 Says r (begins meta group coding) =
     (r.end ≡ Some (Ended coding)) × (r.place ≡ 132 + length group) × (take 128 r.bytes ≡ meta.preamble) × (group_of r ≡ group) × (uid_of r ≡ meta.uid)
+
+-- a reading after a call with a piece, where these bytes were fed before
+abbrev pub after_call : (before piece : List ℕ) → Reading
+after_call before piece = fold meta_step (fold meta_step at_start before) piece
+
+-- it has ended, with the data set after it or with a fault
+abbrev pub IsOver : Reading → Type 0
+IsOver r = (end : MetaEnd) × (r.end ≡ Some end)
+
+-- it has ended with this fault
+abbrev pub Refuses : Reading → Fault → ℕ → Type 0
+Refuses r fault offset = r.end ≡ Some (Refused (record { fault = fault; at = offset }))
+
+-- bytes are not undecided, where this is their answer
+abbrev pub IsDecided : List ℕ → MetaAnswer → Type 0
+IsDecided bytes answer = is_undecided (length bytes) answer ≡ false
+
+-- a call ends the reading exactly where the bytes before it and its piece are not undecided
+abbrev pub CallEnds : (before piece : List ℕ) → MetaAnswer → Type 0
+CallEnds before piece answer = IsOver (after_call before piece) ↔ IsDecided (before ++ piece) answer
+
+-- and with a fault exactly where it is the answer to them
+abbrev pub CallRefuses : (before piece : List ℕ) → MetaAnswer → Fault → ℕ → Type 0
+CallRefuses before piece answer fault offset = Refuses (after_call before piece) fault offset ↔ ((answer ≡ refused fault offset) × IsDecided (before ++ piece) answer)

@@ -1,5 +1,6 @@
 //! Laws of the definitions. Each function takes nothing and makes no call: its contract is the law.
 ghost use Rattle.std.specs.Prelude.{◌≡◌, ◌↔◌, ◌++◌, ℕ, List, IsTrue, Option, None, Some, option_to_list, length, drop, fold};
+ghost use Rattle.dcm_base.specs.declared.fault.Fault.{Fault};
 ghost use Rattle.dcm_base.specs.declared.syntax.Syntax.{Syntax};
 ghost use Rattle.dcm_head.specs.declared.head.Head.{Head};
 ghost use Rattle.dcm_head.specs.declared.head.HeadRead.TheVariants.{Done, More, BadVr};
@@ -8,7 +9,7 @@ ghost use Rattle.dcm_head.specs.HeadBytes.{HasSpelling, head_bytes};
 ghost use Rattle.dcm_head.specs.HeadRead.{head_read, Begins, IsShort, HasBadVr};
 ghost use Rattle.dcm_base.specs.MetaReads.{MetaAnswer, MetaReads, is_undecided};
 ghost use Rattle.dcm_head.specs.declared.meta_read.MetaEnd.{MetaEnd};
-ghost use Rattle.dcm_head.specs.MetaReading.{BeginsAt, Reading, Says, at_start, meta_step, meta_finished};
+ghost use Rattle.dcm_head.specs.MetaReading.{BeginsAt, CallEnds, CallRefuses, Reading, Says, at_start, meta_step, meta_finished};
 
 /// A head is read exactly where the bytes begin with its spelling, more bytes are asked for exactly where a head
 /// misses them, and a representation is refused exactly where it is not two capitals.
@@ -43,11 +44,14 @@ pub fn data_set_begins()
     ensures { (before piece : List ℕ) (place used : ℕ) (ahead : Option ℕ) → BeginsAt before place used ahead → drop place (before ++ piece) ≡ option_to_list ahead ++ drop used piece }
 {}
 
-/// The reading byte by byte ends with the answer to the whole, and goes on just as long as more bytes can change that.
+/// The reading byte by byte ends with the answer to the whole, and goes on just as long as more bytes can change that: a call ends
+/// it exactly where the bytes before it and its piece are not undecided, and with a fault exactly where that is their answer.
 pub fn meta_steps()
     ensures said { (file : List ℕ) (answer : MetaAnswer) → MetaReads file answer → Says (meta_finished (fold meta_step at_start file)) answer }
     ensures cuts { (r : Reading) (piece more : List ℕ) → fold meta_step r (piece ++ more) ≡ fold meta_step (fold meta_step r piece) more }
     ensures stays { (r : Reading) (end : MetaEnd) (piece : List ℕ) → r.end ≡ Some end → fold meta_step r piece ≡ r }
     ensures kept { (file : List ℕ) → (fold meta_step at_start file).end ≡ None → (fold meta_step at_start file).bytes ≡ file }
     ensures going { (file : List ℕ) (answer : MetaAnswer) → MetaReads file answer → IsTrue (is_undecided (length file) answer) ↔ ((fold meta_step at_start file).end ≡ None) }
+    ensures halts { (before piece : List ℕ) (answer : MetaAnswer) → MetaReads (before ++ piece) answer → CallEnds before piece answer }
+    ensures fault { (before piece : List ℕ) (answer : MetaAnswer) (fault : Fault) (offset : ℕ) → MetaReads (before ++ piece) answer → CallRefuses before piece answer fault offset }
 {}

@@ -9,6 +9,8 @@ pub mod Values
 pub mod Passing
 pub mod Stood
 pub mod Follow
+pub mod Halts
+pub mod ReadsSome
 pub mod Bounds
 pub mod Ascending
 pub mod Turned

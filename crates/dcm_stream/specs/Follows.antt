@@ -1,5 +1,5 @@
 -- What a machine has read.
-use Rattle.std.specs.Prelude.{◌≡◌, ◌↔◌, ◌⊎◌, ℕ, ◌+◌, ◌≤◌, List, ◌++◌, length, true, false, Some, None}
+use Rattle.std.specs.Prelude.{◌≡◌, ◌↔◌, ◌⊎◌, ℕ, ◌+◌, ◌≤◌, List, ◌++◌, length, true, false, Option, Some, None, fold}
 use Rattle.dcm_base.specs.declared.tag.Tag.{Tag}
 use Rattle.dcm_base.specs.declared.vr.Vr.{Vr}
 use Rattle.dcm_base.specs.declared.syntax.Syntax.{Syntax}
@@ -11,7 +11,7 @@ use Rattle.dcm_base.specs.Place.{levels}
 use Rattle.dcm_base.specs.Atoms.{Atom, Shows, front_atoms}
 use Rattle.dcm_base.specs.Stop.{Stop, Bar, HeadBar, refused}
 use Rattle.dcm_base.specs.Reads.{INPUT_LIMIT, Reads, ended}
-use Rattle.dcm_stream.specs.Reading.{Reading, finish, end_shows, is_early, is_early_bar, is_undecided, read_all}
+use Rattle.dcm_stream.specs.Reading.{Reading, finish, end_shows, is_early, is_early_bar, is_undecided, read_all, reads_byte}
 
 -- heads are barred by the atoms so far as by the data set that they show, and never with an early end
 pub record BarsAs (bars : List Atom → HeadBar) (bar : Bar) : Type 0 where
@@ -67,3 +67,25 @@ Answers bars bar s start bytes = Answered bar s start bytes (read_all bars s sta
 -- it is halted just where the end is decided
 abbrev pub HaltsWhereDecided : (List Atom → HeadBar) → Bar → Syntax → (start : ℕ) → List ℕ → Type 0
 HaltsWhereDecided bars bar s start bytes = ((read_all bars s start bytes).0.halt ≡ None) ↔ Undecided bar s start bytes
+
+-- by a fault
+abbrev pub IsRefused : Option Stop → Type 0
+IsRefused halt = (fault : Fault) × (offset : ℕ) × (halt ≡ Some (refused fault offset))
+
+-- if the input ended here, this fault would refuse it, and more bytes could not have changed that
+pub record RefusedHere (bar : Bar) (s : Syntax) (start : ℕ) (bytes : List ℕ) (fault : Fault) (offset : ℕ) : Type 0 where
+  pub f : Front
+  pub reads : Reads bar s start bytes f (refused fault offset)
+  pub decided : is_early fault ≡ false
+
+-- a machine after a call with a piece, where these bytes were fed before
+abbrev pub after_call : (List Atom → HeadBar) → Syntax → (start : ℕ) → (before piece : List ℕ) → Reading
+after_call bars s start before piece = (fold (reads_byte bars) (read_all bars s start before) piece).0
+
+-- the call halts with a fault exactly where the bytes before it and its piece are not undecided
+abbrev pub CallRefuses : (List Atom → HeadBar) → Bar → Syntax → (start : ℕ) → (before piece : List ℕ) → Type 0
+CallRefuses bars bar s start before piece = IsRefused (after_call bars s start before piece).halt ↔ (Undecided bar s start (before ++ piece) → ⊥)
+
+-- it is this fault exactly where this one refuses them
+abbrev pub CallTells : (List Atom → HeadBar) → Bar → Syntax → (start : ℕ) → (before piece : List ℕ) → Fault → (offset : ℕ) → Type 0
+CallTells bars bar s start before piece fault offset = ((after_call bars s start before piece).halt ≡ Some (refused fault offset)) ↔ RefusedHere bar s start (before ++ piece) fault offset

@@ -1,5 +1,6 @@
 use Rattle.dcm_build.proofs.BuildRuns.{whole, so_far, refused}
+use Rattle.dcm_build.proofs.Halts.{goes_where, call_refuses, call_tells}
 use Rattle.dcm_build.proofs.laws.build_steps.Goals as goal
 
 pub returns : goal.returns
-returns c = record { whole = whole; so_far = so_far; refused = refused }
+returns c = record { whole = whole; so_far = so_far; refused = refused; going = goes_where; halts = call_refuses; fault = call_tells }

@@ -6,6 +6,7 @@ use Rattle.std.proofs.lemmas.List.Sums.{fold-append}
 use Rattle.dcm_head.proofs.Stays.{stays, kept_all}
 use Rattle.dcm_head.proofs.OneMeta.{one_meta}
 use Rattle.dcm_head.proofs.Described.{described}
+use Rattle.dcm_head.proofs.Halts.{call_ends, call_refuses}
 use Rattle.dcm_head.proofs.Told.{told, going_exactly}
 use Rattle.dcm_head.specs.declared.meta_read.MetaEnd.{MetaEnd}
 use Rattle.dcm_head.proofs.laws.meta_steps.Goals as goal
@@ -28,3 +29,9 @@ returns-clause-going c = λ file answer reads.
     going_exactly (is_undecided (length file) answer) (fold meta_step at_start file).end
     (subst (λ (a : MetaAnswer). ((is_undecided (length file) a ≡ true) × ((fold meta_step at_start file).end ≡ None)) ⊎ ((is_undecided (length file) a ≡ false) × (end : MetaEnd) × ((fold meta_step at_start file).end ≡ Some end)))
     (one_meta file t.answer answer t.reads reads) t.going)
+
+pub returns-clause-halts : goal.returns-clause-halts
+returns-clause-halts c = call_ends
+
+pub returns-clause-fault : goal.returns-clause-fault
+returns-clause-fault c = call_refuses

@@ -1,45 +1,11 @@
-use Rattle.std.proofs.Common.{◌≡◌, ◌≤◌, ℕ, List, Bool, true, false, Some, None, cond, refl}
-use Rattle.dcm_base.specs.declared.syntax.Syntax.{Syntax}
-use Rattle.dcm_base.specs.declared.syntax.Syntax.TheVariants.{Little}
-use Rattle.dcm_base.specs.declared.fault.Fault.TheVariants.{FragmentsBarred}
-use Rattle.dcm_base.specs.Front.{Front, front, nothing_open}
-use Rattle.dcm_base.specs.Tree.{no_tree}
-use Rattle.dcm_base.specs.Atoms.{Atom}
-use Rattle.dcm_base.specs.Spelling.{form}
-use Rattle.dcm_base.specs.Stop.{Stop, Bar, HeadBar}
-use Rattle.dcm_base.specs.Bars.{no_bar, ascending_bar, fragments_bar, is_fragment_form}
-use Rattle.dcm_base.specs.Reads.{INPUT_LIMIT, Reads}
-use Rattle.dcm_stream.specs.Ascending.{ascending}
-use Rattle.dcm_stream.specs.Reading.{finish, read_all, is_early_bar}
-use Rattle.dcm_stream.specs.Follows.{BarsAs}
-use Rattle.dcm_stream.proofs.Follow.{answers}
-use Rattle.dcm_stream.proofs.Ascending.{ascending_bars}
+use Rattle.dcm_stream.proofs.ReadsSome.{plain, in_order, native}
 use Rattle.dcm_stream.proofs.laws.reads_some.Goals as goal
 
--- where the atoms tell what is barred, the machine's answer is one
-some_answer : (bars : List Atom → HeadBar) (bar : Bar) → BarsAs bars bar → (s : Syntax) (start : ℕ) (bytes : List ℕ) → start ≤ INPUT_LIMIT → (f : Front) × (stop : Stop) × Reads bar s start bytes f stop
-some_answer bars bar told s start bytes le =
-    let a = answers bars bar told s start bytes le in
-    (a.f, finish (read_all bars s start bytes).0, a.reads)
-
-abbrev nothing : Front
-nothing = front no_tree nothing_open None false
-
-plain_bars : BarsAs (λ atoms. no_bar nothing) no_bar
-plain_bars = record { agree = λ f atoms shows tag vr declared. refl; never_early = λ f tag vr declared. refl }
-
-never : (b : Bool) → is_early_bar (cond b (Some FragmentsBarred) None) ≡ false
-never true = refl
-never false = refl
-
-fragments_bars : BarsAs (λ atoms. fragments_bar nothing) fragments_bar
-fragments_bars = record { agree = λ f atoms shows tag vr declared. refl; never_early = λ f tag vr declared. never (is_fragment_form (form Little vr declared)) }
-
 pub returns-clause-plain : goal.returns-clause-plain
-returns-clause-plain c = some_answer (λ atoms. no_bar nothing) no_bar plain_bars
+returns-clause-plain c = plain
 
 pub returns-clause-in_order : goal.returns-clause-in_order
-returns-clause-in_order c = some_answer ascending ascending_bar ascending_bars
+returns-clause-in_order c = in_order
 
 pub returns-clause-native : goal.returns-clause-native
-returns-clause-native c = some_answer (λ atoms. fragments_bar nothing) fragments_bar fragments_bars
+returns-clause-native c = native

@@ -1,4 +1,4 @@
-use Rattle.std.proofs.Common.{◌≡◌, ◌∙◌, ◌<◌, length, ap, subst}
+use Rattle.std.proofs.Common.{◌∙◌, ◌<◌, length, ap, subst}
 use Rattle.dcm_head.specs.MetaReading.{Reading}
 use Rattle.dcm_head.proofs.Kept.{room}
 use Rattle.dcm_head.proofs.meta.Meta.end.Goals as goal

@@ -1,0 +1,5 @@
+use Rattle.dcm_cli.proofs.OneAnswer.{one_answer}
+use Rattle.dcm_cli.proofs.laws.answers_one.Goals as goal
+
+pub returns : goal.returns
+returns c = one_answer
