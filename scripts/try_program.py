@@ -65,7 +65,7 @@ CASES = [
     ("an empty file", "dcmdump empty", 2, "R1 at byte 0: input ends too early"),
     ("a cut file", "dcmdump cut", 2, "R1 at byte 182: input ends too early"),
     ("a missing path", "dcmdump missing", 4, "input cannot be opened"),
-    ("a directory", "dcmdump .", 4, "reading failed after 0 bytes"),
+    ("a directory", "dcmdump .", 4, "input cannot be opened"),
     ("a closed standard input", "dcmdump - <&-", 4, "reading failed after 0 bytes"),
     ("a full disk", "dcmdump name.dcm > /dev/full", 4, "output failed"),
     ("a closed standard output", "dcmdump name.dcm >&-", 4, "output failed"),
@@ -84,7 +84,7 @@ CASES = [
     ("a limit that is too low", "dump2dcm +l 79 lines out", 1, "V3 at word 2: bad option value"),
     ("one path of lines", "dump2dcm lines", 1, "V4: wrong number of paths"),
     ("lines on a full disk", "dump2dcm lines - > /dev/full", 4, "output failed"),
-    ("a directory of lines", "dump2dcm . -", 4, "reading failed after 0 bytes"),
+    ("a directory of lines", "dump2dcm . -", 4, "input cannot be opened"),
     ("no lines", "dump2dcm empty -", 2, "B7 at byte 0, line 1: no usable transfer syntax"),
     ("no path of a modification", "dcmodify", 1, "V4: wrong number of paths"),
     ("one path of a modification", "dcmodify name.dcm", 1, "V4: wrong number of paths"),
@@ -103,7 +103,7 @@ CASES = [
     ("65 edits", "dcmodify" + " -ep" * 65 + " name.dcm out", 1, "U7 in edit 65: too many edits"),
     ("an edit that is no text", "dcmodify -m $'PatientName=\\xfc' name.dcm out", 1, "V1 at word 1: unknown tool"),
     ("a full disk for a modification", "dcmodify -ep name.dcm - > /dev/full", 4, "output failed"),
-    ("a directory that is modified", "dcmodify -ep . -", 4, "reading failed after 0 bytes"),
+    ("a directory that is modified", "dcmodify -ep . -", 4, "input cannot be opened"),
     ("a full disk for the line of an edit", "dcmodify -ep name.dcm out 2> /dev/full", 3, ""),
 ]
 
@@ -117,7 +117,7 @@ WRITTEN = [
     ("the last of two options", "dcmconv +tb +t= name.dcm out", 0, "", "out", NAME),
     ("an older output", "dcmconv name.dcm older", 0, "", "older", NAME),
     ("a cut file", "dcmconv cut out", 2, "R1 at byte 182: input ends too early", "out", NAME[:182]),
-    ("an empty file", "dcmconv empty older", 2, "R1 at byte 0: input ends too early", "older", b""),
+    ("an empty file", "dcmconv empty older", 2, "R1 at byte 0: input ends too early", "older", FILES["older"]),
     (
         "an encapsulated file",
         "dcmconv +te jpeg.dcm out",
@@ -179,7 +179,7 @@ WRITTEN = [
         "out",
         REPLACED,
     ),
-    ("an edit of an empty file", "dcmodify -ep empty older", 2, "R1 at byte 0: input ends too early", "older", b""),
+    ("an edit of an empty file", "dcmodify -ep empty older", 2, "R1 at byte 0: input ends too early", "older", FILES["older"]),
     ("refused edits", "dcmodify -ep -x name.dcm older", 1, "U1 in edit 2: bad option or path", "older", FILES["older"]),
     ("edits of a missing path", "dcmodify -ep missing older", 4, "input cannot be opened", "older", FILES["older"]),
     (
@@ -190,14 +190,24 @@ WRITTEN = [
         "name.dcm",
         NAME,
     ),
+    ("another path of the same file", "dcmconv name.dcm ./name.dcm", 4, "output cannot be opened", "name.dcm", NAME),
+    ("a hard link", "dcmconv name.dcm linked", 4, "output cannot be opened", "name.dcm", NAME),
+    ("a symbolic link", "dcmodify -ep name.dcm symbolic", 4, "output cannot be opened", "name.dcm", NAME),
+    ("standard input that is the output", "dcmconv - name.dcm < name.dcm", 4, "output cannot be opened", "name.dcm", NAME),
+    ("lines that are the output", "dump2dcm lines ./lines", 4, "output cannot be opened", "lines", LINES),
     (
-        "another path of the same file",
-        "dcmconv name.dcm ./name.dcm",
+        "an encapsulated file beside an older output",
+        "dcmconv +te jpeg.dcm older",
         2,
-        "R1 at byte 0: input ends too early",
-        "name.dcm",
-        b"",
+        "R14 at byte 174: encapsulated syntax cannot be changed",
+        "older",
+        FILES["older"],
     ),
+    ("a directory beside an older output", "dcmconv . older", 4, "input cannot be opened", "older", FILES["older"]),
+    ("standard output by its path", "dcmconv +tb name.dcm /dev/stdout > out", 0, "", "out", BIG),
+    ("a pipe by its path", "dcmconv +tb name.dcm /dev/stdout | cat > out", 0, "", "out", BIG),
+    ("the null device", "dcmconv +tb name.dcm /dev/null", 0, "", "out", None),
+    ("a named pipe", "dcmconv +tb name.dcm queue & cat queue > out; wait", 0, "", "out", BIG),
 ]
 
 # words that write to a pipe that nobody reads
@@ -212,6 +222,9 @@ def prepare(folder):
     for path, content in FILES.items():
         with open(os.path.join(folder, path), "wb") as file:
             file.write(content)
+    os.link(os.path.join(folder, "name.dcm"), os.path.join(folder, "linked"))
+    os.symlink("name.dcm", os.path.join(folder, "symbolic"))
+    os.mkfifo(os.path.join(folder, "queue"))
 
 
 def content_of(path):

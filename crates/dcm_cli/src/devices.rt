@@ -2,15 +2,20 @@
 ghost use Rattle.std.specs.Prelude.{◌≡◌, ◌≢◌, MatchResult, IfOk};
 ghost use Rattle.dcm_cli.specs.Devices.{standard, IsInputAt, IsOutputAt};
 
-use std::fs::File;
-use std::io::{Read, Stdin, Stdout, Write};
-use std::{io, str};
+use crate::output::{Output, OutputFile};
+use std::fs::{File, Metadata, OpenOptions};
+use std::io::{ErrorKind, Read, Stdin};
+use std::os::unix::fs::MetadataExt;
+use std::{fs, io, str};
 
 /// What can be neither read nor written, for a standard stream that is closed.
 const NOTHING: &str = "/";
 
 /// The path of a standard stream.
 const STANDARD: &[u8] = b"-";
+
+/// What standard input reads from, as a path.
+const STANDARD_INPUT: &str = "/dev/stdin";
 
 /// The input of a job.
 #[derive(Drop)]
@@ -19,34 +24,11 @@ pub enum Input {
     File(File),
 }
 
-/// The output of a job.
-#[derive(Drop)]
-pub enum Output {
-    Standard(Stdout),
-    File(File),
-}
-
 impl Read for Input {
     fn read(&mut self, bytes: &mut [u8]) -> io::Result<usize> {
         match self {
             Input::Standard(input) => input.read(bytes),
             Input::File(file) => file.read(bytes),
-        }
-    }
-}
-
-impl Write for Output {
-    fn write(&mut self, bytes: &[u8]) -> io::Result<usize> {
-        match self {
-            Output::Standard(output) => output.write(bytes),
-            Output::File(file) => file.write(bytes),
-        }
-    }
-
-    fn flush(&mut self) -> io::Result<()> {
-        match self {
-            Output::Standard(output) => output.flush(),
-            Output::File(file) => file.flush(),
         }
     }
 }
@@ -79,6 +61,15 @@ fn path(word: &[u8]) -> io::Result<&str>
     }
 }
 
+/// Opens what can be read at a path, which is no directory.
+fn open_file(rt: HostRuntime, path: &str) -> io::Result<File> {
+    let file = File::open(&rt, path)?;
+    if file.metadata()?.is_dir() {
+        return Err(io::Error::from(ErrorKind::IsADirectory));
+    }
+    Ok(file)
+}
+
 /// Opens an input, `-` for standard input.
 pub fn open_input(rt: HostRuntime, word: &[u8]) -> io::Result<Input>
     ensures { MatchResult result (λ input. IsInputAt input word.now) (λ _. word.now ≢ standard) }
@@ -86,15 +77,49 @@ pub fn open_input(rt: HostRuntime, word: &[u8]) -> io::Result<Input>
     if word == STANDARD {
         return Ok(Input::Standard(rt.stdin()));
     }
-    Ok(Input::File(File::open(&rt, path(word)?)?))
+    Ok(Input::File(open_file(rt, path(word)?)?))
 }
 
-/// Opens an output, `-` for standard output.
+/// Opens an output, `-` for standard output. A file that is there keeps what it holds until the first byte is written.
 pub fn open_output(rt: HostRuntime, word: &[u8]) -> io::Result<Output>
     ensures { MatchResult result (λ output. IsOutputAt output word.now) (λ _. word.now ≢ standard) }
 {
     if word == STANDARD {
         return Ok(Output::Standard(rt.stdout()));
     }
-    Ok(Output::File(File::create(&rt, path(word)?)?))
+    let file = OpenOptions::new()
+        .write(true)
+        .create(true)
+        .open(&rt, path(word)?)?;
+    Ok(Output::File(OutputFile::new(file)))
+}
+
+/// The device and the number of a regular file.
+fn identity(file: io::Result<Metadata>) -> Option<(u64, u64)> {
+    match file {
+        Ok(file) if file.is_file() => Some((file.dev(), file.ino())),
+        _ => None,
+    }
+}
+
+fn input_identity(rt: HostRuntime, input: &Input) -> Option<(u64, u64)> {
+    match input {
+        Input::Standard(_) => identity(fs::metadata(&rt, STANDARD_INPUT)),
+        Input::File(file) => identity(file.metadata()),
+    }
+}
+
+fn output_identity(output: &Output) -> Option<(u64, u64)> {
+    match output {
+        Output::Standard(_) => None,
+        Output::File(file) => identity(file.metadata()),
+    }
+}
+
+/// Whether an output is the regular file that is read, under whatever names.
+pub fn is_same_file(rt: HostRuntime, input: &Input, output: &Output) -> bool {
+    match (input_identity(rt, input), output_identity(output)) {
+        (Some(input), Some(output)) => input == output,
+        _ => false,
+    }
 }

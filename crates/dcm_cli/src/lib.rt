@@ -9,6 +9,7 @@ mod ending;
 mod head;
 pub mod laws;
 mod modify;
+mod output;
 mod pass;
 mod program;
 mod rewrite;

@@ -3,7 +3,7 @@ ghost use Rattle.std.specs.Prelude.{◌≤◌, ◌≡◌, ◌≢◌};
 ghost use Rattle.std.specs.IoError.{error_kind};
 ghost use Rattle.dcm_cli.specs.Told as spec;
 
-use crate::devices::{open_input, open_output, reserve};
+use crate::devices::{is_same_file, open_input, open_output, reserve};
 use crate::run::run;
 use crate::told::{tell, tell_open};
 use dcm_base::{DeviceOut, Std, Watched, WordFault};
@@ -35,20 +35,25 @@ fn standard_error(rt: HostRuntime) -> Watched<Std<Stderr>> {
     Watched::new(Std::new(rt.stderr()))
 }
 
-/// Opens the devices of a job and runs it. The input is opened before the output.
+/// Opens the devices of a job and runs it. The input is opened before the output, and nothing is read or written where both are
+/// one file.
 fn work(rt: HostRuntime, planned: &Planned) -> u8
     ensures { result ≤ 5 }
 {
     let _reserved = reserve(rt);
     let mut errors = standard_error(rt);
-    let mut input = match open_input(rt, planned.input) {
-        Ok(input) => Watched::new(Std::new(input)),
+    let input = match open_input(rt, planned.input) {
+        Ok(input) => input,
         Err(e) => return tell_unopened(&e, false, &mut errors),
     };
     let output = match open_output(rt, planned.output) {
         Ok(output) => output,
         Err(e) => return tell_unopened(&e, true, &mut errors),
     };
+    if is_same_file(rt, &input, &output) {
+        return tell_open(true, &mut errors);
+    }
+    let mut input = Watched::new(Std::new(input));
     let mut out = match BufWriter::with_capacity(rt.alloc(), BUFFER, output) {
         Ok(output) => Watched::new(Std::new(output)),
         Err(_) => return tell(&Usage::Memory, &mut errors),
