@@ -1,5 +1,5 @@
 -- What an edit of all depths leaves of a data set, and what reads back of it.
-use Rattle.std.proofs.Common.{◌≡◌, ◌∙◌, ap, sym, refl, subst, ℕ, ◌+◌, ◌≤◌, List, [], ◌∷◌, length, Bool, true, false, Ok, inl, inr, ◌⊎◌}
+use Rattle.std.proofs.Common.{◌≡◌, sym, refl, subst, ℕ, ◌+◌, ◌≤◌, List, [], ◌∷◌, length, Bool, true, false, Ok, inl, inr}
 use Rattle.std.specs.Prelude.{◌==◌, ◌&&◌, ◌||◌, not, if◌then◌else◌}
 use Rattle.dcm_base.specs.declared.tag.Tag.{Tag}
 use Rattle.dcm_base.specs.declared.vr.Vr.{Vr}
@@ -15,10 +15,10 @@ use Rattle.dcm_base.specs.Recode.{recode}
 use Rattle.dcm_base.specs.Normal.{normal, normal_items, normal_front, normal_vr, normal_value}
 use Rattle.dcm_base.proofs.Reading.{reads_once}
 use Rattle.dcm_base.proofs.TagLemmas.{tag_is}
-use Rattle.dcm_edit.specs.Edit.{number, every, PathEdit, step, insert, modify, erase, erase_item, Edit, on_path, modify_all, erase_all, erase_private, elsewhere, within, Fate, stays, becomes, goes, fate, erases, element_of, no_element, edited_by, edited}
+use Rattle.dcm_edit.specs.Edit.{PathEdit, step, insert, modify, erase, erase_item, Edit, on_path, modify_all, erase_all, erase_private, elsewhere, within, stays, becomes, goes, erases, element_of, no_element, edited_by, edited}
 use Rattle.dcm_edit.specs.EditWords.{meant_edits}
 use Rattle.dcm_edit.specs.Everywhere.{Content, a_value, a_list, Everywhere, InEachItem, EverywhereIn, IsOther, IsPublic, HasJust, IsWrittenJust, Among}
-use Rattle.dcm_edit.specs.Overlap.{Mark, at_tag, at_index, path, is_on, is_named, overlaps, ApartFrom, AreApart, is_public_path, is_public, ArePublic}
+use Rattle.dcm_edit.specs.Overlap.{path, is_on, is_named, ApartFrom, AreApart, is_public_path, is_public, ArePublic}
 use Rattle.dcm_edit.proofs.EditedReads.{edited_reads, front_ready}
 use Rattle.dcm_edit.proofs.StaysReady.{FrontReady}
 use Rattle.dcm_edit.proofs.EditWordLemmas.{edits_are_apart}

@@ -66,3 +66,4 @@ pub mod Skips
 pub mod Everywhere
 pub mod Gone
 pub mod Others
+pub mod Unmet

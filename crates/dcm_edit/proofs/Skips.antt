@@ -1,5 +1,5 @@
 -- The edits that a mask lacks ask nothing: to skip them changes no answer.
-use Rattle.std.proofs.Common.{◌≡◌, ℕ, zero, suc, ◌+◌, ◌*◌, ◌%◌, ◌/◌, ◌^◌, ◌<◌, ◌≤◌, List, [], ◌∷◌, length, map, drop, Bool, true, false, ◌||◌, refl, sym, ◌∙◌, ap, subst, inl, inr, ◌⊎◌, arith}
+use Rattle.std.proofs.Common.{◌≡◌, ℕ, zero, suc, ◌+◌, ◌%◌, ◌/◌, ◌^◌, ◌<◌, ◌≤◌, List, [], ◌∷◌, length, map, drop, Bool, false, ◌||◌, refl, sym, ◌∙◌, ap, subst, inl, inr, arith}
 use Rattle.std.specs.Prelude.{◌==◌, if◌then◌else◌}
 use Rattle.std.specs.Int.{bit_at, w64, trailing_zeros}
 use Rattle.std.proofs.lemmas.Nat.Bits.{bit_at-trailing_zeros, bit_at-zero}
@@ -12,7 +12,7 @@ use Rattle.dcm_edit.specs.Together.{first_fate, or_else}
 use Rattle.dcm_edit.specs.Masks.{is_set, bits, at_depth, asked, Skips}
 use Rattle.dcm_edit.specs.Asking.{answer_of, any_answer, asked_one, Seen, seen, seen_in, lesser, least_new}
 use Rattle.dcm_edit.specs.declared.asked.Question.{Question}
-use Rattle.dcm_edit.specs.declared.asked.Question.TheVariants.{AtHead, AtItem, AtTop, AtEnd, GoesAlong, Erases}
+use Rattle.dcm_edit.specs.declared.asked.Question.TheVariants.{AtHead, Meets, AtItem, AtTop, AtEnd, GoesAlong, Erases}
 use Rattle.dcm_edit.specs.declared.asked.Gap.{Gap}
 use Rattle.dcm_edit.proofs.Bits.{SoFar}
 
@@ -20,6 +20,7 @@ use Rattle.dcm_edit.proofs.Bits.{SoFar}
 
 no_answer : (q : Question) → answer_of q elsewhere ≡ false
 no_answer (AtHead tag last) = refl
+no_answer (Meets tag last) = refl
 no_answer (AtItem tag n) = refl
 no_answer AtTop = refl
 no_answer (AtEnd last) = refl

@@ -1,6 +1,7 @@
 -- What a sink takes in parts.
-use Rattle.std.proofs.Common.{◌≡◌, ℕ, List, [], ◌∷◌, ◌++◌, map, length, Result, Ok, ◌∙◌, ap}
+use Rattle.std.proofs.Common.{◌≡◌, ℕ, List, [], ◌∷◌, ◌++◌, map, length, Result, Ok, ◌∙◌, ap, subst}
 use Rattle.std.specs.Prelude.{fold, OnOk, IsErr}
+use Rattle.std.proofs.lemmas.List.{append-nil}
 use Rattle.std.specs.Io.KnownBytes.{append_known}
 use Rattle.dcm_base.specs.declared.tag.Tag.{Tag}
 use Rattle.dcm_base.specs.declared.vr.Vr.{Vr}
@@ -38,6 +39,9 @@ module _ {X : Type 0} (sink : Ghosts X) where
   -- a failure in the first part
   pub failed_taken : {T E : Type 0} (old new : X) (first rest : List Atom) (r : Result T E) → IsErr r → AppendsFront (sink.contents old) (sink.contents new) (writes_of old first) → Takes sink old new (first ++ rest) r
   failed_taken old new first rest r e h = goes_failed sink.step sink.writes (sink.state old) (sink.contents old) (sink.state new) (sink.contents new) first rest r e h
+
+  pub all_failed : {T E : Type 0} (old new : X) (atoms : List Atom) (r : Result T E) → IsErr r → AppendsFront (sink.contents old) (sink.contents new) (writes_of old atoms) → Takes sink old new atoms r
+  all_failed {T} {E} old new atoms r e h = subst (λ (xs : List Atom). Takes sink old new xs r) (append-nil atoms) (failed_taken {T = T} {E = E} old new atoms [] r e h)
 
 -- ---- the atoms of a value
 

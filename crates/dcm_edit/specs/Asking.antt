@@ -7,7 +7,7 @@ use Rattle.dcm_base.specs.declared.vr.Vr.{Vr}
 use Rattle.dcm_base.specs.Tag.{below}
 use Rattle.dcm_edit.specs.Edit.{Index, number, every, selects, PathEdit, step, insert, modify, erase, erase_item, Edit, on_path, modify_all, erase_all, erase_private, elsewhere, within, fate, acts, erases, NewElement, no_element, new_leaf, new_sequence, element_of}
 use Rattle.dcm_edit.specs.Edit as spec
-use Rattle.dcm_edit.specs.NewOnes.{above_last, is_between}
+use Rattle.dcm_edit.specs.NewOnes.{above_last, is_between, passes_new}
 use Rattle.dcm_edit.specs.EditSink.{has_place, makes, steps, depth, AreWithin}
 use Rattle.dcm_edit.specs.Masks.{is_set, at_depth, goes_along}
 use Rattle.dcm_edit.specs.Meaning.{index_of}
@@ -72,6 +72,7 @@ in_gap gap tag = lies_in gap.last gap.next tag
 -- the answers of an edit to the questions about a place of the input
 abbrev pub answer_of : Question → Edit → Bool
 answer_of (questions.AtHead tag last) e = acts (fate e tag) || makes (is_between last tag) (element_of e)
+answer_of (questions.Meets tag last) e = acts (fate e tag) || passes_new (is_between last tag) (element_of e)
 answer_of (questions.AtItem tag n) e = erases e tag n || has_place (element_of (within e tag n))
 answer_of questions.AtTop e = has_place (element_of e)
 answer_of (questions.AtEnd last) e = makes (above_last last) (element_of e)

@@ -1,7 +1,7 @@
 -- The state of the edits, as the program holds it.
-use Rattle.std.specs.Prelude.{◌≡◌, ◌⊎◌, List, [], ◌∷◌, map, length, reverse, Option, Some, None, Bool, false}
+use Rattle.std.specs.Prelude.{◌≡◌, ◌⊎◌, List, [], ◌∷◌, map, length, reverse, Option, Some, None, Bool, false, not, ◌&&◌}
 use Rattle.dcm_base.specs.declared.tag.Tag.{Tag}
-use Rattle.dcm_stream.specs.Skip.{depth}
+use Rattle.dcm_stream.specs.Skip.{depth, is_open}
 use Rattle.dcm_edit.specs.declared.edit.Edit.{Edit as AnEdit}
 use Rattle.dcm_edit.specs.declared.editor.Level.{Level}
 use Rattle.dcm_edit.specs.declared.editor.Editor.{Editor}
@@ -10,7 +10,8 @@ use Rattle.dcm_edit.specs.EditSink.{State}
 use Rattle.dcm_edit.specs.Masks as masks
 use Rattle.dcm_base.specs.Atoms.{Atom, closes_item, ends}
 use Rattle.dcm_base.specs.Tree.{Trees, no_tree}
-use Rattle.dcm_edit.specs.Asking.{lies_in}
+use Rattle.dcm_edit.specs.Asking.{lies_in, any_answer}
+use Rattle.dcm_edit.specs.declared.asked.Question.TheVariants.{Meets}
 use Rattle.dcm_edit.specs.NewOnes.{puts}
 use Rattle.dcm_edit.specs.Meaning.{edit_of}
 use Rattle.dcm_edit.specs.Together as together
@@ -31,6 +32,10 @@ asked_here edits e = masks.asked (length (reverse e.outermost_first.items)) e.le
 
 abbrev pub first_fate : List AnEdit → Editor → Tag → Fate
 first_fate edits e tag = together.first_fate (asked_here edits e) tag
+
+-- whether no edit changes an element that is not dropped, or puts another one before it
+abbrev pub leaves : List AnEdit → Editor → Tag → Bool
+leaves edits e tag = not (is_open (depth e.skip)) && not (any_answer (Meets tag e.level.last) (asked_here edits e))
 
 abbrev pub any_erases : List AnEdit → Editor → Tag → Bool
 any_erases edits e tag = together.any_erases (asked_here edits e) tag e.level.items

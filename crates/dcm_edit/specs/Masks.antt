@@ -144,6 +144,15 @@ masks_after_head edits s tag found = record {
   found = found;
 }
 
+-- after the head of an element that the edits leave as it is
+abbrev pub masks_passed_by : MaskState → Tag → MaskState
+masks_passed_by s tag = record {
+  level = record { mask = s.level.mask; last = Some tag; count = 0 };
+  outer = s.outer;
+  dropped = dropped_after_head s.dropped false;
+  found = s.found;
+}
+
 -- after the head of an item, with its mask
 abbrev pub masks_in_item : List Edit → MaskState → Tag → ℕ → ℕ → MaskState
 masks_in_item edits s tag inner found = record {

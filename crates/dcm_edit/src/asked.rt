@@ -6,6 +6,7 @@ ghost use Rattle.dcm_edit.specs.Edit as spec;
 ghost use Rattle.dcm_edit.specs.EditSink.{has_place as has_place_spec, makes as makes_spec};
 ghost use Rattle.dcm_edit.specs.Asking as asking;
 ghost use Rattle.dcm_edit.specs.Masks as masks;
+ghost use Rattle.dcm_edit.specs.NewOnes.{passes_new};
 ghost use Rattle.dcm_edit.specs.Meaning.{index_of, action_of, along, path_edit_of, edit_of};
 
 use crate::edit::{Action, Edit, Index, NewElement, PathEdit, Step};
@@ -38,6 +39,8 @@ pub struct Gap {
 pub enum Question {
     /// Whether it finds its place at the head of this element.
     AtHead(Tag, Option<Tag>),
+    /// Whether it changes this element, or puts another one between the last one and it.
+    Meets(Tag, Option<Tag>),
     /// Whether it finds its place at the head of this item of a sequence.
     AtItem(Tag, u32),
     /// Whether it has its place in the data set of a file, whatever that holds.
@@ -298,6 +301,16 @@ fn makes(edit: &Edit, depth: usize, gap: Gap) -> bool
     }
 }
 
+/// Whether it puts an element in a gap.
+fn fills(edit: &Edit, depth: usize, gap: Gap) -> bool
+    ensures { result ≡ passes_new (asking.in_gap gap) (spec.element_of (masks.at_depth depth (edit_of edit.now))) }
+{
+    match new_element(edit, depth) {
+        Some(new) => gap.holds(new.tag()),
+        None => false,
+    }
+}
+
 /// Whether an element with this tag does not stay as it is.
 fn acts(edit: &Edit, depth: usize, tag: Tag) -> bool
     ensures { result ≡ spec.acts (spec.fate (masks.at_depth depth (edit_of edit.now)) tag) }
@@ -314,6 +327,10 @@ pub fn answers(edit: &Edit, depth: usize, question: Question) -> bool
         Question::AtHead(tag, last) => {
             let next = Some(tag);
             acts(edit, depth, tag) || makes(edit, depth, Gap { last, next })
+        }
+        Question::Meets(tag, last) => {
+            let next = Some(tag);
+            acts(edit, depth, tag) || fills(edit, depth, Gap { last, next })
         }
         Question::AtItem(tag, item) => {
             erases(edit, depth, tag, item) || has_place_in(edit, depth, tag, item)

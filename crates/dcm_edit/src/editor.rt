@@ -88,6 +88,15 @@ impl Editor {
         first_fate(edits, self.depth(), self.level.mask, tag)
     }
 
+    /// Whether no edit changes an element of the innermost data set, which is not dropped, or puts another one before it.
+    pub fn leaves(&self, edits: &[Edit], tag: Tag) -> bool
+        requires { length edits.now ≤ 64 }
+        ensures { result ≡ editing.leaves edits.now self.now tag }
+    {
+        let question = Question::Meets(tag, self.level.last);
+        !self.skip.is_open() && !any_answers(edits, self.depth(), self.level.mask, question)
+    }
+
     /// Whether the next item of the last element is erased.
     pub fn erases_item(&self, edits: &[Edit], tag: Tag) -> bool
         requires { length edits.now ≤ 64 }
@@ -117,6 +126,15 @@ impl Editor {
         let stays = matches!(self.fate_of(edits, tag), Fate::Stays);
         self.found = found;
         self.skip.open(!stays);
+        self.level.last = Some(tag);
+        self.level.items = 0;
+    }
+
+    /// After the head of an element that the edits leave as it is.
+    pub fn pass_by(&mut self, tag: Tag)
+        ensures { editing.state self.new ≡ masks.masks_passed_by (editing.state self.old) tag }
+    {
+        self.skip.open(false);
         self.level.last = Some(tag);
         self.level.items = 0;
     }

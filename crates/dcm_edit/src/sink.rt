@@ -1,5 +1,5 @@
 // Edits, between what reads a data set and what takes it.
-ghost use Rattle.std.specs.Prelude.{◌≡◌, ◌≤◌, ◌<◌, ℕ, [], length, map, not, false};
+ghost use Rattle.std.specs.Prelude.{◌≡◌, ◌≤◌, ◌<◌, ℕ, [], length, map, fold, not, false, MatchResult};
 ghost use Rattle.std.specs.Borrow.{GName};
 ghost use Rattle.dcm_base.specs.Atoms.{Atom, opens, opens_item, trees_then};
 ghost use Rattle.dcm_base.specs.Steps.{outputs};
@@ -157,6 +157,35 @@ fn pass<S: Sink>(
     }
 }
 
+/// Hands on what a token of the input becomes, and goes on after it. An element that no edit meets is handed on as it is.
+fn pass_on<S: Sink>(
+    editor: &mut Editor,
+    edits: &[Edit],
+    token: Token,
+    sink: &mut S,
+) -> Result<(), WriteFailed>
+    requires few { length edits.now ≤ 64 }
+    requires short { asking.AreShort (map edit_of edits.now) }
+    requires sound { IsSound (editing.meant edits.now editor.old) }
+    requires filled { IsFilled token }
+    ensures takes { sinks.Takes S.Sink sink.old sink.new (outputs next passed (editing.meant edits.now editor.old) (atoms_of token.entry)) result }
+    ensures failed { sinks.Tells S.Sink sink.old sink.new result }
+    ensures kept { sinks.Keeps S.Sink sink.old sink.new }
+    ensures state { MatchResult result (λ _. editing.meant edits.now editor.new ≡ fold next (editing.meant edits.now editor.old) (atoms_of token.entry)) (λ _. editor.new ≡ editor.old) }
+{
+    match token {
+        Token::Open(head, _) if editor.leaves(edits, head.tag) => {
+            sink.take(token)?;
+            editor.pass_by(head.tag);
+        }
+        _ => {
+            pass(editor, edits, token, sink)?;
+            editor.go_on(edits, token);
+        }
+    }
+    Ok(())
+}
+
 /// A sink that passes the tokens of a data set on to another one, as edits make them. It bars tags that do not ascend, and
 /// does not ask what the other one bars.
 #[derive(Drop)]
@@ -210,10 +239,7 @@ impl<'e, S: Sink> Sink for EditSink<'e, S> {
     ghost kept = { λ e. (e.inner.ghost_name, S.kept e.inner.now) };
 
     fn take(&mut self, token: Token) -> Result<(), WriteFailed> {
-        let edits = self.edits.list();
-        pass(&self.editor, edits, token, self.inner)?;
-        self.editor.go_on(edits, token);
-        Ok(())
+        pass_on(&mut self.editor, self.edits.list(), token, self.inner)
     }
 
     fn accepts(&self, head: &Head) -> Result<(), Bar> {

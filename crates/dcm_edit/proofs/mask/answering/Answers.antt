@@ -1,4 +1,4 @@
-use Rattle.std.proofs.Common.{subst, ℕ, ◌+◌, List, map, arith}
+use Rattle.std.proofs.Common.{subst, ◌+◌, List, map, arith}
 use Rattle.dcm_edit.specs.declared.edit.Edit.{Edit}
 use Rattle.dcm_edit.specs.Asking as asking
 use Rattle.dcm_edit.specs.Meaning.{edit_of}

@@ -1,4 +1,4 @@
-use Rattle.std.proofs.Common.{rules, arith, ◌≡◌, ◌≤◌, ◌^◌, ◌/◌, length, map}
+use Rattle.std.proofs.Common.{arith, ◌≡◌, ◌^◌, length, map}
 use Rattle.std.proofs.Math.Nat.{div-le_self}
 use Rattle.dcm_edit.specs.Meaning.{edit_of}
 use Rattle.dcm_edit.proofs.Skips.{lacking_skips, size_of_map}

@@ -1,44 +1,38 @@
-use Rattle.std.proofs.Common.{sym, subst}
+use Rattle.std.proofs.Common.{◌≡◌}
+use Rattle.std.specs.Prelude.{fold}
 use Rattle.dcm_stream.specs.Tokens.{atoms_of}
-use Rattle.dcm_edit.specs.EditSink.{State}
+use Rattle.dcm_edit.specs.EditSink.{next}
 use Rattle.dcm_edit.specs.Editing as editing
-use Rattle.dcm_edit.specs.Masks as masks
-use Rattle.dcm_edit.specs.Sound.{IsSound}
 use Rattle.dcm_edit.proofs.MeantEdits.{few_listed, short_listed}
-use Rattle.dcm_edit.proofs.SoundSteps.{sound_fold}
-use Rattle.dcm_edit.proofs.ThroughSink.{gone_on, state_through, put_through, failed_through}
+use Rattle.dcm_edit.proofs.ThroughSink.{state_after, put_after, sound_after, step_done, same_state}
 use Rattle.dcm_edit.proofs.sink.EditSinkSink.take.Goals as goal
 
-pub pass-requires-clause-few : goal.pass-requires-clause-few
-pass-requires-clause-few g c = few_listed c.list-edits.result.now c.args.self.now.edits.now c.list-edits.ensures.list c.list-edits.ensures.meant
+pub pass_on-requires-clause-few : goal.pass_on-requires-clause-few
+pass_on-requires-clause-few g c = few_listed c.list.result.now c.args.self.now.edits.now c.list.ensures.list c.list.ensures.meant
 
-pub pass-requires-clause-short : goal.pass-requires-clause-short
-pass-requires-clause-short g c = short_listed c.list-edits.result.now c.args.self.now.edits.now c.list-edits.ensures.list c.list-edits.ensures.meant
+pub pass_on-requires-clause-short : goal.pass_on-requires-clause-short
+pass_on-requires-clause-short g c = short_listed c.list.result.now c.args.self.now.edits.now c.list.ensures.list c.list.ensures.meant
 
-pub returns-in_err-pass-clause-bytes : goal.returns-in_err-pass-clause-bytes
-returns-in_err-pass-clause-bytes g c =
+pub invariant_of-self : goal.invariant_of-self
+invariant_of-self g c =
     let e = c.args.self.now in
-    failed_through g.S.Sink.step g.S.Sink.writes e.edits.now (editing.state e.editor) (atoms_of c.args.token) c.list-edits.result.now (g.S.Sink.state e.inner.now) (g.S.Sink.contents e.inner.now) (g.S.Sink.contents c.pass.new.sink) c.from_residual.result
-    c.list-edits.ensures.list c.from_residual.ensures.0 c.in_err-pass.ensures.takes
-
-pub go_on-requires : goal.go_on-requires
-go_on-requires g c = few_listed c.list-edits.result.now c.args.self.now.edits.now c.list-edits.ensures.list c.list-edits.ensures.meant
-
-pub invariant_of-self-2 : goal.invariant_of-self-2
-invariant_of-self-2 g c =
-    let e = c.args.self.now in
-    let on = gone_on c.list-edits.result.now e.edits.now (editing.state e.editor) (editing.state c.go_on.new.self) (atoms_of c.args.token) c.list-edits.ensures.list c.go_on.ensures in
-    record { sound = subst (λ (s : State). IsSound s) (sym on) (sound_fold (masks.meant e.edits.now (editing.state e.editor)) (atoms_of c.args.token) e.sound) }
+    record {
+      sound =
+          sound_after c.list.result.now e.edits.now (editing.state e.editor) (editing.state c.pass_on.new.editor) (atoms_of c.args.token) c.pass_on.result c.list.ensures.list
+          (same_state (editing.meant c.list.result.now c.pass_on.new.editor ≡ fold next (editing.meant c.list.result.now e.editor) (atoms_of c.args.token)) e.editor c.pass_on.new.editor c.pass_on.result c.pass_on.ensures.state) e.sound;
+    }
 
 pub returns-clause-state : goal.returns-clause-state
 returns-clause-state g c =
     let e = c.args.self.now in
-    let on = gone_on c.list-edits.result.now e.edits.now (editing.state e.editor) (editing.state c.go_on.new.self) (atoms_of c.args.token) c.list-edits.ensures.list c.go_on.ensures in
-    state_through g.S.Sink.step g.S.Sink.writes e.edits.now (editing.state e.editor) (atoms_of c.args.token) c.list-edits.result.now (editing.state c.go_on.new.self) (g.S.Sink.state e.inner.now) (g.S.Sink.state c.pass.new.sink) c.list-edits.ensures.list on
-    c.in_ok-pass.ensures.takes.0
+    let new = c.pass_on.new.editor in
+    state_after g.S.Sink.step g.S.Sink.writes e.edits.now (editing.state e.editor) (atoms_of c.args.token) c.list.result.now (editing.state new) (g.S.Sink.state e.inner.now) (g.S.Sink.state c.pass_on.new.sink)
+    (g.S.Sink.contents e.inner.now) (g.S.Sink.contents c.pass_on.new.sink) c.pass_on.result c.list.ensures.list
+    (step_done (editing.meant c.list.result.now new ≡ fold next (editing.meant c.list.result.now e.editor) (atoms_of c.args.token)) (new ≡ e.editor) c.pass_on.result c.pass_on.ensures.state)
+    c.pass_on.ensures.takes
 
 pub returns-clause-bytes : goal.returns-clause-bytes
 returns-clause-bytes g c =
     let e = c.args.self.now in
-    put_through g.S.Sink.step g.S.Sink.writes e.edits.now (editing.state e.editor) (atoms_of c.args.token) c.list-edits.result.now (g.S.Sink.state e.inner.now) (g.S.Sink.contents e.inner.now) (g.S.Sink.contents c.pass.new.sink) c.list-edits.ensures.list
-    c.in_ok-pass.ensures.takes.1
+    put_after g.S.Sink.step g.S.Sink.writes e.edits.now (editing.state e.editor) (atoms_of c.args.token) c.list.result.now (g.S.Sink.state e.inner.now) (g.S.Sink.state c.pass_on.new.sink)
+    (g.S.Sink.contents e.inner.now) (g.S.Sink.contents c.pass_on.new.sink) c.pass_on.result c.list.ensures.list c.pass_on.ensures.takes
