@@ -9,7 +9,5 @@ pub mod laws;
 mod line;
 mod place;
 mod standing;
-#[cfg(test)]
-mod tests;
 
 pub use build::{BuildHalt, Builder, LineStop};

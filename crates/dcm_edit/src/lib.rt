@@ -16,11 +16,8 @@ mod overlap;
 mod parse;
 mod path;
 mod sink;
-#[cfg(test)]
-mod tests;
 
 pub use edit::{Action, Edit, Index, NewElement, PathEdit, Step};
-pub use editor::Editor;
 pub use edits::Edits;
 pub use fault::EditFault;
 pub use sink::EditSink;

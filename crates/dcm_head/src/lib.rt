@@ -9,8 +9,6 @@ mod meta;
 mod meta_read;
 mod pads;
 mod rewriting;
-#[cfg(test)]
-mod tests;
 mod write;
 
 pub use element::{MetaElement, first_element};

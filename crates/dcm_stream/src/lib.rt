@@ -10,8 +10,6 @@ mod place;
 mod sink;
 mod skip;
 mod taking;
-#[cfg(test)]
-mod tests;
 mod token;
 
 pub use machine::{Halt, INPUT_LIMIT, Machine};

@@ -8,8 +8,6 @@ mod lanes;
 pub mod laws;
 mod parts;
 mod reading;
-#[cfg(test)]
-mod tests;
 mod units;
 mod value_text;
 mod way;

@@ -2,8 +2,6 @@
 #![tactic(auto)]
 
 mod job;
-#[cfg(test)]
-mod tests;
 mod usage;
 mod words;
 

@@ -1,5 +1,5 @@
-use crate::{Job, Planned, Usage, plan};
 use dcm_base::{EditRefusal, WordFault};
+use dcm_words::{Job, Planned, Usage, plan};
 use std::test::Fail;
 
 /// How many edits the words of a line mean from one path to another, or the refusal.

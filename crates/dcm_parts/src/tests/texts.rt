@@ -1,5 +1,5 @@
-use crate::{ValueText, escape, swap};
 use dcm_base::{MemOut, Mode, Syntax, Vr, Watched};
+use dcm_value::{ValueText, escape, swap};
 use std::test::Fail;
 
 /// A writer that has room for so many bytes.

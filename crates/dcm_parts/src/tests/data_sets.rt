@@ -1,10 +1,10 @@
 // Data sets in pieces of several sizes.
 ghost use Rattle.std.specs.Prelude.{◌≡◌, ◌<◌, ◌≤◌, ◌^◌, [], None, false};
 
-use super::{Bar, Halt, Machine, Sink, Token};
 use arrayvec::ArrayVec;
 use dcm_base::{Coding, Fault, Stop, Syntax, WriteFailed};
 use dcm_head::Head;
+use dcm_stream::{Bar, Halt, Machine, Sink, Token};
 
 /// A sign for each token and each byte of a value, as far as they fit.
 #[derive(Drop)]

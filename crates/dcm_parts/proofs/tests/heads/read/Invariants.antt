@@ -1,5 +1,5 @@
 use Rattle.std.proofs.Common.{◌≡◌, None}
-use Rattle.dcm_head.proofs.tests.read.Given as goal
+use Rattle.dcm_parts.proofs.tests.heads.read.Given as goal
 
 abbrev pub invariant-loop-piece : goal.invariant-loop-piece
 invariant-loop-piece l = l.meta.end ≡ None

@@ -1,5 +1,5 @@
-use crate::{Action, Edit, EditFault, Edits, Index};
 use dcm_base::{EditRefusal, Tag, Vr};
+use dcm_edit::{Action, Edit, EditFault, Edits, Index};
 use std::test::Fail;
 
 /// The edits that the words of a line mean, or the refusal.

@@ -1,8 +1,8 @@
 ghost use Rattle.std.specs.Prelude.{◌<◌};
 ghost use Rattle.dcm_head.specs.MetaReading.{IsOpen};
 
-use crate::{Head, HeadRead, Meta, MetaRead, read_head, write_head, write_meta};
 use dcm_base::{Coding, Fault, Length, MemOut, Stop, Syntax, Tag, Vr, Watched};
+use dcm_head::{Head, HeadRead, Meta, MetaRead, read_head, write_head, write_meta};
 use std::alloc::{AllocError, Global};
 use std::test::Fail;
 

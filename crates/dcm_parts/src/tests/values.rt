@@ -1,5 +1,5 @@
-use crate::{read_value, unescape};
 use dcm_base::Vr;
+use dcm_value::{read_value, unescape};
 
 /// Whether the text stands for these bytes.
 fn stands_for(vr: Vr, text: &[u8], bytes: &[u8]) -> bool {

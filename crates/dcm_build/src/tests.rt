@@ -1,2 +1,0 @@
-mod build;
-mod line;

@@ -1,0 +1,8 @@
+mod data_sets;
+mod edits;
+mod files;
+mod heads;
+mod lines;
+mod texts;
+mod values;
+mod words;

@@ -1,2 +1,0 @@
-mod text;
-mod values;
