@@ -144,7 +144,8 @@ impl Vr {
     pub fn letters(self) -> [u8; 2]
         ensures { result ≡ spec.letters self }
     {
-        LETTERS[self as usize].1
+        let rows = &LETTERS;
+        rows[self as usize].1
     }
 }
 
