@@ -1,0 +1,583 @@
+#!/usr/bin/env python3
+"""Tries the claims of docs/PROFILE.md, in its order, on a built dcmtools. What it says of words, paths, streams and devices is
+tried by try_program.py, and of failing devices by the tests of dcm_runs.
+
+    scripts/try_profile.py [BINARY]
+
+BINARY is crates/dcmtools/out/dcmtools if it is not given. Exits with 0 if each case ends as the profile says.
+"""
+import os
+import struct
+import subprocess
+import sys
+import tempfile
+from typing import NamedTuple
+
+ROOT = os.path.dirname(os.path.dirname(os.path.abspath(__file__)))
+
+IMPLICIT = b"1.2.840.10008.1.2"
+LITTLE = b"1.2.840.10008.1.2.1"
+BIG = b"1.2.840.10008.1.2.2"
+JPEG = b"1.2.840.10008.1.2.4.50"
+
+LONG_FORM = "OB OD OF OL OV OW SQ SV UC UN UR UT UV ZZ".split()
+UNDEFINED = 0xFFFFFFFF
+
+
+# ---- the bytes of files (PS3.5 7.1, 7.5; PS3.10 7.1)
+
+
+def order(uid):
+    return ">" if uid == BIG else "<"
+
+
+def tag_bytes(tag, uid):
+    return struct.pack(order(uid) + "HH", tag >> 16, tag & 0xFFFF)
+
+
+def head(tag, vr, size, uid=LITTLE):
+    if uid == IMPLICIT or tag >> 16 == 0xFFFE:
+        return tag_bytes(tag, uid) + struct.pack(order(uid) + "I", size)
+    if vr in LONG_FORM:
+        return tag_bytes(tag, uid) + vr.encode() + bytes(2) + struct.pack(order(uid) + "I", size)
+    return tag_bytes(tag, uid) + vr.encode() + struct.pack(order(uid) + "H", size)
+
+
+def leaf(tag, vr, value, uid=LITTLE):
+    return head(tag, vr, len(value), uid) + value
+
+
+def item(content, uid=LITTLE):
+    return head(0xFFFEE000, "", len(content), uid) + content
+
+
+def open_item(content, uid=LITTLE):
+    return head(0xFFFEE000, "", UNDEFINED, uid) + content + head(0xFFFEE00D, "", 0, uid)
+
+
+def sequence(tag, content, uid=LITTLE, vr="SQ"):
+    return leaf(tag, vr, content, uid)
+
+
+def open_sequence(tag, content, uid=LITTLE, vr="SQ"):
+    return head(tag, vr, UNDEFINED, uid) + content + head(0xFFFEE0DD, "", 0, uid)
+
+
+def padded(uid):
+    return uid + bytes(len(uid) % 2)
+
+
+def group(*leaves):
+    content = b"".join(leaves)
+    return leaf(0x00020000, "UL", struct.pack("<I", len(content))) + content
+
+
+def file_of(uid, data_set, preamble=bytes(128)):
+    return preamble + b"DICM" + group(leaf(0x00020010, "UI", padded(uid))) + data_set
+
+
+def after_prefix(content):
+    return bytes(128) + b"DICM" + content
+
+
+NAME = 0x00100010
+ID = 0x00100020
+COMMENTS = 0x00104000
+ROWS = 0x00280010
+PIXELS = 0x7FE00010
+IMAGES = 0x00081140
+INSTANCE = 0x00081155
+CONTENT = 0x0040A730
+
+AB = leaf(NAME, "PN", b"AB")
+AT_SET = len(file_of(LITTLE, b""))
+AT_IMPLICIT = len(file_of(IMPLICIT, b""))
+
+
+# ---- the lines of dumps
+
+
+def line(tag, vr, display, size, count, keyword, level=0):
+    start = f"{'  ' * level}({tag >> 16:04x},{tag & 0xFFFF:04x}) {vr} {display}"
+    return f"{start.ljust(len('  ' * level) + 15 + 40)} # {size:>3}, {count} {keyword}\n"
+
+
+FILE_HEADER = "# Dicom-File-Format\n\n# Dicom-Meta-Information-Header\n# Used TransferSyntax: LittleEndianExplicit\n"
+
+
+def set_header(name):
+    return f"# Dicom-Data-Set\n# Used TransferSyntax: {name}\n"
+
+
+NAMES = {IMPLICIT: "LittleEndianImplicit", LITTLE: "LittleEndianExplicit", BIG: "BigEndianExplicit"}
+
+
+def shown(uid, lines):
+    """The dump of a file of `file_of`."""
+    name = NAMES[uid]
+    size = len(padded(uid))
+    meta = line(0x00020000, "UL", str(8 + size), 4, 1, "FileMetaInformationGroupLength")
+    meta += line(0x00020010, "UI", f"={name}", size, 1, "TransferSyntaxUID")
+    return f"{FILE_HEADER}{meta}\n{set_header(name)}{lines}"
+
+
+NAME_LINE = line(NAME, "PN", "[AB]", 2, 1, "PatientName")
+
+
+class Case(NamedTuple):
+    claim: str
+    words: str
+    input: bytes
+    output: bytes | str = b""
+    status: int = 0
+    line: str = ""
+
+
+def fault(claim, words, content, number, at, text, output=b""):
+    return Case(claim, words, content, output, 2, f"{number} at byte {at}: {text}")
+
+
+def refused(claim, words, text):
+    return Case(claim, words, file_of(LITTLE, AB), b"", 1, text)
+
+
+DUMP = "dcmdump FILE"
+WHOLE = "dcmdump +L FILE"
+
+
+def dumps(claim, uid, data_set, lines, words=DUMP):
+    return Case(claim, words, file_of(uid, data_set), shown(uid, lines))
+
+
+def displays(claim, vr, value, display, count, uid=LITTLE, words=WHOLE):
+    keyword = "Unknown Tag & Data"
+    return dumps(claim, uid, leaf(0x00111001, vr, value, uid), line(0x00111001, vr, display, len(value), count, keyword), words)
+
+
+def converts(claim, words, source, target, data_set, converted):
+    return Case(claim, words, file_of(source, data_set), file_of(target, converted))
+
+
+CONVERT = "dcmconv FILE -"
+
+LONG_TEXT = b"a" * 65
+LONG_LINE = line(COMMENTS, "LT", "[" + "a" * 64 + "b]", 65, 1, "PatientComments")
+
+WORDS = [
+    dumps("-L cuts a display of more than 66 bytes", LITTLE, leaf(COMMENTS, "LT", LONG_TEXT), line(COMMENTS, "LT", "[" + "a" * 62 + "...", 65, 1, "PatientComments")),
+    dumps("64 bytes of text are shown whole", LITTLE, leaf(COMMENTS, "LT", b"a" * 64), line(COMMENTS, "LT", "[" + "a" * 64 + "]", 64, 1, "PatientComments")),
+    dumps("+L shows it whole", LITTLE, leaf(COMMENTS, "LT", b"a" * 64 + b"b"), LONG_LINE, WHOLE),
+    dumps("of -L and +L the last one wins", LITTLE, leaf(COMMENTS, "LT", b"a" * 64 + b"b"), LONG_LINE, "dcmdump -L FILE +L"),
+    Case("-f -te: a data set alone", "dcmdump -f -te FILE", AB, set_header("LittleEndianExplicit") + NAME_LINE),
+    Case("-f -ti", "dcmdump -f -ti FILE", leaf(NAME, "PN", b"AB", IMPLICIT), set_header("LittleEndianImplicit") + NAME_LINE),
+    Case("-f -tb", "dcmdump -tb FILE -f", leaf(NAME, "PN", b"AB", BIG), set_header("BigEndianExplicit") + NAME_LINE),
+    Case("of -ti, -te and -tb the last one wins", "dcmdump -f -ti -tb FILE", leaf(NAME, "PN", b"AB", BIG), set_header("BigEndianExplicit") + NAME_LINE),
+    Case("an empty data set alone", "dcmdump -f -te FILE", b"", set_header("LittleEndianExplicit")),
+    dumps("+fo cancels -f", LITTLE, AB, NAME_LINE, "dcmdump -f +fo FILE"),
+    refused("-f without a syntax", "dcmdump -f FILE", "V5: options do not go together"),
+    refused("a syntax without -f", "dcmdump -te FILE", "V5: options do not go together"),
+    refused("-f -ti +fo", "dcmdump -f -ti +fo FILE", "V5: options do not go together"),
+    refused("-- is not known", "dcmdump -- FILE", "V2 at word 2: unknown option"),
+    refused("there is no --help", "dcmdump --help", "V2 at word 2: unknown option"),
+    refused("there is no --version", "dcmconv --version", "V2 at word 2: unknown option"),
+    refused("a path that begins with -", "dcmdump -name", "V2 at word 2: unknown option"),
+    refused("the word after +l is its number", "dump2dcm +l FILE FILE out", "V3 at word 2: bad option value"),
+    refused("a limit that is too high", "dump2dcm +l 16385 FILE out", "V3 at word 2: bad option value"),
+    refused("V2 is before V4", "dcmdump +x", "V2 at word 2: unknown option"),
+    refused("V4 is before V5", "dcmdump -f", "V4: wrong number of paths"),
+    refused("V4 is before U1", "dcmodify -x FILE", "V4: wrong number of paths"),
+    refused("U1 is before V6", "dcmodify -x FILE FILE", "U1 in edit 1: bad option or path"),
+    converts("-e changes nothing", "dcmconv -e FILE -", LITTLE, LITTLE, AB, AB),
+    converts("of +te and +tb the last one wins", "dcmconv +te +tb FILE -", LITTLE, BIG, AB, leaf(NAME, "PN", b"AB", BIG)),
+]
+
+READING = [
+    Case("any preamble", DUMP, file_of(LITTLE, AB, b"A" * 128), shown(LITTLE, NAME_LINE)),
+    Case("the group ends with the input", DUMP, file_of(LITTLE, b""), shown(LITTLE, "")),
+    Case(
+        "the length of the group is shown and not used, its tags need not ascend, and bytes 00 and 20 after the UID do not count",
+        DUMP,
+        after_prefix(leaf(0x00020010, "UI", LITTLE + b"\0 ") + leaf(0x00020000, "UL", struct.pack("<I", 7)) + AB),
+        FILE_HEADER
+        + line(0x00020010, "UI", "[1.2.840.10008.1.2.1%00 ]", 21, 1, "TransferSyntaxUID")
+        + line(0x00020000, "UL", "7", 4, 1, "FileMetaInformationGroupLength")
+        + "\n" + set_header("LittleEndianExplicit") + NAME_LINE,
+    ),
+    Case(
+        "a private syntax is read as explicit little endian, and shown by its UID",
+        DUMP,
+        file_of(b"1.2.3.4", AB),
+        FILE_HEADER
+        + line(0x00020000, "UL", "16", 4, 1, "FileMetaInformationGroupLength")
+        + line(0x00020010, "UI", "[1.2.3.4]", 8, 1, "TransferSyntaxUID")
+        + "\n" + set_header("1.2.3.4") + NAME_LINE,
+    ),
+    dumps(
+        "implicit: the VRs of the dictionary, UL, LO and UN",
+        IMPLICIT,
+        leaf(0x00080000, "UL", struct.pack("<I", 5), IMPLICIT)
+        + leaf(0x00090010, "LO", b"AB", IMPLICIT)
+        + leaf(0x00091001, "UN", b"AB", IMPLICIT)
+        + leaf(ROWS, "US", b"\2\0", IMPLICIT)
+        + leaf(PIXELS, "OW", b"\1\2", IMPLICIT),
+        line(0x00080000, "UL", "5", 4, 1, "GenericGroupLength")
+        + line(0x00090010, "LO", "[AB]", 2, 1, "PrivateCreator")
+        + line(0x00091001, "UN", "41\\42", 2, 1, "Unknown Tag & Data")
+        + line(ROWS, "US", "2", 2, 1, "Rows")
+        + line(PIXELS, "OW", "0201", 2, 1, "PixelData"),
+    ),
+    dumps("two capitals that are no VR are read as UN", LITTLE, leaf(NAME, "ZZ", b"AB"), line(NAME, "UN", "41\\42", 2, 1, "PatientName")),
+    fault("two bytes that are not capitals", DUMP, file_of(LITTLE, leaf(NAME, "pn", b"AB")), "R7", AT_SET, "unknown value representation", shown(LITTLE, "")),
+    dumps("lengths may be odd, and tags go down or come twice", LITTLE, leaf(ID, "LO", b"A") + AB + AB, line(ID, "LO", "[A]", 1, 1, "PatientID") + NAME_LINE + NAME_LINE),
+    dumps(
+        "UN of undefined length is an implicit sequence, in big endian too",
+        BIG,
+        head(0x00091010, "UN", UNDEFINED, BIG) + open_item(leaf(NAME, "PN", b"AB", IMPLICIT), IMPLICIT) + head(0xFFFEE0DD, "", 0, IMPLICIT),
+        line(0x00091010, "UN", "(Sequence with undefined length)", "u/l", 1, "Unknown Tag & Data")
+        + line(0xFFFEE000, "na", "(Item with undefined length)", "u/l", 1, "Item", 1)
+        + line(NAME, "PN", "[AB]", 2, 1, "PatientName", 2)
+        + line(0xFFFEE00D, "na", "(ItemDelimitationItem)", 0, 0, "ItemDelimitationItem", 1)
+        + line(0xFFFEE0DD, "na", "(SequenceDelimitationItem)", 0, 0, "SequenceDelimitationItem"),
+    ),
+    dumps("UN of known length is bytes", LITTLE, leaf(IMAGES, "UN", item(b"")), line(IMAGES, "UN", "fe\\ff\\00\\e0\\00\\00\\00\\00", 8, 1, "ReferencedImageSequence")),
+    dumps(
+        "the length of a delimiter is not used",
+        LITTLE,
+        head(IMAGES, "SQ", UNDEFINED) + head(0xFFFEE0DD, "", 99) + AB,
+        line(IMAGES, "SQ", "(Sequence with undefined length)", "u/l", 1, "ReferencedImageSequence")
+        + line(0xFFFEE0DD, "na", "(SequenceDelimitationItem)", 0, 0, "SequenceDelimitationItem")
+        + NAME_LINE,
+    ),
+]
+
+SHOWING = [
+    dumps(
+        "sequences, items, fragments and their ends",
+        LITTLE,
+        open_sequence(IMAGES, item(leaf(0x00080100, "SH", b"X "))) + open_sequence(PIXELS, item(b"") + item(b"\xff\xd8"), vr="OB"),
+        line(IMAGES, "SQ", "(Sequence with undefined length)", "u/l", 1, "ReferencedImageSequence")
+        + line(0xFFFEE000, "na", "(Item with explicit length)", 10, 1, "Item", 1)
+        + line(0x00080100, "SH", "[X]", 2, 1, "CodeValue", 2)
+        + line(0xFFFEE00D, "na", "(ItemDelimitationItem for re-encoding)", 0, 0, "ItemDelimitationItem", 1)
+        + line(0xFFFEE0DD, "na", "(SequenceDelimitationItem)", 0, 0, "SequenceDelimitationItem")
+        + line(PIXELS, "OB", "(PixelSequence)", "u/l", 1, "PixelData")
+        + line(0xFFFEE000, "pi", "(no value available)", 0, 1, "Item", 1)
+        + line(0xFFFEE000, "pi", "ff\\d8", 2, 1, "Item", 1)
+        + line(0xFFFEE0DD, "na", "(SequenceDelimitationItem)", 0, 0, "SequenceDelimitationItem"),
+    ),
+    dumps(
+        "known lengths",
+        LITTLE,
+        sequence(IMAGES, open_item(b"")),
+        line(IMAGES, "SQ", "(Sequence with explicit length)", 16, 1, "ReferencedImageSequence")
+        + line(0xFFFEE000, "na", "(Item with undefined length)", "u/l", 1, "Item", 1)
+        + line(0xFFFEE00D, "na", "(ItemDelimitationItem)", 0, 0, "ItemDelimitationItem", 1)
+        + line(0xFFFEE0DD, "na", "(SequenceDelimitationItem for re-encod.)", 0, 0, "SequenceDelimitationItem"),
+    ),
+    displays("a value of length 0", "LO", b"", "(no value available)", 0),
+    displays("one pad byte is not shown", "LO", b"AB  ", "[AB ]", 1),
+    displays("an odd length has no pad byte", "LO", b"AB ", "[AB ]", 1),
+    displays("escapes", "LO", b"50%\n]\x7f\xe4", "[50%25%0A%5D%7F\udce4]", 1),
+    displays("values of a text", "LO", b"a\\b\\c ", "[a\\b\\c]", 3),
+    displays("LT has one value", "LT", b"a\\b ", "[a\\b]", 1),
+    displays("UI with a name", "UI", b"1.2.840.10008.5.1.4.1.1.2\0", "=CTImageStorage", 1),
+    displays("UI without a name", "UI", b"1.2.3\0", "[1.2.3]", 1),
+    displays("US", "US", struct.pack("<HH", 1, 65535), "1\\65535", 2),
+    displays("SS", "SS", struct.pack("<h", -5), "-5", 1),
+    displays("UL", "UL", struct.pack("<I", 4294967295), "4294967295", 1),
+    displays("SL", "SL", struct.pack("<i", -2147483648), "-2147483648", 1),
+    displays("UV", "UV", struct.pack("<Q", 18446744073709551615), "18446744073709551615", 1),
+    displays("SV", "SV", struct.pack("<q", -1), "-1", 1),
+    displays("AT", "AT", struct.pack("<HHHH", 0x0054, 0x0061, 0x7FE0, 0x0010), "(0054,0061)\\(7fe0,0010)", 2),
+    displays("OB", "OB", b"\xff\xd8", "ff\\d8", 1),
+    displays("OW", "OW", b"\1\2", "0201", 1),
+    displays("OL", "OL", struct.pack("<I", 255), "000000ff", 1),
+    displays("FL", "FL", struct.pack("<f", 1), "3f800000", 1),
+    displays("FD", "FD", struct.pack("<d", 1), "3ff0000000000000", 1),
+    displays("OD", "OD", struct.pack("<d", 1), "3ff0000000000000", 1),
+    displays("what is left after the last whole unit is not shown", "US", b"\1\0\2", "1", 1),
+    displays("a value without a whole unit has an empty display", "US", b"\1", "", 0),
+    displays("big endian units are turned", "US", struct.pack(">H", 258), "258", 1, BIG),
+    displays("the cut may fall into an escape", "LO", b"a" * 61 + b"\n" + b"a" * 4, "[" + "a" * 61 + "%...", 1, words=DUMP),
+]
+
+PADS = leaf(NAME, "PN", b"A") + leaf(IMAGES, "UI", b"1") + leaf(PIXELS, "OB", b"\1")
+PADDED = leaf(NAME, "PN", b"A ") + leaf(IMAGES, "UI", b"1\0") + leaf(PIXELS, "OB", b"\1\0")
+
+WRITING = [
+    Case(
+        "the meta group gets a new length, its other elements stay, and later syntaxes are dropped",
+        "dcmconv +tb FILE -",
+        after_prefix(
+            leaf(0x00020001, "OB", b"\0\1")
+            + leaf(0x00020010, "UI", LITTLE + b"\0")
+            + leaf(0x00020010, "UI", b"1.2\0")
+            + leaf(0x00020016, "AE", b"A")
+            + leaf(0x00020000, "UL", struct.pack("<I", 7))
+            + AB
+        ),
+        after_prefix(
+            group(leaf(0x00020001, "OB", b"\0\1"), leaf(0x00020010, "UI", BIG + b"\0"), leaf(0x00020016, "AE", b"A "))
+            + leaf(NAME, "PN", b"AB", BIG)
+        ),
+    ),
+    converts(
+        "lengths of sequences and items become undefined",
+        CONVERT,
+        LITTLE,
+        LITTLE,
+        sequence(IMAGES, item(AB)),
+        open_sequence(IMAGES, open_item(AB)),
+    ),
+    converts("lengths of groups are dropped", CONVERT, LITTLE, LITTLE, leaf(0x00100000, "UL", b"\4\0\0\0") + AB, AB),
+    converts("odd values get a pad byte", CONVERT, LITTLE, LITTLE, PADS, PADDED),
+    converts("a converted file stays as it is", CONVERT, LITTLE, LITTLE, PADDED, PADDED),
+    converts("an explicit VR stays", "dcmconv +tb FILE -", LITTLE, BIG, leaf(ROWS, "LO", b"AB"), leaf(ROWS, "LO", b"AB", BIG)),
+    converts("an unknown VR becomes UN", CONVERT, LITTLE, LITTLE, leaf(NAME, "ZZ", b"AB"), leaf(NAME, "UN", b"AB")),
+    converts("a tag that the dictionary lacks becomes UN", "dcmconv +te FILE -", IMPLICIT, LITTLE, leaf(0x00091001, "UN", b"AB", IMPLICIT), leaf(0x00091001, "UN", b"AB")),
+    converts("an implicit target has no VRs", "dcmconv +ti FILE -", LITTLE, IMPLICIT, AB, leaf(NAME, "PN", b"AB", IMPLICIT)),
+    converts(
+        "UN of undefined length becomes SQ",
+        "dcmconv +te FILE -",
+        BIG,
+        LITTLE,
+        head(0x00091010, "UN", UNDEFINED, BIG) + item(leaf(ROWS, "US", b"\2\1", IMPLICIT), IMPLICIT) + head(0xFFFEE0DD, "", 0, IMPLICIT),
+        open_sequence(0x00091010, open_item(leaf(ROWS, "US", b"\2\1"))),
+    ),
+    converts(
+        "a value that is too long for its head becomes UN",
+        "dcmconv +te FILE -",
+        IMPLICIT,
+        LITTLE,
+        leaf(NAME, "PN", b"a" * 65535, IMPLICIT),
+        leaf(NAME, "UN", b"a" * 65535 + b" "),
+    ),
+    converts("65,534 bytes are not too long", "dcmconv +te FILE -", IMPLICIT, LITTLE, leaf(NAME, "PN", b"a" * 65534, IMPLICIT), leaf(NAME, "PN", b"a" * 65534)),
+    converts(
+        "units are turned, but UN and what is left after the last unit stay",
+        "dcmconv +tb FILE -",
+        LITTLE,
+        BIG,
+        leaf(ROWS, "US", b"\1\2\3") + leaf(0x00281052, "AT", b"\1\2\3\4") + leaf(0x00291001, "UN", b"\1\2") + leaf(0x00291002, "FD", b"\1\2\3\4\5\6\7\x08"),
+        leaf(ROWS, "US", b"\2\1\3\0", BIG)
+        + leaf(0x00281052, "AT", b"\2\1\4\3", BIG)
+        + leaf(0x00291001, "UN", b"\1\2", BIG)
+        + leaf(0x00291002, "FD", b"\x08\7\6\5\4\3\2\1", BIG),
+    ),
+    converts(
+        "fragments stay, but for a pad byte",
+        CONVERT,
+        JPEG,
+        JPEG,
+        open_sequence(PIXELS, item(b"\0\0\0\0") + item(b"\xff"), vr="OB"),
+        open_sequence(PIXELS, item(b"\0\0\0\0") + item(b"\xff\0"), vr="OB"),
+    ),
+    converts("order and repeats stay", CONVERT, LITTLE, LITTLE, AB + AB + leaf(ROWS, "US", b"\1\0") + AB, AB + AB + leaf(ROWS, "US", b"\1\0") + AB),
+    fault("a fragment list has no place in big endian", "dcmconv +tb FILE -", file_of(LITTLE, AB + open_sequence(PIXELS, b"", vr="OB")), "R13", AT_SET + 10, "fragments not allowed in the target syntax", file_of(BIG, leaf(NAME, "PN", b"AB", BIG))),
+    fault("an encapsulated syntax cannot be changed", "dcmconv +te FILE -", file_of(JPEG, AB), "R14", len(file_of(JPEG, b"")), "encapsulated syntax cannot be changed"),
+]
+
+SYNTAX_LINE = b"(0002,0010) UI =LittleEndianExplicit\n"
+AT_LINE = len(SYNTAX_LINE)
+BUILD = "dump2dcm FILE -"
+
+
+def builds(claim, lines, data_set, words=BUILD):
+    return Case(claim, words, SYNTAX_LINE + lines, file_of(LITTLE, data_set))
+
+
+def bad_line(claim, lines, number, at, place, text, data_set=b"", words=BUILD):
+    return in_group(claim, lines, number, at, place, text, file_of(LITTLE, data_set), words)
+
+
+def in_group(claim, lines, number, at, place, text, output=b"", words=BUILD):
+    return Case(claim, words, SYNTAX_LINE + lines, output, 2, f"{number} at byte {at}, line {place}: {text}")
+
+
+NO_SYNTAX = "no usable transfer syntax"
+
+BUILDING = [
+    builds("the last line may lack its newline, and one carriage return is dropped", b"(0010,0010) PN [AB]\r", AB),
+    builds("comments and spaces are skipped", b"   \n# (0010,0010) PN [A]\n  (0010,0010)  PN  [AB]  # what\n\n", AB),
+    builds("digits of either case", b"(7Fe0,0010) OB Ff\\d8\n", leaf(PIXELS, "OB", b"\xff\xd8")),
+    builds("escapes, and a pad byte", b"(0010,0010) PN [a%5db%0A]\n", leaf(NAME, "PN", b"a]b\n")),
+    builds("a UID by its name", b"(0008,0016) UI =CTImageStorage\n", leaf(0x00080016, "UI", b"1.2.840.10008.5.1.4.1.1.2\0")),
+    builds("numbers", b"(0028,0010) SS -1\\32767\n", leaf(ROWS, "SS", struct.pack("<hh", -1, 32767))),
+    builds("units of hexadecimal digits", b"(0028,0010) OW 0201\n(0028,0011) FD 3ff0000000000000\n", leaf(ROWS, "OW", b"\1\2") + leaf(0x00280011, "FD", struct.pack("<d", 1))),
+    builds("the empty value", b"(0028,0010) US (no value available)\n", leaf(ROWS, "US", b"")),
+    builds(
+        "sequences and items",
+        b"(0008,1140) SQ (Sequence with explicit length)\n(fffe,e000) na (Item with what)\n(0010,0010) PN [AB]\n"
+        b"(fffe,e00d) na (ItemDelimitationItem\n(fffe,e0dd) na (SequenceDelimitationItem)\n",
+        open_sequence(IMAGES, open_item(AB)),
+    ),
+    builds(
+        "fragments",
+        b"(7fe0,0010) OB (PixelSequence)\n(fffe,e000) pi (no value available)\n(fffe,e000) pi ff\n(fffe,e0dd) na (SequenceDelimitationItem)\n",
+        open_sequence(PIXELS, item(b"") + item(b"\xff\0"), vr="OB"),
+    ),
+    in_group("B1 counts comments too, and before the meta group's end nothing is written", b"#" + b"a" * 80 + b"\n", "B1", AT_LINE, 2, "line too long", words="dump2dcm +l 80 FILE -"),
+    builds("a line of 80 bytes is not too long", b"#" + b"a" * 79 + b"\n", b"", "dump2dcm +l 0080 FILE -"),
+    in_group("B2", b"(0010,0010) PN [A]B]\n", "B2", AT_LINE, 2, "not a dump line"),
+    bad_line("B3: a text without its brackets", b"(0010,0010) PN AB\n", "B3", AT_LINE, 2, "value does not fit"),
+    bad_line("B3: a number out of range", b"(0028,0010) US 65536\n", "B3", AT_LINE, 2, "value does not fit"),
+    bad_line("B3: a number with a fraction", b"(0028,0010) FD 1.0\n", "B3", AT_LINE, 2, "value does not fit"),
+    bad_line("B3: a value that was cut", b"(0010,0010) PN [AB...\n", "B3", AT_LINE, 2, "value does not fit"),
+    bad_line("B3: an unknown name", b"(0008,0016) UI =CT\n", "B3", AT_LINE, 2, "value does not fit"),
+    bad_line("B3: a bad escape", b"(0010,0010) PN [A%4]\n", "B3", AT_LINE, 2, "value does not fit"),
+    bad_line("B4: an item outside of a sequence", b"(fffe,e000) na (Item with\n", "B4", AT_LINE, 2, "not allowed here"),
+    bad_line("B4: an end of what is not open", b"(0010,0010) PN [AB]\n(fffe,e0dd) na (SequenceDelimitationItem)\n", "B4", AT_LINE + 20, 3, "not allowed here", AB),
+    bad_line("B5", b"(0010,0010) PN [AB]\n(0010,0010) PN [AB]\n", "B5", AT_LINE + 20, 3, "tags not ascending", AB),
+    bad_line("B6: group 0002 after another group", b"(0010,0010) PN [AB]\n(0002,0016) AE [A]\n", "B6", AT_LINE + 20, 3, "bad meta group", AB),
+    Case("B7: the group names no syntax", BUILD, b"(0002,0016) AE [A]\n(0010,0010) PN [AB]\n", b"", 2, f"B7 at byte 19, line 2: {NO_SYNTAX}"),
+    Case("B7: a deflated syntax", BUILD, b"(0002,0010) UI =DeflatedLittleEndianExplicit\n", b"", 2, f"B7 at byte 45, line 2: {NO_SYNTAX}"),
+    bad_line(
+        "B8",
+        b"(0008,1140) SQ (Sequence with\n(fffe,e000) na (Item with\n" * 64 + b"(0008,1140) SQ (Sequence with\n",
+        "B8",
+        AT_LINE + 64 * 56,
+        130,
+        "nested too deep",
+        (head(IMAGES, "SQ", UNDEFINED) + head(0xFFFEE000, "", UNDEFINED)) * 64,
+    ),
+    bad_line("B9", b"(0008,1140) SQ (Sequence with\n", "B9", AT_LINE + 30, 3, "input ends too early", head(IMAGES, "SQ", UNDEFINED)),
+]
+
+
+def edits(claim, words, data_set, edited, uid=LITTLE):
+    return Case(claim, f"dcmodify {words} FILE -", file_of(uid, data_set), file_of(uid, edited))
+
+
+def lost(claim, words, data_set, edited, *numbers):
+    told = "\ndcmtools: ".join(f"edit {number} found no place" for number in numbers)
+    return Case(claim, f"dcmodify {words} FILE -", file_of(LITTLE, data_set), file_of(LITTLE, edited), 3, told)
+
+
+def bad_edit(claim, words, text):
+    return refused(claim, f"dcmodify {words} FILE out", text)
+
+
+def instance(text):
+    return leaf(INSTANCE, "UI", text)
+
+
+TWO_ITEMS = open_sequence(IMAGES, open_item(instance(b"1\0")) + open_item(instance(b"2\0")))
+PRIVATE = leaf(0x00110010, "LO", b"AB") + leaf(0x00111001, "UN", b"AB")
+
+EDITING = [
+    edits("-i replaces", "-i PatientName=CD", AB, leaf(NAME, "PN", b"CD")),
+    edits("-i puts what is missing, by tag order", "-i PatientName=AB", leaf(0x00080060, "CS", b"OT") + leaf(ROWS, "US", b"\1\0"), leaf(0x00080060, "CS", b"OT") + AB + leaf(ROWS, "US", b"\1\0")),
+    edits("digits of either case, an odd value and its pad byte", "-m '(7fE0,0010)=0201' -m PatientName=A", AB + leaf(PIXELS, "OB", b"\1\0"), leaf(NAME, "PN", b"A ") + leaf(PIXELS, "OW", b"\1\2")),
+    edits("the value is all that follows the first =", "-m PatientName==A", AB, leaf(NAME, "PN", b"=A")),
+    edits("without = it is empty", "-m PatientName", AB, leaf(NAME, "PN", b"")),
+    edits("numbers", "-m Rows=258", leaf(ROWS, "LO", b"AB"), leaf(ROWS, "US", b"\2\1")),
+    edits("the value is turned in a big endian file", "-m Rows=258", leaf(ROWS, "US", b"\0\1", BIG), leaf(ROWS, "US", b"\1\2", BIG), BIG),
+    edits("-e erases an element", "-e PatientName", AB + leaf(ROWS, "US", b"\1\0"), leaf(ROWS, "US", b"\1\0")),
+    edits("-e erases an item", "-e 'ReferencedImageSequence[0]'", TWO_ITEMS, open_sequence(IMAGES, open_item(instance(b"2\0")))),
+    edits("a step leads into one item", "-m 'ReferencedImageSequence[1].ReferencedSOPInstanceUID=34'", TWO_ITEMS, open_sequence(IMAGES, open_item(instance(b"1\0")) + open_item(instance(b"34")))),
+    edits("* leads into every item", "-e 'ReferencedImageSequence[*].ReferencedSOPInstanceUID'", TWO_ITEMS, open_sequence(IMAGES, open_item(b"") * 2)),
+    edits("-ma at all depths", "-ma ReferencedSOPInstanceUID=34", TWO_ITEMS + AB, open_sequence(IMAGES, open_item(instance(b"34")) * 2) + AB),
+    edits("-ea at all depths", "-ea ReferencedSOPInstanceUID", TWO_ITEMS + AB, open_sequence(IMAGES, open_item(b"") * 2) + AB),
+    edits("-ep at all depths", "-ep", open_sequence(IMAGES, open_item(instance(b"1\0") + PRIVATE)) + PRIVATE, open_sequence(IMAGES, open_item(instance(b"1\0")))),
+    edits(
+        "-i makes missing sequences, one for several edits",
+        "-i 'ReferencedImageSequence[0].ReferencedSOPInstanceUID=12' -i 'ReferencedImageSequence[0].PatientName=AB'",
+        leaf(ROWS, "US", b"\1\0"),
+        open_sequence(IMAGES, open_item(instance(b"12") + AB)) + leaf(ROWS, "US", b"\1\0"),
+    ),
+    lost("-i into an item that is missing", "-i 'ReferencedImageSequence[2].PatientName=AB'", TWO_ITEMS, TWO_ITEMS, 1),
+    lost("-m of what is missing, beside another edit", "-m PatientID=7 -e PatientName -e Rows", AB, b"", 1, 3),
+    lost("a sequence without items is not missing", "-i 'ReferencedImageSequence[0].PatientName=AB'", open_sequence(IMAGES, b""), open_sequence(IMAGES, b""), 1),
+    lost("UN of known length is opaque", "-ea ReferencedSOPInstanceUID", leaf(IMAGES, "UN", item(instance(b"1\0"))), leaf(IMAGES, "UN", item(instance(b"1\0"))), 1),
+    edits("an edit is judged by the input: what is erased is found", "-e 'ReferencedImageSequence[0]' -ma ReferencedSOPInstanceUID=34", open_sequence(IMAGES, open_item(instance(b"1\0"))), open_sequence(IMAGES, b"")),
+    fault("tags have to ascend, in what is erased too", "dcmodify -e ReferencedImageSequence FILE -", file_of(LITTLE, open_sequence(IMAGES, open_item(AB + AB))), "R12", AT_SET + 30, "tags not ascending", file_of(LITTLE, b"")),
+    bad_edit("U1: an index at the end of -m", "-m 'ReferencedImageSequence[0]=1'", "U1 in edit 1: bad option or path"),
+    bad_edit("U1: an index in -ea", "-ea 'ReferencedImageSequence[0]'", "U1 in edit 1: bad option or path"),
+    bad_edit("U1: an index of ten digits", "-e 'ReferencedImageSequence[0000000001]'", "U1 in edit 1: bad option or path"),
+    bad_edit("U1: 65 indexes", "-e " + ".".join(["'ContentSequence[0]'"] * 65), "U1 in edit 1: bad option or path"),
+    bad_edit("U3: a value that is too long", "-m PatientComments=" + "a" * 65537, "U3 in edit 1: value does not fit"),
+    bad_edit("U6: a beginning of a path", "-e ContentSequence -e 'ContentSequence[0].CodeMeaning'", "U6 in edit 2: edits overlap"),
+    bad_edit("U6: * and a number", "-e 'ContentSequence[*].CodeMeaning' -e 'ContentSequence[0].CodeMeaning'", "U6 in edit 2: edits overlap"),
+    bad_edit("U6: two erased items", "-e 'ContentSequence[0]' -e 'ContentSequence[1]'", "U6 in edit 2: edits overlap"),
+    bad_edit("U6: -ma and a path", "-ma PatientID=7 -e 'ContentSequence[0].PatientID'", "U6 in edit 2: edits overlap"),
+    bad_edit("U2 of a tag is before U4", "-e 'PatientID[0].Nothing'", "U2 in edit 1: unknown tag"),
+    bad_edit("U6 is reported last", "-e PatientID -e PatientID -x", "U1 in edit 3: bad option or path"),
+]
+
+SEQUENCE_OF_20 = head(IMAGES, "SQ", 20)
+OPENED = line(IMAGES, "SQ", "(Sequence with explicit length)", 20, 1, "ReferencedImageSequence")
+
+FAULTS = [
+    fault("R1: fewer than 132 bytes", DUMP, bytes(131), "R1", 131, "input ends too early"),
+    fault("R1: exactly one byte after the group", DUMP, file_of(LITTLE, b"\x10"), "R1", AT_SET + 1, "input ends too early"),
+    fault("R1: a head that is cut", DUMP, file_of(LITTLE, AB[:7]), "R1", AT_SET + 7, "input ends too early", shown(LITTLE, "")),
+    fault("R1: a value that is cut, with -L", DUMP, file_of(LITTLE, AB[:9]), "R1", AT_SET + 9, "input ends too early", shown(LITTLE, "")),
+    fault("R1: a value that is cut, with +L", WHOLE, file_of(LITTLE, AB[:9]), "R1", AT_SET + 9, "input ends too early", shown(LITTLE, "(0010,0010) PN [A")),
+    fault("R1: units of a value that is cut, with +L", WHOLE, file_of(LITTLE, head(ROWS, "US", 6) + b"\1\0\2"), "R1", AT_SET + 11, "input ends too early", shown(LITTLE, "(0028,0010) US 1")),
+    fault("R1: an item that is open", DUMP, file_of(LITTLE, head(IMAGES, "SQ", UNDEFINED)), "R1", AT_SET + 12, "input ends too early", shown(LITTLE, line(IMAGES, "SQ", "(Sequence with undefined length)", "u/l", 1, "ReferencedImageSequence"))),
+    fault("R1 of dcmconv: the head, with the length of the whole, and what came", "dcmconv +tb FILE -", file_of(LITTLE, head(ROWS, "US", 6) + b"\1\0\2"), "R1", AT_SET + 11, "input ends too early", file_of(BIG, head(ROWS, "US", 6, BIG) + b"\0\1")),
+    fault("R1 of dcmodify: an element that is replaced is written whole", "dcmodify -m PatientName=CDEF FILE -", file_of(LITTLE, AB[:9]), "R1", AT_SET + 9, "input ends too early", file_of(LITTLE, leaf(NAME, "PN", b"CDEF"))),
+    fault("R2", DUMP, bytes(140), "R2", 128, "no DICM prefix"),
+    fault("R3: a sequence in the meta group", DUMP, after_prefix(sequence(0x00020016, b"")), "R3", 132, "bad meta element"),
+    fault("R3: small letters", DUMP, after_prefix(leaf(0x00020016, "ae", b"")), "R3", 132, "bad meta element"),
+    fault("R4", DUMP, after_prefix(leaf(0x00020102, "OB", bytes(16373))), "R4", 132, "meta group too large"),
+    fault("R5", DUMP, after_prefix(leaf(0x00020016, "AE", b"A ") + AB), "R5", 142, "no transfer syntax"),
+    fault("R6", DUMP, file_of(b"1.2.840.10008.1.2.1.99", AB), "R6", len(file_of(b"1.2.840.10008.1.2.1.99", b"")), "deflated transfer syntax"),
+    fault("R6 of a second one", DUMP, file_of(b"1.2.840.10008.1.2.4.95", AB), "R6", len(file_of(b"1.2.840.10008.1.2.4.95", b"")), "deflated transfer syntax"),
+    fault("R6 of a third one", DUMP, file_of(b"1.2.840.10008.1.2.4.205", AB), "R6", len(file_of(b"1.2.840.10008.1.2.4.205", b"")), "deflated transfer syntax"),
+    fault("R8", DUMP, file_of(LITTLE, head(NAME, "UT", UNDEFINED)), "R8", AT_SET, "undefined length not allowed", shown(LITTLE, "")),
+    fault("R9: group 0002 in a data set", DUMP, file_of(LITTLE, AB + leaf(0x00020010, "UI", b"")), "R9", AT_SET + 10, "tag not allowed here", shown(LITTLE, NAME_LINE)),
+    fault("R9: an item in a data set", DUMP, file_of(LITTLE, item(b"")), "R9", AT_SET, "tag not allowed here", shown(LITTLE, "")),
+    fault("R9: an element in a list", DUMP, file_of(LITTLE, SEQUENCE_OF_20 + leaf(NAME, "PN", b"a" * 12)), "R9", AT_SET + 12, "tag not allowed here", shown(LITTLE, OPENED)),
+    fault("R10: an item passes its sequence", DUMP, file_of(LITTLE, SEQUENCE_OF_20 + item(bytes(13))), "R10", AT_SET + 12, "passes the end of its container", shown(LITTLE, OPENED)),
+    fault(
+        "R11",
+        "dcmdump FILE | tail -n 1 | cut -c 1-10; exit ${PIPESTATUS[0]}",
+        file_of(LITTLE, (head(IMAGES, "SQ", UNDEFINED) + head(0xFFFEE000, "", UNDEFINED)) * 64 + head(IMAGES, "SQ", UNDEFINED)),
+        "R11",
+        AT_SET + 64 * 20,
+        "nested too deep",
+        "          \n",
+    ),
+    fault("UN that an implicit target makes a sequence", "dcmdump FILE", file_of(IMPLICIT, leaf(IMAGES, "SQ", b"ab", IMPLICIT)), "R10", AT_IMPLICIT + 8, "passes the end of its container", shown(IMPLICIT, line(IMAGES, "SQ", "(Sequence with explicit length)", 2, 1, "ReferencedImageSequence"))),
+]
+
+
+# ---- the runs
+
+
+def bytes_of(output):
+    return output if isinstance(output, bytes) else output.encode("utf-8", "surrogateescape")
+
+
+def wrong_case(binary, case):
+    """What is wrong with a case, or nothing."""
+    with tempfile.TemporaryDirectory() as folder:
+        with open(os.path.join(folder, "FILE"), "wb") as file:
+            file.write(case.input)
+        words = ["bash", "-c", f'"$0" {case.words}', binary]
+        done = subprocess.run(words, cwd=folder, capture_output=True, timeout=60, check=False)
+        told = f"dcmtools: {case.line}\n".encode() if case.line else b""
+        if (done.returncode, done.stderr) != (case.status, told):
+            return f"status {done.returncode}, {done.stderr!r}"
+        if done.stdout != bytes_of(case.output):
+            return f"wrote {done.stdout!r}\n  and not {bytes_of(case.output)!r}"
+        if os.listdir(folder) != ["FILE"]:
+            return f"left {os.listdir(folder)}"
+        return ""
+
+
+def main():
+    binary = os.path.abspath(sys.argv[1] if len(sys.argv) > 1 else os.path.join(ROOT, "crates/dcmtools/out/dcmtools"))
+    cases = WORDS + READING + SHOWING + WRITING + BUILDING + EDITING + FAULTS
+    answers = [(case.claim, wrong_case(binary, case)) for case in cases]
+    for claim, wrong in answers:
+        if wrong:
+            print(f"{claim}: {wrong}")
+    wrong = sum(bool(wrong) for _, wrong in answers)
+    print(f"{len(answers)} claims, {wrong} wrong")
+    return 1 if wrong else 0
+
+
+if __name__ == "__main__":
+    sys.exit(main())
