@@ -1,5 +1,5 @@
 -- A file through edits: what its run has come to.
-use Rattle.std.proofs.Common.{◌≡◌, ◌∙◌, ap, ℕ, ◌+◌, List, length, Bool, true, Option, Some, None, refl}
+use Rattle.std.proofs.Common.{◌≡◌, ◌∙◌, ap, ℕ, ◌+◌, List, length, true, Option, Some, None, refl}
 use Rattle.dcm_base.specs.Stop.{complete}
 use Rattle.dcm_stream.specs.Reading.{start_of}
 use Rattle.dcm_edit.specs.Edit.{Edit}

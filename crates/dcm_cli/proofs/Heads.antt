@@ -48,6 +48,10 @@ begins_in r old front piece buffer n used read ahead left o bytes e ended begins
       over = λ never. absurd (cc);
     }
 
+-- a head that goes on, by its bytes
+pub going_on : (r : Reading) (front : List ℕ) → r ≡ head_read front → r.end ≡ None → (head_read front).end ≡ None
+going_on r front is none = ap (λ (x : Reading). x.end) (sym is) ∙ none
+
 -- what is left to be read of a head falls
 pub less_left : (read n : ℕ) → read < 16528 → (n ≡ 0 → ⊥) → 16528 - (read + n) < 16528 - read
 less_left read n few some = omega (arith, few, some)

@@ -20,3 +20,4 @@ pub mod OneSource
 pub mod NoEdits
 pub mod DumpBuilds
 pub mod OneAnswer
+pub mod Stopping

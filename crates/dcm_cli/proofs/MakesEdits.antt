@@ -1,6 +1,6 @@
 -- What dcmodify makes of a data set, by the edit sink before the encode sink.
-use Rattle.std.proofs.Common.{◌≡◌, ◌∙◌, ap, sym, ℕ, ◌≤◌, List, ◌++◌, length, refl}
-use Rattle.std.specs.Prelude.{fold, map}
+use Rattle.std.proofs.Common.{◌≡◌, ◌∙◌, ap, ℕ, ◌≤◌, List, ◌++◌, length, refl}
+use Rattle.std.specs.Prelude.{map}
 use Rattle.dcm_base.specs.declared.syntax.Coding.{Coding}
 use Rattle.dcm_base.specs.declared.syntax.Syntax.{Syntax}
 use Rattle.dcm_base.specs.Atoms.{Atom, front_atoms}

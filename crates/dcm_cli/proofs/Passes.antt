@@ -53,6 +53,10 @@ module _ {S : Type 0} (bars : S → Head → Option Bar) (step : S → Atom → 
       → ((new.reading, t) ≡ fold (steps bars step) (old.reading, s) read) × (holds ≡ append_known held (outputs (steps bars step) (steps_write bars step writes) (old.reading, s) read))
   went fed = subst (λ (f : Bool). Goes (steps bars step) (steps_write bars step writes) (old.reading, s) held (new.reading, t) holds read (well f)) (not_failed new.reading.halt new.failed (sym fed.answer_is)) fed.goes
 
+  -- it has not halted
+  pub still_going : Fed bars step writes old s held had_failed new t holds has_failed read (Ok tt) → (fold (steps bars step) (old.reading, s) read).0.halt ≡ None
+  still_going fed = ap (λ (q : Reading × S). q.0.halt) (sym (went fed).0) ∙ going_none new fed.going
+
   -- reading fails behind these bytes
   pub ends_unread : (left : Option (List ℕ)) → Fed bars step writes old s held had_failed new t holds has_failed read (Ok tt)
       → Ends bars step writes old.reading s held left t holds read (Unread (next_offset old.reading + length read))
@@ -132,6 +136,9 @@ module _ {S : Type 0} (bars : S → Head → Option Bar) (step : S → Atom → 
       sym (append_assoc first_out more_out (last stop (fold (steps bars step) (mid.reading, m) more)))
       ∙ ap (λ bytes. bytes ++ last stop (fold (steps bars step) (mid.reading, m) more)) outs
       ∙ ap (λ (q : Reading × S). outputs (steps bars step) (steps_write bars step writes) (old.reading, s) (first ++ more) ++ last stop q) (sym same)
+
+  pub going_behind : (fold (steps bars step) (mid.reading, m) more).0.halt ≡ None → (fold (steps bars step) (old.reading, s) (first ++ more)).0.halt ≡ None
+  going_behind none = ap (λ (q : Reading × S). q.0.halt) same ∙ none
 
   pub ends_behind : (left : Option (List ℕ)) (u : S) (holds : Option (List ℕ)) (ending : Ending) → Ends bars step writes mid.reading m mid_held left u holds more ending
       → Ends bars step writes old.reading s held left u holds (first ++ more) ending

@@ -7,6 +7,7 @@ use Rattle.dcm_edit.specs.EditSink.{State, begun}
 use Rattle.dcm_edit.specs.Through.{through_bar, through_step, through_writes}
 use Rattle.dcm_cli.specs.declared.ending.Ending.{Ending}
 use Rattle.dcm_cli.specs.Pass.{BehindBegun, WasRead, with_unplaced}
+use Rattle.dcm_cli.specs.Stops.{BehindStops}
 
 -- of answers one after another those that are no: bit 0 is set for the first
 unfoldable pub not_found : List Bool → ℕ
@@ -20,3 +21,7 @@ pub record EditPass {S : Type 0} (sink : Ghosts S) (edits : List Edit) (old new 
   pub ends : BehindBegun through_bar (through_step sink.step) (through_writes sink.step sink.writes) had buffered first (begun edits, sink.state old) (sink.contents old) left (last, sink.state new) (sink.contents new) passed
   pub was : is_over ≡ true → WasRead passed
   pub ending_is : ending ≡ with_unplaced passed (not_found last.found)
+
+-- before the last piece the reading of a data set through edits had not halted
+abbrev pub EditStops : {S : Type 0} → Ghosts S → (edits : List Edit) → (old : S) → (first : Reading) → (buffered : List ℕ) → (is_over : Bool) → (had left : Option (List ℕ)) → Type 0
+EditStops sink edits old first buffered is_over had left = BehindStops through_bar (through_step sink.step) first (begun edits, sink.state old) buffered is_over had left

@@ -9,3 +9,4 @@ pub mod Devices
 pub mod DumpBuilds
 pub mod NoEdits
 pub mod Opening
+pub mod Stops

@@ -1,11 +1,12 @@
 -- What the pass over a data set leaves of a sink, by the sink's members.
-use Rattle.std.specs.Prelude.{ℕ, List, Option, Result}
+use Rattle.std.specs.Prelude.{ℕ, List, Bool, Option, Result}
 use Rattle.dcm_stream.specs.declared.machine.Halt.{Halt}
 use Rattle.dcm_stream.specs.declared.sink.Sink.{Ghosts}
 use Rattle.dcm_stream.specs.Machine.{Progress}
 use Rattle.dcm_stream.specs.Reading.{Reading}
 use Rattle.dcm_cli.specs.declared.ending.Ending.{Ending}
 use Rattle.dcm_cli.specs.Pass as pass
+use Rattle.dcm_cli.specs.Stops as stops
 
 -- a machine and the sink were fed these bytes
 abbrev pub Fed : {S : Type 0} → Ghosts S → (old new : S) → (before after : Progress) → List ℕ → Result (Unit {0}) Halt → Type 0
@@ -27,3 +28,10 @@ BehindBegun sink old new had left begun first ending = pass.BehindBegun sink.bar
 -- its writer failed in the call exactly where that is the ending
 abbrev pub TellsOutput : {S : Type 0} → Ghosts S → (old new : S) → Ending → Type 0
 TellsOutput sink old new ending = pass.TellsOutput (sink.has_failed old) (sink.has_failed new) ending
+
+-- before the last piece the reading of a data set, of which these bytes were read, had not halted
+abbrev pub Stops : {S : Type 0} → Ghosts S → (old : S) → (first : Reading) → (begun : List ℕ) → (had left : Option (List ℕ)) → Type 0
+Stops sink old first begun had left = stops.SetStops sink.bar sink.step first (sink.state old) begun had left
+
+abbrev pub BehindStops : {S : Type 0} → Ghosts S → (old : S) → (first : Reading) → (begun : List ℕ) → (is_over : Bool) → (had left : Option (List ℕ)) → Type 0
+BehindStops sink old first begun is_over had left = stops.BehindStops sink.bar sink.step first (sink.state old) begun is_over had left

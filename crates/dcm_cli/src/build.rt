@@ -5,6 +5,7 @@ ghost use Rattle.dcm_build.specs.Builder as builder_spec;
 ghost use Rattle.dcm_cli.specs.Lines as lines;
 ghost use Rattle.dcm_cli.specs.Pass as spec;
 ghost use Rattle.dcm_cli.specs.Run.{Worked};
+ghost use Rattle.dcm_cli.specs.Stops.{Stops};
 
 use crate::ending::{Ending, Verdict};
 use dcm_base::{DeviceIn, DeviceOut, Watched, get_some};
@@ -45,6 +46,7 @@ fn build_lines<R: DeviceIn, W: DeviceOut>(
     requires room { 0 < length buffer.old }
     requires bound { length buffer.old ≤ 65536 }
     ensures worked { (file : List ℕ) → R.remaining input.old ≡ Some file → Worked (build_job limit) file (R.remaining input.new) (W.contents out.old) (W.contents out.new) result }
+    ensures stops { (file : List ℕ) → R.remaining input.old ≡ Some file → Stops (build_job limit) file (R.remaining input.new) }
     ensures unread { spec.TellsUnread (R.has_failed input.old) (R.has_failed input.new) result }
     ensures failed { spec.TellsOutput (W.has_failed out.old) (W.has_failed out.new) result }
 {
@@ -70,6 +72,7 @@ pub fn build<R: DeviceIn, W: DeviceOut>(
     out: &mut Watched<W>,
 ) -> Ending
     ensures worked { (file : List ℕ) → R.remaining input.old ≡ Some file → Worked (build_job build.limit) file (R.remaining input.new) (W.contents out.old) (W.contents out.new) result }
+    ensures stops { (file : List ℕ) → R.remaining input.old ≡ Some file → Stops (build_job build.limit) file (R.remaining input.new) }
     ensures unread { spec.TellsUnread (R.has_failed input.old) (R.has_failed input.new) result }
     ensures failed { spec.TellsOutput (W.has_failed out.old) (W.has_failed out.new) result }
 {

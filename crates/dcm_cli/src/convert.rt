@@ -3,6 +3,7 @@ ghost use Rattle.std.specs.Prelude.{◌≡◌, ◌≤◌, ◌<◌, ℕ, List, le
 ghost use Rattle.dcm_words.specs.Words.{convert as convert_job};
 ghost use Rattle.dcm_cli.specs.Pass as spec;
 ghost use Rattle.dcm_cli.specs.Run.{Worked};
+ghost use Rattle.dcm_cli.specs.Stops.{Stops};
 
 use crate::ending::Ending;
 use crate::pass::read_set;
@@ -24,6 +25,7 @@ fn convert_file<R: DeviceIn, W: DeviceOut>(
     requires room { 0 < length buffer.old }
     requires bound { length buffer.old ≤ 262144 }
     ensures worked { (file : List ℕ) → R.remaining input.old ≡ Some file → Worked (convert_job target) file (R.remaining input.new) (W.contents out.old) (W.contents out.new) result }
+    ensures stops { (file : List ℕ) → R.remaining input.old ≡ Some file → Stops (convert_job target) file (R.remaining input.new) }
     ensures unread { spec.TellsUnread (R.has_failed input.old) (R.has_failed input.new) result }
     ensures failed { spec.TellsOutput (W.has_failed out.old) (W.has_failed out.new) result }
 {
@@ -48,6 +50,7 @@ pub fn convert<R: DeviceIn, W: DeviceOut>(
     out: &mut Watched<W>,
 ) -> Ending
     ensures worked { (file : List ℕ) → R.remaining input.old ≡ Some file → Worked (convert_job convert.target) file (R.remaining input.new) (W.contents out.old) (W.contents out.new) result }
+    ensures stops { (file : List ℕ) → R.remaining input.old ≡ Some file → Stops (convert_job convert.target) file (R.remaining input.new) }
     ensures unread { spec.TellsUnread (R.has_failed input.old) (R.has_failed input.new) result }
     ensures failed { spec.TellsOutput (W.has_failed out.old) (W.has_failed out.new) result }
 {

@@ -5,6 +5,7 @@ ghost use Rattle.dcm_base.specs.declared.syntax.Syntax.{Syntax};
 ghost use Rattle.dcm_words.specs.Words.{dump as dump_job};
 ghost use Rattle.dcm_cli.specs.Pass as spec;
 ghost use Rattle.dcm_cli.specs.Run.{Worked};
+ghost use Rattle.dcm_cli.specs.Stops.{Stops};
 
 use crate::ending::{Ending, ending_of_head};
 use crate::head::{read_head_of, set_start};
@@ -29,6 +30,7 @@ fn dump_file<R: DeviceIn, W: DeviceOut>(
     requires room { 0 < length buffer.old }
     requires bound { length buffer.old ≤ 65536 }
     ensures worked { (file : List ℕ) → R.remaining input.old ≡ Some file → Worked (dump_job mode None) file (R.remaining input.new) (W.contents out.old) (W.contents out.new) result }
+    ensures stops { (file : List ℕ) → R.remaining input.old ≡ Some file → Stops (dump_job mode None) file (R.remaining input.new) }
     ensures unread { spec.TellsUnread (R.has_failed input.old) (R.has_failed input.new) result }
     ensures failed { spec.TellsOutput (W.has_failed out.old) (W.has_failed out.new) result }
 {
@@ -56,6 +58,7 @@ fn dump_set<R: DeviceIn, W: DeviceOut>(
     requires room { 0 < length buffer.old }
     requires bound { length buffer.old ≤ 65536 }
     ensures worked { (file : List ℕ) → R.remaining input.old ≡ Some file → Worked (dump_job mode (Some syntax)) file (R.remaining input.new) (W.contents out.old) (W.contents out.new) result }
+    ensures stops { (file : List ℕ) → R.remaining input.old ≡ Some file → Stops (dump_job mode (Some syntax)) file (R.remaining input.new) }
     ensures unread { spec.TellsUnread (R.has_failed input.old) (R.has_failed input.new) result }
     ensures failed { spec.TellsOutput (W.has_failed out.old) (W.has_failed out.new) result }
 {
@@ -77,6 +80,7 @@ pub fn dump<R: DeviceIn, W: DeviceOut>(
     out: &mut Watched<W>,
 ) -> Ending
     ensures worked { (file : List ℕ) → R.remaining input.old ≡ Some file → Worked (dump_job dump.mode dump.bare) file (R.remaining input.new) (W.contents out.old) (W.contents out.new) result }
+    ensures stops { (file : List ℕ) → R.remaining input.old ≡ Some file → Stops (dump_job dump.mode dump.bare) file (R.remaining input.new) }
     ensures unread { spec.TellsUnread (R.has_failed input.old) (R.has_failed input.new) result }
     ensures failed { spec.TellsOutput (W.has_failed out.old) (W.has_failed out.new) result }
 {

@@ -2,6 +2,7 @@
 ghost use Rattle.std.specs.Prelude.{◌≡◌, ◌≤◌, ◌<◌, ◌^◌, length, IfOk, MatchResult};
 ghost use Rattle.dcm_head.specs.MetaReading.{HasEnded, at_start, meta_finished};
 ghost use Rattle.dcm_cli.specs.Pass as spec;
+ghost use Rattle.dcm_cli.specs.Stops.{HeadStops};
 
 use crate::ending::HeadEnding;
 use dcm_base::{DeviceIn, Watched, get_some};
@@ -49,6 +50,7 @@ pub fn read_head_of<R: DeviceIn>(
     requires bound { length buffer.old ≤ 262144 }
     ensures within { IfOk result (λ b. (b.used ≤ b.filled) × (b.filled ≤ length buffer.new)) }
     ensures read { spec.HeadReads (R.remaining input.old) (R.remaining input.new) meta.new buffer.new result }
+    ensures stops { HeadStops (R.remaining input.old) (R.remaining input.new) }
     ensures failed { MatchResult result (λ b. R.has_failed input.new ≡ R.has_failed input.old) (λ e. spec.TellsUnread (R.has_failed input.old) (R.has_failed input.new) (spec.ending_of_head e)) }
     ensures kept { length buffer.new ≡ length buffer.old }
 {

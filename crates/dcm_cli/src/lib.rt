@@ -1,4 +1,18 @@
-//! The program dcmtools: the run of a job over devices, lines on standard error, and the exit status.
+//! The program dcmtools: the run of a job over devices, lines on standard error, files, and the exit status.
+//!
+//! - `run::run` does a job: it reads its input in pieces of at most 262,144 bytes, writes its output as it goes, reports what
+//!   is wrong, and answers how it ended. Its contract is the theorem of the whole.
+//! - `dump`, `convert`, `modify` and `build` are the work on the four kinds of jobs, by `head`, `pass` and `rewrite`.
+//! - `tell` and `tell_open` report words that are refused and files that cannot be opened; `dcmtools` does all that the
+//!   program does, and `main` calls it.
+//!
+//! A run over memory:
+//!
+//!     let mut input = Watched::new(MemIn::new(file, step));
+//!     let status = match plan(rt.alloc(), words) {
+//!         Ok(planned) => run(&planned.job, &mut input, &mut out, &mut errors).status,
+//!         Err(usage) => tell(&usage, &mut errors),
+//!     };
 #![tactic(auto)]
 
 mod build;

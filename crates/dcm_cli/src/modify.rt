@@ -5,9 +5,10 @@ ghost use Rattle.dcm_edit.specs.Meaning.{AreMeant};
 ghost use Rattle.dcm_stream.specs.Reading.{start_of};
 ghost use Rattle.dcm_stream.specs.Sinks as sinks;
 ghost use Rattle.dcm_words.specs.Words.{modify as modify_job};
-ghost use Rattle.dcm_cli.specs.EditPass.{EditPass};
+ghost use Rattle.dcm_cli.specs.EditPass.{EditPass, EditStops};
 ghost use Rattle.dcm_cli.specs.Pass as spec;
 ghost use Rattle.dcm_cli.specs.Run.{Worked};
+ghost use Rattle.dcm_cli.specs.Stops.{Stops};
 ghost use Rattle.dcm_cli.specs.SinkPass as sink_pass;
 
 use crate::ending::{Ending, Verdict};
@@ -45,6 +46,7 @@ fn read_edited<R: DeviceIn, S: Sink>(
     requires within { (opened.begun.used ≤ opened.begun.filled) × (opened.begun.filled ≤ length buffer.old) }
     requires count { opened.start + length (spec.set_bytes opened.begun buffer.old) ≡ opened.begun.read }
     requires over { opened.begun.is_over ≡ true → IsAtEnd (R.remaining input.old) }
+    ensures stops { EditStops S.Sink edits.now sink.old (start_of opened.coding.syntax opened.start) (spec.set_bytes opened.begun buffer.old) opened.begun.is_over (R.remaining input.old) (R.remaining input.new) }
     ensures passes { EditPass S.Sink edits.now sink.old sink.new (R.remaining input.old) (R.remaining input.new) (spec.set_bytes opened.begun buffer.old) (start_of opened.coding.syntax opened.start) opened.begun.is_over result }
     ensures unread { spec.TellsUnread (R.has_failed input.old) (R.has_failed input.new) result }
     ensures failed { sink_pass.TellsOutput S.Sink sink.old sink.new result }
@@ -73,6 +75,7 @@ fn modify_file<R: DeviceIn, W: DeviceOut>(
     requires room { 0 < length buffer.old }
     requires bound { length buffer.old ≤ 262144 }
     ensures worked { (file : List ℕ) → R.remaining input.old ≡ Some file → Worked (modify_job edits.now) file (R.remaining input.new) (W.contents out.old) (W.contents out.new) result }
+    ensures stops { (file : List ℕ) → R.remaining input.old ≡ Some file → Stops (modify_job edits.now) file (R.remaining input.new) }
     ensures unread { spec.TellsUnread (R.has_failed input.old) (R.has_failed input.new) result }
     ensures failed { spec.TellsOutput (W.has_failed out.old) (W.has_failed out.new) result }
 {
@@ -91,6 +94,7 @@ pub fn modify<R: DeviceIn, W: DeviceOut>(
     out: &mut Watched<W>,
 ) -> Ending
     ensures worked { (file : List ℕ) → R.remaining input.old ≡ Some file → Worked (modify_job edits.now) file (R.remaining input.new) (W.contents out.old) (W.contents out.new) result }
+    ensures stops { (file : List ℕ) → R.remaining input.old ≡ Some file → Stops (modify_job edits.now) file (R.remaining input.new) }
     ensures unread { spec.TellsUnread (R.has_failed input.old) (R.has_failed input.new) result }
     ensures failed { spec.TellsOutput (W.has_failed out.old) (W.has_failed out.new) result }
     ensures meant { AreMeant edits.now }

@@ -1,5 +1,5 @@
 // A data set, out of a device into a sink.
-ghost use Rattle.std.specs.Prelude.{◌≡◌, ◌≤◌, ◌<◌, ◌+◌, ◌^◌, length, true, false};
+ghost use Rattle.std.specs.Prelude.{◌≡◌, ◌≤◌, ◌<◌, ◌+◌, ◌^◌, [], length, true, false};
 ghost use Rattle.std.specs.Io.KnownBytes.{IsAtEnd};
 ghost use Rattle.dcm_stream.specs.Machine as machine_spec;
 ghost use Rattle.dcm_stream.specs.Reading.{start_of};
@@ -67,6 +67,7 @@ pub fn read_rest<R: DeviceIn, S: Sink>(
     requires before { read_before ≡ machine_spec.next_offset machine.old.reading }
     requires limit { read_before ≤ 2 ^ 62 }
     ensures pumps { sink_pass.Pumps S.Sink sink.old sink.new (R.remaining input.old) (R.remaining input.new) machine.old.reading result }
+    ensures stops { sink_pass.Stops S.Sink sink.old machine.old.reading [] (R.remaining input.old) (R.remaining input.new) }
     ensures unread { spec.TellsUnread (R.has_failed input.old) (R.has_failed input.new) result }
     ensures failed { sink_pass.TellsOutput S.Sink sink.old sink.new result }
     ensures kept { sinks.Keeps S.Sink sink.old sink.new }
@@ -102,6 +103,7 @@ pub fn read_set<R: DeviceIn, S: Sink>(
     requires count { start + length (spec.set_bytes begun buffer.old) ≡ begun.read }
     requires over { begun.is_over ≡ true → IsAtEnd (R.remaining input.old) }
     ensures ends { sink_pass.BehindBegun S.Sink sink.old sink.new (R.remaining input.old) (R.remaining input.new) (spec.set_bytes begun buffer.old) (start_of coding.syntax start) result }
+    ensures stops { sink_pass.BehindStops S.Sink sink.old (start_of coding.syntax start) (spec.set_bytes begun buffer.old) begun.is_over (R.remaining input.old) (R.remaining input.new) }
     ensures over { begun.is_over ≡ true → spec.WasRead result }
     ensures unread { spec.TellsUnread (R.has_failed input.old) (R.has_failed input.new) result }
     ensures failed { sink_pass.TellsOutput S.Sink sink.old sink.new result }

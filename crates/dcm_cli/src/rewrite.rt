@@ -11,6 +11,7 @@ ghost use Rattle.dcm_head.specs.Rewriting.{OfElements};
 ghost use Rattle.dcm_cli.specs.Answer as answer;
 ghost use Rattle.dcm_cli.specs.Opening.{Opens};
 ghost use Rattle.dcm_cli.specs.Pass as spec;
+ghost use Rattle.dcm_cli.specs.Stops.{HeadStops};
 
 use crate::ending::{Ending, Verdict, ending_of_head};
 use crate::head::{Begun, read_head_of, set_start};
@@ -83,6 +84,7 @@ pub fn open_file<R: DeviceIn, W: DeviceOut>(
     requires room { 0 < length buffer.old }
     requires bound { length buffer.old ≤ 262144 }
     ensures opens { Opens target (R.remaining input.old) (R.remaining input.new) (W.contents out.old) (W.contents out.new) buffer.new result }
+    ensures stops { HeadStops (R.remaining input.old) (R.remaining input.new) }
     ensures start { IfOk result (λ o. o.start ≤ 2 ^ 62) }
     ensures within { IfOk result (λ o. (o.begun.used ≤ o.begun.filled) × (o.begun.filled ≤ length buffer.new)) }
     ensures count { IfOk result (λ o. o.start + length (spec.set_bytes o.begun buffer.new) ≡ o.begun.read) }

@@ -2,6 +2,7 @@
 ghost use Rattle.std.specs.Prelude.{◌≡◌, ◌≤◌, ◌⊎◌, ◌↔◌, ℕ, List, Some, true, false};
 ghost use Rattle.dcm_cli.specs.Pass.{TellsUnread, TellsOutput};
 ghost use Rattle.dcm_cli.specs.Run as spec;
+ghost use Rattle.dcm_cli.specs.Stops.{Stops};
 ghost use Rattle.dcm_cli.specs.Told.{Tries};
 ghost use Rattle.dcm_words.specs.Plans.{job_of};
 
@@ -100,6 +101,7 @@ fn work<R: DeviceIn, W: DeviceOut>(
     out: &mut Watched<W>,
 ) -> Ending
     ensures worked { (file : List ℕ) → R.remaining input.old ≡ Some file → spec.Worked (job_of job.now) file (R.remaining input.new) (W.contents out.old) (W.contents out.new) result }
+    ensures stops { (file : List ℕ) → R.remaining input.old ≡ Some file → Stops (job_of job.now) file (R.remaining input.new) }
     ensures unread { TellsUnread (R.has_failed input.old) (R.has_failed input.new) result }
     ensures failed { TellsOutput (W.has_failed out.old) (W.has_failed out.new) result }
     ensures meant { spec.IsMeant (job_of job.now) }
@@ -121,6 +123,7 @@ pub fn run<R: DeviceIn, W: DeviceOut, E: DeviceOut>(
     errors: &mut Watched<E>,
 ) -> Outcome
     ensures ran { (file : List ℕ) → R.remaining input.old ≡ Some file → R.has_failed input.old ≡ false → W.has_failed out.old ≡ false → spec.Ran (job_of job.now) file (record { left = R.remaining input.new; held = W.contents out.old; holds = W.contents out.new; told = E.contents errors.old; tells = E.contents errors.new; unread = R.has_failed input.new; unwritten = W.has_failed out.new; untold_before = E.has_failed errors.old; untold = E.has_failed errors.new }) result.status }
+    ensures stops { (file : List ℕ) → R.remaining input.old ≡ Some file → Stops (job_of job.now) file (R.remaining input.new) }
     ensures flushed { W.has_failed out.old ≡ false → W.has_failed out.new ≡ false → W.is_flushed out.new ≡ true }
     ensures within { result.status ≤ 4 }
     ensures failed { R.has_failed input.old ≡ false → W.has_failed out.old ≡ false → (result.status ≡ 4) ↔ ((R.has_failed input.new ≡ true) ⊎ (W.has_failed out.new ≡ true)) }

@@ -1,6 +1,7 @@
 use Rattle.std.proofs.Common.{◌≡◌, ◌∙◌, ap, sym, subst, ℕ, List, ◌++◌, take, length-append, arith}
 use Rattle.std.proofs.lemmas.List.{append-nil}
 use Rattle.std.specs.Io.KnownBytes.{prepend_known}
+use Rattle.dcm_build.specs.Building.{BuildState}
 use Rattle.dcm_words.specs.Words.{build as build_job}
 use Rattle.dcm_cli.specs.declared.ending.Ending.{Ending}
 use Rattle.dcm_cli.specs.declared.ending.Ending.TheVariants.{Unread}
@@ -9,6 +10,7 @@ use Rattle.dcm_cli.proofs.Alone.{splits}
 use Rattle.dcm_cli.proofs.Lines.{going_is, not_unwritten, built_on, built_halted, built_unread, built_ended}
 use Rattle.dcm_cli.proofs.Passes.{read_twice}
 use Rattle.dcm_cli.proofs.Sets.{none_left}
+use Rattle.dcm_cli.proofs.Stopping.{read_piece, no_piece, build_stops}
 use Rattle.dcm_cli.proofs.build.build_lines.Goals as goal
 
 pub returns-in-Ok-eq0-clause-worked : goal.returns-in-Ok-eq0-clause-worked
@@ -66,3 +68,24 @@ loop-builder-preserved g c =
       unwritten = not_unwritten c.feed.new.self.failed _ _ failed (c.in_default.ensures.failed loop.invariant.going) ∙ loop.invariant.unwritten;
       size = c.get_some.auto.buf ∙ loop.invariant.size;
     }
+
+pub returns-in-Ok-eq0-clause-stops : goal.returns-in-Ok-eq0-clause-stops
+returns-in-Ok-eq0-clause-stops g c = λ file is.
+    let loop = c.loop-builder in
+    let none = ap (λ (z : BuildState). z.told) (sym loop.invariant.state) ∙ (going_is loop.builder.state.told loop.builder.failed loop.invariant.going).1 in
+    build_stops c.args.limit file (g.R.DeviceIn.remaining c.args.input.now) (g.R.DeviceIn.remaining c.get_some.new.input) loop.invariant.front is
+    (read_piece _ _ _ loop.invariant.front c.get_some.new.buf c.in-Ok-eq0.field-0 loop.invariant.given c.in-Ok-eq0.ensures.bytes (let size = c.get_some.auto.buf ∙ loop.invariant.size in omega (arith, size, c.requires.bound))) none
+
+pub returns-in-Err-clause-stops : goal.returns-in-Err-clause-stops
+returns-in-Err-clause-stops g c = λ file is.
+    let loop = c.loop-builder in
+    let none = ap (λ (z : BuildState). z.told) (sym loop.invariant.state) ∙ (going_is loop.builder.state.told loop.builder.failed loop.invariant.going).1 in
+    build_stops c.args.limit file (g.R.DeviceIn.remaining c.args.input.now) (g.R.DeviceIn.remaining c.get_some.new.input) loop.invariant.front is
+    (no_piece _ _ _ loop.invariant.front loop.invariant.given c.in-Err.ensures.err) none
+
+pub returns-in-Err-feed-clause-stops : goal.returns-in-Err-feed-clause-stops
+returns-in-Err-feed-clause-stops g c = λ file is.
+    let loop = c.loop-builder in
+    let none = ap (λ (z : BuildState). z.told) (sym loop.invariant.state) ∙ (going_is loop.builder.state.told loop.builder.failed loop.invariant.going).1 in
+    build_stops c.args.limit file (g.R.DeviceIn.remaining c.args.input.now) (g.R.DeviceIn.remaining c.get_some.new.input) loop.invariant.front is
+    (read_piece _ _ _ loop.invariant.front c.get_some.new.buf c.in-Ok.n loop.invariant.given c.in-Ok.ensures.bytes (let size = c.get_some.auto.buf ∙ loop.invariant.size in omega (arith, size, c.requires.bound))) none

@@ -7,6 +7,8 @@ use Rattle.dcm_cli.specs.Pass as spec
 use Rattle.dcm_cli.specs.Run.{Worked}
 use Rattle.dcm_cli.proofs.Files.{file_encoder}
 use Rattle.dcm_cli.proofs.Opens.{not_opened, opened_worked_same}
+use Rattle.dcm_cli.specs.Stops.{BehindStops}
+use Rattle.dcm_cli.proofs.Stopping.{head_stops, opened_stops}
 use Rattle.dcm_cli.proofs.convert.convert_file.Goals as goal
 
 pub returns-in-Err-clause-worked : goal.returns-in-Err-clause-worked
@@ -36,3 +38,18 @@ returns-clause-worked g c = λ file is.
     let k = c.read_set.ensures.kept in
     let n = c.new-sink.ensures.same_reference in
     subst (λ (known : Option (List ℕ)). Worked (convert c.args.target) file after held known c.read_set.result) (search (rules, k, n)) worked
+
+pub returns-in-Err-clause-stops : goal.returns-in-Err-clause-stops
+returns-in-Err-clause-stops g c = λ file is. head_stops (convert c.args.target) refl file (g.R.DeviceIn.remaining c.args.input.now) (g.R.DeviceIn.remaining c.open_file.new.input) is c.open_file.ensures.stops
+
+pub returns-clause-stops : goal.returns-clause-stops
+returns-clause-stops g c = λ file is.
+    let opened = c.in-Ok.opened in
+    let buffer = c.open_file.new.buffer in
+    let left = g.R.DeviceIn.remaining c.open_file.new.input in
+    let after = g.R.DeviceIn.remaining c.read_set.new.input in
+    let Stopped : EncodeState → Type 0 = λ s. BehindStops encode_bar encode_step (start_of opened.coding.syntax opened.start) s (spec.set_bytes opened.begun buffer) opened.begun.is_over left after in
+    let stopped = subst (λ t. Stopped (encode_start t)) c.target_syntax.ensures (subst Stopped c.new-sink.ensures.state c.read_set.ensures.stops) in
+    let opens = c.in-Ok.ensures.opens in
+    opened_stops c.args.target (convert c.args.target) refl (file_encoder c.args.target) file (g.R.DeviceIn.remaining c.args.input.now) left after (g.W.DeviceOut.contents c.args.out.now) (g.W.DeviceOut.contents c.open_file.new.out)
+    buffer opened is opens opens.keeps c.open_file.ensures.stops stopped

@@ -16,6 +16,8 @@ use Rattle.dcm_cli.specs.Pass as spec
 use Rattle.dcm_cli.specs.Run.{Worked}
 use Rattle.dcm_cli.proofs.Alone.{put_failed, put_whole}
 use Rattle.dcm_cli.proofs.Files.{file_unopened, file_unheaded, file_worked, concludes_same, file_opened, file_dumper}
+use Rattle.dcm_cli.specs.Stops.{BehindStops}
+use Rattle.dcm_cli.proofs.Stopping.{head_stops, file_stops}
 use Rattle.dcm_cli.proofs.dump.dump_file.Goals as goal
 
 pub returns-in-Err-clause-worked : goal.returns-in-Err-clause-worked
@@ -67,3 +69,26 @@ returns-clause-worked g c = λ file is.
     let k = c.read_set.ensures.kept in
     let n = c.new-sink.ensures.same_reference in
     subst (λ (holds : Option (List ℕ)). Worked (dump c.args.mode None) file (g.R.DeviceIn.remaining c.read_set.new.input) (g.W.DeviceOut.contents c.args.out.now) holds c.read_set.result) (search (rules, k, n)) f
+
+pub returns-in-Err-clause-stops : goal.returns-in-Err-clause-stops
+returns-in-Err-clause-stops g c = λ file is. head_stops (dump c.args.mode None) refl file (g.R.DeviceIn.remaining c.args.input.now) (g.R.DeviceIn.remaining c.read_head_of.new.input) is c.read_head_of.ensures.stops
+
+pub returns-then-is_err-clause-stops : goal.returns-then-is_err-clause-stops
+returns-then-is_err-clause-stops g c = λ file is. head_stops (dump c.args.mode None) refl file (g.R.DeviceIn.remaining c.args.input.now) (g.R.DeviceIn.remaining c.read_head_of.new.input) is c.read_head_of.ensures.stops
+
+pub returns-clause-stops : goal.returns-clause-stops
+returns-clause-stops g c = λ file is.
+    let head = c.in-Ok.ensures.read in
+    let r = c.read_head_of.new.meta in
+    let left = g.R.DeviceIn.remaining c.read_head_of.new.input in
+    let after = g.R.DeviceIn.remaining c.read_set.new.input in
+    let o = file_opened r c.in-Ok.begun c.read_head_of.new.buffer (g.R.DeviceIn.remaining c.args.input.now) left head.read file is head.given head.outcome in
+    let codings : Some (Ended c.coding.result) ≡ Some (Ended o.coding) = sym c.coding.ensures ∙ o.end_is in
+    let coding : c.coding.result ≡ o.coding = cc in
+    let start : c.set_start-start.result ≡ 132 + length o.group = c.set_start-start.ensures.place ∙ o.place_is in
+    let Stopped : Coding → ℕ → DumpState → Type 0 = λ x n s. BehindStops bars_nothing dump_step (start_of x.syntax n) s (spec.set_bytes c.in-Ok.begun c.read_head_of.new.buffer) c.in-Ok.begun.is_over left after in
+    let stopped = subst (λ x. Stopped x (132 + length o.group) (dump_start c.args.mode)) coding
+    (subst (λ n. Stopped c.coding.result n (dump_start c.args.mode)) start
+    (subst (λ s. Stopped c.coding.result c.set_start-start.result s) c.new-sink.ensures.state c.read_set.ensures.stops))
+    in
+    file_stops (dump c.args.mode None) refl file r o refl (file_dumper c.args.mode o.coding) (g.R.DeviceIn.remaining c.args.input.now) left after c.in-Ok.begun c.read_head_of.new.buffer head.read is head.given head.outcome c.read_head_of.ensures.stops stopped

@@ -1,4 +1,4 @@
-use Rattle.std.proofs.Common.{◌∙◌, ap, sym, subst, ℕ, List, Option, Some, rules}
+use Rattle.std.proofs.Common.{◌∙◌, ap, sym, subst, ℕ, List, [], Option, Some, rules}
 use Rattle.std.specs.Io.KnownBytes.{append_known}
 use Rattle.dcm_base.specs.Header.{set_header}
 use Rattle.dcm_base.specs.Device.{AppendsFront}
@@ -10,6 +10,8 @@ use Rattle.dcm_cli.specs.Pass as spec
 use Rattle.dcm_words.specs.Words.{dump}
 use Rattle.dcm_cli.specs.Run.{Worked}
 use Rattle.dcm_cli.proofs.Alone.{alone_unheaded, alone_worked, put_failed, put_whole}
+use Rattle.dcm_cli.specs.Stops.{SetStops}
+use Rattle.dcm_cli.proofs.Stopping.{alone_stops, alone_unread}
 use Rattle.dcm_cli.proofs.dump.dump_set.Goals as goal
 
 pub returns-then-is_err-clause-worked : goal.returns-then-is_err-clause-worked
@@ -32,3 +34,15 @@ returns-clause-worked g c = λ file is.
     let k = c.read_rest.ensures.kept in
     let n = c.new-sink.ensures.same_reference in
     subst (λ (holds : Option (List ℕ)). Worked (dump c.args.mode (Some c.args.syntax)) file (g.R.DeviceIn.remaining c.read_rest.new.input) (g.W.DeviceOut.contents c.args.out.now) holds c.read_rest.result) (search (rules, k, n)) f
+
+pub returns-then-is_err-clause-stops : goal.returns-then-is_err-clause-stops
+returns-then-is_err-clause-stops g c = λ file is. alone_unread c.args.mode c.args.syntax file (g.R.DeviceIn.remaining c.args.input.now) is
+
+pub returns-clause-stops : goal.returns-clause-stops
+returns-clause-stops g c = λ file is.
+    let had = g.R.DeviceIn.remaining c.args.input.now in
+    let after = g.R.DeviceIn.remaining c.read_rest.new.input in
+    let first = ap (λ (p : Progress). p.reading) c.new-machine.ensures in
+    alone_stops c.args.mode c.args.syntax file had after is
+    (subst (λ (r : Reading). SetStops bars_nothing dump_step r (dump_start c.args.mode) [] had after) first
+    (subst (λ (s : DumpState). SetStops bars_nothing dump_step c.new-machine.result.reading s [] had after) c.new-sink.ensures.state c.read_rest.ensures.stops))

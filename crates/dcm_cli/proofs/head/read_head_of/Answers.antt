@@ -3,7 +3,8 @@ use Rattle.std.specs.Io.KnownBytes.{prepend_known}
 use Rattle.dcm_head.specs.MetaReading.{Reading}
 use Rattle.dcm_head.proofs.Stays.{kept_all}
 use Rattle.dcm_cli.proofs.Passes.{read_twice}
-use Rattle.dcm_cli.proofs.Heads.{read_on, begins_in, less_left}
+use Rattle.dcm_cli.proofs.Heads.{read_on, begins_in, going_on, less_left}
+use Rattle.dcm_cli.proofs.Stopping.{read_piece, no_piece}
 use Rattle.dcm_cli.proofs.head.read_head_of.Goals as goal
 
 pub overflow_add-read : goal.overflow_add-read
@@ -61,4 +62,40 @@ returns-in-Ended-clause-read g c =
       outcome = begins_in c.feed.new.self loop.meta loop.invariant.front piece c.get_some.new.buf c.in-Ok.n c.in-Ended.used (loop.read + c.in-Ok.n) c.in-Ended.ahead (g.R.DeviceIn.remaining c.get_some.new.input)
           loop.invariant.reading loop.invariant.bytes c.feed.ensures.state said.0 said.1 c.split_at.ensures.front c.split_at.ensures.front_len c.in-Ended.ensures.used
           (let whole = length-append loop.invariant.front piece in omega (arith, whole, c.split_at.ensures.front_len, loop.invariant.count));
+    }
+
+pub returns-in-Ok-eq0-clause-stops : goal.returns-in-Ok-eq0-clause-stops
+returns-in-Ok-eq0-clause-stops g c =
+    let loop = c.loop-meta in
+    record {
+      front = loop.invariant.front;
+      going = going_on loop.meta loop.invariant.front loop.invariant.reading loop.invariant.going;
+      last = read_piece _ _ _ loop.invariant.front c.get_some.new.buf c.in-Ok-eq0.field-0 loop.invariant.given c.in-Ok-eq0.ensures.bytes (let size = c.get_some.auto.buf ∙ loop.invariant.size in omega (arith, size, c.requires.bound));
+    }
+
+pub returns-in-Err-clause-stops : goal.returns-in-Err-clause-stops
+returns-in-Err-clause-stops g c =
+    let loop = c.loop-meta in
+    record {
+      front = loop.invariant.front;
+      going = going_on loop.meta loop.invariant.front loop.invariant.reading loop.invariant.going;
+      last = no_piece _ _ _ loop.invariant.front loop.invariant.given c.in-Err.ensures.err;
+    }
+
+pub returns-in-Refused-clause-stops : goal.returns-in-Refused-clause-stops
+returns-in-Refused-clause-stops g c =
+    let loop = c.loop-meta in
+    record {
+      front = loop.invariant.front;
+      going = going_on loop.meta loop.invariant.front loop.invariant.reading loop.invariant.going;
+      last = read_piece _ _ _ loop.invariant.front c.get_some.new.buf c.in-Ok.n loop.invariant.given c.in-Ok.ensures.bytes (let size = c.get_some.auto.buf ∙ loop.invariant.size in omega (arith, size, c.requires.bound));
+    }
+
+pub returns-in-Ended-clause-stops : goal.returns-in-Ended-clause-stops
+returns-in-Ended-clause-stops g c =
+    let loop = c.loop-meta in
+    record {
+      front = loop.invariant.front;
+      going = going_on loop.meta loop.invariant.front loop.invariant.reading loop.invariant.going;
+      last = read_piece _ _ _ loop.invariant.front c.get_some.new.buf c.in-Ok.n loop.invariant.given c.in-Ok.ensures.bytes (let size = c.get_some.auto.buf ∙ loop.invariant.size in omega (arith, size, c.requires.bound));
     }

@@ -1,7 +1,7 @@
-use Rattle.std.proofs.Common.{ap, sym, subst, ℕ, List, Option, rules}
+use Rattle.std.proofs.Common.{ap, sym, subst, refl, None, ℕ, List, Option, rules}
 use Rattle.dcm_words.specs.Words.{modify}
 use Rattle.dcm_stream.specs.Reading.{start_of}
-use Rattle.dcm_edit.specs.EditSink.{State as EditState, begun}
+use Rattle.dcm_edit.specs.EditSink.{begun}
 use Rattle.dcm_edit.specs.Through.{through_step, through_writes, through_bar}
 use Rattle.dcm_tools.specs.EncodeSink.{EncodeState, encode_step, encode_writes, encode_start}
 use Rattle.dcm_tools.specs.Encoder.{state as encoder_state}
@@ -9,6 +9,9 @@ use Rattle.dcm_cli.specs.declared.ending.Ending.{Ending}
 use Rattle.dcm_cli.specs.Pass as spec
 use Rattle.dcm_cli.specs.Run.{Worked}
 use Rattle.dcm_cli.proofs.EditPasses.{edits_not_opened, edits_worked}
+use Rattle.dcm_cli.specs.Stops.{BehindStops}
+use Rattle.dcm_cli.proofs.MakesEdits.{file_editor}
+use Rattle.dcm_cli.proofs.Stopping.{head_stops, opened_stops}
 use Rattle.dcm_cli.proofs.modify.modify_file.Goals as goal
 
 pub returns-in-Err-clause-worked : goal.returns-in-Err-clause-worked
@@ -39,3 +42,16 @@ returns-clause-worked g c = λ file is.
     let k = c.read_edited.ensures.kept in
     let n = c.new-sink.ensures.same_reference in
     subst (λ (known : Option (List ℕ)). Worked (modify c.args.edits.now) file after held known c.read_edited.result) (search (rules, k, n)) worked
+
+pub returns-in-Err-clause-stops : goal.returns-in-Err-clause-stops
+returns-in-Err-clause-stops g c = λ file is. head_stops (modify c.args.edits.now) refl file (g.R.DeviceIn.remaining c.args.input.now) (g.R.DeviceIn.remaining c.open_file.new.input) is c.open_file.ensures.stops
+
+pub returns-clause-stops : goal.returns-clause-stops
+returns-clause-stops g c = λ file is.
+    let opened = c.in-Ok.opened in
+    let buffer = c.open_file.new.buffer in
+    let left = g.R.DeviceIn.remaining c.open_file.new.input in
+    let after = g.R.DeviceIn.remaining c.read_edited.new.input in
+    let stopped = subst (λ (s : EncodeState). BehindStops through_bar (through_step encode_step) (start_of opened.coding.syntax opened.start) (begun c.args.edits.now, s) (spec.set_bytes opened.begun buffer) opened.begun.is_over left after) c.new-sink.ensures.state c.read_edited.ensures.stops in
+    opened_stops None (modify c.args.edits.now) refl (file_editor c.args.edits.now c.requires.meant) file (g.R.DeviceIn.remaining c.args.input.now) left after (g.W.DeviceOut.contents c.args.out.now) (g.W.DeviceOut.contents c.open_file.new.out)
+    buffer opened is c.in-Ok.ensures.opens refl c.open_file.ensures.stops stopped

@@ -3,7 +3,8 @@ use Rattle.std.proofs.lemmas.List.{append-nil}
 use Rattle.std.specs.Io.KnownBytes.{prepend_known}
 use Rattle.dcm_cli.specs.Pass as spec
 use Rattle.dcm_cli.proofs.Fed.{fed_on}
-use Rattle.dcm_cli.proofs.Passes.{read_twice, ends_at_end, ends_halted}
+use Rattle.dcm_cli.proofs.Passes.{read_twice, still_going, ends_at_end, ends_halted}
+use Rattle.dcm_cli.proofs.Stopping.{read_piece, no_piece}
 use Rattle.dcm_cli.proofs.pass.read_rest.Goals as goal
 
 pub returns-in-Ok-eq0-clause-pumps : goal.returns-in-Ok-eq0-clause-pumps
@@ -54,4 +55,34 @@ loop-machine-preserved g c =
       unread = c.in-Ok.ensures.failed ∙ loop.invariant.unread;
       kept = c.in_default.ensures.kept ∙ loop.invariant.kept;
       size = c.get_some.auto.buf ∙ loop.invariant.size;
+    }
+
+pub returns-in-Ok-eq0-clause-stops : goal.returns-in-Ok-eq0-clause-stops
+returns-in-Ok-eq0-clause-stops g c =
+    let loop = c.loop-machine in
+    record {
+      more = loop.invariant.front;
+      going = still_going g.S.Sink.bar g.S.Sink.step g.S.Sink.writes c.args.machine.now (g.S.Sink.state c.args.sink.now) (g.S.Sink.contents c.args.sink.now) (g.S.Sink.has_failed c.args.sink.now)
+          loop.machine (g.S.Sink.state loop.sink) (g.S.Sink.contents loop.sink) (g.S.Sink.has_failed loop.sink) loop.invariant.front loop.invariant.fed;
+      last = read_piece _ _ _ loop.invariant.front c.get_some.new.buf c.in-Ok-eq0.field-0 loop.invariant.given c.in-Ok-eq0.ensures.bytes (let size = c.get_some.auto.buf ∙ loop.invariant.size in omega (arith, size, c.requires.bound));
+    }
+
+pub returns-in-Err-clause-stops : goal.returns-in-Err-clause-stops
+returns-in-Err-clause-stops g c =
+    let loop = c.loop-machine in
+    record {
+      more = loop.invariant.front;
+      going = still_going g.S.Sink.bar g.S.Sink.step g.S.Sink.writes c.args.machine.now (g.S.Sink.state c.args.sink.now) (g.S.Sink.contents c.args.sink.now) (g.S.Sink.has_failed c.args.sink.now)
+          loop.machine (g.S.Sink.state loop.sink) (g.S.Sink.contents loop.sink) (g.S.Sink.has_failed loop.sink) loop.invariant.front loop.invariant.fed;
+      last = no_piece _ _ _ loop.invariant.front loop.invariant.given c.in-Err.ensures.err;
+    }
+
+pub returns-in-Err-feed-clause-stops : goal.returns-in-Err-feed-clause-stops
+returns-in-Err-feed-clause-stops g c =
+    let loop = c.loop-machine in
+    record {
+      more = loop.invariant.front;
+      going = still_going g.S.Sink.bar g.S.Sink.step g.S.Sink.writes c.args.machine.now (g.S.Sink.state c.args.sink.now) (g.S.Sink.contents c.args.sink.now) (g.S.Sink.has_failed c.args.sink.now)
+          loop.machine (g.S.Sink.state loop.sink) (g.S.Sink.contents loop.sink) (g.S.Sink.has_failed loop.sink) loop.invariant.front loop.invariant.fed;
+      last = read_piece _ _ _ loop.invariant.front c.get_some.new.buf c.in-Ok.n loop.invariant.given c.in-Ok.ensures.bytes (let size = c.get_some.auto.buf ∙ loop.invariant.size in omega (arith, size, c.requires.bound));
     }

@@ -1,9 +1,10 @@
-use Rattle.std.proofs.Common.{ℕ, List, [], ◌++◌, ap, sym, subst, Err}
+use Rattle.std.proofs.Common.{◌≡◌, ℕ, List, [], ◌++◌, None, ap, sym, subst, refl, inl, inr, Err}
+use Rattle.std.specs.Prelude.{fold}
 use Rattle.std.proofs.lemmas.List.{append-nil}
 use Rattle.dcm_stream.specs.Reading.{Reading, start_of}
-use Rattle.dcm_stream.specs.Machine.{Progress}
+use Rattle.dcm_stream.specs.Machine.{Progress, steps}
 use Rattle.dcm_cli.specs.Pass as spec
-use Rattle.dcm_cli.proofs.Passes.{read_nothing, ends_at_end, ends_halted, ends_behind}
+use Rattle.dcm_cli.proofs.Passes.{read_nothing, ends_at_end, ends_halted, ends_behind, going_behind}
 use Rattle.dcm_cli.proofs.pass.read_set.Goals as goal
 
 pub returns-in-Err-clause-ends : goal.returns-in-Err-clause-ends
@@ -59,3 +60,26 @@ returns-clause-ends g c =
       ends = subst (λ (r : Reading). spec.Ends g.S.Sink.bar g.S.Sink.step g.S.Sink.writes r (g.S.Sink.state c.args.sink.now) (g.S.Sink.contents c.args.sink.now)
           (g.R.DeviceIn.remaining c.read_rest.new.input) (g.S.Sink.state c.read_rest.new.sink) (g.S.Sink.contents c.read_rest.new.sink) (bytes ++ pumps.read) c.read_rest.result) first ends;
     }
+
+pub returns-in-Err-clause-stops : goal.returns-in-Err-clause-stops
+returns-in-Err-clause-stops g c = inl refl
+
+pub returns-then-begun-clause-stops : goal.returns-then-begun-clause-stops
+returns-then-begun-clause-stops g c = inl refl
+
+pub returns-clause-stops : goal.returns-clause-stops
+returns-clause-stops g c =
+    let bytes : List ℕ = spec.set_bytes c.args.begun c.args.buffer.now in
+    let first = ap (λ (p : Progress). p.reading) c.new-machine.ensures in
+    let stops = c.read_rest.ensures.stops in
+    let going = going_behind g.S.Sink.bar g.S.Sink.step g.S.Sink.writes c.new-machine.result (g.S.Sink.state c.args.sink.now) (g.S.Sink.contents c.args.sink.now) (g.S.Sink.has_failed c.args.sink.now)
+    c.feed_begun.new.machine (g.S.Sink.state c.feed_begun.new.sink) (g.S.Sink.contents c.feed_begun.new.sink) (g.S.Sink.has_failed c.feed_begun.new.sink) bytes stops.more c.in_default.ensures.fed stops.going
+    in
+    inr (
+      c.if-begun.false,
+      record {
+        more = stops.more;
+        going = subst (λ (r : Reading). (fold (steps g.S.Sink.bar g.S.Sink.step) (r, g.S.Sink.state c.args.sink.now) (bytes ++ stops.more)).0.halt ≡ None) first going;
+        last = stops.last;
+      },
+    )

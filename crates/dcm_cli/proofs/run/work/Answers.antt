@@ -2,6 +2,7 @@ use Rattle.std.proofs.Common.{sym, subst}
 use Rattle.dcm_words.specs.declared.job.Job.{Job}
 use Rattle.dcm_cli.specs.Run.{IsMeant, Worked}
 use Rattle.dcm_words.specs.Plans.{job_of}
+use Rattle.dcm_cli.specs.Stops.{Stops}
 use Rattle.dcm_cli.proofs.run.work.Goals as goal
 
 pub returns-in-Dump-clause-worked : goal.returns-in-Dump-clause-worked
@@ -31,3 +32,15 @@ returns-in-Convert-clause-meant g c = subst (λ (job : Job). IsMeant (job_of job
 
 pub returns-in-Build-clause-meant : goal.returns-in-Build-clause-meant
 returns-in-Build-clause-meant g c = subst (λ (job : Job). IsMeant (job_of job)) (sym c.in-Build.is) tt
+
+pub returns-in-Dump-clause-stops : goal.returns-in-Dump-clause-stops
+returns-in-Dump-clause-stops g c = λ file is. subst (λ (job : Job). Stops (job_of job) file (g.R.DeviceIn.remaining c.dump.new.input)) (sym c.in-Dump.is) (c.dump.ensures.stops file is)
+
+pub returns-in-Convert-clause-stops : goal.returns-in-Convert-clause-stops
+returns-in-Convert-clause-stops g c = λ file is. subst (λ (job : Job). Stops (job_of job) file (g.R.DeviceIn.remaining c.convert.new.input)) (sym c.in-Convert.is) (c.convert.ensures.stops file is)
+
+pub returns-in-Build-clause-stops : goal.returns-in-Build-clause-stops
+returns-in-Build-clause-stops g c = λ file is. subst (λ (job : Job). Stops (job_of job) file (g.R.DeviceIn.remaining c.build.new.input)) (sym c.in-Build.is) (c.build.ensures.stops file is)
+
+pub returns-in-Modify-clause-stops : goal.returns-in-Modify-clause-stops
+returns-in-Modify-clause-stops g c = λ file is. subst (λ (job : Job). Stops (job_of job) file (g.R.DeviceIn.remaining c.modify.new.input)) (sym c.in-Modify.is) (c.modify.ensures.stops file is)
