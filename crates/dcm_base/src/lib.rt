@@ -1,4 +1,19 @@
-//! Tags, value representations, syntaxes, refusals and devices, and the definitions that every contract cites.
+//! What all crates speak of: facts of the standard, faults, and devices.
+//!
+//! - **Facts**: `Tag`, `Vr` with its letters, unit and pad byte, `Length`, `Syntax`; `element`, `keyword` and `tag_of` of the
+//!   dictionary's extract (PS3.6); `uid_name` and `uid_of`; `coding_of` a transfer syntax; `form_of` an element.
+//! - **Faults**: `Fault` of a file, `LineFault` of lines, `EditRefusal` and `WordFault` of words, each with its number and text.
+//! - **Devices**: the traits `DeviceIn` and `DeviceOut`; `MemIn` and `MemOut` over memory, `Std` over std's readers and
+//!   writers; `Watched` around a device remembers whether it has failed. Bytes go through `get_some`, `put_all`, `put_parts`,
+//!   `put_decimal` and `flush_out`.
+//! - **`specs`** has the definitions that the contracts of all crates cite: data sets as trees, how bytes spell them, dumps,
+//!   conversions, files that are built. `laws` has what is proved of the definitions alone.
+//!
+//! Facts by a tag:
+//!
+//!     let name = Tag { group: 0x0010, element: 0x0010 };
+//!     assert!(rt; tag_of(b"PatientName") == Some(name));
+//!     assert!(rt; dict_vr(name) == Vr::PN && Vr::PN.pad() == b' ');
 #![tactic(auto)]
 
 mod calls;

@@ -1,4 +1,18 @@
-//! What edits do to a data set, and the words that mean them.
+//! Edits of a data set: the words that mean them, and what they do.
+//!
+//! - `Edits::parse` reads words as `-m PatientName=A` into at most 64 edits, or refuses them with an `EditFault`. It is the
+//!   only call of the tools that takes memory.
+//! - `EditSink` lies between the machine and another sink. It passes on what the edits make of the tokens, all edits at once,
+//!   in a state of fixed size, and `unplaced` says which of them have found no place so far.
+//! - `laws` has that they do what they would do one after another (`one_by_one`), and what is promised of the data set that
+//!   comes out: `erased_all_is_gone`, `others_stay` and so on.
+//!
+//! A name is erased:
+//!
+//!     let mut sink = EncodeSink::new(&mut out, Syntax::Little);
+//!     let mut edited = EditSink::new(&edits, &mut sink);
+//!     assert!(rt; machine.feed(NAME, &mut edited).is_ok() && machine.finish(&mut edited).is_ok());
+//!     assert!(rt; edited.unplaced() == 0 && out.device().written().is_empty());
 #![tactic(auto)]
 
 mod asked;

@@ -1,4 +1,15 @@
-//! Heads of elements, items and delimiters, and the head of a file.
+//! Heads of elements, items and delimiters (PS3.5 7.1), and the head of a file: its preamble, prefix and meta group (PS3.10 7.1).
+//!
+//! - `read_head` reads a head out of the first bytes that it is given, or says how many it needs; `write_head` writes one.
+//! - `Meta` reads the head of a file, fed in any pieces, and holds it: at most 16,528 bytes. `Meta::rewritten` writes its group
+//!   anew with another transfer syntax; `write_meta` does so of any group, and `first_element` walks over one.
+//!
+//! A head and its eight bytes:
+//!
+//!     let bytes = b"\x10\x00\x10\x00PN\x06\x00".as_slice();
+//!     let name = Head { tag, vr: Vr::PN, length: Length::Known(6) };
+//!     assert!(rt; read_head(Syntax::Little, bytes) == HeadRead::Done(name, 8));
+//!     assert!(rt; write_head(Syntax::Little, &name).as_slice() == bytes);
 #![tactic(auto)]
 
 mod element;

@@ -1,5 +1,6 @@
 mod data_sets;
 mod edits;
+mod examples;
 mod files;
 mod heads;
 mod lines;

@@ -1,7 +1,9 @@
 mod buildings;
 mod command_lines;
 mod conversions;
+mod cuts;
 mod failing;
+mod long_lines;
 mod modifications;
 mod nested;
 mod rebuilt;

@@ -1,4 +1,13 @@
-//! The words of a command line, and the jobs that they mean.
+//! Command lines, and the jobs that they mean.
+//!
+//! - `plan` reads the words of a command line into a `Planned`: the paths, and a `Job` with all that its tool has to know.
+//! - Words that it refuses are a `Usage`: which word is wrong and why, which edit, or want of memory.
+//!
+//! A conversion:
+//!
+//!     let words = [b"dcmconv".as_slice(), b"+te".as_slice(), b"in".as_slice(), b"out".as_slice()];
+//!     let Ok(planned) = plan(rt.alloc(), &words) else { return Err("refused".into()) };
+//!     assert!(rt; planned.input == b"in".as_slice() && matches!(planned.job, Job::Convert(_)));
 #![tactic(auto)]
 
 mod job;

@@ -92,6 +92,18 @@ fn builds_in_pieces(rt: HostRuntime) -> Result<(), Fail> {
 }
 
 #[test]
+fn writes_at_the_newline(rt: HostRuntime) -> Result<(), Fail> {
+    let mut out = output(rt, 200)?;
+    let mut builder = Builder::new(80);
+    assert!(rt; builder.feed(META_LINE, &mut out).is_ok());
+    assert!(rt; builder.feed(b"(0010,0010) PN [A]", &mut out).is_ok());
+    assert!(rt; out.device().written().is_empty());
+    assert!(rt; builder.feed(b"\n", &mut out).is_ok());
+    assert!(rt; is_file(out.device().written(), META, NAME));
+    Ok(())
+}
+
+#[test]
 fn builds_group_at_end(rt: HostRuntime) -> Result<(), Fail> {
     let mut out = output(rt, 200)?;
     let mut builder = Builder::new(80);

@@ -3,12 +3,16 @@ use super::over_memory;
 use std::test::Fail;
 
 /// Words, and the line that is told of them.
-const REFUSED: [(&str, &[u8]); 17] = [
+const REFUSED: [(&str, &[u8]); 18] = [
     ("dcmcopy a b", b"dcmtools: V1 at word 1: unknown tool\n"),
     ("dcmdump +ti a", b"dcmtools: V2 at word 2: unknown option\n"),
     ("dcmdump a b", b"dcmtools: V4: wrong number of paths\n"),
     (
         "dcmdump -f a",
+        b"dcmtools: V5: options do not go together\n",
+    ),
+    (
+        "dcmdump -f -te +fo a",
         b"dcmtools: V5: options do not go together\n",
     ),
     (

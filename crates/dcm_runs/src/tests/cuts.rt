@@ -1,0 +1,131 @@
+// Inputs that are cut at each byte.
+use super::buildings::buildings;
+use super::conversions::conversions;
+use super::modifications::modifications;
+use super::rows::{Row, Start, bytes_of, dumps, front_of};
+use super::{Answer, joined, over_memory};
+use itoa::Buffer;
+use std::process::Abort;
+use std::test::Fail;
+
+/// More bytes than any of the inputs has, and room for each output.
+const WHOLE: usize = 100_000;
+
+const ROOM: usize = 3000;
+
+/// The line of an input that ends too early after so many bytes.
+fn early_end(rt: HostRuntime, read: usize) -> Result<Vec<u8>, Fail> {
+    let mut digits = Buffer::new();
+    let mut line = b"dcmtools: R1 at byte ".to_vec(rt.alloc())?;
+    line.extend_from_slice(digits.format(read).as_bytes())?;
+    line.extend_from_slice(b": input ends too early\n")?;
+    Ok(line)
+}
+
+/// Whether a row writes a head. Where its whole input is at fault before that, a cut one may be a file without elements.
+fn writes_head(row: &Row) -> bool {
+    row.header != Start::Nothing
+}
+
+/// Whether the meta group of a row's file has its usual form. One of another form may end at a cut.
+fn has_usual_group(row: &Row) -> bool {
+    row.start != Start::Nothing
+}
+
+/// Whether a row puts elements at the end of a data set, which a cut may bring forward.
+fn may_put(row: &Row) -> bool {
+    row.words.starts_with("dcmodify")
+}
+
+/// Expects what is answered to a cut input: an early end at the cut, no transfer syntax so far, the fault of the whole, or
+/// none; and a beginning of the output.
+fn expect_cut(rt: &impl Abort, row: &Row, wanted: &[u8], early: &[u8], answer: &Answer) {
+    let name = row.name;
+    let told = answer.told.as_slice();
+    if answer.status == 2 {
+        let is_early = told == early || told.starts_with(b"dcmtools: R5 at byte ");
+        assert!(rt; is_early || told == row.told, "{name}");
+    } else {
+        assert!(rt; answer.status == 0 || answer.status == 3, "{name}");
+    }
+    if has_usual_group(row) && writes_head(row) && (answer.status == 2 || !may_put(row)) {
+        assert!(rt; wanted.starts_with(answer.output.as_slice()), "{name}");
+    }
+}
+
+/// Runs a row with its input cut at each byte.
+fn cut_everywhere(rt: HostRuntime, abort: &impl Abort, row: &Row) -> Result<(), Fail> {
+    let input = joined(rt, bytes_of(row.start), row.input)?;
+    let wanted = joined(rt, front_of(row), row.lines)?;
+    for cut in 0..input.len() {
+        let (front, _) = input.as_slice().split_at(cut);
+        let early = early_end(rt, cut)?;
+        let answer = over_memory(rt, row.words, front, WHOLE, ROOM)?;
+        expect_cut(abort, row, wanted.as_slice(), early.as_slice(), &answer);
+    }
+    Ok(())
+}
+
+#[test]
+fn dumps_of_cut_files(rt: HostRuntime) -> Result<(), Fail> {
+    for row in dumps() {
+        cut_everywhere(rt, &rt, row)?;
+    }
+    Ok(())
+}
+
+#[test]
+fn conversions_of_cut_files(rt: HostRuntime) -> Result<(), Fail> {
+    for row in conversions() {
+        cut_everywhere(rt, &rt, row)?;
+    }
+    Ok(())
+}
+
+#[test]
+fn edits_of_cut_files(rt: HostRuntime) -> Result<(), Fail> {
+    for row in modifications() {
+        cut_everywhere(rt, &rt, row)?;
+    }
+    Ok(())
+}
+
+/// Expects what is answered to the first lines of a dump: a file of them, the fault of the whole, no transfer syntax so far,
+/// or an end that is missing.
+fn expect_first_lines(rt: &impl Abort, row: &Row, wanted: &[u8], answer: &Answer) {
+    let name = row.name;
+    let told = answer.told.as_slice();
+    if answer.status == 2 {
+        let is_early = told.starts_with(b"dcmtools: B7 at byte ")
+            || told.starts_with(b"dcmtools: B9 at byte ");
+        assert!(rt; is_early || told == row.told, "{name}");
+    } else {
+        assert_eq!(rt; answer.status, 0, "{name}");
+    }
+    if writes_head(row) {
+        assert!(rt; wanted.starts_with(answer.output.as_slice()), "{name}");
+    }
+}
+
+/// Runs a row with its lines cut after each of them.
+fn cut_after_lines(rt: HostRuntime, abort: &impl Abort, row: &Row) -> Result<(), Fail> {
+    let wanted = joined(rt, front_of(row), row.lines)?;
+    let mut cut: usize = 0;
+    for byte in row.input {
+        cut = cut.saturating_add(1);
+        if *byte == b'\n' {
+            let (front, _) = row.input.split_at(cut.min(row.input.len()));
+            let answer = over_memory(rt, row.words, front, WHOLE, ROOM)?;
+            expect_first_lines(abort, row, wanted.as_slice(), &answer);
+        }
+    }
+    Ok(())
+}
+
+#[test]
+fn files_of_cut_dumps(rt: HostRuntime) -> Result<(), Fail> {
+    for row in buildings() {
+        cut_after_lines(rt, &rt, row)?;
+    }
+    Ok(())
+}
