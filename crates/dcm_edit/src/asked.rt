@@ -7,6 +7,7 @@ ghost use Rattle.dcm_edit.specs.EditSink.{has_place as has_place_spec, makes as 
 ghost use Rattle.dcm_edit.specs.Asking as asking;
 ghost use Rattle.dcm_edit.specs.Masks as masks;
 ghost use Rattle.dcm_edit.specs.NewOnes.{passes_new};
+ghost use Rattle.dcm_edit.specs.declared.asked.Question.TheVariants.{Meets};
 ghost use Rattle.dcm_edit.specs.Meaning.{index_of, action_of, along, path_edit_of, edit_of};
 
 use crate::edit::{Action, Edit, Index, NewElement, PathEdit, Step};
@@ -318,6 +319,14 @@ fn acts(edit: &Edit, depth: usize, tag: Tag) -> bool
     !matches!(fate_by(edit, depth, tag), Fate::Stays)
 }
 
+/// Whether it changes an element with this tag, or puts another one between the last one and it.
+pub fn meets(edit: &Edit, depth: usize, tag: Tag, last: Option<Tag>) -> bool
+    ensures { result ≡ asking.answer_of (Meets tag last) (masks.at_depth depth (edit_of edit.now)) }
+{
+    let next = Some(tag);
+    acts(edit, depth, tag) || fills(edit, depth, Gap { last, next })
+}
+
 /// The answer of an edit that asks something of a data set within so many items.
 pub fn answers(edit: &Edit, depth: usize, question: Question) -> bool
     requires { depth < 2 ^ 32 }
@@ -328,10 +337,7 @@ pub fn answers(edit: &Edit, depth: usize, question: Question) -> bool
             let next = Some(tag);
             acts(edit, depth, tag) || makes(edit, depth, Gap { last, next })
         }
-        Question::Meets(tag, last) => {
-            let next = Some(tag);
-            acts(edit, depth, tag) || fills(edit, depth, Gap { last, next })
-        }
+        Question::Meets(tag, last) => meets(edit, depth, tag, last),
         Question::AtItem(tag, item) => {
             erases(edit, depth, tag, item) || has_place_in(edit, depth, tag, item)
         }

@@ -13,7 +13,7 @@ ghost use Rattle.dcm_edit.specs.Meaning.{edit_of};
 
 use crate::asked::{Fate, Question};
 use crate::edit::Edit;
-use crate::mask::{all, answering, any_answers, first_fate};
+use crate::mask::{all, answering, any_answers, any_meets, first_fate};
 use arrayvec::ArrayVec;
 use dcm_base::Tag;
 use dcm_stream::{Skip, Token};
@@ -93,8 +93,8 @@ impl Editor {
         requires { length edits.now ≤ 64 }
         ensures { result ≡ editing.leaves edits.now self.now tag }
     {
-        let question = Question::Meets(tag, self.level.last);
-        !self.skip.is_open() && !any_answers(edits, self.depth(), self.level.mask, question)
+        let level = self.level;
+        !self.skip.is_open() && !any_meets(edits, self.depth(), level.mask, tag, level.last)
     }
 
     /// Whether the next item of the last element is erased.

@@ -5,8 +5,9 @@ ghost use Rattle.dcm_edit.specs.Asking as asking;
 ghost use Rattle.dcm_edit.specs.Masks as masks;
 ghost use Rattle.dcm_edit.specs.Meaning.{edit_of};
 ghost use Rattle.dcm_edit.specs.Together as together;
+ghost use Rattle.dcm_edit.specs.declared.asked.Question.TheVariants.{Meets};
 
-use crate::asked::{Fate, Gap, New, Question, answers, fate_by, is_below, new_element};
+use crate::asked::{Fate, Gap, New, Question, answers, fate_by, is_below, meets, new_element};
 use crate::edit::Edit;
 use dcm_base::Tag;
 
@@ -75,6 +76,14 @@ fn says_yes(edit: &Edit, depth: usize, mask: u64, place: usize, question: Questi
     is_set(mask, place) && answers(edit, depth, question)
 }
 
+/// The same of what it does at an element.
+fn meets_in(edit: &Edit, depth: usize, mask: u64, place: usize, tag: Tag, last: Option<Tag>) -> bool
+    requires { place < 64 }
+    ensures { result ≡ asking.answer_of (Meets tag last) (asking.asked_one depth mask place (edit_of edit.now)) }
+{
+    is_set(mask, place) && meets(edit, depth, tag, last)
+}
+
 /// The answers so far, and that of one more edit, if the mask has it.
 fn with_answer(
     yes: u64,
@@ -121,6 +130,23 @@ pub fn any_answers(edits: &[Edit], depth: usize, mask: u64, question: Question) 
     let mut rest = rest_of(edits, mask, 0);
     while let Some((edit, after)) = rest.edits.split_first() {
         if says_yes(edit, depth, mask, rest.place, question) {
+            return true;
+        }
+        rest = rest_of(after, mask, rest.place + 1);
+    }
+    false
+}
+
+/// Whether an edit of a mask changes an element with this tag, or puts another one between the last one and it. Each element of
+/// an input is asked for, so this is not one question of many.
+#[tactic(auto, using(crate::proofs::Skips::any_skips, crate::proofs::Skips::any_next))]
+pub fn any_meets(edits: &[Edit], depth: usize, mask: u64, tag: Tag, last: Option<Tag>) -> bool
+    requires { length edits.now ≤ 64 }
+    ensures { result ≡ asking.any_answer (Meets tag last) (masks.asked depth mask 0 (map edit_of edits.now)) }
+{
+    let mut rest = rest_of(edits, mask, 0);
+    while let Some((edit, after)) = rest.edits.split_first() {
+        if meets_in(edit, depth, mask, rest.place, tag, last) {
             return true;
         }
         rest = rest_of(after, mask, rest.place + 1);
