@@ -1,6 +1,8 @@
 #!/usr/bin/env python3
-"""Tries the claims of docs/PROFILE.md, in its order, on a built dcmtools. What it says of words, paths, streams and devices is
-tried by try_program.py, and of failing devices by the tests of dcm_runs.
+"""Tries the claims of docs/PROFILE.md, in its order, on a built dcmtools.
+
+What PROFILE says of words, paths, streams and files is tried by try_program.py; of devices that fail, of pieces and of 64 and
+65 open sequences by the tests of dcm_runs; of R15 by those of dcm_parts, and of want of memory by hand (docs/PROVED.md).
 
     scripts/try_profile.py [BINARY]
 

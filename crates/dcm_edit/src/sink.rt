@@ -178,6 +178,7 @@ fn pass_on<S: Sink>(
             sink.take(token)?;
             editor.pass_by(head.tag);
         }
+        Token::Bytes(_) if !editor.skip.is_open() => sink.take(token)?,
         _ => {
             pass(editor, edits, token, sink)?;
             editor.go_on(edits, token);

@@ -1,4 +1,4 @@
-use Rattle.std.proofs.Common.{List, Ok, refl, sym, ◌∙◌, ap, subst}
+use Rattle.std.proofs.Common.{List, Ok, refl, inl, sym, ◌∙◌, ap, subst}
 use Rattle.std.specs.Prelude.{fold}
 use Rattle.dcm_base.specs.Atoms.{Atom}
 use Rattle.dcm_stream.specs.Sinks.{Takes}
@@ -6,6 +6,9 @@ use Rattle.dcm_stream.specs.Tokens.{atoms_of}
 use Rattle.dcm_stream.specs.declared.token.Token.{Token}
 use Rattle.dcm_edit.specs.EditSink.{next}
 use Rattle.dcm_edit.specs.Editing.{meant, state}
+use Rattle.dcm_stream.proofs.Skipped.{none_open}
+use Rattle.dcm_edit.proofs.Answering.{bytes_stay}
+use Rattle.dcm_edit.proofs.Passing.{as_they_are}
 use Rattle.dcm_edit.proofs.Taken.{token_taken, all_failed}
 use Rattle.dcm_edit.proofs.Unmet.{left_state, left_token}
 use Rattle.dcm_edit.proofs.sink.pass_on.Goals as goal
@@ -27,3 +30,22 @@ returns-in_ok-take-in-Open-clause-state g c =
     let h = c.in-Open.head in
     left_state c.args.edits.now c.args.editor.now h.tag c.if-leaves.ensures (state c.pass_by.new.self) h.vr h.length c.in-Open.field-1 c.pass_by.ensures
     ∙ ap (λ (t : Token). fold next (meant c.args.edits.now c.args.editor.now) (atoms_of t)) (sym c.in-Open.is)
+
+pub returns-in_err-take-in-Bytes-clause-takes : goal.returns-in_err-take-in-Bytes-clause-takes
+returns-in_err-take-in-Bytes-clause-takes g c =
+    let s = meant c.args.edits.now c.args.editor.now in
+    let same = as_they_are s c.args.token (none_open _ c.if-not-is_open.ensures) (inl (c.in-Bytes.field-0, c.in-Bytes.is)) in
+    subst (λ (xs : List Atom). Takes g.S.Sink c.args.sink.now c.take-in-Bytes.new.self xs c.from_residual-in_err-take-in-Bytes.result) (sym same)
+    (all_failed g.S.Sink c.args.sink.now c.take-in-Bytes.new.self (atoms_of c.args.token) c.from_residual-in_err-take-in-Bytes.result c.from_residual-in_err-take-in-Bytes.ensures.0 c.in_err-take-in-Bytes.ensures.bytes)
+
+pub returns-in_ok-take-in-Bytes-clause-takes : goal.returns-in_ok-take-in-Bytes-clause-takes
+returns-in_ok-take-in-Bytes-clause-takes g c =
+    let s = meant c.args.edits.now c.args.editor.now in
+    let same = as_they_are s c.args.token (none_open _ c.if-not-is_open.ensures) (inl (c.in-Bytes.field-0, c.in-Bytes.is)) in
+    subst (λ (xs : List Atom). Takes {T = Unit {0}} {E = Unit {0}} g.S.Sink c.args.sink.now c.take-in-Bytes.new.self xs (Ok tt)) (sym same)
+    (token_taken g.S.Sink {T = Unit {0}} {E = Unit {0}} c.args.sink.now c.take-in-Bytes.new.self (atoms_of c.args.token) (Ok tt) c.in_ok-take-in-Bytes.ensures.state c.in_ok-take-in-Bytes.ensures.bytes)
+
+pub returns-in_ok-take-in-Bytes-clause-state : goal.returns-in_ok-take-in-Bytes-clause-state
+returns-in_ok-take-in-Bytes-clause-state g c =
+    bytes_stay (meant c.args.edits.now c.args.editor.now) c.in-Bytes.field-0.now
+    ∙ ap (λ (t : Token). fold next (meant c.args.edits.now c.args.editor.now) (atoms_of t)) (sym c.in-Bytes.is)
