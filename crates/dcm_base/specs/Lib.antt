@@ -30,4 +30,5 @@ pub mod Line
 pub mod Build
 pub mod Atoms
 pub mod Device
+pub mod Memory
 pub mod Steps

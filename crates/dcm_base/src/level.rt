@@ -1,6 +1,9 @@
 use crate::length::Length;
 use crate::syntax::Syntax;
 
+/// The most sequences and fragment lists that may be open at a time.
+pub const MOST_LISTS: usize = 64;
+
 /// What holds elements, items or fragments.
 #[derive(Clone, Copy, Debug, PartialEq, Eq)]
 pub enum Container {

@@ -4,6 +4,15 @@ ghost use Rattle.dcm_base.specs.Transfer as spec;
 
 use crate::syntax::{Coding, Syntax};
 
+/// Implicit VR Little Endian (PS3.5 A.1).
+pub const IMPLICIT_UID: &[u8] = b"1.2.840.10008.1.2";
+
+/// Explicit VR Little Endian (PS3.5 A.2).
+pub const LITTLE_UID: &[u8] = b"1.2.840.10008.1.2.1";
+
+/// Explicit VR Big Endian (PS3.5 A.3).
+pub const BIG_UID: &[u8] = b"1.2.840.10008.1.2.2";
+
 /// A transfer syntax whose data set is deflated, and is not read.
 #[derive(Clone, Copy, Debug, PartialEq, Eq)]
 pub struct Deflated;
@@ -25,13 +34,13 @@ pub fn coding_of(uid: &[u8]) -> Result<Coding, Deflated>
         syntax,
         encapsulated: false,
     };
-    if uid == b"1.2.840.10008.1.2".as_slice() {
+    if uid == IMPLICIT_UID {
         return Ok(native(Syntax::Implicit));
     }
-    if uid == b"1.2.840.10008.1.2.1".as_slice() {
+    if uid == LITTLE_UID {
         return Ok(native(Syntax::Little));
     }
-    if uid == b"1.2.840.10008.1.2.2".as_slice() {
+    if uid == BIG_UID {
         return Ok(native(Syntax::Big));
     }
     if is_deflated(uid) {

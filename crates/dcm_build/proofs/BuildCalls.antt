@@ -69,13 +69,13 @@ tells_halt T old mid new Output e h = h
 abbrev pub Gone : BuildState → Option (List ℕ) → BuildState → Option (List ℕ) → List ℕ → (failed : Bool) → Type 0
 Gone old held new holds bs failed = Goes build_step build_writes old held new holds bs (well failed)
 
-nowhere : (s : BuildState) (held : Option (List ℕ)) (failed : Bool) → Gone s held s held [] failed
-nowhere s held true = record { front = []; rest = []; whole = refl; grown = sym (append_known_none held) }
-nowhere s held false = (refl, sym (append_known_none held))
+nowhere : (s : BuildState) (held : Option (List ℕ)) (failed : Bool) → failed ≡ false → Gone s held s held [] failed
+nowhere s held true e = cc
+nowhere s held false e = (refl, sym (append_known_none held))
 
 -- no byte
-pub gone_nowhere : (place : Place) (halt : Option BuildHalt) (p : Progress) (held : Option (List ℕ)) → View place halt p → Gone p.state held (building place (stop_of halt)) held [] (is_output halt)
-gone_nowhere place halt p held e = subst (λ (q : Progress). Gone q.state held (building place (stop_of halt)) held [] (is_output halt)) e (nowhere (building place (stop_of halt)) held (is_output halt))
+pub gone_nowhere : (place : Place) (halt : Option BuildHalt) (p : Progress) (held : Option (List ℕ)) → View place halt p → p.failed ≡ false → Gone p.state held (building place (stop_of halt)) held [] (is_output halt)
+gone_nowhere place halt p held e fine = subst (λ (q : Progress). Gone q.state held (building place (stop_of halt)) held [] (is_output halt)) e (nowhere (building place (stop_of halt)) held (is_output halt) (ap (λ (q : Progress). q.failed) e ∙ fine))
 
 -- bytes that went well, behind those so far
 pub gone_on : (old : BuildState) (held : Option (List ℕ)) (mid : Place) (mid_held : Option (List ℕ)) (new : Place) (holds : Option (List ℕ)) (xs ys : List ℕ) (halt : Option BuildHalt) (n : ℕ) → halt ≡ None

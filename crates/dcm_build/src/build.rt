@@ -64,7 +64,7 @@ impl Builder {
         piece: &[u8],
         out: &mut Watched<W>,
     ) -> Result<(), BuildHalt>
-        ensures goes { Goes steps.build_step steps.build_writes self.old.state (W.contents out.old) self.new.state (W.contents out.new) piece.now (well self.new.failed) }
+        ensures goes { self.old.failed ≡ false → Goes steps.build_step steps.build_writes self.old.state (W.contents out.old) self.new.state (W.contents out.new) piece.now (well self.new.failed) }
         ensures answer { result ≡ spec.answer self.new.state.told self.new.failed }
         ensures going { OnOk result (spec.is_halted self.new ≡ false) }
         ensures halted { spec.is_halted self.old ≡ true → (self.new ≡ self.old) × (out.new ≡ out.old) }
@@ -91,7 +91,7 @@ impl Builder {
 
     /// The input ends. Where that is no fault, the file is whole.
     pub fn finish<W: DeviceOut>(&mut self, out: &mut Watched<W>) -> Result<(), BuildHalt>
-        ensures bytes { Puts (W.contents out.old) (W.contents out.new) (steps.finish_writes self.old.state) (well self.new.failed) }
+        ensures bytes { self.old.failed ≡ false → Puts (W.contents out.old) (W.contents out.new) (steps.finish_writes self.old.state) (well self.new.failed) }
         ensures state { self.new.failed ≡ false → self.new.state ≡ steps.finishes self.old.state }
         ensures answer { result ≡ spec.answer self.new.state.told self.new.failed }
         ensures going { OnOk result (spec.is_halted self.new ≡ false) }

@@ -4,10 +4,7 @@ ghost use Rattle.dcm_base.specs.Build as build;
 ghost use Rattle.dcm_build.specs.LineShown.{step_of};
 
 use crate::line::Step;
-use dcm_base::{Coding, Container, LineFault, Syntax, Tag};
-
-/// The group of the meta elements.
-const META_GROUP: u16 = 0x0002;
+use dcm_base::{Coding, Container, LineFault, META_GROUP, Syntax, Tag};
 
 /// The fault of the first check that fails.
 pub fn first_fault(checks: &[(bool, LineFault)]) -> Option<LineFault>

@@ -23,7 +23,8 @@ use crate::line::{Meaning, Step, means, without_return};
 use crate::standing::Standing;
 use arrayvec::ArrayVec;
 use dcm_base::{
-    Coding, Container, DeviceOut, Length, LineFault, Syntax, Tag, Vr, Watched, WriteFailed,
+    Coding, Container, DeviceOut, Length, LineFault, MOST_LISTS, Syntax, Tag, Vr, Watched,
+    WriteFailed,
 };
 use dcm_head::Head;
 use dcm_stream::Token;
@@ -32,9 +33,6 @@ use dcm_value::read_value_into;
 
 /// The most bytes of a value that is read from a text.
 const MOST_VALUE: usize = 65_536;
-
-/// The most sequences and fragment lists that are open at a time.
-const MOST_LISTS: usize = 64;
 
 /// Why a line stops the building of a file.
 #[derive(Clone, Copy, Debug, PartialEq, Eq)]

@@ -2,7 +2,7 @@
 ghost use Rattle.std.specs.Prelude.{◌≡◌, ◌+◌, ◌*◌, ◌≤◌, ◌||◌, ◌++◌, nat_lt, [], false, None, replicate, length, IfSome, IfNone};
 ghost use Rattle.dcm_base.specs.Device.{Puts, Tells};
 ghost use Rattle.dcm_base.specs.Head.{head_size as size_of_head};
-ghost use Rattle.dcm_base.specs.MetaReads.{PREFIX};
+ghost use Rattle.dcm_base.specs.MetaReads.{PREFIX as prefix};
 ghost use Rattle.dcm_base.specs.NewMeta.{group_length};
 ghost use Rattle.dcm_base.specs.Recode as recode;
 ghost use Rattle.dcm_base.specs.Recode.{recoded_leaf};
@@ -14,36 +14,17 @@ ghost use Rattle.dcm_build.specs.Building as spec;
 
 use arrayvec::ArrayVec;
 use dcm_base::{Coding, DeviceOut, Syntax, Tag, Vr, Watched, WriteFailed, coding_of, put_parts};
-use dcm_head::size_without_pads;
+use dcm_head::{LONG_HEAD, META_LIMIT, PREAMBLE, PREFIX, SHORT_HEAD, size_without_pads};
 use dcm_tools::leaf_head;
 
-/// The bytes of a head in explicit little endian, by the length that it has room for.
-const SHORT_HEAD: usize = 8;
-
-const LONG_HEAD: usize = 12;
-
 /// The most bytes of heads and values that the lines of the group show.
-pub const MOST_SHOWN: usize = 16_384;
+pub const MOST_SHOWN: usize = META_LIMIT;
 
 /// The most bytes of the elements: with each one of at least 8 bytes comes one pad byte at most.
 const MOST_BYTES: usize = 18_432;
 
-/// The element that tells how many bytes of the group follow it, FileMetaInformationGroupLength.
-const GROUP_LENGTH: Tag = Tag {
-    group: 0x0002,
-    element: 0x0000,
-};
-
-/// The element that names the transfer syntax, TransferSyntaxUID.
-const TRANSFER_SYNTAX: Tag = Tag {
-    group: 0x0002,
-    element: 0x0010,
-};
-
-/// What stands before the prefix of a file, and that prefix.
-const PREAMBLE: [u8; 128] = [0; 128];
-
-const PREFIX_BYTES: &[u8] = b"DICM";
+/// A preamble that says nothing.
+const EMPTY_PREAMBLE: [u8; PREAMBLE] = [0; PREAMBLE];
 
 /// The elements of the new meta group, each with an even length, how many bytes its lines have shown, and the coding that its
 /// transfer syntax means.
@@ -55,12 +36,6 @@ pub struct NewGroup {
     pub coding: Option<Coding>,
     ghost shown_few: { shown ≤ 16384 },
     ghost few: { 8 * length elements.items ≤ 9 * shown },
-}
-
-fn names_syntax(tag: Tag) -> bool
-    ensures { result ≡ is_tag 2 0x10 tag }
-{
-    tag == TRANSFER_SYNTAX
 }
 
 /// A value without the bytes 00 and 20 at its end.
@@ -98,7 +73,7 @@ fn kept(is_named: bool, tag: Tag, vr: Vr, value: &[u8]) -> Option<(Vr, &[u8])>
     ensures value { IfSome result (λ r. length r.1.now ≤ length value.now) }
     ensures head { IfSome result (λ r. size_of_head Little r.0 ≤ size_of_head Little vr) }
 {
-    let is_syntax = names_syntax(tag);
+    let is_syntax = tag.names_syntax();
     if tag.element == 0 || (is_syntax && is_named) {
         None
     } else if is_syntax {
@@ -174,25 +149,25 @@ impl NewGroup {
         if let Some((vr, value)) = kept(self.is_named, tag, vr, value) {
             push_leaf(&mut self.elements, tag, vr, value);
         }
-        if names_syntax(tag) && !self.is_named {
+        if tag.names_syntax() && !self.is_named {
             self.coding = usable(without_pads(value));
         }
-        self.is_named = self.is_named || names_syntax(tag);
+        self.is_named = self.is_named || tag.names_syntax();
         self.shown += size;
     }
 
     /// Writes what stands before a data set: a preamble of zeros, the prefix, and the group behind its length.
     pub fn put<W: DeviceOut>(&self, out: &mut Watched<W>) -> Result<(), WriteFailed>
-        ensures bytes { Puts (W.contents out.old) (W.contents out.new) (replicate 128 0 ++ PREFIX ++ group_length (length self.now.elements.items) ++ self.now.elements.items) result }
+        ensures bytes { Puts (W.contents out.old) (W.contents out.new) (replicate 128 0 ++ prefix ++ group_length (length self.now.elements.items) ++ self.now.elements.items) result }
         ensures failed { Tells (W.has_failed out.old) (W.has_failed out.new) result }
     {
         let size = (self.elements.len() as u32).to_le_bytes();
-        let head = leaf_head(Syntax::Little, GROUP_LENGTH, Vr::UL, size.len() as u32);
+        let head = leaf_head(Syntax::Little, Tag::META_LENGTH, Vr::UL, size.len() as u32);
         put_parts(
             out,
             &[
-                &PREAMBLE,
-                PREFIX_BYTES,
+                &EMPTY_PREAMBLE,
+                PREFIX,
                 head.as_slice(),
                 &size,
                 self.elements.as_slice(),

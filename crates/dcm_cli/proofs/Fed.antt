@@ -29,6 +29,13 @@ going_none p e = none p.reading.halt p.failed e
     none (Some stop) true e = cc
     none (Some stop) false e = cc
 
+pub going_fine : (p : Progress) → is_halted p ≡ false → p.failed ≡ false
+going_fine p e = fine p.reading.halt p.failed e
+  where
+    fine : (halt : Option Stop) (failed : Bool) → (failed || is_some halt) ≡ false → failed ≡ false
+    fine halt true e = cc
+    fine halt false e = refl
+
 module _ {S : Type 0} (bars : S → Head → Option Bar) (step : S → Atom → S) (writes : S → Atom → List ℕ) where
   -- a piece behind another
   pub fed_on : (old : Progress) (s : S) (held : Option (List ℕ)) (had_failed : Bool) (mid : Progress) (m : S) (mid_held : Option (List ℕ)) (mid_failed : Bool)

@@ -21,3 +21,4 @@ pub mod NoEdits
 pub mod DumpBuilds
 pub mod OneAnswer
 pub mod Stopping
+pub mod InMemory

@@ -1,6 +1,5 @@
 -- What a run leaves, by how the work on its job ended.
 use Rattle.std.proofs.Common.{◌≡◌, ◌∙◌, ap, sym, subst, ℕ, ◌<◌, ◌≤◌, ◌^◌, List, [], length, Bool, true, false, Option, None, Some, refl, inl, inr, ◌⊎◌}
-use Rattle.std.proofs.lemmas.List.{append-nil}
 use Rattle.std.specs.Io.KnownBytes.{append_known}
 use Rattle.dcm_base.specs.Build as build
 use Rattle.dcm_base.specs.Device.{AppendsFront}
@@ -17,7 +16,7 @@ use Rattle.dcm_cli.specs.declared.ending.Verdict.{Verdict}
 use Rattle.dcm_cli.specs.declared.ending.Verdict.TheVariants.{Done, RefusedLine}
 use Rattle.dcm_cli.specs.Answer.{Answer, Answers, Source, unopened, file, alone, ReadAnswers, answer, building_line, output_of, edits_of, stop_line, stop_status}
 use Rattle.dcm_cli.specs.Pass.{TellsUnread, TellsOutput}
-use Rattle.dcm_cli.specs.Run.{IsMeant, Answered, ReadEnds, BuildEnds, Worked, answered, could_not_read, could_not_write, FlushedAs, verdict_at, verdict_of_source, verdict_of_told, unplaced_mask, verdict_lines, verdict_status, ending_lines, ending_status, Ran, as_answered, not_read, not_written, Devices}
+use Rattle.dcm_cli.specs.Run.{IsMeant, Answered, ReadEnds, BuildEnds, Worked, answered, could_not_read, could_not_write, FlushedAs, verdict_at, verdict_of_source, verdict_of_told, unplaced_mask, verdict_lines, verdict_status, ending_lines, ending_status, Ran, as_answered, not_read, not_written, not_flushed, Devices}
 use Rattle.dcm_cli.specs.Told.{Tries}
 use Rattle.dcm_words.specs.Plans.{job_of}
 use Rattle.dcm_cli.proofs.MakesEdits.{are_few}
@@ -109,11 +108,11 @@ given (Convert c) meant input out verdict h = reads_given (convert c.target) inp
 given (Build b) meant input out verdict h = built_given b.limit input out verdict h
 given (Modify edits) meant input out verdict h = edits_given edits input out verdict (are_few edits meant) h
 
-module _ (job : RunJob) (meant : IsMeant (job_of job)) (input : List ℕ) (left held worked holds told tells : Option (List ℕ)) (r_old r_new w_old w_mid w_new e_old e_new : Bool) (ending after : Ending) (status : ℕ)
-    (kept : holds ≡ worked) (flushed : FlushedAs ending after w_mid w_new) (unread : TellsUnread r_old r_new ending) (failed : TellsOutput w_old w_mid ending)
+module _ (job : RunJob) (meant : IsMeant (job_of job)) (input : List ℕ) (left held worked holds told tells : Option (List ℕ)) (room : Option ℕ) (r_old r_new w_old w_mid w_new e_old e_new : Bool) (ending after : Ending) (status : ℕ)
+    (kept : holds ≡ worked) (flushed : FlushedAs ending after w_mid w_new room) (unread : TellsUnread r_old r_new ending) (failed : TellsOutput w_old w_mid ending)
     (line : Tries told tells e_old e_new (ending_lines after)) (status_was : status ≡ ending_status after) (readable : r_old ≡ false) (writable : w_old ≡ false) where
   abbrev devices : Devices
-  devices = record { left = left; held = held; holds = holds; told = told; tells = tells; unread = r_new; unwritten = w_new; untold_before = e_old; untold = e_new }
+  devices = record { left = left; held = held; holds = holds; room = room; told = told; tells = tells; unread = r_new; unwritten = w_new; untold_before = e_old; untold = e_new }
 
   told_of : (x : Ending) → after ≡ x → Tries told tells e_old e_new (ending_lines x)
   told_of x is = subst (λ (y : Ending). Tries told tells e_old e_new (ending_lines y)) is line
@@ -122,27 +121,26 @@ module _ (job : RunJob) (meant : IsMeant (job_of job)) (input : List ℕ) (left 
   status_of x is = status_was ∙ ap ending_status is
 
   after_answer : (out : List ℕ) (verdict : Verdict) (k : Given (job_of job) input out verdict) → ending ≡ endings.Worked verdict → worked ≡ append_known held out → Ran (job_of job) input devices status
-  after_answer out verdict k is grown = by_flush (subst (λ (x : Ending). FlushedAs x after w_mid w_new) is flushed)
+  after_answer out verdict k is grown = by_flush (subst (λ (x : Ending). FlushedAs x after w_mid w_new room) is flushed)
     where
       read : r_new ≡ false
       read = subst (λ (x : Ending). TellsUnread r_old r_new x) is unread ∙ readable
 
-      by_flush : ((after ≡ endings.Worked verdict) × (w_new ≡ w_mid)) ⊎ ((after ≡ Output) × (w_new ≡ true)) → Ran (job_of job) input devices status
+      by_flush : ((after ≡ endings.Worked verdict) × (w_new ≡ w_mid)) ⊎ ((after ≡ Output) × (w_new ≡ true) × (room ≡ None)) → Ran (job_of job) input devices status
       by_flush (inl x) =
           as_answered k.a k.answers read (x.1 ∙ subst (λ (x : Ending). TellsOutput w_old w_mid x) is failed ∙ writable)
           (kept ∙ grown ∙ ap (append_known held) k.output_is) (subst (Tries told tells e_old e_new) k.told_is (told_of (endings.Worked verdict) x.0)) (status_of (endings.Worked verdict) x.0 ∙ k.status_is)
       by_flush (inr x) =
-          not_written k.a k.answers read x.1
-          (record { front = out; rest = []; whole = sym k.output_is ∙ sym (append-nil out); grown = kept ∙ grown }) (told_of Output x.0) (status_of Output x.0)
+          not_flushed k.a k.answers read x.1 x.2 (kept ∙ grown ∙ ap (append_known held) k.output_is) (told_of Output x.0) (status_of Output x.0)
 
   pub run_ran : Worked (job_of job) input left held worked ending → Ran (job_of job) input devices status
   run_ran (answered out verdict was is grown) = after_answer out verdict (given job meant input out verdict was) is grown
   run_ran (could_not_read p rest out whole at sure is grown) =
-      let still : after ≡ Unread (length p) = subst (λ (x : Ending). FlushedAs x after w_mid w_new) is flushed in
+      let still : after ≡ Unread (length p) = subst (λ (x : Ending). FlushedAs x after w_mid w_new room) is flushed in
       not_read p rest out whole at (subst (λ (x : Ending). TellsUnread r_old r_new x) is unread) sure (kept ∙ grown) (told_of (Unread (length p)) still) (status_of (Unread (length p)) still)
   run_ran (could_not_write out verdict was is grown) =
       let k = given job meant input out verdict was in
-      let still : (after ≡ Output) × (w_new ≡ w_mid) = subst (λ (x : Ending). FlushedAs x after w_mid w_new) is flushed in
+      let still : (after ≡ Output) × (w_new ≡ w_mid) = subst (λ (x : Ending). FlushedAs x after w_mid w_new room) is flushed in
       not_written k.a k.answers (subst (λ (x : Ending). TellsUnread r_old r_new x) is unread ∙ readable)
       (still.1 ∙ subst (λ (x : Ending). TellsOutput w_old w_mid x) is failed)
       (subst (λ (known : Option (List ℕ)). AppendsFront held known k.a.output) (sym kept) (subst (AppendsFront held worked) k.output_is grown))

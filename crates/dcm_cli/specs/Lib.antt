@@ -5,6 +5,7 @@ pub mod SinkPass
 pub mod EditPass
 pub mod Lines
 pub mod Run
+pub mod InMemory
 pub mod Devices
 pub mod DumpBuilds
 pub mod NoEdits

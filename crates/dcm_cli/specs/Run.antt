@@ -74,11 +74,11 @@ pub data Worked (job : Job) (input : List ℕ) (left held holds : Option (List �
   -- the output failed
   could_not_write : (out : List ℕ) (verdict : Verdict) → Answered job input out verdict → ending ≡ Output → AppendsFront held holds out → Worked job input left held holds ending
 
--- the output is flushed: it fails there just where it is then told
-abbrev pub FlushedAs : Ending → Ending → (old new : Bool) → Type 0
-FlushedAs (endings.Worked verdict) after old new = ((after ≡ endings.Worked verdict) × (new ≡ old)) ⊎ ((after ≡ Output) × (new ≡ true))
-FlushedAs (Unread read) after old new = after ≡ Unread read
-FlushedAs Output after old new = (after ≡ Output) × (new ≡ old)
+-- the output is flushed: it fails there just where it is then told, and only where its writer does not tell its room
+abbrev pub FlushedAs : Ending → Ending → (old new : Bool) → (room : Option ℕ) → Type 0
+FlushedAs (endings.Worked verdict) after old new room = ((after ≡ endings.Worked verdict) × (new ≡ old)) ⊎ ((after ≡ Output) × (new ≡ true) × (room ≡ None))
+FlushedAs (Unread read) after old new room = after ≡ Unread read
+FlushedAs Output after old new room = (after ≡ Output) × (new ≡ old)
 
 -- the output did not fail before that
 abbrev pub IsWritten : Ending → Type 0
@@ -113,11 +113,13 @@ ending_status Output = 4
 
 -- ---- a run
 
--- what it left of its input, what its writers hold before and after, and which devices failed in it
+-- what it left of its input, what its writers hold before and after, the room that is left in the output, and which devices
+-- failed in it
 pub record Devices : Type 0 where
   pub left : Option (List ℕ)
   pub held : Option (List ℕ)
   pub holds : Option (List ℕ)
+  pub room : Option ℕ
   pub told : Option (List ℕ)
   pub tells : Option (List ℕ)
   pub unread : Bool
@@ -133,6 +135,9 @@ pub data Ran (job : Job) (input : List ℕ) (d : Devices) (status : ℕ) : Type 
   -- reading failed after p, and the rest was left: exactly what is sure of p was written
   not_read : (p rest out : List ℕ) → input ≡ p ++ rest → d.left ≡ Some rest → d.unread ≡ true → Sure job p out
       → d.holds ≡ append_known d.held out → Tries d.told d.tells d.untold_before d.untold (unread_line (length p)) → status ≡ 4 → Ran job input d status
-  -- the output failed: a beginning of it was written
+  -- the output failed: a beginning of it was written, and not all of it
   not_written : (a : Answer) → Answers job input a → d.unread ≡ false → d.unwritten ≡ true
       → AppendsFront d.held d.holds a.output → Tries d.told d.tells d.untold_before d.untold output_line → status ≡ 4 → Ran job input d status
+  -- all of it was written, and then it was not flushed
+  not_flushed : (a : Answer) → Answers job input a → d.unread ≡ false → d.unwritten ≡ true → d.room ≡ None
+      → d.holds ≡ append_known d.held a.output → Tries d.told d.tells d.untold_before d.untold output_line → status ≡ 4 → Ran job input d status

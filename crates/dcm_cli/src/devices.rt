@@ -1,10 +1,12 @@
 // The devices of a program.
 ghost use Rattle.std.specs.Prelude.{◌≡◌, ◌≢◌, MatchResult, IfOk};
-ghost use Rattle.dcm_cli.specs.Devices.{standard, IsInputAt, IsOutputAt};
+ghost use Rattle.either.specs.Either.{is_left};
+ghost use Rattle.dcm_cli.specs.Devices.{standard, IsOpenAt};
 
-use crate::output::{Output, OutputFile};
+use crate::output::OutputFile;
+use either::{Either, Left, Right};
 use std::fs::{File, Metadata, OpenOptions};
-use std::io::{ErrorKind, Read, Stdin};
+use std::io::{ErrorKind, Stdin, Stdout};
 use std::os::unix::fs::MetadataExt;
 use std::{fs, io, str};
 
@@ -17,21 +19,11 @@ const STANDARD: &[u8] = b"-";
 /// What standard input reads from, as a path.
 const STANDARD_INPUT: &str = "/dev/stdin";
 
-/// The input of a job.
-#[derive(Drop)]
-pub enum Input {
-    Standard(Stdin),
-    File(File),
-}
+/// The input of a job: standard input, or a file.
+pub type Input = Either<Stdin, File>;
 
-impl Read for Input {
-    fn read(&mut self, bytes: &mut [u8]) -> io::Result<usize> {
-        match self {
-            Input::Standard(input) => input.read(bytes),
-            Input::File(file) => file.read(bytes),
-        }
-    }
-}
+/// The output of a job: standard output, or a file.
+pub type Output = Either<Stdout, OutputFile<File>>;
 
 /// The numbers of standard streams that were closed when the program began.
 #[derive(Drop)]
@@ -72,26 +64,26 @@ fn open_file(rt: HostRuntime, path: &str) -> io::Result<File> {
 
 /// Opens an input, `-` for standard input.
 pub fn open_input(rt: HostRuntime, word: &[u8]) -> io::Result<Input>
-    ensures { MatchResult result (λ input. IsInputAt input word.now) (λ _. word.now ≢ standard) }
+    ensures { MatchResult result (λ input. IsOpenAt (is_left input) word.now) (λ _. word.now ≢ standard) }
 {
     if word == STANDARD {
-        return Ok(Input::Standard(rt.stdin()));
+        return Ok(Left(rt.stdin()));
     }
-    Ok(Input::File(open_file(rt, path(word)?)?))
+    Ok(Right(open_file(rt, path(word)?)?))
 }
 
 /// Opens an output, `-` for standard output. A file that is there keeps what it holds until the first byte is written.
 pub fn open_output(rt: HostRuntime, word: &[u8]) -> io::Result<Output>
-    ensures { MatchResult result (λ output. IsOutputAt output word.now) (λ _. word.now ≢ standard) }
+    ensures { MatchResult result (λ output. IsOpenAt (is_left output) word.now) (λ _. word.now ≢ standard) }
 {
     if word == STANDARD {
-        return Ok(Output::Standard(rt.stdout()));
+        return Ok(Left(rt.stdout()));
     }
     let file = OpenOptions::new()
         .write(true)
         .create(true)
         .open(&rt, path(word)?)?;
-    Ok(Output::File(OutputFile::new(file)))
+    Ok(Right(OutputFile::new(file)))
 }
 
 /// The device and the number of a regular file.
@@ -104,15 +96,15 @@ fn identity(file: io::Result<Metadata>) -> Option<(u64, u64)> {
 
 fn input_identity(rt: HostRuntime, input: &Input) -> Option<(u64, u64)> {
     match input {
-        Input::Standard(_) => identity(fs::metadata(&rt, STANDARD_INPUT)),
-        Input::File(file) => identity(file.metadata()),
+        Left(_) => identity(fs::metadata(&rt, STANDARD_INPUT)),
+        Right(file) => identity(file.metadata()),
     }
 }
 
 fn output_identity(output: &Output) -> Option<(u64, u64)> {
     match output {
-        Output::Standard(_) => None,
-        Output::File(file) => identity(file.metadata()),
+        Left(_) => None,
+        Right(file) => identity(file.metadata()),
     }
 }
 

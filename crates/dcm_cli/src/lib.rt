@@ -21,6 +21,7 @@ mod devices;
 mod dump;
 mod ending;
 mod head;
+pub mod in_memory;
 pub mod laws;
 mod modify;
 mod output;

@@ -1,38 +1,39 @@
 // The output of a program.
-use std::fs::{File, Metadata};
+ghost use Rattle.std.specs.Prelude.{◌≡◌};
+
+use std::fs::{Metadata, OpenFile};
 use std::io;
-use std::io::{Stdout, Write};
+use std::io::Write;
 
 /// A file that is written from its beginning. What it held before stays until then.
 #[derive(Drop)]
-pub struct OutputFile {
-    file: File,
+pub struct OutputFile<F> {
+    file: F,
     is_begun: bool,
 }
 
-/// The output of a job.
-#[derive(Drop)]
-pub enum Output {
-    Standard(Stdout),
-    File(OutputFile),
-}
-
-impl OutputFile {
+impl<F> OutputFile<F> {
     /// Of a file that was opened and not truncated.
-    pub fn new(file: File) -> OutputFile {
+    pub fn new(file: F) -> Self
+        ensures { result.file ≡ file }
+    {
         OutputFile {
             file,
             is_begun: false,
         }
     }
+}
 
+impl<F: OpenFile> OutputFile<F> {
     pub fn metadata(&self) -> io::Result<Metadata> {
         self.file.metadata()
     }
 
     /// Truncates a regular file before its first byte is written. Streams and devices have nothing to truncate, and a new file
     /// is left alone: ext4 writes a file that was truncated to the disk when it is closed, which takes as long again.
-    fn begin(&mut self) -> io::Result<()> {
+    fn begin(&mut self) -> io::Result<()>
+        ensures { self.new.file ≡ self.old.file }
+    {
         if self.is_begun {
             return Ok(());
         }
@@ -45,7 +46,9 @@ impl OutputFile {
     }
 }
 
-impl Write for OutputFile {
+impl<F: OpenFile + Write> Write for OutputFile<F> {
+    ghost contents = { λ output. F.contents output.file };
+
     fn write(&mut self, bytes: &[u8]) -> io::Result<usize> {
         self.begin()?;
         self.file.write(bytes)
@@ -53,21 +56,5 @@ impl Write for OutputFile {
 
     fn flush(&mut self) -> io::Result<()> {
         self.file.flush()
-    }
-}
-
-impl Write for Output {
-    fn write(&mut self, bytes: &[u8]) -> io::Result<usize> {
-        match self {
-            Output::Standard(output) => output.write(bytes),
-            Output::File(file) => file.write(bytes),
-        }
-    }
-
-    fn flush(&mut self) -> io::Result<()> {
-        match self {
-            Output::Standard(output) => output.flush(),
-            Output::File(file) => file.flush(),
-        }
     }
 }

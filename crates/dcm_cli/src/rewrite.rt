@@ -17,10 +17,7 @@ use crate::ending::{Ending, Verdict, ending_of_head};
 use crate::head::{Begun, read_head_of, set_start};
 use crate::syntax::uid_of_syntax;
 use dcm_base::{Coding, DeviceIn, DeviceOut, Fault, Stop, Syntax, Watched, WriteFailed, put_parts};
-use dcm_head::Meta;
-
-/// What stands between the preamble and the meta group (PS3.10 7.1).
-const PREFIX: &[u8] = b"DICM";
+use dcm_head::{Meta, PREFIX};
 
 /// A file whose data set is to be written again: the coding and the offset of the data set, and what was read of it.
 #[derive(Clone, Copy, Debug, PartialEq, Eq)]

@@ -30,7 +30,7 @@ pub struct Outcome {
 /// Flushes the output, unless it has failed. A failed flush is told where nothing failed before.
 fn flushed<W: DeviceOut>(ending: Ending, out: &mut Watched<W>) -> Ending
     ensures contents { W.contents out.new ≡ W.contents out.old }
-    ensures flushed { spec.FlushedAs ending result (W.has_failed out.old) (W.has_failed out.new) }
+    ensures flushed { spec.FlushedAs ending result (W.has_failed out.old) (W.has_failed out.new) (W.room out.new) }
     ensures drained { spec.IsWritten ending → W.has_failed out.new ≡ false → W.is_flushed out.new ≡ true }
 {
     match ending {
@@ -122,7 +122,7 @@ pub fn run<R: DeviceIn, W: DeviceOut, E: DeviceOut>(
     out: &mut Watched<W>,
     errors: &mut Watched<E>,
 ) -> Outcome
-    ensures ran { (file : List ℕ) → R.remaining input.old ≡ Some file → R.has_failed input.old ≡ false → W.has_failed out.old ≡ false → spec.Ran (job_of job.now) file (record { left = R.remaining input.new; held = W.contents out.old; holds = W.contents out.new; told = E.contents errors.old; tells = E.contents errors.new; unread = R.has_failed input.new; unwritten = W.has_failed out.new; untold_before = E.has_failed errors.old; untold = E.has_failed errors.new }) result.status }
+    ensures ran { (file : List ℕ) → R.remaining input.old ≡ Some file → R.has_failed input.old ≡ false → W.has_failed out.old ≡ false → spec.Ran (job_of job.now) file (record { left = R.remaining input.new; held = W.contents out.old; holds = W.contents out.new; room = W.room out.new; told = E.contents errors.old; tells = E.contents errors.new; unread = R.has_failed input.new; unwritten = W.has_failed out.new; untold_before = E.has_failed errors.old; untold = E.has_failed errors.new }) result.status }
     ensures stops { (file : List ℕ) → R.remaining input.old ≡ Some file → Stops (job_of job.now) file (R.remaining input.new) }
     ensures flushed { W.has_failed out.old ≡ false → W.has_failed out.new ≡ false → W.is_flushed out.new ≡ true }
     ensures within { result.status ≤ 4 }

@@ -2,7 +2,7 @@
 ghost use Rattle.std.specs.Prelude.{◌≡◌, ◌<◌, length};
 ghost use Rattle.dcm_cli.specs.Answer.{uid_of_syntax};
 
-use dcm_base::Syntax;
+use dcm_base::{BIG_UID, IMPLICIT_UID, LITTLE_UID, Syntax};
 
 /// The unique identifier of the transfer syntax of a data set that is not encapsulated (PS3.5 annex A).
 pub fn uid_of_syntax(syntax: Syntax) -> &'static [u8]
@@ -10,8 +10,8 @@ pub fn uid_of_syntax(syntax: Syntax) -> &'static [u8]
     ensures limit { length result.now < 65535 }
 {
     match syntax {
-        Syntax::Implicit => b"1.2.840.10008.1.2",
-        Syntax::Little => b"1.2.840.10008.1.2.1",
-        Syntax::Big => b"1.2.840.10008.1.2.2",
+        Syntax::Implicit => IMPLICIT_UID,
+        Syntax::Little => LITTLE_UID,
+        Syntax::Big => BIG_UID,
     }
 }

@@ -11,8 +11,8 @@ use crate::asked::{Fate, Gap, New, Question, answers, fate_by, is_below, meets, 
 use crate::edit::Edit;
 use dcm_base::Tag;
 
-/// The bits of a mask.
-const MOST_EDITS: usize = 64;
+/// The most edits of a command line: the bits of a mask.
+pub const MOST_EDITS: usize = 64;
 
 fn is_set(mask: u64, place: usize) -> bool
     requires { place < 64 }

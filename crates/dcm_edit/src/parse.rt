@@ -8,11 +8,9 @@ use crate::edit::Edit;
 use crate::fault::{EditFault, Failure};
 use crate::form::Kind;
 use crate::making::edit_of_word;
+use crate::mask::MOST_EDITS;
 use dcm_base::EditRefusal;
 use std::alloc::Global;
-
-/// The most edits of a command line.
-const MOST_EDITS: usize = 64;
 
 /// What a word says that begins an edit.
 #[derive(Clone, Copy, Debug, PartialEq, Eq)]

@@ -2,12 +2,11 @@
 ghost use Rattle.std.specs.Prelude.{◌≡◌, ◌≤◌, length};
 ghost use Rattle.dcm_base.specs.Head.{head_size};
 ghost use Rattle.dcm_base.specs.MetaGroup as spec;
-ghost use Rattle.dcm_base.specs.Tag.{is_tag};
 ghost use Rattle.dcm_base.specs.declared.syntax.Syntax.TheVariants.{Little};
 ghost use Rattle.dcm_head.specs.GroupPlaces.{place_is};
 
 use crate::head::{Head, HeadRead, SHORT_HEAD, read_explicit, read_short};
-use dcm_base::{Fault, Length, Syntax, Tag, Vr};
+use dcm_base::{Fault, Length, META_GROUP, Syntax, Tag, Vr};
 
 /// A whole element with the sizes of its head and its value, the group's end, too few bytes to tell, or a fault.
 #[derive(Clone, Copy, Debug, PartialEq, Eq)]
@@ -21,21 +20,8 @@ pub enum Place {
 /// The bytes of a meta group at most.
 pub const META_LIMIT: usize = 16_384;
 
-/// The group of the meta elements.
-const META_GROUP: u16 = 0x0002;
-
-/// The element of TransferSyntaxUID.
-const TRANSFER_SYNTAX: u16 = 0x0010;
-
 /// The bytes that spell a group's number.
 const GROUP_SIZE: usize = 2;
-
-/// Whether this is the element that names the transfer syntax, TransferSyntaxUID.
-pub fn names_syntax(tag: Tag) -> bool
-    ensures { result ≡ is_tag 2 0x10 tag }
-{
-    tag.group == META_GROUP && tag.element == TRANSFER_SYNTAX
-}
 
 /// At a whole head of so many bytes, where so many bytes are left from it on.
 fn place_of_head(taken: usize, left: usize, head: Head, used: usize) -> Place

@@ -2,7 +2,6 @@
 ghost use Rattle.std.specs.Prelude.{◌≡◌, ◌≢◌, ◌≤◌, length};
 ghost use Rattle.dcm_base.specs.Head.{tag_at, vr_at, long_length};
 ghost use Rattle.dcm_base.specs.Number.{number};
-ghost use Rattle.dcm_base.specs.Tag.{is_item as is_item_tag};
 ghost use Rattle.dcm_base.specs.Representation.{is_capital as is_capital_letter, vr_read};
 ghost use Rattle.dcm_head.specs.HeadRead as spec;
 
@@ -36,18 +35,6 @@ pub const LONG_HEAD: usize = 12;
 
 /// How the undefined length is spelled (PS3.5 7.1.1).
 pub const UNDEFINED: u32 = 0xFFFF_FFFF;
-
-/// The group of items and delimiters (PS3.5 7.5).
-const ITEMS: u16 = 0xFFFE;
-
-/// The element of an item.
-const ITEM: u16 = 0xE000;
-
-/// The element of an item's delimiter.
-const ITEM_END: u16 = 0xE00D;
-
-/// The element of a sequence's delimiter.
-const SEQUENCE_END: u16 = 0xE0DD;
 
 /// The tag that the first four bytes spell (PS3.5 7.1.1).
 pub fn read_tag(syntax: Syntax, bytes: &[u8]) -> Tag
@@ -146,18 +133,11 @@ fn read_element(syntax: Syntax, bytes: &[u8]) -> HeadRead
     }
 }
 
-/// Whether an item begins with this tag.
-pub fn is_item(tag: Tag) -> bool
-    ensures { result ≡ is_item_tag tag }
-{
-    tag.group == ITEMS && tag.element == ITEM
-}
-
 /// Whether this tag is that of an item's or a sequence's delimiter.
 pub fn is_delimiter(tag: Tag) -> bool
     ensures { result ≡ spec.is_delimiter tag }
 {
-    tag.group == ITEMS && (tag.element == ITEM_END || tag.element == SEQUENCE_END)
+    tag.is_item_end() || tag.is_sequence_end()
 }
 
 /// The head of an item or a delimiter, which has no representation.
@@ -185,7 +165,7 @@ pub fn read_head(syntax: Syntax, bytes: &[u8]) -> HeadRead
         return HeadRead::More(SHORT_HEAD);
     }
     let tag = read_tag(syntax, bytes);
-    if is_item(tag) {
+    if tag.is_item() {
         let length = read_long(syntax, &bytes[4..]);
         return without_vr(tag, length);
     }

@@ -23,8 +23,9 @@ mod rewriting;
 mod write;
 
 pub use element::{MetaElement, first_element};
-pub use head::{Head, HeadRead, LONG_HEAD, read_head, read_tag};
-pub use meta::Meta;
+pub use group::META_LIMIT;
+pub use head::{Head, HeadRead, LONG_HEAD, SHORT_HEAD, read_head, read_tag};
+pub use meta::{Meta, PREAMBLE, PREFIX};
 pub use meta_read::{MetaEnd, MetaRead};
 pub use pads::size_without_pads;
 pub use rewriting::write_meta;

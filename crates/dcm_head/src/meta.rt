@@ -5,7 +5,7 @@ ghost use Rattle.dcm_base.specs.NewMeta.{new_meta};
 ghost use Rattle.dcm_head.specs.MetaReading as reading;
 ghost use Rattle.dcm_head.specs.Rewriting.{OfElements};
 
-use crate::group::{Place, names_syntax, place_of};
+use crate::group::{Place, place_of};
 use crate::meta_read::{MetaEnd, MetaRead};
 use crate::pads::size_without_pads;
 use crate::rewriting::write_meta;
@@ -13,8 +13,11 @@ use arrayvec::ArrayVec;
 use dcm_base::{Coding, DeviceOut, Fault, Stop, Tag, Watched, WriteFailed, coding_of};
 use std::marker::Model;
 
-/// The bytes of the preamble.
-const PREAMBLE: usize = 128;
+/// The bytes of the preamble (PS3.10 7.1).
+pub const PREAMBLE: usize = 128;
+
+/// What comes between the preamble and the meta group (PS3.10 7.1).
+pub const PREFIX: &[u8] = b"DICM";
 
 /// The bytes of preamble and prefix, behind which the group begins.
 const GROUP_AT: usize = 132;
@@ -95,7 +98,7 @@ fn group_end(place: usize, uid: &[u8]) -> MetaEnd
 fn is_first_syntax(uid_at: usize, tag: Tag) -> bool
     ensures { result ≡ reading.is_first_syntax uid_at tag }
 {
-    uid_at == 0 && names_syntax(tag)
+    uid_at == 0 && tag.names_syntax()
 }
 
 fn has_prefix(bytes: &[u8]) -> bool
@@ -103,7 +106,7 @@ fn has_prefix(bytes: &[u8]) -> bool
     ensures { result ≡ reading.has_prefix bytes.now }
 {
     let (_, prefix) = bytes.split_at(PREAMBLE);
-    prefix == b"DICM".as_slice()
+    prefix == PREFIX
 }
 
 impl Meta {

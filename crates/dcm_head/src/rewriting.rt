@@ -10,17 +10,10 @@ ghost use Rattle.dcm_base.specs.declared.syntax.Syntax.TheVariants.{Little};
 ghost use Rattle.dcm_head.specs.Rewriting as spec;
 
 use crate::element::{MetaElement, first_element};
-use crate::group::names_syntax;
 use crate::head::{Head, LONG_HEAD};
 use crate::write::explicit_head;
 use arrayvec::ArrayVec;
 use dcm_base::{DeviceOut, Length, Syntax, Tag, Vr, Watched, WriteFailed, put_parts};
-
-/// The element that tells how many bytes of the group follow it, FileMetaInformationGroupLength.
-const GROUP_LENGTH: Tag = Tag {
-    group: 0x0002,
-    element: 0x0000,
-};
 
 /// The size of a value with its pad byte.
 fn even(size: usize) -> usize
@@ -74,7 +67,7 @@ fn renewed<'a>(first: MetaElement<'a>, named: bool, uid: &'a [u8]) -> Option<(Vr
     ensures none { IfNone result (spec.written_element named uid.now first.entry.tag first.entry.vr first.entry.value.now ≡ []) }
     ensures limit { IfSome result (λ r. length r.1.now < 65535) }
 {
-    let is_syntax = names_syntax(first.tag);
+    let is_syntax = first.tag.names_syntax();
     if first.tag.element == 0 || (is_syntax && named) {
         None
     } else if is_syntax {
@@ -117,7 +110,7 @@ fn put_element<W: DeviceOut>(
 fn is_named(named: bool, tag: Tag) -> bool
     ensures { result ≡ (named || is_tag 2 0x10 tag) }
 {
-    named || names_syntax(tag)
+    named || tag.names_syntax()
 }
 
 /// The size of the elements of the new group.
@@ -173,6 +166,6 @@ pub fn write_meta<W: DeviceOut>(
     ensures failed { Tells (W.has_failed out.old) (W.has_failed out.new) result }
 {
     let size = elements_size(run, uid) as u32;
-    put_leaf(out, GROUP_LENGTH, Vr::UL, &size.to_le_bytes())?;
+    put_leaf(out, Tag::META_LENGTH, Vr::UL, &size.to_le_bytes())?;
     put_elements(out, run, uid)
 }

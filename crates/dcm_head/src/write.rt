@@ -5,7 +5,7 @@ ghost use Rattle.dcm_base.specs.Recode as recode;
 ghost use Rattle.dcm_base.specs.Representation.{is_long as has_long_form};
 ghost use Rattle.dcm_head.specs.HeadBytes as spec;
 
-use crate::head::{Head, LONG_HEAD, UNDEFINED, is_delimiter, is_item};
+use crate::head::{Head, LONG_HEAD, UNDEFINED, is_delimiter};
 use arrayvec::ArrayVec;
 use dcm_base::{Length, Syntax, Tag};
 
@@ -105,7 +105,7 @@ pub fn write_head(syntax: Syntax, head: &Head) -> ArrayVec<u8, LONG_HEAD>
     ensures { result.items ≡ spec.head_bytes syntax head.now }
 {
     let tag = head.tag;
-    if is_item(tag) {
+    if tag.is_item() {
         return plain_head(syntax, tag, head.length);
     }
     if is_delimiter(tag) {

@@ -7,6 +7,7 @@ mod long_lines;
 mod modifications;
 mod nested;
 mod rebuilt;
+mod rooms;
 mod rows;
 
 use buildings::buildings;

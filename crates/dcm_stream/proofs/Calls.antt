@@ -72,13 +72,13 @@ module _ {S : Type 0} (bars : S → Head → Option Bar) (step : S → Atom → 
   abbrev pub Gone : Reading → S → Option (List ℕ) → Reading → S → Option (List ℕ) → List ℕ → (failed : Bool) → Type 0
   Gone old s held new t holds bs failed = Goes (steps bars step) (steps_write bars step writes) (old, s) held (new, t) holds bs (well failed)
 
-  nowhere : (r : Reading) (s : S) (held : Option (List ℕ)) (failed : Bool) → Gone r s held r s held [] failed
-  nowhere r s held true = record { front = []; rest = []; whole = refl; grown = sym (append_known_none held) }
-  nowhere r s held false = (refl, sym (append_known_none held))
+  nowhere : (r : Reading) (s : S) (held : Option (List ℕ)) (failed : Bool) → failed ≡ false → Gone r s held r s held [] failed
+  nowhere r s held true e = cc
+  nowhere r s held false e = (refl, sym (append_known_none held))
 
   -- no byte
-  pub gone_nowhere : (r : Reading) (failed : Bool) (p : Progress) (s : S) (held : Option (List ℕ)) → ◌≡◌ {A = Progress} (record { reading = r; failed = failed }) p → Gone p.reading s held r s held [] failed
-  gone_nowhere r failed p s held e = subst (λ (q : Progress). Gone q.reading s held r s held [] failed) e (nowhere r s held failed)
+  pub gone_nowhere : (r : Reading) (failed : Bool) (p : Progress) (s : S) (held : Option (List ℕ)) → ◌≡◌ {A = Progress} (record { reading = r; failed = failed }) p → p.failed ≡ false → Gone p.reading s held r s held [] failed
+  gone_nowhere r failed p s held e fine = subst (λ (q : Progress). Gone q.reading s held r s held [] failed) e (nowhere r s held failed (ap (λ (q : Progress). q.failed) e ∙ fine))
 
   -- bytes that went well, behind those so far
   pub gone_on : (old : Reading) (s : S) (held : Option (List ℕ)) (mid : Place) (m : S) (mid_held : Option (List ℕ)) (new : Place) (t : S) (holds : Option (List ℕ)) (xs ys : List ℕ) (halt : Option Halt) (n : ℕ) → halt ≡ None
@@ -166,11 +166,11 @@ module _ {S : Type 0} (step : S → Atom → S) (writes : S → Atom → List �
       subst (λ (r : Reading). Goes step writes s held t holds (end_shows (finish r)) (well (is_output after))) (view_at place before p view e)
       (subst (λ (x : Result (Unit {0}) (Unit {0})). Goes step writes s held t holds (end_shows (finish (reading place None))) x) (sym (ap (λ (o : Option Halt). well (is_output o)) f ∙ well_of result)) h)
 
-  silent_at : (place : Place) (halt : Option Halt) (s : S) (held : Option (List ℕ)) → is_some halt ≡ true → Goes step writes s held s held (end_shows (finish (reading place (stop_of halt)))) (well (is_output halt))
+  silent_at : (place : Place) (halt : Option Halt) (s : S) (held : Option (List ℕ)) → is_some halt ≡ true → is_output halt ≡ false → Goes step writes s held s held (end_shows (finish (reading place (stop_of halt)))) (well (is_output halt))
   unfolding finish
-  silent_at place None s held e = absurd (cc)
-  silent_at place (Some (Refused stop)) s held e = (refl, sym (append_known_none held))
-  silent_at place (Some Output) s held e = record { front = []; rest = _; whole = refl; grown = sym (append_known_none held) }
+  silent_at place None s held e fine = absurd (cc)
+  silent_at place (Some (Refused stop)) s held e fine = (refl, sym (append_known_none held))
+  silent_at place (Some Output) s held e fine = absurd (cc)
 
-  pub still_goes : (place : Place) (halt : Option Halt) (p : Progress) (s : S) (held : Option (List ℕ)) → View place halt p → is_some halt ≡ true → Goes step writes s held s held (end_shows (finish p.reading)) (well (is_output halt))
-  still_goes place halt p s held view e = subst (λ (q : Progress). Goes step writes s held s held (end_shows (finish q.reading)) (well (is_output halt))) view (silent_at place halt s held e)
+  pub still_goes : (place : Place) (halt : Option Halt) (p : Progress) (s : S) (held : Option (List ℕ)) → View place halt p → is_some halt ≡ true → p.failed ≡ false → Goes step writes s held s held (end_shows (finish p.reading)) (well (is_output halt))
+  still_goes place halt p s held view e fine = subst (λ (q : Progress). Goes step writes s held s held (end_shows (finish q.reading)) (well (is_output halt))) view (silent_at place halt s held e (ap (λ (q : Progress). q.failed) view ∙ fine))

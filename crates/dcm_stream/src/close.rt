@@ -9,10 +9,10 @@ ghost use Rattle.dcm_stream.specs.Reading.{closes, full_closed};
 use super::judge::Opening;
 use super::{Sink, Token};
 use arrayvec::ArrayVec;
-use dcm_base::{Container, Level, WriteFailed};
+use dcm_base::{Container, Level, MOST_LISTS, WriteFailed};
 
-/// The data set, 64 sequences or fragment lists, and 64 items.
-pub const MOST_LEVELS: usize = 129;
+/// The data set, and the most sequences and fragment lists with an item each.
+pub const MOST_LEVELS: usize = 2 * MOST_LISTS + 1;
 
 /// The token that ends a container.
 fn closing_token(container: Container) -> Token<'static>

@@ -9,15 +9,12 @@ ghost use Rattle.dcm_base.specs.Spelling as spelling;
 ghost use Rattle.dcm_stream.specs.Reading as reading;
 ghost use Rattle.dcm_stream.specs.Judging as spec;
 
-use super::levels::{
-    ITEM_GROUP, depth, is_allowed, is_item, level_at, opens_list, passes, room, with_length,
-};
+use super::levels::{depth, is_allowed, level_at, opens_list, passes, room, with_length};
 use super::{Bar, Sink};
-use dcm_base::{Container, Fault, Form, Length, Level, Syntax, Vr, form_of};
+use dcm_base::{
+    Container, Fault, Form, ITEM_GROUP, Length, Level, MOST_LISTS, Syntax, Vr, form_of,
+};
 use dcm_head::{Head, HeadRead, read_head, read_tag};
-
-/// So many sequences and fragment lists may stand open.
-const MOST_LISTS: usize = 64;
 
 /// The bytes of the head of an item or a delimiter (PS3.5 7.5).
 const ITEM_HEAD: u64 = 8;
@@ -205,7 +202,7 @@ pub fn judge<S: Sink>(
     if tag.group != ITEM_GROUP {
         return judge_element(inner.syntax, levels, position, bytes, sink);
     }
-    if !is_item(tag) {
+    if !tag.is_item() {
         return Ok(Some(Opening::End(inner.container)));
     }
     let declared = item_length(inner.syntax, bytes);

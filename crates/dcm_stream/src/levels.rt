@@ -1,42 +1,12 @@
 // The open containers, the outermost first, and the room in them.
 ghost use Rattle.std.specs.Prelude.{◌≡◌, ℕ, ◌+◌, ◌^◌, ◌<◌, ◌≤◌, reverse, length};
-ghost use Rattle.dcm_base.specs.Tag as tags;
 ghost use Rattle.dcm_base.specs.Place as spec;
 ghost use Rattle.dcm_base.specs.Stop as stops;
 ghost use Rattle.dcm_stream.specs.Reading as reading;
 
-use dcm_base::{Container, Form, Length, Level, Syntax, Tag};
+use dcm_base::{Container, Form, ITEM_GROUP, Length, Level, META_GROUP, Syntax, Tag};
 
-/// The group of items and delimiters, and the elements of each (PS3.5 7.5).
-pub const ITEM_GROUP: u16 = 0xFFFE;
-
-const ITEM: u16 = 0xE000;
-
-const ITEM_END: u16 = 0xE00D;
-
-const SEQUENCE_END: u16 = 0xE0DD;
-
-/// The group of the meta elements, which stand in no data set (PS3.10 7.1).
-const META_GROUP: u16 = 0x0002;
-
-pub fn is_item(tag: Tag) -> bool
-    ensures { result ≡ tags.is_item tag }
-{
-    tag.group == ITEM_GROUP && tag.element == ITEM
-}
-
-fn is_item_end(tag: Tag) -> bool
-    ensures { result ≡ tags.is_item_end tag }
-{
-    tag.group == ITEM_GROUP && tag.element == ITEM_END
-}
-
-fn is_sequence_end(tag: Tag) -> bool
-    ensures { result ≡ tags.is_sequence_end tag }
-{
-    tag.group == ITEM_GROUP && tag.element == SEQUENCE_END
-}
-
+/// Whether an element of a data set has this tag. Those of the meta group stand in none (PS3.10 7.1).
 fn is_data(tag: Tag) -> bool
     ensures { result ≡ spec.is_data tag }
 {
@@ -51,9 +21,9 @@ pub fn is_allowed(container: Container, declared: Length, tag: Tag) -> bool
     let is_undefined = declared == Length::Undefined;
     match container {
         Container::DataSet => is_data(tag),
-        Container::Item => is_data(tag) || (is_undefined && is_item_end(tag)),
-        Container::Sequence => is_item(tag) || (is_undefined && is_sequence_end(tag)),
-        Container::FragmentList => is_item(tag) || is_sequence_end(tag),
+        Container::Item => is_data(tag) || (is_undefined && tag.is_item_end()),
+        Container::Sequence => tag.is_item() || (is_undefined && tag.is_sequence_end()),
+        Container::FragmentList => tag.is_item() || tag.is_sequence_end(),
     }
 }
 

@@ -64,7 +64,7 @@ impl Machine {
 
     /// Goes over the next bytes of the data set. After a halt each call answers the same halt.
     pub fn feed<S: Sink>(&mut self, piece: &[u8], sink: &mut S) -> Result<(), Halt>
-        ensures goes { sinks.GoesOver S.Sink sink.old sink.new self.old self.new piece.now }
+        ensures goes { self.old.failed ≡ false → sinks.GoesOver S.Sink sink.old sink.new self.old self.new piece.now }
         ensures answer { result ≡ spec.answer self.new.reading.halt self.new.failed }
         ensures going { OnOk result (spec.is_halted self.new ≡ false) }
         ensures halted { spec.is_halted self.old ≡ true → (self.new ≡ self.old) × (sink.new ≡ sink.old) }
@@ -92,7 +92,7 @@ impl Machine {
 
     /// The input ends. Where that is no fault, the data set is closed.
     pub fn finish<S: Sink>(&mut self, sink: &mut S) -> Result<(), Halt>
-        ensures goes { sinks.Takes S.Sink sink.old sink.new (steps.end_shows (steps.finish self.old.reading)) (spec.well self.new.failed) }
+        ensures goes { self.old.failed ≡ false → sinks.Takes S.Sink sink.old sink.new (steps.end_shows (steps.finish self.old.reading)) (spec.well self.new.failed) }
         ensures answer { result ≡ spec.answer self.new.reading.halt self.new.failed }
         ensures reading { self.old.failed ≡ false → self.new.reading ≡ spec.ended (steps.finish self.old.reading) self.old.reading }
         ensures halted { spec.is_halted self.old ≡ true → (self.new ≡ self.old) × (sink.new ≡ sink.old) }

@@ -13,11 +13,7 @@ use super::machine::INPUT_LIMIT;
 use super::{Halt, Sink, Token};
 use arrayvec::ArrayVec;
 use dcm_base::{Container, Fault, Length, Level, Stop, Syntax};
-
-/// The bytes of the shortest head and of the longest.
-const SHORT_HEAD: usize = 8;
-
-const LONG_HEAD: usize = 12;
+use dcm_head::{LONG_HEAD, SHORT_HEAD};
 
 /// The offset up to which heads and values were read whole, the bytes of a head behind it, the bytes of a value that are
 /// to come, and the open containers, the outermost first.

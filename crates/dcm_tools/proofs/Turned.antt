@@ -34,8 +34,9 @@ put_all_of held holds all so = so.grown ∙ ap (append_known held) (sym (append-
 pub put_stopped : (held mid holds : Option (List ℕ)) (all left part after : List ℕ) → PutSoFar held mid all left → left ≡ part ++ after → AppendsFront mid holds part → AppendsFront held holds all
 put_stopped held mid holds all left part after so split front = record {
   front = so.done ++ front.front;
+  next = front.next;
   rest = front.rest ++ after;
-  whole = so.whole ∙ ap (λ z. so.done ++ z) (split ∙ ap (λ z. z ++ after) front.whole ∙ append_assoc front.front front.rest after) ∙ sym (append_assoc so.done front.front (front.rest ++ after));
+  whole = so.whole ∙ ap (λ z. so.done ++ z) (split ∙ ap (λ z. z ++ after) front.whole ∙ append_assoc front.front (front.next ∷ front.rest) after) ∙ sym (append_assoc so.done front.front (front.next ∷ (front.rest ++ after)));
   grown = front.grown ∙ ap (λ known. append_known known front.front) so.grown ∙ append_known_twice held so.done front.front;
 }
 

@@ -3,11 +3,11 @@ ghost use Rattle.std.specs.Prelude.{◌≡◌, ◌<◌, ◌≤◌, [], ◌∷◌
 ghost use Rattle.dcm_tools.specs.Lengths.{innermost, outer};
 
 use arrayvec::ArrayVec;
-use dcm_base::Length;
+use dcm_base::{Length, MOST_LISTS};
 use std::marker::Model;
 
 /// The most sequences, fragment lists and items that stand open at a time.
-pub const MOST_OPEN: usize = 128;
+pub const MOST_OPEN: usize = 2 * MOST_LISTS;
 
 /// What the heads of the open sequences, fragment lists and items declare, the innermost first.
 #[derive(Drop)]

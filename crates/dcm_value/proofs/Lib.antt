@@ -1,4 +1,5 @@
 pub mod Shows
+pub mod Plain
 pub mod Emits
 pub mod Reversals
 pub mod Blocks

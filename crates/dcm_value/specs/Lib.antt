@@ -1,6 +1,7 @@
 pub mod Swap
 pub mod Units
 pub mod Display
+pub mod Plain
 pub mod Way
 pub mod Progress
 pub mod Shown

@@ -6,7 +6,7 @@ ghost use Rattle.dcm_base.specs.Value.{units as units_of};
 ghost use Rattle.dcm_value.specs.Units.{one_text, separated};
 ghost use Rattle.dcm_value.specs.Display as spec;
 
-use crate::escapes::append_text;
+use crate::escapes::{append_text, is_plain_text};
 use crate::units::{LONGEST, append_units, shown_unit};
 use arrayvec::ArrayVec;
 use dcm_base::{DeviceOut, Mode, Syntax, Vr, Watched, WriteFailed, put_all, uid_name};
@@ -121,6 +121,9 @@ impl Shown {
         ensures bytes { Puts (W.contents out.old) (W.contents out.new) (spec.at_once self.old.mode (escaped bytes.now)) result }
         ensures failed { Tells (W.has_failed out.old) (W.has_failed out.new) result }
     {
+        if bytes.len() <= TEXT / 3 && is_plain_text(bytes) {
+            return self.emit(bytes, out);
+        }
         let mut text: ArrayVec<u8, TEXT> = ArrayVec::new();
         let mut rest = bytes;
         while !rest.is_empty() && !self.is_cut() {

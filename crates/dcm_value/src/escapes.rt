@@ -2,6 +2,8 @@
 ghost use Rattle.std.specs.Prelude.{◌≡◌, ◌<◌, ◌≤◌, ◌+◌, ◌*◌, ◌++◌, ◌%◌, ◌==◌, ◌&&◌, if◌then◌else◌, [], length, count_by};
 ghost use Rattle.dcm_base.specs.ValueText as spec;
 ghost use Rattle.dcm_base.specs.Representation.{pad};
+ghost use Rattle.dcm_value.specs.Plain.{is_plain_byte};
+ghost use Rattle.std.specs.List.{list_all};
 
 use arrayvec::ArrayVec;
 use dcm_base::Vr;
@@ -16,6 +18,20 @@ fn upper(half: u8) -> u8
     } else {
         b'A' - 10 + half
     }
+}
+
+/// Whether a byte of a text is shown as it is: all but controls, `%` and `]` are.
+fn is_plain(byte: u8) -> bool
+    ensures { result ≡ is_plain_byte byte }
+{
+    byte >= 32 && byte != 127 && byte != b'%' && byte != b']'
+}
+
+/// Whether a text is shown as it is.
+pub fn is_plain_text(bytes: &[u8]) -> bool
+    ensures { result ≡ list_all is_plain_byte bytes.now }
+{
+    bytes.iter().all(|byte| is_plain(*byte))
 }
 
 /// A byte of a text as a dump shows it: a control, `%` and `]` by `%` and two digits in upper case, and each other byte
@@ -34,12 +50,12 @@ fn append_escaped<const N: usize>(byte: u8, text: &mut ArrayVec<u8, N>)
     ensures items { text.new.items ≡ text.old.items ++ spec.escape byte }
     ensures len { length text.new.items ≤ length text.old.items + 3 }
 {
-    if byte < 32 || byte == 127 || byte == b'%' || byte == b']' {
+    if is_plain(byte) {
+        text.push(byte);
+    } else {
         text.push(b'%');
         text.push(upper(byte / 16));
         text.push(upper(byte % 16));
-    } else {
-        text.push(byte);
     }
 }
 

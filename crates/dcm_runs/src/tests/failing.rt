@@ -8,7 +8,7 @@ mod modifications;
 use super::rows::{Row, bytes_of, front_of};
 use super::{joined, split};
 use dcm_cli::{Job, plan};
-use devices::{Good, Left, SOUND, run_over};
+use devices::{Failure, Good, Left, SOUND, run_over, sure_of};
 use itoa::Buffer;
 use std::process::Abort;
 use std::test::Fail;
@@ -36,7 +36,7 @@ fn case_of(rt: HostRuntime, abort: &impl Abort, row: &Row) -> Result<Case, Fail>
 
 const OUTPUT_FAILED: &[u8] = b"dcmtools: output failed\n";
 
-/// The line that tells that reading failed.
+/// The line that reports that reading failed.
 fn unread_line(rt: HostRuntime, read: usize) -> Result<Vec<u8>, Fail> {
     let mut line = b"dcmtools: reading failed after ".to_vec(rt.alloc())?;
     let mut digits = Buffer::new();
@@ -50,7 +50,7 @@ fn is_front(front: &[u8], whole: &[u8]) -> bool {
     whole.starts_with(front)
 }
 
-/// Expects what every run leaves: nothing on a writer that had failed, and lines behind all of the output.
+/// Expects what every run leaves: nothing on a writer that had failed, and lines after all of the output.
 fn expect_order(rt: &impl Abort, row: &Row, left: &Left) {
     assert_eq!(rt; left.late, 0, "{}", row.name);
     assert!(rt; left.in_order, "{}", row.name);
@@ -65,20 +65,17 @@ fn expect_whole(rt: &impl Abort, row: &Row, case: &Case, left: &Left) {
     assert!(rt; left.told.as_slice() == row.told, "{}", row.name);
 }
 
-/// Expects what the row's run leaves where reading fails, and this line tells it.
-fn expect_unread(rt: &impl Abort, row: &Row, case: &Case, line: &[u8], left: &Left) {
+/// Expects what the row's run leaves where reading fails: what is sure of the bytes that were read, and this line.
+fn expect_unread(rt: &impl Abort, row: &Row, case: &Case, sure: &[u8], line: &[u8], left: &Left) {
     expect_order(rt, row, left);
     assert_eq!(rt; left.status, 4, "{}", row.name);
     assert_eq!(rt; left.flushes, 1, "{}", row.name);
-    assert!(rt;
-        is_front(left.output.as_slice(), case.whole.as_slice()),
-        "{}",
-        row.name
-    );
+    assert!(rt; left.output.as_slice() == sure, "{}", row.name);
+    assert!(rt; is_front(sure, case.whole.as_slice()), "{}", row.name);
     assert!(rt; left.told.as_slice() == line, "{}", row.name);
 }
 
-/// Expects that the output failed behind so many bytes and flushes.
+/// Expects that the output failed after so many bytes and flushes.
 fn expect_unwritten(
     rt: &impl Abort,
     row: &Row,
@@ -108,7 +105,7 @@ fn expect_untold(rt: &impl Abort, row: &Row, case: &Case, told: usize, left: &Le
     assert!(rt; is_front(left.told.as_slice(), row.told), "{}", row.name);
 }
 
-/// Runs a case over a reader that fails behind so many calls, and a writer whose flush may fail.
+/// Runs a case over a reader that fails after so many calls, and a writer whose flush may fail.
 fn read_failing_behind(
     rt: HostRuntime,
     abort: &impl Abort,
@@ -123,9 +120,10 @@ fn read_failing_behind(
         flush,
         ..SOUND
     };
-    let left = run_over(rt, &case.job, case.input.as_slice(), good)?;
+    let left = run_over(rt, &case.job, case.input.as_slice(), good);
     if left.reading_failed {
-        expect_unread(abort, row, case, line.as_slice(), &left);
+        let sure = sure_of(rt, &case.job, case.input.as_slice(), reads)?;
+        expect_unread(abort, row, case, sure.as_slice(), line.as_slice(), &left);
     } else if flush {
         expect_whole(abort, row, case, &left);
     } else {
@@ -134,7 +132,7 @@ fn read_failing_behind(
     Ok(())
 }
 
-/// Runs a row over readers that fail, at the last at the call that would tell the end.
+/// Runs a row over readers that fail, at the last at the call that would give the end.
 fn read_failing(rt: HostRuntime, abort: &impl Abort, row: &Row, flush: bool) -> Result<(), Fail> {
     let case = case_of(rt, abort, row)?;
     for reads in 0..case.input.len() {
@@ -143,15 +141,26 @@ fn read_failing(rt: HostRuntime, abort: &impl Abort, row: &Row, flush: bool) -> 
     read_failing_behind(rt, abort, row, &case, case.input.len(), flush)
 }
 
+/// Runs a case over a writer that fails after so many calls.
+fn write_failing_after(rt: HostRuntime, abort: &impl Abort, row: &Row, case: &Case, writes: usize) {
+    for failure in [Failure::Error, Failure::NoByte] {
+        let good = Good {
+            writes,
+            failure,
+            ..SOUND
+        };
+        let left = run_over(rt, &case.job, case.input.as_slice(), good);
+        expect_unwritten(abort, row, case, writes, 0, &left);
+    }
+}
+
 /// Runs a row over writers that fail.
 fn write_failing(rt: HostRuntime, abort: &impl Abort, row: &Row) -> Result<(), Fail> {
     let case = case_of(rt, abort, row)?;
     for writes in 0..case.whole.len() {
-        let good = Good { writes, ..SOUND };
-        let left = run_over(rt, &case.job, case.input.as_slice(), good)?;
-        expect_unwritten(abort, row, &case, writes, 0, &left);
+        write_failing_after(rt, abort, row, &case, writes);
     }
-    let left = run_over(rt, &case.job, case.input.as_slice(), SOUND)?;
+    let left = run_over(rt, &case.job, case.input.as_slice(), SOUND);
     expect_whole(abort, row, &case, &left);
     Ok(())
 }
@@ -161,13 +170,13 @@ fn tell_failing(rt: HostRuntime, abort: &impl Abort, row: &Row) -> Result<(), Fa
     let case = case_of(rt, abort, row)?;
     for lines in 0..row.told.len() {
         let good = Good { lines, ..SOUND };
-        let left = run_over(rt, &case.job, case.input.as_slice(), good)?;
+        let left = run_over(rt, &case.job, case.input.as_slice(), good);
         expect_untold(abort, row, &case, lines, &left);
     }
     Ok(())
 }
 
-/// Expects what stands written of a row where reading fails behind so many bytes.
+/// Expects what is written of a row where reading fails after so many bytes.
 fn expect_written(
     rt: HostRuntime,
     abort: &impl Abort,
@@ -177,7 +186,7 @@ fn expect_written(
 ) -> Result<(), Fail> {
     let case = case_of(rt, abort, row)?;
     let good = Good { reads, ..SOUND };
-    let left = run_over(rt, &case.job, case.input.as_slice(), good)?;
+    let left = run_over(rt, &case.job, case.input.as_slice(), good);
     assert!(abort; left.output.as_slice() == written, "{reads}");
     Ok(())
 }

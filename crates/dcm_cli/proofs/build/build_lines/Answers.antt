@@ -43,7 +43,7 @@ returns-in-Err-feed-clause-worked g c = λ file is.
     let parts = splits (g.R.DeviceIn.remaining c.args.input.now) left (loop.invariant.front ++ piece) file is given in
     subst (λ (ending : Ending). Worked (build_job c.args.limit) file left (g.W.DeviceOut.contents c.args.out.now) (g.W.DeviceOut.contents c.feed.new.out) ending) (sym c.ending_of-in-Err-feed.ensures)
     (built_halted c.args.limit (g.W.DeviceOut.contents c.args.out.now) loop.builder.state (g.W.DeviceOut.contents loop.out) c.feed.new.self (g.W.DeviceOut.contents c.feed.new.out) loop.invariant.front piece
-    loop.invariant.state loop.invariant.out c.in-Err-feed.ensures.goes file parts.0 left c.in-Err-feed.halt parts.2 c.in-Err-feed.ensures.answer)
+    loop.invariant.state loop.invariant.out (c.in-Err-feed.ensures.goes (going_is loop.builder.state.told loop.builder.failed loop.invariant.going).0) file parts.0 left c.in-Err-feed.halt parts.2 c.in-Err-feed.ensures.answer)
 
 pub loop-builder-preserved : goal.loop-builder-preserved
 loop-builder-preserved g c =
@@ -51,7 +51,7 @@ loop-builder-preserved g c =
     let piece : List ℕ = c.split_at.result.0.now in
     let going = c.in_default.ensures.going in
     let on = built_on c.args.limit (g.W.DeviceOut.contents c.args.out.now) loop.builder.state (g.W.DeviceOut.contents loop.out) c.feed.new.self (g.W.DeviceOut.contents c.feed.new.out) loop.invariant.front piece
-    loop.invariant.state loop.invariant.out c.in_default.ensures.goes going
+    loop.invariant.state loop.invariant.out (c.in_default.ensures.goes (going_is loop.builder.state.told loop.builder.failed loop.invariant.going).0) going
     in
     let place = c.in_default.ensures.place going in
     let failed = (going_is c.feed.new.self.state.told c.feed.new.self.failed going).0 in

@@ -44,7 +44,7 @@ const WORDS: usize = 8;
 const HEAD: &[u8] = b"\x7f\xe0\0\x10OW\0\0\0\0\0\x04";
 
 #[test]
-fn what_is_sure_stands_written(rt: HostRuntime) -> Result<(), Fail> {
+fn what_is_sure_is_written(rt: HostRuntime) -> Result<(), Fail> {
     let row = &CONVERSIONS[WORDS];
     let group = bytes_of(Start::Big);
     let opened = joined(rt, group, HEAD)?;

@@ -1,11 +1,13 @@
 // Devices that fail, and what a run over them leaves.
-ghost use Rattle.std.specs.Prelude.{◌≡◌, true, None};
+ghost use Rattle.std.specs.Prelude.{◌≡◌, Some};
 
 use crate::tests::room;
-use dcm_base::{Device, DeviceIn, DeviceOut, MemOut, ReadFailed, Watched, WriteFailed};
+use dcm_base::{Device, DeviceIn, MemOut, ReadFailed, Std, Watched};
 use dcm_cli::Job;
 use dcm_cli::run::run;
 use std::cell::Cell;
+use std::io;
+use std::io::{ErrorKind, Read, Write};
 use std::test::Fail;
 
 /// More calls than a run makes.
@@ -14,52 +16,46 @@ const ALL: usize = usize::MAX;
 /// The room for an output, and for a line.
 const ROOM: usize = 3000;
 
-/// A reader that gives one byte a call, and fails at the call behind so many good ones.
+/// A reader of std that gives one byte a call, and fails at the call after so many good ones.
 #[derive(Drop)]
 struct FailReader<'a> {
     rest: &'a [u8],
     good: usize,
-    failed: bool,
 }
 
-impl<'a> Device for FailReader<'a> {
-    ghost has_failed = { λ r. r.failed };
-
-    fn failed(&self) -> bool {
-        self.failed
-    }
-}
-
-impl<'a> DeviceIn for FailReader<'a> {
-    ghost remaining = { λ _. None };
-
-    fn get(&mut self, buf: &mut [u8]) -> Result<usize, ReadFailed> {
+impl<'a> Read for FailReader<'a> {
+    fn read(&mut self, bytes: &mut [u8]) -> io::Result<usize> {
         if self.good == 0 {
-            self.failed = true;
-            return Err(ReadFailed);
+            return Err(io::Error::from(ErrorKind::Interrupted));
         }
         self.good -= 1;
-        match self.rest {
-            [byte, rest @ ..] => {
-                buf[0] = *byte;
-                self.rest = rest;
-                Ok(1)
-            }
-            [] => Ok(0),
-        }
+        let n = bytes.len().min(self.rest.len()).min(1);
+        let (front, rest) = self.rest.split_at(n);
+        bytes[..n].copy_from_slice(front);
+        self.rest = rest;
+        Ok(n)
     }
 }
 
-/// A writer that takes one byte a call, and fails at the write behind so many good ones, or at a flush. It counts its
+/// How a write fails.
+#[derive(Clone, Copy, Debug, PartialEq, Eq)]
+pub enum Failure {
+    Error,
+    /// It takes no byte.
+    NoByte,
+}
+
+/// A writer of std that takes one byte a call, and fails at the write after so many good ones, or at a flush. It counts its
 /// calls by a clock that it shares with other writers.
 #[derive(Drop)]
 struct FailWriter<'a> {
-    memory: MemOut,
+    bytes: Vec<u8>,
     good: usize,
+    failure: Failure,
     flushes_well: bool,
-    failed: bool,
+    has_failed: bool,
     flushes: usize,
-    /// How many calls came when it had failed.
+    /// How many calls came after it had failed.
     late: usize,
     /// The times of the first call and of the last, 0 where none came.
     first: usize,
@@ -68,12 +64,19 @@ struct FailWriter<'a> {
 }
 
 impl<'a> FailWriter<'a> {
-    fn new(bytes: Vec<u8>, good: usize, flushes_well: bool, clock: &'a Cell<usize>) -> Self {
+    fn new(
+        rt: HostRuntime,
+        good: usize,
+        failure: Failure,
+        flushes_well: bool,
+        clock: &'a Cell<usize>,
+    ) -> Self {
         FailWriter {
-            memory: MemOut::new(bytes),
+            bytes: Vec::new(rt.alloc()),
             good,
+            failure,
             flushes_well,
-            failed: false,
+            has_failed: false,
             flushes: 0,
             late: 0,
             first: 0,
@@ -83,71 +86,92 @@ impl<'a> FailWriter<'a> {
     }
 
     /// Notes the time of a call.
-    fn note(&mut self)
-        ensures { self.new.failed ≡ self.old.failed }
-    {
+    fn note(&mut self) {
         let now = self.clock.get().saturating_add(1);
         self.clock.set(now);
         if self.first == 0 {
             self.first = now;
         }
         self.last = now;
-        if self.failed {
+        if self.has_failed {
             self.late = self.late.saturating_add(1);
         }
     }
 }
 
-impl<'a> Device for FailWriter<'a> {
-    ghost has_failed = { λ w. w.failed };
+impl<'a> Write for FailWriter<'a> {
+    fn write(&mut self, bytes: &[u8]) -> io::Result<usize> {
+        self.note();
+        if self.good == 0 {
+            self.has_failed = true;
+            return match self.failure {
+                Failure::Error => Err(io::Error::from(ErrorKind::Interrupted)),
+                Failure::NoByte => Ok(0),
+            };
+        }
+        self.good -= 1;
+        match bytes {
+            [byte, ..] => {
+                self.bytes.push(*byte)?;
+                Ok(1)
+            }
+            [] => Ok(0),
+        }
+    }
+
+    fn flush(&mut self) -> io::Result<()> {
+        self.note();
+        self.flushes = self.flushes.saturating_add(1);
+        if self.flushes_well {
+            return Ok(());
+        }
+        self.has_failed = true;
+        Err(io::Error::from(ErrorKind::Interrupted))
+    }
+}
+
+/// A reader over memory that tells its bytes, and fails after so many. What a run over it leaves is proved.
+#[derive(Drop)]
+struct FailMemory<'a> {
+    rest: &'a [u8],
+    good: usize,
+    failed: bool,
+}
+
+impl<'a> Device for FailMemory<'a> {
+    ghost has_failed = { λ r. r.failed };
 
     fn failed(&self) -> bool {
         self.failed
     }
 }
 
-impl<'a> DeviceOut for FailWriter<'a> {
-    ghost contents = { λ _. None };
+impl<'a> DeviceIn for FailMemory<'a> {
+    ghost remaining = { λ r. Some r.rest.now };
 
-    ghost room = { λ _. None };
-
-    ghost is_flushed = { λ _. true };
-
-    fn put(&mut self, bytes: &[u8]) -> Result<usize, WriteFailed> {
-        self.note();
+    fn get(&mut self, buf: &mut [u8]) -> Result<usize, ReadFailed> {
         if self.good == 0 {
             self.failed = true;
-            return Err(WriteFailed);
+            return Err(ReadFailed);
         }
-        self.good -= 1;
-        match self.memory.put(&bytes[..1]) {
-            Ok(_) => Ok(1),
-            Err(_) => {
-                self.failed = true;
-                Err(WriteFailed)
-            }
-        }
-    }
-
-    fn flush(&mut self) -> Result<(), WriteFailed> {
-        self.note();
-        self.flushes = self.flushes.saturating_add(1);
-        if self.flushes_well {
-            return Ok(());
-        }
-        self.failed = true;
-        Err(WriteFailed)
+        let n = self.good.min(buf.len()).min(self.rest.len());
+        let (front, rest) = self.rest.split_at(n);
+        buf[..n].copy_from_slice(front);
+        self.rest = rest;
+        self.good -= n;
+        Ok(n)
     }
 }
 
-/// How many calls go well that read, that write the output and that write a line, and whether a flush of the output
-/// does.
+/// How many calls go well that read, that write the output and that write a line, how the next write fails, and whether a flush
+/// of the output goes well.
 #[derive(Clone, Copy)]
 pub struct Good {
     pub reads: usize,
     pub writes: usize,
     pub flush: bool,
     pub lines: usize,
+    pub failure: Failure,
 }
 
 pub const SOUND: Good = Good {
@@ -155,6 +179,7 @@ pub const SOUND: Good = Good {
     writes: ALL,
     flush: true,
     lines: ALL,
+    failure: Failure::Error,
 };
 
 /// What a run leaves.
@@ -167,29 +192,44 @@ pub struct Left {
     pub flushes: usize,
     /// How many calls came on a writer that had failed.
     pub late: usize,
-    /// Whether the last call on the output came before the first one that tells a line.
+    /// Whether the last call on the output came before the first one that writes a line.
     pub in_order: bool,
 }
 
 /// Runs a job over devices of which so many calls go well.
-pub fn run_over(rt: HostRuntime, job: &Job, input: &[u8], good: Good) -> Result<Left, Fail> {
+pub fn run_over(rt: HostRuntime, job: &Job, input: &[u8], good: Good) -> Left {
     let clock = Cell::new(0);
-    let mut input = Watched::new(FailReader {
+    let mut input = Watched::new(Std::new(FailReader {
         rest: input,
         good: good.reads,
-        failed: false,
-    });
-    let mut out = Watched::new(FailWriter::new(room(rt, ROOM)?, good.writes, good.flush, &clock));
-    let mut errors = Watched::new(FailWriter::new(room(rt, ROOM)?, good.lines, true, &clock));
+    }));
+    let out = FailWriter::new(rt, good.writes, good.failure, good.flush, &clock);
+    let mut out = Watched::new(Std::new(out));
+    let errors = FailWriter::new(rt, good.lines, good.failure, true, &clock);
+    let mut errors = Watched::new(Std::new(errors));
     let status = run(job, &mut input, &mut out, &mut errors).status;
-    let (wrote, told) = (out.device(), errors.device());
-    Ok(Left {
+    let wrote = out.into_device().into_inner();
+    let told = errors.into_device().into_inner();
+    Left {
         status,
-        output: wrote.memory.written().to_vec(rt.alloc())?,
-        told: told.memory.written().to_vec(rt.alloc())?,
         reading_failed: input.failed(),
         flushes: wrote.flushes,
         late: wrote.late.saturating_add(told.late),
         in_order: told.first == 0 || wrote.last < told.first,
-    })
+        output: wrote.bytes,
+        told: told.bytes,
+    }
+}
+
+/// What is written where reading fails after so many bytes, by a run that is proved to write exactly what is sure of them.
+pub fn sure_of(rt: HostRuntime, job: &Job, input: &[u8], read: usize) -> Result<Vec<u8>, Fail> {
+    let mut input = Watched::new(FailMemory {
+        rest: input,
+        good: read,
+        failed: false,
+    });
+    let mut out = Watched::new(MemOut::new(room(rt, ROOM)?));
+    let mut errors = Watched::new(MemOut::new(room(rt, ROOM)?));
+    run(job, &mut input, &mut out, &mut errors);
+    Ok(out.device().written().to_vec(rt.alloc())?)
 }

@@ -1,10 +1,11 @@
 // Dumps over devices that fail.
 use super::{expect_written, read_failing, tell_failing, write_failing};
+use crate::tests::joined;
 use crate::tests::rows::{ROWS, Row, dumps, header_of};
 use std::process::Abort;
 use std::test::Fail;
 
-/// The rows before this place take about as long as those behind it.
+/// The rows before this place take about as long as those after it.
 const HALF: usize = 20;
 
 #[test]
@@ -56,8 +57,20 @@ fn telling_fails(rt: HostRuntime) -> Result<(), Fail> {
 }
 
 #[test]
-fn output_begins_behind_the_group(rt: HostRuntime) -> Result<(), Fail> {
+fn output_begins_after_the_group(rt: HostRuntime) -> Result<(), Fail> {
     let row = &ROWS[1];
     expect_written(rt, &rt, row, 172, b"")?;
     expect_written(rt, &rt, row, 174, header_of(row.header))
+}
+
+#[test]
+fn a_text_is_written_as_it_comes(rt: HostRuntime) -> Result<(), Fail> {
+    let row = Row {
+        words: "dcmdump +L -",
+        ..ROWS[1]
+    };
+    let header = header_of(row.header);
+    let begun = joined(rt, header, b"(0010,0010) PN [AB")?;
+    expect_written(rt, &rt, &row, 179, header)?;
+    expect_written(rt, &rt, &row, 182, begun.as_slice())
 }

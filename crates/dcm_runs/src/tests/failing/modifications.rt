@@ -47,7 +47,7 @@ const NEW: &[u8] = b"\x08\0P\0SH\x02\0X ";
 const HEAD: &[u8] = b"\x08\0`\0CS\x02\0";
 
 #[test]
-fn what_is_sure_stands_written(rt: HostRuntime) -> Result<(), Fail> {
+fn what_is_sure_is_written(rt: HostRuntime) -> Result<(), Fail> {
     let Some(row) = modifications().get(CUT) else {
         panic!(rt; "too few rows");
     };

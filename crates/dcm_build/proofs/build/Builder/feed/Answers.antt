@@ -11,7 +11,7 @@ pub loop-self-init : goal.loop-self-init
 loop-self-init g c = record {
   front = [];
   whole = refl;
-  goes = gone_nowhere c.self.inside.place c.self.inside.halt c.args.self.now (g.W.DeviceOut.contents c.args.out.now) c.self.view_is;
+  goes = λ fine. gone_nowhere c.self.inside.place c.self.inside.halt c.args.self.now (g.W.DeviceOut.contents c.args.out.now) c.self.view_is fine;
   place = λ none. let same = ap read_size (view_at c.self.inside.place c.self.inside.halt c.args.self.now c.self.view_is none) in omega (arith, same);
   within = λ none. let same = ap read_size (view_at c.self.inside.place c.self.inside.halt c.args.self.now c.self.view_is none) in λ le. omega (arith, same, le);
   stands = c.self.invariant;
@@ -29,7 +29,7 @@ loop-self-preserved-in-Ok g c =
     record {
       front = front ++ take n rest;
       whole = c.loop-self.invariant.whole ∙ ap (λ (xs : List ℕ). front ++ xs) (sym (take-append-drop n rest) ∙ ap (λ (xs : List ℕ). take n rest ++ xs) (sym c.split_at.ensures.back)) ∙ sym (append_assoc front (take n rest) c.split_at.result.1.now);
-      goes = gone_on c.args.self.now.state (g.W.DeviceOut.contents c.args.out.now) place (g.W.DeviceOut.contents c.loop-self.out) c.read_some.new.self (g.W.DeviceOut.contents c.read_some.new.out) front (take n rest) c.loop-self.self-inside.halt n none c.loop-self.invariant.goes c.in-Ok.ensures.feeds;
+      goes = λ fine. gone_on c.args.self.now.state (g.W.DeviceOut.contents c.args.out.now) place (g.W.DeviceOut.contents c.loop-self.out) c.read_some.new.self (g.W.DeviceOut.contents c.read_some.new.out) front (take n rest) c.loop-self.self-inside.halt n none (c.loop-self.invariant.goes fine) c.in-Ok.ensures.feeds;
       place = λ h.
           let size : length (front ++ take n rest) ≡ length front + length (take n rest) = length-append front (take n rest) in
           let taken : length (take n rest) ≡ n = length-take-le n rest c.in-Ok.ensures.some.1 in
@@ -51,7 +51,7 @@ loop-self-preserved g c =
     record {
       front = front ++ rest;
       whole = c.loop-self.invariant.whole ∙ sym (append-nil (front ++ rest));
-      goes = gone_halted c.args.self.now.state (g.W.DeviceOut.contents c.args.out.now) place (g.W.DeviceOut.contents c.loop-self.out) c.read_some.new.self (g.W.DeviceOut.contents c.read_some.new.out) front rest c.loop-self.self-inside.halt c.in-Err.halt none c.loop-self.invariant.goes c.in-Err.ensures.feeds;
+      goes = λ fine. gone_halted c.args.self.now.state (g.W.DeviceOut.contents c.args.out.now) place (g.W.DeviceOut.contents c.loop-self.out) c.read_some.new.self (g.W.DeviceOut.contents c.read_some.new.out) front rest c.loop-self.self-inside.halt c.in-Err.halt none (c.loop-self.invariant.goes fine) c.in-Err.ensures.feeds;
       place = λ h. absurd (cc);
       within = λ h. absurd (cc);
       stands = λ h. absurd (cc);
@@ -60,13 +60,13 @@ loop-self-preserved g c =
     }
 
 pub returns-clause-goes : goal.returns-clause-goes
-returns-clause-goes g c =
+returns-clause-goes g c = λ fine.
     let front = c.loop-self.invariant.front in
     let rest = c.loop-self.rest.now in
     elim c.loop-self-test.branch [
       | then-loop-self-test+else-is_none w ↦ rw c.loop-self.invariant.whole
-          (gone_still c.args.self.now.state (g.W.DeviceOut.contents c.args.out.now) c.loop-self.self-inside.place (g.W.DeviceOut.contents c.loop-self.out) front rest c.loop-self.self-inside.halt w.if-is_none.ensures c.loop-self.invariant.goes)
-      | else-loop-self-test w ↦ let none : rest ≡ [] = empty_by rest w.loop-self-test.ensures in rw (c.loop-self.invariant.whole, none, append-nil) c.loop-self.invariant.goes
+          (gone_still c.args.self.now.state (g.W.DeviceOut.contents c.args.out.now) c.loop-self.self-inside.place (g.W.DeviceOut.contents c.loop-self.out) front rest c.loop-self.self-inside.halt w.if-is_none.ensures (c.loop-self.invariant.goes fine))
+      | else-loop-self-test w ↦ let none : rest ≡ [] = empty_by rest w.loop-self-test.ensures in rw (c.loop-self.invariant.whole, none, append-nil) (c.loop-self.invariant.goes fine)
     ]
 
 pub returns-clause-place : goal.returns-clause-place

@@ -11,7 +11,7 @@ abbrev pub invariant-loop-self : goal.invariant-loop-self
 invariant-loop-self g l = record {
   front : List ℕ;
   whole : l.piece ≡ front ++ l.rest;
-  goes : Goes build_step build_writes l.fn.self.state (g.W.DeviceOut.contents l.fn.out) (building l.self-inside.place (stop_of l.self-inside.halt)) (g.W.DeviceOut.contents l.out) front (well (is_output l.self-inside.halt));
+  goes : l.fn.self.failed ≡ false → Goes build_step build_writes l.fn.self.state (g.W.DeviceOut.contents l.fn.out) (building l.self-inside.place (stop_of l.self-inside.halt)) (g.W.DeviceOut.contents l.out) front (well (is_output l.self-inside.halt));
   place : l.self-inside.halt ≡ None → read (line_at l.self-inside.place) ≡ read_size l.fn.self.state + length front;
   within : l.self-inside.halt ≡ None → read_size l.fn.self.state ≤ INPUT_LIMIT → read (line_at l.self-inside.place) ≤ INPUT_LIMIT;
   stands : l.self-inside.halt ≡ None → Stands (line_at l.self-inside.place);

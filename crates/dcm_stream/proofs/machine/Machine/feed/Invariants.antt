@@ -8,7 +8,7 @@ abbrev pub invariant-loop-self : goal.invariant-loop-self
 invariant-loop-self g l = record {
   front : List ℕ;
   whole : l.piece ≡ front ++ l.rest;
-  goes : Goes (steps g.S.Sink.bar g.S.Sink.step) (steps_write g.S.Sink.bar g.S.Sink.step g.S.Sink.writes) (l.fn.self.reading, g.S.Sink.state l.fn.sink) (g.S.Sink.contents l.fn.sink) (reading l.self-inside.place (stop_of l.self-inside.halt), g.S.Sink.state l.sink) (g.S.Sink.contents l.sink) front (well (is_output l.self-inside.halt));
+  goes : l.fn.self.failed ≡ false → Goes (steps g.S.Sink.bar g.S.Sink.step) (steps_write g.S.Sink.bar g.S.Sink.step g.S.Sink.writes) (l.fn.self.reading, g.S.Sink.state l.fn.sink) (g.S.Sink.contents l.fn.sink) (reading l.self-inside.place (stop_of l.self-inside.halt), g.S.Sink.state l.sink) (g.S.Sink.contents l.sink) front (well (is_output l.self-inside.halt));
   place : l.self-inside.halt ≡ None → next_offset (reading l.self-inside.place None) ≡ next_offset l.fn.self.reading + length front;
   stands : l.self-inside.halt ≡ None → Stands (reading l.self-inside.place None);
   halted : is_halted l.fn.self ≡ true → (l.self-inside ≡ l.initial.self-inside) × (l.sink ≡ l.fn.sink);

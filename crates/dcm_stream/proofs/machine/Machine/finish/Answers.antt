@@ -8,7 +8,7 @@ use Rattle.dcm_stream.proofs.machine.Machine.finish.Goals as goal
 use Rattle.dcm_stream.proofs.machine.Machine.finish.Goals.{then-is_none, else-is_none}
 
 pub returns-clause-goes : goal.returns-clause-goes
-returns-clause-goes g c =
+returns-clause-goes g c = λ fine.
     let s = g.S.Sink.state c.args.sink.now in
     let held = g.S.Sink.contents c.args.sink.now in
     let shows = end_shows (finish c.args.self.now.reading) in
@@ -21,7 +21,7 @@ returns-clause-goes g c =
       | else-is_none w ↦
           subst (λ (x : g.row.S.Denot). Goes g.S.Sink.step g.S.Sink.writes s held (g.S.Sink.state x) (g.S.Sink.contents x) shows (well (is_output c.if-is_none.self-inside.halt))) (sym w.sink-is)
           (subst (λ (i : Inside). Goes g.S.Sink.step g.S.Sink.writes s held s held shows (well (is_output i.halt))) (sym w.self-inside-is)
-          (still_goes g.S.Sink.step g.S.Sink.writes c.self.inside.place c.self.inside.halt c.args.self.now s held c.self.view_is w.if-is_none.ensures))
+          (still_goes g.S.Sink.step g.S.Sink.writes c.self.inside.place c.self.inside.halt c.args.self.now s held c.self.view_is w.if-is_none.ensures fine))
     ]
 
 pub returns-clause-reading : goal.returns-clause-reading

@@ -1,0 +1,108 @@
+#!/usr/bin/env python3
+"""Refuses each growth of memory in turn, and expects that the program reports it and writes nothing.
+
+usage: try_memory.py PROGRAM
+
+A small library, built with cc and loaded before the C library, lets the Nth call for memory fail, for N from 1 on, until a run
+takes fewer calls than that and goes as it should.
+"""
+
+import os
+import subprocess
+import sys
+import tempfile
+from pathlib import Path
+
+ALLOCATOR = r"""
+#include <errno.h>
+#include <stddef.h>
+#include <stdlib.h>
+
+extern void *__libc_malloc(size_t size);
+extern void *__libc_calloc(size_t count, size_t size);
+extern void *__libc_realloc(void *old, size_t size);
+extern void *__libc_memalign(size_t align, size_t size);
+
+static long calls, refused = -1;
+
+static int refuses(void) {
+    if (refused < 0) {
+        const char *number = getenv("REFUSED_CALL");
+        refused = number ? atol(number) : 0;
+    }
+    calls++;
+    if (calls != refused)
+        return 0;
+    errno = ENOMEM;
+    return 1;
+}
+
+void *malloc(size_t size) { return refuses() ? NULL : __libc_malloc(size); }
+void *calloc(size_t count, size_t size) { return refuses() ? NULL : __libc_calloc(count, size); }
+void *realloc(void *old, size_t size) { return refuses() ? NULL : __libc_realloc(old, size); }
+void *aligned_alloc(size_t align, size_t size) { return refuses() ? NULL : __libc_memalign(align, size); }
+int posix_memalign(void **place, size_t align, size_t size) {
+    void *memory = refuses() ? NULL : __libc_memalign(align, size);
+    if (!memory)
+        return ENOMEM;
+    *place = memory;
+    return 0;
+}
+"""
+
+UID = b"1.2.840.10008.1.2.1\0"
+FILE = bytes(128) + b"DICM" + b"\x02\0\0\0UL\x04\0\x1c\0\0\0" + b"\x02\0\x10\0UI\x14\0" + UID + b"\x10\0\x10\0PN\x06\0AB^CD "
+
+MOST_CALLS = 200
+
+# Words, and the status where no memory is refused. The edits take memory for their list, paths and values.
+RUNS = [
+    (["dcmdump", "-"], 0),
+    (["dcmconv", "+ti", "-", "-"], 0),
+    (["dcmodify", "-m", "(0010,0010)=X^Y", "-", "-"], 0),
+    (["dcmodify", "-i", "(0008,1140)[0].(0008,1155)=1.2.3", "-ma", "(0008,0060)=CT", "-ea", "(0010,4000)", "-ep", "-", "-"], 3),
+    (["dcmodify", "-e", "Unknown", "-", "-"], 1),
+    (["unknown"], 1),
+]
+
+
+def run(program, shim, words, refused):
+    environment = dict(os.environ, LD_PRELOAD=str(shim), REFUSED_CALL=str(refused))
+    return subprocess.run([program, *words], input=FILE, capture_output=True, env=environment, timeout=20)
+
+
+def try_words(program, shim, words, status):
+    """How many calls were refused, and what went wrong."""
+    whole = run(program, shim, words, 0)
+    if whole.returncode != status:
+        return 0, [f"{words}: status {whole.returncode} without a refusal"]
+    wrong = []
+    for refused in range(1, MOST_CALLS):
+        left = run(program, shim, words, refused)
+        if (left.returncode, left.stdout, left.stderr) == (whole.returncode, whole.stdout, whole.stderr):
+            return refused - 1, wrong
+        if (left.returncode, left.stdout, left.stderr) != (5, b"", b"dcmtools: out of memory\n"):
+            wrong.append(f"{words}, call {refused}: status {left.returncode}, {left.stdout[:40]!r}, {left.stderr!r}")
+    return MOST_CALLS, wrong + [f"{words}: never went as it should"]
+
+
+def main():
+    if len(sys.argv) != 2:
+        sys.exit(__doc__)
+    with tempfile.TemporaryDirectory() as folder:
+        source, shim = Path(folder, "refuse.c"), Path(folder, "refuse.so")
+        source.write_text(ALLOCATOR)
+        subprocess.run(["cc", "-shared", "-fPIC", "-O1", "-o", shim, source], check=True)
+        refusals, wrong = 0, []
+        for words, status in RUNS:
+            refused, problems = try_words(sys.argv[1], shim, words, status)
+            refusals += refused
+            wrong += problems
+    for problem in wrong:
+        print(problem)
+    print(f"{refusals} calls refused, {len(wrong)} wrong")
+    sys.exit(1 if wrong or not refusals else 0)
+
+
+if __name__ == "__main__":
+    main()
