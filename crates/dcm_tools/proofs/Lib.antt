@@ -24,3 +24,4 @@ pub mod WrittenRead
 pub mod Accepted
 pub mod Sources
 pub mod RecodeReads
+pub mod ShortLines

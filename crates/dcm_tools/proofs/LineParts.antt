@@ -1,11 +1,16 @@
 -- The lines of a dump, in parts.
-use Rattle.std.proofs.Common.{◌≡◌, ℕ, List, ◌++◌, append_assoc}
+use Rattle.std.proofs.Common.{◌≡◌, ℕ, ◌*◌, List, [], ◌∷◌, ◌++◌, append_assoc, replicate}
 use Rattle.dcm_base.specs.declared.tag.Tag.{Tag}
 use Rattle.dcm_base.specs.declared.length.Length.{Length}
 use Rattle.dcm_base.specs.declared.length.Length.TheVariants.{Known, Undefined}
-use Rattle.dcm_base.specs.ValueText.{padded}
+use Rattle.dcm_base.specs.ValueText.{padded, tag_text}
 use Rattle.dcm_base.specs.Dump.{line, line_start}
 use Rattle.dcm_tools.specs.Layout.{line_rest}
+
+-- a start is its spaces, its tag and its letters
+pub start_in_parts : (level : ℕ) (tag : Tag) (letters : List ℕ)
+    → line_start level tag letters ≡ replicate (2 * level) 32 ++ ((tag_text tag.group tag.element ++ 32 ∷ []) ++ (letters ++ 32 ∷ []))
+start_in_parts level tag letters = simp append_assoc
 
 -- a line is its start, its display and the rest
 pub line_in_parts : (level : ℕ) (tag : Tag) (letters display : List ℕ) (declared : Length) (count : ℕ)

@@ -9,7 +9,14 @@ abbrev pub length_digits_of : Length → List ℕ
 length_digits_of (Known n) = decimal n
 length_digits_of Undefined = codes "u/l"
 
--- a line behind its display
+-- right in three places
+abbrev pub length_field : Length → List ℕ
+length_field declared = replicate (3 - length (length_digits_of declared)) 32 ++ length_digits_of declared
+
+-- what comes between a display and the keyword
+abbrev pub rest_start : Length → ℕ → List ℕ
+rest_start declared count = codes " # " ++ length_field declared ++ codes ", " ++ decimal count ++ codes " "
+
+-- a line after its display
 abbrev pub line_rest : Tag → Length → ℕ → List ℕ
-line_rest tag declared count =
-    codes " # " ++ (replicate (3 - length (length_digits_of declared)) 32 ++ length_digits_of declared) ++ codes ", " ++ decimal count ++ codes " " ++ keyword tag ++ 10 ∷ []
+line_rest tag declared count = codes " # " ++ length_field declared ++ codes ", " ++ decimal count ++ codes " " ++ keyword tag ++ 10 ∷ []

@@ -1,10 +1,13 @@
 // The lines of a dump.
-ghost use Rattle.std.specs.Prelude.{◌≡◌, ◌≤◌, ◌*◌, length, replicate, decimal};
+ghost use Rattle.std.specs.Prelude.{◌≡◌, ◌<◌, ◌≤◌, ◌*◌, ◌++◌, ◌∷◌, [], length, replicate, decimal, IfSome};
 ghost use Rattle.dcm_base.specs.Device.{Puts, Tells};
 ghost use Rattle.dcm_base.specs.Dump as dump;
 ghost use Rattle.dcm_base.specs.ValueText.{padded};
-ghost use Rattle.dcm_tools.specs.Layout.{length_digits_of, line_rest};
+ghost use Rattle.dcm_base.specs.ValueText.{tag_text};
+ghost use Rattle.dcm_base.specs.declared.length.Length.TheVariants.{Known};
+ghost use Rattle.dcm_tools.specs.Layout.{length_digits_of, length_field, line_rest, rest_start};
 
+use arrayvec::ArrayVec;
 use dcm_base::{DeviceOut, Length, Tag, Watched, WriteFailed, keyword, put_all, put_parts};
 use itoa::Buffer;
 
@@ -14,6 +17,9 @@ const DISPLAY_WIDTH: usize = 40;
 /// The width in which a length stands at the right.
 const LENGTH_WIDTH: usize = 3;
 
+/// The bytes of a tag and letters, with a space after each.
+const START: usize = 15;
+
 const SPACES: [u8; 256] = [b' '; 256];
 
 fn spaces(count: usize) -> &'static [u8]
@@ -21,6 +27,18 @@ fn spaces(count: usize) -> &'static [u8]
     ensures { result.now ≡ replicate count 32 }
 {
     &SPACES[..count]
+}
+
+/// A tag and letters, with a space after each.
+fn start_text(tag: Tag, letters: [u8; 2]) -> ArrayVec<u8, START>
+    ensures { result.items ≡ (tag_text tag.group tag.element ++ 32 ∷ []) ++ (letters ++ 32 ∷ []) }
+{
+    let mut text = ArrayVec::new();
+    let _ = text.try_extend_from_slice(&tag.text());
+    text.push(b' ');
+    let _ = text.try_extend_from_slice(&letters);
+    text.push(b' ');
+    text
 }
 
 /// Writes a line up to its display: two spaces a level, tag and letters.
@@ -34,17 +52,8 @@ pub fn put_line_start<W: DeviceOut>(
     ensures bytes { Puts (W.contents out.old) (W.contents out.new) (dump.line_start level tag letters) result }
     ensures failed { Tells (W.has_failed out.old) (W.has_failed out.new) result }
 {
-    let tag = tag.text();
-    put_parts(
-        out,
-        &[
-            spaces(2 * level),
-            tag.as_slice(),
-            b" ".as_slice(),
-            letters.as_slice(),
-            b" ".as_slice(),
-        ],
-    )
+    put_all(out, spaces(2 * level))?;
+    put_all(out, start_text(tag, letters).as_slice())
 }
 
 /// A declared length as a dump shows it, right in three places.
@@ -57,8 +66,66 @@ fn length_digits<'a>(length: Length, digits: &'a mut Buffer) -> &'a [u8]
     }
 }
 
-/// Writes a line behind its display, of a declared length and so many values.
+/// A number right in two places.
+fn two_places(number: u8) -> (u8, u8)
+    requires { number < 100 }
+    ensures { 32 ∷ result.0 ∷ result.1 ∷ [] ≡ length_field (Known number) }
+{
+    if number < 10 {
+        (b' ', b'0' + number)
+    } else {
+        (b'0' + number / 10, b'0' + number % 10)
+    }
+}
+
+/// The three places of a declared length, where it is of one or two digits or undefined.
+fn short_length(length: Length) -> Option<(u8, u8, u8)>
+    ensures { IfSome result (λ t. t.0 ∷ t.1 ∷ t.2 ∷ [] ≡ length_field length) }
+{
+    match length {
+        Length::Undefined => Some((b'u', b'/', b'l')),
+        Length::Known(size) if size < 100 => {
+            let (tens, ones) = two_places(size as u8);
+            Some((b' ', tens, ones))
+        }
+        Length::Known(_) => None,
+    }
+}
+
+/// What comes before the keyword of a line, where it is short.
+fn short_rest(length: Length, count: u64) -> Option<[u8; 10]>
+    ensures { IfSome result (λ text. text ≡ rest_start length count) }
+{
+    let (a, b, c) = short_length(length)?;
+    if count < 10 {
+        let count = b'0' + count as u8;
+        Some([b' ', b'#', b' ', a, b, c, b',', b' ', count, b' '])
+    } else {
+        None
+    }
+}
+
+/// Writes a line after its display, of a declared length and so many values.
 pub fn put_line_rest<W: DeviceOut>(
+    out: &mut Watched<W>,
+    tag: Tag,
+    length: Length,
+    count: u64,
+) -> Result<(), WriteFailed>
+    ensures bytes { Puts (W.contents out.old) (W.contents out.new) (line_rest tag length count) result }
+    ensures failed { Tells (W.has_failed out.old) (W.has_failed out.new) result }
+{
+    if let Some(start) = short_rest(length, count) {
+        return put_parts(
+            out,
+            &[start.as_slice(), keyword(tag).as_bytes(), b"\n".as_slice()],
+        );
+    }
+    put_long_rest(out, tag, length, count)
+}
+
+/// The same of any length and count.
+fn put_long_rest<W: DeviceOut>(
     out: &mut Watched<W>,
     tag: Tag,
     length: Length,

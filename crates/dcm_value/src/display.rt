@@ -1,7 +1,7 @@
 // What is shown of a value, cut or whole.
 ghost use Rattle.std.specs.Prelude.{◌≡◌, ◌==◌, ◌&&◌, nat_lt, ◌+◌, ◌-◌, ◌<◌, ◌≤◌, ◌++◌, length, take, replicate, List, ℕ, OnOk, true};
 ghost use Rattle.dcm_base.specs.Device.{Puts, Tells};
-ghost use Rattle.dcm_base.specs.ValueText.{escaped, identified, shown_unit as unit_size};
+ghost use Rattle.dcm_base.specs.ValueText.{escaped, identified, padded as padded_to_40, shown_unit as unit_size};
 ghost use Rattle.dcm_base.specs.Value.{units as units_of};
 ghost use Rattle.dcm_value.specs.Units.{one_text, separated};
 ghost use Rattle.dcm_value.specs.Display as spec;
@@ -32,6 +32,20 @@ fn fill(front: &mut ArrayVec<u8, 66>, bytes: &[u8])
     for byte in &bytes[..count] {
         front.push(*byte);
     }
+}
+
+/// A display, with spaces up to 40 bytes.
+#[tactic(auto, using(crate::proofs::Shows::spaces))]
+fn padded(display: &[u8]) -> ArrayVec<u8, 66>
+    requires { length display.now ≤ 66 }
+    ensures { result.items ≡ padded_to_40 display.now }
+{
+    let spaces = [b' '; 40];
+    let (_, rest) = spaces.split_at(display.len().min(40));
+    let mut text = ArrayVec::new();
+    let _ = text.try_extend_from_slice(display);
+    let _ = text.try_extend_from_slice(rest);
+    text
 }
 
 /// Spaces up to 40 bytes.
@@ -104,10 +118,7 @@ impl Shown {
                 put_all(out, &self.front.as_slice()[..cut])?;
                 put_all(out, b"...")
             }
-            Mode::Short => {
-                put_all(out, self.front.as_slice())?;
-                pad(self.front.len(), out)
-            }
+            Mode::Short => put_all(out, padded(self.front.as_slice()).as_slice()),
         }
     }
 
@@ -149,11 +160,10 @@ impl Shown {
         ensures failed { Tells (W.has_failed out.old) (W.has_failed out.new) result }
     {
         let most = TEXT / LONGEST * shown_unit(vr);
-        let mut text: ArrayVec<u8, TEXT> = ArrayVec::new();
         let mut rest = units;
         while !rest.is_empty() && !self.is_cut() {
             let (block, after) = rest.split_at(rest.len().min(most));
-            text.clear();
+            let mut text: ArrayVec<u8, TEXT> = ArrayVec::new();
             append_units(vr, syntax, block, &mut text);
             self.emit(text.as_slice(), out)?;
             rest = after;

@@ -8,8 +8,3 @@ returns-in_ok-put_all-in-Short-clause-bytes g c =
     let front = c.args.self.now.front.items in
     let cut = cut_ending c.args.self.now.mode c.args.self.now.count front c.min-cut.result c.in-Short.is c.if-self-gt66.true (c.min-cut.ensures ∙ ap (λ k. min k 63) c.len.ensures.value) in
     puts_parts _ _ _ _ _ _ _ (cut ∙ ap (λ xs. take c.min-cut.result xs ++ codes "...") (sym c.as_slice.ensures.value)) c.in_ok-put_all-in-Short.ensures.bytes c.put_all-in-Short.ensures.bytes
-
-pub returns-in_ok-put_all-in-Short-2-clause-bytes :
-    goal.returns-in_ok-put_all-in-Short-2-clause-bytes
-returns-in_ok-put_all-in-Short-2-clause-bytes g c =
-    puts_parts _ _ _ _ _ _ _ (whole_ending c.args.self.now.mode c.args.self.now.count c.args.self.now.front.items c.in-Short-2.is c.if-self-gt66.false ∙ search rules) c.in_ok-put_all-in-Short-2.ensures.bytes c.pad-in-Short-2.ensures.bytes
