@@ -31,10 +31,14 @@ front_reads s at (front whole (open_leaf tag vr size value) reached closed) h li
 front_reads s at (front whole (open_sequence tag vr declared items last) reached closed) h limit = absurd (let none = h.1 in cc)
 front_reads s at (front whole (open_fragments tag vr values last) reached closed) h limit = absurd (let none = h.1 in cc)
 
+pub front_whole : (s : Syntax) (start : ℕ) (bytes : List ℕ) (f : Front) → start ≤ INPUT_LIMIT → AreBytes bytes → Reads ascending_bar s start bytes f complete → IsReady s f
+front_whole s start bytes f le are reads =
+    let own : Reads (target_bar s) s start bytes f complete = own_reads s start bytes f complete (unbarred_reads s start bytes f complete (λ offset e. cc) reads) in
+    read_ready s s start bytes f le are own (own_fits s (target_bar s) start bytes f complete own)
+
 pub front_ready : (s : Syntax) (start : ℕ) (bytes : List ℕ) (f : Front) → start ≤ INPUT_LIMIT → AreBytes bytes → Reads ascending_bar s start bytes f complete → FrontReady s f
 front_ready s start bytes f le are reads =
-    let own : Reads (target_bar s) s start bytes f complete = own_reads s start bytes f complete (unbarred_reads s start bytes f complete (λ offset e. cc) reads) in
-    let r : IsReady s f = read_ready s s start bytes f le are own (own_fits s (target_bar s) start bytes f complete own) in
+    let r : IsReady s f = front_whole s start bytes f le are reads in
     subst (FrontReady s) (sym r.is) (r.ready, refl)
 
 -- the law

@@ -67,3 +67,6 @@ pub mod Everywhere
 pub mod Gone
 pub mod Others
 pub mod Unmet
+pub mod TwiceDone
+pub mod TwiceKept
+pub mod TwiceWritten

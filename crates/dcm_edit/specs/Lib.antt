@@ -16,3 +16,4 @@ pub mod Sound
 pub mod Modification
 pub mod Everywhere
 pub mod Others
+pub mod Repeating

@@ -23,6 +23,7 @@ ghost use Rattle.dcm_edit.specs.Everywhere.{Among, EverywhereIn, IsOther, IsPubl
 ghost use Rattle.dcm_edit.specs.Modification.{Modifies, ReadsAgain};
 ghost use Rattle.dcm_edit.specs.Others.{any_changes, set_without};
 ghost use Rattle.dcm_edit.specs.Overlap.{AreApart, ArePublic};
+ghost use Rattle.dcm_edit.specs.Repeating.{EraseByNoNumber};
 ghost use Rattle.dcm_edit.specs.Together.{together};
 
 /// Edits that do not overlap, done all at once, do what they do one after another, where the tags of each data set ascend.
@@ -102,4 +103,9 @@ pub fn modified_all_is_so()
 /// `-ep` those of odd groups.
 pub fn others_stay()
     ensures { (edits : List Edit) (s : Syntax) (at : ℕ) (f : Front) → Modifies edits s at f → set_without (any_changes edits) (edited edits f) ≡ set_without (any_changes edits) f }
+{}
+
+/// The same edits of what is written, as it reads back, write the same bytes again, where no edit erases an item by its number.
+pub fn edited_twice()
+    ensures { (edits : List Edit) (s : Syntax) (at : ℕ) (f : Front) → Modifies edits s at f → EraseByNoNumber edits → recode s (edited edits (normal_front s (edited edits f))) ≡ recode s (edited edits f) }
 {}
