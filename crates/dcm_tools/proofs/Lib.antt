@@ -25,3 +25,4 @@ pub mod Accepted
 pub mod Sources
 pub mod RecodeReads
 pub mod ShortLines
+pub mod NewMetaReads

@@ -56,7 +56,7 @@ leaf_by_test Little t vr n false i h fits e = element_spelled Little t vr (Known
 leaf_by_test Big t vr n true i h fits e = element_spelled Big t UN (Known (even n)) h tt (λ k. absurd (no_long k)) (λ k. fits_even n fits)
 leaf_by_test Big t vr n false i h fits e = element_spelled Big t vr (Known (even n)) h tt (λ k. short_by (is_long vr) n e k) (λ k. fits_even n fits)
 
-leaf_plain : (s : Syntax) (t : Tag) (vr : Vr) (n : ℕ) → IsTag t → n < 0xFFFFFFFF → PlainHead s t (normal_vr s t vr n) (Known (even n)) (leaf_head s t vr n) []
+pub leaf_plain : (s : Syntax) (t : Tag) (vr : Vr) (n : ℕ) → IsTag t → n < 0xFFFFFFFF → PlainHead s t (normal_vr s t vr n) (Known (even n)) (leaf_head s t vr n) []
 leaf_plain Implicit t vr n h fits = element_spelled Implicit t (dict_vr t) (Known (even n)) h refl (λ k. absurd (cc)) (λ k. fits_even n fits)
 leaf_plain Little t vr n h fits = leaf_by_test Little t vr n (too_long Little vr n) (λ e. cc) h fits refl
 leaf_plain Big t vr n h fits = leaf_by_test Big t vr n (too_long Big vr n) (λ e. cc) h fits refl
@@ -127,7 +127,7 @@ two_parts a b r z = append_assoc (a ++ b) r z ∙ append_assoc a b (r ++ z)
 three_parts : (a b c r z : List ℕ) → (((a ++ b) ++ c) ++ r) ++ z ≡ a ++ (b ++ (c ++ (r ++ z)))
 three_parts a b c r z = append_assoc ((a ++ b) ++ c) r z ∙ append_assoc (a ++ b) c (r ++ z) ∙ append_assoc a b (c ++ (r ++ z))
 
-leaf_at : (s : Syntax) (t : Tag) (vr : Vr) (size : ℕ) (value h u r z : List ℕ) (more : Trees) → length value ≡ size → form s vr (Known size) ≡ a_value → ElementHead s t vr (Known size) h [] → order s vr value ≡ u
+pub leaf_at : (s : Syntax) (t : Tag) (vr : Vr) (size : ℕ) (value h u r z : List ℕ) (more : Trees) → length value ≡ size → form s vr (Known size) ≡ a_value → ElementHead s t vr (Known size) h [] → order s vr value ≡ u
     → TreesAt s more (r ++ z) z → TreesAt s (leaf t vr value more) (((h ++ u) ++ r) ++ z) z
 unfolding TreesAt
 leaf_at s t vr size value h u r z more l fo head o rest = (

@@ -7,3 +7,4 @@ pub mod Encoder
 pub mod Lines
 pub mod Laws
 pub mod Conversion
+pub mod MetaAgain

@@ -3,6 +3,8 @@ ghost use Rattle.std.specs.Prelude.{◌≡◌, ◌≤◌, ℕ, List, false};
 ghost use Rattle.dcm_base.specs.Atoms.{Atom, Shows, front_atoms, is_closed};
 ghost use Rattle.dcm_base.specs.Bars.{no_bar, target_bar};
 ghost use Rattle.dcm_base.specs.Dump.{dump_front};
+ghost use Rattle.dcm_base.specs.declared.syntax.Coding.{Coding};
+ghost use Rattle.dcm_base.specs.MetaReads.{Meta};
 ghost use Rattle.dcm_base.specs.Front.{Front};
 ghost use Rattle.dcm_base.specs.Reads.{INPUT_LIMIT, Reads, ended};
 ghost use Rattle.dcm_base.specs.Normal.{normal_front};
@@ -17,6 +19,7 @@ ghost use Rattle.dcm_tools.specs.Conversion.{Converts};
 ghost use Rattle.dcm_tools.specs.DumpSink.{dump_start, dump_step, dump_writes};
 ghost use Rattle.dcm_tools.specs.EncodeSink.{encode_bar, encode_start, encode_step, encode_writes};
 ghost use Rattle.dcm_tools.specs.Laws.{MissesBytes, StaysShallow};
+ghost use Rattle.dcm_tools.specs.MetaAgain.{Names, ReadsRenewed, Renews};
 
 /// Over atoms that show a data set, whole or as far as it was read, the dump sink writes its dump, where an open value misses
 /// bytes and no more than 64 sequences and fragment lists are open at a time.
@@ -55,4 +58,12 @@ pub fn recode_reads()
 /// To convert it again changes nothing.
 pub fn recode_twice()
     ensures { (target s : Syntax) (start at : ℕ) (bytes : List ℕ) (f g : Front) (stop : Stop) → Converts target s start at bytes f → Reads (target_bar target) target at (recode target f) g stop → (stop ≡ complete) × (recode target g ≡ recode target f) }
+{}
+
+/// A meta group that is written anew, with a transfer syntax, reads back without fault: the preamble is the same, the elements are
+/// the new length of the group and then the old elements in their normal form, with this transfer syntax. It has at most 16384 bytes,
+/// and the bytes that follow do not go on the group. With the transfer syntax that it had, its coding is the same.
+pub fn new_meta_reads()
+    ensures any { (file uid set : List ℕ) (m : Meta) (was coding : Coding) → Renews file m was uid set → Names uid coding → ReadsRenewed m uid set coding }
+    ensures own { (file set : List ℕ) (m : Meta) (coding : Coding) → Renews file m coding m.uid set → ReadsRenewed m m.uid set coding }
 {}
