@@ -26,3 +26,4 @@ pub mod Sources
 pub mod RecodeReads
 pub mod ShortLines
 pub mod NewMetaReads
+pub mod GroupEnds
