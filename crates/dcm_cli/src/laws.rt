@@ -1,7 +1,12 @@
 //! Laws of the definitions. Each function takes nothing and makes no call: its contract is the law.
+ghost use Rattle.dcm_base.specs.declared.syntax.Coding.{Coding};
+ghost use Rattle.dcm_base.specs.Front.{Front};
+ghost use Rattle.dcm_base.specs.MetaReads.{Meta};
+ghost use Rattle.dcm_edit.specs.Edit.{Edit};
 ghost use Rattle.dcm_words.specs.declared.job.Job.{Job};
 ghost use Rattle.dcm_cli.specs.Answer.{Answer, Answers, Sure};
 ghost use Rattle.dcm_cli.specs.DumpBuilds.{DumpBuilds};
+ghost use Rattle.dcm_cli.specs.ModifiedAgain.{IsModified, ReadsModified};
 ghost use Rattle.dcm_cli.specs.NoEdits.{NoEditsConvert};
 ghost use Rattle.dcm_cli.specs.Run.{IsMeant};
 ghost use Rattle.dcm_words.specs.Plans.{job_of};
@@ -35,4 +40,10 @@ pub fn dump_builds_runs()
 /// its order.
 pub fn no_edits_convert()
     ensures { NoEditsConvert }
+{}
+
+/// What dcmodify writes of a file without fault is a file that is read without fault: its preamble and its transfer syntax are those
+/// of the input, its meta group is the one that was written anew, and its data set is the normal form of the edited one.
+pub fn modified_reads()
+    ensures { (edits : List Edit) (input : List ℕ) (a : Answer) (m : Meta) (coding : Coding) (f : Front) → IsModified edits input a m coding f → ReadsModified edits a.output m coding f }
 {}
