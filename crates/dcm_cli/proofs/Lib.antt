@@ -19,7 +19,7 @@ pub mod Sures
 pub mod OneSource
 pub mod NoEdits
 pub mod DumpBuilds
-pub mod ModifiedAgain
+pub mod ReadsAgain
 pub mod OneAnswer
 pub mod Stopping
 pub mod InMemory

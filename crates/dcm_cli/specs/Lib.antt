@@ -9,6 +9,6 @@ pub mod InMemory
 pub mod Devices
 pub mod DumpBuilds
 pub mod NoEdits
-pub mod ModifiedAgain
+pub mod ReadsAgain
 pub mod Opening
 pub mod Stops

@@ -1,17 +1,18 @@
 //! Laws of the definitions. Each function takes nothing and makes no call: its contract is the law.
 ghost use Rattle.dcm_base.specs.declared.syntax.Coding.{Coding};
+ghost use Rattle.dcm_base.specs.declared.syntax.Syntax.{Syntax};
 ghost use Rattle.dcm_base.specs.Front.{Front};
 ghost use Rattle.dcm_base.specs.MetaReads.{Meta};
 ghost use Rattle.dcm_edit.specs.Edit.{Edit};
 ghost use Rattle.dcm_words.specs.declared.job.Job.{Job};
 ghost use Rattle.dcm_cli.specs.Answer.{Answer, Answers, Sure};
 ghost use Rattle.dcm_cli.specs.DumpBuilds.{DumpBuilds};
-ghost use Rattle.dcm_cli.specs.ModifiedAgain.{IsModified, ReadsModified};
+ghost use Rattle.dcm_cli.specs.ReadsAgain.{IsConverted, IsModified, ReadsConverted, ReadsModified};
 ghost use Rattle.dcm_cli.specs.NoEdits.{NoEditsConvert};
 ghost use Rattle.dcm_cli.specs.Run.{IsMeant};
 ghost use Rattle.dcm_words.specs.Plans.{job_of};
 ghost use Rattle.dcm_words.specs.Words as words;
-ghost use Rattle.std.specs.Prelude.{◌++◌, ◌≡◌, List, ℕ};
+ghost use Rattle.std.specs.Prelude.{◌++◌, ◌≡◌, List, Option, ℕ};
 
 /// A job has at most one answer to an input.
 pub fn answers_one()
@@ -45,5 +46,10 @@ pub fn no_edits_convert()
 /// What dcmodify writes of a file without fault is a file that is read without fault: its preamble and its transfer syntax are those
 /// of the input, its meta group is the one that was written anew, and its data set is the normal form of the edited one.
 pub fn modified_reads()
-    ensures { (edits : List Edit) (input : List ℕ) (a : Answer) (m : Meta) (coding : Coding) (f : Front) → IsModified edits input a m coding f → ReadsModified edits a.output m coding f }
+    ensures { (edits : List Edit) (input : List ℕ) (a : Answer) (m : Meta) (coding : Coding) (f : Front) → IsModified edits input a m coding f → ReadsModified edits a m coding f }
+{}
+
+/// So is what dcmconv writes, with the transfer syntax of the target, and the normal form of the data set.
+pub fn converted_reads()
+    ensures { (target : Option Syntax) (input : List ℕ) (a : Answer) (m : Meta) (coding : Coding) (f : Front) → IsConverted target input a m coding f → ReadsConverted target a m coding f }
 {}
