@@ -23,3 +23,4 @@ pub mod ReadsAgain
 pub mod OneAnswer
 pub mod Stopping
 pub mod InMemory
+pub mod OutputEdited

@@ -37,10 +37,10 @@ use Rattle.dcm_cli.specs.ReadsAgain.{IsRead, HasRoom, IsModified, ReadsModified,
 
 -- ---- what was read
 
-record Read (job : Job) (input : List ℕ) (m : Meta) (coding : Coding) (f : Front) : Type 0 where
-  group : List ℕ
-  head : MetaReads input (begins m group coding)
-  set : Reads (job_bar job coding) coding.syntax (set_at group) (drop (set_at group) input) f complete
+pub record Read (job : Job) (input : List ℕ) (m : Meta) (coding : Coding) (f : Front) : Type 0 where
+  pub group : List ℕ
+  pub head : MetaReads input (begins m group coding)
+  pub set : Reads (job_bar job coding) coding.syntax (set_at group) (drop (set_at group) input) f complete
 
 read_by : (job : Job) (input : List ℕ) (m n : Meta) (group : List ℕ) (c d : Coding) (f g : Front) (t : Stop) → a_file n d g t ≡ a_file m c f complete → MetaReads input (begins n group d)
     → Reads (job_bar job d) d.syntax (set_at group) (drop (set_at group) input) g t → Read job input m c f
@@ -57,7 +57,7 @@ read_by job input m n group c d f g t e head reads =
           (subst (λ (z : Front). Reads (job_bar job d) d.syntax (set_at group) bytes z complete) fs (subst (Reads (job_bar job d) d.syntax (set_at group) bytes g) ts reads));
     }
 
-read_of : (job : Job) (input : List ℕ) (m : Meta) (c : Coding) (f : Front) (source : Source) → source ≡ a_file m c f complete → FileReads job input source → Read job input m c f
+pub read_of : (job : Job) (input : List ℕ) (m : Meta) (c : Coding) (f : Front) (source : Source) → source ≡ a_file m c f complete → FileReads job input source → Read job input m c f
 read_of job input m c f source is (not_opened fault offset h e) = absurd (cc)
 read_of job input m c f source is (not_changed n group d h r e) = absurd (cc)
 read_of job input m c f source is (opened n group d g t h r reads e) = read_by job input m n group c d f g t (sym e ∙ is) h reads
@@ -66,10 +66,10 @@ module _ (input : List ℕ) (m : Meta) (group : List ℕ) (coding : Coding) (hea
   long : length m.preamble ≡ 128
   long = (headed input m group coding head).preamble_size
 
-  begins_within : set_at group ≤ INPUT_LIMIT
+  pub begins_within : set_at group ≤ INPUT_LIMIT
   begins_within = let few = (headed input m group coding head).within in omega (arith, few)
 
-rest_bytes : (n : ℕ) (input : List ℕ) → AreBytes input → AreBytes (drop n input)
+pub rest_bytes : (n : ℕ) (input : List ℕ) → AreBytes input → AreBytes (drop n input)
 rest_bytes n input h = λ i. a_byte (drop n input) i (bytes_behind n input (bytes_of input h))
 
 -- ---- the data set that is written
@@ -123,7 +123,7 @@ module _ (input output : List ℕ) (m : Meta) (old uid : List ℕ) (was coding :
   abbrev written : List ℕ
   written = recode s set
 
-  set_within : output ≡ written_file uid s m set → length output ≤ INPUT_LIMIT → set_at group + length written ≤ INPUT_LIMIT
+  pub set_within : output ≡ written_file uid s m set → length output ≤ INPUT_LIMIT → set_at group + length written ≤ INPUT_LIMIT
   set_within is within =
       let size = all_size m.preamble PREFIX group written (long input m old was head) refl in
       let whole = ap length is in

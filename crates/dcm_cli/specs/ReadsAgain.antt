@@ -16,8 +16,9 @@ use Rattle.dcm_base.specs.Stop.{complete}
 use Rattle.dcm_base.specs.Transfer.{native}
 use Rattle.dcm_edit.specs.Edit.{Edit, edited}
 use Rattle.dcm_tools.specs.MetaAgain.{meta_again}
-use Rattle.dcm_words.specs.Words.{convert, modify}
-use Rattle.dcm_cli.specs.Answer.{Answer, ReadAnswers, file, set_at, target_syntax, target_uid}
+use Rattle.dcm_base.specs.declared.mode.Mode.TheVariants.{Full}
+use Rattle.dcm_words.specs.Words.{convert, dump, modify}
+use Rattle.dcm_cli.specs.Answer.{Answer, FileReads, ReadAnswers, Source, alone, file, set_at, target_syntax, target_uid, unopened}
 use Rattle.dcm_cli.specs.Run.{IsMeant}
 
 -- a file is read without fault, by a dump as well as by a conversion to its own transfer syntax
@@ -61,3 +62,13 @@ target_coding (Some s) coding = native s
 abbrev pub ReadsConverted : Option Syntax → Answer → Meta → Coding → Front → Type 0
 ReadsConverted target a m coding f =
     IsRead a.output (meta_again m (target_uid target m)) (new_meta m.elements (target_uid target m)) (target_coding target coding) (normal_front (target_syntax target coding) f)
+
+-- a whole file was read, and so it is with its data set
+abbrev pub OfWholeFile : (Syntax → Front → Type 0) → Source → Type 0
+OfWholeFile P (unopened fault offset) = ⊥
+OfWholeFile P (file m coding set stop) = (stop ≡ complete) × P coding.syntax set
+OfWholeFile P (alone syntax set stop) = ⊥
+
+-- however the output is read as a file, it is whole, and so it is with its data set
+abbrev pub InOutput : (Syntax → Front → Type 0) → Answer → Type 0
+InOutput P a = (source : Source) → FileReads (dump Full None) a.output source → OfWholeFile P source

@@ -3,11 +3,14 @@ ghost use Rattle.dcm_base.specs.declared.syntax.Coding.{Coding};
 ghost use Rattle.dcm_base.specs.declared.syntax.Syntax.{Syntax};
 ghost use Rattle.dcm_base.specs.Front.{Front};
 ghost use Rattle.dcm_base.specs.MetaReads.{Meta};
-ghost use Rattle.dcm_edit.specs.Edit.{Edit};
+ghost use Rattle.dcm_base.specs.declared.tag.Tag.{Tag};
+ghost use Rattle.dcm_base.specs.declared.vr.Vr.{Vr};
+ghost use Rattle.dcm_edit.specs.Edit.{Edit, erase_all, erase_private, modify_all};
+ghost use Rattle.dcm_edit.specs.Everywhere.{Among, EverywhereIn, IsOther, IsPublic, IsWrittenJust};
 ghost use Rattle.dcm_words.specs.declared.job.Job.{Job};
 ghost use Rattle.dcm_cli.specs.Answer.{Answer, Answers, Sure};
 ghost use Rattle.dcm_cli.specs.DumpBuilds.{DumpBuilds};
-ghost use Rattle.dcm_cli.specs.ReadsAgain.{IsConverted, IsModified, ReadsConverted, ReadsModified};
+ghost use Rattle.dcm_cli.specs.ReadsAgain.{InOutput, IsConverted, IsModified, ReadsConverted, ReadsModified};
 ghost use Rattle.dcm_cli.specs.NoEdits.{NoEditsConvert};
 ghost use Rattle.dcm_cli.specs.Run.{IsMeant};
 ghost use Rattle.dcm_words.specs.Plans.{job_of};
@@ -52,4 +55,12 @@ pub fn modified_reads()
 /// So is what dcmconv writes, with the transfer syntax of the target, and the normal form of the data set.
 pub fn converted_reads()
     ensures { (target : Option Syntax) (input : List ℕ) (a : Answer) (m : Meta) (coding : Coding) (f : Front) → IsConverted target input a m coding f → ReadsConverted target a m coding f }
+{}
+
+/// However the output of dcmodify for a file without fault is read as a file: it is read without fault, after `-ea` no element has
+/// the tag, after `-ep` none is of an odd group, and after `-ma` each of the tag has the value, as it is written, at any depth.
+pub fn output_is_edited()
+    ensures erased_all { (edits : List Edit) (input : List ℕ) (a : Answer) (m : Meta) (coding : Coding) (f : Front) → IsModified edits input a m coding f → (tag : Tag) → Among (erase_all tag) edits → InOutput (λ s set. EverywhereIn (IsOther tag) set) a }
+    ensures erased_private { (edits : List Edit) (input : List ℕ) (a : Answer) (m : Meta) (coding : Coding) (f : Front) → IsModified edits input a m coding f → Among erase_private edits → InOutput (λ s set. EverywhereIn IsPublic set) a }
+    ensures modified_all { (edits : List Edit) (input : List ℕ) (a : Answer) (m : Meta) (coding : Coding) (f : Front) → IsModified edits input a m coding f → (tag : Tag) (vr : Vr) (value : List ℕ) → Among (modify_all tag vr value) edits → InOutput (λ s set. EverywhereIn (IsWrittenJust s tag vr value) set) a }
 {}
