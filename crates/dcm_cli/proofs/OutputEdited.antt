@@ -58,7 +58,7 @@ module _ (edits : List Edit) (input : List ℕ) (a : Answer) (m : Meta) (coding 
   in_output P p source there =
       let r = modified_reads edits input a m coding f h in
       let one = one_source (dump Full None) a.output source (file (meta_again m m.uid) coding again complete) there
-          (opened (meta_again m m.uid) (new_meta m.elements m.uid) coding again complete r.head refl r.dumped refl)
+      (opened (meta_again m m.uid) (new_meta m.elements m.uid) coding again complete r.head refl r.dumped refl)
       in
       subst (OfWholeFile P) (sym one) (refl, p)
 
