@@ -70,3 +70,5 @@ pub mod Unmet
 pub mod TwiceDone
 pub mod TwiceKept
 pub mod TwiceWritten
+pub mod RisingReads
+pub mod EditedAscends

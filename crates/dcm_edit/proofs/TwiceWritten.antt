@@ -260,7 +260,7 @@ edit_whole : (e : Edit) (set : Trees) (reached : Option Tag) → edited_by e (fr
 edit_whole e set reached =
     ap (λ (x : Trees). with_new_so_far (element_of e) (front x nothing_open reached true)) (then_trees-none (changed e set)) ∙ with_whole (element_of e) (changed e set) reached
 
-edits_whole : (es : List Edit) (set : Trees) (reached : Option Tag) → edited es (front set nothing_open reached true) ≡ front (edited_sets es set) nothing_open reached true
+pub edits_whole : (es : List Edit) (set : Trees) (reached : Option Tag) → edited es (front set nothing_open reached true) ≡ front (edited_sets es set) nothing_open reached true
 edits_whole [] set reached = refl
 edits_whole (e ∷ es) set reached = ap (edited es) (edit_whole e set reached) ∙ edits_whole es (edited_set e set) reached
 

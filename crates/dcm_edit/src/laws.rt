@@ -83,6 +83,11 @@ pub fn edited_reads()
     ensures { (edits : List Edit) (s : Syntax) (at : ℕ) (f : Front) → Modifies edits s at f → ReadsAgain edits s at f (normal_front s (edited edits f)) complete }
 {}
 
+/// It reads back so under the bar of dcmodify too: its tags ascend, so that it can be edited again.
+pub fn edited_ascends()
+    ensures { (edits : List Edit) (s : Syntax) (at : ℕ) (f : Front) → Modifies edits s at f → Reads ascending_bar s at (recode s (edited edits f)) (normal_front s (edited edits f)) complete }
+{}
+
 /// With `-ea` it reads back as a data set in which no element has the tag, at any depth.
 pub fn erased_all_is_gone()
     ensures { (edits : List Edit) (s : Syntax) (at : ℕ) (f again : Front) (stop : Stop) (tag : Tag) → Modifies edits s at f → Among (erase_all tag) edits → ReadsAgain edits s at f again stop → (stop ≡ complete) × EverywhereIn (IsOther tag) again }
