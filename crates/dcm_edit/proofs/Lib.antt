@@ -72,3 +72,4 @@ pub mod TwiceKept
 pub mod TwiceWritten
 pub mod RisingReads
 pub mod EditedAscends
+pub mod EditedAgain

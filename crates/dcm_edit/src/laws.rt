@@ -5,6 +5,7 @@ ghost use Rattle.dcm_base.specs.Atoms.{Atom, Shows, front_atoms, is_closed};
 ghost use Rattle.dcm_base.specs.Bars.{ascending_bar};
 ghost use Rattle.dcm_base.specs.Front.{Front};
 ghost use Rattle.dcm_base.specs.Normal.{normal_front};
+ghost use Rattle.dcm_base.specs.Number.{AreBytes};
 ghost use Rattle.dcm_base.specs.Reads.{INPUT_LIMIT, Reads, ended};
 ghost use Rattle.dcm_base.specs.Recode.{recode};
 ghost use Rattle.dcm_base.specs.Steps.{outputs};
@@ -113,4 +114,11 @@ pub fn others_stay()
 /// The same edits of what is written, as it reads back, write the same bytes again, where no edit erases an item by its number.
 pub fn edited_twice()
     ensures { (edits : List Edit) (s : Syntax) (at : ℕ) (f : Front) → Modifies edits s at f → EraseByNoNumber edits → recode s (edited edits (normal_front s (edited edits f))) ≡ recode s (edited edits f) }
+{}
+
+/// A second run with the same edits reads what the first one wrote without fault, and writes the same bytes again, where no edit
+/// erases an item by its number. What is said of the first run holds of the second one too, where bytes were written.
+pub fn edited_again()
+    ensures writes { (edits : List Edit) (s : Syntax) (at : ℕ) (f again : Front) (stop : Stop) → Modifies edits s at f → EraseByNoNumber edits → Reads ascending_bar s at (recode s (edited edits f)) again stop → (stop ≡ complete) × (recode s (edited edits again) ≡ recode s (edited edits f)) }
+    ensures modifies { (edits : List Edit) (s : Syntax) (at : ℕ) (f again : Front) (stop : Stop) → Modifies edits s at f → EraseByNoNumber edits → AreBytes (recode s (edited edits f)) → Reads ascending_bar s at (recode s (edited edits f)) again stop → Modifies edits s at again }
 {}
