@@ -6,36 +6,22 @@ use thiserror::Error;
 
 /// Why a file is refused.
 #[derive(Clone, Copy, Debug, PartialEq, Eq, Error)]
+#[error("{}", self.text())]
 pub enum Fault {
-    #[error("input ends too early")]
     EndsEarly,
-    #[error("no DICM prefix")]
     NoPrefix,
-    #[error("bad meta element")]
     BadMeta,
-    #[error("meta group too large")]
     MetaTooLarge,
-    #[error("no transfer syntax")]
     NoTransferSyntax,
-    #[error("deflated transfer syntax")]
     Deflated,
-    #[error("unknown value representation")]
     UnknownRepresentation,
-    #[error("undefined length not allowed")]
     UndefinedLength,
-    #[error("tag not allowed here")]
     TagNotAllowed,
-    #[error("passes the end of its container")]
     PassesEnd,
-    #[error("nested too deep")]
     TooDeep,
-    #[error("tags not ascending")]
     NotAscending,
-    #[error("fragments not allowed in the target syntax")]
     FragmentsBarred,
-    #[error("encapsulated syntax cannot be changed")]
     CannotChange,
-    #[error("input too long")]
     TooLong,
 }
 
@@ -89,26 +75,17 @@ impl Fault {
 
 /// Why a line of a dump is refused, where it is built into a file.
 #[derive(Clone, Copy, Debug, PartialEq, Eq, Error)]
+#[error("{}", self.text())]
 pub enum LineFault {
-    #[error("line too long")]
     LineTooLong,
-    #[error("not a dump line")]
     NotALine,
-    #[error("value does not fit")]
     ValueDoesNotFit,
-    #[error("not allowed here")]
     NotAllowed,
-    #[error("tags not ascending")]
     NotAscending,
-    #[error("bad meta group")]
     BadMetaGroup,
-    #[error("no usable transfer syntax")]
     NoTransferSyntax,
-    #[error("nested too deep")]
     TooDeep,
-    #[error("input ends too early")]
     EndsEarly,
-    #[error("input too long")]
     TooLong,
 }
 
@@ -152,20 +129,14 @@ impl LineFault {
 
 /// Why an edit is refused.
 #[derive(Clone, Copy, Debug, PartialEq, Eq, Error)]
+#[error("{}", self.text())]
 pub enum EditRefusal {
-    #[error("bad option or path")]
     BadOption,
-    #[error("unknown tag")]
     UnknownTag,
-    #[error("value does not fit")]
     ValueDoesNotFit,
-    #[error("sequence misused")]
     SequenceMisused,
-    #[error("group 0002 cannot be edited")]
     MetaGroup,
-    #[error("edits overlap")]
     Overlap,
-    #[error("too many edits")]
     TooMany,
 }
 
@@ -203,18 +174,13 @@ impl EditRefusal {
 
 /// Why the words of a command line are refused.
 #[derive(Clone, Copy, Debug, PartialEq, Eq, Error)]
+#[error("{}", self.text())]
 pub enum WordFault {
-    #[error("unknown tool")]
     UnknownTool,
-    #[error("unknown option")]
     UnknownOption,
-    #[error("bad option value")]
     BadOptionValue,
-    #[error("wrong number of paths")]
     WrongPaths,
-    #[error("options do not go together")]
     OptionsApart,
-    #[error("input and output are the same path")]
     SamePath,
 }
 
