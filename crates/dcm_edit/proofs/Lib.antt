@@ -73,3 +73,6 @@ pub mod TwiceWritten
 pub mod RisingReads
 pub mod EditedAscends
 pub mod EditedAgain
+pub mod BytesKept
+pub mod WordBytes
+pub mod EditedBytes

@@ -264,7 +264,7 @@ pub edits_whole : (es : List Edit) (set : Trees) (reached : Option Tag) → edit
 edits_whole [] set reached = refl
 edits_whole (e ∷ es) set reached = ap (edited es) (edit_whole e set reached) ∙ edits_whole es (edited_set e set) reached
 
-front_recodes : (s : Syntax) (es : List Edit) (set : Trees) (reached : Option Tag) → recode s (edited es (front set nothing_open reached true)) ≡ recode_set s (edited_sets es set)
+pub front_recodes : (s : Syntax) (es : List Edit) (set : Trees) (reached : Option Tag) → recode s (edited es (front set nothing_open reached true)) ≡ recode_set s (edited_sets es set)
 unfolding recode
 front_recodes s es set reached = ap (recode s) (edits_whole es set reached) ∙ append-nil (recode_set s (edited_sets es set))
 

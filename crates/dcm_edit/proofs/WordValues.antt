@@ -168,10 +168,16 @@ abbrev pub AllHave : (Edit → Type 0) → List Edit → Type 0
 AllHave P [] = Unit {0}
 AllHave P (e ∷ es) = P e × AllHave P es
 
--- what is so of each edit that a word means is so of all that the words of a command line mean
-module _ (P : Edit → Type 0) (private_has : P erase_private) (one_has : (kind : Kind) (p v : List ℕ) (e : Edit) → meant_edit kind p v ≡ Ok e → P e) where
-  word_has : (kind : Kind) (w : List ℕ) (e : Edit) → meant_word kind w ≡ Ok e → P e
-  word_has kind w e h = by_test (takes_value kind) _ _ h (λ g. one_has kind (cut_at (byte "=") w).before (unwrap_or (cut_at (byte "=") w).after []) e g) (λ g. one_has kind w [] e g)
+abbrev pub AllFine : (List ℕ → Type 0) → List (List ℕ) → Type 0
+AllFine Fine [] = Unit {0}
+AllFine Fine (w ∷ words) = Fine w × AllFine Fine words
+
+-- what is so of each edit that a word means is so of all that the words of a command line mean, where the words, and so their values, are fine
+module _ (Fine : List ℕ → Type 0) (none_fine : Fine []) (cut_fine : (w : List ℕ) → Fine w → Fine (unwrap_or (cut_at (byte "=") w).after []))
+    (P : Edit → Type 0) (private_has : P erase_private) (one_has : (kind : Kind) (p v : List ℕ) (e : Edit) → Fine v → meant_edit kind p v ≡ Ok e → P e) where
+  word_has : (kind : Kind) (w : List ℕ) (e : Edit) → Fine w → meant_word kind w ≡ Ok e → P e
+  word_has kind w e fine h =
+      by_test (takes_value kind) _ _ h (λ g. one_has kind (cut_at (byte "=") w).before (unwrap_or (cut_at (byte "=") w).after []) e (cut_fine w fine) g) (λ g. one_has kind w [] e none_fine g)
     where
       by_test : (c : Bool) (r q : Result Edit EditRefusal) → (if c then r else q) ≡ Ok e → (r ≡ Ok e → P e) → (q ≡ Ok e → P e) → P e
       by_test true r q k f g = f k
@@ -195,22 +201,22 @@ module _ (P : Edit → Type 0) (private_has : P erase_private) (one_has : (kind 
   one_word (takes_word kind) n es q = absurd cc
   one_word unknown_word n es q = absurd cc
 
-  two_words : (o : OptionWord) (n : ℕ) (v : List ℕ) (skip more : Result (List Edit) InEdit) (es : List Edit)
+  two_words : (o : OptionWord) (n : ℕ) (v : List ℕ) (skip more : Result (List Edit) InEdit) (es : List Edit) → Fine v
       → ((fs : List Edit) → skip ≡ Ok fs → AllHave P fs) → ((fs : List Edit) → more ≡ Ok fs → AllHave P fs)
       → (let s : Result (List Edit) InEdit = elim o [
         | private_word ↦ and_then erase_private skip
         | takes_word kind ↦ elim (at_edit n (meant_word kind v)) [ Ok e ↦ and_then e more | Err u ↦ Err u ]
         | unknown_word ↦ Err (in_edit BadOption n)
       ] in s ≡ Ok es) → AllHave P es
-  two_words private_word n v skip more es g h q = then_have erase_private skip es private_has g q
-  two_words (takes_word kind) n v skip more es g h q = word_then n (meant_word kind v) more es (λ e r. word_has kind v e r) h q
-  two_words unknown_word n v skip more es g h q = absurd cc
+  two_words private_word n v skip more es fine g h q = then_have erase_private skip es private_has g q
+  two_words (takes_word kind) n v skip more es fine g h q = word_then n (meant_word kind v) more es (λ e r. word_has kind v e fine r) h q
+  two_words unknown_word n v skip more es fine g h q = absurd cc
 
-  words_have : (n : ℕ) (words : List (List ℕ)) (es : List Edit) → meant_from n words ≡ Ok es → AllHave P es
-  words_have n [] es q = all_is [] es (ok_is _ _ q) tt
-  words_have n (w ∷ []) es q = one_word (option_word w) n es (in_turn (nat_lt EDIT_LIMIT n) (in_edit TooMany n) _ es q)
-  words_have n (w ∷ v ∷ words) es q =
-      two_words (option_word w) n v _ _ es (words_have (suc n) (v ∷ words)) (words_have (suc n) words) (in_turn (nat_lt EDIT_LIMIT n) (in_edit TooMany n) _ es q)
+  words_have : (n : ℕ) (words : List (List ℕ)) (es : List Edit) → AllFine Fine words → meant_from n words ≡ Ok es → AllHave P es
+  words_have n [] es fine q = all_is [] es (ok_is _ _ q) tt
+  words_have n (w ∷ []) es fine q = one_word (option_word w) n es (in_turn (nat_lt EDIT_LIMIT n) (in_edit TooMany n) _ es q)
+  words_have n (w ∷ v ∷ words) es fine q =
+      two_words (option_word w) n v _ _ es fine.1.0 (λ fs g. words_have (suc n) (v ∷ words) fs fine.1 g) (λ fs g. words_have (suc n) words fs fine.1.1 g) (in_turn (nat_lt EDIT_LIMIT n) (in_edit TooMany n) _ es q)
 
   all_have : (r : Result (List Edit) InEdit) (es : List Edit) → (let s : Result (List Edit) InEdit = elim r [ Ok fs ↦ apart fs | Err u ↦ Err u ] in s ≡ Ok es)
       → ((fs : List Edit) → r ≡ Ok fs → AllHave P fs) → AllHave P es
@@ -221,8 +227,19 @@ module _ (P : Edit → Type 0) (private_has : P erase_private) (one_has : (kind 
       by_overlap (Some n) g = absurd cc
   all_have (Err u) es q h = absurd cc
 
-  pub all_edits_have : (words : List (List ℕ)) (es : List Edit) → meant_edits words ≡ Ok es → AllHave P es
-  all_edits_have words es q = all_have (meant_from 1 words) es q (words_have 1 words)
+  pub fine_edits_have : (words : List (List ℕ)) (es : List Edit) → AllFine Fine words → meant_edits words ≡ Ok es → AllHave P es
+  fine_edits_have words es fine q = all_have (meant_from 1 words) es q (λ fs g. words_have 1 words fs fine g)
+
+abbrev Any : List ℕ → Type 0
+Any w = Unit {0}
+
+all_any : (words : List (List ℕ)) → AllFine Any words
+all_any [] = tt
+all_any (w ∷ words) = (tt, all_any words)
+
+pub all_edits_have : (P : Edit → Type 0) → P erase_private → ((kind : Kind) (p v : List ℕ) (e : Edit) → meant_edit kind p v ≡ Ok e → P e)
+    → (words : List (List ℕ)) (es : List Edit) → meant_edits words ≡ Ok es → AllHave P es
+all_edits_have P private_has one_has words es q = fine_edits_have Any tt (λ w fine. tt) P private_has (λ kind p v e fine h. one_has kind p v e h) words es (all_any words) q
 
 all_of : (es : List Edit) → AllHave Fits es → HaveValues es × HaveShortIndexes es × AreWithin 64 es
 all_of [] h = (tt, tt, tt)

@@ -1,5 +1,5 @@
 -- What the laws of a file that is written with edits speak of.
-use Rattle.std.specs.Prelude.{◌≡◌, ℕ, ◌+◌, ◌≤◌, List, length, Ok}
+use Rattle.std.specs.Prelude.{◌≡◌, ℕ, ◌+◌, ◌≤◌, List, [], ◌∷◌, length, Ok}
 use Rattle.dcm_base.specs.declared.syntax.Syntax.{Syntax}
 use Rattle.dcm_base.specs.Number.{AreBytes}
 use Rattle.dcm_base.specs.Front.{Front}
@@ -21,6 +21,11 @@ pub record Modifies (edits : List Edit) (s : Syntax) (at : ℕ) (f : Front) : Ty
   pub are_bytes : AreBytes bytes
   pub reads : Reads ascending_bar s start bytes f complete
   pub within : at + length (recode s (edited edits f)) ≤ INPUT_LIMIT
+
+-- each word is of bytes
+abbrev pub OfBytes : List (List ℕ) → Type 0
+OfBytes [] = Unit {0}
+OfBytes (w ∷ words) = AreBytes w × OfBytes words
 
 -- what is written is read again, in the same syntax
 abbrev pub ReadsAgain : List Edit → Syntax → (at : ℕ) → Front → (again : Front) → Stop → Type 0

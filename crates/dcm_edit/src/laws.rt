@@ -21,7 +21,7 @@ ghost use Rattle.dcm_edit.specs.Edit.{Edit, edited, erase_all, erase_private, fo
 ghost use Rattle.dcm_edit.specs.EditSink.{AreWithin, HaveShortIndexes, HaveValues, begun, edit_bar, next, passed, reached_anew};
 ghost use Rattle.dcm_edit.specs.EditWords.{meant_edits};
 ghost use Rattle.dcm_edit.specs.Everywhere.{Among, EverywhereIn, IsOther, IsPublic, IsWrittenJust};
-ghost use Rattle.dcm_edit.specs.Modification.{Modifies, ReadsAgain};
+ghost use Rattle.dcm_edit.specs.Modification.{Modifies, OfBytes, ReadsAgain};
 ghost use Rattle.dcm_edit.specs.Others.{any_changes, set_without};
 ghost use Rattle.dcm_edit.specs.Overlap.{AreApart, ArePublic};
 ghost use Rattle.dcm_edit.specs.Repeating.{EraseByNoNumber};
@@ -89,7 +89,12 @@ pub fn edited_ascends()
     ensures { (edits : List Edit) (s : Syntax) (at : ℕ) (f : Front) → Modifies edits s at f → Reads ascending_bar s at (recode s (edited edits f)) (normal_front s (edited edits f)) complete }
 {}
 
-/// With `-ea` it reads back as a data set in which no element has the tag, at any depth.
+/// What is written is bytes, where the words of the command line are.
+pub fn edited_is_bytes()
+    ensures { (edits : List Edit) (s : Syntax) (at : ℕ) (f : Front) (h : Modifies edits s at f) → OfBytes h.words → AreBytes (recode s (edited edits f)) }
+{}
+
+/// With `-ea` what is written reads back as a data set in which no element has the tag, at any depth.
 pub fn erased_all_is_gone()
     ensures { (edits : List Edit) (s : Syntax) (at : ℕ) (f again : Front) (stop : Stop) (tag : Tag) → Modifies edits s at f → Among (erase_all tag) edits → ReadsAgain edits s at f again stop → (stop ≡ complete) × EverywhereIn (IsOther tag) again }
 {}

@@ -1,0 +1,5 @@
+use Rattle.dcm_edit.proofs.EditedBytes.{edited_is_bytes}
+use Rattle.dcm_edit.proofs.laws.edited_is_bytes.Goals as goal
+
+pub returns : goal.returns
+returns c = λ edits s at f h fine. edited_is_bytes h.words edits fine h.mean s h.start h.bytes f h.begins h.are_bytes h.reads
