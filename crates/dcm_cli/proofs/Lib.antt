@@ -24,3 +24,4 @@ pub mod OneAnswer
 pub mod Stopping
 pub mod InMemory
 pub mod OutputEdited
+pub mod ModifiedTwice

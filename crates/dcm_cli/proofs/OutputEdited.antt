@@ -1,5 +1,5 @@
 -- What dcmodify has done is so in its output, however that is read.
-use Rattle.std.proofs.Common.{◌≡◌, ◌∙◌, ap, sym, subst, refl, ℕ, List, drop, None}
+use Rattle.std.proofs.Common.{◌∙◌, ap, sym, subst, refl, ℕ, List, drop, None}
 use Rattle.dcm_base.specs.declared.mode.Mode.TheVariants.{Full}
 use Rattle.dcm_base.specs.declared.syntax.Coding.{Coding}
 use Rattle.dcm_base.specs.declared.syntax.Syntax.{Syntax}
@@ -17,7 +17,7 @@ use Rattle.dcm_edit.proofs.EditedReads.{edited_reads}
 use Rattle.dcm_edit.proofs.Gone.{erased_all_is_gone, erased_private_is_gone, modified_all_is_so}
 use Rattle.dcm_tools.specs.MetaAgain.{meta_again}
 use Rattle.dcm_words.specs.Words.{dump, modify}
-use Rattle.dcm_cli.specs.Answer.{Answer, FileReads, Source, answer, file, opened, set_at}
+use Rattle.dcm_cli.specs.Answer.{Answer, Source, answer, file, opened, set_at}
 use Rattle.dcm_cli.specs.ReadsAgain.{InOutput, IsModified, OfWholeFile}
 use Rattle.dcm_cli.proofs.OneSource.{one_source}
 use Rattle.dcm_cli.proofs.ReadsAgain.{Read, begins_within, modified_reads, read_of, rest_bytes, set_within}
@@ -32,10 +32,10 @@ module _ (edits : List Edit) (input : List ℕ) (a : Answer) (m : Meta) (coding 
   abbrev again : Front
   again = normal_front s (edited edits f)
 
-  was_read : Read (modify edits) input m coding f
+  pub was_read : Read (modify edits) input m coding f
   was_read = read_of (modify edits) input m coding f h.answers.source h.source_is h.answers.reads
 
-  modifies : Modifies edits s at f
+  pub modifies : Modifies edits s at f
   modifies =
       let r = was_read in
       record {

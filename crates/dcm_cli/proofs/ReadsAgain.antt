@@ -63,7 +63,7 @@ read_of job input m c f source is (not_changed n group d h r e) = absurd (cc)
 read_of job input m c f source is (opened n group d g t h r reads e) = read_by job input m n group c d f g t (sym e ∙ is) h reads
 
 module _ (input : List ℕ) (m : Meta) (group : List ℕ) (coding : Coding) (head : MetaReads input (begins m group coding)) where
-  long : length m.preamble ≡ 128
+  pub long : length m.preamble ≡ 128
   long = (headed input m group coding head).preamble_size
 
   pub begins_within : set_at group ≤ INPUT_LIMIT
@@ -99,7 +99,7 @@ four_parts : (preamble prefix group set : List ℕ) → preamble ++ prefix ++ gr
 four_parts preamble prefix group set = append_assoc (preamble ++ prefix) group set ∙ append_assoc preamble prefix (group ++ set)
 
 -- behind the group
-behind_group : (preamble prefix group set : List ℕ) → length preamble ≡ 128 → length prefix ≡ 4 → drop (132 + length group) (preamble ++ prefix ++ group ++ set) ≡ set
+pub behind_group : (preamble prefix group set : List ℕ) → length preamble ≡ 128 → length prefix ≡ 4 → drop (132 + length group) (preamble ++ prefix ++ group ++ set) ≡ set
 behind_group preamble prefix group set a b =
     let one = length-append preamble prefix in
     let two = length-append (preamble ++ prefix) group in

@@ -7,6 +7,7 @@ ghost use Rattle.dcm_base.specs.declared.tag.Tag.{Tag};
 ghost use Rattle.dcm_base.specs.declared.vr.Vr.{Vr};
 ghost use Rattle.dcm_edit.specs.Edit.{Edit, erase_all, erase_private, modify_all};
 ghost use Rattle.dcm_edit.specs.Everywhere.{Among, EverywhereIn, IsOther, IsPublic, IsWrittenJust};
+ghost use Rattle.dcm_edit.specs.Repeating.{EraseByNoNumber};
 ghost use Rattle.dcm_words.specs.declared.job.Job.{Job};
 ghost use Rattle.dcm_cli.specs.Answer.{Answer, Answers, Sure};
 ghost use Rattle.dcm_cli.specs.DumpBuilds.{DumpBuilds};
@@ -15,7 +16,7 @@ ghost use Rattle.dcm_cli.specs.NoEdits.{NoEditsConvert};
 ghost use Rattle.dcm_cli.specs.Run.{IsMeant};
 ghost use Rattle.dcm_words.specs.Plans.{job_of};
 ghost use Rattle.dcm_words.specs.Words as words;
-ghost use Rattle.std.specs.Prelude.{◌++◌, ◌≡◌, List, Option, ℕ};
+ghost use Rattle.std.specs.Prelude.{◌++◌, ◌≡◌, ◌⊎◌, List, Option, ℕ};
 
 /// A job has at most one answer to an input.
 pub fn answers_one()
@@ -63,4 +64,10 @@ pub fn output_is_edited()
     ensures erased_all { (edits : List Edit) (input : List ℕ) (a : Answer) (m : Meta) (coding : Coding) (f : Front) → IsModified edits input a m coding f → (tag : Tag) → Among (erase_all tag) edits → InOutput (λ s set. EverywhereIn (IsOther tag) set) a }
     ensures erased_private { (edits : List Edit) (input : List ℕ) (a : Answer) (m : Meta) (coding : Coding) (f : Front) → IsModified edits input a m coding f → Among erase_private edits → InOutput (λ s set. EverywhereIn IsPublic set) a }
     ensures modified_all { (edits : List Edit) (input : List ℕ) (a : Answer) (m : Meta) (coding : Coding) (f : Front) → IsModified edits input a m coding f → (tag : Tag) (vr : Vr) (value : List ℕ) → Among (modify_all tag vr value) edits → InOutput (λ s set. EverywhereIn (IsWrittenJust s tag vr value) set) a }
+{}
+
+/// Two runs in a row: dcmodify on a file without fault, and then on its output, with the same edits. Where no edit erases an item by
+/// its number, the second run writes the same bytes again and refuses nothing: its status is 0 or 3.
+pub fn modified_twice()
+    ensures { (edits : List Edit) (input : List ℕ) (a b : Answer) (m : Meta) (coding : Coding) (f : Front) → IsModified edits input a m coding f → EraseByNoNumber edits → Answers (words.modify edits) a.output b → (b.output ≡ a.output) × ((b.status ≡ 0) ⊎ (b.status ≡ 3)) }
 {}

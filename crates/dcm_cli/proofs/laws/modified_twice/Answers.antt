@@ -1,0 +1,5 @@
+use Rattle.dcm_cli.proofs.ModifiedTwice.{modified_twice}
+use Rattle.dcm_cli.proofs.laws.modified_twice.Goals as goal
+
+pub returns : goal.returns
+returns c = modified_twice
