@@ -1,5 +1,5 @@
 -- Short numbers in the lines of a dump.
-use Rattle.std.proofs.Common.{◌≡◌, ◌∙◌, ap, sym, refl, ℕ, ◌+◌, ◌/◌, ◌%◌, ◌<◌, ◌≤◌, List, [], ◌∷◌, ◌++◌, arith, decimal, codes}
+use Rattle.std.proofs.Common.{◌≡◌, ◌∙◌, ap, sym, refl, ℕ, ◌+◌, ◌/◌, ◌%◌, ◌<◌, ◌≤◌, List, [], ◌∷◌, ◌++◌, decimal, codes}
 use Rattle.std.proofs.lemmas.Fmt.{decimal_digit}
 use Rattle.itoa.proofs.Decimal.{decimal_two}
 use Rattle.dcm_base.specs.declared.length.Length.{Length}

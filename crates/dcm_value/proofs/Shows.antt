@@ -1,6 +1,6 @@
 -- Facts on what is shown of a value.
 use Rattle.std.proofs.Common.{◌≡◌, ◌≤◌, ◌<◌, ℕ, ◌+◌, ◌-◌, min, replicate, codes, List, ◌++◌, length, take, drop, ap, sym, ◌∙◌, arith}
-use Rattle.std.proofs.Common.{Option, Result, subst, cond, lt-ltb, le-ltb}
+use Rattle.std.proofs.Common.{Option, Result, subst, cond, lt-ltb}
 use Rattle.std.specs.Io.KnownBytes.{append_known}
 use Rattle.dcm_base.specs.declared.mode.Mode.{Mode}
 use Rattle.dcm_base.specs.declared.mode.Mode.TheVariants.{Short, Full}
@@ -38,11 +38,6 @@ cut_ending mode shown front cut m l e =
     ap (λ x. ending_of x shown front) m
     ∙ ap (λ b. cond b (take 63 front ++ codes "...") (padded front)) (lt-ltb 66 shown l)
     ∙ ap (λ zs. zs ++ codes "...") (sym (cuts front cut e))
-
-pub whole_ending : (mode : Mode) (shown : ℕ) (front : List ℕ) → mode ≡ Short → shown ≤ 66 → ending_of mode shown front ≡ front ++ replicate (40 - length front) 32
-whole_ending mode shown front m l =
-    ap (λ x. ending_of x shown front) m
-    ∙ ap (λ b. cond b (take 63 front ++ codes "...") (padded front)) (le-ltb 66 shown l)
 
 -- the front stays filled
 pub filled_full : (mode : Mode) (front : List ℕ) (m n : ℕ) → mode ≡ Full → length front ≡ front_size mode m → length front ≡ front_size mode n

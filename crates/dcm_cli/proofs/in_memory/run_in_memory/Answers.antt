@@ -3,7 +3,7 @@ use Rattle.dcm_base.specs.Memory.{room_of}
 use Rattle.dcm_base.specs.declared.memory.MemIn.{MemIn}
 use Rattle.dcm_base.specs.declared.memory.MemOut.{MemOut}
 use Rattle.dcm_base.specs.declared.memory.Measured.{Measured}
-use Rattle.dcm_cli.specs.Answer.{Answer, Answers}
+use Rattle.dcm_cli.specs.Answer.{Answers}
 use Rattle.dcm_cli.specs.InMemory.{LeavesAnswer}
 use Rattle.dcm_words.specs.Plans.{job_of}
 use Rattle.dcm_cli.proofs.InMemory.{memory_left}
