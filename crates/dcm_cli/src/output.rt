@@ -1,5 +1,5 @@
 // The output of a program.
-ghost use Rattle.std.specs.Prelude.{◌≡◌};
+ghost use Rattle.std.specs.Prelude.{◌≡◌, OnOk, true, false};
 
 use std::fs::{Metadata, OpenFile};
 use std::io;
@@ -15,7 +15,8 @@ pub struct OutputFile<F> {
 impl<F> OutputFile<F> {
     /// Of a file that was opened and not truncated.
     pub fn new(file: F) -> Self
-        ensures { result.file ≡ file }
+        ensures file { result.file ≡ file }
+        ensures begun { result.is_begun ≡ false }
     {
         OutputFile {
             file,
@@ -32,7 +33,8 @@ impl<F: OpenFile> OutputFile<F> {
     /// Truncates a regular file before its first byte is written. Streams and devices have nothing to truncate, and a new file
     /// is left alone: ext4 writes a file that was truncated to the disk when it is closed, which takes as long again.
     fn begin(&mut self) -> io::Result<()>
-        ensures { self.new.file ≡ self.old.file }
+        ensures file { self.new.file ≡ self.old.file }
+        ensures begun { OnOk result (self.new.is_begun ≡ true) }
     {
         if self.is_begun {
             return Ok(());
