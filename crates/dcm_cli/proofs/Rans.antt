@@ -102,13 +102,13 @@ module _ (limit : ℕ) (input out : List ℕ) (verdict : Verdict) (h : BuildEnds
 edits_given : (edits : List Edit) (input out : List ℕ) (verdict : Verdict) → length edits ≤ 64 → ReadEnds (modify edits) input out verdict → Given (modify edits) input out verdict
 edits_given edits input out verdict few h = reads_given (modify edits) input out verdict (λ set. few_edits 64 edits set few) (λ a reads. reads) h
 
-given : (job : RunJob) → IsMeant (job_of job) → (input out : List ℕ) (verdict : Verdict) → Answered (job_of job) input out verdict → Given (job_of job) input out verdict
+given : {A : Type 0} (job : RunJob A) → IsMeant (job_of job) → (input out : List ℕ) (verdict : Verdict) → Answered (job_of job) input out verdict → Given (job_of job) input out verdict
 given (Dump d) meant input out verdict h = reads_given (dump d.mode d.bare) input out verdict few_without (λ a reads. reads) h
 given (Convert c) meant input out verdict h = reads_given (convert c.target) input out verdict few_without (λ a reads. reads) h
 given (Build b) meant input out verdict h = built_given b.limit input out verdict h
 given (Modify edits) meant input out verdict h = edits_given edits input out verdict (are_few edits meant) h
 
-module _ (job : RunJob) (meant : IsMeant (job_of job)) (input : List ℕ) (left held worked holds told tells : Option (List ℕ)) (room : Option ℕ) (r_old r_new w_old w_mid w_new e_old e_new : Bool) (ending after : Ending) (status : ℕ)
+module _ {A : Type 0} (job : RunJob A) (meant : IsMeant (job_of job)) (input : List ℕ) (left held worked holds told tells : Option (List ℕ)) (room : Option ℕ) (r_old r_new w_old w_mid w_new e_old e_new : Bool) (ending after : Ending) (status : ℕ)
     (kept : holds ≡ worked) (flushed : FlushedAs ending after w_mid w_new room) (unread : TellsUnread r_old r_new ending) (failed : TellsOutput w_old w_mid ending)
     (line : Tries told tells e_old e_new (ending_lines after)) (status_was : status ≡ ending_status after) (readable : r_old ≡ false) (writable : w_old ≡ false) where
   abbrev devices : Devices

@@ -161,7 +161,7 @@ build_grows limit p later out a sure x =
 modify_grows : (edits : List Edit) → AreMeant edits → (p later out : List ℕ) (a : Answer) → Sure (modify edits) p out → Answers (modify edits) (p ++ later) a → (rest : List ℕ) × (a.output ≡ out ++ rest)
 modify_grows edits meant p later out a sure x = file_grows (modify edits) (file_editor edits meant) p later out a x.source sure x.answer_is x.reads
 
-pub sure_grows : (job : RunJob) (p later out : List ℕ) (a : Answer) → IsMeant (job_of job) → Sure (job_of job) p out → Answers (job_of job) (p ++ later) a → (rest : List ℕ) × (a.output ≡ out ++ rest)
+pub sure_grows : {A : Type 0} (job : RunJob A) (p later out : List ℕ) (a : Answer) → IsMeant (job_of job) → Sure (job_of job) p out → Answers (job_of job) (p ++ later) a → (rest : List ℕ) × (a.output ≡ out ++ rest)
 sure_grows (Dump d) p later out a meant sure x = dump_grows d.mode d.bare p later out a sure x
 sure_grows (Convert c) p later out a meant sure x = file_grows (convert c.target) (file_encoder c.target) p later out a x.source sure x.answer_is x.reads
 sure_grows (Build b) p later out a meant sure x = build_grows b.limit p later out a sure x

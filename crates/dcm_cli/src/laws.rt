@@ -17,6 +17,7 @@ ghost use Rattle.dcm_cli.specs.Run.{IsMeant};
 ghost use Rattle.dcm_words.specs.Plans.{job_of};
 ghost use Rattle.dcm_words.specs.Words as words;
 ghost use Rattle.std.specs.Prelude.{◌++◌, ◌≡◌, ◌⊎◌, List, Option, ℕ};
+ghost use Rattle.std.specs.declared.alloc.Global.{Global};
 
 /// A job has at most one answer to an input.
 pub fn answers_one()
@@ -31,7 +32,7 @@ pub fn answers_some()
 /// What is sure of a beginning of an input is a beginning of the output for every input that begins so. Edits are those that
 /// some words mean.
 pub fn sure_grows()
-    ensures { (job : Job) (p later out : List ℕ) (a : Answer) → IsMeant (job_of job) → Sure (job_of job) p out → Answers (job_of job) (p ++ later) a → (rest : List ℕ) × (a.output ≡ out ++ rest) }
+    ensures { (job : Job Global) (p later out : List ℕ) (a : Answer) → IsMeant (job_of job) → Sure (job_of job) p out → Answers (job_of job) (p ++ later) a → (rest : List ℕ) × (a.output ≡ out ++ rest) }
 {}
 
 /// Two runs in a row: the full dump of a file, and what it builds. Where the file is read without fault, its values are of whole

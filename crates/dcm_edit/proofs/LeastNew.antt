@@ -188,11 +188,11 @@ picked gap least (e ∷ es) = picked_before gap least e es _ (picked gap (asking
 
 -- ---- what the program finds
 
-tag_of_new : (new : New) → tag_seen (seen_of (Some new)) ≡ Some (new_tag new)
+tag_of_new : {A : Type 0} (new : New A) → tag_seen (seen_of (Some new)) ≡ Some (new_tag new)
 tag_of_new (news.Leaf e) = refl
 tag_of_new (news.Sequence tag) = refl
 
-some_new : (new : New) → seen_of (Some new) ≡ nothing_new → ⊥
+some_new : {A : Type 0} (new : New A) → seen_of (Some new) ≡ nothing_new → ⊥
 some_new (news.Leaf e) q = cc
 some_new (news.Sequence tag) q = cc
 
@@ -204,11 +204,11 @@ pub none_in_gap : (gap : Gap) (es : List Edit) → nothing_new ≡ asking.least_
 none_in_gap gap es q = sym (least_tag gap nothing_new es) ∙ ap tag_seen (sym q)
 
 -- its tag is the least one
-pub least_in_gap : (gap : Gap) (es : List Edit) (new : New) → seen_of (Some new) ≡ asking.least_new gap nothing_new es → least_new (in_gap gap) es ≡ Some (new_tag new)
+pub least_in_gap : {A : Type 0} (gap : Gap) (es : List Edit) (new : New A) → seen_of (Some new) ≡ asking.least_new gap nothing_new es → least_new (in_gap gap) es ≡ Some (new_tag new)
 least_in_gap gap es new q = sym (least_tag gap nothing_new es) ∙ ap tag_seen (sym q) ∙ tag_of_new new
 
 -- it is the first of its tag
-pub first_in_gap : (gap : Gap) (es : List Edit) (new : New) → seen_of (Some new) ≡ asking.least_new gap nothing_new es → seen (first_new (new_tag new) es) ≡ seen_of (Some new)
+pub first_in_gap : {A : Type 0} (gap : Gap) (es : List Edit) (new : New A) → seen_of (Some new) ≡ asking.least_new gap nothing_new es → seen (first_new (new_tag new) es) ≡ seen_of (Some new)
 first_in_gap gap es new q = by_picked (picked gap nothing_new es)
   where
     by_picked : Picked gap nothing_new es (asking.least_new gap nothing_new es) → seen (first_new (new_tag new) es) ≡ seen_of (Some new)
@@ -218,5 +218,5 @@ first_in_gap gap es new q = by_picked (picked gap nothing_new es)
         ap (λ (t : Tag). seen (first_new t es)) (sym same) ∙ sym k.is_first ∙ sym q
 
 -- a sequence of this tag
-pub is_sequence_at : (new : New) (tag : Tag) (es : List Edit) → new ≡ news.Sequence tag → seen (first_new (new_tag new) es) ≡ seen_of (Some new) → seen (first_new tag es) ≡ a_sequence tag
-is_sequence_at new tag es e h = subst (λ (n : New). seen (first_new (new_tag n) es) ≡ seen_of (Some n)) e h
+pub is_sequence_at : {A : Type 0} (new : New A) (tag : Tag) (es : List Edit) → new ≡ news.Sequence tag → seen (first_new (new_tag new) es) ≡ seen_of (Some new) → seen (first_new tag es) ≡ a_sequence tag
+is_sequence_at {A} new tag es e h = subst (λ (n : New A). seen (first_new (new_tag n) es) ≡ seen_of (Some n)) e h

@@ -16,7 +16,7 @@ use Rattle.dcm_edit.proofs.Steps.{steps_end, vr_end}
 abbrev Element : Type 0
 Element = Tag × Vr × List ℕ
 
-abbrev element_of : NewElement → Element
+abbrev element_of : {A : Type 0} → NewElement A → Element
 element_of e = (e.tag, e.vr, e.value.items)
 
 element_is : (r : Result (List ℕ) EditRefusal) (tag : Tag) (vr : Vr) (e : Element) → (r >>= λ v. Ok (tag, vr, v)) ≡ Ok e → (r ≡ Ok e.2) × (tag ≡ e.0) × (vr ≡ e.1)
@@ -43,10 +43,10 @@ valued_made f ks k text e p =
 valued_failed : (f : List ℕ → Edit) (ks : List Known) (k : Known) (text : List ℕ) (u : EditRefusal) → with_value k.tag k.vr text ≡ Err u → valued f (ks ++ k ∷ []) text ≡ Err u
 valued_failed f ks k text u p = at_last f ks k text ∙ ap (λ r. r >>= λ value. Ok (f value)) (element_failed (word_value k.vr text) k.tag k.vr u p)
 
-pub failed : (f : List ℕ → Edit) (ks : List Known) (k : Known) (text : List ℕ) (failure : Failure) → Makes element_of (Err failure) (with_value k.tag k.vr text)
-    → Makes edit_of (Err failure) (valued f (ks ++ k ∷ []) text)
-failed f ks k text (Refused u) p = valued_failed f ks k text u p
-failed f ks k text Memory p = tt
+pub failed : (A : Type 0) (f : List ℕ → Edit) (ks : List Known) (k : Known) (text : List ℕ) (failure : Failure) → Makes (element_of {A = A}) (Err failure) (with_value k.tag k.vr text)
+    → Makes (edit_of {A = A}) (Err failure) (valued f (ks ++ k ∷ []) text)
+failed A f ks k text (Refused u) p = valued_failed f ks k text u p
+failed A f ks k text Memory p = tt
 
 put_alike : (at_end : Tag → Vr → List ℕ → PathEdit) (ks : List Known) (k : Known) (e : Element) → (k.tag ≡ e.0) × (k.vr ≡ e.1)
     → on_path (on_steps (λ x. at_end x.tag x.vr e.2) (ks ++ k ∷ [])) ≡ on_path (steps_to ks (at_end e.0 e.1 e.2))
@@ -61,18 +61,18 @@ made at_end ks k text e p =
     let is = element_is (word_value k.vr text) k.tag k.vr e p in
     valued_made (λ value. on_path (on_steps (λ x. at_end x.tag x.vr value) (ks ++ k ∷ []))) ks k text e p ∙ ap Ok (put_alike at_end ks k e (is.1, is.2))
 
-pub inserted : (ks : List Known) (k : Known) (text : List ℕ) (e : NewElement) → with_value k.tag k.vr text ≡ Ok (element_of e)
+pub inserted : {A : Type 0} (ks : List Known) (k : Known) (text : List ℕ) (e : NewElement A) → with_value k.tag k.vr text ≡ Ok (element_of e)
     → valued_edit inserts (ks ++ k ∷ []) text ≡ Ok (on_path (steps_to ks (insert e.tag e.vr e.value.items)))
 inserted ks k text e p = made (λ tag vr value. insert tag vr value) ks k text (element_of e) p
 
-pub modified : (ks : List Known) (k : Known) (text : List ℕ) (e : NewElement) → with_value k.tag k.vr text ≡ Ok (element_of e)
+pub modified : {A : Type 0} (ks : List Known) (k : Known) (text : List ℕ) (e : NewElement A) → with_value k.tag k.vr text ≡ Ok (element_of e)
     → valued_edit modifies (ks ++ k ∷ []) text ≡ Ok (on_path (steps_to ks (modify e.tag e.vr e.value.items)))
 modified ks k text e p = made (λ tag vr value. modify tag vr value) ks k text (element_of e) p
 
 pub erased : (ks : List Known) (k : Known) (text : List ℕ) → valued_edit erases (ks ++ k ∷ []) text ≡ Ok (on_path (steps_to ks (item_or_element k.tag k.index)))
 erased ks k text = ap (λ p. Ok (on_path p)) (steps_end (λ x. item_or_element x.tag x.index) ks k)
 
-pub modified_all : (ks : List Known) (k : Known) (text : List ℕ) (e : NewElement) → ks ≡ [] → with_value k.tag k.vr text ≡ Ok (element_of e)
+pub modified_all : {A : Type 0} (ks : List Known) (k : Known) (text : List ℕ) (e : NewElement A) → ks ≡ [] → with_value k.tag k.vr text ≡ Ok (element_of e)
     → valued_edit modifies_all (ks ++ k ∷ []) text ≡ Ok (modify_all e.tag e.vr e.value.items)
 modified_all [] k text e p q =
     let is = element_is (word_value k.vr text) k.tag k.vr (element_of e) q in

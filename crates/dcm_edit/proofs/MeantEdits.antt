@@ -14,14 +14,14 @@ use Rattle.dcm_edit.proofs.WordValues.{edits_fit}
 pub few_meant : (edits : List Edit) → AreMeant edits → length edits ≤ 64
 few_meant edits m = few m.words edits m.mean
 
-pub few_listed : (list : List AnEdit) (edits : List Edit) → map edit_of list ≡ edits → AreMeant edits → length list ≤ 64
+pub few_listed : {A : Type 0} (list : List (AnEdit A)) (edits : List Edit) → map edit_of list ≡ edits → AreMeant edits → length list ≤ 64
 few_listed list edits is m =
     let size : length (map edit_of list) ≡ length list = length-map list edit_of in
     let same : length (map edit_of list) ≡ length edits = ap (λ (es : List Edit). length es) is in
     let most : length edits ≤ 64 = few_meant edits m in
     omega (arith, size, same, most)
 
-pub short_listed : (list : List AnEdit) (edits : List Edit) → map edit_of list ≡ edits → AreMeant edits → AreWithin 64 (map edit_of list)
+pub short_listed : {A : Type 0} (list : List (AnEdit A)) (edits : List Edit) → map edit_of list ≡ edits → AreMeant edits → AreWithin 64 (map edit_of list)
 short_listed list edits is m = subst (AreWithin 64) (sym is) (edits_fit m.words edits m.mean).2
 
 pub sound_meant : (edits : List Edit) → AreMeant edits → IsSound (begun edits)

@@ -38,21 +38,21 @@ passed : (n : ℕ) (earlier : List Edit) (e : Edit) (es : List Edit) → overlap
 passed n earlier e es p = passed_by (overlaps_one earlier e) n _ p ∙ alike (suc n) (e ∷ earlier) (earlier ++ e ∷ []) es (λ x. sym (one_more earlier e x))
 
 -- the edits from place i on, after those before it
-abbrev pub from_place : ℕ → List declared.Edit → Option ℕ
+abbrev pub from_place : {A : Type 0} → ℕ → List (declared.Edit A) → Option ℕ
 from_place i es = first_overlap (i + 1) (map edit_of (take i es)) (map edit_of (drop i es))
 
-taken : (i : ℕ) (es : List declared.Edit) (d : declared.Edit) → i < length es → take (suc i) es ≡ take i es ++ get_or es i d ∷ []
+taken : {A : Type 0} (i : ℕ) (es : List (declared.Edit A)) (d : declared.Edit A) → i < length es → take (suc i) es ≡ take i es ++ get_or es i d ∷ []
 taken i [] d h = absurd (omega arith)
 taken zero (e ∷ es) d h = refl
 taken (suc i) (e ∷ es) d h = ap (λ l. e ∷ l) (taken i es d (omega arith))
 
-pub goes_on : (i : ℕ) (es : List declared.Edit) (e : declared.Edit) → i < length es → e ≡ get_or es i e → false ≡ overlaps_one (map edit_of (take i es)) (edit_of e)
+pub goes_on : {A : Type 0} (i : ℕ) (es : List (declared.Edit A)) (e : declared.Edit A) → i < length es → e ≡ get_or es i e → false ≡ overlaps_one (map edit_of (take i es)) (edit_of e)
     → from_place (i + 1) es ≡ from_place i es
-goes_on i es e h g p =
+goes_on {A} i es e h g p =
     let front : map edit_of (take (suc i) es) ≡ map edit_of (take i es) ++ edit_of e ∷ [] =
-    ap (map edit_of) (taken i es e h) ∙ map-append edit_of (take i es) (get_or es i e ∷ []) ∙ ap (λ (x : declared.Edit). map edit_of (take i es) ++ edit_of x ∷ []) (sym g) in
+    ap (map edit_of) (taken i es e h) ∙ map-append edit_of (take i es) (get_or es i e ∷ []) ∙ ap (λ (x : declared.Edit A). map edit_of (take i es) ++ edit_of x ∷ []) (sym g) in
     let back : map edit_of (drop i es) ≡ edit_of e ∷ map edit_of (drop (suc i) es) =
-    ap (map edit_of) (drop-cons es i e h) ∙ ap (λ (x : declared.Edit). edit_of x ∷ map edit_of (drop (suc i) es)) (sym g) in
+    ap (map edit_of) (drop-cons es i e h) ∙ ap (λ (x : declared.Edit A). edit_of x ∷ map edit_of (drop (suc i) es)) (sym g) in
     ap (λ k. first_overlap (k + 1) (map edit_of (take k es)) (map edit_of (drop k es))) (add-one i)
     ∙ ap (λ n. first_overlap n (map edit_of (take (suc i) es)) (map edit_of (drop (suc i) es))) (counts i)
     ∙ ap (λ l. first_overlap (suc (i + 1)) l (map edit_of (drop (suc i) es))) front

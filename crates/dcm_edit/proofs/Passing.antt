@@ -35,7 +35,7 @@ kept : (d : ℕ) (atoms : List Atom) → d ≡ 0 → unless_dropped d atoms ≡ 
 kept d atoms e = ap (λ (n : ℕ). unless_dropped n atoms) e
 
 -- the edits that are asked, by the number of levels
-pub same_asked : (edits : List AnEdit) (e : Editor) → (meant edits e).level.edits ≡ asked_here edits e
+pub same_asked : {A : Type 0} (edits : List (AnEdit A)) (e : Editor) → (meant edits e).level.edits ≡ asked_here edits e
 same_asked edits e = ap (λ (n : ℕ). masks.asked n e.level.mask 0 (map edit_of edits)) (length-map (reverse e.outermost_first.items) level_of)
 
 new_then : (x : Trees) (atoms : List Atom) → trees_then Little x atoms ≡ trees_then Little x [] ++ atoms
@@ -44,13 +44,13 @@ new_then x atoms = trees_then-append Little x [] atoms
 abbrev row_of : Trees → List Atom
 row_of x = trees_then Little x []
 
-pub head_passed : (edits : List AnEdit) (e : Editor) (tag : Tag) (vr : Vr) (declared : Length) (syntax : Syntax) → depth e.skip ≡ 0
+pub head_passed : {A : Type 0} (edits : List (AnEdit A)) (e : Editor) (tag : Tag) (vr : Vr) (declared : Length) (syntax : Syntax) → depth e.skip ≡ 0
     → row_of (missing edits e (Some tag)) ++ head_by (first_fate (asked_here edits e) tag) tag (opens tag vr declared syntax) ≡ passed (meant edits e) (opens tag vr declared syntax)
 head_passed edits e tag vr declared syntax none =
     let of = λ (es : List Edit). new_ones (is_between e.level.last tag) es (head_by (first_fate es tag) tag (opens tag vr declared syntax)) in
     sym (kept (depth e.skip) (of (meant edits e).level.edits) none ∙ ap of (same_asked edits e) ∙ new_then (missing edits e (Some tag)) (head_by (first_fate (asked_here edits e) tag) tag (opens tag vr declared syntax)))
 
-pub item_passed : (edits : List AnEdit) (e : Editor) (declared : Length) (b : Bool) → depth e.skip ≡ 0 → b ≡ erases_next edits e e.level.last → passed (meant edits e) (opens_item declared) ≡ (if b then [] else opens_item declared ∷ [])
+pub item_passed : {A : Type 0} (edits : List (AnEdit A)) (e : Editor) (declared : Length) (b : Bool) → depth e.skip ≡ 0 → b ≡ erases_next edits e e.level.last → passed (meant edits e) (opens_item declared) ≡ (if b then [] else opens_item declared ∷ [])
 item_passed edits e declared b none is =
     let of = λ (es : List Edit). item_head_by es e.level.last e.level.items (opens_item declared) in
     kept (depth e.skip) (of (meant edits e).level.edits) none ∙ ap of (same_asked edits e) ∙ by_last e.level.last is
@@ -63,14 +63,14 @@ with_none : (a : Atom) (xs : List Atom) → xs ++ a ∷ [] ≡ (xs ++ a ∷ []) 
 with_none a [] = refl
 with_none a (x ∷ xs) = ap (λ (ys : List Atom). x ∷ ys) (with_none a xs)
 
-ending : (edits : List AnEdit) (e : Editor) (a : Atom) → depth e.skip ≡ 0
+ending : {A : Type 0} (edits : List (AnEdit A)) (e : Editor) (a : Atom) → depth e.skip ≡ 0
     → row_of (missing edits e None) ++ a ∷ [] ≡ unless_dropped (depth e.skip) (new_ones (above_last e.level.last) (meant edits e).level.edits (a ∷ [])) ++ []
 ending edits e a none =
     let of = λ (es : List Edit). new_ones (above_last e.level.last) es (a ∷ []) in
     with_none a (row_of (missing edits e None))
     ∙ ap (λ (xs : List Atom). xs ++ []) (sym (kept (depth e.skip) (of (meant edits e).level.edits) none ∙ ap of (same_asked edits e) ∙ new_then (missing edits e None) (a ∷ [])))
 
-pub end_passed : (edits : List AnEdit) (e : Editor) (atoms : List Atom) → depth e.skip ≡ 0 → IsEnd atoms → row_of (missing edits e None) ++ atoms ≡ outputs next passed (meant edits e) atoms
+pub end_passed : {A : Type 0} (edits : List (AnEdit A)) (e : Editor) (atoms : List Atom) → depth e.skip ≡ 0 → IsEnd atoms → row_of (missing edits e None) ++ atoms ≡ outputs next passed (meant edits e) atoms
 end_passed edits e atoms none (inl is) =
     ap (λ (xs : List Atom). row_of (missing edits e None) ++ xs) is ∙ ending edits e closes_item none ∙ ap (outputs next passed (meant edits e)) (sym is)
 end_passed edits e atoms none (inr is) =

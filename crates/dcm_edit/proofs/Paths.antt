@@ -16,7 +16,7 @@ use Rattle.dcm_edit.specs.Meaning.{index_of, action_of, along}
 use Rattle.dcm_edit.specs.Masks.{rest_of_path, at_depth, goes_along}
 use Rattle.dcm_edit.specs.Asking.{is_first, sequence_on, Seen, nothing_new, a_value, a_sequence, seen}
 
-rest_of_action : (d : ℕ) (a : Action) → rest_of_path d (action_of a) ≡ action_of a
+rest_of_action : {A : Type 0} (d : ℕ) (a : Action A) → rest_of_path d (action_of a) ≡ action_of a
 rest_of_action zero a = refl
 rest_of_action (suc d) (actions.Insert e) = refl
 rest_of_action (suc d) (actions.Modify e) = refl
@@ -24,13 +24,13 @@ rest_of_action (suc d) (actions.Erase tag) = refl
 rest_of_action (suc d) (actions.EraseItem s) = refl
 
 -- the steps that are left
-pub rest_along : (d : ℕ) (steps : List Step) (a : Action) → rest_of_path d (along steps (action_of a)) ≡ along (drop d steps) (action_of a)
+pub rest_along : {A : Type 0} (d : ℕ) (steps : List Step) (a : Action A) → rest_of_path d (along steps (action_of a)) ≡ along (drop d steps) (action_of a)
 rest_along zero steps a = refl
 rest_along (suc d) [] a = rest_of_action (suc d) a
 rest_along (suc d) (s ∷ steps) a = rest_along d steps a
 
 -- none
-pub rest_at_end : (d : ℕ) (steps : List Step) (a : Action) → length steps ≤ d → rest_of_path d (along steps (action_of a)) ≡ action_of a
+pub rest_at_end : {A : Type 0} (d : ℕ) (steps : List Step) (a : Action A) → length steps ≤ d → rest_of_path d (along steps (action_of a)) ≡ action_of a
 rest_at_end d [] a l = rest_of_action d a
 rest_at_end zero (s ∷ steps) a l = absurd (omega (arith, l))
 rest_at_end (suc d) (s ∷ steps) a l = rest_at_end d steps a (omega (arith, l))
@@ -47,10 +47,10 @@ step_at zero (s ∷ steps) l = record { at = s; others = steps; is = refl }
 step_at (suc d) (s ∷ steps) l = let k = step_at d steps (omega (arith, l)) in record { at = k.at; others = k.others; is = k.is }
 
 -- the same, of a slice of the steps
-pub left_none : (d : ℕ) (slice steps : List Step) (a : Action) → slice ≡ steps → length slice ≤ d → rest_of_path d (along steps (action_of a)) ≡ action_of a
+pub left_none : {A : Type 0} (d : ℕ) (slice steps : List Step) (a : Action A) → slice ≡ steps → length slice ≤ d → rest_of_path d (along steps (action_of a)) ≡ action_of a
 left_none d slice steps a is l = rest_at_end d steps a (subst (λ (x : List Step). length x ≤ d) is l)
 
-pub left_some : (d : ℕ) (slice steps left : List Step) (a : Action) → slice ≡ steps → left ≡ drop d slice → rest_of_path d (along steps (action_of a)) ≡ along left (action_of a)
+pub left_some : {A : Type 0} (d : ℕ) (slice steps left : List Step) (a : Action A) → slice ≡ steps → left ≡ drop d slice → rest_of_path d (along steps (action_of a)) ≡ along left (action_of a)
 left_some d slice steps left a is from = rest_along d steps a ∙ ap (λ (x : List Step). along x (action_of a)) (sym (from ∙ ap (drop d) is))
 
 -- nothing is done at an element or item where steps are left
@@ -159,7 +159,7 @@ by_index (indexes.Number zero) tag steps edit x e = around_seen tag (new_element
 by_index (indexes.Number (suc n)) tag steps edit x e = sym (ap (λ (b : Bool). sequence_if (b && leads steps) tag x) (not_first n))
 by_index indexes.Every tag steps edit x e = refl
 
-new_before : (steps : List Step) (a : Action) → seen (new_element (along steps (action_of a))) ≡ before_steps steps (seen (new_element (action_of a)))
+new_before : {A : Type 0} (steps : List Step) (a : Action A) → seen (new_element (along steps (action_of a))) ≡ before_steps steps (seen (new_element (action_of a)))
 new_before [] a = refl
 new_before (s ∷ steps) a = by_index s.index s.tag steps (along steps (action_of a)) (seen (new_element (action_of a))) (new_before steps a)
 
@@ -183,20 +183,20 @@ value_before (s ∷ steps) t vr value l = by_test (leads (s ∷ steps))
     by_test true = refl
     by_test false = refl
 
-abbrev at_path : ℕ → List Step → Action → Seen
+abbrev at_path : {A : Type 0} → ℕ → List Step → Action A → Seen
 at_path d steps a = seen (new_element (rest_of_path d (along steps (action_of a))))
 
 -- what is seen where these steps are left
-pub left_seen : (p : PathEdit) (left : List Step) (a : Action) (x : Seen) → p ≡ along left (action_of a) → x ≡ seen (new_element (action_of a)) → seen (new_element p) ≡ before_steps left x
+pub left_seen : {A : Type 0} (p : PathEdit) (left : List Step) (a : Action A) (x : Seen) → p ≡ along left (action_of a) → x ≡ seen (new_element (action_of a)) → seen (new_element p) ≡ before_steps left x
 left_seen p left a x is e = ap (λ (q : PathEdit). seen (new_element q)) is ∙ new_before left a ∙ ap (before_steps left) (sym e)
 
-pub none_left : (p : PathEdit) (left : List Step) (a : Action) → p ≡ along left (action_of a) → nothing_new ≡ seen (new_element (action_of a)) → nothing_new ≡ seen (new_element p)
+pub none_left : {A : Type 0} (p : PathEdit) (left : List Step) (a : Action A) → p ≡ along left (action_of a) → nothing_new ≡ seen (new_element (action_of a)) → nothing_new ≡ seen (new_element p)
 none_left p left a is e = sym (left_seen p left a nothing_new is e ∙ nothing_before left)
 
-pub value_left : (p : PathEdit) (left : List Step) (a : Action) (x : Seen) → p ≡ along left (action_of a) → x ≡ seen (new_element (action_of a)) → left ≡ [] → x ≡ seen (new_element p)
+pub value_left : {A : Type 0} (p : PathEdit) (left : List Step) (a : Action A) (x : Seen) → p ≡ along left (action_of a) → x ≡ seen (new_element (action_of a)) → left ≡ [] → x ≡ seen (new_element p)
 value_left p left a x is e none = sym (left_seen p left a x is e ∙ ap (λ (l : List Step). before_steps l x) none)
 
-pub sequence_left : (p : PathEdit) (left : List Step) (a : Action) (t : Tag) (vr : Vr) (value : List ℕ) (o : Option Tag) → p ≡ along left (action_of a) → a_value t vr value ≡ seen (new_element (action_of a)) → false ≡ (length left == 0) → o ≡ sequence_on left
+pub sequence_left : {A : Type 0} (p : PathEdit) (left : List Step) (a : Action A) (t : Tag) (vr : Vr) (value : List ℕ) (o : Option Tag) → p ≡ along left (action_of a) → a_value t vr value ≡ seen (new_element (action_of a)) → false ≡ (length left == 0) → o ≡ sequence_on left
     → sequence_or o ≡ seen (new_element p)
 sequence_left p left a t vr value o is e some found = ap sequence_or found ∙ sym (left_seen p left a (a_value t vr value) is e ∙ value_before left t vr value (some_length (length left) some))
   where

@@ -97,7 +97,7 @@ state_with level outer dropped found = record { level = level; outer = outer; dr
 alike : (l : Level) (o : List Level) (d e : ℕ) (f g : List Bool) → d ≡ e → f ≡ g → state_with l o d f ≡ state_with l o e g
 alike l o d e f g p q = cc
 
-module _ (edits : List AnEdit) (e : Editor) (tag : Tag) (left : true ≡ leaves edits e tag) where
+module _ {A : Type 0} (edits : List (AnEdit A)) (e : Editor) (tag : Tag) (left : true ≡ leaves edits e tag) where
   none_here : any_answer (Meets tag e.level.last) (meant edits e).level.edits ≡ false
   none_here =
       let x = both (not (is_open (depth e.skip))) (not (any_answer (Meets tag e.level.last) (asked_here edits e))) left in

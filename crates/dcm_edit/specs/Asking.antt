@@ -28,7 +28,7 @@ is_first (number n) = n == 0
 is_first every = false
 
 -- what becomes of an element, as the program says it
-abbrev pub fate_of : Fate → spec.Fate
+abbrev pub fate_of : {A : Type 0} → Fate A → spec.Fate
 fate_of fates.Stays = spec.stays
 fate_of (fates.Becomes e) = spec.becomes e.now.vr e.now.value.items
 fate_of fates.Goes = spec.goes
@@ -44,12 +44,12 @@ seen no_element = nothing_new
 seen (new_leaf tag vr value) = a_value tag vr value
 seen (new_sequence tag held) = a_sequence tag
 
-abbrev pub seen_of : Option New → Seen
+abbrev pub seen_of : {A : Type 0} → Option (New A) → Seen
 seen_of None = nothing_new
 seen_of (Some (news.Leaf e)) = a_value e.now.tag e.now.vr e.now.value.items
 seen_of (Some (news.Sequence tag)) = a_sequence tag
 
-abbrev pub seen_value : Option (Bor Element) → Seen
+abbrev pub seen_value : {A : Type 0} → Option (Bor (Element A)) → Seen
 seen_value None = nothing_new
 seen_value (Some e) = a_value e.now.tag e.now.vr e.now.value.items
 
@@ -58,7 +58,7 @@ abbrev pub sequence_on : List Step → Option Tag
 sequence_on [] = None
 sequence_on (s ∷ steps) = if list_all (λ x. is_first (index_of x.index)) (s ∷ steps) then Some s.tag else None
 
-abbrev pub new_tag : New → Tag
+abbrev pub new_tag : {A : Type 0} → New A → Tag
 new_tag (news.Leaf e) = e.now.tag
 new_tag (news.Sequence tag) = tag
 

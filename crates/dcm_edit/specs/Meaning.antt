@@ -16,7 +16,7 @@ abbrev pub index_of : Index → spec.Index
 index_of (Number n) = spec.number n
 index_of Every = spec.every
 
-abbrev pub action_of : Action → spec.PathEdit
+abbrev pub action_of : {A : Type 0} → Action A → spec.PathEdit
 action_of (Insert e) = spec.insert e.tag e.vr e.value.items
 action_of (Modify e) = spec.modify e.tag e.vr e.value.items
 action_of (Erase tag) = spec.erase tag
@@ -27,10 +27,10 @@ abbrev pub along : List Step → spec.PathEdit → spec.PathEdit
 along [] edit = edit
 along (s ∷ steps) edit = spec.step s.tag (index_of s.index) (along steps edit)
 
-abbrev pub path_edit_of : PathEdit → spec.PathEdit
+abbrev pub path_edit_of : {A : Type 0} → PathEdit A → spec.PathEdit
 path_edit_of p = along p.steps.items (action_of p.action)
 
-abbrev pub edit_of : Edit → spec.Edit
+abbrev pub edit_of : {A : Type 0} → Edit A → spec.Edit
 edit_of (OnPath p) = spec.on_path (path_edit_of p)
 edit_of (ModifyAll e) = spec.modify_all e.tag e.vr e.value.items
 edit_of (EraseAll tag) = spec.erase_all tag

@@ -12,19 +12,20 @@ ghost use Rattle.dcm_edit.specs.Meaning.{index_of, action_of, along, path_edit_o
 
 use crate::edit::{Action, Edit, Index, NewElement, PathEdit, Step};
 use dcm_base::Tag;
+use std::alloc::Allocator;
 
 /// What becomes of an element.
-#[derive(Clone, Copy)]
-pub enum Fate<'e> {
+#[derive_where(Clone, Copy)]
+pub enum Fate<'e, A: Allocator> {
     Stays,
-    Becomes(&'e NewElement),
+    Becomes(&'e NewElement<A>),
     Goes,
 }
 
 /// A new element that a data set lacks: its value, or the sequence on the way to it.
-#[derive(Clone, Copy)]
-pub enum New<'e> {
-    Leaf(&'e NewElement),
+#[derive_where(Clone, Copy)]
+pub enum New<'e, A: Allocator> {
+    Leaf(&'e NewElement<A>),
     Sequence(Tag),
 }
 
@@ -100,7 +101,7 @@ impl Gap {
     }
 }
 
-impl New<'_> {
+impl<A: Allocator> New<'_, A> {
     pub fn tag(&self) -> Tag
         ensures { result ≡ asking.new_tag self.now }
     {
@@ -111,7 +112,7 @@ impl New<'_> {
     }
 }
 
-fn becomes_if(element: &NewElement, tag: Tag) -> Fate<'_>
+fn becomes_if<A: Allocator>(element: &NewElement<A>, tag: Tag) -> Fate<'_, A>
     ensures { asking.fate_of result ≡ (if same_tag element.now.tag tag then spec.becomes element.now.vr element.now.value.items else spec.stays) }
 {
     if is_same(element.tag, tag) {
@@ -121,25 +122,19 @@ fn becomes_if(element: &NewElement, tag: Tag) -> Fate<'_>
     }
 }
 
-fn goes_if(goes: bool) -> Fate<'static>
-    ensures { asking.fate_of result ≡ (if goes then spec.goes else spec.stays) }
-{
-    if goes { Fate::Goes } else { Fate::Stays }
-}
-
-fn action_fate(action: &Action, tag: Tag) -> Fate<'_>
+fn action_fate<A: Allocator>(action: &Action<A>, tag: Tag) -> Fate<'_, A>
     ensures { asking.fate_of result ≡ spec.path_fate (action_of action.now) tag }
 {
     match action {
         Action::Insert(element) => becomes_if(element, tag),
         Action::Modify(element) => becomes_if(element, tag),
-        Action::Erase(erased) => goes_if(is_same(*erased, tag)),
-        Action::EraseItem(_) => Fate::Stays,
+        Action::Erase(erased) if is_same(*erased, tag) => Fate::Goes,
+        Action::Erase(_) | Action::EraseItem(_) => Fate::Stays,
     }
 }
 
 /// The steps of a path that are left after so many.
-fn steps_left(path: &PathEdit, depth: usize) -> &[Step]
+fn steps_left<A: Allocator>(path: &PathEdit<A>, depth: usize) -> &[Step]
     ensures { masks.rest_of_path depth (path_edit_of path.now) ≡ along result.now (action_of path.now.action) }
 {
     let steps = path.steps.as_slice();
@@ -150,7 +145,7 @@ fn steps_left(path: &PathEdit, depth: usize) -> &[Step]
     left
 }
 
-fn path_fate(path: &PathEdit, depth: usize, tag: Tag) -> Fate<'_>
+fn path_fate<A: Allocator>(path: &PathEdit<A>, depth: usize, tag: Tag) -> Fate<'_, A>
     ensures { asking.fate_of result ≡ spec.path_fate (masks.rest_of_path depth (path_edit_of path.now)) tag }
 {
     match steps_left(path, depth) {
@@ -160,18 +155,19 @@ fn path_fate(path: &PathEdit, depth: usize, tag: Tag) -> Fate<'_>
 }
 
 /// What becomes of an element with this tag.
-pub fn fate_by(edit: &Edit, depth: usize, tag: Tag) -> Fate<'_>
+pub fn fate_by<A: Allocator>(edit: &Edit<A>, depth: usize, tag: Tag) -> Fate<'_, A>
     ensures { asking.fate_of result ≡ spec.fate (masks.at_depth depth (edit_of edit.now)) tag }
 {
     match edit {
         Edit::OnPath(path) => path_fate(path, depth, tag),
         Edit::ModifyAll(element) => becomes_if(element, tag),
-        Edit::EraseAll(erased) => goes_if(is_same(*erased, tag)),
-        Edit::ErasePrivate => goes_if(is_private(tag)),
+        Edit::EraseAll(erased) if is_same(*erased, tag) => Fate::Goes,
+        Edit::ErasePrivate if is_private(tag) => Fate::Goes,
+        Edit::EraseAll(_) | Edit::ErasePrivate => Fate::Stays,
     }
 }
 
-fn action_erases(action: &Action, tag: Tag, item: u32) -> bool
+fn action_erases<A: Allocator>(action: &Action<A>, tag: Tag, item: u32) -> bool
     ensures { result ≡ spec.erases (spec.on_path (action_of action.now)) tag item }
 {
     match action {
@@ -180,7 +176,7 @@ fn action_erases(action: &Action, tag: Tag, item: u32) -> bool
     }
 }
 
-fn path_erases(path: &PathEdit, depth: usize, tag: Tag, item: u32) -> bool
+fn path_erases<A: Allocator>(path: &PathEdit<A>, depth: usize, tag: Tag, item: u32) -> bool
     ensures { result ≡ spec.erases (spec.on_path (masks.rest_of_path depth (path_edit_of path.now))) tag item }
 {
     match steps_left(path, depth) {
@@ -189,7 +185,7 @@ fn path_erases(path: &PathEdit, depth: usize, tag: Tag, item: u32) -> bool
     }
 }
 
-fn erases(edit: &Edit, depth: usize, tag: Tag, item: u32) -> bool
+fn erases<A: Allocator>(edit: &Edit<A>, depth: usize, tag: Tag, item: u32) -> bool
     ensures { result ≡ spec.erases (masks.at_depth depth (edit_of edit.now)) tag item }
 {
     match edit {
@@ -199,7 +195,7 @@ fn erases(edit: &Edit, depth: usize, tag: Tag, item: u32) -> bool
 }
 
 /// Whether the next step of a path leads into this item.
-fn leads_into(path: &PathEdit, depth: usize, tag: Tag, item: u32) -> bool
+fn leads_into<A: Allocator>(path: &PathEdit<A>, depth: usize, tag: Tag, item: u32) -> bool
     ensures { result ≡ masks.goes_along (spec.on_path (masks.rest_of_path depth (path_edit_of path.now))) tag item }
 {
     match steps_left(path, depth) {
@@ -208,7 +204,7 @@ fn leads_into(path: &PathEdit, depth: usize, tag: Tag, item: u32) -> bool
     }
 }
 
-fn goes_along(edit: &Edit, depth: usize, tag: Tag, item: u32) -> bool
+fn goes_along<A: Allocator>(edit: &Edit<A>, depth: usize, tag: Tag, item: u32) -> bool
     ensures { result ≡ masks.goes_along (masks.at_depth depth (edit_of edit.now)) tag item }
 {
     match edit {
@@ -234,7 +230,7 @@ fn lead_to_first_items(steps: &[Step]) -> bool
 }
 
 /// The element that is put where it is missing, if the action puts one.
-fn inserted(action: &Action) -> Option<&NewElement>
+fn inserted<A: Allocator>(action: &Action<A>) -> Option<&NewElement<A>>
     ensures { asking.seen_value result ≡ asking.seen (spec.new_element (action_of action.now)) }
 {
     match action {
@@ -253,7 +249,7 @@ fn sequence_on(steps: &[Step]) -> Option<Tag>
     }
 }
 
-fn path_new(path: &PathEdit, depth: usize) -> Option<New<'_>>
+fn path_new<A: Allocator>(path: &PathEdit<A>, depth: usize) -> Option<New<'_, A>>
     ensures { asking.seen_of result ≡ asking.seen (spec.new_element (masks.rest_of_path depth (path_edit_of path.now))) }
 {
     let left = steps_left(path, depth);
@@ -268,7 +264,7 @@ fn path_new(path: &PathEdit, depth: usize) -> Option<New<'_>>
 }
 
 /// What an edit puts where the data set lacks it.
-pub fn new_element(edit: &Edit, depth: usize) -> Option<New<'_>>
+pub fn new_element<A: Allocator>(edit: &Edit<A>, depth: usize) -> Option<New<'_, A>>
     ensures { asking.seen_of result ≡ asking.seen (spec.element_of (masks.at_depth depth (edit_of edit.now))) }
 {
     match edit {
@@ -278,14 +274,14 @@ pub fn new_element(edit: &Edit, depth: usize) -> Option<New<'_>>
 }
 
 /// A value has its place in each data set that is selected.
-pub fn has_place(edit: &Edit, depth: usize) -> bool
+pub fn has_place<A: Allocator>(edit: &Edit<A>, depth: usize) -> bool
     ensures { result ≡ has_place_spec (spec.element_of (masks.at_depth depth (edit_of edit.now))) }
 {
     matches!(new_element(edit, depth), Some(New::Leaf(_)))
 }
 
 /// Whether a value has its place in this item, as in each data set that is selected.
-fn has_place_in(edit: &Edit, depth: usize, tag: Tag, item: u32) -> bool
+fn has_place_in<A: Allocator>(edit: &Edit<A>, depth: usize, tag: Tag, item: u32) -> bool
     requires { depth < 2 ^ 32 }
     ensures { result ≡ has_place_spec (spec.element_of (spec.within (masks.at_depth depth (edit_of edit.now)) tag item)) }
 {
@@ -293,7 +289,7 @@ fn has_place_in(edit: &Edit, depth: usize, tag: Tag, item: u32) -> bool
 }
 
 /// A sequence on the way has its place where it is put.
-fn makes(edit: &Edit, depth: usize, gap: Gap) -> bool
+fn makes<A: Allocator>(edit: &Edit<A>, depth: usize, gap: Gap) -> bool
     ensures { result ≡ makes_spec (asking.in_gap gap) (spec.element_of (masks.at_depth depth (edit_of edit.now))) }
 {
     match new_element(edit, depth) {
@@ -303,7 +299,7 @@ fn makes(edit: &Edit, depth: usize, gap: Gap) -> bool
 }
 
 /// Whether it puts an element in a gap.
-fn fills(edit: &Edit, depth: usize, gap: Gap) -> bool
+fn fills<A: Allocator>(edit: &Edit<A>, depth: usize, gap: Gap) -> bool
     ensures { result ≡ passes_new (asking.in_gap gap) (spec.element_of (masks.at_depth depth (edit_of edit.now))) }
 {
     match new_element(edit, depth) {
@@ -313,14 +309,14 @@ fn fills(edit: &Edit, depth: usize, gap: Gap) -> bool
 }
 
 /// Whether an element with this tag does not stay as it is.
-fn acts(edit: &Edit, depth: usize, tag: Tag) -> bool
+fn acts<A: Allocator>(edit: &Edit<A>, depth: usize, tag: Tag) -> bool
     ensures { result ≡ spec.acts (spec.fate (masks.at_depth depth (edit_of edit.now)) tag) }
 {
     !matches!(fate_by(edit, depth, tag), Fate::Stays)
 }
 
 /// Whether it changes an element with this tag, or puts another one between the last one and it.
-pub fn meets(edit: &Edit, depth: usize, tag: Tag, last: Option<Tag>) -> bool
+pub fn meets<A: Allocator>(edit: &Edit<A>, depth: usize, tag: Tag, last: Option<Tag>) -> bool
     ensures { result ≡ asking.answer_of (Meets tag last) (masks.at_depth depth (edit_of edit.now)) }
 {
     let next = Some(tag);
@@ -328,7 +324,7 @@ pub fn meets(edit: &Edit, depth: usize, tag: Tag, last: Option<Tag>) -> bool
 }
 
 /// The answer of an edit that asks something of a data set within so many items.
-pub fn answers(edit: &Edit, depth: usize, question: Question) -> bool
+pub fn answers<A: Allocator>(edit: &Edit<A>, depth: usize, question: Question) -> bool
     requires { depth < 2 ^ 32 }
     ensures { result ≡ asking.answer_of question (masks.at_depth depth (edit_of edit.now)) }
 {

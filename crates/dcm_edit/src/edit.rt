@@ -2,6 +2,7 @@
 ghost use Rattle.std.specs.Prelude.{◌≤◌, length};
 
 use dcm_base::{Tag, Vr};
+use std::alloc::{Allocator, Global};
 
 /// Which items of a sequence a step leads into: one by its number, from 0, or every one.
 #[derive(Clone, Copy, Debug, PartialEq, Eq)]
@@ -19,20 +20,20 @@ pub struct Step {
 
 /// An element that an edit puts. Its value is in little endian order and has no pad byte.
 #[derive(Debug, Drop)]
-pub struct NewElement {
+pub struct NewElement<A: Allocator = Global> {
     pub tag: Tag,
     pub vr: Vr,
-    pub value: Vec<u8>,
+    pub value: Vec<u8, A>,
     ghost short: { length value.items ≤ 65536 },
 }
 
 /// What an edit does at the end of its path.
 #[derive(Debug, Drop)]
-pub enum Action {
+pub enum Action<A: Allocator = Global> {
     /// Replaces the element, or puts it where it is missing.
-    Insert(NewElement),
+    Insert(NewElement<A>),
     /// Replaces the element where it is there.
-    Modify(NewElement),
+    Modify(NewElement<A>),
     Erase(Tag),
     /// Erases items of a sequence.
     EraseItem(Step),
@@ -40,17 +41,17 @@ pub enum Action {
 
 /// An edit of the elements and items to which a path leads.
 #[derive(Debug, Drop)]
-pub struct PathEdit {
-    pub steps: Vec<Step>,
-    pub action: Action,
+pub struct PathEdit<A: Allocator = Global> {
+    pub steps: Vec<Step, A>,
+    pub action: Action<A>,
 }
 
 /// One edit.
 #[derive(Debug, Drop)]
-pub enum Edit {
-    OnPath(PathEdit),
+pub enum Edit<A: Allocator = Global> {
+    OnPath(PathEdit<A>),
     /// Replaces each element of the tag, at all depths.
-    ModifyAll(NewElement),
+    ModifyAll(NewElement<A>),
     /// Erases each element of the tag, at all depths.
     EraseAll(Tag),
     /// Erases each element of an odd group, at all depths.

@@ -17,6 +17,7 @@ use crate::mask::{all, answering, any_answers, any_meets, first_fate};
 use arrayvec::ArrayVec;
 use dcm_base::Tag;
 use dcm_stream::{Skip, Token};
+use std::alloc::Allocator;
 
 /// The most data sets that are open around another.
 pub const MOST_AROUND: usize = 64;
@@ -51,7 +52,7 @@ fn new_level(mask: u64) -> Level
 
 impl Editor {
     /// Before the first token of an input.
-    pub fn new(edits: &[Edit]) -> Editor
+    pub fn new<A: Allocator>(edits: &[Edit<A>]) -> Editor
         requires { length edits.now ≤ 64 }
         ensures { editing.meant edits.now result ≡ spec.begun (map edit_of edits.now) }
     {
@@ -73,7 +74,7 @@ impl Editor {
     }
 
     /// The edits that have found their place so far or find it here.
-    fn found_with(&self, edits: &[Edit], question: Question) -> u64
+    fn found_with<A: Allocator>(&self, edits: &[Edit<A>], question: Question) -> u64
         requires { length edits.now ≤ 64 }
         ensures { masks.bits result 0 (map edit_of edits.now) ≡ spec.either (masks.bits self.now.found 0 (map edit_of edits.now)) (map (asking.answer_of question) (editing.asked_here edits.now self.now)) }
     {
@@ -81,7 +82,7 @@ impl Editor {
     }
 
     /// What becomes of an element of the innermost data set.
-    pub fn fate_of<'e>(&self, edits: &'e [Edit], tag: Tag) -> Fate<'e>
+    pub fn fate_of<'e, A: Allocator>(&self, edits: &'e [Edit<A>], tag: Tag) -> Fate<'e, A>
         requires { length edits.now ≤ 64 }
         ensures { asking.fate_of result ≡ editing.first_fate edits.now self.now tag }
     {
@@ -89,7 +90,7 @@ impl Editor {
     }
 
     /// Whether no edit changes an element of the innermost data set, which is not dropped, or puts another one before it.
-    pub fn leaves(&self, edits: &[Edit], tag: Tag) -> bool
+    pub fn leaves<A: Allocator>(&self, edits: &[Edit<A>], tag: Tag) -> bool
         requires { length edits.now ≤ 64 }
         ensures { result ≡ editing.leaves edits.now self.now tag }
     {
@@ -98,7 +99,7 @@ impl Editor {
     }
 
     /// Whether the next item of the last element is erased.
-    pub fn erases_item(&self, edits: &[Edit], tag: Tag) -> bool
+    pub fn erases_item<A: Allocator>(&self, edits: &[Edit<A>], tag: Tag) -> bool
         requires { length edits.now ≤ 64 }
         ensures { result ≡ editing.any_erases edits.now self.now tag }
     {
@@ -107,7 +108,7 @@ impl Editor {
     }
 
     /// Whether the next item is erased, where there is an element that it belongs to.
-    pub fn erases_next(&self, edits: &[Edit]) -> bool
+    pub fn erases_next<A: Allocator>(&self, edits: &[Edit<A>]) -> bool
         requires { length edits.now ≤ 64 }
         ensures { result ≡ editing.erases_next edits.now self.now self.now.level.last }
     {
@@ -118,7 +119,7 @@ impl Editor {
     }
 
     /// After the head of an element.
-    fn open(&mut self, edits: &[Edit], tag: Tag)
+    fn open<A: Allocator>(&mut self, edits: &[Edit<A>], tag: Tag)
         requires { length edits.now ≤ 64 }
         ensures { (vr : AnyVr) (declared : AnyLength) (syntax : AnySyntax) → editing.meant edits.now self.new ≡ spec.next (editing.meant edits.now self.old) (opens tag vr declared syntax) }
     {
@@ -140,7 +141,7 @@ impl Editor {
     }
 
     /// After the head of an item of the element with this tag, where there is room for its data set.
-    fn enter_item(&mut self, edits: &[Edit], tag: Tag)
+    fn enter_item<A: Allocator>(&mut self, edits: &[Edit<A>], tag: Tag)
         requires few { length edits.now ≤ 64 }
         requires last { self.old.level.last ≡ Some tag }
         requires room { length self.old.outermost_first.items < 64 }
@@ -159,7 +160,7 @@ impl Editor {
     }
 
     /// After the head of an item.
-    fn open_item(&mut self, edits: &[Edit])
+    fn open_item<A: Allocator>(&mut self, edits: &[Edit<A>])
         requires { length edits.now ≤ 64 }
         ensures { (declared : AnyLength) → editing.meant edits.now self.new ≡ spec.next (editing.meant edits.now self.old) (opens_item declared) }
     {
@@ -177,7 +178,7 @@ impl Editor {
     }
 
     /// At the end of the innermost data set.
-    fn end_set(&mut self, edits: &[Edit])
+    fn end_set<A: Allocator>(&mut self, edits: &[Edit<A>])
         requires { length edits.now ≤ 64 }
         ensures { editing.meant edits.now self.new ≡ spec.next (editing.meant edits.now self.old) ends }
     {
@@ -185,7 +186,7 @@ impl Editor {
     }
 
     /// After the end of an item.
-    fn close_item(&mut self, edits: &[Edit])
+    fn close_item<A: Allocator>(&mut self, edits: &[Edit<A>])
         requires { length edits.now ≤ 64 }
         ensures { editing.meant edits.now self.new ≡ spec.next (editing.meant edits.now self.old) closes_item }
     {
@@ -205,7 +206,7 @@ impl Editor {
     }
 
     /// After a token.
-    pub fn go_on(&mut self, edits: &[Edit], token: Token)
+    pub fn go_on<A: Allocator>(&mut self, edits: &[Edit<A>], token: Token)
         requires { length edits.now ≤ 64 }
         ensures { editing.meant edits.now self.new ≡ fold spec.next (editing.meant edits.now self.old) (atoms_of token.entry) }
     {

@@ -9,16 +9,16 @@ use crate::fault::EditFault;
 use crate::overlap::first_overlap;
 use crate::parse::edits_of;
 use dcm_base::EditRefusal;
-use std::alloc::Global;
+use std::alloc::{Allocator, Global};
 use std::marker::Model;
 
 /// The edits that some words mean, in the order of the words: at most 64, of which no two overlap.
 #[derive(Debug, Drop)]
-pub struct Edits {
-    list: Vec<Edit>,
+pub struct Edits<A: Allocator = Global> {
+    list: Vec<Edit<A>, A>,
 }
 
-impl Model for Edits {
+impl<A: Allocator> Model for Edits<A> {
     ghost use Rattle.std.specs.Prelude.{List, map};
     ghost use Rattle.dcm_edit.specs.Edit as spec;
     ghost use Rattle.dcm_edit.specs.EditCode.{edit_code};
@@ -35,9 +35,11 @@ impl Model for Edits {
     ghost invariant = { λ e. AreMeant (map edit_of e.list.items) };
 }
 
-impl Edits {
+impl<A: Allocator> Edits<A> {
     /// The edits that words mean, or the first refusal.
-    pub fn parse(alloc: Global, words: &[&[u8]]) -> Result<Edits, EditFault>
+    pub fn parse(alloc: A, words: &[&[u8]]) -> Result<Edits<A>, EditFault>
+    where
+        A: Copy,
         ensures { MakesAll (λ edits. edits) result (meant_edits (texts words.now)) }
     {
         let list = edits_of(alloc, words)?;
@@ -48,7 +50,7 @@ impl Edits {
     }
 
     /// The edits, in the order of the words.
-    pub fn list(&self) -> &[Edit]
+    pub fn list(&self) -> &[Edit<A>]
         ensures list { map edit_of result.now ≡ self.now }
         ensures meant { AreMeant self.now }
     {

@@ -1,7 +1,7 @@
 //! Edits of a data set: the words that mean them, and what they do.
 //!
 //! - `Edits::parse` reads words as `-m PatientName=A` into at most 64 edits, or refuses them with an `EditFault`. It is the
-//!   only call of the tools that takes memory.
+//!   only call of the tools that takes memory, from the allocator that it is given.
 //! - `EditSink` lies between the machine and another sink. It passes on what the edits make of the tokens, all edits at once,
 //!   in a state of fixed size, and `unplaced` says which of them have found no place so far.
 //! - `laws` has that they do what they would do one after another (`one_by_one`), and what is promised of the data set that

@@ -12,12 +12,12 @@ use crate::known::{Known, known_parts, uses_sequences};
 use crate::path::{cut_at, parts_of};
 use dcm_base::{EditRefusal, Vr};
 use dcm_value::{read_value, takes_bytes};
-use std::alloc::{AllocError, Global};
+use std::alloc::{AllocError, Allocator};
 
 /// The most bytes of a value.
 const VALUE_LIMIT: usize = 65536;
 
-fn copy_of(alloc: Global, bytes: &[u8]) -> Result<Vec<u8>, Failure>
+fn copy_of<A: Allocator>(alloc: A, bytes: &[u8]) -> Result<Vec<u8, A>, Failure>
     ensures { Makes (λ v. v.items) result (Ok bytes.now) }
 {
     let mut copy = Vec::new(alloc);
@@ -26,7 +26,7 @@ fn copy_of(alloc: Global, bytes: &[u8]) -> Result<Vec<u8>, Failure>
 }
 
 /// The value that a word stands for in this representation.
-fn value_of_word(alloc: Global, vr: Vr, word: &[u8]) -> Result<Vec<u8>, Failure>
+fn value_of_word<A: Allocator>(alloc: A, vr: Vr, word: &[u8]) -> Result<Vec<u8, A>, Failure>
     ensures value { Makes (λ v. v.items) result (word_value vr word.now) }
     ensures short { IfOk result (λ v. length v.items ≤ 65536) }
 {
@@ -46,7 +46,7 @@ fn value_of_word(alloc: Global, vr: Vr, word: &[u8]) -> Result<Vec<u8>, Failure>
 }
 
 /// The steps that lead to the end of a path.
-fn steps_of(alloc: Global, leading: &[Known]) -> Result<Vec<Step>, AllocError>
+fn steps_of<A: Allocator>(alloc: A, leading: &[Known]) -> Result<Vec<Step, A>, AllocError>
     ensures { IfOk result (λ steps. (edit : spec_edit.PathEdit) → along steps.items edit ≡ steps_to (map known_as leading.now) edit) }
 {
     let mut steps = Vec::new(alloc);
@@ -63,7 +63,7 @@ fn steps_of(alloc: Global, leading: &[Known]) -> Result<Vec<Step>, AllocError>
     Ok(steps)
 }
 
-fn new_element(alloc: Global, known: Known, text: &[u8]) -> Result<NewElement, Failure>
+fn new_element<A: Allocator>(alloc: A, known: Known, text: &[u8]) -> Result<NewElement<A>, Failure>
     ensures { Makes (λ e. (e.tag, e.vr, e.value.items)) result (with_value known.tag known.vr text.now) }
 {
     let value = value_of_word(alloc, known.vr, text)?;
@@ -75,7 +75,7 @@ fn new_element(alloc: Global, known: Known, text: &[u8]) -> Result<NewElement, F
 }
 
 /// The end of a path that erases an element, or items where there is an index.
-fn erasing(last: Known) -> Action
+fn erasing<A: Allocator>(last: Known) -> Action<A>
     ensures { action_as result ≡ spec.item_or_element (known_as last).tag (known_as last).index }
 {
     match last.index {
@@ -87,7 +87,7 @@ fn erasing(last: Known) -> Action
     }
 }
 
-fn on_path(alloc: Global, leading: &[Known], action: Action) -> Result<Edit, Failure>
+fn on_path<A: Allocator>(alloc: A, leading: &[Known], action: Action<A>) -> Result<Edit<A>, Failure>
     ensures { Makes edit_as result (Ok (spec_edit.on_path (steps_to (map known_as leading.now) (action_as action)))) }
 {
     let steps = steps_of(alloc, leading)?;
@@ -95,13 +95,13 @@ fn on_path(alloc: Global, leading: &[Known], action: Action) -> Result<Edit, Fai
 }
 
 /// An edit of this kind, on the parts that lead to the last one, with its value.
-fn edit_on(
-    alloc: Global,
+fn edit_on<A: Allocator + Copy>(
+    alloc: A,
     kind: Kind,
     leading: &[Known],
     last: Known,
     text: &[u8],
-) -> Result<Edit, Failure>
+) -> Result<Edit<A>, Failure>
     requires { is_of_all kind ≡ true → leading.now ≡ [] }
     ensures { Makes edit_as result (valued_edit (kind_as kind) (map known_as leading.now ++ known_as last ∷ []) text.now) }
 {
@@ -121,7 +121,12 @@ fn edit_on(
 }
 
 /// An edit of this kind from its known parts and its value.
-fn edit_of_known(alloc: Global, kind: Kind, known: &[Known], text: &[u8]) -> Result<Edit, Failure>
+fn edit_of_known<A: Allocator + Copy>(
+    alloc: A,
+    kind: Kind,
+    known: &[Known],
+    text: &[u8],
+) -> Result<Edit<A>, Failure>
     requires { Fit kind known.now }
     ensures { Makes edit_as result (spec.edit_of_known (kind_as kind) text.now (map known_as known.now)) }
 {
@@ -133,7 +138,12 @@ fn edit_of_known(alloc: Global, kind: Kind, known: &[Known], text: &[u8]) -> Res
 }
 
 /// An edit from its path and its value.
-fn edit_of_path(alloc: Global, kind: Kind, path: &[u8], text: &[u8]) -> Result<Edit, Failure>
+fn edit_of_path<A: Allocator + Copy>(
+    alloc: A,
+    kind: Kind,
+    path: &[u8],
+    text: &[u8],
+) -> Result<Edit<A>, Failure>
     ensures { Makes edit_as result (spec.meant_edit (kind_as kind) path.now text.now) }
 {
     let parts = match parts_of(path) {
@@ -147,7 +157,11 @@ fn edit_of_path(alloc: Global, kind: Kind, path: &[u8], text: &[u8]) -> Result<E
 }
 
 /// An edit from the word that follows its option.
-pub fn edit_of_word(alloc: Global, kind: Kind, word: &[u8]) -> Result<Edit, Failure>
+pub fn edit_of_word<A: Allocator + Copy>(
+    alloc: A,
+    kind: Kind,
+    word: &[u8],
+) -> Result<Edit<A>, Failure>
     ensures { Makes edit_as result (spec.meant_word (kind_as kind) word.now) }
 {
     if kind.takes_value() {

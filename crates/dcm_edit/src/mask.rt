@@ -10,6 +10,7 @@ ghost use Rattle.dcm_edit.specs.declared.asked.Question.TheVariants.{Meets};
 use crate::asked::{Fate, Gap, New, Question, answers, fate_by, is_below, meets, new_element};
 use crate::edit::Edit;
 use dcm_base::Tag;
+use std::alloc::Allocator;
 
 /// The most edits of a command line: the bits of a mask.
 pub const MOST_EDITS: usize = 64;
@@ -42,14 +43,14 @@ pub fn all(count: usize) -> u64
 }
 
 /// The edits from a number on.
-#[derive(Clone, Copy)]
-struct Rest<'e> {
-    edits: &'e [Edit],
+#[derive_where(Clone, Copy)]
+struct Rest<'e, A: Allocator> {
+    edits: &'e [Edit<A>],
     place: usize,
 }
 
 /// The edits from the first one on that the mask has.
-fn rest_of(edits: &[Edit], mask: u64, place: usize) -> Rest<'_>
+fn rest_of<A: Allocator>(edits: &[Edit<A>], mask: u64, place: usize) -> Rest<'_, A>
     requires few { place + length edits.now ≤ 64 }
     ensures few { result.place + length result.edits.now ≡ place + length edits.now }
     ensures fewer { length result.edits.now ≤ length edits.now }
@@ -68,7 +69,13 @@ fn rest_of(edits: &[Edit], mask: u64, place: usize) -> Rest<'_>
 }
 
 /// The answer of an edit, if the mask has it.
-fn says_yes(edit: &Edit, depth: usize, mask: u64, place: usize, question: Question) -> bool
+fn says_yes<A: Allocator>(
+    edit: &Edit<A>,
+    depth: usize,
+    mask: u64,
+    place: usize,
+    question: Question,
+) -> bool
     requires place { place < 64 }
     requires depth { depth < 2 ^ 32 }
     ensures { result ≡ asking.answer_of question (asking.asked_one depth mask place (edit_of edit.now)) }
@@ -77,7 +84,14 @@ fn says_yes(edit: &Edit, depth: usize, mask: u64, place: usize, question: Questi
 }
 
 /// The same of what it does at an element.
-fn meets_in(edit: &Edit, depth: usize, mask: u64, place: usize, tag: Tag, last: Option<Tag>) -> bool
+fn meets_in<A: Allocator>(
+    edit: &Edit<A>,
+    depth: usize,
+    mask: u64,
+    place: usize,
+    tag: Tag,
+    last: Option<Tag>,
+) -> bool
     requires { place < 64 }
     ensures { result ≡ asking.answer_of (Meets tag last) (asking.asked_one depth mask place (edit_of edit.now)) }
 {
@@ -85,9 +99,9 @@ fn meets_in(edit: &Edit, depth: usize, mask: u64, place: usize, tag: Tag, last: 
 }
 
 /// The answers so far, and that of one more edit, if the mask has it.
-fn with_answer(
+fn with_answer<A: Allocator>(
     yes: u64,
-    edit: &Edit,
+    edit: &Edit<A>,
     depth: usize,
     mask: u64,
     place: usize,
@@ -106,7 +120,12 @@ fn with_answer(
 }
 
 /// The edits of a mask that answer yes.
-pub fn answering(edits: &[Edit], depth: usize, mask: u64, question: Question) -> u64
+pub fn answering<A: Allocator>(
+    edits: &[Edit<A>],
+    depth: usize,
+    mask: u64,
+    question: Question,
+) -> u64
     requires few { length edits.now ≤ 64 }
     requires depth { depth < 2 ^ 32 }
     ensures { masks.bits result 0 (map edit_of edits.now) ≡ map (asking.answer_of question) (masks.asked depth mask 0 (map edit_of edits.now)) }
@@ -122,7 +141,12 @@ pub fn answering(edits: &[Edit], depth: usize, mask: u64, question: Question) ->
 
 /// Whether an edit of a mask answers yes.
 #[tactic(auto, using(crate::proofs::Skips::any_skips, crate::proofs::Skips::any_next))]
-pub fn any_answers(edits: &[Edit], depth: usize, mask: u64, question: Question) -> bool
+pub fn any_answers<A: Allocator>(
+    edits: &[Edit<A>],
+    depth: usize,
+    mask: u64,
+    question: Question,
+) -> bool
     requires few { length edits.now ≤ 64 }
     requires depth { depth < 2 ^ 32 }
     ensures { result ≡ asking.any_answer question (masks.asked depth mask 0 (map edit_of edits.now)) }
@@ -140,7 +164,13 @@ pub fn any_answers(edits: &[Edit], depth: usize, mask: u64, question: Question) 
 /// Whether an edit of a mask changes an element with this tag, or puts another one between the last one and it. Each element of
 /// an input is asked for, so this is not one question of many.
 #[tactic(auto, using(crate::proofs::Skips::any_skips, crate::proofs::Skips::any_next))]
-pub fn any_meets(edits: &[Edit], depth: usize, mask: u64, tag: Tag, last: Option<Tag>) -> bool
+pub fn any_meets<A: Allocator>(
+    edits: &[Edit<A>],
+    depth: usize,
+    mask: u64,
+    tag: Tag,
+    last: Option<Tag>,
+) -> bool
     requires { length edits.now ≤ 64 }
     ensures { result ≡ asking.any_answer (Meets tag last) (masks.asked depth mask 0 (map edit_of edits.now)) }
 {
@@ -155,7 +185,13 @@ pub fn any_meets(edits: &[Edit], depth: usize, mask: u64, tag: Tag, last: Option
 }
 
 /// What an edit makes of an element, if the mask has it.
-fn fate_in(edit: &Edit, depth: usize, mask: u64, place: usize, tag: Tag) -> Fate<'_>
+fn fate_in<A: Allocator>(
+    edit: &Edit<A>,
+    depth: usize,
+    mask: u64,
+    place: usize,
+    tag: Tag,
+) -> Fate<'_, A>
     requires { place < 64 }
     ensures { asking.fate_of result ≡ spec.fate (asking.asked_one depth mask place (edit_of edit.now)) tag }
 {
@@ -167,7 +203,7 @@ fn fate_in(edit: &Edit, depth: usize, mask: u64, place: usize, tag: Tag) -> Fate
 
 /// What the first edit of a mask that changes an element makes of it.
 #[tactic(auto, using(crate::proofs::Skips::fate_skips, crate::proofs::Skips::fate_next))]
-pub fn first_fate(edits: &[Edit], depth: usize, mask: u64, tag: Tag) -> Fate<'_>
+pub fn first_fate<A: Allocator>(edits: &[Edit<A>], depth: usize, mask: u64, tag: Tag) -> Fate<'_, A>
     requires few { length edits.now ≤ 64 }
     ensures { asking.fate_of result ≡ together.first_fate (masks.asked depth mask 0 (map edit_of edits.now)) tag }
 {
@@ -184,7 +220,7 @@ pub fn first_fate(edits: &[Edit], depth: usize, mask: u64, tag: Tag) -> Fate<'_>
 }
 
 /// The lesser of two new elements; of two with one tag the first.
-fn lesser<'e>(first: Option<New<'e>>, other: New<'e>) -> New<'e>
+fn lesser<'e, A: Allocator>(first: Option<New<'e, A>>, other: New<'e, A>) -> New<'e, A>
     ensures { asking.seen_of (Some result) ≡ asking.lesser (asking.seen_of first.entry) (asking.seen_of (Some other.entry)) }
 {
     match first {
@@ -194,7 +230,13 @@ fn lesser<'e>(first: Option<New<'e>>, other: New<'e>) -> New<'e>
 }
 
 /// What an edit puts in a gap, if the mask has it.
-fn new_in(edit: &Edit, depth: usize, mask: u64, place: usize, gap: Gap) -> Option<New<'_>>
+fn new_in<A: Allocator>(
+    edit: &Edit<A>,
+    depth: usize,
+    mask: u64,
+    place: usize,
+    gap: Gap,
+) -> Option<New<'_, A>>
     requires { place < 64 }
     ensures { asking.seen_of result ≡ asking.seen_in gap (asking.seen (spec.element_of (asking.asked_one depth mask place (edit_of edit.now)))) }
 {
@@ -209,7 +251,12 @@ fn new_in(edit: &Edit, depth: usize, mask: u64, place: usize, gap: Gap) -> Optio
 
 /// The new element with the least tag in a gap, of the edits of a mask.
 #[tactic(auto, using(crate::proofs::Skips::least_skips, crate::proofs::Skips::least_next))]
-pub fn least_new(edits: &[Edit], depth: usize, mask: u64, gap: Gap) -> Option<New<'_>>
+pub fn least_new<A: Allocator>(
+    edits: &[Edit<A>],
+    depth: usize,
+    mask: u64,
+    gap: Gap,
+) -> Option<New<'_, A>>
     requires few { length edits.now ≤ 64 }
     ensures { asking.seen_of result ≡ asking.least_new gap asking.nothing_new (masks.asked depth mask 0 (map edit_of edits.now)) }
 {

@@ -19,9 +19,14 @@ use crate::mask::{answering, least_new};
 use dcm_base::{Length, Syntax, Tag, Vr, WriteFailed};
 use dcm_head::Head;
 use dcm_stream::{Sink, Token, take_all};
+use std::alloc::Allocator;
 
 /// Hands the value of a new element on, with this tag.
-pub fn put_leaf_at<S: Sink>(tag: Tag, element: &NewElement, sink: &mut S) -> Result<(), WriteFailed>
+pub fn put_leaf_at<S: Sink, A: Allocator>(
+    tag: Tag,
+    element: &NewElement<A>,
+    sink: &mut S,
+) -> Result<(), WriteFailed>
     ensures takes { sinks.Takes S.Sink sink.old sink.new (trees_then Little (leaf tag element.now.vr element.now.value.items no_tree) []) result }
     ensures failed { sinks.Tells S.Sink sink.old sink.new result }
     ensures kept { sinks.Keeps S.Sink sink.old sink.new }
@@ -31,7 +36,7 @@ pub fn put_leaf_at<S: Sink>(tag: Tag, element: &NewElement, sink: &mut S) -> Res
 }
 
 /// Hands a new value on.
-fn put_leaf<S: Sink>(element: &NewElement, sink: &mut S) -> Result<(), WriteFailed>
+fn put_leaf<S: Sink, A: Allocator>(element: &NewElement<A>, sink: &mut S) -> Result<(), WriteFailed>
     ensures takes { sinks.Takes S.Sink sink.old sink.new (trees_then Little (leaf element.now.tag element.now.vr element.now.value.items no_tree) []) result }
     ensures failed { sinks.Tells S.Sink sink.old sink.new result }
     ensures kept { sinks.Keeps S.Sink sink.old sink.new }
@@ -66,8 +71,8 @@ fn close_made<S: Sink>(sink: &mut S) -> Result<(), WriteFailed>
 
 /// Hands a new sequence on, with one item and the new elements in it.
 #[cycle(put)]
-fn put_sequence<S: Sink>(
-    edits: &[Edit],
+fn put_sequence<S: Sink, A: Allocator>(
+    edits: &[Edit<A>],
     depth: usize,
     mask: u64,
     tag: Tag,
@@ -95,11 +100,11 @@ fn put_sequence<S: Sink>(
 
 /// Hands a new element on, the first of its tag.
 #[cycle(put)]
-fn put_one<S: Sink>(
-    edits: &[Edit],
+fn put_one<S: Sink, A: Allocator>(
+    edits: &[Edit<A>],
     depth: usize,
     mask: u64,
-    new: New<'_>,
+    new: New<'_, A>,
     sink: &mut S,
 ) -> Result<(), WriteFailed>
     requires few { length edits.now ≤ 64 }
@@ -119,8 +124,8 @@ fn put_one<S: Sink>(
 
 /// Hands the new elements of a gap on, in the order of their tags.
 #[cycle(put)]
-pub fn put_new<S: Sink>(
-    edits: &[Edit],
+pub fn put_new<S: Sink, A: Allocator>(
+    edits: &[Edit<A>],
     depth: usize,
     mask: u64,
     gap: Gap,

@@ -5,6 +5,7 @@ ghost use Rattle.dcm_edit.specs.Overlap as spec;
 
 use crate::edit::{Action, Edit, Index, PathEdit, Step};
 use dcm_base::Tag;
+use std::alloc::Allocator;
 
 fn is_every(index: Index) -> bool
     ensures { result ≡ spec.is_every (index_as index) }
@@ -29,7 +30,7 @@ fn one_is_every(left: Index, right: Index) -> bool
 }
 
 /// The tag at the end of a path.
-fn action_tag(action: &Action) -> Tag
+fn action_tag<A: Allocator>(action: &Action<A>) -> Tag
     ensures { result ≡ first_tag (action_as action.now) }
 {
     match action {
@@ -40,7 +41,7 @@ fn action_tag(action: &Action) -> Tag
 }
 
 /// The first tag of the rest of a path.
-fn next_tag(steps: &[Step], action: &Action) -> Tag
+fn next_tag<A: Allocator>(steps: &[Step], action: &Action<A>) -> Tag
     ensures { result ≡ first_tag (along steps.now (action_as action.now)) }
 {
     match steps {
@@ -50,7 +51,7 @@ fn next_tag(steps: &[Step], action: &Action) -> Tag
 }
 
 /// Whether one path begins the other, or both part at indexes of which one is a star or ends its path.
-fn meets(left: &PathEdit, right: &PathEdit) -> bool
+fn meets<A: Allocator>(left: &PathEdit<A>, right: &PathEdit<A>) -> bool
     ensures { result ≡ spec.meets (spec.path (path_edit_as left.now)) (spec.path (path_edit_as right.now)) }
 {
     let mut left_steps = left.steps.as_slice();
@@ -72,7 +73,7 @@ fn meets(left: &PathEdit, right: &PathEdit) -> bool
 }
 
 /// Whether a path names the tag.
-fn is_on(tag: Tag, path: &PathEdit) -> bool
+fn is_on<A: Allocator>(tag: Tag, path: &PathEdit<A>) -> bool
     ensures { result ≡ spec.is_on tag (spec.path (path_edit_as path.now)) }
 {
     let mut steps = path.steps.as_slice();
@@ -85,7 +86,7 @@ fn is_on(tag: Tag, path: &PathEdit) -> bool
     tag == action_tag(&path.action)
 }
 
-fn is_named(tag: Tag, edit: &Edit) -> bool
+fn is_named<A: Allocator>(tag: Tag, edit: &Edit<A>) -> bool
     ensures { result ≡ spec.is_named tag (edit_as edit.now) }
 {
     match edit {
@@ -96,7 +97,7 @@ fn is_named(tag: Tag, edit: &Edit) -> bool
     }
 }
 
-fn overlaps(earlier: &Edit, later: &Edit) -> bool
+fn overlaps<A: Allocator>(earlier: &Edit<A>, later: &Edit<A>) -> bool
     ensures { result ≡ spec.overlaps (edit_as earlier.now) (edit_as later.now) }
 {
     match (earlier, later) {
@@ -110,7 +111,7 @@ fn overlaps(earlier: &Edit, later: &Edit) -> bool
     }
 }
 
-fn overlaps_one(mut earlier: &[Edit], later: &Edit) -> bool
+fn overlaps_one<A: Allocator>(mut earlier: &[Edit<A>], later: &Edit<A>) -> bool
     ensures { result ≡ spec.overlaps_one (map edit_as earlier.entry.now) (edit_as later.now) }
 {
     while let [edit, rest @ ..] = earlier {
@@ -123,7 +124,7 @@ fn overlaps_one(mut earlier: &[Edit], later: &Edit) -> bool
 }
 
 /// The number of the first edit, from 1, that overlaps an earlier one.
-pub fn first_overlap(edits: &[Edit]) -> Option<usize>
+pub fn first_overlap<A: Allocator>(edits: &[Edit<A>]) -> Option<usize>
     ensures { result ≡ spec.first_overlap 1 [] (map edit_as edits.now) }
 {
     for i in 0..edits.len() {

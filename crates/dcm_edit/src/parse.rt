@@ -10,7 +10,7 @@ use crate::form::Kind;
 use crate::making::edit_of_word;
 use crate::mask::MOST_EDITS;
 use dcm_base::EditRefusal;
-use std::alloc::Global;
+use std::alloc::Allocator;
 
 /// What a word says that begins an edit.
 #[derive(Clone, Copy, Debug, PartialEq, Eq)]
@@ -52,12 +52,12 @@ fn in_edit(failure: Failure, number: usize) -> EditFault
 }
 
 /// The edit whose words begin at this place, which has this number, and how many words it has.
-fn next_edit(
-    alloc: Global,
+fn next_edit<A: Allocator + Copy>(
+    alloc: A,
     number: usize,
     words: &[&[u8]],
     place: usize,
-) -> Result<(Edit, usize), EditFault>
+) -> Result<(Edit<A>, usize), EditFault>
     requires { place < length words.now }
     ensures edit { MakesFrom (λ r. (edit_as r.0, texts (drop (place + r.1) words.now))) number result (first_edit (texts (drop place words.now))) }
     ensures used { IfOk result (λ r. (0 < r.1) × (place + r.1 ≤ length words.now)) }
@@ -76,7 +76,10 @@ fn next_edit(
 }
 
 /// The edits of words, which may overlap.
-pub fn edits_of(alloc: Global, words: &[&[u8]]) -> Result<Vec<Edit>, EditFault>
+pub fn edits_of<A: Allocator + Copy>(
+    alloc: A,
+    words: &[&[u8]],
+) -> Result<Vec<Edit<A>, A>, EditFault>
     ensures { MakesAll (λ v. map edit_as v.items) result (spec.meant_from 1 (texts words.now)) }
 {
     let mut edits = Vec::new(alloc);

@@ -26,11 +26,12 @@ use crate::new::{put_leaf_at, put_new};
 use dcm_base::{Length, Syntax, Tag, WriteFailed};
 use dcm_head::Head;
 use dcm_stream::{Bar, Sink, Token};
+use std::alloc::{Allocator, Global};
 
 /// Hands on what edits put in a gap of the innermost open data set.
-fn put_gap<S: Sink>(
+fn put_gap<S: Sink, A: Allocator>(
     editor: &Editor,
-    edits: &[Edit],
+    edits: &[Edit<A>],
     next: Option<Tag>,
     sink: &mut S,
 ) -> Result<(), WriteFailed>
@@ -52,8 +53,8 @@ fn put_gap<S: Sink>(
 }
 
 /// Hands on what becomes of an element's head.
-fn put_head<S: Sink>(
-    fate: Fate<'_>,
+fn put_head<S: Sink, A: Allocator>(
+    fate: Fate<'_, A>,
     head: Head,
     syntax: Syntax,
     sink: &mut S,
@@ -70,9 +71,9 @@ fn put_head<S: Sink>(
 }
 
 /// Hands on the head of an element that is not dropped already, after the new elements before it.
-fn pass_element<S: Sink>(
+fn pass_element<S: Sink, A: Allocator>(
     editor: &Editor,
-    edits: &[Edit],
+    edits: &[Edit<A>],
     head: Head,
     syntax: Syntax,
     sink: &mut S,
@@ -90,9 +91,9 @@ fn pass_element<S: Sink>(
 }
 
 /// Hands on the head of an item that is not dropped already.
-fn pass_item<S: Sink>(
+fn pass_item<S: Sink, A: Allocator>(
     editor: &Editor,
-    edits: &[Edit],
+    edits: &[Edit<A>],
     declared: Length,
     sink: &mut S,
 ) -> Result<(), WriteFailed>
@@ -109,9 +110,9 @@ fn pass_item<S: Sink>(
 }
 
 /// Hands on the end of the innermost data set, after the new elements above its last one.
-fn pass_end<S: Sink>(
+fn pass_end<S: Sink, A: Allocator>(
     editor: &Editor,
-    edits: &[Edit],
+    edits: &[Edit<A>],
     end: Token,
     sink: &mut S,
 ) -> Result<(), WriteFailed>
@@ -130,9 +131,9 @@ fn pass_end<S: Sink>(
 }
 
 /// Hands on what a token of the input becomes.
-fn pass<S: Sink>(
+fn pass<S: Sink, A: Allocator>(
     editor: &Editor,
-    edits: &[Edit],
+    edits: &[Edit<A>],
     token: Token,
     sink: &mut S,
 ) -> Result<(), WriteFailed>
@@ -158,9 +159,9 @@ fn pass<S: Sink>(
 }
 
 /// Hands on what a token of the input becomes, and goes on after it. An element that no edit meets is handed on as it is.
-fn pass_on<S: Sink>(
+fn pass_on<S: Sink, A: Allocator>(
     editor: &mut Editor,
-    edits: &[Edit],
+    edits: &[Edit<A>],
     token: Token,
     sink: &mut S,
 ) -> Result<(), WriteFailed>
@@ -190,15 +191,15 @@ fn pass_on<S: Sink>(
 /// A sink that passes the tokens of a data set on to another one, as edits make them. It bars tags that do not ascend, and
 /// does not ask what the other one bars.
 #[derive(Drop)]
-pub struct EditSink<'e, S> {
-    edits: &'e Edits,
+pub struct EditSink<'e, S, A: Allocator = Global> {
+    edits: &'e Edits<A>,
     inner: &'e mut S,
     editor: Editor,
     ghost sound: { IsSound (masks.meant edits.now (editing.state editor)) } by { IsSound-prop (masks.meant edits.now (editing.state editor)) },
 }
 
-impl<'e, S: Sink> EditSink<'e, S> {
-    pub fn new(edits: &'e Edits, inner: &'e mut S) -> Self
+impl<'e, S: Sink, A: Allocator> EditSink<'e, S, A> {
+    pub fn new(edits: &'e Edits<A>, inner: &'e mut S) -> Self
         ensures same_reference { result.inner.ghost_name ≡ inner.entry.ghost_name }
         ensures inner { result.inner.now ≡ inner.old }
         ensures edits { result.edits.now ≡ edits.now }
@@ -220,7 +221,7 @@ impl<'e, S: Sink> EditSink<'e, S> {
     }
 }
 
-impl<'e, S: Sink> Sink for EditSink<'e, S> {
+impl<'e, S: Sink, A: Allocator> Sink for EditSink<'e, S, A> {
     ghost State = { EditState × S.State };
 
     ghost state = { λ e. (masks.meant e.edits.now (editing.state e.editor), S.state e.inner.now) };

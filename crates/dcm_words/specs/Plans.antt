@@ -15,22 +15,22 @@ use Rattle.dcm_words.specs.declared.words.Paths.{Paths}
 use Rattle.dcm_words.specs.declared.words.Paths.TheVariants as paths
 use Rattle.dcm_words.specs.declared.words.Said.{Said}
 
-abbrev pub job_of : Job → words.Job
+abbrev pub job_of : {A : Type 0} → Job A → words.Job
 job_of (jobs.Dump d) = words.dump d.mode d.bare
 job_of (jobs.Convert c) = words.convert c.target
 job_of (jobs.Build b) = words.build b.limit
 job_of (jobs.Modify edits) = words.modify edits
 
-abbrev pub planned : Planned → words.Plan
+abbrev pub planned : {A : Type 0} → Planned A → words.Plan
 planned p = record { input = p.input.now; output = p.output.now; job = job_of p.job }
 
 -- what a function returned is what the words mean
-abbrev pub Gives : Result Planned Usage → Result words.Plan Usage → Type 0
+abbrev pub Gives : {A : Type 0} → Result (Planned A) Usage → Result words.Plan Usage → Type 0
 Gives (Ok p) meant = meant ≡ Ok (planned p)
 Gives (Err u) meant = meant ≡ Err u
 
 -- the same, but where the memory for edits was refused
-abbrev pub GivesUnlessMemory : Result Planned Usage → Result words.Plan Usage → Type 0
+abbrev pub GivesUnlessMemory : {A : Type 0} → Result (Planned A) Usage → Result words.Plan Usage → Type 0
 GivesUnlessMemory (Ok p) meant = meant ≡ Ok (planned p)
 GivesUnlessMemory (Err Memory) meant = Unit {0}
 GivesUnlessMemory (Err (AtWord u n)) meant = meant ≡ Err (AtWord u n)

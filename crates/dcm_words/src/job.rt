@@ -4,15 +4,16 @@ ghost use Rattle.dcm_words.specs.Words.{LEAST_LIMIT, GREATEST_LIMIT};
 
 use dcm_base::{Mode, Syntax};
 use dcm_edit::Edits;
+use std::alloc::{Allocator, Global};
 
 /// What a run has to do.
 #[derive(Debug, Drop)]
-pub enum Job {
+pub enum Job<A: Allocator = Global> {
     Dump(Dump),
     Convert(Convert),
     Build(Build),
     /// The edits of a file.
-    Modify(Edits),
+    Modify(Edits<A>),
 }
 
 /// The dump of a file, or of a data set alone in a syntax.
@@ -37,8 +38,8 @@ pub struct Build {
 
 /// A job, and the paths of its input and its output, where `-` is a standard stream.
 #[derive(Drop)]
-pub struct Planned<'a> {
+pub struct Planned<'a, A: Allocator = Global> {
     pub input: &'a [u8],
     pub output: &'a [u8],
-    pub job: Job,
+    pub job: Job<A>,
 }

@@ -8,7 +8,7 @@ use crate::job::{Build, Convert, Dump, Job, Planned};
 use crate::usage::{Usage, Word};
 use dcm_base::{Mode, Syntax, WordFault};
 use dcm_edit::{EditFault, Edits};
-use std::alloc::Global;
+use std::alloc::Allocator;
 
 /// The path of a standard stream.
 const STANDARD: &[u8] = b"-";
@@ -218,7 +218,7 @@ fn said_by<'a>(tool: Tool, words: &'a [&'a [u8]]) -> Result<Said<'a>, Usage>
 }
 
 /// What the words of dcmdump behind its name mean, or the first refusal.
-fn plan_dump<'a>(words: &'a [&'a [u8]]) -> Result<Planned<'a>, Usage>
+fn plan_dump<'a, A: Allocator>(words: &'a [&'a [u8]]) -> Result<Planned<'a, A>, Usage>
     ensures { Gives result (spec.dump_plan (map (λ w. w.now) words.now)) }
 {
     let said = said_by(Tool::Dump, words)?;
@@ -240,7 +240,11 @@ fn plan_dump<'a>(words: &'a [&'a [u8]]) -> Result<Planned<'a>, Usage>
 }
 
 /// A job from one path to another, unless they are the same.
-fn plan_if_apart<'a>(input: &'a [u8], output: &'a [u8], job: Job) -> Result<Planned<'a>, Usage>
+fn plan_if_apart<'a, A: Allocator>(
+    input: &'a [u8],
+    output: &'a [u8],
+    job: Job<A>,
+) -> Result<Planned<'a, A>, Usage>
     ensures { Gives result (spec.plan_if_apart input.now output.now (job_of job)) }
 {
     if input == output && input != STANDARD {
@@ -250,7 +254,7 @@ fn plan_if_apart<'a>(input: &'a [u8], output: &'a [u8], job: Job) -> Result<Plan
 }
 
 /// A job with an input and an output.
-fn plan_with_two<'a>(paths: Paths<'a>, job: Job) -> Result<Planned<'a>, Usage>
+fn plan_with_two<'a, A: Allocator>(paths: Paths<'a>, job: Job<A>) -> Result<Planned<'a, A>, Usage>
     ensures { (ps : List (List ℕ)) → PathsAre paths.entry ps → Gives result (spec.plan_with_two ps (job_of job)) }
 {
     match paths {
@@ -262,7 +266,7 @@ fn plan_with_two<'a>(paths: Paths<'a>, job: Job) -> Result<Planned<'a>, Usage>
 }
 
 /// What the words of dcmconv behind its name mean, or the first refusal.
-fn plan_convert<'a>(words: &'a [&'a [u8]]) -> Result<Planned<'a>, Usage>
+fn plan_convert<'a, A: Allocator>(words: &'a [&'a [u8]]) -> Result<Planned<'a, A>, Usage>
     ensures { Gives result (spec.convert_plan (map (λ w. w.now) words.now)) }
 {
     let said = said_by(Tool::Convert, words)?;
@@ -275,7 +279,7 @@ fn plan_convert<'a>(words: &'a [&'a [u8]]) -> Result<Planned<'a>, Usage>
 }
 
 /// What the words of dump2dcm behind its name mean, or the first refusal.
-fn plan_build<'a>(words: &'a [&'a [u8]]) -> Result<Planned<'a>, Usage>
+fn plan_build<'a, A: Allocator>(words: &'a [&'a [u8]]) -> Result<Planned<'a, A>, Usage>
     ensures { Gives result (spec.build_plan (map (λ w. w.now) words.now)) }
 {
     let said = said_by(Tool::Build, words)?;
@@ -290,12 +294,12 @@ fn is_path(word: &[u8]) -> bool
 }
 
 /// The edits that words mean, from one path to another, or the first refusal.
-fn plan_edits<'a>(
-    alloc: Global,
+fn plan_edits<'a, A: Allocator + Copy>(
+    alloc: A,
     edit_words: &[&[u8]],
     input: &'a [u8],
     output: &'a [u8],
-) -> Result<Planned<'a>, Usage>
+) -> Result<Planned<'a, A>, Usage>
     ensures { GivesUnlessMemory result (spec.modify_plan_with (edits_between (map (λ w. w.now) edit_words.now) input.now output.now)) }
 {
     match Edits::parse(alloc, edit_words) {
@@ -306,7 +310,10 @@ fn plan_edits<'a>(
 }
 
 /// What the words of dcmodify after its name mean, or the first refusal.
-fn plan_modify<'a>(alloc: Global, words: &'a [&'a [u8]]) -> Result<Planned<'a>, Usage>
+fn plan_modify<'a, A: Allocator + Copy>(
+    alloc: A,
+    words: &'a [&'a [u8]],
+) -> Result<Planned<'a, A>, Usage>
     ensures { GivesUnlessMemory result (spec.modify_plan (map (λ w. w.now) words.now)) }
 {
     let [edit_words @ .., input, output] = words else {
@@ -321,7 +328,10 @@ fn plan_modify<'a>(alloc: Global, words: &'a [&'a [u8]]) -> Result<Planned<'a>, 
 /// The job that the words after the program's name mean, with the paths borrowed from them, or the first refusal. Memory is
 /// taken for the edits of dcmodify alone.
 #[tactic(auto, unfolding(crate::specs::Words::meant))]
-pub fn plan<'a>(alloc: Global, words: &'a [&'a [u8]]) -> Result<Planned<'a>, Usage>
+pub fn plan<'a, A: Allocator + Copy>(
+    alloc: A,
+    words: &'a [&'a [u8]],
+) -> Result<Planned<'a, A>, Usage>
     ensures meant { GivesUnlessMemory result (spec.meant (map (λ w. w.now) words.now)) }
     ensures memory { is_modify (map (λ w. w.now) words.now) ≡ false → Gives result (spec.meant (map (λ w. w.now) words.now)) }
 {

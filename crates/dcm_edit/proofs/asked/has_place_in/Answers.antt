@@ -6,5 +6,5 @@ use Rattle.dcm_edit.proofs.Paths.{within_along}
 use Rattle.dcm_edit.proofs.asked.has_place_in.Goals as goal
 
 pub returns-then-goes_along : goal.returns-then-goes_along
-returns-then-goes_along c =
+returns-then-goes_along g c =
     c.has_place.ensures ∙ sym (ap (λ (e : spec.Edit). has_place (spec.element_of e)) (within_along c.args.depth (edit_of c.args.edit.now) c.args.tag c.args.item (sym c.if-goes_along.ensures)))

@@ -4,10 +4,10 @@ use Rattle.dcm_edit.proofs.Paths.{none_left, sequence_left}
 use Rattle.dcm_edit.proofs.asked.path_new.Goals as goal
 
 pub returns-in_err-element : goal.returns-in_err-element
-returns-in_err-element c = ap asking.seen_of c.from_residual.ensures ∙ none_left _ c.steps_left-left.result.now c.args.path.now.action c.steps_left-left.ensures c.in_err-element.ensures
+returns-in_err-element g c = ap asking.seen_of c.from_residual.ensures ∙ none_left _ c.steps_left-left.result.now c.args.path.now.action c.steps_left-left.ensures c.in_err-element.ensures
 
 pub returns-in-Some : goal.returns-in-Some
-returns-in-Some c = sequence_left _ c.steps_left-left.result.now c.args.path.now.action _ _ _ _ c.steps_left-left.ensures c.in_ok-element.ensures c.if-is_empty.ensures c.in-Some.ensures
+returns-in-Some g c = sequence_left _ c.steps_left-left.result.now c.args.path.now.action _ _ _ _ c.steps_left-left.ensures c.in_ok-element.ensures c.if-is_empty.ensures c.in-Some.ensures
 
 pub returns-in-None : goal.returns-in-None
-returns-in-None c = sequence_left _ c.steps_left-left.result.now c.args.path.now.action _ _ _ _ c.steps_left-left.ensures c.in_ok-element.ensures c.if-is_empty.ensures c.in-None.ensures
+returns-in-None g c = sequence_left _ c.steps_left-left.result.now c.args.path.now.action _ _ _ _ c.steps_left-left.ensures c.in_ok-element.ensures c.if-is_empty.ensures c.in-None.ensures

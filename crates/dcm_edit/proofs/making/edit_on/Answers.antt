@@ -8,16 +8,16 @@ use Rattle.dcm_edit.proofs.Makings.{inserted, modified, erased, modified_all, fa
 use Rattle.dcm_edit.proofs.making.edit_on.Goals as goal
 
 pub returns-in_err-element-in-Inserts : goal.returns-in_err-element-in-Inserts
-returns-in_err-element-in-Inserts c =
+returns-in_err-element-in-Inserts g c =
     let ks = map known_as c.args.leading.now in
     let k = known_as c.args.last in
     let kind = ap (λ (x : Kind). valued_edit (kind_as x) (ks ++ k ∷ []) c.args.text.now) c.in-Inserts.is in
-    let none = failed (λ value. on_path (words.on_steps (λ x. insert x.tag x.vr value) (ks ++ k ∷ []))) ks k c.args.text.now c.in_err-element-in-Inserts.field-0.0 c.in_err-element-in-Inserts.ensures in
-    let made = subst (Makes edit_of (Err c.in_err-element-in-Inserts.field-0.0)) (sym kind) none in
+    let none = failed g.row.A.Denot (λ value. on_path (words.on_steps (λ x. insert x.tag x.vr value) (ks ++ k ∷ []))) ks k c.args.text.now c.in_err-element-in-Inserts.field-0.0 c.in_err-element-in-Inserts.ensures in
+    let made = subst (Makes (edit_of {A = g.row.A.Denot}) (Err c.in_err-element-in-Inserts.field-0.0)) (sym kind) none in
     search rules
 
 pub returns-in_ok-element-in-Inserts : goal.returns-in_ok-element-in-Inserts
-returns-in_ok-element-in-Inserts c =
+returns-in_ok-element-in-Inserts g c =
     let ks = map known_as c.args.leading.now in
     let k = known_as c.args.last in
     let kind = ap (λ (x : Kind). valued_edit (kind_as x) (ks ++ k ∷ []) c.args.text.now) c.in-Inserts.is in
@@ -25,16 +25,16 @@ returns-in_ok-element-in-Inserts c =
     subst (Makes edit_of c.on_path.result) (sym meant) c.on_path.ensures
 
 pub returns-in_err-element-in-Modifies : goal.returns-in_err-element-in-Modifies
-returns-in_err-element-in-Modifies c =
+returns-in_err-element-in-Modifies g c =
     let ks = map known_as c.args.leading.now in
     let k = known_as c.args.last in
     let kind = ap (λ (x : Kind). valued_edit (kind_as x) (ks ++ k ∷ []) c.args.text.now) c.in-Modifies.is in
-    let none = failed (λ value. on_path (words.on_steps (λ x. modify x.tag x.vr value) (ks ++ k ∷ []))) ks k c.args.text.now c.in_err-element-in-Modifies.field-0.0 c.in_err-element-in-Modifies.ensures in
-    let made = subst (Makes edit_of (Err c.in_err-element-in-Modifies.field-0.0)) (sym kind) none in
+    let none = failed g.row.A.Denot (λ value. on_path (words.on_steps (λ x. modify x.tag x.vr value) (ks ++ k ∷ []))) ks k c.args.text.now c.in_err-element-in-Modifies.field-0.0 c.in_err-element-in-Modifies.ensures in
+    let made = subst (Makes (edit_of {A = g.row.A.Denot}) (Err c.in_err-element-in-Modifies.field-0.0)) (sym kind) none in
     search rules
 
 pub returns-in_ok-element-in-Modifies : goal.returns-in_ok-element-in-Modifies
-returns-in_ok-element-in-Modifies c =
+returns-in_ok-element-in-Modifies g c =
     let ks = map known_as c.args.leading.now in
     let k = known_as c.args.last in
     let kind = ap (λ (x : Kind). valued_edit (kind_as x) (ks ++ k ∷ []) c.args.text.now) c.in-Modifies.is in
@@ -42,7 +42,7 @@ returns-in_ok-element-in-Modifies c =
     subst (Makes edit_of c.on_path-in-Modifies.result) (sym meant) c.on_path-in-Modifies.ensures
 
 pub returns-in-Erases : goal.returns-in-Erases
-returns-in-Erases c =
+returns-in-Erases g c =
     let ks = map known_as c.args.leading.now in
     let k = known_as c.args.last in
     let kind = ap (λ (x : Kind). valued_edit (kind_as x) (ks ++ k ∷ []) c.args.text.now) c.in-Erases.is in
@@ -50,7 +50,7 @@ returns-in-Erases c =
     subst (Makes edit_of c.on_path-in-Erases.result) (sym meant) c.on_path-in-Erases.ensures
 
 pub returns-in_ok-new_element-in-ModifiesAll : goal.returns-in_ok-new_element-in-ModifiesAll
-returns-in_ok-new_element-in-ModifiesAll c =
+returns-in_ok-new_element-in-ModifiesAll g c =
     let ks = map known_as c.args.leading.now in
     let k = known_as c.args.last in
     let kind = ap (λ (x : Kind). valued_edit (kind_as x) (ks ++ k ∷ []) c.args.text.now) c.in-ModifiesAll.is in

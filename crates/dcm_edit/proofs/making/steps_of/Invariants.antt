@@ -6,7 +6,7 @@ use Rattle.dcm_edit.proofs.making.steps_of.Given as goal
 
 -- the steps so far lead to those of the rest
 abbrev pub invariant-loop-rest : goal.invariant-loop-rest
-invariant-loop-rest l = (edit : PathEdit) → along l.steps.items (steps_to (map known_as l.rest) edit) ≡ steps_to (map known_as l.leading) edit
+invariant-loop-rest g l = (edit : PathEdit) → along l.steps.items (steps_to (map known_as l.rest) edit) ≡ steps_to (map known_as l.leading) edit
 
 abbrev pub decreases-loop-rest : goal.decreases-loop-rest
-decreases-loop-rest l = length l.rest
+decreases-loop-rest g l = length l.rest

@@ -6,7 +6,7 @@ use Rattle.dcm_edit.proofs.mask.answering.Given as goal
 
 -- the answers so far are right, whatever the later bits are
 abbrev pub invariant-loop-edit : goal.invariant-loop-edit
-invariant-loop-edit l = record {
+invariant-loop-edit g l = record {
   few : l.rest.place + length l.rest.edits.now ≡ length l.edits;
   high : (k : ℕ) → l.rest.place ≤ k → masks.is_set l.yes k ≡ false;
   right : (final : ℕ) → ((k : ℕ) → k < l.rest.place → masks.is_set final k ≡ masks.is_set l.yes k)
@@ -15,4 +15,4 @@ invariant-loop-edit l = record {
 }
 
 abbrev pub decreases-loop-edit : goal.decreases-loop-edit
-decreases-loop-edit l = length l.rest.edits.now
+decreases-loop-edit g l = length l.rest.edits.now

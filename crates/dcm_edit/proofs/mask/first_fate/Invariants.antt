@@ -6,10 +6,10 @@ use Rattle.dcm_edit.proofs.mask.first_fate.Given as goal
 
 -- no edit so far changes the element
 abbrev pub invariant-loop-edit : goal.invariant-loop-edit
-invariant-loop-edit l = record {
+invariant-loop-edit g l = record {
   few : l.rest.place + length l.rest.edits.now ≡ length l.edits;
   same : together.first_fate (masks.asked l.fn.depth l.fn.mask l.rest.place (map edit_of l.rest.edits.now)) l.fn.tag ≡ together.first_fate (masks.asked l.fn.depth l.fn.mask 0 (map edit_of l.edits)) l.fn.tag;
 }
 
 abbrev pub decreases-loop-edit : goal.decreases-loop-edit
-decreases-loop-edit l = length l.rest.edits.now
+decreases-loop-edit g l = length l.rest.edits.now

@@ -6,10 +6,10 @@ use Rattle.dcm_edit.proofs.mask.least_new.Given as goal
 
 -- the least so far
 abbrev pub invariant-loop-edit : goal.invariant-loop-edit
-invariant-loop-edit l = record {
+invariant-loop-edit g l = record {
   few : l.rest.place + length l.rest.edits.now ≡ length l.edits;
   same : asking.least_new l.fn.gap (asking.seen_of l.least) (masks.asked l.fn.depth l.fn.mask l.rest.place (map edit_of l.rest.edits.now)) ≡ asking.least_new l.fn.gap asking.nothing_new (masks.asked l.fn.depth l.fn.mask 0 (map edit_of l.edits));
 }
 
 abbrev pub decreases-loop-edit : goal.decreases-loop-edit
-decreases-loop-edit l = length l.rest.edits.now
+decreases-loop-edit g l = length l.rest.edits.now

@@ -5,7 +5,7 @@ use Rattle.dcm_edit.proofs.Skips.{lacking_skips, size_of_map}
 use Rattle.dcm_edit.proofs.mask.rest_of.Goals as goal
 
 pub returns-clause-skips : goal.returns-clause-skips
-returns-clause-skips c =
+returns-clause-skips g c =
     let few = c.min-skipped.ensures in
     let small = c.ranges.mask.fits in
     let less = div-le_self c.args.mask (2 ^ c.args.place) in

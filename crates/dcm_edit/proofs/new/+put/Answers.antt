@@ -11,6 +11,7 @@ use Rattle.dcm_edit.specs.NewOnes.{puts, above_last, first_new}
 use Rattle.dcm_edit.specs.Overlap.{AreApart, ArePublic}
 use Rattle.dcm_stream.specs.Sinks.{Takes}
 use Rattle.dcm_edit.proofs.Answering.{going_along}
+use Rattle.dcm_edit.proofs.Passing.{takes_nothing}
 use Rattle.dcm_edit.proofs.Masks.{asked_apart, asked_public, made_within}
 use Rattle.dcm_edit.proofs.Taken.{then_taken, both_taken, failed_taken, Took}
 use Rattle.dcm_edit.proofs.LeastNew.{none_in_gap, least_in_gap, first_in_gap, is_sequence_at}
@@ -23,7 +24,7 @@ pub put_new-put_one-requires : goal.put_new-put_one-requires
 put_new-put_one-requires g t c κs within =
     let es = asked c.args.depth c.args.mask 0 (map edit_of c.args.edits.now) in
     let here = first_in_gap c.loop-new.left es c.in-Some.new c.in-Some.ensures in
-    (omega (arith, c.decreases), (within, (c.requires.few, (c.requires.short, (c.requires.apart, (c.requires.public, here))))))
+    (omega (arith, c.decreases), (within.0, (within.1, (c.requires.few, (c.requires.short, (c.requires.apart, (c.requires.public, here)))))))
 
 pub put_new-returns-in_err-put_one-clause-takes : goal.put_new-returns-in_err-put_one-clause-takes
 put_new-returns-in_err-put_one-clause-takes g t c =
@@ -38,6 +39,18 @@ put_new-returns-in_err-put_one-clause-takes g t c =
     (then_taken g.S.Sink c.args.sink.now c.loop-new.sink c.put_one.new.sink front (row left es) r (c.loop-new.invariant.state, c.loop-new.invariant.bytes)
     (subst (λ (xs : List Atom). Takes g.S.Sink c.loop-new.sink c.put_one.new.sink xs r) (sym next)
     (failed_taken g.S.Sink c.loop-new.sink c.put_one.new.sink (one_row tag es) later r c.from_residual.ensures.0 c.in_err-put_one.ensures.takes)))
+
+pub put_new-loop-new-init : goal.put_new-loop-new-init
+put_new-loop-new-init g t c =
+    let taken = takes_nothing g.S.Sink c.args.sink.now [] refl in
+    record {
+      front = [];
+      atoms = refl;
+      state = taken.0;
+      bytes = taken.1;
+      failed = refl;
+      kept = refl;
+    }
 
 pub put_new-loop-new-smaller : goal.put_new-loop-new-smaller
 put_new-loop-new-smaller g t c =
@@ -78,7 +91,7 @@ pub put_one-put_sequence-requires : goal.put_one-put_sequence-requires
 put_one-put_sequence-requires g t c κs within =
     let here = is_sequence_at c.args.new c.in-Sequence.tag (asked c.args.depth c.args.mask 0 (map edit_of c.args.edits.now)) c.in-Sequence.is c.requires.here in
     let deep = short_of c.args.depth c.args.mask 0 c.in-Sequence.tag (map edit_of c.args.edits.now) c.requires.short here in
-    (omega (arith, c.decreases, deep), (within, (c.requires.few, (deep, (c.requires.short, (c.requires.apart, (c.requires.public, here)))))))
+    (omega (arith, c.decreases, deep), (within.0, (within.1, (c.requires.few, (deep, (c.requires.short, (c.requires.apart, (c.requires.public, here))))))))
 
 -- ---- a sequence
 
@@ -101,7 +114,7 @@ put_sequence-put_new-requires g t c κs within =
     let few = c.requires.depth in
     let deeper : suc c.args.depth ≡ c.args.depth + 1 = omega arith in (
       omega (arith, c.decreases, few),
-      (within, (c.requires.few, (omega (arith, few), (c.requires.short, (subst (λ (d : ℕ). AreApart (asked d inner 0 edits)) deeper apart, subst (λ (d : ℕ). ArePublic (asked d inner 0 edits)) deeper public))))),
+      (within.0, (within.1, (c.requires.few, (omega (arith, few), (c.requires.short, (subst (λ (d : ℕ). AreApart (asked d inner 0 edits)) deeper apart, subst (λ (d : ℕ). ArePublic (asked d inner 0 edits)) deeper public)))))),
     )
 
 pub put_sequence-returns-in_err-put_new-clause-takes : goal.put_sequence-returns-in_err-put_new-clause-takes

@@ -5,6 +5,6 @@ use Rattle.dcm_edit.proofs.Overlaps.{goes_on}
 use Rattle.dcm_edit.proofs.overlap.first_overlap.Goals as goal
 
 pub loop-i-preserved : goal.loop-i-preserved
-loop-i-preserved c =
+loop-i-preserved g c =
     let clear = c.if-overlaps_one.ensures ∙ ap (λ l. overlaps_one (map edit_of l) (edit_of c.index-edits-i.result)) c.split_at.ensures.front in
     goes_on c.loop-i.i c.args.edits.now c.index-edits-i.result c.loop-i-test.true c.index-edits-i.is clear ∙ c.loop-i.invariant

@@ -5,7 +5,7 @@ use Rattle.dcm_edit.proofs.overlap.is_on.Given as goal
 
 -- the steps that are left decide for all of them
 abbrev pub invariant-loop-steps : goal.invariant-loop-steps
-invariant-loop-steps l = is_on l.tag (path (along l.steps (action_of l.path.action))) ≡ is_on l.tag (path (path_edit_of l.path))
+invariant-loop-steps g l = is_on l.tag (path (along l.steps (action_of l.path.action))) ≡ is_on l.tag (path (path_edit_of l.path))
 
 abbrev pub decreases-loop-steps : goal.decreases-loop-steps
-decreases-loop-steps l = length l.steps
+decreases-loop-steps g l = length l.steps

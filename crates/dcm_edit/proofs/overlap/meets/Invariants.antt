@@ -5,9 +5,9 @@ use Rattle.dcm_edit.proofs.overlap.meets.Given as goal
 
 -- what is left of the paths decides for both
 abbrev pub invariant-loop-left_steps : goal.invariant-loop-left_steps
-invariant-loop-left_steps l =
+invariant-loop-left_steps g l =
     meets (path (along l.left_steps (action_of l.left.action))) (path (along l.right_steps (action_of l.right.action)))
     ≡ meets (path (path_edit_of l.left)) (path (path_edit_of l.right))
 
 abbrev pub decreases-loop-left_steps : goal.decreases-loop-left_steps
-decreases-loop-left_steps l = length l.left_steps
+decreases-loop-left_steps g l = length l.left_steps

@@ -5,7 +5,7 @@ use Rattle.dcm_edit.proofs.overlap.overlaps_one.Given as goal
 
 -- the edits that are left decide for all of them
 abbrev pub invariant-loop-earlier : goal.invariant-loop-earlier
-invariant-loop-earlier l = overlaps_one (map edit_of l.earlier) (edit_of l.later) ≡ overlaps_one (map edit_of l.initial.earlier) (edit_of l.later)
+invariant-loop-earlier g l = overlaps_one (map edit_of l.earlier) (edit_of l.later) ≡ overlaps_one (map edit_of l.initial.earlier) (edit_of l.later)
 
 abbrev pub decreases-loop-earlier : goal.decreases-loop-earlier
-decreases-loop-earlier l = length l.earlier
+decreases-loop-earlier g l = length l.earlier

@@ -1,4 +1,4 @@
-use Rattle.std.proofs.Common.{rules, ◌≡◌, ◌+◌, ◌≤◌, ◌∷◌, [], ◌++◌, ℕ, suc, List, length, map, drop, Err, sym, ◌∙◌, ap, subst, arith, Vec, Global}
+use Rattle.std.proofs.Common.{rules, ◌≡◌, ◌+◌, ◌≤◌, ◌∷◌, [], ◌++◌, ℕ, suc, List, length, map, drop, Err, sym, ◌∙◌, ap, subst, arith, Vec}
 use Rattle.std.proofs.lemmas.List.{map-append}
 use Rattle.dcm_base.specs.declared.fault.EditRefusal.TheVariants.{TooMany}
 use Rattle.dcm_edit.specs.declared.edit.Edit as declared
@@ -10,7 +10,7 @@ use Rattle.dcm_edit.proofs.ManyEdits.{First, all_done, too_many, one_edit, faile
 use Rattle.dcm_edit.proofs.parse.edits_of.Goals as goal
 
 pub returns-then-len-eq-MOST_EDITS : goal.returns-then-len-eq-MOST_EDITS
-returns-then-len-eq-MOST_EDITS c =
+returns-then-len-eq-MOST_EDITS g c =
     let full : length c.loop-place.edits.items ≡ 64 = omega (arith, c.len.ensures, c.if-len-eq-MOST_EDITS.true) in
     let es = map edit_of c.loop-place.edits.items in
     c.loop-place.invariant.same
@@ -18,21 +18,21 @@ returns-then-len-eq-MOST_EDITS c =
     ∙ ap (λ n. Err (in_edit TooMany (n + 1))) full
 
 pub returns-in_err-edit : goal.returns-in_err-edit
-returns-in_err-edit c =
+returns-in_err-edit g c =
     let es = map edit_of c.loop-place.edits.items in
     let some : length c.loop-place.edits.items + 1 ≤ 64 = omega (arith, c.if-len-eq-MOST_EDITS.false, c.len.ensures, c.loop-place.invariant.few) in
     let number : c.len-in-loop-place.result + 1 ≡ length c.loop-place.edits.items + 1 = omega (arith, c.len-in-loop-place.ensures) in
-    let view : declared.Edit × ℕ → First = λ r. (edit_of r.0, texts (drop (c.loop-place.place + r.1) c.args.words.now)) in
+    let view : declared.Edit g.row.A.Denot × ℕ → First = λ r. (edit_of r.0, texts (drop (c.loop-place.place + r.1) c.args.words.now)) in
     let fault = c.in_err-edit.field-0.0 in
     let first = first_edit (texts (drop c.loop-place.place c.args.words.now)) in
     let here = subst (λ n. MakesFrom view n (Err fault) first) number c.in_err-edit.ensures.edit in
-    let listed : Vec declared.Edit Global → List Edit = λ v. map edit_of v.items in
+    let listed : Vec (declared.Edit g.row.A.Denot) g.row.A.Denot → List Edit = λ v. map edit_of v.items in
     let all = failed view listed es fault (length c.loop-place.edits.items + 1) c.loop-place.place c.args.words.now c.loop-place-test.true some here in
     let made = subst (MakesAll listed (Err fault)) (sym c.loop-place.invariant.same) all in
     search rules
 
 pub loop-place-preserved : goal.loop-place-preserved
-loop-place-preserved c =
+loop-place-preserved g c =
     let items = c.loop-place.edits.items in
     let es = map edit_of items in
     let new = c.in_ok-push.ensures.items in
@@ -43,10 +43,10 @@ loop-place-preserved c =
     record {
       same = meant
           ∙ ap (λ l. after_edits l (meant_from (suc (length items + 1)) rest)) (sym edits)
-          ∙ ap (λ n. after_edits (map edit_of c.push.new.self.items) (meant_from n rest)) (one_longer items c.in_ok-edit.edit ∙ ap (λ (l : List declared.Edit). length l + 1) (sym new));
+          ∙ ap (λ n. after_edits (map edit_of c.push.new.self.items) (meant_from n rest)) (one_longer items c.in_ok-edit.edit ∙ ap (λ (l : List (declared.Edit g.row.A.Denot)). length l + 1) (sym new));
       few = longer items c.in_ok-edit.edit c.push.new.self.items new some;
       within = c.in_ok-edit.ensures.used.1;
     }
 
 pub returns : goal.returns
-returns c = c.loop-place.invariant.same ∙ all_done (map edit_of c.loop-place.edits.items) _ c.loop-place.place c.args.words.now c.loop-place-test.false
+returns g c = c.loop-place.invariant.same ∙ all_done (map edit_of c.loop-place.edits.items) _ c.loop-place.place c.args.words.now c.loop-place-test.false

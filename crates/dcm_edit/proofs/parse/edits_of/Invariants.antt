@@ -6,11 +6,11 @@ use Rattle.dcm_edit.proofs.parse.edits_of.Given as goal
 
 -- the edits so far, and those of the words that are left
 abbrev pub invariant-loop-place : goal.invariant-loop-place
-invariant-loop-place l = record {
+invariant-loop-place g l = record {
   same : meant_from 1 (texts l.words) ≡ after_edits (map edit_of l.edits.items) (meant_from (length l.edits.items + 1) (texts (drop l.place l.words)));
   few : length l.edits.items ≤ EDIT_LIMIT;
   within : l.place ≤ length l.words;
 }
 
 abbrev pub decreases-loop-place : goal.decreases-loop-place
-decreases-loop-place l = length l.words - l.place
+decreases-loop-place g l = length l.words - l.place

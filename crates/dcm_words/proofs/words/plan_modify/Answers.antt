@@ -8,17 +8,17 @@ abbrev no_word : Bor (List ℕ)
 no_word = record { ref_ptr = (0, 0); now = [] }
 
 pub returns-in_default : goal.returns-in_default
-returns-in_default c = few_words c.args.words.now c.in_default.len_below
+returns-in_default g c = few_words c.args.words.now c.in_default.len_below
 
 pub returns-then-not-is_path : goal.returns-then-not-is_path
-returns-then-not-is_path c =
+returns-then-not-is_path g c =
     elim c.then-not-is_path.branch [
       | then-not-is_path-via-then-not-is_path w ↦ no_input c.args.words.now no_word c.in-len2-up.len_at_least w.if-not-is_path.ensures
       | then-not-is_path-via-else-not-is_path+then-not-is_path-2 w ↦ no_output c.args.words.now no_word c.in-len2-up.len_at_least w.if-not-is_path-2.ensures
     ]
 
 pub returns : goal.returns
-returns c =
+returns g c =
     subst
     (λ m. GivesUnlessMemory c.plan_edits.result m)
     (sym (two_paths c.args.words.now no_word c.in-len2-up.len_at_least c.if-not-is_path.ensures c.if-not-is_path-2.ensures))

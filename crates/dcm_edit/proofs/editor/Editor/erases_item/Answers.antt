@@ -6,6 +6,6 @@ use Rattle.dcm_edit.proofs.Answering.{erasing}
 use Rattle.dcm_edit.proofs.editor.Editor.erases_item.Goals as goal
 
 pub returns : goal.returns
-returns c =
+returns g c =
     let here = λ (d : ℕ). masks.asked d c.args.self.now.level.mask 0 (map edit_of c.args.edits.now) in
     c.any_answers.ensures ∙ erasing c.args.tag c.args.self.now.level.items (here c.depth.result) ∙ ap (λ (d : ℕ). any_erases (here d) c.args.tag c.args.self.now.level.items) c.depth.ensures.value

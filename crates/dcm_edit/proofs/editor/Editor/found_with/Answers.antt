@@ -6,6 +6,6 @@ use Rattle.dcm_edit.proofs.Answering.{found_either}
 use Rattle.dcm_edit.proofs.editor.Editor.found_with.Goals as goal
 
 pub returns : goal.returns
-returns c =
+returns g c =
     let here = λ (d : ℕ). map (answer_of c.args.question) (masks.asked d c.args.self.now.level.mask 0 (map edit_of c.args.edits.now)) in
     found_either c.args.self.now.found c.answering.result 0 0 0 (map edit_of c.args.edits.now) _ (c.answering.ensures ∙ ap here c.depth.ensures.value)

@@ -6,5 +6,5 @@ use Rattle.dcm_edit.proofs.ManyEdits.{are_meant}
 use Rattle.dcm_edit.proofs.edits.Edits.parse.Goals as goal
 
 pub invariant_of-result : goal.invariant_of-result
-invariant_of-result c =
+invariant_of-result g c =
     are_meant (texts c.args.words.now) (map edit_of c.in_ok-list.list.items) c.in_ok-list.ensures (c.in-None.ensures ∙ ap (λ l. first_overlap 1 [] (map edit_of l)) c.as_slice.ensures.value)
