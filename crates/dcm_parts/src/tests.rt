@@ -4,6 +4,7 @@ mod examples;
 mod files;
 mod heads;
 mod lines;
+mod memory;
 mod texts;
 mod values;
 mod words;
