@@ -25,3 +25,4 @@ pub mod Stopping
 pub mod InMemory
 pub mod OutputEdited
 pub mod ModifiedTwice
+pub mod Obeying

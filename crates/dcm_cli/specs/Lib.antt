@@ -7,6 +7,8 @@ pub mod Lines
 pub mod Run
 pub mod InMemory
 pub mod Devices
+pub mod Output
+pub mod Program
 pub mod DumpBuilds
 pub mod NoEdits
 pub mod ReadsAgain

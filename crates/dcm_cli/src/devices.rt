@@ -1,117 +1,125 @@
-// The devices of a program.
-ghost use Rattle.std.specs.Prelude.{◌≡◌, ◌≢◌, MatchResult, IfOk};
-ghost use Rattle.either.specs.Either.{is_left};
-ghost use Rattle.dcm_cli.specs.Devices.{standard, IsOpenAt};
+// The devices of a job.
+ghost use Rattle.std.specs.Prelude.{◌≡◌, ◌≢◌, MatchResult};
+ghost use Rattle.std.specs.IoError.{error_kind};
+ghost use Rattle.std.specs.Str.{IsUtf8};
+ghost use Rattle.dcm_cli.specs.Devices as spec;
+ghost use Rattle.dcm_cli.specs.Devices.{MayAnswer, IsCause, OpensInput, OpensOutput, OpensDevices};
 
-use crate::output::OutputFile;
-use either::{Either, Left, Right};
-use std::fs::{File, Metadata, OpenOptions};
-use std::io::{ErrorKind, Stdin, Stdout};
-use std::os::unix::fs::MetadataExt;
-use std::{fs, io, str};
-
-/// What can be neither read nor written, for a standard stream that is closed.
-const NOTHING: &str = "/";
+use crate::opened::{FileKind, Opened, Unopened};
+use dcm_base::{DeviceIn, DeviceOut};
+use std::io::ErrorKind;
+use std::{io, str};
 
 /// The path of a standard stream.
 const STANDARD: &[u8] = b"-";
 
-/// What standard input reads from, as a path.
-const STANDARD_INPUT: &str = "/dev/stdin";
+/// What opens the devices of a program.
+pub trait System {
+    type Input: DeviceIn + Drop;
 
-/// The input of a job: standard input, or a file.
-pub type Input = Either<Stdin, File>;
+    type Output: DeviceOut + Drop;
 
-/// The output of a job: standard output, or a file.
-pub type Output = Either<Stdout, OutputFile<File>>;
+    /// What the calls below may answer.
+    ghost may_answer: { Self → MayAnswer Self.Input Self.Output };
 
-/// The numbers of standard streams that were closed when the program began.
-#[derive(Drop)]
-pub struct Reserved {
-    _input: Option<File>,
-    _output: Option<File>,
-    _errors: Option<File>,
-}
+    /// Standard input.
+    fn stdin(&self) -> Opened<Self::Input>
+        ensures { (may_answer self.now).stdin result };
 
-/// Takes the numbers of standard streams that are closed, so that no file that is opened after it gets one of them, and with
-/// it what is written to the stream. They are kept as long as the answer is.
-pub fn reserve(rt: HostRuntime) -> Reserved {
-    Reserved {
-        _input: File::open(&rt, NOTHING).ok(),
-        _output: File::open(&rt, NOTHING).ok(),
-        _errors: File::open(&rt, NOTHING).ok(),
-    }
+    /// What is read at a path.
+    fn open(&self, path: &str) -> io::Result<Opened<Self::Input>>
+        ensures { (may_answer self.now).opens path.now result };
+
+    /// Standard output.
+    fn stdout(&self) -> io::Result<Opened<Self::Output>>
+        ensures { (may_answer self.now).stdout result };
+
+    /// What is written at a path. A file that is there keeps what it holds until its first byte is written.
+    fn create(&self, path: &str) -> io::Result<Opened<Self::Output>>
+        ensures { (may_answer self.now).creates path.now result };
+
+    /// Closes an output. What one that failed still holds is not written again.
+    fn close(&self, output: Self::Output);
 }
 
 /// A path as a text.
 fn path(word: &[u8]) -> io::Result<&str>
-    ensures { IfOk result (λ path. path.now ≡ word.now) }
+    ensures { MatchResult result (λ path. path.now ≡ word.now) (λ e. ¬ (IsUtf8 word.now) × (error_kind e ≡ ErrorKind.InvalidFilename)) }
 {
     match str::from_utf8(word) {
         Ok(path) => Ok(path),
-        Err(_) => Err(io::Error::from(io::ErrorKind::InvalidFilename)),
+        Err(_) => Err(io::Error::from(ErrorKind::InvalidFilename)),
     }
 }
 
-/// Opens what can be read at a path, which is no directory.
-fn open_file(rt: HostRuntime, path: &str) -> io::Result<File> {
-    let file = File::open(&rt, path)?;
-    if file.metadata()?.is_dir() {
+/// Opens an input, `-` for standard input. A path of a directory is refused.
+pub fn open_input<S: System>(system: &S, word: &[u8]) -> io::Result<Opened<S::Input>>
+    ensures { OpensInput (S.may_answer system.now) word.now result }
+{
+    if word == STANDARD {
+        return Ok(system.stdin());
+    }
+    let input = system.open(path(word)?)?;
+    if input.kind == FileKind::Directory {
         return Err(io::Error::from(ErrorKind::IsADirectory));
     }
-    Ok(file)
+    Ok(input)
 }
 
-/// Opens an input, `-` for standard input.
-pub fn open_input(rt: HostRuntime, word: &[u8]) -> io::Result<Input>
-    ensures { MatchResult result (λ input. IsOpenAt (is_left input) word.now) (λ _. word.now ≢ standard) }
+/// Opens an output, `-` for standard output.
+pub fn open_output<S: System>(system: &S, word: &[u8]) -> io::Result<Opened<S::Output>>
+    ensures { OpensOutput (S.may_answer system.now) word.now result }
 {
     if word == STANDARD {
-        return Ok(Left(rt.stdin()));
+        return system.stdout();
     }
-    Ok(Right(open_file(rt, path(word)?)?))
+    system.create(path(word)?)
 }
 
-/// Opens an output, `-` for standard output. A file that is there keeps what it holds until the first byte is written.
-pub fn open_output(rt: HostRuntime, word: &[u8]) -> io::Result<Output>
-    ensures { MatchResult result (λ output. IsOpenAt (is_left output) word.now) (λ _. word.now ≢ standard) }
+/// Whether both are one regular file, under whatever names.
+fn is_same_file(input: FileKind, output: FileKind) -> bool
+    ensures { result ≡ spec.is_same_file input output }
 {
-    if word == STANDARD {
-        return Ok(Left(rt.stdout()));
-    }
-    let file = OpenOptions::new()
-        .write(true)
-        .create(true)
-        .open(&rt, path(word)?)?;
-    Ok(Right(OutputFile::new(file)))
-}
-
-/// The device and the number of a regular file.
-fn identity(file: io::Result<Metadata>) -> Option<(u64, u64)> {
-    match file {
-        Ok(file) if file.is_file() => Some((file.dev(), file.ino())),
-        _ => None,
-    }
-}
-
-fn input_identity(rt: HostRuntime, input: &Input) -> Option<(u64, u64)> {
-    match input {
-        Left(_) => identity(fs::metadata(&rt, STANDARD_INPUT)),
-        Right(file) => identity(file.metadata()),
-    }
-}
-
-fn output_identity(output: &Output) -> Option<(u64, u64)> {
-    match output {
-        Left(_) => None,
-        Right(file) => identity(file.metadata()),
-    }
-}
-
-/// Whether an output is the regular file that is read, under whatever names.
-pub fn is_same_file(rt: HostRuntime, input: &Input, output: &Output) -> bool {
-    match (input_identity(rt, input), output_identity(output)) {
-        (Some(input), Some(output)) => input == output,
+    match (input, output) {
+        (
+            FileKind::Regular {
+                device: input_device,
+                number: input_number,
+            },
+            FileKind::Regular { device, number },
+        ) => input_device == device && input_number == number,
         _ => false,
     }
+}
+
+/// Why a job is not begun after this error on opening its input or its output.
+fn unopened(e: &io::Error, which: Unopened) -> Unopened
+    ensures { IsCause (error_kind e.now) which result }
+{
+    match e.kind() {
+        ErrorKind::OutOfMemory => Unopened::Memory,
+        _ => which,
+    }
+}
+
+/// Opens the devices of a job, the input before the output. They are refused where both are one file.
+pub fn open_devices<S: System>(
+    system: &S,
+    input: &[u8],
+    output: &[u8],
+) -> Result<(Opened<S::Input>, Opened<S::Output>), Unopened>
+    ensures { OpensDevices (S.may_answer system.now) input.now output.now result }
+{
+    let input = match open_input(system, input) {
+        Ok(input) => input,
+        Err(e) => return Err(unopened(&e, Unopened::Input)),
+    };
+    let output = match open_output(system, output) {
+        Ok(output) => output,
+        Err(e) => return Err(unopened(&e, Unopened::Output)),
+    };
+    if is_same_file(input.kind, output.kind) {
+        return Err(Unopened::Output);
+    }
+    Ok((input, output))
 }

@@ -3,8 +3,9 @@
 //! - `run::run` does a job: it reads its input in pieces of at most 262,144 bytes, writes its output as it goes, reports what
 //!   is wrong, and answers how it ended. Its contract is the theorem of the whole.
 //! - `dump`, `convert`, `modify` and `build` are the work on the four kinds of jobs, by `head`, `pass` and `rewrite`.
-//! - `tell` and `tell_open` report words that are refused and files that cannot be opened; `dcmtools` does all that the
-//!   program does, and `main` calls it.
+//! - `tell` and `tell_open` report words that are refused and files that cannot be opened.
+//! - `obey` does what words say, over any system that opens devices (`System`); `dcmtools` does it over the real one, and
+//!   `main` calls it.
 //!
 //! A run over memory:
 //!
@@ -17,14 +18,16 @@
 
 mod build;
 mod convert;
-mod devices;
+pub mod devices;
 mod dump;
 mod ending;
 mod head;
+mod host;
 pub mod in_memory;
 pub mod laws;
 mod modify;
-mod output;
+pub mod opened;
+pub mod output;
 mod pass;
 mod program;
 mod rewrite;
@@ -33,5 +36,5 @@ mod syntax;
 mod told;
 
 pub use dcm_words::{Build, Convert, Dump, Job, Planned, plan};
-pub use program::dcmtools;
+pub use program::{dcmtools, obey};
 pub use told::{tell, tell_open};

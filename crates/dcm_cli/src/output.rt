@@ -1,9 +1,56 @@
-// The output of a program.
+// A file that is written from its beginning.
 ghost use Rattle.std.specs.Prelude.{◌≡◌, OnOk, true, false};
+ghost use Rattle.std.specs.Io.{WritesAtMost};
+ghost use Rattle.dcm_cli.specs.Output as spec;
+ghost use Rattle.dcm_cli.specs.Output.{FileMayDo, Begins};
 
-use std::fs::{Metadata, OpenFile};
+use std::fs::File;
 use std::io;
 use std::io::Write;
+
+/// A file that can be written, and emptied before that.
+pub trait Target {
+    /// What the calls below may answer and leave.
+    ghost may_do: { FileMayDo Self };
+
+    /// Whether it is a regular file that holds bytes.
+    fn holds_bytes(&self) -> io::Result<bool>
+        ensures { may_do.holds self.now result };
+
+    /// Truncates it to no bytes.
+    fn empty(&mut self) -> io::Result<()>
+        ensures { may_do.empties self.old result self.new };
+
+    /// Writes some of the bytes, and answers how many.
+    fn write_some(&mut self, bytes: &[u8]) -> io::Result<usize>
+        ensures bound { WritesAtMost result bytes.now }
+        ensures written { may_do.writes self.old bytes.now result self.new };
+
+    /// Hands on what it holds back.
+    fn hand_on(&mut self) -> io::Result<()>
+        ensures { may_do.flushes self.old result self.new };
+}
+
+impl Target for File {
+    ghost may_do = { spec.anything };
+
+    fn holds_bytes(&self) -> io::Result<bool> {
+        let file = self.metadata()?;
+        Ok(file.is_file() && file.len() > 0)
+    }
+
+    fn empty(&mut self) -> io::Result<()> {
+        self.set_len(0)
+    }
+
+    fn write_some(&mut self, bytes: &[u8]) -> io::Result<usize> {
+        self.write(bytes)
+    }
+
+    fn hand_on(&mut self) -> io::Result<()> {
+        self.flush()
+    }
+}
 
 /// A file that is written from its beginning. What it held before stays until then.
 #[derive(Drop)]
@@ -25,38 +72,37 @@ impl<F> OutputFile<F> {
     }
 }
 
-impl<F: OpenFile> OutputFile<F> {
-    pub fn metadata(&self) -> io::Result<Metadata> {
-        self.file.metadata()
-    }
-
+impl<F: Target> OutputFile<F> {
     /// Truncates a regular file before its first byte is written. Streams and devices have nothing to truncate, and a new file
     /// is left alone: ext4 writes a file that was truncated to the disk when it is closed, which takes as long again.
     fn begin(&mut self) -> io::Result<()>
-        ensures file { self.new.file ≡ self.old.file }
+        ensures begins { Begins F.may_do self.old self.new result }
         ensures begun { OnOk result (self.new.is_begun ≡ true) }
     {
         if self.is_begun {
             return Ok(());
         }
-        let file = self.file.metadata()?;
-        if file.is_file() && file.len() > 0 {
-            self.file.set_len(0)?;
+        if self.file.holds_bytes()? {
+            self.file.empty()?;
         }
         self.is_begun = true;
         Ok(())
     }
 }
 
-impl<F: OpenFile + Write> Write for OutputFile<F> {
-    ghost contents = { λ output. F.contents output.file };
-
-    fn write(&mut self, bytes: &[u8]) -> io::Result<usize> {
+impl<F: Target> Write for OutputFile<F> {
+    fn write(&mut self, bytes: &[u8]) -> io::Result<usize>
+        ensures bound { WritesAtMost result bytes.now }
+        ensures written { spec.Writes F.may_do self.old self.new bytes.now result }
+    {
         self.begin()?;
-        self.file.write(bytes)
+        self.file.write_some(bytes)
     }
 
-    fn flush(&mut self) -> io::Result<()> {
-        self.file.flush()
+    fn flush(&mut self) -> io::Result<()>
+        ensures flushed { F.may_do.flushes self.old.file result self.new.file }
+        ensures begun { self.new.is_begun ≡ self.old.is_begun }
+    {
+        self.file.hand_on()
     }
 }

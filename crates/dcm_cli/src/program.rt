@@ -1,19 +1,22 @@
 // The program: words, devices, and the exit status.
-ghost use Rattle.std.specs.Prelude.{◌≤◌, ◌≡◌, ◌≢◌};
+ghost use Rattle.std.specs.Prelude.{◌≤◌, ◌≡◌, ◌≢◌, map};
 ghost use Rattle.std.specs.IoError.{error_kind};
-ghost use Rattle.dcm_cli.specs.Told as spec;
+ghost use Rattle.dcm_words.specs.Plans.{planned as plan_of};
+ghost use Rattle.dcm_cli.specs.Program as spec;
+ghost use Rattle.dcm_cli.specs.Told.{Tries, usage_line, usage_status};
+ghost use Rattle.dcm_words.specs.declared.usage.Usage.TheVariants as usages;
+ghost use Rattle.dcm_base.specs.declared.fault.WordFault.TheVariants as faults;
 
-use crate::devices::{is_same_file, open_input, open_output, reserve};
+use crate::devices::{System, open_devices};
+use crate::host::Host;
+use crate::opened::Unopened;
 use crate::run::run;
 use crate::told::{tell, tell_open};
-use dcm_base::{DeviceOut, Std, Watched, WordFault};
+use dcm_base::{DeviceOut, Watched, WordFault};
 use dcm_words::{Planned, Usage, plan};
-use std::alloc::AllocError;
-use std::io::{BufWriter, ErrorKind, Stderr};
+use std::alloc::{AllocError, Global};
+use std::io::ErrorKind;
 use std::{env, io};
-
-/// The bytes that are written at a time.
-const BUFFER: usize = 262_144;
 
 fn read_words(rt: HostRuntime) -> io::Result<Vec<String>> {
     let mut words = Vec::new(rt.alloc());
@@ -31,91 +34,109 @@ fn views<'a>(rt: HostRuntime, words: &'a [String]) -> Result<Vec<&'a [u8]>, Allo
     Ok(views)
 }
 
-fn standard_error(rt: HostRuntime) -> Watched<Std<Stderr>> {
-    Watched::new(Std::new(rt.stderr()))
+/// Reports why a job is not begun, and answers the status.
+fn tell_unopened<E: DeviceOut>(unopened: Unopened, errors: &mut Watched<E>) -> u8
+    ensures line { Tries (E.contents errors.old) (E.contents errors.new) (E.has_failed errors.old) (E.has_failed errors.new) (spec.unopened_line unopened) }
+    ensures status { result ≡ spec.unopened_status unopened }
+{
+    match unopened {
+        Unopened::Input => tell_open(false, errors),
+        Unopened::Output => tell_open(true, errors),
+        Unopened::Memory => tell(&Usage::Memory, errors),
+    }
 }
 
-/// Opens the devices of a job and runs it. The input is opened before the output, and nothing is read or written where both are
-/// one file.
-fn work(rt: HostRuntime, planned: &Planned) -> u8
-    ensures { result ≤ 5 }
+/// Opens the devices of a job and runs it. Nothing is read or written where one cannot be opened.
+fn work<S: System, E: DeviceOut>(system: &S, planned: &Planned, errors: &mut Watched<E>) -> u8
+    ensures works { spec.Works (S.may_answer system.now)
+        (record {
+          remaining = S.Input.remaining;
+          unread = S.Input.has_failed;
+          contents = S.Output.contents;
+          room = S.Output.room;
+          unwritten = S.Output.has_failed;
+          is_flushed = S.Output.is_flushed;
+        })
+        (plan_of planned.now)
+        (record {
+          told = E.contents errors.old;
+          tells = E.contents errors.new;
+          untold_before = E.has_failed errors.old;
+          untold = E.has_failed errors.new;
+        })
+        result }
+    ensures within { result ≤ 5 }
 {
-    let _reserved = reserve(rt);
-    let mut errors = standard_error(rt);
-    let input = match open_input(rt, planned.input) {
-        Ok(input) => input,
-        Err(e) => return tell_unopened(&e, false, &mut errors),
+    let (input, output) = match open_devices(system, planned.input, planned.output) {
+        Ok(devices) => devices,
+        Err(unopened) => return tell_unopened(unopened, errors),
     };
-    let output = match open_output(rt, planned.output) {
-        Ok(output) => output,
-        Err(e) => return tell_unopened(&e, true, &mut errors),
-    };
-    if is_same_file(rt, &input, &output) {
-        return tell_open(true, &mut errors);
-    }
-    let mut input = Watched::new(Std::new(input));
-    let mut out = match BufWriter::with_capacity(rt.alloc(), BUFFER, output) {
-        Ok(output) => Watched::new(Std::new(output)),
-        Err(_) => return tell(&Usage::Memory, &mut errors),
-    };
-    let outcome = run(&planned.job, &mut input, &mut out, &mut errors);
-    let failed = out.failed();
-    let writer = out.into_device().into_inner();
-    if failed {
-        // What a failed writer still holds is not written again.
-        let (_output, _unwritten) = writer.into_parts();
-    }
+    let mut input = Watched::new(input.device);
+    let mut out = Watched::new(output.device);
+    let outcome = run(&planned.job, &mut input, &mut out, errors);
+    system.close(out.into_device());
     outcome.status
 }
 
-/// Tells that a device cannot be opened.
-fn tell_unopened<E: DeviceOut>(e: &io::Error, output: bool, errors: &mut Watched<E>) -> u8
-    ensures line { error_kind e.now ≢ ErrorKind.OutOfMemory → spec.Tries (E.contents errors.old) (E.contents errors.new) (E.has_failed errors.old) (E.has_failed errors.new) (spec.open_line output) }
-    ensures status { error_kind e.now ≢ ErrorKind.OutOfMemory → result ≡ 4 }
+/// Does what the words of a command line say, after the program's name, with the devices that they name. It reports what is
+/// wrong, and answers the exit status.
+pub fn obey<S: System, E: DeviceOut>(
+    system: &S,
+    alloc: Global,
+    words: &[&[u8]],
+    errors: &mut Watched<E>,
+) -> u8
+    ensures obeys { spec.Obeys (S.may_answer system.now)
+        (record {
+          remaining = S.Input.remaining;
+          unread = S.Input.has_failed;
+          contents = S.Output.contents;
+          room = S.Output.room;
+          unwritten = S.Output.has_failed;
+          is_flushed = S.Output.is_flushed;
+        })
+        (map (λ w. w.now) words.now)
+        (record {
+          told = E.contents errors.old;
+          tells = E.contents errors.new;
+          untold_before = E.has_failed errors.old;
+          untold = E.has_failed errors.new;
+        })
+        result }
+    ensures within { result ≤ 5 }
+{
+    match plan(alloc, words) {
+        Ok(planned) => work(system, &planned, errors),
+        Err(usage) => tell(&usage, errors),
+    }
+}
+
+/// Reports words that cannot be read. Words that are no text are the words of no tool.
+fn tell_unread_words<E: DeviceOut>(e: &io::Error, errors: &mut Watched<E>) -> u8
+    ensures line { error_kind e.now ≢ ErrorKind.OutOfMemory → Tries (E.contents errors.old) (E.contents errors.new) (E.has_failed errors.old) (E.has_failed errors.new) (usage_line (usages.AtWord faults.UnknownTool 1)) }
+    ensures status { error_kind e.now ≢ ErrorKind.OutOfMemory → result ≡ 1 }
+    ensures memory_line { error_kind e.now ≡ ErrorKind.OutOfMemory → Tries (E.contents errors.old) (E.contents errors.new) (E.has_failed errors.old) (E.has_failed errors.new) (usage_line usages.Memory) }
     ensures memory { error_kind e.now ≡ ErrorKind.OutOfMemory → result ≡ 5 }
     ensures within { result ≤ 5 }
 {
     match e.kind() {
         ErrorKind::OutOfMemory => tell(&Usage::Memory, errors),
-        _ => tell_open(output, errors),
+        _ => tell(&Usage::AtWord(WordFault::UnknownTool, 1), errors),
     }
 }
 
-/// Words that are no text are the words of no tool.
-fn tell_unread_words(e: &io::Error, rt: HostRuntime) -> u8
-    ensures status { error_kind e.now ≢ ErrorKind.OutOfMemory → result ≡ 1 }
-    ensures memory { error_kind e.now ≡ ErrorKind.OutOfMemory → result ≡ 5 }
-    ensures within { result ≤ 5 }
-{
-    let mut errors = standard_error(rt);
-    match e.kind() {
-        ErrorKind::OutOfMemory => tell(&Usage::Memory, &mut errors),
-        _ => tell(&Usage::AtWord(WordFault::UnknownTool, 1), &mut errors),
-    }
-}
-
-/// Tells why words are refused, on standard error.
-fn tell_usage(usage: &Usage, rt: HostRuntime) -> u8
-    ensures status { result ≡ spec.usage_status usage.now }
-    ensures within { result ≤ 5 }
-{
-    tell(usage, &mut standard_error(rt))
-}
-
-/// Does what the words of the command line say, with the devices that they name, and answers the exit status.
+/// Does what the words of the command line say, over the system's devices, and answers the exit status.
 pub fn dcmtools(rt: HostRuntime) -> u8
     ensures { result ≤ 5 }
 {
+    let host = Host::new(rt);
+    let mut errors = Watched::new(host.stderr());
     let words = match read_words(rt) {
         Ok(words) => words,
-        Err(e) => return tell_unread_words(&e, rt),
+        Err(e) => return tell_unread_words(&e, &mut errors),
     };
-    let views = match views(rt, words.as_slice()) {
-        Ok(views) => views,
-        Err(AllocError) => return tell_usage(&Usage::Memory, rt),
-    };
-    match plan(rt.alloc(), views.as_slice()) {
-        Ok(planned) => work(rt, &planned),
-        Err(usage) => tell_usage(&usage, rt),
+    match views(rt, words.as_slice()) {
+        Ok(words) => obey(&host, rt.alloc(), words.as_slice(), &mut errors),
+        Err(AllocError) => tell(&Usage::Memory, &mut errors),
     }
 }

@@ -6,6 +6,7 @@ mod failing;
 mod long_lines;
 mod modifications;
 mod nested;
+mod opening;
 mod rebuilt;
 mod rooms;
 mod rows;

@@ -1,0 +1,30 @@
+use Rattle.std.proofs.Common.{rules, subst, refl}
+use Rattle.dcm_cli.specs.Devices.{OpensInput, OpensOutput, no_input, no_output, same, both}
+use Rattle.dcm_cli.proofs.devices.open_devices.Goals as goal
+
+pub returns-in-Err : goal.returns-in-Err
+returns-in-Err g c =
+    no_input c.in-Err.e c.unopened.result
+    (subst (λ r. OpensInput (g.S.System.may_answer c.args.system.now) c.args.input.now r) c.in-Err.is c.open_input.ensures)
+    c.unopened.ensures refl
+
+pub returns-in-Err-open_output : goal.returns-in-Err-open_output
+returns-in-Err-open_output g c =
+    no_output c.in-Ok.input c.in-Err-open_output.e c.unopened-in-Err-open_output.result
+    (subst (λ r. OpensInput (g.S.System.may_answer c.args.system.now) c.args.input.now r) c.in-Ok.is c.open_input.ensures)
+    (subst (λ r. OpensOutput (g.S.System.may_answer c.args.system.now) c.args.output.now r) c.in-Err-open_output.is c.open_output.ensures)
+    c.unopened-in-Err-open_output.ensures refl
+
+pub returns-then-is_same_file : goal.returns-then-is_same_file
+returns-then-is_same_file g c =
+    same c.in-Ok.input c.in-Ok-open_output.output
+    (subst (λ r. OpensInput (g.S.System.may_answer c.args.system.now) c.args.input.now r) c.in-Ok.is c.open_input.ensures)
+    (subst (λ r. OpensOutput (g.S.System.may_answer c.args.system.now) c.args.output.now r) c.in-Ok-open_output.is c.open_output.ensures)
+    (search rules) refl
+
+pub returns : goal.returns
+returns g c =
+    both c.in-Ok.input c.in-Ok-open_output.output
+    (subst (λ r. OpensInput (g.S.System.may_answer c.args.system.now) c.args.input.now r) c.in-Ok.is c.open_input.ensures)
+    (subst (λ r. OpensOutput (g.S.System.may_answer c.args.system.now) c.args.output.now r) c.in-Ok-open_output.is c.open_output.ensures)
+    (search rules) refl

@@ -1,0 +1,64 @@
+-- What a program does with the words of its command line.
+use Rattle.std.specs.Prelude.{◌≡◌, ◌⊎◌, ◌↔◌, ◌≤◌, ℕ, List, Bool, true, false, Option, Some, Ok, Err}
+use Rattle.dcm_words.specs.declared.usage.Usage.{Usage}
+use Rattle.dcm_words.specs.declared.usage.Usage.TheVariants as usages
+use Rattle.dcm_words.specs.Words.{Job, Plan, meant}
+use Rattle.dcm_words.specs.Plans.{is_modify}
+use Rattle.dcm_cli.specs.declared.opened.Opened.{Opened}
+use Rattle.dcm_cli.specs.declared.opened.Unopened.{Unopened}
+use Rattle.dcm_cli.specs.declared.opened.Unopened.TheVariants.{Input, Output, Memory}
+use Rattle.dcm_cli.specs.Devices.{MayAnswer, OpensDevices}
+use Rattle.dcm_cli.specs.Run.{Ran}
+use Rattle.dcm_cli.specs.Stops.{Stops}
+use Rattle.dcm_cli.specs.Told.{Tries, usage_line, usage_status, open_line}
+
+-- what standard error holds before and after, where it tells that, and whether it has failed
+pub record Errors : Type 0 where
+  pub told : Option (List ℕ)
+  pub tells : Option (List ℕ)
+  pub untold_before : Bool
+  pub untold : Bool
+
+-- these lines were reported, or standard error failed
+abbrev pub Reports : Errors → List ℕ → Type 0
+Reports e lines = Tries e.told e.tells e.untold_before e.untold lines
+
+abbrev pub unopened_line : Unopened → List ℕ
+unopened_line Input = open_line false
+unopened_line Output = open_line true
+unopened_line Memory = usage_line usages.Memory
+
+abbrev pub unopened_status : Unopened → ℕ
+unopened_status Memory = 5
+unopened_status _ = 4
+
+-- what devices tell
+pub record Telling (I O : Type 0) : Type 1 where
+  pub remaining : I → Option (List ℕ)
+  pub unread : I → Bool
+  pub contents : O → Option (List ℕ)
+  pub room : O → Option ℕ
+  pub unwritten : O → Bool
+  pub is_flushed : O → Bool
+
+-- a job was run over these devices
+pub record HasRun {I O : Type 0} (t : Telling I O) (job : Job) (e : Errors) (i : I) (o : O) (status : ℕ) : Type 0 where
+  pub input : I
+  pub output : O
+  pub ran : (file : List ℕ) → t.remaining i ≡ Some file → t.unread i ≡ false → t.unwritten o ≡ false
+      → Ran job file (record { left = t.remaining input; held = t.contents o; holds = t.contents output; room = t.room output; told = e.told; tells = e.tells; unread = t.unread input; unwritten = t.unwritten output; untold_before = e.untold_before; untold = e.untold }) status
+  pub stops : (file : List ℕ) → t.remaining i ≡ Some file → Stops job file (t.remaining input)
+  pub flushed : t.unwritten o ≡ false → t.unwritten output ≡ false → t.is_flushed output ≡ true
+  pub within : status ≤ 4
+  pub failed : t.unread i ≡ false → t.unwritten o ≡ false → (status ≡ 4) ↔ ((t.unread input ≡ true) ⊎ (t.unwritten output ≡ true))
+
+-- the devices of a plan cannot be opened, and that is reported; or its job was run over them
+pub data Works {I O : Type 0} (may : MayAnswer I O) (t : Telling I O) (p : Plan) (e : Errors) (status : ℕ) : Type 0 where
+  not_opened : (u : Unopened) → OpensDevices may p.input p.output (Err u) → Reports e (unopened_line u) → status ≡ unopened_status u → Works may t p e status
+  has_run : (i : Opened I) (o : Opened O) → OpensDevices may p.input p.output (Ok (i, o)) → HasRun t p.job e i.device o.device status → Works may t p e status
+
+-- the words are refused, and that is reported; or what they mean was done
+pub data Obeys {I O : Type 0} (may : MayAnswer I O) (t : Telling I O) (words : List (List ℕ)) (e : Errors) (status : ℕ) : Type 0 where
+  refused : (u : Usage) → meant words ≡ Err u → Reports e (usage_line u) → status ≡ usage_status u → Obeys may t words e status
+  no_memory : is_modify words ≡ true → Reports e (usage_line usages.Memory) → status ≡ usage_status usages.Memory → Obeys may t words e status
+  worked : (p : Plan) → meant words ≡ Ok p → Works may t p e status → Obeys may t words e status

@@ -1,0 +1,133 @@
+// The devices that the system has.
+ghost use Rattle.dcm_cli.specs.Devices.{anything};
+
+use crate::devices::System;
+use crate::opened::{FileKind, Opened};
+use crate::output::OutputFile;
+use dcm_base::{Device, Std};
+use either::{Either, Left, Right};
+use std::fs::{File, Metadata, OpenOptions};
+use std::io::{BufWriter, Stderr, Stdin, Stdout};
+use std::os::unix::fs::MetadataExt;
+use std::{fs, io};
+
+/// What can be neither read nor written, for a standard stream that is closed.
+const NOTHING: &str = "/";
+
+/// What standard input reads from, as a path.
+const STANDARD_INPUT: &str = "/dev/stdin";
+
+/// The bytes that are written at a time.
+const BUFFER: usize = 262_144;
+
+/// The numbers of standard streams that were closed when the program began.
+#[derive(Drop)]
+struct Reserved {
+    _input: Option<File>,
+    _output: Option<File>,
+    _errors: Option<File>,
+}
+
+/// Takes the numbers of standard streams that are closed, so that no file that is opened after it gets one of them, and with
+/// it what is written to the stream. They are kept as long as the answer is.
+fn reserve(rt: HostRuntime) -> Reserved {
+    Reserved {
+        _input: File::open(&rt, NOTHING).ok(),
+        _output: File::open(&rt, NOTHING).ok(),
+        _errors: File::open(&rt, NOTHING).ok(),
+    }
+}
+
+/// What a file is, by what the system says of it.
+fn kind_of(file: &Metadata) -> FileKind {
+    if file.is_dir() {
+        return FileKind::Directory;
+    }
+    if file.is_file() {
+        return FileKind::Regular {
+            device: file.dev(),
+            number: file.ino(),
+        };
+    }
+    FileKind::Other
+}
+
+/// The system that the program runs on.
+#[derive(Drop)]
+pub struct Host {
+    rt: HostRuntime,
+    _reserved: Reserved,
+}
+
+impl Host {
+    pub fn new(rt: HostRuntime) -> Self {
+        Host {
+            rt,
+            _reserved: reserve(rt),
+        }
+    }
+
+    pub fn stderr(&self) -> Std<Stderr> {
+        Std::new(self.rt.stderr())
+    }
+
+    /// An output, written through a buffer.
+    fn buffered(
+        &self,
+        output: Either<Stdout, OutputFile<File>>,
+        kind: FileKind,
+    ) -> io::Result<Opened<<Host as System>::Output>> {
+        let device = Std::new(BufWriter::with_capacity(self.rt.alloc(), BUFFER, output)?);
+        Ok(Opened { device, kind })
+    }
+}
+
+impl System for Host {
+    type Input = Std<Either<Stdin, File>>;
+
+    type Output = Std<BufWriter<Either<Stdout, OutputFile<File>>>>;
+
+    ghost may_answer = { λ _. anything };
+
+    fn stdin(&self) -> Opened<Self::Input> {
+        let kind = match fs::metadata(&self.rt, STANDARD_INPUT) {
+            Ok(file) => kind_of(&file),
+            Err(_) => FileKind::Other,
+        };
+        Opened {
+            device: Std::new(Left(self.rt.stdin())),
+            kind,
+        }
+    }
+
+    fn open(&self, path: &str) -> io::Result<Opened<Self::Input>> {
+        let file = File::open(&self.rt, path)?;
+        let kind = kind_of(&file.metadata()?);
+        Ok(Opened {
+            device: Std::new(Right(file)),
+            kind,
+        })
+    }
+
+    /// A standard stream is written as it is, also where it is the file that is read.
+    fn stdout(&self) -> io::Result<Opened<Self::Output>> {
+        self.buffered(Left(self.rt.stdout()), FileKind::Other)
+    }
+
+    fn create(&self, path: &str) -> io::Result<Opened<Self::Output>> {
+        let file = OpenOptions::new()
+            .write(true)
+            .create(true)
+            .open(&self.rt, path)?;
+        let kind = kind_of(&file.metadata()?);
+        self.buffered(Right(OutputFile::new(file)), kind)
+    }
+
+    fn close(&self, output: Self::Output) {
+        let failed = output.failed();
+        let writer = output.into_inner();
+        if failed {
+            let (_output, _unwritten) = writer.into_parts();
+        }
+    }
+}

@@ -1,0 +1,311 @@
+// Devices that cannot be opened, and files whose calls fail.
+ghost use Rattle.std.specs.Prelude.{◌≡◌, None, true};
+ghost use Rattle.dcm_cli.specs.Devices.{anything};
+ghost use Rattle.dcm_cli.specs.Output.{anything as any_file};
+
+use super::{room, split};
+use dcm_base::{Device, DeviceIn, DeviceOut, MemOut, ReadFailed, Watched, WriteFailed};
+use dcm_cli::devices::System;
+use dcm_cli::obey;
+use dcm_cli::opened::{FileKind, Opened};
+use dcm_cli::output::{OutputFile, Target};
+use std::cell::Cell;
+use std::io;
+use std::io::{ErrorKind, Write};
+use std::process::Abort;
+use std::test::Fail;
+
+/// What opening a path answers.
+#[derive(Clone, Copy)]
+enum Answer {
+    Opens(FileKind),
+    Fails(ErrorKind),
+}
+
+/// A device that counts the calls on it.
+#[derive(Drop)]
+struct Counted<'a> {
+    calls: &'a Cell<usize>,
+}
+
+impl<'a> Counted<'a> {
+    fn note(&mut self) {
+        self.calls.set(self.calls.get().saturating_add(1));
+    }
+}
+
+impl<'a> Device for Counted<'a> {
+    ghost has_failed = { λ _. true };
+
+    fn failed(&self) -> bool {
+        true
+    }
+}
+
+impl<'a> DeviceIn for Counted<'a> {
+    ghost remaining = { λ _. None };
+
+    fn get(&mut self, _buf: &mut [u8]) -> Result<usize, ReadFailed> {
+        self.note();
+        Err(ReadFailed)
+    }
+}
+
+impl<'a> DeviceOut for Counted<'a> {
+    ghost contents = { λ _. None };
+
+    ghost room = { λ _. None };
+
+    ghost is_flushed = { λ _. true };
+
+    fn put(&mut self, _bytes: &[u8]) -> Result<usize, WriteFailed> {
+        self.note();
+        Err(WriteFailed)
+    }
+
+    fn flush(&mut self) -> Result<(), WriteFailed> {
+        self.note();
+        Err(WriteFailed)
+    }
+}
+
+/// A system with one answer for each path that is read, and one for each that is written.
+#[derive(Drop)]
+struct Answers<'a> {
+    input: Answer,
+    output: Answer,
+    calls: &'a Cell<usize>,
+}
+
+impl<'a> Answers<'a> {
+    fn opened(&self, kind: FileKind) -> Opened<Counted<'a>> {
+        Opened {
+            device: Counted { calls: self.calls },
+            kind,
+        }
+    }
+
+    fn answer(&self, answer: Answer) -> io::Result<Opened<Counted<'a>>> {
+        match answer {
+            Answer::Opens(kind) => Ok(self.opened(kind)),
+            Answer::Fails(kind) => Err(io::Error::from(kind)),
+        }
+    }
+}
+
+impl<'a> System for Answers<'a> {
+    type Input = Counted<'a>;
+
+    type Output = Counted<'a>;
+
+    ghost may_answer = { λ _. anything };
+
+    fn stdin(&self) -> Opened<Counted<'a>> {
+        self.opened(FileKind::Other)
+    }
+
+    fn open(&self, _path: &str) -> io::Result<Opened<Counted<'a>>> {
+        self.answer(self.input)
+    }
+
+    fn stdout(&self) -> io::Result<Opened<Counted<'a>>> {
+        self.answer(self.output)
+    }
+
+    fn create(&self, _path: &str) -> io::Result<Opened<Counted<'a>>> {
+        self.answer(self.output)
+    }
+
+    fn close(&self, _output: Counted<'a>) {}
+}
+
+/// What words leave over such a system: the status, standard error, and the number of calls on devices.
+fn obeyed(
+    rt: HostRuntime,
+    line: &'static str,
+    input: Answer,
+    output: Answer,
+) -> Result<(u8, Vec<u8>, usize), Fail> {
+    let words = split(rt, line)?;
+    let calls = Cell::new(0usize);
+    let mut errors = Watched::new(MemOut::new(room(rt, 200)?));
+    let system = Answers {
+        input,
+        output,
+        calls: &calls,
+    };
+    let status = obey(&system, rt.alloc(), words.as_slice(), &mut errors);
+    let told = errors.device().written().to_vec(rt.alloc())?;
+    Ok((status, told, calls.get()))
+}
+
+const NO_INPUT: &[u8] = b"dcmtools: input cannot be opened\n";
+
+const NO_OUTPUT: &[u8] = b"dcmtools: output cannot be opened\n";
+
+const NO_MEMORY: &[u8] = b"dcmtools: out of memory\n";
+
+const FILE: Answer = Answer::Opens(FileKind::Regular {
+    device: 1,
+    number: 2,
+});
+
+const PIPE: Answer = Answer::Opens(FileKind::Other);
+
+/// The kind of an error, the status, and the line of an input.
+const FAILURES: [(ErrorKind, u8, bool); 5] = [
+    (ErrorKind::NotFound, 4, false),
+    (ErrorKind::PermissionDenied, 4, false),
+    (ErrorKind::OutOfMemory, 5, true),
+    (ErrorKind::IsADirectory, 4, false),
+    (ErrorKind::Interrupted, 4, false),
+];
+
+#[test]
+fn errors_of_opening(rt: HostRuntime) -> Result<(), Fail> {
+    for (kind, status, is_memory) in FAILURES {
+        let (is, told, calls) = obeyed(rt, "dcmconv a b", Answer::Fails(kind), FILE)?;
+        assert_eq!(rt; is, status);
+        assert!(rt; told.as_slice() == if is_memory { NO_MEMORY } else { NO_INPUT });
+        assert_eq!(rt; calls, 0);
+        let (is, told, calls) = obeyed(rt, "dcmconv a b", FILE, Answer::Fails(kind))?;
+        assert_eq!(rt; is, status);
+        assert!(rt; told.as_slice() == if is_memory { NO_MEMORY } else { NO_OUTPUT });
+        assert_eq!(rt; calls, 0);
+    }
+    Ok(())
+}
+
+#[test]
+fn refused_devices(rt: HostRuntime) -> Result<(), Fail> {
+    let directory = Answer::Opens(FileKind::Directory);
+    let (status, told, calls) = obeyed(rt, "dcmdump a", directory, PIPE)?;
+    assert_eq!(rt; status, 4);
+    assert!(rt; told.as_slice() == NO_INPUT);
+    assert_eq!(rt; calls, 0);
+    let (status, told, calls) = obeyed(rt, "dcmconv a b", FILE, FILE)?;
+    assert_eq!(rt; status, 4);
+    assert!(rt; told.as_slice() == NO_OUTPUT);
+    assert_eq!(rt; calls, 0);
+    let (status, told, calls) = obeyed(rt, "dcmcopy a b", FILE, PIPE)?;
+    assert_eq!(rt; status, 1);
+    assert!(rt; told.as_slice() == b"dcmtools: V1 at word 1: unknown tool\n".as_slice());
+    assert_eq!(rt; calls, 0);
+    let (status, told, calls) = obeyed(rt, "dcmconv a b", FILE, PIPE)?;
+    assert_eq!(rt; status, 4);
+    assert!(rt; told.as_slice() == b"dcmtools: reading failed after 0 bytes\n".as_slice());
+    assert!(rt; calls > 0);
+    Ok(())
+}
+
+/// Which call of a file fails.
+#[derive(Clone, Copy, Debug, PartialEq, Eq)]
+enum Call {
+    HoldsBytes,
+    Empty,
+    Write,
+    Flush,
+    None,
+}
+
+/// How often a file was emptied, written and flushed.
+#[derive(Clone, Copy, Debug, PartialEq, Eq)]
+struct Calls {
+    empties: usize,
+    writes: usize,
+    flushes: usize,
+}
+
+/// A file that holds bytes or none, and fails at one of its calls.
+#[derive(Drop)]
+struct Recorded<'a> {
+    holds_bytes: bool,
+    failing: Call,
+    calls: &'a Cell<Calls>,
+}
+
+impl<'a> Recorded<'a> {
+    fn answer(&self, call: Call) -> io::Result<()> {
+        if call == self.failing {
+            return Err(io::Error::from(ErrorKind::StorageFull));
+        }
+        Ok(())
+    }
+}
+
+impl<'a> Target for Recorded<'a> {
+    ghost may_do = { any_file };
+
+    fn holds_bytes(&self) -> io::Result<bool> {
+        self.answer(Call::HoldsBytes)?;
+        Ok(self.holds_bytes)
+    }
+
+    fn empty(&mut self) -> io::Result<()> {
+        let mut calls = self.calls.get();
+        calls.empties = calls.empties.saturating_add(1);
+        self.calls.set(calls);
+        self.answer(Call::Empty)
+    }
+
+    fn write_some(&mut self, bytes: &[u8]) -> io::Result<usize> {
+        let mut calls = self.calls.get();
+        calls.writes = calls.writes.saturating_add(1);
+        self.calls.set(calls);
+        self.answer(Call::Write)?;
+        Ok(bytes.len().min(1))
+    }
+
+    fn hand_on(&mut self) -> io::Result<()> {
+        let mut calls = self.calls.get();
+        calls.flushes = calls.flushes.saturating_add(1);
+        self.calls.set(calls);
+        self.answer(Call::Flush)
+    }
+}
+
+/// What two writes and a flush on a file leave: whether each went well, and the calls of the file.
+fn written(holds_bytes: bool, failing: Call) -> ([bool; 3], Calls) {
+    let calls = Cell::new(Calls {
+        empties: 0,
+        writes: 0,
+        flushes: 0,
+    });
+    let mut file = OutputFile::new(Recorded {
+        holds_bytes,
+        failing,
+        calls: &calls,
+    });
+    let first = file.write(b"ab").is_ok();
+    let second = file.write(b"b").is_ok();
+    let flushed = file.flush().is_ok();
+    ([first, second, flushed], calls.get())
+}
+
+fn expect_calls(abort: &impl Abort, left: ([bool; 3], Calls), well: [bool; 3], counts: [usize; 3]) {
+    let [empties, writes, flushes] = counts;
+    let calls = Calls {
+        empties,
+        writes,
+        flushes,
+    };
+    assert!(abort; left.0 == well);
+    assert_eq!(abort; left.1, calls);
+}
+
+#[test]
+fn output_files(rt: HostRuntime) {
+    let well = [true, true, true];
+    expect_calls(&rt, written(true, Call::None), well, [1, 2, 1]);
+    expect_calls(&rt, written(false, Call::None), well, [0, 2, 1]);
+    let unwritten = [false, false, true];
+    expect_calls(&rt, written(true, Call::HoldsBytes), unwritten, [0, 0, 1]);
+    expect_calls(&rt, written(true, Call::Empty), unwritten, [2, 0, 1]);
+    expect_calls(&rt, written(true, Call::Write), unwritten, [1, 2, 1]);
+    expect_calls(
+        &rt,
+        written(true, Call::Flush),
+        [true, true, false],
+        [1, 2, 1],
+    );
+}
