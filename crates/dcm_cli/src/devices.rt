@@ -1,5 +1,5 @@
 // The devices of a job.
-ghost use Rattle.std.specs.Prelude.{◌≡◌, ◌≢◌, MatchResult};
+ghost use Rattle.std.specs.Prelude.{◌≡◌, ◌≢◌, IfOk, IfErr};
 ghost use Rattle.std.specs.IoError.{error_kind};
 ghost use Rattle.std.specs.Str.{IsUtf8};
 ghost use Rattle.dcm_cli.specs.Devices as spec;
@@ -44,7 +44,8 @@ pub trait System {
 
 /// A path as a text.
 fn path(word: &[u8]) -> io::Result<&str>
-    ensures { MatchResult result (λ path. path.now ≡ word.now) (λ e. ¬ (IsUtf8 word.now) × (error_kind e ≡ ErrorKind.InvalidFilename)) }
+    ensures ok { IfOk result (λ path. path.now ≡ word.now) }
+    ensures err { IfErr result (λ e. ¬ (IsUtf8 word.now) × (error_kind e ≡ ErrorKind.InvalidFilename)) }
 {
     match str::from_utf8(word) {
         Ok(path) => Ok(path),

@@ -36,7 +36,8 @@ fn views<'a>(rt: HostRuntime, words: &'a [String]) -> Result<Vec<&'a [u8]>, Allo
 
 /// Reports why a job is not begun, and answers the status.
 fn tell_unopened<E: DeviceOut>(unopened: Unopened, errors: &mut Watched<E>) -> u8
-    ensures line { Tries (E.contents errors.old) (E.contents errors.new) (E.has_failed errors.old) (E.has_failed errors.new) (spec.unopened_line unopened) }
+    ensures line { Tries (E.contents errors.old) (E.contents errors.new) (E.has_failed errors.old) (E.has_failed errors.new)
+        (spec.unopened_line unopened) }
     ensures status { result ≡ spec.unopened_status unopened }
 {
     match unopened {
@@ -113,9 +114,13 @@ pub fn obey<S: System, E: DeviceOut>(
 
 /// Reports words that cannot be read. Words that are no text are the words of no tool.
 fn tell_unread_words<E: DeviceOut>(e: &io::Error, errors: &mut Watched<E>) -> u8
-    ensures line { error_kind e.now ≢ ErrorKind.OutOfMemory → Tries (E.contents errors.old) (E.contents errors.new) (E.has_failed errors.old) (E.has_failed errors.new) (usage_line (usages.AtWord faults.UnknownTool 1)) }
+    ensures line { error_kind e.now ≢ ErrorKind.OutOfMemory →
+        Tries (E.contents errors.old) (E.contents errors.new) (E.has_failed errors.old) (E.has_failed errors.new)
+        (usage_line (usages.AtWord faults.UnknownTool 1)) }
     ensures status { error_kind e.now ≢ ErrorKind.OutOfMemory → result ≡ 1 }
-    ensures memory_line { error_kind e.now ≡ ErrorKind.OutOfMemory → Tries (E.contents errors.old) (E.contents errors.new) (E.has_failed errors.old) (E.has_failed errors.new) (usage_line usages.Memory) }
+    ensures memory_line { error_kind e.now ≡ ErrorKind.OutOfMemory →
+        Tries (E.contents errors.old) (E.contents errors.new) (E.has_failed errors.old) (E.has_failed errors.new)
+        (usage_line usages.Memory) }
     ensures memory { error_kind e.now ≡ ErrorKind.OutOfMemory → result ≡ 5 }
     ensures within { result ≤ 5 }
 {
