@@ -7,6 +7,7 @@ use Rattle.dcm_base.specs.declared.vr.Vr.TheVariants.{SQ, UN, OB, OW}
 use Rattle.dcm_base.specs.declared.syntax.Syntax.TheVariants.{Little}
 use Rattle.dcm_base.specs.declared.length.Length.TheVariants.{Known, Undefined}
 use Rattle.dcm_base.specs.declared.form.Form.TheVariants.{Value as a_value, Sequence as a_sequence, FragmentList as a_fragment_list}
+use Rattle.dcm_base.specs.Build.{lacks_value}
 use Rattle.dcm_base.specs.Spelling.{form}
 use Rattle.dcm_base.specs.Tag.{is_item, is_item_end, is_sequence_end}
 use Rattle.dcm_base.specs.ReadValue.{value_of_text}
@@ -38,6 +39,14 @@ text_form : (tag : Tag) (vr : Vr) (cs : List ℕ) → HasForm (show_leaf tag vr 
 unfolding form
 text_form tag SQ cs = tt
 text_form tag vr cs = leaf_form tag vr (value_of_text vr cs) (λ n. refl)
+
+-- a value that its text stands for is no sequence
+pub leaf_has_form : (tag : Tag) (vr : Vr) (text : List ℕ) (n : ℕ) → lacks_value (show_leaf tag vr (value_of_text vr text)) ≡ false → form Little vr (Known n) ≡ a_value
+leaf_has_form tag vr text n h = of_value (value_of_text vr text) (text_form tag vr text) h
+  where
+    of_value : (o : Option (List ℕ)) → HasForm (show_leaf tag vr o) → lacks_value (show_leaf tag vr o) ≡ false → form Little vr (Known n) ≡ a_value
+    of_value None f h = absurd (let no : true ≡ false = h in cc)
+    of_value (Some v) f h = f n
 
 sequence_form : (vr : Vr) → may_be_sequence vr ≡ true → form Little vr Undefined ≡ a_sequence
 unfolding form

@@ -10,9 +10,6 @@ use Rattle.dcm_base.specs.Build as build
 use Rattle.dcm_base.specs.Build.{first_fault, Built, Refused, refused, Progress, Told, Lines, lines, more_lines, last_apart, lines_of, with_line, line_built, moved, tell, built_bytes, with_rest, at_input_end, at_the_cut, with_meaning, without_return}
 use Rattle.dcm_base.specs.Line.{means}
 use Rattle.dcm_base.specs.Reads.{INPUT_LIMIT}
-use Rattle.dcm_base.specs.Recode.{recode_set}
-use Rattle.dcm_base.specs.Size.{trees_size}
-use Rattle.dcm_base.specs.Transfer.{without_pads}
 use Rattle.dcm_build.proofs.BuildStanding.{standing_in}
 use Rattle.dcm_base.specs.Steps.{outputs}
 use Rattle.dcm_build.specs.Building as steps
@@ -218,7 +215,7 @@ pub data LineEnds (limit : ℕ) (p : Progress) (s : BuildState) (out : List ℕ)
 
 -- the meta group and the data set do not change with the place
 moved_on : (b : Built) (s : BuildState) (out line : List ℕ) (offset number : ℕ) → Stands b s out → Stands b (record s { line = line; offset = offset; number = number }) out
-moved_on b s out line offset number h = record { group = h.group; shown = h.shown; named = h.named; coding = h.coding; ended = h.ended; standing = h.standing; sent = sent_on b.meta_ended h.sent }
+moved_on b s out line offset number h = record { meta = h.meta; ended = h.ended; standing = h.standing; sent = sent_on b.meta_ended h.sent }
   where
     sent_on : (t : Bool) → IsSent t b.set s out → IsSent t b.set (record s { line = line; offset = offset; number = number }) out
     sent_on false w = w
@@ -475,8 +472,8 @@ ran (b ∷ bytes) room limit p s line out h g =
 
 -- before any byte
 start_stands : (limit : ℕ) → Stands build.nothing_built (build_start limit) []
-unfolding recode_set trees_size without_pads standing_in
-start_stands limit = record { group = refl; shown = refl; named = refl; coding = refl; ended = refl; standing = refl; sent = (refl, refl) }
+unfolding standing_in
+start_stands limit = record { meta = refl; ended = refl; standing = refl; sent = (refl, refl) }
 
 start_goes : (limit : ℕ) → Going limit build.at_start (build_start limit) [] []
 start_goes limit = record { stands = start_stands limit; limit_is = refl; line_is = refl; offset_is = refl; number_is = refl; told_is = refl; fresh = refl; short = omega arith }

@@ -15,6 +15,7 @@ use Rattle.dcm_base.specs.Tree.{Trees}
 use Rattle.dcm_build.specs.Building as steps
 use Rattle.dcm_build.specs.Building.{BuildState, build_start, build_step, build_writes, file_start, meta_over, line_taken, line_writes, last_line, last_writes, closed, closed_writes, ended_meta, end_writes, read_size, finishes, finish_writes, tells_at_end}
 use Rattle.dcm_build.specs.BuildLaws.{Builds, BuiltSoFar, Stays}
+use Rattle.dcm_build.specs.NewGroup.{trees_of}
 use Rattle.dcm_build.specs.Standing.{Standing, container_of}
 use Rattle.dcm_build.proofs.BuildStanding.{all_alike}
 use Rattle.dcm_build.proofs.BuildStep.{Stands, stands_bytes, same_out, none_sent, mk}
@@ -31,10 +32,10 @@ end_over meta set s out false true false false q r h = absurd (cc)
 end_over meta set s out false false false true q r h = absurd (cc)
 end_over meta set s out false false false false q r h = same_out (mk meta false set) s out h
 end_over meta set s out false true false true q r h =
-    record { group = h.group; shown = h.shown; named = h.named; coding = h.coding; ended = refl; standing = h.standing; sent = none_sent set s out h.sent.0 h.sent.1 }
+    record { meta = h.meta; ended = refl; standing = h.standing; sent = none_sent set s out h.sent.0 h.sent.1 }
 
 over_stands : (b : Built) (s : BuildState) (out : List ℕ) → Stands b s out → Stands (meta_has_ended b) (ended_meta s) (out ++ end_writes s)
-over_stands b s out h = end_over b.meta b.set s out b.meta_ended (is_some (named_coding b.meta)) s.meta_ended (is_some s.coding) h.ended (ap (λ (c : Option Coding). is_some c) h.coding) h
+over_stands b s out h = end_over b.meta b.set s out b.meta_ended (is_some (named_coding b.meta)) s.meta_ended (is_some (named_coding (trees_of s.meta))) h.ended (ap (λ (x : Trees). is_some (named_coding x)) h.meta) h
 
 end_list : Bool → Option Coding → Container → List (Bool × LineFault)
 end_list ended coding c = (not ended && is_none coding, NoTransferSyntax) ∷ (not (build.is_the_top c), EndsEarly) ∷ []
@@ -42,8 +43,8 @@ end_list ended coding c = (not ended && is_none coding, NoTransferSyntax) ∷ (n
 end_checks_alike : (b : Built) (s : BuildState) (out : List ℕ) → Stands b s out → steps.end_checks s ≡ build.end_checks b
 unfolding end_list
 end_checks_alike b s out h =
-    ap (λ x. end_list x s.coding (container_of s.standing.containers)) h.ended
-    ∙ ap (λ (x : Option Coding). end_list b.meta_ended x (container_of s.standing.containers)) h.coding
+    ap (λ x. end_list x (named_coding (trees_of s.meta)) (container_of s.standing.containers)) h.ended
+    ∙ ap (λ (x : Trees). end_list b.meta_ended (named_coding x) (container_of s.standing.containers)) h.meta
     ∙ ap (λ (x : Container). end_list b.meta_ended (named_coding b.meta) x) (ap (λ (x : Standing). container_of x.containers) h.standing ∙ (all_alike b.set).container)
 
 -- where the input ends
@@ -92,7 +93,7 @@ told_closed_writes s t e = ap (λ (o : Option Told). elim o as (λ x. List ℕ) 
 closing : (limit size : ℕ) (p : Progress) (s : BuildState) (line out : List ℕ) → Going limit p s line out → EndsAs (at_input_end size p) (closed size s) (out ++ closed_writes s)
 closing limit size p s line out g =
     let r : Option LineFault = first_fault (steps.end_checks s) in
-    let opens : Bool = not s.meta_ended && is_some s.coding in
+    let opens : Bool = not s.meta_ended && is_some (named_coding (trees_of s.meta)) in
     ends_alike (built_end r size p) (at_input_end size p) (state_end r size s) (closed size s) (out ++ end_writes s) (out ++ closed_writes s)
     (ended_by r size p (ended_meta s) (out ++ end_writes s) (stands_bytes (meta_has_ended p.built) (ended_meta s) (out ++ end_writes s) (over_stands p.built s out g.stands)) (over_place opens s ∙ g.number_is) (over_told opens s ∙ g.told_is ∙ sym g.fresh))
     (fresh_end size p g.fresh ∙ ap (λ (x : List (Bool × LineFault)). built_end (first_fault x) size p) (sym (end_checks_alike p.built s out g.stands)))

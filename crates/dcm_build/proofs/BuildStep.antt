@@ -8,7 +8,6 @@ use Rattle.dcm_base.specs.declared.tag.Tag.{Tag}
 use Rattle.dcm_base.specs.declared.vr.Vr.{Vr}
 use Rattle.dcm_base.specs.declared.level.Container.{Container}
 use Rattle.dcm_base.specs.declared.syntax.Coding.{Coding}
-use Rattle.dcm_base.specs.declared.syntax.Syntax.{Syntax}
 use Rattle.dcm_base.specs.declared.syntax.Syntax.TheVariants.{Little}
 use Rattle.dcm_base.specs.declared.length.Length.{Length}
 use Rattle.dcm_base.specs.declared.length.Length.TheVariants.{Known, Undefined}
@@ -24,25 +23,24 @@ use Rattle.dcm_base.specs.Front.{Front}
 use Rattle.dcm_base.specs.Line.{Step, show_leaf, begin_sequence, begin_fragments, begin_item, show_fragment, end_item, end_sequence, Meaning, nothing, one, no_line}
 use Rattle.dcm_base.specs.MetaGroup.{META_LIMIT}
 use Rattle.dcm_base.specs.MetaReads.{PREFIX}
-use Rattle.dcm_base.specs.NewMeta.{with_syntax, new_meta, group_length}
+use Rattle.dcm_base.specs.NewMeta.{new_meta}
 use Rattle.dcm_base.specs.Place.{depth}
-use Rattle.dcm_base.specs.Recode.{recode, recode_set}
 use Rattle.dcm_base.specs.Size.{trees_size}
 use Rattle.dcm_base.specs.Spelling.{form}
 use Rattle.dcm_base.specs.Steps.{outputs}
 use Rattle.dcm_base.specs.Stop.{opens_list}
-use Rattle.dcm_base.specs.Tag.{is_tag}
-use Rattle.dcm_base.specs.Tree.{Trees}
+use Rattle.dcm_base.specs.Tree.{Trees, no_tree, leaf, then_trees}
 use Rattle.dcm_base.proofs.Runs.{outputs-append}
 use Rattle.dcm_build.specs.declared.standing.Open.{Open}
 use Rattle.dcm_build.specs.declared.standing.Open.TheVariants.{Sequence, FragmentList, Item}
 use Rattle.dcm_build.specs.Building as steps
-use Rattle.dcm_build.specs.Building.{BuildState, value_atoms, step_atoms, file_start, group_element, group_coding, shown_size, meta_over, ends_meta, taken, taken_writes, placed, placed_writes, shows, shows_writes, tells, meaning_taken, meaning_writes}
+use Rattle.dcm_build.specs.Building.{BuildState, value_atoms, step_atoms, file_start, shown_size, meta_over, ends_meta, taken, taken_writes, placed, placed_writes, shows, shows_writes, tells, meaning_taken, meaning_writes}
 use Rattle.dcm_tools.specs.EncodeSink.{EncodeState, encode_start, encode_step, encode_writes}
 use Rattle.dcm_tools.specs.Laws.{lists_behind}
+use Rattle.dcm_build.specs.NewGroup.{trees_of}
 use Rattle.dcm_build.specs.Standing.{Standing, container_of, reached_in, lists_open, reaching, standing_with}
 use Rattle.dcm_build.proofs.BuildForms.{MeansForm}
-use Rattle.dcm_build.proofs.BuildMeta.{names_syntax, still_named, one_shown, coding_with, group_with}
+use Rattle.dcm_build.proofs.GroupSpelled.{one_shown, trees_more}
 use Rattle.dcm_build.proofs.BuildShows.{HasForm, HasValue, Grown, all_grown, none_grown}
 use Rattle.dcm_build.proofs.BuildStanding.{HasPlace, standing_in, standing_of, all_alike, all_reached, all_stands}
 use Rattle.dcm_tools.proofs.EncodeRuns.{encode_steps}
@@ -117,8 +115,8 @@ pub record Sent (f : Front) (s : BuildState) (out : List ℕ) : Type 0 where
   pub atoms : List Atom
   pub grown : Grown f atoms
   pub leads : Leads 0 atoms (lists_open (standing_of f).containers)
-  pub encoding : s.encoding ≡ fold encode_step (encode_start (coding_or_little s.coding)) atoms
-  pub written : out ≡ file_start s ++ outputs encode_step encode_writes (encode_start (coding_or_little s.coding)) atoms
+  pub encoding : s.encoding ≡ fold encode_step (encode_start (coding_or_little (named_coding (trees_of s.meta)))) atoms
+  pub written : out ≡ file_start s ++ outputs encode_step encode_writes (encode_start (coding_or_little (named_coding (trees_of s.meta)))) atoms
 
 -- before the end of the meta group there is nothing of it
 abbrev pub IsSent : Bool → Front → BuildState → List ℕ → Type 0
@@ -126,10 +124,7 @@ IsSent false f s out = (f ≡ no_elements) × (out ≡ [])
 IsSent true f s out = Sent f s out
 
 pub record Stands (b : Built) (s : BuildState) (out : List ℕ) : Type 0 where
-  pub group : s.group ≡ recode_set Little (with_syntax (named_syntax b.meta) b.meta)
-  pub shown : s.shown ≡ trees_size Little b.meta
-  pub named : s.is_named ≡ names_syntax b.meta
-  pub coding : s.coding ≡ named_coding b.meta
+  pub meta : trees_of s.meta ≡ b.meta
   pub ended : s.meta_ended ≡ b.meta_ended
   pub standing : s.standing ≡ standing_of b.set
   pub sent : IsSent b.meta_ended b.set s out
@@ -139,17 +134,6 @@ mk meta ended set = record { meta = meta; meta_ended = ended; set = set }
 
 -- ---- what is written is what they have built
 
-start_alike : (before new g : List ℕ) → g ≡ new → (before ++ group_length (length g)) ++ g ≡ before ++ (group_length (length new) ++ new)
-start_alike before new g e = ap (λ z. (before ++ group_length (length z)) ++ z) e ∙ append_assoc before (group_length (length new)) new
-
-sent_bytes : (before : List ℕ) (meta : Trees) (set : Front) (s : BuildState) (t : Syntax) (out : List ℕ) (atoms : List Atom)
-    → out ≡ ((before ++ group_length (length s.group)) ++ s.group) ++ outputs encode_step encode_writes (encode_start t) atoms → s.group ≡ recode_set Little (with_syntax (named_syntax meta) meta)
-    → Grown set atoms → Leads 0 atoms (lists_open (standing_of set).containers) → out ≡ (before ++ new_meta meta (named_syntax meta)) ++ recode t set
-sent_bytes before meta set s t out atoms w g grown leads =
-    w
-    ∙ ap (λ z. z ++ outputs encode_step encode_writes (encode_start t) atoms) (start_alike before (recode_set Little (with_syntax (named_syntax meta) meta)) s.group g)
-    ∙ ap (λ z. (before ++ new_meta meta (named_syntax meta)) ++ z) (encode_steps t set atoms leads.shallow grown.shows)
-
 pub stands_bytes : (b : Built) (s : BuildState) (out : List ℕ) → Stands b s out → out ≡ built_bytes b
 stands_bytes b s out h = by_end b.meta b.meta_ended b.set h
   where
@@ -157,17 +141,18 @@ stands_bytes b s out h = by_end b.meta b.meta_ended b.set h
     by_end meta false set h = h.sent.1
     by_end meta true set h =
         let w : Sent set s out = h.sent in
-        sent_bytes (replicate 128 0 ++ PREFIX) meta set s (coding_or_little s.coding) out w.atoms w.written h.group w.grown w.leads
-        ∙ ap (λ (c : Option Coding). (((replicate 128 0 ++ PREFIX) ++ new_meta meta (named_syntax meta)) ++ recode (coding_or_little c) set)) h.coding
+        w.written
+        ∙ ap (λ (m : Trees). (replicate 128 0 ++ PREFIX ++ new_meta m (named_syntax m)) ++ outputs encode_step encode_writes (encode_start (coding_or_little (named_coding m))) w.atoms) h.meta
+        ∙ ap (λ z. (replicate 128 0 ++ PREFIX ++ new_meta meta (named_syntax meta)) ++ z) (encode_steps (coding_or_little (named_coding meta)) set w.atoms w.leads.shallow w.grown.shows)
 
 -- ---- checks
 
 group_list : Step → Bool → Option Coding → List (Bool × LineFault)
 group_list step ended coding = (is_meta step && ended, BadMetaGroup) ∷ ((not (is_meta step) && not ended) && is_none coding, NoTransferSyntax) ∷ []
 
-group_checks_alike : (step : Step) (b : Built) (s : BuildState) → s.meta_ended ≡ b.meta_ended → s.coding ≡ named_coding b.meta → build.group_checks step b ≡ steps.group_checks step s
+group_checks_alike : (step : Step) (b : Built) (s : BuildState) → s.meta_ended ≡ b.meta_ended → trees_of s.meta ≡ b.meta → build.group_checks step b ≡ steps.group_checks step s
 unfolding group_list
-group_checks_alike step b s e c = sym (ap (λ x. group_list step x s.coding) e ∙ ap (λ (x : Option Coding). group_list step b.meta_ended x) c)
+group_checks_alike step b s e m = sym (ap (λ x. group_list step x (named_coding (trees_of s.meta))) e ∙ ap (λ (x : Trees). group_list step b.meta_ended (named_coding x)) m)
 
 step_list : Step → Container → Option Tag → ℕ → Option Coding → ℕ → List (Bool × LineFault)
 step_list step c reached deep coding size =
@@ -178,14 +163,14 @@ step_list step c reached deep coding size =
     ∷ (is_meta step && nat_lt META_LIMIT size, BadMetaGroup)
     ∷ []
 
-size_shown : (step : Step) (meta : Trees) (n : ℕ) → n ≡ trees_size Little meta → n + shown_size step ≡ trees_size Little (build.with_meta step meta)
-size_shown (show_leaf tag vr value) meta n e = ap (λ k. k + shown_size (show_leaf tag vr value)) e ∙ sym (one_shown meta tag vr (unwrap_or value []))
-size_shown (begin_sequence tag vr) meta n e = omega (arith, e)
-size_shown (begin_fragments tag vr) meta n e = omega (arith, e)
-size_shown begin_item meta n e = omega (arith, e)
-size_shown (show_fragment value) meta n e = omega (arith, e)
-size_shown end_item meta n e = omega (arith, e)
-size_shown end_sequence meta n e = omega (arith, e)
+size_shown : (step : Step) (meta : Trees) → trees_size Little meta + shown_size step ≡ trees_size Little (build.with_meta step meta)
+size_shown (show_leaf tag vr value) meta = sym (one_shown meta tag vr (unwrap_or value []))
+size_shown (begin_sequence tag vr) meta = omega arith
+size_shown (begin_fragments tag vr) meta = omega arith
+size_shown begin_item meta = omega arith
+size_shown (show_fragment value) meta = omega arith
+size_shown end_item meta = omega arith
+size_shown end_sequence meta = omega arith
 
 five : {A B C D E F : Type 0} (f : A → B → C → D → E → F) (a a' : A) (b b' : B) (c c' : C) (d d' : D) (e e' : E) → a ≡ a' → b ≡ b' → c ≡ c' → d ≡ d' → e ≡ e' → f a b c d e ≡ f a' b' c' d' e'
 five f a a' b b' c c' d d' e e' p q r s t = ap (λ x. f x b c d e) p ∙ ap (λ x. f a' x c d e) q ∙ ap (λ x. f a' b' x d e) r ∙ ap (λ x. f a' b' c' x e) s ∙ ap (λ x. f a' b' c' d' x) t
@@ -198,13 +183,13 @@ step_checks_alike step b s out h =
     (container_of s.standing.containers) (innermost (open_levels b.set))
     (reached_in s.standing.reached s.standing.containers) (innermost_reached b.set)
     (lists_open s.standing.containers) (depth (open_levels b.set))
-    s.coding (named_coding b.meta)
-    (s.shown + shown_size step) (trees_size Little (build.with_meta step b.meta))
+    (named_coding (trees_of s.meta)) (named_coding b.meta)
+    (trees_size Little (trees_of s.meta) + shown_size step) (trees_size Little (build.with_meta step b.meta))
     (ap (λ (x : Standing). container_of x.containers) h.standing ∙ alike.container)
     (ap (λ (x : Standing). reached_in x.reached x.containers) h.standing ∙ all_reached b.set)
     (ap (λ (x : Standing). lists_open x.containers) h.standing ∙ alike.deep)
-    h.coding
-    (size_shown step b.meta s.shown h.shown))
+    (ap (λ (x : Trees). named_coding x) h.meta)
+    (ap (λ (x : Trees). trees_size Little x + shown_size step) h.meta ∙ size_shown step b.meta))
 
 -- where no check fails, this one does not
 one_passes : (t : Bool) (fault : LineFault) (more : Option LineFault) → cond t (Some fault) more ≡ None → (t ≡ false) × (more ≡ None)
@@ -266,7 +251,7 @@ group_over meta set s out true false false q h = absurd (cc)
 group_over meta set s out false true e q h = same_out (mk meta false set) s out h
 group_over meta set s out false false true q h = absurd (cc)
 group_over meta set s out false false false q h =
-    record { group = h.group; shown = h.shown; named = h.named; coding = h.coding; ended = refl; standing = h.standing; sent = none_sent set s out h.sent.0 h.sent.1 }
+    record { meta = h.meta; ended = refl; standing = h.standing; sent = none_sent set s out h.sent.0 h.sent.1 }
 
 in_group_stands : (step : Step) (b : Built) (s : BuildState) (out : List ℕ) → Stands b s out → Stands (build.in_group step b) (steps.in_group step s) (out ++ cond (ends_meta step s) (file_start s) [])
 in_group_stands step b s out h = group_over b.meta b.set s out b.meta_ended (is_meta step) s.meta_ended h.ended h
@@ -277,10 +262,7 @@ meta_stands : (step : Step) (meta : Trees) (set : Front) (s : BuildState) (out :
 meta_stands (show_leaf tag vr value) meta set s out h =
     let v : List ℕ = unwrap_or value [] in
     record {
-      group = ap (λ z. z ++ group_element s.is_named tag vr v) h.group ∙ ap (λ n. recode_set Little (with_syntax (named_syntax meta) meta) ++ group_element n tag vr v) h.named ∙ sym (group_with meta tag vr v);
-      shown = size_shown (show_leaf tag vr value) meta s.shown h.shown;
-      named = ap (λ n. n || is_tag 2 0x10 tag) h.named ∙ sym (still_named meta tag vr v);
-      coding = ap (λ n. group_coding n s.coding tag v) h.named ∙ ap (λ (c : Option Coding). group_coding (names_syntax meta) c tag v) h.coding ∙ sym (coding_with meta tag vr v);
+      meta = trees_more s.meta tag vr v ∙ ap (λ (x : Trees). then_trees x (leaf tag vr v no_tree)) h.meta;
       ended = h.ended;
       standing = h.standing;
       sent = (h.sent.0, append-nil out ∙ h.sent.1);
@@ -296,7 +278,7 @@ set_stands : (step : Step) (meta : Trees) (set : Front) (s : BuildState) (out : 
     → Stands (mk meta true (with_step step set)) (steps.with_set step s) (out ++ outputs encode_step encode_writes s.encoding (step_atoms step))
 set_stands step meta set s out h c f =
     let w : Sent set s out = h.sent in
-    let start : EncodeState = encode_start (coding_or_little s.coding) in
+    let start : EncodeState = encode_start (coding_or_little (named_coding (trees_of s.meta))) in
     let more : List Atom = step_atoms step in
     let v : HasValue step = has_value step c.valued in
     let place : HasPlace step (standing_of set) = subst (HasPlace step) h.standing c.place in
@@ -304,10 +286,7 @@ set_stands step meta set s out h c f =
     let deep : lists_open (standing_of set).containers ≤ 64 = leads_within 0 (lists_open (standing_of set).containers) w.atoms w.leads in
     let shallow : (is_opening step && nat_le 64 (lists_open (standing_of set).containers)) ≡ false = subst (λ (x : Standing). (is_opening step && nat_le 64 (lists_open x.containers)) ≡ false) h.standing c.shallow in
     record {
-      group = h.group;
-      shown = h.shown;
-      named = h.named;
-      coding = h.coding;
+      meta = h.meta;
       ended = h.ended;
       standing = ap (λ (x : Standing). standing_with step x) h.standing ∙ sym stands;
       sent = record {
@@ -396,7 +375,7 @@ pub shown_follows : (step : Step) (b : Built) (s : BuildState) (out : List ℕ) 
 shown_follows step b s out f h =
     let first : List ℕ = cond (ends_meta step s) (file_start s) [] in
     let inner : BuildState = steps.in_group step s in
-    subst (λ (r : Option LineFault). Follows (elim r [ Some fault ↦ refused fault b | None ↦ build.checked step (build.in_group step b) ]) s (shows step s) (out ++ shows_writes step s)) (ap first_fault (sym (group_checks_alike step b s h.ended h.coding)))
+    subst (λ (r : Option LineFault). Follows (elim r [ Some fault ↦ refused fault b | None ↦ build.checked step (build.in_group step b) ]) s (shows step s) (out ++ shows_writes step s)) (ap first_fault (sym (group_checks_alike step b s h.ended h.meta)))
     (first_follows (first_fault (steps.group_checks step s)) b (build.checked step (build.in_group step b)) s s (placed step inner) out (first ++ placed_writes step inner) h (stays_there s)
     (λ none.
     let ended : (is_meta step && b.meta_ended) ≡ false = ap (λ x. is_meta step && x) (sym h.ended) ∙ (one_passes (is_meta step && s.meta_ended) BadMetaGroup _ none).0 in

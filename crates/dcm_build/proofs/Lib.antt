@@ -3,7 +3,7 @@ pub mod Parentheses
 pub mod LineSteps
 pub mod BuildStanding
 pub mod BuildShows
-pub mod BuildMeta
+pub mod GroupSpelled
 pub mod BuildForms
 pub mod BuildStep
 pub mod BuildLines
@@ -11,7 +11,6 @@ pub mod BuildRuns
 pub mod LinesTold
 pub mod Halts
 pub mod Nested
-pub mod GroupBytes
 pub mod Placed
 pub mod BuildPieces
 pub mod LineEnds

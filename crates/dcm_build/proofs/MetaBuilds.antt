@@ -28,7 +28,7 @@ use Rattle.dcm_base.specs.Build.{Built, no_elements, named_syntax, named_coding,
 use Rattle.dcm_base.proofs.Rebuilt.{recodes_same}
 use Rattle.dcm_build.specs.DumpLines.{set_steps}
 use Rattle.dcm_build.specs.StepsBuild.{Leads}
-use Rattle.dcm_build.proofs.BuildMeta.{one_shown}
+use Rattle.dcm_build.proofs.GroupSpelled.{one_shown}
 use Rattle.dcm_build.proofs.BuildStanding.{standing_in, all_alike}
 use Rattle.dcm_build.proofs.StepsBuild.{by_group, by_checks, then_nothing, then_more}
 

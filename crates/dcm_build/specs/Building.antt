@@ -1,27 +1,20 @@
 -- A file that is built byte by byte from the lines of a dump, in a fixed room.
-use Rattle.std.specs.Prelude.{ℕ, suc, ◌+◌, ◌==◌, ◌&&◌, ◌||◌, not, nat_le, nat_lt, Bool, true, false, if◌then◌else◌, List, [], ◌∷◌, ◌++◌, length, map, fold, replicate, Option, Some, None, is_none, is_some, unwrap_or}
+use Rattle.std.specs.Prelude.{ℕ, suc, ◌+◌, ◌==◌, ◌&&◌, ◌||◌, not, nat_le, nat_lt, Bool, true, false, if◌then◌else◌, List, [], ◌∷◌, ◌++◌, length, map, fold, Option, Some, None, is_none, is_some, unwrap_or}
 use Rattle.std.specs.Str.{byte}
-use Rattle.dcm_base.specs.declared.tag.Tag.{Tag}
-use Rattle.dcm_base.specs.declared.vr.Vr.{Vr}
-use Rattle.dcm_base.specs.declared.vr.Vr.TheVariants.{UI}
 use Rattle.dcm_base.specs.declared.length.Length.TheVariants.{Known, Undefined}
-use Rattle.dcm_base.specs.declared.syntax.Coding.{Coding}
 use Rattle.dcm_base.specs.declared.syntax.Syntax.TheVariants.{Little}
 use Rattle.dcm_base.specs.declared.fault.LineFault.{LineFault}
 use Rattle.dcm_base.specs.declared.fault.LineFault.TheVariants.{LineTooLong, NotALine, ValueDoesNotFit, NotAllowed, NotAscending, BadMetaGroup, NoTransferSyntax, TooDeep, EndsEarly, TooLong}
 use Rattle.dcm_base.specs.Atoms.{Atom, opens, value_byte, closes_leaf, opens_item, closes_item, closes_sequence, opens_fragment}
-use Rattle.dcm_base.specs.Build.{Told, usable, coding_or_little, allows_fragments, has_place_in, element_tag, is_meta, is_opening, is_fragment_opening, is_after, lacks_value, first_fault, without_return, is_the_top}
+use Rattle.dcm_base.specs.Build.{Told, named_coding, coding_or_little, allows_fragments, has_place_in, element_tag, is_meta, is_opening, is_fragment_opening, is_after, lacks_value, first_fault, without_return, is_the_top}
 use Rattle.dcm_base.specs.Head.{head_size}
 use Rattle.dcm_base.specs.Line.{Step, show_leaf, begin_sequence, begin_fragments, begin_item, show_fragment, end_item, end_sequence, Meaning, nothing, one, no_line, means}
 use Rattle.dcm_base.specs.MetaGroup.{META_LIMIT}
-use Rattle.dcm_base.specs.MetaReads.{PREFIX}
-use Rattle.dcm_base.specs.NewMeta.{group_length}
 use Rattle.dcm_base.specs.Reads.{INPUT_LIMIT}
-use Rattle.dcm_base.specs.Recode.{recoded_leaf}
+use Rattle.dcm_base.specs.Size.{trees_size}
 use Rattle.dcm_base.specs.Steps.{outputs}
-use Rattle.dcm_base.specs.Tag.{is_tag}
-use Rattle.dcm_base.specs.Transfer.{without_pads}
 use Rattle.dcm_tools.specs.EncodeSink.{EncodeState, encode_start, encode_step, encode_writes}
+use Rattle.dcm_build.specs.NewGroup.{Shown, shown, trees_of, file_head}
 use Rattle.dcm_build.specs.Standing.{Standing, at_top, container_of, reached_in, lists_open, standing_with}
 
 pub record BuildState : Type 0 where
@@ -30,11 +23,8 @@ pub record BuildState : Type 0 where
   pub line : List ℕ
   pub offset : ℕ
   pub number : ℕ
-  -- the elements of the new meta group, how many bytes the lines of the group have shown, and whether a transfer syntax is named
-  pub group : List ℕ
-  pub shown : ℕ
-  pub is_named : Bool
-  pub coding : Option Coding
+  -- the elements that the lines of the meta group have shown, and whether it has ended
+  pub meta : List Shown
   pub meta_ended : Bool
   -- what stands open of the data set, and how it is written
   pub standing : Standing
@@ -48,10 +38,7 @@ build_start limit = record {
   line = [];
   offset = 0;
   number = 1;
-  group = [];
-  shown = 0;
-  is_named = false;
-  coding = None;
+  meta = [];
   meta_ended = false;
   standing = at_top;
   encoding = encode_start Little;
@@ -60,40 +47,25 @@ build_start limit = record {
 
 -- ---- the meta group
 
--- a transfer syntax that is named again is dropped, and the first is a unique identifier without pad bytes (PS3.10 7.1)
-abbrev pub group_element : Bool → Tag → Vr → List ℕ → List ℕ
-group_element is_named tag vr value =
-    if tag.element == 0 then []
-    else if is_tag 2 0x10 tag then (if is_named then [] else recoded_leaf Little tag UI (without_pads value))
-    else recoded_leaf Little tag vr value
-
-abbrev pub group_coding : Bool → Option Coding → Tag → List ℕ → Option Coding
-group_coding is_named coding tag value = if is_tag 2 0x10 tag && not is_named then usable (without_pads value) else coding
-
 -- what a line of the group shows, in bytes
 abbrev pub shown_size : Step → ℕ
 shown_size (show_leaf tag vr value) = head_size Little vr + length (unwrap_or value [])
 shown_size _ = 0
 
 abbrev pub with_meta : Step → BuildState → BuildState
-with_meta (show_leaf tag vr value) s = record s {
-  group = s.group ++ group_element s.is_named tag vr (unwrap_or value []);
-  shown = s.shown + shown_size (show_leaf tag vr value);
-  is_named = s.is_named || is_tag 2 0x10 tag;
-  coding = group_coding s.is_named s.coding tag (unwrap_or value []);
-}
+with_meta (show_leaf tag vr value) s = record s { meta = s.meta ++ shown tag vr (unwrap_or value []) ∷ [] }
 with_meta _ s = s
 
--- what stands before the data set: a preamble of zeros, the prefix, and the group behind its length
+-- what is written when the group has ended
 abbrev pub file_start : BuildState → List ℕ
-file_start s = replicate 128 0 ++ PREFIX ++ group_length (length s.group) ++ s.group
+file_start s = file_head s.meta
 
 -- the first line of another group ends the meta group, whatever else is wrong with it
 abbrev pub ends_meta : Step → BuildState → Bool
 ends_meta step s = not (is_meta step) && not s.meta_ended
 
 abbrev pub meta_over : BuildState → BuildState
-meta_over s = record s { meta_ended = true; encoding = encode_start (coding_or_little s.coding) }
+meta_over s = record s { meta_ended = true; encoding = encode_start (coding_or_little (named_coding (trees_of s.meta))) }
 
 abbrev pub in_group : Step → BuildState → BuildState
 in_group step s = if ends_meta step s then meta_over s else s
@@ -103,14 +75,14 @@ in_group step s = if ends_meta step s then meta_over s else s
 abbrev pub group_checks : Step → BuildState → List (Bool × LineFault)
 group_checks step s =
     (is_meta step && s.meta_ended, BadMetaGroup)
-    ∷ (ends_meta step s && is_none s.coding, NoTransferSyntax)
+    ∷ (ends_meta step s && is_none (named_coding (trees_of s.meta)), NoTransferSyntax)
     ∷ []
 
 abbrev pub is_misplaced : Step → BuildState → Bool
 is_misplaced step s =
     not (has_place_in (container_of s.standing.containers) step)
     || (is_opening step && is_meta step)
-    || (is_fragment_opening step && not (allows_fragments s.coding))
+    || (is_fragment_opening step && not (allows_fragments (named_coding (trees_of s.meta))))
 
 abbrev pub is_out_of_order : Step → BuildState → Bool
 is_out_of_order step s = not (is_meta step) && not (is_after (reached_in s.standing.reached s.standing.containers) (element_tag step))
@@ -119,7 +91,7 @@ abbrev pub is_too_deep : Step → BuildState → Bool
 is_too_deep step s = is_opening step && nat_le 64 (lists_open s.standing.containers)
 
 abbrev pub is_meta_too_large : Step → BuildState → Bool
-is_meta_too_large step s = is_meta step && nat_lt META_LIMIT (s.shown + shown_size step)
+is_meta_too_large step s = is_meta step && nat_lt META_LIMIT (trees_size Little (trees_of s.meta) + shown_size step)
 
 abbrev pub step_checks : Step → BuildState → List (Bool × LineFault)
 step_checks step s =
@@ -232,7 +204,7 @@ last_writes s = elim s.line [ [] ↦ [] | c ∷ cs ↦ line_writes s ]
 
 abbrev pub end_checks : BuildState → List (Bool × LineFault)
 end_checks s =
-    (not s.meta_ended && is_none s.coding, NoTransferSyntax)
+    (not s.meta_ended && is_none (named_coding (trees_of s.meta)), NoTransferSyntax)
     ∷ (not (is_the_top (container_of s.standing.containers)), EndsEarly)
     ∷ []
 
@@ -242,10 +214,10 @@ tells_at_end size fault s = record s { told = Some (record { fault = fault; offs
 
 -- the meta group ends where no line of another group came
 abbrev pub ended_meta : BuildState → BuildState
-ended_meta s = if not s.meta_ended && is_some s.coding then meta_over s else s
+ended_meta s = if not s.meta_ended && is_some (named_coding (trees_of s.meta)) then meta_over s else s
 
 abbrev pub end_writes : BuildState → List ℕ
-end_writes s = if not s.meta_ended && is_some s.coding then file_start s else []
+end_writes s = if not s.meta_ended && is_some (named_coding (trees_of s.meta)) then file_start s else []
 
 abbrev pub closed : ℕ → BuildState → BuildState
 closed size s = elim s.told [

@@ -1,6 +1,7 @@
 pub mod LineShown
 pub mod Standing
 pub mod Nesting
+pub mod NewGroup
 pub mod Building
 pub mod NewFile
 pub mod Builder

@@ -13,12 +13,13 @@ ghost use Rattle.dcm_tools.specs.EncodeSink.{encode_step, encode_writes};
 ghost use Rattle.dcm_tools.specs.Encoder as encoders;
 ghost use Rattle.dcm_build.specs.LineShown.{step_of, meaning_of};
 ghost use Rattle.dcm_build.specs.NewFile as files;
+ghost use Rattle.dcm_build.specs.NewGroup.{trees_of};
 
 use crate::checks::{
     allows_fragments, coding_or_little, element_tag, first_fault, has_place_in, is_after,
     is_fragment_opening, is_meta, is_opening,
 };
-use crate::group::NewGroup;
+use crate::group::{NewGroup, element_size};
 use crate::line::{Meaning, Step, means, without_return};
 use crate::standing::Standing;
 use arrayvec::ArrayVec;
@@ -150,7 +151,7 @@ impl NewFile {
     {
         !has_place_in(self.standing.container(), step)
             || (is_opening(step) && is_meta(step))
-            || (is_fragment_opening(step) && !allows_fragments(self.group.coding))
+            || (is_fragment_opening(step) && !allows_fragments(self.group.coding()))
     }
 
     fn is_out_of_order(&self, step: Step<'_>) -> bool
@@ -165,15 +166,23 @@ impl NewFile {
         is_opening(step) && self.standing.lists() >= MOST_LISTS
     }
 
+    /// The bytes of an element that the step shows, where it shows one.
+    fn shown_size(&self, step: Step<'_>) -> usize
+        requires { self.now.value.items ≡ files.value_in (step_of step) }
+        ensures { result ≡ spec.shown_size (step_of step.entry) }
+    {
+        match step {
+            Step::Leaf(_, vr, _) => element_size(vr, self.value.len()),
+            _ => 0,
+        }
+    }
+
     /// Whether the step is an element that is too much for the meta group.
     fn is_meta_too_large(&self, step: Step<'_>) -> bool
         requires { self.now.value.items ≡ files.value_in (step_of step) }
         ensures { result ≡ spec.is_meta_too_large (step_of step.entry) (files.seen self.now) }
     {
-        match step {
-            Step::Leaf(_, vr, _) => is_meta(step) && self.group.is_full_for(vr, self.value.len()),
-            _ => false,
-        }
+        is_meta(step) && self.group.is_full_for(self.shown_size(step))
     }
 
     /// Whether the step ends the meta group.
@@ -189,7 +198,7 @@ impl NewFile {
         first_fault(&[
             (is_meta(step) && self.meta_ended, LineFault::BadMetaGroup),
             (
-                self.ends_group(step) && self.group.coding.is_none(),
+                self.ends_group(step) && self.group.coding().is_none(),
                 LineFault::NoTransferSyntax,
             ),
         ])
@@ -213,6 +222,7 @@ impl NewFile {
     fn add_meta(&mut self, step: Step<'_>)
         requires value { self.old.value.items ≡ files.value_in (step_of step) }
         requires meta { build.is_meta (step_of step) ≡ true }
+        requires valued { build.lacks_value (step_of step) ≡ false }
         requires small { spec.is_meta_too_large (step_of step) (files.seen self.old) ≡ false }
         ensures { (at : files.LineAt) → files.state self.new at None ≡ spec.with_meta (step_of step.entry) (files.state self.old at None) }
     {
@@ -261,7 +271,7 @@ impl NewFile {
     {
         self.group.put(out)?;
         self.meta_ended = true;
-        self.encoder = Encoder::new(coding_or_little(self.group.coding));
+        self.encoder = Encoder::new(coding_or_little(self.group.coding()));
         Ok(())
     }
 
@@ -328,7 +338,7 @@ impl NewFile {
     {
         first_fault(&[
             (
-                !self.meta_ended && self.group.coding.is_none(),
+                !self.meta_ended && self.group.coding().is_none(),
                 LineFault::NoTransferSyntax,
             ),
             (
@@ -340,9 +350,9 @@ impl NewFile {
 
     /// Whether the end of the input ends the meta group.
     fn ends_at_end(&self) -> bool
-        ensures { result ≡ (not self.now.meta_ended && is_some self.now.group.coding) }
+        ensures { result ≡ (not self.now.meta_ended && is_some (build.named_coding (trees_of self.now.group))) }
     {
-        !self.meta_ended && self.group.coding.is_some()
+        !self.meta_ended && self.group.coding().is_some()
     }
 
     /// The meta group ends where no line of another group came.

@@ -1,9 +1,10 @@
-use Rattle.std.proofs.Common.{◌∙◌, List, ℕ, subst}
-use Rattle.dcm_base.specs.Device.{Puts}
-use Rattle.dcm_build.proofs.GroupBytes.{file_parts}
+use Rattle.dcm_build.proofs.GroupSpelled.{put_whole, put_failed}
 use Rattle.dcm_build.proofs.group.NewGroup.put.Goals as goal
+
+pub returns-in_err-put_parts-clause-bytes : goal.returns-in_err-put_parts-clause-bytes
+returns-in_err-put_parts-clause-bytes g c = put_failed _ _ _ c.from_residual.result c.in_err-put_parts.ensures.bytes c.from_residual.ensures.0
 
 pub returns-clause-bytes : goal.returns-clause-bytes
 returns-clause-bytes g c =
-    subst (λ (bs : List ℕ). Puts (g.W.DeviceOut.contents c.args.out.now) (g.W.DeviceOut.contents c.put_parts.new.out) bs c.put_parts.result)
-    (file_parts _ _ _ _ _ (c.as_slice.ensures.value ∙ c.leaf_head-head.ensures) c.to_le_bytes-size.ensures c.len.ensures.value c.as_slice-2.ensures.value) c.put_parts.ensures.bytes
+    put_whole _ _ _ c.self.inside.spelled.items c.as_slice.result.now c.transfer_syntax.result.now c.args.self.now c.write_meta.result c.self.invariant c.self.view_is c.as_slice.ensures.value c.transfer_syntax.ensures.value
+    c.in_ok-put_parts.ensures.bytes c.write_meta.ensures.bytes
