@@ -70,6 +70,10 @@ meta_over s = record s { meta_ended = true; encoding = encode_start (coding_or_l
 abbrev pub in_group : Step → BuildState → BuildState
 in_group step s = if ends_meta step s then meta_over s else s
 
+-- what a step writes of the group, which it ends or does not
+abbrev pub leaving_writes : Step → BuildState → List ℕ
+leaving_writes step s = if ends_meta step s then file_start s else []
+
 -- ---- checks on a step
 
 abbrev pub group_checks : Step → BuildState → List (Bool × LineFault)

@@ -4,6 +4,7 @@ pub mod Nesting
 pub mod NewGroup
 pub mod Building
 pub mod NewFile
+pub mod Outputs
 pub mod Builder
 pub mod BuildLaws
 pub mod DumpLines

@@ -1,19 +1,15 @@
 // A file that is built, step by step.
-ghost use Rattle.std.specs.Prelude.{◌≡◌, ◌≤◌, ◌&&◌, ◌∷◌, [], OnOk, None, false, true, is_some, unwrap_or, not, flat_map, fold, length, if◌then◌else◌};
+ghost use Rattle.std.specs.Prelude.{◌≡◌, ◌≤◌, ◌&&◌, ◌∷◌, [], OnOk, None, false, true, is_some, unwrap_or, not, flat_map, length};
 ghost use Rattle.dcm_base.specs.Atoms.{opens};
 ghost use Rattle.dcm_base.specs.Build as build;
-ghost use Rattle.dcm_base.specs.Device.{Puts, Tells};
-ghost use Rattle.dcm_base.specs.Line as lines;
 ghost use Rattle.dcm_base.specs.ReadValue.{value_of_text};
-ghost use Rattle.dcm_base.specs.Steps.{outputs};
 ghost use Rattle.dcm_base.specs.declared.syntax.Syntax.TheVariants.{Little};
 ghost use Rattle.dcm_stream.specs.Tokens.{atoms_of};
 ghost use Rattle.dcm_build.specs.Building as spec;
-ghost use Rattle.dcm_tools.specs.EncodeSink.{encode_step, encode_writes};
-ghost use Rattle.dcm_tools.specs.Encoder as encoders;
 ghost use Rattle.dcm_build.specs.LineShown.{step_of, meaning_of};
 ghost use Rattle.dcm_build.specs.NewFile as files;
 ghost use Rattle.dcm_build.specs.NewGroup.{trees_of};
+ghost use Rattle.dcm_build.specs.Outputs as outputs;
 
 use crate::checks::{
     allows_fragments, coding_or_little, element_tag, first_fault, has_place_in, is_after,
@@ -103,9 +99,9 @@ fn put_tokens<W: DeviceOut>(
     out: &mut Watched<W>,
     tokens: &[Token<'_>],
 ) -> Result<(), WriteFailed>
-    ensures state { OnOk result (encoders.state encoder.new ≡ fold encode_step (encoders.state encoder.old) (flat_map atoms_of tokens.now)) }
-    ensures bytes { Puts (W.contents out.old) (W.contents out.new) (outputs encode_step encode_writes (encoders.state encoder.old) (flat_map atoms_of tokens.now)) result }
-    ensures failed { Tells (W.has_failed out.old) (W.has_failed out.new) result }
+    ensures state { OnOk result (outputs.Encoded encoder.old encoder.new (flat_map atoms_of tokens.now)) }
+    ensures bytes { outputs.Encodes W.DeviceOut out.old out.new encoder.old (flat_map atoms_of tokens.now) result }
+    ensures failed { outputs.Tells W.DeviceOut out.old out.new result }
 {
     for token in tokens {
         encoder.take(out, *token)?;
@@ -129,9 +125,9 @@ fn put_step<W: DeviceOut>(
 ) -> Result<(), WriteFailed>
     requires value { value.now ≡ files.value_in (step_of step) }
     requires size { length value.now ≤ 65536 }
-    ensures state { OnOk result (encoders.state encoder.new ≡ fold encode_step (encoders.state encoder.old) (spec.step_atoms (step_of step.entry))) }
-    ensures bytes { Puts (W.contents out.old) (W.contents out.new) (outputs encode_step encode_writes (encoders.state encoder.old) (spec.step_atoms (step_of step.entry))) result }
-    ensures failed { Tells (W.has_failed out.old) (W.has_failed out.new) result }
+    ensures state { OnOk result (outputs.Encoded encoder.old encoder.new (spec.step_atoms (step_of step.entry))) }
+    ensures bytes { outputs.Encodes W.DeviceOut out.old out.new encoder.old (spec.step_atoms (step_of step.entry)) result }
+    ensures failed { outputs.Tells W.DeviceOut out.old out.new result }
 {
     match step {
         Step::Leaf(tag, vr, _) => put_tokens(encoder, out, Token::leaf(tag, vr, value).as_slice()),
@@ -224,7 +220,7 @@ impl NewFile {
         requires meta { build.is_meta (step_of step) ≡ true }
         requires valued { build.lacks_value (step_of step) ≡ false }
         requires small { spec.is_meta_too_large (step_of step) (files.seen self.old) ≡ false }
-        ensures { (at : files.LineAt) → files.state self.new at None ≡ spec.with_meta (step_of step.entry) (files.state self.old at None) }
+        ensures { outputs.Becomes self.old self.new (spec.with_meta (step_of step.entry)) }
     {
         if let Step::Leaf(tag, vr, _) = step {
             self.group.push(tag, vr, self.value.as_slice());
@@ -240,9 +236,9 @@ impl NewFile {
         requires value { self.old.value.items ≡ files.value_in (step_of step) }
         requires placed { spec.is_misplaced (step_of step) (files.seen self.old) ≡ false }
         requires few { spec.is_too_deep (step_of step) (files.seen self.old) ≡ false }
-        ensures state { OnOk result ((at : files.LineAt) → files.state self.new at None ≡ spec.with_set (step_of step.entry) (files.state self.old at None)) }
-        ensures bytes { Puts (W.contents out.old) (W.contents out.new) (outputs encode_step encode_writes (encoders.state self.old.encoder) (spec.step_atoms (step_of step.entry))) result }
-        ensures failed { Tells (W.has_failed out.old) (W.has_failed out.new) result }
+        ensures state { OnOk result (outputs.Becomes self.old self.new (spec.with_set (step_of step.entry))) }
+        ensures bytes { outputs.Encodes W.DeviceOut out.old out.new self.old.encoder (spec.step_atoms (step_of step.entry)) result }
+        ensures failed { outputs.Tells W.DeviceOut out.old out.new result }
     {
         self.standing.take(step);
         put_step(&mut self.encoder, out, step, self.value.as_slice())
@@ -252,9 +248,9 @@ impl NewFile {
     fn add<W: DeviceOut>(&mut self, step: Step<'_>, out: &mut Watched<W>) -> Result<(), WriteFailed>
         requires value { self.old.value.items ≡ files.value_in (step_of step) }
         requires fits { build.first_fault (spec.step_checks (step_of step) (files.seen self.old)) ≡ None }
-        ensures state { OnOk result ((at : files.LineAt) → files.state self.new at None ≡ spec.taken (step_of step.entry) (files.state self.old at None)) }
-        ensures bytes { Puts (W.contents out.old) (W.contents out.new) (spec.taken_writes (step_of step.entry) (files.seen self.old)) result }
-        ensures failed { Tells (W.has_failed out.old) (W.has_failed out.new) result }
+        ensures state { OnOk result (outputs.Becomes self.old self.new (spec.taken (step_of step.entry))) }
+        ensures bytes { outputs.Puts W.DeviceOut out.old out.new (spec.taken_writes (step_of step.entry) (files.seen self.old)) result }
+        ensures failed { outputs.Tells W.DeviceOut out.old out.new result }
     {
         if is_meta(step) {
             self.add_meta(step);
@@ -265,9 +261,9 @@ impl NewFile {
 
     /// The meta group ends: it is written, and what stands before it.
     fn end_group<W: DeviceOut>(&mut self, out: &mut Watched<W>) -> Result<(), WriteFailed>
-        ensures state { OnOk result ((at : files.LineAt) → files.state self.new at None ≡ spec.meta_over (files.state self.old at None)) }
-        ensures bytes { Puts (W.contents out.old) (W.contents out.new) (spec.file_start (files.seen self.old)) result }
-        ensures failed { Tells (W.has_failed out.old) (W.has_failed out.new) result }
+        ensures state { OnOk result (outputs.Becomes self.old self.new spec.meta_over) }
+        ensures bytes { outputs.Puts W.DeviceOut out.old out.new (spec.file_start (files.seen self.old)) result }
+        ensures failed { outputs.Tells W.DeviceOut out.old out.new result }
     {
         self.group.put(out)?;
         self.meta_ended = true;
@@ -281,9 +277,9 @@ impl NewFile {
         step: Step<'_>,
         out: &mut Watched<W>,
     ) -> Result<(), WriteFailed>
-        ensures state { OnOk result ((at : files.LineAt) → files.state self.new at None ≡ spec.in_group (step_of step.entry) (files.state self.old at None)) }
-        ensures bytes { Puts (W.contents out.old) (W.contents out.new) (if spec.ends_meta (step_of step.entry) (files.seen self.old) then spec.file_start (files.seen self.old) else []) result }
-        ensures failed { Tells (W.has_failed out.old) (W.has_failed out.new) result }
+        ensures state { OnOk result (outputs.Becomes self.old self.new (spec.in_group (step_of step.entry))) }
+        ensures bytes { outputs.Puts W.DeviceOut out.old out.new (spec.leaving_writes (step_of step.entry) (files.seen self.old)) result }
+        ensures failed { outputs.Tells W.DeviceOut out.old out.new result }
     {
         if self.ends_group(step) {
             return self.end_group(out);
@@ -293,7 +289,7 @@ impl NewFile {
 
     /// Takes a step of a group that may come here.
     fn place<W: DeviceOut>(&mut self, step: Step<'_>, out: &mut Watched<W>) -> Result<(), Stopped>
-        ensures comes { (at : files.LineAt) → files.Comes (W.contents out.old) (W.contents out.new) (files.state self.new at None) (spec.placed (step_of step.entry) (files.state self.old at None)) (spec.placed_writes (step_of step.entry) (files.state self.old at None)) result }
+        ensures comes { outputs.Places W.DeviceOut out.old out.new self.old self.new (step_of step.entry) result }
         ensures failed { files.TellsStopped (W.has_failed out.old) (W.has_failed out.new) result }
     {
         let is_read = read_value(step, &mut self.value);
@@ -306,7 +302,7 @@ impl NewFile {
 
     /// Takes what a line shows.
     fn show<W: DeviceOut>(&mut self, step: Step<'_>, out: &mut Watched<W>) -> Result<(), Stopped>
-        ensures comes { (at : files.LineAt) → files.Comes (W.contents out.old) (W.contents out.new) (files.state self.new at None) (spec.shows (step_of step.entry) (files.state self.old at None)) (spec.shows_writes (step_of step.entry) (files.state self.old at None)) result }
+        ensures comes { outputs.Shows W.DeviceOut out.old out.new self.old self.new (step_of step.entry) result }
         ensures failed { files.TellsStopped (W.has_failed out.old) (W.has_failed out.new) result }
     {
         if let Some(fault) = self.group_fault(step) {
@@ -322,7 +318,7 @@ impl NewFile {
         line: &[u8],
         out: &mut Watched<W>,
     ) -> Result<(), Stopped>
-        ensures comes { (at : files.LineAt) → files.Comes (W.contents out.old) (W.contents out.new) (files.state self.new at None) (spec.meaning_taken (lines.means (build.without_return line.now)) (files.state self.old at None)) (spec.meaning_writes (lines.means (build.without_return line.now)) (files.state self.old at None)) result }
+        ensures comes { outputs.TakesLine W.DeviceOut out.old out.new self.old self.new line.now result }
         ensures failed { files.TellsStopped (W.has_failed out.old) (W.has_failed out.new) result }
     {
         match means(without_return(line)) {
@@ -357,9 +353,9 @@ impl NewFile {
 
     /// The meta group ends where no line of another group came.
     fn leave_group_at_end<W: DeviceOut>(&mut self, out: &mut Watched<W>) -> Result<(), WriteFailed>
-        ensures state { OnOk result ((at : files.LineAt) → files.state self.new at None ≡ spec.ended_meta (files.state self.old at None)) }
-        ensures bytes { Puts (W.contents out.old) (W.contents out.new) (spec.end_writes (files.seen self.old)) result }
-        ensures failed { Tells (W.has_failed out.old) (W.has_failed out.new) result }
+        ensures state { OnOk result (outputs.Becomes self.old self.new spec.ended_meta) }
+        ensures bytes { outputs.Puts W.DeviceOut out.old out.new (spec.end_writes (files.seen self.old)) result }
+        ensures failed { outputs.Tells W.DeviceOut out.old out.new result }
     {
         if self.ends_at_end() {
             return self.end_group(out);
@@ -369,7 +365,7 @@ impl NewFile {
 
     /// The input ends.
     pub fn finish<W: DeviceOut>(&mut self, out: &mut Watched<W>) -> Result<(), Stopped>
-        ensures ends { (at : files.LineAt) → files.Ends (W.contents out.old) (W.contents out.new) (files.state self.new at None) (spec.ended_meta (files.state self.old at None)) (build.first_fault (spec.end_checks (files.seen self.old))) (spec.end_writes (files.seen self.old)) result }
+        ensures ends { outputs.Finishes W.DeviceOut out.old out.new self.old self.new result }
         ensures failed { files.TellsStopped (W.has_failed out.old) (W.has_failed out.new) result }
     {
         let fault = self.end_fault();
@@ -382,7 +378,7 @@ impl NewFile {
 
     /// Nothing was built.
     pub fn new() -> Self
-        ensures { (at : files.LineAt) → files.state result at None ≡ record (spec.build_start at.limit) { line = at.line; offset = at.offset; number = at.number } }
+        ensures { outputs.IsNew result }
     {
         NewFile {
             group: NewGroup::new(),
