@@ -39,25 +39,29 @@ unit SV = 8
 unit UV = 8
 unit _ = 1
 
--- the byte that makes an odd value even
+-- whether a value is a text of characters; a unique identifier is none
+abbrev pub is_text : Vr → Bool
+is_text AE = true
+is_text AS = true
+is_text CS = true
+is_text DA = true
+is_text DS = true
+is_text DT = true
+is_text IS = true
+is_text LO = true
+is_text LT = true
+is_text PN = true
+is_text SH = true
+is_text ST = true
+is_text TM = true
+is_text UC = true
+is_text UR = true
+is_text UT = true
+is_text _ = false
+
+-- the byte that makes an odd value even: a space after a text, and 00 after all others
 abbrev pub pad : Vr → ℕ
-pad AE = 32
-pad AS = 32
-pad CS = 32
-pad DA = 32
-pad DS = 32
-pad DT = 32
-pad IS = 32
-pad LO = 32
-pad LT = 32
-pad PN = 32
-pad SH = 32
-pad ST = 32
-pad TM = 32
-pad UC = 32
-pad UR = 32
-pad UT = 32
-pad _ = 0
+pad vr = if is_text vr then 32 else 0
 
 abbrev pub is_sequence : Vr → Bool
 is_sequence SQ = true

@@ -3,10 +3,10 @@ use Rattle.std.specs.Prelude.{ℕ, ◌+◌, ◌-◌, ◌*◌, ◌/◌, ◌%◌, 
 use Rattle.std.specs.List.{join_with_byte}
 use Rattle.std.specs.Option.{option_map_or}
 use Rattle.dcm_base.specs.declared.vr.Vr.{Vr}
-use Rattle.dcm_base.specs.declared.vr.Vr.TheVariants.{AE, AS, AT, CS, DA, DS, DT, IS, LO, LT, OB, OD, OF, OL, OV, OW, PN, SH, SL, SS, ST, SV, TM, UC, UI, UL, UN, UR, US, UT, UV}
+use Rattle.dcm_base.specs.declared.vr.Vr.TheVariants.{AT, LT, OB, OD, OF, OL, OV, OW, SL, SS, ST, SV, UI, UL, UN, UR, US, UT, UV}
 use Rattle.dcm_base.specs.declared.mode.Mode.{Mode}
 use Rattle.dcm_base.specs.declared.mode.Mode.TheVariants.{Short, Full}
-use Rattle.dcm_base.specs.Representation.{unit, pad}
+use Rattle.dcm_base.specs.Representation.{is_text, unit, pad}
 use Rattle.dcm_base.specs.Uid.{uid_name}
 use Rattle.dcm_base.specs.Value.{units, number_of}
 
@@ -20,22 +20,6 @@ pub data Shape : Type 0 where
   hexadecimal : Shape
 
 abbrev pub shape : Vr → Shape
-shape AE = text
-shape AS = text
-shape CS = text
-shape DA = text
-shape DS = text
-shape DT = text
-shape IS = text
-shape LO = text
-shape LT = text
-shape PN = text
-shape SH = text
-shape ST = text
-shape TM = text
-shape UC = text
-shape UR = text
-shape UT = text
 shape UI = identifier
 shape US = unsigned
 shape UL = unsigned
@@ -44,7 +28,7 @@ shape SS = signed
 shape SL = signed
 shape SV = signed
 shape AT = tags
-shape _ = hexadecimal
+shape vr = if is_text vr then text else hexadecimal
 
 -- the bytes of what is shown and counted as one
 abbrev pub shown_unit : Vr → ℕ

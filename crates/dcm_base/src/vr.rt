@@ -114,29 +114,36 @@ impl Vr {
         }
     }
 
-    /// The byte that makes an odd value even.
+    /// Whether a value is a text of characters (PS3.5 6.2). A unique identifier is none.
+    pub fn is_text(self) -> bool
+        ensures { result ≡ spec.is_text self }
+    {
+        matches!(
+            self,
+            Vr::AE
+                | Vr::AS
+                | Vr::CS
+                | Vr::DA
+                | Vr::DS
+                | Vr::DT
+                | Vr::IS
+                | Vr::LO
+                | Vr::LT
+                | Vr::PN
+                | Vr::SH
+                | Vr::ST
+                | Vr::TM
+                | Vr::UC
+                | Vr::UR
+                | Vr::UT
+        )
+    }
+
+    /// The byte that makes an odd value even: a space after a text, and 00 after all others.
     pub fn pad(self) -> u8
         ensures { result ≡ spec.pad self }
     {
-        match self {
-            Vr::AE
-            | Vr::AS
-            | Vr::CS
-            | Vr::DA
-            | Vr::DS
-            | Vr::DT
-            | Vr::IS
-            | Vr::LO
-            | Vr::LT
-            | Vr::PN
-            | Vr::SH
-            | Vr::ST
-            | Vr::TM
-            | Vr::UC
-            | Vr::UR
-            | Vr::UT => b' ',
-            _ => 0,
-        }
+        if self.is_text() { b' ' } else { 0 }
     }
 
     /// Its two letters.

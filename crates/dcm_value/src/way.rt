@@ -26,23 +26,8 @@ pub fn way_of(vr: Vr, size: u32) -> Way
 {
     match vr {
         Vr::UI if size <= NAMED => Way::ByName,
-        Vr::UI
-        | Vr::AE
-        | Vr::AS
-        | Vr::CS
-        | Vr::DA
-        | Vr::DS
-        | Vr::DT
-        | Vr::IS
-        | Vr::LO
-        | Vr::LT
-        | Vr::PN
-        | Vr::SH
-        | Vr::ST
-        | Vr::TM
-        | Vr::UC
-        | Vr::UR
-        | Vr::UT => Way::InBrackets,
+        Vr::UI => Way::InBrackets,
+        _ if vr.is_text() => Way::InBrackets,
         _ => Way::InUnits,
     }
 }
