@@ -208,16 +208,23 @@ refused fault b = Err (record { fault = fault; built = b })
 
 abbrev pub group_checks : Step → Built → List (Bool × LineFault)
 group_checks s b =
+    -- B6, the meta group has ended
     (is_meta s && b.meta_ended, BadMetaGroup)
+    -- B7
     ∷ (not (is_meta s) && not b.meta_ended && is_none (named_coding b.meta), NoTransferSyntax)
     ∷ []
 
 abbrev pub step_checks : Step → Built → List (Bool × LineFault)
 step_checks s b =
+    -- B4
     (is_misplaced s b, NotAllowed)
+    -- B5
     ∷ (is_out_of_order s b, NotAscending)
+    -- B3
     ∷ (lacks_value s, ValueDoesNotFit)
+    -- B8
     ∷ (is_too_deep s b, TooDeep)
+    -- B6, the meta group is too large
     ∷ (is_meta_too_large s b, BadMetaGroup)
     ∷ []
 
@@ -244,9 +251,10 @@ without_return line = reverse (without_return_reversed (reverse line))
 abbrev pub with_meaning : Meaning → Built → Result Built Refused
 with_meaning nothing b = Ok b
 with_meaning (one s) b = with_shown s b
+-- B2
 with_meaning no_line b = refused NotALine b
 
--- its bytes before the newline count against the limit
+-- its bytes before the newline count against the limit: B1
 abbrev pub line_built : (limit : ℕ) → List ℕ → Built → Result Built Refused
 line_built limit line b = elim (nat_lt limit (length line)) [ true ↦ refused LineTooLong b | false ↦ with_meaning (means (without_return line)) b ]
 
@@ -313,7 +321,9 @@ is_the_top _ = false
 -- the meta group ends where no line of another group came, and nothing may stand open
 abbrev pub end_checks : Built → List (Bool × LineFault)
 end_checks b =
+    -- B7
     (not b.meta_ended && is_none (named_coding b.meta), NoTransferSyntax)
+    -- B9
     ∷ (not (is_the_top (innermost (open_levels b.set))), EndsEarly)
     ∷ []
 
@@ -332,7 +342,7 @@ at_input_end size p = elim p.told [
 abbrev pub built_whole : (limit size : ℕ) → Lines → Progress
 built_whole limit size l = at_input_end size (with_rest limit l.rest (built_by limit l.ended))
 
--- an input that is cut ends in the middle of a line
+-- an input that is cut at the limit ends in the middle of a line: B1, or R15
 abbrev pub at_the_cut : (limit : ℕ) → List ℕ → Progress → Progress
 at_the_cut limit rest p = elim p.told [
   | Some t ↦ p

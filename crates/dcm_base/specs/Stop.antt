@@ -62,26 +62,36 @@ abbrev pub barred : Option Fault → ℕ → List (Bool × Stop)
 barred None position = []
 barred (Some fault) position = (true, refused fault position) ∷ []
 
--- an element's head of this representation
+-- an element's head of this representation: the cases 6 to 11
 abbrev pub element_cases : Option Fault → Syntax → List Level → ℕ → List ℕ → Vr → Length → List (Bool × Stop)
 element_cases bar s around position rest vr declared =
+    -- 6: R10, no room for the head
     (passes (head_size s vr) (room position around), refused PassesEnd position)
+    -- 7: R1, the head is cut
     ∷ (nat_lt (length rest) (head_size s vr), refused EndsEarly (position + length rest))
+    -- 8: R8
     ∷ (has_no_form (form s vr declared), refused UndefinedLength position)
+    -- 9: R10, no room for what the head declares
     ∷ (passes (with_length (head_size s vr) declared) (room position around), refused PassesEnd position)
+    -- 10: R11
     ∷ (opens_list (form s vr declared) && nat_le 64 (depth around), refused TooDeep position)
+    -- 11: R12 where tags have to ascend, R13 where the target has no fragment lists
     ∷ barred bar position
 
 abbrev pub element_stop : HeadBar → Syntax → List Level → ℕ → List ℕ → Option Vr → Option Stop
+-- 5: R7
 element_stop bar s around position rest None = Some (refused UnknownRepresentation position)
 element_stop bar s around position rest (Some vr) =
     let declared = length_at s vr rest in
     first_case (element_cases (bar (tag_at s rest) vr declared) s around position rest vr declared)
 
+-- an item's head: the cases 5 and 6
 abbrev pub item_stop : Container → List Level → ℕ → Length → Option Stop
 item_stop container around position declared =
     first_case (
+    -- 5: R8
     (is_fragment_list container && is_undefined declared, refused UndefinedLength position)
+    -- 6: R10
     ∷ (passes (with_length 8 declared) (room position around), refused PassesEnd position)
     ∷ [])
 
@@ -96,14 +106,18 @@ abbrev pub or_else : Option Stop → Option Stop → Option Stop
 or_else None later = later
 or_else (Some stop) later = Some stop
 
--- what stops at this place, of which inner is the innermost container
+-- what stops at this place, of which inner is the innermost container: cases 1 to 4, and then those of the head
 abbrev pub place_stop : HeadBar → Level → List Level → ℕ → List ℕ → Option Stop
 place_stop bar inner around position rest =
     or_else
     (first_case (
+    -- 1: R10, no room for the shortest head
     (passes 8 (room position around), refused PassesEnd position)
+    -- 2: the end of the data set
     ∷ (is_the_data_set inner.container && is_empty rest, complete)
+    -- 3: R1, the head is cut
     ∷ (nat_lt (length rest) 8, refused EndsEarly (position + length rest))
+    -- 4: R9
     ∷ (not (is_allowed inner.container inner.declared (tag_at inner.syntax rest)), refused TagNotAllowed position)
     ∷ []))
     (head_stop bar inner around position rest)
@@ -112,6 +126,7 @@ abbrev pub innermost_stop : HeadBar → List Level → ℕ → List ℕ → Opti
 innermost_stop bar [] position rest = None
 innermost_stop bar (inner ∷ outer) position rest = place_stop bar inner (inner ∷ outer) position rest
 
+-- R1, a value is cut
 abbrev pub value_stop : ℕ → List ℕ → Option Stop
 value_stop position rest = if is_empty rest then Some (refused EndsEarly position) else None
 
