@@ -218,7 +218,7 @@ open_at_close nothing_open true p h = cc
 open_at_close nothing_open false p h = cc
 open_at_close (open_leaf tag vr size value) k p (s, fo, le, is) = cc
 open_at_close (open_sequence tag vr declared items last) k p (s, contents, others, fo, is, inner, more) = cc
-open_at_close (open_fragments tag vr values last) k p (s, fo, is) = cc
+open_at_close (open_fragments tag vr values last) k p (s, fo, mi, is) = cc
 
 open_item_at_close : (o : OpenItem) (p : List Atom) → ShowsOpenItem o (closes_sequence ∷ p) → ⊥
 unfolding ShowsOpenItem
@@ -233,7 +233,7 @@ leaf_closed x b t v val s (open_leaf tag' vr' size' value') k fo is (s', fo', le
     let same = opening_same x t tag' v vr' (Known (length val)) (Known size') s s' (map value_byte (order s v val) ++ closes_leaf ∷ b) (map value_byte (order s' vr' value')) is is' in
     bytes_open (order s v val) (order s' vr' value') b same.rest
 leaf_closed x b t v val s (open_sequence tag' vr' declared' items' last') k fo is (s', contents', others', fo', is', inner', more') = value_sequence (forms_one x _ _ _ _ _ _ _ _ _ _ _ _ is is' fo fo')
-leaf_closed x b t v val s (open_fragments tag' vr' values' last') k fo is (s', fo', is') = value_fragments (forms_one x _ _ _ _ _ _ _ _ _ _ _ _ is is' fo fo')
+leaf_closed x b t v val s (open_fragments tag' vr' values' last') k fo is (s', fo', mi', is') = value_fragments (forms_one x _ _ _ _ _ _ _ _ _ _ _ _ is is' fo fo')
 
 sequence_closed : (x contents b : List Atom) (t : Tag) (v : Vr) (l : Length) (items : Items) (s : Syntax) (o : OpenTree) (k : Bool)
     → form s v l ≡ a_sequence → x ≡ opens t v l s ∷ contents → ShowItems items contents (closes_sequence ∷ b)
@@ -245,7 +245,7 @@ sequence_closed x contents b t v l items s (open_leaf tag' vr' size' value') k f
 sequence_closed x contents b t v l items s (open_sequence tag' vr' declared' items' last') k fo is inner apart (s', contents', others', fo', is', inner', more') =
     let same = opening_same x t tag' v vr' l declared' s s' contents contents' is is' in
     apart items' last' contents b others' inner (subst (λ (z : List Atom). ShowItems items' z others') (sym same.rest) inner') more'
-sequence_closed x contents b t v l items s (open_fragments tag' vr' values' last') k fo is inner apart (s', fo', is') = sequence_fragments (forms_one x _ _ _ _ _ _ _ _ _ _ _ _ is is' fo fo')
+sequence_closed x contents b t v l items s (open_fragments tag' vr' values' last') k fo is inner apart (s', fo', mi', is') = sequence_fragments (forms_one x _ _ _ _ _ _ _ _ _ _ _ _ is is' fo fo')
 
 fragments_closed : (x b : List Atom) (t : Tag) (v : Vr) (values : List (List ℕ)) (s : Syntax) (o : OpenTree) (k : Bool)
     → form s v Undefined ≡ a_fragment_list → x ≡ opens t v Undefined s ∷ fragments_then values (closes_sequence ∷ b) → ShowsOpen o (end_atoms k) x → ⊥
@@ -253,7 +253,7 @@ unfolding ShowsOpen
 fragments_closed x b t v values s nothing_open k fo is h = end_ends k _ _ _ _ _ (sym h ∙ is)
 fragments_closed x b t v values s (open_leaf tag' vr' size' value') k fo is (s', fo', le', is') = value_fragments (forms_one x _ _ _ _ _ _ _ _ _ _ _ _ is' is fo' fo)
 fragments_closed x b t v values s (open_sequence tag' vr' declared' items' last') k fo is (s', contents', others', fo', is', inner', more') = sequence_fragments (forms_one x _ _ _ _ _ _ _ _ _ _ _ _ is' is fo' fo)
-fragments_closed x b t v values s (open_fragments tag' vr' values' last') k fo is (s', fo', is') =
+fragments_closed x b t v values s (open_fragments tag' vr' values' last') k fo is (s', fo', mi', is') =
     let same = opening_same x t tag' v vr' Undefined Undefined s s' (fragments_then values (closes_sequence ∷ b)) (fragments_then values' (open_fragment_atoms last')) is is' in
     fragments_open values values' last' b same.rest
 
@@ -417,7 +417,7 @@ mutual
   open_one nothing_open nothing_open k k' a l m = refl
   open_one nothing_open (open_leaf tag vr size value) k k' a l (s, fo, le, is) = absurd (end_ends k _ _ _ _ _ (sym l ∙ is))
   open_one nothing_open (open_sequence tag vr declared items last) k k' a l (s, contents, others, fo, is, inner, more) = absurd (end_ends k _ _ _ _ _ (sym l ∙ is))
-  open_one nothing_open (open_fragments tag vr values last) k k' a l (s, fo, is) = absurd (end_ends k _ _ _ _ _ (sym l ∙ is))
+  open_one nothing_open (open_fragments tag vr values last) k k' a l (s, fo, mi, is) = absurd (end_ends k _ _ _ _ _ (sym l ∙ is))
   open_one (open_leaf tag vr size value) nothing_open k k' a (s, fo, le, is) m = absurd (end_ends k' _ _ _ _ _ (sym m ∙ is))
   open_one (open_leaf tag vr size value) (open_leaf tag' vr' size' value') k k' a (s, fo, le, is) (s', fo', le', is') =
       let h = opening_same a tag tag' vr vr' (Known size) (Known size') s s' (map value_byte (order s vr value)) (map value_byte (order s' vr' value')) is is' in
@@ -429,7 +429,7 @@ mutual
       cc
   open_one (open_leaf tag vr size value) (open_sequence tag' vr' declared' items' last') k k' a (s, fo, le, is) (s', contents', others', fo', is', inner', more') =
       absurd (value_sequence (forms_one a _ _ _ _ _ _ _ _ _ _ _ _ is is' fo fo'))
-  open_one (open_leaf tag vr size value) (open_fragments tag' vr' values' last') k k' a (s, fo, le, is) (s', fo', is') =
+  open_one (open_leaf tag vr size value) (open_fragments tag' vr' values' last') k k' a (s, fo, le, is) (s', fo', mi', is') =
       absurd (value_fragments (forms_one a _ _ _ _ _ _ _ _ _ _ _ _ is is' fo fo'))
   open_one (open_sequence tag vr declared items last) nothing_open k k' a (s, contents, others, fo, is, inner, more) m = absurd (end_ends k' _ _ _ _ _ (sym m ∙ is))
   open_one (open_sequence tag vr declared items last) (open_leaf tag' vr' size' value') k k' a (s, contents, others, fo, is, inner, more) (s', fo', le', is') =
@@ -443,14 +443,14 @@ mutual
       let w0 = w.0 in
       let oo = open_item_one last last' others more (subst (ShowsOpenItem last') (sym w.1) more') in
       cc
-  open_one (open_sequence tag vr declared items last) (open_fragments tag' vr' values' last') k k' a (s, contents, others, fo, is, inner, more) (s', fo', is') =
+  open_one (open_sequence tag vr declared items last) (open_fragments tag' vr' values' last') k k' a (s, contents, others, fo, is, inner, more) (s', fo', mi', is') =
       absurd (sequence_fragments (forms_one a _ _ _ _ _ _ _ _ _ _ _ _ is is' fo fo'))
-  open_one (open_fragments tag vr values last) nothing_open k k' a (s, fo, is) m = absurd (end_ends k' _ _ _ _ _ (sym m ∙ is))
-  open_one (open_fragments tag vr values last) (open_leaf tag' vr' size' value') k k' a (s, fo, is) (s', fo', le', is') =
+  open_one (open_fragments tag vr values last) nothing_open k k' a (s, fo, mi, is) m = absurd (end_ends k' _ _ _ _ _ (sym m ∙ is))
+  open_one (open_fragments tag vr values last) (open_leaf tag' vr' size' value') k k' a (s, fo, mi, is) (s', fo', le', is') =
       absurd (value_fragments (forms_one a _ _ _ _ _ _ _ _ _ _ _ _ is' is fo' fo))
-  open_one (open_fragments tag vr values last) (open_sequence tag' vr' declared' items' last') k k' a (s, fo, is) (s', contents', others', fo', is', inner', more') =
+  open_one (open_fragments tag vr values last) (open_sequence tag' vr' declared' items' last') k k' a (s, fo, mi, is) (s', contents', others', fo', is', inner', more') =
       absurd (sequence_fragments (forms_one a _ _ _ _ _ _ _ _ _ _ _ _ is' is fo' fo))
-  open_one (open_fragments tag vr values last) (open_fragments tag' vr' values' last') k k' a (s, fo, is) (s', fo', is') =
+  open_one (open_fragments tag vr values last) (open_fragments tag' vr' values' last') k k' a (s, fo, mi, is) (s', fo', mi', is') =
       let h = opening_same a tag tag' vr vr' Undefined Undefined s s' (fragments_then values (open_fragment_atoms last)) (fragments_then values' (open_fragment_atoms last')) is is' in
       let h0 = h.tags in
       let h1 = h.vrs in

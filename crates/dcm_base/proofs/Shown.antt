@@ -1,14 +1,14 @@
 -- The atoms of a spelled front show it.
-use Rattle.std.proofs.Common.{◌≡◌, ℕ, List, [], ◌∷◌, Bool, true, false, refl, arith}
+use Rattle.std.proofs.Common.{◌≡◌, ℕ, List, [], ◌∷◌, Bool, true, false, Option, Some, None, refl}
 use Rattle.dcm_base.specs.declared.syntax.Syntax.{Syntax}
 use Rattle.dcm_base.specs.declared.length.Length.{Length}
 use Rattle.dcm_base.specs.declared.length.Length.TheVariants.{Known, Undefined}
 use Rattle.dcm_base.specs.Tree.{Trees, no_tree, leaf, sequence, fragments, Items, no_item, item}
 use Rattle.dcm_base.specs.Front.{Front, front, OpenTree, nothing_open, open_leaf, open_sequence, open_fragments, OpenItem, no_open_item, open_item}
-use Rattle.dcm_base.specs.Spelling.{Enclosed, TreesAt, ItemsAt, inside, SpellsFront, SpellsOpen, SpellsOpenItem}
+use Rattle.dcm_base.specs.Spelling.{Enclosed, TreesAt, ItemsAt, inside, SpellsFront, SpellsOpen, SpellsOpenItem, SpellsOpenFragment}
 use Rattle.dcm_base.specs.declared.tag.Tag.{Tag}
 use Rattle.dcm_base.specs.Tag.{item_end_tag, sequence_end_tag}
-use Rattle.dcm_base.specs.Atoms.{Atom, closes_item, closes_sequence, ShowTrees, ShowItems, trees_then, items_then, end_atoms, MayEnd, is_closed, Shows, ShowsOpen, ShowsOpenItem, front_atoms, open_atoms, open_item_atoms}
+use Rattle.dcm_base.specs.Atoms.{Atom, closes_item, closes_sequence, ShowTrees, ShowItems, trees_then, items_then, end_atoms, MayEnd, MissesFragment, is_closed, Shows, ShowsOpen, ShowsOpenItem, front_atoms, open_atoms, open_item_atoms}
 
 -- what shows the contents shows what encloses them
 enclosed_shown : (s : Syntax) (end_tag : Tag) (declared : Length) (R : List ℕ → List ℕ → Type 0) (c e : List ℕ) (P : Type 0)
@@ -53,6 +53,10 @@ may_end : (o : OpenTree) (closed : Bool) → closed ≡ false → MayEnd o close
 may_end o false e = tt
 may_end o true e = absurd cc
 
+fragment_misses : (s : Syntax) (last : Option (ℕ × List ℕ)) (b : List ℕ) → SpellsOpenFragment s last b → MissesFragment last
+fragment_misses s None b h = tt
+fragment_misses s (Some fragment) b h = h.0
+
 mutual
   unfolding SpellsFront Shows front_atoms
 
@@ -62,7 +66,7 @@ mutual
 
   pub open_shown : (s : Syntax) (o : OpenTree) (b : List ℕ) (at_end : List Atom) → SpellsOpen s o b → ShowsOpen o at_end (open_atoms s o at_end)
   open_shown s nothing_open b at_end h = refl
-  open_shown s (open_leaf tag vr size value) b at_end (fo, lt, head) = (s, fo, omega arith, refl)
+  open_shown s (open_leaf tag vr size value) b at_end (fo, lt, head) = (s, fo, lt, refl)
   open_shown s (open_sequence tag vr declared items last) b at_end (contents, others, fo, head, stays, inner, more) = (
     s,
     items_then (inside s vr) items (open_item_atoms (inside s vr) last),
@@ -72,7 +76,7 @@ mutual
     items_shown (inside s vr) items contents others (open_item_atoms (inside s vr) last) inner,
     open_item_shown (inside s vr) last others more,
   )
-  open_shown s (open_fragments tag vr values last) b at_end (contents, others, fo, head, inner, more) = (s, fo, refl)
+  open_shown s (open_fragments tag vr values last) b at_end (contents, others, fo, head, inner, more) = (s, fo, fragment_misses s last others more, refl)
 
   pub open_item_shown : (s : Syntax) (o : OpenItem) (b : List ℕ) → SpellsOpenItem s o b → ShowsOpenItem o (open_item_atoms s o)
   open_item_shown s no_open_item b h = refl

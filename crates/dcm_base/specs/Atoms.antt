@@ -1,5 +1,5 @@
 -- A data set as a row of atoms: tokens, with one atom for each byte of a value.
-use Rattle.std.specs.Prelude.{◌≡◌, ℕ, ◌≤◌, List, [], ◌∷◌, ◌++◌, length, map, Bool, true, false, Option, Some, None}
+use Rattle.std.specs.Prelude.{◌≡◌, ℕ, ◌<◌, List, [], ◌∷◌, ◌++◌, length, map, Bool, true, false, Option, Some, None}
 use Rattle.dcm_base.specs.declared.tag.Tag.{Tag}
 use Rattle.dcm_base.specs.declared.vr.Vr.{Vr}
 use Rattle.dcm_base.specs.declared.syntax.Syntax.{Syntax}
@@ -58,6 +58,11 @@ abbrev pub end_atoms : Bool → List Atom
 end_atoms false = []
 end_atoms true = ends ∷ []
 
+-- bytes of the open fragment are still to come
+abbrev pub MissesFragment : Option (ℕ × List ℕ) → Type 0
+MissesFragment None = Unit {0}
+MissesFragment (Some fragment) = length fragment.1 < fragment.0
+
 -- a set is closed only with nothing open in it
 abbrev pub MayEnd : OpenTree → Bool → Type 0
 MayEnd open_tree false = Unit {0}
@@ -66,7 +71,7 @@ MayEnd open_tree true = open_tree ≡ nothing_open
 abbrev pub is_closed : Front → Bool
 is_closed (front whole open_tree reached closed) = closed
 
--- the atoms are those of a data set as far as it was read
+-- the atoms are those of a data set as far as it was read; of an open value or fragment bytes are still to come
 unfoldable mutual
   pub Shows : Front → List Atom → Type 0
   Shows (front whole open_tree reached closed) atoms =
@@ -76,12 +81,12 @@ unfoldable mutual
   pub ShowsOpen : OpenTree → List Atom → List Atom → Type 0
   ShowsOpen nothing_open at_end atoms = atoms ≡ at_end
   ShowsOpen (open_leaf tag vr size value) at_end atoms =
-      (s : Syntax) × (form s vr (Known size) ≡ a_value) × (length value ≤ size) × (atoms ≡ opens tag vr (Known size) s ∷ map value_byte (order s vr value))
+      (s : Syntax) × (form s vr (Known size) ≡ a_value) × (length value < size) × (atoms ≡ opens tag vr (Known size) s ∷ map value_byte (order s vr value))
   ShowsOpen (open_sequence tag vr declared items last) at_end atoms =
       (s : Syntax) × (contents others : List Atom) × (form s vr declared ≡ a_sequence) × (atoms ≡ opens tag vr declared s ∷ contents)
       × ShowItems items contents others × ShowsOpenItem last others
   ShowsOpen (open_fragments tag vr values last) at_end atoms =
-      (s : Syntax) × (form s vr Undefined ≡ a_fragment_list) × (atoms ≡ opens tag vr Undefined s ∷ fragments_then values (open_fragment_atoms last))
+      (s : Syntax) × (form s vr Undefined ≡ a_fragment_list) × MissesFragment last × (atoms ≡ opens tag vr Undefined s ∷ fragments_then values (open_fragment_atoms last))
 
   pub ShowsOpenItem : OpenItem → List Atom → Type 0
   ShowsOpenItem no_open_item atoms = atoms ≡ []

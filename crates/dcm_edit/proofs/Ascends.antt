@@ -95,7 +95,7 @@ mutual
       let k = moved (last_tag None whole ∷ st) atoms _ is h in
       let held = items_ascend items contents others (Some tag) st inner k.1 in
       (reached_last tag whole reached closed a k.0 re (not_ended _ closed may (λ e. cc)), held.0, open_item_ascends last others (Some tag) st w held.1)
-  open_ascends (open_fragments tag vr values last) whole reached closed atoms st a (s, fo, is) may re h =
+  open_ascends (open_fragments tag vr values last) whole reached closed atoms st a (s, fo, mi, is) may re h =
       reached_last tag whole reached closed a (moved (last_tag None whole ∷ st) atoms _ is h).0 re (not_ended _ closed may (λ e. cc))
 
   open_item_ascends : (o : OpenItem) (atoms : List Atom) (r : Option Tag) (st : List (Option Tag)) → ShowsOpenItem o atoms → Rises (r ∷ st) atoms → OpenItemAscends o

@@ -58,7 +58,7 @@ mutual
       ap (λ (x : List Atom). last_of (fold next_unbounded (at es (last_tag None whole) n up d bs) x)) is
       ∙ ap last_of (fold_items items es tag 0 up _ _ contents others inner)
       ∙ last_item last' es tag _ up _ _ others more
-  last_open (open_fragments tag vr values last') es whole n up d bs c atoms (s, fo, is) =
+  last_open (open_fragments tag vr values last') es whole n up d bs c atoms (s, fo, mi, is) =
       ap (λ (x : List Atom). last_of (fold next_unbounded (at es (last_tag None whole) n up d bs) x)) is
       ∙ ap last_of (fold_fragments values es (Some tag) 0 up _ _ (open_fragment_atoms last'))
       ∙ fragment_keeps last' _

@@ -56,7 +56,7 @@ mutual
   open_shallow (open_sequence tag vr declared items last) n c atoms (s, contents, others, fo, is, inner, w) h =
       let in_h : StaysShallow (suc n) contents = stays_opened n a_sequence tag vr declared s contents fo (stays_same n atoms _ is h) in
       (few (suc n) contents in_h, items_shallow items (suc n) contents others inner in_h, open_item_shallow last (suc n) others w (stays_items (suc n) items contents others inner in_h))
-  open_shallow (open_fragments tag vr values last) n c atoms (s, fo, is) h =
+  open_shallow (open_fragments tag vr values last) n c atoms (s, fo, mi, is) h =
       few (suc n) _ (stays_opened n a_fragment_list tag vr Undefined s (fragments_then values (open_fragment_atoms last)) fo (stays_same n atoms _ is h))
 
   open_item_shallow : (o : OpenItem) (n : ℕ) (atoms : List Atom) → ShowsOpenItem o atoms → StaysShallow n atoms → ItemShallow n o
@@ -128,7 +128,7 @@ mutual
   open_stays (open_sequence tag vr declared items last) n c atoms (s, contents, others, fo, is, inner, w) h d =
       moved n atoms _ is (stays_more n (suc n) _ contents h (lists_of n a_sequence tag vr declared s fo)
       (items_stay items (suc n) contents others inner d.0 d.1 (open_item_stays last (suc n) others w d.0 d.2)))
-  open_stays (open_fragments tag vr values last) n c atoms (s, fo, is) h d =
+  open_stays (open_fragments tag vr values last) n c atoms (s, fo, mi, is) h d =
       moved n atoms _ is (stays_more n (suc n) _ _ h (lists_of n a_fragment_list tag vr Undefined s fo)
       (fragments_stay (suc n) values (open_fragment_atoms last) d (open_fragment_stays (suc n) last d)))
 

@@ -64,7 +64,7 @@ mutual
       ap (λ (x : List Atom). out (at es last n up (suc d) bs) x) is
       ∙ dropped_items items es tag 0 up (suc d) _ contents others inner
       ∙ dropped_open_item last' es tag (items_after 0 items) up (suc d) _ others more
-  dropped_open (open_fragments tag vr values last') es last n up d bs c atoms (s, fo, is) =
+  dropped_open (open_fragments tag vr values last') es last n up d bs c atoms (s, fo, mi, is) =
       ap (λ (x : List Atom). out (at es last n up (suc d) bs) x) is
       ∙ dropped_fragments values es (Some tag) 0 up (suc d) _ (open_fragment_atoms last')
       ∙ dropped_open_fragment last' es (Some tag) 0 up (suc d) _
@@ -133,7 +133,7 @@ mutual
       (either_twice bs es (λ e. head_seen e last tag) (λ e. seen_items e tag 0 items) (λ e. head_seen e last tag || seen_items e tag 0 items) (λ e. refl))
       ∙ either_twice bs es (λ e. head_seen e last tag || seen_items e tag 0 items) (λ e. seen_open_item e tag (item_count items) last') (λ e. seen_open e last (open_sequence tag vr declared items last') c)
       (λ e. refl)
-  found_open_tree (open_fragments tag vr values last') es last n up d bs c atoms (s, fo, is) =
+  found_open_tree (open_fragments tag vr values last') es last n up d bs c atoms (s, fo, mi, is) =
       ap (λ (x : List Atom). (fold next_unbounded (at es last n up d bs) x).found) is
       ∙ ap bits (fold_fragments values es (Some tag) 0 up _ _ (open_fragment_atoms last'))
       ∙ fragment_found last' _
@@ -242,7 +242,7 @@ mutual
       (dropped_items items es tag 0 up 0 bs1 contents others inner ∙ dropped_open_item last' es tag (items_after 0 items) up 0 bs2 others more)
       (s, out (at es (Some tag) 0 up 0 bs1) contents, out (at es (Some tag) (items_after 0 items) up 0 bs2) others, fo, refl, walked, at_last))
   passes_open (open_fragments tag vr values last') es whole r last n up bs true atoms p b h a may shown = absurd cc
-  passes_open (open_fragments tag vr values last') es whole r last n up bs false atoms p b h a may (s, fo, is) =
+  passes_open (open_fragments tag vr values last') es whole r last n up bs false atoms p b h a may (s, fo, mi, is) =
       let bs1 : List Bool = either bs (map (λ e. head_seen e last tag) es) in
       moved_open _ _ _ _ _ (ap (λ (x : List Atom). out (at es last n up 0 bs) x) is)
       (open_by (first_fate es tag) (puts (is_between last tag) es no_tree) tag (opens tag vr Undefined s) (open_fragments tag vr values last')

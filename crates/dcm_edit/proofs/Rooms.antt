@@ -110,7 +110,7 @@ mutual
       let p : m ≤ 64 = within n m k atoms h r in
       let q : suc k ≤ 200 = things_within n m k atoms h r in
       moved_room m k atoms _ is (p, q, items_room items n m k contents others inner in_h r (open_item_room last n m k others w rest_h r))
-  open_room (open_fragments tag vr values last) n m k c atoms (s, fo, is) h r =
+  open_room (open_fragments tag vr values last) n m k c atoms (s, fo, mi, is) h r =
       let p : m ≤ 64 = within n m k atoms h r in
       let q : suc (suc k) ≤ 200 = things_within_two n m k atoms h r in
       moved_room m k atoms _ is (p, omega arith, fragments_room m (suc k) values (open_fragment_atoms last) p q (open_fragment_room m (suc k) last p q))
