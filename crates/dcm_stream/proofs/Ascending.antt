@@ -62,7 +62,7 @@ mutual
       ap innermost (trees_reach whole atoms others None st trees ∙ ap (reach (last_tag None whole ∷ st)) at ∙ ap (reach (Some tag ∷ st)) (sym (append-nil (map value_byte (order s vr value)))) ∙ bytes_reach (Some tag) st (order s vr value) []) ∙ sym re
   front_reach (front whole (open_sequence tag vr declared items last) reached closed) atoms st (others, trees, (s, contents, more, fo, at, inner, op), may, re) =
       ap innermost (trees_reach whole atoms others None st trees ∙ ap (reach (last_tag None whole ∷ st)) at ∙ items_reach items contents more (Some tag) st inner) ∙ item_reach last more tag reached st op re
-  front_reach (front whole (open_fragments tag vr values last) reached closed) atoms st (others, trees, (s, fo, at), may, re) =
+  front_reach (front whole (open_fragments tag vr values last) reached closed) atoms st (others, trees, (s, fo, mi, at), may, re) =
       ap innermost (trees_reach whole atoms others None st trees ∙ ap (reach (last_tag None whole ∷ st)) at ∙ fragments_reach (Some tag) st values (open_fragment_atoms last) ∙ fragment_reach (Some tag) st last) ∙ sym re
 
   item_reach : (last : OpenItem) (atoms : List Atom) (tag : Tag) (reached : Option Tag) (st : List (Option Tag)) → ShowsOpenItem last atoms → reached ≡ Some tag → innermost (reach (Some tag ∷ st) atoms) ≡ reached_in_item reached last

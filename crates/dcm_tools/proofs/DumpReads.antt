@@ -2,8 +2,8 @@
 use Rattle.std.proofs.Common.{◌≡◌, ◌∙◌, ap, refl, ℕ, ◌≤◌, List, [], ◌++◌, false, Option, Some, None}
 use Rattle.dcm_base.specs.declared.syntax.Syntax.{Syntax}
 use Rattle.dcm_base.specs.declared.mode.Mode.{Mode}
-use Rattle.dcm_base.specs.Front.{Front, front, OpenTree, nothing_open, open_leaf, open_sequence, open_fragments, OpenItem, no_open_item, open_item}
-use Rattle.dcm_base.specs.Spelling.{inside, SpellsFront, SpellsOpen, SpellsOpenItem, SpellsOpenFragment}
+use Rattle.dcm_base.specs.Front.{Front, front}
+use Rattle.dcm_base.specs.Spelling.{SpellsFront}
 use Rattle.dcm_base.specs.Stop.{Stop, HeadBar}
 use Rattle.dcm_base.specs.Bars.{no_bar}
 use Rattle.dcm_base.specs.Reads.{INPUT_LIMIT, Reads, ended}
@@ -14,33 +14,10 @@ use Rattle.dcm_base.proofs.Shown.{trees_shown, open_shown}
 use Rattle.dcm_stream.specs.Follows.{BarsAs}
 use Rattle.dcm_stream.proofs.Judged.{NeverEarly}
 use Rattle.dcm_tools.specs.DumpSink.{dump_start, dump_step, dump_writes}
-use Rattle.dcm_tools.specs.Laws.{FragmentMisses, MissesBytes, TreeMisses, ItemMisses}
 use Rattle.dcm_tools.proofs.ValueRuns.{dumps}
 use Rattle.dcm_tools.proofs.DumpRuns.{trees_dump, open_dump}
 use Rattle.dcm_tools.proofs.OpenLists.{stays_trees}
 use Rattle.dcm_tools.proofs.IsRead.{IsRead, whole_read, far_read}
-
--- ---- what is spelled misses bytes where it is open
-
-fragment_misses : (s : Syntax) (last : Option (ℕ × List ℕ)) (bytes : List ℕ) → SpellsOpenFragment s last bytes → FragmentMisses last
-fragment_misses s None bytes w = tt
-fragment_misses s (Some fragment) bytes w = w.0
-
-mutual
-  unfolding SpellsFront MissesBytes
-
-  pub front_misses : (s : Syntax) (f : Front) (bytes : List ℕ) → SpellsFront s f bytes → MissesBytes f
-  front_misses s (front whole open_tree reached closed) bytes w = tree_misses s open_tree w.0 w.2
-
-  tree_misses : (s : Syntax) (o : OpenTree) (bytes : List ℕ) → SpellsOpen s o bytes → TreeMisses o
-  tree_misses s nothing_open bytes w = tt
-  tree_misses s (open_leaf tag vr size value) bytes w = w.1
-  tree_misses s (open_sequence tag vr declared items last) bytes w = item_misses (inside s vr) last w.1 w.6
-  tree_misses s (open_fragments tag vr values last) bytes w = fragment_misses s last w.1 w.5
-
-  item_misses : (s : Syntax) (o : OpenItem) (bytes : List ℕ) → SpellsOpenItem s o bytes → ItemMisses o
-  item_misses s no_open_item bytes w = tt
-  item_misses s (open_item declared set) bytes w = front_misses s set w.0 w.3
 
 -- ---- a machine that bars nothing
 
@@ -63,7 +40,7 @@ read_dumps mode s (front whole o reached closed) r =
     let shown = trees_shown s whole r.bytes w.0 others w.1 in
     trees_dump mode 0 [] whole (front_atoms s (front whole o reached closed)) others refl r.shallow shown
     ∙ ap (λ z. dump_set mode 0 whole ++ z)
-    (open_dump mode 0 [] o closed others refl (stays_trees 0 whole (front_atoms s (front whole o reached closed)) others shown r.shallow) (tree_misses s o w.0 w.2) (open_shown s o w.0 (end_atoms closed) w.2))
+    (open_dump mode 0 [] o closed others refl (stays_trees 0 whole (front_atoms s (front whole o reached closed)) others shown r.shallow) (open_shown s o w.0 (end_atoms closed) w.2))
 
 pub reads_whole : (mode : Mode) (s : Syntax) (start : ℕ) (bytes : List ℕ) (f : Front) (stop : Stop) → start ≤ INPUT_LIMIT → Reads no_bar s start bytes f stop
     → outputs dump_step dump_writes (dump_start mode) (front_atoms s f) ≡ dump_front mode 0 f

@@ -21,7 +21,7 @@ use Rattle.dcm_base.specs.Spelling.{form}
 use Rattle.dcm_base.specs.Value.{order}
 use Rattle.dcm_base.specs.ValueText.{shape, hexadecimal, text_of, count, shown_so_far, padded, shortened, display}
 use Rattle.dcm_base.specs.Dump.{line_start, line, leaf_line, fragment_line, open_line, sequence_line, item_line, sequence_end_line, item_end_line, dump_set, dump_items, dump_front, dump_open, dump_open_item, open_fragment}
-use Rattle.dcm_base.specs.Atoms.{Atom, opens, value_byte, closes_leaf, opens_item, closes_item, closes_sequence, opens_fragment, fragments_then, ShowTrees, ShowItems, Shows, ShowsOpen, ShowsOpenItem, open_fragment_atoms, end_atoms}
+use Rattle.dcm_base.specs.Atoms.{Atom, opens, value_byte, closes_leaf, opens_item, closes_item, closes_sequence, opens_fragment, fragments_then, ShowTrees, ShowItems, Shows, ShowsOpen, ShowsOpenItem, open_fragment_atoms, MissesFragment, end_atoms}
 use Rattle.dcm_base.proofs.Order.{order_twice, length-order}
 use Rattle.dcm_value.specs.Display.{at_once}
 use Rattle.dcm_value.specs.Progress.{Progress, started, opened, step, feeds, finishes, multiplicity}
@@ -29,7 +29,7 @@ use Rattle.dcm_value.proofs.TextSteps.{whole_text, whole_count, text_so_far}
 use Rattle.dcm_tools.specs.declared.lines.Owner.TheVariants.{Element, Fragment}
 use Rattle.dcm_tools.specs.Layout.{line_rest}
 use Rattle.dcm_tools.specs.DumpSink.{dump_start, deeper, dump_opens, dump_opens_writes}
-use Rattle.dcm_tools.specs.Laws.{StaysShallow, FragmentMisses, MissesBytes, TreeMisses, ItemMisses}
+use Rattle.dcm_tools.specs.Laws.{StaysShallow}
 use Rattle.dcm_tools.proofs.OpenLists.{stays_on, stays_opened, stays_bytes, stays_fragments, stays_same, stays_trees, stays_items}
 use Rattle.dcm_tools.proofs.Showing.{between, lost}
 use Rattle.dcm_tools.specs.DumpSink.{no_value}
@@ -190,7 +190,7 @@ module _ (mode : Mode) where
         ∙ ap (λ z. first ++ (dump_set mode (level + 1) set ++ (last ++ z))) (items_dump n lengths rest w.1 after e rest_h w.4)
         ∙ four first (dump_set mode (level + 1) set) last (dump_items mode level rest) (dumps (between mode lengths) after)
 
-  fragment_open : (lengths : List Length) (last : Option (ℕ × List ℕ)) → FragmentMisses last → dumps (between mode lengths) (open_fragment_atoms last) ≡ open_fragment mode (length lengths) last
+  fragment_open : (lengths : List Length) (last : Option (ℕ × List ℕ)) → MissesFragment last → dumps (between mode lengths) (open_fragment_atoms last) ≡ open_fragment mode (length lengths) last
   fragment_open lengths None h = refl
   fragment_open lengths (Some f) h =
       let start : List ℕ = line_start (length lengths) item_tag (codes "pi") in
@@ -203,29 +203,29 @@ module _ (mode : Mode) where
   nothing_dumps lengths false = refl
 
   mutual
-    unfolding Shows dump_front MissesBytes
+    unfolding Shows dump_front
 
-    pub front_dump : (n : ℕ) (lengths : List Length) (f : Front) (atoms : List Atom) → length lengths ≡ n + n → StaysShallow n atoms → MissesBytes f → Shows f atoms
+    pub front_dump : (n : ℕ) (lengths : List Length) (f : Front) (atoms : List Atom) → length lengths ≡ n + n → StaysShallow n atoms → Shows f atoms
         → dumps (between mode lengths) atoms ≡ dump_front mode (length lengths) f
-    front_dump n lengths (front whole open_tree reached closed) atoms e h m w =
+    front_dump n lengths (front whole open_tree reached closed) atoms e h w =
         trees_dump n lengths whole atoms w.0 e h w.1
-        ∙ ap (λ z. dump_set mode (length lengths) whole ++ z) (open_dump n lengths open_tree closed w.0 e (stays_trees n whole atoms w.0 w.1 h) m w.2)
+        ∙ ap (λ z. dump_set mode (length lengths) whole ++ z) (open_dump n lengths open_tree closed w.0 e (stays_trees n whole atoms w.0 w.1 h) w.2)
 
-    pub open_dump : (n : ℕ) (lengths : List Length) (o : OpenTree) (closed : Bool) (atoms : List Atom) → length lengths ≡ n + n → StaysShallow n atoms → TreeMisses o → ShowsOpen o (end_atoms closed) atoms
+    pub open_dump : (n : ℕ) (lengths : List Length) (o : OpenTree) (closed : Bool) (atoms : List Atom) → length lengths ≡ n + n → StaysShallow n atoms → ShowsOpen o (end_atoms closed) atoms
         → dumps (between mode lengths) atoms ≡ dump_open mode (length lengths) o
-    open_dump n lengths nothing_open closed atoms e h m w = ap (dumps (between mode lengths)) w ∙ nothing_dumps lengths closed
-    open_dump n lengths (open_leaf tag vr size value) closed atoms e h m w =
+    open_dump n lengths nothing_open closed atoms e h w = ap (dumps (between mode lengths)) w ∙ nothing_dumps lengths closed
+    open_dump n lengths (open_leaf tag vr size value) closed atoms e h w =
         let s : Syntax = w.0 in
         let raw : List ℕ = order s vr value in
         let start : List ℕ = line_start (length lengths) tag (letters vr) in
-        let misses : length raw < size = subst (λ (n : ℕ). n < size) (sym (length-order s vr value)) m in
+        let misses : length raw < size = subst (λ (n : ℕ). n < size) (sym (length-order s vr value)) w.2 in
         ap (dumps (between mode lengths)) w.3
         ∙ opening lengths (form s vr (Known size)) a_value tag vr (Known size) s (map value_byte raw) w.1
         ∙ stays mode lengths (Element tag vr) vr s size raw (omega (arith, misses))
         ∙ ap (open_line mode start) (text_so_far vr s size mode raw misses)
         ∙ open_same mode start (shown_so_far (shape vr) vr size (order s vr raw))
         ∙ ap (λ v. open_line mode start (shown_so_far (shape vr) vr size v)) (order_twice s vr value)
-    open_dump n lengths (open_sequence tag vr declared items last) closed atoms e h m w =
+    open_dump n lengths (open_sequence tag vr declared items last) closed atoms e h w =
         let level : ℕ = length lengths in
         let first : List ℕ = sequence_line level tag vr declared in
         let in_h : StaysShallow (suc n) w.1 = stays_opened n a_sequence tag vr declared w.0 w.1 w.3 (stays_same n atoms _ w.4 h) in
@@ -233,31 +233,31 @@ module _ (mode : Mode) where
         ap (dumps (between mode lengths)) w.4
         ∙ sequence_opens n lengths tag vr declared w.0 w.1 w.3 e in_h
         ∙ ap (λ z. first ++ z) (items_dump (suc n) (declared ∷ lengths) items w.1 w.2 (in_list n declared lengths e) in_h w.5)
-        ∙ ap (λ z. first ++ (dump_items mode (length (declared ∷ lengths)) items ++ z)) (open_item_dump (suc n) (declared ∷ lengths) last w.2 (in_list n declared lengths e) last_h m w.6)
+        ∙ ap (λ z. first ++ (dump_items mode (length (declared ∷ lengths)) items ++ z)) (open_item_dump (suc n) (declared ∷ lengths) last w.2 (in_list n declared lengths e) last_h w.6)
         ∙ ap (λ n. first ++ (dump_items mode n items ++ dump_open_item mode n last)) (deeper_level declared lengths)
         ∙ sym (append_assoc first _ _)
-    open_dump n lengths (open_fragments tag vr values last) closed atoms e h m w =
+    open_dump n lengths (open_fragments tag vr values last) closed atoms e h w =
         let level : ℕ = length lengths in
         let first : List ℕ = line level tag (letters vr) (codes "(PixelSequence)") Undefined 1 in
         let contents : List Atom = fragments_then values (open_fragment_atoms last) in
-        let in_h : StaysShallow (suc n) contents = stays_opened n a_fragment_list tag vr Undefined w.0 contents w.1 (stays_same n atoms _ w.2 h) in
-        ap (dumps (between mode lengths)) w.2
+        let in_h : StaysShallow (suc n) contents = stays_opened n a_fragment_list tag vr Undefined w.0 contents w.1 (stays_same n atoms _ w.3 h) in
+        ap (dumps (between mode lengths)) w.3
         ∙ list_opens n lengths tag vr w.0 contents w.1 e in_h
         ∙ ap (λ z. first ++ z) (fragments_dump (Undefined ∷ lengths) values (open_fragment_atoms last))
-        ∙ ap (λ z. first ++ (flat_map (fragment_line mode (length (Undefined ∷ lengths))) values ++ z)) (fragment_open (Undefined ∷ lengths) last m)
+        ∙ ap (λ z. first ++ (flat_map (fragment_line mode (length (Undefined ∷ lengths))) values ++ z)) (fragment_open (Undefined ∷ lengths) last w.2)
         ∙ ap (λ n. first ++ (flat_map (fragment_line mode n) values ++ open_fragment mode n last)) (deeper_level Undefined lengths)
         ∙ sym (append_assoc first _ _)
 
-    open_item_dump : (n : ℕ) (lengths : List Length) (o : OpenItem) (atoms : List Atom) → length lengths + 1 ≡ n + n → StaysShallow n atoms → ItemMisses o → ShowsOpenItem o atoms
+    open_item_dump : (n : ℕ) (lengths : List Length) (o : OpenItem) (atoms : List Atom) → length lengths + 1 ≡ n + n → StaysShallow n atoms → ShowsOpenItem o atoms
         → dumps (between mode lengths) atoms ≡ dump_open_item mode (length lengths) o
-    open_item_dump n lengths no_open_item atoms e h m w = ap (dumps (between mode lengths)) w
-    open_item_dump n lengths (open_item declared set) atoms e h m w =
+    open_item_dump n lengths no_open_item atoms e h w = ap (dumps (between mode lengths)) w
+    open_item_dump n lengths (open_item declared set) atoms e h w =
         let first : List ℕ = item_line (length lengths) declared in
         let in_h : StaysShallow n w.0 = stays_on n (opens_item declared) w.0 (stays_same n atoms _ w.1 h) in
         ap (dumps (between mode lengths)) w.1
         ∙ item_opens n lengths declared w.0 e in_h
-        ∙ ap (λ z. first ++ z) (front_dump n (declared ∷ lengths) set w.0 (deeper_level declared lengths ∙ e) in_h m w.3)
+        ∙ ap (λ z. first ++ z) (front_dump n (declared ∷ lengths) set w.0 (deeper_level declared lengths ∙ e) in_h w.3)
         ∙ ap (λ n. first ++ dump_front mode n set) (deeper_level declared lengths)
 
-pub dump_steps : (mode : Mode) (f : Front) (atoms : List Atom) → MissesBytes f → StaysShallow 0 atoms → Shows f atoms → dumps (dump_start mode) atoms ≡ dump_front mode 0 f
-dump_steps mode f atoms m h w = front_dump mode 0 [] f atoms refl h m w
+pub dump_steps : (mode : Mode) (f : Front) (atoms : List Atom) → StaysShallow 0 atoms → Shows f atoms → dumps (dump_start mode) atoms ≡ dump_front mode 0 f
+dump_steps mode f atoms h w = front_dump mode 0 [] f atoms refl h w

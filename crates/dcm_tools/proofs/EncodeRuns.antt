@@ -143,9 +143,9 @@ module _ (target : Syntax) where
         ∙ open_item_dropped (suc n) (suc k) last w.2 (item_deeper n k l) (stays_items (suc k) items w.1 w.2 w.5 in_h) w.6
     open_dropped n k (open_fragments tag vr values last) closed atoms l h w =
         let contents : List Atom = fragments_then values (open_fragment_atoms last) in
-        let in_h : StaysShallow (suc k) contents = stays_opened k a_fragment_list tag vr Undefined w.0 contents w.1 (subst (StaysShallow k) w.2 h) in
+        let in_h : StaysShallow (suc k) contents = stays_opened k a_fragment_list tag vr Undefined w.0 contents w.1 (subst (StaysShallow k) w.3 h) in
         let room : min MOST_DEEP (suc (suc (suc n))) ≡ suc (suc (suc n)) = counted (suc (suc (suc n))) (suc k) contents (fragment_deeper n k l) in_h in
-        ap (encodes (dropping target (suc n))) w.2
+        ap (encodes (dropping target (suc n))) w.3
         ∙ opened_within n (suc k) contents (within_list n k l) in_h
         ∙ fragments_dropped (suc n) values (open_fragment_atoms last) room
         ∙ fragment_dropped (suc n) last room
@@ -303,7 +303,7 @@ module _ (target : Syntax) where
         let first : List ℕ = head target tag vr Undefined in
         let inner : List ℕ = flat_map (recoded_fragment target) values in
         let bytes : List ℕ = (first ++ inner) ++ recode_open_fragment target last in
-        ap ready w.2
+        ap ready w.3
         ∙ element_encodes (tag.element == 0) (form w.0 vr Undefined) a_fragment_list tag vr Undefined w.0 (fragments_then values (open_fragment_atoms last)) bytes [] w.1
         (ap (λ z. first ++ z) (fragments_encode values (open_fragment_atoms last))
         ∙ ap (λ z. first ++ (inner ++ z)) (fragment_open last)

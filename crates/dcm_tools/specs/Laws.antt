@@ -1,6 +1,5 @@
 -- What the laws of the dump speak of.
-use Rattle.std.specs.Prelude.{◌≡◌, ℕ, zero, suc, ◌≤◌, ◌<◌, if◌then◌else◌, List, ◌++◌, length, fold, Option, Some, None}
-use Rattle.dcm_base.specs.Front.{Front, front, OpenTree, nothing_open, open_leaf, open_sequence, open_fragments, OpenItem, no_open_item, open_item}
+use Rattle.std.specs.Prelude.{◌≡◌, ℕ, zero, suc, ◌≤◌, if◌then◌else◌, List, ◌++◌, fold}
 use Rattle.dcm_base.specs.Spelling.{form}
 use Rattle.dcm_base.specs.Stop.{opens_list}
 use Rattle.dcm_base.specs.Atoms.{Atom, opens, value_byte, closes_leaf, opens_item, closes_item, closes_sequence, opens_fragment, ends}
@@ -23,23 +22,3 @@ lists_behind n ends = n
 -- no more than 64 are open behind any of these atoms
 abbrev pub StaysShallow : ℕ → List Atom → Type 0
 StaysShallow n atoms = (first rest : List Atom) → atoms ≡ first ++ rest → fold lists_behind n first ≤ 64
-
--- bytes of a fragment that is open are missing
-abbrev pub FragmentMisses : Option (ℕ × List ℕ) → Type 0
-FragmentMisses None = Unit {0}
-FragmentMisses (Some fragment) = length fragment.1 < fragment.0
-
--- bytes of the value or fragment that is open are missing
-unfoldable mutual
-  pub MissesBytes : Front → Type 0
-  MissesBytes (front whole open_tree reached closed) = TreeMisses open_tree
-
-  pub TreeMisses : OpenTree → Type 0
-  TreeMisses nothing_open = Unit {0}
-  TreeMisses (open_leaf tag vr size value) = length value < size
-  TreeMisses (open_sequence tag vr declared items last) = ItemMisses last
-  TreeMisses (open_fragments tag vr values last) = FragmentMisses last
-
-  pub ItemMisses : OpenItem → Type 0
-  ItemMisses no_open_item = Unit {0}
-  ItemMisses (open_item declared set) = MissesBytes set

@@ -18,13 +18,13 @@ ghost use Rattle.dcm_stream.specs.Follows.{BarsAs};
 ghost use Rattle.dcm_tools.specs.Conversion.{Converts};
 ghost use Rattle.dcm_tools.specs.DumpSink.{dump_start, dump_step, dump_writes};
 ghost use Rattle.dcm_tools.specs.EncodeSink.{encode_bar, encode_start, encode_step, encode_writes};
-ghost use Rattle.dcm_tools.specs.Laws.{MissesBytes, StaysShallow};
+ghost use Rattle.dcm_tools.specs.Laws.{StaysShallow};
 ghost use Rattle.dcm_tools.specs.MetaAgain.{Names, ReadsRenewed, Renews};
 
-/// Over atoms that show a data set, whole or as far as it was read, the dump sink writes its dump, where an open value misses
-/// bytes and no more than 64 sequences and fragment lists are open at a time.
+/// Over atoms that show a data set, whole or as far as it was read, the dump sink writes its dump, where no more than 64
+/// sequences and fragment lists are open at a time.
 pub fn dump_steps()
-    ensures { (mode : Mode) (f : Front) (atoms : List Atom) → MissesBytes f → StaysShallow 0 atoms → Shows f atoms → outputs dump_step dump_writes (dump_start mode) atoms ≡ dump_front mode 0 f }
+    ensures { (mode : Mode) (f : Front) (atoms : List Atom) → StaysShallow 0 atoms → Shows f atoms → outputs dump_step dump_writes (dump_start mode) atoms ≡ dump_front mode 0 f }
 {}
 
 /// So it is with all that is read of an input, and with what was read of it so far.
