@@ -251,6 +251,7 @@ mutual
       (dropped_fragments values es (Some tag) 0 up 0 bs1 (open_fragment_atoms last') ∙ dropped_open_fragment last' es (Some tag) 0 up 0 bs1) (
         s,
         fo,
+        mi,
         ap (λ (x : List Atom). opens tag vr Undefined s ∷ x)
             (kept_fragments values es (Some tag) 0 up bs1 (open_fragment_atoms last') ∙ ap (λ (x : List Atom). fragments_then values x) (kept_open_fragment last' es (Some tag) 0 up bs1)),
       ))
