@@ -32,3 +32,4 @@ pub mod Atoms
 pub mod Device
 pub mod Memory
 pub mod Steps
+pub mod Laws

@@ -141,7 +141,7 @@ in_set_grown (begin_sequence tag vr) whole reached atoms i f v w =
 in_set_grown (begin_fragments tag vr) whole reached atoms i f v w =
     let more : List Atom = opens tag vr Undefined Little ∷ [] in
     record {
-      shows = (more, subst (λ (z : List Atom). ShowTrees whole (atoms ++ more) (z ++ more)) w.2 (trees_grow whole atoms w.0 more w.1), (Little, f, refl), tt, refl);
+      shows = (more, subst (λ (z : List Atom). ShowTrees whole (atoms ++ more) (z ++ more)) w.2 (trees_grow whole atoms w.0 more w.1), (Little, f, tt, refl), tt, refl);
       built = (refl, refl);
     }
 in_set_grown begin_item whole reached atoms i f v w = absurd i
@@ -167,7 +167,8 @@ in_fragments_grown (show_fragment (Some value)) whole tag vr values reached atom
         (
           w.2.0,
           w.2.1,
-          ap (λ (z : List Atom). z ++ more) w.2.2
+          tt,
+          ap (λ (z : List Atom). z ++ more) w.2.3
               ∙ ap (λ (z : List Atom). opens tag vr Undefined w.2.0 ∷ z) (fragments_grow values [] more ∙ sym (one_more_fragment values value [])),
         ),
         tt,

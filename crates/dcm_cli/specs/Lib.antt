@@ -14,3 +14,4 @@ pub mod NoEdits
 pub mod ReadsAgain
 pub mod Opening
 pub mod Stops
+pub mod Laws

@@ -3,3 +3,4 @@ pub mod HeadBytes
 pub mod GroupPlaces
 pub mod MetaReading
 pub mod Rewriting
+pub mod Laws

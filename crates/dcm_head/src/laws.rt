@@ -1,15 +1,15 @@
 //! Laws of the definitions. Each function takes nothing and makes no call: its contract is the law.
-ghost use Rattle.std.specs.Prelude.{◌≡◌, ◌↔◌, ◌++◌, ℕ, List, IsTrue, Option, None, Some, option_to_list, length, drop, fold};
-ghost use Rattle.dcm_base.specs.declared.fault.Fault.{Fault};
+ghost use Rattle.dcm_head.specs.Laws.{OneHead, DataSetBegins, GoesWhileUndecided, CallsRefuse};
+ghost use Rattle.std.specs.Prelude.{◌≡◌, ◌↔◌, ◌++◌, ℕ, List, None, Some, fold};
 ghost use Rattle.dcm_base.specs.declared.syntax.Syntax.{Syntax};
 ghost use Rattle.dcm_head.specs.declared.head.Head.{Head};
 ghost use Rattle.dcm_head.specs.declared.head.HeadRead.TheVariants.{Done, More, BadVr};
-ghost use Rattle.dcm_base.specs.Head.{HeadAt, HeadSpells};
+ghost use Rattle.dcm_base.specs.Head.{HeadSpells};
 ghost use Rattle.dcm_head.specs.HeadBytes.{HasSpelling, head_bytes};
 ghost use Rattle.dcm_head.specs.HeadRead.{head_read, Begins, IsShort, HasBadVr};
-ghost use Rattle.dcm_base.specs.MetaReads.{MetaAnswer, MetaReads, is_undecided};
+ghost use Rattle.dcm_base.specs.MetaReads.{MetaAnswer, MetaReads};
 ghost use Rattle.dcm_head.specs.declared.meta_read.MetaEnd.{MetaEnd};
-ghost use Rattle.dcm_head.specs.MetaReading.{BeginsAt, CallEnds, CallRefuses, Reading, Says, at_start, meta_step, meta_finished};
+ghost use Rattle.dcm_head.specs.MetaReading.{CallEnds, Reading, Says, at_start, meta_step, meta_finished};
 
 /// A head is read exactly where the bytes begin with its spelling, more bytes are asked for exactly where a head
 /// misses them, and a representation is refused exactly where it is not two capitals.
@@ -21,7 +21,7 @@ pub fn heads_read()
 
 /// Bytes begin with at most one head.
 pub fn one_head()
-    ensures { (s : Syntax) (bytes after others : List ℕ) (head other : Head) → HeadAt s head.tag head.vr head.length bytes after → HeadAt s other.tag other.vr other.length bytes others → (head ≡ other) × (after ≡ others) }
+    ensures { OneHead }
 {}
 
 /// The bytes that a head is written as spell it.
@@ -41,7 +41,7 @@ pub fn meta_reads()
 
 /// Behind a group that ended in a piece, the bytes of the data set are the byte ahead and the piece from its place on.
 pub fn data_set_begins()
-    ensures { (before piece : List ℕ) (place used : ℕ) (ahead : Option ℕ) → BeginsAt before place used ahead → drop place (before ++ piece) ≡ option_to_list ahead ++ drop used piece }
+    ensures { DataSetBegins }
 {}
 
 /// The reading byte by byte ends with the answer to the whole, and goes on just as long as more bytes can change that: a call ends
@@ -51,7 +51,7 @@ pub fn meta_steps()
     ensures cuts { (r : Reading) (piece more : List ℕ) → fold meta_step r (piece ++ more) ≡ fold meta_step (fold meta_step r piece) more }
     ensures stays { (r : Reading) (end : MetaEnd) (piece : List ℕ) → r.end ≡ Some end → fold meta_step r piece ≡ r }
     ensures kept { (file : List ℕ) → (fold meta_step at_start file).end ≡ None → (fold meta_step at_start file).bytes ≡ file }
-    ensures going { (file : List ℕ) (answer : MetaAnswer) → MetaReads file answer → IsTrue (is_undecided (length file) answer) ↔ ((fold meta_step at_start file).end ≡ None) }
+    ensures going { GoesWhileUndecided }
     ensures halts { (before piece : List ℕ) (answer : MetaAnswer) → MetaReads (before ++ piece) answer → CallEnds before piece answer }
-    ensures fault { (before piece : List ℕ) (answer : MetaAnswer) (fault : Fault) (offset : ℕ) → MetaReads (before ++ piece) answer → CallRefuses before piece answer fault offset }
+    ensures fault { CallsRefuse }
 {}

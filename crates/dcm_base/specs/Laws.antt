@@ -1,0 +1,68 @@
+-- The statements of the laws.
+use Rattle.std.specs.Prelude.{◌≡◌, ◌≢◌, ◌≤◌, ◌%◌, ℕ, List, codes, length, true, false, Some}
+use Rattle.dcm_base.specs.Atoms.{Atom, Shows, front_atoms}
+use Rattle.dcm_base.specs.Front.{Front}
+use Rattle.dcm_base.specs.Spelling.{SpellsFront}
+use Rattle.dcm_base.specs.Stop.{Bar, Stop}
+use Rattle.dcm_base.specs.Reads.{Reads}
+use Rattle.dcm_base.specs.Build.{rebuilt}
+use Rattle.dcm_base.specs.Recode.{is_explicit, recode_set}
+use Rattle.dcm_base.specs.Normal.{FrontFits, normal}
+use Rattle.dcm_base.specs.Tree.{Trees}
+use Rattle.dcm_base.specs.Number.{AreBytes, HasLength, IsLength, IsTag}
+use Rattle.dcm_base.specs.Representation.{is_sequence, letters}
+use Rattle.dcm_base.specs.Dump.{line, leaf_line, fragment_line, sequence_line, item_line, item_end_line, sequence_end_line}
+use Rattle.dcm_base.specs.Line.{LineMeans, one, show_leaf, begin_sequence, begin_fragments, begin_item, show_fragment, end_item, end_sequence, may_be_sequence, may_be_fragments}
+use Rattle.dcm_base.specs.declared.length.Length.{Length}
+use Rattle.dcm_base.specs.declared.length.Length.TheVariants.{Undefined}
+use Rattle.dcm_base.specs.declared.mode.Mode.TheVariants.{Full}
+use Rattle.dcm_base.specs.declared.tag.Tag.{Tag}
+use Rattle.dcm_base.specs.declared.vr.Vr.TheVariants.{OB}
+use Rattle.dcm_base.specs.ReadValue.{value_of_text, value_shown}
+use Rattle.dcm_base.specs.ValueText.{display, shown_unit}
+use Rattle.dcm_base.specs.declared.vr.Vr.{Vr}
+use Rattle.dcm_base.specs.declared.syntax.Syntax.{Syntax}
+use Rattle.dcm_base.specs.declared.syntax.Syntax.TheVariants.{Implicit}
+
+-- what is read of a data set, and where reading stops, is one
+abbrev pub OneReading : Type 0
+OneReading =
+    (bar : Bar) (s : Syntax) (start : ℕ) (bytes : List ℕ) (f g : Front) (stop other : Stop) → Reads bar s start bytes f stop
+    → Reads bar s start bytes g other → (f ≡ g) × (stop ≡ other)
+
+-- the full text of a value of whole units stands for the value, without the pad byte that the text drops
+abbrev pub ValuesReadBack : Type 0
+ValuesReadBack =
+    (vr : Vr) (v : List ℕ) → is_sequence vr ≡ false → AreBytes v → length v % shown_unit vr ≡ 0 → length (display vr v) ≤ 16384
+    → value_of_text vr (display vr v) ≡ Some (value_shown vr v)
+
+-- the full line of a value means that value
+abbrev pub LeafLinesMean : Type 0
+LeafLinesMean =
+    (level : ℕ) (tag : Tag) (vr : Vr) (v : List ℕ) → IsTag tag → tag.group ≢ 0xFFFE → is_sequence vr ≡ false → AreBytes v
+    → IsLength (length v) → length v % shown_unit vr ≡ 0 → length (display vr v) ≤ 16384
+    → LineMeans (leaf_line Full level tag vr v) (one (show_leaf tag vr (Some (value_shown vr v))))
+
+-- the full line of a fragment means that fragment
+abbrev pub FragmentLinesMean : Type 0
+FragmentLinesMean =
+    (level : ℕ) (v : List ℕ) → AreBytes v → IsLength (length v) → length (display OB v) ≤ 16384
+    → LineMeans (fragment_line Full level v) (one (show_fragment (Some v)))
+
+-- the line of a sequence means that it begins
+abbrev pub SequenceLinesMean : Type 0
+SequenceLinesMean =
+    (level : ℕ) (tag : Tag) (vr : Vr) (size : Length) → HasLength size → IsTag tag → tag.group ≢ 0xFFFE
+    → may_be_sequence vr ≡ true → LineMeans (sequence_line level tag vr size) (one (begin_sequence tag vr))
+
+-- the line of a fragment list means that it begins
+abbrev pub FragmentListLinesMean : Type 0
+FragmentListLinesMean =
+    (level : ℕ) (tag : Tag) (vr : Vr) → IsTag tag → tag.group ≢ 0xFFFE → may_be_fragments vr ≡ true
+    → LineMeans (line level tag (letters vr) (codes "(PixelSequence)") Undefined 1) (one (begin_fragments tag vr))
+
+-- what was read of an implicit data set fits each target
+abbrev pub ImplicitFits : Type 0
+ImplicitFits =
+    (target : Syntax) (bar : Bar) (start : ℕ) (bytes : List ℕ) (f : Front) (stop : Stop) → Reads bar Implicit start bytes f stop
+    → FrontFits target f

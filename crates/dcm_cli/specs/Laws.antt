@@ -1,0 +1,65 @@
+-- The statements of the laws.
+use Rattle.dcm_base.specs.declared.syntax.Coding.{Coding}
+use Rattle.dcm_base.specs.declared.syntax.Syntax.{Syntax}
+use Rattle.dcm_base.specs.Front.{Front}
+use Rattle.dcm_base.specs.MetaReads.{Meta}
+use Rattle.dcm_base.specs.declared.tag.Tag.{Tag}
+use Rattle.dcm_base.specs.declared.vr.Vr.{Vr}
+use Rattle.dcm_edit.specs.Edit.{Edit, erase_all, erase_private, modify_all}
+use Rattle.dcm_edit.specs.Everywhere.{Among, EverywhereIn, IsOther, IsPublic, IsWrittenJust}
+use Rattle.dcm_edit.specs.Repeating.{EraseByNoNumber}
+use Rattle.dcm_words.specs.declared.job.Job.{Job}
+use Rattle.dcm_cli.specs.Answer.{Answer, Answers, Sure}
+use Rattle.dcm_cli.specs.DumpBuilds.{DumpBuilds}
+use Rattle.dcm_cli.specs.ReadsAgain.{InOutput, IsConverted, IsModified, ReadsConverted, ReadsModified}
+use Rattle.dcm_cli.specs.NoEdits.{NoEditsConvert}
+use Rattle.dcm_cli.specs.Run.{IsMeant}
+use Rattle.dcm_words.specs.Plans.{job_of}
+use Rattle.dcm_words.specs.Words as words
+use Rattle.std.specs.Prelude.{◌++◌, ◌≡◌, ◌⊎◌, List, Option, ℕ}
+use Rattle.std.specs.declared.alloc.Global.{Global}
+
+-- what is sure of a beginning is a beginning of the output for every input that begins so
+abbrev pub SureGrows : Type 0
+SureGrows =
+    (job : Job Global) (p later out : List ℕ) (a : Answer) → IsMeant (job_of job) → Sure (job_of job) p out
+    → Answers (job_of job) (p ++ later) a → (rest : List ℕ) × (a.output ≡ out ++ rest)
+
+-- what dcmodify writes of a file without fault is read without fault
+abbrev pub ModifiedReads : Type 0
+ModifiedReads =
+    (edits : List Edit) (input : List ℕ) (a : Answer) (m : Meta) (coding : Coding) (f : Front)
+    → IsModified edits input a m coding f → ReadsModified edits a m coding f
+
+-- what dcmconv writes of a file without fault is read without fault
+abbrev pub ConvertedReads : Type 0
+ConvertedReads =
+    (target : Option Syntax) (input : List ℕ) (a : Answer) (m : Meta) (coding : Coding) (f : Front)
+    → IsConverted target input a m coding f → ReadsConverted target a m coding f
+
+-- after `-ea` no element has the tag, at any depth
+abbrev pub ErasedAll : Type 0
+ErasedAll =
+    (edits : List Edit) (input : List ℕ) (a : Answer) (m : Meta) (coding : Coding) (f : Front)
+    → IsModified edits input a m coding f → (tag : Tag) → Among (erase_all tag) edits
+    → InOutput (λ s set. EverywhereIn (IsOther tag) set) a
+
+-- after `-ep` no element is of an odd group, at any depth
+abbrev pub ErasedPrivate : Type 0
+ErasedPrivate =
+    (edits : List Edit) (input : List ℕ) (a : Answer) (m : Meta) (coding : Coding) (f : Front)
+    → IsModified edits input a m coding f → Among erase_private edits → InOutput (λ s set. EverywhereIn IsPublic set) a
+
+-- after `-ma` each element of the tag has the value as it is written, at any depth
+abbrev pub ModifiedAll : Type 0
+ModifiedAll =
+    (edits : List Edit) (input : List ℕ) (a : Answer) (m : Meta) (coding : Coding) (f : Front)
+    → IsModified edits input a m coding f → (tag : Tag) (vr : Vr) (value : List ℕ) → Among (modify_all tag vr value) edits
+    → InOutput (λ s set. EverywhereIn (IsWrittenJust s tag vr value) set) a
+
+-- the same edits again write the same bytes, unless one erases an item by its number
+abbrev pub ModifiedTwice : Type 0
+ModifiedTwice =
+    (edits : List Edit) (input : List ℕ) (a b : Answer) (m : Meta) (coding : Coding) (f : Front)
+    → IsModified edits input a m coding f → EraseByNoNumber edits → Answers (words.modify edits) a.output b
+    → (b.output ≡ a.output) × ((b.status ≡ 0) ⊎ (b.status ≡ 3))
