@@ -182,7 +182,7 @@ in_fragments_grown end_sequence whole tag vr values reached atoms h v w =
       shows = (
         [],
         trees_joined whole (fragments tag vr values no_tree) (atoms ++ more) (w.0 ++ more) [] (trees_grow whole atoms w.0 more w.1)
-            (w.2.0, [], w.2.1, ap (λ (z : List Atom). z ++ more) w.2.2 ∙ ap (λ (z : List Atom). opens tag vr Undefined w.2.0 ∷ z) (fragments_grow values [] more), refl),
+            (w.2.0, [], w.2.1, ap (λ (z : List Atom). z ++ more) w.2.3 ∙ ap (λ (z : List Atom). opens tag vr Undefined w.2.0 ∷ z) (fragments_grow values [] more), refl),
         refl,
         tt,
         w.4 ∙ sym (last_behind None whole (fragments tag vr values no_tree) (Some tag) (λ b. refl)),

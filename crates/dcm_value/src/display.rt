@@ -29,9 +29,7 @@ fn fill(front: &mut ArrayVec<u8, 66>, bytes: &[u8])
     ensures { front.new.items ≡ take 66 (front.old.items ++ bytes.now) }
 {
     let count = front.remaining_capacity().min(bytes.len());
-    for byte in &bytes[..count] {
-        front.push(*byte);
-    }
+    let _ = front.try_extend_from_slice(&bytes[..count]);
 }
 
 /// A display, with spaces up to 40 bytes.

@@ -1,7 +1,10 @@
-use Rattle.std.proofs.Common.{arith}
-use Rattle.std.proofs.lemmas.Grind.{common_steps}
-use Rattle.dcm_value.proofs.Shows.{fills, take_within}
+use Rattle.std.proofs.Common.{arith, rules, ◌≡◌, ◌++◌, take, length, min}
+use Rattle.dcm_value.proofs.Shows.{fills}
 use Rattle.dcm_value.proofs.display.fill.Goals as goal
 
 pub returns : goal.returns
-returns c = let h = c.loop-byte.invariant in let k = c.loop-byte-test.false in let m = c.min-count.ensures in grind (arith, common_steps, fills 66 c.remaining_capacity.result c.args.front.now.items c.args.bytes.now (omega arith), take_within)
+returns c =
+    let xs = c.args.front.now.items in
+    let ys = c.args.bytes.now in
+    let all : xs ++ take (min c.remaining_capacity.result (length ys)) ys ≡ take 66 (xs ++ ys) = fills 66 c.remaining_capacity.result xs ys (omega arith) in
+    rw (← all) (search rules)
