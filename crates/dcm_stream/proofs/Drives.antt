@@ -1,5 +1,5 @@
 -- A machine and its sink, over parts of an input.
-use Rattle.std.proofs.Common.{◌≡◌, ◌∙◌, sym, ap, subst, refl, ℕ, zero, suc, ◌+◌, ◌-◌, ◌<◌, ◌≤◌, List, [], ◌∷◌, ◌++◌, length, map, reverse, append_assoc, Bool, true, false, cond, Option, Some, None, Result, Ok, Err, arith, length-append}
+use Rattle.std.proofs.Common.{◌≡◌, ◌∙◌, sym, ap, subst, refl, ℕ, zero, suc, ◌+◌, ◌-◌, ◌<◌, ◌≤◌, List, [], ◌∷◌, ◌++◌, length, map, append_assoc, Bool, true, false, cond, Option, Some, None, Result, Ok, Err, arith, length-append}
 use Rattle.std.specs.Prelude.{fold, nat_lt, IsErrAnd}
 use Rattle.std.specs.Io.KnownBytes.{append_known}
 use Rattle.std.proofs.lemmas.Bool.{lt-ltb, le-ltb}
@@ -55,7 +55,7 @@ module _ {S : Type 0} (step : S → Atom → S) (writes : S → Atom → List �
   pub comes_settled : {T : Type 0} (p : Place) (s : S) (held : Option (List ℕ)) (m : S) (mid : Option (List ℕ)) (t : S) (holds : Option (List ℕ)) (new : Option Stop → Reading) (r : Result T Halt)
       → p.left ≡ 0 → m ≡ fold step s (closes_leaf ∷ []) → mid ≡ append_known held (outputs step writes s (closes_leaf ∷ [])) → Comes step writes m mid t holds new (settles p) r → Comes step writes s held t holds new (settles_value p) r
   comes_settled p s held m mid t holds new r left a b h =
-      let at : settles_value p ≡ ((settles p).0, closes_leaf ∷ (settles p).1) = ap (λ (n : ℕ). settled p.position (record { levels = reverse p.levels.items; left = n; atoms = closing n }) n) left in
+      let at : settles_value p ≡ ((settles p).0, closes_leaf ∷ (settles p).1) = ap (λ (n : ℕ). settled p.position (record { levels = p.levels; left = n; atoms = closing n }) n) left in
       subst (λ (q : Reading × List Atom). Comes step writes s held t holds new q r) (sym at) (comes_on s held m mid t holds new (settles p).0 (closes_leaf ∷ []) (settles p).1 r a b h)
 
   -- atoms that were taken, and then what is behind them

@@ -1,5 +1,5 @@
 -- What a head opens or closes is entered.
-use Rattle.std.proofs.Common.{◌≡◌, ◌∙◌, sym, ap, subst, ℕ, ◌-◌, List, [], ◌∷◌, ◌++◌, length, take, drop, reverse, ◌⊎◌, inl, inr, Option, Result}
+use Rattle.std.proofs.Common.{◌≡◌, ◌∙◌, sym, ap, subst, ℕ, List, [], ◌∷◌, drop, ◌⊎◌, inl, inr, Option, Result}
 use Rattle.std.specs.Prelude.{fold, IsErrAnd}
 use Rattle.std.specs.Io.KnownBytes.{append_known}
 use Rattle.dcm_base.specs.declared.syntax.Syntax.{Syntax}
@@ -19,22 +19,20 @@ use Rattle.dcm_stream.specs.Reading.{Reading, Opened, closing, settled}
 use Rattle.dcm_stream.specs.Judging.{opening_atom, opened_by}
 use Rattle.dcm_stream.specs.Machine.{Comes, settles, entered}
 use Rattle.dcm_stream.proofs.Drives.{comes_behind, fails_behind}
-use Rattle.dcm_stream.proofs.Turned.{turned_more}
-use Rattle.dcm_stream.proofs.Closes.{turned_but_last}
 
 -- what is open behind a container's head or end
 abbrev pub Leads : List Level → Opening → List Level → Type 0
 Leads levels o behind = opened_by levels o ≡ record { levels = behind; left = 0; atoms = opening_atom o ∷ [] }
 
-pub leads_in : (levels behind : List Level) (o : Opening) (level : Level) → ((head : Head) × (s : Syntax) × (o ≡ opening.List head s level)) ⊎ (o ≡ opening.Item level) → behind ≡ levels ++ level ∷ [] → Leads (reverse levels) o (reverse behind)
+pub leads_in : (levels behind : List Level) (o : Opening) (level : Level) → ((head : Head) × (s : Syntax) × (o ≡ opening.List head s level)) ⊎ (o ≡ opening.Item level) → behind ≡ level ∷ levels → Leads levels o behind
 leads_in levels behind o level (inl (head, s, e)) b =
-    subst (λ (x : Opening). Leads (reverse levels) x (reverse behind)) (sym e) (ap (λ (ls : List Level). record { levels = ls; left = 0; atoms = opening_atom (opening.List head s level) ∷ [] }) (sym (ap reverse b ∙ turned_more levels level)))
+    subst (λ (x : Opening). Leads levels x behind) (sym e) (ap (λ (ls : List Level). record { levels = ls; left = 0; atoms = opening_atom (opening.List head s level) ∷ [] }) (sym b))
 leads_in levels behind o level (inr e) b =
-    subst (λ (x : Opening). Leads (reverse levels) x (reverse behind)) (sym e) (ap (λ (ls : List Level). record { levels = ls; left = 0; atoms = opening_atom (opening.Item level) ∷ [] }) (sym (ap reverse b ∙ turned_more levels level)))
+    subst (λ (x : Opening). Leads levels x behind) (sym e) (ap (λ (ls : List Level). record { levels = ls; left = 0; atoms = opening_atom (opening.Item level) ∷ [] }) (sym b))
 
-pub leads_out : (levels behind : List Level) (o : Opening) (container : Container) → o ≡ opening.End container → behind ≡ take (length levels - 1) levels → Leads (reverse levels) o (reverse behind)
+pub leads_out : (levels behind : List Level) (o : Opening) (container : Container) → o ≡ opening.End container → behind ≡ drop 1 levels → Leads levels o behind
 leads_out levels behind o container e b =
-    subst (λ (x : Opening). Leads (reverse levels) x (reverse behind)) (sym e) (ap (λ (ls : List Level). record { levels = ls; left = 0; atoms = opening_atom (opening.End container) ∷ [] }) (sym (ap reverse b ∙ turned_but_last levels)))
+    subst (λ (x : Opening). Leads levels x behind) (sym e) (ap (λ (ls : List Level). record { levels = ls; left = 0; atoms = opening_atom (opening.End container) ∷ [] }) (sym b))
 
 module _ {S : Type 0} (step : S → Atom → S) (writes : S → Atom → List ℕ) where
   -- the output failed at the head
@@ -69,10 +67,10 @@ module _ {S : Type 0} (step : S → Atom → S) (writes : S → Atom → List �
 
   -- a container begins or ends
   pub enters_container : {T : Type 0} (position : ℕ) (levels : List Level) (o : Opening) (p : Place) (s : S) (held : Option (List ℕ)) (m : S) (mid : Option (List ℕ)) (t : S) (holds : Option (List ℕ)) (new : Option Stop → Reading) (token : List Atom) (r : Result T Halt)
-      → Leads levels o (reverse p.levels.items) → p.position ≡ position → token ≡ opening_atom o ∷ []
+      → Leads levels o p.levels → p.position ≡ position → token ≡ opening_atom o ∷ []
       → m ≡ fold step s token → mid ≡ append_known held (outputs step writes s token) → Comes step writes m mid t holds new (settles p) r
       → Comes step writes s held t holds new (entered position (opened_by levels o)) r
   enters_container position levels o p s held m mid t holds new token r leads at f a b h =
       subst (λ (x : Opened). Comes step writes s held t holds new (entered position x) r) (sym leads)
-      (subst (λ (n : ℕ). Comes step writes s held t holds new (settled n (record { levels = reverse p.levels.items; left = 0; atoms = opening_atom o ∷ [] }) 0) r) at
-      (comes_behind step writes p.position 0 (reverse p.levels.items) s held m mid t holds new (opening_atom o ∷ []) [] r (a ∙ ap (fold step s) f) (b ∙ ap (λ (xs : List Atom). append_known held (outputs step writes s xs)) f) h))
+      (subst (λ (n : ℕ). Comes step writes s held t holds new (settled n (record { levels = p.levels; left = 0; atoms = opening_atom o ∷ [] }) 0) r) at
+      (comes_behind step writes p.position 0 p.levels s held m mid t holds new (opening_atom o ∷ []) [] r (a ∙ ap (fold step s) f) (b ∙ ap (λ (xs : List Atom). append_known held (outputs step writes s xs)) f) h))

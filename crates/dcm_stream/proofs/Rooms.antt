@@ -1,38 +1,28 @@
--- Room and depth from the outermost container on.
-use Rattle.std.proofs.Common.{◌≡◌, ◌∙◌, ap, sym, refl, ℕ, ◌+◌, ◌<◌, List, [], ◌∷◌, length, take, get_or, reverse, Option, None, ◌≤◌, arith}
-use Rattle.std.proofs.lemmas.List.{take_more}
+-- Room and depth of the open containers as they are kept.
+use Rattle.std.proofs.Common.{◌≡◌, ◌∙◌, ap, sym, subst, refl, ℕ, ◌+◌, ◌-◌, ◌≤◌, min, List, [], ◌∷◌, ◌++◌, length, reverse, Option, Some, None, arith}
 use Rattle.dcm_base.specs.declared.level.Container.{Container}
 use Rattle.dcm_base.specs.declared.level.Container.TheVariants.{DataSet, Item, Sequence, FragmentList}
 use Rattle.dcm_base.specs.declared.level.Level.{Level}
 use Rattle.dcm_base.specs.Place.{distance, least, room, counts, depth}
+use Rattle.dcm_stream.specs.declared.levels.OpenLevel.{OpenLevel}
+use Rattle.dcm_stream.specs.Levels.{levels_of, nearest_end, AreSummed}
 use Rattle.dcm_stream.proofs.Turned.{turned_more}
 
-pub no_room : (position : ℕ) → None ≡ room position []
-unfolding room
-no_room position = refl
+-- ---- the nearest end
 
-pub no_depth : 0 ≡ depth []
-unfolding depth
-no_depth = refl
+-- the lesser of two distances is that to the lesser end
+least_distance : (position : ℕ) (a b : Option ℕ) → least (distance position a) (distance position b) ≡ distance position (least a b)
+least_distance position None b = refl
+least_distance position (Some x) None = refl
+least_distance position (Some x) (Some y) = let e : min (x - position) (y - position) ≡ min x y - position = omega arith in ap (λ (n : ℕ). Some n) e
 
-turned_take : (levels : List Level) (i : ℕ) (d : Level) → i < length levels → reverse (take (i + 1) levels) ≡ get_or levels i d ∷ reverse (take i levels)
-turned_take levels i d h = ap reverse (take_more levels i d h) ∙ turned_more (take i levels) (get_or levels i d)
+pub room_is : (position : ℕ) (ls : List Level) → room position ls ≡ distance position (nearest_end ls)
+unfolding room nearest_end
+room_is position [] = refl
+room_is position (inner ∷ outer) =
+    ap (λ (x : Option ℕ). least (distance position inner.end_offset) x) (room_is position outer) ∙ least_distance position inner.end_offset (nearest_end outer)
 
--- one container more
-pub room_more : (position : ℕ) (levels : List Level) (i : ℕ) (d : Level) → i < length levels → least (distance position (get_or levels i d).end_offset) (room position (reverse (take i levels))) ≡ room position (reverse (take (i + 1) levels))
-unfolding room
-room_more position levels i d h = sym (ap (room position) (turned_take levels i d h))
-
-pub depth_more : (levels : List Level) (i : ℕ) (d : Level) → i < length levels → counts (get_or levels i d).container + depth (reverse (take i levels)) ≡ depth (reverse (take (i + 1) levels))
-unfolding depth
-depth_more levels i d h = sym (ap depth (turned_take levels i d h))
-
-pub room_step : (position : ℕ) (levels : List Level) (i : ℕ) (d : Level) (near far new : Option ℕ) → i < length levels → far ≡ distance position (get_or levels i d).end_offset → near ≡ room position (reverse (take i levels)) → new ≡ least far near
-    → new ≡ room position (reverse (take (i + 1) levels))
-room_step position levels i d near far new h e f n = n ∙ ap (λ x. least x near) e ∙ ap (λ x. least (distance position (get_or levels i d).end_offset) x) f ∙ room_more position levels i d h
-
-pub depth_step : (levels : List Level) (i : ℕ) (d : Level) (count one : ℕ) → i < length levels → one ≡ counts (get_or levels i d).container → count ≡ depth (reverse (take i levels)) → count + one ≡ depth (reverse (take (i + 1) levels))
-depth_step levels i d count one h e f = let more = depth_more levels i d h in omega (arith, more)
+-- ---- the depth
 
 counts_one : (container : Container) → counts container ≤ 1
 counts_one DataSet = omega arith
@@ -41,4 +31,21 @@ counts_one Sequence = omega arith
 counts_one FragmentList = omega arith
 
 pub counts_few : (count : ℕ) (container : Container) → count ≡ counts container → count ≤ 1
-counts_few count container e = let one = counts_one container in omega (arith, one)
+counts_few count container e = omega (arith, counts_one container)
+
+pub depth_few : (ls : List Level) → depth ls ≤ length ls
+unfolding depth
+depth_few [] = omega arith
+depth_few (inner ∷ outer) = omega (arith, counts_one inner.container, depth_few outer)
+
+-- ---- one container more
+
+pub push_summed : (items new : List OpenLevel) (o : OpenLevel) (ls : List Level) → AreSummed (reverse items) → levels_of (reverse items) ≡ ls → new ≡ items ++ o ∷ [] → o.nearest ≡ least o.level.end_offset (nearest_end ls) → o.depth ≡ depth ls + counts o.level.container
+    → AreSummed (reverse new)
+unfolding nearest_end depth
+push_summed items new o ls h v e near deep =
+    subst AreSummed (sym (ap reverse e ∙ turned_more items o)) (
+      near ∙ ap (λ (x : List Level). least o.level.end_offset (nearest_end x)) (sym v),
+      (let same : depth ls ≡ depth (levels_of (reverse items)) = ap depth (sym v) in omega (arith, deep, same)),
+      h,
+    )

@@ -1,6 +1,7 @@
 pub mod Tokens
 pub mod Reading
 pub mod Places
+pub mod Levels
 pub mod Judging
 pub mod Follows
 pub mod Bounds

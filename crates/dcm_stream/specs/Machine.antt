@@ -1,5 +1,5 @@
 -- A machine and the sink that it drives.
-use Rattle.std.specs.Prelude.{◌≡◌, ℕ, ◌+◌, ◌≤◌, List, [], ◌++◌, length, take, map, reverse, Bool, true, false, Option, Some, None, Result, Ok, Err, fold, ⊤, is_some, ◌||◌, ◌&&◌, ◌==◌}
+use Rattle.std.specs.Prelude.{◌≡◌, ℕ, ◌+◌, ◌≤◌, List, [], ◌++◌, length, take, map, Bool, true, false, Option, Some, None, Result, Ok, Err, fold, ⊤, is_some, ◌||◌, ◌&&◌, ◌==◌}
 use Rattle.std.specs.Io.KnownBytes.{append_known}
 use Rattle.dcm_base.specs.Atoms.{Atom, value_byte}
 use Rattle.dcm_base.specs.Device.{AppendsFront}
@@ -24,7 +24,7 @@ steps_write bars step writes p b = outputs step writes p.1 (read_byte (bars_head
 
 -- what is read of a data set at a place, and why it goes no further
 abbrev pub reading : Place → Option Stop → Reading
-reading p halt = record { position = p.position; head = p.head.items; left = p.left; levels = reverse p.levels.items; halt = halt }
+reading p halt = record { position = p.position; head = p.head.items; left = p.left; levels = p.levels; halt = halt }
 
 -- the offset of the next byte
 abbrev pub next_offset : Reading → ℕ
@@ -69,10 +69,10 @@ value_read r left bytes = settled (r.position + length bytes) (record { levels =
 
 -- behind a place where no byte of a value is to come, and where so many are
 abbrev pub settles : Place → Reading × List Atom
-settles p = settled p.position (record { levels = reverse p.levels.items; left = 0; atoms = [] }) 0
+settles p = settled p.position (record { levels = p.levels; left = 0; atoms = [] }) 0
 
 abbrev pub settles_value : Place → Reading × List Atom
-settles_value p = settled p.position (record { levels = reverse p.levels.items; left = p.left; atoms = closing p.left }) p.left
+settles_value p = settled p.position (record { levels = p.levels; left = p.left; atoms = closing p.left }) p.left
 
 -- what was opened is entered at an offset
 abbrev pub entered : ℕ → Opened → Reading × List Atom
@@ -90,7 +90,7 @@ bytes_read (Err halt) piece = piece
 
 -- whether the data set may end at a place
 abbrev pub may_end : Place → Bool
-may_end p = (p.left == 0) && is_top (reverse p.levels.items) && is_empty p.head.items
+may_end p = (p.left == 0) && is_top p.levels && is_empty p.head.items
 
 -- how the input's end is answered
 abbrev pub EndsWith : {T : Type 0} → Stop → Result T Halt → Type 0

@@ -1,5 +1,5 @@
 // The ends of containers, and the tokens of heads.
-ghost use Rattle.std.specs.Prelude.{◌≡◌, [], ◌∷◌, reverse, OnOk};
+ghost use Rattle.std.specs.Prelude.{◌≡◌, [], ◌∷◌, OnOk};
 ghost use Rattle.dcm_stream.specs.Sinks as sinks;
 ghost use Rattle.dcm_stream.specs.Tokens.{IsFilled, atoms_of};
 ghost use Rattle.dcm_stream.specs.Places.{full_innermost};
@@ -7,12 +7,9 @@ ghost use Rattle.dcm_stream.specs.Judging.{opening_atom};
 ghost use Rattle.dcm_stream.specs.Reading.{closes, full_closed};
 
 use super::judge::Opening;
+use super::levels::OpenLevels;
 use super::{Sink, Token};
-use arrayvec::ArrayVec;
-use dcm_base::{Container, Level, MOST_LISTS, WriteFailed};
-
-/// The data set, and the most sequences and fragment lists with an item each.
-pub const MOST_LEVELS: usize = 2 * MOST_LISTS + 1;
+use dcm_base::{Container, WriteFailed};
 
 /// The token that ends a container.
 fn closing_token(container: Container) -> Token<'static>
@@ -41,10 +38,10 @@ pub fn opening_token(opening: Opening) -> Token<'static>
 }
 
 /// The innermost container, where it is full at this offset.
-fn full_container(levels: &[Level], position: u64) -> Option<Container>
-    ensures { result ≡ full_innermost position (reverse levels.now) }
+fn full_container(levels: &OpenLevels, position: u64) -> Option<Container>
+    ensures { result ≡ full_innermost position levels.now }
 {
-    let inner = levels.last()?;
+    let inner = levels.innermost()?;
     if inner.end_offset == Some(position) {
         Some(inner.container)
     } else {
@@ -54,16 +51,16 @@ fn full_container(levels: &[Level], position: u64) -> Option<Container>
 
 /// Closes the containers that are full at this offset, the innermost first.
 pub fn close_full<S: Sink>(
-    levels: &mut ArrayVec<Level, MOST_LEVELS>,
+    levels: &mut OpenLevels,
     position: u64,
     sink: &mut S,
 ) -> Result<(), WriteFailed>
-    ensures levels { OnOk result (reverse levels.new.items ≡ (full_closed position (reverse levels.old.items)).0) }
-    ensures goes { sinks.Takes S.Sink sink.old sink.new (full_closed position (reverse levels.old.items)).1 result }
+    ensures levels { OnOk result (levels.new ≡ (full_closed position levels.old).0) }
+    ensures goes { sinks.Takes S.Sink sink.old sink.new (full_closed position levels.old).1 result }
     ensures failed { sinks.Tells S.Sink sink.old sink.new result }
     ensures kept { sinks.Keeps S.Sink sink.old sink.new }
 {
-    while let Some(container) = full_container(levels.as_slice(), position) {
+    while let Some(container) = full_container(levels, position) {
         sink.take(closing_token(container))?;
         levels.pop();
     }

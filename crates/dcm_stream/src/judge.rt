@@ -1,5 +1,5 @@
 // What a head leads to: a fault, the want of more bytes, or what it opens or closes.
-ghost use Rattle.std.specs.Prelude.{◌≡◌, ℕ, ◌+◌, ◌^◌, ◌≤◌, ◌==◌, List, length, drop, reverse, false, true, MatchOption};
+ghost use Rattle.std.specs.Prelude.{◌≡◌, ℕ, ◌+◌, ◌^◌, ◌≤◌, ◌==◌, List, length, drop, false, true, MatchOption};
 ghost use Rattle.dcm_base.specs.Head.{tag_at, long_length};
 ghost use Rattle.dcm_base.specs.Number.{number};
 ghost use Rattle.dcm_base.specs.Tag.{is_item as is_item_tag};
@@ -9,7 +9,7 @@ ghost use Rattle.dcm_base.specs.Spelling as spelling;
 ghost use Rattle.dcm_stream.specs.Reading as reading;
 ghost use Rattle.dcm_stream.specs.Judging as spec;
 
-use super::levels::{depth, is_allowed, level_at, opens_list, passes, room, with_length};
+use super::levels::{OpenLevels, is_allowed, level_at, opens_list, passes, with_length};
 use super::{Bar, Sink};
 use dcm_base::{
     Container, Fault, Form, ITEM_GROUP, Length, Level, MOST_LISTS, Syntax, Vr, form_of,
@@ -81,12 +81,12 @@ fn shape_fault(
     size: u64,
     declared: Length,
     position: u64,
-    levels: &[Level],
+    levels: &OpenLevels,
 ) -> Option<Fault>
     requires { size ≤ 2 ^ 62 }
-    ensures { result ≡ spec.shape_fault form size declared (place.room position (reverse levels.now)) (place.depth (reverse levels.now)) }
+    ensures { result ≡ spec.shape_fault form size declared (place.room position levels.now) (place.depth levels.now) }
 {
-    let room = room(position, levels);
+    let room = levels.room(position);
     if passes(size, room) {
         return Some(Fault::PassesEnd);
     }
@@ -96,7 +96,7 @@ fn shape_fault(
     if passes(with_length(size, declared), room) {
         return Some(Fault::PassesEnd);
     }
-    if opens_list(form) && depth(levels) >= MOST_LISTS {
+    if opens_list(form) && levels.depth() >= MOST_LISTS {
         return Some(Fault::TooDeep);
     }
     None
@@ -114,7 +114,7 @@ fn barred(bar: Bar) -> Fault
 /// An element's head, which is whole with 8 or with 12 bytes.
 fn judge_element<S: Sink>(
     syntax: Syntax,
-    levels: &[Level],
+    levels: &OpenLevels,
     position: u64,
     bytes: &[u8],
     sink: &S,
@@ -122,11 +122,11 @@ fn judge_element<S: Sink>(
     requires eight { 8 ≤ length bytes.now }
     requires element { ((tag_at syntax bytes.now).group == 0xFFFE) ≡ false }
     requires within { position + length bytes.now ≤ 2 ^ 62 }
-    ensures { spec.JudgesElement (spec.bars_head S.bar (S.state sink.now)) syntax (reverse levels.now) position bytes.now result }
+    ensures { spec.JudgesElement (spec.bars_head S.bar (S.state sink.now)) syntax levels.now position bytes.now result }
 {
     let (head, size) = match read_head(syntax, bytes) {
         HeadRead::BadVr => return Err(Fault::UnknownRepresentation),
-        HeadRead::More(size) if passes(size as u64, room(position, levels)) => {
+        HeadRead::More(size) if passes(size as u64, levels.room(position)) => {
             return Err(Fault::PassesEnd);
         }
         HeadRead::More(_) => return Ok(None),
@@ -184,16 +184,16 @@ fn item_length(syntax: Syntax, bytes: &[u8]) -> Length
 /// A head of at least eight bytes at a place with room for as many, where this is the innermost container.
 pub fn judge<S: Sink>(
     inner: Level,
-    levels: &[Level],
+    levels: &OpenLevels,
     position: u64,
     bytes: &[u8],
     sink: &S,
 ) -> Result<Option<Opening>, Fault>
     requires eight { 8 ≤ length bytes.now }
     requires within { position + length bytes.now ≤ 2 ^ 62 }
-    requires inner { innermost (reverse levels.now) ≡ Some inner }
-    requires room { place.passes 8 (place.room position (reverse levels.now)) ≡ false }
-    ensures { spec.Judges (spec.bars_head S.bar (S.state sink.now)) inner (reverse levels.now) position bytes.now result }
+    requires inner { innermost levels.now ≡ Some inner }
+    requires room { place.passes 8 (place.room position levels.now) ≡ false }
+    ensures { spec.Judges (spec.bars_head S.bar (S.state sink.now)) inner levels.now position bytes.now result }
 {
     let tag = read_tag(inner.syntax, bytes);
     if !is_allowed(inner.container, inner.declared, tag) {
@@ -206,7 +206,7 @@ pub fn judge<S: Sink>(
         return Ok(Some(Opening::End(inner.container)));
     }
     let declared = item_length(inner.syntax, bytes);
-    if let Some(fault) = item_fault(inner.container, declared, room(position, levels)) {
+    if let Some(fault) = item_fault(inner.container, declared, levels.room(position)) {
         return Err(fault);
     }
     let begin = position + bytes.len() as u64;

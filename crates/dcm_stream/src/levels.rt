@@ -1,10 +1,45 @@
-// The open containers, the outermost first, and the room in them.
-ghost use Rattle.std.specs.Prelude.{◌≡◌, ℕ, ◌+◌, ◌^◌, ◌<◌, ◌≤◌, reverse, length};
+// The open containers, and what may come in them.
+ghost use Rattle.std.specs.Prelude.{◌≡◌, ℕ, ◌+◌, ◌^◌, ◌<◌, ◌≤◌, [], ◌∷◌, drop, length};
 ghost use Rattle.dcm_base.specs.Place as spec;
 ghost use Rattle.dcm_base.specs.Stop as stops;
+ghost use Rattle.dcm_stream.specs.Levels.{nearest_end};
+ghost use Rattle.dcm_stream.specs.Places.{innermost};
 ghost use Rattle.dcm_stream.specs.Reading as reading;
 
-use dcm_base::{Container, Form, ITEM_GROUP, Length, Level, META_GROUP, Syntax, Tag};
+use arrayvec::ArrayVec;
+use dcm_base::{Container, Form, ITEM_GROUP, Length, Level, META_GROUP, MOST_LISTS, Syntax, Tag};
+use std::marker::Model;
+
+/// The data set, and the most sequences and fragment lists with an item each.
+const MOST_LEVELS: usize = 2 * MOST_LISTS + 1;
+
+/// An open container, and what is asked of it together with those around it.
+#[derive(Clone, Copy, Default)]
+struct OpenLevel {
+    level: Level,
+    /// The nearest known end.
+    nearest: Option<u64>,
+    /// How many sequences and fragment lists there are.
+    depth: usize,
+}
+
+/// The open containers. Clauses have them as a list, the innermost first.
+#[derive(Drop)]
+pub struct OpenLevels {
+    outermost_first: ArrayVec<OpenLevel, MOST_LEVELS>,
+}
+
+impl Model for OpenLevels {
+    ghost use Rattle.std.specs.Prelude.{List, reverse};
+    ghost use Rattle.dcm_base.specs.declared.level.Level.{Level};
+    ghost use Rattle.dcm_stream.specs.Levels.{AreSummed, levels_of};
+
+    ghost Value = { List Level };
+
+    ghost view = { λ o. levels_of (reverse o.outermost_first.items) };
+
+    ghost invariant = { λ o. AreSummed (reverse o.outermost_first.items) };
+}
 
 /// Whether an element of a data set has this tag. Those of the meta group stand in none (PS3.10 7.1).
 fn is_data(tag: Tag) -> bool
@@ -65,17 +100,6 @@ fn least(a: Option<u64>, b: Option<u64>) -> Option<u64>
     }
 }
 
-/// The bytes up to the nearest end of an open container, where one is known.
-pub fn room(position: u64, levels: &[Level]) -> Option<u64>
-    ensures { result ≡ spec.room position (reverse levels.now) }
-{
-    let mut nearest = None;
-    for level in levels {
-        nearest = least(distance(position, level.end_offset), nearest);
-    }
-    nearest
-}
-
 /// Whether so many bytes do not fit into the room.
 pub fn passes(size: u64, room: Option<u64>) -> bool
     ensures { result ≡ spec.passes size room }
@@ -84,17 +108,6 @@ pub fn passes(size: u64, room: Option<u64>) -> bool
         Some(room) => room < size,
         None => false,
     }
-}
-
-/// How many sequences and fragment lists are open.
-pub fn depth(levels: &[Level]) -> usize
-    ensures { result ≡ spec.depth (reverse levels.now) }
-{
-    let mut count = 0;
-    for level in levels {
-        count += counts(level.container);
-    }
-    count
 }
 
 fn counts(container: Container) -> usize
@@ -124,12 +137,86 @@ pub fn with_length(head: u64, declared: Length) -> u64
     }
 }
 
-/// Whether the data set alone is open.
-pub fn is_top(levels: &[Level]) -> bool
-    ensures { result ≡ reading.is_top (reverse levels.now) }
-{
-    match levels.last() {
-        Some(inner) => inner.container == Container::DataSet,
-        None => false,
+impl OpenLevels {
+    /// This container alone.
+    pub fn new(outermost: Level) -> Self
+        ensures { result ≡ outermost ∷ [] }
+    {
+        let mut open = OpenLevels {
+            outermost_first: ArrayVec::new(),
+        };
+        open.push(outermost);
+        open
+    }
+
+    /// The innermost container.
+    pub fn innermost(&self) -> Option<Level>
+        ensures { result ≡ innermost self.now }
+    {
+        match self.outermost_first.as_slice().last() {
+            Some(inner) => Some(inner.level),
+            None => None,
+        }
+    }
+
+    /// The nearest known end.
+    #[tactic(auto, unfolding(crate::specs::Levels::nearest_end))]
+    fn nearest_end(&self) -> Option<u64>
+        ensures { result ≡ nearest_end self.now }
+    {
+        match self.outermost_first.as_slice().last() {
+            Some(inner) => inner.nearest,
+            None => None,
+        }
+    }
+
+    /// The bytes up to the nearest known end.
+    #[tactic(auto, using(crate::proofs::Rooms::room_is))]
+    pub fn room(&self, position: u64) -> Option<u64>
+        ensures { result ≡ spec.room position self.now }
+    {
+        distance(position, self.nearest_end())
+    }
+
+    /// How many sequences and fragment lists are open.
+    #[tactic(auto, unfolding(dcm_base::specs::Place::depth))]
+    pub fn depth(&self) -> usize
+        ensures { result ≡ spec.depth self.now }
+    {
+        match self.outermost_first.as_slice().last() {
+            Some(inner) => inner.depth,
+            None => 0,
+        }
+    }
+
+    /// Whether the data set alone is open.
+    pub fn is_top(&self) -> bool
+        ensures { result ≡ reading.is_top self.now }
+    {
+        match self.outermost_first.as_slice().last() {
+            Some(inner) => inner.level.container == Container::DataSet,
+            None => false,
+        }
+    }
+
+    /// A container opens.
+    pub fn push(&mut self, level: Level)
+        requires { length self.old < 129 }
+        ensures { self.new ≡ level ∷ self.old }
+    {
+        let nearest = least(level.end_offset, self.nearest_end());
+        let depth = self.depth() + counts(level.container);
+        self.outermost_first.push(OpenLevel {
+            level,
+            nearest,
+            depth,
+        });
+    }
+
+    /// The innermost container ends.
+    pub fn pop(&mut self)
+        ensures { self.new ≡ drop 1 self.old }
+    {
+        self.outermost_first.pop();
     }
 }

@@ -1,28 +1,28 @@
 // Where the reading of a data set stands (PS3.5 7).
-ghost use Rattle.std.specs.Prelude.{◌≡◌, ◌+◌, ◌-◌, ◌^◌, ◌<◌, ◌≤◌, [], ◌∷◌, ◌++◌, None, length, reverse, IfOk};
+ghost use Rattle.std.specs.Prelude.{◌≡◌, ◌+◌, ◌-◌, ◌^◌, ◌<◌, ◌≤◌, [], ◌∷◌, ◌++◌, None, length, IfOk};
 ghost use Rattle.dcm_stream.specs.Bounds as bounds;
 ghost use Rattle.dcm_stream.specs.Judging.{opened_by};
 ghost use Rattle.dcm_stream.specs.Reading as steps;
 ghost use Rattle.dcm_stream.specs.Machine as spec;
 ghost use Rattle.dcm_stream.specs.Sinks as sinks;
 
-use super::close::{MOST_LEVELS, close_full, opening_token};
+use super::close::{close_full, opening_token};
 use super::judge::{Opening, judge};
-use super::levels::{is_top, level_at, passes, room};
+use super::levels::{OpenLevels, level_at, passes};
 use super::machine::INPUT_LIMIT;
 use super::{Halt, Sink, Token};
 use arrayvec::ArrayVec;
-use dcm_base::{Container, Fault, Length, Level, Stop, Syntax};
+use dcm_base::{Container, Fault, Length, Stop, Syntax};
 use dcm_head::{LONG_HEAD, SHORT_HEAD};
 
 /// The offset up to which heads and values were read whole, the bytes of a head behind it, the bytes of a value that are
-/// to come, and the open containers, the outermost first.
+/// to come, and the open containers.
 #[derive(Drop)]
 pub struct Place {
     pub position: u64,
     pub head: ArrayVec<u8, LONG_HEAD>,
     pub left: u32,
-    pub levels: ArrayVec<Level, MOST_LEVELS>,
+    pub levels: OpenLevels,
 }
 
 fn refused(fault: Fault, at: u64) -> Halt
@@ -37,13 +37,12 @@ impl Place {
         requires { start ≤ 2 ^ 62 }
         ensures { spec.reading result None ≡ steps.start_of syntax start }
     {
-        let mut levels = ArrayVec::new();
-        levels.push(level_at(Container::DataSet, syntax, Length::Undefined, start));
+        let set = level_at(Container::DataSet, syntax, Length::Undefined, start);
         Place {
             position: start,
             head: ArrayVec::new(),
             left: 0,
-            levels,
+            levels: OpenLevels::new(set),
         }
     }
 
@@ -56,10 +55,7 @@ impl Place {
         ensures kept { sinks.Keeps S.Sink sink.old sink.new }
     {
         close_full(&mut self.levels, self.position, sink)?;
-        if passes(
-            SHORT_HEAD as u64,
-            room(self.position, self.levels.as_slice()),
-        ) {
+        if passes(SHORT_HEAD as u64, self.levels.room(self.position)) {
             return Err(refused(Fault::PassesEnd, self.position));
         }
         Ok(())
@@ -99,8 +95,8 @@ impl Place {
     fn enter<S: Sink>(&mut self, opening: Opening, sink: &mut S) -> Result<(), Halt>
         requires head { self.old.head.items ≡ [] }
         requires left { self.old.left ≡ 0 }
-        requires few { length (opened_by (reverse self.old.levels.items) opening).levels ≤ 129 }
-        ensures comes { sinks.Comes S.Sink sink.old sink.new (spec.reading self.new) (spec.entered self.old.position (opened_by (reverse self.old.levels.items) opening)) result }
+        requires few { length (opened_by self.old.levels opening).levels ≤ 129 }
+        ensures comes { sinks.Comes S.Sink sink.old sink.new (spec.reading self.new) (spec.entered self.old.position (opened_by self.old.levels opening)) result }
         ensures failed { sinks.TellsHalt S.Sink sink.old sink.new result }
         ensures kept { sinks.Keeps S.Sink sink.old sink.new }
     {
@@ -111,9 +107,7 @@ impl Place {
                 return self.settle_value(sink);
             }
             Opening::List(_, _, level) | Opening::Item(level) => self.levels.push(level),
-            Opening::End(_) => {
-                self.levels.pop();
-            }
+            Opening::End(_) => self.levels.pop(),
         }
         self.settle(sink)
     }
@@ -136,14 +130,13 @@ impl Place {
         ensures failed { sinks.TellsHalt S.Sink sink.old sink.new result }
         ensures kept { sinks.Keeps S.Sink sink.old sink.new }
     {
-        let Some(inner) = self.levels.as_slice().last() else {
+        let Some(inner) = self.levels.innermost() else {
             return Ok(());
         };
-        let inner = *inner;
         self.head.push(byte);
         let judged = judge(
             inner,
-            self.levels.as_slice(),
+            &self.levels,
             self.position,
             self.head.as_slice(),
             sink,
@@ -198,7 +191,7 @@ impl Place {
     fn may_end(&self) -> bool
         ensures { result ≡ spec.may_end self.now }
     {
-        self.left == 0 && is_top(self.levels.as_slice()) && self.head.is_empty()
+        self.left == 0 && self.levels.is_top() && self.head.is_empty()
     }
 
     /// The input ends here: the data set is closed where it may end.

@@ -1,4 +1,4 @@
-use Rattle.std.proofs.Common.{◌≡◌, ◌∙◌, ap, reverse}
+use Rattle.std.proofs.Common.{◌≡◌, ◌∙◌, ap}
 use Rattle.dcm_stream.specs.declared.place.Place.{Place}
 use Rattle.dcm_stream.specs.Tokens.{atoms_of}
 use Rattle.dcm_stream.specs.Machine.{reading}
@@ -9,29 +9,29 @@ use Rattle.dcm_stream.proofs.place.Place.enter.Goals.{in-End, in-List2}
 pub returns-in_err-take-clause-comes : goal.returns-in_err-take-clause-comes
 returns-in_err-take-clause-comes g c =
     let place = c.args.self.now in
-    fails_enter g.S.Sink.step g.S.Sink.writes place.position (reverse place.levels.items) c.args.opening (g.S.Sink.state c.args.sink.now) (g.S.Sink.contents c.args.sink.now)
+    fails_enter g.S.Sink.step g.S.Sink.writes place.position place.levels c.args.opening (g.S.Sink.state c.args.sink.now) (g.S.Sink.contents c.args.sink.now)
     (g.S.Sink.state c.take.new.self) (g.S.Sink.contents c.take.new.self) (reading place) (atoms_of c.opening_token.result) c.from_residual.result c.opening_token.ensures.atoms c.from_residual.ensures.1 c.in_err-take.ensures.bytes
 
 pub returns-in-Leaf-clause-comes : goal.returns-in-Leaf-clause-comes
 returns-in-Leaf-clause-comes g c =
     let place = c.args.self.now in
-    enters_value g.S.Sink.step g.S.Sink.writes place.position (reverse place.levels.items) c.args.opening c.in-Leaf.size (g.S.Sink.state c.args.sink.now) (g.S.Sink.contents c.args.sink.now)
+    enters_value g.S.Sink.step g.S.Sink.writes place.position place.levels c.args.opening c.in-Leaf.size (g.S.Sink.state c.args.sink.now) (g.S.Sink.contents c.args.sink.now)
     (g.S.Sink.state c.take.new.self) (g.S.Sink.contents c.take.new.self) (g.S.Sink.state c.settle_value.new.sink) (g.S.Sink.contents c.settle_value.new.sink) (reading c.settle_value.new.self)
     (atoms_of c.opening_token.result) c.settle_value.result c.in-Leaf.is c.opening_token.ensures.atoms c.in_ok-take.ensures.state c.in_ok-take.ensures.bytes c.settle_value.ensures.comes
 
 pub returns-clause-comes : goal.returns-clause-comes
 returns-clause-comes g c =
     let place = c.args.self.now in
-    let leads : Leads (reverse place.levels.items) c.args.opening (reverse c.match-opening.self.levels.items) =
+    let leads : Leads place.levels c.args.opening c.match-opening.self.levels =
     elim c.match-opening.branch [
-      | in-End w ↦ leads_out place.levels.items c.match-opening.self.levels.items c.args.opening w.in-End.field-0 w.in-End.is (ap (λ (p : Place). p.levels.items) w.self-is ∙ w.pop.ensures.rest)
-      | in-List2 w ↦ leads_in place.levels.items c.match-opening.self.levels.items c.args.opening w.in-List.level w.in-List.is (ap (λ (p : Place). p.levels.items) w.self-is ∙ w.push.ensures.items)
+      | in-End w ↦ leads_out place.levels c.match-opening.self.levels c.args.opening w.in-End.field-0 w.in-End.is (ap (λ (p : Place). p.levels) w.self-is ∙ w.pop.ensures)
+      | in-List2 w ↦ leads_in place.levels c.match-opening.self.levels c.args.opening w.in-List.level w.in-List.is (ap (λ (p : Place). p.levels) w.self-is ∙ w.push.ensures)
     ] in
     let at : c.match-opening.self.position ≡ place.position =
     elim c.match-opening.branch [
       | in-End w ↦ ap (λ (p : Place). p.position) w.self-is
       | in-List2 w ↦ ap (λ (p : Place). p.position) w.self-is
     ] in
-    enters_container g.S.Sink.step g.S.Sink.writes place.position (reverse place.levels.items) c.args.opening c.match-opening.self (g.S.Sink.state c.args.sink.now) (g.S.Sink.contents c.args.sink.now)
+    enters_container g.S.Sink.step g.S.Sink.writes place.position place.levels c.args.opening c.match-opening.self (g.S.Sink.state c.args.sink.now) (g.S.Sink.contents c.args.sink.now)
     (g.S.Sink.state c.take.new.self) (g.S.Sink.contents c.take.new.self) (g.S.Sink.state c.settle.new.sink) (g.S.Sink.contents c.settle.new.sink) (reading c.settle.new.self)
     (atoms_of c.opening_token.result) c.settle.result leads at c.opening_token.ensures.atoms c.in_ok-take.ensures.state c.in_ok-take.ensures.bytes c.settle.ensures.comes

@@ -1,22 +1,21 @@
-use Rattle.std.proofs.Common.{◌≡◌, ◌∙◌, ◌+◌, ◌++◌, ◌∷◌, [], ap, sym, refl, reverse, length, ℕ, Some, None}
+use Rattle.std.proofs.Common.{◌≡◌, ◌∙◌, ◌+◌, ◌++◌, ◌∷◌, [], ap, sym, refl, length, ℕ, Some}
 use Rattle.dcm_stream.specs.Places.{innermost}
 use Rattle.dcm_stream.specs.Judging.{bars_head}
 use Rattle.dcm_stream.specs.Machine.{reading}
-use Rattle.dcm_stream.proofs.HeadBytes.{some_container, judged_at, innermost_at, feeds_refused, feeds_waiting, opens_few, feeds_opening}
+use Rattle.dcm_stream.proofs.HeadBytes.{some_container, judged_at, feeds_refused, feeds_waiting, opens_few, feeds_opening}
 use Rattle.dcm_stream.proofs.place.Place.read_head_byte.Goals as goal
 
 pub returns-in_default-clause-feeds : goal.returns-in_default-clause-feeds
 returns-in_default-clause-feeds g c =
-    let none = innermost_at c.as_slice.result.now c.args.self.now.levels.items None c.as_slice.ensures.value c.in_default.ensures.value in
-    absurd (some_container c.args.self.now c.requires.stands (sym none))
+    absurd (some_container c.args.self.now c.requires.stands c.in_default.ensures)
 
 pub returns-in-Err-clause-feeds : goal.returns-in-Err-clause-feeds
 returns-in-Err-clause-feeds g c =
     let place = c.args.self.now in
     let s = g.S.Sink.state c.args.sink.now in
-    let inner = c.in-Some.inner.now in
-    let is : innermost (reverse place.levels.items) ≡ Some inner = innermost_at c.as_slice.result.now place.levels.items (Some inner) c.as_slice.ensures.value c.in-Some.ensures.value in
-    let judged = judged_at (bars_head g.S.Sink.bar s) inner place.position c.as_slice-2.result.now place.levels.items c.as_slice-3.result.now (place.head.items ++ c.args.byte ∷ []) c.judge-judged.result c.as_slice-2.ensures.value (c.as_slice-3.ensures.value ∙ c.push.ensures.items) c.judge-judged.ensures in
+    let inner = c.in-Some.inner in
+    let is : innermost place.levels ≡ Some inner = sym c.in-Some.ensures in
+    let judged = judged_at (bars_head g.S.Sink.bar s) inner place.position place.levels c.as_slice.result.now (place.head.items ++ c.args.byte ∷ []) c.judge-judged.result (c.as_slice.ensures.value ∙ c.push.ensures.items) c.judge-judged.ensures in
     feeds_refused g.S.Sink.bar g.S.Sink.step g.S.Sink.writes place inner s c.args.byte c.requires.left c.requires.within is (Unit {0}) (g.S.Sink.contents c.args.sink.now)
     (record { position = place.position; head = c.clear.new.self; left = place.left; levels = place.levels }) c.judge-judged.result c.in-Err.fault c.refused.result judged c.in-Err.is c.refused.ensures refl c.clear.ensures refl refl
 
@@ -24,9 +23,9 @@ pub returns-in_default-opening-clause-feeds : goal.returns-in_default-opening-cl
 returns-in_default-opening-clause-feeds g c =
     let place = c.args.self.now in
     let s = g.S.Sink.state c.args.sink.now in
-    let inner = c.in-Some.inner.now in
-    let is : innermost (reverse place.levels.items) ≡ Some inner = innermost_at c.as_slice.result.now place.levels.items (Some inner) c.as_slice.ensures.value c.in-Some.ensures.value in
-    let judged = judged_at (bars_head g.S.Sink.bar s) inner place.position c.as_slice-2.result.now place.levels.items c.as_slice-3.result.now (place.head.items ++ c.args.byte ∷ []) c.judge-judged.result c.as_slice-2.ensures.value (c.as_slice-3.ensures.value ∙ c.push.ensures.items) c.judge-judged.ensures in
+    let inner = c.in-Some.inner in
+    let is : innermost place.levels ≡ Some inner = sym c.in-Some.ensures in
+    let judged = judged_at (bars_head g.S.Sink.bar s) inner place.position place.levels c.as_slice.result.now (place.head.items ++ c.args.byte ∷ []) c.judge-judged.result (c.as_slice.ensures.value ∙ c.push.ensures.items) c.judge-judged.ensures in
     feeds_waiting g.S.Sink.bar g.S.Sink.step g.S.Sink.writes place inner s c.args.byte c.requires.left c.requires.within is (g.S.Sink.contents c.args.sink.now)
     (record { position = place.position; head = c.push.new.self; left = place.left; levels = place.levels }) c.judge-judged.result c.in-Ok.opening (tt {0}) judged c.in-Ok.is c.in_default-opening.is refl c.push.ensures.items refl refl
 
@@ -34,18 +33,18 @@ pub enter-requires-clause-few : goal.enter-requires-clause-few
 enter-requires-clause-few g c =
     let place = c.args.self.now in
     let s = g.S.Sink.state c.args.sink.now in
-    let inner = c.in-Some.inner.now in
-    let is : innermost (reverse place.levels.items) ≡ Some inner = innermost_at c.as_slice.result.now place.levels.items (Some inner) c.as_slice.ensures.value c.in-Some.ensures.value in
-    let judged = judged_at (bars_head g.S.Sink.bar s) inner place.position c.as_slice-2.result.now place.levels.items c.as_slice-3.result.now (place.head.items ++ c.args.byte ∷ []) c.judge-judged.result c.as_slice-2.ensures.value (c.as_slice-3.ensures.value ∙ c.push.ensures.items) c.judge-judged.ensures in
+    let inner = c.in-Some.inner in
+    let is : innermost place.levels ≡ Some inner = sym c.in-Some.ensures in
+    let judged = judged_at (bars_head g.S.Sink.bar s) inner place.position place.levels c.as_slice.result.now (place.head.items ++ c.args.byte ∷ []) c.judge-judged.result (c.as_slice.ensures.value ∙ c.push.ensures.items) c.judge-judged.ensures in
     opens_few g.S.Sink.bar g.S.Sink.step g.S.Sink.writes place inner s c.args.byte c.requires.left c.requires.within is c.judge-judged.result c.in-Ok.opening c.in-Some-opening.opening c.requires.stands judged c.in-Ok.is c.in-Some-opening.is
 
 pub returns-clause-feeds : goal.returns-clause-feeds
 returns-clause-feeds g c =
     let place = c.args.self.now in
     let s = g.S.Sink.state c.args.sink.now in
-    let inner = c.in-Some.inner.now in
-    let is : innermost (reverse place.levels.items) ≡ Some inner = innermost_at c.as_slice.result.now place.levels.items (Some inner) c.as_slice.ensures.value c.in-Some.ensures.value in
-    let judged = judged_at (bars_head g.S.Sink.bar s) inner place.position c.as_slice-2.result.now place.levels.items c.as_slice-3.result.now (place.head.items ++ c.args.byte ∷ []) c.judge-judged.result c.as_slice-2.ensures.value (c.as_slice-3.ensures.value ∙ c.push.ensures.items) c.judge-judged.ensures in
+    let inner = c.in-Some.inner in
+    let is : innermost place.levels ≡ Some inner = sym c.in-Some.ensures in
+    let judged = judged_at (bars_head g.S.Sink.bar s) inner place.position place.levels c.as_slice.result.now (place.head.items ++ c.args.byte ∷ []) c.judge-judged.result (c.as_slice.ensures.value ∙ c.push.ensures.items) c.judge-judged.ensures in
     let begin = ap (λ (n : ℕ). place.position + n) (c.len.ensures.value ∙ ap length c.push.ensures.items) in
     feeds_opening g.S.Sink.bar g.S.Sink.step g.S.Sink.writes place inner s c.args.byte c.requires.left c.requires.within is (g.S.Sink.contents c.args.sink.now) (g.S.Sink.state c.enter.new.sink) (g.S.Sink.contents c.enter.new.sink)
     (reading c.enter.new.self) c.judge-judged.result c.in-Ok.opening c.in-Some-opening.opening (place.position + c.len.result) c.enter.result judged c.in-Ok.is c.in-Some-opening.is begin c.enter.ensures.comes
