@@ -5,7 +5,7 @@ ghost use Rattle.dcm_base.specs.MetaGroup as spec;
 ghost use Rattle.dcm_base.specs.declared.syntax.Syntax.TheVariants.{Little};
 ghost use Rattle.dcm_head.specs.GroupPlaces.{place_is};
 
-use crate::head::{Head, HeadRead, SHORT_HEAD, read_explicit, read_short};
+use crate::head::{Head, HeadRead, SHORT_HEAD, read_explicit, read_short, read_tag};
 use dcm_base::{Fault, Length, META_GROUP, Syntax, Tag, Vr};
 
 /// A whole element with the sizes of its head and its value, the group's end, too few bytes to tell, or a fault.
@@ -62,7 +62,8 @@ pub fn place_of(taken: usize, rest: &[u8]) -> Place
     if rest.len() < SHORT_HEAD {
         return Place::TooFew;
     }
-    match read_explicit(Syntax::Little, rest) {
+    let tag = read_tag(Syntax::Little, rest);
+    match read_explicit(Syntax::Little, tag, rest) {
         HeadRead::BadVr => Place::Bad(Fault::BadMeta),
         HeadRead::More(_) => Place::TooFew,
         HeadRead::Done(head, used) => place_of_head(taken, rest.len(), head, used),

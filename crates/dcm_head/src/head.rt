@@ -97,16 +97,16 @@ fn read_vr(first: u8, second: u8) -> Option<Vr>
     }
 }
 
-/// The head of an element in an explicit syntax.
-pub fn read_explicit(syntax: Syntax, bytes: &[u8]) -> HeadRead
+/// The head of an element with this tag in an explicit syntax.
+pub fn read_explicit(syntax: Syntax, tag: Tag, bytes: &[u8]) -> HeadRead
     requires explicit { syntax ≢ Syntax.Implicit }
     requires eight { 8 ≤ length bytes.now }
+    requires tag { tag ≡ tag_at syntax bytes.now }
     ensures { result ≡ spec.element_read syntax bytes.now (vr_at syntax bytes.now) }
 {
     let Some(vr) = read_vr(bytes[4], bytes[5]) else {
         return HeadRead::BadVr;
     };
-    let tag = read_tag(syntax, bytes);
     if !vr.is_long() {
         let length = Length::Known(u32::from(read_short(syntax, &bytes[6..])));
         return HeadRead::Done(Head { tag, vr, length }, SHORT_HEAD);
@@ -118,18 +118,18 @@ pub fn read_explicit(syntax: Syntax, bytes: &[u8]) -> HeadRead
     HeadRead::Done(Head { tag, vr, length }, LONG_HEAD)
 }
 
-/// The head of an element.
-fn read_element(syntax: Syntax, bytes: &[u8]) -> HeadRead
-    requires { 8 ≤ length bytes.now }
+/// The head of an element with this tag.
+fn read_element(syntax: Syntax, tag: Tag, bytes: &[u8]) -> HeadRead
+    requires eight { 8 ≤ length bytes.now }
+    requires tag { tag ≡ tag_at syntax bytes.now }
     ensures { result ≡ spec.element_read syntax bytes.now (vr_at syntax bytes.now) }
 {
     match syntax {
         Syntax::Implicit => {
-            let tag = read_tag(syntax, bytes);
             let (vr, length) = (dict_vr(tag), read_long(syntax, &bytes[4..]));
             HeadRead::Done(Head { tag, vr, length }, SHORT_HEAD)
         }
-        Syntax::Little | Syntax::Big => read_explicit(syntax, bytes),
+        Syntax::Little | Syntax::Big => read_explicit(syntax, tag, bytes),
     }
 }
 
@@ -154,17 +154,15 @@ fn without_vr(tag: Tag, length: Length) -> HeadRead
     )
 }
 
-/// The head of an element, item or delimiter that the bytes begin with (PS3.5 7.1.2, 7.1.3, 7.5).
+/// The head with this tag that the bytes begin with, of an element, an item or a delimiter (PS3.5 7.1.2, 7.1.3, 7.5).
 ///
-/// Two capitals that name no representation are UN, and a delimiter's length is 0 whatever its bytes. Under 8 bytes,
-/// and under 12 of a head that has so many, more are asked for.
-pub fn read_head(syntax: Syntax, bytes: &[u8]) -> HeadRead
-    ensures { result ≡ spec.head_read syntax bytes.now }
+/// Two capitals that name no representation are UN, and a delimiter's length is 0 whatever its bytes. Under 12 bytes of a
+/// head that has so many, more are asked for.
+pub fn read_tagged(syntax: Syntax, tag: Tag, bytes: &[u8]) -> HeadRead
+    requires eight { 8 ≤ length bytes.now }
+    requires tag { tag ≡ tag_at syntax bytes.now }
+    ensures { result ≡ spec.tag_read syntax bytes.now tag }
 {
-    if bytes.len() < SHORT_HEAD {
-        return HeadRead::More(SHORT_HEAD);
-    }
-    let tag = read_tag(syntax, bytes);
     if tag.is_item() {
         let length = read_long(syntax, &bytes[4..]);
         return without_vr(tag, length);
@@ -172,5 +170,15 @@ pub fn read_head(syntax: Syntax, bytes: &[u8]) -> HeadRead
     if is_delimiter(tag) {
         return without_vr(tag, Length::Known(0));
     }
-    read_element(syntax, bytes)
+    read_element(syntax, tag, bytes)
+}
+
+/// The head that the bytes begin with. Under 8 bytes, more are asked for.
+pub fn read_head(syntax: Syntax, bytes: &[u8]) -> HeadRead
+    ensures { result ≡ spec.head_read syntax bytes.now }
+{
+    if bytes.len() < SHORT_HEAD {
+        return HeadRead::More(SHORT_HEAD);
+    }
+    read_tagged(syntax, read_tag(syntax, bytes), bytes)
 }

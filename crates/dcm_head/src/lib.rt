@@ -24,7 +24,7 @@ mod write;
 
 pub use element::{MetaElement, first_element};
 pub use group::META_LIMIT;
-pub use head::{Head, HeadRead, LONG_HEAD, SHORT_HEAD, read_head, read_tag};
+pub use head::{Head, HeadRead, LONG_HEAD, SHORT_HEAD, read_head, read_tag, read_tagged};
 pub use meta::{Meta, PREAMBLE, PREFIX};
 pub use meta_read::{MetaEnd, MetaRead};
 pub use pads::size_without_pads;

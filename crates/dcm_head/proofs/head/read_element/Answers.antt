@@ -23,5 +23,5 @@ implicit_whole Big b tag vr l e le t v m = absurd cc
 
 pub returns-in-Implicit : goal.returns-in-Implicit
 returns-in-Implicit c =
-    implicit_whole c.args.syntax c.args.bytes.now c.read_tag-tag.result c.dict_vr-vr.result _ c.in-Implicit.is c.requires c.read_tag-tag.ensures c.dict_vr-vr.ensures
+    implicit_whole c.args.syntax c.args.bytes.now c.args.tag c.dict_vr-vr.result _ c.in-Implicit.is c.requires.eight c.requires.tag c.dict_vr-vr.ensures
     (c.read_long-length.ensures ∙ ap (λ (x : List ℕ). long_length (number c.args.syntax 4 x)) (tail_is 4 c.args.bytes.now))

@@ -13,9 +13,9 @@ returns-in_default c =
 pub returns-then-not-is_long : goal.returns-then-not-is_long
 returns-then-not-is_long c =
     let short = sym c.is_long.ensures ∙ c.if-not-is_long.true in
-    sym (element_whole c.args.syntax c.args.bytes.now _ c.read_tag-tag.result c.in-Some.vr _ 8
+    sym (element_whole c.args.syntax c.args.bytes.now _ c.args.tag c.in-Some.vr _ 8
     (sym (vr_is c.args.syntax c.args.bytes.now _ c.requires.explicit c.in-Some.ensures))
-    (size_is c.args.syntax c.in-Some.vr false c.requires.explicit short) c.requires.eight c.read_tag-tag.ensures
+    (size_is c.args.syntax c.in-Some.vr false c.requires.explicit short) c.requires.eight c.requires.tag
     (ap Known (c.from.ensures ∙ c.read_short.ensures ∙ ap (λ (x : List ℕ). number c.args.syntax 2 x) (tail_is 6 c.args.bytes.now))
     ∙ sym (length_is c.args.syntax c.in-Some.vr false c.args.bytes.now c.requires.explicit short)))
 
@@ -29,8 +29,8 @@ returns-then-bytes-lt-LONG_HEAD c =
 pub returns : goal.returns
 returns c =
     let long = sym c.is_long.ensures ∙ c.if-not-is_long.false in
-    sym (element_whole c.args.syntax c.args.bytes.now _ c.read_tag-tag.result c.in-Some.vr _ 12
+    sym (element_whole c.args.syntax c.args.bytes.now _ c.args.tag c.in-Some.vr _ 12
     (sym (vr_is c.args.syntax c.args.bytes.now _ c.requires.explicit c.in-Some.ensures))
-    (size_is c.args.syntax c.in-Some.vr true c.requires.explicit long) c.if-bytes-lt-LONG_HEAD.false c.read_tag-tag.ensures
+    (size_is c.args.syntax c.in-Some.vr true c.requires.explicit long) c.if-bytes-lt-LONG_HEAD.false c.requires.tag
     (c.read_long-length.ensures ∙ ap (λ (x : List ℕ). long_length (number c.args.syntax 4 x)) (tail_is 8 c.args.bytes.now)
     ∙ sym (length_is c.args.syntax c.in-Some.vr true c.args.bytes.now c.requires.explicit long)))
