@@ -166,7 +166,7 @@ module _ {S : Type 0} (bars : S → Head → Option Bar) (step : S → Atom → 
 
   -- ---- bytes of a head
 
-  undecided_read : (r : Reading) (z : List ℕ) (o : Option Stop) → is_undecided o ≡ true → head_read r z o ≡ (record r { head = z }, [])
+  pub undecided_read : (r : Reading) (z : List ℕ) (o : Option Stop) → is_undecided o ≡ true → head_read r z o ≡ (record r { head = z }, [])
   undecided_read r z None e = absurd (cc)
   undecided_read r z (Some stop) e = ap (λ (t : Bool). cond {A = Reading × List Atom} t (record r { head = z }, []) (halted r stop, [])) e
 

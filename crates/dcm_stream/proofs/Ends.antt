@@ -100,11 +100,11 @@ head_same bar inner around position rest z le u =
     (ap (λ (n : ℕ). item_stop inner.container around position (long_length n)) (number_behind_extends s 4 4 rest z (omega arith)))
     u
 
-is_empty_long : (rest : List ℕ) → 8 ≤ length rest → is_empty rest ≡ false
+pub is_empty_long : (rest : List ℕ) → 8 ≤ length rest → is_empty rest ≡ false
 is_empty_long [] le = absurd (omega arith)
 is_empty_long (b ∷ rest) le = refl
 
-and_false : (a b : Bool) → b ≡ false → (a && b) ≡ false
+pub and_false : (a b : Bool) → b ≡ false → (a && b) ≡ false
 and_false true b h = h
 and_false false b h = refl
 

@@ -22,6 +22,7 @@ pub mod Fed
 pub mod Closes
 pub mod Enters
 pub mod HeadBytes
+pub mod WholeHeads
 pub mod Pieces
 pub mod Finishes
 pub mod Calls
@@ -29,3 +30,4 @@ pub mod Driven
 pub mod Inputs
 pub mod Skipped
 pub mod Handed
+pub mod PieceHeads

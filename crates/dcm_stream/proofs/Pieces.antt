@@ -1,6 +1,7 @@
 -- A machine goes over the beginning of a piece.
-use Rattle.std.proofs.Common.{◌≡◌, ◌∙◌, sym, ap, subst, refl, ℕ, ◌+◌, ◌-◌, ◌<◌, ◌≤◌, List, [], ◌∷◌, ◌++◌, length, take, get_or, Option, Some, None, Result, Ok, Err, true, false, arith}
-use Rattle.std.specs.Prelude.{IsErrAnd}
+use Rattle.std.proofs.Common.{◌≡◌, ◌∙◌, sym, ap, subst, refl, ℕ, ◌+◌, ◌-◌, ◌<◌, ◌≤◌, List, [], ◌∷◌, ◌++◌, length, take, drop, get_or, Option, Some, None, Result, Ok, Err, true, false, arith, take-append-drop}
+use Rattle.std.specs.Prelude.{IsErrAnd, IfOk}
+use Rattle.std.proofs.lemmas.List.{take-append-le}
 use Rattle.dcm_base.specs.declared.level.Level.{Level}
 use Rattle.dcm_base.specs.declared.fault.Fault.TheVariants.{TooLong}
 use Rattle.dcm_base.specs.Atoms.{Atom}
@@ -53,6 +54,22 @@ module _ {S : Type 0} (bars : S → Head → Option Bar) (step : S → Atom → 
   fails_first T p s held t holds new front piece n halt (Err x) e f h =
       subst (λ (y : Halt). Feeds {T = ℕ} bars step writes (reading p None) s held (reading new) t holds piece (Err y)) (sym f)
       (feeds_first bars step writes ℕ (reading p None) s held new t holds n piece halt (subst (λ (xs : List ℕ). Feeds {T = T} bars step writes (reading p None) s held (reading new) t holds xs (Err halt)) e h))
+
+  -- a call that went over a beginning of the first bytes
+  pub within_piece : (p : Place) (s : S) (held : Option (List ℕ)) (t : S) (holds : Option (List ℕ)) (new : Place) (front piece : List ℕ) (n : ℕ) (r : Result ℕ Halt) → front ≡ take n piece → IfOk r (λ k. (0 < k) × (k ≤ length front))
+      → Feeds bars step writes (reading p None) s held (reading new) t holds (bytes_read r front) r → Feeds bars step writes (reading p None) s held (reading new) t holds (bytes_read r piece) r
+  within_piece p s held t holds new front piece n (Ok k) e le h =
+      let whole : front ++ drop n piece ≡ piece = ap (λ (xs : List ℕ). xs ++ drop n piece) e ∙ take-append-drop n piece in
+      let same : take k front ≡ take k piece = sym (take-append-le k front (drop n piece) le.1) ∙ ap (take k) whole in
+      subst (λ (xs : List ℕ). Feeds bars step writes (reading p None) s held (reading new) t holds xs (Ok k)) same h
+  within_piece p s held t holds new front piece n (Err halt) e le h =
+      feeds_first bars step writes ℕ (reading p None) s held new t holds n piece halt (subst (λ (xs : List ℕ). Feeds {T = ℕ} bars step writes (reading p None) s held (reading new) t holds xs (Err halt)) e h)
+
+  -- the bytes of a head, wherever they end
+  pub head_in : (p : Place) → p.head.items ≡ [] → p.left ≡ 0 → reading p None ≡ in_head bars step writes p.position [] p.levels
+  head_in p e f =
+      ap (λ (z : List ℕ). record { position = p.position; head = z; left = p.left; levels = p.levels; halt = None }) e
+      ∙ ap (λ (n : ℕ). record { position = p.position; head = []; left = n; levels = p.levels; halt = None }) f
 
   -- bytes that end no head
   heads_in : {T : Type 0} (p : Place) (ls : List Level) (s : S) (held : Option (List ℕ)) (new : Place) (bs : List ℕ) (x : T) → p.levels ≡ ls → are_nested ls ≡ true → p.left ≡ 0 → passes 8 (room p.position ls) ≡ false

@@ -1,5 +1,5 @@
 -- A head that more bytes are wanted for is short.
-use Rattle.std.proofs.Common.{◌≡◌, ◌∙◌, ap, subst, refl, ℕ, ◌+◌, ◌<◌, List, length, Option, Some, None, Result, Ok, false}
+use Rattle.std.proofs.Common.{◌≡◌, ap, subst, refl, ℕ, ◌+◌, ◌<◌, List, length, Option, Some, None, false}
 use Rattle.dcm_base.specs.declared.fault.Fault.TheVariants.{EndsEarly}
 use Rattle.dcm_base.specs.declared.level.Level.{Level}
 use Rattle.dcm_base.specs.declared.tag.Tag.{Tag}
@@ -10,8 +10,8 @@ use Rattle.dcm_head.specs.declared.head.Head.{Head}
 use Rattle.dcm_stream.specs.declared.token.Bar.{Bar}
 use Rattle.dcm_stream.specs.declared.token.Bar.TheVariants.{Order, Fragments}
 use Rattle.dcm_stream.specs.Reading.{is_undecided, is_early_bar}
-use Rattle.dcm_base.specs.declared.fault.Fault.{Fault}
-use Rattle.dcm_stream.specs.declared.judge.Opening.{Opening}
+use Rattle.dcm_stream.specs.declared.judge.Judged.{Judged}
+use Rattle.dcm_stream.specs.declared.judge.Judged.TheVariants as judge
 use Rattle.dcm_stream.specs.Judging.{bars_head, Judges}
 use Rattle.dcm_stream.proofs.Judged.{place_short}
 
@@ -28,6 +28,6 @@ pub waits_short : {S : Type 0} (bars : S → Head → Option Bar) (s : S) (inner
     → place_stop (bars_head bars s) inner around position bytes ≡ Some (refused EndsEarly (position + length bytes)) → length bytes < 12
 waits_short bars s inner around position bytes e = (place_short (bars_head bars s) inner around position bytes (sinks_never_early bars s) (ap is_undecided e)).small
 
-pub judged_short : {S : Type 0} (bars : S → Head → Option Bar) (s : S) (inner : Level) (around : List Level) (position : ℕ) (bytes : List ℕ) (r : Result (Option Opening) Fault) (o : Option Opening)
-    → r ≡ Ok o → o ≡ None → Judges (bars_head bars s) inner around position bytes r → length bytes < 12
-judged_short bars s inner around position bytes r o e f h = waits_short bars s inner around position bytes (subst (Judges (bars_head bars s) inner around position bytes) (e ∙ ap Ok f) h)
+pub judged_short : {S : Type 0} (bars : S → Head → Option Bar) (s : S) (inner : Level) (around : List Level) (position : ℕ) (bytes : List ℕ) (r : Judged)
+    → r ≡ judge.More → Judges (bars_head bars s) inner around position bytes r → length bytes < 12
+judged_short bars s inner around position bytes r e h = waits_short bars s inner around position bytes (subst (Judges (bars_head bars s) inner around position bytes) e h)

@@ -12,7 +12,8 @@ use Rattle.dcm_stream.specs.declared.place.Place.{Place}
 use Rattle.dcm_stream.specs.declared.machine.Halt.{Halt}
 use Rattle.dcm_stream.specs.declared.machine.Halt.TheVariants.{Refused, Output}
 use Rattle.dcm_stream.specs.Reading.{Reading, Opened, closing, settled, read_byte, is_top, drives_byte}
-use Rattle.dcm_stream.specs.Judging.{bars_head}
+use Rattle.dcm_stream.specs.declared.judge.Opening.{Opening}
+use Rattle.dcm_stream.specs.Judging.{bars_head, opened_by}
 use Rattle.dcm_stream.specs.Bounds.{IsSmall}
 
 -- what a machine and its sink come to at a byte, and what the sink writes
@@ -77,6 +78,10 @@ settles_value p = settled p.position (record { levels = p.levels; left = p.left;
 -- what was opened is entered at an offset
 abbrev pub entered : ℕ → Opened → Reading × List Atom
 entered position o = settled position o o.left
+
+-- what a head before a place opens is entered there
+abbrev pub enters : Place → Opening → Reading × List Atom
+enters p opening = entered p.position (opened_by p.position p.levels opening)
 
 -- a machine and its sink went over these bytes, or a beginning of the output went out
 abbrev pub Feeds : {S T : Type 0} → (S → Head → Option Bar) → (S → Atom → S) → (S → Atom → List ℕ) → Reading → S → Option (List ℕ) → (Option Stop → Reading) → S → Option (List ℕ) → List ℕ → Result T Halt → Type 0

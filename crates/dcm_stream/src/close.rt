@@ -1,39 +1,22 @@
-// The ends of containers, and the tokens of heads.
+// The ends of containers.
 ghost use Rattle.std.specs.Prelude.{◌≡◌, [], ◌∷◌, OnOk};
 ghost use Rattle.dcm_stream.specs.Sinks as sinks;
 ghost use Rattle.dcm_stream.specs.Tokens.{IsFilled, atoms_of};
 ghost use Rattle.dcm_stream.specs.Places.{full_innermost};
-ghost use Rattle.dcm_stream.specs.Judging.{opening_atom};
 ghost use Rattle.dcm_stream.specs.Reading.{closes, full_closed};
 
-use super::judge::Opening;
 use super::levels::OpenLevels;
 use super::{Sink, Token};
 use dcm_base::{Container, WriteFailed};
 
 /// The token that ends a container.
-fn closing_token(container: Container) -> Token<'static>
+pub fn closing_token(container: Container) -> Token<'static>
     ensures atoms { atoms_of result ≡ closes container ∷ [] }
     ensures filled { IsFilled result }
 {
     match container {
         Container::Item => Token::CloseItem,
         Container::DataSet | Container::Sequence | Container::FragmentList => Token::CloseSeq,
-    }
-}
-
-/// The token of what a head opens or closes.
-pub fn opening_token(opening: Opening) -> Token<'static>
-    ensures atoms { atoms_of result ≡ opening_atom opening ∷ [] }
-    ensures filled { IsFilled result }
-{
-    match opening {
-        Opening::Leaf(head, syntax, _) | Opening::List(head, syntax, _) => {
-            Token::Open(head, syntax)
-        }
-        Opening::Item(level) => Token::OpenItem(level.declared),
-        Opening::Fragment(size) => Token::OpenFragment(size),
-        Opening::End(container) => closing_token(container),
     }
 }
 

@@ -1,20 +1,19 @@
 // What a head leads to: a fault, the want of more bytes, or what it opens or closes.
-ghost use Rattle.std.specs.Prelude.{◌≡◌, ℕ, ◌+◌, ◌^◌, ◌≤◌, ◌==◌, List, length, drop, false, true, MatchOption};
-ghost use Rattle.dcm_base.specs.Head.{tag_at, long_length};
-ghost use Rattle.dcm_base.specs.Number.{number};
-ghost use Rattle.dcm_base.specs.Tag.{is_item as is_item_tag};
+ghost use Rattle.std.specs.Prelude.{◌≡◌, ℕ, ◌+◌, ◌^◌, ◌≤◌, ◌∷◌, [], List, length, false, MatchOption};
 ghost use Rattle.dcm_stream.specs.Places.{innermost};
+ghost use Rattle.dcm_stream.specs.Tokens.{IsFilled, atoms_of};
 ghost use Rattle.dcm_base.specs.Place as place;
 ghost use Rattle.dcm_base.specs.Spelling as spelling;
 ghost use Rattle.dcm_stream.specs.Reading as reading;
 ghost use Rattle.dcm_stream.specs.Judging as spec;
 
-use super::levels::{OpenLevels, is_allowed, level_at, opens_list, passes, with_length};
-use super::{Bar, Sink};
+use super::close::closing_token;
+use super::levels::{OpenLevels, is_allowed, opens_list, passes, with_length};
+use super::{Bar, Sink, Token};
 use dcm_base::{
     Container, Fault, Form, ITEM_GROUP, Length, Level, MOST_LISTS, Syntax, Vr, form_of,
 };
-use dcm_head::{Head, HeadRead, read_head, read_tag};
+use dcm_head::{Head, HeadRead, read_tag, read_tagged};
 
 /// The bytes of the head of an item or a delimiter (PS3.5 7.5).
 const ITEM_HEAD: u64 = 8;
@@ -24,19 +23,47 @@ const ITEM_HEAD: u64 = 8;
 pub enum Opening {
     /// An element with a value of so many bytes.
     Leaf(Head, Syntax, u32),
-    /// An element with items or fragments.
-    List(Head, Syntax, Level),
-    /// An item of a sequence.
-    Item(Level),
+    /// An element with items.
+    Sequence(Head, Syntax),
+    /// An element with fragments.
+    FragmentList(Head, Syntax),
+    /// An item of a sequence, with elements in this syntax.
+    Item(Syntax, Length),
     /// An item of a fragment list, of so many bytes.
     Fragment(u32),
     /// The end of the innermost container.
     End(Container),
 }
 
+/// What bytes lead to where a head is to come.
+#[derive(Clone, Copy, Debug, PartialEq, Eq)]
+pub enum Judged {
+    /// More bytes are wanted.
+    More,
+    /// They begin with a head of so many bytes.
+    Opens(Opening, usize),
+    /// The head is refused.
+    Refused(Fault),
+}
+
+/// The token of what a head opens or closes.
+pub fn opening_token(opening: Opening) -> Token<'static>
+    ensures atoms { atoms_of result ≡ spec.opening_atom opening ∷ [] }
+    ensures filled { IsFilled result }
+{
+    match opening {
+        Opening::Leaf(head, syntax, _)
+        | Opening::Sequence(head, syntax)
+        | Opening::FragmentList(head, syntax) => Token::Open(head, syntax),
+        Opening::Item(_, declared) => Token::OpenItem(declared),
+        Opening::Fragment(size) => Token::OpenFragment(size),
+        Opening::End(container) => closing_token(container),
+    }
+}
+
 /// The syntax of what an element holds: UN of undefined length holds Implicit (PS3.5 6.2.2).
 #[tactic(auto, unfolding(dcm_base::specs::Spelling::inside))]
-fn syntax_inside(syntax: Syntax, vr: Vr) -> Syntax
+pub fn syntax_inside(syntax: Syntax, vr: Vr) -> Syntax
     ensures { result ≡ spelling.inside syntax vr }
 {
     if vr == Vr::UN {
@@ -55,51 +82,44 @@ fn size_of(declared: Length) -> u32
     }
 }
 
-/// What an element opens whose contents begin at this offset, or nothing where its length may not be undefined.
-fn element_opening(form: Form, syntax: Syntax, head: Head, begin: u64) -> Option<Opening>
-    requires { begin ≤ 2 ^ 62 }
-    ensures { MatchOption result (form ≡ Form.Nothing) (λ o. (levels : List Level) → reading.element_opens form syntax head.tag head.vr head.length begin levels ≡ spec.opened_by levels o) }
+/// What an element opens, or nothing where its length may not be undefined.
+fn element_opening(form: Form, syntax: Syntax, head: Head) -> Option<Opening>
+    ensures { MatchOption result (form ≡ Form.Nothing) (spec.OpensAs (reading.element_opens form syntax head.tag head.vr head.length)) }
 {
     match form {
         Form::Value => Some(Opening::Leaf(head, syntax, size_of(head.length))),
-        Form::Sequence => {
-            let inner = syntax_inside(syntax, head.vr);
-            let level = level_at(Container::Sequence, inner, head.length, begin);
-            Some(Opening::List(head, syntax, level))
-        }
-        Form::FragmentList => {
-            let level = level_at(Container::FragmentList, syntax, Length::Undefined, begin);
-            Some(Opening::List(head, syntax, level))
-        }
+        Form::Sequence => Some(Opening::Sequence(head, syntax)),
+        Form::FragmentList => Some(Opening::FragmentList(head, syntax)),
         Form::Nothing => None,
     }
 }
 
-/// Why an element is refused whose head is whole, but for the sink's bars.
-fn shape_fault(
+/// What an element with this head of so many bytes opens, or why it is refused, but for the sink's bars.
+fn judge_shape(
     form: Form,
+    syntax: Syntax,
+    head: Head,
     size: u64,
-    declared: Length,
     position: u64,
     levels: &OpenLevels,
-) -> Option<Fault>
+) -> Result<Opening, Fault>
     requires { size ≤ 2 ^ 62 }
-    ensures { result ≡ spec.shape_fault form size declared (place.room position levels.now) (place.depth levels.now) }
+    ensures { spec.JudgesShape form syntax head size (place.room position levels.now) (place.depth levels.now) result }
 {
     let room = levels.room(position);
     if passes(size, room) {
-        return Some(Fault::PassesEnd);
+        return Err(Fault::PassesEnd);
     }
-    if form == Form::Nothing {
-        return Some(Fault::UndefinedLength);
-    }
-    if passes(with_length(size, declared), room) {
-        return Some(Fault::PassesEnd);
+    let Some(opening) = element_opening(form, syntax, head) else {
+        return Err(Fault::UndefinedLength);
+    };
+    if passes(with_length(size, head.length), room) {
+        return Err(Fault::PassesEnd);
     }
     if opens_list(form) && levels.depth() >= MOST_LISTS {
-        return Some(Fault::TooDeep);
+        return Err(Fault::TooDeep);
     }
-    None
+    Ok(opening)
 }
 
 fn barred(bar: Bar) -> Fault
@@ -111,36 +131,24 @@ fn barred(bar: Bar) -> Fault
     }
 }
 
-/// An element's head, which is whole with 8 or with 12 bytes.
+/// What an element with this head of so many bytes opens, or why it is refused.
 fn judge_element<S: Sink>(
     syntax: Syntax,
     levels: &OpenLevels,
     position: u64,
-    bytes: &[u8],
+    head: Head,
+    size: u64,
     sink: &S,
-) -> Result<Option<Opening>, Fault>
-    requires eight { 8 ≤ length bytes.now }
-    requires element { ((tag_at syntax bytes.now).group == 0xFFFE) ≡ false }
-    requires within { position + length bytes.now ≤ 2 ^ 62 }
-    ensures { spec.JudgesElement (spec.bars_head S.bar (S.state sink.now)) syntax levels.now position bytes.now result }
+) -> Result<Opening, Fault>
+    requires { size ≤ 2 ^ 62 }
+    ensures { spec.JudgesElement (spec.bars_head S.bar (S.state sink.now)) syntax levels.now position head size result }
 {
-    let (head, size) = match read_head(syntax, bytes) {
-        HeadRead::BadVr => return Err(Fault::UnknownRepresentation),
-        HeadRead::More(size) if passes(size as u64, levels.room(position)) => {
-            return Err(Fault::PassesEnd);
-        }
-        HeadRead::More(_) => return Ok(None),
-        HeadRead::Done(head, size) => (head, size as u64),
-    };
     let form = form_of(syntax, head.vr, head.length);
-    if let Some(fault) = shape_fault(form, size, head.length, position, levels) {
-        return Err(fault);
-    }
+    let opening = judge_shape(form, syntax, head, size, position, levels)?;
     if let Err(bar) = sink.accepts(&head) {
         return Err(barred(bar));
     }
-    let begin = position + bytes.len() as u64;
-    Ok(element_opening(form, syntax, head, begin))
+    Ok(opening)
 }
 
 /// Why an item is refused.
@@ -156,39 +164,57 @@ fn item_fault(container: Container, declared: Length, room: Option<u64>) -> Opti
     None
 }
 
-/// What an item opens whose contents begin at this offset.
-fn item_opening(container: Container, syntax: Syntax, declared: Length, begin: u64) -> Opening
-    requires { begin ≤ 2 ^ 62 }
-    ensures { (levels : List Level) → reading.item_opens container syntax declared begin levels ≡ spec.opened_by levels result }
+/// What an item opens.
+fn item_opening(container: Container, syntax: Syntax, declared: Length) -> Opening
+    ensures { spec.OpensAs (reading.item_opens container syntax declared) result }
 {
     match container {
         Container::FragmentList => Opening::Fragment(size_of(declared)),
         Container::DataSet | Container::Item | Container::Sequence => {
-            Opening::Item(level_at(Container::Item, syntax, declared, begin))
+            Opening::Item(syntax, declared)
         }
     }
 }
 
-/// The length that the head of an item declares.
-fn item_length(syntax: Syntax, bytes: &[u8]) -> Length
-    requires eight { 8 ≤ length bytes.now }
-    requires item { is_item_tag (tag_at syntax bytes.now) ≡ true }
-    ensures { result ≡ long_length (number syntax 4 (drop 4 bytes.now)) }
+/// What an item of this length opens, or why it is refused.
+fn judge_item(inner: Level, declared: Length, room: Option<u64>) -> Result<Opening, Fault>
+    ensures { spec.JudgesItem inner declared room result }
 {
-    match read_head(syntax, bytes) {
-        HeadRead::Done(head, _) => head.length,
-        HeadRead::More(_) | HeadRead::BadVr => Length::Undefined,
+    match item_fault(inner.container, declared, room) {
+        Some(fault) => Err(fault),
+        None => Ok(item_opening(inner.container, inner.syntax, declared)),
     }
 }
 
-/// A head of at least eight bytes at a place with room for as many, where this is the innermost container.
+/// What a head of so many bytes opens or closes, or why it is refused, where this is the innermost container.
+fn judge_head<S: Sink>(
+    inner: Level,
+    levels: &OpenLevels,
+    position: u64,
+    head: Head,
+    size: u64,
+    sink: &S,
+) -> Result<Opening, Fault>
+    requires { size ≤ 2 ^ 62 }
+    ensures { spec.JudgesHead (spec.bars_head S.bar (S.state sink.now)) inner levels.now position head size result }
+{
+    if head.tag.group != ITEM_GROUP {
+        return judge_element(inner.syntax, levels, position, head, size, sink);
+    }
+    if head.tag.is_item() {
+        return judge_item(inner, head.length, levels.room(position));
+    }
+    Ok(Opening::End(inner.container))
+}
+
+/// Bytes at a place with room for the shortest head, where this is the innermost container.
 pub fn judge<S: Sink>(
     inner: Level,
     levels: &OpenLevels,
     position: u64,
     bytes: &[u8],
     sink: &S,
-) -> Result<Option<Opening>, Fault>
+) -> Judged
     requires eight { 8 ≤ length bytes.now }
     requires within { position + length bytes.now ≤ 2 ^ 62 }
     requires inner { innermost levels.now ≡ Some inner }
@@ -197,18 +223,18 @@ pub fn judge<S: Sink>(
 {
     let tag = read_tag(inner.syntax, bytes);
     if !is_allowed(inner.container, inner.declared, tag) {
-        return Err(Fault::TagNotAllowed);
+        return Judged::Refused(Fault::TagNotAllowed);
     }
-    if tag.group != ITEM_GROUP {
-        return judge_element(inner.syntax, levels, position, bytes, sink);
+    let (head, size) = match read_tagged(inner.syntax, tag, bytes) {
+        HeadRead::BadVr => return Judged::Refused(Fault::UnknownRepresentation),
+        HeadRead::More(size) if passes(size as u64, levels.room(position)) => {
+            return Judged::Refused(Fault::PassesEnd);
+        }
+        HeadRead::More(_) => return Judged::More,
+        HeadRead::Done(head, size) => (head, size),
+    };
+    match judge_head(inner, levels, position, head, size as u64, sink) {
+        Ok(opening) => Judged::Opens(opening, size),
+        Err(fault) => Judged::Refused(fault),
     }
-    if !tag.is_item() {
-        return Ok(Some(Opening::End(inner.container)));
-    }
-    let declared = item_length(inner.syntax, bytes);
-    if let Some(fault) = item_fault(inner.container, declared, levels.room(position)) {
-        return Err(fault);
-    }
-    let begin = position + bytes.len() as u64;
-    Ok(Some(item_opening(inner.container, inner.syntax, declared, begin)))
 }

@@ -5,9 +5,10 @@ ghost use Rattle.dcm_stream.specs.Judging.{opened_by};
 ghost use Rattle.dcm_stream.specs.Reading as steps;
 ghost use Rattle.dcm_stream.specs.Machine as spec;
 ghost use Rattle.dcm_stream.specs.Sinks as sinks;
+ghost use Rattle.dcm_base.specs.Place as places;
 
-use super::close::{close_full, opening_token};
-use super::judge::{Opening, judge};
+use super::close::close_full;
+use super::judge::{Judged, Opening, judge, opening_token, syntax_inside};
 use super::levels::{OpenLevels, level_at, passes};
 use super::machine::INPUT_LIMIT;
 use super::{Halt, Sink, Token};
@@ -91,12 +92,23 @@ impl Place {
         self.settle_value(sink)
     }
 
-    /// Goes into what a head opens, or out of what it closes.
+    /// A container opens, whose contents begin here.
+    fn open(&mut self, container: Container, syntax: Syntax, declared: Length)
+        requires within { self.old.position ≤ 2 ^ 62 }
+        requires few { length self.old.levels < 129 }
+        ensures { self.new ≡ record self.old { levels = places.level container syntax declared self.old.position ∷ self.old.levels } }
+    {
+        self.levels
+            .push(level_at(container, syntax, declared, self.position));
+    }
+
+    /// Goes into what a head before this place opens, or out of what it closes.
     fn enter<S: Sink>(&mut self, opening: Opening, sink: &mut S) -> Result<(), Halt>
         requires head { self.old.head.items ≡ [] }
         requires left { self.old.left ≡ 0 }
-        requires few { length (opened_by self.old.levels opening).levels ≤ 129 }
-        ensures comes { sinks.Comes S.Sink sink.old sink.new (spec.reading self.new) (spec.entered self.old.position (opened_by self.old.levels opening)) result }
+        requires within { self.old.position ≤ 2 ^ 62 }
+        requires few { length (opened_by self.old.position self.old.levels opening).levels ≤ 129 }
+        ensures comes { sinks.Comes S.Sink sink.old sink.new (spec.reading self.new) (spec.enters self.old opening) result }
         ensures failed { sinks.TellsHalt S.Sink sink.old sink.new result }
         ensures kept { sinks.Keeps S.Sink sink.old sink.new }
     {
@@ -106,15 +118,22 @@ impl Place {
                 self.left = size;
                 return self.settle_value(sink);
             }
-            Opening::List(_, _, level) | Opening::Item(level) => self.levels.push(level),
+            Opening::Sequence(head, syntax) => {
+                let inner = syntax_inside(syntax, head.vr);
+                self.open(Container::Sequence, inner, head.length);
+            }
+            Opening::FragmentList(_, syntax) => {
+                self.open(Container::FragmentList, syntax, Length::Undefined);
+            }
+            Opening::Item(syntax, declared) => self.open(Container::Item, syntax, declared),
             Opening::End(_) => self.levels.pop(),
         }
         self.settle(sink)
     }
 
-    /// Goes over bytes that end no head.
+    /// Goes over bytes that end no head, and holds them.
     fn read_head_bytes(&mut self, bytes: &[u8])
-        requires { length self.old.head.items + length bytes.now < 8 }
+        requires { length self.old.head.items + length bytes.now ≤ 12 }
         ensures { spec.reading self.new None ≡ record (spec.reading self.old None) { head = self.old.head.items ++ bytes.now } }
     {
         let _ = self.head.try_extend_from_slice(bytes);
@@ -134,26 +153,53 @@ impl Place {
             return Ok(());
         };
         self.head.push(byte);
-        let judged = judge(
+        match judge(
             inner,
             &self.levels,
             self.position,
             self.head.as_slice(),
             sink,
-        );
-        let opening = match judged {
-            Ok(opening) => opening,
-            Err(fault) => {
+        ) {
+            Judged::More => Ok(()),
+            Judged::Refused(fault) => {
                 self.head.clear();
-                return Err(refused(fault, self.position));
+                Err(refused(fault, self.position))
             }
+            Judged::Opens(opening, _) => {
+                self.position += self.head.len() as u64;
+                self.head.clear();
+                self.enter(opening, sink)
+            }
+        }
+    }
+
+    /// Goes over the head that the bytes begin with, or over all of them where that is not whole.
+    fn read_head<S: Sink>(&mut self, bytes: &[u8], sink: &mut S) -> Result<usize, Halt>
+        requires stands { spec.Stands (spec.reading self.old None) }
+        requires left { self.old.left ≡ 0 }
+        requires head { self.old.head.items ≡ [] }
+        requires eight { 8 ≤ length bytes.now }
+        requires within { self.old.position + length bytes.now ≤ 2 ^ 62 }
+        ensures some { IfOk result (λ n. (0 < n) × (n ≤ length bytes.now)) }
+        ensures feeds { sinks.FeedsPiece S.Sink sink.old sink.new self.old self.new bytes.now result }
+        ensures failed { sinks.TellsHalt S.Sink sink.old sink.new result }
+        ensures kept { sinks.Keeps S.Sink sink.old sink.new }
+    {
+        let Some(inner) = self.levels.innermost() else {
+            return Ok(bytes.len());
         };
-        let Some(opening) = opening else {
-            return Ok(());
-        };
-        self.position += self.head.len() as u64;
-        self.head.clear();
-        self.enter(opening, sink)
+        match judge(inner, &self.levels, self.position, bytes, sink) {
+            Judged::More => {
+                self.read_head_bytes(bytes);
+                Ok(bytes.len())
+            }
+            Judged::Refused(fault) => Err(refused(fault, self.position)),
+            Judged::Opens(opening, size) => {
+                self.position += size as u64;
+                self.enter(opening, sink)?;
+                Ok(size)
+            }
+        }
     }
 
     /// Goes over a beginning of the bytes, and tells how many.
@@ -161,7 +207,7 @@ impl Place {
         requires some { 0 < length piece.now }
         requires stands { spec.Stands (spec.reading self.old None) }
         ensures some { IfOk result (λ n. (0 < n) × (n ≤ length piece.now)) }
-        ensures feeds { sinks.Feeds S.Sink sink.old sink.new (spec.reading self.old None) (spec.reading self.new) (spec.bytes_read result piece.now) result }
+        ensures feeds { sinks.FeedsPiece S.Sink sink.old sink.new self.old self.new piece.now result }
         ensures failed { sinks.TellsHalt S.Sink sink.old sink.new result }
         ensures kept { sinks.Keeps S.Sink sink.old sink.new }
     {
@@ -176,6 +222,10 @@ impl Place {
             let (value, _) = piece.split_at(n);
             self.read_value(value, sink)?;
             return Ok(n);
+        }
+        if self.head.is_empty() && most >= SHORT_HEAD as u64 {
+            let (bytes, _) = piece.split_at(most as usize);
+            return self.read_head(bytes, sink);
         }
         let n = (most as usize).min((SHORT_HEAD - 1).saturating_sub(self.head.len()));
         if n > 0 {

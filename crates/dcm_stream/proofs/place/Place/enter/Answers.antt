@@ -2,9 +2,9 @@ use Rattle.std.proofs.Common.{◌≡◌, ◌∙◌, ap}
 use Rattle.dcm_stream.specs.declared.place.Place.{Place}
 use Rattle.dcm_stream.specs.Tokens.{atoms_of}
 use Rattle.dcm_stream.specs.Machine.{reading}
-use Rattle.dcm_stream.proofs.Enters.{Leads, leads_in, leads_out, fails_enter, enters_value, enters_container}
+use Rattle.dcm_stream.proofs.Enters.{Leads, leads_sequence, leads_fragments, leads_item, leads_out, fails_enter, enters_value, enters_container}
 use Rattle.dcm_stream.proofs.place.Place.enter.Goals as goal
-use Rattle.dcm_stream.proofs.place.Place.enter.Goals.{in-End, in-List2}
+use Rattle.dcm_stream.proofs.place.Place.enter.Goals.{in-Sequence, in-FragmentList, in-Item, in-End}
 
 pub returns-in_err-take-clause-comes : goal.returns-in_err-take-clause-comes
 returns-in_err-take-clause-comes g c =
@@ -22,15 +22,19 @@ returns-in-Leaf-clause-comes g c =
 pub returns-clause-comes : goal.returns-clause-comes
 returns-clause-comes g c =
     let place = c.args.self.now in
-    let leads : Leads place.levels c.args.opening c.match-opening.self.levels =
+    let leads : Leads place.position place.levels c.args.opening c.match-opening.self.levels =
     elim c.match-opening.branch [
-      | in-End w ↦ leads_out place.levels c.match-opening.self.levels c.args.opening w.in-End.field-0 w.in-End.is (ap (λ (p : Place). p.levels) w.self-is ∙ w.pop.ensures)
-      | in-List2 w ↦ leads_in place.levels c.match-opening.self.levels c.args.opening w.in-List.level w.in-List.is (ap (λ (p : Place). p.levels) w.self-is ∙ w.push.ensures)
+      | in-Sequence w ↦ leads_sequence place.position place.levels c.match-opening.self.levels c.args.opening w.in-Sequence.head w.in-Sequence.syntax w.syntax_inside-inner.result w.in-Sequence.is w.syntax_inside-inner.ensures (ap (λ (p : Place). p.levels) (w.self-is ∙ w.open.ensures))
+      | in-FragmentList w ↦ leads_fragments place.position place.levels c.match-opening.self.levels c.args.opening w.in-FragmentList.field-0 w.in-FragmentList.syntax w.in-FragmentList.is (ap (λ (p : Place). p.levels) (w.self-is ∙ w.open-in-FragmentList.ensures))
+      | in-Item w ↦ leads_item place.position place.levels c.match-opening.self.levels c.args.opening w.in-Item.syntax w.in-Item.declared w.in-Item.is (ap (λ (p : Place). p.levels) (w.self-is ∙ w.open-in-Item.ensures))
+      | in-End w ↦ leads_out place.position place.levels c.match-opening.self.levels c.args.opening w.in-End.field-0 w.in-End.is (ap (λ (p : Place). p.levels) w.self-is ∙ w.pop.ensures)
     ] in
     let at : c.match-opening.self.position ≡ place.position =
     elim c.match-opening.branch [
       | in-End w ↦ ap (λ (p : Place). p.position) w.self-is
-      | in-List2 w ↦ ap (λ (p : Place). p.position) w.self-is
+      | in-Sequence w ↦ ap (λ (p : Place). p.position) (w.self-is ∙ w.open.ensures)
+      | in-FragmentList w ↦ ap (λ (p : Place). p.position) (w.self-is ∙ w.open-in-FragmentList.ensures)
+      | in-Item w ↦ ap (λ (p : Place). p.position) (w.self-is ∙ w.open-in-Item.ensures)
     ] in
     enters_container g.S.Sink.step g.S.Sink.writes place.position place.levels c.args.opening c.match-opening.self (g.S.Sink.state c.args.sink.now) (g.S.Sink.contents c.args.sink.now)
     (g.S.Sink.state c.take.new.self) (g.S.Sink.contents c.take.new.self) (g.S.Sink.state c.settle.new.sink) (g.S.Sink.contents c.settle.new.sink) (reading c.settle.new.self)

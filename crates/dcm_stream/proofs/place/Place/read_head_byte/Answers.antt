@@ -9,25 +9,25 @@ pub returns-in_default-clause-feeds : goal.returns-in_default-clause-feeds
 returns-in_default-clause-feeds g c =
     absurd (some_container c.args.self.now c.requires.stands c.in_default.ensures)
 
-pub returns-in-Err-clause-feeds : goal.returns-in-Err-clause-feeds
-returns-in-Err-clause-feeds g c =
+pub returns-in-Refused-clause-feeds : goal.returns-in-Refused-clause-feeds
+returns-in-Refused-clause-feeds g c =
     let place = c.args.self.now in
     let s = g.S.Sink.state c.args.sink.now in
     let inner = c.in-Some.inner in
     let is : innermost place.levels ≡ Some inner = sym c.in-Some.ensures in
-    let judged = judged_at (bars_head g.S.Sink.bar s) inner place.position place.levels c.as_slice.result.now (place.head.items ++ c.args.byte ∷ []) c.judge-judged.result (c.as_slice.ensures.value ∙ c.push.ensures.items) c.judge-judged.ensures in
+    let judged = judged_at (bars_head g.S.Sink.bar s) inner place.position place.levels c.as_slice.result.now (place.head.items ++ c.args.byte ∷ []) c.judge.result (c.as_slice.ensures.value ∙ c.push.ensures.items) c.judge.ensures in
     feeds_refused g.S.Sink.bar g.S.Sink.step g.S.Sink.writes place inner s c.args.byte c.requires.left c.requires.within is (Unit {0}) (g.S.Sink.contents c.args.sink.now)
-    (record { position = place.position; head = c.clear.new.self; left = place.left; levels = place.levels }) c.judge-judged.result c.in-Err.fault c.refused.result judged c.in-Err.is c.refused.ensures refl c.clear.ensures refl refl
+    (record { position = place.position; head = c.clear.new.self; left = place.left; levels = place.levels }) c.judge.result c.in-Refused.fault c.refused.result judged c.in-Refused.is c.refused.ensures refl c.clear.ensures refl refl
 
-pub returns-in_default-opening-clause-feeds : goal.returns-in_default-opening-clause-feeds
-returns-in_default-opening-clause-feeds g c =
+pub returns-in-More-clause-feeds : goal.returns-in-More-clause-feeds
+returns-in-More-clause-feeds g c =
     let place = c.args.self.now in
     let s = g.S.Sink.state c.args.sink.now in
     let inner = c.in-Some.inner in
     let is : innermost place.levels ≡ Some inner = sym c.in-Some.ensures in
-    let judged = judged_at (bars_head g.S.Sink.bar s) inner place.position place.levels c.as_slice.result.now (place.head.items ++ c.args.byte ∷ []) c.judge-judged.result (c.as_slice.ensures.value ∙ c.push.ensures.items) c.judge-judged.ensures in
+    let judged = judged_at (bars_head g.S.Sink.bar s) inner place.position place.levels c.as_slice.result.now (place.head.items ++ c.args.byte ∷ []) c.judge.result (c.as_slice.ensures.value ∙ c.push.ensures.items) c.judge.ensures in
     feeds_waiting g.S.Sink.bar g.S.Sink.step g.S.Sink.writes place inner s c.args.byte c.requires.left c.requires.within is (g.S.Sink.contents c.args.sink.now)
-    (record { position = place.position; head = c.push.new.self; left = place.left; levels = place.levels }) c.judge-judged.result c.in-Ok.opening (tt {0}) judged c.in-Ok.is c.in_default-opening.is refl c.push.ensures.items refl refl
+    (record { position = place.position; head = c.push.new.self; left = place.left; levels = place.levels }) c.judge.result (tt {0}) judged c.in-More.is refl c.push.ensures.items refl refl
 
 pub enter-requires-clause-few : goal.enter-requires-clause-few
 enter-requires-clause-few g c =
@@ -35,16 +35,17 @@ enter-requires-clause-few g c =
     let s = g.S.Sink.state c.args.sink.now in
     let inner = c.in-Some.inner in
     let is : innermost place.levels ≡ Some inner = sym c.in-Some.ensures in
-    let judged = judged_at (bars_head g.S.Sink.bar s) inner place.position place.levels c.as_slice.result.now (place.head.items ++ c.args.byte ∷ []) c.judge-judged.result (c.as_slice.ensures.value ∙ c.push.ensures.items) c.judge-judged.ensures in
-    opens_few g.S.Sink.bar g.S.Sink.step g.S.Sink.writes place inner s c.args.byte c.requires.left c.requires.within is c.judge-judged.result c.in-Ok.opening c.in-Some-opening.opening c.requires.stands judged c.in-Ok.is c.in-Some-opening.is
+    let judged = judged_at (bars_head g.S.Sink.bar s) inner place.position place.levels c.as_slice.result.now (place.head.items ++ c.args.byte ∷ []) c.judge.result (c.as_slice.ensures.value ∙ c.push.ensures.items) c.judge.ensures in
+    let begin = ap (λ (n : ℕ). place.position + n) (c.len.ensures.value ∙ ap length c.push.ensures.items) in
+    opens_few g.S.Sink.bar g.S.Sink.step g.S.Sink.writes place inner s c.args.byte c.requires.left c.requires.within is c.judge.result c.in-Opens.opening c.in-Opens.field-1 (place.position + c.len.result) c.requires.stands judged c.in-Opens.is begin
 
-pub returns-clause-feeds : goal.returns-clause-feeds
-returns-clause-feeds g c =
+pub returns-in-Opens-clause-feeds : goal.returns-in-Opens-clause-feeds
+returns-in-Opens-clause-feeds g c =
     let place = c.args.self.now in
     let s = g.S.Sink.state c.args.sink.now in
     let inner = c.in-Some.inner in
     let is : innermost place.levels ≡ Some inner = sym c.in-Some.ensures in
-    let judged = judged_at (bars_head g.S.Sink.bar s) inner place.position place.levels c.as_slice.result.now (place.head.items ++ c.args.byte ∷ []) c.judge-judged.result (c.as_slice.ensures.value ∙ c.push.ensures.items) c.judge-judged.ensures in
+    let judged = judged_at (bars_head g.S.Sink.bar s) inner place.position place.levels c.as_slice.result.now (place.head.items ++ c.args.byte ∷ []) c.judge.result (c.as_slice.ensures.value ∙ c.push.ensures.items) c.judge.ensures in
     let begin = ap (λ (n : ℕ). place.position + n) (c.len.ensures.value ∙ ap length c.push.ensures.items) in
     feeds_opening g.S.Sink.bar g.S.Sink.step g.S.Sink.writes place inner s c.args.byte c.requires.left c.requires.within is (g.S.Sink.contents c.args.sink.now) (g.S.Sink.state c.enter.new.sink) (g.S.Sink.contents c.enter.new.sink)
-    (reading c.enter.new.self) c.judge-judged.result c.in-Ok.opening c.in-Some-opening.opening (place.position + c.len.result) c.enter.result judged c.in-Ok.is c.in-Some-opening.is begin c.enter.ensures.comes
+    (reading c.enter.new.self) c.judge.result c.in-Opens.opening c.in-Opens.field-1 (place.position + c.len.result) c.enter.result judged c.in-Opens.is begin c.enter.ensures.comes

@@ -1,5 +1,5 @@
 use Rattle.std.proofs.Common.{◌≡◌, ◌∷◌, [], refl, length, get_or, ℕ, Ok, Err, arith}
-use Rattle.dcm_stream.proofs.Pieces.{first_byte, limit_at, value_goes, fails_first, heads_at}
+use Rattle.dcm_stream.proofs.Pieces.{first_byte, limit_at, value_goes, fails_first, heads_at, within_piece}
 use Rattle.dcm_stream.proofs.place.Place.read_some.Goals as goal
 
 pub returns-then-read-ge-INPUT_LIMIT-clause-feeds : goal.returns-then-read-ge-INPUT_LIMIT-clause-feeds
@@ -46,3 +46,8 @@ returns-in_err-read_head_byte-clause-feeds g c =
     let place = c.args.self.now in
     fails_first g.S.Sink.bar g.S.Sink.step g.S.Sink.writes (Unit {0}) place (g.S.Sink.state c.args.sink.now) (g.S.Sink.contents c.args.sink.now) (g.S.Sink.state c.read_head_byte.new.sink) (g.S.Sink.contents c.read_head_byte.new.sink) c.read_head_byte.new.self
     (get_or c.args.piece.now 0 0 ∷ []) c.args.piece.now 1 c.in_err-read_head_byte.field-0.0 c.from_residual-in_err-read_head_byte.result (first_byte c.args.piece.now c.requires.some) c.from_residual-in_err-read_head_byte.ensures.1 c.in_err-read_head_byte.ensures.feeds
+
+pub returns-then-most-clause-feeds : goal.returns-then-most-clause-feeds
+returns-then-most-clause-feeds g c =
+    within_piece g.S.Sink.bar g.S.Sink.step g.S.Sink.writes c.args.self.now (g.S.Sink.state c.args.sink.now) (g.S.Sink.contents c.args.sink.now) (g.S.Sink.state c.read_head.new.sink) (g.S.Sink.contents c.read_head.new.sink) c.read_head.new.self
+    c.split_at-then-most.result.0.now c.args.piece.now _ c.read_head.result c.split_at-then-most.ensures.front c.read_head.ensures.some c.read_head.ensures.feeds
