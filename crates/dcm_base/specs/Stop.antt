@@ -19,6 +19,21 @@ pub data Stop : Type 0 where
   complete : Stop
   refused : (fault : Fault) (offset : ℕ) → Stop
 
+-- the fault of an input that is cut
+abbrev pub is_early : Fault → Bool
+is_early EndsEarly = true
+is_early _ = false
+
+abbrev pub is_early_bar : Option Fault → Bool
+is_early_bar None = false
+is_early_bar (Some fault) = is_early fault
+
+-- whether an input that goes on may come to another end
+abbrev pub is_undecided : Option Stop → Bool
+is_undecided None = false
+is_undecided (Some complete) = true
+is_undecided (Some (refused fault offset)) = is_early fault
+
 -- what a tool refuses of itself of an element's head
 abbrev pub HeadBar : Type 0
 HeadBar = Tag → Vr → Length → Option Fault

@@ -12,7 +12,7 @@ use Rattle.dcm_base.specs.Device.{AppendsFront}
 use Rattle.dcm_base.specs.Dump.{dump_front}
 use Rattle.dcm_base.specs.Header.{set_header, meta_header}
 use Rattle.dcm_base.specs.Front.{Front}
-use Rattle.dcm_base.specs.Stop.{Stop, complete, refused as stop_refused}
+use Rattle.dcm_base.specs.Stop.{Stop, complete, refused as stop_refused, is_undecided}
 use Rattle.dcm_base.specs.MetaReads.{Meta, MetaReads, refused, PREFIX}
 use Rattle.dcm_base.specs.NewMeta.{new_meta}
 use Rattle.dcm_base.specs.Recode.{recode}
@@ -22,7 +22,7 @@ use Rattle.dcm_base.proofs.Puts.{append_known_twice, append_known_none, front_lo
 use Rattle.dcm_head.specs.declared.meta_read.MetaEnd.{MetaEnd}
 use Rattle.dcm_head.specs.declared.meta_read.MetaEnd.TheVariants as meta_end
 use Rattle.dcm_head.specs.MetaReading.{Reading, meta_finished}
-use Rattle.dcm_stream.specs.Reading.{start_of, is_undecided}
+use Rattle.dcm_stream.specs.Reading.{start_of}
 use Rattle.dcm_cli.specs.declared.ending.Ending.{Ending}
 use Rattle.dcm_cli.specs.declared.ending.Ending.TheVariants as endings
 use Rattle.dcm_cli.specs.declared.ending.Ending.TheVariants.{Unread, Output}

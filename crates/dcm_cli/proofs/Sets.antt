@@ -9,9 +9,9 @@ use Rattle.dcm_base.specs.Device.{AppendsFront}
 use Rattle.dcm_base.specs.Front.{Front, front}
 use Rattle.dcm_base.specs.Reads.{INPUT_LIMIT, Reads, ended}
 use Rattle.dcm_base.specs.Steps.{outputs}
-use Rattle.dcm_base.specs.Stop.{Bar, Stop, complete, refused}
+use Rattle.dcm_base.specs.Stop.{Bar, Stop, complete, refused, is_undecided}
 use Rattle.dcm_base.proofs.Puts.{front_longer}
-use Rattle.dcm_stream.specs.Reading.{start_of, finish, end_shows, is_undecided}
+use Rattle.dcm_stream.specs.Reading.{start_of, finish, end_shows}
 use Rattle.dcm_stream.specs.Machine.{next_offset}
 use Rattle.dcm_cli.specs.declared.ending.Ending.{Ending}
 use Rattle.dcm_cli.specs.declared.ending.Ending.TheVariants.{Worked, Unread, Output}

@@ -12,7 +12,7 @@ use Rattle.dcm_base.specs.Front.{Front}
 use Rattle.dcm_base.specs.Header.{set_header}
 use Rattle.dcm_base.specs.MetaReads.{Meta, MetaAnswer, MetaReads, begins, refused as meta_refused, is_undecided as meta_undecided}
 use Rattle.dcm_base.specs.Reads.{INPUT_LIMIT, Reads, ended}
-use Rattle.dcm_base.specs.Stop.{Bar, Stop, refused}
+use Rattle.dcm_base.specs.Stop.{Bar, Stop, refused, is_undecided}
 use Rattle.dcm_edit.specs.Edit.{Edit}
 use Rattle.dcm_edit.specs.Meaning.{AreMeant}
 use Rattle.dcm_words.specs.Words.{Job, dump, convert, build as building, modify}
@@ -22,7 +22,7 @@ use Rattle.dcm_head.specs.MetaReading.{Reading, HasEnded, Says, meta_finished}
 use Rattle.dcm_head.proofs.Described.{described}
 use Rattle.dcm_head.proofs.Told.{told}
 use Rattle.dcm_head.proofs.OneMeta.{one_meta}
-use Rattle.dcm_stream.specs.Reading.{finish, is_undecided}
+use Rattle.dcm_stream.specs.Reading.{finish}
 use Rattle.dcm_words.specs.declared.job.Job.{Job as RunJob}
 use Rattle.dcm_words.specs.declared.job.Job.TheVariants.{Dump, Convert, Build, Modify}
 use Rattle.dcm_words.specs.Plans.{job_of}

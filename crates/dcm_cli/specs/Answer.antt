@@ -6,7 +6,7 @@ use Rattle.dcm_base.specs.declared.syntax.Coding.{Coding}
 use Rattle.dcm_base.specs.declared.fault.Fault.{Fault}
 use Rattle.dcm_base.specs.declared.fault.Fault.TheVariants.{CannotChange}
 use Rattle.dcm_base.specs.Front.{Front, front}
-use Rattle.dcm_base.specs.Stop.{Stop, complete, refused, Bar}
+use Rattle.dcm_base.specs.Stop.{Stop, complete, refused, Bar, is_undecided}
 use Rattle.dcm_base.specs.Reads.{INPUT_LIMIT, Reads}
 use Rattle.dcm_base.specs.Bars.{no_bar, ascending_bar, target_bar}
 use Rattle.dcm_base.specs.MetaReads as meta
@@ -19,7 +19,6 @@ use Rattle.dcm_edit.specs.Edit.{Edit, edited, found}
 use Rattle.dcm_base.specs.Fault.{fault_number, fault_text, line_fault_number, line_fault_text}
 use Rattle.dcm_base.specs.Build as build
 use Rattle.dcm_words.specs.Words.{Job, dump, convert, build as building, modify}
-use Rattle.dcm_stream.specs.Reading.{is_undecided}
 use Rattle.dcm_cli.specs.Told.{told, unplaced_line}
 
 pub record Answer : Type 0 where

@@ -8,14 +8,14 @@ use Rattle.dcm_base.specs.declared.syntax.Syntax.{Syntax}
 use Rattle.dcm_base.specs.Front.{Front, front, nothing_open, open_leaf, open_sequence, open_fragments}
 use Rattle.dcm_base.specs.Ascending.{FrontAscends}
 use Rattle.dcm_base.specs.Spelling.{SpellsFront}
-use Rattle.dcm_base.specs.Stop.{Stop, complete, refused}
+use Rattle.dcm_base.specs.Stop.{Stop, complete, refused, is_early_bar}
 use Rattle.dcm_base.specs.Reads.{INPUT_LIMIT, Reads, ended}
 use Rattle.dcm_base.specs.Bars.{ascending_bar}
 use Rattle.dcm_base.specs.Atoms.{Atom, ends, front_atoms, is_closed}
 use Rattle.dcm_base.proofs.Reading.{reads_once}
 use Rattle.dcm_base.proofs.Shown.{front_shown}
 use Rattle.dcm_stream.specs.Ascending.{reached_after, innermost, ascending}
-use Rattle.dcm_stream.specs.Reading.{is_early_bar, read_all, finish, end_shows}
+use Rattle.dcm_stream.specs.Reading.{read_all, finish, end_shows}
 use Rattle.dcm_stream.proofs.Ascending.{ascending_bars}
 use Rattle.dcm_stream.proofs.Follow.{answers}
 use Rattle.dcm_stream.proofs.Judged.{NeverEarly}

@@ -16,11 +16,11 @@ use Rattle.dcm_base.specs.Number.{number}
 use Rattle.dcm_base.specs.Tag.{is_above, is_item}
 use Rattle.dcm_base.specs.Head.{tag_at, vr_at, length_at, long_length}
 use Rattle.dcm_base.specs.Spelling.{form}
-use Rattle.dcm_base.specs.Stop.{Stop, HeadBar, innermost_stop}
+use Rattle.dcm_base.specs.Stop.{Stop, HeadBar, innermost_stop, is_undecided}
 use Rattle.dcm_base.specs.Reads.{INPUT_LIMIT}
 use Rattle.dcm_base.specs.Atoms.{Atom, opens, value_byte, closes_leaf, opens_item, closes_item, closes_sequence, opens_fragment, ends}
 use Rattle.dcm_stream.specs.Ascending.{reached_after, innermost, ascending}
-use Rattle.dcm_stream.specs.Reading.{Reading, start_of, Opened, closing, size_of, ends_at, closes, element_opens, item_opens, plain_opens, head_opens, full_closed, settled, is_undecided, head_read, byte_read, read_byte, reads_byte, read_all}
+use Rattle.dcm_stream.specs.Reading.{Reading, start_of, Opened, closing, size_of, ends_at, closes, element_opens, item_opens, plain_opens, head_opens, full_closed, settled, head_read, byte_read, read_byte, reads_byte, read_all}
 use Rattle.dcm_tools.proofs.Accepted.{Accepted, AllAccepted, byte_accepted}
 
 -- ---- heads that are above the last ones

@@ -11,7 +11,7 @@ use Rattle.dcm_base.specs.Value.{order}
 use Rattle.dcm_base.specs.Spelling.{last_tag}
 use Rattle.dcm_base.specs.Atoms.{Atom, value_byte, closes_leaf, closes_item, closes_sequence, fragments_then, open_fragment_atoms, end_atoms, ShowTrees, ShowItems, Shows, ShowsOpenItem}
 use Rattle.dcm_base.specs.Bars.{innermost_reached, reached_in_item, is_above, ascending_bar}
-use Rattle.dcm_stream.specs.Reading.{is_early_bar}
+use Rattle.dcm_base.specs.Stop.{is_early_bar}
 use Rattle.dcm_stream.specs.Follows.{BarsAs}
 use Rattle.dcm_stream.specs.Ascending.{reached_after, innermost, ascending}
 

@@ -17,10 +17,10 @@ use Rattle.dcm_base.specs.declared.level.Container.{Container}
 use Rattle.dcm_base.specs.declared.level.Level.{Level}
 use Rattle.dcm_base.specs.declared.level.Container.TheVariants.{DataSet as the_data_set, Item as an_item, Sequence as a_sequence, FragmentList as a_fragment_list}
 use Rattle.dcm_base.specs.Place.{level, counts, depth, room, passes, is_data, is_undefined, is_allowed}
-use Rattle.dcm_base.specs.Stop.{Stop, refused, HeadBar, innermost_stop, is_the_data_set, opens_list}
+use Rattle.dcm_base.specs.Stop.{Stop, refused, HeadBar, innermost_stop, is_the_data_set, opens_list, is_undecided}
 use Rattle.dcm_base.specs.Reads.{INPUT_LIMIT}
 use Rattle.dcm_base.specs.Atoms.{Atom, value_byte}
-use Rattle.dcm_stream.specs.Reading.{Reading, start_of, Opened, closing, ends_at, closes, element_opens, item_opens, head_opens, full_closed, room_stop, settled, is_undecided, head_read, byte_read, read_byte}
+use Rattle.dcm_stream.specs.Reading.{Reading, start_of, Opened, closing, ends_at, closes, element_opens, item_opens, head_opens, full_closed, room_stop, settled, head_read, byte_read, read_byte}
 use Rattle.dcm_stream.specs.Bounds.{may_hold, are_nested, IsSmall, StaysSmall}
 use Rattle.dcm_stream.proofs.Judged.{NeverEarly, FitsHead, fits_element, fits_item, fits_delimiter, Fits, place_none, place_short}
 use Rattle.dcm_stream.proofs.Opening.{opens_element, opens_other}

@@ -13,12 +13,12 @@ use Rattle.dcm_base.specs.Bars.{is_fragment_form, is_above, no_bar, fragments_ba
 use Rattle.dcm_base.specs.Reads.{INPUT_LIMIT, Reads, ended}
 use Rattle.dcm_base.specs.Spelling.{form, SpellsFront}
 use Rattle.dcm_base.specs.Steps.{outputs}
-use Rattle.dcm_base.specs.Stop.{Stop, Bar, refused}
+use Rattle.dcm_base.specs.Stop.{Stop, Bar, refused, is_early, is_early_bar, is_undecided}
 use Rattle.dcm_base.proofs.Runs.{outputs-append}
 use Rattle.dcm_head.specs.declared.head.Head.{Head}
 use Rattle.dcm_stream.specs.declared.token.Bar.{Bar as SinkBar}
 use Rattle.dcm_stream.specs.declared.token.Bar.TheVariants.{Fragments, Order}
-use Rattle.dcm_stream.specs.Reading.{Reading, start_of, read_byte, reads_byte, read_all, finish, end_shows, is_early, is_early_bar, is_undecided}
+use Rattle.dcm_stream.specs.Reading.{Reading, start_of, read_byte, reads_byte, read_all, finish, end_shows}
 use Rattle.dcm_stream.specs.Follows.{BarsAs, GoesOn, HaltsAt, Answered}
 use Rattle.dcm_stream.specs.Judging.{fault_of, bars_head}
 use Rattle.dcm_stream.specs.Ascending.{reached_after, innermost}

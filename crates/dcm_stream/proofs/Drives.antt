@@ -10,7 +10,7 @@ use Rattle.dcm_base.specs.Atoms.{Atom, value_byte, closes_leaf}
 use Rattle.dcm_base.specs.Device.{AppendsFront}
 use Rattle.dcm_base.specs.Steps.{outputs}
 use Rattle.dcm_base.specs.Place.{room, passes}
-use Rattle.dcm_base.specs.Stop.{Stop, refused, innermost_stop}
+use Rattle.dcm_base.specs.Stop.{Stop, refused, innermost_stop, is_undecided}
 use Rattle.dcm_base.specs.Reads.{INPUT_LIMIT}
 use Rattle.dcm_base.proofs.Puts.{append_known_none}
 use Rattle.dcm_base.proofs.Runs.{goes_on, goes_failed}
@@ -19,7 +19,7 @@ use Rattle.dcm_stream.specs.declared.token.Bar.{Bar}
 use Rattle.dcm_stream.specs.declared.place.Place.{Place}
 use Rattle.dcm_stream.specs.declared.machine.Halt.{Halt}
 use Rattle.dcm_stream.specs.declared.machine.Halt.TheVariants.{Refused, Output}
-use Rattle.dcm_stream.specs.Reading.{Reading, halted, closing, settled, is_undecided, head_read, byte_read, read_byte}
+use Rattle.dcm_stream.specs.Reading.{Reading, halted, closing, settled, head_read, byte_read, read_byte}
 use Rattle.dcm_stream.specs.Judging.{bars_head}
 use Rattle.dcm_stream.specs.Machine.{steps, steps_write, went, halt_of, Comes, settles, settles_value, value_read, Feeds}
 use Rattle.dcm_stream.proofs.Judged.{place_waits}

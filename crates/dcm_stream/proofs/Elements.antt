@@ -20,7 +20,7 @@ use Rattle.dcm_base.specs.Tag.{is_item, is_item_end, is_sequence_end}
 use Rattle.dcm_base.specs.Head.{tag_at, vr_at, length_at, head_size, long_length}
 use Rattle.dcm_base.specs.Spelling.{form}
 use Rattle.dcm_base.specs.Place.{room, passes, depth, is_data, is_undefined, is_allowed}
-use Rattle.dcm_base.specs.Stop.{Stop, refused, HeadBar, first_case, is_empty, is_the_data_set, is_fragment_list, opens_list, has_no_form, with_length, barred, element_stop, item_stop, head_stop, place_stop}
+use Rattle.dcm_base.specs.Stop.{Stop, refused, HeadBar, first_case, is_empty, is_the_data_set, is_fragment_list, opens_list, has_no_form, with_length, barred, element_stop, item_stop, head_stop, place_stop, is_early}
 use Rattle.dcm_head.specs.declared.head.Head.{Head}
 use Rattle.dcm_head.specs.declared.head.HeadRead.TheVariants.{Done, More, BadVr}
 use Rattle.dcm_head.specs.HeadRead.{is_delimiter, element_read, tag_read}
@@ -32,7 +32,7 @@ use Rattle.dcm_base.specs.Atoms.{opens, opens_fragment}
 use Rattle.dcm_stream.specs.declared.judge.Opening.{Opening}
 use Rattle.dcm_stream.specs.declared.judge.Opening.TheVariants as opening
 use Rattle.dcm_stream.specs.declared.judge.Judged.TheVariants as judged
-use Rattle.dcm_stream.specs.Reading.{Opened, size_of, value_opens, closes, element_opens, item_opens, plain_opens, head_opens, is_early}
+use Rattle.dcm_stream.specs.Reading.{Opened, size_of, value_opens, closes, element_opens, item_opens, plain_opens, head_opens}
 use Rattle.dcm_stream.specs.Judging.{fault_of, shape_fault, item_fault, or_fault, element_fault, head_fault, opens_with, opened_by, OpensAs, JudgesHead, Judges}
 use Rattle.dcm_stream.proofs.Behind.{data_false}
 use Rattle.dcm_stream.proofs.Ends.{tests, is_empty_long, and_false}

@@ -7,7 +7,7 @@ use Rattle.std.proofs.lemmas.List.{take-append-drop}
 use Rattle.dcm_base.specs.declared.fault.Fault.TheVariants.{TooLong}
 use Rattle.dcm_base.specs.Atoms.{Atom, value_byte}
 use Rattle.dcm_base.specs.Steps.{outputs}
-use Rattle.dcm_base.specs.Stop.{Stop, refused, HeadBar, innermost_stop}
+use Rattle.dcm_base.specs.Stop.{Stop, refused, HeadBar, innermost_stop, is_undecided}
 use Rattle.dcm_base.specs.Reads.{INPUT_LIMIT}
 use Rattle.dcm_base.proofs.Puts.{append_known_none}
 use Rattle.dcm_base.proofs.Runs.{goes_on, goes_failed}
@@ -17,7 +17,7 @@ use Rattle.dcm_stream.specs.declared.place.Place.{Place}
 use Rattle.dcm_stream.specs.declared.machine.Halt.{Halt}
 use Rattle.dcm_stream.specs.declared.machine.Halt.TheVariants.{Refused, Output}
 use Rattle.dcm_base.specs.declared.syntax.Syntax.{Syntax}
-use Rattle.dcm_stream.specs.Reading.{Reading, start_of, halted, Opened, closing, settled, is_undecided, head_opens, head_read, byte_read, read_byte}
+use Rattle.dcm_stream.specs.Reading.{Reading, start_of, halted, Opened, closing, settled, head_opens, head_read, byte_read, read_byte}
 use Rattle.dcm_stream.specs.Judging.{bars_head}
 use Rattle.dcm_stream.specs.Machine.{steps, steps_write, reading, next_offset, Stands, Feeds}
 use Rattle.dcm_stream.proofs.Bounds.{stays_small, start_small}

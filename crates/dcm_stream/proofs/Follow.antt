@@ -15,13 +15,13 @@ use Rattle.dcm_base.specs.declared.level.Level.{Level}
 use Rattle.dcm_base.specs.declared.level.Container.TheVariants.{DataSet as the_data_set}
 use Rattle.dcm_base.specs.Place.{level, room, passes, levels, tree_levels}
 use Rattle.dcm_base.specs.Atoms.{Atom, ends, front_atoms, trees_then}
-use Rattle.dcm_base.specs.Stop.{Stop, complete, refused, Bar, HeadBar, stop_at, value_stop, innermost_stop, is_empty, is_the_data_set}
+use Rattle.dcm_base.specs.Stop.{Stop, complete, refused, Bar, HeadBar, stop_at, value_stop, innermost_stop, is_empty, is_the_data_set, is_undecided}
 use Rattle.dcm_base.specs.Reads.{Reads, INPUT_LIMIT, ended}
 use Rattle.dcm_base.proofs.Path.{Path, at_top, in_item, plug, Placed, set_stands}
 use Rattle.dcm_base.proofs.Levels.{plug_levels}
 use Rattle.dcm_base.proofs.Row.{trees_then-append}
 use Rattle.dcm_base.proofs.Reading.{reads_once}
-use Rattle.dcm_stream.specs.Reading.{Reading, start_of, halted, is_undecided, byte_read, read_byte, is_top, stop_at_end, finish, end_shows, drives_byte, reads_byte, read_all}
+use Rattle.dcm_stream.specs.Reading.{Reading, start_of, halted, byte_read, read_byte, is_top, stop_at_end, finish, end_shows, drives_byte, reads_byte, read_all}
 use Rattle.dcm_stream.specs.Follows.{BarsAs, GoesOn, HaltsAt, Follows, Answers, HaltsWhereDecided}
 use Rattle.dcm_stream.proofs.Full.{LeftIs, Opens, Stands}
 use Rattle.dcm_stream.proofs.Room.{passes_zero}

@@ -7,10 +7,10 @@ use Rattle.dcm_base.specs.declared.syntax.Syntax.{Syntax}
 use Rattle.dcm_base.specs.declared.fault.Fault.{Fault}
 use Rattle.dcm_base.specs.Atoms.{Atom}
 use Rattle.dcm_base.specs.Reads.{INPUT_LIMIT, Reads, ended}
-use Rattle.dcm_base.specs.Stop.{Stop, refused, Bar, HeadBar}
+use Rattle.dcm_base.specs.Stop.{Stop, refused, Bar, HeadBar, is_undecided}
 use Rattle.dcm_base.proofs.Heads.{some_same}
 use Rattle.dcm_base.proofs.Reading.{reads_once}
-use Rattle.dcm_stream.specs.Reading.{Reading, start_of, finish, is_undecided, reads_byte, read_all}
+use Rattle.dcm_stream.specs.Reading.{Reading, start_of, finish, reads_byte, read_all}
 use Rattle.dcm_stream.specs.Follows.{BarsAs, GoesOn, HaltsAt, Undecided, IsRefused, RefusedHere, CallRefuses, CallTells}
 use Rattle.dcm_stream.proofs.Follow.{follows, halts_where_decided}
 

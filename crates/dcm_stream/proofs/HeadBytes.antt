@@ -6,7 +6,7 @@ use Rattle.dcm_base.specs.declared.level.Level.{Level}
 use Rattle.dcm_base.specs.declared.fault.Fault.{Fault}
 use Rattle.dcm_base.specs.declared.fault.Fault.TheVariants.{EndsEarly}
 use Rattle.dcm_base.specs.Atoms.{Atom}
-use Rattle.dcm_base.specs.Stop.{Stop, refused, HeadBar, innermost_stop, place_stop}
+use Rattle.dcm_base.specs.Stop.{Stop, refused, HeadBar, innermost_stop, place_stop, is_early}
 use Rattle.dcm_base.specs.Reads.{INPUT_LIMIT}
 use Rattle.dcm_base.proofs.Puts.{append_known_none}
 use Rattle.dcm_head.specs.declared.head.Head.{Head}
@@ -19,7 +19,7 @@ use Rattle.dcm_stream.specs.declared.machine.Halt.{Halt}
 use Rattle.dcm_stream.specs.declared.machine.Halt.TheVariants.{Refused}
 use Rattle.dcm_stream.specs.Bounds.{are_nested}
 use Rattle.dcm_stream.specs.Places.{innermost}
-use Rattle.dcm_stream.specs.Reading.{Reading, halted, Opened, is_early, head_opens, head_read, byte_read, read_byte}
+use Rattle.dcm_stream.specs.Reading.{Reading, halted, Opened, head_opens, head_read, byte_read, read_byte}
 use Rattle.dcm_stream.specs.Judging.{bars_head, opened_by, Judges}
 use Rattle.dcm_stream.specs.Machine.{reading, Stands, Comes, entered, Feeds}
 use Rattle.dcm_stream.proofs.Bounds.{few, Small, levels_accept}

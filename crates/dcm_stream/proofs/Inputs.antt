@@ -7,12 +7,12 @@ use Rattle.dcm_base.specs.Atoms.{Atom, front_atoms}
 use Rattle.dcm_base.specs.Device.{AppendsFront, Puts}
 use Rattle.dcm_base.specs.Reads.{INPUT_LIMIT, Reads, ended}
 use Rattle.dcm_base.specs.Steps.{outputs, Goes}
-use Rattle.dcm_base.specs.Stop.{Bar, refused}
+use Rattle.dcm_base.specs.Stop.{Bar, refused, is_undecided}
 use Rattle.dcm_base.proofs.Puts.{front_longer, puts_behind}
 use Rattle.dcm_base.proofs.Runs.{outputs-append, goes_on}
 use Rattle.dcm_head.specs.declared.head.Head.{Head}
 use Rattle.dcm_stream.specs.declared.token.Bar.{Bar as SinkBar}
-use Rattle.dcm_stream.specs.Reading.{Reading, start_of, finish, end_shows, is_undecided}
+use Rattle.dcm_stream.specs.Reading.{Reading, start_of, finish, end_shows}
 use Rattle.dcm_stream.specs.Follows.{BarsAs}
 use Rattle.dcm_stream.specs.Machine.{steps, steps_write, Progress, well, GoesOver}
 use Rattle.dcm_stream.specs.Driven.{bars_by, driven, driven_output, begun, Shown, ShownSoFar}

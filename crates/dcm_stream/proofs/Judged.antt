@@ -16,10 +16,9 @@ use Rattle.dcm_base.specs.Head.{tag_at, vr_at, length_at, head_size, long_length
 use Rattle.dcm_base.specs.Spelling.{form}
 use Rattle.dcm_base.specs.declared.level.Level.{Level}
 use Rattle.dcm_base.specs.Place.{room, passes, depth, is_allowed, is_undefined}
-use Rattle.dcm_base.specs.Stop.{Stop, complete, refused, HeadBar, first_case, is_empty, is_the_data_set, is_fragment_list, opens_list, has_no_form, with_length, barred, element_stop, item_stop, head_stop, place_stop}
+use Rattle.dcm_base.specs.Stop.{Stop, complete, refused, HeadBar, first_case, is_empty, is_the_data_set, is_fragment_list, opens_list, has_no_form, with_length, barred, element_stop, item_stop, head_stop, place_stop, is_undecided, is_early_bar}
 use Rattle.dcm_base.proofs.Heads.{some_same}
 use Rattle.dcm_base.proofs.Between.{WholeHead}
-use Rattle.dcm_stream.specs.Reading.{is_undecided, is_early_bar}
 use Rattle.dcm_stream.proofs.Ends.{tests, element_tests}
 
 -- ---- no stop

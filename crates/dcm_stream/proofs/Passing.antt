@@ -14,14 +14,13 @@ use Rattle.dcm_base.specs.Head.{tag_at, vr_at, head_size}
 use Rattle.dcm_base.specs.Spelling.{SpellsFront}
 use Rattle.dcm_base.specs.declared.level.Level.{Level}
 use Rattle.dcm_base.specs.Place.{value_open}
-use Rattle.dcm_base.specs.Stop.{Stop, complete, refused, Bar, stop_at}
+use Rattle.dcm_base.specs.Stop.{Stop, complete, refused, Bar, stop_at, is_early, is_undecided}
 use Rattle.dcm_base.specs.Reads.{StopsFirst, Reads, INPUT_LIMIT, told, ended, at_the_cut, end_too_long}
 use Rattle.dcm_base.proofs.Extend.{tag_at_extends, vr_at_extends}
 use Rattle.dcm_base.proofs.Heads.{some_same, eight_le_head_size}
 use Rattle.dcm_base.proofs.Whole.{append_same}
 use Rattle.dcm_base.proofs.Fronts.{front_same}
 use Rattle.dcm_base.proofs.Between.{WholeHead, whole_head_extends, between, next_syntax}
-use Rattle.dcm_stream.specs.Reading.{is_early, is_undecided}
 use Rattle.dcm_stream.proofs.Ends.{stop_extends, none_extends}
 use Rattle.dcm_stream.proofs.Judged.{FitsHead, fits_element, fits_item, fits_delimiter, Fits}
 use Rattle.dcm_stream.proofs.Opening.{JustHead}

@@ -12,7 +12,7 @@ use Rattle.dcm_base.specs.Tag.{is_item}
 use Rattle.dcm_base.specs.Head.{tag_at, vr_at, length_at, head_size, long_length}
 use Rattle.dcm_base.specs.Spelling.{form}
 use Rattle.dcm_base.specs.Atoms.{Atom}
-use Rattle.dcm_base.specs.Stop.{Stop, refused, HeadBar, innermost_stop, place_stop}
+use Rattle.dcm_base.specs.Stop.{Stop, refused, HeadBar, innermost_stop, place_stop, is_undecided}
 use Rattle.dcm_base.specs.Reads.{INPUT_LIMIT}
 use Rattle.dcm_base.proofs.Between.{WholeHead}
 use Rattle.dcm_base.proofs.Extend.{tag_at_extends, vr_at_extends, length_at_extends, number_behind_extends}
@@ -26,7 +26,7 @@ use Rattle.dcm_stream.specs.declared.place.Place.{Place}
 use Rattle.dcm_stream.specs.declared.machine.Halt.{Halt}
 use Rattle.dcm_stream.specs.declared.machine.Halt.TheVariants.{Refused}
 use Rattle.dcm_stream.specs.Places.{innermost}
-use Rattle.dcm_stream.specs.Reading.{Reading, Opened, halted, is_undecided, closes, element_opens, item_opens, head_opens}
+use Rattle.dcm_stream.specs.Reading.{Reading, Opened, halted, closes, element_opens, item_opens, head_opens}
 use Rattle.dcm_stream.specs.Judging.{bars_head, opened_by, Judges}
 use Rattle.dcm_stream.specs.Machine.{reading, Stands, Comes, entered, Feeds}
 use Rattle.dcm_stream.proofs.Bounds.{few, Small, levels_accept}

@@ -7,11 +7,11 @@ use Rattle.dcm_base.specs.Front.{Front, front, nothing_open}
 use Rattle.dcm_base.specs.Tree.{no_tree}
 use Rattle.dcm_base.specs.Atoms.{Atom}
 use Rattle.dcm_base.specs.Spelling.{form}
-use Rattle.dcm_base.specs.Stop.{Stop, Bar, HeadBar}
+use Rattle.dcm_base.specs.Stop.{Stop, Bar, HeadBar, is_early_bar}
 use Rattle.dcm_base.specs.Bars.{no_bar, ascending_bar, fragments_bar, target_bar, is_fragment_form}
 use Rattle.dcm_base.specs.Reads.{INPUT_LIMIT, Reads}
 use Rattle.dcm_stream.specs.Ascending.{ascending}
-use Rattle.dcm_stream.specs.Reading.{finish, read_all, is_early_bar}
+use Rattle.dcm_stream.specs.Reading.{finish, read_all}
 use Rattle.dcm_stream.specs.Follows.{BarsAs}
 use Rattle.dcm_stream.proofs.Follow.{answers}
 use Rattle.dcm_stream.proofs.Ascending.{ascending_bars}

@@ -10,14 +10,14 @@ use Rattle.dcm_base.specs.Spelling.{SpellsFront}
 use Rattle.dcm_base.specs.declared.level.Level.{Level}
 use Rattle.dcm_base.specs.Place.{room, passes, levels, tree_levels, value_open}
 use Rattle.dcm_base.specs.Atoms.{Atom, value_byte, front_atoms, Shows}
-use Rattle.dcm_base.specs.Stop.{Stop, complete, refused, Bar, HeadBar, stop_at, value_stop, innermost_stop, place_stop}
+use Rattle.dcm_base.specs.Stop.{Stop, complete, refused, Bar, HeadBar, stop_at, value_stop, innermost_stop, place_stop, is_undecided}
 use Rattle.dcm_base.specs.Reads.{INPUT_LIMIT}
 use Rattle.dcm_base.proofs.Path.{Path, at_top, in_item, plug, syntax_of, Placed}
 use Rattle.dcm_base.proofs.Levels.{around, plug_levels}
 use Rattle.dcm_base.proofs.Stops.{set_level, value_open_plug}
 use Rattle.dcm_base.proofs.Shown.{front_shown}
 use Rattle.dcm_base.proofs.Between.{WholeHead, next_syntax, next_in_tree}
-use Rattle.dcm_stream.specs.Reading.{Reading, halted, Opened, closing, head_opens, full_closed, settled, is_undecided, head_read}
+use Rattle.dcm_stream.specs.Reading.{Reading, halted, Opened, closing, head_opens, full_closed, settled, head_read}
 use Rattle.dcm_stream.specs.Follows.{BarsAs, HaltsAt}
 use Rattle.dcm_stream.proofs.Judged.{place_end, place_short, place_none, place_begins, place_no_room, Fits}
 use Rattle.dcm_stream.proofs.Full.{LeftIs, Opens, Stands, list_level, settles}

@@ -8,14 +8,14 @@ use Rattle.dcm_base.specs.declared.level.Level.{Level}
 use Rattle.dcm_base.specs.declared.fault.Fault.{Fault}
 use Rattle.dcm_base.specs.Atoms.{Atom}
 use Rattle.dcm_base.specs.Steps.{outputs}
-use Rattle.dcm_base.specs.Stop.{Stop, refused, innermost_stop}
+use Rattle.dcm_base.specs.Stop.{Stop, refused, innermost_stop, is_early, is_undecided}
 use Rattle.dcm_base.specs.Reads.{INPUT_LIMIT}
 use Rattle.dcm_base.proofs.Puts.{append_known_none}
 use Rattle.dcm_head.specs.declared.head.Head.{Head}
 use Rattle.dcm_stream.specs.declared.token.Bar.{Bar}
 use Rattle.dcm_stream.specs.declared.machine.Halt.{Halt}
 use Rattle.dcm_stream.specs.declared.machine.Halt.TheVariants.{Refused}
-use Rattle.dcm_stream.specs.Reading.{Reading, halted, is_early, is_undecided, head_opens, head_read, byte_read, read_byte, settled}
+use Rattle.dcm_stream.specs.Reading.{Reading, halted, head_opens, head_read, byte_read, read_byte, settled}
 use Rattle.dcm_stream.specs.Judging.{bars_head}
 use Rattle.dcm_stream.specs.Machine.{steps, steps_write, Comes, Feeds}
 use Rattle.dcm_stream.proofs.Ends.{innermost_extends}

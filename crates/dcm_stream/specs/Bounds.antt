@@ -7,8 +7,8 @@ use Rattle.dcm_base.specs.declared.level.Container.{Container}
 use Rattle.dcm_base.specs.declared.level.Level.{Level}
 use Rattle.dcm_base.specs.declared.level.Container.TheVariants.{DataSet as the_data_set, Item as an_item, Sequence as a_sequence, FragmentList as a_fragment_list}
 use Rattle.dcm_base.specs.Place.{depth, room, passes}
-use Rattle.dcm_base.specs.Stop.{HeadBar, is_the_data_set}
-use Rattle.dcm_stream.specs.Reading.{Reading, read_byte, is_early_bar}
+use Rattle.dcm_base.specs.Stop.{HeadBar, is_the_data_set, is_early_bar}
+use Rattle.dcm_stream.specs.Reading.{Reading, read_byte}
 
 -- which container may stand directly in which (PS3.5 7.5, A.4)
 abbrev pub may_hold : (outer inner : Container) → Bool

@@ -14,11 +14,11 @@ use Rattle.dcm_base.specs.Front.{Front}
 use Rattle.dcm_base.specs.Reads.{Reads, ended}
 use Rattle.dcm_base.specs.Spelling.{form}
 use Rattle.dcm_base.specs.Steps.{outputs}
-use Rattle.dcm_base.specs.Stop.{Bar, HeadBar, Stop, refused}
+use Rattle.dcm_base.specs.Stop.{Bar, HeadBar, Stop, refused, is_early, is_undecided, is_early_bar}
 use Rattle.dcm_head.specs.declared.head.Head.{Head}
 use Rattle.dcm_stream.specs.declared.token.Bar.{Bar as SinkBar}
 use Rattle.dcm_stream.specs.declared.token.Bar.TheVariants.{Fragments, Order}
-use Rattle.dcm_stream.specs.Reading.{Reading, start_of, finish, end_shows, is_early, is_undecided, read_all, is_early_bar}
+use Rattle.dcm_stream.specs.Reading.{Reading, start_of, finish, end_shows, read_all}
 use Rattle.dcm_stream.specs.Judging.{bars_head}
 use Rattle.dcm_stream.specs.Ascending.{reached_after, innermost}
 use Rattle.dcm_stream.specs.Machine.{steps, steps_write, Progress}

@@ -9,9 +9,9 @@ use Rattle.dcm_base.specs.Front.{Front}
 use Rattle.dcm_base.specs.Spelling.{SpellsFront}
 use Rattle.dcm_base.specs.Place.{levels}
 use Rattle.dcm_base.specs.Atoms.{Atom, Shows, front_atoms}
-use Rattle.dcm_base.specs.Stop.{Stop, Bar, HeadBar, refused}
+use Rattle.dcm_base.specs.Stop.{Stop, Bar, HeadBar, refused, is_early, is_early_bar, is_undecided}
 use Rattle.dcm_base.specs.Reads.{INPUT_LIMIT, Reads, ended}
-use Rattle.dcm_stream.specs.Reading.{Reading, finish, end_shows, is_early, is_early_bar, is_undecided, read_all, reads_byte}
+use Rattle.dcm_stream.specs.Reading.{Reading, finish, end_shows, read_all, reads_byte}
 
 -- heads are barred by the atoms so far as by the data set that they show, and never with an early end
 pub record BarsAs (bars : List Atom → HeadBar) (bar : Bar) : Type 0 where

@@ -11,7 +11,7 @@ use Rattle.dcm_base.specs.declared.fault.Fault.TheVariants.{EndsEarly, Undefined
 use Rattle.dcm_base.specs.Atoms.{Atom, opens, opens_item, opens_fragment}
 use Rattle.dcm_base.specs.declared.level.Container.TheVariants.{Item as an_item, Sequence as a_sequence, FragmentList as a_fragment_list}
 use Rattle.dcm_base.specs.Place.{level, room, passes, depth, is_undefined}
-use Rattle.dcm_base.specs.Stop.{refused, HeadBar, opens_list, has_no_form, is_fragment_list, with_length, place_stop}
+use Rattle.dcm_base.specs.Stop.{refused, HeadBar, opens_list, has_no_form, is_fragment_list, with_length, place_stop, is_early}
 use Rattle.dcm_base.specs.Head.{tag_at}
 use Rattle.dcm_base.specs.Tag.{is_item}
 use Rattle.dcm_base.specs.Spelling.{form, inside}
@@ -24,7 +24,7 @@ use Rattle.dcm_stream.specs.declared.judge.Opening.{Opening}
 use Rattle.dcm_stream.specs.declared.judge.Opening.TheVariants as opening
 use Rattle.dcm_stream.specs.declared.judge.Judged.{Judged}
 use Rattle.dcm_stream.specs.declared.judge.Judged.TheVariants as judged
-use Rattle.dcm_stream.specs.Reading.{Opened, value_opens, container_opens, element_opens, item_opens, head_opens, closes, is_early}
+use Rattle.dcm_stream.specs.Reading.{Opened, value_opens, container_opens, element_opens, item_opens, head_opens, closes}
 
 -- the fault by which a sink's bar is told
 abbrev pub fault_of : Bar → Fault

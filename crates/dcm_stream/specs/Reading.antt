@@ -4,7 +4,7 @@ use Rattle.dcm_base.specs.declared.tag.Tag.{Tag}
 use Rattle.dcm_base.specs.declared.vr.Vr.{Vr}
 use Rattle.dcm_base.specs.declared.syntax.Syntax.{Syntax}
 use Rattle.dcm_base.specs.declared.fault.Fault.{Fault}
-use Rattle.dcm_base.specs.declared.fault.Fault.TheVariants.{EndsEarly, PassesEnd, TooLong}
+use Rattle.dcm_base.specs.declared.fault.Fault.TheVariants.{PassesEnd, TooLong}
 use Rattle.dcm_base.specs.declared.length.Length.{Length}
 use Rattle.dcm_base.specs.declared.length.Length.TheVariants.{Known, Undefined}
 use Rattle.dcm_base.specs.Number.{number}
@@ -18,7 +18,7 @@ use Rattle.dcm_base.specs.declared.level.Level.{Level}
 use Rattle.dcm_base.specs.declared.level.Container.TheVariants.{DataSet as the_data_set, Item as an_item, Sequence as sequence_container, FragmentList as fragment_container}
 use Rattle.dcm_base.specs.Place.{level, room, passes}
 use Rattle.dcm_base.specs.Atoms.{Atom, opens, value_byte, closes_leaf, opens_item, closes_item, closes_sequence, opens_fragment, ends}
-use Rattle.dcm_base.specs.Stop.{Stop, complete, refused, HeadBar, innermost_stop, is_empty, is_the_data_set}
+use Rattle.dcm_base.specs.Stop.{Stop, complete, refused, HeadBar, innermost_stop, is_empty, is_the_data_set, is_undecided}
 use Rattle.dcm_base.specs.Reads.{INPUT_LIMIT}
 
 -- the offset up to which whole heads and values were read, the bytes of a head behind it, how many bytes of a value are to come, the open containers, the innermost first, and why it goes no further
@@ -109,20 +109,6 @@ settled position o zero =
     let closed = full_closed position o.levels in
     (record { position = position; head = []; left = 0; levels = closed.0; halt = room_stop position closed.0 }, o.atoms ++ closed.1)
 settled position o (suc left) = (record { position = position; head = []; left = suc left; levels = o.levels; halt = None }, o.atoms)
-
-abbrev pub is_early : Fault → Bool
-is_early EndsEarly = true
-is_early _ = false
-
-abbrev pub is_early_bar : Option Fault → Bool
-is_early_bar None = false
-is_early_bar (Some fault) = is_early fault
-
--- whether more bytes may still come to another end
-abbrev pub is_undecided : Option Stop → Bool
-is_undecided None = false
-is_undecided (Some complete) = true
-is_undecided (Some (refused fault offset)) = is_early fault
 
 abbrev pub head_read : Reading → List ℕ → Option Stop → Reading × List Atom
 head_read r head None =

@@ -17,10 +17,10 @@ use Rattle.dcm_base.specs.Tag.{is_item, is_item_end, is_sequence_end}
 use Rattle.dcm_base.specs.Head.{tag_at, vr_at, length_at, long_length, head_size}
 use Rattle.dcm_base.specs.Spelling.{form}
 use Rattle.dcm_base.specs.Place.{room, passes, depth, is_data, is_undefined, is_allowed}
-use Rattle.dcm_base.specs.Stop.{Stop, complete, refused, HeadBar, first_case, is_empty, is_the_data_set, opens_list, has_no_form, with_length, barred, element_stop, item_stop, head_stop, place_stop, innermost_stop}
+use Rattle.dcm_base.specs.Stop.{Stop, complete, refused, HeadBar, first_case, is_empty, is_the_data_set, opens_list, has_no_form, with_length, barred, element_stop, item_stop, head_stop, place_stop, innermost_stop, is_undecided}
 use Rattle.dcm_base.specs.Reads.{INPUT_LIMIT}
 use Rattle.dcm_base.specs.Atoms.{Atom, opens, value_byte, closes_leaf, opens_item, closes_item, closes_sequence, opens_fragment, ends}
-use Rattle.dcm_stream.specs.Reading.{Reading, start_of, Opened, closing, size_of, ends_at, closes, element_opens, item_opens, head_opens, full_closed, settled, is_undecided, head_read, byte_read, read_byte, reads_byte, read_all, end_shows}
+use Rattle.dcm_stream.specs.Reading.{Reading, start_of, Opened, closing, size_of, ends_at, closes, element_opens, item_opens, head_opens, full_closed, settled, head_read, byte_read, read_byte, reads_byte, read_all, end_shows}
 use Rattle.dcm_stream.proofs.Ends.{tests}
 use Rattle.dcm_stream.proofs.Judged.{FitsHead, fits_element, fits_item, fits_delimiter, Fits, place_none}
 use Rattle.dcm_stream.proofs.Opening.{opens_element, opens_other}

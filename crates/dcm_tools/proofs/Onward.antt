@@ -16,12 +16,12 @@ use Rattle.dcm_base.specs.Head.{ElementHead, ItemHead, Delimiter, tag_at, vr_at,
 use Rattle.dcm_base.specs.Spelling.{form}
 use Rattle.dcm_base.specs.declared.level.Level.{Level}
 use Rattle.dcm_base.specs.Place.{room, passes, depth, is_allowed, is_undefined, least, distance}
-use Rattle.dcm_base.specs.Stop.{Stop, refused, HeadBar, is_empty, is_the_data_set, is_fragment_list, opens_list, has_no_form, with_length, barred, element_stop, item_stop, head_stop, place_stop, first_case}
+use Rattle.dcm_base.specs.Stop.{Stop, refused, HeadBar, is_empty, is_the_data_set, is_fragment_list, opens_list, has_no_form, with_length, barred, element_stop, item_stop, head_stop, place_stop, first_case, is_undecided}
 use Rattle.dcm_base.specs.Reads.{INPUT_LIMIT}
 use Rattle.dcm_base.specs.Atoms.{value_byte, Atom}
 use Rattle.dcm_base.proofs.Extend.{tag_at_extends, vr_at_extends}
 use Rattle.dcm_base.proofs.Heads.{some_same, eight_le_head_size}
-use Rattle.dcm_stream.specs.Reading.{Reading, Opened, closing, element_opens, item_opens, head_opens, ends_at, closes, full_closed, settled, is_undecided, head_read, byte_read, read_byte}
+use Rattle.dcm_stream.specs.Reading.{Reading, Opened, closing, element_opens, item_opens, head_opens, ends_at, closes, full_closed, settled, head_read, byte_read, read_byte}
 use Rattle.dcm_stream.proofs.Ends.{tests, element_tests, place_extends}
 use Rattle.dcm_stream.proofs.Judged.{FitsHead, fits_element, fits_item, fits_delimiter, Fits, place_none}
 use Rattle.dcm_stream.proofs.Opening.{JustHead, opens_element, opens_other}

@@ -16,7 +16,7 @@ use Rattle.dcm_base.specs.Number.{AreBytes}
 use Rattle.dcm_base.specs.Spelling.{form, last_tag, TreesAt, SpellsFront}
 use Rattle.dcm_base.specs.declared.level.Container.TheVariants.{DataSet as the_data_set}
 use Rattle.dcm_base.specs.Place.{depth}
-use Rattle.dcm_base.specs.Stop.{Stop, complete, refused, Bar, HeadBar, is_empty}
+use Rattle.dcm_base.specs.Stop.{Stop, complete, refused, Bar, HeadBar, is_empty, is_early_bar}
 use Rattle.dcm_base.specs.Bars.{is_fragment_form, target_bar}
 use Rattle.dcm_base.specs.Reads.{INPUT_LIMIT, Reads, ended}
 use Rattle.dcm_base.specs.Recode.{recode, recode_set}
@@ -25,7 +25,7 @@ use Rattle.dcm_base.specs.Atoms.{Atom, ends, front_atoms, trees_then}
 use Rattle.dcm_base.proofs.TextsBack.{bytes_of}
 use Rattle.dcm_base.proofs.Whole.{trees_same, at_end_NoElement}
 use Rattle.dcm_base.proofs.Reading.{reads_once}
-use Rattle.dcm_stream.specs.Reading.{Reading, start_of, is_early_bar, reads_byte, read_all, read_byte, is_top, stop_at_end, finish, end_shows}
+use Rattle.dcm_stream.specs.Reading.{Reading, start_of, reads_byte, read_all, read_byte, is_top, stop_at_end, finish, end_shows}
 use Rattle.dcm_stream.specs.Follows.{BarsAs}
 use Rattle.dcm_stream.proofs.Follow.{answers, follows}
 use Rattle.dcm_tools.specs.Laws.{StaysShallow}

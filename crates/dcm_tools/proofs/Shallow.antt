@@ -18,10 +18,10 @@ use Rattle.dcm_base.specs.Head.{tag_at, length_at, long_length}
 use Rattle.dcm_base.specs.declared.length.Length.TheVariants.{Undefined}
 use Rattle.dcm_base.specs.Spelling.{form, inside}
 use Rattle.dcm_base.specs.Place.{level, counts, depth, is_allowed}
-use Rattle.dcm_base.specs.Stop.{Stop, complete, refused, HeadBar, innermost_stop, is_the_data_set, opens_list}
+use Rattle.dcm_base.specs.Stop.{Stop, complete, refused, HeadBar, innermost_stop, is_the_data_set, opens_list, is_undecided}
 use Rattle.dcm_base.specs.Reads.{INPUT_LIMIT}
 use Rattle.dcm_base.specs.Atoms.{Atom, opens, value_byte, closes_leaf, opens_item, opens_fragment, ends}
-use Rattle.dcm_stream.specs.Reading.{Reading, start_of, Opened, closing, size_of, ends_at, closes, element_opens, item_opens, head_opens, full_closed, settled, is_undecided, head_read, byte_read, read_byte, reads_byte, read_all, end_shows}
+use Rattle.dcm_stream.specs.Reading.{Reading, start_of, Opened, closing, size_of, ends_at, closes, element_opens, item_opens, head_opens, full_closed, settled, head_read, byte_read, read_byte, reads_byte, read_all, end_shows}
 use Rattle.dcm_stream.specs.Bounds.{may_hold, are_nested, IsSmall}
 use Rattle.dcm_stream.proofs.Bounds.{Small, levels_accept, stays_small, start_small}
 use Rattle.dcm_stream.proofs.Behind.{data_false}
