@@ -6,7 +6,7 @@ use Rattle.dcm_base.specs.Steps.{outputs}
 use Rattle.dcm_base.specs.Build.{first_fault, without_return}
 use Rattle.dcm_base.specs.Line.{Step, means}
 use Rattle.dcm_tools.specs.EncodeSink.{encode_step, encode_writes}
-use Rattle.dcm_tools.specs.declared.encoder.Encoder.{Encoder}
+use Rattle.dcm_tools.specs.declared.encode.encoder.Encoder.{Encoder}
 use Rattle.dcm_tools.specs.Encoder as encoders
 use Rattle.dcm_build.specs.declared.file.NewFile.{NewFile}
 use Rattle.dcm_build.specs.declared.file.Stopped.{Stopped}

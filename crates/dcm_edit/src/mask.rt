@@ -140,7 +140,7 @@ pub fn answering<A: Allocator>(
 }
 
 /// Whether an edit of a mask answers yes.
-#[tactic(auto, using(crate::proofs::Skips::any_skips, crate::proofs::Skips::any_next))]
+#[tactic(auto, using(crate::proofs::Masks::Skips::any_skips, crate::proofs::Masks::Skips::any_next))]
 pub fn any_answers<A: Allocator>(
     edits: &[Edit<A>],
     depth: usize,
@@ -163,7 +163,7 @@ pub fn any_answers<A: Allocator>(
 
 /// Whether an edit of a mask changes an element with this tag, or puts another one between the last one and it. Each element of
 /// an input is asked for, so this is not one question of many.
-#[tactic(auto, using(crate::proofs::Skips::any_skips, crate::proofs::Skips::any_next))]
+#[tactic(auto, using(crate::proofs::Masks::Skips::any_skips, crate::proofs::Masks::Skips::any_next))]
 pub fn any_meets<A: Allocator>(
     edits: &[Edit<A>],
     depth: usize,
@@ -202,7 +202,7 @@ fn fate_in<A: Allocator>(
 }
 
 /// What the first edit of a mask that changes an element makes of it.
-#[tactic(auto, using(crate::proofs::Skips::fate_skips, crate::proofs::Skips::fate_next))]
+#[tactic(auto, using(crate::proofs::Masks::Skips::fate_skips, crate::proofs::Masks::Skips::fate_next))]
 pub fn first_fate<A: Allocator>(edits: &[Edit<A>], depth: usize, mask: u64, tag: Tag) -> Fate<'_, A>
     requires few { length edits.now ≤ 64 }
     ensures { asking.fate_of result ≡ together.first_fate (masks.asked depth mask 0 (map edit_of edits.now)) tag }
@@ -250,7 +250,7 @@ fn new_in<A: Allocator>(
 }
 
 /// The new element with the least tag in a gap, of the edits of a mask.
-#[tactic(auto, using(crate::proofs::Skips::least_skips, crate::proofs::Skips::least_next))]
+#[tactic(auto, using(crate::proofs::Masks::Skips::least_skips, crate::proofs::Masks::Skips::least_next))]
 pub fn least_new<A: Allocator>(
     edits: &[Edit<A>],
     depth: usize,

@@ -171,7 +171,7 @@ impl OpenLevels {
     }
 
     /// The bytes up to the nearest known end.
-    #[tactic(auto, using(crate::proofs::Rooms::room_is))]
+    #[tactic(auto, using(crate::proofs::Containers::Rooms::room_is))]
     pub fn room(&self, position: u64) -> Option<u64>
         ensures { result ≡ spec.room position self.now }
     {

@@ -44,7 +44,7 @@ impl Skip {
     }
 
     /// Goes over a token, at which nothing begins to be left out.
-    #[tactic(auto, using(crate::proofs::Skipped::bytes_change_nothing))]
+    #[tactic(auto, using(crate::proofs::Runs::Skipped::bytes_change_nothing))]
     pub fn pass(&mut self, token: Token)
         ensures { spec.depth self.new ≡ fold spec.after (spec.depth self.old) (atoms_of token.entry) }
     {

@@ -20,8 +20,8 @@ use Rattle.dcm_head.specs.declared.head.Head.{Head}
 use Rattle.dcm_stream.specs.declared.token.Bar.{Bar}
 use Rattle.dcm_value.specs.Display.{at_once}
 use Rattle.dcm_value.specs.Progress.{Progress, started, opening, opened, step, writes, finishes, multiplicity}
-use Rattle.dcm_tools.specs.declared.lines.Owner.{Owner}
-use Rattle.dcm_tools.specs.declared.lines.Owner.TheVariants.{Element, Fragment}
+use Rattle.dcm_tools.specs.declared.dump.lines.Owner.{Owner}
+use Rattle.dcm_tools.specs.declared.dump.lines.Owner.TheVariants.{Element, Fragment}
 use Rattle.dcm_tools.specs.Layout.{line_rest}
 use Rattle.dcm_tools.specs.Lengths.{MOST_OPEN, innermost, outer}
 

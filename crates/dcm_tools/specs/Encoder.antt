@@ -1,8 +1,8 @@
 -- What an `Encoder` stands for.
 use Rattle.std.specs.Prelude.{Option, None, Some}
 use Rattle.dcm_stream.specs.Skip.{depth}
-use Rattle.dcm_tools.specs.declared.copier.Copier.{Copier}
-use Rattle.dcm_tools.specs.declared.encoder.Encoder.{Encoder}
+use Rattle.dcm_tools.specs.declared.encode.copier.Copier.{Copier}
+use Rattle.dcm_tools.specs.declared.encode.encoder.Encoder.{Encoder}
 use Rattle.dcm_tools.specs.Copier.{copying}
 use Rattle.dcm_tools.specs.EncodeSink.{Copying, EncodeState}
 

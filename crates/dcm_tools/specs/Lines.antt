@@ -1,8 +1,8 @@
 -- What `Lines` stand for.
 use Rattle.std.specs.Prelude.{Option, None, Some}
 use Rattle.dcm_value.specs.ValueText.{progress}
-use Rattle.dcm_tools.specs.declared.lines.Lines.{Lines}
-use Rattle.dcm_tools.specs.declared.lines.OpenValue as shown
+use Rattle.dcm_tools.specs.declared.dump.lines.Lines.{Lines}
+use Rattle.dcm_tools.specs.declared.dump.lines.OpenValue as shown
 use Rattle.dcm_tools.specs.DumpSink.{DumpState, OpenValue, no_value, open_value}
 
 abbrev pub value_of : Option shown.OpenValue → OpenValue

@@ -3,7 +3,15 @@ ghost use Rattle.std.specs.Prelude.{◌≡◌};
 ghost use Rattle.std.specs.Borrow.{GName};
 ghost use Rattle.dcm_tools.specs.DumpSink.{DumpState, dump_step, dump_writes, dump_start, bars_nothing};
 
-use crate::lines::Lines;
+mod header;
+mod layout;
+mod lengths;
+mod lines;
+
+pub use header::{dump_header, set_header};
+pub use lengths::MOST_OPEN;
+
+use crate::dump::lines::Lines;
 use dcm_base::{DeviceOut, Mode, Watched, WriteFailed};
 use dcm_head::Head;
 use dcm_stream::{Bar, Sink, Token};

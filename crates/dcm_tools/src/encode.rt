@@ -3,7 +3,11 @@ ghost use Rattle.std.specs.Prelude.{◌≡◌};
 ghost use Rattle.std.specs.Borrow.{GName};
 ghost use Rattle.dcm_tools.specs.EncodeSink.{EncodeState, encode_step, encode_writes, encode_start, encode_bar};
 
-use crate::encoder::Encoder;
+mod copier;
+mod encoder;
+
+pub use encoder::{Encoder, leaf_head};
+
 use dcm_base::{DeviceOut, Form, Syntax, Watched, WriteFailed, form_of};
 use dcm_head::Head;
 use dcm_stream::{Bar, Sink, Token};

@@ -14,18 +14,9 @@
 //!     assert!(rt; out.device().written().starts_with(b"(0010,0010) PN [AB^CD] "));
 #![tactic(auto)]
 
-mod copier;
 mod dump;
 mod encode;
-mod encoder;
-mod header;
 pub mod laws;
-mod layout;
-mod lengths;
-mod lines;
 
-pub use dump::DumpSink;
-pub use encode::EncodeSink;
-pub use encoder::{Encoder, leaf_head};
-pub use header::{dump_header, set_header};
-pub use lengths::MOST_OPEN;
+pub use dump::{DumpSink, MOST_OPEN, dump_header, set_header};
+pub use encode::{EncodeSink, Encoder, leaf_head};

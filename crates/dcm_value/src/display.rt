@@ -33,7 +33,7 @@ fn fill(front: &mut ArrayVec<u8, 66>, bytes: &[u8])
 }
 
 /// A display, with spaces up to 40 bytes.
-#[tactic(auto, using(crate::proofs::Shows::spaces))]
+#[tactic(auto, using(crate::proofs::Displays::Facts::spaces))]
 fn padded(display: &[u8]) -> ArrayVec<u8, 66>
     requires { length display.now ≤ 66 }
     ensures { result.items ≡ padded_to_40 display.now }
@@ -47,7 +47,7 @@ fn padded(display: &[u8]) -> ArrayVec<u8, 66>
 }
 
 /// Spaces up to 40 bytes.
-#[tactic(auto, using(crate::proofs::Shows::spaces))]
+#[tactic(auto, using(crate::proofs::Displays::Facts::spaces))]
 fn pad<W: DeviceOut>(shown: usize, out: &mut Watched<W>) -> Result<(), WriteFailed>
     ensures bytes { Puts (W.contents out.old) (W.contents out.new) (replicate (40 - shown) 32) result }
     ensures failed { Tells (W.has_failed out.old) (W.has_failed out.new) result }

@@ -1,4 +1,4 @@
-use Rattle.dcm_base.proofs.PartsOut.{parts_failed}
+use Rattle.dcm_base.proofs.Writes.PartsOut.{parts_failed}
 use Rattle.dcm_base.proofs.calls.put_parts.Goals as goal
 
 pub returns-in_err-put_all-clause-bytes : goal.returns-in_err-put_all-clause-bytes

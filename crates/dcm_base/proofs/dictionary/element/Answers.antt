@@ -1,4 +1,4 @@
-use Rattle.dcm_base.proofs.Numbered.{rows_ascend}
+use Rattle.dcm_base.proofs.Dictionaries.ByNumber.{rows_ascend}
 use Rattle.dcm_base.proofs.dictionary.element.Goals as goal
 
 -- the table's numbers ascend

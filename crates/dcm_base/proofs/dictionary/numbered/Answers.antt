@@ -1,6 +1,6 @@
 use Rattle.std.proofs.Common.{sym, rules}
 use Rattle.std.proofs.lemmas.List.Sorted.{answers_always}
-use Rattle.dcm_base.proofs.Numbered.{found, missed}
+use Rattle.dcm_base.proofs.Dictionaries.ByNumber.{found, missed}
 use Rattle.dcm_base.proofs.dictionary.numbered.Goals as goal
 
 -- the row at the place is the first with the number

@@ -1,4 +1,4 @@
-use Rattle.dcm_base.proofs.NormalForm.{recodes_normal, normal_once}
+use Rattle.dcm_base.proofs.Conversions.NormalForm.{recodes_normal, normal_once}
 use Rattle.dcm_base.proofs.laws.normal_recodes.Goals as goal
 
 pub returns : goal.returns

@@ -1,4 +1,4 @@
-use Rattle.dcm_base.proofs.Rebuilt.{recodes_same}
+use Rattle.dcm_base.proofs.DumpsBack.Losses.{recodes_same}
 use Rattle.dcm_base.proofs.laws.rebuilt_recodes.Goals as goal
 
 pub returns : goal.returns

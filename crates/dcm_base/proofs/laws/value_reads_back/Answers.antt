@@ -1,5 +1,5 @@
-use Rattle.dcm_base.proofs.TextsBack.{bytes_of}
-use Rattle.dcm_base.proofs.ValuesBack.{value_back}
+use Rattle.dcm_base.proofs.DumpsBack.Texts.{bytes_of}
+use Rattle.dcm_base.proofs.DumpsBack.Values.{value_back}
 use Rattle.dcm_base.proofs.laws.value_reads_back.Goals as goal
 
 pub returns : goal.returns

@@ -1,6 +1,6 @@
 use Rattle.std.proofs.Common.{◌∙◌, Err, refl}
-use Rattle.dcm_base.proofs.Puts.{puts_err}
-use Rattle.dcm_stream.proofs.Handed.{handed_more, handed_failed}
+use Rattle.dcm_base.proofs.Writes.Puts.{puts_err}
+use Rattle.dcm_stream.proofs.Runs.Tokens.{handed_more, handed_failed}
 use Rattle.dcm_tools.specs.EncodeSink.{encode_step, encode_writes}
 use Rattle.dcm_tools.specs.Encoder.{state}
 use Rattle.dcm_build.proofs.file.put_tokens.Goals as goal

@@ -1,5 +1,5 @@
 use Rattle.std.proofs.Common.{◌∙◌, ap, take}
-use Rattle.dcm_head.proofs.Transfers.{pads_front}
+use Rattle.dcm_head.proofs.MetaGroups.Transfers.{pads_front}
 use Rattle.dcm_build.proofs.group.without_pads.Goals as goal
 
 pub returns-clause-value : goal.returns-clause-value

@@ -1,5 +1,5 @@
-use Rattle.dcm_build.proofs.BuildRuns.{whole, so_far, refused}
-use Rattle.dcm_build.proofs.Halts.{goes_where, call_refuses, call_tells}
+use Rattle.dcm_build.proofs.Files.Runs.{whole, so_far, refused}
+use Rattle.dcm_build.proofs.Files.Halts.{goes_where, call_refuses, call_tells}
 use Rattle.dcm_build.proofs.laws.build_steps.Goals as goal
 
 pub returns : goal.returns

@@ -1,5 +1,5 @@
-use Rattle.dcm_build.proofs.DumpBuilds.{dump_builds}
-use Rattle.dcm_build.proofs.FilesBuild.{file_builds}
+use Rattle.dcm_build.proofs.Rebuilds.DumpBuilds.{dump_builds}
+use Rattle.dcm_build.proofs.Rebuilds.FilesBuild.{file_builds}
 use Rattle.dcm_build.proofs.laws.dump_builds.Goals as goal
 
 pub returns-clause-file : goal.returns-clause-file

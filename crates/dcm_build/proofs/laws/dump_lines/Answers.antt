@@ -1,4 +1,4 @@
-use Rattle.dcm_build.proofs.LinesLead.{lines_mean}
+use Rattle.dcm_build.proofs.Rebuilds.LinesLead.{lines_mean}
 use Rattle.dcm_build.proofs.laws.dump_lines.Goals as goal
 
 pub returns : goal.returns

@@ -1,4 +1,4 @@
-use Rattle.dcm_build.proofs.StepsBuild.{all_built}
+use Rattle.dcm_build.proofs.Rebuilds.StepsBuild.{all_built}
 use Rattle.dcm_build.proofs.laws.steps_build.Goals as goal
 
 pub returns : goal.returns

@@ -1,6 +1,6 @@
 use Rattle.dcm_base.specs.Line as spec
 use Rattle.dcm_base.specs.ReadValue.{value_of_text}
-use Rattle.dcm_build.proofs.LineSteps.{shows_value, shows_none}
+use Rattle.dcm_build.proofs.Lines.Steps.{shows_value, shows_none}
 use Rattle.dcm_build.proofs.line.leaf.Goals as goal
 
 pub returns-in-Some : goal.returns-in-Some

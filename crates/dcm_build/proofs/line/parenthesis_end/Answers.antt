@@ -1,5 +1,5 @@
 use Rattle.std.proofs.Common.{sym}
-use Rattle.dcm_build.proofs.Parentheses.{past_one, at_closing}
+use Rattle.dcm_build.proofs.Lines.Parentheses.{past_one, at_closing}
 use Rattle.dcm_build.proofs.line.parenthesis_end.Goals as goal
 
 pub returns-then-is_closed-clause-cut : goal.returns-then-is_closed-clause-cut

@@ -1,4 +1,4 @@
-use Rattle.dcm_build.proofs.LinePieces.{plain_more}
+use Rattle.dcm_build.proofs.Lines.Pieces.{plain_more}
 use Rattle.dcm_build.proofs.place.line_end.Goals as goal
 
 pub loop-i-preserved : goal.loop-i-preserved

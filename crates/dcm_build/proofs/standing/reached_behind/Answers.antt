@@ -1,4 +1,4 @@
-use Rattle.dcm_build.proofs.Nested.{reached_step}
+use Rattle.dcm_build.proofs.Files.Depth.{reached_step}
 use Rattle.dcm_build.proofs.standing.reached_behind.Goals as goal
 
 pub loop-inner-preserved : goal.loop-inner-preserved

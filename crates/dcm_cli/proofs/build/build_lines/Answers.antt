@@ -6,11 +6,11 @@ use Rattle.dcm_words.specs.Words.{build as build_job}
 use Rattle.dcm_cli.specs.declared.ending.Ending.{Ending}
 use Rattle.dcm_cli.specs.declared.ending.Ending.TheVariants.{Unread}
 use Rattle.dcm_cli.specs.Run.{Worked}
-use Rattle.dcm_cli.proofs.Alone.{splits}
-use Rattle.dcm_cli.proofs.Lines.{going_is, not_unwritten, built_on, built_halted, built_unread, built_ended}
-use Rattle.dcm_cli.proofs.Passes.{read_twice}
-use Rattle.dcm_cli.proofs.Sets.{none_left}
-use Rattle.dcm_cli.proofs.Stopping.{read_piece, no_piece, build_stops}
+use Rattle.dcm_cli.proofs.Passes.Alone.{splits}
+use Rattle.dcm_cli.proofs.Passes.Lines.{going_is, not_unwritten, built_on, built_halted, built_unread, built_ended}
+use Rattle.dcm_cli.proofs.Passes.Passes.{read_twice}
+use Rattle.dcm_cli.proofs.Passes.Sets.{none_left}
+use Rattle.dcm_cli.proofs.Runs.Stopping.{read_piece, no_piece, build_stops}
 use Rattle.dcm_cli.proofs.build.build_lines.Goals as goal
 
 pub returns-in-Ok-eq0-clause-worked : goal.returns-in-Ok-eq0-clause-worked

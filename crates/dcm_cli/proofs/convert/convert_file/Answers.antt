@@ -5,10 +5,10 @@ use Rattle.dcm_tools.specs.EncodeSink.{EncodeState, encode_bar, encode_step, enc
 use Rattle.dcm_tools.specs.Encoder.{state as encoder_state}
 use Rattle.dcm_cli.specs.Pass as spec
 use Rattle.dcm_cli.specs.Run.{Worked}
-use Rattle.dcm_cli.proofs.Files.{file_encoder}
-use Rattle.dcm_cli.proofs.Opens.{not_opened, opened_worked_same}
+use Rattle.dcm_cli.proofs.Passes.Files.{file_encoder}
+use Rattle.dcm_cli.proofs.Passes.Opens.{not_opened, opened_worked_same}
 use Rattle.dcm_cli.specs.Stops.{BehindStops}
-use Rattle.dcm_cli.proofs.Stopping.{head_stops, opened_stops}
+use Rattle.dcm_cli.proofs.Runs.Stopping.{head_stops, opened_stops}
 use Rattle.dcm_cli.proofs.convert.convert_file.Goals as goal
 
 pub returns-in-Err-clause-worked : goal.returns-in-Err-clause-worked

@@ -14,10 +14,10 @@ use Rattle.dcm_cli.specs.declared.ending.Ending.{Ending}
 use Rattle.dcm_tools.specs.Lines.{state as lines_state}
 use Rattle.dcm_cli.specs.Pass as spec
 use Rattle.dcm_cli.specs.Run.{Worked}
-use Rattle.dcm_cli.proofs.Alone.{put_failed, put_whole}
-use Rattle.dcm_cli.proofs.Files.{file_unopened, file_unheaded, file_worked, concludes_same, file_opened, file_dumper}
+use Rattle.dcm_cli.proofs.Passes.Alone.{put_failed, put_whole}
+use Rattle.dcm_cli.proofs.Passes.Files.{file_unopened, file_unheaded, file_worked, concludes_same, file_opened, file_dumper}
 use Rattle.dcm_cli.specs.Stops.{BehindStops}
-use Rattle.dcm_cli.proofs.Stopping.{head_stops, file_stops}
+use Rattle.dcm_cli.proofs.Runs.Stopping.{head_stops, file_stops}
 use Rattle.dcm_cli.proofs.dump.dump_file.Goals as goal
 
 pub returns-in-Err-clause-worked : goal.returns-in-Err-clause-worked

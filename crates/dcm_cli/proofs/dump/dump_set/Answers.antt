@@ -9,9 +9,9 @@ use Rattle.dcm_tools.specs.Lines.{state as lines_state}
 use Rattle.dcm_cli.specs.Pass as spec
 use Rattle.dcm_words.specs.Words.{dump}
 use Rattle.dcm_cli.specs.Run.{Worked}
-use Rattle.dcm_cli.proofs.Alone.{alone_unheaded, alone_worked, put_failed, put_whole}
+use Rattle.dcm_cli.proofs.Passes.Alone.{alone_unheaded, alone_worked, put_failed, put_whole}
 use Rattle.dcm_cli.specs.Stops.{SetStops}
-use Rattle.dcm_cli.proofs.Stopping.{alone_stops, alone_unread}
+use Rattle.dcm_cli.proofs.Runs.Stopping.{alone_stops, alone_unread}
 use Rattle.dcm_cli.proofs.dump.dump_set.Goals as goal
 
 pub returns-then-is_err-clause-worked : goal.returns-then-is_err-clause-worked

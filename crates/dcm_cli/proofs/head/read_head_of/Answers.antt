@@ -1,10 +1,10 @@
 use Rattle.std.proofs.Common.{◌≡◌, ◌∙◌, ◌+◌, ◌≤◌, ℕ, List, ◌++◌, ap, sym, length, length-append, arith, None, inl}
 use Rattle.std.specs.Io.KnownBytes.{prepend_known}
 use Rattle.dcm_head.specs.MetaReading.{Reading}
-use Rattle.dcm_head.proofs.Stays.{kept_all}
-use Rattle.dcm_cli.proofs.Passes.{read_twice}
-use Rattle.dcm_cli.proofs.Heads.{read_on, begins_in, going_on, less_left}
-use Rattle.dcm_cli.proofs.Stopping.{read_piece, no_piece}
+use Rattle.dcm_head.proofs.HeadReading.Stays.{kept_all}
+use Rattle.dcm_cli.proofs.Passes.Passes.{read_twice}
+use Rattle.dcm_cli.proofs.Passes.Heads.{read_on, begins_in, going_on, less_left}
+use Rattle.dcm_cli.proofs.Runs.Stopping.{read_piece, no_piece}
 use Rattle.dcm_cli.proofs.head.read_head_of.Goals as goal
 
 pub overflow_add-read : goal.overflow_add-read

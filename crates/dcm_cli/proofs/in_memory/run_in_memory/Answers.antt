@@ -6,7 +6,7 @@ use Rattle.dcm_base.specs.declared.memory.Measured.{Measured}
 use Rattle.dcm_cli.specs.Answer.{Answers}
 use Rattle.dcm_cli.specs.InMemory.{LeavesAnswer}
 use Rattle.dcm_words.specs.Plans.{job_of}
-use Rattle.dcm_cli.proofs.InMemory.{memory_left}
+use Rattle.dcm_cli.proofs.Runs.InMemory.{memory_left}
 use Rattle.dcm_cli.proofs.in_memory.run_in_memory.Goals as goal
 
 pub returns : goal.returns

@@ -1,4 +1,4 @@
-use Rattle.dcm_cli.proofs.OneAnswer.{some_answer}
+use Rattle.dcm_cli.proofs.Runs.OneAnswer.{some_answer}
 use Rattle.dcm_cli.proofs.laws.answers_some.Goals as goal
 
 pub returns : goal.returns

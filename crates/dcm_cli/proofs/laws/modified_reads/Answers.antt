@@ -1,4 +1,4 @@
-use Rattle.dcm_cli.proofs.ReadsAgain.{modified_reads}
+use Rattle.dcm_cli.proofs.ReadBack.ReadsAgain.{modified_reads}
 use Rattle.dcm_cli.proofs.laws.modified_reads.Goals as goal
 
 pub returns : goal.returns

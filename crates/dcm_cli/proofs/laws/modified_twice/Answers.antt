@@ -1,4 +1,4 @@
-use Rattle.dcm_cli.proofs.ModifiedTwice.{modified_twice}
+use Rattle.dcm_cli.proofs.ReadBack.ModifiedTwice.{modified_twice}
 use Rattle.dcm_cli.proofs.laws.modified_twice.Goals as goal
 
 pub returns : goal.returns

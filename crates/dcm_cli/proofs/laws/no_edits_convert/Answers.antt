@@ -1,4 +1,4 @@
-use Rattle.dcm_cli.proofs.NoEdits.{no_edits_convert}
+use Rattle.dcm_cli.proofs.Runs.NoEdits.{no_edits_convert}
 use Rattle.dcm_cli.proofs.laws.no_edits_convert.Goals as goal
 
 pub returns : goal.returns

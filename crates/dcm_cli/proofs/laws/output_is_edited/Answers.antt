@@ -1,4 +1,4 @@
-use Rattle.dcm_cli.proofs.OutputEdited.{output_without, output_public, output_modified}
+use Rattle.dcm_cli.proofs.ReadBack.OutputEdited.{output_without, output_public, output_modified}
 use Rattle.dcm_cli.proofs.laws.output_is_edited.Goals as goal
 
 pub returns-clause-erased_all : goal.returns-clause-erased_all

@@ -1,4 +1,4 @@
-use Rattle.dcm_cli.proofs.Sures.{sure_grows}
+use Rattle.dcm_cli.proofs.Runs.Sure.{sure_grows}
 use Rattle.dcm_cli.proofs.laws.sure_grows.Goals as goal
 
 pub returns : goal.returns

@@ -8,10 +8,10 @@ use Rattle.dcm_tools.specs.Encoder.{state as encoder_state}
 use Rattle.dcm_cli.specs.declared.ending.Ending.{Ending}
 use Rattle.dcm_cli.specs.Pass as spec
 use Rattle.dcm_cli.specs.Run.{Worked}
-use Rattle.dcm_cli.proofs.EditPasses.{edits_not_opened, edits_worked}
+use Rattle.dcm_cli.proofs.Passes.EditPasses.{edits_not_opened, edits_worked}
 use Rattle.dcm_cli.specs.Stops.{BehindStops}
-use Rattle.dcm_cli.proofs.MakesEdits.{file_editor}
-use Rattle.dcm_cli.proofs.Stopping.{head_stops, opened_stops}
+use Rattle.dcm_cli.proofs.Passes.MakesEdits.{file_editor}
+use Rattle.dcm_cli.proofs.Runs.Stopping.{head_stops, opened_stops}
 use Rattle.dcm_cli.proofs.modify.modify_file.Goals as goal
 
 pub returns-in-Err-clause-worked : goal.returns-in-Err-clause-worked

@@ -6,7 +6,7 @@ use Rattle.dcm_edit.specs.Editing as editing
 use Rattle.dcm_edit.specs.Masks as masks
 use Rattle.dcm_edit.specs.Through.{through_step, through_writes, through_bar}
 use Rattle.dcm_cli.specs.Pass as spec
-use Rattle.dcm_cli.proofs.FoundMasks.{not_found_by}
+use Rattle.dcm_cli.proofs.Lines.FoundMasks.{not_found_by}
 use Rattle.dcm_cli.specs.Stops.{BehindStops}
 use Rattle.dcm_cli.proofs.modify.read_edited.Goals as goal
 

@@ -1,4 +1,4 @@
-use Rattle.dcm_cli.proofs.Fed.{going_fine}
+use Rattle.dcm_cli.proofs.Passes.Fed.{going_fine}
 use Rattle.dcm_cli.proofs.pass.feed.Goals as goal
 
 pub returns-clause-fed : goal.returns-clause-fed

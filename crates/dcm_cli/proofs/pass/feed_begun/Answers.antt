@@ -1,7 +1,7 @@
 use Rattle.std.proofs.Common.{ℕ, List, [], ◌∷◌, ◌++◌, Option, sym, subst, take, drop}
 use Rattle.std.specs.Prelude.{◌-◌, option_to_list}
 use Rattle.dcm_cli.specs.Pass as spec
-use Rattle.dcm_cli.proofs.Fed.{fed_on, fed_failed}
+use Rattle.dcm_cli.proofs.Passes.Fed.{fed_on, fed_failed}
 use Rattle.dcm_cli.proofs.pass.feed_begun.Goals as goal
 
 pub returns-in_err-feed-in-Some-clause-fed : goal.returns-in_err-feed-in-Some-clause-fed

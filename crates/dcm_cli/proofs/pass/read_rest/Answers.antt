@@ -2,9 +2,9 @@ use Rattle.std.proofs.Common.{◌∙◌, ℕ, List, ◌++◌, ap, sym, subst, Ok
 use Rattle.std.proofs.lemmas.List.{append-nil}
 use Rattle.std.specs.Io.KnownBytes.{prepend_known}
 use Rattle.dcm_cli.specs.Pass as spec
-use Rattle.dcm_cli.proofs.Fed.{fed_on}
-use Rattle.dcm_cli.proofs.Passes.{read_twice, still_going, ends_at_end, ends_halted}
-use Rattle.dcm_cli.proofs.Stopping.{read_piece, no_piece}
+use Rattle.dcm_cli.proofs.Passes.Fed.{fed_on}
+use Rattle.dcm_cli.proofs.Passes.Passes.{read_twice, still_going, ends_at_end, ends_halted}
+use Rattle.dcm_cli.proofs.Runs.Stopping.{read_piece, no_piece}
 use Rattle.dcm_cli.proofs.pass.read_rest.Goals as goal
 
 pub returns-in-Ok-eq0-clause-pumps : goal.returns-in-Ok-eq0-clause-pumps

@@ -4,7 +4,7 @@ use Rattle.std.proofs.lemmas.List.{append-nil}
 use Rattle.dcm_stream.specs.Reading.{Reading, start_of}
 use Rattle.dcm_stream.specs.Machine.{Progress, steps}
 use Rattle.dcm_cli.specs.Pass as spec
-use Rattle.dcm_cli.proofs.Passes.{read_nothing, ends_at_end, ends_halted, ends_behind, going_behind}
+use Rattle.dcm_cli.proofs.Passes.Passes.{read_nothing, ends_at_end, ends_halted, ends_behind, going_behind}
 use Rattle.dcm_cli.proofs.pass.read_set.Goals as goal
 
 pub returns-in-Err-clause-ends : goal.returns-in-Err-clause-ends

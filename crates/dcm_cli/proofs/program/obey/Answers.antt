@@ -2,7 +2,7 @@ use Rattle.std.proofs.Common.{subst, map}
 use Rattle.dcm_words.specs.Words.{meant}
 use Rattle.dcm_words.specs.Plans.{planned as plan_of, Gives, GivesUnlessMemory}
 use Rattle.dcm_cli.specs.Program.{worked}
-use Rattle.dcm_cli.proofs.Obeying.{refuse}
+use Rattle.dcm_cli.proofs.Runs.Obeying.{refuse}
 use Rattle.dcm_cli.proofs.program.obey.Goals as goal
 
 pub returns-in-Ok-clause-obeys : goal.returns-in-Ok-clause-obeys

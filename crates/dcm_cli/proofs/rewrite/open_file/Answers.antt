@@ -1,6 +1,6 @@
 use Rattle.std.proofs.Common.{sym, refl}
 use Rattle.dcm_cli.specs.Opening.{no_set, no_change, no_head}
-use Rattle.dcm_cli.proofs.Alone.{put_failed, put_whole}
+use Rattle.dcm_cli.proofs.Passes.Alone.{put_failed, put_whole}
 use Rattle.dcm_cli.proofs.rewrite.open_file.Goals as goal
 
 pub returns-in-Err-clause-opens : goal.returns-in-Err-clause-opens

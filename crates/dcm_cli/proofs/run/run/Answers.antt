@@ -1,4 +1,4 @@
-use Rattle.dcm_cli.proofs.Rans.{run_ran}
+use Rattle.dcm_cli.proofs.Runs.Ran.{run_ran}
 use Rattle.dcm_cli.proofs.run.run.Goals as goal
 
 pub returns-clause-ran : goal.returns-clause-ran

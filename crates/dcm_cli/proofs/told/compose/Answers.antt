@@ -1,4 +1,4 @@
-use Rattle.dcm_cli.proofs.Composed.{part_more}
+use Rattle.dcm_cli.proofs.Lines.Composed.{part_more}
 use Rattle.dcm_cli.proofs.told.compose.Goals as goal
 
 pub loop-part-preserved : goal.loop-part-preserved

@@ -1,7 +1,7 @@
 use Rattle.std.proofs.Common.{sym, ◌++◌, ◌%◌, arith}
 use Rattle.std.specs.Prelude.{◌==◌}
 use Rattle.dcm_cli.specs.Told.{line_where}
-use Rattle.dcm_cli.proofs.Unplaced.{all_told, told_whole, told_begun, told_more, told_fine}
+use Rattle.dcm_cli.proofs.Lines.Unplaced.{all_told, told_whole, told_begun, told_more, told_fine}
 use Rattle.dcm_cli.proofs.told.tell_unplaced.Goals as goal
 
 pub returns-then-is_err : goal.returns-then-is_err

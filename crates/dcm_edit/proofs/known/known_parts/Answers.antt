@@ -3,8 +3,8 @@ use Rattle.std.proofs.lemmas.List.{map-append}
 use Rattle.dcm_edit.specs.EditWords as words
 use Rattle.dcm_edit.specs.Parts.{part_as}
 use Rattle.dcm_edit.specs.Making.{known_as, after_known}
-use Rattle.dcm_edit.proofs.FirstOnes.{front, front_length}
-use Rattle.dcm_edit.proofs.KnownParts.{one_known, one_refused, all_known}
+use Rattle.dcm_edit.proofs.Trees.FirstOnes.{front, front_length}
+use Rattle.dcm_edit.proofs.Words.KnownParts.{one_known, one_refused, all_known}
 use Rattle.dcm_edit.proofs.known.known_parts.Goals as goal
 
 pub returns-in_err-known_part : goal.returns-in_err-known_part

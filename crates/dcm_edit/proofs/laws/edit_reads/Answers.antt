@@ -1,4 +1,4 @@
-use Rattle.dcm_edit.proofs.EditReads.{edit_reads_whole, edit_reads_so_far}
+use Rattle.dcm_edit.proofs.ReadBack.EditReads.{edit_reads_whole, edit_reads_so_far}
 use Rattle.dcm_edit.proofs.laws.edit_reads.Goals as goal
 
 pub returns : goal.returns

@@ -1,4 +1,4 @@
-use Rattle.dcm_edit.proofs.EditedAgain.{writes_again, modifies_again}
+use Rattle.dcm_edit.proofs.ReadBack.EditedAgain.{writes_again, modifies_again}
 use Rattle.dcm_edit.proofs.laws.edited_again.Goals as goal
 
 pub returns : goal.returns

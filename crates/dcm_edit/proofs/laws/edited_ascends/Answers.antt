@@ -1,4 +1,4 @@
-use Rattle.dcm_edit.proofs.EditedAscends.{edited_ascends}
+use Rattle.dcm_edit.proofs.ReadBack.EditedAscends.{edited_ascends}
 use Rattle.dcm_edit.proofs.laws.edited_ascends.Goals as goal
 
 pub returns : goal.returns

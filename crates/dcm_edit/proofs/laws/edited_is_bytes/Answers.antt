@@ -1,4 +1,4 @@
-use Rattle.dcm_edit.proofs.EditedBytes.{edited_is_bytes}
+use Rattle.dcm_edit.proofs.ReadBack.EditedBytes.{edited_is_bytes}
 use Rattle.dcm_edit.proofs.laws.edited_is_bytes.Goals as goal
 
 pub returns : goal.returns

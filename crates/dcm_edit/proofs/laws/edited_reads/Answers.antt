@@ -1,4 +1,4 @@
-use Rattle.dcm_edit.proofs.EditedReads.{edited_reads}
+use Rattle.dcm_edit.proofs.ReadBack.EditedReads.{edited_reads}
 use Rattle.dcm_edit.proofs.laws.edited_reads.Goals as goal
 
 pub returns : goal.returns

@@ -1,4 +1,4 @@
-use Rattle.dcm_edit.proofs.TwiceWritten.{edited_twice}
+use Rattle.dcm_edit.proofs.ReadBack.TwiceWritten.{edited_twice}
 use Rattle.dcm_edit.proofs.laws.edited_twice.Goals as goal
 
 pub returns : goal.returns

@@ -1,4 +1,4 @@
-use Rattle.dcm_edit.proofs.Gone.{erased_private_is_gone}
+use Rattle.dcm_edit.proofs.Trees.Gone.{erased_private_is_gone}
 use Rattle.dcm_edit.proofs.laws.erased_private_is_gone.Goals as goal
 
 pub returns : goal.returns

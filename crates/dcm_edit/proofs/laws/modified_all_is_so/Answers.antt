@@ -1,4 +1,4 @@
-use Rattle.dcm_edit.proofs.Gone.{modified_all_is_so}
+use Rattle.dcm_edit.proofs.Trees.Gone.{modified_all_is_so}
 use Rattle.dcm_edit.proofs.laws.modified_all_is_so.Goals as goal
 
 pub returns : goal.returns

@@ -1,6 +1,6 @@
-use Rattle.dcm_edit.proofs.EditedReads.{front_ready}
-use Rattle.dcm_edit.proofs.Gone.{anything}
-use Rattle.dcm_edit.proofs.Others.{others_stay}
+use Rattle.dcm_edit.proofs.ReadBack.EditedReads.{front_ready}
+use Rattle.dcm_edit.proofs.Trees.Gone.{anything}
+use Rattle.dcm_edit.proofs.Trees.Others.{others_stay}
 use Rattle.dcm_edit.proofs.laws.others_stay.Goals as goal
 
 pub returns : goal.returns

@@ -1,4 +1,4 @@
-use Rattle.dcm_edit.proofs.ReadsAscend.{reads_ascend, reads_ascend_so_far}
+use Rattle.dcm_edit.proofs.ReadBack.ReadsAscend.{reads_ascend, reads_ascend_so_far}
 use Rattle.dcm_edit.proofs.laws.reads_ascend.Goals as goal
 
 pub returns : goal.returns

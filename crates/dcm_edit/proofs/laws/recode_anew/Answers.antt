@@ -1,4 +1,4 @@
-use Rattle.dcm_edit.proofs.RecodeAnew.{recode_anew}
+use Rattle.dcm_edit.proofs.ReadBack.RecodeAnew.{recode_anew}
 use Rattle.dcm_edit.proofs.laws.recode_anew.Goals as goal
 
 pub returns : goal.returns

@@ -3,7 +3,7 @@ use Rattle.dcm_edit.specs.EditWords as words
 use Rattle.dcm_edit.specs.Parts.{part_as}
 use Rattle.dcm_edit.specs.Making.{known_as, kind_as, Makes, Fit}
 use Rattle.dcm_edit.specs.Meaning.{edit_of}
-use Rattle.dcm_edit.proofs.Forms.{no_path, no_form, known_meant, fit}
+use Rattle.dcm_edit.proofs.Words.Forms.{no_path, no_form, known_meant, fit}
 use Rattle.dcm_edit.proofs.making.edit_of_path.Goals as goal
 use Rattle.dcm_edit.proofs.making.edit_of_path.Goals.{in_default-via-in-Some+else-has_form, in_default-via-in_default}
 

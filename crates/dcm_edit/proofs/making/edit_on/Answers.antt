@@ -4,7 +4,7 @@ use Rattle.dcm_edit.specs.Edit.{insert, modify, on_path}
 use Rattle.dcm_edit.specs.EditWords as words
 use Rattle.dcm_edit.specs.Making.{known_as, kind_as, Makes, valued_edit, steps_to, is_of_all}
 use Rattle.dcm_edit.specs.Meaning.{edit_of}
-use Rattle.dcm_edit.proofs.Makings.{inserted, modified, erased, modified_all, failed}
+use Rattle.dcm_edit.proofs.Words.Makings.{inserted, modified, erased, modified_all, failed}
 use Rattle.dcm_edit.proofs.making.edit_on.Goals as goal
 
 pub returns-in_err-element-in-Inserts : goal.returns-in_err-element-in-Inserts

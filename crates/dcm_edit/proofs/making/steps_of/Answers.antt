@@ -1,6 +1,6 @@
 use Rattle.std.proofs.Common.{◌∙◌}
-use Rattle.dcm_edit.proofs.FirstOnes.{front}
-use Rattle.dcm_edit.proofs.Steps.{one_step}
+use Rattle.dcm_edit.proofs.Trees.FirstOnes.{front}
+use Rattle.dcm_edit.proofs.Words.Steps.{one_step}
 use Rattle.dcm_edit.proofs.making.steps_of.Goals as goal
 
 pub loop-rest-preserved-in_ok-push : goal.loop-rest-preserved-in_ok-push

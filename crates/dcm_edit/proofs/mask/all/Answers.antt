@@ -1,4 +1,4 @@
-use Rattle.dcm_edit.proofs.Bits.{full_mask, ones_below}
+use Rattle.dcm_edit.proofs.Masks.Bits.{full_mask, ones_below}
 use Rattle.dcm_edit.proofs.mask.all.Goals as goal
 
 pub returns-then-count-eq-MOST_EDITS : goal.returns-then-count-eq-MOST_EDITS

@@ -2,8 +2,8 @@ use Rattle.std.proofs.Common.{◌≡◌, ◌+◌, List, [], ◌∷◌, length, m
 use Rattle.dcm_edit.specs.declared.edit.Edit.{Edit}
 use Rattle.dcm_edit.specs.Asking as asking
 use Rattle.dcm_edit.specs.Meaning.{edit_of}
-use Rattle.dcm_edit.proofs.Bits.{SoFar, goes_on, high_on}
-use Rattle.dcm_edit.proofs.Skips.{none_set, high_skips, so_far_skips}
+use Rattle.dcm_edit.proofs.Masks.Bits.{SoFar, goes_on, high_on}
+use Rattle.dcm_edit.proofs.Masks.Skips.{none_set, high_skips, so_far_skips}
 use Rattle.dcm_edit.proofs.mask.answering.Goals as goal
 
 pub loop-edit-init : goal.loop-edit-init

@@ -1,4 +1,4 @@
-use Rattle.dcm_edit.proofs.Bits.{set_same, set_other}
+use Rattle.dcm_edit.proofs.Masks.Bits.{set_same, set_other}
 use Rattle.dcm_edit.proofs.mask.with_bit.Goals as goal
 
 pub returns-clause-same : goal.returns-clause-same

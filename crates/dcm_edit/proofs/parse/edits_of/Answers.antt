@@ -6,7 +6,7 @@ use Rattle.dcm_edit.specs.Edit.{Edit}
 use Rattle.dcm_edit.specs.EditWords.{meant_from, in_edit}
 use Rattle.dcm_edit.specs.Making.{texts, after_edits, first_edit, MakesFrom, MakesAll}
 use Rattle.dcm_edit.specs.Meaning.{edit_of}
-use Rattle.dcm_edit.proofs.ManyEdits.{First, all_done, too_many, one_edit, failed, one_longer, longer}
+use Rattle.dcm_edit.proofs.Words.ManyEdits.{First, all_done, too_many, one_edit, failed, one_longer, longer}
 use Rattle.dcm_edit.proofs.parse.edits_of.Goals as goal
 
 pub returns-then-len-eq-MOST_EDITS : goal.returns-then-len-eq-MOST_EDITS

@@ -1,5 +1,5 @@
 use Rattle.std.proofs.Common.{drop, add-one, drop-drop, sym, ◌∙◌, ap, arith}
-use Rattle.dcm_edit.proofs.Cuts.{cut_first, cut_nowhere, cut_is}
+use Rattle.dcm_edit.proofs.Words.Cuts.{cut_first, cut_nowhere, cut_is}
 use Rattle.dcm_edit.proofs.path.cut_at.Goals as goal
 
 pub returns-in-Some : goal.returns-in-Some

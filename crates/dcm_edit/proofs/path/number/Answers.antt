@@ -1,5 +1,5 @@
 use Rattle.std.proofs.Common.{◌+◌, arith}
-use Rattle.dcm_edit.proofs.IndexNumbers.{tenfold, within_nine}
+use Rattle.dcm_edit.proofs.Words.IndexNumbers.{tenfold, within_nine}
 use Rattle.dcm_edit.proofs.path.number.Goals as goal
 
 pub overflow_mul-number : goal.overflow_mul-number

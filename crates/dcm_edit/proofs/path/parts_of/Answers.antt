@@ -2,7 +2,7 @@ use Rattle.std.proofs.Common.{rules, ◌≡◌, ◌∷◌, [], ◌++◌, List, �
 use Rattle.std.specs.Str.{byte}
 use Rattle.std.proofs.lemmas.List.{map-append}
 use Rattle.dcm_edit.specs.Parts.{part_as, few, path_parts, after_parts, rest_parts, rest_length}
-use Rattle.dcm_edit.proofs.ManyParts.{no_part, one_part, rest_shorter, after_more, refused, too_long, ended, room, map_length}
+use Rattle.dcm_edit.proofs.Words.ManyParts.{no_part, one_part, rest_shorter, after_more, refused, too_long, ended, room, map_length}
 use Rattle.dcm_edit.proofs.path.parts_of.Goals as goal
 
 abbrev left : Option (Bor (List ℕ)) → Option (List ℕ)

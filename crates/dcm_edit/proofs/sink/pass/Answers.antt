@@ -2,10 +2,10 @@ use Rattle.std.proofs.Common.{List, sym, subst}
 use Rattle.dcm_base.specs.Atoms.{Atom}
 use Rattle.dcm_stream.specs.Sinks.{Takes}
 use Rattle.dcm_stream.specs.Tokens.{atoms_of}
-use Rattle.dcm_stream.proofs.Skipped.{some_open, none_open}
+use Rattle.dcm_stream.proofs.Runs.Skipped.{some_open, none_open}
 use Rattle.dcm_edit.specs.Editing.{meant}
-use Rattle.dcm_edit.proofs.Passing.{nothing_passed, takes_nothing, as_they_are}
-use Rattle.dcm_edit.proofs.Taken.{token_taken}
+use Rattle.dcm_edit.proofs.Sink.Passing.{nothing_passed, takes_nothing, as_they_are}
+use Rattle.dcm_edit.proofs.Sink.Taken.{token_taken}
 use Rattle.dcm_edit.proofs.sink.pass.Goals as goal
 
 pub returns-then-is_open-clause-takes : goal.returns-then-is_open-clause-takes

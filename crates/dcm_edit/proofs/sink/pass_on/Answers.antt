@@ -6,11 +6,11 @@ use Rattle.dcm_stream.specs.Tokens.{atoms_of}
 use Rattle.dcm_stream.specs.declared.token.Token.{Token}
 use Rattle.dcm_edit.specs.EditSink.{next}
 use Rattle.dcm_edit.specs.Editing.{meant, state}
-use Rattle.dcm_stream.proofs.Skipped.{none_open}
-use Rattle.dcm_edit.proofs.Answering.{bytes_stay}
-use Rattle.dcm_edit.proofs.Passing.{as_they_are}
-use Rattle.dcm_edit.proofs.Taken.{token_taken, all_failed}
-use Rattle.dcm_edit.proofs.Unmet.{left_state, left_token}
+use Rattle.dcm_stream.proofs.Runs.Skipped.{none_open}
+use Rattle.dcm_edit.proofs.Masks.Answering.{bytes_stay}
+use Rattle.dcm_edit.proofs.Sink.Passing.{as_they_are}
+use Rattle.dcm_edit.proofs.Sink.Taken.{token_taken, all_failed}
+use Rattle.dcm_edit.proofs.Sink.Unmet.{left_state, left_token}
 use Rattle.dcm_edit.proofs.sink.pass_on.Goals as goal
 
 pub returns-in_err-take-in-Open-clause-takes : goal.returns-in_err-take-in-Open-clause-takes

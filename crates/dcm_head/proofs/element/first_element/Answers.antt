@@ -6,7 +6,7 @@ use Rattle.dcm_head.specs.declared.group.Place.{Place}
 use Rattle.dcm_head.specs.declared.group.Place.TheVariants.{Element, End, TooFew, Bad}
 use Rattle.dcm_head.specs.GroupPlaces.{place_is}
 use Rattle.dcm_head.specs.Rewriting.{FirstIs}
-use Rattle.dcm_head.proofs.Firsts.{first_is, none_is, whole_of}
+use Rattle.dcm_head.proofs.MetaGroups.FirstElement.{first_is, none_is, whole_of}
 use Rattle.dcm_head.proofs.element.first_element.Goals as goal
 
 pub overflow_add-head : goal.overflow_add-head

@@ -9,8 +9,8 @@ use Rattle.dcm_base.specs.Number.{number}
 use Rattle.dcm_base.specs.Head.{tag_at, vr_at, length_at, long_length}
 use Rattle.dcm_head.specs.declared.head.HeadRead.TheVariants.{Done}
 use Rattle.dcm_head.specs.HeadRead.{element_read}
-use Rattle.dcm_head.proofs.Explicit.{tail_is}
-use Rattle.dcm_head.proofs.HeadReads.{element_whole}
+use Rattle.dcm_head.proofs.Heads.Explicit.{tail_is}
+use Rattle.dcm_head.proofs.Heads.Reads.{element_whole}
 use Rattle.dcm_head.proofs.head.read_element.Goals as goal
 
 implicit_whole : (s : Syntax) (b : List ℕ) (tag : Tag) (vr : Vr) (l : Length) → s ≡ Implicit → 8 ≤ length b → tag ≡ tag_at s b → vr ≡ dict_vr tag → l ≡ long_length (number s 4 (drop 4 b))

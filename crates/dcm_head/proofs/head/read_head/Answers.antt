@@ -1,7 +1,7 @@
 use Rattle.std.proofs.Common.{sym, ◌∙◌, ap}
 use Rattle.dcm_base.specs.declared.tag.Tag.{Tag}
 use Rattle.dcm_head.specs.HeadRead.{tag_read}
-use Rattle.dcm_head.proofs.HeadReads.{head_short, head_long}
+use Rattle.dcm_head.proofs.Heads.Reads.{head_short, head_long}
 use Rattle.dcm_head.proofs.head.read_head.Goals as goal
 
 pub returns-then-bytes-lt-SHORT_HEAD : goal.returns-then-bytes-lt-SHORT_HEAD

@@ -4,8 +4,8 @@ use Rattle.dcm_base.specs.Number.{number}
 use Rattle.dcm_base.specs.Head.{long_length}
 use Rattle.dcm_head.specs.declared.head.HeadRead.TheVariants.{Done}
 use Rattle.dcm_head.specs.HeadRead.{is_delimiter}
-use Rattle.dcm_head.proofs.Explicit.{tail_is}
-use Rattle.dcm_head.proofs.HeadReads.{by_tests}
+use Rattle.dcm_head.proofs.Heads.Explicit.{tail_is}
+use Rattle.dcm_head.proofs.Heads.Reads.{by_tests}
 use Rattle.dcm_head.proofs.head.read_tagged.Goals as goal
 
 pub returns-then-is_item : goal.returns-then-is_item

@@ -1,5 +1,5 @@
 use Rattle.dcm_head.specs.declared.head.HeadRead.TheVariants.{Done, More, BadVr}
-use Rattle.dcm_head.proofs.HeadLaws.{begins_read, short_read, bad_read, told}
+use Rattle.dcm_head.proofs.Heads.Laws.{begins_read, short_read, bad_read, told}
 use Rattle.dcm_head.proofs.laws.heads_read.Goals as goal
 
 pub returns-clause-done : goal.returns-clause-done

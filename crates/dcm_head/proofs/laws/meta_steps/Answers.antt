@@ -3,11 +3,11 @@ use Rattle.std.specs.Prelude.{fold}
 use Rattle.dcm_base.specs.MetaReads.{MetaAnswer, is_undecided}
 use Rattle.dcm_head.specs.MetaReading.{Says, at_start, meta_step, meta_finished}
 use Rattle.std.proofs.lemmas.List.Sums.{fold-append}
-use Rattle.dcm_head.proofs.Stays.{stays, kept_all}
-use Rattle.dcm_head.proofs.OneMeta.{one_meta}
-use Rattle.dcm_head.proofs.Described.{described}
-use Rattle.dcm_head.proofs.Halts.{call_ends, call_refuses}
-use Rattle.dcm_head.proofs.Told.{told, going_exactly}
+use Rattle.dcm_head.proofs.HeadReading.Stays.{stays, kept_all}
+use Rattle.dcm_head.proofs.MetaGroups.OneMeta.{one_meta}
+use Rattle.dcm_head.proofs.HeadReading.State.{described}
+use Rattle.dcm_head.proofs.HeadReading.Halts.{call_ends, call_refuses}
+use Rattle.dcm_head.proofs.HeadReading.Answers.{told, going_exactly}
 use Rattle.dcm_head.specs.declared.meta_read.MetaEnd.{MetaEnd}
 use Rattle.dcm_head.proofs.laws.meta_steps.Goals as goal
 

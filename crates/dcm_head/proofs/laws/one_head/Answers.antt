@@ -1,4 +1,4 @@
-use Rattle.dcm_base.proofs.Heads.{head_same}
+use Rattle.dcm_base.proofs.DataSets.Heads.{head_same}
 use Rattle.dcm_head.proofs.laws.one_head.Goals as goal
 
 pub returns : goal.returns

@@ -1,6 +1,6 @@
 use Rattle.std.proofs.Common.{◌∙◌, ◌+◌, refl, sym, ap, arith, length, length-append}
 use Rattle.dcm_head.specs.Rewriting.{written_element}
-use Rattle.dcm_head.proofs.Rewritten.{left_all, left_more, left_none}
+use Rattle.dcm_head.proofs.MetaGroups.Rewritten.{left_all, left_more, left_none}
 use Rattle.dcm_head.proofs.rewriting.elements_size.Goals as goal
 
 pub elements-init : goal.elements-init

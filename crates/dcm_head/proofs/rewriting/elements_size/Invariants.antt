@@ -1,7 +1,7 @@
 use Rattle.std.proofs.Common.{◌≡◌, ◌≤◌, ◌+◌, ◌*◌, length}
 use Rattle.dcm_base.specs.Tree.{Trees}
 use Rattle.dcm_head.specs.Rewriting.{OfElements}
-use Rattle.dcm_head.proofs.Rewritten.{Left}
+use Rattle.dcm_head.proofs.MetaGroups.Rewritten.{Left}
 use Rattle.dcm_head.proofs.rewriting.elements_size.Given as goal
 
 -- the size is that of what stands for the elements before the rest, each of which has at least 8 bytes

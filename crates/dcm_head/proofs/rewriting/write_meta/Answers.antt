@@ -3,7 +3,7 @@ use Rattle.dcm_base.specs.declared.vr.Vr.TheVariants.{UL}
 use Rattle.dcm_base.specs.declared.syntax.Syntax.TheVariants.{Little}
 use Rattle.dcm_base.specs.Recode.{recoded_leaf}
 use Rattle.dcm_base.specs.NewMeta.{new_elements, group_length}
-use Rattle.dcm_head.proofs.Rewritten.{meta_puts, meta_failed}
+use Rattle.dcm_head.proofs.MetaGroups.Rewritten.{meta_puts, meta_failed}
 use Rattle.dcm_head.proofs.rewriting.write_meta.Goals as goal
 
 pub returns-in_err-put_leaf-clause-bytes : goal.returns-in_err-put_leaf-clause-bytes

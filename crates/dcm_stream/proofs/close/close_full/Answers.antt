@@ -4,7 +4,7 @@ use Rattle.dcm_base.specs.Atoms.{Atom}
 use Rattle.dcm_base.specs.declared.level.Level.{Level}
 use Rattle.dcm_stream.specs.Tokens.{atoms_of}
 use Rattle.dcm_stream.specs.Reading.{full_closed}
-use Rattle.dcm_stream.proofs.Closes.{closes_one, closes_none, closes_first, closes_next, taken_more, failed_more}
+use Rattle.dcm_stream.proofs.Containers.Closes.{closes_one, closes_none, closes_first, closes_next, taken_more, failed_more}
 use Rattle.dcm_stream.proofs.close.close_full.Goals as goal
 
 pub returns-in_err-take-clause-goes : goal.returns-in_err-take-clause-goes

@@ -1,4 +1,4 @@
-use Rattle.dcm_stream.proofs.Elements.{value_opens_as, sequence_opens_as, fragments_open_as}
+use Rattle.dcm_stream.proofs.Heads.Elements.{value_opens_as, sequence_opens_as, fragments_open_as}
 use Rattle.dcm_stream.proofs.judge.element_opening.Goals as goal
 
 pub returns-in-Value : goal.returns-in-Value

@@ -1,4 +1,4 @@
-use Rattle.dcm_stream.proofs.Elements.{fragment_opens_as, item_opens_as}
+use Rattle.dcm_stream.proofs.Heads.Elements.{fragment_opens_as, item_opens_as}
 use Rattle.dcm_stream.proofs.judge.item_opening.Goals as goal
 
 pub returns-in-FragmentList : goal.returns-in-FragmentList

@@ -2,7 +2,7 @@ use Rattle.std.proofs.Common.{◌≡◌, ◌∙◌, ap, sym, ℕ, Bool, false}
 use Rattle.std.specs.Prelude.{◌&&◌, nat_le}
 use Rattle.dcm_base.specs.Place.{passes, room, depth}
 use Rattle.dcm_base.specs.Stop.{opens_list}
-use Rattle.dcm_stream.proofs.Elements.{has_form, shape_passes, shape_fits, not_deep}
+use Rattle.dcm_stream.proofs.Heads.Elements.{has_form, shape_passes, shape_fits, not_deep}
 use Rattle.dcm_stream.proofs.judge.judge_shape.Goals as goal
 use Rattle.dcm_stream.proofs.judge.judge_shape.Goals.{else-opens_list-via-then-opens_list+else-depth-ge-MOST_LISTS, else-opens_list-via-else-opens_list}
 

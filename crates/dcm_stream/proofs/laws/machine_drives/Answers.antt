@@ -1,4 +1,4 @@
-use Rattle.dcm_stream.proofs.Driven.{drives_as}
+use Rattle.dcm_stream.proofs.Runs.Inputs.{drives_as}
 use Rattle.dcm_stream.proofs.laws.machine_drives.Goals as goal
 
 pub returns : goal.returns

@@ -1,4 +1,4 @@
-use Rattle.dcm_stream.proofs.Driven.{ends_as}
+use Rattle.dcm_stream.proofs.Runs.Inputs.{ends_as}
 use Rattle.dcm_stream.proofs.laws.machine_ends.Goals as goal
 
 pub returns : goal.returns

@@ -1,4 +1,4 @@
-use Rattle.dcm_stream.proofs.Driven.{refuses_as}
+use Rattle.dcm_stream.proofs.Runs.Inputs.{refuses_as}
 use Rattle.dcm_stream.proofs.laws.machine_refuses.Goals as goal
 
 pub returns : goal.returns

@@ -1,4 +1,4 @@
-use Rattle.dcm_stream.proofs.Driven.{waits_as}
+use Rattle.dcm_stream.proofs.Runs.Inputs.{waits_as}
 use Rattle.dcm_stream.proofs.laws.machine_waits.Goals as goal
 
 pub returns : goal.returns

@@ -1,5 +1,5 @@
-use Rattle.dcm_base.proofs.Reading.{reads_once}
-use Rattle.dcm_head.proofs.OneMeta.{one_meta}
+use Rattle.dcm_base.proofs.DataSets.OneAnswer.{reads_once}
+use Rattle.dcm_head.proofs.MetaGroups.OneMeta.{one_meta}
 use Rattle.dcm_stream.proofs.laws.reads_one.Goals as goal
 
 pub returns-clause-head : goal.returns-clause-head

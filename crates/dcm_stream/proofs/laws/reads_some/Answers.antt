@@ -1,4 +1,4 @@
-use Rattle.dcm_stream.proofs.ReadsSome.{plain, in_order, native}
+use Rattle.dcm_stream.proofs.Steps.ReadsSome.{plain, in_order, native}
 use Rattle.dcm_stream.proofs.laws.reads_some.Goals as goal
 
 pub returns-clause-plain : goal.returns-clause-plain

@@ -1,4 +1,4 @@
-use Rattle.dcm_stream.proofs.Driven.{bars_none, bars_fragments, bars_order}
+use Rattle.dcm_stream.proofs.Runs.Inputs.{bars_none, bars_fragments, bars_order}
 use Rattle.dcm_stream.proofs.laws.sinks_bar.Goals as goal
 
 pub returns-clause-none : goal.returns-clause-none

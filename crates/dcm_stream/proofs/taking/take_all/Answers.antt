@@ -1,5 +1,5 @@
 use Rattle.std.proofs.Common.{◌∙◌}
-use Rattle.dcm_stream.proofs.Handed.{handed_more, handed_failed}
+use Rattle.dcm_stream.proofs.Runs.Tokens.{handed_more, handed_failed}
 use Rattle.dcm_stream.proofs.taking.take_all.Goals as goal
 
 pub returns-in_err-take-clause-takes : goal.returns-in_err-take-clause-takes

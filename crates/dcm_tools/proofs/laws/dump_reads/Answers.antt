@@ -1,4 +1,4 @@
-use Rattle.dcm_tools.proofs.DumpReads.{reads_so_far, reads_whole}
+use Rattle.dcm_tools.proofs.Dumps.Reads.{reads_so_far, reads_whole}
 use Rattle.dcm_tools.proofs.laws.dump_reads.Goals as goal
 
 pub returns : goal.returns

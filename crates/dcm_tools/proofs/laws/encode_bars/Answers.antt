@@ -1,4 +1,4 @@
-use Rattle.dcm_tools.proofs.EncodeReads.{encode_bars}
+use Rattle.dcm_tools.proofs.Conversions.Reads.{encode_bars}
 use Rattle.dcm_tools.proofs.laws.encode_bars.Goals as goal
 
 pub returns : goal.returns

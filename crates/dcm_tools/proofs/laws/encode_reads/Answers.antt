@@ -1,4 +1,4 @@
-use Rattle.dcm_tools.proofs.EncodeReads.{reads_so_far, reads_whole}
+use Rattle.dcm_tools.proofs.Conversions.Reads.{reads_so_far, reads_whole}
 use Rattle.dcm_tools.proofs.laws.encode_reads.Goals as goal
 
 pub returns : goal.returns

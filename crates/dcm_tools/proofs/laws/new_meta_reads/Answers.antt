@@ -1,4 +1,4 @@
-use Rattle.dcm_tools.proofs.NewMetaReads.{any, own}
+use Rattle.dcm_tools.proofs.ReadBack.NewMetaReads.{any, own}
 use Rattle.dcm_tools.proofs.laws.new_meta_reads.Goals as goal
 
 pub returns-clause-any : goal.returns-clause-any

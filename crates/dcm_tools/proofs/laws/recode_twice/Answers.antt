@@ -1,4 +1,4 @@
-use Rattle.dcm_tools.proofs.RecodeReads.{recode_twice}
+use Rattle.dcm_tools.proofs.ReadBack.RecodeReads.{recode_twice}
 use Rattle.dcm_tools.proofs.laws.recode_twice.Goals as goal
 
 pub returns : goal.returns

@@ -1,5 +1,5 @@
 use Rattle.std.proofs.Common.{arith}
-use Rattle.dcm_value.proofs.DigitSteps.{within_long}
+use Rattle.dcm_value.proofs.ReadBack.DigitSteps.{within_long}
 use Rattle.dcm_value.proofs.digits.hexadecimal.Goals as goal
 
 pub overflow_cast-result : goal.overflow_cast-result

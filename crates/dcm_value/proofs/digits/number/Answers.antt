@@ -1,6 +1,6 @@
 use Rattle.std.proofs.Common.{arith, ◌≡◌, ◌*◌, ◌+◌, ◌∙◌, sym, ap, ℕ, get_or, drop, Some}
 use Rattle.dcm_base.specs.ReadValue.{digit, number_in}
-use Rattle.dcm_value.proofs.DigitSteps.{digit_fits, mul_fits, within_word, number_step}
+use Rattle.dcm_value.proofs.ReadBack.DigitSteps.{digit_fits, mul_fits, within_word, number_step}
 use Rattle.dcm_value.proofs.digits.number.Goals as goal
 
 pub overflow_mul-number : goal.overflow_mul-number

@@ -1,5 +1,5 @@
 use Rattle.std.proofs.Common.{arith, rules, ◌≡◌, ◌++◌, take, length, min}
-use Rattle.dcm_value.proofs.Shows.{fills}
+use Rattle.dcm_value.proofs.Displays.Facts.{fills}
 use Rattle.dcm_value.proofs.display.fill.Goals as goal
 
 pub returns : goal.returns

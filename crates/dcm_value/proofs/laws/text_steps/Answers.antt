@@ -1,5 +1,5 @@
-use Rattle.dcm_value.proofs.TextSteps.{whole_text, whole_count, text_so_far}
-use Rattle.dcm_value.proofs.Openings.{in_pieces}
+use Rattle.dcm_value.proofs.Displays.TextSteps.{whole_text, whole_count, text_so_far}
+use Rattle.dcm_value.proofs.Displays.Openings.{in_pieces}
 use Rattle.dcm_value.proofs.laws.text_steps.Goals as goal
 
 pub returns : goal.returns

@@ -1,4 +1,4 @@
-use Rattle.dcm_value.proofs.ReadsBack.{reads_back}
+use Rattle.dcm_value.proofs.ReadBack.Values.{reads_back}
 use Rattle.dcm_value.proofs.laws.value_reads_back.Goals as goal
 
 pub returns : goal.returns

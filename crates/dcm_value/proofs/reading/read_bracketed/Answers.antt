@@ -1,7 +1,7 @@
 use Rattle.std.proofs.Common.{◌∙◌, ap, Some, ◌∷◌, []}
 use Rattle.dcm_base.specs.ReadValue.{bracketed_value}
 use Rattle.dcm_value.specs.Taking.{behind}
-use Rattle.dcm_value.proofs.Takings.{took, failed, reads_err}
+use Rattle.dcm_value.proofs.ReadBack.Parts.{took, failed, reads_err}
 use Rattle.dcm_value.proofs.reading.read_bracketed.Goals as goal
 
 pub returns-in_err-extend-in-Some : goal.returns-in_err-extend-in-Some

@@ -1,5 +1,5 @@
 use Rattle.std.proofs.Common.{rules, arith, ◌≢◌, get_or}
-use Rattle.dcm_value.proofs.Takings.{plain_text}
+use Rattle.dcm_value.proofs.ReadBack.Parts.{plain_text}
 use Rattle.dcm_value.proofs.reading.read_byte.Goals as goal
 
 pub returns-in_default-byte-clause-value : goal.returns-in_default-byte-clause-value

@@ -2,7 +2,7 @@ use Rattle.std.proofs.Common.{◌≡◌, ◌∙◌, ap, sym, ◌+◌, take, drop
 use Rattle.dcm_base.specs.ReadValue.{◌>>=◌, joined}
 use Rattle.dcm_value.specs.Parts.{part_value}
 use Rattle.dcm_value.specs.Taking.{behind}
-use Rattle.dcm_value.proofs.Takings.{took, failed, reads_err, reads_last, joined_first, joined_last}
+use Rattle.dcm_value.proofs.ReadBack.Parts.{took, failed, reads_err, reads_last, joined_first, joined_last}
 use Rattle.dcm_value.proofs.reading.read_parts.Goals as goal
 
 pub returns-in_err-read_part : goal.returns-in_err-read_part

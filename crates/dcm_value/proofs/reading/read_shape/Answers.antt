@@ -7,7 +7,7 @@ use Rattle.dcm_value.specs.Way.{way_of}
 use Rattle.dcm_value.specs.Units.{kind_of}
 use Rattle.dcm_value.specs.Parts.{part_value}
 use Rattle.dcm_value.specs.Taking.{Reads}
-use Rattle.dcm_value.proofs.Takings.{in_parts}
+use Rattle.dcm_value.proofs.ReadBack.Parts.{in_parts}
 use Rattle.dcm_value.proofs.reading.read_shape.Goals as goal
 
 pub returns-in-InUnits : goal.returns-in-InUnits

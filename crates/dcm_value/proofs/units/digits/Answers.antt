@@ -1,5 +1,5 @@
 use Rattle.std.proofs.Common.{arith}
-use Rattle.dcm_value.proofs.DigitTable.{digits_shown}
+use Rattle.dcm_value.proofs.ReadBack.DigitTable.{digits_shown}
 use Rattle.dcm_value.proofs.units.digits.Goals as goal
 
 pub returns : goal.returns

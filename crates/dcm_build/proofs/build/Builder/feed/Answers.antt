@@ -1,9 +1,9 @@
 use Rattle.std.proofs.Common.{◌≡◌, ◌++◌, ◌∙◌, ap, sym, ℕ, length, take, None, [], append_assoc, refl, List, ◌+◌, length-append, arith}
 use Rattle.std.proofs.lemmas.List.{take-append-drop, append-nil, length-take-le}
-use Rattle.dcm_stream.proofs.Calls.{empty_by}
+use Rattle.dcm_stream.proofs.Runs.Calls.{empty_by}
 use Rattle.dcm_build.specs.declared.build.Builder.TheInside.{Inside}
 use Rattle.dcm_build.specs.Building.{read_size}
-use Rattle.dcm_build.proofs.BuildCalls.{view_at, going_none, no_some, none_of, not_halted, tells_begin, tells_none, tells_still, tells_halt, gone_nowhere, gone_on, gone_halted, gone_still}
+use Rattle.dcm_build.proofs.Files.Calls.{view_at, going_none, no_some, none_of, not_halted, tells_begin, tells_none, tells_still, tells_halt, gone_nowhere, gone_on, gone_halted, gone_still}
 use Rattle.dcm_build.proofs.build.Builder.feed.Goals as goal
 use Rattle.dcm_build.proofs.build.Builder.feed.Goals.{then-loop-self-test+else-is_none, else-loop-self-test}
 

@@ -1,5 +1,5 @@
 use Rattle.std.proofs.Common.{◌∙◌, sym}
-use Rattle.dcm_build.proofs.Placed.{none_written, in_set}
+use Rattle.dcm_build.proofs.Files.Checks.{none_written, in_set}
 use Rattle.dcm_build.proofs.file.NewFile.add.Goals as goal
 
 pub returns-then-is_meta-clause-bytes : goal.returns-then-is_meta-clause-bytes

@@ -2,7 +2,7 @@ use Rattle.std.proofs.Common.{◌∙◌, ap, sym}
 use Rattle.dcm_base.specs.Build.{lacks_value}
 use Rattle.dcm_build.specs.declared.line.Step.{Step}
 use Rattle.dcm_build.specs.LineShown.{step_of}
-use Rattle.dcm_build.proofs.BuildForms.{leaf_has_form}
+use Rattle.dcm_build.proofs.Lines.Forms.{leaf_has_form}
 use Rattle.dcm_build.proofs.file.NewFile.add_meta.Goals as goal
 
 pub push-requires-clause-form : goal.push-requires-clause-form

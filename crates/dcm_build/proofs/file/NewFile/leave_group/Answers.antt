@@ -1,5 +1,5 @@
 use Rattle.std.proofs.Common.{◌∙◌, sym}
-use Rattle.dcm_build.proofs.Placed.{ends_in_group, group_put, none_put}
+use Rattle.dcm_build.proofs.Files.Checks.{ends_in_group, group_put, none_put}
 use Rattle.dcm_build.proofs.file.NewFile.leave_group.Goals as goal
 
 pub returns-then-ends_group-clause-state : goal.returns-then-ends_group-clause-state

@@ -1,7 +1,7 @@
 use Rattle.std.proofs.Common.{sym, None}
 use Rattle.dcm_build.specs.LineShown.{step_of}
 use Rattle.dcm_build.specs.NewFile.{state}
-use Rattle.dcm_build.proofs.Placed.{shown_behind, failed_shown}
+use Rattle.dcm_build.proofs.Files.Checks.{shown_behind, failed_shown}
 use Rattle.dcm_build.proofs.file.NewFile.show.Goals as goal
 
 pub returns-clause-comes : goal.returns-clause-comes

@@ -1,7 +1,7 @@
 use Rattle.std.proofs.Common.{◌∙◌, ap}
 use Rattle.dcm_base.specs.Line.{means}
 use Rattle.dcm_build.specs.LineShown.{step_of}
-use Rattle.dcm_build.proofs.Placed.{means_step}
+use Rattle.dcm_build.proofs.Files.Checks.{means_step}
 use Rattle.dcm_build.proofs.file.NewFile.take_line.Goals as goal
 
 pub returns-in-Step-clause-comes : goal.returns-in-Step-clause-comes

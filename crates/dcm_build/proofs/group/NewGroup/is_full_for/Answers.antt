@@ -1,5 +1,5 @@
 use Rattle.std.proofs.Common.{arith}
-use Rattle.dcm_build.proofs.GroupSpelled.{full_by}
+use Rattle.dcm_build.proofs.Files.Meta.{full_by}
 use Rattle.dcm_build.proofs.group.NewGroup.is_full_for.Goals as goal
 
 pub returns : goal.returns

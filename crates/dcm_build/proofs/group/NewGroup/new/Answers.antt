@@ -1,6 +1,6 @@
 use Rattle.std.proofs.Common.{◌∙◌, ap, sym, subst, List, ℕ}
 use Rattle.dcm_build.specs.NewGroup.{IsGroup, elements_of}
-use Rattle.dcm_build.proofs.GroupSpelled.{no_group, none_of}
+use Rattle.dcm_build.proofs.Files.Meta.{no_group, none_of}
 use Rattle.dcm_build.proofs.group.NewGroup.new.Goals as goal
 
 pub invariant_of-result : goal.invariant_of-result

@@ -1,4 +1,4 @@
-use Rattle.dcm_build.proofs.GroupSpelled.{put_whole, put_failed}
+use Rattle.dcm_build.proofs.Files.Meta.{put_whole, put_failed}
 use Rattle.dcm_build.proofs.group.NewGroup.put.Goals as goal
 
 pub returns-in_err-put_parts-clause-bytes : goal.returns-in_err-put_parts-clause-bytes

@@ -1,5 +1,5 @@
 use Rattle.std.proofs.Common.{rules, refl, arith, ◌≡◌, ◌+◌, length}
-use Rattle.dcm_build.proofs.LineEnds.{line_ended, line_refused, place_behind}
+use Rattle.dcm_build.proofs.Lines.Ends.{line_ended, line_refused, place_behind}
 use Rattle.dcm_build.proofs.place.Place.end_line.Goals as goal
 
 pub returns-in-Err-clause-reaches : goal.returns-in-Err-clause-reaches

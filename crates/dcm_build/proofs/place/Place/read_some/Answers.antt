@@ -1,5 +1,5 @@
 use Rattle.std.proofs.Common.{◌≡◌, subst, get_or, length, ℕ, arith}
-use Rattle.dcm_build.proofs.LinePieces.{first_of, bytes_taken, more_stands, more_read, limit_at, too_long, newline_halts}
+use Rattle.dcm_build.proofs.Lines.Pieces.{first_of, bytes_taken, more_stands, more_read, limit_at, too_long, newline_halts}
 use Rattle.dcm_build.specs.Builder.{line_at}
 use Rattle.dcm_build.proofs.place.Place.read_some.Goals as goal
 

@@ -1,6 +1,6 @@
 use Rattle.std.proofs.Common.{ap, ◌∙◌, arith}
 use Rattle.dcm_build.specs.Standing.{Standing, container_of}
-use Rattle.dcm_build.proofs.Nested.{item_fits}
+use Rattle.dcm_build.proofs.Files.Depth.{item_fits}
 use Rattle.dcm_build.proofs.standing.Standing.enter_item.Goals as goal
 
 pub push-requires : goal.push-requires

@@ -1,6 +1,6 @@
 use Rattle.std.proofs.Common.{◌<◌, subst, sym, arith}
 use Rattle.dcm_build.specs.Standing.{Standing, lists_open}
-use Rattle.dcm_build.proofs.Nested.{list_fits}
+use Rattle.dcm_build.proofs.Files.Depth.{list_fits}
 use Rattle.dcm_build.proofs.standing.Standing.enter_list.Goals as goal
 
 pub push-requires : goal.push-requires

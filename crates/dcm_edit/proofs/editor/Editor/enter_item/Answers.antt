@@ -1,7 +1,7 @@
 use Rattle.std.proofs.Common.{map, ap}
 use Rattle.dcm_stream.specs.Skip.{depth}
 use Rattle.dcm_edit.specs.Meaning.{edit_of}
-use Rattle.dcm_edit.proofs.Editing.{enters, mask_level}
+use Rattle.dcm_edit.proofs.Masks.Editing.{enters, mask_level}
 use Rattle.dcm_edit.proofs.editor.Editor.enter_item.Goals as goal
 
 pub returns : goal.returns

@@ -3,7 +3,7 @@ use Rattle.dcm_edit.specs.EditSink.{next}
 use Rattle.dcm_edit.specs.Editing.{meant}
 use Rattle.dcm_stream.specs.Tokens.{atoms_of}
 use Rattle.dcm_stream.specs.declared.token.Token.{Token}
-use Rattle.dcm_edit.proofs.Answering.{bytes_stay}
+use Rattle.dcm_edit.proofs.Masks.Answering.{bytes_stay}
 use Rattle.dcm_edit.proofs.editor.Editor.go_on.Goals as goal
 
 pub returns-in-Open : goal.returns-in-Open

@@ -2,7 +2,7 @@ use Rattle.std.proofs.Common.{◌∙◌, [], ap, map}
 use Rattle.dcm_edit.specs.Making.{texts}
 use Rattle.dcm_edit.specs.Meaning.{edit_of}
 use Rattle.dcm_edit.specs.Overlap.{first_overlap}
-use Rattle.dcm_edit.proofs.ManyEdits.{are_meant}
+use Rattle.dcm_edit.proofs.Words.ManyEdits.{are_meant}
 use Rattle.dcm_edit.proofs.edits.Edits.parse.Goals as goal
 
 pub invariant_of-result : goal.invariant_of-result

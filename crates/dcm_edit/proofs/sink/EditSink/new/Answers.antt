@@ -4,7 +4,7 @@ use Rattle.dcm_edit.specs.EditSink.{State, begun}
 use Rattle.dcm_edit.specs.Editing as editing
 use Rattle.dcm_edit.specs.Masks as masks
 use Rattle.dcm_edit.specs.Sound.{IsSound}
-use Rattle.dcm_edit.proofs.MeantEdits.{few_listed, sound_meant}
+use Rattle.dcm_edit.proofs.Words.MeantEdits.{few_listed, sound_meant}
 use Rattle.dcm_edit.proofs.sink.EditSink.new.Goals as goal
 
 pub new-requires : goal.new-requires

@@ -1,7 +1,7 @@
 use Rattle.std.proofs.Common.{◌≤◌, ◌∙◌, ◌-◌, sym, ap, subst, arith, length, drop, length-drop}
 use Rattle.std.proofs.lemmas.List.{length-take-le}
 use Rattle.dcm_head.specs.MetaReading.{Reading, HasEnded}
-use Rattle.dcm_head.proofs.Kept.{ended_whole}
+use Rattle.dcm_head.proofs.HeadReading.GoesOn.{ended_whole}
 use Rattle.dcm_head.proofs.meta.Meta.bytes.Goals as goal
 
 pub returns-clause-place : goal.returns-clause-place

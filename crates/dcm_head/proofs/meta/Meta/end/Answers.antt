@@ -1,6 +1,6 @@
 use Rattle.std.proofs.Common.{◌∙◌, ◌<◌, length, ap, subst}
 use Rattle.dcm_head.specs.MetaReading.{Reading}
-use Rattle.dcm_head.proofs.Kept.{room}
+use Rattle.dcm_head.proofs.HeadReading.GoesOn.{room}
 use Rattle.dcm_head.proofs.meta.Meta.end.Goals as goal
 
 pub returns-clause-room : goal.returns-clause-room

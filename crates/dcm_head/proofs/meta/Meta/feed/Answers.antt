@@ -1,6 +1,6 @@
 use Rattle.std.proofs.Common.{◌∙◌, ◌-◌, ◌<◌, sym, ap, subst, length, take, ℕ, List, Some}
 use Rattle.dcm_head.specs.MetaReading.{EndsIn, UsesWithin}
-use Rattle.dcm_head.proofs.Stays.{grew, answers, uses_piece}
+use Rattle.dcm_head.proofs.HeadReading.Stays.{grew, answers, uses_piece}
 use Rattle.dcm_head.proofs.meta.Meta.feed.Goals as goal
 
 pub answer-requires-clause-before : goal.answer-requires-clause-before

@@ -2,8 +2,8 @@ use Rattle.std.proofs.Common.{◌≡◌, ◌++◌, ◌∙◌, ap, sym, ℕ, leng
 use Rattle.std.proofs.lemmas.List.{take-append-drop, append-nil}
 use Rattle.dcm_stream.specs.declared.machine.Machine.TheInside.{Inside}
 use Rattle.dcm_stream.specs.Machine.{next_offset, reading, stop_of, is_output}
-use Rattle.dcm_stream.proofs.Fed.{stands_behind, offset_behind}
-use Rattle.dcm_stream.proofs.Calls.{view_at, going_none, no_some, none_of, not_halted, tells_begin, tells_none, tells_still, tells_halt, gone_nowhere, gone_on, gone_halted, gone_still, empty_by}
+use Rattle.dcm_stream.proofs.Runs.StaysSmall.{stands_behind, offset_behind}
+use Rattle.dcm_stream.proofs.Runs.Calls.{view_at, going_none, no_some, none_of, not_halted, tells_begin, tells_none, tells_still, tells_halt, gone_nowhere, gone_on, gone_halted, gone_still, empty_by}
 use Rattle.dcm_stream.proofs.machine.Machine.feed.Goals as goal
 use Rattle.dcm_stream.proofs.machine.Machine.feed.Goals.{then-loop-self-test+else-is_none, else-loop-self-test}
 

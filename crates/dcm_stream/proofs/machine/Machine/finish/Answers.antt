@@ -3,7 +3,7 @@ use Rattle.dcm_base.specs.Steps.{Goes}
 use Rattle.dcm_stream.specs.declared.machine.Machine.TheInside.{Inside}
 use Rattle.dcm_stream.specs.Reading.{finish, end_shows}
 use Rattle.dcm_stream.specs.Machine.{reading, stop_of, is_output, well, ended}
-use Rattle.dcm_stream.proofs.Calls.{none_of, ended_goes, still_goes, ended_reading, still_reading}
+use Rattle.dcm_stream.proofs.Runs.Calls.{none_of, ended_goes, still_goes, ended_reading, still_reading}
 use Rattle.dcm_stream.proofs.machine.Machine.finish.Goals as goal
 use Rattle.dcm_stream.proofs.machine.Machine.finish.Goals.{then-is_none, else-is_none}
 

@@ -1,6 +1,6 @@
 use Rattle.std.proofs.Common.{sym, subst}
 use Rattle.dcm_stream.specs.Machine.{Stands}
-use Rattle.dcm_stream.proofs.Fed.{start_stands}
+use Rattle.dcm_stream.proofs.Runs.StaysSmall.{start_stands}
 use Rattle.dcm_stream.proofs.machine.Machine.new.Goals as goal
 
 pub invariant_of-result : goal.invariant_of-result

@@ -1,6 +1,6 @@
 use Rattle.std.proofs.Common.{◌≡◌, ◌∙◌, ◌+◌, ap, sym, ℕ, true, false}
 use Rattle.dcm_stream.specs.Machine.{may_end}
-use Rattle.dcm_stream.proofs.Finishes.{early_answer, early_goes, ends_answer, ends_goes, whole_answer, whole_goes}
+use Rattle.dcm_stream.proofs.Steps.Finishes.{early_answer, early_goes, ends_answer, ends_goes, whole_answer, whole_goes}
 use Rattle.dcm_stream.proofs.place.Place.end.Goals as goal
 
 pub returns-then-not-may_end-clause-answer : goal.returns-then-not-may_end-clause-answer

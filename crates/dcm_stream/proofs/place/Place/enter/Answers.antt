@@ -2,7 +2,7 @@ use Rattle.std.proofs.Common.{◌≡◌, ◌∙◌, ap}
 use Rattle.dcm_stream.specs.declared.place.Place.{Place}
 use Rattle.dcm_stream.specs.Tokens.{atoms_of}
 use Rattle.dcm_stream.specs.Machine.{reading}
-use Rattle.dcm_stream.proofs.Enters.{Leads, leads_sequence, leads_fragments, leads_item, leads_out, fails_enter, enters_value, enters_container}
+use Rattle.dcm_stream.proofs.Heads.Entered.{Leads, leads_sequence, leads_fragments, leads_item, leads_out, fails_enter, enters_value, enters_container}
 use Rattle.dcm_stream.proofs.place.Place.enter.Goals as goal
 use Rattle.dcm_stream.proofs.place.Place.enter.Goals.{in-Sequence, in-FragmentList, in-Item, in-End}
 

@@ -1,8 +1,8 @@
 use Rattle.std.proofs.Common.{◌+◌, sym, refl, ℕ, Ok, Err, arith}
 use Rattle.dcm_stream.specs.Machine.{reading}
-use Rattle.dcm_stream.proofs.HeadBytes.{some_container}
-use Rattle.dcm_stream.proofs.Pieces.{fails_first}
-use Rattle.dcm_stream.proofs.PieceHeads.{piece_short, piece_waits, piece_refused, piece_fits, piece_few, piece_opens}
+use Rattle.dcm_stream.proofs.Heads.HeadBytes.{some_container}
+use Rattle.dcm_stream.proofs.Runs.Pieces.{fails_first}
+use Rattle.dcm_stream.proofs.Heads.PieceHeads.{piece_short, piece_waits, piece_refused, piece_fits, piece_few, piece_opens}
 use Rattle.dcm_stream.proofs.place.Place.read_head.Goals as goal
 
 pub returns-in_default-clause-feeds : goal.returns-in_default-clause-feeds

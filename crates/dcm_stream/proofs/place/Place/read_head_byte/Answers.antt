@@ -2,7 +2,7 @@ use Rattle.std.proofs.Common.{◌≡◌, ◌∙◌, ◌+◌, ◌++◌, ◌∷◌
 use Rattle.dcm_stream.specs.Places.{innermost}
 use Rattle.dcm_stream.specs.Judging.{bars_head}
 use Rattle.dcm_stream.specs.Machine.{reading}
-use Rattle.dcm_stream.proofs.HeadBytes.{some_container, judged_at, feeds_refused, feeds_waiting, opens_few, feeds_opening}
+use Rattle.dcm_stream.proofs.Heads.HeadBytes.{some_container, judged_at, feeds_refused, feeds_waiting, opens_few, feeds_opening}
 use Rattle.dcm_stream.proofs.place.Place.read_head_byte.Goals as goal
 
 pub returns-in_default-clause-feeds : goal.returns-in_default-clause-feeds

@@ -1,5 +1,5 @@
 use Rattle.std.proofs.Common.{◌≡◌, ◌∷◌, [], refl, length, get_or, ℕ, Ok, Err, arith}
-use Rattle.dcm_stream.proofs.Pieces.{first_byte, limit_at, value_goes, fails_first, heads_at, within_piece}
+use Rattle.dcm_stream.proofs.Runs.Pieces.{first_byte, limit_at, value_goes, fails_first, heads_at, within_piece}
 use Rattle.dcm_stream.proofs.place.Place.read_some.Goals as goal
 
 pub returns-then-read-ge-INPUT_LIMIT-clause-feeds : goal.returns-then-read-ge-INPUT_LIMIT-clause-feeds

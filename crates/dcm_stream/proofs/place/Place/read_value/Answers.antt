@@ -2,7 +2,7 @@ use Rattle.std.proofs.Common.{◌-◌, ◌+◌, map, length, ℕ}
 use Rattle.dcm_base.specs.Atoms.{value_byte}
 use Rattle.dcm_stream.specs.Reading.{closing}
 use Rattle.dcm_stream.specs.Machine.{reading}
-use Rattle.dcm_stream.proofs.Drives.{comes_behind, fails_behind}
+use Rattle.dcm_stream.proofs.Runs.Parts.{comes_behind, fails_behind}
 use Rattle.dcm_stream.proofs.place.Place.read_value.Goals as goal
 
 pub returns-in_err-take-clause-comes : goal.returns-in_err-take-clause-comes

@@ -1,6 +1,6 @@
 use Rattle.std.proofs.Common.{◌≡◌, arith}
 use Rattle.dcm_stream.specs.Machine.{reading}
-use Rattle.dcm_stream.proofs.Drives.{comes_settled}
+use Rattle.dcm_stream.proofs.Runs.Parts.{comes_settled}
 use Rattle.dcm_stream.proofs.place.Place.settle_value.Goals as goal
 
 pub returns-clause-comes : goal.returns-clause-comes

@@ -1,5 +1,5 @@
 use Rattle.std.proofs.Common.{arith}
-use Rattle.dcm_value.proofs.Shows.{filled_full, filled_short}
+use Rattle.dcm_value.proofs.Displays.Facts.{filled_full, filled_short}
 use Rattle.dcm_value.proofs.display.Shown.emit.Goals as goal
 use Rattle.dcm_value.proofs.display.Shown.emit.Goals.{in-Full+in_ok-put_all-in-Full, in-Short}
 

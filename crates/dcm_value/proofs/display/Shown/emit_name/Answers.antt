@@ -2,7 +2,7 @@ use Rattle.std.proofs.Common.{refl, ◌≡◌, ◌∙◌, ap, sym, ◌++◌, cod
 use Rattle.dcm_base.specs.Uid.{uid_name}
 use Rattle.dcm_base.specs.ValueText.{escaped}
 use Rattle.dcm_value.specs.Shown.{display}
-use Rattle.dcm_value.proofs.Emits.{part_starts, part_more, part_failed, part_last, settled_of, named, unnamed}
+use Rattle.dcm_value.proofs.Displays.Emits.{part_starts, part_more, part_failed, part_last, settled_of, named, unnamed}
 use Rattle.dcm_value.proofs.display.Shown.emit_name.Goals as goal
 
 pub returns-in_err-emit-in-Some-clause-bytes : goal.returns-in_err-emit-in-Some-clause-bytes

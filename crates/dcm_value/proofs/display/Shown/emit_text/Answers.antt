@@ -4,8 +4,8 @@ use Rattle.dcm_base.specs.Device.{Puts}
 use Rattle.dcm_base.specs.ValueText.{escaped}
 use Rattle.dcm_value.specs.Display.{is_cut, emit, at_once}
 use Rattle.dcm_value.specs.Shown.{display}
-use Rattle.dcm_value.proofs.Emits.{part_starts, part_more, part_failed, part_cut, settled_of, cut_stays, escaped_split}
-use Rattle.dcm_value.proofs.Plain.{plain_escaped}
+use Rattle.dcm_value.proofs.Displays.Emits.{part_starts, part_more, part_failed, part_cut, settled_of, cut_stays, escaped_split}
+use Rattle.dcm_value.proofs.Displays.PlainTexts.{plain_escaped}
 use Rattle.dcm_value.proofs.display.Shown.emit_text.Goals as goal
 
 pub loop-self-init : goal.loop-self-init

@@ -1,7 +1,7 @@
 use Rattle.std.proofs.Common.{◌≡◌, length}
 use Rattle.dcm_base.specs.ValueText.{escaped}
 use Rattle.dcm_value.specs.Shown.{display}
-use Rattle.dcm_value.proofs.Emits.{PartShown}
+use Rattle.dcm_value.proofs.Displays.Emits.{PartShown}
 use Rattle.dcm_value.proofs.display.Shown.emit_text.Given as goal
 
 -- a part of the text is shown

@@ -3,7 +3,7 @@ use Rattle.dcm_base.specs.Value.{units}
 use Rattle.dcm_base.specs.ValueText.{shown_unit}
 use Rattle.dcm_value.specs.Shown.{display}
 use Rattle.dcm_value.specs.Units.{one_text, separated}
-use Rattle.dcm_value.proofs.Emits.{PartShown}
+use Rattle.dcm_value.proofs.Displays.Emits.{PartShown}
 use Rattle.dcm_value.proofs.display.Shown.emit_units.Given as goal
 
 -- a part of the units is shown

@@ -1,6 +1,6 @@
 use Rattle.std.proofs.Common.{◌∙◌, ap, sym, take, codes, ◌++◌}
 use Rattle.std.specs.Prelude.{min}
-use Rattle.dcm_value.proofs.Shows.{puts_parts, cut_ending}
+use Rattle.dcm_value.proofs.Displays.Facts.{puts_parts, cut_ending}
 use Rattle.dcm_value.proofs.display.Shown.end.Goals as goal
 
 pub returns-in_ok-put_all-in-Short-clause-bytes : goal.returns-in_ok-put_all-in-Short-clause-bytes

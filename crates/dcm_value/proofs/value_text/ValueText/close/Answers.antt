@@ -3,7 +3,7 @@ use Rattle.dcm_value.specs.Display.{emit}
 use Rattle.dcm_value.specs.Shown.{display}
 use Rattle.dcm_value.specs.ValueText.{progress}
 use Rattle.dcm_value.specs.Progress.{closing}
-use Rattle.dcm_value.proofs.Emits.{settled_of}
+use Rattle.dcm_value.proofs.Displays.Emits.{settled_of}
 use Rattle.dcm_value.proofs.value_text.ValueText.close.Goals as goal
 
 pub returns-in-InUnits-clause-display : goal.returns-in-InUnits-clause-display

@@ -4,8 +4,8 @@ use Rattle.dcm_value.specs.Way.{room}
 use Rattle.dcm_value.specs.Units.{one_text}
 use Rattle.dcm_value.specs.ValueText.{progress}
 use Rattle.dcm_value.specs.Progress.{separator}
-use Rattle.dcm_value.proofs.Emits.{settled_of}
-use Rattle.dcm_value.proofs.Steps.{leads_unit, completed_goes, lacks_all}
+use Rattle.dcm_value.proofs.Displays.Emits.{settled_of}
+use Rattle.dcm_value.proofs.Displays.Steps.{leads_unit, completed_goes, lacks_all}
 use Rattle.dcm_value.proofs.value_text.ValueText.complete.Goals as goal
 
 pub returns-clause-goes : goal.returns-clause-goes

@@ -2,8 +2,8 @@ use Rattle.std.proofs.Common.{rules, sym, ◌∙◌, ap, ◌≡◌, fold}
 use Rattle.dcm_value.specs.declared.way.Way.TheVariants.{ByName}
 use Rattle.dcm_value.specs.ValueText.{progress}
 use Rattle.dcm_value.specs.Progress.{way, step}
-use Rattle.dcm_value.proofs.Emits.{settled_of}
-use Rattle.dcm_value.proofs.Steps.{leads_name, feeds_on, opening_waits, opening_failed}
+use Rattle.dcm_value.proofs.Displays.Emits.{settled_of}
+use Rattle.dcm_value.proofs.Displays.Steps.{leads_name, feeds_on, opening_waits, opening_failed}
 use Rattle.dcm_value.proofs.value_text.ValueText.feed.Goals as goal
 
 pub returns-in_err-open-clause-bytes : goal.returns-in_err-open-clause-bytes

@@ -1,6 +1,6 @@
 use Rattle.std.proofs.Common.{arith}
 use Rattle.dcm_value.specs.ValueText.{progress}
-use Rattle.dcm_value.proofs.Steps.{goes_parts, goes_stops, last_apart}
+use Rattle.dcm_value.proofs.Displays.Steps.{goes_parts, goes_stops, last_apart}
 use Rattle.dcm_value.proofs.value_text.ValueText.feed_text.Goals as goal
 
 pub returns-in_err-show_text-clause-goes : goal.returns-in_err-show_text-clause-goes

@@ -1,8 +1,8 @@
 use Rattle.std.proofs.Common.{rules, ◌<◌, ◌+◌, length}
 use Rattle.dcm_base.specs.ValueText.{shown_unit}
 use Rattle.dcm_value.specs.ValueText.{progress}
-use Rattle.dcm_value.proofs.Emits.{settled_of}
-use Rattle.dcm_value.proofs.Steps.{waits_goes, leads_part, goes_parts, goes_stops, split_apart}
+use Rattle.dcm_value.proofs.Displays.Emits.{settled_of}
+use Rattle.dcm_value.proofs.Displays.Steps.{waits_goes, leads_part, goes_parts, goes_stops, split_apart}
 use Rattle.dcm_value.proofs.value_text.ValueText.feed_units.Goals as goal
 
 pub returns-then-bytes-lacking-clause-goes : goal.returns-then-bytes-lacking-clause-goes

@@ -3,8 +3,8 @@ use Rattle.dcm_base.specs.ValueText.{shown_unit}
 use Rattle.dcm_value.specs.declared.way.Way.TheVariants.{InUnits}
 use Rattle.dcm_value.specs.ValueText.{progress}
 use Rattle.dcm_value.specs.Progress.{way}
-use Rattle.dcm_value.proofs.Emits.{settled_of}
-use Rattle.dcm_value.proofs.Steps.{waits_goes, leads_part, goes_parts, goes_stops, split_apart}
+use Rattle.dcm_value.proofs.Displays.Emits.{settled_of}
+use Rattle.dcm_value.proofs.Displays.Steps.{waits_goes, leads_part, goes_parts, goes_stops, split_apart}
 use Rattle.dcm_base.specs.declared.device.WriteFailed.{WriteFailed}
 use Rattle.dcm_value.proofs.value_text.ValueText.feed_whole.Goals as goal
 

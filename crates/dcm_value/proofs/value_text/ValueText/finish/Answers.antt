@@ -1,5 +1,5 @@
 use Rattle.dcm_value.specs.ValueText.{progress}
-use Rattle.dcm_value.proofs.Steps.{ends_whole, ending_failed, closing_failed}
+use Rattle.dcm_value.proofs.Displays.Steps.{ends_whole, ending_failed, closing_failed}
 use Rattle.dcm_value.proofs.value_text.ValueText.finish.Goals as goal
 
 pub returns-in_err-close-clause-bytes : goal.returns-in_err-close-clause-bytes

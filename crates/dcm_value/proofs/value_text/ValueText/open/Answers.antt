@@ -3,8 +3,8 @@ use Rattle.dcm_value.specs.Display.{emit}
 use Rattle.dcm_value.specs.Shown.{display}
 use Rattle.dcm_value.specs.ValueText.{progress}
 use Rattle.dcm_value.specs.Progress.{opening}
-use Rattle.dcm_value.proofs.Emits.{settled_of}
-use Rattle.dcm_value.proofs.Steps.{opened_as}
+use Rattle.dcm_value.proofs.Displays.Emits.{settled_of}
+use Rattle.dcm_value.proofs.Displays.Steps.{opened_as}
 use Rattle.dcm_value.proofs.value_text.ValueText.open.Goals as goal
 use Rattle.dcm_value.proofs.value_text.ValueText.open.Goals.{else-eq-via-then-eq+then-self-gt0+else-is_blank, else-eq-via-then-eq+else-self-gt0, else-eq-via-else-eq}
 

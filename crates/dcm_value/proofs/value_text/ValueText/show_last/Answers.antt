@@ -2,7 +2,7 @@ use Rattle.std.proofs.Common.{rules, refl, ap, ◌+◌, ◌∙◌, ◌≡◌, �
 use Rattle.dcm_base.specs.Representation.{pad}
 use Rattle.dcm_base.specs.ValueText.{escape}
 use Rattle.dcm_value.specs.ValueText.{progress}
-use Rattle.dcm_value.proofs.Steps.{leads_last, shown_goes, same_progress}
+use Rattle.dcm_value.proofs.Displays.Steps.{leads_last, shown_goes, same_progress}
 use Rattle.dcm_value.proofs.value_text.ValueText.show_last.Goals as goal
 
 pub returns-clause-goes : goal.returns-clause-goes

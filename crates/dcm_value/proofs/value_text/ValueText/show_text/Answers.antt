@@ -2,8 +2,8 @@ use Rattle.std.proofs.Common.{refl, ap, ◌+◌, length}
 use Rattle.std.specs.Prelude.{count_by, ◌==◌}
 use Rattle.dcm_base.specs.ValueText.{escaped}
 use Rattle.dcm_value.specs.ValueText.{progress}
-use Rattle.dcm_value.proofs.Emits.{settled_of}
-use Rattle.dcm_value.proofs.Steps.{leads_text, shown_goes, same_progress}
+use Rattle.dcm_value.proofs.Displays.Emits.{settled_of}
+use Rattle.dcm_value.proofs.Displays.Steps.{leads_text, shown_goes, same_progress}
 use Rattle.dcm_value.proofs.value_text.ValueText.show_text.Goals as goal
 
 pub returns-clause-goes : goal.returns-clause-goes

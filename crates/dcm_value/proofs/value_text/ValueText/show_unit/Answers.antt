@@ -2,7 +2,7 @@ use Rattle.std.proofs.Common.{refl, arith, ◌∙◌, ◌≡◌, ◌++◌, [], L
 use Rattle.dcm_value.specs.Units.{one_text}
 use Rattle.dcm_value.specs.ValueText.{progress}
 use Rattle.dcm_value.specs.Progress.{separator}
-use Rattle.dcm_value.proofs.Steps.{shown_further, same_progress}
+use Rattle.dcm_value.proofs.Displays.Steps.{shown_further, same_progress}
 use Rattle.dcm_value.proofs.value_text.ValueText.show_unit.Goals as goal
 
 pub returns-clause-state : goal.returns-clause-state

@@ -1,0 +1,154 @@
+-- A line of a dump means what it shows.
+use Rattle.std.proofs.Common.{◌≡◌, ℕ, zero, suc, ◌<◌, ◌-◌, ◌*◌, ◌^◌, List, [], ◌∷◌, ◌++◌, length, Option, Some, None, Bool, true, false, ◌&&◌, cond, refl, ◌∙◌, ap, subst, arith, codes, replicate, append_assoc, decimal}
+use Rattle.std.specs.Prelude.{◌==◌, if◌then◌else◌, nat_le, find, option_map}
+use Rattle.std.specs.List.{list_all}
+use Rattle.std.specs.Option.{option_map_or}
+use Rattle.dcm_base.specs.declared.tag.Tag.{Tag}
+use Rattle.dcm_base.specs.declared.vr.Vr.{Vr}
+use Rattle.dcm_base.specs.declared.length.Length.TheVariants.{Known, Undefined}
+use Rattle.dcm_base.specs.Tag.{number}
+use Rattle.dcm_base.specs.declared.length.Length.{Length}
+use Rattle.dcm_base.specs.Dictionary.{Element, elements, element, keyword, is_group_length, is_private_creator, other_keyword}
+use Rattle.dcm_base.specs.ValueText.{tag_text}
+use Rattle.dcm_base.specs.Dump.{length_text, line}
+use Rattle.dcm_base.specs.Line.{is_end, is_skipped, meaning_of, means}
+use Rattle.dcm_base.proofs.DumpsBack.Fields.{Bytewise, Bytewise-append, Bytewise-decimal, IsPrinted, printed_text, tag_is_printed}
+use Rattle.dcm_base.proofs.DumpsBack.LineParts.{past_indent, line_means, tag_from}
+
+-- spaces, one space more and a comment are a space and what is skipped
+pub record Behind (w : List ℕ) : Type 0 where
+  pub tail : List ℕ
+  pub is : w ≡ 32 ∷ tail
+  pub skipped : is_skipped (32 ∷ tail) ≡ true
+
+spaces_then : (m : ℕ) (c : List ℕ) → Behind (replicate m 32 ++ 32 ∷ 35 ∷ c)
+spaces_then zero c = record { tail = 35 ∷ c; is = refl; skipped = refl }
+spaces_then (suc m) c = record { tail = replicate m 32 ++ 32 ∷ 35 ∷ c; is = refl; skipped = ap is_end (past_indent m (32 ∷ 35 ∷ c)) }
+
+-- a line up to its newline, and what it means
+pub record Meant (l : List ℕ) (g e x y : ℕ) (d : List ℕ) : Type 0 where
+  pub body : List ℕ
+  pub is : l ≡ body ++ 10 ∷ []
+  pub tail : List ℕ
+  pub skipped : is_skipped (32 ∷ tail) ≡ true
+  pub printed : Bytewise IsPrinted body
+  pub means_is : means body ≡ meaning_of (Some (record { tag = tag_from g e; letters = x ∷ y ∷ []; rest = d ++ 32 ∷ tail }))
+
+-- ---- printed bytes
+
+spaces_are_printed : (n : ℕ) (r : List ℕ) → Bytewise IsPrinted r → Bytewise IsPrinted (replicate n 32 ++ r)
+spaces_are_printed zero r h = h
+spaces_are_printed (suc n) r h = (omega arith, spaces_are_printed n r h)
+
+decimal_is_printed : (n : ℕ) → n < 2 ^ 64 → Bytewise IsPrinted (decimal n)
+decimal_is_printed n l = Bytewise-decimal IsPrinted (λ d m. omega (arith, m)) n l
+
+abbrev pub IsSmall : Length → Type 0
+IsSmall (Known n) = n < 2 ^ 64
+IsSmall Undefined = Unit {0}
+
+size_is_printed : (size : Length) → IsSmall size → Bytewise IsPrinted (length_text size)
+size_is_printed (Known n) l =
+    subst (Bytewise IsPrinted) refl (spaces_are_printed (3 - length (decimal n)) (decimal n) (decimal_is_printed n l))
+size_is_printed Undefined l = printed_text (codes "u/l") refl
+
+has_printed_keyword : Element → Bool
+has_printed_keyword e = list_all (λ c. nat_le 32 c) e.2
+
+all_keywords : list_all has_printed_keyword elements ≡ true
+unfolding elements has_printed_keyword
+all_keywords = refl
+
+and_one : (a b : Bool) → (a && b) ≡ true → a ≡ true
+and_one true b p = refl
+and_one false b p = cc
+
+and_two : (a b : Bool) → (a && b) ≡ true → b ≡ true
+and_two true b p = p
+and_two false b p = cc
+
+found_has : (p q : Element → Bool) (l : List Element) (e : Element) → list_all q l ≡ true → find p l ≡ Some e → q e ≡ true
+found_has p q [] e a f = cc
+found_has p q (x ∷ l) e a f = by_test (p x) f (found_has p q l e (and_two (q x) _ a))
+  where
+    by_test : (t : Bool) → cond t (Some x) (find p l) ≡ Some e → (find p l ≡ Some e → q e ≡ true) → q e ≡ true
+    by_test true g more = let same : x ≡ e = cc in subst (λ y. q y ≡ true) same (and_one _ _ a)
+    by_test false g more = more g
+
+keyword_is_printed : (t : Tag) → Bytewise IsPrinted (keyword t)
+unfolding keyword element has_printed_keyword
+keyword_is_printed t = by_element (find (λ (e : Element). e.0 == number t) elements) refl
+  where
+    by_number : (a b c : Bool) → Bytewise IsPrinted (if a then codes "Item" else if b then codes "ItemDelimitationItem" else if c then codes "SequenceDelimitationItem" else codes "Unknown Tag & Data")
+    by_number true b c = printed_text (codes "Item") refl
+    by_number false true c = printed_text (codes "ItemDelimitationItem") refl
+    by_number false false true = printed_text (codes "SequenceDelimitationItem") refl
+    by_number false false false = printed_text (codes "Unknown Tag & Data") refl
+
+    by_kind : (a b : Bool) (other : List ℕ) → Bytewise IsPrinted other → Bytewise IsPrinted (if a then codes "GenericGroupLength" else if b then codes "PrivateCreator" else other)
+    by_kind true b other h = printed_text (codes "GenericGroupLength") refl
+    by_kind false true other h = printed_text (codes "PrivateCreator") refl
+    by_kind false false other h = h
+
+    by_element : (o : Option Element) → find (λ (e : Element). e.0 == number t) elements ≡ o
+        → Bytewise IsPrinted (option_map_or (λ (e : Vr × List ℕ). e.1) (option_map (λ (e : Element). (e.1, e.2)) o) (if is_group_length t then codes "GenericGroupLength" else if is_private_creator t then codes "PrivateCreator" else other_keyword (number t)))
+    by_element (Some e) p = printed_text e.2 (found_has (λ x. x.0 == number t) has_printed_keyword elements e all_keywords p)
+    by_element None p = by_kind (is_group_length t) (is_private_creator t) (other_keyword (number t)) (by_number (number t == 0xFFFEE000) (number t == 0xFFFEE00D) (number t == 0xFFFEE0DD))
+
+-- behind the display
+abbrev comment : List ℕ → ℕ → List ℕ → List ℕ
+comment size n name = 32 ∷ (size ++ (44 ∷ 32 ∷ (decimal n ++ 32 ∷ name)))
+
+-- the pieces of a line, each before all that follows it
+regroup : (indent tag l d spaces size number name : List ℕ)
+    → indent ++ tag ++ 32 ∷ [] ++ l ++ 32 ∷ [] ++ (d ++ spaces) ++ 32 ∷ 35 ∷ 32 ∷ [] ++ size ++ 44 ∷ 32 ∷ [] ++ number ++ 32 ∷ [] ++ name
+    ≡ indent ++ (tag ++ 32 ∷ (l ++ 32 ∷ (d ++ (spaces ++ 32 ∷ 35 ∷ 32 ∷ (size ++ (44 ∷ 32 ∷ (number ++ 32 ∷ name)))))))
+regroup indent tag l d spaces size number name = simp append_assoc
+
+module _ (level g e x y c : ℕ) (more : List ℕ) (g_small : g < 65536) (e_small : e < 65536) (x_letter : (x == 32) ≡ false) (c_field : (c == 32) ≡ false) (c_shows : (c == 35) ≡ false) (x_printed : IsPrinted x) (y_printed : IsPrinted y) (d_printed : Bytewise IsPrinted (c ∷ more)) (size : Length) (n : ℕ) (size_small : IsSmall size) (n_small : n < 2 ^ 64) where
+  abbrev d : List ℕ
+  d = c ∷ more
+
+  abbrev spaces : List ℕ
+  spaces = replicate (40 - length d) 32
+
+  abbrev told : List ℕ
+  told = comment (length_text size) n (keyword (tag_from g e))
+
+  abbrev up_to : List ℕ
+  up_to = replicate (2 * level) 32 ++ (tag_text g e ++ 32 ∷ x ∷ y ∷ 32 ∷ (d ++ (spaces ++ 32 ∷ 35 ∷ told)))
+
+  -- without its newline
+  line_is : line level (tag_from g e) (x ∷ y ∷ []) d size n ≡ up_to ++ 10 ∷ []
+  line_is = ap (λ z. z ++ 10 ∷ []) (regroup (replicate (2 * level) 32) (tag_text g e) (x ∷ y ∷ []) d spaces (length_text size) (decimal n) (keyword (tag_from g e)))
+
+  told_is_printed : Bytewise IsPrinted told
+  told_is_printed = (
+    omega arith,
+    Bytewise-append IsPrinted (length_text size) (44 ∷ 32 ∷ (decimal n ++ 32 ∷ keyword (tag_from g e))) (size_is_printed size size_small)
+        (omega arith, (omega arith, Bytewise-append IsPrinted (decimal n) (32 ∷ keyword (tag_from g e)) (decimal_is_printed n n_small) (omega arith, keyword_is_printed (tag_from g e)))),
+  )
+
+  abbrev behind_tag : List ℕ
+  behind_tag = 32 ∷ x ∷ y ∷ 32 ∷ (d ++ (spaces ++ 32 ∷ 35 ∷ told))
+
+  behind_is_printed : Bytewise IsPrinted behind_tag
+  behind_is_printed =
+      (omega arith, (x_printed, (y_printed, (omega arith, Bytewise-append IsPrinted d (spaces ++ 32 ∷ 35 ∷ told) d_printed (spaces_are_printed (40 - length d) (32 ∷ 35 ∷ told) (omega arith, (omega arith, told_is_printed)))))))
+
+  up_to_is_printed : Bytewise IsPrinted up_to
+  up_to_is_printed = spaces_are_printed (2 * level) (tag_text g e ++ behind_tag) (tag_is_printed g e behind_tag g_small e_small behind_is_printed)
+
+  pub line_meant : Meant (line level (tag_from g e) (x ∷ y ∷ []) d size n) g e x y d
+  line_meant =
+      let b = spaces_then (40 - length d) told in
+      record {
+        body = up_to;
+        is = line_is;
+        tail = b.tail;
+        skipped = b.skipped;
+        printed = up_to_is_printed;
+        means_is =
+            line_means g e x y c (more ++ (spaces ++ 32 ∷ 35 ∷ told)) g_small e_small x_letter c_field c_shows (2 * level)
+            ∙ ap (λ z. meaning_of (Some (record { tag = tag_from g e; letters = x ∷ y ∷ []; rest = d ++ z }))) b.is;
+      }

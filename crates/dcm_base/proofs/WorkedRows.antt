@@ -1,0 +1,10 @@
+-- Worked rows of the definitions, one file a definition.
+pub mod Readings
+pub mod CutInputs
+pub mod DeepNesting
+pub mod Dumps
+pub mod Conversions
+pub mod Values
+pub mod LineMeanings
+pub mod Lines
+pub mod Builds

@@ -1,0 +1,4 @@
+-- Bytes that go out in parts, and steps over lists in parts.
+pub mod Puts
+pub mod Runs
+pub mod PartsOut

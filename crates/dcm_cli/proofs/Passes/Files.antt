@@ -1,0 +1,247 @@
+-- A file that a job reads, in the words of the definitions.
+use Rattle.std.proofs.Common.{◌≡◌, ◌∙◌, ap, sym, subst, ℕ, ◌+◌, ◌≤◌, List, [], ◌++◌, append_assoc, length, length-append, drop, Bool, true, false, Option, None, Some, refl, arith, Err, inl, inr}
+use Rattle.std.specs.Prelude.{◌⊎◌}
+use Rattle.std.specs.Io.KnownBytes.{append_known, prepend_known, IsAtEnd}
+use Rattle.std.proofs.lemmas.List.{append-nil, drop-append-le}
+use Rattle.dcm_base.specs.declared.fault.Stop.{Stop as HaltStop}
+use Rattle.dcm_base.specs.declared.fault.Fault.TheVariants.{CannotChange}
+use Rattle.dcm_base.specs.declared.mode.Mode.{Mode}
+use Rattle.dcm_base.specs.declared.syntax.Coding.{Coding}
+use Rattle.dcm_base.specs.declared.syntax.Syntax.{Syntax}
+use Rattle.dcm_base.specs.Device.{AppendsFront}
+use Rattle.dcm_base.specs.Dump.{dump_front}
+use Rattle.dcm_base.specs.Header.{set_header, meta_header}
+use Rattle.dcm_base.specs.Front.{Front}
+use Rattle.dcm_base.specs.Stop.{Stop, complete, refused as stop_refused, is_undecided}
+use Rattle.dcm_base.specs.MetaReads.{Meta, MetaReads, refused, PREFIX}
+use Rattle.dcm_base.specs.NewMeta.{new_meta}
+use Rattle.dcm_base.specs.Recode.{recode}
+use Rattle.dcm_base.specs.Reads.{INPUT_LIMIT, Reads}
+use Rattle.dcm_words.specs.Words.{Job, dump, convert, build, modify}
+use Rattle.dcm_base.proofs.Writes.Puts.{append_known_twice, append_known_none, front_longer, puts_behind}
+use Rattle.dcm_head.specs.declared.meta_read.MetaEnd.{MetaEnd}
+use Rattle.dcm_head.specs.declared.meta_read.MetaEnd.TheVariants as meta_end
+use Rattle.dcm_head.specs.MetaReading.{Reading, meta_finished}
+use Rattle.dcm_stream.specs.Reading.{start_of}
+use Rattle.dcm_cli.specs.declared.ending.Ending.{Ending}
+use Rattle.dcm_cli.specs.declared.ending.Ending.TheVariants as endings
+use Rattle.dcm_cli.specs.declared.ending.Ending.TheVariants.{Unread, Output}
+use Rattle.dcm_cli.specs.declared.ending.HeadEnding.{HeadEnding}
+use Rattle.dcm_cli.specs.declared.ending.HeadEnding.TheVariants as heads
+use Rattle.dcm_cli.specs.declared.ending.Verdict.TheVariants.{Done, Refused}
+use Rattle.dcm_cli.specs.declared.head.Begun.{Begun}
+use Rattle.dcm_cli.specs.Pass.{Begins, FailsHead, BehindBegun, WasRead, head_read, set_bytes, ending_of_head, with_unplaced}
+use Rattle.dcm_cli.specs.Answer.{edits_of, Source, file as of_file, unopened, going_on, job_bar, refuses_change, target_syntax, target_uid, file_output, output_of, Sure, FileReads, FileSure, not_opened as was_not_opened, not_changed, opened as was_opened, before_set, within_set}
+use Rattle.dcm_cli.specs.Run.{Answered, Worked, answered, could_not_read, could_not_write, verdict_of_source, verdict_of_stop, verdict_at, unplaced_mask}
+use Rattle.dcm_cli.proofs.Passes.Alone.{splits}
+use Rattle.dcm_cli.proofs.Passes.Makers.{Maker, dumper, encoder}
+use Rattle.dcm_cli.proofs.Passes.Sets.{SetMade, set_read, set_unread, set_unwritten, Last, set_made, all_read, none_left, no_edits}
+use Rattle.dcm_cli.proofs.Passes.MetaHeads.{Opened, opened, one_head, not_opened, ended_stays, finished_same, has_end, goes_on_still, ends_before}
+
+-- ---- jobs that read files
+
+abbrev pub reads_file : Job → Bool
+reads_file (dump mode None) = true
+reads_file (dump mode (Some syntax)) = false
+reads_file (convert target) = true
+reads_file (build limit) = false
+reads_file (modify edits) = true
+
+file_answered : (job : Job) → reads_file job ≡ true → (bytes : List ℕ) (source : Source) → FileReads job bytes source → Answered job bytes (output_of job source) (verdict_of_source job source)
+file_answered (dump mode None) is bytes source reads = record { source = source; reads = reads; out_is = refl; verdict_is = refl }
+file_answered (dump mode (Some syntax)) is bytes source reads = cc
+file_answered (convert target) is bytes source reads = record { source = source; reads = reads; out_is = refl; verdict_is = refl }
+file_answered (build limit) is bytes source reads = cc
+file_answered (modify edits) is bytes source reads = record { source = source; reads = reads; out_is = refl; verdict_is = refl }
+
+file_sure : (job : Job) → reads_file job ≡ true → (p out : List ℕ) → FileSure job p out → Sure job p out
+file_sure (dump mode None) is p out sure = sure
+file_sure (dump mode (Some syntax)) is p out sure = cc
+file_sure (convert target) is p out sure = sure
+file_sure (build limit) is p out sure = cc
+file_sure (modify edits) is p out sure = sure
+
+-- what a job makes of a file in a coding: what stands for its head, and then what a sink makes of the data set
+pub record FileMaker (job : Job) (coding : Coding) : Type 1 where
+  pub header : Meta → List ℕ
+  pub text : Front → List ℕ
+  pub maker : Maker (job_bar job coding) text
+  pub output_is : (m : Meta) (f : Front) → file_output job m coding f ≡ header m ++ text f
+
+-- the dump
+abbrev pub file_dumper : (mode : Mode) (coding : Coding) → FileMaker (dump mode None) coding
+file_dumper mode coding = record {
+  header = λ m. meta_header mode m.elements ++ set_header m.uid;
+  text = dump_front mode 0;
+  maker = dumper mode;
+  output_is = λ m f. refl;
+}
+
+-- the conversion
+abbrev pub file_encoder : (target : Option Syntax) (coding : Coding) → FileMaker (convert target) coding
+file_encoder target coding = record {
+  header = λ m. m.preamble ++ PREFIX ++ new_meta m.elements (target_uid target m);
+  text = recode (target_syntax target coding);
+  maker = encoder (target_syntax target coding);
+  output_is = λ m f. refl;
+}
+
+-- ---- before the data set
+
+-- the head is all that was read, or more may follow it
+finished_over : (r : Reading) (read rest : List ℕ) (end : MetaEnd) → r.end ≡ Some end → r ≡ head_read read → meta_finished (head_read (read ++ rest)) ≡ r
+finished_over r read rest end h e = ap meta_finished (ended_stays r read rest end e h) ∙ finished_same r end h
+
+finished_at : (r : Reading) (left : Option (List ℕ)) (read rest : List ℕ) → left ≡ Some rest → IsAtEnd left → r ≡ meta_finished (head_read read) → meta_finished (head_read (read ++ rest)) ≡ r
+finished_at r left read rest some over e =
+    ap (λ (bs : List ℕ). meta_finished (head_read (read ++ bs))) (none_left left rest over some) ∙ ap (λ (bs : List ℕ). meta_finished (head_read bs)) (append-nil read) ∙ sym e
+
+pub file_unopened : (job : Job) → reads_file job ≡ true → (file : List ℕ) (held had left : Option (List ℕ)) (r : Reading) (read : List ℕ) (ending : HeadEnding) → had ≡ Some file → had ≡ prepend_known read left
+    → FailsHead r left read ending → Worked job file left held held (ending_of_head ending)
+file_unopened job is_file file held had left r read ending some given fails =
+    let parts = splits had left read file some given in
+    by_ending ending parts.0 parts.1 parts.2 fails
+  where
+    by_finish : (stop : HaltStop) (rest : List ℕ) → left ≡ Some rest → r.end ≡ Some (meta_end.Refused stop) → (r ≡ head_read read) ⊎ (IsAtEnd left × (r ≡ meta_finished (head_read read))) → meta_finished (head_read (read ++ rest)) ≡ r
+    by_finish stop rest at h (inl e) = finished_over r read rest (meta_end.Refused stop) h e
+    by_finish stop rest at h (inr x) = finished_at r left read rest at x.0 x.1
+
+    by_ending : (ending : HeadEnding) (rest : List ℕ) → left ≡ Some rest → file ≡ read ++ rest → FailsHead r left read ending → Worked job file left held held (ending_of_head ending)
+    by_ending (heads.Refused stop) rest at whole f =
+        let said = not_opened r (read ++ rest) stop (by_finish stop rest at f.0 f.1) f.0 in
+        let reads = was_not_opened stop.fault stop.at (subst (λ (bs : List ℕ). MetaReads bs (refused stop.fault stop.at)) (sym whole) said) refl in
+        answered [] (Refused stop) (file_answered job is_file file (unopened stop.fault stop.at) reads) refl (sym (append_known_none held))
+    by_ending (heads.Unread count) rest at whole f =
+        let still = goes_on_still read (ap (λ (x : Reading). x.end) (sym f.0) ∙ f.1) in
+        could_not_read read rest [] whole at (file_sure job is_file read [] (before_set still.0 still.1 still.2 refl)) (ap Unread f.2) (sym (append_known_none held))
+
+-- ---- a head that was read
+by_reading : (r : Reading) (b : Begun) (buffer : List ℕ) (left : Option (List ℕ)) (read rest : List ℕ) → left ≡ Some rest → Begins r b buffer left read
+    → (r ≡ head_read read) ⊎ ((b.is_over ≡ true) × (r ≡ meta_finished (head_read read))) → meta_finished (head_read (read ++ rest)) ≡ r
+by_reading r b buffer left read rest at begun (inl e) = let end = has_end r begun.ended in finished_over r read rest end.0 end.1 e
+by_reading r b buffer left read rest at begun (inr x) = finished_at r left read rest at (begun.over x.0) x.1
+
+pub file_opened : (r : Reading) (b : Begun) (buffer : List ℕ) (had left : Option (List ℕ)) (read file : List ℕ) → had ≡ Some file → had ≡ prepend_known read left → Begins r b buffer left read → Opened r file
+file_opened r b buffer had left read file some given begun =
+    let parts = splits had left read file some given in
+    subst (Opened r) (sym parts.2) (opened r (read ++ parts.0) (by_reading r b buffer left read parts.0 parts.1 begun begun.reading) begun.ended)
+
+module _ (job : Job) (is_file : reads_file job ≡ true) (file : List ℕ) (after held : Option (List ℕ)) (r : Reading) (o : Opened r file) where
+  abbrev start : ℕ
+  start = 132 + length o.group
+
+  pub small : start ≤ INPUT_LIMIT
+  small = omega (arith, o.within)
+
+  -- the job cannot change it
+  pub file_unchanged : refuses_change job o.coding ≡ true → Worked job file after held held (endings.Worked (Refused (record { fault = CannotChange; at = start })))
+  file_unchanged refuses =
+      answered [] (Refused (record { fault = CannotChange; at = start })) (file_answered job is_file file (unopened CannotChange start) (not_changed o.m o.group o.coding o.reads refuses refl)) refl (sym (append_known_none held))
+
+  module _ (kept : refuses_change job o.coding ≡ false) (k : FileMaker job o.coding) where
+    abbrev SetReads : List ℕ → Front → Stop → Type 0
+    SetReads bytes f stop = Reads (job_bar job o.coding) o.coding.syntax start bytes f stop
+
+    read_as : (f : Front) (stop : Stop) → SetReads (drop start file) f stop → Answered job file (file_output job o.m o.coding f) (verdict_at job f stop)
+    read_as f stop reads = file_answered job is_file file (of_file o.m o.coding f stop) (was_opened o.m o.group o.coding f stop o.reads kept reads refl)
+
+    -- not even all that stands for the head was written
+    pub file_unheaded : (holds : Option (List ℕ)) → AppendsFront held holds (k.header o.m) → Worked job file after held holds Output
+    file_unheaded holds begun =
+        let a = all_read k.maker o.coding.syntax start small (drop start file) in
+        could_not_write (file_output job o.m o.coding a.0) (verdict_at job a.0 a.1) (read_as a.0 a.1 a.2) refl
+        (subst (AppendsFront held holds) (sym (k.output_is o.m a.0)) (front_longer (k.text a.0) begun))
+
+    -- the states in which all of a data set leaves the sink
+    abbrev pub LastOf : k.maker.State → Front → Type 0
+    LastOf = Last k.maker o.coding.syntax start small
+
+    -- what the work comes to, by how the pass over the data set ended
+    pub record Concludes (t : k.maker.State) (passed ending : Ending) : Type 0 where
+      pub done : (f : Front) (stop : Stop) → SetReads (drop start file) f stop → (stop ≡ complete → LastOf t f) → passed ≡ endings.Worked (verdict_of_stop stop) → ending ≡ endings.Worked (verdict_at job f stop)
+      pub not_read : (count : ℕ) → passed ≡ Unread count → ending ≡ Unread count
+      pub not_written : passed ≡ Output → ending ≡ Output
+
+    -- of a job whose sink says which of its edits found no place
+    pub concludes_unplaced : (t : k.maker.State) (passed : Ending) (mask : ℕ) → ((f : Front) → SetReads (drop start file) f complete → LastOf t f → mask ≡ unplaced_mask (edits_of job) f) → Concludes t passed (with_unplaced passed mask)
+    concludes_unplaced t passed mask mask_is = record {
+      done = by_stop;
+      not_read = λ count is. ap (λ (x : Ending). with_unplaced x mask) is;
+      not_written = λ is. ap (λ (x : Ending). with_unplaced x mask) is;
+    }
+      where
+        by_stop : (f : Front) (stop : Stop) → SetReads (drop start file) f stop → (stop ≡ complete → LastOf t f) → passed ≡ endings.Worked (verdict_of_stop stop) → with_unplaced passed mask ≡ endings.Worked (verdict_at job f stop)
+        by_stop f complete reads last is = ap (λ (x : Ending). with_unplaced x mask) is ∙ ap (λ (m : ℕ). endings.Worked (Done m)) (mask_is f reads (last refl))
+        by_stop f (stop_refused fault offset) reads last is = ap (λ (x : Ending). with_unplaced x mask) is
+
+    -- of a job that makes no edits
+    pub concludes_same : edits_of job ≡ [] → (t : k.maker.State) (ending : Ending) → Concludes t ending ending
+    concludes_same none t ending = record {
+      done = λ f stop reads last is. is ∙ ap endings.Worked (no_edits job none f stop);
+      not_read = λ count is. is;
+      not_written = λ is. is;
+    }
+
+    pub file_worked : (had left mid : Option (List ℕ)) (t : k.maker.State) (holds : Option (List ℕ)) (b : Begun) (buffer read : List ℕ) (passed ending : Ending) → Concludes t passed ending → had ≡ Some file → had ≡ prepend_known read left → Begins r b buffer left read
+        → mid ≡ append_known held (k.header o.m)
+        → (b.is_over ≡ true → WasRead passed)
+        → BehindBegun k.maker.bars k.maker.step k.maker.writes left (set_bytes b buffer) (start_of o.coding.syntax start) k.maker.first mid after t holds passed
+        → Worked job file after held holds ending
+    file_worked had left mid t holds b buffer read passed ending concludes some given begun went was pass =
+        let parts = splits had left read file some given in
+        let more = splits left after pass.more parts.0 parts.1 pass.given in
+        of_set parts.0 more.0 more.1 parts.2 more.2 (set_made k.maker o.coding.syntax start small mid t after holds (set_bytes b buffer ++ pass.more) more.0 passed more.1 pass.ends)
+      where
+        behind : (f : Front) → holds ≡ append_known mid (k.text f) → holds ≡ append_known held (file_output job o.m o.coding f)
+        behind f e =
+            e ∙ ap (λ (known : Option (List ℕ)). append_known known (k.text f)) went
+            ∙ append_known_twice held (k.header o.m) (k.text f)
+            ∙ ap (append_known held) (sym (k.output_is o.m f))
+
+        -- the data set of what was read, and of the file
+        within : start ≤ length read
+        within = let p = begun.place in let q = o.place_is in omega arith
+
+        set_there : (bytes : List ℕ) → drop start (read ++ bytes) ≡ set_bytes b buffer ++ bytes
+        set_there bytes = drop-append-le start read bytes within ∙ ap (λ (n : ℕ). drop n read ++ bytes) (sym o.place_is) ∙ ap (λ (bs : List ℕ). bs ++ bytes) begun.set
+
+        file_set : (rest later : List ℕ) → file ≡ read ++ rest → rest ≡ pass.more ++ later → (set_bytes b buffer ++ pass.more) ++ later ≡ drop start file
+        file_set rest later whole split =
+            append_assoc (set_bytes b buffer) pass.more later ∙ ap (λ (bs : List ℕ). set_bytes b buffer ++ bs) (sym split) ∙ sym (set_there rest) ∙ ap (drop start) (sym whole)
+
+        -- what is sure, where a group that was ended by what follows it
+        sure_of : (f : Front) (stop : Stop) → r ≡ head_read (read ++ pass.more) → SetReads (set_bytes b buffer ++ pass.more) f stop → is_undecided (Some stop) ≡ true
+            → FileSure job (read ++ pass.more) (file_output job o.m o.coding (going_on f))
+        sure_of f stop e reads undecided =
+            let end = has_end r begun.ended in
+            let x : Opened r (read ++ pass.more) = opened r (read ++ pass.more) (ap meta_finished (sym e) ∙ finished_same r end.0 end.1) begun.ended in
+            let groups : length x.group ≡ length o.group = ap length (sym x.group_is ∙ o.group_is) in
+            let long = length-append read pass.more in
+            let less = ends_before r (read ++ pass.more) e x (let p = o.place_is in let w = within in omega arith) in
+            within_set o.m o.group o.coding f stop (one_head r file (read ++ pass.more) o.m o.group o.coding o.reads (o.end_is, o.place_is, o.preamble_is, o.group_is, o.uid_is) x) (omega (arith, less, groups)) kept
+            (subst (λ (bs : List ℕ). SetReads bs f stop) (sym (set_there pass.more)) reads) undecided refl
+
+        by_over : (rest later : List ℕ) → after ≡ Some later → file ≡ read ++ rest → rest ≡ pass.more ++ later → (f : Front) (stop : Stop) → SetReads (set_bytes b buffer ++ pass.more) f stop → is_undecided (Some stop) ≡ true
+            → passed ≡ Unread (start + length (set_bytes b buffer ++ pass.more)) → holds ≡ append_known mid (k.text (going_on f))
+            → (r ≡ head_read read) ⊎ ((b.is_over ≡ true) × (r ≡ meta_finished (head_read read))) → Worked job file after held holds ending
+        by_over rest later at whole split f stop reads undecided is e (inr over) = absurd (subst WasRead is (was over.0))
+        by_over rest later at whole split f stop reads undecided is e (inl same) =
+            let end = has_end r begun.ended in
+            let still : head_read (read ++ pass.more) ≡ r = ended_stays r read pass.more end.0 same end.1 in
+            let longer = length-append (set_bytes b buffer) pass.more in
+            let long = length-append read pass.more in
+            let count : start + length (set_bytes b buffer ++ pass.more) ≡ length (read ++ pass.more) = (let p = begun.place in let q = o.place_is in omega arith) in
+            let out = file_output job o.m o.coding (going_on f) in
+            could_not_read (read ++ pass.more) later out
+            (whole ∙ ap (λ (bs : List ℕ). read ++ bs) split ∙ sym (append_assoc read pass.more later)) at
+            (file_sure job is_file (read ++ pass.more) out (sure_of f stop (sym still) reads undecided)) (concludes.not_read (length (read ++ pass.more)) (is ∙ ap Unread count)) (behind (going_on f) e)
+
+        of_set : (rest later : List ℕ) → after ≡ Some later → file ≡ read ++ rest → rest ≡ pass.more ++ later
+            → SetMade (job_bar job o.coding) k.text LastOf o.coding.syntax start (set_bytes b buffer ++ pass.more) later mid t holds passed → Worked job file after held holds ending
+        of_set rest later at whole split (set_read f stop reads last is e) =
+            let there = subst (λ (bs : List ℕ). SetReads bs f stop) (file_set rest later whole split) reads in
+            answered (file_output job o.m o.coding f) (verdict_at job f stop) (read_as f stop there) (concludes.done f stop there last is) (behind f e)
+        of_set rest later at whole split (set_unread f stop reads undecided is e) = by_over rest later at whole split f stop reads undecided is e begun.reading
+        of_set rest later at whole split (set_unwritten f stop reads is e) =
+            could_not_write (file_output job o.m o.coding f) (verdict_at job f stop) (read_as f stop (subst (λ (bs : List ℕ). SetReads bs f stop) (file_set rest later whole split) reads)) (concludes.not_written is)
+            (subst (AppendsFront held holds) (sym (k.output_is o.m f)) (puts_behind {T = Unit {0}} {E = Unit {0}} held mid holds (k.header o.m) (k.text f) (Err tt) went e))

@@ -1,0 +1,92 @@
+-- A file that is written again: its head was read and written, and then its data set goes through a sink.
+use Rattle.std.proofs.Common.{◌≡◌, ◌∙◌, ap, sym, subst, ℕ, ◌+◌, List, [], ◌++◌, length, true, false, Option, Some}
+use Rattle.std.specs.Io.KnownBytes.{append_known}
+use Rattle.dcm_base.specs.declared.fault.Fault.TheVariants.{CannotChange}
+use Rattle.dcm_base.specs.declared.syntax.Coding.{Coding}
+use Rattle.dcm_base.specs.declared.syntax.Syntax.{Syntax}
+use Rattle.dcm_base.specs.declared.syntax.Syntax.TheVariants.{Little}
+use Rattle.dcm_base.specs.Device.{AppendsFront}
+use Rattle.dcm_base.specs.MetaReads.{Meta, MetaReads, begins, PREFIX}
+use Rattle.dcm_base.specs.NewMeta.{new_meta}
+use Rattle.dcm_base.specs.Spelling.{Spells}
+use Rattle.dcm_words.specs.Words.{Job, convert}
+use Rattle.dcm_head.specs.declared.meta_read.MetaEnd.TheVariants.{Ended}
+use Rattle.dcm_head.specs.MetaReading.{Reading}
+use Rattle.dcm_stream.specs.Reading.{start_of}
+use Rattle.dcm_cli.specs.declared.ending.Ending.{Ending}
+use Rattle.dcm_cli.specs.declared.ending.Ending.TheVariants as endings
+use Rattle.dcm_cli.specs.declared.ending.Verdict.TheVariants.{Refused}
+use Rattle.dcm_cli.specs.declared.head.Begun.{Begun}
+use Rattle.dcm_cli.specs.declared.rewrite.Opened.{Opened as OpenedFile}
+use Rattle.dcm_cli.specs.Answer.{edits_of, refuses_change, target_uid}
+use Rattle.dcm_cli.specs.Opening.{HeadRead, OpenedAs, NotOpened, no_set, no_change, no_head, head_text}
+use Rattle.dcm_cli.specs.Pass.{BehindBegun, WasRead, ending_of_head, set_bytes}
+use Rattle.dcm_cli.specs.Run.{Worked}
+use Rattle.dcm_cli.proofs.Passes.Files.{FileMaker, Concludes, concludes_same, reads_file, file_unopened, file_unchanged, file_unheaded, file_worked, file_opened}
+use Rattle.dcm_cli.proofs.Passes.MetaHeads.{Opened, head_anew}
+
+-- what its head has said, in the coding that was answered
+abbrev pub in_coding : (r : Reading) (file : List ℕ) (coding : Coding) → r.end ≡ Some (Ended coding) → Opened r file → Opened r file
+in_coding r file coding is o =
+    let codings : Some (Ended coding) ≡ Some (Ended o.coding) = sym is ∙ o.end_is in
+    let same : o.coding ≡ coding = cc in
+    record o {
+      coding = coding;
+      reads = subst (λ (x : Coding). MetaReads file (begins o.m o.group x)) same o.reads;
+      end_is = is;
+    }
+
+abbrev pub head_opened : (file : List ℕ) (had left : Option (List ℕ)) (buffer : List ℕ) (r : Reading) (b : Begun) (coding : Coding) (start : ℕ) → had ≡ Some file → HeadRead had left buffer r b coding start → Opened r file
+head_opened file had left buffer r b coding start some h = in_coding r file coding h.coding_is (file_opened r b buffer had left h.read file some h.given h.begins)
+
+-- a job that writes files again, with a target
+module _ (target : Option Syntax) (job : Job) (is_file : reads_file job ≡ true) (alike : (coding : Coding) → refuses_change job coding ≡ refuses_change (convert target) coding)
+    (maker : (coding : Coding) → FileMaker job coding) (header_is : (coding : Coding) (m : Meta) → (maker coding).header m ≡ m.preamble ++ PREFIX ++ new_meta m.elements (target_uid target m))
+    (file : List ℕ) (had left held : Option (List ℕ)) (some : had ≡ Some file) where
+  -- what was written of a head
+  head_is : (r : Reading) (o : Opened r file) (uid : List ℕ) → uid ≡ target_uid target o.m → head_text r uid o.m.elements ≡ (maker o.coding).header o.m
+  head_is r o uid is = head_anew r file o (target_uid target o.m) uid is ∙ sym (header_is o.coding o.m)
+
+  pub not_opened : (holds : Option (List ℕ)) (ending : Ending) → NotOpened target had left held holds ending → Worked job file left held holds ending
+  not_opened holds ending (no_set r read head given fails still is) =
+      subst (λ (x : Ending). Worked job file left held holds x) (sym is)
+      (subst (λ (known : Option (List ℕ)). Worked job file left held known (ending_of_head head)) (sym still) (file_unopened job is_file file held had left r read head some given fails))
+  not_opened holds ending (no_change buffer r b coding start h refuses still is) =
+      let o = head_opened file had left buffer r b coding start some h in
+      let there : start ≡ 132 + length o.group = h.start_is ∙ o.place_is in
+      subst (λ (x : Ending). Worked job file left held holds x) (sym is)
+      (subst (λ (n : ℕ). Worked job file left held holds (endings.Worked (Refused (record { fault = CannotChange; at = n })))) (sym there)
+      (subst (λ (known : Option (List ℕ)). Worked job file left held known (endings.Worked (Refused (record { fault = CannotChange; at = 132 + length o.group })))) (sym still)
+      (file_unchanged job is_file file left held r o (alike coding ∙ refuses))))
+  not_opened holds ending (no_head buffer r b coding start uid h keeps uid_is written is) =
+      let o = head_opened file had left buffer r b coding start some h in
+      let begun = written o.m.elements (subst (Spells Little o.m.elements) (sym o.group_is) o.spelled) o.meta in
+      subst (λ (x : Ending). Worked job file left held holds x) (sym is)
+      (file_unheaded job is_file file left held r o (alike coding ∙ keeps) (maker coding) holds (subst (AppendsFront held holds) (head_is r o uid (uid_is o.m o.uid_is)) begun))
+
+  module _ (mid : Option (List ℕ)) (buffer : List ℕ) (x : OpenedFile) (h : OpenedAs target had left held mid buffer x) where
+    abbrev pub opened_here : Opened h.reading file
+    opened_here = head_opened file had left buffer h.reading x.begun x.coding x.start some h.head
+
+    abbrev pub keeps_here : refuses_change job x.coding ≡ false
+    keeps_here = alike x.coding ∙ h.keeps
+
+    pub opened_worked : (after : Option (List ℕ)) (t : (maker x.coding).maker.State) (holds : Option (List ℕ)) (passed ending : Ending)
+        → Concludes job is_file file after held h.reading opened_here keeps_here (maker x.coding) t passed ending
+        → (x.begun.is_over ≡ true → WasRead passed)
+        → BehindBegun (maker x.coding).maker.bars (maker x.coding).maker.step (maker x.coding).maker.writes left (set_bytes x.begun buffer) (start_of x.coding.syntax x.start) (maker x.coding).maker.first mid after t holds passed
+        → Worked job file after held holds ending
+    opened_worked after t holds passed ending concludes was pass =
+        let o = opened_here in
+        let k = (maker x.coding).maker in
+        let went = h.written o.m.elements (subst (Spells Little o.m.elements) (sym o.group_is) o.spelled) o.meta ∙ ap (append_known held) (head_is h.reading o h.uid (h.uid_is o.m o.uid_is)) in
+        file_worked job is_file file after held h.reading o keeps_here (maker x.coding) had left mid t holds x.begun buffer h.head.read passed ending concludes some h.head.given h.head.begins went was
+        (subst (λ (n : ℕ). BehindBegun k.bars k.step k.writes left (set_bytes x.begun buffer) (start_of x.coding.syntax n) k.first mid after t holds passed) (h.head.start_is ∙ o.place_is) pass)
+
+    -- of a job that makes no edits
+    pub opened_worked_same : edits_of job ≡ [] → (after : Option (List ℕ)) (t : (maker x.coding).maker.State) (holds : Option (List ℕ)) (ending : Ending)
+        → (x.begun.is_over ≡ true → WasRead ending)
+        → BehindBegun (maker x.coding).maker.bars (maker x.coding).maker.step (maker x.coding).maker.writes left (set_bytes x.begun buffer) (start_of x.coding.syntax x.start) (maker x.coding).maker.first mid after t holds ending
+        → Worked job file after held holds ending
+    opened_worked_same none after t holds ending was pass =
+        opened_worked after t holds ending ending (concludes_same job is_file file after held h.reading opened_here keeps_here (maker x.coding) none t ending) was pass

@@ -1,0 +1,5 @@
+-- What a run wrote is read by another run.
+pub mod DumpBuilds
+pub mod ReadsAgain
+pub mod OutputEdited
+pub mod ModifiedTwice

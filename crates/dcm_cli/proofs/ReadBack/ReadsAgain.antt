@@ -1,0 +1,212 @@
+-- Files that dcmodify and dcmconv wrote are read again.
+use Rattle.std.proofs.Common.{◌≡◌, ◌≢◌, ◌∙◌, ap, sym, subst, refl, ℕ, ◌+◌, ◌≤◌, List, ◌++◌, append_assoc, length, drop, Option, None, Some, arith, length-append}
+use Rattle.std.proofs.lemmas.List.{append-nil, drop_at}
+use Rattle.dcm_base.specs.declared.syntax.Coding.{Coding}
+use Rattle.dcm_base.specs.declared.syntax.Syntax.{Syntax}
+use Rattle.dcm_base.specs.declared.syntax.Syntax.TheVariants.{Implicit, Little, Big}
+use Rattle.dcm_base.specs.Bars.{no_bar, target_bar}
+use Rattle.dcm_base.specs.Front.{Front, front, nothing_open, open_leaf, open_sequence, open_fragments}
+use Rattle.dcm_base.specs.MetaGroup.{group_place, the_end}
+use Rattle.dcm_base.specs.MetaReads.{Meta, MetaReads, begins, PREFIX}
+use Rattle.dcm_base.specs.NewMeta.{new_meta}
+use Rattle.dcm_base.specs.Normal.{FrontFits, normal_front}
+use Rattle.dcm_base.specs.Number.{AreBytes}
+use Rattle.dcm_base.specs.Reads.{INPUT_LIMIT, Reads}
+use Rattle.dcm_base.specs.Recode.{recode}
+use Rattle.dcm_base.specs.Stop.{Stop, Bar, complete}
+use Rattle.dcm_base.specs.Transfer.{native, without_pads, coding_of}
+use Rattle.dcm_base.proofs.DataSets.ImplicitLengths.{explicit_fits, implicit_fits}
+use Rattle.dcm_base.proofs.DataSets.OwnSyntax.{own_reads}
+use Rattle.dcm_base.proofs.DataSets.OneAnswer.{reads_once}
+use Rattle.dcm_base.proofs.DumpsBack.Texts.{bytes_of}
+use Rattle.dcm_stream.proofs.Steps.ReadsSome.{plain}
+use Rattle.dcm_tools.specs.MetaAgain.{meta_again, Renews, Names, ReadsRenewed}
+use Rattle.dcm_tools.proofs.ReadBack.GroupEnds.{set_ends}
+use Rattle.dcm_tools.proofs.ReadBack.NewMetaReads.{any, own}
+use Rattle.dcm_tools.proofs.ReadBack.RecodeReads.{IsReady, read_ready, recode_reads}
+use Rattle.dcm_tools.proofs.ReadBack.Sources.{a_byte, bytes_behind}
+use Rattle.dcm_build.proofs.Rebuilds.FilesBuild.{headed}
+use Rattle.dcm_edit.specs.Edit.{Edit, edited}
+use Rattle.dcm_edit.proofs.ReadBack.EditedReads.{front_ready, edited_reads}
+use Rattle.dcm_edit.proofs.ReadBack.StaysReady.{FrontReady, edited_ready}
+use Rattle.dcm_edit.proofs.Words.WordValues.{edits_fit}
+use Rattle.dcm_edit.proofs.Words.WordsReady.{edits_ready}
+use Rattle.dcm_words.specs.Words.{Job, convert, modify}
+use Rattle.dcm_cli.specs.Answer.{Answer, Source, file as a_file, set_at, job_bar, answer, target_syntax, target_uid, uid_of_syntax, written_file, FileReads, not_opened, not_changed, opened}
+use Rattle.dcm_cli.specs.ReadsAgain.{IsRead, HasRoom, IsModified, ReadsModified, IsConverted, ReadsConverted}
+
+-- ---- what was read
+
+pub record Read (job : Job) (input : List ℕ) (m : Meta) (coding : Coding) (f : Front) : Type 0 where
+  pub group : List ℕ
+  pub head : MetaReads input (begins m group coding)
+  pub set : Reads (job_bar job coding) coding.syntax (set_at group) (drop (set_at group) input) f complete
+
+read_by : (job : Job) (input : List ℕ) (m n : Meta) (group : List ℕ) (c d : Coding) (f g : Front) (t : Stop) → a_file n d g t ≡ a_file m c f complete → MetaReads input (begins n group d)
+    → Reads (job_bar job d) d.syntax (set_at group) (drop (set_at group) input) g t → Read job input m c f
+read_by job input m n group c d f g t e head reads =
+    let ms : n ≡ m = cc in
+    let cs : d ≡ c = cc in
+    let fs : g ≡ f = cc in
+    let ts : t ≡ complete = cc in
+    let bytes : List ℕ = drop (set_at group) input in
+    record {
+      group = group;
+      head = subst (λ (z : Meta). MetaReads input (begins z group c)) ms (subst (λ (z : Coding). MetaReads input (begins n group z)) cs head);
+      set = subst (λ (z : Coding). Reads (job_bar job z) z.syntax (set_at group) bytes f complete) cs
+          (subst (λ (z : Front). Reads (job_bar job d) d.syntax (set_at group) bytes z complete) fs (subst (Reads (job_bar job d) d.syntax (set_at group) bytes g) ts reads));
+    }
+
+pub read_of : (job : Job) (input : List ℕ) (m : Meta) (c : Coding) (f : Front) (source : Source) → source ≡ a_file m c f complete → FileReads job input source → Read job input m c f
+read_of job input m c f source is (not_opened fault offset h e) = absurd (cc)
+read_of job input m c f source is (not_changed n group d h r e) = absurd (cc)
+read_of job input m c f source is (opened n group d g t h r reads e) = read_by job input m n group c d f g t (sym e ∙ is) h reads
+
+module _ (input : List ℕ) (m : Meta) (group : List ℕ) (coding : Coding) (head : MetaReads input (begins m group coding)) where
+  pub long : length m.preamble ≡ 128
+  long = (headed input m group coding head).preamble_size
+
+  pub begins_within : set_at group ≤ INPUT_LIMIT
+  begins_within = let few = (headed input m group coding head).within in omega (arith, few)
+
+pub rest_bytes : (n : ℕ) (input : List ℕ) → AreBytes input → AreBytes (drop n input)
+rest_bytes n input h = λ i. a_byte (drop n input) i (bytes_behind n input (bytes_of input h))
+
+-- ---- the data set that is written
+
+front_ends : (s : Syntax) (n : ℕ) (f : Front) → s ≢ Big → FrontReady s f → group_place n (recode s f) ≡ the_end
+unfolding recode
+front_ends s n (front whole nothing_open reached closed) b h = ap (group_place n) (append-nil _) ∙ set_ends s n 0 whole b h.0
+front_ends s n (front whole (open_leaf tag vr size value) reached closed) b h = absurd (let none = h.1 in cc)
+front_ends s n (front whole (open_sequence tag vr declared items last) reached closed) b h = absurd (let none = h.1 in cc)
+front_ends s n (front whole (open_fragments tag vr values last) reached closed) b h = absurd (let none = h.1 in cc)
+
+ends_by : (s : Syntax) (n : ℕ) (f : Front) → (s ≡ Big → group_place n (recode s f) ≡ the_end) → FrontReady s f → group_place n (recode s f) ≡ the_end
+ends_by Implicit n f h k = front_ends Implicit n f (λ e. cc) k
+ends_by Little n f h k = front_ends Little n f (λ e. cc) k
+ends_by Big n f h k = h refl
+
+-- in its own syntax nothing is barred
+no_bar_reads : (s : Syntax) (start : ℕ) (bytes : List ℕ) (f : Front) → start ≤ INPUT_LIMIT → Reads (target_bar s) s start bytes f complete → Reads no_bar s start bytes f complete
+no_bar_reads s start bytes f le h =
+    let some = plain s start bytes le in
+    let one = reads_once (target_bar s) s start bytes some.0 f some.1 complete (own_reads s start bytes some.0 some.1 some.2) h in
+    subst (λ (g : Front). Reads no_bar s start bytes g complete) one.0 (subst (Reads no_bar s start bytes some.0) one.1 some.2)
+
+-- ---- the output
+
+four_parts : (preamble prefix group set : List ℕ) → preamble ++ prefix ++ group ++ set ≡ preamble ++ (prefix ++ (group ++ set))
+four_parts preamble prefix group set = append_assoc (preamble ++ prefix) group set ∙ append_assoc preamble prefix (group ++ set)
+
+-- behind the group
+pub behind_group : (preamble prefix group set : List ℕ) → length preamble ≡ 128 → length prefix ≡ 4 → drop (132 + length group) (preamble ++ prefix ++ group ++ set) ≡ set
+behind_group preamble prefix group set a b =
+    let one = length-append preamble prefix in
+    let two = length-append (preamble ++ prefix) group in
+    drop_at (preamble ++ prefix ++ group) set (132 + length group) (omega (arith, one, two))
+
+all_size : (preamble prefix group set : List ℕ) → length preamble ≡ 128 → length prefix ≡ 4 → length (preamble ++ prefix ++ group ++ set) ≡ 132 + length group + length set
+all_size preamble prefix group set a b =
+    let one = length-append preamble prefix in
+    let two = length-append (preamble ++ prefix) group in
+    let three = length-append (preamble ++ prefix ++ group) set in
+    omega (arith, one, two, three)
+
+-- a file that was read is written with another data set and coding
+module _ (input output : List ℕ) (m : Meta) (old uid : List ℕ) (was coding : Coding) (set : Front) (head : MetaReads input (begins m old was)) (are : AreBytes input) where
+  abbrev s : Syntax
+  s = coding.syntax
+
+  abbrev group : List ℕ
+  group = new_meta m.elements uid
+
+  abbrev written : List ℕ
+  written = recode s set
+
+  pub set_within : output ≡ written_file uid s m set → length output ≤ INPUT_LIMIT → set_at group + length written ≤ INPUT_LIMIT
+  set_within is within =
+      let size = all_size m.preamble PREFIX group written (long input m old was head) refl in
+      let whole = ap length is in
+      omega (arith, size, whole, within)
+
+  written_head : HasRoom output m uid s set → FrontReady s set → (Renews input m was uid written → ReadsRenewed m uid written coding) → MetaReads (written_file uid s m set) (begins (meta_again m uid) group coding)
+  written_head room ready again =
+      subst (λ (x : List ℕ). MetaReads x (begins (meta_again m uid) group coding)) (sym (four_parts m.preamble PREFIX group written))
+      (again (record { group = old; are_bytes = are; reads = head; within = room.group_within; ends = ends_by s (length group) set room.group_ends ready }))
+
+  written_set : (again : Front) → Reads (target_bar s) s (set_at group) written again complete → Reads (target_bar s) s (set_at group) (drop (set_at group) (written_file uid s m set)) again complete
+  written_set again reads =
+      subst (λ (x : List ℕ). Reads (target_bar s) s (set_at group) x again complete) (sym (behind_group m.preamble PREFIX group written (long input m old was head) refl)) reads
+
+  written_reads : output ≡ written_file uid s m set → HasRoom output m uid s set → FrontReady s set → (Renews input m was uid written → ReadsRenewed m uid written coding)
+      → (set_at group + length written ≤ INPUT_LIMIT → Reads (target_bar s) s (set_at group) written (normal_front s set) complete)
+      → IsRead output (meta_again m uid) group coding (normal_front s set)
+  written_reads is room ready again reads =
+      let within = set_within is room.within in
+      let le : set_at group ≤ INPUT_LIMIT = omega (arith, within) in
+      let own = written_set (normal_front s set) (reads within) in
+      subst (λ (x : List ℕ). IsRead x (meta_again m uid) group coding (normal_front s set)) (sym is)
+      (record { head = written_head room ready again; dumped = no_bar_reads s (set_at group) (drop (set_at group) (written_file uid s m set)) (normal_front s set) le own; converted = own })
+
+-- ---- dcmodify
+
+pub modified_reads : (edits : List Edit) (input : List ℕ) (a : Answer) (m : Meta) (coding : Coding) (f : Front) → IsModified edits input a m coding f → ReadsModified edits a m coding f
+modified_reads edits input a m coding f h =
+    let r = read_of (modify edits) input m coding f h.answers.source h.source_is h.answers.reads in
+    let rest : List ℕ = drop (set_at r.group) input in
+    let le : set_at r.group ≤ INPUT_LIMIT = begins_within input m r.group coding r.head in
+    let are : AreBytes rest = rest_bytes (set_at r.group) input h.are_bytes in
+    written_reads input a.output m r.group m.uid coding coding (edited edits f) r.head h.are_bytes
+    (ap (λ (x : Answer). x.output) h.answers.answer_is ∙ ap (λ (x : Source). (answer (modify edits) x).output) h.source_is)
+    h.room
+    (edited_ready coding.syntax edits f (edits_fit h.meant.words edits h.meant.mean).2 (edits_ready coding.syntax h.meant.words edits h.meant.mean) (front_ready coding.syntax (set_at r.group) rest f le are r.set))
+    (own input (recode coding.syntax (edited edits f)) m coding)
+    (edited_reads h.meant.words edits h.meant.mean coding.syntax (set_at r.group) rest f le are r.set (set_at (new_meta m.elements m.uid)))
+
+-- ---- dcmconv
+
+syntax_named : (s : Syntax) → Names (uid_of_syntax s) (native s)
+unfolding without_pads coding_of
+syntax_named Implicit = record { some = λ e. cc; no_pad = refl; coding_is = refl }
+syntax_named Little = record { some = λ e. cc; no_pad = refl; coding_is = refl }
+syntax_named Big = record { some = λ e. cc; no_pad = refl; coding_is = refl }
+
+-- what is read of a syntax fits that syntax, and each explicit one
+own_fits : (s : Syntax) (bar : Bar) (start : ℕ) (bytes : List ℕ) (f : Front) → Reads bar s start bytes f complete → FrontFits s f
+own_fits Implicit bar start bytes f h = implicit_fits Implicit bar start bytes f complete h
+own_fits Little bar start bytes f h = explicit_fits Little f refl
+own_fits Big bar start bytes f h = explicit_fits Big f refl
+
+target_fits : (s : Syntax) (f : Front) → (Option.Some s ≡ Some Implicit → FrontFits Implicit f) → FrontFits s f
+target_fits Implicit f h = h refl
+target_fits Little f h = explicit_fits Little f refl
+target_fits Big f h = explicit_fits Big f refl
+
+ready_front : (s : Syntax) (f : Front) → IsReady s f → FrontReady s f
+ready_front s f r = subst (FrontReady s) (sym r.is) (r.ready, refl)
+
+-- to a syntax that the data set fits
+converted_by : (target : Option Syntax) (input : List ℕ) (a : Answer) (m : Meta) (was coding : Coding) (uid : List ℕ) (f : Front) (h : IsConverted target input a m was f) → uid ≡ target_uid target m → coding.syntax ≡ target_syntax target was
+    → ((group : List ℕ) → MetaReads input (begins m group was) → Reads (target_bar coding.syntax) was.syntax (set_at group) (drop (set_at group) input) f complete → FrontFits coding.syntax f)
+    → ((set : List ℕ) → Renews input m was uid set → ReadsRenewed m uid set coding)
+    → IsRead a.output (meta_again m uid) (new_meta m.elements uid) coding (normal_front coding.syntax f)
+converted_by target input a m was coding uid f h uids syntaxes fits again =
+    let s : Syntax = coding.syntax in
+    let r = read_of (convert target) input m was f h.answers.source h.source_is h.answers.reads in
+    let rest : List ℕ = drop (set_at r.group) input in
+    let le : set_at r.group ≤ INPUT_LIMIT = begins_within input m r.group was r.head in
+    let are : AreBytes rest = rest_bytes (set_at r.group) input h.are_bytes in
+    let reads : Reads (target_bar s) was.syntax (set_at r.group) rest f complete = subst (λ (x : Syntax). Reads (target_bar x) was.syntax (set_at r.group) rest f complete) (sym syntaxes) r.set in
+    let fit : FrontFits s f = fits r.group r.head reads in
+    let is : a.output ≡ written_file uid s m f =
+    ap (λ (x : Answer). x.output) h.answers.answer_is ∙ ap (λ (x : Source). (answer (convert target) x).output) h.source_is
+    ∙ (λ i. written_file (sym uids i) (sym syntaxes i) m f) in
+    let room : HasRoom a.output m uid s f = subst (λ (x : Syntax). HasRoom a.output m uid x f) (sym syntaxes) (subst (λ (u : List ℕ). HasRoom a.output m u (target_syntax target was) f) (sym uids) h.room) in
+    written_reads input a.output m r.group uid was coding f r.head h.are_bytes is room (ready_front s f (read_ready s was.syntax (set_at r.group) rest f le are reads fit)) (again (recode s f))
+    (λ within. recode_reads s was.syntax (set_at r.group) (set_at (new_meta m.elements uid)) rest f (record { begins = le; are_bytes = are; reads = reads; fits = fit; within = within }))
+
+pub converted_reads : (target : Option Syntax) (input : List ℕ) (a : Answer) (m : Meta) (coding : Coding) (f : Front) → IsConverted target input a m coding f → ReadsConverted target a m coding f
+converted_reads None input a m coding f h =
+    converted_by None input a m coding coding m.uid f h refl refl (λ group head reads. own_fits coding.syntax (target_bar coding.syntax) (set_at group) (drop (set_at group) input) f reads) (λ set. own input set m coding)
+converted_reads (Some s) input a m coding f h =
+    converted_by (Some s) input a m coding (native s) (uid_of_syntax s) f h refl refl (λ group head reads. target_fits s f h.tells) (λ set r. any input (uid_of_syntax s) set m coding (native s) r (syntax_named s))

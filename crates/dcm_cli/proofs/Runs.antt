@@ -1,0 +1,10 @@
+-- A whole run, on any devices.
+pub mod Ran
+pub mod LinesGrow
+pub mod Sure
+pub mod OneSource
+pub mod NoEdits
+pub mod OneAnswer
+pub mod Stopping
+pub mod InMemory
+pub mod Obeying

@@ -1,0 +1,83 @@
+-- Runs over writers that tell their size.
+use Rattle.std.proofs.Common.{◌≡◌, ◌∙◌, ap, subst, ℕ, ◌+◌, ◌-◌, ◌≤◌, List, ◌∷◌, ◌++◌, length, Bool, true, false, Option, Some, arith, inl, inr, length-append}
+use Rattle.std.specs.Io.KnownBytes.{append_known}
+use Rattle.std.proofs.lemmas.List.{length-take-le}
+use Rattle.dcm_base.specs.Device.{AppendsFront}
+use Rattle.dcm_base.specs.Memory.{written, size, room_of}
+use Rattle.dcm_base.specs.declared.memory.MemOut.{MemOut}
+use Rattle.dcm_words.specs.Words.{Job}
+use Rattle.dcm_cli.specs.Answer.{Answer, Answers}
+use Rattle.dcm_cli.specs.InMemory.{LeavesAnswer}
+use Rattle.dcm_cli.specs.Run.{Ran, as_answered, not_read, not_written, not_flushed, Devices}
+use Rattle.dcm_cli.specs.Told.{Tries}
+use Rattle.dcm_cli.proofs.Runs.OneAnswer.{one_answer}
+
+-- what is told of a writer of this size that holds these bytes
+abbrev pub sized : ℕ → List ℕ → Option (List ℕ)
+sized size bytes = Some (size ∷ bytes)
+
+-- what it holds grew
+grew : (size now : ℕ) (before after bytes : List ℕ) → sized now after ≡ append_known (sized size before) bytes → after ≡ before ++ bytes
+grew size now before after bytes e = cc
+
+stays : (size now : ℕ) (before after bytes : List ℕ) → sized now after ≡ append_known (sized size before) bytes → now ≡ size
+stays size now before after bytes e = cc
+
+-- one that is full has no room for more than it took
+full : (size now : ℕ) (before after bytes : List ℕ) → AppendsFront (sized size before) (sized now after) bytes → length after ≡ now → length bytes ≤ size - length before → ⊥
+full size now before after bytes a filled room =
+    let same = stays size now before after a.front a.grown in
+    let held = ap length (grew size now before after a.front a.grown) ∙ length-append before a.front in
+    let all = ap length a.whole ∙ length-append a.front (a.next ∷ a.rest) in
+    omega (arith, same, held, all, filled, room)
+
+module _ (size now : ℕ) (before after : List ℕ) (failed_before failed : Bool) (filled : failed ≡ true → length after ≡ now) where
+  tried : (line : List ℕ) → Tries (sized size before) (sized now after) failed_before failed line → length line ≤ size - length before → after ≡ before ++ line
+  tried line (inl x) room = grew size now before after line x.0
+  tried line (inr x) room = absurd (full size now before after line x.0 (filled x.1) room)
+
+-- what a run leaves of writers of these sizes with room for its answer
+record Left (a : Answer) (before after : List ℕ) (line_room : ℕ) (told tells : List ℕ) (status : ℕ) : Type 0 where
+  output : after ≡ before ++ a.output
+  lines : length a.told ≤ line_room → tells ≡ told ++ a.told
+  status_is : status ≡ a.status
+
+module _ (job : Job) (input : List ℕ) (left : Option (List ℕ)) (size now : ℕ) (before after : List ℕ) (line_size line_now : ℕ) (told tells : List ℕ) (room : ℕ) (unwritten untold_before untold : Bool) (status : ℕ)
+    (filled : unwritten ≡ true → length after ≡ now) (line_filled : untold ≡ true → length tells ≡ line_now) where
+  abbrev sized_devices : Devices
+  sized_devices = record { left = left; held = sized size before; holds = sized now after; room = Some room; told = sized line_size told; tells = sized line_now tells; unread = false; unwritten = unwritten; untold_before = untold_before; untold = untold }
+
+  left_answered : Ran job input sized_devices status → (a : Answer) → Answers job input a → length a.output ≤ size - length before → Left a before after (line_size - length told) told tells status
+  left_answered (as_answered b is read fine holds lines status_was) a answers enough =
+      let same : b ≡ a = one_answer job input b a is answers in
+      record {
+        output = grew size now before after b.output holds ∙ ap (λ (x : Answer). before ++ x.output) same;
+        lines = λ most.
+            let small : length b.told ≤ line_size - length told = (let is_long = ap (λ (x : Answer). length x.told) same in omega (arith, is_long, most)) in
+            tried line_size line_now told tells untold_before untold line_filled b.told lines small ∙ ap (λ (x : Answer). told ++ x.told) same;
+        status_is = status_was ∙ ap (λ (x : Answer). x.status) same;
+      }
+  left_answered (not_read p rest out whole at unread sure holds lines status_was) a answers enough = absurd (cc)
+  left_answered (not_written b is read failed front lines status_was) a answers enough =
+      let same : b ≡ a = one_answer job input b a is answers in
+      let is_long = ap (λ (x : Answer). length x.output) same in
+      absurd (full size now before after b.output front (filled failed) (omega (arith, is_long, enough)))
+  left_answered (not_flushed b is read failed none holds lines status_was) a answers enough = absurd (cc)
+
+-- as many bytes as were put
+taken : (m : MemOut) → length (written m) ≡ m.at
+taken m = length-take-le m.at m.bytes.items (subst (λ (n : ℕ). m.at ≤ n) m.bytes.ok.0 m.within)
+
+filled : (m : MemOut) → m.failed ≡ true → length (written m) ≡ size m
+filled m failed = taken m ∙ m.full failed
+
+module _ (job : Job) (input : List ℕ) (left : Option (List ℕ)) (out new_out errors new_errors : MemOut) (status : ℕ) where
+  abbrev devices : Devices
+  devices = record { left = left; held = sized (size out) (written out); holds = sized (size new_out) (written new_out); room = Some (room_of new_out); told = sized (size errors) (written errors); tells = sized (size new_errors) (written new_errors); unread = false; unwritten = new_out.failed; untold_before = errors.failed; untold = new_errors.failed }
+
+  pub memory_left : Ran job input devices status → (a : Answer) → Answers job input a → length a.output ≤ room_of out → LeavesAnswer a out new_out errors new_errors status
+  memory_left ran a answers enough =
+      let l = left_answered job input left (size out) (size new_out) (written out) (written new_out) (size errors) (size new_errors) (written errors) (written new_errors) (room_of new_out) new_out.failed errors.failed new_errors.failed status
+      (filled new_out) (filled new_errors) ran a answers (let at = taken out in omega (arith, at, enough))
+      in
+      record { output = l.output; told = λ most. l.lines (let at = taken errors in omega (arith, at, most)); status_is = l.status_is }

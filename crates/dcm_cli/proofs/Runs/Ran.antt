@@ -1,0 +1,147 @@
+-- What a run leaves, by how the work on its job ended.
+use Rattle.std.proofs.Common.{◌≡◌, ◌∙◌, ap, sym, subst, ℕ, ◌<◌, ◌≤◌, ◌^◌, List, [], length, Bool, true, false, Option, None, Some, refl, inl, inr, ◌⊎◌}
+use Rattle.std.specs.Io.KnownBytes.{append_known}
+use Rattle.dcm_base.specs.Build as build
+use Rattle.dcm_base.specs.Device.{AppendsFront}
+use Rattle.dcm_base.specs.Front.{Front}
+use Rattle.dcm_base.specs.Stop.{Stop, complete, refused}
+use Rattle.dcm_edit.specs.Edit.{Edit}
+use Rattle.dcm_words.specs.Words.{Job, dump, convert, build as building, modify}
+use Rattle.dcm_words.specs.declared.job.Job.{Job as RunJob}
+use Rattle.dcm_words.specs.declared.job.Job.TheVariants.{Dump, Convert, Build, Modify}
+use Rattle.dcm_cli.specs.declared.ending.Ending.{Ending}
+use Rattle.dcm_cli.specs.declared.ending.Ending.TheVariants as endings
+use Rattle.dcm_cli.specs.declared.ending.Ending.TheVariants.{Unread, Output}
+use Rattle.dcm_cli.specs.declared.ending.Verdict.{Verdict}
+use Rattle.dcm_cli.specs.declared.ending.Verdict.TheVariants.{Done, RefusedLine}
+use Rattle.dcm_cli.specs.Answer.{Answer, Answers, Source, unopened, file, alone, ReadAnswers, answer, building_line, output_of, edits_of, stop_line, stop_status}
+use Rattle.dcm_cli.specs.Pass.{TellsUnread, TellsOutput}
+use Rattle.dcm_cli.specs.Run.{IsMeant, Answered, ReadEnds, BuildEnds, Worked, answered, could_not_read, could_not_write, FlushedAs, verdict_at, verdict_of_source, verdict_of_told, unplaced_mask, verdict_lines, verdict_status, ending_lines, ending_status, Ran, as_answered, not_read, not_written, not_flushed, Devices}
+use Rattle.dcm_cli.specs.Told.{Tries}
+use Rattle.dcm_words.specs.Plans.{job_of}
+use Rattle.dcm_cli.proofs.Passes.MakesEdits.{are_few}
+use Rattle.dcm_cli.proofs.Lines.Unplaced.{no_lines, lines_of_mask, status_of_mask, few_without, few_edits}
+
+-- the answer of an input that was read
+output_is : (job : Job) (source : Source) → output_of job source ≡ (answer job source).output
+output_is job (unopened fault offset) = refl
+output_is job (file meta coding set stop) = refl
+output_is job (alone syntax set stop) = refl
+
+-- where the mask of its edits is one of 64 bits
+module _ (job : Job) (short : (set : Front) → unplaced_mask (edits_of job) set < 2 ^ 64) where
+  told_at : (set : Front) (stop : Stop) → verdict_lines (verdict_at job set stop) ≡ stop_line job set stop
+  told_at set complete = lines_of_mask 64 1 (edits_of job) set (short set)
+  told_at set (refused fault offset) = refl
+
+  told_is : (source : Source) → verdict_lines (verdict_of_source job source) ≡ (answer job source).told
+  told_is (unopened fault offset) = refl
+  told_is (file meta coding set stop) = told_at set stop
+  told_is (alone syntax set stop) = told_at set stop
+
+  status_at : (set : Front) (stop : Stop) → verdict_status (verdict_at job set stop) ≡ stop_status job set stop
+  status_at set complete = status_of_mask 1 (edits_of job) set
+  status_at set (refused fault offset) = refl
+
+  status_is : (source : Source) → verdict_status (verdict_of_source job source) ≡ (answer job source).status
+  status_is (unopened fault offset) = refl
+  status_is (file meta coding set stop) = status_at set stop
+  status_is (alone syntax set stop) = status_at set stop
+
+-- ---- the answer of an input
+
+record Given (job : Job) (input out : List ℕ) (verdict : Verdict) : Type 0 where
+  a : Answer
+  answers : Answers job input a
+  output_is : out ≡ a.output
+  told_is : verdict_lines verdict ≡ a.told
+  status_is : verdict_status verdict ≡ a.status
+
+-- a data set that was read
+reads_given : (job : Job) (input out : List ℕ) (verdict : Verdict) → ((set : Front) → unplaced_mask (edits_of job) set < 2 ^ 64) → ((a : Answer) → ReadAnswers job input a → Answers job input a) → ReadEnds job input out verdict → Given job input out verdict
+reads_given job input out verdict short answers h = record {
+  a = answer job h.source;
+  answers = answers (answer job h.source) (record { source = h.source; reads = h.reads; answer_is = refl });
+  output_is = h.out_is ∙ output_is job h.source;
+  told_is = ap verdict_lines h.verdict_is ∙ told_is job short h.source;
+  status_is = ap verdict_status h.verdict_is ∙ status_is job short h.source;
+}
+
+-- lines that were built
+abbrev answer_of : build.Built → Option build.Told → Answer
+answer_of b told = elim told as (λ x. Answer) [
+  | None ↦ record { output = build.built_bytes b; told = []; status = 0 }
+  | Some t ↦ record { output = build.built_bytes b; told = building_line t; status = 2 }
+]
+
+module _ (limit : ℕ) (input out : List ℕ) (verdict : Verdict) (h : BuildEnds limit input out verdict) where
+  by_told : (told : Option build.Told) → (build.built limit input).told ≡ told → Given (building limit) input out verdict
+  by_told None e =
+      let is : verdict ≡ Done 0 = h.verdict_is ∙ ap verdict_of_told e in
+      record {
+        a = record { output = build.built_bytes (build.built limit input).built; told = []; status = 0 };
+        answers = sym (ap (answer_of (build.built limit input).built) e);
+        output_is = h.out_is;
+        told_is = ap verdict_lines is ∙ no_lines 64 1;
+        status_is = ap verdict_status is;
+      }
+  by_told (Some t) e =
+      let is : verdict ≡ RefusedLine (record { fault = t.fault; offset = t.offset; line = t.line }) = h.verdict_is ∙ ap verdict_of_told e in
+      record {
+        a = record { output = build.built_bytes (build.built limit input).built; told = building_line t; status = 2 };
+        answers = sym (ap (answer_of (build.built limit input).built) e);
+        output_is = h.out_is;
+        told_is = ap verdict_lines is;
+        status_is = ap verdict_status is;
+      }
+
+  built_given : Given (building limit) input out verdict
+  built_given = by_told (build.built limit input).told refl
+
+-- a file that was edited
+edits_given : (edits : List Edit) (input out : List ℕ) (verdict : Verdict) → length edits ≤ 64 → ReadEnds (modify edits) input out verdict → Given (modify edits) input out verdict
+edits_given edits input out verdict few h = reads_given (modify edits) input out verdict (λ set. few_edits 64 edits set few) (λ a reads. reads) h
+
+given : {A : Type 0} (job : RunJob A) → IsMeant (job_of job) → (input out : List ℕ) (verdict : Verdict) → Answered (job_of job) input out verdict → Given (job_of job) input out verdict
+given (Dump d) meant input out verdict h = reads_given (dump d.mode d.bare) input out verdict few_without (λ a reads. reads) h
+given (Convert c) meant input out verdict h = reads_given (convert c.target) input out verdict few_without (λ a reads. reads) h
+given (Build b) meant input out verdict h = built_given b.limit input out verdict h
+given (Modify edits) meant input out verdict h = edits_given edits input out verdict (are_few edits meant) h
+
+module _ {A : Type 0} (job : RunJob A) (meant : IsMeant (job_of job)) (input : List ℕ) (left held worked holds told tells : Option (List ℕ)) (room : Option ℕ) (r_old r_new w_old w_mid w_new e_old e_new : Bool) (ending after : Ending) (status : ℕ)
+    (kept : holds ≡ worked) (flushed : FlushedAs ending after w_mid w_new room) (unread : TellsUnread r_old r_new ending) (failed : TellsOutput w_old w_mid ending)
+    (line : Tries told tells e_old e_new (ending_lines after)) (status_was : status ≡ ending_status after) (readable : r_old ≡ false) (writable : w_old ≡ false) where
+  abbrev devices : Devices
+  devices = record { left = left; held = held; holds = holds; room = room; told = told; tells = tells; unread = r_new; unwritten = w_new; untold_before = e_old; untold = e_new }
+
+  told_of : (x : Ending) → after ≡ x → Tries told tells e_old e_new (ending_lines x)
+  told_of x is = subst (λ (y : Ending). Tries told tells e_old e_new (ending_lines y)) is line
+
+  status_of : (x : Ending) → after ≡ x → status ≡ ending_status x
+  status_of x is = status_was ∙ ap ending_status is
+
+  after_answer : (out : List ℕ) (verdict : Verdict) (k : Given (job_of job) input out verdict) → ending ≡ endings.Worked verdict → worked ≡ append_known held out → Ran (job_of job) input devices status
+  after_answer out verdict k is grown = by_flush (subst (λ (x : Ending). FlushedAs x after w_mid w_new room) is flushed)
+    where
+      read : r_new ≡ false
+      read = subst (λ (x : Ending). TellsUnread r_old r_new x) is unread ∙ readable
+
+      by_flush : ((after ≡ endings.Worked verdict) × (w_new ≡ w_mid)) ⊎ ((after ≡ Output) × (w_new ≡ true) × (room ≡ None)) → Ran (job_of job) input devices status
+      by_flush (inl x) =
+          as_answered k.a k.answers read (x.1 ∙ subst (λ (x : Ending). TellsOutput w_old w_mid x) is failed ∙ writable)
+          (kept ∙ grown ∙ ap (append_known held) k.output_is) (subst (Tries told tells e_old e_new) k.told_is (told_of (endings.Worked verdict) x.0)) (status_of (endings.Worked verdict) x.0 ∙ k.status_is)
+      by_flush (inr x) =
+          not_flushed k.a k.answers read x.1 x.2 (kept ∙ grown ∙ ap (append_known held) k.output_is) (told_of Output x.0) (status_of Output x.0)
+
+  pub run_ran : Worked (job_of job) input left held worked ending → Ran (job_of job) input devices status
+  run_ran (answered out verdict was is grown) = after_answer out verdict (given job meant input out verdict was) is grown
+  run_ran (could_not_read p rest out whole at sure is grown) =
+      let still : after ≡ Unread (length p) = subst (λ (x : Ending). FlushedAs x after w_mid w_new room) is flushed in
+      not_read p rest out whole at (subst (λ (x : Ending). TellsUnread r_old r_new x) is unread) sure (kept ∙ grown) (told_of (Unread (length p)) still) (status_of (Unread (length p)) still)
+  run_ran (could_not_write out verdict was is grown) =
+      let k = given job meant input out verdict was in
+      let still : (after ≡ Output) × (w_new ≡ w_mid) = subst (λ (x : Ending). FlushedAs x after w_mid w_new room) is flushed in
+      not_written k.a k.answers (subst (λ (x : Ending). TellsUnread r_old r_new x) is unread ∙ readable)
+      (still.1 ∙ subst (λ (x : Ending). TellsOutput w_old w_mid x) is failed)
+      (subst (λ (known : Option (List ℕ)). AppendsFront held known k.a.output) (sym kept) (subst (AppendsFront held worked) k.output_is grown))
+      (told_of Output still.0) (status_of Output still.0)

@@ -1,0 +1,9 @@
+-- What a whole head leads to.
+pub mod Stops
+pub mod Opening
+pub mod Elements
+pub mod Waits
+pub mod Entered
+pub mod HeadBytes
+pub mod WholeHeads
+pub mod PieceHeads

@@ -1,0 +1,63 @@
+-- The line of a value, in parts.
+use Rattle.std.proofs.Common.{◌≡◌, ap, sym, refl, ◌∙◌, Option, Some, None, Bool, true, length, take, drop, ◌+◌, ◌∷◌, ◌≤◌, arith, List, ℕ, [], ◌++◌, append_assoc}
+use Rattle.std.specs.Prelude.{nat_eq, not, min, ◌-◌}
+use Rattle.std.proofs.lemmas.List.{append-nil, length-drop, length-take-le}
+use Rattle.std.proofs.lemmas.Bool.{ne_eqb}
+use Rattle.dcm_base.specs.declared.mode.Mode.{Mode}
+use Rattle.dcm_base.specs.declared.mode.Mode.TheVariants.{Short, Full}
+use Rattle.dcm_base.specs.Dump.{open_line}
+use Rattle.dcm_value.specs.Display.{at_once}
+use Rattle.dcm_value.specs.declared.value_text.ValueText.{ValueText}
+use Rattle.dcm_value.specs.ValueText.{progress}
+use Rattle.dcm_value.specs.Progress.{Progress, finishes}
+use Rattle.dcm_tools.specs.declared.dump.lines.Owner.{Owner}
+use Rattle.dcm_tools.specs.declared.dump.lines.OpenValue as shown
+use Rattle.dcm_base.specs.declared.tag.Tag.{Tag}
+use Rattle.dcm_base.specs.declared.length.Length.{Length}
+use Rattle.dcm_base.specs.declared.length.Length.TheVariants.{Known}
+use Rattle.dcm_tools.specs.Layout.{line_rest}
+use Rattle.dcm_tools.specs.Lines.{value_of}
+use Rattle.dcm_tools.proofs.Dumps.ValueBytes.{is_filled}
+use Rattle.dcm_tools.specs.DumpSink.{DumpState, OpenValue, no_value, open_value, early_start, late_start, owner_start, owner_rest, close_writes}
+
+-- its beginning
+pub begins_in_parts : (mode : Mode) (start opening : List ℕ) → open_line mode start (at_once mode opening) ≡ early_start mode start ++ (at_once mode opening ++ [])
+begins_in_parts Short start opening = refl
+begins_in_parts Full start opening = ap (λ bytes. start ++ bytes) (sym (append-nil opening))
+
+-- a value that is open, as the sink holds it
+pub is_open : (value taken : Option shown.OpenValue) (v : shown.OpenValue) (owner : Owner) (text : ValueText) → taken ≡ Some v → taken ≡ value → v.owner ≡ owner → v.text ≡ text
+    → value_of value ≡ open_value owner (progress text)
+is_open value taken v owner text is same o t =
+    ap value_of (sym same ∙ is) ∙ ap (λ (x : Owner). open_value x (progress v.text)) o ∙ ap (λ (x : ValueText). open_value owner (progress x)) t
+
+-- its end
+pub ends_in_parts : (mode : Mode) (level : ℕ) (value : OpenValue) (owner : Owner) (p : Progress) → value ≡ open_value owner p
+    → close_writes mode level value ≡ late_start mode (owner_start level owner) ++ (finishes p ++ owner_rest owner p)
+ends_in_parts mode level value owner p is = ap (close_writes mode level) is ∙ append_assoc (late_start mode (owner_start level owner)) (finishes p) (owner_rest owner p)
+
+pub rest_same : (t t' : Tag) (n n' k k' : ℕ) → t ≡ t' → n ≡ n' → k ≡ k' → line_rest t (Known n) k ≡ line_rest t' (Known n') k'
+rest_same t t' n n' k k' e f g =
+    ap (λ (x : Tag). line_rest x (Known n) k) e ∙ ap (λ (x : ℕ). line_rest t' (Known x) k) f ∙ ap (λ (x : ℕ). line_rest t' (Known n') x) g
+
+-- states alike
+pub same_state : (mode : Mode) (lengths : List Length) (v w : OpenValue) (l m : Bool) → v ≡ w → l ≡ m
+    → (let s : DumpState = record { mode = mode; lengths = lengths; value = v; is_lost = l } in let t : DumpState = record { mode = mode; lengths = lengths; value = w; is_lost = m } in s ≡ t)
+same_state mode lengths v w l m e f = cc
+
+-- no value is open, as the sink holds it
+pub is_none : (value taken : Option shown.OpenValue) → taken ≡ None → taken ≡ value → value_of value ≡ no_value
+is_none value taken is same = ap value_of (sym same ∙ is)
+
+pub not_empty : (others : List ℕ) (t : Bool) → t ≡ nat_eq (length others) 0 → not t ≡ is_filled others
+not_empty [] t e = ap not e
+not_empty (b ∷ bs) t e = ap not (e ∙ ne_eqb (length (b ∷ bs)) 0 (λ z. let n : length (b ∷ bs) ≡ 0 = z in omega (arith, n)))
+
+-- others come only behind the value's last byte
+pub filled_full : (n missing seen size : ℕ) (bytes own others : List ℕ) → n ≡ min (length bytes) missing → missing + seen ≡ size → own ≡ take n bytes → others ≡ drop n bytes → is_filled others ≡ true → size ≤ seen + length own
+filled_full n missing seen size bytes own [] e m o r f = cc
+filled_full n missing seen size bytes own (b ∷ bs) e m o r f =
+    let long : length (b ∷ bs) ≡ length bytes - n = ap length r ∙ length-drop n bytes in
+    let some : length (b ∷ bs) ≡ length bs + 1 = omega arith in
+    let short : length own ≡ n = ap length o ∙ length-take-le n bytes (omega arith) in
+    omega arith

@@ -1,0 +1,25 @@
+use Rattle.std.proofs.Common.{◌≡◌, refl, List, ℕ, [], ◌∷◌, ◌++◌, append_assoc, codes}
+use Rattle.dcm_base.proofs.Writes.PartsOut.{part_failed, parts_put}
+use Rattle.dcm_base.specs.Header as header
+use Rattle.dcm_tools.proofs.dump.header.set_header.Goals as goal
+
+-- what stands before the name, and the name
+abbrev before : List ℕ
+before = codes "# Dicom-Data-Set" ++ 10 ∷ [] ++ codes "# Used TransferSyntax: "
+
+in_parts : (uid : List ℕ) → header.set_header uid ≡ before ++ (header.syntax_name uid ++ 10 ∷ [])
+in_parts uid = append_assoc before (header.syntax_name uid) (10 ∷ [])
+
+pub returns-in_err-put_all-clause-bytes : goal.returns-in_err-put_all-clause-bytes
+returns-in_err-put_all-clause-bytes g c =
+    part_failed _ _ before _ (header.syntax_name c.args.uid.now ++ 10 ∷ []) _ c.from_residual.result c.from_residual.ensures.0 refl (in_parts c.args.uid.now) c.in_err-put_all.ensures.bytes
+
+pub returns-in_err-put_syntax-clause-bytes : goal.returns-in_err-put_syntax-clause-bytes
+returns-in_err-put_syntax-clause-bytes g c =
+    parts_put _ _ _ before _ (header.syntax_name c.args.uid.now ++ 10 ∷ []) _ _ c.from_residual-in_err-put_syntax.result refl refl (in_parts c.args.uid.now) c.in_ok-put_all.ensures.bytes
+    (part_failed _ _ (header.syntax_name c.args.uid.now) _ (10 ∷ []) _ c.from_residual-in_err-put_syntax.result c.from_residual-in_err-put_syntax.ensures.0 refl refl c.in_err-put_syntax.ensures.bytes)
+
+pub returns-clause-bytes : goal.returns-clause-bytes
+returns-clause-bytes g c =
+    parts_put _ _ _ before _ (header.syntax_name c.args.uid.now ++ 10 ∷ []) _ _ c.put_all-2.result refl refl (in_parts c.args.uid.now) c.in_ok-put_all.ensures.bytes
+    (parts_put _ _ _ (header.syntax_name c.args.uid.now) _ (10 ∷ []) _ _ c.put_all-2.result refl refl refl c.in_ok-put_syntax.ensures.bytes c.put_all-2.ensures.bytes)

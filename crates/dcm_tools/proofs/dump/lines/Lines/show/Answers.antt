@@ -1,0 +1,89 @@
+use Rattle.std.proofs.Common.{◌≡◌, refl, ap, sym, ◌∙◌, false, map, subst}
+use Rattle.std.specs.Prelude.{fold}
+use Rattle.std.specs.Io.KnownBytes.{append_known}
+use Rattle.dcm_base.specs.Atoms.{value_byte}
+use Rattle.dcm_base.specs.Steps.{outputs}
+use Rattle.dcm_base.specs.Device.{AppendsFront}
+use Rattle.dcm_base.proofs.Writes.Puts.{puts_err, append_known_none}
+use Rattle.dcm_value.specs.Progress as progress
+use Rattle.dcm_value.specs.ValueText.{progress as text_progress}
+use Rattle.dcm_value.proofs.Displays.Emits.{settled_of}
+use Rattle.dcm_tools.specs.DumpSink as spec
+use Rattle.dcm_tools.specs.Lines.{state, value_of}
+use Rattle.dcm_tools.proofs.Dumps.ValueBytes.{within, between, stays_between, silent_between}
+use Rattle.dcm_tools.proofs.Dumps.Brackets.{begun_behind}
+use Rattle.dcm_tools.proofs.Dumps.OpenValues.{takes_bytes, shows_bytes}
+use Rattle.dcm_tools.proofs.Dumps.ValueLines.{is_open, is_none, same_state, not_empty}
+use Rattle.dcm_tools.proofs.dump.lines.Lines.show.Goals as goal
+
+pub returns-in_default-clause-state : goal.returns-in_default-clause-state
+returns-in_default-clause-state g c =
+    let s = c.args.self.now in
+    let none = is_none s.value c.take.result c.in_default.is c.take.ensures.value in
+    let now : state s ≡ between s.mode s.lengths = same_state s.mode s.lengths _ _ _ _ none c.requires in
+    same_state s.mode s.lengths (value_of c.take.new.self) spec.no_value s.is_lost false (ap value_of c.take.ensures.after) c.requires
+    ∙ sym (ap (λ t. fold spec.dump_step t (map value_byte c.args.bytes.now)) now ∙ stays_between s.mode s.lengths c.args.bytes.now)
+
+pub returns-in_default-clause-bytes : goal.returns-in_default-clause-bytes
+returns-in_default-clause-bytes g c =
+    let s = c.args.self.now in
+    let none = is_none s.value c.take.result c.in_default.is c.take.ensures.value in
+    let now : state s ≡ between s.mode s.lengths = same_state s.mode s.lengths _ _ _ _ none c.requires in
+    sym (append_known_none (g.W.DeviceOut.contents c.args.out.now))
+    ∙ ap (append_known (g.W.DeviceOut.contents c.args.out.now)) (sym (ap (λ t. outputs spec.dump_step spec.dump_writes t (map value_byte c.args.bytes.now)) now ∙ silent_between s.mode s.lengths c.args.bytes.now))
+
+pub returns-in_err-feed-clause-bytes : goal.returns-in_err-feed-clause-bytes
+returns-in_err-feed-clause-bytes g c =
+    let s = c.args.self.now in
+    let v = c.in-Some.field-0 in
+    let settled = sym (settled_of v.text.shown.mode v.text.shown.count v.text.shown.front.items v.text.shown.capped v.text.shown.filled) in
+    let now : state s ≡ within s.mode s.lengths v.owner (text_progress v.text) =
+    same_state s.mode s.lengths _ _ _ _ (is_open s.value _ v v.owner v.text refl c.in-Some.ensures.value refl refl) c.requires
+    in
+    let wrote =
+    shows_bytes s.mode s.lengths v.owner (text_progress v.text) c.min.result c.missing.result c.args.bytes.now _ _
+    c.min.ensures c.missing.ensures c.split_at.ensures.front c.split_at.ensures.back v.begun settled (state s) now
+    in
+    puts_err _ _ _ c.from_residual.result c.from_residual.ensures.0
+    (subst (λ bytes. AppendsFront (g.W.DeviceOut.contents c.args.out.now) (g.W.DeviceOut.contents c.feed.new.out) bytes) (sym wrote) c.in_err-feed.ensures.bytes)
+
+pub invariant_of-self : goal.invariant_of-self
+invariant_of-self g c =
+    let v = c.in-Some.field-0 in
+    let settled = sym (settled_of v.text.shown.mode v.text.shown.count v.text.shown.front.items v.text.shown.capped v.text.shown.filled) in
+    record {
+      begun =
+          ap progress.is_unopened c.in_ok-feed.ensures.state
+          ∙ begun_behind (text_progress v.text) c.split_at.result.0.now v.begun settled v.text.shown.capped;
+    }
+
+pub returns-clause-state : goal.returns-clause-state
+returns-clause-state g c =
+    let s = c.args.self.now in
+    let v = c.in-Some.field-0 in
+    let settled = sym (settled_of v.text.shown.mode v.text.shown.count v.text.shown.front.items v.text.shown.capped v.text.shown.filled) in
+    let now : state s ≡ within s.mode s.lengths v.owner (text_progress v.text) =
+    same_state s.mode s.lengths _ _ _ _ (is_open s.value _ v v.owner v.text refl c.in-Some.ensures.value refl refl) c.requires
+    in
+    let took =
+    takes_bytes s.mode s.lengths v.owner (text_progress v.text) c.min.result c.missing.result c.args.bytes.now _ _
+    c.min.ensures c.missing.ensures c.split_at.ensures.front c.split_at.ensures.back v.begun settled (state s) now
+    in
+    same_state s.mode s.lengths _ _ _ _
+    (ap (spec.open_value v.owner) c.in_ok-feed.ensures.state)
+    (not_empty c.split_at.result.1.now c.is_empty.result c.is_empty.ensures)
+    ∙ sym took
+
+pub returns-clause-bytes : goal.returns-clause-bytes
+returns-clause-bytes g c =
+    let s = c.args.self.now in
+    let v = c.in-Some.field-0 in
+    let settled = sym (settled_of v.text.shown.mode v.text.shown.count v.text.shown.front.items v.text.shown.capped v.text.shown.filled) in
+    let now : state s ≡ within s.mode s.lengths v.owner (text_progress v.text) =
+    same_state s.mode s.lengths _ _ _ _ (is_open s.value _ v v.owner v.text refl c.in-Some.ensures.value refl refl) c.requires
+    in
+    let wrote =
+    shows_bytes s.mode s.lengths v.owner (text_progress v.text) c.min.result c.missing.result c.args.bytes.now _ _
+    c.min.ensures c.missing.ensures c.split_at.ensures.front c.split_at.ensures.back v.begun settled (state s) now
+    in
+    c.in_ok-feed.ensures.bytes ∙ ap (append_known (g.W.DeviceOut.contents c.args.out.now)) (sym wrote)

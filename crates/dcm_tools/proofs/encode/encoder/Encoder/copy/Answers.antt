@@ -1,0 +1,32 @@
+use Rattle.std.proofs.Common.{rules, ◌≡◌, ap, None, Some}
+use Rattle.dcm_base.proofs.Writes.Puts.{puts_err}
+use Rattle.dcm_tools.specs.Copier.{copying}
+use Rattle.dcm_tools.specs.Encoder.{state, copying_of}
+use Rattle.dcm_tools.proofs.Conversions.Dropping.{no_copy_state, no_copy_bytes, copy_state, copy_bytes}
+use Rattle.dcm_tools.proofs.encode.encoder.Encoder.copy.Goals as goal
+
+pub returns-in-None-clause-state : goal.returns-in-None-clause-state
+returns-in-None-clause-state g c =
+    let none : copying_of c.args.self.now.copier ≡ None = search rules in
+    let same : copying_of c.take.new.self ≡ copying_of c.args.self.now.copier = search rules in
+    rw same (no_copy_state (state c.args.self.now) c.args.bytes.now c.requires none)
+
+pub returns-in-None-clause-bytes : goal.returns-in-None-clause-bytes
+returns-in-None-clause-bytes g c =
+    let none : copying_of c.args.self.now.copier ≡ None = search rules in
+    no_copy_bytes (state c.args.self.now) c.args.bytes.now _ c.requires none
+
+pub returns-in_err-feed-in-Some-clause-bytes : goal.returns-in_err-feed-in-Some-clause-bytes
+returns-in_err-feed-in-Some-clause-bytes g c =
+    let some : copying_of c.args.self.now.copier ≡ Some (copying c.in-Some.copier) = search rules in
+    puts_err _ _ _ c.from_residual.result c.from_residual.ensures.0 (rw (copy_bytes (state c.args.self.now) (copying c.in-Some.copier) c.args.bytes.now c.requires some) c.in_err-feed-in-Some.ensures.goes)
+
+pub returns-in_ok-feed-in-Some-clause-state : goal.returns-in_ok-feed-in-Some-clause-state
+returns-in_ok-feed-in-Some-clause-state g c =
+    let some : copying_of c.args.self.now.copier ≡ Some (copying c.in-Some.copier) = search rules in
+    copy_state (state c.args.self.now) _ (copying c.in-Some.copier) (copying c.feed.new.self) c.args.bytes.now c.requires some c.in_ok-feed-in-Some.ensures.goes.0 (ap (λ d. record { target = c.args.self.now.target; dropped = d; copying = Some (copying c.feed.new.self) }) c.requires)
+
+pub returns-in_ok-feed-in-Some-clause-bytes : goal.returns-in_ok-feed-in-Some-clause-bytes
+returns-in_ok-feed-in-Some-clause-bytes g c =
+    let some : copying_of c.args.self.now.copier ≡ Some (copying c.in-Some.copier) = search rules in
+    rw (copy_bytes (state c.args.self.now) (copying c.in-Some.copier) c.args.bytes.now c.requires some) c.in_ok-feed-in-Some.ensures.goes.1

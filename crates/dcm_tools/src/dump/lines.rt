@@ -1,0 +1,368 @@
+// The lines of a dump, as tokens come.
+ghost use Rattle.std.specs.Prelude.{◌≡◌, ◌<◌, ◌≤◌, OnOk, false, length, map, fold};
+ghost use Rattle.dcm_base.specs.Atoms.{opens, value_byte, closes_leaf, opens_item, closes_item, closes_sequence, opens_fragment};
+ghost use Rattle.dcm_base.specs.Device.{Puts, Tells};
+ghost use Rattle.dcm_base.specs.Representation.{letters};
+ghost use Rattle.dcm_base.specs.Steps.{outputs};
+ghost use Rattle.dcm_stream.specs.Tokens.{atoms_of};
+ghost use Rattle.dcm_base.specs.Dump as dump;
+ghost use Rattle.dcm_tools.specs.DumpSink as spec;
+ghost use Rattle.dcm_value.specs.Progress as progress;
+ghost use Rattle.dcm_value.specs.ValueText.{progress as text_progress};
+
+use crate::dump::layout::{put_line, put_line_rest, put_line_start};
+use crate::dump::lengths::{Lengths, MOST_OPEN};
+use dcm_base::{DeviceOut, Form, Length, Mode, Syntax, Tag, Vr, Watched, WriteFailed, form_of};
+use dcm_head::Head;
+use dcm_stream::Token;
+use dcm_value::ValueText;
+
+/// Whose value is shown.
+#[derive(Clone, Copy, Debug, PartialEq, Eq)]
+pub enum Owner {
+    Element(Tag, Vr),
+    Fragment,
+}
+
+impl Owner {
+    fn tag(self) -> Tag
+        ensures { result ≡ spec.owner_tag self }
+    {
+        match self {
+            Owner::Element(tag, _) => tag,
+            Owner::Fragment => Tag::ITEM,
+        }
+    }
+
+    fn letters(self) -> [u8; 2]
+        ensures { result ≡ spec.owner_letters self }
+    {
+        match self {
+            Owner::Element(_, vr) => vr.letters(),
+            Owner::Fragment => *b"pi",
+        }
+    }
+
+    /// How many values there are, where the text counted so many. A fragment is one.
+    fn count(self, counted: u64) -> u64
+        ensures { result ≡ spec.count_of self counted }
+    {
+        match self {
+            Owner::Element(_, _) => counted,
+            Owner::Fragment => 1,
+        }
+    }
+}
+
+/// A value or fragment that is being shown.
+#[derive(Drop)]
+struct OpenValue {
+    owner: Owner,
+    text: ValueText,
+    ghost begun: { progress.is_unopened (text_progress text) ≡ false },
+}
+
+/// Where a dump stands.
+#[derive(Drop)]
+pub struct Lines {
+    mode: Mode,
+    lengths: Lengths,
+    value: Option<OpenValue>,
+    is_lost: bool,
+}
+
+/// The bytes of a value; a head of undefined length has none.
+fn size_of(length: Length) -> u32
+    ensures { result ≡ spec.size_of length }
+{
+    match length {
+        Length::Known(size) => size,
+        Length::Undefined => 0,
+    }
+}
+
+fn sequence_opening(length: Length) -> &'static [u8]
+    ensures { result.now ≡ dump.sequence_opening length }
+{
+    match length {
+        Length::Known(_) => b"(Sequence with explicit length)",
+        Length::Undefined => b"(Sequence with undefined length)",
+    }
+}
+
+fn item_opening(length: Length) -> &'static [u8]
+    ensures { result.now ≡ dump.item_opening length }
+{
+    match length {
+        Length::Known(_) => b"(Item with explicit length)",
+        Length::Undefined => b"(Item with undefined length)",
+    }
+}
+
+fn sequence_end(length: Length) -> &'static [u8]
+    ensures { result.now ≡ dump.sequence_end length }
+{
+    match length {
+        Length::Known(_) => b"(SequenceDelimitationItem for re-encod.)",
+        Length::Undefined => b"(SequenceDelimitationItem)",
+    }
+}
+
+fn item_end(length: Length) -> &'static [u8]
+    ensures { result.now ≡ dump.item_end length }
+{
+    match length {
+        Length::Known(_) => b"(ItemDelimitationItem for re-encoding)",
+        Length::Undefined => b"(ItemDelimitationItem)",
+    }
+}
+
+/// In full a line is begun at once.
+fn put_early_start<W: DeviceOut>(
+    mode: Mode,
+    out: &mut Watched<W>,
+    level: usize,
+    owner: Owner,
+) -> Result<(), WriteFailed>
+    requires { level ≤ 128 }
+    ensures bytes { Puts (W.contents out.old) (W.contents out.new) (spec.early_start mode (spec.owner_start level owner)) result }
+    ensures failed { Tells (W.has_failed out.old) (W.has_failed out.new) result }
+{
+    match mode {
+        Mode::Full => put_line_start(out, level, owner.tag(), owner.letters()),
+        Mode::Short => Ok(()),
+    }
+}
+
+/// A line that may be cut is begun where its display is known.
+fn put_late_start<W: DeviceOut>(
+    mode: Mode,
+    out: &mut Watched<W>,
+    level: usize,
+    owner: Owner,
+) -> Result<(), WriteFailed>
+    requires { level ≤ 128 }
+    ensures bytes { Puts (W.contents out.old) (W.contents out.new) (spec.late_start mode (spec.owner_start level owner)) result }
+    ensures failed { Tells (W.has_failed out.old) (W.has_failed out.new) result }
+{
+    match mode {
+        Mode::Full => Ok(()),
+        Mode::Short => put_line_start(out, level, owner.tag(), owner.letters()),
+    }
+}
+
+impl Lines {
+    ghost use Rattle.dcm_tools.specs.Lines.{state};
+
+    pub fn new(mode: Mode) -> Self
+        ensures { state result ≡ spec.dump_start mode }
+    {
+        Lines {
+            mode,
+            lengths: Lengths::new(),
+            value: None,
+            is_lost: false,
+        }
+    }
+
+    /// One more sequence, fragment list or item stands open.
+    fn deepen(&mut self, declared: Length)
+        ensures { state self.new ≡ spec.deeper (state self.old) declared }
+    {
+        if self.lengths.depth() < MOST_OPEN {
+            self.lengths.push(declared);
+        } else {
+            self.is_lost = true;
+        }
+    }
+
+    fn begin<W: DeviceOut>(
+        &mut self,
+        out: &mut Watched<W>,
+        owner: Owner,
+        vr: Vr,
+        syntax: Syntax,
+        size: u32,
+    ) -> Result<(), WriteFailed>
+        ensures state { OnOk result (state self.new ≡ spec.begin (state self.old) owner (progress.started vr syntax size self.old.mode)) }
+        ensures bytes { Puts (W.contents out.old) (W.contents out.new) (spec.begin_writes (state self.old) owner (progress.started vr syntax size self.old.mode)) result }
+        ensures failed { Tells (W.has_failed out.old) (W.has_failed out.new) result }
+    {
+        let mut text = ValueText::new(vr, syntax, size, self.mode);
+        put_early_start(self.mode, out, self.lengths.depth(), owner)?;
+        text.feed(&[], out)?;
+        self.value = Some(OpenValue { owner, text });
+        Ok(())
+    }
+
+    fn open_list<W: DeviceOut>(
+        &mut self,
+        out: &mut Watched<W>,
+        head: Head,
+        display: &[u8],
+    ) -> Result<(), WriteFailed>
+        ensures state { OnOk result (state self.new ≡ spec.deeper (state self.old) head.length) }
+        ensures bytes { Puts (W.contents out.old) (W.contents out.new) (dump.line (length self.old.lengths) head.tag (letters head.vr) display.now head.length 1) result }
+        ensures failed { Tells (W.has_failed out.old) (W.has_failed out.new) result }
+    {
+        let level = self.lengths.depth();
+        put_line(
+            out,
+            level,
+            head.tag,
+            head.vr.letters(),
+            display,
+            head.length,
+            1,
+        )?;
+        self.deepen(head.length);
+        Ok(())
+    }
+
+    fn open<W: DeviceOut>(
+        &mut self,
+        out: &mut Watched<W>,
+        head: Head,
+        syntax: Syntax,
+    ) -> Result<(), WriteFailed>
+        ensures state { OnOk result (state self.new ≡ spec.live_step (state self.old) (opens head.tag head.vr head.length syntax)) }
+        ensures bytes { Puts (W.contents out.old) (W.contents out.new) (spec.live_writes (state self.old) (opens head.tag head.vr head.length syntax)) result }
+        ensures failed { Tells (W.has_failed out.old) (W.has_failed out.new) result }
+    {
+        match form_of(syntax, head.vr, head.length) {
+            Form::Value => {
+                let owner = Owner::Element(head.tag, head.vr);
+                self.begin(out, owner, head.vr, syntax, size_of(head.length))
+            }
+            Form::Sequence => self.open_list(out, head, sequence_opening(head.length)),
+            Form::FragmentList => self.open_list(out, head, b"(PixelSequence)"),
+            Form::Nothing => Ok(()),
+        }
+    }
+
+    fn show<W: DeviceOut>(&mut self, out: &mut Watched<W>, bytes: &[u8]) -> Result<(), WriteFailed>
+        requires { self.old.is_lost ≡ false }
+        ensures state { OnOk result (state self.new ≡ fold spec.dump_step (state self.old) (map value_byte bytes.now)) }
+        ensures bytes { Puts (W.contents out.old) (W.contents out.new) (outputs spec.dump_step spec.dump_writes (state self.old) (map value_byte bytes.now)) result }
+        ensures failed { Tells (W.has_failed out.old) (W.has_failed out.new) result }
+    {
+        let Some(OpenValue { owner, mut text }) = self.value.take() else {
+            return Ok(());
+        };
+        let (own, others) = bytes.split_at(bytes.len().min(text.missing() as usize));
+        text.feed(own, out)?;
+        self.value = Some(OpenValue { owner, text });
+        self.is_lost = !others.is_empty();
+        Ok(())
+    }
+
+    fn close<W: DeviceOut>(&mut self, out: &mut Watched<W>) -> Result<(), WriteFailed>
+        ensures state { OnOk result (state self.new ≡ spec.live_step (state self.old) closes_leaf) }
+        ensures bytes { Puts (W.contents out.old) (W.contents out.new) (spec.live_writes (state self.old) closes_leaf) result }
+        ensures failed { Tells (W.has_failed out.old) (W.has_failed out.new) result }
+    {
+        let Some(OpenValue { owner, mut text }) = self.value.take() else {
+            return Ok(());
+        };
+        let length = Length::Known(text.size());
+        put_late_start(self.mode, out, self.lengths.depth(), owner)?;
+        let counted = text.finish(out)?;
+        put_line_rest(out, owner.tag(), length, owner.count(counted))
+    }
+
+    fn open_item<W: DeviceOut>(
+        &mut self,
+        out: &mut Watched<W>,
+        declared: Length,
+    ) -> Result<(), WriteFailed>
+        ensures state { OnOk result (state self.new ≡ spec.live_step (state self.old) (opens_item declared)) }
+        ensures bytes { Puts (W.contents out.old) (W.contents out.new) (spec.live_writes (state self.old) (opens_item declared)) result }
+        ensures failed { Tells (W.has_failed out.old) (W.has_failed out.new) result }
+    {
+        let level = self.lengths.depth();
+        put_line(
+            out,
+            level,
+            Tag::ITEM,
+            *b"na",
+            item_opening(declared),
+            declared,
+            1,
+        )?;
+        self.deepen(declared);
+        Ok(())
+    }
+
+    fn close_item<W: DeviceOut>(&mut self, out: &mut Watched<W>) -> Result<(), WriteFailed>
+        ensures state { OnOk result (state self.new ≡ spec.live_step (state self.old) closes_item) }
+        ensures bytes { Puts (W.contents out.old) (W.contents out.new) (spec.live_writes (state self.old) closes_item) result }
+        ensures failed { Tells (W.has_failed out.old) (W.has_failed out.new) result }
+    {
+        let declared = self.lengths.close();
+        let level = self.lengths.depth();
+        put_line(
+            out,
+            level,
+            Tag::ITEM_END,
+            *b"na",
+            item_end(declared),
+            Length::Known(0),
+            0,
+        )
+    }
+
+    fn close_list<W: DeviceOut>(&mut self, out: &mut Watched<W>) -> Result<(), WriteFailed>
+        ensures state { OnOk result (state self.new ≡ spec.live_step (state self.old) closes_sequence) }
+        ensures bytes { Puts (W.contents out.old) (W.contents out.new) (spec.live_writes (state self.old) closes_sequence) result }
+        ensures failed { Tells (W.has_failed out.old) (W.has_failed out.new) result }
+    {
+        let declared = self.lengths.close();
+        let level = self.lengths.depth();
+        put_line(
+            out,
+            level,
+            Tag::SEQUENCE_END,
+            *b"na",
+            sequence_end(declared),
+            Length::Known(0),
+            0,
+        )
+    }
+
+    fn open_fragment<W: DeviceOut>(
+        &mut self,
+        out: &mut Watched<W>,
+        size: u32,
+    ) -> Result<(), WriteFailed>
+        ensures state { OnOk result (state self.new ≡ spec.live_step (state self.old) (opens_fragment size)) }
+        ensures bytes { Puts (W.contents out.old) (W.contents out.new) (spec.live_writes (state self.old) (opens_fragment size)) result }
+        ensures failed { Tells (W.has_failed out.old) (W.has_failed out.new) result }
+    {
+        self.begin(out, Owner::Fragment, Vr::OB, Syntax::Little, size)
+    }
+
+    /// Writes what a token shows.
+    pub fn take<W: DeviceOut>(
+        &mut self,
+        out: &mut Watched<W>,
+        token: Token,
+    ) -> Result<(), WriteFailed>
+        ensures state { OnOk result (state self.new ≡ fold spec.dump_step (state self.old) (atoms_of token.entry)) }
+        ensures bytes { Puts (W.contents out.old) (W.contents out.new) (outputs spec.dump_step spec.dump_writes (state self.old) (atoms_of token.entry)) result }
+        ensures failed { Tells (W.has_failed out.old) (W.has_failed out.new) result }
+    {
+        if self.is_lost {
+            return Ok(());
+        }
+        match token {
+            Token::Open(head, syntax) => self.open(out, head, syntax),
+            Token::Bytes(bytes) => self.show(out, bytes),
+            Token::CloseLeaf => self.close(out),
+            Token::OpenItem(declared) => self.open_item(out, declared),
+            Token::CloseItem => self.close_item(out),
+            Token::CloseSeq => self.close_list(out),
+            Token::OpenFragment(size) => self.open_fragment(out, size),
+            Token::End => Ok(()),
+        }
+    }
+}

@@ -1,0 +1,11 @@
+-- What is shown of a value that comes in pieces.
+pub mod Facts
+pub mod PlainTexts
+pub mod Emits
+pub mod Steps
+pub mod Openings
+pub mod Endings
+pub mod Written
+pub mod TextLaws
+pub mod WholeUnits
+pub mod TextSteps

@@ -1,0 +1,51 @@
+-- Facts on what is shown of a value.
+use Rattle.std.proofs.Common.{◌≡◌, ◌≤◌, ◌<◌, ℕ, ◌+◌, ◌-◌, min, replicate, codes, List, ◌++◌, length, take, drop, ap, sym, ◌∙◌, arith}
+use Rattle.std.proofs.Common.{Option, Result, subst, cond, lt-ltb}
+use Rattle.std.specs.Io.KnownBytes.{append_known}
+use Rattle.dcm_base.specs.declared.mode.Mode.{Mode}
+use Rattle.dcm_base.specs.declared.mode.Mode.TheVariants.{Short, Full}
+use Rattle.dcm_base.specs.Device.{Puts}
+use Rattle.dcm_base.specs.ValueText.{padded}
+use Rattle.dcm_base.proofs.Writes.Puts.{puts_behind}
+use Rattle.dcm_value.specs.Display.{ending_of, front_size}
+use Rattle.std.proofs.lemmas.List.{take_min, length-take, length-append, drop-replicate}
+use Rattle.std.proofs.Math.Seq.{take-append-add, take-length}
+
+-- what is short enough is left whole
+pub take_within : (n : ℕ) (xs : List ℕ) → length xs ≤ n → take n xs ≡ xs
+take_within n xs h = sym (take_min n xs) ∙ ap (λ k. take k xs) (let e : min n (length xs) ≡ length xs = omega arith in e) ∙ take-length xs
+
+-- as many of the bytes as there is room for
+pub fills : (n room : ℕ) (xs ys : List ℕ) → room + length xs ≡ n → xs ++ take (min room (length ys)) ys ≡ take n (xs ++ ys)
+fills n room xs ys e =
+    ap (λ zs. xs ++ zs) (take_min room ys) ∙ sym (take-append-add xs ys room) ∙ ap (λ k. take k (xs ++ ys)) (let f : length xs + room ≡ n = omega arith in f)
+
+-- spaces are cut from forty
+pub spaces : (n m : ℕ) → m ≡ min n 40 → drop {A = ℕ} m (replicate 40 32) ≡ replicate (40 - n) 32
+spaces n m e = drop-replicate m 40 32 ∙ ap (λ k. replicate k 32) (let f : 40 - m ≡ 40 - n = omega arith in f)
+
+-- the first 63 bytes
+pub cuts : (front : List ℕ) (cut : ℕ) → cut ≡ min (length front) 63 → take cut front ≡ take 63 front
+cuts front cut e = ap (λ k. take k front) (let f : cut ≡ min 63 (length front) = omega arith in f) ∙ take_min 63 front
+
+-- two parts of what goes out
+pub puts_parts : {T E : Type 0} (old mid new : Option (List ℕ)) (first second whole : List ℕ) (r : Result T E) → whole ≡ first ++ second → mid ≡ append_known old first → Puts mid new second r → Puts old new whole r
+puts_parts {T} {E} old mid new first second whole r e went h = subst (λ bs. Puts {T = T} {E = E} old new bs r) (sym e) (puts_behind old mid new first second r went h)
+
+-- the end of a display in Short
+pub cut_ending : (mode : Mode) (shown : ℕ) (front : List ℕ) (cut : ℕ) → mode ≡ Short → 66 < shown → cut ≡ min (length front) 63 → ending_of mode shown front ≡ take cut front ++ codes "..."
+cut_ending mode shown front cut m l e =
+    ap (λ x. ending_of x shown front) m
+    ∙ ap (λ b. cond b (take 63 front ++ codes "...") (padded front)) (lt-ltb 66 shown l)
+    ∙ ap (λ zs. zs ++ codes "...") (sym (cuts front cut e))
+
+-- the front stays filled
+pub filled_full : (mode : Mode) (front : List ℕ) (m n : ℕ) → mode ≡ Full → length front ≡ front_size mode m → length front ≡ front_size mode n
+filled_full mode front m n e h = h ∙ ap (λ x. front_size x m) e ∙ sym (ap (λ x. front_size x n) e)
+
+pub filled_short : (mode : Mode) (front more : List ℕ) (m n : ℕ) (after : List ℕ) → mode ≡ Short → length front ≡ front_size mode m → m ≤ 67 → after ≡ take 66 (front ++ more) → n ≡ min 67 (m + length more) → length after ≡ front_size mode n
+filled_short mode front more m n after e h l a b =
+    let was : length front ≡ min 66 m = h ∙ ap (λ x. front_size x m) e in
+    let long : length after ≡ min 66 (length front + length more) = ap length a ∙ length-take 66 (front ++ more) ∙ ap (min 66) (length-append front more) in
+    let is : length after ≡ min 66 n = omega arith in
+    is ∙ sym (ap (λ x. front_size x n) e)
