@@ -1,6 +1,6 @@
 pub mod Words
-pub mod Overlap
+pub mod Overlapping
 pub mod Trees
 pub mod Masks
-pub mod Sink
+pub mod EditSinks
 pub mod ReadBack

@@ -1,3 +1,3 @@
 pub mod Displays
-pub mod Units
+pub mod UnitOrder
 pub mod ReadBack

@@ -22,11 +22,11 @@ use Rattle.dcm_edit.specs.EditSink.{State as EditState, AreWithin, BarsShallow, 
 use Rattle.dcm_edit.specs.Meaning.{AreMeant}
 use Rattle.dcm_edit.specs.Overlap.{AreApart, ArePublic}
 use Rattle.dcm_edit.specs.Through.{through_bar, through_step, through_writes}
-use Rattle.dcm_edit.proofs.Sink.DrivesEdits.{driven_same, output_same, edit_bars}
+use Rattle.dcm_edit.proofs.EditSinks.DrivesEdits.{driven_same, output_same, edit_bars}
 use Rattle.dcm_edit.proofs.Words.EditCount.{few}
 use Rattle.dcm_edit.proofs.ReadBack.EditReads.{edit_reads_whole, edit_reads_so_far}
 use Rattle.dcm_edit.proofs.Words.EditWordLemmas.{edits_are_apart}
-use Rattle.dcm_edit.proofs.Sink.Through.{through_fold, through_outputs}
+use Rattle.dcm_edit.proofs.EditSinks.Through.{through_fold, through_outputs}
 use Rattle.dcm_edit.proofs.Words.WordValues.{edits_fit}
 use Rattle.dcm_words.specs.Words.{modify}
 use Rattle.dcm_cli.proofs.Passes.Files.{FileMaker}

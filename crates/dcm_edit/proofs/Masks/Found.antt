@@ -13,10 +13,10 @@ use Rattle.dcm_base.proofs.Dictionaries.TagOrder.{below_other, below_other_way, 
 use Rattle.dcm_base.specs.Spelling.{last_tag, reached_tag}
 use Rattle.dcm_base.specs.Atoms.{Atom, end_atoms, Shows, ShowsOpen, ShowsOpenItem}
 use Rattle.dcm_edit.specs.EditSink.{HaveValues, begun, has_place, makes, either, reached_anew}
-use Rattle.dcm_edit.proofs.Sink.Unbounded.{next_unbounded}
+use Rattle.dcm_edit.proofs.EditSinks.Unbounded.{next_unbounded}
 use Rattle.dcm_edit.proofs.Trees.NewOnes.{has-above, below_not_back, same_not_below, and_none, and_all}
 use Rattle.dcm_edit.proofs.Trees.Kept.{AllUnder, under_tag, under_last}
-use Rattle.dcm_edit.proofs.Sink.Runs.{out, head_seen, item_seen, seen, seen_items, bits_alike}
+use Rattle.dcm_edit.proofs.EditSinks.Runs.{out, head_seen, item_seen, seen, seen_items, bits_alike}
 use Rattle.dcm_edit.proofs.Trees.SoFar.{last_some, passed_closed}
 use Rattle.dcm_edit.proofs.Trees.Fronts.{seen_front, seen_open, seen_open_item, found_front, edit_passes}
 

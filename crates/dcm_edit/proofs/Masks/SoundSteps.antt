@@ -7,7 +7,7 @@ use Rattle.dcm_edit.specs.Edit.{Edit}
 use Rattle.dcm_edit.specs.EditSink.{Level, State, MOST_AROUND, begun, next, in_item, item_in, after_item}
 use Rattle.dcm_edit.specs.Overlap.{AreApart, ArePublic}
 use Rattle.dcm_edit.specs.Sound.{AreSound, IsSound}
-use Rattle.dcm_edit.proofs.Overlap.Items.{all_within_all_apart, all_within_public}
+use Rattle.dcm_edit.proofs.Overlapping.Items.{all_within_all_apart, all_within_public}
 
 pub sound_begun : (es : List Edit) → AreApart es → ArePublic es → IsSound (begun es)
 sound_begun es a p = ((a, p), tt)

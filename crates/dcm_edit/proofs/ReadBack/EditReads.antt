@@ -22,7 +22,7 @@ use Rattle.dcm_tools.proofs.ReadBack.IsRead.{IsRead, unclosed, whole_read, far_r
 use Rattle.dcm_edit.specs.Edit.{Edit, edited, found}
 use Rattle.dcm_edit.specs.Overlap.{AreApart, ArePublic}
 use Rattle.dcm_edit.specs.EditSink.{HaveValues, HaveShortIndexes, AreWithin, begun, next, passed, reached_anew}
-use Rattle.dcm_edit.proofs.Sink.Law.{edit_steps}
+use Rattle.dcm_edit.proofs.EditSinks.Law.{edit_steps}
 use Rattle.dcm_edit.proofs.ReadBack.RecodeAnew.{recode_anew}
 use Rattle.dcm_edit.proofs.Trees.Depths.{edited_shallow}
 use Rattle.dcm_edit.proofs.Trees.DepthAtoms.{front_shallow, front_stays, anew_shallow}

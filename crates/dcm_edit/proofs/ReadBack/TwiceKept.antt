@@ -12,8 +12,8 @@ use Rattle.dcm_edit.specs.Edit.{Index, number, every, PathEdit, step, insert, mo
 use Rattle.dcm_edit.specs.Overlap.{Mark, at_tag, at_index, path, same_index, same_mark, ends, is_every, clash, meets, overlaps, ApartFrom, AreApart, is_public, ArePublic}
 use Rattle.dcm_edit.specs.Repeating.{erases_by_number, EraseByNoNumber}
 use Rattle.dcm_edit.proofs.Trees.Laws.{chosen, cond_alike}
-use Rattle.dcm_edit.proofs.Overlap.Places.{IfBecomes, quiet, quiet_ends, within_apart, within_public, and_left, and_right, not_true, same_tag_false}
-use Rattle.dcm_edit.proofs.Overlap.Items.{quiet_step, keeps_items}
+use Rattle.dcm_edit.proofs.Overlapping.Places.{IfBecomes, quiet, quiet_ends, within_apart, within_public, and_left, and_right, not_true, same_tag_false}
+use Rattle.dcm_edit.proofs.Overlapping.Items.{quiet_step, keeps_items}
 use Rattle.dcm_edit.proofs.ReadBack.TwiceDone.{LeafDone, IsThere, Done, ItemsDone, SetDone, either, number_within, all_go, new_leaf_done, new_sequence_done, edit_done}
 
 -- ---- whether edits overlap does not depend on their order

@@ -24,7 +24,7 @@ use Rattle.dcm_edit.specs.EditWords.{meant_edits}
 use Rattle.dcm_edit.specs.Overlap.{AreApart, ArePublic}
 use Rattle.dcm_edit.specs.Repeating.{EraseByNoNumber}
 use Rattle.dcm_edit.proofs.Trees.Laws.{chosen, then_trees-none}
-use Rattle.dcm_edit.proofs.Overlap.Items.{or_last}
+use Rattle.dcm_edit.proofs.Overlapping.Items.{or_last}
 use Rattle.dcm_edit.proofs.Words.EditWordLemmas.{edits_are_apart}
 use Rattle.dcm_edit.proofs.ReadBack.EditedReads.{front_whole}
 use Rattle.dcm_edit.proofs.ReadBack.TwiceDone.{LeafDone, IsThere, Done, ItemsDone, SetDone}

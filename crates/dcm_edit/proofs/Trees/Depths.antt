@@ -6,7 +6,7 @@ use Rattle.dcm_base.specs.Tag.{below}
 use Rattle.dcm_base.specs.Tree.{Trees, no_tree, leaf, sequence, fragments, Items, no_item, item, then_trees, item_count}
 use Rattle.dcm_base.specs.Front.{Front, front, OpenTree, nothing_open, open_leaf, open_sequence, open_fragments, OpenItem, no_open_item, open_item}
 use Rattle.dcm_edit.specs.Edit.{number, every, PathEdit, step, insert, modify, erase, erase_item, Edit, on_path, modify_all, erase_all, erase_private, elsewhere, within, Fate, stays, becomes, goes, fate, settled, erases, has, has_open, put, NewElement, no_element, new_leaf, new_sequence, before, around, new_element, element_of, with_new, changed, changed_items, is_passed, with_tag, with_new_so_far, made_whole, open_made_whole, while_it_stays, edited_by, still_open, open_item_by, edited}
-use Rattle.dcm_edit.proofs.Overlap.Items.{steps, depth, AreWithin, depth-within}
+use Rattle.dcm_edit.proofs.Overlapping.Items.{steps, depth, AreWithin, depth-within}
 
 -- no more than 64 sequences and fragment lists are open at a time, where so many are around
 abbrev mutual

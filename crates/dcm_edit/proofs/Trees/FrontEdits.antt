@@ -13,7 +13,7 @@ use Rattle.dcm_edit.specs.Overlap.{ApartFrom, is_public}
 use Rattle.dcm_base.specs.Ascending.{Ascend, AllBelow, ReachedLast, FrontAscends, OpenAscends}
 use Rattle.dcm_base.proofs.Dictionaries.TagOrder.{tag_is}
 use Rattle.dcm_edit.proofs.Trees.Laws.{chosen, or_left, or_right, or_false, Ascend-put, Leads, NewAscends, then_trees-none}
-use Rattle.dcm_edit.proofs.Overlap.Places.{IfBecomes, quiet_all_after, CountsAlike, AreBlind}
+use Rattle.dcm_edit.proofs.Overlapping.Places.{IfBecomes, quiet_all_after, CountsAlike, AreBlind}
 use Rattle.dcm_edit.proofs.Trees.OneByOne.{Ascend-all_changed, all_changed-put, has-all_changed, Turns, Turns-new, Quiet, NewAscends-element_of, NewAscends-completed}
 
 -- every element but the missing ones

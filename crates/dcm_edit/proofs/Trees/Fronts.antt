@@ -13,16 +13,16 @@ use Rattle.dcm_edit.specs.Together.{first_fate, any_erases, all_within, all_chan
 use Rattle.dcm_edit.specs.Overlap.{AreApart, ArePublic}
 use Rattle.dcm_base.specs.Ascending.{FrontAscends, OpenAscends, OpenItemAscends}
 use Rattle.dcm_edit.proofs.Trees.OneByOneFront.{one_by_one}
-use Rattle.dcm_edit.proofs.Overlap.Items.{all_within_all_apart, all_within_public}
+use Rattle.dcm_edit.proofs.Overlapping.Items.{all_within_all_apart, all_within_public}
 use Rattle.dcm_base.specs.Spelling.{last_tag}
 use Rattle.dcm_base.specs.Value.{order}
 use Rattle.dcm_base.specs.Atoms.{Atom, opens, value_byte, opens_item, opens_fragment, ends, fragments_then, ShowTrees, ShowItems, open_fragment_atoms, end_atoms, MayEnd, is_closed, Shows, ShowsOpen, ShowsOpenItem, trees_then}
 use Rattle.dcm_edit.specs.EditSink.{HaveValues, Level, State, begun, has_place, either, head_by, reached_anew, open_anew, item_anew}
-use Rattle.dcm_edit.proofs.Sink.Unbounded.{dropped_unbounded, next_unbounded}
+use Rattle.dcm_edit.proofs.EditSinks.Unbounded.{dropped_unbounded, next_unbounded}
 use Rattle.dcm_edit.proofs.Trees.Kept.{kept, items_kept}
-use Rattle.dcm_edit.proofs.Sink.Shown.{shown_after, Own, own_shown, own_more, own_puts, all_within_have, FateHas, first_fate_has, anew_reached}
-use Rattle.dcm_edit.proofs.Sink.Runs.{at, level, out, items_after, last_count, head_seen, item_seen, end_seen, seen, seen_items, either_none, either_twice, either_within, fold_fragments, fold_trees, fold_items, dropped_fragments, dropped_trees, dropped_items}
-use Rattle.dcm_edit.proofs.Sink.Passes.{kept_fragments, new_before, leaf_instead, trees_pass, items_pass}
+use Rattle.dcm_edit.proofs.EditSinks.Shown.{shown_after, Own, own_shown, own_more, own_puts, all_within_have, FateHas, first_fate_has, anew_reached}
+use Rattle.dcm_edit.proofs.EditSinks.Runs.{at, level, out, items_after, last_count, head_seen, item_seen, end_seen, seen, seen_items, either_none, either_twice, either_within, fold_fragments, fold_trees, fold_items, dropped_fragments, dropped_trees, dropped_items}
+use Rattle.dcm_edit.proofs.EditSinks.Passes.{kept_fragments, new_before, leaf_instead, trees_pass, items_pass}
 use Rattle.dcm_edit.proofs.Trees.SoFar.{tail, together_is, closed_same}
 
 -- ---- an open value

@@ -12,7 +12,7 @@ use Rattle.dcm_edit.specs.Overlap.{AreApart, ArePublic}
 use Rattle.dcm_base.specs.Ascending.{Ascend, ItemsAscend, AllBelow}
 use Rattle.dcm_base.proofs.Dictionaries.TagOrder.{below_trans}
 use Rattle.dcm_edit.proofs.Trees.Laws.{settled_alike}
-use Rattle.dcm_edit.proofs.Overlap.Items.{all_within_all_apart, all_within_public}
+use Rattle.dcm_edit.proofs.Overlapping.Items.{all_within_all_apart, all_within_public}
 use Rattle.dcm_edit.proofs.Trees.OneByOne.{Ascend-all_changed}
 use Rattle.dcm_base.specs.Spelling.{last_tag}
 use Rattle.dcm_edit.proofs.Trees.NewOnes.{Heads, leaf_heads, sequence_heads, fragments_heads, settled_heads, settled_covers, no_new, within_test, alike, off, and_all, or_is, puts_round}

@@ -18,7 +18,7 @@ use Rattle.dcm_edit.specs.Together.{completed, all_within, all_changed}
 use Rattle.dcm_edit.specs.Overlap.{overlaps, ApartFrom, AreApart, ArePublic}
 use Rattle.dcm_edit.specs.NewOnes.{put_new, puts, above_last, passes_new, first_new}
 use Rattle.dcm_edit.proofs.Trees.Laws.{NewAscends}
-use Rattle.dcm_edit.proofs.Overlap.Items.{all_within_all_apart, all_within_public}
+use Rattle.dcm_edit.proofs.Overlapping.Items.{all_within_all_apart, all_within_public}
 use Rattle.dcm_edit.proofs.Trees.OneByOne.{Quiet, Turns-new, always_quiet, sets_agree, NewAscends-new_element}
 use Rattle.dcm_edit.proofs.Trees.OneByOneFront.{all_steps, AreWithin-all_steps, good}
 use Rattle.dcm_edit.proofs.Trees.Kept.{all_missing_puts}

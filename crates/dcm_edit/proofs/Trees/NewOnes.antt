@@ -14,7 +14,7 @@ use Rattle.dcm_edit.specs.Overlap.{overlaps, ApartFrom, AreApart, is_public, Are
 use Rattle.dcm_base.specs.Ascending.{Ascend, AllBelow}
 use Rattle.dcm_base.proofs.Dictionaries.TagOrder.{below_trans, below_other, below_other_way, tag_is, is_above_below}
 use Rattle.dcm_edit.proofs.Trees.Laws.{chosen, or_left, Ascend-weaker, Ascend-put, NewAscends}
-use Rattle.dcm_edit.proofs.Overlap.Items.{quiet_all_step}
+use Rattle.dcm_edit.proofs.Overlapping.Items.{quiet_all_step}
 use Rattle.dcm_edit.proofs.Trees.OneByOne.{put-front, NewAscends-element_of, NewAscends-completed}
 use Rattle.dcm_edit.proofs.Trees.FrontEdits.{put-then_trees, has-then_trees, followed_if, AllBelow-put}
 

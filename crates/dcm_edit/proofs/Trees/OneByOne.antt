@@ -14,8 +14,8 @@ use Rattle.dcm_edit.specs.Overlap.{ApartFrom, AreApart, is_public, ArePublic}
 use Rattle.dcm_base.specs.Ascending.{Ascend, ItemsAscend}
 use Rattle.dcm_base.proofs.Dictionaries.TagOrder.{same_tag_self, tag_is}
 use Rattle.dcm_edit.proofs.Trees.Laws.{chosen, Ascend-weaker, NewAscends, Ascend-with_new, completed-none, all_changed-one, all_changed-none}
-use Rattle.dcm_edit.proofs.Overlap.Places.{IfBecomes, quiet_all_after, not_true, and_left, all_within_apart, within_public, counts_alike, CountsAlike, AreBlind}
-use Rattle.dcm_edit.proofs.Overlap.Items.{quiet_all_step, all_keep_items, all_within_all_apart, all_within_public, depth, AreWithin, depth-within, AreWithin-all_within, steps}
+use Rattle.dcm_edit.proofs.Overlapping.Places.{IfBecomes, quiet_all_after, not_true, and_left, all_within_apart, within_public, counts_alike, CountsAlike, AreBlind}
+use Rattle.dcm_edit.proofs.Overlapping.Items.{quiet_all_step, all_keep_items, all_within_all_apart, all_within_public, depth, AreWithin, depth-within, AreWithin-all_within, steps}
 
 -- the new elements of edits, and what later edits make of them
 pub NewAscends-around : (tag : Tag) (x : NewElement) → NewAscends x → NewAscends (around tag x)

@@ -8,8 +8,8 @@ use Rattle.dcm_edit.specs.Together.{completed, first_fate, any_erases, all_withi
 use Rattle.dcm_edit.specs.Overlap.{AreApart, ArePublic}
 use Rattle.dcm_base.specs.Ascending.{FrontAscends, OpenAscends, OpenItemAscends}
 use Rattle.dcm_edit.proofs.Trees.Laws.{chosen, completed-none, together-one, together-none}
-use Rattle.dcm_edit.proofs.Overlap.Places.{counts_alike}
-use Rattle.dcm_edit.proofs.Overlap.Items.{depth, AreWithin}
+use Rattle.dcm_edit.proofs.Overlapping.Places.{counts_alike}
+use Rattle.dcm_edit.proofs.Overlapping.Items.{depth, AreWithin}
 use Rattle.dcm_edit.proofs.Trees.OneByOne.{ItemsAscend-all_changed, all_changed-after, all_changed_items-after, Good, Good-within, always_quiet}
 use Rattle.dcm_edit.proofs.Trees.FrontEdits.{touched, together-touched, then_trees-assoc, all_changed-then_trees, all_open_made_whole-after, still_step, same_number, open_item_step, front_alike, open_sequence_alike, touched-with_new, reached_still, Ascend-touched, FrontAscends-with_all_missing}
 

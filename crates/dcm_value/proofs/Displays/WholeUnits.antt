@@ -18,8 +18,8 @@ use Rattle.dcm_value.specs.Units.{one_text, separated}
 use Rattle.dcm_value.specs.Progress.{Progress, further, finishes, multiplicity, started, opening, is_bracketed}
 use Rattle.dcm_value.specs.Laws.{after, written}
 use Rattle.dcm_value.proofs.Displays.Emits.{emit_twice, emit_mode, emit_settled}
-use Rattle.dcm_value.proofs.Units.HighestFirst.{shown_some, ordered_units}
-use Rattle.dcm_value.proofs.Units.Pieces.{units_append}
+use Rattle.dcm_value.proofs.UnitOrder.HighestFirst.{shown_some, ordered_units}
+use Rattle.dcm_value.proofs.UnitOrder.Pieces.{units_append}
 use Rattle.dcm_value.proofs.Displays.Steps.{Leads, leads_to, leads_on, leads_part, leads_unit, leads_units, waits_as, further_twice}
 use Rattle.dcm_value.proofs.Displays.Written.{begun, opens_nothing, tells_state, tells_text, tells_whole, closes_some, counts_some}
 

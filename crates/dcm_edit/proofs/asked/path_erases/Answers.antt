@@ -1,4 +1,4 @@
-use Rattle.dcm_edit.proofs.Overlap.Paths.{erases_with_steps}
+use Rattle.dcm_edit.proofs.Overlapping.Paths.{erases_with_steps}
 use Rattle.dcm_edit.proofs.asked.path_erases.Goals as goal
 
 pub returns-in-len1-up : goal.returns-in-len1-up

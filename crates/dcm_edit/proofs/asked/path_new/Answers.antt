@@ -1,6 +1,6 @@
 use Rattle.std.proofs.Common.{◌∙◌, ap}
 use Rattle.dcm_edit.specs.Asking as asking
-use Rattle.dcm_edit.proofs.Overlap.Paths.{none_left, sequence_left}
+use Rattle.dcm_edit.proofs.Overlapping.Paths.{none_left, sequence_left}
 use Rattle.dcm_edit.proofs.asked.path_new.Goals as goal
 
 pub returns-in_err-element : goal.returns-in_err-element

@@ -1,4 +1,4 @@
-use Rattle.dcm_edit.proofs.Overlap.Paths.{left_none, left_some}
+use Rattle.dcm_edit.proofs.Overlapping.Paths.{left_none, left_some}
 use Rattle.dcm_edit.proofs.asked.steps_left.Goals as goal
 
 pub returns-then-steps-depth : goal.returns-then-steps-depth

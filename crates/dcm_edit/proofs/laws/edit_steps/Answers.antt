@@ -1,4 +1,4 @@
-use Rattle.dcm_edit.proofs.Sink.Law.{edit_steps}
+use Rattle.dcm_edit.proofs.EditSinks.Law.{edit_steps}
 use Rattle.dcm_edit.proofs.laws.edit_steps.Goals as goal
 
 pub returns : goal.returns

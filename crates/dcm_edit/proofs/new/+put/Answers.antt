@@ -11,9 +11,9 @@ use Rattle.dcm_edit.specs.NewOnes.{puts, above_last, first_new}
 use Rattle.dcm_edit.specs.Overlap.{AreApart, ArePublic}
 use Rattle.dcm_stream.specs.Sinks.{Takes}
 use Rattle.dcm_edit.proofs.Masks.Answering.{going_along}
-use Rattle.dcm_edit.proofs.Sink.Passing.{takes_nothing}
+use Rattle.dcm_edit.proofs.EditSinks.Passing.{takes_nothing}
 use Rattle.dcm_edit.proofs.Masks.Meaning.{asked_apart, asked_public, made_within}
-use Rattle.dcm_edit.proofs.Sink.Taken.{then_taken, both_taken, failed_taken, Took}
+use Rattle.dcm_edit.proofs.EditSinks.Taken.{then_taken, both_taken, failed_taken, Took}
 use Rattle.dcm_edit.proofs.Masks.LeastNew.{none_in_gap, least_in_gap, first_in_gap, is_sequence_at}
 use Rattle.dcm_edit.proofs.Trees.NewRows.{row, one_row, row_next, row_ends, seen_sequence, opened, closed, made_row, short_of, fewer_above}
 use Rattle.dcm_edit.proofs.new.+put.Goals as goal

@@ -1,6 +1,6 @@
 use Rattle.std.proofs.Common.{[], ◌∷◌}
 use Rattle.dcm_base.specs.Atoms.{closes_item, closes_sequence}
-use Rattle.dcm_edit.proofs.Sink.Taken.{token_taken, then_taken}
+use Rattle.dcm_edit.proofs.EditSinks.Taken.{token_taken, then_taken}
 use Rattle.dcm_edit.proofs.new.close_made.Goals as goal
 
 pub returns-clause-takes : goal.returns-clause-takes

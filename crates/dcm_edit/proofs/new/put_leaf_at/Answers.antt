@@ -3,7 +3,7 @@ use Rattle.std.specs.Prelude.{flat_map}
 use Rattle.dcm_base.specs.Atoms.{Atom}
 use Rattle.dcm_stream.specs.Sinks.{Takes}
 use Rattle.dcm_stream.specs.Tokens.{atoms_of}
-use Rattle.dcm_edit.proofs.Sink.Taken.{leaf_atoms}
+use Rattle.dcm_edit.proofs.EditSinks.Taken.{leaf_atoms}
 use Rattle.dcm_edit.proofs.new.put_leaf_at.Goals as goal
 
 pub returns-clause-takes : goal.returns-clause-takes

@@ -1,7 +1,7 @@
 use Rattle.std.proofs.Common.{◌∙◌, map, ap}
 use Rattle.dcm_edit.specs.Meaning.{edit_of}
 use Rattle.dcm_edit.specs.Overlap.{overlaps_one}
-use Rattle.dcm_edit.proofs.Overlap.First.{goes_on}
+use Rattle.dcm_edit.proofs.Overlapping.First.{goes_on}
 use Rattle.dcm_edit.proofs.overlap.first_overlap.Goals as goal
 
 pub loop-i-preserved : goal.loop-i-preserved

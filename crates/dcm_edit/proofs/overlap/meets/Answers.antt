@@ -1,6 +1,6 @@
 use Rattle.std.proofs.Common.{◌∙◌, sym, arith}
 use Rattle.dcm_edit.proofs.Trees.FirstOnes.{front}
-use Rattle.dcm_edit.proofs.Overlap.Meetings.{parted}
+use Rattle.dcm_edit.proofs.Overlapping.Meetings.{parted}
 use Rattle.dcm_edit.proofs.overlap.meets.Goals as goal
 
 pub returns-then-not-same_index : goal.returns-then-not-same_index

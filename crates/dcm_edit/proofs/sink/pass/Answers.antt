@@ -4,8 +4,8 @@ use Rattle.dcm_stream.specs.Sinks.{Takes}
 use Rattle.dcm_stream.specs.Tokens.{atoms_of}
 use Rattle.dcm_stream.proofs.Runs.Skipped.{some_open, none_open}
 use Rattle.dcm_edit.specs.Editing.{meant}
-use Rattle.dcm_edit.proofs.Sink.Passing.{nothing_passed, takes_nothing, as_they_are}
-use Rattle.dcm_edit.proofs.Sink.Taken.{token_taken}
+use Rattle.dcm_edit.proofs.EditSinks.Passing.{nothing_passed, takes_nothing, as_they_are}
+use Rattle.dcm_edit.proofs.EditSinks.Taken.{token_taken}
 use Rattle.dcm_edit.proofs.sink.pass.Goals as goal
 
 pub returns-then-is_open-clause-takes : goal.returns-then-is_open-clause-takes

@@ -5,8 +5,8 @@ use Rattle.dcm_stream.specs.Sinks.{Takes}
 use Rattle.dcm_edit.specs.EditSink.{head_by}
 use Rattle.dcm_edit.specs.Edit.{Fate}
 use Rattle.dcm_edit.specs.Editing as editing
-use Rattle.dcm_edit.proofs.Sink.Passing.{head_passed}
-use Rattle.dcm_edit.proofs.Sink.Taken.{failed_taken, then_taken}
+use Rattle.dcm_edit.proofs.EditSinks.Passing.{head_passed}
+use Rattle.dcm_edit.proofs.EditSinks.Taken.{failed_taken, then_taken}
 use Rattle.dcm_edit.proofs.sink.pass_element.Goals as goal
 
 pub returns-in_err-put_gap-clause-takes : goal.returns-in_err-put_gap-clause-takes

@@ -4,8 +4,8 @@ use Rattle.dcm_base.specs.declared.syntax.Syntax.TheVariants.{Little}
 use Rattle.dcm_stream.specs.Sinks.{Takes}
 use Rattle.dcm_stream.specs.Tokens.{atoms_of}
 use Rattle.dcm_edit.specs.Editing as editing
-use Rattle.dcm_edit.proofs.Sink.Passing.{end_passed}
-use Rattle.dcm_edit.proofs.Sink.Taken.{failed_taken, then_taken, token_taken}
+use Rattle.dcm_edit.proofs.EditSinks.Passing.{end_passed}
+use Rattle.dcm_edit.proofs.EditSinks.Taken.{failed_taken, then_taken, token_taken}
 use Rattle.dcm_edit.proofs.sink.pass_end.Goals as goal
 
 pub returns-in_err-put_gap-clause-takes : goal.returns-in_err-put_gap-clause-takes

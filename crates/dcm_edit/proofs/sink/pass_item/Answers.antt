@@ -1,8 +1,8 @@
 use Rattle.std.proofs.Common.{List, [], ◌∷◌, sym, subst, true, false}
 use Rattle.dcm_base.specs.Atoms.{Atom, opens_item}
 use Rattle.dcm_stream.specs.Sinks.{Takes}
-use Rattle.dcm_edit.proofs.Sink.Passing.{item_passed, takes_nothing}
-use Rattle.dcm_edit.proofs.Sink.Taken.{token_taken}
+use Rattle.dcm_edit.proofs.EditSinks.Passing.{item_passed, takes_nothing}
+use Rattle.dcm_edit.proofs.EditSinks.Taken.{token_taken}
 use Rattle.dcm_edit.proofs.sink.pass_item.Goals as goal
 
 pub returns-then-erases_next-clause-takes : goal.returns-then-erases_next-clause-takes

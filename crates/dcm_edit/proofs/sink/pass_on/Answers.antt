@@ -8,9 +8,9 @@ use Rattle.dcm_edit.specs.EditSink.{next}
 use Rattle.dcm_edit.specs.Editing.{meant, state}
 use Rattle.dcm_stream.proofs.Runs.Skipped.{none_open}
 use Rattle.dcm_edit.proofs.Masks.Answering.{bytes_stay}
-use Rattle.dcm_edit.proofs.Sink.Passing.{as_they_are}
-use Rattle.dcm_edit.proofs.Sink.Taken.{token_taken, all_failed}
-use Rattle.dcm_edit.proofs.Sink.Unmet.{left_state, left_token}
+use Rattle.dcm_edit.proofs.EditSinks.Passing.{as_they_are}
+use Rattle.dcm_edit.proofs.EditSinks.Taken.{token_taken, all_failed}
+use Rattle.dcm_edit.proofs.EditSinks.Unmet.{left_state, left_token}
 use Rattle.dcm_edit.proofs.sink.pass_on.Goals as goal
 
 pub returns-in_err-take-in-Open-clause-takes : goal.returns-in_err-take-in-Open-clause-takes

@@ -1,5 +1,5 @@
 use Rattle.std.proofs.Common.{arith, ◌∙◌, ap, length, ◌≡◌, ◌/◌}
-use Rattle.dcm_value.proofs.Units.Reversals.{units_reversed, units_reversed-next, unit_room, swapped_turned}
+use Rattle.dcm_value.proofs.UnitOrder.Reversals.{units_reversed, units_reversed-next, unit_room, swapped_turned}
 use Rattle.dcm_value.proofs.lanes.reverse_units.Goals as goal
 
 pub loop-unit-preserved : goal.loop-unit-preserved

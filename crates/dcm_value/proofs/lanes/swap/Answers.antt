@@ -1,5 +1,5 @@
 use Rattle.std.proofs.Common.{arith}
-use Rattle.dcm_value.proofs.Units.Reversals.{turned-one}
+use Rattle.dcm_value.proofs.UnitOrder.Reversals.{turned-one}
 use Rattle.dcm_value.proofs.lanes.swap.Goals as goal
 
 pub returns-in_default : goal.returns-in_default

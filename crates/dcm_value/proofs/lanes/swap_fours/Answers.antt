@@ -1,7 +1,7 @@
 use Rattle.std.proofs.Common.{◌≡◌, ◌-◌, ◌*◌, ◌/◌, length, arith, ap, ◌∙◌}
 use Rattle.std.proofs.lemmas.Simd.{length-chunk}
-use Rattle.dcm_value.proofs.Units.Reversals.{units_reversed}
-use Rattle.dcm_value.proofs.Units.Blocks.{blocks_next, blocks_end, lanes_of_fours}
+use Rattle.dcm_value.proofs.UnitOrder.Reversals.{units_reversed}
+use Rattle.dcm_value.proofs.UnitOrder.Blocks.{blocks_next, blocks_end, lanes_of_fours}
 use Rattle.dcm_value.proofs.lanes.swap_fours.Goals as goal
 
 pub loop-block-preserved : goal.loop-block-preserved

@@ -1,5 +1,5 @@
 use Rattle.std.proofs.Common.{◌≡◌, ◌*◌}
-use Rattle.dcm_value.proofs.Units.Reversals.{units_reversed}
+use Rattle.dcm_value.proofs.UnitOrder.Reversals.{units_reversed}
 use Rattle.dcm_value.proofs.lanes.swap_pairs.Given as goal
 
 abbrev pub invariant-loop-block : goal.invariant-loop-block

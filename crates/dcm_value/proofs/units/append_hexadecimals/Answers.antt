@@ -1,7 +1,7 @@
 use Rattle.std.proofs.Common.{rules, arith, ◌∙◌, ap, sym, ◌++◌, take, drop, ◌*◌, List, ℕ}
 use Rattle.dcm_value.specs.declared.units.Kind.TheVariants.{Hexadecimal}
 use Rattle.dcm_value.specs.Units.{high_text, separated}
-use Rattle.dcm_value.proofs.Units.Pieces.{pieces_more, separated_more}
+use Rattle.dcm_value.proofs.UnitOrder.Pieces.{pieces_more, separated_more}
 use Rattle.dcm_value.proofs.units.append_hexadecimals.Goals as goal
 
 pub loop-at-preserved : goal.loop-at-preserved

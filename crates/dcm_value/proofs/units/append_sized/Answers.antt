@@ -1,6 +1,6 @@
 use Rattle.std.proofs.Common.{rules, arith, ◌∙◌, ap, sym, ◌++◌, take, drop, ◌*◌, List, ℕ}
 use Rattle.dcm_value.specs.Units.{high_text, separated}
-use Rattle.dcm_value.proofs.Units.Pieces.{pieces_more, separated_more}
+use Rattle.dcm_value.proofs.UnitOrder.Pieces.{pieces_more, separated_more}
 use Rattle.dcm_value.proofs.units.append_sized.Goals as goal
 
 pub loop-at-preserved : goal.loop-at-preserved

@@ -4,7 +4,7 @@ use Rattle.dcm_base.specs.ValueText.{shape, shown_unit}
 use Rattle.dcm_base.specs.Representation.{unit}
 use Rattle.dcm_base.specs.declared.syntax.Syntax.TheVariants.{Big}
 use Rattle.dcm_value.specs.Units.{kind_of, high_text, high, separated}
-use Rattle.dcm_value.proofs.Units.HighestFirst.{big_stays, bytes_stay, others_turn, shows_units}
+use Rattle.dcm_value.proofs.UnitOrder.HighestFirst.{big_stays, bytes_stay, others_turn, shows_units}
 use Rattle.dcm_value.proofs.units.append_units.Goals as goal
 use Rattle.dcm_value.proofs.units.append_units.Goals.{then-eq-via-then-eq, then-eq-via-else-eq+then-unit-eq1}
 

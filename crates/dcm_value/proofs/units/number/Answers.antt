@@ -1,5 +1,5 @@
 use Rattle.std.proofs.Common.{arith}
-use Rattle.dcm_value.proofs.Units.Numbers.{fits_eight}
+use Rattle.dcm_value.proofs.UnitOrder.Numbers.{fits_eight}
 use Rattle.dcm_value.proofs.units.number.Goals as goal
 
 pub overflow_mul-number : goal.overflow_mul-number

@@ -4,7 +4,7 @@ use Rattle.dcm_stream.specs.Tokens.{atoms_of}
 use Rattle.dcm_edit.specs.EditSink.{next}
 use Rattle.dcm_edit.specs.Editing as editing
 use Rattle.dcm_edit.proofs.Words.MeantEdits.{few_listed, short_listed}
-use Rattle.dcm_edit.proofs.Sink.ThroughSink.{state_after, put_after, sound_after, step_done, same_state}
+use Rattle.dcm_edit.proofs.EditSinks.ThroughSink.{state_after, put_after, sound_after, step_done, same_state}
 use Rattle.dcm_edit.proofs.sink.EditSinkSink.take.Goals as goal
 
 pub pass_on-requires-clause-few : goal.pass_on-requires-clause-few

@@ -1,7 +1,7 @@
 use Rattle.std.proofs.Common.{rules, refl, ◌≡◌, ◌∙◌, ap, sym}
 use Rattle.dcm_base.specs.Representation.{unit}
 use Rattle.dcm_base.specs.Value.{turned}
-use Rattle.dcm_value.proofs.Units.Reversals.{turned-one}
+use Rattle.dcm_value.proofs.UnitOrder.Reversals.{turned-one}
 use Rattle.dcm_tools.proofs.Conversions.Turned.{put_none, put_more, put_failed, turned_block}
 use Rattle.dcm_tools.proofs.encode.copier.put_turned.Goals as goal
 

@@ -4,8 +4,8 @@ use Rattle.dcm_value.specs.Shown.{display}
 use Rattle.dcm_base.specs.Value.{units}
 use Rattle.dcm_base.specs.ValueText.{shown_unit}
 use Rattle.dcm_value.specs.Units.{one_text, separated}
-use Rattle.dcm_value.proofs.Units.HighestFirst.{shown_some}
-use Rattle.dcm_value.proofs.Units.Pieces.{units_split}
+use Rattle.dcm_value.proofs.UnitOrder.HighestFirst.{shown_some}
+use Rattle.dcm_value.proofs.UnitOrder.Pieces.{units_split}
 use Rattle.dcm_value.proofs.Displays.Emits.{part_starts, part_more, part_failed, part_cut, settled_of, cut_stays}
 use Rattle.dcm_value.proofs.display.Shown.emit_units.Goals as goal
 

@@ -4,7 +4,7 @@ use Rattle.dcm_base.specs.ValueText.{shown_unit}
 use Rattle.dcm_value.specs.Units.{one_text, separated}
 use Rattle.dcm_value.specs.ValueText.{progress}
 use Rattle.dcm_value.proofs.Displays.Emits.{settled_of}
-use Rattle.dcm_value.proofs.Units.HighestFirst.{shown_some}
+use Rattle.dcm_value.proofs.UnitOrder.HighestFirst.{shown_some}
 use Rattle.dcm_value.proofs.Displays.Steps.{shown_goes, leads_units, same_progress}
 use Rattle.dcm_value.proofs.value_text.ValueText.show_units.Goals as goal
 

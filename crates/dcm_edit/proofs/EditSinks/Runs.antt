@@ -12,7 +12,7 @@ use Rattle.dcm_base.specs.Value.{order}
 use Rattle.dcm_base.specs.Atoms.{Atom, value_byte, closes_leaf, closes_item, closes_sequence, fragments_then, ShowTrees, ShowItems}
 use Rattle.dcm_base.specs.Steps.{outputs}
 use Rattle.dcm_edit.specs.EditSink.{Level, State, dropped_after_end, either, passed, has_place, makes}
-use Rattle.dcm_edit.proofs.Sink.Unbounded.{dropped_unbounded, next_unbounded}
+use Rattle.dcm_edit.proofs.EditSinks.Unbounded.{dropped_unbounded, next_unbounded}
 
 abbrev pub at : List Edit → Option Tag → ℕ → List Level → ℕ → List Bool → State
 at es last n outer dropped found = record { level = record { edits = es; last = last; count = n }; outer = outer; dropped = dropped; found = found }

@@ -26,7 +26,7 @@ use Rattle.dcm_stream.proofs.Runs.Inputs.{driven_is, output_is, ends_by, refuses
 use Rattle.dcm_tools.proofs.ReadBack.Shallow.{machine_shallow}
 use Rattle.dcm_edit.specs.Edit.{Edit}
 use Rattle.dcm_edit.specs.EditSink.{HaveShortIndexes, begun, next, edit_bar, BarsShallow}
-use Rattle.dcm_edit.proofs.Sink.Bars.{bar_steps}
+use Rattle.dcm_edit.proofs.EditSinks.Bars.{bar_steps}
 use Rattle.dcm_edit.proofs.ReadBack.ReadsAscend.{late}
 
 -- ---- two bars that agree on all that the machine shows

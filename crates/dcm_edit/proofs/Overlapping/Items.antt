@@ -8,7 +8,7 @@ use Rattle.dcm_edit.specs.Edit.{Index, selects, PathEdit, step, insert, modify, 
 use Rattle.dcm_edit.specs.Together.{first_fate, any_erases, all_within}
 use Rattle.dcm_edit.specs.Overlap.{at_index, path, same_index, clash, meets, is_on, overlaps, ApartFrom, AreApart, ArePublic}
 use Rattle.dcm_edit.proofs.Trees.Laws.{or_left}
-use Rattle.dcm_edit.proofs.Overlap.Places.{chosen_false, same_tag_false, or_else_quiet, within_public, all_within_apart, and_false}
+use Rattle.dcm_edit.proofs.Overlapping.Places.{chosen_false, same_tag_false, or_else_quiet, within_public, all_within_apart, and_false}
 
 -- the lists of what edits ask of items
 pub all_within_all_apart : (es : List Edit) (v : Tag) (n : ℕ) → AreApart es → AreApart (all_within es v n)

@@ -9,7 +9,7 @@ use Rattle.dcm_base.specs.Value.{order}
 use Rattle.dcm_base.specs.Atoms.{Atom, value_byte, closes_leaf, opens_item, closes_item, closes_sequence, fragments_then, ShowTrees, ShowItems, open_fragment_atoms, end_atoms, Shows, ShowsOpen, ShowsOpenItem}
 use Rattle.dcm_tools.specs.Laws.{StaysShallow}
 use Rattle.dcm_tools.proofs.Dumps.OpenLists.{stays_on, stays_opened, stays_bytes, stays_fragments, stays_same, stays_trees, stays_items}
-use Rattle.dcm_edit.proofs.Sink.Bounds.{HasRoom}
+use Rattle.dcm_edit.proofs.EditSinks.Bounds.{HasRoom}
 
 -- so many data sets are around the innermost one, and so many things open: no more than a sequence and an item for each
 pub record Room (n m k : ℕ) : Type 0 where

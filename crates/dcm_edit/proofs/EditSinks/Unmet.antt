@@ -26,7 +26,7 @@ use Rattle.dcm_edit.specs.Meaning.{edit_of}
 use Rattle.dcm_edit.specs.declared.asked.Question.TheVariants.{AtHead, Meets}
 use Rattle.dcm_edit.specs.declared.edit.Edit.{Edit as AnEdit}
 use Rattle.dcm_edit.specs.declared.editor.Editor.{Editor}
-use Rattle.dcm_edit.proofs.Sink.Passing.{same_asked}
+use Rattle.dcm_edit.proofs.EditSinks.Passing.{same_asked}
 
 neither : (a b : Bool) → (a || b) ≡ false → (a ≡ false) × (b ≡ false)
 neither false b e = (refl, e)

@@ -9,8 +9,8 @@ use Rattle.dcm_tools.specs.Laws.{StaysShallow}
 use Rattle.dcm_edit.specs.Edit.{Edit, edited, found}
 use Rattle.dcm_edit.specs.Overlap.{AreApart, ArePublic}
 use Rattle.dcm_edit.specs.EditSink.{State, HaveValues, HaveShortIndexes, begun, next, passed, reached_anew}
-use Rattle.dcm_edit.proofs.Sink.Bounds.{Fits, HasRoom, same_output, same_state}
-use Rattle.dcm_edit.proofs.Sink.Rooms.{front_room}
+use Rattle.dcm_edit.proofs.EditSinks.Bounds.{Fits, HasRoom, same_output, same_state}
+use Rattle.dcm_edit.proofs.EditSinks.Rooms.{front_room}
 use Rattle.dcm_edit.proofs.Masks.Found.{edit_unbounded}
 
 pub begun_fits : (es : List Edit) → HaveShortIndexes es → Fits 0 0 (begun es)

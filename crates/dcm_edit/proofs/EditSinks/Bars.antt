@@ -21,11 +21,11 @@ use Rattle.dcm_tools.specs.Laws.{StaysShallow}
 use Rattle.dcm_edit.specs.Edit.{Edit, element_of}
 use Rattle.dcm_edit.specs.Together.{all_within}
 use Rattle.dcm_edit.specs.EditSink.{Level, State, HaveShortIndexes, has_place, begun, next, edit_bar}
-use Rattle.dcm_edit.proofs.Sink.Unbounded.{next_unbounded}
-use Rattle.dcm_edit.proofs.Sink.Runs.{at, level, fold_fragments, fold_trees, fold_items}
-use Rattle.dcm_edit.proofs.Sink.Bounds.{HasRoom, same_state}
-use Rattle.dcm_edit.proofs.Sink.Rooms.{front_room}
-use Rattle.dcm_edit.proofs.Sink.Law.{begun_fits}
+use Rattle.dcm_edit.proofs.EditSinks.Unbounded.{next_unbounded}
+use Rattle.dcm_edit.proofs.EditSinks.Runs.{at, level, fold_fragments, fold_trees, fold_items}
+use Rattle.dcm_edit.proofs.EditSinks.Bounds.{HasRoom, same_state}
+use Rattle.dcm_edit.proofs.EditSinks.Rooms.{front_room}
+use Rattle.dcm_edit.proofs.EditSinks.Law.{begun_fits}
 
 abbrev last_of : State → Option Tag
 last_of s = s.level.last

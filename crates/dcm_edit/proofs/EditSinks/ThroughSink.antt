@@ -15,7 +15,7 @@ use Rattle.dcm_edit.specs.Sound.{IsSound}
 use Rattle.dcm_edit.specs.declared.editor.Editor.{Editor}
 use Rattle.dcm_edit.specs.Through.{through_step, through_writes}
 use Rattle.dcm_edit.proofs.Masks.SoundSteps.{sound_fold}
-use Rattle.dcm_edit.proofs.Sink.Through.{through_fold, through_outputs}
+use Rattle.dcm_edit.proofs.EditSinks.Through.{through_fold, through_outputs}
 
 -- the state by the list of the program
 gone_on : {A : Type 0} (list : List (AnEdit A)) (edits : List Edit) (s t : MaskState) (atoms : List Atom) → map edit_of list ≡ edits → meant (map edit_of list) t ≡ fold next (meant (map edit_of list) s) atoms → meant edits t ≡ fold next (meant edits s) atoms

@@ -16,10 +16,10 @@ use Rattle.dcm_base.specs.Spelling.{form, last_tag}
 use Rattle.dcm_base.specs.Value.{order}
 use Rattle.dcm_base.specs.Atoms.{Atom, opens, value_byte, closes_leaf, opens_item, closes_item, closes_sequence, opens_fragment, fragments_then, ShowTrees, ShowItems, trees_then}
 use Rattle.dcm_edit.specs.EditSink.{HaveValues, Level, either, head_by}
-use Rattle.dcm_edit.proofs.Sink.Unbounded.{dropped_unbounded}
+use Rattle.dcm_edit.proofs.EditSinks.Unbounded.{dropped_unbounded}
 use Rattle.dcm_edit.proofs.Trees.Kept.{kept, kept_items}
-use Rattle.dcm_edit.proofs.Sink.Shown.{shown_after, Own, own_shown, own_more, own_puts, all_within_have, FateHas, first_fate_has}
-use Rattle.dcm_edit.proofs.Sink.Runs.{at, level, out, items_after, last_count, either_none, either_twice, head_seen, item_seen, end_seen, seen, seen_items, seen_item, dropped_bytes, dropped_fragments, dropped_trees, dropped_items}
+use Rattle.dcm_edit.proofs.EditSinks.Shown.{shown_after, Own, own_shown, own_more, own_puts, all_within_have, FateHas, first_fate_has}
+use Rattle.dcm_edit.proofs.EditSinks.Runs.{at, level, out, items_after, last_count, either_none, either_twice, head_seen, item_seen, end_seen, seen, seen_items, seen_item, dropped_bytes, dropped_fragments, dropped_trees, dropped_items}
 
 pub kept_bytes : (u : List ℕ) (es : List Edit) (last : Option Tag) (n : ℕ) (up : List Level) (bs : List Bool) (x : List Atom)
     → out (at es last n up 0 bs) (map value_byte u ++ x) ≡ map value_byte u ++ out (at es last n up 0 bs) x
