@@ -6,7 +6,6 @@ ghost use Rattle.dcm_cli.specs.NoEdits.{NoEditsConvert};
 ghost use Rattle.dcm_words.specs.Words as words;
 ghost use Rattle.std.specs.Prelude.{◌≡◌, List, ℕ};
 
-
 /// A job has at most one answer to an input.
 pub fn answers_one()
     ensures { (job : words.Job) (input : List ℕ) (a b : Answer) → Answers job input a → Answers job input b → a ≡ b }

@@ -8,13 +8,12 @@ mod layout;
 mod lengths;
 mod lines;
 
-pub use header::{dump_header, set_header};
-pub use lengths::MOST_OPEN;
-
 use crate::dump::lines::Lines;
 use dcm_base::{DeviceOut, Mode, Watched, WriteFailed};
 use dcm_head::Head;
 use dcm_stream::{Bar, Sink, Token};
+pub use header::{dump_header, set_header};
+pub use lengths::MOST_OPEN;
 
 /// A sink that writes the lines of a data set. It bars nothing.
 #[derive(Drop)]

@@ -6,11 +6,10 @@ ghost use Rattle.dcm_tools.specs.EncodeSink.{EncodeState, encode_step, encode_wr
 mod copier;
 mod encoder;
 
-pub use encoder::{Encoder, leaf_head};
-
 use dcm_base::{DeviceOut, Form, Syntax, Watched, WriteFailed, form_of};
 use dcm_head::Head;
 use dcm_stream::{Bar, Sink, Token};
+pub use encoder::{Encoder, leaf_head};
 
 /// A sink that writes a data set in a target syntax: with undefined lengths and delimiters, each sequence as SQ, values of an
 /// even number of bytes, and no element numbered 0000 (PS3.5 7.1, 7.2, 7.5). It bars fragment lists where the syntax has none.
