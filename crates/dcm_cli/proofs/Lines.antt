@@ -1,0 +1,4 @@
+-- The lines on standard error, and the status.
+pub mod Composed
+pub mod Unplaced
+pub mod FoundMasks
