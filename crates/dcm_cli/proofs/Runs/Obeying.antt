@@ -1,5 +1,5 @@
 -- What a program did, by what its parts did.
-use Rattle.std.proofs.Common.{◌≡◌, subst, refl, ℕ, List, Bool, true, false, Err}
+use Rattle.std.proofs.Common.{Global, ◌≡◌, subst, refl, ℕ, List, Bool, true, false, Err}
 use Rattle.dcm_words.specs.declared.usage.Usage.{Usage}
 use Rattle.dcm_words.specs.declared.usage.Usage.TheVariants.{AtWord, Whole, InEdit, Memory}
 use Rattle.dcm_words.specs.Words.{Job, meant}
@@ -20,7 +20,7 @@ module _ {I O : Type 0} (may : MayAnswer I O) (t : Telling I O) (words : List (L
   memory false is meant_is line status_is = refused Memory (meant_is is) line status_is
 
   -- words that are refused
-  pub refuse : (u : Usage) → GivesUnlessMemory (Err u) (meant words) → (is_modify words ≡ false → Gives (Err u) (meant words)) → Reports e (usage_line u) → status ≡ usage_status u → Obeys may t words e status
+  pub refuse : (u : Usage) → GivesUnlessMemory {A = Global} (Err u) (meant words) → (is_modify words ≡ false → Gives {A = Global} (Err u) (meant words)) → Reports e (usage_line u) → status ≡ usage_status u → Obeys may t words e status
   refuse (AtWord fault n) gives gives_all line status_is = refused (AtWord fault n) gives line status_is
   refuse (Whole fault) gives gives_all line status_is = refused (Whole fault) gives line status_is
   refuse (InEdit fault n) gives gives_all line status_is = refused (InEdit fault n) gives line status_is
