@@ -4,7 +4,7 @@ use Rattle.std.specs.List.{list_all}
 use Rattle.std.specs.Borrow.{Bor}
 use Rattle.dcm_base.specs.declared.tag.Tag.{Tag}
 use Rattle.dcm_base.specs.declared.vr.Vr.{Vr}
-use Rattle.dcm_base.specs.Tag.{below}
+use Rattle.dcm_base.specs.Tag.{below, same_tag}
 use Rattle.dcm_edit.specs.Edit.{Index, number, every, selects, PathEdit, step, insert, modify, erase, erase_item, Edit, on_path, modify_all, erase_all, erase_private, elsewhere, within, fate, acts, erases, NewElement, no_element, new_leaf, new_sequence, element_of}
 use Rattle.dcm_edit.specs.Edit as spec
 use Rattle.dcm_edit.specs.NewOnes.{above_last, is_between, passes_new}
@@ -32,6 +32,10 @@ abbrev pub fate_of : {A : Type 0} → Fate A → spec.Fate
 fate_of fates.Stays = spec.stays
 fate_of (fates.Becomes e) = spec.becomes e.now.vr e.now.value.items
 fate_of fates.Goes = spec.goes
+
+-- an element of the same tag takes the value, and another one stays
+abbrev pub becomes_if : {A : Type 0} → Element A → Tag → spec.Fate
+becomes_if e tag = if same_tag e.tag tag then spec.becomes e.vr e.value.items else spec.stays
 
 -- what is seen of a new element from outside: a value, or the tag of a sequence on the way to one
 pub data Seen : Type 0 where
@@ -96,6 +100,10 @@ abbrev pub seen_in : Gap → Seen → Seen
 seen_in gap nothing_new = nothing_new
 seen_in gap (a_value tag vr value) = if in_gap gap tag then a_value tag vr value else nothing_new
 seen_in gap (a_sequence tag) = if in_gap gap tag then a_sequence tag else nothing_new
+
+-- what an edit puts in a gap, if the mask has it
+abbrev pub new_in : Gap → (depth mask k : ℕ) → Edit → Seen
+new_in gap depth mask k e = seen_in gap (seen (element_of (asked_one depth mask k e)))
 
 abbrev pub is_above_seen : Seen → Tag → Bool
 is_above_seen nothing_new t = true

@@ -1,16 +1,22 @@
 -- The state of the edits, as the program holds it.
-use Rattle.std.specs.Prelude.{◌≡◌, ◌⊎◌, List, [], ◌∷◌, map, length, reverse, Option, Some, None, Bool, false, not, ◌&&◌}
+use Rattle.std.specs.Prelude.{◌≡◌, ◌⊎◌, List, [], ◌∷◌, map, fold, length, reverse, Option, Some, None, Result, MatchResult, Bool, false, not, ◌&&◌}
+use Rattle.dcm_base.specs.declared.length.Length.{Length}
+use Rattle.dcm_base.specs.declared.syntax.Syntax.{Syntax}
 use Rattle.dcm_base.specs.declared.tag.Tag.{Tag}
+use Rattle.dcm_base.specs.declared.vr.Vr.{Vr}
+use Rattle.dcm_base.specs.Steps.{outputs}
+use Rattle.dcm_head.specs.declared.head.Head.{Head}
 use Rattle.dcm_stream.specs.Skip.{depth, is_open}
 use Rattle.dcm_edit.specs.declared.edit.Edit.{Edit as AnEdit}
 use Rattle.dcm_edit.specs.declared.editor.Level.{Level}
 use Rattle.dcm_edit.specs.declared.editor.Editor.{Editor}
 use Rattle.dcm_edit.specs.Edit.{Edit, Fate}
-use Rattle.dcm_edit.specs.EditSink.{State}
+use Rattle.dcm_edit.specs.EditSink.{State, either, head_by, next, passed}
 use Rattle.dcm_edit.specs.Masks as masks
-use Rattle.dcm_base.specs.Atoms.{Atom, closes_item, ends}
+use Rattle.dcm_base.specs.Atoms.{Atom, opens, closes_item, ends}
 use Rattle.dcm_base.specs.Tree.{Trees, no_tree}
-use Rattle.dcm_edit.specs.Asking.{lies_in, any_answer}
+use Rattle.dcm_edit.specs.Asking.{answer_of, lies_in, any_answer}
+use Rattle.dcm_edit.specs.declared.asked.Question.{Question}
 use Rattle.dcm_edit.specs.declared.asked.Question.TheVariants.{Meets}
 use Rattle.dcm_edit.specs.NewOnes.{puts}
 use Rattle.dcm_edit.specs.Meaning.{edit_of}
@@ -29,6 +35,30 @@ meant edits e = masks.meant (map edit_of edits) (state e)
 -- what the edits ask of the innermost open data set
 abbrev pub asked_here : {A : Type 0} → List (AnEdit A) → Editor → List Edit
 asked_here edits e = masks.asked (length (reverse e.outermost_first.items)) e.level.mask 0 (map edit_of edits)
+
+-- the edits that have found their place so far or answer yes here
+abbrev pub found_with : {A : Type 0} → List (AnEdit A) → Editor → Question → List Bool
+found_with edits e question = either (masks.bits e.found 0 (map edit_of edits)) (map (answer_of question) (asked_here edits e))
+
+-- an editor went on over an element's head with this tag
+abbrev pub Opens : {A : Type 0} → List (AnEdit A) → (old new : Editor) → Tag → Type 0
+Opens edits old new tag = (vr : Vr) (declared : Length) (s : Syntax) → meant edits new ≡ next (meant edits old) (opens tag vr declared s)
+
+-- it went on over these atoms, or stayed where the call failed
+abbrev pub GoesOn : {A T E : Type 0} → List (AnEdit A) → (old new : Editor) → List Atom → Result T E → Type 0
+GoesOn edits old new atoms r = MatchResult r (λ _. meant edits new ≡ fold next (meant edits old) atoms) (λ _. new ≡ old)
+
+-- what is passed on of these atoms
+abbrev pub passed_of : {A : Type 0} → List (AnEdit A) → Editor → List Atom → List Atom
+passed_of edits e atoms = outputs next passed (meant edits e) atoms
+
+-- an element's head
+abbrev pub head_of : Head → Syntax → Atom
+head_of head s = opens head.tag head.vr head.length s
+
+-- what becomes of it
+abbrev pub head_put : Fate → Head → Syntax → List Atom
+head_put fate head s = head_by fate head.tag (head_of head s)
 
 abbrev pub first_fate : {A : Type 0} → List (AnEdit A) → Editor → Tag → Fate
 first_fate edits e tag = together.first_fate (asked_here edits e) tag

@@ -17,3 +17,5 @@ pub mod Modification
 pub mod Everywhere
 pub mod Others
 pub mod Repeating
+pub mod Laws
+pub mod Outputs

@@ -1,5 +1,5 @@
 -- What functions make of the words of edits.
-use Rattle.std.specs.Prelude.{◌≡◌, ℕ, ◌<◌, List, [], ◌∷◌, map, length, option_map, Result, Ok, Err, Bool, true, false}
+use Rattle.std.specs.Prelude.{◌≡◌, ℕ, ◌<◌, List, [], ◌∷◌, map, length, option_map, drop, Result, MatchResult, Ok, Err, Bool, true, false}
 use Rattle.std.specs.Borrow.{Bor}
 use Rattle.dcm_base.specs.declared.tag.Tag.{Tag}
 use Rattle.dcm_base.specs.declared.vr.Vr.{Vr}
@@ -39,6 +39,10 @@ option_as Unknown = words.unknown_word
 abbrev pub fault_of : Failure → ℕ → EditFault
 fault_of (failure.Refused u) n = fault.Refused u n
 fault_of failure.Memory n = fault.Memory
+
+-- what is known of a path is what the words mean
+abbrev pub IsKnown : {A B : Type 0} → (A → B) → Result A EditRefusal → Result B EditRefusal → Type 0
+IsKnown view r meant = MatchResult r (λ x. meant ≡ Ok (view x)) (λ u. meant ≡ Err u)
 
 -- what a function made is what the words mean; nothing is said where memory was refused
 abbrev pub Makes : {A B : Type 0} → (A → B) → Result A Failure → Result B EditRefusal → Type 0
@@ -96,6 +100,10 @@ valued_edit kind known text = words.value_for kind known text >>= λ value. Ok (
 -- the texts of words
 abbrev pub texts : List (Bor (List ℕ)) → List (List ℕ)
 texts ws = map (λ w. w.now) ws
+
+-- those from a place on
+abbrev pub texts_from : ℕ → List (Bor (List ℕ)) → List (List ℕ)
+texts_from place ws = texts (drop place ws)
 
 -- the edit that an option begins, and the words that follow it
 abbrev pub edit_after : words.OptionWord → List (List ℕ) → Result (Edit × List (List ℕ)) EditRefusal

@@ -113,7 +113,7 @@ impl<A: Allocator> New<'_, A> {
 }
 
 fn becomes_if<A: Allocator>(element: &NewElement<A>, tag: Tag) -> Fate<'_, A>
-    ensures { asking.fate_of result ≡ (if same_tag element.now.tag tag then spec.becomes element.now.vr element.now.value.items else spec.stays) }
+    ensures { asking.fate_of result ≡ asking.becomes_if element.now tag }
 {
     if is_same(element.tag, tag) {
         Fate::Becomes(element)

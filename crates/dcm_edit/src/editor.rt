@@ -1,9 +1,7 @@
 // How far edits have come along an input.
 ghost use Rattle.std.specs.Prelude.{◌≡◌, ◌≤◌, ◌<◌, length, map, fold, Some, None, reverse};
-ghost use Rattle.dcm_base.specs.Atoms.{opens, closes_leaf, closes_item, opens_item, opens_fragment, ends};
+ghost use Rattle.dcm_base.specs.Atoms.{closes_leaf, closes_item, opens_item, opens_fragment, ends};
 ghost use Rattle.dcm_base.specs.declared.length.Length.{Length as AnyLength};
-ghost use Rattle.dcm_base.specs.declared.syntax.Syntax.{Syntax as AnySyntax};
-ghost use Rattle.dcm_base.specs.declared.vr.Vr.{Vr as AnyVr};
 ghost use Rattle.dcm_stream.specs.Tokens.{atoms_of};
 ghost use Rattle.dcm_edit.specs.Asking as asking;
 ghost use Rattle.dcm_edit.specs.EditSink as spec;
@@ -76,7 +74,7 @@ impl Editor {
     /// The edits that have found their place so far or find it here.
     fn found_with<A: Allocator>(&self, edits: &[Edit<A>], question: Question) -> u64
         requires { length edits.now ≤ 64 }
-        ensures { masks.bits result 0 (map edit_of edits.now) ≡ spec.either (masks.bits self.now.found 0 (map edit_of edits.now)) (map (asking.answer_of question) (editing.asked_here edits.now self.now)) }
+        ensures { masks.bits result 0 (map edit_of edits.now) ≡ editing.found_with edits.now self.now question }
     {
         self.found | answering(edits, self.depth(), self.level.mask, question)
     }
@@ -121,7 +119,7 @@ impl Editor {
     /// After the head of an element.
     fn open<A: Allocator>(&mut self, edits: &[Edit<A>], tag: Tag)
         requires { length edits.now ≤ 64 }
-        ensures { (vr : AnyVr) (declared : AnyLength) (syntax : AnySyntax) → editing.meant edits.now self.new ≡ spec.next (editing.meant edits.now self.old) (opens tag vr declared syntax) }
+        ensures { editing.Opens edits.now self.old self.new tag }
     {
         let found = self.found_with(edits, Question::AtHead(tag, self.level.last));
         let stays = matches!(self.fate_of(edits, tag), Fate::Stays);

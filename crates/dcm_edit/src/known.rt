@@ -1,7 +1,7 @@
 // Parts of a path whose tags are known.
-ghost use Rattle.std.specs.Prelude.{◌≡◌, ◌≤◌, [], ◌∷◌, length, map, option_map, MatchResult};
+ghost use Rattle.std.specs.Prelude.{◌≡◌, ◌≤◌, [], ◌∷◌, length, map, option_map};
 ghost use Rattle.dcm_edit.specs.EditWords as spec;
-ghost use Rattle.dcm_edit.specs.Making.{known_as};
+ghost use Rattle.dcm_edit.specs.Making.{IsKnown, known_as};
 ghost use Rattle.dcm_edit.specs.Meaning.{index_of as index_as};
 ghost use Rattle.dcm_edit.specs.Parts.{part_as, PART_LIMIT};
 
@@ -33,7 +33,7 @@ impl Default for Known {
 
 /// A tag that edits may name.
 fn known_tag(index: Option<Index>, tag: Tag) -> Result<Known, EditRefusal>
-    ensures { MatchResult result (λ k. spec.known_tag (option_map index_as index) tag ≡ Ok (known_as k)) (λ u. spec.known_tag (option_map index_as index) tag ≡ Err u) }
+    ensures { IsKnown known_as result (spec.known_tag (option_map index_as index) tag) }
 {
     if tag.group == META_GROUP {
         return Err(EditRefusal::MetaGroup);
@@ -45,7 +45,7 @@ fn known_tag(index: Option<Index>, tag: Tag) -> Result<Known, EditRefusal>
 }
 
 fn known_part(part: Part) -> Result<Known, EditRefusal>
-    ensures { let meant = spec.known_part (part_as part.entry).name (part_as part.entry).index in MatchResult result (λ k. meant ≡ Ok (known_as k)) (λ u. meant ≡ Err u) }
+    ensures { IsKnown known_as result (spec.known_part (part_as part.entry).name (part_as part.entry).index) }
 {
     match part.name {
         Name::Number(tag) => known_tag(part.index, tag),
@@ -59,7 +59,7 @@ fn known_part(part: Part) -> Result<Known, EditRefusal>
 /// The parts with their tags, or the first refusal.
 pub fn known_parts(parts: &[Part]) -> Result<ArrayVec<Known, MOST_PARTS>, EditRefusal>
     requires { length parts.now ≤ PART_LIMIT }
-    ensures { let meant = spec.known_parts (map part_as parts.now) in MatchResult result (λ ks. meant ≡ Ok (map known_as ks.items)) (λ u. meant ≡ Err u) }
+    ensures { IsKnown (λ ks. map known_as ks.items) result (spec.known_parts (map part_as parts.now)) }
 {
     let mut known = ArrayVec::new();
     let mut rest = parts;

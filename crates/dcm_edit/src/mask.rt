@@ -238,7 +238,7 @@ fn new_in<A: Allocator>(
     gap: Gap,
 ) -> Option<New<'_, A>>
     requires { place < 64 }
-    ensures { asking.seen_of result ≡ asking.seen_in gap (asking.seen (spec.element_of (asking.asked_one depth mask place (edit_of edit.now)))) }
+    ensures { asking.seen_of result ≡ asking.new_in gap depth mask place (edit_of edit.now) }
 {
     if !is_set(mask, place) {
         return None;

@@ -1,15 +1,14 @@
 // New elements, put where a data set lacks them.
 ghost use Rattle.std.specs.Prelude.{◌≡◌, ◌<◌, ◌≤◌, [], ◌∷◌, Some, length, map};
-ghost use Rattle.dcm_base.specs.Atoms.{trees_then, opens, opens_item, closes_item, closes_sequence};
-ghost use Rattle.dcm_base.specs.Tree.{no_tree, leaf};
+ghost use Rattle.dcm_base.specs.Atoms.{opens, opens_item, closes_item, closes_sequence};
 ghost use Rattle.dcm_base.specs.declared.length.Length.TheVariants.{Undefined};
 ghost use Rattle.dcm_base.specs.declared.syntax.Syntax.TheVariants.{Little};
 ghost use Rattle.dcm_base.specs.declared.vr.Vr.TheVariants.{SQ};
 ghost use Rattle.dcm_edit.specs.Asking as asking;
-ghost use Rattle.dcm_edit.specs.Edit.{before};
 ghost use Rattle.dcm_edit.specs.Masks.{asked};
 ghost use Rattle.dcm_edit.specs.Meaning.{edit_of};
-ghost use Rattle.dcm_edit.specs.NewOnes.{puts, first_new};
+ghost use Rattle.dcm_edit.specs.NewOnes.{first_new};
+ghost use Rattle.dcm_edit.specs.Outputs as outputs;
 ghost use Rattle.dcm_edit.specs.Overlap.{AreApart, ArePublic};
 ghost use Rattle.dcm_stream.specs.Sinks as sinks;
 
@@ -27,7 +26,7 @@ pub fn put_leaf_at<S: Sink, A: Allocator>(
     element: &NewElement<A>,
     sink: &mut S,
 ) -> Result<(), WriteFailed>
-    ensures takes { sinks.Takes S.Sink sink.old sink.new (trees_then Little (leaf tag element.now.vr element.now.value.items no_tree) []) result }
+    ensures takes { outputs.Puts S.Sink sink.old sink.new (outputs.leaf_at tag element.now) result }
     ensures failed { sinks.Tells S.Sink sink.old sink.new result }
     ensures kept { sinks.Keeps S.Sink sink.old sink.new }
 {
@@ -37,7 +36,7 @@ pub fn put_leaf_at<S: Sink, A: Allocator>(
 
 /// Hands a new value on.
 fn put_leaf<S: Sink, A: Allocator>(element: &NewElement<A>, sink: &mut S) -> Result<(), WriteFailed>
-    ensures takes { sinks.Takes S.Sink sink.old sink.new (trees_then Little (leaf element.now.tag element.now.vr element.now.value.items no_tree) []) result }
+    ensures takes { outputs.Puts S.Sink sink.old sink.new (outputs.leaf_at element.now.tag element.now) result }
     ensures failed { sinks.Tells S.Sink sink.old sink.new result }
     ensures kept { sinks.Keeps S.Sink sink.old sink.new }
 {
@@ -84,7 +83,7 @@ fn put_sequence<S: Sink, A: Allocator>(
     requires apart { AreApart (asked depth mask 0 (map edit_of edits.now)) }
     requires public { ArePublic (asked depth mask 0 (map edit_of edits.now)) }
     requires here { asking.seen (first_new tag (asked depth mask 0 (map edit_of edits.now))) ≡ asking.a_sequence tag }
-    ensures takes { sinks.Takes S.Sink sink.old sink.new (trees_then Little (before (first_new tag (asked depth mask 0 (map edit_of edits.now))) no_tree) []) result }
+    ensures takes { outputs.PutsFirst S.Sink sink.old sink.new tag (asked depth mask 0 (map edit_of edits.now)) result }
     ensures failed { sinks.Tells S.Sink sink.old sink.new result }
     ensures kept { sinks.Keeps S.Sink sink.old sink.new }
 {
@@ -112,7 +111,7 @@ fn put_one<S: Sink, A: Allocator>(
     requires apart { AreApart (asked depth mask 0 (map edit_of edits.now)) }
     requires public { ArePublic (asked depth mask 0 (map edit_of edits.now)) }
     requires here { asking.seen (first_new (asking.new_tag new) (asked depth mask 0 (map edit_of edits.now))) ≡ asking.seen_of (Some new) }
-    ensures takes { sinks.Takes S.Sink sink.old sink.new (trees_then Little (before (first_new (asking.new_tag new.entry) (asked depth mask 0 (map edit_of edits.now))) no_tree) []) result }
+    ensures takes { outputs.PutsFirst S.Sink sink.old sink.new (asking.new_tag new.entry) (asked depth mask 0 (map edit_of edits.now)) result }
     ensures failed { sinks.Tells S.Sink sink.old sink.new result }
     ensures kept { sinks.Keeps S.Sink sink.old sink.new }
 {
@@ -136,7 +135,7 @@ pub fn put_new<S: Sink, A: Allocator>(
     requires short { asking.AreShort (map edit_of edits.now) }
     requires apart { AreApart (asked depth mask 0 (map edit_of edits.now)) }
     requires public { ArePublic (asked depth mask 0 (map edit_of edits.now)) }
-    ensures takes { sinks.Takes S.Sink sink.old sink.new (trees_then Little (puts (asking.in_gap gap) (asked depth mask 0 (map edit_of edits.now)) no_tree) []) result }
+    ensures takes { outputs.PutsAll S.Sink sink.old sink.new (asking.in_gap gap) (asked depth mask 0 (map edit_of edits.now)) result }
     ensures failed { sinks.Tells S.Sink sink.old sink.new result }
     ensures kept { sinks.Keeps S.Sink sink.old sink.new }
 {

@@ -1,6 +1,6 @@
 // Edits that overlap.
 ghost use Rattle.std.specs.Prelude.{◌≡◌, ◌||◌, [], map};
-ghost use Rattle.dcm_edit.specs.Meaning.{index_of as index_as, action_of as action_as, along, path_edit_of as path_edit_as, edit_of as edit_as, first_tag};
+ghost use Rattle.dcm_edit.specs.Meaning as meaning;
 ghost use Rattle.dcm_edit.specs.Overlap as spec;
 
 use crate::edit::{Action, Edit, Index, PathEdit, Step};
@@ -8,7 +8,7 @@ use dcm_base::Tag;
 use std::alloc::Allocator;
 
 fn is_every(index: Index) -> bool
-    ensures { result ≡ spec.is_every (index_as index) }
+    ensures { result ≡ spec.is_every (meaning.index_of index) }
 {
     match index {
         Index::Number(_) => false,
@@ -17,21 +17,21 @@ fn is_every(index: Index) -> bool
 }
 
 fn same_index(left: Index, right: Index) -> bool
-    ensures { result ≡ spec.same_index (index_as left) (index_as right) }
+    ensures { result ≡ spec.same_index (meaning.index_of left) (meaning.index_of right) }
 {
     left == right
 }
 
 /// Whether different indexes before the end of their paths may select the same item.
 fn one_is_every(left: Index, right: Index) -> bool
-    ensures { result ≡ (spec.is_every (index_as left) || spec.is_every (index_as right)) }
+    ensures { result ≡ (spec.is_every (meaning.index_of left) || spec.is_every (meaning.index_of right)) }
 {
     is_every(left) || is_every(right)
 }
 
 /// The tag at the end of a path.
 fn action_tag<A: Allocator>(action: &Action<A>) -> Tag
-    ensures { result ≡ first_tag (action_as action.now) }
+    ensures { result ≡ meaning.first_tag (meaning.action_of action.now) }
 {
     match action {
         Action::Insert(element) | Action::Modify(element) => element.tag,
@@ -42,7 +42,7 @@ fn action_tag<A: Allocator>(action: &Action<A>) -> Tag
 
 /// The first tag of the rest of a path.
 fn next_tag<A: Allocator>(steps: &[Step], action: &Action<A>) -> Tag
-    ensures { result ≡ first_tag (along steps.now (action_as action.now)) }
+    ensures { result ≡ meaning.first_tag (meaning.along steps.now (meaning.action_of action.now)) }
 {
     match steps {
         [step, ..] => step.tag,
@@ -52,7 +52,7 @@ fn next_tag<A: Allocator>(steps: &[Step], action: &Action<A>) -> Tag
 
 /// Whether one path begins the other, or both part at indexes of which one is a star or ends its path.
 fn meets<A: Allocator>(left: &PathEdit<A>, right: &PathEdit<A>) -> bool
-    ensures { result ≡ spec.meets (spec.path (path_edit_as left.now)) (spec.path (path_edit_as right.now)) }
+    ensures { result ≡ spec.meets (spec.path (meaning.path_edit_of left.now)) (spec.path (meaning.path_edit_of right.now)) }
 {
     let mut left_steps = left.steps.as_slice();
     let mut right_steps = right.steps.as_slice();
@@ -74,7 +74,7 @@ fn meets<A: Allocator>(left: &PathEdit<A>, right: &PathEdit<A>) -> bool
 
 /// Whether a path names the tag.
 fn is_on<A: Allocator>(tag: Tag, path: &PathEdit<A>) -> bool
-    ensures { result ≡ spec.is_on tag (spec.path (path_edit_as path.now)) }
+    ensures { result ≡ spec.is_on tag (spec.path (meaning.path_edit_of path.now)) }
 {
     let mut steps = path.steps.as_slice();
     while let [step, rest @ ..] = steps {
@@ -87,7 +87,7 @@ fn is_on<A: Allocator>(tag: Tag, path: &PathEdit<A>) -> bool
 }
 
 fn is_named<A: Allocator>(tag: Tag, edit: &Edit<A>) -> bool
-    ensures { result ≡ spec.is_named tag (edit_as edit.now) }
+    ensures { result ≡ spec.is_named tag (meaning.edit_of edit.now) }
 {
     match edit {
         Edit::OnPath(path) => is_on(tag, path),
@@ -98,7 +98,7 @@ fn is_named<A: Allocator>(tag: Tag, edit: &Edit<A>) -> bool
 }
 
 fn overlaps<A: Allocator>(earlier: &Edit<A>, later: &Edit<A>) -> bool
-    ensures { result ≡ spec.overlaps (edit_as earlier.now) (edit_as later.now) }
+    ensures { result ≡ spec.overlaps (meaning.edit_of earlier.now) (meaning.edit_of later.now) }
 {
     match (earlier, later) {
         (Edit::OnPath(left), Edit::OnPath(right)) => meets(left, right),
@@ -112,7 +112,7 @@ fn overlaps<A: Allocator>(earlier: &Edit<A>, later: &Edit<A>) -> bool
 }
 
 fn overlaps_one<A: Allocator>(mut earlier: &[Edit<A>], later: &Edit<A>) -> bool
-    ensures { result ≡ spec.overlaps_one (map edit_as earlier.entry.now) (edit_as later.now) }
+    ensures { result ≡ spec.overlaps_one (map meaning.edit_of earlier.entry.now) (meaning.edit_of later.now) }
 {
     while let [edit, rest @ ..] = earlier {
         if overlaps(edit, later) {
@@ -125,7 +125,7 @@ fn overlaps_one<A: Allocator>(mut earlier: &[Edit<A>], later: &Edit<A>) -> bool
 
 /// The number of the first edit, from 1, that overlaps an earlier one.
 pub fn first_overlap<A: Allocator>(edits: &[Edit<A>]) -> Option<usize>
-    ensures { result ≡ spec.first_overlap 1 [] (map edit_as edits.now) }
+    ensures { result ≡ spec.first_overlap 1 [] (map meaning.edit_of edits.now) }
 {
     for i in 0..edits.len() {
         let (earlier, _) = edits.split_at(i);

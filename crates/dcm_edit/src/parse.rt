@@ -1,7 +1,7 @@
 // The edits that words mean.
-ghost use Rattle.std.specs.Prelude.{◌≡◌, ◌+◌, ◌<◌, ◌≤◌, drop, length, map, IfOk};
+ghost use Rattle.std.specs.Prelude.{◌≡◌, ◌+◌, ◌<◌, ◌≤◌, length, map, IfOk};
 ghost use Rattle.dcm_edit.specs.EditWords as spec;
-ghost use Rattle.dcm_edit.specs.Making.{option_as, fault_of, texts, MakesFrom, MakesAll, first_edit};
+ghost use Rattle.dcm_edit.specs.Making.{option_as, fault_of, texts, texts_from, MakesFrom, MakesAll, first_edit};
 ghost use Rattle.dcm_edit.specs.Meaning.{edit_of as edit_as};
 
 use crate::edit::Edit;
@@ -59,7 +59,7 @@ fn next_edit<A: Allocator + Copy>(
     place: usize,
 ) -> Result<(Edit<A>, usize), EditFault>
     requires { place < length words.now }
-    ensures edit { MakesFrom (λ r. (edit_as r.0, texts (drop (place + r.1) words.now))) number result (first_edit (texts (drop place words.now))) }
+    ensures edit { MakesFrom (λ r. (edit_as r.0, texts_from (place + r.1) words.now)) number result (first_edit (texts_from place words.now)) }
     ensures used { IfOk result (λ r. (0 < r.1) × (place + r.1 ≤ length words.now)) }
 {
     match option_word(words[place]) {

@@ -1,20 +1,17 @@
 // Edits, between what reads a data set and what takes it.
-ghost use Rattle.std.specs.Prelude.{◌≡◌, ◌≤◌, ◌<◌, ℕ, [], length, map, fold, not, false, MatchResult};
+ghost use Rattle.std.specs.Prelude.{◌≡◌, ◌≤◌, ◌<◌, ℕ, length, map, not, false};
 ghost use Rattle.std.specs.Borrow.{GName};
-ghost use Rattle.dcm_base.specs.Atoms.{Atom, opens, opens_item, trees_then};
-ghost use Rattle.dcm_base.specs.Steps.{outputs};
-ghost use Rattle.dcm_base.specs.Tree.{no_tree, leaf};
-ghost use Rattle.dcm_base.specs.declared.syntax.Syntax.TheVariants.{Little as little};
+ghost use Rattle.dcm_base.specs.Atoms.{opens_item};
 ghost use Rattle.dcm_stream.specs.Sinks as sinks;
 ghost use Rattle.dcm_stream.specs.Skip.{depth};
 ghost use Rattle.dcm_stream.specs.Tokens.{IsFilled, atoms_of};
 ghost use Rattle.dcm_edit.specs.Asking as asking;
-ghost use Rattle.dcm_edit.specs.EditSink as spec;
-ghost use Rattle.dcm_edit.specs.EditSink.{State as EditState, next, passed, begun};
+ghost use Rattle.dcm_edit.specs.EditSink.{State as EditState, passed, begun};
 ghost use Rattle.dcm_edit.specs.Sound.{IsSound, IsSound-prop};
 ghost use Rattle.dcm_edit.specs.Editing as editing;
 ghost use Rattle.dcm_edit.specs.Masks as masks;
 ghost use Rattle.dcm_edit.specs.Meaning.{edit_of};
+ghost use Rattle.dcm_edit.specs.Outputs as outputs;
 ghost use Rattle.dcm_edit.specs.Through.{through_step, through_writes, through_bar};
 
 use crate::asked::{Fate, Gap, is_below};
@@ -38,7 +35,7 @@ fn put_gap<S: Sink, A: Allocator>(
     requires few { length edits.now ≤ 64 }
     requires short { asking.AreShort (map edit_of edits.now) }
     requires sound { IsSound (editing.meant edits.now editor.now) }
-    ensures takes { sinks.Takes S.Sink sink.old sink.new (trees_then little (editing.missing edits.now editor.now next) []) result }
+    ensures takes { outputs.Puts S.Sink sink.old sink.new (editing.missing edits.now editor.now next) result }
     ensures failed { sinks.Tells S.Sink sink.old sink.new result }
     ensures kept { sinks.Keeps S.Sink sink.old sink.new }
 {
@@ -59,7 +56,7 @@ fn put_head<S: Sink, A: Allocator>(
     syntax: Syntax,
     sink: &mut S,
 ) -> Result<(), WriteFailed>
-    ensures takes { sinks.Takes S.Sink sink.old sink.new (spec.head_by (asking.fate_of fate.entry) head.tag (opens head.tag head.vr head.length syntax)) result }
+    ensures takes { sinks.Takes S.Sink sink.old sink.new (editing.head_put (asking.fate_of fate.entry) head syntax) result }
     ensures failed { sinks.Tells S.Sink sink.old sink.new result }
     ensures kept { sinks.Keeps S.Sink sink.old sink.new }
 {
@@ -82,7 +79,7 @@ fn pass_element<S: Sink, A: Allocator>(
     requires short { asking.AreShort (map edit_of edits.now) }
     requires sound { IsSound (editing.meant edits.now editor.now) }
     requires kept { depth editor.now.skip ≡ 0 }
-    ensures takes { sinks.Takes S.Sink sink.old sink.new (passed (editing.meant edits.now editor.now) (opens head.tag head.vr head.length syntax)) result }
+    ensures takes { sinks.Takes S.Sink sink.old sink.new (passed (editing.meant edits.now editor.now) (editing.head_of head syntax)) result }
     ensures failed { sinks.Tells S.Sink sink.old sink.new result }
     ensures kept { sinks.Keeps S.Sink sink.old sink.new }
 {
@@ -122,7 +119,7 @@ fn pass_end<S: Sink, A: Allocator>(
     requires kept { depth editor.now.skip ≡ 0 }
     requires end { editing.IsEnd (atoms_of end) }
     requires filled { IsFilled end }
-    ensures takes { sinks.Takes S.Sink sink.old sink.new (outputs next passed (editing.meant edits.now editor.now) (atoms_of end.entry)) result }
+    ensures takes { sinks.Takes S.Sink sink.old sink.new (editing.passed_of edits.now editor.now (atoms_of end.entry)) result }
     ensures failed { sinks.Tells S.Sink sink.old sink.new result }
     ensures kept { sinks.Keeps S.Sink sink.old sink.new }
 {
@@ -141,7 +138,7 @@ fn pass<S: Sink, A: Allocator>(
     requires short { asking.AreShort (map edit_of edits.now) }
     requires sound { IsSound (editing.meant edits.now editor.now) }
     requires filled { IsFilled token }
-    ensures takes { sinks.Takes S.Sink sink.old sink.new (outputs next passed (editing.meant edits.now editor.now) (atoms_of token.entry)) result }
+    ensures takes { sinks.Takes S.Sink sink.old sink.new (editing.passed_of edits.now editor.now (atoms_of token.entry)) result }
     ensures failed { sinks.Tells S.Sink sink.old sink.new result }
     ensures kept { sinks.Keeps S.Sink sink.old sink.new }
 {
@@ -169,10 +166,10 @@ fn pass_on<S: Sink, A: Allocator>(
     requires short { asking.AreShort (map edit_of edits.now) }
     requires sound { IsSound (editing.meant edits.now editor.old) }
     requires filled { IsFilled token }
-    ensures takes { sinks.Takes S.Sink sink.old sink.new (outputs next passed (editing.meant edits.now editor.old) (atoms_of token.entry)) result }
+    ensures takes { sinks.Takes S.Sink sink.old sink.new (editing.passed_of edits.now editor.old (atoms_of token.entry)) result }
     ensures failed { sinks.Tells S.Sink sink.old sink.new result }
     ensures kept { sinks.Keeps S.Sink sink.old sink.new }
-    ensures state { MatchResult result (λ _. editing.meant edits.now editor.new ≡ fold next (editing.meant edits.now editor.old) (atoms_of token.entry)) (λ _. editor.new ≡ editor.old) }
+    ensures state { editing.GoesOn edits.now editor.old editor.new (atoms_of token.entry) result }
 {
     match token {
         Token::Open(head, _) if editor.leaves(edits, head.tag) => {

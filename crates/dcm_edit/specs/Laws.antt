@@ -1,0 +1,146 @@
+-- The statements of the laws.
+use Rattle.std.specs.Prelude.{◌≡◌, ◌≤◌, ℕ, List, Ok, false, fold, map}
+use Rattle.dcm_base.specs.Ascending.{FrontAscends}
+use Rattle.dcm_base.specs.Atoms.{Atom, Shows, front_atoms, is_closed}
+use Rattle.dcm_base.specs.Bars.{ascending_bar}
+use Rattle.dcm_base.specs.Front.{Front}
+use Rattle.dcm_base.specs.Normal.{normal_front}
+use Rattle.dcm_base.specs.Number.{AreBytes}
+use Rattle.dcm_base.specs.Reads.{INPUT_LIMIT, Reads, ended}
+use Rattle.dcm_base.specs.Recode.{recode}
+use Rattle.dcm_base.specs.Steps.{outputs}
+use Rattle.dcm_base.specs.Stop.{Stop, complete}
+use Rattle.dcm_base.specs.declared.length.Length.{Length}
+use Rattle.dcm_base.specs.declared.syntax.Syntax.{Syntax}
+use Rattle.dcm_base.specs.declared.tag.Tag.{Tag}
+use Rattle.dcm_base.specs.declared.vr.Vr.{Vr}
+use Rattle.dcm_stream.specs.Driven.{bars_by}
+use Rattle.dcm_tools.specs.EncodeSink.{encode_start, encode_step, encode_writes}
+use Rattle.dcm_tools.specs.Laws.{StaysShallow}
+use Rattle.dcm_edit.specs.Edit.{Edit, edited, erase_all, erase_private, found, modify_all}
+use Rattle.dcm_edit.specs.EditSink.{AreWithin, HaveShortIndexes, HaveValues, begun, edit_bar, next, passed, reached_anew}
+use Rattle.dcm_edit.specs.EditWords.{meant_edits}
+use Rattle.dcm_edit.specs.Everywhere.{Among, EverywhereIn, IsOther, IsPublic, IsWrittenJust}
+use Rattle.dcm_edit.specs.Modification.{Modifies, OfBytes, ReadsAgain}
+use Rattle.dcm_edit.specs.Others.{any_changes, set_without}
+use Rattle.dcm_edit.specs.Overlap.{AreApart, ArePublic}
+use Rattle.dcm_edit.specs.Repeating.{EraseByNoNumber}
+
+-- what the encode sink writes of the atoms that the edit sink passes on
+abbrev pub written : Syntax → List Edit → List Atom → List ℕ
+written target edits atoms = outputs encode_step encode_writes (encode_start target) (outputs next passed (begun edits) atoms)
+
+-- the edit sink knows which edits have found their place
+abbrev pub KnowsFound : List Edit → Front → List Atom → Type 0
+KnowsFound edits f atoms = (fold next (begun edits) atoms).found ≡ map (λ e. found e f) edits
+
+-- what the edit sink passes on of the atoms of a data set shows the edited one
+abbrev pub StepsEdit : Type 0
+StepsEdit =
+    (edits : List Edit) (f : Front) (atoms : List Atom) → AreApart edits → ArePublic edits → HaveValues edits
+    → HaveShortIndexes edits → FrontAscends f → StaysShallow 0 atoms → Shows f atoms
+    → Shows (reached_anew (edited edits f)) (outputs next passed (begun edits) atoms) × KnowsFound edits f atoms
+
+-- the sink bars a head exactly where its tag is not above the last one of its data set
+abbrev pub StepsBar : Type 0
+StepsBar =
+    (edits : List Edit) (f : Front) (atoms : List Atom) (tag : Tag) (vr : Vr) (declared : Length) → HaveShortIndexes edits
+    → StaysShallow 0 atoms → Shows f atoms
+    → bars_by edit_bar next (begun edits) atoms tag vr declared ≡ ascending_bar f tag vr declared
+
+-- what is read of an input under that bar ascends
+abbrev pub ReadAscends : Type 0
+ReadAscends =
+    (s : Syntax) (start : ℕ) (bytes : List ℕ) (f : Front) (stop : Stop) → start ≤ INPUT_LIMIT
+    → Reads ascending_bar s start bytes f stop → FrontAscends f
+
+-- what was read of it so far ascends
+abbrev pub ReadSoFarAscends : Type 0
+ReadSoFarAscends =
+    (s : Syntax) (start : ℕ) (bytes : List ℕ) (f : Front) (stop : Stop) → start ≤ INPUT_LIMIT → is_closed f ≡ false
+    → Reads ascending_bar s start bytes (ended stop f) stop → FrontAscends f
+
+-- new elements are no sequences, indexes have at most nine digits, and paths at most 64 steps
+abbrev pub EditsFit : Type 0
+EditsFit =
+    (words : List (List ℕ)) (edits : List Edit) → meant_edits words ≡ Ok edits
+    → HaveValues edits × HaveShortIndexes edits × AreWithin 64 edits
+
+-- of all that is read of an input the edit sink and the encode sink after it write the edited data set
+abbrev pub EditsWhole : Type 0
+EditsWhole =
+    (target : Syntax) (edits : List Edit) → AreApart edits → ArePublic edits → HaveValues edits → HaveShortIndexes edits
+    → AreWithin 64 edits → (s : Syntax) (start : ℕ) (bytes : List ℕ) (f : Front) (stop : Stop) → start ≤ INPUT_LIMIT
+    → Reads ascending_bar s start bytes f stop
+    → (written target edits (front_atoms s f) ≡ recode target (edited edits f)) × KnowsFound edits f (front_atoms s f)
+
+-- of what was read so far they write that, edited
+abbrev pub EditsSoFar : Type 0
+EditsSoFar =
+    (target : Syntax) (edits : List Edit) → AreApart edits → ArePublic edits → HaveValues edits → HaveShortIndexes edits
+    → AreWithin 64 edits → (s : Syntax) (start : ℕ) (bytes : List ℕ) (f : Front) (stop : Stop) → start ≤ INPUT_LIMIT
+    → is_closed f ≡ false → Reads ascending_bar s start bytes (ended stop f) stop
+    → (written target edits (front_atoms s f) ≡ recode target (edited edits f)) × KnowsFound edits f (front_atoms s f)
+
+-- what is written reads back without fault, as the normal form of the edited data set
+abbrev pub EditedReads : Type 0
+EditedReads =
+    (edits : List Edit) (s : Syntax) (at : ℕ) (f : Front) → Modifies edits s at f
+    → ReadsAgain edits s at f (normal_front s (edited edits f)) complete
+
+-- it reads back so under the bar of dcmodify too
+abbrev pub EditedAscends : Type 0
+EditedAscends =
+    (edits : List Edit) (s : Syntax) (at : ℕ) (f : Front) → Modifies edits s at f
+    → Reads ascending_bar s at (recode s (edited edits f)) (normal_front s (edited edits f)) complete
+
+-- what is written is bytes, where the words of the command line are
+abbrev pub EditedIsBytes : Type 0
+EditedIsBytes =
+    (edits : List Edit) (s : Syntax) (at : ℕ) (f : Front) (h : Modifies edits s at f) → OfBytes h.words
+    → AreBytes (recode s (edited edits f))
+
+-- after `-ea` no element has the tag, at any depth
+abbrev pub NoneIsLeft : Type 0
+NoneIsLeft =
+    (edits : List Edit) (s : Syntax) (at : ℕ) (f again : Front) (stop : Stop) (tag : Tag) → Modifies edits s at f
+    → Among (erase_all tag) edits → ReadsAgain edits s at f again stop → (stop ≡ complete) × EverywhereIn (IsOther tag) again
+
+-- after `-ep` no element is of an odd group, at any depth
+abbrev pub NoPrivateIsLeft : Type 0
+NoPrivateIsLeft =
+    (edits : List Edit) (s : Syntax) (at : ℕ) (f again : Front) (stop : Stop) → Modifies edits s at f
+    → Among erase_private edits → ReadsAgain edits s at f again stop → (stop ≡ complete) × EverywhereIn IsPublic again
+
+-- after `-ma` each element of the tag has the value as it is written, at any depth
+abbrev pub AllAreModified : Type 0
+AllAreModified =
+    (edits : List Edit) (s : Syntax) (at : ℕ) (f again : Front) (stop : Stop) (tag : Tag) (vr : Vr) (value : List ℕ)
+    → Modifies edits s at f → Among (modify_all tag vr value) edits → ReadsAgain edits s at f again stop
+    → (stop ≡ complete) × EverywhereIn (IsWrittenJust s tag vr value) again
+
+-- without the elements of the tags that edits may change, both data sets are the same, at every depth
+abbrev pub OthersStay : Type 0
+OthersStay =
+    (edits : List Edit) (s : Syntax) (at : ℕ) (f : Front) → Modifies edits s at f
+    → set_without (any_changes edits) (edited edits f) ≡ set_without (any_changes edits) f
+
+-- the same edits of what is written write the same bytes again, where no edit erases an item by its number
+abbrev pub EditedTwice : Type 0
+EditedTwice =
+    (edits : List Edit) (s : Syntax) (at : ℕ) (f : Front) → Modifies edits s at f → EraseByNoNumber edits
+    → recode s (edited edits (normal_front s (edited edits f))) ≡ recode s (edited edits f)
+
+-- a second run reads what the first one wrote without fault, and writes the same bytes again
+abbrev pub WritesAgain : Type 0
+WritesAgain =
+    (edits : List Edit) (s : Syntax) (at : ℕ) (f again : Front) (stop : Stop) → Modifies edits s at f → EraseByNoNumber edits
+    → Reads ascending_bar s at (recode s (edited edits f)) again stop
+    → (stop ≡ complete) × (recode s (edited edits again) ≡ recode s (edited edits f))
+
+-- what is said of the first run holds of the second one, where bytes were written
+abbrev pub ModifiesAgain : Type 0
+ModifiesAgain =
+    (edits : List Edit) (s : Syntax) (at : ℕ) (f again : Front) (stop : Stop) → Modifies edits s at f → EraseByNoNumber edits
+    → AreBytes (recode s (edited edits f)) → Reads ascending_bar s at (recode s (edited edits f)) again stop
+    → Modifies edits s at again
