@@ -10,3 +10,4 @@ pub mod BuildLaws
 pub mod DumpLines
 pub mod StepsBuild
 pub mod DumpBuilds
+pub mod Laws

@@ -1,16 +1,22 @@
 -- What a call in the building of a file does to its output, by the members of the writer.
-use Rattle.std.specs.Prelude.{◌≡◌, ℕ, Bool, List, Option, None, Result, fold}
+use Rattle.std.specs.Prelude.{◌≡◌, ℕ, Bool, false, List, Option, None, Result, fold}
 use Rattle.dcm_base.specs.Atoms.{Atom}
 use Rattle.dcm_base.specs.Device as device
-use Rattle.dcm_base.specs.Steps.{outputs}
+use Rattle.dcm_base.specs.Steps.{Goes, outputs}
 use Rattle.dcm_base.specs.Build.{first_fault, without_return}
 use Rattle.dcm_base.specs.Line.{Step, means}
 use Rattle.dcm_tools.specs.EncodeSink.{encode_step, encode_writes}
 use Rattle.dcm_tools.specs.declared.encode.encoder.Encoder.{Encoder}
 use Rattle.dcm_tools.specs.Encoder as encoders
+use Rattle.dcm_stream.specs.Machine as machine
+use Rattle.dcm_stream.specs.Machine.{well}
+use Rattle.dcm_build.specs.declared.build.BuildHalt.{BuildHalt}
 use Rattle.dcm_build.specs.declared.file.NewFile.{NewFile}
 use Rattle.dcm_build.specs.declared.file.Stopped.{Stopped}
-use Rattle.dcm_build.specs.Building.{BuildState, placed, placed_writes, shows, shows_writes, meaning_taken, meaning_writes, build_start, ended_meta, end_checks, end_writes}
+use Rattle.dcm_build.specs.declared.place.Place.{Place}
+use Rattle.dcm_build.specs.Builder as builder
+use Rattle.dcm_build.specs.Builder.{Progress, building, bytes_read, is_halted}
+use Rattle.dcm_build.specs.Building.{build_step, build_writes, BuildState, placed, placed_writes, shows, shows_writes, meaning_taken, meaning_writes, build_start, ended_meta, end_checks, end_writes}
 use Rattle.dcm_build.specs.NewFile.{LineAt, state, seen, Comes, Ends}
 
 -- the members of a writer
@@ -62,3 +68,31 @@ Finishes w held holds old new r =
 -- nothing was built, wherever its lines are
 abbrev pub IsNew : NewFile → Type 0
 IsNew f = (at : LineAt) → state f at None ≡ record (build_start at.limit) { line = at.line; offset = at.offset; number = at.number }
+
+-- what was built came to this state, and these bytes went out, or a beginning of them where the output failed
+abbrev pub Reaches : {W T : Type 0} → Writer W → (held holds : W) → (old new : Place) → (BuildState → BuildState) → (BuildState → List ℕ) → Result T BuildHalt → Type 0
+Reaches w held holds old new step writes r =
+    builder.Reaches (w.contents held) (w.contents holds) (building new) (step (building old None)) (writes (building old None)) r
+
+-- as many bytes of a piece were gone over as the answer says
+abbrev pub FeedsPiece : {W : Type 0} → Writer W → (held holds : W) → (old new : Place) → List ℕ → Result ℕ BuildHalt → Type 0
+FeedsPiece w held holds old new piece r =
+    builder.Feeds (building old None) (w.contents held) (building new) (w.contents holds) (bytes_read r piece) r
+
+-- the output failed in the call exactly where that is the answer
+abbrev pub TellsHalt : {W T : Type 0} → Writer W → (held holds : W) → Result T BuildHalt → Type 0
+TellsHalt w held holds r = builder.TellsHalt (w.has_failed held) (w.has_failed holds) r
+
+-- where the output was well, a builder went over these bytes
+abbrev pub GoesOver : {W : Type 0} → Writer W → (held holds : W) → (old new : Progress) → List ℕ → Type 0
+GoesOver w held holds old new bytes =
+    old.failed ≡ false → Goes build_step build_writes old.state (w.contents held) new.state (w.contents holds) bytes (well new.failed)
+
+-- where the output was well, a builder wrote these bytes, or a beginning of them where the output failed
+abbrev pub Writes : {W : Type 0} → Writer W → (held holds : W) → (old new : Progress) → (BuildState → List ℕ) → Type 0
+Writes w held holds old new writes =
+    old.failed ≡ false → device.Puts (w.contents held) (w.contents holds) (writes old.state) (well new.failed)
+
+-- the output failed in a call that was not halted before exactly where the builder says so
+abbrev pub TellsFailed : {W : Type 0} → Writer W → (held holds : W) → (old new : Progress) → Type 0
+TellsFailed w held holds old new = is_halted old ≡ false → machine.TellsFailed (w.has_failed held) (w.has_failed holds) new.failed

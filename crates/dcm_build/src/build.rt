@@ -1,10 +1,8 @@
 // A file that is built from the lines of a dump, which come in pieces.
 ghost use Rattle.std.specs.Prelude.{◌≡◌, ◌+◌, ◌≤◌, ◌^◌, OnOk, None, length, true, false};
-ghost use Rattle.dcm_base.specs.Device.{Puts};
-ghost use Rattle.dcm_base.specs.Steps.{Goes};
-ghost use Rattle.dcm_stream.specs.Machine.{TellsFailed, well};
 ghost use Rattle.dcm_build.specs.Builder as spec;
 ghost use Rattle.dcm_build.specs.Building as steps;
+ghost use Rattle.dcm_build.specs.Outputs as outputs;
 
 use crate::place::Place;
 use dcm_base::{DeviceOut, LineFault, Watched};
@@ -64,11 +62,11 @@ impl Builder {
         piece: &[u8],
         out: &mut Watched<W>,
     ) -> Result<(), BuildHalt>
-        ensures goes { self.old.failed ≡ false → Goes steps.build_step steps.build_writes self.old.state (W.contents out.old) self.new.state (W.contents out.new) piece.now (well self.new.failed) }
+        ensures goes { outputs.GoesOver W.DeviceOut out.old out.new self.old self.new piece.now }
         ensures answer { result ≡ spec.answer self.new.state.told self.new.failed }
         ensures going { OnOk result (spec.is_halted self.new ≡ false) }
         ensures halted { spec.is_halted self.old ≡ true → (self.new ≡ self.old) × (out.new ≡ out.old) }
-        ensures failed { spec.is_halted self.old ≡ false → TellsFailed (W.has_failed out.old) (W.has_failed out.new) self.new.failed }
+        ensures failed { outputs.TellsFailed W.DeviceOut out.old out.new self.old self.new }
         // While nothing halts it, it goes over each byte, and over no more than the limit.
         ensures place { spec.is_halted self.new ≡ false → steps.read_size self.new.state ≡ steps.read_size self.old.state + length piece.now }
         ensures within { spec.is_halted self.new ≡ false → steps.read_size self.old.state ≤ 2 ^ 62 → steps.read_size self.new.state ≤ 2 ^ 62 }
@@ -91,12 +89,12 @@ impl Builder {
 
     /// The input ends. Where that is no fault, the file is whole.
     pub fn finish<W: DeviceOut>(&mut self, out: &mut Watched<W>) -> Result<(), BuildHalt>
-        ensures bytes { self.old.failed ≡ false → Puts (W.contents out.old) (W.contents out.new) (steps.finish_writes self.old.state) (well self.new.failed) }
+        ensures bytes { outputs.Writes W.DeviceOut out.old out.new self.old self.new steps.finish_writes }
         ensures state { self.new.failed ≡ false → self.new.state ≡ steps.finishes self.old.state }
         ensures answer { result ≡ spec.answer self.new.state.told self.new.failed }
         ensures going { OnOk result (spec.is_halted self.new ≡ false) }
         ensures halted { spec.is_halted self.old ≡ true → (self.new ≡ self.old) × (out.new ≡ out.old) }
-        ensures failed { spec.is_halted self.old ≡ false → TellsFailed (W.has_failed out.old) (W.has_failed out.new) self.new.failed }
+        ensures failed { outputs.TellsFailed W.DeviceOut out.old out.new self.old self.new }
     {
         if self.halt.is_none() {
             self.halt = self.place.end(out).err();

@@ -3,6 +3,7 @@ ghost use Rattle.std.specs.Prelude.{◌≡◌, ◌+◌, ◌++◌, ◌<◌, ◌�
 ghost use Rattle.dcm_base.specs.Reads.{INPUT_LIMIT as MOST_READ};
 ghost use Rattle.dcm_build.specs.Builder as spec;
 ghost use Rattle.dcm_build.specs.Building as steps;
+ghost use Rattle.dcm_build.specs.Outputs as outputs;
 
 use crate::build::{BuildHalt, LineStop};
 use crate::file::{NewFile, Stopped};
@@ -78,9 +79,9 @@ impl Place {
     /// The line ends.
     fn end_line<W: DeviceOut>(&mut self, out: &mut Watched<W>) -> Result<(), BuildHalt>
         requires { spec.Stands (spec.line_at self.old) }
-        ensures reaches { spec.Reaches (W.contents out.old) (W.contents out.new) (spec.building self.new) (steps.line_taken (spec.building self.old None)) (steps.line_writes (spec.building self.old None)) result }
+        ensures reaches { outputs.Reaches W.DeviceOut out.old out.new self.old self.new steps.line_taken steps.line_writes result }
         ensures place { OnOk result (spec.line_at self.new ≡ spec.behind (spec.line_at self.old)) }
-        ensures failed { spec.TellsHalt (W.has_failed out.old) (W.has_failed out.new) result }
+        ensures failed { outputs.TellsHalt W.DeviceOut out.old out.new result }
     {
         if let Err(stopped) = self.file.take_line(self.line.as_slice(), out) {
             return Err(halt(stopped, self.offset, self.number));
@@ -94,9 +95,9 @@ impl Place {
     /// The last line ends, which may lack its newline.
     fn end_last_line<W: DeviceOut>(&mut self, out: &mut Watched<W>) -> Result<(), BuildHalt>
         requires { spec.Stands (spec.line_at self.old) }
-        ensures reaches { spec.Reaches (W.contents out.old) (W.contents out.new) (spec.building self.new) (steps.last_line (spec.building self.old None)) (steps.last_writes (spec.building self.old None)) result }
+        ensures reaches { outputs.Reaches W.DeviceOut out.old out.new self.old self.new steps.last_line steps.last_writes result }
         ensures stands { OnOk result (spec.Stands (spec.line_at self.new)) }
-        ensures failed { spec.TellsHalt (W.has_failed out.old) (W.has_failed out.new) result }
+        ensures failed { outputs.TellsHalt W.DeviceOut out.old out.new result }
     {
         if self.line.is_empty() {
             return Ok(());
@@ -113,11 +114,11 @@ impl Place {
         requires some { 0 < length piece.now }
         requires stands { spec.Stands (spec.line_at self.old) }
         ensures some { IfOk result (λ n. (0 < n) × (n ≤ length piece.now)) }
-        ensures feeds { spec.Feeds (spec.building self.old None) (W.contents out.old) (spec.building self.new) (W.contents out.new) (spec.bytes_read result piece.now) result }
+        ensures feeds { outputs.FeedsPiece W.DeviceOut out.old out.new self.old self.new piece.now result }
         ensures stands { OnOk result (spec.Stands (spec.line_at self.new)) }
         ensures size { IfOk result (λ n. spec.read (spec.line_at self.new) ≡ spec.read (spec.line_at self.old) + n) }
         ensures within { OnOk result (spec.read (spec.line_at self.new) ≤ MOST_READ) }
-        ensures failed { spec.TellsHalt (W.has_failed out.old) (W.has_failed out.new) result }
+        ensures failed { outputs.TellsHalt W.DeviceOut out.old out.new result }
     {
         let read = self.offset + self.line.len() as u64;
         if read >= INPUT_LIMIT {
@@ -143,9 +144,9 @@ impl Place {
     /// The input ends here: the last line ends, and the file is closed where it may be.
     pub fn end<W: DeviceOut>(&mut self, out: &mut Watched<W>) -> Result<(), BuildHalt>
         requires { spec.Stands (spec.line_at self.old) }
-        ensures reaches { spec.Reaches (W.contents out.old) (W.contents out.new) (spec.building self.new) (steps.finishes (spec.building self.old None)) (steps.finish_writes (spec.building self.old None)) result }
+        ensures reaches { outputs.Reaches W.DeviceOut out.old out.new self.old self.new steps.finishes steps.finish_writes result }
         ensures stands { OnOk result (spec.Stands (spec.line_at self.new)) }
-        ensures failed { spec.TellsHalt (W.has_failed out.old) (W.has_failed out.new) result }
+        ensures failed { outputs.TellsHalt W.DeviceOut out.old out.new result }
     {
         let size = self.offset + self.line.len() as u64;
         self.end_last_line(out)?;
