@@ -231,15 +231,15 @@ acts (becomes vr value) = true
 acts goes = true
 
 -- a data set in which an edit puts its element has a place for it, and so has one that lacks the sequence on its way
-abbrev pub is_missing : NewElement → Trees → Bool
-is_missing no_element set = false
-is_missing (new_leaf tag vr value) set = true
-is_missing (new_sequence tag held) set = not (has tag set)
+abbrev pub has_place_in : NewElement → Trees → Bool
+has_place_in no_element set = false
+has_place_in (new_leaf tag vr value) set = true
+has_place_in (new_sequence tag held) set = not (has tag set)
 
-abbrev pub is_missing_so_far : NewElement → Front → Bool
-is_missing_so_far no_element f = false
-is_missing_so_far (new_leaf tag vr value) f = true
-is_missing_so_far (new_sequence tag held) (front whole open_tree reached closed) =
+abbrev pub has_place_so_far : NewElement → Front → Bool
+has_place_so_far no_element f = false
+has_place_so_far (new_leaf tag vr value) f = true
+has_place_so_far (new_sequence tag held) (front whole open_tree reached closed) =
     not (has tag whole || has_open tag open_tree || not (is_passed tag reached closed))
 
 -- whether the edit finds its place: its element or item, or for a new element the data set
@@ -253,12 +253,12 @@ abbrev mutual
   pub found_in_items : Edit → Tag → ℕ → Items → Bool
   found_in_items e tag n no_item = false
   found_in_items e tag n (item declared set rest) =
-      erases e tag n || is_missing (element_of (within e tag n)) set || found_in (within e tag n) set || found_in_items e tag (suc n) rest
+      erases e tag n || has_place_in (element_of (within e tag n)) set || found_in (within e tag n) set || found_in_items e tag (suc n) rest
 
 abbrev mutual
   pub found : Edit → Front → Bool
   found e (front whole open_tree reached closed) =
-      is_missing_so_far (element_of e) (front whole open_tree reached closed) || found_in e whole || found_open e open_tree
+      has_place_so_far (element_of e) (front whole open_tree reached closed) || found_in e whole || found_open e open_tree
 
   pub found_open : Edit → OpenTree → Bool
   found_open e nothing_open = false

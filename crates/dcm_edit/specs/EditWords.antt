@@ -5,7 +5,6 @@ use Rattle.std.specs.Option.{is_some}
 use Rattle.std.specs.Str.{byte}
 use Rattle.dcm_base.specs.declared.tag.Tag.{Tag}
 use Rattle.dcm_base.specs.declared.vr.Vr.{Vr}
-use Rattle.dcm_base.specs.declared.vr.Vr.TheVariants.{SQ}
 use Rattle.dcm_base.specs.declared.fault.EditRefusal.{EditRefusal}
 use Rattle.dcm_base.specs.declared.fault.EditRefusal.TheVariants.{BadOption, UnknownTag, ValueDoesNotFit, SequenceMisused, MetaGroup, Overlap, TooMany}
 use Rattle.dcm_base.specs.Representation.{is_sequence}
@@ -169,37 +168,39 @@ abbrev pub item_or_element : Tag → Option Index → PathEdit
 item_or_element tag None = erase tag
 item_or_element tag (Some index) = erase_item tag index
 
--- the edit at the end of the path, and the steps to it
 abbrev pub step_to : Tag → Option Index → PathEdit → PathEdit
 step_to tag None edit = edit
 step_to tag (Some index) edit = step tag index edit
 
-abbrev pub last_vr : List Known → Vr
-last_vr [] = SQ
-last_vr (k ∷ []) = k.vr
-last_vr (k ∷ l ∷ ks) = last_vr (l ∷ ks)
+-- the representation of the last part, from the first part and those after it
+abbrev pub last_vr : Known → List Known → Vr
+last_vr k [] = k.vr
+last_vr k (l ∷ ks) = last_vr l ks
 
-abbrev pub on_steps : (Known → PathEdit) → List Known → PathEdit
-on_steps at_end [] = erase (record { group = 0; element = 0 })
-on_steps at_end (k ∷ []) = at_end k
-on_steps at_end (k ∷ l ∷ ks) = step_to k.tag k.index (on_steps at_end (l ∷ ks))
+-- the edit at the last part, and the steps to it
+abbrev pub on_steps : (Known → PathEdit) → Known → List Known → PathEdit
+on_steps at_end k [] = at_end k
+on_steps at_end k (l ∷ ks) = step_to k.tag k.index (on_steps at_end l ks)
 
-abbrev pub edit_on : Kind → List Known → List ℕ → Edit
-edit_on inserts ks value = on_path (on_steps (λ k. insert k.tag k.vr value) ks)
-edit_on modifies ks value = on_path (on_steps (λ k. modify k.tag k.vr value) ks)
-edit_on erases ks value = on_path (on_steps (λ k. item_or_element k.tag k.index) ks)
-edit_on modifies_all [] value = erase_private
-edit_on modifies_all (k ∷ ks) value = modify_all k.tag k.vr value
-edit_on erases_all [] value = erase_private
-edit_on erases_all (k ∷ ks) value = erase_all k.tag
+-- the edit on a path with its value
+abbrev pub edit_on : Kind → Known → List Known → List ℕ → Edit
+edit_on inserts k ks value = on_path (on_steps (λ x. insert x.tag x.vr value) k ks)
+edit_on modifies k ks value = on_path (on_steps (λ x. modify x.tag x.vr value) k ks)
+edit_on erases k ks value = on_path (on_steps (λ x. item_or_element x.tag x.index) k ks)
+edit_on modifies_all k ks value = modify_all k.tag k.vr value
+edit_on erases_all k ks value = erase_all k.tag
 
--- the value of a new element, by the dictionary's representation of the last tag
-abbrev pub value_for : Kind → List Known → List ℕ → Result (List ℕ) EditRefusal
-value_for kind ks text = or_refuse ValueDoesNotFit (if takes_value kind then value_of_word (last_vr ks) text else Some [])
+-- the value of a new element, by the dictionary's representation of its tag
+abbrev pub value_for : Kind → Vr → List ℕ → Result (List ℕ) EditRefusal
+value_for kind vr text = or_refuse ValueDoesNotFit (if takes_value kind then value_of_word vr text else Some [])
+
+-- a path has a part at least
+abbrev pub valued_edit : Kind → List Known → List ℕ → Result Edit EditRefusal
+valued_edit kind [] text = Err BadOption
+valued_edit kind (k ∷ ks) text = value_for kind (last_vr k ks) text >>= λ value. Ok (edit_on kind k ks value)
 
 abbrev pub edit_of_known : Kind → List ℕ → List Known → Result Edit EditRefusal
-edit_of_known kind text ks =
-    if uses_sequences (takes_value kind) ks then (value_for kind ks text >>= λ value. Ok (edit_on kind ks value)) else Err SequenceMisused
+edit_of_known kind text ks = if uses_sequences (takes_value kind) ks then valued_edit kind ks text else Err SequenceMisused
 
 abbrev pub edit_of_parts : Kind → List ℕ → List PathPart → Result Edit EditRefusal
 edit_of_parts kind text parts = if has_form kind parts then (known_parts parts >>= edit_of_known kind text) else Err BadOption

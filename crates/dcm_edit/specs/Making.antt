@@ -93,10 +93,6 @@ pub record Fit (kind : Kind) (known : List Known) : Type 0 where
   pub some : 0 < length known
   pub alone : is_of_all kind ≡ true → length known ≡ 1
 
--- the edit on known parts with its value
-abbrev pub valued_edit : words.Kind → List words.Known → List ℕ → Result Edit EditRefusal
-valued_edit kind known text = words.value_for kind known text >>= λ value. Ok (words.edit_on kind known value)
-
 -- the texts of words
 abbrev pub texts : List (Bor (List ℕ)) → List (List ℕ)
 texts ws = map (λ w. w.now) ws

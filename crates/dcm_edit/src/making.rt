@@ -2,7 +2,7 @@
 ghost use Rattle.std.specs.Prelude.{◌≡◌, ◌≤◌, [], ◌∷◌, ◌++◌, length, map, IfOk, true};
 ghost use Rattle.dcm_edit.specs.Edit as spec_edit;
 ghost use Rattle.dcm_edit.specs.EditWords as spec;
-ghost use Rattle.dcm_edit.specs.Making.{kind_as, known_as, Makes, word_value, with_value, steps_to, is_of_all, Fit, valued_edit};
+ghost use Rattle.dcm_edit.specs.Making.{kind_as, known_as, Makes, word_value, with_value, steps_to, is_of_all, Fit};
 ghost use Rattle.dcm_edit.specs.Meaning.{action_of as action_as, along, edit_of as edit_as};
 
 use crate::edit::{Action, Edit, NewElement, PathEdit, Step};
@@ -103,7 +103,7 @@ fn edit_on<A: Allocator + Copy>(
     text: &[u8],
 ) -> Result<Edit<A>, Failure>
     requires { is_of_all kind ≡ true → leading.now ≡ [] }
-    ensures { Makes edit_as result (valued_edit (kind_as kind) (map known_as leading.now ++ known_as last ∷ []) text.now) }
+    ensures { Makes edit_as result (spec.valued_edit (kind_as kind) (map known_as leading.now ++ known_as last ∷ []) text.now) }
 {
     match kind {
         Kind::Inserts => {

@@ -6,7 +6,7 @@ use Rattle.dcm_base.specs.Tree.{Trees, no_tree, leaf, sequence, fragments, Items
 use Rattle.dcm_base.specs.Front.{Front, front, OpenTree, nothing_open, open_leaf, open_sequence, open_fragments, OpenItem, no_open_item, open_item}
 use Rattle.dcm_base.specs.Tag.{same_tag, below}
 use Rattle.dcm_edit.specs.NewOnes.{above_last, is_between}
-use Rattle.dcm_edit.specs.Edit.{Edit, within, fate, erases, acts, has, is_passed, NewElement, no_element, new_leaf, new_sequence, element_of, is_missing, is_missing_so_far, found_in, found_in_items, found, found_open, found_open_item, edited}
+use Rattle.dcm_edit.specs.Edit.{Edit, within, fate, erases, acts, has, is_passed, NewElement, no_element, new_leaf, new_sequence, element_of, has_place_in, has_place_so_far, found_in, found_in_items, found, found_open, found_open_item, edited}
 use Rattle.dcm_edit.specs.Overlap.{AreApart, ArePublic}
 use Rattle.dcm_base.specs.Ascending.{Ascend, ItemsAscend, ReachedLast, FrontAscends, OpenAscends, OpenItemAscends}
 use Rattle.dcm_base.proofs.Dictionaries.TagOrder.{below_other, below_other_way, is_above_below}
@@ -106,7 +106,7 @@ missing_sequence last t held (sequence tag vr declared items rest) a p =
 missing_sequence last t held (fragments tag vr values rest) a p =
     missing_step last tag t (has t rest) _ _ p a.0 (λ q. has-above t tag rest a.1 q) (λ q. not_after (Some tag) t held rest a.1 q) (λ q. missing_sequence (Some tag) t held rest a.1 q)
 
-missing_marked : (w : NewElement) (set : Trees) → Ascend None set → is_missing w set ≡ (has_place w || (marked None w set || makes (above_last (last_tag None set)) w))
+missing_marked : (w : NewElement) (set : Trees) → Ascend None set → has_place_in w set ≡ (has_place w || (marked None w set || makes (above_last (last_tag None set)) w))
 missing_marked no_element set a = sym (or_both (marked None no_element set) false (marked_none None set) refl)
 missing_marked (new_leaf tag vr value) set a = refl
 missing_marked (new_sequence t held) set a = missing_sequence None t held set a refl
@@ -251,7 +251,7 @@ open_missing tag t held whole r c a l =
         (unmarked (λ g. below g tag) None t held whole (under_tag tag whole l.above) d) (and_none (above_last (last_tag None whole) t) (below t tag) d))
 
 front_missing : (w : NewElement) (whole : Trees) (o : OpenTree) (r : Option Tag) (c : Bool) → Ascend None whole → OpenAscends whole r c o → r ≡ reached_tag whole o
-    → is_missing_so_far w (front whole o r c) ≡ (has_place w || (marked None w whole || open_marked (last_tag None whole) w o c))
+    → has_place_so_far w (front whole o r c) ≡ (has_place w || (marked None w whole || open_marked (last_tag None whole) w o c))
 front_missing no_element whole o r c a l e = sym (or_both _ _ (marked_none None whole) (open_marked_none (last_tag None whole) o c))
 front_missing (new_leaf t vr value) whole o r c a l e = refl
 front_missing (new_sequence t held) whole nothing_open r true a l e =

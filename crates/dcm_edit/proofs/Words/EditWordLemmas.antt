@@ -11,7 +11,7 @@ use Rattle.dcm_base.specs.Tag.{number, tag_of_number, is_private}
 use Rattle.dcm_base.specs.Dictionary.{Element, elements, element, called, tag_of}
 use Rattle.dcm_edit.specs.Edit.{Index, PathEdit, Edit, erase_private}
 use Rattle.dcm_edit.specs.Overlap.{path, overlaps, overlaps_one, first_overlap, ApartFrom, AreApart, is_public_path, is_public, ArePublic}
-use Rattle.dcm_edit.specs.EditWords.{InEdit, ◌>>=◌, PathPart, TagName, by_number, by_keyword, tag_name, Known, known_tag, known_part, known_parts, Kind, inserts, modifies, erases, modifies_all, erases_all, on_steps, step_to, item_or_element, edit_on, value_for, edit_of_known, edit_of_parts, uses_sequences, has_form, cut, cut_at, with_index, index_of, part_of, part_of_cut, prepended, or_refuse, parts_of, meant_edit, meant_word, meant_from, meant_edits, apart, and_then, at_edit, option_word, OptionWord, private_word, takes_word, unknown_word, in_edit, takes_value, EDIT_LIMIT}
+use Rattle.dcm_edit.specs.EditWords.{InEdit, ◌>>=◌, PathPart, TagName, by_number, by_keyword, tag_name, Known, known_tag, known_part, known_parts, Kind, inserts, modifies, erases, modifies_all, erases_all, last_vr, on_steps, step_to, item_or_element, edit_on, value_for, edit_of_known, edit_of_parts, uses_sequences, has_form, cut, cut_at, with_index, index_of, part_of, part_of_cut, prepended, or_refuse, parts_of, meant_edit, meant_word, meant_from, meant_edits, apart, and_then, at_edit, option_word, OptionWord, private_word, takes_word, unknown_word, in_edit, takes_value, EDIT_LIMIT}
 use Rattle.dcm_base.proofs.DumpsBack.DigitNumbers.{tag_within}
 
 -- no overlap found
@@ -217,36 +217,34 @@ step_public : (tag : Tag) (o : Option Index) (edit : PathEdit) → not (is_priva
 step_public tag None edit p q = q
 step_public tag (Some index) edit p q = and_both _ _ p q
 
-steps_public : (at_end : Known → PathEdit) (ks : List Known) → ((k : Known) → not (is_private k.tag) ≡ true → is_public_path (path (at_end k)) ≡ true) → AllPublic ks
-    → is_public_path (path (on_steps at_end ks)) ≡ true
+steps_public : (at_end : Known → PathEdit) (k : Known) (ks : List Known) → ((x : Known) → not (is_private x.tag) ≡ true → is_public_path (path (at_end x)) ≡ true) → AllPublic (k ∷ ks)
+    → is_public_path (path (on_steps at_end k ks)) ≡ true
 unfolding AllPublic
-steps_public at_end [] h a = refl
-steps_public at_end (k ∷ []) h a = h k a.0
-steps_public at_end (k ∷ l ∷ ks) h a = step_public k.tag k.index (on_steps at_end (l ∷ ks)) a.0 (steps_public at_end (l ∷ ks) h a.1)
+steps_public at_end k [] h a = h k a.0
+steps_public at_end k (l ∷ ks) h a = step_public k.tag k.index (on_steps at_end l ks) a.0 (steps_public at_end l ks h a.1)
 
 end_public : (tag : Tag) (o : Option Index) → not (is_private tag) ≡ true → is_public_path (path (item_or_element tag o)) ≡ true
 end_public tag None p = and_both _ _ p refl
 end_public tag (Some index) p = and_both _ _ p refl
 
-edit_public : (kind : Kind) (ks : List Known) (value : List ℕ) → AllPublic ks → is_public (edit_on kind ks value) ≡ true
+edit_public : (kind : Kind) (k : Known) (ks : List Known) (value : List ℕ) → AllPublic (k ∷ ks) → is_public (edit_on kind k ks value) ≡ true
 unfolding AllPublic
-edit_public inserts ks value a = steps_public _ ks (λ k p. and_both _ _ p refl) a
-edit_public modifies ks value a = steps_public _ ks (λ k p. and_both _ _ p refl) a
-edit_public erases ks value a = steps_public _ ks (λ k p. end_public k.tag k.index p) a
-edit_public modifies_all [] value a = refl
-edit_public modifies_all (k ∷ ks) value a = a.0
-edit_public erases_all [] value a = refl
-edit_public erases_all (k ∷ ks) value a = a.0
+edit_public inserts k ks value a = steps_public _ k ks (λ x p. and_both _ _ p refl) a
+edit_public modifies k ks value a = steps_public _ k ks (λ x p. and_both _ _ p refl) a
+edit_public erases k ks value a = steps_public _ k ks (λ x p. end_public x.tag x.index p) a
+edit_public modifies_all k ks value a = a.0
+edit_public erases_all k ks value a = a.0
 
 pub if_ok : {A : Type 0} (c : Bool) (u : EditRefusal) (r : Result A EditRefusal) (y : A) → (if c then r else Err u) ≡ Ok y → r ≡ Ok y
 if_ok true u r y p = p
 if_ok false u r y p = cc
 
 known_public : (kind : Kind) (text : List ℕ) (ks : List Known) (e : Edit) → AllPublic ks → edit_of_known kind text ks ≡ Ok e → is_public e ≡ true
-known_public kind text ks e a h =
-    let r = bind_ok (value_for kind ks text) (λ value. Ok (edit_on kind ks value)) e (if_ok (uses_sequences (takes_value kind) ks) SequenceMisused _ e h) in
+known_public kind text [] e a h = absurd cc
+known_public kind text (k ∷ ks) e a h =
+    let r = bind_ok (value_for kind (last_vr k ks) text) (λ value. Ok (edit_on kind k ks value)) e (if_ok (uses_sequences (takes_value kind) (k ∷ ks)) SequenceMisused _ e h) in
     let P : Edit → Type 0 = λ x. is_public x ≡ true in
-    subst P (ok_is _ _ r.2) (edit_public kind ks r.0 a)
+    subst P (ok_is _ _ r.2) (edit_public kind k ks r.0 a)
 
 meant_edit_public : (kind : Kind) (p v : List ℕ) (e : Edit) → meant_edit kind p v ≡ Ok e → is_public e ≡ true
 meant_edit_public kind p v e h =

@@ -21,12 +21,11 @@ one_step steps new k i all ks e p q edit =
     ∙ ap (λ (o : Option meant.Index). along steps (step_to k.tag (option_map index_of o) (steps_to (map known_as ks) edit))) (sym p)
     ∙ ap (λ (l : List declared.Known). along steps (steps_to (map known_as l) edit)) (sym e)
 
-pub steps_end : (at_end : Known → PathEdit) (ks : List Known) (k : Known) → on_steps at_end (ks ++ k ∷ []) ≡ steps_to ks (at_end k)
-steps_end at_end [] k = refl
-steps_end at_end (x ∷ []) k = refl
-steps_end at_end (x ∷ y ∷ ks) k = ap (step_to x.tag x.index) (steps_end at_end (y ∷ ks) k)
+-- after a part that leads to others
+pub steps_end : (at_end : Known → PathEdit) (x : Known) (ks : List Known) (k : Known) → on_steps at_end x (ks ++ k ∷ []) ≡ steps_to (x ∷ ks) (at_end k)
+steps_end at_end x [] k = refl
+steps_end at_end x (y ∷ ks) k = ap (step_to x.tag x.index) (steps_end at_end y ks k)
 
-pub vr_end : (ks : List Known) (k : Known) → last_vr (ks ++ k ∷ []) ≡ k.vr
-vr_end [] k = refl
-vr_end (x ∷ []) k = refl
-vr_end (x ∷ y ∷ ks) k = vr_end (y ∷ ks) k
+pub vr_end : (x : Known) (ks : List Known) (k : Known) → last_vr x (ks ++ k ∷ []) ≡ k.vr
+vr_end x [] k = refl
+vr_end x (y ∷ ks) k = vr_end y ks k

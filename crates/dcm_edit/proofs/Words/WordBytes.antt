@@ -105,10 +105,10 @@ word_made vr (c ∷ cs) h v p = by_test (takes_bytes (shape vr)) refl p
     by_test true e q = limit_made (c ∷ cs) h v q
     by_test false e q = text_made vr (c ∷ cs) e v q
 
-value_bytes : (kind : Kind) (ks : List Known) (word v : List ℕ) → Bytes word → value_for kind ks word ≡ Ok v → Bytes v
-value_bytes kind ks word v h p =
-    either_made (takes_value kind) (value_of_word (last_vr ks) word) (Some []) (word_made (last_vr ks) word h) (λ w q. some_bytes [] w tt q) v
-    (or_refused ValueDoesNotFit (if takes_value kind then value_of_word (last_vr ks) word else Some []) v p)
+value_bytes : (kind : Kind) (vr : Vr) (word v : List ℕ) → Bytes word → value_for kind vr word ≡ Ok v → Bytes v
+value_bytes kind vr word v h p =
+    either_made (takes_value kind) (value_of_word vr word) (Some []) (word_made vr word h) (λ w q. some_bytes [] w tt q) v
+    (or_refused ValueDoesNotFit (if takes_value kind then value_of_word vr word else Some []) v p)
 
 -- ---- edits
 
@@ -116,30 +116,32 @@ step_bytes : (tag : Tag) (o : Option Index) (edit : PathEdit) → PathBytes edit
 step_bytes tag None edit h = h
 step_bytes tag (Some index) edit h = h
 
-steps_bytes : (at_end : Known → PathEdit) (ks : List Known) → ((k : Known) → PathBytes (at_end k)) → PathBytes (on_steps at_end ks)
-steps_bytes at_end [] h = tt
-steps_bytes at_end (k ∷ []) h = h k
-steps_bytes at_end (k ∷ l ∷ ks) h = step_bytes k.tag k.index (on_steps at_end (l ∷ ks)) (steps_bytes at_end (l ∷ ks) h)
+steps_bytes : (at_end : Known → PathEdit) (k : Known) (ks : List Known) → ((x : Known) → PathBytes (at_end x)) → PathBytes (on_steps at_end k ks)
+steps_bytes at_end k [] h = h k
+steps_bytes at_end k (l ∷ ks) h = step_bytes k.tag k.index (on_steps at_end l ks) (steps_bytes at_end l ks h)
 
 erased_bytes : (tag : Tag) (o : Option Index) → PathBytes (item_or_element tag o)
 erased_bytes tag None = tt
 erased_bytes tag (Some index) = tt
 
-on_bytes : (kind : Kind) (ks : List Known) (v : List ℕ) → Bytes v → EditBytes (edit_on kind ks v)
-on_bytes inserts ks v h = steps_bytes (λ k. insert k.tag k.vr v) ks (λ k. h)
-on_bytes modifies ks v h = steps_bytes (λ k. modify k.tag k.vr v) ks (λ k. h)
-on_bytes erases ks v h = steps_bytes (λ k. item_or_element k.tag k.index) ks (λ k. erased_bytes k.tag k.index)
-on_bytes modifies_all [] v h = tt
-on_bytes modifies_all (k ∷ ks) v h = h
-on_bytes erases_all [] v h = tt
-on_bytes erases_all (k ∷ ks) v h = tt
+on_bytes : (kind : Kind) (k : Known) (ks : List Known) (v : List ℕ) → Bytes v → EditBytes (edit_on kind k ks v)
+on_bytes inserts k ks v h = steps_bytes (λ x. insert x.tag x.vr v) k ks (λ x. h)
+on_bytes modifies k ks v h = steps_bytes (λ x. modify x.tag x.vr v) k ks (λ x. h)
+on_bytes erases k ks v h = steps_bytes (λ x. item_or_element x.tag x.index) k ks (λ x. erased_bytes x.tag x.index)
+on_bytes modifies_all k ks v h = h
+on_bytes erases_all k ks v h = tt
+
+known_bytes : (kind : Kind) (v : List ℕ) (ks : List Known) (e : Edit) → Bytes v → edit_of_known kind v ks ≡ Ok e → EditBytes e
+known_bytes kind v [] e fine h = absurd cc
+known_bytes kind v (k ∷ ks) e fine h =
+    let r = bind_ok (value_for kind (last_vr k ks) v) (λ value. Ok (edit_on kind k ks value)) e (if_ok (uses_sequences (takes_value kind) (k ∷ ks)) SequenceMisused _ e h) in
+    subst (λ (x : Edit). EditBytes x) (ok_is _ _ r.2) (on_bytes kind k ks r.0 (value_bytes kind (last_vr k ks) v r.0 fine r.1))
 
 meant_bytes : (kind : Kind) (p v : List ℕ) (e : Edit) → Bytes v → meant_edit kind p v ≡ Ok e → EditBytes e
 meant_bytes kind p v e fine h =
     let a = bind_ok (or_refuse BadOption (parts_of (slice_split (λ c. c == byte ".") p))) (edit_of_parts kind v) e h in
     let b = bind_ok (known_parts a.0) (edit_of_known kind v) e (if_ok (has_form kind a.0) BadOption _ e a.2) in
-    let r = bind_ok (value_for kind b.0 v) (λ value. Ok (edit_on kind b.0 value)) e (if_ok (uses_sequences (takes_value kind) b.0) SequenceMisused _ e b.2) in
-    subst (λ (x : Edit). EditBytes x) (ok_is _ _ r.2) (on_bytes kind b.0 r.0 (value_bytes kind b.0 v r.0 fine r.1))
+    known_bytes kind v b.0 e fine b.2
 
 -- ---- words
 

@@ -30,10 +30,9 @@ step_few : (tag : Tag) (o : Option Index) (edit : PathEdit) (n : ℕ) → steps 
 step_few tag None edit n h = h
 step_few tag (Some index) edit n h = omega arith
 
-steps_few : (at_end : Known → PathEdit) (ks : List Known) → ((k : Known) → steps (at_end k) ≡ 0) → steps (on_steps at_end ks) ≤ known_count ks
-steps_few at_end [] h = omega arith
-steps_few at_end (k ∷ []) h = omega (arith, h k)
-steps_few at_end (k ∷ l ∷ ks) h = step_few k.tag k.index (on_steps at_end (l ∷ ks)) (known_count (l ∷ ks)) (steps_few at_end (l ∷ ks) h)
+steps_few : (at_end : Known → PathEdit) (k : Known) (ks : List Known) → ((x : Known) → steps (at_end x) ≡ 0) → steps (on_steps at_end k ks) ≤ known_count (k ∷ ks)
+steps_few at_end k [] h = omega (arith, h k)
+steps_few at_end k (l ∷ ks) h = step_few k.tag k.index (on_steps at_end l ks) (known_count (l ∷ ks)) (steps_few at_end l ks h)
 
 end_few : (tag : Tag) (o : Option Index) → steps (item_or_element tag o) ≡ 0
 end_few tag None = refl
@@ -50,14 +49,12 @@ less : (a b : ℕ) → a ≤ b → b ≤ 64 → a ≤ 64
 less a b p q = omega arith
 
 -- by the form of the path
-pub edit_depth : (kind : Kind) (ms : List PathPart) (ks : List Known) (value : List ℕ) → has_form kind ms ≡ true → known_parts ms ≡ Ok ks → depth (edit_on kind ks value) ≤ 64
-edit_depth inserts ms ks value f p =
-    less _ _ (steps_few (λ k. insert k.tag k.vr value) ks (λ k. refl)) (few_parts ms ks (and_two (leads ms && ends_in_tag ms) (nat_le (index_count ms) DEPTH_LIMIT) f) p)
-edit_depth modifies ms ks value f p =
-    less _ _ (steps_few (λ k. modify k.tag k.vr value) ks (λ k. refl)) (few_parts ms ks (and_two (leads ms && ends_in_tag ms) (nat_le (index_count ms) DEPTH_LIMIT) f) p)
-edit_depth erases ms ks value f p =
-    less _ _ (steps_few (λ k. item_or_element k.tag k.index) ks (λ k. end_few k.tag k.index)) (few_parts ms ks (and_two (leads ms) (nat_le (index_count ms) DEPTH_LIMIT) f) p)
-edit_depth modifies_all ms [] value f p = omega arith
-edit_depth modifies_all ms (k ∷ ks) value f p = omega arith
-edit_depth erases_all ms [] value f p = omega arith
-edit_depth erases_all ms (k ∷ ks) value f p = omega arith
+pub edit_depth : (kind : Kind) (ms : List PathPart) (k : Known) (ks : List Known) (value : List ℕ) → has_form kind ms ≡ true → known_parts ms ≡ Ok (k ∷ ks) → depth (edit_on kind k ks value) ≤ 64
+edit_depth inserts ms k ks value f p =
+    less _ _ (steps_few (λ x. insert x.tag x.vr value) k ks (λ x. refl)) (few_parts ms (k ∷ ks) (and_two (leads ms && ends_in_tag ms) (nat_le (index_count ms) DEPTH_LIMIT) f) p)
+edit_depth modifies ms k ks value f p =
+    less _ _ (steps_few (λ x. modify x.tag x.vr value) k ks (λ x. refl)) (few_parts ms (k ∷ ks) (and_two (leads ms && ends_in_tag ms) (nat_le (index_count ms) DEPTH_LIMIT) f) p)
+edit_depth erases ms k ks value f p =
+    less _ _ (steps_few (λ x. item_or_element x.tag x.index) k ks (λ x. end_few x.tag x.index)) (few_parts ms (k ∷ ks) (and_two (leads ms) (nat_le (index_count ms) DEPTH_LIMIT) f) p)
+edit_depth modifies_all ms k ks value f p = omega arith
+edit_depth erases_all ms k ks value f p = omega arith

@@ -154,20 +154,17 @@ step_short : (tag : Tag) (o : Option Index) (edit : PathEdit) → IfShort o → 
 step_short tag None edit h p = p
 step_short tag (Some index) edit h p = (h, p)
 
-steps_short : (at_end : Known → PathEdit) (ks : List Known) → ((k : Known) → IfShort k.index → PathHasShortIndexes (at_end k)) → AllShortKnown ks → PathHasShortIndexes (on_steps at_end ks)
-steps_short at_end [] h a = tt
-steps_short at_end (k ∷ []) h a = h k a.0
-steps_short at_end (k ∷ l ∷ ks) h a = step_short k.tag k.index (on_steps at_end (l ∷ ks)) a.0 (steps_short at_end (l ∷ ks) h a.1)
+steps_short : (at_end : Known → PathEdit) (k : Known) (ks : List Known) → ((x : Known) → IfShort x.index → PathHasShortIndexes (at_end x)) → AllShortKnown (k ∷ ks) → PathHasShortIndexes (on_steps at_end k ks)
+steps_short at_end k [] h a = h k a.0
+steps_short at_end k (l ∷ ks) h a = step_short k.tag k.index (on_steps at_end l ks) a.0 (steps_short at_end l ks h a.1)
 
 end_short : (tag : Tag) (o : Option Index) → IfShort o → PathHasShortIndexes (item_or_element tag o)
 end_short tag None h = tt
 end_short tag (Some index) h = h
 
-pub edit_short : (kind : Kind) (ks : List Known) (value : List ℕ) → AllShortKnown ks → HasShortIndexes (edit_on kind ks value)
-edit_short inserts ks value a = steps_short (λ k. insert k.tag k.vr value) ks (λ k h. tt) a
-edit_short modifies ks value a = steps_short (λ k. modify k.tag k.vr value) ks (λ k h. tt) a
-edit_short erases ks value a = steps_short (λ k. item_or_element k.tag k.index) ks (λ k h. end_short k.tag k.index h) a
-edit_short modifies_all [] value a = tt
-edit_short modifies_all (k ∷ ks) value a = tt
-edit_short erases_all [] value a = tt
-edit_short erases_all (k ∷ ks) value a = tt
+pub edit_short : (kind : Kind) (k : Known) (ks : List Known) (value : List ℕ) → AllShortKnown (k ∷ ks) → HasShortIndexes (edit_on kind k ks value)
+edit_short inserts k ks value a = steps_short (λ x. insert x.tag x.vr value) k ks (λ x h. tt) a
+edit_short modifies k ks value a = steps_short (λ x. modify x.tag x.vr value) k ks (λ x h. tt) a
+edit_short erases k ks value a = steps_short (λ x. item_or_element x.tag x.index) k ks (λ x h. end_short x.tag x.index h) a
+edit_short modifies_all k ks value a = tt
+edit_short erases_all k ks value a = tt

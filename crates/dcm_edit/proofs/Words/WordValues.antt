@@ -18,10 +18,10 @@ use Rattle.dcm_base.specs.Spelling.{form}
 use Rattle.dcm_edit.specs.Edit.{Index, PathEdit, insert, modify, Edit, erase_private}
 use Rattle.dcm_edit.specs.Overlap.{first_overlap}
 use Rattle.dcm_edit.specs.EditSink.{PathHasValue, HasValue, HaveValues, HasShortIndexes, HaveShortIndexes, depth, AreWithin}
-use Rattle.dcm_edit.specs.EditWords.{InEdit, ◌>>=◌, or_refuse, PathPart, Known, known_part, known_parts, parts_of, has_index, leads, ends_in_tag, has_form, is_indexed, uses_sequences, takes_value, Kind, inserts, modifies, erases, modifies_all, erases_all, on_steps, step_to, item_or_element, edit_on, value_for, edit_of_known, edit_of_parts, meant_edit, meant_word, meant_from, meant_edits, apart, and_then, at_edit, in_edit, OptionWord, takes_word, private_word, unknown_word, option_word, cut_at, EDIT_LIMIT}
+use Rattle.dcm_edit.specs.EditWords.{InEdit, ◌>>=◌, or_refuse, PathPart, Known, known_part, known_parts, parts_of, has_index, leads, ends_in_tag, has_form, is_indexed, uses_sequences, takes_value, Kind, inserts, modifies, erases, modifies_all, erases_all, last_vr, on_steps, step_to, item_or_element, edit_on, value_for, edit_of_known, edit_of_parts, meant_edit, meant_word, meant_from, meant_edits, apart, and_then, at_edit, in_edit, OptionWord, takes_word, private_word, unknown_word, option_word, cut_at, EDIT_LIMIT}
 use Rattle.dcm_edit.proofs.Words.EditWordLemmas.{bind_ok, ok_is, if_ok, or_refused, in_turn}
 use Rattle.dcm_edit.proofs.Words.WordDepths.{edit_depth}
-use Rattle.dcm_edit.proofs.Words.WordIndexes.{part_index, parts_short, known_short, edit_short}
+use Rattle.dcm_edit.proofs.Words.WordIndexes.{AllShortKnown, part_index, parts_short, known_short, edit_short}
 
 abbrev pub EndsPlain : List Known → Type 0
 EndsPlain [] = (false ≡ true)
@@ -51,32 +51,29 @@ step_has tag None edit h = h
 step_has tag (Some index) edit h = h
 
 -- a path that ends in a value
-steps_have : (at_end : Known → PathEdit) (ks : List Known) → ((k : Known) → is_sequence k.vr ≡ false → PathHasValue (at_end k)) → EndsPlain ks → uses_sequences true ks ≡ true → PathHasValue (on_steps at_end ks)
-steps_have at_end [] h p u = absurd cc
-steps_have at_end (k ∷ []) h p u = h k (plain_last (is_indexed k) (is_sequence k.vr) p (and_one _ true u))
-steps_have at_end (k ∷ l ∷ ks) h p u = step_has k.tag k.index (on_steps at_end (l ∷ ks)) (steps_have at_end (l ∷ ks) h p (and_two (if is_indexed k then is_sequence k.vr else not (true && is_sequence k.vr)) _ u))
+steps_have : (at_end : Known → PathEdit) (k : Known) (ks : List Known) → ((x : Known) → is_sequence x.vr ≡ false → PathHasValue (at_end x)) → EndsPlain (k ∷ ks) → uses_sequences true (k ∷ ks) ≡ true → PathHasValue (on_steps at_end k ks)
+steps_have at_end k [] h p u = h k (plain_last (is_indexed k) (is_sequence k.vr) p (and_one _ true u))
+steps_have at_end k (l ∷ ks) h p u = step_has k.tag k.index (on_steps at_end l ks) (steps_have at_end l ks h p (and_two (if is_indexed k then is_sequence k.vr else not (true && is_sequence k.vr)) _ u))
 
 plain_erase : (tag : Tag) (o : Option Index) → PathHasValue (item_or_element tag o)
 plain_erase tag None = tt
 plain_erase tag (Some index) = tt
 
-erases_have : (at_end : Known → PathEdit) (ks : List Known) → ((k : Known) → PathHasValue (at_end k)) → PathHasValue (on_steps at_end ks)
-erases_have at_end [] h = tt
-erases_have at_end (k ∷ []) h = h k
-erases_have at_end (k ∷ l ∷ ks) h = step_has k.tag k.index (on_steps at_end (l ∷ ks)) (erases_have at_end (l ∷ ks) h)
+erases_have : (at_end : Known → PathEdit) (k : Known) (ks : List Known) → ((x : Known) → PathHasValue (at_end x)) → PathHasValue (on_steps at_end k ks)
+erases_have at_end k [] h = h k
+erases_have at_end k (l ∷ ks) h = step_has k.tag k.index (on_steps at_end l ks) (erases_have at_end l ks h)
 
-edit_has : (kind : Kind) (ks : List Known) (value : List ℕ) → EndsPlain ks → (takes_value kind ≡ true → uses_sequences true ks ≡ true) → (kind ≡ modifies_all → length ks ≡ 1) → HasValue (edit_on kind ks value)
-edit_has inserts ks value p u l = steps_have (λ k. insert k.tag k.vr value) ks (λ k s. form_of k.vr s) p (u refl)
-edit_has modifies ks value p u l = steps_have (λ k. modify k.tag k.vr value) ks (λ k s. form_of k.vr s) p (u refl)
-edit_has erases ks value p u l = erases_have (λ k. item_or_element k.tag k.index) ks (λ k. plain_erase k.tag k.index)
-edit_has modifies_all [] value p u l = tt
-edit_has modifies_all (k ∷ []) value p u l = form_of k.vr (plain_last (is_indexed k) (is_sequence k.vr) p (and_one _ true (u refl)))
-edit_has modifies_all (k ∷ m ∷ ks) value p u l = absurd (two (length ks) (l refl))
+edit_has : (kind : Kind) (k : Known) (ks : List Known) (value : List ℕ) → EndsPlain (k ∷ ks) → (takes_value kind ≡ true → uses_sequences true (k ∷ ks) ≡ true) → (kind ≡ modifies_all → length (k ∷ ks) ≡ 1)
+    → HasValue (edit_on kind k ks value)
+edit_has inserts k ks value p u l = steps_have (λ x. insert x.tag x.vr value) k ks (λ x s. form_of x.vr s) p (u refl)
+edit_has modifies k ks value p u l = steps_have (λ x. modify x.tag x.vr value) k ks (λ x s. form_of x.vr s) p (u refl)
+edit_has erases k ks value p u l = erases_have (λ x. item_or_element x.tag x.index) k ks (λ x. plain_erase x.tag x.index)
+edit_has modifies_all k [] value p u l = form_of k.vr (plain_last (is_indexed k) (is_sequence k.vr) p (and_one _ true (u refl)))
+edit_has modifies_all k (m ∷ ks) value p u l = absurd (two (length ks) (l refl))
   where
     two : (n : ℕ) → suc (suc n) ≡ 1 → ⊥
     two n e = omega arith
-edit_has erases_all [] value p u l = tt
-edit_has erases_all (k ∷ ks) value p u l = tt
+edit_has erases_all k ks value p u l = tt
 
 -- ---- the last part of a path that ends in a tag, and the number of parts
 
@@ -105,13 +102,12 @@ parts_count (m ∷ ms) ks p =
     let rest = bind_ok (known_parts ms) (λ more. Ok (first.0 ∷ more)) ks first.2 in
     ap (λ (l : List Known). length l) (sym (ok_is _ _ rest.2)) ∙ ap suc (parts_count ms rest.0 rest.1)
 
-erases_any : (kind : Kind) (ks : List Known) (value : List ℕ) → takes_value kind ≡ false → HasValue (edit_on kind ks value)
-erases_any inserts ks value p = absurd cc
-erases_any modifies ks value p = absurd cc
-erases_any erases ks value p = erases_have (λ k. item_or_element k.tag k.index) ks (λ k. plain_erase k.tag k.index)
-erases_any modifies_all ks value p = absurd cc
-erases_any erases_all [] value p = tt
-erases_any erases_all (k ∷ ks) value p = tt
+erases_any : (kind : Kind) (k : Known) (ks : List Known) (value : List ℕ) → takes_value kind ≡ false → HasValue (edit_on kind k ks value)
+erases_any inserts k ks value p = absurd cc
+erases_any modifies k ks value p = absurd cc
+erases_any erases k ks value p = erases_have (λ x. item_or_element x.tag x.index) k ks (λ x. plain_erase x.tag x.index)
+erases_any modifies_all k ks value p = absurd cc
+erases_any erases_all k ks value p = tt
 
 pub form_ends : (kind : Kind) (ms : List PathPart) → takes_value kind ≡ true → has_form kind ms ≡ true → ends_in_tag ms ≡ true
 form_ends inserts ms p h = and_middle (leads ms) (ends_in_tag ms) _ h
@@ -146,21 +142,26 @@ if_test false u r y p = absurd cc
 abbrev Fits : Edit → Type 0
 Fits e = HasValue e × HasShortIndexes e × (depth e ≤ 64)
 
-value_by_kind : (kind : Kind) (t : Bool) (ms : List PathPart) (ks : List Known) (value : List ℕ) → takes_value kind ≡ t → has_form kind ms ≡ true → known_parts ms ≡ Ok ks → uses_sequences (takes_value kind) ks ≡ true
-    → HasValue (edit_on kind ks value)
-value_by_kind kind true ms ks value t f m u =
-    edit_has kind ks value (parts_end ms ks m (form_ends kind ms t f)) (λ x. subst (λ (y : Bool). uses_sequences y ks ≡ true) t u) (λ x. parts_count ms ks m ∙ form_one kind ms f x)
-value_by_kind kind false ms ks value t f m u = erases_any kind ks value t
+value_by_kind : (kind : Kind) (t : Bool) (ms : List PathPart) (k : Known) (ks : List Known) (value : List ℕ) → takes_value kind ≡ t → has_form kind ms ≡ true → known_parts ms ≡ Ok (k ∷ ks)
+    → uses_sequences (takes_value kind) (k ∷ ks) ≡ true → HasValue (edit_on kind k ks value)
+value_by_kind kind true ms k ks value t f m u =
+    edit_has kind k ks value (parts_end ms (k ∷ ks) m (form_ends kind ms t f)) (λ x. subst (λ (y : Bool). uses_sequences y (k ∷ ks) ≡ true) t u) (λ x. parts_count ms (k ∷ ks) m ∙ form_one kind ms f x)
+value_by_kind kind false ms k ks value t f m u = erases_any kind k ks value t
+
+known_fits : (kind : Kind) (v : List ℕ) (ms : List PathPart) (ks : List Known) (e : Edit) → has_form kind ms ≡ true → known_parts ms ≡ Ok ks → AllShortKnown ks → edit_of_known kind v ks ≡ Ok e → Fits e
+known_fits kind v ms [] e formed known short h = absurd cc
+known_fits kind v ms (k ∷ ks) e formed known short h =
+    let used : uses_sequences (takes_value kind) (k ∷ ks) ≡ true = if_test (uses_sequences (takes_value kind) (k ∷ ks)) SequenceMisused _ e h in
+    let r = bind_ok (value_for kind (last_vr k ks) v) (λ value. Ok (edit_on kind k ks value)) e (if_ok (uses_sequences (takes_value kind) (k ∷ ks)) SequenceMisused _ e h) in
+    subst (λ (x : Edit). Fits x) (ok_is _ _ r.2) (value_by_kind kind (takes_value kind) ms k ks r.0 refl formed known used, edit_short kind k ks r.0 short, edit_depth kind ms k ks r.0 formed known)
 
 edit_fits : (kind : Kind) (p v : List ℕ) (e : Edit) → meant_edit kind p v ≡ Ok e → Fits e
 edit_fits kind p v e h =
     let a = bind_ok (or_refuse BadOption (parts_of (slice_split (λ c. c == byte ".") p))) (edit_of_parts kind v) e h in
     let formed : has_form kind a.0 ≡ true = if_test (has_form kind a.0) BadOption _ e a.2 in
     let b = bind_ok (known_parts a.0) (edit_of_known kind v) e (if_ok (has_form kind a.0) BadOption _ e a.2) in
-    let used : uses_sequences (takes_value kind) b.0 ≡ true = if_test (uses_sequences (takes_value kind) b.0) SequenceMisused _ e b.2 in
-    let r = bind_ok (value_for kind b.0 v) (λ value. Ok (edit_on kind b.0 value)) e (if_ok (uses_sequences (takes_value kind) b.0) SequenceMisused _ e b.2) in
     let short = parts_short (slice_split (λ c. c == byte ".") p) a.0 (or_refused BadOption _ a.0 a.1) in
-    subst (λ (x : Edit). Fits x) (ok_is _ _ r.2) (value_by_kind kind (takes_value kind) a.0 b.0 r.0 refl formed b.1 used, edit_short kind b.0 r.0 (known_short a.0 b.0 short b.1), edit_depth kind a.0 b.0 r.0 formed b.1)
+    known_fits kind v a.0 b.0 e formed b.1 (known_short a.0 b.0 short b.1) b.2
 
 -- ---- all edits
 

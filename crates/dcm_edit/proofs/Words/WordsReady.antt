@@ -57,11 +57,11 @@ word_short vr (c ∷ cs) v p = by_test (takes_bytes (shape vr)) p
     by_test true q = limit_short (c ∷ cs) v q
     by_test false q = text_short vr (c ∷ cs) v q
 
-value_short : (kind : Kind) (ks : List Known) (text v : List ℕ) → value_for kind ks text ≡ Ok v → length v ≤ 65536
-value_short kind ks text v p = by_test (takes_value kind) (or_refused ValueDoesNotFit (if takes_value kind then value_of_word (last_vr ks) text else Some []) v p)
+value_short : (kind : Kind) (vr : Vr) (text v : List ℕ) → value_for kind vr text ≡ Ok v → length v ≤ 65536
+value_short kind vr text v p = by_test (takes_value kind) (or_refused ValueDoesNotFit (if takes_value kind then value_of_word vr text else Some []) v p)
   where
-    by_test : (b : Bool) → (if b then value_of_word (last_vr ks) text else Some []) ≡ Some v → length v ≤ 65536
-    by_test true q = word_short (last_vr ks) text v q
+    by_test : (b : Bool) → (if b then value_of_word vr text else Some []) ≡ Some v → length v ≤ 65536
+    by_test true q = word_short vr text v q
     by_test false q = nothing_short v q
 
 -- ---- elements
@@ -100,79 +100,76 @@ step_ready s k listed h = (listed.0, target_sequence s k.tag (tells_sequence s k
 -- ---- paths
 
 -- the end of the path
-abbrev LastReady : Syntax → (Known → PathEdit) → List Known → Type 0
-LastReady s at_end [] = Unit {0}
-LastReady s at_end (k ∷ []) = PathReady s (at_end k)
-LastReady s at_end (k ∷ l ∷ ks) = LastReady s at_end (l ∷ ks)
+abbrev LastReady : Syntax → (Known → PathEdit) → Known → List Known → Type 0
+LastReady s at_end k [] = PathReady s (at_end k)
+LastReady s at_end k (l ∷ ks) = LastReady s at_end l ks
 
 step_to_ready : (s : Syntax) (k : Known) (o : Option Index) (other : Bool) (edit : PathEdit) → IsListed k → (if is_some o then is_sequence k.vr else other) ≡ true → PathReady s edit → PathReady s (step_to k.tag o edit)
 step_to_ready s k None other edit listed h r = r
 step_to_ready s k (Some index) other edit listed h r = (step_ready s k listed h, r)
 
-steps_ready : (s : Syntax) (valued : Bool) (at_end : Known → PathEdit) (ks : List Known) → AllListed ks → uses_sequences valued ks ≡ true → LastReady s at_end ks → PathReady s (on_steps at_end ks)
-steps_ready s valued at_end [] a u h = tt
-steps_ready s valued at_end (k ∷ []) a u h = h
-steps_ready s valued at_end (k ∷ l ∷ ks) a u h =
+steps_ready : (s : Syntax) (valued : Bool) (at_end : Known → PathEdit) (k : Known) (ks : List Known) → AllListed (k ∷ ks) → uses_sequences valued (k ∷ ks) ≡ true → LastReady s at_end k ks → PathReady s (on_steps at_end k ks)
+steps_ready s valued at_end k [] a u h = h
+steps_ready s valued at_end k (l ∷ ks) a u h =
     let test : Bool = if is_indexed k then is_sequence k.vr else not (valued && is_sequence k.vr) in
-    step_to_ready s k k.index (not (valued && is_sequence k.vr)) (on_steps at_end (l ∷ ks)) a.0 (and_one test _ u) (steps_ready s valued at_end (l ∷ ks) a.1 (and_two test _ u) h)
+    step_to_ready s k k.index (not (valued && is_sequence k.vr)) (on_steps at_end l ks) a.0 (and_one test _ u) (steps_ready s valued at_end l ks a.1 (and_two test _ u) h)
 
-last_valued : (s : Syntax) (at_end : Known → PathEdit) (ks : List Known) → ((k : Known) → IsListed k → is_sequence k.vr ≡ false → PathReady s (at_end k)) → AllListed ks → EndsPlain ks → uses_sequences true ks ≡ true → LastReady s at_end ks
-last_valued s at_end [] h a p u = tt
-last_valued s at_end (k ∷ []) h a p u = h k a.0 (plain_last (is_indexed k) (is_sequence k.vr) p (and_one _ true u))
-last_valued s at_end (k ∷ l ∷ ks) h a p u = last_valued s at_end (l ∷ ks) h a.1 p (and_two (if is_indexed k then is_sequence k.vr else not (true && is_sequence k.vr)) _ u)
+last_valued : (s : Syntax) (at_end : Known → PathEdit) (k : Known) (ks : List Known) → ((x : Known) → IsListed x → is_sequence x.vr ≡ false → PathReady s (at_end x)) → AllListed (k ∷ ks) → EndsPlain (k ∷ ks)
+    → uses_sequences true (k ∷ ks) ≡ true → LastReady s at_end k ks
+last_valued s at_end k [] h a p u = h k a.0 (plain_last (is_indexed k) (is_sequence k.vr) p (and_one _ true u))
+last_valued s at_end k (l ∷ ks) h a p u = last_valued s at_end l ks h a.1 p (and_two (if is_indexed k then is_sequence k.vr else not (true && is_sequence k.vr)) _ u)
 
-last_erased : (s : Syntax) (ks : List Known) → LastReady s (λ k. item_or_element k.tag k.index) ks
-last_erased s [] = tt
-last_erased s (k ∷ []) = by_index k.index
+last_erased : (s : Syntax) (k : Known) (ks : List Known) → LastReady s (λ x. item_or_element x.tag x.index) k ks
+last_erased s k [] = by_index k.index
   where
     by_index : (o : Option Index) → PathReady s (item_or_element k.tag o)
     by_index None = tt
     by_index (Some index) = tt
-last_erased s (k ∷ l ∷ ks) = last_erased s (l ∷ ks)
+last_erased s k (l ∷ ks) = last_erased s l ks
 
-erases_ready : (s : Syntax) (valued : Bool) (ks : List Known) → AllListed ks → uses_sequences valued ks ≡ true → PathReady s (on_steps (λ k. item_or_element k.tag k.index) ks)
-erases_ready s valued ks a u = steps_ready s valued (λ k. item_or_element k.tag k.index) ks a u (last_erased s ks)
+erases_ready : (s : Syntax) (valued : Bool) (k : Known) (ks : List Known) → AllListed (k ∷ ks) → uses_sequences valued (k ∷ ks) ≡ true → PathReady s (on_steps (λ x. item_or_element x.tag x.index) k ks)
+erases_ready s valued k ks a u = steps_ready s valued (λ x. item_or_element x.tag x.index) k ks a u (last_erased s k ks)
 
 -- ---- one edit
 
 -- a new value is no sequence's
-valued_ready : (s : Syntax) (kind : Kind) (ks : List Known) (v : List ℕ) → AllListed ks → length v ≤ 65536 → EndsPlain ks → uses_sequences true ks ≡ true → (kind ≡ modifies_all → length ks ≡ 1) → EditReady s (edit_on kind ks v)
-valued_ready s inserts ks v a short p u l =
-    steps_ready s true (λ k. insert k.tag k.vr v) ks a u (last_valued s (λ k. insert k.tag k.vr v) ks (λ k listed plain. leaf_ready s k v listed plain short) a p u)
-valued_ready s modifies ks v a short p u l =
-    steps_ready s true (λ k. modify k.tag k.vr v) ks a u (last_valued s (λ k. modify k.tag k.vr v) ks (λ k listed plain. leaf_ready s k v listed plain short) a p u)
-valued_ready s erases ks v a short p u l = erases_ready s true ks a u
-valued_ready s modifies_all [] v a short p u l = tt
-valued_ready s modifies_all (k ∷ []) v a short p u l = leaf_ready s k v a.0 (plain_last (is_indexed k) (is_sequence k.vr) p (and_one _ true u)) short
-valued_ready s modifies_all (k ∷ m ∷ ks) v a short p u l = absurd (two (length ks) (l refl))
+valued_ready : (s : Syntax) (kind : Kind) (k : Known) (ks : List Known) (v : List ℕ) → AllListed (k ∷ ks) → length v ≤ 65536 → EndsPlain (k ∷ ks) → uses_sequences true (k ∷ ks) ≡ true
+    → (kind ≡ modifies_all → length (k ∷ ks) ≡ 1) → EditReady s (edit_on kind k ks v)
+valued_ready s inserts k ks v a short p u l =
+    steps_ready s true (λ x. insert x.tag x.vr v) k ks a u (last_valued s (λ x. insert x.tag x.vr v) k ks (λ x listed plain. leaf_ready s x v listed plain short) a p u)
+valued_ready s modifies k ks v a short p u l =
+    steps_ready s true (λ x. modify x.tag x.vr v) k ks a u (last_valued s (λ x. modify x.tag x.vr v) k ks (λ x listed plain. leaf_ready s x v listed plain short) a p u)
+valued_ready s erases k ks v a short p u l = erases_ready s true k ks a u
+valued_ready s modifies_all k [] v a short p u l = leaf_ready s k v a.0 (plain_last (is_indexed k) (is_sequence k.vr) p (and_one _ true u)) short
+valued_ready s modifies_all k (m ∷ ks) v a short p u l = absurd (two (length ks) (l refl))
   where
     two : (n : ℕ) → suc (suc n) ≡ 1 → ⊥
     two n e = omega arith
-valued_ready s erases_all [] v a short p u l = tt
-valued_ready s erases_all (k ∷ ks) v a short p u l = tt
+valued_ready s erases_all k ks v a short p u l = tt
 
-erasing_ready : (s : Syntax) (kind : Kind) (ks : List Known) (v : List ℕ) → AllListed ks → takes_value kind ≡ false → uses_sequences false ks ≡ true → EditReady s (edit_on kind ks v)
-erasing_ready s inserts ks v a t u = absurd cc
-erasing_ready s modifies ks v a t u = absurd cc
-erasing_ready s erases ks v a t u = erases_ready s false ks a u
-erasing_ready s modifies_all ks v a t u = absurd cc
-erasing_ready s erases_all [] v a t u = tt
-erasing_ready s erases_all (k ∷ ks) v a t u = tt
+erasing_ready : (s : Syntax) (kind : Kind) (k : Known) (ks : List Known) (v : List ℕ) → AllListed (k ∷ ks) → takes_value kind ≡ false → uses_sequences false (k ∷ ks) ≡ true → EditReady s (edit_on kind k ks v)
+erasing_ready s inserts k ks v a t u = absurd cc
+erasing_ready s modifies k ks v a t u = absurd cc
+erasing_ready s erases k ks v a t u = erases_ready s false k ks a u
+erasing_ready s modifies_all k ks v a t u = absurd cc
+erasing_ready s erases_all k ks v a t u = tt
 
-edit_on_ready : (s : Syntax) (kind : Kind) (t : Bool) (ms : List PathPart) (ks : List Known) (v : List ℕ) → takes_value kind ≡ t → has_form kind ms ≡ true → known_parts ms ≡ Ok ks → uses_sequences t ks ≡ true → AllListed ks → length v ≤ 65536
-    → EditReady s (edit_on kind ks v)
-edit_on_ready s kind true ms ks v t f m u a short = valued_ready s kind ks v a short (parts_end ms ks m (form_ends kind ms t f)) u (λ x. parts_count ms ks m ∙ form_one kind ms f x)
-edit_on_ready s kind false ms ks v t f m u a short = erasing_ready s kind ks v a t u
+edit_on_ready : (s : Syntax) (kind : Kind) (t : Bool) (ms : List PathPart) (k : Known) (ks : List Known) (v : List ℕ) → takes_value kind ≡ t → has_form kind ms ≡ true → known_parts ms ≡ Ok (k ∷ ks)
+    → uses_sequences t (k ∷ ks) ≡ true → AllListed (k ∷ ks) → length v ≤ 65536 → EditReady s (edit_on kind k ks v)
+edit_on_ready s kind true ms k ks v t f m u a short =
+    valued_ready s kind k ks v a short (parts_end ms (k ∷ ks) m (form_ends kind ms t f)) u (λ x. parts_count ms (k ∷ ks) m ∙ form_one kind ms f x)
+edit_on_ready s kind false ms k ks v t f m u a short = erasing_ready s kind k ks v a t u
 
 -- in every target syntax
 abbrev InEach : Edit → Type 0
 InEach e = (s : Syntax) → EditReady s e
 
 known_ready : (s : Syntax) (kind : Kind) (text : List ℕ) (ms : List PathPart) (ks : List Known) (e : Edit) → has_form kind ms ≡ true → known_parts ms ≡ Ok ks → AllListed ks → edit_of_known kind text ks ≡ Ok e → EditReady s e
-known_ready s kind text ms ks e formed known listed h =
-    let used : uses_sequences (takes_value kind) ks ≡ true = if_test (uses_sequences (takes_value kind) ks) SequenceMisused _ e h in
-    let r = bind_ok (value_for kind ks text) (λ value. Ok (edit_on kind ks value)) e (if_ok (uses_sequences (takes_value kind) ks) SequenceMisused _ e h) in
-    subst (λ (x : Edit). EditReady s x) (ok_is (edit_on kind ks r.0) e r.2) (edit_on_ready s kind (takes_value kind) ms ks r.0 refl formed known used listed (value_short kind ks text r.0 r.1))
+known_ready s kind text ms [] e formed known listed h = absurd cc
+known_ready s kind text ms (k ∷ ks) e formed known listed h =
+    let used : uses_sequences (takes_value kind) (k ∷ ks) ≡ true = if_test (uses_sequences (takes_value kind) (k ∷ ks)) SequenceMisused _ e h in
+    let r = bind_ok (value_for kind (last_vr k ks) text) (λ value. Ok (edit_on kind k ks value)) e (if_ok (uses_sequences (takes_value kind) (k ∷ ks)) SequenceMisused _ e h) in
+    subst (λ (x : Edit). EditReady s x) (ok_is (edit_on kind k ks r.0) e r.2) (edit_on_ready s kind (takes_value kind) ms k ks r.0 refl formed known used listed (value_short kind (last_vr k ks) text r.0 r.1))
 
 meant_ready : (kind : Kind) (p v : List ℕ) (e : Edit) → meant_edit kind p v ≡ Ok e → InEach e
 meant_ready kind p v e h s =
