@@ -11,16 +11,16 @@ use Rattle.dcm_build.specs.declared.build.BuildHalt.TheVariants.{Refused, Output
 use Rattle.dcm_build.specs.declared.build.LineStop.{LineStop}
 use Rattle.dcm_build.specs.declared.file.Stopped.{Stopped}
 use Rattle.dcm_build.specs.declared.file.Stopped.TheVariants.{Refused as refused_line, Output as failed_output}
-use Rattle.dcm_build.specs.declared.place.Place.{Place}
+use Rattle.dcm_build.specs.declared.line_reader.LineReader.{LineReader}
 use Rattle.dcm_build.specs.Building.{BuildState, build_step, build_writes}
 use Rattle.dcm_build.specs.NewFile.{LineAt, state}
 
--- where the line of a place stands
-abbrev pub line_at : Place → LineAt
+-- where the line of a reader begins, and what it has so far
+abbrev pub line_at : LineReader → LineAt
 line_at p = record { limit = p.limit; line = p.line.items; offset = p.offset; number = p.number }
 
--- what was built at a place, and the fault that was told
-abbrev pub building : Place → Option Told → BuildState
+-- what the lines so far have built, and the fault that was told
+abbrev pub building : LineReader → Option Told → BuildState
 building p told = state p.file (line_at p) told
 
 -- how many bytes were read

@@ -13,7 +13,7 @@ use Rattle.dcm_stream.specs.Machine.{well}
 use Rattle.dcm_build.specs.declared.build.BuildHalt.{BuildHalt}
 use Rattle.dcm_build.specs.declared.file.NewFile.{NewFile}
 use Rattle.dcm_build.specs.declared.file.Stopped.{Stopped}
-use Rattle.dcm_build.specs.declared.place.Place.{Place}
+use Rattle.dcm_build.specs.declared.line_reader.LineReader.{LineReader}
 use Rattle.dcm_build.specs.Builder as builder
 use Rattle.dcm_build.specs.Builder.{Progress, building, bytes_read, is_halted}
 use Rattle.dcm_build.specs.Building.{build_step, build_writes, BuildState, placed, placed_writes, shows, shows_writes, meaning_taken, meaning_writes, build_start, ended_meta, end_checks, end_writes}
@@ -70,12 +70,12 @@ abbrev pub IsNew : NewFile → Type 0
 IsNew f = (at : LineAt) → state f at None ≡ record (build_start at.limit) { line = at.line; offset = at.offset; number = at.number }
 
 -- what was built came to this state, and these bytes went out, or a beginning of them where the output failed
-abbrev pub Reaches : {W T : Type 0} → Writer W → (held holds : W) → (old new : Place) → (BuildState → BuildState) → (BuildState → List ℕ) → Result T BuildHalt → Type 0
+abbrev pub Reaches : {W T : Type 0} → Writer W → (held holds : W) → (old new : LineReader) → (BuildState → BuildState) → (BuildState → List ℕ) → Result T BuildHalt → Type 0
 Reaches w held holds old new step writes r =
     builder.Reaches (w.contents held) (w.contents holds) (building new) (step (building old None)) (writes (building old None)) r
 
 -- as many bytes of a piece were gone over as the answer says
-abbrev pub FeedsPiece : {W : Type 0} → Writer W → (held holds : W) → (old new : Place) → List ℕ → Result ℕ BuildHalt → Type 0
+abbrev pub FeedsPiece : {W : Type 0} → Writer W → (held holds : W) → (old new : LineReader) → List ℕ → Result ℕ BuildHalt → Type 0
 FeedsPiece w held holds old new piece r =
     builder.Feeds (building old None) (w.contents held) (building new) (w.contents holds) (bytes_read r piece) r
 

@@ -4,7 +4,7 @@ ghost use Rattle.dcm_build.specs.Builder as spec;
 ghost use Rattle.dcm_build.specs.Building as steps;
 ghost use Rattle.dcm_build.specs.Outputs as outputs;
 
-use crate::place::Place;
+use crate::line_reader::LineReader;
 use dcm_base::{DeviceOut, LineFault, Watched};
 use std::marker::Model;
 
@@ -29,7 +29,7 @@ pub enum BuildHalt {
 /// Builds a file from the lines of a dump, and writes what is sure of it. It holds one line, the meta group and one value.
 #[derive(Drop)]
 pub struct Builder {
-    place: Place,
+    reader: LineReader,
     halt: Option<BuildHalt>,
 }
 
@@ -39,9 +39,9 @@ impl Model for Builder {
 
     ghost Value = { Progress };
 
-    ghost view = { λ b. record { state = building b.place (stop_of b.halt); failed = is_output b.halt } };
+    ghost view = { λ b. record { state = building b.reader (stop_of b.halt); failed = is_output b.halt } };
 
-    ghost invariant = { λ b. b.halt ≡ None → Stands (line_at b.place) };
+    ghost invariant = { λ b. b.halt ≡ None → Stands (line_at b.reader) };
 }
 
 impl Builder {
@@ -51,7 +51,7 @@ impl Builder {
         ensures { result ≡ record { state = steps.build_start limit; failed = false } }
     {
         Builder {
-            place: Place::new(limit),
+            reader: LineReader::new(limit),
             halt: None,
         }
     }
@@ -73,7 +73,7 @@ impl Builder {
     {
         let mut rest = piece;
         while !rest.is_empty() && self.halt.is_none() {
-            match self.place.read_some(rest, out) {
+            match self.reader.read_some(rest, out) {
                 Ok(n) => {
                     let (_, after) = rest.split_at(n);
                     rest = after;
@@ -97,7 +97,7 @@ impl Builder {
         ensures failed { outputs.TellsFailed W.DeviceOut out.old out.new self.old self.new }
     {
         if self.halt.is_none() {
-            self.halt = self.place.end(out).err();
+            self.halt = self.reader.end(out).err();
         }
         answer(self.halt)
     }

@@ -21,7 +21,7 @@ mod file;
 mod group;
 pub mod laws;
 mod line;
-mod place;
+mod line_reader;
 mod standing;
 
 pub use build::{BuildHalt, Builder, LineStop};

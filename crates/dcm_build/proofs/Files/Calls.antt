@@ -8,7 +8,7 @@ use Rattle.dcm_base.proofs.Writes.Runs.{goes_on, goes_failed}
 use Rattle.dcm_stream.specs.Machine.{well, TellsFailed}
 use Rattle.dcm_build.specs.declared.build.BuildHalt.{BuildHalt}
 use Rattle.dcm_build.specs.declared.build.BuildHalt.TheVariants.{Refused, Output}
-use Rattle.dcm_build.specs.declared.place.Place.{Place}
+use Rattle.dcm_build.specs.declared.line_reader.LineReader.{LineReader}
 use Rattle.dcm_build.specs.Builder.{line_at, building, told_of, TellsHalt, Feeds, Progress, stop_of, is_output, is_halted}
 use Rattle.dcm_build.specs.Building.{BuildState, build_step, build_writes}
 use Rattle.dcm_build.proofs.Lines.Pieces.{told_stays, told_silent}
@@ -21,16 +21,16 @@ pub no_some : (halt : Option BuildHalt) → halt ≡ None → is_some halt ≡ t
 no_some None e f = cc
 no_some (Some halt) e f = cc
 
-abbrev pub View : Place → Option BuildHalt → Progress → Type 0
-View place halt p = ◌≡◌ {A = Progress} (record { state = building place (stop_of halt); failed = is_output halt }) p
+abbrev pub View : LineReader → Option BuildHalt → Progress → Type 0
+View reader halt p = ◌≡◌ {A = Progress} (record { state = building reader (stop_of halt); failed = is_output halt }) p
 
 halted_by : (halt : Option BuildHalt) → halt ≡ None → (is_output halt || is_some (stop_of halt)) ≡ true → ⊥
 halted_by None e h = cc
 halted_by (Some halt) e h = cc
 
 -- a builder without a halt is not halted
-pub not_halted : (place : Place) (halt : Option BuildHalt) (p : Progress) → View place halt p → halt ≡ None → is_halted p ≡ true → ⊥
-not_halted place halt p view e h = halted_by halt e (ap is_halted view ∙ h)
+pub not_halted : (reader : LineReader) (halt : Option BuildHalt) (p : Progress) → View reader halt p → halt ≡ None → is_halted p ≡ true → ⊥
+not_halted reader halt p view e h = halted_by halt e (ap is_halted view ∙ h)
 
 -- one that is not halted has no halt
 pub going_none : (halt : Option BuildHalt) → (is_output halt || is_some (stop_of halt)) ≡ false → halt ≡ None
@@ -38,8 +38,8 @@ going_none None e = refl
 going_none (Some (Refused stop)) e = absurd (cc)
 going_none (Some Output) e = absurd (cc)
 
-pub view_at : (place : Place) (halt : Option BuildHalt) (p : Progress) → View place halt p → halt ≡ None → building place None ≡ p.state
-view_at place halt p view e = ap (λ (h : Option BuildHalt). building place (stop_of h)) (sym e) ∙ ap (λ (q : Progress). q.state) view
+pub view_at : (reader : LineReader) (halt : Option BuildHalt) (p : Progress) → View reader halt p → halt ≡ None → building reader None ≡ p.state
+view_at reader halt p view e = ap (λ (h : Option BuildHalt). building reader (stop_of h)) (sym e) ∙ ap (λ (q : Progress). q.state) view
 
 -- ---- whether the output failed
 
@@ -48,8 +48,8 @@ tells_not x true halts e = absurd (cc)
 tells_not x false halts e = refl
 
 -- nothing was told
-pub tells_begin : (x : Bool) (place : Place) (halt : Option BuildHalt) (p : Progress) → View place halt p → is_halted p ≡ false → TellsFailed x x (is_output halt)
-tells_begin x place halt p view e = tells_not x (is_output halt) (is_some (stop_of halt)) (ap is_halted view ∙ e)
+pub tells_begin : (x : Bool) (reader : LineReader) (halt : Option BuildHalt) (p : Progress) → View reader halt p → is_halted p ≡ false → TellsFailed x x (is_output halt)
+tells_begin x reader halt p view e = tells_not x (is_output halt) (is_some (stop_of halt)) (ap is_halted view ∙ e)
 
 -- what was told so far, and what a call tells
 pub tells_none : (old new : Bool) (halt : Option BuildHalt) → halt ≡ None → TellsFailed old new (is_output halt) → new ≡ old
@@ -74,28 +74,28 @@ nowhere s held true e = cc
 nowhere s held false e = (refl, sym (append_known_none held))
 
 -- no byte
-pub gone_nowhere : (place : Place) (halt : Option BuildHalt) (p : Progress) (held : Option (List ℕ)) → View place halt p → p.failed ≡ false → Gone p.state held (building place (stop_of halt)) held [] (is_output halt)
-gone_nowhere place halt p held e fine = subst (λ (q : Progress). Gone q.state held (building place (stop_of halt)) held [] (is_output halt)) e (nowhere (building place (stop_of halt)) held (is_output halt) (ap (λ (q : Progress). q.failed) e ∙ fine))
+pub gone_nowhere : (reader : LineReader) (halt : Option BuildHalt) (p : Progress) (held : Option (List ℕ)) → View reader halt p → p.failed ≡ false → Gone p.state held (building reader (stop_of halt)) held [] (is_output halt)
+gone_nowhere reader halt p held e fine = subst (λ (q : Progress). Gone q.state held (building reader (stop_of halt)) held [] (is_output halt)) e (nowhere (building reader (stop_of halt)) held (is_output halt) (ap (λ (q : Progress). q.failed) e ∙ fine))
 
 -- bytes that went well, behind those so far
-pub gone_on : (old : BuildState) (held : Option (List ℕ)) (mid : Place) (mid_held : Option (List ℕ)) (new : Place) (holds : Option (List ℕ)) (xs ys : List ℕ) (halt : Option BuildHalt) (n : ℕ) → halt ≡ None
+pub gone_on : (old : BuildState) (held : Option (List ℕ)) (mid : LineReader) (mid_held : Option (List ℕ)) (new : LineReader) (holds : Option (List ℕ)) (xs ys : List ℕ) (halt : Option BuildHalt) (n : ℕ) → halt ≡ None
     → Gone old held (building mid (stop_of halt)) mid_held xs (is_output halt) → Feeds {T = ℕ} (building mid None) mid_held (building new) holds ys (Ok n) → Gone old held (building new (stop_of halt)) holds (xs ++ ys) (is_output halt)
 gone_on old held mid mid_held new holds xs ys None n e a b = goes_on build_step build_writes {T = Unit {0}} {E = Unit {0}} old held (building mid None) mid_held (building new None) holds xs ys (Ok tt) a.0 a.1 b
 gone_on old held mid mid_held new holds xs ys (Some halt) n e a b = absurd (cc)
 
 -- bytes at which it is halted, behind those so far
-gone_halting : (old : BuildState) (held : Option (List ℕ)) (mid : BuildState) (mid_held : Option (List ℕ)) (new : Place) (holds : Option (List ℕ)) (xs ys : List ℕ) (halt : BuildHalt)
+gone_halting : (old : BuildState) (held : Option (List ℕ)) (mid : BuildState) (mid_held : Option (List ℕ)) (new : LineReader) (holds : Option (List ℕ)) (xs ys : List ℕ) (halt : BuildHalt)
     → Gone old held mid mid_held xs false → Feeds {T = ℕ} mid mid_held (building new) holds ys (Err halt) → Gone old held (building new (stop_of (Some halt))) holds (xs ++ ys) (is_output (Some halt))
 gone_halting old held mid mid_held new holds xs ys (Refused stop) a b = goes_on build_step build_writes {T = Unit {0}} {E = Unit {0}} old held mid mid_held (building new (Some (told_of stop))) holds xs ys (Ok tt) a.0 a.1 b
 gone_halting old held mid mid_held new holds xs ys Output a b = goes_on build_step build_writes {T = Unit {0}} {E = Unit {0}} old held mid mid_held (building new None) holds xs ys (Err tt) a.0 a.1 b
 
-pub gone_halted : (old : BuildState) (held : Option (List ℕ)) (mid : Place) (mid_held : Option (List ℕ)) (new : Place) (holds : Option (List ℕ)) (xs ys : List ℕ) (before : Option BuildHalt) (halt : BuildHalt) → before ≡ None
+pub gone_halted : (old : BuildState) (held : Option (List ℕ)) (mid : LineReader) (mid_held : Option (List ℕ)) (new : LineReader) (holds : Option (List ℕ)) (xs ys : List ℕ) (before : Option BuildHalt) (halt : BuildHalt) → before ≡ None
     → Gone old held (building mid (stop_of before)) mid_held xs (is_output before) → Feeds {T = ℕ} (building mid None) mid_held (building new) holds ys (Err halt) → Gone old held (building new (stop_of (Some halt))) holds (xs ++ ys) (is_output (Some halt))
 gone_halted old held mid mid_held new holds xs ys None halt e a b = gone_halting old held (building mid None) mid_held new holds xs ys halt a b
 gone_halted old held mid mid_held new holds xs ys (Some before) halt e a b = absurd (cc)
 
 -- behind a halt nothing more happens
-gone_behind : (old : BuildState) (held : Option (List ℕ)) (new : Place) (holds : Option (List ℕ)) (xs ys : List ℕ) (halt : BuildHalt) → Gone old held (building new (stop_of (Some halt))) holds xs (is_output (Some halt))
+gone_behind : (old : BuildState) (held : Option (List ℕ)) (new : LineReader) (holds : Option (List ℕ)) (xs ys : List ℕ) (halt : BuildHalt) → Gone old held (building new (stop_of (Some halt))) holds xs (is_output (Some halt))
     → Gone old held (building new (stop_of (Some halt))) holds (xs ++ ys) (is_output (Some halt))
 gone_behind old held new holds xs ys (Refused stop) a =
     let s = building new (Some (told_of stop)) in
@@ -103,7 +103,7 @@ gone_behind old held new holds xs ys (Refused stop) a =
     (sym (told_stays new.file (line_at new) (told_of stop) ys), sym (append_known_none holds) ∙ ap (append_known holds) (sym (told_silent new.file (line_at new) (told_of stop) ys)))
 gone_behind old held new holds xs ys Output a = goes_failed build_step build_writes {T = Unit {0}} {E = Unit {0}} old held (building new None) holds xs ys (Err tt) refl a
 
-pub gone_still : (old : BuildState) (held : Option (List ℕ)) (new : Place) (holds : Option (List ℕ)) (xs ys : List ℕ) (halt : Option BuildHalt) → is_some halt ≡ true → Gone old held (building new (stop_of halt)) holds xs (is_output halt)
+pub gone_still : (old : BuildState) (held : Option (List ℕ)) (new : LineReader) (holds : Option (List ℕ)) (xs ys : List ℕ) (halt : Option BuildHalt) → is_some halt ≡ true → Gone old held (building new (stop_of halt)) holds xs (is_output halt)
     → Gone old held (building new (stop_of halt)) holds (xs ++ ys) (is_output halt)
 gone_still old held new holds xs ys None e a = absurd (cc)
 gone_still old held new holds xs ys (Some halt) e a = gone_behind old held new holds xs ys halt a

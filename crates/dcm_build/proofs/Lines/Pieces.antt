@@ -1,4 +1,4 @@
--- The place of a builder goes over the beginning of a piece.
+-- A line reader goes over the beginning of a piece.
 use Rattle.std.proofs.Common.{◌≡◌, ◌∙◌, ap, sym, subst, refl, ℕ, zero, suc, ◌+◌, ◌<◌, ◌≤◌, List, [], ◌∷◌, ◌++◌, length, take, get_or, length-append, Bool, true, false, cond, Option, None, Some, Result, Ok, Err, arith}
 use Rattle.std.specs.Prelude.{fold, nat_le, nat_lt, ◌==◌, IsErrAnd}
 use Rattle.std.specs.Str.{byte}
@@ -15,7 +15,7 @@ use Rattle.dcm_build.specs.declared.build.BuildHalt.{BuildHalt}
 use Rattle.dcm_build.specs.declared.build.BuildHalt.TheVariants.{Refused, Output}
 use Rattle.dcm_build.specs.declared.file.NewFile.{NewFile}
 use Rattle.dcm_build.specs.declared.file.Stopped.TheVariants.{Refused as refused_line}
-use Rattle.dcm_build.specs.declared.place.Place.{Place}
+use Rattle.dcm_build.specs.declared.line_reader.LineReader.{LineReader}
 use Rattle.dcm_build.specs.Builder.{line_at, building, more, read, Plain, Stands, halts, told_of, Reaches, Feeds, bytes_read}
 use Rattle.dcm_build.specs.Building.{BuildState, build_step, build_writes, line_taken, line_writes}
 use Rattle.dcm_build.specs.NewFile.{LineAt, state}
@@ -36,7 +36,7 @@ pub first_of : (piece front bs : List ℕ) (m n : ℕ) → front ≡ take m piec
 first_of piece front bs m n e f le fits = f ∙ ap (take n) e ∙ take-take n m piece (omega arith)
 
 -- they stand in the line
-pub bytes_taken : (p q : Place) (held : Option (List ℕ)) (bs : List ℕ) → q.file ≡ p.file → line_at q ≡ more (line_at p) bs → Plain bs → read (line_at p) + length bs ≤ INPUT_LIMIT → length p.line.items + length bs ≤ p.limit
+pub bytes_taken : (p q : LineReader) (held : Option (List ℕ)) (bs : List ℕ) → q.file ≡ p.file → line_at q ≡ more (line_at p) bs → Plain bs → read (line_at p) + length bs ≤ INPUT_LIMIT → length p.line.items + length bs ≤ p.limit
     → (building q None ≡ fold build_step (building p None) bs) × (held ≡ append_known held (outputs build_step build_writes (building p None) bs))
 bytes_taken p q held bs file at plain within room = (
   ap (λ (f : NewFile). state f (line_at q) None) file ∙ ap (λ (a : LineAt). state p.file a None) at ∙ sym (line_grows p.file (line_at p) bs plain within room),
@@ -71,7 +71,7 @@ told_silent f at told [] = refl
 told_silent f at told (b ∷ bs) = told_silent f at told bs
 
 -- the first byte halts it, and what follows changes nothing
-pub feeds_first : (T : Type 0) (s : BuildState) (q : Place) (held holds : Option (List ℕ)) (piece : List ℕ) (halt : BuildHalt) → 0 < length piece
+pub feeds_first : (T : Type 0) (s : BuildState) (q : LineReader) (held holds : Option (List ℕ)) (piece : List ℕ) (halt : BuildHalt) → 0 < length piece
     → Reaches {T = T} held holds (building q) (build_step s (get_or piece 0 0)) (build_writes s (get_or piece 0 0)) (Err halt) → Feeds {T = T} s held (building q) holds piece (Err halt)
 feeds_first T s q held holds [] halt some h = absurd (omega arith)
 feeds_first T s q held holds (b ∷ bs) (Refused stop) some h = (
@@ -85,7 +85,7 @@ cut_at true a b e = refl
 cut_at false a b e = absurd (cc)
 
 -- past the limit of an input
-pub limit_at : (T : Type 0) (p : Place) (held : Option (List ℕ)) (piece : List ℕ) (halt : BuildHalt) → 0 < length piece → INPUT_LIMIT ≤ read (line_at p) → halt ≡ halts (refused_line TooLong) INPUT_LIMIT 0
+pub limit_at : (T : Type 0) (p : LineReader) (held : Option (List ℕ)) (piece : List ℕ) (halt : BuildHalt) → 0 < length piece → INPUT_LIMIT ≤ read (line_at p) → halt ≡ halts (refused_line TooLong) INPUT_LIMIT 0
     → Feeds {T = T} (building p None) held (building p) held piece (Err halt)
 limit_at T p held piece halt some past is =
     let cut : nat_le INPUT_LIMIT (read (line_at p)) ≡ true = le-leb _ _ past in
@@ -109,7 +109,7 @@ full (b ∷ piece) (c ∷ front) (suc m) e some newline not =
     let same : c ≡ b = cc in
     absurd (not (sym same ∙ newline (omega arith)))
 
-pub too_long : (T : Type 0) (p : Place) (held : Option (List ℕ)) (piece front : List ℕ) (m : ℕ) (halt : BuildHalt) → 0 < length piece → read (line_at p) < INPUT_LIMIT → front ≡ take m piece → (m ≡ 0 → p.limit ≤ length p.line.items)
+pub too_long : (T : Type 0) (p : LineReader) (held : Option (List ℕ)) (piece front : List ℕ) (m : ℕ) (halt : BuildHalt) → 0 < length piece → read (line_at p) < INPUT_LIMIT → front ≡ take m piece → (m ≡ 0 → p.limit ≤ length p.line.items)
     → (0 < length front → get_or front 0 0 ≡ byte "\n") → (get_or piece 0 0 ≡ byte "\n" → ⊥) → halt ≡ halts (refused_line LineTooLong) p.offset p.number
     → Feeds {T = T} (building p None) held (building p) held piece (Err halt)
 too_long T p held piece front m halt some within e room newline not is =
@@ -130,7 +130,7 @@ too_long T p held piece front m halt some within e room newline not is =
 -- ---- a newline
 
 -- a newline that halts it
-pub newline_halts : (U : Type 0) (p q : Place) (held holds : Option (List ℕ)) (piece : List ℕ) (halt : BuildHalt) (r : Result ℕ BuildHalt) → 0 < length piece → read (line_at p) < INPUT_LIMIT → get_or piece 0 0 ≡ byte "\n"
+pub newline_halts : (U : Type 0) (p q : LineReader) (held holds : Option (List ℕ)) (piece : List ℕ) (halt : BuildHalt) (r : Result ℕ BuildHalt) → 0 < length piece → read (line_at p) < INPUT_LIMIT → get_or piece 0 0 ≡ byte "\n"
     → Reaches {T = U} held holds (building q) (line_taken (building p None)) (line_writes (building p None)) (Err halt) → IsErrAnd r (λ x. x ≡ halt) → Feeds (building p None) held (building q) holds (bytes_read r piece) r
 newline_halts U p q held holds piece halt (Ok n) some within is h e = absurd e
 newline_halts U p q held holds piece halt (Err x) some within is h e =

@@ -11,12 +11,12 @@ pub loop-self-init : goal.loop-self-init
 loop-self-init g c = record {
   front = [];
   whole = refl;
-  goes = λ fine. gone_nowhere c.self.inside.place c.self.inside.halt c.args.self.now (g.W.DeviceOut.contents c.args.out.now) c.self.view_is fine;
-  place = λ none. let same = ap read_size (view_at c.self.inside.place c.self.inside.halt c.args.self.now c.self.view_is none) in omega (arith, same);
-  within = λ none. let same = ap read_size (view_at c.self.inside.place c.self.inside.halt c.args.self.now c.self.view_is none) in λ le. omega (arith, same, le);
+  goes = λ fine. gone_nowhere c.self.inside.reader c.self.inside.halt c.args.self.now (g.W.DeviceOut.contents c.args.out.now) c.self.view_is fine;
+  place = λ none. let same = ap read_size (view_at c.self.inside.reader c.self.inside.halt c.args.self.now c.self.view_is none) in omega (arith, same);
+  within = λ none. let same = ap read_size (view_at c.self.inside.reader c.self.inside.halt c.args.self.now c.self.view_is none) in λ le. omega (arith, same, le);
   stands = c.self.invariant;
   halted = λ h. (refl, refl);
-  failed = λ h. tells_begin (g.W.Device.has_failed c.args.out.now) c.self.inside.place c.self.inside.halt c.args.self.now c.self.view_is h;
+  failed = λ h. tells_begin (g.W.Device.has_failed c.args.out.now) c.self.inside.reader c.self.inside.halt c.args.self.now c.self.view_is h;
 }
 
 pub loop-self-preserved-in-Ok : goal.loop-self-preserved-in-Ok
@@ -25,11 +25,11 @@ loop-self-preserved-in-Ok g c =
     let n : ℕ = c.in-Ok.n in
     let rest = c.loop-self.rest.now in
     let front = c.loop-self.invariant.front in
-    let place = c.loop-self.self-inside.place in
+    let reader = c.loop-self.self-inside.reader in
     record {
       front = front ++ take n rest;
       whole = c.loop-self.invariant.whole ∙ ap (λ (xs : List ℕ). front ++ xs) (sym (take-append-drop n rest) ∙ ap (λ (xs : List ℕ). take n rest ++ xs) (sym c.split_at.ensures.back)) ∙ sym (append_assoc front (take n rest) c.split_at.result.1.now);
-      goes = λ fine. gone_on c.args.self.now.state (g.W.DeviceOut.contents c.args.out.now) place (g.W.DeviceOut.contents c.loop-self.out) c.read_some.new.self (g.W.DeviceOut.contents c.read_some.new.out) front (take n rest) c.loop-self.self-inside.halt n none (c.loop-self.invariant.goes fine) c.in-Ok.ensures.feeds;
+      goes = λ fine. gone_on c.args.self.now.state (g.W.DeviceOut.contents c.args.out.now) reader (g.W.DeviceOut.contents c.loop-self.out) c.read_some.new.self (g.W.DeviceOut.contents c.read_some.new.out) front (take n rest) c.loop-self.self-inside.halt n none (c.loop-self.invariant.goes fine) c.in-Ok.ensures.feeds;
       place = λ h.
           let size : length (front ++ take n rest) ≡ length front + length (take n rest) = length-append front (take n rest) in
           let taken : length (take n rest) ≡ n = length-take-le n rest c.in-Ok.ensures.some.1 in
@@ -38,7 +38,7 @@ loop-self-preserved-in-Ok g c =
           omega (arith, size, taken, more, before);
       within = λ h. λ le. c.in-Ok.ensures.within;
       stands = λ h. c.in-Ok.ensures.stands;
-      halted = λ h. absurd (not_halted c.self.inside.place c.self.inside.halt c.args.self.now c.self.view_is (ap (λ (i : Inside). i.halt) (sym (c.loop-self.invariant.halted h).0) ∙ none) h);
+      halted = λ h. absurd (not_halted c.self.inside.reader c.self.inside.halt c.args.self.now c.self.view_is (ap (λ (i : Inside). i.halt) (sym (c.loop-self.invariant.halted h).0) ∙ none) h);
       failed = λ h. tells_still _ _ c.loop-self.self-inside.halt none (c.in-Ok.ensures.failed ∙ tells_none _ _ c.loop-self.self-inside.halt none (c.loop-self.invariant.failed h));
     }
 
@@ -47,15 +47,15 @@ loop-self-preserved g c =
     let none : c.loop-self.self-inside.halt ≡ None = none_of c.loop-self.self-inside.halt c.if-is_none.ensures in
     let rest = c.loop-self.rest.now in
     let front = c.loop-self.invariant.front in
-    let place = c.loop-self.self-inside.place in
+    let reader = c.loop-self.self-inside.reader in
     record {
       front = front ++ rest;
       whole = c.loop-self.invariant.whole ∙ sym (append-nil (front ++ rest));
-      goes = λ fine. gone_halted c.args.self.now.state (g.W.DeviceOut.contents c.args.out.now) place (g.W.DeviceOut.contents c.loop-self.out) c.read_some.new.self (g.W.DeviceOut.contents c.read_some.new.out) front rest c.loop-self.self-inside.halt c.in-Err.halt none (c.loop-self.invariant.goes fine) c.in-Err.ensures.feeds;
+      goes = λ fine. gone_halted c.args.self.now.state (g.W.DeviceOut.contents c.args.out.now) reader (g.W.DeviceOut.contents c.loop-self.out) c.read_some.new.self (g.W.DeviceOut.contents c.read_some.new.out) front rest c.loop-self.self-inside.halt c.in-Err.halt none (c.loop-self.invariant.goes fine) c.in-Err.ensures.feeds;
       place = λ h. absurd (cc);
       within = λ h. absurd (cc);
       stands = λ h. absurd (cc);
-      halted = λ h. absurd (not_halted c.self.inside.place c.self.inside.halt c.args.self.now c.self.view_is (ap (λ (i : Inside). i.halt) (sym (c.loop-self.invariant.halted h).0) ∙ none) h);
+      halted = λ h. absurd (not_halted c.self.inside.reader c.self.inside.halt c.args.self.now c.self.view_is (ap (λ (i : Inside). i.halt) (sym (c.loop-self.invariant.halted h).0) ∙ none) h);
       failed = λ h. tells_halt ℕ _ _ _ c.in-Err.halt (tells_none _ _ c.loop-self.self-inside.halt none (c.loop-self.invariant.failed h)) c.in-Err.ensures.failed;
     }
 
@@ -65,7 +65,7 @@ returns-clause-goes g c = λ fine.
     let rest = c.loop-self.rest.now in
     elim c.loop-self-test.branch [
       | then-loop-self-test+else-is_none w ↦ rw c.loop-self.invariant.whole
-          (gone_still c.args.self.now.state (g.W.DeviceOut.contents c.args.out.now) c.loop-self.self-inside.place (g.W.DeviceOut.contents c.loop-self.out) front rest c.loop-self.self-inside.halt w.if-is_none.ensures (c.loop-self.invariant.goes fine))
+          (gone_still c.args.self.now.state (g.W.DeviceOut.contents c.args.out.now) c.loop-self.self-inside.reader (g.W.DeviceOut.contents c.loop-self.out) front rest c.loop-self.self-inside.halt w.if-is_none.ensures (c.loop-self.invariant.goes fine))
       | else-loop-self-test w ↦ let none : rest ≡ [] = empty_by rest w.loop-self-test.ensures in rw (c.loop-self.invariant.whole, none, append-nil) (c.loop-self.invariant.goes fine)
     ]
 

@@ -11,10 +11,10 @@ abbrev pub invariant-loop-self : goal.invariant-loop-self
 invariant-loop-self g l = record {
   front : List ℕ;
   whole : l.piece ≡ front ++ l.rest;
-  goes : l.fn.self.failed ≡ false → Goes build_step build_writes l.fn.self.state (g.W.DeviceOut.contents l.fn.out) (building l.self-inside.place (stop_of l.self-inside.halt)) (g.W.DeviceOut.contents l.out) front (well (is_output l.self-inside.halt));
-  place : l.self-inside.halt ≡ None → read (line_at l.self-inside.place) ≡ read_size l.fn.self.state + length front;
-  within : l.self-inside.halt ≡ None → read_size l.fn.self.state ≤ INPUT_LIMIT → read (line_at l.self-inside.place) ≤ INPUT_LIMIT;
-  stands : l.self-inside.halt ≡ None → Stands (line_at l.self-inside.place);
+  goes : l.fn.self.failed ≡ false → Goes build_step build_writes l.fn.self.state (g.W.DeviceOut.contents l.fn.out) (building l.self-inside.reader (stop_of l.self-inside.halt)) (g.W.DeviceOut.contents l.out) front (well (is_output l.self-inside.halt));
+  place : l.self-inside.halt ≡ None → read (line_at l.self-inside.reader) ≡ read_size l.fn.self.state + length front;
+  within : l.self-inside.halt ≡ None → read_size l.fn.self.state ≤ INPUT_LIMIT → read (line_at l.self-inside.reader) ≤ INPUT_LIMIT;
+  stands : l.self-inside.halt ≡ None → Stands (line_at l.self-inside.reader);
   halted : is_halted l.fn.self ≡ true → (l.self-inside ≡ l.initial.self-inside) × (l.out ≡ l.fn.out);
   failed : is_halted l.fn.self ≡ false → TellsFailed (g.W.Device.has_failed l.fn.out) (g.W.Device.has_failed l.out) (is_output l.self-inside.halt);
 }

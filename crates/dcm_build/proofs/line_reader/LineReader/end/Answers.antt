@@ -2,7 +2,7 @@ use Rattle.std.proofs.Common.{rules, refl, ◌≡◌, ◌+◌, length, None}
 use Rattle.dcm_build.specs.Builder.{building}
 use Rattle.dcm_build.specs.Building.{last_line, last_writes}
 use Rattle.dcm_build.proofs.Lines.Ends.{last_failed, whole_ended, end_failed}
-use Rattle.dcm_build.proofs.place.Place.end.Goals as goal
+use Rattle.dcm_build.proofs.line_reader.LineReader.end.Goals as goal
 
 pub returns-in_err-end_last_line-clause-reaches : goal.returns-in_err-end_last_line-clause-reaches
 returns-in_err-end_last_line-clause-reaches g c =

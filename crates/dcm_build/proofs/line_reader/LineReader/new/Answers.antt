@@ -1,6 +1,6 @@
 use Rattle.std.proofs.Common.{◌∙◌, ap, List, [], ℕ, None}
 use Rattle.dcm_build.specs.NewFile.{state}
-use Rattle.dcm_build.proofs.place.Place.new.Goals as goal
+use Rattle.dcm_build.proofs.line_reader.LineReader.new.Goals as goal
 
 pub returns : goal.returns
 returns c =

@@ -1,6 +1,6 @@
 use Rattle.std.proofs.Common.{rules, refl, arith, ◌≡◌, ◌+◌, length}
 use Rattle.dcm_build.proofs.Lines.Ends.{line_ended, line_refused, place_behind}
-use Rattle.dcm_build.proofs.place.Place.end_line.Goals as goal
+use Rattle.dcm_build.proofs.line_reader.LineReader.end_line.Goals as goal
 
 pub returns-in-Err-clause-reaches : goal.returns-in-Err-clause-reaches
 returns-in-Err-clause-reaches g c =

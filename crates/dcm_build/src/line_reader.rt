@@ -1,4 +1,4 @@
-// Where the building of a file stands.
+// The lines of an input, read piece by piece.
 ghost use Rattle.std.specs.Prelude.{◌≡◌, ◌+◌, ◌++◌, ◌<◌, ◌≤◌, None, Option, get_or, length, take, IfOk, OnOk};
 ghost use Rattle.dcm_base.specs.Reads.{INPUT_LIMIT as MOST_READ};
 ghost use Rattle.dcm_build.specs.Builder as spec;
@@ -17,7 +17,7 @@ const MOST_LINE: usize = 16_384;
 /// What the lines so far have built, the bytes of the line that has not ended, how many it may have, where it begins, and which
 /// it is.
 #[derive(Drop)]
-pub struct Place {
+pub struct LineReader {
     pub file: NewFile,
     pub line: ArrayVec<u8, MOST_LINE>,
     pub limit: usize,
@@ -53,12 +53,12 @@ fn halt(stopped: Stopped, offset: u64, line: u64) -> BuildHalt
     }
 }
 
-impl Place {
+impl LineReader {
     /// The beginning of the first line.
     pub fn new(limit: usize) -> Self
         ensures { spec.building result None ≡ steps.build_start limit }
     {
-        Place {
+        LineReader {
             file: NewFile::new(),
             line: ArrayVec::new(),
             limit,
