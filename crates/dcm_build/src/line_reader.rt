@@ -8,6 +8,7 @@ ghost use Rattle.dcm_build.specs.Outputs as outputs;
 use crate::build::{BuildHalt, LineStop};
 use crate::file::{NewFile, Stopped};
 use arrayvec::ArrayVec;
+use bstr::ByteSlice;
 use dcm_base::{DeviceOut, LineFault, Watched};
 use dcm_stream::INPUT_LIMIT;
 
@@ -31,12 +32,10 @@ fn line_end(bytes: &[u8]) -> usize
     ensures within { result ≤ length bytes.now }
     ensures newline { result < length bytes.now → get_or bytes.now result 0 ≡ 10 }
 {
-    for (i, byte) in bytes.iter().enumerate() {
-        if *byte == b'\n' {
-            return i;
-        }
+    match bytes.find_byte(b'\n') {
+        Some(at) => at,
+        None => bytes.len(),
     }
-    bytes.len()
 }
 
 /// Why nothing more is built.

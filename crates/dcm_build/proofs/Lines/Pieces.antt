@@ -1,10 +1,10 @@
 -- A line reader goes over the beginning of a piece.
 use Rattle.std.proofs.Common.{◌≡◌, ◌∙◌, ap, sym, subst, refl, ℕ, zero, suc, ◌+◌, ◌<◌, ◌≤◌, List, [], ◌∷◌, ◌++◌, length, take, get_or, length-append, Bool, true, false, cond, Option, None, Some, Result, Ok, Err, arith}
-use Rattle.std.specs.Prelude.{fold, nat_le, nat_lt, ◌==◌, IsErrAnd}
+use Rattle.std.specs.Prelude.{fold, nat_le, nat_lt, ◌==◌, IsErrAnd, slice_index}
 use Rattle.std.specs.Str.{byte}
 use Rattle.std.specs.Io.KnownBytes.{append_known}
 use Rattle.std.proofs.lemmas.Bool.{ne_eqb, le-ltb, le-leb}
-use Rattle.std.proofs.lemmas.List.{append-nil, take_more, take-take}
+use Rattle.std.proofs.lemmas.List.{append-nil, take-take}
 use Rattle.dcm_base.specs.Build.{Told}
 use Rattle.dcm_base.specs.Device.{AppendsFront}
 use Rattle.dcm_base.specs.Reads.{INPUT_LIMIT}
@@ -23,13 +23,16 @@ use Rattle.dcm_build.proofs.Lines.Newlines.{not_cut, line_grows, line_silent, ne
 
 -- ---- bytes without a newline
 
-plain_on : (bs : List ℕ) (b : ℕ) → Plain bs → (b == byte "\n") ≡ false → Plain (bs ++ b ∷ [])
-plain_on [] b h e = (e, tt)
-plain_on (c ∷ bs) b h e = (h.0, plain_on bs b h.1 e)
+not_so : (t : Bool) → ¬ (t ≡ true) → t ≡ false
+not_so true h = absurd (h refl)
+not_so false h = refl
 
--- one byte more
-pub plain_more : (bs : List ℕ) (i : ℕ) → i < length bs → Plain (take i bs) → (get_or bs i 0 ≡ byte "\n" → ⊥) → Plain (take (i + 1) bs)
-plain_more bs i lt h e = subst Plain (sym (take_more bs i 0 lt)) (plain_on (take i bs) (get_or bs i 0) h (ne_eqb (get_or bs i 0) (byte "\n") e))
+-- before the first one
+pub plain_before : (bs : List ℕ) (n : ℕ) → ((i : ℕ) → i < n → ¬ ((slice_index bs i == byte "\n") ≡ true)) → Plain (take n bs)
+plain_before [] zero h = tt
+plain_before [] (suc n) h = tt
+plain_before (b ∷ bs) zero h = tt
+plain_before (b ∷ bs) (suc n) h = (not_so (b == byte "\n") (h 0 (omega arith)), plain_before bs n (λ i l. h (suc i) (omega (arith, l))))
 
 -- the first n of the first m bytes
 pub first_of : (piece front bs : List ℕ) (m n : ℕ) → front ≡ take m piece → bs ≡ take n front → n ≤ length front → length front ≤ m → bs ≡ take n piece
