@@ -15,7 +15,7 @@ use Rattle.dcm_base.specs.Size.{trees_size}
 use Rattle.dcm_base.specs.Steps.{outputs}
 use Rattle.dcm_tools.specs.EncodeSink.{EncodeState, encode_start, encode_step, encode_writes}
 use Rattle.dcm_build.specs.NewGroup.{Shown, shown, trees_of, file_head}
-use Rattle.dcm_build.specs.Standing.{Standing, at_top, container_of, reached_in, lists_open, standing_with}
+use Rattle.dcm_build.specs.OpenContainers.{OpenContainers, at_top, container_of, reached_in, lists_open, standing_with}
 
 pub record BuildState : Type 0 where
   pub limit : ℕ
@@ -27,7 +27,7 @@ pub record BuildState : Type 0 where
   pub meta : List Shown
   pub meta_ended : Bool
   -- what stands open of the data set, and how it is written
-  pub standing : Standing
+  pub standing : OpenContainers
   pub encoding : EncodeState
   -- the first fault, which stays
   pub told : Option Told

@@ -1,5 +1,5 @@
 pub mod LineShown
-pub mod Standing
+pub mod OpenContainers
 pub mod Nesting
 pub mod NewGroup
 pub mod Building

@@ -1,9 +1,9 @@
 -- How what stands open of a data set is nested.
 use Rattle.std.specs.Prelude.{◌≡◌, ◌≤◌, List, [], ◌∷◌, Bool, true, false, ⊤}
 use Rattle.dcm_base.specs.declared.level.Container.TheVariants.{Sequence as a_sequence}
-use Rattle.dcm_build.specs.declared.standing.Open.{Open}
-use Rattle.dcm_build.specs.declared.standing.Open.TheVariants.{Sequence, FragmentList, Item}
-use Rattle.dcm_build.specs.Standing.{container_of, lists_open}
+use Rattle.dcm_build.specs.declared.open_containers.Open.{Open}
+use Rattle.dcm_build.specs.declared.open_containers.Open.TheVariants.{Sequence, FragmentList, Item}
+use Rattle.dcm_build.specs.OpenContainers.{container_of, lists_open}
 
 abbrev pub is_list : Open → Bool
 is_list Sequence = true

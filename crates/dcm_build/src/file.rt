@@ -17,7 +17,7 @@ use crate::checks::{
 };
 use crate::group::{NewGroup, element_size};
 use crate::line::{Meaning, Step, means, without_return};
-use crate::standing::Standing;
+use crate::open_containers::OpenContainers;
 use arrayvec::ArrayVec;
 use dcm_base::{
     Coding, Container, DeviceOut, Length, LineFault, MOST_LISTS, Syntax, Tag, Vr, Watched,
@@ -55,7 +55,7 @@ impl From<WriteFailed> for Stopped {
 pub struct NewFile {
     group: NewGroup,
     meta_ended: bool,
-    standing: Standing,
+    standing: OpenContainers,
     encoder: Encoder,
     value: ArrayVec<u8, MOST_VALUE>,
 }
@@ -383,7 +383,7 @@ impl NewFile {
         NewFile {
             group: NewGroup::new(),
             meta_ended: false,
-            standing: Standing::new(),
+            standing: OpenContainers::new(),
             encoder: Encoder::new(Syntax::Little),
             value: ArrayVec::new(),
         }

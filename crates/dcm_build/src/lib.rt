@@ -22,6 +22,6 @@ mod group;
 pub mod laws;
 mod line;
 mod line_reader;
-mod standing;
+mod open_containers;
 
 pub use build::{BuildHalt, Builder, LineStop};

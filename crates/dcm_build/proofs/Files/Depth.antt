@@ -4,10 +4,10 @@ use Rattle.std.proofs.lemmas.List.{take_more, length-reverse}
 use Rattle.dcm_base.specs.declared.tag.Tag.{Tag}
 use Rattle.dcm_base.specs.declared.level.Container.TheVariants.{Sequence as a_sequence}
 use Rattle.dcm_stream.proofs.Containers.Reversed.{turned_more}
-use Rattle.dcm_build.specs.declared.standing.Open.{Open}
-use Rattle.dcm_build.specs.declared.standing.Open.TheVariants.{Sequence, FragmentList, Item}
+use Rattle.dcm_build.specs.declared.open_containers.Open.{Open}
+use Rattle.dcm_build.specs.declared.open_containers.Open.TheVariants.{Sequence, FragmentList, Item}
 use Rattle.dcm_build.specs.Nesting.{InSequences, Nests}
-use Rattle.dcm_build.specs.Standing.{container_of, lists_open, reached_in}
+use Rattle.dcm_build.specs.OpenContainers.{container_of, lists_open, reached_in}
 
 -- an item has a sequence for itself
 mutual

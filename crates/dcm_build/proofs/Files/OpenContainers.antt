@@ -18,39 +18,39 @@ use Rattle.dcm_base.specs.Line.{Step, show_leaf, begin_sequence, begin_fragments
 use Rattle.dcm_base.specs.Build.{has_place_in, innermost, open_levels, with_step, step_in_item, finished}
 use Rattle.dcm_base.specs.Tree.{Trees, Items}
 use Rattle.dcm_base.specs.declared.vr.Vr.{Vr}
-use Rattle.dcm_build.specs.declared.standing.Open.{Open}
-use Rattle.dcm_build.specs.declared.standing.Open.TheVariants.{Sequence, FragmentList, Item}
-use Rattle.dcm_build.specs.Standing.{Standing, container_of, reached_in, lists_open, entering, standing_with}
+use Rattle.dcm_build.specs.declared.open_containers.Open.{Open}
+use Rattle.dcm_build.specs.declared.open_containers.Open.TheVariants.{Sequence, FragmentList, Item}
+use Rattle.dcm_build.specs.OpenContainers.{OpenContainers, container_of, reached_in, lists_open, entering, standing_with}
 
 -- where a set stands: at the top, or in an item
 pub data Where : Type 0 where
   the_top : Where
   within : (top : Option Tag) (outer : List Open) → Where
 
-abbrev pub standing_at : Where → Option Tag → Standing
+abbrev pub standing_at : Where → Option Tag → OpenContainers
 standing_at the_top reached = record { reached = reached; containers = [] }
 standing_at (within top outer) reached = record { reached = top; containers = Item reached ∷ outer }
 
 unfoldable mutual
-  pub standing_in : Where → Front → Standing
+  pub standing_in : Where → Front → OpenContainers
   standing_in w (front whole open_tree reached closed) = standing_of_tree (standing_at w reached) open_tree
 
-  pub standing_of_tree : Standing → OpenTree → Standing
+  pub standing_of_tree : OpenContainers → OpenTree → OpenContainers
   standing_of_tree s nothing_open = s
   standing_of_tree s (open_leaf tag vr size value) = s
   standing_of_tree s (open_sequence tag vr declared items last) = standing_of_item (entering Sequence s) last
   standing_of_tree s (open_fragments tag vr values last) = entering FragmentList s
 
-  pub standing_of_item : Standing → OpenItem → Standing
+  pub standing_of_item : OpenContainers → OpenItem → OpenContainers
   standing_of_item s no_open_item = s
   standing_of_item s (open_item declared set) = standing_in (within s.reached s.containers) set
 
-abbrev pub standing_of : Front → Standing
+abbrev pub standing_of : Front → OpenContainers
 standing_of f = standing_in the_top f
 
 -- ---- the containers and the tag that is reached
 
-pub record Alike (ls : List Level) (s : Standing) : Type 0 where
+pub record Alike (ls : List Level) (s : OpenContainers) : Type 0 where
   pub container : container_of s.containers ≡ innermost ls
   pub deep : lists_open s.containers ≡ depth ls
 
@@ -65,7 +65,7 @@ no_list c sy declared begin ls n e d = omega (arith, e, d)
 mutual
   unfolding set_levels standing_in
 
-  tree_alike : (sy : Syntax) (begin : ℕ) (ls : List Level) (s : Standing) (o : OpenTree) → Alike ls s → Alike (tree_levels sy begin ls o) (standing_of_tree s o)
+  tree_alike : (sy : Syntax) (begin : ℕ) (ls : List Level) (s : OpenContainers) (o : OpenTree) → Alike ls s → Alike (tree_levels sy begin ls o) (standing_of_tree s o)
   tree_alike sy begin ls s nothing_open h = h
   tree_alike sy begin ls s (open_leaf tag vr size value) h = h
   tree_alike sy begin ls s (open_sequence tag vr declared items last) h =
@@ -73,7 +73,7 @@ mutual
   tree_alike sy begin ls s (open_fragments tag vr values last) h =
       record { container = refl; deep = one_list a_fragment_list sy Undefined (begin + head_size sy vr) ls (lists_open s.containers) refl h.deep }
 
-  item_alike : (sy : Syntax) (begin : ℕ) (ls : List Level) (s : Standing) (last : OpenItem) → Alike ls s → Alike (item_levels sy begin ls last) (standing_of_item s last)
+  item_alike : (sy : Syntax) (begin : ℕ) (ls : List Level) (s : OpenContainers) (last : OpenItem) → Alike ls s → Alike (item_levels sy begin ls last) (standing_of_item s last)
   item_alike sy begin ls s no_open_item h = h
   item_alike sy begin ls s (open_item declared (front whole open_tree reached closed)) h =
       tree_alike sy ((begin + 8) + trees_size sy whole) _ (standing_at (within s.reached s.containers) reached) open_tree
@@ -91,13 +91,13 @@ all_alike (front whole open_tree reached closed) =
 mutual
   unfolding innermost_reached standing_in
 
-  tree_reached : (s : Standing) (reached : Option Tag) (o : OpenTree) → reached_in s.reached s.containers ≡ reached → reached_in (standing_of_tree s o).reached (standing_of_tree s o).containers ≡ reached_in_tree reached o
+  tree_reached : (s : OpenContainers) (reached : Option Tag) (o : OpenTree) → reached_in s.reached s.containers ≡ reached → reached_in (standing_of_tree s o).reached (standing_of_tree s o).containers ≡ reached_in_tree reached o
   tree_reached s reached nothing_open h = h
   tree_reached s reached (open_leaf tag vr size value) h = h
   tree_reached s reached (open_sequence tag vr declared items last) h = item_reached (entering Sequence s) reached last h
   tree_reached s reached (open_fragments tag vr values last) h = h
 
-  item_reached : (s : Standing) (reached : Option Tag) (last : OpenItem) → reached_in s.reached s.containers ≡ reached → reached_in (standing_of_item s last).reached (standing_of_item s last).containers ≡ reached_in_item reached last
+  item_reached : (s : OpenContainers) (reached : Option Tag) (last : OpenItem) → reached_in s.reached s.containers ≡ reached → reached_in (standing_of_item s last).reached (standing_of_item s last).containers ≡ reached_in_item reached last
   item_reached s reached no_open_item h = h
   item_reached s reached (open_item declared (front whole open_tree inner closed)) h = tree_reached (standing_at (within s.reached s.containers) inner) inner open_tree refl
 
@@ -108,7 +108,7 @@ all_reached (front whole open_tree reached closed) = tree_reached (standing_at t
 -- ---- one step more
 
 -- where the step has its place in the innermost container
-abbrev pub HasPlace : Step → Standing → Type 0
+abbrev pub HasPlace : Step → OpenContainers → Type 0
 HasPlace step s = has_place_in (container_of s.containers) step ≡ true
 
 -- what lines build: it has not ended, no value stands open, and what stands open has no known length

@@ -16,7 +16,7 @@ use Rattle.dcm_build.specs.Building as steps
 use Rattle.dcm_build.specs.Building.{BuildState, build_start, build_step, build_writes, file_start, meta_over, line_taken, line_writes, last_line, last_writes, closed, closed_writes, ended_meta, end_writes, read_size, finishes, finish_writes, tells_at_end}
 use Rattle.dcm_build.specs.BuildLaws.{Builds, BuiltSoFar, Stays}
 use Rattle.dcm_build.specs.NewGroup.{trees_of}
-use Rattle.dcm_build.specs.Standing.{Standing, container_of}
+use Rattle.dcm_build.specs.OpenContainers.{OpenContainers, container_of}
 use Rattle.dcm_build.proofs.Files.OpenContainers.{all_alike}
 use Rattle.dcm_build.proofs.Files.Steps.{Stands, stands_bytes, same_out, none_sent, mk}
 use Rattle.dcm_build.proofs.Files.Lines.{lines_from, lines_are, result, built_is, end_stays, Going, LineEnds, goes, stops, line_ends, Ran, runs, told_of, all_ran, run_lines}
@@ -45,7 +45,7 @@ unfolding end_list
 end_checks_alike b s out h =
     ap (λ x. end_list x (named_coding (trees_of s.meta)) (container_of s.standing.containers)) h.ended
     ∙ ap (λ (x : Trees). end_list b.meta_ended (named_coding x) (container_of s.standing.containers)) h.meta
-    ∙ ap (λ (x : Container). end_list b.meta_ended (named_coding b.meta) x) (ap (λ (x : Standing). container_of x.containers) h.standing ∙ (all_alike b.set).container)
+    ∙ ap (λ (x : Container). end_list b.meta_ended (named_coding b.meta) x) (ap (λ (x : OpenContainers). container_of x.containers) h.standing ∙ (all_alike b.set).container)
 
 -- where the input ends
 pub record EndsAs (p : Progress) (s : BuildState) (out : List ℕ) : Type 0 where

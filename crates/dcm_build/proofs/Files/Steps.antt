@@ -31,14 +31,14 @@ use Rattle.dcm_base.specs.Steps.{outputs}
 use Rattle.dcm_base.specs.Stop.{opens_list}
 use Rattle.dcm_base.specs.Tree.{Trees, no_tree, leaf, then_trees}
 use Rattle.dcm_base.proofs.Writes.Runs.{outputs-append}
-use Rattle.dcm_build.specs.declared.standing.Open.{Open}
-use Rattle.dcm_build.specs.declared.standing.Open.TheVariants.{Sequence, FragmentList, Item}
+use Rattle.dcm_build.specs.declared.open_containers.Open.{Open}
+use Rattle.dcm_build.specs.declared.open_containers.Open.TheVariants.{Sequence, FragmentList, Item}
 use Rattle.dcm_build.specs.Building as steps
 use Rattle.dcm_build.specs.Building.{BuildState, value_atoms, step_atoms, file_start, shown_size, meta_over, ends_meta, taken, taken_writes, placed, placed_writes, shows, shows_writes, tells, meaning_taken, meaning_writes}
 use Rattle.dcm_tools.specs.EncodeSink.{EncodeState, encode_start, encode_step, encode_writes}
 use Rattle.dcm_tools.specs.Laws.{lists_behind}
 use Rattle.dcm_build.specs.NewGroup.{trees_of}
-use Rattle.dcm_build.specs.Standing.{Standing, container_of, reached_in, lists_open, reaching, standing_with}
+use Rattle.dcm_build.specs.OpenContainers.{OpenContainers, container_of, reached_in, lists_open, reaching, standing_with}
 use Rattle.dcm_build.proofs.Lines.Forms.{MeansForm}
 use Rattle.dcm_build.proofs.Files.Meta.{one_shown, trees_more}
 use Rattle.dcm_build.proofs.Files.Shows.{HasForm, HasValue, Grown, all_grown, none_grown}
@@ -79,7 +79,7 @@ list_left top (Item reached ∷ outer) h = absurd (cc)
 one_leads : (n m : ℕ) (a : Atom) → n ≤ 64 → m ≤ 64 → lists_behind n a ≡ m → Leads n (a ∷ []) m
 one_leads n m a h k e = leads_more n m m a [] h e (leads_nowhere m k)
 
-step_leads : (step : Step) (st : Standing) → HasForm step → HasValue step → HasPlace step st → lists_open st.containers ≤ 64 → (is_opening step && nat_le 64 (lists_open st.containers)) ≡ false
+step_leads : (step : Step) (st : OpenContainers) → HasForm step → HasValue step → HasPlace step st → lists_open st.containers ≤ 64 → (is_opening step && nat_le 64 (lists_open st.containers)) ≡ false
     → Leads (lists_open st.containers) (step_atoms step) (lists_open (standing_with step st).containers)
 step_leads (show_leaf tag vr None) st f v h l d = absurd v
 step_leads (show_leaf tag vr (Some value)) st f v h l d =
@@ -185,9 +185,9 @@ step_checks_alike step b s out h =
     (lists_open s.standing.containers) (depth (open_levels b.set))
     (named_coding (trees_of s.meta)) (named_coding b.meta)
     (trees_size Little (trees_of s.meta) + shown_size step) (trees_size Little (build.with_meta step b.meta))
-    (ap (λ (x : Standing). container_of x.containers) h.standing ∙ alike.container)
-    (ap (λ (x : Standing). reached_in x.reached x.containers) h.standing ∙ all_reached b.set)
-    (ap (λ (x : Standing). lists_open x.containers) h.standing ∙ alike.deep)
+    (ap (λ (x : OpenContainers). container_of x.containers) h.standing ∙ alike.container)
+    (ap (λ (x : OpenContainers). reached_in x.reached x.containers) h.standing ∙ all_reached b.set)
+    (ap (λ (x : OpenContainers). lists_open x.containers) h.standing ∙ alike.deep)
     (ap (λ (x : Trees). named_coding x) h.meta)
     (ap (λ (x : Trees). trees_size Little x + shown_size step) h.meta ∙ size_shown step b.meta))
 
@@ -284,18 +284,18 @@ set_stands step meta set s out h c f =
     let place : HasPlace step (standing_of set) = subst (HasPlace step) h.standing c.place in
     let stands : standing_of (with_step step set) ≡ standing_with step (standing_of set) = all_stands step set w.grown.built place in
     let deep : lists_open (standing_of set).containers ≤ 64 = leads_within 0 (lists_open (standing_of set).containers) w.atoms w.leads in
-    let shallow : (is_opening step && nat_le 64 (lists_open (standing_of set).containers)) ≡ false = subst (λ (x : Standing). (is_opening step && nat_le 64 (lists_open x.containers)) ≡ false) h.standing c.shallow in
+    let shallow : (is_opening step && nat_le 64 (lists_open (standing_of set).containers)) ≡ false = subst (λ (x : OpenContainers). (is_opening step && nat_le 64 (lists_open x.containers)) ≡ false) h.standing c.shallow in
     record {
       meta = h.meta;
       ended = h.ended;
-      standing = ap (λ (x : Standing). standing_with step x) h.standing ∙ sym stands;
+      standing = ap (λ (x : OpenContainers). standing_with step x) h.standing ∙ sym stands;
       sent = record {
         atoms = w.atoms ++ more;
         grown = all_grown step set w.atoms f v place w.grown;
         leads =
             leads_to 0 (lists_open (standing_with step (standing_of set)).containers) (lists_open (standing_of (with_step step set)).containers) (w.atoms ++ more)
             (leads_both 0 (lists_open (standing_of set).containers) (lists_open (standing_with step (standing_of set)).containers) w.atoms more w.leads (step_leads step (standing_of set) f v place deep shallow))
-            (ap (λ (x : Standing). lists_open x.containers) (sym stands));
+            (ap (λ (x : OpenContainers). lists_open x.containers) (sym stands));
         encoding = ap (λ (x : EncodeState). fold encode_step x more) w.encoding ∙ sym (fold-append encode_step start w.atoms more);
         written =
             ap (λ z. z ++ outputs encode_step encode_writes s.encoding more) w.written

@@ -24,8 +24,8 @@ use Rattle.dcm_base.specs.Bars.{innermost_reached}
 use Rattle.dcm_base.specs.ReadValue.{value_shown}
 use Rattle.dcm_base.specs.Line.{Step, show_leaf, begin_sequence, begin_fragments, begin_item, show_fragment, end_item, end_sequence}
 use Rattle.dcm_base.specs.Build.{Built, Refused, refused, no_elements, named_coding, is_little, allows_fragments, holds_elements, checked, in_group, accepted, with_meta, is_meta, is_opening, is_fragment_opening, is_after, element_tag, lacks_value, has_place_in, innermost, open_levels, first_fault, step_checks, with_step, step_in_item, finished, with_shown, rebuilt, rebuilt_items}
-use Rattle.dcm_build.specs.declared.standing.Open.TheVariants.{Sequence, FragmentList}
-use Rattle.dcm_build.specs.Standing.{Standing, container_of, reached_in, lists_open, entering}
+use Rattle.dcm_build.specs.declared.open_containers.Open.TheVariants.{Sequence, FragmentList}
+use Rattle.dcm_build.specs.OpenContainers.{OpenContainers, container_of, reached_in, lists_open, entering}
 use Rattle.dcm_build.specs.DumpLines.{fragment_step, set_steps, items_steps}
 use Rattle.dcm_build.specs.StepsBuild.{Leads, MayStand, ItemsMayStand, BuildAgain}
 use Rattle.dcm_build.proofs.Files.OpenContainers.{Where, the_top, within, standing_at, standing_in, standing_of, around, all_alike, all_reached}
@@ -86,7 +86,7 @@ ended_now true = refl
 ended_now false = refl
 
 -- what a step needs where its set stands so
-record Welcome (coding : Coding) (s : Standing) (step : Step) : Type 0 where
+record Welcome (coding : Coding) (s : OpenContainers) (step : Step) : Type 0 where
   place : has_place_in (container_of s.containers) step ≡ true
   no_meta : is_meta step ≡ false
   fragments_here : is_fragment_opening step && not (allows_fragments (Some coding)) ≡ false
@@ -115,7 +115,7 @@ no_fragments : (coding : Coding) → coding.syntax ≡ Little → not (allows_fr
 no_fragments coding e = ap (λ (s : Syntax). not (is_little s)) e
 
 module _ (coding : Coding) (k : Around) (reached : Option Tag) (tag : Tag) (vr : Vr) (other : tag.group ≢ 2) (above : is_above tag reached ≡ true) where
-  abbrev here : Standing
+  abbrev here : OpenContainers
   here = standing_at (place_of k) reached
 
   above_here : is_after (reached_in here.reached here.containers) (Some tag) ≡ true
@@ -205,9 +205,9 @@ module _ (meta : Trees) (coding : Coding) (named : named_coding meta ≡ Some co
   comes_both : (xs ys : List Step) (e : Bool) (f g h : Front) → Comes xs e f g → ((x : Bool) → Comes ys x g h) → Comes (xs ++ ys) e f h
   comes_both xs ys e f g h a b = record { later = (b a.later).later; leads = leads_both xs ys (built e f) (built a.later g) (built (b a.later).later h) a.leads (b a.later).leads }
 
-  one_step : (step : Step) (e : Bool) (f g : Front) (s : Standing) → standing_of f ≡ s → Welcome coding s step → with_step step f ≡ g → Comes (step ∷ []) e f g
+  one_step : (step : Step) (e : Bool) (f g : Front) (s : OpenContainers) → standing_of f ≡ s → Welcome coding s step → with_step step f ≡ g → Comes (step ∷ []) e f g
   one_step step e f g s at w is =
-      record { later = true; leads = (built true (with_step step f), taken e step f (subst (λ (x : Standing). Welcome coding x step) (sym at) w), ap (built true) is) }
+      record { later = true; leads = (built true (with_step step f), taken e step f (subst (λ (x : OpenContainers). Welcome coding x step) (sym at) w), ap (built true) is) }
 
   abbrev at_set : Around → Trees → Option Tag → Front
   at_set k w r = plug k (front w nothing_open r false)

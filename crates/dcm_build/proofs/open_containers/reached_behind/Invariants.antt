@@ -1,6 +1,6 @@
 use Rattle.std.proofs.Common.{◌≡◌, take, reverse}
-use Rattle.dcm_build.specs.Standing as spec
-use Rattle.dcm_build.proofs.standing.reached_behind.Given as goal
+use Rattle.dcm_build.specs.OpenContainers as spec
+use Rattle.dcm_build.proofs.open_containers.reached_behind.Given as goal
 
 -- what the outer containers so far have reached
 abbrev pub invariant-loop-inner : goal.invariant-loop-inner

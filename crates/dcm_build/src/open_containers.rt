@@ -4,7 +4,7 @@ ghost use Rattle.dcm_base.specs.declared.level.Container.TheVariants.{Sequence a
 ghost use Rattle.dcm_base.specs.Build.{has_place_in, is_opening};
 ghost use Rattle.dcm_build.specs.LineShown.{step_of};
 ghost use Rattle.dcm_build.specs.Nesting.{is_list};
-ghost use Rattle.dcm_build.specs.Standing as spec;
+ghost use Rattle.dcm_build.specs.OpenContainers as spec;
 
 use crate::line::Step;
 use arrayvec::ArrayVec;
@@ -24,17 +24,17 @@ pub enum Open {
 /// The tag of the last element of the top data set, and what is open in it: at most 64 sequences and fragment lists, and
 /// items that stand in sequences.
 #[derive(Drop)]
-pub struct Standing {
+pub struct OpenContainers {
     top_reached: Option<Tag>,
     outermost_first: ArrayVec<Open, MOST_OPEN>,
 }
 
-impl Model for Standing {
+impl Model for OpenContainers {
     ghost use Rattle.std.specs.Prelude.{reverse};
     ghost use Rattle.dcm_build.specs.Nesting.{Nests};
-    ghost use Rattle.dcm_build.specs.Standing as spec;
+    ghost use Rattle.dcm_build.specs.OpenContainers as spec;
 
-    ghost Value = { spec.Standing };
+    ghost Value = { spec.OpenContainers };
 
     ghost view = { λ s. record { reached = s.top_reached; containers = reverse s.outermost_first.items } };
 
@@ -82,12 +82,12 @@ fn lists_among(outermost_first: &[Open]) -> usize
     count
 }
 
-impl Standing {
+impl OpenContainers {
     /// Nothing is open, and no element has come.
     pub fn new() -> Self
         ensures { result ≡ spec.at_top }
     {
-        Standing {
+        OpenContainers {
             top_reached: None,
             outermost_first: ArrayVec::new(),
         }

@@ -1,6 +1,6 @@
 use Rattle.std.proofs.Common.{◌≡◌, ◌≤◌, take, reverse}
-use Rattle.dcm_build.specs.Standing as spec
-use Rattle.dcm_build.proofs.standing.lists_among.Given as goal
+use Rattle.dcm_build.specs.OpenContainers as spec
+use Rattle.dcm_build.proofs.open_containers.lists_among.Given as goal
 
 -- the lists among the outer containers so far, one at most for each
 abbrev pub invariant-loop-container : goal.invariant-loop-container

@@ -4,15 +4,15 @@ use Rattle.dcm_base.specs.declared.tag.Tag.{Tag}
 use Rattle.dcm_base.specs.declared.level.Container.{Container}
 use Rattle.dcm_base.specs.declared.level.Container.TheVariants.{DataSet as the_data_set, Item as an_item, Sequence as a_sequence, FragmentList as a_fragment_list}
 use Rattle.dcm_base.specs.Line.{Step, show_leaf, begin_sequence, begin_fragments, begin_item, show_fragment, end_item, end_sequence}
-use Rattle.dcm_build.specs.declared.standing.Open.{Open}
-use Rattle.dcm_build.specs.declared.standing.Open.TheVariants.{Sequence, FragmentList, Item}
+use Rattle.dcm_build.specs.declared.open_containers.Open.{Open}
+use Rattle.dcm_build.specs.declared.open_containers.Open.TheVariants.{Sequence, FragmentList, Item}
 
 -- the tag of the last element of the top data set, and what is open in it, the innermost first
-pub record Standing : Type 0 where
+pub record OpenContainers : Type 0 where
   pub reached : Option Tag
   pub containers : List Open
 
-abbrev pub at_top : Standing
+abbrev pub at_top : OpenContainers
 at_top = record { reached = None; containers = [] }
 
 abbrev pub container_of : List Open → Container
@@ -36,24 +36,24 @@ lists_open (FragmentList ∷ outer) = suc (lists_open outer)
 lists_open (Item reached ∷ outer) = lists_open outer
 
 -- an element of the innermost data set
-abbrev pub reaching : Tag → Standing → Standing
+abbrev pub reaching : Tag → OpenContainers → OpenContainers
 reaching tag s = elim s.containers [
   | Item reached ∷ outer ↦ record s { containers = Item (Some tag) ∷ outer }
   | others ↦ record s { reached = Some tag }
 ]
 
-abbrev pub entering : Open → Standing → Standing
+abbrev pub entering : Open → OpenContainers → OpenContainers
 entering o s = record s { containers = o ∷ s.containers }
 
 abbrev pub without_innermost : List Open → List Open
 without_innermost [] = []
 without_innermost (o ∷ outer) = outer
 
-abbrev pub leaving : Standing → Standing
+abbrev pub leaving : OpenContainers → OpenContainers
 leaving s = record s { containers = without_innermost s.containers }
 
 -- with one step more, which has its place there
-abbrev pub standing_with : Step → Standing → Standing
+abbrev pub standing_with : Step → OpenContainers → OpenContainers
 standing_with (show_leaf tag vr value) s = reaching tag s
 standing_with (begin_sequence tag vr) s = entering Sequence (reaching tag s)
 standing_with (begin_fragments tag vr) s = entering FragmentList (reaching tag s)

@@ -1,6 +1,6 @@
 use Rattle.std.proofs.Common.{◌≤◌, arith}
 use Rattle.dcm_build.proofs.Files.Depth.{lists_step, one_few}
-use Rattle.dcm_build.proofs.standing.lists_among.Goals as goal
+use Rattle.dcm_build.proofs.open_containers.lists_among.Goals as goal
 
 pub loop-container-preserved : goal.loop-container-preserved
 loop-container-preserved c =
