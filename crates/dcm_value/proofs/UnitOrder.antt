@@ -4,3 +4,4 @@ pub mod Blocks
 pub mod Numbers
 pub mod Pieces
 pub mod HighestFirst
+pub mod Buffers

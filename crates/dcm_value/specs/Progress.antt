@@ -1,15 +1,16 @@
 -- A value that is shown byte by byte.
-use Rattle.std.specs.Prelude.{ℕ, ◌+◌, ◌-◌, ◌%◌, ◌==◌, ◌&&◌, nat_lt, Bool, true, false, if◌then◌else◌, List, [], ◌∷◌, ◌++◌, length, codes, count_by}
+use Rattle.std.specs.Prelude.{ℕ, ◌+◌, ◌/◌, ◌%◌, ◌==◌, ◌&&◌, nat_lt, Bool, true, false, if◌then◌else◌, List, [], ◌∷◌, ◌++◌, length, codes, count_by}
 use Rattle.dcm_base.specs.declared.vr.Vr.{Vr}
 use Rattle.dcm_base.specs.declared.syntax.Syntax.{Syntax}
 use Rattle.dcm_base.specs.declared.mode.Mode.{Mode}
 use Rattle.dcm_base.specs.Representation.{pad}
-use Rattle.dcm_base.specs.Value.{order}
+use Rattle.dcm_base.specs.Value.{units, order}
 use Rattle.dcm_base.specs.Steps.{outputs}
 use Rattle.dcm_base.specs.ValueText.{shape, shown_unit, is_single, escape, unit_text, unpadded, identified}
 use Rattle.dcm_value.specs.declared.way.Way.{Way}
 use Rattle.dcm_value.specs.declared.way.Way.TheVariants.{InBrackets, ByName, InUnits}
 use Rattle.dcm_value.specs.Way.{way_of}
+use Rattle.dcm_value.specs.Units.{one_text, separated}
 use Rattle.dcm_value.specs.Display.{Display, blank, emit, at_once, ending}
 
 pub record Progress : Type 0 where
@@ -83,9 +84,20 @@ further p n held values bytes = record p { seen = p.seen + n; held = held; value
 abbrev pub waits : Progress → List ℕ → Progress
 waits p bytes = record p { seen = p.seen + length bytes; held = p.held ++ bytes }
 
--- the bytes that a unit lacks that waits for more, as the first always does
-abbrev pub lacking : Progress → ℕ
-lacking p = if length p.held == 0 && nat_lt 0 p.values then 0 else shown_unit p.vr - length p.held
+-- units more, with this text
+abbrev pub counts : Progress → ℕ → List ℕ → Progress
+counts p n bytes = record p { values = p.values + n; display = emit p.display bytes }
+
+-- the text of whole units after that many values
+abbrev pub shown_after : ℕ → (List ℕ → List ℕ) → List (List ℕ) → List ℕ
+shown_after values text [] = []
+shown_after values text (u ∷ us) = separator values ++ (text u ++ separated text us)
+
+abbrev pub shown : Progress → List ℕ → List ℕ
+shown p v = shown_after p.values (one_text p.vr p.syntax) (units (shown_unit p.vr) v)
+
+abbrev pub shows : Progress → List ℕ → Progress
+shows p v = counts p (length v / shown_unit p.vr) (shown p v)
 
 -- one byte more
 unfoldable pub step : Progress → ℕ → Progress

@@ -4,4 +4,4 @@ use Rattle.dcm_value.specs.Shown.{display}
 use Rattle.dcm_value.specs.Progress.{Progress}
 
 abbrev pub progress : ValueText → Progress
-progress t = record { vr = t.vr; syntax = t.syntax; size = t.size; seen = t.seen; held = t.held.items; values = t.values; display = display t.shown }
+progress t = record { vr = t.vr; syntax = t.syntax; size = t.size; seen = t.seen; held = t.held.bytes.items; values = t.values; display = display t.shown }

@@ -4,6 +4,7 @@
 //!   any pieces and writes the text as it goes; with `Mode::Short` it holds the 66 bytes that may be cut.
 //! - `read_value` reads such a text back into the bytes of the value, in little endian; `read_value_into` does so in a buffer.
 //! - `escape` and `unescape` are one byte of a text, `tag_of_text` a tag, `swap` turns the units of a big endian value.
+//! - `UnitBuffer` makes the pieces of a value into whole units.
 //!
 //! Two numbers, read back:
 //!
@@ -18,6 +19,7 @@ mod lanes;
 pub mod laws;
 mod parts;
 mod reading;
+mod unit_buffer;
 mod units;
 mod value_text;
 mod way;
@@ -28,5 +30,6 @@ pub use escapes::escape;
 pub use lanes::swap;
 pub use parts::tag_of_text;
 pub use reading::{BadValue, read_value, read_value_into};
+pub use unit_buffer::{UnitBuffer, Units};
 pub use value_text::ValueText;
 pub use way::takes_bytes;

@@ -244,16 +244,13 @@ pub fn append_units<const N: usize>(
     append_high(kind, size, high, text);
 }
 
-/// A unit of a value as it is shown, behind a backslash unless it is the first.
-pub fn unit_text(vr: Vr, syntax: Syntax, is_first: bool, unit: &[u8]) -> ArrayVec<u8, LONGEST>
+/// A unit of a value as it is shown.
+pub fn unit_text(vr: Vr, syntax: Syntax, unit: &[u8]) -> ArrayVec<u8, LONGEST>
     requires { length unit.now ≡ spec.shown_unit vr }
-    ensures { result.items ≡ (if is_first then [] else codes "\\") ++ high.one_text vr syntax unit.now }
+    ensures { result.items ≡ high.one_text vr syntax unit.now }
 {
     let mut text = ArrayVec::new();
     append_units(vr, syntax, unit, &mut text);
-    if !is_first {
-        return text;
-    }
     let _ = text.remove(0);
     text
 }

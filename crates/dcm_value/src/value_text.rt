@@ -3,15 +3,16 @@ ghost use Rattle.std.specs.Prelude.{◌≡◌, ◌+◌, ◌*◌, ◌/◌, ◌<�
 ghost use Rattle.dcm_base.specs.Device.{Puts, Tells};
 ghost use Rattle.dcm_base.specs.ValueText.{shown_unit as unit_size, shape};
 ghost use Rattle.dcm_base.specs.Steps.{Goes};
+ghost use Rattle.dcm_base.specs.Value.{units as units_of};
 ghost use Rattle.dcm_value.specs.Display.{emit, at_once};
-ghost use Rattle.dcm_value.specs.Units.{one_text};
+ghost use Rattle.dcm_value.specs.Units.{one_text, separated};
 ghost use Rattle.dcm_value.specs.Way as ways;
 
 use crate::display::Shown;
 use crate::escapes::{backslashes, last_text};
+use crate::unit_buffer::UnitBuffer;
 use crate::units::{shown_unit, unit_text};
 use crate::way::{Way, is_single, unpadded, way_of};
-use arrayvec::ArrayVec;
 use dcm_base::{DeviceOut, Mode, Syntax, Vr, Watched, WriteFailed};
 
 /// The text of a value that comes in pieces (PS3.5 6.2, 7.3).
@@ -21,12 +22,12 @@ pub struct ValueText {
     syntax: Syntax,
     size: u32,
     seen: u32,
-    held: ArrayVec<u8, 64>,
+    held: UnitBuffer<64>,
     values: u32,
     shown: Shown,
     ghost within: { seen ≤ size },
-    ghost counted: { values + length held.items ≤ seen },
-    ghost waiting: { length held.items < ways.room (ways.way_of (shape vr) size) vr },
+    ghost counted: { values + length held.bytes.items ≤ seen },
+    ghost waiting: { length held.bytes.items < ways.room (ways.way_of (shape vr) size) vr },
 }
 
 impl ValueText {
@@ -43,7 +44,7 @@ impl ValueText {
             syntax,
             size,
             seen: 0,
-            held: ArrayVec::new(),
+            held: UnitBuffer::new(),
             values: 0,
             shown: Shown::new(mode),
         }
@@ -88,7 +89,8 @@ impl ValueText {
         match self.way() {
             Way::InBrackets => self.feed_text(bytes, out),
             Way::ByName => {
-                self.hold(bytes);
+                self.seen += bytes.len() as u32;
+                self.held.hold(bytes);
                 Ok(())
             }
             Way::InUnits => self.feed_units(bytes, out),
@@ -181,128 +183,72 @@ impl ValueText {
         ensures seen { OnOk result (self.new.seen ≡ self.old.seen + length bytes.now) }
         ensures size { self.new.size ≡ self.old.size }
     {
-        let lacking = self.lacking();
-        if bytes.len() < lacking {
-            self.hold(bytes);
-            return Ok(());
-        }
-        let (start, rest) = bytes.split_at(lacking);
-        self.complete(start, out)?;
-        self.feed_whole(rest, out)
-    }
-
-    /// How many bytes the unit lacks that waits for more. The first unit of a value always waits.
-    fn lacking(&self) -> usize
-        requires { spec.way (progress self.now) ≡ Way.InUnits }
-        ensures { result ≡ spec.lacking (progress self.now) }
-    {
-        if self.held.is_empty() && self.values > 0 {
-            0
-        } else {
-            shown_unit(self.vr) - self.held.len()
-        }
-    }
-
-    /// Takes the bytes that the waiting unit lacks, and shows it.
-    fn complete<W: DeviceOut>(
-        &mut self,
-        bytes: &[u8],
-        out: &mut Watched<W>,
-    ) -> Result<(), WriteFailed>
-        requires way { spec.way (progress self.old) ≡ Way.InUnits }
-        requires within { self.old.seen + length bytes.now ≤ self.old.size }
-        requires lacking { length bytes.now ≡ spec.lacking (progress self.old) }
-        ensures seen { OnOk result (self.new.seen ≡ self.old.seen + length bytes.now) }
-        ensures size { self.new.size ≡ self.old.size }
-        ensures vr { self.new.vr ≡ self.old.vr }
-        ensures held { OnOk result (self.new.held.items ≡ []) }
-        ensures goes { Goes spec.step spec.writes (progress self.old) (W.contents out.old) (progress self.new) (W.contents out.new) bytes.now result }
-        ensures failed { Tells (W.has_failed out.old) (W.has_failed out.new) result }
-        ensures values { OnOk result (0 < self.new.values) }
-    {
-        if bytes.is_empty() {
-            return Ok(());
-        }
-        let mut unit = self.held.take();
-        let _ = unit.try_extend_from_slice(bytes);
         self.seen += bytes.len() as u32;
-        self.show_unit(unit.as_slice(), out)
+        let units = self.held.feed(shown_unit(self.vr), bytes);
+        self.show_units(units.first.as_slice(), out)?;
+        self.show_units(units.others, out)
     }
 
-    /// Takes bytes of units that begin with a unit.
-    fn feed_whole<W: DeviceOut>(
-        &mut self,
-        bytes: &[u8],
-        out: &mut Watched<W>,
-    ) -> Result<(), WriteFailed>
-        requires way { spec.way (progress self.old) ≡ Way.InUnits }
-        requires within { self.old.seen + length bytes.now ≤ self.old.size }
-        requires held { self.old.held.items ≡ [] }
-        requires values { 0 < self.old.values }
-        ensures goes { Goes spec.step spec.writes (progress self.old) (W.contents out.old) (progress self.new) (W.contents out.new) bytes.now result }
-        ensures failed { Tells (W.has_failed out.old) (W.has_failed out.new) result }
-        ensures seen { OnOk result (self.new.seen ≡ self.old.seen + length bytes.now) }
-        ensures size { self.new.size ≡ self.old.size }
-    {
-        let size = shown_unit(self.vr);
-        let (whole, tail) = bytes.split_at(bytes.len() / size * size);
-        self.show_units(whole, out)?;
-        self.hold(tail);
-        Ok(())
-    }
-
-    /// Keeps bytes that wait for more.
-    fn hold(&mut self, bytes: &[u8])
-        requires within { self.old.seen + length bytes.now ≤ self.old.size }
-        requires room { length self.old.held.items + length bytes.now < ways.room (spec.way (progress self.old)) self.old.vr }
-        ensures { progress self.new ≡ spec.waits (progress self.old) bytes.now }
-    {
-        self.seen += bytes.len() as u32;
-        let _ = self.held.try_extend_from_slice(bytes);
-    }
-
-    /// Shows a unit, and a backslash before it where it is not the first.
-    fn show_unit<W: DeviceOut>(
-        &mut self,
-        unit: &[u8],
-        out: &mut Watched<W>,
-    ) -> Result<(), WriteFailed>
-        requires way { spec.way (progress self.old) ≡ Way.InUnits }
-        requires whole { length unit.now ≡ unit_size self.old.vr }
-        requires held { self.old.held.items ≡ [] }
-        requires seen { self.old.values + length unit.now ≤ self.old.seen }
-        ensures seen { self.new.seen ≡ self.old.seen }
-        ensures size { self.new.size ≡ self.old.size }
-        ensures vr { self.new.vr ≡ self.old.vr }
-        ensures held { self.new.held.items ≡ [] }
-        ensures state { OnOk result (progress self.new ≡ spec.further (progress self.old) 0 [] 1 (spec.separator self.old.values ++ one_text self.old.vr self.old.syntax unit.now)) }
-        ensures bytes { Puts (W.contents out.old) (W.contents out.new) (at_once self.old.shown.mode (spec.separator self.old.values ++ one_text self.old.vr self.old.syntax unit.now)) result }
-        ensures failed { Tells (W.has_failed out.old) (W.has_failed out.new) result }
-    {
-        let text = unit_text(self.vr, self.syntax, self.values == 0, unit);
-        self.values += 1;
-        self.shown.emit(text.as_slice(), out)
-    }
-
-    /// Shows units that are not the first.
+    /// Shows whole units, with a backslash before each that is not the first of the value.
     fn show_units<W: DeviceOut>(
         &mut self,
         units: &[u8],
         out: &mut Watched<W>,
     ) -> Result<(), WriteFailed>
-        requires way { spec.way (progress self.old) ≡ Way.InUnits }
-        requires within { self.old.seen + length units.now ≤ self.old.size }
-        requires held { self.old.held.items ≡ [] }
-        requires values { 0 < self.old.values }
+        requires counted { self.old.values + length self.old.held.bytes.items + length units.now ≤ self.old.seen }
         requires whole { length units.now / unit_size self.old.vr * unit_size self.old.vr ≡ length units.now }
-        ensures seen { OnOk result (self.new.seen ≡ self.old.seen + length units.now) }
+        ensures seen { self.new.seen ≡ self.old.seen }
         ensures size { self.new.size ≡ self.old.size }
         ensures vr { self.new.vr ≡ self.old.vr }
         ensures held { self.new.held ≡ self.old.held }
-        ensures goes { Goes spec.step spec.writes (progress self.old) (W.contents out.old) (progress self.new) (W.contents out.new) units.now result }
+        ensures state { OnOk result (progress self.new ≡ spec.shows (progress self.old) units.now) }
+        ensures bytes { Puts (W.contents out.old) (W.contents out.new) (at_once self.old.shown.mode (spec.shown (progress self.old) units.now)) result }
         ensures failed { Tells (W.has_failed out.old) (W.has_failed out.new) result }
     {
-        self.seen += units.len() as u32;
+        if self.values > 0 || units.is_empty() {
+            return self.show_others(units, out);
+        }
+        let (first, others) = units.split_at(shown_unit(self.vr));
+        self.show_first(first, out)?;
+        self.show_others(others, out)
+    }
+
+    /// Shows the first unit.
+    fn show_first<W: DeviceOut>(
+        &mut self,
+        unit: &[u8],
+        out: &mut Watched<W>,
+    ) -> Result<(), WriteFailed>
+        requires whole { length unit.now ≡ unit_size self.old.vr }
+        requires counted { self.old.values + length self.old.held.bytes.items + length unit.now ≤ self.old.seen }
+        ensures seen { self.new.seen ≡ self.old.seen }
+        ensures size { self.new.size ≡ self.old.size }
+        ensures vr { self.new.vr ≡ self.old.vr }
+        ensures held { self.new.held ≡ self.old.held }
+        ensures state { OnOk result (progress self.new ≡ spec.counts (progress self.old) 1 (one_text self.old.vr self.old.syntax unit.now)) }
+        ensures bytes { Puts (W.contents out.old) (W.contents out.new) (at_once self.old.shown.mode (one_text self.old.vr self.old.syntax unit.now)) result }
+        ensures failed { Tells (W.has_failed out.old) (W.has_failed out.new) result }
+    {
+        self.values += 1;
+        let text = unit_text(self.vr, self.syntax, unit);
+        self.shown.emit(text.as_slice(), out)
+    }
+
+    /// Shows whole units, with a backslash before each.
+    fn show_others<W: DeviceOut>(
+        &mut self,
+        units: &[u8],
+        out: &mut Watched<W>,
+    ) -> Result<(), WriteFailed>
+        requires counted { self.old.values + length self.old.held.bytes.items + length units.now ≤ self.old.seen }
+        ensures seen { self.new.seen ≡ self.old.seen }
+        ensures size { self.new.size ≡ self.old.size }
+        ensures vr { self.new.vr ≡ self.old.vr }
+        ensures held { self.new.held ≡ self.old.held }
+        ensures state { OnOk result (progress self.new ≡ spec.counts (progress self.old) (length units.now / unit_size self.old.vr) (separated (one_text self.old.vr self.old.syntax) (units_of (unit_size self.old.vr) units.now))) }
+        ensures bytes { Puts (W.contents out.old) (W.contents out.new) (at_once self.old.shown.mode (separated (one_text self.old.vr self.old.syntax) (units_of (unit_size self.old.vr) units.now))) result }
+        ensures failed { Tells (W.has_failed out.old) (W.has_failed out.new) result }
+    {
         self.values += (units.len() / shown_unit(self.vr)) as u32;
         self.shown.emit_units(self.vr, self.syntax, units, out)
     }

@@ -1,6 +1,6 @@
 -- What a value on its way comes to over any bytes.
-use Rattle.std.proofs.Common.{◌≡◌, ◌≢◌, ◌∙◌, ap, sym, subst, refl, ℕ, zero, suc, ◌+◌, ◌-◌, ◌*◌, ◌==◌, ◌<◌, List, [], ◌∷◌, ◌++◌, append_assoc, length, take, drop, flat_map, Bool, true, false, cond, Option, arith}
-use Rattle.std.specs.Prelude.{fold, Result, Ok, Err, OnOk, IsErr}
+use Rattle.std.proofs.Common.{◌≡◌, ◌≢◌, ◌∙◌, ap, sym, subst, refl, ℕ, zero, suc, ◌+◌, ◌*◌, ◌/◌, ◌==◌, ◌<◌, List, [], ◌∷◌, ◌++◌, append_assoc, length, take, drop, flat_map, Bool, true, false, cond, Option, arith}
+use Rattle.std.specs.Prelude.{fold, Result, Ok, Err, IsErr}
 use Rattle.std.specs.Io.KnownBytes.{append_known}
 use Rattle.std.proofs.lemmas.Bool.Decides.{eqb_tells}
 use mathlib.Core.Logic.{⊎_elim}
@@ -10,8 +10,10 @@ use Rattle.dcm_base.specs.Device.{AppendsFront, Puts}
 use Rattle.dcm_base.specs.Value.{units, rest_part, turned}
 use Rattle.dcm_base.proofs.Conversions.UnitLaws.{units_cons, units_none, cut, left, cut_units}
 use Rattle.dcm_base.proofs.Conversions.Order.{rest_cons, rest_short, turned_cons, turned_short}
-use Rattle.dcm_base.proofs.Writes.Puts.{append_known_none}
-use Rattle.dcm_base.proofs.Writes.Runs.{goes_on, goes_failed}
+use Rattle.std.proofs.lemmas.Grind.{flat_map-append}
+use Rattle.dcm_base.proofs.Writes.Puts.{puts_behind, front_longer}
+use Rattle.dcm_value.proofs.UnitOrder.Pieces.{units_append}
+use Rattle.dcm_value.proofs.UnitOrder.Buffers.{Fed, fed_parts, first_size, both_size}
 use Rattle.dcm_tools.specs.EncodeSink.{Copying, copies, copy_writes, ordered}
 
 -- with other bytes held back
@@ -97,92 +99,41 @@ module _ (c : Copying) (some : 0 < c.unit) (short : length c.held < c.unit) wher
   pub copies_units : (bytes : List ℕ) → outputs copies copy_writes c bytes ≡ flat_map (ordered c.is_turned) (units c.unit (c.held ++ bytes))
   copies_units bytes = copies_cut c some bytes ∙ ap (flat_map (ordered c.is_turned)) (cut_units c.unit some c.held bytes short)
 
-  -- bytes that make no unit whole
-  pub copies_held : (bytes : List ℕ) → length c.held + length bytes < c.unit → (fold copies c bytes ≡ holding c (c.held ++ bytes)) × (outputs copies copy_writes c bytes ≡ [])
-  copies_held bytes l =
-      let less : length (c.held ++ bytes) < c.unit = omega (arith, length-append c.held bytes) in (
-        copies_rest bytes ∙ ap (holding c) (rest_short c.unit some (c.held ++ bytes) less),
-        copies_units bytes ∙ ap (flat_map (ordered c.is_turned)) (units_none c.unit some (c.held ++ bytes) less),
-      )
+  -- bytes that come to whole units and more of them, and fewer bytes than a unit after them
+  module _ (bytes first others tail : List ℕ) (fed : Fed c.unit c.held bytes first others tail) where
+    abbrev k : ℕ
+    k = c.unit
 
-  -- bytes up to the end of a unit, and fewer behind it
-  pub copies_whole : (n : ℕ) (bytes whole tail : List ℕ) → c.held ++ bytes ≡ whole ++ tail → length whole ≡ n * c.unit → length tail < c.unit
-      → (fold copies c bytes ≡ holding c tail) × (outputs copies copy_writes c bytes ≡ cond c.is_turned (turned c.unit whole) whole)
-  copies_whole n bytes whole tail e size l = (
-    copies_rest bytes ∙ ap (λ v. holding c (rest_part c.unit v)) e ∙ ap (holding c) (rest_tail c.unit some n whole tail size l),
-    copies_units bytes ∙ ap (λ v. flat_map (ordered c.is_turned) (units c.unit v)) e ∙ units_ordered c.unit some c.is_turned n whole tail size l,
-  )
+    abbrev out : List ℕ → List ℕ
+    out v = cond c.is_turned (turned k v) v
 
-  -- what a call that writes the units leaves
-  pub whole_goes : {T E : Type 0} (n : ℕ) (bytes whole tail : List ℕ) (held holds : Option (List ℕ)) (new : Copying) (r : Result T E) → c.held ++ bytes ≡ whole ++ tail → length whole ≡ n * c.unit → length tail < c.unit
-      → OnOk r (new ≡ holding c tail) → Puts held holds (cond c.is_turned (turned c.unit whole) whole) r → Goes copies copy_writes c held new holds bytes r
-  whole_goes n bytes whole tail held holds new (Ok x) e size l state put =
-      let w = copies_whole n bytes whole tail e size l in
-      (state ∙ sym w.0, put ∙ ap (append_known held) (sym w.1))
-  whole_goes n bytes whole tail held holds new (Err x) e size l state put =
-      let w = copies_whole n bytes whole tail e size l in
-      subst (AppendsFront held holds) (sym w.1) put
+    abbrev n : ℕ
+    n = length first / k
 
-some_of : (n k : ℕ) → n < k → 0 < k
-some_of n k l = omega arith
+    abbrev m : ℕ
+    m = length others / k
 
--- a unit has just the bytes that it lacked
-lacked : (h n k : ℕ) → 0 < n → h < k → n ≡ cond (h == 0) 0 (k - h) → h + n ≡ k
-lacked h n k any l e = by_test (h == 0) e
-  where
-    by_test : (t : Bool) → n ≡ cond t 0 (k - h) → h + n ≡ k
-    by_test true e = absurd (omega arith)
-    by_test false e = omega arith
+    fed_state : fold copies c bytes ≡ holding c tail
+    fed_state =
+        copies_rest bytes ∙ ap (λ v. holding c (rest_part k v)) (fed_parts fed) ∙ ap (holding c) (rest_tail k some (n + m) (first ++ others) tail (both_size fed) fed.left)
 
-module _ (c : Copying) (short : length c.held < c.unit) where
-  any : 0 < c.unit
-  any = some_of (length c.held) c.unit short
+    fed_bytes : outputs copies copy_writes c bytes ≡ out first ++ out others
+    fed_bytes =
+        copies_units bytes
+        ∙ ap (λ v. flat_map (ordered c.is_turned) (units k v)) fed.all
+        ∙ ap (flat_map (ordered c.is_turned)) (units_append k some n first (others ++ tail) (first_size fed))
+        ∙ flat_map-append (ordered c.is_turned) (units k first) (units k (others ++ tail))
+        ∙ ap (λ z. z ++ flat_map (ordered c.is_turned) (units k (others ++ tail))) (ap (λ v. flat_map (ordered c.is_turned) (units k v)) (sym (append-nil first)) ∙ units_ordered k some c.is_turned n first [] (first_size fed) some)
+        ∙ ap (λ z. out first ++ z) (units_ordered k some c.is_turned m others tail (sym fed.whole) fed.left)
 
-  -- bytes that are held back
-  pub held_goes : (held : Option (List ℕ)) (bytes : List ℕ) (new : Copying) → length c.held + length bytes < c.unit → new ≡ holding c (c.held ++ bytes)
-      → (new ≡ fold copies c bytes) × (held ≡ append_known held (outputs copies copy_writes c bytes))
-  held_goes held bytes new l state =
-      let w = copies_held c any short bytes l in
-      (state ∙ sym w.0, sym (append_known_none held) ∙ ap (append_known held) (sym w.1))
+    pub fed_stops : {T E : Type 0} (held holds : Option (List ℕ)) (new : Copying) (r : Result T E) → IsErr r → AppendsFront held holds (cond c.is_turned (turned c.unit first) first) → Goes copies copy_writes c held new holds bytes r
+    fed_stops held holds new (Ok x) e front = cc
+    fed_stops held holds new (Err x) e front = subst (AppendsFront held holds) (sym fed_bytes) (front_longer (out others) front)
 
-  -- a unit that is completed
-  pub completed_goes : {T E : Type 0} (held holds : Option (List ℕ)) (bytes whole : List ℕ) (new : Copying) (r : Result T E) → 0 < length bytes → length bytes ≡ cond (length c.held == 0) 0 (c.unit - length c.held)
-      → whole ≡ c.held ++ bytes → new ≡ holding c [] → Puts held holds (cond c.is_turned (turned c.unit whole) whole) r → Goes copies copy_writes c held new holds bytes r
-  completed_goes held holds bytes whole new r more lacks e state put =
-      let all : length c.held + length bytes ≡ c.unit = lacked (length c.held) (length bytes) c.unit more short lacks in
-      let size : length whole ≡ 1 * c.unit = ap length e ∙ length-append c.held bytes ∙ all ∙ (let one : c.unit ≡ 1 * c.unit = omega arith in one) in
-      whole_goes c any short 1 bytes whole [] held holds new r (sym e ∙ sym (append-nil whole)) size any (whenever r) put
-    where
-      whenever : {T E : Type 0} (r : Result T E) → OnOk r (new ≡ holding c [])
-      whenever (Ok x) = state
-      whenever (Err x) = tt
-
-  module _ (none : c.held ≡ []) where
-    begins_whole : (bytes whole tail : List ℕ) (n : ℕ) → whole ≡ take n bytes → tail ≡ drop n bytes → c.held ++ bytes ≡ whole ++ tail
-    begins_whole bytes whole tail n front back = ap (λ h. h ++ bytes) none ∙ sym (ap (λ w. w ++ tail) front ∙ ap (λ t. take n bytes ++ t) back ∙ take-append-drop n bytes)
-
-    -- units that are written, and bytes behind them that are held back
-    pub units_went : (held holds : Option (List ℕ)) (bytes whole tail : List ℕ) (new : Copying) (n size : ℕ) → whole ≡ take size bytes → tail ≡ drop size bytes → length whole ≡ n * c.unit → length tail < c.unit
-        → new ≡ holding c (c.held ++ tail) → holds ≡ append_known held (cond c.is_turned (turned c.unit whole) whole)
-        → (new ≡ fold copies c bytes) × (holds ≡ append_known held (outputs copies copy_writes c bytes))
-    units_went held holds bytes whole tail new n size front back long l state put =
-        whole_goes c any short {T = Unit {0}} {E = Unit {0}} n bytes whole tail held holds new (Ok tt) (begins_whole bytes whole tail size front back) long l (state ∙ ap (λ h. holding c (h ++ tail)) none) put
-
-    pub units_stopped : {T E : Type 0} (held holds : Option (List ℕ)) (bytes whole tail : List ℕ) (new : Copying) (n size : ℕ) (r : Result T E) → whole ≡ take size bytes → tail ≡ drop size bytes → length whole ≡ n * c.unit → length tail < c.unit
-        → IsErr r → AppendsFront held holds (cond c.is_turned (turned c.unit whole) whole) → Goes copies copy_writes c held new holds bytes r
-    units_stopped held holds bytes whole tail new n size (Ok x) front back long l e put = cc
-    units_stopped {T} {E} held holds bytes whole tail new n size (Err x) front back long l e put =
-        whole_goes c any short {T = T} {E = E} n bytes whole tail held holds new (Err x) (begins_whole bytes whole tail size front back) long l tt put
-
--- one part and then another
-pub parts_go : {T E : Type 0} (c mid new : Copying) (held between holds : Option (List ℕ)) (bytes first others : List ℕ) (n : ℕ) (r : Result T E) → first ≡ take n bytes → others ≡ drop n bytes
-    → (mid ≡ fold copies c first) × (between ≡ append_known held (outputs copies copy_writes c first)) → Goes copies copy_writes mid between new holds others r → Goes copies copy_writes c held new holds bytes r
-parts_go c mid new held between holds bytes first others n r front back a b =
-    let whole : first ++ others ≡ bytes = ap (λ w. w ++ others) front ∙ ap (λ t. take n bytes ++ t) back ∙ take-append-drop n bytes in
-    subst (λ v. Goes copies copy_writes c held new holds v r) whole (goes_on copies copy_writes c held mid between new holds first others r a.0 a.1 b)
-
-pub parts_stop : {T E : Type 0} (c new : Copying) (held holds : Option (List ℕ)) (bytes first others : List ℕ) (n : ℕ) (r : Result T E) → first ≡ take n bytes → others ≡ drop n bytes → IsErr r
-    → AppendsFront held holds (outputs copies copy_writes c first) → Goes copies copy_writes c held new holds bytes r
-parts_stop c new held holds bytes first others n r front back e a =
-    let whole : first ++ others ≡ bytes = ap (λ w. w ++ others) front ∙ ap (λ t. take n bytes ++ t) back ∙ take-append-drop n bytes in
-    subst (λ v. Goes copies copy_writes c held new holds v r) whole (goes_failed copies copy_writes c held new holds first others r e a)
+    pub fed_goes : {T E : Type 0} (held mid holds : Option (List ℕ)) (new : Copying) (r : Result T E) → new ≡ holding c tail → mid ≡ append_known held (cond c.is_turned (turned c.unit first) first) → Puts mid holds (cond c.is_turned (turned c.unit others) others) r
+        → Goes copies copy_writes c held new holds bytes r
+    fed_goes held mid holds new r state went puts = by_result r (subst (λ bs. Puts held holds bs r) (sym fed_bytes) (puts_behind held mid holds (out first) (out others) r went puts))
+      where
+        by_result : {T E : Type 0} (r : Result T E) → Puts held holds (outputs copies copy_writes c bytes) r → Goes copies copy_writes c held new holds bytes r
+        by_result (Ok x) put = (state ∙ sym fed_state, put)
+        by_result (Err x) put = put

@@ -7,9 +7,8 @@ ghost use Rattle.dcm_base.specs.Steps.{Goes};
 ghost use Rattle.dcm_base.specs.Value.{turned};
 ghost use Rattle.dcm_tools.specs.EncodeSink as spec;
 
-use arrayvec::ArrayVec;
 use dcm_base::{DeviceOut, Syntax, Vr, Watched, WriteFailed, put_all};
-use dcm_value::swap;
+use dcm_value::{UnitBuffer, swap};
 
 /// The bytes of the longest unit.
 const LONGEST_UNIT: usize = 8;
@@ -28,9 +27,9 @@ const FRAGMENT_PAD: u8 = 0;
 pub struct Copier {
     vr: Vr,
     is_turned: bool,
-    held: ArrayVec<u8, LONGEST_UNIT>,
+    held: UnitBuffer<LONGEST_UNIT>,
     pad: Option<u8>,
-    ghost short: { length held.items < unit vr },
+    ghost short: { length held.bytes.items < unit vr },
 }
 
 /// Whether a value of this size, with its pad byte, is too long for a length of two bytes.
@@ -64,7 +63,7 @@ fn put_turned<W: DeviceOut>(vr: Vr, bytes: &[u8], out: &mut Watched<W>) -> Resul
     ensures bytes { Puts (W.contents out.old) (W.contents out.new) (turned (unit vr) bytes.now) result }
     ensures failed { Tells (W.has_failed out.old) (W.has_failed out.new) result }
 {
-    if vr.unit() == 1 {
+    if vr.unit() == 1 || bytes.is_empty() {
         return put_all(out, bytes);
     }
     let mut block = [0u8; BLOCK];
@@ -104,7 +103,7 @@ impl Copier {
         Copier {
             vr,
             is_turned: is_turned(source, target, vr, size),
-            held: ArrayVec::new(),
+            held: UnitBuffer::new(),
             pad: padding(size, vr.pad()),
         }
     }
@@ -116,7 +115,7 @@ impl Copier {
         Copier {
             vr: Vr::OB,
             is_turned: false,
-            held: ArrayVec::new(),
+            held: UnitBuffer::new(),
             pad: padding(size, FRAGMENT_PAD),
         }
     }
@@ -130,69 +129,9 @@ impl Copier {
         ensures goes { Goes spec.copies spec.copy_writes (copying self.old) (W.contents out.old) (copying self.new) (W.contents out.new) bytes.now result }
         ensures failed { Tells (W.has_failed out.old) (W.has_failed out.new) result }
     {
-        let lacking = self.lacking();
-        if bytes.len() < lacking {
-            self.hold(bytes);
-            return Ok(());
-        }
-        let (start, rest) = bytes.split_at(lacking);
-        self.complete(start, out)?;
-        self.feed_units(rest, out)
-    }
-
-    /// How many bytes the unit lacks that is held back.
-    fn lacking(&self) -> usize
-        ensures { result ≡ (if length self.now.held.items == 0 then 0 else unit self.now.vr - length self.now.held.items) }
-    {
-        if self.held.is_empty() {
-            0
-        } else {
-            self.vr.unit() - self.held.len()
-        }
-    }
-
-    /// Keeps bytes of a unit that is not whole.
-    fn hold(&mut self, bytes: &[u8])
-        requires { length self.old.held.items + length bytes.now < unit self.old.vr }
-        ensures { copying self.new ≡ record (copying self.old) { held = self.old.held.items ++ bytes.now } }
-    {
-        let _ = self.held.try_extend_from_slice(bytes);
-    }
-
-    /// Takes the bytes that the unit lacks that is held back, and writes it.
-    fn complete<W: DeviceOut>(
-        &mut self,
-        bytes: &[u8],
-        out: &mut Watched<W>,
-    ) -> Result<(), WriteFailed>
-        requires { length bytes.now ≡ (if length self.old.held.items == 0 then 0 else unit self.old.vr - length self.old.held.items) }
-        ensures goes { Goes spec.copies spec.copy_writes (copying self.old) (W.contents out.old) (copying self.new) (W.contents out.new) bytes.now result }
-        ensures held { OnOk result (self.new.held.items ≡ []) }
-        ensures failed { Tells (W.has_failed out.old) (W.has_failed out.new) result }
-    {
-        if bytes.is_empty() {
-            return Ok(());
-        }
-        let mut unit = self.held.take();
-        let _ = unit.try_extend_from_slice(bytes);
-        self.put_units(unit.as_slice(), out)
-    }
-
-    /// Takes bytes that begin with a unit.
-    fn feed_units<W: DeviceOut>(
-        &mut self,
-        bytes: &[u8],
-        out: &mut Watched<W>,
-    ) -> Result<(), WriteFailed>
-        requires { self.old.held.items ≡ [] }
-        ensures goes { Goes spec.copies spec.copy_writes (copying self.old) (W.contents out.old) (copying self.new) (W.contents out.new) bytes.now result }
-        ensures failed { Tells (W.has_failed out.old) (W.has_failed out.new) result }
-    {
-        let size = self.vr.unit();
-        let (whole, tail) = bytes.split_at(bytes.len() / size * size);
-        self.put_units(whole, out)?;
-        self.hold(tail);
-        Ok(())
+        let units = self.held.feed(self.vr.unit(), bytes);
+        self.put_units(units.first.as_slice(), out)?;
+        self.put_units(units.others, out)
     }
 
     /// Writes whole units.
@@ -207,7 +146,7 @@ impl Copier {
         }
     }
 
-    /// Writes the bytes behind the last whole unit, and the pad byte of an odd value.
+    /// Writes the bytes after the last whole unit, and the pad byte of an odd value.
     pub fn close<W: DeviceOut>(&self, out: &mut Watched<W>) -> Result<(), WriteFailed>
         ensures bytes { Puts (W.contents out.old) (W.contents out.new) (spec.copy_ends (copying self.now)) result }
         ensures failed { Tells (W.has_failed out.old) (W.has_failed out.new) result }

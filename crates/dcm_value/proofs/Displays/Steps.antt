@@ -1,5 +1,5 @@
 -- What many bytes lead to.
-use Rattle.std.proofs.Common.{◌≡◌, ◌<◌, ℕ, zero, suc, ◌+◌, ◌-◌, ◌*◌, ◌%◌, ◌==◌, ◌&&◌, List, [], ◌∷◌, ◌++◌, length, take, drop, codes, ap, sym, ◌∙◌, arith, refl, append_assoc, cond, true, false, Bool, fold, eq-eqb, ne_eqb, subst, suc-mul, get_or, nat_lt}
+use Rattle.std.proofs.Common.{◌≡◌, ◌<◌, ℕ, zero, suc, ◌+◌, ◌*◌, ◌%◌, ◌==◌, ◌&&◌, List, [], ◌∷◌, ◌++◌, length, take, drop, codes, ap, sym, ◌∙◌, arith, refl, append_assoc, cond, false, Bool, fold, eq-eqb, ne_eqb, subst, suc-mul, get_or}
 use Rattle.std.specs.Prelude.{count_by, Option, Result, Ok, Err, OnOk, IsErr}
 use Rattle.std.specs.Io.KnownBytes.{append_known}
 use Rattle.dcm_base.specs.Device.{Puts, AppendsFront}
@@ -17,7 +17,7 @@ use Rattle.dcm_value.specs.declared.way.Way.{Way}
 use Rattle.dcm_value.specs.declared.way.Way.TheVariants.{InBrackets, ByName, InUnits}
 use Rattle.dcm_value.specs.Display.{Display, emit, at_once, ending}
 use Rattle.dcm_value.specs.Units.{one_text, separated}
-use Rattle.dcm_value.specs.Progress.{Progress, way, further, waits, step, writes, adds, adds_as, held_as, counts_as, is_whole, is_pad_byte, separator, lacking, opening, opening_writes, opened, feeds, closing, finishes}
+use Rattle.dcm_value.specs.Progress.{Progress, way, further, waits, step, writes, adds, adds_as, held_as, counts_as, is_whole, is_pad_byte, separator, opening, opening_writes, opened, feeds, closing, finishes}
 use Rattle.dcm_value.proofs.Displays.Emits.{IsSettled, emit_twice, emit_settled, emit_mode, once_none, once_append}
 
 -- bytes that lead from one progress to another, and show this
@@ -189,23 +189,6 @@ goes_stops {T} {E} p held t holds xs ys all r split failed h = subst (λ v. Goes
 -- the bytes before the last, and the last
 pub last_apart : (xs : List ℕ) (n : ℕ) → n + 1 ≡ length xs → xs ≡ take n xs ++ get_or xs n 0 ∷ []
 last_apart xs n e = sym (ap (λ k. take k xs) e ∙ take-length xs) ∙ take_more xs n 0 (omega arith)
-
-pub split_apart : (xs front back : List ℕ) (n : ℕ) → front ≡ take n xs → back ≡ drop n xs → xs ≡ front ++ back
-split_apart xs front back n f b = sym (take-append-drop n xs) ∙ ap (λ ys. ys ++ drop n xs) (sym f) ∙ ap (λ ys. front ++ ys) (sym b)
-
--- what a unit lacks makes it whole
-pub lacks_all : (p : Progress) (v : List ℕ) → 0 < length v → length v ≡ lacking p → length p.held < shown_unit p.vr → length p.held + length v ≡ shown_unit p.vr
-lacks_all p v some e short =
-    elim_on (length p.held == 0 && nat_lt 0 p.values) e
-  where
-    elim_on : (t : Bool) → length v ≡ cond t 0 (shown_unit p.vr - length p.held) → length p.held + length v ≡ shown_unit p.vr
-    elim_on true x = absurd (omega arith)
-    elim_on false x = omega arith
-
--- a unit that was completed
-pub completed_goes : {T E : Type 0} (p : Progress) (held : Option (List ℕ)) (now : Progress) (holds : Option (List ℕ)) (v t : List ℕ) (r : Result T E) → Leads p v (further p (length v) [] 1 t) t → OnOk r (now ≡ further (record p { seen = p.seen + length v; held = [] }) 0 [] 1 t) → Puts held holds (at_once p.display.mode t) r → Goes step writes p held now holds v r
-completed_goes {T} {E} p held now holds v t (Ok x) l state bytes = leads_goes {T = T} {E = E} p (further p (length v) [] 1 t) held now holds v t (Ok x) l (state ∙ same_progress p _ _ _ _ _ _ _ _ (omega arith) refl refl refl) bytes
-completed_goes {T} {E} p held now holds v t (Err x) l state bytes = leads_goes {T = T} {E = E} p (further p (length v) [] 1 t) held now holds v t (Err x) l tt bytes
 
 -- what an opening makes of it
 pub opened_as : (p : Progress) (d : Display) → d ≡ emit p.display (opening p) → (let q : Progress = record p { display = d } in q) ≡ opened p

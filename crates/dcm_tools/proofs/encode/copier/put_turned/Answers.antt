@@ -1,17 +1,25 @@
-use Rattle.std.proofs.Common.{rules, refl, ◌≡◌, ◌∙◌, ap, sym}
+use Rattle.std.proofs.Common.{rules, refl, ◌≡◌, ◌∙◌, sym, length, ℕ, arith}
 use Rattle.dcm_base.specs.Representation.{unit}
 use Rattle.dcm_base.specs.Value.{turned}
+use Rattle.dcm_base.proofs.Conversions.Order.{turned_short, unit_some}
 use Rattle.dcm_value.proofs.UnitOrder.Reversals.{turned-one}
 use Rattle.dcm_tools.proofs.Conversions.Turned.{put_none, put_more, put_failed, turned_block}
 use Rattle.dcm_tools.proofs.encode.copier.put_turned.Goals as goal
+use Rattle.dcm_tools.proofs.encode.copier.put_turned.Goals.{then-unit-eq1-via-then-unit-eq1, then-unit-eq1-via-else-unit-eq1+then-is_empty}
 
 pub loop-rest-init : goal.loop-rest-init
 loop-rest-init g c = record { out = put_none _ _; failed = refl }
 
 pub returns-then-unit-eq1-clause-bytes : goal.returns-then-unit-eq1-clause-bytes
 returns-then-unit-eq1-clause-bytes g c =
-    let one : unit c.args.vr ≡ 1 = search rules in
-    let same : turned (unit c.args.vr) c.args.bytes.now ≡ c.args.bytes.now = ap (λ k. turned k c.args.bytes.now) one ∙ sym (turned-one 1 c.args.bytes.now refl) in
+    let k : ℕ = unit c.args.vr in
+    let v = c.args.bytes.now in
+    let same : turned k v ≡ v =
+    elim c.then-unit-eq1.branch [
+      | then-unit-eq1-via-then-unit-eq1 w ↦ (let one : k ≡ 1 = search rules in sym (turned-one k v one))
+      | then-unit-eq1-via-else-unit-eq1+then-is_empty w ↦ (let none : length v ≡ 0 = search rules in turned_short k (unit_some c.args.vr) v (let some = unit_some c.args.vr in omega arith))
+    ]
+    in
     rw same c.put_all.ensures.bytes
 
 pub returns-in_err-put_block-clause-bytes : goal.returns-in_err-put_block-clause-bytes

@@ -1,9 +1,9 @@
-use Rattle.std.proofs.Common.{rules, sym, ◌∙◌, ap, ◌≡◌, fold}
+use Rattle.std.proofs.Common.{rules, refl, sym, ◌∙◌, ap, ◌≡◌, fold}
 use Rattle.dcm_value.specs.declared.way.Way.TheVariants.{ByName}
 use Rattle.dcm_value.specs.ValueText.{progress}
 use Rattle.dcm_value.specs.Progress.{way, step}
 use Rattle.dcm_value.proofs.Displays.Emits.{settled_of}
-use Rattle.dcm_value.proofs.Displays.Steps.{leads_name, feeds_on, opening_waits, opening_failed}
+use Rattle.dcm_value.proofs.Displays.Steps.{same_progress, leads_name, feeds_on, opening_waits, opening_failed}
 use Rattle.dcm_value.proofs.value_text.ValueText.feed.Goals as goal
 
 pub returns-in_err-open-clause-bytes : goal.returns-in_err-open-clause-bytes
@@ -18,7 +18,7 @@ returns-in-ByName-clause-state g c =
     let s = c.open.new.self.shown in
     let is_way : way q ≡ ByName = search rules in
     let name = leads_name q c.args.bytes.now is_way (settled_of s.mode s.count s.front.items s.capped s.filled) in
-    c.hold.ensures ∙ sym name.state ∙ ap (λ x. fold step x c.args.bytes.now) c.in_ok-open.ensures.state
+    same_progress q _ _ _ _ _ _ _ _ refl c.hold.ensures refl refl ∙ sym name.state ∙ ap (λ x. fold step x c.args.bytes.now) c.in_ok-open.ensures.state
 
 pub returns-in-ByName-clause-bytes : goal.returns-in-ByName-clause-bytes
 returns-in-ByName-clause-bytes g c =

@@ -1,22 +1,26 @@
-use Rattle.std.proofs.Common.{refl, sym, ap, ◌+◌, ◌/◌, length, [], ℕ}
-use Rattle.dcm_base.specs.Value.{pieces}
-use Rattle.dcm_base.specs.ValueText.{shown_unit}
-use Rattle.dcm_value.specs.Units.{one_text, separated}
+use Rattle.std.proofs.Common.{rules, ◌≡◌, ◌<◌, length}
 use Rattle.dcm_value.specs.ValueText.{progress}
-use Rattle.dcm_value.proofs.Displays.Emits.{settled_of}
 use Rattle.dcm_value.proofs.UnitOrder.HighestFirst.{shown_some}
-use Rattle.dcm_value.proofs.Displays.Steps.{shown_goes, leads_units, same_progress}
+use Rattle.dcm_value.proofs.Displays.UnitSteps.{others_state, others_bytes, first_failed}
 use Rattle.dcm_value.proofs.value_text.ValueText.show_units.Goals as goal
 
-pub returns-clause-goes : goal.returns-clause-goes
-returns-clause-goes g c =
+pub returns-in_err-show_first-clause-bytes : goal.returns-in_err-show_first-clause-bytes
+returns-in_err-show_first-clause-bytes g c =
     let p = progress c.args.self.now in
-    let s = c.args.self.now.shown in
-    let v = c.args.units.now in
-    let k : ℕ = shown_unit p.vr in
-    let settled = settled_of s.mode s.count s.front.items s.capped s.filled in
-    shown_goes p _ _ _ v (length v) [] (length v / k) (separated (one_text p.vr p.syntax) (pieces (length v / k) k v)) c.emit_units.result
-    (leads_units (length v / k) p v c.requires.way settled c.requires.held c.requires.values (sym c.requires.whole) (shown_some p.vr))
-    (same_progress p _ _ _ _ _ _ _ _ refl c.requires.held (ap (λ n. p.values + length v / n) c.shown_unit.ensures.value) refl)
-    c.emit_units.ensures.state
-    c.emit_units.ensures.bytes
+    let none : p.values ≡ 0 = search rules in
+    let any : 0 < length c.args.units.now = search rules in
+    first_failed p (shown_some p.vr) c.args.units.now c.split_at.result.0.now c.split_at.result.1.now none any c.requires.whole (search rules) (search rules) _ _ _ c.from_residual.ensures.0 c.in_err-show_first.ensures.bytes
+
+pub returns-clause-state : goal.returns-clause-state
+returns-clause-state g c =
+    let p = progress c.args.self.now in
+    let none : p.values ≡ 0 = search rules in
+    let any : 0 < length c.args.units.now = search rules in
+    others_state p (shown_some p.vr) c.args.units.now c.split_at.result.0.now c.split_at.result.1.now none any c.requires.whole (search rules) (search rules) _ c.in_ok-show_first.ensures.state _ _ c.show_others-2.ensures.state
+
+pub returns-clause-bytes : goal.returns-clause-bytes
+returns-clause-bytes g c =
+    let p = progress c.args.self.now in
+    let none : p.values ≡ 0 = search rules in
+    let any : 0 < length c.args.units.now = search rules in
+    others_bytes p (shown_some p.vr) c.args.units.now c.split_at.result.0.now c.split_at.result.1.now none any c.requires.whole (search rules) (search rules) _ c.in_ok-show_first.ensures.state _ _ _ _ c.in_ok-show_first.ensures.bytes c.show_others-2.ensures.bytes

@@ -4,4 +4,4 @@ use Rattle.dcm_tools.proofs.encode.copier.Copier.close.Goals as goal
 
 pub returns-in_err-put_all-clause-bytes : goal.returns-in_err-put_all-clause-bytes
 returns-in_err-put_all-clause-bytes g c =
-    puts_err _ _ _ c.from_residual.result c.from_residual.ensures.0 (rw (← c.as_slice.ensures.value) (front_longer (option_to_list c.args.self.now.pad) c.in_err-put_all.ensures.bytes))
+    puts_err _ _ _ c.from_residual.result c.from_residual.ensures.0 (rw (← c.as_slice.ensures) (front_longer (option_to_list c.args.self.now.pad) c.in_err-put_all.ensures.bytes))
