@@ -1,12 +1,14 @@
 -- What the pass over a data set through edits leaves.
 use Rattle.std.specs.Prelude.{◌≡◌, ℕ, ◌+◌, ◌*◌, List, [], ◌∷◌, Bool, true, Option, if◌then◌else◌}
 use Rattle.dcm_stream.specs.declared.sink.Sink.{Ghosts}
-use Rattle.dcm_stream.specs.Reading.{Reading}
+use Rattle.dcm_stream.specs.Reading.{Reading, start_of}
 use Rattle.dcm_edit.specs.Edit.{Edit}
 use Rattle.dcm_edit.specs.EditSink.{State, begun}
 use Rattle.dcm_edit.specs.Through.{through_bar, through_step, through_writes}
 use Rattle.dcm_cli.specs.declared.ending.Ending.{Ending}
-use Rattle.dcm_cli.specs.Pass.{BehindBegun, WasRead, with_unplaced}
+use Rattle.dcm_cli.specs.declared.rewrite.Opened.{Opened}
+use Rattle.dcm_cli.specs.Calls.{Reader}
+use Rattle.dcm_cli.specs.Pass.{BehindBegun, WasRead, set_bytes, with_unplaced}
 use Rattle.dcm_cli.specs.Stops.{BehindStops}
 
 -- of answers one after another those that are no: bit 0 is set for the first
@@ -25,3 +27,15 @@ pub record EditPass {S : Type 0} (sink : Ghosts S) (edits : List Edit) (old new 
 -- before the last piece the reading of a data set through edits had not halted
 abbrev pub EditStops : {S : Type 0} → Ghosts S → (edits : List Edit) → (old : S) → (first : Reading) → (buffered : List ℕ) → (is_over : Bool) → (had left : Option (List ℕ)) → Type 0
 EditStops sink edits old first buffered is_over had left = BehindStops through_bar (through_step sink.step) first (begun edits, sink.state old) buffered is_over had left
+
+-- where the data set of an opened file begins
+abbrev pub first_of : Opened → Reading
+first_of o = start_of o.coding.syntax o.start
+
+-- the same of an opened file, by the members of its reader
+abbrev pub Edits : {S R : Type 0} → Ghosts S → Reader R → (edits : List Edit) → (old new : S) → (had left : R) → Opened → (buffer : List ℕ) → Ending → Type 0
+Edits sink r edits old new had left o buffer ending =
+    EditPass sink edits old new (r.remaining had) (r.remaining left) (set_bytes o.begun buffer) (first_of o) o.begun.is_over ending
+
+abbrev pub Stops : {S R : Type 0} → Ghosts S → Reader R → (edits : List Edit) → (old : S) → (had left : R) → Opened → (buffer : List ℕ) → Type 0
+Stops sink r edits old had left o buffer = EditStops sink edits old (first_of o) (set_bytes o.begun buffer) o.begun.is_over (r.remaining had) (r.remaining left)

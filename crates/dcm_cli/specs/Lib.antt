@@ -13,5 +13,6 @@ pub mod DumpBuilds
 pub mod NoEdits
 pub mod ReadsAgain
 pub mod Opening
+pub mod Calls
 pub mod Stops
 pub mod Laws

@@ -1,10 +1,12 @@
 -- What the pass over a data set leaves of a sink, by the sink's members.
-use Rattle.std.specs.Prelude.{ℕ, List, Bool, Option, Result}
+use Rattle.std.specs.Prelude.{ℕ, List, Result}
 use Rattle.dcm_stream.specs.declared.machine.Halt.{Halt}
 use Rattle.dcm_stream.specs.declared.sink.Sink.{Ghosts}
 use Rattle.dcm_stream.specs.Machine.{Progress}
 use Rattle.dcm_stream.specs.Reading.{Reading}
 use Rattle.dcm_cli.specs.declared.ending.Ending.{Ending}
+use Rattle.dcm_cli.specs.declared.head.Begun.{Begun}
+use Rattle.dcm_cli.specs.Calls.{Reader}
 use Rattle.dcm_cli.specs.Pass as pass
 use Rattle.dcm_cli.specs.Stops as stops
 
@@ -18,20 +20,23 @@ abbrev pub EndsSet : {S : Type 0} → Ghosts S → (old new : S) → Reading →
 EndsSet sink old new before r = pass.EndsSet sink.step sink.writes before (sink.state old) (sink.contents old) (sink.state new) (sink.contents new) r
 
 -- the rest of an input was read as a data set that was read up to here
-abbrev pub Pumps : {S : Type 0} → Ghosts S → (old new : S) → (had left : Option (List ℕ)) → Reading → Ending → Type 0
-Pumps sink old new had left before ending = pass.Pumps sink.bar sink.step sink.writes had before (sink.state old) (sink.contents old) left (sink.state new) (sink.contents new) ending
+abbrev pub Pumps : {S R : Type 0} → Ghosts S → Reader R → (old new : S) → (had left : R) → Reading → Ending → Type 0
+Pumps sink r old new had left before ending =
+    pass.Pumps sink.bar sink.step sink.writes (r.remaining had) before (sink.state old) (sink.contents old) (r.remaining left) (sink.state new) (sink.contents new) ending
 
 -- and a data set whose first bytes were read with the head of its file
-abbrev pub BehindBegun : {S : Type 0} → Ghosts S → (old new : S) → (had left : Option (List ℕ)) → (begun : List ℕ) → Reading → Ending → Type 0
-BehindBegun sink old new had left begun first ending = pass.BehindBegun sink.bar sink.step sink.writes had begun first (sink.state old) (sink.contents old) left (sink.state new) (sink.contents new) ending
+abbrev pub BehindBegun : {S R : Type 0} → Ghosts S → Reader R → (old new : S) → (had left : R) → Begun → (buffer : List ℕ) → Reading → Ending → Type 0
+BehindBegun sink r old new had left begun buffer first ending =
+    pass.BehindBegun sink.bar sink.step sink.writes (r.remaining had) (pass.set_bytes begun buffer) first (sink.state old) (sink.contents old) (r.remaining left) (sink.state new) (sink.contents new) ending
 
 -- its writer failed in the call exactly where that is the ending
 abbrev pub TellsOutput : {S : Type 0} → Ghosts S → (old new : S) → Ending → Type 0
 TellsOutput sink old new ending = pass.TellsOutput (sink.has_failed old) (sink.has_failed new) ending
 
 -- before the last piece the reading of a data set, of which these bytes were read, had not halted
-abbrev pub Stops : {S : Type 0} → Ghosts S → (old : S) → (first : Reading) → (begun : List ℕ) → (had left : Option (List ℕ)) → Type 0
-Stops sink old first begun had left = stops.SetStops sink.bar sink.step first (sink.state old) begun had left
+abbrev pub Stops : {S R : Type 0} → Ghosts S → Reader R → (old : S) → (first : Reading) → (begun : List ℕ) → (had left : R) → Type 0
+Stops sink r old first begun had left = stops.SetStops sink.bar sink.step first (sink.state old) begun (r.remaining had) (r.remaining left)
 
-abbrev pub BehindStops : {S : Type 0} → Ghosts S → (old : S) → (first : Reading) → (begun : List ℕ) → (is_over : Bool) → (had left : Option (List ℕ)) → Type 0
-BehindStops sink old first begun is_over had left = stops.BehindStops sink.bar sink.step first (sink.state old) begun is_over had left
+abbrev pub BehindStops : {S R : Type 0} → Ghosts S → Reader R → (old : S) → (had left : R) → Begun → (buffer : List ℕ) → (first : Reading) → Type 0
+BehindStops sink r old had left begun buffer first =
+    stops.BehindStops sink.bar sink.step first (sink.state old) (pass.set_bytes begun buffer) begun.is_over (r.remaining had) (r.remaining left)

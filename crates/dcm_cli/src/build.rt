@@ -1,11 +1,10 @@
 // The building of a file from the lines of a dump.
-ghost use Rattle.std.specs.Prelude.{◌≡◌, ◌≤◌, ◌<◌, ℕ, List, length, Some, false};
+ghost use Rattle.std.specs.Prelude.{◌≡◌, ◌≤◌, ◌<◌, length, false};
 ghost use Rattle.dcm_words.specs.Words.{build as build_job};
 ghost use Rattle.dcm_build.specs.Builder as builder_spec;
+ghost use Rattle.dcm_cli.specs.Calls as calls;
 ghost use Rattle.dcm_cli.specs.Lines as lines;
 ghost use Rattle.dcm_cli.specs.Pass as spec;
-ghost use Rattle.dcm_cli.specs.Run.{Worked};
-ghost use Rattle.dcm_cli.specs.Stops.{Stops};
 
 use crate::ending::{Ending, Verdict};
 use dcm_base::{DeviceIn, DeviceOut, Watched, get_some};
@@ -45,8 +44,8 @@ fn build_lines<R: DeviceIn, W: DeviceOut>(
     requires limit { limit ≤ 16384 }
     requires room { 0 < length buffer.old }
     requires bound { length buffer.old ≤ 65536 }
-    ensures worked { (file : List ℕ) → R.remaining input.old ≡ Some file → Worked (build_job limit) file (R.remaining input.new) (W.contents out.old) (W.contents out.new) result }
-    ensures stops { (file : List ℕ) → R.remaining input.old ≡ Some file → Stops (build_job limit) file (R.remaining input.new) }
+    ensures worked { calls.Works R.DeviceIn W.DeviceOut (build_job limit) input.old input.new out.old out.new result }
+    ensures stops { calls.Stops R.DeviceIn (build_job limit) input.old input.new }
     ensures unread { spec.TellsUnread (R.has_failed input.old) (R.has_failed input.new) result }
     ensures failed { spec.TellsOutput (W.has_failed out.old) (W.has_failed out.new) result }
 {
@@ -71,8 +70,8 @@ pub fn build<R: DeviceIn, W: DeviceOut>(
     input: &mut Watched<R>,
     out: &mut Watched<W>,
 ) -> Ending
-    ensures worked { (file : List ℕ) → R.remaining input.old ≡ Some file → Worked (build_job build.limit) file (R.remaining input.new) (W.contents out.old) (W.contents out.new) result }
-    ensures stops { (file : List ℕ) → R.remaining input.old ≡ Some file → Stops (build_job build.limit) file (R.remaining input.new) }
+    ensures worked { calls.Works R.DeviceIn W.DeviceOut (build_job build.limit) input.old input.new out.old out.new result }
+    ensures stops { calls.Stops R.DeviceIn (build_job build.limit) input.old input.new }
     ensures unread { spec.TellsUnread (R.has_failed input.old) (R.has_failed input.new) result }
     ensures failed { spec.TellsOutput (W.has_failed out.old) (W.has_failed out.new) result }
 {

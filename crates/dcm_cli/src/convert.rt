@@ -1,9 +1,8 @@
 // The conversion of a file.
-ghost use Rattle.std.specs.Prelude.{◌≡◌, ◌≤◌, ◌<◌, ℕ, List, length, Some};
+ghost use Rattle.std.specs.Prelude.{◌≤◌, ◌<◌, length};
 ghost use Rattle.dcm_words.specs.Words.{convert as convert_job};
+ghost use Rattle.dcm_cli.specs.Calls as calls;
 ghost use Rattle.dcm_cli.specs.Pass as spec;
-ghost use Rattle.dcm_cli.specs.Run.{Worked};
-ghost use Rattle.dcm_cli.specs.Stops.{Stops};
 
 use crate::ending::Ending;
 use crate::pass::read_set;
@@ -24,8 +23,8 @@ fn convert_file<R: DeviceIn, W: DeviceOut>(
 ) -> Ending
     requires room { 0 < length buffer.old }
     requires bound { length buffer.old ≤ 262144 }
-    ensures worked { (file : List ℕ) → R.remaining input.old ≡ Some file → Worked (convert_job target) file (R.remaining input.new) (W.contents out.old) (W.contents out.new) result }
-    ensures stops { (file : List ℕ) → R.remaining input.old ≡ Some file → Stops (convert_job target) file (R.remaining input.new) }
+    ensures worked { calls.Works R.DeviceIn W.DeviceOut (convert_job target) input.old input.new out.old out.new result }
+    ensures stops { calls.Stops R.DeviceIn (convert_job target) input.old input.new }
     ensures unread { spec.TellsUnread (R.has_failed input.old) (R.has_failed input.new) result }
     ensures failed { spec.TellsOutput (W.has_failed out.old) (W.has_failed out.new) result }
 {
@@ -49,8 +48,8 @@ pub fn convert<R: DeviceIn, W: DeviceOut>(
     input: &mut Watched<R>,
     out: &mut Watched<W>,
 ) -> Ending
-    ensures worked { (file : List ℕ) → R.remaining input.old ≡ Some file → Worked (convert_job convert.target) file (R.remaining input.new) (W.contents out.old) (W.contents out.new) result }
-    ensures stops { (file : List ℕ) → R.remaining input.old ≡ Some file → Stops (convert_job convert.target) file (R.remaining input.new) }
+    ensures worked { calls.Works R.DeviceIn W.DeviceOut (convert_job convert.target) input.old input.new out.old out.new result }
+    ensures stops { calls.Stops R.DeviceIn (convert_job convert.target) input.old input.new }
     ensures unread { spec.TellsUnread (R.has_failed input.old) (R.has_failed input.new) result }
     ensures failed { spec.TellsOutput (W.has_failed out.old) (W.has_failed out.new) result }
 {

@@ -1,11 +1,10 @@
 // The dump of an input.
-ghost use Rattle.std.specs.Prelude.{◌≡◌, ◌≤◌, ◌<◌, ℕ, List, length, None, Some};
+ghost use Rattle.std.specs.Prelude.{◌≤◌, ◌<◌, length, None, Some};
 ghost use Rattle.dcm_base.specs.declared.mode.Mode.{Mode};
 ghost use Rattle.dcm_base.specs.declared.syntax.Syntax.{Syntax};
 ghost use Rattle.dcm_words.specs.Words.{dump as dump_job};
+ghost use Rattle.dcm_cli.specs.Calls as calls;
 ghost use Rattle.dcm_cli.specs.Pass as spec;
-ghost use Rattle.dcm_cli.specs.Run.{Worked};
-ghost use Rattle.dcm_cli.specs.Stops.{Stops};
 
 use crate::ending::{Ending, ending_of_head};
 use crate::head::{read_head_of, set_start};
@@ -29,8 +28,8 @@ fn dump_file<R: DeviceIn, W: DeviceOut>(
 ) -> Ending
     requires room { 0 < length buffer.old }
     requires bound { length buffer.old ≤ 65536 }
-    ensures worked { (file : List ℕ) → R.remaining input.old ≡ Some file → Worked (dump_job mode None) file (R.remaining input.new) (W.contents out.old) (W.contents out.new) result }
-    ensures stops { (file : List ℕ) → R.remaining input.old ≡ Some file → Stops (dump_job mode None) file (R.remaining input.new) }
+    ensures worked { calls.Works R.DeviceIn W.DeviceOut (dump_job mode None) input.old input.new out.old out.new result }
+    ensures stops { calls.Stops R.DeviceIn (dump_job mode None) input.old input.new }
     ensures unread { spec.TellsUnread (R.has_failed input.old) (R.has_failed input.new) result }
     ensures failed { spec.TellsOutput (W.has_failed out.old) (W.has_failed out.new) result }
 {
@@ -57,8 +56,8 @@ fn dump_set<R: DeviceIn, W: DeviceOut>(
 ) -> Ending
     requires room { 0 < length buffer.old }
     requires bound { length buffer.old ≤ 65536 }
-    ensures worked { (file : List ℕ) → R.remaining input.old ≡ Some file → Worked (dump_job mode (Some syntax)) file (R.remaining input.new) (W.contents out.old) (W.contents out.new) result }
-    ensures stops { (file : List ℕ) → R.remaining input.old ≡ Some file → Stops (dump_job mode (Some syntax)) file (R.remaining input.new) }
+    ensures worked { calls.Works R.DeviceIn W.DeviceOut (dump_job mode (Some syntax)) input.old input.new out.old out.new result }
+    ensures stops { calls.Stops R.DeviceIn (dump_job mode (Some syntax)) input.old input.new }
     ensures unread { spec.TellsUnread (R.has_failed input.old) (R.has_failed input.new) result }
     ensures failed { spec.TellsOutput (W.has_failed out.old) (W.has_failed out.new) result }
 {
@@ -79,8 +78,8 @@ pub fn dump<R: DeviceIn, W: DeviceOut>(
     input: &mut Watched<R>,
     out: &mut Watched<W>,
 ) -> Ending
-    ensures worked { (file : List ℕ) → R.remaining input.old ≡ Some file → Worked (dump_job dump.mode dump.bare) file (R.remaining input.new) (W.contents out.old) (W.contents out.new) result }
-    ensures stops { (file : List ℕ) → R.remaining input.old ≡ Some file → Stops (dump_job dump.mode dump.bare) file (R.remaining input.new) }
+    ensures worked { calls.Works R.DeviceIn W.DeviceOut (dump_job dump.mode dump.bare) input.old input.new out.old out.new result }
+    ensures stops { calls.Stops R.DeviceIn (dump_job dump.mode dump.bare) input.old input.new }
     ensures unread { spec.TellsUnread (R.has_failed input.old) (R.has_failed input.new) result }
     ensures failed { spec.TellsOutput (W.has_failed out.old) (W.has_failed out.new) result }
 {

@@ -1,6 +1,7 @@
 // The head of a file, out of a device.
-ghost use Rattle.std.specs.Prelude.{◌≡◌, ◌≤◌, ◌<◌, ◌^◌, length, IfOk, MatchResult};
+ghost use Rattle.std.specs.Prelude.{◌≡◌, ◌≤◌, ◌<◌, ◌^◌, length, IfOk};
 ghost use Rattle.dcm_head.specs.MetaReading.{HasEnded, at_start, meta_finished};
+ghost use Rattle.dcm_cli.specs.Calls as calls;
 ghost use Rattle.dcm_cli.specs.Pass as spec;
 ghost use Rattle.dcm_cli.specs.Stops.{HeadStops};
 
@@ -51,7 +52,7 @@ pub fn read_head_of<R: DeviceIn>(
     ensures within { IfOk result (λ b. (b.used ≤ b.filled) × (b.filled ≤ length buffer.new)) }
     ensures read { spec.HeadReads (R.remaining input.old) (R.remaining input.new) meta.new buffer.new result }
     ensures stops { HeadStops (R.remaining input.old) (R.remaining input.new) }
-    ensures failed { MatchResult result (λ b. R.has_failed input.new ≡ R.has_failed input.old) (λ e. spec.TellsUnread (R.has_failed input.old) (R.has_failed input.new) (spec.ending_of_head e)) }
+    ensures failed { calls.TellsHead R.DeviceIn input.old input.new result }
     ensures kept { length buffer.new ≡ length buffer.old }
 {
     let mut read: u64 = 0;

@@ -1,8 +1,5 @@
 // Runs over memory.
-ghost use Rattle.std.specs.Prelude.{◌≡◌, ◌≤◌, length, false};
-ghost use Rattle.dcm_base.specs.Memory.{room_of};
-ghost use Rattle.dcm_cli.specs.Answer.{Answer, Answers};
-ghost use Rattle.dcm_cli.specs.InMemory.{LeavesAnswer};
+ghost use Rattle.dcm_cli.specs.InMemory.{LeavesAnswers};
 ghost use Rattle.dcm_words.specs.Plans.{job_of};
 
 use crate::run::run;
@@ -20,7 +17,7 @@ pub struct InMemory {
 /// Does a job over memory. Where there is room for the whole output, no device fails that counts: the output and the status are
 /// those of the answer, and where there is room for its lines, they are written too.
 pub fn run_in_memory(job: &Job, input: MemIn, out: MemOut, errors: MemOut) -> InMemory
-    ensures { out.failed ≡ false → (a : Answer) → Answers (job_of job.now) input.entry.rest.now a → length a.output ≤ room_of out → LeavesAnswer a out result.out errors result.errors result.status }
+    ensures { LeavesAnswers (job_of job.now) input.entry.rest.now out result.out errors result.errors result.status }
 {
     let mut input = Watched::new(input);
     let mut out = Watched::new(Measured::new(out));

@@ -1,14 +1,12 @@
 // The edits of a file.
-ghost use Rattle.std.specs.Prelude.{◌≡◌, ◌≤◌, ◌<◌, ◌+◌, ◌^◌, ℕ, List, length, Some, true};
+ghost use Rattle.std.specs.Prelude.{◌≡◌, ◌≤◌, ◌<◌, ◌+◌, ◌^◌, length, true};
 ghost use Rattle.std.specs.Io.KnownBytes.{IsAtEnd};
 ghost use Rattle.dcm_edit.specs.Meaning.{AreMeant};
-ghost use Rattle.dcm_stream.specs.Reading.{start_of};
 ghost use Rattle.dcm_stream.specs.Sinks as sinks;
 ghost use Rattle.dcm_words.specs.Words.{modify as modify_job};
-ghost use Rattle.dcm_cli.specs.EditPass.{EditPass, EditStops};
+ghost use Rattle.dcm_cli.specs.Calls as calls;
+ghost use Rattle.dcm_cli.specs.EditPass as edit_pass;
 ghost use Rattle.dcm_cli.specs.Pass as spec;
-ghost use Rattle.dcm_cli.specs.Run.{Worked};
-ghost use Rattle.dcm_cli.specs.Stops.{Stops};
 ghost use Rattle.dcm_cli.specs.SinkPass as sink_pass;
 
 use crate::ending::{Ending, Verdict};
@@ -46,8 +44,8 @@ fn read_edited<R: DeviceIn, S: Sink>(
     requires within { (opened.begun.used ≤ opened.begun.filled) × (opened.begun.filled ≤ length buffer.old) }
     requires count { opened.start + length (spec.set_bytes opened.begun buffer.old) ≡ opened.begun.read }
     requires over { opened.begun.is_over ≡ true → IsAtEnd (R.remaining input.old) }
-    ensures stops { EditStops S.Sink edits.now sink.old (start_of opened.coding.syntax opened.start) (spec.set_bytes opened.begun buffer.old) opened.begun.is_over (R.remaining input.old) (R.remaining input.new) }
-    ensures passes { EditPass S.Sink edits.now sink.old sink.new (R.remaining input.old) (R.remaining input.new) (spec.set_bytes opened.begun buffer.old) (start_of opened.coding.syntax opened.start) opened.begun.is_over result }
+    ensures stops { edit_pass.Stops S.Sink R.DeviceIn edits.now sink.old input.old input.new opened buffer.old }
+    ensures passes { edit_pass.Edits S.Sink R.DeviceIn edits.now sink.old sink.new input.old input.new opened buffer.old result }
     ensures unread { spec.TellsUnread (R.has_failed input.old) (R.has_failed input.new) result }
     ensures failed { sink_pass.TellsOutput S.Sink sink.old sink.new result }
     ensures kept { sinks.Keeps S.Sink sink.old sink.new }
@@ -74,8 +72,8 @@ fn modify_file<R: DeviceIn, W: DeviceOut>(
     requires meant { AreMeant edits.now }
     requires room { 0 < length buffer.old }
     requires bound { length buffer.old ≤ 262144 }
-    ensures worked { (file : List ℕ) → R.remaining input.old ≡ Some file → Worked (modify_job edits.now) file (R.remaining input.new) (W.contents out.old) (W.contents out.new) result }
-    ensures stops { (file : List ℕ) → R.remaining input.old ≡ Some file → Stops (modify_job edits.now) file (R.remaining input.new) }
+    ensures worked { calls.Works R.DeviceIn W.DeviceOut (modify_job edits.now) input.old input.new out.old out.new result }
+    ensures stops { calls.Stops R.DeviceIn (modify_job edits.now) input.old input.new }
     ensures unread { spec.TellsUnread (R.has_failed input.old) (R.has_failed input.new) result }
     ensures failed { spec.TellsOutput (W.has_failed out.old) (W.has_failed out.new) result }
 {
@@ -93,8 +91,8 @@ pub fn modify<R: DeviceIn, W: DeviceOut>(
     input: &mut Watched<R>,
     out: &mut Watched<W>,
 ) -> Ending
-    ensures worked { (file : List ℕ) → R.remaining input.old ≡ Some file → Worked (modify_job edits.now) file (R.remaining input.new) (W.contents out.old) (W.contents out.new) result }
-    ensures stops { (file : List ℕ) → R.remaining input.old ≡ Some file → Stops (modify_job edits.now) file (R.remaining input.new) }
+    ensures worked { calls.Works R.DeviceIn W.DeviceOut (modify_job edits.now) input.old input.new out.old out.new result }
+    ensures stops { calls.Stops R.DeviceIn (modify_job edits.now) input.old input.new }
     ensures unread { spec.TellsUnread (R.has_failed input.old) (R.has_failed input.new) result }
     ensures failed { spec.TellsOutput (W.has_failed out.old) (W.has_failed out.new) result }
     ensures meant { AreMeant edits.now }

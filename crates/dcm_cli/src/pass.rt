@@ -66,8 +66,8 @@ pub fn read_rest<R: DeviceIn, S: Sink>(
     requires going { machine_spec.is_halted machine.old ≡ false }
     requires before { read_before ≡ machine_spec.next_offset machine.old.reading }
     requires limit { read_before ≤ 2 ^ 62 }
-    ensures pumps { sink_pass.Pumps S.Sink sink.old sink.new (R.remaining input.old) (R.remaining input.new) machine.old.reading result }
-    ensures stops { sink_pass.Stops S.Sink sink.old machine.old.reading [] (R.remaining input.old) (R.remaining input.new) }
+    ensures pumps { sink_pass.Pumps S.Sink R.DeviceIn sink.old sink.new input.old input.new machine.old.reading result }
+    ensures stops { sink_pass.Stops S.Sink R.DeviceIn sink.old machine.old.reading [] input.old input.new }
     ensures unread { spec.TellsUnread (R.has_failed input.old) (R.has_failed input.new) result }
     ensures failed { sink_pass.TellsOutput S.Sink sink.old sink.new result }
     ensures kept { sinks.Keeps S.Sink sink.old sink.new }
@@ -102,8 +102,9 @@ pub fn read_set<R: DeviceIn, S: Sink>(
     requires within { (begun.used ≤ begun.filled) × (begun.filled ≤ length buffer.old) }
     requires count { start + length (spec.set_bytes begun buffer.old) ≡ begun.read }
     requires over { begun.is_over ≡ true → IsAtEnd (R.remaining input.old) }
-    ensures ends { sink_pass.BehindBegun S.Sink sink.old sink.new (R.remaining input.old) (R.remaining input.new) (spec.set_bytes begun buffer.old) (start_of coding.syntax start) result }
-    ensures stops { sink_pass.BehindStops S.Sink sink.old (start_of coding.syntax start) (spec.set_bytes begun buffer.old) begun.is_over (R.remaining input.old) (R.remaining input.new) }
+    ensures ends { sink_pass.BehindBegun S.Sink R.DeviceIn sink.old sink.new input.old input.new begun buffer.old
+        (start_of coding.syntax start) result }
+    ensures stops { sink_pass.BehindStops S.Sink R.DeviceIn sink.old input.old input.new begun buffer.old (start_of coding.syntax start) }
     ensures over { begun.is_over ≡ true → spec.WasRead result }
     ensures unread { spec.TellsUnread (R.has_failed input.old) (R.has_failed input.new) result }
     ensures failed { sink_pass.TellsOutput S.Sink sink.old sink.new result }

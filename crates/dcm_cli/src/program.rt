@@ -2,8 +2,9 @@
 ghost use Rattle.std.specs.Prelude.{◌≤◌, ◌≡◌, ◌≢◌, map};
 ghost use Rattle.std.specs.IoError.{error_kind};
 ghost use Rattle.dcm_words.specs.Plans.{planned as plan_of};
+ghost use Rattle.dcm_cli.specs.Calls as calls;
 ghost use Rattle.dcm_cli.specs.Program as spec;
-ghost use Rattle.dcm_cli.specs.Told.{Tries, usage_line, usage_status};
+ghost use Rattle.dcm_cli.specs.Told.{usage_line, usage_status};
 ghost use Rattle.dcm_words.specs.declared.usage.Usage.TheVariants as usages;
 ghost use Rattle.dcm_base.specs.declared.fault.WordFault.TheVariants as faults;
 
@@ -36,8 +37,7 @@ fn views<'a>(rt: HostRuntime, words: &'a [String]) -> Result<Vec<&'a [u8]>, Allo
 
 /// Reports why a job is not begun, and answers the status.
 fn tell_unopened<E: DeviceOut>(unopened: Unopened, errors: &mut Watched<E>) -> u8
-    ensures line { Tries (E.contents errors.old) (E.contents errors.new) (E.has_failed errors.old) (E.has_failed errors.new)
-        (spec.unopened_line unopened) }
+    ensures line { calls.Tries E.DeviceOut errors.old errors.new (spec.unopened_line unopened) }
     ensures status { result ≡ spec.unopened_status unopened }
 {
     match unopened {
@@ -115,12 +115,10 @@ pub fn obey<S: System, E: DeviceOut>(
 /// Reports words that cannot be read. Words that are no text are the words of no tool.
 fn tell_unread_words<E: DeviceOut>(e: &io::Error, errors: &mut Watched<E>) -> u8
     ensures line { error_kind e.now ≢ ErrorKind.OutOfMemory →
-        Tries (E.contents errors.old) (E.contents errors.new) (E.has_failed errors.old) (E.has_failed errors.new)
-        (usage_line (usages.AtWord faults.UnknownTool 1)) }
+        calls.Tries E.DeviceOut errors.old errors.new (usage_line (usages.AtWord faults.UnknownTool 1)) }
     ensures status { error_kind e.now ≢ ErrorKind.OutOfMemory → result ≡ 1 }
     ensures memory_line { error_kind e.now ≡ ErrorKind.OutOfMemory →
-        Tries (E.contents errors.old) (E.contents errors.new) (E.has_failed errors.old) (E.has_failed errors.new)
-        (usage_line usages.Memory) }
+        calls.Tries E.DeviceOut errors.old errors.new (usage_line usages.Memory) }
     ensures memory { error_kind e.now ≡ ErrorKind.OutOfMemory → result ≡ 5 }
     ensures within { result ≤ 5 }
 {

@@ -1,15 +1,13 @@
 // A file that is written again: what comes before its data set.
-ghost use Rattle.std.specs.Prelude.{◌≡◌, ◌≤◌, ◌<◌, ◌+◌, ◌++◌, ◌^◌, length, take, Option, IfOk, MatchResult, true};
+ghost use Rattle.std.specs.Prelude.{◌≡◌, ◌≤◌, ◌<◌, ◌+◌, ◌^◌, length, Option, IfOk, true};
 ghost use Rattle.std.specs.Io.KnownBytes.{IsAtEnd};
 ghost use Rattle.dcm_base.specs.declared.syntax.Syntax.{Syntax};
-ghost use Rattle.dcm_base.specs.Device.{Puts, Tells};
+ghost use Rattle.dcm_base.specs.Device.{Tells};
 ghost use Rattle.dcm_base.specs.MetaReads.{Meta as FileMeta, PREFIX as prefix};
-ghost use Rattle.dcm_base.specs.NewMeta.{new_meta};
 ghost use Rattle.dcm_words.specs.Words.{convert as convert_job};
-ghost use Rattle.dcm_head.specs.MetaReading.{HasEnded, group_of, uid_of};
-ghost use Rattle.dcm_head.specs.Rewriting.{OfElements};
+ghost use Rattle.dcm_head.specs.MetaReading.{HasEnded, uid_of};
 ghost use Rattle.dcm_cli.specs.Answer as answer;
-ghost use Rattle.dcm_cli.specs.Opening.{Opens};
+ghost use Rattle.dcm_cli.specs.Calls as calls;
 ghost use Rattle.dcm_cli.specs.Pass as spec;
 ghost use Rattle.dcm_cli.specs.Stops.{HeadStops};
 
@@ -64,7 +62,7 @@ fn write_head<W: DeviceOut>(
 ) -> Result<(), WriteFailed>
     requires ended { HasEnded meta.now.end }
     requires uid { length uid.now < 65535 }
-    ensures bytes { OfElements (group_of meta.now) (λ elements. Puts (W.contents out.old) (W.contents out.new) (take 128 meta.now.bytes ++ prefix ++ new_meta elements uid.now) result) }
+    ensures bytes { calls.PutsHead W.DeviceOut out.old out.new meta.now uid.now result }
     ensures failed { Tells (W.has_failed out.old) (W.has_failed out.new) result }
 {
     put_parts(out, &[meta.preamble(), PREFIX])?;
@@ -80,15 +78,15 @@ pub fn open_file<R: DeviceIn, W: DeviceOut>(
 ) -> Result<Opened, Ending>
     requires room { 0 < length buffer.old }
     requires bound { length buffer.old ≤ 262144 }
-    ensures opens { Opens target (R.remaining input.old) (R.remaining input.new) (W.contents out.old) (W.contents out.new) buffer.new result }
+    ensures opens { calls.Opens R.DeviceIn W.DeviceOut target input.old input.new out.old out.new buffer.new result }
     ensures stops { HeadStops (R.remaining input.old) (R.remaining input.new) }
     ensures start { IfOk result (λ o. o.start ≤ 2 ^ 62) }
     ensures within { IfOk result (λ o. (o.begun.used ≤ o.begun.filled) × (o.begun.filled ≤ length buffer.new)) }
     ensures count { IfOk result (λ o. o.start + length (spec.set_bytes o.begun buffer.new) ≡ o.begun.read) }
     ensures over { IfOk result (λ o. o.begun.is_over ≡ true → IsAtEnd (R.remaining input.new)) }
     ensures kept { length buffer.new ≡ length buffer.old }
-    ensures unread { MatchResult result (λ _. R.has_failed input.new ≡ R.has_failed input.old) (λ e. spec.TellsUnread (R.has_failed input.old) (R.has_failed input.new) e) }
-    ensures failed { MatchResult result (λ _. W.has_failed out.new ≡ W.has_failed out.old) (λ e. spec.TellsOutput (W.has_failed out.old) (W.has_failed out.new) e) }
+    ensures unread { calls.OpensUnread R.DeviceIn input.old input.new result }
+    ensures failed { calls.OpensUnwritten W.DeviceOut out.old out.new result }
 {
     let mut meta = Meta::new();
     let begun = match read_head_of(&mut meta, input, buffer) {

@@ -1,9 +1,8 @@
 // A job over devices.
-ghost use Rattle.std.specs.Prelude.{◌≡◌, ◌≤◌, ◌⊎◌, ◌↔◌, ℕ, List, Some, true, false};
+ghost use Rattle.std.specs.Prelude.{◌≡◌, ◌≤◌, true, false};
+ghost use Rattle.dcm_cli.specs.Calls as calls;
 ghost use Rattle.dcm_cli.specs.Pass.{TellsUnread, TellsOutput};
 ghost use Rattle.dcm_cli.specs.Run as spec;
-ghost use Rattle.dcm_cli.specs.Stops.{Stops};
-ghost use Rattle.dcm_cli.specs.Told.{Tries};
 ghost use Rattle.dcm_words.specs.Plans.{job_of};
 
 use crate::build::build;
@@ -55,7 +54,7 @@ fn done_status(unplaced: u64) -> u8
 
 /// Tells what the work on a job came to, and answers the status.
 fn tell_verdict<E: DeviceOut>(verdict: Verdict, errors: &mut Watched<E>) -> u8
-    ensures lines { Tries (E.contents errors.old) (E.contents errors.new) (E.has_failed errors.old) (E.has_failed errors.new) (spec.verdict_lines verdict) }
+    ensures lines { calls.Tries E.DeviceOut errors.old errors.new (spec.verdict_lines verdict) }
     ensures status { result ≡ spec.verdict_status verdict }
     ensures within { result ≤ 3 }
 {
@@ -77,7 +76,7 @@ fn tell_verdict<E: DeviceOut>(verdict: Verdict, errors: &mut Watched<E>) -> u8
 
 /// Tells how a job ended, and answers the status.
 fn tell_ending<E: DeviceOut>(ending: Ending, errors: &mut Watched<E>) -> u8
-    ensures lines { Tries (E.contents errors.old) (E.contents errors.new) (E.has_failed errors.old) (E.has_failed errors.new) (spec.ending_lines ending) }
+    ensures lines { calls.Tries E.DeviceOut errors.old errors.new (spec.ending_lines ending) }
     ensures status { result ≡ spec.ending_status ending }
     ensures within { result ≤ 4 }
 {
@@ -100,8 +99,8 @@ fn work<R: DeviceIn, W: DeviceOut>(
     input: &mut Watched<R>,
     out: &mut Watched<W>,
 ) -> Ending
-    ensures worked { (file : List ℕ) → R.remaining input.old ≡ Some file → spec.Worked (job_of job.now) file (R.remaining input.new) (W.contents out.old) (W.contents out.new) result }
-    ensures stops { (file : List ℕ) → R.remaining input.old ≡ Some file → Stops (job_of job.now) file (R.remaining input.new) }
+    ensures worked { calls.Works R.DeviceIn W.DeviceOut (job_of job.now) input.old input.new out.old out.new result }
+    ensures stops { calls.Stops R.DeviceIn (job_of job.now) input.old input.new }
     ensures unread { TellsUnread (R.has_failed input.old) (R.has_failed input.new) result }
     ensures failed { TellsOutput (W.has_failed out.old) (W.has_failed out.new) result }
     ensures meant { spec.IsMeant (job_of job.now) }
@@ -122,11 +121,12 @@ pub fn run<R: DeviceIn, W: DeviceOut, E: DeviceOut>(
     out: &mut Watched<W>,
     errors: &mut Watched<E>,
 ) -> Outcome
-    ensures ran { (file : List ℕ) → R.remaining input.old ≡ Some file → R.has_failed input.old ≡ false → W.has_failed out.old ≡ false → spec.Ran (job_of job.now) file (record { left = R.remaining input.new; held = W.contents out.old; holds = W.contents out.new; room = W.room out.new; told = E.contents errors.old; tells = E.contents errors.new; unread = R.has_failed input.new; unwritten = W.has_failed out.new; untold_before = E.has_failed errors.old; untold = E.has_failed errors.new }) result.status }
-    ensures stops { (file : List ℕ) → R.remaining input.old ≡ Some file → Stops (job_of job.now) file (R.remaining input.new) }
+    ensures ran { calls.Runs R.DeviceIn W.DeviceOut E.DeviceOut (job_of job.now) input.old input.new out.old out.new errors.old errors.new
+        result.status }
+    ensures stops { calls.Stops R.DeviceIn (job_of job.now) input.old input.new }
     ensures flushed { W.has_failed out.old ≡ false → W.has_failed out.new ≡ false → W.is_flushed out.new ≡ true }
     ensures within { result.status ≤ 4 }
-    ensures failed { R.has_failed input.old ≡ false → W.has_failed out.old ≡ false → (result.status ≡ 4) ↔ ((R.has_failed input.new ≡ true) ⊎ (W.has_failed out.new ≡ true)) }
+    ensures failed { calls.TellsFailed R.DeviceIn W.DeviceOut input.old input.new out.old out.new result.status }
 {
     let ending = work(job, input, out);
     let ending = flushed(ending, out);

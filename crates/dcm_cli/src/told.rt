@@ -4,6 +4,7 @@ ghost use Rattle.dcm_base.specs.Device.{Puts, Tells};
 ghost use Rattle.dcm_base.specs.Fault.{fault_text, fault_number, edit_refusal_text, edit_refusal_number};
 ghost use Rattle.dcm_build.specs.Builder.{told_of};
 ghost use Rattle.dcm_cli.specs.Answer as answer;
+ghost use Rattle.dcm_cli.specs.Calls as calls;
 ghost use Rattle.dcm_cli.specs.Told as spec;
 
 use arrayvec::ArrayVec;
@@ -51,14 +52,14 @@ fn put_line<E: DeviceOut>(errors: &mut Watched<E>, parts: &[&[u8]]) -> Result<()
 /// Writes a line, after which no other comes.
 fn tell_line<E: DeviceOut>(errors: &mut Watched<E>, parts: &[&[u8]])
     requires { length (flat_map (λ part. part.now) parts.now) ≤ 192 }
-    ensures { spec.Tries (E.contents errors.old) (E.contents errors.new) (E.has_failed errors.old) (E.has_failed errors.new) (flat_map (λ part. part.now) parts.now) }
+    ensures { calls.Tries E.DeviceOut errors.old errors.new (flat_map (λ part. part.now) parts.now) }
 {
     let _ = put_line(errors, parts);
 }
 
 /// Tells why words are refused, and answers the status.
 pub fn tell<E: DeviceOut>(usage: &Usage, errors: &mut Watched<E>) -> u8
-    ensures line { spec.Tries (E.contents errors.old) (E.contents errors.new) (E.has_failed errors.old) (E.has_failed errors.new) (spec.usage_line usage.now) }
+    ensures line { calls.Tries E.DeviceOut errors.old errors.new (spec.usage_line usage.now) }
     ensures status { result ≡ spec.usage_status usage.now }
 {
     let mut digits = Buffer::new();
@@ -107,7 +108,7 @@ pub fn tell<E: DeviceOut>(usage: &Usage, errors: &mut Watched<E>) -> u8
 
 /// Tells that the input or the output cannot be opened, and answers the status.
 pub fn tell_open<E: DeviceOut>(output: bool, errors: &mut Watched<E>) -> u8
-    ensures line { spec.Tries (E.contents errors.old) (E.contents errors.new) (E.has_failed errors.old) (E.has_failed errors.new) (spec.open_line output) }
+    ensures line { calls.Tries E.DeviceOut errors.old errors.new (spec.open_line output) }
     ensures status { result ≡ 4 }
 {
     if output {
@@ -120,7 +121,7 @@ pub fn tell_open<E: DeviceOut>(output: bool, errors: &mut Watched<E>) -> u8
 
 /// Tells a fault of the input.
 pub fn tell_fault<E: DeviceOut>(stop: Stop, errors: &mut Watched<E>)
-    ensures { spec.Tries (E.contents errors.old) (E.contents errors.new) (E.has_failed errors.old) (E.has_failed errors.new) (spec.fault_line stop) }
+    ensures { calls.Tries E.DeviceOut errors.old errors.new (spec.fault_line stop) }
 {
     let mut digits = Buffer::new();
     tell_line(
@@ -150,7 +151,7 @@ fn line_place(line: u64, digits: &mut Buffer) -> (&'static [u8], &[u8])
 
 /// Tells why lines that were to be built are refused.
 pub fn tell_line_fault<E: DeviceOut>(stop: LineStop, errors: &mut Watched<E>)
-    ensures { spec.Tries (E.contents errors.old) (E.contents errors.new) (E.has_failed errors.old) (E.has_failed errors.new) (answer.building_line (told_of stop)) }
+    ensures { calls.Tries E.DeviceOut errors.old errors.new (answer.building_line (told_of stop)) }
 {
     let LineStop {
         fault,
@@ -178,7 +179,7 @@ pub fn tell_line_fault<E: DeviceOut>(stop: LineStop, errors: &mut Watched<E>)
 
 /// Tells that reading failed behind so many bytes.
 pub fn tell_unread<E: DeviceOut>(read: u64, errors: &mut Watched<E>)
-    ensures { spec.Tries (E.contents errors.old) (E.contents errors.new) (E.has_failed errors.old) (E.has_failed errors.new) (spec.unread_line read) }
+    ensures { calls.Tries E.DeviceOut errors.old errors.new (spec.unread_line read) }
 {
     let mut digits = Buffer::new();
     tell_line(
@@ -195,7 +196,7 @@ pub fn tell_unread<E: DeviceOut>(read: u64, errors: &mut Watched<E>)
 
 /// Tells that the output failed.
 pub fn tell_output<E: DeviceOut>(errors: &mut Watched<E>)
-    ensures { spec.Tries (E.contents errors.old) (E.contents errors.new) (E.has_failed errors.old) (E.has_failed errors.new) spec.output_line }
+    ensures { calls.Tries E.DeviceOut errors.old errors.new spec.output_line }
 {
     tell_line(errors, &[b"dcmtools: output failed\n".as_slice()]);
 }
@@ -226,7 +227,7 @@ fn put_unplaced<E: DeviceOut>(
 /// Tells which edits found no place, each on a line: bit k is set for edit k, counted from 0. After a line that failed
 /// no other is tried.
 pub fn tell_unplaced<E: DeviceOut>(unplaced: u64, errors: &mut Watched<E>)
-    ensures { spec.Tries (E.contents errors.old) (E.contents errors.new) (E.has_failed errors.old) (E.has_failed errors.new) (spec.mask_lines 64 1 unplaced) }
+    ensures { calls.Tries E.DeviceOut errors.old errors.new (spec.mask_lines 64 1 unplaced) }
 {
     let mut rest = unplaced;
     for number in 1..=MOST_EDITS {

@@ -1,0 +1,86 @@
+-- What a call leaves of its reader and its writers, by their members.
+use Rattle.std.specs.Prelude.{◌≡◌, ◌⊎◌, ◌↔◌, ℕ, List, Bool, true, false, Option, Some, Result, MatchResult}
+use Rattle.dcm_base.specs.declared.syntax.Syntax.{Syntax}
+use Rattle.dcm_base.specs.Device.{Puts}
+use Rattle.dcm_head.specs.MetaReading.{Reading, group_of}
+use Rattle.dcm_head.specs.Rewriting.{OfElements}
+use Rattle.dcm_words.specs.Words.{Job}
+use Rattle.dcm_cli.specs.declared.ending.Ending.{Ending}
+use Rattle.dcm_cli.specs.declared.ending.HeadEnding.{HeadEnding}
+use Rattle.dcm_cli.specs.declared.head.Begun.{Begun}
+use Rattle.dcm_cli.specs.declared.rewrite.Opened.{Opened}
+use Rattle.dcm_cli.specs.Opening as opening
+use Rattle.dcm_cli.specs.Pass as pass
+use Rattle.dcm_cli.specs.Run as run
+use Rattle.dcm_cli.specs.Stops as stops
+use Rattle.dcm_cli.specs.Told as told
+
+-- the members of a reader
+abbrev pub Reader : Type 0 → Type 0
+Reader R = record { has_failed : R → Bool; remaining : R → Option (List ℕ) }
+
+-- the members of a writer
+abbrev pub Writer : Type 0 → Type 0
+Writer W = record { has_failed : W → Bool; contents : W → Option (List ℕ); room : W → Option ℕ; is_flushed : W → Bool }
+
+-- ---- lines on standard error
+
+-- these lines were reported, or the writer failed in the call and has a beginning of them
+abbrev pub Tries : {E : Type 0} → Writer E → (old new : E) → List ℕ → Type 0
+Tries e old new lines = told.Tries (e.contents old) (e.contents new) (e.has_failed old) (e.has_failed new) lines
+
+-- ---- the work on a job
+
+-- the work on an input that was to be read from here on
+abbrev pub Works : {R W : Type 0} → Reader R → Writer W → Job → (old new : R) → (held holds : W) → Ending → Type 0
+Works r w job old new held holds ending =
+    (file : List ℕ) → r.remaining old ≡ Some file → run.Worked job file (r.remaining new) (w.contents held) (w.contents holds) ending
+
+-- nothing of it was read once the answer was decided
+abbrev pub Stops : {R : Type 0} → Reader R → Job → (old new : R) → Type 0
+Stops r job old new = (file : List ℕ) → r.remaining old ≡ Some file → stops.Stops job file (r.remaining new)
+
+-- a run of a job, where neither device had failed
+abbrev pub Runs : {R W E : Type 0} → Reader R → Writer W → Writer E → Job → (old new : R) → (held holds : W) → (told tells : E) → (status : ℕ) → Type 0
+Runs r w e job old new held holds told tells status =
+    (file : List ℕ) → r.remaining old ≡ Some file → r.has_failed old ≡ false → w.has_failed held ≡ false
+    → run.Ran job file (record {
+      left = r.remaining new;
+      held = w.contents held;
+      holds = w.contents holds;
+      room = w.room holds;
+      told = e.contents told;
+      tells = e.contents tells;
+      unread = r.has_failed new;
+      unwritten = w.has_failed holds;
+      untold_before = e.has_failed told;
+      untold = e.has_failed tells;
+    }) status
+
+-- the status says whether one of them failed in it
+abbrev pub TellsFailed : {R W : Type 0} → Reader R → Writer W → (old new : R) → (held holds : W) → (status : ℕ) → Type 0
+TellsFailed r w old new held holds status =
+    r.has_failed old ≡ false → w.has_failed held ≡ false → (status ≡ 4) ↔ ((r.has_failed new ≡ true) ⊎ (w.has_failed holds ≡ true))
+
+-- ---- the head of a file
+
+-- the reader failed in the call exactly where that is why the head was not read
+abbrev pub TellsHead : {R : Type 0} → Reader R → (old new : R) → Result Begun HeadEnding → Type 0
+TellsHead r old new result =
+    MatchResult result (λ b. r.has_failed new ≡ r.has_failed old) (λ e. pass.TellsUnread (r.has_failed old) (r.has_failed new) (pass.ending_of_head e))
+
+-- what stands before the data set was written, or a beginning of it where the call failed
+abbrev pub PutsHead : {W T E : Type 0} → Writer W → (old new : W) → Reading → (uid : List ℕ) → Result T E → Type 0
+PutsHead w old new meta uid result = OfElements (group_of meta) (λ elements. Puts (w.contents old) (w.contents new) (opening.head_text meta uid elements) result)
+
+-- a file was opened that is to be written again, or why not
+abbrev pub Opens : {R W : Type 0} → Reader R → Writer W → Option Syntax → (old new : R) → (held holds : W) → (buffer : List ℕ) → Result Opened Ending → Type 0
+Opens r w target old new held holds buffer result = opening.Opens target (r.remaining old) (r.remaining new) (w.contents held) (w.contents holds) buffer result
+
+-- the reader failed in the call exactly where that is why
+abbrev pub OpensUnread : {R : Type 0} → Reader R → (old new : R) → Result Opened Ending → Type 0
+OpensUnread r old new result = MatchResult result (λ _. r.has_failed new ≡ r.has_failed old) (λ e. pass.TellsUnread (r.has_failed old) (r.has_failed new) e)
+
+-- and the output's writer
+abbrev pub OpensUnwritten : {W : Type 0} → Writer W → (old new : W) → Result Opened Ending → Type 0
+OpensUnwritten w old new result = MatchResult result (λ _. w.has_failed new ≡ w.has_failed old) (λ e. pass.TellsOutput (w.has_failed old) (w.has_failed new) e)
