@@ -156,11 +156,19 @@ impl Vr {
     }
 }
 
+/// Whether a row has the letters.
+fn has_letters(row: &(Vr, [u8; 2]), letters: &[u8; 2]) -> bool
+    ensures { result ≡ bytes_eq row.now.1 letters.now }
+{
+    let [first, second] = row.1;
+    first == letters[0] && second == letters[1]
+}
+
 /// The row that has the letters.
 fn lettered<'a>(rows: &'a [(Vr, [u8; 2])], letters: &[u8; 2]) -> Option<&'a (Vr, [u8; 2])>
     ensures { option_copied result ≡ find (λ r. bytes_eq r.1 letters.now) rows.now }
 {
-    rows.iter().find(|row| row.1 == *letters)
+    rows.iter().find(|row| has_letters(row, letters))
 }
 
 /// The value representation of two letters.
