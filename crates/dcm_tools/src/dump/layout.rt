@@ -30,15 +30,14 @@ fn spaces(count: usize) -> &'static [u8]
 }
 
 /// A tag and letters, with a space after each.
-fn start_text(tag: Tag, letters: [u8; 2]) -> ArrayVec<u8, START>
-    ensures { result.items ≡ (tag_text tag.group tag.element ++ 32 ∷ []) ++ (letters ++ 32 ∷ []) }
+fn start_text(tag: Tag, letters: [u8; 2]) -> [u8; START]
+    ensures { result ≡ (tag_text tag.group tag.element ++ 32 ∷ []) ++ (letters ++ 32 ∷ []) }
 {
-    let mut text = ArrayVec::new();
-    let _ = text.try_extend_from_slice(&tag.text());
-    text.push(b' ');
-    let _ = text.try_extend_from_slice(&letters);
-    text.push(b' ');
-    text
+    let [a, b, c, d, e, f, g, h, i, j, k] = tag.text();
+    let [first, second] = letters;
+    [
+        a, b, c, d, e, f, g, h, i, j, k, b' ', first, second, b' ',
+    ]
 }
 
 /// Writes a line up to its display: two spaces a level, tag and letters.
@@ -53,7 +52,7 @@ pub fn put_line_start<W: DeviceOut>(
     ensures failed { Tells (W.has_failed out.old) (W.has_failed out.new) result }
 {
     put_all(out, spaces(2 * level))?;
-    put_all(out, start_text(tag, letters).as_slice())
+    put_all(out, &start_text(tag, letters))
 }
 
 /// A declared length as a dump shows it, right in three places.

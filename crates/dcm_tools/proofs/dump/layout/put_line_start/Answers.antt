@@ -1,4 +1,4 @@
-use Rattle.std.proofs.Common.{◌∙◌, List, [], ◌∷◌, ◌++◌, ◌*◌, ℕ, replicate}
+use Rattle.std.proofs.Common.{List, [], ◌∷◌, ◌++◌, ◌*◌, ℕ, replicate}
 use Rattle.dcm_base.proofs.Writes.PartsOut.{part_failed, parts_put}
 use Rattle.dcm_base.specs.ValueText.{tag_text}
 use Rattle.dcm_tools.proofs.Dumps.LineParts.{start_in_parts}
@@ -13,5 +13,5 @@ returns-in_err-put_all-clause-bytes g c =
 pub returns-clause-bytes : goal.returns-clause-bytes
 returns-clause-bytes g c =
     let text : List ℕ = (tag_text c.args.tag.group c.args.tag.element ++ 32 ∷ []) ++ (c.args.letters ++ 32 ∷ []) in
-    parts_put _ _ _ (replicate (2 * c.args.level) 32) _ text _ _ c.put_all-2.result c.spaces.ensures (c.as_slice.ensures.value ∙ c.start_text.ensures)
+    parts_put _ _ _ (replicate (2 * c.args.level) 32) _ text _ _ c.put_all-2.result c.spaces.ensures c.start_text.ensures
     (start_in_parts c.args.level c.args.tag c.args.letters) c.in_ok-put_all.ensures.bytes c.put_all-2.ensures.bytes
