@@ -35,9 +35,7 @@ fn start_text(tag: Tag, letters: [u8; 2]) -> [u8; START]
 {
     let [a, b, c, d, e, f, g, h, i, j, k] = tag.text();
     let [first, second] = letters;
-    [
-        a, b, c, d, e, f, g, h, i, j, k, b' ', first, second, b' ',
-    ]
+    [a, b, c, d, e, f, g, h, i, j, k, b' ', first, second, b' ']
 }
 
 /// Writes a line up to its display: two spaces a level, tag and letters.
