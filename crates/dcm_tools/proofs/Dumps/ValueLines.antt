@@ -1,17 +1,15 @@
 -- The line of a value, in parts.
 use Rattle.std.proofs.Common.{◌≡◌, ap, sym, refl, ◌∙◌, Option, Some, None, Bool, true, length, take, drop, ◌+◌, ◌∷◌, ◌≤◌, arith, List, ℕ, [], ◌++◌, append_assoc}
 use Rattle.std.specs.Prelude.{nat_eq, not, min, ◌-◌}
+use Rattle.std.specs.Option.{ForSome}
 use Rattle.std.proofs.lemmas.List.{append-nil, length-drop, length-take-le}
 use Rattle.std.proofs.lemmas.Bool.{ne_eqb}
 use Rattle.dcm_base.specs.declared.mode.Mode.{Mode}
 use Rattle.dcm_base.specs.declared.mode.Mode.TheVariants.{Short, Full}
 use Rattle.dcm_base.specs.Dump.{open_line}
 use Rattle.dcm_value.specs.Display.{at_once}
-use Rattle.dcm_value.specs.declared.value_text.ValueText.{ValueText}
-use Rattle.dcm_value.specs.ValueText.{progress}
 use Rattle.dcm_value.specs.Progress.{Progress, finishes}
 use Rattle.dcm_tools.specs.declared.dump.lines.Owner.{Owner}
-use Rattle.dcm_tools.specs.declared.dump.lines.OpenValue as shown
 use Rattle.dcm_base.specs.declared.tag.Tag.{Tag}
 use Rattle.dcm_base.specs.declared.length.Length.{Length}
 use Rattle.dcm_base.specs.declared.length.Length.TheVariants.{Known}
@@ -26,10 +24,12 @@ begins_in_parts Short start opening = refl
 begins_in_parts Full start opening = ap (λ bytes. start ++ bytes) (sym (append-nil opening))
 
 -- a value that is open, as the sink holds it
-pub is_open : (value taken : Option shown.OpenValue) (v : shown.OpenValue) (owner : Owner) (text : ValueText) → taken ≡ Some v → taken ≡ value → v.owner ≡ owner → v.text ≡ text
-    → value_of value ≡ open_value owner (progress text)
-is_open value taken v owner text is same o t =
-    ap value_of (sym same ∙ is) ∙ ap (λ (x : Owner). open_value x (progress v.text)) o ∙ ap (λ (x : ValueText). open_value owner (progress x)) t
+pub is_open : (value : Option Owner) (owner : Owner) (p : Progress) → Some owner ≡ value → value_of value p ≡ open_value owner p
+is_open value owner p same = ap (λ (o : Option Owner). value_of o p) (sym same)
+
+-- its bracket is there
+pub is_begun : (value : Option Owner) (owner : Owner) (B : Type 0) → Some owner ≡ value → ForSome value (λ (o : Owner). B) → B
+is_begun value owner B same b = b owner (sym same)
 
 -- its end
 pub ends_in_parts : (mode : Mode) (level : ℕ) (value : OpenValue) (owner : Owner) (p : Progress) → value ≡ open_value owner p
@@ -46,8 +46,8 @@ pub same_state : (mode : Mode) (lengths : List Length) (v w : OpenValue) (l m : 
 same_state mode lengths v w l m e f = cc
 
 -- no value is open, as the sink holds it
-pub is_none : (value taken : Option shown.OpenValue) → taken ≡ None → taken ≡ value → value_of value ≡ no_value
-is_none value taken is same = ap value_of (sym same ∙ is)
+pub is_none : (value taken : Option Owner) (p : Progress) → taken ≡ None → taken ≡ value → value_of value p ≡ no_value
+is_none value taken p is same = ap (λ (o : Option Owner). value_of o p) (sym same ∙ is)
 
 pub not_empty : (others : List ℕ) (t : Bool) → t ≡ nat_eq (length others) 0 → not t ≡ is_filled others
 not_empty [] t e = ap not e

@@ -1,5 +1,6 @@
 // The lines of a dump, as tokens come.
 ghost use Rattle.std.specs.Prelude.{◌≡◌, ◌<◌, ◌≤◌, OnOk, false, length, map, fold};
+ghost use Rattle.std.specs.Option.{ForSome};
 ghost use Rattle.dcm_base.specs.Atoms.{opens, value_byte, closes_leaf, opens_item, closes_item, closes_sequence, opens_fragment};
 ghost use Rattle.dcm_base.specs.Device.{Puts, Tells};
 ghost use Rattle.dcm_base.specs.Representation.{letters};
@@ -54,21 +55,15 @@ impl Owner {
     }
 }
 
-/// A value or fragment that is being shown.
-#[derive(Drop)]
-struct OpenValue {
-    owner: Owner,
-    text: ValueText,
-    ghost begun: { progress.is_unopened (text_progress text) ≡ false },
-}
-
-/// Where a dump stands.
+/// Where a dump is: what is open, whose value is being shown, and its text. Where no value is open the text is of none.
 #[derive(Drop)]
 pub struct Lines {
     mode: Mode,
     lengths: Lengths,
-    value: Option<OpenValue>,
+    owner: Option<Owner>,
+    text: ValueText,
     is_lost: bool,
+    ghost begun: { ForSome owner (λ _. progress.is_unopened (text_progress text) ≡ false) },
 }
 
 /// The bytes of a value; a head of undefined length has none.
@@ -160,7 +155,8 @@ impl Lines {
         Lines {
             mode,
             lengths: Lengths::new(),
-            value: None,
+            owner: None,
+            text: ValueText::new(Vr::UN, Syntax::Little, 0, mode),
             is_lost: false,
         }
     }
@@ -188,10 +184,11 @@ impl Lines {
         ensures bytes { Puts (W.contents out.old) (W.contents out.new) (spec.begin_writes (state self.old) owner (progress.started vr syntax size self.old.mode)) result }
         ensures failed { Tells (W.has_failed out.old) (W.has_failed out.new) result }
     {
-        let mut text = ValueText::new(vr, syntax, size, self.mode);
         put_early_start(self.mode, out, self.lengths.depth(), owner)?;
-        text.feed(&[], out)?;
-        self.value = Some(OpenValue { owner, text });
+        self.owner = None;
+        self.text = ValueText::new(vr, syntax, size, self.mode);
+        self.text.feed(&[], out)?;
+        self.owner = Some(owner);
         Ok(())
     }
 
@@ -246,12 +243,12 @@ impl Lines {
         ensures bytes { Puts (W.contents out.old) (W.contents out.new) (outputs spec.dump_step spec.dump_writes (state self.old) (map value_byte bytes.now)) result }
         ensures failed { Tells (W.has_failed out.old) (W.has_failed out.new) result }
     {
-        let Some(OpenValue { owner, mut text }) = self.value.take() else {
+        let Some(owner) = self.owner.take() else {
             return Ok(());
         };
-        let (own, others) = bytes.split_at(bytes.len().min(text.missing() as usize));
-        text.feed(own, out)?;
-        self.value = Some(OpenValue { owner, text });
+        let (own, others) = bytes.split_at(bytes.len().min(self.text.missing() as usize));
+        self.text.feed(own, out)?;
+        self.owner = Some(owner);
         self.is_lost = !others.is_empty();
         Ok(())
     }
@@ -261,12 +258,12 @@ impl Lines {
         ensures bytes { Puts (W.contents out.old) (W.contents out.new) (spec.live_writes (state self.old) closes_leaf) result }
         ensures failed { Tells (W.has_failed out.old) (W.has_failed out.new) result }
     {
-        let Some(OpenValue { owner, mut text }) = self.value.take() else {
+        let Some(owner) = self.owner.take() else {
             return Ok(());
         };
-        let length = Length::Known(text.size());
+        let length = Length::Known(self.text.size());
         put_late_start(self.mode, out, self.lengths.depth(), owner)?;
-        let counted = text.finish(out)?;
+        let counted = self.text.finish(out)?;
         put_line_rest(out, owner.tag(), length, owner.count(counted))
     }
 

@@ -25,11 +25,11 @@ returns-in_err-feed-clause-bytes g c =
     parts_put _ _ _ start _ (progress.feeds p []) _ _ c.from_residual-in_err-feed.result refl refl
     (begins_in_parts c.args.self.now.mode (spec.owner_start (length c.args.self.now.lengths) c.args.owner) (progress.opening p))
     (rw c.depth.ensures.depth at c.in_ok-put_early_start.ensures.bytes)
-    (part_failed _ _ (progress.feeds p []) _ [] _ c.from_residual-in_err-feed.result c.from_residual-in_err-feed.ensures.0 (ap (λ q. progress.feeds q []) c.new-text.ensures) (sym (append-nil (progress.feeds p []))) c.in_err-feed.ensures.bytes)
+    (part_failed _ _ (progress.feeds p []) _ [] _ c.from_residual-in_err-feed.result c.from_residual-in_err-feed.ensures.0 (ap (λ q. progress.feeds q []) c.new-self.ensures) (sym (append-nil (progress.feeds p []))) c.in_err-feed.ensures.bytes)
 
-pub invariant_of-self : goal.invariant_of-self
-invariant_of-self g c = record {
-  begun = ap progress.is_unopened (c.in_ok-feed.ensures.state ∙ ap progress.opened c.new-text.ensures) ∙ begun_opened (progress.started c.args.vr c.args.syntax c.args.size c.args.self.now.mode);
+pub invariant_of-self-2 : goal.invariant_of-self-2
+invariant_of-self-2 g c = record {
+  begun = λ owner is. ap progress.is_unopened (c.in_ok-feed.ensures.state ∙ ap progress.opened c.new-self.ensures) ∙ begun_opened (progress.started c.args.vr c.args.syntax c.args.size c.args.self.now.mode);
 }
 
 pub returns-clause-bytes : goal.returns-clause-bytes
@@ -38,7 +38,7 @@ returns-clause-bytes g c =
     let start : List ℕ = spec.early_start c.args.self.now.mode (spec.owner_start (length c.args.self.now.lengths) c.args.owner) in
     let level = c.depth.ensures.depth in
     c.in_ok-feed.ensures.bytes
-    ∙ ap (λ q. append_known (g.W.DeviceOut.contents c.put_early_start.new.out) (progress.feeds q [])) c.new-text.ensures
+    ∙ ap (λ q. append_known (g.W.DeviceOut.contents c.put_early_start.new.out) (progress.feeds q [])) c.new-self.ensures
     ∙ ap (λ known. append_known known (progress.feeds p [])) (rw level at c.in_ok-put_early_start.ensures.bytes)
     ∙ append_known_twice (g.W.DeviceOut.contents c.args.out.now) start (progress.feeds p [])
     ∙ ap (append_known (g.W.DeviceOut.contents c.args.out.now)) (sym (begins_in_parts c.args.self.now.mode (spec.owner_start (length c.args.self.now.lengths) c.args.owner) (progress.opening p)))

@@ -13,21 +13,21 @@ use Rattle.dcm_tools.specs.Lines.{state, value_of}
 use Rattle.dcm_tools.proofs.Dumps.ValueBytes.{within, between, stays_between, silent_between}
 use Rattle.dcm_tools.proofs.Dumps.Brackets.{begun_behind}
 use Rattle.dcm_tools.proofs.Dumps.OpenValues.{takes_bytes, shows_bytes}
-use Rattle.dcm_tools.proofs.Dumps.ValueLines.{is_open, is_none, same_state, not_empty}
+use Rattle.dcm_tools.proofs.Dumps.ValueLines.{is_open, is_begun, is_none, same_state, not_empty}
 use Rattle.dcm_tools.proofs.dump.lines.Lines.show.Goals as goal
 
 pub returns-in_default-clause-state : goal.returns-in_default-clause-state
 returns-in_default-clause-state g c =
     let s = c.args.self.now in
-    let none = is_none s.value c.take.result c.in_default.is c.take.ensures.value in
+    let none = is_none s.owner c.take.result (text_progress s.text) c.in_default.is c.take.ensures.value in
     let now : state s ≡ between s.mode s.lengths = same_state s.mode s.lengths _ _ _ _ none c.requires in
-    same_state s.mode s.lengths (value_of c.take.new.self) spec.no_value s.is_lost false (ap value_of c.take.ensures.after) c.requires
+    same_state s.mode s.lengths (value_of c.take.new.self (text_progress s.text)) spec.no_value s.is_lost false (ap (λ o. value_of o (text_progress s.text)) c.take.ensures.after) c.requires
     ∙ sym (ap (λ t. fold spec.dump_step t (map value_byte c.args.bytes.now)) now ∙ stays_between s.mode s.lengths c.args.bytes.now)
 
 pub returns-in_default-clause-bytes : goal.returns-in_default-clause-bytes
 returns-in_default-clause-bytes g c =
     let s = c.args.self.now in
-    let none = is_none s.value c.take.result c.in_default.is c.take.ensures.value in
+    let none = is_none s.owner c.take.result (text_progress s.text) c.in_default.is c.take.ensures.value in
     let now : state s ≡ between s.mode s.lengths = same_state s.mode s.lengths _ _ _ _ none c.requires in
     sym (append_known_none (g.W.DeviceOut.contents c.args.out.now))
     ∙ ap (append_known (g.W.DeviceOut.contents c.args.out.now)) (sym (ap (λ t. outputs spec.dump_step spec.dump_writes t (map value_byte c.args.bytes.now)) now ∙ silent_between s.mode s.lengths c.args.bytes.now))
@@ -35,55 +35,60 @@ returns-in_default-clause-bytes g c =
 pub returns-in_err-feed-clause-bytes : goal.returns-in_err-feed-clause-bytes
 returns-in_err-feed-clause-bytes g c =
     let s = c.args.self.now in
-    let v = c.in-Some.field-0 in
-    let settled = sym (settled_of v.text.shown.mode v.text.shown.count v.text.shown.front.items v.text.shown.capped v.text.shown.filled) in
-    let now : state s ≡ within s.mode s.lengths v.owner (text_progress v.text) =
-    same_state s.mode s.lengths _ _ _ _ (is_open s.value _ v v.owner v.text refl c.in-Some.ensures.value refl refl) c.requires
+    let v = c.in-Some.owner in
+    let begun = is_begun s.owner v (progress.is_unopened (text_progress s.text) ≡ false) c.in-Some.ensures.value s.begun in
+    let settled = sym (settled_of s.text.shown.mode s.text.shown.count s.text.shown.front.items s.text.shown.capped s.text.shown.filled) in
+    let now : state s ≡ within s.mode s.lengths v (text_progress s.text) =
+    same_state s.mode s.lengths _ _ _ _ (is_open s.owner v (text_progress s.text) c.in-Some.ensures.value) c.requires
     in
     let wrote =
-    shows_bytes s.mode s.lengths v.owner (text_progress v.text) c.min.result c.missing.result c.args.bytes.now _ _
-    c.min.ensures c.missing.ensures c.split_at.ensures.front c.split_at.ensures.back v.begun settled (state s) now
+    shows_bytes s.mode s.lengths v (text_progress s.text) c.min.result c.missing.result c.args.bytes.now _ _
+    c.min.ensures c.missing.ensures c.split_at.ensures.front c.split_at.ensures.back begun settled (state s) now
     in
     puts_err _ _ _ c.from_residual.result c.from_residual.ensures.0
     (subst (λ bytes. AppendsFront (g.W.DeviceOut.contents c.args.out.now) (g.W.DeviceOut.contents c.feed.new.out) bytes) (sym wrote) c.in_err-feed.ensures.bytes)
 
-pub invariant_of-self : goal.invariant_of-self
-invariant_of-self g c =
-    let v = c.in-Some.field-0 in
-    let settled = sym (settled_of v.text.shown.mode v.text.shown.count v.text.shown.front.items v.text.shown.capped v.text.shown.filled) in
+pub invariant_of-self-2 : goal.invariant_of-self-2
+invariant_of-self-2 g c =
+    let s = c.args.self.now in
+    let v = c.in-Some.owner in
+    let begun = is_begun s.owner v (progress.is_unopened (text_progress s.text) ≡ false) c.in-Some.ensures.value s.begun in
+    let settled = sym (settled_of s.text.shown.mode s.text.shown.count s.text.shown.front.items s.text.shown.capped s.text.shown.filled) in
     record {
-      begun =
+      begun = λ owner is.
           ap progress.is_unopened c.in_ok-feed.ensures.state
-          ∙ begun_behind (text_progress v.text) c.split_at.result.0.now v.begun settled v.text.shown.capped;
+          ∙ begun_behind (text_progress s.text) c.split_at.result.0.now begun settled s.text.shown.capped;
     }
 
 pub returns-clause-state : goal.returns-clause-state
 returns-clause-state g c =
     let s = c.args.self.now in
-    let v = c.in-Some.field-0 in
-    let settled = sym (settled_of v.text.shown.mode v.text.shown.count v.text.shown.front.items v.text.shown.capped v.text.shown.filled) in
-    let now : state s ≡ within s.mode s.lengths v.owner (text_progress v.text) =
-    same_state s.mode s.lengths _ _ _ _ (is_open s.value _ v v.owner v.text refl c.in-Some.ensures.value refl refl) c.requires
+    let v = c.in-Some.owner in
+    let begun = is_begun s.owner v (progress.is_unopened (text_progress s.text) ≡ false) c.in-Some.ensures.value s.begun in
+    let settled = sym (settled_of s.text.shown.mode s.text.shown.count s.text.shown.front.items s.text.shown.capped s.text.shown.filled) in
+    let now : state s ≡ within s.mode s.lengths v (text_progress s.text) =
+    same_state s.mode s.lengths _ _ _ _ (is_open s.owner v (text_progress s.text) c.in-Some.ensures.value) c.requires
     in
     let took =
-    takes_bytes s.mode s.lengths v.owner (text_progress v.text) c.min.result c.missing.result c.args.bytes.now _ _
-    c.min.ensures c.missing.ensures c.split_at.ensures.front c.split_at.ensures.back v.begun settled (state s) now
+    takes_bytes s.mode s.lengths v (text_progress s.text) c.min.result c.missing.result c.args.bytes.now _ _
+    c.min.ensures c.missing.ensures c.split_at.ensures.front c.split_at.ensures.back begun settled (state s) now
     in
     same_state s.mode s.lengths _ _ _ _
-    (ap (spec.open_value v.owner) c.in_ok-feed.ensures.state)
+    (ap (spec.open_value v) c.in_ok-feed.ensures.state)
     (not_empty c.split_at.result.1.now c.is_empty.result c.is_empty.ensures)
     ∙ sym took
 
 pub returns-clause-bytes : goal.returns-clause-bytes
 returns-clause-bytes g c =
     let s = c.args.self.now in
-    let v = c.in-Some.field-0 in
-    let settled = sym (settled_of v.text.shown.mode v.text.shown.count v.text.shown.front.items v.text.shown.capped v.text.shown.filled) in
-    let now : state s ≡ within s.mode s.lengths v.owner (text_progress v.text) =
-    same_state s.mode s.lengths _ _ _ _ (is_open s.value _ v v.owner v.text refl c.in-Some.ensures.value refl refl) c.requires
+    let v = c.in-Some.owner in
+    let begun = is_begun s.owner v (progress.is_unopened (text_progress s.text) ≡ false) c.in-Some.ensures.value s.begun in
+    let settled = sym (settled_of s.text.shown.mode s.text.shown.count s.text.shown.front.items s.text.shown.capped s.text.shown.filled) in
+    let now : state s ≡ within s.mode s.lengths v (text_progress s.text) =
+    same_state s.mode s.lengths _ _ _ _ (is_open s.owner v (text_progress s.text) c.in-Some.ensures.value) c.requires
     in
     let wrote =
-    shows_bytes s.mode s.lengths v.owner (text_progress v.text) c.min.result c.missing.result c.args.bytes.now _ _
-    c.min.ensures c.missing.ensures c.split_at.ensures.front c.split_at.ensures.back v.begun settled (state s) now
+    shows_bytes s.mode s.lengths v (text_progress s.text) c.min.result c.missing.result c.args.bytes.now _ _
+    c.min.ensures c.missing.ensures c.split_at.ensures.front c.split_at.ensures.back begun settled (state s) now
     in
     c.in_ok-feed.ensures.bytes ∙ ap (append_known (g.W.DeviceOut.contents c.args.out.now)) (sym wrote)
