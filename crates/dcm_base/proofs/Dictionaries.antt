@@ -1,3 +1,7 @@
--- The search by number in the dictionary, and the order of tags.
+-- The searches in the dictionaries, what holds of their tables, and the order of tags.
 pub mod TagOrder
 pub mod ByNumber
+pub mod Entries
+pub mod Lines
+pub mod Unique
+pub mod Parts

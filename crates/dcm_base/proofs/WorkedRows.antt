@@ -8,3 +8,4 @@ pub mod Values
 pub mod LineMeanings
 pub mod Lines
 pub mod Builds
+pub mod Elements

@@ -1,18 +1,15 @@
 -- The statements of the laws.
-use Rattle.std.specs.Prelude.{◌≡◌, ◌≢◌, ◌≤◌, ◌%◌, ℕ, List, codes, length, true, false, Some}
-use Rattle.dcm_base.specs.Atoms.{Atom, Shows, front_atoms}
+use Rattle.std.specs.Prelude.{◌≡◌, ◌≢◌, ◌≤◌, ◌/◌, ◌%◌, ◌++◌, ◌==◌, ℕ, Bool, not, List, codes, length, true, false, Some}
+use Rattle.std.specs.List.{list_all}
+use Rattle.dcm_base.specs.Dictionary.{Element}
 use Rattle.dcm_base.specs.Front.{Front}
-use Rattle.dcm_base.specs.Spelling.{SpellsFront}
 use Rattle.dcm_base.specs.Stop.{Bar, Stop}
 use Rattle.dcm_base.specs.Reads.{Reads}
-use Rattle.dcm_base.specs.Build.{rebuilt}
-use Rattle.dcm_base.specs.Recode.{is_explicit, recode_set}
-use Rattle.dcm_base.specs.Normal.{FrontFits, normal}
-use Rattle.dcm_base.specs.Tree.{Trees}
+use Rattle.dcm_base.specs.Normal.{FrontFits}
 use Rattle.dcm_base.specs.Number.{AreBytes, HasLength, IsLength, IsTag}
 use Rattle.dcm_base.specs.Representation.{is_sequence, letters}
-use Rattle.dcm_base.specs.Dump.{line, leaf_line, fragment_line, sequence_line, item_line, item_end_line, sequence_end_line}
-use Rattle.dcm_base.specs.Line.{LineMeans, one, show_leaf, begin_sequence, begin_fragments, begin_item, show_fragment, end_item, end_sequence, may_be_sequence, may_be_fragments}
+use Rattle.dcm_base.specs.Dump.{line, leaf_line, fragment_line, sequence_line}
+use Rattle.dcm_base.specs.Line.{LineMeans, one, show_leaf, begin_sequence, begin_fragments, show_fragment, may_be_sequence, may_be_fragments}
 use Rattle.dcm_base.specs.declared.length.Length.{Length}
 use Rattle.dcm_base.specs.declared.length.Length.TheVariants.{Undefined}
 use Rattle.dcm_base.specs.declared.mode.Mode.TheVariants.{Full}
@@ -66,3 +63,15 @@ abbrev pub ImplicitFits : Type 0
 ImplicitFits =
     (target : Syntax) (bar : Bar) (start : ℕ) (bytes : List ℕ) (f : Front) (stop : Stop) → Reads bar Implicit start bytes f stop
     → FrontFits target f
+
+-- the keyword of an element on a line of its own
+abbrev pub as_line : Element → List ℕ
+as_line e = e.2 ++ codes "\n"
+
+-- whether bytes are without a line feed
+abbrev pub is_line : List ℕ → Bool
+is_line bytes = list_all (λ b. not (b == 10)) bytes
+
+-- whether a tag of the number is of an even group
+abbrev pub is_even : ℕ → Bool
+is_even n = n / 65536 % 2 == 0

@@ -1,7 +1,7 @@
 //! What all crates speak of: facts of the standard, faults, and devices.
 //!
 //! - **Facts**: `Tag`, `Vr` with its letters, unit and pad byte, `Length`, `Syntax`; `element`, `keyword` and `tag_of` of the
-//!   dictionary's extract (PS3.6); `uid_name` and `uid_of`; `coding_of` a transfer syntax; `form_of` an element.
+//!   dictionary's extract (PS3.6), `element_in`, `vr_in`, `keyword_in` and `tag_in` of a `Dictionary`, the extract or the whole; `uid_name` and `uid_of`; `coding_of` a transfer syntax; `form_of` an element.
 //! - **Faults**: `Fault` of a file, `LineFault` of lines, `EditRefusal` and `WordFault` of words, each with its number and text.
 //! - **Devices**: the traits `DeviceIn` and `DeviceOut`; `MemIn` and `MemOut` over memory, `Std` over std's readers and
 //!   writers; `Watched` around a device remembers whether it has failed. Bytes go through `get_some`, `put_all`, `put_parts`,
@@ -24,8 +24,10 @@ mod form;
 pub mod laws;
 mod length;
 mod level;
+mod lookup;
 mod memory;
 mod mode;
+mod standard;
 mod std_device;
 mod syntax;
 mod tag;
@@ -41,8 +43,10 @@ pub use fault::{EditRefusal, Fault, LineFault, Stop, WordFault};
 pub use form::{Form, form_of};
 pub use length::Length;
 pub use level::{Container, Level, MOST_LISTS};
+pub use lookup::{Dictionary, element_in, keyword_in, tag_in, vr_in};
 pub use memory::{Measured, MemIn, MemOut};
 pub use mode::Mode;
+pub use standard::{Entry, KEYWORDS, STANDARD};
 pub use std_device::Std;
 pub use syntax::{Coding, Syntax};
 pub use tag::{ITEM_GROUP, META_GROUP, Tag};

@@ -31,30 +31,30 @@ abbrev ascend_from : ℕ → List ℕ → Bool
 ascend_from n [] = true
 ascend_from n (x ∷ xs) = nat_lt n x && ascend_from x xs
 
-abbrev ascend : List ℕ → Bool
+abbrev pub ascend : List ℕ → Bool
 ascend [] = true
 ascend (x ∷ xs) = ascend_from x xs
 
 first_above : (n x : ℕ) (b : Bool) → nat_lt n x && b ≡ true → n < x
 first_above n x b p = grind (arith, nat_tests)
 
-rest_ascend : (a b : Bool) → a && b ≡ true → b ≡ true
-rest_ascend true b p = p
-rest_ascend false b p = absurd (false≢true p)
+pub rest_passes : (a b : Bool) → a && b ≡ true → b ≡ true
+rest_passes true b p = p
+rest_passes false b p = absurd (false≢true p)
 
 increasing_from : (n : ℕ) (xs : List ℕ) → ascend_from n xs ≡ true → IsStrictlyIncreasing (n ∷ xs)
 increasing_from n [] p k within = absurd (omega arith)
 increasing_from n (x ∷ xs) p zero within = first_above n x _ p
 increasing_from n (x ∷ xs) p (suc k) within =
     let next : suc k + 1 ≡ suc (k + 1) = omega arith in
-    subst (λ m. slice_index (x ∷ xs) k < slice_index (n ∷ x ∷ xs) m) (sym next) (increasing_from x xs (rest_ascend _ _ p) k (omega arith))
+    subst (λ m. slice_index (x ∷ xs) k < slice_index (n ∷ x ∷ xs) m) (sym next) (increasing_from x xs (rest_passes _ _ p) k (omega arith))
 
-increasing : (xs : List ℕ) → ascend xs ≡ true → IsStrictlyIncreasing xs
+pub increasing : (xs : List ℕ) → ascend xs ≡ true → IsStrictlyIncreasing xs
 increasing [] p = λ k within. absurd (omega arith)
 increasing (x ∷ xs) p = increasing_from x xs p
 
 -- the numbers of the table ascend
-numbers_ascend : ascend (map (λ e. e.0) elements) ≡ true
+pub numbers_ascend : ascend (map (λ e. e.0) elements) ≡ true
 unfolding elements
 numbers_ascend = refl
 

@@ -1,0 +1,113 @@
+#!/usr/bin/env python3
+"""Makes crates/dcm_base/src/standard.rt, the table of the whole data dictionary (PS3.6 sections 6 to 9, PS3.7 E).
+
+    scripts/make_dictionary.py [--list] SOURCE
+
+SOURCE is `_dicom_dict.py` of pydicom or `dicom.dic` of DCMTK: each is the standard's tables as a file. The table goes to standard
+output, and one line on standard error tells which edition of the standard was read and how many elements are in the table.
+With --list the rows go out as plain lines instead, to compare two sources. The table in the repository is of pydicom 2.3.1:
+
+    scripts/make_dictionary.py /usr/lib/python3/dist-packages/pydicom/_dicom_dict.py > crates/dcm_base/src/standard.rt
+
+In the table is each element that has a keyword and exactly one VR, in tag order, retired ones too, and PixelData, as OW. Not in
+it are the other elements between two VRs, those of repeating groups (tags with `xx`), items and delimiters, and elements without
+a keyword.
+"""
+import ast
+import re
+import sys
+from pathlib import Path
+from typing import NamedTuple
+
+PIXEL_DATA = 0x7FE00010
+ITEMS = 0xFFFE
+
+# What the standard writes with `x` and DCMTK as one tag of them: (0028,04x0), (0028,08x0), (1000,xxx0), (1010,xxxx).
+REPEATED = re.compile("002804[1-9A-F][0-3]|002808[0-9A-F][02348]|1000[0-9A-F]{3}[0-5]|1010[0-9A-F]{4}")
+
+
+class Element(NamedTuple):
+    number: int
+    vr: str
+    keyword: str
+
+
+def read_pydicom(path: Path) -> tuple[str, list[Element]]:
+    """The edition and the elements of `_dicom_dict.py`; the edition is in `_version.py` beside it."""
+    tables = [s for s in ast.parse(path.read_text()).body if isinstance(s, ast.AnnAssign)]
+    table = next(ast.literal_eval(s.value) for s in tables if s.target.id == "DicomDictionary")
+    edition = re.search(r"__dicom_version__.*'(\w+)'", (path.parent / "_version.py").read_text())[1]
+    return edition, [Element(number, row[0], row[4]) for number, row in table.items()]
+
+
+def read_dcmtk(path: Path) -> tuple[str, list[Element]]:
+    """The edition and the elements of `dicom.dic`: tag, VR, keyword, separated by tabulators. `up` is an UL."""
+    text = path.read_text()
+    edition = re.search(r"PS 3\.6-(\w+)", text)[1]
+    elements = []
+    for line in text.splitlines():
+        row = re.match(r"\(([0-9A-Fa-f]{4}),([0-9A-Fa-f]{4})\)\t(\w+)\t(?:RETIRED_)?(\w+)\t", line)
+        if row:
+            vr = {"up": "UL", "px": "OW"}.get(row[3], row[3])
+            elements.append(Element(int(row[1] + row[2], 16), vr, row[4]))
+    return edition, elements
+
+
+def is_in_table(element: Element) -> bool:
+    one_vr = re.fullmatch("[A-Z]{2}", element.vr)
+    item = element.number >> 16 == ITEMS
+    return bool(one_vr and element.keyword and not item and not REPEATED.fullmatch(f"{element.number:08X}"))
+
+
+def chosen(elements: list[Element]) -> list[Element]:
+    """The elements of the table, in tag order."""
+    elements = [e._replace(vr="OW") if e.number == PIXEL_DATA else e for e in elements]
+    table = sorted(filter(is_in_table, elements))
+    assert len({e.number for e in table}) == len({e.keyword for e in table}) == len(table)
+    return table
+
+
+def rust(edition: str, elements: list[Element]) -> str:
+    """The file of the table."""
+    text = "".join(e.keyword + "\n" for e in elements)
+    rows, start = [], 0
+    for e in elements:
+        tag = f"0x{e.number >> 16:04X}_{e.number & 0xFFFF:04X}"
+        rows.append(f"    ({tag}, Vr::{e.vr}, {start}, {len(e.keyword)}), // {e.keyword}\n")
+        start += len(e.keyword) + 1
+    return f"""//! The data dictionary of the standard (PS3.6 sections 6 to 9, PS3.7 E), edition {edition}.
+//! `scripts/make_dictionary.py` wrote this file.
+use crate::vr::Vr;
+
+/// A data element: its number, its value representation, where in `KEYWORDS` its keyword begins, and how long that is.
+pub type Entry = (u32, Vr, u32, u8);
+
+/// The keywords of the elements, one a line.
+pub const KEYWORDS: &[u8; {len(text)}] = b"\\
+{text}";
+
+/// The elements, in tag order.
+pub const STANDARD: [Entry; {len(elements)}] = [
+{"".join(rows)}];
+"""
+
+
+def main(words: list[str]) -> int:
+    paths = [Path(w) for w in words if w != "--list"]
+    if len(paths) != 1:
+        print(__doc__, file=sys.stderr)
+        return 1
+    read = read_dcmtk if paths[0].suffix == ".dic" else read_pydicom
+    edition, elements = read(paths[0])
+    table = chosen(elements)
+    if "--list" in words:
+        for e in table:
+            print(f"({e.number >> 16:04x},{e.number & 0xFFFF:04x}) {e.vr} {e.keyword}")
+    else:
+        sys.stdout.write(rust(edition, table))
+    print(f"PS3.6 {edition}: {len(table)} of {len(elements)} elements", file=sys.stderr)
+    return 0
+
+
+if __name__ == "__main__":
+    sys.exit(main(sys.argv[1:]))
