@@ -1,4 +1,5 @@
 mod data_sets;
+mod dictionaries;
 mod edits;
 mod examples;
 mod files;
