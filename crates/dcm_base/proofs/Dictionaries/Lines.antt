@@ -1,6 +1,7 @@
 -- The keywords of the standard, cut from their text one after another: they are its lines.
 use Rattle.std.proofs.Common.{◌≡◌, ℕ, ◌+◌, ◌-◌, ◌≤◌, Bool, true, ◌&&◌, nat_le, List, [], ◌∷◌, ◌++◌, flat_map, map, take, drop, refl, ◌∙◌, sym, ap, ap₂, arith, drop-drop}
-use Rattle.std.specs.Prelude.{codes}
+use Rattle.std.specs.Prelude.{codes, bytes_eq}
+use Rattle.std.proofs.lemmas.Slice.Eq.{bytes_eq-Decides}
 use Rattle.std.specs.List.{list_all}
 use Rattle.std.proofs.lemmas.Bool.Decides.{nat_tests}
 use Rattle.dcm_base.specs.Dictionary.{Element, Entry, entries, keywords, keyword_of, element_of, elements_in}
@@ -44,9 +45,13 @@ standard_keywords = cut 0 entries keywords
 pub standard_keywords_are : standard_keywords ≡ map (keyword_of keywords) entries
 standard_keywords_are = cut_is keywords 0 entries keywords_rise
 
-joined : flat_map (λ k. k ++ codes "\n") standard_keywords ≡ keywords
+-- a test, so that a wrong row is refused at once
+joined_test : bytes_eq (flat_map (λ k. k ++ codes "\n") standard_keywords) keywords ≡ true
 unfolding entries keywords
-joined = refl
+joined_test = refl
+
+joined : flat_map (λ k. k ++ codes "\n") standard_keywords ≡ keywords
+joined = (bytes_eq-Decides _ _).0 joined_test
 
 unbroken : list_all is_line standard_keywords ≡ true
 unfolding entries keywords
