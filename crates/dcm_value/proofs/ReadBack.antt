@@ -4,4 +4,5 @@ pub mod DigitSteps
 pub mod Parts
 pub mod Texts
 pub mod Units
+pub mod HexText
 pub mod Values

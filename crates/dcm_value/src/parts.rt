@@ -78,8 +78,8 @@ pub fn tag_of_text(text: &[u8]) -> Option<Tag>
     if text.len() != 11 || text[0] != b'(' || text[5] != b',' || text[10] != b')' {
         return None;
     }
-    let group = hexadecimal(4, &text[1..5])? as u16;
-    let element = hexadecimal(4, &text[6..10])? as u16;
+    let group = hexadecimal(2, &text[1..5])? as u16;
+    let element = hexadecimal(2, &text[6..10])? as u16;
     Some(Tag { group, element })
 }
 
@@ -98,7 +98,7 @@ fn bytes(size: usize, text: &[u8]) -> Option<ArrayVec<u8, 8>>
     requires { IsUnit size }
     ensures { option_map (λ v. v.items) result ≡ spec.hex_value size text.now }
 {
-    let number = hexadecimal(2 * size, text)?;
+    let number = hexadecimal(size, text)?;
     Some(little(size, number))
 }
 

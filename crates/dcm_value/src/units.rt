@@ -81,7 +81,7 @@ fn append_hexadecimal<const N: usize>(bytes: &[u8], text: &mut ArrayVec<u8, N>)
 }
 
 /// The number that the bytes are, the highest first.
-fn number(bytes: &[u8]) -> u64
+pub fn number(bytes: &[u8]) -> u64
     requires { length bytes.now ≤ 8 }
     ensures value { result ≡ number_of (reverse bytes.now) }
     ensures small { result < 256 ^ length bytes.now }

@@ -166,7 +166,7 @@ tag_back (a ∷ b ∷ c ∷ d ∷ []) e h =
 tag_back _ e h = absurd (omega arith)
 
 -- the digits of a list of bytes, the highest first
-high_number : ℕ → List ℕ → ℕ
+unfoldable pub high_number : ℕ → List ℕ → ℕ
 high_number so_far [] = so_far
 high_number so_far (b ∷ bs) = high_number (so_far * 256 + b) bs
 
@@ -185,7 +185,7 @@ unfolding high_number
 high_last so_far [] b = refl
 high_last so_far (x ∷ xs) b = high_last (so_far * 256 + x) xs b
 
-high_reverse : (u : List ℕ) → high_number 0 (reverse u) ≡ number_of u
+pub high_reverse : (u : List ℕ) → high_number 0 (reverse u) ≡ number_of u
 unfolding high_number
 high_reverse [] = refl
 high_reverse (b ∷ bs) = ap (high_number 0) (reverse-append (b ∷ []) bs) ∙ high_last 0 (reverse bs) b ∙ ap (λ n. n * 256 + b) (high_reverse bs) ∙ (let e : number_of bs * 256 + b ≡ b + 256 * number_of bs = omega arith in e)

@@ -5,6 +5,6 @@ use Rattle.dcm_value.proofs.digits.number.Given as goal
 -- the digits that are left lead to where all of them lead
 abbrev pub invariant-loop-byte : goal.invariant-loop-byte
 invariant-loop-byte l = record {
-  same : number_in l.base 0 l.digits ≡ number_in l.base l.number (drop l.byte-index l.digits);
-  small : l.number < 16 ^ l.byte-index;
+  same : number_in 10 0 l.digits ≡ number_in 10 l.number (drop l.byte-index l.digits);
+  small : l.number < 10 ^ l.byte-index;
 }
