@@ -2,3 +2,4 @@
 pub mod Puts
 pub mod Runs
 pub mod PartsOut
+pub mod HexDigits
