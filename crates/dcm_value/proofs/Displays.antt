@@ -10,3 +10,4 @@ pub mod Written
 pub mod TextLaws
 pub mod WholeUnits
 pub mod TextSteps
+pub mod UpperDigits

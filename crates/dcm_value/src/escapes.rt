@@ -1,5 +1,5 @@
 // The bytes of a text as a dump shows them.
-ghost use Rattle.std.specs.Prelude.{◌≡◌, ◌<◌, ◌≤◌, ◌+◌, ◌*◌, ◌++◌, ◌%◌, ◌==◌, ◌&&◌, if◌then◌else◌, [], length, count_by};
+ghost use Rattle.std.specs.Prelude.{◌≡◌, ◌≤◌, ◌+◌, ◌*◌, ◌++◌, ◌/◌, ◌%◌, ◌==◌, ◌&&◌, if◌then◌else◌, [], ◌∷◌, length, count_by};
 ghost use Rattle.dcm_base.specs.ValueText as spec;
 ghost use Rattle.dcm_base.specs.Representation.{pad};
 ghost use Rattle.dcm_value.specs.Plain.{is_plain_byte};
@@ -8,16 +8,14 @@ ghost use Rattle.std.specs.List.{list_all};
 use arrayvec::ArrayVec;
 use dcm_base::Vr;
 
-/// The digit of a half byte, in upper case.
-fn upper(half: u8) -> u8
-    requires { half < 16 }
-    ensures { result ≡ spec.upper half }
+/// The two digits of a byte, in upper case.
+fn upper_digits(byte: u8) -> [u8; 2]
+    ensures { result ≡ spec.upper (byte / 16) ∷ spec.upper (byte % 16) ∷ [] }
 {
-    if half < 10 {
-        b'0' + half
-    } else {
-        b'A' - 10 + half
-    }
+    let mut digits = [0; 2];
+    let _ = hex::encode_to_slice([byte], &mut digits);
+    let [high, low] = digits;
+    [high.to_ascii_uppercase(), low.to_ascii_uppercase()]
 }
 
 /// Whether a byte of a text is shown as it is: all but controls, `%` and `]` are.
@@ -53,9 +51,10 @@ fn append_escaped<const N: usize>(byte: u8, text: &mut ArrayVec<u8, N>)
     if is_plain(byte) {
         text.push(byte);
     } else {
+        let [high, low] = upper_digits(byte);
         text.push(b'%');
-        text.push(upper(byte / 16));
-        text.push(upper(byte % 16));
+        text.push(high);
+        text.push(low);
     }
 }
 
