@@ -1,15 +1,11 @@
 -- The statements of the laws.
-use Rattle.std.specs.Prelude.{◌≡◌, ◌↔◌, ◌++◌, ℕ, List, IsTrue, Option, None, Some, option_to_list, length, drop, fold}
+use Rattle.std.specs.Prelude.{◌≡◌, ◌↔◌, ◌++◌, ℕ, List, IsTrue, Option, None, option_to_list, length, drop, fold}
 use Rattle.dcm_base.specs.declared.fault.Fault.{Fault}
 use Rattle.dcm_base.specs.declared.syntax.Syntax.{Syntax}
 use Rattle.dcm_head.specs.declared.head.Head.{Head}
-use Rattle.dcm_head.specs.declared.head.HeadRead.TheVariants.{Done, More, BadVr}
-use Rattle.dcm_base.specs.Head.{HeadAt, HeadSpells}
-use Rattle.dcm_head.specs.HeadBytes.{HasSpelling, head_bytes}
-use Rattle.dcm_head.specs.HeadRead.{head_read, Begins, IsShort, HasBadVr}
+use Rattle.dcm_base.specs.Head.{HeadAt}
 use Rattle.dcm_base.specs.MetaReads.{MetaAnswer, MetaReads, is_undecided}
-use Rattle.dcm_head.specs.declared.meta_read.MetaEnd.{MetaEnd}
-use Rattle.dcm_head.specs.MetaReading.{BeginsAt, CallEnds, CallRefuses, Reading, Says, at_start, meta_step, meta_finished}
+use Rattle.dcm_head.specs.MetaReading.{BeginsAt, CallRefuses, at_start, meta_step}
 
 -- bytes begin with at most one head
 abbrev pub OneHead : Type 0
