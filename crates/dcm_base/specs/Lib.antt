@@ -32,4 +32,5 @@ pub mod Atoms
 pub mod Device
 pub mod Memory
 pub mod Steps
+pub mod Outputs
 pub mod Laws

@@ -1,9 +1,8 @@
 // The head of a file: preamble, prefix and meta group (PS3.10 7.1).
 ghost use Rattle.std.specs.Prelude.{◌≡◌, ◌+◌, ◌-◌, ◌≤◌, ◌<◌, None, Some, take, drop, length, fold};
-ghost use Rattle.dcm_base.specs.Device.{Puts, Tells};
-ghost use Rattle.dcm_base.specs.NewMeta.{new_meta};
+ghost use Rattle.dcm_base.specs.Outputs as outputs;
 ghost use Rattle.dcm_head.specs.MetaReading as reading;
-ghost use Rattle.dcm_head.specs.Rewriting.{OfElements};
+ghost use Rattle.dcm_head.specs.Rewriting.{Renews};
 
 use crate::group::{Place, place_of};
 use crate::meta_read::{MetaEnd, MetaRead};
@@ -205,8 +204,8 @@ impl Meta {
     ) -> Result<(), WriteFailed>
         requires ended { reading.HasEnded self.now.end }
         requires uid { length uid.now < 65535 }
-        ensures bytes { OfElements (reading.group_of self.now) (λ elements. Puts (W.contents out.old) (W.contents out.new) (new_meta elements uid.now) result) }
-        ensures failed { Tells (W.has_failed out.old) (W.has_failed out.new) result }
+        ensures bytes { Renews W.DeviceOut out.old out.new (reading.group_of self.now) uid.now result }
+        ensures failed { outputs.Tells W.DeviceOut out.old out.new result }
     {
         write_meta(self.bytes(), uid, out)
     }

@@ -1,8 +1,8 @@
 // A meta group written anew, with a transfer syntax (PS3.10 7.1).
 ghost use Rattle.std.specs.Prelude.{◌≡◌, ◌≤◌, ◌<◌, ◌||◌, ◌^◌, IfSome, IfNone, [], length};
 ghost use Rattle.std.specs.Int.{to_le_bytes, w32};
-ghost use Rattle.dcm_base.specs.Device.{Puts, Tells};
-ghost use Rattle.dcm_base.specs.NewMeta.{new_elements, new_meta};
+ghost use Rattle.dcm_base.specs.Outputs as outputs;
+ghost use Rattle.dcm_base.specs.NewMeta.{new_elements};
 ghost use Rattle.dcm_base.specs.Recode.{even as even_size, head as recoded_head, recoded_leaf};
 ghost use Rattle.dcm_base.specs.Tag.{is_tag};
 ghost use Rattle.dcm_base.specs.declared.length.Length.TheVariants.{Known};
@@ -49,8 +49,8 @@ fn put_leaf<W: DeviceOut>(
     value: &[u8],
 ) -> Result<(), WriteFailed>
     requires { length value.now < 65535 }
-    ensures bytes { Puts (W.contents out.old) (W.contents out.new) (recoded_leaf Little tag vr value.now) result }
-    ensures failed { Tells (W.has_failed out.old) (W.has_failed out.new) result }
+    ensures bytes { outputs.Puts W.DeviceOut out.old out.new (recoded_leaf Little tag vr value.now) result }
+    ensures failed { outputs.Tells W.DeviceOut out.old out.new result }
 {
     let head = leaf_head(tag, vr, value.len());
     let pad = [vr.pad()];
@@ -63,8 +63,8 @@ fn put_leaf<W: DeviceOut>(
 fn renewed<'a>(first: MetaElement<'a>, named: bool, uid: &'a [u8]) -> Option<(Vr, &'a [u8])>
     requires value { length first.value.now < 65535 }
     requires uid { length uid.now < 65535 }
-    ensures some { IfSome result (λ r. recoded_leaf Little first.entry.tag r.0 r.1.now ≡ spec.written_element named uid.now first.entry.tag first.entry.vr first.entry.value.now) }
-    ensures none { IfNone result (spec.written_element named uid.now first.entry.tag first.entry.vr first.entry.value.now ≡ []) }
+    ensures some { IfSome result (λ r. recoded_leaf Little first.entry.tag r.0 r.1.now ≡ spec.written_as named uid.now first.entry) }
+    ensures none { IfNone result (spec.written_as named uid.now first.entry ≡ []) }
     ensures limit { IfSome result (λ r. length r.1.now < 65535) }
 {
     let is_syntax = first.tag.names_syntax();
@@ -81,7 +81,7 @@ fn renewed<'a>(first: MetaElement<'a>, named: bool, uid: &'a [u8]) -> Option<(Vr
 fn element_size(first: MetaElement<'_>, named: bool, uid: &[u8]) -> usize
     requires value { length first.value.now < 65535 }
     requires uid { length uid.now < 65535 }
-    ensures size { result ≡ length (spec.written_element named uid.now first.entry.tag first.entry.vr first.entry.value.now) }
+    ensures size { result ≡ length (spec.written_as named uid.now first.entry) }
     ensures limit { result < 65547 }
 {
     match renewed(first, named, uid) {
@@ -98,8 +98,8 @@ fn put_element<W: DeviceOut>(
 ) -> Result<(), WriteFailed>
     requires value { length first.value.now < 65535 }
     requires uid { length uid.now < 65535 }
-    ensures bytes { Puts (W.contents out.old) (W.contents out.new) (spec.written_element named uid.now first.entry.tag first.entry.vr first.entry.value.now) result }
-    ensures failed { Tells (W.has_failed out.old) (W.has_failed out.new) result }
+    ensures bytes { outputs.Puts W.DeviceOut out.old out.new (spec.written_as named uid.now first.entry) result }
+    ensures failed { outputs.Tells W.DeviceOut out.old out.new result }
 {
     match renewed(first, named, uid) {
         Some((vr, value)) => put_leaf(out, first.tag, vr, value),
@@ -139,8 +139,8 @@ fn put_elements<W: DeviceOut>(
 ) -> Result<(), WriteFailed>
     requires group { length group.now ≤ 16384 }
     requires uid { length uid.now < 65535 }
-    ensures bytes { spec.OfElements group.now (λ elements. Puts (W.contents out.old) (W.contents out.new) (new_elements elements uid.now) result) }
-    ensures failed { Tells (W.has_failed out.old) (W.has_failed out.new) result }
+    ensures bytes { spec.OfElements group.now (λ elements. outputs.Puts W.DeviceOut out.old out.new (new_elements elements uid.now) result) }
+    ensures failed { outputs.Tells W.DeviceOut out.old out.new result }
 {
     let mut rest = group;
     let mut named = false;
@@ -162,8 +162,8 @@ pub fn write_meta<W: DeviceOut>(
 ) -> Result<(), WriteFailed>
     requires run { length run.now ≤ 16384 }
     requires uid { length uid.now < 65535 }
-    ensures bytes { spec.OfElements run.now (λ elements. Puts (W.contents out.old) (W.contents out.new) (new_meta elements uid.now) result) }
-    ensures failed { Tells (W.has_failed out.old) (W.has_failed out.new) result }
+    ensures bytes { spec.Renews W.DeviceOut out.old out.new run.now uid.now result }
+    ensures failed { outputs.Tells W.DeviceOut out.old out.new result }
 {
     let size = elements_size(run, uid) as u32;
     put_leaf(out, Tag::META_LENGTH, Vr::UL, &size.to_le_bytes())?;

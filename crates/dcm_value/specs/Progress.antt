@@ -10,7 +10,7 @@ use Rattle.dcm_base.specs.ValueText.{shape, shown_unit, is_single, escape, unit_
 use Rattle.dcm_value.specs.declared.way.Way.{Way}
 use Rattle.dcm_value.specs.declared.way.Way.TheVariants.{InBrackets, ByName, InUnits}
 use Rattle.dcm_value.specs.Way.{way_of}
-use Rattle.dcm_value.specs.Units.{one_text, separated}
+use Rattle.dcm_value.specs.Units.{one_text, separated, separated_units}
 use Rattle.dcm_value.specs.Display.{Display, blank, emit, at_once, ending}
 
 pub record Progress : Type 0 where
@@ -98,6 +98,17 @@ shown p v = shown_after p.values (one_text p.vr p.syntax) (units (shown_unit p.v
 
 abbrev pub shows : Progress → List ℕ → Progress
 shows p v = counts p (length v / shown_unit p.vr) (shown p v)
+
+-- the text of the first unit
+abbrev pub first : Progress → List ℕ → List ℕ
+first p u = one_text p.vr p.syntax u
+
+-- the text of whole units behind others, and what it leads to
+abbrev pub others : Progress → List ℕ → List ℕ
+others p v = separated_units p.vr p.syntax v
+
+abbrev pub shows_others : Progress → List ℕ → Progress
+shows_others p v = counts p (length v / shown_unit p.vr) (others p v)
 
 -- one byte more
 unfoldable pub step : Progress → ℕ → Progress

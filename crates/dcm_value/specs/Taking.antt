@@ -1,10 +1,14 @@
 -- What a reader of a value's text comes to.
-use Rattle.std.specs.Prelude.{◌≡◌, ℕ, ◌<◌, ◌≤◌, List, ◌++◌, length, Option, Some, None, Result, MatchResult, ◌⊎◌}
-use Rattle.dcm_base.specs.ReadValue.{◌>>=◌, within_limit, VALUE_LIMIT}
+use Rattle.std.specs.Prelude.{◌≡◌, ℕ, ◌<◌, ◌≤◌, List, [], ◌∷◌, ◌++◌, length, Option, Some, None, Result, MatchResult, ◌⊎◌}
+use Rattle.dcm_base.specs.ReadValue.{◌>>=◌, bracketed_value, within_limit, VALUE_LIMIT}
 
 -- what is read with bytes in front
 abbrev pub behind : List ℕ → Option (List ℕ) → Option (List ℕ)
 behind front o = o >>= λ more. Some (front ++ more)
+
+-- a text in brackets is this byte and what is behind it
+abbrev pub Begins : List ℕ → ℕ → List ℕ → Type 0
+Begins text byte after = bracketed_value text ≡ behind (byte ∷ []) (bracketed_value after)
 
 -- it took the value that was meant, or none is meant within the limit
 abbrev pub Reads : {T E : Type 0} → Option (List ℕ) → List ℕ → Result T E → Type 0

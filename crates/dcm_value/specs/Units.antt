@@ -4,8 +4,8 @@ use Rattle.dcm_base.specs.declared.vr.Vr.{Vr}
 use Rattle.dcm_base.specs.declared.syntax.Syntax.{Syntax}
 use Rattle.dcm_base.specs.declared.syntax.Syntax.TheVariants.{Implicit, Little, Big}
 use Rattle.dcm_base.specs.Representation.{unit}
-use Rattle.dcm_base.specs.Value.{number_of, turned, order}
-use Rattle.dcm_base.specs.ValueText.{Shape, unsigned, signed, tags, hex_byte, signed_text, tag_text, shape, unit_text}
+use Rattle.dcm_base.specs.Value.{number_of, turned, order, units}
+use Rattle.dcm_base.specs.ValueText.{Shape, unsigned, signed, tags, hex_byte, signed_text, tag_text, shape, shown_unit, unit_text}
 use Rattle.dcm_value.specs.declared.units.Kind.{Kind}
 use Rattle.dcm_value.specs.declared.units.Kind.TheVariants.{Unsigned, Signed, Tags, Hexadecimal}
 
@@ -35,3 +35,7 @@ one_text vr syntax u = unit_text (shape vr) (order syntax vr u)
 -- units, each behind a backslash
 abbrev pub separated : (List ℕ → List ℕ) → List (List ℕ) → List ℕ
 separated t us = flat_map (λ u. 92 ∷ t u) us
+
+-- the whole units of a value, each behind a backslash
+abbrev pub separated_units : Vr → Syntax → List ℕ → List ℕ
+separated_units vr syntax v = separated (one_text vr syntax) (units (shown_unit vr) v)

@@ -1,9 +1,8 @@
 // What is shown of a value, cut or whole.
 ghost use Rattle.std.specs.Prelude.{◌≡◌, ◌==◌, ◌&&◌, nat_lt, ◌+◌, ◌-◌, ◌<◌, ◌≤◌, ◌++◌, length, take, replicate, List, ℕ, OnOk, true};
-ghost use Rattle.dcm_base.specs.Device.{Puts, Tells};
-ghost use Rattle.dcm_base.specs.ValueText.{escaped, identified, padded as padded_to_40, shown_unit as unit_size};
-ghost use Rattle.dcm_base.specs.Value.{units as units_of};
-ghost use Rattle.dcm_value.specs.Units.{one_text, separated};
+ghost use Rattle.dcm_base.specs.Outputs as outputs;
+ghost use Rattle.dcm_base.specs.ValueText.{escaped, identified, padded as padded_to_40};
+ghost use Rattle.dcm_value.specs.Units.{separated_units};
 ghost use Rattle.dcm_value.specs.Display as spec;
 
 use crate::escapes::{append_text, is_plain_text};
@@ -49,8 +48,8 @@ fn padded(display: &[u8]) -> ArrayVec<u8, 66>
 /// Spaces up to 40 bytes.
 #[tactic(auto, using(crate::proofs::Displays::Facts::spaces))]
 fn pad<W: DeviceOut>(shown: usize, out: &mut Watched<W>) -> Result<(), WriteFailed>
-    ensures bytes { Puts (W.contents out.old) (W.contents out.new) (replicate (40 - shown) 32) result }
-    ensures failed { Tells (W.has_failed out.old) (W.has_failed out.new) result }
+    ensures bytes { outputs.Puts W.DeviceOut out.old out.new (replicate (40 - shown) 32) result }
+    ensures failed { outputs.Tells W.DeviceOut out.old out.new result }
 {
     let spaces = [b' '; 40];
     let (_, rest) = spaces.split_at(shown.min(40));
@@ -93,8 +92,8 @@ impl Shown {
         out: &mut Watched<W>,
     ) -> Result<(), WriteFailed>
         ensures state { OnOk result (display self.new ≡ spec.emit (display self.old) bytes.now) }
-        ensures bytes { Puts (W.contents out.old) (W.contents out.new) (spec.at_once self.old.mode bytes.now) result }
-        ensures failed { Tells (W.has_failed out.old) (W.has_failed out.new) result }
+        ensures bytes { outputs.Puts W.DeviceOut out.old out.new (spec.at_once self.old.mode bytes.now) result }
+        ensures failed { outputs.Tells W.DeviceOut out.old out.new result }
     {
         match self.mode {
             Mode::Full => put_all(out, bytes)?,
@@ -106,8 +105,8 @@ impl Shown {
 
     /// Writes what is left to write, and the spaces after it.
     pub fn end<W: DeviceOut>(&self, out: &mut Watched<W>) -> Result<(), WriteFailed>
-        ensures bytes { Puts (W.contents out.old) (W.contents out.new) (spec.ending (display self.now)) result }
-        ensures failed { Tells (W.has_failed out.old) (W.has_failed out.new) result }
+        ensures bytes { outputs.Puts W.DeviceOut out.old out.new (spec.ending (display self.now)) result }
+        ensures failed { outputs.Tells W.DeviceOut out.old out.new result }
     {
         match self.mode {
             Mode::Full => pad(self.count, out),
@@ -127,8 +126,8 @@ impl Shown {
         out: &mut Watched<W>,
     ) -> Result<(), WriteFailed>
         ensures state { OnOk result (display self.new ≡ spec.emit (display self.old) (escaped bytes.now)) }
-        ensures bytes { Puts (W.contents out.old) (W.contents out.new) (spec.at_once self.old.mode (escaped bytes.now)) result }
-        ensures failed { Tells (W.has_failed out.old) (W.has_failed out.new) result }
+        ensures bytes { outputs.Puts W.DeviceOut out.old out.new (spec.at_once self.old.mode (escaped bytes.now)) result }
+        ensures failed { outputs.Tells W.DeviceOut out.old out.new result }
     {
         if bytes.len() <= TEXT / 3 && is_plain_text(bytes) {
             return self.emit(bytes, out);
@@ -153,9 +152,9 @@ impl Shown {
         units: &[u8],
         out: &mut Watched<W>,
     ) -> Result<(), WriteFailed>
-        ensures state { OnOk result (display self.new ≡ spec.emit (display self.old) (separated (one_text vr syntax) (units_of (unit_size vr) units.now))) }
-        ensures bytes { Puts (W.contents out.old) (W.contents out.new) (spec.at_once self.old.mode (separated (one_text vr syntax) (units_of (unit_size vr) units.now))) result }
-        ensures failed { Tells (W.has_failed out.old) (W.has_failed out.new) result }
+        ensures state { OnOk result (display self.new ≡ spec.emit (display self.old) (separated_units vr syntax units.now)) }
+        ensures bytes { outputs.Puts W.DeviceOut out.old out.new (spec.at_once self.old.mode (separated_units vr syntax units.now)) result }
+        ensures failed { outputs.Tells W.DeviceOut out.old out.new result }
     {
         let most = TEXT / LONGEST * shown_unit(vr);
         let mut rest = units;
@@ -176,8 +175,8 @@ impl Shown {
         out: &mut Watched<W>,
     ) -> Result<(), WriteFailed>
         ensures state { OnOk result (display self.new ≡ spec.emit (display self.old) (identified uid.now)) }
-        ensures bytes { Puts (W.contents out.old) (W.contents out.new) (spec.at_once self.old.mode (identified uid.now)) result }
-        ensures failed { Tells (W.has_failed out.old) (W.has_failed out.new) result }
+        ensures bytes { outputs.Puts W.DeviceOut out.old out.new (spec.at_once self.old.mode (identified uid.now)) result }
+        ensures failed { outputs.Tells W.DeviceOut out.old out.new result }
     {
         match uid_name(uid) {
             Some(name) => {

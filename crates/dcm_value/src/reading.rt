@@ -4,7 +4,7 @@ ghost use Rattle.dcm_base.specs.ReadValue as spec;
 ghost use Rattle.dcm_base.specs.Representation.{unit};
 ghost use Rattle.dcm_base.specs.ValueText.{shape};
 ghost use Rattle.dcm_value.specs.Parts.{part_value};
-ghost use Rattle.dcm_value.specs.Taking.{Reads, TakesPart, behind};
+ghost use Rattle.dcm_value.specs.Taking.{Begins, Reads, TakesPart};
 ghost use Rattle.dcm_value.specs.Swap.{IsUnit};
 
 use crate::digits::unescape;
@@ -77,7 +77,7 @@ fn read_parts(
 
 /// The byte that stands behind a percent sign, and what stands behind it.
 fn read_escape(text: &[u8]) -> Option<(u8, &[u8])>
-    ensures value { MatchOption result (spec.bracketed_value (37 ∷ text.now) ≡ None) (λ r. spec.bracketed_value (37 ∷ text.now) ≡ behind (r.0 ∷ []) (spec.bracketed_value r.1.now)) }
+    ensures value { MatchOption result (spec.bracketed_value (37 ∷ text.now) ≡ None) (λ r. Begins (37 ∷ text.now) r.0 r.1.now) }
     ensures shorter { IfSome result (λ r. length r.1.now < length text.now) }
 {
     match text {
@@ -89,7 +89,7 @@ fn read_escape(text: &[u8]) -> Option<(u8, &[u8])>
 /// The first byte of a text in brackets that has not ended, and what stands behind it.
 fn read_byte(text: &[u8]) -> Option<(u8, &[u8])>
     requires { text.now ≢ codes "]" }
-    ensures value { MatchOption result (spec.bracketed_value text.now ≡ None) (λ r. spec.bracketed_value text.now ≡ behind (r.0 ∷ []) (spec.bracketed_value r.1.now)) }
+    ensures value { MatchOption result (spec.bracketed_value text.now ≡ None) (λ r. Begins text.now r.0 r.1.now) }
     ensures shorter { IfSome result (λ r. length r.1.now < length text.now) }
 {
     let [byte, after @ ..] = text else {

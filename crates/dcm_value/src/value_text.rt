@@ -1,11 +1,8 @@
 // The text of a value.
 ghost use Rattle.std.specs.Prelude.{◌≡◌, ◌+◌, ◌*◌, ◌/◌, ◌<◌, ◌≤◌, [], ◌∷◌, ◌++◌, length, fold, OnOk, IfOk};
-ghost use Rattle.dcm_base.specs.Device.{Puts, Tells};
+ghost use Rattle.dcm_base.specs.Outputs as outputs;
 ghost use Rattle.dcm_base.specs.ValueText.{shown_unit as unit_size, shape};
-ghost use Rattle.dcm_base.specs.Steps.{Goes};
-ghost use Rattle.dcm_base.specs.Value.{units as units_of};
 ghost use Rattle.dcm_value.specs.Display.{emit, at_once};
-ghost use Rattle.dcm_value.specs.Units.{one_text, separated};
 ghost use Rattle.dcm_value.specs.Way as ways;
 
 use crate::display::Shown;
@@ -80,8 +77,8 @@ impl ValueText {
     ) -> Result<(), WriteFailed>
         requires within { (progress self.old).seen + length bytes.now ≤ (progress self.old).size }
         ensures state { OnOk result (progress self.new ≡ fold spec.step (spec.opened (progress self.old)) bytes.now) }
-        ensures bytes { Puts (W.contents out.old) (W.contents out.new) (spec.feeds (progress self.old) bytes.now) result }
-        ensures failed { Tells (W.has_failed out.old) (W.has_failed out.new) result }
+        ensures bytes { outputs.Puts W.DeviceOut out.old out.new (spec.feeds (progress self.old) bytes.now) result }
+        ensures failed { outputs.Tells W.DeviceOut out.old out.new result }
         ensures seen { OnOk result ((progress self.new).seen ≡ (progress self.old).seen + length bytes.now) }
         ensures size { OnOk result ((progress self.new).size ≡ (progress self.old).size) }
     {
@@ -104,8 +101,8 @@ impl ValueText {
         ensures vr { self.new.vr ≡ self.old.vr }
         ensures held { self.new.held ≡ self.old.held }
         ensures state { OnOk result (progress self.new ≡ spec.opened (progress self.old)) }
-        ensures bytes { Puts (W.contents out.old) (W.contents out.new) (spec.opening_writes (progress self.old)) result }
-        ensures failed { Tells (W.has_failed out.old) (W.has_failed out.new) result }
+        ensures bytes { outputs.Puts W.DeviceOut out.old out.new (spec.opening_writes (progress self.old)) result }
+        ensures failed { outputs.Tells W.DeviceOut out.old out.new result }
     {
         if self.way() == Way::InBrackets && self.size > 0 && self.shown.is_blank() {
             self.shown.emit(b"[", out)?;
@@ -121,8 +118,8 @@ impl ValueText {
     ) -> Result<(), WriteFailed>
         requires way { spec.way (progress self.old) ≡ Way.InBrackets }
         requires within { self.old.seen + length bytes.now ≤ self.old.size }
-        ensures goes { Goes spec.step spec.writes (progress self.old) (W.contents out.old) (progress self.new) (W.contents out.new) bytes.now result }
-        ensures failed { Tells (W.has_failed out.old) (W.has_failed out.new) result }
+        ensures goes { outputs.Goes spec.step spec.writes W.DeviceOut out.old out.new (progress self.old) (progress self.new) bytes.now result }
+        ensures failed { outputs.Tells W.DeviceOut out.old out.new result }
         ensures seen { OnOk result (self.new.seen ≡ self.old.seen + length bytes.now) }
         ensures size { self.new.size ≡ self.old.size }
     {
@@ -147,8 +144,8 @@ impl ValueText {
         ensures seen { self.new.seen ≡ self.old.seen + length bytes.now }
         ensures size { self.new.size ≡ self.old.size }
         ensures vr { self.new.vr ≡ self.old.vr }
-        ensures goes { Goes spec.step spec.writes (progress self.old) (W.contents out.old) (progress self.new) (W.contents out.new) bytes.now result }
-        ensures failed { Tells (W.has_failed out.old) (W.has_failed out.new) result }
+        ensures goes { outputs.Goes spec.step spec.writes W.DeviceOut out.old out.new (progress self.old) (progress self.new) bytes.now result }
+        ensures failed { outputs.Tells W.DeviceOut out.old out.new result }
     {
         self.seen += bytes.len() as u32;
         self.values += backslashes(bytes) as u32;
@@ -159,8 +156,8 @@ impl ValueText {
     fn show_last<W: DeviceOut>(&mut self, byte: u8, out: &mut Watched<W>) -> Result<(), WriteFailed>
         requires way { spec.way (progress self.old) ≡ Way.InBrackets }
         requires last { self.old.seen + 1 ≡ self.old.size }
-        ensures goes { Goes spec.step spec.writes (progress self.old) (W.contents out.old) (progress self.new) (W.contents out.new) (byte ∷ []) result }
-        ensures failed { Tells (W.has_failed out.old) (W.has_failed out.new) result }
+        ensures goes { outputs.Goes spec.step spec.writes W.DeviceOut out.old out.new (progress self.old) (progress self.new) (byte ∷ []) result }
+        ensures failed { outputs.Tells W.DeviceOut out.old out.new result }
         ensures seen { OnOk result (self.new.seen ≡ self.old.seen + 1) }
         ensures size { self.new.size ≡ self.old.size }
     {
@@ -178,8 +175,8 @@ impl ValueText {
     ) -> Result<(), WriteFailed>
         requires way { spec.way (progress self.old) ≡ Way.InUnits }
         requires within { self.old.seen + length bytes.now ≤ self.old.size }
-        ensures goes { Goes spec.step spec.writes (progress self.old) (W.contents out.old) (progress self.new) (W.contents out.new) bytes.now result }
-        ensures failed { Tells (W.has_failed out.old) (W.has_failed out.new) result }
+        ensures goes { outputs.Goes spec.step spec.writes W.DeviceOut out.old out.new (progress self.old) (progress self.new) bytes.now result }
+        ensures failed { outputs.Tells W.DeviceOut out.old out.new result }
         ensures seen { OnOk result (self.new.seen ≡ self.old.seen + length bytes.now) }
         ensures size { self.new.size ≡ self.old.size }
     {
@@ -202,8 +199,8 @@ impl ValueText {
         ensures vr { self.new.vr ≡ self.old.vr }
         ensures held { self.new.held ≡ self.old.held }
         ensures state { OnOk result (progress self.new ≡ spec.shows (progress self.old) units.now) }
-        ensures bytes { Puts (W.contents out.old) (W.contents out.new) (at_once self.old.shown.mode (spec.shown (progress self.old) units.now)) result }
-        ensures failed { Tells (W.has_failed out.old) (W.has_failed out.new) result }
+        ensures bytes { outputs.Puts W.DeviceOut out.old out.new (at_once self.old.shown.mode (spec.shown (progress self.old) units.now)) result }
+        ensures failed { outputs.Tells W.DeviceOut out.old out.new result }
     {
         if self.values > 0 || units.is_empty() {
             return self.show_others(units, out);
@@ -225,9 +222,9 @@ impl ValueText {
         ensures size { self.new.size ≡ self.old.size }
         ensures vr { self.new.vr ≡ self.old.vr }
         ensures held { self.new.held ≡ self.old.held }
-        ensures state { OnOk result (progress self.new ≡ spec.counts (progress self.old) 1 (one_text self.old.vr self.old.syntax unit.now)) }
-        ensures bytes { Puts (W.contents out.old) (W.contents out.new) (at_once self.old.shown.mode (one_text self.old.vr self.old.syntax unit.now)) result }
-        ensures failed { Tells (W.has_failed out.old) (W.has_failed out.new) result }
+        ensures state { OnOk result (progress self.new ≡ spec.counts (progress self.old) 1 (spec.first (progress self.old) unit.now)) }
+        ensures bytes { outputs.Puts W.DeviceOut out.old out.new (at_once self.old.shown.mode (spec.first (progress self.old) unit.now)) result }
+        ensures failed { outputs.Tells W.DeviceOut out.old out.new result }
     {
         self.values += 1;
         let text = unit_text(self.vr, self.syntax, unit);
@@ -245,9 +242,9 @@ impl ValueText {
         ensures size { self.new.size ≡ self.old.size }
         ensures vr { self.new.vr ≡ self.old.vr }
         ensures held { self.new.held ≡ self.old.held }
-        ensures state { OnOk result (progress self.new ≡ spec.counts (progress self.old) (length units.now / unit_size self.old.vr) (separated (one_text self.old.vr self.old.syntax) (units_of (unit_size self.old.vr) units.now))) }
-        ensures bytes { Puts (W.contents out.old) (W.contents out.new) (at_once self.old.shown.mode (separated (one_text self.old.vr self.old.syntax) (units_of (unit_size self.old.vr) units.now))) result }
-        ensures failed { Tells (W.has_failed out.old) (W.has_failed out.new) result }
+        ensures state { OnOk result (progress self.new ≡ spec.shows_others (progress self.old) units.now) }
+        ensures bytes { outputs.Puts W.DeviceOut out.old out.new (at_once self.old.shown.mode (spec.others (progress self.old) units.now)) result }
+        ensures failed { outputs.Tells W.DeviceOut out.old out.new result }
     {
         self.values += (units.len() / shown_unit(self.vr)) as u32;
         self.shown.emit_units(self.vr, self.syntax, units, out)
@@ -256,9 +253,9 @@ impl ValueText {
     /// Ends the display and pads it to 40 bytes. The answer is how many values there were.
     pub fn finish<W: DeviceOut>(&mut self, out: &mut Watched<W>) -> Result<u64, WriteFailed>
         ensures state { OnOk result (progress self.new ≡ spec.closed (progress self.old)) }
-        ensures bytes { Puts (W.contents out.old) (W.contents out.new) (spec.finishes (progress self.old)) result }
+        ensures bytes { outputs.Puts W.DeviceOut out.old out.new (spec.finishes (progress self.old)) result }
         ensures count { IfOk result (λ n. n ≡ spec.multiplicity (progress self.old)) }
-        ensures failed { Tells (W.has_failed out.old) (W.has_failed out.new) result }
+        ensures failed { outputs.Tells W.DeviceOut out.old out.new result }
     {
         self.close(out)?;
         self.shown.end(out)?;
@@ -269,8 +266,8 @@ impl ValueText {
     fn close<W: DeviceOut>(&mut self, out: &mut Watched<W>) -> Result<(), WriteFailed>
         ensures display { OnOk result (display self.new.shown ≡ emit (display self.old.shown) (spec.closing (progress self.old))) }
         ensures kept { OnOk result (progress self.new ≡ record (progress self.old) { display = display self.new.shown }) }
-        ensures bytes { Puts (W.contents out.old) (W.contents out.new) (at_once self.old.shown.mode (spec.closing (progress self.old))) result }
-        ensures failed { Tells (W.has_failed out.old) (W.has_failed out.new) result }
+        ensures bytes { outputs.Puts W.DeviceOut out.old out.new (at_once self.old.shown.mode (spec.closing (progress self.old))) result }
+        ensures failed { outputs.Tells W.DeviceOut out.old out.new result }
     {
         if self.size == 0 {
             return self.shown.emit(b"(no value available)", out);
