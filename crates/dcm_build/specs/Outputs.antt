@@ -1,13 +1,11 @@
 -- What a call in the building of a file does to its output, by the members of the writer.
-use Rattle.std.specs.Prelude.{◌≡◌, ℕ, Bool, false, List, Option, None, Result, fold}
-use Rattle.dcm_base.specs.Atoms.{Atom}
+use Rattle.std.specs.Prelude.{◌≡◌, ℕ, false, List, None, Result}
 use Rattle.dcm_base.specs.Device as device
-use Rattle.dcm_base.specs.Steps.{Goes, outputs}
+pub use Rattle.dcm_base.specs.Outputs.{Writer, Puts, Tells}
+use Rattle.dcm_base.specs.Steps.{Goes}
 use Rattle.dcm_base.specs.Build.{first_fault, without_return}
 use Rattle.dcm_base.specs.Line.{Step, means}
-use Rattle.dcm_tools.specs.EncodeSink.{encode_step, encode_writes}
-use Rattle.dcm_tools.specs.declared.encode.encoder.Encoder.{Encoder}
-use Rattle.dcm_tools.specs.Encoder as encoders
+pub use Rattle.dcm_tools.specs.Encoder.{Encoded, Encodes}
 use Rattle.dcm_stream.specs.Machine as machine
 use Rattle.dcm_stream.specs.Machine.{well}
 use Rattle.dcm_build.specs.declared.build.BuildHalt.{BuildHalt}
@@ -18,26 +16,6 @@ use Rattle.dcm_build.specs.Builder as builder
 use Rattle.dcm_build.specs.Builder.{Progress, building, bytes_read, is_halted}
 use Rattle.dcm_build.specs.Building.{build_step, build_writes, BuildState, placed, placed_writes, shows, shows_writes, meaning_taken, meaning_writes, build_start, ended_meta, end_checks, end_writes}
 use Rattle.dcm_build.specs.NewFile.{LineAt, state, seen, Comes, Ends}
-
--- the members of a writer
-abbrev pub Writer : Type 0 → Type 0
-Writer W = record { has_failed : W → Bool; contents : W → Option (List ℕ); room : W → Option ℕ; is_flushed : W → Bool }
-
--- these bytes went out, or a beginning of them where the call failed
-abbrev pub Puts : {W T E : Type 0} → Writer W → (old new : W) → List ℕ → Result T E → Type 0
-Puts w old new bytes r = device.Puts (w.contents old) (w.contents new) bytes r
-
--- an Err leaves the writer failed, and an Ok leaves that as it was
-abbrev pub Tells : {W T E : Type 0} → Writer W → (old new : W) → Result T E → Type 0
-Tells w old new r = device.Tells (w.has_failed old) (w.has_failed new) r
-
--- an encoder went over these atoms
-abbrev pub Encoded : (old new : Encoder) → List Atom → Type 0
-Encoded old new atoms = encoders.state new ≡ fold encode_step (encoders.state old) atoms
-
--- what it writes of them went out, or a beginning of it
-abbrev pub Encodes : {W T E : Type 0} → Writer W → (old new : W) → Encoder → List Atom → Result T E → Type 0
-Encodes w old new encoder atoms r = device.Puts (w.contents old) (w.contents new) (outputs encode_step encode_writes (encoders.state encoder) atoms) r
 
 -- what was built came to this, wherever its lines are
 abbrev pub Becomes : (old new : NewFile) → (BuildState → BuildState) → Type 0

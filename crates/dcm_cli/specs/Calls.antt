@@ -2,6 +2,7 @@
 use Rattle.std.specs.Prelude.{◌≡◌, ◌⊎◌, ◌↔◌, ℕ, List, Bool, true, false, Option, Some, Result, MatchResult}
 use Rattle.dcm_base.specs.declared.syntax.Syntax.{Syntax}
 use Rattle.dcm_base.specs.Device.{Puts}
+use Rattle.dcm_base.specs.Outputs.{Writer}
 use Rattle.dcm_head.specs.MetaReading.{Reading, group_of}
 use Rattle.dcm_head.specs.Rewriting.{OfElements}
 use Rattle.dcm_words.specs.Words.{Job}
@@ -18,10 +19,6 @@ use Rattle.dcm_cli.specs.Told as told
 -- the members of a reader
 abbrev pub Reader : Type 0 → Type 0
 Reader R = record { has_failed : R → Bool; remaining : R → Option (List ℕ) }
-
--- the members of a writer
-abbrev pub Writer : Type 0 → Type 0
-Writer W = record { has_failed : W → Bool; contents : W → Option (List ℕ); room : W → Option ℕ; is_flushed : W → Bool }
 
 -- ---- lines on standard error
 

@@ -1,8 +1,18 @@
 -- What a `Copier` stands for.
-use Rattle.std.specs.Prelude.{option_to_list}
+use Rattle.std.specs.Prelude.{ℕ, if◌then◌else◌, List, Result, option_to_list}
+use Rattle.dcm_base.specs.Outputs.{Goes, Writer}
 use Rattle.dcm_base.specs.Representation.{unit}
+use Rattle.dcm_base.specs.Value.{turned}
 use Rattle.dcm_tools.specs.declared.encode.copier.Copier.{Copier}
-use Rattle.dcm_tools.specs.EncodeSink.{Copying}
+use Rattle.dcm_tools.specs.EncodeSink.{Copying, copies, copy_writes}
 
 abbrev pub copying : Copier → Copying
 copying c = record { unit = unit c.vr; is_turned = c.is_turned; held = c.held.bytes.items; padding = option_to_list c.pad }
+
+-- whole units as it writes them
+abbrev pub ordered : Copier → List ℕ → List ℕ
+ordered c v = if c.is_turned then turned (unit c.vr) v else v
+
+-- it went over these bytes
+abbrev pub Copies : {W T E : Type 0} → Writer W → (held holds : W) → (old new : Copier) → List ℕ → Result T E → Type 0
+Copies w held holds old new bytes r = Goes copies copy_writes w held holds (copying old) (copying new) bytes r

@@ -2,15 +2,13 @@
 use Rattle.dcm_base.specs.Atoms.{Atom, opens, value_byte, closes_leaf, opens_item, closes_item, closes_sequence, opens_fragment, ends, Shows, front_atoms, is_closed}
 use Rattle.dcm_base.specs.declared.syntax.Coding.{Coding}
 use Rattle.dcm_base.specs.Recode.{recode}
-use Rattle.dcm_stream.specs.Follows.{BarsAs}
 use Rattle.dcm_base.specs.Front.{Front}
 use Rattle.dcm_base.specs.Normal.{normal_front}
 use Rattle.dcm_base.specs.Steps.{outputs}
 use Rattle.dcm_base.specs.MetaReads.{Meta}
 use Rattle.dcm_tools.specs.MetaAgain.{Names, ReadsRenewed, Renews}
 use Rattle.dcm_base.specs.Reads.{INPUT_LIMIT, Reads, ended}
-use Rattle.dcm_tools.specs.EncodeSink.{encode_bar, encode_start, encode_step, encode_writes}
-use Rattle.dcm_stream.specs.Driven.{bars_by}
+use Rattle.dcm_tools.specs.EncodeSink.{encode_start, encode_step, encode_writes}
 use Rattle.std.specs.Prelude.{◌≡◌, ℕ, zero, suc, ◌≤◌, if◌then◌else◌, List, ◌++◌, fold, false}
 use Rattle.dcm_base.specs.declared.mode.Mode.{Mode}
 use Rattle.dcm_base.specs.declared.syntax.Syntax.{Syntax}

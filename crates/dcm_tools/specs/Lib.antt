@@ -8,3 +8,4 @@ pub mod Lines
 pub mod Laws
 pub mod Conversion
 pub mod MetaAgain
+pub mod MetaLines

@@ -1,15 +1,12 @@
 // What stands before the lines of a data set.
-ghost use Rattle.std.specs.Prelude.{◌≡◌, ◌≤◌, ◌<◌, ◌^◌, ◌++◌, length};
-ghost use Rattle.dcm_base.specs.declared.form.Form.TheVariants.{Value as a_value};
-ghost use Rattle.dcm_base.specs.declared.length.Length.TheVariants.{Known};
-ghost use Rattle.dcm_base.specs.declared.syntax.Syntax.TheVariants.{Little};
-ghost use Rattle.dcm_base.specs.Device.{Puts, Tells};
-ghost use Rattle.dcm_base.specs.Dump.{leaf_line, dump_set};
+ghost use Rattle.std.specs.Prelude.{◌≤◌, ◌<◌, ◌^◌, length};
+ghost use Rattle.dcm_base.specs.Outputs as outputs;
+ghost use Rattle.dcm_base.specs.Dump.{dump_set};
 ghost use Rattle.dcm_base.specs.Header as spec;
 ghost use Rattle.dcm_base.specs.ValueText.{escaped};
-ghost use Rattle.dcm_base.specs.Spelling.{form};
-ghost use Rattle.dcm_head.specs.MetaReading.{HasEnded, group_of, uid_of};
+ghost use Rattle.dcm_head.specs.MetaReading.{HasEnded};
 ghost use Rattle.dcm_head.specs.Rewriting.{OfElements};
+ghost use Rattle.dcm_tools.specs.MetaLines.{IsValue, PutsHeader, meta_line};
 
 use crate::dump::DumpSink;
 use dcm_base::{DeviceOut, Mode, Watched, WriteFailed, put_all, uid_name};
@@ -19,8 +16,8 @@ use dcm_value::escape;
 
 /// Writes bytes of a text, escaped.
 fn put_escaped<W: DeviceOut>(out: &mut Watched<W>, text: &[u8]) -> Result<(), WriteFailed>
-    ensures bytes { Puts (W.contents out.old) (W.contents out.new) (escaped text.now) result }
-    ensures failed { Tells (W.has_failed out.old) (W.has_failed out.new) result }
+    ensures bytes { outputs.Puts W.DeviceOut out.old out.new (escaped text.now) result }
+    ensures failed { outputs.Tells W.DeviceOut out.old out.new result }
 {
     for byte in text {
         put_all(out, escape(*byte).as_slice())?;
@@ -30,8 +27,8 @@ fn put_escaped<W: DeviceOut>(out: &mut Watched<W>, text: &[u8]) -> Result<(), Wr
 
 /// Writes the name of a transfer syntax, or its unique identifier.
 fn put_syntax<W: DeviceOut>(uid: &[u8], out: &mut Watched<W>) -> Result<(), WriteFailed>
-    ensures bytes { Puts (W.contents out.old) (W.contents out.new) (spec.syntax_name uid.now) result }
-    ensures failed { Tells (W.has_failed out.old) (W.has_failed out.new) result }
+    ensures bytes { outputs.Puts W.DeviceOut out.old out.new (spec.syntax_name uid.now) result }
+    ensures failed { outputs.Tells W.DeviceOut out.old out.new result }
 {
     match uid_name(uid) {
         Some(name) => put_all(out, name.as_bytes()),
@@ -41,8 +38,8 @@ fn put_syntax<W: DeviceOut>(uid: &[u8], out: &mut Watched<W>) -> Result<(), Writ
 
 /// Writes what stands before the lines of a data set in this transfer syntax, which is given without its pad.
 pub fn set_header<W: DeviceOut>(uid: &[u8], out: &mut Watched<W>) -> Result<(), WriteFailed>
-    ensures bytes { Puts (W.contents out.old) (W.contents out.new) (spec.set_header uid.now) result }
-    ensures failed { Tells (W.has_failed out.old) (W.has_failed out.new) result }
+    ensures bytes { outputs.Puts W.DeviceOut out.old out.new (spec.set_header uid.now) result }
+    ensures failed { outputs.Tells W.DeviceOut out.old out.new result }
 {
     put_all(out, b"# Dicom-Data-Set\n# Used TransferSyntax: ")?;
     put_syntax(uid, out)?;
@@ -56,8 +53,8 @@ fn put_element<W: DeviceOut>(
     out: &mut Watched<W>,
 ) -> Result<(), WriteFailed>
     requires { length element.value.now < 2 ^ 32 }
-    ensures bytes { form Little element.entry.vr (Known (length element.entry.value.now)) ≡ a_value → Puts (W.contents out.old) (W.contents out.new) (leaf_line mode 0 element.entry.tag element.entry.vr element.entry.value.now) result }
-    ensures failed { Tells (W.has_failed out.old) (W.has_failed out.new) result }
+    ensures bytes { IsValue element.entry → outputs.Puts W.DeviceOut out.old out.new (meta_line mode element.entry) result }
+    ensures failed { outputs.Tells W.DeviceOut out.old out.new result }
 {
     let tokens = Token::leaf(element.tag, element.vr, element.value);
     let mut sink = DumpSink::new(out, mode);
@@ -71,8 +68,8 @@ fn put_elements<W: DeviceOut>(
     out: &mut Watched<W>,
 ) -> Result<(), WriteFailed>
     requires { length group.now ≤ 16384 }
-    ensures bytes { OfElements group.now (λ elements. Puts (W.contents out.old) (W.contents out.new) (dump_set mode 0 elements) result) }
-    ensures failed { Tells (W.has_failed out.old) (W.has_failed out.new) result }
+    ensures bytes { OfElements group.now (λ elements. outputs.Puts W.DeviceOut out.old out.new (dump_set mode 0 elements) result) }
+    ensures failed { outputs.Tells W.DeviceOut out.old out.new result }
 {
     let mut rest = group;
     'elements: while let Some(element) = first_element(rest) {
@@ -89,8 +86,8 @@ pub fn dump_header<W: DeviceOut>(
     out: &mut Watched<W>,
 ) -> Result<(), WriteFailed>
     requires { HasEnded meta.now.end }
-    ensures bytes { OfElements (group_of meta.now) (λ elements. Puts (W.contents out.old) (W.contents out.new) (spec.meta_header mode elements ++ spec.set_header (uid_of meta.now)) result) }
-    ensures failed { Tells (W.has_failed out.old) (W.has_failed out.new) result }
+    ensures bytes { PutsHeader W.DeviceOut out.old out.new mode meta.now result }
+    ensures failed { outputs.Tells W.DeviceOut out.old out.new result }
 {
     put_all(
         out,

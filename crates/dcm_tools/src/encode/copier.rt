@@ -1,9 +1,8 @@
 // A value on its way from one syntax to another (PS3.5 7.3, 8.1).
 ghost use Rattle.std.specs.Prelude.{◌≡◌, ◌<◌, ◌≤◌, ◌+◌, ◌-◌, ◌==◌, ◌++◌, option_to_list, if◌then◌else◌, OnOk, [], length};
-ghost use Rattle.dcm_base.specs.Device.{Puts, Tells};
+ghost use Rattle.dcm_base.specs.Outputs as outputs;
 ghost use Rattle.dcm_base.specs.Recode.{too_long as is_long_value};
 ghost use Rattle.dcm_base.specs.Representation.{unit};
-ghost use Rattle.dcm_base.specs.Steps.{Goes};
 ghost use Rattle.dcm_base.specs.Value.{turned};
 ghost use Rattle.dcm_tools.specs.EncodeSink as spec;
 
@@ -60,8 +59,8 @@ fn padding(size: u32, pad: u8) -> Option<u8>
 
 /// Writes bytes with each whole unit turned round.
 fn put_turned<W: DeviceOut>(vr: Vr, bytes: &[u8], out: &mut Watched<W>) -> Result<(), WriteFailed>
-    ensures bytes { Puts (W.contents out.old) (W.contents out.new) (turned (unit vr) bytes.now) result }
-    ensures failed { Tells (W.has_failed out.old) (W.has_failed out.new) result }
+    ensures bytes { outputs.Puts W.DeviceOut out.old out.new (turned (unit vr) bytes.now) result }
+    ensures failed { outputs.Tells W.DeviceOut out.old out.new result }
 {
     if vr.unit() == 1 || bytes.is_empty() {
         return put_all(out, bytes);
@@ -84,8 +83,8 @@ fn put_block<W: DeviceOut>(
     out: &mut Watched<W>,
 ) -> Result<(), WriteFailed>
     requires { length bytes.now ≤ 8192 }
-    ensures bytes { Puts (W.contents out.old) (W.contents out.new) (turned (unit vr) bytes.now) result }
-    ensures failed { Tells (W.has_failed out.old) (W.has_failed out.new) result }
+    ensures bytes { outputs.Puts W.DeviceOut out.old out.new (turned (unit vr) bytes.now) result }
+    ensures failed { outputs.Tells W.DeviceOut out.old out.new result }
 {
     let block = &mut block[..bytes.len()];
     block.copy_from_slice(bytes);
@@ -94,7 +93,7 @@ fn put_block<W: DeviceOut>(
 }
 
 impl Copier {
-    ghost use Rattle.dcm_tools.specs.Copier.{copying};
+    ghost use Rattle.dcm_tools.specs.Copier.{Copies, copying, ordered};
 
     /// The value of an element of this size.
     pub fn of_leaf(source: Syntax, target: Syntax, vr: Vr, size: u32) -> Copier
@@ -126,8 +125,8 @@ impl Copier {
         bytes: &[u8],
         out: &mut Watched<W>,
     ) -> Result<(), WriteFailed>
-        ensures goes { Goes spec.copies spec.copy_writes (copying self.old) (W.contents out.old) (copying self.new) (W.contents out.new) bytes.now result }
-        ensures failed { Tells (W.has_failed out.old) (W.has_failed out.new) result }
+        ensures goes { Copies W.DeviceOut out.old out.new self.old self.new bytes.now result }
+        ensures failed { outputs.Tells W.DeviceOut out.old out.new result }
     {
         let units = self.held.feed(self.vr.unit(), bytes);
         self.put_units(units.first.as_slice(), out)?;
@@ -136,8 +135,8 @@ impl Copier {
 
     /// Writes whole units.
     fn put_units<W: DeviceOut>(&self, units: &[u8], out: &mut Watched<W>) -> Result<(), WriteFailed>
-        ensures bytes { Puts (W.contents out.old) (W.contents out.new) (if self.now.is_turned then turned (unit self.now.vr) units.now else units.now) result }
-        ensures failed { Tells (W.has_failed out.old) (W.has_failed out.new) result }
+        ensures bytes { outputs.Puts W.DeviceOut out.old out.new (ordered self.now units.now) result }
+        ensures failed { outputs.Tells W.DeviceOut out.old out.new result }
     {
         if self.is_turned {
             put_turned(self.vr, units, out)
@@ -148,8 +147,8 @@ impl Copier {
 
     /// Writes the bytes after the last whole unit, and the pad byte of an odd value.
     pub fn close<W: DeviceOut>(&self, out: &mut Watched<W>) -> Result<(), WriteFailed>
-        ensures bytes { Puts (W.contents out.old) (W.contents out.new) (spec.copy_ends (copying self.now)) result }
-        ensures failed { Tells (W.has_failed out.old) (W.has_failed out.new) result }
+        ensures bytes { outputs.Puts W.DeviceOut out.old out.new (spec.copy_ends (copying self.now)) result }
+        ensures failed { outputs.Tells W.DeviceOut out.old out.new result }
     {
         put_all(out, self.held.as_slice())?;
         match self.pad {

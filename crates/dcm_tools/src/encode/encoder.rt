@@ -1,19 +1,18 @@
 // A data set in a target syntax, token by token (PS3.5 7.1, 7.5, A.4).
-ghost use Rattle.std.specs.Prelude.{◌≡◌, ◌<◌, if◌then◌else◌, OnOk, Some, map, fold, false, true};
+ghost use Rattle.std.specs.Prelude.{◌≡◌, ◌<◌, if◌then◌else◌, OnOk, map, false, true};
 ghost use Rattle.std.specs.Int.{w32};
-ghost use Rattle.dcm_base.specs.Atoms.{opens, value_byte, closes_leaf, opens_fragment};
+ghost use Rattle.dcm_base.specs.Atoms.{value_byte, closes_leaf, opens_fragment};
 ghost use Rattle.dcm_base.specs.Bars.{holds_fragments as syntax_holds_fragments};
-ghost use Rattle.dcm_base.specs.Device.{Puts, Tells};
+ghost use Rattle.dcm_base.specs.Outputs as outputs;
 ghost use Rattle.dcm_base.specs.Recode as recode;
 ghost use Rattle.dcm_base.specs.Representation.{is_long as has_long_form};
-ghost use Rattle.dcm_base.specs.Steps.{outputs};
+ghost use Rattle.dcm_base.specs.declared.form.Form.TheVariants.{Value as a_value};
 ghost use Rattle.dcm_base.specs.declared.length.Length.TheVariants as lengths;
 ghost use Rattle.dcm_base.specs.declared.syntax.Syntax.{Syntax as AnySyntax};
 ghost use Rattle.dcm_base.specs.declared.vr.Vr.TheVariants as representations;
 ghost use Rattle.dcm_stream.specs.Skip.{depth};
 ghost use Rattle.dcm_stream.specs.Tokens.{atoms_of};
 ghost use Rattle.dcm_head.specs.HeadRead.{is_delimiter as is_delimiter_tag};
-ghost use Rattle.dcm_base.specs.Spelling.{form};
 ghost use Rattle.dcm_tools.specs.EncodeSink as spec;
 
 use crate::encode::copier::{Copier, is_too_long};
@@ -88,7 +87,7 @@ fn delimiter(target: Syntax, tag: Tag) -> ArrayVec<u8, LONG_HEAD>
 }
 
 impl Encoder {
-    ghost use Rattle.dcm_tools.specs.Encoder.{state};
+    ghost use Rattle.dcm_tools.specs.Encoder.{Encoded, Encodes, opened, opening, opening_writes, state};
 
     /// The beginning of a data set in this syntax.
     pub fn new(target: Syntax) -> Encoder
@@ -115,9 +114,9 @@ impl Encoder {
         size: u32,
         syntax: Syntax,
     ) -> Result<(), WriteFailed>
-        ensures state { OnOk result (state self.new ≡ record (state self.old) { copying = Some (spec.leaf_copy syntax self.old.target head.vr size) }) }
-        ensures bytes { Puts (W.contents out.old) (W.contents out.new) (recode.leaf_head self.old.target head.tag head.vr size) result }
-        ensures failed { Tells (W.has_failed out.old) (W.has_failed out.new) result }
+        ensures state { OnOk result (state self.new ≡ spec.encode_opens a_value (state self.old) head.vr (lengths.Known size) syntax) }
+        ensures bytes { outputs.Puts W.DeviceOut out.old out.new (recode.leaf_head self.old.target head.tag head.vr size) result }
+        ensures failed { outputs.Tells W.DeviceOut out.old out.new result }
     {
         let bytes = leaf_head(self.target, head.tag, head.vr, size);
         put_all(out, bytes.as_slice())?;
@@ -132,9 +131,9 @@ impl Encoder {
         head: Head,
         syntax: Syntax,
     ) -> Result<(), WriteFailed>
-        ensures state { OnOk result (state self.new ≡ spec.encode_opens (form syntax head.vr head.length) (state self.old) head.vr head.length syntax) }
-        ensures bytes { Puts (W.contents out.old) (W.contents out.new) (spec.encode_opens_writes (form syntax head.vr head.length) self.old.target head.tag head.vr head.length) result }
-        ensures failed { Tells (W.has_failed out.old) (W.has_failed out.new) result }
+        ensures state { OnOk result (state self.new ≡ opened (state self.old) head syntax) }
+        ensures bytes { outputs.Puts W.DeviceOut out.old out.new (opening_writes (state self.old) head syntax) result }
+        ensures failed { outputs.Tells W.DeviceOut out.old out.new result }
     {
         match (form_of(syntax, head.vr, head.length), head.length) {
             (Form::Value, Length::Known(size)) => self.open_leaf(out, head, size, syntax),
@@ -154,9 +153,9 @@ impl Encoder {
         head: Head,
         syntax: Syntax,
     ) -> Result<(), WriteFailed>
-        ensures state { OnOk result (state self.new ≡ spec.live_step (state self.old) (opens head.tag head.vr head.length syntax)) }
-        ensures bytes { Puts (W.contents out.old) (W.contents out.new) (spec.live_writes (state self.old) (opens head.tag head.vr head.length syntax)) result }
-        ensures failed { Tells (W.has_failed out.old) (W.has_failed out.new) result }
+        ensures state { OnOk result (state self.new ≡ spec.live_step (state self.old) (opening head syntax)) }
+        ensures bytes { outputs.Puts W.DeviceOut out.old out.new (spec.live_writes (state self.old) (opening head syntax)) result }
+        ensures failed { outputs.Tells W.DeviceOut out.old out.new result }
     {
         if head.tag.element == GROUP_LENGTH {
             self.skip.open(true);
@@ -167,9 +166,9 @@ impl Encoder {
 
     fn copy<W: DeviceOut>(&mut self, out: &mut Watched<W>, bytes: &[u8]) -> Result<(), WriteFailed>
         requires { depth self.old.skip ≡ 0 }
-        ensures state { OnOk result (state self.new ≡ fold spec.encode_step (state self.old) (map value_byte bytes.now)) }
-        ensures bytes { Puts (W.contents out.old) (W.contents out.new) (outputs spec.encode_step spec.encode_writes (state self.old) (map value_byte bytes.now)) result }
-        ensures failed { Tells (W.has_failed out.old) (W.has_failed out.new) result }
+        ensures state { OnOk result (Encoded self.old self.new (map value_byte bytes.now)) }
+        ensures bytes { Encodes W.DeviceOut out.old out.new self.old (map value_byte bytes.now) result }
+        ensures failed { outputs.Tells W.DeviceOut out.old out.new result }
     {
         match self.copier.take() {
             None => Ok(()),
@@ -183,8 +182,8 @@ impl Encoder {
 
     fn close<W: DeviceOut>(&mut self, out: &mut Watched<W>) -> Result<(), WriteFailed>
         ensures state { OnOk result (state self.new ≡ spec.live_step (state self.old) closes_leaf) }
-        ensures bytes { Puts (W.contents out.old) (W.contents out.new) (spec.live_writes (state self.old) closes_leaf) result }
-        ensures failed { Tells (W.has_failed out.old) (W.has_failed out.new) result }
+        ensures bytes { outputs.Puts W.DeviceOut out.old out.new (spec.live_writes (state self.old) closes_leaf) result }
+        ensures failed { outputs.Tells W.DeviceOut out.old out.new result }
     {
         match self.copier.take() {
             Some(copier) => copier.close(out),
@@ -198,8 +197,8 @@ impl Encoder {
         size: u32,
     ) -> Result<(), WriteFailed>
         ensures state { OnOk result (state self.new ≡ spec.live_step (state self.old) (opens_fragment size)) }
-        ensures bytes { Puts (W.contents out.old) (W.contents out.new) (spec.live_writes (state self.old) (opens_fragment size)) result }
-        ensures failed { Tells (W.has_failed out.old) (W.has_failed out.new) result }
+        ensures bytes { outputs.Puts W.DeviceOut out.old out.new (spec.live_writes (state self.old) (opens_fragment size)) result }
+        ensures failed { outputs.Tells W.DeviceOut out.old out.new result }
     {
         put_all(out, item_head(self.target, even(size)).as_slice())?;
         self.copier = Some(Copier::of_fragment(size));
@@ -213,9 +212,9 @@ impl Encoder {
         token: Token,
     ) -> Result<(), WriteFailed>
         requires { depth self.old.skip ≡ 0 }
-        ensures state { OnOk result (state self.new ≡ fold spec.encode_step (state self.old) (atoms_of token.entry)) }
-        ensures bytes { Puts (W.contents out.old) (W.contents out.new) (outputs spec.encode_step spec.encode_writes (state self.old) (atoms_of token.entry)) result }
-        ensures failed { Tells (W.has_failed out.old) (W.has_failed out.new) result }
+        ensures state { OnOk result (Encoded self.old self.new (atoms_of token.entry)) }
+        ensures bytes { Encodes W.DeviceOut out.old out.new self.old (atoms_of token.entry) result }
+        ensures failed { outputs.Tells W.DeviceOut out.old out.new result }
     {
         match token {
             Token::Open(head, syntax) => self.open(out, head, syntax),
@@ -237,9 +236,9 @@ impl Encoder {
         out: &mut Watched<W>,
         token: Token,
     ) -> Result<(), WriteFailed>
-        ensures state { OnOk result (state self.new ≡ fold spec.encode_step (state self.old) (atoms_of token.entry)) }
-        ensures bytes { Puts (W.contents out.old) (W.contents out.new) (outputs spec.encode_step spec.encode_writes (state self.old) (atoms_of token.entry)) result }
-        ensures failed { Tells (W.has_failed out.old) (W.has_failed out.new) result }
+        ensures state { OnOk result (Encoded self.old self.new (atoms_of token.entry)) }
+        ensures bytes { Encodes W.DeviceOut out.old out.new self.old (atoms_of token.entry) result }
+        ensures failed { outputs.Tells W.DeviceOut out.old out.new result }
     {
         if self.skip.is_open() {
             self.skip.pass(token);
