@@ -5,3 +5,4 @@ pub mod Entries
 pub mod Lines
 pub mod Unique
 pub mod Parts
+pub mod KeywordLengths

@@ -137,9 +137,15 @@ closing p = if p.size == 0 then codes "(no value available)" else closing_as (wa
 abbrev pub closed : Progress → Progress
 closed p = record p { display = emit p.display (closing p) }
 
--- what is written in the end
+-- what is written of the closing, and in the end
+abbrev pub closing_writes : Progress → List ℕ
+closing_writes p = at_once p.display.mode (closing p)
+
+abbrev pub end_writes : Progress → List ℕ
+end_writes p = ending (emit p.display (closing p))
+
 unfoldable pub finishes : Progress → List ℕ
-finishes p = at_once p.display.mode (closing p) ++ ending (emit p.display (closing p))
+finishes p = closing_writes p ++ end_writes p
 
 -- how many values there were
 abbrev pub counted_as : Way → Progress → ℕ

@@ -1,7 +1,7 @@
 // What is shown of a value, cut or whole.
 ghost use Rattle.std.specs.Prelude.{◌≡◌, ◌==◌, ◌&&◌, nat_lt, ◌+◌, ◌-◌, ◌<◌, ◌≤◌, ◌++◌, length, take, replicate, List, ℕ, OnOk, true};
 ghost use Rattle.dcm_base.specs.Outputs as outputs;
-ghost use Rattle.dcm_base.specs.ValueText.{escaped, identified, padded as padded_to_40};
+ghost use Rattle.dcm_base.specs.ValueText.{escaped, identified};
 ghost use Rattle.dcm_value.specs.Units.{separated_units};
 ghost use Rattle.dcm_value.specs.Display as spec;
 
@@ -31,29 +31,16 @@ fn fill(front: &mut ArrayVec<u8, 66>, bytes: &[u8])
     let _ = front.try_extend_from_slice(&bytes[..count]);
 }
 
-/// A display, with spaces up to 40 bytes.
+/// Spaces after so many bytes, up to 40.
 #[tactic(auto, using(crate::proofs::Displays::Facts::spaces))]
-fn padded(display: &[u8]) -> ArrayVec<u8, 66>
-    requires { length display.now ≤ 66 }
-    ensures { result.items ≡ padded_to_40 display.now }
-{
-    let spaces = [b' '; 40];
-    let (_, rest) = spaces.split_at(display.len().min(40));
-    let mut text = ArrayVec::new();
-    let _ = text.try_extend_from_slice(display);
-    let _ = text.try_extend_from_slice(rest);
-    text
-}
-
-/// Spaces up to 40 bytes.
-#[tactic(auto, using(crate::proofs::Displays::Facts::spaces))]
-fn pad<W: DeviceOut>(shown: usize, out: &mut Watched<W>) -> Result<(), WriteFailed>
-    ensures bytes { outputs.Puts W.DeviceOut out.old out.new (replicate (40 - shown) 32) result }
-    ensures failed { outputs.Tells W.DeviceOut out.old out.new result }
+fn append_spaces<const N: usize>(shown: usize, line: &mut ArrayVec<u8, N>)
+    requires { length line.old.items + (40 - shown) ≤ N }
+    ensures items { line.new.items ≡ line.old.items ++ replicate (40 - shown) 32 }
+    ensures len { length line.new.items ≡ length line.old.items + (40 - shown) }
 {
     let spaces = [b' '; 40];
     let (_, rest) = spaces.split_at(shown.min(40));
-    put_all(out, rest)
+    let _ = line.try_extend_from_slice(rest);
 }
 
 impl Shown {
@@ -103,19 +90,23 @@ impl Shown {
         Ok(())
     }
 
-    /// Writes what is left to write, and the spaces after it.
-    pub fn end<W: DeviceOut>(&self, out: &mut Watched<W>) -> Result<(), WriteFailed>
-        ensures bytes { outputs.Puts W.DeviceOut out.old out.new (spec.ending (display self.now)) result }
-        ensures failed { outputs.Tells W.DeviceOut out.old out.new result }
+    /// Appends what is still to be written, and the spaces after it.
+    pub fn append_end<const N: usize>(&self, line: &mut ArrayVec<u8, N>)
+        requires { length line.old.items + 66 ≤ N }
+        ensures items { line.new.items ≡ line.old.items ++ spec.ending (display self.now) }
+        ensures within { length line.new.items ≤ length line.old.items + 66 }
     {
         match self.mode {
-            Mode::Full => pad(self.count, out),
+            Mode::Full => append_spaces(self.count, line),
             Mode::Short if self.count > 66 => {
                 let cut = self.front.len().min(63);
-                put_all(out, &self.front.as_slice()[..cut])?;
-                put_all(out, b"...")
+                let _ = line.try_extend_from_slice(&self.front.as_slice()[..cut]);
+                let _ = line.try_extend_from_slice(b"...");
             }
-            Mode::Short => put_all(out, padded(self.front.as_slice()).as_slice()),
+            Mode::Short => {
+                let _ = line.try_extend_from_slice(self.front.as_slice());
+                append_spaces(self.front.len(), line);
+            }
         }
     }
 

@@ -1,12 +1,10 @@
 // The bytes of a text as a dump shows them.
 ghost use Rattle.std.specs.Prelude.{◌≡◌, ◌≤◌, ◌+◌, ◌*◌, ◌++◌, ◌/◌, ◌%◌, ◌==◌, ◌&&◌, if◌then◌else◌, [], ◌∷◌, length, count_by};
 ghost use Rattle.dcm_base.specs.ValueText as spec;
-ghost use Rattle.dcm_base.specs.Representation.{pad};
 ghost use Rattle.dcm_value.specs.Plain.{is_plain_byte};
 ghost use Rattle.std.specs.List.{list_all};
 
 use arrayvec::ArrayVec;
-use dcm_base::Vr;
 
 /// The two digits of a byte, in upper case.
 fn upper_digits(byte: u8) -> [u8; 2]
@@ -55,17 +53,6 @@ fn append_escaped<const N: usize>(byte: u8, text: &mut ArrayVec<u8, N>)
         text.push(b'%');
         text.push(high);
         text.push(low);
-    }
-}
-
-/// What is shown of the last byte of a text of this size: nothing of the pad byte that makes it even.
-pub fn last_text(vr: Vr, size: u32, byte: u8) -> ArrayVec<u8, 3>
-    ensures { result.items ≡ (if size % 2 == 0 && byte == pad vr then [] else spec.escape byte) }
-{
-    if size % 2 == 0 && byte == vr.pad() {
-        ArrayVec::new()
-    } else {
-        escape(byte)
     }
 }
 

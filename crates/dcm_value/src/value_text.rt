@@ -6,10 +6,11 @@ ghost use Rattle.dcm_value.specs.Display.{emit, at_once};
 ghost use Rattle.dcm_value.specs.Way as ways;
 
 use crate::display::Shown;
-use crate::escapes::{backslashes, last_text};
+use crate::escapes::backslashes;
 use crate::unit_buffer::UnitBuffer;
 use crate::units::{shown_unit, unit_text};
-use crate::way::{Way, is_single, unpadded, way_of};
+use crate::way::{Way, is_single, unpadded, way_of, without_pad};
+use arrayvec::ArrayVec;
 use dcm_base::{DeviceOut, Mode, Syntax, Vr, Watched, WriteFailed};
 
 /// The text of a value that comes in pieces (PS3.5 6.2, 7.3).
@@ -94,8 +95,8 @@ impl ValueText {
         }
     }
 
-    /// Shows what stands before the first byte.
-    fn open<W: DeviceOut>(&mut self, out: &mut Watched<W>) -> Result<(), WriteFailed>
+    /// Shows what comes before the first byte, unless it is shown already.
+    pub fn open<W: DeviceOut>(&mut self, out: &mut Watched<W>) -> Result<(), WriteFailed>
         ensures seen { self.new.seen ≡ self.old.seen }
         ensures size { self.new.size ≡ self.old.size }
         ensures vr { self.new.vr ≡ self.old.vr }
@@ -110,7 +111,7 @@ impl ValueText {
         Ok(())
     }
 
-    /// Takes bytes of a text.
+    /// Takes bytes of a text, and shows them, but for the pad byte that makes it even.
     fn feed_text<W: DeviceOut>(
         &mut self,
         bytes: &[u8],
@@ -123,48 +124,11 @@ impl ValueText {
         ensures seen { OnOk result (self.new.seen ≡ self.old.seen + length bytes.now) }
         ensures size { self.new.size ≡ self.old.size }
     {
-        if bytes.len() < self.missing() as usize {
-            return self.show_text(bytes, out);
-        }
-        let [inner @ .., last] = bytes else {
-            return Ok(());
-        };
-        self.show_text(inner, out)?;
-        self.show_last(*last, out)
-    }
-
-    /// Shows bytes of a text that are not the last.
-    fn show_text<W: DeviceOut>(
-        &mut self,
-        bytes: &[u8],
-        out: &mut Watched<W>,
-    ) -> Result<(), WriteFailed>
-        requires way { spec.way (progress self.old) ≡ Way.InBrackets }
-        requires within { self.old.seen + length bytes.now < self.old.size }
-        ensures seen { self.new.seen ≡ self.old.seen + length bytes.now }
-        ensures size { self.new.size ≡ self.old.size }
-        ensures vr { self.new.vr ≡ self.old.vr }
-        ensures goes { outputs.Goes spec.step spec.writes W.DeviceOut out.old out.new (progress self.old) (progress self.new) bytes.now result }
-        ensures failed { outputs.Tells W.DeviceOut out.old out.new result }
-    {
         self.seen += bytes.len() as u32;
         self.values += backslashes(bytes) as u32;
-        self.shown.emit_text(bytes, out)
-    }
-
-    /// Shows the last byte of a text, unless it is a pad byte.
-    fn show_last<W: DeviceOut>(&mut self, byte: u8, out: &mut Watched<W>) -> Result<(), WriteFailed>
-        requires way { spec.way (progress self.old) ≡ Way.InBrackets }
-        requires last { self.old.seen + 1 ≡ self.old.size }
-        ensures goes { outputs.Goes spec.step spec.writes W.DeviceOut out.old out.new (progress self.old) (progress self.new) (byte ∷ []) result }
-        ensures failed { outputs.Tells W.DeviceOut out.old out.new result }
-        ensures seen { OnOk result (self.new.seen ≡ self.old.seen + 1) }
-        ensures size { self.new.size ≡ self.old.size }
-    {
-        self.seen += 1;
-        self.values += u32::from(byte == b'\\');
-        let shown = last_text(self.vr, self.size, byte);
-        self.shown.emit(shown.as_slice(), out)
+        let is_padded = self.seen == self.size && self.size % 2 == 0;
+        let text = without_pad(self.vr, is_padded, bytes);
+        self.shown.emit_text(text, out)
     }
 
     /// Takes bytes of units.
@@ -250,15 +214,23 @@ impl ValueText {
         self.shown.emit_units(self.vr, self.syntax, units, out)
     }
 
-    /// Ends the display and pads it to 40 bytes. The answer is how many values there were.
-    pub fn finish<W: DeviceOut>(&mut self, out: &mut Watched<W>) -> Result<u64, WriteFailed>
+    /// Ends the display, and appends to the line what was not written of it, and spaces up to 40 bytes. The answer is how many
+    /// values there were.
+    pub fn finish<const N: usize, W: DeviceOut>(
+        &mut self,
+        line: &mut ArrayVec<u8, N>,
+        out: &mut Watched<W>,
+    ) -> Result<u64, WriteFailed>
+        requires room { length line.old.items + 66 ≤ N }
         ensures state { OnOk result (progress self.new ≡ spec.closed (progress self.old)) }
-        ensures bytes { outputs.Puts W.DeviceOut out.old out.new (spec.finishes (progress self.old)) result }
+        ensures bytes { outputs.Puts W.DeviceOut out.old out.new (spec.closing_writes (progress self.old)) result }
+        ensures line { OnOk result (line.new.items ≡ line.old.items ++ spec.end_writes (progress self.old)) }
+        ensures within { OnOk result (length line.new.items ≤ length line.old.items + 66) }
         ensures count { IfOk result (λ n. n ≡ spec.multiplicity (progress self.old)) }
         ensures failed { outputs.Tells W.DeviceOut out.old out.new result }
     {
         self.close(out)?;
-        self.shown.end(out)?;
+        self.shown.append_end(line);
         Ok(self.count())
     }
 

@@ -59,12 +59,19 @@ pub fn is_single(vr: Vr) -> bool
     )
 }
 
+/// The last bytes of a value without the pad byte that makes its size even.
+pub fn without_pad(vr: Vr, is_even: bool, bytes: &[u8]) -> &[u8]
+    ensures { result.now ≡ spec.without_pad vr is_even bytes.now }
+{
+    match bytes {
+        [front @ .., last] if is_even && *last == vr.pad() => front,
+        _ => bytes,
+    }
+}
+
 /// The bytes of a value without the pad byte that made it even.
 pub fn unpadded(vr: Vr, value: &[u8]) -> &[u8]
     ensures { result.now ≡ text.unpadded vr value.now }
 {
-    match value {
-        [front @ .., last] if value.len() % 2 == 0 && *last == vr.pad() => front,
-        _ => value,
-    }
+    without_pad(vr, value.len() % 2 == 0, value)
 }

@@ -13,6 +13,7 @@ use Rattle.dcm_base.specs.ValueText.{tag_text}
 use Rattle.dcm_base.specs.Dump.{length_text, line}
 use Rattle.dcm_base.specs.Line.{is_end, is_skipped, meaning_of, means}
 use Rattle.dcm_base.proofs.DumpsBack.Fields.{Bytewise, Bytewise-append, Bytewise-decimal, IsPrinted, printed_text, tag_is_printed}
+use Rattle.dcm_base.proofs.Dictionaries.KeywordLengths.{found_has}
 use Rattle.dcm_base.proofs.DumpsBack.LineParts.{past_indent, line_means, tag_from}
 
 -- spaces, one space more and a comment are a space and what is skipped
@@ -58,22 +59,6 @@ has_printed_keyword e = list_all (λ c. nat_le 32 c) e.2
 all_keywords : list_all has_printed_keyword elements ≡ true
 unfolding elements has_printed_keyword
 all_keywords = refl
-
-and_one : (a b : Bool) → (a && b) ≡ true → a ≡ true
-and_one true b p = refl
-and_one false b p = cc
-
-and_two : (a b : Bool) → (a && b) ≡ true → b ≡ true
-and_two true b p = p
-and_two false b p = cc
-
-found_has : (p q : Element → Bool) (l : List Element) (e : Element) → list_all q l ≡ true → find p l ≡ Some e → q e ≡ true
-found_has p q [] e a f = cc
-found_has p q (x ∷ l) e a f = by_test (p x) f (found_has p q l e (and_two (q x) _ a))
-  where
-    by_test : (t : Bool) → cond t (Some x) (find p l) ≡ Some e → (find p l ≡ Some e → q e ≡ true) → q e ≡ true
-    by_test true g more = let same : x ≡ e = cc in subst (λ y. q y ≡ true) same (and_one _ _ a)
-    by_test false g more = more g
 
 keyword_is_printed : (t : Tag) → Bytewise IsPrinted (keyword t)
 unfolding keyword element has_printed_keyword

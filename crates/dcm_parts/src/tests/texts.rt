@@ -61,7 +61,13 @@ fn is_shown(
         if mode == Mode::Short {
             holds(out.device().written().is_empty(), "it is written too early")?;
         }
-        let values = shown.finish(&mut out).ok().ok_or("writer is full")?;
+        let mut line: ArrayVec<u8, 66> = ArrayVec::new();
+        let values = shown
+            .finish(&mut line, &mut out)
+            .ok()
+            .ok_or("writer is full")?;
+        let ended = put_all(&mut out, line.as_slice());
+        ended.ok().ok_or("writer is full")?;
         holds(out.device().written() == wanted.as_slice(), "another text")?;
         holds(values == count, "another count")?;
     }
@@ -298,8 +304,10 @@ fn tells_a_full_writer(rt: HostRuntime) -> Result<(), Fail> {
         let mut out = writer(rt, room)?;
         let mut shown = ValueText::new(Vr::LO, Syntax::Little, 4, Mode::Full);
         let fed = shown.feed(b"a\nb ", &mut out);
-        let ended = shown.finish(&mut out);
-        assert!(rt; fed.is_err() || ended.is_err());
+        let mut line: ArrayVec<u8, 66> = ArrayVec::new();
+        let ended = shown.finish(&mut line, &mut out);
+        let put = put_all(&mut out, line.as_slice());
+        assert!(rt; fed.is_err() || ended.is_err() || put.is_err());
         let whole = padded(rt, b"[a%0Ab]")?;
         let (front, _) = whole.as_slice().split_at(room.min(whole.len()));
         assert!(rt; out.device().written() == front);

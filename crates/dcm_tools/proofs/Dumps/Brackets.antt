@@ -6,6 +6,7 @@ use Rattle.dcm_base.specs.declared.mode.Mode.{Mode}
 use Rattle.dcm_base.specs.declared.mode.Mode.TheVariants.{Short, Full}
 use Rattle.dcm_base.specs.Steps.{outputs}
 use Rattle.dcm_value.specs.Display.{Display, emit, at_once}
+use Rattle.dcm_value.proofs.Displays.Emits.{emit_mode}
 use Rattle.dcm_value.specs.Progress.{Progress, way, is_bracketed, is_unopened, opening, opened, adds, step, writes, feeds}
 
 -- where a test of three is false, it stays so with more shown
@@ -77,3 +78,16 @@ feeds_same p bytes e settled =
 
 pub begun_behind : (p : Progress) (bytes : List ℕ) → is_unopened p ≡ false → p.display ≡ emit p.display [] → p.display.shown ≤ 67 → is_unopened (fold step (opened p) bytes) ≡ false
 begun_behind p bytes e settled h = ap (λ q. is_unopened (fold step q bytes)) (opened_same p e settled) ∙ begun_fold p bytes h e
+
+-- the mode stays
+pub opened_mode : (p : Progress) → (opened p).display.mode ≡ p.display.mode
+unfolding opened
+opened_mode p = emit_mode p.display (opening p)
+
+step_mode : (p : Progress) (b : ℕ) → (step p b).display.mode ≡ p.display.mode
+unfolding step
+step_mode p b = emit_mode p.display (adds p b)
+
+pub fold_mode : (p : Progress) (bytes : List ℕ) → (fold step p bytes).display.mode ≡ p.display.mode
+fold_mode p [] = refl
+fold_mode p (b ∷ bs) = fold_mode (step p b) bs ∙ step_mode p b

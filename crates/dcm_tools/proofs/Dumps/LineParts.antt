@@ -5,7 +5,8 @@ use Rattle.dcm_base.specs.declared.length.Length.{Length}
 use Rattle.dcm_base.specs.declared.length.Length.TheVariants.{Known, Undefined}
 use Rattle.dcm_base.specs.ValueText.{padded, tag_text}
 use Rattle.dcm_base.specs.Dump.{line, line_start}
-use Rattle.dcm_tools.specs.Layout.{line_rest}
+use Rattle.dcm_base.specs.Dictionary.{keyword}
+use Rattle.dcm_tools.specs.Layout.{line_rest, rest_start}
 
 -- a start is its spaces, its tag and its letters
 pub start_in_parts : (level : ℕ) (tag : Tag) (letters : List ℕ)
@@ -17,3 +18,8 @@ pub line_in_parts : (level : ℕ) (tag : Tag) (letters display : List ℕ) (decl
     → line level tag letters display declared count ≡ line_start level tag letters ++ (padded display ++ line_rest tag declared count)
 line_in_parts level tag letters display (Known n) count = simp append_assoc
 line_in_parts level tag letters display Undefined count = simp append_assoc
+
+-- what comes after a display is a few bytes, the keyword and the end of the line
+pub rest_in_parts : (line : List ℕ) (tag : Tag) (declared : Length) (count : ℕ)
+    → ((line ++ rest_start declared count) ++ keyword tag) ++ 10 ∷ [] ≡ line ++ line_rest tag declared count
+rest_in_parts line tag declared count = simp append_assoc

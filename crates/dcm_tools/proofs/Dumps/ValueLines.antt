@@ -8,7 +8,7 @@ use Rattle.dcm_base.specs.declared.mode.Mode.{Mode}
 use Rattle.dcm_base.specs.declared.mode.Mode.TheVariants.{Short, Full}
 use Rattle.dcm_base.specs.Dump.{open_line}
 use Rattle.dcm_value.specs.Display.{at_once}
-use Rattle.dcm_value.specs.Progress.{Progress, finishes}
+use Rattle.dcm_value.specs.Progress.{Progress, finishes, closing, closing_writes, end_writes}
 use Rattle.dcm_tools.specs.declared.dump.lines.Owner.{Owner}
 use Rattle.dcm_base.specs.declared.tag.Tag.{Tag}
 use Rattle.dcm_base.specs.declared.length.Length.{Length}
@@ -19,9 +19,9 @@ use Rattle.dcm_tools.proofs.Dumps.ValueBytes.{is_filled}
 use Rattle.dcm_tools.specs.DumpSink.{DumpState, OpenValue, no_value, open_value, early_start, late_start, owner_start, owner_rest, close_writes}
 
 -- its beginning
-pub begins_in_parts : (mode : Mode) (start opening : List ℕ) → open_line mode start (at_once mode opening) ≡ early_start mode start ++ (at_once mode opening ++ [])
+pub begins_in_parts : (mode : Mode) (start opening : List ℕ) → open_line mode start (at_once mode opening) ≡ early_start mode start ++ at_once mode opening
 begins_in_parts Short start opening = refl
-begins_in_parts Full start opening = ap (λ bytes. start ++ bytes) (sym (append-nil opening))
+begins_in_parts Full start opening = refl
 
 -- a value that is open, as the sink holds it
 pub is_open : (value : Option Owner) (owner : Owner) (p : Progress) → Some owner ≡ value → value_of value p ≡ open_value owner p
@@ -35,6 +35,23 @@ is_begun value owner B same b = b owner (sym same)
 pub ends_in_parts : (mode : Mode) (level : ℕ) (value : OpenValue) (owner : Owner) (p : Progress) → value ≡ open_value owner p
     → close_writes mode level value ≡ late_start mode (owner_start level owner) ++ (finishes p ++ owner_rest owner p)
 ends_in_parts mode level value owner p is = ap (close_writes mode level) is ∙ append_assoc (late_start mode (owner_start level owner)) (finishes p) (owner_rest owner p)
+
+-- what is written at once of the display comes before the rest of the line, or is nothing
+around : (mode : Mode) (start closing end rest : List ℕ)
+    → late_start mode start ++ ((at_once mode closing ++ end) ++ rest) ≡ at_once mode closing ++ ((late_start mode start ++ end) ++ rest)
+around Short start closing end rest = sym (append_assoc start end rest)
+around Full start closing end rest = append_assoc closing end rest
+
+pub closes_in_parts : (mode : Mode) (level : ℕ) (value : OpenValue) (owner : Owner) (p : Progress) → p.display.mode ≡ mode → value ≡ open_value owner p
+    → close_writes mode level value ≡ closing_writes p ++ ((late_start mode (owner_start level owner) ++ end_writes p) ++ owner_rest owner p)
+unfolding finishes
+closes_in_parts mode level value owner p same is =
+    let start : List ℕ = owner_start level owner in
+    let rest : List ℕ = owner_rest owner p in
+    ends_in_parts mode level value owner p is
+    ∙ ap (λ m. late_start mode start ++ ((at_once m (closing p) ++ end_writes p) ++ rest)) same
+    ∙ around mode start (closing p) (end_writes p) rest
+    ∙ ap (λ m. at_once m (closing p) ++ ((late_start mode start ++ end_writes p) ++ rest)) (sym same)
 
 pub rest_same : (t t' : Tag) (n n' k k' : ℕ) → t ≡ t' → n ≡ n' → k ≡ k' → line_rest t (Known n) k ≡ line_rest t' (Known n') k'
 rest_same t t' n n' k k' e f g =

@@ -20,6 +20,13 @@ const LENGTH_WIDTH: usize = 3;
 /// The bytes of a tag and letters, with a space after each.
 const START: usize = 15;
 
+/// The most bytes of a line in which few stand for the length and the count: two spaces for each of 128 levels, tag and letters,
+/// a display that is cut, ten bytes to the keyword, and that.
+const LONGEST: usize = 412;
+
+/// A line that is put together before it is written.
+pub type Line = ArrayVec<u8, LONGEST>;
+
 const SPACES: [u8; 256] = [b' '; 256];
 
 fn spaces(count: usize) -> &'static [u8]
@@ -38,7 +45,18 @@ fn start_text(tag: Tag, letters: [u8; 2]) -> [u8; START]
     [a, b, c, d, e, f, g, h, i, j, k, b' ', first, second, b' ']
 }
 
-/// Writes a line up to its display: two spaces a level, tag and letters.
+/// Begins a line: two spaces a level, tag and letters.
+pub fn begin_line(line: &mut Line, level: usize, tag: Tag, letters: [u8; 2])
+    requires level { level ≤ 128 }
+    requires empty { line.old.items ≡ [] }
+    ensures items { line.new.items ≡ dump.line_start level tag letters }
+    ensures within { length line.new.items ≤ 271 }
+{
+    let _ = line.try_extend_from_slice(spaces(2 * level));
+    let _ = line.try_extend_from_slice(&start_text(tag, letters));
+}
+
+/// Writes a line up to its display.
 pub fn put_line_start<W: DeviceOut>(
     out: &mut Watched<W>,
     level: usize,
@@ -49,8 +67,9 @@ pub fn put_line_start<W: DeviceOut>(
     ensures bytes { Puts (W.contents out.old) (W.contents out.new) (dump.line_start level tag letters) result }
     ensures failed { Tells (W.has_failed out.old) (W.has_failed out.new) result }
 {
-    put_all(out, spaces(2 * level))?;
-    put_all(out, &start_text(tag, letters))
+    let mut line = Line::new();
+    begin_line(&mut line, level, tag, letters);
+    put_all(out, line.as_slice())
 }
 
 /// A declared length as a dump shows it, right in three places.
@@ -102,26 +121,30 @@ fn short_rest(length: Length, count: u64) -> Option<[u8; 10]>
     }
 }
 
-/// Writes a line after its display, of a declared length and so many values.
-pub fn put_line_rest<W: DeviceOut>(
+/// Writes a line that is put together up to the end of its display, and what comes after that: a declared length and so many
+/// values.
+pub fn put_rest<W: DeviceOut>(
     out: &mut Watched<W>,
+    line: &mut Line,
     tag: Tag,
-    length: Length,
+    declared: Length,
     count: u64,
 ) -> Result<(), WriteFailed>
-    ensures bytes { Puts (W.contents out.old) (W.contents out.new) (line_rest tag length count) result }
+    requires { length line.old.items ≤ 337 }
+    ensures bytes { Puts (W.contents out.old) (W.contents out.new) (line.old.items ++ line_rest tag declared count) result }
     ensures failed { Tells (W.has_failed out.old) (W.has_failed out.new) result }
 {
-    if let Some(start) = short_rest(length, count) {
-        return put_parts(
-            out,
-            &[start.as_slice(), keyword(tag).as_bytes(), b"\n".as_slice()],
-        );
-    }
-    put_long_rest(out, tag, length, count)
+    let Some(start) = short_rest(declared, count) else {
+        put_all(out, line.as_slice())?;
+        return put_long_rest(out, tag, declared, count);
+    };
+    let _ = line.try_extend_from_slice(&start);
+    let _ = line.try_extend_from_slice(keyword(tag).as_bytes());
+    line.push(b'\n');
+    put_all(out, line.as_slice())
 }
 
-/// The same of any length and count.
+/// Writes what comes after a display, of any length and count.
 fn put_long_rest<W: DeviceOut>(
     out: &mut Watched<W>,
     tag: Tag,
@@ -149,13 +172,15 @@ fn put_long_rest<W: DeviceOut>(
     )
 }
 
-/// Writes a display, padded.
-fn put_display<W: DeviceOut>(out: &mut Watched<W>, display: &[u8]) -> Result<(), WriteFailed>
-    ensures bytes { Puts (W.contents out.old) (W.contents out.new) (padded display.now) result }
-    ensures failed { Tells (W.has_failed out.old) (W.has_failed out.new) result }
+/// Appends a display, padded.
+fn append_display(line: &mut Line, display: &[u8])
+    requires display { length display.now ≤ 66 }
+    requires line { length line.old.items ≤ 271 }
+    ensures items { line.new.items ≡ line.old.items ++ padded display.now }
+    ensures within { length line.new.items ≤ 337 }
 {
-    put_all(out, display)?;
-    put_all(out, spaces(DISPLAY_WIDTH.saturating_sub(display.len())))
+    let _ = line.try_extend_from_slice(display);
+    let _ = line.try_extend_from_slice(spaces(DISPLAY_WIDTH.saturating_sub(display.len())));
 }
 
 /// Writes a line with a display that is known at once: an opening or an end.
@@ -165,14 +190,16 @@ pub fn put_line<W: DeviceOut>(
     tag: Tag,
     letters: [u8; 2],
     display: &[u8],
-    length: Length,
+    declared: Length,
     count: u64,
 ) -> Result<(), WriteFailed>
-    requires { level ≤ 128 }
-    ensures bytes { Puts (W.contents out.old) (W.contents out.new) (dump.line level tag letters display.now length count) result }
+    requires level { level ≤ 128 }
+    requires display { length display.now ≤ 66 }
+    ensures bytes { Puts (W.contents out.old) (W.contents out.new) (dump.line level tag letters display.now declared count) result }
     ensures failed { Tells (W.has_failed out.old) (W.has_failed out.new) result }
 {
-    put_line_start(out, level, tag, letters)?;
-    put_display(out, display)?;
-    put_line_rest(out, tag, length, count)
+    let mut line = Line::new();
+    begin_line(&mut line, level, tag, letters);
+    append_display(&mut line, display);
+    put_rest(out, &mut line, tag, declared, count)
 }

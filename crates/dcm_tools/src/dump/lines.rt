@@ -1,5 +1,5 @@
 // The lines of a dump, as tokens come.
-ghost use Rattle.std.specs.Prelude.{◌≡◌, ◌<◌, ◌≤◌, OnOk, false, length, map, fold};
+ghost use Rattle.std.specs.Prelude.{◌≡◌, ◌<◌, ◌≤◌, [], OnOk, false, length, map, fold};
 ghost use Rattle.std.specs.Option.{ForSome};
 ghost use Rattle.dcm_base.specs.Atoms.{opens, value_byte, closes_leaf, opens_item, closes_item, closes_sequence, opens_fragment};
 ghost use Rattle.dcm_base.specs.Device.{Puts, Tells};
@@ -11,7 +11,7 @@ ghost use Rattle.dcm_tools.specs.DumpSink as spec;
 ghost use Rattle.dcm_value.specs.Progress as progress;
 ghost use Rattle.dcm_value.specs.ValueText.{progress as text_progress};
 
-use crate::dump::layout::{put_line, put_line_rest, put_line_start};
+use crate::dump::layout::{Line, begin_line, put_line, put_line_start, put_rest};
 use crate::dump::lengths::{Lengths, MOST_OPEN};
 use dcm_base::{DeviceOut, Form, Length, Mode, Syntax, Tag, Vr, Watched, WriteFailed, form_of};
 use dcm_head::Head;
@@ -64,6 +64,7 @@ pub struct Lines {
     text: ValueText,
     is_lost: bool,
     ghost begun: { ForSome owner (λ _. progress.is_unopened (text_progress text) ≡ false) },
+    ghost same: { ForSome owner (λ _. (text_progress text).display.mode ≡ mode) },
 }
 
 /// The bytes of a value; a head of undefined length has none.
@@ -130,19 +131,15 @@ fn put_early_start<W: DeviceOut>(
 }
 
 /// A line that may be cut is begun where its display is known.
-fn put_late_start<W: DeviceOut>(
-    mode: Mode,
-    out: &mut Watched<W>,
-    level: usize,
-    owner: Owner,
-) -> Result<(), WriteFailed>
-    requires { level ≤ 128 }
-    ensures bytes { Puts (W.contents out.old) (W.contents out.new) (spec.late_start mode (spec.owner_start level owner)) result }
-    ensures failed { Tells (W.has_failed out.old) (W.has_failed out.new) result }
+fn begin_late(mode: Mode, line: &mut Line, level: usize, owner: Owner)
+    requires level { level ≤ 128 }
+    requires empty { line.old.items ≡ [] }
+    ensures items { line.new.items ≡ spec.late_start mode (spec.owner_start level owner) }
+    ensures within { length line.new.items ≤ 271 }
 {
     match mode {
-        Mode::Full => Ok(()),
-        Mode::Short => put_line_start(out, level, owner.tag(), owner.letters()),
+        Mode::Full => {}
+        Mode::Short => begin_line(line, level, owner.tag(), owner.letters()),
     }
 }
 
@@ -187,7 +184,7 @@ impl Lines {
         put_early_start(self.mode, out, self.lengths.depth(), owner)?;
         self.owner = None;
         self.text = ValueText::new(vr, syntax, size, self.mode);
-        self.text.feed(&[], out)?;
+        self.text.open(out)?;
         self.owner = Some(owner);
         Ok(())
     }
@@ -198,6 +195,7 @@ impl Lines {
         head: Head,
         display: &[u8],
     ) -> Result<(), WriteFailed>
+        requires { length display.now ≤ 66 }
         ensures state { OnOk result (state self.new ≡ spec.deeper (state self.old) head.length) }
         ensures bytes { Puts (W.contents out.old) (W.contents out.new) (dump.line (length self.old.lengths) head.tag (letters head.vr) display.now head.length 1) result }
         ensures failed { Tells (W.has_failed out.old) (W.has_failed out.new) result }
@@ -262,9 +260,10 @@ impl Lines {
             return Ok(());
         };
         let length = Length::Known(self.text.size());
-        put_late_start(self.mode, out, self.lengths.depth(), owner)?;
-        let counted = self.text.finish(out)?;
-        put_line_rest(out, owner.tag(), length, owner.count(counted))
+        let mut line = Line::new();
+        begin_late(self.mode, &mut line, self.lengths.depth(), owner);
+        let counted = self.text.finish(&mut line, out)?;
+        put_rest(out, &mut line, owner.tag(), length, owner.count(counted))
     }
 
     fn open_item<W: DeviceOut>(

@@ -28,17 +28,6 @@ spaces n m e = drop-replicate m 40 32 ∙ ap (λ k. replicate k 32) (let f : 40 
 pub cuts : (front : List ℕ) (cut : ℕ) → cut ≡ min (length front) 63 → take cut front ≡ take 63 front
 cuts front cut e = ap (λ k. take k front) (let f : cut ≡ min 63 (length front) = omega arith in f) ∙ take_min 63 front
 
--- two parts of what goes out
-pub puts_parts : {T E : Type 0} (old mid new : Option (List ℕ)) (first second whole : List ℕ) (r : Result T E) → whole ≡ first ++ second → mid ≡ append_known old first → Puts mid new second r → Puts old new whole r
-puts_parts {T} {E} old mid new first second whole r e went h = subst (λ bs. Puts {T = T} {E = E} old new bs r) (sym e) (puts_behind old mid new first second r went h)
-
--- the end of a display in Short
-pub cut_ending : (mode : Mode) (shown : ℕ) (front : List ℕ) (cut : ℕ) → mode ≡ Short → 66 < shown → cut ≡ min (length front) 63 → ending_of mode shown front ≡ take cut front ++ codes "..."
-cut_ending mode shown front cut m l e =
-    ap (λ x. ending_of x shown front) m
-    ∙ ap (λ b. cond b (take 63 front ++ codes "...") (padded front)) (lt-ltb 66 shown l)
-    ∙ ap (λ zs. zs ++ codes "...") (sym (cuts front cut e))
-
 -- the front stays filled
 pub filled_full : (mode : Mode) (front : List ℕ) (m n : ℕ) → mode ≡ Full → length front ≡ front_size mode m → length front ≡ front_size mode n
 filled_full mode front m n e h = h ∙ ap (λ x. front_size x m) e ∙ sym (ap (λ x. front_size x n) e)

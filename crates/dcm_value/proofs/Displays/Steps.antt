@@ -178,14 +178,6 @@ shown_further p now n h k t (Err x) same state = tt
 pub waits_goes : (p : Progress) (held : Option (List ℕ)) (now : Progress) (v : List ℕ) → Leads p v (waits p v) [] → now ≡ waits p v → (now ≡ fold step p v) × (held ≡ append_known held (outputs step writes p v))
 waits_goes p held now v l state = (state ∙ sym l.state, sym (ap (append_known held) (l.bytes ∙ once_none p.display.mode) ∙ append_known_none held))
 
--- first some bytes, and then the others
-pub goes_parts : {T E : Type 0} (p m : Progress) (held mid : Option (List ℕ)) (t : Progress) (holds : Option (List ℕ)) (xs ys all : List ℕ) (r : Result T E) → all ≡ xs ++ ys → (m ≡ fold step p xs) × (mid ≡ append_known held (outputs step writes p xs)) → Goes step writes m mid t holds ys r → Goes step writes p held t holds all r
-goes_parts {T} {E} p m held mid t holds xs ys all r split first h = subst (λ v. Goes {T = T} {E = E} step writes p held t holds v r) (sym split) (goes_on step writes p held m mid t holds xs ys r first.0 first.1 h)
-
--- a failure at the first of them
-pub goes_stops : {T E : Type 0} (p : Progress) (held : Option (List ℕ)) (t : Progress) (holds : Option (List ℕ)) (xs ys all : List ℕ) (r : Result T E) → all ≡ xs ++ ys → IsErr r → AppendsFront held holds (outputs step writes p xs) → Goes step writes p held t holds all r
-goes_stops {T} {E} p held t holds xs ys all r split failed h = subst (λ v. Goes {T = T} {E = E} step writes p held t holds v r) (sym split) (goes_failed step writes p held t holds xs ys r failed h)
-
 -- the bytes before the last, and the last
 pub last_apart : (xs : List ℕ) (n : ℕ) → n + 1 ≡ length xs → xs ≡ take n xs ++ get_or xs n 0 ∷ []
 last_apart xs n e = sym (ap (λ k. take k xs) e ∙ take-length xs) ∙ take_more xs n 0 (omega arith)
@@ -204,15 +196,6 @@ feeds_on {T} {E} p q old mid t new xs r is went goes =
     puts_of (Ok x) h = h.1
     puts_of (Err x) h = h
 
--- the closing and the end behind it
-pub ends_after : {T E : Type 0} (old mid new : Option (List ℕ)) (p : Progress) (d : Display) (r : Result T E) → mid ≡ append_known old (at_once p.display.mode (closing p)) → d ≡ emit p.display (closing p) → Puts mid new (ending d) r → Puts old new (finishes p) r
-unfolding finishes
-ends_after {T} {E} old mid new p d r went is h = puts_behind old mid new (at_once p.display.mode (closing p)) (ending (emit p.display (closing p))) r went (subst (λ x. Puts {T = T} {E = E} mid new (ending x) r) is h)
-
-pub closing_failed : {T E : Type 0} (old new : Option (List ℕ)) (p : Progress) (r : Result T E) → IsErr r → AppendsFront old new (at_once p.display.mode (closing p)) → Puts old new (finishes p) r
-unfolding finishes
-closing_failed old new p r failed h = puts_err old new (at_once p.display.mode (closing p) ++ ending (emit p.display (closing p))) r failed (front_longer (ending (emit p.display (closing p))) h)
-
 pub opening_failed : {T E : Type 0} (old new : Option (List ℕ)) (p : Progress) (xs : List ℕ) (r : Result T E) → IsErr r → AppendsFront old new (opening_writes p) → Puts old new (feeds p xs) r
 opening_failed old new p xs r failed h = puts_err old new (feeds p xs) r failed (front_longer (outputs step writes (opened p) xs) h)
 
@@ -221,10 +204,3 @@ pub opening_waits : (p q : Progress) (old mid : Option (List ℕ)) (v : List ℕ
 opening_waits p q old mid v is went l =
     let none : outputs step writes (opened p) v ≡ [] = ap (λ x. outputs step writes x v) (sym is) ∙ l.bytes ∙ once_none q.display.mode in
     went ∙ ap (append_known old) (sym (ap (λ xs. opening_writes p ++ xs) none ∙ append-nil (opening_writes p)))
-
-pub ending_failed : {T E : Type 0} (old mid new : Option (List ℕ)) (p : Progress) (d : Display) (r : Result T E) → IsErr r → mid ≡ append_known old (at_once p.display.mode (closing p)) → d ≡ emit p.display (closing p) → AppendsFront mid new (ending d) → Puts old new (finishes p) r
-ending_failed {T} {E} old mid new p d (Ok x) failed went is h = cc
-ending_failed {T} {E} old mid new p d (Err x) failed went is h = ends_after {T = T} {E = E} old mid new p d (Err x) went is h
-
-pub ends_whole : (old mid new : Option (List ℕ)) (p : Progress) (d : Display) → mid ≡ append_known old (at_once p.display.mode (closing p)) → d ≡ emit p.display (closing p) → new ≡ append_known mid (ending d) → new ≡ append_known old (finishes p)
-ends_whole old mid new p d went is h = ends_after {T = ℕ} {E = ℕ} old mid new p d (Ok 0) went is h

@@ -5,7 +5,7 @@ use Rattle.dcm_base.proofs.Writes.Puts.{append_known_twice}
 use Rattle.dcm_base.proofs.Writes.PartsOut.{part_failed, parts_put}
 use Rattle.dcm_value.specs.Progress as progress
 use Rattle.dcm_tools.specs.DumpSink as spec
-use Rattle.dcm_tools.proofs.Dumps.Brackets.{begun_opened}
+use Rattle.dcm_tools.proofs.Dumps.Brackets.{begun_opened, opened_mode}
 use Rattle.dcm_tools.proofs.Dumps.ValueLines.{begins_in_parts}
 use Rattle.dcm_tools.proofs.dump.lines.Lines.begin.Goals as goal
 
@@ -13,32 +13,36 @@ pub returns-in_err-put_early_start-clause-bytes : goal.returns-in_err-put_early_
 returns-in_err-put_early_start-clause-bytes g c =
     let p : progress.Progress = progress.started c.args.vr c.args.syntax c.args.size c.args.self.now.mode in
     let start : List ℕ = spec.early_start c.args.self.now.mode (spec.owner_start (length c.args.self.now.lengths) c.args.owner) in
-    part_failed _ _ start _ (progress.feeds p []) _ c.from_residual.result c.from_residual.ensures.0
+    part_failed _ _ start _ (progress.opening_writes p) _ c.from_residual.result c.from_residual.ensures.0
     refl
     (begins_in_parts c.args.self.now.mode (spec.owner_start (length c.args.self.now.lengths) c.args.owner) (progress.opening p))
     (rw c.depth.ensures.depth at c.in_err-put_early_start.ensures.bytes)
 
-pub returns-in_err-feed-clause-bytes : goal.returns-in_err-feed-clause-bytes
-returns-in_err-feed-clause-bytes g c =
+pub returns-in_err-open-clause-bytes : goal.returns-in_err-open-clause-bytes
+returns-in_err-open-clause-bytes g c =
     let p : progress.Progress = progress.started c.args.vr c.args.syntax c.args.size c.args.self.now.mode in
     let start : List ℕ = spec.early_start c.args.self.now.mode (spec.owner_start (length c.args.self.now.lengths) c.args.owner) in
-    parts_put _ _ _ start _ (progress.feeds p []) _ _ c.from_residual-in_err-feed.result refl refl
+    parts_put _ _ _ start _ (progress.opening_writes p) _ _ c.from_residual-in_err-open.result refl refl
     (begins_in_parts c.args.self.now.mode (spec.owner_start (length c.args.self.now.lengths) c.args.owner) (progress.opening p))
     (rw c.depth.ensures.depth at c.in_ok-put_early_start.ensures.bytes)
-    (part_failed _ _ (progress.feeds p []) _ [] _ c.from_residual-in_err-feed.result c.from_residual-in_err-feed.ensures.0 (ap (λ q. progress.feeds q []) c.new-self.ensures) (sym (append-nil (progress.feeds p []))) c.in_err-feed.ensures.bytes)
+    (part_failed _ _ (progress.opening_writes p) _ [] _ c.from_residual-in_err-open.result c.from_residual-in_err-open.ensures.0 (ap progress.opening_writes c.new-self.ensures) (sym (append-nil (progress.opening_writes p))) c.in_err-open.ensures.bytes)
 
 pub invariant_of-self-2 : goal.invariant_of-self-2
-invariant_of-self-2 g c = record {
-  begun = λ owner is. ap progress.is_unopened (c.in_ok-feed.ensures.state ∙ ap progress.opened c.new-self.ensures) ∙ begun_opened (progress.started c.args.vr c.args.syntax c.args.size c.args.self.now.mode);
-}
+invariant_of-self-2 g c =
+    let p : progress.Progress = progress.started c.args.vr c.args.syntax c.args.size c.args.self.now.mode in
+    let opened = c.in_ok-open.ensures.state ∙ ap progress.opened c.new-self.ensures in
+    record {
+      begun = λ owner is. ap progress.is_unopened opened ∙ begun_opened p;
+      same = λ owner is. ap (λ q. q.display.mode) opened ∙ opened_mode p;
+    }
 
 pub returns-clause-bytes : goal.returns-clause-bytes
 returns-clause-bytes g c =
     let p : progress.Progress = progress.started c.args.vr c.args.syntax c.args.size c.args.self.now.mode in
     let start : List ℕ = spec.early_start c.args.self.now.mode (spec.owner_start (length c.args.self.now.lengths) c.args.owner) in
     let level = c.depth.ensures.depth in
-    c.in_ok-feed.ensures.bytes
-    ∙ ap (λ q. append_known (g.W.DeviceOut.contents c.put_early_start.new.out) (progress.feeds q [])) c.new-self.ensures
-    ∙ ap (λ known. append_known known (progress.feeds p [])) (rw level at c.in_ok-put_early_start.ensures.bytes)
-    ∙ append_known_twice (g.W.DeviceOut.contents c.args.out.now) start (progress.feeds p [])
+    c.in_ok-open.ensures.bytes
+    ∙ ap (λ q. append_known (g.W.DeviceOut.contents c.put_early_start.new.out) (progress.opening_writes q)) c.new-self.ensures
+    ∙ ap (λ known. append_known known (progress.opening_writes p)) (rw level at c.in_ok-put_early_start.ensures.bytes)
+    ∙ append_known_twice (g.W.DeviceOut.contents c.args.out.now) start (progress.opening_writes p)
     ∙ ap (append_known (g.W.DeviceOut.contents c.args.out.now)) (sym (begins_in_parts c.args.self.now.mode (spec.owner_start (length c.args.self.now.lengths) c.args.owner) (progress.opening p)))

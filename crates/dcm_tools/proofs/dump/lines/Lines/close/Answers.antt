@@ -1,43 +1,43 @@
-use Rattle.std.proofs.Common.{refl, ap, ◌∙◌, ℕ, ◌++◌, length}
+use Rattle.std.proofs.Common.{refl, ap, sym, ◌≡◌, ◌∙◌, ℕ, List, ◌++◌, length}
 use Rattle.dcm_base.proofs.Writes.PartsOut.{part_failed, parts_put}
 use Rattle.dcm_value.specs.Progress as progress
 use Rattle.dcm_value.specs.ValueText.{progress as text_progress}
 use Rattle.dcm_tools.specs.DumpSink as spec
+use Rattle.dcm_base.specs.declared.length.Length.TheVariants.{Known}
+use Rattle.dcm_tools.specs.Layout.{line_rest}
 use Rattle.dcm_tools.specs.Lines.{value_of}
-use Rattle.dcm_tools.proofs.Dumps.ValueLines.{is_open, ends_in_parts, rest_same}
+use Rattle.dcm_tools.proofs.Dumps.ValueLines.{is_open, is_begun, closes_in_parts, rest_same}
 use Rattle.dcm_tools.proofs.dump.lines.Lines.close.Goals as goal
-
-pub returns-in_err-put_late_start-clause-bytes : goal.returns-in_err-put_late_start-clause-bytes
-returns-in_err-put_late_start-clause-bytes g c =
-    let v = c.in-Some in
-    let p : progress.Progress = text_progress c.args.self.now.text in
-    let level : ℕ = length c.args.self.now.lengths in
-    let is = is_open c.args.self.now.owner v.owner p v.ensures.value in
-    part_failed _ _ (spec.late_start c.args.self.now.mode (spec.owner_start level v.owner)) _ (progress.finishes p ++ spec.owner_rest v.owner p) _ c.from_residual.result c.from_residual.ensures.0
-    (ap (λ n. spec.late_start c.args.self.now.mode (spec.owner_start n v.owner)) c.depth.ensures.depth)
-    (ends_in_parts c.args.self.now.mode level (value_of c.args.self.now.owner p) v.owner p is)
-    c.in_err-put_late_start.ensures.bytes
 
 pub returns-in_err-counted-clause-bytes : goal.returns-in_err-counted-clause-bytes
 returns-in_err-counted-clause-bytes g c =
+    let s = c.args.self.now in
     let v = c.in-Some in
-    let p : progress.Progress = text_progress c.args.self.now.text in
-    let level : ℕ = length c.args.self.now.lengths in
-    let is = is_open c.args.self.now.owner v.owner p v.ensures.value in
-    parts_put _ _ _ (spec.late_start c.args.self.now.mode (spec.owner_start level v.owner)) _ (progress.finishes p ++ spec.owner_rest v.owner p) _ _ c.from_residual-in_err-counted.result
-    (ap (λ n. spec.late_start c.args.self.now.mode (spec.owner_start n v.owner)) c.depth.ensures.depth) refl
-    (ends_in_parts c.args.self.now.mode level (value_of c.args.self.now.owner p) v.owner p is)
-    c.in_ok-put_late_start.ensures.bytes
-    (part_failed _ _ (progress.finishes p) _ (spec.owner_rest v.owner p) _ c.from_residual-in_err-counted.result c.from_residual-in_err-counted.ensures.0 refl refl c.in_err-counted.ensures.bytes)
+    let p : progress.Progress = text_progress s.text in
+    let level : ℕ = length s.lengths in
+    let is = is_open s.owner v.owner p v.ensures.value in
+    let same = is_begun s.owner v.owner (p.display.mode ≡ s.mode) v.ensures.value s.same in
+    part_failed _ _ (progress.closing_writes p) _ _ _ c.from_residual.result c.from_residual.ensures.0 refl
+    (closes_in_parts s.mode level (value_of s.owner p) v.owner p same is)
+    c.in_err-counted.ensures.bytes
 
 pub returns-clause-bytes : goal.returns-clause-bytes
 returns-clause-bytes g c =
+    let s = c.args.self.now in
     let v = c.in-Some in
-    let p : progress.Progress = text_progress c.args.self.now.text in
-    let level : ℕ = length c.args.self.now.lengths in
-    let is = is_open c.args.self.now.owner v.owner p v.ensures.value in
-    parts_put _ _ _ (spec.late_start c.args.self.now.mode (spec.owner_start level v.owner)) _ (progress.finishes p ++ spec.owner_rest v.owner p) _ _ c.put_line_rest.result
-    (ap (λ n. spec.late_start c.args.self.now.mode (spec.owner_start n v.owner)) c.depth.ensures.depth) refl
-    (ends_in_parts c.args.self.now.mode level (value_of c.args.self.now.owner p) v.owner p is)
-    c.in_ok-put_late_start.ensures.bytes
-    (parts_put _ _ _ (progress.finishes p) _ (spec.owner_rest v.owner p) _ _ c.put_line_rest.result refl (rest_same c.tag.result (spec.owner_tag v.owner) _ _ _ _ c.tag.ensures c.size.ensures (c.count.ensures ∙ ap (spec.count_of v.owner) c.in_ok-counted.ensures.count)) refl c.in_ok-counted.ensures.bytes c.put_line_rest.ensures.bytes)
+    let p : progress.Progress = text_progress s.text in
+    let level : ℕ = length s.lengths in
+    let is = is_open s.owner v.owner p v.ensures.value in
+    let same = is_begun s.owner v.owner (p.display.mode ≡ s.mode) v.ensures.value s.same in
+    let start : List ℕ = spec.late_start s.mode (spec.owner_start level v.owner) in
+    let shown : c.finish.new.line.items ≡ start ++ progress.end_writes p =
+    c.in_ok-counted.ensures.line
+    ∙ ap (λ xs. xs ++ progress.end_writes p) (c.begin_late.ensures.items ∙ ap (λ n. spec.late_start s.mode (spec.owner_start n v.owner)) c.depth.ensures.depth)
+    in
+    let rest =
+    rest_same c.tag.result (spec.owner_tag v.owner) _ _ _ _ c.tag.ensures c.size.ensures (c.count.ensures ∙ ap (spec.count_of v.owner) c.in_ok-counted.ensures.count)
+    in
+    parts_put _ _ _ (progress.closing_writes p) _ ((start ++ progress.end_writes p) ++ spec.owner_rest v.owner p) _ _ c.put_rest.result refl
+    (ap (λ xs. xs ++ line_rest c.tag.result (Known c.size.result) c.count.result) shown ∙ ap (λ xs. (start ++ progress.end_writes p) ++ xs) rest)
+    (closes_in_parts s.mode level (value_of s.owner p) v.owner p same is)
+    c.in_ok-counted.ensures.bytes c.put_rest.ensures.bytes

@@ -11,7 +11,7 @@ use Rattle.dcm_value.proofs.Displays.Emits.{settled_of}
 use Rattle.dcm_tools.specs.DumpSink as spec
 use Rattle.dcm_tools.specs.Lines.{state, value_of}
 use Rattle.dcm_tools.proofs.Dumps.ValueBytes.{within, between, stays_between, silent_between}
-use Rattle.dcm_tools.proofs.Dumps.Brackets.{begun_behind}
+use Rattle.dcm_tools.proofs.Dumps.Brackets.{begun_behind, opened_mode, fold_mode}
 use Rattle.dcm_tools.proofs.Dumps.OpenValues.{takes_bytes, shows_bytes}
 use Rattle.dcm_tools.proofs.Dumps.ValueLines.{is_open, is_begun, is_none, same_state, not_empty}
 use Rattle.dcm_tools.proofs.dump.lines.Lines.show.Goals as goal
@@ -54,10 +54,16 @@ invariant_of-self-2 g c =
     let v = c.in-Some.owner in
     let begun = is_begun s.owner v (progress.is_unopened (text_progress s.text) ≡ false) c.in-Some.ensures.value s.begun in
     let settled = sym (settled_of s.text.shown.mode s.text.shown.count s.text.shown.front.items s.text.shown.capped s.text.shown.filled) in
+    let same = is_begun s.owner v ((text_progress s.text).display.mode ≡ s.mode) c.in-Some.ensures.value s.same in
     record {
       begun = λ owner is.
           ap progress.is_unopened c.in_ok-feed.ensures.state
           ∙ begun_behind (text_progress s.text) c.split_at.result.0.now begun settled s.text.shown.capped;
+      same = λ owner is.
+          ap (λ q. q.display.mode) c.in_ok-feed.ensures.state
+          ∙ fold_mode (progress.opened (text_progress s.text)) c.split_at.result.0.now
+          ∙ opened_mode (text_progress s.text)
+          ∙ same;
     }
 
 pub returns-clause-state : goal.returns-clause-state
