@@ -7,14 +7,16 @@ changes its input, beside `dcmconv +t=`.
 The inputs are made in a temporary directory, which takes a little more than five times `--mebibytes` and is removed at
 the end. They are read from the page cache. Dumps go to /dev/null. A conversion, or a file that is built from a dump, is
 written into the same directory, as is that of `cat FILE > OUTPUT` beside it, and each starts without that file; so is a
-file with edits. One run prints seven tables: throughput of dumps, of conversions, of files that are built and of files
-with edits (the median of the rounds, in which the programs take turns, over the bytes of the input), time of a whole
-process on a small file, and peak memory, of files with edits in a table of its own.
+file with edits. One run prints ten tables: throughput of dumps, of conversions, of files that are built and of files
+with edits (the median of the rounds, in which the programs take turns, over the bytes of the input), time of dumps of small
+elements beside a bound, and of other work on them and edits of them (the best of the rounds), time of a whole process on a small file, and peak
+memory, of files with edits in a table of its own. The bound is dump_bound.c, built with `cc` where there is one.
 """
 
 import argparse
 import os
 import random
+import re
 import shutil
 import statistics
 import struct
@@ -39,6 +41,12 @@ NESTED_INNER = 10
 
 # as many edits as there may be, with the two that look at each element
 PATH_EDITS = 62
+
+# elements of the structured report, and of the files of many that are empty
+REPORT_ELEMENTS = 200_000
+EMPTY = 1_000_000
+
+TOP = Path(__file__).resolve().parent.parent
 
 
 # ---- the bytes of an input (PS3.5 7, PS3.10 7.1)
@@ -161,6 +169,60 @@ def make_private(path):
     make_nested(path, leaf(LITTLE, 0x0041, 0x0010, "LO", b"a creator"))
 
 
+# ---- a structured report: many small elements in items of undefined length
+
+
+def undefined_sequence(group, element, items):
+    item, end = head(LITTLE, 0xFFFE, 0xE000, "", UNDEFINED), head(LITTLE, 0xFFFE, 0xE00D, "", 0)
+    body = b"".join(item + contents + end for contents in items)
+    return head(LITTLE, group, element, "SQ", UNDEFINED) + body + head(LITTLE, 0xFFFE, 0xE0DD, "", 0)
+
+
+def report_code(number):
+    code = leaf(LITTLE, 0x0008, 0x0100, "SH", b"%d" % (121000 + number % 900))
+    code += leaf(LITTLE, 0x0008, 0x0102, "SH", b"DCM")
+    code += leaf(LITTLE, 0x0008, 0x0104, "LO", b"Meaning number %d" % (number % 900))
+    return undefined_sequence(0x0040, 0xA043, [code])
+
+
+def report_item(number, depth, left):
+    """An item of the report with its items, at most as many as elements are left to make."""
+    left[0] -= 6
+    value = b"CONTAINER" if depth else b"TEXT"
+    front = leaf(LITTLE, 0x0040, 0xA040, "CS", value) + report_code(number)
+    if depth == 0:
+        return front + leaf(LITTLE, 0x0040, 0xA160, "UT", b"Finding %d: nothing remarkable in slice %d" % (number, number % 512))
+    inner = []
+    while len(inner) < 8 and left[0] > 0:
+        inner.append(report_item(number * 8 + len(inner), depth - 1, left))
+    return front + (undefined_sequence(0x0040, 0xA730, inner) if inner else b"")
+
+
+def make_report(path):
+    left, items = [REPORT_ELEMENTS], []
+    while left[0] > 0:
+        items.append(report_item(len(items) + 1, 4, left))
+    Path(path).write_bytes(meta(LITTLE) + front(LITTLE) + undefined_sequence(0x0040, 0xA730, items))
+
+
+def make_empty_elements(path):
+    """Many elements with no value."""
+    Path(path).write_bytes(meta(LITTLE) + front(LITTLE) + leaf(LITTLE, 0x0010, 0x0020, "LO", b"") * EMPTY)
+
+
+def make_empty_items(path):
+    """Many items with no element, in a sequence of undefined length."""
+    items = head(LITTLE, 0xFFFE, 0xE000, "", 0) * EMPTY
+    sequence = head(LITTLE, 0x0040, 0xA730, "SQ", UNDEFINED) + items + head(LITTLE, 0xFFFE, 0xE0DD, "", 0)
+    Path(path).write_bytes(meta(LITTLE) + front(LITTLE) + sequence)
+
+
+def report_edits():
+    """As many edits as there may be beside two others, each of a code in an item of an item of an item."""
+    items = [f"ContentSequence[0].ContentSequence[{number // 8}].ContentSequence[{number % 8}]" for number in range(PATH_EDITS)]
+    return [word for item in items for word in ("-m", f"{item}.ConceptNameCodeSequence[0].CodeMeaning=another meaning")]
+
+
 def make_small(path):
     Path(path).write_bytes(meta(LITTLE) + front(LITTLE))
 
@@ -242,6 +304,39 @@ def make_inputs(binary, folder, mebibytes, full_mebibytes):
     return dumps, conversions, builds, modifications, Work("dcmdump", "small", [], path("small"))
 
 
+def make_small_elements(binary, folder):
+    """The dumps of files of small elements, and the other work on the structured report."""
+    path = lambda name: os.path.join(folder, name)
+    make_report(path("report"))
+    make_empty_elements(path("empty_elements"))
+    make_empty_items(path("empty_items"))
+    make_dump(binary, path("report"), path("report.dump"))
+    converted = {option: path(f"report{option}") for option in ("+ti", "+tb")}
+    for option, file in converted.items():
+        subprocess.run([binary, "dcmconv", option, path("report"), file], check=True)
+    report = "a structured report of 200,000 elements"
+    dumps = [
+        Work("dcmdump", name, [option], path(file))
+        for name, file in [
+            (report, "report"),
+            (f"{EMPTY:,} elements with no value", "empty_elements"),
+            (f"{EMPTY:,} items with no element", "empty_items"),
+        ]
+        for option in ("-L", "+L")
+    ]
+    others = [Work("dcmconv", report, [option], path("report"), path("output")) for option in ("+t=", "+ti", "+tb")]
+    others += [
+        Work("dcmconv", f"the same, {name}", ["+te"], converted[option], path("output"))
+        for option, name in [("+ti", "implicit"), ("+tb", "big endian")]
+    ]
+    others.append(Work("dump2dcm", "its full dump", [], path("report.dump"), path("output")))
+    edits = ["-ma", "CodeValue=T-1", "-m", "PatientName=Mark^Bench", *report_edits()]
+    label = f"-ma, -m and {PATH_EDITS} of -m with paths"
+    modifications = [Work("dcmodify", report, edits, path("report"), path("output"), label)]
+    os.sync()
+    return dumps, others, modifications
+
+
 # ---- processes
 
 
@@ -311,6 +406,25 @@ def editing_programs(binary):
     }
 
 
+def keywords_of_the_dictionary():
+    """The lines that the bound reads: the rows of the dictionary that dcmtools has."""
+    source = (TOP / "crates/dcm_base/src/dictionary.rt").read_text()
+    rows = re.findall(r'0x([0-9A-F]{4})_([0-9A-F]{4}),\s*Vr::..,\s*"(\w+)"', source)
+    return "".join(f"{group}{element} {keyword}\n" for group, element, keyword in rows)
+
+
+def with_bound(run, folder):
+    """The programs for dumps of small elements: DCMTK where it is there, dcmtools, and the bound where `cc` can build it."""
+    found = {name: program for name, program in run.items() if name != "cat"}
+    compiler = shutil.which("cc")
+    if compiler is None:
+        return found
+    bound, keywords = os.path.join(folder, "dump_bound"), os.path.join(folder, "keywords")
+    subprocess.run([compiler, "-O2", "-o", bound, TOP / "bench/dump_bound.c"], check=True)
+    Path(keywords).write_text(keywords_of_the_dictionary())
+    return {**found, "bound": lambda work: ([bound, work.path, keywords], os.devnull)}
+
+
 def measured(measure, program, work):
     """What is measured of a program, where no output of an earlier run is there."""
     if work.output and os.path.exists(work.output):
@@ -346,6 +460,26 @@ def throughput_row(work, run, rounds):
         if name != "cat":
             cells.append(f"{seconds / medians['cat']:.2f}")
     return cells
+
+
+def best_row(work, run, rounds):
+    """The best times of the programs in milliseconds, and how many times as long as the first each other one takes."""
+    best = dict.fromkeys(run, float("inf"))
+    for _ in range(rounds):
+        for name, program in run.items():
+            best[name] = min(best[name], measured(seconds_of, program, work))
+    first, *others = best.values()
+    cells = [work.name, f"{work.tool} {label_of(work)}".strip(), f"{first * 1e3:.1f}"]
+    for seconds in others:
+        cells += [f"{seconds * 1e3:.1f}", f"{seconds / first:.2f}"]
+    return cells
+
+
+def print_best(title, works, run, rounds):
+    rows = [best_row(work, run, rounds) for work in works]
+    first, *others = run
+    ratios = [title for name in others for title in (name, f"{name} / {first}")]
+    print_table(title, ["Input", "Work", first, *ratios], rows)
 
 
 def with_ratios(run):
@@ -390,9 +524,8 @@ def machine():
 
 
 def main():
-    top = Path(__file__).resolve().parent.parent
     options = argparse.ArgumentParser(description=__doc__.splitlines()[0])
-    options.add_argument("--binary", default=str(top / "crates/dcmtools/out/dcmtools"))
+    options.add_argument("--binary", default=str(TOP / "crates/dcmtools/out/dcmtools"))
     options.add_argument("--mebibytes", type=int, default=512, help="pixels of the large inputs")
     options.add_argument("--full-mebibytes", type=int, default=32, help="pixels of the inputs that are shown whole")
     options.add_argument("--rounds", type=int, default=5)
@@ -411,6 +544,13 @@ def main():
         print_throughput("Conversions, in MB/s of input", conversions, run, chosen.rounds)
         print_throughput("Files that are built, in MB/s of input", builds, run, chosen.rounds)
         print_throughput("Files with edits, in MB/s of input", modifications, editing, chosen.rounds)
+        dumps_of_small, others_of_small, edits_of_small = make_small_elements(binary, folder)
+        title = f"small elements, in milliseconds, the best of {chosen.rounds} rounds"
+        print_best(f"Dumps of {title}", dumps_of_small, with_bound(run, folder), chosen.rounds)
+        others = {name: program for name, program in run.items() if name != "cat"}
+        print_best(f"Other work on {title}", others_of_small, others, chosen.rounds)
+        converting_last = dict(reversed([item for item in editing.items() if item[0] != "cat"]))
+        print_best(f"Edits of {title}", edits_of_small, converting_last, chosen.rounds)
         print_starts(small, run, chosen.starts)
         print_memory(dumps + conversions + builds, run)
         print_memory(modifications, editing)

@@ -47,11 +47,11 @@ fn start_text(tag: Tag, letters: [u8; 2]) -> [u8; START]
 
 /// Begins a line: two spaces a level, tag and letters.
 pub fn begin_line(line: &mut Line, level: usize, tag: Tag, letters: [u8; 2])
-    requires level { level ≤ 128 }
-    requires empty { line.old.items ≡ [] }
+    requires { level ≤ 128 }
     ensures items { line.new.items ≡ dump.line_start level tag letters }
     ensures within { length line.new.items ≤ 271 }
 {
+    line.clear();
     let _ = line.try_extend_from_slice(spaces(2 * level));
     let _ = line.try_extend_from_slice(&start_text(tag, letters));
 }
@@ -59,6 +59,7 @@ pub fn begin_line(line: &mut Line, level: usize, tag: Tag, letters: [u8; 2])
 /// Writes a line up to its display.
 pub fn put_line_start<W: DeviceOut>(
     out: &mut Watched<W>,
+    line: &mut Line,
     level: usize,
     tag: Tag,
     letters: [u8; 2],
@@ -67,8 +68,7 @@ pub fn put_line_start<W: DeviceOut>(
     ensures bytes { Puts (W.contents out.old) (W.contents out.new) (dump.line_start level tag letters) result }
     ensures failed { Tells (W.has_failed out.old) (W.has_failed out.new) result }
 {
-    let mut line = Line::new();
-    begin_line(&mut line, level, tag, letters);
+    begin_line(line, level, tag, letters);
     put_all(out, line.as_slice())
 }
 
@@ -186,6 +186,7 @@ fn append_display(line: &mut Line, display: &[u8])
 /// Writes a line with a display that is known at once: an opening or an end.
 pub fn put_line<W: DeviceOut>(
     out: &mut Watched<W>,
+    line: &mut Line,
     level: usize,
     tag: Tag,
     letters: [u8; 2],
@@ -198,8 +199,7 @@ pub fn put_line<W: DeviceOut>(
     ensures bytes { Puts (W.contents out.old) (W.contents out.new) (dump.line level tag letters display.now declared count) result }
     ensures failed { Tells (W.has_failed out.old) (W.has_failed out.new) result }
 {
-    let mut line = Line::new();
-    begin_line(&mut line, level, tag, letters);
-    append_display(&mut line, display);
-    put_rest(out, &mut line, tag, declared, count)
+    begin_line(line, level, tag, letters);
+    append_display(line, display);
+    put_rest(out, line, tag, declared, count)
 }

@@ -1,5 +1,5 @@
 // The lines of a dump, as tokens come.
-ghost use Rattle.std.specs.Prelude.{◌≡◌, ◌<◌, ◌≤◌, [], OnOk, false, length, map, fold};
+ghost use Rattle.std.specs.Prelude.{◌≡◌, ◌<◌, ◌≤◌, OnOk, false, length, map, fold};
 ghost use Rattle.std.specs.Option.{ForSome};
 ghost use Rattle.dcm_base.specs.Atoms.{opens, value_byte, closes_leaf, opens_item, closes_item, closes_sequence, opens_fragment};
 ghost use Rattle.dcm_base.specs.Device.{Puts, Tells};
@@ -55,10 +55,12 @@ impl Owner {
     }
 }
 
-/// Where a dump is: what is open, whose value is being shown, and its text. Where no value is open the text is of none.
+/// Where a dump is: what is open, whose value is being shown, and its text. Where no value is open the text is of none. A line
+/// is put together in a buffer that stays, since a new one would be cleared each time.
 #[derive(Drop)]
 pub struct Lines {
     mode: Mode,
+    line: Line,
     lengths: Lengths,
     owner: Option<Owner>,
     text: ValueText,
@@ -117,6 +119,7 @@ fn item_end(length: Length) -> &'static [u8]
 fn put_early_start<W: DeviceOut>(
     mode: Mode,
     out: &mut Watched<W>,
+    line: &mut Line,
     level: usize,
     owner: Owner,
 ) -> Result<(), WriteFailed>
@@ -125,20 +128,19 @@ fn put_early_start<W: DeviceOut>(
     ensures failed { Tells (W.has_failed out.old) (W.has_failed out.new) result }
 {
     match mode {
-        Mode::Full => put_line_start(out, level, owner.tag(), owner.letters()),
+        Mode::Full => put_line_start(out, line, level, owner.tag(), owner.letters()),
         Mode::Short => Ok(()),
     }
 }
 
 /// A line that may be cut is begun where its display is known.
 fn begin_late(mode: Mode, line: &mut Line, level: usize, owner: Owner)
-    requires level { level ≤ 128 }
-    requires empty { line.old.items ≡ [] }
+    requires { level ≤ 128 }
     ensures items { line.new.items ≡ spec.late_start mode (spec.owner_start level owner) }
     ensures within { length line.new.items ≤ 271 }
 {
     match mode {
-        Mode::Full => {}
+        Mode::Full => line.clear(),
         Mode::Short => begin_line(line, level, owner.tag(), owner.letters()),
     }
 }
@@ -151,6 +153,7 @@ impl Lines {
     {
         Lines {
             mode,
+            line: Line::new(),
             lengths: Lengths::new(),
             owner: None,
             text: ValueText::new(Vr::UN, Syntax::Little, 0, mode),
@@ -181,7 +184,7 @@ impl Lines {
         ensures bytes { Puts (W.contents out.old) (W.contents out.new) (spec.begin_writes (state self.old) owner (progress.started vr syntax size self.old.mode)) result }
         ensures failed { Tells (W.has_failed out.old) (W.has_failed out.new) result }
     {
-        put_early_start(self.mode, out, self.lengths.depth(), owner)?;
+        put_early_start(self.mode, out, &mut self.line, self.lengths.depth(), owner)?;
         self.owner = None;
         self.text = ValueText::new(vr, syntax, size, self.mode);
         self.text.open(out)?;
@@ -203,6 +206,7 @@ impl Lines {
         let level = self.lengths.depth();
         put_line(
             out,
+            &mut self.line,
             level,
             head.tag,
             head.vr.letters(),
@@ -260,10 +264,10 @@ impl Lines {
             return Ok(());
         };
         let length = Length::Known(self.text.size());
-        let mut line = Line::new();
-        begin_late(self.mode, &mut line, self.lengths.depth(), owner);
-        let counted = self.text.finish(&mut line, out)?;
-        put_rest(out, &mut line, owner.tag(), length, owner.count(counted))
+        begin_late(self.mode, &mut self.line, self.lengths.depth(), owner);
+        let counted = self.text.finish(&mut self.line, out)?;
+        let count = owner.count(counted);
+        put_rest(out, &mut self.line, owner.tag(), length, count)
     }
 
     fn open_item<W: DeviceOut>(
@@ -278,6 +282,7 @@ impl Lines {
         let level = self.lengths.depth();
         put_line(
             out,
+            &mut self.line,
             level,
             Tag::ITEM,
             *b"na",
@@ -298,6 +303,7 @@ impl Lines {
         let level = self.lengths.depth();
         put_line(
             out,
+            &mut self.line,
             level,
             Tag::ITEM_END,
             *b"na",
@@ -316,6 +322,7 @@ impl Lines {
         let level = self.lengths.depth();
         put_line(
             out,
+            &mut self.line,
             level,
             Tag::SEQUENCE_END,
             *b"na",
