@@ -8,7 +8,7 @@ use Rattle.dcm_base.specs.Stop.{Stop, complete, refused, is_empty}
 use Rattle.dcm_base.specs.Reads.{INPUT_LIMIT}
 use Rattle.dcm_head.specs.declared.head.Head.{Head}
 use Rattle.dcm_stream.specs.declared.token.Bar.{Bar}
-use Rattle.dcm_stream.specs.declared.place.Place.{Place}
+use Rattle.dcm_stream.specs.declared.cursor.Cursor.{Cursor}
 use Rattle.dcm_stream.specs.declared.machine.Halt.{Halt}
 use Rattle.dcm_stream.specs.declared.machine.Halt.TheVariants.{Refused, Output}
 use Rattle.dcm_stream.specs.Reading.{Reading, Opened, closing, settled, read_byte, is_top, drives_byte}
@@ -24,7 +24,7 @@ abbrev pub steps_write : {S : Type 0} → (S → Head → Option Bar) → (S →
 steps_write bars step writes p b = outputs step writes p.1 (read_byte (bars_head bars p.1) p.0 b).1
 
 -- what is read of a data set at a place, and why it goes no further
-abbrev pub reading : Place → Option Stop → Reading
+abbrev pub reading : Cursor → Option Stop → Reading
 reading p halt = record { position = p.position; head = p.head.items; left = p.left; levels = p.levels; halt = halt }
 
 -- the offset of the next byte
@@ -69,10 +69,10 @@ abbrev pub value_read : Reading → (left : ℕ) → List ℕ → Reading × Lis
 value_read r left bytes = settled (r.position + length bytes) (record { levels = r.levels; left = left; atoms = map value_byte bytes ++ closing left }) left
 
 -- behind a place where no byte of a value is to come, and where so many are
-abbrev pub settles : Place → Reading × List Atom
+abbrev pub settles : Cursor → Reading × List Atom
 settles p = settled p.position (record { levels = p.levels; left = 0; atoms = [] }) 0
 
-abbrev pub settles_value : Place → Reading × List Atom
+abbrev pub settles_value : Cursor → Reading × List Atom
 settles_value p = settled p.position (record { levels = p.levels; left = p.left; atoms = closing p.left }) p.left
 
 -- what was opened is entered at an offset
@@ -80,7 +80,7 @@ abbrev pub entered : ℕ → Opened → Reading × List Atom
 entered position o = settled position o o.left
 
 -- what a head before a place opens is entered there
-abbrev pub enters : Place → Opening → Reading × List Atom
+abbrev pub enters : Cursor → Opening → Reading × List Atom
 enters p opening = entered p.position (opened_by p.position p.levels opening)
 
 -- a machine and its sink went over these bytes, or a beginning of the output went out
@@ -94,7 +94,7 @@ bytes_read (Ok n) piece = take n piece
 bytes_read (Err halt) piece = piece
 
 -- whether the data set may end at a place
-abbrev pub may_end : Place → Bool
+abbrev pub may_end : Cursor → Bool
 may_end p = (p.left == 0) && is_top p.levels && is_empty p.head.items
 
 -- how the input's end is answered

@@ -5,7 +5,7 @@ use Rattle.dcm_base.specs.Device as device
 use Rattle.dcm_base.specs.Steps.{Goes}
 use Rattle.dcm_base.specs.Stop.{Stop}
 use Rattle.dcm_stream.specs.declared.machine.Halt.{Halt}
-use Rattle.dcm_stream.specs.declared.place.Place.{Place}
+use Rattle.dcm_stream.specs.declared.cursor.Cursor.{Cursor}
 use Rattle.dcm_stream.specs.declared.sink.Sink.{Ghosts}
 use Rattle.dcm_stream.specs.Machine as machine
 use Rattle.dcm_stream.specs.Machine.{Progress}
@@ -24,7 +24,7 @@ abbrev pub Feeds : {S T : Type 0} → Ghosts S → (old new : S) → Reading →
 Feeds sink old new before after bytes r = machine.Feeds sink.bar sink.step sink.writes before (sink.state old) (sink.contents old) after (sink.state new) (sink.contents new) bytes r
 
 -- the same of as many bytes of a piece as the answer says
-abbrev pub FeedsPiece : {S : Type 0} → Ghosts S → (old new : S) → (before after : Place) → List ℕ → Result ℕ Halt → Type 0
+abbrev pub FeedsPiece : {S : Type 0} → Ghosts S → (old new : S) → (before after : Cursor) → List ℕ → Result ℕ Halt → Type 0
 FeedsPiece sink old new before after piece r = Feeds sink old new (machine.reading before None) (machine.reading after) (machine.bytes_read r piece) r
 
 -- a machine and the sink went over these bytes

@@ -16,11 +16,11 @@
 #![tactic(auto)]
 
 mod close;
+mod cursor;
 mod judge;
 pub mod laws;
 mod levels;
 mod machine;
-mod place;
 mod sink;
 mod skip;
 mod taking;

@@ -5,7 +5,7 @@ ghost use Rattle.dcm_stream.specs.Machine as spec;
 ghost use Rattle.dcm_stream.specs.Sinks as sinks;
 
 use super::Sink;
-use super::place::Place;
+use super::cursor::Cursor;
 use dcm_base::{Coding, Stop, WriteFailed};
 use std::marker::Model;
 
@@ -35,7 +35,7 @@ impl From<WriteFailed> for Halt {
 /// and at most 129 open containers, and no byte of a value.
 #[derive(Drop)]
 pub struct Machine {
-    place: Place,
+    cursor: Cursor,
     halt: Option<Halt>,
 }
 
@@ -45,9 +45,9 @@ impl Model for Machine {
 
     ghost Value = { Progress };
 
-    ghost view = { λ m. record { reading = reading m.place (stop_of m.halt); failed = is_output m.halt } };
+    ghost view = { λ m. record { reading = reading m.cursor (stop_of m.halt); failed = is_output m.halt } };
 
-    ghost invariant = { λ m. m.halt ≡ None → Stands (reading m.place None) };
+    ghost invariant = { λ m. m.halt ≡ None → Stands (reading m.cursor None) };
 }
 
 impl Machine {
@@ -57,7 +57,7 @@ impl Machine {
         ensures { result ≡ record { reading = steps.start_of coding.syntax start; failed = false } }
     {
         Machine {
-            place: Place::new(coding.syntax, start),
+            cursor: Cursor::new(coding.syntax, start),
             halt: None,
         }
     }
@@ -76,7 +76,7 @@ impl Machine {
     {
         let mut rest = piece;
         while !rest.is_empty() && self.halt.is_none() {
-            match self.place.read_some(rest, sink) {
+            match self.cursor.read_some(rest, sink) {
                 Ok(n) => {
                     let (_, after) = rest.split_at(n);
                     rest = after;
@@ -100,7 +100,7 @@ impl Machine {
         ensures kept { sinks.Keeps S.Sink sink.old sink.new }
     {
         if self.halt.is_none() {
-            self.halt = self.place.end(sink).err();
+            self.halt = self.cursor.end(sink).err();
         }
         answer(self.halt)
     }

@@ -17,7 +17,7 @@ use Rattle.dcm_base.specs.Stop.{Stop}
 use Rattle.dcm_head.specs.declared.head.Head.{Head}
 use Rattle.dcm_stream.specs.declared.judge.Opening.{Opening}
 use Rattle.dcm_stream.specs.declared.judge.Opening.TheVariants as opening
-use Rattle.dcm_stream.specs.declared.place.Place.{Place}
+use Rattle.dcm_stream.specs.declared.cursor.Cursor.{Cursor}
 use Rattle.dcm_stream.specs.declared.machine.Halt.{Halt}
 use Rattle.dcm_stream.specs.declared.machine.Halt.TheVariants.{Output}
 use Rattle.dcm_stream.specs.Reading.{Reading, Opened, closing, settled}
@@ -81,7 +81,7 @@ module _ {S : Type 0} (step : S → Atom → S) (writes : S → Atom → List �
       (comes_behind step writes position size levels s held m mid t holds new atom (closing size) r (a ∙ ap (fold step s) same) (b ∙ ap (λ (xs : List Atom). append_known held (outputs step writes s xs)) same) h)
 
   -- a container begins or ends
-  pub enters_container : {T : Type 0} (position : ℕ) (levels : List Level) (o : Opening) (p : Place) (s : S) (held : Option (List ℕ)) (m : S) (mid : Option (List ℕ)) (t : S) (holds : Option (List ℕ)) (new : Option Stop → Reading) (token : List Atom) (r : Result T Halt)
+  pub enters_container : {T : Type 0} (position : ℕ) (levels : List Level) (o : Opening) (p : Cursor) (s : S) (held : Option (List ℕ)) (m : S) (mid : Option (List ℕ)) (t : S) (holds : Option (List ℕ)) (new : Option Stop → Reading) (token : List Atom) (r : Result T Halt)
       → Leads position levels o p.levels → p.position ≡ position → token ≡ opening_atom o ∷ []
       → m ≡ fold step s token → mid ≡ append_known held (outputs step writes s token) → Comes step writes m mid t holds new (settles p) r
       → Comes step writes s held t holds new (entered position (opened_by position levels o)) r

@@ -14,7 +14,7 @@ use Rattle.dcm_stream.specs.declared.token.Bar.{Bar}
 use Rattle.dcm_stream.specs.declared.judge.Opening.{Opening}
 use Rattle.dcm_stream.specs.declared.judge.Judged.{Judged}
 use Rattle.dcm_stream.specs.declared.judge.Judged.TheVariants as judge
-use Rattle.dcm_stream.specs.declared.place.Place.{Place}
+use Rattle.dcm_stream.specs.declared.cursor.Cursor.{Cursor}
 use Rattle.dcm_stream.specs.declared.machine.Halt.{Halt}
 use Rattle.dcm_stream.specs.declared.machine.Halt.TheVariants.{Refused}
 use Rattle.dcm_stream.specs.Bounds.{are_nested}
@@ -32,7 +32,7 @@ unfolding are_nested
 no_container [] e h = cc
 no_container (inner ∷ outer) e h = cc
 
-pub some_container : (p : Place) → Stands (reading p None) → None ≡ innermost p.levels → ⊥
+pub some_container : (p : Cursor) → Stands (reading p None) → None ≡ innermost p.levels → ⊥
 some_container p h e = no_container p.levels e h.small.nested
 
 pub innermost_is : (bar : HeadBar) (ls : List Level) (inner : Level) (position : ℕ) (z : List ℕ) → innermost ls ≡ Some inner → innermost_stop bar ls position z ≡ place_stop bar inner ls position z
@@ -41,7 +41,7 @@ innermost_is bar (x ∷ outer) inner position z e = let same : x ≡ inner = cc 
 
 -- ---- what is judged
 
-by_judged : (bar : HeadBar) (p : Place) (inner : Level) (b : ℕ) → p.left ≡ 0 → p.position + length p.head.items < INPUT_LIMIT → innermost p.levels ≡ Some inner
+by_judged : (bar : HeadBar) (p : Cursor) (inner : Level) (b : ℕ) → p.left ≡ 0 → p.position + length p.head.items < INPUT_LIMIT → innermost p.levels ≡ Some inner
     → let z = p.head.items ++ b ∷ [] in
     read_byte bar (reading p None) b ≡ head_read (reading p None) z (place_stop bar inner p.levels p.position z)
 unfolding read_byte
@@ -54,7 +54,7 @@ by_judged bar p inner b left lt is =
 stopped : (r : Reading) (z : List ℕ) (fault : Fault) (at : ℕ) (early : Bool) → is_early fault ≡ early → head_read r z (Some (refused fault at)) ≡ cond {A = Reading × List Atom} early (record r { head = z }, []) (halted r (refused fault at), [])
 stopped r z fault at early e = ap (λ (t : Bool). cond {A = Reading × List Atom} t (record r { head = z }, []) (halted r (refused fault at), [])) e
 
-module _ {S : Type 0} (bars : S → Head → Option Bar) (step : S → Atom → S) (writes : S → Atom → List ℕ) (p : Place) (inner : Level) (s : S) (b : ℕ)
+module _ {S : Type 0} (bars : S → Head → Option Bar) (step : S → Atom → S) (writes : S → Atom → List ℕ) (p : Cursor) (inner : Level) (s : S) (b : ℕ)
     (left : p.left ≡ 0) (lt : p.position + length p.head.items < INPUT_LIMIT) (is : innermost p.levels ≡ Some inner) where
   abbrev bar : HeadBar
   bar = bars_head bars s
@@ -66,7 +66,7 @@ module _ {S : Type 0} (bars : S → Head → Option Bar) (step : S → Atom → 
   bytes = p.head.items ++ b ∷ []
 
   -- the head is refused
-  pub feeds_refused : (T : Type 0) (held : Option (List ℕ)) (new : Place) (judged : Judged) (fault : Fault) (halt : Halt) → Judges bar inner around p.position bytes judged → judged ≡ judge.Refused fault
+  pub feeds_refused : (T : Type 0) (held : Option (List ℕ)) (new : Cursor) (judged : Judged) (fault : Fault) (halt : Halt) → Judges bar inner around p.position bytes judged → judged ≡ judge.Refused fault
       → halt ≡ Refused (record { fault = fault; at = p.position }) → new.position ≡ p.position → new.head.items ≡ [] → new.left ≡ p.left → new.levels ≡ p.levels
       → Feeds {T = T} bars step writes (reading p None) s held (reading new) s held (b ∷ []) (Err halt)
   feeds_refused T held new judged fault halt h e is_halt at1 at2 at3 at4 =
@@ -82,7 +82,7 @@ module _ {S : Type 0} (bars : S → Head → Option Bar) (step : S → Atom → 
       (feeds_byte bars step writes {T = T} (reading p None) s held s held (reading new) b _ (Err (Refused (record { fault = fault; at = p.position }))) at (same, refl, sym (append_known_none held)))
 
   -- more bytes are wanted
-  pub feeds_waiting : {T : Type 0} (held : Option (List ℕ)) (new : Place) (judged : Judged) (x : T) → Judges bar inner around p.position bytes judged → judged ≡ judge.More
+  pub feeds_waiting : {T : Type 0} (held : Option (List ℕ)) (new : Cursor) (judged : Judged) (x : T) → Judges bar inner around p.position bytes judged → judged ≡ judge.More
       → new.position ≡ p.position → new.head.items ≡ bytes → new.left ≡ p.left → new.levels ≡ p.levels
       → Feeds bars step writes (reading p None) s held (reading new) s held (b ∷ []) (Ok x)
   feeds_waiting held new judged x h e at1 at2 at3 at4 =

@@ -22,7 +22,7 @@ use Rattle.dcm_stream.specs.declared.token.Bar.{Bar}
 use Rattle.dcm_stream.specs.declared.judge.Opening.{Opening}
 use Rattle.dcm_stream.specs.declared.judge.Judged.{Judged}
 use Rattle.dcm_stream.specs.declared.judge.Judged.TheVariants as judge
-use Rattle.dcm_stream.specs.declared.place.Place.{Place}
+use Rattle.dcm_stream.specs.declared.cursor.Cursor.{Cursor}
 use Rattle.dcm_stream.specs.declared.machine.Halt.{Halt}
 use Rattle.dcm_stream.specs.declared.machine.Halt.TheVariants.{Refused}
 use Rattle.dcm_stream.specs.Places.{innermost}
@@ -140,7 +140,7 @@ opens_at begin z w inner (x ∷ outer) is eight f =
     let same : inner ≡ x = cc in
     subst (λ (y : Level). head_opens begin (z ++ w) (y ∷ outer) ≡ head_opens begin z (y ∷ outer)) same (opens_by_kind begin z w inner outer ((tag_at inner.syntax z).group == 0xFFFE) eight refl f)
 
-module _ {S : Type 0} (bars : S → Head → Option Bar) (step : S → Atom → S) (writes : S → Atom → List ℕ) (p : Place) (inner : Level) (s : S) (bytes : List ℕ)
+module _ {S : Type 0} (bars : S → Head → Option Bar) (step : S → Atom → S) (writes : S → Atom → List ℕ) (p : Cursor) (inner : Level) (s : S) (bytes : List ℕ)
     (head : p.head.items ≡ []) (left : p.left ≡ 0) (within : p.position + length bytes ≤ INPUT_LIMIT) (is : innermost p.levels ≡ Some inner) where
   abbrev at_bar : HeadBar
   at_bar = bars_head bars s
@@ -159,7 +159,7 @@ module _ {S : Type 0} (bars : S → Head → Option Bar) (step : S → Atom → 
       let short : length bytes < 12 = judged_short bars s inner p.levels p.position bytes judged e j in
       omega arith
 
-  pub piece_waits : {T : Type 0} (held : Option (List ℕ)) (new : Place) (judged : Judged) (x : T) → Judges at_bar inner p.levels p.position bytes judged → judged ≡ judge.More → reading new None ≡ record (reading p None) { head = p.head.items ++ bytes }
+  pub piece_waits : {T : Type 0} (held : Option (List ℕ)) (new : Cursor) (judged : Judged) (x : T) → Judges at_bar inner p.levels p.position bytes judged → judged ≡ judge.More → reading new None ≡ record (reading p None) { head = p.head.items ++ bytes }
       → Feeds bars step writes (reading p None) s held (reading new) s held (take (length bytes) bytes) (Ok x)
   piece_waits held new judged x j e n =
       let k : Judges at_bar inner p.levels p.position bytes judge.More = subst (Judges at_bar inner p.levels p.position bytes) e j in

@@ -13,7 +13,7 @@ use Rattle.dcm_base.proofs.Writes.Puts.{append_known_none}
 use Rattle.dcm_base.proofs.Writes.Runs.{goes_on}
 use Rattle.dcm_head.specs.declared.head.Head.{Head}
 use Rattle.dcm_stream.specs.declared.token.Bar.{Bar}
-use Rattle.dcm_stream.specs.declared.place.Place.{Place}
+use Rattle.dcm_stream.specs.declared.cursor.Cursor.{Cursor}
 use Rattle.dcm_stream.specs.declared.machine.Halt.{Halt}
 use Rattle.dcm_stream.specs.declared.machine.Halt.TheVariants.{Refused, Output}
 use Rattle.dcm_stream.specs.Reading.{Reading, finish, end_shows}
@@ -33,13 +33,13 @@ pub some_of : (halt : Option Halt) → is_some halt ≡ true → (h : Halt) × (
 some_of None e = absurd (cc)
 some_of (Some halt) e = (halt, refl)
 
-halted_by : (place : Place) (halt : Option Halt) → halt ≡ None → (is_output halt || is_some (stop_of halt)) ≡ true → ⊥
-halted_by place None e h = cc
-halted_by place (Some halt) e h = cc
+halted_by : (cursor : Cursor) (halt : Option Halt) → halt ≡ None → (is_output halt || is_some (stop_of halt)) ≡ true → ⊥
+halted_by cursor None e h = cc
+halted_by cursor (Some halt) e h = cc
 
 -- a machine without a halt is not halted
-pub not_halted : (place : Place) (halt : Option Halt) (p : Progress) → ◌≡◌ {A = Progress} (record { reading = reading place (stop_of halt); failed = is_output halt }) p → halt ≡ None → is_halted p ≡ true → ⊥
-not_halted place halt p view e h = halted_by place halt e (ap is_halted view ∙ h)
+pub not_halted : (cursor : Cursor) (halt : Option Halt) (p : Progress) → ◌≡◌ {A = Progress} (record { reading = reading cursor (stop_of halt); failed = is_output halt }) p → halt ≡ None → is_halted p ≡ true → ⊥
+not_halted cursor halt p view e h = halted_by cursor halt e (ap is_halted view ∙ h)
 
 -- one that is not halted has no halt
 pub going_none : (halt : Option Halt) → (is_output halt || is_some (stop_of halt)) ≡ false → halt ≡ None
@@ -81,7 +81,7 @@ module _ {S : Type 0} (bars : S → Head → Option Bar) (step : S → Atom → 
   gone_nowhere r failed p s held e fine = subst (λ (q : Progress). Gone q.reading s held r s held [] failed) e (nowhere r s held failed (ap (λ (q : Progress). q.failed) e ∙ fine))
 
   -- bytes that went well, behind those so far
-  pub gone_on : (old : Reading) (s : S) (held : Option (List ℕ)) (mid : Place) (m : S) (mid_held : Option (List ℕ)) (new : Place) (t : S) (holds : Option (List ℕ)) (xs ys : List ℕ) (halt : Option Halt) (n : ℕ) → halt ≡ None
+  pub gone_on : (old : Reading) (s : S) (held : Option (List ℕ)) (mid : Cursor) (m : S) (mid_held : Option (List ℕ)) (new : Cursor) (t : S) (holds : Option (List ℕ)) (xs ys : List ℕ) (halt : Option Halt) (n : ℕ) → halt ≡ None
       → Gone old s held (reading mid (stop_of halt)) m mid_held xs (is_output halt) → Feeds {T = ℕ} bars step writes (reading mid None) m mid_held (reading new) t holds ys (Ok n)
       → Gone old s held (reading new (stop_of halt)) t holds (xs ++ ys) (is_output halt)
   gone_on old s held mid m mid_held new t holds xs ys None n e a b =
@@ -90,25 +90,25 @@ module _ {S : Type 0} (bars : S → Head → Option Bar) (step : S → Atom → 
   gone_on old s held mid m mid_held new t holds xs ys (Some halt) n e a b = absurd (cc)
 
   -- bytes at which it is halted, behind those so far
-  gone_halting : (old : Reading) (s : S) (held : Option (List ℕ)) (mid : Reading) (m : S) (mid_held : Option (List ℕ)) (new : Place) (t : S) (holds : Option (List ℕ)) (xs ys : List ℕ) (halt : Halt)
+  gone_halting : (old : Reading) (s : S) (held : Option (List ℕ)) (mid : Reading) (m : S) (mid_held : Option (List ℕ)) (new : Cursor) (t : S) (holds : Option (List ℕ)) (xs ys : List ℕ) (halt : Halt)
       → Gone old s held mid m mid_held xs false → Feeds {T = ℕ} bars step writes mid m mid_held (reading new) t holds ys (Err halt)
       → Gone old s held (reading new (stop_of (Some halt))) t holds (xs ++ ys) (is_output (Some halt))
   gone_halting old s held mid m mid_held new t holds xs ys (Refused stop) a b = goes_on (steps bars step) (steps_write bars step writes) {T = Unit {0}} {E = Unit {0}} (old, s) held (mid, m) mid_held (reading new (Some (refused stop.fault stop.at)), t) holds xs ys (Ok tt) a.0 a.1 b
   gone_halting old s held mid m mid_held new t holds xs ys Output a b = goes_on (steps bars step) (steps_write bars step writes) {T = Unit {0}} {E = Unit {0}} (old, s) held (mid, m) mid_held (reading new None, t) holds xs ys (Err tt) a.0 a.1 b
 
-  pub gone_halted : (old : Reading) (s : S) (held : Option (List ℕ)) (mid : Place) (m : S) (mid_held : Option (List ℕ)) (new : Place) (t : S) (holds : Option (List ℕ)) (xs ys : List ℕ) (before : Option Halt) (halt : Halt) → before ≡ None
+  pub gone_halted : (old : Reading) (s : S) (held : Option (List ℕ)) (mid : Cursor) (m : S) (mid_held : Option (List ℕ)) (new : Cursor) (t : S) (holds : Option (List ℕ)) (xs ys : List ℕ) (before : Option Halt) (halt : Halt) → before ≡ None
       → Gone old s held (reading mid (stop_of before)) m mid_held xs (is_output before) → Feeds {T = ℕ} bars step writes (reading mid None) m mid_held (reading new) t holds ys (Err halt)
       → Gone old s held (reading new (stop_of (Some halt))) t holds (xs ++ ys) (is_output (Some halt))
   gone_halted old s held mid m mid_held new t holds xs ys None halt e a b = gone_halting old s held (reading mid None) m mid_held new t holds xs ys halt a b
   gone_halted old s held mid m mid_held new t holds xs ys (Some before) halt e a b = absurd (cc)
 
   -- behind a halt nothing more happens
-  gone_behind : (old : Reading) (s : S) (held : Option (List ℕ)) (new : Place) (t : S) (holds : Option (List ℕ)) (xs ys : List ℕ) (halt : Halt) → Gone old s held (reading new (stop_of (Some halt))) t holds xs (is_output (Some halt))
+  gone_behind : (old : Reading) (s : S) (held : Option (List ℕ)) (new : Cursor) (t : S) (holds : Option (List ℕ)) (xs ys : List ℕ) (halt : Halt) → Gone old s held (reading new (stop_of (Some halt))) t holds xs (is_output (Some halt))
       → Gone old s held (reading new (stop_of (Some halt))) t holds (xs ++ ys) (is_output (Some halt))
   gone_behind old s held new t holds xs ys (Refused stop) a = feeds_halted bars step writes (Unit {0}) old s held new t holds xs ys (Refused stop) a
   gone_behind old s held new t holds xs ys Output a = feeds_halted bars step writes (Unit {0}) old s held new t holds xs ys Output a
 
-  pub gone_still : (old : Reading) (s : S) (held : Option (List ℕ)) (new : Place) (t : S) (holds : Option (List ℕ)) (xs ys : List ℕ) (halt : Option Halt) → is_some halt ≡ true → Gone old s held (reading new (stop_of halt)) t holds xs (is_output halt)
+  pub gone_still : (old : Reading) (s : S) (held : Option (List ℕ)) (new : Cursor) (t : S) (holds : Option (List ℕ)) (xs ys : List ℕ) (halt : Option Halt) → is_some halt ≡ true → Gone old s held (reading new (stop_of halt)) t holds xs (is_output halt)
       → Gone old s held (reading new (stop_of halt)) t holds (xs ++ ys) (is_output halt)
   gone_still old s held new t holds xs ys None e a = absurd (cc)
   gone_still old s held new t holds xs ys (Some halt) e a = gone_behind old s held new t holds xs ys halt a
@@ -118,40 +118,40 @@ empty_by xs e = nil_from_length xs (eqb-true (length xs) 0 (sym e))
 
 -- ---- the input's end
 
-abbrev pub View : Place → Option Halt → Progress → Type 0
-View place halt p = ◌≡◌ {A = Progress} (record { reading = reading place (stop_of halt); failed = is_output halt }) p
+abbrev pub View : Cursor → Option Halt → Progress → Type 0
+View cursor halt p = ◌≡◌ {A = Progress} (record { reading = reading cursor (stop_of halt); failed = is_output halt }) p
 
-pub view_at : (place : Place) (before : Option Halt) (p : Progress) → View place before p → before ≡ None → reading place None ≡ p.reading
-view_at place before p view e = ap (λ (h : Option Halt). reading place (stop_of h)) (sym e) ∙ ap (λ (q : Progress). q.reading) view
+pub view_at : (cursor : Cursor) (before : Option Halt) (p : Progress) → View cursor before p → before ≡ None → reading cursor None ≡ p.reading
+view_at cursor before p view e = ap (λ (h : Option Halt). reading cursor (stop_of h)) (sym e) ∙ ap (λ (q : Progress). q.reading) view
 
 refusal : (stop : Refusal) (fault : Fault) (offset : ℕ) → stop.fault ≡ fault → stop.at ≡ offset → Some (refused stop.fault stop.at) ≡ Some (refused fault offset)
 refusal stop fault offset e f = ap (λ (x : Fault). Some (refused x stop.at)) e ∙ ap (λ (n : ℕ). Some (refused fault n)) f
 
-ended_by : (place : Place) (r : Reading) (end : Stop) (result : Result (Unit {0}) Halt) → reading place None ≡ r → EndsWith end result → reading place (stop_of (result_err result)) ≡ ended end r
-ended_by place r complete (Ok x) e h = e
-ended_by place r complete (Err (Refused stop)) e h = absurd h
-ended_by place r complete (Err Output) e h = e
-ended_by place r (refused fault offset) (Ok x) e h = absurd h
-ended_by place r (refused fault offset) (Err (Refused stop)) e h = ap (λ (o : Option Stop). reading place o) (refusal stop fault offset h.0 h.1) ∙ ap (λ (x : Reading). record x { halt = Some (refused fault offset) }) e
-ended_by place r (refused fault offset) (Err Output) e h = absurd h
+ended_by : (cursor : Cursor) (r : Reading) (end : Stop) (result : Result (Unit {0}) Halt) → reading cursor None ≡ r → EndsWith end result → reading cursor (stop_of (result_err result)) ≡ ended end r
+ended_by cursor r complete (Ok x) e h = e
+ended_by cursor r complete (Err (Refused stop)) e h = absurd h
+ended_by cursor r complete (Err Output) e h = e
+ended_by cursor r (refused fault offset) (Ok x) e h = absurd h
+ended_by cursor r (refused fault offset) (Err (Refused stop)) e h = ap (λ (o : Option Stop). reading cursor o) (refusal stop fault offset h.0 h.1) ∙ ap (λ (x : Reading). record x { halt = Some (refused fault offset) }) e
+ended_by cursor r (refused fault offset) (Err Output) e h = absurd h
 
 -- what is read behind the end
-pub ended_reading : (place : Place) (before after : Option Halt) (p : Progress) (result : Result (Unit {0}) Halt) → View place before p → before ≡ None → after ≡ result_err result → EndsWith (finish (reading place None)) result
-    → reading place (stop_of after) ≡ ended (finish p.reading) p.reading
-ended_reading place before after p result view e f h =
-    let at = view_at place before p view e in
-    ap (λ (o : Option Halt). reading place (stop_of o)) f ∙ ended_by place p.reading (finish p.reading) result at (subst (λ (r : Reading). EndsWith (finish r) result) at h)
+pub ended_reading : (cursor : Cursor) (before after : Option Halt) (p : Progress) (result : Result (Unit {0}) Halt) → View cursor before p → before ≡ None → after ≡ result_err result → EndsWith (finish (reading cursor None)) result
+    → reading cursor (stop_of after) ≡ ended (finish p.reading) p.reading
+ended_reading cursor before after p result view e f h =
+    let at = view_at cursor before p view e in
+    ap (λ (o : Option Halt). reading cursor (stop_of o)) f ∙ ended_by cursor p.reading (finish p.reading) result at (subst (λ (r : Reading). EndsWith (finish r) result) at h)
 
-still_at : (place : Place) (halt : Option Halt) → is_some halt ≡ true → is_output halt ≡ false → reading place (stop_of halt) ≡ ended (finish (reading place (stop_of halt))) (reading place (stop_of halt))
+still_at : (cursor : Cursor) (halt : Option Halt) → is_some halt ≡ true → is_output halt ≡ false → reading cursor (stop_of halt) ≡ ended (finish (reading cursor (stop_of halt))) (reading cursor (stop_of halt))
 unfolding finish
-still_at place None e f = absurd (cc)
-still_at place (Some (Refused stop)) e f = refl
-still_at place (Some Output) e f = absurd (cc)
+still_at cursor None e f = absurd (cc)
+still_at cursor (Some (Refused stop)) e f = refl
+still_at cursor (Some Output) e f = absurd (cc)
 
-pub still_reading : (place : Place) (halt : Option Halt) (p : Progress) → View place halt p → is_some halt ≡ true → p.failed ≡ false → reading place (stop_of halt) ≡ ended (finish p.reading) p.reading
-still_reading place halt p view e f =
+pub still_reading : (cursor : Cursor) (halt : Option Halt) (p : Progress) → View cursor halt p → is_some halt ≡ true → p.failed ≡ false → reading cursor (stop_of halt) ≡ ended (finish p.reading) p.reading
+still_reading cursor halt p view e f =
     let failed = ap (λ (q : Progress). q.failed) view ∙ f in
-    still_at place halt e failed ∙ ap (λ (r : Reading). ended (finish r) r) (ap (λ (q : Progress). q.reading) view)
+    still_at cursor halt e failed ∙ ap (λ (r : Reading). ended (finish r) r) (ap (λ (q : Progress). q.reading) view)
 
 well_of : (result : Result (Unit {0}) Halt) → well (is_output (result_err result)) ≡ went result
 well_of (Ok x) = refl
@@ -160,17 +160,17 @@ well_of (Err Output) = refl
 
 module _ {S : Type 0} (step : S → Atom → S) (writes : S → Atom → List ℕ) where
   -- what is shown at the end
-  pub ended_goes : (place : Place) (before after : Option Halt) (p : Progress) (result : Result (Unit {0}) Halt) (s : S) (held : Option (List ℕ)) (t : S) (holds : Option (List ℕ)) → View place before p → before ≡ None → after ≡ result_err result
-      → Goes step writes s held t holds (end_shows (finish (reading place None))) (went result) → Goes step writes s held t holds (end_shows (finish p.reading)) (well (is_output after))
-  ended_goes place before after p result s held t holds view e f h =
-      subst (λ (r : Reading). Goes step writes s held t holds (end_shows (finish r)) (well (is_output after))) (view_at place before p view e)
-      (subst (λ (x : Result (Unit {0}) (Unit {0})). Goes step writes s held t holds (end_shows (finish (reading place None))) x) (sym (ap (λ (o : Option Halt). well (is_output o)) f ∙ well_of result)) h)
+  pub ended_goes : (cursor : Cursor) (before after : Option Halt) (p : Progress) (result : Result (Unit {0}) Halt) (s : S) (held : Option (List ℕ)) (t : S) (holds : Option (List ℕ)) → View cursor before p → before ≡ None → after ≡ result_err result
+      → Goes step writes s held t holds (end_shows (finish (reading cursor None))) (went result) → Goes step writes s held t holds (end_shows (finish p.reading)) (well (is_output after))
+  ended_goes cursor before after p result s held t holds view e f h =
+      subst (λ (r : Reading). Goes step writes s held t holds (end_shows (finish r)) (well (is_output after))) (view_at cursor before p view e)
+      (subst (λ (x : Result (Unit {0}) (Unit {0})). Goes step writes s held t holds (end_shows (finish (reading cursor None))) x) (sym (ap (λ (o : Option Halt). well (is_output o)) f ∙ well_of result)) h)
 
-  silent_at : (place : Place) (halt : Option Halt) (s : S) (held : Option (List ℕ)) → is_some halt ≡ true → is_output halt ≡ false → Goes step writes s held s held (end_shows (finish (reading place (stop_of halt)))) (well (is_output halt))
+  silent_at : (cursor : Cursor) (halt : Option Halt) (s : S) (held : Option (List ℕ)) → is_some halt ≡ true → is_output halt ≡ false → Goes step writes s held s held (end_shows (finish (reading cursor (stop_of halt)))) (well (is_output halt))
   unfolding finish
-  silent_at place None s held e fine = absurd (cc)
-  silent_at place (Some (Refused stop)) s held e fine = (refl, sym (append_known_none held))
-  silent_at place (Some Output) s held e fine = absurd (cc)
+  silent_at cursor None s held e fine = absurd (cc)
+  silent_at cursor (Some (Refused stop)) s held e fine = (refl, sym (append_known_none held))
+  silent_at cursor (Some Output) s held e fine = absurd (cc)
 
-  pub still_goes : (place : Place) (halt : Option Halt) (p : Progress) (s : S) (held : Option (List ℕ)) → View place halt p → is_some halt ≡ true → p.failed ≡ false → Goes step writes s held s held (end_shows (finish p.reading)) (well (is_output halt))
-  still_goes place halt p s held view e fine = subst (λ (q : Progress). Goes step writes s held s held (end_shows (finish q.reading)) (well (is_output halt))) view (silent_at place halt s held e (ap (λ (q : Progress). q.failed) view ∙ fine))
+  pub still_goes : (cursor : Cursor) (halt : Option Halt) (p : Progress) (s : S) (held : Option (List ℕ)) → View cursor halt p → is_some halt ≡ true → p.failed ≡ false → Goes step writes s held s held (end_shows (finish p.reading)) (well (is_output halt))
+  still_goes cursor halt p s held view e fine = subst (λ (q : Progress). Goes step writes s held s held (end_shows (finish q.reading)) (well (is_output halt))) view (silent_at cursor halt s held e (ap (λ (q : Progress). q.failed) view ∙ fine))

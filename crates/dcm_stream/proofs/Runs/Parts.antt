@@ -16,7 +16,7 @@ use Rattle.dcm_base.proofs.Writes.Puts.{append_known_none}
 use Rattle.dcm_base.proofs.Writes.Runs.{goes_on, goes_failed}
 use Rattle.dcm_head.specs.declared.head.Head.{Head}
 use Rattle.dcm_stream.specs.declared.token.Bar.{Bar}
-use Rattle.dcm_stream.specs.declared.place.Place.{Place}
+use Rattle.dcm_stream.specs.declared.cursor.Cursor.{Cursor}
 use Rattle.dcm_stream.specs.declared.machine.Halt.{Halt}
 use Rattle.dcm_stream.specs.declared.machine.Halt.TheVariants.{Refused, Output}
 use Rattle.dcm_stream.specs.Reading.{Reading, halted, closing, settled, head_read, byte_read, read_byte}
@@ -52,7 +52,7 @@ module _ {S : Type 0} (step : S → Atom → S) (writes : S → Atom → List �
   comes_failed T s held t holds new q xs ys h = goes_failed step writes {T = Unit {0}} {E = Unit {0}} s held t holds xs ys (Err tt) refl h
 
   -- a value of which no byte is left, and then the containers that are full
-  pub comes_settled : {T : Type 0} (p : Place) (s : S) (held : Option (List ℕ)) (m : S) (mid : Option (List ℕ)) (t : S) (holds : Option (List ℕ)) (new : Option Stop → Reading) (r : Result T Halt)
+  pub comes_settled : {T : Type 0} (p : Cursor) (s : S) (held : Option (List ℕ)) (m : S) (mid : Option (List ℕ)) (t : S) (holds : Option (List ℕ)) (new : Option Stop → Reading) (r : Result T Halt)
       → p.left ≡ 0 → m ≡ fold step s (closes_leaf ∷ []) → mid ≡ append_known held (outputs step writes s (closes_leaf ∷ [])) → Comes step writes m mid t holds new (settles p) r → Comes step writes s held t holds new (settles_value p) r
   comes_settled p s held m mid t holds new r left a b h =
       let at : settles_value p ≡ ((settles p).0, closes_leaf ∷ (settles p).1) = ap (λ (n : ℕ). settled p.position (record { levels = p.levels; left = n; atoms = closing n }) n) left in

@@ -10,7 +10,7 @@ use Rattle.dcm_base.specs.Stop.{refused}
 use Rattle.dcm_base.specs.Reads.{INPUT_LIMIT}
 use Rattle.dcm_head.specs.declared.head.Head.{Head}
 use Rattle.dcm_stream.specs.declared.token.Bar.{Bar}
-use Rattle.dcm_stream.specs.declared.place.Place.{Place}
+use Rattle.dcm_stream.specs.declared.cursor.Cursor.{Cursor}
 use Rattle.dcm_stream.specs.declared.machine.Halt.{Halt}
 use Rattle.dcm_stream.specs.declared.machine.Halt.TheVariants.{Refused}
 use Rattle.dcm_stream.specs.Bounds.{are_nested}
@@ -25,7 +25,7 @@ first_byte (b ∷ piece) lt = refl
 
 module _ {S : Type 0} (bars : S → Head → Option Bar) (step : S → Atom → S) (writes : S → Atom → List ℕ) where
   -- past the limit
-  pub limit_at : (T : Type 0) (p new : Place) (s : S) (held : Option (List ℕ)) (bs : List ℕ) (halt : Halt) → halt ≡ Refused (record { fault = TooLong; at = INPUT_LIMIT }) → INPUT_LIMIT ≤ p.position + length p.head.items → 0 < length bs
+  pub limit_at : (T : Type 0) (p new : Cursor) (s : S) (held : Option (List ℕ)) (bs : List ℕ) (halt : Halt) → halt ≡ Refused (record { fault = TooLong; at = INPUT_LIMIT }) → INPUT_LIMIT ≤ p.position + length p.head.items → 0 < length bs
       → new.position ≡ p.position → new.head.items ≡ [] → new.left ≡ p.left → new.levels ≡ p.levels → Feeds {T = T} bars step writes (reading p None) s held (reading new) s held bs (Err halt)
   limit_at T p new s held bs halt is le some at1 at2 at3 at4 =
       let same : reading new (Some (refused TooLong INPUT_LIMIT)) ≡ halted (reading p None) (refused TooLong INPUT_LIMIT) =
@@ -36,11 +36,11 @@ module _ {S : Type 0} (bars : S → Head → Option Bar) (step : S → Atom → 
       subst (λ (x : Halt). Feeds {T = T} bars step writes (reading p None) s held (reading new) s held bs (Err x)) (sym is)
       (feeds_limit bars step writes T (reading p None) s held (reading new) bs (record { fault = TooLong; at = INPUT_LIMIT }) refl le some refl refl same)
 
-  in_value_at : (p : Place) → p.head.items ≡ [] → reading p None ≡ in_value bars step writes p.position p.left p.levels
+  in_value_at : (p : Cursor) → p.head.items ≡ [] → reading p None ≡ in_value bars step writes p.position p.left p.levels
   in_value_at p e = ap (λ (z : List ℕ). record { position = p.position; head = z; left = p.left; levels = p.levels; halt = None }) e
 
   -- bytes of a value
-  pub value_goes : {T : Type 0} (p : Place) (s : S) (held : Option (List ℕ)) (t : S) (holds : Option (List ℕ)) (new : Place) (value : List ℕ) (r : Result T Halt)
+  pub value_goes : {T : Type 0} (p : Cursor) (s : S) (held : Option (List ℕ)) (t : S) (holds : Option (List ℕ)) (new : Cursor) (value : List ℕ) (r : Result T Halt)
       → p.head.items ≡ [] → 0 < length value → length value ≤ p.left → p.position + length value ≤ INPUT_LIMIT
       → Comes step writes s held t holds (reading new) (value_read (reading p None) (p.left - length value) value) r → Feeds bars step writes (reading p None) s held (reading new) t holds value r
   value_goes p s held t holds new value r head some fits within h =
@@ -48,7 +48,7 @@ module _ {S : Type 0} (bars : S → Head → Option Bar) (step : S → Atom → 
       (feeds_value bars step writes p.position p.left p.levels s held t holds (reading new) value r some fits within h)
 
   -- a call that failed at a beginning of a piece
-  pub fails_first : (T : Type 0) (p : Place) (s : S) (held : Option (List ℕ)) (t : S) (holds : Option (List ℕ)) (new : Place) (front piece : List ℕ) (n : ℕ) (halt : Halt) (r : Result ℕ Halt) → front ≡ take n piece → IsErrAnd r (λ x. x ≡ halt)
+  pub fails_first : (T : Type 0) (p : Cursor) (s : S) (held : Option (List ℕ)) (t : S) (holds : Option (List ℕ)) (new : Cursor) (front piece : List ℕ) (n : ℕ) (halt : Halt) (r : Result ℕ Halt) → front ≡ take n piece → IsErrAnd r (λ x. x ≡ halt)
       → Feeds {T = T} bars step writes (reading p None) s held (reading new) t holds front (Err halt) → Feeds bars step writes (reading p None) s held (reading new) t holds (bytes_read r piece) r
   fails_first T p s held t holds new front piece n halt (Ok k) e f h = absurd f
   fails_first T p s held t holds new front piece n halt (Err x) e f h =
@@ -56,7 +56,7 @@ module _ {S : Type 0} (bars : S → Head → Option Bar) (step : S → Atom → 
       (feeds_first bars step writes ℕ (reading p None) s held new t holds n piece halt (subst (λ (xs : List ℕ). Feeds {T = T} bars step writes (reading p None) s held (reading new) t holds xs (Err halt)) e h))
 
   -- a call that went over a beginning of the first bytes
-  pub within_piece : (p : Place) (s : S) (held : Option (List ℕ)) (t : S) (holds : Option (List ℕ)) (new : Place) (front piece : List ℕ) (n : ℕ) (r : Result ℕ Halt) → front ≡ take n piece → IfOk r (λ k. (0 < k) × (k ≤ length front))
+  pub within_piece : (p : Cursor) (s : S) (held : Option (List ℕ)) (t : S) (holds : Option (List ℕ)) (new : Cursor) (front piece : List ℕ) (n : ℕ) (r : Result ℕ Halt) → front ≡ take n piece → IfOk r (λ k. (0 < k) × (k ≤ length front))
       → Feeds bars step writes (reading p None) s held (reading new) t holds (bytes_read r front) r → Feeds bars step writes (reading p None) s held (reading new) t holds (bytes_read r piece) r
   within_piece p s held t holds new front piece n (Ok k) e le h =
       let whole : front ++ drop n piece ≡ piece = ap (λ (xs : List ℕ). xs ++ drop n piece) e ∙ take-append-drop n piece in
@@ -66,13 +66,13 @@ module _ {S : Type 0} (bars : S → Head → Option Bar) (step : S → Atom → 
       feeds_first bars step writes ℕ (reading p None) s held new t holds n piece halt (subst (λ (xs : List ℕ). Feeds {T = ℕ} bars step writes (reading p None) s held (reading new) t holds xs (Err halt)) e h)
 
   -- the bytes of a head, wherever they end
-  pub head_in : (p : Place) → p.head.items ≡ [] → p.left ≡ 0 → reading p None ≡ in_head bars step writes p.position [] p.levels
+  pub head_in : (p : Cursor) → p.head.items ≡ [] → p.left ≡ 0 → reading p None ≡ in_head bars step writes p.position [] p.levels
   head_in p e f =
       ap (λ (z : List ℕ). record { position = p.position; head = z; left = p.left; levels = p.levels; halt = None }) e
       ∙ ap (λ (n : ℕ). record { position = p.position; head = []; left = n; levels = p.levels; halt = None }) f
 
   -- bytes that end no head
-  heads_in : {T : Type 0} (p : Place) (ls : List Level) (s : S) (held : Option (List ℕ)) (new : Place) (bs : List ℕ) (x : T) → p.levels ≡ ls → are_nested ls ≡ true → p.left ≡ 0 → passes 8 (room p.position ls) ≡ false
+  heads_in : {T : Type 0} (p : Cursor) (ls : List Level) (s : S) (held : Option (List ℕ)) (new : Cursor) (bs : List ℕ) (x : T) → p.levels ≡ ls → are_nested ls ≡ true → p.left ≡ 0 → passes 8 (room p.position ls) ≡ false
       → p.position + length p.head.items + length bs ≤ INPUT_LIMIT → length p.head.items + length bs < 8 → reading new None ≡ record (reading p None) { head = p.head.items ++ bs }
       → Feeds bars step writes (reading p None) s held (reading new) s held bs (Ok x)
   unfolding are_nested
@@ -83,7 +83,7 @@ module _ {S : Type 0} (bars : S → Head → Option Bar) (step : S → Atom → 
       subst (λ (r : Reading). Feeds bars step writes r s held (reading new) s held bs (Ok x)) (sym (at p.head.items))
       (feeds_head bars step writes p.position p.head.items inner outer s held (reading new) bs x within free short (h ∙ at (p.head.items ++ bs)))
 
-  pub heads_at : {T : Type 0} (p : Place) (s : S) (held : Option (List ℕ)) (new : Place) (bs : List ℕ) (x : T) → Stands (reading p None) → p.left ≡ 0
+  pub heads_at : {T : Type 0} (p : Cursor) (s : S) (held : Option (List ℕ)) (new : Cursor) (bs : List ℕ) (x : T) → Stands (reading p None) → p.left ≡ 0
       → p.position + length p.head.items + length bs ≤ INPUT_LIMIT → length p.head.items + length bs < 8 → reading new None ≡ record (reading p None) { head = p.head.items ++ bs }
       → Feeds bars step writes (reading p None) s held (reading new) s held bs (Ok x)
   heads_at p s held new bs x stands left within short h = heads_in p p.levels s held new bs x refl stands.small.nested left (stands.small.room_for refl left) within short h

@@ -13,7 +13,7 @@ use Rattle.dcm_base.proofs.Writes.Puts.{append_known_none}
 use Rattle.dcm_base.proofs.Writes.Runs.{goes_on, goes_failed}
 use Rattle.dcm_head.specs.declared.head.Head.{Head}
 use Rattle.dcm_stream.specs.declared.token.Bar.{Bar}
-use Rattle.dcm_stream.specs.declared.place.Place.{Place}
+use Rattle.dcm_stream.specs.declared.cursor.Cursor.{Cursor}
 use Rattle.dcm_stream.specs.declared.machine.Halt.{Halt}
 use Rattle.dcm_stream.specs.declared.machine.Halt.TheVariants.{Refused, Output}
 use Rattle.dcm_base.specs.declared.syntax.Syntax.{Syntax}
@@ -116,7 +116,7 @@ module _ {S : Type 0} (bars : S → Head → Option Bar) (step : S → Atom → 
   -- ---- halts
 
   -- behind a halt nothing more happens
-  pub feeds_halted : (T : Type 0) (old : Reading) (s : S) (held : Option (List ℕ)) (new : Place) (t : S) (holds : Option (List ℕ)) (xs ys : List ℕ) (halt : Halt)
+  pub feeds_halted : (T : Type 0) (old : Reading) (s : S) (held : Option (List ℕ)) (new : Cursor) (t : S) (holds : Option (List ℕ)) (xs ys : List ℕ) (halt : Halt)
       → Feeds {T = T} bars step writes old s held (reading new) t holds xs (Err halt) → Feeds {T = T} bars step writes old s held (reading new) t holds (xs ++ ys) (Err halt)
   feeds_halted T old s held new t holds xs ys (Refused stop) a =
       let r = reading new (Some (refused stop.fault stop.at)) in
@@ -126,7 +126,7 @@ module _ {S : Type 0} (bars : S → Head → Option Bar) (step : S → Atom → 
       goes_failed (steps bars step) (steps_write bars step writes) {T = Unit {0}} {E = Unit {0}} (old, s) held (reading new None, t) holds xs ys (Err tt) refl a
 
   -- the first n of some bytes
-  pub feeds_first : (T : Type 0) (old : Reading) (s : S) (held : Option (List ℕ)) (new : Place) (t : S) (holds : Option (List ℕ)) (n : ℕ) (bs : List ℕ) (halt : Halt)
+  pub feeds_first : (T : Type 0) (old : Reading) (s : S) (held : Option (List ℕ)) (new : Cursor) (t : S) (holds : Option (List ℕ)) (n : ℕ) (bs : List ℕ) (halt : Halt)
       → Feeds {T = T} bars step writes old s held (reading new) t holds (take n bs) (Err halt) → Feeds {T = T} bars step writes old s held (reading new) t holds bs (Err halt)
   feeds_first T old s held new t holds n bs halt a =
       subst (λ (xs : List ℕ). Feeds {T = T} bars step writes old s held (reading new) t holds xs (Err halt)) (take-append-drop n bs) (feeds_halted T old s held new t holds (take n bs) (drop n bs) halt a)

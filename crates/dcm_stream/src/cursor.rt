@@ -19,7 +19,7 @@ use dcm_head::{LONG_HEAD, SHORT_HEAD};
 /// The offset up to which heads and values were read whole, the bytes of a head behind it, the bytes of a value that are
 /// to come, and the open containers.
 #[derive(Drop)]
-pub struct Place {
+pub struct Cursor {
     pub position: u64,
     pub head: ArrayVec<u8, LONG_HEAD>,
     pub left: u32,
@@ -32,14 +32,14 @@ fn refused(fault: Fault, at: u64) -> Halt
     Halt::Refused(Stop { fault, at })
 }
 
-impl Place {
+impl Cursor {
     /// The beginning of a data set at this offset.
     pub fn new(syntax: Syntax, start: u64) -> Self
         requires { start ≤ 2 ^ 62 }
         ensures { spec.reading result None ≡ steps.start_of syntax start }
     {
         let set = level_at(Container::DataSet, syntax, Length::Undefined, start);
-        Place {
+        Cursor {
             position: start,
             head: ArrayVec::new(),
             left: 0,

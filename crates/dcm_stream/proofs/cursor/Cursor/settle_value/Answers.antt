@@ -1,7 +1,7 @@
 use Rattle.std.proofs.Common.{◌≡◌, arith}
 use Rattle.dcm_stream.specs.Machine.{reading}
 use Rattle.dcm_stream.proofs.Runs.Parts.{comes_settled}
-use Rattle.dcm_stream.proofs.place.Place.settle_value.Goals as goal
+use Rattle.dcm_stream.proofs.cursor.Cursor.settle_value.Goals as goal
 
 pub returns-clause-comes : goal.returns-clause-comes
 returns-clause-comes g c =

@@ -3,7 +3,7 @@ use Rattle.dcm_stream.specs.Machine.{reading}
 use Rattle.dcm_stream.proofs.Heads.HeadBytes.{some_container}
 use Rattle.dcm_stream.proofs.Runs.Pieces.{fails_first}
 use Rattle.dcm_stream.proofs.Heads.PieceHeads.{piece_short, piece_waits, piece_refused, piece_fits, piece_few, piece_opens}
-use Rattle.dcm_stream.proofs.place.Place.read_head.Goals as goal
+use Rattle.dcm_stream.proofs.cursor.Cursor.read_head.Goals as goal
 
 pub returns-in_default-clause-feeds : goal.returns-in_default-clause-feeds
 returns-in_default-clause-feeds g c = absurd (some_container c.args.self.now c.requires.stands c.in_default.ensures)
