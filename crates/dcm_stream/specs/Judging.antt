@@ -1,9 +1,10 @@
 -- What a head leads to: a fault, the want of more bytes, or what it opens or closes.
-use Rattle.std.specs.Prelude.{◌≡◌, ℕ, ◌+◌, List, [], ◌∷◌, length, drop, false, ◌&&◌, ◌==◌, nat_le, if◌then◌else◌, Option, Some, None, option_map, Result, Ok, Err}
+use Rattle.std.specs.Prelude.{◌≡◌, ◌⊎◌, ℕ, ◌+◌, List, [], ◌∷◌, length, drop, Bool, true, false, ◌&&◌, ◌==◌, nat_le, if◌then◌else◌, Option, Some, None, option_map, Result, Ok, Err}
 use Rattle.dcm_base.specs.declared.syntax.Syntax.{Syntax}
 use Rattle.dcm_base.specs.declared.length.Length.{Length}
 use Rattle.dcm_base.specs.declared.length.Length.TheVariants.{Undefined}
 use Rattle.dcm_base.specs.declared.form.Form.{Form}
+use Rattle.dcm_base.specs.declared.form.Form.TheVariants.{Value as a_value, Nothing as no_form}
 use Rattle.dcm_base.specs.declared.level.Container.{Container}
 use Rattle.dcm_base.specs.declared.level.Level.{Level}
 use Rattle.dcm_base.specs.declared.fault.Fault.{Fault}
@@ -61,10 +62,14 @@ shape_fault form size declared room depth =
     else (if passes (with_length size declared) room then Some PassesEnd
     else (if opens_list form && nat_le 64 depth then Some TooDeep else None)))
 
+-- a fragment of no known length
+abbrev pub is_unsized_fragment : Container → Length → Bool
+is_unsized_fragment container declared = is_fragment_list container && is_undefined declared
+
 -- why an item is refused
 abbrev pub item_fault : Container → Length → Option ℕ → Option Fault
 item_fault container declared room =
-    if is_fragment_list container && is_undefined declared then Some UndefinedLength
+    if is_unsized_fragment container declared then Some UndefinedLength
     else (if passes (with_length 8 declared) room then Some PassesEnd else None)
 
 -- the first fault, where there is one
@@ -81,16 +86,26 @@ element_fault bar s levels position head size =
 abbrev pub OpensAs : ((begin : ℕ) → List Level → Opened) → Opening → Type 0
 OpensAs f o = (begin : ℕ) (levels : List Level) → f begin levels ≡ opened_by begin levels o
 
+-- an element of this form and length opens nothing
+abbrev pub OpensNothing : Form → Length → Type 0
+OpensNothing f declared = (f ≡ no_form) ⊎ ((f ≡ a_value) × (declared ≡ Undefined))
+
 -- the answer on the head of an element, but for the sink's bars
-abbrev pub JudgesShape : Form → Syntax → Head → (size : ℕ) → Option ℕ → (depth : ℕ) → Result Opening Fault → Type 0
-JudgesShape f s head size room depth (Err fault) = shape_fault f size head.length room depth ≡ Some fault
-JudgesShape f s head size room depth (Ok o) = (shape_fault f size head.length room depth ≡ None) × OpensAs (element_opens f s head.tag head.vr head.length) o
+abbrev pub JudgesShape : Syntax → Head → (size : ℕ) → Option ℕ → (depth : ℕ) → Result Opening Fault → Type 0
+JudgesShape s head size room depth (Err fault) = shape_fault (form s head.vr head.length) size head.length room depth ≡ Some fault
+JudgesShape s head size room depth (Ok o) =
+    (shape_fault (form s head.vr head.length) size head.length room depth ≡ None) × OpensAs (element_opens (form s head.vr head.length) s head.tag head.vr head.length) o
 
 -- the answer on the head of an element
 abbrev pub JudgesElement : HeadBar → Syntax → List Level → (position : ℕ) → Head → (size : ℕ) → Result Opening Fault → Type 0
 JudgesElement bar s levels position head size (Err fault) = (element_fault bar s levels position head size ≡ Some fault) × (is_early fault ≡ false)
 JudgesElement bar s levels position head size (Ok o) =
     (element_fault bar s levels position head size ≡ None) × OpensAs (element_opens (form s head.vr head.length) s head.tag head.vr head.length) o
+
+-- what an item opens, but a fragment of no known length
+abbrev pub OpensItem : Level → Length → Option Opening → Type 0
+OpensItem inner declared None = is_unsized_fragment inner.container declared ≡ true
+OpensItem inner declared (Some o) = (is_unsized_fragment inner.container declared ≡ false) × OpensAs (item_opens inner.container inner.syntax declared) o
 
 -- the answer on the head of an item
 abbrev pub JudgesItem : Level → Length → Option ℕ → Result Opening Fault → Type 0

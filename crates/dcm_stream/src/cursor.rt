@@ -150,7 +150,7 @@ impl Cursor {
         ensures kept { sinks.Keeps S.Sink sink.old sink.new }
     {
         let Some(inner) = self.levels.innermost() else {
-            return Ok(());
+            unreachable!()
         };
         self.head.push(byte);
         match judge(
@@ -186,7 +186,7 @@ impl Cursor {
         ensures kept { sinks.Keeps S.Sink sink.old sink.new }
     {
         let Some(inner) = self.levels.innermost() else {
-            return Ok(bytes.len());
+            unreachable!()
         };
         match judge(inner, &self.levels, self.position, bytes, sink) {
             Judged::More => {

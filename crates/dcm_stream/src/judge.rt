@@ -73,30 +73,20 @@ pub fn syntax_inside(syntax: Syntax, vr: Vr) -> Syntax
     }
 }
 
-fn size_of(declared: Length) -> u32
-    ensures { result ≡ reading.size_of declared }
-{
-    match declared {
-        Length::Known(size) => size,
-        Length::Undefined => 0,
-    }
-}
-
 /// What an element opens, or nothing where its length may not be undefined.
 fn element_opening(form: Form, syntax: Syntax, head: Head) -> Option<Opening>
-    ensures { MatchOption result (form ≡ Form.Nothing) (spec.OpensAs (reading.element_opens form syntax head.tag head.vr head.length)) }
+    ensures { MatchOption result (spec.OpensNothing form head.length) (spec.OpensAs (reading.element_opens form syntax head.tag head.vr head.length)) }
 {
-    match form {
-        Form::Value => Some(Opening::Leaf(head, syntax, size_of(head.length))),
-        Form::Sequence => Some(Opening::Sequence(head, syntax)),
-        Form::FragmentList => Some(Opening::FragmentList(head, syntax)),
-        Form::Nothing => None,
+    match (form, head.length) {
+        (Form::Value, Length::Known(size)) => Some(Opening::Leaf(head, syntax, size)),
+        (Form::Sequence, _) => Some(Opening::Sequence(head, syntax)),
+        (Form::FragmentList, _) => Some(Opening::FragmentList(head, syntax)),
+        (Form::Value, Length::Undefined) | (Form::Nothing, _) => None,
     }
 }
 
 /// What an element with this head of so many bytes opens, or why it is refused, but for the sink's bars.
 fn judge_shape(
-    form: Form,
     syntax: Syntax,
     head: Head,
     size: u64,
@@ -104,12 +94,13 @@ fn judge_shape(
     levels: &OpenLevels,
 ) -> Result<Opening, Fault>
     requires { size ≤ 2 ^ 62 }
-    ensures { spec.JudgesShape form syntax head size (place.room position levels.now) (place.depth levels.now) result }
+    ensures { spec.JudgesShape syntax head size (place.room position levels.now) (place.depth levels.now) result }
 {
     let room = levels.room(position);
     if passes(size, room) {
         return Err(Fault::PassesEnd);
     }
+    let form = form_of(syntax, head.vr, head.length);
     let Some(opening) = element_opening(form, syntax, head) else {
         return Err(Fault::UndefinedLength);
     };
@@ -143,36 +134,23 @@ fn judge_element<S: Sink>(
     requires { size ≤ 2 ^ 62 }
     ensures { spec.JudgesElement (spec.bars_head S.bar (S.state sink.now)) syntax levels.now position head size result }
 {
-    let form = form_of(syntax, head.vr, head.length);
-    let opening = judge_shape(form, syntax, head, size, position, levels)?;
+    let opening = judge_shape(syntax, head, size, position, levels)?;
     if let Err(bar) = sink.accepts(&head) {
         return Err(barred(bar));
     }
     Ok(opening)
 }
 
-/// Why an item is refused.
-fn item_fault(container: Container, declared: Length, room: Option<u64>) -> Option<Fault>
-    ensures { result ≡ spec.item_fault container declared room }
+/// What an item in this container opens, or nothing where its length may not be undefined.
+fn item_opening(inner: Level, declared: Length) -> Option<Opening>
+    ensures { spec.OpensItem inner declared result }
 {
-    if container == Container::FragmentList && declared == Length::Undefined {
-        return Some(Fault::UndefinedLength);
+    if inner.container != Container::FragmentList {
+        return Some(Opening::Item(inner.syntax, declared));
     }
-    if passes(with_length(ITEM_HEAD, declared), room) {
-        return Some(Fault::PassesEnd);
-    }
-    None
-}
-
-/// What an item opens.
-fn item_opening(container: Container, syntax: Syntax, declared: Length) -> Opening
-    ensures { spec.OpensAs (reading.item_opens container syntax declared) result }
-{
-    match container {
-        Container::FragmentList => Opening::Fragment(size_of(declared)),
-        Container::DataSet | Container::Item | Container::Sequence => {
-            Opening::Item(syntax, declared)
-        }
+    match declared {
+        Length::Known(size) => Some(Opening::Fragment(size)),
+        Length::Undefined => None,
     }
 }
 
@@ -180,10 +158,13 @@ fn item_opening(container: Container, syntax: Syntax, declared: Length) -> Openi
 fn judge_item(inner: Level, declared: Length, room: Option<u64>) -> Result<Opening, Fault>
     ensures { spec.JudgesItem inner declared room result }
 {
-    match item_fault(inner.container, declared, room) {
-        Some(fault) => Err(fault),
-        None => Ok(item_opening(inner.container, inner.syntax, declared)),
+    let Some(opening) = item_opening(inner, declared) else {
+        return Err(Fault::UndefinedLength);
+    };
+    if passes(with_length(ITEM_HEAD, declared), room) {
+        return Err(Fault::PassesEnd);
     }
+    Ok(opening)
 }
 
 /// What a head of so many bytes opens or closes, or why it is refused, where this is the innermost container.

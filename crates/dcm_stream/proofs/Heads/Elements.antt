@@ -7,7 +7,7 @@ use Rattle.dcm_base.specs.declared.vr.Vr.{Vr}
 use Rattle.dcm_base.specs.declared.vr.Vr.TheVariants.{UN}
 use Rattle.dcm_base.specs.declared.syntax.Syntax.{Syntax}
 use Rattle.dcm_base.specs.declared.length.Length.{Length}
-use Rattle.dcm_base.specs.declared.length.Length.TheVariants.{Known}
+use Rattle.dcm_base.specs.declared.length.Length.TheVariants.{Known, Undefined}
 use Rattle.dcm_base.specs.declared.level.Container.{Container}
 use Rattle.dcm_base.specs.declared.level.Container.TheVariants.{DataSet as the_data_set, Item as an_item, Sequence as a_sequence, FragmentList as a_fragment_list}
 use Rattle.dcm_base.specs.declared.level.Level.{Level}
@@ -33,7 +33,8 @@ use Rattle.dcm_stream.specs.declared.judge.Opening.{Opening}
 use Rattle.dcm_stream.specs.declared.judge.Opening.TheVariants as opening
 use Rattle.dcm_stream.specs.declared.judge.Judged.TheVariants as judged
 use Rattle.dcm_stream.specs.Reading.{Opened, size_of, value_opens, closes, element_opens, item_opens, plain_opens, head_opens}
-use Rattle.dcm_stream.specs.Judging.{fault_of, shape_fault, item_fault, or_fault, element_fault, head_fault, opens_with, opened_by, OpensAs, JudgesHead, Judges}
+use Rattle.dcm_stream.specs.Judging.{OpensNothing, fault_of, shape_fault, item_fault, or_fault, element_fault, head_fault, opens_with, opened_by, OpensAs, JudgesHead, Judges}
+use Rattle.dcm_stream.proofs.Heads.Opening.{undefined_no_value}
 use Rattle.dcm_stream.proofs.Steps.AfterHeads.{data_false}
 use Rattle.dcm_stream.proofs.Steps.StopsStay.{tests, is_empty_long, and_false}
 
@@ -378,6 +379,9 @@ module _ (f : Form) (s : Syntax) (head : Head) (size : ℕ) (r : Option ℕ) (d 
   pub shape_passes : passes size r ≡ false → has_no_form f ≡ false → passes (with_length size head.length) r ≡ true → shape_fault f size head.length r d ≡ Some PassesEnd
   shape_passes e1 e3 e4 = shape_by false false true (opens_list f && nat_le 64 d) e1 e3 e4 refl
 
+  pub shape_unformed : passes size r ≡ false → has_no_form f ≡ true → shape_fault f size head.length r d ≡ Some UndefinedLength
+  shape_unformed e1 e3 = shape_by false true (passes (with_length size head.length) r) (opens_list f && nat_le 64 d) e1 e3 refl refl
+
   pub shape_fits : passes size r ≡ false → has_no_form f ≡ false → passes (with_length size head.length) r ≡ false → (opens_list f && nat_le 64 d) ≡ false → shape_fault f size head.length r d ≡ None
   shape_fits e1 e3 e4 e5 = shape_by false false false false e1 e3 e4 e5
 
@@ -400,13 +404,18 @@ formed fragment_form s head x h = refl
 formed no_form s head x h = absurd (some_atoms x (ap (λ (o : Opened). o.atoms) (h 0 [])))
 
 -- what opens has a form
-pub has_form : (f : Form) (s : Syntax) (head : Head) (o : Option Opening) (x : Opening) → MatchOption o (f ≡ no_form) (OpensAs (element_opens f s head.tag head.vr head.length)) → o ≡ Some x
+pub has_form : (f : Form) (s : Syntax) (head : Head) (o : Option Opening) (x : Opening) → MatchOption o (OpensNothing f head.length) (OpensAs (element_opens f s head.tag head.vr head.length)) → o ≡ Some x
     → (has_no_form f ≡ false) × OpensAs (element_opens f s head.tag head.vr head.length) x
 has_form f s head None x m e = absurd (cc)
 has_form f s head (Some y) x m e =
     let same : y ≡ x = cc in
     let h = subst (λ (z : Opening). OpensAs (element_opens f s head.tag head.vr head.length) z) same m in
     (formed f s head x h, h)
+
+-- what opens nothing has no form
+pub without_form : (s : Syntax) (vr : Vr) (l : Length) (f : Form) → f ≡ form s vr l → OpensNothing f l → has_no_form f ≡ true
+without_form s vr l f e (inl n) = ap has_no_form n
+without_form s vr l f e (inr (v, u)) = absurd (undefined_no_value s vr (sym (e ∙ ap (form s vr) u) ∙ v))
 
 -- ---- what is judged of a head
 

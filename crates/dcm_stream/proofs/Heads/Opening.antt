@@ -38,7 +38,7 @@ use Rattle.dcm_stream.proofs.Containers.Room.{passes_zero, passes_less, passes_l
 
 -- ---- forms
 
-undefined_no_value : (s : Syntax) (vr : Vr) → form s vr Undefined ≡ a_value → ⊥
+pub undefined_no_value : (s : Syntax) (vr : Vr) → form s vr Undefined ≡ a_value → ⊥
 unfolding form
 undefined_no_value s SQ h = cc
 undefined_no_value s UN h = cc

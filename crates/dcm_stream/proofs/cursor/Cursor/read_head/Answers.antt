@@ -5,8 +5,8 @@ use Rattle.dcm_stream.proofs.Runs.Pieces.{fails_first}
 use Rattle.dcm_stream.proofs.Heads.PieceHeads.{piece_short, piece_waits, piece_refused, piece_fits, piece_few, piece_opens}
 use Rattle.dcm_stream.proofs.cursor.Cursor.read_head.Goals as goal
 
-pub returns-in_default-clause-feeds : goal.returns-in_default-clause-feeds
-returns-in_default-clause-feeds g c = absurd (some_container c.args.self.now c.requires.stands c.in_default.ensures)
+pub unreachable-requires : goal.unreachable-requires
+unreachable-requires g c = some_container c.args.self.now c.requires.stands c.in_default.ensures
 
 pub read_head_bytes-requires : goal.read_head_bytes-requires
 read_head_bytes-requires g c = piece_short g.S.Sink.bar g.S.Sink.step g.S.Sink.writes c.args.self.now c.in-Some.inner (g.S.Sink.state c.args.sink.now) c.args.bytes.now c.requires.head c.requires.left c.requires.within (sym c.in-Some.ensures) c.judge.result c.in-More.is c.judge.ensures

@@ -5,9 +5,8 @@ use Rattle.dcm_stream.specs.Machine.{reading}
 use Rattle.dcm_stream.proofs.Heads.HeadBytes.{some_container, judged_at, feeds_refused, feeds_waiting, opens_few, feeds_opening}
 use Rattle.dcm_stream.proofs.cursor.Cursor.read_head_byte.Goals as goal
 
-pub returns-in_default-clause-feeds : goal.returns-in_default-clause-feeds
-returns-in_default-clause-feeds g c =
-    absurd (some_container c.args.self.now c.requires.stands c.in_default.ensures)
+pub unreachable-requires : goal.unreachable-requires
+unreachable-requires g c = some_container c.args.self.now c.requires.stands c.in_default.ensures
 
 pub returns-in-Refused-clause-feeds : goal.returns-in-Refused-clause-feeds
 returns-in-Refused-clause-feeds g c =
