@@ -1,5 +1,5 @@
 -- What a head leads to: a fault, the want of more bytes, or what it opens or closes.
-use Rattle.std.specs.Prelude.{◌≡◌, ◌⊎◌, ℕ, ◌+◌, List, [], ◌∷◌, length, drop, Bool, true, false, ◌&&◌, ◌==◌, nat_le, if◌then◌else◌, Option, Some, None, option_map, Result, Ok, Err}
+use Rattle.std.specs.Prelude.{◌≡◌, ◌⊎◌, ℕ, ◌+◌, List, [], ◌∷◌, length, drop, Bool, true, false, ◌&&◌, ◌==◌, nat_le, if◌then◌else◌, Option, Some, None, option_map, MatchOption, Result, Ok, Err}
 use Rattle.dcm_base.specs.declared.syntax.Syntax.{Syntax}
 use Rattle.dcm_base.specs.declared.length.Length.{Length}
 use Rattle.dcm_base.specs.declared.length.Length.TheVariants.{Undefined}
@@ -89,6 +89,10 @@ OpensAs f o = (begin : ℕ) (levels : List Level) → f begin levels ≡ opened_
 -- an element of this form and length opens nothing
 abbrev pub OpensNothing : Form → Length → Type 0
 OpensNothing f declared = (f ≡ no_form) ⊎ ((f ≡ a_value) × (declared ≡ Undefined))
+
+-- what an element of this form opens
+abbrev pub OpensElement : Form → Syntax → Head → Option Opening → Type 0
+OpensElement f s head o = MatchOption o (OpensNothing f head.length) (OpensAs (element_opens f s head.tag head.vr head.length))
 
 -- the answer on the head of an element, but for the sink's bars
 abbrev pub JudgesShape : Syntax → Head → (size : ℕ) → Option ℕ → (depth : ℕ) → Result Opening Fault → Type 0

@@ -10,3 +10,4 @@ pub mod Machine
 pub mod Driven
 pub mod Sinks
 pub mod Skip
+pub mod Laws

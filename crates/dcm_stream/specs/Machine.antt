@@ -1,5 +1,5 @@
 -- A machine and the sink that it drives.
-use Rattle.std.specs.Prelude.{◌≡◌, ℕ, ◌+◌, ◌≤◌, List, [], ◌++◌, length, take, map, Bool, true, false, Option, Some, None, Result, Ok, Err, fold, ⊤, is_some, ◌||◌, ◌&&◌, ◌==◌}
+use Rattle.std.specs.Prelude.{◌≡◌, ℕ, ◌+◌, ◌-◌, ◌≤◌, List, [], ◌++◌, length, take, map, Bool, true, false, Option, Some, None, Result, Ok, Err, fold, ⊤, is_some, ◌||◌, ◌&&◌, ◌==◌}
 use Rattle.std.specs.Io.KnownBytes.{append_known}
 use Rattle.dcm_base.specs.Atoms.{Atom, value_byte}
 use Rattle.dcm_base.specs.Device.{AppendsFront}
@@ -11,7 +11,7 @@ use Rattle.dcm_stream.specs.declared.token.Bar.{Bar}
 use Rattle.dcm_stream.specs.declared.cursor.Cursor.{Cursor}
 use Rattle.dcm_stream.specs.declared.machine.Halt.{Halt}
 use Rattle.dcm_stream.specs.declared.machine.Halt.TheVariants.{Refused, Output}
-use Rattle.dcm_stream.specs.Reading.{Reading, Opened, closing, settled, read_byte, is_top, drives_byte}
+use Rattle.dcm_stream.specs.Reading.{Reading, Opened, closing, settled, read_byte, is_top, drives_byte, finish, end_shows}
 use Rattle.dcm_stream.specs.declared.judge.Opening.{Opening}
 use Rattle.dcm_stream.specs.Judging.{bars_head, opened_by}
 use Rattle.dcm_stream.specs.Bounds.{IsSmall}
@@ -67,6 +67,10 @@ Comes step writes s held t holds new p (Err Output) = AppendsFront held holds (o
 -- behind bytes of a value
 abbrev pub value_read : Reading → (left : ℕ) → List ℕ → Reading × List Atom
 value_read r left bytes = settled (r.position + length bytes) (record { levels = r.levels; left = left; atoms = map value_byte bytes ++ closing left }) left
+
+-- behind bytes of the value that is open
+abbrev pub reads_value : Cursor → List ℕ → Reading × List Atom
+reads_value p bytes = value_read (reading p None) (p.left - length bytes) bytes
 
 -- behind a place where no byte of a value is to come, and where so many are
 abbrev pub settles : Cursor → Reading × List Atom
@@ -147,6 +151,10 @@ TellsFailed old new false = new ≡ old
 -- a machine and its sink went over these bytes, or a beginning of the output went out
 abbrev pub GoesOver : {S : Type 0} → (S → Head → Option Bar) → (S → Atom → S) → (S → Atom → List ℕ) → Progress → S → Option (List ℕ) → Progress → S → Option (List ℕ) → List ℕ → Type 0
 GoesOver bars step writes old s held new t holds bytes = Goes (steps bars step) (steps_write bars step writes) (old.reading, s) held (new.reading, t) holds bytes (well new.failed)
+
+-- what is shown where the input ends
+abbrev pub shows_end : Progress → List Atom
+shows_end p = end_shows (finish p.reading)
 
 -- behind the input's end
 abbrev pub ended : Stop → Reading → Reading

@@ -1,6 +1,10 @@
 -- Tokens as atoms, in which cuts of values are not seen.
-use Rattle.std.specs.Prelude.{◌≡◌, ◌<◌, length, List, [], ◌∷◌, map, Option, None, Some, Result, Ok, Err, ⊤}
+use Rattle.std.specs.Prelude.{◌≡◌, ℕ, ◌<◌, length, List, [], ◌∷◌, ◌++◌, map, Option, None, Some, Result, Ok, Err, ⊤}
 use Rattle.dcm_base.specs.Atoms.{Atom, opens, value_byte, closes_leaf, opens_item, closes_item, closes_sequence, opens_fragment, ends}
+use Rattle.dcm_base.specs.declared.length.Length.TheVariants.{Known}
+use Rattle.dcm_base.specs.declared.syntax.Syntax.TheVariants.{Little}
+use Rattle.dcm_base.specs.declared.tag.Tag.{Tag}
+use Rattle.dcm_base.specs.declared.vr.Vr.{Vr}
 use Rattle.dcm_stream.specs.declared.token.Token.{Token}
 use Rattle.dcm_stream.specs.declared.token.Token.TheVariants.{Open, Bytes, CloseLeaf, OpenItem, CloseItem, CloseSeq, OpenFragment, End}
 use Rattle.dcm_stream.specs.declared.token.Bar.{Bar}
@@ -15,6 +19,13 @@ atoms_of CloseItem = closes_item ∷ []
 atoms_of CloseSeq = closes_sequence ∷ []
 atoms_of (OpenFragment size) = opens_fragment size ∷ []
 atoms_of End = ends ∷ []
+
+-- a whole element in explicit little endian, and a whole fragment
+abbrev pub leaf_atoms : Tag → Vr → List ℕ → List Atom
+leaf_atoms tag vr value = opens tag vr (Known (length value)) Little ∷ (map value_byte value ++ closes_leaf ∷ [])
+
+abbrev pub fragment_atoms : List ℕ → List Atom
+fragment_atoms value = opens_fragment (length value) ∷ (map value_byte value ++ closes_leaf ∷ [])
 
 -- what is handed on as bytes of a value is at least one byte
 abbrev pub IsFilled : Token → Type 0

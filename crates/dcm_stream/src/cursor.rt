@@ -82,7 +82,7 @@ impl Cursor {
         requires some { 0 < length value.now }
         requires fits { length value.now ≤ self.old.left }
         requires within { self.old.position + length value.now ≤ 2 ^ 62 }
-        ensures comes { sinks.Comes S.Sink sink.old sink.new (spec.reading self.new) (spec.value_read (spec.reading self.old None) (self.old.left - length value.now) value.now) result }
+        ensures comes { sinks.Comes S.Sink sink.old sink.new (spec.reading self.new) (spec.reads_value self.old value.now) result }
         ensures failed { sinks.TellsHalt S.Sink sink.old sink.new result }
         ensures kept { sinks.Keeps S.Sink sink.old sink.new }
     {

@@ -1,5 +1,5 @@
 // What a head leads to: a fault, the want of more bytes, or what it opens or closes.
-ghost use Rattle.std.specs.Prelude.{◌≡◌, ℕ, ◌+◌, ◌^◌, ◌≤◌, ◌∷◌, [], List, length, false, MatchOption};
+ghost use Rattle.std.specs.Prelude.{◌≡◌, ℕ, ◌+◌, ◌^◌, ◌≤◌, ◌∷◌, [], List, length, false};
 ghost use Rattle.dcm_stream.specs.Places.{innermost};
 ghost use Rattle.dcm_stream.specs.Tokens.{IsFilled, atoms_of};
 ghost use Rattle.dcm_base.specs.Place as place;
@@ -75,7 +75,7 @@ pub fn syntax_inside(syntax: Syntax, vr: Vr) -> Syntax
 
 /// What an element opens, or nothing where its length may not be undefined.
 fn element_opening(form: Form, syntax: Syntax, head: Head) -> Option<Opening>
-    ensures { MatchOption result (spec.OpensNothing form head.length) (spec.OpensAs (reading.element_opens form syntax head.tag head.vr head.length)) }
+    ensures { spec.OpensElement form syntax head result }
 {
     match (form, head.length) {
         (Form::Value, Length::Known(size)) => Some(Opening::Leaf(head, syntax, size)),

@@ -92,7 +92,7 @@ impl Machine {
 
     /// The input ends. Where that is no fault, the data set is closed.
     pub fn finish<S: Sink>(&mut self, sink: &mut S) -> Result<(), Halt>
-        ensures goes { self.old.failed ≡ false → sinks.Takes S.Sink sink.old sink.new (steps.end_shows (steps.finish self.old.reading)) (spec.well self.new.failed) }
+        ensures goes { self.old.failed ≡ false → sinks.Takes S.Sink sink.old sink.new (spec.shows_end self.old) (spec.well self.new.failed) }
         ensures answer { result ≡ spec.answer self.new.reading.halt self.new.failed }
         ensures reading { self.old.failed ≡ false → self.new.reading ≡ spec.ended (steps.finish self.old.reading) self.old.reading }
         ensures halted { spec.is_halted self.old ≡ true → (self.new ≡ self.old) × (sink.new ≡ sink.old) }

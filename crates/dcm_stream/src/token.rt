@@ -1,9 +1,7 @@
 // What a machine tells its sink.
 ghost use Rattle.std.specs.Prelude.{◌≡◌, ◌<◌, ◌^◌, ◌++◌, ◌∷◌, [], All, flat_map, length, map};
-ghost use Rattle.dcm_base.specs.Atoms.{opens, opens_fragment, value_byte, closes_leaf};
-ghost use Rattle.dcm_base.specs.declared.length.Length.TheVariants.{Known};
-ghost use Rattle.dcm_base.specs.declared.syntax.Syntax.TheVariants.{Little};
-ghost use Rattle.dcm_stream.specs.Tokens.{IsFilled, atoms_of};
+ghost use Rattle.dcm_base.specs.Atoms.{value_byte, closes_leaf};
+ghost use Rattle.dcm_stream.specs.Tokens.{IsFilled, atoms_of, leaf_atoms, fragment_atoms};
 
 use arrayvec::ArrayVec;
 use dcm_base::{Length, Syntax, Tag, Vr};
@@ -53,7 +51,7 @@ impl<'a> Token<'a> {
     /// The tokens of an element with a whole value, in explicit little endian.
     pub fn leaf(tag: Tag, vr: Vr, value: &'a [u8]) -> ArrayVec<Token<'a>, MOST_OF_VALUE>
         requires { length value.now < 2 ^ 32 }
-        ensures atoms { flat_map atoms_of result.items ≡ opens tag vr (Known (length value.now)) Little ∷ (map value_byte value.now ++ closes_leaf ∷ []) }
+        ensures atoms { flat_map atoms_of result.items ≡ leaf_atoms tag vr value.now }
         ensures filled { All IsFilled result.items }
     {
         let length = Length::Known(value.len() as u32);
@@ -63,7 +61,7 @@ impl<'a> Token<'a> {
     /// The tokens of a whole fragment.
     pub fn fragment(value: &'a [u8]) -> ArrayVec<Token<'a>, MOST_OF_VALUE>
         requires { length value.now < 2 ^ 32 }
-        ensures atoms { flat_map atoms_of result.items ≡ opens_fragment (length value.now) ∷ (map value_byte value.now ++ closes_leaf ∷ []) }
+        ensures atoms { flat_map atoms_of result.items ≡ fragment_atoms value.now }
         ensures filled { All IsFilled result.items }
     {
         whole(Token::OpenFragment(value.len() as u32), value)

@@ -7,7 +7,7 @@ use Rattle.dcm_base.specs.declared.vr.Vr.{Vr}
 use Rattle.dcm_base.specs.declared.vr.Vr.TheVariants.{UN}
 use Rattle.dcm_base.specs.declared.syntax.Syntax.{Syntax}
 use Rattle.dcm_base.specs.declared.length.Length.{Length}
-use Rattle.dcm_base.specs.declared.length.Length.TheVariants.{Known, Undefined}
+use Rattle.dcm_base.specs.declared.length.Length.TheVariants.{Known}
 use Rattle.dcm_base.specs.declared.level.Container.{Container}
 use Rattle.dcm_base.specs.declared.level.Container.TheVariants.{DataSet as the_data_set, Item as an_item, Sequence as a_sequence, FragmentList as a_fragment_list}
 use Rattle.dcm_base.specs.declared.level.Level.{Level}
