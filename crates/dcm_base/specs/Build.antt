@@ -11,6 +11,7 @@ use Rattle.dcm_base.specs.declared.syntax.Syntax.{Syntax}
 use Rattle.dcm_base.specs.declared.syntax.Syntax.TheVariants.{Little}
 use Rattle.dcm_base.specs.declared.fault.LineFault.{LineFault}
 use Rattle.dcm_base.specs.declared.fault.LineFault.TheVariants.{LineTooLong, NotALine, ValueDoesNotFit, NotAllowed, NotAscending, BadMetaGroup, NoTransferSyntax, TooDeep, EndsEarly, TooLong}
+use Rattle.dcm_base.specs.declared.fault.LineStop.{LineStop}
 use Rattle.dcm_base.specs.declared.length.Length.TheVariants.{Undefined}
 use Rattle.dcm_base.specs.Tag.{is_above}
 use Rattle.dcm_base.specs.Tree.{Trees, no_tree, leaf, sequence, fragments, Items, no_item, item, then_trees, then_items}
@@ -263,6 +264,9 @@ pub record Told : Type 0 where
   pub fault : LineFault
   pub offset : ℕ
   pub line : ℕ
+
+abbrev pub told_of : LineStop → Told
+told_of stop = record { fault = stop.fault; offset = stop.offset; line = stop.line }
 
 -- what the lines so far have built, where the next one begins and which it is; or the first fault, which stays
 pub record Progress : Type 0 where

@@ -220,3 +220,12 @@ pub struct Stop {
     pub fault: Fault,
     pub at: u64,
 }
+
+/// Why lines that are built into a file are refused: a fault, the offset at which the line begins, and the number of the line, from
+/// 1. An input that ends too early is refused at its size, and one that is too long at the limit of an input, with no line.
+#[derive(Clone, Copy, Debug, PartialEq, Eq)]
+pub struct LineStop {
+    pub fault: LineFault,
+    pub offset: u64,
+    pub line: u64,
+}

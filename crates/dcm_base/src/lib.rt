@@ -39,7 +39,7 @@ mod watched;
 pub use calls::{flush_out, get_some, put_all, put_decimal, put_parts};
 pub use device::{Device, DeviceIn, DeviceOut, ReadFailed, WriteFailed};
 pub use dictionary::{ELEMENTS, dict_vr, element, keyword, tag_of};
-pub use fault::{EditRefusal, Fault, LineFault, Stop, WordFault};
+pub use fault::{EditRefusal, Fault, LineFault, LineStop, Stop, WordFault};
 pub use form::{Form, form_of};
 pub use length::Length;
 pub use level::{Container, Level, MOST_LISTS};

@@ -2,13 +2,12 @@
 use Rattle.std.specs.Prelude.{◌≡◌, ℕ, suc, ◌+◌, ◌<◌, ◌≤◌, List, [], ◌∷◌, ◌++◌, length, take, Bool, true, false, Option, Some, None, Result, Ok, Err, ◌||◌, ◌==◌, is_some, ⊤}
 use Rattle.std.specs.Str.{byte}
 use Rattle.std.specs.Io.KnownBytes.{append_known}
-use Rattle.dcm_base.specs.Build.{Told}
+use Rattle.dcm_base.specs.Build.{Told, told_of}
 use Rattle.dcm_base.specs.Device.{AppendsFront}
 use Rattle.dcm_base.specs.Reads.{INPUT_LIMIT}
 use Rattle.dcm_base.specs.Steps.{Goes}
 use Rattle.dcm_build.specs.declared.build.BuildHalt.{BuildHalt}
 use Rattle.dcm_build.specs.declared.build.BuildHalt.TheVariants.{Refused, Output}
-use Rattle.dcm_build.specs.declared.build.LineStop.{LineStop}
 use Rattle.dcm_build.specs.declared.file.Stopped.{Stopped}
 use Rattle.dcm_build.specs.declared.file.Stopped.TheVariants.{Refused as refused_line, Output as failed_output}
 use Rattle.dcm_build.specs.declared.line_reader.LineReader.{LineReader}
@@ -49,9 +48,6 @@ abbrev pub behind : LineAt → LineAt
 behind at = record at { line = []; offset = at.offset + length at.line + 1; number = suc at.number }
 
 -- ---- what a call answers
-
-abbrev pub told_of : LineStop → Told
-told_of stop = record { fault = stop.fault; offset = stop.offset; line = stop.line }
 
 -- why nothing more is built, where a line is refused at this offset or the output failed
 abbrev pub halts : Stopped → (offset line : ℕ) → BuildHalt

@@ -5,17 +5,8 @@ ghost use Rattle.dcm_build.specs.Building as steps;
 ghost use Rattle.dcm_build.specs.Outputs as outputs;
 
 use crate::line_reader::LineReader;
-use dcm_base::{DeviceOut, LineFault, Watched};
+use dcm_base::{DeviceOut, LineStop, Watched};
 use std::marker::Model;
-
-/// Why the input is refused: a fault, the offset at which the line begins, and the number of the line, from 1. An input that ends
-/// too early is refused at its size, and one that is too long at the limit of an input, with no line.
-#[derive(Clone, Copy, Debug, PartialEq, Eq)]
-pub struct LineStop {
-    pub fault: LineFault,
-    pub offset: u64,
-    pub line: u64,
-}
 
 /// Why a builder goes no further.
 #[derive(Clone, Copy, Debug, PartialEq, Eq)]

@@ -5,11 +5,11 @@ ghost use Rattle.dcm_build.specs.Builder as spec;
 ghost use Rattle.dcm_build.specs.Building as steps;
 ghost use Rattle.dcm_build.specs.Outputs as outputs;
 
-use crate::build::{BuildHalt, LineStop};
+use crate::build::BuildHalt;
 use crate::file::{NewFile, Stopped};
 use arrayvec::ArrayVec;
 use bstr::ByteSlice;
-use dcm_base::{DeviceOut, LineFault, Watched};
+use dcm_base::{DeviceOut, LineFault, LineStop, Watched};
 use dcm_stream::INPUT_LIMIT;
 
 /// The most bytes of a line.

@@ -1,6 +1,7 @@
 -- What a run leaves.
 use Rattle.std.specs.Prelude.{◌≡◌, ◌⊎◌, ℕ, zero, suc, ◌+◌, ◌*◌, Bool, true, false, List, [], ◌∷◌, ◌++◌, length, Option, None, Some, if◌then◌else◌}
 use Rattle.std.specs.Io.KnownBytes.{append_known}
+use Rattle.dcm_base.specs.Build.{told_of}
 use Rattle.dcm_base.specs.Build as build
 use Rattle.dcm_base.specs.Device.{AppendsFront}
 use Rattle.dcm_base.specs.Front.{Front}
@@ -8,7 +9,6 @@ use Rattle.dcm_base.specs.Stop.{Stop, complete, refused}
 use Rattle.dcm_edit.specs.Edit.{Edit, found}
 use Rattle.dcm_edit.specs.Meaning.{AreMeant}
 use Rattle.dcm_words.specs.Words.{Job, build as building, modify}
-use Rattle.dcm_build.specs.Builder.{told_of}
 use Rattle.dcm_cli.specs.declared.ending.Ending.{Ending}
 use Rattle.dcm_cli.specs.declared.ending.Ending.TheVariants as endings
 use Rattle.dcm_cli.specs.declared.ending.Ending.TheVariants.{Unread, Output}

@@ -2,8 +2,7 @@
 ghost use Rattle.std.specs.Prelude.{◌≡◌};
 ghost use Rattle.dcm_cli.specs.Pass as spec;
 
-use dcm_base::Stop;
-use dcm_build::LineStop;
+use dcm_base::{LineStop, Stop};
 use dcm_stream::Halt;
 
 /// What the work on a job came to, where no device failed.

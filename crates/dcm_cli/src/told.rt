@@ -1,15 +1,14 @@
 // Lines on standard error, each by one write.
 ghost use Rattle.std.specs.Prelude.{◌≡◌, ◌≤◌, ◌+◌, ◌++◌, length, flat_map};
+ghost use Rattle.dcm_base.specs.Build.{told_of};
 ghost use Rattle.dcm_base.specs.Device.{Puts, Tells};
 ghost use Rattle.dcm_base.specs.Fault.{fault_text, fault_number, edit_refusal_text, edit_refusal_number};
-ghost use Rattle.dcm_build.specs.Builder.{told_of};
 ghost use Rattle.dcm_cli.specs.Answer as answer;
 ghost use Rattle.dcm_cli.specs.Calls as calls;
 ghost use Rattle.dcm_cli.specs.Told as spec;
 
 use arrayvec::ArrayVec;
-use dcm_base::{DeviceOut, Stop, Watched, WriteFailed, put_all};
-use dcm_build::LineStop;
+use dcm_base::{DeviceOut, LineStop, Stop, Watched, WriteFailed, put_all};
 use dcm_words::Usage;
 use itoa::Buffer;
 

@@ -2,6 +2,7 @@
 use Rattle.std.proofs.Common.{◌≡◌, ◌∙◌, sym, ap, subst, refl, ℕ, List, [], ◌++◌, Bool, true, false, Option, Some, None, Ok, Err}
 use Rattle.std.specs.Prelude.{is_some, ◌||◌}
 use Rattle.std.specs.Io.KnownBytes.{append_known}
+use Rattle.dcm_base.specs.Build.{told_of}
 use Rattle.dcm_base.specs.Steps.{Goes}
 use Rattle.dcm_base.proofs.Writes.Puts.{append_known_none}
 use Rattle.dcm_base.proofs.Writes.Runs.{goes_on, goes_failed}
@@ -9,7 +10,7 @@ use Rattle.dcm_stream.specs.Machine.{well, TellsFailed}
 use Rattle.dcm_build.specs.declared.build.BuildHalt.{BuildHalt}
 use Rattle.dcm_build.specs.declared.build.BuildHalt.TheVariants.{Refused, Output}
 use Rattle.dcm_build.specs.declared.line_reader.LineReader.{LineReader}
-use Rattle.dcm_build.specs.Builder.{line_at, building, told_of, TellsHalt, Feeds, Progress, stop_of, is_output, is_halted}
+use Rattle.dcm_build.specs.Builder.{line_at, building, TellsHalt, Feeds, Progress, stop_of, is_output, is_halted}
 use Rattle.dcm_build.specs.Building.{BuildState, build_step, build_writes}
 use Rattle.dcm_build.proofs.Lines.Pieces.{told_stays, told_silent}
 

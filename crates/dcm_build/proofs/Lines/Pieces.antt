@@ -5,7 +5,7 @@ use Rattle.std.specs.Str.{byte}
 use Rattle.std.specs.Io.KnownBytes.{append_known}
 use Rattle.std.proofs.lemmas.Bool.{ne_eqb, le-ltb, le-leb}
 use Rattle.std.proofs.lemmas.List.{append-nil, take-take}
-use Rattle.dcm_base.specs.Build.{Told}
+use Rattle.dcm_base.specs.Build.{Told, told_of}
 use Rattle.dcm_base.specs.Device.{AppendsFront}
 use Rattle.dcm_base.specs.Reads.{INPUT_LIMIT}
 use Rattle.dcm_base.specs.Steps.{outputs}
@@ -16,7 +16,7 @@ use Rattle.dcm_build.specs.declared.build.BuildHalt.TheVariants.{Refused, Output
 use Rattle.dcm_build.specs.declared.file.NewFile.{NewFile}
 use Rattle.dcm_build.specs.declared.file.Stopped.TheVariants.{Refused as refused_line}
 use Rattle.dcm_build.specs.declared.line_reader.LineReader.{LineReader}
-use Rattle.dcm_build.specs.Builder.{line_at, building, more, read, Plain, Stands, halts, told_of, Reaches, Feeds, bytes_read}
+use Rattle.dcm_build.specs.Builder.{line_at, building, more, read, Plain, Stands, halts, Reaches, Feeds, bytes_read}
 use Rattle.dcm_build.specs.Building.{BuildState, build_step, build_writes, line_taken, line_writes}
 use Rattle.dcm_build.specs.NewFile.{LineAt, state}
 use Rattle.dcm_build.proofs.Lines.Newlines.{not_cut, line_grows, line_silent, newline_taken, newline_writes}

@@ -3,7 +3,7 @@ use Rattle.std.proofs.Common.{◌≡◌, ◌∙◌, ap, sym, subst, ℕ, ◌≤�
 use Rattle.std.specs.Prelude.{Result, Ok, fold, is_some, ◌||◌}
 use Rattle.std.specs.Io.KnownBytes.{append_known}
 use Rattle.dcm_base.specs.Build as build
-use Rattle.dcm_base.specs.Build.{Told}
+use Rattle.dcm_base.specs.Build.{Told, told_of}
 use Rattle.dcm_base.specs.Device.{AppendsFront}
 use Rattle.dcm_base.specs.Steps.{outputs, Goes}
 use Rattle.dcm_words.specs.Words.{build as building}
@@ -12,7 +12,7 @@ use Rattle.dcm_base.proofs.Writes.Runs.{outputs-append, goes_on}
 use Rattle.dcm_stream.specs.Machine.{well, TellsFailed}
 use Rattle.dcm_build.specs.declared.build.BuildHalt.{BuildHalt}
 use Rattle.dcm_build.specs.declared.build.BuildHalt.TheVariants as halts
-use Rattle.dcm_build.specs.Builder.{Progress, answer, is_halted, told_of}
+use Rattle.dcm_build.specs.Builder.{Progress, answer, is_halted}
 use Rattle.dcm_build.specs.Building.{BuildState, build_start, build_step, build_writes, finishes, finish_writes}
 use Rattle.dcm_build.proofs.Files.Runs.{whole, so_far, refused}
 use Rattle.dcm_cli.specs.declared.ending.Ending.TheVariants as endings

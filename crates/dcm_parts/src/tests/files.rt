@@ -1,5 +1,5 @@
-use dcm_base::{LineFault, MemOut, Watched};
-use dcm_build::{BuildHalt, Builder, LineStop};
+use dcm_base::{LineFault, LineStop, MemOut, Watched};
+use dcm_build::{BuildHalt, Builder};
 use std::test::Fail;
 
 /// The line of a meta group, and that of an element of the data set.

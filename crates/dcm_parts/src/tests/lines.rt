@@ -1,6 +1,6 @@
 // The lines of a dump, by the bytes that they are built into.
-use dcm_base::{LineFault, MemOut, Watched};
-use dcm_build::{BuildHalt, Builder, LineStop};
+use dcm_base::{LineFault, LineStop, MemOut, Watched};
+use dcm_build::{BuildHalt, Builder};
 use std::test::Fail;
 
 /// The line of a meta group, and what it is built into after the preamble.
