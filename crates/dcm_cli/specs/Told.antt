@@ -15,6 +15,10 @@ Tries old new failed_before failed_after line =
 abbrev pub told : List ℕ → List ℕ
 told text = codes "dcmtools: " ++ text ++ 10 ∷ []
 
+-- a refusal by its number, where it is, and its words
+abbrev pub refusal_line : (number place text : List ℕ) → List ℕ
+refusal_line number place text = told (number ++ place ++ codes ": " ++ text)
+
 abbrev pub usage_line : Usage → List ℕ
 usage_line (AtWord refusal word) = told (word_fault_number refusal ++ codes " at word " ++ decimal word ++ codes ": " ++ word_fault_text refusal)
 usage_line (Whole refusal) = told (word_fault_number refusal ++ codes ": " ++ word_fault_text refusal)

@@ -56,6 +56,25 @@ fn tell_line<E: DeviceOut>(errors: &mut Watched<E>, parts: &[&[u8]])
     let _ = put_line(errors, parts);
 }
 
+/// Tells a refusal: its number, where it is, and its words.
+fn tell_refusal<E: DeviceOut>(number: &str, place: &[&[u8]], text: &str, errors: &mut Watched<E>)
+    requires { length number.now + length (flat_map (λ part. part.now) place.now) + length text.now ≤ 179 }
+    ensures { calls.Tries E.DeviceOut errors.old errors.new (spec.refusal_line number.now (flat_map (λ part. part.now) place.now) text.now) }
+{
+    let place = compose(place);
+    tell_line(
+        errors,
+        &[
+            b"dcmtools: ".as_slice(),
+            number.as_bytes(),
+            place.as_slice(),
+            b": ".as_slice(),
+            text.as_bytes(),
+            b"\n".as_slice(),
+        ],
+    );
+}
+
 /// Tells why words are refused, and answers the status.
 pub fn tell<E: DeviceOut>(usage: &Usage, errors: &mut Watched<E>) -> u8
     ensures line { calls.Tries E.DeviceOut errors.old errors.new (spec.usage_line usage.now) }
@@ -63,46 +82,21 @@ pub fn tell<E: DeviceOut>(usage: &Usage, errors: &mut Watched<E>) -> u8
 {
     let mut digits = Buffer::new();
     match *usage {
-        Usage::AtWord(refusal, word) => tell_line(
-            errors,
-            &[
-                b"dcmtools: ".as_slice(),
-                refusal.number().as_bytes(),
-                b" at word ".as_slice(),
-                digits.format(word).as_bytes(),
-                b": ".as_slice(),
-                refusal.text().as_bytes(),
-                b"\n".as_slice(),
-            ],
-        ),
-        Usage::Whole(refusal) => tell_line(
-            errors,
-            &[
-                b"dcmtools: ".as_slice(),
-                refusal.number().as_bytes(),
-                b": ".as_slice(),
-                refusal.text().as_bytes(),
-                b"\n".as_slice(),
-            ],
-        ),
-        Usage::InEdit(refusal, edit) => tell_line(
-            errors,
-            &[
-                b"dcmtools: ".as_slice(),
-                refusal.number().as_bytes(),
-                b" in edit ".as_slice(),
-                digits.format(edit).as_bytes(),
-                b": ".as_slice(),
-                refusal.text().as_bytes(),
-                b"\n".as_slice(),
-            ],
-        ),
-        Usage::Memory => tell_line(errors, &[b"dcmtools: out of memory\n".as_slice()]),
+        Usage::AtWord(refusal, word) => {
+            let place = [b" at word ".as_slice(), digits.format(word).as_bytes()];
+            tell_refusal(refusal.number(), &place, refusal.text(), errors);
+        }
+        Usage::Whole(refusal) => tell_refusal(refusal.number(), &[], refusal.text(), errors),
+        Usage::InEdit(refusal, edit) => {
+            let place = [b" in edit ".as_slice(), digits.format(edit).as_bytes()];
+            tell_refusal(refusal.number(), &place, refusal.text(), errors);
+        }
+        Usage::Memory => {
+            tell_line(errors, &[b"dcmtools: out of memory\n".as_slice()]);
+            return MEMORY;
+        }
     }
-    match usage {
-        Usage::Memory => MEMORY,
-        _ => USAGE,
-    }
+    USAGE
 }
 
 /// Tells that the input or the output cannot be opened, and answers the status.
@@ -123,18 +117,8 @@ pub fn tell_fault<E: DeviceOut>(stop: Stop, errors: &mut Watched<E>)
     ensures { calls.Tries E.DeviceOut errors.old errors.new (spec.fault_line stop) }
 {
     let mut digits = Buffer::new();
-    tell_line(
-        errors,
-        &[
-            b"dcmtools: ".as_slice(),
-            stop.fault.number().as_bytes(),
-            b" at byte ".as_slice(),
-            digits.format(stop.at).as_bytes(),
-            b": ".as_slice(),
-            stop.fault.text().as_bytes(),
-            b"\n".as_slice(),
-        ],
-    );
+    let place = [b" at byte ".as_slice(), digits.format(stop.at).as_bytes()];
+    tell_refusal(stop.fault.number(), &place, stop.fault.text(), errors);
 }
 
 /// Which line a fault is of, where it is one's: what stands before its number, and that.
@@ -152,28 +136,16 @@ fn line_place(line: u64, digits: &mut Buffer) -> (&'static [u8], &[u8])
 pub fn tell_line_fault<E: DeviceOut>(stop: LineStop, errors: &mut Watched<E>)
     ensures { calls.Tries E.DeviceOut errors.old errors.new (answer.building_line (told_of stop)) }
 {
-    let LineStop {
-        fault,
-        offset,
-        line,
-    } = stop;
     let mut digits = Buffer::new();
     let mut line_digits = Buffer::new();
-    let (behind, number) = line_place(line, &mut line_digits);
-    tell_line(
-        errors,
-        &[
-            b"dcmtools: ".as_slice(),
-            fault.number().as_bytes(),
-            b" at byte ".as_slice(),
-            digits.format(offset).as_bytes(),
-            behind,
-            number,
-            b": ".as_slice(),
-            fault.text().as_bytes(),
-            b"\n".as_slice(),
-        ],
-    );
+    let (behind, number) = line_place(stop.line, &mut line_digits);
+    let place = [
+        b" at byte ".as_slice(),
+        digits.format(stop.offset).as_bytes(),
+        behind,
+        number,
+    ];
+    tell_refusal(stop.fault.number(), &place, stop.fault.text(), errors);
 }
 
 /// Tells that reading failed behind so many bytes.
