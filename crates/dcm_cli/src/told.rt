@@ -9,6 +9,7 @@ ghost use Rattle.dcm_cli.specs.Told as spec;
 
 use arrayvec::ArrayVec;
 use dcm_base::{DeviceOut, LineStop, Stop, Watched, WriteFailed, put_all};
+use dcm_edit::MOST_EDITS;
 use dcm_words::Usage;
 use itoa::Buffer;
 
@@ -20,9 +21,6 @@ pub const DEVICE: u8 = 4;
 
 /// The status of want of memory.
 pub const MEMORY: u8 = 5;
-
-/// The most edits of a command line.
-const MOST_EDITS: u64 = 64;
 
 /// The most bytes of a line.
 const LONGEST: usize = 192;
@@ -175,7 +173,7 @@ pub fn tell_output<E: DeviceOut>(errors: &mut Watched<E>)
 /// Writes the line of an edit that found no place; it is counted from 1. Of another edit nothing is written.
 fn put_unplaced<E: DeviceOut>(
     is_unplaced: bool,
-    number: u64,
+    number: usize,
     errors: &mut Watched<E>,
 ) -> Result<(), WriteFailed>
     ensures bytes { Puts (E.contents errors.old) (E.contents errors.new) (spec.line_where is_unplaced number) result }

@@ -34,4 +34,5 @@ mod sink;
 pub use edit::{Action, Edit, Index, NewElement, PathEdit, Step};
 pub use edits::Edits;
 pub use fault::EditFault;
+pub use mask::MOST_EDITS;
 pub use sink::EditSink;
