@@ -5,6 +5,8 @@ use Rattle.dcm_base.specs.Device.{Puts}
 use Rattle.dcm_base.specs.Outputs.{Writer}
 use Rattle.dcm_head.specs.MetaReading.{Reading, group_of}
 use Rattle.dcm_head.specs.Rewriting.{OfElements}
+use Rattle.dcm_words.specs.declared.job.Job as words
+use Rattle.dcm_words.specs.Plans.{job_of}
 use Rattle.dcm_words.specs.Words.{Job}
 use Rattle.dcm_cli.specs.declared.ending.Ending.{Ending}
 use Rattle.dcm_cli.specs.declared.ending.HeadEnding.{HeadEnding}
@@ -53,6 +55,9 @@ Runs r w e job old new held holds told tells status =
       untold_before = e.has_failed told;
       untold = e.has_failed tells;
     }) status
+
+abbrev pub RunsJob : {R W E A : Type 0} → Reader R → Writer W → Writer E → words.Job A → (old new : R) → (held holds : W) → (told tells : E) → (status : ℕ) → Type 0
+RunsJob r w e job old new held holds told tells status = Runs r w e (job_of job) old new held holds told tells status
 
 -- the status says whether one of them failed in it
 abbrev pub TellsFailed : {R W : Type 0} → Reader R → Writer W → (old new : R) → (held holds : W) → (status : ℕ) → Type 0

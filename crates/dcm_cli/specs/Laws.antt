@@ -10,9 +10,7 @@ use Rattle.dcm_edit.specs.Everywhere.{Among, EverywhereIn, IsOther, IsPublic, Is
 use Rattle.dcm_edit.specs.Repeating.{EraseByNoNumber}
 use Rattle.dcm_words.specs.declared.job.Job.{Job}
 use Rattle.dcm_cli.specs.Answer.{Answer, Answers, Sure}
-use Rattle.dcm_cli.specs.DumpBuilds.{DumpBuilds}
 use Rattle.dcm_cli.specs.ReadsAgain.{InOutput, IsConverted, IsModified, ReadsConverted, ReadsModified}
-use Rattle.dcm_cli.specs.NoEdits.{NoEditsConvert}
 use Rattle.dcm_cli.specs.Run.{IsMeant}
 use Rattle.dcm_words.specs.Plans.{job_of}
 use Rattle.dcm_words.specs.Words as words

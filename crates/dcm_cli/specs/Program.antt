@@ -1,12 +1,16 @@
 -- What a program does with the words of its command line.
-use Rattle.std.specs.Prelude.{◌≡◌, ◌⊎◌, ◌↔◌, ◌≤◌, ℕ, List, Bool, true, false, Option, Some, Ok, Err}
+use Rattle.std.specs.Prelude.{◌≡◌, ◌⊎◌, ◌↔◌, ◌≤◌, ℕ, List, map, Bool, true, false, Option, Some, Ok, Err}
+use Rattle.std.specs.Borrow.{Bor}
+use Rattle.dcm_base.specs.declared.fault.WordFault.TheVariants.{UnknownTool}
+use Rattle.dcm_words.specs.declared.job.Planned.{Planned}
 use Rattle.dcm_words.specs.declared.usage.Usage.{Usage}
 use Rattle.dcm_words.specs.declared.usage.Usage.TheVariants as usages
 use Rattle.dcm_words.specs.Words.{Job, Plan, meant}
-use Rattle.dcm_words.specs.Plans.{is_modify}
+use Rattle.dcm_words.specs.Plans.{is_modify, planned as plan_of}
 use Rattle.dcm_cli.specs.declared.opened.Opened.{Opened}
 use Rattle.dcm_cli.specs.declared.opened.Unopened.{Unopened}
 use Rattle.dcm_cli.specs.declared.opened.Unopened.TheVariants.{Input, Output, Memory}
+use Rattle.dcm_cli.specs.Calls.{Reader, Writer}
 use Rattle.dcm_cli.specs.Devices.{MayAnswer, OpensDevices}
 use Rattle.dcm_cli.specs.Run.{Ran}
 use Rattle.dcm_cli.specs.Stops.{Stops}
@@ -22,6 +26,10 @@ pub record Errors : Type 0 where
 -- these lines were reported, or standard error failed
 abbrev pub Reports : Errors → List ℕ → Type 0
 Reports e lines = Tries e.told e.tells e.untold_before e.untold lines
+
+-- words that are no text are the words of no tool
+abbrev pub no_tool : Usage
+no_tool = usages.AtWord UnknownTool 1
 
 abbrev pub unopened_line : Unopened → List ℕ
 unopened_line Input = open_line false
@@ -62,3 +70,17 @@ pub data Obeys {I O : Type 0} (may : MayAnswer I O) (t : Telling I O) (words : L
   refused : (u : Usage) → meant words ≡ Err u → Reports e (usage_line u) → status ≡ usage_status u → Obeys may t words e status
   no_memory : is_modify words ≡ true → Reports e (usage_line usages.Memory) → status ≡ usage_status usages.Memory → Obeys may t words e status
   worked : (p : Plan) → meant words ≡ Ok p → Works may t p e status → Obeys may t words e status
+
+-- ---- of devices with these members
+
+abbrev pub telling : {I O : Type 0} → Reader I → Writer O → Telling I O
+telling r w = record { remaining = r.remaining; unread = r.has_failed; contents = w.contents; room = w.room; unwritten = w.has_failed; is_flushed = w.is_flushed }
+
+abbrev pub errors_of : {E : Type 0} → Writer E → (old new : E) → Errors
+errors_of e old new = record { told = e.contents old; tells = e.contents new; untold_before = e.has_failed old; untold = e.has_failed new }
+
+abbrev pub WorksBy : {I O E A : Type 0} → MayAnswer I O → Reader I → Writer O → Writer E → Planned A → (old new : E) → (status : ℕ) → Type 0
+WorksBy may r w e planned old new status = Works may (telling r w) (plan_of planned) (errors_of e old new) status
+
+abbrev pub ObeysBy : {I O E : Type 0} → MayAnswer I O → Reader I → Writer O → Writer E → List (Bor (List ℕ)) → (old new : E) → (status : ℕ) → Type 0
+ObeysBy may r w e words old new status = Obeys may (telling r w) (map (λ w. w.now) words) (errors_of e old new) status

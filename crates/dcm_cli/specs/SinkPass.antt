@@ -3,7 +3,8 @@ use Rattle.std.specs.Prelude.{ℕ, List, Result}
 use Rattle.dcm_stream.specs.declared.machine.Halt.{Halt}
 use Rattle.dcm_stream.specs.declared.sink.Sink.{Ghosts}
 use Rattle.dcm_stream.specs.Machine.{Progress}
-use Rattle.dcm_stream.specs.Reading.{Reading}
+use Rattle.dcm_base.specs.declared.syntax.Syntax.{Syntax}
+use Rattle.dcm_stream.specs.Reading.{Reading, start_of}
 use Rattle.dcm_cli.specs.declared.ending.Ending.{Ending}
 use Rattle.dcm_cli.specs.declared.head.Begun.{Begun}
 use Rattle.dcm_cli.specs.Calls.{Reader}
@@ -28,6 +29,9 @@ Pumps sink r old new had left before ending =
 abbrev pub BehindBegun : {S R : Type 0} → Ghosts S → Reader R → (old new : S) → (had left : R) → Begun → (buffer : List ℕ) → Reading → Ending → Type 0
 BehindBegun sink r old new had left begun buffer first ending =
     pass.BehindBegun sink.bar sink.step sink.writes (r.remaining had) (pass.set_bytes begun buffer) first (sink.state old) (sink.contents old) (r.remaining left) (sink.state new) (sink.contents new) ending
+
+abbrev pub ReadsSet : {S R : Type 0} → Ghosts S → Reader R → (old new : S) → (had left : R) → Begun → (buffer : List ℕ) → Syntax → (start : ℕ) → Ending → Type 0
+ReadsSet sink r old new had left begun buffer s start ending = BehindBegun sink r old new had left begun buffer (start_of s start) ending
 
 -- its writer failed in the call exactly where that is the ending
 abbrev pub TellsOutput : {S : Type 0} → Ghosts S → (old new : S) → Ending → Type 0

@@ -102,8 +102,7 @@ pub fn read_set<R: DeviceIn, S: Sink>(
     requires within { (begun.used ≤ begun.filled) × (begun.filled ≤ length buffer.old) }
     requires count { start + length (spec.set_bytes begun buffer.old) ≡ begun.read }
     requires over { begun.is_over ≡ true → IsAtEnd (R.remaining input.old) }
-    ensures ends { sink_pass.BehindBegun S.Sink R.DeviceIn sink.old sink.new input.old input.new begun buffer.old
-        (start_of coding.syntax start) result }
+    ensures ends { sink_pass.ReadsSet S.Sink R.DeviceIn sink.old sink.new input.old input.new begun buffer.old coding.syntax start result }
     ensures stops { sink_pass.BehindStops S.Sink R.DeviceIn sink.old input.old input.new begun buffer.old (start_of coding.syntax start) }
     ensures over { begun.is_over ≡ true → spec.WasRead result }
     ensures unread { spec.TellsUnread (R.has_failed input.old) (R.has_failed input.new) result }

@@ -1,12 +1,11 @@
 // The program: words, devices, and the exit status.
-ghost use Rattle.std.specs.Prelude.{◌≤◌, ◌≡◌, ◌≢◌, map};
+ghost use Rattle.std.specs.Prelude.{◌≤◌, ◌≡◌, ◌≢◌};
 ghost use Rattle.std.specs.IoError.{error_kind};
-ghost use Rattle.dcm_words.specs.Plans.{planned as plan_of};
 ghost use Rattle.dcm_cli.specs.Calls as calls;
 ghost use Rattle.dcm_cli.specs.Program as spec;
+ghost use Rattle.dcm_cli.specs.Program.{WorksBy, ObeysBy};
 ghost use Rattle.dcm_cli.specs.Told.{usage_line, usage_status};
 ghost use Rattle.dcm_words.specs.declared.usage.Usage.TheVariants as usages;
-ghost use Rattle.dcm_base.specs.declared.fault.WordFault.TheVariants as faults;
 
 use crate::devices::{System, open_devices};
 use crate::host::Host;
@@ -49,23 +48,7 @@ fn tell_unopened<E: DeviceOut>(unopened: Unopened, errors: &mut Watched<E>) -> u
 
 /// Opens the devices of a job and runs it. Nothing is read or written where one cannot be opened.
 fn work<S: System, E: DeviceOut>(system: &S, planned: &Planned, errors: &mut Watched<E>) -> u8
-    ensures works { spec.Works (S.may_answer system.now)
-        (record {
-          remaining = S.Input.remaining;
-          unread = S.Input.has_failed;
-          contents = S.Output.contents;
-          room = S.Output.room;
-          unwritten = S.Output.has_failed;
-          is_flushed = S.Output.is_flushed;
-        })
-        (plan_of planned.now)
-        (record {
-          told = E.contents errors.old;
-          tells = E.contents errors.new;
-          untold_before = E.has_failed errors.old;
-          untold = E.has_failed errors.new;
-        })
-        result }
+    ensures works { WorksBy (S.may_answer system.now) S.Input.DeviceIn S.Output.DeviceOut E.DeviceOut planned.now errors.old errors.new result }
     ensures within { result ≤ 5 }
 {
     let (input, output) = match open_devices(system, planned.input, planned.output) {
@@ -87,23 +70,7 @@ pub fn obey<S: System, E: DeviceOut>(
     words: &[&[u8]],
     errors: &mut Watched<E>,
 ) -> u8
-    ensures obeys { spec.Obeys (S.may_answer system.now)
-        (record {
-          remaining = S.Input.remaining;
-          unread = S.Input.has_failed;
-          contents = S.Output.contents;
-          room = S.Output.room;
-          unwritten = S.Output.has_failed;
-          is_flushed = S.Output.is_flushed;
-        })
-        (map (λ w. w.now) words.now)
-        (record {
-          told = E.contents errors.old;
-          tells = E.contents errors.new;
-          untold_before = E.has_failed errors.old;
-          untold = E.has_failed errors.new;
-        })
-        result }
+    ensures obeys { ObeysBy (S.may_answer system.now) S.Input.DeviceIn S.Output.DeviceOut E.DeviceOut words.now errors.old errors.new result }
     ensures within { result ≤ 5 }
 {
     match plan(alloc, words) {
@@ -114,8 +81,7 @@ pub fn obey<S: System, E: DeviceOut>(
 
 /// Reports words that cannot be read. Words that are no text are the words of no tool.
 fn tell_unread_words<E: DeviceOut>(e: &io::Error, errors: &mut Watched<E>) -> u8
-    ensures line { error_kind e.now ≢ ErrorKind.OutOfMemory →
-        calls.Tries E.DeviceOut errors.old errors.new (usage_line (usages.AtWord faults.UnknownTool 1)) }
+    ensures line { error_kind e.now ≢ ErrorKind.OutOfMemory → calls.Tries E.DeviceOut errors.old errors.new (usage_line spec.no_tool) }
     ensures status { error_kind e.now ≢ ErrorKind.OutOfMemory → result ≡ 1 }
     ensures memory_line { error_kind e.now ≡ ErrorKind.OutOfMemory →
         calls.Tries E.DeviceOut errors.old errors.new (usage_line usages.Memory) }

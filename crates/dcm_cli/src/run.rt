@@ -1,6 +1,7 @@
 // A job over devices.
 ghost use Rattle.std.specs.Prelude.{◌≡◌, ◌≤◌, true, false};
 ghost use Rattle.dcm_cli.specs.Calls as calls;
+ghost use Rattle.dcm_cli.specs.Calls.{RunsJob};
 ghost use Rattle.dcm_cli.specs.Pass.{TellsUnread, TellsOutput};
 ghost use Rattle.dcm_cli.specs.Run as spec;
 ghost use Rattle.dcm_words.specs.Plans.{job_of};
@@ -121,8 +122,7 @@ pub fn run<R: DeviceIn, W: DeviceOut, E: DeviceOut>(
     out: &mut Watched<W>,
     errors: &mut Watched<E>,
 ) -> Outcome
-    ensures ran { calls.Runs R.DeviceIn W.DeviceOut E.DeviceOut (job_of job.now) input.old input.new out.old out.new errors.old errors.new
-        result.status }
+    ensures ran { RunsJob R.DeviceIn W.DeviceOut E.DeviceOut job.now input.old input.new out.old out.new errors.old errors.new result.status }
     ensures stops { calls.Stops R.DeviceIn (job_of job.now) input.old input.new }
     ensures flushed { W.has_failed out.old ≡ false → W.has_failed out.new ≡ false → W.is_flushed out.new ≡ true }
     ensures within { result.status ≤ 4 }

@@ -1,5 +1,5 @@
 -- Runs over writers that tell their size.
-use Rattle.std.proofs.Common.{◌≡◌, ◌∙◌, ap, subst, ℕ, ◌+◌, ◌-◌, ◌≤◌, List, ◌∷◌, ◌++◌, length, Bool, true, false, Option, Some, arith, inl, inr, length-append}
+use Rattle.std.proofs.Common.{◌≡◌, ◌∙◌, ap, subst, ℕ, ◌-◌, ◌≤◌, List, ◌∷◌, ◌++◌, length, Bool, true, false, Option, Some, arith, inl, inr, length-append}
 use Rattle.std.specs.Io.KnownBytes.{append_known}
 use Rattle.std.proofs.lemmas.List.{length-take-le}
 use Rattle.dcm_base.specs.Device.{AppendsFront}
