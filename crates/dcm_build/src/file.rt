@@ -6,7 +6,7 @@ ghost use Rattle.dcm_base.specs.ReadValue.{value_of_text};
 ghost use Rattle.dcm_base.specs.declared.syntax.Syntax.TheVariants.{Little};
 ghost use Rattle.dcm_stream.specs.Tokens.{atoms_of};
 ghost use Rattle.dcm_build.specs.Building as spec;
-ghost use Rattle.dcm_build.specs.LineShown.{step_of, meaning_of};
+ghost use Rattle.dcm_build.specs.LineShown.{step_of};
 ghost use Rattle.dcm_build.specs.NewFile as files;
 ghost use Rattle.dcm_build.specs.NewGroup.{trees_of};
 ghost use Rattle.dcm_build.specs.Outputs as outputs;

@@ -1,5 +1,5 @@
 // The lines of an input, read piece by piece.
-ghost use Rattle.std.specs.Prelude.{◌≡◌, ◌+◌, ◌++◌, ◌<◌, ◌≤◌, None, Option, get_or, length, take, IfOk, OnOk};
+ghost use Rattle.std.specs.Prelude.{◌≡◌, ◌+◌, ◌<◌, ◌≤◌, None, get_or, length, take, IfOk, OnOk};
 ghost use Rattle.dcm_base.specs.Reads.{INPUT_LIMIT as MOST_READ};
 ghost use Rattle.dcm_build.specs.Builder as spec;
 ghost use Rattle.dcm_build.specs.Building as steps;

@@ -4,7 +4,7 @@ ghost use Rattle.std.specs.IoError.{error_kind};
 ghost use Rattle.dcm_cli.specs.Calls as calls;
 ghost use Rattle.dcm_cli.specs.Program as spec;
 ghost use Rattle.dcm_cli.specs.Program.{WorksBy, ObeysBy};
-ghost use Rattle.dcm_cli.specs.Told.{usage_line, usage_status};
+ghost use Rattle.dcm_cli.specs.Told.{usage_line};
 ghost use Rattle.dcm_words.specs.declared.usage.Usage.TheVariants as usages;
 
 use crate::devices::{System, open_devices};

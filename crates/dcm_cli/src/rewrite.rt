@@ -3,7 +3,7 @@ ghost use Rattle.std.specs.Prelude.{◌≡◌, ◌≤◌, ◌<◌, ◌+◌, ◌^
 ghost use Rattle.std.specs.Io.KnownBytes.{IsAtEnd};
 ghost use Rattle.dcm_base.specs.declared.syntax.Syntax.{Syntax};
 ghost use Rattle.dcm_base.specs.Device.{Tells};
-ghost use Rattle.dcm_base.specs.MetaReads.{Meta as FileMeta, PREFIX as prefix};
+ghost use Rattle.dcm_base.specs.MetaReads.{Meta as FileMeta};
 ghost use Rattle.dcm_words.specs.Words.{convert as convert_job};
 ghost use Rattle.dcm_head.specs.MetaReading.{HasEnded, uid_of};
 ghost use Rattle.dcm_cli.specs.Answer as answer;

@@ -2,7 +2,6 @@
 ghost use Rattle.std.specs.Prelude.{◌≡◌, ◌≤◌, ◌+◌, ◌++◌, length, flat_map};
 ghost use Rattle.dcm_base.specs.Build.{told_of};
 ghost use Rattle.dcm_base.specs.Device.{Puts, Tells};
-ghost use Rattle.dcm_base.specs.Fault.{fault_text, fault_number, edit_refusal_text, edit_refusal_number};
 ghost use Rattle.dcm_cli.specs.Answer as answer;
 ghost use Rattle.dcm_cli.specs.Calls as calls;
 ghost use Rattle.dcm_cli.specs.Told as spec;

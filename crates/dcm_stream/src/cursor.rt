@@ -1,6 +1,5 @@
 // Where the reading of a data set stands (PS3.5 7).
 ghost use Rattle.std.specs.Prelude.{◌≡◌, ◌+◌, ◌-◌, ◌^◌, ◌<◌, ◌≤◌, [], ◌∷◌, ◌++◌, None, length, IfOk};
-ghost use Rattle.dcm_stream.specs.Bounds as bounds;
 ghost use Rattle.dcm_stream.specs.Judging.{opened_by};
 ghost use Rattle.dcm_stream.specs.Reading as steps;
 ghost use Rattle.dcm_stream.specs.Machine as spec;

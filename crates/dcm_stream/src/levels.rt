@@ -1,5 +1,5 @@
 // The open containers, and what may come in them.
-ghost use Rattle.std.specs.Prelude.{◌≡◌, ℕ, ◌+◌, ◌^◌, ◌<◌, ◌≤◌, [], ◌∷◌, drop, length};
+ghost use Rattle.std.specs.Prelude.{◌≡◌, ◌+◌, ◌^◌, ◌<◌, ◌≤◌, [], ◌∷◌, drop, length};
 ghost use Rattle.dcm_base.specs.Place as spec;
 ghost use Rattle.dcm_base.specs.Stop as stops;
 ghost use Rattle.dcm_stream.specs.Levels.{nearest_end};
