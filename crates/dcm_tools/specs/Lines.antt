@@ -1,10 +1,18 @@
 -- What `Lines` stand for.
-use Rattle.std.specs.Prelude.{Option, None, Some}
-use Rattle.dcm_value.specs.Progress.{Progress}
+use Rattle.std.specs.Prelude.{ℕ, List, length, Option, None, Some}
+use Rattle.dcm_base.specs.declared.vr.Vr.{Vr}
+use Rattle.dcm_base.specs.declared.syntax.Syntax.{Syntax}
+use Rattle.dcm_base.specs.declared.length.Length.{Length}
+use Rattle.dcm_base.specs.Atoms.{Atom}
+use Rattle.dcm_base.specs.Dump.{line}
+use Rattle.dcm_base.specs.Representation.{letters}
+use Rattle.dcm_base.specs.Steps.{outputs}
+use Rattle.dcm_head.specs.declared.head.Head.{Head}
+use Rattle.dcm_value.specs.Progress.{Progress, started}
 use Rattle.dcm_value.specs.ValueText.{progress}
 use Rattle.dcm_tools.specs.declared.dump.lines.Lines.{Lines}
 use Rattle.dcm_tools.specs.declared.dump.lines.Owner.{Owner}
-use Rattle.dcm_tools.specs.DumpSink.{DumpState, OpenValue, no_value, open_value}
+use Rattle.dcm_tools.specs.DumpSink.{DumpState, OpenValue, no_value, open_value, dump_step, dump_writes}
 
 -- the value that is being shown, if one is
 abbrev pub value_of : Option Owner → Progress → OpenValue
@@ -13,3 +21,15 @@ value_of (Some owner) text = open_value owner text
 
 abbrev pub state : Lines → DumpState
 state l = record { mode = l.mode; lengths = l.lengths; value = value_of l.owner (progress l.text); is_lost = l.is_lost }
+
+-- a value of this size, of which nothing came yet
+abbrev pub started_in : Lines → Vr → Syntax → ℕ → Progress
+started_in l vr syntax size = started vr syntax size l.mode
+
+-- what is written over atoms
+abbrev pub shows : DumpState → List Atom → List ℕ
+shows s atoms = outputs dump_step dump_writes s atoms
+
+-- the line of a sequence or a fragment list that begins
+abbrev pub list_line : List Length → Head → List ℕ → List ℕ
+list_line lengths head display = line (length lengths) head.tag (letters head.vr) display head.length 1

@@ -1,6 +1,6 @@
 // The lines of a dump.
 ghost use Rattle.std.specs.Prelude.{◌≡◌, ◌<◌, ◌≤◌, ◌*◌, ◌++◌, ◌∷◌, [], length, replicate, decimal, IfSome};
-ghost use Rattle.dcm_base.specs.Device.{Puts, Tells};
+ghost use Rattle.dcm_base.specs.Outputs as outputs;
 ghost use Rattle.dcm_base.specs.Dump as dump;
 ghost use Rattle.dcm_base.specs.ValueText.{padded};
 ghost use Rattle.dcm_base.specs.ValueText.{tag_text};
@@ -65,8 +65,8 @@ pub fn put_line_start<W: DeviceOut>(
     letters: [u8; 2],
 ) -> Result<(), WriteFailed>
     requires { level ≤ 128 }
-    ensures bytes { Puts (W.contents out.old) (W.contents out.new) (dump.line_start level tag letters) result }
-    ensures failed { Tells (W.has_failed out.old) (W.has_failed out.new) result }
+    ensures bytes { outputs.Puts W.DeviceOut out.old out.new (dump.line_start level tag letters) result }
+    ensures failed { outputs.Tells W.DeviceOut out.old out.new result }
 {
     begin_line(line, level, tag, letters);
     put_all(out, line.as_slice())
@@ -131,8 +131,8 @@ pub fn put_rest<W: DeviceOut>(
     count: u64,
 ) -> Result<(), WriteFailed>
     requires { length line.old.items ≤ 337 }
-    ensures bytes { Puts (W.contents out.old) (W.contents out.new) (line.old.items ++ line_rest tag declared count) result }
-    ensures failed { Tells (W.has_failed out.old) (W.has_failed out.new) result }
+    ensures bytes { outputs.Puts W.DeviceOut out.old out.new (line.old.items ++ line_rest tag declared count) result }
+    ensures failed { outputs.Tells W.DeviceOut out.old out.new result }
 {
     let Some(start) = short_rest(declared, count) else {
         put_all(out, line.as_slice())?;
@@ -151,8 +151,8 @@ fn put_long_rest<W: DeviceOut>(
     length: Length,
     count: u64,
 ) -> Result<(), WriteFailed>
-    ensures bytes { Puts (W.contents out.old) (W.contents out.new) (line_rest tag length count) result }
-    ensures failed { Tells (W.has_failed out.old) (W.has_failed out.new) result }
+    ensures bytes { outputs.Puts W.DeviceOut out.old out.new (line_rest tag length count) result }
+    ensures failed { outputs.Tells W.DeviceOut out.old out.new result }
 {
     let mut sizes = Buffer::new();
     let mut counts = Buffer::new();
@@ -196,8 +196,8 @@ pub fn put_line<W: DeviceOut>(
 ) -> Result<(), WriteFailed>
     requires level { level ≤ 128 }
     requires display { length display.now ≤ 66 }
-    ensures bytes { Puts (W.contents out.old) (W.contents out.new) (dump.line level tag letters display.now declared count) result }
-    ensures failed { Tells (W.has_failed out.old) (W.has_failed out.new) result }
+    ensures bytes { outputs.Puts W.DeviceOut out.old out.new (dump.line level tag letters display.now declared count) result }
+    ensures failed { outputs.Tells W.DeviceOut out.old out.new result }
 {
     begin_line(line, level, tag, letters);
     append_display(line, display);

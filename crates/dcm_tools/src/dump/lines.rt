@@ -1,13 +1,12 @@
 // The lines of a dump, as tokens come.
 ghost use Rattle.std.specs.Prelude.{◌≡◌, ◌<◌, ◌≤◌, OnOk, false, length, map, fold};
 ghost use Rattle.std.specs.Option.{ForSome};
-ghost use Rattle.dcm_base.specs.Atoms.{opens, value_byte, closes_leaf, opens_item, closes_item, closes_sequence, opens_fragment};
-ghost use Rattle.dcm_base.specs.Device.{Puts, Tells};
-ghost use Rattle.dcm_base.specs.Representation.{letters};
-ghost use Rattle.dcm_base.specs.Steps.{outputs};
+ghost use Rattle.dcm_base.specs.Atoms.{value_byte, closes_leaf, opens_item, closes_item, closes_sequence, opens_fragment};
+ghost use Rattle.dcm_base.specs.Outputs as outputs;
 ghost use Rattle.dcm_stream.specs.Tokens.{atoms_of};
 ghost use Rattle.dcm_base.specs.Dump as dump;
 ghost use Rattle.dcm_tools.specs.DumpSink as spec;
+ghost use Rattle.dcm_tools.specs.Encoder.{opening};
 ghost use Rattle.dcm_value.specs.Progress as progress;
 ghost use Rattle.dcm_value.specs.ValueText.{progress as text_progress};
 
@@ -124,8 +123,8 @@ fn put_early_start<W: DeviceOut>(
     owner: Owner,
 ) -> Result<(), WriteFailed>
     requires { level ≤ 128 }
-    ensures bytes { Puts (W.contents out.old) (W.contents out.new) (spec.early_start mode (spec.owner_start level owner)) result }
-    ensures failed { Tells (W.has_failed out.old) (W.has_failed out.new) result }
+    ensures bytes { outputs.Puts W.DeviceOut out.old out.new (spec.early_start mode (spec.owner_start level owner)) result }
+    ensures failed { outputs.Tells W.DeviceOut out.old out.new result }
 {
     match mode {
         Mode::Full => put_line_start(out, line, level, owner.tag(), owner.letters()),
@@ -146,7 +145,7 @@ fn begin_late(mode: Mode, line: &mut Line, level: usize, owner: Owner)
 }
 
 impl Lines {
-    ghost use Rattle.dcm_tools.specs.Lines.{state};
+    ghost use Rattle.dcm_tools.specs.Lines.{state, shows, started_in, list_line};
 
     pub fn new(mode: Mode) -> Self
         ensures { state result ≡ spec.dump_start mode }
@@ -180,9 +179,9 @@ impl Lines {
         syntax: Syntax,
         size: u32,
     ) -> Result<(), WriteFailed>
-        ensures state { OnOk result (state self.new ≡ spec.begin (state self.old) owner (progress.started vr syntax size self.old.mode)) }
-        ensures bytes { Puts (W.contents out.old) (W.contents out.new) (spec.begin_writes (state self.old) owner (progress.started vr syntax size self.old.mode)) result }
-        ensures failed { Tells (W.has_failed out.old) (W.has_failed out.new) result }
+        ensures state { OnOk result (state self.new ≡ spec.begin (state self.old) owner (started_in self.old vr syntax size)) }
+        ensures bytes { outputs.Puts W.DeviceOut out.old out.new (spec.begin_writes (state self.old) owner (started_in self.old vr syntax size)) result }
+        ensures failed { outputs.Tells W.DeviceOut out.old out.new result }
     {
         put_early_start(self.mode, out, &mut self.line, self.lengths.depth(), owner)?;
         self.owner = None;
@@ -200,8 +199,8 @@ impl Lines {
     ) -> Result<(), WriteFailed>
         requires { length display.now ≤ 66 }
         ensures state { OnOk result (state self.new ≡ spec.deeper (state self.old) head.length) }
-        ensures bytes { Puts (W.contents out.old) (W.contents out.new) (dump.line (length self.old.lengths) head.tag (letters head.vr) display.now head.length 1) result }
-        ensures failed { Tells (W.has_failed out.old) (W.has_failed out.new) result }
+        ensures bytes { outputs.Puts W.DeviceOut out.old out.new (list_line self.old.lengths head display.now) result }
+        ensures failed { outputs.Tells W.DeviceOut out.old out.new result }
     {
         let level = self.lengths.depth();
         put_line(
@@ -224,9 +223,9 @@ impl Lines {
         head: Head,
         syntax: Syntax,
     ) -> Result<(), WriteFailed>
-        ensures state { OnOk result (state self.new ≡ spec.live_step (state self.old) (opens head.tag head.vr head.length syntax)) }
-        ensures bytes { Puts (W.contents out.old) (W.contents out.new) (spec.live_writes (state self.old) (opens head.tag head.vr head.length syntax)) result }
-        ensures failed { Tells (W.has_failed out.old) (W.has_failed out.new) result }
+        ensures state { OnOk result (state self.new ≡ spec.live_step (state self.old) (opening head syntax)) }
+        ensures bytes { outputs.Puts W.DeviceOut out.old out.new (spec.live_writes (state self.old) (opening head syntax)) result }
+        ensures failed { outputs.Tells W.DeviceOut out.old out.new result }
     {
         match form_of(syntax, head.vr, head.length) {
             Form::Value => {
@@ -242,8 +241,8 @@ impl Lines {
     fn show<W: DeviceOut>(&mut self, out: &mut Watched<W>, bytes: &[u8]) -> Result<(), WriteFailed>
         requires { self.old.is_lost ≡ false }
         ensures state { OnOk result (state self.new ≡ fold spec.dump_step (state self.old) (map value_byte bytes.now)) }
-        ensures bytes { Puts (W.contents out.old) (W.contents out.new) (outputs spec.dump_step spec.dump_writes (state self.old) (map value_byte bytes.now)) result }
-        ensures failed { Tells (W.has_failed out.old) (W.has_failed out.new) result }
+        ensures bytes { outputs.Puts W.DeviceOut out.old out.new (shows (state self.old) (map value_byte bytes.now)) result }
+        ensures failed { outputs.Tells W.DeviceOut out.old out.new result }
     {
         let Some(owner) = self.owner.take() else {
             return Ok(());
@@ -257,8 +256,8 @@ impl Lines {
 
     fn close<W: DeviceOut>(&mut self, out: &mut Watched<W>) -> Result<(), WriteFailed>
         ensures state { OnOk result (state self.new ≡ spec.live_step (state self.old) closes_leaf) }
-        ensures bytes { Puts (W.contents out.old) (W.contents out.new) (spec.live_writes (state self.old) closes_leaf) result }
-        ensures failed { Tells (W.has_failed out.old) (W.has_failed out.new) result }
+        ensures bytes { outputs.Puts W.DeviceOut out.old out.new (spec.live_writes (state self.old) closes_leaf) result }
+        ensures failed { outputs.Tells W.DeviceOut out.old out.new result }
     {
         let Some(owner) = self.owner.take() else {
             return Ok(());
@@ -276,8 +275,8 @@ impl Lines {
         declared: Length,
     ) -> Result<(), WriteFailed>
         ensures state { OnOk result (state self.new ≡ spec.live_step (state self.old) (opens_item declared)) }
-        ensures bytes { Puts (W.contents out.old) (W.contents out.new) (spec.live_writes (state self.old) (opens_item declared)) result }
-        ensures failed { Tells (W.has_failed out.old) (W.has_failed out.new) result }
+        ensures bytes { outputs.Puts W.DeviceOut out.old out.new (spec.live_writes (state self.old) (opens_item declared)) result }
+        ensures failed { outputs.Tells W.DeviceOut out.old out.new result }
     {
         let level = self.lengths.depth();
         put_line(
@@ -296,8 +295,8 @@ impl Lines {
 
     fn close_item<W: DeviceOut>(&mut self, out: &mut Watched<W>) -> Result<(), WriteFailed>
         ensures state { OnOk result (state self.new ≡ spec.live_step (state self.old) closes_item) }
-        ensures bytes { Puts (W.contents out.old) (W.contents out.new) (spec.live_writes (state self.old) closes_item) result }
-        ensures failed { Tells (W.has_failed out.old) (W.has_failed out.new) result }
+        ensures bytes { outputs.Puts W.DeviceOut out.old out.new (spec.live_writes (state self.old) closes_item) result }
+        ensures failed { outputs.Tells W.DeviceOut out.old out.new result }
     {
         let declared = self.lengths.close();
         let level = self.lengths.depth();
@@ -315,8 +314,8 @@ impl Lines {
 
     fn close_list<W: DeviceOut>(&mut self, out: &mut Watched<W>) -> Result<(), WriteFailed>
         ensures state { OnOk result (state self.new ≡ spec.live_step (state self.old) closes_sequence) }
-        ensures bytes { Puts (W.contents out.old) (W.contents out.new) (spec.live_writes (state self.old) closes_sequence) result }
-        ensures failed { Tells (W.has_failed out.old) (W.has_failed out.new) result }
+        ensures bytes { outputs.Puts W.DeviceOut out.old out.new (spec.live_writes (state self.old) closes_sequence) result }
+        ensures failed { outputs.Tells W.DeviceOut out.old out.new result }
     {
         let declared = self.lengths.close();
         let level = self.lengths.depth();
@@ -338,8 +337,8 @@ impl Lines {
         size: u32,
     ) -> Result<(), WriteFailed>
         ensures state { OnOk result (state self.new ≡ spec.live_step (state self.old) (opens_fragment size)) }
-        ensures bytes { Puts (W.contents out.old) (W.contents out.new) (spec.live_writes (state self.old) (opens_fragment size)) result }
-        ensures failed { Tells (W.has_failed out.old) (W.has_failed out.new) result }
+        ensures bytes { outputs.Puts W.DeviceOut out.old out.new (spec.live_writes (state self.old) (opens_fragment size)) result }
+        ensures failed { outputs.Tells W.DeviceOut out.old out.new result }
     {
         self.begin(out, Owner::Fragment, Vr::OB, Syntax::Little, size)
     }
@@ -351,8 +350,8 @@ impl Lines {
         token: Token,
     ) -> Result<(), WriteFailed>
         ensures state { OnOk result (state self.new ≡ fold spec.dump_step (state self.old) (atoms_of token.entry)) }
-        ensures bytes { Puts (W.contents out.old) (W.contents out.new) (outputs spec.dump_step spec.dump_writes (state self.old) (atoms_of token.entry)) result }
-        ensures failed { Tells (W.has_failed out.old) (W.has_failed out.new) result }
+        ensures bytes { outputs.Puts W.DeviceOut out.old out.new (shows (state self.old) (atoms_of token.entry)) result }
+        ensures failed { outputs.Tells W.DeviceOut out.old out.new result }
     {
         if self.is_lost {
             return Ok(());
