@@ -10,7 +10,8 @@ use Rattle.dcm_words.specs.Plans.{is_modify, planned as plan_of}
 use Rattle.dcm_cli.specs.declared.opened.Opened.{Opened}
 use Rattle.dcm_cli.specs.declared.opened.Unopened.{Unopened}
 use Rattle.dcm_cli.specs.declared.opened.Unopened.TheVariants.{Input, Output, Memory}
-use Rattle.dcm_cli.specs.Calls.{Reader, Writer}
+use Rattle.dcm_base.specs.Outputs.{Writer}
+use Rattle.dcm_cli.specs.Calls.{Reader}
 use Rattle.dcm_cli.specs.Devices.{MayAnswer, OpensDevices}
 use Rattle.dcm_cli.specs.Run.{Ran}
 use Rattle.dcm_cli.specs.Stops.{Stops}

@@ -1,5 +1,5 @@
 // What an edit asks of an open data set, which lies within so many items.
-ghost use Rattle.std.specs.Prelude.{◌≡◌, ◌&&◌, ◌||◌, ◌==◌, ◌<◌, ◌^◌, length, if◌then◌else◌};
+ghost use Rattle.std.specs.Prelude.{◌≡◌, ◌&&◌, ◌||◌, ◌==◌, ◌<◌, ◌^◌};
 ghost use Rattle.std.specs.List.{list_all};
 ghost use Rattle.dcm_base.specs.Tag.{same_tag, below, is_private as is_private_tag};
 ghost use Rattle.dcm_edit.specs.Edit as spec;

@@ -1,6 +1,6 @@
 // How far edits have come along an input.
 ghost use Rattle.std.specs.Prelude.{◌≡◌, ◌≤◌, ◌<◌, length, map, fold, Some, None, reverse};
-ghost use Rattle.dcm_base.specs.Atoms.{closes_leaf, closes_item, opens_item, opens_fragment, ends};
+ghost use Rattle.dcm_base.specs.Atoms.{closes_item, opens_item, ends};
 ghost use Rattle.dcm_base.specs.declared.length.Length.{Length as AnyLength};
 ghost use Rattle.dcm_stream.specs.Tokens.{atoms_of};
 ghost use Rattle.dcm_edit.specs.Asking as asking;

@@ -1,5 +1,5 @@
 // The edits of a command line.
-ghost use Rattle.std.specs.Prelude.{◌≡◌, ◌≤◌, length, map};
+ghost use Rattle.std.specs.Prelude.{◌≡◌, length, map};
 ghost use Rattle.dcm_edit.specs.EditWords.{meant_edits};
 ghost use Rattle.dcm_edit.specs.Making.{MakesAll, texts};
 ghost use Rattle.dcm_edit.specs.Meaning.{edit_of, AreMeant};
