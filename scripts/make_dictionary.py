@@ -26,6 +26,10 @@ ITEMS = 0xFFFE
 REPEATED = re.compile("002804[1-9A-F][0-3]|002808[0-9A-F][02348]|1000[0-9A-F]{3}[0-5]|1010[0-9A-F]{4}")
 
 
+# The most columns of a line of the table.
+WIDTH = 400
+
+
 class Element(NamedTuple):
     number: int
     vr: str
@@ -67,13 +71,25 @@ def chosen(elements: list[Element]) -> list[Element]:
     return table
 
 
+def packed(parts: list[str], indent: str) -> str:
+    """Lines of as many parts as fit. Fewer lines make a smaller claim on the memory of the gate, which counts them."""
+    lines, line = [], indent
+    for part in parts:
+        if len(line) + len(part) > WIDTH:
+            lines.append(line.rstrip())
+            line = indent
+        line += part
+    return "\n".join([*lines, line.rstrip()])
+
+
 def rust(edition: str, elements: list[Element]) -> str:
     """The file of the table."""
     text = "".join(e.keyword + "\n" for e in elements)
+    keywords = packed([e.keyword + "\\n" for e in elements], "").replace("\n", "\\\n")
     rows, start = [], 0
     for e in elements:
         tag = f"0x{e.number >> 16:04X}_{e.number & 0xFFFF:04X}"
-        rows.append(f"    ({tag}, Vr::{e.vr}, {start}, {len(e.keyword)}), // {e.keyword}\n")
+        rows.append(f"({tag}, Vr::{e.vr}, {start}, {len(e.keyword)}), ")
         start += len(e.keyword) + 1
     return f"""//! The data dictionary of the standard (PS3.6 sections 6 to 9, PS3.7 E), edition {edition}.
 //! `scripts/make_dictionary.py` wrote this file.
@@ -84,11 +100,13 @@ pub type Entry = (u32, Vr, u32, u8);
 
 /// The keywords of the elements, one a line.
 pub const KEYWORDS: &[u8; {len(text)}] = b"\\
-{text}";
+{keywords}";
 
 /// The elements, in tag order.
+#[rattlefmt::skip]
 pub const STANDARD: [Entry; {len(elements)}] = [
-{"".join(rows)}];
+{packed(rows, "    ")}
+];
 """
 
 
