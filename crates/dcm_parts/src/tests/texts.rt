@@ -1,4 +1,5 @@
-use dcm_base::{MemOut, Mode, Syntax, Vr, Watched};
+use arrayvec::ArrayVec;
+use dcm_base::{MemOut, Mode, Syntax, Vr, Watched, put_all};
 use dcm_value::{ValueText, escape, swap};
 use std::test::Fail;
 
