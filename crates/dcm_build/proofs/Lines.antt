@@ -6,3 +6,4 @@ pub mod Forms
 pub mod Newlines
 pub mod Ends
 pub mod Pieces
+pub mod Spaces

@@ -281,10 +281,11 @@ fn parts_meaning(parts: LineParts<'_>) -> Meaning<'_>
 pub fn means<'a>(line: &'a [u8]) -> Meaning<'a>
     ensures { shown.meaning_of result ≡ spec.means line.now }
 {
-    if is_skipped(line) {
+    let text = without_spaces(line);
+    if is_end(text) {
         return Meaning::Nothing;
     }
-    match parts(line) {
+    match parts(text) {
         Some(parts) => parts_meaning(parts),
         None => Meaning::NoLine,
     }

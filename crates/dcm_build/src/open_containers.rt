@@ -41,25 +41,19 @@ impl Model for OpenContainers {
     ghost invariant = { λ s. Nests (reverse s.outermost_first.items) };
 }
 
-/// Behind one thing more that is open.
-fn reached_in(outer: Option<Tag>, inner: Open) -> Option<Tag>
-    ensures { result ≡ spec.reached_in outer (inner ∷ []) }
-{
-    match inner {
-        Open::Sequence | Open::FragmentList => outer,
-        Open::Item(reached) => reached,
-    }
-}
-
-/// Behind all that is open, the outermost first.
-fn reached_behind(top: Option<Tag>, outermost_first: &[Open]) -> Option<Tag>
+/// The tag of the last element of the innermost data set that these containers, the outermost first, stand in: that of the
+/// innermost item, or of the top data set.
+fn reached_among(top: Option<Tag>, outermost_first: &[Open]) -> Option<Tag>
     ensures { result ≡ spec.reached_in top (reverse outermost_first.now) }
 {
-    let mut reached = top;
-    for inner in outermost_first {
-        reached = reached_in(reached, *inner);
+    let mut rest = outermost_first;
+    while let [outer @ .., innermost] = rest {
+        match innermost {
+            Open::Item(reached) => return *reached,
+            Open::Sequence | Open::FragmentList => rest = outer,
+        }
     }
-    reached
+    top
 }
 
 fn counts(container: Open) -> usize
@@ -109,7 +103,7 @@ impl OpenContainers {
     pub fn reached(&self) -> Option<Tag>
         ensures { result ≡ spec.reached_in self.now.reached self.now.containers }
     {
-        reached_behind(self.top_reached, self.outermost_first.as_slice())
+        reached_among(self.top_reached, self.outermost_first.as_slice())
     }
 
     /// How many sequences and fragment lists are open.

@@ -1,13 +1,12 @@
 -- How deep what stands open is, and how it is seen from the outermost on.
-use Rattle.std.proofs.Common.{◌≡◌, ◌∙◌, ap, sym, refl, ℕ, suc, ◌+◌, ◌<◌, ◌≤◌, List, [], ◌∷◌, length, take, get_or, reverse, Option, arith}
+use Rattle.std.proofs.Common.{◌≡◌, ◌∙◌, ap, refl, ℕ, suc, ◌+◌, ◌<◌, ◌≤◌, List, [], ◌∷◌, length, take, get_or, reverse, arith}
 use Rattle.std.proofs.lemmas.List.{take_more, length-reverse}
-use Rattle.dcm_base.specs.declared.tag.Tag.{Tag}
 use Rattle.dcm_base.specs.declared.level.Container.TheVariants.{Sequence as a_sequence}
 use Rattle.dcm_stream.proofs.Containers.Reversed.{turned_more}
 use Rattle.dcm_build.specs.declared.open_containers.Open.{Open}
 use Rattle.dcm_build.specs.declared.open_containers.Open.TheVariants.{Sequence, FragmentList, Item}
 use Rattle.dcm_build.specs.Nesting.{InSequences, Nests}
-use Rattle.dcm_build.specs.OpenContainers.{container_of, lists_open, reached_in}
+use Rattle.dcm_build.specs.OpenContainers.{container_of, lists_open}
 
 -- an item has a sequence for itself
 mutual
@@ -59,15 +58,3 @@ lists_step xs i d count one h e f =
 
 pub one_few : (x : Open) (one : ℕ) → one ≡ lists_open (x ∷ []) → one ≤ 1
 one_few x one e = let few = few_of x in omega (arith, few)
-
-reached_of : (top : Option Tag) (inner : Open) (outer : List Open) → reached_in (reached_in top outer) (inner ∷ []) ≡ reached_in top (inner ∷ outer)
-reached_of top Sequence outer = refl
-reached_of top FragmentList outer = refl
-reached_of top (Item reached) outer = refl
-
-pub reached_step : (top : Option Tag) (xs : List Open) (i : ℕ) (d : Open) (before now : Option Tag) → i < length xs → before ≡ reached_in top (reverse (take i xs)) → now ≡ reached_in before (get_or xs i d ∷ []) → now ≡ reached_in top (reverse (take (i + 1) xs))
-reached_step top xs i d before now h e f =
-    f
-    ∙ ap (λ r. reached_in r (get_or xs i d ∷ [])) e
-    ∙ reached_of top (get_or xs i d) (reverse (take i xs))
-    ∙ ap (reached_in top) (sym (turned_take xs i d h))
