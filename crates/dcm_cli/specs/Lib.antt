@@ -1,5 +1,6 @@
 pub mod Told
 pub mod Answer
+pub mod Pieces
 pub mod Pass
 pub mod SinkPass
 pub mod EditPass

@@ -7,7 +7,8 @@ ghost use Rattle.dcm_cli.specs.Lines as lines;
 ghost use Rattle.dcm_cli.specs.Pass as spec;
 
 use crate::ending::{Ending, Verdict};
-use dcm_base::{DeviceIn, DeviceOut, Watched, get_some};
+use crate::pieces::next_piece;
+use dcm_base::{DeviceIn, DeviceOut, Watched};
 use dcm_build::{BuildHalt, Builder};
 use dcm_words::Build;
 
@@ -52,14 +53,12 @@ fn build_lines<R: DeviceIn, W: DeviceOut>(
     let mut builder = Builder::new(limit);
     let mut read = 0;
     loop {
-        let n = match get_some(input, buffer) {
-            Ok(0) => return ending_of(end(&mut builder, out)),
-            Ok(n) => n,
+        let size = match next_piece(input, buffer, &mut read) {
+            Ok(Some(size)) => size,
+            Ok(None) => return ending_of(end(&mut builder, out)),
             Err(_) => return Ending::Unread(read),
         };
-        read += n as u64;
-        let (piece, _) = buffer.split_at(n);
-        if let Err(halt) = builder.feed(piece, out) {
+        if let Err(halt) = builder.feed(&buffer[..size], out) {
             return ending_of(Err(halt));
         }
     }

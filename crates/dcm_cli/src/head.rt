@@ -1,12 +1,13 @@
 // The head of a file, out of a device.
-ghost use Rattle.std.specs.Prelude.{◌≡◌, ◌≤◌, ◌<◌, ◌^◌, length, IfOk};
+ghost use Rattle.std.specs.Prelude.{◌≡◌, ◌≤◌, ◌<◌, ◌^◌, length, false, IfOk};
 ghost use Rattle.dcm_head.specs.MetaReading.{HasEnded, at_start, meta_finished};
 ghost use Rattle.dcm_cli.specs.Calls as calls;
 ghost use Rattle.dcm_cli.specs.Pass as spec;
 ghost use Rattle.dcm_cli.specs.Stops.{HeadStops};
 
 use crate::ending::HeadEnding;
-use dcm_base::{DeviceIn, Watched, get_some};
+use crate::pieces::next_piece;
+use dcm_base::{DeviceIn, Watched};
 use dcm_head::{Meta, MetaRead};
 
 /// Where a data set begins: with a byte of an earlier piece, and then within the bytes that the buffer holds.
@@ -40,6 +41,19 @@ fn finish_head(meta: &mut Meta, read: u64) -> Result<Begun, HeadEnding>
     }
 }
 
+/// A data set begins in a piece of this size. So many bytes were read, with that piece.
+fn begun_in(size: usize, used: usize, ahead: Option<u8>, read: u64) -> Begun
+    ensures { result ≡ record { ahead = ahead; used = used; filled = size; read = read; is_over = false } }
+{
+    Begun {
+        ahead,
+        used,
+        filled: size,
+        read,
+        is_over: false,
+    }
+}
+
 /// Reads the head of a file.
 pub fn read_head_of<R: DeviceIn>(
     meta: &mut Meta,
@@ -57,25 +71,15 @@ pub fn read_head_of<R: DeviceIn>(
 {
     let mut read: u64 = 0;
     loop {
-        let n = match get_some(input, buffer) {
-            Ok(0) => return finish_head(meta, read),
-            Ok(n) => n,
+        let size = match next_piece(input, buffer, &mut read) {
+            Ok(Some(size)) => size,
+            Ok(None) => return finish_head(meta, read),
             Err(_) => return Err(HeadEnding::Unread(read)),
         };
-        read += n as u64;
-        let (piece, _) = buffer.split_at(n);
-        match meta.feed(piece) {
+        match meta.feed(&buffer[..size]) {
             MetaRead::More => {}
             MetaRead::Refused(stop) => return Err(HeadEnding::Refused(stop)),
-            MetaRead::Ended { used, ahead } => {
-                return Ok(Begun {
-                    ahead,
-                    used,
-                    filled: n,
-                    read,
-                    is_over: false,
-                });
-            }
+            MetaRead::Ended { used, ahead } => return Ok(begun_in(size, used, ahead, read)),
         }
     }
 }

@@ -2,7 +2,7 @@
 //!
 //! - `run::run` does a job: it reads its input in pieces of at most 262,144 bytes, writes its output as it goes, reports what
 //!   is wrong, and answers how it ended. Its contract is the theorem of the whole.
-//! - `dump`, `convert`, `modify` and `build` are the work on the four kinds of jobs, by `head`, `pass` and `rewrite`.
+//! - `dump`, `convert`, `modify` and `build` are the work on the four kinds of jobs, by `pieces`, `head`, `pass` and `rewrite`.
 //! - `tell` and `tell_open` report words that are refused and files that cannot be opened.
 //! - `obey` does what words say, over any system that opens devices (`System`); `dcmtools` does it over the real one, and
 //!   `main` calls it.
@@ -29,6 +29,7 @@ mod modify;
 pub mod opened;
 pub mod output;
 mod pass;
+mod pieces;
 mod program;
 mod rewrite;
 pub mod run;

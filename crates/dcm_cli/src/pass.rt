@@ -9,7 +9,8 @@ ghost use Rattle.dcm_cli.specs.SinkPass as sink_pass;
 
 use crate::ending::{Ending, ending_of};
 use crate::head::Begun;
-use dcm_base::{Coding, DeviceIn, Watched, get_some};
+use crate::pieces::next_piece;
+use dcm_base::{Coding, DeviceIn, Watched};
 use dcm_stream::{Halt, Machine, Sink};
 
 /// Feeds a machine that has not halted.
@@ -74,14 +75,12 @@ pub fn read_rest<R: DeviceIn, S: Sink>(
 {
     let mut read = read_before;
     loop {
-        let n = match get_some(input, buffer) {
-            Ok(0) => return ending_of(end(machine, sink)),
-            Ok(n) => n,
+        let size = match next_piece(input, buffer, &mut read) {
+            Ok(Some(size)) => size,
+            Ok(None) => return ending_of(end(machine, sink)),
             Err(_) => return Ending::Unread(read),
         };
-        read += n as u64;
-        let (piece, _) = buffer.split_at(n);
-        if let Err(halt) = feed(piece, machine, sink) {
+        if let Err(halt) = feed(&buffer[..size], machine, sink) {
             return ending_of(Err(halt));
         }
     }

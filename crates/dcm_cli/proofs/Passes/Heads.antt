@@ -1,5 +1,5 @@
 -- Where a data set begins in the pieces that were read.
-use Rattle.std.proofs.Common.{◌≡◌, ◌∙◌, ap, sym, subst, ℕ, ◌+◌, ◌≤◌, List, [], ◌∷◌, ◌++◌, length, take, drop, length-append, false, Option, None, Some, arith, inl, ◌<◌}
+use Rattle.std.proofs.Common.{◌≡◌, ◌∙◌, ap, sym, subst, ℕ, ◌+◌, ◌≤◌, List, [], ◌∷◌, ◌++◌, length, take, drop, length-append, false, Option, None, Some, arith, inl}
 use Rattle.std.specs.Prelude.{fold, option_to_list, ◌-◌}
 use Rattle.std.proofs.lemmas.List.{drop-take, length-take, length-drop}
 use Rattle.std.proofs.lemmas.List.Sums.{fold-append}
@@ -51,7 +51,3 @@ begins_in r old front piece buffer n used read ahead left o bytes e ended begins
 -- a head that goes on, by its bytes
 pub going_on : (r : Reading) (front : List ℕ) → r ≡ head_read front → r.end ≡ None → (head_read front).end ≡ None
 going_on r front is none = ap (λ (x : Reading). x.end) (sym is) ∙ none
-
--- what is left to be read of a head falls
-pub less_left : (read n : ℕ) → read < 16528 → (n ≡ 0 → ⊥) → 16528 - (read + n) < 16528 - read
-less_left read n few some = omega (arith, few, some)

@@ -7,8 +7,8 @@ use Rattle.dcm_build.specs.Building.{build_start, build_step, build_writes, read
 use Rattle.dcm_cli.proofs.build.build_lines.Given as goal
 
 -- these bytes were read, and the builder went over them
-abbrev pub invariant-loop-builder : goal.invariant-loop-builder
-invariant-loop-builder g l = record {
+abbrev pub invariant-loop-size : goal.invariant-loop-size
+invariant-loop-size g l = record {
   front : List ℕ;
   given : g.R.DeviceIn.remaining l.fn.input ≡ prepend_known front (g.R.DeviceIn.remaining l.input);
   state : l.builder.state ≡ fold build_step (build_start l.fn.limit) front;
@@ -22,5 +22,5 @@ invariant-loop-builder g l = record {
   size : length l.buffer ≡ length l.fn.buffer;
 }
 
-abbrev pub decreases-loop-builder : goal.decreases-loop-builder
-decreases-loop-builder g l = 2 ^ 62 - l.read
+abbrev pub decreases-loop-size : goal.decreases-loop-size
+decreases-loop-size g l = 2 ^ 62 - l.read

@@ -4,8 +4,8 @@ use Rattle.dcm_cli.specs.Pass.{head_read}
 use Rattle.dcm_cli.proofs.head.read_head_of.Given as goal
 
 -- these bytes were read, and the head goes on
-abbrev pub invariant-loop-meta : goal.invariant-loop-meta
-invariant-loop-meta g l = record {
+abbrev pub invariant-loop-size : goal.invariant-loop-size
+invariant-loop-size g l = record {
   front : List ℕ;
   given : g.R.DeviceIn.remaining l.fn.input ≡ prepend_known front (g.R.DeviceIn.remaining l.input);
   reading : l.meta ≡ head_read front;
@@ -17,5 +17,5 @@ invariant-loop-meta g l = record {
   size : length l.buffer ≡ length l.fn.buffer;
 }
 
-abbrev pub decreases-loop-meta : goal.decreases-loop-meta
-decreases-loop-meta g l = 16528 - l.read
+abbrev pub decreases-loop-size : goal.decreases-loop-size
+decreases-loop-size g l = 16528 - l.read

@@ -5,8 +5,8 @@ use Rattle.dcm_cli.specs.Pass as spec
 use Rattle.dcm_cli.proofs.pass.read_rest.Given as goal
 
 -- these bytes were read, and the machine and its sink went over them
-abbrev pub invariant-loop-machine : goal.invariant-loop-machine
-invariant-loop-machine g l = record {
+abbrev pub invariant-loop-size : goal.invariant-loop-size
+invariant-loop-size g l = record {
   front : List ℕ;
   given : g.R.DeviceIn.remaining l.fn.input ≡ prepend_known front (g.R.DeviceIn.remaining l.input);
   fed : spec.Fed g.S.Sink.bar g.S.Sink.step g.S.Sink.writes l.fn.machine (g.S.Sink.state l.fn.sink) (g.S.Sink.contents l.fn.sink) (g.S.Sink.has_failed l.fn.sink) l.machine (g.S.Sink.state l.sink) (g.S.Sink.contents l.sink) (g.S.Sink.has_failed l.sink) front (Ok tt);
@@ -16,5 +16,5 @@ invariant-loop-machine g l = record {
   size : length l.buffer ≡ length l.fn.buffer;
 }
 
-abbrev pub decreases-loop-machine : goal.decreases-loop-machine
-decreases-loop-machine g l = 2 ^ 62 - l.read
+abbrev pub decreases-loop-size : goal.decreases-loop-size
+decreases-loop-size g l = 2 ^ 62 - l.read
