@@ -7,10 +7,11 @@ changes its input, beside `dcmconv +t=`.
 The inputs are made in a temporary directory, which takes a little more than five times `--mebibytes` and is removed at
 the end. They are read from the page cache. Dumps go to /dev/null. A conversion, or a file that is built from a dump, is
 written into the same directory, as is that of `cat FILE > OUTPUT` beside it, and each starts without that file; so is a
-file with edits. One run prints ten tables: throughput of dumps, of conversions, of files that are built and of files
+file with edits. One run prints eleven tables: throughput of dumps, of conversions, of files that are built and of files
 with edits (the median of the rounds, in which the programs take turns, over the bytes of the input), time of dumps of small
-elements beside a bound, and of other work on them and edits of them (the best of the rounds), time of a whole process on a small file, and peak
-memory, of files with edits in a table of its own. The bound is dump_bound.c, built with `cc` where there is one.
+elements beside a bound, and of other work on them, edits of them and the same work with each dictionary (the best of the rounds),
+time of a whole process on a small file, and peak memory, of files with edits in a table of its own. The bound is dump_bound.c,
+built with `cc` where there is one.
 """
 
 import argparse
@@ -406,6 +407,22 @@ def editing_programs(binary):
     }
 
 
+def with_dictionary(binary, option):
+    """dcmtools with this option, which names a dictionary."""
+    return lambda work: ([binary, work.tool, option, *words_behind(work)], os.devnull)
+
+
+def with_both_dictionaries(run, binary):
+    """The programs, and after dcmtools the same with the whole dictionary."""
+    first = {"cat": run["cat"], "dcmtools": run["dcmtools"], "dcmtools +dict": with_dictionary(binary, "+dict")}
+    return {**first, **run}
+
+
+def from_implicit(works):
+    """The conversion of the structured report from implicit VR."""
+    return next(work for work in works if work.tool == "dcmconv" and work.path.endswith("+ti"))
+
+
 def keywords_of_the_dictionary():
     """The lines that the bound reads: the rows of the dictionary that dcmtools has."""
     source = (TOP / "crates/dcm_base/src/dictionary.rt").read_text()
@@ -551,7 +568,10 @@ def main():
         print_best(f"Other work on {title}", others_of_small, others, chosen.rounds)
         converting_last = dict(reversed([item for item in editing.items() if item[0] != "cat"]))
         print_best(f"Edits of {title}", edits_of_small, converting_last, chosen.rounds)
-        print_starts(small, run, chosen.starts)
+        dictionaries = {option: with_dictionary(binary, option) for option in ("-dict", "+dict")}
+        of_report = [dumps_of_small[0], from_implicit(others_of_small), *edits_of_small]
+        print_best(f"The same with each dictionary, of {title}", of_report, dictionaries, chosen.rounds)
+        print_starts(small, with_both_dictionaries(run, binary), chosen.starts)
         print_memory(dumps + conversions + builds, run)
         print_memory(modifications, editing)
     print(f"\nAfter: {machine()}")

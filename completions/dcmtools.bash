@@ -18,8 +18,8 @@ _dcmtools_words() {
     done < <(compgen -W "$1" -- "$2")
 }
 
-# The keywords of the dictionary (crates/dcm_base/src/dictionary.rt) that an edit may name: those of values, and those of
-# sequences.
+# The keywords of the dictionary's extract (crates/dcm_base/src/dictionary.rt) that an edit may name: those of values, and those
+# of sequences. With +dict it may name more.
 _dcmtools_values='
     SpecificCharacterSet ImageType InstanceCreationDate InstanceCreationTime SOPClassUID SOPInstanceUID StudyDate
     SeriesDate AcquisitionDate ContentDate AcquisitionDateTime StudyTime SeriesTime AcquisitionTime ContentTime
@@ -72,10 +72,10 @@ _dcmtools() {
         return
     fi
     case ${COMP_WORDS[1]} in
-        dcmdump) switches='-L +L +fo -f -ti -te -tb' ;;
-        dcmconv) switches='+t= +ti +te +tb -e +fo' ;;
+        dcmdump) switches='-L +L +fo -f -ti -te -tb -dict +dict' ;;
+        dcmconv) switches='+t= +ti +te +tb -e +fo -dict +dict' ;;
         dump2dcm) switches='+l -e' ;;
-        dcmodify) switches='-i -m -e -ma -ea -ep' ;;
+        dcmodify) switches='-i -m -e -ma -ea -ep -dict +dict' ;;
         *) return ;;
     esac
     case ${COMP_WORDS[1]}${COMP_WORDS[COMP_CWORD - 1]} in

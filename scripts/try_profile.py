@@ -191,6 +191,112 @@ WORDS = [
     refused("U1 is before V6", "dcmodify -x FILE FILE", "U1 in edit 1: bad option or path"),
     converts("-e changes nothing", "dcmconv -e FILE -", LITTLE, LITTLE, AB, AB),
     converts("of +te and +tb the last one wins", "dcmconv +te +tb FILE -", LITTLE, BIG, AB, leaf(NAME, "PN", b"AB", BIG)),
+    refused("dump2dcm has no +dict", "dump2dcm FILE +dict out", "V2 at word 3: unknown option"),
+    refused("dcmodify: +dict is before the paths", "dcmodify FILE out +dict", "V4: wrong number of paths"),
+    refused("dcmodify: +dict has no number", "dcmodify +dict -e Rows +dict -x FILE out", "U1 in edit 2: bad option or path"),
+    refused("dcmodify: +dict after -e is a keyword", "dcmodify -e +dict FILE out", "U2 in edit 1: unknown tag"),
+]
+
+TUBE = 0x00181151
+SMALLEST = 0x00280106
+WAVEFORM = 0x54001010
+OVERLAY = 0x60003000
+DOSES = 0x300A0010
+DOSE = 0x300A0012
+UNKNOWN = "Unknown Tag & Data"
+
+DOSE_ITEM = item(leaf(DOSE, "IS", b"1 ", IMPLICIT), IMPLICIT)
+KNOWN_DOSES = sequence(DOSES, DOSE_ITEM, IMPLICIT)
+
+
+DOSE_LINES = (
+    line(DOSES, "SQ", "(Sequence with explicit length)", 18, 1, "DoseReferenceSequence")
+    + line(0xFFFEE000, "na", "(Item with explicit length)", 10, 1, "Item", 1)
+    + line(DOSE, "IS", "[1]", 2, 1, "DoseReferenceNumber", 2)
+    + line(0xFFFEE00D, "na", "(ItemDelimitationItem for re-encoding)", 0, 0, "ItemDelimitationItem", 1)
+    + line(0xFFFEE0DD, "na", "(SequenceDelimitationItem for re-encod.)", 0, 0, "SequenceDelimitationItem")
+)
+
+
+def unknown_doses(uid, vr_inside, number):
+    """UN of undefined length with an item of undefined length, and its lines."""
+    inside = open_item(leaf(DOSE, "", b"1 ", IMPLICIT), IMPLICIT) + head(0xFFFEE0DD, "", 0, IMPLICIT)
+    return head(0x00091010, "UN", UNDEFINED, uid) + inside, (
+        line(0x00091010, "UN", "(Sequence with undefined length)", "u/l", 1, UNKNOWN)
+        + line(0xFFFEE000, "na", "(Item with undefined length)", "u/l", 1, "Item", 1)
+        + line(DOSE, vr_inside, number, 2, 1, "DoseReferenceNumber" if vr_inside == "IS" else UNKNOWN, 2)
+        + line(0xFFFEE00D, "na", "(ItemDelimitationItem)", 0, 0, "ItemDelimitationItem", 1)
+        + line(0xFFFEE0DD, "na", "(SequenceDelimitationItem)", 0, 0, "SequenceDelimitationItem")
+    )
+
+
+BETWEEN = leaf(SMALLEST, "", b"\1\2", IMPLICIT) + leaf(WAVEFORM, "", b"\1\2", IMPLICIT) + leaf(OVERLAY, "", b"\1\2", IMPLICIT)
+
+DICTIONARIES = [
+    dumps("a keyword that the extract lacks", LITTLE, leaf(TUBE, "IS", b"90"), line(TUBE, "IS", "[90]", 2, 1, UNKNOWN)),
+    dumps("+dict: the keyword", LITTLE, leaf(TUBE, "IS", b"90"), line(TUBE, "IS", "[90]", 2, 1, "XRayTubeCurrent"), "dcmdump FILE +dict"),
+    dumps("of +dict and -dict the last one wins", LITTLE, leaf(TUBE, "IS", b"90"), line(TUBE, "IS", "[90]", 2, 1, UNKNOWN), "dcmdump +dict FILE -dict"),
+    Case(
+        "+dict: keywords of the meta group",
+        "dcmdump +dict FILE",
+        after_prefix(group(leaf(0x00020010, "UI", padded(LITTLE)), leaf(0x00020017, "AE", b"A ")) + AB),
+        FILE_HEADER
+        + line(0x00020000, "UL", "38", 4, 1, "FileMetaInformationGroupLength")
+        + line(0x00020010, "UI", "=LittleEndianExplicit", 20, 1, "TransferSyntaxUID")
+        + line(0x00020017, "AE", "[A]", 2, 1, "SendingApplicationEntityTitle")
+        + "\n" + set_header("LittleEndianExplicit") + NAME_LINE,
+    ),
+    dumps("implicit: what the extract lacks is UN", IMPLICIT, KNOWN_DOSES, line(DOSES, "UN", DOSE_ITEM.hex("\\"), 18, 1, UNKNOWN)),
+    dumps("implicit, with +dict: a sequence", IMPLICIT, KNOWN_DOSES, DOSE_LINES, "dcmdump +dict FILE"),
+    Case("a data set alone, with +dict", "dcmdump -f -ti +dict FILE", KNOWN_DOSES, set_header("LittleEndianImplicit") + DOSE_LINES),
+    dumps("UN of undefined length in big endian, without +dict", BIG, *unknown_doses(BIG, "UN", "31\\20")),
+    dumps("UN of undefined length in big endian, with +dict", BIG, *unknown_doses(BIG, "IS", "[1]"), "dcmdump +dict FILE"),
+    dumps(
+        "+dict: elements between two VRs and of repeating groups are UN",
+        IMPLICIT,
+        BETWEEN,
+        "".join(line(tag, "UN", "01\\02", 2, 1, UNKNOWN) for tag in (SMALLEST, WAVEFORM, OVERLAY)),
+        "dcmdump +dict FILE",
+    ),
+    dumps("+dict: PixelData is OW", IMPLICIT, leaf(PIXELS, "", b"\1\2", IMPLICIT), line(PIXELS, "OW", "0201", 2, 1, "PixelData"), "dcmdump +dict FILE"),
+    dumps(
+        "+dict: private elements are as before",
+        IMPLICIT,
+        leaf(0x00091001, "", b"AB", IMPLICIT),
+        line(0x00091001, "UN", "41\\42", 2, 1, UNKNOWN),
+        "dcmdump +dict FILE",
+    ),
+    converts("a sequence that the extract lacks becomes UN", "dcmconv +te FILE -", IMPLICIT, LITTLE, KNOWN_DOSES, leaf(DOSES, "UN", DOSE_ITEM)),
+    converts("with +dict it stays a sequence", "dcmconv +te +dict FILE -", IMPLICIT, LITTLE, KNOWN_DOSES, open_sequence(DOSES, open_item(leaf(DOSE, "IS", b"1 ")))),
+    converts(
+        "what is inside UN of undefined length gets its VR",
+        "dcmconv +dict +te FILE -",
+        BIG,
+        LITTLE,
+        unknown_doses(BIG, "IS", "[1]")[0],
+        open_sequence(0x00091010, open_item(leaf(DOSE, "IS", b"1 "))),
+    ),
+    fault(
+        "bytes that are no items, by +dict",
+        "dcmdump +dict FILE",
+        file_of(IMPLICIT, leaf(DOSES, "", b"ab", IMPLICIT)),
+        "R10",
+        AT_IMPLICIT + 8,
+        "passes the end of its container",
+        shown(IMPLICIT, line(DOSES, "SQ", "(Sequence with explicit length)", 2, 1, "DoseReferenceSequence")),
+    ),
+    dumps("the same without +dict", IMPLICIT, leaf(DOSES, "", b"ab", IMPLICIT), line(DOSES, "UN", "61\\62", 2, 1, UNKNOWN)),
+    refused("an edit of what the extract lacks", "dcmodify -m XRayTubeCurrent=90 FILE out", "U2 in edit 1: unknown tag"),
+    refused("an edit of what is between two VRs", "dcmodify +dict -m SmallestImagePixelValue=1 FILE out", "U2 in edit 1: unknown tag"),
+    Case("+dict: an edit", "dcmodify +dict -m XRayTubeCurrent=9 FILE -", file_of(LITTLE, leaf(TUBE, "IS", b"90")), file_of(LITTLE, leaf(TUBE, "IS", b"9 "))),
+    Case("+dict after the edit", "dcmodify -i '(0018,1151)=9' +dict FILE -", file_of(LITTLE, b""), file_of(LITTLE, leaf(TUBE, "IS", b"9 "))),
+    Case(
+        "+dict: an edit reaches into the sequence",
+        "dcmodify -ea DoseReferenceNumber +dict FILE -",
+        file_of(IMPLICIT, KNOWN_DOSES),
+        file_of(IMPLICIT, open_sequence(DOSES, open_item(b"", IMPLICIT), IMPLICIT)),
+    ),
+    Case("+dict: CommandGroupLength is not written", "dcmodify +dict -i CommandGroupLength=5 FILE -", file_of(LITTLE, AB), file_of(LITTLE, AB)),
 ]
 
 READING = [
@@ -571,7 +677,7 @@ def wrong_case(binary, case):
 
 def main():
     binary = os.path.abspath(sys.argv[1] if len(sys.argv) > 1 else os.path.join(ROOT, "crates/dcmtools/out/dcmtools"))
-    cases = WORDS + READING + SHOWING + WRITING + BUILDING + EDITING + FAULTS
+    cases = WORDS + READING + DICTIONARIES + SHOWING + WRITING + BUILDING + EDITING + FAULTS
     answers = [(case.claim, wrong_case(binary, case)) for case in cases]
     for claim, wrong in answers:
         if wrong:

@@ -33,6 +33,41 @@ WITH_SEQUENCE = (
     + NAME[172:]
 )
 
+# a file with an element of the standard that the extract lacks, and its lines with both dictionaries
+TUBE = GROUP + b"\x18\0\x51\x11IS\4\x00120 "
+TUBE_CHANGED = GROUP + b"\x18\0\x51\x11IS\2\x0090"
+TUBE_LINES = [
+    (
+        "# Dicom-File-Format\n\n# Dicom-Meta-Information-Header\n# Used TransferSyntax: LittleEndianExplicit\n"
+        "(0002,0000) UL 28                                       #   4, 1 FileMetaInformationGroupLength\n"
+        "(0002,0010) UI =LittleEndianExplicit                    #  20, 1 TransferSyntaxUID\n"
+        "\n# Dicom-Data-Set\n# Used TransferSyntax: LittleEndianExplicit\n"
+        f"(0018,1151) IS [120]                                    #   4, 1 {keyword}\n"
+    ).encode()
+    for keyword in ("Unknown Tag & Data", "XRayTubeCurrent")
+]
+
+# a treatment plan in implicit VR whose sequence the extract lacks, and what is made of it
+IMPLICIT_GROUP = bytes(128) + b"DICM\2\0\0\0UL\4\0\x1a\0\0\0\2\0\x10\0UI\x12\x001.2.840.10008.1.2\0"
+REFERENCES = b"\xfe\xff\0\xe0\x0a\0\0\0\x0a\x30\x12\0\2\0\0\x001 "
+PLAN = IMPLICIT_GROUP + b"\x08\0\x60\0\6\0\0\0RTPLAN\x0a\x30\x10\0\x12\0\0\0" + REFERENCES
+OPAQUE_PLAN = GROUP + b"\x08\0\x60\0CS\6\0RTPLAN\x0a\x30\x10\0UN\0\0\x12\0\0\0" + REFERENCES
+OPEN_ITEM = b"\xfe\xff\0\xe0\xff\xff\xff\xff"
+ENDS = b"\xfe\xff\x0d\xe0\0\0\0\0\xfe\xff\xdd\xe0\0\0\0\0"
+EXPLICIT_PLAN = (
+    GROUP
+    + b"\x08\0\x60\0CS\6\0RTPLAN\x0a\x30\x10\0SQ\0\0\xff\xff\xff\xff"
+    + OPEN_ITEM
+    + b"\x0a\x30\x12\0IS\2\x001 "
+    + ENDS
+)
+
+
+def implicit_plan(number):
+    opened = b"\x08\0\x60\0\6\0\0\0RTPLAN\x0a\x30\x10\0\xff\xff\xff\xff" + OPEN_ITEM
+    return IMPLICIT_GROUP + opened + b"\x0a\x30\x12\0\2\0\0\0" + number + ENDS
+
+
 # lines that are built into name.dcm, and others that are at fault
 LINES = b"(0002,0010) UI =LittleEndianExplicit\n(0010,0010) PN [AB^CD]\n"
 BAD_LINES = LINES + b"(0010,0010) PN [AB^CD]\n"
@@ -45,6 +80,9 @@ FILES = {
     "jpeg.dcm": JPEG,
     "sequence.dcm": WITH_SEQUENCE,
     "twice.dcm": TWICE,
+    "tube.dcm": TUBE,
+    "plan.dcm": PLAN,
+    "private.dcm": NAME + b"\x11\0\x10\0LO\2\0AB",
     "empty": b"",
     "cut": NAME[:182],
     "older": b"older" * 100,
@@ -105,6 +143,19 @@ CASES = [
     ("a full disk for a modification", "dcmodify -ep name.dcm - > /dev/full", 4, "output failed"),
     ("a directory that is modified", "dcmodify -ep . -", 4, "input cannot be opened"),
     ("a full disk for the line of an edit", "dcmodify -ep name.dcm out 2> /dev/full", 3, ""),
+    ("a dictionary for lines", "dump2dcm +dict lines out", 1, "V2 at word 2: unknown option"),
+    ("no dictionary for lines", "dump2dcm lines out -dict", 1, "V2 at word 4: unknown option"),
+    ("another name of a dictionary", "dcmdump +dictionary name.dcm", 1, "V2 at word 2: unknown option"),
+    ("a dictionary after the paths of a modification", "dcmodify name.dcm out +dict", 1, "V4: wrong number of paths"),
+    ("a keyword that the extract lacks", "dcmodify -m XRayTubeCurrent=90 tube.dcm out", 1, "U2 in edit 1: unknown tag"),
+    ("a number that the extract lacks", "dcmodify -m '(0018,1151)=90' tube.dcm out", 1, "U2 in edit 1: unknown tag"),
+    ("-dict after +dict", "dcmodify +dict -m XRayTubeCurrent=90 -dict tube.dcm out", 1, "U2 in edit 1: unknown tag"),
+    ("a dictionary has no number", "dcmodify +dict -ep +dict -e Tube tube.dcm out", 1, "U2 in edit 2: unknown tag"),
+    ("a dictionary in place of a path", "dcmodify -e +dict name.dcm out", 1, "U2 in edit 1: unknown tag"),
+    ("a dictionary after the last option", "dcmodify -ep -m +dict name.dcm", 1, "V4: wrong number of paths"),
+    ("65 edits and a dictionary", "dcmodify" + " -ep" * 65 + " +dict name.dcm out", 1, "U7 in edit 65: too many edits"),
+    ("an element between two VRs", "dcmodify +dict -e PixelPaddingValue name.dcm out", 1, "U2 in edit 1: unknown tag"),
+    ("an index of a number of the standard", "dcmodify +dict -e 'XRayTubeCurrent[0]' name.dcm out", 1, "U4 in edit 1: sequence misused"),
 ]
 
 # the same, and a path with what is to stand there afterwards, or nothing where there is to be no file
@@ -208,6 +259,29 @@ WRITTEN = [
     ("a pipe by its path", "dcmconv +tb name.dcm /dev/stdout | cat > out", 0, "", "out", BIG),
     ("the null device", "dcmconv +tb name.dcm /dev/null", 0, "", "out", None),
     ("a named pipe", "dcmconv +tb name.dcm queue & cat queue > out; wait", 0, "", "out", BIG),
+    ("a dump with the extract", "dcmdump tube.dcm > out", 0, "", "out", TUBE_LINES[0]),
+    ("a dump with the whole dictionary", "dcmdump +dict tube.dcm > out", 0, "", "out", TUBE_LINES[1]),
+    ("a dictionary after the path", "dcmdump tube.dcm -dict +dict > out", 0, "", "out", TUBE_LINES[1]),
+    ("the last of two dictionaries", "dcmdump +dict tube.dcm -dict > out", 0, "", "out", TUBE_LINES[0]),
+    ("a plan with the extract", "dcmconv +te plan.dcm out", 0, "", "out", OPAQUE_PLAN),
+    ("a plan with the whole dictionary", "dcmconv +dict +te plan.dcm out", 0, "", "out", EXPLICIT_PLAN),
+    ("a plan of standard streams", "dcmconv +te - - +dict < plan.dcm > out", 0, "", "out", EXPLICIT_PLAN),
+    ("a plan with -dict after +dict", "dcmconv +dict +te -dict plan.dcm out", 0, "", "out", OPAQUE_PLAN),
+    ("a plan that is dumped and built", 'dcmdump +L +dict plan.dcm | "$0" dump2dcm - out', 0, "", "out", implicit_plan(b"1 ")),
+    ("an edit with the whole dictionary", "dcmodify +dict -m XRayTubeCurrent=90 tube.dcm out", 0, "", "out", TUBE_CHANGED),
+    ("a dictionary after the edit", "dcmodify -m '(0018,1151)=90' +dict tube.dcm out", 0, "", "out", TUBE_CHANGED),
+    ("+dict after -dict", "dcmodify -dict -m XRayTubeCurrent=90 +dict tube.dcm out", 0, "", "out", TUBE_CHANGED),
+    (
+        "an edit within a sequence of the standard",
+        "dcmodify +dict -m 'DoseReferenceSequence[0].DoseReferenceNumber=2' plan.dcm out",
+        0,
+        "",
+        "out",
+        implicit_plan(b"2 "),
+    ),
+    ("a dictionary and no edits", "dcmodify +dict plan.dcm out", 0, "", "out", implicit_plan(b"1 ")),
+    ("no edits with the extract", "dcmodify -dict plan.dcm out", 0, "", "out", PLAN),
+    ("64 edits and a dictionary", "dcmodify +dict" + " -ep" * 64 + " +dict private.dcm out", 0, "", "out", NAME),
 ]
 
 # words that write to a pipe that nobody reads

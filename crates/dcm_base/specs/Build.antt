@@ -8,7 +8,7 @@ use Rattle.dcm_base.specs.declared.tag.Tag.{Tag}
 use Rattle.dcm_base.specs.declared.vr.Vr.{Vr}
 use Rattle.dcm_base.specs.declared.syntax.Coding.{Coding}
 use Rattle.dcm_base.specs.declared.syntax.Syntax.{Syntax}
-use Rattle.dcm_base.specs.declared.syntax.Syntax.TheVariants.{Little}
+use Rattle.dcm_base.specs.Syntax.{Little}
 use Rattle.dcm_base.specs.declared.fault.LineFault.{LineFault}
 use Rattle.dcm_base.specs.declared.fault.LineFault.TheVariants.{LineTooLong, NotALine, ValueDoesNotFit, NotAllowed, NotAscending, BadMetaGroup, NoTransferSyntax, TooDeep, EndsEarly, TooLong}
 use Rattle.dcm_base.specs.declared.fault.LineStop.{LineStop}
@@ -19,7 +19,7 @@ use Rattle.dcm_base.specs.Front.{Front, front, OpenTree, nothing_open, open_leaf
 use Rattle.dcm_base.specs.Transfer.{without_pads, coding_of}
 use Rattle.dcm_base.specs.Size.{trees_size}
 use Rattle.dcm_base.specs.Place.{Container, the_data_set, an_item, a_sequence, a_fragment_list, Level, levels, depth}
-use Rattle.dcm_base.specs.Bars.{innermost_reached}
+use Rattle.dcm_base.specs.Bars.{innermost_reached, holds_fragments}
 use Rattle.dcm_base.specs.Reads.{INPUT_LIMIT}
 use Rattle.dcm_base.specs.MetaGroup.{META_LIMIT}
 use Rattle.dcm_base.specs.MetaReads.{PREFIX, syntax_value}
@@ -53,14 +53,10 @@ named_syntax meta = without_pads (syntax_value meta)
 abbrev pub named_coding : Trees → Option Coding
 named_coding meta = usable (named_syntax meta)
 
-abbrev pub is_little : Syntax → Bool
-is_little Little = true
-is_little _ = false
-
 -- fragment lists stand in explicit little endian alone (PS3.5 A.4)
 abbrev pub allows_fragments : Option Coding → Bool
 allows_fragments None = false
-allows_fragments (Some coding) = is_little coding.syntax
+allows_fragments (Some coding) = holds_fragments coding.syntax
 
 -- ---- a step at the end of the innermost container
 

@@ -6,12 +6,12 @@ use Rattle.dcm_base.specs.Tag.{item_tag, is_item, is_item_end, is_sequence_end}
 use Rattle.dcm_base.specs.declared.vr.Vr.{Vr}
 use Rattle.dcm_base.specs.declared.vr.Vr.TheVariants.{UN}
 use Rattle.dcm_base.specs.declared.syntax.Syntax.{Syntax}
-use Rattle.dcm_base.specs.declared.syntax.Syntax.TheVariants.{Implicit, Little, Big}
+use Rattle.dcm_base.specs.declared.syntax.Syntax.TheVariants.{Implicit as implicit_in, Little as little_in, Big as big_in}
 use Rattle.dcm_base.specs.declared.length.Length.{Length}
 use Rattle.dcm_base.specs.declared.length.Length.TheVariants.{Known, Undefined}
 use Rattle.dcm_base.specs.Number.{number}
 use Rattle.dcm_base.specs.Representation.{vr_read, is_long}
-use Rattle.dcm_base.specs.Dictionary.{dict_vr}
+use Rattle.dcm_base.specs.Dictionary.{vr_in}
 
 -- group and element, two bytes each
 abbrev pub tag_at : Syntax → List ℕ → Tag
@@ -21,26 +21,26 @@ tag_at s bytes = record { group = number s 2 bytes; element = number s 2 (drop 2
 abbrev pub long_length : ℕ → Length
 long_length n = if n == 0xFFFFFFFF then Undefined else Known n
 
--- the dictionary's in Implicit, else that of the letters behind the tag
+-- that of the dictionary in an implicit head, else that of the letters after the tag
 unfoldable pub vr_at : Syntax → List ℕ → Option Vr
-vr_at Implicit bytes = Some (dict_vr (tag_at Implicit bytes))
-vr_at Little bytes = vr_read (slice_index bytes 4) (slice_index bytes 5)
-vr_at Big bytes = vr_read (slice_index bytes 4) (slice_index bytes 5)
+vr_at (implicit_in d) bytes = Some (vr_in d (tag_at (implicit_in d) bytes))
+vr_at (little_in d) bytes = vr_read (slice_index bytes 4) (slice_index bytes 5)
+vr_at (big_in d) bytes = vr_read (slice_index bytes 4) (slice_index bytes 5)
 
 -- the long form has two reserved bytes, and two more of length
 abbrev pub head_size : Syntax → Vr → ℕ
-head_size Implicit vr = 8
-head_size Little vr = if is_long vr then 12 else 8
-head_size Big vr = if is_long vr then 12 else 8
+head_size (implicit_in d) vr = 8
+head_size (little_in d) vr = if is_long vr then 12 else 8
+head_size (big_in d) vr = if is_long vr then 12 else 8
 
 abbrev pub explicit_length : Syntax → Vr → List ℕ → Length
 explicit_length s vr bytes = if is_long vr then long_length (number s 4 (drop 8 bytes)) else Known (number s 2 (drop 6 bytes))
 
 -- the length that a head of this representation declares
 unfoldable pub length_at : Syntax → Vr → List ℕ → Length
-length_at Implicit vr bytes = long_length (number Implicit 4 (drop 4 bytes))
-length_at Little vr bytes = explicit_length Little vr bytes
-length_at Big vr bytes = explicit_length Big vr bytes
+length_at (implicit_in d) vr bytes = long_length (number (implicit_in d) 4 (drop 4 bytes))
+length_at (little_in d) vr bytes = explicit_length (little_in d) vr bytes
+length_at (big_in d) vr bytes = explicit_length (big_in d) vr bytes
 
 -- bytes begin with a head that has a representation, and after follows it (PS3.5 7.1.2, 7.1.3)
 pub record PlainHead (s : Syntax) (tag : Tag) (vr : Vr) (declared : Length) (bytes after : List ℕ) : Type 0 where

@@ -6,6 +6,7 @@ use Rattle.dcm_base.specs.Tree.{Trees}
 use Rattle.dcm_base.specs.Uid.{uid_name}
 use Rattle.dcm_base.specs.ValueText as text
 use Rattle.dcm_base.specs.Dump.{dump_set}
+use Rattle.dcm_base.specs.declared.lookup.Dictionary.{Dictionary}
 
 -- a transfer syntax by its name, or its unique identifier
 abbrev pub syntax_name : List ℕ → List ℕ
@@ -16,7 +17,7 @@ abbrev pub set_header : List ℕ → List ℕ
 set_header uid = codes "# Dicom-Data-Set" ++ 10 ∷ [] ++ codes "# Used TransferSyntax: " ++ syntax_name uid ++ 10 ∷ []
 
 -- the header of a file's lines, and its meta elements
-abbrev pub meta_header : Mode → Trees → List ℕ
-meta_header mode elements =
+abbrev pub meta_header : Dictionary → Mode → Trees → List ℕ
+meta_header d mode elements =
     codes "# Dicom-File-Format" ++ 10 ∷ 10 ∷ [] ++ codes "# Dicom-Meta-Information-Header" ++ 10 ∷ []
-    ++ codes "# Used TransferSyntax: LittleEndianExplicit" ++ 10 ∷ [] ++ dump_set mode 0 elements ++ 10 ∷ []
+    ++ codes "# Used TransferSyntax: LittleEndianExplicit" ++ 10 ∷ [] ++ dump_set d mode 0 elements ++ 10 ∷ []

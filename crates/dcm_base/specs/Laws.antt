@@ -19,7 +19,9 @@ use Rattle.dcm_base.specs.ReadValue.{value_of_text, value_shown}
 use Rattle.dcm_base.specs.ValueText.{display, shown_unit}
 use Rattle.dcm_base.specs.declared.vr.Vr.{Vr}
 use Rattle.dcm_base.specs.declared.syntax.Syntax.{Syntax}
-use Rattle.dcm_base.specs.declared.syntax.Syntax.TheVariants.{Implicit}
+use Rattle.dcm_base.specs.declared.syntax.Syntax.TheVariants.{Implicit as implicit_in}
+use Rattle.dcm_base.specs.declared.lookup.Dictionary.{Dictionary}
+use Rattle.dcm_base.specs.Syntax.{dictionary_of}
 
 -- what is read of a data set, and where reading stops, is one
 abbrev pub OneReading : Type 0
@@ -36,33 +38,33 @@ ValuesReadBack =
 -- the full line of a value means that value
 abbrev pub LeafLinesMean : Type 0
 LeafLinesMean =
-    (level : ℕ) (tag : Tag) (vr : Vr) (v : List ℕ) → IsTag tag → tag.group ≢ 0xFFFE → is_sequence vr ≡ false → AreBytes v
+    (d : Dictionary) (level : ℕ) (tag : Tag) (vr : Vr) (v : List ℕ) → IsTag tag → tag.group ≢ 0xFFFE → is_sequence vr ≡ false → AreBytes v
     → IsLength (length v) → length v % shown_unit vr ≡ 0 → length (display vr v) ≤ 16384
-    → LineMeans (leaf_line Full level tag vr v) (one (show_leaf tag vr (Some (value_shown vr v))))
+    → LineMeans (leaf_line d Full level tag vr v) (one (show_leaf tag vr (Some (value_shown vr v))))
 
 -- the full line of a fragment means that fragment
 abbrev pub FragmentLinesMean : Type 0
 FragmentLinesMean =
-    (level : ℕ) (v : List ℕ) → AreBytes v → IsLength (length v) → length (display OB v) ≤ 16384
-    → LineMeans (fragment_line Full level v) (one (show_fragment (Some v)))
+    (d : Dictionary) (level : ℕ) (v : List ℕ) → AreBytes v → IsLength (length v) → length (display OB v) ≤ 16384
+    → LineMeans (fragment_line d Full level v) (one (show_fragment (Some v)))
 
 -- the line of a sequence means that it begins
 abbrev pub SequenceLinesMean : Type 0
 SequenceLinesMean =
-    (level : ℕ) (tag : Tag) (vr : Vr) (size : Length) → HasLength size → IsTag tag → tag.group ≢ 0xFFFE
-    → may_be_sequence vr ≡ true → LineMeans (sequence_line level tag vr size) (one (begin_sequence tag vr))
+    (d : Dictionary) (level : ℕ) (tag : Tag) (vr : Vr) (size : Length) → HasLength size → IsTag tag → tag.group ≢ 0xFFFE
+    → may_be_sequence vr ≡ true → LineMeans (sequence_line d level tag vr size) (one (begin_sequence tag vr))
 
 -- the line of a fragment list means that it begins
 abbrev pub FragmentListLinesMean : Type 0
 FragmentListLinesMean =
-    (level : ℕ) (tag : Tag) (vr : Vr) → IsTag tag → tag.group ≢ 0xFFFE → may_be_fragments vr ≡ true
-    → LineMeans (line level tag (letters vr) (codes "(PixelSequence)") Undefined 1) (one (begin_fragments tag vr))
+    (d : Dictionary) (level : ℕ) (tag : Tag) (vr : Vr) → IsTag tag → tag.group ≢ 0xFFFE → may_be_fragments vr ≡ true
+    → LineMeans (line d level tag (letters vr) (codes "(PixelSequence)") Undefined 1) (one (begin_fragments tag vr))
 
--- what was read of an implicit data set fits each target
+-- what was read of an implicit data set fits each target with the same dictionary
 abbrev pub ImplicitFits : Type 0
 ImplicitFits =
-    (target : Syntax) (bar : Bar) (start : ℕ) (bytes : List ℕ) (f : Front) (stop : Stop) → Reads bar Implicit start bytes f stop
-    → FrontFits target f
+    (d : Dictionary) (target : Syntax) (bar : Bar) (start : ℕ) (bytes : List ℕ) (f : Front) (stop : Stop) → dictionary_of target ≡ d
+    → Reads bar (implicit_in d) start bytes f stop → FrontFits target f
 
 -- the keyword of an element on a line of its own
 abbrev pub as_line : Element → List ℕ

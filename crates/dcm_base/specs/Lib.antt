@@ -2,6 +2,7 @@ pub mod Number
 pub mod Tag
 pub mod Representation
 pub mod Dictionary
+pub mod Syntax
 pub mod Uid
 pub mod Transfer
 pub mod Fault

@@ -2,7 +2,7 @@
 use Rattle.std.specs.Prelude.{ℕ, if◌then◌else◌, List, ◌++◌, length}
 use Rattle.std.specs.Int.{w32, to_le_bytes}
 use Rattle.dcm_base.specs.declared.vr.Vr.TheVariants.{UL, UI}
-use Rattle.dcm_base.specs.declared.syntax.Syntax.TheVariants.{Little}
+use Rattle.dcm_base.specs.Syntax.{Little}
 use Rattle.dcm_base.specs.Tag.{is_tag}
 use Rattle.dcm_base.specs.Tree.{Trees, no_tree, leaf, sequence, fragments}
 use Rattle.dcm_base.specs.Recode.{recoded_leaf, recode_set}

@@ -4,11 +4,11 @@ use Rattle.dcm_base.specs.declared.tag.Tag.{Tag}
 use Rattle.dcm_base.specs.declared.vr.Vr.{Vr}
 use Rattle.dcm_base.specs.declared.vr.Vr.TheVariants.{SQ, UN}
 use Rattle.dcm_base.specs.declared.syntax.Syntax.{Syntax}
-use Rattle.dcm_base.specs.declared.syntax.Syntax.TheVariants.{Implicit}
+use Rattle.dcm_base.specs.declared.syntax.Syntax.TheVariants.{Implicit as implicit_in}
 use Rattle.dcm_base.specs.declared.length.Length.TheVariants.{Undefined}
 use Rattle.dcm_base.specs.Tree.{Trees, no_tree, leaf, sequence, fragments, Items, no_item, item}
 use Rattle.dcm_base.specs.Front.{Front, front, nothing_open}
-use Rattle.dcm_base.specs.Dictionary.{dict_vr}
+use Rattle.dcm_base.specs.Dictionary.{vr_in}
 use Rattle.dcm_base.specs.Representation.{pad}
 use Rattle.dcm_base.specs.Value.{order, evened}
 use Rattle.dcm_base.specs.Spelling.{a_sequence, form, last_tag}
@@ -16,11 +16,11 @@ use Rattle.dcm_base.specs.Recode.{too_long, leaf_bytes}
 
 -- an implicit head leaves the representation to the dictionary, and a value that is too long for the short form is unknown
 abbrev pub normal_vr : Syntax → Tag → Vr → ℕ → Vr
-normal_vr Implicit t vr size = dict_vr t
+normal_vr (implicit_in d) t vr size = vr_in d t
 normal_vr s t vr size = if too_long s vr size then UN else vr
 
 abbrev pub normal_sequence_vr : Syntax → Tag → Vr
-normal_sequence_vr Implicit t = dict_vr t
+normal_sequence_vr (implicit_in d) t = vr_in d t
 normal_sequence_vr s t = SQ
 
 -- the value of the bytes that are written, with the pad byte
@@ -54,11 +54,11 @@ normal_front s (front whole open_tree reached closed) = whole_front (normal s wh
 
 -- an implicit head tells a value from a sequence by the dictionary alone
 abbrev pub TellsValue : Syntax → Tag → Type 0
-TellsValue Implicit t = dict_vr t ≢ SQ
+TellsValue (implicit_in d) t = vr_in d t ≢ SQ
 TellsValue s t = Unit {0}
 
 abbrev pub TellsSequence : Syntax → Tag → Type 0
-TellsSequence Implicit t = form Implicit (dict_vr t) Undefined ≡ a_sequence
+TellsSequence (implicit_in d) t = form (implicit_in d) (vr_in d t) Undefined ≡ a_sequence
 TellsSequence s t = Unit {0}
 
 abbrev pub UnlessGroupLength : Tag → Type 0 → Type 0

@@ -5,7 +5,7 @@ use Rattle.dcm_base.specs.declared.tag.Tag.{Tag}
 use Rattle.dcm_base.specs.declared.vr.Vr.{Vr}
 use Rattle.dcm_base.specs.declared.vr.Vr.TheVariants.{SQ, UN}
 use Rattle.dcm_base.specs.declared.syntax.Syntax.{Syntax}
-use Rattle.dcm_base.specs.declared.syntax.Syntax.TheVariants.{Implicit, Big}
+use Rattle.dcm_base.specs.declared.syntax.Syntax.TheVariants.{Implicit as implicit_in, Big as big_in}
 use Rattle.dcm_base.specs.Representation.{letters, is_long, pad, unit}
 use Rattle.dcm_base.specs.Value.{order, evened, whole_part}
 use Rattle.dcm_base.specs.declared.length.Length.{Length}
@@ -16,7 +16,7 @@ use Rattle.dcm_base.specs.Tag.{item_tag, item_end_tag, sequence_end_tag}
 
 -- a number of two or four bytes
 abbrev pub number_bytes : Syntax → Width → ℕ → List ℕ
-number_bytes Big w n = to_be_bytes w n
+number_bytes (big_in d) w n = to_be_bytes w n
 number_bytes _ w n = to_le_bytes w n
 
 abbrev pub tag_bytes : Syntax → Tag → List ℕ
@@ -33,7 +33,7 @@ plain_head s t size = tag_bytes s t ++ number_bytes s w32 (length_number size)
 
 -- the head of an element (PS3.5 7.1.2, 7.1.3)
 abbrev pub head : Syntax → Tag → Vr → Length → List ℕ
-head Implicit t vr size = plain_head Implicit t size
+head (implicit_in d) t vr size = plain_head (implicit_in d) t size
 head s t vr size = tag_bytes s t ++ letters vr ++ (if is_long vr then 0 ∷ 0 ∷ number_bytes s w32 (length_number size) else number_bytes s w16 (length_number size))
 
 -- with the pad byte
@@ -41,7 +41,7 @@ abbrev pub even : ℕ → ℕ
 even n = n + n % 2
 
 abbrev pub is_explicit : Syntax → Bool
-is_explicit Implicit = false
+is_explicit (implicit_in d) = false
 is_explicit _ = true
 
 -- whether a value of this size is too long for the short form

@@ -4,7 +4,8 @@ use Rattle.dcm_base.specs.declared.tag.Tag.{Tag}
 use Rattle.dcm_base.specs.declared.vr.Vr.{Vr}
 use Rattle.dcm_base.specs.declared.vr.Vr.TheVariants.{SQ, UN, OB, OW}
 use Rattle.dcm_base.specs.declared.syntax.Syntax.{Syntax}
-use Rattle.dcm_base.specs.declared.syntax.Syntax.TheVariants.{Implicit, Little}
+use Rattle.dcm_base.specs.declared.syntax.Syntax.TheVariants.{Implicit as implicit_in, Little as little_in}
+use Rattle.dcm_base.specs.Syntax.{dictionary_of}
 use Rattle.dcm_base.specs.declared.length.Length.{Length}
 use Rattle.dcm_base.specs.declared.length.Length.TheVariants.{Known, Undefined}
 use Rattle.dcm_base.specs.Tree.{Trees, no_tree, leaf, sequence, fragments, Items, no_item, item}
@@ -19,14 +20,14 @@ pub use Rattle.dcm_base.specs.declared.form.Form.TheVariants.{Value as a_value, 
 unfoldable pub form : Syntax → Vr → Length → Form
 form s SQ declared = a_sequence
 form s UN Undefined = a_sequence
-form Little OB Undefined = a_fragment_list
-form Little OW Undefined = a_fragment_list
+form (little_in d) OB Undefined = a_fragment_list
+form (little_in d) OW Undefined = a_fragment_list
 form s vr (Known size) = a_value
 form s vr Undefined = no_form
 
--- UN of undefined length holds Implicit (PS3.5 6.2.2)
+-- UN of undefined length holds implicit VR little endian, read by the same dictionary (PS3.5 6.2.2)
 unfoldable pub inside : Syntax → Vr → Syntax
-inside s UN = Implicit
+inside s UN = implicit_in (dictionary_of s)
 inside s vr = s
 
 -- Contents stand in bytes as the declared length says: in just so many bytes, or up to the delimiter

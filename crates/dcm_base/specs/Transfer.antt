@@ -2,7 +2,7 @@
 use Rattle.std.specs.Prelude.{◌==◌, ◌||◌, ℕ, Bool, true, false, List, [], ◌∷◌, codes, bytes_eq, Result, Ok, Err, if◌then◌else◌}
 use Rattle.dcm_base.specs.declared.syntax.Coding.{Coding}
 use Rattle.dcm_base.specs.declared.syntax.Syntax.{Syntax}
-use Rattle.dcm_base.specs.declared.syntax.Syntax.TheVariants.{Implicit, Little, Big}
+use Rattle.dcm_base.specs.Syntax.{Implicit, Little, Big}
 use Rattle.dcm_base.specs.declared.transfer.Deflated.{Deflated}
 
 abbrev pub is_pad : ℕ → Bool
@@ -23,7 +23,7 @@ is_deflated uid = bytes_eq uid (codes "1.2.840.10008.1.2.1.99") || bytes_eq uid 
 abbrev pub native : Syntax → Coding
 native s = record { syntax = s; encapsulated = false }
 
--- the coding of a data set, by its transfer syntax; a deflated one is refused
+-- the coding of a data set, by its transfer syntax, read by the extract; a deflated one is refused
 unfoldable pub coding_of : List ℕ → Result Coding Deflated
 coding_of uid =
     if bytes_eq uid (codes "1.2.840.10008.1.2") then Ok (native Implicit)

@@ -2,7 +2,7 @@
 use Rattle.std.specs.Prelude.{ℕ, zero, suc, ◌+◌, ◌*◌, ◌/◌, ◌%◌, ◌==◌, if◌then◌else◌, List, [], ◌∷◌, ◌++◌, length, take, drop, reverse, flat_map}
 use Rattle.dcm_base.specs.declared.vr.Vr.{Vr}
 use Rattle.dcm_base.specs.declared.syntax.Syntax.{Syntax}
-use Rattle.dcm_base.specs.declared.syntax.Syntax.TheVariants.{Implicit, Little, Big}
+use Rattle.dcm_base.specs.declared.syntax.Syntax.TheVariants.{Implicit as implicit_in, Little as little_in, Big as big_in}
 use Rattle.dcm_base.specs.Representation.{unit}
 
 -- the first n pieces of k bytes
@@ -27,9 +27,9 @@ turned k v = flat_map reverse (units k v) ++ rest_part k v
 
 -- a value in the order of a syntax: Big turns each whole unit round, and from what it makes it leads back
 abbrev pub order : Syntax → Vr → List ℕ → List ℕ
-order Implicit vr v = v
-order Little vr v = v
-order Big vr v = turned (unit vr) v
+order (implicit_in d) vr v = v
+order (little_in d) vr v = v
+order (big_in d) vr v = turned (unit vr) v
 
 -- an odd value gets one byte more
 abbrev pub evened : ℕ → List ℕ → List ℕ

@@ -22,7 +22,8 @@ pub fn form_of(syntax: Syntax, vr: Vr, length: Length) -> Form
     match (vr, length) {
         (Vr::SQ, _) | (Vr::UN, Length::Undefined) => Form::Sequence,
         (_, Length::Known(_)) => Form::Value,
-        (Vr::OB | Vr::OW, Length::Undefined) if syntax == Syntax::Little => Form::FragmentList,
+        (Vr::OB | Vr::OW, Length::Undefined) if matches!(syntax, Syntax::Little(_)) =>
+            Form::FragmentList,
         (_, Length::Undefined) => Form::Nothing,
     }
 }

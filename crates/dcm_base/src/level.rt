@@ -1,4 +1,5 @@
 use crate::length::Length;
+use crate::lookup::Dictionary;
 use crate::syntax::Syntax;
 
 /// The most sequences and fragment lists that may be open at a time.
@@ -28,7 +29,7 @@ impl Default for Level {
     fn default() -> Self {
         Level {
             container: Container::DataSet,
-            syntax: Syntax::Little,
+            syntax: Syntax::Little(Dictionary::Extract),
             declared: Length::Undefined,
             end_offset: None,
         }

@@ -1,4 +1,4 @@
-ghost use Rattle.std.specs.Prelude.{◌≡◌, true, map, option_map};
+ghost use Rattle.std.specs.Prelude.{◌≡◌, ◌≤◌, true, length, map, option_map};
 ghost use Rattle.std.specs.List.Sorted.{IsStrictlyIncreasing};
 ghost use Rattle.dcm_base.specs.Dictionary as spec;
 ghost use Rattle.dcm_base.specs.declared.lookup.Dictionary.TheVariants.{Standard};
@@ -124,7 +124,8 @@ pub fn vr_in(dictionary: Dictionary, tag: Tag) -> Vr
 /// The keyword of a tag, by the dictionary.
 #[tactic(auto, unfolding(crate::specs::Dictionary::keyword_in))]
 pub fn keyword_in(dictionary: Dictionary, tag: Tag) -> &'static [u8]
-    ensures { result.now ≡ spec.keyword_in dictionary tag }
+    ensures value { result.now ≡ spec.keyword_in dictionary tag }
+    ensures within { length result.now ≤ 64 }
 {
     if let Some(row) = element_in(dictionary, tag) {
         row.1

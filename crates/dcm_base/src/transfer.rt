@@ -2,6 +2,7 @@
 ghost use Rattle.std.specs.Prelude.{◌≡◌};
 ghost use Rattle.dcm_base.specs.Transfer as spec;
 
+use crate::lookup::Dictionary;
 use crate::syntax::{Coding, Syntax};
 
 /// Implicit VR Little Endian (PS3.5 A.1).
@@ -25,7 +26,8 @@ fn is_deflated(uid: &[u8]) -> bool
         || uid == b"1.2.840.10008.1.2.4.205".as_slice()
 }
 
-/// How a data set of this transfer syntax is spelled (PS3.5 A.1, A.2, A.3, A.4).
+/// How a data set of this transfer syntax is spelled (PS3.5 A.1, A.2, A.3, A.4), read by the extract; `Coding::read_by` names
+/// another dictionary.
 #[tactic(auto, unfolding(crate::specs::Transfer::coding_of))]
 pub fn coding_of(uid: &[u8]) -> Result<Coding, Deflated>
     ensures { result ≡ spec.coding_of uid.now }
@@ -35,19 +37,19 @@ pub fn coding_of(uid: &[u8]) -> Result<Coding, Deflated>
         encapsulated: false,
     };
     if uid == IMPLICIT_UID {
-        return Ok(native(Syntax::Implicit));
+        return Ok(native(Syntax::Implicit(Dictionary::Extract)));
     }
     if uid == LITTLE_UID {
-        return Ok(native(Syntax::Little));
+        return Ok(native(Syntax::Little(Dictionary::Extract)));
     }
     if uid == BIG_UID {
-        return Ok(native(Syntax::Big));
+        return Ok(native(Syntax::Big(Dictionary::Extract)));
     }
     if is_deflated(uid) {
         return Err(Deflated);
     }
     Ok(Coding {
-        syntax: Syntax::Little,
+        syntax: Syntax::Little(Dictionary::Extract),
         encapsulated: true,
     })
 }

@@ -2,7 +2,7 @@
 use Rattle.std.specs.Prelude.{ℕ, suc, ◌+◌, ◌==◌, ◌&&◌, ◌||◌, not, nat_le, nat_lt, Bool, true, false, if◌then◌else◌, List, [], ◌∷◌, ◌++◌, length, map, fold, Option, Some, None, is_none, is_some, unwrap_or}
 use Rattle.std.specs.Str.{byte}
 use Rattle.dcm_base.specs.declared.length.Length.TheVariants.{Known, Undefined}
-use Rattle.dcm_base.specs.declared.syntax.Syntax.TheVariants.{Little}
+use Rattle.dcm_base.specs.Syntax.{Little}
 use Rattle.dcm_base.specs.declared.fault.LineFault.{LineFault}
 use Rattle.dcm_base.specs.declared.fault.LineFault.TheVariants.{LineTooLong, NotALine, ValueDoesNotFit, NotAllowed, NotAscending, BadMetaGroup, NoTransferSyntax, TooDeep, EndsEarly, TooLong}
 use Rattle.dcm_base.specs.Atoms.{Atom, opens, value_byte, closes_leaf, opens_item, closes_item, closes_sequence, opens_fragment}

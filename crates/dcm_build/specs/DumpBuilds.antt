@@ -2,7 +2,7 @@
 use Rattle.std.specs.Prelude.{◌≡◌, ◌≤◌, ◌+◌, ◌%◌, ℕ, List, ◌++◌, length, drop, replicate, Some, None}
 use Rattle.dcm_base.specs.declared.syntax.Coding.{Coding}
 use Rattle.dcm_base.specs.declared.mode.Mode.TheVariants.{Full}
-use Rattle.dcm_base.specs.declared.syntax.Syntax.TheVariants.{Little}
+use Rattle.dcm_base.specs.Syntax.{Little, read_by}
 use Rattle.dcm_base.specs.Ascending.{Ascend}
 use Rattle.dcm_base.specs.Dump.{dump_set}
 use Rattle.dcm_base.specs.Header.{meta_header, set_header}
@@ -19,12 +19,13 @@ use Rattle.dcm_base.specs.Recode.{recode_set}
 use Rattle.dcm_base.specs.Size.{trees_size}
 use Rattle.dcm_base.specs.Tree.{Trees, no_tree, leaf, sequence, fragments, Items, no_item, item}
 use Rattle.dcm_base.specs.Build.{built, built_bytes, lines_of, named_coding, named_syntax}
+use Rattle.dcm_base.specs.declared.lookup.Dictionary.{Dictionary}
 use Rattle.dcm_build.specs.DumpLines.{AllWithin, SetReadsBack}
 use Rattle.dcm_build.specs.StepsBuild.{MayStand}
 
--- the full dump of a file with these elements in its meta group and in its data set
-abbrev pub full_dump : Trees → Trees → List ℕ
-full_dump meta set = meta_header Full meta ++ set_header (named_syntax meta) ++ dump_set Full 0 set
+-- the full dump, by a dictionary, of a file with these elements in its meta group and in its data set
+abbrev pub full_dump : Dictionary → Trees → Trees → List ℕ
+full_dump d meta set = meta_header d Full meta ++ set_header (named_syntax meta) ++ dump_set d Full 0 set
 
 -- a file whose full dump builds it again, where none of its lines is too long: the group names a coding, values are of whole
 -- units, and the tags of each data set ascend
@@ -43,12 +44,12 @@ pub record FitsLines (limit : ℕ) (text : List ℕ) : Type 0 where
   pub lines : AllWithin limit (lines_of text).ended
   pub size : length text ≤ INPUT_LIMIT
 
--- a file is read: its meta group, and these elements in its data set, without fault
-pub record FileRead (file : List ℕ) (meta : Meta) (coding : Coding) (set : Trees) : Type 0 where
+-- a file is read by a dictionary: its meta group, which names a coding, and these elements in its data set, without fault
+pub record FileRead (d : Dictionary) (file : List ℕ) (meta : Meta) (coding : Coding) (set : Trees) : Type 0 where
   pub bytes : AreBytes file
   pub group : List ℕ
   pub head : MetaReads file (begins meta group coding)
-  pub reads : Reads no_bar coding.syntax (132 + length group) (drop (132 + length group) file) (whole_front set) complete
+  pub reads : Reads no_bar (read_by d coding.syntax) (132 + length group) (drop (132 + length group) file) (whole_front set) complete
 
 -- each value is of whole units, an attribute tag of four bytes; a fragment is of bytes
 unfoldable mutual

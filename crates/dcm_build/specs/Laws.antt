@@ -8,6 +8,7 @@ use Rattle.dcm_base.specs.Steps.{outputs}
 use Rattle.dcm_base.specs.Tree.{Trees}
 use Rattle.dcm_base.specs.declared.mode.Mode.TheVariants.{Full}
 use Rattle.dcm_base.specs.declared.syntax.Coding.{Coding}
+use Rattle.dcm_base.specs.declared.lookup.Dictionary.{Dictionary}
 use Rattle.dcm_build.specs.BuildLaws.{Builds, BuiltSoFar, Stays}
 use Rattle.dcm_build.specs.Building.{build_start, build_step, build_writes}
 use Rattle.dcm_build.specs.DumpBuilds.{BuildsFile, CanBuild, FileRead, FitsLines, WholeUnits, full_dump}
@@ -34,19 +35,19 @@ FaultStays =
 -- the lines of a full dump of a data set mean the steps of what it shows, where none of them is too long
 abbrev pub LinesMean : Type 0
 LinesMean =
-    (level : ℕ) (set : Trees) → SetReadsBack set → AllWithin GREATEST_LIMIT (lines_of (dump_set Full level set)).ended
-    → TextMeans (dump_set Full level set) (set_steps set)
+    (d : Dictionary) (level : ℕ) (set : Trees) → SetReadsBack set → AllWithin GREATEST_LIMIT (lines_of (dump_set d Full level set)).ended
+    → TextMeans (dump_set d Full level set) (set_steps set)
 
 -- the full dump of a file that is read without fault builds it again, where its values are of whole units, its tags ascend and
 -- its lines are short enough
 abbrev pub FileBuilds : Type 0
 FileBuilds =
-    (limit : ℕ) (file : List ℕ) (meta : Meta) (coding : Coding) (set : Trees) → limit ≤ GREATEST_LIMIT
-    → FileRead file meta coding set → WholeUnits meta.elements → WholeUnits set → Ascend None set
-    → FitsLines limit (full_dump meta.elements set) → BuildsFile limit (full_dump meta.elements set) meta.elements coding set
+    (d : Dictionary) (limit : ℕ) (file : List ℕ) (meta : Meta) (coding : Coding) (set : Trees) → limit ≤ GREATEST_LIMIT
+    → FileRead d file meta coding set → WholeUnits meta.elements → WholeUnits set → Ascend None set
+    → FitsLines limit (full_dump d meta.elements set) → BuildsFile limit (full_dump d meta.elements set) meta.elements coding set
 
 -- so does the full dump of any trees that can be built
 abbrev pub TreesBuild : Type 0
 TreesBuild =
-    (limit : ℕ) (meta : Trees) (coding : Coding) (set : Trees) → limit ≤ GREATEST_LIMIT → CanBuild meta coding set
-    → FitsLines limit (full_dump meta set) → BuildsFile limit (full_dump meta set) meta coding set
+    (d : Dictionary) (limit : ℕ) (meta : Trees) (coding : Coding) (set : Trees) → limit ≤ GREATEST_LIMIT → CanBuild meta coding set
+    → FitsLines limit (full_dump d meta set) → BuildsFile limit (full_dump d meta set) meta coding set

@@ -1,12 +1,12 @@
 -- What steps build, one after another.
-use Rattle.std.specs.Prelude.{◌≡◌, ◌≢◌, ◌<◌, ℕ, suc, List, [], ◌∷◌, Some, None, false, Ok}
+use Rattle.std.specs.Prelude.{◌≡◌, ◌≢◌, ◌<◌, ℕ, suc, List, [], ◌∷◌, Some, None, true, false, Ok}
 use Rattle.dcm_base.specs.declared.syntax.Coding.{Coding}
-use Rattle.dcm_base.specs.declared.syntax.Syntax.TheVariants.{Little}
 use Rattle.dcm_base.specs.Tree.{Trees, no_tree, leaf, sequence, fragments, Items, no_item, item}
 use Rattle.dcm_base.specs.Front.{front, nothing_open}
 use Rattle.dcm_base.specs.Spelling.{last_tag}
 use Rattle.dcm_base.specs.Line.{Step}
 use Rattle.dcm_base.specs.Build.{Built, no_elements, named_coding, with_shown, rebuilt}
+use Rattle.dcm_base.specs.Bars.{holds_fragments}
 use Rattle.dcm_build.specs.DumpLines.{set_steps}
 
 -- none of the steps is refused
@@ -21,7 +21,7 @@ unfoldable mutual
   MayStand coding n no_tree = Unit {0}
   MayStand coding n (leaf tag vr value rest) = (tag.group ≢ 2) × MayStand coding n rest
   MayStand coding n (sequence tag vr declared items rest) = (tag.group ≢ 2) × (n < 64) × ItemsMayStand coding (suc n) items × MayStand coding n rest
-  MayStand coding n (fragments tag vr values rest) = (tag.group ≢ 2) × (n < 64) × (coding.syntax ≡ Little) × MayStand coding n rest
+  MayStand coding n (fragments tag vr values rest) = (tag.group ≢ 2) × (n < 64) × (holds_fragments coding.syntax ≡ true) × MayStand coding n rest
 
   pub ItemsMayStand : Coding → ℕ → Items → Type 0
   ItemsMayStand coding n no_item = Unit {0}

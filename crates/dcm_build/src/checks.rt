@@ -4,7 +4,7 @@ ghost use Rattle.dcm_base.specs.Build as build;
 ghost use Rattle.dcm_build.specs.LineShown.{step_of};
 
 use crate::line::Step;
-use dcm_base::{Coding, Container, LineFault, META_GROUP, Syntax, Tag};
+use dcm_base::{Coding, Container, Dictionary, LineFault, META_GROUP, Syntax, Tag};
 
 /// The fault of the first check that fails.
 pub fn first_fault(checks: &[(bool, LineFault)]) -> Option<LineFault>
@@ -80,7 +80,7 @@ pub fn allows_fragments(coding: Option<Coding>) -> bool
     ensures { result ≡ build.allows_fragments coding }
 {
     match coding {
-        Some(coding) => coding.syntax == Syntax::Little,
+        Some(coding) => matches!(coding.syntax, Syntax::Little(_)),
         None => false,
     }
 }
@@ -91,6 +91,6 @@ pub fn coding_or_little(coding: Option<Coding>) -> Syntax
 {
     match coding {
         Some(coding) => coding.syntax,
-        None => Syntax::Little,
+        None => Syntax::Little(Dictionary::Extract),
     }
 }

@@ -3,7 +3,7 @@ ghost use Rattle.std.specs.Prelude.{◌≡◌, ◌≤◌, ◌&&◌, ◌∷◌, [
 ghost use Rattle.dcm_base.specs.Atoms.{opens};
 ghost use Rattle.dcm_base.specs.Build as build;
 ghost use Rattle.dcm_base.specs.ReadValue.{value_of_text};
-ghost use Rattle.dcm_base.specs.declared.syntax.Syntax.TheVariants.{Little};
+ghost use Rattle.dcm_base.specs.Syntax.{Little};
 ghost use Rattle.dcm_stream.specs.Tokens.{atoms_of};
 ghost use Rattle.dcm_build.specs.Building as spec;
 ghost use Rattle.dcm_build.specs.LineShown.{step_of};
@@ -20,8 +20,8 @@ use crate::line::{Meaning, Step, means, without_return};
 use crate::open_containers::OpenContainers;
 use arrayvec::ArrayVec;
 use dcm_base::{
-    Coding, Container, DeviceOut, Length, LineFault, MOST_LISTS, Syntax, Tag, Vr, Watched,
-    WriteFailed,
+    Coding, Container, DeviceOut, Dictionary, Length, LineFault, MOST_LISTS, Syntax, Tag, Vr,
+    Watched, WriteFailed,
 };
 use dcm_head::Head;
 use dcm_stream::Token;
@@ -113,7 +113,10 @@ fn put_tokens<W: DeviceOut>(
 fn opening<'a>(tag: Tag, vr: Vr, length: Length) -> Token<'a>
     ensures { atoms_of result ≡ opens tag vr length Little ∷ [] }
 {
-    Token::Open(Head { tag, vr, length }, Syntax::Little)
+    Token::Open(
+        Head { tag, vr, length },
+        Syntax::Little(Dictionary::Extract),
+    )
 }
 
 /// Writes what a step shows.
@@ -384,7 +387,7 @@ impl NewFile {
             group: NewGroup::new(),
             meta_ended: false,
             standing: OpenContainers::new(),
-            encoder: Encoder::new(Syntax::Little),
+            encoder: Encoder::new(Syntax::Little(Dictionary::Extract)),
             value: ArrayVec::new(),
         }
     }

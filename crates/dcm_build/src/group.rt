@@ -9,13 +9,14 @@ ghost use Rattle.dcm_base.specs.Spelling.{form};
 ghost use Rattle.dcm_base.specs.Transfer.{without_pads as unpadded};
 ghost use Rattle.dcm_base.specs.declared.form.Form.TheVariants.{Value as a_value};
 ghost use Rattle.dcm_base.specs.declared.length.Length.TheVariants.{Known};
-ghost use Rattle.dcm_base.specs.declared.syntax.Syntax.TheVariants.{Little};
+ghost use Rattle.dcm_base.specs.Syntax.{Little};
 ghost use Rattle.dcm_build.specs.NewGroup.{file_head, shown, trees_of};
 ghost use Rattle.dcm_head.specs.Rewriting.{OfElements};
 
 use arrayvec::ArrayVec;
 use dcm_base::{
-    Coding, DeviceOut, Length, Syntax, Tag, Vr, Watched, WriteFailed, coding_of, put_parts,
+    Coding, DeviceOut, Dictionary, Length, Syntax, Tag, Vr, Watched, WriteFailed, coding_of,
+    put_parts,
 };
 use dcm_head::{
     Head, LONG_HEAD, META_LIMIT, PREAMBLE, PREFIX, SHORT_HEAD, element_head, first_element,
@@ -118,7 +119,10 @@ impl NewGroup {
         ensures { self.new ≡ self.old ++ shown tag vr value.now ∷ [] }
     {
         let length = Length::Known(value.len() as u32);
-        let head = element_head(Syntax::Little, &Head { tag, vr, length });
+        let head = element_head(
+            Syntax::Little(Dictionary::Extract),
+            &Head { tag, vr, length },
+        );
         extend(&mut self.spelled, head.as_slice());
         extend(&mut self.spelled, value);
     }

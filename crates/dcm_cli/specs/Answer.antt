@@ -1,7 +1,7 @@
 -- What a run answers: the output, the lines on standard error, and the status.
 use Rattle.std.specs.Prelude.{◌≡◌, ℕ, zero, suc, ◌+◌, ◌<◌, ◌≤◌, Bool, true, false, List, [], ◌∷◌, ◌++◌, length, drop, codes, decimal, Option, Some, None, if◌then◌else◌}
 use Rattle.dcm_base.specs.declared.syntax.Syntax.{Syntax}
-use Rattle.dcm_base.specs.declared.syntax.Syntax.TheVariants.{Implicit, Little, Big}
+use Rattle.dcm_base.specs.declared.syntax.Syntax.TheVariants.{Implicit as implicit_in, Little as little_in, Big as big_in}
 use Rattle.dcm_base.specs.declared.syntax.Coding.{Coding}
 use Rattle.dcm_base.specs.declared.fault.Fault.{Fault}
 use Rattle.dcm_base.specs.declared.fault.Fault.TheVariants.{CannotChange}
@@ -18,6 +18,9 @@ use Rattle.dcm_base.specs.Recode.{recode}
 use Rattle.dcm_edit.specs.Edit.{Edit, edited, found}
 use Rattle.dcm_base.specs.Fault.{fault_number, fault_text, line_fault_number, line_fault_text}
 use Rattle.dcm_base.specs.Build as build
+use Rattle.dcm_base.specs.Syntax.{dictionary_of, read_by, coding_by}
+use Rattle.dcm_base.specs.declared.lookup.Dictionary.{Dictionary}
+use Rattle.dcm_base.specs.declared.lookup.Dictionary.TheVariants.{Extract}
 use Rattle.dcm_words.specs.Words.{Job, dump, convert, build as building, modify}
 use Rattle.dcm_cli.specs.Told.{told, unplaced_line}
 
@@ -36,14 +39,21 @@ pub data Source : Type 0 where
 
 -- the transfer syntaxes that are not encapsulated (PS3.5 annex A)
 abbrev pub uid_of_syntax : Syntax → List ℕ
-uid_of_syntax Implicit = codes "1.2.840.10008.1.2"
-uid_of_syntax Little = codes "1.2.840.10008.1.2.1"
-uid_of_syntax Big = codes "1.2.840.10008.1.2.2"
+uid_of_syntax (implicit_in d) = codes "1.2.840.10008.1.2"
+uid_of_syntax (little_in d) = codes "1.2.840.10008.1.2.1"
+uid_of_syntax (big_in d) = codes "1.2.840.10008.1.2.2"
 
--- what a conversion writes
+-- what a conversion writes, by the dictionary of the input
 abbrev pub target_syntax : Option Syntax → Coding → Syntax
 target_syntax None coding = coding.syntax
-target_syntax (Some syntax) coding = syntax
+target_syntax (Some syntax) coding = read_by (dictionary_of coding.syntax) syntax
+
+-- the dictionary that a job reads with; lines name their representations
+abbrev pub job_dictionary : Job → Dictionary
+job_dictionary (dump d mode bare) = d
+job_dictionary (convert d target) = d
+job_dictionary (building limit) = Extract
+job_dictionary (modify d edits) = d
 
 abbrev pub target_uid : Option Syntax → Meta → List ℕ
 target_uid None m = m.uid
@@ -51,25 +61,31 @@ target_uid (Some syntax) m = uid_of_syntax syntax
 
 -- what a tool bars of itself
 abbrev pub job_bar : Job → Coding → Bar
-job_bar (convert target) coding = target_bar (target_syntax target coding)
-job_bar (modify edits) coding = ascending_bar
+job_bar (convert d target) coding = target_bar (target_syntax target coding)
+job_bar (modify d edits) coding = ascending_bar
 job_bar _ coding = no_bar
 
 -- an encapsulated file keeps its transfer syntax
 abbrev pub refuses_change : Job → Coding → Bool
-refuses_change (convert (Some syntax)) coding = coding.encapsulated
+refuses_change (convert d (Some syntax)) coding = coding.encapsulated
 refuses_change _ coding = false
 
 -- a data set begins behind the preamble, the prefix and the group
 abbrev pub set_at : List ℕ → ℕ
 set_at group = 132 + length group
 
+-- the head of a file: its meta elements, its group, and the coding that the group names, read by a dictionary
+pub record HeadIs (d : Dictionary) (bytes : List ℕ) (m : Meta) (group : List ℕ) (coding : Coding) : Type 0 where
+  pub named : Coding
+  pub head : MetaReads bytes (meta.begins m group named)
+  pub coding_is : coding ≡ coding_by d named
+
 -- how a file is read for a job
 pub data FileReads (job : Job) (bytes : List ℕ) (source : Source) : Type 0 where
   not_opened : (fault : Fault) (offset : ℕ) → MetaReads bytes (meta.refused fault offset) → source ≡ unopened fault offset → FileReads job bytes source
-  not_changed : (m : Meta) (group : List ℕ) (coding : Coding) → MetaReads bytes (meta.begins m group coding) → refuses_change job coding ≡ true
+  not_changed : (m : Meta) (group : List ℕ) (coding : Coding) → HeadIs (job_dictionary job) bytes m group coding → refuses_change job coding ≡ true
       → source ≡ unopened CannotChange (set_at group) → FileReads job bytes source
-  opened : (m : Meta) (group : List ℕ) (coding : Coding) (set : Front) (stop : Stop) → MetaReads bytes (meta.begins m group coding) → refuses_change job coding ≡ false
+  opened : (m : Meta) (group : List ℕ) (coding : Coding) (set : Front) (stop : Stop) → HeadIs (job_dictionary job) bytes m group coding → refuses_change job coding ≡ false
       → Reads (job_bar job coding) coding.syntax (set_at group) (drop (set_at group) bytes) set stop → source ≡ file m coding set stop → FileReads job bytes source
 
 -- a data set alone
@@ -80,7 +96,7 @@ pub record AloneReads (syntax : Syntax) (bytes : List ℕ) (source : Source) : T
   pub source_is : source ≡ alone syntax set stop
 
 abbrev pub InputReads : Job → List ℕ → Source → Type 0
-InputReads (dump mode (Some syntax)) bytes source = AloneReads syntax bytes source
+InputReads (dump d mode (Some syntax)) bytes source = AloneReads (read_by d syntax) bytes source
 InputReads job bytes source = FileReads job bytes source
 
 -- ---- what is written of it
@@ -90,13 +106,13 @@ abbrev pub written_file : List ℕ → Syntax → Meta → Front → List ℕ
 written_file uid syntax m set = m.preamble ++ PREFIX ++ new_meta m.elements uid ++ recode syntax set
 
 abbrev pub file_output : Job → Meta → Coding → Front → List ℕ
-file_output (dump mode bare) m coding set = meta_header mode m.elements ++ set_header m.uid ++ dump_front mode 0 set
-file_output (convert target) m coding set = written_file (target_uid target m) (target_syntax target coding) m set
-file_output (modify edits) m coding set = written_file m.uid coding.syntax m (edited edits set)
+file_output (dump d mode bare) m coding set = meta_header d mode m.elements ++ set_header m.uid ++ dump_front d mode 0 set
+file_output (convert d target) m coding set = written_file (target_uid target m) (target_syntax target coding) m set
+file_output (modify d edits) m coding set = written_file m.uid coding.syntax m (edited edits set)
 file_output (building limit) m coding set = []
 
 abbrev pub alone_output : Job → Syntax → Front → List ℕ
-alone_output (dump mode bare) syntax set = set_header (uid_of_syntax syntax) ++ dump_front mode 0 set
+alone_output (dump d mode bare) syntax set = set_header (uid_of_syntax syntax) ++ dump_front d mode 0 set
 alone_output _ syntax set = []
 
 abbrev pub output_of : Job → Source → List ℕ
@@ -117,7 +133,7 @@ unplaced_lines n (e ∷ edits) set =
     if found e set then more else unplaced_line n ++ more
 
 abbrev pub edits_of : Job → List Edit
-edits_of (modify edits) = edits
+edits_of (modify d edits) = edits
 edits_of _ = []
 
 abbrev pub status_of_lines : List ℕ → ℕ
@@ -174,7 +190,7 @@ going_on (front whole open_tree reached closed) = front whole open_tree reached 
 -- of a beginning of a file: nothing until two bytes have ended its meta group
 pub data FileSure (job : Job) (p out : List ℕ) : Type 0 where
   before_set : (a : meta.MetaAnswer) → MetaReads p a → meta.is_undecided (length p) a ≡ true → out ≡ [] → FileSure job p out
-  within_set : (m : Meta) (group : List ℕ) (coding : Coding) (set : Front) (stop : Stop) → MetaReads p (meta.begins m group coding) → set_at group < length p → refuses_change job coding ≡ false
+  within_set : (m : Meta) (group : List ℕ) (coding : Coding) (set : Front) (stop : Stop) → HeadIs (job_dictionary job) p m group coding → set_at group < length p → refuses_change job coding ≡ false
       → Reads (job_bar job coding) coding.syntax (set_at group) (drop (set_at group) p) set stop → is_undecided (Some stop) ≡ true
       → out ≡ file_output job m coding (going_on set) → FileSure job p out
 
@@ -196,5 +212,5 @@ pub record LinesSure (limit : ℕ) (p out : List ℕ) : Type 0 where
 -- what stands written after p, where more bytes can still change how its reading ends
 abbrev pub Sure : Job → List ℕ → List ℕ → Type 0
 Sure (building limit) p out = LinesSure limit p out
-Sure (dump mode (Some syntax)) p out = AloneSure (dump mode (Some syntax)) syntax p out
+Sure (dump d mode (Some syntax)) p out = AloneSure (dump d mode (Some syntax)) (read_by d syntax) p out
 Sure job p out = FileSure job p out

@@ -3,6 +3,7 @@ use Rattle.std.specs.Prelude.{◌≡◌, ◌⊎◌, ◌↔◌, ℕ, List, Bool, 
 use Rattle.dcm_base.specs.declared.syntax.Syntax.{Syntax}
 use Rattle.dcm_base.specs.Device.{Puts}
 use Rattle.dcm_base.specs.Outputs.{Writer}
+use Rattle.dcm_base.specs.declared.lookup.Dictionary.{Dictionary}
 use Rattle.dcm_head.specs.MetaReading.{Reading, group_of}
 use Rattle.dcm_head.specs.Rewriting.{OfElements}
 use Rattle.dcm_words.specs.declared.job.Job as words
@@ -76,8 +77,8 @@ abbrev pub PutsHead : {W T E : Type 0} → Writer W → (old new : W) → Readin
 PutsHead w old new meta uid result = OfElements (group_of meta) (λ elements. Puts (w.contents old) (w.contents new) (opening.head_text meta uid elements) result)
 
 -- a file was opened that is to be written again, or why not
-abbrev pub Opens : {R W : Type 0} → Reader R → Writer W → Option Syntax → (old new : R) → (held holds : W) → (buffer : List ℕ) → Result Opened Ending → Type 0
-Opens r w target old new held holds buffer result = opening.Opens target (r.remaining old) (r.remaining new) (w.contents held) (w.contents holds) buffer result
+abbrev pub Opens : {R W : Type 0} → Reader R → Writer W → Dictionary → Option Syntax → (old new : R) → (held holds : W) → (buffer : List ℕ) → Result Opened Ending → Type 0
+Opens r w d target old new held holds buffer result = opening.Opens d target (r.remaining old) (r.remaining new) (w.contents held) (w.contents holds) buffer result
 
 -- the reader failed in the call exactly where that is why
 abbrev pub OpensUnread : {R : Type 0} → Reader R → (old new : R) → Result Opened Ending → Type 0

@@ -8,17 +8,18 @@ use Rattle.dcm_base.specs.Normal.{whole_front}
 use Rattle.dcm_base.specs.Number.{AreBytes}
 use Rattle.dcm_base.specs.Stop.{complete}
 use Rattle.dcm_base.specs.Tree.{Trees}
+use Rattle.dcm_base.specs.declared.lookup.Dictionary.{Dictionary}
 use Rattle.dcm_build.specs.DumpBuilds.{FitsLines, WholeUnits}
 use Rattle.dcm_words.specs.Words.{GREATEST_LIMIT, dump, convert, build}
 use Rattle.dcm_cli.specs.Answer.{Answer, Answers, FileReads, file as a_file}
 
--- a file that is read without fault, whose values are of whole units, and where the tags of each data set ascend without repeats
-pub record CanBeBuilt (file : List ℕ) : Type 0 where
+-- a file that is read by a dictionary without fault, whose values are of whole units, and where the tags of each data set ascend without repeats
+pub record CanBeBuilt (d : Dictionary) (file : List ℕ) : Type 0 where
   pub bytes : AreBytes file
   pub meta : Meta
   pub coding : Coding
   pub set : Trees
-  pub reads : FileReads (dump Full None) file (a_file meta coding (whole_front set) complete)
+  pub reads : FileReads (dump d Full None) file (a_file meta coding (whole_front set) complete)
   pub units_of_group : WholeUnits meta.elements
   pub units : WholeUnits set
   pub ascends : Ascend None set
@@ -32,7 +33,7 @@ pub record BuildsWhatConverts (built converted : Answer) : Type 0 where
 -- where no line of its full dump passes the limit, that dump builds what a conversion to the file's own transfer syntax writes
 abbrev pub DumpBuilds : Type 0
 DumpBuilds =
-    (limit : ℕ) (file : List ℕ) (dumped built converted : Answer) → limit ≤ GREATEST_LIMIT → CanBeBuilt file
-    → Answers (dump Full None) file dumped → FitsLines limit dumped.output
-    → Answers (build limit) dumped.output built → Answers (convert None) file converted
+    (d : Dictionary) (limit : ℕ) (file : List ℕ) (dumped built converted : Answer) → limit ≤ GREATEST_LIMIT → CanBeBuilt d file
+    → Answers (dump d Full None) file dumped → FitsLines limit dumped.output
+    → Answers (build limit) dumped.output built → Answers (convert d None) file converted
     → BuildsWhatConverts built converted

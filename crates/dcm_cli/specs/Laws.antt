@@ -5,6 +5,7 @@ use Rattle.dcm_base.specs.Front.{Front}
 use Rattle.dcm_base.specs.MetaReads.{Meta}
 use Rattle.dcm_base.specs.declared.tag.Tag.{Tag}
 use Rattle.dcm_base.specs.declared.vr.Vr.{Vr}
+use Rattle.dcm_base.specs.declared.lookup.Dictionary.{Dictionary}
 use Rattle.dcm_edit.specs.Edit.{Edit, erase_all, erase_private, modify_all}
 use Rattle.dcm_edit.specs.Everywhere.{Among, EverywhereIn, IsOther, IsPublic, IsWrittenJust}
 use Rattle.dcm_edit.specs.Repeating.{EraseByNoNumber}
@@ -26,38 +27,38 @@ SureGrows =
 -- what dcmodify writes of a file without fault is read without fault
 abbrev pub ModifiedReads : Type 0
 ModifiedReads =
-    (edits : List Edit) (input : List ℕ) (a : Answer) (m : Meta) (coding : Coding) (f : Front)
-    → IsModified edits input a m coding f → ReadsModified edits a m coding f
+    (d : Dictionary) (edits : List Edit) (input : List ℕ) (a : Answer) (m : Meta) (coding : Coding) (f : Front)
+    → IsModified d edits input a m coding f → ReadsModified d edits a m coding f
 
 -- what dcmconv writes of a file without fault is read without fault
 abbrev pub ConvertedReads : Type 0
 ConvertedReads =
-    (target : Option Syntax) (input : List ℕ) (a : Answer) (m : Meta) (coding : Coding) (f : Front)
-    → IsConverted target input a m coding f → ReadsConverted target a m coding f
+    (d : Dictionary) (target : Option Syntax) (input : List ℕ) (a : Answer) (m : Meta) (coding : Coding) (f : Front)
+    → IsConverted d target input a m coding f → ReadsConverted d target a m coding f
 
 -- after `-ea` no element has the tag, at any depth
 abbrev pub ErasedAll : Type 0
 ErasedAll =
-    (edits : List Edit) (input : List ℕ) (a : Answer) (m : Meta) (coding : Coding) (f : Front)
-    → IsModified edits input a m coding f → (tag : Tag) → Among (erase_all tag) edits
-    → InOutput (λ s set. EverywhereIn (IsOther tag) set) a
+    (d : Dictionary) (edits : List Edit) (input : List ℕ) (a : Answer) (m : Meta) (coding : Coding) (f : Front)
+    → IsModified d edits input a m coding f → (tag : Tag) → Among (erase_all tag) edits
+    → InOutput d (λ s set. EverywhereIn (IsOther tag) set) a
 
 -- after `-ep` no element is of an odd group, at any depth
 abbrev pub ErasedPrivate : Type 0
 ErasedPrivate =
-    (edits : List Edit) (input : List ℕ) (a : Answer) (m : Meta) (coding : Coding) (f : Front)
-    → IsModified edits input a m coding f → Among erase_private edits → InOutput (λ s set. EverywhereIn IsPublic set) a
+    (d : Dictionary) (edits : List Edit) (input : List ℕ) (a : Answer) (m : Meta) (coding : Coding) (f : Front)
+    → IsModified d edits input a m coding f → Among erase_private edits → InOutput d (λ s set. EverywhereIn IsPublic set) a
 
 -- after `-ma` each element of the tag has the value as it is written, at any depth
 abbrev pub ModifiedAll : Type 0
 ModifiedAll =
-    (edits : List Edit) (input : List ℕ) (a : Answer) (m : Meta) (coding : Coding) (f : Front)
-    → IsModified edits input a m coding f → (tag : Tag) (vr : Vr) (value : List ℕ) → Among (modify_all tag vr value) edits
-    → InOutput (λ s set. EverywhereIn (IsWrittenJust s tag vr value) set) a
+    (d : Dictionary) (edits : List Edit) (input : List ℕ) (a : Answer) (m : Meta) (coding : Coding) (f : Front)
+    → IsModified d edits input a m coding f → (tag : Tag) (vr : Vr) (value : List ℕ) → Among (modify_all tag vr value) edits
+    → InOutput d (λ s set. EverywhereIn (IsWrittenJust s tag vr value) set) a
 
 -- the same edits again write the same bytes, unless one erases an item by its number
 abbrev pub ModifiedTwice : Type 0
 ModifiedTwice =
-    (edits : List Edit) (input : List ℕ) (a b : Answer) (m : Meta) (coding : Coding) (f : Front)
-    → IsModified edits input a m coding f → EraseByNoNumber edits → Answers (words.modify edits) a.output b
+    (d : Dictionary) (edits : List Edit) (input : List ℕ) (a b : Answer) (m : Meta) (coding : Coding) (f : Front)
+    → IsModified d edits input a m coding f → EraseByNoNumber edits → Answers (words.modify d edits) a.output b
     → (b.output ≡ a.output) × ((b.status ≡ 0) ⊎ (b.status ≡ 3))

@@ -2,6 +2,7 @@
 use Rattle.std.specs.Prelude.{◌≢◌, ℕ, List, [], None}
 use Rattle.dcm_base.specs.declared.fault.Fault.TheVariants.{NotAscending}
 use Rattle.dcm_base.specs.Stop.{refused}
+use Rattle.dcm_base.specs.declared.lookup.Dictionary.{Dictionary}
 use Rattle.dcm_words.specs.Words.{convert, modify}
 use Rattle.dcm_cli.specs.Answer.{Answer, Answers, Source, unopened, file, alone}
 
@@ -13,4 +14,5 @@ IsInOrder (alone syntax set stop) = Unit {0}
 
 -- where the tags ascend, both answer the same: output, lines and status
 abbrev pub NoEditsConvert : Type 0
-NoEditsConvert = (input : List ℕ) (a : Answer) → (modified : Answers (modify []) input a) → IsInOrder modified.source → Answers (convert None) input a
+NoEditsConvert =
+    (d : Dictionary) (input : List ℕ) (a : Answer) → (modified : Answers (modify d []) input a) → IsInOrder modified.source → Answers (convert d None) input a

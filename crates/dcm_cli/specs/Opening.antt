@@ -8,6 +8,8 @@ use Rattle.dcm_base.specs.Device.{AppendsFront}
 use Rattle.dcm_base.specs.MetaReads.{Meta, PREFIX}
 use Rattle.dcm_base.specs.NewMeta.{new_meta}
 use Rattle.dcm_base.specs.Tree.{Trees}
+use Rattle.dcm_base.specs.Syntax.{coding_by}
+use Rattle.dcm_base.specs.declared.lookup.Dictionary.{Dictionary}
 use Rattle.dcm_words.specs.Words.{convert}
 use Rattle.dcm_head.specs.declared.meta_read.MetaEnd.TheVariants.{Ended}
 use Rattle.dcm_head.specs.MetaReading as meta
@@ -22,11 +24,13 @@ use Rattle.dcm_cli.specs.Answer.{refuses_change, target_uid}
 use Rattle.dcm_cli.specs.Pass.{Begins, FailsHead, ending_of_head}
 
 -- the head of a file was read
-pub record HeadRead (had left : Option (List ℕ)) (buffer : List ℕ) (r : meta.Reading) (b : Begun) (coding : Coding) (start : ℕ) : Type 0 where
+pub record HeadRead (d : Dictionary) (had left : Option (List ℕ)) (buffer : List ℕ) (r : meta.Reading) (b : Begun) (coding : Coding) (start : ℕ) : Type 0 where
   pub read : List ℕ
   pub given : had ≡ prepend_known read left
   pub begins : Begins r b buffer left read
-  pub coding_is : r.end ≡ Some (Ended coding)
+  pub named : Coding
+  pub end_is : r.end ≡ Some (Ended named)
+  pub coding_is : coding ≡ coding_by d named
   pub start_is : start ≡ r.place
 
 -- the unique identifier of the target
@@ -38,23 +42,23 @@ abbrev pub head_text : meta.Reading → (uid : List ℕ) → Trees → List ℕ
 head_text r uid elements = take 128 r.bytes ++ PREFIX ++ new_meta elements uid
 
 -- it was written
-pub record OpenedAs (target : Option Syntax) (had left held holds : Option (List ℕ)) (buffer : List ℕ) (o : Opened) : Type 0 where
+pub record OpenedAs (d : Dictionary) (target : Option Syntax) (had left held holds : Option (List ℕ)) (buffer : List ℕ) (o : Opened) : Type 0 where
   pub reading : meta.Reading
   pub uid : List ℕ
-  pub head : HeadRead had left buffer reading o.begun o.coding o.start
-  pub keeps : refuses_change (convert target) o.coding ≡ false
+  pub head : HeadRead d had left buffer reading o.begun o.coding o.start
+  pub keeps : refuses_change (convert d target) o.coding ≡ false
   pub uid_is : TargetUid target reading uid
   pub written : OfElements (meta.group_of reading) (λ elements. holds ≡ append_known held (head_text reading uid elements))
 
 -- or the file has no such data set, or cannot be changed, or its head was not written whole
-pub data NotOpened (target : Option Syntax) (had left held holds : Option (List ℕ)) (ending : Ending) : Type 0 where
+pub data NotOpened (d : Dictionary) (target : Option Syntax) (had left held holds : Option (List ℕ)) (ending : Ending) : Type 0 where
   no_set : (r : meta.Reading) (read : List ℕ) (head : HeadEnding) → had ≡ prepend_known read left → FailsHead r left read head → holds ≡ held → ending ≡ ending_of_head head
-      → NotOpened target had left held holds ending
-  no_change : (buffer : List ℕ) (r : meta.Reading) (b : Begun) (coding : Coding) (start : ℕ) → HeadRead had left buffer r b coding start → refuses_change (convert target) coding ≡ true
-      → holds ≡ held → ending ≡ Worked (Refused (record { fault = CannotChange; at = start })) → NotOpened target had left held holds ending
-  no_head : (buffer : List ℕ) (r : meta.Reading) (b : Begun) (coding : Coding) (start : ℕ) (uid : List ℕ) → HeadRead had left buffer r b coding start → refuses_change (convert target) coding ≡ false
-      → TargetUid target r uid → OfElements (meta.group_of r) (λ elements. AppendsFront held holds (head_text r uid elements)) → ending ≡ Output → NotOpened target had left held holds ending
+      → NotOpened d target had left held holds ending
+  no_change : (buffer : List ℕ) (r : meta.Reading) (b : Begun) (coding : Coding) (start : ℕ) → HeadRead d had left buffer r b coding start → refuses_change (convert d target) coding ≡ true
+      → holds ≡ held → ending ≡ Worked (Refused (record { fault = CannotChange; at = start })) → NotOpened d target had left held holds ending
+  no_head : (buffer : List ℕ) (r : meta.Reading) (b : Begun) (coding : Coding) (start : ℕ) (uid : List ℕ) → HeadRead d had left buffer r b coding start → refuses_change (convert d target) coding ≡ false
+      → TargetUid target r uid → OfElements (meta.group_of r) (λ elements. AppendsFront held holds (head_text r uid elements)) → ending ≡ Output → NotOpened d target had left held holds ending
 
-abbrev pub Opens : Option Syntax → (had left held holds : Option (List ℕ)) → (buffer : List ℕ) → Result Opened Ending → Type 0
-Opens target had left held holds buffer (Ok o) = OpenedAs target had left held holds buffer o
-Opens target had left held holds buffer (Err ending) = NotOpened target had left held holds ending
+abbrev pub Opens : Dictionary → Option Syntax → (had left held holds : Option (List ℕ)) → (buffer : List ℕ) → Result Opened Ending → Type 0
+Opens d target had left held holds buffer (Ok o) = OpenedAs d target had left held holds buffer o
+Opens d target had left held holds buffer (Err ending) = NotOpened d target had left held holds ending

@@ -19,7 +19,7 @@ use Rattle.dcm_cli.specs.Told.{Tries, fault_line, unread_line, output_line, mask
 
 -- the edits of a job are those that some words mean
 abbrev pub IsMeant : Job → Type 0
-IsMeant (modify edits) = AreMeant edits
+IsMeant (modify d edits) = AreMeant edits
 IsMeant _ = Unit {0}
 
 -- ---- the work on a job, before its output is flushed

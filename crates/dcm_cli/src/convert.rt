@@ -7,7 +7,7 @@ ghost use Rattle.dcm_cli.specs.Pass as spec;
 use crate::ending::Ending;
 use crate::pass::read_set;
 use crate::rewrite::{open_file, target_syntax};
-use dcm_base::{DeviceIn, DeviceOut, Syntax, Watched};
+use dcm_base::{DeviceIn, DeviceOut, Dictionary, Syntax, Watched};
 use dcm_tools::EncodeSink;
 use dcm_words::Convert;
 
@@ -16,6 +16,7 @@ const PIECE: usize = 262_144;
 
 /// Writes a file in another transfer syntax, or in its own.
 fn convert_file<R: DeviceIn, W: DeviceOut>(
+    dictionary: Dictionary,
     target: Option<Syntax>,
     input: &mut Watched<R>,
     out: &mut Watched<W>,
@@ -23,12 +24,12 @@ fn convert_file<R: DeviceIn, W: DeviceOut>(
 ) -> Ending
     requires room { 0 < length buffer.old }
     requires bound { length buffer.old ≤ 262144 }
-    ensures worked { calls.Works R.DeviceIn W.DeviceOut (convert_job target) input.old input.new out.old out.new result }
-    ensures stops { calls.Stops R.DeviceIn (convert_job target) input.old input.new }
+    ensures worked { calls.Works R.DeviceIn W.DeviceOut (convert_job dictionary target) input.old input.new out.old out.new result }
+    ensures stops { calls.Stops R.DeviceIn (convert_job dictionary target) input.old input.new }
     ensures unread { spec.TellsUnread (R.has_failed input.old) (R.has_failed input.new) result }
     ensures failed { spec.TellsOutput (W.has_failed out.old) (W.has_failed out.new) result }
 {
-    let opened = match open_file(target, input, out, buffer) {
+    let opened = match open_file(dictionary, target, input, out, buffer) {
         Ok(opened) => opened,
         Err(ending) => return ending,
     };
@@ -48,11 +49,11 @@ pub fn convert<R: DeviceIn, W: DeviceOut>(
     input: &mut Watched<R>,
     out: &mut Watched<W>,
 ) -> Ending
-    ensures worked { calls.Works R.DeviceIn W.DeviceOut (convert_job convert.target) input.old input.new out.old out.new result }
-    ensures stops { calls.Stops R.DeviceIn (convert_job convert.target) input.old input.new }
+    ensures worked { calls.Works R.DeviceIn W.DeviceOut (convert_job convert.dictionary convert.target) input.old input.new out.old out.new result }
+    ensures stops { calls.Stops R.DeviceIn (convert_job convert.dictionary convert.target) input.old input.new }
     ensures unread { spec.TellsUnread (R.has_failed input.old) (R.has_failed input.new) result }
     ensures failed { spec.TellsOutput (W.has_failed out.old) (W.has_failed out.new) result }
 {
     let mut buffer = [0u8; PIECE];
-    convert_file(convert.target, input, out, &mut buffer)
+    convert_file(convert.dictionary, convert.target, input, out, &mut buffer)
 }

@@ -10,10 +10,10 @@ use crate::ending::{Ending, ending_of_head};
 use crate::head::{read_head_of, set_start};
 use crate::pass::{read_rest, read_set};
 use crate::syntax::uid_of_syntax;
-use dcm_base::{Coding, DeviceIn, DeviceOut, Mode, Syntax, Watched};
+use dcm_base::{Coding, DeviceIn, DeviceOut, Dictionary, Mode, Syntax, Watched};
 use dcm_head::Meta;
 use dcm_stream::Machine;
-use dcm_tools::{DumpSink, dump_header, set_header};
+use dcm_tools::{DumpSink, dump_header_by, set_header};
 use dcm_words::Dump;
 
 /// The bytes that are read at a time.
@@ -21,6 +21,7 @@ const PIECE: usize = 65_536;
 
 /// Writes the dump of a file.
 fn dump_file<R: DeviceIn, W: DeviceOut>(
+    dictionary: Dictionary,
     mode: Mode,
     input: &mut Watched<R>,
     out: &mut Watched<W>,
@@ -28,8 +29,8 @@ fn dump_file<R: DeviceIn, W: DeviceOut>(
 ) -> Ending
     requires room { 0 < length buffer.old }
     requires bound { length buffer.old ≤ 65536 }
-    ensures worked { calls.Works R.DeviceIn W.DeviceOut (dump_job mode None) input.old input.new out.old out.new result }
-    ensures stops { calls.Stops R.DeviceIn (dump_job mode None) input.old input.new }
+    ensures worked { calls.Works R.DeviceIn W.DeviceOut (dump_job dictionary mode None) input.old input.new out.old out.new result }
+    ensures stops { calls.Stops R.DeviceIn (dump_job dictionary mode None) input.old input.new }
     ensures unread { spec.TellsUnread (R.has_failed input.old) (R.has_failed input.new) result }
     ensures failed { spec.TellsOutput (W.has_failed out.old) (W.has_failed out.new) result }
 {
@@ -38,16 +39,24 @@ fn dump_file<R: DeviceIn, W: DeviceOut>(
         Ok(begun) => begun,
         Err(ending) => return ending_of_head(ending),
     };
-    if dump_header(&meta, mode, out).is_err() {
+    if dump_header_by(&meta, dictionary, mode, out).is_err() {
         return Ending::Output;
     }
     let start = set_start(&meta);
-    let mut sink = DumpSink::new(out, mode);
-    read_set(begun, meta.coding(), start, input, buffer, &mut sink)
+    let mut sink = DumpSink::by(out, dictionary, mode);
+    read_set(
+        begun,
+        meta.coding().read_by(dictionary),
+        start,
+        input,
+        buffer,
+        &mut sink,
+    )
 }
 
 /// Writes the dump of a data set alone.
 fn dump_set<R: DeviceIn, W: DeviceOut>(
+    dictionary: Dictionary,
     mode: Mode,
     syntax: Syntax,
     input: &mut Watched<R>,
@@ -56,8 +65,8 @@ fn dump_set<R: DeviceIn, W: DeviceOut>(
 ) -> Ending
     requires room { 0 < length buffer.old }
     requires bound { length buffer.old ≤ 65536 }
-    ensures worked { calls.Works R.DeviceIn W.DeviceOut (dump_job mode (Some syntax)) input.old input.new out.old out.new result }
-    ensures stops { calls.Stops R.DeviceIn (dump_job mode (Some syntax)) input.old input.new }
+    ensures worked { calls.Works R.DeviceIn W.DeviceOut (dump_job dictionary mode (Some syntax)) input.old input.new out.old out.new result }
+    ensures stops { calls.Stops R.DeviceIn (dump_job dictionary mode (Some syntax)) input.old input.new }
     ensures unread { spec.TellsUnread (R.has_failed input.old) (R.has_failed input.new) result }
     ensures failed { spec.TellsOutput (W.has_failed out.old) (W.has_failed out.new) result }
 {
@@ -65,10 +74,10 @@ fn dump_set<R: DeviceIn, W: DeviceOut>(
         return Ending::Output;
     }
     let coding = Coding {
-        syntax,
+        syntax: syntax.read_by(dictionary),
         encapsulated: false,
     };
-    let mut sink = DumpSink::new(out, mode);
+    let mut sink = DumpSink::by(out, dictionary, mode);
     let mut machine = Machine::new(coding, 0);
     read_rest(0, input, buffer, &mut machine, &mut sink)
 }
@@ -78,14 +87,14 @@ pub fn dump<R: DeviceIn, W: DeviceOut>(
     input: &mut Watched<R>,
     out: &mut Watched<W>,
 ) -> Ending
-    ensures worked { calls.Works R.DeviceIn W.DeviceOut (dump_job dump.mode dump.bare) input.old input.new out.old out.new result }
-    ensures stops { calls.Stops R.DeviceIn (dump_job dump.mode dump.bare) input.old input.new }
+    ensures worked { calls.Works R.DeviceIn W.DeviceOut (dump_job dump.dictionary dump.mode dump.bare) input.old input.new out.old out.new result }
+    ensures stops { calls.Stops R.DeviceIn (dump_job dump.dictionary dump.mode dump.bare) input.old input.new }
     ensures unread { spec.TellsUnread (R.has_failed input.old) (R.has_failed input.new) result }
     ensures failed { spec.TellsOutput (W.has_failed out.old) (W.has_failed out.new) result }
 {
     let mut buffer = [0u8; PIECE];
     match dump.bare {
-        None => dump_file(dump.mode, input, out, &mut buffer),
-        Some(syntax) => dump_set(dump.mode, syntax, input, out, &mut buffer),
+        None => dump_file(dump.dictionary, dump.mode, input, out, &mut buffer),
+        Some(syntax) => dump_set(dump.dictionary, dump.mode, syntax, input, out, &mut buffer),
     }
 }

@@ -12,10 +12,11 @@ ghost use Rattle.dcm_cli.specs.SinkPass as sink_pass;
 use crate::ending::{Ending, Verdict};
 use crate::pass::read_set;
 use crate::rewrite::{Opened, open_file};
-use dcm_base::{DeviceIn, DeviceOut, Watched};
+use dcm_base::{DeviceIn, DeviceOut, Dictionary, Watched};
 use dcm_edit::{EditSink, Edits};
 use dcm_stream::Sink;
 use dcm_tools::EncodeSink;
+use dcm_words::Modify;
 
 /// The bytes that are read at a time. Most of them are written again, each piece by one call.
 const PIECE: usize = 262_144;
@@ -64,6 +65,7 @@ fn read_edited<R: DeviceIn, S: Sink>(
 
 /// Writes a file as the edits make it.
 fn modify_file<R: DeviceIn, W: DeviceOut>(
+    dictionary: Dictionary,
     edits: &Edits,
     input: &mut Watched<R>,
     out: &mut Watched<W>,
@@ -72,12 +74,12 @@ fn modify_file<R: DeviceIn, W: DeviceOut>(
     requires meant { AreMeant edits.now }
     requires room { 0 < length buffer.old }
     requires bound { length buffer.old ≤ 262144 }
-    ensures worked { calls.Works R.DeviceIn W.DeviceOut (modify_job edits.now) input.old input.new out.old out.new result }
-    ensures stops { calls.Stops R.DeviceIn (modify_job edits.now) input.old input.new }
+    ensures worked { calls.Works R.DeviceIn W.DeviceOut (modify_job dictionary edits.now) input.old input.new out.old out.new result }
+    ensures stops { calls.Stops R.DeviceIn (modify_job dictionary edits.now) input.old input.new }
     ensures unread { spec.TellsUnread (R.has_failed input.old) (R.has_failed input.new) result }
     ensures failed { spec.TellsOutput (W.has_failed out.old) (W.has_failed out.new) result }
 {
-    let opened = match open_file(None, input, out, buffer) {
+    let opened = match open_file(dictionary, None, input, out, buffer) {
         Ok(opened) => opened,
         Err(ending) => return ending,
     };
@@ -85,20 +87,20 @@ fn modify_file<R: DeviceIn, W: DeviceOut>(
     read_edited(edits, opened, input, buffer, &mut sink)
 }
 
-/// Writes a file as the edits make it.
+/// Writes a file, which is read by a dictionary, as the edits make it.
 pub fn modify<R: DeviceIn, W: DeviceOut>(
-    edits: &Edits,
+    modify: &Modify,
     input: &mut Watched<R>,
     out: &mut Watched<W>,
 ) -> Ending
-    ensures worked { calls.Works R.DeviceIn W.DeviceOut (modify_job edits.now) input.old input.new out.old out.new result }
-    ensures stops { calls.Stops R.DeviceIn (modify_job edits.now) input.old input.new }
+    ensures worked { calls.Works R.DeviceIn W.DeviceOut (modify_job modify.now.dictionary modify.now.edits) input.old input.new out.old out.new result }
+    ensures stops { calls.Stops R.DeviceIn (modify_job modify.now.dictionary modify.now.edits) input.old input.new }
     ensures unread { spec.TellsUnread (R.has_failed input.old) (R.has_failed input.new) result }
     ensures failed { spec.TellsOutput (W.has_failed out.old) (W.has_failed out.new) result }
-    ensures meant { AreMeant edits.now }
+    ensures meant { AreMeant modify.now.edits }
 {
     // The list is asked for since it is said of it that some words mean the edits.
-    let _list = edits.list();
+    let _list = modify.edits.list();
     let mut buffer = [0u8; PIECE];
-    modify_file(edits, input, out, &mut buffer)
+    modify_file(modify.dictionary, &modify.edits, input, out, &mut buffer)
 }

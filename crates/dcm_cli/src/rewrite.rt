@@ -14,7 +14,9 @@ ghost use Rattle.dcm_cli.specs.Stops.{HeadStops};
 use crate::ending::{Ending, Verdict, ending_of_head};
 use crate::head::{Begun, read_head_of, set_start};
 use crate::syntax::uid_of_syntax;
-use dcm_base::{Coding, DeviceIn, DeviceOut, Fault, Stop, Syntax, Watched, WriteFailed, put_parts};
+use dcm_base::{
+    Coding, DeviceIn, DeviceOut, Dictionary, Fault, Stop, Syntax, Watched, WriteFailed, put_parts,
+};
 use dcm_head::{Meta, PREFIX};
 
 /// A file whose data set is to be written again: the coding and the offset of the data set, and what was read of it.
@@ -27,18 +29,18 @@ pub struct Opened {
 
 /// Whether a file in this coding keeps its transfer syntax, and another is wanted.
 fn refuses_change(target: Option<Syntax>, coding: Coding) -> bool
-    ensures { result ≡ answer.refuses_change (convert_job target) coding }
+    ensures { (d : Dictionary) → result ≡ answer.refuses_change (convert_job d target) coding }
 {
     coding.encapsulated && target.is_some()
 }
 
-/// The syntax that is written.
+/// The syntax that is written, read by the dictionary of the input.
 pub fn target_syntax(target: Option<Syntax>, coding: Coding) -> Syntax
     ensures { result ≡ answer.target_syntax target coding }
 {
     match target {
         None => coding.syntax,
-        Some(syntax) => syntax,
+        Some(syntax) => syntax.read_by(coding.syntax.dictionary()),
     }
 }
 
@@ -69,8 +71,9 @@ fn write_head<W: DeviceOut>(
     meta.rewritten(uid, out)
 }
 
-/// Reads the head of a file, and writes it again with the transfer syntax of the target.
+/// Reads the head of a file, and writes it again with the transfer syntax of the target. The coding is read by the dictionary.
 pub fn open_file<R: DeviceIn, W: DeviceOut>(
+    dictionary: Dictionary,
     target: Option<Syntax>,
     input: &mut Watched<R>,
     out: &mut Watched<W>,
@@ -78,7 +81,7 @@ pub fn open_file<R: DeviceIn, W: DeviceOut>(
 ) -> Result<Opened, Ending>
     requires room { 0 < length buffer.old }
     requires bound { length buffer.old ≤ 262144 }
-    ensures opens { calls.Opens R.DeviceIn W.DeviceOut target input.old input.new out.old out.new buffer.new result }
+    ensures opens { calls.Opens R.DeviceIn W.DeviceOut dictionary target input.old input.new out.old out.new buffer.new result }
     ensures stops { HeadStops (R.remaining input.old) (R.remaining input.new) }
     ensures start { IfOk result (λ o. o.start ≤ 2 ^ 62) }
     ensures within { IfOk result (λ o. (o.begun.used ≤ o.begun.filled) × (o.begun.filled ≤ length buffer.new)) }
@@ -93,7 +96,7 @@ pub fn open_file<R: DeviceIn, W: DeviceOut>(
         Ok(begun) => begun,
         Err(ending) => return Err(ending_of_head(ending)),
     };
-    let coding = meta.coding();
+    let coding = meta.coding().read_by(dictionary);
     let start = set_start(&meta);
     if refuses_change(target, coding) {
         return Err(Ending::Worked(Verdict::Refused(Stop {

@@ -110,7 +110,7 @@ fn work<R: DeviceIn, W: DeviceOut>(
         Job::Dump(what) => dump(*what, input, out),
         Job::Convert(what) => convert(*what, input, out),
         Job::Build(what) => build(*what, input, out),
-        Job::Modify(edits) => modify(edits, input, out),
+        Job::Modify(what) => modify(what, input, out),
     }
 }
 

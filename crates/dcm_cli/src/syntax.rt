@@ -10,8 +10,8 @@ pub fn uid_of_syntax(syntax: Syntax) -> &'static [u8]
     ensures limit { length result.now < 65535 }
 {
     match syntax {
-        Syntax::Implicit => IMPLICIT_UID,
-        Syntax::Little => LITTLE_UID,
-        Syntax::Big => BIG_UID,
+        Syntax::Implicit(_) => IMPLICIT_UID,
+        Syntax::Little(_) => LITTLE_UID,
+        Syntax::Big(_) => BIG_UID,
     }
 }

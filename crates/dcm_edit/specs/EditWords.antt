@@ -8,7 +8,9 @@ use Rattle.dcm_base.specs.declared.vr.Vr.{Vr}
 use Rattle.dcm_base.specs.declared.fault.EditRefusal.{EditRefusal}
 use Rattle.dcm_base.specs.declared.fault.EditRefusal.TheVariants.{BadOption, UnknownTag, ValueDoesNotFit, SequenceMisused, MetaGroup, Overlap, TooMany}
 use Rattle.dcm_base.specs.Representation.{is_sequence}
-use Rattle.dcm_base.specs.Dictionary.{element, tag_of}
+use Rattle.dcm_base.specs.declared.lookup.Dictionary.{Dictionary}
+use Rattle.dcm_base.specs.declared.lookup.Dictionary.TheVariants.{Extract, Standard}
+use Rattle.dcm_base.specs.Dictionary.{element_in, tag_in}
 use Rattle.dcm_base.specs.ReadValue.{tag_of_text, number_in, value_of_word}
 use Rattle.dcm_edit.specs.Edit.{Index, number, every, PathEdit, step, insert, modify, erase, erase_item, Edit, on_path, modify_all, erase_all, erase_private}
 use Rattle.dcm_edit.specs.Overlap.{first_overlap}
@@ -133,20 +135,20 @@ pub record Known : Type 0 where
   pub vr : Vr
   pub index : Option Index
 
--- a tag of the extract, but of no meta group
-abbrev pub known_tag : Option Index → Tag → Result Known EditRefusal
-known_tag index tag =
+-- a tag of the dictionary, but of no meta group
+abbrev pub known_tag : Dictionary → Option Index → Tag → Result Known EditRefusal
+known_tag d index tag =
     if tag.group == 2
     then Err MetaGroup
-    else (or_refuse UnknownTag (element tag) >>= λ e. Ok (record { tag = tag; vr = e.0; index = index }))
+    else (or_refuse UnknownTag (element_in d tag) >>= λ e. Ok (record { tag = tag; vr = e.0; index = index }))
 
-abbrev pub known_part : TagName → Option Index → Result Known EditRefusal
-known_part (by_number tag) index = known_tag index tag
-known_part (by_keyword word) index = or_refuse UnknownTag (tag_of word) >>= known_tag index
+abbrev pub known_part : Dictionary → TagName → Option Index → Result Known EditRefusal
+known_part d (by_number tag) index = known_tag d index tag
+known_part d (by_keyword word) index = or_refuse UnknownTag (tag_in d word) >>= known_tag d index
 
-abbrev pub known_parts : List PathPart → Result (List Known) EditRefusal
-known_parts [] = Ok []
-known_parts (m ∷ ms) = known_part m.name m.index >>= λ k. known_parts ms >>= λ ks. Ok (k ∷ ks)
+abbrev pub known_parts : Dictionary → List PathPart → Result (List Known) EditRefusal
+known_parts d [] = Ok []
+known_parts d (m ∷ ms) = known_part d m.name m.index >>= λ k. known_parts d ms >>= λ ks. Ok (k ∷ ks)
 
 abbrev pub is_indexed : Known → Bool
 is_indexed k = is_some k.index
@@ -202,18 +204,18 @@ valued_edit kind (k ∷ ks) text = value_for kind (last_vr k ks) text >>= λ val
 abbrev pub edit_of_known : Kind → List ℕ → List Known → Result Edit EditRefusal
 edit_of_known kind text ks = if uses_sequences (takes_value kind) ks then valued_edit kind ks text else Err SequenceMisused
 
-abbrev pub edit_of_parts : Kind → List ℕ → List PathPart → Result Edit EditRefusal
-edit_of_parts kind text parts = if has_form kind parts then (known_parts parts >>= edit_of_known kind text) else Err BadOption
+abbrev pub edit_of_parts : Dictionary → Kind → List ℕ → List PathPart → Result Edit EditRefusal
+edit_of_parts d kind text parts = if has_form kind parts then (known_parts d parts >>= edit_of_known kind text) else Err BadOption
 
 -- one edit, from its path and its value
-abbrev pub meant_edit : Kind → List ℕ → List ℕ → Result Edit EditRefusal
-meant_edit kind path_text value_text = or_refuse BadOption (parts_of (slice_split (λ c. c == byte ".") path_text)) >>= edit_of_parts kind value_text
+abbrev pub meant_edit : Dictionary → Kind → List ℕ → List ℕ → Result Edit EditRefusal
+meant_edit d kind path_text value_text = or_refuse BadOption (parts_of (slice_split (λ c. c == byte ".") path_text)) >>= edit_of_parts d kind value_text
 
-abbrev pub meant_word : Kind → List ℕ → Result Edit EditRefusal
-meant_word kind word =
+abbrev pub meant_word : Dictionary → Kind → List ℕ → Result Edit EditRefusal
+meant_word d kind word =
     if takes_value kind
-    then (let k = cut_at (byte "=") word in meant_edit kind k.before (unwrap_or k.after []))
-    else meant_edit kind word []
+    then (let k = cut_at (byte "=") word in meant_edit d kind k.before (unwrap_or k.after []))
+    else meant_edit d kind word []
 
 pub data OptionWord : Type 0 where
   takes_word : (kind : Kind) → OptionWord
@@ -228,6 +230,38 @@ option_word w =
     else (if bytes_eq w (codes "-ma") then takes_word modifies_all
     else (if bytes_eq w (codes "-ea") then takes_word erases_all
     else (if bytes_eq w (codes "-ep") then private_word else unknown_word)))))
+
+abbrev pub takes_next : OptionWord → Bool
+takes_next (takes_word kind) = true
+takes_next private_word = false
+takes_next unknown_word = false
+
+-- the words that name a dictionary, which are no edits
+abbrev pub dictionary_word : List ℕ → Option Dictionary
+dictionary_word w =
+    if bytes_eq w (codes "-dict") then Some Extract
+    else (if bytes_eq w (codes "+dict") then Some Standard else None)
+
+-- the dictionary that words name where an option may stand: the last one counts
+abbrev pub dictionary_said : Dictionary → List (List ℕ) → Dictionary
+dictionary_said d [] = d
+dictionary_said d (w ∷ []) = unwrap_or (dictionary_word w) d
+dictionary_said d (w ∷ v ∷ words) = elim (takes_next (option_word w)) [
+  | true ↦ dictionary_said d words
+  | false ↦ dictionary_said (unwrap_or (dictionary_word w) d) (v ∷ words)
+]
+
+-- the words without those that name a dictionary
+abbrev pub unless_dictionary : List ℕ → List (List ℕ) → List (List ℕ)
+unless_dictionary w words = if is_some (dictionary_word w) then words else w ∷ words
+
+abbrev pub without_dictionary : List (List ℕ) → List (List ℕ)
+without_dictionary [] = []
+without_dictionary (w ∷ []) = unless_dictionary w []
+without_dictionary (w ∷ v ∷ words) = elim (takes_next (option_word w)) [
+  | true ↦ w ∷ v ∷ without_dictionary words
+  | false ↦ unless_dictionary w (without_dictionary (v ∷ words))
+]
 
 -- a refusal, and the number of the edit from 1
 pub record InEdit : Type 0 where
@@ -250,24 +284,28 @@ abbrev pub EDIT_LIMIT : ℕ
 EDIT_LIMIT = 64
 
 -- the edits from number n on, one after another
-abbrev pub meant_from : ℕ → List (List ℕ) → Result (List Edit) InEdit
-meant_from n [] = Ok []
-meant_from n (w ∷ []) =
+abbrev pub meant_from : Dictionary → ℕ → List (List ℕ) → Result (List Edit) InEdit
+meant_from d n [] = Ok []
+meant_from d n (w ∷ []) =
     if nat_lt EDIT_LIMIT n
     then Err (in_edit TooMany n)
     else elim (option_word w) [ private_word ↦ Ok (erase_private ∷ []) | takes_word kind ↦ Err (in_edit BadOption n) | unknown_word ↦ Err (in_edit BadOption n) ]
-meant_from n (w ∷ v ∷ words) =
+meant_from d n (w ∷ v ∷ words) =
     if nat_lt EDIT_LIMIT n
     then Err (in_edit TooMany n)
     else elim (option_word w) [
-      | private_word ↦ and_then erase_private (meant_from (suc n) (v ∷ words))
-      | takes_word kind ↦ elim (at_edit n (meant_word kind v)) [ Ok e ↦ and_then e (meant_from (suc n) words) | Err u ↦ Err u ]
+      | private_word ↦ and_then erase_private (meant_from d (suc n) (v ∷ words))
+      | takes_word kind ↦ elim (at_edit n (meant_word d kind v)) [ Ok e ↦ and_then e (meant_from d (suc n) words) | Err u ↦ Err u ]
       | unknown_word ↦ Err (in_edit BadOption n)
     ]
 
 abbrev pub apart : List Edit → Result (List Edit) InEdit
 apart es = elim (first_overlap 1 [] es) [ None ↦ Ok es | Some n ↦ Err (in_edit Overlap n) ]
 
--- the edits, or the first refusal
+-- the edits by a dictionary, or the first refusal
+abbrev pub meant_edits_in : Dictionary → List (List ℕ) → Result (List Edit) InEdit
+meant_edits_in d words = elim (meant_from d 1 (without_dictionary words)) [ Ok es ↦ apart es | Err u ↦ Err u ]
+
+-- those by the extract
 abbrev pub meant_edits : List (List ℕ) → Result (List Edit) InEdit
-meant_edits words = elim (meant_from 1 words) [ Ok es ↦ apart es | Err u ↦ Err u ]
+meant_edits = meant_edits_in Extract

@@ -11,6 +11,7 @@ use Rattle.dcm_base.specs.Recode.{recode}
 use Rattle.dcm_base.specs.Steps.{outputs}
 use Rattle.dcm_base.specs.Stop.{Stop, complete}
 use Rattle.dcm_base.specs.declared.length.Length.{Length}
+use Rattle.dcm_base.specs.declared.lookup.Dictionary.{Dictionary}
 use Rattle.dcm_base.specs.declared.syntax.Syntax.{Syntax}
 use Rattle.dcm_base.specs.declared.tag.Tag.{Tag}
 use Rattle.dcm_base.specs.declared.vr.Vr.{Vr}
@@ -19,7 +20,7 @@ use Rattle.dcm_tools.specs.EncodeSink.{encode_start, encode_step, encode_writes}
 use Rattle.dcm_tools.specs.Laws.{StaysShallow}
 use Rattle.dcm_edit.specs.Edit.{Edit, edited, erase_all, erase_private, found, modify_all}
 use Rattle.dcm_edit.specs.EditSink.{AreWithin, HaveShortIndexes, HaveValues, begun, edit_bar, next, passed, reached_anew}
-use Rattle.dcm_edit.specs.EditWords.{meant_edits}
+use Rattle.dcm_edit.specs.EditWords.{meant_edits_in}
 use Rattle.dcm_edit.specs.Everywhere.{Among, EverywhereIn, IsOther, IsPublic, IsWrittenJust}
 use Rattle.dcm_edit.specs.Modification.{Modifies, OfBytes, ReadsAgain}
 use Rattle.dcm_edit.specs.Others.{any_changes, set_without}
@@ -63,7 +64,7 @@ ReadSoFarAscends =
 -- new elements are no sequences, indexes have at most nine digits, and paths at most 64 steps
 abbrev pub EditsFit : Type 0
 EditsFit =
-    (words : List (List ℕ)) (edits : List Edit) → meant_edits words ≡ Ok edits
+    (d : Dictionary) (words : List (List ℕ)) (edits : List Edit) → meant_edits_in d words ≡ Ok edits
     → HaveValues edits × HaveShortIndexes edits × AreWithin 64 edits
 
 -- of all that is read of an input the edit sink and the encode sink after it write the edited data set

@@ -1,6 +1,7 @@
 -- What functions make of the words of edits.
 use Rattle.std.specs.Prelude.{◌≡◌, ℕ, ◌<◌, List, [], ◌∷◌, map, length, option_map, drop, Result, MatchResult, Ok, Err, Bool, true, false}
 use Rattle.std.specs.Borrow.{Bor}
+use Rattle.dcm_base.specs.declared.lookup.Dictionary.{Dictionary}
 use Rattle.dcm_base.specs.declared.tag.Tag.{Tag}
 use Rattle.dcm_base.specs.declared.vr.Vr.{Vr}
 use Rattle.dcm_base.specs.declared.fault.EditRefusal.{EditRefusal}
@@ -102,15 +103,15 @@ abbrev pub texts_from : ℕ → List (Bor (List ℕ)) → List (List ℕ)
 texts_from place ws = texts (drop place ws)
 
 -- the edit that an option begins, and the words that follow it
-abbrev pub edit_after : words.OptionWord → List (List ℕ) → Result (Edit × List (List ℕ)) EditRefusal
-edit_after words.private_word after = Ok (erase_private, after)
-edit_after (words.takes_word kind) [] = Err BadOption
-edit_after (words.takes_word kind) (word ∷ after) = words.meant_word kind word >>= λ e. Ok (e, after)
-edit_after words.unknown_word after = Err BadOption
+abbrev pub edit_after : Dictionary → words.OptionWord → List (List ℕ) → Result (Edit × List (List ℕ)) EditRefusal
+edit_after d words.private_word after = Ok (erase_private, after)
+edit_after d (words.takes_word kind) [] = Err BadOption
+edit_after d (words.takes_word kind) (word ∷ after) = words.meant_word d kind word >>= λ e. Ok (e, after)
+edit_after d words.unknown_word after = Err BadOption
 
-abbrev pub first_edit : List (List ℕ) → Result (Edit × List (List ℕ)) EditRefusal
-first_edit [] = Err BadOption
-first_edit (w ∷ after) = edit_after (words.option_word w) after
+abbrev pub first_edit : Dictionary → List (List ℕ) → Result (Edit × List (List ℕ)) EditRefusal
+first_edit d [] = Err BadOption
+first_edit d (w ∷ after) = edit_after d (words.option_word w) after
 
 -- edits before those to come
 abbrev pub after_edits : List Edit → Result (List Edit) words.InEdit → Result (List Edit) words.InEdit

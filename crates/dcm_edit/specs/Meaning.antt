@@ -1,5 +1,6 @@
 -- The edits of the program, as the definitions have them.
 use Rattle.std.specs.Prelude.{◌≡◌, ℕ, List, [], ◌∷◌, Ok}
+use Rattle.dcm_base.specs.declared.lookup.Dictionary.{Dictionary}
 use Rattle.dcm_base.specs.declared.tag.Tag.{Tag}
 use Rattle.dcm_edit.specs.declared.edit.Index.{Index}
 use Rattle.dcm_edit.specs.declared.edit.Index.TheVariants.{Number, Every}
@@ -10,7 +11,7 @@ use Rattle.dcm_edit.specs.declared.edit.PathEdit.{PathEdit}
 use Rattle.dcm_edit.specs.declared.edit.Edit.{Edit}
 use Rattle.dcm_edit.specs.declared.edit.Edit.TheVariants.{OnPath, ModifyAll, EraseAll, ErasePrivate}
 use Rattle.dcm_edit.specs.Edit as spec
-use Rattle.dcm_edit.specs.EditWords.{meant_edits}
+use Rattle.dcm_edit.specs.EditWords.{meant_edits_in}
 
 abbrev pub index_of : Index → spec.Index
 index_of (Number n) = spec.number n
@@ -44,7 +45,8 @@ first_tag (spec.modify tag vr value) = tag
 first_tag (spec.erase tag) = tag
 first_tag (spec.erase_item tag index) = tag
 
--- some words mean the edits
+-- some words mean the edits, by a dictionary
 pub record AreMeant (edits : List spec.Edit) : Type 0 where
+  pub dictionary : Dictionary
   pub words : List (List ℕ)
-  pub mean : meant_edits words ≡ Ok edits
+  pub mean : meant_edits_in dictionary words ≡ Ok edits

@@ -1,6 +1,7 @@
 -- What the laws of a file that is written with edits speak of.
 use Rattle.std.specs.Prelude.{◌≡◌, ℕ, ◌+◌, ◌≤◌, List, [], ◌∷◌, length, Ok}
 use Rattle.dcm_base.specs.declared.syntax.Syntax.{Syntax}
+use Rattle.dcm_base.specs.Syntax.{dictionary_of}
 use Rattle.dcm_base.specs.Number.{AreBytes}
 use Rattle.dcm_base.specs.Front.{Front}
 use Rattle.dcm_base.specs.Stop.{Stop, complete}
@@ -8,13 +9,13 @@ use Rattle.dcm_base.specs.Bars.{ascending_bar, target_bar}
 use Rattle.dcm_base.specs.Reads.{INPUT_LIMIT, Reads}
 use Rattle.dcm_base.specs.Recode.{recode}
 use Rattle.dcm_edit.specs.Edit.{Edit, edited}
-use Rattle.dcm_edit.specs.EditWords.{meant_edits}
+use Rattle.dcm_edit.specs.EditWords.{meant_edits_in}
 
--- the edits are those that some words mean, the data set f is read without fault, its tags ascend, and what is written of it with
--- the edits begins at an offset
+-- the edits are those that some words mean by the dictionary of the syntax, the data set f is read without fault, its tags ascend,
+-- and what is written of it with the edits begins at an offset
 pub record Modifies (edits : List Edit) (s : Syntax) (at : ℕ) (f : Front) : Type 0 where
   pub words : List (List ℕ)
-  pub mean : meant_edits words ≡ Ok edits
+  pub mean : meant_edits_in (dictionary_of s) words ≡ Ok edits
   pub start : ℕ
   pub begins : start ≤ INPUT_LIMIT
   pub bytes : List ℕ

@@ -2,7 +2,7 @@
 use Rattle.std.specs.Prelude.{List, [], Bool, Result}
 use Rattle.dcm_base.specs.Atoms.{trees_then}
 use Rattle.dcm_base.specs.Tree.{Trees, no_tree, leaf}
-use Rattle.dcm_base.specs.declared.syntax.Syntax.TheVariants.{Little}
+use Rattle.dcm_base.specs.Syntax.{Little}
 use Rattle.dcm_base.specs.declared.tag.Tag.{Tag}
 use Rattle.dcm_stream.specs.Sinks as sinks
 use Rattle.dcm_stream.specs.declared.sink.Sink.{Ghosts}

@@ -1,6 +1,6 @@
 // The edits of a command line.
 ghost use Rattle.std.specs.Prelude.{◌≡◌, length, map};
-ghost use Rattle.dcm_edit.specs.EditWords.{meant_edits};
+ghost use Rattle.dcm_edit.specs.EditWords.{meant_edits, meant_edits_in};
 ghost use Rattle.dcm_edit.specs.Making.{MakesAll, texts};
 ghost use Rattle.dcm_edit.specs.Meaning.{edit_of, AreMeant};
 
@@ -8,7 +8,7 @@ use crate::edit::Edit;
 use crate::fault::EditFault;
 use crate::overlap::first_overlap;
 use crate::parse::edits_of;
-use dcm_base::EditRefusal;
+use dcm_base::{Dictionary, EditRefusal};
 use std::alloc::{Allocator, Global};
 use std::marker::Model;
 
@@ -36,13 +36,27 @@ impl<A: Allocator> Model for Edits<A> {
 }
 
 impl<A: Allocator> Edits<A> {
-    /// The edits that words mean, or the first refusal.
+    /// The edits that words mean by the extract of the dictionary, or the first refusal.
     pub fn parse(alloc: A, words: &[&[u8]]) -> Result<Edits<A>, EditFault>
     where
         A: Copy,
         ensures { MakesAll (λ edits. edits) result (meant_edits (texts words.now)) }
     {
-        let list = edits_of(alloc, words)?;
+        Edits::parse_in(alloc, Dictionary::Extract, words)
+    }
+
+    /// The edits that words mean by a dictionary, or the first refusal. Words that name a dictionary, `+dict` and `-dict`, are
+    /// no edits and are passed over: `dictionary_said` tells which one they name.
+    pub fn parse_in(
+        alloc: A,
+        dictionary: Dictionary,
+        words: &[&[u8]],
+    ) -> Result<Edits<A>, EditFault>
+    where
+        A: Copy,
+        ensures { MakesAll (λ edits. edits) result (meant_edits_in dictionary (texts words.now)) }
+    {
+        let list = edits_of(alloc, dictionary, words)?;
         match first_overlap(list.as_slice()) {
             Some(number) => Err(EditFault::Refused(EditRefusal::Overlap, number)),
             None => Ok(Edits { list }),

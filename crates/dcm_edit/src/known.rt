@@ -8,12 +8,12 @@ ghost use Rattle.dcm_edit.specs.Parts.{part_as, PART_LIMIT};
 use crate::edit::Index;
 use crate::path::{MOST_PARTS, Name, Part};
 use arrayvec::ArrayVec;
-use dcm_base::{EditRefusal, Tag, Vr, element, tag_of};
+use dcm_base::{Dictionary, EditRefusal, Tag, Vr, element_in, tag_in};
 
 /// The group of the meta group's elements.
 const META_GROUP: u16 = 2;
 
-/// A tag of the extract with its representation, and an index where the part has one.
+/// A tag of a dictionary with its representation, and an index where the part has one.
 #[derive(Clone, Copy, Debug, PartialEq, Eq)]
 pub struct Known {
     pub tag: Tag,
@@ -32,39 +32,42 @@ impl Default for Known {
 }
 
 /// A tag that edits may name.
-fn known_tag(index: Option<Index>, tag: Tag) -> Result<Known, EditRefusal>
-    ensures { IsKnown known_as result (spec.known_tag (option_map index_as index) tag) }
+fn known_tag(dictionary: Dictionary, index: Option<Index>, tag: Tag) -> Result<Known, EditRefusal>
+    ensures { IsKnown known_as result (spec.known_tag dictionary (option_map index_as index) tag) }
 {
     if tag.group == META_GROUP {
         return Err(EditRefusal::MetaGroup);
     }
-    match element(tag) {
+    match element_in(dictionary, tag) {
         Some((vr, _)) => Ok(Known { tag, vr, index }),
         None => Err(EditRefusal::UnknownTag),
     }
 }
 
-fn known_part(part: Part) -> Result<Known, EditRefusal>
-    ensures { IsKnown known_as result (spec.known_part (part_as part.entry).name (part_as part.entry).index) }
+fn known_part(dictionary: Dictionary, part: Part) -> Result<Known, EditRefusal>
+    ensures { IsKnown known_as result (spec.known_part dictionary (part_as part.entry).name (part_as part.entry).index) }
 {
     match part.name {
-        Name::Number(tag) => known_tag(part.index, tag),
-        Name::Keyword(word) => match tag_of(word) {
-            Some(tag) => known_tag(part.index, tag),
+        Name::Number(tag) => known_tag(dictionary, part.index, tag),
+        Name::Keyword(word) => match tag_in(dictionary, word) {
+            Some(tag) => known_tag(dictionary, part.index, tag),
             None => Err(EditRefusal::UnknownTag),
         },
     }
 }
 
 /// The parts with their tags, or the first refusal.
-pub fn known_parts(parts: &[Part]) -> Result<ArrayVec<Known, MOST_PARTS>, EditRefusal>
+pub fn known_parts(
+    dictionary: Dictionary,
+    parts: &[Part],
+) -> Result<ArrayVec<Known, MOST_PARTS>, EditRefusal>
     requires { length parts.now ≤ PART_LIMIT }
-    ensures { IsKnown (λ ks. map known_as ks.items) result (spec.known_parts (map part_as parts.now)) }
+    ensures { IsKnown (λ ks. map known_as ks.items) result (spec.known_parts dictionary (map part_as parts.now)) }
 {
     let mut known = ArrayVec::new();
     let mut rest = parts;
     while let [part, after @ ..] = rest {
-        known.push(known_part(*part)?);
+        known.push(known_part(dictionary, *part)?);
         rest = after;
     }
     Ok(known)

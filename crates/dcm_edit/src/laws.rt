@@ -3,10 +3,11 @@ ghost use Rattle.std.specs.Prelude.{◌≡◌, ◌≤◌, ℕ, List, length, Ok}
 ghost use Rattle.dcm_base.specs.Ascending.{FrontAscends};
 ghost use Rattle.dcm_base.specs.Front.{Front};
 ghost use Rattle.dcm_base.specs.Recode.{recode};
+ghost use Rattle.dcm_base.specs.declared.lookup.Dictionary.{Dictionary};
 ghost use Rattle.dcm_base.specs.declared.syntax.Syntax.{Syntax};
 ghost use Rattle.dcm_edit.specs.Edit.{Edit, edited};
 ghost use Rattle.dcm_edit.specs.EditSink.{reached_anew};
-ghost use Rattle.dcm_edit.specs.EditWords.{meant_edits};
+ghost use Rattle.dcm_edit.specs.EditWords.{meant_edits_in};
 ghost use Rattle.dcm_edit.specs.Laws as laws;
 ghost use Rattle.dcm_edit.specs.Overlap.{AreApart, ArePublic};
 ghost use Rattle.dcm_edit.specs.Together.{together};
@@ -18,7 +19,7 @@ pub fn one_by_one()
 
 /// The edits that the words of a command line mean do not overlap, and name no tag of an odd group.
 pub fn edits_are_apart()
-    ensures { (words : List (List ℕ)) (edits : List Edit) → meant_edits words ≡ Ok edits → AreApart edits × ArePublic edits }
+    ensures { (d : Dictionary) (words : List (List ℕ)) (edits : List Edit) → meant_edits_in d words ≡ Ok edits → AreApart edits × ArePublic edits }
 {}
 
 /// What is passed on of the atoms of a data set, whole or as far as it was read, shows it as the edits one after another leave
@@ -46,7 +47,7 @@ pub fn recode_anew()
 
 /// The words of a command line mean at most 64 edits.
 pub fn edits_are_few()
-    ensures { (words : List (List ℕ)) (edits : List Edit) → meant_edits words ≡ Ok edits → length edits ≤ 64 }
+    ensures { (d : Dictionary) (words : List (List ℕ)) (edits : List Edit) → meant_edits_in d words ≡ Ok edits → length edits ≤ 64 }
 {}
 
 /// The new elements of the edits that the words of a command line mean are no sequences, their indexes have at most nine digits,

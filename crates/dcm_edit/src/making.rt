@@ -10,7 +10,7 @@ use crate::fault::Failure;
 use crate::form::{Kind, has_form};
 use crate::known::{Known, known_parts, uses_sequences};
 use crate::path::{cut_at, parts_of};
-use dcm_base::{EditRefusal, Vr};
+use dcm_base::{Dictionary, EditRefusal, Vr};
 use dcm_value::{read_value, takes_bytes};
 use std::alloc::{AllocError, Allocator};
 
@@ -140,17 +140,18 @@ fn edit_of_known<A: Allocator + Copy>(
 /// An edit from its path and its value.
 fn edit_of_path<A: Allocator + Copy>(
     alloc: A,
+    dictionary: Dictionary,
     kind: Kind,
     path: &[u8],
     text: &[u8],
 ) -> Result<Edit<A>, Failure>
-    ensures { Makes edit_as result (spec.meant_edit (kind_as kind) path.now text.now) }
+    ensures { Makes edit_as result (spec.meant_edit dictionary (kind_as kind) path.now text.now) }
 {
     let parts = match parts_of(path) {
         Some(parts) if has_form(kind, parts.as_slice()) => parts,
         _ => return Err(Failure::Refused(EditRefusal::BadOption)),
     };
-    match known_parts(parts.as_slice()) {
+    match known_parts(dictionary, parts.as_slice()) {
         Ok(known) => edit_of_known(alloc, kind, known.as_slice(), text),
         Err(refusal) => Err(Failure::Refused(refusal)),
     }
@@ -159,15 +160,16 @@ fn edit_of_path<A: Allocator + Copy>(
 /// An edit from the word that follows its option.
 pub fn edit_of_word<A: Allocator + Copy>(
     alloc: A,
+    dictionary: Dictionary,
     kind: Kind,
     word: &[u8],
 ) -> Result<Edit<A>, Failure>
-    ensures { Makes edit_as result (spec.meant_word (kind_as kind) word.now) }
+    ensures { Makes edit_as result (spec.meant_word dictionary (kind_as kind) word.now) }
 {
     if kind.takes_value() {
         let (path, value) = cut_at(b'=', word);
-        edit_of_path(alloc, kind, path, value.unwrap_or(&[]))
+        edit_of_path(alloc, dictionary, kind, path, value.unwrap_or(&[]))
     } else {
-        edit_of_path(alloc, kind, word, &[])
+        edit_of_path(alloc, dictionary, kind, word, &[])
     }
 }

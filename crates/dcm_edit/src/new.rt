@@ -2,7 +2,7 @@
 ghost use Rattle.std.specs.Prelude.{◌≡◌, ◌<◌, ◌≤◌, [], ◌∷◌, Some, length, map};
 ghost use Rattle.dcm_base.specs.Atoms.{opens, opens_item, closes_item, closes_sequence};
 ghost use Rattle.dcm_base.specs.declared.length.Length.TheVariants.{Undefined};
-ghost use Rattle.dcm_base.specs.declared.syntax.Syntax.TheVariants.{Little};
+ghost use Rattle.dcm_base.specs.Syntax.{Little};
 ghost use Rattle.dcm_base.specs.declared.vr.Vr.TheVariants.{SQ};
 ghost use Rattle.dcm_edit.specs.Asking as asking;
 ghost use Rattle.dcm_edit.specs.Masks.{asked};
@@ -15,7 +15,7 @@ ghost use Rattle.dcm_stream.specs.Sinks as sinks;
 use crate::asked::{Gap, New, Question};
 use crate::edit::{Edit, NewElement};
 use crate::mask::{answering, least_new};
-use dcm_base::{Length, Syntax, Tag, Vr, WriteFailed};
+use dcm_base::{Dictionary, Length, Syntax, Tag, Vr, WriteFailed};
 use dcm_head::Head;
 use dcm_stream::{Sink, Token, take_all};
 use std::alloc::Allocator;
@@ -54,7 +54,7 @@ fn open_made<S: Sink>(tag: Tag, sink: &mut S) -> Result<(), WriteFailed>
         vr: Vr::SQ,
         length: Length::Undefined,
     };
-    sink.take(Token::Open(head, Syntax::Little))?;
+    sink.take(Token::Open(head, Syntax::Little(Dictionary::Extract)))?;
     sink.take(Token::OpenItem(Length::Undefined))
 }
 

@@ -6,7 +6,8 @@ use Rattle.dcm_base.specs.declared.length.Length.TheVariants.{Known, Undefined}
 use Rattle.std.specs.Bool.{MatchBool}
 use Rattle.dcm_base.specs.declared.vr.Vr.TheVariants.{UN}
 use Rattle.dcm_base.specs.Number.{IsTag}
-use Rattle.dcm_base.specs.Dictionary.{dict_vr}
+use Rattle.dcm_base.specs.Dictionary.{vr_in}
+use Rattle.dcm_base.specs.Syntax.{dictionary_of}
 use Rattle.dcm_base.specs.Tag.{is_item}
 use Rattle.dcm_base.specs.Representation.{is_long}
 use Rattle.dcm_base.specs.Recode.{head, plain_head, is_explicit}
@@ -39,7 +40,7 @@ abbrev pub IsTold : Syntax → Head → Type 0
 IsTold s h =
     MatchBool (is_item h.tag) (h.vr ≡ UN)
     (MatchBool (is_delimiter h.tag) ((h.vr ≡ UN) × (h.length ≡ Known 0))
-    (MatchBool (is_explicit s) (Unit {0}) (h.vr ≡ dict_vr h.tag)))
+    (MatchBool (is_explicit s) (Unit {0}) (h.vr ≡ vr_in (dictionary_of s) h.tag)))
 
 -- a head that has a spelling
 pub record HasSpelling (s : Syntax) (h : Head) : Type 0 where

@@ -2,11 +2,11 @@
 ghost use Rattle.std.specs.Prelude.{◌≡◌, ◌≤◌, length};
 ghost use Rattle.dcm_base.specs.Head.{head_size};
 ghost use Rattle.dcm_base.specs.MetaGroup as spec;
-ghost use Rattle.dcm_base.specs.declared.syntax.Syntax.TheVariants.{Little};
+ghost use Rattle.dcm_base.specs.Syntax.{Little};
 ghost use Rattle.dcm_head.specs.GroupPlaces.{place_is};
 
 use crate::head::{Head, HeadRead, SHORT_HEAD, read_explicit, read_short, read_tag};
-use dcm_base::{Fault, Length, META_GROUP, Syntax, Tag, Vr};
+use dcm_base::{Dictionary, Fault, Length, META_GROUP, Syntax, Tag, Vr};
 
 /// A whole element with the sizes of its head and its value, the group's end, too few bytes to tell, or a fault.
 #[derive(Clone, Copy, Debug, PartialEq, Eq)]
@@ -56,14 +56,14 @@ pub fn place_of(taken: usize, rest: &[u8]) -> Place
     if rest.len() < GROUP_SIZE {
         return Place::TooFew;
     }
-    if read_short(Syntax::Little, rest) != META_GROUP {
+    if read_short(Syntax::Little(Dictionary::Extract), rest) != META_GROUP {
         return Place::End;
     }
     if rest.len() < SHORT_HEAD {
         return Place::TooFew;
     }
-    let tag = read_tag(Syntax::Little, rest);
-    match read_explicit(Syntax::Little, tag, rest) {
+    let tag = read_tag(Syntax::Little(Dictionary::Extract), rest);
+    match read_explicit(Syntax::Little(Dictionary::Extract), tag, rest) {
         HeadRead::BadVr => Place::Bad(Fault::BadMeta),
         HeadRead::More(_) => Place::TooFew,
         HeadRead::Done(head, used) => place_of_head(taken, rest.len(), head, used),

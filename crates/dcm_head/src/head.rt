@@ -1,12 +1,13 @@
 // Heads as they stand in bytes (PS3.5 7.1.2, 7.1.3, 7.5).
-ghost use Rattle.std.specs.Prelude.{◌≡◌, ◌≢◌, ◌≤◌, length};
+ghost use Rattle.std.specs.Prelude.{◌≡◌, true, ◌≤◌, length};
 ghost use Rattle.dcm_base.specs.Head.{tag_at, vr_at, long_length};
 ghost use Rattle.dcm_base.specs.Number.{number};
+ghost use Rattle.dcm_base.specs.Recode as recode;
 ghost use Rattle.dcm_base.specs.Representation.{is_capital as is_capital_letter, vr_read};
 ghost use Rattle.dcm_head.specs.HeadRead as spec;
 
 use byteorder::{BigEndian, ByteOrder, LittleEndian};
-use dcm_base::{Length, Syntax, Tag, Vr, dict_vr, vr_of};
+use dcm_base::{Length, Syntax, Tag, Vr, vr_in, vr_of};
 
 /// A head: tag, value representation and declared length. Items and delimiters have UN.
 #[derive(Clone, Copy, Debug, PartialEq, Eq)]
@@ -42,11 +43,11 @@ pub fn read_tag(syntax: Syntax, bytes: &[u8]) -> Tag
     ensures { result ≡ tag_at syntax bytes.now }
 {
     match syntax {
-        Syntax::Implicit | Syntax::Little => Tag {
+        Syntax::Implicit(_) | Syntax::Little(_) => Tag {
             group: LittleEndian::read_u16(bytes),
             element: LittleEndian::read_u16(&bytes[2..]),
         },
-        Syntax::Big => Tag {
+        Syntax::Big(_) => Tag {
             group: BigEndian::read_u16(bytes),
             element: BigEndian::read_u16(&bytes[2..]),
         },
@@ -59,8 +60,8 @@ pub fn read_short(syntax: Syntax, bytes: &[u8]) -> u16
     ensures { result ≡ number syntax 2 bytes.now }
 {
     match syntax {
-        Syntax::Implicit | Syntax::Little => LittleEndian::read_u16(bytes),
-        Syntax::Big => BigEndian::read_u16(bytes),
+        Syntax::Implicit(_) | Syntax::Little(_) => LittleEndian::read_u16(bytes),
+        Syntax::Big(_) => BigEndian::read_u16(bytes),
     }
 }
 
@@ -70,8 +71,8 @@ fn read_long(syntax: Syntax, bytes: &[u8]) -> Length
     ensures { result ≡ long_length (number syntax 4 bytes.now) }
 {
     let n = match syntax {
-        Syntax::Implicit | Syntax::Little => LittleEndian::read_u32(bytes),
-        Syntax::Big => BigEndian::read_u32(bytes),
+        Syntax::Implicit(_) | Syntax::Little(_) => LittleEndian::read_u32(bytes),
+        Syntax::Big(_) => BigEndian::read_u32(bytes),
     };
     if n == UNDEFINED {
         Length::Undefined
@@ -99,7 +100,7 @@ fn read_vr(first: u8, second: u8) -> Option<Vr>
 
 /// The head of an element with this tag in an explicit syntax.
 pub fn read_explicit(syntax: Syntax, tag: Tag, bytes: &[u8]) -> HeadRead
-    requires explicit { syntax ≢ Syntax.Implicit }
+    requires explicit { recode.is_explicit syntax ≡ true }
     requires eight { 8 ≤ length bytes.now }
     requires tag { tag ≡ tag_at syntax bytes.now }
     ensures { result ≡ spec.element_read syntax bytes.now (vr_at syntax bytes.now) }
@@ -125,11 +126,11 @@ fn read_element(syntax: Syntax, tag: Tag, bytes: &[u8]) -> HeadRead
     ensures { result ≡ spec.element_read syntax bytes.now (vr_at syntax bytes.now) }
 {
     match syntax {
-        Syntax::Implicit => {
-            let (vr, length) = (dict_vr(tag), read_long(syntax, &bytes[4..]));
+        Syntax::Implicit(dictionary) => {
+            let (vr, length) = (vr_in(dictionary, tag), read_long(syntax, &bytes[4..]));
             HeadRead::Done(Head { tag, vr, length }, SHORT_HEAD)
         }
-        Syntax::Little | Syntax::Big => read_explicit(syntax, tag, bytes),
+        Syntax::Little(_) | Syntax::Big(_) => read_explicit(syntax, tag, bytes),
     }
 }
 

@@ -8,8 +8,8 @@
 //!
 //!     let bytes = b"\x10\x00\x10\x00PN\x06\x00".as_slice();
 //!     let name = Head { tag, vr: Vr::PN, length: Length::Known(6) };
-//!     assert!(rt; read_head(Syntax::Little, bytes) == HeadRead::Done(name, 8));
-//!     assert!(rt; write_head(Syntax::Little, &name).as_slice() == bytes);
+//!     assert!(rt; read_head(Syntax::Little(Dictionary::Extract), bytes) == HeadRead::Done(name, 8));
+//!     assert!(rt; write_head(Syntax::Little(Dictionary::Extract), &name).as_slice() == bytes);
 #![tactic(auto)]
 
 mod element;

@@ -6,14 +6,14 @@ ghost use Rattle.dcm_base.specs.NewMeta.{new_elements};
 ghost use Rattle.dcm_base.specs.Recode.{even as even_size, head as recoded_head, recoded_leaf};
 ghost use Rattle.dcm_base.specs.Tag.{is_tag};
 ghost use Rattle.dcm_base.specs.declared.length.Length.TheVariants.{Known};
-ghost use Rattle.dcm_base.specs.declared.syntax.Syntax.TheVariants.{Little};
+ghost use Rattle.dcm_base.specs.Syntax.{Little};
 ghost use Rattle.dcm_head.specs.Rewriting as spec;
 
 use crate::element::{MetaElement, first_element};
 use crate::head::{Head, LONG_HEAD};
 use crate::write::explicit_head;
 use arrayvec::ArrayVec;
-use dcm_base::{DeviceOut, Length, Syntax, Tag, Vr, Watched, WriteFailed, put_parts};
+use dcm_base::{DeviceOut, Dictionary, Length, Syntax, Tag, Vr, Watched, WriteFailed, put_parts};
 
 /// The size of a value with its pad byte.
 fn even(size: usize) -> usize
@@ -30,7 +30,10 @@ fn leaf_head(tag: Tag, vr: Vr, size: usize) -> ArrayVec<u8, LONG_HEAD>
     ensures { result.items ≡ recoded_head Little tag vr (Known (even_size size)) }
 {
     let length = Length::Known(even(size) as u32);
-    explicit_head(Syntax::Little, &Head { tag, vr, length })
+    explicit_head(
+        Syntax::Little(Dictionary::Extract),
+        &Head { tag, vr, length },
+    )
 }
 
 /// The size of an element that is written.

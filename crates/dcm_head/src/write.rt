@@ -1,5 +1,5 @@
 // Heads as bytes (PS3.5 7.1.2, 7.1.3, 7.5).
-ghost use Rattle.std.specs.Prelude.{◌≡◌, ◌≢◌, ◌+◌, ◌≤◌, ◌++◌, true, false, length};
+ghost use Rattle.std.specs.Prelude.{◌≡◌, ◌+◌, ◌≤◌, ◌++◌, true, false, length};
 ghost use Rattle.std.specs.Int.{w16, w32};
 ghost use Rattle.dcm_base.specs.Recode as recode;
 ghost use Rattle.dcm_base.specs.Representation.{is_long as has_long_form};
@@ -16,8 +16,8 @@ fn short_bytes(syntax: Syntax, number: u16) -> [u8; 2]
     ensures { result ≡ recode.number_bytes syntax w16 number }
 {
     match syntax {
-        Syntax::Implicit | Syntax::Little => number.to_le_bytes(),
-        Syntax::Big => number.to_be_bytes(),
+        Syntax::Implicit(_) | Syntax::Little(_) => number.to_le_bytes(),
+        Syntax::Big(_) => number.to_be_bytes(),
     }
 }
 
@@ -25,8 +25,8 @@ fn long_bytes(syntax: Syntax, number: u32) -> [u8; 4]
     ensures { result ≡ recode.number_bytes syntax w32 number }
 {
     match syntax {
-        Syntax::Implicit | Syntax::Little => number.to_le_bytes(),
-        Syntax::Big => number.to_be_bytes(),
+        Syntax::Implicit(_) | Syntax::Little(_) => number.to_le_bytes(),
+        Syntax::Big(_) => number.to_be_bytes(),
     }
 }
 
@@ -69,7 +69,7 @@ fn plain_head(syntax: Syntax, tag: Tag, length: Length) -> HeadBytes
 
 /// The head of an element in an explicit syntax.
 pub fn explicit_head(syntax: Syntax, head: &Head) -> HeadBytes
-    requires explicit { syntax ≢ Syntax.Implicit }
+    requires explicit { recode.is_explicit syntax ≡ true }
     requires fits { has_long_form head.now.vr ≡ false → spec.FitsShort head.now.length }
     ensures { result.items ≡ recode.head syntax head.now.tag head.now.vr head.now.length }
 {
@@ -94,8 +94,8 @@ pub fn element_head(syntax: Syntax, head: &Head) -> ArrayVec<u8, LONG_HEAD>
     ensures { result.items ≡ recode.head syntax head.now.tag head.now.vr head.now.length }
 {
     match syntax {
-        Syntax::Implicit => plain_head(syntax, head.tag, head.length),
-        Syntax::Little | Syntax::Big => explicit_head(syntax, head),
+        Syntax::Implicit(_) => plain_head(syntax, head.tag, head.length),
+        Syntax::Little(_) | Syntax::Big(_) => explicit_head(syntax, head),
     }
 }
 

@@ -60,13 +60,14 @@ pub fn opening_token(opening: Opening) -> Token<'static>
     }
 }
 
-/// The syntax of what an element holds: UN of undefined length holds Implicit (PS3.5 6.2.2).
+/// The syntax of what an element holds: UN of undefined length holds implicit heads, read by the same dictionary
+/// (PS3.5 6.2.2).
 #[tactic(auto, unfolding(dcm_base::specs::Spelling::inside))]
 pub fn syntax_inside(syntax: Syntax, vr: Vr) -> Syntax
     ensures { result ≡ spelling.inside syntax vr }
 {
     if vr == Vr::UN {
-        Syntax::Implicit
+        Syntax::Implicit(syntax.dictionary())
     } else {
         syntax
     }

@@ -4,7 +4,7 @@ ghost use Rattle.dcm_base.specs.Atoms.{value_byte, closes_leaf};
 ghost use Rattle.dcm_stream.specs.Tokens.{IsFilled, atoms_of, leaf_atoms, fragment_atoms};
 
 use arrayvec::ArrayVec;
-use dcm_base::{Length, Syntax, Tag, Vr};
+use dcm_base::{Dictionary, Length, Syntax, Tag, Vr};
 use dcm_head::Head;
 
 /// The most tokens of a whole value or fragment.
@@ -55,7 +55,13 @@ impl<'a> Token<'a> {
         ensures filled { All IsFilled result.items }
     {
         let length = Length::Known(value.len() as u32);
-        whole(Token::Open(Head { tag, vr, length }, Syntax::Little), value)
+        whole(
+            Token::Open(
+                Head { tag, vr, length },
+                Syntax::Little(Dictionary::Extract),
+            ),
+            value,
+        )
     }
 
     /// The tokens of a whole fragment.

@@ -4,7 +4,7 @@ use Rattle.dcm_base.specs.declared.tag.Tag.{Tag}
 use Rattle.dcm_base.specs.declared.vr.Vr.{Vr}
 use Rattle.dcm_base.specs.declared.vr.Vr.TheVariants.{OB}
 use Rattle.dcm_base.specs.declared.syntax.Syntax.{Syntax}
-use Rattle.dcm_base.specs.declared.syntax.Syntax.TheVariants.{Little}
+use Rattle.dcm_base.specs.Syntax.{Little}
 use Rattle.dcm_base.specs.declared.mode.Mode.{Mode}
 use Rattle.dcm_base.specs.declared.mode.Mode.TheVariants.{Short, Full}
 use Rattle.dcm_base.specs.declared.length.Length.{Length}
@@ -16,6 +16,7 @@ use Rattle.dcm_base.specs.declared.form.Form.TheVariants.{Value as a_value, Sequ
 use Rattle.dcm_base.specs.Spelling.{form}
 use Rattle.dcm_base.specs.Atoms.{Atom, opens, value_byte, closes_leaf, opens_item, closes_item, closes_sequence, opens_fragment, ends}
 use Rattle.dcm_base.specs.Dump.{line_start, line, open_line, sequence_line, item_line, sequence_end_line, item_end_line}
+use Rattle.dcm_base.specs.declared.lookup.Dictionary.{Dictionary}
 use Rattle.dcm_head.specs.declared.head.Head.{Head}
 use Rattle.dcm_stream.specs.declared.token.Bar.{Bar}
 use Rattle.dcm_value.specs.Display.{at_once}
@@ -30,6 +31,7 @@ pub data OpenValue : Type 0 where
   open_value : (owner : Owner) (progress : Progress) → OpenValue
 
 pub record DumpState : Type 0 where
+  pub dictionary : Dictionary
   pub mode : Mode
   -- what the heads of the open sequences and items say of their lengths, the innermost first
   pub lengths : List Length
@@ -37,8 +39,8 @@ pub record DumpState : Type 0 where
   -- no data set gives such atoms: nothing more is written
   pub is_lost : Bool
 
-abbrev pub dump_start : Mode → DumpState
-dump_start mode = record { mode = mode; lengths = []; value = no_value; is_lost = false }
+abbrev pub dump_start : Dictionary → Mode → DumpState
+dump_start d mode = record { dictionary = d; mode = mode; lengths = []; value = no_value; is_lost = false }
 
 -- a line up to its display, and behind it
 abbrev pub owner_tag : Owner → Tag
@@ -57,8 +59,8 @@ abbrev pub count_of : Owner → ℕ → ℕ
 count_of (Element tag vr) counted = counted
 count_of Fragment counted = 1
 
-abbrev pub owner_rest : Owner → Progress → List ℕ
-owner_rest owner p = line_rest (owner_tag owner) (Known p.size) (count_of owner (multiplicity p))
+abbrev pub owner_rest : Dictionary → Owner → Progress → List ℕ
+owner_rest d owner p = line_rest d (owner_tag owner) (Known p.size) (count_of owner (multiplicity p))
 
 -- in Full a line is begun at once
 abbrev pub early_start : Mode → List ℕ → List ℕ
@@ -93,8 +95,8 @@ dump_opens no_form s tag vr declared syntax = s
 
 abbrev pub dump_opens_writes : Form → DumpState → Tag → Vr → Length → Syntax → List ℕ
 dump_opens_writes a_value s tag vr declared syntax = begin_writes s (Element tag vr) (started vr syntax (size_of declared) s.mode)
-dump_opens_writes a_sequence s tag vr declared syntax = sequence_line (length s.lengths) tag vr declared
-dump_opens_writes a_fragment_list s tag vr declared syntax = line (length s.lengths) tag (letters vr) (codes "(PixelSequence)") declared 1
+dump_opens_writes a_sequence s tag vr declared syntax = sequence_line s.dictionary (length s.lengths) tag vr declared
+dump_opens_writes a_fragment_list s tag vr declared syntax = line s.dictionary (length s.lengths) tag (letters vr) (codes "(PixelSequence)") declared 1
 dump_opens_writes no_form s tag vr declared syntax = []
 
 -- one byte of a value
@@ -106,9 +108,9 @@ abbrev pub byte_writes : OpenValue → ℕ → List ℕ
 byte_writes no_value b = []
 byte_writes (open_value owner p) b = if nat_lt p.seen p.size then writes p b else []
 
-abbrev pub close_writes : Mode → ℕ → OpenValue → List ℕ
-close_writes mode level no_value = []
-close_writes mode level (open_value owner p) = late_start mode (owner_start level owner) ++ finishes p ++ owner_rest owner p
+abbrev pub close_writes : Dictionary → Mode → ℕ → OpenValue → List ℕ
+close_writes d mode level no_value = []
+close_writes d mode level (open_value owner p) = late_start mode (owner_start level owner) ++ finishes p ++ owner_rest d owner p
 
 abbrev pub live_step : DumpState → Atom → DumpState
 live_step s (opens tag vr declared syntax) = dump_opens (form syntax vr declared) s tag vr declared syntax
@@ -123,10 +125,10 @@ live_step s ends = s
 abbrev pub live_writes : DumpState → Atom → List ℕ
 live_writes s (opens tag vr declared syntax) = dump_opens_writes (form syntax vr declared) s tag vr declared syntax
 live_writes s (value_byte b) = byte_writes s.value b
-live_writes s closes_leaf = close_writes s.mode (length s.lengths) s.value
-live_writes s (opens_item declared) = item_line (length s.lengths) declared
-live_writes s closes_item = item_end_line (length (outer s.lengths)) (innermost s.lengths)
-live_writes s closes_sequence = sequence_end_line (length (outer s.lengths)) (innermost s.lengths)
+live_writes s closes_leaf = close_writes s.dictionary s.mode (length s.lengths) s.value
+live_writes s (opens_item declared) = item_line s.dictionary (length s.lengths) declared
+live_writes s closes_item = item_end_line s.dictionary (length (outer s.lengths)) (innermost s.lengths)
+live_writes s closes_sequence = sequence_end_line s.dictionary (length (outer s.lengths)) (innermost s.lengths)
 live_writes s (opens_fragment size) = begin_writes s Fragment (started OB Little size s.mode)
 live_writes s ends = []
 

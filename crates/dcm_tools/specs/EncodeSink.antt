@@ -4,7 +4,7 @@ use Rattle.dcm_base.specs.declared.tag.Tag.{Tag}
 use Rattle.dcm_base.specs.declared.vr.Vr.{Vr}
 use Rattle.dcm_base.specs.declared.vr.Vr.TheVariants.{SQ}
 use Rattle.dcm_base.specs.declared.syntax.Syntax.{Syntax}
-use Rattle.dcm_base.specs.declared.syntax.Syntax.TheVariants.{Little, Big}
+use Rattle.dcm_base.specs.Syntax.{Little, is_big}
 use Rattle.dcm_base.specs.declared.length.Length.{Length}
 use Rattle.dcm_base.specs.declared.length.Length.TheVariants.{Known, Undefined}
 use Rattle.dcm_base.specs.declared.form.Form.{Form}
@@ -27,10 +27,6 @@ pub record Copying : Type 0 where
   pub is_turned : Bool
   pub held : List ℕ
   pub padding : List ℕ
-
-abbrev pub is_big : Syntax → Bool
-is_big Big = true
-is_big _ = false
 
 -- a unit is turned round where one of source and target is big endian; what is too long is written in little endian order
 abbrev pub turns : Syntax → Syntax → Vr → ℕ → Bool

@@ -17,6 +17,7 @@ use Rattle.dcm_base.specs.Spelling.{form}
 use Rattle.dcm_base.specs.Dump.{dump_front}
 use Rattle.dcm_tools.specs.Conversion.{Converts}
 use Rattle.dcm_base.specs.Bars.{no_bar, target_bar}
+use Rattle.dcm_base.specs.declared.lookup.Dictionary.{Dictionary}
 use Rattle.dcm_tools.specs.DumpSink.{dump_start, dump_step, dump_writes}
 
 abbrev pub one_less : ℕ → ℕ
@@ -41,22 +42,22 @@ StaysShallow n atoms = (first rest : List Atom) → atoms ≡ first ++ rest → 
 -- what the dump sink writes of the atoms of a data set is its dump
 abbrev pub DumpsShown : Type 0
 DumpsShown =
-    (mode : Mode) (f : Front) (atoms : List Atom) → StaysShallow 0 atoms → Shows f atoms
-    → outputs dump_step dump_writes (dump_start mode) atoms ≡ dump_front mode 0 f
+    (d : Dictionary) (mode : Mode) (f : Front) (atoms : List Atom) → StaysShallow 0 atoms → Shows f atoms
+    → outputs dump_step dump_writes (dump_start d mode) atoms ≡ dump_front d mode 0 f
 
 -- what the dump sink writes of all that is read of an input is its dump
 abbrev pub DumpsWhole : Type 0
 DumpsWhole =
-    (mode : Mode) (s : Syntax) (start : ℕ) (bytes : List ℕ) (f : Front) (stop : Stop) → start ≤ INPUT_LIMIT
+    (d : Dictionary) (mode : Mode) (s : Syntax) (start : ℕ) (bytes : List ℕ) (f : Front) (stop : Stop) → start ≤ INPUT_LIMIT
     → Reads no_bar s start bytes f stop
-    → outputs dump_step dump_writes (dump_start mode) (front_atoms s f) ≡ dump_front mode 0 f
+    → outputs dump_step dump_writes (dump_start d mode) (front_atoms s f) ≡ dump_front d mode 0 f
 
 -- what it writes of what was read of an input so far is the dump of that
 abbrev pub DumpsSoFar : Type 0
 DumpsSoFar =
-    (mode : Mode) (s : Syntax) (start : ℕ) (bytes : List ℕ) (f : Front) (stop : Stop) → start ≤ INPUT_LIMIT
+    (d : Dictionary) (mode : Mode) (s : Syntax) (start : ℕ) (bytes : List ℕ) (f : Front) (stop : Stop) → start ≤ INPUT_LIMIT
     → is_closed f ≡ false → Reads no_bar s start bytes (ended stop f) stop
-    → outputs dump_step dump_writes (dump_start mode) (front_atoms s f) ≡ dump_front mode 0 f
+    → outputs dump_step dump_writes (dump_start d mode) (front_atoms s f) ≡ dump_front d mode 0 f
 
 -- what the encode sink writes of the atoms of a data set is that data set in the target syntax
 abbrev pub EncodesShown : Type 0

@@ -3,7 +3,8 @@ use Rattle.std.specs.Prelude.{ℕ, ◌-◌, List, ◌∷◌, [], ◌++◌, lengt
 use Rattle.dcm_base.specs.declared.tag.Tag.{Tag}
 use Rattle.dcm_base.specs.declared.length.Length.{Length}
 use Rattle.dcm_base.specs.declared.length.Length.TheVariants.{Known, Undefined}
-use Rattle.dcm_base.specs.Dictionary.{keyword}
+use Rattle.dcm_base.specs.Dictionary.{keyword_in}
+use Rattle.dcm_base.specs.declared.lookup.Dictionary.{Dictionary}
 
 abbrev pub length_digits_of : Length → List ℕ
 length_digits_of (Known n) = decimal n
@@ -18,5 +19,5 @@ abbrev pub rest_start : Length → ℕ → List ℕ
 rest_start declared count = codes " # " ++ length_field declared ++ codes ", " ++ decimal count ++ codes " "
 
 -- a line after its display
-abbrev pub line_rest : Tag → Length → ℕ → List ℕ
-line_rest tag declared count = codes " # " ++ length_field declared ++ codes ", " ++ decimal count ++ codes " " ++ keyword tag ++ 10 ∷ []
+abbrev pub line_rest : Dictionary → Tag → Length → ℕ → List ℕ
+line_rest d tag declared count = codes " # " ++ length_field declared ++ codes ", " ++ decimal count ++ codes " " ++ keyword_in d tag ++ 10 ∷ []

@@ -7,6 +7,7 @@ use Rattle.dcm_base.specs.Atoms.{Atom}
 use Rattle.dcm_base.specs.Dump.{line}
 use Rattle.dcm_base.specs.Representation.{letters}
 use Rattle.dcm_base.specs.Steps.{outputs}
+use Rattle.dcm_base.specs.declared.lookup.Dictionary.{Dictionary}
 use Rattle.dcm_head.specs.declared.head.Head.{Head}
 use Rattle.dcm_value.specs.Progress.{Progress, started}
 use Rattle.dcm_value.specs.ValueText.{progress}
@@ -20,7 +21,7 @@ value_of None text = no_value
 value_of (Some owner) text = open_value owner text
 
 abbrev pub state : Lines → DumpState
-state l = record { mode = l.mode; lengths = l.lengths; value = value_of l.owner (progress l.text); is_lost = l.is_lost }
+state l = record { dictionary = l.dictionary; mode = l.mode; lengths = l.lengths; value = value_of l.owner (progress l.text); is_lost = l.is_lost }
 
 -- a value of this size, of which nothing came yet
 abbrev pub started_in : Lines → Vr → Syntax → ℕ → Progress
@@ -31,5 +32,5 @@ abbrev pub shows : DumpState → List Atom → List ℕ
 shows s atoms = outputs dump_step dump_writes s atoms
 
 -- the line of a sequence or a fragment list that begins
-abbrev pub list_line : List Length → Head → List ℕ → List ℕ
-list_line lengths head display = line (length lengths) head.tag (letters head.vr) display head.length 1
+abbrev pub list_line : Dictionary → List Length → Head → List ℕ → List ℕ
+list_line d lengths head display = line d (length lengths) head.tag (letters head.vr) display head.length 1

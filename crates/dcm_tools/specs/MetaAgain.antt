@@ -2,7 +2,7 @@
 use Rattle.std.specs.Prelude.{◌≡◌, ◌≢◌, ◌≤◌, ℕ, List, [], ◌++◌, length, Ok}
 use Rattle.std.specs.Int.{w32, to_le_bytes}
 use Rattle.dcm_base.specs.declared.vr.Vr.TheVariants.{UL}
-use Rattle.dcm_base.specs.declared.syntax.Syntax.TheVariants.{Little}
+use Rattle.dcm_base.specs.Syntax.{Little}
 use Rattle.dcm_base.specs.declared.syntax.Coding.{Coding}
 use Rattle.dcm_base.specs.Number.{AreBytes}
 use Rattle.dcm_base.specs.Tree.{Trees, leaf}

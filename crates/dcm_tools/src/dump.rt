@@ -1,6 +1,7 @@
 // The dump of a data set.
 ghost use Rattle.std.specs.Prelude.{◌≡◌};
 ghost use Rattle.std.specs.Borrow.{GName};
+ghost use Rattle.dcm_base.specs.declared.lookup.Dictionary.TheVariants.{Extract};
 ghost use Rattle.dcm_tools.specs.DumpSink.{DumpState, dump_step, dump_writes, dump_start, bars_nothing};
 
 mod header;
@@ -9,10 +10,10 @@ mod lengths;
 mod lines;
 
 use crate::dump::lines::Lines;
-use dcm_base::{DeviceOut, Mode, Watched, WriteFailed};
+use dcm_base::{DeviceOut, Dictionary, Mode, Watched, WriteFailed};
 use dcm_head::Head;
 use dcm_stream::{Bar, Sink, Token};
-pub use header::{dump_header, set_header};
+pub use header::{dump_header, dump_header_by, set_header};
 pub use lengths::MOST_OPEN;
 
 /// A sink that writes the lines of a data set. It bars nothing.
@@ -25,14 +26,24 @@ pub struct DumpSink<'w, W> {
 impl<'w, W: DeviceOut> DumpSink<'w, W> {
     ghost use Rattle.dcm_tools.specs.Lines.{state};
 
+    /// The beginning of a dump whose elements are called as the extract says.
     pub fn new(out: &'w mut Watched<W>, mode: Mode) -> Self
         ensures same_reference { result.out.ghost_name ≡ out.entry.ghost_name }
         ensures out { result.out.now ≡ out.old }
-        ensures state { state result.lines ≡ dump_start mode }
+        ensures state { state result.lines ≡ dump_start Extract mode }
+    {
+        DumpSink::by(out, Dictionary::Extract, mode)
+    }
+
+    /// The beginning of a dump whose elements are called as the dictionary says.
+    pub fn by(out: &'w mut Watched<W>, dictionary: Dictionary, mode: Mode) -> Self
+        ensures same_reference { result.out.ghost_name ≡ out.entry.ghost_name }
+        ensures out { result.out.now ≡ out.old }
+        ensures state { state result.lines ≡ dump_start dictionary mode }
     {
         DumpSink {
             out,
-            lines: Lines::new(mode),
+            lines: Lines::new(dictionary, mode),
         }
     }
 }

@@ -6,7 +6,7 @@ ghost use Rattle.dcm_tools.specs.EncodeSink.{EncodeState, encode_step, encode_wr
 mod copier;
 mod encoder;
 
-use dcm_base::{DeviceOut, Form, Syntax, Watched, WriteFailed, form_of};
+use dcm_base::{DeviceOut, Dictionary, Form, Syntax, Watched, WriteFailed, form_of};
 use dcm_head::Head;
 use dcm_stream::{Bar, Sink, Token};
 pub use encoder::{Encoder, leaf_head};
@@ -63,7 +63,7 @@ impl<'w, W: DeviceOut> Sink for EncodeSink<'w, W> {
         if self.encoder.holds_fragments() {
             return Ok(());
         }
-        match form_of(Syntax::Little, head.vr, head.length) {
+        match form_of(Syntax::Little(Dictionary::Extract), head.vr, head.length) {
             Form::FragmentList => Err(Bar::Fragments),
             Form::Value | Form::Sequence | Form::Nothing => Ok(()),
         }

@@ -2,7 +2,7 @@
 use Rattle.std.specs.Prelude.{ℕ, List, ◌∷◌, length, take, drop, reverse, flat_map, decimal}
 use Rattle.dcm_base.specs.declared.vr.Vr.{Vr}
 use Rattle.dcm_base.specs.declared.syntax.Syntax.{Syntax}
-use Rattle.dcm_base.specs.declared.syntax.Syntax.TheVariants.{Implicit, Little, Big}
+use Rattle.dcm_base.specs.declared.syntax.Syntax.TheVariants.{Implicit as implicit_in, Little as little_in, Big as big_in}
 use Rattle.dcm_base.specs.Representation.{unit}
 use Rattle.dcm_base.specs.Value.{number_of, turned, order, units}
 use Rattle.dcm_base.specs.ValueText.{Shape, unsigned, signed, tags, hex_byte, signed_text, tag_text, shape, shown_unit, unit_text}
@@ -24,9 +24,9 @@ high_text Hexadecimal u = flat_map hex_byte u
 
 -- each unit turned so that its highest byte, or that of each half of a tag, stands first
 abbrev pub high : Syntax → Vr → List ℕ → List ℕ
-high Big vr v = v
-high Implicit vr v = turned (unit vr) v
-high Little vr v = turned (unit vr) v
+high (big_in d) vr v = v
+high (implicit_in d) vr v = turned (unit vr) v
+high (little_in d) vr v = turned (unit vr) v
 
 -- a unit in the order of a syntax
 abbrev pub one_text : Vr → Syntax → List ℕ → List ℕ

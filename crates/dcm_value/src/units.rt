@@ -233,7 +233,7 @@ pub fn append_units<const N: usize>(
 {
     let kind = kind_of(vr);
     let size = shown_unit(vr);
-    if syntax == Syntax::Big || vr.unit() == 1 {
+    if syntax.is_big() || vr.unit() == 1 {
         append_high(kind, size, units, text);
         return;
     }

@@ -67,7 +67,7 @@ module _ (ws : List (Bor (List ℕ))) (d : Bor (List ℕ)) (h : 2 ≤ length ws)
   abbrev output : List ℕ
   output = (get_or ws (length ws - 1) d).now
 
-  abbrev between : EditWords
+  abbrev pub between : EditWords
   between = edits_between (texts (take (length ws - 2) ws)) input output
 
   pub two_paths : true ≡ is_path input → true ≡ is_path output → modify_plan (texts ws) ≡ modify_plan_with between

@@ -1,11 +1,12 @@
 -- The words of a tool, one after another.
-use Rattle.std.proofs.Common.{◌≡◌, ℕ, zero, suc, ◌<◌, ◌+◌, List, [], ◌∷◌, length, map, drop, get_or, Option, None, Some, Bool, true, false, Result, Ok, Err, refl, sym, ◌∙◌, ap, arith, drop-cons, add-one, Bor}
+use Rattle.std.proofs.Common.{◌≡◌, ◌≢◌, ◌==◌, ℕ, zero, suc, ◌<◌, ◌+◌, List, [], ◌∷◌, length, map, drop, get_or, Option, None, Some, Bool, true, false, Result, Ok, Err, refl, sym, ◌∙◌, ap, subst, arith, drop-cons, add-one, Bor}
+use Rattle.std.proofs.lemmas.Bool.Decides.{nat_tests}
 use Rattle.dcm_words.specs.declared.usage.Word.{Word}
-use Rattle.dcm_words.specs.declared.usage.Word.TheVariants.{Show, WholeFile, DataSet, Bare, Target, Limit, Accepted, Path, Unknown}
+use Rattle.dcm_words.specs.declared.usage.Word.TheVariants.{Read, Show, WholeFile, DataSet, Bare, Target, Limit, Accepted, Path, Unknown}
 use Rattle.dcm_words.specs.declared.usage.Usage.{Usage}
-use Rattle.dcm_words.specs.declared.usage.Usage.TheVariants.{AtWord}
-use Rattle.dcm_base.specs.declared.fault.WordFault.TheVariants.{UnknownOption, BadOptionValue}
-use Rattle.dcm_words.specs.Words.{Said, said_with, said_after, and_path, limit_of}
+use Rattle.dcm_words.specs.declared.usage.Usage.TheVariants.{AtWord, Whole}
+use Rattle.dcm_base.specs.declared.fault.WordFault.TheVariants.{UnknownOption, BadOptionValue, WrongPaths}
+use Rattle.dcm_words.specs.Words.{Said, said_with, said_after, and_path, limit_of, Job, plan_with_two}
 use Rattle.dcm_words.specs.declared.words.Paths.{Paths}
 use Rattle.dcm_words.specs.declared.words.Paths.TheVariants as paths
 use Rattle.dcm_words.specs.Plans.{given, limit_behind, PathsAre}
@@ -33,6 +34,7 @@ behind_one i ws = behind_one_more i ws ∙ ap (λ k. texts (drop k ws)) (sym (ad
 
 module _ (read : List ℕ → Word) where
   one_alone : (n : ℕ) (s : Said) (w : List ℕ) (x : Word) → read w ≡ x → goes x ≡ true → said_after read n s (w ∷ []) ≡ said_after read (suc n) (said_with x w s) []
+  one_alone n s w (Read d) e g = rw (e, said_after) refl
   one_alone n s w (Show m) e g = rw (e, said_after) refl
   one_alone n s w WholeFile e g = rw (e, said_after) refl
   one_alone n s w DataSet e g = rw (e, said_after) refl
@@ -44,6 +46,7 @@ module _ (read : List ℕ → Word) where
   one_alone n s w Unknown e g = cc
 
   one_before : (n : ℕ) (s : Said) (w v : List ℕ) (words : List (List ℕ)) (x : Word) → read w ≡ x → goes x ≡ true → said_after read n s (w ∷ v ∷ words) ≡ said_after read (suc n) (said_with x w s) (v ∷ words)
+  one_before n s w v words (Read d) e g = rw (e, said_after) refl
   one_before n s w v words (Show m) e g = rw (e, said_after) refl
   one_before n s w v words WholeFile e g = rw (e, said_after) refl
   one_before n s w v words DataSet e g = rw (e, said_after) refl
@@ -139,3 +142,33 @@ turn read i ws d s t x h p g e v = ap (λ (u : Said). said_after read (i + 1 + 2
 -- the place that the next turn begins behind
 pub placed : {M : Result Said Usage} (read : List ℕ → Word) (k i : ℕ) (ws : List (Bor (List ℕ))) (s : Said) → k ≡ i → said_after read (i + 1 + 2) s (texts (drop (i + 1) ws)) ≡ M → said_after read (k + 1 + 2) s (texts (drop (k + 1) ws)) ≡ M
 placed read k i ws s e h = ap (λ j. said_after read (j + 1 + 2) s (texts (drop (j + 1) ws))) e ∙ h
+
+-- ---- paths that are not two, or empty
+
+some : (n : ℕ) → (suc n == 0) ≡ true → ⊥
+some n p = grind (arith, nat_tests)
+
+module _ (job : Job) where
+  abbrev pub AreWrong : List (List ℕ) → Type 0
+  AreWrong ps = plan_with_two ps job ≡ Err (Whole WrongPaths)
+
+  pub empty_first : (input output : List ℕ) → (length input == 0) ≡ true → AreWrong (input ∷ output ∷ [])
+  empty_first [] output p = refl
+  empty_first (c ∷ cs) output p = absurd (some (length cs) p)
+
+  pub empty_second : (input output : List ℕ) → (length output == 0) ≡ true → AreWrong (input ∷ output ∷ [])
+  empty_second [] output p = refl
+  empty_second (c ∷ cs) [] p = refl
+  empty_second (c ∷ cs) (b ∷ bs) p = absurd (some (length bs) p)
+
+  too_many : (ps : List (List ℕ)) → 2 < length ps → AreWrong ps
+  too_many [] h = absurd (omega (arith, h))
+  too_many (p ∷ []) h = absurd (omega (arith, h))
+  too_many (p ∷ q ∷ []) h = absurd (omega (arith, h))
+  too_many (p ∷ q ∷ r ∷ ps) h = refl
+
+  pub not_two : (p : Paths) (ps : List (List ℕ)) → ((x y : Bor (List ℕ)) → p ≢ paths.Two x y) → PathsAre p ps → AreWrong ps
+  not_two paths.None ps n are = subst AreWrong (sym are) refl
+  not_two (paths.One first) ps n are = subst AreWrong (sym are) refl
+  not_two (paths.Two first second) ps n are = absurd (n first second refl)
+  not_two paths.More ps n are = too_many ps are

@@ -4,19 +4,20 @@ use Rattle.std.specs.Prelude.{codes}
 use Rattle.dcm_base.specs.declared.tag.Tag.{Tag}
 use Rattle.dcm_base.specs.declared.vr.Vr.TheVariants.{UI, PN, LO, US}
 use Rattle.dcm_base.specs.declared.mode.Mode.TheVariants.{Short, Full}
-use Rattle.dcm_base.specs.declared.syntax.Syntax.TheVariants.{Implicit, Little, Big}
+use Rattle.dcm_base.specs.Syntax.{Implicit, Little, Big}
 use Rattle.dcm_base.specs.declared.fault.EditRefusal.TheVariants.{BadOption, UnknownTag, ValueDoesNotFit, SequenceMisused, MetaGroup, Overlap, TooMany}
 use Rattle.dcm_base.specs.declared.fault.WordFault.TheVariants.{UnknownTool, UnknownOption, BadOptionValue, WrongPaths, OptionsApart, SamePath}
 use Rattle.dcm_words.specs.declared.usage.Usage.{Usage}
 use Rattle.dcm_words.specs.declared.usage.Usage.TheVariants.{AtWord, Whole, InEdit}
-use Rattle.dcm_base.specs.Dictionary.{element, elements, tag_of}
+use Rattle.dcm_base.specs.declared.lookup.Dictionary.TheVariants.{Extract, Standard}
+use Rattle.dcm_base.specs.Dictionary.{elements, entries, keywords, elements_in, element_in, tag_in}
 use Rattle.dcm_edit.specs.Edit.{Edit, number, every, step, insert, modify, erase, erase_item, on_path, modify_all, erase_private}
 use Rattle.dcm_edit.specs.EditWords.{meant_edits, in_edit, InEdit as EditFault}
 use Rattle.dcm_words.specs.Words.{meant, Plan, Job, dump, convert, build, modify as modifies}
 
 -- all that a row computes with
 unfoldable all : ℕ
-unfolding meant element elements tag_of
+unfolding meant elements entries keywords elements_in element_in tag_in
 all = 0
 
 abbrev tag : ℕ → ℕ → Tag
@@ -39,19 +40,19 @@ unfolding all
 no_such_tool = refl
 
 -- dcmdump
-plain_dump : meant (codes "dcmdump" ∷ codes "-" ∷ []) ≡ planned (codes "-") (codes "-") (dump Short None)
+plain_dump : meant (codes "dcmdump" ∷ codes "-" ∷ []) ≡ planned (codes "-") (codes "-") (dump Extract Short None)
 unfolding all
 plain_dump = refl
 
-dump_full : meant (codes "dcmdump" ∷ codes "+L" ∷ codes "in" ∷ []) ≡ planned (codes "in") (codes "-") (dump Full None)
+dump_full : meant (codes "dcmdump" ∷ codes "+L" ∷ codes "in" ∷ []) ≡ planned (codes "in") (codes "-") (dump Extract Full None)
 unfolding all
 dump_full = refl
 
-last_mode_counts : meant (codes "dcmdump" ∷ codes "+L" ∷ codes "-L" ∷ codes "in" ∷ []) ≡ planned (codes "in") (codes "-") (dump Short None)
+last_mode_counts : meant (codes "dcmdump" ∷ codes "+L" ∷ codes "-L" ∷ codes "in" ∷ []) ≡ planned (codes "in") (codes "-") (dump Extract Short None)
 unfolding all
 last_mode_counts = refl
 
-dump_of_set : meant (codes "dcmdump" ∷ codes "-f" ∷ codes "-te" ∷ codes "-" ∷ []) ≡ planned (codes "-") (codes "-") (dump Short (Some Little))
+dump_of_set : meant (codes "dcmdump" ∷ codes "-f" ∷ codes "-te" ∷ codes "-" ∷ []) ≡ planned (codes "-") (codes "-") (dump Extract Short (Some Little))
 unfolding all
 dump_of_set = refl
 
@@ -63,7 +64,7 @@ file_with_syntax : meant (codes "dcmdump" ∷ codes "-f" ∷ codes "-te" ∷ cod
 unfolding all
 file_with_syntax = refl
 
-set_at_last : meant (codes "dcmdump" ∷ codes "+fo" ∷ codes "-ti" ∷ codes "-f" ∷ codes "in" ∷ []) ≡ planned (codes "in") (codes "-") (dump Short (Some Implicit))
+set_at_last : meant (codes "dcmdump" ∷ codes "+fo" ∷ codes "-ti" ∷ codes "-f" ∷ codes "in" ∷ []) ≡ planned (codes "in") (codes "-") (dump Extract Short (Some Implicit))
 unfolding all
 set_at_last = refl
 
@@ -96,16 +97,25 @@ paths_before_options_apart : meant (codes "dcmdump" ∷ codes "-f" ∷ []) ≡ E
 unfolding all
 paths_before_options_apart = refl
 
+-- the dictionary that is read with: the last one counts
+dump_by_standard : meant (codes "dcmdump" ∷ codes "+dict" ∷ codes "in" ∷ []) ≡ planned (codes "in") (codes "-") (dump Standard Short None)
+unfolding all
+dump_by_standard = refl
+
+last_dictionary_counts : meant (codes "dcmdump" ∷ codes "+dict" ∷ codes "-dict" ∷ codes "in" ∷ []) ≡ planned (codes "in") (codes "-") (dump Extract Short None)
+unfolding all
+last_dictionary_counts = refl
+
 -- dcmconv
-plain_convert : meant (codes "dcmconv" ∷ codes "in" ∷ codes "out" ∷ []) ≡ planned (codes "in") (codes "out") (convert None)
+plain_convert : meant (codes "dcmconv" ∷ codes "in" ∷ codes "out" ∷ []) ≡ planned (codes "in") (codes "out") (convert Extract None)
 unfolding all
 plain_convert = refl
 
-convert_to_big : meant (codes "dcmconv" ∷ codes "+te" ∷ codes "in" ∷ codes "+tb" ∷ codes "-e" ∷ codes "out" ∷ []) ≡ planned (codes "in") (codes "out") (convert (Some Big))
+convert_to_big : meant (codes "dcmconv" ∷ codes "+te" ∷ codes "in" ∷ codes "+tb" ∷ codes "-e" ∷ codes "out" ∷ []) ≡ planned (codes "in") (codes "out") (convert Extract (Some Big))
 unfolding all
 convert_to_big = refl
 
-convert_to_same : meant (codes "dcmconv" ∷ codes "+te" ∷ codes "+t=" ∷ codes "in" ∷ codes "out" ∷ []) ≡ planned (codes "in") (codes "out") (convert None)
+convert_to_same : meant (codes "dcmconv" ∷ codes "+te" ∷ codes "+t=" ∷ codes "in" ∷ codes "out" ∷ []) ≡ planned (codes "in") (codes "out") (convert Extract None)
 unfolding all
 convert_to_same = refl
 
@@ -113,13 +123,17 @@ same_path : meant (codes "dcmconv" ∷ codes "a" ∷ codes "a" ∷ []) ≡ Err (
 unfolding all
 same_path = refl
 
-standard_twice : meant (codes "dcmconv" ∷ codes "-" ∷ codes "-" ∷ []) ≡ planned (codes "-") (codes "-") (convert None)
+standard_twice : meant (codes "dcmconv" ∷ codes "-" ∷ codes "-" ∷ []) ≡ planned (codes "-") (codes "-") (convert Extract None)
 unfolding all
 standard_twice = refl
 
 one_path : meant (codes "dcmconv" ∷ codes "a" ∷ []) ≡ Err (Whole WrongPaths)
 unfolding all
 one_path = refl
+
+convert_by_standard : meant (codes "dcmconv" ∷ codes "+dict" ∷ codes "+te" ∷ codes "in" ∷ codes "out" ∷ []) ≡ planned (codes "in") (codes "out") (convert Standard (Some Little))
+unfolding all
+convert_by_standard = refl
 
 -- dump2dcm
 plain_build : meant (codes "dump2dcm" ∷ codes "-e" ∷ codes "in" ∷ codes "out" ∷ []) ≡ planned (codes "in") (codes "out") (build 4096)
@@ -155,12 +169,16 @@ empty_limit : meant (codes "dump2dcm" ∷ codes "+l" ∷ codes "" ∷ codes "in"
 unfolding all
 empty_limit = refl
 
+build_by_standard : meant (codes "dump2dcm" ∷ codes "+dict" ∷ codes "in" ∷ codes "out" ∷ []) ≡ Err (AtWord UnknownOption 2)
+unfolding all
+build_by_standard = refl
+
 -- dcmodify
-no_edits : meant (codes "dcmodify" ∷ codes "in" ∷ codes "out" ∷ []) ≡ planned (codes "in") (codes "out") (modifies [])
+no_edits : meant (codes "dcmodify" ∷ codes "in" ∷ codes "out" ∷ []) ≡ planned (codes "in") (codes "out") (modifies Extract [])
 unfolding all
 no_edits = refl
 
-edits : meant (codes "dcmodify" ∷ codes "-i" ∷ codes "(0010,0020)=7" ∷ codes "-m" ∷ codes "PatientName=Q" ∷ codes "-" ∷ codes "out" ∷ []) ≡ planned (codes "-") (codes "out") (modifies (on_path (insert (tag 0x0010 0x0020) LO (codes "7")) ∷ on_path (modify (tag 0x0010 0x0010) PN (codes "Q")) ∷ []))
+edits : meant (codes "dcmodify" ∷ codes "-i" ∷ codes "(0010,0020)=7" ∷ codes "-m" ∷ codes "PatientName=Q" ∷ codes "-" ∷ codes "out" ∷ []) ≡ planned (codes "-") (codes "out") (modifies Extract (on_path (insert (tag 0x0010 0x0020) LO (codes "7")) ∷ on_path (modify (tag 0x0010 0x0010) PN (codes "Q")) ∷ []))
 unfolding all
 edits = refl
 
@@ -184,6 +202,44 @@ modify_same_path = refl
 edit_takes_any_word : meant (codes "dcmodify" ∷ codes "-e" ∷ codes "-i" ∷ codes "X=1" ∷ codes "in" ∷ codes "out" ∷ []) ≡ Err (InEdit UnknownTag 1)
 unfolding all
 edit_takes_any_word = refl
+
+-- the dictionary of all edits, also of those before its word
+edits_by_standard : meant (codes "dcmodify" ∷ codes "-m" ∷ codes "PatientName=A" ∷ codes "+dict" ∷ codes "in" ∷ codes "out" ∷ []) ≡ planned (codes "in") (codes "out") (modifies Standard (on_path (modify (tag 0x0010 0x0010) PN (codes "A")) ∷ []))
+unfolding all
+edits_by_standard = refl
+
+keyword_of_standard : meant (codes "dcmodify" ∷ codes "+dict" ∷ codes "-e" ∷ codes "InstanceCreatorUID" ∷ codes "in" ∷ codes "out" ∷ []) ≡ planned (codes "in") (codes "out") (modifies Standard (on_path (erase (tag 0x0008 0x0014)) ∷ []))
+unfolding all
+keyword_of_standard = refl
+
+keyword_without_standard : meant (codes "dcmodify" ∷ codes "-e" ∷ codes "InstanceCreatorUID" ∷ codes "in" ∷ codes "out" ∷ []) ≡ Err (InEdit UnknownTag 1)
+unfolding all
+keyword_without_standard = refl
+
+tag_of_standard : meant (codes "dcmodify" ∷ codes "-e" ∷ codes "(0040,A168)" ∷ codes "+dict" ∷ codes "in" ∷ codes "out" ∷ []) ≡ planned (codes "in") (codes "out") (modifies Standard (on_path (erase (tag 0x0040 0xA168)) ∷ []))
+unfolding all
+tag_of_standard = refl
+
+sequence_without_standard : meant (codes "dcmodify" ∷ codes "-e" ∷ codes "ConceptCodeSequence" ∷ codes "in" ∷ codes "out" ∷ []) ≡ Err (InEdit UnknownTag 1)
+unfolding all
+sequence_without_standard = refl
+
+tag_after_all : meant (codes "dcmodify" ∷ codes "+dict" ∷ codes "-e" ∷ codes "(0040,A168)" ∷ codes "-dict" ∷ codes "in" ∷ codes "out" ∷ []) ≡ Err (InEdit UnknownTag 1)
+unfolding all
+tag_after_all = refl
+
+-- such a word is no edit, and behind an option that takes a word it is that word
+dictionary_alone : meant (codes "dcmodify" ∷ codes "+dict" ∷ codes "in" ∷ codes "out" ∷ []) ≡ planned (codes "in") (codes "out") (modifies Standard [])
+unfolding all
+dictionary_alone = refl
+
+dictionary_not_counted : meant (codes "dcmodify" ∷ codes "-ep" ∷ codes "-dict" ∷ codes "-x" ∷ codes "in" ∷ codes "out" ∷ []) ≡ Err (InEdit BadOption 2)
+unfolding all
+dictionary_not_counted = refl
+
+dictionary_for_path : meant (codes "dcmodify" ∷ codes "-m" ∷ codes "+dict" ∷ codes "-e" ∷ codes "(0040,A168)" ∷ codes "in" ∷ codes "out" ∷ []) ≡ Err (InEdit UnknownTag 1)
+unfolding all
+dictionary_for_path = refl
 
 -- edits
 item : meant_edits (codes "-e" ∷ codes "ReferencedImageSequence[0]" ∷ []) ≡ Ok (on_path (erase_item (tag 0x0008 0x1140) (number 0)) ∷ [])
@@ -335,6 +391,10 @@ sixty_four_edits = refl
 too_many_edits : meant_edits (replicate 64 (codes "-ep") ++ codes "-x" ∷ []) ≡ Err (in_edit TooMany 65)
 unfolding all
 too_many_edits = refl
+
+dictionary_behind_all : meant_edits (replicate 64 (codes "-ep") ++ codes "+dict" ∷ []) ≡ Ok (replicate 64 erase_private)
+unfolding all
+dictionary_behind_all = refl
 
 -- 64 indexes, and no more
 sixty_four_indexes : length_of (meant_edits (codes "-e" ∷ (flat_map {X = ℕ} (λ n. codes "(0008,1140)[0].") (replicate 63 0) ++ codes "(0008,1140)[0]") ∷ [])) ≡ Ok 1

@@ -16,10 +16,10 @@ use Rattle.dcm_words.specs.declared.words.Paths.TheVariants as paths
 use Rattle.dcm_words.specs.declared.words.Said.{Said}
 
 abbrev pub job_of : {A : Type 0} → Job A → words.Job
-job_of (jobs.Dump d) = words.dump d.mode d.bare
-job_of (jobs.Convert c) = words.convert c.target
+job_of (jobs.Dump d) = words.dump d.dictionary d.mode d.bare
+job_of (jobs.Convert c) = words.convert c.dictionary c.target
 job_of (jobs.Build b) = words.build b.limit
-job_of (jobs.Modify edits) = words.modify edits
+job_of (jobs.Modify m) = words.modify m.dictionary m.edits
 
 abbrev pub planned : {A : Type 0} → Planned A → words.Plan
 planned p = record { input = p.input.now; output = p.output.now; job = job_of p.job }
@@ -81,7 +81,7 @@ PathsAre paths.More ps = 2 < length ps
 
 -- what was said so far, with these paths
 abbrev pub said_with_paths : Said → List (List ℕ) → words.Said
-said_with_paths s ps = record { mode = s.mode; data_set = s.data_set; bare = s.bare; target = s.target; limit = s.build.limit; paths = ps }
+said_with_paths s ps = record { dictionary = s.dictionary; mode = s.mode; data_set = s.data_set; bare = s.bare; target = s.target; limit = s.build.limit; paths = ps }
 
 -- what a function made of all the words
 abbrev pub SaidAs : Result Said Usage → Result words.Said Usage → Type 0

@@ -2,25 +2,27 @@
 use Rattle.std.specs.Prelude.{ℕ, suc, ◌+◌, List, [], ◌∷◌, Option, Some, None, Result, Ok, Err, Bool, true, false, ◌||◌, ◌&&◌, not, ◌==◌, nat_le, if◌then◌else◌, codes, bytes_eq}
 use Rattle.std.specs.Option.{is_some}
 use Rattle.std.specs.Str.{byte}
+use Rattle.dcm_base.specs.declared.lookup.Dictionary.{Dictionary}
+use Rattle.dcm_base.specs.declared.lookup.Dictionary.TheVariants.{Extract, Standard}
 use Rattle.dcm_base.specs.declared.syntax.Syntax.{Syntax}
-use Rattle.dcm_base.specs.declared.syntax.Syntax.TheVariants.{Implicit, Little, Big}
+use Rattle.dcm_base.specs.Syntax.{Implicit, Little, Big}
 use Rattle.dcm_base.specs.declared.mode.Mode.{Mode}
 use Rattle.dcm_base.specs.declared.mode.Mode.TheVariants.{Short, Full}
 use Rattle.dcm_base.specs.declared.fault.WordFault.TheVariants.{UnknownTool, UnknownOption, BadOptionValue, WrongPaths, OptionsApart, SamePath}
 use Rattle.dcm_words.specs.declared.usage.Word.{Word}
-use Rattle.dcm_words.specs.declared.usage.Word.TheVariants.{Show, WholeFile, DataSet, Bare, Target, Limit, Accepted, Path, Unknown}
+use Rattle.dcm_words.specs.declared.usage.Word.TheVariants.{Read, Show, WholeFile, DataSet, Bare, Target, Limit, Accepted, Path, Unknown}
 use Rattle.dcm_words.specs.declared.usage.Usage.{Usage}
 use Rattle.dcm_words.specs.declared.usage.Usage.TheVariants.{AtWord, Whole, InEdit}
 use Rattle.dcm_base.specs.ReadValue.{number_in}
 use Rattle.dcm_edit.specs.Edit.{Edit}
-use Rattle.dcm_edit.specs.EditWords.{meant_edits}
+use Rattle.dcm_edit.specs.EditWords.{dictionary_said, meant_edits_in}
 
--- what a tool is to do
+-- what a tool is to do, with the dictionary that it reads with
 pub data Job : Type 0 where
-  dump : (mode : Mode) (bare : Option Syntax) → Job
-  convert : (target : Option Syntax) → Job
+  dump : (dictionary : Dictionary) (mode : Mode) (bare : Option Syntax) → Job
+  convert : (dictionary : Dictionary) (target : Option Syntax) → Job
   build : (limit : ℕ) → Job
-  modify : (edits : List Edit) → Job
+  modify : (dictionary : Dictionary) (edits : List Edit) → Job
 
 pub record Plan : Type 0 where
   pub input : List ℕ
@@ -40,6 +42,13 @@ is_option (c ∷ cs) = not (bytes_eq (c ∷ cs) standard) && (c == byte "-" || c
 abbrev pub other_word : List ℕ → Word
 other_word w = if is_option w then Unknown else Path
 
+-- the dictionary that is read with
+abbrev pub read_word : List ℕ → Word
+read_word w =
+    if bytes_eq w (codes "-dict") then Read Extract
+    else if bytes_eq w (codes "+dict") then Read Standard
+    else other_word w
+
 abbrev pub dump_word : List ℕ → Word
 dump_word w =
     if bytes_eq w (codes "-L") then Show Short
@@ -49,7 +58,7 @@ dump_word w =
     else if bytes_eq w (codes "-ti") then Bare Implicit
     else if bytes_eq w (codes "-te") then Bare Little
     else if bytes_eq w (codes "-tb") then Bare Big
-    else other_word w
+    else read_word w
 
 abbrev pub convert_word : List ℕ → Word
 convert_word w =
@@ -59,7 +68,7 @@ convert_word w =
     else if bytes_eq w (codes "+tb") then Target (Some Big)
     else if bytes_eq w (codes "-e") then Accepted
     else if bytes_eq w (codes "+fo") then Accepted
-    else other_word w
+    else read_word w
 
 abbrev pub build_word : List ℕ → Word
 build_word w =
@@ -89,6 +98,7 @@ limit_of w = limit_within (number_in 10 0 w)
 
 -- what the words so far have said; of two that exclude each other the last counts
 pub record Said : Type 0 where
+  pub dictionary : Dictionary
   pub mode : Mode
   pub data_set : Bool
   pub bare : Option Syntax
@@ -97,7 +107,7 @@ pub record Said : Type 0 where
   pub paths : List (List ℕ)
 
 abbrev pub nothing_said : Said
-nothing_said = record { mode = Short; data_set = false; bare = None; target = None; limit = USUAL_LIMIT; paths = [] }
+nothing_said = record { dictionary = Extract; mode = Short; data_set = false; bare = None; target = None; limit = USUAL_LIMIT; paths = [] }
 
 -- paths are kept in the order of the words
 abbrev pub and_path : List (List ℕ) → List ℕ → List (List ℕ)
@@ -105,6 +115,7 @@ and_path [] w = w ∷ []
 and_path (p ∷ ps) w = p ∷ and_path ps w
 
 abbrev pub said_with : Word → List ℕ → Said → Said
+said_with (Read dictionary) w s = record s { dictionary = dictionary }
 said_with (Show mode) w s = record s { mode = mode }
 said_with WholeFile w s = record s { data_set = false }
 said_with DataSet w s = record s { data_set = true }
@@ -153,7 +164,7 @@ same false b = not b
 
 -- a data set alone is read only in a syntax that the words name, which are for it alone
 abbrev pub dump_plan_of : List ℕ → Said → Result Plan Usage
-dump_plan_of input s = if same s.data_set (is_some s.bare) then Ok (record { input = input; output = standard; job = dump s.mode s.bare }) else Err (Whole OptionsApart)
+dump_plan_of input s = if same s.data_set (is_some s.bare) then Ok (record { input = input; output = standard; job = dump s.dictionary s.mode s.bare }) else Err (Whole OptionsApart)
 
 abbrev pub dump_plan_with : List (List ℕ) → Said → Result Plan Usage
 dump_plan_with (input ∷ []) s = if is_empty_word input then Err (Whole WrongPaths) else dump_plan_of input s
@@ -163,7 +174,7 @@ abbrev pub dump_plan : List (List ℕ) → Result Plan Usage
 dump_plan words = elim (said_by dump_word words) [ Ok s ↦ dump_plan_with s.paths s | Err u ↦ Err u ]
 
 abbrev pub convert_plan : List (List ℕ) → Result Plan Usage
-convert_plan words = elim (said_by convert_word words) [ Ok s ↦ plan_with_two s.paths (convert s.target) | Err u ↦ Err u ]
+convert_plan words = elim (said_by convert_word words) [ Ok s ↦ plan_with_two s.paths (convert s.dictionary s.target) | Err u ↦ Err u ]
 
 abbrev pub build_plan : List (List ℕ) → Result Plan Usage
 build_plan words = elim (said_by build_word words) [ Ok s ↦ plan_with_two s.paths (build s.limit) | Err u ↦ Err u ]
@@ -187,8 +198,12 @@ paths_apart (w ∷ v ∷ u ∷ words) = and_edit_word w (paths_apart (v ∷ u �
 abbrev pub is_path : List ℕ → Bool
 is_path w = not (is_empty_word w) && not (is_option w)
 
+abbrev pub modify_plan_in : Dictionary → EditWords → Result Plan Usage
+modify_plan_in d e = elim (meant_edits_in d e.edits) [ Ok edits ↦ plan_if_apart e.input e.output (modify d edits) | Err u ↦ Err (InEdit u.refusal u.number) ]
+
+-- the last dictionary that is named counts for all edits
 abbrev pub modify_plan_with : EditWords → Result Plan Usage
-modify_plan_with e = elim (meant_edits e.edits) [ Ok edits ↦ plan_if_apart e.input e.output (modify edits) | Err u ↦ Err (InEdit u.refusal u.number) ]
+modify_plan_with e = modify_plan_in (dictionary_said Extract e.edits) e
 
 abbrev pub modify_plan : List (List ℕ) → Result Plan Usage
 modify_plan words = elim (paths_apart words) [

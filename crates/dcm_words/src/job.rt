@@ -2,7 +2,7 @@
 ghost use Rattle.std.specs.Prelude.{◌≤◌};
 ghost use Rattle.dcm_words.specs.Words.{LEAST_LIMIT, GREATEST_LIMIT};
 
-use dcm_base::{Mode, Syntax};
+use dcm_base::{Dictionary, Mode, Syntax};
 use dcm_edit::Edits;
 use std::alloc::{Allocator, Global};
 
@@ -12,20 +12,21 @@ pub enum Job<A: Allocator = Global> {
     Dump(Dump),
     Convert(Convert),
     Build(Build),
-    /// The edits of a file.
-    Modify(Edits<A>),
+    Modify(Modify<A>),
 }
 
-/// The dump of a file, or of a data set alone in a syntax.
+/// The dump of a file, or of a data set alone in a syntax, read with a dictionary.
 #[derive(Clone, Copy, Debug, PartialEq, Eq)]
 pub struct Dump {
+    pub dictionary: Dictionary,
     pub mode: Mode,
     pub bare: Option<Syntax>,
 }
 
-/// The conversion of a file to a transfer syntax, or none for its own.
+/// The conversion of a file, read with a dictionary, to a transfer syntax, or none for its own.
 #[derive(Clone, Copy, Debug, PartialEq, Eq)]
 pub struct Convert {
+    pub dictionary: Dictionary,
     pub target: Option<Syntax>,
 }
 
@@ -34,6 +35,13 @@ pub struct Convert {
 pub struct Build {
     pub limit: usize,
     ghost within: { (LEAST_LIMIT ≤ limit) × (limit ≤ GREATEST_LIMIT) },
+}
+
+/// The edits of a file, and the dictionary that they are meant by and the file is read with.
+#[derive(Debug, Drop)]
+pub struct Modify<A: Allocator = Global> {
+    pub dictionary: Dictionary,
+    pub edits: Edits<A>,
 }
 
 /// A job, and the paths of its input and its output, where `-` is a standard stream.

@@ -14,6 +14,6 @@ mod job;
 mod usage;
 mod words;
 
-pub use job::{Build, Convert, Dump, Job, Planned};
+pub use job::{Build, Convert, Dump, Job, Modify, Planned};
 pub use usage::Usage;
 pub use words::plan;

@@ -1,9 +1,11 @@
 // What the words of a command line say.
-use dcm_base::{EditRefusal, Mode, Syntax, WordFault};
+use dcm_base::{Dictionary, EditRefusal, Mode, Syntax, WordFault};
 
 /// What one word says to dcmdump, dcmconv or dump2dcm.
 #[derive(Clone, Copy, Debug, PartialEq, Eq)]
 pub enum Word {
+    /// The dictionary that is read with.
+    Read(Dictionary),
     /// How much of a long value is shown.
     Show(Mode),
     /// The input is a file with a meta group.

@@ -4,10 +4,10 @@ ghost use Rattle.dcm_base.specs.ReadValue.{digit as spec_digit, number_in};
 ghost use Rattle.dcm_words.specs.Words as spec;
 ghost use Rattle.dcm_words.specs.Plans.{reader, job_of, is_modify, GivesUnlessMemory, edits_between, capped, limit_behind as said_limit, LimitAs, Gives, PathsAre, SaidAs};
 
-use crate::job::{Build, Convert, Dump, Job, Planned};
+use crate::job::{Build, Convert, Dump, Job, Modify, Planned};
 use crate::usage::{Usage, Word};
-use dcm_base::{Mode, Syntax, WordFault};
-use dcm_edit::{EditFault, Edits};
+use dcm_base::{Dictionary, Mode, Syntax, WordFault};
+use dcm_edit::{EditFault, Edits, dictionary_said};
 use std::alloc::Allocator;
 
 /// The path of a standard stream.
@@ -40,6 +40,7 @@ enum Paths<'a> {
 /// What the words so far have said; of two that exclude each other the last counts.
 #[derive(Clone, Copy)]
 struct Said<'a> {
+    dictionary: Dictionary,
     mode: Mode,
     data_set: bool,
     bare: Option<Syntax>,
@@ -63,6 +64,19 @@ fn other_word(word: &[u8]) -> Word
     }
 }
 
+/// The dictionary that is read with, where the word names one.
+fn read_word(word: &[u8]) -> Word
+    ensures { result ≡ spec.read_word word.now }
+{
+    if word == b"-dict".as_slice() {
+        Word::Read(Dictionary::Extract)
+    } else if word == b"+dict".as_slice() {
+        Word::Read(Dictionary::Standard)
+    } else {
+        other_word(word)
+    }
+}
+
 fn dump_word(word: &[u8]) -> Word
     ensures { result ≡ spec.dump_word word.now }
 {
@@ -75,13 +89,13 @@ fn dump_word(word: &[u8]) -> Word
     } else if word == b"-f".as_slice() {
         Word::DataSet
     } else if word == b"-ti".as_slice() {
-        Word::Bare(Syntax::Implicit)
+        Word::Bare(Syntax::Implicit(Dictionary::Extract))
     } else if word == b"-te".as_slice() {
-        Word::Bare(Syntax::Little)
+        Word::Bare(Syntax::Little(Dictionary::Extract))
     } else if word == b"-tb".as_slice() {
-        Word::Bare(Syntax::Big)
+        Word::Bare(Syntax::Big(Dictionary::Extract))
     } else {
-        other_word(word)
+        read_word(word)
     }
 }
 
@@ -91,17 +105,17 @@ fn convert_word(word: &[u8]) -> Word
     if word == b"+t=".as_slice() {
         Word::Target(None)
     } else if word == b"+ti".as_slice() {
-        Word::Target(Some(Syntax::Implicit))
+        Word::Target(Some(Syntax::Implicit(Dictionary::Extract)))
     } else if word == b"+te".as_slice() {
-        Word::Target(Some(Syntax::Little))
+        Word::Target(Some(Syntax::Little(Dictionary::Extract)))
     } else if word == b"+tb".as_slice() {
-        Word::Target(Some(Syntax::Big))
+        Word::Target(Some(Syntax::Big(Dictionary::Extract)))
     } else if word == b"-e".as_slice() {
         Word::Accepted
     } else if word == b"+fo".as_slice() {
         Word::Accepted
     } else {
-        other_word(word)
+        read_word(word)
     }
 }
 
@@ -188,6 +202,7 @@ fn said_by<'a>(tool: Tool, words: &'a [&'a [u8]]) -> Result<Said<'a>, Usage>
     ensures { SaidAs result (spec.said_by (reader tool) (map (λ w. w.now) words.now)) }
 {
     let mut said: Said<'a> = Said {
+        dictionary: Dictionary::Extract,
         mode: Mode::Short,
         data_set: false,
         bare: None,
@@ -199,6 +214,7 @@ fn said_by<'a>(tool: Tool, words: &'a [&'a [u8]]) -> Result<Said<'a>, Usage>
     while i < words.len() {
         let word = words[i];
         match word_of(tool, word) {
+            Word::Read(dictionary) => said.dictionary = dictionary,
             Word::Show(mode) => said.mode = mode,
             Word::WholeFile => said.data_set = false,
             Word::DataSet => said.data_set = true,
@@ -233,6 +249,7 @@ fn plan_dump<'a, A: Allocator>(words: &'a [&'a [u8]]) -> Result<Planned<'a, A>, 
         input,
         output: STANDARD,
         job: Job::Dump(Dump {
+            dictionary: said.dictionary,
             mode: said.mode,
             bare: said.bare,
         }),
@@ -273,6 +290,7 @@ fn plan_convert<'a, A: Allocator>(words: &'a [&'a [u8]]) -> Result<Planned<'a, A
     plan_with_two(
         said.paths,
         Job::Convert(Convert {
+            dictionary: said.dictionary,
             target: said.target,
         }),
     )
@@ -293,17 +311,18 @@ fn is_path(word: &[u8]) -> bool
     !word.is_empty() && other_word(word) == Word::Path
 }
 
-/// The edits that words mean, from one path to another, or the first refusal.
+/// The edits that words mean by a dictionary, from one path to another, or the first refusal.
 fn plan_edits<'a, A: Allocator + Copy>(
     alloc: A,
+    dictionary: Dictionary,
     edit_words: &[&[u8]],
     input: &'a [u8],
     output: &'a [u8],
 ) -> Result<Planned<'a, A>, Usage>
-    ensures { GivesUnlessMemory result (spec.modify_plan_with (edits_between (map (λ w. w.now) edit_words.now) input.now output.now)) }
+    ensures { GivesUnlessMemory result (spec.modify_plan_in dictionary (edits_between (map (λ w. w.now) edit_words.now) input.now output.now)) }
 {
-    match Edits::parse(alloc, edit_words) {
-        Ok(edits) => plan_if_apart(input, output, Job::Modify(edits)),
+    match Edits::parse_in(alloc, dictionary, edit_words) {
+        Ok(edits) => plan_if_apart(input, output, Job::Modify(Modify { dictionary, edits })),
         Err(EditFault::Refused(refusal, number)) => Err(Usage::InEdit(refusal, number)),
         Err(EditFault::Memory) => Err(Usage::Memory),
     }
@@ -322,7 +341,13 @@ fn plan_modify<'a, A: Allocator + Copy>(
     if !is_path(input) || !is_path(output) {
         return Err(Usage::Whole(WordFault::WrongPaths));
     }
-    plan_edits(alloc, edit_words, input, output)
+    plan_edits(
+        alloc,
+        dictionary_said(edit_words),
+        edit_words,
+        input,
+        output,
+    )
 }
 
 /// The job that the words after the program's name mean, with the paths borrowed from them, or the first refusal. Memory is

@@ -6,7 +6,8 @@ use Rattle.dcm_base.specs.declared.tag.Tag.{Tag}
 use Rattle.dcm_base.specs.declared.vr.Vr.{Vr}
 use Rattle.dcm_base.specs.declared.vr.Vr.TheVariants.{SQ, UN}
 use Rattle.dcm_base.specs.declared.syntax.Syntax.{Syntax}
-use Rattle.dcm_base.specs.declared.syntax.Syntax.TheVariants.{Implicit, Little, Big}
+use Rattle.dcm_base.specs.declared.syntax.Syntax.TheVariants.{Implicit as implicit_in, Little as little_in, Big as big_in}
+use Rattle.dcm_base.specs.declared.lookup.Dictionary.{Dictionary}
 use Rattle.dcm_base.specs.declared.length.Length.TheVariants.{Known, Undefined}
 use Rattle.dcm_base.specs.Tree.{Trees, no_tree, leaf, sequence, fragments, Items, no_item, item}
 use Rattle.dcm_base.specs.Representation.{is_long, pad}
@@ -66,9 +67,9 @@ explicit_same : (s : Syntax) (vr : Vr) (n : ℕ) (u : List ℕ) (c : Bool) → t
 explicit_same s vr n u true e l = by_test (too_long s UN (even n)) (never s)
   where
     never : (s : Syntax) → too_long s UN (even n) ≡ false
-    never Implicit = refl
-    never Little = refl
-    never Big = refl
+    never (implicit_in d) = refl
+    never (little_in d) = refl
+    never (big_in d) = refl
 
     by_test : (d : Bool) → d ≡ false → evened (pad UN) (if d then order s UN u else order s UN (order s UN u)) ≡ u
     by_test true k = absurd (cc)
@@ -90,16 +91,16 @@ explicit_again s t vr n m u c e l k =
     ∙ both (head_again s t vr n c e) (explicit_same s vr n u c e l)
 
 pub leaf_again : (s : Syntax) (t : Tag) (vr : Vr) (v : List ℕ) → recoded_leaf s t (normal_vr s t vr (length v)) (normal_value s t vr v) ≡ recoded_leaf s t vr v
-leaf_again Implicit t vr v =
+leaf_again (implicit_in d) t vr v =
     let u : List ℕ = evened (pad vr) v in
     let size : length u ≡ even (length v) = evened_size (pad vr) v in
-    both (ap (λ (k : ℕ). head Implicit t vr (Known (even k))) size ∙ ap (λ (k : ℕ). head Implicit t vr (Known k)) (even_even (length v))) (evened_same (pad (normal_vr Implicit t vr (length v))) u (length v) size)
-leaf_again Little t vr v =
-    let u : List ℕ = evened (pad vr) (leaf_bytes Little vr (length v) v) in
-    explicit_again Little t vr (length v) (length (normal_value Little t vr v)) u (too_long Little vr (length v)) refl (evened_size (pad vr) (leaf_bytes Little vr (length v) v) ∙ ap even (leaf_size Little vr (length v) v)) (normal_size Little t vr v)
-leaf_again Big t vr v =
-    let u : List ℕ = evened (pad vr) (leaf_bytes Big vr (length v) v) in
-    explicit_again Big t vr (length v) (length (normal_value Big t vr v)) u (too_long Big vr (length v)) refl (evened_size (pad vr) (leaf_bytes Big vr (length v) v) ∙ ap even (leaf_size Big vr (length v) v)) (normal_size Big t vr v)
+    both (ap (λ (k : ℕ). head (implicit_in d) t vr (Known (even k))) size ∙ ap (λ (k : ℕ). head (implicit_in d) t vr (Known k)) (even_even (length v))) (evened_same (pad (normal_vr (implicit_in d) t vr (length v))) u (length v) size)
+leaf_again (little_in d) t vr v =
+    let u : List ℕ = evened (pad vr) (leaf_bytes (little_in d) vr (length v) v) in
+    explicit_again (little_in d) t vr (length v) (length (normal_value (little_in d) t vr v)) u (too_long (little_in d) vr (length v)) refl (evened_size (pad vr) (leaf_bytes (little_in d) vr (length v) v) ∙ ap even (leaf_size (little_in d) vr (length v) v)) (normal_size (little_in d) t vr v)
+leaf_again (big_in d) t vr v =
+    let u : List ℕ = evened (pad vr) (leaf_bytes (big_in d) vr (length v) v) in
+    explicit_again (big_in d) t vr (length v) (length (normal_value (big_in d) t vr v)) u (too_long (big_in d) vr (length v)) refl (evened_size (pad vr) (leaf_bytes (big_in d) vr (length v) v) ∙ ap even (leaf_size (big_in d) vr (length v) v)) (normal_size (big_in d) t vr v)
 
 -- ---- fragments
 
@@ -144,8 +145,8 @@ mutual
 
 -- ---- a normal form has no other
 
-implicit_value : (t : Tag) (vr : Vr) (v : List ℕ) → normal_value Implicit t (normal_vr Implicit t vr (length v)) (normal_value Implicit t vr v) ≡ normal_value Implicit t vr v
-implicit_value t vr v = evened_same (pad (normal_vr Implicit t vr (length v))) (evened (pad vr) v) (length v) (evened_size (pad vr) v)
+implicit_value : (d : Dictionary) (t : Tag) (vr : Vr) (v : List ℕ) → normal_value (implicit_in d) t (normal_vr (implicit_in d) t vr (length v)) (normal_value (implicit_in d) t vr v) ≡ normal_value (implicit_in d) t vr v
+implicit_value d t vr v = evened_same (pad (normal_vr (implicit_in d) t vr (length v))) (evened (pad vr) v) (length v) (evened_size (pad vr) v)
 
 vr_again : (s : Syntax) (vr : Vr) (n : ℕ) (c : Bool) → too_long s vr n ≡ c → (if too_long s (if c then UN else vr) (even n) then UN else (if c then UN else vr)) ≡ (if c then UN else vr)
 vr_again s vr n true e = unknown (too_long s UN (even n))
@@ -164,21 +165,21 @@ explicit_value : (s : Syntax) (vr w x : Vr) (n m : ℕ) (u : List ℕ) → w ≡
 explicit_value s vr w x n m u e k h = ap (λ (y : Vr). order s y (evened (pad x) (leaf_bytes s x m (order s x u)))) e ∙ ap (λ (j : ℕ). order s x (evened (pad x) (leaf_bytes s x j (order s x u)))) k ∙ ap (order s x) h
 
 leaf_once : (s : Syntax) (t : Tag) (vr : Vr) (v : List ℕ) → Again s t vr v
-leaf_once Implicit t vr v = record { vrs = refl; values = implicit_value t vr v }
-leaf_once Little t vr v =
-    let c : Bool = too_long Little vr (length v) in
-    let u : List ℕ = evened (pad vr) (leaf_bytes Little vr (length v) v) in
-    let size : length u ≡ even (length v) = evened_size (pad vr) (leaf_bytes Little vr (length v) v) ∙ ap even (leaf_size Little vr (length v) v) in
-    let m : length (normal_value Little t vr v) ≡ even (length v) = normal_size Little t vr v in
-    let vrs = ap (λ (k : ℕ). if too_long Little (if c then UN else vr) k then UN else (if c then UN else vr)) m ∙ vr_again Little vr (length v) c refl in
-    record { vrs = vrs; values = explicit_value Little vr _ (if c then UN else vr) (length v) (length (normal_value Little t vr v)) u vrs m (explicit_same Little vr (length v) u c refl size) }
-leaf_once Big t vr v =
-    let c : Bool = too_long Big vr (length v) in
-    let u : List ℕ = evened (pad vr) (leaf_bytes Big vr (length v) v) in
-    let size : length u ≡ even (length v) = evened_size (pad vr) (leaf_bytes Big vr (length v) v) ∙ ap even (leaf_size Big vr (length v) v) in
-    let m : length (normal_value Big t vr v) ≡ even (length v) = normal_size Big t vr v in
-    let vrs = ap (λ (k : ℕ). if too_long Big (if c then UN else vr) k then UN else (if c then UN else vr)) m ∙ vr_again Big vr (length v) c refl in
-    record { vrs = vrs; values = explicit_value Big vr _ (if c then UN else vr) (length v) (length (normal_value Big t vr v)) u vrs m (explicit_same Big vr (length v) u c refl size) }
+leaf_once (implicit_in d) t vr v = record { vrs = refl; values = implicit_value d t vr v }
+leaf_once (little_in d) t vr v =
+    let c : Bool = too_long (little_in d) vr (length v) in
+    let u : List ℕ = evened (pad vr) (leaf_bytes (little_in d) vr (length v) v) in
+    let size : length u ≡ even (length v) = evened_size (pad vr) (leaf_bytes (little_in d) vr (length v) v) ∙ ap even (leaf_size (little_in d) vr (length v) v) in
+    let m : length (normal_value (little_in d) t vr v) ≡ even (length v) = normal_size (little_in d) t vr v in
+    let vrs = ap (λ (k : ℕ). if too_long (little_in d) (if c then UN else vr) k then UN else (if c then UN else vr)) m ∙ vr_again (little_in d) vr (length v) c refl in
+    record { vrs = vrs; values = explicit_value (little_in d) vr _ (if c then UN else vr) (length v) (length (normal_value (little_in d) t vr v)) u vrs m (explicit_same (little_in d) vr (length v) u c refl size) }
+leaf_once (big_in d) t vr v =
+    let c : Bool = too_long (big_in d) vr (length v) in
+    let u : List ℕ = evened (pad vr) (leaf_bytes (big_in d) vr (length v) v) in
+    let size : length u ≡ even (length v) = evened_size (pad vr) (leaf_bytes (big_in d) vr (length v) v) ∙ ap even (leaf_size (big_in d) vr (length v) v) in
+    let m : length (normal_value (big_in d) t vr v) ≡ even (length v) = normal_size (big_in d) t vr v in
+    let vrs = ap (λ (k : ℕ). if too_long (big_in d) (if c then UN else vr) k then UN else (if c then UN else vr)) m ∙ vr_again (big_in d) vr (length v) c refl in
+    record { vrs = vrs; values = explicit_value (big_in d) vr _ (if c then UN else vr) (length v) (length (normal_value (big_in d) t vr v)) u vrs m (explicit_same (big_in d) vr (length v) u c refl size) }
 
 fragments_once : (values : List (List ℕ)) → map (evened 0) (map (evened 0) values) ≡ map (evened 0) values
 fragments_once [] = refl

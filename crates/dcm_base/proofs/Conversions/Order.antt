@@ -8,7 +8,7 @@ use Rattle.std.proofs.Math.Nat.{div-eq_of_lt, add-div_left}
 use Rattle.dcm_base.specs.declared.vr.Vr.{Vr}
 use Rattle.dcm_base.specs.declared.vr.Vr.TheVariants.{AT, US, SS, OW, UL, SL, FL, OF, OL, FD, OD, OV, SV, UV}
 use Rattle.dcm_base.specs.declared.syntax.Syntax.{Syntax}
-use Rattle.dcm_base.specs.declared.syntax.Syntax.TheVariants.{Implicit, Little, Big}
+use Rattle.dcm_base.specs.declared.syntax.Syntax.TheVariants.{Implicit as implicit_in, Little as little_in, Big as big_in}
 use Rattle.dcm_base.specs.Representation.{unit}
 use Rattle.dcm_base.specs.Value.{units, rest_part, turned, order}
 use Rattle.dcm_base.proofs.Conversions.UnitLaws.{units_cons, units_none}
@@ -76,27 +76,27 @@ unit_some UV = omega arith
 unit_some _ = omega arith
 
 pub order_twice : (s : Syntax) (vr : Vr) (v : List ℕ) → order s vr (order s vr v) ≡ v
-order_twice Implicit vr v = refl
-order_twice Little vr v = refl
-order_twice Big vr v = turned_twice (unit vr) (unit_some vr) v
+order_twice (implicit_in d) vr v = refl
+order_twice (little_in d) vr v = refl
+order_twice (big_in d) vr v = turned_twice (unit vr) (unit_some vr) v
 
 pub length-order : (s : Syntax) (vr : Vr) (v : List ℕ) → length (order s vr v) ≡ length v
-length-order Implicit vr v = refl
-length-order Little vr v = refl
-length-order Big vr v = keeps_length (unit vr) (unit_some vr) v
+length-order (implicit_in d) vr v = refl
+length-order (little_in d) vr v = refl
+length-order (big_in d) vr v = keeps_length (unit vr) (unit_some vr) v
 
 pub order_same : (s : Syntax) (vr : Vr) (v w : List ℕ) → order s vr v ≡ order s vr w → v ≡ w
 order_same s vr v w e = sym (order_twice s vr v) ∙ ap (λ (x : List ℕ). order s vr x) e ∙ order_twice s vr w
 
 pub order_none : (s : Syntax) (vr : Vr) → order s vr [] ≡ []
-order_none Implicit vr = refl
-order_none Little vr = refl
-order_none Big vr = turned_short (unit vr) (unit_some vr) [] (unit_some vr)
+order_none (implicit_in d) vr = refl
+order_none (little_in d) vr = refl
+order_none (big_in d) vr = turned_short (unit vr) (unit_some vr) [] (unit_some vr)
 
 pub order_units : (s : Syntax) (vr : Vr) (v : List ℕ) → units (unit vr) (order s vr v) ≡ map (order s vr) (units (unit vr) v)
-order_units Implicit vr v = sym (map-id (units (unit vr) v))
-order_units Little vr v = sym (map-id (units (unit vr) v))
-order_units Big vr v = turns_units (unit vr) (unit_some vr) v
+order_units (implicit_in d) vr v = sym (map-id (units (unit vr) v))
+order_units (little_in d) vr v = sym (map-id (units (unit vr) v))
+order_units (big_in d) vr v = turns_units (unit vr) (unit_some vr) v
 
 -- where f goes over a value k bytes by k bytes
 module _ (k : ℕ) (some : 0 < k) (f : List ℕ → List ℕ) (cons : (u w : List ℕ) → length u ≡ k → f (u ++ w) ≡ f u ++ f w) (size : (v : List ℕ) → length (f v) ≡ length v) where
@@ -141,6 +141,6 @@ four_cons u w e =
 
 -- a tag is shown of two units
 pub tag_units : (s : Syntax) (v : List ℕ) → units 4 (order s AT v) ≡ map (order s AT) (units 4 v)
-tag_units Implicit v = sym (map-id (units 4 v))
-tag_units Little v = sym (map-id (units 4 v))
-tag_units Big v = units_kept 4 (omega arith) (turned 2) four_cons (keeps_length 2 (omega arith)) v
+tag_units (implicit_in d) v = sym (map-id (units 4 v))
+tag_units (little_in d) v = sym (map-id (units 4 v))
+tag_units (big_in d) v = units_kept 4 (omega arith) (turned 2) four_cons (keeps_length 2 (omega arith)) v

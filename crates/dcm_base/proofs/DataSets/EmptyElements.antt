@@ -1,7 +1,7 @@
 -- A data set of one empty element is read whole: no stop comes before its end.
 use Rattle.std.proofs.Common.{◌≡◌, ℕ, ◌+◌, ◌<◌, List, [], ◌∷◌, ◌++◌, length, Some, None, false, true, inl, inr, refl, sym, ap, ◌∙◌, subst, arith, lit≤}
 use Rattle.dcm_base.specs.declared.vr.Vr.TheVariants.{PN}
-use Rattle.dcm_base.specs.declared.syntax.Syntax.TheVariants.{Little}
+use Rattle.dcm_base.specs.Syntax.{Little}
 use Rattle.dcm_base.specs.Tree.{no_tree, leaf}
 use Rattle.dcm_base.specs.Front.{Front, front, nothing_open}
 use Rattle.dcm_base.specs.Spelling.{SpellsFront}

@@ -6,13 +6,13 @@ use Rattle.byteorder.specs.Numbers.{little_from-append, big_from-append}
 use Rattle.dcm_base.specs.declared.tag.Tag.{Tag}
 use Rattle.dcm_base.specs.declared.vr.Vr.{Vr}
 use Rattle.dcm_base.specs.declared.syntax.Syntax.{Syntax}
-use Rattle.dcm_base.specs.declared.syntax.Syntax.TheVariants.{Implicit, Little, Big}
+use Rattle.dcm_base.specs.declared.syntax.Syntax.TheVariants.{Implicit as implicit_in, Little as little_in, Big as big_in}
 use Rattle.dcm_base.specs.declared.length.Length.{Length}
 use Rattle.dcm_base.specs.declared.length.Length.TheVariants.{Known, Undefined}
 use Rattle.dcm_base.specs.Tree.{Trees, no_tree, leaf, sequence, fragments, Items, no_item, item}
 use Rattle.dcm_base.specs.Number.{number}
 use Rattle.dcm_base.specs.Representation.{is_long, vr_read}
-use Rattle.dcm_base.specs.Dictionary.{dict_vr}
+use Rattle.dcm_base.specs.Dictionary.{vr_in}
 use Rattle.dcm_base.specs.Head.{ElementHead, ItemHead, Delimiter, tag_at, vr_at, length_at, long_length, head_size}
 use Rattle.dcm_base.specs.Tag.{item_end_tag, sequence_end_tag}
 use Rattle.dcm_base.specs.Value.{order}
@@ -20,9 +20,9 @@ use Rattle.dcm_base.specs.Spelling.{inside, Enclosed, FragmentsAt, TreesAt, Item
 use Rattle.dcm_base.proofs.DataSets.Heads.{eight_le_head_size}
 
 pub number_extends : (s : Syntax) (n : ℕ) (b z : List ℕ) → n ≤ length b → number s n (b ++ z) ≡ number s n b
-number_extends Implicit n b z le = little_from-append n b z le
-number_extends Little n b z le = little_from-append n b z le
-number_extends Big n b z le = big_from-append n b z le
+number_extends (implicit_in d) n b z le = little_from-append n b z le
+number_extends (little_in d) n b z le = little_from-append n b z le
+number_extends (big_in d) n b z le = big_from-append n b z le
 
 pub number_behind_extends : (s : Syntax) (k n : ℕ) (b z : List ℕ) → k + n ≤ length b → number s n (drop k (b ++ z)) ≡ number s n (drop k b)
 number_behind_extends s k n b z le =
@@ -40,9 +40,9 @@ letters_extend b z le =
 
 pub vr_at_extends : (s : Syntax) (b z : List ℕ) → 8 ≤ length b → vr_at s (b ++ z) ≡ vr_at s b
 unfolding vr_at
-vr_at_extends Implicit b z le = ap (λ (t : Tag). Some (dict_vr t)) (tag_at_extends Implicit b z (omega arith))
-vr_at_extends Little b z le = letters_extend b z le
-vr_at_extends Big b z le = letters_extend b z le
+vr_at_extends (implicit_in d) b z le = ap (λ (t : Tag). Some (vr_in d t)) (tag_at_extends (implicit_in d) b z (omega arith))
+vr_at_extends (little_in d) b z le = letters_extend b z le
+vr_at_extends (big_in d) b z le = letters_extend b z le
 
 explicit_length_extends : (s : Syntax) (long : Bool) (b z : List ℕ) → cond long 12 8 ≤ length b
     → cond long (long_length (number s 4 (drop 8 (b ++ z)))) (Known (number s 2 (drop 6 (b ++ z)))) ≡ cond long (long_length (number s 4 (drop 8 b))) (Known (number s 2 (drop 6 b)))
@@ -51,9 +51,9 @@ explicit_length_extends s false b z le = ap Known (number_behind_extends s 6 2 b
 
 pub length_at_extends : (s : Syntax) (v : Vr) (b z : List ℕ) → head_size s v ≤ length b → length_at s v (b ++ z) ≡ length_at s v b
 unfolding length_at
-length_at_extends Implicit v b z le = ap long_length (number_behind_extends Implicit 4 4 b z (omega arith))
-length_at_extends Little v b z le = explicit_length_extends Little (is_long v) b z le
-length_at_extends Big v b z le = explicit_length_extends Big (is_long v) b z le
+length_at_extends (implicit_in d) v b z le = ap long_length (number_behind_extends (implicit_in d) 4 4 b z (omega arith))
+length_at_extends (little_in d) v b z le = explicit_length_extends (little_in d) (is_long v) b z le
+length_at_extends (big_in d) v b z le = explicit_length_extends (big_in d) (is_long v) b z le
 
 pub element_extends : (s : Syntax) (t : Tag) (v : Vr) (l : Length) (b c z : List ℕ) → ElementHead s t v l b c → ElementHead s t v l (b ++ z) (c ++ z)
 element_extends s t v l b c z h =

@@ -6,7 +6,7 @@ use Rattle.dcm_base.specs.declared.tag.Tag.{Tag}
 use Rattle.dcm_base.specs.declared.vr.Vr.{Vr}
 use Rattle.dcm_base.specs.declared.vr.Vr.TheVariants.{UN}
 use Rattle.dcm_base.specs.declared.syntax.Syntax.{Syntax}
-use Rattle.dcm_base.specs.declared.syntax.Syntax.TheVariants.{Implicit, Little, Big}
+use Rattle.dcm_base.specs.declared.syntax.Syntax.TheVariants.{Implicit as implicit_in, Little as little_in, Big as big_in}
 use Rattle.dcm_base.specs.Representation.{is_long}
 use Rattle.dcm_base.specs.Tag.{is_tag}
 use Rattle.dcm_base.specs.declared.length.Length.{Length}
@@ -59,9 +59,9 @@ eight_le true = omega arith
 eight_le false = omega arith
 
 pub eight_le_head_size : (s : Syntax) (v : Vr) → 8 ≤ head_size s v
-eight_le_head_size Implicit v = omega arith
-eight_le_head_size Little v = eight_le (is_long v)
-eight_le_head_size Big v = eight_le (is_long v)
+eight_le_head_size (implicit_in d) v = omega arith
+eight_le_head_size (little_in d) v = eight_le (is_long v)
+eight_le_head_size (big_in d) v = eight_le (is_long v)
 
 pub element_begins : (s : Syntax) (t : Tag) (v : Vr) (l : Length) (b c : List ℕ) → ElementHead s t v l b c → NoElement s b → ⊥
 element_begins s t v l b c p none =

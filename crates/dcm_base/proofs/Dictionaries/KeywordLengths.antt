@@ -6,7 +6,10 @@ use Rattle.std.proofs.lemmas.Bool.{leb-true}
 use Rattle.dcm_base.specs.declared.tag.Tag.{Tag}
 use Rattle.dcm_base.specs.declared.vr.Vr.{Vr}
 use Rattle.dcm_base.specs.Tag.{number}
-use Rattle.dcm_base.specs.Dictionary.{Element, elements, element}
+use Rattle.dcm_base.specs.Dictionary.{Element, elements, elements_in, element_in, entries, keywords}
+use Rattle.dcm_base.specs.declared.lookup.Dictionary.{Dictionary}
+use Rattle.dcm_base.specs.declared.lookup.Dictionary.TheVariants.{Extract, Standard}
+use Rattle.dcm_base.proofs.Dictionaries.Lines.{standard_keywords, standard_has}
 
 -- what each row has, the one that is found has
 and_one : (a b : Bool) → (a && b) ≡ true → a ≡ true
@@ -25,21 +28,30 @@ found_has p q (x ∷ l) e a f = by_test (p x) f (found_has p q l e (and_two (q x
     by_test true g more = let same : x ≡ e = cc in subst (λ y. q y ≡ true) same (and_one _ _ a)
     by_test false g more = more g
 
-fits : Element → Bool
-fits e = nat_le (length e.2) 64
+fits : List ℕ → Bool
+fits keyword = nat_le (length keyword) 64
 
-all_fit : list_all fits elements ≡ true
+extract_fits : list_all (λ (e : Element). fits e.2) elements ≡ true
 unfolding elements fits
-all_fit = refl
+extract_fits = refl
 
--- of an element of the extract
-pub keyword_fits : (t : Tag) (entry : Vr × List ℕ) → Some entry ≡ element t → length entry.1 ≤ 64
-unfolding element fits
-keyword_fits t entry is = by_row (find (λ (e : Element). e.0 == number t) elements) refl is
+standard_fits : list_all fits standard_keywords ≡ true
+unfolding entries keywords fits
+standard_fits = refl
+
+all_fit : (d : Dictionary) → list_all (λ (e : Element). fits e.2) (elements_in d) ≡ true
+unfolding elements_in
+all_fit Extract = extract_fits
+all_fit Standard = standard_has fits standard_fits
+
+-- of an element of a dictionary
+pub keyword_fits : (d : Dictionary) (t : Tag) (entry : Vr × List ℕ) → Some entry ≡ element_in d t → length entry.1 ≤ 64
+unfolding element_in fits
+keyword_fits d t entry is = by_row (find (λ (e : Element). e.0 == number t) (elements_in d)) refl is
   where
-    by_row : (o : Option Element) → find (λ (e : Element). e.0 == number t) elements ≡ o → Some entry ≡ option_map (λ (e : Element). (e.1, e.2)) o → length entry.1 ≤ 64
+    by_row : (o : Option Element) → find (λ (e : Element). e.0 == number t) (elements_in d) ≡ o → Some entry ≡ option_map (λ (e : Element). (e.1, e.2)) o → length entry.1 ≤ 64
     by_row (Some e) p is =
-        let fit : fits e ≡ true = found_has (λ x. x.0 == number t) fits elements e all_fit p in
+        let fit : fits e.2 ≡ true = found_has (λ x. x.0 == number t) (λ x. fits x.2) (elements_in d) e (all_fit d) p in
         let same : entry ≡ (e.1, e.2) = cc in
         subst (λ (x : Vr × List ℕ). length x.1 ≤ 64) (sym same) (leb-true (length e.2) 64 fit)
     by_row None p is = cc

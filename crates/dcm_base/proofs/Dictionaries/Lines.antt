@@ -61,9 +61,14 @@ each_line : (text : List ℕ) (es : List Entry) → flat_map (λ k. k ++ codes "
 each_line text [] = refl
 each_line text (e ∷ es) = ap (λ ls. (keyword_of text e ++ codes "\n") ++ ls) (each_line text es)
 
-each_unbroken : (text : List ℕ) (es : List Entry) → list_all is_line (map (keyword_of text) es) ≡ list_all (λ (e : Element). is_line e.2) (map (element_of text) es)
-each_unbroken text [] = refl
-each_unbroken text (e ∷ es) = ap (λ b. is_line (keyword_of text e) && b) (each_unbroken text es)
+each_has : (q : List ℕ → Bool) (text : List ℕ) (es : List Entry) → list_all q (map (keyword_of text) es) ≡ list_all (λ (e : Element). q e.2) (map (element_of text) es)
+each_has q text [] = refl
+each_has q text (e ∷ es) = ap (λ b. q (keyword_of text e) && b) (each_has q text es)
+
+-- what each keyword has, that of each element has
+pub standard_has : (q : List ℕ → Bool) → list_all q standard_keywords ≡ true → list_all (λ (e : Element). q e.2) (elements_in Standard) ≡ true
+unfolding elements_in
+standard_has q all = sym (each_has q keywords entries) ∙ ap (list_all q) (sym standard_keywords_are) ∙ all
 
 -- the text is the keywords, a line each
 pub keywords_are_lines : flat_map as_line (elements_in Standard) ≡ keywords
@@ -72,5 +77,4 @@ keywords_are_lines = sym (each_line keywords entries) ∙ ap (flat_map (λ k. k 
 
 -- and no keyword has a line feed
 pub keywords_are_unbroken : list_all (λ (e : Element). is_line e.2) (elements_in Standard) ≡ true
-unfolding elements_in
-keywords_are_unbroken = sym (each_unbroken keywords entries) ∙ ap (list_all is_line) (sym standard_keywords_are) ∙ unbroken
+keywords_are_unbroken = standard_has is_line unbroken

@@ -8,13 +8,16 @@ use Rattle.dcm_base.specs.declared.vr.Vr.{Vr}
 use Rattle.dcm_base.specs.declared.length.Length.TheVariants.{Known, Undefined}
 use Rattle.dcm_base.specs.Tag.{number}
 use Rattle.dcm_base.specs.declared.length.Length.{Length}
-use Rattle.dcm_base.specs.Dictionary.{Element, elements, element, keyword, is_group_length, is_private_creator, other_keyword}
+use Rattle.dcm_base.specs.Dictionary.{Element, elements, elements_in, entries, keywords, element_in, keyword_in, is_group_length, is_private_creator, other_keyword}
+use Rattle.dcm_base.proofs.Dictionaries.Lines.{standard_keywords, standard_has}
 use Rattle.dcm_base.specs.ValueText.{tag_text}
 use Rattle.dcm_base.specs.Dump.{length_text, line}
 use Rattle.dcm_base.specs.Line.{is_end, is_skipped, meaning_of, means}
 use Rattle.dcm_base.proofs.DumpsBack.Fields.{Bytewise, Bytewise-append, Bytewise-decimal, IsPrinted, printed_text, tag_is_printed}
 use Rattle.dcm_base.proofs.Dictionaries.KeywordLengths.{found_has}
 use Rattle.dcm_base.proofs.DumpsBack.LineParts.{past_indent, line_means, tag_from}
+use Rattle.dcm_base.specs.declared.lookup.Dictionary.{Dictionary}
+use Rattle.dcm_base.specs.declared.lookup.Dictionary.TheVariants.{Extract, Standard}
 
 -- spaces, one space more and a comment are a space and what is skipped
 pub record Behind (w : List ℕ) : Type 0 where
@@ -53,16 +56,25 @@ size_is_printed (Known n) l =
     subst (Bytewise IsPrinted) refl (spaces_are_printed (3 - length (decimal n)) (decimal n) (decimal_is_printed n l))
 size_is_printed Undefined l = printed_text (codes "u/l") refl
 
-has_printed_keyword : Element → Bool
-has_printed_keyword e = list_all (λ c. nat_le 32 c) e.2
+is_printed_keyword : List ℕ → Bool
+is_printed_keyword keyword = list_all (λ c. nat_le 32 c) keyword
 
-all_keywords : list_all has_printed_keyword elements ≡ true
-unfolding elements has_printed_keyword
-all_keywords = refl
+extract_printed : list_all (λ (e : Element). is_printed_keyword e.2) elements ≡ true
+unfolding elements is_printed_keyword
+extract_printed = refl
 
-keyword_is_printed : (t : Tag) → Bytewise IsPrinted (keyword t)
-unfolding keyword element has_printed_keyword
-keyword_is_printed t = by_element (find (λ (e : Element). e.0 == number t) elements) refl
+standard_printed : list_all is_printed_keyword standard_keywords ≡ true
+unfolding entries keywords is_printed_keyword
+standard_printed = refl
+
+all_printed_keywords : (k : Dictionary) → list_all (λ (e : Element). is_printed_keyword e.2) (elements_in k) ≡ true
+unfolding elements_in
+all_printed_keywords Extract = extract_printed
+all_printed_keywords Standard = standard_has is_printed_keyword standard_printed
+
+keyword_is_printed : (k : Dictionary) (t : Tag) → Bytewise IsPrinted (keyword_in k t)
+unfolding keyword_in element_in is_printed_keyword
+keyword_is_printed k t = by_element (find (λ (e : Element). e.0 == number t) (elements_in k)) refl
   where
     by_number : (a b c : Bool) → Bytewise IsPrinted (if a then codes "Item" else if b then codes "ItemDelimitationItem" else if c then codes "SequenceDelimitationItem" else codes "Unknown Tag & Data")
     by_number true b c = printed_text (codes "Item") refl
@@ -75,9 +87,9 @@ keyword_is_printed t = by_element (find (λ (e : Element). e.0 == number t) elem
     by_kind false true other h = printed_text (codes "PrivateCreator") refl
     by_kind false false other h = h
 
-    by_element : (o : Option Element) → find (λ (e : Element). e.0 == number t) elements ≡ o
+    by_element : (o : Option Element) → find (λ (e : Element). e.0 == number t) (elements_in k) ≡ o
         → Bytewise IsPrinted (option_map_or (λ (e : Vr × List ℕ). e.1) (option_map (λ (e : Element). (e.1, e.2)) o) (if is_group_length t then codes "GenericGroupLength" else if is_private_creator t then codes "PrivateCreator" else other_keyword (number t)))
-    by_element (Some e) p = printed_text e.2 (found_has (λ x. x.0 == number t) has_printed_keyword elements e all_keywords p)
+    by_element (Some e) p = printed_text e.2 (found_has (λ x. x.0 == number t) (λ x. is_printed_keyword x.2) (elements_in k) e (all_printed_keywords k) p)
     by_element None p = by_kind (is_group_length t) (is_private_creator t) (other_keyword (number t)) (by_number (number t == 0xFFFEE000) (number t == 0xFFFEE00D) (number t == 0xFFFEE0DD))
 
 -- behind the display
@@ -90,7 +102,7 @@ regroup : (indent tag l d spaces size number name : List ℕ)
     ≡ indent ++ (tag ++ 32 ∷ (l ++ 32 ∷ (d ++ (spaces ++ 32 ∷ 35 ∷ 32 ∷ (size ++ (44 ∷ 32 ∷ (number ++ 32 ∷ name)))))))
 regroup indent tag l d spaces size number name = simp append_assoc
 
-module _ (level g e x y c : ℕ) (more : List ℕ) (g_small : g < 65536) (e_small : e < 65536) (x_letter : (x == 32) ≡ false) (c_field : (c == 32) ≡ false) (c_shows : (c == 35) ≡ false) (x_printed : IsPrinted x) (y_printed : IsPrinted y) (d_printed : Bytewise IsPrinted (c ∷ more)) (size : Length) (n : ℕ) (size_small : IsSmall size) (n_small : n < 2 ^ 64) where
+module _ (k : Dictionary) (level g e x y c : ℕ) (more : List ℕ) (g_small : g < 65536) (e_small : e < 65536) (x_letter : (x == 32) ≡ false) (c_field : (c == 32) ≡ false) (c_shows : (c == 35) ≡ false) (x_printed : IsPrinted x) (y_printed : IsPrinted y) (d_printed : Bytewise IsPrinted (c ∷ more)) (size : Length) (n : ℕ) (size_small : IsSmall size) (n_small : n < 2 ^ 64) where
   abbrev d : List ℕ
   d = c ∷ more
 
@@ -98,20 +110,20 @@ module _ (level g e x y c : ℕ) (more : List ℕ) (g_small : g < 65536) (e_smal
   spaces = replicate (40 - length d) 32
 
   abbrev told : List ℕ
-  told = comment (length_text size) n (keyword (tag_from g e))
+  told = comment (length_text size) n (keyword_in k (tag_from g e))
 
   abbrev up_to : List ℕ
   up_to = replicate (2 * level) 32 ++ (tag_text g e ++ 32 ∷ x ∷ y ∷ 32 ∷ (d ++ (spaces ++ 32 ∷ 35 ∷ told)))
 
   -- without its newline
-  line_is : line level (tag_from g e) (x ∷ y ∷ []) d size n ≡ up_to ++ 10 ∷ []
-  line_is = ap (λ z. z ++ 10 ∷ []) (regroup (replicate (2 * level) 32) (tag_text g e) (x ∷ y ∷ []) d spaces (length_text size) (decimal n) (keyword (tag_from g e)))
+  line_is : line k level (tag_from g e) (x ∷ y ∷ []) d size n ≡ up_to ++ 10 ∷ []
+  line_is = ap (λ z. z ++ 10 ∷ []) (regroup (replicate (2 * level) 32) (tag_text g e) (x ∷ y ∷ []) d spaces (length_text size) (decimal n) (keyword_in k (tag_from g e)))
 
   told_is_printed : Bytewise IsPrinted told
   told_is_printed = (
     omega arith,
-    Bytewise-append IsPrinted (length_text size) (44 ∷ 32 ∷ (decimal n ++ 32 ∷ keyword (tag_from g e))) (size_is_printed size size_small)
-        (omega arith, (omega arith, Bytewise-append IsPrinted (decimal n) (32 ∷ keyword (tag_from g e)) (decimal_is_printed n n_small) (omega arith, keyword_is_printed (tag_from g e)))),
+    Bytewise-append IsPrinted (length_text size) (44 ∷ 32 ∷ (decimal n ++ 32 ∷ keyword_in k (tag_from g e))) (size_is_printed size size_small)
+        (omega arith, (omega arith, Bytewise-append IsPrinted (decimal n) (32 ∷ keyword_in k (tag_from g e)) (decimal_is_printed n n_small) (omega arith, keyword_is_printed k (tag_from g e)))),
   )
 
   abbrev behind_tag : List ℕ
@@ -124,7 +136,7 @@ module _ (level g e x y c : ℕ) (more : List ℕ) (g_small : g < 65536) (e_smal
   up_to_is_printed : Bytewise IsPrinted up_to
   up_to_is_printed = spaces_are_printed (2 * level) (tag_text g e ++ behind_tag) (tag_is_printed g e behind_tag g_small e_small behind_is_printed)
 
-  pub line_meant : Meant (line level (tag_from g e) (x ∷ y ∷ []) d size n) g e x y d
+  pub line_meant : Meant (line k level (tag_from g e) (x ∷ y ∷ []) d size n) g e x y d
   line_meant =
       let b = spaces_then (40 - length d) told in
       record {

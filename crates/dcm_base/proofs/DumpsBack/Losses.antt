@@ -7,7 +7,7 @@ use Rattle.dcm_base.specs.declared.tag.Tag.{Tag}
 use Rattle.dcm_base.specs.declared.vr.Vr.{Vr}
 use Rattle.dcm_base.specs.declared.vr.Vr.TheVariants.{AE, AS, CS, DA, DS, DT, IS, LO, LT, PN, SH, SQ, ST, TM, UC, UI, UN, UR, UT}
 use Rattle.dcm_base.specs.declared.syntax.Syntax.{Syntax}
-use Rattle.dcm_base.specs.declared.syntax.Syntax.TheVariants.{Implicit, Little, Big}
+use Rattle.dcm_base.specs.declared.syntax.Syntax.TheVariants.{Implicit as implicit_in, Little as little_in, Big as big_in}
 use Rattle.dcm_base.specs.declared.length.Length.TheVariants.{Known, Undefined}
 use Rattle.dcm_base.specs.Tree.{Trees, no_tree, leaf, sequence, fragments, Items, no_item, item}
 use Rattle.dcm_base.specs.Representation.{is_long, pad, unit}
@@ -25,9 +25,9 @@ turned_one [] = turned_short 1 (omega arith) [] (omega arith)
 turned_one (b ∷ v) = turned_cons 1 (omega arith) (b ∷ []) v refl ∙ ap (λ x. b ∷ x) (turned_one v)
 
 order_one : (s : Syntax) (vr : Vr) (v : List ℕ) → unit vr ≡ 1 → order s vr v ≡ v
-order_one Implicit vr v e = refl
-order_one Little vr v e = refl
-order_one Big vr v e = ap (λ k. turned k v) e ∙ turned_one v
+order_one (implicit_in d) vr v e = refl
+order_one (little_in d) vr v e = refl
+order_one (big_in d) vr v e = ap (λ k. turned k v) e ∙ turned_one v
 
 text_unit : (vr : Vr) → takes_bytes (shape vr) ≡ true → unit vr ≡ 1
 text_unit AE e = refl

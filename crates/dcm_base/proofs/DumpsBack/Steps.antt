@@ -22,6 +22,7 @@ use Rattle.dcm_base.proofs.DumpsBack.Values.{value_back}
 use Rattle.dcm_base.proofs.DumpsBack.Fields.{Shows, Bytewise, IsPrinted, printed_text, all_printed}
 use Rattle.dcm_base.proofs.DumpsBack.Displays.{display_shows, hex_begins_plain, BeginsPlain}
 use Rattle.dcm_base.proofs.DumpsBack.LineMeanings.{Meant, line_meant, IsSmall}
+use Rattle.dcm_base.specs.declared.lookup.Dictionary.{Dictionary}
 
 if_false : {A : Type 0} (b : Bool) (x y : A) → b ≡ false → (if b then x else y) ≡ y
 if_false b x y p = rw p refl
@@ -131,71 +132,71 @@ line_reads : (l : List ℕ) (g e x y : ℕ) (d : List ℕ) (m : Meaning) → Mea
 line_reads l g e x y d m h f = record { body = h.body; is = h.is; printed = all_printed h.body h.printed; means_is = h.means_is ∙ f h.tail h.skipped }
 
 -- an element's line, whose display begins with no space and no comment
-element_reads : (level : ℕ) (t : Tag) (vr : Vr) (c : ℕ) (more : List ℕ) (size : Length) (n : ℕ) (m : Meaning) → IsTag t → t.group ≢ 0xFFFE → (c == 32) ≡ false → (c == 35) ≡ false → Bytewise IsPrinted (c ∷ more) → IsSmall size → n < 2 ^ 64
-    → ((tail : List ℕ) → is_skipped (32 ∷ tail) ≡ true → element_meaning t (Some vr) ((c ∷ more) ++ 32 ∷ tail) ≡ m) → LineMeans (line level t (letters vr) (c ∷ more) size n) m
-element_reads level t vr c more size n m is other space comment printed small few f =
+element_reads : (k : Dictionary) (level : ℕ) (t : Tag) (vr : Vr) (c : ℕ) (more : List ℕ) (size : Length) (n : ℕ) (m : Meaning) → IsTag t → t.group ≢ 0xFFFE → (c == 32) ≡ false → (c == 35) ≡ false → Bytewise IsPrinted (c ∷ more) → IsSmall size → n < 2 ^ 64
+    → ((tail : List ℕ) → is_skipped (32 ∷ tail) ≡ true → element_meaning t (Some vr) ((c ∷ more) ++ 32 ∷ tail) ≡ m) → LineMeans (line k level t (letters vr) (c ∷ more) size n) m
+element_reads k level t vr c more size n m is other space comment printed small few f =
     let x : ℕ = slice_index (letters vr) 0 in
     let y : ℕ = slice_index (letters vr) 1 in
     let p = letters_are_printed vr in
-    subst (λ l. LineMeans (line level t l (c ∷ more) size n) m) (sym (letters_two vr))
-    (line_reads _ t.group t.element x y (c ∷ more) m (line_meant level t.group t.element x y c more is.0 is.1 (is_letter vr) space comment p.0 p.1 printed size n small few)
+    subst (λ l. LineMeans (line k level t l (c ∷ more) size n) m) (sym (letters_two vr))
+    (line_reads _ t.group t.element x y (c ∷ more) m (line_meant k level t.group t.element x y c more is.0 is.1 (is_letter vr) space comment p.0 p.1 printed size n small few)
     (λ tail skipped. if_false (t.group == 0xFFFE) _ _ (apart t.group other) ∙ ap (λ o. element_meaning t o ((c ∷ more) ++ 32 ∷ tail)) (vr_back vr) ∙ f tail skipped))
   where
     apart : (g : ℕ) → g ≢ 0xFFFE → (g == 0xFFFE) ≡ false
     apart g h = grind (arith, nat_tests, h)
 
 -- a line means its step, whatever value its text is read as
-pub leaf_shows : (level : ℕ) (t : Tag) (vr : Vr) (v : List ℕ) → IsTag t → t.group ≢ 0xFFFE → is_sequence vr ≡ false → Bytes v → length v < 2 ^ 32 → length v % shown_unit vr ≡ 0
-    → LineMeans (leaf_line Full level t vr v) (one (show_leaf t vr (value_of_text vr (display vr v))))
-leaf_shows level t vr v is other s h few e =
+pub leaf_shows : (k : Dictionary) (level : ℕ) (t : Tag) (vr : Vr) (v : List ℕ) → IsTag t → t.group ≢ 0xFFFE → is_sequence vr ≡ false → Bytes v → length v < 2 ^ 32 → length v % shown_unit vr ≡ 0
+    → LineMeans (leaf_line k Full level t vr v) (one (show_leaf t vr (value_of_text vr (display vr v))))
+leaf_shows k level t vr v is other s h few e =
     let d = display_shows vr v s h e in
     let m : Meaning = one (show_leaf t vr (value_of_text vr (display vr v))) in
-    subst (λ x. LineMeans (line level t (letters vr) x (Known (length v)) (count vr v)) m) (sym d.is)
-    (element_reads level t vr d.first d.more (Known (length v)) (count vr v) m is other d.no_space d.no_comment (subst (Bytewise IsPrinted) d.is d.printed) (omega (arith, few)) (count_small vr v few)
+    subst (λ x. LineMeans (line k level t (letters vr) x (Known (length v)) (count vr v)) m) (sym d.is)
+    (element_reads k level t vr d.first d.more (Known (length v)) (count vr v) m is other d.no_space d.no_comment (subst (Bytewise IsPrinted) d.is d.printed) (omega (arith, few)) (count_small vr v few)
     (λ tail skipped. subst (λ x. element_meaning t (Some vr) (x ++ 32 ∷ tail) ≡ m) d.is (leaf_means t vr v tail s h e skipped)))
 
-pub fragment_shows : (level : ℕ) (v : List ℕ) → Bytes v → length v < 2 ^ 32 → LineMeans (fragment_line Full level v) (one (show_fragment (value_of_text OB (display OB v))))
-fragment_shows level v h few =
+pub fragment_shows : (k : Dictionary) (level : ℕ) (v : List ℕ) → Bytes v → length v < 2 ^ 32 → LineMeans (fragment_line k Full level v) (one (show_fragment (value_of_text OB (display OB v))))
+fragment_shows k level v h few =
     let whole : length v % 1 ≡ 0 = omega arith in
     let d = display_shows OB v refl h whole in
     let m : Meaning = one (show_fragment (value_of_text OB (display OB v))) in
-    subst (λ x. LineMeans (line level (record { group = 0xFFFE; element = 0xE000 }) (codes "pi") x (Known (length v)) 1) m) (sym d.is)
-    (line_reads _ 0xFFFE 0xE000 112 105 (d.first ∷ d.more) m (line_meant level 0xFFFE 0xE000 112 105 d.first d.more (omega arith) (omega arith) refl d.no_space d.no_comment (omega arith) (omega arith) (subst (Bytewise IsPrinted) d.is d.printed) (Known (length v)) 1 (omega (arith, few)) (omega arith))
+    subst (λ x. LineMeans (line k level (record { group = 0xFFFE; element = 0xE000 }) (codes "pi") x (Known (length v)) 1) m) (sym d.is)
+    (line_reads _ 0xFFFE 0xE000 112 105 (d.first ∷ d.more) m (line_meant k level 0xFFFE 0xE000 112 105 d.first d.more (omega arith) (omega arith) refl d.no_space d.no_comment (omega arith) (omega arith) (subst (Bytewise IsPrinted) d.is d.printed) (Known (length v)) 1 (omega (arith, few)) (omega arith))
     (λ tail skipped. subst (λ x. with_value (λ z. show_fragment (value_of_text OB z)) (x ++ 32 ∷ tail) ≡ m) d.is
     (field_means (λ z. show_fragment (value_of_text OB z)) (display OB v) tail d skipped)))
 
 -- and where the text is not too long, that is the value
-pub leaf_reads : (level : ℕ) (t : Tag) (vr : Vr) (v : List ℕ) → IsTag t → t.group ≢ 0xFFFE → is_sequence vr ≡ false → Bytes v → length v < 2 ^ 32 → length v % shown_unit vr ≡ 0 → length (display vr v) ≤ 16384
-    → LineMeans (leaf_line Full level t vr v) (one (show_leaf t vr (Some (value_shown vr v))))
-leaf_reads level t vr v is other s h few e long = subst (λ o. LineMeans (leaf_line Full level t vr v) (one (show_leaf t vr o))) (value_back vr v s h e long) (leaf_shows level t vr v is other s h few e)
+pub leaf_reads : (k : Dictionary) (level : ℕ) (t : Tag) (vr : Vr) (v : List ℕ) → IsTag t → t.group ≢ 0xFFFE → is_sequence vr ≡ false → Bytes v → length v < 2 ^ 32 → length v % shown_unit vr ≡ 0 → length (display vr v) ≤ 16384
+    → LineMeans (leaf_line k Full level t vr v) (one (show_leaf t vr (Some (value_shown vr v))))
+leaf_reads k level t vr v is other s h few e long = subst (λ o. LineMeans (leaf_line k Full level t vr v) (one (show_leaf t vr o))) (value_back vr v s h e long) (leaf_shows k level t vr v is other s h few e)
 
-pub fragment_reads : (level : ℕ) (v : List ℕ) → Bytes v → length v < 2 ^ 32 → length (display OB v) ≤ 16384 → LineMeans (fragment_line Full level v) (one (show_fragment (Some v)))
-fragment_reads level v h few long =
+pub fragment_reads : (k : Dictionary) (level : ℕ) (v : List ℕ) → Bytes v → length v < 2 ^ 32 → length (display OB v) ≤ 16384 → LineMeans (fragment_line k Full level v) (one (show_fragment (Some v)))
+fragment_reads k level v h few long =
     let whole : length v % 1 ≡ 0 = omega arith in
-    subst (λ o. LineMeans (fragment_line Full level v) (one (show_fragment o))) (value_back OB v refl h whole long) (fragment_shows level v h few)
+    subst (λ o. LineMeans (fragment_line k Full level v) (one (show_fragment o))) (value_back OB v refl h whole long) (fragment_shows k level v h few)
 
 -- ---- openings and ends, behind whose beginning the rest of the line has no meaning
 
-pub sequence_reads : (level : ℕ) (t : Tag) (vr : Vr) (size : Length) → IsSmall size → IsTag t → t.group ≢ 0xFFFE → may_be_sequence vr ≡ true → LineMeans (sequence_line level t vr size) (one (begin_sequence t vr))
-sequence_reads level t SQ (Known n) small is other s = element_reads level t SQ 40 (codes "Sequence with explicit length)") (Known n) 1 _ is other refl refl (printed_text (codes "(Sequence with explicit length)") refl) small (omega arith) (λ tail skipped. refl)
-sequence_reads level t SQ Undefined small is other s = element_reads level t SQ 40 (codes "Sequence with undefined length)") Undefined 1 _ is other refl refl (printed_text (codes "(Sequence with undefined length)") refl) small (omega arith) (λ tail skipped. refl)
-sequence_reads level t UN (Known n) small is other s = element_reads level t UN 40 (codes "Sequence with explicit length)") (Known n) 1 _ is other refl refl (printed_text (codes "(Sequence with explicit length)") refl) small (omega arith) (λ tail skipped. refl)
-sequence_reads level t UN Undefined small is other s = element_reads level t UN 40 (codes "Sequence with undefined length)") Undefined 1 _ is other refl refl (printed_text (codes "(Sequence with undefined length)") refl) small (omega arith) (λ tail skipped. refl)
-sequence_reads level t _ size small is other s = cc
+pub sequence_reads : (k : Dictionary) (level : ℕ) (t : Tag) (vr : Vr) (size : Length) → IsSmall size → IsTag t → t.group ≢ 0xFFFE → may_be_sequence vr ≡ true → LineMeans (sequence_line k level t vr size) (one (begin_sequence t vr))
+sequence_reads k level t SQ (Known n) small is other s = element_reads k level t SQ 40 (codes "Sequence with explicit length)") (Known n) 1 _ is other refl refl (printed_text (codes "(Sequence with explicit length)") refl) small (omega arith) (λ tail skipped. refl)
+sequence_reads k level t SQ Undefined small is other s = element_reads k level t SQ 40 (codes "Sequence with undefined length)") Undefined 1 _ is other refl refl (printed_text (codes "(Sequence with undefined length)") refl) small (omega arith) (λ tail skipped. refl)
+sequence_reads k level t UN (Known n) small is other s = element_reads k level t UN 40 (codes "Sequence with explicit length)") (Known n) 1 _ is other refl refl (printed_text (codes "(Sequence with explicit length)") refl) small (omega arith) (λ tail skipped. refl)
+sequence_reads k level t UN Undefined small is other s = element_reads k level t UN 40 (codes "Sequence with undefined length)") Undefined 1 _ is other refl refl (printed_text (codes "(Sequence with undefined length)") refl) small (omega arith) (λ tail skipped. refl)
+sequence_reads k level t _ size small is other s = cc
 
-pub fragments_read : (level : ℕ) (t : Tag) (vr : Vr) → IsTag t → t.group ≢ 0xFFFE → may_be_fragments vr ≡ true → LineMeans (line level t (letters vr) (codes "(PixelSequence)") Undefined 1) (one (begin_fragments t vr))
-fragments_read level t OB is other s = element_reads level t OB 40 (codes "PixelSequence)") Undefined 1 _ is other refl refl (printed_text (codes "(PixelSequence)") refl) tt (omega arith) (λ tail skipped. refl)
-fragments_read level t OW is other s = element_reads level t OW 40 (codes "PixelSequence)") Undefined 1 _ is other refl refl (printed_text (codes "(PixelSequence)") refl) tt (omega arith) (λ tail skipped. refl)
-fragments_read level t _ is other s = cc
+pub fragments_read : (k : Dictionary) (level : ℕ) (t : Tag) (vr : Vr) → IsTag t → t.group ≢ 0xFFFE → may_be_fragments vr ≡ true → LineMeans (line k level t (letters vr) (codes "(PixelSequence)") Undefined 1) (one (begin_fragments t vr))
+fragments_read k level t OB is other s = element_reads k level t OB 40 (codes "PixelSequence)") Undefined 1 _ is other refl refl (printed_text (codes "(PixelSequence)") refl) tt (omega arith) (λ tail skipped. refl)
+fragments_read k level t OW is other s = element_reads k level t OW 40 (codes "PixelSequence)") Undefined 1 _ is other refl refl (printed_text (codes "(PixelSequence)") refl) tt (omega arith) (λ tail skipped. refl)
+fragments_read k level t _ is other s = cc
 
-pub item_reads : (level : ℕ) (size : Length) → IsSmall size → LineMeans (item_line level size) (one begin_item)
-item_reads level (Known n) small = line_reads _ 0xFFFE 0xE000 110 97 (codes "(Item with explicit length)") _ (line_meant level 0xFFFE 0xE000 110 97 40 (codes "Item with explicit length)") (omega arith) (omega arith) refl refl refl (omega arith) (omega arith) (printed_text (codes "(Item with explicit length)") refl) (Known n) 1 small (omega arith)) (λ tail skipped. refl)
-item_reads level Undefined small = line_reads _ 0xFFFE 0xE000 110 97 (codes "(Item with undefined length)") _ (line_meant level 0xFFFE 0xE000 110 97 40 (codes "Item with undefined length)") (omega arith) (omega arith) refl refl refl (omega arith) (omega arith) (printed_text (codes "(Item with undefined length)") refl) Undefined 1 tt (omega arith)) (λ tail skipped. refl)
+pub item_reads : (k : Dictionary) (level : ℕ) (size : Length) → IsSmall size → LineMeans (item_line k level size) (one begin_item)
+item_reads k level (Known n) small = line_reads _ 0xFFFE 0xE000 110 97 (codes "(Item with explicit length)") _ (line_meant k level 0xFFFE 0xE000 110 97 40 (codes "Item with explicit length)") (omega arith) (omega arith) refl refl refl (omega arith) (omega arith) (printed_text (codes "(Item with explicit length)") refl) (Known n) 1 small (omega arith)) (λ tail skipped. refl)
+item_reads k level Undefined small = line_reads _ 0xFFFE 0xE000 110 97 (codes "(Item with undefined length)") _ (line_meant k level 0xFFFE 0xE000 110 97 40 (codes "Item with undefined length)") (omega arith) (omega arith) refl refl refl (omega arith) (omega arith) (printed_text (codes "(Item with undefined length)") refl) Undefined 1 tt (omega arith)) (λ tail skipped. refl)
 
-pub item_end_reads : (level : ℕ) (size : Length) → LineMeans (item_end_line level size) (one end_item)
-item_end_reads level (Known n) = line_reads _ 0xFFFE 0xE00D 110 97 (codes "(ItemDelimitationItem for re-encoding)") _ (line_meant level 0xFFFE 0xE00D 110 97 40 (codes "ItemDelimitationItem for re-encoding)") (omega arith) (omega arith) refl refl refl (omega arith) (omega arith) (printed_text (codes "(ItemDelimitationItem for re-encoding)") refl) (Known 0) 0 (omega arith) (omega arith)) (λ tail skipped. refl)
-item_end_reads level Undefined = line_reads _ 0xFFFE 0xE00D 110 97 (codes "(ItemDelimitationItem)") _ (line_meant level 0xFFFE 0xE00D 110 97 40 (codes "ItemDelimitationItem)") (omega arith) (omega arith) refl refl refl (omega arith) (omega arith) (printed_text (codes "(ItemDelimitationItem)") refl) (Known 0) 0 (omega arith) (omega arith)) (λ tail skipped. refl)
+pub item_end_reads : (k : Dictionary) (level : ℕ) (size : Length) → LineMeans (item_end_line k level size) (one end_item)
+item_end_reads k level (Known n) = line_reads _ 0xFFFE 0xE00D 110 97 (codes "(ItemDelimitationItem for re-encoding)") _ (line_meant k level 0xFFFE 0xE00D 110 97 40 (codes "ItemDelimitationItem for re-encoding)") (omega arith) (omega arith) refl refl refl (omega arith) (omega arith) (printed_text (codes "(ItemDelimitationItem for re-encoding)") refl) (Known 0) 0 (omega arith) (omega arith)) (λ tail skipped. refl)
+item_end_reads k level Undefined = line_reads _ 0xFFFE 0xE00D 110 97 (codes "(ItemDelimitationItem)") _ (line_meant k level 0xFFFE 0xE00D 110 97 40 (codes "ItemDelimitationItem)") (omega arith) (omega arith) refl refl refl (omega arith) (omega arith) (printed_text (codes "(ItemDelimitationItem)") refl) (Known 0) 0 (omega arith) (omega arith)) (λ tail skipped. refl)
 
-pub sequence_end_reads : (level : ℕ) (size : Length) → LineMeans (sequence_end_line level size) (one end_sequence)
-sequence_end_reads level (Known n) = line_reads _ 0xFFFE 0xE0DD 110 97 (codes "(SequenceDelimitationItem for re-encod.)") _ (line_meant level 0xFFFE 0xE0DD 110 97 40 (codes "SequenceDelimitationItem for re-encod.)") (omega arith) (omega arith) refl refl refl (omega arith) (omega arith) (printed_text (codes "(SequenceDelimitationItem for re-encod.)") refl) (Known 0) 0 (omega arith) (omega arith)) (λ tail skipped. refl)
-sequence_end_reads level Undefined = line_reads _ 0xFFFE 0xE0DD 110 97 (codes "(SequenceDelimitationItem)") _ (line_meant level 0xFFFE 0xE0DD 110 97 40 (codes "SequenceDelimitationItem)") (omega arith) (omega arith) refl refl refl (omega arith) (omega arith) (printed_text (codes "(SequenceDelimitationItem)") refl) (Known 0) 0 (omega arith) (omega arith)) (λ tail skipped. refl)
+pub sequence_end_reads : (k : Dictionary) (level : ℕ) (size : Length) → LineMeans (sequence_end_line k level size) (one end_sequence)
+sequence_end_reads k level (Known n) = line_reads _ 0xFFFE 0xE0DD 110 97 (codes "(SequenceDelimitationItem for re-encod.)") _ (line_meant k level 0xFFFE 0xE0DD 110 97 40 (codes "SequenceDelimitationItem for re-encod.)") (omega arith) (omega arith) refl refl refl (omega arith) (omega arith) (printed_text (codes "(SequenceDelimitationItem for re-encod.)") refl) (Known 0) 0 (omega arith) (omega arith)) (λ tail skipped. refl)
+sequence_end_reads k level Undefined = line_reads _ 0xFFFE 0xE0DD 110 97 (codes "(SequenceDelimitationItem)") _ (line_meant k level 0xFFFE 0xE0DD 110 97 40 (codes "SequenceDelimitationItem)") (omega arith) (omega arith) refl refl refl (omega arith) (omega arith) (printed_text (codes "(SequenceDelimitationItem)") refl) (Known 0) 0 (omega arith) (omega arith)) (λ tail skipped. refl)

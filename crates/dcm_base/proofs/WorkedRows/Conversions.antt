@@ -3,7 +3,7 @@ use Rattle.std.proofs.Common.{◌≡◌, ℕ, List, [], ◌∷◌, length, take,
 use Rattle.dcm_base.specs.declared.tag.Tag.{Tag}
 use Rattle.dcm_base.specs.declared.vr.Vr.{Vr}
 use Rattle.dcm_base.specs.declared.vr.Vr.TheVariants.{UL, PN, LT, UN, SQ, US, OB, OW, AT, CS, UV}
-use Rattle.dcm_base.specs.declared.syntax.Syntax.TheVariants.{Little, Big}
+use Rattle.dcm_base.specs.Syntax.{Little, Big}
 use Rattle.dcm_base.specs.declared.length.Length.TheVariants.{Known, Undefined}
 use Rattle.dcm_base.specs.Tree.{no_tree, leaf, sequence, fragments, no_item, item}
 use Rattle.dcm_base.specs.Front.{Front, front, open_leaf, open_sequence, no_open_item}

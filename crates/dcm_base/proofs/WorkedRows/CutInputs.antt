@@ -1,7 +1,7 @@
 -- Worked rows: data sets that are cut or refused, as far as they were read.
 use Rattle.std.proofs.Common.{◌≡◌, [], ◌∷◌, ◌++◌, Some, refl, arith, lit≤}
 use Rattle.dcm_base.specs.declared.vr.Vr.TheVariants.{PN, OW, LO}
-use Rattle.dcm_base.specs.declared.syntax.Syntax.TheVariants.{Little}
+use Rattle.dcm_base.specs.Syntax.{Little}
 use Rattle.dcm_base.specs.declared.fault.Fault.TheVariants.{PassesEnd, EndsEarly, NotAscending}
 use Rattle.dcm_base.specs.declared.length.Length.TheVariants.{Known, Undefined}
 use Rattle.dcm_base.specs.Tree.{no_tree, leaf}

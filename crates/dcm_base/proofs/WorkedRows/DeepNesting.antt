@@ -2,7 +2,7 @@
 use Rattle.std.proofs.Common.{◌≡◌, ℕ, zero, suc, List, [], ◌∷◌, ◌++◌, Some, None, false, refl, arith}
 use Rattle.dcm_base.specs.declared.tag.Tag.{Tag}
 use Rattle.dcm_base.specs.declared.vr.Vr.TheVariants.{SQ}
-use Rattle.dcm_base.specs.declared.syntax.Syntax.TheVariants.{Little}
+use Rattle.dcm_base.specs.Syntax.{Little}
 use Rattle.dcm_base.specs.declared.fault.Fault.TheVariants.{TooDeep, EndsEarly, TooLong}
 use Rattle.dcm_base.specs.declared.length.Length.TheVariants.{Undefined}
 use Rattle.dcm_base.specs.Tree.{Trees, no_tree, sequence, no_item, item}

@@ -3,14 +3,14 @@ use Rattle.std.proofs.Common.{◌≡◌, ℕ, List, [], ◌∷◌, ◌++◌, Som
 use Rattle.dcm_base.specs.declared.tag.Tag.{Tag}
 use Rattle.dcm_base.specs.declared.vr.Vr.{Vr}
 use Rattle.dcm_base.specs.declared.vr.Vr.TheVariants.{PN, SQ, UI, US, UN, OB, OW, OV, SV, UV, UL, CS, LT, AT}
-use Rattle.dcm_base.specs.declared.syntax.Syntax.TheVariants.{Implicit, Little, Big}
+use Rattle.dcm_base.specs.Syntax.{Implicit, Little, Big}
 use Rattle.dcm_base.specs.declared.fault.Fault.TheVariants.{PassesEnd, UnknownRepresentation, UndefinedLength, FragmentsBarred}
 use Rattle.dcm_base.specs.declared.length.Length.{Length}
 use Rattle.dcm_base.specs.declared.length.Length.TheVariants.{Known, Undefined}
 use Rattle.dcm_base.specs.Tree.{Trees, no_tree, leaf, sequence, fragments, Items, no_item, item}
 use Rattle.dcm_base.specs.Front.{Front, front, nothing_open, open_leaf, open_sequence, OpenItem, no_open_item, open_item}
 use Rattle.dcm_base.specs.Representation.{vr_of}
-use Rattle.dcm_base.specs.Dictionary.{dict_vr, element, elements}
+use Rattle.dcm_base.specs.Dictionary.{vr_in, element_in, elements_in, elements}
 use Rattle.dcm_base.specs.Head.{vr_at, length_at}
 use Rattle.dcm_base.specs.Spelling.{form, inside, FragmentsAt, TreesAt, ItemsAt, last_tag, SpellsFront}
 use Rattle.dcm_base.specs.Size.{fragments_size, trees_size}
@@ -20,7 +20,7 @@ use Rattle.dcm_base.specs.Bars.{innermost_reached, no_bar, fragments_bar}
 
 -- all that a row computes with
 unfoldable pub all : ℕ
-unfolding vr_of dict_vr element elements innermost_reached vr_at length_at form inside FragmentsAt TreesAt last_tag SpellsFront fragments_size trees_size set_levels levels value_open room depth is_allowed stop_at
+unfolding vr_of vr_in element_in elements_in elements innermost_reached vr_at length_at form inside FragmentsAt TreesAt last_tag SpellsFront fragments_size trees_size set_levels levels value_open room depth is_allowed stop_at
 all = 0
 
 abbrev pub tag : ℕ → ℕ → Tag

@@ -28,6 +28,7 @@ use Rattle.dcm_base.proofs.DumpsBack.Fields.{Bytewise, IsPrinted, all_printed, t
 use Rattle.dcm_base.proofs.DumpsBack.Texts.{Bytes, bytes_of}
 use Rattle.dcm_base.proofs.DumpsBack.Values.{found, mapped}
 use Rattle.dcm_base.proofs.DumpsBack.Losses.{recodes_same}
+use Rattle.dcm_base.specs.declared.lookup.Dictionary.{Dictionary}
 use Rattle.dcm_build.specs.DumpBuilds.{full_dump, CanBuild, FitsLines, BuildsFile}
 use Rattle.dcm_build.specs.DumpLines.{joined, set_steps, GREATEST_LIMIT, AllWithin}
 use Rattle.dcm_build.proofs.Files.Lines.{run_lines}
@@ -75,8 +76,8 @@ head_leads b = record {
   leads = λ w. (b, refl, (b, refl, (b, refl, (b, refl, refl))));
 }
 
-header_is : (meta : Trees) → meta_header Full meta ≡ (dump_head ++ dump_set Full 0 meta) ++ 10 ∷ []
-header_is meta = refl
+header_is : (d : Dictionary) (meta : Trees) → meta_header d Full meta ≡ (dump_head ++ dump_set d Full 0 meta) ++ 10 ∷ []
+header_is d meta = refl
 
 used_printed : (name : List ℕ) → is_printed name ≡ true → is_printed (codes "# Used TransferSyntax: " ++ name) ≡ true
 used_printed name h = list_all-append (λ c. nat_le 32 c) (codes "# Used TransferSyntax: ") name ∙ h
@@ -114,7 +115,7 @@ by_told size told fault p = elim told as (λ x. Progress) [
   | None ↦ elim fault as (λ x. Progress) [ Some f ↦ tell f size p.line (record p { built = meta_has_ended p.built }) | None ↦ record p { built = meta_has_ended p.built } ]
 ]
 
-module _ (meta : Trees) (coding : Coding) (set : Trees) (h : CanBuild meta coding set) where
+module _ (d : Dictionary) (meta : Trees) (coding : Coding) (set : Trees) (h : CanBuild meta coding set) where
   again : named_coding (rebuilt meta) ≡ Some coding
   again = ap usable (same_syntax meta) ∙ h.named
 
@@ -126,7 +127,7 @@ module _ (meta : Trees) (coding : Coding) (set : Trees) (h : CanBuild meta codin
     last : Built
     meta_is : last.meta ≡ rebuilt meta
     set_is : last.set ≡ front (rebuilt set) nothing_open (last_tag None set) false
-    leads : TextLeads (full_dump meta set) nothing_built last
+    leads : TextLeads (full_dump d meta set) nothing_built last
 
   all : All
   unfolding trees_size
@@ -134,18 +135,18 @@ module _ (meta : Trees) (coding : Coding) (set : Trees) (h : CanBuild meta codin
       let mid : Built = group_built (rebuilt meta) in
       let size = h.size in
       let c = all_built coding set h.ascends h.stands mid again refl in
-      let group : TextLeads (meta_header Full meta) nothing_built mid =
-      texts_lead (dump_head ++ dump_set Full 0 meta) (10 ∷ []) nothing_built mid mid
-      (texts_lead dump_head (dump_set Full 0 meta) nothing_built nothing_built mid (head_leads nothing_built)
-      (text_leads (dump_set Full 0 meta) (set_steps meta) nothing_built mid (set_means 0 meta h.group_reads) (group_leads no_tree meta h.group (omega (arith, size)))))
+      let group : TextLeads (meta_header d Full meta) nothing_built mid =
+      texts_lead (dump_head ++ dump_set d Full 0 meta) (10 ∷ []) nothing_built mid mid
+      (texts_lead dump_head (dump_set d Full 0 meta) nothing_built nothing_built mid (head_leads nothing_built)
+      (text_leads (dump_set d Full 0 meta) (set_steps meta) nothing_built mid (set_means d 0 meta h.group_reads) (group_leads no_tree meta h.group (omega (arith, size)))))
       (silent_line [] mid refl refl) in
       record {
         last = c.0;
         meta_is = c.2;
         set_is = c.3;
-        leads = texts_lead (meta_header Full meta ++ set_header uid) (dump_set Full 0 set) nothing_built mid c.0
-            (texts_lead (meta_header Full meta) (set_header uid) nothing_built mid mid group (set_header_leads uid mid (bytes_of uid h.syntax)))
-            (text_leads (dump_set Full 0 set) (set_steps set) mid c.0 (set_means 0 set h.reads) c.1);
+        leads = texts_lead (meta_header d Full meta ++ set_header uid) (dump_set d Full 0 set) nothing_built mid c.0
+            (texts_lead (meta_header d Full meta) (set_header uid) nothing_built mid mid group (set_header_leads uid mid (bytes_of uid h.syntax)))
+            (text_leads (dump_set d Full 0 set) (set_steps set) mid c.0 (set_means d 0 set h.reads) c.1);
       }
 
   file_by : (m : Trees) (f : Front) (e : Bool) → m ≡ rebuilt meta → f ≡ front (rebuilt set) nothing_open (last_tag None set) false
@@ -166,9 +167,9 @@ module _ (meta : Trees) (coding : Coding) (set : Trees) (h : CanBuild meta codin
       no_fault_at_end e (is_none (named_coding m)) (is_the_top (innermost (open_levels f))) (ap (λ (x : Trees). is_none (named_coding x)) is ∙ ap is_none again)
       (ap (λ (x : Front). is_the_top (innermost (open_levels x))) set_is ∙ top_is_open (rebuilt set) (last_tag None set))
 
-  module _ (limit : ℕ) (allowed : limit ≤ GREATEST_LIMIT) (fits : FitsLines limit (full_dump meta set)) where
+  module _ (limit : ℕ) (allowed : limit ≤ GREATEST_LIMIT) (fits : FitsLines limit (full_dump d meta set)) where
     abbrev text : List ℕ
-    text = full_dump meta set
+    text = full_dump d meta set
 
     abbrev ran : Progress
     ran = run_lines limit at_start all.leads.its_lines
@@ -199,5 +200,5 @@ module _ (meta : Trees) (coding : Coding) (set : Trees) (h : CanBuild meta codin
       file = ap (λ (p : Progress). built_bytes p.built) (whole ∙ ended) ∙ ap (λ (b : Built). built_bytes (meta_has_ended b)) runs.1 ∙ file_by all.last.meta all.last.set all.last.meta_ended all.meta_is all.set_is;
     }
 
-pub dump_builds : (limit : ℕ) (meta : Trees) (coding : Coding) (set : Trees) → limit ≤ GREATEST_LIMIT → CanBuild meta coding set → FitsLines limit (full_dump meta set) → BuildsFile limit (full_dump meta set) meta coding set
-dump_builds limit meta coding set allowed h fits = dump_builds_file meta coding set h limit allowed fits
+pub dump_builds : (d : Dictionary) (limit : ℕ) (meta : Trees) (coding : Coding) (set : Trees) → limit ≤ GREATEST_LIMIT → CanBuild meta coding set → FitsLines limit (full_dump d meta set) → BuildsFile limit (full_dump d meta set) meta coding set
+dump_builds d limit meta coding set allowed h fits = dump_builds_file d meta coding set h limit allowed fits

@@ -9,7 +9,7 @@ use Rattle.dcm_base.specs.declared.length.Length.TheVariants.{Known, Undefined}
 use Rattle.dcm_base.specs.Number.{HasLength}
 use Rattle.dcm_base.specs.Tag.{item_tag}
 use Rattle.dcm_base.specs.Representation.{letters}
-use Rattle.dcm_base.specs.Dictionary.{keyword}
+use Rattle.dcm_base.specs.Dictionary.{keyword_in}
 use Rattle.dcm_base.specs.ValueText.{count, display}
 use Rattle.dcm_base.specs.ReadValue.{value_of_text, value_shown}
 use Rattle.dcm_base.specs.Tree.{Trees, no_tree, leaf, sequence, fragments, Items, no_item, item}
@@ -19,6 +19,7 @@ use Rattle.dcm_base.proofs.DumpsBack.LineMeanings.{IsSmall}
 use Rattle.dcm_base.proofs.DumpsBack.Texts.{bytes_of}
 use Rattle.dcm_base.proofs.DumpsBack.Values.{value_back}
 use Rattle.dcm_base.proofs.DumpsBack.Steps.{leaf_shows, fragment_shows, sequence_reads, fragments_read, item_reads, item_end_reads, sequence_end_reads}
+use Rattle.dcm_base.specs.declared.lookup.Dictionary.{Dictionary}
 use Rattle.dcm_build.specs.DumpLines.{fragment_step, set_steps, items_steps, joined, GREATEST_LIMIT, AllWithin, ArePrinted, EachMeans, IsElement, ReadsBack, AllReadBack, SetReadsBack, ItemsReadBack}
 
 -- ---- texts, one behind the other
@@ -85,23 +86,23 @@ longer start d spaces a b c e f g =
     grows : (n : ℕ) (x y : List ℕ) → n ≤ length x → n ≤ length (x ++ y)
     grows n x y h = omega (arith, h, length-append x y)
 
-display_within : (level : ℕ) (tag : Tag) (vr d : List ℕ) (size : Length) (n : ℕ) (body : List ℕ) → line level tag vr d size n ≡ body ++ 10 ∷ [] → length d ≤ length body
-display_within level tag vr d size n body e =
-    let all : length d < length (line level tag vr d size n) = longer (line_start level tag vr) d (replicate (40 - length d) 32) (codes " # ") (length_text size) (codes ", ") (decimal n) (codes " ") (keyword tag) in
-    let same : length (line level tag vr d size n) ≡ length (body ++ 10 ∷ []) = ap length e in
+display_within : (k : Dictionary) (level : ℕ) (tag : Tag) (vr d : List ℕ) (size : Length) (n : ℕ) (body : List ℕ) → line k level tag vr d size n ≡ body ++ 10 ∷ [] → length d ≤ length body
+display_within k level tag vr d size n body e =
+    let all : length d < length (line k level tag vr d size n) = longer (line_start level tag vr) d (replicate (40 - length d) 32) (codes " # ") (length_text size) (codes ", ") (decimal n) (codes " ") (keyword_in k tag) in
+    let same : length (line k level tag vr d size n) ≡ length (body ++ 10 ∷ []) = ap length e in
     omega (arith, all, same, length-append body (10 ∷ []))
 
-leaf_means : (level : ℕ) (tag : Tag) (vr : Vr) (v : List ℕ) → IsElement tag → ReadsBack vr v → ShortMeans (leaf_line Full level tag vr v) (show_leaf tag vr (Some (value_shown vr v)) ∷ [])
-leaf_means level tag vr v t r =
+leaf_means : (k : Dictionary) (level : ℕ) (tag : Tag) (vr : Vr) (v : List ℕ) → IsElement tag → ReadsBack vr v → ShortMeans (leaf_line k Full level tag vr v) (show_leaf tag vr (Some (value_shown vr v)) ∷ [])
+leaf_means k level tag vr v t r =
     let bytes = bytes_of v r.bytes in
-    one_short (leaf_line Full level tag vr v) (display vr v) (one (show_leaf tag vr (value_of_text vr (display vr v)))) (show_leaf tag vr (Some (value_shown vr v))) (leaf_shows level tag vr v t.0 t.1 r.no_sequence bytes r.size r.units)
-    (display_within level tag (letters vr) (display vr v) (Known (length v)) (count vr v)) (λ short. ap (λ o. one (show_leaf tag vr o)) (value_back vr v r.no_sequence bytes r.units short))
+    one_short (leaf_line k Full level tag vr v) (display vr v) (one (show_leaf tag vr (value_of_text vr (display vr v)))) (show_leaf tag vr (Some (value_shown vr v))) (leaf_shows k level tag vr v t.0 t.1 r.no_sequence bytes r.size r.units)
+    (display_within k level tag (letters vr) (display vr v) (Known (length v)) (count vr v)) (λ short. ap (λ o. one (show_leaf tag vr o)) (value_back vr v r.no_sequence bytes r.units short))
 
-fragment_means : (level : ℕ) (v : List ℕ) → ReadsBack OB v → ShortMeans (fragment_line Full level v) (fragment_step v ∷ [])
-fragment_means level v r =
+fragment_means : (k : Dictionary) (level : ℕ) (v : List ℕ) → ReadsBack OB v → ShortMeans (fragment_line k Full level v) (fragment_step v ∷ [])
+fragment_means k level v r =
     let bytes = bytes_of v r.bytes in
-    one_short (fragment_line Full level v) (display OB v) (one (show_fragment (value_of_text OB (display OB v)))) (fragment_step v) (fragment_shows level v bytes r.size)
-    (display_within level item_tag (codes "pi") (display OB v) (Known (length v)) 1) (λ short. ap (λ o. one (show_fragment o)) (value_back OB v refl bytes r.units short))
+    one_short (fragment_line k Full level v) (display OB v) (one (show_fragment (value_of_text OB (display OB v)))) (fragment_step v) (fragment_shows k level v bytes r.size)
+    (display_within k level item_tag (codes "pi") (display OB v) (Known (length v)) 1) (λ short. ap (λ o. one (show_fragment o)) (value_back OB v refl bytes r.units short))
 
 -- ---- data sets
 
@@ -112,37 +113,37 @@ is_small : (size : Length) → HasLength size → IsSmall size
 is_small (Known n) h = omega (arith, h)
 is_small Undefined h = tt
 
-fragments_mean : (level : ℕ) (values : List (List ℕ)) → AllReadBack values → ShortMeans (flat_map (fragment_line Full level) values) (map fragment_step values)
-fragments_mean level [] h = no_text
-fragments_mean level (v ∷ values) h =
-    both_texts (fragment_line Full level v) (flat_map (fragment_line Full level) values) (fragment_step v ∷ []) (map fragment_step values)
-    (fragment_means level v h.0) (fragments_mean level values h.1)
+fragments_mean : (k : Dictionary) (level : ℕ) (values : List (List ℕ)) → AllReadBack values → ShortMeans (flat_map (fragment_line k Full level) values) (map fragment_step values)
+fragments_mean k level [] h = no_text
+fragments_mean k level (v ∷ values) h =
+    both_texts (fragment_line k Full level v) (flat_map (fragment_line k Full level) values) (fragment_step v ∷ []) (map fragment_step values)
+    (fragment_means k level v h.0) (fragments_mean k level values h.1)
 
 mutual
   unfolding dump_set set_steps SetReadsBack
 
-  pub set_means : (level : ℕ) (x : Trees) → SetReadsBack x → ShortMeans (dump_set Full level x) (set_steps x)
-  set_means level no_tree h = no_text
-  set_means level (leaf tag vr v rest) h =
-      both_texts _ _ (_ ∷ []) (set_steps rest) (leaf_means level tag vr v h.0 h.1) (set_means level rest h.2)
-  set_means level (sequence tag vr declared items rest) h =
+  pub set_means : (k : Dictionary) (level : ℕ) (x : Trees) → SetReadsBack x → ShortMeans (dump_set k Full level x) (set_steps x)
+  set_means k level no_tree h = no_text
+  set_means k level (leaf tag vr v rest) h =
+      both_texts _ _ (_ ∷ []) (set_steps rest) (leaf_means k level tag vr v h.0 h.1) (set_means k level rest h.2)
+  set_means k level (sequence tag vr declared items rest) h =
       subst (λ (t : List ℕ). ShortMeans t (set_steps (sequence tag vr declared items rest)))
-      (sym (four (sequence_line level tag vr declared) (dump_items Full (level + 1) items) (sequence_end_line level declared) (dump_set Full level rest)))
-      (both_texts _ _ (_ ∷ []) _ (one_line _ _ (sequence_reads level tag vr declared (is_small declared h.2) h.0.0 h.0.1 h.1))
-      (both_texts _ _ (items_steps items) _ (items_mean (level + 1) items h.3)
-      (both_texts _ _ (_ ∷ []) (set_steps rest) (one_line _ _ (sequence_end_reads level declared)) (set_means level rest h.4))))
-  set_means level (fragments tag vr values rest) h =
+      (sym (four (sequence_line k level tag vr declared) (dump_items k Full (level + 1) items) (sequence_end_line k level declared) (dump_set k Full level rest)))
+      (both_texts _ _ (_ ∷ []) _ (one_line _ _ (sequence_reads k level tag vr declared (is_small declared h.2) h.0.0 h.0.1 h.1))
+      (both_texts _ _ (items_steps items) _ (items_mean k (level + 1) items h.3)
+      (both_texts _ _ (_ ∷ []) (set_steps rest) (one_line _ _ (sequence_end_reads k level declared)) (set_means k level rest h.4))))
+  set_means k level (fragments tag vr values rest) h =
       subst (λ (t : List ℕ). ShortMeans t (set_steps (fragments tag vr values rest)))
-      (sym (append_assoc (fragment_lines Full level tag vr values) (sequence_end_line level Undefined) (dump_set Full level rest)))
+      (sym (append_assoc (fragment_lines k Full level tag vr values) (sequence_end_line k level Undefined) (dump_set k Full level rest)))
       (both_texts _ _ (_ ∷ map fragment_step values) _
-      (both_texts _ _ (_ ∷ []) (map fragment_step values) (one_line _ _ (fragments_read level tag vr h.0.0 h.0.1 h.1)) (fragments_mean (level + 1) values h.2))
-      (both_texts _ _ (_ ∷ []) (set_steps rest) (one_line _ _ (sequence_end_reads level Undefined)) (set_means level rest h.3)))
+      (both_texts _ _ (_ ∷ []) (map fragment_step values) (one_line _ _ (fragments_read k level tag vr h.0.0 h.0.1 h.1)) (fragments_mean k (level + 1) values h.2))
+      (both_texts _ _ (_ ∷ []) (set_steps rest) (one_line _ _ (sequence_end_reads k level Undefined)) (set_means k level rest h.3)))
 
-  pub items_mean : (level : ℕ) (x : Items) → ItemsReadBack x → ShortMeans (dump_items Full level x) (items_steps x)
-  items_mean level no_item h = no_text
-  items_mean level (item declared set rest) h =
+  pub items_mean : (k : Dictionary) (level : ℕ) (x : Items) → ItemsReadBack x → ShortMeans (dump_items k Full level x) (items_steps x)
+  items_mean k level no_item h = no_text
+  items_mean k level (item declared set rest) h =
       subst (λ (t : List ℕ). ShortMeans t (items_steps (item declared set rest)))
-      (sym (four (item_line level declared) (dump_set Full (level + 1) set) (item_end_line level declared) (dump_items Full level rest)))
-      (both_texts _ _ (_ ∷ []) _ (one_line _ _ (item_reads level declared (is_small declared h.0)))
-      (both_texts _ _ (set_steps set) _ (set_means (level + 1) set h.1)
-      (both_texts _ _ (_ ∷ []) (items_steps rest) (one_line _ _ (item_end_reads level declared)) (items_mean level rest h.2))))
+      (sym (four (item_line k level declared) (dump_set k Full (level + 1) set) (item_end_line k level declared) (dump_items k Full level rest)))
+      (both_texts _ _ (_ ∷ []) _ (one_line _ _ (item_reads k level declared (is_small declared h.0)))
+      (both_texts _ _ (set_steps set) _ (set_means k (level + 1) set h.1)
+      (both_texts _ _ (_ ∷ []) (items_steps rest) (one_line _ _ (item_end_reads k level declared)) (items_mean k level rest h.2))))

@@ -7,7 +7,8 @@ use Rattle.dcm_base.specs.declared.vr.Vr.{Vr}
 use Rattle.dcm_base.specs.declared.vr.Vr.TheVariants.{SQ, UN, OB, OW}
 use Rattle.dcm_base.specs.declared.syntax.Coding.{Coding}
 use Rattle.dcm_base.specs.declared.syntax.Syntax.{Syntax}
-use Rattle.dcm_base.specs.declared.syntax.Syntax.TheVariants.{Implicit, Little, Big}
+use Rattle.dcm_base.specs.declared.syntax.Syntax.TheVariants.{Implicit as implicit_in, Little as little_in, Big as big_in}
+use Rattle.dcm_base.specs.Syntax.{Little, read_by}
 use Rattle.dcm_base.specs.declared.transfer.Deflated.{Deflated as DeflatedSyntax}
 use Rattle.dcm_base.specs.declared.length.Length.{Length}
 use Rattle.dcm_base.specs.declared.length.Length.TheVariants.{Known, Undefined}
@@ -37,6 +38,8 @@ use Rattle.dcm_base.proofs.Conversions.Order.{order_twice}
 use Rattle.dcm_base.proofs.DumpsBack.Parts.{Bytes-take, Bytes-drop}
 use Rattle.dcm_base.proofs.DataSets.Sizes.{trees_take}
 use Rattle.dcm_base.proofs.DumpsBack.Texts.{Bytes, bytes_of}
+use Rattle.dcm_base.specs.declared.lookup.Dictionary.{Dictionary}
+use Rattle.dcm_base.specs.Bars.{holds_fragments}
 use Rattle.dcm_tools.proofs.ReadBack.RecodeReads.{source_whole, source_fine}
 use Rattle.dcm_tools.proofs.ReadBack.Sources.{bytes_behind, bytes_parts, a_byte, four_bytes, long_known, length_known, bytes_of_head, no_sequence, fragments_little, Fine, fine_bytes, lists_of, begun, enclosed_ready, element_tag}
 use Rattle.dcm_tools.proofs.ReadBack.WrittenRead.{target_heads}
@@ -55,9 +58,9 @@ pieces_bytes zero k v h = tt
 pieces_bytes (suc n) k v h = Bytes-append (reverse (take k v)) (flat_map reverse (pieces n k (drop k v))) (Bytes-reverse (take k v) (Bytes-take k v h)) (pieces_bytes n k (drop k v) (Bytes-drop k v h))
 
 order_bytes : (s : Syntax) (vr : Vr) (v : List ℕ) → Bytes v → Bytes (order s vr v)
-order_bytes Implicit vr v h = h
-order_bytes Little vr v h = h
-order_bytes Big vr v h = Bytes-append _ _ (pieces_bytes (length v / unit vr) (unit vr) v h) (Bytes-drop _ v h)
+order_bytes (implicit_in d) vr v h = h
+order_bytes (little_in d) vr v h = h
+order_bytes (big_in d) vr v h = Bytes-append _ _ (pieces_bytes (length v / unit vr) (unit vr) v h) (Bytes-drop _ v h)
 
 value_bytes : (s : Syntax) (vr : Vr) (v : List ℕ) → Bytes (order s vr v) → Bytes v
 value_bytes s vr v h = subst Bytes (order_twice s vr v) (order_bytes s vr (order s vr v) h)
@@ -84,16 +87,16 @@ unfolding form
 sequence_vr s SQ l e = refl
 sequence_vr s UN l e = refl
 sequence_vr s vr (Known n) e = absurd (cc)
-sequence_vr Little OB Undefined e = absurd (cc)
-sequence_vr Little OW Undefined e = absurd (cc)
+sequence_vr (little_in d) OB Undefined e = absurd (cc)
+sequence_vr (little_in d) OW Undefined e = absurd (cc)
 sequence_vr s vr Undefined e = absurd (cc)
 
 fragments_vr : (s : Syntax) (vr : Vr) → form s vr Undefined ≡ a_fragment_list → may_be_fragments vr ≡ true
 unfolding form
 fragments_vr s SQ e = absurd (cc)
 fragments_vr s UN e = absurd (cc)
-fragments_vr Little OB e = refl
-fragments_vr Little OW e = refl
+fragments_vr (little_in d) OB e = refl
+fragments_vr (little_in d) OW e = refl
 fragments_vr s vr e = absurd (cc)
 
 declared_length : (s : Syntax) (vr : Vr) (b : List ℕ) (l : Length) → Bytes b → l ≡ length_at s vr b → HasLength l
@@ -112,19 +115,24 @@ of_bytes v = omega arith
 
 -- ---- data sets
 
-module _ (coding : Coding) where
+holds_alike : (d : Dictionary) (s : Syntax) → holds_fragments (read_by d s) ≡ holds_fragments s
+holds_alike d (implicit_in e) = refl
+holds_alike d (little_in e) = refl
+holds_alike d (big_in e) = refl
+
+module _ (d : Dictionary) (coding : Coding) where
   -- the syntax of a data set, or of what an unknown sequence holds
   abbrev Right : Syntax → Type 0
-  Right s = (s ≡ coding.syntax) ⊎ (s ≡ Implicit)
+  Right s = (s ≡ read_by d coding.syntax) ⊎ (holds_fragments s ≡ false)
 
   right_inside : (s : Syntax) (vr : Vr) → Right s → Right (inside s vr)
   unfolding inside
   right_inside s UN r = inr refl
   right_inside s vr r = r
 
-  right_little : (s : Syntax) → Right s → s ≡ Little → coding.syntax ≡ Little
-  right_little s (inl e) l = sym e ∙ l
-  right_little s (inr e) l = absurd (let no : Implicit ≡ Little = sym e ∙ l in cc)
+  right_little : (s : Syntax) → Right s → holds_fragments s ≡ true → holds_fragments coding.syntax ≡ true
+  right_little s (inl e) l = sym (holds_alike d coding.syntax) ∙ ap holds_fragments (sym e) ∙ l
+  right_little s (inr e) l = absurd cc
 
   fragments_can : (s : Syntax) (values : List (List ℕ)) (b p : List ℕ) (n : ℕ) (others : List Atom) → FragmentsAt s values b p → Bytes b → Fine (target_heads Little) n (fragments_then values others)
       → (AllReadBack values × Fine (target_heads Little) n others) × Bytes p
@@ -296,8 +304,8 @@ headed file meta group coding (with_group preamble bytes others elements behind 
 same_trees : (x y : Trees) → whole_front x ≡ whole_front y → x ≡ y
 same_trees x y e = cc
 
-pub can_build : (file : List ℕ) (meta : Meta) (coding : Coding) (set : Trees) → FileRead file meta coding set → WholeUnits meta.elements → WholeUnits set → Ascend None set → CanBuild meta.elements coding set
-can_build file meta coding set h units_group units ascends =
+pub can_build : (d : Dictionary) (file : List ℕ) (meta : Meta) (coding : Coding) (set : Trees) → FileRead d file meta coding set → WholeUnits meta.elements → WholeUnits set → Ascend None set → CanBuild meta.elements coding set
+can_build d file meta coding set h units_group units ascends =
     let group = h.group in
     let head = headed file meta group coding h.head in
     let file_bytes : Bytes file = bytes_of file h.bytes in
@@ -308,12 +316,12 @@ can_build file meta coding set h units_group units ascends =
     let few : at ≤ INPUT_LIMIT = omega (arith, within) in
     let rest : List ℕ = drop at file in
     let rest_bytes : Bytes rest = bytes_behind at file file_bytes in
-    let whole = source_whole Little coding.syntax at rest (whole_front set) few (are_bytes rest rest_bytes) h.reads in
-    let fine = source_fine Little coding.syntax at rest (whole_front set) few (are_bytes rest rest_bytes) h.reads in
+    let whole = source_whole Little (read_by d coding.syntax) at rest (whole_front set) few (are_bytes rest rest_bytes) h.reads in
+    let fine = source_fine Little (read_by d coding.syntax) at rest (whole_front set) few (are_bytes rest rest_bytes) h.reads in
     let is : whole.trees ≡ set = same_trees whole.trees set (sym whole.is) in
-    let can = set_can coding coding.syntax 0 set rest [] (ends ∷ []) (inl refl)
-    (subst (λ (x : Trees). TreesAt coding.syntax x rest []) is whole.spelled) rest_bytes
-    (subst (λ (x : Trees). Fine (target_heads Little) 0 (trees_then coding.syntax x (ends ∷ []))) is fine) units in
+    let can = set_can d coding (read_by d coding.syntax) 0 set rest [] (ends ∷ []) (inl refl)
+    (subst (λ (x : Trees). TreesAt (read_by d coding.syntax) x rest []) is whole.spelled) rest_bytes
+    (subst (λ (x : Trees). Fine (target_heads Little) 0 (trees_then (read_by d coding.syntax) x (ends ∷ []))) is fine) units in
     record {
       group = head.of_meta;
       size = omega (arith, takes, within);
@@ -325,6 +333,6 @@ can_build file meta coding set h units_group units ascends =
       stands = can.0.0.1;
     }
 
-pub file_builds : (limit : ℕ) (file : List ℕ) (meta : Meta) (coding : Coding) (set : Trees) → limit ≤ GREATEST_LIMIT → FileRead file meta coding set → WholeUnits meta.elements → WholeUnits set → Ascend None set
-    → FitsLines limit (full_dump meta.elements set) → BuildsFile limit (full_dump meta.elements set) meta.elements coding set
-file_builds limit file meta coding set allowed h units_group units ascends fits = dump_builds limit meta.elements coding set allowed (can_build file meta coding set h units_group units ascends) fits
+pub file_builds : (d : Dictionary) (limit : ℕ) (file : List ℕ) (meta : Meta) (coding : Coding) (set : Trees) → limit ≤ GREATEST_LIMIT → FileRead d file meta coding set → WholeUnits meta.elements → WholeUnits set → Ascend None set
+    → FitsLines limit (full_dump d meta.elements set) → BuildsFile limit (full_dump d meta.elements set) meta.elements coding set
+file_builds d limit file meta coding set allowed h units_group units ascends fits = dump_builds d limit meta.elements coding set allowed (can_build d file meta coding set h units_group units ascends) fits

@@ -10,6 +10,7 @@ use Rattle.dcm_base.specs.declared.mode.Mode.TheVariants.{Full}
 use Rattle.dcm_base.specs.Tree.{Trees}
 use Rattle.dcm_base.specs.Dump.{dump_set}
 use Rattle.dcm_base.specs.Build.{Built, Progress, Lines, lines, lines_of, more_lines, with_line, moved, with_meaning, without_return, without_return_reversed}
+use Rattle.dcm_base.specs.declared.lookup.Dictionary.{Dictionary}
 use Rattle.dcm_build.specs.DumpLines.{set_steps, joined, GREATEST_LIMIT, AllWithin, ArePrinted, EachMeans, TextMeans, SetReadsBack}
 use Rattle.dcm_build.specs.StepsBuild.{Leads}
 use Rattle.dcm_build.proofs.Files.Lines.{lines_from, lines_are, run_lines, line_means}
@@ -89,10 +90,10 @@ lines_of_joined (l ∷ ls) h = line_ends [] l (joined ls) h.0 ∙ ap (more_lines
 pub lines_of_text : (text : List ℕ) (ls : List (List ℕ)) → text ≡ joined ls → ArePrinted ls → lines_of text ≡ lines ls []
 lines_of_text text ls is h = lines_are text ∙ ap (lines_from []) is ∙ lines_of_joined ls h
 
-pub lines_mean : (level : ℕ) (set : Trees) → SetReadsBack set → AllWithin GREATEST_LIMIT (lines_of (dump_set Full level set)).ended → TextMeans (dump_set Full level set) (set_steps set)
-lines_mean level set h w =
-    let m = set_means level set h in
-    record { lines = m.lines; is = m.is; printed = m.printed; mean = m.mean (subst (λ (l : Lines). AllWithin GREATEST_LIMIT l.ended) (lines_of_text (dump_set Full level set) m.lines m.is m.printed) w) }
+pub lines_mean : (d : Dictionary) (level : ℕ) (set : Trees) → SetReadsBack set → AllWithin GREATEST_LIMIT (lines_of (dump_set d Full level set)).ended → TextMeans (dump_set d Full level set) (set_steps set)
+lines_mean d level set h w =
+    let m = set_means d level set h in
+    record { lines = m.lines; is = m.is; printed = m.printed; mean = m.mean (subst (λ (l : Lines). AllWithin GREATEST_LIMIT l.ended) (lines_of_text (dump_set d Full level set) m.lines m.is m.printed) w) }
 
 -- ---- no carriage return
 

@@ -7,7 +7,7 @@ use Rattle.dcm_base.specs.declared.tag.Tag.{Tag}
 use Rattle.dcm_base.specs.declared.vr.Vr.{Vr}
 use Rattle.dcm_base.specs.declared.syntax.Coding.{Coding}
 use Rattle.dcm_base.specs.declared.syntax.Syntax.{Syntax}
-use Rattle.dcm_base.specs.declared.syntax.Syntax.TheVariants.{Little}
+use Rattle.dcm_base.specs.Syntax.{Little}
 use Rattle.dcm_base.specs.declared.length.Length.TheVariants.{Undefined}
 use Rattle.dcm_base.specs.declared.fault.LineFault.{LineFault}
 use Rattle.dcm_base.specs.declared.fault.LineFault.TheVariants.{NotAllowed, NotAscending, ValueDoesNotFit, TooDeep, BadMetaGroup, NoTransferSyntax}
@@ -20,10 +20,10 @@ use Rattle.dcm_base.specs.Spelling.{last_tag}
 use Rattle.dcm_base.specs.MetaGroup.{META_LIMIT}
 use Rattle.dcm_base.specs.Place.{depth}
 use Rattle.dcm_base.specs.Size.{trees_size}
-use Rattle.dcm_base.specs.Bars.{innermost_reached}
+use Rattle.dcm_base.specs.Bars.{innermost_reached, holds_fragments}
 use Rattle.dcm_base.specs.ReadValue.{value_shown}
 use Rattle.dcm_base.specs.Line.{Step, show_leaf, begin_sequence, begin_fragments, begin_item, show_fragment, end_item, end_sequence}
-use Rattle.dcm_base.specs.Build.{Built, Refused, refused, no_elements, named_coding, is_little, allows_fragments, holds_elements, checked, in_group, accepted, with_meta, is_meta, is_opening, is_fragment_opening, is_after, element_tag, lacks_value, has_place_in, innermost, open_levels, first_fault, step_checks, with_step, step_in_item, finished, with_shown, rebuilt, rebuilt_items}
+use Rattle.dcm_base.specs.Build.{Built, Refused, refused, no_elements, named_coding, allows_fragments, holds_elements, checked, in_group, accepted, with_meta, is_meta, is_opening, is_fragment_opening, is_after, element_tag, lacks_value, has_place_in, innermost, open_levels, first_fault, step_checks, with_step, step_in_item, finished, with_shown, rebuilt, rebuilt_items}
 use Rattle.dcm_build.specs.declared.open_containers.Open.TheVariants.{Sequence, FragmentList}
 use Rattle.dcm_build.specs.OpenContainers.{OpenContainers, container_of, reached_in, lists_open, entering}
 use Rattle.dcm_build.specs.DumpLines.{fragment_step, set_steps, items_steps}
@@ -111,8 +111,8 @@ no_meta_tag tag h = apart tag.group h
 is_few : (n m : ℕ) → n ≡ m → m < 64 → nat_le 64 n ≡ false
 is_few n m e h = grind (arith, nat_tests, e, h)
 
-no_fragments : (coding : Coding) → coding.syntax ≡ Little → not (allows_fragments (Some coding)) ≡ false
-no_fragments coding e = ap (λ (s : Syntax). not (is_little s)) e
+no_fragments : (coding : Coding) → holds_fragments coding.syntax ≡ true → not (allows_fragments (Some coding)) ≡ false
+no_fragments coding e = ap not e
 
 module _ (coding : Coding) (k : Around) (reached : Option Tag) (tag : Tag) (vr : Vr) (other : tag.group ≢ 2) (above : is_above tag reached ≡ true) where
   abbrev here : OpenContainers
@@ -128,7 +128,7 @@ module _ (coding : Coding) (k : Around) (reached : Option Tag) (tag : Tag) (vr :
     sequence_welcome : Welcome coding here (begin_sequence tag vr)
     sequence_welcome = record { place = holds (place_of k) reached; no_meta = no_meta_tag tag other; fragments_here = refl; after = above_here; value = refl; few = is_few _ (open_lists k) (lists_are k reached) few }
 
-    fragments_welcome : coding.syntax ≡ Little → Welcome coding here (begin_fragments tag vr)
+    fragments_welcome : holds_fragments coding.syntax ≡ true → Welcome coding here (begin_fragments tag vr)
     fragments_welcome little = record { place = holds (place_of k) reached; no_meta = no_meta_tag tag other; fragments_here = no_fragments coding little; after = above_here; value = refl; few = is_few _ (open_lists k) (lists_are k reached) few }
 
 -- ---- steps, one after another

@@ -13,6 +13,8 @@ use Rattle.dcm_base.specs.Header.{set_header}
 use Rattle.dcm_base.specs.Stop.{Stop}
 use Rattle.dcm_words.specs.Words.{dump}
 use Rattle.dcm_base.proofs.Writes.Puts.{append_known_twice, front_longer, puts_behind}
+use Rattle.dcm_base.specs.Syntax.{read_by}
+use Rattle.dcm_base.specs.declared.lookup.Dictionary.{Dictionary}
 use Rattle.dcm_stream.specs.Reading.{start_of}
 use Rattle.dcm_tools.specs.DumpSink.{DumpState, dump_start, dump_step, dump_writes, bars_nothing}
 use Rattle.dcm_cli.specs.declared.ending.Ending.{Ending}
@@ -28,35 +30,38 @@ pub splits : (had left : Option (List ℕ)) (read file : List ℕ) → had ≡ S
 splits had None read file some given = absurd (let no : Some file ≡ None = sym some ∙ given in cc)
 splits had (Some rest) read file some given = (rest, refl, cc)
 
-module _ (mode : Mode) (s : Syntax) (file : List ℕ) (left held : Option (List ℕ)) where
+module _ (d : Dictionary) (mode : Mode) (bare : Syntax) (file : List ℕ) (left held : Option (List ℕ)) where
+  abbrev s : Syntax
+  s = read_by d bare
+
   abbrev header : List ℕ
   header = set_header (uid_of_syntax s)
 
-  read_as : (f : Front) (stop : Stop) → Reads no_bar s 0 file f stop → Answered (dump mode (Some s)) file (header ++ dump_front mode 0 f) (verdict_of_stop stop)
-  read_as f stop reads = record { source = alone s f stop; reads = record { set = f; stop = stop; reads = reads; source_is = refl }; out_is = refl; verdict_is = no_edits (dump mode (Some s)) refl f stop }
+  read_as : (f : Front) (stop : Stop) → Reads no_bar s 0 file f stop → Answered (dump d mode (Some bare)) file (header ++ dump_front d mode 0 f) (verdict_of_stop stop)
+  read_as f stop reads = record { source = alone s f stop; reads = record { set = f; stop = stop; reads = reads; source_is = refl }; out_is = refl; verdict_is = no_edits (dump d mode (Some bare)) refl f stop }
 
-  pub alone_unheaded : (holds : Option (List ℕ)) → AppendsFront held holds header → Worked (dump mode (Some s)) file left held holds Output
+  pub alone_unheaded : (holds : Option (List ℕ)) → AppendsFront held holds header → Worked (dump d mode (Some bare)) file left held holds Output
   alone_unheaded holds begun =
-      let a = all_read (dumper mode) s 0 (omega arith) file in
-      could_not_write (header ++ dump_front mode 0 a.0) (verdict_of_stop a.1) (read_as a.0 a.1 a.2) refl (front_longer (dump_front mode 0 a.0) begun)
+      let a = all_read (dumper d mode) s 0 (omega arith) file in
+      could_not_write (header ++ dump_front d mode 0 a.0) (verdict_of_stop a.1) (read_as a.0 a.1 a.2) refl (front_longer (dump_front d mode 0 a.0) begun)
 
   pub alone_worked : (had mid : Option (List ℕ)) (t : DumpState) (holds : Option (List ℕ)) (ending : Ending) → had ≡ Some file → mid ≡ append_known held header
-      → Pumps bars_nothing dump_step dump_writes had (start_of s 0) (dump_start mode) mid left t holds ending → Worked (dump mode (Some s)) file left held holds ending
+      → Pumps bars_nothing dump_step dump_writes had (start_of s 0) (dump_start d mode) mid left t holds ending → Worked (dump d mode (Some bare)) file left held holds ending
   alone_worked had mid t holds ending some went pumps =
       let parts = splits had left pumps.read file some pumps.given in
-      of_set pumps.read parts.0 parts.1 parts.2 (set_made (dumper mode) s 0 (omega arith) mid t left holds pumps.read parts.0 ending parts.1 pumps.ends)
+      of_set pumps.read parts.0 parts.1 parts.2 (set_made (dumper d mode) s 0 (omega arith) mid t left holds pumps.read parts.0 ending parts.1 pumps.ends)
     where
       behind : (text : List ℕ) → holds ≡ append_known mid text → holds ≡ append_known held (header ++ text)
       behind text e = e ∙ ap (λ (known : Option (List ℕ)). append_known known text) went ∙ append_known_twice held header text
 
-      of_set : (read rest : List ℕ) → left ≡ Some rest → file ≡ read ++ rest → SetMade no_bar (dump_front mode 0) (Last (dumper mode) s 0 (omega arith)) s 0 read rest mid t holds ending → Worked (dump mode (Some s)) file left held holds ending
+      of_set : (read rest : List ℕ) → left ≡ Some rest → file ≡ read ++ rest → SetMade no_bar (dump_front d mode 0) (Last (dumper d mode) s 0 (omega arith)) s 0 read rest mid t holds ending → Worked (dump d mode (Some bare)) file left held holds ending
       of_set read rest at parts (set_read f stop reads last is e) =
-          answered (header ++ dump_front mode 0 f) (verdict_of_stop stop) (read_as f stop (subst (λ (bs : List ℕ). Reads no_bar s 0 bs f stop) (sym parts) reads)) is (behind (dump_front mode 0 f) e)
+          answered (header ++ dump_front d mode 0 f) (verdict_of_stop stop) (read_as f stop (subst (λ (bs : List ℕ). Reads no_bar s 0 bs f stop) (sym parts) reads)) is (behind (dump_front d mode 0 f) e)
       of_set read rest at parts (set_unread f stop reads undecided is e) =
-          could_not_read read rest (header ++ dump_front mode 0 (going_on f)) parts at (record { set = f; stop = stop; reads = reads; open_end = undecided; out_is = refl }) (is ∙ ap Unread (omega arith)) (behind (dump_front mode 0 (going_on f)) e)
+          could_not_read read rest (header ++ dump_front d mode 0 (going_on f)) parts at (record { set = f; stop = stop; reads = reads; open_end = undecided; out_is = refl }) (is ∙ ap Unread (omega arith)) (behind (dump_front d mode 0 (going_on f)) e)
       of_set read rest at parts (set_unwritten f stop reads is e) =
-          could_not_write (header ++ dump_front mode 0 f) (verdict_of_stop stop) (read_as f stop (subst (λ (bs : List ℕ). Reads no_bar s 0 bs f stop) (sym parts) reads)) is
-          (puts_behind {T = Unit {0}} {E = Unit {0}} held mid holds header (dump_front mode 0 f) (Err tt) went e)
+          could_not_write (header ++ dump_front d mode 0 f) (verdict_of_stop stop) (read_as f stop (subst (λ (bs : List ℕ). Reads no_bar s 0 bs f stop) (sym parts) reads)) is
+          (puts_behind {T = Unit {0}} {E = Unit {0}} held mid holds header (dump_front d mode 0 f) (Err tt) went e)
 
 -- what a call that fails, and one that does not, has written
 pub put_failed : {T E : Type 0} (held holds : Option (List ℕ)) (bytes : List ℕ) (r : Result T E) → is_err r ≡ true → Puts held holds bytes r → AppendsFront held holds bytes

@@ -19,6 +19,7 @@ use Rattle.dcm_base.specs.Recode.{recode}
 use Rattle.dcm_base.specs.Reads.{INPUT_LIMIT, Reads}
 use Rattle.dcm_words.specs.Words.{Job, dump, convert, build, modify}
 use Rattle.dcm_base.proofs.Writes.Puts.{append_known_twice, append_known_none, front_longer, puts_behind}
+use Rattle.dcm_base.specs.declared.lookup.Dictionary.{Dictionary}
 use Rattle.dcm_head.specs.declared.meta_read.MetaEnd.{MetaEnd}
 use Rattle.dcm_head.specs.declared.meta_read.MetaEnd.TheVariants as meta_end
 use Rattle.dcm_head.specs.MetaReading.{Reading, meta_finished}
@@ -31,7 +32,7 @@ use Rattle.dcm_cli.specs.declared.ending.HeadEnding.TheVariants as heads
 use Rattle.dcm_cli.specs.declared.ending.Verdict.TheVariants.{Done, Refused}
 use Rattle.dcm_cli.specs.declared.head.Begun.{Begun}
 use Rattle.dcm_cli.specs.Pass.{Begins, FailsHead, BehindBegun, WasRead, head_read, set_bytes, ending_of_head, with_unplaced}
-use Rattle.dcm_cli.specs.Answer.{edits_of, Source, file as of_file, unopened, going_on, job_bar, refuses_change, target_syntax, target_uid, file_output, output_of, Sure, FileReads, FileSure, not_opened as was_not_opened, not_changed, opened as was_opened, before_set, within_set}
+use Rattle.dcm_cli.specs.Answer.{job_dictionary, edits_of, Source, file as of_file, unopened, going_on, job_bar, refuses_change, target_syntax, target_uid, file_output, output_of, Sure, FileReads, FileSure, not_opened as was_not_opened, not_changed, opened as was_opened, before_set, within_set}
 use Rattle.dcm_cli.specs.Run.{Answered, Worked, answered, could_not_read, could_not_write, verdict_of_source, verdict_of_stop, verdict_at, unplaced_mask}
 use Rattle.dcm_cli.proofs.Passes.Alone.{splits}
 use Rattle.dcm_cli.proofs.Passes.Makers.{Maker, dumper, encoder}
@@ -41,25 +42,25 @@ use Rattle.dcm_cli.proofs.Passes.MetaHeads.{Opened, opened, one_head, not_opened
 -- ---- jobs that read files
 
 abbrev pub reads_file : Job → Bool
-reads_file (dump mode None) = true
-reads_file (dump mode (Some syntax)) = false
-reads_file (convert target) = true
+reads_file (dump d mode None) = true
+reads_file (dump d mode (Some syntax)) = false
+reads_file (convert d target) = true
 reads_file (build limit) = false
-reads_file (modify edits) = true
+reads_file (modify d edits) = true
 
 file_answered : (job : Job) → reads_file job ≡ true → (bytes : List ℕ) (source : Source) → FileReads job bytes source → Answered job bytes (output_of job source) (verdict_of_source job source)
-file_answered (dump mode None) is bytes source reads = record { source = source; reads = reads; out_is = refl; verdict_is = refl }
-file_answered (dump mode (Some syntax)) is bytes source reads = cc
-file_answered (convert target) is bytes source reads = record { source = source; reads = reads; out_is = refl; verdict_is = refl }
+file_answered (dump d mode None) is bytes source reads = record { source = source; reads = reads; out_is = refl; verdict_is = refl }
+file_answered (dump d mode (Some syntax)) is bytes source reads = cc
+file_answered (convert d target) is bytes source reads = record { source = source; reads = reads; out_is = refl; verdict_is = refl }
 file_answered (build limit) is bytes source reads = cc
-file_answered (modify edits) is bytes source reads = record { source = source; reads = reads; out_is = refl; verdict_is = refl }
+file_answered (modify d edits) is bytes source reads = record { source = source; reads = reads; out_is = refl; verdict_is = refl }
 
 file_sure : (job : Job) → reads_file job ≡ true → (p out : List ℕ) → FileSure job p out → Sure job p out
-file_sure (dump mode None) is p out sure = sure
-file_sure (dump mode (Some syntax)) is p out sure = cc
-file_sure (convert target) is p out sure = sure
+file_sure (dump d mode None) is p out sure = sure
+file_sure (dump d mode (Some syntax)) is p out sure = cc
+file_sure (convert d target) is p out sure = sure
 file_sure (build limit) is p out sure = cc
-file_sure (modify edits) is p out sure = sure
+file_sure (modify d edits) is p out sure = sure
 
 -- what a job makes of a file in a coding: what stands for its head, and then what a sink makes of the data set
 pub record FileMaker (job : Job) (coding : Coding) : Type 1 where
@@ -69,17 +70,17 @@ pub record FileMaker (job : Job) (coding : Coding) : Type 1 where
   pub output_is : (m : Meta) (f : Front) → file_output job m coding f ≡ header m ++ text f
 
 -- the dump
-abbrev pub file_dumper : (mode : Mode) (coding : Coding) → FileMaker (dump mode None) coding
-file_dumper mode coding = record {
-  header = λ m. meta_header mode m.elements ++ set_header m.uid;
-  text = dump_front mode 0;
-  maker = dumper mode;
+abbrev pub file_dumper : (d : Dictionary) (mode : Mode) (coding : Coding) → FileMaker (dump d mode None) coding
+file_dumper d mode coding = record {
+  header = λ m. meta_header d mode m.elements ++ set_header m.uid;
+  text = dump_front d mode 0;
+  maker = dumper d mode;
   output_is = λ m f. refl;
 }
 
 -- the conversion
-abbrev pub file_encoder : (target : Option Syntax) (coding : Coding) → FileMaker (convert target) coding
-file_encoder target coding = record {
+abbrev pub file_encoder : (d : Dictionary) (target : Option Syntax) (coding : Coding) → FileMaker (convert d target) coding
+file_encoder d target coding = record {
   header = λ m. m.preamble ++ PREFIX ++ new_meta m.elements (target_uid target m);
   text = recode (target_syntax target coding);
   maker = encoder (target_syntax target coding);
@@ -121,12 +122,12 @@ by_reading : (r : Reading) (b : Begun) (buffer : List ℕ) (left : Option (List 
 by_reading r b buffer left read rest at begun (inl e) = let end = has_end r begun.ended in finished_over r read rest end.0 end.1 e
 by_reading r b buffer left read rest at begun (inr x) = finished_at r left read rest at (begun.over x.0) x.1
 
-pub file_opened : (r : Reading) (b : Begun) (buffer : List ℕ) (had left : Option (List ℕ)) (read file : List ℕ) → had ≡ Some file → had ≡ prepend_known read left → Begins r b buffer left read → Opened r file
-file_opened r b buffer had left read file some given begun =
+pub file_opened : (d : Dictionary) (r : Reading) (b : Begun) (buffer : List ℕ) (had left : Option (List ℕ)) (read file : List ℕ) → had ≡ Some file → had ≡ prepend_known read left → Begins r b buffer left read → Opened d r file
+file_opened d r b buffer had left read file some given begun =
     let parts = splits had left read file some given in
-    subst (Opened r) (sym parts.2) (opened r (read ++ parts.0) (by_reading r b buffer left read parts.0 parts.1 begun begun.reading) begun.ended)
+    subst (Opened d r) (sym parts.2) (opened d r (read ++ parts.0) (by_reading r b buffer left read parts.0 parts.1 begun begun.reading) begun.ended)
 
-module _ (job : Job) (is_file : reads_file job ≡ true) (file : List ℕ) (after held : Option (List ℕ)) (r : Reading) (o : Opened r file) where
+module _ (job : Job) (is_file : reads_file job ≡ true) (file : List ℕ) (after held : Option (List ℕ)) (r : Reading) (o : Opened (job_dictionary job) r file) where
   abbrev start : ℕ
   start = 132 + length o.group
 
@@ -214,11 +215,11 @@ module _ (job : Job) (is_file : reads_file job ≡ true) (file : List ℕ) (afte
             → FileSure job (read ++ pass.more) (file_output job o.m o.coding (going_on f))
         sure_of f stop e reads undecided =
             let end = has_end r begun.ended in
-            let x : Opened r (read ++ pass.more) = opened r (read ++ pass.more) (ap meta_finished (sym e) ∙ finished_same r end.0 end.1) begun.ended in
+            let x : Opened (job_dictionary job) r (read ++ pass.more) = opened (job_dictionary job) r (read ++ pass.more) (ap meta_finished (sym e) ∙ finished_same r end.0 end.1) begun.ended in
             let groups : length x.group ≡ length o.group = ap length (sym x.group_is ∙ o.group_is) in
             let long = length-append read pass.more in
-            let less = ends_before r (read ++ pass.more) e x (let p = o.place_is in let w = within in omega arith) in
-            within_set o.m o.group o.coding f stop (one_head r file (read ++ pass.more) o.m o.group o.coding o.reads (o.end_is, o.place_is, o.preamble_is, o.group_is, o.uid_is) x) (omega (arith, less, groups)) kept
+            let less = ends_before (job_dictionary job) r (read ++ pass.more) e x (let p = o.place_is in let w = within in omega arith) in
+            within_set o.m o.group o.coding f stop (one_head (job_dictionary job) r file (read ++ pass.more) o x) (omega (arith, less, groups)) kept
             (subst (λ (bs : List ℕ). SetReads bs f stop) (sym (set_there pass.more)) reads) undecided refl
 
         by_over : (rest later : List ℕ) → after ≡ Some later → file ≡ read ++ rest → rest ≡ pass.more ++ later → (f : Front) (stop : Stop) → SetReads (set_bytes b buffer ++ pass.more) f stop → is_undecided (Some stop) ≡ true

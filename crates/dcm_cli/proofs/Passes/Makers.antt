@@ -13,6 +13,7 @@ use Rattle.dcm_base.specs.Recode.{recode}
 use Rattle.dcm_base.specs.Steps.{outputs}
 use Rattle.dcm_base.specs.Stop.{Bar, Stop, refused}
 use Rattle.dcm_base.proofs.Writes.Runs.{outputs-append}
+use Rattle.dcm_base.specs.declared.lookup.Dictionary.{Dictionary}
 use Rattle.dcm_head.specs.declared.head.Head.{Head}
 use Rattle.dcm_stream.specs.declared.token.Bar.{Bar as SinkBar}
 use Rattle.dcm_stream.specs.Driven.{bars_by, driven, driven_output, EndsAs, RefusesAs, WaitsAs}
@@ -87,16 +88,16 @@ drives_by bars step writes bar first same s start bytes le = record {
 }
 
 -- the dump
-abbrev pub dumper : (mode : Mode) → Maker no_bar (dump_front mode 0)
-dumper mode = record {
+abbrev pub dumper : (d : Dictionary) (mode : Mode) → Maker no_bar (dump_front d mode 0)
+dumper d mode = record {
   State = DumpState;
   bars = bars_nothing;
   step = dump_step;
   writes = dump_writes;
-  first = dump_start mode;
-  drives = drives_by bars_nothing dump_step dump_writes no_bar (dump_start mode) (bars_none bars_nothing dump_step dump_writes (dump_start mode) (λ atoms head. refl));
-  whole = reads_whole mode;
-  so_far = reads_so_far mode;
+  first = dump_start d mode;
+  drives = drives_by bars_nothing dump_step dump_writes no_bar (dump_start d mode) (bars_none bars_nothing dump_step dump_writes (dump_start d mode) (λ atoms head. refl));
+  whole = reads_whole d mode;
+  so_far = reads_so_far d mode;
 }
 
 -- the conversion

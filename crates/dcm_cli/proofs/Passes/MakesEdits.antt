@@ -11,6 +11,7 @@ use Rattle.dcm_base.specs.NewMeta.{new_meta}
 use Rattle.dcm_base.specs.Reads.{INPUT_LIMIT, Reads}
 use Rattle.dcm_base.specs.Recode.{recode}
 use Rattle.dcm_base.specs.Stop.{Stop}
+use Rattle.dcm_base.specs.declared.lookup.Dictionary.{Dictionary}
 use Rattle.dcm_stream.specs.Ascending.{ascending}
 use Rattle.dcm_stream.specs.Judging.{bars_head}
 use Rattle.dcm_stream.specs.Reading.{read_all}
@@ -51,15 +52,15 @@ drives_shallow step writes edits first x s start bytes le = record {
 }
 
 -- of edits that words mean
-module _ (edits : List Edit) (meant : AreMeant edits) where
+module _ (d : Dictionary) (edits : List Edit) (meant : AreMeant edits) where
   pub apart : AreApart edits × ArePublic edits
-  apart = edits_are_apart meant.words edits meant.mean
+  apart = edits_are_apart meant.dictionary meant.words edits meant.mean
 
   pub fit : HaveValues edits × HaveShortIndexes edits × AreWithin 64 edits
-  fit = edits_fit meant.words edits meant.mean
+  fit = edits_fit meant.dictionary meant.words edits meant.mean
 
   pub are_few : length edits ≤ 64
-  are_few = few meant.words edits meant.mean
+  are_few = few meant.dictionary meant.words edits meant.mean
 
   -- the edited data set in a syntax
   abbrev pub editor : (target : Syntax) → Maker ascending_bar (λ f. recode target (edited edits f))
@@ -76,7 +77,7 @@ module _ (edits : List Edit) (meant : AreMeant edits) where
         through_outputs encode_step encode_writes (begun edits) (encode_start target) (front_atoms s f) ∙ (edit_reads_so_far target edits apart.0 apart.1 fit.0 fit.1 fit.2 s start bytes f stop le closed reads).0;
   }
 
-  abbrev pub file_editor : (coding : Coding) → FileMaker (modify edits) coding
+  abbrev pub file_editor : (coding : Coding) → FileMaker (modify d edits) coding
   file_editor coding = record {
     header = λ m. m.preamble ++ PREFIX ++ new_meta m.elements m.uid;
     text = λ f. recode coding.syntax (edited edits f);

@@ -5,7 +5,7 @@ use Rattle.std.proofs.lemmas.List.Sums.{fold-append}
 use Rattle.std.proofs.lemmas.Bool.Decides.{nat_tests}
 use Rattle.dcm_base.specs.declared.fault.Stop.{Stop as HaltStop}
 use Rattle.dcm_base.specs.declared.syntax.Coding.{Coding}
-use Rattle.dcm_base.specs.declared.syntax.Syntax.TheVariants.{Little}
+use Rattle.dcm_base.specs.Syntax.{Little, coding_by}
 use Rattle.dcm_base.specs.declared.transfer.Deflated.{Deflated as DeflatedSyntax}
 use Rattle.dcm_base.specs.Tree.{Trees}
 use Rattle.dcm_base.specs.Spelling.{Spells}
@@ -14,6 +14,7 @@ use Rattle.dcm_base.specs.MetaGroup.{META_LIMIT, AreMeta, GroupPlace, an_element
 use Rattle.dcm_base.proofs.DataSets.Whole.{trees_same, at_end_NoElement}
 use Rattle.dcm_base.specs.MetaReads.{Meta, MetaAnswer, MetaReads, begins, refused, coded, named, answer_behind, syntax_value, too_short, no_prefix, with_group, is_undecided, PREFIX}
 use Rattle.dcm_base.specs.NewMeta.{new_meta}
+use Rattle.dcm_base.specs.declared.lookup.Dictionary.{Dictionary}
 use Rattle.dcm_head.specs.declared.meta_read.MetaEnd.{MetaEnd}
 use Rattle.dcm_head.specs.declared.meta_read.MetaEnd.TheVariants.{Refused, Ended}
 use Rattle.dcm_head.specs.MetaReading.{Reading, HasEnded, Says, meta_step, meta_finished, finished_from, group_of, uid_of}
@@ -22,6 +23,7 @@ use Rattle.dcm_head.proofs.HeadReading.State.{described}
 use Rattle.dcm_head.proofs.HeadReading.Answers.{told}
 use Rattle.dcm_head.proofs.MetaGroups.OneMeta.{one_meta}
 use Rattle.dcm_cli.specs.Pass.{head_read}
+use Rattle.dcm_cli.specs.Answer.{HeadIs}
 
 -- ---- the elements of the group
 
@@ -53,12 +55,12 @@ group_spelled file m group coding (with_group preamble bytes others elements beh
 
 -- ---- what was said
 
-pub record Opened (r : Reading) (file : List ℕ) : Type 0 where
+pub record Opened (d : Dictionary) (r : Reading) (file : List ℕ) : Type 0 where
   pub m : Meta
   pub group : List ℕ
   pub coding : Coding
-  pub reads : MetaReads file (begins m group coding)
-  pub end_is : r.end ≡ Some (Ended coding)
+  pub reads : HeadIs d file m group coding
+  pub end_is : r.end ≡ Some (Ended reads.named)
   pub place_is : r.place ≡ 132 + length group
   pub preamble_is : take 128 r.bytes ≡ m.preamble
   pub group_is : group_of r ≡ group
@@ -72,15 +74,15 @@ not_refused None stop h e = absurd h
 not_refused (Some (Refused s)) stop h e = absurd h
 not_refused (Some (Ended coding)) stop h e = cc
 
-opened_by : (r : Reading) (file : List ℕ) (answer : MetaAnswer) → HasEnded r.end → MetaReads file answer → Says r answer → Opened r file
-opened_by r file (refused fault offset) h reads said = absurd (not_refused r.end (record { fault = fault; at = offset }) h said)
-opened_by r file (begins m group coding) h reads said =
+opened_by : (d : Dictionary) (r : Reading) (file : List ℕ) (answer : MetaAnswer) → HasEnded r.end → MetaReads file answer → Says r answer → Opened d r file
+opened_by d r file (refused fault offset) h reads said = absurd (not_refused r.end (record { fault = fault; at = offset }) h said)
+opened_by d r file (begins m group coding) h reads said =
     let spelled = group_spelled file m group coding reads in
     record {
       m = m;
       group = group;
-      coding = coding;
-      reads = reads;
+      coding = coding_by d coding;
+      reads = record { named = coding; head = reads; coding_is = refl };
       end_is = said.0;
       place_is = said.1;
       preamble_is = said.2;
@@ -92,10 +94,10 @@ opened_by r file (begins m group coding) h reads said =
     }
 
 -- the group has ended
-pub opened : (r : Reading) (file : List ℕ) → meta_finished (head_read file) ≡ r → HasEnded r.end → Opened r file
-opened r file e h =
+pub opened : (d : Dictionary) (r : Reading) (file : List ℕ) → meta_finished (head_read file) ≡ r → HasEnded r.end → Opened d r file
+opened d r file e h =
     let t = told (head_read file) file (described file) in
-    opened_by r file t.answer h t.reads (subst (λ (x : Reading). Says x t.answer) e t.said)
+    opened_by d r file t.answer h t.reads (subst (λ (x : Reading). Says x t.answer) e t.said)
 
 not_ended : (r : Reading) (stop : HaltStop) (m : Meta) (group : List ℕ) (coding : Coding) → r.end ≡ Some (Refused stop) → Says r (begins m group coding) → ⊥
 not_ended r stop m group coding e said = let no : Some (Refused stop) ≡ Some (Ended coding) = sym e ∙ said.0 in cc
@@ -115,16 +117,23 @@ one_meta_of m n p e u =
     same
 
 -- two inputs of one such reading begin with the same head
-pub one_head : (r : Reading) (file other : List ℕ) (m : Meta) (group : List ℕ) (coding : Coding) → MetaReads file (begins m group coding) → Says r (begins m group coding) → Opened r other → MetaReads other (begins m group coding)
-one_head r file other m group coding reads said x =
+pub same_head : (d : Dictionary) (r : Reading) (file other : List ℕ) (m : Meta) (group : List ℕ) (coding : Coding) → MetaReads file (begins m group coding) → Says r (begins m group coding) → Opened d r other → MetaReads other (begins m group coding)
+same_head d r file other m group coding reads said x =
     let groups : x.group ≡ group = sym x.group_is ∙ said.3 in
-    let codings : Some (Ended x.coding) ≡ Some (Ended coding) = sym x.end_is ∙ said.0 in
-    let coding_is : x.coding ≡ coding = cc in
+    let codings : Some (Ended x.reads.named) ≡ Some (Ended coding) = sym x.end_is ∙ said.0 in
+    let coding_is : x.reads.named ≡ coding = cc in
     let elements : x.m.elements ≡ m.elements =
     (trees_same Little x.m.elements m.elements group [] [] (subst (Spells Little x.m.elements) groups x.spelled) (group_spelled file m group coding reads).0 (at_end_NoElement Little) (at_end_NoElement Little)).0 in
     let metas : x.m ≡ m = one_meta_of x.m m (sym x.preamble_is ∙ said.2) elements (sym x.uid_is ∙ said.4) in
-    let same : begins x.m x.group x.coding ≡ begins m group coding = cc in
-    subst (MetaReads other) same x.reads
+    let same : begins x.m x.group x.reads.named ≡ begins m group coding = cc in
+    subst (MetaReads other) same x.reads.head
+
+pub one_head : (d : Dictionary) (r : Reading) (file other : List ℕ) (o : Opened d r file) → Opened d r other → HeadIs d other o.m o.group o.coding
+one_head d r file other o x = record {
+  named = o.reads.named;
+  head = same_head d r file other o.m o.group o.reads.named o.reads.head (o.end_is, o.place_is, o.preamble_is, o.group_is, o.uid_is) x;
+  coding_is = o.reads.coding_is;
+}
 
 -- it is at fault
 pub not_opened : (r : Reading) (file : List ℕ) (stop : HaltStop) → meta_finished (head_read file) ≡ r → r.end ≡ Some (Refused stop) → MetaReads file (refused stop.fault stop.at)
@@ -157,24 +166,24 @@ goes_on_still read none =
     by_going a (inr x) = absurd (let no : None ≡ Some x.1 = sym none ∙ x.2 in cc)
 
 -- a group that was ended by what follows it
-pub ends_before : (r : Reading) (read : List ℕ) → r ≡ head_read read → (o : Opened r read) → r.place ≤ length read → 132 + length o.group < length read
-ends_before r read e o le =
+pub ends_before : (d : Dictionary) (r : Reading) (read : List ℕ) → r ≡ head_read read → (o : Opened d r read) → r.place ≤ length read → 132 + length o.group < length read
+ends_before d r read e o le =
     let t = told (head_read read) read (described read) in
-    let not_at : is_undecided (length read) (begins o.m o.group o.coding) ≡ false = by_going t.answer (one_meta read t.answer (begins o.m o.group o.coding) t.reads o.reads) t.going in
+    let not_at : is_undecided (length read) (begins o.m o.group o.reads.named) ≡ false = by_going t.answer (one_meta read t.answer (begins o.m o.group o.reads.named) t.reads o.reads.head) t.going in
     apart (132 + length o.group) (length read) not_at (subst (λ (n : ℕ). n ≤ length read) o.place_is le)
   where
-    some : (head_read read).end ≡ Some (Ended o.coding)
+    some : (head_read read).end ≡ Some (Ended o.reads.named)
     some = ap (λ (x : Reading). x.end) (sym e) ∙ o.end_is
 
-    by_going : (a : MetaAnswer) → a ≡ begins o.m o.group o.coding → ((is_undecided (length read) a ≡ true) × ((head_read read).end ≡ None)) ⊎ ((is_undecided (length read) a ≡ false) × (end : MetaEnd) × ((head_read read).end ≡ Some end))
-        → is_undecided (length read) (begins o.m o.group o.coding) ≡ false
-    by_going a is (inl x) = absurd (let no : Some (Ended o.coding) ≡ None = sym some ∙ x.1 in cc)
+    by_going : (a : MetaAnswer) → a ≡ begins o.m o.group o.reads.named → ((is_undecided (length read) a ≡ true) × ((head_read read).end ≡ None)) ⊎ ((is_undecided (length read) a ≡ false) × (end : MetaEnd) × ((head_read read).end ≡ Some end))
+        → is_undecided (length read) (begins o.m o.group o.reads.named) ≡ false
+    by_going a is (inl x) = absurd (let no : Some (Ended o.reads.named) ≡ None = sym some ∙ x.1 in cc)
     by_going a is (inr x) = ap (is_undecided (length read)) (sym is) ∙ x.0
 
     apart : (m n : ℕ) → nat_eq m n ≡ false → m ≤ n → m < n
     apart m n not le = grind (arith, nat_tests, not, le)
 
 -- its head written anew
-pub head_anew : (r : Reading) (file : List ℕ) (o : Opened r file) (uid written : List ℕ) → written ≡ uid → take 128 r.bytes ++ PREFIX ++ new_meta o.m.elements written ≡ o.m.preamble ++ PREFIX ++ new_meta o.m.elements uid
-head_anew r file o uid written e =
+pub head_anew : (d : Dictionary) (r : Reading) (file : List ℕ) (o : Opened d r file) (uid written : List ℕ) → written ≡ uid → take 128 r.bytes ++ PREFIX ++ new_meta o.m.elements written ≡ o.m.preamble ++ PREFIX ++ new_meta o.m.elements uid
+head_anew d r file o uid written e =
     ap (λ (bs : List ℕ). bs ++ PREFIX ++ new_meta o.m.elements written) o.preamble_is ∙ ap (λ (u : List ℕ). o.m.preamble ++ PREFIX ++ new_meta o.m.elements u) e

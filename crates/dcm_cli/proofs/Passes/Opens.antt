@@ -4,11 +4,12 @@ use Rattle.std.specs.Io.KnownBytes.{append_known}
 use Rattle.dcm_base.specs.declared.fault.Fault.TheVariants.{CannotChange}
 use Rattle.dcm_base.specs.declared.syntax.Coding.{Coding}
 use Rattle.dcm_base.specs.declared.syntax.Syntax.{Syntax}
-use Rattle.dcm_base.specs.declared.syntax.Syntax.TheVariants.{Little}
+use Rattle.dcm_base.specs.Syntax.{Little, coding_by}
 use Rattle.dcm_base.specs.Device.{AppendsFront}
 use Rattle.dcm_base.specs.MetaReads.{Meta, MetaReads, begins, PREFIX}
 use Rattle.dcm_base.specs.NewMeta.{new_meta}
 use Rattle.dcm_base.specs.Spelling.{Spells}
+use Rattle.dcm_base.specs.declared.lookup.Dictionary.{Dictionary}
 use Rattle.dcm_words.specs.Words.{Job, convert}
 use Rattle.dcm_head.specs.declared.meta_read.MetaEnd.TheVariants.{Ended}
 use Rattle.dcm_head.specs.MetaReading.{Reading}
@@ -18,7 +19,7 @@ use Rattle.dcm_cli.specs.declared.ending.Ending.TheVariants as endings
 use Rattle.dcm_cli.specs.declared.ending.Verdict.TheVariants.{Refused}
 use Rattle.dcm_cli.specs.declared.head.Begun.{Begun}
 use Rattle.dcm_cli.specs.declared.rewrite.Opened.{Opened as OpenedFile}
-use Rattle.dcm_cli.specs.Answer.{edits_of, refuses_change, target_uid}
+use Rattle.dcm_cli.specs.Answer.{job_dictionary, edits_of, refuses_change, target_uid}
 use Rattle.dcm_cli.specs.Opening.{HeadRead, OpenedAs, NotOpened, no_set, no_change, no_head, head_text}
 use Rattle.dcm_cli.specs.Pass.{BehindBegun, WasRead, ending_of_head, set_bytes}
 use Rattle.dcm_cli.specs.Run.{Worked}
@@ -26,47 +27,47 @@ use Rattle.dcm_cli.proofs.Passes.Files.{FileMaker, Concludes, concludes_same, re
 use Rattle.dcm_cli.proofs.Passes.MetaHeads.{Opened, head_anew}
 
 -- what its head has said, in the coding that was answered
-abbrev pub in_coding : (r : Reading) (file : List ℕ) (coding : Coding) → r.end ≡ Some (Ended coding) → Opened r file → Opened r file
-in_coding r file coding is o =
-    let codings : Some (Ended coding) ≡ Some (Ended o.coding) = sym is ∙ o.end_is in
-    let same : o.coding ≡ coding = cc in
+abbrev pub in_coding : (d : Dictionary) (r : Reading) (file : List ℕ) (named coding : Coding) → r.end ≡ Some (Ended named) → coding ≡ coding_by d named → Opened d r file → Opened d r file
+in_coding d r file named coding end is o =
+    let ends : Some (Ended named) ≡ Some (Ended o.reads.named) = sym end ∙ o.end_is in
+    let same : named ≡ o.reads.named = cc in
     record o {
       coding = coding;
-      reads = subst (λ (x : Coding). MetaReads file (begins o.m o.group x)) same o.reads;
-      end_is = is;
+      reads = record { named = o.reads.named; head = o.reads.head; coding_is = is ∙ ap (coding_by d) same };
+      end_is = o.end_is;
     }
 
-abbrev pub head_opened : (file : List ℕ) (had left : Option (List ℕ)) (buffer : List ℕ) (r : Reading) (b : Begun) (coding : Coding) (start : ℕ) → had ≡ Some file → HeadRead had left buffer r b coding start → Opened r file
-head_opened file had left buffer r b coding start some h = in_coding r file coding h.coding_is (file_opened r b buffer had left h.read file some h.given h.begins)
+abbrev pub head_opened : (d : Dictionary) (file : List ℕ) (had left : Option (List ℕ)) (buffer : List ℕ) (r : Reading) (b : Begun) (coding : Coding) (start : ℕ) → had ≡ Some file → HeadRead d had left buffer r b coding start → Opened d r file
+head_opened d file had left buffer r b coding start some h = in_coding d r file h.named coding h.end_is h.coding_is (file_opened d r b buffer had left h.read file some h.given h.begins)
 
 -- a job that writes files again, with a target
-module _ (target : Option Syntax) (job : Job) (is_file : reads_file job ≡ true) (alike : (coding : Coding) → refuses_change job coding ≡ refuses_change (convert target) coding)
+module _ (target : Option Syntax) (job : Job) (is_file : reads_file job ≡ true) (alike : (coding : Coding) → refuses_change job coding ≡ refuses_change (convert (job_dictionary job) target) coding)
     (maker : (coding : Coding) → FileMaker job coding) (header_is : (coding : Coding) (m : Meta) → (maker coding).header m ≡ m.preamble ++ PREFIX ++ new_meta m.elements (target_uid target m))
     (file : List ℕ) (had left held : Option (List ℕ)) (some : had ≡ Some file) where
   -- what was written of a head
-  head_is : (r : Reading) (o : Opened r file) (uid : List ℕ) → uid ≡ target_uid target o.m → head_text r uid o.m.elements ≡ (maker o.coding).header o.m
-  head_is r o uid is = head_anew r file o (target_uid target o.m) uid is ∙ sym (header_is o.coding o.m)
+  head_is : (r : Reading) (o : Opened (job_dictionary job) r file) (uid : List ℕ) → uid ≡ target_uid target o.m → head_text r uid o.m.elements ≡ (maker o.coding).header o.m
+  head_is r o uid is = head_anew (job_dictionary job) r file o (target_uid target o.m) uid is ∙ sym (header_is o.coding o.m)
 
-  pub not_opened : (holds : Option (List ℕ)) (ending : Ending) → NotOpened target had left held holds ending → Worked job file left held holds ending
+  pub not_opened : (holds : Option (List ℕ)) (ending : Ending) → NotOpened (job_dictionary job) target had left held holds ending → Worked job file left held holds ending
   not_opened holds ending (no_set r read head given fails still is) =
       subst (λ (x : Ending). Worked job file left held holds x) (sym is)
       (subst (λ (known : Option (List ℕ)). Worked job file left held known (ending_of_head head)) (sym still) (file_unopened job is_file file held had left r read head some given fails))
   not_opened holds ending (no_change buffer r b coding start h refuses still is) =
-      let o = head_opened file had left buffer r b coding start some h in
+      let o = head_opened (job_dictionary job) file had left buffer r b coding start some h in
       let there : start ≡ 132 + length o.group = h.start_is ∙ o.place_is in
       subst (λ (x : Ending). Worked job file left held holds x) (sym is)
       (subst (λ (n : ℕ). Worked job file left held holds (endings.Worked (Refused (record { fault = CannotChange; at = n })))) (sym there)
       (subst (λ (known : Option (List ℕ)). Worked job file left held known (endings.Worked (Refused (record { fault = CannotChange; at = 132 + length o.group })))) (sym still)
       (file_unchanged job is_file file left held r o (alike coding ∙ refuses))))
   not_opened holds ending (no_head buffer r b coding start uid h keeps uid_is written is) =
-      let o = head_opened file had left buffer r b coding start some h in
+      let o = head_opened (job_dictionary job) file had left buffer r b coding start some h in
       let begun = written o.m.elements (subst (Spells Little o.m.elements) (sym o.group_is) o.spelled) o.meta in
       subst (λ (x : Ending). Worked job file left held holds x) (sym is)
       (file_unheaded job is_file file left held r o (alike coding ∙ keeps) (maker coding) holds (subst (AppendsFront held holds) (head_is r o uid (uid_is o.m o.uid_is)) begun))
 
-  module _ (mid : Option (List ℕ)) (buffer : List ℕ) (x : OpenedFile) (h : OpenedAs target had left held mid buffer x) where
-    abbrev pub opened_here : Opened h.reading file
-    opened_here = head_opened file had left buffer h.reading x.begun x.coding x.start some h.head
+  module _ (mid : Option (List ℕ)) (buffer : List ℕ) (x : OpenedFile) (h : OpenedAs (job_dictionary job) target had left held mid buffer x) where
+    abbrev pub opened_here : Opened (job_dictionary job) h.reading file
+    opened_here = head_opened (job_dictionary job) file had left buffer h.reading x.begun x.coding x.start some h.head
 
     abbrev pub keeps_here : refuses_change job x.coding ≡ false
     keeps_here = alike x.coding ∙ h.keeps

@@ -4,7 +4,7 @@ use Rattle.std.specs.Prelude.{◌⊎◌, ◌==◌, ◌&&◌}
 use Rattle.std.proofs.lemmas.Bool.Decides.{nat_tests}
 use Rattle.dcm_base.specs.declared.syntax.Coding.{Coding}
 use Rattle.dcm_base.specs.declared.syntax.Syntax.{Syntax}
-use Rattle.dcm_base.specs.declared.syntax.Syntax.TheVariants.{Little}
+use Rattle.dcm_base.specs.Syntax.{Little}
 use Rattle.dcm_base.specs.declared.tag.Tag.{Tag}
 use Rattle.dcm_base.specs.declared.vr.Vr.{Vr}
 use Rattle.dcm_base.specs.declared.vr.Vr.TheVariants.{UI}
@@ -20,6 +20,7 @@ use Rattle.dcm_base.specs.Stop.{complete}
 use Rattle.dcm_base.specs.Tag.{is_tag}
 use Rattle.dcm_base.specs.Tree.{Trees, no_tree, leaf, sequence, fragments}
 use Rattle.dcm_base.proofs.Conversions.NormalForm.{leaf_again}
+use Rattle.dcm_base.specs.declared.lookup.Dictionary.{Dictionary}
 use Rattle.dcm_edit.specs.Edit.{Edit, edited}
 use Rattle.dcm_edit.specs.Repeating.{EraseByNoNumber}
 use Rattle.dcm_edit.proofs.ReadBack.EditedAscends.{edited_ascends}
@@ -116,7 +117,7 @@ zero_or_three : (n : ℕ) (lines : List ℕ) → n ≡ status_of_lines lines →
 zero_or_three n [] e = inl e
 zero_or_three n (c ∷ lines) e = inr e
 
-module _ (edits : List Edit) (input : List ℕ) (a : Answer) (m : Meta) (coding : Coding) (f : Front) (h : IsModified edits input a m coding f) where
+module _ (d : Dictionary) (edits : List Edit) (input : List ℕ) (a : Answer) (m : Meta) (coding : Coding) (f : Front) (h : IsModified d edits input a m coding f) where
   abbrev s : Syntax
   s = coding.syntax
 
@@ -130,37 +131,37 @@ module _ (edits : List Edit) (input : List ℕ) (a : Answer) (m : Meta) (coding 
   source = file (meta_again m m.uid) coding again complete
 
   written : a.output ≡ written_file m.uid s m (edited edits f)
-  written = ap (λ (x : Answer). x.output) h.answers.answer_is ∙ ap (λ (x : Source). (answer (modify edits) x).output) h.source_is
+  written = ap (λ (x : Answer). x.output) h.answers.answer_is ∙ ap (λ (x : Source). (answer (modify d edits) x).output) h.source_is
 
   set_written : drop (set_at group) a.output ≡ recode s (edited edits f)
   set_written =
-      let r = was_read edits input a m coding f h in
-      ap (drop (set_at group)) written ∙ behind_group m.preamble PREFIX group (recode s (edited edits f)) (long input m r.group coding r.head) refl
+      let r = was_read d edits input a m coding f h in
+      ap (drop (set_at group)) written ∙ behind_group m.preamble PREFIX group (recode s (edited edits f)) (long input m r.group r.head.named r.head.head) refl
 
   -- the output is read in one way by dcmodify too
-  read_again : FileReads (modify edits) a.output source
+  read_again : FileReads (modify d edits) a.output source
   read_again =
-      let r = modified_reads edits input a m coding f h in
-      let k = modifies edits input a m coding f h in
+      let r = modified_reads d edits input a m coding f h in
+      let k = modifies d edits input a m coding f h in
       opened (meta_again m m.uid) group coding again complete r.head refl
-      (subst (λ (bytes : List ℕ). Reads ascending_bar s (set_at group) bytes again complete) (sym set_written) (edited_ascends k.words edits k.mean s k.start k.bytes f k.begins k.are_bytes k.reads (set_at group) k.within))
+      (subst (λ (bytes : List ℕ). Reads ascending_bar s (set_at group) bytes again complete) (sym set_written) (edited_ascends s k.words edits k.mean k.start k.bytes f k.begins k.are_bytes k.reads (set_at group) k.within))
       refl
 
-  answered : (b : Answer) → Answers (modify edits) a.output b → b ≡ answer (modify edits) source
-  answered b y = y.answer_is ∙ ap (answer (modify edits)) (one_source (modify edits) a.output y.source source y.reads read_again)
+  answered : (b : Answer) → Answers (modify d edits) a.output b → b ≡ answer (modify d edits) source
+  answered b y = y.answer_is ∙ ap (answer (modify d edits)) (one_source (modify d edits) a.output y.source source y.reads read_again)
 
-  same_output : EraseByNoNumber edits → (answer (modify edits) source).output ≡ a.output
+  same_output : EraseByNoNumber edits → (answer (modify d edits) source).output ≡ a.output
   same_output none =
-      let r = was_read edits input a m coding f h in
-      let k = modifies edits input a m coding f h in
-      ap (λ (bytes : List ℕ). m.preamble ++ PREFIX ++ bytes ++ recode s (edited edits again)) (group_twice m.uid m.elements (group_spelled input m r.group coding r.head).1)
-      ∙ ap (λ (bytes : List ℕ). m.preamble ++ PREFIX ++ group ++ bytes) (edited_twice k.words edits k.mean none s k.start k.bytes f k.begins k.are_bytes k.reads)
+      let r = was_read d edits input a m coding f h in
+      let k = modifies d edits input a m coding f h in
+      ap (λ (bytes : List ℕ). m.preamble ++ PREFIX ++ bytes ++ recode s (edited edits again)) (group_twice m.uid m.elements (group_spelled input m r.group r.head.named r.head.head).1)
+      ∙ ap (λ (bytes : List ℕ). m.preamble ++ PREFIX ++ group ++ bytes) (edited_twice s k.words edits k.mean none k.start k.bytes f k.begins k.are_bytes k.reads)
       ∙ sym written
 
-pub modified_twice : (edits : List Edit) (input : List ℕ) (a b : Answer) (m : Meta) (coding : Coding) (f : Front) → IsModified edits input a m coding f → EraseByNoNumber edits → Answers (modify edits) a.output b
+pub modified_twice : (d : Dictionary) (edits : List Edit) (input : List ℕ) (a b : Answer) (m : Meta) (coding : Coding) (f : Front) → IsModified d edits input a m coding f → EraseByNoNumber edits → Answers (modify d edits) a.output b
     → (b.output ≡ a.output) × ((b.status ≡ 0) ⊎ (b.status ≡ 3))
-modified_twice edits input a b m coding f h none y =
-    let is = answered edits input a m coding f h b y in (
-      ap (λ (x : Answer). x.output) is ∙ same_output edits input a m coding f h none,
+modified_twice d edits input a b m coding f h none y =
+    let is = answered d edits input a m coding f h b y in (
+      ap (λ (x : Answer). x.output) is ∙ same_output d edits input a m coding f h none,
       zero_or_three b.status (unplaced_lines 1 edits (normal_front coding.syntax (edited edits f))) (ap (λ (x : Answer). x.status) is),
     )

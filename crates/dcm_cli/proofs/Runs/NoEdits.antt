@@ -3,27 +3,28 @@ use Rattle.std.proofs.Common.{◌≡◌, ◌∙◌, subst, ℕ, List, [], drop, 
 use Rattle.dcm_base.specs.Stop.{complete, refused}
 use Rattle.dcm_base.proofs.DataSets.OwnSyntax.{own_reads}
 use Rattle.dcm_base.proofs.DataSets.InOrder.{unbarred_reads}
+use Rattle.dcm_base.specs.declared.lookup.Dictionary.{Dictionary}
 use Rattle.dcm_words.specs.Words.{convert, modify}
 use Rattle.dcm_cli.specs.Answer.{Source, unopened, file as a_file, alone, answer, set_at, FileReads, not_opened, not_changed, opened}
 use Rattle.dcm_cli.specs.NoEdits.{IsInOrder, NoEditsConvert}
 
-same_read : (input : List ℕ) (source : Source) → FileReads (modify []) input source → IsInOrder source → FileReads (convert None) input source
-same_read input source (not_opened fault offset h e) order = not_opened fault offset h e
-same_read input source (not_changed m group coding h r e) order = absurd (cc)
-same_read input source (opened m group coding set stop h r reads e) order =
+same_read : (d : Dictionary) (input : List ℕ) (source : Source) → FileReads (modify d []) input source → IsInOrder source → FileReads (convert d None) input source
+same_read d input source (not_opened fault offset h e) order = not_opened fault offset h e
+same_read d input source (not_changed m group coding h r e) order = absurd (cc)
+same_read d input source (opened m group coding set stop h r reads e) order =
     opened m group coding set stop h refl
     (own_reads coding.syntax (set_at group) (drop (set_at group) input) set stop (unbarred_reads coding.syntax (set_at group) (drop (set_at group) input) set stop (subst IsInOrder e order) reads)) e
 
-same_answer : (source : Source) → answer (modify []) source ≡ answer (convert None) source
-same_answer (unopened fault offset) = refl
-same_answer (a_file m coding set complete) = refl
-same_answer (a_file m coding set (refused fault offset)) = refl
-same_answer (alone syntax set complete) = refl
-same_answer (alone syntax set (refused fault offset)) = refl
+same_answer : (d : Dictionary) (source : Source) → answer (modify d []) source ≡ answer (convert d None) source
+same_answer d (unopened fault offset) = refl
+same_answer d (a_file m coding set complete) = refl
+same_answer d (a_file m coding set (refused fault offset)) = refl
+same_answer d (alone syntax set complete) = refl
+same_answer d (alone syntax set (refused fault offset)) = refl
 
 pub no_edits_convert : NoEditsConvert
-no_edits_convert input a modified order = record {
+no_edits_convert d input a modified order = record {
   source = modified.source;
-  reads = same_read input modified.source modified.reads order;
-  answer_is = modified.answer_is ∙ same_answer modified.source;
+  reads = same_read d input modified.source modified.reads order;
+  answer_is = modified.answer_is ∙ same_answer d modified.source;
 }

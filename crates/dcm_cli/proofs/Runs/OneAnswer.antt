@@ -11,11 +11,13 @@ use Rattle.dcm_base.specs.Reads.{INPUT_LIMIT, Reads}
 use Rattle.dcm_base.specs.Stop.{Stop}
 use Rattle.dcm_base.specs.Build as build
 use Rattle.dcm_base.proofs.DataSets.OneAnswer.{reads_once}
+use Rattle.dcm_base.specs.Syntax.{read_by, coding_by}
+use Rattle.dcm_base.specs.declared.lookup.Dictionary.{Dictionary}
 use Rattle.dcm_head.proofs.HeadReading.State.{described}
 use Rattle.dcm_head.proofs.HeadReading.Answers.{told}
 use Rattle.dcm_stream.proofs.Steps.ReadsSome.{plain, in_order, for_target}
 use Rattle.dcm_words.specs.Words.{Job, dump, convert, build as building, modify}
-use Rattle.dcm_cli.specs.Answer.{Answer, Answers, Source, unopened, file as a_file, alone, answer, built_answer, set_at, job_bar, target_syntax, refuses_change, FileReads, not_opened, not_changed, opened, AloneReads}
+use Rattle.dcm_cli.specs.Answer.{job_dictionary, HeadIs, Answer, Answers, Source, unopened, file as a_file, alone, answer, built_answer, set_at, job_bar, target_syntax, refuses_change, FileReads, not_opened, not_changed, opened, AloneReads}
 use Rattle.dcm_cli.proofs.Passes.MetaHeads.{group_spelled}
 use Rattle.dcm_cli.proofs.Runs.OneSource.{one_source}
 
@@ -29,52 +31,54 @@ alone_once syntax bytes x y h k =
     let one = reads_once no_bar syntax 0 bytes h.set k.set h.stop k.stop h.reads k.reads in
     h.source_is ∙ ap (λ (f : Front). alone syntax f h.stop) one.0 ∙ ap (λ (stop : Stop). alone syntax k.set stop) one.1 ∙ sym k.source_is
 
-dumped_once : (mode : Mode) (bare : Option Syntax) (input : List ℕ) (a b : Answer) → Answers (dump mode bare) input a → Answers (dump mode bare) input b → a ≡ b
-dumped_once mode None input a b x y = alike (dump mode None) a b x.source y.source x.answer_is y.answer_is (one_source (dump mode None) input x.source y.source x.reads y.reads)
-dumped_once mode (Some s) input a b x y = alike (dump mode (Some s)) a b x.source y.source x.answer_is y.answer_is (alone_once s input x.source y.source x.reads y.reads)
+dumped_once : (d : Dictionary) (mode : Mode) (bare : Option Syntax) (input : List ℕ) (a b : Answer) → Answers (dump d mode bare) input a → Answers (dump d mode bare) input b → a ≡ b
+dumped_once d mode None input a b x y = alike (dump d mode None) a b x.source y.source x.answer_is y.answer_is (one_source (dump d mode None) input x.source y.source x.reads y.reads)
+dumped_once d mode (Some s) input a b x y = alike (dump d mode (Some s)) a b x.source y.source x.answer_is y.answer_is (alone_once (read_by d s) input x.source y.source x.reads y.reads)
 
 pub one_answer : (job : Job) (input : List ℕ) (a b : Answer) → Answers job input a → Answers job input b → a ≡ b
-one_answer (dump mode bare) input a b x y = dumped_once mode bare input a b x y
-one_answer (convert target) input a b x y = alike (convert target) a b x.source y.source x.answer_is y.answer_is (one_source (convert target) input x.source y.source x.reads y.reads)
+one_answer (dump d mode bare) input a b x y = dumped_once d mode bare input a b x y
+one_answer (convert d target) input a b x y = alike (convert d target) a b x.source y.source x.answer_is y.answer_is (one_source (convert d target) input x.source y.source x.reads y.reads)
 one_answer (building limit) input a b x y = x ∙ sym y
-one_answer (modify edits) input a b x y = alike (modify edits) a b x.source y.source x.answer_is y.answer_is (one_source (modify edits) input x.source y.source x.reads y.reads)
+one_answer (modify d edits) input a b x y = alike (modify d edits) a b x.source y.source x.answer_is y.answer_is (one_source (modify d edits) input x.source y.source x.reads y.reads)
 
 -- ---- at least one
 
 set_read : (job : Job) (coding : Coding) (start : ℕ) (bytes : List ℕ) → start ≤ INPUT_LIMIT → (f : Front) × (stop : Stop) × Reads (job_bar job coding) coding.syntax start bytes f stop
-set_read (dump mode bare) coding start bytes le = plain coding.syntax start bytes le
-set_read (convert target) coding start bytes le = for_target (target_syntax target coding) coding.syntax start bytes le
+set_read (dump d mode bare) coding start bytes le = plain coding.syntax start bytes le
+set_read (convert d target) coding start bytes le = for_target (target_syntax target coding) coding.syntax start bytes le
 set_read (building limit) coding start bytes le = plain coding.syntax start bytes le
-set_read (modify edits) coding start bytes le = in_order coding.syntax start bytes le
+set_read (modify d edits) coding start bytes le = in_order coding.syntax start bytes le
 
 module _ (job : Job) (bytes : List ℕ) where
-  behind_group : (m : Meta) (group : List ℕ) (coding : Coding) → MetaReads bytes (begins m group coding) → refuses_change job coding ≡ false
+  behind_group : (m : Meta) (group : List ℕ) (coding : Coding) → HeadIs (job_dictionary job) bytes m group coding → refuses_change job coding ≡ false
       → (f : Front) × (stop : Stop) × Reads (job_bar job coding) coding.syntax (set_at group) (drop (set_at group) bytes) f stop → (source : Source) × FileReads job bytes source
   behind_group m group coding head kept (f, stop, reads) = (a_file m coding f stop, opened m group coding f stop head kept reads refl)
 
-  by_change : (m : Meta) (group : List ℕ) (coding : Coding) → MetaReads bytes (begins m group coding) → (changes : Bool) → refuses_change job coding ≡ changes → (source : Source) × FileReads job bytes source
+  by_change : (m : Meta) (group : List ℕ) (coding : Coding) → HeadIs (job_dictionary job) bytes m group coding → (changes : Bool) → refuses_change job coding ≡ changes → (source : Source) × FileReads job bytes source
   by_change m group coding head true e = (unopened CannotChange (set_at group), not_changed m group coding head e refl)
   by_change m group coding head false e =
-      let small = (group_spelled bytes m group coding head).2 in
+      let small = (group_spelled bytes m group head.named head.head).2 in
       behind_group m group coding head e (set_read job coding (set_at group) (drop (set_at group) bytes) (omega (arith, small)))
 
   by_head : (said : MetaAnswer) → MetaReads bytes said → (source : Source) × FileReads job bytes source
   by_head (refused fault offset) head = (unopened fault offset, not_opened fault offset head refl)
-  by_head (begins m group coding) head = by_change m group coding head (refuses_change job coding) refl
+  by_head (begins m group named) head =
+      let coding = coding_by (job_dictionary job) named in
+      by_change m group coding (record { named = named; head = head; coding_is = refl }) (refuses_change job coding) refl
 
   file_read : (source : Source) × FileReads job bytes source
   file_read = let t = told _ bytes (described bytes) in by_head t.answer t.reads
 
-alone_read : (mode : Mode) (s : Syntax) (input : List ℕ) → (f : Front) × (stop : Stop) × Reads no_bar s 0 input f stop → (a : Answer) × Answers (dump mode (Some s)) input a
-alone_read mode s input (f, stop, reads) =
-    (answer (dump mode (Some s)) (alone s f stop), record { source = alone s f stop; reads = record { set = f; stop = stop; reads = reads; source_is = refl }; answer_is = refl })
+alone_read : (d : Dictionary) (mode : Mode) (s : Syntax) (input : List ℕ) → (f : Front) × (stop : Stop) × Reads no_bar (read_by d s) 0 input f stop → (a : Answer) × Answers (dump d mode (Some s)) input a
+alone_read d mode s input (f, stop, reads) =
+    (answer (dump d mode (Some s)) (alone (read_by d s) f stop), record { source = alone (read_by d s) f stop; reads = record { set = f; stop = stop; reads = reads; source_is = refl }; answer_is = refl })
 
-dumped : (mode : Mode) (bare : Option Syntax) (input : List ℕ) → (a : Answer) × Answers (dump mode bare) input a
-dumped mode None input = let x = file_read (dump mode None) input in (answer (dump mode None) x.0, record { source = x.0; reads = x.1; answer_is = refl })
-dumped mode (Some s) input = alone_read mode s input (plain s 0 input (omega arith))
+dumped : (d : Dictionary) (mode : Mode) (bare : Option Syntax) (input : List ℕ) → (a : Answer) × Answers (dump d mode bare) input a
+dumped d mode None input = let x = file_read (dump d mode None) input in (answer (dump d mode None) x.0, record { source = x.0; reads = x.1; answer_is = refl })
+dumped d mode (Some s) input = alone_read d mode s input (plain (read_by d s) 0 input (omega arith))
 
 pub some_answer : (job : Job) (input : List ℕ) → (a : Answer) × Answers job input a
-some_answer (dump mode bare) input = dumped mode bare input
-some_answer (convert target) input = let x = file_read (convert target) input in (answer (convert target) x.0, record { source = x.0; reads = x.1; answer_is = refl })
+some_answer (dump d mode bare) input = dumped d mode bare input
+some_answer (convert d target) input = let x = file_read (convert d target) input in (answer (convert d target) x.0, record { source = x.0; reads = x.1; answer_is = refl })
 some_answer (building limit) input = (built_answer (build.built limit input), refl)
-some_answer (modify edits) input = let x = file_read (modify edits) input in (answer (modify edits) x.0, record { source = x.0; reads = x.1; answer_is = refl })
+some_answer (modify d edits) input = let x = file_read (modify d edits) input in (answer (modify d edits) x.0, record { source = x.0; reads = x.1; answer_is = refl })

@@ -5,6 +5,7 @@ use Rattle.dcm_base.specs.Build as build
 use Rattle.dcm_base.specs.Device.{AppendsFront}
 use Rattle.dcm_base.specs.Front.{Front}
 use Rattle.dcm_base.specs.Stop.{Stop, complete, refused}
+use Rattle.dcm_base.specs.declared.lookup.Dictionary.{Dictionary}
 use Rattle.dcm_edit.specs.Edit.{Edit}
 use Rattle.dcm_words.specs.Words.{Job, dump, convert, build as building, modify}
 use Rattle.dcm_words.specs.declared.job.Job.{Job as RunJob}
@@ -99,14 +100,14 @@ module _ (limit : ℕ) (input out : List ℕ) (verdict : Verdict) (h : BuildEnds
   built_given = by_told (build.built limit input).told refl
 
 -- a file that was edited
-edits_given : (edits : List Edit) (input out : List ℕ) (verdict : Verdict) → length edits ≤ 64 → ReadEnds (modify edits) input out verdict → Given (modify edits) input out verdict
-edits_given edits input out verdict few h = reads_given (modify edits) input out verdict (λ set. few_edits 64 edits set few) (λ a reads. reads) h
+edits_given : (d : Dictionary) (edits : List Edit) (input out : List ℕ) (verdict : Verdict) → length edits ≤ 64 → ReadEnds (modify d edits) input out verdict → Given (modify d edits) input out verdict
+edits_given d edits input out verdict few h = reads_given (modify d edits) input out verdict (λ set. few_edits 64 edits set few) (λ a reads. reads) h
 
 given : {A : Type 0} (job : RunJob A) → IsMeant (job_of job) → (input out : List ℕ) (verdict : Verdict) → Answered (job_of job) input out verdict → Given (job_of job) input out verdict
-given (Dump d) meant input out verdict h = reads_given (dump d.mode d.bare) input out verdict few_without (λ a reads. reads) h
-given (Convert c) meant input out verdict h = reads_given (convert c.target) input out verdict few_without (λ a reads. reads) h
+given (Dump d) meant input out verdict h = reads_given (dump d.dictionary d.mode d.bare) input out verdict few_without (λ a reads. reads) h
+given (Convert c) meant input out verdict h = reads_given (convert c.dictionary c.target) input out verdict few_without (λ a reads. reads) h
 given (Build b) meant input out verdict h = built_given b.limit input out verdict h
-given (Modify edits) meant input out verdict h = edits_given edits input out verdict (are_few edits meant) h
+given (Modify m) meant input out verdict h = edits_given m.dictionary m.edits input out verdict (are_few m.dictionary m.edits meant) h
 
 module _ {A : Type 0} (job : RunJob A) (meant : IsMeant (job_of job)) (input : List ℕ) (left held worked holds told tells : Option (List ℕ)) (room : Option ℕ) (r_old r_new w_old w_mid w_new e_old e_new : Bool) (ending after : Ending) (status : ℕ)
     (kept : holds ≡ worked) (flushed : FlushedAs ending after w_mid w_new room) (unread : TellsUnread r_old r_new ending) (failed : TellsOutput w_old w_mid ending)

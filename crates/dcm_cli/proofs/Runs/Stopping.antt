@@ -8,6 +8,8 @@ use Rattle.dcm_base.specs.declared.syntax.Syntax.{Syntax}
 use Rattle.dcm_base.specs.Atoms.{Atom}
 use Rattle.dcm_base.specs.Header.{set_header}
 use Rattle.dcm_base.specs.Steps.{outputs}
+use Rattle.dcm_base.specs.Syntax.{read_by}
+use Rattle.dcm_base.specs.declared.lookup.Dictionary.{Dictionary}
 use Rattle.dcm_head.specs.declared.head.Head.{Head}
 use Rattle.dcm_head.specs.MetaReading.{Reading as HeadReading}
 use Rattle.dcm_stream.specs.declared.token.Bar.{Bar}
@@ -21,7 +23,7 @@ use Rattle.dcm_cli.specs.declared.ending.Ending.TheVariants.{Unread, Output}
 use Rattle.dcm_cli.specs.declared.ending.HeadEnding.TheVariants as heads
 use Rattle.dcm_cli.specs.declared.head.Begun.{Begun}
 use Rattle.dcm_cli.specs.declared.rewrite.Opened.{Opened as OpenedFile}
-use Rattle.dcm_cli.specs.Answer.{refuses_change, uid_of_syntax}
+use Rattle.dcm_cli.specs.Answer.{job_dictionary, refuses_change, uid_of_syntax}
 use Rattle.dcm_cli.specs.Opening.{OpenedAs}
 use Rattle.dcm_cli.specs.Pass.{Begins, BehindBegun, Pumps, head_read, set_bytes, unread}
 use Rattle.dcm_cli.specs.Run.{Worked, answered, could_not_read, could_not_write, verdict_of_stop}
@@ -84,7 +86,7 @@ module _ {S : Type 0} (bars : S → Head → Option Bar) (step : S → Atom → 
   pub as_unread : BehindBegun bars step writes had begun first s held (prepend_known stops.last.piece left) s written_before (Unread read_before)
   as_unread = record { more = stops.more; given = stops.last.given; ends = unread stops.going refl refl }
 
-module _ (job : Job) (is_file : reads_file job ≡ true) (file : List ℕ) (r : HeadReading) (o : Opened r file) (kept : refuses_change job o.coding ≡ false) (k : FileMaker job o.coding) where
+module _ (job : Job) (is_file : reads_file job ≡ true) (file : List ℕ) (r : HeadReading) (o : Opened (job_dictionary job) r file) (kept : refuses_change job o.coding ≡ false) (k : FileMaker job o.coding) where
   abbrev start : ℕ
   start = 132 + length o.group
 
@@ -111,29 +113,30 @@ module _ (job : Job) (is_file : reads_file job ≡ true) (file : List ℕ) (r : 
 
 -- a file that is written again
 pub opened_stops : (target : Option Syntax) (job : Job) → reads_file job ≡ true → (maker : (coding : Coding) → FileMaker job coding) (file : List ℕ) (had left after held mid : Option (List ℕ)) (buffer : List ℕ) (x : OpenedFile)
-    → had ≡ Some file → (h : OpenedAs target had left held mid buffer x) → refuses_change job x.coding ≡ false → HeadStops had left
+    → had ≡ Some file → (h : OpenedAs (job_dictionary job) target had left held mid buffer x) → refuses_change job x.coding ≡ false → HeadStops had left
     → BehindStops (maker x.coding).maker.bars (maker x.coding).maker.step (start_of x.coding.syntax x.start) (maker x.coding).maker.first (set_bytes x.begun buffer) x.begun.is_over left after → Stops job file after
 opened_stops target job is_file maker file had left after held mid buffer x some h kept head stops =
-    let o = head_opened file had left buffer h.reading x.begun x.coding x.start some h.head in
+    let o = head_opened (job_dictionary job) file had left buffer h.reading x.begun x.coding x.start some h.head in
     let k = (maker x.coding).maker in
     file_stops job is_file file h.reading o kept (maker x.coding) had left after x.begun buffer h.head.read some h.head.given h.head.begins head
     (subst (λ (n : ℕ). BehindStops k.bars k.step (start_of x.coding.syntax n) k.first (set_bytes x.begun buffer) x.begun.is_over left after) (h.head.start_is ∙ o.place_is) stops)
 
 -- ---- a data set alone
 
-pub alone_stops : (mode : Mode) (s : Syntax) (file : List ℕ) (had left : Option (List ℕ)) → had ≡ Some file → SetStops bars_nothing dump_step (start_of s 0) (dump_start mode) [] had left → Stops (dump mode (Some s)) file left
-alone_stops mode s file had left some stops =
+pub alone_stops : (d : Dictionary) (mode : Mode) (bare : Syntax) (file : List ℕ) (had left : Option (List ℕ)) → had ≡ Some file → SetStops bars_nothing dump_step (start_of (read_by d bare) 0) (dump_start d mode) [] had left → Stops (dump d mode (Some bare)) file left
+alone_stops d mode bare file had left some stops =
+    let s : Syntax = read_by d bare in
     let mid : Option (List ℕ) = append_known None (set_header (uid_of_syntax s)) in
     let later : Option (List ℕ) = prepend_known stops.last.piece left in
-    let out : Option (List ℕ) = append_known mid (outputs (steps bars_nothing dump_step) (steps_write bars_nothing dump_step dump_writes) (start_of s 0, dump_start mode) stops.more) in
+    let out : Option (List ℕ) = append_known mid (outputs (steps bars_nothing dump_step) (steps_write bars_nothing dump_step dump_writes) (start_of s 0, dump_start d mode) stops.more) in
     let n = next_offset (start_of s 0) + length stops.more in
-    let pumps : Pumps bars_nothing dump_step dump_writes had (start_of s 0) (dump_start mode) mid later (dump_start mode) out (Unread n) = record { read = stops.more; given = stops.last.given; ends = unread stops.going refl refl } in
-    stops_of (dump mode (Some s)) file stops.last.piece left None out n (Unread n) refl stops.last.small
-    (alone_worked mode s file later None had mid (dump_start mode) out (Unread n) some refl pumps)
+    let pumps : Pumps bars_nothing dump_step dump_writes had (start_of s 0) (dump_start d mode) mid later (dump_start d mode) out (Unread n) = record { read = stops.more; given = stops.last.given; ends = unread stops.going refl refl } in
+    stops_of (dump d mode (Some bare)) file stops.last.piece left None out n (Unread n) refl stops.last.small
+    (alone_worked d mode bare file later None had mid (dump_start d mode) out (Unread n) some refl pumps)
 
 -- of which nothing was read
-pub alone_unread : (mode : Mode) (s : Syntax) (file : List ℕ) (had : Option (List ℕ)) → had ≡ Some file → Stops (dump mode (Some s)) file had
-alone_unread mode s file had some = alone_stops mode s file had had some (record { more = []; going = refl; last = no_piece had had had [] (read_nothing had) refl })
+pub alone_unread : (d : Dictionary) (mode : Mode) (bare : Syntax) (file : List ℕ) (had : Option (List ℕ)) → had ≡ Some file → Stops (dump d mode (Some bare)) file had
+alone_unread d mode bare file had some = alone_stops d mode bare file had had some (record { more = []; going = refl; last = no_piece had had had [] (read_nothing had) refl })
 
 -- ---- lines
 

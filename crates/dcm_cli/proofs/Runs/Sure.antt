@@ -17,6 +17,9 @@ use Rattle.dcm_edit.specs.Edit.{Edit}
 use Rattle.dcm_edit.specs.Meaning.{AreMeant}
 use Rattle.dcm_words.specs.Words.{Job, dump, convert, build as building, modify}
 use Rattle.dcm_base.proofs.DataSets.OneAnswer.{reads_once}
+use Rattle.dcm_base.specs.Syntax.{read_by, coding_by}
+use Rattle.dcm_base.specs.declared.lookup.Dictionary.{Dictionary}
+use Rattle.dcm_base.specs.declared.lookup.Dictionary.TheVariants.{Extract}
 use Rattle.dcm_head.specs.declared.meta_read.MetaEnd.{MetaEnd}
 use Rattle.dcm_head.specs.MetaReading.{Reading, HasEnded, Says, meta_finished}
 use Rattle.dcm_head.proofs.HeadReading.State.{described}
@@ -26,12 +29,12 @@ use Rattle.dcm_stream.specs.Reading.{finish}
 use Rattle.dcm_words.specs.declared.job.Job.{Job as RunJob}
 use Rattle.dcm_words.specs.declared.job.Job.TheVariants.{Dump, Convert, Build, Modify}
 use Rattle.dcm_words.specs.Plans.{job_of}
-use Rattle.dcm_cli.specs.Answer.{Answer, Answers, Sure, ReadAnswers, Source, answer, going_on, job_bar, refuses_change, file_output, uid_of_syntax, AloneReads, AloneSure, FileReads, FileSure, not_opened, not_changed, opened as was_opened, before_set, within_set}
+use Rattle.dcm_cli.specs.Answer.{job_dictionary, HeadIs, Answer, Answers, Sure, ReadAnswers, Source, answer, going_on, job_bar, refuses_change, file_output, uid_of_syntax, AloneReads, AloneSure, FileReads, FileSure, not_opened, not_changed, opened as was_opened, before_set, within_set}
 use Rattle.dcm_cli.specs.Pass.{head_read}
 use Rattle.dcm_cli.specs.Run.{IsMeant}
 use Rattle.dcm_cli.proofs.Passes.Makers.{Maker, dumper, made, made_output, last_output, more_made, waits_as, made_behind}
 use Rattle.dcm_cli.proofs.Passes.Sets.{all_read, going_back}
-use Rattle.dcm_cli.proofs.Passes.MetaHeads.{opened, one_head, ended_stays, finished_same, group_spelled}
+use Rattle.dcm_cli.proofs.Passes.MetaHeads.{opened, same_head, ended_stays, finished_same, group_spelled}
 use Rattle.dcm_cli.proofs.Runs.LinesGrow.{sure_lines_grow, answer_output}
 use Rattle.dcm_cli.proofs.Passes.Files.{FileMaker, file_dumper, file_encoder}
 use Rattle.dcm_cli.proofs.Passes.MakesEdits.{file_editor}
@@ -73,14 +76,15 @@ module _ {bar : Bar} {text : Front → List ℕ} (m : Maker bar text) (s : Synta
 behind : (header whole part rest : List ℕ) → whole ≡ part ++ rest → header ++ whole ≡ (header ++ part) ++ rest
 behind header whole part rest e = ap (λ (bs : List ℕ). header ++ bs) e ∙ sym (append_assoc header part rest)
 
-pub alone_grows : (mode : Mode) (s : Syntax) (p later out : List ℕ) (a : Answer) → AloneSure (dump mode (Some s)) s p out → ReadAnswers (dump mode (Some s)) (p ++ later) a
+pub alone_grows : (d : Dictionary) (mode : Mode) (bare : Syntax) (p later out : List ℕ) (a : Answer) → AloneSure (dump d mode (Some bare)) (read_by d bare) p out → ReadAnswers (dump d mode (Some bare)) (p ++ later) a
     → (rest : List ℕ) × (a.output ≡ out ++ rest)
-alone_grows mode s p later out a sure x =
+alone_grows d mode bare p later out a sure x =
+    let s : Syntax = read_by d bare in
     let r : AloneReads s (p ++ later) x.source = x.reads in
-    let more = set_grows (dumper mode) s 0 (omega arith) p later sure.set r.set sure.stop r.stop sure.reads sure.open_end r.reads in (
+    let more = set_grows (dumper d mode) s 0 (omega arith) p later sure.set r.set sure.stop r.stop sure.reads sure.open_end r.reads in (
       more.0,
-      ap (λ (b : Answer). b.output) x.answer_is ∙ ap (λ (z : Source). (answer (dump mode (Some s)) z).output) r.source_is
-          ∙ behind (set_header (uid_of_syntax s)) (dump_front mode 0 r.set) (dump_front mode 0 (going_on sure.set)) more.0 more.1
+      ap (λ (b : Answer). b.output) x.answer_is ∙ ap (λ (z : Source). (answer (dump d mode (Some bare)) z).output) r.source_is
+          ∙ behind (set_header (uid_of_syntax s)) (dump_front d mode 0 r.set) (dump_front d mode 0 (going_on sure.set)) more.0 more.1
           ∙ ap (λ (bs : List ℕ). bs ++ more.0) (sym sure.out_is),
     )
 
@@ -93,29 +97,29 @@ pub begun_alike : (m n : Meta) (group others : List ℕ) (coding other : Coding)
 begun_alike m n group others coding other e = (cc, cc, cc)
 
 -- a head that two bytes have ended stays
-module _ (p later : List ℕ) (m : Meta) (group : List ℕ) (coding : Coding) (reads : MetaReads p (begins m group coding)) (less : 132 + length group < length p) where
-  stays_by : (answer : MetaAnswer) → answer ≡ begins m group coding → Says (meta_finished (head_read p)) answer
-      → ((meta_undecided (length p) answer ≡ true) × ((head_read p).end ≡ None)) ⊎ ((meta_undecided (length p) answer ≡ false) × (end : MetaEnd) × ((head_read p).end ≡ Some end)) → MetaReads (p ++ later) (begins m group coding)
+module _ (p later : List ℕ) (m : Meta) (group : List ℕ) (named : Coding) (reads : MetaReads p (begins m group named)) (less : 132 + length group < length p) where
+  stays_by : (answer : MetaAnswer) → answer ≡ begins m group named → Says (meta_finished (head_read p)) answer
+      → ((meta_undecided (length p) answer ≡ true) × ((head_read p).end ≡ None)) ⊎ ((meta_undecided (length p) answer ≡ false) × (end : MetaEnd) × ((head_read p).end ≡ Some end)) → MetaReads (p ++ later) (begins m group named)
   stays_by answer is said (inl x) = absurd (apart (132 + length group) (length p) less (ap (meta_undecided (length p)) (sym is) ∙ x.0))
   stays_by answer is said (inr x) =
       let r : Reading = head_read p in
       let fin : meta_finished r ≡ r = finished_same r x.1 x.2 in
-      let says : Says r (begins m group coding) = subst (λ (y : Reading). Says y (begins m group coding)) fin (subst (Says (meta_finished r)) is said) in
+      let says : Says r (begins m group named) = subst (λ (y : Reading). Says y (begins m group named)) fin (subst (Says (meta_finished r)) is said) in
       let still : head_read (p ++ later) ≡ r = ended_stays r p later x.1 refl x.2 in
-      one_head r p (p ++ later) m group coding reads says (opened r (p ++ later) (ap meta_finished still ∙ fin) (subst HasEnded (sym says.0) tt))
+      same_head Extract r p (p ++ later) m group named reads says (opened Extract r (p ++ later) (ap meta_finished still ∙ fin) (subst HasEnded (sym says.0) tt))
 
-  stays : MetaReads (p ++ later) (begins m group coding)
+  stays : MetaReads (p ++ later) (begins m group named)
   stays =
       let t = told (head_read p) p (described p) in
-      stays_by t.answer (one_meta p t.answer (begins m group coding) t.reads reads) t.said t.going
+      stays_by t.answer (one_meta p t.answer (begins m group named) t.reads reads) t.said t.going
 
-  module _ (job : Job) (k : FileMaker job coding) where
+  module _ (job : Job) (coding : Coding) (coding_is : coding ≡ coding_by (job_dictionary job) named) (k : FileMaker job coding) where
     abbrev SetReads : List ℕ → Front → Stop → Type 0
     SetReads bytes f stop = Reads (job_bar job coding) coding.syntax (132 + length group) (drop (132 + length group) bytes) f stop
 
     set_within : (f g : Front) (stop end : Stop) → SetReads p f stop → is_undecided (Some stop) ≡ true → SetReads (p ++ later) g end → (rest : List ℕ) × (file_output job m coding g ≡ file_output job m coding (going_on f) ++ rest)
     set_within f g stop end reads_f undecided reads_g =
-        let small = (group_spelled p m group coding reads).2 in
+        let small = (group_spelled p m group named reads).2 in
         let split : drop (132 + length group) (p ++ later) ≡ drop (132 + length group) p ++ later = drop-append-le (132 + length group) p later (omega (arith, less)) in
         let more = set_grows k.maker coding.syntax (132 + length group) (omega (arith, small)) (drop (132 + length group) p) later f g stop end reads_f undecided
         (subst (λ (bs : List ℕ). Reads (job_bar job coding) coding.syntax (132 + length group) bs g end) split reads_g) in (
@@ -126,30 +130,32 @@ module _ (p later : List ℕ) (m : Meta) (group : List ℕ) (coding : Coding) (r
     file_within : (kept : refuses_change job coding ≡ false) (f : Front) (stop : Stop) → SetReads p f stop → is_undecided (Some stop) ≡ true → (source : Source) → FileReads job (p ++ later) source
         → (rest : List ℕ) × ((answer job source).output ≡ file_output job m coding (going_on f) ++ rest)
     file_within kept f stop reads_f undecided source (not_opened fault offset head said) =
-        absurd (let no : meta_refused fault offset ≡ begins m group coding = one_meta (p ++ later) (meta_refused fault offset) (begins m group coding) head stays in cc)
+        absurd (let no : meta_refused fault offset ≡ begins m group named = one_meta (p ++ later) (meta_refused fault offset) (begins m group named) head stays in cc)
     file_within kept f stop reads_f undecided source (not_changed m' group' coding' head changed said) =
-        let one = begun_alike m' m group' group coding' coding (one_meta (p ++ later) (begins m' group' coding') (begins m group coding) head stays) in
-        absurd (let no : false ≡ true = sym kept ∙ ap (refuses_change job) (sym one.2) ∙ changed in cc)
+        let one = begun_alike m' m group' group head.named named (one_meta (p ++ later) (begins m' group' head.named) (begins m group named) head.head stays) in
+        let codings : coding' ≡ coding = head.coding_is ∙ ap (coding_by (job_dictionary job)) one.2 ∙ sym coding_is in
+        absurd (let no : false ≡ true = sym kept ∙ ap (refuses_change job) (sym codings) ∙ changed in cc)
     file_within kept f stop reads_f undecided source (was_opened m' group' coding' g end head kept' reads_g said) =
-        let one = begun_alike m' m group' group coding' coding (one_meta (p ++ later) (begins m' group' coding') (begins m group coding) head stays) in
-        let there : SetReads (p ++ later) g end = subst (λ (c : Coding). Reads (job_bar job c) c.syntax (132 + length group) (drop (132 + length group) (p ++ later)) g end) one.2
+        let one = begun_alike m' m group' group head.named named (one_meta (p ++ later) (begins m' group' head.named) (begins m group named) head.head stays) in
+        let codings : coding' ≡ coding = head.coding_is ∙ ap (coding_by (job_dictionary job)) one.2 ∙ sym coding_is in
+        let there : SetReads (p ++ later) g end = subst (λ (c : Coding). Reads (job_bar job c) c.syntax (132 + length group) (drop (132 + length group) (p ++ later)) g end) codings
         (subst (λ (bs : List ℕ). Reads (job_bar job coding') coding'.syntax (132 + length bs) (drop (132 + length bs) (p ++ later)) g end) one.1 reads_g) in
         let more = set_within f g stop end reads_f undecided there in (
           more.0,
-          ap (λ (z : Source). (answer job z).output) said ∙ ap (λ (n : Meta). file_output job n coding' g) one.0 ∙ ap (λ (c : Coding). file_output job m c g) one.2 ∙ more.1,
+          ap (λ (z : Source). (answer job z).output) said ∙ ap (λ (n : Meta). file_output job n coding' g) one.0 ∙ ap (λ (c : Coding). file_output job m c g) codings ∙ more.1,
         )
 
 pub file_grows : (job : Job) → ((coding : Coding) → FileMaker job coding) → (p later out : List ℕ) (a : Answer) (source : Source) → FileSure job p out → a ≡ answer job source → FileReads job (p ++ later) source → (rest : List ℕ) × (a.output ≡ out ++ rest)
 file_grows job k p later out a source (before_set said reads undecided none) is x = (a.output, ap (λ (bs : List ℕ). bs ++ a.output) (sym none))
 file_grows job k p later out a source (within_set m group coding set stop head less kept reads undecided out_is) is x =
-    let more = file_within p later m group coding head less job (k coding) kept set stop reads undecided source x in
+    let more = file_within p later m group head.named head.head less job coding head.coding_is (k coding) kept set stop reads undecided source x in
     (more.0, ap (λ (b : Answer). b.output) is ∙ more.1 ∙ ap (λ (bs : List ℕ). bs ++ more.0) (sym out_is))
 
 -- ---- any input
 
-dump_grows : (mode : Mode) (bare : Option Syntax) (p later out : List ℕ) (a : Answer) → Sure (dump mode bare) p out → Answers (dump mode bare) (p ++ later) a → (rest : List ℕ) × (a.output ≡ out ++ rest)
-dump_grows mode None p later out a sure x = file_grows (dump mode None) (file_dumper mode) p later out a x.source sure x.answer_is x.reads
-dump_grows mode (Some s) p later out a sure x = alone_grows mode s p later out a sure x
+dump_grows : (d : Dictionary) (mode : Mode) (bare : Option Syntax) (p later out : List ℕ) (a : Answer) → Sure (dump d mode bare) p out → Answers (dump d mode bare) (p ++ later) a → (rest : List ℕ) × (a.output ≡ out ++ rest)
+dump_grows d mode None p later out a sure x = file_grows (dump d mode None) (file_dumper d mode) p later out a x.source sure x.answer_is x.reads
+dump_grows d mode (Some s) p later out a sure x = alone_grows d mode s p later out a sure x
 
 -- lines that are built
 build_grows : (limit : ℕ) (p later out : List ℕ) (a : Answer) → Sure (building limit) p out → Answers (building limit) (p ++ later) a → (rest : List ℕ) × (a.output ≡ out ++ rest)
@@ -158,11 +164,11 @@ build_grows limit p later out a sure x =
     (more.0, ap (λ (b : Answer). b.output) x ∙ answer_output (built limit (p ++ later)) ∙ more.1)
 
 -- a file that is edited
-modify_grows : (edits : List Edit) → AreMeant edits → (p later out : List ℕ) (a : Answer) → Sure (modify edits) p out → Answers (modify edits) (p ++ later) a → (rest : List ℕ) × (a.output ≡ out ++ rest)
-modify_grows edits meant p later out a sure x = file_grows (modify edits) (file_editor edits meant) p later out a x.source sure x.answer_is x.reads
+modify_grows : (d : Dictionary) (edits : List Edit) → AreMeant edits → (p later out : List ℕ) (a : Answer) → Sure (modify d edits) p out → Answers (modify d edits) (p ++ later) a → (rest : List ℕ) × (a.output ≡ out ++ rest)
+modify_grows d edits meant p later out a sure x = file_grows (modify d edits) (file_editor d edits meant) p later out a x.source sure x.answer_is x.reads
 
 pub sure_grows : {A : Type 0} (job : RunJob A) (p later out : List ℕ) (a : Answer) → IsMeant (job_of job) → Sure (job_of job) p out → Answers (job_of job) (p ++ later) a → (rest : List ℕ) × (a.output ≡ out ++ rest)
-sure_grows (Dump d) p later out a meant sure x = dump_grows d.mode d.bare p later out a sure x
-sure_grows (Convert c) p later out a meant sure x = file_grows (convert c.target) (file_encoder c.target) p later out a x.source sure x.answer_is x.reads
+sure_grows (Dump d) p later out a meant sure x = dump_grows d.dictionary d.mode d.bare p later out a sure x
+sure_grows (Convert c) p later out a meant sure x = file_grows (convert c.dictionary c.target) (file_encoder c.dictionary c.target) p later out a x.source sure x.answer_is x.reads
 sure_grows (Build b) p later out a meant sure x = build_grows b.limit p later out a sure x
-sure_grows (Modify edits) p later out a meant sure x = modify_grows edits meant p later out a sure x
+sure_grows (Modify m) p later out a meant sure x = modify_grows m.dictionary m.edits meant p later out a sure x

@@ -6,7 +6,7 @@ use Rattle.dcm_base.specs.declared.tag.Tag.{Tag}
 use Rattle.dcm_base.specs.declared.vr.Vr.{Vr}
 use Rattle.dcm_base.specs.declared.vr.Vr.TheVariants.{AE, SQ, UN}
 use Rattle.dcm_base.specs.declared.syntax.Syntax.{Syntax}
-use Rattle.dcm_base.specs.declared.syntax.Syntax.TheVariants.{Implicit, Little, Big}
+use Rattle.dcm_base.specs.declared.syntax.Syntax.TheVariants.{Implicit as implicit_in, Little as little_in, Big as big_in}
 use Rattle.dcm_base.specs.declared.length.Length.{Length}
 use Rattle.dcm_base.specs.declared.length.Length.TheVariants.{Known, Undefined}
 use Rattle.dcm_base.specs.Tag.{below, same_tag, is_private, item_tag, item_end_tag, sequence_end_tag}
@@ -197,9 +197,9 @@ pieces_bytes zero k v h = tt
 pieces_bytes (suc n) k v h = Bytes-append (reverse (take k v)) _ (Bytes-reverse (take k v) (Bytes-take k v h)) (pieces_bytes n k (drop k v) (Bytes-drop k v h))
 
 order_bytes : (s : Syntax) (vr : Vr) (v : List ℕ) → Bytes v → Bytes (order s vr v)
-order_bytes Implicit vr v h = h
-order_bytes Little vr v h = h
-order_bytes Big vr v h = Bytes-append _ _ (pieces_bytes (length v / unit vr) (unit vr) v h) (Bytes-drop (length v / unit vr * unit vr) v h)
+order_bytes (implicit_in d) vr v h = h
+order_bytes (little_in d) vr v h = h
+order_bytes (big_in d) vr v h = Bytes-append _ _ (pieces_bytes (length v / unit vr) (unit vr) v h) (Bytes-drop (length v / unit vr * unit vr) v h)
 
 ordered_bytes : (s : Syntax) (vr : Vr) (v : List ℕ) → Bytes (order s vr v) → Bytes v
 ordered_bytes s vr v h = subst Bytes (order_twice s vr v) (order_bytes s vr (order s vr v) h)
@@ -255,9 +255,9 @@ high_bytes zero n = tt
 high_bytes (suc k) n = (at_byte k n, high_bytes k n)
 
 number_of_bytes : (s : Syntax) (w : Width) (n : ℕ) → Bytes (number_bytes s w n)
-number_of_bytes Implicit w n = low_bytes 0 (byte_len w) n
-number_of_bytes Little w n = low_bytes 0 (byte_len w) n
-number_of_bytes Big w n = high_bytes (byte_len w) n
+number_of_bytes (implicit_in d) w n = low_bytes 0 (byte_len w) n
+number_of_bytes (little_in d) w n = low_bytes 0 (byte_len w) n
+number_of_bytes (big_in d) w n = high_bytes (byte_len w) n
 
 letter_bytes : (vr : Vr) → Bytes (letters vr)
 unfolding letters
@@ -278,9 +278,9 @@ explicit_bytes : (s : Syntax) (t : Tag) (vr : Vr) (n : ℕ) → Bytes (tag_bytes
 explicit_bytes s t vr n = Bytes-append (tag_bytes s t ++ letters vr) _ (Bytes-append (tag_bytes s t) _ (tag_is_bytes s t) (letter_bytes vr)) (length_bytes s n (is_long vr))
 
 head_bytes : (s : Syntax) (t : Tag) (vr : Vr) (l : Length) → Bytes (head s t vr l)
-head_bytes Implicit t vr l = plain_bytes Implicit t l
-head_bytes Little t vr l = explicit_bytes Little t vr (length_number l)
-head_bytes Big t vr l = explicit_bytes Big t vr (length_number l)
+head_bytes (implicit_in d) t vr l = plain_bytes (implicit_in d) t l
+head_bytes (little_in d) t vr l = explicit_bytes (little_in d) t vr (length_number l)
+head_bytes (big_in d) t vr l = explicit_bytes (big_in d) t vr (length_number l)
 
 pad_byte : (vr : Vr) → pad vr < 256
 pad_byte AE = omega arith

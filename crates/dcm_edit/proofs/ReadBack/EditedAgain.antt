@@ -20,10 +20,10 @@ module _ (edits : List Edit) (s : Syntax) (at : ℕ) (f again : Front) (stop : S
   one : (again ≡ normal_front s (edited edits f)) × (stop ≡ complete)
   one =
       reads_once ascending_bar s at (recode s (edited edits f)) again (normal_front s (edited edits f)) stop complete reads
-      (edited_ascends h.words edits h.mean s h.start h.bytes f h.begins h.are_bytes h.reads at h.within)
+      (edited_ascends s h.words edits h.mean h.start h.bytes f h.begins h.are_bytes h.reads at h.within)
 
   same : recode s (edited edits again) ≡ recode s (edited edits f)
-  same = ap (λ (g : Front). recode s (edited edits g)) one.0 ∙ edited_twice h.words edits h.mean r s h.start h.bytes f h.begins h.are_bytes h.reads
+  same = ap (λ (g : Front). recode s (edited edits g)) one.0 ∙ edited_twice s h.words edits h.mean r h.start h.bytes f h.begins h.are_bytes h.reads
 
   pub writes_again : (stop ≡ complete) × (recode s (edited edits again) ≡ recode s (edited edits f))
   writes_again = (one.1, same)

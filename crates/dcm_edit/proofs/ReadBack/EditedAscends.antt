@@ -16,8 +16,9 @@ use Rattle.dcm_base.specs.Bars.{ascending_bar, target_bar}
 use Rattle.dcm_base.specs.Reads.{INPUT_LIMIT, Reads}
 use Rattle.dcm_base.specs.Recode.{recode}
 use Rattle.dcm_base.specs.Normal.{normal_vr, normal_sequence_vr, normal_value, normal, normal_items, whole_front, normal_front}
+use Rattle.dcm_base.specs.Syntax.{dictionary_of}
 use Rattle.dcm_edit.specs.Edit.{Edit, edited, edited_sets}
-use Rattle.dcm_edit.specs.EditWords.{meant_edits}
+use Rattle.dcm_edit.specs.EditWords.{meant_edits_in}
 use Rattle.dcm_edit.proofs.Trees.Laws.{Ascend-weaker}
 use Rattle.dcm_edit.proofs.Trees.OneByOne.{Ascend-edited_sets}
 use Rattle.dcm_edit.proofs.ReadBack.ReadsAscend.{reads_ascend}
@@ -65,10 +66,10 @@ edited_is : (s : Syntax) (es : List Edit) (f : Front) (x : Trees) → f ≡ whol
 edited_is s es f x is =
     subst (λ (g : Front). normal_front s (edited es g) ≡ whole_front (normal s (edited_sets es x))) (sym is) (ap (normal_front s) (edits_whole es x (last_tag None x)))
 
-pub edited_ascends : (words : List (List ℕ)) (edits : List Edit) → meant_edits words ≡ Ok edits → (s : Syntax) (start : ℕ) (bytes : List ℕ) (f : Front) → start ≤ INPUT_LIMIT → AreBytes bytes → Reads ascending_bar s start bytes f complete
+pub edited_ascends : (s : Syntax) (words : List (List ℕ)) (edits : List Edit) → meant_edits_in (dictionary_of s) words ≡ Ok edits → (start : ℕ) (bytes : List ℕ) (f : Front) → start ≤ INPUT_LIMIT → AreBytes bytes → Reads ascending_bar s start bytes f complete
     → (at : ℕ) → at + length (recode s (edited edits f)) ≤ INPUT_LIMIT → Reads ascending_bar s at (recode s (edited edits f)) (normal_front s (edited edits f)) complete
-edited_ascends words edits mean s start bytes f le are reads at limit =
+edited_ascends s words edits mean start bytes f le are reads at limit =
     let w = front_whole s start bytes f le are reads in
     front_again s at (recode s (edited edits f)) (normal_front s (edited edits f)) (normal s (edited_sets edits w.trees)) (omega (arith, limit)) (edited_is s edits f w.trees w.is)
     (normal_ascends s None (edited_sets edits w.trees) (Ascend-edited_sets edits w.trees (whole_ascends f w.trees w.is (reads_ascend s start bytes f complete le reads))))
-    (edited_reads words edits mean s start bytes f le are reads at limit)
+    (edited_reads s words edits mean start bytes f le are reads at limit)

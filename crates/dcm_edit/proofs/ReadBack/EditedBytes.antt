@@ -12,10 +12,11 @@ use Rattle.dcm_base.specs.Recode.{recode, recode_set}
 use Rattle.dcm_base.proofs.DataSets.OwnSyntax.{own_reads}
 use Rattle.dcm_base.proofs.DataSets.InOrder.{unbarred_reads}
 use Rattle.dcm_base.proofs.DumpsBack.Texts.{Bytes, bytes_of}
+use Rattle.dcm_base.specs.Syntax.{dictionary_of}
 use Rattle.dcm_tools.proofs.ReadBack.RecodeReads.{Whole, source_whole}
 use Rattle.dcm_tools.proofs.ReadBack.Sources.{a_byte}
 use Rattle.dcm_edit.specs.Edit.{Edit, edited, edited_sets}
-use Rattle.dcm_edit.specs.EditWords.{meant_edits}
+use Rattle.dcm_edit.specs.EditWords.{meant_edits_in}
 use Rattle.dcm_edit.specs.Modification.{OfBytes}
 use Rattle.dcm_edit.proofs.ReadBack.TwiceWritten.{front_recodes}
 use Rattle.dcm_edit.proofs.Words.WordValues.{AllFine}
@@ -29,11 +30,11 @@ fine_words (w ∷ words) h = (bytes_of w h.0, fine_words words h.1)
 set_bytes : (s : Syntax) (edits : List Edit) (x : Trees) (bytes : List ℕ) → AllEditBytes edits → TreesAt s x bytes [] → Bytes bytes → Bytes (recode_set s (edited_sets edits x))
 set_bytes s edits x bytes fine spelled are = set_written s (edited_sets edits x) (edited_bytes edits x fine (trees_read s x bytes [] spelled are).0)
 
-pub edited_is_bytes : (words : List (List ℕ)) (edits : List Edit) → OfBytes words → meant_edits words ≡ Ok edits → (s : Syntax) (start : ℕ) (bytes : List ℕ) (f : Front) → start ≤ INPUT_LIMIT → AreBytes bytes
+pub edited_is_bytes : (s : Syntax) (words : List (List ℕ)) (edits : List Edit) → OfBytes words → meant_edits_in (dictionary_of s) words ≡ Ok edits → (start : ℕ) (bytes : List ℕ) (f : Front) → start ≤ INPUT_LIMIT → AreBytes bytes
     → Reads ascending_bar s start bytes f complete → AreBytes (recode s (edited edits f))
-edited_is_bytes words edits fine mean s start bytes f le are reads =
+edited_is_bytes s words edits fine mean start bytes f le are reads =
     let own : Reads (target_bar s) s start bytes f complete = own_reads s start bytes f complete (unbarred_reads s start bytes f complete (λ offset e. cc) reads) in
     let w : Whole s bytes f = source_whole s s start bytes f le are own in
     let is : recode s (edited edits f) ≡ recode_set s (edited_sets edits w.trees) = ap (λ (g : Front). recode s (edited edits g)) w.is ∙ front_recodes s edits w.trees (last_tag None w.trees) in
-    let written : Bytes (recode s (edited edits f)) = subst Bytes (sym is) (set_bytes s edits w.trees bytes (words_bytes words edits (fine_words words fine) mean) w.spelled (bytes_of bytes are)) in
+    let written : Bytes (recode s (edited edits f)) = subst Bytes (sym is) (set_bytes s edits w.trees bytes (words_bytes (dictionary_of s) words edits (fine_words words fine) mean) w.spelled (bytes_of bytes are)) in
     λ i. a_byte (recode s (edited edits f)) i written

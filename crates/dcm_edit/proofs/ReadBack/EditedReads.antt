@@ -1,7 +1,7 @@
 -- What is written of an edited data set reads back as its normal form.
 use Rattle.std.proofs.Common.{◌≡◌, ℕ, ◌+◌, ◌≤◌, List, length, Ok, sym, refl, subst}
 use Rattle.dcm_base.specs.declared.syntax.Syntax.{Syntax}
-use Rattle.dcm_base.specs.declared.syntax.Syntax.TheVariants.{Implicit, Little, Big}
+use Rattle.dcm_base.specs.declared.syntax.Syntax.TheVariants.{Implicit as implicit_in, Little as little_in, Big as big_in}
 use Rattle.dcm_base.specs.Number.{AreBytes}
 use Rattle.dcm_base.specs.Front.{Front, front, nothing_open, open_leaf, open_sequence, open_fragments}
 use Rattle.dcm_base.specs.Stop.{Stop, Bar, complete}
@@ -12,18 +12,19 @@ use Rattle.dcm_base.specs.Normal.{FrontFits, normal_front}
 use Rattle.dcm_base.proofs.DataSets.ImplicitLengths.{explicit_fits, implicit_fits}
 use Rattle.dcm_base.proofs.DataSets.OwnSyntax.{own_reads}
 use Rattle.dcm_base.proofs.DataSets.InOrder.{unbarred_reads}
+use Rattle.dcm_base.specs.Syntax.{dictionary_of}
 use Rattle.dcm_tools.proofs.ReadBack.RecodeReads.{IsReady, read_ready, ready_reads}
 use Rattle.dcm_edit.specs.Edit.{Edit, edited}
-use Rattle.dcm_edit.specs.EditWords.{meant_edits}
+use Rattle.dcm_edit.specs.EditWords.{meant_edits_in}
 use Rattle.dcm_edit.proofs.ReadBack.StaysReady.{FrontReady, edited_ready}
 use Rattle.dcm_edit.proofs.Words.WordValues.{edits_fit}
 use Rattle.dcm_edit.proofs.Words.WordsReady.{edits_ready}
 
 -- what is read of a syntax fits that syntax
 own_fits : (s : Syntax) (bar : Bar) (start : ℕ) (bytes : List ℕ) (f : Front) (stop : Stop) → Reads bar s start bytes f stop → FrontFits s f
-own_fits Implicit bar start bytes f stop h = implicit_fits Implicit bar start bytes f stop h
-own_fits Little bar start bytes f stop h = explicit_fits Little f refl
-own_fits Big bar start bytes f stop h = explicit_fits Big f refl
+own_fits (implicit_in d) bar start bytes f stop h = implicit_fits d (implicit_in d) bar start bytes f stop refl h
+own_fits (little_in d) bar start bytes f stop h = explicit_fits (little_in d) f refl
+own_fits (big_in d) bar start bytes f stop h = explicit_fits (big_in d) f refl
 
 front_reads : (s : Syntax) (at : ℕ) (f : Front) → FrontReady s f → at + length (recode s f) ≤ INPUT_LIMIT → Reads (target_bar s) s at (recode s f) (normal_front s f) complete
 front_reads s at (front whole nothing_open reached closed) h limit = ready_reads s at whole reached closed limit h.0
@@ -42,7 +43,7 @@ front_ready s start bytes f le are reads =
     subst (FrontReady s) (sym r.is) (r.ready, refl)
 
 -- the law
-pub edited_reads : (words : List (List ℕ)) (edits : List Edit) → meant_edits words ≡ Ok edits → (s : Syntax) (start : ℕ) (bytes : List ℕ) (f : Front) → start ≤ INPUT_LIMIT → AreBytes bytes → Reads ascending_bar s start bytes f complete
+pub edited_reads : (s : Syntax) (words : List (List ℕ)) (edits : List Edit) → meant_edits_in (dictionary_of s) words ≡ Ok edits → (start : ℕ) (bytes : List ℕ) (f : Front) → start ≤ INPUT_LIMIT → AreBytes bytes → Reads ascending_bar s start bytes f complete
     → (at : ℕ) → at + length (recode s (edited edits f)) ≤ INPUT_LIMIT → Reads (target_bar s) s at (recode s (edited edits f)) (normal_front s (edited edits f)) complete
-edited_reads words edits mean s start bytes f le are reads at limit =
-    front_reads s at (edited edits f) (edited_ready s edits f (edits_fit words edits mean).2 (edits_ready s words edits mean) (front_ready s start bytes f le are reads)) limit
+edited_reads s words edits mean start bytes f le are reads at limit =
+    front_reads s at (edited edits f) (edited_ready s edits f (edits_fit (dictionary_of s) words edits mean).2 (edits_ready s words edits mean) (front_ready s start bytes f le are reads)) limit

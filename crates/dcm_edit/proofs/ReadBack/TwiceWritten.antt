@@ -19,8 +19,9 @@ use Rattle.dcm_base.specs.Normal.{normal_vr, normal_sequence_vr, normal_value, n
 use Rattle.dcm_base.specs.Spelling.{last_tag}
 use Rattle.dcm_base.proofs.Conversions.NormalForm.{recodes_normal, normal_once}
 use Rattle.dcm_base.proofs.Dictionaries.TagOrder.{same_tag_self, tag_is}
+use Rattle.dcm_base.specs.Syntax.{dictionary_of}
 use Rattle.dcm_edit.specs.Edit.{number, every, step, insert, modify, erase, erase_item, Edit, on_path, modify_all, erase_all, erase_private, elsewhere, within, Fate, stays, becomes, goes, fate, settled, erases, has, put, NewElement, no_element, new_leaf, new_sequence, before, new_element, element_of, with_new, is_passed, with_new_so_far, changed, changed_items, edited_set, edited_sets, edited_by, edited}
-use Rattle.dcm_edit.specs.EditWords.{meant_edits}
+use Rattle.dcm_edit.specs.EditWords.{meant_edits_in}
 use Rattle.dcm_edit.specs.Overlap.{AreApart, ArePublic}
 use Rattle.dcm_edit.specs.Repeating.{EraseByNoNumber}
 use Rattle.dcm_edit.proofs.Trees.Laws.{chosen, then_trees-none}
@@ -278,10 +279,10 @@ front_twice s es set reached a p r =
     ∙ sym (front_recodes s es set reached)
 
 -- the law
-pub edited_twice : (words : List (List ℕ)) (edits : List Edit) → meant_edits words ≡ Ok edits → EraseByNoNumber edits → (s : Syntax) (start : ℕ) (bytes : List ℕ) (f : Front)
+pub edited_twice : (s : Syntax) (words : List (List ℕ)) (edits : List Edit) → meant_edits_in (dictionary_of s) words ≡ Ok edits → EraseByNoNumber edits → (start : ℕ) (bytes : List ℕ) (f : Front)
     → start ≤ INPUT_LIMIT → AreBytes bytes → Reads ascending_bar s start bytes f complete → recode s (edited edits (normal_front s (edited edits f))) ≡ recode s (edited edits f)
-edited_twice words edits mean r s start bytes f le are reads =
+edited_twice s words edits mean r start bytes f le are reads =
     let w = front_whole s start bytes f le are reads in
-    let apart = edits_are_apart words edits mean in
+    let apart = edits_are_apart (dictionary_of s) words edits mean in
     subst (λ (x : Front). recode s (edited edits (normal_front s (edited edits x))) ≡ recode s (edited edits x)) (sym w.is)
     (front_twice s edits w.trees (last_tag None w.trees) apart.0 apart.1 r)

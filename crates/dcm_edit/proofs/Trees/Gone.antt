@@ -15,8 +15,9 @@ use Rattle.dcm_base.specs.Recode.{recode}
 use Rattle.dcm_base.specs.Normal.{normal, normal_items, normal_front, normal_vr, normal_value}
 use Rattle.dcm_base.proofs.DataSets.OneAnswer.{reads_once}
 use Rattle.dcm_base.proofs.Dictionaries.TagOrder.{tag_is}
+use Rattle.dcm_base.specs.Syntax.{dictionary_of}
 use Rattle.dcm_edit.specs.Edit.{PathEdit, step, insert, modify, erase, erase_item, Edit, on_path, modify_all, erase_all, erase_private, elsewhere, within, stays, becomes, goes, erases, element_of, no_element, edited_by, edited}
-use Rattle.dcm_edit.specs.EditWords.{meant_edits}
+use Rattle.dcm_edit.specs.EditWords.{meant_edits_in}
 use Rattle.dcm_edit.specs.Everywhere.{Content, a_value, a_list, Everywhere, InEachItem, EverywhereIn, IsOther, IsPublic, HasJust, IsWrittenJust, Among}
 use Rattle.dcm_edit.specs.Overlap.{path, is_on, is_named, ApartFrom, AreApart, is_public_path, is_public, ArePublic}
 use Rattle.dcm_edit.proofs.ReadBack.EditedReads.{edited_reads, front_ready}
@@ -186,18 +187,18 @@ mutual
 pub anything : (s : Syntax) (f : Front) → FrontReady s f → WholeWith Anything f
 anything s (front whole o reached closed) h = (anywhere whole, h.1)
 
-module _ (words : List (List ℕ)) (edits : List Edit) (mean : meant_edits words ≡ Ok edits) (s : Syntax) (start : ℕ) (bytes : List ℕ) (f : Front) (le : start ≤ INPUT_LIMIT) (are : AreBytes bytes) (reads : Reads ascending_bar s start bytes f complete)
+module _ (s : Syntax) (words : List (List ℕ)) (edits : List Edit) (mean : meant_edits_in (dictionary_of s) words ≡ Ok edits) (start : ℕ) (bytes : List ℕ) (f : Front) (le : start ≤ INPUT_LIMIT) (are : AreBytes bytes) (reads : Reads ascending_bar s start bytes f complete)
     (at : ℕ) (limit : at + length (recode s (edited edits f)) ≤ INPUT_LIMIT) (g : Front) (stop : Stop) (again : Reads (target_bar s) s at (recode s (edited edits f)) g stop) where
   read_back : (Q : Tag → Content → Type 0) → EverywhereIn Q (normal_front s (edited edits f)) → (stop ≡ complete) × EverywhereIn Q g
   read_back Q h =
-      let one = reads_once (target_bar s) s at (recode s (edited edits f)) (normal_front s (edited edits f)) g complete stop (edited_reads words edits mean s start bytes f le are reads at limit) again in
+      let one = reads_once (target_bar s) s at (recode s (edited edits f)) (normal_front s (edited edits f)) g complete stop (edited_reads s words edits mean start bytes f le are reads at limit) again in
       (sym one.1, subst (EverywhereIn Q) one.0 h)
 
   pub whole_set : WholeWith Anything f
   whole_set = anything s f (front_ready s start bytes f le are reads)
 
   apart : AreApart edits × ArePublic edits
-  apart = edits_are_apart words edits mean
+  apart = edits_are_apart (dictionary_of s) words edits mean
 
   pub erased_all_is_gone : (t : Tag) → Among (erase_all t) edits → (stop ≡ complete) × EverywhereIn (IsOther t) g
   erased_all_is_gone t among = read_back (IsOther t) (front_has s (IsOther t) (IsOther t) (λ tag vr v h. h) (λ tag h. h) (edited edits f) (erased_all t edits f among apart.0 apart.1 whole_set))

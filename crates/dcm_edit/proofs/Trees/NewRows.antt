@@ -5,7 +5,7 @@ use Rattle.dcm_base.specs.declared.tag.Tag.{Tag}
 use Rattle.dcm_base.specs.declared.vr.Vr.{Vr}
 use Rattle.dcm_base.specs.declared.vr.Vr.TheVariants.{SQ}
 use Rattle.dcm_base.specs.declared.length.Length.TheVariants.{Undefined}
-use Rattle.dcm_base.specs.declared.syntax.Syntax.TheVariants.{Little}
+use Rattle.dcm_base.specs.Syntax.{Little}
 use Rattle.dcm_base.specs.Tag.{same_tag, below, is_above}
 use Rattle.dcm_base.specs.Atoms.{Atom, opens, opens_item, closes_item, closes_sequence, trees_then, items_then}
 use Rattle.dcm_base.specs.Spelling.{inside}

@@ -3,16 +3,20 @@ use Rattle.std.proofs.Common.{◌≡◌, ℕ, suc, ◌<◌, ◌%◌, List, [], �
 use Rattle.std.specs.Prelude.{if◌then◌else◌, nat_lt, find, bytes_eq, option_map, unwrap_or}
 use Rattle.std.specs.List.{list_all, slice_split}
 use Rattle.std.specs.Str.{byte}
+use Rattle.dcm_base.specs.declared.lookup.Dictionary.{Dictionary}
 use Rattle.dcm_base.specs.declared.tag.Tag.{Tag}
 use Rattle.dcm_base.specs.declared.vr.Vr.{Vr}
 use Rattle.dcm_base.specs.declared.fault.EditRefusal.{EditRefusal}
 use Rattle.dcm_base.specs.declared.fault.EditRefusal.TheVariants.{BadOption, UnknownTag, SequenceMisused, MetaGroup, Overlap, TooMany}
 use Rattle.dcm_base.specs.Tag.{number, tag_of_number, is_private}
-use Rattle.dcm_base.specs.Dictionary.{Element, elements, element, called, tag_of}
+use Rattle.dcm_base.specs.Dictionary.{Element, elements_in, element_in, called, tag_in}
+use Rattle.dcm_base.specs.Laws.{is_even}
+use Rattle.dcm_base.proofs.Dictionaries.Parts.{groups_are_even}
 use Rattle.dcm_edit.specs.Edit.{Index, PathEdit, Edit, erase_private}
 use Rattle.dcm_edit.specs.Overlap.{path, overlaps, overlaps_one, first_overlap, ApartFrom, AreApart, is_public_path, is_public, ArePublic}
-use Rattle.dcm_edit.specs.EditWords.{InEdit, ◌>>=◌, PathPart, TagName, by_number, by_keyword, tag_name, Known, known_tag, known_part, known_parts, Kind, inserts, modifies, erases, modifies_all, erases_all, last_vr, on_steps, step_to, item_or_element, edit_on, value_for, edit_of_known, edit_of_parts, uses_sequences, has_form, cut, cut_at, with_index, index_of, part_of, part_of_cut, prepended, or_refuse, parts_of, meant_edit, meant_word, meant_from, meant_edits, apart, and_then, at_edit, option_word, OptionWord, private_word, takes_word, unknown_word, in_edit, takes_value, EDIT_LIMIT}
+use Rattle.dcm_edit.specs.EditWords.{InEdit, ◌>>=◌, PathPart, TagName, by_number, by_keyword, tag_name, Known, known_tag, known_part, known_parts, Kind, inserts, modifies, erases, modifies_all, erases_all, last_vr, on_steps, step_to, item_or_element, edit_on, value_for, edit_of_known, edit_of_parts, uses_sequences, has_form, cut, cut_at, with_index, index_of, part_of, part_of_cut, prepended, or_refuse, parts_of, meant_edit, meant_word, meant_from, meant_edits_in, without_dictionary, apart, and_then, at_edit, option_word, OptionWord, private_word, takes_word, unknown_word, in_edit, takes_value, EDIT_LIMIT}
 use Rattle.dcm_base.proofs.DumpsBack.DigitNumbers.{tag_within}
+use Rattle.std.proofs.lemmas.Bool.Decides.{nat_tests}
 
 -- no overlap found
 EachApart : List Edit → List Edit → Type 0
@@ -69,13 +73,9 @@ pub found_passes : (p q : Element → Bool) (l : List Element) (e : Element) →
 found_passes p q [] e a f = cc
 found_passes p q (x ∷ l) e a f = found_step p q x e (find p l) (and_one _ _ a) (found_passes p q l e (and_two (q x) _ a)) (p x) refl f
 
--- the tags of the extract are of even groups
-abbrev is_even : Element → Bool
-is_even e = not (is_private (tag_of_number e.0))
-
-extract_is_even : list_all is_even elements ≡ true
-unfolding elements
-extract_is_even = refl
+-- a tag of an even group is public
+even_public : (n : ℕ) → is_even n ≡ true → not (is_private (tag_of_number n)) ≡ true
+even_public n p = grind (arith, nat_tests)
 
 pub mapped : {A B : Type 0} (f : A → B) (o : Option A) (y : B) → option_map f o ≡ Some y → (x : A) × (o ≡ Some x) × (f x ≡ y)
 mapped f (Some x) y p = (x, refl, cc)
@@ -84,20 +84,20 @@ mapped f None y p = cc
 pub same_group : (tag : Tag) (n : ℕ) → tag.element < 65536 → (n == number tag) ≡ true → (tag_of_number n).group ≡ tag.group
 same_group tag n h p = let e : n ≡ number tag = eqb-true n (number tag) p in omega (arith, e, h)
 
-element_public : (tag : Tag) (x : Vr × List ℕ) → tag.element < 65536 → element tag ≡ Some x → not (is_private tag) ≡ true
-unfolding element
-element_public tag x h p =
-    let m = mapped (λ (e : Element). (e.1, e.2)) (find (λ (e : Element). e.0 == number tag) elements) x p in
-    let q = found_passes (λ e. e.0 == number tag) is_even elements m.0 extract_is_even m.1 in
-    subst (λ g. not (g % 2 == 1) ≡ true) (same_group tag m.0.0 h q.1) q.0
+element_public : (d : Dictionary) (tag : Tag) (x : Vr × List ℕ) → tag.element < 65536 → element_in d tag ≡ Some x → not (is_private tag) ≡ true
+unfolding element_in
+element_public d tag x h p =
+    let m = mapped (λ (e : Element). (e.1, e.2)) (find (λ (e : Element). e.0 == number tag) (elements_in d)) x p in
+    let q = found_passes (λ e. e.0 == number tag) (λ e. is_even e.0) (elements_in d) m.0 (groups_are_even d) m.1 in
+    subst (λ g. not (g % 2 == 1) ≡ true) (same_group tag m.0.0 h q.1) (even_public m.0.0 q.0)
 
-keyword_public : (word : List ℕ) (tag : Tag) → tag_of word ≡ Some tag → not (is_private tag) ≡ true
-unfolding tag_of
-keyword_public word tag p =
-    let m = mapped tag_of_number (called elements word) tag p in
-    let k = mapped (λ (e : Element). e.0) (find (λ (e : Element). bytes_eq e.2 word) elements) m.0 m.1 in
-    let q = found_passes (λ e. bytes_eq e.2 word) is_even elements k.0 extract_is_even k.1 in
-    subst (λ (t : Tag). not (is_private t) ≡ true) m.2 (subst (λ n. not (is_private (tag_of_number n)) ≡ true) k.2 q.0)
+keyword_public : (d : Dictionary) (word : List ℕ) (tag : Tag) → tag_in d word ≡ Some tag → not (is_private tag) ≡ true
+unfolding tag_in
+keyword_public d word tag p =
+    let m = mapped tag_of_number (called (elements_in d) word) tag p in
+    let k = mapped (λ (e : Element). e.0) (find (λ (e : Element). bytes_eq e.2 word) (elements_in d)) m.0 m.1 in
+    let q = found_passes (λ e. bytes_eq e.2 word) (λ e. is_even e.0) (elements_in d) k.0 (groups_are_even d) k.1 in
+    subst (λ (t : Tag). not (is_private t) ≡ true) m.2 (subst (λ n. not (is_private (tag_of_number n)) ≡ true) k.2 (even_public k.0.0 q.0))
 
 -- a chain that succeeds
 pub bind_ok : {A B : Type 0} (r : Result A EditRefusal) (f : A → Result B EditRefusal) (y : B) → (r >>= f) ≡ Ok y → (x : A) × (r ≡ Ok x) × (f x ≡ Ok y)
@@ -186,32 +186,32 @@ parts_within (text ∷ texts) ps p =
 record_public : (tag : Tag) (vr : Vr) (index : Option Index) (k : Known) → not (is_private tag) ≡ true → (let l : Known = record { tag = tag; vr = vr; index = index } in l ≡ k) → not (is_private k.tag) ≡ true
 record_public tag vr index k h p = let P : Known → Type 0 = λ x. not (is_private x.tag) ≡ true in subst P p h
 
-tag_public : (index : Option Index) (tag : Tag) (k : Known) → ((x : Vr × List ℕ) → element tag ≡ Some x → not (is_private tag) ≡ true) → known_tag index tag ≡ Ok k → not (is_private k.tag) ≡ true
-tag_public index tag k h p =
-    let q = if_err (tag.group == 2) MetaGroup (or_refuse UnknownTag (element tag) >>= λ e. Ok (record { tag = tag; vr = e.0; index = index })) k p in
-    let r = bind_ok (or_refuse UnknownTag (element tag)) (λ e. Ok (record { tag = tag; vr = e.0; index = index })) k q in
-    record_public tag r.0.0 index k (h r.0 (or_refused UnknownTag (element tag) r.0 r.1)) (ok_is _ _ r.2)
+tag_public : (d : Dictionary) (index : Option Index) (tag : Tag) (k : Known) → ((x : Vr × List ℕ) → element_in d tag ≡ Some x → not (is_private tag) ≡ true) → known_tag d index tag ≡ Ok k → not (is_private k.tag) ≡ true
+tag_public d index tag k h p =
+    let q = if_err (tag.group == 2) MetaGroup (or_refuse UnknownTag (element_in d tag) >>= λ e. Ok (record { tag = tag; vr = e.0; index = index })) k p in
+    let r = bind_ok (or_refuse UnknownTag (element_in d tag)) (λ e. Ok (record { tag = tag; vr = e.0; index = index })) k q in
+    record_public tag r.0.0 index k (h r.0 (or_refused UnknownTag (element_in d tag) r.0 r.1)) (ok_is _ _ r.2)
 
-part_public : (s : TagName) (index : Option Index) (k : Known) → Within s → known_part s index ≡ Ok k → not (is_private k.tag) ≡ true
+part_public : (d : Dictionary) (s : TagName) (index : Option Index) (k : Known) → Within s → known_part d s index ≡ Ok k → not (is_private k.tag) ≡ true
 unfolding Within
-part_public (by_number tag) index k h p = tag_public index tag k (λ x q. element_public tag x h q) p
-part_public (by_keyword word) index k h p =
-    let r = bind_ok (or_refuse UnknownTag (tag_of word)) (known_tag index) k p in
-    tag_public index r.0 k (λ x q. keyword_public word r.0 (or_refused UnknownTag (tag_of word) r.0 r.1)) r.2
+part_public d (by_number tag) index k h p = tag_public d index tag k (λ x q. element_public d tag x h q) p
+part_public d (by_keyword word) index k h p =
+    let r = bind_ok (or_refuse UnknownTag (tag_in d word)) (known_tag d index) k p in
+    tag_public d index r.0 k (λ x q. keyword_public d word r.0 (or_refused UnknownTag (tag_in d word) r.0 r.1)) r.2
 
 AllPublic : List Known → Type 0
 AllPublic [] = Unit {0}
 AllPublic (k ∷ ks) = (not (is_private k.tag) ≡ true) × AllPublic ks
 
-parts_public : (ms : List PathPart) (ks : List Known) → AllWithin ms → known_parts ms ≡ Ok ks → AllPublic ks
+parts_public : (d : Dictionary) (ms : List PathPart) (ks : List Known) → AllWithin ms → known_parts d ms ≡ Ok ks → AllPublic ks
 unfolding AllPublic AllWithin
-parts_public [] ks w p = let q : ks ≡ [] = cc in rw q tt
-parts_public (m ∷ ms) ks w p =
-    let first = bind_ok (known_part m.name m.index) (λ k. known_parts ms >>= λ more. Ok (k ∷ more)) ks p in
-    let rest = bind_ok (known_parts ms) (λ more. Ok (first.0 ∷ more)) ks first.2 in
+parts_public d [] ks w p = let q : ks ≡ [] = cc in rw q tt
+parts_public d (m ∷ ms) ks w p =
+    let first = bind_ok (known_part d m.name m.index) (λ k. known_parts d ms >>= λ more. Ok (k ∷ more)) ks p in
+    let rest = bind_ok (known_parts d ms) (λ more. Ok (first.0 ∷ more)) ks first.2 in
     let P : List Known → Type 0 = λ l. AllPublic l in
     let e : first.0 ∷ rest.0 ≡ ks = ok_is _ _ rest.2 in
-    subst P e (part_public m.name m.index first.0 w.0 first.1, parts_public ms rest.0 w.1 rest.1)
+    subst P e (part_public d m.name m.index first.0 w.0 first.1, parts_public d ms rest.0 w.1 rest.1)
 
 step_public : (tag : Tag) (o : Option Index) (edit : PathEdit) → not (is_private tag) ≡ true → is_public_path (path edit) ≡ true → is_public_path (path (step_to tag o edit)) ≡ true
 step_public tag None edit p q = q
@@ -246,14 +246,14 @@ known_public kind text (k ∷ ks) e a h =
     let P : Edit → Type 0 = λ x. is_public x ≡ true in
     subst P (ok_is _ _ r.2) (edit_public kind k ks r.0 a)
 
-meant_edit_public : (kind : Kind) (p v : List ℕ) (e : Edit) → meant_edit kind p v ≡ Ok e → is_public e ≡ true
-meant_edit_public kind p v e h =
-    let a = bind_ok (or_refuse BadOption (parts_of (slice_split (λ c. c == byte ".") p))) (edit_of_parts kind v) e h in
-    let b = bind_ok (known_parts a.0) (edit_of_known kind v) e (if_ok (has_form kind a.0) BadOption _ e a.2) in
-    known_public kind v b.0 e (parts_public a.0 b.0 (parts_within (slice_split (λ c. c == byte ".") p) a.0 (or_refused BadOption _ a.0 a.1)) b.1) b.2
+meant_edit_public : (d : Dictionary) (kind : Kind) (p v : List ℕ) (e : Edit) → meant_edit d kind p v ≡ Ok e → is_public e ≡ true
+meant_edit_public d kind p v e h =
+    let a = bind_ok (or_refuse BadOption (parts_of (slice_split (λ c. c == byte ".") p))) (edit_of_parts d kind v) e h in
+    let b = bind_ok (known_parts d a.0) (edit_of_known kind v) e (if_ok (has_form kind a.0) BadOption _ e a.2) in
+    known_public kind v b.0 e (parts_public d a.0 b.0 (parts_within (slice_split (λ c. c == byte ".") p) a.0 (or_refused BadOption _ a.0 a.1)) b.1) b.2
 
-meant_word_public : (kind : Kind) (w : List ℕ) (e : Edit) → meant_word kind w ≡ Ok e → is_public e ≡ true
-meant_word_public kind w e h = by_test (takes_value kind) _ _ h (λ g. meant_edit_public kind (cut_at (byte "=") w).before (unwrap_or (cut_at (byte "=") w).after []) e g) (λ g. meant_edit_public kind w [] e g)
+meant_word_public : (d : Dictionary) (kind : Kind) (w : List ℕ) (e : Edit) → meant_word d kind w ≡ Ok e → is_public e ≡ true
+meant_word_public d kind w e h = by_test (takes_value kind) _ _ h (λ g. meant_edit_public d kind (cut_at (byte "=") w).before (unwrap_or (cut_at (byte "=") w).after []) e g) (λ g. meant_edit_public d kind w [] e g)
   where
     by_test : (c : Bool) (r q : Result Edit EditRefusal) → (if c then r else q) ≡ Ok e → (r ≡ Ok e → is_public e ≡ true) → (q ≡ Ok e → is_public e ≡ true) → is_public e ≡ true
     by_test true r q k f g = f k
@@ -274,26 +274,26 @@ one_word private_word n es q = let P : List Edit → Type 0 = λ l. ArePublic l 
 one_word (takes_word kind) n es q = cc
 one_word unknown_word n es q = cc
 
-two_words : (o : OptionWord) (n : ℕ) (v : List ℕ) (skip more : Result (List Edit) InEdit) (es : List Edit)
+two_words : (d : Dictionary) (o : OptionWord) (n : ℕ) (v : List ℕ) (skip more : Result (List Edit) InEdit) (es : List Edit)
     → ((fs : List Edit) → skip ≡ Ok fs → ArePublic fs) → ((fs : List Edit) → more ≡ Ok fs → ArePublic fs)
     → (let s : Result (List Edit) InEdit = elim o [
       | private_word ↦ and_then erase_private skip
-      | takes_word kind ↦ elim (at_edit n (meant_word kind v)) [ Ok e ↦ and_then e more | Err u ↦ Err u ]
+      | takes_word kind ↦ elim (at_edit n (meant_word d kind v)) [ Ok e ↦ and_then e more | Err u ↦ Err u ]
       | unknown_word ↦ Err (in_edit BadOption n)
     ] in s ≡ Ok es) → ArePublic es
-two_words private_word n v skip more es g h q = then_public erase_private skip es refl g q
-two_words (takes_word kind) n v skip more es g h q = word_then n (meant_word kind v) more es (λ e r. meant_word_public kind v e r) h q
-two_words unknown_word n v skip more es g h q = cc
+two_words d private_word n v skip more es g h q = then_public erase_private skip es refl g q
+two_words d (takes_word kind) n v skip more es g h q = word_then n (meant_word d kind v) more es (λ e r. meant_word_public d kind v e r) h q
+two_words d unknown_word n v skip more es g h q = cc
 
 pub in_turn : (c : Bool) (u : InEdit) (r : Result (List Edit) InEdit) (es : List Edit) → (if c then Err u else r) ≡ Ok es → r ≡ Ok es
 in_turn true u r es p = cc
 in_turn false u r es p = p
 
-meant_public : (n : ℕ) (words : List (List ℕ)) (es : List Edit) → meant_from n words ≡ Ok es → ArePublic es
-meant_public n [] es q = let P : List Edit → Type 0 = λ l. ArePublic l in subst P (ok_is _ _ q) tt
-meant_public n (w ∷ []) es q = one_word (option_word w) n es (in_turn (nat_lt EDIT_LIMIT n) (in_edit TooMany n) _ es q)
-meant_public n (w ∷ v ∷ words) es q =
-    two_words (option_word w) n v _ _ es (meant_public (suc n) (v ∷ words)) (meant_public (suc n) words) (in_turn (nat_lt EDIT_LIMIT n) (in_edit TooMany n) _ es q)
+meant_public : (d : Dictionary) (n : ℕ) (words : List (List ℕ)) (es : List Edit) → meant_from d n words ≡ Ok es → ArePublic es
+meant_public d n [] es q = let P : List Edit → Type 0 = λ l. ArePublic l in subst P (ok_is _ _ q) tt
+meant_public d n (w ∷ []) es q = one_word (option_word w) n es (in_turn (nat_lt EDIT_LIMIT n) (in_edit TooMany n) _ es q)
+meant_public d n (w ∷ v ∷ words) es q =
+    two_words d (option_word w) n v _ _ es (meant_public d (suc n) (v ∷ words)) (meant_public d (suc n) words) (in_turn (nat_lt EDIT_LIMIT n) (in_edit TooMany n) _ es q)
 
 apart_from_words : (r : Result (List Edit) InEdit) (es : List Edit) → (let s : Result (List Edit) InEdit = elim r [ Ok fs ↦ apart fs | Err u ↦ Err u ] in s ≡ Ok es)
     → ((fs : List Edit) → r ≡ Ok fs → ArePublic fs) → AreApart es × ArePublic es
@@ -306,5 +306,5 @@ apart_from_words (Ok fs) es q h = by_overlap (first_overlap 1 [] fs) refl q
 apart_from_words (Err u) es q h = cc
 
 -- the law
-pub edits_are_apart : (words : List (List ℕ)) (es : List Edit) → meant_edits words ≡ Ok es → AreApart es × ArePublic es
-edits_are_apart words es q = apart_from_words (meant_from 1 words) es q (meant_public 1 words)
+pub edits_are_apart : (d : Dictionary) (words : List (List ℕ)) (es : List Edit) → meant_edits_in d words ≡ Ok es → AreApart es × ArePublic es
+edits_are_apart d words es q = apart_from_words (meant_from d 1 (without_dictionary words)) es q (meant_public d 1 (without_dictionary words))

@@ -2,6 +2,7 @@
 use Rattle.std.proofs.Common.{◌≡◌, ℕ, suc, ◌<◌, ◌≤◌, List, [], ◌∷◌, length, map, Option, Some, None, Result, Ok, Err, Bool, true, false, cond, ◌&&◌, ◌==◌, refl, sym, ◌∙◌, ap, arith, eqb-true}
 use Rattle.std.specs.Prelude.{nat_le, if◌then◌else◌}
 use Rattle.std.proofs.lemmas.Bool.Decides.{nat_tests}
+use Rattle.dcm_base.specs.declared.lookup.Dictionary.{Dictionary}
 use Rattle.dcm_base.specs.declared.fault.EditRefusal.{EditRefusal}
 use Rattle.dcm_base.specs.declared.fault.EditRefusal.TheVariants.{BadOption}
 use Rattle.dcm_edit.specs.declared.form.Kind as declared
@@ -86,8 +87,8 @@ taken_by : {A : Type 0} (t : Bool) (u : EditRefusal) (r : Result A EditRefusal) 
 taken_by true u r p = refl
 taken_by false u r p = cc
 
-formless : (kind : Kind) (text : List ℕ) (ms : List PathPart) → has_form kind ms ≡ false → edit_of_parts kind text ms ≡ Err BadOption
-formless kind text ms p = refused_by (has_form kind ms) BadOption _ p
+formless : (d : Dictionary) (kind : Kind) (text : List ℕ) (ms : List PathPart) → has_form kind ms ≡ false → edit_of_parts d kind text ms ≡ Err BadOption
+formless d kind text ms p = refused_by (has_form kind ms) BadOption _ p
 
 many_by : (t : Bool) (ms : List PathPart) → cond t (Some ms) None ≡ None → t ≡ false
 many_by true ms p = cc
@@ -101,32 +102,32 @@ few_some : (o : Option (List PathPart)) (ms : List PathPart) → few o ≡ Some 
 few_some None ms p = cc
 few_some (Some ns) ms p = some_by (nat_le (length ns) PART_LIMIT) ns ms p
 
-none_meant : (kind : Kind) (text : List ℕ) (o : Option (List PathPart)) → few o ≡ None → (or_refuse BadOption o >>= edit_of_parts kind text) ≡ Err BadOption
-none_meant kind text None p = refl
-none_meant kind text (Some ms) p = formless kind text ms (long_form kind ms (not_within (length ms) PART_LIMIT (many_by (nat_le (length ms) PART_LIMIT) ms p)))
+none_meant : (d : Dictionary) (kind : Kind) (text : List ℕ) (o : Option (List PathPart)) → few o ≡ None → (or_refuse BadOption o >>= edit_of_parts d kind text) ≡ Err BadOption
+none_meant d kind text None p = refl
+none_meant d kind text (Some ms) p = formless d kind text ms (long_form kind ms (not_within (length ms) PART_LIMIT (many_by (nat_le (length ms) PART_LIMIT) ms p)))
 
-pub no_path : (kind : Kind) (text path : List ℕ) → few (path_parts path) ≡ None → meant_edit kind path text ≡ Err BadOption
-no_path kind text path p = none_meant kind text (path_parts path) p
+pub no_path : (d : Dictionary) (kind : Kind) (text path : List ℕ) → few (path_parts path) ≡ None → meant_edit d kind path text ≡ Err BadOption
+no_path d kind text path p = none_meant d kind text (path_parts path) p
 
-some_meant : (kind : Kind) (text path : List ℕ) (ms : List PathPart) → few (path_parts path) ≡ Some ms → meant_edit kind path text ≡ edit_of_parts kind text ms
-some_meant kind text path ms p = ap (λ o. or_refuse BadOption o >>= edit_of_parts kind text) (few_some (path_parts path) ms p)
+some_meant : (d : Dictionary) (kind : Kind) (text path : List ℕ) (ms : List PathPart) → few (path_parts path) ≡ Some ms → meant_edit d kind path text ≡ edit_of_parts d kind text ms
+some_meant d kind text path ms p = ap (λ o. or_refuse BadOption o >>= edit_of_parts d kind text) (few_some (path_parts path) ms p)
 
-pub no_form : (kind : Kind) (text path : List ℕ) (ms : List PathPart) → few (path_parts path) ≡ Some ms → has_form kind ms ≡ false → meant_edit kind path text ≡ Err BadOption
-no_form kind text path ms p q = some_meant kind text path ms p ∙ formless kind text ms q
+pub no_form : (d : Dictionary) (kind : Kind) (text path : List ℕ) (ms : List PathPart) → few (path_parts path) ≡ Some ms → has_form kind ms ≡ false → meant_edit d kind path text ≡ Err BadOption
+no_form d kind text path ms p q = some_meant d kind text path ms p ∙ formless d kind text ms q
 
-pub known_meant : (kind : Kind) (text path : List ℕ) (ms : List PathPart) (r : Result (List Known) EditRefusal) → few (path_parts path) ≡ Some ms → has_form kind ms ≡ true → known_parts ms ≡ r
-    → meant_edit kind path text ≡ (r >>= edit_of_known kind text)
-known_meant kind text path ms r p q e = some_meant kind text path ms p ∙ taken_by (has_form kind ms) BadOption _ q ∙ ap (λ x. x >>= edit_of_known kind text) e
+pub known_meant : (d : Dictionary) (kind : Kind) (text path : List ℕ) (ms : List PathPart) (r : Result (List Known) EditRefusal) → few (path_parts path) ≡ Some ms → has_form kind ms ≡ true → known_parts d ms ≡ r
+    → meant_edit d kind path text ≡ (r >>= edit_of_known kind text)
+known_meant d kind text path ms r p q e = some_meant d kind text path ms p ∙ taken_by (has_form kind ms) BadOption _ q ∙ ap (λ x. x >>= edit_of_known kind text) e
 
 -- ---- how many parts there are
 
-known_count : (ms : List PathPart) (ks : List Known) → known_parts ms ≡ Ok ks → length ks ≡ length ms
-known_count [] ks p = let is : [] ≡ ks = ok_is _ _ p in ap length (sym is)
-known_count (m ∷ ms) ks p =
-    let first = bind_ok (known_part m.name m.index) (λ k. known_parts ms >>= λ more. Ok (k ∷ more)) ks p in
-    let rest = bind_ok (known_parts ms) (λ more. Ok (first.0 ∷ more)) ks first.2 in
+known_count : (d : Dictionary) (ms : List PathPart) (ks : List Known) → known_parts d ms ≡ Ok ks → length ks ≡ length ms
+known_count d [] ks p = let is : [] ≡ ks = ok_is _ _ p in ap length (sym is)
+known_count d (m ∷ ms) ks p =
+    let first = bind_ok (known_part d m.name m.index) (λ k. known_parts d ms >>= λ more. Ok (k ∷ more)) ks p in
+    let rest = bind_ok (known_parts d ms) (λ more. Ok (first.0 ∷ more)) ks first.2 in
     let is : first.0 ∷ rest.0 ≡ ks = ok_is _ _ rest.2 in
-    ap length (sym is) ∙ ap suc (known_count ms rest.0 rest.1)
+    ap length (sym is) ∙ ap suc (known_count d ms rest.0 rest.1)
 
 leads_some : (ms : List PathPart) → leads ms ≡ true → 0 < length ms
 leads_some [] p = cc
@@ -149,8 +150,8 @@ form_alone kinds.Erases ms p q = cc
 form_alone kinds.ModifiesAll ms p q = eqb-true (length ms) 1 (and_one (length ms == 1) _ p)
 form_alone kinds.ErasesAll ms p q = eqb-true (length ms) 1 (and_one (length ms == 1) _ p)
 
-pub fit : (kind : declared.Kind) (ms : List PathPart) (ks : List declared_known.Known) → has_form (kind_as kind) ms ≡ true → known_parts ms ≡ Ok (map known_as ks) → Fit kind ks
-fit kind ms ks p q =
-    let count : length ks ≡ length ms = sym (map_length known_as ks) ∙ known_count ms (map known_as ks) q in
+pub fit : (d : Dictionary) (kind : declared.Kind) (ms : List PathPart) (ks : List declared_known.Known) → has_form (kind_as kind) ms ≡ true → known_parts d ms ≡ Ok (map known_as ks) → Fit kind ks
+fit d kind ms ks p q =
+    let count : length ks ≡ length ms = sym (map_length known_as ks) ∙ known_count d ms (map known_as ks) q in
     let some = form_some (kind_as kind) ms p in
     record { some = omega arith; alone = λ e. count ∙ form_alone kind ms p e }

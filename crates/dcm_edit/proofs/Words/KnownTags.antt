@@ -1,37 +1,52 @@
 -- The tags that words name are of elements that a data set may have, with the representations of the dictionary.
-use Rattle.std.proofs.Common.{◌≡◌, ℕ, ◌<◌, List, [], ◌∷◌, Option, Some, None, Result, Ok, Err, Bool, true, false, not, ◌&&◌, ◌==◌, refl, ap, subst, arith}
+use Rattle.std.proofs.Common.{◌≡◌, ℕ, ◌<◌, map, List, [], ◌∷◌, Option, Some, None, Result, Ok, Err, Bool, true, false, not, ◌&&◌, ◌==◌, refl, sym, ◌∙◌, ap, subst, arith}
 use Rattle.std.specs.Prelude.{if◌then◌else◌, nat_lt, find}
 use Rattle.std.specs.List.{list_all}
 use Rattle.std.specs.Option.{option_map_or}
 use Rattle.std.proofs.lemmas.Bool.{eqb-true, ltb-true}
+use Rattle.dcm_base.specs.declared.lookup.Dictionary.{Dictionary}
 use Rattle.dcm_base.specs.declared.tag.Tag.{Tag}
 use Rattle.dcm_base.specs.declared.vr.Vr.{Vr}
 use Rattle.dcm_base.specs.declared.vr.Vr.TheVariants.{UL, LO, UN}
 use Rattle.dcm_base.specs.declared.fault.EditRefusal.{EditRefusal}
 use Rattle.dcm_base.specs.declared.fault.EditRefusal.TheVariants.{UnknownTag, MetaGroup}
 use Rattle.dcm_base.specs.Tag.{number, tag_of_number}
-use Rattle.dcm_base.specs.Dictionary.{Element, elements, element, called, tag_of, dict_vr, is_group_length, is_private_creator}
+use Rattle.dcm_base.specs.declared.lookup.Dictionary.TheVariants.{Extract, Standard}
+use Rattle.dcm_base.specs.Dictionary.{Element, Entry, elements, entries, keywords, element_of, elements_in, element_in, called, tag_in, vr_in, is_group_length, is_private_creator}
 use Rattle.dcm_tools.proofs.ReadBack.HasRoom.{IsElement}
 use Rattle.dcm_edit.specs.Edit.{Index}
 use Rattle.dcm_edit.specs.EditWords.{◌>>=◌, or_refuse, PathPart, TagName, by_number, by_keyword, Known, known_tag, known_part, known_parts}
 use Rattle.dcm_edit.proofs.Words.EditWordLemmas.{bind_ok, ok_is, if_err, or_refused, mapped, found_passes, same_group, Within, AllWithin}
 
-abbrev pub IsListed : Known → Type 0
-IsListed k = IsElement k.tag × (dict_vr k.tag ≡ k.vr)
+abbrev pub IsListed : Dictionary → Known → Type 0
+IsListed d k = IsElement k.tag × (vr_in d k.tag ≡ k.vr)
 
-abbrev pub AllListed : List Known → Type 0
-AllListed [] = Unit {0}
-AllListed (k ∷ ks) = IsListed k × AllListed ks
+abbrev pub AllListed : Dictionary → List Known → Type 0
+AllListed d [] = Unit {0}
+AllListed d (k ∷ ks) = IsListed d k × AllListed d ks
 
--- ---- the extract
+-- ---- the dictionaries
 
--- tags of four bytes, and none of an item or a delimiter
-abbrev is_of_element : Element → Bool
-is_of_element e = nat_lt e.0 4294967296 && not ((tag_of_number e.0).group == 0xFFFE)
+-- the number of a tag of four bytes, and of no item or delimiter
+abbrev is_of_element : ℕ → Bool
+is_of_element n = nat_lt n 4294967296 && not ((tag_of_number n).group == 0xFFFE)
 
-extract_is_of_elements : list_all is_of_element elements ≡ true
+extract_is_of_elements : list_all (λ (e : Element). is_of_element e.0) elements ≡ true
 unfolding elements
 extract_is_of_elements = refl
+
+entries_are_of_elements : list_all (λ (e : Entry). is_of_element e.0) entries ≡ true
+unfolding entries
+entries_are_of_elements = refl
+
+same_test : (text : List ℕ) (es : List Entry) → list_all (λ (e : Entry). is_of_element e.0) es ≡ list_all (λ (e : Element). is_of_element e.0) (map (element_of text) es)
+same_test text [] = refl
+same_test text (e ∷ es) = ap (λ b. is_of_element e.0 && b) (same_test text es)
+
+are_of_elements : (d : Dictionary) → list_all (λ (e : Element). is_of_element e.0) (elements_in d) ≡ true
+unfolding elements_in
+are_of_elements Extract = extract_is_of_elements
+are_of_elements Standard = sym (same_test keywords entries) ∙ entries_are_of_elements
 
 and_one : (a b : Bool) → (a && b) ≡ true → a ≡ true
 and_one true b p = refl
@@ -49,11 +64,11 @@ both_not false false p q = refl
 group_within : (tag : Tag) (n : ℕ) → n ≡ number tag → n < 4294967296 → tag.group < 65536
 group_within tag n e h = omega (arith, e, h)
 
-element_is : (tag : Tag) (x : Vr × List ℕ) → tag.element < 65536 → (tag.group == 2) ≡ false → element tag ≡ Some x → IsElement tag
-unfolding element
-element_is tag x h data_set p =
-    let m = mapped (λ (e : Element). (e.1, e.2)) (find (λ (e : Element). e.0 == number tag) elements) x p in
-    let q = found_passes (λ e. e.0 == number tag) is_of_element elements m.0 extract_is_of_elements m.1 in
+element_is : (d : Dictionary) (tag : Tag) (x : Vr × List ℕ) → tag.element < 65536 → (tag.group == 2) ≡ false → element_in d tag ≡ Some x → IsElement tag
+unfolding element_in
+element_is d tag x h data_set p =
+    let m = mapped (λ (e : Element). (e.1, e.2)) (find (λ (e : Element). e.0 == number tag) (elements_in d)) x p in
+    let q = found_passes (λ e. e.0 == number tag) (λ e. is_of_element e.0) (elements_in d) m.0 (are_of_elements d) m.1 in
     let same : m.0.0 ≡ number tag = eqb-true m.0.0 (number tag) q.1 in
     let below : m.0.0 < 4294967296 = ltb-true m.0.0 4294967296 (and_one _ _ q.0) in
     let other : not (tag.group == 0xFFFE) ≡ true = subst (λ (g : ℕ). not (g == 0xFFFE) ≡ true) (same_group tag m.0.0 h q.1) (and_two (nat_lt m.0.0 4294967296) _ q.0) in
@@ -63,9 +78,9 @@ entry_vr : (o : Option (Vr × List ℕ)) (x : Vr × List ℕ) (otherwise : Vr) �
 entry_vr None x otherwise p = absurd cc
 entry_vr (Some y) x otherwise p = let same : y ≡ x = cc in ap (λ (e : Vr × List ℕ). e.0) same
 
-vr_is : (tag : Tag) (x : Vr × List ℕ) → element tag ≡ Some x → dict_vr tag ≡ x.0
-unfolding dict_vr
-vr_is tag x p = entry_vr (element tag) x (if is_group_length tag then UL else if is_private_creator tag then LO else UN) p
+vr_is : (d : Dictionary) (tag : Tag) (x : Vr × List ℕ) → element_in d tag ≡ Some x → vr_in d tag ≡ x.0
+unfolding vr_in
+vr_is d tag x p = entry_vr (element_in d tag) x (if is_group_length tag then UL else if is_private_creator tag then LO else UN) p
 
 -- ---- known parts
 
@@ -73,37 +88,37 @@ if_not : {A : Type 0} (c : Bool) (u : EditRefusal) (r : Result A EditRefusal) (y
 if_not true u r y p = absurd cc
 if_not false u r y p = refl
 
-record_listed : (tag : Tag) (vr : Vr) (index : Option Index) (k : Known) → IsElement tag → dict_vr tag ≡ vr → (let l : Known = record { tag = tag; vr = vr; index = index } in l ≡ k) → IsListed k
-record_listed tag vr index k h g p = let P : Known → Type 0 = λ x. IsListed x in subst P p (h, g)
+record_listed : (d : Dictionary) (tag : Tag) (vr : Vr) (index : Option Index) (k : Known) → IsElement tag → vr_in d tag ≡ vr → (let l : Known = record { tag = tag; vr = vr; index = index } in l ≡ k) → IsListed d k
+record_listed d tag vr index k h g p = let P : Known → Type 0 = λ x. IsListed d x in subst P p (h, g)
 
-tag_listed : (index : Option Index) (tag : Tag) (k : Known) → tag.element < 65536 → known_tag index tag ≡ Ok k → IsListed k
-tag_listed index tag k h p =
-    let data_set = if_not (tag.group == 2) MetaGroup (or_refuse UnknownTag (element tag) >>= λ e. Ok (record { tag = tag; vr = e.0; index = index })) k p in
-    let q = if_err (tag.group == 2) MetaGroup (or_refuse UnknownTag (element tag) >>= λ e. Ok (record { tag = tag; vr = e.0; index = index })) k p in
-    let r = bind_ok (or_refuse UnknownTag (element tag)) (λ e. Ok (record { tag = tag; vr = e.0; index = index })) k q in
-    let is : element tag ≡ Some r.0 = or_refused UnknownTag (element tag) r.0 r.1 in
-    record_listed tag r.0.0 index k (element_is tag r.0 h data_set is) (vr_is tag r.0 is) (ok_is _ _ r.2)
+tag_listed : (d : Dictionary) (index : Option Index) (tag : Tag) (k : Known) → tag.element < 65536 → known_tag d index tag ≡ Ok k → IsListed d k
+tag_listed d index tag k h p =
+    let data_set = if_not (tag.group == 2) MetaGroup (or_refuse UnknownTag (element_in d tag) >>= λ e. Ok (record { tag = tag; vr = e.0; index = index })) k p in
+    let q = if_err (tag.group == 2) MetaGroup (or_refuse UnknownTag (element_in d tag) >>= λ e. Ok (record { tag = tag; vr = e.0; index = index })) k p in
+    let r = bind_ok (or_refuse UnknownTag (element_in d tag)) (λ e. Ok (record { tag = tag; vr = e.0; index = index })) k q in
+    let is : element_in d tag ≡ Some r.0 = or_refused UnknownTag (element_in d tag) r.0 r.1 in
+    record_listed d tag r.0.0 index k (element_is d tag r.0 h data_set is) (vr_is d tag r.0 is) (ok_is _ _ r.2)
 
 number_within : (n : ℕ) → (tag_of_number n).element < 65536
 number_within n = omega arith
 
-keyword_within : (word : List ℕ) (tag : Tag) → tag_of word ≡ Some tag → tag.element < 65536
-unfolding tag_of
-keyword_within word tag p =
-    let m = mapped tag_of_number (called elements word) tag p in
+keyword_within : (d : Dictionary) (word : List ℕ) (tag : Tag) → tag_in d word ≡ Some tag → tag.element < 65536
+unfolding tag_in
+keyword_within d word tag p =
+    let m = mapped tag_of_number (called (elements_in d) word) tag p in
     subst (λ (t : Tag). t.element < 65536) m.2 (number_within m.0)
 
-part_listed : (s : TagName) (index : Option Index) (k : Known) → Within s → known_part s index ≡ Ok k → IsListed k
+part_listed : (d : Dictionary) (s : TagName) (index : Option Index) (k : Known) → Within s → known_part d s index ≡ Ok k → IsListed d k
 unfolding Within
-part_listed (by_number tag) index k h p = tag_listed index tag k h p
-part_listed (by_keyword word) index k h p =
-    let r = bind_ok (or_refuse UnknownTag (tag_of word)) (known_tag index) k p in
-    tag_listed index r.0 k (keyword_within word r.0 (or_refused UnknownTag (tag_of word) r.0 r.1)) r.2
+part_listed d (by_number tag) index k h p = tag_listed d index tag k h p
+part_listed d (by_keyword word) index k h p =
+    let r = bind_ok (or_refuse UnknownTag (tag_in d word)) (known_tag d index) k p in
+    tag_listed d index r.0 k (keyword_within d word r.0 (or_refused UnknownTag (tag_in d word) r.0 r.1)) r.2
 
-pub parts_listed : (ms : List PathPart) (ks : List Known) → AllWithin ms → known_parts ms ≡ Ok ks → AllListed ks
+pub parts_listed : (d : Dictionary) (ms : List PathPart) (ks : List Known) → AllWithin ms → known_parts d ms ≡ Ok ks → AllListed d ks
 unfolding AllWithin
-parts_listed [] ks w p = subst (λ (l : List Known). AllListed l) (ok_is [] ks p) tt
-parts_listed (m ∷ ms) ks w p =
-    let first = bind_ok (known_part m.name m.index) (λ k. known_parts ms >>= λ more. Ok (k ∷ more)) ks p in
-    let rest = bind_ok (known_parts ms) (λ more. Ok (first.0 ∷ more)) ks first.2 in
-    subst (λ (l : List Known). AllListed l) (ok_is _ _ rest.2) (part_listed m.name m.index first.0 w.0 first.1, parts_listed ms rest.0 w.1 rest.1)
+parts_listed d [] ks w p = subst (λ (l : List Known). AllListed d l) (ok_is [] ks p) tt
+parts_listed d (m ∷ ms) ks w p =
+    let first = bind_ok (known_part d m.name m.index) (λ k. known_parts d ms >>= λ more. Ok (k ∷ more)) ks p in
+    let rest = bind_ok (known_parts d ms) (λ more. Ok (first.0 ∷ more)) ks first.2 in
+    subst (λ (l : List Known). AllListed d l) (ok_is _ _ rest.2) (part_listed d m.name m.index first.0 w.0 first.1, parts_listed d ms rest.0 w.1 rest.1)

@@ -12,7 +12,7 @@ use Rattle.dcm_edit.proofs.Masks.SoundSteps.{sound_begun}
 use Rattle.dcm_edit.proofs.Words.WordValues.{edits_fit}
 
 pub few_meant : (edits : List Edit) → AreMeant edits → length edits ≤ 64
-few_meant edits m = few m.words edits m.mean
+few_meant edits m = few m.dictionary m.words edits m.mean
 
 pub few_listed : {A : Type 0} (list : List (AnEdit A)) (edits : List Edit) → map edit_of list ≡ edits → AreMeant edits → length list ≤ 64
 few_listed list edits is m =
@@ -22,7 +22,7 @@ few_listed list edits is m =
     omega (arith, size, same, most)
 
 pub short_listed : {A : Type 0} (list : List (AnEdit A)) (edits : List Edit) → map edit_of list ≡ edits → AreMeant edits → AreWithin 64 (map edit_of list)
-short_listed list edits is m = subst (AreWithin 64) (sym is) (edits_fit m.words edits m.mean).2
+short_listed list edits is m = subst (AreWithin 64) (sym is) (edits_fit m.dictionary m.words edits m.mean).2
 
 pub sound_meant : (edits : List Edit) → AreMeant edits → IsSound (begun edits)
-sound_meant edits m = let h = edits_are_apart m.words edits m.mean in sound_begun edits h.0 h.1
+sound_meant edits m = let h = edits_are_apart m.dictionary m.words edits m.mean in sound_begun edits h.0 h.1

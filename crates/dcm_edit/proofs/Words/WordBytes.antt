@@ -4,6 +4,7 @@ use Rattle.std.specs.Prelude.{if◌then◌else◌, ◌-◌, ◌*◌, ◌^◌, �
 use Rattle.std.specs.Int.{bytes_low_first}
 use Rattle.std.specs.List.{slice_split}
 use Rattle.std.specs.Str.{byte}
+use Rattle.dcm_base.specs.declared.lookup.Dictionary.{Dictionary}
 use Rattle.dcm_base.specs.declared.tag.Tag.{Tag}
 use Rattle.dcm_base.specs.declared.vr.Vr.{Vr}
 use Rattle.dcm_base.specs.declared.vr.Vr.TheVariants.{SQ}
@@ -15,7 +16,7 @@ use Rattle.dcm_base.proofs.DumpsBack.Numbers.{Bytes-append}
 use Rattle.dcm_base.proofs.DumpsBack.DigitNumbers.{bind_some, if_some}
 use Rattle.dcm_base.proofs.DumpsBack.Texts.{Bytes}
 use Rattle.dcm_edit.specs.Edit.{Index, PathEdit, insert, modify, Edit}
-use Rattle.dcm_edit.specs.EditWords.{Cut, cut, onto, cut_at, parts_of, Known, known_parts, has_form, uses_sequences, takes_value, Kind, inserts, modifies, erases, modifies_all, erases_all, last_vr, on_steps, step_to, item_or_element, edit_on, value_for, edit_of_known, edit_of_parts, meant_edit, meant_edits, or_refuse}
+use Rattle.dcm_edit.specs.EditWords.{Cut, cut, onto, cut_at, parts_of, Known, known_parts, has_form, uses_sequences, takes_value, Kind, inserts, modifies, erases, modifies_all, erases_all, last_vr, on_steps, step_to, item_or_element, edit_on, value_for, edit_of_known, edit_of_parts, meant_edit, meant_edits_in, or_refuse}
 use Rattle.dcm_edit.proofs.Words.EditWordLemmas.{bind_ok, ok_is, if_ok, or_refused}
 use Rattle.dcm_edit.proofs.Words.WordValues.{AllFine, AllHave, fine_edits_have}
 use Rattle.dcm_edit.proofs.ReadBack.BytesKept.{low_bytes, PathBytes, EditBytes, AllEditBytes}
@@ -137,10 +138,10 @@ known_bytes kind v (k ∷ ks) e fine h =
     let r = bind_ok (value_for kind (last_vr k ks) v) (λ value. Ok (edit_on kind k ks value)) e (if_ok (uses_sequences (takes_value kind) (k ∷ ks)) SequenceMisused _ e h) in
     subst (λ (x : Edit). EditBytes x) (ok_is _ _ r.2) (on_bytes kind k ks r.0 (value_bytes kind (last_vr k ks) v r.0 fine r.1))
 
-meant_bytes : (kind : Kind) (p v : List ℕ) (e : Edit) → Bytes v → meant_edit kind p v ≡ Ok e → EditBytes e
-meant_bytes kind p v e fine h =
-    let a = bind_ok (or_refuse BadOption (parts_of (slice_split (λ c. c == byte ".") p))) (edit_of_parts kind v) e h in
-    let b = bind_ok (known_parts a.0) (edit_of_known kind v) e (if_ok (has_form kind a.0) BadOption _ e a.2) in
+meant_bytes : (d : Dictionary) (kind : Kind) (p v : List ℕ) (e : Edit) → Bytes v → meant_edit d kind p v ≡ Ok e → EditBytes e
+meant_bytes d kind p v e fine h =
+    let a = bind_ok (or_refuse BadOption (parts_of (slice_split (λ c. c == byte ".") p))) (edit_of_parts d kind v) e h in
+    let b = bind_ok (known_parts d a.0) (edit_of_known kind v) e (if_ok (has_form kind a.0) BadOption _ e a.2) in
     known_bytes kind v b.0 e fine b.2
 
 -- ---- words
@@ -157,5 +158,5 @@ all_bytes : (es : List Edit) → AllHave EditBytes es → AllEditBytes es
 all_bytes [] h = tt
 all_bytes (e ∷ es) h = (h.0, all_bytes es h.1)
 
-pub words_bytes : (words : List (List ℕ)) (es : List Edit) → AllFine Bytes words → meant_edits words ≡ Ok es → AllEditBytes es
-words_bytes words es fine q = all_bytes es (fine_edits_have Bytes tt (cut_bytes (byte "=")) EditBytes tt meant_bytes words es fine q)
+pub words_bytes : (d : Dictionary) (words : List (List ℕ)) (es : List Edit) → AllFine Bytes words → meant_edits_in d words ≡ Ok es → AllEditBytes es
+words_bytes d words es fine q = all_bytes es (fine_edits_have d Bytes tt (cut_bytes (byte "=")) EditBytes tt (meant_bytes d) words es fine q)

@@ -4,10 +4,11 @@ use Rattle.std.specs.Prelude.{if◌then◌else◌, ◌==◌, nat_lt, nat_le, opt
 use Rattle.std.specs.Char.{digit_value}
 use Rattle.std.specs.Str.{byte}
 use Rattle.std.proofs.lemmas.Bool.{ltb-true, leb-true}
+use Rattle.dcm_base.specs.declared.lookup.Dictionary.{Dictionary}
 use Rattle.dcm_base.specs.declared.tag.Tag.{Tag}
 use Rattle.dcm_base.specs.declared.vr.Vr.{Vr}
 use Rattle.dcm_base.specs.declared.fault.EditRefusal.TheVariants.{UnknownTag, MetaGroup}
-use Rattle.dcm_base.specs.Dictionary.{element, tag_of}
+use Rattle.dcm_base.specs.Dictionary.{element_in, tag_in}
 use Rattle.dcm_base.specs.ReadValue.{digit, number_in}
 use Rattle.dcm_base.proofs.DumpsBack.DigitNumbers.{bind_some, if_some}
 use Rattle.dcm_edit.specs.Edit.{Index, number, every, PathEdit, insert, modify}
@@ -125,28 +126,28 @@ parts_short (text ∷ texts) ps p =
 record_index : (tag : Tag) (vr : Vr) (index : Option Index) (k : Known) → (let l : Known = record { tag = tag; vr = vr; index = index } in l ≡ k) → k.index ≡ index
 record_index tag vr index k p = sym (ap (λ (x : Known). x.index) p)
 
-tag_index : (index : Option Index) (tag : Tag) (k : Known) → known_tag index tag ≡ Ok k → k.index ≡ index
-tag_index index tag k p =
-    let q = if_err (tag.group == 2) MetaGroup (or_refuse UnknownTag (element tag) >>= λ e. Ok (record { tag = tag; vr = e.0; index = index })) k p in
-    let r = bind_ok (or_refuse UnknownTag (element tag)) (λ e. Ok (record { tag = tag; vr = e.0; index = index })) k q in
+tag_index : (d : Dictionary) (index : Option Index) (tag : Tag) (k : Known) → known_tag d index tag ≡ Ok k → k.index ≡ index
+tag_index d index tag k p =
+    let q = if_err (tag.group == 2) MetaGroup (or_refuse UnknownTag (element_in d tag) >>= λ e. Ok (record { tag = tag; vr = e.0; index = index })) k p in
+    let r = bind_ok (or_refuse UnknownTag (element_in d tag)) (λ e. Ok (record { tag = tag; vr = e.0; index = index })) k q in
     record_index tag r.0.0 index k (ok_is _ _ r.2)
 
-pub part_index : (s : TagName) (index : Option Index) (k : Known) → known_part s index ≡ Ok k → k.index ≡ index
-part_index (by_number tag) index k p = tag_index index tag k p
-part_index (by_keyword word) index k p =
-    let r = bind_ok (or_refuse UnknownTag (tag_of word)) (known_tag index) k p in
-    tag_index index r.0 k r.2
+pub part_index : (d : Dictionary) (s : TagName) (index : Option Index) (k : Known) → known_part d s index ≡ Ok k → k.index ≡ index
+part_index d (by_number tag) index k p = tag_index d index tag k p
+part_index d (by_keyword word) index k p =
+    let r = bind_ok (or_refuse UnknownTag (tag_in d word)) (known_tag d index) k p in
+    tag_index d index r.0 k r.2
 
 abbrev pub AllShortKnown : List Known → Type 0
 AllShortKnown [] = Unit {0}
 AllShortKnown (k ∷ ks) = IfShort k.index × AllShortKnown ks
 
-pub known_short : (ms : List PathPart) (ks : List Known) → AllShortParts ms → known_parts ms ≡ Ok ks → AllShortKnown ks
-known_short [] ks h p = subst (λ (l : List Known). AllShortKnown l) (ok_is [] ks p) tt
-known_short (m ∷ ms) ks h p =
-    let first = bind_ok (known_part m.name m.index) (λ k. known_parts ms >>= λ more. Ok (k ∷ more)) ks p in
-    let rest = bind_ok (known_parts ms) (λ more. Ok (first.0 ∷ more)) ks first.2 in
-    subst (λ (l : List Known). AllShortKnown l) (ok_is _ _ rest.2) (subst IfShort (sym (part_index m.name m.index first.0 first.1)) h.0, known_short ms rest.0 h.1 rest.1)
+pub known_short : (d : Dictionary) (ms : List PathPart) (ks : List Known) → AllShortParts ms → known_parts d ms ≡ Ok ks → AllShortKnown ks
+known_short d [] ks h p = subst (λ (l : List Known). AllShortKnown l) (ok_is [] ks p) tt
+known_short d (m ∷ ms) ks h p =
+    let first = bind_ok (known_part d m.name m.index) (λ k. known_parts d ms >>= λ more. Ok (k ∷ more)) ks p in
+    let rest = bind_ok (known_parts d ms) (λ more. Ok (first.0 ∷ more)) ks first.2 in
+    subst (λ (l : List Known). AllShortKnown l) (ok_is _ _ rest.2) (subst IfShort (sym (part_index d m.name m.index first.0 first.1)) h.0, known_short d ms rest.0 h.1 rest.1)
 
 -- ---- the edit
 

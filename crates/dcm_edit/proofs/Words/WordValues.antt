@@ -5,10 +5,11 @@ use Rattle.std.specs.List.{slice_split}
 use Rattle.std.specs.Str.{byte}
 use Rattle.std.specs.Option.{is_some}
 use Rattle.std.proofs.lemmas.Bool.{eqb-true}
+use Rattle.dcm_base.specs.declared.lookup.Dictionary.{Dictionary}
 use Rattle.dcm_base.specs.declared.tag.Tag.{Tag}
 use Rattle.dcm_base.specs.declared.vr.Vr.{Vr}
 use Rattle.dcm_base.specs.declared.vr.Vr.TheVariants.{SQ}
-use Rattle.dcm_base.specs.declared.syntax.Syntax.TheVariants.{Little}
+use Rattle.dcm_base.specs.Syntax.{Little}
 use Rattle.dcm_base.specs.declared.length.Length.TheVariants as length_variants
 use Rattle.dcm_base.specs.declared.form.Form.TheVariants.{Value as a_value}
 use Rattle.dcm_base.specs.declared.fault.EditRefusal.{EditRefusal}
@@ -18,7 +19,7 @@ use Rattle.dcm_base.specs.Spelling.{form}
 use Rattle.dcm_edit.specs.Edit.{Index, PathEdit, insert, modify, Edit, erase_private}
 use Rattle.dcm_edit.specs.Overlap.{first_overlap}
 use Rattle.dcm_edit.specs.EditSink.{PathHasValue, HasValue, HaveValues, HasShortIndexes, HaveShortIndexes, depth, AreWithin}
-use Rattle.dcm_edit.specs.EditWords.{InEdit, ◌>>=◌, or_refuse, PathPart, Known, known_part, known_parts, parts_of, has_index, leads, ends_in_tag, has_form, is_indexed, uses_sequences, takes_value, Kind, inserts, modifies, erases, modifies_all, erases_all, last_vr, on_steps, step_to, item_or_element, edit_on, value_for, edit_of_known, edit_of_parts, meant_edit, meant_word, meant_from, meant_edits, apart, and_then, at_edit, in_edit, OptionWord, takes_word, private_word, unknown_word, option_word, cut_at, EDIT_LIMIT}
+use Rattle.dcm_edit.specs.EditWords.{InEdit, ◌>>=◌, or_refuse, PathPart, Known, known_part, known_parts, parts_of, has_index, leads, ends_in_tag, has_form, is_indexed, uses_sequences, takes_value, Kind, inserts, modifies, erases, modifies_all, erases_all, last_vr, on_steps, step_to, item_or_element, edit_on, value_for, edit_of_known, edit_of_parts, meant_edit, meant_word, meant_from, meant_edits_in, unless_dictionary, without_dictionary, takes_next, dictionary_word, apart, and_then, at_edit, in_edit, OptionWord, takes_word, private_word, unknown_word, option_word, cut_at, EDIT_LIMIT}
 use Rattle.dcm_edit.proofs.Words.EditWordLemmas.{bind_ok, ok_is, if_ok, or_refused, in_turn}
 use Rattle.dcm_edit.proofs.Words.WordDepths.{edit_depth}
 use Rattle.dcm_edit.proofs.Words.WordIndexes.{AllShortKnown, part_index, parts_short, known_short, edit_short}
@@ -85,22 +86,22 @@ ends_more : (k : Known) (ks : List Known) → EndsPlain ks → EndsPlain (k ∷ 
 ends_more k [] p = absurd cc
 ends_more k (l ∷ ks) p = p
 
-pub parts_end : (ms : List PathPart) (ks : List Known) → known_parts ms ≡ Ok ks → ends_in_tag ms ≡ true → EndsPlain ks
-parts_end [] ks p e = absurd cc
-parts_end (m ∷ []) ks p e =
-    let first = bind_ok (known_part m.name m.index) (λ k. known_parts [] >>= λ more. Ok (k ∷ more)) ks p in
-    subst (λ (l : List Known). EndsPlain l) (ok_is (first.0 ∷ []) ks first.2) (ap (λ (o : Option Index). is_some o) (part_index m.name m.index first.0 first.1) ∙ not_is (has_index m) e)
-parts_end (m ∷ n ∷ ms) ks p e =
-    let first = bind_ok (known_part m.name m.index) (λ k. known_parts (n ∷ ms) >>= λ more. Ok (k ∷ more)) ks p in
-    let rest = bind_ok (known_parts (n ∷ ms)) (λ more. Ok (first.0 ∷ more)) ks first.2 in
-    subst (λ (l : List Known). EndsPlain l) (ok_is _ _ rest.2) (ends_more first.0 rest.0 (parts_end (n ∷ ms) rest.0 rest.1 e))
+pub parts_end : (d : Dictionary) (ms : List PathPart) (ks : List Known) → known_parts d ms ≡ Ok ks → ends_in_tag ms ≡ true → EndsPlain ks
+parts_end d [] ks p e = absurd cc
+parts_end d (m ∷ []) ks p e =
+    let first = bind_ok (known_part d m.name m.index) (λ k. known_parts d [] >>= λ more. Ok (k ∷ more)) ks p in
+    subst (λ (l : List Known). EndsPlain l) (ok_is (first.0 ∷ []) ks first.2) (ap (λ (o : Option Index). is_some o) (part_index d m.name m.index first.0 first.1) ∙ not_is (has_index m) e)
+parts_end d (m ∷ n ∷ ms) ks p e =
+    let first = bind_ok (known_part d m.name m.index) (λ k. known_parts d (n ∷ ms) >>= λ more. Ok (k ∷ more)) ks p in
+    let rest = bind_ok (known_parts d (n ∷ ms)) (λ more. Ok (first.0 ∷ more)) ks first.2 in
+    subst (λ (l : List Known). EndsPlain l) (ok_is _ _ rest.2) (ends_more first.0 rest.0 (parts_end d (n ∷ ms) rest.0 rest.1 e))
 
-pub parts_count : (ms : List PathPart) (ks : List Known) → known_parts ms ≡ Ok ks → length ks ≡ length ms
-parts_count [] ks p = ap (λ (l : List Known). length l) (sym (ok_is [] ks p))
-parts_count (m ∷ ms) ks p =
-    let first = bind_ok (known_part m.name m.index) (λ k. known_parts ms >>= λ more. Ok (k ∷ more)) ks p in
-    let rest = bind_ok (known_parts ms) (λ more. Ok (first.0 ∷ more)) ks first.2 in
-    ap (λ (l : List Known). length l) (sym (ok_is _ _ rest.2)) ∙ ap suc (parts_count ms rest.0 rest.1)
+pub parts_count : (d : Dictionary) (ms : List PathPart) (ks : List Known) → known_parts d ms ≡ Ok ks → length ks ≡ length ms
+parts_count d [] ks p = ap (λ (l : List Known). length l) (sym (ok_is [] ks p))
+parts_count d (m ∷ ms) ks p =
+    let first = bind_ok (known_part d m.name m.index) (λ k. known_parts d ms >>= λ more. Ok (k ∷ more)) ks p in
+    let rest = bind_ok (known_parts d ms) (λ more. Ok (first.0 ∷ more)) ks first.2 in
+    ap (λ (l : List Known). length l) (sym (ok_is _ _ rest.2)) ∙ ap suc (parts_count d ms rest.0 rest.1)
 
 erases_any : (kind : Kind) (k : Known) (ks : List Known) (value : List ℕ) → takes_value kind ≡ false → HasValue (edit_on kind k ks value)
 erases_any inserts k ks value p = absurd cc
@@ -142,26 +143,26 @@ if_test false u r y p = absurd cc
 abbrev Fits : Edit → Type 0
 Fits e = HasValue e × HasShortIndexes e × (depth e ≤ 64)
 
-value_by_kind : (kind : Kind) (t : Bool) (ms : List PathPart) (k : Known) (ks : List Known) (value : List ℕ) → takes_value kind ≡ t → has_form kind ms ≡ true → known_parts ms ≡ Ok (k ∷ ks)
+value_by_kind : (d : Dictionary) (kind : Kind) (t : Bool) (ms : List PathPart) (k : Known) (ks : List Known) (value : List ℕ) → takes_value kind ≡ t → has_form kind ms ≡ true → known_parts d ms ≡ Ok (k ∷ ks)
     → uses_sequences (takes_value kind) (k ∷ ks) ≡ true → HasValue (edit_on kind k ks value)
-value_by_kind kind true ms k ks value t f m u =
-    edit_has kind k ks value (parts_end ms (k ∷ ks) m (form_ends kind ms t f)) (λ x. subst (λ (y : Bool). uses_sequences y (k ∷ ks) ≡ true) t u) (λ x. parts_count ms (k ∷ ks) m ∙ form_one kind ms f x)
-value_by_kind kind false ms k ks value t f m u = erases_any kind k ks value t
+value_by_kind d kind true ms k ks value t f m u =
+    edit_has kind k ks value (parts_end d ms (k ∷ ks) m (form_ends kind ms t f)) (λ x. subst (λ (y : Bool). uses_sequences y (k ∷ ks) ≡ true) t u) (λ x. parts_count d ms (k ∷ ks) m ∙ form_one kind ms f x)
+value_by_kind d kind false ms k ks value t f m u = erases_any kind k ks value t
 
-known_fits : (kind : Kind) (v : List ℕ) (ms : List PathPart) (ks : List Known) (e : Edit) → has_form kind ms ≡ true → known_parts ms ≡ Ok ks → AllShortKnown ks → edit_of_known kind v ks ≡ Ok e → Fits e
-known_fits kind v ms [] e formed known short h = absurd cc
-known_fits kind v ms (k ∷ ks) e formed known short h =
+known_fits : (d : Dictionary) (kind : Kind) (v : List ℕ) (ms : List PathPart) (ks : List Known) (e : Edit) → has_form kind ms ≡ true → known_parts d ms ≡ Ok ks → AllShortKnown ks → edit_of_known kind v ks ≡ Ok e → Fits e
+known_fits d kind v ms [] e formed known short h = absurd cc
+known_fits d kind v ms (k ∷ ks) e formed known short h =
     let used : uses_sequences (takes_value kind) (k ∷ ks) ≡ true = if_test (uses_sequences (takes_value kind) (k ∷ ks)) SequenceMisused _ e h in
     let r = bind_ok (value_for kind (last_vr k ks) v) (λ value. Ok (edit_on kind k ks value)) e (if_ok (uses_sequences (takes_value kind) (k ∷ ks)) SequenceMisused _ e h) in
-    subst (λ (x : Edit). Fits x) (ok_is _ _ r.2) (value_by_kind kind (takes_value kind) ms k ks r.0 refl formed known used, edit_short kind k ks r.0 short, edit_depth kind ms k ks r.0 formed known)
+    subst (λ (x : Edit). Fits x) (ok_is _ _ r.2) (value_by_kind d kind (takes_value kind) ms k ks r.0 refl formed known used, edit_short kind k ks r.0 short, edit_depth d kind ms k ks r.0 formed known)
 
-edit_fits : (kind : Kind) (p v : List ℕ) (e : Edit) → meant_edit kind p v ≡ Ok e → Fits e
-edit_fits kind p v e h =
-    let a = bind_ok (or_refuse BadOption (parts_of (slice_split (λ c. c == byte ".") p))) (edit_of_parts kind v) e h in
+edit_fits : (d : Dictionary) (kind : Kind) (p v : List ℕ) (e : Edit) → meant_edit d kind p v ≡ Ok e → Fits e
+edit_fits d kind p v e h =
+    let a = bind_ok (or_refuse BadOption (parts_of (slice_split (λ c. c == byte ".") p))) (edit_of_parts d kind v) e h in
     let formed : has_form kind a.0 ≡ true = if_test (has_form kind a.0) BadOption _ e a.2 in
-    let b = bind_ok (known_parts a.0) (edit_of_known kind v) e (if_ok (has_form kind a.0) BadOption _ e a.2) in
+    let b = bind_ok (known_parts d a.0) (edit_of_known kind v) e (if_ok (has_form kind a.0) BadOption _ e a.2) in
     let short = parts_short (slice_split (λ c. c == byte ".") p) a.0 (or_refused BadOption _ a.0 a.1) in
-    known_fits kind v a.0 b.0 e formed b.1 (known_short a.0 b.0 short b.1) b.2
+    known_fits d kind v a.0 b.0 e formed b.1 (known_short d a.0 b.0 short b.1) b.2
 
 -- ---- all edits
 
@@ -173,10 +174,27 @@ abbrev pub AllFine : (List ℕ → Type 0) → List (List ℕ) → Type 0
 AllFine Fine [] = Unit {0}
 AllFine Fine (w ∷ words) = Fine w × AllFine Fine words
 
+-- without those that name a dictionary, fine words are fine
+fine_unless : (Fine : List ℕ → Type 0) (t : Bool) (w : List ℕ) (words : List (List ℕ)) → Fine w → AllFine Fine words → AllFine Fine (if t then words else w ∷ words)
+fine_unless Fine true w words h g = g
+fine_unless Fine false w words h g = (h, g)
+
+fine_by : (Fine : List ℕ → Type 0) (t : Bool) (two one : List (List ℕ)) → AllFine Fine two → AllFine Fine one → AllFine Fine (elim t [ true ↦ two | false ↦ one ])
+fine_by Fine true two one h g = h
+fine_by Fine false two one h g = g
+
+fine_without : (Fine : List ℕ → Type 0) (words : List (List ℕ)) → AllFine Fine words → AllFine Fine (without_dictionary words)
+fine_without Fine [] fine = tt
+fine_without Fine (w ∷ []) fine = fine_unless Fine (is_some (dictionary_word w)) w [] fine.0 tt
+fine_without Fine (w ∷ v ∷ words) fine =
+    fine_by Fine (takes_next (option_word w)) (w ∷ v ∷ without_dictionary words) (unless_dictionary w (without_dictionary (v ∷ words)))
+    (fine.0, (fine.1.0, fine_without Fine words fine.1.1))
+    (fine_unless Fine (is_some (dictionary_word w)) w (without_dictionary (v ∷ words)) fine.0 (fine_without Fine (v ∷ words) fine.1))
+
 -- what is so of each edit that a word means is so of all that the words of a command line mean, where the words, and so their values, are fine
-module _ (Fine : List ℕ → Type 0) (none_fine : Fine []) (cut_fine : (w : List ℕ) → Fine w → Fine (unwrap_or (cut_at (byte "=") w).after []))
-    (P : Edit → Type 0) (private_has : P erase_private) (one_has : (kind : Kind) (p v : List ℕ) (e : Edit) → Fine v → meant_edit kind p v ≡ Ok e → P e) where
-  word_has : (kind : Kind) (w : List ℕ) (e : Edit) → Fine w → meant_word kind w ≡ Ok e → P e
+module _ (d : Dictionary) (Fine : List ℕ → Type 0) (none_fine : Fine []) (cut_fine : (w : List ℕ) → Fine w → Fine (unwrap_or (cut_at (byte "=") w).after []))
+    (P : Edit → Type 0) (private_has : P erase_private) (one_has : (kind : Kind) (p v : List ℕ) (e : Edit) → Fine v → meant_edit d kind p v ≡ Ok e → P e) where
+  word_has : (kind : Kind) (w : List ℕ) (e : Edit) → Fine w → meant_word d kind w ≡ Ok e → P e
   word_has kind w e fine h =
       by_test (takes_value kind) _ _ h (λ g. one_has kind (cut_at (byte "=") w).before (unwrap_or (cut_at (byte "=") w).after []) e (cut_fine w fine) g) (λ g. one_has kind w [] e none_fine g)
     where
@@ -206,14 +224,14 @@ module _ (Fine : List ℕ → Type 0) (none_fine : Fine []) (cut_fine : (w : Lis
       → ((fs : List Edit) → skip ≡ Ok fs → AllHave P fs) → ((fs : List Edit) → more ≡ Ok fs → AllHave P fs)
       → (let s : Result (List Edit) InEdit = elim o [
         | private_word ↦ and_then erase_private skip
-        | takes_word kind ↦ elim (at_edit n (meant_word kind v)) [ Ok e ↦ and_then e more | Err u ↦ Err u ]
+        | takes_word kind ↦ elim (at_edit n (meant_word d kind v)) [ Ok e ↦ and_then e more | Err u ↦ Err u ]
         | unknown_word ↦ Err (in_edit BadOption n)
       ] in s ≡ Ok es) → AllHave P es
   two_words private_word n v skip more es fine g h q = then_have erase_private skip es private_has g q
-  two_words (takes_word kind) n v skip more es fine g h q = word_then n (meant_word kind v) more es (λ e r. word_has kind v e fine r) h q
+  two_words (takes_word kind) n v skip more es fine g h q = word_then n (meant_word d kind v) more es (λ e r. word_has kind v e fine r) h q
   two_words unknown_word n v skip more es fine g h q = absurd cc
 
-  words_have : (n : ℕ) (words : List (List ℕ)) (es : List Edit) → AllFine Fine words → meant_from n words ≡ Ok es → AllHave P es
+  words_have : (n : ℕ) (words : List (List ℕ)) (es : List Edit) → AllFine Fine words → meant_from d n words ≡ Ok es → AllHave P es
   words_have n [] es fine q = all_is [] es (ok_is _ _ q) tt
   words_have n (w ∷ []) es fine q = one_word (option_word w) n es (in_turn (nat_lt EDIT_LIMIT n) (in_edit TooMany n) _ es q)
   words_have n (w ∷ v ∷ words) es fine q =
@@ -228,8 +246,10 @@ module _ (Fine : List ℕ → Type 0) (none_fine : Fine []) (cut_fine : (w : Lis
       by_overlap (Some n) g = absurd cc
   all_have (Err u) es q h = absurd cc
 
-  pub fine_edits_have : (words : List (List ℕ)) (es : List Edit) → AllFine Fine words → meant_edits words ≡ Ok es → AllHave P es
-  fine_edits_have words es fine q = all_have (meant_from 1 words) es q (λ fs g. words_have 1 words fs fine g)
+  pub fine_edits_have : (words : List (List ℕ)) (es : List Edit) → AllFine Fine words → meant_edits_in d words ≡ Ok es → AllHave P es
+  fine_edits_have words es fine q =
+      let edit_words = without_dictionary words in
+      all_have (meant_from d 1 edit_words) es q (λ fs g. words_have 1 edit_words fs (fine_without Fine words fine) g)
 
 abbrev Any : List ℕ → Type 0
 Any w = Unit {0}
@@ -238,14 +258,14 @@ all_any : (words : List (List ℕ)) → AllFine Any words
 all_any [] = tt
 all_any (w ∷ words) = (tt, all_any words)
 
-pub all_edits_have : (P : Edit → Type 0) → P erase_private → ((kind : Kind) (p v : List ℕ) (e : Edit) → meant_edit kind p v ≡ Ok e → P e)
-    → (words : List (List ℕ)) (es : List Edit) → meant_edits words ≡ Ok es → AllHave P es
-all_edits_have P private_has one_has words es q = fine_edits_have Any tt (λ w fine. tt) P private_has (λ kind p v e fine h. one_has kind p v e h) words es (all_any words) q
+pub all_edits_have : (d : Dictionary) (P : Edit → Type 0) → P erase_private → ((kind : Kind) (p v : List ℕ) (e : Edit) → meant_edit d kind p v ≡ Ok e → P e)
+    → (words : List (List ℕ)) (es : List Edit) → meant_edits_in d words ≡ Ok es → AllHave P es
+all_edits_have d P private_has one_has words es q = fine_edits_have d Any tt (λ w fine. tt) P private_has (λ kind p v e fine h. one_has kind p v e h) words es (all_any words) q
 
 all_of : (es : List Edit) → AllHave Fits es → HaveValues es × HaveShortIndexes es × AreWithin 64 es
 all_of [] h = (tt, tt, tt)
 all_of (e ∷ es) h = let more = all_of es h.1 in ((h.0.0, more.0), (h.0.1, more.1), (h.0.2, more.2))
 
 -- the law
-pub edits_fit : (words : List (List ℕ)) (es : List Edit) → meant_edits words ≡ Ok es → HaveValues es × HaveShortIndexes es × AreWithin 64 es
-edits_fit words es q = all_of es (all_edits_have Fits (tt, tt, omega arith) edit_fits words es q)
+pub edits_fit : (d : Dictionary) (words : List (List ℕ)) (es : List Edit) → meant_edits_in d words ≡ Ok es → HaveValues es × HaveShortIndexes es × AreWithin 64 es
+edits_fit d words es q = all_of es (all_edits_have d Fits (tt, tt, omega arith) (edit_fits d) words es q)

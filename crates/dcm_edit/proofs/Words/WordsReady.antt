@@ -1,4 +1,4 @@
--- Each target syntax has room for the elements that words name.
+-- A target syntax has room for the elements that words name by its dictionary.
 use Rattle.std.proofs.Common.{◌≡◌, ◌≢◌, ◌∙◌, ◌≤◌, ℕ, suc, List, [], ◌∷◌, length, Option, Some, None, Ok, Bool, true, false, not, ◌&&◌, refl, sym, subst, arith}
 use Rattle.std.specs.Prelude.{if◌then◌else◌, ◌==◌, nat_le}
 use Rattle.std.specs.List.{slice_split}
@@ -9,11 +9,12 @@ use Rattle.dcm_base.specs.declared.tag.Tag.{Tag}
 use Rattle.dcm_base.specs.declared.vr.Vr.{Vr}
 use Rattle.dcm_base.specs.declared.vr.Vr.TheVariants.{SQ}
 use Rattle.dcm_base.specs.declared.syntax.Syntax.{Syntax}
-use Rattle.dcm_base.specs.declared.syntax.Syntax.TheVariants.{Implicit, Little, Big}
+use Rattle.dcm_base.specs.declared.syntax.Syntax.TheVariants.{Implicit as implicit_in, Little as little_in, Big as big_in}
+use Rattle.dcm_base.specs.Syntax.{dictionary_of, Little}
 use Rattle.dcm_base.specs.declared.length.Length.TheVariants as length_variants
 use Rattle.dcm_base.specs.declared.form.Form.TheVariants.{Value as a_value, Sequence as a_sequence}
 use Rattle.dcm_base.specs.declared.fault.EditRefusal.TheVariants.{BadOption, SequenceMisused, ValueDoesNotFit}
-use Rattle.dcm_base.specs.Dictionary.{dict_vr}
+use Rattle.dcm_base.specs.Dictionary.{vr_in}
 use Rattle.dcm_base.specs.Normal.{TellsValue, TellsSequence}
 use Rattle.dcm_base.specs.ReadValue.{◌>>=◌, VALUE_LIMIT, within_limit, is_no_value, takes_bytes, value_in, value_of_text, value_of_word}
 use Rattle.dcm_base.specs.Representation.{is_sequence, unit}
@@ -22,7 +23,7 @@ use Rattle.dcm_base.specs.Spelling.{form}
 use Rattle.dcm_base.proofs.DumpsBack.DigitNumbers.{bind_some, if_some}
 use Rattle.dcm_tools.proofs.ReadBack.Sources.{target_value, target_sequence}
 use Rattle.dcm_edit.specs.Edit.{Index, PathEdit, insert, modify, Edit}
-use Rattle.dcm_edit.specs.EditWords.{PathPart, parts_of, Known, known_parts, has_form, is_indexed, uses_sequences, takes_value, Kind, inserts, modifies, erases, modifies_all, erases_all, last_vr, on_steps, step_to, item_or_element, edit_on, value_for, edit_of_known, edit_of_parts, meant_edit, meant_edits, or_refuse}
+use Rattle.dcm_edit.specs.EditWords.{PathPart, parts_of, Known, known_parts, has_form, is_indexed, uses_sequences, takes_value, Kind, inserts, modifies, erases, modifies_all, erases_all, last_vr, on_steps, step_to, item_or_element, edit_on, value_for, edit_of_known, edit_of_parts, meant_edit, meant_edits_in, or_refuse}
 use Rattle.dcm_edit.proofs.Words.EditWordLemmas.{bind_ok, ok_is, if_ok, or_refused, parts_within}
 use Rattle.dcm_edit.proofs.Words.KnownTags.{IsListed, AllListed, parts_listed}
 use Rattle.dcm_edit.proofs.ReadBack.StaysReady.{LeafReady, StepReady, PathReady, EditReady, AreReady}
@@ -71,30 +72,30 @@ unfolding form
 value_form SQ n e = absurd cc
 value_form _ n e = refl
 
-sequence_form : (vr : Vr) → is_sequence vr ≡ true → form Implicit vr length_variants.Undefined ≡ a_sequence
+sequence_form : (s : Syntax) (vr : Vr) → is_sequence vr ≡ true → form s vr length_variants.Undefined ≡ a_sequence
 unfolding form
-sequence_form SQ e = refl
-sequence_form _ e = absurd cc
+sequence_form s SQ e = refl
+sequence_form s _ e = absurd cc
 
 no_sequence : (vr : Vr) → is_sequence vr ≡ false → vr ≢ SQ
 no_sequence SQ e = absurd cc
 no_sequence vr e = λ k. cc
 
-tells_value : (s : Syntax) (t : Tag) (vr : Vr) → dict_vr t ≡ vr → is_sequence vr ≡ false → TellsValue s t
-tells_value Implicit t vr e h = λ k. no_sequence vr h (sym e ∙ k)
-tells_value Little t vr e h = tt
-tells_value Big t vr e h = tt
+tells_value : (s : Syntax) (t : Tag) (vr : Vr) → vr_in (dictionary_of s) t ≡ vr → is_sequence vr ≡ false → TellsValue s t
+tells_value (implicit_in d) t vr e h = λ k. no_sequence vr h (sym e ∙ k)
+tells_value (little_in d) t vr e h = tt
+tells_value (big_in d) t vr e h = tt
 
-tells_sequence : (s : Syntax) (t : Tag) (vr : Vr) → dict_vr t ≡ vr → is_sequence vr ≡ true → TellsSequence s t
-tells_sequence Implicit t vr e h = subst (λ (x : Vr). form Implicit x length_variants.Undefined ≡ a_sequence) (sym e) (sequence_form vr h)
-tells_sequence Little t vr e h = tt
-tells_sequence Big t vr e h = tt
+tells_sequence : (s : Syntax) (t : Tag) (vr : Vr) → vr_in (dictionary_of s) t ≡ vr → is_sequence vr ≡ true → TellsSequence s t
+tells_sequence (implicit_in d) t vr e h = subst (λ (x : Vr). form (implicit_in d) x length_variants.Undefined ≡ a_sequence) (sym e) (sequence_form (implicit_in d) vr h)
+tells_sequence (little_in d) t vr e h = tt
+tells_sequence (big_in d) t vr e h = tt
 
-leaf_ready : (s : Syntax) (k : Known) (v : List ℕ) → IsListed k → is_sequence k.vr ≡ false → length v ≤ 65536 → LeafReady s k.tag k.vr v
+leaf_ready : (s : Syntax) (k : Known) (v : List ℕ) → IsListed (dictionary_of s) k → is_sequence k.vr ≡ false → length v ≤ 65536 → LeafReady s k.tag k.vr v
 leaf_ready s k v listed plain short =
     (listed.0, omega (arith, short), target_value s Little k.tag k.vr (length v) (value_form k.vr (length v) plain) (tells_value s k.tag k.vr listed.1 plain))
 
-step_ready : (s : Syntax) (k : Known) → IsListed k → is_sequence k.vr ≡ true → StepReady s k.tag
+step_ready : (s : Syntax) (k : Known) → IsListed (dictionary_of s) k → is_sequence k.vr ≡ true → StepReady s k.tag
 step_ready s k listed h = (listed.0, target_sequence s k.tag (tells_sequence s k.tag k.vr listed.1 h))
 
 -- ---- paths
@@ -104,17 +105,17 @@ abbrev LastReady : Syntax → (Known → PathEdit) → Known → List Known → 
 LastReady s at_end k [] = PathReady s (at_end k)
 LastReady s at_end k (l ∷ ks) = LastReady s at_end l ks
 
-step_to_ready : (s : Syntax) (k : Known) (o : Option Index) (other : Bool) (edit : PathEdit) → IsListed k → (if is_some o then is_sequence k.vr else other) ≡ true → PathReady s edit → PathReady s (step_to k.tag o edit)
+step_to_ready : (s : Syntax) (k : Known) (o : Option Index) (other : Bool) (edit : PathEdit) → IsListed (dictionary_of s) k → (if is_some o then is_sequence k.vr else other) ≡ true → PathReady s edit → PathReady s (step_to k.tag o edit)
 step_to_ready s k None other edit listed h r = r
 step_to_ready s k (Some index) other edit listed h r = (step_ready s k listed h, r)
 
-steps_ready : (s : Syntax) (valued : Bool) (at_end : Known → PathEdit) (k : Known) (ks : List Known) → AllListed (k ∷ ks) → uses_sequences valued (k ∷ ks) ≡ true → LastReady s at_end k ks → PathReady s (on_steps at_end k ks)
+steps_ready : (s : Syntax) (valued : Bool) (at_end : Known → PathEdit) (k : Known) (ks : List Known) → AllListed (dictionary_of s) (k ∷ ks) → uses_sequences valued (k ∷ ks) ≡ true → LastReady s at_end k ks → PathReady s (on_steps at_end k ks)
 steps_ready s valued at_end k [] a u h = h
 steps_ready s valued at_end k (l ∷ ks) a u h =
     let test : Bool = if is_indexed k then is_sequence k.vr else not (valued && is_sequence k.vr) in
     step_to_ready s k k.index (not (valued && is_sequence k.vr)) (on_steps at_end l ks) a.0 (and_one test _ u) (steps_ready s valued at_end l ks a.1 (and_two test _ u) h)
 
-last_valued : (s : Syntax) (at_end : Known → PathEdit) (k : Known) (ks : List Known) → ((x : Known) → IsListed x → is_sequence x.vr ≡ false → PathReady s (at_end x)) → AllListed (k ∷ ks) → EndsPlain (k ∷ ks)
+last_valued : (s : Syntax) (at_end : Known → PathEdit) (k : Known) (ks : List Known) → ((x : Known) → IsListed (dictionary_of s) x → is_sequence x.vr ≡ false → PathReady s (at_end x)) → AllListed (dictionary_of s) (k ∷ ks) → EndsPlain (k ∷ ks)
     → uses_sequences true (k ∷ ks) ≡ true → LastReady s at_end k ks
 last_valued s at_end k [] h a p u = h k a.0 (plain_last (is_indexed k) (is_sequence k.vr) p (and_one _ true u))
 last_valued s at_end k (l ∷ ks) h a p u = last_valued s at_end l ks h a.1 p (and_two (if is_indexed k then is_sequence k.vr else not (true && is_sequence k.vr)) _ u)
@@ -127,13 +128,13 @@ last_erased s k [] = by_index k.index
     by_index (Some index) = tt
 last_erased s k (l ∷ ks) = last_erased s l ks
 
-erases_ready : (s : Syntax) (valued : Bool) (k : Known) (ks : List Known) → AllListed (k ∷ ks) → uses_sequences valued (k ∷ ks) ≡ true → PathReady s (on_steps (λ x. item_or_element x.tag x.index) k ks)
+erases_ready : (s : Syntax) (valued : Bool) (k : Known) (ks : List Known) → AllListed (dictionary_of s) (k ∷ ks) → uses_sequences valued (k ∷ ks) ≡ true → PathReady s (on_steps (λ x. item_or_element x.tag x.index) k ks)
 erases_ready s valued k ks a u = steps_ready s valued (λ x. item_or_element x.tag x.index) k ks a u (last_erased s k ks)
 
 -- ---- one edit
 
 -- a new value is no sequence's
-valued_ready : (s : Syntax) (kind : Kind) (k : Known) (ks : List Known) (v : List ℕ) → AllListed (k ∷ ks) → length v ≤ 65536 → EndsPlain (k ∷ ks) → uses_sequences true (k ∷ ks) ≡ true
+valued_ready : (s : Syntax) (kind : Kind) (k : Known) (ks : List Known) (v : List ℕ) → AllListed (dictionary_of s) (k ∷ ks) → length v ≤ 65536 → EndsPlain (k ∷ ks) → uses_sequences true (k ∷ ks) ≡ true
     → (kind ≡ modifies_all → length (k ∷ ks) ≡ 1) → EditReady s (edit_on kind k ks v)
 valued_ready s inserts k ks v a short p u l =
     steps_ready s true (λ x. insert x.tag x.vr v) k ks a u (last_valued s (λ x. insert x.tag x.vr v) k ks (λ x listed plain. leaf_ready s x v listed plain short) a p u)
@@ -147,42 +148,38 @@ valued_ready s modifies_all k (m ∷ ks) v a short p u l = absurd (two (length k
     two n e = omega arith
 valued_ready s erases_all k ks v a short p u l = tt
 
-erasing_ready : (s : Syntax) (kind : Kind) (k : Known) (ks : List Known) (v : List ℕ) → AllListed (k ∷ ks) → takes_value kind ≡ false → uses_sequences false (k ∷ ks) ≡ true → EditReady s (edit_on kind k ks v)
+erasing_ready : (s : Syntax) (kind : Kind) (k : Known) (ks : List Known) (v : List ℕ) → AllListed (dictionary_of s) (k ∷ ks) → takes_value kind ≡ false → uses_sequences false (k ∷ ks) ≡ true → EditReady s (edit_on kind k ks v)
 erasing_ready s inserts k ks v a t u = absurd cc
 erasing_ready s modifies k ks v a t u = absurd cc
 erasing_ready s erases k ks v a t u = erases_ready s false k ks a u
 erasing_ready s modifies_all k ks v a t u = absurd cc
 erasing_ready s erases_all k ks v a t u = tt
 
-edit_on_ready : (s : Syntax) (kind : Kind) (t : Bool) (ms : List PathPart) (k : Known) (ks : List Known) (v : List ℕ) → takes_value kind ≡ t → has_form kind ms ≡ true → known_parts ms ≡ Ok (k ∷ ks)
-    → uses_sequences t (k ∷ ks) ≡ true → AllListed (k ∷ ks) → length v ≤ 65536 → EditReady s (edit_on kind k ks v)
+edit_on_ready : (s : Syntax) (kind : Kind) (t : Bool) (ms : List PathPart) (k : Known) (ks : List Known) (v : List ℕ) → takes_value kind ≡ t → has_form kind ms ≡ true → known_parts (dictionary_of s) ms ≡ Ok (k ∷ ks)
+    → uses_sequences t (k ∷ ks) ≡ true → AllListed (dictionary_of s) (k ∷ ks) → length v ≤ 65536 → EditReady s (edit_on kind k ks v)
 edit_on_ready s kind true ms k ks v t f m u a short =
-    valued_ready s kind k ks v a short (parts_end ms (k ∷ ks) m (form_ends kind ms t f)) u (λ x. parts_count ms (k ∷ ks) m ∙ form_one kind ms f x)
+    valued_ready s kind k ks v a short (parts_end (dictionary_of s) ms (k ∷ ks) m (form_ends kind ms t f)) u (λ x. parts_count (dictionary_of s) ms (k ∷ ks) m ∙ form_one kind ms f x)
 edit_on_ready s kind false ms k ks v t f m u a short = erasing_ready s kind k ks v a t u
 
--- in every target syntax
-abbrev InEach : Edit → Type 0
-InEach e = (s : Syntax) → EditReady s e
-
-known_ready : (s : Syntax) (kind : Kind) (text : List ℕ) (ms : List PathPart) (ks : List Known) (e : Edit) → has_form kind ms ≡ true → known_parts ms ≡ Ok ks → AllListed ks → edit_of_known kind text ks ≡ Ok e → EditReady s e
+known_ready : (s : Syntax) (kind : Kind) (text : List ℕ) (ms : List PathPart) (ks : List Known) (e : Edit) → has_form kind ms ≡ true → known_parts (dictionary_of s) ms ≡ Ok ks → AllListed (dictionary_of s) ks → edit_of_known kind text ks ≡ Ok e → EditReady s e
 known_ready s kind text ms [] e formed known listed h = absurd cc
 known_ready s kind text ms (k ∷ ks) e formed known listed h =
     let used : uses_sequences (takes_value kind) (k ∷ ks) ≡ true = if_test (uses_sequences (takes_value kind) (k ∷ ks)) SequenceMisused _ e h in
     let r = bind_ok (value_for kind (last_vr k ks) text) (λ value. Ok (edit_on kind k ks value)) e (if_ok (uses_sequences (takes_value kind) (k ∷ ks)) SequenceMisused _ e h) in
     subst (λ (x : Edit). EditReady s x) (ok_is (edit_on kind k ks r.0) e r.2) (edit_on_ready s kind (takes_value kind) ms k ks r.0 refl formed known used listed (value_short kind (last_vr k ks) text r.0 r.1))
 
-meant_ready : (kind : Kind) (p v : List ℕ) (e : Edit) → meant_edit kind p v ≡ Ok e → InEach e
-meant_ready kind p v e h s =
+meant_ready : (s : Syntax) (kind : Kind) (p v : List ℕ) (e : Edit) → meant_edit (dictionary_of s) kind p v ≡ Ok e → EditReady s e
+meant_ready s kind p v e h =
     let texts = slice_split (λ c. c == byte ".") p in
-    let a = bind_ok (or_refuse BadOption (parts_of texts)) (edit_of_parts kind v) e h in
-    let b = bind_ok (known_parts a.0) (edit_of_known kind v) e (if_ok (has_form kind a.0) BadOption _ e a.2) in
-    known_ready s kind v a.0 b.0 e (if_test (has_form kind a.0) BadOption _ e a.2) b.1 (parts_listed a.0 b.0 (parts_within texts a.0 (or_refused BadOption _ a.0 a.1)) b.1) b.2
+    let a = bind_ok (or_refuse BadOption (parts_of texts)) (edit_of_parts (dictionary_of s) kind v) e h in
+    let b = bind_ok (known_parts (dictionary_of s) a.0) (edit_of_known kind v) e (if_ok (has_form kind a.0) BadOption _ e a.2) in
+    known_ready s kind v a.0 b.0 e (if_test (has_form kind a.0) BadOption _ e a.2) b.1 (parts_listed (dictionary_of s) a.0 b.0 (parts_within texts a.0 (or_refused BadOption _ a.0 a.1)) b.1) b.2
 
 -- ---- all edits
 
-are_ready : (s : Syntax) (es : List Edit) → AllHave InEach es → AreReady s es
+are_ready : (s : Syntax) (es : List Edit) → AllHave (EditReady s) es → AreReady s es
 are_ready s [] h = tt
-are_ready s (e ∷ es) h = (h.0 s, are_ready s es h.1)
+are_ready s (e ∷ es) h = (h.0, are_ready s es h.1)
 
-pub edits_ready : (s : Syntax) (words : List (List ℕ)) (es : List Edit) → meant_edits words ≡ Ok es → AreReady s es
-edits_ready s words es q = are_ready s es (all_edits_have InEach (λ x. tt) meant_ready words es q)
+pub edits_ready : (s : Syntax) (words : List (List ℕ)) (es : List Edit) → meant_edits_in (dictionary_of s) words ≡ Ok es → AreReady s es
+edits_ready s words es q = are_ready s es (all_edits_have (dictionary_of s) (EditReady s) tt (meant_ready s) words es q)

@@ -8,7 +8,7 @@ use Rattle.std.proofs.lemmas.List.{drop_at, take-append-drop, take-append-le, dr
 use Rattle.dcm_base.specs.declared.tag.Tag.{Tag}
 use Rattle.dcm_base.specs.declared.vr.Vr.{Vr}
 use Rattle.dcm_base.specs.declared.fault.Fault.TheVariants.{EndsEarly, NoPrefix}
-use Rattle.dcm_base.specs.declared.syntax.Syntax.TheVariants.{Little}
+use Rattle.dcm_base.specs.Syntax.{Little}
 use Rattle.dcm_base.specs.Tag.{is_tag}
 use Rattle.dcm_base.specs.Tree.{Trees, no_tree}
 use Rattle.dcm_base.specs.Spelling.{Spells}

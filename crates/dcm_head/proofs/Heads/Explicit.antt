@@ -1,34 +1,35 @@
 -- Heads of elements in an explicit syntax.
-use Rattle.std.proofs.Common.{◌≡◌, ◌≢◌, ℕ, ◌≤◌, List, length, get_or, drop, Option, Some, None, Bool, cond, refl, sym, ap, ◌∙◌, subst, length-drop, take, ◌-◌}
+use Rattle.std.proofs.Common.{◌≡◌, true, ℕ, ◌≤◌, List, length, get_or, drop, Option, Some, None, Bool, cond, refl, sym, ap, ◌∙◌, subst, length-drop, take, ◌-◌}
 use Rattle.std.proofs.Math.Seq.{take-length}
 use Rattle.dcm_base.specs.declared.tag.Tag.{Tag}
 use Rattle.dcm_base.specs.declared.vr.Vr.{Vr}
 use Rattle.dcm_base.specs.declared.syntax.Syntax.{Syntax}
-use Rattle.dcm_base.specs.declared.syntax.Syntax.TheVariants.{Implicit, Little, Big}
+use Rattle.dcm_base.specs.declared.syntax.Syntax.TheVariants.{Implicit as implicit_in, Little as little_in, Big as big_in}
 use Rattle.dcm_base.specs.declared.length.Length.{Length}
 use Rattle.dcm_base.specs.declared.length.Length.TheVariants.{Known}
 use Rattle.dcm_base.specs.Number.{number}
 use Rattle.dcm_base.specs.Representation.{vr_read, is_long}
 use Rattle.dcm_base.specs.Head.{PlainHead, tag_at, vr_at, head_size, length_at, long_length}
+use Rattle.dcm_base.specs.Recode.{is_explicit}
 
-pub vr_is : (s : Syntax) (b : List ℕ) (r : Option Vr) → s ≢ Implicit → r ≡ vr_read (get_or b 4 0) (get_or b 5 0) → r ≡ vr_at s b
+pub vr_is : (s : Syntax) (b : List ℕ) (r : Option Vr) → is_explicit s ≡ true → r ≡ vr_read (get_or b 4 0) (get_or b 5 0) → r ≡ vr_at s b
 unfolding vr_at
-vr_is Implicit b r h e = absurd (h refl)
-vr_is Little b r h e = e
-vr_is Big b r h e = e
+vr_is (implicit_in d) b r h e = absurd (cc)
+vr_is (little_in d) b r h e = e
+vr_is (big_in d) b r h e = e
 
-pub size_is : (s : Syntax) (vr : Vr) (long : Bool) → s ≢ Implicit → is_long vr ≡ long → head_size s vr ≡ cond long 12 8
-size_is Implicit vr long h e = absurd (h refl)
-size_is Little vr long h e = ap (λ (x : Bool). cond x 12 8) e
-size_is Big vr long h e = ap (λ (x : Bool). cond x 12 8) e
+pub size_is : (s : Syntax) (vr : Vr) (long : Bool) → is_explicit s ≡ true → is_long vr ≡ long → head_size s vr ≡ cond long 12 8
+size_is (implicit_in d) vr long h e = absurd (cc)
+size_is (little_in d) vr long h e = ap (λ (x : Bool). cond x 12 8) e
+size_is (big_in d) vr long h e = ap (λ (x : Bool). cond x 12 8) e
 
-pub length_is : (s : Syntax) (vr : Vr) (long : Bool) (b : List ℕ) → s ≢ Implicit → is_long vr ≡ long → length_at s vr b ≡ cond long (long_length (number s 4 (drop 8 b))) (Known (number s 2 (drop 6 b)))
+pub length_is : (s : Syntax) (vr : Vr) (long : Bool) (b : List ℕ) → is_explicit s ≡ true → is_long vr ≡ long → length_at s vr b ≡ cond long (long_length (number s 4 (drop 8 b))) (Known (number s 2 (drop 6 b)))
 unfolding length_at
-length_is Implicit vr long b h e = absurd (h refl)
-length_is Little vr long b h e = ap (λ (x : Bool). cond x (long_length (number Little 4 (drop 8 b))) (Known (number Little 2 (drop 6 b)))) e
-length_is Big vr long b h e = ap (λ (x : Bool). cond x (long_length (number Big 4 (drop 8 b))) (Known (number Big 2 (drop 6 b)))) e
+length_is (implicit_in d) vr long b h e = absurd (cc)
+length_is (little_in d) vr long b h e = ap (λ (x : Bool). cond x (long_length (number (little_in d) 4 (drop 8 b))) (Known (number (little_in d) 2 (drop 6 b)))) e
+length_is (big_in d) vr long b h e = ap (λ (x : Bool). cond x (long_length (number (big_in d) 4 (drop 8 b))) (Known (number (big_in d) 2 (drop 6 b)))) e
 
-pub head_is : (s : Syntax) (tag : Tag) (vr : Vr) (declared : Length) (long : Bool) (b : List ℕ) → s ≢ Implicit → is_long vr ≡ long → tag ≡ tag_at s b
+pub head_is : (s : Syntax) (tag : Tag) (vr : Vr) (declared : Length) (long : Bool) (b : List ℕ) → is_explicit s ≡ true → is_long vr ≡ long → tag ≡ tag_at s b
     → Some vr ≡ vr_read (get_or b 4 0) (get_or b 5 0) → cond long 12 8 ≤ length b
     → declared ≡ cond long (long_length (number s 4 (drop 8 b))) (Known (number s 2 (drop 6 b)))
     → PlainHead s tag vr declared b (drop (cond long 12 8) b)

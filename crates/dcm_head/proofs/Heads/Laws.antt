@@ -6,7 +6,7 @@ use Rattle.dcm_base.specs.declared.tag.Tag.{Tag}
 use Rattle.dcm_base.specs.declared.vr.Vr.{Vr}
 use Rattle.dcm_base.specs.declared.vr.Vr.TheVariants.{UN}
 use Rattle.dcm_base.specs.declared.syntax.Syntax.{Syntax}
-use Rattle.dcm_base.specs.declared.syntax.Syntax.TheVariants.{Implicit, Little, Big}
+use Rattle.dcm_base.specs.declared.syntax.Syntax.TheVariants.{Implicit as implicit_in, Little as little_in, Big as big_in}
 use Rattle.dcm_base.specs.declared.length.Length.{Length}
 use Rattle.dcm_base.specs.declared.length.Length.TheVariants.{Known}
 use Rattle.dcm_base.specs.Number.{number}
@@ -14,6 +14,7 @@ use Rattle.dcm_base.specs.Representation.{is_capital, vr_of, vr_read, is_long}
 use Rattle.dcm_base.specs.Tag.{is_item}
 use Rattle.dcm_base.specs.Head.{HeadAt, PlainHead, ItemHead, Delimiter, tag_at, vr_at, head_size, length_at, long_length}
 use Rattle.dcm_base.proofs.DataSets.Heads.{is_tag_true, head_tag, eight_le_head_size}
+use Rattle.dcm_base.specs.Recode.{is_explicit}
 use Rattle.dcm_head.specs.declared.head.Head.{Head}
 use Rattle.dcm_head.specs.declared.head.HeadRead.{HeadRead}
 use Rattle.dcm_head.specs.declared.head.HeadRead.TheVariants.{Done, More, BadVr}
@@ -57,11 +58,11 @@ short_read s b n (inr h) =
 read_none : (a c : ℕ) → (is_capital a && is_capital c) ≡ false → vr_read a c ≡ None
 read_none a c e = ap (λ (x : Bool). cond x (Some (unwrap_or (vr_of (a ∷ c ∷ [])) UN)) None) e
 
-bad_vr : (s : Syntax) (b : List ℕ) → s ≢ Implicit → (is_capital (get_or b 4 0) && is_capital (get_or b 5 0)) ≡ false → vr_at s b ≡ None
+bad_vr : (s : Syntax) (b : List ℕ) → is_explicit s ≡ true → (is_capital (get_or b 4 0) && is_capital (get_or b 5 0)) ≡ false → vr_at s b ≡ None
 unfolding vr_at
-bad_vr Implicit b h e = absurd (h refl)
-bad_vr Little b h e = read_none (get_or b 4 0) (get_or b 5 0) e
-bad_vr Big b h e = read_none (get_or b 4 0) (get_or b 5 0) e
+bad_vr (implicit_in d) b h e = absurd (cc)
+bad_vr (little_in d) b h e = read_none (get_or b 4 0) (get_or b 5 0) e
+bad_vr (big_in d) b h e = read_none (get_or b 4 0) (get_or b 5 0) e
 
 pub bad_read : (s : Syntax) (b : List ℕ) → HasBadVr s b → head_read s b ≡ BadVr
 bad_read s b h =
@@ -86,9 +87,9 @@ either_size true = inr refl
 either_size false = inl refl
 
 eight_or_twelve : (s : Syntax) (v : Vr) → (head_size s v ≡ 8) ⊎ (head_size s v ≡ 12)
-eight_or_twelve Implicit v = inl refl
-eight_or_twelve Little v = either_size (is_long v)
-eight_or_twelve Big v = either_size (is_long v)
+eight_or_twelve (implicit_in d) v = inl refl
+eight_or_twelve (little_in d) v = either_size (is_long v)
+eight_or_twelve (big_in d) v = either_size (is_long v)
 
 misses : (s : Syntax) (b : List ℕ) (v : Vr) (n : ℕ) → BeginsElement s b → vr_at s b ≡ Some v → head_size s v ≡ n → length b < n → (n ≡ 8) ⊎ (n ≡ 12) → IsShort s b n
 misses s b v n begins e size less (inl h) = absurd (omega (arith, begins.eight))
@@ -112,11 +113,11 @@ no_value false v e = refl
 none_capitals : (a c : ℕ) → vr_read a c ≡ None → (is_capital a && is_capital c) ≡ false
 none_capitals a c e = no_value (is_capital a && is_capital c) (unwrap_or (vr_of (a ∷ c ∷ [])) UN) e
 
-bad_letters : (s : Syntax) (b : List ℕ) → vr_at s b ≡ None → (s ≢ Implicit) × ((is_capital (get_or b 4 0) && is_capital (get_or b 5 0)) ≡ false)
+bad_letters : (s : Syntax) (b : List ℕ) → vr_at s b ≡ None → (is_explicit s ≡ true) × ((is_capital (get_or b 4 0) && is_capital (get_or b 5 0)) ≡ false)
 unfolding vr_at
-bad_letters Implicit b e = absurd cc
-bad_letters Little b e = (λ h. cc, none_capitals (get_or b 4 0) (get_or b 5 0) e)
-bad_letters Big b e = (λ h. cc, none_capitals (get_or b 4 0) (get_or b 5 0) e)
+bad_letters (implicit_in d) b e = absurd cc
+bad_letters (little_in d) b e = (refl, none_capitals (get_or b 4 0) (get_or b 5 0) e)
+bad_letters (big_in d) b e = (refl, none_capitals (get_or b 4 0) (get_or b 5 0) e)
 
 told_element : (s : Syntax) (b : List ℕ) (o : Option Vr) → BeginsElement s b → vr_at s b ≡ o → Told s b (element_read s b o)
 told_element s b None begins e = let bad = bad_letters s b e in (begins, bad.0, bad.1)

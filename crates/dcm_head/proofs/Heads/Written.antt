@@ -9,7 +9,7 @@ use Rattle.dcm_base.specs.declared.tag.Tag.{Tag}
 use Rattle.dcm_base.specs.declared.vr.Vr.{Vr}
 use Rattle.dcm_base.specs.declared.vr.Vr.TheVariants.{AE, UN}
 use Rattle.dcm_base.specs.declared.syntax.Syntax.{Syntax}
-use Rattle.dcm_base.specs.declared.syntax.Syntax.TheVariants.{Implicit, Little, Big}
+use Rattle.dcm_base.specs.declared.syntax.Syntax.TheVariants.{Implicit as implicit_in, Little as little_in, Big as big_in}
 use Rattle.dcm_base.specs.declared.length.Length.{Length}
 use Rattle.dcm_base.specs.declared.length.Length.TheVariants.{Known, Undefined}
 use Rattle.dcm_base.specs.Number.{number, IsTag}
@@ -17,8 +17,10 @@ use Rattle.dcm_base.specs.Representation.{is_long, letters, vr_of, vr_read}
 use Rattle.dcm_base.specs.Tag.{is_item, item_tag}
 use Rattle.dcm_base.specs.Head.{PlainHead, ItemHead, Delimiter, HeadSpells, tag_at, vr_at, length_at, long_length}
 use Rattle.dcm_base.specs.Recode.{number_bytes, tag_bytes, length_number, plain_head, head, is_explicit}
-use Rattle.dcm_base.specs.Dictionary.{dict_vr}
+use Rattle.dcm_base.specs.Dictionary.{vr_in}
 use Rattle.dcm_base.proofs.DataSets.Heads.{is_tag_true}
+use Rattle.dcm_base.specs.Syntax.{dictionary_of}
+use Rattle.dcm_base.specs.declared.lookup.Dictionary.{Dictionary}
 use Rattle.dcm_head.specs.declared.head.Head.{Head}
 use Rattle.dcm_head.specs.HeadRead.{is_delimiter}
 use Rattle.dcm_head.specs.HeadBytes.{head_bytes, FitsShort, FitsLong, HasSpelling}
@@ -28,19 +30,19 @@ use Rattle.dcm_head.proofs.Heads.Laws.{head_at}
 -- ---- numbers and tags
 
 short_back : (s : Syntax) (n : ℕ) (rest : List ℕ) → n < 65536 → number s 2 (number_bytes s w16 n ++ rest) ≡ n
-short_back Implicit n rest h = little_number-reads_back 2 n rest h
-short_back Little n rest h = little_number-reads_back 2 n rest h
-short_back Big n rest h = big_number-reads_back 2 n rest h
+short_back (implicit_in d) n rest h = little_number-reads_back 2 n rest h
+short_back (little_in d) n rest h = little_number-reads_back 2 n rest h
+short_back (big_in d) n rest h = big_number-reads_back 2 n rest h
 
 long_back : (s : Syntax) (n : ℕ) (rest : List ℕ) → n < 4294967296 → number s 4 (number_bytes s w32 n ++ rest) ≡ n
-long_back Implicit n rest h = little_number-reads_back 4 n rest h
-long_back Little n rest h = little_number-reads_back 4 n rest h
-long_back Big n rest h = big_number-reads_back 4 n rest h
+long_back (implicit_in d) n rest h = little_number-reads_back 4 n rest h
+long_back (little_in d) n rest h = little_number-reads_back 4 n rest h
+long_back (big_in d) n rest h = big_number-reads_back 4 n rest h
 
 behind_short : (s : Syntax) (n : ℕ) (rest : List ℕ) → drop 2 (number_bytes s w16 n ++ rest) ≡ rest
-behind_short Implicit n rest = refl
-behind_short Little n rest = refl
-behind_short Big n rest = refl
+behind_short (implicit_in d) n rest = refl
+behind_short (little_in d) n rest = refl
+behind_short (big_in d) n rest = refl
 
 tag_back : (s : Syntax) (t : Tag) (rest : List ℕ) → IsTag t → t ≡ tag_at s (tag_bytes s t ++ rest)
 tag_back s t rest h =
@@ -50,14 +52,14 @@ tag_back s t rest h =
     λ i. record { group = sym group i; element = sym element i }
 
 behind_tag : (s : Syntax) (t : Tag) (rest : List ℕ) → drop 4 (tag_bytes s t ++ rest) ≡ rest
-behind_tag Implicit t rest = refl
-behind_tag Little t rest = refl
-behind_tag Big t rest = refl
+behind_tag (implicit_in d) t rest = refl
+behind_tag (little_in d) t rest = refl
+behind_tag (big_in d) t rest = refl
 
 tag_size : (s : Syntax) (t : Tag) (rest : List ℕ) → length (tag_bytes s t ++ rest) ≡ 4 + length rest
-tag_size Implicit t rest = omega arith
-tag_size Little t rest = omega arith
-tag_size Big t rest = omega arith
+tag_size (implicit_in d) t rest = omega arith
+tag_size (little_in d) t rest = omega arith
+tag_size (big_in d) t rest = omega arith
 
 -- ---- lengths
 
@@ -78,14 +80,14 @@ short_told s (Known n) h = ap Known (sym (ap (number s 2) (sym (append-nil (numb
 short_told s Undefined h = absurd h
 
 four_long : (s : Syntax) (n : ℕ) → number_bytes s w32 n ≡ number_bytes s w32 n → length (number_bytes s w32 n) ≡ 4
-four_long Implicit n e = refl
-four_long Little n e = refl
-four_long Big n e = refl
+four_long (implicit_in d) n e = refl
+four_long (little_in d) n e = refl
+four_long (big_in d) n e = refl
 
 two_short : (s : Syntax) (n : ℕ) → length (number_bytes s w16 n) ≡ 2
-two_short Implicit n = refl
-two_short Little n = refl
-two_short Big n = refl
+two_short (implicit_in d) n = refl
+two_short (little_in d) n = refl
+two_short (big_in d) n = refl
 
 -- ---- heads without letters
 
@@ -136,35 +138,35 @@ letters_tell _ = refl
 abbrev with_letters : Syntax → Tag → Length → Bool → List ℕ → List ℕ
 with_letters s t l long two = tag_bytes s t ++ two ++ cond long (0 ∷ 0 ∷ number_bytes s w32 (length_number l)) (number_bytes s w16 (length_number l))
 
-letters_spelled : (s : Syntax) (t : Tag) (vr : Vr) (l : Length) (long : Bool) (a c : ℕ) → s ≢ Implicit → IsTag t → is_long vr ≡ long → Some vr ≡ vr_read a c
+letters_spelled : (s : Syntax) (t : Tag) (vr : Vr) (l : Length) (long : Bool) (a c : ℕ) → is_explicit s ≡ true → IsTag t → is_long vr ≡ long → Some vr ≡ vr_read a c
     → (long ≡ false → FitsShort l) → (long ≡ true → FitsLong l) → PlainHead s t vr l (with_letters s t l long (a ∷ c ∷ [])) []
-letters_spelled Implicit t vr l long a c h tag e r short wide = absurd (h refl)
-letters_spelled Little t vr l true a c h tag e r short wide =
-    head_is Little t vr l true (with_letters Little t l true (a ∷ c ∷ [])) h e (tag_back Little t (a ∷ c ∷ 0 ∷ 0 ∷ number_bytes Little w32 (length_number l)) tag) r (omega arith) (long_told Little l (wide refl))
-letters_spelled Little t vr l false a c h tag e r short wide =
-    head_is Little t vr l false (with_letters Little t l false (a ∷ c ∷ [])) h e (tag_back Little t (a ∷ c ∷ number_bytes Little w16 (length_number l)) tag) r (omega arith) (short_told Little l (short refl))
-letters_spelled Big t vr l true a c h tag e r short wide =
-    head_is Big t vr l true (with_letters Big t l true (a ∷ c ∷ [])) h e (tag_back Big t (a ∷ c ∷ 0 ∷ 0 ∷ number_bytes Big w32 (length_number l)) tag) r (omega arith) (long_told Big l (wide refl))
-letters_spelled Big t vr l false a c h tag e r short wide =
-    head_is Big t vr l false (with_letters Big t l false (a ∷ c ∷ [])) h e (tag_back Big t (a ∷ c ∷ number_bytes Big w16 (length_number l)) tag) r (omega arith) (short_told Big l (short refl))
+letters_spelled (implicit_in d) t vr l long a c h tag e r short wide = absurd (cc)
+letters_spelled (little_in d) t vr l true a c h tag e r short wide =
+    head_is (little_in d) t vr l true (with_letters (little_in d) t l true (a ∷ c ∷ [])) h e (tag_back (little_in d) t (a ∷ c ∷ 0 ∷ 0 ∷ number_bytes (little_in d) w32 (length_number l)) tag) r (omega arith) (long_told (little_in d) l (wide refl))
+letters_spelled (little_in d) t vr l false a c h tag e r short wide =
+    head_is (little_in d) t vr l false (with_letters (little_in d) t l false (a ∷ c ∷ [])) h e (tag_back (little_in d) t (a ∷ c ∷ number_bytes (little_in d) w16 (length_number l)) tag) r (omega arith) (short_told (little_in d) l (short refl))
+letters_spelled (big_in d) t vr l true a c h tag e r short wide =
+    head_is (big_in d) t vr l true (with_letters (big_in d) t l true (a ∷ c ∷ [])) h e (tag_back (big_in d) t (a ∷ c ∷ 0 ∷ 0 ∷ number_bytes (big_in d) w32 (length_number l)) tag) r (omega arith) (long_told (big_in d) l (wide refl))
+letters_spelled (big_in d) t vr l false a c h tag e r short wide =
+    head_is (big_in d) t vr l false (with_letters (big_in d) t l false (a ∷ c ∷ [])) h e (tag_back (big_in d) t (a ∷ c ∷ number_bytes (big_in d) w16 (length_number l)) tag) r (omega arith) (short_told (big_in d) l (short refl))
 
-explicit_spelled : (s : Syntax) (t : Tag) (vr : Vr) (l : Length) → s ≢ Implicit → IsTag t → (is_long vr ≡ false → FitsShort l) → (is_long vr ≡ true → FitsLong l)
+explicit_spelled : (s : Syntax) (t : Tag) (vr : Vr) (l : Length) → is_explicit s ≡ true → IsTag t → (is_long vr ≡ false → FitsShort l) → (is_long vr ≡ true → FitsLong l)
     → PlainHead s t vr l (with_letters s t l (is_long vr) (letters vr)) []
 explicit_spelled s t vr l h tag short wide =
     subst (λ (two : List ℕ). PlainHead s t vr l (with_letters s t l (is_long vr) two) []) (sym (two_letters vr))
     (letters_spelled s t vr l (is_long vr) (get_or (letters vr) 0 0) (get_or (letters vr) 1 0) h tag refl (letters_tell vr) short wide)
 
-implicit_spelled : (t : Tag) (vr : Vr) (l : Length) → IsTag t → vr ≡ dict_vr t → FitsLong l → PlainHead Implicit t vr l (plain_head Implicit t l) []
+implicit_spelled : (d : Dictionary) (t : Tag) (vr : Vr) (l : Length) → IsTag t → vr ≡ vr_in d t → FitsLong l → PlainHead (implicit_in d) t vr l (plain_head (implicit_in d) t l) []
 unfolding vr_at length_at
-implicit_spelled t vr l h v fits =
-    let tag = tag_back Implicit t (number_bytes Implicit w32 (length_number l)) h in
-    let size = plain_size Implicit t l in
+implicit_spelled d t vr l h v fits =
+    let tag = tag_back (implicit_in d) t (number_bytes (implicit_in d) w32 (length_number l)) h in
+    let size = plain_size (implicit_in d) t l in
     record {
       tag_is = tag;
-      vr_is = ap Some v ∙ ap (λ (x : Tag). Some (dict_vr x)) tag;
-      whole = eight (plain_head Implicit t l) size;
-      length_is = plain_told Implicit t l fits;
-      after_is = nothing_behind 8 (plain_head Implicit t l) size;
+      vr_is = ap Some v ∙ ap (λ (x : Tag). Some (vr_in d x)) tag;
+      whole = eight (plain_head (implicit_in d) t l) size;
+      length_is = plain_told (implicit_in d) t l fits;
+      after_is = nothing_behind 8 (plain_head (implicit_in d) t l) size;
     }
 
 -- ---- any head
@@ -173,14 +175,14 @@ and_false : (b : Bool) → (b && false) ≡ false
 and_false true = refl
 and_false false = refl
 
-pub element_spelled : (s : Syntax) (t : Tag) (vr : Vr) (l : Length) → IsTag t → MatchBool (is_explicit s) (Unit {0}) (vr ≡ dict_vr t)
+pub element_spelled : (s : Syntax) (t : Tag) (vr : Vr) (l : Length) → IsTag t → MatchBool (is_explicit s) (Unit {0}) (vr ≡ vr_in (dictionary_of s) t)
     → ((is_explicit s && not (is_long vr)) ≡ true → FitsShort l) → ((is_explicit s && not (is_long vr)) ≡ false → FitsLong l) → PlainHead s t vr l (head s t vr l) []
-element_spelled Implicit t vr l tag told short wide = implicit_spelled t vr l tag told (wide refl)
-element_spelled Little t vr l tag told short wide = explicit_spelled Little t vr l (λ e. cc) tag (λ e. short (ap not e)) (λ e. wide (ap not e))
-element_spelled Big t vr l tag told short wide = explicit_spelled Big t vr l (λ e. cc) tag (λ e. short (ap not e)) (λ e. wide (ap not e))
+element_spelled (implicit_in d) t vr l tag told short wide = implicit_spelled d t vr l tag told (wide refl)
+element_spelled (little_in d) t vr l tag told short wide = explicit_spelled (little_in d) t vr l refl tag (λ e. short (ap not e)) (λ e. wide (ap not e))
+element_spelled (big_in d) t vr l tag told short wide = explicit_spelled (big_in d) t vr l refl tag (λ e. short (ap not e)) (λ e. wide (ap not e))
 
 by_kind : (x y : Bool) (s : Syntax) (t : Tag) (vr : Vr) (l : Length) → is_item t ≡ x → is_delimiter t ≡ y → IsTag t
-    → MatchBool x (vr ≡ UN) (MatchBool y ((vr ≡ UN) × (l ≡ Known 0)) (MatchBool (is_explicit s) (Unit {0}) (vr ≡ dict_vr t)))
+    → MatchBool x (vr ≡ UN) (MatchBool y ((vr ≡ UN) × (l ≡ Known 0)) (MatchBool (is_explicit s) (Unit {0}) (vr ≡ vr_in (dictionary_of s) t)))
     → ((is_explicit s && not (x || (y || is_long vr))) ≡ true → FitsShort l) → ((is_explicit s && not (x || (y || is_long vr))) ≡ false → FitsLong l)
     → HeadSpells s t vr l (cond x (plain_head s t l) (cond y (plain_head s t (Known 0)) (head s t vr l)))
 by_kind true y s t vr l e f tag told short wide =

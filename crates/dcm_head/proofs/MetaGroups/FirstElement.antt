@@ -3,7 +3,7 @@ use Rattle.std.proofs.Common.{◌≡◌, ◌∙◌, ◌+◌, ◌≤◌, List, []
 use Rattle.std.proofs.lemmas.List.{take_at, drop_at, drop-drop, drop-take, length-take}
 use Rattle.dcm_base.specs.declared.tag.Tag.{Tag}
 use Rattle.dcm_base.specs.declared.vr.Vr.{Vr}
-use Rattle.dcm_base.specs.declared.syntax.Syntax.TheVariants.{Little}
+use Rattle.dcm_base.specs.Syntax.{Little}
 use Rattle.dcm_base.specs.Tree.{Trees, no_tree, leaf, sequence, fragments}
 use Rattle.dcm_base.specs.Head.{head_size}
 use Rattle.dcm_base.specs.Spelling.{Spells}

@@ -2,7 +2,7 @@
 ghost use Rattle.std.specs.Prelude.{◌≡◌, ◌<◌, ◌≤◌, ◌^◌, [], None, false};
 
 use arrayvec::ArrayVec;
-use dcm_base::{Coding, Fault, Stop, Syntax, WriteFailed};
+use dcm_base::{Coding, Dictionary, Fault, Stop, Syntax, WriteFailed};
 use dcm_head::Head;
 use dcm_stream::{Bar, Halt, Machine, Sink, Token};
 
@@ -39,9 +39,9 @@ impl Sink for Signs {
 
     fn take(&mut self, token: Token) -> Result<(), WriteFailed> {
         match token {
-            Token::Open(_, Syntax::Implicit) => self.sign(b'i'),
-            Token::Open(_, Syntax::Little) => self.sign(b'l'),
-            Token::Open(_, Syntax::Big) => self.sign(b'b'),
+            Token::Open(_, Syntax::Implicit(_)) => self.sign(b'i'),
+            Token::Open(_, Syntax::Little(_)) => self.sign(b'l'),
+            Token::Open(_, Syntax::Big(_)) => self.sign(b'b'),
             Token::Bytes(bytes) => {
                 for _byte in bytes {
                     self.sign(b'.');
@@ -63,17 +63,17 @@ impl Sink for Signs {
 }
 
 const LITTLE: Coding = Coding {
-    syntax: Syntax::Little,
+    syntax: Syntax::Little(Dictionary::Extract),
     encapsulated: false,
 };
 
 const IMPLICIT: Coding = Coding {
-    syntax: Syntax::Implicit,
+    syntax: Syntax::Implicit(Dictionary::Extract),
     encapsulated: false,
 };
 
 const BIG: Coding = Coding {
-    syntax: Syntax::Big,
+    syntax: Syntax::Big(Dictionary::Extract),
     encapsulated: false,
 };
 
@@ -151,6 +151,55 @@ fn implicit(bytes: &[u8]) -> Input<'_>
         start: 170,
         bytes,
     }
+}
+
+fn implicit_by_standard(bytes: &[u8]) -> Input<'_>
+    ensures { result.start ≡ 170 }
+{
+    Input {
+        coding: IMPLICIT.read_by(Dictionary::Standard),
+        start: 170,
+        bytes,
+    }
+}
+
+fn little_by_standard(bytes: &[u8]) -> Input<'_>
+    ensures { result.start ≡ 172 }
+{
+    Input {
+        coding: LITTLE.read_by(Dictionary::Standard),
+        start: 172,
+        bytes,
+    }
+}
+
+/// A sequence of the standard that the extract lacks, of known length: DoseReferenceSequence.
+const DOSES: &[u8] =
+    b"\x0a\x30\x10\x00\x12\x00\x00\x00\xFE\xFF\x00\xE0\x0A\x00\x00\x00\x0a\x30\x12\x00\x02\x00\x00\x001 ";
+
+#[test]
+fn reads_implicit_sequences_by_each_dictionary(rt: HostRuntime) {
+    assert!(rt; is_told(implicit(DOSES), b"i..................;$", Ok(())));
+    assert!(rt; is_told(implicit_by_standard(DOSES), b"i(i..;)>$", Ok(())));
+    let bytes = b"\x0a\x30\x10\x00\x02\x00\x00\x00ab";
+    assert!(rt; is_told(implicit(bytes), b"i..;$", Ok(())));
+    assert!(rt;
+        is_told(
+            implicit_by_standard(bytes),
+            b"i",
+            refused(Fault::PassesEnd, 178)
+        )
+    );
+}
+
+/// A private sequence UN of undefined length that holds this sequence.
+const IN_UNKNOWN: &[u8] =
+    b"\x09\x00\x10\x10UN\x00\x00\xFF\xFF\xFF\xFF\xFE\xFF\x00\xE0\xFF\xFF\xFF\xFF\x0a\x30\x10\x00\x12\x00\x00\x00\xFE\xFF\x00\xE0\x0A\x00\x00\x00\x0a\x30\x12\x00\x02\x00\x00\x001 \xFE\xFF\x0D\xE0\x00\x00\x00\x00\xFE\xFF\xDD\xE0\x00\x00\x00\x00";
+
+#[test]
+fn reads_unknown_sequences_by_each_dictionary(rt: HostRuntime) {
+    assert!(rt; is_told(little(IN_UNKNOWN), b"l(i..................;)>$", Ok(())));
+    assert!(rt; is_told(little_by_standard(IN_UNKNOWN), b"l(i(i..;)>)>$", Ok(())));
 }
 
 #[test]

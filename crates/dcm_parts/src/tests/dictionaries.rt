@@ -1,5 +1,7 @@
 // The dictionaries, with values of PS3.6 2022a (sections 6 to 8) and PS3.7 E.
-use dcm_base::{Dictionary, Tag, Vr, element_in, keyword_in, tag_in, vr_in};
+use dcm_base::{
+    Coding, Dictionary, Syntax, Tag, Vr, coding_of, element_in, keyword_in, tag_in, vr_in,
+};
 
 /// An element: its tag, its value representation and its keyword.
 type Element = ((u16, u16), Vr, &'static [u8]);
@@ -138,4 +140,56 @@ fn tags_by_rule(rt: HostRuntime) {
     assert!(rt; is_called((0xFFFE, 0xE00D), Vr::UN, b"ItemDelimitationItem"));
     assert!(rt; is_called((0xFFFE, 0xE0DD), Vr::UN, b"SequenceDelimitationItem"));
     assert!(rt; is_called((0xFFFF, 0xFFFF), Vr::UN, b"Unknown Tag & Data"));
+}
+
+#[test]
+fn syntaxes_read_by_a_dictionary(rt: HostRuntime) {
+    let (extract, standard) = (Dictionary::Extract, Dictionary::Standard);
+    for (by_extract, by_standard, is_big) in [
+        (Syntax::Implicit(extract), Syntax::Implicit(standard), false),
+        (Syntax::Little(extract), Syntax::Little(standard), false),
+        (Syntax::Big(extract), Syntax::Big(standard), true),
+    ] {
+        assert!(rt; by_extract.dictionary() == extract && by_standard.dictionary() == standard);
+        assert!(rt; by_extract.read_by(standard) == by_standard);
+        assert!(rt; by_standard.read_by(standard) == by_standard);
+        assert!(rt; by_standard.read_by(extract) == by_extract);
+        assert!(rt; by_extract.is_big() == is_big && by_standard.is_big() == is_big);
+        assert!(rt; by_extract != by_standard);
+    }
+}
+
+#[test]
+fn codings_read_by_a_dictionary(rt: HostRuntime) {
+    let (extract, standard) = (Dictionary::Extract, Dictionary::Standard);
+    for (uid, by_extract, by_standard, encapsulated) in [
+        (
+            b"1.2.840.10008.1.2".as_slice(),
+            Syntax::Implicit(extract),
+            Syntax::Implicit(standard),
+            false,
+        ),
+        (
+            b"1.2.840.10008.1.2.2".as_slice(),
+            Syntax::Big(extract),
+            Syntax::Big(standard),
+            false,
+        ),
+        (
+            b"1.2.840.10008.1.2.4.50".as_slice(),
+            Syntax::Little(extract),
+            Syntax::Little(standard),
+            true,
+        ),
+    ] {
+        let named = Coding {
+            syntax: by_extract,
+            encapsulated,
+        };
+        let read = Coding {
+            syntax: by_standard,
+            encapsulated,
+        };
+        assert!(rt; coding_of(uid) == Ok(named) && named.read_by(standard) == read);
+    }
 }

@@ -1,5 +1,5 @@
-use dcm_base::{EditRefusal, Tag, Vr};
-use dcm_edit::{Action, Edit, EditFault, Edits, Index};
+use dcm_base::{Dictionary, EditRefusal, Tag, Vr};
+use dcm_edit::{Action, Edit, EditFault, Edits, Index, dictionary_said};
 use std::test::Fail;
 
 /// The edits that the words of a line mean, or the refusal.
@@ -12,6 +12,142 @@ fn parsed(rt: HostRuntime, line: &'static str) -> Result<Result<Edits, EditFault
         Err(EditFault::Memory) => Err(Fail::new("out of memory")),
         answer => Ok(answer),
     }
+}
+
+/// The same by a dictionary.
+fn parsed_in(
+    rt: HostRuntime,
+    dictionary: Dictionary,
+    line: &'static str,
+) -> Result<Result<Edits, EditFault>, Fail> {
+    let mut words: Vec<&[u8]> = Vec::new(rt.alloc());
+    for word in line.split(' ') {
+        words.push(word.as_bytes())?;
+    }
+    match Edits::parse_in(rt.alloc(), dictionary, words.as_slice()) {
+        Err(EditFault::Memory) => Err(Fail::new("out of memory")),
+        answer => Ok(answer),
+    }
+}
+
+#[test]
+fn takes_edits_of_the_standard(rt: HostRuntime) -> Result<(), Fail> {
+    for (line, count) in [
+        ("-m XRayTubeCurrent=90", 1),
+        ("-ea (0018,1151) -ep", 2),
+        ("+dict -m XRayTubeCurrent=90 -dict -ep +dict", 2),
+        ("-dict", 0),
+        ("-i DoseReferenceSequence[0].DoseReferenceNumber=1", 1),
+        ("-m GraphicData=3f800000\\00000000", 1),
+        ("-m PatientName=A", 1),
+    ] {
+        match parsed_in(rt, Dictionary::Standard, line)? {
+            Ok(edits) => assert!(rt; edits.len() == count, "{line}"),
+            Err(fault) => assert!(rt; false, "{line}: {fault:?}"),
+        }
+    }
+    Ok(())
+}
+
+#[test]
+fn refuses_edits_of_the_standard(rt: HostRuntime) -> Result<(), Fail> {
+    for (dictionary, line, refusal, number) in [
+        (
+            Dictionary::Extract,
+            "-m XRayTubeCurrent=90",
+            EditRefusal::UnknownTag,
+            1,
+        ),
+        (
+            Dictionary::Extract,
+            "+dict -ep -m (0018,1151)=90",
+            EditRefusal::UnknownTag,
+            2,
+        ),
+        (
+            Dictionary::Standard,
+            "-e PixelPaddingValue",
+            EditRefusal::UnknownTag,
+            1,
+        ),
+        (
+            Dictionary::Standard,
+            "-e OverlayRows",
+            EditRefusal::UnknownTag,
+            1,
+        ),
+        (
+            Dictionary::Standard,
+            "-e (0009,0010)",
+            EditRefusal::UnknownTag,
+            1,
+        ),
+        (
+            Dictionary::Standard,
+            "-ep -e +dict",
+            EditRefusal::UnknownTag,
+            2,
+        ),
+        (Dictionary::Standard, "-dict -m", EditRefusal::BadOption, 1),
+        (
+            Dictionary::Standard,
+            "-m DoseReferenceSequence=1",
+            EditRefusal::SequenceMisused,
+            1,
+        ),
+        (
+            Dictionary::Standard,
+            "-e XRayTubeCurrent[0]",
+            EditRefusal::SequenceMisused,
+            1,
+        ),
+        (
+            Dictionary::Standard,
+            "-m GraphicData=1.5",
+            EditRefusal::ValueDoesNotFit,
+            1,
+        ),
+        (
+            Dictionary::Standard,
+            "-i SendingApplicationEntityTitle=A",
+            EditRefusal::MetaGroup,
+            1,
+        ),
+        (
+            Dictionary::Standard,
+            "-ma XRayTubeCurrent=1 +dict -ea (0018,1151)",
+            EditRefusal::Overlap,
+            2,
+        ),
+    ] {
+        match parsed_in(rt, dictionary, line)? {
+            Ok(_) => assert!(rt; false, "{line}"),
+            Err(fault) => assert!(rt; fault == EditFault::Refused(refusal, number), "{line}"),
+        }
+    }
+    Ok(())
+}
+
+#[test]
+fn names_a_dictionary(rt: HostRuntime) -> Result<(), Fail> {
+    for (line, dictionary) in [
+        ("-ep", Dictionary::Extract),
+        ("+dict", Dictionary::Standard),
+        ("-dict", Dictionary::Extract),
+        ("-m PatientName=A +dict", Dictionary::Standard),
+        ("+dict -ep -dict", Dictionary::Extract),
+        ("-dict -ep +dict -e Rows", Dictionary::Standard),
+        ("-e +dict", Dictionary::Extract),
+        ("+dict -m -dict", Dictionary::Standard),
+        ("-e -e +dict", Dictionary::Standard),
+    ] {
+        let mut words: Vec<&[u8]> = Vec::new(rt.alloc());
+        for word in line.split(' ') {
+            words.push(word.as_bytes())?;
+        }
+        assert!(rt; dictionary_said(words.as_slice()) == dictionary, "{line}");
+    }
+    Ok(())
 }
 
 #[test]
@@ -91,6 +227,23 @@ fn keeps_paths_and_values(rt: HostRuntime) -> Result<(), Fail> {
     match parsed(rt, line)? {
         Ok(edits) => match edits.list() {
             [edit] => assert!(rt; inserts(edit, 12, tag, Vr::UI, b"1.2")),
+            _ => assert!(rt; false),
+        },
+        Err(_) => assert!(rt; false),
+    }
+    Ok(())
+}
+
+#[test]
+fn keeps_representations_of_the_standard(rt: HostRuntime) -> Result<(), Fail> {
+    let line = "-i DoseReferenceSequence[3].DoseReferenceNumber=1";
+    let tag = Tag {
+        group: 0x300A,
+        element: 0x0012,
+    };
+    match parsed_in(rt, Dictionary::Standard, line)? {
+        Ok(edits) => match edits.list() {
+            [edit] => assert!(rt; inserts(edit, 3, tag, Vr::IS, b"1")),
             _ => assert!(rt; false),
         },
         Err(_) => assert!(rt; false),

@@ -1,5 +1,7 @@
 // The examples in the descriptions of the libraries, at the top of each `lib.rt`.
-use dcm_base::{Coding, Length, MemOut, Mode, Syntax, Tag, Vr, Watched, dict_vr, tag_of};
+use dcm_base::{
+    Coding, Dictionary, Length, MemOut, Mode, Syntax, Tag, Vr, Watched, dict_vr, tag_of,
+};
 use dcm_build::Builder;
 use dcm_edit::{EditSink, Edits};
 use dcm_head::{Head, HeadRead, read_head, write_head};
@@ -12,7 +14,7 @@ use std::test::Fail;
 const NAME: &[u8] = b"\x10\x00\x10\x00PN\x06\x00AB^CD ";
 
 const LITTLE: Coding = Coding {
-    syntax: Syntax::Little,
+    syntax: Syntax::Little(Dictionary::Extract),
     encapsulated: false,
 };
 
@@ -45,8 +47,8 @@ fn heads(rt: HostRuntime) {
         vr: Vr::PN,
         length: Length::Known(6),
     };
-    assert!(rt; read_head(Syntax::Little, bytes) == HeadRead::Done(name, 8));
-    assert!(rt; write_head(Syntax::Little, &name).as_slice() == bytes);
+    assert!(rt; read_head(Syntax::Little(Dictionary::Extract), bytes) == HeadRead::Done(name, 8));
+    assert!(rt; write_head(Syntax::Little(Dictionary::Extract), &name).as_slice() == bytes);
 }
 
 #[test]
@@ -94,7 +96,7 @@ fn edits(rt: HostRuntime) -> Result<(), Fail> {
     };
     let mut out = output(rt)?;
     let mut machine = Machine::new(LITTLE, 0);
-    let mut sink = EncodeSink::new(&mut out, Syntax::Little);
+    let mut sink = EncodeSink::new(&mut out, Syntax::Little(Dictionary::Extract));
     let mut edited = EditSink::new(&edits, &mut sink);
     assert!(rt; machine.feed(NAME, &mut edited).is_ok() && machine.finish(&mut edited).is_ok());
     assert!(rt; edited.unplaced() == 0 && out.device().written().is_empty());

@@ -1,10 +1,17 @@
 ghost use Rattle.std.specs.Prelude.{◌<◌};
 ghost use Rattle.dcm_head.specs.MetaReading.{IsOpen};
 
-use dcm_base::{Coding, Fault, Length, MemOut, Stop, Syntax, Tag, Vr, Watched};
+use dcm_base::{Coding, Dictionary, Fault, Length, MemOut, Stop, Syntax, Tag, Vr, Watched};
 use dcm_head::{Head, HeadRead, Meta, MetaRead, read_head, write_head, write_meta};
 use std::alloc::{AllocError, Global};
 use std::test::Fail;
+
+/// The syntaxes, with the dictionary's extract.
+const IMPLICIT: Syntax = Syntax::Implicit(Dictionary::Extract);
+
+const LITTLE: Syntax = Syntax::Little(Dictionary::Extract);
+
+const BIG: Syntax = Syntax::Big(Dictionary::Extract);
 
 /// The group of a file in Explicit VR Little Endian.
 const GROUP: &[u8] =
@@ -207,7 +214,7 @@ fn getters(rt: HostRuntime) -> Result<(), Fail> {
     assert!(rt;
         meta.coding()
             == Coding {
-                syntax: Syntax::Little,
+                syntax: LITTLE,
                 encapsulated: false
             }
     );
@@ -238,16 +245,52 @@ fn heads(rt: HostRuntime) -> Result<(), Fail> {
         vr: Vr::PN,
         length,
     };
+    assert!(rt; read_head(LITTLE, b"\x10\x00\x10\x00PN\x06\x00AB") == HeadRead::Done(name, 8));
     assert!(rt;
-        read_head(Syntax::Little, b"\x10\x00\x10\x00PN\x06\x00AB") == HeadRead::Done(name, 8)
+        read_head(IMPLICIT, b"\x10\x00\x10\x00\x06\x00\x00\x00") == HeadRead::Done(name, 8)
     );
-    assert!(rt;
-        read_head(Syntax::Implicit, b"\x10\x00\x10\x00\x06\x00\x00\x00") == HeadRead::Done(name, 8)
-    );
-    assert!(rt; read_head(Syntax::Big, b"\x00\x10\x00\x10PN\x00\x06") == HeadRead::Done(name, 8));
-    assert!(rt; read_head(Syntax::Little, b"\x10\x00\x10\x00pn\x02\x00") == HeadRead::BadVr);
-    assert!(rt; read_head(Syntax::Little, b"\x10\x00\x10\x00PN\x06") == HeadRead::More(8));
+    assert!(rt; read_head(BIG, b"\x00\x10\x00\x10PN\x00\x06") == HeadRead::Done(name, 8));
+    assert!(rt; read_head(LITTLE, b"\x10\x00\x10\x00pn\x02\x00") == HeadRead::BadVr);
+    assert!(rt; read_head(LITTLE, b"\x10\x00\x10\x00PN\x06") == HeadRead::More(8));
     Ok(())
+}
+
+#[test]
+fn implicit_heads_by_each_dictionary(rt: HostRuntime) {
+    let tag = Tag {
+        group: 0x0018,
+        element: 0x1151,
+    };
+    let length = Length::Known(4);
+    let bytes = b"\x18\x00\x51\x11\x04\x00\x00\x00".as_slice();
+    for (dictionary, vr) in [
+        (Dictionary::Extract, Vr::UN),
+        (Dictionary::Standard, Vr::IS),
+    ] {
+        let head = Head { tag, vr, length };
+        let syntax = Syntax::Implicit(dictionary);
+        assert!(rt; read_head(syntax, bytes) == HeadRead::Done(head, 8));
+        assert!(rt; write_head(syntax, &head).as_slice() == bytes);
+    }
+}
+
+#[test]
+fn explicit_heads_by_each_dictionary(rt: HostRuntime) {
+    let tag = Tag {
+        group: 0x0018,
+        element: 0x1151,
+    };
+    let head = Head {
+        tag,
+        vr: Vr::LO,
+        length: Length::Known(4),
+    };
+    let little = b"\x18\x00\x51\x11LO\x04\x00".as_slice();
+    let big = b"\x00\x18\x11\x51LO\x00\x04".as_slice();
+    for dictionary in [Dictionary::Extract, Dictionary::Standard] {
+        assert!(rt; read_head(Syntax::Little(dictionary), little) == HeadRead::Done(head, 8));
+        assert!(rt; read_head(Syntax::Big(dictionary), big) == HeadRead::Done(head, 8));
+    }
 }
 
 #[test]
@@ -262,14 +305,10 @@ fn long_heads(rt: HostRuntime) -> Result<(), Fail> {
         vr: Vr::UN,
         length,
     };
+    assert!(rt; read_head(LITTLE, b"\x09\x00\x01\x10ZZ\x01\x02\x02\x00\x00") == HeadRead::More(12));
     assert!(rt;
-        read_head(Syntax::Little, b"\x09\x00\x01\x10ZZ\x01\x02\x02\x00\x00") == HeadRead::More(12)
-    );
-    assert!(rt;
-        read_head(
-            Syntax::Little,
-            b"\x09\x00\x01\x10ZZ\x01\x02\x02\x00\x00\x00"
-        ) == HeadRead::Done(unknown, 12)
+        read_head(LITTLE, b"\x09\x00\x01\x10ZZ\x01\x02\x02\x00\x00\x00")
+            == HeadRead::Done(unknown, 12)
     );
     let undefined = Head {
         tag,
@@ -277,7 +316,7 @@ fn long_heads(rt: HostRuntime) -> Result<(), Fail> {
         length: Length::Undefined,
     };
     assert!(rt;
-        read_head(Syntax::Big, b"\x00\x09\x10\x01UN\x00\x00\xFF\xFF\xFF\xFF")
+        read_head(BIG, b"\x00\x09\x10\x01UN\x00\x00\xFF\xFF\xFF\xFF")
             == HeadRead::Done(undefined, 12)
     );
     Ok(())
@@ -301,12 +340,8 @@ fn items(rt: HostRuntime) -> Result<(), Fail> {
         vr: Vr::UN,
         length: Length::Known(0),
     };
-    assert!(rt;
-        read_head(Syntax::Little, b"\xFE\xFF\x00\xE0\xFF\xFF\xFF\xFF") == HeadRead::Done(item, 8)
-    );
-    assert!(rt;
-        read_head(Syntax::Big, b"\xFF\xFE\xE0\xDD\x00\x00\x00\x09") == HeadRead::Done(end, 8)
-    );
+    assert!(rt; read_head(LITTLE, b"\xFE\xFF\x00\xE0\xFF\xFF\xFF\xFF") == HeadRead::Done(item, 8));
+    assert!(rt; read_head(BIG, b"\xFF\xFE\xE0\xDD\x00\x00\x00\x09") == HeadRead::Done(end, 8));
     Ok(())
 }
 
@@ -321,15 +356,10 @@ fn written_heads(rt: HostRuntime) -> Result<(), Fail> {
         vr: Vr::PN,
         length: Length::Known(6),
     };
+    assert!(rt; write_head(LITTLE, &name).as_slice() == b"\x10\x00\x10\x00PN\x06\x00".as_slice());
+    assert!(rt; write_head(BIG, &name).as_slice() == b"\x00\x10\x00\x10PN\x00\x06".as_slice());
     assert!(rt;
-        write_head(Syntax::Little, &name).as_slice() == b"\x10\x00\x10\x00PN\x06\x00".as_slice()
-    );
-    assert!(rt;
-        write_head(Syntax::Big, &name).as_slice() == b"\x00\x10\x00\x10PN\x00\x06".as_slice()
-    );
-    assert!(rt;
-        write_head(Syntax::Implicit, &name).as_slice()
-            == b"\x10\x00\x10\x00\x06\x00\x00\x00".as_slice()
+        write_head(IMPLICIT, &name).as_slice() == b"\x10\x00\x10\x00\x06\x00\x00\x00".as_slice()
     );
     let tag = Tag {
         group: 0x0009,
@@ -341,7 +371,7 @@ fn written_heads(rt: HostRuntime) -> Result<(), Fail> {
         length: Length::Undefined,
     };
     assert!(rt;
-        write_head(Syntax::Big, &unknown).as_slice()
+        write_head(BIG, &unknown).as_slice()
             == b"\x00\x09\x10\x01UN\x00\x00\xFF\xFF\xFF\xFF".as_slice()
     );
     let tag = Tag {
@@ -354,8 +384,7 @@ fn written_heads(rt: HostRuntime) -> Result<(), Fail> {
         length: Length::Known(9),
     };
     assert!(rt;
-        write_head(Syntax::Little, &end).as_slice()
-            == b"\xFE\xFF\x0D\xE0\x00\x00\x00\x00".as_slice()
+        write_head(LITTLE, &end).as_slice() == b"\xFE\xFF\x0D\xE0\x00\x00\x00\x00".as_slice()
     );
     Ok(())
 }

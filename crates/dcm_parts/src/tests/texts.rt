@@ -1,7 +1,14 @@
 use arrayvec::ArrayVec;
-use dcm_base::{MemOut, Mode, Syntax, Vr, Watched, put_all};
+use dcm_base::{Dictionary, MemOut, Mode, Syntax, Vr, Watched, put_all};
 use dcm_value::{ValueText, escape, swap};
 use std::test::Fail;
+
+/// The syntaxes, with the dictionary's extract.
+const IMPLICIT: Syntax = Syntax::Implicit(Dictionary::Extract);
+
+const LITTLE: Syntax = Syntax::Little(Dictionary::Extract);
+
+const BIG: Syntax = Syntax::Big(Dictionary::Extract);
 
 /// A writer that has room for so many bytes.
 fn writer(rt: HostRuntime, room: usize) -> Result<Watched<MemOut>, Fail> {
@@ -90,45 +97,24 @@ fn is_always(
 
 #[test]
 fn shows_texts(rt: HostRuntime) -> Result<(), Fail> {
-    is_always(rt, Vr::PN, Syntax::Little, b"AB^CD ", b"[AB^CD]", 1)?;
-    is_always(rt, Vr::LT, Syntax::Little, b" ", b"[ ]", 1)?;
-    is_always(rt, Vr::LO, Syntax::Little, b"a\\b\\c\n", b"[a\\b\\c%0A]", 3)?;
-    is_always(rt, Vr::UT, Syntax::Big, b"\\\\", b"[\\\\]", 1)?;
-    is_always(
-        rt,
-        Vr::SH,
-        Syntax::Big,
-        b"%]\x7f\x80",
-        b"[%25%5D%7F\x80]",
-        1,
-    )?;
-    is_always(
-        rt,
-        Vr::SH,
-        Syntax::Implicit,
-        b"",
-        b"(no value available)",
-        0,
-    )
+    is_always(rt, Vr::PN, LITTLE, b"AB^CD ", b"[AB^CD]", 1)?;
+    is_always(rt, Vr::LT, LITTLE, b" ", b"[ ]", 1)?;
+    is_always(rt, Vr::LO, LITTLE, b"a\\b\\c\n", b"[a\\b\\c%0A]", 3)?;
+    is_always(rt, Vr::UT, BIG, b"\\\\", b"[\\\\]", 1)?;
+    is_always(rt, Vr::SH, BIG, b"%]\x7f\x80", b"[%25%5D%7F\x80]", 1)?;
+    is_always(rt, Vr::SH, IMPLICIT, b"", b"(no value available)", 0)
 }
 
 #[test]
 fn shows_identifiers(rt: HostRuntime) -> Result<(), Fail> {
     let little = b"1.2.840.10008.1.2.1\0";
-    is_always(
-        rt,
-        Vr::UI,
-        Syntax::Little,
-        little,
-        b"=LittleEndianExplicit",
-        1,
-    )?;
-    is_always(rt, Vr::UI, Syntax::Big, b"1.2\0", b"[1.2]", 1)?;
-    is_always(rt, Vr::UI, Syntax::Big, b"1.2\\3 ", b"[1.2\\3 ]", 2)?;
-    is_always(rt, Vr::UI, Syntax::Big, b"\0\0", b"[%00]", 1)?;
-    is_always(rt, Vr::UI, Syntax::Big, b"", b"(no value available)", 0)?;
+    is_always(rt, Vr::UI, LITTLE, little, b"=LittleEndianExplicit", 1)?;
+    is_always(rt, Vr::UI, BIG, b"1.2\0", b"[1.2]", 1)?;
+    is_always(rt, Vr::UI, BIG, b"1.2\\3 ", b"[1.2\\3 ]", 2)?;
+    is_always(rt, Vr::UI, BIG, b"\0\0", b"[%00]", 1)?;
+    is_always(rt, Vr::UI, BIG, b"", b"(no value available)", 0)?;
     let long = [b'1'; 66];
-    let full = (Vr::UI, Syntax::Little, Mode::Full);
+    let full = (Vr::UI, LITTLE, Mode::Full);
     let mut text = padded(rt, &long)?;
     text.insert(0, b'[')?;
     text.push(b']')?;
@@ -138,47 +124,19 @@ fn shows_identifiers(rt: HostRuntime) -> Result<(), Fail> {
 #[test]
 fn shows_numbers(rt: HostRuntime) -> Result<(), Fail> {
     let ones = [255; 8];
-    is_always(rt, Vr::US, Syntax::Big, &[0, 1, 2, 0, 5], b"1\\512", 2)?;
-    is_always(rt, Vr::US, Syntax::Little, &[1], b"", 0)?;
-    is_always(rt, Vr::SS, Syntax::Little, &[255, 255], b"-1", 1)?;
-    is_always(
-        rt,
-        Vr::SS,
-        Syntax::Little,
-        &[0, 128, 255, 127],
-        b"-32768\\32767",
-        2,
-    )?;
-    is_always(rt, Vr::UL, Syntax::Big, &[0, 1, 0, 0], b"65536", 1)?;
-    is_always(
-        rt,
-        Vr::SL,
-        Syntax::Little,
-        &[0, 0, 0, 128],
-        b"-2147483648",
-        1,
-    )?;
-    is_always(
-        rt,
-        Vr::UV,
-        Syntax::Little,
-        &[2, 1, 0, 0, 0, 0, 0, 0],
-        b"258",
-        1,
-    )?;
-    is_always(
-        rt,
-        Vr::UV,
-        Syntax::Little,
-        &ones,
-        b"18446744073709551615",
-        1,
-    )?;
-    is_always(rt, Vr::SV, Syntax::Little, &ones, b"-1", 1)?;
+    is_always(rt, Vr::US, BIG, &[0, 1, 2, 0, 5], b"1\\512", 2)?;
+    is_always(rt, Vr::US, LITTLE, &[1], b"", 0)?;
+    is_always(rt, Vr::SS, LITTLE, &[255, 255], b"-1", 1)?;
+    is_always(rt, Vr::SS, LITTLE, &[0, 128, 255, 127], b"-32768\\32767", 2)?;
+    is_always(rt, Vr::UL, BIG, &[0, 1, 0, 0], b"65536", 1)?;
+    is_always(rt, Vr::SL, LITTLE, &[0, 0, 0, 128], b"-2147483648", 1)?;
+    is_always(rt, Vr::UV, LITTLE, &[2, 1, 0, 0, 0, 0, 0, 0], b"258", 1)?;
+    is_always(rt, Vr::UV, LITTLE, &ones, b"18446744073709551615", 1)?;
+    is_always(rt, Vr::SV, LITTLE, &ones, b"-1", 1)?;
     is_always(
         rt,
         Vr::SV,
-        Syntax::Big,
+        BIG,
         &[128, 0, 0, 0, 0, 0, 0, 0],
         b"-9223372036854775808",
         1,
@@ -189,39 +147,25 @@ fn shows_numbers(rt: HostRuntime) -> Result<(), Fail> {
 fn shows_bytes(rt: HostRuntime) -> Result<(), Fail> {
     let eight = [1, 2, 3, 4, 5, 6, 7, 8];
     let diffusion = [0, 0, 0, 0, 0, 0x40, 0x8F, 0x40];
-    is_always(
-        rt,
-        Vr::FD,
-        Syntax::Little,
-        &diffusion,
-        b"408f400000000000",
-        1,
-    )?;
-    is_always(rt, Vr::UN, Syntax::Implicit, b"AB", b"41\\42", 1)?;
-    is_always(rt, Vr::OB, Syntax::Big, &[255, 0xD8], b"ff\\d8", 1)?;
-    is_always(rt, Vr::SQ, Syntax::Big, &[255, 0xD8], b"ff\\d8", 2)?;
-    is_always(rt, Vr::OW, Syntax::Little, &[1, 2, 3, 4], b"0201\\0403", 1)?;
-    is_always(rt, Vr::OW, Syntax::Big, &[1, 2, 3, 4, 5], b"0102\\0304", 1)?;
-    is_always(rt, Vr::OL, Syntax::Little, &eight, b"04030201\\08070605", 1)?;
-    is_always(rt, Vr::FL, Syntax::Big, &eight, b"01020304\\05060708", 2)?;
-    is_always(rt, Vr::OF, Syntax::Little, &eight[..5], b"04030201", 1)?;
-    is_always(rt, Vr::OV, Syntax::Little, &eight, b"0807060504030201", 1)?;
-    is_always(rt, Vr::OD, Syntax::Big, &eight, b"0102030405060708", 1)?;
-    is_always(
-        rt,
-        Vr::AT,
-        Syntax::Little,
-        &eight,
-        b"(0201,0403)\\(0605,0807)",
-        2,
-    )?;
-    is_always(rt, Vr::AT, Syntax::Big, &eight[..6], b"(0102,0304)", 1)
+    is_always(rt, Vr::FD, LITTLE, &diffusion, b"408f400000000000", 1)?;
+    is_always(rt, Vr::UN, IMPLICIT, b"AB", b"41\\42", 1)?;
+    is_always(rt, Vr::OB, BIG, &[255, 0xD8], b"ff\\d8", 1)?;
+    is_always(rt, Vr::SQ, BIG, &[255, 0xD8], b"ff\\d8", 2)?;
+    is_always(rt, Vr::OW, LITTLE, &[1, 2, 3, 4], b"0201\\0403", 1)?;
+    is_always(rt, Vr::OW, BIG, &[1, 2, 3, 4, 5], b"0102\\0304", 1)?;
+    is_always(rt, Vr::OL, LITTLE, &eight, b"04030201\\08070605", 1)?;
+    is_always(rt, Vr::FL, BIG, &eight, b"01020304\\05060708", 2)?;
+    is_always(rt, Vr::OF, LITTLE, &eight[..5], b"04030201", 1)?;
+    is_always(rt, Vr::OV, LITTLE, &eight, b"0807060504030201", 1)?;
+    is_always(rt, Vr::OD, BIG, &eight, b"0102030405060708", 1)?;
+    is_always(rt, Vr::AT, LITTLE, &eight, b"(0201,0403)\\(0605,0807)", 2)?;
+    is_always(rt, Vr::AT, BIG, &eight[..6], b"(0102,0304)", 1)
 }
 
 #[test]
 fn cuts_long_ones(rt: HostRuntime) -> Result<(), Fail> {
     let letters = [b'a'; 2000];
-    let short = (Vr::LT, Syntax::Little, Mode::Short);
+    let short = (Vr::LT, LITTLE, Mode::Short);
     let mut text = padded(rt, &letters[..64])?;
     text.insert(0, b'[')?;
     text.push(b']')?;
@@ -253,22 +197,10 @@ fn shows_long_ones(rt: HostRuntime) -> Result<(), Fail> {
         } else {
             1
         };
-        is_shown(
-            rt,
-            (vr, Syntax::Little, Mode::Full),
-            &zeros,
-            text.as_slice(),
-            count,
-        )?;
+        is_shown(rt, (vr, LITTLE, Mode::Full), &zeros, text.as_slice(), count)?;
         text.truncate(63);
         text.extend_from_slice(b"...")?;
-        is_shown(
-            rt,
-            (vr, Syntax::Big, Mode::Short),
-            &zeros,
-            text.as_slice(),
-            count,
-        )?;
+        is_shown(rt, (vr, BIG, Mode::Short), &zeros, text.as_slice(), count)?;
     }
     Ok(())
 }
@@ -290,7 +222,7 @@ fn shows_open_ones(rt: HostRuntime) -> Result<(), Fail> {
     ] {
         for (mode, wanted) in [(Mode::Full, text), (Mode::Short, b"".as_slice())] {
             let mut out = writer(rt, 100)?;
-            let mut shown = ValueText::new(vr, Syntax::Little, size, mode);
+            let mut shown = ValueText::new(vr, LITTLE, size, mode);
             feed(&mut shown, value, 1, &mut out)?;
             assert!(rt; out.device().written() == wanted);
             assert!(rt; (shown.size() - shown.missing().min(shown.size())) as usize == value.len());
@@ -303,7 +235,7 @@ fn shows_open_ones(rt: HostRuntime) -> Result<(), Fail> {
 fn tells_a_full_writer(rt: HostRuntime) -> Result<(), Fail> {
     for room in 0..40 {
         let mut out = writer(rt, room)?;
-        let mut shown = ValueText::new(Vr::LO, Syntax::Little, 4, Mode::Full);
+        let mut shown = ValueText::new(Vr::LO, LITTLE, 4, Mode::Full);
         let fed = shown.feed(b"a\nb ", &mut out);
         let mut line: ArrayVec<u8, 66> = ArrayVec::new();
         let ended = shown.finish(&mut line, &mut out);

@@ -1,5 +1,5 @@
-use dcm_base::{EditRefusal, WordFault};
-use dcm_words::{Job, Planned, Usage, plan};
+use dcm_base::{Dictionary, EditRefusal, Mode, Syntax, WordFault};
+use dcm_words::{Convert, Dump, Job, Modify, Planned, Usage, plan};
 use std::test::Fail;
 
 /// How many edits the words of a line mean from one path to another, or the refusal.
@@ -11,7 +11,7 @@ fn edits_of(rt: HostRuntime, line: &'static str) -> Result<Result<usize, Usage>,
     match plan(rt.alloc(), words.as_slice()) {
         Ok(
             Planned {
-                job: Job::Modify(edits),
+                job: Job::Modify(Modify { edits, .. }),
                 ..
             },
         ) => Ok(Ok(edits.len())),
@@ -38,6 +38,148 @@ fn plans_edits(rt: HostRuntime) -> Result<(), Fail> {
     ] {
         let planned = edits_of(rt, line)?;
         assert!(rt; planned == expected, "{line}: {planned:?}");
+    }
+    Ok(())
+}
+
+/// What the words of a line mean, but for paths and edits: the dictionary, the syntax, and how much of long values is shown.
+#[derive(Clone, Copy, Debug, PartialEq, Eq)]
+struct Said {
+    dictionary: Dictionary,
+    syntax: Option<Syntax>,
+    mode: Option<Mode>,
+}
+
+fn said_of(rt: HostRuntime, line: &'static str) -> Result<Result<Said, Usage>, Fail> {
+    let mut words: Vec<&[u8]> = Vec::new(rt.alloc());
+    for word in line.split(' ') {
+        words.push(word.as_bytes())?;
+    }
+    let planned = match plan(rt.alloc(), words.as_slice()) {
+        Ok(planned) => planned,
+        Err(Usage::Memory) => return Err(Fail::new("out of memory")),
+        Err(usage) => return Ok(Err(usage)),
+    };
+    match planned.job {
+        Job::Dump(
+            Dump {
+                dictionary,
+                mode,
+                bare,
+            },
+        ) => Ok(Ok(Said {
+            dictionary,
+            syntax: bare,
+            mode: Some(mode),
+        })),
+        Job::Convert(Convert { dictionary, target }) => Ok(Ok(Said {
+            dictionary,
+            syntax: target,
+            mode: None,
+        })),
+        Job::Modify(Modify { dictionary, .. }) => Ok(Ok(Said {
+            dictionary,
+            syntax: None,
+            mode: None,
+        })),
+        Job::Build(_) => Err(Fail::new("another job")),
+    }
+}
+
+/// The dictionary that the words of a line name.
+fn dictionary_of(rt: HostRuntime, line: &'static str) -> Result<Result<Dictionary, Usage>, Fail> {
+    Ok(said_of(rt, line)?.map(|said| said.dictionary))
+}
+
+#[test]
+fn plans_dictionaries(rt: HostRuntime) -> Result<(), Fail> {
+    for (line, dictionary) in [
+        ("dcmdump -", Dictionary::Extract),
+        ("dcmdump -dict -", Dictionary::Extract),
+        ("dcmdump +dict -", Dictionary::Standard),
+        ("dcmdump - +dict", Dictionary::Standard),
+        ("dcmdump +dict - -dict", Dictionary::Extract),
+        ("dcmdump -dict +L - +dict", Dictionary::Standard),
+        ("dcmdump -f +dict -ti -", Dictionary::Standard),
+        ("dcmconv +te - -", Dictionary::Extract),
+        ("dcmconv +dict +te - -", Dictionary::Standard),
+        ("dcmconv - +te - +dict", Dictionary::Standard),
+        ("dcmconv +dict -dict - -", Dictionary::Extract),
+        ("dcmodify - -", Dictionary::Extract),
+        ("dcmodify +dict - -", Dictionary::Standard),
+        ("dcmodify -ep +dict - -", Dictionary::Standard),
+        ("dcmodify +dict -ep -dict - -", Dictionary::Extract),
+        ("dcmodify -dict -ep +dict -e Rows - -", Dictionary::Standard),
+        (
+            "dcmodify -m XRayTubeCurrent=1 +dict - -",
+            Dictionary::Standard,
+        ),
+    ] {
+        let planned = dictionary_of(rt, line)?;
+        assert!(rt; planned == Ok(dictionary), "{line}: {planned:?}");
+    }
+    Ok(())
+}
+
+#[test]
+fn refuses_dictionaries(rt: HostRuntime) -> Result<(), Fail> {
+    for (line, usage) in [
+        (
+            "dump2dcm +dict a b",
+            Usage::AtWord(WordFault::UnknownOption, 2),
+        ),
+        (
+            "dump2dcm a b -dict",
+            Usage::AtWord(WordFault::UnknownOption, 4),
+        ),
+        (
+            "dcmdump +dictionary -",
+            Usage::AtWord(WordFault::UnknownOption, 2),
+        ),
+        ("dcmdump +dict", Usage::Whole(WordFault::WrongPaths)),
+        ("dcmconv +dict a a", Usage::Whole(WordFault::SamePath)),
+        ("dcmodify +dict a a", Usage::Whole(WordFault::SamePath)),
+        ("dcmodify a b +dict", Usage::Whole(WordFault::WrongPaths)),
+        (
+            "dcmodify -m XRayTubeCurrent=1 - -",
+            Usage::InEdit(EditRefusal::UnknownTag, 1),
+        ),
+        (
+            "dcmodify +dict -m XRayTubeCurrent=1 -dict - -",
+            Usage::InEdit(EditRefusal::UnknownTag, 1),
+        ),
+        (
+            "dcmodify +dict -ep +dict -e X - -",
+            Usage::InEdit(EditRefusal::UnknownTag, 2),
+        ),
+        (
+            "dcmodify -e +dict - -",
+            Usage::InEdit(EditRefusal::UnknownTag, 1),
+        ),
+        (
+            "dcmodify +dict -e - -",
+            Usage::InEdit(EditRefusal::BadOption, 1),
+        ),
+        (
+            "dcmodify -ep +dict -x - -",
+            Usage::InEdit(EditRefusal::BadOption, 2),
+        ),
+    ] {
+        let planned = dictionary_of(rt, line)?;
+        assert!(rt; planned == Err(usage), "{line}: {planned:?}");
+    }
+    Ok(())
+}
+
+#[test]
+fn plans_a_data_set_alone_by_a_dictionary(rt: HostRuntime) -> Result<(), Fail> {
+    let said = said_of(rt, "dcmdump +dict -f -tb +L -")?;
+    match said {
+        Ok(said) => {
+            assert!(rt; said.dictionary == Dictionary::Standard && said.mode == Some(Mode::Full));
+            assert!(rt; matches!(said.syntax, Some(Syntax::Big(_))));
+        }
+        Err(_) => assert!(rt; false),
     }
     Ok(())
 }

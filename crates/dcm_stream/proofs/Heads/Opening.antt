@@ -7,7 +7,7 @@ use Rattle.dcm_base.specs.declared.tag.Tag.{Tag}
 use Rattle.dcm_base.specs.declared.vr.Vr.{Vr}
 use Rattle.dcm_base.specs.declared.vr.Vr.TheVariants.{SQ, UN, OB, OW}
 use Rattle.dcm_base.specs.declared.syntax.Syntax.{Syntax}
-use Rattle.dcm_base.specs.declared.syntax.Syntax.TheVariants.{Little}
+use Rattle.dcm_base.specs.declared.syntax.Syntax.TheVariants.{Little as little_in}
 use Rattle.dcm_base.specs.declared.length.Length.{Length}
 use Rattle.dcm_base.specs.declared.length.Length.TheVariants.{Known, Undefined}
 use Rattle.dcm_base.specs.Tree.{Trees, no_tree, leaf, no_item}
@@ -42,8 +42,8 @@ pub undefined_no_value : (s : Syntax) (vr : Vr) → form s vr Undefined ≡ a_va
 unfolding form
 undefined_no_value s SQ h = cc
 undefined_no_value s UN h = cc
-undefined_no_value Little OB h = cc
-undefined_no_value Little OW h = cc
+undefined_no_value (little_in d) OB h = cc
+undefined_no_value (little_in d) OW h = cc
 undefined_no_value s vr h = cc
 
 known_no_fragments : (s : Syntax) (vr : Vr) (n : ℕ) → form s vr (Known n) ≡ a_fragment_list → ⊥

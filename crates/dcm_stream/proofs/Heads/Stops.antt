@@ -5,7 +5,7 @@ use Rattle.std.proofs.lemmas.Bool.{ltb-true, ltb-false, lt-ltb, eqb-false}
 use Rattle.dcm_base.specs.declared.tag.Tag.{Tag}
 use Rattle.dcm_base.specs.declared.vr.Vr.{Vr}
 use Rattle.dcm_base.specs.declared.syntax.Syntax.{Syntax}
-use Rattle.dcm_base.specs.declared.syntax.Syntax.TheVariants.{Implicit, Little, Big}
+use Rattle.dcm_base.specs.declared.syntax.Syntax.TheVariants.{Implicit as implicit_in, Little as little_in, Big as big_in}
 use Rattle.dcm_base.specs.Representation.{is_long}
 use Rattle.dcm_base.specs.declared.fault.Fault.{Fault}
 use Rattle.dcm_base.specs.declared.fault.Fault.TheVariants.{EndsEarly, UndefinedLength, PassesEnd, TooDeep}
@@ -181,9 +181,9 @@ size_of_form true = omega arith
 size_of_form false = omega arith
 
 head_size_le_12 : (s : Syntax) (vr : Vr) → head_size s vr ≤ 12
-head_size_le_12 Implicit vr = omega arith
-head_size_le_12 Little vr = size_of_form (is_long vr)
-head_size_le_12 Big vr = size_of_form (is_long vr)
+head_size_le_12 (implicit_in d) vr = omega arith
+head_size_le_12 (little_in d) vr = size_of_form (is_long vr)
+head_size_le_12 (big_in d) vr = size_of_form (is_long vr)
 
 empty_small : (rest : List ℕ) → is_empty rest ≡ true → length rest < 12
 empty_small [] e = omega arith

@@ -4,7 +4,7 @@ use Rattle.std.specs.Prelude.{fold, option_map}
 use Rattle.std.proofs.lemmas.List.{append-nil}
 use Rattle.std.proofs.lemmas.List.Sums.{fold-append}
 use Rattle.dcm_base.specs.declared.syntax.Syntax.{Syntax}
-use Rattle.dcm_base.specs.declared.syntax.Syntax.TheVariants.{Little}
+use Rattle.dcm_base.specs.Syntax.{Little}
 use Rattle.dcm_base.specs.declared.fault.Fault.{Fault}
 use Rattle.dcm_base.specs.declared.fault.Fault.TheVariants.{FragmentsBarred, NotAscending}
 use Rattle.dcm_base.specs.Atoms.{Atom, is_closed}

@@ -1,7 +1,8 @@
 -- The reading of a data set has an answer.
 use Rattle.std.proofs.Common.{◌≡◌, ◌≤◌, ℕ, List, Bool, true, false, Some, None, cond, refl}
 use Rattle.dcm_base.specs.declared.syntax.Syntax.{Syntax}
-use Rattle.dcm_base.specs.declared.syntax.Syntax.TheVariants.{Implicit, Little, Big}
+use Rattle.dcm_base.specs.declared.syntax.Syntax.TheVariants.{Implicit as implicit_in, Little as little_in, Big as big_in}
+use Rattle.dcm_base.specs.Syntax.{Little}
 use Rattle.dcm_base.specs.declared.fault.Fault.TheVariants.{FragmentsBarred}
 use Rattle.dcm_base.specs.Front.{Front, front, nothing_open}
 use Rattle.dcm_base.specs.Tree.{no_tree}
@@ -46,6 +47,6 @@ native = some_answer (λ atoms. fragments_bar nothing) fragments_bar fragments_b
 
 -- for a conversion to a syntax
 pub for_target : (target s : Syntax) (start : ℕ) (bytes : List ℕ) → start ≤ INPUT_LIMIT → (f : Front) × (stop : Stop) × Reads (target_bar target) s start bytes f stop
-for_target Implicit s start bytes le = native s start bytes le
-for_target Little s start bytes le = plain s start bytes le
-for_target Big s start bytes le = native s start bytes le
+for_target (implicit_in d) s start bytes le = native s start bytes le
+for_target (little_in d) s start bytes le = plain s start bytes le
+for_target (big_in d) s start bytes le = native s start bytes le

@@ -8,7 +8,7 @@ use Rattle.dcm_base.specs.declared.vr.Vr.TheVariants.{AE, AS, AT, CS, DA, DS, DT
 use Rattle.dcm_base.specs.declared.length.Length.{Length}
 use Rattle.dcm_base.specs.declared.length.Length.TheVariants.{Known, Undefined}
 use Rattle.dcm_base.specs.declared.syntax.Syntax.{Syntax}
-use Rattle.dcm_base.specs.declared.syntax.Syntax.TheVariants.{Implicit, Little, Big}
+use Rattle.dcm_base.specs.declared.syntax.Syntax.TheVariants.{Implicit as implicit_in, Little as little_in, Big as big_in}
 use Rattle.dcm_base.specs.Representation.{letters, is_long}
 use Rattle.dcm_base.specs.Recode.{number_bytes, length_number, tag_bytes, head, even, is_explicit, too_long, leaf_head}
 use Rattle.dcm_base.specs.Spelling.{form}
@@ -34,9 +34,9 @@ explicit_same s tag vr t a b e same short =
     by_test false short = ap (λ (l : Length). number_bytes s w16 (length_number l)) (short refl)
 
 head_same : (s : Syntax) (tag : Tag) (vr : Vr) (a b : Length) → SameBytes a b → (is_explicit s ≡ true → is_long vr ≡ false → a ≡ b) → head s tag vr a ≡ head s tag vr b
-head_same Implicit tag vr a b same short = ap (λ z. tag_bytes Implicit tag ++ z) (same Implicit)
-head_same Little tag vr a b same short = explicit_same Little tag vr (is_long vr) a b refl same (short refl)
-head_same Big tag vr a b same short = explicit_same Big tag vr (is_long vr) a b refl same (short refl)
+head_same (implicit_in d) tag vr a b same short = ap (λ z. tag_bytes (implicit_in d) tag ++ z) (same (implicit_in d))
+head_same (little_in d) tag vr a b same short = explicit_same (little_in d) tag vr (is_long vr) a b refl same (short refl)
+head_same (big_in d) tag vr a b same short = explicit_same (big_in d) tag vr (is_long vr) a b refl same (short refl)
 
 -- a value whose length stands in two bytes is not too long
 not_too_long : (t u : Bool) (n : ℕ) → t ≡ true → u ≡ false → (t && (not u && nat_lt 65534 n)) ≡ false → n ≤ 65534

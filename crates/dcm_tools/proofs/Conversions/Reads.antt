@@ -3,7 +3,8 @@ use Rattle.std.proofs.Common.{◌≡◌, ◌∙◌, ap, refl, ℕ, zero, suc, �
 use Rattle.std.specs.Prelude.{fold, ◌==◌}
 use Rattle.dcm_base.specs.declared.vr.Vr.{Vr}
 use Rattle.dcm_base.specs.declared.syntax.Syntax.{Syntax}
-use Rattle.dcm_base.specs.declared.syntax.Syntax.TheVariants.{Implicit, Little, Big}
+use Rattle.dcm_base.specs.declared.syntax.Syntax.TheVariants.{Implicit as implicit_in, Little as little_in, Big as big_in}
+use Rattle.dcm_base.specs.Syntax.{Little}
 use Rattle.dcm_base.specs.declared.length.Length.{Length}
 use Rattle.dcm_base.specs.declared.length.Length.TheVariants.{Known, Undefined}
 use Rattle.dcm_base.specs.declared.form.Form.{Form}
@@ -73,9 +74,9 @@ barred_by : (target : Syntax) (atoms : List Atom) (head : Head)
 barred_by target atoms head = ap (λ (t : Syntax). cond {A = Option SinkBar} (holds_fragments t) None (cond (is_fragment_form (form Little head.vr head.length)) (Some Fragments) None)) (target_stays (encode_start target) atoms)
 
 pub encode_bars : (target : Syntax) → BarsAs (bars_by encode_bar encode_step (encode_start target)) (target_bar target)
-encode_bars Implicit = bars_fragments encode_bar encode_step encode_writes (encode_start Implicit) (barred_by Implicit)
-encode_bars Little = bars_none encode_bar encode_step encode_writes (encode_start Little) (barred_by Little)
-encode_bars Big = bars_fragments encode_bar encode_step encode_writes (encode_start Big) (barred_by Big)
+encode_bars (implicit_in d) = bars_fragments encode_bar encode_step encode_writes (encode_start (implicit_in d)) (barred_by (implicit_in d))
+encode_bars (little_in d) = bars_none encode_bar encode_step encode_writes (encode_start (little_in d)) (barred_by (little_in d))
+encode_bars (big_in d) = bars_fragments encode_bar encode_step encode_writes (encode_start (big_in d)) (barred_by (big_in d))
 
 bars_late : (target : Syntax) (atoms : List Atom) → NeverEarly (bars_by encode_bar encode_step (encode_start target) atoms)
 bars_late target atoms = sinks_never_early encode_bar (fold encode_step (encode_start target) atoms)

@@ -7,7 +7,7 @@ use Rattle.std.proofs.Math.Seq.{take-append-add}
 use Rattle.std.proofs.Math.Nat.{div-eq_of_lt, add-div_left}
 use Rattle.dcm_base.specs.declared.vr.Vr.{Vr}
 use Rattle.dcm_base.specs.declared.syntax.Syntax.{Syntax}
-use Rattle.dcm_base.specs.declared.syntax.Syntax.TheVariants.{Implicit, Little, Big}
+use Rattle.dcm_base.specs.declared.syntax.Syntax.TheVariants.{Implicit as implicit_in, Little as little_in, Big as big_in}
 use Rattle.dcm_base.specs.Representation.{unit, pad}
 use Rattle.dcm_base.specs.Value.{units, order, evened, whole_part, rest_part, turned}
 use Rattle.dcm_base.specs.Recode.{leaf_bytes, too_long}
@@ -40,15 +40,15 @@ big_to_big true k some u e = turned_back k some u e
 big_to_big false k some u e = refl
 
 pub unit_ordered : (source target : Syntax) (vr : Vr) (size : ℕ) (u : List ℕ) → length u ≡ unit vr → ordered (turns source target vr size) (order source vr u) ≡ leaf_bytes target vr size u
-unit_ordered Implicit Implicit vr size u e = either (too_long Implicit vr size) u
-unit_ordered Implicit Little vr size u e = either (too_long Little vr size) u
-unit_ordered Implicit Big vr size u e = to_big (too_long Big vr size) (unit vr) (unit_some vr) u e
-unit_ordered Little Implicit vr size u e = either (too_long Implicit vr size) u
-unit_ordered Little Little vr size u e = either (too_long Little vr size) u
-unit_ordered Little Big vr size u e = to_big (too_long Big vr size) (unit vr) (unit_some vr) u e
-unit_ordered Big Implicit vr size u e = turned_back (unit vr) (unit_some vr) u e ∙ either (too_long Implicit vr size) u
-unit_ordered Big Little vr size u e = turned_back (unit vr) (unit_some vr) u e ∙ either (too_long Little vr size) u
-unit_ordered Big Big vr size u e = big_to_big (too_long Big vr size) (unit vr) (unit_some vr) u e
+unit_ordered (implicit_in d) (implicit_in d2) vr size u e = either (too_long (implicit_in d) vr size) u
+unit_ordered (implicit_in d) (little_in d2) vr size u e = either (too_long (little_in d) vr size) u
+unit_ordered (implicit_in d) (big_in d2) vr size u e = to_big (too_long (big_in d) vr size) (unit vr) (unit_some vr) u e
+unit_ordered (little_in d) (implicit_in d2) vr size u e = either (too_long (implicit_in d) vr size) u
+unit_ordered (little_in d) (little_in d2) vr size u e = either (too_long (little_in d) vr size) u
+unit_ordered (little_in d) (big_in d2) vr size u e = to_big (too_long (big_in d) vr size) (unit vr) (unit_some vr) u e
+unit_ordered (big_in d) (implicit_in d2) vr size u e = turned_back (unit vr) (unit_some vr) u e ∙ either (too_long (implicit_in d) vr size) u
+unit_ordered (big_in d) (little_in d2) vr size u e = turned_back (unit vr) (unit_some vr) u e ∙ either (too_long (little_in d) vr size) u
+unit_ordered (big_in d) (big_in d2) vr size u e = big_to_big (too_long (big_in d) vr size) (unit vr) (unit_some vr) u e
 
 -- ---- what goes over a value unit by unit
 
@@ -68,9 +68,9 @@ turned_unitwise k some = record {
 }
 
 order_unitwise : (s : Syntax) (vr : Vr) → Unitwise (unit vr) (order s vr)
-order_unitwise Implicit vr = nothing_unitwise (unit vr)
-order_unitwise Little vr = nothing_unitwise (unit vr)
-order_unitwise Big vr = turned_unitwise (unit vr) (unit_some vr)
+order_unitwise (implicit_in d) vr = nothing_unitwise (unit vr)
+order_unitwise (little_in d) vr = nothing_unitwise (unit vr)
+order_unitwise (big_in d) vr = turned_unitwise (unit vr) (unit_some vr)
 
 unless_unitwise : (t : Bool) (s : Syntax) (vr : Vr) → Unitwise (unit vr) (λ v. cond t v (order s vr v))
 unless_unitwise true s vr = nothing_unitwise (unit vr)

@@ -6,6 +6,7 @@ use Rattle.dcm_base.specs.declared.mode.Mode.{Mode}
 use Rattle.dcm_base.specs.declared.length.Length.{Length}
 use Rattle.dcm_base.specs.Atoms.{value_byte}
 use Rattle.dcm_base.specs.Steps.{outputs}
+use Rattle.dcm_base.specs.declared.lookup.Dictionary.{Dictionary}
 use Rattle.dcm_value.specs.Display.{emit}
 use Rattle.dcm_value.specs.Progress.{Progress, step, opened, feeds, is_unopened}
 use Rattle.dcm_tools.specs.declared.dump.lines.Owner.{Owner}
@@ -22,19 +23,19 @@ fitting n missing seen size bytes own e m o =
     let short : length own ≡ n = ap length o ∙ length-take-le n bytes (omega arith) in
     omega arith
 
-module _ (mode : Mode) (lengths : List Length) (owner : Owner) (p : Progress) (n missing : ℕ) (bytes own others : List ℕ)
+module _ (d : Dictionary) (mode : Mode) (lengths : List Length) (owner : Owner) (p : Progress) (n missing : ℕ) (bytes own others : List ℕ)
     (least : n ≡ min (length bytes) missing) (left : missing + p.seen ≡ p.size) (front : own ≡ take n bytes) (back : others ≡ drop n bytes)
-    (begun : is_unopened p ≡ false) (settled : p.display ≡ emit p.display []) (s : DumpState) (now : s ≡ within mode lengths owner p) where
-  pub takes_bytes : fold dump_step s (map value_byte bytes) ≡ behind mode lengths owner (fold step (opened p) own) others
+    (begun : is_unopened p ≡ false) (settled : p.display ≡ emit p.display []) (s : DumpState) (now : s ≡ within d mode lengths owner p) where
+  pub takes_bytes : fold dump_step s (map value_byte bytes) ≡ behind d mode lengths owner (fold step (opened p) own) others
   takes_bytes =
       ap (λ t. fold dump_step t (map value_byte bytes)) now
-      ∙ ap (λ zs. fold dump_step (within mode lengths owner p) (map value_byte zs)) (sym (whole n bytes own others front back))
-      ∙ takes_own mode lengths owner p own others (fitting n missing p.seen p.size bytes own least left front) (filled_full n missing p.seen p.size bytes own others least left front back)
-      ∙ ap (λ q. behind mode lengths owner (fold step q own) others) (sym (opened_same p begun settled))
+      ∙ ap (λ zs. fold dump_step (within d mode lengths owner p) (map value_byte zs)) (sym (whole n bytes own others front back))
+      ∙ takes_own d mode lengths owner p own others (fitting n missing p.seen p.size bytes own least left front) (filled_full n missing p.seen p.size bytes own others least left front back)
+      ∙ ap (λ q. behind d mode lengths owner (fold step q own) others) (sym (opened_same p begun settled))
 
   pub shows_bytes : outputs dump_step dump_writes s (map value_byte bytes) ≡ feeds p own
   shows_bytes =
       ap (λ t. outputs dump_step dump_writes t (map value_byte bytes)) now
-      ∙ ap (λ zs. outputs dump_step dump_writes (within mode lengths owner p) (map value_byte zs)) (sym (whole n bytes own others front back))
-      ∙ shows_own mode lengths owner p own others (fitting n missing p.seen p.size bytes own least left front) (filled_full n missing p.seen p.size bytes own others least left front back)
+      ∙ ap (λ zs. outputs dump_step dump_writes (within d mode lengths owner p) (map value_byte zs)) (sym (whole n bytes own others front back))
+      ∙ shows_own d mode lengths owner p own others (fitting n missing p.seen p.size bytes own least left front) (filled_full n missing p.seen p.size bytes own others least left front back)
       ∙ sym (feeds_same p own begun settled)

@@ -11,6 +11,7 @@ use Rattle.dcm_base.specs.Atoms.{Atom, end_atoms, front_atoms, open_atoms, is_cl
 use Rattle.dcm_base.specs.Dump.{dump_front, dump_set}
 use Rattle.dcm_base.specs.Steps.{outputs}
 use Rattle.dcm_base.proofs.DataSets.Shown.{trees_shown, open_shown}
+use Rattle.dcm_base.specs.declared.lookup.Dictionary.{Dictionary}
 use Rattle.dcm_stream.specs.Follows.{BarsAs}
 use Rattle.dcm_stream.proofs.Heads.Stops.{NeverEarly}
 use Rattle.dcm_tools.specs.DumpSink.{dump_start, dump_step, dump_writes}
@@ -32,20 +33,20 @@ bars_late atoms = λ tag vr declared. refl
 
 -- ---- what is read, and its dump
 
-read_dumps : (mode : Mode) (s : Syntax) (f : Front) → IsRead s f → dumps (dump_start mode) (front_atoms s f) ≡ dump_front mode 0 f
+read_dumps : (d : Dictionary) (mode : Mode) (s : Syntax) (f : Front) → IsRead s f → dumps (dump_start d mode) (front_atoms s f) ≡ dump_front d mode 0 f
 unfolding SpellsFront front_atoms dump_front
-read_dumps mode s (front whole o reached closed) r =
+read_dumps d mode s (front whole o reached closed) r =
     let w = r.spelled in
     let others : List Atom = open_atoms s o (end_atoms closed) in
     let shown = trees_shown s whole r.bytes w.0 others w.1 in
-    trees_dump mode 0 [] whole (front_atoms s (front whole o reached closed)) others refl r.shallow shown
-    ∙ ap (λ z. dump_set mode 0 whole ++ z)
-    (open_dump mode 0 [] o closed others refl (stays_trees 0 whole (front_atoms s (front whole o reached closed)) others shown r.shallow) (open_shown s o w.0 (end_atoms closed) w.2))
+    trees_dump d mode 0 [] whole (front_atoms s (front whole o reached closed)) others refl r.shallow shown
+    ∙ ap (λ z. dump_set d mode 0 whole ++ z)
+    (open_dump d mode 0 [] o closed others refl (stays_trees 0 whole (front_atoms s (front whole o reached closed)) others shown r.shallow) (open_shown s o w.0 (end_atoms closed) w.2))
 
-pub reads_whole : (mode : Mode) (s : Syntax) (start : ℕ) (bytes : List ℕ) (f : Front) (stop : Stop) → start ≤ INPUT_LIMIT → Reads no_bar s start bytes f stop
-    → outputs dump_step dump_writes (dump_start mode) (front_atoms s f) ≡ dump_front mode 0 f
-reads_whole mode s start bytes f stop le reads = read_dumps mode s f (whole_read no_bars no_bar bars_none bars_late s start bytes le f stop reads)
+pub reads_whole : (d : Dictionary) (mode : Mode) (s : Syntax) (start : ℕ) (bytes : List ℕ) (f : Front) (stop : Stop) → start ≤ INPUT_LIMIT → Reads no_bar s start bytes f stop
+    → outputs dump_step dump_writes (dump_start d mode) (front_atoms s f) ≡ dump_front d mode 0 f
+reads_whole d mode s start bytes f stop le reads = read_dumps d mode s f (whole_read no_bars no_bar bars_none bars_late s start bytes le f stop reads)
 
-pub reads_so_far : (mode : Mode) (s : Syntax) (start : ℕ) (bytes : List ℕ) (f : Front) (stop : Stop) → start ≤ INPUT_LIMIT → is_closed f ≡ false → Reads no_bar s start bytes (ended stop f) stop
-    → outputs dump_step dump_writes (dump_start mode) (front_atoms s f) ≡ dump_front mode 0 f
-reads_so_far mode s start bytes f stop le c reads = read_dumps mode s f (far_read no_bars no_bar bars_none bars_late s start bytes le f stop c reads)
+pub reads_so_far : (d : Dictionary) (mode : Mode) (s : Syntax) (start : ℕ) (bytes : List ℕ) (f : Front) (stop : Stop) → start ≤ INPUT_LIMIT → is_closed f ≡ false → Reads no_bar s start bytes (ended stop f) stop
+    → outputs dump_step dump_writes (dump_start d mode) (front_atoms s f) ≡ dump_front d mode 0 f
+reads_so_far d mode s start bytes f stop le c reads = read_dumps d mode s f (far_read no_bars no_bar bars_none bars_late s start bytes le f stop c reads)

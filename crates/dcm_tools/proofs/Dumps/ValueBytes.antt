@@ -9,18 +9,19 @@ use Rattle.dcm_base.specs.declared.mode.Mode.{Mode}
 use Rattle.dcm_base.specs.declared.length.Length.{Length}
 use Rattle.dcm_base.specs.Atoms.{Atom, value_byte}
 use Rattle.dcm_base.specs.Steps.{outputs}
+use Rattle.dcm_base.specs.declared.lookup.Dictionary.{Dictionary}
 use Rattle.dcm_value.specs.Progress.{Progress, step, writes}
 use Rattle.dcm_tools.specs.declared.dump.lines.Owner.{Owner}
 use Rattle.dcm_tools.specs.DumpSink.{DumpState, OpenValue, no_value, open_value, live_step, live_writes, dump_step, dump_writes}
 
-abbrev pub within : Mode → List Length → Owner → Progress → DumpState
-within mode lengths owner p = record { mode = mode; lengths = lengths; value = open_value owner p; is_lost = false }
+abbrev pub within : Dictionary → Mode → List Length → Owner → Progress → DumpState
+within d mode lengths owner p = record { dictionary = d; mode = mode; lengths = lengths; value = open_value owner p; is_lost = false }
 
-abbrev pub between : Mode → List Length → DumpState
-between mode lengths = record { mode = mode; lengths = lengths; value = no_value; is_lost = false }
+abbrev pub between : Dictionary → Mode → List Length → DumpState
+between d mode lengths = record { dictionary = d; mode = mode; lengths = lengths; value = no_value; is_lost = false }
 
-abbrev pub lost : Mode → List Length → OpenValue → DumpState
-lost mode lengths value = record { mode = mode; lengths = lengths; value = value; is_lost = true }
+abbrev pub lost : Dictionary → Mode → List Length → OpenValue → DumpState
+lost d mode lengths value = record { dictionary = d; mode = mode; lengths = lengths; value = value; is_lost = true }
 
 pub step_seen : (p : Progress) (b : ℕ) → (step p b).seen ≡ p.seen + 1
 unfolding step
@@ -36,63 +37,63 @@ fits_true p h = grind (arith, nat_tests)
 fits_false : (p : Progress) → p.size ≤ p.seen → nat_lt p.seen p.size ≡ false
 fits_false p h = grind (arith, nat_tests)
 
-module _ (mode : Mode) (lengths : List Length) (owner : Owner) where
-  takes : (p : Progress) (b : ℕ) → p.seen < p.size → dump_step (within mode lengths owner p) (value_byte b) ≡ within mode lengths owner (step p b)
-  takes p b h = ap (λ (t : Bool). cond t (within mode lengths owner (step p b)) (lost mode lengths (open_value owner p))) (fits_true p h)
+module _ (d : Dictionary) (mode : Mode) (lengths : List Length) (owner : Owner) where
+  takes : (p : Progress) (b : ℕ) → p.seen < p.size → dump_step (within d mode lengths owner p) (value_byte b) ≡ within d mode lengths owner (step p b)
+  takes p b h = ap (λ (t : Bool). cond t (within d mode lengths owner (step p b)) (lost d mode lengths (open_value owner p))) (fits_true p h)
 
-  shows : (p : Progress) (b : ℕ) → p.seen < p.size → dump_writes (within mode lengths owner p) (value_byte b) ≡ writes p b
+  shows : (p : Progress) (b : ℕ) → p.seen < p.size → dump_writes (within d mode lengths owner p) (value_byte b) ≡ writes p b
   shows p b h = ap (λ (t : Bool). cond t (writes p b) []) (fits_true p h)
 
   -- at most as many bytes as are missing
   pub takes_all : (p : Progress) (bytes : List ℕ) → p.seen + length bytes ≤ p.size
-      → fold dump_step (within mode lengths owner p) (map value_byte bytes) ≡ within mode lengths owner (fold step p bytes)
+      → fold dump_step (within d mode lengths owner p) (map value_byte bytes) ≡ within d mode lengths owner (fold step p bytes)
   takes_all p [] h = refl
   takes_all p (b ∷ bs) h =
       ap (λ s. fold dump_step s (map value_byte bs)) (takes p b (omega arith))
       ∙ takes_all (step p b) bs (omega (arith, step_seen p b, step_size p b))
 
   pub shows_all : (p : Progress) (bytes : List ℕ) → p.seen + length bytes ≤ p.size
-      → outputs dump_step dump_writes (within mode lengths owner p) (map value_byte bytes) ≡ outputs step writes p bytes
+      → outputs dump_step dump_writes (within d mode lengths owner p) (map value_byte bytes) ≡ outputs step writes p bytes
   shows_all p [] h = refl
   shows_all p (b ∷ bs) h =
-      ap (λ bytes. bytes ++ outputs dump_step dump_writes (dump_step (within mode lengths owner p) (value_byte b)) (map value_byte bs)) (shows p b (omega arith))
+      ap (λ bytes. bytes ++ outputs dump_step dump_writes (dump_step (within d mode lengths owner p) (value_byte b)) (map value_byte bs)) (shows p b (omega arith))
       ∙ ap (λ s. writes p b ++ outputs dump_step dump_writes s (map value_byte bs)) (takes p b (omega arith))
       ∙ ap (λ bytes. writes p b ++ bytes) (shows_all (step p b) bs (omega (arith, step_seen p b, step_size p b)))
 
   -- more than are missing
-  loses : (p : Progress) (b : ℕ) → p.size ≤ p.seen → dump_step (within mode lengths owner p) (value_byte b) ≡ lost mode lengths (open_value owner p)
-  loses p b h = ap (λ (t : Bool). cond t (within mode lengths owner (step p b)) (lost mode lengths (open_value owner p))) (fits_false p h)
+  loses : (p : Progress) (b : ℕ) → p.size ≤ p.seen → dump_step (within d mode lengths owner p) (value_byte b) ≡ lost d mode lengths (open_value owner p)
+  loses p b h = ap (λ (t : Bool). cond t (within d mode lengths owner (step p b)) (lost d mode lengths (open_value owner p))) (fits_false p h)
 
-  writes_none : (p : Progress) (b : ℕ) → p.size ≤ p.seen → dump_writes (within mode lengths owner p) (value_byte b) ≡ []
+  writes_none : (p : Progress) (b : ℕ) → p.size ≤ p.seen → dump_writes (within d mode lengths owner p) (value_byte b) ≡ []
   writes_none p b h = ap (λ (t : Bool). cond t (writes p b) []) (fits_false p h)
 
   pub loses_all : (p : Progress) (b : ℕ) (bytes : List ℕ) → p.size ≤ p.seen
-      → fold dump_step (within mode lengths owner p) (map value_byte (b ∷ bytes)) ≡ lost mode lengths (open_value owner p)
+      → fold dump_step (within d mode lengths owner p) (map value_byte (b ∷ bytes)) ≡ lost d mode lengths (open_value owner p)
   loses_all p b bytes h = ap (λ s. fold dump_step s (map value_byte bytes)) (loses p b h) ∙ lost_stays (open_value owner p) (map value_byte bytes)
     where
-      lost_stays : (value : OpenValue) (atoms : List Atom) → fold dump_step (lost mode lengths value) atoms ≡ lost mode lengths value
+      lost_stays : (value : OpenValue) (atoms : List Atom) → fold dump_step (lost d mode lengths value) atoms ≡ lost d mode lengths value
       lost_stays value [] = refl
       lost_stays value (a ∷ atoms) = lost_stays value atoms
 
   pub loses_silently : (p : Progress) (b : ℕ) (bytes : List ℕ) → p.size ≤ p.seen
-      → outputs dump_step dump_writes (within mode lengths owner p) (map value_byte (b ∷ bytes)) ≡ []
+      → outputs dump_step dump_writes (within d mode lengths owner p) (map value_byte (b ∷ bytes)) ≡ []
   loses_silently p b bytes h =
-      ap (λ zs. zs ++ outputs dump_step dump_writes (dump_step (within mode lengths owner p) (value_byte b)) (map value_byte bytes)) (writes_none p b h)
+      ap (λ zs. zs ++ outputs dump_step dump_writes (dump_step (within d mode lengths owner p) (value_byte b)) (map value_byte bytes)) (writes_none p b h)
       ∙ ap (λ s. outputs dump_step dump_writes s (map value_byte bytes)) (loses p b h)
       ∙ lost_silent (open_value owner p) (map value_byte bytes)
     where
-      lost_silent : (value : OpenValue) (atoms : List Atom) → outputs dump_step dump_writes (lost mode lengths value) atoms ≡ []
+      lost_silent : (value : OpenValue) (atoms : List Atom) → outputs dump_step dump_writes (lost d mode lengths value) atoms ≡ []
       lost_silent value [] = refl
       lost_silent value (a ∷ atoms) = lost_silent value atoms
 
 -- no value is open
-pub stays_between : (mode : Mode) (lengths : List Length) (bytes : List ℕ) → fold dump_step (between mode lengths) (map value_byte bytes) ≡ between mode lengths
-stays_between mode lengths [] = refl
-stays_between mode lengths (b ∷ bs) = stays_between mode lengths bs
+pub stays_between : (d : Dictionary) (mode : Mode) (lengths : List Length) (bytes : List ℕ) → fold dump_step (between d mode lengths) (map value_byte bytes) ≡ between d mode lengths
+stays_between d mode lengths [] = refl
+stays_between d mode lengths (b ∷ bs) = stays_between d mode lengths bs
 
-pub silent_between : (mode : Mode) (lengths : List Length) (bytes : List ℕ) → outputs dump_step dump_writes (between mode lengths) (map value_byte bytes) ≡ []
-silent_between mode lengths [] = refl
-silent_between mode lengths (b ∷ bs) = silent_between mode lengths bs
+pub silent_between : (d : Dictionary) (mode : Mode) (lengths : List Length) (bytes : List ℕ) → outputs dump_step dump_writes (between d mode lengths) (map value_byte bytes) ≡ []
+silent_between d mode lengths [] = refl
+silent_between d mode lengths (b ∷ bs) = silent_between d mode lengths bs
 
 -- a dump that is lost stays so
 pub lost_stays : (s : DumpState) (atoms : List Atom) → s.is_lost ≡ true → fold dump_step s atoms ≡ s
@@ -119,34 +120,34 @@ is_filled [] = false
 is_filled (b ∷ bs) = true
 
 -- behind bytes of which some are the value's own
-abbrev pub behind : Mode → List Length → Owner → Progress → List ℕ → DumpState
-behind mode lengths owner p others = record { mode = mode; lengths = lengths; value = open_value owner p; is_lost = is_filled others }
+abbrev pub behind : Dictionary → Mode → List Length → Owner → Progress → List ℕ → DumpState
+behind d mode lengths owner p others = record { dictionary = d; mode = mode; lengths = lengths; value = open_value owner p; is_lost = is_filled others }
 
-module _ (mode : Mode) (lengths : List Length) (owner : Owner) (p : Progress) (own : List ℕ) where
+module _ (d : Dictionary) (mode : Mode) (lengths : List Length) (owner : Owner) (p : Progress) (own : List ℕ) where
   pub takes_own : (others : List ℕ) → p.seen + length own ≤ p.size → (is_filled others ≡ true → p.size ≤ p.seen + length own)
-      → fold dump_step (within mode lengths owner p) (map value_byte (own ++ others)) ≡ behind mode lengths owner (fold step p own) others
+      → fold dump_step (within d mode lengths owner p) (map value_byte (own ++ others)) ≡ behind d mode lengths owner (fold step p own) others
   takes_own others h full =
-      ap (fold dump_step (within mode lengths owner p)) (map-append value_byte own others)
-      ∙ fold-append dump_step (within mode lengths owner p) (map value_byte own) (map value_byte others)
-      ∙ ap (λ s. fold dump_step s (map value_byte others)) (takes_all mode lengths owner p own h)
+      ap (fold dump_step (within d mode lengths owner p)) (map-append value_byte own others)
+      ∙ fold-append dump_step (within d mode lengths owner p) (map value_byte own) (map value_byte others)
+      ∙ ap (λ s. fold dump_step s (map value_byte others)) (takes_all d mode lengths owner p own h)
       ∙ then_others others full
     where
       then_others : (others : List ℕ) → (is_filled others ≡ true → p.size ≤ p.seen + length own)
-          → fold dump_step (within mode lengths owner (fold step p own)) (map value_byte others) ≡ behind mode lengths owner (fold step p own) others
+          → fold dump_step (within d mode lengths owner (fold step p own)) (map value_byte others) ≡ behind d mode lengths owner (fold step p own) others
       then_others [] full = refl
-      then_others (b ∷ bs) full = loses_all mode lengths owner (fold step p own) b bs (let f = full refl in omega (arith, seen_fold p own, size_fold p own))
+      then_others (b ∷ bs) full = loses_all d mode lengths owner (fold step p own) b bs (let f = full refl in omega (arith, seen_fold p own, size_fold p own))
 
   pub shows_own : (others : List ℕ) → p.seen + length own ≤ p.size → (is_filled others ≡ true → p.size ≤ p.seen + length own)
-      → outputs dump_step dump_writes (within mode lengths owner p) (map value_byte (own ++ others)) ≡ outputs step writes p own
+      → outputs dump_step dump_writes (within d mode lengths owner p) (map value_byte (own ++ others)) ≡ outputs step writes p own
   shows_own others h full =
-      ap (outputs dump_step dump_writes (within mode lengths owner p)) (map-append value_byte own others)
-      ∙ outputs-append dump_step dump_writes (within mode lengths owner p) (map value_byte own) (map value_byte others)
-      ∙ ap (λ bytes. bytes ++ outputs dump_step dump_writes (fold dump_step (within mode lengths owner p) (map value_byte own)) (map value_byte others)) (shows_all mode lengths owner p own h)
-      ∙ ap (λ s. outputs step writes p own ++ outputs dump_step dump_writes s (map value_byte others)) (takes_all mode lengths owner p own h)
+      ap (outputs dump_step dump_writes (within d mode lengths owner p)) (map-append value_byte own others)
+      ∙ outputs-append dump_step dump_writes (within d mode lengths owner p) (map value_byte own) (map value_byte others)
+      ∙ ap (λ bytes. bytes ++ outputs dump_step dump_writes (fold dump_step (within d mode lengths owner p) (map value_byte own)) (map value_byte others)) (shows_all d mode lengths owner p own h)
+      ∙ ap (λ s. outputs step writes p own ++ outputs dump_step dump_writes s (map value_byte others)) (takes_all d mode lengths owner p own h)
       ∙ ap (λ bytes. outputs step writes p own ++ bytes) (others_silent others full)
       ∙ append-nil (outputs step writes p own)
     where
       others_silent : (others : List ℕ) → (is_filled others ≡ true → p.size ≤ p.seen + length own)
-          → outputs dump_step dump_writes (within mode lengths owner (fold step p own)) (map value_byte others) ≡ []
+          → outputs dump_step dump_writes (within d mode lengths owner (fold step p own)) (map value_byte others) ≡ []
       others_silent [] full = refl
-      others_silent (b ∷ bs) full = loses_silently mode lengths owner (fold step p own) b bs (let f = full refl in omega (arith, seen_fold p own, size_fold p own))
+      others_silent (b ∷ bs) full = loses_silently d mode lengths owner (fold step p own) b bs (let f = full refl in omega (arith, seen_fold p own, size_fold p own))

@@ -13,6 +13,7 @@ use Rattle.dcm_tools.specs.declared.dump.lines.Owner.{Owner}
 use Rattle.dcm_base.specs.declared.tag.Tag.{Tag}
 use Rattle.dcm_base.specs.declared.length.Length.{Length}
 use Rattle.dcm_base.specs.declared.length.Length.TheVariants.{Known}
+use Rattle.dcm_base.specs.declared.lookup.Dictionary.{Dictionary}
 use Rattle.dcm_tools.specs.Layout.{line_rest}
 use Rattle.dcm_tools.specs.Lines.{value_of}
 use Rattle.dcm_tools.proofs.Dumps.ValueBytes.{is_filled}
@@ -32,9 +33,9 @@ pub is_begun : (value : Option Owner) (owner : Owner) (B : Type 0) → Some owne
 is_begun value owner B same b = b owner (sym same)
 
 -- its end
-pub ends_in_parts : (mode : Mode) (level : ℕ) (value : OpenValue) (owner : Owner) (p : Progress) → value ≡ open_value owner p
-    → close_writes mode level value ≡ late_start mode (owner_start level owner) ++ (finishes p ++ owner_rest owner p)
-ends_in_parts mode level value owner p is = ap (close_writes mode level) is ∙ append_assoc (late_start mode (owner_start level owner)) (finishes p) (owner_rest owner p)
+pub ends_in_parts : (d : Dictionary) (mode : Mode) (level : ℕ) (value : OpenValue) (owner : Owner) (p : Progress) → value ≡ open_value owner p
+    → close_writes d mode level value ≡ late_start mode (owner_start level owner) ++ (finishes p ++ owner_rest d owner p)
+ends_in_parts d mode level value owner p is = ap (close_writes d mode level) is ∙ append_assoc (late_start mode (owner_start level owner)) (finishes p) (owner_rest d owner p)
 
 -- what is written at once of the display comes before the rest of the line, or is nothing
 around : (mode : Mode) (start closing end rest : List ℕ)
@@ -42,25 +43,25 @@ around : (mode : Mode) (start closing end rest : List ℕ)
 around Short start closing end rest = sym (append_assoc start end rest)
 around Full start closing end rest = append_assoc closing end rest
 
-pub closes_in_parts : (mode : Mode) (level : ℕ) (value : OpenValue) (owner : Owner) (p : Progress) → p.display.mode ≡ mode → value ≡ open_value owner p
-    → close_writes mode level value ≡ closing_writes p ++ ((late_start mode (owner_start level owner) ++ end_writes p) ++ owner_rest owner p)
+pub closes_in_parts : (d : Dictionary) (mode : Mode) (level : ℕ) (value : OpenValue) (owner : Owner) (p : Progress) → p.display.mode ≡ mode → value ≡ open_value owner p
+    → close_writes d mode level value ≡ closing_writes p ++ ((late_start mode (owner_start level owner) ++ end_writes p) ++ owner_rest d owner p)
 unfolding finishes
-closes_in_parts mode level value owner p same is =
+closes_in_parts d mode level value owner p same is =
     let start : List ℕ = owner_start level owner in
-    let rest : List ℕ = owner_rest owner p in
-    ends_in_parts mode level value owner p is
+    let rest : List ℕ = owner_rest d owner p in
+    ends_in_parts d mode level value owner p is
     ∙ ap (λ m. late_start mode start ++ ((at_once m (closing p) ++ end_writes p) ++ rest)) same
     ∙ around mode start (closing p) (end_writes p) rest
     ∙ ap (λ m. at_once m (closing p) ++ ((late_start mode start ++ end_writes p) ++ rest)) (sym same)
 
-pub rest_same : (t t' : Tag) (n n' k k' : ℕ) → t ≡ t' → n ≡ n' → k ≡ k' → line_rest t (Known n) k ≡ line_rest t' (Known n') k'
-rest_same t t' n n' k k' e f g =
-    ap (λ (x : Tag). line_rest x (Known n) k) e ∙ ap (λ (x : ℕ). line_rest t' (Known x) k) f ∙ ap (λ (x : ℕ). line_rest t' (Known n') x) g
+pub rest_same : (d : Dictionary) (t t' : Tag) (n n' k k' : ℕ) → t ≡ t' → n ≡ n' → k ≡ k' → line_rest d t (Known n) k ≡ line_rest d t' (Known n') k'
+rest_same d t t' n n' k k' e f g =
+    ap (λ (x : Tag). line_rest d x (Known n) k) e ∙ ap (λ (x : ℕ). line_rest d t' (Known x) k) f ∙ ap (λ (x : ℕ). line_rest d t' (Known n') x) g
 
 -- states alike
-pub same_state : (mode : Mode) (lengths : List Length) (v w : OpenValue) (l m : Bool) → v ≡ w → l ≡ m
-    → (let s : DumpState = record { mode = mode; lengths = lengths; value = v; is_lost = l } in let t : DumpState = record { mode = mode; lengths = lengths; value = w; is_lost = m } in s ≡ t)
-same_state mode lengths v w l m e f = cc
+pub same_state : (d : Dictionary) (mode : Mode) (lengths : List Length) (v w : OpenValue) (l m : Bool) → v ≡ w → l ≡ m
+    → (let s : DumpState = record { dictionary = d; mode = mode; lengths = lengths; value = v; is_lost = l } in let t : DumpState = record { dictionary = d; mode = mode; lengths = lengths; value = w; is_lost = m } in s ≡ t)
+same_state d mode lengths v w l m e f = cc
 
 -- no value is open, as the sink holds it
 pub is_none : (value taken : Option Owner) (p : Progress) → taken ≡ None → taken ≡ value → value_of value p ≡ no_value

@@ -10,6 +10,7 @@ use Rattle.dcm_base.specs.Atoms.{Atom, value_byte, closes_leaf}
 use Rattle.dcm_base.specs.Dump.{open_line}
 use Rattle.dcm_base.specs.Steps.{outputs}
 use Rattle.dcm_base.proofs.Writes.Runs.{outputs-append}
+use Rattle.dcm_base.specs.declared.lookup.Dictionary.{Dictionary}
 use Rattle.dcm_value.specs.Display.{emit, at_once}
 use Rattle.dcm_value.specs.Progress.{Progress, started, opening, opened, adds, step, writes, feeds, finishes}
 use Rattle.dcm_tools.specs.declared.dump.lines.Owner.{Owner}
@@ -75,7 +76,7 @@ open_parts : (mode : Mode) (start x y : List ℕ) → open_line mode start (at_o
 open_parts Short start x y = refl
 open_parts Full start x y = append_assoc start x y
 
-module _ (mode : Mode) (lengths : List Length) (owner : Owner) (vr : Vr) (syntax : Syntax) (size : ℕ) (v : List ℕ) (fits : length v ≤ size) where
+module _ (d : Dictionary) (mode : Mode) (lengths : List Length) (owner : Owner) (vr : Vr) (syntax : Syntax) (size : ℕ) (v : List ℕ) (fits : length v ≤ size) where
   abbrev fresh : Progress
   fresh = started vr syntax size mode
 
@@ -98,28 +99,28 @@ module _ (mode : Mode) (lengths : List Length) (owner : Owner) (vr : Vr) (syntax
   keeps_size = fold_size first v ∙ opened_size fresh
 
   -- bytes, and other atoms behind them
-  goes : (others : List Atom) → dumps (within mode lengths owner first) (map value_byte v ++ others) ≡ at_once mode (outputs step adds first v) ++ dumps (within mode lengths owner last) others
+  goes : (others : List Atom) → dumps (within d mode lengths owner first) (map value_byte v ++ others) ≡ at_once mode (outputs step adds first v) ++ dumps (within d mode lengths owner last) others
   goes others =
-      outputs-append dump_step dump_writes (within mode lengths owner first) (map value_byte v) others
-      ∙ ap (λ xs. xs ++ dumps (fold dump_step (within mode lengths owner first) (map value_byte v)) others) (shows_all mode lengths owner first v room ∙ added)
-      ∙ ap (λ s. at_once mode (outputs step adds first v) ++ dumps s others) (takes_all mode lengths owner first v room)
+      outputs-append dump_step dump_writes (within d mode lengths owner first) (map value_byte v) others
+      ∙ ap (λ xs. xs ++ dumps (fold dump_step (within d mode lengths owner first) (map value_byte v)) others) (shows_all d mode lengths owner first v room ∙ added)
+      ∙ ap (λ s. at_once mode (outputs step adds first v) ++ dumps s others) (takes_all d mode lengths owner first v room)
 
   -- a value that closes
   pub closes : (others : List Atom)
-      → begin_writes (between mode lengths) owner (started vr syntax size mode) ++ dumps (begin (between mode lengths) owner (started vr syntax size mode)) (map value_byte v ++ closes_leaf ∷ others)
+      → begin_writes (between d mode lengths) owner (started vr syntax size mode) ++ dumps (begin (between d mode lengths) owner (started vr syntax size mode)) (map value_byte v ++ closes_leaf ∷ others)
       ≡ owner_start (length lengths) owner
       ++ ((feeds (started vr syntax size mode) v ++ finishes (fold step (opened (started vr syntax size mode)) v))
-      ++ (owner_rest owner (fold step (opened (started vr syntax size mode)) v) ++ dumps (between mode lengths) others))
+      ++ (owner_rest d owner (fold step (opened (started vr syntax size mode)) v) ++ dumps (between d mode lengths) others))
   closes others =
-      let behind : List ℕ = dumps (between mode lengths) others in
+      let behind : List ℕ = dumps (between d mode lengths) others in
       ap (λ xs. open_line mode start (at_once mode (opening fresh)) ++ xs) (goes (closes_leaf ∷ others))
-      ∙ line_parts mode start (opening fresh) (outputs step adds first v) (finishes last) (owner_rest owner last) behind
-      ∙ ap (λ xs. start ++ (((at_once mode (opening fresh) ++ xs) ++ finishes last) ++ (owner_rest owner last ++ behind))) (sym added)
+      ∙ line_parts mode start (opening fresh) (outputs step adds first v) (finishes last) (owner_rest d owner last) behind
+      ∙ ap (λ xs. start ++ (((at_once mode (opening fresh) ++ xs) ++ finishes last) ++ (owner_rest d owner last ++ behind))) (sym added)
 
   -- one that stays open
-  pub stays : begin_writes (between mode lengths) owner (started vr syntax size mode) ++ dumps (begin (between mode lengths) owner (started vr syntax size mode)) (map value_byte v)
+  pub stays : begin_writes (between d mode lengths) owner (started vr syntax size mode) ++ dumps (begin (between d mode lengths) owner (started vr syntax size mode)) (map value_byte v)
       ≡ open_line mode (owner_start (length lengths) owner) (feeds (started vr syntax size mode) v)
   stays =
-      ap (λ xs. open_line mode start (at_once mode (opening fresh)) ++ xs) (shows_all mode lengths owner first v room ∙ added)
+      ap (λ xs. open_line mode start (at_once mode (opening fresh)) ++ xs) (shows_all d mode lengths owner first v room ∙ added)
       ∙ open_parts mode start (opening fresh) (outputs step adds first v)
       ∙ ap (λ xs. open_line mode start (at_once mode (opening fresh) ++ xs)) (sym added)

@@ -6,7 +6,8 @@ use Rattle.dcm_base.specs.declared.tag.Tag.{Tag}
 use Rattle.dcm_base.specs.declared.vr.Vr.{Vr}
 use Rattle.dcm_base.specs.declared.vr.Vr.TheVariants.{SQ, UN}
 use Rattle.dcm_base.specs.declared.syntax.Syntax.{Syntax}
-use Rattle.dcm_base.specs.declared.syntax.Syntax.TheVariants.{Implicit, Little, Big}
+use Rattle.dcm_base.specs.declared.syntax.Syntax.TheVariants.{Implicit as implicit_in, Little as little_in, Big as big_in}
+use Rattle.dcm_base.specs.Syntax.{Little, is_big}
 use Rattle.dcm_base.specs.declared.length.Length.{Length}
 use Rattle.dcm_base.specs.declared.length.Length.TheVariants.{Known, Undefined}
 use Rattle.dcm_base.specs.Tree.{Trees, no_tree, leaf, sequence, fragments}
@@ -39,15 +40,15 @@ group_back g rest h = omega arith
 group_read : (t : Tag) (rest : List ℕ) → IsElement t → (number Little 2 (to_le_bytes w16 t.group ++ rest) == 2) ≡ false
 group_read t rest h = ap (λ (k : ℕ). k == 2) (group_back t.group rest h.0.0) ∙ other_group t h.1
 
-ends_at : (s : Syntax) (n : ℕ) (t : Tag) (vr : Vr) (size : Length) (rest : List ℕ) → s ≢ Big → IsElement t → group_place n (head s t vr size ++ rest) ≡ the_end
-ends_at Implicit n t vr size rest b h = other_number n _ _ (drop 2 (head Implicit t vr size ++ rest)) (group_read t (drop 2 (head Implicit t vr size ++ rest)) h)
-ends_at Little n t vr size rest b h = other_number n _ _ (drop 2 (head Little t vr size ++ rest)) (group_read t (drop 2 (head Little t vr size ++ rest)) h)
-ends_at Big n t vr size rest b h = absurd (b refl)
+ends_at : (s : Syntax) (n : ℕ) (t : Tag) (vr : Vr) (size : Length) (rest : List ℕ) → is_big s ≡ false → IsElement t → group_place n (head s t vr size ++ rest) ≡ the_end
+ends_at (implicit_in d) n t vr size rest b h = other_number n _ _ (drop 2 (head (implicit_in d) t vr size ++ rest)) (group_read t (drop 2 (head (implicit_in d) t vr size ++ rest)) h)
+ends_at (little_in d) n t vr size rest b h = other_number n _ _ (drop 2 (head (little_in d) t vr size ++ rest)) (group_read t (drop 2 (head (little_in d) t vr size ++ rest)) h)
+ends_at (big_in d) n t vr size rest b h = absurd cc
 
-two_parts : (s : Syntax) (n : ℕ) (t : Tag) (vr : Vr) (size : Length) (a r : List ℕ) → s ≢ Big → IsElement t → group_place n ((head s t vr size ++ a) ++ r) ≡ the_end
+two_parts : (s : Syntax) (n : ℕ) (t : Tag) (vr : Vr) (size : Length) (a r : List ℕ) → is_big s ≡ false → IsElement t → group_place n ((head s t vr size ++ a) ++ r) ≡ the_end
 two_parts s n t vr size a r b h = ap (group_place n) (append_assoc (head s t vr size) a r) ∙ ends_at s n t vr size (a ++ r) b h
 
-three_parts : (s : Syntax) (n : ℕ) (t : Tag) (vr : Vr) (size : Length) (a c r : List ℕ) → s ≢ Big → IsElement t → group_place n (((head s t vr size ++ a) ++ c) ++ r) ≡ the_end
+three_parts : (s : Syntax) (n : ℕ) (t : Tag) (vr : Vr) (size : Length) (a c r : List ℕ) → is_big s ≡ false → IsElement t → group_place n (((head s t vr size ++ a) ++ c) ++ r) ≡ the_end
 three_parts s n t vr size a c r b h = ap (group_place n) (append_assoc (head s t vr size ++ a) c r) ∙ two_parts s n t vr size a (c ++ r) b h
 
 -- an element that is dropped or stays
@@ -59,7 +60,7 @@ nothing_left : (n : ℕ) → group_place n [] ≡ the_end
 unfolding group_place
 nothing_left n = refl
 
-pub set_ends : (s : Syntax) (n m : ℕ) (set : Trees) → s ≢ Big → Ready s m set → group_place n (recode_set s set) ≡ the_end
+pub set_ends : (s : Syntax) (n m : ℕ) (set : Trees) → is_big s ≡ false → Ready s m set → group_place n (recode_set s set) ≡ the_end
 unfolding Ready recode_set
 set_ends s n m no_tree b h = nothing_left n
 set_ends s n m (leaf t vr v rest) b h =

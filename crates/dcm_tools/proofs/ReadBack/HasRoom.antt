@@ -3,7 +3,6 @@ use Rattle.std.proofs.Common.{◌≡◌, ℕ, suc, ◌<◌, List, [], ◌∷◌,
 use Rattle.std.specs.Prelude.{true}
 use Rattle.dcm_base.specs.declared.tag.Tag.{Tag}
 use Rattle.dcm_base.specs.declared.syntax.Syntax.{Syntax}
-use Rattle.dcm_base.specs.declared.syntax.Syntax.TheVariants.{Little}
 use Rattle.dcm_base.specs.declared.length.Length.TheVariants.{Known, Undefined}
 use Rattle.dcm_base.specs.Tree.{Trees, no_tree, leaf, sequence, fragments, Items, no_item, item}
 use Rattle.dcm_base.specs.Number.{IsTag}
@@ -12,6 +11,7 @@ use Rattle.dcm_base.specs.declared.form.Form.TheVariants.{Value as a_value, Sequ
 use Rattle.dcm_base.specs.Spelling.{form}
 use Rattle.dcm_base.specs.Recode.{even}
 use Rattle.dcm_base.specs.Normal.{normal_vr, normal_sequence_vr, UnlessGroupLength}
+use Rattle.dcm_base.specs.Bars.{holds_fragments}
 
 -- the tag of an element of a data set
 abbrev pub IsElement : Tag → Type 0
@@ -28,7 +28,7 @@ unfoldable mutual
   Ready s n no_tree = Unit {0}
   Ready s n (leaf t vr v rest) = UnlessGroupLength t (IsElement t × (length v < 0xFFFFFFFF) × (form s (normal_vr s t vr (length v)) (Known (even (length v))) ≡ a_value)) × Ready s n rest
   Ready s n (sequence t vr size items rest) = UnlessGroupLength t (IsElement t × (n < 64) × (form s (normal_sequence_vr s t) Undefined ≡ a_sequence) × ReadyItems s (suc n) items) × Ready s n rest
-  Ready s n (fragments t vr values rest) = UnlessGroupLength t (IsElement t × (n < 64) × (s ≡ Little) × (form s vr Undefined ≡ a_fragment_list) × AreShort values) × Ready s n rest
+  Ready s n (fragments t vr values rest) = UnlessGroupLength t (IsElement t × (n < 64) × (holds_fragments s ≡ true) × (form s vr Undefined ≡ a_fragment_list) × AreShort values) × Ready s n rest
 
   pub ReadyItems : Syntax → ℕ → Items → Type 0
   ReadyItems s n no_item = Unit {0}

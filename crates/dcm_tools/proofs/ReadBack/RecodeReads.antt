@@ -5,7 +5,8 @@ use Rattle.std.proofs.lemmas.List.{append-nil}
 use Rattle.dcm_base.specs.declared.tag.Tag.{Tag}
 use Rattle.dcm_base.specs.declared.vr.Vr.{Vr}
 use Rattle.dcm_base.specs.declared.syntax.Syntax.{Syntax}
-use Rattle.dcm_base.specs.declared.syntax.Syntax.TheVariants.{Implicit, Little, Big}
+use Rattle.dcm_base.specs.declared.syntax.Syntax.TheVariants.{Implicit as implicit_in, Little as little_in, Big as big_in}
+use Rattle.dcm_base.specs.Syntax.{Little}
 use Rattle.dcm_base.specs.declared.fault.Fault.{Fault}
 use Rattle.dcm_base.specs.declared.fault.Fault.TheVariants.{EndsEarly, FragmentsBarred}
 use Rattle.dcm_base.specs.declared.length.Length.{Length}
@@ -45,18 +46,18 @@ abbrev target_atoms : Syntax → List Atom → HeadBar
 target_atoms target = λ atoms. target_heads target
 
 same_heads : (target : Syntax) (f : Front) (tag : Tag) (vr : Vr) (declared : Length) → target_heads target tag vr declared ≡ target_bar target f tag vr declared
-same_heads Little f tag vr declared = refl
-same_heads Implicit f tag vr declared = refl
-same_heads Big f tag vr declared = refl
+same_heads (little_in d) f tag vr declared = refl
+same_heads (implicit_in d) f tag vr declared = refl
+same_heads (big_in d) f tag vr declared = refl
 
 late : (c : Bool) → is_early_bar (cond c (Some FragmentsBarred) None) ≡ false
 late true = refl
 late false = refl
 
 never_early : (target : Syntax) (f : Front) (tag : Tag) (vr : Vr) (declared : Length) → is_early_bar (target_bar target f tag vr declared) ≡ false
-never_early Little f tag vr declared = refl
-never_early Implicit f tag vr declared = late (is_fragment_form (form Little vr declared))
-never_early Big f tag vr declared = late (is_fragment_form (form Little vr declared))
+never_early (little_in d) f tag vr declared = refl
+never_early (implicit_in d) f tag vr declared = late (is_fragment_form (form Little vr declared))
+never_early (big_in d) f tag vr declared = late (is_fragment_form (form Little vr declared))
 
 target_bars : (target : Syntax) → BarsAs (target_atoms target) (target_bar target)
 target_bars target = record { agree = λ f atoms w tag vr declared. same_heads target f tag vr declared; never_early = never_early target }

@@ -7,7 +7,8 @@ use Rattle.dcm_base.specs.declared.tag.Tag.{Tag}
 use Rattle.dcm_base.specs.declared.vr.Vr.{Vr}
 use Rattle.dcm_base.specs.declared.vr.Vr.TheVariants.{SQ, UN, OB, OW}
 use Rattle.dcm_base.specs.declared.syntax.Syntax.{Syntax}
-use Rattle.dcm_base.specs.declared.syntax.Syntax.TheVariants.{Implicit, Little, Big}
+use Rattle.dcm_base.specs.declared.syntax.Syntax.TheVariants.{Implicit as implicit_in, Little as little_in, Big as big_in}
+use Rattle.dcm_base.specs.Syntax.{Little}
 use Rattle.dcm_base.specs.declared.fault.Fault.{Fault}
 use Rattle.dcm_base.specs.declared.fault.Fault.TheVariants.{FragmentsBarred}
 use Rattle.dcm_base.specs.declared.length.Length.{Length}
@@ -17,13 +18,13 @@ use Rattle.dcm_base.specs.declared.form.Form.TheVariants.{Value as a_value, Sequ
 use Rattle.dcm_base.specs.Tree.{Trees, no_tree, leaf, sequence, fragments, Items, no_item, item}
 use Rattle.dcm_base.specs.Number.{number, IsTag}
 use Rattle.dcm_base.specs.Tag.{item_end_tag, sequence_end_tag}
-use Rattle.dcm_base.specs.Dictionary.{dict_vr}
+use Rattle.dcm_base.specs.Dictionary.{vr_in}
 use Rattle.dcm_base.specs.Representation.{is_long}
 use Rattle.dcm_base.specs.Value.{order}
 use Rattle.dcm_base.specs.Head.{ElementHead, tag_at, length_at, long_length, head_size}
 use Rattle.dcm_base.specs.Spelling.{form, inside, Enclosed, FragmentsAt, TreesAt, ItemsAt}
 use Rattle.dcm_base.specs.Stop.{HeadBar, opens_list}
-use Rattle.dcm_base.specs.Bars.{is_fragment_form}
+use Rattle.dcm_base.specs.Bars.{is_fragment_form, holds_fragments}
 use Rattle.dcm_base.specs.Recode.{even, too_long}
 use Rattle.dcm_base.specs.Normal.{normal_vr, normal_sequence_vr, TellsValue, TellsSequence, FitsTarget, ItemsFit}
 use Rattle.dcm_base.specs.Atoms.{Atom, opens, value_byte, closes_leaf, closes_item, closes_sequence, fragments_then, trees_then, items_then}
@@ -52,14 +53,14 @@ a_byte (x ∷ b) zero h = h.0
 a_byte (x ∷ b) (suc i) h = a_byte b i h.1
 
 two_bytes : (s : Syntax) (b : List ℕ) → Bytes b → number s 2 b < 65536
-two_bytes Implicit b h = let x = a_byte b 0 h in let y = a_byte b 1 h in omega (arith, x, y)
-two_bytes Little b h = let x = a_byte b 0 h in let y = a_byte b 1 h in omega (arith, x, y)
-two_bytes Big b h = let x = a_byte b 0 h in let y = a_byte b 1 h in omega (arith, x, y)
+two_bytes (implicit_in d) b h = let x = a_byte b 0 h in let y = a_byte b 1 h in omega (arith, x, y)
+two_bytes (little_in d) b h = let x = a_byte b 0 h in let y = a_byte b 1 h in omega (arith, x, y)
+two_bytes (big_in d) b h = let x = a_byte b 0 h in let y = a_byte b 1 h in omega (arith, x, y)
 
 pub four_bytes : (s : Syntax) (b : List ℕ) → Bytes b → number s 4 b < 4294967296
-four_bytes Implicit b h = let x = a_byte b 0 h in let y = a_byte b 1 h in let z = a_byte b 2 h in let w = a_byte b 3 h in omega (arith, x, y, z, w)
-four_bytes Little b h = let x = a_byte b 0 h in let y = a_byte b 1 h in let z = a_byte b 2 h in let w = a_byte b 3 h in omega (arith, x, y, z, w)
-four_bytes Big b h = let x = a_byte b 0 h in let y = a_byte b 1 h in let z = a_byte b 2 h in let w = a_byte b 3 h in omega (arith, x, y, z, w)
+four_bytes (implicit_in d) b h = let x = a_byte b 0 h in let y = a_byte b 1 h in let z = a_byte b 2 h in let w = a_byte b 3 h in omega (arith, x, y, z, w)
+four_bytes (little_in d) b h = let x = a_byte b 0 h in let y = a_byte b 1 h in let z = a_byte b 2 h in let w = a_byte b 3 h in omega (arith, x, y, z, w)
+four_bytes (big_in d) b h = let x = a_byte b 0 h in let y = a_byte b 1 h in let z = a_byte b 2 h in let w = a_byte b 3 h in omega (arith, x, y, z, w)
 
 tag_of_bytes : (s : Syntax) (b : List ℕ) → Bytes b → IsTag (tag_at s b)
 tag_of_bytes s b h = (two_bytes s b h, two_bytes s (drop 2 b) (bytes_behind 2 b h))
@@ -80,9 +81,9 @@ explicit_known s false b m h e = short_known (number s 2 (drop 6 b)) m (two_byte
 
 pub length_known : (s : Syntax) (vr : Vr) (b : List ℕ) (m : ℕ) → Bytes b → Known m ≡ length_at s vr b → m < 0xFFFFFFFF
 unfolding length_at
-length_known Implicit vr b m h e = long_known (number Implicit 4 (drop 4 b)) m (four_bytes Implicit (drop 4 b) (bytes_behind 4 b h)) e
-length_known Little vr b m h e = explicit_known Little (is_long vr) b m h e
-length_known Big vr b m h e = explicit_known Big (is_long vr) b m h e
+length_known (implicit_in d) vr b m h e = long_known (number (implicit_in d) 4 (drop 4 b)) m (four_bytes (implicit_in d) (drop 4 b) (bytes_behind 4 b h)) e
+length_known (little_in d) vr b m h e = explicit_known (little_in d) (is_long vr) b m h e
+length_known (big_in d) vr b m h e = explicit_known (big_in d) (is_long vr) b m h e
 
 pub bytes_of_head : (s : Syntax) (t : Tag) (vr : Vr) (l : Length) (b c : List ℕ) → ElementHead s t vr l b c → Bytes b → Bytes c
 bytes_of_head s t vr l b c h k = subst Bytes (sym h.after_is) (bytes_behind (head_size s vr) b k)
@@ -105,32 +106,44 @@ explicit_value s vr n m true h = refl
 explicit_value s vr n m false h = value_of s vr n m h
 
 pub target_value : (target s : Syntax) (t : Tag) (vr : Vr) (n : ℕ) → form s vr (Known n) ≡ a_value → TellsValue target t → form target (normal_vr target t vr n) (Known (even n)) ≡ a_value
-target_value Implicit s t vr n fo tells = value_of Implicit (dict_vr t) n (even n) tells
-target_value Little s t vr n fo tells = explicit_value Little vr n (even n) (too_long Little vr n) (no_sequence s vr n fo)
-target_value Big s t vr n fo tells = explicit_value Big vr n (even n) (too_long Big vr n) (no_sequence s vr n fo)
+target_value (implicit_in d) s t vr n fo tells = value_of (implicit_in d) (vr_in d t) n (even n) tells
+target_value (little_in d) s t vr n fo tells = explicit_value (little_in d) vr n (even n) (too_long (little_in d) vr n) (no_sequence s vr n fo)
+target_value (big_in d) s t vr n fo tells = explicit_value (big_in d) vr n (even n) (too_long (big_in d) vr n) (no_sequence s vr n fo)
 
 pub target_sequence : (target : Syntax) (t : Tag) → TellsSequence target t → form target (normal_sequence_vr target t) Undefined ≡ a_sequence
 unfolding form
-target_sequence Implicit t tells = tells
-target_sequence Little t tells = refl
-target_sequence Big t tells = refl
+target_sequence (implicit_in d) t tells = tells
+target_sequence (little_in d) t tells = refl
+target_sequence (big_in d) t tells = refl
 
-pub fragments_little : (s : Syntax) (vr : Vr) → form s vr Undefined ≡ a_fragment_list → (s ≡ Little) × (is_fragment_form (form Little vr Undefined) ≡ true)
+pub fragments_little : (s : Syntax) (vr : Vr) → form s vr Undefined ≡ a_fragment_list → (holds_fragments s ≡ true) × (is_fragment_form (form Little vr Undefined) ≡ true)
 unfolding form
 fragments_little s SQ e = absurd (cc)
 fragments_little s UN e = absurd (cc)
-fragments_little Little OB e = (refl, refl)
-fragments_little Little OW e = (refl, refl)
+fragments_little (little_in d) OB e = (refl, refl)
+fragments_little (little_in d) OW e = (refl, refl)
 fragments_little s vr e = absurd (cc)
+
+fragments_form : (s target : Syntax) (vr : Vr) → holds_fragments s ≡ true → holds_fragments target ≡ true → form s vr Undefined ≡ a_fragment_list → form target vr Undefined ≡ a_fragment_list
+unfolding form
+fragments_form (implicit_in d) target vr h k f = absurd cc
+fragments_form (big_in d) target vr h k f = absurd cc
+fragments_form s (implicit_in e) vr h k f = absurd cc
+fragments_form s (big_in e) vr h k f = absurd cc
+fragments_form (little_in d) (little_in e) OB h k f = refl
+fragments_form (little_in d) (little_in e) OW h k f = refl
+fragments_form (little_in d) (little_in e) SQ h k f = absurd cc
+fragments_form (little_in d) (little_in e) UN h k f = absurd cc
+fragments_form (little_in d) (little_in e) vr h k f = f
 
 some_barred : (c : Bool) (fault : Fault) → c ≡ true → cond c (Some fault) None ≡ None → ⊥
 some_barred true fault h e = cc
 some_barred false fault h e = cc
 
-target_little : (target : Syntax) (t : Tag) (vr : Vr) → is_fragment_form (form Little vr Undefined) ≡ true → target_heads target t vr Undefined ≡ None → target ≡ Little
-target_little Little t vr h e = refl
-target_little Implicit t vr h e = absurd (some_barred (is_fragment_form (form Little vr Undefined)) FragmentsBarred h e)
-target_little Big t vr h e = absurd (some_barred (is_fragment_form (form Little vr Undefined)) FragmentsBarred h e)
+target_little : (target : Syntax) (t : Tag) (vr : Vr) → is_fragment_form (form Little vr Undefined) ≡ true → target_heads target t vr Undefined ≡ None → holds_fragments target ≡ true
+target_little (little_in d) t vr h e = refl
+target_little (implicit_in d) t vr h e = absurd (some_barred (is_fragment_form (form Little vr Undefined)) FragmentsBarred h e)
+target_little (big_in d) t vr h e = absurd (some_barred (is_fragment_form (form Little vr Undefined)) FragmentsBarred h e)
 
 -- ---- atoms
 
@@ -215,13 +228,13 @@ mutual
       let bar : HeadBar = target_heads target in
       let g = begun bar n (suc n) t vr Undefined s (fragments_then values (closes_sequence ∷ trees_then s rest others)) (lists_of n a_fragment_list t vr Undefined s fo) f in
       let two = fragments_little s vr fo in
-      let little : target ≡ Little = target_little target t vr two.1 g.accepted.1 in
+      let little : holds_fragments target ≡ true = target_little target t vr two.1 g.accepted.1 in
       let held = enclosed_ready s sequence_end_tag Undefined (FragmentsAt s values) contents o (AreShort values × Fine bar (suc n) (closes_sequence ∷ trees_then s rest others)) (bytes_of_head s t vr Undefined b contents head k)
       (λ c d kc r. fragments_ready s values c d bar (suc n) (closes_sequence ∷ trees_then s rest others) r kc g.more) inner in
       let after = trees_ready target s n rest o p others more held.1 held.0.1.2 in
       let few = g.few in (
         (
-          λ fits. (λ e. ((element_tag s t vr Undefined b contents head k, g.accepted.0), omega (arith, few), little, ap (λ (x : Syntax). form x vr Undefined) (little ∙ sym two.0) ∙ fo, held.0.0), after.0.0 fits),
+          λ fits. (λ e. ((element_tag s t vr Undefined b contents head k, g.accepted.0), omega (arith, few), little, fragments_form s target vr two.0 little fo, held.0.0), after.0.0 fits),
           after.0.1,
         ),
         after.1,

@@ -6,24 +6,26 @@ use Rattle.dcm_base.specs.declared.tag.Tag.{Tag}
 use Rattle.dcm_base.specs.declared.vr.Vr.{Vr}
 use Rattle.dcm_base.specs.declared.vr.Vr.TheVariants.{SQ, UN, OB, OW}
 use Rattle.dcm_base.specs.declared.syntax.Syntax.{Syntax}
-use Rattle.dcm_base.specs.declared.syntax.Syntax.TheVariants.{Implicit, Little, Big}
+use Rattle.dcm_base.specs.declared.syntax.Syntax.TheVariants.{Implicit as implicit_in, Little as little_in, Big as big_in}
 use Rattle.dcm_base.specs.declared.length.Length.TheVariants.{Known, Undefined}
 use Rattle.dcm_base.specs.Tree.{Trees, no_tree, leaf, sequence, fragments, Items, no_item, item}
 use Rattle.dcm_base.specs.Number.{IsTag}
 use Rattle.dcm_base.specs.Tag.{item_tag, item_end_tag, sequence_end_tag}
 use Rattle.dcm_base.specs.Place.{is_data}
-use Rattle.dcm_base.specs.Dictionary.{dict_vr}
+use Rattle.dcm_base.specs.Dictionary.{vr_in}
 use Rattle.dcm_base.specs.Representation.{is_long, pad}
 use Rattle.dcm_base.specs.Value.{order, evened}
 use Rattle.dcm_base.specs.Head.{PlainHead, ElementHead, ItemHead, Delimiter}
 use Rattle.dcm_base.specs.declared.form.Form.TheVariants.{Value as a_value, Sequence as a_sequence, FragmentList as a_fragment_list}
 use Rattle.dcm_base.specs.Spelling.{form, inside, FragmentsAt, TreesAt, ItemsAt}
-use Rattle.dcm_base.specs.Recode.{head, even, too_long, leaf_head, leaf_bytes, item_head, item_delimiter, sequence_delimiter, recoded_leaf, recoded_fragment, recode_set, recode_items}
+use Rattle.dcm_base.specs.Recode.{head, even, too_long, leaf_head, leaf_bytes, item_head, item_delimiter, sequence_delimiter, recoded_leaf, recoded_fragment, recode_set, recode_items, is_explicit}
 use Rattle.dcm_base.specs.Normal.{normal_vr, normal_sequence_vr, normal_value, UnlessGroupLength, normal, normal_items}
 use Rattle.dcm_base.proofs.Conversions.Order.{order_twice}
 use Rattle.dcm_base.proofs.DataSets.Extend.{element_extends, item_extends, delimiter_extends}
 use Rattle.dcm_head.proofs.Heads.Written.{element_spelled, item_spelled, delimiter_spelled}
 use Rattle.dcm_base.proofs.Conversions.NormalForm.{evened_size, normal_size}
+use Rattle.dcm_base.specs.declared.lookup.Dictionary.{Dictionary}
+use Rattle.dcm_base.specs.Bars.{holds_fragments}
 use Rattle.dcm_tools.proofs.ReadBack.HasRoom.{IsElement, AreShort, Ready, ReadyItems}
 
 -- ---- tags
@@ -48,43 +50,45 @@ short_by false n e h = let le : even n ≤ 65534 = ltb-false 65534 (even n) e in
 no_long : not true ≡ true → ⊥
 no_long e = cc
 
-leaf_by_test : (s : Syntax) (t : Tag) (vr : Vr) (n : ℕ) (c : Bool) → s ≢ Implicit → IsTag t → n < 0xFFFFFFFF → (not (is_long vr) && nat_lt 65534 (even n)) ≡ c
+leaf_by_test : (s : Syntax) (t : Tag) (vr : Vr) (n : ℕ) (c : Bool) → is_explicit s ≡ true → IsTag t → n < 0xFFFFFFFF → (not (is_long vr) && nat_lt 65534 (even n)) ≡ c
     → PlainHead s t (if c then UN else vr) (Known (even n)) (head s t (if c then UN else vr) (Known (even n))) []
-leaf_by_test Implicit t vr n c i h fits e = absurd (i refl)
-leaf_by_test Little t vr n true i h fits e = element_spelled Little t UN (Known (even n)) h tt (λ k. absurd (no_long k)) (λ k. fits_even n fits)
-leaf_by_test Little t vr n false i h fits e = element_spelled Little t vr (Known (even n)) h tt (λ k. short_by (is_long vr) n e k) (λ k. fits_even n fits)
-leaf_by_test Big t vr n true i h fits e = element_spelled Big t UN (Known (even n)) h tt (λ k. absurd (no_long k)) (λ k. fits_even n fits)
-leaf_by_test Big t vr n false i h fits e = element_spelled Big t vr (Known (even n)) h tt (λ k. short_by (is_long vr) n e k) (λ k. fits_even n fits)
+leaf_by_test (implicit_in d) t vr n c i h fits e = absurd (cc)
+leaf_by_test (little_in d) t vr n true i h fits e = element_spelled (little_in d) t UN (Known (even n)) h tt (λ k. absurd (no_long k)) (λ k. fits_even n fits)
+leaf_by_test (little_in d) t vr n false i h fits e = element_spelled (little_in d) t vr (Known (even n)) h tt (λ k. short_by (is_long vr) n e k) (λ k. fits_even n fits)
+leaf_by_test (big_in d) t vr n true i h fits e = element_spelled (big_in d) t UN (Known (even n)) h tt (λ k. absurd (no_long k)) (λ k. fits_even n fits)
+leaf_by_test (big_in d) t vr n false i h fits e = element_spelled (big_in d) t vr (Known (even n)) h tt (λ k. short_by (is_long vr) n e k) (λ k. fits_even n fits)
 
 pub leaf_plain : (s : Syntax) (t : Tag) (vr : Vr) (n : ℕ) → IsTag t → n < 0xFFFFFFFF → PlainHead s t (normal_vr s t vr n) (Known (even n)) (leaf_head s t vr n) []
-leaf_plain Implicit t vr n h fits = element_spelled Implicit t (dict_vr t) (Known (even n)) h refl (λ k. absurd (cc)) (λ k. fits_even n fits)
-leaf_plain Little t vr n h fits = leaf_by_test Little t vr n (too_long Little vr n) (λ e. cc) h fits refl
-leaf_plain Big t vr n h fits = leaf_by_test Big t vr n (too_long Big vr n) (λ e. cc) h fits refl
+leaf_plain (implicit_in d) t vr n h fits = element_spelled (implicit_in d) t (vr_in d t) (Known (even n)) h refl (λ k. absurd (cc)) (λ k. fits_even n fits)
+leaf_plain (little_in d) t vr n h fits = leaf_by_test (little_in d) t vr n (too_long (little_in d) vr n) refl h fits refl
+leaf_plain (big_in d) t vr n h fits = leaf_by_test (big_in d) t vr n (too_long (big_in d) vr n) refl h fits refl
 
 pub leaf_told : (s : Syntax) (t : Tag) (vr : Vr) (n : ℕ) → IsElement t → n < 0xFFFFFFFF → ElementHead s t (normal_vr s t vr n) (Known (even n)) (leaf_head s t vr n) []
 leaf_told s t vr n h fits = record { no_item = eqb-false _ _ (no_special t h.1); head = leaf_plain s t vr n h.0 fits }
 
 sequence_plain : (s : Syntax) (t : Tag) → IsTag t → PlainHead s t (normal_sequence_vr s t) Undefined (head s t SQ Undefined) []
-sequence_plain Implicit t h = element_spelled Implicit t (dict_vr t) Undefined h refl (λ k. absurd (cc)) (λ k. tt)
-sequence_plain Little t h = element_spelled Little t SQ Undefined h tt (λ k. absurd (no_long k)) (λ k. tt)
-sequence_plain Big t h = element_spelled Big t SQ Undefined h tt (λ k. absurd (no_long k)) (λ k. tt)
+sequence_plain (implicit_in d) t h = element_spelled (implicit_in d) t (vr_in d t) Undefined h refl (λ k. absurd (cc)) (λ k. tt)
+sequence_plain (little_in d) t h = element_spelled (little_in d) t SQ Undefined h tt (λ k. absurd (no_long k)) (λ k. tt)
+sequence_plain (big_in d) t h = element_spelled (big_in d) t SQ Undefined h tt (λ k. absurd (no_long k)) (λ k. tt)
 
 pub sequence_told : (s : Syntax) (t : Tag) → IsElement t → ElementHead s t (normal_sequence_vr s t) Undefined (head s t SQ Undefined) []
 sequence_told s t h = record { no_item = eqb-false _ _ (no_special t h.1); head = sequence_plain s t h.0 }
 
-fragments_long : (vr : Vr) → form Little vr Undefined ≡ a_fragment_list → is_long vr ≡ true
+fragments_long : (d : Dictionary) (vr : Vr) → form (little_in d) vr Undefined ≡ a_fragment_list → is_long vr ≡ true
 unfolding form
-fragments_long OB e = refl
-fragments_long OW e = refl
-fragments_long SQ e = refl
-fragments_long UN e = refl
-fragments_long vr e = absurd (cc)
+fragments_long d OB e = refl
+fragments_long d OW e = refl
+fragments_long d SQ e = refl
+fragments_long d UN e = refl
+fragments_long d vr e = absurd (cc)
 
-pub fragments_told : (t : Tag) (vr : Vr) → IsElement t → form Little vr Undefined ≡ a_fragment_list → ElementHead Little t vr Undefined (head Little t vr Undefined) []
-fragments_told t vr h f =
+pub fragments_told : (s : Syntax) (t : Tag) (vr : Vr) → holds_fragments s ≡ true → IsElement t → form s vr Undefined ≡ a_fragment_list → ElementHead s t vr Undefined (head s t vr Undefined) []
+fragments_told (implicit_in d) t vr l h f = absurd cc
+fragments_told (big_in d) t vr l h f = absurd cc
+fragments_told (little_in d) t vr l h f =
     record {
       no_item = eqb-false _ _ (no_special t h.1);
-      head = element_spelled Little t vr Undefined h.0 tt (λ k. let long = fragments_long vr f in absurd (no_long (sym (ap not long) ∙ k))) (λ k. tt);
+      head = element_spelled (little_in d) t vr Undefined h.0 tt (λ k. let long = fragments_long d vr f in absurd (no_long (sym (ap not long) ∙ k))) (λ k. tt);
     }
 
 item_is_tag : IsTag item_tag
@@ -110,16 +114,16 @@ sequence_end_told s = delimiter_spelled s sequence_end_tag (Known 0) sequence_en
 
 -- ---- trees
 
-implicit_inside : (vr : Vr) → inside Implicit vr ≡ Implicit
+implicit_inside : (d : Dictionary) (vr : Vr) → inside (implicit_in d) vr ≡ implicit_in d
 unfolding inside
-implicit_inside UN = refl
-implicit_inside vr = refl
+implicit_inside d UN = refl
+implicit_inside d vr = refl
 
 pub inside_target : (s : Syntax) (t : Tag) → inside s (normal_sequence_vr s t) ≡ s
 unfolding inside
-inside_target Implicit t = implicit_inside (dict_vr t)
-inside_target Little t = refl
-inside_target Big t = refl
+inside_target (implicit_in d) t = implicit_inside d (vr_in d t)
+inside_target (little_in d) t = refl
+inside_target (big_in d) t = refl
 
 two_parts : (a b r z : List ℕ) → ((a ++ b) ++ r) ++ z ≡ a ++ (b ++ (r ++ z))
 two_parts a b r z = append_assoc (a ++ b) r z ∙ append_assoc a b (r ++ z)
@@ -215,14 +219,13 @@ sequence_written s t items more n inner r z P false e h contents rest =
     sequence_at s t (normal_sequence_vr s t) items (head s t SQ Undefined) inner (sequence_delimiter s) r z more (inside_target s t) k.2 (sequence_told s t k.0) (sequence_end_told s) (contents e) rest
 
 fragment_list_written : (s : Syntax) (t : Tag) (vr : Vr) (values : List (List ℕ)) (more : Trees) (n : ℕ) (r z : List ℕ) (c : Bool) → (t.element == 0) ≡ c
-    → UnlessGroupLength t (IsElement t × (n < 64) × (s ≡ Little) × (form s vr Undefined ≡ a_fragment_list) × AreShort values)
+    → UnlessGroupLength t (IsElement t × (n < 64) × (holds_fragments s ≡ true) × (form s vr Undefined ≡ a_fragment_list) × AreShort values)
     → TreesAt s more (r ++ z) z → TreesAt s (if c then more else fragments t vr (map (evened 0) values) more) (((if c then [] else head s t vr Undefined ++ flat_map (recoded_fragment s) values ++ sequence_delimiter s) ++ r) ++ z) z
 fragment_list_written s t vr values more n r z true e h rest = rest
 fragment_list_written s t vr values more n r z false e h rest =
     let k = h e in
-    let told = fragments_told t vr k.0 (subst (λ (x : Syntax). form x vr Undefined ≡ a_fragment_list) k.2 k.3) in
     fragments_at s t vr (map (evened 0) values) (head s t vr Undefined) (flat_map (recoded_fragment s) values) (sequence_delimiter s) r z more k.3
-    (subst (λ (x : Syntax). ElementHead x t vr Undefined (head x t vr Undefined) []) (sym k.2) told) (sequence_end_told s) (λ y. fragments_written s values y k.4) rest
+    (fragments_told s t vr k.2 k.0 k.3) (sequence_end_told s) (λ y. fragments_written s values y k.4) rest
 
 mutual
   unfolding normal recode_set TreesAt Ready

@@ -6,7 +6,8 @@ use Rattle.dcm_base.specs.declared.tag.Tag.{Tag}
 use Rattle.dcm_base.specs.declared.vr.Vr.{Vr}
 use Rattle.dcm_base.specs.declared.vr.Vr.TheVariants.{SQ, UN}
 use Rattle.dcm_base.specs.declared.syntax.Syntax.{Syntax}
-use Rattle.dcm_base.specs.declared.syntax.Syntax.TheVariants.{Implicit, Little, Big}
+use Rattle.dcm_base.specs.declared.syntax.Syntax.TheVariants.{Implicit as implicit_in, Little as little_in, Big as big_in}
+use Rattle.dcm_base.specs.Syntax.{Little}
 use Rattle.dcm_base.specs.declared.fault.Fault.TheVariants.{FragmentsBarred}
 use Rattle.dcm_base.specs.declared.length.Length.{Length}
 use Rattle.dcm_base.specs.declared.length.Length.TheVariants.{Known, Undefined}
@@ -15,7 +16,7 @@ use Rattle.dcm_base.specs.declared.form.Form.TheVariants.{Value as a_value, Sequ
 use Rattle.dcm_base.specs.Tree.{Trees, no_tree, leaf, sequence, fragments, Items, no_item, item}
 use Rattle.dcm_base.specs.Front.{front, nothing_open}
 use Rattle.dcm_base.specs.Tag.{item_end_tag, sequence_end_tag, is_item_end}
-use Rattle.dcm_base.specs.Dictionary.{dict_vr}
+use Rattle.dcm_base.specs.Dictionary.{vr_in}
 use Rattle.dcm_base.specs.Representation.{pad}
 use Rattle.dcm_base.specs.Value.{evened}
 use Rattle.dcm_base.specs.Head.{ElementHead}
@@ -25,12 +26,13 @@ use Rattle.dcm_base.specs.declared.level.Level.{Level}
 use Rattle.dcm_base.specs.declared.level.Container.TheVariants.{DataSet as the_data_set, Item as an_item, Sequence as sequence_container, FragmentList as fragment_container}
 use Rattle.dcm_base.specs.Place.{depth, is_data, is_allowed}
 use Rattle.dcm_base.specs.Stop.{HeadBar, opens_list, has_no_form}
-use Rattle.dcm_base.specs.Bars.{is_fragment_form, target_bar}
+use Rattle.dcm_base.specs.Bars.{is_fragment_form, target_bar, holds_fragments}
 use Rattle.dcm_base.specs.Atoms.{opens, opens_item, opens_fragment}
 use Rattle.dcm_base.specs.Recode.{head, even, leaf_head, leaf_bytes, item_head, item_delimiter, sequence_delimiter, recoded_leaf, recoded_fragment, recode_set, recode_items}
 use Rattle.dcm_base.specs.Normal.{normal_vr, normal_sequence_vr, UnlessGroupLength}
 use Rattle.dcm_stream.specs.Reading.{value_opens, container_opens, element_opens}
 use Rattle.dcm_base.proofs.Conversions.NormalForm.{evened_size, leaf_size}
+use Rattle.dcm_base.specs.declared.lookup.Dictionary.{Dictionary}
 use Rattle.dcm_tools.proofs.ReadBack.HasRoom.{IsElement, AreShort, Ready, ReadyItems}
 use Rattle.dcm_tools.proofs.ReadBack.Written.{no_special, leaf_told, sequence_told, fragments_told, item_told, fragment_told, item_end_told, sequence_end_told, inside_target}
 use Rattle.dcm_tools.proofs.ReadBack.KnownEnds.{Leads, Passes, passes_none, passes_both, Endless, value_passes, element_leads, item_leads, delimiter_passes}
@@ -41,26 +43,31 @@ abbrev pub target_heads : Syntax → HeadBar
 target_heads s tag vr declared = target_bar s (front no_tree nothing_open None false) tag vr declared
 
 unbarred : (s : Syntax) (t : Tag) (vr : Vr) (l : Length) → is_fragment_form (form Little vr l) ≡ false → target_heads s t vr l ≡ None
-unbarred Little t vr l h = refl
-unbarred Implicit t vr l h = ap (λ (c : Bool). cond c (Some FragmentsBarred) None) h
-unbarred Big t vr l h = ap (λ (c : Bool). cond c (Some FragmentsBarred) None) h
+unbarred (little_in d) t vr l h = refl
+unbarred (implicit_in d) t vr l h = ap (λ (c : Bool). cond c (Some FragmentsBarred) None) h
+unbarred (big_in d) t vr l h = ap (λ (c : Bool). cond c (Some FragmentsBarred) None) h
 
 known_form : (vr : Vr) (n : ℕ) → is_fragment_form (form Little vr (Known n)) ≡ false
 unfolding form
 known_form SQ n = refl
 known_form vr n = refl
 
-implicit_form : (vr : Vr) → form Implicit vr Undefined ≡ a_sequence → is_fragment_form (form Little vr Undefined) ≡ false
+implicit_form : (d : Dictionary) (vr : Vr) → form (implicit_in d) vr Undefined ≡ a_sequence → is_fragment_form (form Little vr Undefined) ≡ false
 unfolding form
-implicit_form SQ e = refl
-implicit_form UN e = refl
-implicit_form vr e = absurd (cc)
+implicit_form d SQ e = refl
+implicit_form d UN e = refl
+implicit_form d vr e = absurd (cc)
 
 sequence_form : (s : Syntax) (t : Tag) → form s (normal_sequence_vr s t) Undefined ≡ a_sequence → is_fragment_form (form Little (normal_sequence_vr s t) Undefined) ≡ false
 unfolding form
-sequence_form Implicit t e = implicit_form (dict_vr t) e
-sequence_form Little t e = refl
-sequence_form Big t e = refl
+sequence_form (implicit_in d) t e = implicit_form d (vr_in d t) e
+sequence_form (little_in d) t e = refl
+sequence_form (big_in d) t e = refl
+
+fragments_unbarred : (s : Syntax) (t : Tag) (vr : Vr) (l : Length) → holds_fragments s ≡ true → target_heads s t vr l ≡ None
+fragments_unbarred (little_in d) t vr l h = refl
+fragments_unbarred (implicit_in d) t vr l h = absurd cc
+fragments_unbarred (big_in d) t vr l h = absurd cc
 
 -- ---- containers with no known end
 
@@ -134,13 +141,13 @@ module _ (s : Syntax) (c : Container) (declared : Length) (outer : List Level) (
   abbrev in_fragments : List Level
   in_fragments = endless_level fragment_container s Undefined ∷ around
 
-  pub fragments_open : (t : Tag) (vr : Vr) (n : ℕ) → s ≡ Little → IsElement t → depth around ≡ n → n < 64 → form s vr Undefined ≡ a_fragment_list → Passes bar around (head s t vr Undefined) in_fragments
+  pub fragments_open : (t : Tag) (vr : Vr) (n : ℕ) → holds_fragments s ≡ true → IsElement t → depth around ≡ n → n < 64 → form s vr Undefined ≡ a_fragment_list → Passes bar around (head s t vr Undefined) in_fragments
   fragments_open t vr n little h d few fo p le =
       let z : List ℕ = head s t vr Undefined in
-      let told : ElementHead Little t vr Undefined (head Little t vr Undefined) [] = fragments_told t vr h (subst (λ (x : Syntax). form x vr Undefined ≡ a_fragment_list) little fo) in
+      let told = fragments_told s t vr little h fo in
       element_leads bar (endless_level c s declared) outer p z t vr Undefined (container_opens (endless_level fragment_container s Undefined) around (opens t vr Undefined s)) (refl, free)
-      (subst (λ (x : Syntax). ElementHead x t vr Undefined (head x t vr Undefined) []) (sym little) told) (no_special t h.1) (takes t h.1)
-      (ap has_no_form fo) (ap (λ (f : Form). opens_list f && nat_le 64 (depth around)) fo ∙ ap (nat_le 64) d ∙ below_64 n few) (ap (λ (x : Syntax). target_heads x t vr Undefined) little) le
+      told (no_special t h.1) (takes t h.1)
+      (ap has_no_form fo) (ap (λ (f : Form). opens_list f && nat_le 64 (depth around)) fo ∙ ap (nat_le 64) d ∙ below_64 n few) (fragments_unbarred s t vr Undefined little) le
       (ap (λ (f : Form). element_opens f s t vr Undefined (p + length z) around) fo) (refl, (refl, free))
 
   fragment_leads : (n : ℕ) → n < 0xFFFFFFFF → Leads bar in_fragments (item_head s (Known (even n))) (even n) in_fragments
@@ -176,7 +183,7 @@ module _ (s : Syntax) (c : Container) (declared : Length) (outer : List Level) (
       (passes_both bar around in_sequence in_sequence (head s t SQ Undefined) inner (sequence_opens t n k.0 deep k.1 k.2) (contents e)) sequence_ends
 
   pub fragments_read : (t : Tag) (vr : Vr) (n : ℕ) (values : List (List ℕ)) (d : Bool) → (t.element == 0) ≡ d → depth around ≡ n
-      → UnlessGroupLength t (IsElement t × (n < 64) × (s ≡ Little) × (form s vr Undefined ≡ a_fragment_list) × AreShort values)
+      → UnlessGroupLength t (IsElement t × (n < 64) × (holds_fragments s ≡ true) × (form s vr Undefined ≡ a_fragment_list) × AreShort values)
       → Passes bar around (if d then [] else head s t vr Undefined ++ flat_map (recoded_fragment s) values ++ sequence_delimiter s) around
   fragments_read t vr n values true e deep h = passes_none bar around
   fragments_read t vr n values false e deep h =

@@ -4,12 +4,13 @@ ghost use Rattle.dcm_base.specs.Outputs as outputs;
 ghost use Rattle.dcm_base.specs.Dump.{dump_set};
 ghost use Rattle.dcm_base.specs.Header as spec;
 ghost use Rattle.dcm_base.specs.ValueText.{escaped};
+ghost use Rattle.dcm_base.specs.declared.lookup.Dictionary.TheVariants.{Extract};
 ghost use Rattle.dcm_head.specs.MetaReading.{HasEnded};
 ghost use Rattle.dcm_head.specs.Rewriting.{OfElements};
 ghost use Rattle.dcm_tools.specs.MetaLines.{IsValue, PutsHeader, meta_line};
 
 use crate::dump::DumpSink;
-use dcm_base::{DeviceOut, Mode, Watched, WriteFailed, put_all, uid_name};
+use dcm_base::{DeviceOut, Dictionary, Mode, Watched, WriteFailed, put_all, uid_name};
 use dcm_head::{Meta, MetaElement, first_element};
 use dcm_stream::{Token, take_all};
 use dcm_value::escape;
@@ -49,51 +50,68 @@ pub fn set_header<W: DeviceOut>(uid: &[u8], out: &mut Watched<W>) -> Result<(), 
 /// Writes the line of an element of a meta group.
 fn put_element<W: DeviceOut>(
     element: MetaElement,
+    dictionary: Dictionary,
     mode: Mode,
     out: &mut Watched<W>,
 ) -> Result<(), WriteFailed>
     requires { length element.value.now < 2 ^ 32 }
-    ensures bytes { IsValue element.entry → outputs.Puts W.DeviceOut out.old out.new (meta_line mode element.entry) result }
+    ensures bytes { IsValue element.entry → outputs.Puts W.DeviceOut out.old out.new (meta_line dictionary mode element.entry) result }
     ensures failed { outputs.Tells W.DeviceOut out.old out.new result }
 {
     let tokens = Token::leaf(element.tag, element.vr, element.value);
-    let mut sink = DumpSink::new(out, mode);
+    let mut sink = DumpSink::by(out, dictionary, mode);
     take_all(tokens.as_slice(), &mut sink)
 }
 
 /// Writes the lines of a meta group.
 fn put_elements<W: DeviceOut>(
     group: &[u8],
+    dictionary: Dictionary,
     mode: Mode,
     out: &mut Watched<W>,
 ) -> Result<(), WriteFailed>
     requires { length group.now ≤ 16384 }
-    ensures bytes { OfElements group.now (λ elements. outputs.Puts W.DeviceOut out.old out.new (dump_set mode 0 elements) result) }
+    ensures bytes { OfElements group.now (λ elements. outputs.Puts W.DeviceOut out.old out.new (dump_set dictionary mode 0 elements) result) }
     ensures failed { outputs.Tells W.DeviceOut out.old out.new result }
 {
     let mut rest = group;
     'elements: while let Some(element) = first_element(rest) {
-        put_element(element, mode, out)?;
+        put_element(element, dictionary, mode, out)?;
         rest = element.after;
     }
     Ok(())
 }
 
-/// Writes what stands before the lines of a file's data set: the lines of the meta group, and the transfer syntax.
+/// Writes what stands before the lines of a file's data set: the lines of the meta group, whose elements are called as the
+/// extract says, and the transfer syntax.
 pub fn dump_header<W: DeviceOut>(
     meta: &Meta,
     mode: Mode,
     out: &mut Watched<W>,
 ) -> Result<(), WriteFailed>
     requires { HasEnded meta.now.end }
-    ensures bytes { PutsHeader W.DeviceOut out.old out.new mode meta.now result }
+    ensures bytes { PutsHeader W.DeviceOut out.old out.new Extract mode meta.now result }
+    ensures failed { outputs.Tells W.DeviceOut out.old out.new result }
+{
+    dump_header_by(meta, Dictionary::Extract, mode, out)
+}
+
+/// The same, whose elements are called as the dictionary says.
+pub fn dump_header_by<W: DeviceOut>(
+    meta: &Meta,
+    dictionary: Dictionary,
+    mode: Mode,
+    out: &mut Watched<W>,
+) -> Result<(), WriteFailed>
+    requires { HasEnded meta.now.end }
+    ensures bytes { PutsHeader W.DeviceOut out.old out.new dictionary mode meta.now result }
     ensures failed { outputs.Tells W.DeviceOut out.old out.new result }
 {
     put_all(
         out,
         b"# Dicom-File-Format\n\n# Dicom-Meta-Information-Header\n# Used TransferSyntax: LittleEndianExplicit\n",
     )?;
-    put_elements(meta.bytes(), mode, out)?;
+    put_elements(meta.bytes(), dictionary, mode, out)?;
     put_all(out, b"\n")?;
     set_header(meta.uid(), out)
 }

@@ -8,7 +8,9 @@ ghost use Rattle.dcm_base.specs.declared.length.Length.TheVariants.{Known};
 ghost use Rattle.dcm_tools.specs.Layout.{length_digits_of, length_field, line_rest, rest_start};
 
 use arrayvec::ArrayVec;
-use dcm_base::{DeviceOut, Length, Tag, Watched, WriteFailed, keyword, put_all, put_parts};
+use dcm_base::{
+    DeviceOut, Dictionary, Length, Tag, Watched, WriteFailed, keyword_in, put_all, put_parts,
+};
 use itoa::Buffer;
 
 /// The width to which a display is padded.
@@ -125,21 +127,22 @@ fn short_rest(length: Length, count: u64) -> Option<[u8; 10]>
 /// values.
 pub fn put_rest<W: DeviceOut>(
     out: &mut Watched<W>,
+    dictionary: Dictionary,
     line: &mut Line,
     tag: Tag,
     declared: Length,
     count: u64,
 ) -> Result<(), WriteFailed>
     requires { length line.old.items ≤ 337 }
-    ensures bytes { outputs.Puts W.DeviceOut out.old out.new (line.old.items ++ line_rest tag declared count) result }
+    ensures bytes { outputs.Puts W.DeviceOut out.old out.new (line.old.items ++ line_rest dictionary tag declared count) result }
     ensures failed { outputs.Tells W.DeviceOut out.old out.new result }
 {
     let Some(start) = short_rest(declared, count) else {
         put_all(out, line.as_slice())?;
-        return put_long_rest(out, tag, declared, count);
+        return put_long_rest(out, dictionary, tag, declared, count);
     };
     let _ = line.try_extend_from_slice(&start);
-    let _ = line.try_extend_from_slice(keyword(tag).as_bytes());
+    let _ = line.try_extend_from_slice(keyword_in(dictionary, tag));
     line.push(b'\n');
     put_all(out, line.as_slice())
 }
@@ -147,11 +150,12 @@ pub fn put_rest<W: DeviceOut>(
 /// Writes what comes after a display, of any length and count.
 fn put_long_rest<W: DeviceOut>(
     out: &mut Watched<W>,
+    dictionary: Dictionary,
     tag: Tag,
     length: Length,
     count: u64,
 ) -> Result<(), WriteFailed>
-    ensures bytes { outputs.Puts W.DeviceOut out.old out.new (line_rest tag length count) result }
+    ensures bytes { outputs.Puts W.DeviceOut out.old out.new (line_rest dictionary tag length count) result }
     ensures failed { outputs.Tells W.DeviceOut out.old out.new result }
 {
     let mut sizes = Buffer::new();
@@ -166,7 +170,7 @@ fn put_long_rest<W: DeviceOut>(
             b", ".as_slice(),
             counts.format(count).as_bytes(),
             b" ".as_slice(),
-            keyword(tag).as_bytes(),
+            keyword_in(dictionary, tag),
             b"\n".as_slice(),
         ],
     )
@@ -186,6 +190,7 @@ fn append_display(line: &mut Line, display: &[u8])
 /// Writes a line with a display that is known at once: an opening or an end.
 pub fn put_line<W: DeviceOut>(
     out: &mut Watched<W>,
+    dictionary: Dictionary,
     line: &mut Line,
     level: usize,
     tag: Tag,
@@ -196,10 +201,10 @@ pub fn put_line<W: DeviceOut>(
 ) -> Result<(), WriteFailed>
     requires level { level ≤ 128 }
     requires display { length display.now ≤ 66 }
-    ensures bytes { outputs.Puts W.DeviceOut out.old out.new (dump.line level tag letters display.now declared count) result }
+    ensures bytes { outputs.Puts W.DeviceOut out.old out.new (dump.line dictionary level tag letters display.now declared count) result }
     ensures failed { outputs.Tells W.DeviceOut out.old out.new result }
 {
     begin_line(line, level, tag, letters);
     append_display(line, display);
-    put_rest(out, line, tag, declared, count)
+    put_rest(out, dictionary, line, tag, declared, count)
 }

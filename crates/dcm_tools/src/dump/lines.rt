@@ -12,7 +12,9 @@ ghost use Rattle.dcm_value.specs.ValueText.{progress as text_progress};
 
 use crate::dump::layout::{Line, begin_line, put_line, put_line_start, put_rest};
 use crate::dump::lengths::{Lengths, MOST_OPEN};
-use dcm_base::{DeviceOut, Form, Length, Mode, Syntax, Tag, Vr, Watched, WriteFailed, form_of};
+use dcm_base::{
+    DeviceOut, Dictionary, Form, Length, Mode, Syntax, Tag, Vr, Watched, WriteFailed, form_of,
+};
 use dcm_head::Head;
 use dcm_stream::Token;
 use dcm_value::ValueText;
@@ -58,6 +60,7 @@ impl Owner {
 /// is put together in a buffer that stays, since a new one would be cleared each time.
 #[derive(Drop)]
 pub struct Lines {
+    dictionary: Dictionary,
     mode: Mode,
     line: Line,
     lengths: Lengths,
@@ -147,15 +150,16 @@ fn begin_late(mode: Mode, line: &mut Line, level: usize, owner: Owner)
 impl Lines {
     ghost use Rattle.dcm_tools.specs.Lines.{state, shows, started_in, list_line};
 
-    pub fn new(mode: Mode) -> Self
-        ensures { state result ≡ spec.dump_start mode }
+    pub fn new(dictionary: Dictionary, mode: Mode) -> Self
+        ensures { state result ≡ spec.dump_start dictionary mode }
     {
         Lines {
+            dictionary,
             mode,
             line: Line::new(),
             lengths: Lengths::new(),
             owner: None,
-            text: ValueText::new(Vr::UN, Syntax::Little, 0, mode),
+            text: ValueText::new(Vr::UN, Syntax::Little(Dictionary::Extract), 0, mode),
             is_lost: false,
         }
     }
@@ -199,12 +203,13 @@ impl Lines {
     ) -> Result<(), WriteFailed>
         requires { length display.now ≤ 66 }
         ensures state { OnOk result (state self.new ≡ spec.deeper (state self.old) head.length) }
-        ensures bytes { outputs.Puts W.DeviceOut out.old out.new (list_line self.old.lengths head display.now) result }
+        ensures bytes { outputs.Puts W.DeviceOut out.old out.new (list_line self.old.dictionary self.old.lengths head display.now) result }
         ensures failed { outputs.Tells W.DeviceOut out.old out.new result }
     {
         let level = self.lengths.depth();
         put_line(
             out,
+            self.dictionary,
             &mut self.line,
             level,
             head.tag,
@@ -266,7 +271,14 @@ impl Lines {
         begin_late(self.mode, &mut self.line, self.lengths.depth(), owner);
         let counted = self.text.finish(&mut self.line, out)?;
         let count = owner.count(counted);
-        put_rest(out, &mut self.line, owner.tag(), length, count)
+        put_rest(
+            out,
+            self.dictionary,
+            &mut self.line,
+            owner.tag(),
+            length,
+            count,
+        )
     }
 
     fn open_item<W: DeviceOut>(
@@ -281,6 +293,7 @@ impl Lines {
         let level = self.lengths.depth();
         put_line(
             out,
+            self.dictionary,
             &mut self.line,
             level,
             Tag::ITEM,
@@ -302,6 +315,7 @@ impl Lines {
         let level = self.lengths.depth();
         put_line(
             out,
+            self.dictionary,
             &mut self.line,
             level,
             Tag::ITEM_END,
@@ -321,6 +335,7 @@ impl Lines {
         let level = self.lengths.depth();
         put_line(
             out,
+            self.dictionary,
             &mut self.line,
             level,
             Tag::SEQUENCE_END,
@@ -340,7 +355,13 @@ impl Lines {
         ensures bytes { outputs.Puts W.DeviceOut out.old out.new (spec.live_writes (state self.old) (opens_fragment size)) result }
         ensures failed { outputs.Tells W.DeviceOut out.old out.new result }
     {
-        self.begin(out, Owner::Fragment, Vr::OB, Syntax::Little, size)
+        self.begin(
+            out,
+            Owner::Fragment,
+            Vr::OB,
+            Syntax::Little(Dictionary::Extract),
+            size,
+        )
     }
 
     /// Writes what a token shows.

@@ -35,19 +35,15 @@ pub struct Copier {
 pub fn is_too_long(target: Syntax, vr: Vr, size: u32) -> bool
     ensures { result ≡ is_long_value target vr size }
 {
-    target != Syntax::Implicit && !vr.is_long() && size > LONGEST_SHORT
+    !matches!(target, Syntax::Implicit(_)) && !vr.is_long() && size > LONGEST_SHORT
 }
 
 /// Whether the units of a value are turned round: what is too long is written in little endian order.
 fn is_turned(source: Syntax, target: Syntax, vr: Vr, size: u32) -> bool
     ensures { result ≡ spec.turns source target vr size }
 {
-    let ends_big = target == Syntax::Big && !is_too_long(target, vr, size);
-    if source == Syntax::Big {
-        !ends_big
-    } else {
-        ends_big
-    }
+    let ends_big = target.is_big() && !is_too_long(target, vr, size);
+    if source.is_big() { !ends_big } else { ends_big }
 }
 
 /// The pad byte that makes an odd value even.

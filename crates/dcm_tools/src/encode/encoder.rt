@@ -104,7 +104,7 @@ impl Encoder {
     pub fn holds_fragments(&self) -> bool
         ensures { result ≡ syntax_holds_fragments (state self.now).target }
     {
-        matches!(self.target, Syntax::Little)
+        matches!(self.target, Syntax::Little(_))
     }
 
     fn open_leaf<W: DeviceOut>(

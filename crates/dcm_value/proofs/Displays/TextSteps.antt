@@ -9,7 +9,7 @@ use Rattle.std.proofs.lemmas.List.{length-append, length-take}
 use Rattle.dcm_base.specs.declared.vr.Vr.{Vr}
 use Rattle.dcm_base.specs.declared.vr.Vr.TheVariants.{AE, AS, AT, CS, DA, DS, DT, FD, FL, IS, LO, LT, OB, OD, OF, OL, OV, OW, PN, SH, SL, SQ, SS, ST, SV, TM, UC, UI, UL, UN, UR, US, UT, UV}
 use Rattle.dcm_base.specs.declared.syntax.Syntax.{Syntax}
-use Rattle.dcm_base.specs.declared.syntax.Syntax.TheVariants.{Implicit, Little, Big}
+use Rattle.dcm_base.specs.declared.syntax.Syntax.TheVariants.{Implicit as implicit_in, Little as little_in, Big as big_in}
 use Rattle.dcm_base.specs.declared.mode.Mode.{Mode}
 use Rattle.dcm_base.specs.Representation.{unit, pad}
 use Rattle.dcm_base.specs.Uid.{Named, uid_name, uids, name_in}
@@ -108,9 +108,9 @@ number_counted hexadecimal vr v h = refl
 
 -- single bytes have one order
 one_order : (syntax : Syntax) (vr : Vr) (v : List ℕ) → unit vr ≡ 1 → order syntax vr v ≡ v
-one_order Implicit vr v e = refl
-one_order Little vr v e = refl
-one_order Big vr v e = ap (λ k. turned k v) e ∙ turned_bytes v
+one_order (implicit_in d) vr v e = refl
+one_order (little_in d) vr v e = refl
+one_order (big_in d) vr v e = ap (λ k. turned k v) e ∙ turned_bytes v
 
 ordered_none : (syntax : Syntax) (vr : Vr) → order syntax vr [] ≡ []
 ordered_none syntax vr = none (order syntax vr []) (length-order syntax vr [])

@@ -1,5 +1,5 @@
 -- Units whose highest byte stands first show what the units of a value show.
-use Rattle.std.proofs.Common.{◌≡◌, ◌≢◌, ◌≤◌, ◌<◌, ℕ, zero, suc, ◌*◌, ◌/◌, List, [], ◌∷◌, ◌++◌, length, take, drop, refl, sym, ap, ◌∙◌, arith, lit<, suc-mul, subst}
+use Rattle.std.proofs.Common.{true, false, ◌≡◌, ◌≢◌, ◌≤◌, ◌<◌, ℕ, zero, suc, ◌*◌, ◌/◌, List, [], ◌∷◌, ◌++◌, length, take, drop, refl, sym, ap, ◌∙◌, arith, lit<, suc-mul, subst}
 use Rattle.std.specs.Prelude.{reverse, flat_map, map, decimal}
 use mathlib.Core.Logic.{⊎_elim}
 use Rattle.std.proofs.lemmas.Bool.{cases_lt}
@@ -8,13 +8,14 @@ use Rattle.std.proofs.Math.Nat.{mul-div-le}
 use Rattle.dcm_base.specs.declared.vr.Vr.{Vr}
 use Rattle.dcm_base.specs.declared.vr.Vr.TheVariants.{AE, AS, AT, CS, DA, DS, DT, FD, FL, IS, LO, LT, OB, OD, OF, OL, OV, OW, PN, SH, SL, SQ, SS, ST, SV, TM, UC, UI, UL, UN, UR, US, UT, UV}
 use Rattle.dcm_base.specs.declared.syntax.Syntax.{Syntax}
-use Rattle.dcm_base.specs.declared.syntax.Syntax.TheVariants.{Implicit, Little, Big}
+use Rattle.dcm_base.specs.declared.syntax.Syntax.TheVariants.{Implicit as implicit_in, Little as little_in, Big as big_in}
 use Rattle.dcm_base.specs.Representation.{unit}
 use Rattle.dcm_base.specs.Value.{pieces, units, order, turned, number_of}
 use Rattle.dcm_base.specs.ValueText.{Shape, text, identifier, unsigned, signed, tags, hexadecimal, shape, shown_unit, unit_text, hex_byte, signed_text}
 use Rattle.dcm_base.proofs.Conversions.UnitLaws.{units_cons, units_none}
 use Rattle.dcm_base.proofs.Conversions.OrderLaws.{turns_units, keeps_length, turned_bytes}
 use Rattle.dcm_base.proofs.Conversions.Order.{turned_cons, turned_unit}
+use Rattle.dcm_base.specs.Syntax.{is_big}
 use Rattle.dcm_value.specs.Units.{kind_of, high_text, high, one_text, separated}
 
 -- shown alike, turned or not
@@ -81,14 +82,14 @@ kinds UV = of_ones (record { plain = plain_unsigned; same = refl; some = lit< tt
 
 -- a unit
 one_high : (syntax : Syntax) (vr : Vr) → IsOne vr → (u : List ℕ) → length u ≡ unit vr → high_text (kind_of (shape vr)) (high syntax vr u) ≡ one_text vr syntax u
-one_high Implicit vr o u e = turned_text (shape vr) u (turned (unit vr) u) o.plain (sym (ap reverse (turned_unit (unit vr) o.some u e) ∙ reverse-reverse u))
-one_high Little vr o u e = turned_text (shape vr) u (turned (unit vr) u) o.plain (sym (ap reverse (turned_unit (unit vr) o.some u e) ∙ reverse-reverse u))
-one_high Big vr o u e = turned_text (shape vr) (turned (unit vr) u) u o.plain (turned_unit (unit vr) o.some u e)
+one_high (implicit_in d) vr o u e = turned_text (shape vr) u (turned (unit vr) u) o.plain (sym (ap reverse (turned_unit (unit vr) o.some u e) ∙ reverse-reverse u))
+one_high (little_in d) vr o u e = turned_text (shape vr) u (turned (unit vr) u) o.plain (sym (ap reverse (turned_unit (unit vr) o.some u e) ∙ reverse-reverse u))
+one_high (big_in d) vr o u e = turned_text (shape vr) (turned (unit vr) u) u o.plain (turned_unit (unit vr) o.some u e)
 
 tag_high : (syntax : Syntax) (u : List ℕ) → length u ≡ 4 → high_text (kind_of (shape AT)) (high syntax AT u) ≡ one_text AT syntax u
-tag_high Implicit (a ∷ b ∷ c ∷ d ∷ []) e = refl
-tag_high Little (a ∷ b ∷ c ∷ d ∷ []) e = refl
-tag_high Big (a ∷ b ∷ c ∷ d ∷ []) e = refl
+tag_high (implicit_in k) (a ∷ b ∷ c ∷ d ∷ []) e = refl
+tag_high (little_in k) (a ∷ b ∷ c ∷ d ∷ []) e = refl
+tag_high (big_in k) (a ∷ b ∷ c ∷ d ∷ []) e = refl
 tag_high syntax _ e = absurd (omega arith)
 
 -- units of four bytes that are turned by halves
@@ -124,14 +125,14 @@ map_same (u ∷ us) = ap (λ xs. u ∷ xs) (map_same us)
 
 -- units of what is turned are units that are turned
 high_ones : (syntax : Syntax) (vr : Vr) → IsOne vr → (v : List ℕ) → units (unit vr) (high syntax vr v) ≡ map (high syntax vr) (units (unit vr) v)
-high_ones Implicit vr o v = turns_units (unit vr) o.some v
-high_ones Little vr o v = turns_units (unit vr) o.some v
-high_ones Big vr o v = sym (map_same (units (unit vr) v))
+high_ones (implicit_in d) vr o v = turns_units (unit vr) o.some v
+high_ones (little_in d) vr o v = turns_units (unit vr) o.some v
+high_ones (big_in d) vr o v = sym (map_same (units (unit vr) v))
 
 high_tags : (syntax : Syntax) (v : List ℕ) → units 4 (high syntax AT v) ≡ map (high syntax AT) (units 4 v)
-high_tags Implicit v = turns_fours (length v) v (omega arith)
-high_tags Little v = turns_fours (length v) v (omega arith)
-high_tags Big v = sym (map_same (units 4 v))
+high_tags (implicit_in d) v = turns_fours (length v) v (omega arith)
+high_tags (little_in d) v = turns_fours (length v) v (omega arith)
+high_tags (big_in d) v = sym (map_same (units 4 v))
 
 -- texts that are alike at each unit
 alike : (f g : List ℕ → List ℕ) (h : List ℕ → List ℕ) (k : ℕ) → ((u : List ℕ) → length u ≡ k → f (h u) ≡ g u) → (n : ℕ) (v : List ℕ) → n * k ≤ length v → separated f (map h (pieces n k v)) ≡ separated g (pieces n k v)
@@ -158,18 +159,20 @@ high_units syntax vr v = go (kinds vr)
         ∙ ap (λ k. separated (one_text vr syntax) (units k v)) (sym o.same)
 
 -- where nothing is turned
-pub big_stays : (syntax : Syntax) (vr : Vr) (v : List ℕ) → syntax ≡ Big → high syntax vr v ≡ v
-big_stays syntax vr v e = ap (λ s. high s vr v) e
+pub big_stays : (syntax : Syntax) (vr : Vr) (v : List ℕ) → is_big syntax ≡ true → high syntax vr v ≡ v
+big_stays (implicit_in d) vr v e = absurd cc
+big_stays (little_in d) vr v e = absurd cc
+big_stays (big_in d) vr v e = refl
 
 pub bytes_stay : (syntax : Syntax) (vr : Vr) (v : List ℕ) → unit vr ≡ 1 → high syntax vr v ≡ v
-bytes_stay Implicit vr v e = ap (λ k. turned k v) e ∙ turned_bytes v
-bytes_stay Little vr v e = ap (λ k. turned k v) e ∙ turned_bytes v
-bytes_stay Big vr v e = refl
+bytes_stay (implicit_in d) vr v e = ap (λ k. turned k v) e ∙ turned_bytes v
+bytes_stay (little_in d) vr v e = ap (λ k. turned k v) e ∙ turned_bytes v
+bytes_stay (big_in d) vr v e = refl
 
-pub others_turn : (syntax : Syntax) (vr : Vr) (v : List ℕ) → syntax ≢ Big → high syntax vr v ≡ turned (unit vr) v
-others_turn Implicit vr v n = refl
-others_turn Little vr v n = refl
-others_turn Big vr v n = absurd (n refl)
+pub others_turn : (syntax : Syntax) (vr : Vr) (v : List ℕ) → is_big syntax ≡ false → high syntax vr v ≡ turned (unit vr) v
+others_turn (implicit_in d) vr v n = refl
+others_turn (little_in d) vr v n = refl
+others_turn (big_in d) vr v n = absurd cc
 
 -- what stands there, by the units of the value
 pub shows_units : (syntax : Syntax) (vr : Vr) (v h before after : List ℕ) → h ≡ high syntax vr v → after ≡ before ++ separated (high_text (kind_of (shape vr))) (units (shown_unit vr) h) → after ≡ before ++ separated (one_text vr syntax) (units (shown_unit vr) v)
@@ -184,14 +187,14 @@ shown_some vr = go (kinds vr)
 
 -- units of what is ordered are units that are ordered
 ordered_ones : (syntax : Syntax) (vr : Vr) → IsOne vr → (v : List ℕ) → units (unit vr) (order syntax vr v) ≡ map (order syntax vr) (units (unit vr) v)
-ordered_ones Implicit vr o v = sym (map_same (units (unit vr) v))
-ordered_ones Little vr o v = sym (map_same (units (unit vr) v))
-ordered_ones Big vr o v = turns_units (unit vr) o.some v
+ordered_ones (implicit_in d) vr o v = sym (map_same (units (unit vr) v))
+ordered_ones (little_in d) vr o v = sym (map_same (units (unit vr) v))
+ordered_ones (big_in d) vr o v = turns_units (unit vr) o.some v
 
 ordered_tags : (syntax : Syntax) (v : List ℕ) → units 4 (order syntax AT v) ≡ map (order syntax AT) (units 4 v)
-ordered_tags Implicit v = sym (map_same (units 4 v))
-ordered_tags Little v = sym (map_same (units 4 v))
-ordered_tags Big v = turns_fours (length v) v (omega arith)
+ordered_tags (implicit_in d) v = sym (map_same (units 4 v))
+ordered_tags (little_in d) v = sym (map_same (units 4 v))
+ordered_tags (big_in d) v = turns_fours (length v) v (omega arith)
 
 pub ordered_units : (syntax : Syntax) (vr : Vr) (v : List ℕ) → units (shown_unit vr) (order syntax vr v) ≡ map (order syntax vr) (units (shown_unit vr) v)
 ordered_units syntax vr v = go (kinds vr)

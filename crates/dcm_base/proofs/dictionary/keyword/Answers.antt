@@ -1,9 +1,12 @@
 use Rattle.std.proofs.Common.{ap, ◌∙◌, sym}
 use Rattle.std.specs.Prelude.{option_map}
+use Rattle.dcm_base.specs.Dictionary.{element, element_in, elements_in}
+use Rattle.dcm_base.specs.declared.lookup.Dictionary.TheVariants.{Extract}
 use Rattle.dcm_base.proofs.Dictionaries.KeywordLengths.{keyword_fits}
 use Rattle.dcm_base.proofs.dictionary.keyword.Goals as goal
 
 pub returns-in-Some-clause-within : goal.returns-in-Some-clause-within
+unfolding element element_in elements_in
 returns-in-Some-clause-within c =
     let row = c.in-Some.row in
-    keyword_fits c.args.tag (row.0, row.1.now) (sym (ap (option_map (λ r. (r.0, r.1.now))) c.in-Some.is) ∙ c.element.ensures)
+    keyword_fits Extract c.args.tag (row.0, row.1.now) (sym (ap (option_map (λ r. (r.0, r.1.now))) c.in-Some.is) ∙ c.element.ensures)

@@ -12,19 +12,19 @@ is_small (Known n) h = omega (arith, h)
 is_small Undefined h = tt
 
 pub returns-clause-leaf : goal.returns-clause-leaf
-returns-clause-leaf c = λ level tag vr v is other plain bytes few units long. leaf_reads level tag vr v is other plain (bytes_of v bytes) few units long
+returns-clause-leaf c = λ d level tag vr v is other plain bytes few units long. leaf_reads d level tag vr v is other plain (bytes_of v bytes) few units long
 
 pub returns-clause-fragment : goal.returns-clause-fragment
-returns-clause-fragment c = λ level v bytes few long. fragment_reads level v (bytes_of v bytes) few long
+returns-clause-fragment c = λ d level v bytes few long. fragment_reads d level v (bytes_of v bytes) few long
 
 pub returns-clause-sequence : goal.returns-clause-sequence
-returns-clause-sequence c = λ level tag vr size has. sequence_reads level tag vr size (is_small size has)
+returns-clause-sequence c = λ d level tag vr size has. sequence_reads d level tag vr size (is_small size has)
 
 pub returns-clause-fragments : goal.returns-clause-fragments
 returns-clause-fragments c = fragments_read
 
 pub returns-clause-item : goal.returns-clause-item
-returns-clause-item c = λ level size has. item_reads level size (is_small size has)
+returns-clause-item c = λ d level size has. item_reads d level size (is_small size has)
 
 pub returns-clause-item_end : goal.returns-clause-item_end
 returns-clause-item_end c = item_end_reads

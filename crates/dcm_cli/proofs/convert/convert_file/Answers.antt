@@ -13,7 +13,7 @@ use Rattle.dcm_cli.proofs.convert.convert_file.Goals as goal
 
 pub returns-in-Err-clause-worked : goal.returns-in-Err-clause-worked
 returns-in-Err-clause-worked g c = λ file is.
-    not_opened c.args.target (convert c.args.target) refl (λ coding. refl) (file_encoder c.args.target) (λ coding m. refl) file (g.R.DeviceIn.remaining c.args.input.now) (g.R.DeviceIn.remaining c.open_file.new.input)
+    not_opened c.args.target (convert c.args.dictionary c.args.target) refl (λ coding. refl) (file_encoder c.args.dictionary c.args.target) (λ coding m. refl) file (g.R.DeviceIn.remaining c.args.input.now) (g.R.DeviceIn.remaining c.open_file.new.input)
     (g.W.DeviceOut.contents c.args.out.now) is (g.W.DeviceOut.contents c.open_file.new.out) c.in-Err.ending c.in-Err.ensures.opens
 
 pub returns-clause-worked : goal.returns-clause-worked
@@ -32,15 +32,15 @@ returns-clause-worked g c = λ file is.
     let passed = subst (λ known. Passed (encode_start c.target_syntax.result) known) (ap (λ (x : g.row.W.Denot). g.W.DeviceOut.contents x) c.new-sink.ensures.out)
     (subst (λ s. Passed s (g.W.DeviceOut.contents c.new-sink.result.out.now)) c.new-sink.ensures.state c.read_set.ensures.ends)
     in
-    let worked = opened_worked_same c.args.target (convert c.args.target) refl (λ coding. refl) (file_encoder c.args.target) (λ coding m. refl) file (g.R.DeviceIn.remaining c.args.input.now) left held is
+    let worked = opened_worked_same c.args.target (convert c.args.dictionary c.args.target) refl (λ coding. refl) (file_encoder c.args.dictionary c.args.target) (λ coding m. refl) file (g.R.DeviceIn.remaining c.args.input.now) left held is
     mid buffer opened c.in-Ok.ensures.opens refl after last holds c.read_set.result c.read_set.ensures.over (subst (λ t. Passed (encode_start t) mid) c.target_syntax.ensures passed)
     in
     let k = c.read_set.ensures.kept in
     let n = c.new-sink.ensures.same_reference in
-    subst (λ (known : Option (List ℕ)). Worked (convert c.args.target) file after held known c.read_set.result) (search (rules, k, n)) worked
+    subst (λ (known : Option (List ℕ)). Worked (convert c.args.dictionary c.args.target) file after held known c.read_set.result) (search (rules, k, n)) worked
 
 pub returns-in-Err-clause-stops : goal.returns-in-Err-clause-stops
-returns-in-Err-clause-stops g c = λ file is. head_stops (convert c.args.target) refl file (g.R.DeviceIn.remaining c.args.input.now) (g.R.DeviceIn.remaining c.open_file.new.input) is c.open_file.ensures.stops
+returns-in-Err-clause-stops g c = λ file is. head_stops (convert c.args.dictionary c.args.target) refl file (g.R.DeviceIn.remaining c.args.input.now) (g.R.DeviceIn.remaining c.open_file.new.input) is c.open_file.ensures.stops
 
 pub returns-clause-stops : goal.returns-clause-stops
 returns-clause-stops g c = λ file is.
@@ -51,5 +51,5 @@ returns-clause-stops g c = λ file is.
     let Stopped : EncodeState → Type 0 = λ s. BehindStops encode_bar encode_step (start_of opened.coding.syntax opened.start) s (spec.set_bytes opened.begun buffer) opened.begun.is_over left after in
     let stopped = subst (λ t. Stopped (encode_start t)) c.target_syntax.ensures (subst Stopped c.new-sink.ensures.state c.read_set.ensures.stops) in
     let opens = c.in-Ok.ensures.opens in
-    opened_stops c.args.target (convert c.args.target) refl (file_encoder c.args.target) file (g.R.DeviceIn.remaining c.args.input.now) left after (g.W.DeviceOut.contents c.args.out.now) (g.W.DeviceOut.contents c.open_file.new.out)
+    opened_stops c.args.target (convert c.args.dictionary c.args.target) refl (file_encoder c.args.dictionary c.args.target) file (g.R.DeviceIn.remaining c.args.input.now) left after (g.W.DeviceOut.contents c.args.out.now) (g.W.DeviceOut.contents c.open_file.new.out)
     buffer opened is opens opens.keeps c.open_file.ensures.stops stopped

@@ -16,7 +16,7 @@ use Rattle.dcm_cli.proofs.modify.modify_file.Goals as goal
 
 pub returns-in-Err-clause-worked : goal.returns-in-Err-clause-worked
 returns-in-Err-clause-worked g c = λ file is.
-    edits_not_opened c.args.edits.now c.requires.meant file (g.R.DeviceIn.remaining c.args.input.now) (g.R.DeviceIn.remaining c.open_file.new.input)
+    edits_not_opened c.args.dictionary c.args.edits.now c.requires.meant file (g.R.DeviceIn.remaining c.args.input.now) (g.R.DeviceIn.remaining c.open_file.new.input)
     (g.W.DeviceOut.contents c.args.out.now) is (g.W.DeviceOut.contents c.open_file.new.out) c.in-Err.ending c.in-Err.ensures.opens
 
 pub returns-clause-worked : goal.returns-clause-worked
@@ -36,15 +36,15 @@ returns-clause-worked g c = λ file is.
     let passed = subst (λ known. Passed (encode_start opened.coding.syntax) known) (ap (λ (x : g.row.W.Denot). g.W.DeviceOut.contents x) c.new-sink.ensures.out)
     (subst (λ s. Passed s (g.W.DeviceOut.contents c.new-sink.result.out.now)) c.new-sink.ensures.state pass.ends)
     in
-    let worked = subst (λ (ending : Ending). Worked (modify c.args.edits.now) file after held holds ending) (sym pass.ending_is)
-    (edits_worked c.args.edits.now c.requires.meant file (g.R.DeviceIn.remaining c.args.input.now) left held is mid buffer opened c.in-Ok.ensures.opens after pass.last last holds pass.passed pass.was passed)
+    let worked = subst (λ (ending : Ending). Worked (modify c.args.dictionary c.args.edits.now) file after held holds ending) (sym pass.ending_is)
+    (edits_worked c.args.dictionary c.args.edits.now c.requires.meant file (g.R.DeviceIn.remaining c.args.input.now) left held is mid buffer opened c.in-Ok.ensures.opens after pass.last last holds pass.passed pass.was passed)
     in
     let k = c.read_edited.ensures.kept in
     let n = c.new-sink.ensures.same_reference in
-    subst (λ (known : Option (List ℕ)). Worked (modify c.args.edits.now) file after held known c.read_edited.result) (search (rules, k, n)) worked
+    subst (λ (known : Option (List ℕ)). Worked (modify c.args.dictionary c.args.edits.now) file after held known c.read_edited.result) (search (rules, k, n)) worked
 
 pub returns-in-Err-clause-stops : goal.returns-in-Err-clause-stops
-returns-in-Err-clause-stops g c = λ file is. head_stops (modify c.args.edits.now) refl file (g.R.DeviceIn.remaining c.args.input.now) (g.R.DeviceIn.remaining c.open_file.new.input) is c.open_file.ensures.stops
+returns-in-Err-clause-stops g c = λ file is. head_stops (modify c.args.dictionary c.args.edits.now) refl file (g.R.DeviceIn.remaining c.args.input.now) (g.R.DeviceIn.remaining c.open_file.new.input) is c.open_file.ensures.stops
 
 pub returns-clause-stops : goal.returns-clause-stops
 returns-clause-stops g c = λ file is.
@@ -53,5 +53,5 @@ returns-clause-stops g c = λ file is.
     let left = g.R.DeviceIn.remaining c.open_file.new.input in
     let after = g.R.DeviceIn.remaining c.read_edited.new.input in
     let stopped = subst (λ (s : EncodeState). BehindStops through_bar (through_step encode_step) (start_of opened.coding.syntax opened.start) (begun c.args.edits.now, s) (spec.set_bytes opened.begun buffer) opened.begun.is_over left after) c.new-sink.ensures.state c.read_edited.ensures.stops in
-    opened_stops None (modify c.args.edits.now) refl (file_editor c.args.edits.now c.requires.meant) file (g.R.DeviceIn.remaining c.args.input.now) left after (g.W.DeviceOut.contents c.args.out.now) (g.W.DeviceOut.contents c.open_file.new.out)
+    opened_stops None (modify c.args.dictionary c.args.edits.now) refl (file_editor c.args.dictionary c.args.edits.now c.requires.meant) file (g.R.DeviceIn.remaining c.args.input.now) left after (g.W.DeviceOut.contents c.args.out.now) (g.W.DeviceOut.contents c.open_file.new.out)
     buffer opened is c.in-Ok.ensures.opens refl c.open_file.ensures.stops stopped

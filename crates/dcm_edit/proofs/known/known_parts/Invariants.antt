@@ -7,7 +7,7 @@ use Rattle.dcm_edit.proofs.known.known_parts.Given as goal
 -- the known parts so far, and those of the rest
 abbrev pub invariant-loop-rest : goal.invariant-loop-rest
 invariant-loop-rest l = record {
-  same : words.known_parts (map part_as l.parts) ≡ after_known (map known_as l.known.items) (words.known_parts (map part_as l.rest));
+  same : words.known_parts l.dictionary (map part_as l.parts) ≡ after_known (map known_as l.known.items) (words.known_parts l.dictionary (map part_as l.rest));
   counted : length l.known.items + length l.rest ≡ length l.parts;
 }
 

@@ -3,7 +3,7 @@ use Rattle.std.proofs.lemmas.List.{append-nil}
 use Rattle.dcm_base.specs.declared.tag.Tag.{Tag}
 use Rattle.dcm_base.specs.Atoms.{Atom, trees_then}
 use Rattle.dcm_base.specs.Tree.{no_tree}
-use Rattle.dcm_base.specs.declared.syntax.Syntax.TheVariants.{Little}
+use Rattle.dcm_base.specs.Syntax.{Little}
 use Rattle.dcm_edit.specs.Asking.{new_tag}
 use Rattle.dcm_edit.specs.Masks.{asked}
 use Rattle.dcm_edit.specs.Meaning.{edit_of}

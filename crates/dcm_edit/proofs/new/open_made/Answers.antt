@@ -1,7 +1,7 @@
 use Rattle.std.proofs.Common.{List, [], ◌∷◌}
 use Rattle.dcm_base.specs.Atoms.{Atom, opens, opens_item}
 use Rattle.dcm_base.specs.declared.length.Length.TheVariants.{Undefined}
-use Rattle.dcm_base.specs.declared.syntax.Syntax.TheVariants.{Little}
+use Rattle.dcm_base.specs.Syntax.{Little}
 use Rattle.dcm_base.specs.declared.vr.Vr.TheVariants.{SQ}
 use Rattle.dcm_edit.proofs.EditSinks.Taken.{token_taken, then_taken, failed_taken}
 use Rattle.dcm_edit.proofs.new.open_made.Goals as goal

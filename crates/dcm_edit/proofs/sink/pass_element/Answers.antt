@@ -1,6 +1,6 @@
 use Rattle.std.proofs.Common.{List, [], Some, subst}
 use Rattle.dcm_base.specs.Atoms.{Atom, opens, trees_then}
-use Rattle.dcm_base.specs.declared.syntax.Syntax.TheVariants.{Little}
+use Rattle.dcm_base.specs.Syntax.{Little}
 use Rattle.dcm_stream.specs.Sinks.{Takes}
 use Rattle.dcm_edit.specs.EditSink.{head_by}
 use Rattle.dcm_edit.specs.Edit.{Fate}

@@ -1,6 +1,6 @@
 use Rattle.std.proofs.Common.{List, [], None, subst}
 use Rattle.dcm_base.specs.Atoms.{Atom, trees_then}
-use Rattle.dcm_base.specs.declared.syntax.Syntax.TheVariants.{Little}
+use Rattle.dcm_base.specs.Syntax.{Little}
 use Rattle.dcm_stream.specs.Sinks.{Takes}
 use Rattle.dcm_stream.specs.Tokens.{atoms_of}
 use Rattle.dcm_edit.specs.Editing as editing

@@ -1,6 +1,6 @@
 use Rattle.std.proofs.Common.{◌∙◌, List, ℕ, ap}
 use Rattle.dcm_base.specs.declared.vr.Vr.TheVariants.{UL}
-use Rattle.dcm_base.specs.declared.syntax.Syntax.TheVariants.{Little}
+use Rattle.dcm_base.specs.Syntax.{Little}
 use Rattle.dcm_base.specs.Recode.{recoded_leaf}
 use Rattle.dcm_base.specs.NewMeta.{new_elements, group_length}
 use Rattle.dcm_head.proofs.MetaGroups.Rewritten.{meta_puts, meta_failed}

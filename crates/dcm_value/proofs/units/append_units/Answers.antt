@@ -1,21 +1,21 @@
-use Rattle.std.proofs.Common.{rules, sym, ◌∙◌, ◌≡◌, ◌≢◌, ◌++◌}
+use Rattle.std.proofs.Common.{rules, sym, ◌∙◌, ◌≡◌, false, ◌++◌}
 use Rattle.dcm_base.specs.Value.{turned, units}
 use Rattle.dcm_base.specs.ValueText.{shape, shown_unit}
 use Rattle.dcm_base.specs.Representation.{unit}
-use Rattle.dcm_base.specs.declared.syntax.Syntax.TheVariants.{Big}
+use Rattle.dcm_base.specs.Syntax.{is_big}
 use Rattle.dcm_value.specs.Units.{kind_of, high_text, high, separated}
 use Rattle.dcm_value.proofs.UnitOrder.HighestFirst.{big_stays, bytes_stay, others_turn, shows_units}
 use Rattle.dcm_value.proofs.units.append_units.Goals as goal
-use Rattle.dcm_value.proofs.units.append_units.Goals.{then-eq-via-then-eq, then-eq-via-else-eq+then-unit-eq1}
+use Rattle.dcm_value.proofs.units.append_units.Goals.{then-is_big-via-then-is_big, then-is_big-via-else-is_big+then-unit-eq1}
 
-pub returns-then-eq-clause-text : goal.returns-then-eq-clause-text
-returns-then-eq-clause-text g c =
+pub returns-then-is_big-clause-text : goal.returns-then-is_big-clause-text
+returns-then-is_big-clause-text g c =
     let v = c.args.units.now in
     let shown : c.append_high.new.text.items ≡ c.args.text.now.items ++ separated (high_text (kind_of (shape c.args.vr))) (units (shown_unit c.args.vr) v) = search rules in
     let stays : high c.args.syntax c.args.vr v ≡ v =
-    elim c.then-eq.branch [
-      | then-eq-via-then-eq w ↦ big_stays c.args.syntax c.args.vr v (search rules)
-      | then-eq-via-else-eq+then-unit-eq1 w ↦ bytes_stay c.args.syntax c.args.vr v (search rules)
+    elim c.then-is_big.branch [
+      | then-is_big-via-then-is_big w ↦ big_stays c.args.syntax c.args.vr v (search rules)
+      | then-is_big-via-else-is_big+then-unit-eq1 w ↦ bytes_stay c.args.syntax c.args.vr v (search rules)
     ]
     in
     shows_units c.args.syntax c.args.vr v v _ _ (sym stays) shown
@@ -25,6 +25,6 @@ returns-clause-text g c =
     let v = c.args.units.now in
     let h = c.swap.new.bytes in
     let shown : c.append_high-2.new.text.items ≡ c.args.text.now.items ++ separated (high_text (kind_of (shape c.args.vr))) (units (shown_unit c.args.vr) h) = search rules in
-    let not_big : c.args.syntax ≢ Big = search rules in
+    let not_big : is_big c.args.syntax ≡ false = search rules in
     let turns : h ≡ turned (unit c.args.vr) v = search rules in
     shows_units c.args.syntax c.args.vr v h _ _ (turns ∙ sym (others_turn c.args.syntax c.args.vr v not_big)) shown

@@ -1,6 +1,7 @@
 use Rattle.std.proofs.Common.{sym, subst, List, [], ℕ, Bor}
+use Rattle.dcm_words.specs.Words.{modify_plan_in}
 use Rattle.dcm_words.specs.Plans.{GivesUnlessMemory}
-use Rattle.dcm_words.proofs.ModifyWords.{few_words, two_paths, no_input, no_output}
+use Rattle.dcm_words.proofs.ModifyWords.{between, few_words, two_paths, no_input, no_output}
 use Rattle.dcm_words.proofs.words.plan_modify.Goals as goal
 use Rattle.dcm_words.proofs.words.plan_modify.Goals.{then-not-is_path-via-then-not-is_path, then-not-is_path-via-else-not-is_path+then-not-is_path-2}
 
@@ -19,7 +20,9 @@ returns-then-not-is_path g c =
 
 pub returns : goal.returns
 returns g c =
+    let words = between c.args.words.now no_word c.in-len2-up.len_at_least in
+    let meant = subst (λ d. GivesUnlessMemory c.plan_edits.result (modify_plan_in d words)) c.dictionary_said.ensures c.plan_edits.ensures in
     subst
     (λ m. GivesUnlessMemory c.plan_edits.result m)
     (sym (two_paths c.args.words.now no_word c.in-len2-up.len_at_least c.if-not-is_path.ensures c.if-not-is_path-2.ensures))
-    c.plan_edits.ensures
+    meant

@@ -4,13 +4,18 @@ use Rattle.dcm_words.specs.declared.words.Said.{Said}
 use Rattle.dcm_words.specs.Plans.{reader, PathsAre, said_with_paths}
 use Rattle.dcm_words.proofs.WordLemmas.{placed, turn, limit_turn}
 use Rattle.dcm_words.proofs.words.said_by.Goals as goal
-use Rattle.dcm_words.proofs.words.said_by.Goals.{in-Show, in-WholeFile, in-DataSet, in-Bare, in-Target, in-Limit+in_ok-said-in-Limit, in-Accepted, in-Path}
+use Rattle.dcm_words.proofs.words.said_by.Goals.{in-Read, in-Show, in-WholeFile, in-DataSet, in-Bare, in-Target, in-Limit+in_ok-said-in-Limit, in-Accepted, in-Path}
 
 pub loop-i-preserved : goal.loop-i-preserved
 loop-i-preserved c =
     let read = c.loop-i.invariant.read in
     let word : List ℕ = (get_or c.args.words.now c.loop-i.i (record { ref_ptr = (0, 0); now = [] })).now in
     elim c.match-word_of.branch [
+      | in-Read w ↦ record {
+        read = read;
+        paths = subst (λ (s : Said). PathsAre s.paths read) (sym w.said-is) c.loop-i.invariant.paths;
+        the_rest = placed _ _ _ _ _ w.i-is (turn (reader c.args.tool) c.loop-i.i c.args.words.now _ _ _ _ c.loop-i-test.true w.in-Read.ensures refl (ap (λ (s : Said). said_with_paths s read) (sym w.said-is)) c.loop-i.invariant.the_rest);
+      }
       | in-Show w ↦ record {
         read = read;
         paths = subst (λ (s : Said). PathsAre s.paths read) (sym w.said-is) c.loop-i.invariant.paths;

@@ -10,12 +10,12 @@ use Rattle.dcm_tools.proofs.dump.header.put_element.Goals as goal
 pub returns-clause-bytes : goal.returns-clause-bytes
 returns-clause-bytes g c = λ is.
     let element = c.args.element in
-    let line : List ℕ = leaf_line c.args.mode 0 element.tag element.vr element.value.now in
+    let line : List ℕ = leaf_line c.args.dictionary c.args.mode 0 element.tag element.vr element.value.now in
     let last : Option (List ℕ) = g.W.DeviceOut.contents c.take_all.new.sink.out.now in
-    let begun = ap (λ (x : g.row.W.Denot). g.W.DeviceOut.contents x) c.new-sink.ensures.out in
-    let went = line_put c.args.mode element.tag element.vr element.value.now (state c.new-sink.result.lines) (state c.take_all.new.sink.lines) (g.W.DeviceOut.contents c.new-sink.result.out.now) last
-    (flat_map atoms_of c.as_slice.result.now) c.take_all.result is c.new-sink.ensures.state (ap (flat_map atoms_of) c.as_slice.ensures.value ∙ c.leaf-tokens.ensures.atoms) c.take_all.ensures.takes in
+    let begun = ap (λ (x : g.row.W.Denot). g.W.DeviceOut.contents x) c.by-sink.ensures.out in
+    let went = line_put c.args.dictionary c.args.mode element.tag element.vr element.value.now (state c.by-sink.result.lines) (state c.take_all.new.sink.lines) (g.W.DeviceOut.contents c.by-sink.result.out.now) last
+    (flat_map atoms_of c.as_slice.result.now) c.take_all.result is c.by-sink.ensures.state (ap (flat_map atoms_of) c.as_slice.ensures.value ∙ c.leaf-tokens.ensures.atoms) c.take_all.ensures.takes in
     let k = c.take_all.ensures.kept in
-    let n = c.new-sink.ensures.same_reference in
+    let n = c.by-sink.ensures.same_reference in
     subst (λ (holds : Option (List ℕ)). Puts (g.W.DeviceOut.contents c.args.out.now) holds line c.take_all.result) (search (rules, k, n))
     (subst (λ (held : Option (List ℕ)). Puts held last line c.take_all.result) begun went)

@@ -7,7 +7,7 @@ use Rattle.dcm_tools.proofs.dump.header.put_elements.Goals as goal
 pub elements-init : goal.elements-init
 elements-init g c = record {
   within = c.requires;
-  gone = λ all s m. (left_all c.args.mode c.args.group.now all s m, sym (append_known_none _));
+  gone = λ all s m. (left_all c.args.dictionary c.args.mode c.args.group.now all s m, sym (append_known_none _));
   failed = refl;
 }
 
@@ -15,8 +15,8 @@ pub returns-in_err-put_element-clause-bytes : goal.returns-in_err-put_element-cl
 returns-in_err-put_element-clause-bytes g c = λ all s m.
     let l = c.elements.invariant.gone all s m in
     let first = c.in-Some.ensures.some in
-    failed_at c.args.mode _ _ _ c.elements.rest.now all _ _ _ _ c.from_residual.result l.0 first l.1
-    (c.in_err-put_element.ensures.bytes (first_form c.args.mode c.elements.rest.now all _ _ _ _ l.0 first)) c.from_residual.ensures.0
+    failed_at c.args.dictionary c.args.mode _ _ _ c.elements.rest.now all _ _ _ _ c.from_residual.result l.0 first l.1
+    (c.in_err-put_element.ensures.bytes (first_form c.args.dictionary c.args.mode c.elements.rest.now all _ _ _ _ l.0 first)) c.from_residual.ensures.0
 
 pub elements-preserved : goal.elements-preserved
 elements-preserved g c =
@@ -26,8 +26,8 @@ elements-preserved g c =
       within = omega arith;
       gone = λ all s m.
           let l = c.elements.invariant.gone all s m in (
-            left_more c.args.mode c.elements.rest.now all _ _ _ _ l.0 first,
-            gone_more _ _ _ l.0.gone _ l.1 (c.in_ok-put_element.ensures.bytes (first_form c.args.mode c.elements.rest.now all _ _ _ _ l.0 first)),
+            left_more c.args.dictionary c.args.mode c.elements.rest.now all _ _ _ _ l.0 first,
+            gone_more _ _ _ l.0.gone _ l.1 (c.in_ok-put_element.ensures.bytes (first_form c.args.dictionary c.args.mode c.elements.rest.now all _ _ _ _ l.0 first)),
           );
       failed = c.in_ok-put_element.ensures.failed ∙ c.elements.invariant.failed;
     }
@@ -35,4 +35,4 @@ elements-preserved g c =
 pub returns-clause-bytes : goal.returns-clause-bytes
 returns-clause-bytes g c = λ all s m.
     let l = c.elements.invariant.gone all s m in
-    l.1 ∙ ap (append_known _) (left_none c.args.mode c.elements.rest.now all l.0 c.in_default.ensures.none)
+    l.1 ∙ ap (append_known _) (left_none c.args.dictionary c.args.mode c.elements.rest.now all l.0 c.in_default.ensures.none)

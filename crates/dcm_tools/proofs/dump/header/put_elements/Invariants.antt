@@ -9,7 +9,7 @@ use Rattle.dcm_tools.proofs.dump.header.put_elements.Given as goal
 abbrev pub invariant-elements : goal.invariant-elements
 invariant-elements g l = record {
   within : length l.rest ≤ 16384;
-  gone : OfElements l.fn.group (λ (all : Trees). (left : Left l.mode l.rest all) × (g.W.DeviceOut.contents l.out ≡ append_known (g.W.DeviceOut.contents l.fn.out) left.gone));
+  gone : OfElements l.fn.group (λ (all : Trees). (left : Left l.dictionary l.mode l.rest all) × (g.W.DeviceOut.contents l.out ≡ append_known (g.W.DeviceOut.contents l.fn.out) left.gone));
   failed : g.W.Device.has_failed l.out ≡ g.W.Device.has_failed l.fn.out;
 }
 

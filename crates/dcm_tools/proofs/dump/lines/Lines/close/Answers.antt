@@ -18,7 +18,7 @@ returns-in_err-counted-clause-bytes g c =
     let is = is_open s.owner v.owner p v.ensures.value in
     let same = is_begun s.owner v.owner (p.display.mode ≡ s.mode) v.ensures.value s.same in
     part_failed _ _ (progress.closing_writes p) _ _ _ c.from_residual.result c.from_residual.ensures.0 refl
-    (closes_in_parts s.mode level (value_of s.owner p) v.owner p same is)
+    (closes_in_parts s.dictionary s.mode level (value_of s.owner p) v.owner p same is)
     c.in_err-counted.ensures.bytes
 
 pub returns-clause-bytes : goal.returns-clause-bytes
@@ -35,9 +35,9 @@ returns-clause-bytes g c =
     ∙ ap (λ xs. xs ++ progress.end_writes p) (c.begin_late.ensures.items ∙ ap (λ n. spec.late_start s.mode (spec.owner_start n v.owner)) c.depth.ensures.depth)
     in
     let rest =
-    rest_same c.tag.result (spec.owner_tag v.owner) _ _ _ _ c.tag.ensures c.size.ensures (c.count-count.ensures ∙ ap (spec.count_of v.owner) c.in_ok-counted.ensures.count)
+    rest_same s.dictionary c.tag.result (spec.owner_tag v.owner) _ _ _ _ c.tag.ensures c.size.ensures (c.count-count.ensures ∙ ap (spec.count_of v.owner) c.in_ok-counted.ensures.count)
     in
-    parts_put _ _ _ (progress.closing_writes p) _ ((start ++ progress.end_writes p) ++ spec.owner_rest v.owner p) _ _ c.put_rest.result refl
-    (ap (λ xs. xs ++ line_rest c.tag.result (Known c.size.result) c.count-count.result) shown ∙ ap (λ xs. (start ++ progress.end_writes p) ++ xs) rest)
-    (closes_in_parts s.mode level (value_of s.owner p) v.owner p same is)
+    parts_put _ _ _ (progress.closing_writes p) _ ((start ++ progress.end_writes p) ++ spec.owner_rest s.dictionary v.owner p) _ _ c.put_rest.result refl
+    (ap (λ xs. xs ++ line_rest s.dictionary c.tag.result (Known c.size.result) c.count-count.result) shown ∙ ap (λ xs. (start ++ progress.end_writes p) ++ xs) rest)
+    (closes_in_parts s.dictionary s.mode level (value_of s.owner p) v.owner p same is)
     c.in_ok-counted.ensures.bytes c.put_rest.ensures.bytes

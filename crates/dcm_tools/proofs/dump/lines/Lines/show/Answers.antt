@@ -20,17 +20,17 @@ pub returns-in_default-clause-state : goal.returns-in_default-clause-state
 returns-in_default-clause-state g c =
     let s = c.args.self.now in
     let none = is_none s.owner c.take.result (text_progress s.text) c.in_default.is c.take.ensures.value in
-    let now : state s ≡ between s.mode s.lengths = same_state s.mode s.lengths _ _ _ _ none c.requires in
-    same_state s.mode s.lengths (value_of c.take.new.self (text_progress s.text)) spec.no_value s.is_lost false (ap (λ o. value_of o (text_progress s.text)) c.take.ensures.after) c.requires
-    ∙ sym (ap (λ t. fold spec.dump_step t (map value_byte c.args.bytes.now)) now ∙ stays_between s.mode s.lengths c.args.bytes.now)
+    let now : state s ≡ between s.dictionary s.mode s.lengths = same_state s.dictionary s.mode s.lengths _ _ _ _ none c.requires in
+    same_state s.dictionary s.mode s.lengths (value_of c.take.new.self (text_progress s.text)) spec.no_value s.is_lost false (ap (λ o. value_of o (text_progress s.text)) c.take.ensures.after) c.requires
+    ∙ sym (ap (λ t. fold spec.dump_step t (map value_byte c.args.bytes.now)) now ∙ stays_between s.dictionary s.mode s.lengths c.args.bytes.now)
 
 pub returns-in_default-clause-bytes : goal.returns-in_default-clause-bytes
 returns-in_default-clause-bytes g c =
     let s = c.args.self.now in
     let none = is_none s.owner c.take.result (text_progress s.text) c.in_default.is c.take.ensures.value in
-    let now : state s ≡ between s.mode s.lengths = same_state s.mode s.lengths _ _ _ _ none c.requires in
+    let now : state s ≡ between s.dictionary s.mode s.lengths = same_state s.dictionary s.mode s.lengths _ _ _ _ none c.requires in
     sym (append_known_none (g.W.DeviceOut.contents c.args.out.now))
-    ∙ ap (append_known (g.W.DeviceOut.contents c.args.out.now)) (sym (ap (λ t. outputs spec.dump_step spec.dump_writes t (map value_byte c.args.bytes.now)) now ∙ silent_between s.mode s.lengths c.args.bytes.now))
+    ∙ ap (append_known (g.W.DeviceOut.contents c.args.out.now)) (sym (ap (λ t. outputs spec.dump_step spec.dump_writes t (map value_byte c.args.bytes.now)) now ∙ silent_between s.dictionary s.mode s.lengths c.args.bytes.now))
 
 pub returns-in_err-feed-clause-bytes : goal.returns-in_err-feed-clause-bytes
 returns-in_err-feed-clause-bytes g c =
@@ -38,11 +38,11 @@ returns-in_err-feed-clause-bytes g c =
     let v = c.in-Some.owner in
     let begun = is_begun s.owner v (progress.is_unopened (text_progress s.text) ≡ false) c.in-Some.ensures.value s.begun in
     let settled = sym (settled_of s.text.shown.mode s.text.shown.count s.text.shown.front.items s.text.shown.capped s.text.shown.filled) in
-    let now : state s ≡ within s.mode s.lengths v (text_progress s.text) =
-    same_state s.mode s.lengths _ _ _ _ (is_open s.owner v (text_progress s.text) c.in-Some.ensures.value) c.requires
+    let now : state s ≡ within s.dictionary s.mode s.lengths v (text_progress s.text) =
+    same_state s.dictionary s.mode s.lengths _ _ _ _ (is_open s.owner v (text_progress s.text) c.in-Some.ensures.value) c.requires
     in
     let wrote =
-    shows_bytes s.mode s.lengths v (text_progress s.text) c.min.result c.missing.result c.args.bytes.now _ _
+    shows_bytes s.dictionary s.mode s.lengths v (text_progress s.text) c.min.result c.missing.result c.args.bytes.now _ _
     c.min.ensures c.missing.ensures c.split_at.ensures.front c.split_at.ensures.back begun settled (state s) now
     in
     puts_err _ _ _ c.from_residual.result c.from_residual.ensures.0
@@ -72,14 +72,14 @@ returns-clause-state g c =
     let v = c.in-Some.owner in
     let begun = is_begun s.owner v (progress.is_unopened (text_progress s.text) ≡ false) c.in-Some.ensures.value s.begun in
     let settled = sym (settled_of s.text.shown.mode s.text.shown.count s.text.shown.front.items s.text.shown.capped s.text.shown.filled) in
-    let now : state s ≡ within s.mode s.lengths v (text_progress s.text) =
-    same_state s.mode s.lengths _ _ _ _ (is_open s.owner v (text_progress s.text) c.in-Some.ensures.value) c.requires
+    let now : state s ≡ within s.dictionary s.mode s.lengths v (text_progress s.text) =
+    same_state s.dictionary s.mode s.lengths _ _ _ _ (is_open s.owner v (text_progress s.text) c.in-Some.ensures.value) c.requires
     in
     let took =
-    takes_bytes s.mode s.lengths v (text_progress s.text) c.min.result c.missing.result c.args.bytes.now _ _
+    takes_bytes s.dictionary s.mode s.lengths v (text_progress s.text) c.min.result c.missing.result c.args.bytes.now _ _
     c.min.ensures c.missing.ensures c.split_at.ensures.front c.split_at.ensures.back begun settled (state s) now
     in
-    same_state s.mode s.lengths _ _ _ _
+    same_state s.dictionary s.mode s.lengths _ _ _ _
     (ap (spec.open_value v) c.in_ok-feed.ensures.state)
     (not_empty c.split_at.result.1.now c.is_empty.result c.is_empty.ensures)
     ∙ sym took
@@ -90,11 +90,11 @@ returns-clause-bytes g c =
     let v = c.in-Some.owner in
     let begun = is_begun s.owner v (progress.is_unopened (text_progress s.text) ≡ false) c.in-Some.ensures.value s.begun in
     let settled = sym (settled_of s.text.shown.mode s.text.shown.count s.text.shown.front.items s.text.shown.capped s.text.shown.filled) in
-    let now : state s ≡ within s.mode s.lengths v (text_progress s.text) =
-    same_state s.mode s.lengths _ _ _ _ (is_open s.owner v (text_progress s.text) c.in-Some.ensures.value) c.requires
+    let now : state s ≡ within s.dictionary s.mode s.lengths v (text_progress s.text) =
+    same_state s.dictionary s.mode s.lengths _ _ _ _ (is_open s.owner v (text_progress s.text) c.in-Some.ensures.value) c.requires
     in
     let wrote =
-    shows_bytes s.mode s.lengths v (text_progress s.text) c.min.result c.missing.result c.args.bytes.now _ _
+    shows_bytes s.dictionary s.mode s.lengths v (text_progress s.text) c.min.result c.missing.result c.args.bytes.now _ _
     c.min.ensures c.missing.ensures c.split_at.ensures.front c.split_at.ensures.back begun settled (state s) now
     in
     c.in_ok-feed.ensures.bytes ∙ ap (append_known (g.W.DeviceOut.contents c.args.out.now)) (sym wrote)

@@ -3,8 +3,8 @@ use Rattle.dcm_edit.specs.Making.{texts}
 use Rattle.dcm_edit.specs.Meaning.{edit_of}
 use Rattle.dcm_edit.specs.Overlap.{first_overlap}
 use Rattle.dcm_edit.proofs.Words.ManyEdits.{are_meant}
-use Rattle.dcm_edit.proofs.edits.Edits.parse.Goals as goal
+use Rattle.dcm_edit.proofs.edits.Edits.parse_in.Goals as goal
 
 pub invariant_of-result : goal.invariant_of-result
 invariant_of-result g c =
-    are_meant (texts c.args.words.now) (map edit_of c.in_ok-list.list.items) c.in_ok-list.ensures (c.in-None.ensures ∙ ap (λ l. first_overlap 1 [] (map edit_of l)) c.as_slice.ensures.value)
+    are_meant c.args.dictionary (texts c.args.words.now) (map edit_of c.in_ok-list.list.items) c.in_ok-list.ensures (c.in-None.ensures ∙ ap (λ l. first_overlap 1 [] (map edit_of l)) c.as_slice.ensures.value)
