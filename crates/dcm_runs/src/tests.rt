@@ -2,6 +2,7 @@ mod buildings;
 mod command_lines;
 mod conversions;
 mod cuts;
+mod dictionaries;
 mod failing;
 mod long_lines;
 mod modifications;
@@ -16,6 +17,7 @@ use conversions::conversions;
 use dcm_base::{MemIn, MemOut, Std, Watched};
 use dcm_cli::run::run;
 use dcm_cli::{plan, tell};
+use dictionaries::dictionaries;
 use modifications::modifications;
 use rows::{Row, bytes_of, front_of};
 use std::io;
@@ -165,6 +167,14 @@ fn builds(rt: HostRuntime) -> Result<(), Fail> {
 #[test]
 fn modifies(rt: HostRuntime) -> Result<(), Fail> {
     for row in modifications() {
+        expect_answers(rt, &rt, row)?;
+    }
+    Ok(())
+}
+
+#[test]
+fn reads_by_dictionaries(rt: HostRuntime) -> Result<(), Fail> {
+    for row in dictionaries() {
         expect_answers(rt, &rt, row)?;
     }
     Ok(())

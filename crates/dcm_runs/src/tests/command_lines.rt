@@ -3,7 +3,7 @@ use super::over_memory;
 use std::test::Fail;
 
 /// Words, and the line that is told of them.
-const REFUSED: [(&str, &[u8]); 18] = [
+const REFUSED: [(&str, &[u8]); 22] = [
     ("dcmcopy a b", b"dcmtools: V1 at word 1: unknown tool\n"),
     ("dcmdump +ti a", b"dcmtools: V2 at word 2: unknown option\n"),
     ("dcmdump a b", b"dcmtools: V4: wrong number of paths\n"),
@@ -55,6 +55,19 @@ const REFUSED: [(&str, &[u8]); 18] = [
         "dump2dcm +l 080 a a",
         b"dcmtools: V6: input and output are the same path\n",
     ),
+    (
+        "dump2dcm +dict a b",
+        b"dcmtools: V2 at word 2: unknown option\n",
+    ),
+    (
+        "dump2dcm a b -dict",
+        b"dcmtools: V2 at word 4: unknown option\n",
+    ),
+    ("dcmdump +dict", b"dcmtools: V4: wrong number of paths\n"),
+    (
+        "dcmconv a +dict a",
+        b"dcmtools: V6: input and output are the same path\n",
+    ),
 ];
 
 #[test]
@@ -69,7 +82,7 @@ fn refuses_words(rt: HostRuntime) -> Result<(), Fail> {
 }
 
 /// Words of dcmodify, and the line that is told of them.
-const REFUSED_EDITS: [(&str, &[u8]); 26] = [
+const REFUSED_EDITS: [(&str, &[u8]); 34] = [
     ("dcmodify", b"dcmtools: V4: wrong number of paths\n"),
     ("dcmodify a", b"dcmtools: V4: wrong number of paths\n"),
     ("dcmodify -ep a", b"dcmtools: V4: wrong number of paths\n"),
@@ -164,6 +177,38 @@ const REFUSED_EDITS: [(&str, &[u8]); 26] = [
     (
         "dcmodify -ep -ep -ep -ep -ep -ep -ep -ep -ep -ep -ep -ep -ep -ep -ep -ep -ep -ep -ep -ep -ep -ep -ep -ep -ep -ep -ep -ep -ep -ep -ep -ep -ep -ep -ep -ep -ep -ep -ep -ep -ep -ep -ep -ep -ep -ep -ep -ep -ep -ep -ep -ep -ep -ep -ep -ep -ep -ep -ep -ep -ep -ep -ep -ep -ep a b",
         b"dcmtools: U7 in edit 65: too many edits\n",
+    ),
+    (
+        "dcmodify +dict -ep -ep -ep -ep -ep -ep -ep -ep -ep -ep -ep -ep -ep -ep -ep -ep -ep -ep -ep -ep -ep -ep -ep -ep -ep -ep -ep -ep -ep -ep -ep -ep -dict -ep -ep -ep -ep -ep -ep -ep -ep -ep -ep -ep -ep -ep -ep -ep -ep -ep -ep -ep -ep -ep -ep -ep -ep -ep -ep -ep -ep -ep -ep -ep -ep -ep a b",
+        b"dcmtools: U7 in edit 65: too many edits\n",
+    ),
+    (
+        "dcmodify -m XRayTubeCurrent=1 a b",
+        b"dcmtools: U2 in edit 1: unknown tag\n",
+    ),
+    (
+        "dcmodify +dict -m XRayTubeCurrent=1 -dict a b",
+        b"dcmtools: U2 in edit 1: unknown tag\n",
+    ),
+    (
+        "dcmodify +dict -ep +dict -e PixelPaddingValue a b",
+        b"dcmtools: U2 in edit 2: unknown tag\n",
+    ),
+    (
+        "dcmodify -e +dict a b",
+        b"dcmtools: U2 in edit 1: unknown tag\n",
+    ),
+    (
+        "dcmodify -e XRayTubeCurrent[0] +dict a b",
+        b"dcmtools: U4 in edit 1: sequence misused\n",
+    ),
+    (
+        "dcmodify a b +dict",
+        b"dcmtools: V4: wrong number of paths\n",
+    ),
+    (
+        "dcmodify +dict a a",
+        b"dcmtools: V6: input and output are the same path\n",
     ),
 ];
 

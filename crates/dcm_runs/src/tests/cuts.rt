@@ -1,6 +1,7 @@
 // Inputs that are cut at each byte.
 use super::buildings::buildings;
 use super::conversions::conversions;
+use super::dictionaries::dictionaries;
 use super::modifications::modifications;
 use super::rows::{Row, Start, bytes_of, dumps, front_of};
 use super::{Answer, joined, over_memory};
@@ -85,6 +86,14 @@ fn conversions_of_cut_files(rt: HostRuntime) -> Result<(), Fail> {
 #[test]
 fn edits_of_cut_files(rt: HostRuntime) -> Result<(), Fail> {
     for row in modifications() {
+        cut_everywhere(rt, &rt, row)?;
+    }
+    Ok(())
+}
+
+#[test]
+fn dictionaries_of_cut_files(rt: HostRuntime) -> Result<(), Fail> {
+    for row in dictionaries() {
         cut_everywhere(rt, &rt, row)?;
     }
     Ok(())

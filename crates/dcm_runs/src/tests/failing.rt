@@ -2,6 +2,7 @@
 mod buildings;
 mod conversions;
 mod devices;
+mod dictionaries;
 mod dumps;
 mod modifications;
 

@@ -162,6 +162,23 @@ fn output_of(
     Ok(answer.output)
 }
 
+/// The words of a full dump, and of a conversion to the file's own transfer syntax.
+#[derive(Clone, Copy)]
+struct Words {
+    dump: &'static str,
+    convert: &'static str,
+}
+
+const BY_EXTRACT: Words = Words {
+    dump: "dcmdump +L -",
+    convert: "dcmconv - -",
+};
+
+const BY_STANDARD: Words = Words {
+    dump: "dcmdump +L +dict -",
+    convert: "dcmconv +dict - -",
+};
+
 /// A file, what its dump builds, and what a conversion to its own transfer syntax writes.
 fn expect_rebuilt(
     rt: HostRuntime,
@@ -171,9 +188,22 @@ fn expect_rebuilt(
     built: &[u8],
     converted: &[u8],
 ) -> Result<(), Fail> {
+    expect_rebuilt_by(rt, abort, BY_EXTRACT, name, file, built, converted)
+}
+
+/// The same by a dictionary that words name.
+fn expect_rebuilt_by(
+    rt: HostRuntime,
+    abort: &impl Abort,
+    words: Words,
+    name: &str,
+    file: &[u8],
+    built: &[u8],
+    converted: &[u8],
+) -> Result<(), Fail> {
     for step in STEPS {
         for devices in [Devices::Memory, Devices::Std] {
-            let dump = output_of(rt, abort, devices, "dcmdump +L -", file, step)?;
+            let dump = output_of(rt, abort, devices, words.dump, file, step)?;
             let answer = output_of(
                 rt,
                 abort,
@@ -183,7 +213,7 @@ fn expect_rebuilt(
                 step,
             )?;
             assert!(abort; answer.as_slice() == built, "{name}");
-            let answer = output_of(rt, abort, devices, "dcmconv - -", file, step)?;
+            let answer = output_of(rt, abort, devices, words.convert, file, step)?;
             assert!(abort; answer.as_slice() == converted, "{name}");
         }
     }
@@ -198,6 +228,56 @@ fn files_are_rebuilt(rt: HostRuntime) -> Result<(), Fail> {
         expect_rebuilt(
             rt,
             &rt,
+            file.name,
+            input.as_slice(),
+            built.as_slice(),
+            built.as_slice(),
+        )?;
+    }
+    Ok(())
+}
+
+/// Files that hold elements of the standard that the extract lacks: what the dump by the whole dictionary builds of them.
+const FILES_OF_THE_STANDARD: [File; 4] = [
+    File {
+        name: "a number",
+        start: Start::ExplicitLittle,
+        input: b"\x18\0\x51\x11IS\x04\0120 ",
+        built: b"\x18\0\x51\x11IS\x04\0120 ",
+    },
+    File {
+        name: "an implicit sequence of known length",
+        start: Start::Implicit,
+        input: b"\x0a\x30\x10\0\x12\0\0\0\xfe\xff\0\xe0\x0a\0\0\0\x0a\x30\x12\0\x02\0\0\01 ",
+        built: b"\x0a\x30\x10\0\xff\xff\xff\xff\xfe\xff\0\xe0\xff\xff\xff\xff\x0a\x30\x12\0\x02\0\0\01 \xfe\xff\x0d\xe0\0\0\0\0\xfe\xff\xdd\xe0\0\0\0\0",
+    },
+    File {
+        name: "an implicit number of eight bytes",
+        start: Start::Implicit,
+        input: b"\x18\0\x73\x90\x08\0\0\0\x01\x02\x03\x04\x05\x06\x07\x08",
+        built: b"\x18\0\x73\x90\x08\0\0\0\x01\x02\x03\x04\x05\x06\x07\x08",
+    },
+    File {
+        name: "a number within unknown of undefined length in big endian",
+        start: Start::Big,
+        input: b"\0\x09\x10\x10UN\0\0\xff\xff\xff\xff\xfe\xff\0\xe0\xff\xff\xff\xff\x18\0\x73\x90\x08\0\0\0\x01\x02\x03\x04\x05\x06\x07\x08\xfe\xff\x0d\xe0\0\0\0\0\xfe\xff\xdd\xe0\0\0\0\0",
+        built: b"\0\x09\x10\x10SQ\0\0\xff\xff\xff\xff\xff\xfe\xe0\0\xff\xff\xff\xff\0\x18\x90\x73FD\0\x08\x08\x07\x06\x05\x04\x03\x02\x01\xff\xfe\xe0\x0d\0\0\0\0\xff\xfe\xe0\xdd\0\0\0\0",
+    },
+];
+
+fn files_of_the_standard() -> &'static [File] {
+    &FILES_OF_THE_STANDARD
+}
+
+#[test]
+fn files_are_rebuilt_by_the_whole_dictionary(rt: HostRuntime) -> Result<(), Fail> {
+    for file in files_of_the_standard() {
+        let input = joined(rt, bytes_of(file.start), file.input)?;
+        let built = joined(rt, bytes_of(file.start), file.built)?;
+        expect_rebuilt_by(
+            rt,
+            &rt,
+            BY_STANDARD,
             file.name,
             input.as_slice(),
             built.as_slice(),
