@@ -99,7 +99,7 @@ use crate::vr::Vr;
 pub type Entry = (u32, Vr, u32, u8);
 
 /// The keywords of the elements, one a line.
-pub const KEYWORDS: &[u8; {len(text)}] = b"\\
+pub const KEYWORDS: &str = "\\
 {keywords}";
 
 /// The elements, in tag order.

@@ -255,21 +255,12 @@ with_meaning no_line b = refused NotALine b
 abbrev pub line_built : (limit : ℕ) → List ℕ → Built → Result Built Refused
 line_built limit line b = elim (nat_lt limit (length line)) [ true ↦ refused LineTooLong b | false ↦ with_meaning (means (without_return line)) b ]
 
--- a fault, the offset at which it is told, and the number of its line, from 1; 0 where it is no line's
-pub record Told : Type 0 where
-  pub fault : LineFault
-  pub offset : ℕ
-  pub line : ℕ
-
-abbrev pub told_of : LineStop → Told
-told_of stop = record { fault = stop.fault; offset = stop.offset; line = stop.line }
-
 -- what the lines so far have built, where the next one begins and which it is; or the first fault, which stays
 pub record Progress : Type 0 where
   pub built : Built
   pub offset : ℕ
   pub line : ℕ
-  pub told : Option Told
+  pub told : Option LineStop
 
 abbrev pub at_start : Progress
 at_start = record { built = nothing_built; offset = 0; line = 1; told = None }

@@ -9,7 +9,7 @@ use Rattle.dcm_base.specs.declared.dictionary.TheConstants.{ELEMENTS}
 use Rattle.dcm_base.specs.declared.lookup.Dictionary.{Dictionary}
 use Rattle.dcm_base.specs.declared.lookup.Dictionary.TheVariants.{Extract, Standard}
 use Rattle.dcm_base.specs.declared.standard.TheConstants.{KEYWORDS, STANDARD}
-use Rattle.dcm_base.specs.Tag.{number, tag_of_number, is_private}
+use Rattle.dcm_base.specs.Tag.{tag_number, tag_of_number, is_private}
 
 -- the number of a tag, its value representation and its keyword
 abbrev pub Element : Type 0
@@ -28,7 +28,7 @@ called es k = option_map (λ e. e.0) (find (λ e. bytes_eq e.2 k) es)
 
 -- the value representation and the keyword of a tag of the extract
 unfoldable pub element : Tag → Option (Vr × List ℕ)
-element t = numbered elements (number t)
+element t = numbered elements (tag_number t)
 
 -- the length of a group, in its element 0000
 abbrev pub is_group_length : Tag → Bool
@@ -47,7 +47,7 @@ abbrev pub other_keyword : ℕ → List ℕ
 other_keyword n = if n == 0xFFFEE000 then codes "Item" else if n == 0xFFFEE00D then codes "ItemDelimitationItem" else if n == 0xFFFEE0DD then codes "SequenceDelimitationItem" else codes "Unknown Tag & Data"
 
 unfoldable pub keyword : Tag → List ℕ
-keyword t = option_map_or (λ e. e.1) (element t) (if is_group_length t then codes "GenericGroupLength" else if is_private_creator t then codes "PrivateCreator" else other_keyword (number t))
+keyword t = option_map_or (λ e. e.1) (element t) (if is_group_length t then codes "GenericGroupLength" else if is_private_creator t then codes "PrivateCreator" else other_keyword (tag_number t))
 
 -- the tag of the extract's element that has the keyword
 unfoldable pub tag_of : List ℕ → Option Tag
@@ -78,14 +78,14 @@ elements_in Standard = map (element_of keywords) entries
 
 -- the value representation and the keyword of a tag of the dictionary
 unfoldable pub element_in : Dictionary → Tag → Option (Vr × List ℕ)
-element_in d t = numbered (elements_in d) (number t)
+element_in d t = numbered (elements_in d) (tag_number t)
 
 -- the value representation of an implicit head, by the dictionary
 unfoldable pub vr_in : Dictionary → Tag → Vr
 vr_in d t = option_map_or (λ e. e.0) (element_in d t) (if is_group_length t then UL else if is_private_creator t then LO else UN)
 
 unfoldable pub keyword_in : Dictionary → Tag → List ℕ
-keyword_in d t = option_map_or (λ e. e.1) (element_in d t) (if is_group_length t then codes "GenericGroupLength" else if is_private_creator t then codes "PrivateCreator" else other_keyword (number t))
+keyword_in d t = option_map_or (λ e. e.1) (element_in d t) (if is_group_length t then codes "GenericGroupLength" else if is_private_creator t then codes "PrivateCreator" else other_keyword (tag_number t))
 
 -- the tag of the dictionary's element that has the keyword
 unfoldable pub tag_in : Dictionary → List ℕ → Option Tag

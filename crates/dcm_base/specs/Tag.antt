@@ -3,8 +3,8 @@ use Rattle.std.specs.Prelude.{ℕ, ◌+◌, ◌*◌, ◌/◌, ◌%◌, Bool, tru
 use Rattle.dcm_base.specs.declared.tag.Tag.{Tag}
 
 -- the group and the element as one number
-abbrev pub number : Tag → ℕ
-number t = t.group * 65536 + t.element
+abbrev pub tag_number : Tag → ℕ
+tag_number t = t.group * 65536 + t.element
 
 -- the tag of a number
 abbrev pub tag_of_number : ℕ → Tag

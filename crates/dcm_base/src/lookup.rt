@@ -30,7 +30,7 @@ fn entries() -> &'static [Entry]
 fn keywords() -> &'static [u8]
     ensures { result.now ≡ spec.keywords }
 {
-    KEYWORDS
+    KEYWORDS.as_bytes()
 }
 
 /// The entry that has the number, where the numbers ascend.

@@ -6,7 +6,7 @@ use crate::vr::Vr;
 pub type Entry = (u32, Vr, u32, u8);
 
 /// The keywords of the elements, one a line.
-pub const KEYWORDS: &[u8; 118900] = b"\
+pub const KEYWORDS: &str = "\
 CommandGroupLength\nCommandLengthToEnd\nAffectedSOPClassUID\nRequestedSOPClassUID\nCommandRecognitionCode\nCommandField\nMessageID\nMessageIDBeingRespondedTo\nInitiator\nReceiver\nFindLocation\nMoveDestination\nPriority\nCommandDataSetType\nNumberOfMatches\nResponseSequenceNumber\nStatus\nOffendingElement\nErrorComment\nErrorID\nAffectedSOPInstanceUID\nRequestedSOPInstanceUID\nEventTypeID\n\
 AttributeIdentifierList\nActionTypeID\nNumberOfRemainingSuboperations\nNumberOfCompletedSuboperations\nNumberOfFailedSuboperations\nNumberOfWarningSuboperations\nMoveOriginatorApplicationEntityTitle\nMoveOriginatorMessageID\nDialogReceiver\nTerminalType\nMessageSetID\nEndMessageID\nDisplayFormat\nPagePositionID\nTextFormatID\nNormalReverse\nAddGrayScale\nBorders\nCopies\nCommandMagnificationType\n\
 Erase\nPrint\nOverlays\nFileMetaInformationGroupLength\nFileMetaInformationVersion\nMediaStorageSOPClassUID\nMediaStorageSOPInstanceUID\nTransferSyntaxUID\nImplementationClassUID\nImplementationVersionName\nSourceApplicationEntityTitle\nSendingApplicationEntityTitle\nReceivingApplicationEntityTitle\nSourcePresentationAddress\nSendingPresentationAddress\nReceivingPresentationAddress\n\

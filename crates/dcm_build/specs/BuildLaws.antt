@@ -1,7 +1,7 @@
 -- What the laws of a file that is built line by line say.
 use Rattle.std.specs.Prelude.{◌≡◌, ◌↔◌, ℕ, ◌≤◌, List, ◌++◌, length, Option, Some, None, fold}
 use Rattle.dcm_base.specs.Build as build
-use Rattle.dcm_base.specs.Build.{Told}
+use Rattle.dcm_base.specs.declared.fault.LineStop.{LineStop}
 use Rattle.dcm_base.specs.Reads.{INPUT_LIMIT}
 use Rattle.dcm_build.specs.Building.{BuildState, build_start, build_step, finishes, finish_writes}
 
@@ -19,7 +19,7 @@ pub record BuiltSoFar (limit : ℕ) (bytes : List ℕ) (s : BuildState) (written
   pub within : length bytes ≤ INPUT_LIMIT
 
 -- of an input this is told, and what was built before it is this
-pub record Stays (limit : ℕ) (bytes : List ℕ) (told : Told) (written : List ℕ) : Type 0 where
+pub record Stays (limit : ℕ) (bytes : List ℕ) (told : LineStop) (written : List ℕ) : Type 0 where
   pub told_is : (build.built limit bytes).told ≡ Some told
   pub file : written ≡ build.built_bytes (build.built limit bytes).built
 
@@ -29,8 +29,8 @@ pub record Undecided (limit : ℕ) (bytes : List ℕ) : Type 0 where
   pub no_fault : (build.built_by limit (build.lines_of bytes).ended).told ≡ None
   pub short : length (build.lines_of bytes).rest ≤ limit
 
-abbrev pub IsTold : Option Told → Type 0
-IsTold o = (told : Told) × (o ≡ Some told)
+abbrev pub IsTold : Option LineStop → Type 0
+IsTold o = (told : LineStop) × (o ≡ Some told)
 
 -- after a call with a piece, where these bytes were fed before
 abbrev pub after_call : (limit : ℕ) → (before piece : List ℕ) → BuildState
@@ -41,6 +41,6 @@ abbrev pub CallRefuses : (limit : ℕ) → (before piece : List ℕ) → Type 0
 CallRefuses limit before piece = IsTold (after_call limit before piece).told ↔ (Undecided limit (before ++ piece) → ⊥)
 
 -- and with the one that is told of them
-abbrev pub CallTells : (limit : ℕ) → (before piece : List ℕ) → Told → Type 0
+abbrev pub CallTells : (limit : ℕ) → (before piece : List ℕ) → LineStop → Type 0
 CallTells limit before piece told =
     ((after_call limit before piece).told ≡ Some told) ↔ (((build.built limit (before ++ piece)).told ≡ Some told) × (Undecided limit (before ++ piece) → ⊥))

@@ -2,7 +2,7 @@
 use Rattle.std.specs.Prelude.{◌≡◌, ℕ, suc, ◌+◌, ◌<◌, ◌≤◌, List, [], ◌∷◌, ◌++◌, length, take, Bool, true, false, Option, Some, None, Result, Ok, Err, ◌||◌, ◌==◌, is_some, ⊤}
 use Rattle.std.specs.Str.{byte}
 use Rattle.std.specs.Io.KnownBytes.{append_known}
-use Rattle.dcm_base.specs.Build.{Told, told_of}
+use Rattle.dcm_base.specs.declared.fault.LineStop.{LineStop}
 use Rattle.dcm_base.specs.Device.{AppendsFront}
 use Rattle.dcm_base.specs.Reads.{INPUT_LIMIT}
 use Rattle.dcm_base.specs.Steps.{Goes}
@@ -19,7 +19,7 @@ abbrev pub line_at : LineReader → LineAt
 line_at p = record { limit = p.limit; line = p.line.items; offset = p.offset; number = p.number }
 
 -- what the lines so far have built, and the fault that was told
-abbrev pub building : LineReader → Option Told → BuildState
+abbrev pub building : LineReader → Option LineStop → BuildState
 building p told = state p.file (line_at p) told
 
 -- how many bytes were read
@@ -61,9 +61,9 @@ went (Err (Refused stop)) = Ok tt
 went (Err Output) = Err tt
 
 -- the fault that is told
-abbrev pub fault_of : {T : Type 0} → Result T BuildHalt → Option Told
+abbrev pub fault_of : {T : Type 0} → Result T BuildHalt → Option LineStop
 fault_of (Ok x) = None
-fault_of (Err (Refused stop)) = Some (told_of stop)
+fault_of (Err (Refused stop)) = Some stop
 fault_of (Err Output) = None
 
 -- the output failed in the call just where it tells so
@@ -75,13 +75,13 @@ TellsHalt old new (Err Output) = new ≡ true
 -- ---- parts of a call
 
 -- what was built came to this state, and these bytes went out, or a beginning of them
-abbrev pub Reaches : {T : Type 0} → (held holds : Option (List ℕ)) → (Option Told → BuildState) → BuildState → List ℕ → Result T BuildHalt → Type 0
+abbrev pub Reaches : {T : Type 0} → (held holds : Option (List ℕ)) → (Option LineStop → BuildState) → BuildState → List ℕ → Result T BuildHalt → Type 0
 Reaches held holds new s bytes (Ok x) = (new None ≡ s) × (holds ≡ append_known held bytes)
-Reaches held holds new s bytes (Err (Refused stop)) = (new (Some (told_of stop)) ≡ s) × (holds ≡ append_known held bytes)
+Reaches held holds new s bytes (Err (Refused stop)) = (new (Some stop) ≡ s) × (holds ≡ append_known held bytes)
 Reaches held holds new s bytes (Err Output) = AppendsFront held holds bytes
 
 -- these bytes were gone over, or a beginning of what they write went out
-abbrev pub Feeds : {T : Type 0} → BuildState → (held : Option (List ℕ)) → (Option Told → BuildState) → (holds : Option (List ℕ)) → List ℕ → Result T BuildHalt → Type 0
+abbrev pub Feeds : {T : Type 0} → BuildState → (held : Option (List ℕ)) → (Option LineStop → BuildState) → (holds : Option (List ℕ)) → List ℕ → Result T BuildHalt → Type 0
 Feeds old held new holds bytes r = Goes build_step build_writes old held (new (fault_of r)) holds bytes (went r)
 
 -- the bytes that were gone over: so many, or all where it goes no further
@@ -96,9 +96,9 @@ pub record Progress : Type 0 where
   pub state : BuildState
   pub failed : Bool
 
-abbrev pub stop_of : Option BuildHalt → Option Told
+abbrev pub stop_of : Option BuildHalt → Option LineStop
 stop_of None = None
-stop_of (Some (Refused stop)) = Some (told_of stop)
+stop_of (Some (Refused stop)) = Some stop
 stop_of (Some Output) = None
 
 abbrev pub is_output : Option BuildHalt → Bool
@@ -111,7 +111,7 @@ abbrev pub is_halted : Progress → Bool
 is_halted p = p.failed || is_some p.state.told
 
 -- what a call answers
-abbrev pub answer : Option Told → (failed : Bool) → Result (Unit {0}) BuildHalt
+abbrev pub answer : Option LineStop → (failed : Bool) → Result (Unit {0}) BuildHalt
 answer told true = Err Output
 answer None false = Ok tt
-answer (Some t) false = Err (Refused (record { fault = t.fault; offset = t.offset; line = t.line }))
+answer (Some t) false = Err (Refused t)

@@ -6,7 +6,8 @@ use Rattle.dcm_base.specs.Syntax.{Little}
 use Rattle.dcm_base.specs.declared.fault.LineFault.{LineFault}
 use Rattle.dcm_base.specs.declared.fault.LineFault.TheVariants.{LineTooLong, NotALine, ValueDoesNotFit, NotAllowed, NotAscending, BadMetaGroup, NoTransferSyntax, TooDeep, EndsEarly, TooLong}
 use Rattle.dcm_base.specs.Atoms.{Atom, opens, value_byte, closes_leaf, opens_item, closes_item, closes_sequence, opens_fragment}
-use Rattle.dcm_base.specs.Build.{Told, named_coding, coding_or_little, allows_fragments, has_place_in, element_tag, is_meta, is_opening, is_fragment_opening, is_after, lacks_value, first_fault, without_return, is_the_top}
+use Rattle.dcm_base.specs.Build.{named_coding, coding_or_little, allows_fragments, has_place_in, element_tag, is_meta, is_opening, is_fragment_opening, is_after, lacks_value, first_fault, without_return, is_the_top}
+use Rattle.dcm_base.specs.declared.fault.LineStop.{LineStop}
 use Rattle.dcm_base.specs.Head.{head_size}
 use Rattle.dcm_base.specs.Line.{Step, show_leaf, begin_sequence, begin_fragments, begin_item, show_fragment, end_item, end_sequence, Meaning, nothing, one, no_line, means}
 use Rattle.dcm_base.specs.MetaGroup.{META_LIMIT}
@@ -30,7 +31,7 @@ pub record BuildState : Type 0 where
   pub standing : OpenContainers
   pub encoding : EncodeState
   -- the first fault, which stays
-  pub told : Option Told
+  pub told : Option LineStop
 
 abbrev pub build_start : ℕ → BuildState
 build_start limit = record {

@@ -1,7 +1,8 @@
 -- The statements of the laws.
 use Rattle.std.specs.Prelude.{◌≡◌, ◌≤◌, ◌++◌, ℕ, List, Some, None, fold}
 use Rattle.dcm_base.specs.Ascending.{Ascend}
-use Rattle.dcm_base.specs.Build.{Told, lines_of}
+use Rattle.dcm_base.specs.Build.{lines_of}
+use Rattle.dcm_base.specs.declared.fault.LineStop.{LineStop}
 use Rattle.dcm_base.specs.Dump.{dump_set}
 use Rattle.dcm_base.specs.MetaReads.{Meta}
 use Rattle.dcm_base.specs.Steps.{outputs}
@@ -29,7 +30,7 @@ StepsBuildSoFar =
 -- a fault that was told stays, whatever follows
 abbrev pub FaultStays : Type 0
 FaultStays =
-    (limit : ℕ) (bytes later : List ℕ) (told : Told) → (fold build_step (build_start limit) bytes).told ≡ Some told
+    (limit : ℕ) (bytes later : List ℕ) (told : LineStop) → (fold build_step (build_start limit) bytes).told ≡ Some told
     → Stays limit (bytes ++ later) told (outputs build_step build_writes (build_start limit) bytes)
 
 -- the lines of a full dump of a data set mean the steps of what it shows, where none of them is too long

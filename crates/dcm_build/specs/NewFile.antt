@@ -1,7 +1,7 @@
 -- What a `NewFile` stands for.
 use Rattle.std.specs.Prelude.{◌≡◌, ℕ, List, [], Bool, true, Option, None, Some, Result, Ok, Err, unwrap_or}
 use Rattle.std.specs.Io.KnownBytes.{append_known}
-use Rattle.dcm_base.specs.Build.{Told}
+use Rattle.dcm_base.specs.declared.fault.LineStop.{LineStop}
 use Rattle.dcm_base.specs.declared.fault.LineFault.{LineFault}
 use Rattle.dcm_base.specs.Device.{AppendsFront}
 use Rattle.dcm_base.specs.Line.{Step, show_leaf, show_fragment}
@@ -18,7 +18,7 @@ pub record LineAt : Type 0 where
   pub offset : ℕ
   pub number : ℕ
 
-abbrev pub state : NewFile → LineAt → Option Told → BuildState
+abbrev pub state : NewFile → LineAt → Option LineStop → BuildState
 state f at told = record {
   limit = at.limit;
   line = at.line;

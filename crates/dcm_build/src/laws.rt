@@ -1,7 +1,7 @@
 //! Laws of the definitions. Each function takes nothing and makes no call: its contract is the law.
 ghost use Rattle.std.specs.Prelude.{◌≡◌, ◌↔◌, ℕ, List, None, fold};
 ghost use Rattle.dcm_base.specs.Ascending.{Ascend};
-ghost use Rattle.dcm_base.specs.Build.{Told};
+ghost use Rattle.dcm_base.specs.declared.fault.LineStop.{LineStop};
 ghost use Rattle.dcm_base.specs.Tree.{Trees};
 ghost use Rattle.dcm_base.specs.declared.syntax.Coding.{Coding};
 ghost use Rattle.dcm_build.specs.BuildLaws.{CallRefuses, CallTells, Undecided};
@@ -19,7 +19,7 @@ pub fn build_steps()
     ensures refused { laws.FaultStays }
     ensures going { (limit : ℕ) (bytes : List ℕ) → ((fold build_step (build_start limit) bytes).told ≡ None) ↔ Undecided limit bytes }
     ensures halts { (limit : ℕ) (before piece : List ℕ) → CallRefuses limit before piece }
-    ensures fault { (limit : ℕ) (before piece : List ℕ) (told : Told) → CallTells limit before piece told }
+    ensures fault { (limit : ℕ) (before piece : List ℕ) (told : LineStop) → CallTells limit before piece told }
 {}
 
 /// The lines of a full dump of a data set mean, one after another, the steps of what it shows, where none of them is too long.

@@ -18,11 +18,12 @@ use Rattle.dcm_base.specs.Recode.{recode}
 use Rattle.dcm_edit.specs.Edit.{Edit, edited, found}
 use Rattle.dcm_base.specs.Fault.{fault_number, fault_text, line_fault_number, line_fault_text}
 use Rattle.dcm_base.specs.Build as build
+use Rattle.dcm_base.specs.declared.fault.LineStop.{LineStop}
 use Rattle.dcm_base.specs.Syntax.{dictionary_of, read_by, coding_by}
 use Rattle.dcm_base.specs.declared.lookup.Dictionary.{Dictionary}
 use Rattle.dcm_base.specs.declared.lookup.Dictionary.TheVariants.{Extract}
 use Rattle.dcm_words.specs.Words.{Job, dump, convert, build as building, modify}
-use Rattle.dcm_cli.specs.Told.{told, unplaced_line}
+use Rattle.dcm_cli.specs.ErrorLines.{error_line, unplaced_line}
 
 pub record Answer : Type 0 where
   pub output : List ℕ
@@ -123,7 +124,7 @@ output_of job (alone syntax set stop) = alone_output job syntax set
 -- ---- what is told of it
 
 abbrev pub reading_line : Fault → ℕ → List ℕ
-reading_line fault offset = told (fault_number fault ++ codes " at byte " ++ decimal offset ++ codes ": " ++ fault_text fault)
+reading_line fault offset = error_line (fault_number fault ++ codes " at byte " ++ decimal offset ++ codes ": " ++ fault_text fault)
 
 -- each edit that found no place, from number n on
 abbrev pub unplaced_lines : ℕ → List Edit → Front → List ℕ
@@ -160,8 +161,8 @@ abbrev pub line_place : ℕ → List ℕ
 line_place zero = []
 line_place (suc n) = codes ", line " ++ decimal (suc n)
 
-abbrev pub building_line : build.Told → List ℕ
-building_line t = told (line_fault_number t.fault ++ codes " at byte " ++ decimal t.offset ++ line_place t.line ++ codes ": " ++ line_fault_text t.fault)
+abbrev pub building_line : LineStop → List ℕ
+building_line t = error_line (line_fault_number t.fault ++ codes " at byte " ++ decimal t.offset ++ line_place t.line ++ codes ": " ++ line_fault_text t.fault)
 
 abbrev pub built_answer : build.Progress → Answer
 built_answer p = elim p.told [

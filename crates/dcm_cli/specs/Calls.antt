@@ -11,13 +11,13 @@ use Rattle.dcm_words.specs.Plans.{job_of}
 use Rattle.dcm_words.specs.Words.{Job}
 use Rattle.dcm_cli.specs.declared.ending.Ending.{Ending}
 use Rattle.dcm_cli.specs.declared.ending.HeadEnding.{HeadEnding}
-use Rattle.dcm_cli.specs.declared.head.Begun.{Begun}
+use Rattle.dcm_cli.specs.declared.head.Beginning.{Beginning}
 use Rattle.dcm_cli.specs.declared.rewrite.Opened.{Opened}
 use Rattle.dcm_cli.specs.Opening as opening
 use Rattle.dcm_cli.specs.Pass as pass
 use Rattle.dcm_cli.specs.Run as run
 use Rattle.dcm_cli.specs.Stops as stops
-use Rattle.dcm_cli.specs.Told as told
+use Rattle.dcm_cli.specs.ErrorLines as error_lines
 
 -- the members of a reader
 abbrev pub Reader : Type 0 → Type 0
@@ -27,7 +27,7 @@ Reader R = record { has_failed : R → Bool; remaining : R → Option (List ℕ)
 
 -- these lines were reported, or the writer failed in the call and has a beginning of them
 abbrev pub Tries : {E : Type 0} → Writer E → (old new : E) → List ℕ → Type 0
-Tries e old new lines = told.Tries (e.contents old) (e.contents new) (e.has_failed old) (e.has_failed new) lines
+Tries e old new lines = error_lines.Tries (e.contents old) (e.contents new) (e.has_failed old) (e.has_failed new) lines
 
 -- ---- the work on a job
 
@@ -68,7 +68,7 @@ TellsFailed r w old new held holds status =
 -- ---- the head of a file
 
 -- the reader failed in the call exactly where that is why the head was not read
-abbrev pub TellsHead : {R : Type 0} → Reader R → (old new : R) → Result Begun HeadEnding → Type 0
+abbrev pub TellsHead : {R : Type 0} → Reader R → (old new : R) → Result Beginning HeadEnding → Type 0
 TellsHead r old new result =
     MatchResult result (λ b. r.has_failed new ≡ r.has_failed old) (λ e. pass.TellsUnread (r.has_failed old) (r.has_failed new) (pass.ending_of_head e))
 

@@ -8,7 +8,7 @@ use Rattle.dcm_edit.specs.Through.{through_bar, through_step, through_writes}
 use Rattle.dcm_cli.specs.declared.ending.Ending.{Ending}
 use Rattle.dcm_cli.specs.declared.rewrite.Opened.{Opened}
 use Rattle.dcm_cli.specs.Calls.{Reader}
-use Rattle.dcm_cli.specs.Pass.{BehindBegun, WasRead, set_bytes, with_unplaced}
+use Rattle.dcm_cli.specs.Pass.{BehindBeginning, WasRead, set_bytes, with_unplaced}
 use Rattle.dcm_cli.specs.Stops.{BehindStops}
 
 -- of answers one after another those that are no: bit 0 is set for the first
@@ -20,7 +20,7 @@ not_found (b ∷ bs) = (if b then 0 else 1) + 2 * not_found bs
 pub record EditPass {S : Type 0} (sink : Ghosts S) (edits : List Edit) (old new : S) (had left : Option (List ℕ)) (buffered : List ℕ) (first : Reading) (is_over : Bool) (ending : Ending) : Type 0 where
   pub last : State
   pub passed : Ending
-  pub ends : BehindBegun through_bar (through_step sink.step) (through_writes sink.step sink.writes) had buffered first (begun edits, sink.state old) (sink.contents old) left (last, sink.state new) (sink.contents new) passed
+  pub ends : BehindBeginning through_bar (through_step sink.step) (through_writes sink.step sink.writes) had buffered first (begun edits, sink.state old) (sink.contents old) left (last, sink.state new) (sink.contents new) passed
   pub was : is_over ≡ true → WasRead passed
   pub ending_is : ending ≡ with_unplaced passed (not_found last.found)
 
@@ -35,7 +35,7 @@ first_of o = start_of o.coding.syntax o.start
 -- the same of an opened file, by the members of its reader
 abbrev pub Edits : {S R : Type 0} → Ghosts S → Reader R → (edits : List Edit) → (old new : S) → (had left : R) → Opened → (buffer : List ℕ) → Ending → Type 0
 Edits sink r edits old new had left o buffer ending =
-    EditPass sink edits old new (r.remaining had) (r.remaining left) (set_bytes o.begun buffer) (first_of o) o.begun.is_over ending
+    EditPass sink edits old new (r.remaining had) (r.remaining left) (set_bytes o.beginning buffer) (first_of o) o.beginning.is_over ending
 
 abbrev pub Stops : {S R : Type 0} → Ghosts S → Reader R → (edits : List Edit) → (old : S) → (had left : R) → Opened → (buffer : List ℕ) → Type 0
-Stops sink r edits old had left o buffer = EditStops sink edits old (first_of o) (set_bytes o.begun buffer) o.begun.is_over (r.remaining had) (r.remaining left)
+Stops sink r edits old had left o buffer = EditStops sink edits old (first_of o) (set_bytes o.beginning buffer) o.beginning.is_over (r.remaining had) (r.remaining left)

@@ -1,4 +1,4 @@
-pub mod Told
+pub mod ErrorLines
 pub mod Answer
 pub mod Pieces
 pub mod Pass

@@ -1,7 +1,6 @@
 -- What the building of a file from the lines of a dump leaves: how it ended, and what was written.
 use Rattle.std.specs.Prelude.{◌≡◌, ℕ, List, Option, Some, None, Result, Ok, Err}
 use Rattle.std.specs.Io.KnownBytes.{append_known}
-use Rattle.dcm_base.specs.Build.{told_of}
 use Rattle.dcm_base.specs.Device.{AppendsFront}
 use Rattle.dcm_build.specs.declared.build.BuildHalt.{BuildHalt}
 use Rattle.dcm_build.specs.declared.build.BuildHalt.TheVariants as halts
@@ -19,5 +18,5 @@ ending_of (Err halts.Output) = Output
 -- the input has ended where lines were built up to here
 abbrev pub EndsLines : BuildState → (held holds : Option (List ℕ)) → Result (Unit {0}) BuildHalt → Type 0
 EndsLines s held holds (Ok x) = ((finishes s).told ≡ None) × (holds ≡ append_known held (finish_writes s))
-EndsLines s held holds (Err (halts.Refused stop)) = ((finishes s).told ≡ Some (told_of stop)) × (holds ≡ append_known held (finish_writes s))
+EndsLines s held holds (Err (halts.Refused stop)) = ((finishes s).told ≡ Some stop) × (holds ≡ append_known held (finish_writes s))
 EndsLines s held holds (Err halts.Output) = AppendsFront held holds (finish_writes s)

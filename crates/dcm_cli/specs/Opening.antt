@@ -18,13 +18,13 @@ use Rattle.dcm_cli.specs.declared.ending.Ending.{Ending}
 use Rattle.dcm_cli.specs.declared.ending.Ending.TheVariants.{Worked, Output}
 use Rattle.dcm_cli.specs.declared.ending.HeadEnding.{HeadEnding}
 use Rattle.dcm_cli.specs.declared.ending.Verdict.TheVariants.{Refused}
-use Rattle.dcm_cli.specs.declared.head.Begun.{Begun}
+use Rattle.dcm_cli.specs.declared.head.Beginning.{Beginning}
 use Rattle.dcm_cli.specs.declared.rewrite.Opened.{Opened}
 use Rattle.dcm_cli.specs.Answer.{refuses_change, target_uid}
 use Rattle.dcm_cli.specs.Pass.{Begins, FailsHead, ending_of_head}
 
 -- the head of a file was read
-pub record HeadRead (d : Dictionary) (had left : Option (List ℕ)) (buffer : List ℕ) (r : meta.Reading) (b : Begun) (coding : Coding) (start : ℕ) : Type 0 where
+pub record HeadRead (d : Dictionary) (had left : Option (List ℕ)) (buffer : List ℕ) (r : meta.Reading) (b : Beginning) (coding : Coding) (start : ℕ) : Type 0 where
   pub read : List ℕ
   pub given : had ≡ prepend_known read left
   pub begins : Begins r b buffer left read
@@ -45,7 +45,7 @@ head_text r uid elements = take 128 r.bytes ++ PREFIX ++ new_meta elements uid
 pub record OpenedAs (d : Dictionary) (target : Option Syntax) (had left held holds : Option (List ℕ)) (buffer : List ℕ) (o : Opened) : Type 0 where
   pub reading : meta.Reading
   pub uid : List ℕ
-  pub head : HeadRead d had left buffer reading o.begun o.coding o.start
+  pub head : HeadRead d had left buffer reading o.beginning o.coding o.start
   pub keeps : refuses_change (convert d target) o.coding ≡ false
   pub uid_is : TargetUid target reading uid
   pub written : OfElements (meta.group_of reading) (λ elements. holds ≡ append_known held (head_text reading uid elements))
@@ -54,9 +54,9 @@ pub record OpenedAs (d : Dictionary) (target : Option Syntax) (had left held hol
 pub data NotOpened (d : Dictionary) (target : Option Syntax) (had left held holds : Option (List ℕ)) (ending : Ending) : Type 0 where
   no_set : (r : meta.Reading) (read : List ℕ) (head : HeadEnding) → had ≡ prepend_known read left → FailsHead r left read head → holds ≡ held → ending ≡ ending_of_head head
       → NotOpened d target had left held holds ending
-  no_change : (buffer : List ℕ) (r : meta.Reading) (b : Begun) (coding : Coding) (start : ℕ) → HeadRead d had left buffer r b coding start → refuses_change (convert d target) coding ≡ true
+  no_change : (buffer : List ℕ) (r : meta.Reading) (b : Beginning) (coding : Coding) (start : ℕ) → HeadRead d had left buffer r b coding start → refuses_change (convert d target) coding ≡ true
       → holds ≡ held → ending ≡ Worked (Refused (record { fault = CannotChange; at = start })) → NotOpened d target had left held holds ending
-  no_head : (buffer : List ℕ) (r : meta.Reading) (b : Begun) (coding : Coding) (start : ℕ) (uid : List ℕ) → HeadRead d had left buffer r b coding start → refuses_change (convert d target) coding ≡ false
+  no_head : (buffer : List ℕ) (r : meta.Reading) (b : Beginning) (coding : Coding) (start : ℕ) (uid : List ℕ) → HeadRead d had left buffer r b coding start → refuses_change (convert d target) coding ≡ false
       → TargetUid target r uid → OfElements (meta.group_of r) (λ elements. AppendsFront held holds (head_text r uid elements)) → ending ≡ Output → NotOpened d target had left held holds ending
 
 abbrev pub Opens : Dictionary → Option Syntax → (had left held holds : Option (List ℕ)) → (buffer : List ℕ) → Result Opened Ending → Type 0

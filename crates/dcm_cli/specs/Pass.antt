@@ -21,7 +21,7 @@ use Rattle.dcm_cli.specs.declared.ending.Ending.TheVariants.{Worked, Unread, Out
 use Rattle.dcm_cli.specs.declared.ending.HeadEnding.{HeadEnding}
 use Rattle.dcm_cli.specs.declared.ending.HeadEnding.TheVariants as heads
 use Rattle.dcm_cli.specs.declared.ending.Verdict.TheVariants.{Done, Refused, RefusedLine}
-use Rattle.dcm_cli.specs.declared.head.Begun.{Begun}
+use Rattle.dcm_cli.specs.declared.head.Beginning.{Beginning}
 
 -- ---- the devices
 
@@ -55,11 +55,11 @@ abbrev pub head_read : List ℕ → meta.Reading
 head_read read = fold meta.meta_step meta.at_start read
 
 -- what the buffer and the byte ahead of it have of the data set
-abbrev pub set_bytes : Begun → (buffer : List ℕ) → List ℕ
+abbrev pub set_bytes : Beginning → (buffer : List ℕ) → List ℕ
 set_bytes b buffer = option_to_list b.ahead ++ take (b.filled - b.used) (drop b.used buffer)
 
 -- the head was read, and these bytes of the data set
-pub record Begins (r : meta.Reading) (b : Begun) (buffer : List ℕ) (left : Option (List ℕ)) (read : List ℕ) : Type 0 where
+pub record Begins (r : meta.Reading) (b : Beginning) (buffer : List ℕ) (left : Option (List ℕ)) (read : List ℕ) : Type 0 where
   pub ended : meta.HasEnded r.end
   pub reading : (r ≡ head_read read) ⊎ ((b.is_over ≡ true) × (r ≡ meta.meta_finished (head_read read)))
   pub place : r.place + length (set_bytes b buffer) ≡ length read
@@ -73,17 +73,17 @@ FailsHead r left read (heads.Refused stop) = (r.end ≡ Some (meta_end.Refused s
 FailsHead r left read (heads.Unread count) = (r ≡ head_read read) × (r.end ≡ None) × (count ≡ length read)
 
 -- the input ended with it, where so many bytes were read, or is at fault
-abbrev pub FinishesHead : Option MetaEnd → (read : ℕ) → Result Begun HeadEnding → Type 0
+abbrev pub FinishesHead : Option MetaEnd → (read : ℕ) → Result Beginning HeadEnding → Type 0
 FinishesHead end read (Ok b) = meta.HasEnded end × (b ≡ record { ahead = None; used = 0; filled = 0; read = read; is_over = true })
 FinishesHead end read (Err (heads.Refused stop)) = end ≡ Some (meta_end.Refused stop)
 FinishesHead end read (Err (heads.Unread count)) = ⊥
 
 -- these bytes were read for it, or it was refused or could not be read behind them
-abbrev pub HeadReadOf : meta.Reading → (buffer : List ℕ) → (left : Option (List ℕ)) → (read : List ℕ) → Result Begun HeadEnding → Type 0
+abbrev pub HeadReadOf : meta.Reading → (buffer : List ℕ) → (left : Option (List ℕ)) → (read : List ℕ) → Result Beginning HeadEnding → Type 0
 HeadReadOf r buffer left read (Ok b) = Begins r b buffer left read
 HeadReadOf r buffer left read (Err ending) = FailsHead r left read ending
 
-pub record HeadReads (had left : Option (List ℕ)) (r : meta.Reading) (buffer : List ℕ) (result : Result Begun HeadEnding) : Type 0 where
+pub record HeadReads (had left : Option (List ℕ)) (r : meta.Reading) (buffer : List ℕ) (result : Result Beginning HeadEnding) : Type 0 where
   pub read : List ℕ
   pub given : had ≡ prepend_known read left
   pub outcome : HeadReadOf r buffer left read result
@@ -153,7 +153,7 @@ pub record Pumps {S : Type 0} (bars : S → Head → Option Bar) (step : S → A
   pub ends : Ends bars step writes old s held left t holds read ending
 
 -- and a data set whose first bytes stand in the buffer
-pub record BehindBegun {S : Type 0} (bars : S → Head → Option Bar) (step : S → Atom → S) (writes : S → Atom → List ℕ) (had : Option (List ℕ)) (begun : List ℕ) (first : Reading) (s : S) (held left : Option (List ℕ)) (t : S) (holds : Option (List ℕ)) (ending : Ending) : Type 0 where
+pub record BehindBeginning {S : Type 0} (bars : S → Head → Option Bar) (step : S → Atom → S) (writes : S → Atom → List ℕ) (had : Option (List ℕ)) (beginning : List ℕ) (first : Reading) (s : S) (held left : Option (List ℕ)) (t : S) (holds : Option (List ℕ)) (ending : Ending) : Type 0 where
   pub more : List ℕ
   pub given : had ≡ prepend_known more left
-  pub ends : Ends bars step writes first s held left t holds (begun ++ more) ending
+  pub ends : Ends bars step writes first s held left t holds (beginning ++ more) ending

@@ -15,7 +15,7 @@ use Rattle.dcm_cli.specs.Calls.{Reader}
 use Rattle.dcm_cli.specs.Devices.{MayAnswer, OpensDevices}
 use Rattle.dcm_cli.specs.Run.{Ran}
 use Rattle.dcm_cli.specs.Stops.{Stops}
-use Rattle.dcm_cli.specs.Told.{Tries, usage_line, usage_status, open_line}
+use Rattle.dcm_cli.specs.ErrorLines.{Tries, usage_line, usage_status, open_line}
 
 -- what standard error holds before and after, where it tells that, and whether it has failed
 pub record Errors : Type 0 where

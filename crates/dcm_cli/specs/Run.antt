@@ -1,8 +1,8 @@
 -- What a run leaves.
 use Rattle.std.specs.Prelude.{◌≡◌, ◌⊎◌, ℕ, zero, suc, ◌+◌, ◌*◌, Bool, true, false, List, [], ◌∷◌, ◌++◌, length, Option, None, Some, if◌then◌else◌}
 use Rattle.std.specs.Io.KnownBytes.{append_known}
-use Rattle.dcm_base.specs.Build.{told_of}
 use Rattle.dcm_base.specs.Build as build
+use Rattle.dcm_base.specs.declared.fault.LineStop.{LineStop}
 use Rattle.dcm_base.specs.Device.{AppendsFront}
 use Rattle.dcm_base.specs.Front.{Front}
 use Rattle.dcm_base.specs.Stop.{Stop, complete, refused}
@@ -15,7 +15,7 @@ use Rattle.dcm_cli.specs.declared.ending.Ending.TheVariants.{Unread, Output}
 use Rattle.dcm_cli.specs.declared.ending.Verdict.{Verdict}
 use Rattle.dcm_cli.specs.declared.ending.Verdict.TheVariants.{Done, Refused, RefusedLine}
 use Rattle.dcm_cli.specs.Answer.{Answer, Source, unopened, file, alone, InputReads, output_of, edits_of, building_line, Answers, Sure}
-use Rattle.dcm_cli.specs.Told.{Tries, fault_line, unread_line, output_line, mask_lines}
+use Rattle.dcm_cli.specs.ErrorLines.{Tries, fault_line, unread_line, output_line, mask_lines}
 
 -- the edits of a job are those that some words mean
 abbrev pub IsMeant : Job → Type 0
@@ -44,9 +44,9 @@ verdict_of_source job (unopened fault offset) = Refused (record { fault = fault;
 verdict_of_source job (file meta coding set stop) = verdict_at job set stop
 verdict_of_source job (alone syntax set stop) = verdict_at job set stop
 
-abbrev pub verdict_of_told : Option build.Told → Verdict
+abbrev pub verdict_of_told : Option LineStop → Verdict
 verdict_of_told None = Done 0
-verdict_of_told (Some t) = RefusedLine (record { fault = t.fault; offset = t.offset; line = t.line })
+verdict_of_told (Some t) = RefusedLine t
 
 -- the output of an input that was read, and what the work on it comes to
 pub record ReadEnds (job : Job) (input out : List ℕ) (verdict : Verdict) : Type 0 where
@@ -90,7 +90,7 @@ IsWritten Output = ⊥
 abbrev pub verdict_lines : Verdict → List ℕ
 verdict_lines (Done unplaced) = mask_lines 64 1 unplaced
 verdict_lines (Refused stop) = fault_line stop
-verdict_lines (RefusedLine stop) = building_line (told_of stop)
+verdict_lines (RefusedLine stop) = building_line stop
 
 abbrev pub ending_lines : Ending → List ℕ
 ending_lines (endings.Worked verdict) = verdict_lines verdict

@@ -6,7 +6,7 @@ use Rattle.dcm_stream.specs.Machine.{Progress}
 use Rattle.dcm_base.specs.declared.syntax.Syntax.{Syntax}
 use Rattle.dcm_stream.specs.Reading.{Reading, start_of}
 use Rattle.dcm_cli.specs.declared.ending.Ending.{Ending}
-use Rattle.dcm_cli.specs.declared.head.Begun.{Begun}
+use Rattle.dcm_cli.specs.declared.head.Beginning.{Beginning}
 use Rattle.dcm_cli.specs.Calls.{Reader}
 use Rattle.dcm_cli.specs.Pass as pass
 use Rattle.dcm_cli.specs.Stops as stops
@@ -26,21 +26,21 @@ Pumps sink r old new had left before ending =
     pass.Pumps sink.bar sink.step sink.writes (r.remaining had) before (sink.state old) (sink.contents old) (r.remaining left) (sink.state new) (sink.contents new) ending
 
 -- and a data set whose first bytes were read with the head of its file
-abbrev pub BehindBegun : {S R : Type 0} → Ghosts S → Reader R → (old new : S) → (had left : R) → Begun → (buffer : List ℕ) → Reading → Ending → Type 0
-BehindBegun sink r old new had left begun buffer first ending =
-    pass.BehindBegun sink.bar sink.step sink.writes (r.remaining had) (pass.set_bytes begun buffer) first (sink.state old) (sink.contents old) (r.remaining left) (sink.state new) (sink.contents new) ending
+abbrev pub BehindBeginning : {S R : Type 0} → Ghosts S → Reader R → (old new : S) → (had left : R) → Beginning → (buffer : List ℕ) → Reading → Ending → Type 0
+BehindBeginning sink r old new had left beginning buffer first ending =
+    pass.BehindBeginning sink.bar sink.step sink.writes (r.remaining had) (pass.set_bytes beginning buffer) first (sink.state old) (sink.contents old) (r.remaining left) (sink.state new) (sink.contents new) ending
 
-abbrev pub ReadsSet : {S R : Type 0} → Ghosts S → Reader R → (old new : S) → (had left : R) → Begun → (buffer : List ℕ) → Syntax → (start : ℕ) → Ending → Type 0
-ReadsSet sink r old new had left begun buffer s start ending = BehindBegun sink r old new had left begun buffer (start_of s start) ending
+abbrev pub ReadsSet : {S R : Type 0} → Ghosts S → Reader R → (old new : S) → (had left : R) → Beginning → (buffer : List ℕ) → Syntax → (start : ℕ) → Ending → Type 0
+ReadsSet sink r old new had left beginning buffer s start ending = BehindBeginning sink r old new had left beginning buffer (start_of s start) ending
 
 -- its writer failed in the call exactly where that is the ending
 abbrev pub TellsOutput : {S : Type 0} → Ghosts S → (old new : S) → Ending → Type 0
 TellsOutput sink old new ending = pass.TellsOutput (sink.has_failed old) (sink.has_failed new) ending
 
 -- before the last piece the reading of a data set, of which these bytes were read, had not halted
-abbrev pub Stops : {S R : Type 0} → Ghosts S → Reader R → (old : S) → (first : Reading) → (begun : List ℕ) → (had left : R) → Type 0
-Stops sink r old first begun had left = stops.SetStops sink.bar sink.step first (sink.state old) begun (r.remaining had) (r.remaining left)
+abbrev pub Stops : {S R : Type 0} → Ghosts S → Reader R → (old : S) → (first : Reading) → (beginning : List ℕ) → (had left : R) → Type 0
+Stops sink r old first beginning had left = stops.SetStops sink.bar sink.step first (sink.state old) beginning (r.remaining had) (r.remaining left)
 
-abbrev pub BehindStops : {S R : Type 0} → Ghosts S → Reader R → (old : S) → (had left : R) → Begun → (buffer : List ℕ) → (first : Reading) → Type 0
-BehindStops sink r old had left begun buffer first =
-    stops.BehindStops sink.bar sink.step first (sink.state old) (pass.set_bytes begun buffer) begun.is_over (r.remaining had) (r.remaining left)
+abbrev pub BehindStops : {S R : Type 0} → Ghosts S → Reader R → (old : S) → (had left : R) → Beginning → (buffer : List ℕ) → (first : Reading) → Type 0
+BehindStops sink r old had left beginning buffer first =
+    stops.BehindStops sink.bar sink.step first (sink.state old) (pass.set_bytes beginning buffer) beginning.is_over (r.remaining had) (r.remaining left)

@@ -43,11 +43,11 @@ pub record HeadStops (had left : Option (List ℕ)) : Type 0 where
   pub last : LastPiece had left front
 
 -- before the last piece the reading of a data set, of which these bytes were read, had not halted
-pub record SetStops {S : Type 0} (bars : S → Head → Option Bar) (step : S → Atom → S) (first : Reading) (s : S) (begun : List ℕ) (had left : Option (List ℕ)) : Type 0 where
+pub record SetStops {S : Type 0} (bars : S → Head → Option Bar) (step : S → Atom → S) (first : Reading) (s : S) (beginning : List ℕ) (had left : Option (List ℕ)) : Type 0 where
   pub more : List ℕ
-  pub going : (fold (steps bars step) (first, s) (begun ++ more)).0.halt ≡ None
+  pub going : (fold (steps bars step) (first, s) (beginning ++ more)).0.halt ≡ None
   pub last : LastPiece had left more
 
 -- no more was read than these bytes of it, or the input had not ended with them and more was read
-abbrev pub BehindStops : {S : Type 0} → (S → Head → Option Bar) → (S → Atom → S) → Reading → S → (begun : List ℕ) → (is_over : Bool) → (had left : Option (List ℕ)) → Type 0
-BehindStops bars step first s begun is_over had left = (left ≡ had) ⊎ ((is_over ≡ false) × SetStops bars step first s begun had left)
+abbrev pub BehindStops : {S : Type 0} → (S → Head → Option Bar) → (S → Atom → S) → Reading → S → (beginning : List ℕ) → (is_over : Bool) → (had left : Option (List ℕ)) → Type 0
+BehindStops bars step first s beginning is_over had left = (left ≡ had) ⊎ ((is_over ≡ false) × SetStops bars step first s beginning had left)

@@ -35,7 +35,7 @@ fn convert_file<R: DeviceIn, W: DeviceOut>(
     };
     let mut sink = EncodeSink::new(out, target_syntax(target, opened.coding));
     read_set(
-        opened.begun,
+        opened.beginning,
         opened.coding,
         opened.start,
         input,

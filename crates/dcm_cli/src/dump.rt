@@ -35,8 +35,8 @@ fn dump_file<R: DeviceIn, W: DeviceOut>(
     ensures failed { spec.TellsOutput (W.has_failed out.old) (W.has_failed out.new) result }
 {
     let mut meta = Meta::new();
-    let begun = match read_head_of(&mut meta, input, buffer) {
-        Ok(begun) => begun,
+    let beginning = match read_head_of(&mut meta, input, buffer) {
+        Ok(beginning) => beginning,
         Err(ending) => return ending_of_head(ending),
     };
     if dump_header_by(&meta, dictionary, mode, out).is_err() {
@@ -45,7 +45,7 @@ fn dump_file<R: DeviceIn, W: DeviceOut>(
     let start = set_start(&meta);
     let mut sink = DumpSink::by(out, dictionary, mode);
     read_set(
-        begun,
+        beginning,
         meta.coding().read_by(dictionary),
         start,
         input,

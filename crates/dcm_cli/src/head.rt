@@ -12,7 +12,7 @@ use dcm_head::{Meta, MetaRead};
 
 /// Where a data set begins: with a byte of an earlier piece, and then within the bytes that the buffer holds.
 #[derive(Clone, Copy, Debug, PartialEq, Eq)]
-pub struct Begun {
+pub struct Beginning {
     pub ahead: Option<u8>,
     pub used: usize,
     pub filled: usize,
@@ -25,13 +25,13 @@ pub struct Begun {
 const GROUP_AT: u64 = 132;
 
 /// The input ends with the head of a file, or within it.
-fn finish_head(meta: &mut Meta, read: u64) -> Result<Begun, HeadEnding>
+fn finish_head(meta: &mut Meta, read: u64) -> Result<Beginning, HeadEnding>
     ensures state { meta.new ≡ meta_finished meta.old }
     ensures answer { spec.FinishesHead meta.new.end read result }
 {
     match meta.finish() {
         Err(stop) => Err(HeadEnding::Refused(stop)),
-        Ok(()) => Ok(Begun {
+        Ok(()) => Ok(Beginning {
             ahead: None,
             used: 0,
             filled: 0,
@@ -42,10 +42,10 @@ fn finish_head(meta: &mut Meta, read: u64) -> Result<Begun, HeadEnding>
 }
 
 /// A data set begins in a piece of this size. So many bytes were read, with that piece.
-fn begun_in(size: usize, used: usize, ahead: Option<u8>, read: u64) -> Begun
+fn beginning_in(size: usize, used: usize, ahead: Option<u8>, read: u64) -> Beginning
     ensures { result ≡ record { ahead = ahead; used = used; filled = size; read = read; is_over = false } }
 {
-    Begun {
+    Beginning {
         ahead,
         used,
         filled: size,
@@ -59,7 +59,7 @@ pub fn read_head_of<R: DeviceIn>(
     meta: &mut Meta,
     input: &mut Watched<R>,
     buffer: &mut [u8],
-) -> Result<Begun, HeadEnding>
+) -> Result<Beginning, HeadEnding>
     requires start { meta.old ≡ at_start }
     requires room { 0 < length buffer.old }
     requires bound { length buffer.old ≤ 262144 }
@@ -79,7 +79,7 @@ pub fn read_head_of<R: DeviceIn>(
         match meta.feed(&buffer[..size]) {
             MetaRead::More => {}
             MetaRead::Refused(stop) => return Err(HeadEnding::Refused(stop)),
-            MetaRead::Ended { used, ahead } => return Ok(begun_in(size, used, ahead, read)),
+            MetaRead::Ended { used, ahead } => return Ok(beginning_in(size, used, ahead, read)),
         }
     }
 }

@@ -21,6 +21,7 @@ mod convert;
 pub mod devices;
 mod dump;
 mod ending;
+mod error_lines;
 mod head;
 mod host;
 pub mod in_memory;
@@ -34,8 +35,7 @@ mod program;
 mod rewrite;
 pub mod run;
 mod syntax;
-mod told;
 
 pub use dcm_words::{Build, Convert, Dump, Job, Planned, plan};
+pub use error_lines::{tell, tell_open};
 pub use program::{dcmtools, obey};
-pub use told::{tell, tell_open};

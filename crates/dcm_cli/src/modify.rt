@@ -42,9 +42,9 @@ fn read_edited<R: DeviceIn, S: Sink>(
     requires start { opened.start ≤ 2 ^ 62 }
     requires room { 0 < length buffer.old }
     requires bound { length buffer.old ≤ 262144 }
-    requires within { (opened.begun.used ≤ opened.begun.filled) × (opened.begun.filled ≤ length buffer.old) }
-    requires count { opened.start + length (spec.set_bytes opened.begun buffer.old) ≡ opened.begun.read }
-    requires over { opened.begun.is_over ≡ true → IsAtEnd (R.remaining input.old) }
+    requires within { (opened.beginning.used ≤ opened.beginning.filled) × (opened.beginning.filled ≤ length buffer.old) }
+    requires count { opened.start + length (spec.set_bytes opened.beginning buffer.old) ≡ opened.beginning.read }
+    requires over { opened.beginning.is_over ≡ true → IsAtEnd (R.remaining input.old) }
     ensures stops { edit_pass.Stops S.Sink R.DeviceIn edits.now sink.old input.old input.new opened buffer.old }
     ensures passes { edit_pass.Edits S.Sink R.DeviceIn edits.now sink.old sink.new input.old input.new opened buffer.old result }
     ensures unread { spec.TellsUnread (R.has_failed input.old) (R.has_failed input.new) result }
@@ -53,7 +53,7 @@ fn read_edited<R: DeviceIn, S: Sink>(
 {
     let mut edited = EditSink::new(edits, sink);
     let ending = read_set(
-        opened.begun,
+        opened.beginning,
         opened.coding,
         opened.start,
         input,

@@ -8,7 +8,7 @@ ghost use Rattle.dcm_cli.specs.Pass as spec;
 ghost use Rattle.dcm_cli.specs.SinkPass as sink_pass;
 
 use crate::ending::{Ending, ending_of};
-use crate::head::Begun;
+use crate::head::Beginning;
 use crate::pieces::next_piece;
 use dcm_base::{Coding, DeviceIn, Watched};
 use dcm_stream::{Halt, Machine, Sink};
@@ -23,19 +23,19 @@ fn feed<S: Sink>(piece: &[u8], machine: &mut Machine, sink: &mut S) -> Result<()
 }
 
 /// Feeds a machine what the head of a file left of a data set.
-fn feed_begun<S: Sink>(
-    begun: Begun,
+fn feed_beginning<S: Sink>(
+    beginning: Beginning,
     buffer: &[u8],
     machine: &mut Machine,
     sink: &mut S,
 ) -> Result<(), Halt>
-    requires within { (begun.used ≤ begun.filled) × (begun.filled ≤ length buffer.now) }
+    requires within { (beginning.used ≤ beginning.filled) × (beginning.filled ≤ length buffer.now) }
     requires going { machine_spec.is_halted machine.old ≡ false }
-    ensures fed { sink_pass.Fed S.Sink sink.old sink.new machine.old machine.new (spec.set_bytes begun buffer.now) result }
+    ensures fed { sink_pass.Fed S.Sink sink.old sink.new machine.old machine.new (spec.set_bytes beginning buffer.now) result }
     ensures kept { sinks.Keeps S.Sink sink.old sink.new }
 {
-    let rest = &buffer[begun.used..begun.filled];
-    match begun.ahead {
+    let rest = &buffer[beginning.used..beginning.filled];
+    match beginning.ahead {
         None => feed(rest, machine, sink),
         Some(byte) => {
             feed(&[byte], machine, sink)?;
@@ -88,7 +88,7 @@ pub fn read_rest<R: DeviceIn, S: Sink>(
 
 /// Reads the data set of a file into a sink.
 pub fn read_set<R: DeviceIn, S: Sink>(
-    begun: Begun,
+    beginning: Beginning,
     coding: Coding,
     start: u64,
     input: &mut Watched<R>,
@@ -98,22 +98,22 @@ pub fn read_set<R: DeviceIn, S: Sink>(
     requires start { start ≤ 2 ^ 62 }
     requires room { 0 < length buffer.old }
     requires bound { length buffer.old ≤ 262144 }
-    requires within { (begun.used ≤ begun.filled) × (begun.filled ≤ length buffer.old) }
-    requires count { start + length (spec.set_bytes begun buffer.old) ≡ begun.read }
-    requires over { begun.is_over ≡ true → IsAtEnd (R.remaining input.old) }
-    ensures ends { sink_pass.ReadsSet S.Sink R.DeviceIn sink.old sink.new input.old input.new begun buffer.old coding.syntax start result }
-    ensures stops { sink_pass.BehindStops S.Sink R.DeviceIn sink.old input.old input.new begun buffer.old (start_of coding.syntax start) }
-    ensures over { begun.is_over ≡ true → spec.WasRead result }
+    requires within { (beginning.used ≤ beginning.filled) × (beginning.filled ≤ length buffer.old) }
+    requires count { start + length (spec.set_bytes beginning buffer.old) ≡ beginning.read }
+    requires over { beginning.is_over ≡ true → IsAtEnd (R.remaining input.old) }
+    ensures ends { sink_pass.ReadsSet S.Sink R.DeviceIn sink.old sink.new input.old input.new beginning buffer.old coding.syntax start result }
+    ensures stops { sink_pass.BehindStops S.Sink R.DeviceIn sink.old input.old input.new beginning buffer.old (start_of coding.syntax start) }
+    ensures over { beginning.is_over ≡ true → spec.WasRead result }
     ensures unread { spec.TellsUnread (R.has_failed input.old) (R.has_failed input.new) result }
     ensures failed { sink_pass.TellsOutput S.Sink sink.old sink.new result }
     ensures kept { sinks.Keeps S.Sink sink.old sink.new }
 {
     let mut machine = Machine::new(coding, start);
-    if let Err(halt) = feed_begun(begun, buffer, &mut machine, sink) {
+    if let Err(halt) = feed_beginning(beginning, buffer, &mut machine, sink) {
         return ending_of(Err(halt));
     }
-    if begun.is_over {
+    if beginning.is_over {
         return ending_of(end(&mut machine, sink));
     }
-    read_rest(begun.read, input, buffer, &mut machine, sink)
+    read_rest(beginning.read, input, buffer, &mut machine, sink)
 }

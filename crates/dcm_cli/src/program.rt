@@ -4,14 +4,14 @@ ghost use Rattle.std.specs.IoError.{error_kind};
 ghost use Rattle.dcm_cli.specs.Calls as calls;
 ghost use Rattle.dcm_cli.specs.Program as spec;
 ghost use Rattle.dcm_cli.specs.Program.{WorksBy, ObeysBy};
-ghost use Rattle.dcm_cli.specs.Told.{usage_line};
+ghost use Rattle.dcm_cli.specs.ErrorLines.{usage_line};
 ghost use Rattle.dcm_words.specs.declared.usage.Usage.TheVariants as usages;
 
 use crate::devices::{System, open_devices};
+use crate::error_lines::{tell, tell_open};
 use crate::host::Host;
 use crate::opened::Unopened;
 use crate::run::run;
-use crate::told::{tell, tell_open};
 use dcm_base::{DeviceOut, Watched, WordFault};
 use dcm_words::{Planned, Usage, plan};
 use std::alloc::{AllocError, Global};

@@ -12,7 +12,7 @@ ghost use Rattle.dcm_cli.specs.Pass as spec;
 ghost use Rattle.dcm_cli.specs.Stops.{HeadStops};
 
 use crate::ending::{Ending, Verdict, ending_of_head};
-use crate::head::{Begun, read_head_of, set_start};
+use crate::head::{Beginning, read_head_of, set_start};
 use crate::syntax::uid_of_syntax;
 use dcm_base::{
     Coding, DeviceIn, DeviceOut, Dictionary, Fault, Stop, Syntax, Watched, WriteFailed, put_parts,
@@ -22,7 +22,7 @@ use dcm_head::{Meta, PREFIX};
 /// A file whose data set is to be written again: the coding and the offset of the data set, and what was read of it.
 #[derive(Clone, Copy, Debug, PartialEq, Eq)]
 pub struct Opened {
-    pub begun: Begun,
+    pub beginning: Beginning,
     pub coding: Coding,
     pub start: u64,
 }
@@ -84,16 +84,16 @@ pub fn open_file<R: DeviceIn, W: DeviceOut>(
     ensures opens { calls.Opens R.DeviceIn W.DeviceOut dictionary target input.old input.new out.old out.new buffer.new result }
     ensures stops { HeadStops (R.remaining input.old) (R.remaining input.new) }
     ensures start { IfOk result (λ o. o.start ≤ 2 ^ 62) }
-    ensures within { IfOk result (λ o. (o.begun.used ≤ o.begun.filled) × (o.begun.filled ≤ length buffer.new)) }
-    ensures count { IfOk result (λ o. o.start + length (spec.set_bytes o.begun buffer.new) ≡ o.begun.read) }
-    ensures over { IfOk result (λ o. o.begun.is_over ≡ true → IsAtEnd (R.remaining input.new)) }
+    ensures within { IfOk result (λ o. (o.beginning.used ≤ o.beginning.filled) × (o.beginning.filled ≤ length buffer.new)) }
+    ensures count { IfOk result (λ o. o.start + length (spec.set_bytes o.beginning buffer.new) ≡ o.beginning.read) }
+    ensures over { IfOk result (λ o. o.beginning.is_over ≡ true → IsAtEnd (R.remaining input.new)) }
     ensures kept { length buffer.new ≡ length buffer.old }
     ensures unread { calls.OpensUnread R.DeviceIn input.old input.new result }
     ensures failed { calls.OpensUnwritten W.DeviceOut out.old out.new result }
 {
     let mut meta = Meta::new();
-    let begun = match read_head_of(&mut meta, input, buffer) {
-        Ok(begun) => begun,
+    let beginning = match read_head_of(&mut meta, input, buffer) {
+        Ok(beginning) => beginning,
         Err(ending) => return Err(ending_of_head(ending)),
     };
     let coding = meta.coding().read_by(dictionary);
@@ -108,7 +108,7 @@ pub fn open_file<R: DeviceIn, W: DeviceOut>(
         return Err(Ending::Output);
     }
     Ok(Opened {
-        begun,
+        beginning,
         coding,
         start,
     })

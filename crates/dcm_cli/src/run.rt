@@ -10,8 +10,10 @@ use crate::build::build;
 use crate::convert::convert;
 use crate::dump::dump;
 use crate::ending::{Ending, Verdict};
+use crate::error_lines::{
+    DEVICE, tell_fault, tell_line_fault, tell_output, tell_unplaced, tell_unread,
+};
 use crate::modify::modify;
-use crate::told::{DEVICE, tell_fault, tell_line_fault, tell_output, tell_unplaced, tell_unread};
 use dcm_base::{DeviceIn, DeviceOut, Watched, flush_out};
 use dcm_words::Job;
 

@@ -36,5 +36,5 @@ pub use edit::{Action, Edit, Index, NewElement, PathEdit, Step};
 pub use edits::Edits;
 pub use fault::EditFault;
 pub use mask::MOST_EDITS;
-pub use parse::dictionary_said;
+pub use parse::{dictionary_said, dictionary_word};
 pub use sink::EditSink;

@@ -54,8 +54,8 @@ fn option_word(word: &[u8]) -> OptionWord
     }
 }
 
-/// The dictionary that a word names.
-fn dictionary_word(word: &[u8]) -> Option<Dictionary>
+/// The dictionary that a word names: `+dict` the standard, `-dict` the extract. Other words name none.
+pub fn dictionary_word(word: &[u8]) -> Option<Dictionary>
     ensures { result ≡ spec.dictionary_word word.now }
 {
     if word == b"-dict".as_slice() {

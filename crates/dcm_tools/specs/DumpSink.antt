@@ -8,7 +8,7 @@ use Rattle.dcm_base.specs.Syntax.{Little}
 use Rattle.dcm_base.specs.declared.mode.Mode.{Mode}
 use Rattle.dcm_base.specs.declared.mode.Mode.TheVariants.{Short, Full}
 use Rattle.dcm_base.specs.declared.length.Length.{Length}
-use Rattle.dcm_base.specs.declared.length.Length.TheVariants.{Known, Undefined}
+use Rattle.dcm_base.specs.declared.length.Length.TheVariants.{Known}
 use Rattle.dcm_base.specs.Tag.{item_tag}
 use Rattle.dcm_base.specs.Representation.{letters}
 use Rattle.dcm_base.specs.declared.form.Form.{Form}
@@ -19,6 +19,7 @@ use Rattle.dcm_base.specs.Dump.{line_start, line, open_line, sequence_line, item
 use Rattle.dcm_base.specs.declared.lookup.Dictionary.{Dictionary}
 use Rattle.dcm_head.specs.declared.head.Head.{Head}
 use Rattle.dcm_stream.specs.declared.token.Bar.{Bar}
+use Rattle.dcm_stream.specs.Reading.{size_of}
 use Rattle.dcm_value.specs.Display.{at_once}
 use Rattle.dcm_value.specs.Progress.{Progress, started, opening, opened, step, writes, finishes, multiplicity}
 use Rattle.dcm_tools.specs.declared.dump.lines.Owner.{Owner}
@@ -82,10 +83,6 @@ begin_writes s owner p = open_line s.mode (owner_start (length s.lengths) owner)
 -- a sequence or item begins, and ends
 abbrev pub deeper : DumpState → Length → DumpState
 deeper s declared = if nat_lt (length s.lengths) MOST_OPEN then record s { lengths = declared ∷ s.lengths } else record s { is_lost = true }
-
-abbrev pub size_of : Length → ℕ
-size_of (Known size) = size
-size_of Undefined = 0
 
 abbrev pub dump_opens : Form → DumpState → Tag → Vr → Length → Syntax → DumpState
 dump_opens a_value s tag vr declared syntax = begin s (Element tag vr) (started vr syntax (size_of declared) s.mode)

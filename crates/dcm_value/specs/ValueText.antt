@@ -1,7 +1,7 @@
 -- What a `ValueText` stands for.
 use Rattle.dcm_value.specs.declared.value_text.ValueText.{ValueText}
-use Rattle.dcm_value.specs.Shown.{display}
+use Rattle.dcm_value.specs.Shown.{display_of}
 use Rattle.dcm_value.specs.Progress.{Progress}
 
 abbrev pub progress : ValueText → Progress
-progress t = record { vr = t.vr; syntax = t.syntax; size = t.size; seen = t.seen; held = t.held.bytes.items; values = t.values; display = display t.shown }
+progress t = record { vr = t.vr; syntax = t.syntax; size = t.size; seen = t.seen; held = t.held.bytes.items; values = t.values; display = display_of t.shown }

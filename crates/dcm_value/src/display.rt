@@ -44,11 +44,11 @@ fn append_spaces<const N: usize>(shown: usize, line: &mut ArrayVec<u8, N>)
 }
 
 impl Shown {
-    ghost use Rattle.dcm_value.specs.Shown.{display};
+    ghost use Rattle.dcm_value.specs.Shown.{display_of};
 
     /// Nothing yet.
     pub fn new(mode: Mode) -> Shown
-        ensures { display result ≡ spec.blank mode }
+        ensures { display_of result ≡ spec.blank mode }
     {
         Shown {
             mode,
@@ -66,7 +66,7 @@ impl Shown {
 
     /// Whether it is cut, so that nothing more can be shown.
     pub fn is_cut(&self) -> bool
-        ensures { result ≡ spec.is_cut (display self.now) }
+        ensures { result ≡ spec.is_cut (display_of self.now) }
     {
         self.mode == Mode::Short && self.count > 66
     }
@@ -78,7 +78,7 @@ impl Shown {
         bytes: &[u8],
         out: &mut Watched<W>,
     ) -> Result<(), WriteFailed>
-        ensures state { OnOk result (display self.new ≡ spec.emit (display self.old) bytes.now) }
+        ensures state { OnOk result (display_of self.new ≡ spec.emit (display_of self.old) bytes.now) }
         ensures bytes { outputs.Puts W.DeviceOut out.old out.new (spec.at_once self.old.mode bytes.now) result }
         ensures failed { outputs.Tells W.DeviceOut out.old out.new result }
     {
@@ -93,7 +93,7 @@ impl Shown {
     /// Appends what is still to be written, and the spaces after it.
     pub fn append_end<const N: usize>(&self, line: &mut ArrayVec<u8, N>)
         requires { length line.old.items + 66 ≤ N }
-        ensures items { line.new.items ≡ line.old.items ++ spec.ending (display self.now) }
+        ensures items { line.new.items ≡ line.old.items ++ spec.ending (display_of self.now) }
         ensures within { length line.new.items ≤ length line.old.items + 66 }
     {
         match self.mode {
@@ -116,7 +116,7 @@ impl Shown {
         bytes: &[u8],
         out: &mut Watched<W>,
     ) -> Result<(), WriteFailed>
-        ensures state { OnOk result (display self.new ≡ spec.emit (display self.old) (escaped bytes.now)) }
+        ensures state { OnOk result (display_of self.new ≡ spec.emit (display_of self.old) (escaped bytes.now)) }
         ensures bytes { outputs.Puts W.DeviceOut out.old out.new (spec.at_once self.old.mode (escaped bytes.now)) result }
         ensures failed { outputs.Tells W.DeviceOut out.old out.new result }
     {
@@ -143,7 +143,7 @@ impl Shown {
         units: &[u8],
         out: &mut Watched<W>,
     ) -> Result<(), WriteFailed>
-        ensures state { OnOk result (display self.new ≡ spec.emit (display self.old) (separated_units vr syntax units.now)) }
+        ensures state { OnOk result (display_of self.new ≡ spec.emit (display_of self.old) (separated_units vr syntax units.now)) }
         ensures bytes { outputs.Puts W.DeviceOut out.old out.new (spec.at_once self.old.mode (separated_units vr syntax units.now)) result }
         ensures failed { outputs.Tells W.DeviceOut out.old out.new result }
     {
@@ -165,7 +165,7 @@ impl Shown {
         uid: &[u8],
         out: &mut Watched<W>,
     ) -> Result<(), WriteFailed>
-        ensures state { OnOk result (display self.new ≡ spec.emit (display self.old) (identified uid.now)) }
+        ensures state { OnOk result (display_of self.new ≡ spec.emit (display_of self.old) (identified uid.now)) }
         ensures bytes { outputs.Puts W.DeviceOut out.old out.new (spec.at_once self.old.mode (identified uid.now)) result }
         ensures failed { outputs.Tells W.DeviceOut out.old out.new result }
     {

@@ -31,7 +31,7 @@ pub struct ValueText {
 impl ValueText {
     ghost use Rattle.dcm_value.specs.ValueText.{progress};
     ghost use Rattle.dcm_value.specs.Progress as spec;
-    ghost use Rattle.dcm_value.specs.Shown.{display};
+    ghost use Rattle.dcm_value.specs.Shown.{display_of};
 
     /// A value of this declared size, whose bytes come in the order of the syntax. SQ is shown as UN.
     pub fn new(vr: Vr, syntax: Syntax, size: u32, mode: Mode) -> ValueText
@@ -236,8 +236,8 @@ impl ValueText {
 
     /// Shows what stands behind the last byte.
     fn close<W: DeviceOut>(&mut self, out: &mut Watched<W>) -> Result<(), WriteFailed>
-        ensures display { OnOk result (display self.new.shown ≡ emit (display self.old.shown) (spec.closing (progress self.old))) }
-        ensures kept { OnOk result (progress self.new ≡ record (progress self.old) { display = display self.new.shown }) }
+        ensures display { OnOk result (display_of self.new.shown ≡ emit (display_of self.old.shown) (spec.closing (progress self.old))) }
+        ensures kept { OnOk result (progress self.new ≡ record (progress self.old) { display = display_of self.new.shown }) }
         ensures bytes { outputs.Puts W.DeviceOut out.old out.new (at_once self.old.shown.mode (spec.closing (progress self.old))) result }
         ensures failed { outputs.Tells W.DeviceOut out.old out.new result }
     {

@@ -3,7 +3,7 @@ use Rattle.std.specs.Prelude.{ℕ, suc, ◌+◌, List, [], ◌∷◌, Option, So
 use Rattle.std.specs.Option.{is_some}
 use Rattle.std.specs.Str.{byte}
 use Rattle.dcm_base.specs.declared.lookup.Dictionary.{Dictionary}
-use Rattle.dcm_base.specs.declared.lookup.Dictionary.TheVariants.{Extract, Standard}
+use Rattle.dcm_base.specs.declared.lookup.Dictionary.TheVariants.{Extract}
 use Rattle.dcm_base.specs.declared.syntax.Syntax.{Syntax}
 use Rattle.dcm_base.specs.Syntax.{Implicit, Little, Big}
 use Rattle.dcm_base.specs.declared.mode.Mode.{Mode}
@@ -15,7 +15,7 @@ use Rattle.dcm_words.specs.declared.usage.Usage.{Usage}
 use Rattle.dcm_words.specs.declared.usage.Usage.TheVariants.{AtWord, Whole, InEdit}
 use Rattle.dcm_base.specs.ReadValue.{number_in}
 use Rattle.dcm_edit.specs.Edit.{Edit}
-use Rattle.dcm_edit.specs.EditWords.{dictionary_said, meant_edits_in}
+use Rattle.dcm_edit.specs.EditWords.{dictionary_word, dictionary_said, meant_edits_in}
 
 -- what a tool is to do, with the dictionary that it reads with
 pub data Job : Type 0 where
@@ -44,10 +44,7 @@ other_word w = if is_option w then Unknown else Path
 
 -- the dictionary that is read with
 abbrev pub read_word : List ℕ → Word
-read_word w =
-    if bytes_eq w (codes "-dict") then Read Extract
-    else if bytes_eq w (codes "+dict") then Read Standard
-    else other_word w
+read_word w = elim (dictionary_word w) [ Some d ↦ Read d | None ↦ other_word w ]
 
 abbrev pub dump_word : List ℕ → Word
 dump_word w =

@@ -7,7 +7,7 @@ ghost use Rattle.dcm_words.specs.Plans.{reader, job_of, is_modify, GivesUnlessMe
 use crate::job::{Build, Convert, Dump, Job, Modify, Planned};
 use crate::usage::{Usage, Word};
 use dcm_base::{Dictionary, Mode, Syntax, WordFault};
-use dcm_edit::{EditFault, Edits, dictionary_said};
+use dcm_edit::{EditFault, Edits, dictionary_said, dictionary_word};
 use std::alloc::Allocator;
 
 /// The path of a standard stream.
@@ -68,12 +68,9 @@ fn other_word(word: &[u8]) -> Word
 fn read_word(word: &[u8]) -> Word
     ensures { result ≡ spec.read_word word.now }
 {
-    if word == b"-dict".as_slice() {
-        Word::Read(Dictionary::Extract)
-    } else if word == b"+dict".as_slice() {
-        Word::Read(Dictionary::Standard)
-    } else {
-        other_word(word)
+    match dictionary_word(word) {
+        Some(dictionary) => Word::Read(dictionary),
+        None => other_word(word),
     }
 }
 

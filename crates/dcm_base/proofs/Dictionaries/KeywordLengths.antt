@@ -5,7 +5,7 @@ use Rattle.std.specs.List.{list_all}
 use Rattle.std.proofs.lemmas.Bool.{leb-true}
 use Rattle.dcm_base.specs.declared.tag.Tag.{Tag}
 use Rattle.dcm_base.specs.declared.vr.Vr.{Vr}
-use Rattle.dcm_base.specs.Tag.{number}
+use Rattle.dcm_base.specs.Tag.{tag_number}
 use Rattle.dcm_base.specs.Dictionary.{Element, elements, elements_in, element_in, entries, keywords}
 use Rattle.dcm_base.specs.declared.lookup.Dictionary.{Dictionary}
 use Rattle.dcm_base.specs.declared.lookup.Dictionary.TheVariants.{Extract, Standard}
@@ -47,11 +47,11 @@ all_fit Standard = standard_has fits standard_fits
 -- of an element of a dictionary
 pub keyword_fits : (d : Dictionary) (t : Tag) (entry : Vr × List ℕ) → Some entry ≡ element_in d t → length entry.1 ≤ 64
 unfolding element_in fits
-keyword_fits d t entry is = by_row (find (λ (e : Element). e.0 == number t) (elements_in d)) refl is
+keyword_fits d t entry is = by_row (find (λ (e : Element). e.0 == tag_number t) (elements_in d)) refl is
   where
-    by_row : (o : Option Element) → find (λ (e : Element). e.0 == number t) (elements_in d) ≡ o → Some entry ≡ option_map (λ (e : Element). (e.1, e.2)) o → length entry.1 ≤ 64
+    by_row : (o : Option Element) → find (λ (e : Element). e.0 == tag_number t) (elements_in d) ≡ o → Some entry ≡ option_map (λ (e : Element). (e.1, e.2)) o → length entry.1 ≤ 64
     by_row (Some e) p is =
-        let fit : fits e.2 ≡ true = found_has (λ x. x.0 == number t) (λ x. fits x.2) (elements_in d) e (all_fit d) p in
+        let fit : fits e.2 ≡ true = found_has (λ x. x.0 == tag_number t) (λ x. fits x.2) (elements_in d) e (all_fit d) p in
         let same : entry ≡ (e.1, e.2) = cc in
         subst (λ (x : Vr × List ℕ). length x.1 ≤ 64) (sym same) (leb-true (length e.2) 64 fit)
     by_row None p is = cc

@@ -6,7 +6,7 @@ use Rattle.dcm_base.specs.declared.vr.Vr.{Vr}
 use Rattle.dcm_base.specs.declared.tag.Tag.{Tag}
 use Rattle.dcm_base.specs.declared.lookup.Dictionary.{Dictionary}
 use Rattle.dcm_base.specs.declared.lookup.Dictionary.TheVariants.{Extract, Standard}
-use Rattle.dcm_base.specs.Tag.{number}
+use Rattle.dcm_base.specs.Tag.{tag_number}
 use Rattle.dcm_base.specs.Dictionary.{Element, Entry, elements, entries, keywords, keyword_of, element_of, elements_in, element_in, numbered}
 use Rattle.dcm_base.specs.Laws.{is_even}
 use Rattle.dcm_base.proofs.Dictionaries.Lines.{standard_keywords, standard_keywords_are}
@@ -55,7 +55,7 @@ module _ (table : List Element) (n : ℕ) (e : Vr × List ℕ) where
 pub extract_is_part : (t : Tag) (e : Vr × List ℕ) → element_in Extract t ≡ Some e → element_in Standard t ≡ Some e
 unfolding element_in elements_in
 extract_is_part t e p =
-    part (elements_in Standard) (number t) e elements (subst (λ (table : List Element). looked_up table elements ≡ map said elements) standard_elements extract_found) p
+    part (elements_in Standard) (tag_number t) e elements (subst (λ (table : List Element). looked_up table elements ≡ map said elements) standard_elements extract_found) p
 
 -- no element is of an odd group
 entries_even : list_all (λ (e : Entry). is_even e.0) entries ≡ true

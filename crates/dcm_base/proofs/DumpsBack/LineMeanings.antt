@@ -6,7 +6,7 @@ use Rattle.std.specs.Option.{option_map_or}
 use Rattle.dcm_base.specs.declared.tag.Tag.{Tag}
 use Rattle.dcm_base.specs.declared.vr.Vr.{Vr}
 use Rattle.dcm_base.specs.declared.length.Length.TheVariants.{Known, Undefined}
-use Rattle.dcm_base.specs.Tag.{number}
+use Rattle.dcm_base.specs.Tag.{tag_number}
 use Rattle.dcm_base.specs.declared.length.Length.{Length}
 use Rattle.dcm_base.specs.Dictionary.{Element, elements, elements_in, entries, keywords, element_in, keyword_in, is_group_length, is_private_creator, other_keyword}
 use Rattle.dcm_base.proofs.Dictionaries.Lines.{standard_keywords, standard_has}
@@ -74,7 +74,7 @@ all_printed_keywords Standard = standard_has is_printed_keyword standard_printed
 
 keyword_is_printed : (k : Dictionary) (t : Tag) → Bytewise IsPrinted (keyword_in k t)
 unfolding keyword_in element_in is_printed_keyword
-keyword_is_printed k t = by_element (find (λ (e : Element). e.0 == number t) (elements_in k)) refl
+keyword_is_printed k t = by_element (find (λ (e : Element). e.0 == tag_number t) (elements_in k)) refl
   where
     by_number : (a b c : Bool) → Bytewise IsPrinted (if a then codes "Item" else if b then codes "ItemDelimitationItem" else if c then codes "SequenceDelimitationItem" else codes "Unknown Tag & Data")
     by_number true b c = printed_text (codes "Item") refl
@@ -87,10 +87,10 @@ keyword_is_printed k t = by_element (find (λ (e : Element). e.0 == number t) (e
     by_kind false true other h = printed_text (codes "PrivateCreator") refl
     by_kind false false other h = h
 
-    by_element : (o : Option Element) → find (λ (e : Element). e.0 == number t) (elements_in k) ≡ o
-        → Bytewise IsPrinted (option_map_or (λ (e : Vr × List ℕ). e.1) (option_map (λ (e : Element). (e.1, e.2)) o) (if is_group_length t then codes "GenericGroupLength" else if is_private_creator t then codes "PrivateCreator" else other_keyword (number t)))
-    by_element (Some e) p = printed_text e.2 (found_has (λ x. x.0 == number t) (λ x. is_printed_keyword x.2) (elements_in k) e (all_printed_keywords k) p)
-    by_element None p = by_kind (is_group_length t) (is_private_creator t) (other_keyword (number t)) (by_number (number t == 0xFFFEE000) (number t == 0xFFFEE00D) (number t == 0xFFFEE0DD))
+    by_element : (o : Option Element) → find (λ (e : Element). e.0 == tag_number t) (elements_in k) ≡ o
+        → Bytewise IsPrinted (option_map_or (λ (e : Vr × List ℕ). e.1) (option_map (λ (e : Element). (e.1, e.2)) o) (if is_group_length t then codes "GenericGroupLength" else if is_private_creator t then codes "PrivateCreator" else other_keyword (tag_number t)))
+    by_element (Some e) p = printed_text e.2 (found_has (λ x. x.0 == tag_number t) (λ x. is_printed_keyword x.2) (elements_in k) e (all_printed_keywords k) p)
+    by_element None p = by_kind (is_group_length t) (is_private_creator t) (other_keyword (tag_number t)) (by_number (tag_number t == 0xFFFEE000) (tag_number t == 0xFFFEE00D) (tag_number t == 0xFFFEE0DD))
 
 -- behind the display
 abbrev comment : List ℕ → ℕ → List ℕ → List ℕ

@@ -14,7 +14,8 @@ use Rattle.dcm_base.specs.Transfer.{without_pads, coding_of}
 use Rattle.dcm_base.specs.Size.{trees_size}
 use Rattle.dcm_base.specs.Place.{set_levels, levels, depth}
 use Rattle.dcm_base.specs.Bars.{innermost_reached}
-use Rattle.dcm_base.specs.Build.{built, Built, Progress, Told, with_step, no_elements}
+use Rattle.dcm_base.specs.Build.{built, Built, Progress, with_step, no_elements}
+use Rattle.dcm_base.specs.declared.fault.LineStop.{LineStop}
 
 -- all that a row computes with
 unfoldable pub all : ℕ
@@ -22,13 +23,13 @@ unfolding vr_of uid_of uids without_pads coding_of trees_size set_levels levels 
 all = 0
 
 -- the lines before the first fault build this, and the fault is told so
-abbrev Builds : Progress → Built → Option Told → Type 0
+abbrev Builds : Progress → Built → Option LineStop → Type 0
 Builds p b t = (p.built ≡ b) × (p.told ≡ t)
 
 abbrev tag : ℕ → ℕ → Tag
 tag g e = record { group = g; element = e }
 
-abbrev at_line : LineFault → ℕ → ℕ → Option Told
+abbrev at_line : LineFault → ℕ → ℕ → Option LineStop
 at_line fault offset line = Some (record { fault = fault; offset = offset; line = line })
 
 abbrev syntax_line : List ℕ

@@ -2,7 +2,6 @@
 use Rattle.std.proofs.Common.{◌≡◌, ◌∙◌, sym, ap, subst, refl, ℕ, List, [], ◌++◌, Bool, true, false, Option, Some, None, Ok, Err}
 use Rattle.std.specs.Prelude.{is_some, ◌||◌}
 use Rattle.std.specs.Io.KnownBytes.{append_known}
-use Rattle.dcm_base.specs.Build.{told_of}
 use Rattle.dcm_base.specs.Steps.{Goes}
 use Rattle.dcm_base.proofs.Writes.Puts.{append_known_none}
 use Rattle.dcm_base.proofs.Writes.Runs.{goes_on, goes_failed}
@@ -87,7 +86,7 @@ gone_on old held mid mid_held new holds xs ys (Some halt) n e a b = absurd (cc)
 -- bytes at which it is halted, behind those so far
 gone_halting : (old : BuildState) (held : Option (List ℕ)) (mid : BuildState) (mid_held : Option (List ℕ)) (new : LineReader) (holds : Option (List ℕ)) (xs ys : List ℕ) (halt : BuildHalt)
     → Gone old held mid mid_held xs false → Feeds {T = ℕ} mid mid_held (building new) holds ys (Err halt) → Gone old held (building new (stop_of (Some halt))) holds (xs ++ ys) (is_output (Some halt))
-gone_halting old held mid mid_held new holds xs ys (Refused stop) a b = goes_on build_step build_writes {T = Unit {0}} {E = Unit {0}} old held mid mid_held (building new (Some (told_of stop))) holds xs ys (Ok tt) a.0 a.1 b
+gone_halting old held mid mid_held new holds xs ys (Refused stop) a b = goes_on build_step build_writes {T = Unit {0}} {E = Unit {0}} old held mid mid_held (building new (Some stop)) holds xs ys (Ok tt) a.0 a.1 b
 gone_halting old held mid mid_held new holds xs ys Output a b = goes_on build_step build_writes {T = Unit {0}} {E = Unit {0}} old held mid mid_held (building new None) holds xs ys (Err tt) a.0 a.1 b
 
 pub gone_halted : (old : BuildState) (held : Option (List ℕ)) (mid : LineReader) (mid_held : Option (List ℕ)) (new : LineReader) (holds : Option (List ℕ)) (xs ys : List ℕ) (before : Option BuildHalt) (halt : BuildHalt) → before ≡ None
@@ -99,9 +98,9 @@ gone_halted old held mid mid_held new holds xs ys (Some before) halt e a b = abs
 gone_behind : (old : BuildState) (held : Option (List ℕ)) (new : LineReader) (holds : Option (List ℕ)) (xs ys : List ℕ) (halt : BuildHalt) → Gone old held (building new (stop_of (Some halt))) holds xs (is_output (Some halt))
     → Gone old held (building new (stop_of (Some halt))) holds (xs ++ ys) (is_output (Some halt))
 gone_behind old held new holds xs ys (Refused stop) a =
-    let s = building new (Some (told_of stop)) in
+    let s = building new (Some stop) in
     goes_on build_step build_writes {T = Unit {0}} {E = Unit {0}} old held s holds s holds xs ys (Ok tt) a.0 a.1
-    (sym (told_stays new.file (line_at new) (told_of stop) ys), sym (append_known_none holds) ∙ ap (append_known holds) (sym (told_silent new.file (line_at new) (told_of stop) ys)))
+    (sym (told_stays new.file (line_at new) stop ys), sym (append_known_none holds) ∙ ap (append_known holds) (sym (told_silent new.file (line_at new) stop ys)))
 gone_behind old held new holds xs ys Output a = goes_failed build_step build_writes {T = Unit {0}} {E = Unit {0}} old held (building new None) holds xs ys (Err tt) refl a
 
 pub gone_still : (old : BuildState) (held : Option (List ℕ)) (new : LineReader) (holds : Option (List ℕ)) (xs ys : List ℕ) (halt : Option BuildHalt) → is_some halt ≡ true → Gone old held (building new (stop_of halt)) holds xs (is_output halt)

@@ -7,7 +7,8 @@ use Rattle.std.proofs.lemmas.List.{append-nil}
 use Rattle.std.proofs.lemmas.List.Sums.{fold-append}
 use Rattle.dcm_base.specs.declared.fault.LineFault.TheVariants.{LineTooLong}
 use Rattle.dcm_base.specs.Build as build
-use Rattle.dcm_base.specs.Build.{Told, Lines, lines, more_lines, at_start}
+use Rattle.dcm_base.specs.Build.{Lines, lines, more_lines, at_start}
+use Rattle.dcm_base.specs.declared.fault.LineStop.{LineStop}
 use Rattle.dcm_base.specs.Reads.{INPUT_LIMIT}
 use Rattle.dcm_build.specs.Builder.{Plain}
 use Rattle.dcm_build.specs.Building.{BuildState, build_start, build_step, going_step, cut_short, line_taken, tells}
@@ -109,7 +110,7 @@ stepped cut ends short s b = cond cut (cut_short s) (cond ends (line_taken s) (c
 
 goes_on : (s : BuildState) (b : ℕ) → s.told ≡ None → (b == byte "\n") ≡ false → length s.line < s.limit → s.offset + length s.line < INPUT_LIMIT → build_step s b ≡ record s { line = s.line ++ b ∷ [] }
 goes_on s b none same short within =
-    ap (λ (o : Option Told). elim o as (λ x. BuildState) [ Some t ↦ s | None ↦ going_step s b ]) none
+    ap (λ (o : Option LineStop). elim o as (λ x. BuildState) [ Some t ↦ s | None ↦ going_step s b ]) none
     ∙ ap (λ t. stepped t (b == byte "\n") (nat_lt (length s.line) s.limit) s b) (not_cut INPUT_LIMIT (s.offset + length s.line) within)
     ∙ ap (λ t. stepped false t (nat_lt (length s.line) s.limit) s b) same
     ∙ ap (λ t. stepped false false t s b) (lt-ltb (length s.line) s.limit short)
@@ -157,7 +158,7 @@ goes_where limit bytes = (goes_undecided limit bytes, undecided_goes limit bytes
 
 -- ---- a call
 
-refuses_where : (U : Type 0) (o : Option Told) → (o ≡ None → U) → (U → o ≡ None) → IsTold o ↔ (U → ⊥)
+refuses_where : (U : Type 0) (o : Option LineStop) → (o ≡ None → U) → (U → o ≡ None) → IsTold o ↔ (U → ⊥)
 refuses_where U None f g = ((λ x. absurd (let no : None ≡ Some x.0 = x.1 in cc)), (λ no. absurd (no (f refl))))
 refuses_where U (Some t) f g = ((λ x u. let no : Some t ≡ None = g u in cc), (λ no. (t, refl)))
 
@@ -167,24 +168,24 @@ call_refuses limit before piece =
     subst (λ (s : BuildState). IsTold s.told ↔ (Undecided limit all → ⊥)) (fold-append build_step (build_start limit) before piece)
     (refuses_where (Undecided limit all) (fold build_step (build_start limit) all).told (goes_undecided limit all) (undecided_goes limit all))
 
-both_told : (o : Option Told) (t : Told) → o ≡ None → o ≡ Some t → ⊥
+both_told : (o : Option LineStop) (t : LineStop) → o ≡ None → o ≡ Some t → ⊥
 both_told o t none some = let no : None ≡ Some t = sym none ∙ some in cc
 
 module _ (limit : ℕ) (bytes : List ℕ) where
-  told_here : (t : Told) → (fold build_step (build_start limit) bytes).told ≡ Some t → (build.built limit bytes).told ≡ Some t
+  told_here : (t : LineStop) → (fold build_step (build_start limit) bytes).told ≡ Some t → (build.built limit bytes).told ≡ Some t
   told_here t e = subst (λ (bs : List ℕ). (build.built limit bs).told ≡ Some t) (append-nil bytes) (refused limit bytes [] t e).told_is
 
-  told_by : (t : Told) (o : Option Told) → (fold build_step (build_start limit) bytes).told ≡ o → (build.built limit bytes).told ≡ Some t → (Undecided limit bytes → ⊥) → (fold build_step (build_start limit) bytes).told ≡ Some t
+  told_by : (t : LineStop) (o : Option LineStop) → (fold build_step (build_start limit) bytes).told ≡ o → (build.built limit bytes).told ≡ Some t → (Undecided limit bytes → ⊥) → (fold build_step (build_start limit) bytes).told ≡ Some t
   told_by t None e is decided = absurd (decided (goes_undecided limit bytes e))
   told_by t (Some u) e is _ = e ∙ sym (told_here u e) ∙ is
 
-  tells_where : (t : Told) → ((fold build_step (build_start limit) bytes).told ≡ Some t) ↔ (((build.built limit bytes).told ≡ Some t) × (Undecided limit bytes → ⊥))
+  tells_where : (t : LineStop) → ((fold build_step (build_start limit) bytes).told ≡ Some t) ↔ (((build.built limit bytes).told ≡ Some t) × (Undecided limit bytes → ⊥))
   tells_where t = (
     (λ e. (told_here t e, λ u. both_told (fold build_step (build_start limit) bytes).told t (undecided_goes limit bytes u) e)),
     (λ x. told_by t (fold build_step (build_start limit) bytes).told refl x.0 x.1),
   )
 
-pub call_tells : (limit : ℕ) (before piece : List ℕ) (told : Told) → CallTells limit before piece told
+pub call_tells : (limit : ℕ) (before piece : List ℕ) (told : LineStop) → CallTells limit before piece told
 call_tells limit before piece told =
     let all = before ++ piece in
     subst (λ (s : BuildState). (s.told ≡ Some told) ↔ (((build.built limit all).told ≡ Some told) × (Undecided limit all → ⊥))) (fold-append build_step (build_start limit) before piece)

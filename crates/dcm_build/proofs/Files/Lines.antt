@@ -7,7 +7,8 @@ use Rattle.std.proofs.lemmas.Bool.{cases_Bool, cases_lt, lt-ltb, le-ltb, le-leb,
 use Rattle.std.proofs.lemmas.List.{append-nil}
 use Rattle.dcm_base.specs.declared.fault.LineFault.TheVariants.{LineTooLong, TooLong}
 use Rattle.dcm_base.specs.Build as build
-use Rattle.dcm_base.specs.Build.{first_fault, Built, Refused, refused, Progress, Told, Lines, lines, more_lines, last_apart, lines_of, with_line, line_built, moved, tell, built_bytes, with_rest, at_input_end, at_the_cut, with_meaning, without_return}
+use Rattle.dcm_base.specs.Build.{first_fault, Built, Refused, refused, Progress, Lines, lines, more_lines, last_apart, lines_of, with_line, line_built, moved, tell, built_bytes, with_rest, at_input_end, at_the_cut, with_meaning, without_return}
+use Rattle.dcm_base.specs.declared.fault.LineStop.{LineStop}
 use Rattle.dcm_base.specs.Line.{means}
 use Rattle.dcm_base.specs.Reads.{INPUT_LIMIT}
 use Rattle.dcm_build.proofs.Files.OpenContainers.{standing_in}
@@ -123,23 +124,23 @@ built_is limit bytes = built_by_room INPUT_LIMIT limit bytes
 
 -- ---- a fault stays
 
-abbrev IsTold : Progress → Told → Type 0
+abbrev IsTold : Progress → LineStop → Type 0
 IsTold p t = p.told ≡ Some t
 
-line_stays : (limit : ℕ) (p : Progress) (line : List ℕ) (t : Told) → IsTold p t → with_line limit p line ≡ p
-line_stays limit p line t e = ap (λ (o : Option Told). elim o as (λ x. Progress) [ Some t ↦ p | None ↦ moved (length line) p (line_built limit line p.built) ]) e
+line_stays : (limit : ℕ) (p : Progress) (line : List ℕ) (t : LineStop) → IsTold p t → with_line limit p line ≡ p
+line_stays limit p line t e = ap (λ (o : Option LineStop). elim o as (λ x. Progress) [ Some t ↦ p | None ↦ moved (length line) p (line_built limit line p.built) ]) e
 
-lines_stay : (limit : ℕ) (ls : List (List ℕ)) (p : Progress) (t : Told) → IsTold p t → run_lines limit p ls ≡ p
+lines_stay : (limit : ℕ) (ls : List (List ℕ)) (p : Progress) (t : LineStop) → IsTold p t → run_lines limit p ls ≡ p
 lines_stay limit [] p t e = refl
 lines_stay limit (line ∷ more) p t e = ap (λ (q : Progress). run_lines limit q more) (line_stays limit p line t e) ∙ lines_stay limit more p t e
 
-rest_stays : (limit : ℕ) (rest : List ℕ) (p : Progress) (t : Told) → IsTold p t → with_rest limit rest p ≡ p
+rest_stays : (limit : ℕ) (rest : List ℕ) (p : Progress) (t : LineStop) → IsTold p t → with_rest limit rest p ≡ p
 rest_stays limit [] p t e = refl
 rest_stays limit (c ∷ cs) p t e = line_stays limit p (c ∷ cs) t e
 
-pub end_stays : (size : ℕ) (p : Progress) (t : Told) → IsTold p t → at_input_end size p ≡ p
+pub end_stays : (size : ℕ) (p : Progress) (t : LineStop) → IsTold p t → at_input_end size p ≡ p
 end_stays size p t e =
-    ap (λ (o : Option Told). elim o as (λ x. Progress) [
+    ap (λ (o : Option LineStop). elim o as (λ x. Progress) [
       | Some t ↦ p
       | None ↦ elim (first_fault (build.end_checks p.built)) [
         | Some fault ↦ tell fault size p.line (record p { built = build.meta_has_ended p.built })
@@ -147,14 +148,14 @@ end_stays size p t e =
       ]
     ]) e
 
-cut_stays : (limit : ℕ) (rest : List ℕ) (p : Progress) (t : Told) → IsTold p t → at_the_cut limit rest p ≡ p
-cut_stays limit rest p t e = ap (λ (o : Option Told). elim o as (λ x. Progress) [ Some t ↦ p | None ↦ cond (nat_lt limit (length rest)) (tell LineTooLong p.offset p.line p) (tell TooLong INPUT_LIMIT 0 p) ]) e
+cut_stays : (limit : ℕ) (rest : List ℕ) (p : Progress) (t : LineStop) → IsTold p t → at_the_cut limit rest p ≡ p
+cut_stays limit rest p t e = ap (λ (o : Option LineStop). elim o as (λ x. Progress) [ Some t ↦ p | None ↦ cond (nat_lt limit (length rest)) (tell LineTooLong p.offset p.line p) (tell TooLong INPUT_LIMIT 0 p) ]) e
 
-by_cut : (limit size : ℕ) (cut : Bool) (p : Progress) (l : Lines) (q : Progress) (t : Told) → run_lines limit p l.ended ≡ q → IsTold q t → ends_at limit size cut p l ≡ q
+by_cut : (limit size : ℕ) (cut : Bool) (p : Progress) (l : Lines) (q : Progress) (t : LineStop) → run_lines limit p l.ended ≡ q → IsTold q t → ends_at limit size cut p l ≡ q
 by_cut limit size true p l q t e h = ap (λ (x : Progress). at_the_cut limit l.rest x) e ∙ cut_stays limit l.rest q t h
 by_cut limit size false p l q t e h = ap (λ (x : Progress). at_input_end size (with_rest limit l.rest x)) e ∙ ap (at_input_end size) (rest_stays limit l.rest q t h) ∙ end_stays size q t h
 
-pub all_stays : (limit size : ℕ) (cut : Bool) (p : Progress) (l : Lines) (t : Told) → IsTold p t → ends_at limit size cut p l ≡ p
+pub all_stays : (limit size : ℕ) (cut : Bool) (p : Progress) (l : Lines) (t : LineStop) → IsTold p t → ends_at limit size cut p l ≡ p
 all_stays limit size cut p l t e = by_cut limit size cut p l p t (lines_stay limit l.ended p t e) e
 
 -- ---- a line that is too long
@@ -162,12 +163,12 @@ all_stays limit size cut p l t e = by_cut limit size cut p l p t (lines_stay lim
 abbrev too_long : Progress → Progress
 too_long p = tell LineTooLong p.offset p.line p
 
-abbrev too_long_told : Progress → Told
+abbrev too_long_told : Progress → LineStop
 too_long_told p = record { fault = LineTooLong; offset = p.offset; line = p.line }
 
 long_line : (limit : ℕ) (p : Progress) (line : List ℕ) → p.told ≡ None → limit < length line → with_line limit p line ≡ too_long p
 long_line limit p line e l =
-    ap (λ (o : Option Told). elim o as (λ x. Progress) [ Some t ↦ p | None ↦ moved (length line) p (line_built limit line p.built) ]) e
+    ap (λ (o : Option LineStop). elim o as (λ x. Progress) [ Some t ↦ p | None ↦ moved (length line) p (line_built limit line p.built) ]) e
     ∙ ap (λ (b : Bool). moved (length line) p (elim b as (λ x. Result Built Refused) [ true ↦ refused LineTooLong p.built | false ↦ with_meaning (means (without_return line)) p.built ])) (lt-ltb limit (length line) l)
 
 long_rest : (limit : ℕ) (p : Progress) (line : List ℕ) → p.told ≡ None → limit < length line → with_rest limit line p ≡ too_long p
@@ -176,7 +177,7 @@ long_rest limit p (c ∷ cs) e l = long_line limit p (c ∷ cs) e l
 
 long_cut : (limit : ℕ) (p : Progress) (line : List ℕ) → p.told ≡ None → limit < length line → at_the_cut limit line p ≡ too_long p
 long_cut limit p line e l =
-    ap (λ (o : Option Told). elim o as (λ x. Progress) [ Some t ↦ p | None ↦ cond (nat_lt limit (length line)) (tell LineTooLong p.offset p.line p) (tell TooLong INPUT_LIMIT 0 p) ]) e
+    ap (λ (o : Option LineStop). elim o as (λ x. Progress) [ Some t ↦ p | None ↦ cond (nat_lt limit (length line)) (tell LineTooLong p.offset p.line p) (tell TooLong INPUT_LIMIT 0 p) ]) e
     ∙ ap (λ (b : Bool). cond b (tell LineTooLong p.offset p.line p) (tell TooLong INPUT_LIMIT 0 p)) (lt-ltb limit (length line) l)
 
 long_alone : (limit size : ℕ) (cut : Bool) (p : Progress) (line : List ℕ) → p.told ≡ None → limit < length line → ends_at limit size cut p (lines [] line) ≡ too_long p
@@ -211,7 +212,7 @@ pub record Going (limit : ℕ) (p : Progress) (s : BuildState) (line out : List 
 -- a line goes on to the next, or is at fault
 pub data LineEnds (limit : ℕ) (p : Progress) (s : BuildState) (out : List ℕ) (place : ℕ) : Type 0 where
   goes : Going limit p s [] out → p.offset ≡ place → LineEnds limit p s out place
-  stops : (t : Told) → s.told ≡ Some t → p.told ≡ Some t → out ≡ built_bytes p.built → LineEnds limit p s out place
+  stops : (t : LineStop) → s.told ≡ Some t → p.told ≡ Some t → out ≡ built_bytes p.built → LineEnds limit p s out place
 
 -- the meta group and the data set do not change with the place
 moved_on : (b : Built) (s : BuildState) (out line : List ℕ) (offset number : ℕ) → Stands b s out → Stands b (record s { line = line; offset = offset; number = number }) out
@@ -225,10 +226,10 @@ abbrev on_next : ℕ → BuildState → BuildState
 on_next size t = record t { line = []; offset = (t.offset + size) + 1; number = suc t.number }
 
 next_none : (size : ℕ) (t : BuildState) → t.told ≡ None → next_line size t ≡ on_next size t
-next_none size t e = ap (λ (o : Option Told). elim o as (λ x. BuildState) [ Some u ↦ t | None ↦ on_next size t ]) e
+next_none size t e = ap (λ (o : Option LineStop). elim o as (λ x. BuildState) [ Some u ↦ t | None ↦ on_next size t ]) e
 
-next_told : (size : ℕ) (t : BuildState) (u : Told) → t.told ≡ Some u → next_line size t ≡ t
-next_told size t u e = ap (λ (o : Option Told). elim o as (λ x. BuildState) [ Some v ↦ t | None ↦ on_next size t ]) e
+next_told : (size : ℕ) (t : BuildState) (u : LineStop) → t.told ≡ Some u → next_line size t ≡ t
+next_told size t u e = ap (λ (o : Option LineStop). elim o as (λ x. BuildState) [ Some v ↦ t | None ↦ on_next size t ]) e
 
 line_follows : (limit : ℕ) (r : Result Built Refused) (p : Progress) (s t : BuildState) (line before out : List ℕ) (size : ℕ) → Going limit p s line before → Follows r s t out
     → LineEnds limit (moved size p r) (next_line size t) out ((p.offset + size) + 1)
@@ -248,13 +249,13 @@ line_follows limit (Ok b) p s t line before out size g f =
       short = omega arith;
     }) refl)
 line_follows limit (Err r) p s t line before out size g f =
-    let u : Told = record { fault = r.fault; offset = p.offset; line = p.line } in
+    let u : LineStop = record { fault = r.fault; offset = p.offset; line = p.line } in
     let is : t.told ≡ Some u = f.0 ∙ ap (λ (k : ℕ). Some (record { fault = r.fault; offset = k; line = s.number })) g.offset_is ∙ ap (λ (k : ℕ). Some (record { fault = r.fault; offset = p.offset; line = k })) g.number_is in
     subst (λ (x : BuildState). LineEnds limit (moved size p (Err r)) x out ((p.offset + size) + 1)) (sym (next_told size t u is)) (stops u is refl f.1)
 
 pub line_means : (limit : ℕ) (p : Progress) (line : List ℕ) → p.told ≡ None → length line ≤ limit → with_line limit p line ≡ moved (length line) p (with_meaning (means (without_return line)) p.built)
 line_means limit p line e l =
-    ap (λ (o : Option Told). elim o as (λ x. Progress) [ Some t ↦ p | None ↦ moved (length line) p (line_built limit line p.built) ]) e
+    ap (λ (o : Option LineStop). elim o as (λ x. Progress) [ Some t ↦ p | None ↦ moved (length line) p (line_built limit line p.built) ]) e
     ∙ ap (λ (b : Bool). moved (length line) p (elim b as (λ x. Result Built Refused) [ true ↦ refused LineTooLong p.built | false ↦ with_meaning (means (without_return line)) p.built ])) (le-ltb limit (length line) l)
 
 own_line_ends : (limit : ℕ) (p : Progress) (s : BuildState) (out : List ℕ) → Going limit p s s.line out → LineEnds limit (with_line limit p s.line) (line_taken s) (out ++ line_writes s) ((p.offset + length s.line) + 1)
@@ -275,7 +276,7 @@ abbrev HasRoom : ℕ → Progress → List ℕ → Type 0
 HasRoom room p line = room + (p.offset + length line) ≡ INPUT_LIMIT
 
 -- whatever follows, this is told of it, and this was built
-abbrev Settled : (limit room : ℕ) → Progress → List ℕ → List ℕ → Told → List ℕ → Type 0
+abbrev Settled : (limit room : ℕ) → Progress → List ℕ → List ℕ → LineStop → List ℕ → Type 0
 Settled limit room p line bytes t out = (later : List ℕ) (size : ℕ) → ((result limit size room p line (bytes ++ later)).told ≡ Some t) × (out ≡ built_bytes (result limit size room p line (bytes ++ later)).built)
 
 -- the state goes on behind these bytes, or a fault was told
@@ -284,7 +285,7 @@ pub data Ran (limit room : ℕ) (p : Progress) (line bytes : List ℕ) (s : Buil
       → ((later : List ℕ) (size : ℕ) → result limit size room p line (bytes ++ later) ≡ result limit size left q rest later)
       → ((later : List ℕ) → (run_lines limit p (lines_from line (bytes ++ later)).ended ≡ run_lines limit q (lines_from rest later).ended) × ((lines_from line (bytes ++ later)).rest ≡ (lines_from rest later).rest))
       → Ran limit room p line bytes s out
-  told_of : (t : Told) → s.told ≡ Some t → Settled limit room p line bytes t out → Ran limit room p line bytes s out
+  told_of : (t : LineStop) → s.told ≡ Some t → Settled limit room p line bytes t out → Ran limit room p line bytes s out
 
 cut_at : (n k : ℕ) → zero + k ≡ n → nat_le n k ≡ true
 cut_at n k e = le-leb n k (omega (arith, e))
@@ -306,15 +307,15 @@ abbrev stepped_writes : Bool → Bool → BuildState → List ℕ
 stepped_writes cut ends s = cond cut [] (cond ends (line_writes s) [])
 
 fresh_step : (s : BuildState) (b : ℕ) → s.told ≡ None → build_step s b ≡ stepped (steps.is_cut s) (b == byte "\n") (nat_lt (length s.line) s.limit) s b
-fresh_step s b e = ap (λ (o : Option Told). elim o as (λ x. BuildState) [ Some t ↦ s | None ↦ steps.going_step s b ]) e
+fresh_step s b e = ap (λ (o : Option LineStop). elim o as (λ x. BuildState) [ Some t ↦ s | None ↦ steps.going_step s b ]) e
 
 fresh_writes : (s : BuildState) (b : ℕ) → s.told ≡ None → build_writes s b ≡ stepped_writes (steps.is_cut s) (b == byte "\n") s
-fresh_writes s b e = ap (λ (o : Option Told). elim o as (λ x. List ℕ) [ Some t ↦ [] | None ↦ steps.going_writes s b ]) e
+fresh_writes s b e = ap (λ (o : Option LineStop). elim o as (λ x. List ℕ) [ Some t ↦ [] | None ↦ steps.going_writes s b ]) e
 
 -- past the limit of an input
 cut_result : (limit : ℕ) (p : Progress) (line : List ℕ) → p.told ≡ None → length line ≤ limit → at_the_cut limit line p ≡ tell TooLong INPUT_LIMIT 0 p
 cut_result limit p line e l =
-    ap (λ (o : Option Told). elim o as (λ x. Progress) [ Some t ↦ p | None ↦ cond (nat_lt limit (length line)) (tell LineTooLong p.offset p.line p) (tell TooLong INPUT_LIMIT 0 p) ]) e
+    ap (λ (o : Option LineStop). elim o as (λ x. Progress) [ Some t ↦ p | None ↦ cond (nat_lt limit (length line)) (tell LineTooLong p.offset p.line p) (tell TooLong INPUT_LIMIT 0 p) ]) e
     ∙ ap (λ (b : Bool). cond b (tell LineTooLong p.offset p.line p) (tell TooLong INPUT_LIMIT 0 p)) (le-ltb limit (length line) l)
 
 own_bytes : (limit : ℕ) (p : Progress) (s : BuildState) (line out : List ℕ) → Going limit p s line out → out ++ [] ≡ built_bytes p.built
@@ -414,17 +415,17 @@ one_ran (suc n) limit p s line out b room g =
 
 -- ---- all bytes
 
-told_step : (s : BuildState) (b : ℕ) (t : Told) → s.told ≡ Some t → build_step s b ≡ s
-told_step s b t e = ap (λ (o : Option Told). elim o as (λ x. BuildState) [ Some u ↦ s | None ↦ steps.going_step s b ]) e
+told_step : (s : BuildState) (b : ℕ) (t : LineStop) → s.told ≡ Some t → build_step s b ≡ s
+told_step s b t e = ap (λ (o : Option LineStop). elim o as (λ x. BuildState) [ Some u ↦ s | None ↦ steps.going_step s b ]) e
 
-told_writes : (s : BuildState) (b : ℕ) (t : Told) → s.told ≡ Some t → build_writes s b ≡ []
-told_writes s b t e = ap (λ (o : Option Told). elim o as (λ x. List ℕ) [ Some u ↦ [] | None ↦ steps.going_writes s b ]) e
+told_writes : (s : BuildState) (b : ℕ) (t : LineStop) → s.told ≡ Some t → build_writes s b ≡ []
+told_writes s b t e = ap (λ (o : Option LineStop). elim o as (λ x. List ℕ) [ Some u ↦ [] | None ↦ steps.going_writes s b ]) e
 
-told_steps : (bytes : List ℕ) (s : BuildState) (t : Told) → s.told ≡ Some t → fold build_step s bytes ≡ s
+told_steps : (bytes : List ℕ) (s : BuildState) (t : LineStop) → s.told ≡ Some t → fold build_step s bytes ≡ s
 told_steps [] s t e = refl
 told_steps (b ∷ bytes) s t e = ap (λ (x : BuildState). fold build_step x bytes) (told_step s b t e) ∙ told_steps bytes s t e
 
-told_outputs : (bytes : List ℕ) (s : BuildState) (t : Told) → s.told ≡ Some t → outputs build_step build_writes s bytes ≡ []
+told_outputs : (bytes : List ℕ) (s : BuildState) (t : LineStop) → s.told ≡ Some t → outputs build_step build_writes s bytes ≡ []
 told_outputs [] s t e = refl
 told_outputs (b ∷ bytes) s t e =
     ap (λ z. z ++ outputs build_step build_writes (build_step s b) bytes) (told_writes s b t e)

@@ -3,7 +3,8 @@ use Rattle.std.proofs.Common.{◌≡◌, ◌∙◌, ap, sym, ℕ, zero, suc, ◌
 use Rattle.std.specs.Prelude.{fold}
 use Rattle.std.proofs.lemmas.List.{append-nil}
 use Rattle.dcm_base.specs.declared.fault.LineFault.{LineFault}
-use Rattle.dcm_base.specs.Build.{Progress, Told, Lines, lines, at_start, at_input_end, at_the_cut, with_rest, first_fault, end_checks, meta_has_ended, tell}
+use Rattle.dcm_base.specs.Build.{Progress, Lines, lines, at_start, at_input_end, at_the_cut, with_rest, first_fault, end_checks, meta_has_ended, tell}
+use Rattle.dcm_base.specs.declared.fault.LineStop.{LineStop}
 use Rattle.dcm_base.specs.Reads.{INPUT_LIMIT}
 use Rattle.dcm_base.specs.Steps.{outputs}
 use Rattle.dcm_build.specs.Building.{BuildState, build_start, build_step, build_writes}
@@ -15,13 +16,13 @@ abbrev ended_by : Option LineFault → ℕ → Progress → Progress
 ended_by r size p = elim r as (λ x. Progress) [ Some fault ↦ tell fault size p.line (record p { built = meta_has_ended p.built }) | None ↦ record p { built = meta_has_ended p.built } ]
 
 fresh_end : (size : ℕ) (p : Progress) → p.told ≡ None → at_input_end size p ≡ ended_by (first_fault (end_checks p.built)) size p
-fresh_end size p e = ap (λ (o : Option Told). elim o as (λ x. Progress) [ Some t ↦ p | None ↦ ended_by (first_fault (end_checks p.built)) size p ]) e
+fresh_end size p e = ap (λ (o : Option LineStop). elim o as (λ x. Progress) [ Some t ↦ p | None ↦ ended_by (first_fault (end_checks p.built)) size p ]) e
 
-apart : (t u : Told) → Some t ≡ Some u → t.offset ≡ 0 → u.offset ≡ 1 → ⊥
-apart t u e x y = let same : t ≡ u = cc in let no = ap (λ (z : Told). z.offset) same in omega (arith, x, y, no)
+apart : (t u : LineStop) → Some t ≡ Some u → t.offset ≡ 0 → u.offset ≡ 1 → ⊥
+apart t u e x y = let same : t ≡ u = cc in let no = ap (λ (z : LineStop). z.offset) same in omega (arith, x, y, no)
 
 -- a fault of the end is told at the input's size, so that no fault is told at the end of each input
-never_told : (r : Option LineFault) (p : Progress) (t : Told) → p.told ≡ None → (ended_by r 0 p).told ≡ Some t → (ended_by r 1 p).told ≡ Some t → ⊥
+never_told : (r : Option LineFault) (p : Progress) (t : LineStop) → p.told ≡ None → (ended_by r 0 p).told ≡ Some t → (ended_by r 1 p).told ≡ Some t → ⊥
 never_told None p t none e f = let no : None ≡ Some t = sym none ∙ e in cc
 never_told (Some fault) p t none e f = apart (record { fault = fault; offset = 0; line = p.line }) (record { fault = fault; offset = 1; line = p.line }) (e ∙ sym f) refl refl
 

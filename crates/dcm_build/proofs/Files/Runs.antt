@@ -7,7 +7,8 @@ use Rattle.dcm_base.specs.declared.syntax.Coding.{Coding}
 use Rattle.dcm_base.specs.declared.fault.LineFault.{LineFault}
 use Rattle.dcm_base.specs.declared.fault.LineFault.TheVariants.{EndsEarly, NoTransferSyntax}
 use Rattle.dcm_base.specs.Build as build
-use Rattle.dcm_base.specs.Build.{first_fault, Built, Progress, Told, Lines, lines, lines_of, with_line, tell, built_bytes, with_rest, at_input_end, meta_has_ended, named_coding, innermost, open_levels}
+use Rattle.dcm_base.specs.Build.{first_fault, Built, Progress, Lines, lines, lines_of, with_line, tell, built_bytes, with_rest, at_input_end, meta_has_ended, named_coding, innermost, open_levels}
+use Rattle.dcm_base.specs.declared.fault.LineStop.{LineStop}
 use Rattle.dcm_base.specs.Front.{Front}
 use Rattle.dcm_base.specs.Reads.{INPUT_LIMIT}
 use Rattle.dcm_base.specs.Steps.{outputs}
@@ -76,19 +77,19 @@ abbrev state_end : Option LineFault → ℕ → BuildState → BuildState
 state_end r size s = elim r [ Some fault ↦ tells_at_end size fault (ended_meta s) | None ↦ ended_meta s ]
 
 fresh_end : (size : ℕ) (p : Progress) → p.told ≡ None → at_input_end size p ≡ built_end (first_fault (build.end_checks p.built)) size p
-fresh_end size p e = ap (λ (o : Option Told). elim o as (λ x. Progress) [ Some t ↦ p | None ↦ built_end (first_fault (build.end_checks p.built)) size p ]) e
+fresh_end size p e = ap (λ (o : Option LineStop). elim o as (λ x. Progress) [ Some t ↦ p | None ↦ built_end (first_fault (build.end_checks p.built)) size p ]) e
 
 fresh_closed : (size : ℕ) (s : BuildState) → s.told ≡ None → closed size s ≡ state_end (first_fault (steps.end_checks s)) size s
-fresh_closed size s e = ap (λ (o : Option Told). elim o as (λ x. BuildState) [ Some t ↦ s | None ↦ state_end (first_fault (steps.end_checks s)) size s ]) e
+fresh_closed size s e = ap (λ (o : Option LineStop). elim o as (λ x. BuildState) [ Some t ↦ s | None ↦ state_end (first_fault (steps.end_checks s)) size s ]) e
 
 fresh_closed_writes : (s : BuildState) → s.told ≡ None → closed_writes s ≡ end_writes s
-fresh_closed_writes s e = ap (λ (o : Option Told). elim o as (λ x. List ℕ) [ Some t ↦ [] | None ↦ end_writes s ]) e
+fresh_closed_writes s e = ap (λ (o : Option LineStop). elim o as (λ x. List ℕ) [ Some t ↦ [] | None ↦ end_writes s ]) e
 
-told_closed : (size : ℕ) (s : BuildState) (t : Told) → s.told ≡ Some t → closed size s ≡ s
-told_closed size s t e = ap (λ (o : Option Told). elim o as (λ x. BuildState) [ Some u ↦ s | None ↦ state_end (first_fault (steps.end_checks s)) size s ]) e
+told_closed : (size : ℕ) (s : BuildState) (t : LineStop) → s.told ≡ Some t → closed size s ≡ s
+told_closed size s t e = ap (λ (o : Option LineStop). elim o as (λ x. BuildState) [ Some u ↦ s | None ↦ state_end (first_fault (steps.end_checks s)) size s ]) e
 
-told_closed_writes : (s : BuildState) (t : Told) → s.told ≡ Some t → closed_writes s ≡ []
-told_closed_writes s t e = ap (λ (o : Option Told). elim o as (λ x. List ℕ) [ Some u ↦ [] | None ↦ end_writes s ]) e
+told_closed_writes : (s : BuildState) (t : LineStop) → s.told ≡ Some t → closed_writes s ≡ []
+told_closed_writes s t e = ap (λ (o : Option LineStop). elim o as (λ x. List ℕ) [ Some u ↦ [] | None ↦ end_writes s ]) e
 
 closing : (limit size : ℕ) (p : Progress) (s : BuildState) (line out : List ℕ) → Going limit p s line out → EndsAs (at_input_end size p) (closed size s) (out ++ closed_writes s)
 closing limit size p s line out g =
@@ -103,16 +104,16 @@ closing limit size p s line out g =
 -- ---- the last line
 
 fresh_finish : (s : BuildState) → s.told ≡ None → finishes s ≡ closed (read_size s) (last_line s)
-fresh_finish s e = ap (λ (o : Option Told). elim o as (λ x. BuildState) [ Some t ↦ s | None ↦ closed (read_size s) (last_line s) ]) e
+fresh_finish s e = ap (λ (o : Option LineStop). elim o as (λ x. BuildState) [ Some t ↦ s | None ↦ closed (read_size s) (last_line s) ]) e
 
 fresh_finish_writes : (s : BuildState) → s.told ≡ None → finish_writes s ≡ last_writes s ++ closed_writes (last_line s)
-fresh_finish_writes s e = ap (λ (o : Option Told). elim o as (λ x. List ℕ) [ Some t ↦ [] | None ↦ last_writes s ++ closed_writes (last_line s) ]) e
+fresh_finish_writes s e = ap (λ (o : Option LineStop). elim o as (λ x. List ℕ) [ Some t ↦ [] | None ↦ last_writes s ++ closed_writes (last_line s) ]) e
 
-told_finish : (s : BuildState) (t : Told) → s.told ≡ Some t → finishes s ≡ s
-told_finish s t e = ap (λ (o : Option Told). elim o as (λ x. BuildState) [ Some u ↦ s | None ↦ closed (read_size s) (last_line s) ]) e
+told_finish : (s : BuildState) (t : LineStop) → s.told ≡ Some t → finishes s ≡ s
+told_finish s t e = ap (λ (o : Option LineStop). elim o as (λ x. BuildState) [ Some u ↦ s | None ↦ closed (read_size s) (last_line s) ]) e
 
-told_finish_writes : (s : BuildState) (t : Told) → s.told ≡ Some t → finish_writes s ≡ []
-told_finish_writes s t e = ap (λ (o : Option Told). elim o as (λ x. List ℕ) [ Some u ↦ [] | None ↦ last_writes s ++ closed_writes (last_line s) ]) e
+told_finish_writes : (s : BuildState) (t : LineStop) → s.told ≡ Some t → finish_writes s ≡ []
+told_finish_writes s t e = ap (λ (o : Option LineStop). elim o as (λ x. List ℕ) [ Some u ↦ [] | None ↦ last_writes s ++ closed_writes (last_line s) ]) e
 
 last_by : (s : BuildState) (line : List ℕ) → s.line ≡ line → last_line s ≡ elim line [ [] ↦ s | c ∷ cs ↦ line_taken s ]
 last_by s line e = ap (λ (l : List ℕ). elim l as (λ x. BuildState) [ [] ↦ s | c ∷ cs ↦ line_taken s ]) e
@@ -188,7 +189,7 @@ so_far_by limit bytes s out (runs q left rest g h c same ended) n =
       within = omega (arith, h, c);
     }
 
-stays_by : (limit : ℕ) (bytes later : List ℕ) (told : Told) (s : BuildState) (out : List ℕ) → Ran limit INPUT_LIMIT build.at_start [] bytes s out → s.told ≡ Some told → Stays limit (bytes ++ later) told out
+stays_by : (limit : ℕ) (bytes later : List ℕ) (told : LineStop) (s : BuildState) (out : List ℕ) → Ran limit INPUT_LIMIT build.at_start [] bytes s out → s.told ≡ Some told → Stays limit (bytes ++ later) told out
 stays_by limit bytes later told s out (runs q left rest g h c same ended) e = absurd (let no : Some told ≡ None = sym e ∙ g.told_is in cc)
 stays_by limit bytes later told s out (told_of t st f) e =
     let is = built_is limit (bytes ++ later) in
@@ -201,5 +202,5 @@ whole limit bytes = builds_by limit bytes _ _ (all_ran limit bytes)
 pub so_far : (limit : ℕ) (bytes : List ℕ) → (fold build_step (build_start limit) bytes).told ≡ None → BuiltSoFar limit bytes (fold build_step (build_start limit) bytes) (outputs build_step build_writes (build_start limit) bytes)
 so_far limit bytes e = so_far_by limit bytes _ _ (all_ran limit bytes) e
 
-pub refused : (limit : ℕ) (bytes later : List ℕ) (told : Told) → (fold build_step (build_start limit) bytes).told ≡ Some told → Stays limit (bytes ++ later) told (outputs build_step build_writes (build_start limit) bytes)
+pub refused : (limit : ℕ) (bytes later : List ℕ) (told : LineStop) → (fold build_step (build_start limit) bytes).told ≡ Some told → Stays limit (bytes ++ later) told (outputs build_step build_writes (build_start limit) bytes)
 refused limit bytes later told e = stays_by limit bytes later told _ _ (all_ran limit bytes) e

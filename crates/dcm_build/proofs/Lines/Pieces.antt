@@ -5,7 +5,7 @@ use Rattle.std.specs.Str.{byte}
 use Rattle.std.specs.Io.KnownBytes.{append_known}
 use Rattle.std.proofs.lemmas.Bool.{ne_eqb, le-ltb, le-leb}
 use Rattle.std.proofs.lemmas.List.{append-nil, take-take}
-use Rattle.dcm_base.specs.Build.{Told, told_of}
+use Rattle.dcm_base.specs.declared.fault.LineStop.{LineStop}
 use Rattle.dcm_base.specs.Device.{AppendsFront}
 use Rattle.dcm_base.specs.Reads.{INPUT_LIMIT}
 use Rattle.dcm_base.specs.Steps.{outputs}
@@ -65,11 +65,11 @@ more_read at new bs e =
 -- ---- a byte that halts
 
 -- once a fault was told, nothing more happens
-pub told_stays : (f : NewFile) (at : LineAt) (told : Told) (bs : List ℕ) → fold build_step (state f at (Some told)) bs ≡ state f at (Some told)
+pub told_stays : (f : NewFile) (at : LineAt) (told : LineStop) (bs : List ℕ) → fold build_step (state f at (Some told)) bs ≡ state f at (Some told)
 told_stays f at told [] = refl
 told_stays f at told (b ∷ bs) = told_stays f at told bs
 
-pub told_silent : (f : NewFile) (at : LineAt) (told : Told) (bs : List ℕ) → outputs build_step build_writes (state f at (Some told)) bs ≡ []
+pub told_silent : (f : NewFile) (at : LineAt) (told : LineStop) (bs : List ℕ) → outputs build_step build_writes (state f at (Some told)) bs ≡ []
 told_silent f at told [] = refl
 told_silent f at told (b ∷ bs) = told_silent f at told bs
 
@@ -78,8 +78,8 @@ pub feeds_first : (T : Type 0) (s : BuildState) (q : LineReader) (held holds : O
     → Reaches {T = T} held holds (building q) (build_step s (get_or piece 0 0)) (build_writes s (get_or piece 0 0)) (Err halt) → Feeds {T = T} s held (building q) holds piece (Err halt)
 feeds_first T s q held holds [] halt some h = absurd (omega arith)
 feeds_first T s q held holds (b ∷ bs) (Refused stop) some h = (
-  sym (told_stays q.file (line_at q) (told_of stop) bs) ∙ ap (λ (t : BuildState). fold build_step t bs) h.0,
-  h.1 ∙ ap (append_known held) (sym (append-nil (build_writes s b)) ∙ ap (λ (xs : List ℕ). build_writes s b ++ xs) (sym (told_silent q.file (line_at q) (told_of stop) bs) ∙ ap (λ (t : BuildState). outputs build_step build_writes t bs) h.0)),
+  sym (told_stays q.file (line_at q) stop bs) ∙ ap (λ (t : BuildState). fold build_step t bs) h.0,
+  h.1 ∙ ap (append_known held) (sym (append-nil (build_writes s b)) ∙ ap (λ (xs : List ℕ). build_writes s b ++ xs) (sym (told_silent q.file (line_at q) stop bs) ∙ ap (λ (t : BuildState). outputs build_step build_writes t bs) h.0)),
 )
 feeds_first T s q held holds (b ∷ bs) Output some h = front_longer (outputs build_step build_writes (build_step s b) bs) h
 

@@ -23,7 +23,8 @@ use Rattle.dcm_base.specs.Spelling.{last_tag}
 use Rattle.dcm_base.specs.Tree.{Trees, no_tree}
 use Rattle.dcm_base.specs.Uid.{Named, uids, uid_name}
 use Rattle.dcm_base.specs.ValueText.{escaped}
-use Rattle.dcm_base.specs.Build.{Built, Progress, Told, Lines, lines, lines_of, built, built_cut, built_whole, built_bytes, nothing_built, usable, named_syntax, named_coding, coding_or_little, at_start, at_input_end, end_checks, first_fault, meta_has_ended, tell, is_the_top, innermost, open_levels, rebuilt}
+use Rattle.dcm_base.specs.Build.{Built, Progress, Lines, lines, lines_of, built, built_cut, built_whole, built_bytes, nothing_built, usable, named_syntax, named_coding, coding_or_little, at_start, at_input_end, end_checks, first_fault, meta_has_ended, tell, is_the_top, innermost, open_levels, rebuilt}
+use Rattle.dcm_base.specs.declared.fault.LineStop.{LineStop}
 use Rattle.dcm_base.proofs.DumpsBack.Fields.{Bytewise, IsPrinted, all_printed, text_shows}
 use Rattle.dcm_base.proofs.DumpsBack.Texts.{Bytes, bytes_of}
 use Rattle.dcm_base.proofs.DumpsBack.Values.{found, mapped}
@@ -109,7 +110,7 @@ within_more : (m n : ℕ) → m ≤ n → (ls : List (List ℕ)) → AllWithin m
 within_more m n h [] w = tt
 within_more m n h (l ∷ ls) w = let k = w.0 in (omega (arith, h, k), within_more m n h ls w.1)
 
-abbrev by_told : ℕ → Option Told → Option LineFault → Progress → Progress
+abbrev by_told : ℕ → Option LineStop → Option LineFault → Progress → Progress
 by_told size told fault p = elim told as (λ x. Progress) [
   | Some t ↦ p
   | None ↦ elim fault as (λ x. Progress) [ Some f ↦ tell f size p.line (record p { built = meta_has_ended p.built }) | None ↦ record p { built = meta_has_ended p.built } ]
@@ -191,7 +192,7 @@ module _ (d : Dictionary) (meta : Trees) (coding : Coding) (set : Trees) (h : Ca
 
     ended : at_input_end (length text) ran ≡ record ran { built = meta_has_ended ran.built }
     ended =
-        ap (λ (o : Option Told). by_told (length text) o (first_fault (end_checks ran.built)) ran) runs.0
+        ap (λ (o : Option LineStop). by_told (length text) o (first_fault (end_checks ran.built)) ran) runs.0
         ∙ ap (λ (o : Option LineFault). by_told (length text) None o ran) (ap (λ (b : Built). first_fault (end_checks b)) runs.1 ∙ no_end_fault all.last.meta all.last.set all.last.meta_ended all.meta_is all.set_is)
 
     pub dump_builds_file : BuildsFile limit text meta coding set

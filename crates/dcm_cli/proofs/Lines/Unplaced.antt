@@ -10,7 +10,7 @@ use Rattle.dcm_base.proofs.Writes.Puts.{append_known_twice, front_longer, puts_b
 use Rattle.dcm_edit.specs.Edit.{Edit, found}
 use Rattle.dcm_cli.specs.Answer.{unplaced_lines, status_of_lines}
 use Rattle.dcm_cli.specs.Run.{unplaced_mask, mask_status}
-use Rattle.dcm_cli.specs.Told.{Tries, mask_lines, line_where, unplaced_line}
+use Rattle.dcm_cli.specs.ErrorLines.{Tries, mask_lines, line_where, unplaced_line}
 use Rattle.dcm_cli.proofs.Passes.Alone.{put_failed, put_whole}
 
 -- a mask without bits

@@ -41,9 +41,9 @@ module _ (d : Dictionary) (mode : Mode) (bare : Syntax) (file : List ℕ) (left 
   read_as f stop reads = record { source = alone s f stop; reads = record { set = f; stop = stop; reads = reads; source_is = refl }; out_is = refl; verdict_is = no_edits (dump d mode (Some bare)) refl f stop }
 
   pub alone_unheaded : (holds : Option (List ℕ)) → AppendsFront held holds header → Worked (dump d mode (Some bare)) file left held holds Output
-  alone_unheaded holds begun =
+  alone_unheaded holds beginning =
       let a = all_read (dumper d mode) s 0 (omega arith) file in
-      could_not_write (header ++ dump_front d mode 0 a.0) (verdict_of_stop a.1) (read_as a.0 a.1 a.2) refl (front_longer (dump_front d mode 0 a.0) begun)
+      could_not_write (header ++ dump_front d mode 0 a.0) (verdict_of_stop a.1) (read_as a.0 a.1 a.2) refl (front_longer (dump_front d mode 0 a.0) beginning)
 
   pub alone_worked : (had mid : Option (List ℕ)) (t : DumpState) (holds : Option (List ℕ)) (ending : Ending) → had ≡ Some file → mid ≡ append_known held header
       → Pumps bars_nothing dump_step dump_writes had (start_of s 0) (dump_start d mode) mid left t holds ending → Worked (dump d mode (Some bare)) file left held holds ending

@@ -12,7 +12,7 @@ use Rattle.dcm_cli.specs.declared.ending.Ending.{Ending}
 use Rattle.dcm_cli.specs.declared.rewrite.Opened.{Opened as OpenedFile}
 use Rattle.dcm_cli.specs.EditPass.{not_found}
 use Rattle.dcm_cli.specs.Opening.{OpenedAs, NotOpened}
-use Rattle.dcm_cli.specs.Pass.{BehindBegun, WasRead, set_bytes, with_unplaced}
+use Rattle.dcm_cli.specs.Pass.{BehindBeginning, WasRead, set_bytes, with_unplaced}
 use Rattle.dcm_cli.specs.Run.{Worked}
 use Rattle.dcm_cli.proofs.Passes.Files.{concludes_unplaced, small}
 use Rattle.dcm_cli.proofs.Lines.FoundMasks.{not_found_is}
@@ -25,8 +25,8 @@ module _ (d : Dictionary) (edits : List Edit) (meant : AreMeant edits) (file : L
 
   module _ (mid : Option (List ℕ)) (buffer : List ℕ) (x : OpenedFile) (h : OpenedAs d None had left held mid buffer x) where
     pub edits_worked : (after : Option (List ℕ)) (last : EditState) (t : EncodeState) (holds : Option (List ℕ)) (passed : Ending)
-        → (x.begun.is_over ≡ true → WasRead passed)
-        → BehindBegun (editor d edits meant x.coding.syntax).bars (editor d edits meant x.coding.syntax).step (editor d edits meant x.coding.syntax).writes left (set_bytes x.begun buffer) (start_of x.coding.syntax x.start) (editor d edits meant x.coding.syntax).first mid after (last, t) holds passed
+        → (x.beginning.is_over ≡ true → WasRead passed)
+        → BehindBeginning (editor d edits meant x.coding.syntax).bars (editor d edits meant x.coding.syntax).step (editor d edits meant x.coding.syntax).writes left (set_bytes x.beginning buffer) (start_of x.coding.syntax x.start) (editor d edits meant x.coding.syntax).first mid after (last, t) holds passed
         → Worked (modify d edits) file after held holds (with_unplaced passed (not_found last.found))
     edits_worked after last t holds passed was pass =
         let o = opened_here None (modify d edits) refl (λ coding. refl) (file_editor d edits meant) (λ coding m. refl) file had left held some mid buffer x h in

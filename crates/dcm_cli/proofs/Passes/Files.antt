@@ -30,8 +30,8 @@ use Rattle.dcm_cli.specs.declared.ending.Ending.TheVariants.{Unread, Output}
 use Rattle.dcm_cli.specs.declared.ending.HeadEnding.{HeadEnding}
 use Rattle.dcm_cli.specs.declared.ending.HeadEnding.TheVariants as heads
 use Rattle.dcm_cli.specs.declared.ending.Verdict.TheVariants.{Done, Refused}
-use Rattle.dcm_cli.specs.declared.head.Begun.{Begun}
-use Rattle.dcm_cli.specs.Pass.{Begins, FailsHead, BehindBegun, WasRead, head_read, set_bytes, ending_of_head, with_unplaced}
+use Rattle.dcm_cli.specs.declared.head.Beginning.{Beginning}
+use Rattle.dcm_cli.specs.Pass.{Begins, FailsHead, BehindBeginning, WasRead, head_read, set_bytes, ending_of_head, with_unplaced}
 use Rattle.dcm_cli.specs.Answer.{job_dictionary, edits_of, Source, file as of_file, unopened, going_on, job_bar, refuses_change, target_syntax, target_uid, file_output, output_of, Sure, FileReads, FileSure, not_opened as was_not_opened, not_changed, opened as was_opened, before_set, within_set}
 use Rattle.dcm_cli.specs.Run.{Answered, Worked, answered, could_not_read, could_not_write, verdict_of_source, verdict_of_stop, verdict_at, unplaced_mask}
 use Rattle.dcm_cli.proofs.Passes.Alone.{splits}
@@ -117,15 +117,15 @@ file_unopened job is_file file held had left r read ending some given fails =
         could_not_read read rest [] whole at (file_sure job is_file read [] (before_set still.0 still.1 still.2 refl)) (ap Unread f.2) (sym (append_known_none held))
 
 -- ---- a head that was read
-by_reading : (r : Reading) (b : Begun) (buffer : List ℕ) (left : Option (List ℕ)) (read rest : List ℕ) → left ≡ Some rest → Begins r b buffer left read
+by_reading : (r : Reading) (b : Beginning) (buffer : List ℕ) (left : Option (List ℕ)) (read rest : List ℕ) → left ≡ Some rest → Begins r b buffer left read
     → (r ≡ head_read read) ⊎ ((b.is_over ≡ true) × (r ≡ meta_finished (head_read read))) → meta_finished (head_read (read ++ rest)) ≡ r
-by_reading r b buffer left read rest at begun (inl e) = let end = has_end r begun.ended in finished_over r read rest end.0 end.1 e
-by_reading r b buffer left read rest at begun (inr x) = finished_at r left read rest at (begun.over x.0) x.1
+by_reading r b buffer left read rest at beginning (inl e) = let end = has_end r beginning.ended in finished_over r read rest end.0 end.1 e
+by_reading r b buffer left read rest at beginning (inr x) = finished_at r left read rest at (beginning.over x.0) x.1
 
-pub file_opened : (d : Dictionary) (r : Reading) (b : Begun) (buffer : List ℕ) (had left : Option (List ℕ)) (read file : List ℕ) → had ≡ Some file → had ≡ prepend_known read left → Begins r b buffer left read → Opened d r file
-file_opened d r b buffer had left read file some given begun =
+pub file_opened : (d : Dictionary) (r : Reading) (b : Beginning) (buffer : List ℕ) (had left : Option (List ℕ)) (read file : List ℕ) → had ≡ Some file → had ≡ prepend_known read left → Begins r b buffer left read → Opened d r file
+file_opened d r b buffer had left read file some given beginning =
     let parts = splits had left read file some given in
-    subst (Opened d r) (sym parts.2) (opened d r (read ++ parts.0) (by_reading r b buffer left read parts.0 parts.1 begun begun.reading) begun.ended)
+    subst (Opened d r) (sym parts.2) (opened d r (read ++ parts.0) (by_reading r b buffer left read parts.0 parts.1 beginning beginning.reading) beginning.ended)
 
 module _ (job : Job) (is_file : reads_file job ≡ true) (file : List ℕ) (after held : Option (List ℕ)) (r : Reading) (o : Opened (job_dictionary job) r file) where
   abbrev start : ℕ
@@ -148,10 +148,10 @@ module _ (job : Job) (is_file : reads_file job ≡ true) (file : List ℕ) (afte
 
     -- not even all that stands for the head was written
     pub file_unheaded : (holds : Option (List ℕ)) → AppendsFront held holds (k.header o.m) → Worked job file after held holds Output
-    file_unheaded holds begun =
+    file_unheaded holds beginning =
         let a = all_read k.maker o.coding.syntax start small (drop start file) in
         could_not_write (file_output job o.m o.coding a.0) (verdict_at job a.0 a.1) (read_as a.0 a.1 a.2) refl
-        (subst (AppendsFront held holds) (sym (k.output_is o.m a.0)) (front_longer (k.text a.0) begun))
+        (subst (AppendsFront held holds) (sym (k.output_is o.m a.0)) (front_longer (k.text a.0) beginning))
 
     -- the states in which all of a data set leaves the sink
     abbrev pub LastOf : k.maker.State → Front → Type 0
@@ -183,12 +183,12 @@ module _ (job : Job) (is_file : reads_file job ≡ true) (file : List ℕ) (afte
       not_written = λ is. is;
     }
 
-    pub file_worked : (had left mid : Option (List ℕ)) (t : k.maker.State) (holds : Option (List ℕ)) (b : Begun) (buffer read : List ℕ) (passed ending : Ending) → Concludes t passed ending → had ≡ Some file → had ≡ prepend_known read left → Begins r b buffer left read
+    pub file_worked : (had left mid : Option (List ℕ)) (t : k.maker.State) (holds : Option (List ℕ)) (b : Beginning) (buffer read : List ℕ) (passed ending : Ending) → Concludes t passed ending → had ≡ Some file → had ≡ prepend_known read left → Begins r b buffer left read
         → mid ≡ append_known held (k.header o.m)
         → (b.is_over ≡ true → WasRead passed)
-        → BehindBegun k.maker.bars k.maker.step k.maker.writes left (set_bytes b buffer) (start_of o.coding.syntax start) k.maker.first mid after t holds passed
+        → BehindBeginning k.maker.bars k.maker.step k.maker.writes left (set_bytes b buffer) (start_of o.coding.syntax start) k.maker.first mid after t holds passed
         → Worked job file after held holds ending
-    file_worked had left mid t holds b buffer read passed ending concludes some given begun went was pass =
+    file_worked had left mid t holds b buffer read passed ending concludes some given beginning went was pass =
         let parts = splits had left read file some given in
         let more = splits left after pass.more parts.0 parts.1 pass.given in
         of_set parts.0 more.0 more.1 parts.2 more.2 (set_made k.maker o.coding.syntax start small mid t after holds (set_bytes b buffer ++ pass.more) more.0 passed more.1 pass.ends)
@@ -201,10 +201,10 @@ module _ (job : Job) (is_file : reads_file job ≡ true) (file : List ℕ) (afte
 
         -- the data set of what was read, and of the file
         within : start ≤ length read
-        within = let p = begun.place in let q = o.place_is in omega arith
+        within = let p = beginning.place in let q = o.place_is in omega arith
 
         set_there : (bytes : List ℕ) → drop start (read ++ bytes) ≡ set_bytes b buffer ++ bytes
-        set_there bytes = drop-append-le start read bytes within ∙ ap (λ (n : ℕ). drop n read ++ bytes) (sym o.place_is) ∙ ap (λ (bs : List ℕ). bs ++ bytes) begun.set
+        set_there bytes = drop-append-le start read bytes within ∙ ap (λ (n : ℕ). drop n read ++ bytes) (sym o.place_is) ∙ ap (λ (bs : List ℕ). bs ++ bytes) beginning.set
 
         file_set : (rest later : List ℕ) → file ≡ read ++ rest → rest ≡ pass.more ++ later → (set_bytes b buffer ++ pass.more) ++ later ≡ drop start file
         file_set rest later whole split =
@@ -214,8 +214,8 @@ module _ (job : Job) (is_file : reads_file job ≡ true) (file : List ℕ) (afte
         sure_of : (f : Front) (stop : Stop) → r ≡ head_read (read ++ pass.more) → SetReads (set_bytes b buffer ++ pass.more) f stop → is_undecided (Some stop) ≡ true
             → FileSure job (read ++ pass.more) (file_output job o.m o.coding (going_on f))
         sure_of f stop e reads undecided =
-            let end = has_end r begun.ended in
-            let x : Opened (job_dictionary job) r (read ++ pass.more) = opened (job_dictionary job) r (read ++ pass.more) (ap meta_finished (sym e) ∙ finished_same r end.0 end.1) begun.ended in
+            let end = has_end r beginning.ended in
+            let x : Opened (job_dictionary job) r (read ++ pass.more) = opened (job_dictionary job) r (read ++ pass.more) (ap meta_finished (sym e) ∙ finished_same r end.0 end.1) beginning.ended in
             let groups : length x.group ≡ length o.group = ap length (sym x.group_is ∙ o.group_is) in
             let long = length-append read pass.more in
             let less = ends_before (job_dictionary job) r (read ++ pass.more) e x (let p = o.place_is in let w = within in omega arith) in
@@ -227,11 +227,11 @@ module _ (job : Job) (is_file : reads_file job ≡ true) (file : List ℕ) (afte
             → (r ≡ head_read read) ⊎ ((b.is_over ≡ true) × (r ≡ meta_finished (head_read read))) → Worked job file after held holds ending
         by_over rest later at whole split f stop reads undecided is e (inr over) = absurd (subst WasRead is (was over.0))
         by_over rest later at whole split f stop reads undecided is e (inl same) =
-            let end = has_end r begun.ended in
+            let end = has_end r beginning.ended in
             let still : head_read (read ++ pass.more) ≡ r = ended_stays r read pass.more end.0 same end.1 in
             let longer = length-append (set_bytes b buffer) pass.more in
             let long = length-append read pass.more in
-            let count : start + length (set_bytes b buffer ++ pass.more) ≡ length (read ++ pass.more) = (let p = begun.place in let q = o.place_is in omega arith) in
+            let count : start + length (set_bytes b buffer ++ pass.more) ≡ length (read ++ pass.more) = (let p = beginning.place in let q = o.place_is in omega arith) in
             let out = file_output job o.m o.coding (going_on f) in
             could_not_read (read ++ pass.more) later out
             (whole ∙ ap (λ (bs : List ℕ). read ++ bs) split ∙ sym (append_assoc read pass.more later)) at
@@ -242,7 +242,7 @@ module _ (job : Job) (is_file : reads_file job ≡ true) (file : List ℕ) (afte
         of_set rest later at whole split (set_read f stop reads last is e) =
             let there = subst (λ (bs : List ℕ). SetReads bs f stop) (file_set rest later whole split) reads in
             answered (file_output job o.m o.coding f) (verdict_at job f stop) (read_as f stop there) (concludes.done f stop there last is) (behind f e)
-        of_set rest later at whole split (set_unread f stop reads undecided is e) = by_over rest later at whole split f stop reads undecided is e begun.reading
+        of_set rest later at whole split (set_unread f stop reads undecided is e) = by_over rest later at whole split f stop reads undecided is e beginning.reading
         of_set rest later at whole split (set_unwritten f stop reads is e) =
             could_not_write (file_output job o.m o.coding f) (verdict_at job f stop) (read_as f stop (subst (λ (bs : List ℕ). SetReads bs f stop) (file_set rest later whole split) reads)) (concludes.not_written is)
             (subst (AppendsFront held holds) (sym (k.output_is o.m f)) (puts_behind {T = Unit {0}} {E = Unit {0}} held mid holds (k.header o.m) (k.text f) (Err tt) went e))

@@ -5,7 +5,7 @@ use Rattle.std.proofs.lemmas.List.{drop-take, length-take, length-drop}
 use Rattle.std.proofs.lemmas.List.Sums.{fold-append}
 use Rattle.dcm_head.specs.MetaReading.{Reading, HasEnded, BeginsAt, meta_step}
 use Rattle.dcm_head.proofs.HeadReading.Stays.{data_set_there}
-use Rattle.dcm_cli.specs.declared.head.Begun.{Begun}
+use Rattle.dcm_cli.specs.declared.head.Beginning.{Beginning}
 use Rattle.dcm_cli.specs.Pass.{Begins, head_read, set_bytes}
 
 -- a piece behind what was read
@@ -30,7 +30,7 @@ pub begins_in : (r old : Reading) (front piece buffer : List ℕ) (n used read :
     → piece ≡ take n buffer → length piece ≡ n → used ≤ length piece → read ≡ length (front ++ piece)
     → Begins r (record { ahead = ahead; used = used; filled = n; read = read; is_over = false }) buffer left (front ++ piece)
 begins_in r old front piece buffer n used read ahead left o bytes e ended begins is size le count =
-    let b : Begun = record { ahead = ahead; used = used; filled = n; read = read; is_over = false } in
+    let b : Beginning = record { ahead = ahead; used = used; filled = n; read = read; is_over = false } in
     let there = subst (λ (x : List ℕ). BeginsAt x r.place used ahead) bytes begins in
     let set : drop r.place (front ++ piece) ≡ set_bytes b buffer =
     data_set_there front piece r.place used ahead there

@@ -3,7 +3,7 @@ use Rattle.std.proofs.Common.{◌≡◌, ◌∙◌, ap, sym, subst, ℕ, ◌≤�
 use Rattle.std.specs.Prelude.{Result, Ok, fold, is_some, ◌||◌}
 use Rattle.std.specs.Io.KnownBytes.{append_known}
 use Rattle.dcm_base.specs.Build as build
-use Rattle.dcm_base.specs.Build.{Told, told_of}
+use Rattle.dcm_base.specs.declared.fault.LineStop.{LineStop}
 use Rattle.dcm_base.specs.Device.{AppendsFront}
 use Rattle.dcm_base.specs.Steps.{outputs, Goes}
 use Rattle.dcm_words.specs.Words.{build as building}
@@ -64,14 +64,14 @@ module _ (limit : ℕ) where
 -- ---- the work
 
 -- which halt was answered
-halt_is : (told : Option Told) (failed : Bool) (h : BuildHalt) → Err h ≡ answer told failed → ((failed ≡ true) × (h ≡ halts.Output)) ⊎ ((failed ≡ false) × (t : Told) × (told ≡ Some t) × (ending_of (Err h) ≡ endings.Worked (verdict_of_told (Some t))))
+halt_is : (told : Option LineStop) (failed : Bool) (h : BuildHalt) → Err h ≡ answer told failed → ((failed ≡ true) × (h ≡ halts.Output)) ⊎ ((failed ≡ false) × (t : LineStop) × (told ≡ Some t) × (ending_of (Err h) ≡ endings.Worked (verdict_of_told (Some t))))
 halt_is told true h e = inl (refl, cc)
 halt_is None false h e = cc
 halt_is (Some t) false (halts.Refused stop) e = inr (refl, t, refl, cc)
 halt_is (Some t) false halts.Output e = cc
 
 -- none was
-pub going_is : (told : Option Told) (failed : Bool) → failed || is_some told ≡ false → (failed ≡ false) × (told ≡ None)
+pub going_is : (told : Option LineStop) (failed : Bool) → failed || is_some told ≡ false → (failed ≡ false) × (told ≡ None)
 going_is None false e = (refl, refl)
 going_is (Some t) false e = cc
 going_is told true e = cc
@@ -100,7 +100,7 @@ module _ (limit : ℕ) (held : Option (List ℕ)) (s : BuildState) (mid : Option
       there : output limit (read ++ rest) ≡ output limit file
       there = ap (output limit) (sym is)
 
-      by_halt : ((p.failed ≡ true) × (h ≡ halts.Output)) ⊎ ((p.failed ≡ false) × (t : Told) × (p.state.told ≡ Some t) × (ending_of (Err h) ≡ endings.Worked (verdict_of_told (Some t)))) → Worked (building limit) file left held holds (ending_of (Err h))
+      by_halt : ((p.failed ≡ true) × (h ≡ halts.Output)) ⊎ ((p.failed ≡ false) × (t : LineStop) × (p.state.told ≡ Some t) × (ending_of (Err h) ≡ endings.Worked (verdict_of_told (Some t)))) → Worked (building limit) file left held holds (ending_of (Err h))
       by_halt (inl x) =
           let grown : AppendsFront held holds (written limit read) = subst (λ (f : Bool). Goes build_step build_writes (build_start limit) held p.state holds read (well f)) x.0 went in
           could_not_write (output limit file) (verdict_of_told (build.built limit file).told) (record { out_is = refl; verdict_is = refl }) (ap (λ (z : BuildHalt). ending_of (Err z)) x.1)
@@ -126,7 +126,7 @@ module _ (limit : ℕ) (file read : List ℕ) (left held : Option (List ℕ)) (s
     there =
         ap (λ (z : BuildState). written limit read ++ finish_writes z) at ∙ all_written limit read ∙ ap (output limit) (sym is)
 
-    ends : (told : Option Told) → (finishes s).told ≡ told → holds ≡ append_known mid (finish_writes s) → Worked (building limit) file left held holds (endings.Worked (verdict_of_told told))
+    ends : (told : Option LineStop) → (finishes s).told ≡ told → holds ≡ append_known mid (finish_writes s) → Worked (building limit) file left held holds (endings.Worked (verdict_of_told told))
     ends told e grown =
         answered (output limit file) (verdict_of_told told)
         (record {
@@ -138,7 +138,7 @@ module _ (limit : ℕ) (file read : List ℕ) (left held : Option (List ℕ)) (s
 
     pub built_ended : (ended : Result (Unit {0}) BuildHalt) → EndsLines s mid holds ended → Worked (building limit) file left held holds (ending_of ended)
     built_ended (Ok x) e = ends None e.0 e.1
-    built_ended (Err (halts.Refused stop)) e = ends (Some (told_of stop)) e.0 e.1
+    built_ended (Err (halts.Refused stop)) e = ends (Some stop) e.0 e.1
     built_ended (Err halts.Output) e =
         could_not_write (output limit file) (verdict_of_told (build.built limit file).told) (record { out_is = refl; verdict_is = refl }) refl
         (subst (AppendsFront held holds) there (puts_behind {T = Unit {0}} {E = Unit {0}} held mid holds (written limit read) (finish_writes s) (Err tt) out e))

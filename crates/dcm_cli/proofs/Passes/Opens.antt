@@ -17,11 +17,11 @@ use Rattle.dcm_stream.specs.Reading.{start_of}
 use Rattle.dcm_cli.specs.declared.ending.Ending.{Ending}
 use Rattle.dcm_cli.specs.declared.ending.Ending.TheVariants as endings
 use Rattle.dcm_cli.specs.declared.ending.Verdict.TheVariants.{Refused}
-use Rattle.dcm_cli.specs.declared.head.Begun.{Begun}
+use Rattle.dcm_cli.specs.declared.head.Beginning.{Beginning}
 use Rattle.dcm_cli.specs.declared.rewrite.Opened.{Opened as OpenedFile}
 use Rattle.dcm_cli.specs.Answer.{job_dictionary, edits_of, refuses_change, target_uid}
 use Rattle.dcm_cli.specs.Opening.{HeadRead, OpenedAs, NotOpened, no_set, no_change, no_head, head_text}
-use Rattle.dcm_cli.specs.Pass.{BehindBegun, WasRead, ending_of_head, set_bytes}
+use Rattle.dcm_cli.specs.Pass.{BehindBeginning, WasRead, ending_of_head, set_bytes}
 use Rattle.dcm_cli.specs.Run.{Worked}
 use Rattle.dcm_cli.proofs.Passes.Files.{FileMaker, Concludes, concludes_same, reads_file, file_unopened, file_unchanged, file_unheaded, file_worked, file_opened}
 use Rattle.dcm_cli.proofs.Passes.MetaHeads.{Opened, head_anew}
@@ -37,7 +37,7 @@ in_coding d r file named coding end is o =
       end_is = o.end_is;
     }
 
-abbrev pub head_opened : (d : Dictionary) (file : List ℕ) (had left : Option (List ℕ)) (buffer : List ℕ) (r : Reading) (b : Begun) (coding : Coding) (start : ℕ) → had ≡ Some file → HeadRead d had left buffer r b coding start → Opened d r file
+abbrev pub head_opened : (d : Dictionary) (file : List ℕ) (had left : Option (List ℕ)) (buffer : List ℕ) (r : Reading) (b : Beginning) (coding : Coding) (start : ℕ) → had ≡ Some file → HeadRead d had left buffer r b coding start → Opened d r file
 head_opened d file had left buffer r b coding start some h = in_coding d r file h.named coding h.end_is h.coding_is (file_opened d r b buffer had left h.read file some h.given h.begins)
 
 -- a job that writes files again, with a target
@@ -61,33 +61,33 @@ module _ (target : Option Syntax) (job : Job) (is_file : reads_file job ≡ true
       (file_unchanged job is_file file left held r o (alike coding ∙ refuses))))
   not_opened holds ending (no_head buffer r b coding start uid h keeps uid_is written is) =
       let o = head_opened (job_dictionary job) file had left buffer r b coding start some h in
-      let begun = written o.m.elements (subst (Spells Little o.m.elements) (sym o.group_is) o.spelled) o.meta in
+      let beginning = written o.m.elements (subst (Spells Little o.m.elements) (sym o.group_is) o.spelled) o.meta in
       subst (λ (x : Ending). Worked job file left held holds x) (sym is)
-      (file_unheaded job is_file file left held r o (alike coding ∙ keeps) (maker coding) holds (subst (AppendsFront held holds) (head_is r o uid (uid_is o.m o.uid_is)) begun))
+      (file_unheaded job is_file file left held r o (alike coding ∙ keeps) (maker coding) holds (subst (AppendsFront held holds) (head_is r o uid (uid_is o.m o.uid_is)) beginning))
 
   module _ (mid : Option (List ℕ)) (buffer : List ℕ) (x : OpenedFile) (h : OpenedAs (job_dictionary job) target had left held mid buffer x) where
     abbrev pub opened_here : Opened (job_dictionary job) h.reading file
-    opened_here = head_opened (job_dictionary job) file had left buffer h.reading x.begun x.coding x.start some h.head
+    opened_here = head_opened (job_dictionary job) file had left buffer h.reading x.beginning x.coding x.start some h.head
 
     abbrev pub keeps_here : refuses_change job x.coding ≡ false
     keeps_here = alike x.coding ∙ h.keeps
 
     pub opened_worked : (after : Option (List ℕ)) (t : (maker x.coding).maker.State) (holds : Option (List ℕ)) (passed ending : Ending)
         → Concludes job is_file file after held h.reading opened_here keeps_here (maker x.coding) t passed ending
-        → (x.begun.is_over ≡ true → WasRead passed)
-        → BehindBegun (maker x.coding).maker.bars (maker x.coding).maker.step (maker x.coding).maker.writes left (set_bytes x.begun buffer) (start_of x.coding.syntax x.start) (maker x.coding).maker.first mid after t holds passed
+        → (x.beginning.is_over ≡ true → WasRead passed)
+        → BehindBeginning (maker x.coding).maker.bars (maker x.coding).maker.step (maker x.coding).maker.writes left (set_bytes x.beginning buffer) (start_of x.coding.syntax x.start) (maker x.coding).maker.first mid after t holds passed
         → Worked job file after held holds ending
     opened_worked after t holds passed ending concludes was pass =
         let o = opened_here in
         let k = (maker x.coding).maker in
         let went = h.written o.m.elements (subst (Spells Little o.m.elements) (sym o.group_is) o.spelled) o.meta ∙ ap (append_known held) (head_is h.reading o h.uid (h.uid_is o.m o.uid_is)) in
-        file_worked job is_file file after held h.reading o keeps_here (maker x.coding) had left mid t holds x.begun buffer h.head.read passed ending concludes some h.head.given h.head.begins went was
-        (subst (λ (n : ℕ). BehindBegun k.bars k.step k.writes left (set_bytes x.begun buffer) (start_of x.coding.syntax n) k.first mid after t holds passed) (h.head.start_is ∙ o.place_is) pass)
+        file_worked job is_file file after held h.reading o keeps_here (maker x.coding) had left mid t holds x.beginning buffer h.head.read passed ending concludes some h.head.given h.head.begins went was
+        (subst (λ (n : ℕ). BehindBeginning k.bars k.step k.writes left (set_bytes x.beginning buffer) (start_of x.coding.syntax n) k.first mid after t holds passed) (h.head.start_is ∙ o.place_is) pass)
 
     -- of a job that makes no edits
     pub opened_worked_same : edits_of job ≡ [] → (after : Option (List ℕ)) (t : (maker x.coding).maker.State) (holds : Option (List ℕ)) (ending : Ending)
-        → (x.begun.is_over ≡ true → WasRead ending)
-        → BehindBegun (maker x.coding).maker.bars (maker x.coding).maker.step (maker x.coding).maker.writes left (set_bytes x.begun buffer) (start_of x.coding.syntax x.start) (maker x.coding).maker.first mid after t holds ending
+        → (x.beginning.is_over ≡ true → WasRead ending)
+        → BehindBeginning (maker x.coding).maker.bars (maker x.coding).maker.step (maker x.coding).maker.writes left (set_bytes x.beginning buffer) (start_of x.coding.syntax x.start) (maker x.coding).maker.first mid after t holds ending
         → Worked job file after held holds ending
     opened_worked_same none after t holds ending was pass =
         opened_worked after t holds ending ending (concludes_same job is_file file after held h.reading opened_here keeps_here (maker x.coding) none t ending) was pass

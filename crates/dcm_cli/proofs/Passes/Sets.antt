@@ -67,11 +67,11 @@ module _ {bar : Bar} {text : Front → List ℕ} (m : Maker bar text) (s : Synta
   module _ (held : Option (List ℕ)) (t : m.State) where
     -- a beginning of the output for a beginning of the bytes
     failed_within : (holds : Option (List ℕ)) (read rest : List ℕ) (ending : Ending) → ending ≡ Output → AppendsFront held holds (made_output m s start read) → SetMade bar text Last s start read rest held t holds ending
-    failed_within holds read rest ending is begun =
+    failed_within holds read rest ending is beginning =
         let a = all_read (read ++ rest) in
         let last = last_output m s start (read ++ rest) in
         let whole = ap (λ (bs : List ℕ). bs ++ last) (sym (made_behind m s start read rest)) ∙ a.4 in
-        set_unwritten a.0 a.1 a.2 is (subst (AppendsFront held holds) whole (front_longer last (front_longer (more_made m s start read rest) begun)))
+        set_unwritten a.0 a.1 a.2 is (subst (AppendsFront held holds) whole (front_longer last (front_longer (more_made m s start read rest) beginning)))
 
     -- where nothing is left, this is all of it
     all_of : (left : Option (List ℕ)) (read rest : List ℕ) → left ≡ Some rest → IsAtEnd left → read ++ rest ≡ read

@@ -7,7 +7,8 @@ use Rattle.dcm_base.specs.declared.syntax.Coding.{Coding}
 use Rattle.dcm_base.specs.declared.syntax.Syntax.{Syntax}
 use Rattle.dcm_base.specs.Bars.{no_bar}
 use Rattle.dcm_base.specs.Build as build
-use Rattle.dcm_base.specs.Build.{Progress, Told, named_syntax}
+use Rattle.dcm_base.specs.Build.{Progress, named_syntax}
+use Rattle.dcm_base.specs.declared.fault.LineStop.{LineStop}
 use Rattle.dcm_base.specs.Dump.{dump_set, dump_front}
 use Rattle.dcm_base.specs.Front.{Front}
 use Rattle.dcm_base.specs.Header.{meta_header, set_header}
@@ -115,7 +116,7 @@ in_front : (zeros prefix group set : List ℕ) → zeros ++ prefix ++ group ++ s
 in_front zeros prefix group set = ap (λ (bs : List ℕ). bs ++ set) (append_assoc zeros prefix group) ∙ append_assoc zeros (prefix ++ group) set
 
 fine : (p : Progress) → p.told ≡ None → built_answer p ≡ record { output = build.built_bytes p.built; told = []; status = 0 }
-fine p e = ap (λ (o : Option Told). elim o as (λ x. Answer) [ None ↦ record { output = build.built_bytes p.built; told = []; status = 0 } | Some t ↦ record { output = build.built_bytes p.built; told = building_line t; status = 2 } ]) e
+fine p e = ap (λ (o : Option LineStop). elim o as (λ x. Answer) [ None ↦ record { output = build.built_bytes p.built; told = []; status = 0 } | Some t ↦ record { output = build.built_bytes p.built; told = building_line t; status = 2 } ]) e
 
 -- ---- both runs
 

@@ -9,7 +9,7 @@ use Rattle.dcm_words.specs.Words.{Job}
 use Rattle.dcm_cli.specs.Answer.{Answer, Answers}
 use Rattle.dcm_cli.specs.InMemory.{LeavesAnswer}
 use Rattle.dcm_cli.specs.Run.{Ran, as_answered, not_read, not_written, not_flushed, Devices}
-use Rattle.dcm_cli.specs.Told.{Tries}
+use Rattle.dcm_cli.specs.ErrorLines.{Tries}
 use Rattle.dcm_cli.proofs.Runs.OneAnswer.{one_answer}
 
 -- what is told of a writer of this size that holds these bytes

@@ -6,7 +6,7 @@ use Rattle.dcm_words.specs.Words.{Job, meant}
 use Rattle.dcm_words.specs.Plans.{Gives, GivesUnlessMemory, is_modify}
 use Rattle.dcm_cli.specs.Devices.{MayAnswer}
 use Rattle.dcm_cli.specs.Program.{Errors, Reports, Telling, HasRun, Obeys, refused, no_memory}
-use Rattle.dcm_cli.specs.Told.{usage_line, usage_status}
+use Rattle.dcm_cli.specs.ErrorLines.{usage_line, usage_status}
 
 -- a run over the same devices
 pub over : {I O : Type 0} (t : Telling I O) (job : Job) (e : Errors) (i j : I) (o p : O) (status : ℕ) → i ≡ j → o ≡ p → HasRun t job e i o status → HasRun t job e j p status

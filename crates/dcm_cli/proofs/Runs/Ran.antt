@@ -2,6 +2,7 @@
 use Rattle.std.proofs.Common.{◌≡◌, ◌∙◌, ap, sym, subst, ℕ, ◌<◌, ◌≤◌, ◌^◌, List, [], length, Bool, true, false, Option, None, Some, refl, inl, inr, ◌⊎◌}
 use Rattle.std.specs.Io.KnownBytes.{append_known}
 use Rattle.dcm_base.specs.Build as build
+use Rattle.dcm_base.specs.declared.fault.LineStop.{LineStop}
 use Rattle.dcm_base.specs.Device.{AppendsFront}
 use Rattle.dcm_base.specs.Front.{Front}
 use Rattle.dcm_base.specs.Stop.{Stop, complete, refused}
@@ -18,7 +19,7 @@ use Rattle.dcm_cli.specs.declared.ending.Verdict.TheVariants.{Done, RefusedLine}
 use Rattle.dcm_cli.specs.Answer.{Answer, Answers, Source, unopened, file, alone, ReadAnswers, answer, building_line, output_of, edits_of, stop_line, stop_status}
 use Rattle.dcm_cli.specs.Pass.{TellsUnread, TellsOutput}
 use Rattle.dcm_cli.specs.Run.{IsMeant, Answered, ReadEnds, BuildEnds, Worked, answered, could_not_read, could_not_write, FlushedAs, verdict_at, verdict_of_source, verdict_of_told, unplaced_mask, verdict_lines, verdict_status, ending_lines, ending_status, Ran, as_answered, not_read, not_written, not_flushed, Devices}
-use Rattle.dcm_cli.specs.Told.{Tries}
+use Rattle.dcm_cli.specs.ErrorLines.{Tries}
 use Rattle.dcm_words.specs.Plans.{job_of}
 use Rattle.dcm_cli.proofs.Passes.MakesEdits.{are_few}
 use Rattle.dcm_cli.proofs.Lines.Unplaced.{no_lines, lines_of_mask, status_of_mask, few_without, few_edits}
@@ -69,14 +70,14 @@ reads_given job input out verdict short answers h = record {
 }
 
 -- lines that were built
-abbrev answer_of : build.Built → Option build.Told → Answer
+abbrev answer_of : build.Built → Option LineStop → Answer
 answer_of b told = elim told as (λ x. Answer) [
   | None ↦ record { output = build.built_bytes b; told = []; status = 0 }
   | Some t ↦ record { output = build.built_bytes b; told = building_line t; status = 2 }
 ]
 
 module _ (limit : ℕ) (input out : List ℕ) (verdict : Verdict) (h : BuildEnds limit input out verdict) where
-  by_told : (told : Option build.Told) → (build.built limit input).told ≡ told → Given (building limit) input out verdict
+  by_told : (told : Option LineStop) → (build.built limit input).told ≡ told → Given (building limit) input out verdict
   by_told None e =
       let is : verdict ≡ Done 0 = h.verdict_is ∙ ap verdict_of_told e in
       record {
@@ -87,7 +88,7 @@ module _ (limit : ℕ) (input out : List ℕ) (verdict : Verdict) (h : BuildEnds
         status_is = ap verdict_status is;
       }
   by_told (Some t) e =
-      let is : verdict ≡ RefusedLine (record { fault = t.fault; offset = t.offset; line = t.line }) = h.verdict_is ∙ ap verdict_of_told e in
+      let is : verdict ≡ RefusedLine t = h.verdict_is ∙ ap verdict_of_told e in
       record {
         a = record { output = build.built_bytes (build.built limit input).built; told = building_line t; status = 2 };
         answers = sym (ap (answer_of (build.built limit input).built) e);

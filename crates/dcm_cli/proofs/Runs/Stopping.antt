@@ -21,11 +21,11 @@ use Rattle.dcm_cli.specs.declared.ending.Ending.{Ending}
 use Rattle.dcm_cli.specs.declared.ending.Ending.TheVariants as endings
 use Rattle.dcm_cli.specs.declared.ending.Ending.TheVariants.{Unread, Output}
 use Rattle.dcm_cli.specs.declared.ending.HeadEnding.TheVariants as heads
-use Rattle.dcm_cli.specs.declared.head.Begun.{Begun}
+use Rattle.dcm_cli.specs.declared.head.Beginning.{Beginning}
 use Rattle.dcm_cli.specs.declared.rewrite.Opened.{Opened as OpenedFile}
 use Rattle.dcm_cli.specs.Answer.{job_dictionary, refuses_change, uid_of_syntax}
 use Rattle.dcm_cli.specs.Opening.{OpenedAs}
-use Rattle.dcm_cli.specs.Pass.{Begins, BehindBegun, Pumps, head_read, set_bytes, unread}
+use Rattle.dcm_cli.specs.Pass.{Begins, BehindBeginning, Pumps, head_read, set_bytes, unread}
 use Rattle.dcm_cli.specs.Run.{Worked, answered, could_not_read, could_not_write, verdict_of_stop}
 use Rattle.dcm_cli.specs.Stops.{MOST_READ, Stops, LastPiece, HeadStops, SetStops, BehindStops}
 use Rattle.dcm_cli.proofs.Passes.Alone.{splits, alone_worked}
@@ -76,14 +76,14 @@ head_stops job is_file file had left some h =
     (file_unopened job is_file file None had (prepend_known h.last.piece left) (head_read h.front) h.front (heads.Unread (length h.front)) some h.last.given (refl, h.going, refl))
 
 -- a pass over a data set as it would be if reading had failed before the last piece
-module _ {S : Type 0} (bars : S → Head → Option Bar) (step : S → Atom → S) (writes : S → Atom → List ℕ) (first : Reading) (s : S) (begun : List ℕ) (had left held : Option (List ℕ)) (stops : SetStops bars step first s begun had left) where
+module _ {S : Type 0} (bars : S → Head → Option Bar) (step : S → Atom → S) (writes : S → Atom → List ℕ) (first : Reading) (s : S) (beginning : List ℕ) (had left held : Option (List ℕ)) (stops : SetStops bars step first s beginning had left) where
   abbrev pub read_before : ℕ
-  read_before = next_offset first + length (begun ++ stops.more)
+  read_before = next_offset first + length (beginning ++ stops.more)
 
   abbrev pub written_before : Option (List ℕ)
-  written_before = append_known held (outputs (steps bars step) (steps_write bars step writes) (first, s) (begun ++ stops.more))
+  written_before = append_known held (outputs (steps bars step) (steps_write bars step writes) (first, s) (beginning ++ stops.more))
 
-  pub as_unread : BehindBegun bars step writes had begun first s held (prepend_known stops.last.piece left) s written_before (Unread read_before)
+  pub as_unread : BehindBeginning bars step writes had beginning first s held (prepend_known stops.last.piece left) s written_before (Unread read_before)
   as_unread = record { more = stops.more; given = stops.last.given; ends = unread stops.going refl refl }
 
 module _ (job : Job) (is_file : reads_file job ≡ true) (file : List ℕ) (r : HeadReading) (o : Opened (job_dictionary job) r file) (kept : refuses_change job o.coding ≡ false) (k : FileMaker job o.coding) where
@@ -97,29 +97,29 @@ module _ (job : Job) (is_file : reads_file job ≡ true) (file : List ℕ) (r : 
     not_written = λ is. is;
   }
 
-  pub file_stops : (had left after : Option (List ℕ)) (b : Begun) (buffer read : List ℕ) → had ≡ Some file → had ≡ prepend_known read left → Begins r b buffer left read → HeadStops had left
+  pub file_stops : (had left after : Option (List ℕ)) (b : Beginning) (buffer read : List ℕ) → had ≡ Some file → had ≡ prepend_known read left → Begins r b buffer left read → HeadStops had left
       → BehindStops k.maker.bars k.maker.step (start_of o.coding.syntax start) k.maker.first (set_bytes b buffer) b.is_over left after → Stops job file after
-  file_stops had left after b buffer read some given begun head (inl same) = subst (λ (l : Option (List ℕ)). Stops job file l) (sym same) (head_stops job is_file file had left some head)
-  file_stops had left after b buffer read some given begun head (inr x) =
+  file_stops had left after b buffer read some given beginning head (inl same) = subst (λ (l : Option (List ℕ)). Stops job file l) (sym same) (head_stops job is_file file had left some head)
+  file_stops had left after b buffer read some given beginning head (inr x) =
       let stops = x.1 in
       let mid : Option (List ℕ) = append_known None (k.header o.m) in
       let later : Option (List ℕ) = prepend_known stops.last.piece after in
       let n = read_before k.maker.bars k.maker.step k.maker.writes (start_of o.coding.syntax start) k.maker.first (set_bytes b buffer) left after mid stops in
       stops_of job file stops.last.piece after None (written_before k.maker.bars k.maker.step k.maker.writes (start_of o.coding.syntax start) k.maker.first (set_bytes b buffer) left after mid stops) n (Unread n) refl stops.last.small
       (file_worked job is_file file later None r o kept k had left mid k.maker.first (written_before k.maker.bars k.maker.step k.maker.writes (start_of o.coding.syntax start) k.maker.first (set_bytes b buffer) left after mid stops)
-      b buffer read (Unread n) (Unread n) (concludes_unread later n) some given begun refl
+      b buffer read (Unread n) (Unread n) (concludes_unread later n) some given beginning refl
       (λ over. absurd (let no : false ≡ true = sym x.0 ∙ over in cc))
       (as_unread k.maker.bars k.maker.step k.maker.writes (start_of o.coding.syntax start) k.maker.first (set_bytes b buffer) left after mid stops))
 
 -- a file that is written again
 pub opened_stops : (target : Option Syntax) (job : Job) → reads_file job ≡ true → (maker : (coding : Coding) → FileMaker job coding) (file : List ℕ) (had left after held mid : Option (List ℕ)) (buffer : List ℕ) (x : OpenedFile)
     → had ≡ Some file → (h : OpenedAs (job_dictionary job) target had left held mid buffer x) → refuses_change job x.coding ≡ false → HeadStops had left
-    → BehindStops (maker x.coding).maker.bars (maker x.coding).maker.step (start_of x.coding.syntax x.start) (maker x.coding).maker.first (set_bytes x.begun buffer) x.begun.is_over left after → Stops job file after
+    → BehindStops (maker x.coding).maker.bars (maker x.coding).maker.step (start_of x.coding.syntax x.start) (maker x.coding).maker.first (set_bytes x.beginning buffer) x.beginning.is_over left after → Stops job file after
 opened_stops target job is_file maker file had left after held mid buffer x some h kept head stops =
-    let o = head_opened (job_dictionary job) file had left buffer h.reading x.begun x.coding x.start some h.head in
+    let o = head_opened (job_dictionary job) file had left buffer h.reading x.beginning x.coding x.start some h.head in
     let k = (maker x.coding).maker in
-    file_stops job is_file file h.reading o kept (maker x.coding) had left after x.begun buffer h.head.read some h.head.given h.head.begins head
-    (subst (λ (n : ℕ). BehindStops k.bars k.step (start_of x.coding.syntax n) k.first (set_bytes x.begun buffer) x.begun.is_over left after) (h.head.start_is ∙ o.place_is) stops)
+    file_stops job is_file file h.reading o kept (maker x.coding) had left after x.beginning buffer h.head.read some h.head.given h.head.begins head
+    (subst (λ (n : ℕ). BehindStops k.bars k.step (start_of x.coding.syntax n) k.first (set_bytes x.beginning buffer) x.beginning.is_over left after) (h.head.start_is ∙ o.place_is) stops)
 
 -- ---- a data set alone
 

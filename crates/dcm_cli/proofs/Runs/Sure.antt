@@ -93,8 +93,8 @@ alone_grows d mode bare p later out a sure x =
 apart : (m n : ℕ) → m < n → nat_eq m n ≡ true → ⊥
 apart m n less e = grind (arith, nat_tests, less, e)
 
-pub begun_alike : (m n : Meta) (group others : List ℕ) (coding other : Coding) → begins m group coding ≡ begins n others other → (m ≡ n) × (group ≡ others) × (coding ≡ other)
-begun_alike m n group others coding other e = (cc, cc, cc)
+pub beginnings_alike : (m n : Meta) (group others : List ℕ) (coding other : Coding) → begins m group coding ≡ begins n others other → (m ≡ n) × (group ≡ others) × (coding ≡ other)
+beginnings_alike m n group others coding other e = (cc, cc, cc)
 
 -- a head that two bytes have ended stays
 module _ (p later : List ℕ) (m : Meta) (group : List ℕ) (named : Coding) (reads : MetaReads p (begins m group named)) (less : 132 + length group < length p) where
@@ -132,11 +132,11 @@ module _ (p later : List ℕ) (m : Meta) (group : List ℕ) (named : Coding) (re
     file_within kept f stop reads_f undecided source (not_opened fault offset head said) =
         absurd (let no : meta_refused fault offset ≡ begins m group named = one_meta (p ++ later) (meta_refused fault offset) (begins m group named) head stays in cc)
     file_within kept f stop reads_f undecided source (not_changed m' group' coding' head changed said) =
-        let one = begun_alike m' m group' group head.named named (one_meta (p ++ later) (begins m' group' head.named) (begins m group named) head.head stays) in
+        let one = beginnings_alike m' m group' group head.named named (one_meta (p ++ later) (begins m' group' head.named) (begins m group named) head.head stays) in
         let codings : coding' ≡ coding = head.coding_is ∙ ap (coding_by (job_dictionary job)) one.2 ∙ sym coding_is in
         absurd (let no : false ≡ true = sym kept ∙ ap (refuses_change job) (sym codings) ∙ changed in cc)
     file_within kept f stop reads_f undecided source (was_opened m' group' coding' g end head kept' reads_g said) =
-        let one = begun_alike m' m group' group head.named named (one_meta (p ++ later) (begins m' group' head.named) (begins m group named) head.head stays) in
+        let one = beginnings_alike m' m group' group head.named named (one_meta (p ++ later) (begins m' group' head.named) (begins m group named) head.head stays) in
         let codings : coding' ≡ coding = head.coding_is ∙ ap (coding_by (job_dictionary job)) one.2 ∙ sym coding_is in
         let there : SetReads (p ++ later) g end = subst (λ (c : Coding). Reads (job_bar job c) c.syntax (132 + length group) (drop (132 + length group) (p ++ later)) g end) codings
         (subst (λ (bs : List ℕ). Reads (job_bar job coding') coding'.syntax (132 + length bs) (drop (132 + length bs) (p ++ later)) g end) one.1 reads_g) in

@@ -8,7 +8,7 @@ use Rattle.dcm_base.specs.declared.tag.Tag.{Tag}
 use Rattle.dcm_base.specs.declared.vr.Vr.{Vr}
 use Rattle.dcm_base.specs.declared.fault.EditRefusal.{EditRefusal}
 use Rattle.dcm_base.specs.declared.fault.EditRefusal.TheVariants.{BadOption, UnknownTag, SequenceMisused, MetaGroup, Overlap, TooMany}
-use Rattle.dcm_base.specs.Tag.{number, tag_of_number, is_private}
+use Rattle.dcm_base.specs.Tag.{tag_number, tag_of_number, is_private}
 use Rattle.dcm_base.specs.Dictionary.{Element, elements_in, element_in, called, tag_in}
 use Rattle.dcm_base.specs.Laws.{is_even}
 use Rattle.dcm_base.proofs.Dictionaries.Parts.{groups_are_even}
@@ -81,14 +81,14 @@ pub mapped : {A B : Type 0} (f : A → B) (o : Option A) (y : B) → option_map 
 mapped f (Some x) y p = (x, refl, cc)
 mapped f None y p = cc
 
-pub same_group : (tag : Tag) (n : ℕ) → tag.element < 65536 → (n == number tag) ≡ true → (tag_of_number n).group ≡ tag.group
-same_group tag n h p = let e : n ≡ number tag = eqb-true n (number tag) p in omega (arith, e, h)
+pub same_group : (tag : Tag) (n : ℕ) → tag.element < 65536 → (n == tag_number tag) ≡ true → (tag_of_number n).group ≡ tag.group
+same_group tag n h p = let e : n ≡ tag_number tag = eqb-true n (tag_number tag) p in omega (arith, e, h)
 
 element_public : (d : Dictionary) (tag : Tag) (x : Vr × List ℕ) → tag.element < 65536 → element_in d tag ≡ Some x → not (is_private tag) ≡ true
 unfolding element_in
 element_public d tag x h p =
-    let m = mapped (λ (e : Element). (e.1, e.2)) (find (λ (e : Element). e.0 == number tag) (elements_in d)) x p in
-    let q = found_passes (λ e. e.0 == number tag) (λ e. is_even e.0) (elements_in d) m.0 (groups_are_even d) m.1 in
+    let m = mapped (λ (e : Element). (e.1, e.2)) (find (λ (e : Element). e.0 == tag_number tag) (elements_in d)) x p in
+    let q = found_passes (λ e. e.0 == tag_number tag) (λ e. is_even e.0) (elements_in d) m.0 (groups_are_even d) m.1 in
     subst (λ g. not (g % 2 == 1) ≡ true) (same_group tag m.0.0 h q.1) (even_public m.0.0 q.0)
 
 keyword_public : (d : Dictionary) (word : List ℕ) (tag : Tag) → tag_in d word ≡ Some tag → not (is_private tag) ≡ true

@@ -10,7 +10,7 @@ use Rattle.dcm_base.specs.declared.vr.Vr.{Vr}
 use Rattle.dcm_base.specs.declared.vr.Vr.TheVariants.{UL, LO, UN}
 use Rattle.dcm_base.specs.declared.fault.EditRefusal.{EditRefusal}
 use Rattle.dcm_base.specs.declared.fault.EditRefusal.TheVariants.{UnknownTag, MetaGroup}
-use Rattle.dcm_base.specs.Tag.{number, tag_of_number}
+use Rattle.dcm_base.specs.Tag.{tag_number, tag_of_number}
 use Rattle.dcm_base.specs.declared.lookup.Dictionary.TheVariants.{Extract, Standard}
 use Rattle.dcm_base.specs.Dictionary.{Element, Entry, elements, entries, keywords, element_of, elements_in, element_in, called, tag_in, vr_in, is_group_length, is_private_creator}
 use Rattle.dcm_tools.proofs.ReadBack.HasRoom.{IsElement}
@@ -61,15 +61,15 @@ both_not a true p q = absurd cc
 both_not true false p q = absurd cc
 both_not false false p q = refl
 
-group_within : (tag : Tag) (n : ℕ) → n ≡ number tag → n < 4294967296 → tag.group < 65536
+group_within : (tag : Tag) (n : ℕ) → n ≡ tag_number tag → n < 4294967296 → tag.group < 65536
 group_within tag n e h = omega (arith, e, h)
 
 element_is : (d : Dictionary) (tag : Tag) (x : Vr × List ℕ) → tag.element < 65536 → (tag.group == 2) ≡ false → element_in d tag ≡ Some x → IsElement tag
 unfolding element_in
 element_is d tag x h data_set p =
-    let m = mapped (λ (e : Element). (e.1, e.2)) (find (λ (e : Element). e.0 == number tag) (elements_in d)) x p in
-    let q = found_passes (λ e. e.0 == number tag) (λ e. is_of_element e.0) (elements_in d) m.0 (are_of_elements d) m.1 in
-    let same : m.0.0 ≡ number tag = eqb-true m.0.0 (number tag) q.1 in
+    let m = mapped (λ (e : Element). (e.1, e.2)) (find (λ (e : Element). e.0 == tag_number tag) (elements_in d)) x p in
+    let q = found_passes (λ e. e.0 == tag_number tag) (λ e. is_of_element e.0) (elements_in d) m.0 (are_of_elements d) m.1 in
+    let same : m.0.0 ≡ tag_number tag = eqb-true m.0.0 (tag_number tag) q.1 in
     let below : m.0.0 < 4294967296 = ltb-true m.0.0 4294967296 (and_one _ _ q.0) in
     let other : not (tag.group == 0xFFFE) ≡ true = subst (λ (g : ℕ). not (g == 0xFFFE) ≡ true) (same_group tag m.0.0 h q.1) (and_two (nat_lt m.0.0 4294967296) _ q.0) in
     ((group_within tag m.0.0 same below, h), both_not (tag.group == 0xFFFE) (tag.group == 2) other data_set)

@@ -56,7 +56,7 @@ undecided_named size meta group [] = refl
 undecided_named size meta group (b ∷ uid) = undecided_coded size meta group (coding_of meta.uid)
 
 -- the answer to the bytes so far, how the reading says it, and whether it goes on
-pub record Told (r : Reading) (p : List ℕ) : Type 0 where
+pub record IsAnswered (r : Reading) (p : List ℕ) : Type 0 where
   pub answer : MetaAnswer
   pub reads : MetaReads p answer
   pub said : Says (meta_finished r) answer
@@ -65,7 +65,7 @@ pub record Told (r : Reading) (p : List ℕ) : Type 0 where
 finished_over : (r : Reading) (end : MetaEnd) → r.end ≡ Some end → meta_finished r ≡ r
 finished_over r end h = ap (finished_from r) h
 
-told_before : (p : List ℕ) → length p < 132 → Told (early p) p
+told_before : (p : List ℕ) → length p < 132 → IsAnswered (early p) p
 told_before p few =
     let other : nat_eq (length p) 132 ≡ false = ne_eqb (length p) 132 (λ h. omega arith) in
     record {
@@ -83,7 +83,7 @@ size_of preamble group rest long =
     let four : length PREFIX ≡ 4 = refl in
     omega arith
 
-told_within : (r : Reading) (p : List ℕ) → Within r p → Told r p
+told_within : (r : Reading) (p : List ℕ) → Within r p → IsAnswered r p
 told_within r p w =
     let size = ap length w.parts ∙ size_of w.preamble w.group w.rest w.long in
     let bytes_is = ap length w.bytes_is in
@@ -118,7 +118,7 @@ told_within r p w =
           }
     ]
 
-told_no_file : (r : Reading) (p : List ℕ) → NoFile r p → Told r p
+told_no_file : (r : Reading) (p : List ℕ) → NoFile r p → IsAnswered r p
 told_no_file r p n = record {
   answer = refused NoPrefix 128;
   reads = no_prefix n.preamble n.prefix n.rest n.parts n.long n.four n.other refl;
@@ -126,7 +126,7 @@ told_no_file r p n = record {
   going = inr (refl, _, n.end_is);
 }
 
-told_behind : (r : Reading) (p : List ℕ) (o : Over r p) (behind : GroupPlace) → o.behind ≡ behind → Told r p
+told_behind : (r : Reading) (p : List ℕ) (o : Over r p) (behind : GroupPlace) → o.behind ≡ behind → IsAnswered r p
 told_behind r p o (an_element tag vr head size) h = absurd (let no : true ≡ false = sym (ap is_element h) ∙ o.no_element in cc)
 told_behind r p o too_few h = absurd (o.no_cut h)
 told_behind r p o the_end h =
@@ -153,8 +153,8 @@ told_behind r p o (a_fault fault) h =
       going = inr (sure (length p) (132 + length o.group), _, o.end_is);
     }
 
-pub told : (r : Reading) (p : List ℕ) → Described r p → Told r p
-told r p (before few is) = subst (λ (x : Reading). Told x p) (sym is) (told_before p few)
+pub told : (r : Reading) (p : List ℕ) → Described r p → IsAnswered r p
+told r p (before few is) = subst (λ (x : Reading). IsAnswered x p) (sym is) (told_before p few)
 told r p (within w) = told_within r p w
 told r p (no_file n) = told_no_file r p n
 told r p (over o) = told_behind r p o o.behind refl

@@ -70,10 +70,10 @@ bad_read s b h =
 
 -- ---- from what is read to what stands there
 
-abbrev pub Told : Syntax → List ℕ → HeadRead → Type 0
-Told s b (Done head n) = Begins s b head n
-Told s b (More n) = IsShort s b n
-Told s b BadVr = HasBadVr s b
+abbrev pub IsRead : Syntax → List ℕ → HeadRead → Type 0
+IsRead s b (Done head n) = Begins s b head n
+IsRead s b (More n) = IsShort s b n
+IsRead s b BadVr = HasBadVr s b
 
 pub head_at : (x y : Bool) (s : Syntax) (t : Tag) (v : Vr) (l : Length) (b after : List ℕ) → is_item t ≡ x → is_delimiter t ≡ y
     → MatchBool x ((v ≡ UN) × ItemHead s l b after) (MatchBool y ((v ≡ UN) × (l ≡ Known 0) × Delimiter s t b after) (PlainHead s t v l b after))
@@ -95,12 +95,12 @@ misses : (s : Syntax) (b : List ℕ) (v : Vr) (n : ℕ) → BeginsElement s b �
 misses s b v n begins e size less (inl h) = absurd (omega (arith, begins.eight))
 misses s b v n begins e size less (inr h) = inr (h, subst (λ (k : ℕ). length b < k) h less, (begins, v, e, size ∙ h))
 
-told_done : (s : Syntax) (b : List ℕ) (v : Vr) (short : Bool) → BeginsElement s b → vr_at s b ≡ Some v → nat_lt (length b) (head_size s v) ≡ short → Told s b (element_done s b v)
+told_done : (s : Syntax) (b : List ℕ) (v : Vr) (short : Bool) → BeginsElement s b → vr_at s b ≡ Some v → nat_lt (length b) (head_size s v) ≡ short → IsRead s b (element_done s b v)
 told_done s b v true begins e test =
-    subst (Told s b) (sym (done_by_test s b v true test)) (misses s b v (head_size s v) begins e refl (ltb-true (length b) (head_size s v) test) (eight_or_twelve s v))
+    subst (IsRead s b) (sym (done_by_test s b v true test)) (misses s b v (head_size s v) begins e refl (ltb-true (length b) (head_size s v) test) (eight_or_twelve s v))
 told_done s b v false begins e test =
     let whole = ltb-false (length b) (head_size s v) test in
-    subst (Told s b) (sym (done_by_test s b v false test)) (
+    subst (IsRead s b) (sym (done_by_test s b v false test)) (
       whole,
       head_at false false s (tag_at s b) v (length_at s v b) b (drop (head_size s v) b) begins.no_item begins.no_delimiter
           (record { tag_is = refl; vr_is = sym e; whole = whole; length_is = refl; after_is = refl }),
@@ -119,12 +119,12 @@ bad_letters (implicit_in d) b e = absurd cc
 bad_letters (little_in d) b e = (refl, none_capitals (get_or b 4 0) (get_or b 5 0) e)
 bad_letters (big_in d) b e = (refl, none_capitals (get_or b 4 0) (get_or b 5 0) e)
 
-told_element : (s : Syntax) (b : List ℕ) (o : Option Vr) → BeginsElement s b → vr_at s b ≡ o → Told s b (element_read s b o)
+told_element : (s : Syntax) (b : List ℕ) (o : Option Vr) → BeginsElement s b → vr_at s b ≡ o → IsRead s b (element_read s b o)
 told_element s b None begins e = let bad = bad_letters s b e in (begins, bad.0, bad.1)
 told_element s b (Some v) begins e = told_done s b v (nat_lt (length b) (head_size s v)) begins e refl
 
 told_tag : (s : Syntax) (b : List ℕ) (item delimiter : Bool) → 8 ≤ length b → is_item (tag_at s b) ≡ item → is_delimiter (tag_at s b) ≡ delimiter
-    → Told s b (cond item (Done (record { tag = tag_at s b; vr = UN; length = long_length (number s 4 (drop 4 b)) }) 8)
+    → IsRead s b (cond item (Done (record { tag = tag_at s b; vr = UN; length = long_length (number s 4 (drop 4 b)) }) 8)
     (cond delimiter (Done (record { tag = tag_at s b; vr = UN; length = Known 0 }) 8) (element_read s b (vr_at s b))))
 told_tag s b true delimiter le e f = (
   le,
@@ -135,14 +135,14 @@ told_tag s b false true le e f =
     (le, head_at false true s (tag_at s b) UN (Known 0) b (drop 8 b) e f (refl, refl, record { tag_is = refl; whole = le; after_is = refl }))
 told_tag s b false false le e f = told_element s b (vr_at s b) (record { eight = le; no_item = e; no_delimiter = f }) refl
 
-told_by_size : (s : Syntax) (b : List ℕ) (short : Bool) → nat_lt (length b) 8 ≡ short → Told s b (head_read s b)
+told_by_size : (s : Syntax) (b : List ℕ) (short : Bool) → nat_lt (length b) 8 ≡ short → IsRead s b (head_read s b)
 told_by_size s b true e =
     let less = ltb-true (length b) 8 e in
-    subst (Told s b) (sym (head_short s b less)) (inl (refl, less))
+    subst (IsRead s b) (sym (head_short s b less)) (inl (refl, less))
 told_by_size s b false e =
     let le = ltb-false (length b) 8 e in
-    subst (Told s b) (sym (head_long s b le ∙ by_tests s b (tag_at s b) (is_item (tag_at s b)) (is_delimiter (tag_at s b)) refl refl))
+    subst (IsRead s b) (sym (head_long s b le ∙ by_tests s b (tag_at s b) (is_item (tag_at s b)) (is_delimiter (tag_at s b)) refl refl))
     (told_tag s b (is_item (tag_at s b)) (is_delimiter (tag_at s b)) le refl refl)
 
-pub told : (s : Syntax) (b : List ℕ) (r : HeadRead) → head_read s b ≡ r → Told s b r
-told s b r e = subst (Told s b) e (told_by_size s b (nat_lt (length b) 8) refl)
+pub told : (s : Syntax) (b : List ℕ) (r : HeadRead) → head_read s b ≡ r → IsRead s b r
+told s b r e = subst (IsRead s b) e (told_by_size s b (nat_lt (length b) 8) refl)

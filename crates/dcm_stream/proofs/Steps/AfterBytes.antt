@@ -91,7 +91,7 @@ innermost_at s start path whole (open_fragments tag vr values last) b h =
 
 -- ---- what stands
 
-pub record Stood (bar : Bar) (s : Syntax) (start : ℕ) (p : List ℕ) (r : Reading) (atoms : List Atom) : Type 0 where
+pub record Continues (bar : Bar) (s : Syntax) (start : ℕ) (p : List ℕ) (r : Reading) (atoms : List Atom) : Type 0 where
   pub read : List ℕ
   pub within : start + length p ≤ INPUT_LIMIT
   pub going : r.halt ≡ None
@@ -102,7 +102,7 @@ pub record Stood (bar : Bar) (s : Syntax) (start : ℕ) (p : List ℕ) (r : Read
   pub passed : Passed bar s start p (length read)
 
 abbrev pub Follow : Bar → Syntax → (start : ℕ) → List ℕ → Reading → List Atom → Type 0
-Follow bar s start p r atoms = Stood bar s start p r atoms ⊎ HaltsAt bar s start p r atoms
+Follow bar s start p r atoms = Continues bar s start p r atoms ⊎ HaltsAt bar s start p r atoms
 
 -- where no byte of a value is to come, and there is room, the end is undecided
 pub begin_waits : (bar : Bar) (s : Syntax) (start : ℕ) (b : List ℕ) (ls : List Level) (atoms : List Atom) (h : Opens s start b ls 0 atoms) → passes 8 (room (start + length b) ls) ≡ false
@@ -192,7 +192,7 @@ empty_waits position (b ∷ rest) h = absurd (cc)
 none_between : (x y : List ℕ) (b : ℕ) → b ∷ [] ≡ x ++ y → 0 < length x → length x < 1 → ⊥
 none_between x y b e some short = omega arith
 
-pub value_step : (bar : Bar) (s : Syntax) (start : ℕ) (p : List ℕ) (r : Reading) (atoms : List Atom) (b n : ℕ) → Stood bar s start p r atoms → start + length p < INPUT_LIMIT → r.left ≡ suc n
+pub value_step : (bar : Bar) (s : Syntax) (start : ℕ) (p : List ℕ) (r : Reading) (atoms : List Atom) (b n : ℕ) → Continues bar s start p r atoms → start + length p < INPUT_LIMIT → r.left ≡ suc n
     → let q = settled (r.position + 1) (record { levels = r.levels; left = n; atoms = value_byte b ∷ closing n }) n in Follow bar s start (p ++ b ∷ []) q.0 (atoms ++ q.1)
 value_step bar s start p r atoms b n h lt left =
     let o : Opened = record { levels = r.levels; left = n; atoms = value_byte b ∷ closing n } in
@@ -215,7 +215,7 @@ value_step bar s start p r atoms b n h lt left =
 -- ---- a byte of a head
 
 -- what is told of the place by the bytes of a head so far
-pub record AtHead (bar : Bar) (s : Syntax) (start : ℕ) (p : List ℕ) (r : Reading) (atoms : List Atom) (h : Stood bar s start p r atoms) : Type 0 where
+pub record AtHead (bar : Bar) (s : Syntax) (start : ℕ) (p : List ℕ) (r : Reading) (atoms : List Atom) (h : Continues bar s start p r atoms) : Type 0 where
   pub zero_left : LeftIs h.stands.opens.open_tree 0
   pub awaits : value_open (plug h.stands.opens.path h.stands.opens.whole h.stands.opens.open_tree) ≡ false
   pub place : Innermost s start (plug h.stands.opens.path h.stands.opens.whole h.stands.opens.open_tree)
@@ -224,7 +224,7 @@ pub record AtHead (bar : Bar) (s : Syntax) (start : ℕ) (p : List ℕ) (r : Rea
       ≡ place_stop (bar (plug h.stands.opens.path h.stands.opens.whole h.stands.opens.open_tree)) place.inner (place.inner ∷ place.outer) (start + length h.read) rest
   pub end_is : stop_at bar s start (plug h.stands.opens.path h.stands.opens.whole h.stands.opens.open_tree) (start + length h.read) r.head ≡ Some (place_end place.inner (start + length h.read) r.head)
 
-pub at_head : (bars : List Atom → HeadBar) (bar : Bar) → BarsAs bars bar → (s : Syntax) (start : ℕ) (p : List ℕ) (r : Reading) (atoms : List Atom) (h : Stood bar s start p r atoms) → r.left ≡ 0
+pub at_head : (bars : List Atom → HeadBar) (bar : Bar) → BarsAs bars bar → (s : Syntax) (start : ℕ) (p : List ℕ) (r : Reading) (atoms : List Atom) (h : Continues bar s start p r atoms) → r.left ≡ 0
     → AtHead bar s start p r atoms h
 at_head bars bar same s start p r atoms h left =
     let f = plug h.stands.opens.path h.stands.opens.whole h.stands.opens.open_tree in
@@ -236,7 +236,7 @@ at_head bars bar same s start p r atoms h left =
     let short = place_short (bar f) i.inner (i.inner ∷ i.outer) position r.head (λ t v l. same.never_early f t v l) (sym (ap is_undecided (e r.head)) ∙ h.waits) in
     record { zero_left = zero_left; awaits = awaits; place = i; not_whole = short.not_whole; stop_is = e; end_is = e r.head ∙ short.end_is }
 
-accepted_step : (bars : List Atom → HeadBar) (bar : Bar) → BarsAs bars bar → (s : Syntax) (start : ℕ) (p : List ℕ) (r : Reading) (atoms : List Atom) (b : ℕ) (h : Stood bar s start p r atoms)
+accepted_step : (bars : List Atom → HeadBar) (bar : Bar) → BarsAs bars bar → (s : Syntax) (start : ℕ) (p : List ℕ) (r : Reading) (atoms : List Atom) (b : ℕ) (h : Continues bar s start p r atoms)
     → start + length p < INPUT_LIMIT → r.left ≡ 0 → (w : AtHead bar s start p r atoms h)
     → stop_at bar s start (plug h.stands.opens.path h.stands.opens.whole h.stands.opens.open_tree) (start + length h.read) (r.head ++ b ∷ []) ≡ None
     → let q = head_read r (r.head ++ b ∷ []) None in Follow bar s start (p ++ b ∷ []) q.0 (atoms ++ q.1)
@@ -268,7 +268,7 @@ accepted_step bars bar same s start p r atoms b h lt left w none =
     (subst (λ (x : List ℕ). Passed bar s start x (length x)) (sym p') passed))
 
 -- one byte more of a head
-kept_step : (bar : Bar) (s : Syntax) (start : ℕ) (p : List ℕ) (r : Reading) (atoms : List Atom) (b : ℕ) (h : Stood bar s start p r atoms) → start + length p < INPUT_LIMIT
+kept_step : (bar : Bar) (s : Syntax) (start : ℕ) (p : List ℕ) (r : Reading) (atoms : List Atom) (b : ℕ) (h : Continues bar s start p r atoms) → start + length p < INPUT_LIMIT
     → is_undecided (stop_at bar s start (plug h.stands.opens.path h.stands.opens.whole h.stands.opens.open_tree) (start + length h.read) (r.head ++ b ∷ [])) ≡ true
     → Follow bar s start (p ++ b ∷ []) (record r { head = r.head ++ b ∷ [] }) (atoms ++ [])
 kept_step bar s start p r atoms b h lt waits =
@@ -285,7 +285,7 @@ kept_step bar s start p r atoms b h lt waits =
       passed = passed_extends bar s start p (b ∷ []) (length h.read) (omega arith) h.passed;
     }))
 
-refused_step : (bar : Bar) (s : Syntax) (start : ℕ) (p : List ℕ) (r : Reading) (atoms : List Atom) (b : ℕ) (h : Stood bar s start p r atoms) (stop : Stop) → start + length p < INPUT_LIMIT
+refused_step : (bar : Bar) (s : Syntax) (start : ℕ) (p : List ℕ) (r : Reading) (atoms : List Atom) (b : ℕ) (h : Continues bar s start p r atoms) (stop : Stop) → start + length p < INPUT_LIMIT
     → stop_at bar s start (plug h.stands.opens.path h.stands.opens.whole h.stands.opens.open_tree) (start + length h.read) (r.head ++ b ∷ []) ≡ Some stop → is_undecided (Some stop) ≡ false
     → Follow bar s start (p ++ b ∷ []) (halted r stop) (atoms ++ [])
 refused_step bar s start p r atoms b h complete lt e decided = absurd (cc)
@@ -304,7 +304,7 @@ refused_step bar s start p r atoms b h (refused fault offset) lt e decided =
           (passed_extends bar s start p (b ∷ []) (length h.read) (omega arith) h.passed);
     })
 
-pub head_step : (bars : List Atom → HeadBar) (bar : Bar) → BarsAs bars bar → (s : Syntax) (start : ℕ) (p : List ℕ) (r : Reading) (atoms : List Atom) (b : ℕ) (h : Stood bar s start p r atoms) (stop : Option Stop)
+pub head_step : (bars : List Atom → HeadBar) (bar : Bar) → BarsAs bars bar → (s : Syntax) (start : ℕ) (p : List ℕ) (r : Reading) (atoms : List Atom) (b : ℕ) (h : Continues bar s start p r atoms) (stop : Option Stop)
     → start + length p < INPUT_LIMIT → r.left ≡ 0
     → stop_at bar s start (plug h.stands.opens.path h.stands.opens.whole h.stands.opens.open_tree) (start + length h.read) (r.head ++ b ∷ []) ≡ stop
     → let q = head_read r (r.head ++ b ∷ []) stop in Follow bar s start (p ++ b ∷ []) q.0 (atoms ++ q.1)
@@ -319,7 +319,7 @@ head_step bars bar same s start p r atoms b h (Some stop) lt left e =
     ]
 
 -- the machine asks for the stop of the place
-pub asked_stop : (bars : List Atom → HeadBar) (bar : Bar) → BarsAs bars bar → (s : Syntax) (start : ℕ) (p : List ℕ) (r : Reading) (atoms : List Atom) (h : Stood bar s start p r atoms) (rest : List ℕ) → r.left ≡ 0
+pub asked_stop : (bars : List Atom → HeadBar) (bar : Bar) → BarsAs bars bar → (s : Syntax) (start : ℕ) (p : List ℕ) (r : Reading) (atoms : List Atom) (h : Continues bar s start p r atoms) (rest : List ℕ) → r.left ≡ 0
     → stop_at bar s start (plug h.stands.opens.path h.stands.opens.whole h.stands.opens.open_tree) (start + length h.read) rest ≡ innermost_stop (bars atoms) r.levels r.position rest
 asked_stop bars bar same s start p r atoms h rest left =
     let f = plug h.stands.opens.path h.stands.opens.whole h.stands.opens.open_tree in

@@ -26,11 +26,11 @@ use Rattle.dcm_stream.specs.Follows.{BarsAs, GoesOn, HaltsAt, Follows, Answers, 
 use Rattle.dcm_stream.proofs.Containers.Full.{LeftIs, Opens, Stands}
 use Rattle.dcm_stream.proofs.Containers.Room.{passes_zero}
 use Rattle.dcm_stream.proofs.Steps.Passing.{passed_none, ends_here, too_long_at}
-use Rattle.dcm_stream.proofs.Steps.AfterBytes.{holds_at, stop_holding, Stood, Follow, begin_waits, empty_waits, value_step, at_head, head_step, asked_stop}
+use Rattle.dcm_stream.proofs.Steps.AfterBytes.{holds_at, stop_holding, Continues, Follow, begin_waits, empty_waits, value_step, at_head, head_step, asked_stop}
 
 -- ---- the end of the input, and the limit
 
-finish_is : (bars : List Atom → HeadBar) (bar : Bar) → BarsAs bars bar → (s : Syntax) (start : ℕ) (p : List ℕ) (r : Reading) (atoms : List Atom) (h : Stood bar s start p r atoms) (n : ℕ) → r.left ≡ n
+finish_is : (bars : List Atom → HeadBar) (bar : Bar) → BarsAs bars bar → (s : Syntax) (start : ℕ) (p : List ℕ) (r : Reading) (atoms : List Atom) (h : Continues bar s start p r atoms) (n : ℕ) → r.left ≡ n
     → stop_at bar s start (plug h.stands.opens.path h.stands.opens.whole h.stands.opens.open_tree) (start + length h.read) r.head ≡ Some (stop_at_end None r)
 finish_is bars bar same s start p r atoms h zero left =
     let w = at_head bars bar same s start p r atoms h left in
@@ -53,7 +53,7 @@ finish_is bars bar same s start p r atoms h (suc n) left =
     ∙ ap (λ (x : ℕ). Some (refused EndsEarly x)) at
     ∙ sym (ap (λ (x : Bool). Some (cond (x && is_top r.levels && is_empty r.head) complete (refused EndsEarly (r.position + length r.head)))) some)
 
-too_long_step : (bars : List Atom → HeadBar) (bar : Bar) → BarsAs bars bar → (s : Syntax) (start : ℕ) (p : List ℕ) (r : Reading) (atoms : List Atom) (b : ℕ) (h : Stood bar s start p r atoms)
+too_long_step : (bars : List Atom → HeadBar) (bar : Bar) → BarsAs bars bar → (s : Syntax) (start : ℕ) (p : List ℕ) (r : Reading) (atoms : List Atom) (b : ℕ) (h : Continues bar s start p r atoms)
     → INPUT_LIMIT ≤ start + length p → Follow bar s start (p ++ b ∷ []) (halted r (refused TooLong INPUT_LIMIT)) (atoms ++ [])
 too_long_step bars bar same s start p r atoms b h le =
     let f = plug h.stands.opens.path h.stands.opens.whole h.stands.opens.open_tree in
@@ -70,7 +70,7 @@ too_long_step bars bar same s start p r atoms b h le =
 
 -- ---- a byte
 
-step_by : (bars : List Atom → HeadBar) (bar : Bar) → BarsAs bars bar → (s : Syntax) (start : ℕ) (p : List ℕ) (r : Reading) (atoms : List Atom) (b : ℕ) → Stood bar s start p r atoms
+step_by : (bars : List Atom → HeadBar) (bar : Bar) → BarsAs bars bar → (s : Syntax) (start : ℕ) (p : List ℕ) (r : Reading) (atoms : List Atom) (b : ℕ) → Continues bar s start p r atoms
     → (halt : Option Stop) (within : Bool) (n : ℕ) → r.halt ≡ halt → nat_lt (r.position + length r.head) INPUT_LIMIT ≡ within → r.left ≡ n
     → let q = byte_read (bars atoms) r b halt within n in Follow bar s start (p ++ b ∷ []) q.0 (atoms ++ q.1)
 step_by bars bar same s start p r atoms b h (Some stop) within n halt w left = let going = h.going in absurd (cc)
@@ -137,7 +137,7 @@ top_free : (s : Syntax) (start position : ℕ) → passes 8 (room position (leve
 unfolding room
 top_free s start position = refl
 
-starts : (bar : Bar) (s : Syntax) (start : ℕ) → start ≤ INPUT_LIMIT → Stood bar s start [] (start_of s start) []
+starts : (bar : Bar) (s : Syntax) (start : ℕ) → start ≤ INPUT_LIMIT → Continues bar s start [] (start_of s start) []
 unfolding start_opens
 starts bar s start le =
     let o = start_opens s start in
@@ -174,7 +174,7 @@ complete_tests true true c fault offset h = (refl, refl)
 complete_tests true false c fault offset h = absurd (cc)
 complete_tests false b c fault offset h = absurd (cc)
 
-end_shown : (bar : Bar) (s : Syntax) (start : ℕ) (p : List ℕ) (r : Reading) (atoms : List Atom) (h : Stood bar s start p r atoms) (stop : Stop) → stop_at_end None r ≡ stop
+end_shown : (bar : Bar) (s : Syntax) (start : ℕ) (p : List ℕ) (r : Reading) (atoms : List Atom) (h : Continues bar s start p r atoms) (stop : Stop) → stop_at_end None r ≡ stop
     → atoms ++ end_shows stop ≡ front_atoms s (ended stop (plug h.stands.opens.path h.stands.opens.whole h.stands.opens.open_tree))
 end_shown bar s start p r atoms h (refused fault offset) e = append-nil atoms ∙ h.stands.opens.atoms_are
 end_shown bar s start p r atoms h complete e =
@@ -184,7 +184,7 @@ end_shown bar s start p r atoms h complete e =
 
 -- ---- the law
 
-goes_on : (bars : List Atom → HeadBar) (bar : Bar) → BarsAs bars bar → (s : Syntax) (start : ℕ) (p : List ℕ) (r : Reading) (atoms : List Atom) → Stood bar s start p r atoms → GoesOn bar s start p r atoms
+goes_on : (bars : List Atom → HeadBar) (bar : Bar) → BarsAs bars bar → (s : Syntax) (start : ℕ) (p : List ℕ) (r : Reading) (atoms : List Atom) → Continues bar s start p r atoms → GoesOn bar s start p r atoms
 unfolding finish
 goes_on bars bar same s start p r atoms h =
     let f = plug h.stands.opens.path h.stands.opens.whole h.stands.opens.open_tree in

@@ -164,12 +164,12 @@ pub lists_of : (n : ℕ) (f : Form) (t : Tag) (vr : Vr) (l : Length) (s : Syntax
 lists_of n f t vr l s e = ap (λ (g : Form). cond (opens_list g) (suc n) n) e
 
 -- behind a head
-pub record Begun (bar : HeadBar) (n m : ℕ) (t : Tag) (vr : Vr) (l : Length) (atoms : List Atom) : Type 0 where
+pub record GoesInto (bar : HeadBar) (n m : ℕ) (t : Tag) (vr : Vr) (l : Length) (atoms : List Atom) : Type 0 where
   pub accepted : (is_data t ≡ true) × (bar t vr l ≡ None)
   pub few : m ≤ 64
   pub more : Fine bar m atoms
 
-pub begun : (bar : HeadBar) (n m : ℕ) (t : Tag) (vr : Vr) (l : Length) (s : Syntax) (atoms : List Atom) → lists_behind n (opens t vr l s) ≡ m → Fine bar n (opens t vr l s ∷ atoms) → Begun bar n m t vr l atoms
+pub begun : (bar : HeadBar) (n m : ℕ) (t : Tag) (vr : Vr) (l : Length) (s : Syntax) (atoms : List Atom) → lists_behind n (opens t vr l s) ≡ m → Fine bar n (opens t vr l s ∷ atoms) → GoesInto bar n m t vr l atoms
 begun bar n m t vr l s atoms e h = record { accepted = h.0; few = subst (λ (k : ℕ). k ≤ 64) e h.1; more = subst (λ (k : ℕ). Fine bar k atoms) e h.2 }
 
 -- ---- trees

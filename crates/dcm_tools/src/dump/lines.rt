@@ -3,6 +3,7 @@ ghost use Rattle.std.specs.Prelude.{◌≡◌, ◌<◌, ◌≤◌, OnOk, false, 
 ghost use Rattle.std.specs.Option.{ForSome};
 ghost use Rattle.dcm_base.specs.Atoms.{value_byte, closes_leaf, opens_item, closes_item, closes_sequence, opens_fragment};
 ghost use Rattle.dcm_base.specs.Outputs as outputs;
+ghost use Rattle.dcm_stream.specs.Reading as reading;
 ghost use Rattle.dcm_stream.specs.Tokens.{atoms_of};
 ghost use Rattle.dcm_base.specs.Dump as dump;
 ghost use Rattle.dcm_tools.specs.DumpSink as spec;
@@ -73,7 +74,7 @@ pub struct Lines {
 
 /// The bytes of a value; a head of undefined length has none.
 fn size_of(length: Length) -> u32
-    ensures { result ≡ spec.size_of length }
+    ensures { result ≡ reading.size_of length }
 {
     match length {
         Length::Known(size) => size,

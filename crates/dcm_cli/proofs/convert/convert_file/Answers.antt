@@ -26,7 +26,7 @@ returns-clause-worked g c = λ file is.
     let mid = g.W.DeviceOut.contents c.open_file.new.out in
     let holds = g.W.DeviceOut.contents c.read_set.new.sink.out.now in
     let last : EncodeState = encoder_state c.read_set.new.sink.encoder in
-    let Passed : EncodeState → Option (List ℕ) → Type 0 = λ s known. spec.BehindBegun encode_bar encode_step encode_writes left (spec.set_bytes opened.begun buffer)
+    let Passed : EncodeState → Option (List ℕ) → Type 0 = λ s known. spec.BehindBeginning encode_bar encode_step encode_writes left (spec.set_bytes opened.beginning buffer)
     (start_of opened.coding.syntax opened.start) s known after last holds c.read_set.result
     in
     let passed = subst (λ known. Passed (encode_start c.target_syntax.result) known) (ap (λ (x : g.row.W.Denot). g.W.DeviceOut.contents x) c.new-sink.ensures.out)
@@ -48,7 +48,7 @@ returns-clause-stops g c = λ file is.
     let buffer = c.open_file.new.buffer in
     let left = g.R.DeviceIn.remaining c.open_file.new.input in
     let after = g.R.DeviceIn.remaining c.read_set.new.input in
-    let Stopped : EncodeState → Type 0 = λ s. BehindStops encode_bar encode_step (start_of opened.coding.syntax opened.start) s (spec.set_bytes opened.begun buffer) opened.begun.is_over left after in
+    let Stopped : EncodeState → Type 0 = λ s. BehindStops encode_bar encode_step (start_of opened.coding.syntax opened.start) s (spec.set_bytes opened.beginning buffer) opened.beginning.is_over left after in
     let stopped = subst (λ t. Stopped (encode_start t)) c.target_syntax.ensures (subst Stopped c.new-sink.ensures.state c.read_set.ensures.stops) in
     let opens = c.in-Ok.ensures.opens in
     opened_stops c.args.target (convert c.args.dictionary c.args.target) refl (file_encoder c.args.dictionary c.args.target) file (g.R.DeviceIn.remaining c.args.input.now) left after (g.W.DeviceOut.contents c.args.out.now) (g.W.DeviceOut.contents c.open_file.new.out)

@@ -30,7 +30,7 @@ pub returns-then-is_err-clause-worked : goal.returns-then-is_err-clause-worked
 returns-then-is_err-clause-worked g c = λ file is.
     let head = c.in-Ok.ensures.read in
     let r = c.read_head_of.new.meta in
-    let o = file_opened c.args.dictionary r c.in-Ok.begun c.read_head_of.new.buffer (g.R.DeviceIn.remaining c.args.input.now) (g.R.DeviceIn.remaining c.read_head_of.new.input) head.read file is head.given head.outcome in
+    let o = file_opened c.args.dictionary r c.in-Ok.beginning c.read_head_of.new.buffer (g.R.DeviceIn.remaining c.args.input.now) (g.R.DeviceIn.remaining c.read_head_of.new.input) head.read file is head.given head.outcome in
     let went = c.dump_header_by.ensures.bytes o.m.elements (subst (Spells Little o.m.elements) (sym o.group_is) o.spelled) o.meta in
     let header : List ℕ → List ℕ = λ uid. meta_header c.args.dictionary c.args.mode o.m.elements ++ set_header uid in
     file_unheaded (dump c.args.dictionary c.args.mode None) refl file (g.R.DeviceIn.remaining c.read_head_of.new.input) (g.W.DeviceOut.contents c.args.out.now) r o refl (file_dumper c.args.dictionary c.args.mode o.coding) (g.W.DeviceOut.contents c.dump_header_by.new.out)
@@ -41,7 +41,7 @@ pub returns-clause-worked : goal.returns-clause-worked
 returns-clause-worked g c = λ file is.
     let head = c.in-Ok.ensures.read in
     let r = c.read_head_of.new.meta in
-    let o = file_opened c.args.dictionary r c.in-Ok.begun c.read_head_of.new.buffer (g.R.DeviceIn.remaining c.args.input.now) (g.R.DeviceIn.remaining c.read_head_of.new.input) head.read file is head.given head.outcome in
+    let o = file_opened c.args.dictionary r c.in-Ok.beginning c.read_head_of.new.buffer (g.R.DeviceIn.remaining c.args.input.now) (g.R.DeviceIn.remaining c.read_head_of.new.input) head.read file is head.given head.outcome in
     let header : List ℕ → List ℕ = λ uid. meta_header c.args.dictionary c.args.mode o.m.elements ++ set_header uid in
     let went = c.dump_header_by.ensures.bytes o.m.elements (subst (Spells Little o.m.elements) (sym o.group_is) o.spelled) o.meta in
     let mid : g.W.DeviceOut.contents c.by-sink.result.out.now ≡ append_known (g.W.DeviceOut.contents c.args.out.now) (header o.m.uid) =
@@ -54,7 +54,7 @@ returns-clause-worked g c = λ file is.
     let coding : c.read_by.result ≡ o.coding = c.read_by.ensures ∙ ap (coding_by c.args.dictionary) named ∙ sym o.reads.coding_is in
     let start : c.set_start-start.result ≡ 132 + length o.group = c.set_start-start.ensures.place ∙ o.place_is in
     let last : DumpState = lines_state c.read_set.new.sink.lines in
-    let Passed : Coding → ℕ → DumpState → Type 0 = λ x n s. spec.BehindBegun bars_nothing dump_step dump_writes (g.R.DeviceIn.remaining c.read_head_of.new.input) (spec.set_bytes c.in-Ok.begun c.read_head_of.new.buffer)
+    let Passed : Coding → ℕ → DumpState → Type 0 = λ x n s. spec.BehindBeginning bars_nothing dump_step dump_writes (g.R.DeviceIn.remaining c.read_head_of.new.input) (spec.set_bytes c.in-Ok.beginning c.read_head_of.new.buffer)
     (start_of x.syntax n) s (g.W.DeviceOut.contents c.by-sink.result.out.now) (g.R.DeviceIn.remaining c.read_set.new.input) last (g.W.DeviceOut.contents c.read_set.new.sink.out.now) c.read_set.result
     in
     let passed = subst (λ x. Passed x (132 + length o.group) (dump_start c.args.dictionary c.args.mode)) coding
@@ -65,7 +65,7 @@ returns-clause-worked g c = λ file is.
     let same = concludes_same (dump c.args.dictionary c.args.mode None) refl file after (g.W.DeviceOut.contents c.args.out.now) r o refl (file_dumper c.args.dictionary c.args.mode o.coding) refl last c.read_set.result in
     let f = file_worked (dump c.args.dictionary c.args.mode None) refl file after (g.W.DeviceOut.contents c.args.out.now) r o refl (file_dumper c.args.dictionary c.args.mode o.coding)
     (g.R.DeviceIn.remaining c.args.input.now) (g.R.DeviceIn.remaining c.read_head_of.new.input)
-    (g.W.DeviceOut.contents c.by-sink.result.out.now) last (g.W.DeviceOut.contents c.read_set.new.sink.out.now) c.in-Ok.begun c.read_head_of.new.buffer head.read c.read_set.result c.read_set.result same is head.given head.outcome mid c.read_set.ensures.over passed
+    (g.W.DeviceOut.contents c.by-sink.result.out.now) last (g.W.DeviceOut.contents c.read_set.new.sink.out.now) c.in-Ok.beginning c.read_head_of.new.buffer head.read c.read_set.result c.read_set.result same is head.given head.outcome mid c.read_set.ensures.over passed
     in
     let k = c.read_set.ensures.kept in
     let n = c.by-sink.ensures.same_reference in
@@ -83,14 +83,14 @@ returns-clause-stops g c = λ file is.
     let r = c.read_head_of.new.meta in
     let left = g.R.DeviceIn.remaining c.read_head_of.new.input in
     let after = g.R.DeviceIn.remaining c.read_set.new.input in
-    let o = file_opened c.args.dictionary r c.in-Ok.begun c.read_head_of.new.buffer (g.R.DeviceIn.remaining c.args.input.now) left head.read file is head.given head.outcome in
+    let o = file_opened c.args.dictionary r c.in-Ok.beginning c.read_head_of.new.buffer (g.R.DeviceIn.remaining c.args.input.now) left head.read file is head.given head.outcome in
     let codings : Some (Ended c.coding.result) ≡ Some (Ended o.reads.named) = sym c.coding.ensures ∙ o.end_is in
     let named : c.coding.result ≡ o.reads.named = cc in
     let coding : c.read_by.result ≡ o.coding = c.read_by.ensures ∙ ap (coding_by c.args.dictionary) named ∙ sym o.reads.coding_is in
     let start : c.set_start-start.result ≡ 132 + length o.group = c.set_start-start.ensures.place ∙ o.place_is in
-    let Stopped : Coding → ℕ → DumpState → Type 0 = λ x n s. BehindStops bars_nothing dump_step (start_of x.syntax n) s (spec.set_bytes c.in-Ok.begun c.read_head_of.new.buffer) c.in-Ok.begun.is_over left after in
+    let Stopped : Coding → ℕ → DumpState → Type 0 = λ x n s. BehindStops bars_nothing dump_step (start_of x.syntax n) s (spec.set_bytes c.in-Ok.beginning c.read_head_of.new.buffer) c.in-Ok.beginning.is_over left after in
     let stopped = subst (λ x. Stopped x (132 + length o.group) (dump_start c.args.dictionary c.args.mode)) coding
     (subst (λ n. Stopped c.read_by.result n (dump_start c.args.dictionary c.args.mode)) start
     (subst (λ s. Stopped c.read_by.result c.set_start-start.result s) c.by-sink.ensures.state c.read_set.ensures.stops))
     in
-    file_stops (dump c.args.dictionary c.args.mode None) refl file r o refl (file_dumper c.args.dictionary c.args.mode o.coding) (g.R.DeviceIn.remaining c.args.input.now) left after c.in-Ok.begun c.read_head_of.new.buffer head.read is head.given head.outcome c.read_head_of.ensures.stops stopped
+    file_stops (dump c.args.dictionary c.args.mode None) refl file r o refl (file_dumper c.args.dictionary c.args.mode o.coding) (g.R.DeviceIn.remaining c.args.input.now) left after c.in-Ok.beginning c.read_head_of.new.buffer head.read is head.given head.outcome c.read_head_of.ensures.stops stopped

@@ -2,7 +2,7 @@ use Rattle.std.proofs.Common.{◌≡◌, ◌∙◌, ℕ, List, ◌++◌, ap, sym
 use Rattle.std.proofs.lemmas.List.{length-take-le}
 use Rattle.dcm_head.specs.MetaReading.{Reading}
 use Rattle.dcm_head.proofs.HeadReading.Stays.{kept_all}
-use Rattle.dcm_cli.specs.declared.head.Begun.{Begun}
+use Rattle.dcm_cli.specs.declared.head.Beginning.{Beginning}
 use Rattle.dcm_cli.specs.Pass.{Begins}
 use Rattle.dcm_cli.proofs.Passes.Passes.{read_twice}
 use Rattle.dcm_cli.proofs.Passes.Heads.{read_on, begins_in, going_on}
@@ -65,7 +65,7 @@ returns-in-Ended-clause-read g c =
     record {
       read = loop.invariant.front ++ piece;
       given = read_twice _ _ _ loop.invariant.front piece loop.invariant.given came.2;
-      outcome = subst (λ (b : Begun). Begins c.feed.new.self b buffer left (loop.invariant.front ++ piece)) (sym c.begun_in.ensures)
+      outcome = subst (λ (b : Beginning). Begins c.feed.new.self b buffer left (loop.invariant.front ++ piece)) (sym c.beginning_in.ensures)
           (begins_in c.feed.new.self loop.meta loop.invariant.front piece buffer c.in-Ok-Some.size c.in-Ended.used c.next_piece.new.read c.in-Ended.ahead left
           loop.invariant.reading loop.invariant.bytes c.feed.ensures.state said.0 said.1 refl long c.in-Ended.ensures.used
           (let whole = length-append loop.invariant.front piece in omega (arith, whole, long, counted, loop.invariant.count)));

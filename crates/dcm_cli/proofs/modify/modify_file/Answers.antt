@@ -30,7 +30,7 @@ returns-clause-worked g c = λ file is.
     let holds = g.W.DeviceOut.contents c.read_edited.new.sink.out.now in
     let last : EncodeState = encoder_state c.read_edited.new.sink.encoder in
     let pass = c.read_edited.ensures.passes in
-    let Passed : EncodeState → Option (List ℕ) → Type 0 = λ s known. spec.BehindBegun through_bar (through_step encode_step) (through_writes encode_step encode_writes) left (spec.set_bytes opened.begun buffer)
+    let Passed : EncodeState → Option (List ℕ) → Type 0 = λ s known. spec.BehindBeginning through_bar (through_step encode_step) (through_writes encode_step encode_writes) left (spec.set_bytes opened.beginning buffer)
     (start_of opened.coding.syntax opened.start) (begun c.args.edits.now, s) known after (pass.last, last) holds pass.passed
     in
     let passed = subst (λ known. Passed (encode_start opened.coding.syntax) known) (ap (λ (x : g.row.W.Denot). g.W.DeviceOut.contents x) c.new-sink.ensures.out)
@@ -52,6 +52,6 @@ returns-clause-stops g c = λ file is.
     let buffer = c.open_file.new.buffer in
     let left = g.R.DeviceIn.remaining c.open_file.new.input in
     let after = g.R.DeviceIn.remaining c.read_edited.new.input in
-    let stopped = subst (λ (s : EncodeState). BehindStops through_bar (through_step encode_step) (start_of opened.coding.syntax opened.start) (begun c.args.edits.now, s) (spec.set_bytes opened.begun buffer) opened.begun.is_over left after) c.new-sink.ensures.state c.read_edited.ensures.stops in
+    let stopped = subst (λ (s : EncodeState). BehindStops through_bar (through_step encode_step) (start_of opened.coding.syntax opened.start) (begun c.args.edits.now, s) (spec.set_bytes opened.beginning buffer) opened.beginning.is_over left after) c.new-sink.ensures.state c.read_edited.ensures.stops in
     opened_stops None (modify c.args.dictionary c.args.edits.now) refl (file_editor c.args.dictionary c.args.edits.now c.requires.meant) file (g.R.DeviceIn.remaining c.args.input.now) left after (g.W.DeviceOut.contents c.args.out.now) (g.W.DeviceOut.contents c.open_file.new.out)
     buffer opened is c.in-Ok.ensures.opens refl c.open_file.ensures.stops stopped

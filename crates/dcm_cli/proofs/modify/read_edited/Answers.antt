@@ -16,8 +16,8 @@ returns-clause-passes g c =
     let opened = c.args.opened in
     let state : EditState = masks.meant last.edits.now (editing.state last.editor) in
     let first : EditState = begun c.args.edits.now in
-    let Passed : EditState × g.S.Sink.State → Option (List ℕ) → g.row.S.Denot → Type 0 = λ from held x. spec.BehindBegun through_bar (through_step g.S.Sink.step) (through_writes g.S.Sink.step g.S.Sink.writes)
-    (g.R.DeviceIn.remaining c.args.input.now) (spec.set_bytes opened.begun c.args.buffer.now) (start_of opened.coding.syntax opened.start) from held
+    let Passed : EditState × g.S.Sink.State → Option (List ℕ) → g.row.S.Denot → Type 0 = λ from held x. spec.BehindBeginning through_bar (through_step g.S.Sink.step) (through_writes g.S.Sink.step g.S.Sink.writes)
+    (g.R.DeviceIn.remaining c.args.input.now) (spec.set_bytes opened.beginning c.args.buffer.now) (start_of opened.coding.syntax opened.start) from held
     (g.R.DeviceIn.remaining c.read_set-ending.new.input) (state, g.S.Sink.state x) (g.S.Sink.contents x) c.read_set-ending.result
     in
     let new = c.new-edited.result in
@@ -42,7 +42,7 @@ returns-clause-stops g c =
     let opened = c.args.opened in
     let first : EditState = begun c.args.edits.now in
     let new = c.new-edited.result in
-    let Stopped : EditState × g.S.Sink.State → Type 0 = λ from. BehindStops through_bar (through_step g.S.Sink.step) (start_of opened.coding.syntax opened.start) from (spec.set_bytes opened.begun c.args.buffer.now) opened.begun.is_over
+    let Stopped : EditState × g.S.Sink.State → Type 0 = λ from. BehindStops through_bar (through_step g.S.Sink.step) (start_of opened.coding.syntax opened.start) from (spec.set_bytes opened.beginning c.args.buffer.now) opened.beginning.is_over
     (g.R.DeviceIn.remaining c.args.input.now) (g.R.DeviceIn.remaining c.read_set-ending.new.input)
     in
     let begins : masks.meant new.edits.now (editing.state new.editor) ≡ first = ap (λ (es : List Edit). masks.meant es (editing.state new.editor)) c.new-edited.ensures.edits ∙ c.new-edited.ensures.state in

@@ -9,36 +9,36 @@ use Rattle.dcm_cli.proofs.pass.read_set.Goals as goal
 
 pub returns-in-Err-clause-ends : goal.returns-in-Err-clause-ends
 returns-in-Err-clause-ends g c =
-    let bytes : List ℕ = spec.set_bytes c.args.begun c.args.buffer.now in
+    let bytes : List ℕ = spec.set_bytes c.args.beginning c.args.buffer.now in
     let first = ap (λ (p : Progress). p.reading) c.new-machine.ensures in
     let ends = ends_halted g.S.Sink.bar g.S.Sink.step g.S.Sink.writes c.new-machine.result (g.S.Sink.state c.args.sink.now) (g.S.Sink.contents c.args.sink.now) (g.S.Sink.has_failed c.args.sink.now)
-    c.feed_begun.new.machine (g.S.Sink.state c.feed_begun.new.sink) (g.S.Sink.contents c.feed_begun.new.sink) (g.S.Sink.has_failed c.feed_begun.new.sink) bytes
+    c.feed_beginning.new.machine (g.S.Sink.state c.feed_beginning.new.sink) (g.S.Sink.contents c.feed_beginning.new.sink) (g.S.Sink.has_failed c.feed_beginning.new.sink) bytes
     (g.R.DeviceIn.remaining c.args.input.now) c.in-Err.halt c.in-Err.ensures.fed
     in
     record {
       more = [];
       given = read_nothing (g.R.DeviceIn.remaining c.args.input.now);
       ends = subst (λ ending. spec.Ends g.S.Sink.bar g.S.Sink.step g.S.Sink.writes (start_of c.args.coding.syntax c.args.start) (g.S.Sink.state c.args.sink.now) (g.S.Sink.contents c.args.sink.now)
-          (g.R.DeviceIn.remaining c.args.input.now) (g.S.Sink.state c.feed_begun.new.sink) (g.S.Sink.contents c.feed_begun.new.sink) (bytes ++ []) ending) (sym c.ending_of.ensures)
+          (g.R.DeviceIn.remaining c.args.input.now) (g.S.Sink.state c.feed_beginning.new.sink) (g.S.Sink.contents c.feed_beginning.new.sink) (bytes ++ []) ending) (sym c.ending_of.ensures)
           (subst (λ xs. spec.Ends g.S.Sink.bar g.S.Sink.step g.S.Sink.writes (start_of c.args.coding.syntax c.args.start) (g.S.Sink.state c.args.sink.now) (g.S.Sink.contents c.args.sink.now)
-          (g.R.DeviceIn.remaining c.args.input.now) (g.S.Sink.state c.feed_begun.new.sink) (g.S.Sink.contents c.feed_begun.new.sink) xs (spec.ending_of (Err c.in-Err.halt))) (sym (append-nil bytes))
+          (g.R.DeviceIn.remaining c.args.input.now) (g.S.Sink.state c.feed_beginning.new.sink) (g.S.Sink.contents c.feed_beginning.new.sink) xs (spec.ending_of (Err c.in-Err.halt))) (sym (append-nil bytes))
           (subst (λ (r : Reading). spec.Ends g.S.Sink.bar g.S.Sink.step g.S.Sink.writes r (g.S.Sink.state c.args.sink.now) (g.S.Sink.contents c.args.sink.now)
-          (g.R.DeviceIn.remaining c.args.input.now) (g.S.Sink.state c.feed_begun.new.sink) (g.S.Sink.contents c.feed_begun.new.sink) bytes (spec.ending_of (Err c.in-Err.halt))) first ends));
+          (g.R.DeviceIn.remaining c.args.input.now) (g.S.Sink.state c.feed_beginning.new.sink) (g.S.Sink.contents c.feed_beginning.new.sink) bytes (spec.ending_of (Err c.in-Err.halt))) first ends));
     }
 
-pub returns-then-begun-clause-ends : goal.returns-then-begun-clause-ends
-returns-then-begun-clause-ends g c =
-    let bytes : List ℕ = spec.set_bytes c.args.begun c.args.buffer.now in
+pub returns-then-beginning-clause-ends : goal.returns-then-beginning-clause-ends
+returns-then-beginning-clause-ends g c =
+    let bytes : List ℕ = spec.set_bytes c.args.beginning c.args.buffer.now in
     let first = ap (λ (p : Progress). p.reading) c.new-machine.ensures in
     let ends = ends_at_end g.S.Sink.bar g.S.Sink.step g.S.Sink.writes c.new-machine.result (g.S.Sink.state c.args.sink.now) (g.S.Sink.contents c.args.sink.now) (g.S.Sink.has_failed c.args.sink.now)
-    c.feed_begun.new.machine (g.S.Sink.state c.feed_begun.new.sink) (g.S.Sink.contents c.feed_begun.new.sink) (g.S.Sink.has_failed c.feed_begun.new.sink) bytes
-    (g.R.DeviceIn.remaining c.args.input.now) (g.S.Sink.state c.end.new.sink) (g.S.Sink.contents c.end.new.sink) c.end.result (c.requires.over c.if-begun.true) c.in_default.ensures.fed c.end.ensures.ends
+    c.feed_beginning.new.machine (g.S.Sink.state c.feed_beginning.new.sink) (g.S.Sink.contents c.feed_beginning.new.sink) (g.S.Sink.has_failed c.feed_beginning.new.sink) bytes
+    (g.R.DeviceIn.remaining c.args.input.now) (g.S.Sink.state c.end.new.sink) (g.S.Sink.contents c.end.new.sink) c.end.result (c.requires.over c.if-beginning.true) c.in_default.ensures.fed c.end.ensures.ends
     in
     record {
       more = [];
       given = read_nothing (g.R.DeviceIn.remaining c.args.input.now);
       ends = subst (λ ending. spec.Ends g.S.Sink.bar g.S.Sink.step g.S.Sink.writes (start_of c.args.coding.syntax c.args.start) (g.S.Sink.state c.args.sink.now) (g.S.Sink.contents c.args.sink.now)
-          (g.R.DeviceIn.remaining c.args.input.now) (g.S.Sink.state c.end.new.sink) (g.S.Sink.contents c.end.new.sink) (bytes ++ []) ending) (sym c.ending_of-then-begun.ensures)
+          (g.R.DeviceIn.remaining c.args.input.now) (g.S.Sink.state c.end.new.sink) (g.S.Sink.contents c.end.new.sink) (bytes ++ []) ending) (sym c.ending_of-then-beginning.ensures)
           (subst (λ xs. spec.Ends g.S.Sink.bar g.S.Sink.step g.S.Sink.writes (start_of c.args.coding.syntax c.args.start) (g.S.Sink.state c.args.sink.now) (g.S.Sink.contents c.args.sink.now)
           (g.R.DeviceIn.remaining c.args.input.now) (g.S.Sink.state c.end.new.sink) (g.S.Sink.contents c.end.new.sink) xs (spec.ending_of c.end.result)) (sym (append-nil bytes))
           (subst (λ (r : Reading). spec.Ends g.S.Sink.bar g.S.Sink.step g.S.Sink.writes r (g.S.Sink.state c.args.sink.now) (g.S.Sink.contents c.args.sink.now)
@@ -47,11 +47,11 @@ returns-then-begun-clause-ends g c =
 
 pub returns-clause-ends : goal.returns-clause-ends
 returns-clause-ends g c =
-    let bytes : List ℕ = spec.set_bytes c.args.begun c.args.buffer.now in
+    let bytes : List ℕ = spec.set_bytes c.args.beginning c.args.buffer.now in
     let first = ap (λ (p : Progress). p.reading) c.new-machine.ensures in
     let pumps = c.read_rest.ensures.pumps in
     let ends = ends_behind g.S.Sink.bar g.S.Sink.step g.S.Sink.writes c.new-machine.result (g.S.Sink.state c.args.sink.now) (g.S.Sink.contents c.args.sink.now) (g.S.Sink.has_failed c.args.sink.now)
-    c.feed_begun.new.machine (g.S.Sink.state c.feed_begun.new.sink) (g.S.Sink.contents c.feed_begun.new.sink) (g.S.Sink.has_failed c.feed_begun.new.sink) bytes pumps.read c.in_default.ensures.fed
+    c.feed_beginning.new.machine (g.S.Sink.state c.feed_beginning.new.sink) (g.S.Sink.contents c.feed_beginning.new.sink) (g.S.Sink.has_failed c.feed_beginning.new.sink) bytes pumps.read c.in_default.ensures.fed
     (g.R.DeviceIn.remaining c.read_rest.new.input) (g.S.Sink.state c.read_rest.new.sink) (g.S.Sink.contents c.read_rest.new.sink) c.read_rest.result pumps.ends
     in
     record {
@@ -64,19 +64,19 @@ returns-clause-ends g c =
 pub returns-in-Err-clause-stops : goal.returns-in-Err-clause-stops
 returns-in-Err-clause-stops g c = inl refl
 
-pub returns-then-begun-clause-stops : goal.returns-then-begun-clause-stops
-returns-then-begun-clause-stops g c = inl refl
+pub returns-then-beginning-clause-stops : goal.returns-then-beginning-clause-stops
+returns-then-beginning-clause-stops g c = inl refl
 
 pub returns-clause-stops : goal.returns-clause-stops
 returns-clause-stops g c =
-    let bytes : List ℕ = spec.set_bytes c.args.begun c.args.buffer.now in
+    let bytes : List ℕ = spec.set_bytes c.args.beginning c.args.buffer.now in
     let first = ap (λ (p : Progress). p.reading) c.new-machine.ensures in
     let stops = c.read_rest.ensures.stops in
     let going = going_behind g.S.Sink.bar g.S.Sink.step g.S.Sink.writes c.new-machine.result (g.S.Sink.state c.args.sink.now) (g.S.Sink.contents c.args.sink.now) (g.S.Sink.has_failed c.args.sink.now)
-    c.feed_begun.new.machine (g.S.Sink.state c.feed_begun.new.sink) (g.S.Sink.contents c.feed_begun.new.sink) (g.S.Sink.has_failed c.feed_begun.new.sink) bytes stops.more c.in_default.ensures.fed stops.going
+    c.feed_beginning.new.machine (g.S.Sink.state c.feed_beginning.new.sink) (g.S.Sink.contents c.feed_beginning.new.sink) (g.S.Sink.has_failed c.feed_beginning.new.sink) bytes stops.more c.in_default.ensures.fed stops.going
     in
     inr (
-      c.if-begun.false,
+      c.if-beginning.false,
       record {
         more = stops.more;
         going = subst (λ (r : Reading). (fold (steps g.S.Sink.bar g.S.Sink.step) (r, g.S.Sink.state c.args.sink.now) (bytes ++ stops.more)).0.halt ≡ None) first going;

@@ -11,14 +11,14 @@ returns-in-Err-clause-opens g c =
 pub returns-then-refuses_change-clause-opens : goal.returns-then-refuses_change-clause-opens
 returns-then-refuses_change-clause-opens g c =
     let head = c.in-Ok.ensures.read in
-    no_change c.read_head_of.new.buffer c.read_head_of.new.meta c.in-Ok.begun c.read_by-coding.result c.set_start-start.result
+    no_change c.read_head_of.new.buffer c.read_head_of.new.meta c.in-Ok.beginning c.read_by-coding.result c.set_start-start.result
     (record { read = head.read; given = head.given; begins = head.outcome; named = c.coding.result; end_is = c.coding.ensures; coding_is = c.read_by-coding.ensures; start_is = c.set_start-start.ensures.place })
     (sym (c.if-refuses_change.ensures c.args.dictionary)) refl refl
 
 pub returns-then-is_err-clause-opens : goal.returns-then-is_err-clause-opens
 returns-then-is_err-clause-opens g c =
     let head = c.in-Ok.ensures.read in
-    no_head c.read_head_of.new.buffer c.read_head_of.new.meta c.in-Ok.begun c.read_by-coding.result c.set_start-start.result c.target_uid.result.now
+    no_head c.read_head_of.new.buffer c.read_head_of.new.meta c.in-Ok.beginning c.read_by-coding.result c.set_start-start.result c.target_uid.result.now
     (record { read = head.read; given = head.given; begins = head.outcome; named = c.coding.result; end_is = c.coding.ensures; coding_is = c.read_by-coding.ensures; start_is = c.set_start-start.ensures.place })
     (sym (c.if-refuses_change.ensures c.args.dictionary)) c.target_uid.ensures.value
     (λ elements spelled are. put_failed _ _ _ c.write_head.result (sym c.if-is_err.ensures.value) (c.write_head.ensures.bytes elements spelled are)) refl

@@ -1,7 +1,7 @@
 use Rattle.std.proofs.Common.{refl, ◌≡◌, ◌∙◌, ap, sym, ◌++◌, codes, Some, None}
 use Rattle.dcm_base.specs.Uid.{uid_name}
 use Rattle.dcm_base.specs.ValueText.{escaped}
-use Rattle.dcm_value.specs.Shown.{display}
+use Rattle.dcm_value.specs.Shown.{display_of}
 use Rattle.dcm_value.proofs.Displays.Emits.{part_starts, part_more, part_failed, part_last, settled_of, named, unnamed}
 use Rattle.dcm_value.proofs.display.Shown.emit_name.Goals as goal
 
@@ -9,14 +9,14 @@ pub returns-in_err-emit-in-Some-clause-bytes : goal.returns-in_err-emit-in-Some-
 returns-in_err-emit-in-Some-clause-bytes g c =
     let now = c.args.self.now in
     let is : Some c.in-Some.name.now ≡ uid_name c.args.uid.now = c.in-Some.ensures in
-    let starts = part_starts (display now) _ _ (settled_of now.mode now.count now.front.items now.capped now.filled) in
+    let starts = part_starts (display_of now) _ _ (settled_of now.mode now.count now.front.items now.capped now.filled) in
     part_failed _ (codes "=") _ _ _ starts (named _ _ is) c.from_residual.ensures.0 c.in_err-emit-in-Some.ensures.bytes
 
 pub returns-in_ok-emit-in-Some-clause-state : goal.returns-in_ok-emit-in-Some-clause-state
 returns-in_ok-emit-in-Some-clause-state g c =
     let now = c.args.self.now in
     let is : Some c.in-Some.name.now ≡ uid_name c.args.uid.now = c.in-Some.ensures in
-    let starts = part_starts (display now) _ _ (settled_of now.mode now.count now.front.items now.capped now.filled) in
+    let starts = part_starts (display_of now) _ _ (settled_of now.mode now.count now.front.items now.capped now.filled) in
     let next = part_more _ _ (codes "=") (c.as_bytes.result.now) _ starts (named _ _ is ∙ ap (λ xs. codes "=" ++ xs) (sym c.as_bytes.ensures.value)) c.in_ok-emit-in-Some.ensures.state c.in_ok-emit-in-Some.ensures.bytes in
     (part_last _ _ _ _ next c.emit-in-Some.ensures.state c.emit-in-Some.ensures.bytes).0
 
@@ -24,7 +24,7 @@ pub returns-in_ok-emit-in-Some-clause-bytes : goal.returns-in_ok-emit-in-Some-cl
 returns-in_ok-emit-in-Some-clause-bytes g c =
     let now = c.args.self.now in
     let is : Some c.in-Some.name.now ≡ uid_name c.args.uid.now = c.in-Some.ensures in
-    let starts = part_starts (display now) _ _ (settled_of now.mode now.count now.front.items now.capped now.filled) in
+    let starts = part_starts (display_of now) _ _ (settled_of now.mode now.count now.front.items now.capped now.filled) in
     let next = part_more _ _ (codes "=") (c.as_bytes.result.now) _ starts (named _ _ is ∙ ap (λ xs. codes "=" ++ xs) (sym c.as_bytes.ensures.value)) c.in_ok-emit-in-Some.ensures.state c.in_ok-emit-in-Some.ensures.bytes in
     (part_last _ _ _ _ next c.emit-in-Some.ensures.state c.emit-in-Some.ensures.bytes).1
 
@@ -32,14 +32,14 @@ pub returns-in_err-emit-in-None-clause-bytes : goal.returns-in_err-emit-in-None-
 returns-in_err-emit-in-None-clause-bytes g c =
     let now = c.args.self.now in
     let is : None ≡ uid_name c.args.uid.now = c.in-None.ensures in
-    let starts = part_starts (display now) _ _ (settled_of now.mode now.count now.front.items now.capped now.filled) in
+    let starts = part_starts (display_of now) _ _ (settled_of now.mode now.count now.front.items now.capped now.filled) in
     part_failed _ (codes "[") _ _ _ starts (unnamed _ is) c.from_residual-in_err-emit-in-None.ensures.0 c.in_err-emit-in-None.ensures.bytes
 
 pub returns-in_err-emit_text-in-None-clause-bytes : goal.returns-in_err-emit_text-in-None-clause-bytes
 returns-in_err-emit_text-in-None-clause-bytes g c =
     let now = c.args.self.now in
     let is : None ≡ uid_name c.args.uid.now = c.in-None.ensures in
-    let starts = part_starts (display now) _ _ (settled_of now.mode now.count now.front.items now.capped now.filled) in
+    let starts = part_starts (display_of now) _ _ (settled_of now.mode now.count now.front.items now.capped now.filled) in
     let next = part_more _ _ (codes "[") _ _ starts (unnamed _ is) c.in_ok-emit-in-None.ensures.state c.in_ok-emit-in-None.ensures.bytes in
     part_failed _ (escaped c.args.uid.now) (codes "]") _ _ next refl c.from_residual-in_err-emit_text-in-None.ensures.0 c.in_err-emit_text-in-None.ensures.bytes
 
@@ -47,7 +47,7 @@ pub returns-in_ok-emit_text-in-None-clause-state : goal.returns-in_ok-emit_text-
 returns-in_ok-emit_text-in-None-clause-state g c =
     let now = c.args.self.now in
     let is : None ≡ uid_name c.args.uid.now = c.in-None.ensures in
-    let starts = part_starts (display now) _ _ (settled_of now.mode now.count now.front.items now.capped now.filled) in
+    let starts = part_starts (display_of now) _ _ (settled_of now.mode now.count now.front.items now.capped now.filled) in
     let next = part_more _ _ (codes "[") _ _ starts (unnamed _ is) c.in_ok-emit-in-None.ensures.state c.in_ok-emit-in-None.ensures.bytes in
     let more = part_more _ _ (escaped c.args.uid.now) (codes "]") _ next refl c.in_ok-emit_text-in-None.ensures.state c.in_ok-emit_text-in-None.ensures.bytes in
     (part_last _ _ _ _ more c.emit-in-None-2.ensures.state c.emit-in-None-2.ensures.bytes).0
@@ -56,7 +56,7 @@ pub returns-in_ok-emit_text-in-None-clause-bytes : goal.returns-in_ok-emit_text-
 returns-in_ok-emit_text-in-None-clause-bytes g c =
     let now = c.args.self.now in
     let is : None ≡ uid_name c.args.uid.now = c.in-None.ensures in
-    let starts = part_starts (display now) _ _ (settled_of now.mode now.count now.front.items now.capped now.filled) in
+    let starts = part_starts (display_of now) _ _ (settled_of now.mode now.count now.front.items now.capped now.filled) in
     let next = part_more _ _ (codes "[") _ _ starts (unnamed _ is) c.in_ok-emit-in-None.ensures.state c.in_ok-emit-in-None.ensures.bytes in
     let more = part_more _ _ (escaped c.args.uid.now) (codes "]") _ next refl c.in_ok-emit_text-in-None.ensures.state c.in_ok-emit_text-in-None.ensures.bytes in
     (part_last _ _ _ _ more c.emit-in-None-2.ensures.state c.emit-in-None-2.ensures.bytes).1

@@ -3,7 +3,7 @@ use Rattle.std.specs.Prelude.{OnOk}
 use Rattle.dcm_base.specs.Device.{Puts}
 use Rattle.dcm_base.specs.ValueText.{escaped}
 use Rattle.dcm_value.specs.Display.{is_cut, emit, at_once}
-use Rattle.dcm_value.specs.Shown.{display}
+use Rattle.dcm_value.specs.Shown.{display_of}
 use Rattle.dcm_value.proofs.Displays.Emits.{part_starts, part_more, part_failed, part_cut, settled_of, cut_stays, escaped_split}
 use Rattle.dcm_value.proofs.Displays.PlainTexts.{plain_escaped}
 use Rattle.dcm_value.proofs.display.Shown.emit_text.Goals as goal
@@ -31,19 +31,19 @@ loop-self-preserved g c =
 pub returns-else-not-is_cut-clause-state : goal.returns-else-not-is_cut-clause-state
 returns-else-not-is_cut-clause-state g c =
     let s = c.loop-self.self in
-    let cut : is_cut (display s) ≡ true = sym c.is_cut.ensures ∙ c.if-not-is_cut.false in
+    let cut : is_cut (display_of s) ≡ true = sym c.is_cut.ensures ∙ c.if-not-is_cut.false in
     (part_cut _ c.loop-self.invariant.part cut (cut_stays s.mode s.count s.front.items _ s.capped s.filled cut)).0
 
 pub returns-else-not-is_cut-clause-bytes : goal.returns-else-not-is_cut-clause-bytes
 returns-else-not-is_cut-clause-bytes g c =
     let s = c.loop-self.self in
-    let cut : is_cut (display s) ≡ true = sym c.is_cut.ensures ∙ c.if-not-is_cut.false in
+    let cut : is_cut (display_of s) ≡ true = sym c.is_cut.ensures ∙ c.if-not-is_cut.false in
     (part_cut _ c.loop-self.invariant.part cut (cut_stays s.mode s.count s.front.items _ s.capped s.filled cut)).1
 
 pub returns-then-is_plain_text-clause-state : goal.returns-then-is_plain_text-clause-state
 returns-then-is_plain_text-clause-state g c =
     let same = sym (plain_escaped c.args.bytes.now (sym c.is_plain_text.ensures ∙ c.if-is_plain_text.true)) in
-    subst (λ (text : List ℕ). OnOk c.emit.result (display c.emit.new.self ≡ emit (display c.args.self.now) text)) same c.emit.ensures.state
+    subst (λ (text : List ℕ). OnOk c.emit.result (display_of c.emit.new.self ≡ emit (display_of c.args.self.now) text)) same c.emit.ensures.state
 
 pub returns-then-is_plain_text-clause-bytes : goal.returns-then-is_plain_text-clause-bytes
 returns-then-is_plain_text-clause-bytes g c =

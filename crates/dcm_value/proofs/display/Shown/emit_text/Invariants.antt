@@ -1,13 +1,13 @@
 use Rattle.std.proofs.Common.{◌≡◌, length}
 use Rattle.dcm_base.specs.ValueText.{escaped}
-use Rattle.dcm_value.specs.Shown.{display}
+use Rattle.dcm_value.specs.Shown.{display_of}
 use Rattle.dcm_value.proofs.Displays.Emits.{PartShown}
 use Rattle.dcm_value.proofs.display.Shown.emit_text.Given as goal
 
 -- a part of the text is shown
 abbrev pub invariant-loop-self : goal.invariant-loop-self
 invariant-loop-self g l = record {
-  part : PartShown (display l.fn.self) (display l.self) (g.W.DeviceOut.contents l.fn.out) (g.W.DeviceOut.contents l.out) (escaped l.bytes) (escaped l.rest);
+  part : PartShown (display_of l.fn.self) (display_of l.self) (g.W.DeviceOut.contents l.fn.out) (g.W.DeviceOut.contents l.out) (escaped l.bytes) (escaped l.rest);
   failed : g.W.Device.has_failed l.out ≡ g.W.Device.has_failed l.fn.out;
 }
 

@@ -1,6 +1,6 @@
 use Rattle.std.proofs.Common.{◌≡◌, ◌∙◌, ap, sym, refl, true, ◌++◌, ◌*◌, List, ℕ, length, min}
 use Rattle.dcm_value.specs.Display.{is_cut}
-use Rattle.dcm_value.specs.Shown.{display}
+use Rattle.dcm_value.specs.Shown.{display_of}
 use Rattle.dcm_base.specs.Value.{units}
 use Rattle.dcm_base.specs.ValueText.{shown_unit}
 use Rattle.dcm_value.specs.Units.{one_text, separated}
@@ -17,13 +17,13 @@ loop-self-init g c =
 pub returns-else-not-is_cut-clause-state : goal.returns-else-not-is_cut-clause-state
 returns-else-not-is_cut-clause-state g c =
     let s = c.loop-self.self in
-    let cut : is_cut (display s) ≡ true = sym c.is_cut.ensures ∙ c.if-not-is_cut.false in
+    let cut : is_cut (display_of s) ≡ true = sym c.is_cut.ensures ∙ c.if-not-is_cut.false in
     (part_cut _ c.loop-self.invariant.part cut (cut_stays s.mode s.count s.front.items _ s.capped s.filled cut)).0
 
 pub returns-else-not-is_cut-clause-bytes : goal.returns-else-not-is_cut-clause-bytes
 returns-else-not-is_cut-clause-bytes g c =
     let s = c.loop-self.self in
-    let cut : is_cut (display s) ≡ true = sym c.is_cut.ensures ∙ c.if-not-is_cut.false in
+    let cut : is_cut (display_of s) ≡ true = sym c.is_cut.ensures ∙ c.if-not-is_cut.false in
     (part_cut _ c.loop-self.invariant.part cut (cut_stays s.mode s.count s.front.items _ s.capped s.filled cut)).1
 
 pub returns-in_err-emit-clause-bytes : goal.returns-in_err-emit-clause-bytes

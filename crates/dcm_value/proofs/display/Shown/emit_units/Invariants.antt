@@ -1,7 +1,7 @@
 use Rattle.std.proofs.Common.{◌≡◌, length}
 use Rattle.dcm_base.specs.Value.{units}
 use Rattle.dcm_base.specs.ValueText.{shown_unit}
-use Rattle.dcm_value.specs.Shown.{display}
+use Rattle.dcm_value.specs.Shown.{display_of}
 use Rattle.dcm_value.specs.Units.{one_text, separated}
 use Rattle.dcm_value.proofs.Displays.Emits.{PartShown}
 use Rattle.dcm_value.proofs.display.Shown.emit_units.Given as goal
@@ -9,7 +9,7 @@ use Rattle.dcm_value.proofs.display.Shown.emit_units.Given as goal
 -- a part of the units is shown
 abbrev pub invariant-loop-self : goal.invariant-loop-self
 invariant-loop-self g l = record {
-  part : PartShown (display l.fn.self) (display l.self) (g.W.DeviceOut.contents l.fn.out) (g.W.DeviceOut.contents l.out) (separated (one_text l.vr l.syntax) (units (shown_unit l.vr) l.units)) (separated (one_text l.vr l.syntax) (units (shown_unit l.vr) l.rest));
+  part : PartShown (display_of l.fn.self) (display_of l.self) (g.W.DeviceOut.contents l.fn.out) (g.W.DeviceOut.contents l.out) (separated (one_text l.vr l.syntax) (units (shown_unit l.vr) l.units)) (separated (one_text l.vr l.syntax) (units (shown_unit l.vr) l.rest));
   failed : g.W.Device.has_failed l.out ≡ g.W.Device.has_failed l.fn.out;
 }
 

@@ -1,6 +1,6 @@
 use Rattle.std.proofs.Common.{rules, sym, ◌∙◌, ap, ◌≡◌, [], codes}
 use Rattle.dcm_value.specs.Display.{emit}
-use Rattle.dcm_value.specs.Shown.{display}
+use Rattle.dcm_value.specs.Shown.{display_of}
 use Rattle.dcm_value.specs.ValueText.{progress}
 use Rattle.dcm_value.specs.Progress.{opening}
 use Rattle.dcm_value.proofs.Displays.Emits.{settled_of}
@@ -12,7 +12,7 @@ pub returns-in_ok-emit-clause-state : goal.returns-in_ok-emit-clause-state
 returns-in_ok-emit-clause-state g c =
     let p = progress c.args.self.now in
     let is : opening p ≡ codes "[" = search rules in
-    opened_as p (display c.emit.new.self) (c.in_ok-emit.ensures.state ∙ ap (emit p.display) (sym is))
+    opened_as p (display_of c.emit.new.self) (c.in_ok-emit.ensures.state ∙ ap (emit p.display) (sym is))
 
 pub returns-else-eq-clause-state : goal.returns-else-eq-clause-state
 returns-else-eq-clause-state g c =
@@ -25,4 +25,4 @@ returns-else-eq-clause-state g c =
       | else-eq-via-else-eq w ↦ search rules
     ]
     in
-    opened_as p (display s) (sym (ap (emit p.display) none ∙ settled_of s.mode s.count s.front.items s.capped s.filled))
+    opened_as p (display_of s) (sym (ap (emit p.display) none ∙ settled_of s.mode s.count s.front.items s.capped s.filled))

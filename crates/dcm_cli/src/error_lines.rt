@@ -1,0 +1,206 @@
+// Lines on standard error, each by one write.
+ghost use Rattle.std.specs.Prelude.{◌≡◌, ◌≤◌, ◌+◌, ◌++◌, length, flat_map};
+ghost use Rattle.dcm_base.specs.Device.{Puts, Tells};
+ghost use Rattle.dcm_cli.specs.Answer as answer;
+ghost use Rattle.dcm_cli.specs.Calls as calls;
+ghost use Rattle.dcm_cli.specs.ErrorLines as spec;
+
+use arrayvec::ArrayVec;
+use dcm_base::{DeviceOut, LineStop, Stop, Watched, WriteFailed, put_all};
+use dcm_edit::MOST_EDITS;
+use dcm_words::Usage;
+use itoa::Buffer;
+
+/// The status of words that are refused.
+const USAGE: u8 = 1;
+
+/// The status of a device that failed or could not be opened.
+pub const DEVICE: u8 = 4;
+
+/// The status of want of memory.
+pub const MEMORY: u8 = 5;
+
+/// The most bytes of a line.
+const LONGEST: usize = 192;
+
+fn compose(parts: &[&[u8]]) -> ArrayVec<u8, LONGEST>
+    requires { length (flat_map (λ part. part.now) parts.now) ≤ 192 }
+    ensures { result.items ≡ flat_map (λ part. part.now) parts.now }
+{
+    let mut line = ArrayVec::new();
+    for part in parts {
+        let _ = line.try_extend_from_slice(part);
+    }
+    line
+}
+
+/// Writes a line. A failing writer has a beginning of it.
+fn put_line<E: DeviceOut>(errors: &mut Watched<E>, parts: &[&[u8]]) -> Result<(), WriteFailed>
+    requires { length (flat_map (λ part. part.now) parts.now) ≤ 192 }
+    ensures bytes { Puts (E.contents errors.old) (E.contents errors.new) (flat_map (λ part. part.now) parts.now) result }
+    ensures failed { Tells (E.has_failed errors.old) (E.has_failed errors.new) result }
+{
+    let line = compose(parts);
+    put_all(errors, line.as_slice())
+}
+
+/// Writes a line, after which no other comes.
+fn tell_line<E: DeviceOut>(errors: &mut Watched<E>, parts: &[&[u8]])
+    requires { length (flat_map (λ part. part.now) parts.now) ≤ 192 }
+    ensures { calls.Tries E.DeviceOut errors.old errors.new (flat_map (λ part. part.now) parts.now) }
+{
+    let _ = put_line(errors, parts);
+}
+
+/// Tells a refusal: its number, where it is, and its words.
+fn tell_refusal<E: DeviceOut>(number: &str, place: &[&[u8]], text: &str, errors: &mut Watched<E>)
+    requires { length number.now + length (flat_map (λ part. part.now) place.now) + length text.now ≤ 179 }
+    ensures { calls.Tries E.DeviceOut errors.old errors.new (spec.refusal_line number.now (flat_map (λ part. part.now) place.now) text.now) }
+{
+    let place = compose(place);
+    tell_line(
+        errors,
+        &[
+            b"dcmtools: ".as_slice(),
+            number.as_bytes(),
+            place.as_slice(),
+            b": ".as_slice(),
+            text.as_bytes(),
+            b"\n".as_slice(),
+        ],
+    );
+}
+
+/// Tells why words are refused, and answers the status.
+pub fn tell<E: DeviceOut>(usage: &Usage, errors: &mut Watched<E>) -> u8
+    ensures line { calls.Tries E.DeviceOut errors.old errors.new (spec.usage_line usage.now) }
+    ensures status { result ≡ spec.usage_status usage.now }
+{
+    let mut digits = Buffer::new();
+    match *usage {
+        Usage::AtWord(refusal, word) => {
+            let place = [b" at word ".as_slice(), digits.format(word).as_bytes()];
+            tell_refusal(refusal.number(), &place, refusal.text(), errors);
+        }
+        Usage::Whole(refusal) => tell_refusal(refusal.number(), &[], refusal.text(), errors),
+        Usage::InEdit(refusal, edit) => {
+            let place = [b" in edit ".as_slice(), digits.format(edit).as_bytes()];
+            tell_refusal(refusal.number(), &place, refusal.text(), errors);
+        }
+        Usage::Memory => {
+            tell_line(errors, &[b"dcmtools: out of memory\n".as_slice()]);
+            return MEMORY;
+        }
+    }
+    USAGE
+}
+
+/// Tells that the input or the output cannot be opened, and answers the status.
+pub fn tell_open<E: DeviceOut>(output: bool, errors: &mut Watched<E>) -> u8
+    ensures line { calls.Tries E.DeviceOut errors.old errors.new (spec.open_line output) }
+    ensures status { result ≡ 4 }
+{
+    if output {
+        tell_line(errors, &[b"dcmtools: output cannot be opened\n".as_slice()]);
+    } else {
+        tell_line(errors, &[b"dcmtools: input cannot be opened\n".as_slice()]);
+    }
+    DEVICE
+}
+
+/// Tells a fault of the input.
+pub fn tell_fault<E: DeviceOut>(stop: Stop, errors: &mut Watched<E>)
+    ensures { calls.Tries E.DeviceOut errors.old errors.new (spec.fault_line stop) }
+{
+    let mut digits = Buffer::new();
+    let place = [b" at byte ".as_slice(), digits.format(stop.at).as_bytes()];
+    tell_refusal(stop.fault.number(), &place, stop.fault.text(), errors);
+}
+
+/// Which line a fault is of, where it is one's: what stands before its number, and that.
+fn line_place(line: u64, digits: &mut Buffer) -> (&'static [u8], &[u8])
+    ensures bytes { result.0.now ++ result.1.now ≡ answer.line_place line }
+    ensures within { length result.0.now + length result.1.now ≤ 27 }
+{
+    if line == 0 {
+        return (b"".as_slice(), b"".as_slice());
+    }
+    (b", line ".as_slice(), digits.format(line).as_bytes())
+}
+
+/// Tells why lines that were to be built are refused.
+pub fn tell_line_fault<E: DeviceOut>(stop: LineStop, errors: &mut Watched<E>)
+    ensures { calls.Tries E.DeviceOut errors.old errors.new (answer.building_line stop) }
+{
+    let mut digits = Buffer::new();
+    let mut line_digits = Buffer::new();
+    let (behind, number) = line_place(stop.line, &mut line_digits);
+    let place = [
+        b" at byte ".as_slice(),
+        digits.format(stop.offset).as_bytes(),
+        behind,
+        number,
+    ];
+    tell_refusal(stop.fault.number(), &place, stop.fault.text(), errors);
+}
+
+/// Tells that reading failed behind so many bytes.
+pub fn tell_unread<E: DeviceOut>(read: u64, errors: &mut Watched<E>)
+    ensures { calls.Tries E.DeviceOut errors.old errors.new (spec.unread_line read) }
+{
+    let mut digits = Buffer::new();
+    tell_line(
+        errors,
+        &[
+            b"dcmtools: ".as_slice(),
+            b"reading failed after ".as_slice(),
+            digits.format(read).as_bytes(),
+            b" bytes".as_slice(),
+            b"\n".as_slice(),
+        ],
+    );
+}
+
+/// Tells that the output failed.
+pub fn tell_output<E: DeviceOut>(errors: &mut Watched<E>)
+    ensures { calls.Tries E.DeviceOut errors.old errors.new spec.output_line }
+{
+    tell_line(errors, &[b"dcmtools: output failed\n".as_slice()]);
+}
+
+/// Writes the line of an edit that found no place; it is counted from 1. Of another edit nothing is written.
+fn put_unplaced<E: DeviceOut>(
+    is_unplaced: bool,
+    number: usize,
+    errors: &mut Watched<E>,
+) -> Result<(), WriteFailed>
+    ensures bytes { Puts (E.contents errors.old) (E.contents errors.new) (spec.line_where is_unplaced number) result }
+    ensures failed { Tells (E.has_failed errors.old) (E.has_failed errors.new) result }
+{
+    if !is_unplaced {
+        return Ok(());
+    }
+    let mut digits = Buffer::new();
+    put_line(
+        errors,
+        &[
+            b"dcmtools: edit ".as_slice(),
+            digits.format(number).as_bytes(),
+            b" found no place\n".as_slice(),
+        ],
+    )
+}
+
+/// Tells which edits found no place, each on a line: bit k is set for edit k, counted from 0. After a line that failed
+/// no other is tried.
+pub fn tell_unplaced<E: DeviceOut>(unplaced: u64, errors: &mut Watched<E>)
+    ensures { calls.Tries E.DeviceOut errors.old errors.new (spec.mask_lines 64 1 unplaced) }
+{
+    let mut rest = unplaced;
+    for number in 1..=MOST_EDITS {
+        if put_unplaced(rest % 2 == 1, number, errors).is_err() {
+            return;
+        }
+        rest /= 2;
+    }
+}
