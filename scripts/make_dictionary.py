@@ -29,6 +29,10 @@ REPEATED = re.compile("002804[1-9A-F][0-3]|002808[0-9A-F][02348]|1000[0-9A-F]{3}
 # The most columns of a line of the table.
 WIDTH = 400
 
+# How many remainders of a number have a place. Of the numbers below 5,000 it tells most elements apart by their remainders; more
+# would tell more apart, and take longer in each check.
+PLACES = 4_917
+
 
 class Element(NamedTuple):
     number: int
@@ -82,6 +86,21 @@ def packed(parts: list[str], indent: str) -> str:
     return "\n".join([*lines, line.rstrip()])
 
 
+def places(elements: list[Element], first: set[int]) -> list[int]:
+    """For each remainder of a number, the place of an element that has it: one of the extract, or the first in tag order."""
+    found = [None] * PLACES
+    for place, e in sorted(enumerate(elements), key=lambda it: (it[1].number not in first, it[0])):
+        if found[e.number % PLACES] is None:
+            found[e.number % PLACES] = place
+    return [place or 0 for place in found]
+
+
+def extract() -> set[int]:
+    """The numbers of the elements of the extract."""
+    text = (Path(__file__).parent.parent / "crates/dcm_base/src/dictionary.rt").read_text()
+    return {int(n.replace("_", ""), 16) for n in re.findall(r"\b0x[0-9A-F]{4}_[0-9A-F]{4}\b", text)}
+
+
 def rust(edition: str, elements: list[Element]) -> str:
     """The file of the table."""
     text = "".join(e.keyword + "\n" for e in elements)
@@ -106,6 +125,12 @@ pub const KEYWORDS: &str = "\\
 #[rattlefmt::skip]
 pub const STANDARD: [Entry; {len(elements)}] = [
 {packed(rows, "    ")}
+];
+
+/// A guess at the place of a number in `STANDARD`, by its remainder: most of them are right.
+#[rattlefmt::skip]
+pub const PLACES: [u16; {PLACES}] = [
+{packed([f"{place}, " for place in places(elements, extract())], "    ")}
 ];
 """
 

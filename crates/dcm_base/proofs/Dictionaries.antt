@@ -5,4 +5,5 @@ pub mod Entries
 pub mod Lines
 pub mod Unique
 pub mod Parts
+pub mod Items
 pub mod KeywordLengths

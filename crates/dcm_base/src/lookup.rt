@@ -1,10 +1,11 @@
-ghost use Rattle.std.specs.Prelude.{◌≡◌, ◌≤◌, true, length, map, option_map};
+ghost use Rattle.std.specs.Prelude.{◌≡◌, ◌<◌, ◌≤◌, true, length, map, option_map, IfSome, None, codes};
 ghost use Rattle.std.specs.List.Sorted.{IsStrictlyIncreasing};
 ghost use Rattle.dcm_base.specs.Dictionary as spec;
+ghost use Rattle.dcm_base.specs.Tag as number_of;
 ghost use Rattle.dcm_base.specs.declared.lookup.Dictionary.TheVariants.{Standard};
 
-use crate::dictionary::{element, tag_of};
-use crate::standard::{Entry, KEYWORDS, STANDARD};
+use crate::dictionary::{element, guess, tag_of};
+use crate::standard::{Entry, KEYWORDS, PLACES, STANDARD};
 use crate::tag::Tag;
 use crate::vr::Vr;
 
@@ -33,11 +34,17 @@ fn keywords() -> &'static [u8]
     KEYWORDS.as_bytes()
 }
 
-/// The entry that has the number, where the numbers ascend.
-fn entry_of(entries: &[Entry], number: u32) -> Option<Entry>
-    requires { IsStrictlyIncreasing (map (λ e. e.0) entries.now) }
+/// The entry that has the number, where the numbers ascend. The places save the search where they are right.
+#[inline(always)]
+fn entry_of(entries: &[Entry], places: &[u16], number: u32) -> Option<Entry>
+    requires ascending { IsStrictlyIncreasing (map (λ e. e.0) entries.now) }
+    requires places { 0 < length places.now }
     ensures { result ≡ spec.entry_of entries.now number }
 {
+    let at = guess(places, number);
+    if at < entries.len() && entries[at].0 == number {
+        return Some(entries[at]);
+    }
     match entries.binary_search_by_key(&number, |entry| entry.0) {
         Ok(at) => Some(entries[at]),
         Err(_) => None,
@@ -68,10 +75,11 @@ fn called_in(mut entries: &[Entry], text: &[u8], keyword: &[u8]) -> Option<u32>
 }
 
 /// The value representation and the keyword of a tag of the standard.
+#[inline(always)]
 fn standard_element(tag: Tag) -> Option<(Vr, &'static [u8])>
     ensures { option_map (λ r. (r.0, r.1.now)) result ≡ spec.element_in Standard tag }
 {
-    match entry_of(entries(), tag.number()) {
+    match entry_of(entries(), &PLACES, tag.number()) {
         Some(entry) => Some((entry.1, keyword_of(keywords(), &entry))),
         None => None,
     }
@@ -93,6 +101,7 @@ fn standard_tag(keyword: &[u8]) -> Option<Tag>
 
 /// The value representation and the keyword of a tag of the dictionary.
 #[tactic(auto, unfolding(crate::specs::Dictionary::element, crate::specs::Dictionary::elements_in, crate::specs::Dictionary::element_in))]
+#[inline(always)]
 pub fn element_in(dictionary: Dictionary, tag: Tag) -> Option<(Vr, &'static [u8])>
     ensures { option_map (λ r. (r.0, r.1.now)) result ≡ spec.element_in dictionary tag }
 {
@@ -121,25 +130,36 @@ pub fn vr_in(dictionary: Dictionary, tag: Tag) -> Vr
     }
 }
 
+/// What an item or a delimiter is called (PS3.5 7.5). They are in no dictionary.
+#[inline(always)]
+fn item_keyword(tag: Tag) -> Option<&'static [u8]>
+    ensures item { IfSome result (λ k. (tag.group ≡ 0xFFFE) × (0 < tag.element) × (k.now ≡ spec.other_keyword (number_of.tag_number tag))) }
+    ensures other { result ≡ None → spec.other_keyword (number_of.tag_number tag) ≡ codes "Unknown Tag & Data" }
+{
+    match (tag.group, tag.element) {
+        (0xFFFE, 0xE000) => Some(b"Item"),
+        (0xFFFE, 0xE00D) => Some(b"ItemDelimitationItem"),
+        (0xFFFE, 0xE0DD) => Some(b"SequenceDelimitationItem"),
+        _ => None,
+    }
+}
+
 /// The keyword of a tag, by the dictionary.
 #[tactic(auto, unfolding(crate::specs::Dictionary::keyword_in))]
 pub fn keyword_in(dictionary: Dictionary, tag: Tag) -> &'static [u8]
     ensures value { result.now ≡ spec.keyword_in dictionary tag }
     ensures within { length result.now ≤ 64 }
 {
-    if let Some(row) = element_in(dictionary, tag) {
+    if let Some(keyword) = item_keyword(tag) {
+        keyword
+    } else if let Some(row) = element_in(dictionary, tag) {
         row.1
     } else if tag.element == 0 {
         b"GenericGroupLength"
     } else if tag.group % 2 == 1 && tag.element >= 0x10 && tag.element <= 0xFF {
         b"PrivateCreator"
     } else {
-        match (tag.group, tag.element) {
-            (0xFFFE, 0xE000) => b"Item",
-            (0xFFFE, 0xE00D) => b"ItemDelimitationItem",
-            (0xFFFE, 0xE0DD) => b"SequenceDelimitationItem",
-            _ => b"Unknown Tag & Data",
-        }
+        b"Unknown Tag & Data"
     }
 }
 

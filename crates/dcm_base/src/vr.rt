@@ -173,6 +173,7 @@ fn lettered<'a>(rows: &'a [(Vr, [u8; 2])], letters: &[u8; 2]) -> Option<&'a (Vr,
 
 /// The value representation of two letters.
 #[tactic(auto, unfolding(crate::specs::Representation::vr_of))]
+#[inline]
 pub fn vr_of(letters: &[u8; 2]) -> Option<Vr>
     ensures { result ≡ spec.vr_of letters.now }
 {

@@ -99,6 +99,7 @@ fn read_vr(first: u8, second: u8) -> Option<Vr>
 }
 
 /// The head of an element with this tag in an explicit syntax.
+#[inline(always)]
 pub fn read_explicit(syntax: Syntax, tag: Tag, bytes: &[u8]) -> HeadRead
     requires explicit { recode.is_explicit syntax ≡ true }
     requires eight { 8 ≤ length bytes.now }
@@ -159,6 +160,7 @@ fn without_vr(tag: Tag, length: Length) -> HeadRead
 ///
 /// Two capitals that name no representation are UN, and a delimiter's length is 0 whatever its bytes. Under 12 bytes of a
 /// head that has so many, more are asked for.
+#[inline(always)]
 pub fn read_tagged(syntax: Syntax, tag: Tag, bytes: &[u8]) -> HeadRead
     requires eight { 8 ≤ length bytes.now }
     requires tag { tag ≡ tag_at syntax bytes.now }

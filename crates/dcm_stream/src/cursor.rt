@@ -47,6 +47,7 @@ impl Cursor {
     }
 
     /// Closes what is full here. No head may come where less room is left than the shortest takes.
+    #[inline(always)]
     fn settle<S: Sink>(&mut self, sink: &mut S) -> Result<(), Halt>
         requires head { self.old.head.items ≡ [] }
         requires left { self.old.left ≡ 0 }
@@ -62,6 +63,7 @@ impl Cursor {
     }
 
     /// Closes a value of which no byte is left.
+    #[inline(always)]
     fn settle_value<S: Sink>(&mut self, sink: &mut S) -> Result<(), Halt>
         requires head { self.old.head.items ≡ [] }
         ensures comes { sinks.Comes S.Sink sink.old sink.new (spec.reading self.new) (spec.settles_value self.old) result }
@@ -76,6 +78,7 @@ impl Cursor {
     }
 
     /// Goes over bytes of the open value.
+    #[inline(always)]
     fn read_value<S: Sink>(&mut self, value: &[u8], sink: &mut S) -> Result<(), Halt>
         requires head { self.old.head.items ≡ [] }
         requires some { 0 < length value.now }
@@ -102,6 +105,7 @@ impl Cursor {
     }
 
     /// Goes into what a head before this place opens, or out of what it closes.
+    #[inline(always)]
     fn enter<S: Sink>(&mut self, opening: Opening, sink: &mut S) -> Result<(), Halt>
         requires head { self.old.head.items ≡ [] }
         requires left { self.old.left ≡ 0 }
@@ -139,6 +143,7 @@ impl Cursor {
     }
 
     /// Goes over a byte that may end a head.
+    #[inline(never)]
     fn read_head_byte<S: Sink>(&mut self, byte: u8, sink: &mut S) -> Result<(), Halt>
         requires stands { spec.Stands (spec.reading self.old None) }
         requires left { self.old.left ≡ 0 }
@@ -173,6 +178,7 @@ impl Cursor {
     }
 
     /// Goes over the head that the bytes begin with, or over all of them where that is not whole.
+    #[inline(always)]
     fn read_head<S: Sink>(&mut self, bytes: &[u8], sink: &mut S) -> Result<usize, Halt>
         requires stands { spec.Stands (spec.reading self.old None) }
         requires left { self.old.left ≡ 0 }

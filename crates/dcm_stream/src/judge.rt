@@ -86,6 +86,7 @@ fn element_opening(form: Form, syntax: Syntax, head: Head) -> Option<Opening>
 }
 
 /// What an element with this head of so many bytes opens, or why it is refused, but for the sink's bars.
+#[inline(always)]
 fn judge_shape(
     syntax: Syntax,
     head: Head,
@@ -123,6 +124,7 @@ fn barred(bar: Bar) -> Fault
 }
 
 /// What an element with this head of so many bytes opens, or why it is refused.
+#[inline(always)]
 fn judge_element<S: Sink>(
     syntax: Syntax,
     levels: &OpenLevels,
@@ -168,6 +170,7 @@ fn judge_item(inner: Level, declared: Length, room: Option<u64>) -> Result<Openi
 }
 
 /// What a head of so many bytes opens or closes, or why it is refused, where this is the innermost container.
+#[inline(always)]
 fn judge_head<S: Sink>(
     inner: Level,
     levels: &OpenLevels,
@@ -189,6 +192,7 @@ fn judge_head<S: Sink>(
 }
 
 /// Bytes at a place with room for the shortest head, where this is the innermost container.
+#[inline(always)]
 pub fn judge<S: Sink>(
     inner: Level,
     levels: &OpenLevels,

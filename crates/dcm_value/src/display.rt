@@ -73,6 +73,7 @@ impl Shown {
 
     /// Shows these bytes.
     #[tactic(auto, unfolding(crate::specs::Display::emit))]
+    #[inline(always)]
     pub fn emit<W: DeviceOut>(
         &mut self,
         bytes: &[u8],

@@ -89,11 +89,14 @@ module _ (n : ℕ) where
         omega (arith, AllPairs-from_increasing _ up i j 0 lt (omega arith), get_or-map (λ (r : Row). r.0) rows i d 0 (omega arith), get_or-map (λ (r : Row). r.0) rows j d 0 within)
 
     -- a row that has the number is the first that has it
-    pub found : (i : ℕ) (d : Row) → i < length rows → HoldsAt (λ (r : Row). nat_cmp r.0 n ≡ Equal) rows i → look_up rows ≡ Some (answer_of (get_or rows i d))
-    found i d within here =
-        let same : (get_or rows i d).0 ≡ n = ranked _ n _ (sym (here d)) in
+    pub found_at_place : (i : ℕ) (d : Row) → i < length rows → (get_or rows i d).0 ≡ n → look_up rows ≡ Some (answer_of (get_or rows i d))
+    found_at_place i d within same =
         let none_before : (k : ℕ) → k < i → has_number (get_or rows k d) ≡ false = λ k lt. let less = earlier k i d lt within in grind (arith, nat_tests) in
         found_at look_up has_number (λ r. Some (answer_of r)) None refl looks_on rows i d within none_before (grind (arith, nat_tests))
+
+    -- so is one that a search finds
+    pub found : (i : ℕ) (d : Row) → i < length rows → HoldsAt (λ (r : Row). nat_cmp r.0 n ≡ Equal) rows i → look_up rows ≡ Some (answer_of (get_or rows i d))
+    found i d within here = found_at_place i d within (ranked _ n _ (sym (here d)))
 
     -- the comparisons with the number rise along the rows, as a binary search asks
     comparisons_rise : IsNonDecreasingBy (λ (r : Row). ordering_index (nat_cmp r.0 n)) rows

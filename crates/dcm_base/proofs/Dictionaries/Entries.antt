@@ -86,11 +86,14 @@ module _ (n : ℕ) where
         omega (arith, AllPairs-from_increasing _ up i j 0 lt (omega arith), get_or-map (λ (e : Entry). e.0) es i d 0 (omega arith), get_or-map (λ (e : Entry). e.0) es j d 0 within)
 
     -- an entry that has the number is the first that has it
-    pub found : (i : ℕ) (d : Entry) → i < length es → HoldsAt (λ (e : Entry). nat_cmp e.0 n ≡ Equal) es i → look_up es ≡ Some (get_or es i d)
-    found i d within here =
-        let same : (get_or es i d).0 ≡ n = ranked _ n _ (sym (here d)) in
+    pub found_at_place : (i : ℕ) (d : Entry) → i < length es → (get_or es i d).0 ≡ n → look_up es ≡ Some (get_or es i d)
+    found_at_place i d within same =
         let none_before : (k : ℕ) → k < i → has_number (get_or es k d) ≡ false = λ k lt. let less = earlier k i d lt within in grind (arith, nat_tests) in
         found_at look_up has_number (λ e. Some e) None refl looks_on es i d within none_before (grind (arith, nat_tests))
+
+    -- so is one that a search finds
+    pub found : (i : ℕ) (d : Entry) → i < length es → HoldsAt (λ (e : Entry). nat_cmp e.0 n ≡ Equal) es i → look_up es ≡ Some (get_or es i d)
+    found i d within here = found_at_place i d within (ranked _ n _ (sym (here d)))
 
     -- the comparisons with the number rise along the entries, as a binary search asks
     comparisons_rise : IsNonDecreasingBy (λ (e : Entry). ordering_index (nat_cmp e.0 n)) es

@@ -1,5 +1,5 @@
 -- The lengths of keywords.
-use Rattle.std.proofs.Common.{◌≡◌, ◌≤◌, refl, subst, Bool, true, false, ◌&&◌, cond, List, [], ◌∷◌, ℕ, length, Option, Some, None, ap, ◌∙◌, sym}
+use Rattle.std.proofs.Common.{◌≡◌, ◌≤◌, refl, subst, Bool, true, false, ◌&&◌, cond, List, [], ◌∷◌, ℕ, length, Option, Some, None, sym}
 use Rattle.std.specs.Prelude.{option_map, find, nat_le, ◌==◌}
 use Rattle.std.specs.List.{list_all}
 use Rattle.std.proofs.lemmas.Bool.{leb-true}

@@ -125,6 +125,7 @@ fn short_rest(length: Length, count: u64) -> Option<[u8; 10]>
 
 /// Writes a line that is put together up to the end of its display, and what comes after that: a declared length and so many
 /// values.
+#[inline(always)]
 pub fn put_rest<W: DeviceOut>(
     out: &mut Watched<W>,
     dictionary: Dictionary,

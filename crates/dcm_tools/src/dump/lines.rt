@@ -176,6 +176,7 @@ impl Lines {
         }
     }
 
+    #[inline(always)]
     fn begin<W: DeviceOut>(
         &mut self,
         out: &mut Watched<W>,

@@ -2,5 +2,5 @@ use Rattle.dcm_base.proofs.Dictionaries.ByNumber.{rows_ascend}
 use Rattle.dcm_base.proofs.dictionary.element.Goals as goal
 
 -- the table's numbers ascend
-pub numbered-requires : goal.numbered-requires
-numbered-requires c = rows_ascend c.rows.result.now c.rows.ensures
+pub numbered-requires-clause-ascending : goal.numbered-requires-clause-ascending
+numbered-requires-clause-ascending c = rows_ascend c.rows.result.now c.rows.ensures

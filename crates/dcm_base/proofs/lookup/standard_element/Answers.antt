@@ -5,8 +5,8 @@ use Rattle.dcm_base.proofs.Dictionaries.Entries.{entries_ascend, all_fit, found_
 use Rattle.dcm_base.proofs.lookup.standard_element.Goals as goal
 
 -- the table's numbers ascend
-pub entry_of-requires : goal.entry_of-requires
-entry_of-requires c = entries_ascend c.entries.result.now c.entries.ensures
+pub entry_of-requires-clause-ascending : goal.entry_of-requires-clause-ascending
+entry_of-requires-clause-ascending c = entries_ascend c.entries.result.now c.entries.ensures
 
 -- and its keywords lie within the text
 pub keyword_of-requires : goal.keyword_of-requires
