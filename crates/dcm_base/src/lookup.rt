@@ -4,7 +4,7 @@ ghost use Rattle.dcm_base.specs.Dictionary as spec;
 ghost use Rattle.dcm_base.specs.Tag as number_of;
 ghost use Rattle.dcm_base.specs.declared.lookup.Dictionary.TheVariants.{Standard};
 
-use crate::dictionary::{element, guess, tag_of};
+use crate::dictionary::{element, tag_of};
 use crate::standard::{Entry, KEYWORDS, PLACES, STANDARD};
 use crate::tag::Tag;
 use crate::vr::Vr;
@@ -34,14 +34,15 @@ fn keywords() -> &'static [u8]
     KEYWORDS.as_bytes()
 }
 
-/// The entry that has the number, where the numbers ascend. The places save the search where they are right.
+/// The entry that has the number, where the numbers ascend. The places are a guess by its remainder, which saves the search where
+/// it is right.
 #[inline(always)]
 fn entry_of(entries: &[Entry], places: &[u16], number: u32) -> Option<Entry>
     requires ascending { IsStrictlyIncreasing (map (λ e. e.0) entries.now) }
     requires places { 0 < length places.now }
     ensures { result ≡ spec.entry_of entries.now number }
 {
-    let at = guess(places, number);
+    let at = usize::from(places[number as usize % places.len()]);
     if at < entries.len() && entries[at].0 == number {
         return Some(entries[at]);
     }

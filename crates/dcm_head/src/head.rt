@@ -121,6 +121,7 @@ pub fn read_explicit(syntax: Syntax, tag: Tag, bytes: &[u8]) -> HeadRead
 }
 
 /// The head of an element with this tag.
+#[inline(always)]
 fn read_element(syntax: Syntax, tag: Tag, bytes: &[u8]) -> HeadRead
     requires eight { 8 ≤ length bytes.now }
     requires tag { tag ≡ tag_at syntax bytes.now }

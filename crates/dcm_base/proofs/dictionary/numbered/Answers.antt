@@ -17,4 +17,4 @@ returns-in-Err c =
 
 -- the guess was right
 pub returns-then-rows-at : goal.returns-then-rows-at
-returns-then-rows-at c = sym (found_at_place c.args.number c.args.rows.now c.requires.ascending c.guess-at.result _ c.if-at-rows.true c.if-rows-at.true)
+returns-then-rows-at c = sym (found_at_place c.args.number c.args.rows.now c.requires.ascending _ _ c.if-at-rows.true c.if-rows-at.true)

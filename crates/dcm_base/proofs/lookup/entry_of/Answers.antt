@@ -17,4 +17,4 @@ returns-in-Err c =
 
 -- the guess was right
 pub returns-then-entries-at : goal.returns-then-entries-at
-returns-then-entries-at c = sym (found_at_place c.args.number c.args.entries.now c.requires.ascending c.guess-at.result _ c.if-at-entries.true c.if-entries-at.true)
+returns-then-entries-at c = sym (found_at_place c.args.number c.args.entries.now c.requires.ascending _ _ c.if-at-entries.true c.if-entries-at.true)
