@@ -156,6 +156,7 @@ fn pass<S: Sink, A: Allocator>(
 }
 
 /// Hands on what a token of the input becomes, and goes on after it. An element that no edit meets is handed on as it is.
+#[inline(always)]
 fn pass_on<S: Sink, A: Allocator>(
     editor: &mut Editor,
     edits: &[Edit<A>],
@@ -237,6 +238,7 @@ impl<'e, S: Sink, A: Allocator> Sink for EditSink<'e, S, A> {
 
     ghost kept = { λ e. (e.inner.ghost_name, S.kept e.inner.now) };
 
+    #[inline(always)]
     fn take(&mut self, token: Token) -> Result<(), WriteFailed> {
         pass_on(&mut self.editor, self.edits.list(), token, self.inner)
     }

@@ -69,6 +69,7 @@ impl<'w, W: DeviceOut> Sink for DumpSink<'w, W> {
 
     ghost kept = { λ d. d.out.ghost_name };
 
+    #[inline(always)]
     fn take(&mut self, token: Token) -> Result<(), WriteFailed> {
         self.lines.take(self.out, token)
     }

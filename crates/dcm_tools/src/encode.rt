@@ -55,6 +55,7 @@ impl<'w, W: DeviceOut> Sink for EncodeSink<'w, W> {
 
     ghost kept = { λ e. e.out.ghost_name };
 
+    #[inline(always)]
     fn take(&mut self, token: Token) -> Result<(), WriteFailed> {
         self.encoder.take(self.out, token)
     }

@@ -367,6 +367,7 @@ impl Lines {
     }
 
     /// Writes what a token shows.
+    #[inline(always)]
     pub fn take<W: DeviceOut>(
         &mut self,
         out: &mut Watched<W>,
