@@ -2,7 +2,9 @@
 """Measures the tools of dcmtools beside `cat`, and beside DCMTK's where they are installed; but dcmodify, of which DCMTK's
 changes its input, beside `dcmconv +t=`.
 
-    bench/run.py [--binary PATH] [--mebibytes N] [--full-mebibytes N] [--rounds N] [--starts N]
+    bench/run.py [--binary PATH] [--before PATH] [--mebibytes N] [--full-mebibytes N] [--rounds N] [--starts N]
+
+With --before an older build of dcmtools takes turns with the others, so that a change is measured in one run.
 
 The inputs are made in a temporary directory, which takes a little more than five times `--mebibytes` and is removed at
 the end. They are read from the page cache. Dumps go to /dev/null. A conversion, or a file that is built from a dump, is
@@ -387,23 +389,27 @@ def words_behind(work):
     return [*work.options, work.path, *([work.output] if work.output else [])]
 
 
-def programs(binary):
+def tool_of(binary):
+    return lambda work: ([binary, work.tool, *words_behind(work)], os.devnull)
+
+
+def programs(binary, before):
     """Each program, as a function of the work that gives its words and where its standard output goes."""
-    found = {
-        "cat": cat,
-        "dcmtools": lambda work: ([binary, work.tool, *words_behind(work)], os.devnull),
-    }
+    found = {"cat": cat, "dcmtools": tool_of(binary)}
+    if before:
+        found["before"] = tool_of(before)
     if all(shutil.which(tool) for tool in ("dcmdump", "dcmconv", "dump2dcm")):
         found["DCMTK"] = lambda work: ([shutil.which(work.tool), *words_behind(work)], os.devnull)
     return found
 
 
-def editing_programs(binary):
+def editing_programs(binary, before):
     """The same for files with edits. DCMTK's dcmodify changes its input, and has no output."""
     return {
         "cat": cat,
+        **({"dcmodify before": tool_of(before)} if before else {}),
         "dcmconv +t=": lambda work: ([binary, "dcmconv", "+t=", work.path, work.output], os.devnull),
-        "dcmodify": lambda work: ([binary, work.tool, *words_behind(work)], os.devnull),
+        "dcmodify": tool_of(binary),
     }
 
 
@@ -543,6 +549,7 @@ def machine():
 def main():
     options = argparse.ArgumentParser(description=__doc__.splitlines()[0])
     options.add_argument("--binary", default=str(TOP / "crates/dcmtools/out/dcmtools"))
+    options.add_argument("--before", help="an older build of dcmtools, to be measured beside it")
     options.add_argument("--mebibytes", type=int, default=512, help="pixels of the large inputs")
     options.add_argument("--full-mebibytes", type=int, default=32, help="pixels of the inputs that are shown whole")
     options.add_argument("--rounds", type=int, default=5)
@@ -551,8 +558,9 @@ def main():
     if not os.access(chosen.binary, os.X_OK):
         sys.exit(f"{chosen.binary} is not there: build it by `cd crates/dcmtools && rt run -- dcmdump ../../examples/name.dcm`")
     binary = os.path.abspath(chosen.binary)
-    run = programs(binary)
-    editing = editing_programs(binary)
+    before = chosen.before and os.path.abspath(chosen.before)
+    run = programs(binary, before)
+    editing = editing_programs(binary, before)
     print(f"Before: {machine()}")
     with tempfile.TemporaryDirectory() as folder:
         inputs = make_inputs(binary, folder, chosen.mebibytes, chosen.full_mebibytes)

@@ -2,6 +2,7 @@
 """Makes crates/dcm_base/src/standard.rt, the table of the whole data dictionary (PS3.6 sections 6 to 9, PS3.7 E).
 
     scripts/make_dictionary.py [--list] SOURCE
+    scripts/make_dictionary.py --extract
 
 SOURCE is `_dicom_dict.py` of pydicom or `dicom.dic` of DCMTK: each is the standard's tables as a file. The table goes to standard
 output, and one line on standard error tells which edition of the standard was read and how many elements are in the table.
@@ -12,6 +13,9 @@ With --list the rows go out as plain lines instead, to compare two sources. The 
 In the table is each element that has a keyword and exactly one VR, in tag order, retired ones too, and PixelData, as OW. Not in
 it are the other elements between two VRs, those of repeating groups (tags with `xx`), items and delimiters, and elements without
 a keyword.
+
+Beside the table is `PLACES`, a guess at the row of a number by its remainder. It saves a search where it is right, and no proof
+rests on it. With --extract the guesses of the extract go out, for crates/dcm_base/src/dictionary.rt, where its elements are.
 """
 import ast
 import re
@@ -29,9 +33,10 @@ REPEATED = re.compile("002804[1-9A-F][0-3]|002808[0-9A-F][02348]|1000[0-9A-F]{3}
 # The most columns of a line of the table.
 WIDTH = 400
 
-# How many remainders of a number have a place. Of the numbers below 5,000 it tells most elements apart by their remainders; more
-# would tell more apart, and take longer in each check.
+# How many remainders of a number have a place. Of the numbers below 5,000 this one tells most elements apart; more would tell more
+# apart, and each check would take longer. That of the extract is the least that tells all its elements apart.
 PLACES = 4_917
+EXTRACT_PLACES = 583
 
 
 class Element(NamedTuple):
@@ -86,19 +91,18 @@ def packed(parts: list[str], indent: str) -> str:
     return "\n".join([*lines, line.rstrip()])
 
 
-def places(elements: list[Element], first: set[int]) -> list[int]:
-    """For each remainder of a number, the place of an element that has it: one of the extract, or the first in tag order."""
-    found = [None] * PLACES
-    for place, e in sorted(enumerate(elements), key=lambda it: (it[1].number not in first, it[0])):
-        if found[e.number % PLACES] is None:
-            found[e.number % PLACES] = place
-    return [place or 0 for place in found]
+def places(numbers: list[int], first: set[int], count: int) -> str:
+    """For each remainder of a number, the place of one that has it: one of the first, or the least. They are the lines of a table."""
+    found = {}
+    for place, number in sorted(enumerate(numbers), key=lambda it: (it[1] not in first, it[0])):
+        found.setdefault(number % count, place)
+    return packed([f"{found.get(it, 0)}, " for it in range(count)], "    ")
 
 
-def extract() -> set[int]:
+def extract() -> list[int]:
     """The numbers of the elements of the extract."""
     text = (Path(__file__).parent.parent / "crates/dcm_base/src/dictionary.rt").read_text()
-    return {int(n.replace("_", ""), 16) for n in re.findall(r"\b0x[0-9A-F]{4}_[0-9A-F]{4}\b", text)}
+    return [int(n.replace("_", ""), 16) for n in re.findall(r"\b0x[0-9A-F]{4}_[0-9A-F]{4}\b", text)]
 
 
 def rust(edition: str, elements: list[Element]) -> str:
@@ -130,12 +134,15 @@ pub const STANDARD: [Entry; {len(elements)}] = [
 /// A guess at the place of a number in `STANDARD`, by its remainder: most of them are right.
 #[rattlefmt::skip]
 pub const PLACES: [u16; {PLACES}] = [
-{packed([f"{place}, " for place in places(elements, extract())], "    ")}
+{places([e.number for e in elements], {*extract()}, PLACES)}
 ];
 """
 
 
 def main(words: list[str]) -> int:
+    if words == ["--extract"]:
+        print(places(extract(), set(), EXTRACT_PLACES))
+        return 0
     paths = [Path(w) for w in words if w != "--list"]
     if len(paths) != 1:
         print(__doc__, file=sys.stderr)
