@@ -31,7 +31,7 @@ REPEATED = re.compile("002804[1-9A-F][0-3]|002808[0-9A-F][02348]|1000[0-9A-F]{3}
 
 
 # The most columns of a line of the table.
-WIDTH = 400
+WIDTH = 900
 
 # How many remainders of a number have a place. Of the numbers below 5,000 this one tells most elements apart; more would tell more
 # apart, and each check would take longer. That of the extract is the least that tells all its elements apart.
