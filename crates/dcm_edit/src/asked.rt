@@ -62,6 +62,7 @@ fn is_private(tag: Tag) -> bool
     tag.group % 2 == 1
 }
 
+#[inline(always)]
 fn is_same(tag: Tag, other: Tag) -> bool
     ensures { result ≡ same_tag tag other }
 {
@@ -69,6 +70,7 @@ fn is_same(tag: Tag, other: Tag) -> bool
 }
 
 /// Tags are ordered by group, and within a group by element.
+#[inline(always)]
 pub fn is_below(tag: Tag, other: Tag) -> bool
     ensures { result ≡ below tag other }
 {
@@ -86,6 +88,7 @@ fn selects(index: Index, item: u32) -> bool
 
 impl Gap {
     /// Whether a tag lies in it.
+    #[inline(always)]
     pub fn holds(self, tag: Tag) -> bool
         ensures { result ≡ asking.in_gap self tag }
     {
@@ -102,6 +105,7 @@ impl Gap {
 }
 
 impl<A: Allocator> New<'_, A> {
+    #[inline(always)]
     pub fn tag(&self) -> Tag
         ensures { result ≡ asking.new_tag self.now }
     {
@@ -112,6 +116,7 @@ impl<A: Allocator> New<'_, A> {
     }
 }
 
+#[inline(always)]
 fn becomes_if<A: Allocator>(element: &NewElement<A>, tag: Tag) -> Fate<'_, A>
     ensures { asking.fate_of result ≡ asking.becomes_if element.now tag }
 {
@@ -122,6 +127,7 @@ fn becomes_if<A: Allocator>(element: &NewElement<A>, tag: Tag) -> Fate<'_, A>
     }
 }
 
+#[inline(always)]
 fn action_fate<A: Allocator>(action: &Action<A>, tag: Tag) -> Fate<'_, A>
     ensures { asking.fate_of result ≡ spec.path_fate (action_of action.now) tag }
 {
@@ -134,6 +140,7 @@ fn action_fate<A: Allocator>(action: &Action<A>, tag: Tag) -> Fate<'_, A>
 }
 
 /// The steps of a path that are left after so many.
+#[inline(always)]
 fn steps_left<A: Allocator>(path: &PathEdit<A>, depth: usize) -> &[Step]
     ensures { masks.rest_of_path depth (path_edit_of path.now) ≡ along result.now (action_of path.now.action) }
 {
@@ -145,6 +152,7 @@ fn steps_left<A: Allocator>(path: &PathEdit<A>, depth: usize) -> &[Step]
     left
 }
 
+#[inline(always)]
 fn path_fate<A: Allocator>(path: &PathEdit<A>, depth: usize, tag: Tag) -> Fate<'_, A>
     ensures { asking.fate_of result ≡ spec.path_fate (masks.rest_of_path depth (path_edit_of path.now)) tag }
 {
@@ -155,6 +163,7 @@ fn path_fate<A: Allocator>(path: &PathEdit<A>, depth: usize, tag: Tag) -> Fate<'
 }
 
 /// What becomes of an element with this tag.
+#[inline(always)]
 pub fn fate_by<A: Allocator>(edit: &Edit<A>, depth: usize, tag: Tag) -> Fate<'_, A>
     ensures { asking.fate_of result ≡ spec.fate (masks.at_depth depth (edit_of edit.now)) tag }
 {
@@ -176,6 +185,7 @@ fn action_erases<A: Allocator>(action: &Action<A>, tag: Tag, item: u32) -> bool
     }
 }
 
+#[inline(always)]
 fn path_erases<A: Allocator>(path: &PathEdit<A>, depth: usize, tag: Tag, item: u32) -> bool
     ensures { result ≡ spec.erases (spec.on_path (masks.rest_of_path depth (path_edit_of path.now))) tag item }
 {
@@ -185,6 +195,7 @@ fn path_erases<A: Allocator>(path: &PathEdit<A>, depth: usize, tag: Tag, item: u
     }
 }
 
+#[inline(always)]
 fn erases<A: Allocator>(edit: &Edit<A>, depth: usize, tag: Tag, item: u32) -> bool
     ensures { result ≡ spec.erases (masks.at_depth depth (edit_of edit.now)) tag item }
 {
@@ -195,6 +206,7 @@ fn erases<A: Allocator>(edit: &Edit<A>, depth: usize, tag: Tag, item: u32) -> bo
 }
 
 /// Whether the next step of a path leads into this item.
+#[inline(always)]
 fn leads_into<A: Allocator>(path: &PathEdit<A>, depth: usize, tag: Tag, item: u32) -> bool
     ensures { result ≡ masks.goes_along (spec.on_path (masks.rest_of_path depth (path_edit_of path.now))) tag item }
 {
@@ -204,6 +216,7 @@ fn leads_into<A: Allocator>(path: &PathEdit<A>, depth: usize, tag: Tag, item: u3
     }
 }
 
+#[inline(always)]
 fn goes_along<A: Allocator>(edit: &Edit<A>, depth: usize, tag: Tag, item: u32) -> bool
     ensures { result ≡ masks.goes_along (masks.at_depth depth (edit_of edit.now)) tag item }
 {
@@ -240,6 +253,7 @@ fn inserted<A: Allocator>(action: &Action<A>) -> Option<&NewElement<A>>
 }
 
 /// The sequence on the way to an element that is put where it is missing: each step on that way leads into the first item.
+#[inline(always)]
 fn sequence_on(steps: &[Step]) -> Option<Tag>
     ensures { result ≡ asking.sequence_on (steps.now) }
 {
@@ -249,6 +263,7 @@ fn sequence_on(steps: &[Step]) -> Option<Tag>
     }
 }
 
+#[inline(always)]
 fn path_new<A: Allocator>(path: &PathEdit<A>, depth: usize) -> Option<New<'_, A>>
     ensures { asking.seen_of result ≡ asking.seen (spec.new_element (masks.rest_of_path depth (path_edit_of path.now))) }
 {
@@ -264,6 +279,7 @@ fn path_new<A: Allocator>(path: &PathEdit<A>, depth: usize) -> Option<New<'_, A>
 }
 
 /// What an edit puts where the data set lacks it.
+#[inline(always)]
 pub fn new_element<A: Allocator>(edit: &Edit<A>, depth: usize) -> Option<New<'_, A>>
     ensures { asking.seen_of result ≡ asking.seen (spec.element_of (masks.at_depth depth (edit_of edit.now))) }
 {
@@ -274,6 +290,7 @@ pub fn new_element<A: Allocator>(edit: &Edit<A>, depth: usize) -> Option<New<'_,
 }
 
 /// A value has its place in each data set that is selected.
+#[inline(always)]
 pub fn has_place<A: Allocator>(edit: &Edit<A>, depth: usize) -> bool
     ensures { result ≡ has_place_spec (spec.element_of (masks.at_depth depth (edit_of edit.now))) }
 {
@@ -281,6 +298,7 @@ pub fn has_place<A: Allocator>(edit: &Edit<A>, depth: usize) -> bool
 }
 
 /// Whether a value has its place in this item, as in each data set that is selected.
+#[inline(always)]
 fn has_place_in<A: Allocator>(edit: &Edit<A>, depth: usize, tag: Tag, item: u32) -> bool
     requires { depth < 2 ^ 32 }
     ensures { result ≡ has_place_spec (spec.element_of (spec.within (masks.at_depth depth (edit_of edit.now)) tag item)) }
@@ -289,6 +307,7 @@ fn has_place_in<A: Allocator>(edit: &Edit<A>, depth: usize, tag: Tag, item: u32)
 }
 
 /// A sequence on the way has its place where it is put.
+#[inline(always)]
 fn makes<A: Allocator>(edit: &Edit<A>, depth: usize, gap: Gap) -> bool
     ensures { result ≡ makes_spec (asking.in_gap gap) (spec.element_of (masks.at_depth depth (edit_of edit.now))) }
 {
@@ -299,6 +318,7 @@ fn makes<A: Allocator>(edit: &Edit<A>, depth: usize, gap: Gap) -> bool
 }
 
 /// Whether it puts an element in a gap.
+#[inline(always)]
 fn fills<A: Allocator>(edit: &Edit<A>, depth: usize, gap: Gap) -> bool
     ensures { result ≡ passes_new (asking.in_gap gap) (spec.element_of (masks.at_depth depth (edit_of edit.now))) }
 {
@@ -309,6 +329,7 @@ fn fills<A: Allocator>(edit: &Edit<A>, depth: usize, gap: Gap) -> bool
 }
 
 /// Whether an element with this tag does not stay as it is.
+#[inline(always)]
 fn acts<A: Allocator>(edit: &Edit<A>, depth: usize, tag: Tag) -> bool
     ensures { result ≡ spec.acts (spec.fate (masks.at_depth depth (edit_of edit.now)) tag) }
 {
@@ -316,6 +337,7 @@ fn acts<A: Allocator>(edit: &Edit<A>, depth: usize, tag: Tag) -> bool
 }
 
 /// Whether it changes an element with this tag, or puts another one between the last one and it.
+#[inline(always)]
 pub fn meets<A: Allocator>(edit: &Edit<A>, depth: usize, tag: Tag, last: Option<Tag>) -> bool
     ensures { result ≡ asking.answer_of (Meets tag last) (masks.at_depth depth (edit_of edit.now)) }
 {
@@ -324,6 +346,7 @@ pub fn meets<A: Allocator>(edit: &Edit<A>, depth: usize, tag: Tag, last: Option<
 }
 
 /// The answer of an edit that asks something of a data set within so many items.
+#[inline(always)]
 pub fn answers<A: Allocator>(edit: &Edit<A>, depth: usize, question: Question) -> bool
     requires { depth < 2 ^ 32 }
     ensures { result ≡ asking.answer_of question (masks.at_depth depth (edit_of edit.now)) }

@@ -38,6 +38,7 @@ pub struct Editor {
 }
 
 /// A data set of which these edits ask something.
+#[inline(always)]
 fn new_level(mask: u64) -> Level
     ensures { editing.level_of result ≡ record { mask = mask; last = None; count = 0 } }
 {
@@ -72,6 +73,7 @@ impl Editor {
     }
 
     /// The edits that have found their place so far or find it here.
+    #[inline(always)]
     fn found_with<A: Allocator>(&self, edits: &[Edit<A>], question: Question) -> u64
         requires { length edits.now ≤ 64 }
         ensures { masks.bits result 0 (map edit_of edits.now) ≡ editing.found_with edits.now self.now question }
@@ -97,6 +99,7 @@ impl Editor {
     }
 
     /// Whether the next item of the last element is erased.
+    #[inline(always)]
     pub fn erases_item<A: Allocator>(&self, edits: &[Edit<A>], tag: Tag) -> bool
         requires { length edits.now ≤ 64 }
         ensures { result ≡ editing.any_erases edits.now self.now tag }
@@ -106,6 +109,7 @@ impl Editor {
     }
 
     /// Whether the next item is erased, where there is an element that it belongs to.
+    #[inline(always)]
     pub fn erases_next<A: Allocator>(&self, edits: &[Edit<A>]) -> bool
         requires { length edits.now ≤ 64 }
         ensures { result ≡ editing.erases_next edits.now self.now self.now.level.last }
@@ -139,6 +143,7 @@ impl Editor {
     }
 
     /// After the head of an item of the element with this tag, where there is room for its data set.
+    #[inline(always)]
     fn enter_item<A: Allocator>(&mut self, edits: &[Edit<A>], tag: Tag)
         requires few { length edits.now ≤ 64 }
         requires last { self.old.level.last ≡ Some tag }
@@ -158,6 +163,7 @@ impl Editor {
     }
 
     /// After the head of an item.
+    #[inline(always)]
     fn open_item<A: Allocator>(&mut self, edits: &[Edit<A>])
         requires { length edits.now ≤ 64 }
         ensures { (declared : AnyLength) → editing.meant edits.now self.new ≡ spec.next (editing.meant edits.now self.old) (opens_item declared) }
@@ -184,6 +190,7 @@ impl Editor {
     }
 
     /// After the end of an item.
+    #[inline(always)]
     fn close_item<A: Allocator>(&mut self, edits: &[Edit<A>])
         requires { length edits.now ≤ 64 }
         ensures { editing.meant edits.now self.new ≡ spec.next (editing.meant edits.now self.old) closes_item }

@@ -15,6 +15,7 @@ use std::alloc::Allocator;
 /// The most edits of a command line: the bits of a mask.
 pub const MOST_EDITS: usize = 64;
 
+#[inline(always)]
 fn is_set(mask: u64, place: usize) -> bool
     requires { place < 64 }
     ensures { result ≡ masks.is_set mask place }
@@ -23,6 +24,7 @@ fn is_set(mask: u64, place: usize) -> bool
 }
 
 /// The mask with this bit set.
+#[inline(always)]
 fn with_bit(mask: u64, place: usize) -> u64
     requires { place < 64 }
     ensures same { masks.is_set result place ≡ true }
@@ -50,6 +52,7 @@ struct Rest<'e, A: Allocator> {
 }
 
 /// The edits from the first one on that the mask has.
+#[inline(always)]
 fn rest_of<A: Allocator>(edits: &[Edit<A>], mask: u64, place: usize) -> Rest<'_, A>
     requires few { place + length edits.now ≤ 64 }
     ensures few { result.place + length result.edits.now ≡ place + length edits.now }
@@ -69,6 +72,7 @@ fn rest_of<A: Allocator>(edits: &[Edit<A>], mask: u64, place: usize) -> Rest<'_,
 }
 
 /// The answer of an edit, if the mask has it.
+#[inline(always)]
 fn says_yes<A: Allocator>(
     edit: &Edit<A>,
     depth: usize,
@@ -84,6 +88,7 @@ fn says_yes<A: Allocator>(
 }
 
 /// The same of what it does at an element.
+#[inline(always)]
 fn meets_in<A: Allocator>(
     edit: &Edit<A>,
     depth: usize,
@@ -99,6 +104,7 @@ fn meets_in<A: Allocator>(
 }
 
 /// The answers so far, and that of one more edit, if the mask has it.
+#[inline(always)]
 fn with_answer<A: Allocator>(
     yes: u64,
     edit: &Edit<A>,
@@ -120,6 +126,7 @@ fn with_answer<A: Allocator>(
 }
 
 /// The edits of a mask that answer yes.
+#[inline(always)]
 pub fn answering<A: Allocator>(
     edits: &[Edit<A>],
     depth: usize,
@@ -141,6 +148,7 @@ pub fn answering<A: Allocator>(
 
 /// Whether an edit of a mask answers yes.
 #[tactic(auto, using(crate::proofs::Masks::Skips::any_skips, crate::proofs::Masks::Skips::any_next))]
+#[inline(always)]
 pub fn any_answers<A: Allocator>(
     edits: &[Edit<A>],
     depth: usize,
@@ -164,6 +172,7 @@ pub fn any_answers<A: Allocator>(
 /// Whether an edit of a mask changes an element with this tag, or puts another one between the last one and it. Each element of
 /// an input is asked for, so this is not one question of many.
 #[tactic(auto, using(crate::proofs::Masks::Skips::any_skips, crate::proofs::Masks::Skips::any_next))]
+#[inline(always)]
 pub fn any_meets<A: Allocator>(
     edits: &[Edit<A>],
     depth: usize,
@@ -185,6 +194,7 @@ pub fn any_meets<A: Allocator>(
 }
 
 /// What an edit makes of an element, if the mask has it.
+#[inline(always)]
 fn fate_in<A: Allocator>(
     edit: &Edit<A>,
     depth: usize,
@@ -220,6 +230,7 @@ pub fn first_fate<A: Allocator>(edits: &[Edit<A>], depth: usize, mask: u64, tag:
 }
 
 /// The lesser of two new elements; of two with one tag the first.
+#[inline(always)]
 fn lesser<'e, A: Allocator>(first: Option<New<'e, A>>, other: New<'e, A>) -> New<'e, A>
     ensures { asking.seen_of (Some result) ≡ asking.lesser (asking.seen_of first.entry) (asking.seen_of (Some other.entry)) }
 {
@@ -230,6 +241,7 @@ fn lesser<'e, A: Allocator>(first: Option<New<'e, A>>, other: New<'e, A>) -> New
 }
 
 /// What an edit puts in a gap, if the mask has it.
+#[inline(always)]
 fn new_in<A: Allocator>(
     edit: &Edit<A>,
     depth: usize,

@@ -155,7 +155,8 @@ fn pass<S: Sink, A: Allocator>(
     }
 }
 
-/// Hands on what a token of the input becomes, and goes on after it. An element that no edit meets is handed on as it is.
+/// Hands on what a token of the input becomes, and goes on after it. An element that no edit meets is handed on as it is, and so is
+/// what a value, a sequence or a fragment list has beside items.
 #[inline(always)]
 fn pass_on<S: Sink, A: Allocator>(
     editor: &mut Editor,
@@ -177,7 +178,8 @@ fn pass_on<S: Sink, A: Allocator>(
             sink.take(token)?;
             editor.pass_by(head.tag);
         }
-        Token::Bytes(_) if !editor.skip.is_open() => sink.take(token)?,
+        Token::Bytes(_) | Token::CloseLeaf | Token::CloseSeq | Token::OpenFragment(_)
+            if !editor.skip.is_open() => { sink.take(token)? }
         _ => {
             pass(editor, edits, token, sink)?;
             editor.go_on(edits, token);

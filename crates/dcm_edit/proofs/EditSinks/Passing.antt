@@ -1,5 +1,5 @@
 -- What the edit sink passes on of a token.
-use Rattle.std.proofs.Common.{◌≡◌, ℕ, zero, suc, ◌<◌, List, [], ◌∷◌, ◌++◌, map, reverse, fold, Option, Some, None, Bool, refl, sym, ◌∙◌, ap, arith, inl, inr, ◌⊎◌}
+use Rattle.std.proofs.Common.{◌≡◌, ℕ, zero, suc, ◌<◌, List, [], ◌∷◌, ◌++◌, map, reverse, fold, Option, Some, None, Bool, false, refl, sym, ◌∙◌, ap, arith, inl, inr, ◌⊎◌}
 use Rattle.std.specs.Prelude.{if◌then◌else◌}
 use Rattle.std.specs.Borrow.{Bor}
 use Rattle.std.specs.Io.KnownBytes.{append_known}
@@ -17,7 +17,7 @@ use Rattle.dcm_base.proofs.DataSets.Row.{trees_then-append}
 use Rattle.dcm_stream.specs.declared.sink.Sink.{Ghosts}
 use Rattle.dcm_stream.specs.declared.token.Token.{Token}
 use Rattle.dcm_stream.specs.declared.token.Token.TheVariants as tokens
-use Rattle.dcm_stream.specs.Skip.{depth}
+use Rattle.dcm_stream.specs.Skip.{depth, opened, closed}
 use Rattle.dcm_stream.specs.Tokens.{atoms_of}
 use Rattle.dcm_edit.specs.Edit.{Edit}
 use Rattle.dcm_edit.specs.Together.{first_fate}
@@ -28,6 +28,7 @@ use Rattle.dcm_edit.specs.Masks as masks
 use Rattle.dcm_edit.specs.Meaning.{edit_of}
 use Rattle.dcm_edit.specs.declared.edit.Edit.{Edit as AnEdit}
 use Rattle.dcm_edit.specs.declared.editor.Editor.{Editor}
+use Rattle.dcm_edit.proofs.Masks.Answering.{bytes_stay}
 
 -- ---- where nothing is dropped
 
@@ -86,14 +87,29 @@ bytes_passed s (b ∷ bytes) none = byte_then s b _ _ none (bytes_passed s bytes
 one_kept : (s : State) (a : Atom) → s.dropped ≡ 0 → unless_dropped s.dropped (a ∷ []) ++ [] ≡ a ∷ []
 one_kept s a none = ap (λ (xs : List Atom). xs ++ []) (kept s.dropped (a ∷ []) none)
 
--- tokens that change nothing of the edits
-pub as_they_are : (s : State) (t : Token) → s.dropped ≡ 0
-    → ((x : Bor (List ℕ)) × (t ≡ tokens.Bytes x)) ⊎ ((t ≡ tokens.CloseLeaf) ⊎ ((t ≡ tokens.CloseSeq) ⊎ ((n : ℕ) × (t ≡ tokens.OpenFragment n)))) → outputs next passed s (atoms_of t) ≡ atoms_of t
+-- tokens of which edits ask nothing
+abbrev pub IsUnasked : Token → Type 0
+IsUnasked t = ((x : Bor (List ℕ)) × (t ≡ tokens.Bytes x)) ⊎ ((t ≡ tokens.CloseLeaf) ⊎ ((t ≡ tokens.CloseSeq) ⊎ ((n : ℕ) × (t ≡ tokens.OpenFragment n))))
+
+pub as_they_are : (s : State) (t : Token) → s.dropped ≡ 0 → IsUnasked t → outputs next passed s (atoms_of t) ≡ atoms_of t
 as_they_are s t none (inl h) =
     ap (λ (u : Token). outputs next passed s (atoms_of u)) h.1 ∙ bytes_passed s h.0.now none ∙ ap atoms_of (sym h.1)
 as_they_are s t none (inr (inl h)) = ap (λ (u : Token). outputs next passed s (atoms_of u)) h ∙ one_kept s closes_leaf none ∙ ap atoms_of (sym h)
 as_they_are s t none (inr (inr (inl h))) = ap (λ (u : Token). outputs next passed s (atoms_of u)) h ∙ one_kept s closes_sequence none ∙ ap atoms_of (sym h)
 as_they_are s t none (inr (inr (inr h))) = ap (λ (u : Token). outputs next passed s (atoms_of u)) h.1 ∙ one_kept s (opens_fragment h.0) none ∙ ap atoms_of (sym h.1)
+
+-- and the state stays as it is
+abbrev dropped_as : State → ℕ → State
+dropped_as s n = record { level = s.level; outer = s.outer; dropped = n; found = s.found }
+
+abbrev after_token : State → Token → State
+after_token s t = fold next s (atoms_of t)
+
+pub nothing_changes : (s : State) (t : Token) → s.dropped ≡ 0 → IsUnasked t → s ≡ fold next s (atoms_of t)
+nothing_changes s t none (inl h) = bytes_stay s h.0.now ∙ ap (after_token s) (sym h.1)
+nothing_changes s t none (inr (inl h)) = ap (dropped_as s) (none ∙ ap closed (sym none)) ∙ ap (after_token s) (sym h)
+nothing_changes s t none (inr (inr (inl h))) = ap (dropped_as s) (none ∙ ap closed (sym none)) ∙ ap (after_token s) (sym h)
+nothing_changes s t none (inr (inr (inr h))) = ap (dropped_as s) (none ∙ ap (λ (n : ℕ). opened n false) (sym none)) ∙ ap (after_token s) (sym h.1)
 
 -- ---- where something is
 

@@ -7,8 +7,7 @@ use Rattle.dcm_stream.specs.declared.token.Token.{Token}
 use Rattle.dcm_edit.specs.EditSink.{next}
 use Rattle.dcm_edit.specs.Editing.{meant, state}
 use Rattle.dcm_stream.proofs.Runs.Skipped.{none_open}
-use Rattle.dcm_edit.proofs.Masks.Answering.{bytes_stay}
-use Rattle.dcm_edit.proofs.EditSinks.Passing.{as_they_are}
+use Rattle.dcm_edit.proofs.EditSinks.Passing.{as_they_are, nothing_changes}
 use Rattle.dcm_edit.proofs.EditSinks.Taken.{token_taken, all_failed}
 use Rattle.dcm_edit.proofs.EditSinks.Unmet.{left_state, left_token}
 use Rattle.dcm_edit.proofs.sink.pass_on.Goals as goal
@@ -34,18 +33,16 @@ returns-in_ok-take-in-Open-clause-state g c =
 pub returns-in_err-take-in-Bytes-clause-takes : goal.returns-in_err-take-in-Bytes-clause-takes
 returns-in_err-take-in-Bytes-clause-takes g c =
     let s = meant c.args.edits.now c.args.editor.now in
-    let same = as_they_are s c.args.token (none_open _ c.if-not-is_open.ensures) (inl (c.in-Bytes.field-0, c.in-Bytes.is)) in
+    let same = as_they_are s c.args.token (none_open _ c.if-not-is_open.ensures) c.in-Bytes.is in
     subst (λ (xs : List Atom). Takes g.S.Sink c.args.sink.now c.take-in-Bytes.new.self xs c.from_residual-in_err-take-in-Bytes.result) (sym same)
     (all_failed g.S.Sink c.args.sink.now c.take-in-Bytes.new.self (atoms_of c.args.token) c.from_residual-in_err-take-in-Bytes.result c.from_residual-in_err-take-in-Bytes.ensures.0 c.in_err-take-in-Bytes.ensures.bytes)
 
 pub returns-in_ok-take-in-Bytes-clause-takes : goal.returns-in_ok-take-in-Bytes-clause-takes
 returns-in_ok-take-in-Bytes-clause-takes g c =
     let s = meant c.args.edits.now c.args.editor.now in
-    let same = as_they_are s c.args.token (none_open _ c.if-not-is_open.ensures) (inl (c.in-Bytes.field-0, c.in-Bytes.is)) in
+    let same = as_they_are s c.args.token (none_open _ c.if-not-is_open.ensures) c.in-Bytes.is in
     subst (λ (xs : List Atom). Takes {T = Unit {0}} {E = Unit {0}} g.S.Sink c.args.sink.now c.take-in-Bytes.new.self xs (Ok tt)) (sym same)
     (token_taken g.S.Sink {T = Unit {0}} {E = Unit {0}} c.args.sink.now c.take-in-Bytes.new.self (atoms_of c.args.token) (Ok tt) c.in_ok-take-in-Bytes.ensures.state c.in_ok-take-in-Bytes.ensures.bytes)
 
 pub returns-in_ok-take-in-Bytes-clause-state : goal.returns-in_ok-take-in-Bytes-clause-state
-returns-in_ok-take-in-Bytes-clause-state g c =
-    bytes_stay (meant c.args.edits.now c.args.editor.now) c.in-Bytes.field-0.now
-    ∙ ap (λ (t : Token). fold next (meant c.args.edits.now c.args.editor.now) (atoms_of t)) (sym c.in-Bytes.is)
+returns-in_ok-take-in-Bytes-clause-state g c = nothing_changes (meant c.args.edits.now c.args.editor.now) c.args.token (none_open _ c.if-not-is_open.ensures) c.in-Bytes.is
