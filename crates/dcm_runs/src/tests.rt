@@ -121,11 +121,27 @@ fn over_std(
 
 const STEPS: [usize; 5] = [1, 2, 3, 7, 100_000];
 
+/// Expects that something is so in the run with this name. An assertion of its own at each place takes a proof longer.
+fn holds(rt: &impl Abort, name: &str, what: &str, is_so: bool) {
+    assert!(rt; is_so, "{name}: {what}");
+}
+
+/// Expects a status, an output and lines on standard error.
+fn expect_answer(
+    rt: &impl Abort,
+    name: &str,
+    answer: &Answer,
+    status: u8,
+    output: &[u8],
+    told: &[u8],
+) {
+    holds(rt, name, "status", answer.status == status);
+    holds(rt, name, "output", answer.output.as_slice() == output);
+    holds(rt, name, "standard error", answer.told.as_slice() == told);
+}
+
 fn expect(rt: &impl Abort, row: &Row, wanted: &[u8], answer: &Answer) {
-    let name = row.name;
-    assert_eq!(rt; answer.status, row.status, "{name}");
-    assert!(rt; answer.output.as_slice() == wanted, "{name}");
-    assert!(rt; answer.told.as_slice() == row.told, "{name}");
+    expect_answer(rt, row.name, answer, row.status, wanted, row.told);
 }
 
 fn expect_answers(rt: HostRuntime, abort: &impl Abort, row: &Row) -> Result<(), Fail> {

@@ -377,9 +377,9 @@ fn stays_halted(rt: HostRuntime) {
         signs: ArrayVec::new(),
     };
     let halt = refused(Fault::UnknownRepresentation, 172);
-    assert_eq!(rt; machine.feed(b"\x10\x00\x10\x00pn\x02", &mut sink), Ok(()));
-    assert_eq!(rt; machine.feed(b"\x00", &mut sink), halt);
-    assert_eq!(rt; machine.feed(b"AB", &mut sink), halt);
-    assert_eq!(rt; machine.finish(&mut sink), halt);
-    assert_eq!(rt; machine.feed(b"", &mut sink), halt);
+    assert!(rt; machine.feed(b"\x10\x00\x10\x00pn\x02", &mut sink) == Ok(()));
+    assert!(rt; machine.feed(b"\x00", &mut sink) == halt);
+    assert!(rt; machine.feed(b"AB", &mut sink) == halt);
+    assert!(rt; machine.finish(&mut sink) == halt);
+    assert!(rt; machine.feed(b"", &mut sink) == halt);
 }

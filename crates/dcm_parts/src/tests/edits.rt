@@ -2,32 +2,31 @@ use dcm_base::{Dictionary, EditRefusal, Tag, Vr};
 use dcm_edit::{Action, Edit, EditFault, Edits, Index, dictionary_said};
 use std::test::Fail;
 
-/// The edits that the words of a line mean, or the refusal.
-fn parsed(rt: HostRuntime, line: &'static str) -> Result<Result<Edits, EditFault>, Fail> {
-    let mut words: Vec<&[u8]> = Vec::new(rt.alloc());
+/// The words of a line.
+fn words_of(rt: HostRuntime, line: &'static str) -> Result<Vec<&'static [u8]>, Fail> {
+    let mut words = Vec::new(rt.alloc());
     for word in line.split(' ') {
         words.push(word.as_bytes())?;
     }
-    match Edits::parse(rt.alloc(), words.as_slice()) {
-        Err(EditFault::Memory) => Err(Fail::new("out of memory")),
-        answer => Ok(answer),
-    }
+    Ok(words)
 }
 
-/// The same by a dictionary.
+/// The edits that the words of a line mean by a dictionary, or the refusal.
 fn parsed_in(
     rt: HostRuntime,
     dictionary: Dictionary,
     line: &'static str,
 ) -> Result<Result<Edits, EditFault>, Fail> {
-    let mut words: Vec<&[u8]> = Vec::new(rt.alloc());
-    for word in line.split(' ') {
-        words.push(word.as_bytes())?;
-    }
+    let words = words_of(rt, line)?;
     match Edits::parse_in(rt.alloc(), dictionary, words.as_slice()) {
         Err(EditFault::Memory) => Err(Fail::new("out of memory")),
         answer => Ok(answer),
     }
+}
+
+/// The same by the extract.
+fn parsed(rt: HostRuntime, line: &'static str) -> Result<Result<Edits, EditFault>, Fail> {
+    parsed_in(rt, Dictionary::Extract, line)
 }
 
 #[test]
@@ -141,10 +140,7 @@ fn names_a_dictionary(rt: HostRuntime) -> Result<(), Fail> {
         ("+dict -m -dict", Dictionary::Standard),
         ("-e -e +dict", Dictionary::Standard),
     ] {
-        let mut words: Vec<&[u8]> = Vec::new(rt.alloc());
-        for word in line.split(' ') {
-            words.push(word.as_bytes())?;
-        }
+        let words = words_of(rt, line)?;
         assert!(rt; dictionary_said(words.as_slice()) == dictionary, "{line}");
     }
     Ok(())

@@ -259,7 +259,7 @@ fn escapes_bytes(rt: HostRuntime) {
 fn turns_units(rt: HostRuntime) {
     let mut bytes = [1, 2, 3, 4, 5, 6, 7];
     swap(4, &mut bytes);
-    assert_eq!(rt; bytes, [4, 3, 2, 1, 5, 6, 7]);
+    assert!(rt; bytes == [4, 3, 2, 1, 5, 6, 7]);
     let mut bytes = [0; 37];
     for (at, byte) in bytes.iter_mut().enumerate() {
         *byte = (at % 256) as u8;
@@ -269,6 +269,6 @@ fn turns_units(rt: HostRuntime) {
         swap(unit, &mut bytes);
         assert!(rt; unit == 1 || bytes[24] == before[24 + unit - 1]);
         swap(unit, &mut bytes);
-        assert_eq!(rt; bytes, before, "at {unit}");
+        assert!(rt; bytes == before, "at {unit}");
     }
 }

@@ -1,5 +1,6 @@
 // Words that are refused.
-use super::over_memory;
+use super::{expect_answer, over_memory};
+use std::process::Abort;
 use std::test::Fail;
 
 /// Words, and the line that is told of them.
@@ -70,15 +71,8 @@ const REFUSED: [(&str, &[u8]); 22] = [
     ),
 ];
 
-#[test]
-fn refuses_words(rt: HostRuntime) -> Result<(), Fail> {
-    for (words, line) in REFUSED {
-        let answer = over_memory(rt, words, b"", 1, 10)?;
-        assert_eq!(rt; answer.status, 1, "{words}");
-        assert!(rt; answer.output.is_empty(), "{words}");
-        assert!(rt; answer.told.as_slice() == line, "{words}");
-    }
-    Ok(())
+fn refused() -> &'static [(&'static str, &'static [u8])] {
+    &REFUSED
 }
 
 /// Words of dcmodify, and the line that is told of them.
@@ -216,14 +210,26 @@ fn refused_edits() -> &'static [(&'static str, &'static [u8])] {
     &REFUSED_EDITS
 }
 
-#[test]
-fn refuses_edits(rt: HostRuntime) -> Result<(), Fail> {
-    for refused in refused_edits() {
-        let (words, line) = *refused;
+/// Expects that each of these words is refused with its line, and nothing is written.
+fn expect_refused(
+    rt: HostRuntime,
+    abort: &impl Abort,
+    table: &[(&'static str, &'static [u8])],
+) -> Result<(), Fail> {
+    for row in table {
+        let (words, line) = *row;
         let answer = over_memory(rt, words, b"", 1, 10)?;
-        assert_eq!(rt; answer.status, 1, "{words}");
-        assert!(rt; answer.output.is_empty(), "{words}");
-        assert!(rt; answer.told.as_slice() == line, "{words}");
+        expect_answer(abort, words, &answer, 1, b"", line);
     }
     Ok(())
+}
+
+#[test]
+fn refuses_words(rt: HostRuntime) -> Result<(), Fail> {
+    expect_refused(rt, &rt, refused())
+}
+
+#[test]
+fn refuses_edits(rt: HostRuntime) -> Result<(), Fail> {
+    expect_refused(rt, &rt, refused_edits())
 }

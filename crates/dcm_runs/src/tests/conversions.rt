@@ -1,7 +1,7 @@
 // Conversions of files: what stands behind the meta group, and the bytes that are wanted of it.
 use super::rows::{Row, Start};
 
-pub const CONVERSIONS: [Row; 31] = [
+const CONVERSIONS: [Row; 31] = [
     Row {
         name: "an odd text",
         words: "dcmconv - -",

@@ -4,7 +4,7 @@ use super::conversions::conversions;
 use super::dictionaries::dictionaries;
 use super::modifications::modifications;
 use super::rows::{Row, Start, bytes_of, dumps, front_of};
-use super::{Answer, joined, over_memory};
+use super::{Answer, holds, joined, over_memory};
 use itoa::Buffer;
 use std::process::Abort;
 use std::test::Fail;
@@ -41,16 +41,16 @@ fn may_put(row: &Row) -> bool {
 /// Expects what is answered to a cut input: an early end at the cut, no transfer syntax so far, the fault of the whole, or
 /// none; and a beginning of the output.
 fn expect_cut(rt: &impl Abort, row: &Row, wanted: &[u8], early: &[u8], answer: &Answer) {
-    let name = row.name;
     let told = answer.told.as_slice();
-    if answer.status == 2 {
-        let is_early = told == early || told.starts_with(b"dcmtools: R5 at byte ");
-        assert!(rt; is_early || told == row.told, "{name}");
+    let is_answered = if answer.status == 2 {
+        told == early || told.starts_with(b"dcmtools: R5 at byte ") || told == row.told
     } else {
-        assert!(rt; answer.status == 0 || answer.status == 3, "{name}");
-    }
+        answer.status == 0 || answer.status == 3
+    };
+    holds(rt, row.name, "what a cut input is answered", is_answered);
     if has_usual_group(row) && writes_head(row) && (answer.status == 2 || !may_put(row)) {
-        assert!(rt; wanted.starts_with(answer.output.as_slice()), "{name}");
+        let is_front = wanted.starts_with(answer.output.as_slice());
+        holds(rt, row.name, "output of a cut input", is_front);
     }
 }
 
@@ -102,17 +102,18 @@ fn dictionaries_of_cut_files(rt: HostRuntime) -> Result<(), Fail> {
 /// Expects what is answered to the first lines of a dump: a file of them, the fault of the whole, no transfer syntax so far,
 /// or an end that is missing.
 fn expect_first_lines(rt: &impl Abort, row: &Row, wanted: &[u8], answer: &Answer) {
-    let name = row.name;
     let told = answer.told.as_slice();
-    if answer.status == 2 {
-        let is_early = told.starts_with(b"dcmtools: B7 at byte ")
-            || told.starts_with(b"dcmtools: B9 at byte ");
-        assert!(rt; is_early || told == row.told, "{name}");
+    let is_answered = if answer.status == 2 {
+        told.starts_with(b"dcmtools: B7 at byte ")
+            || told.starts_with(b"dcmtools: B9 at byte ")
+            || told == row.told
     } else {
-        assert_eq!(rt; answer.status, 0, "{name}");
-    }
+        answer.status == 0
+    };
+    holds(rt, row.name, "what first lines are answered", is_answered);
     if writes_head(row) {
-        assert!(rt; wanted.starts_with(answer.output.as_slice()), "{name}");
+        let is_front = wanted.starts_with(answer.output.as_slice());
+        holds(rt, row.name, "output of first lines", is_front);
     }
 }
 

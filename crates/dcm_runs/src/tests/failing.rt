@@ -7,7 +7,7 @@ mod dumps;
 mod modifications;
 
 use super::rows::{Row, bytes_of, front_of};
-use super::{joined, split};
+use super::{holds, joined, split};
 use dcm_cli::{Job, plan};
 use devices::{Failure, Good, Left, SOUND, run_over, sure_of};
 use itoa::Buffer;
@@ -46,64 +46,63 @@ fn unread_line(rt: HostRuntime, read: usize) -> Result<Vec<u8>, Fail> {
     Ok(line)
 }
 
-/// Whether bytes are a beginning of others.
-fn is_front(front: &[u8], whole: &[u8]) -> bool {
-    whole.starts_with(front)
-}
-
 /// Expects what every run leaves: nothing on a writer that had failed, and lines after all of the output.
-fn expect_order(rt: &impl Abort, row: &Row, left: &Left) {
-    assert_eq!(rt; left.late, 0, "{}", row.name);
-    assert!(rt; left.in_order, "{}", row.name);
+fn expect_order(rt: &impl Abort, name: &str, left: &Left) {
+    holds(rt, name, "calls after a failure", left.late == 0);
+    holds(rt, name, "lines before output", left.in_order);
 }
 
 /// Expects what the row's run leaves where no call fails.
 fn expect_whole(rt: &impl Abort, row: &Row, case: &Case, left: &Left) {
-    expect_order(rt, row, left);
-    assert_eq!(rt; left.status, row.status, "{}", row.name);
-    assert_eq!(rt; left.flushes, 1, "{}", row.name);
-    assert!(rt; left.output == case.whole, "{}", row.name);
-    assert!(rt; left.told.as_slice() == row.told, "{}", row.name);
+    let name = row.name;
+    expect_order(rt, name, left);
+    holds(rt, name, "status", left.status == row.status);
+    holds(rt, name, "flushes", left.flushes == 1);
+    holds(rt, name, "output", left.output == case.whole);
+    let is_told = left.told.as_slice() == row.told;
+    holds(rt, name, "standard error", is_told);
 }
 
 /// Expects what the row's run leaves where reading fails: what is sure of the bytes that were read, and this line.
-fn expect_unread(rt: &impl Abort, row: &Row, case: &Case, sure: &[u8], line: &[u8], left: &Left) {
-    expect_order(rt, row, left);
-    assert_eq!(rt; left.status, 4, "{}", row.name);
-    assert_eq!(rt; left.flushes, 1, "{}", row.name);
-    assert!(rt; left.output.as_slice() == sure, "{}", row.name);
-    assert!(rt; is_front(sure, case.whole.as_slice()), "{}", row.name);
-    assert!(rt; left.told.as_slice() == line, "{}", row.name);
+fn expect_unread(rt: &impl Abort, name: &str, case: &Case, sure: &[u8], line: &[u8], left: &Left) {
+    expect_order(rt, name, left);
+    holds(rt, name, "status", left.status == 4);
+    holds(rt, name, "flushes", left.flushes == 1);
+    holds(rt, name, "output", left.output.as_slice() == sure);
+    let is_front = case.whole.as_slice().starts_with(sure);
+    holds(rt, name, "what is sure", is_front);
+    holds(rt, name, "standard error", left.told.as_slice() == line);
 }
 
 /// Expects that the output failed after so many bytes and flushes.
 fn expect_unwritten(
     rt: &impl Abort,
-    row: &Row,
+    name: &str,
     case: &Case,
     wrote: usize,
     flushes: usize,
     left: &Left,
 ) {
-    expect_order(rt, row, left);
-    assert_eq!(rt; left.status, 4, "{}", row.name);
-    assert_eq!(rt; left.flushes, flushes, "{}", row.name);
-    assert_eq!(rt; left.output.len(), wrote, "{}", row.name);
-    assert!(rt;
-        is_front(left.output.as_slice(), case.whole.as_slice()),
-        "{}",
-        row.name
-    );
-    assert!(rt; left.told.as_slice() == OUTPUT_FAILED, "{}", row.name);
+    expect_order(rt, name, left);
+    holds(rt, name, "status", left.status == 4);
+    holds(rt, name, "flushes", left.flushes == flushes);
+    holds(rt, name, "bytes of output", left.output.len() == wrote);
+    let output = left.output.as_slice();
+    let is_front = case.whole.as_slice().starts_with(output);
+    holds(rt, name, "output", is_front);
+    let is_told = left.told.as_slice() == OUTPUT_FAILED;
+    holds(rt, name, "standard error", is_told);
 }
 
 /// Expects what the row's run leaves, of whose line so many bytes are told.
 fn expect_untold(rt: &impl Abort, row: &Row, case: &Case, told: usize, left: &Left) {
-    expect_order(rt, row, left);
-    assert_eq!(rt; left.status, row.status, "{}", row.name);
-    assert!(rt; left.output == case.whole, "{}", row.name);
-    assert_eq!(rt; left.told.len(), told, "{}", row.name);
-    assert!(rt; is_front(left.told.as_slice(), row.told), "{}", row.name);
+    let name = row.name;
+    expect_order(rt, name, left);
+    holds(rt, name, "status", left.status == row.status);
+    holds(rt, name, "output", left.output == case.whole);
+    holds(rt, name, "bytes of a line", left.told.len() == told);
+    let is_front = row.told.starts_with(left.told.as_slice());
+    holds(rt, name, "standard error", is_front);
 }
 
 /// Runs a case over a reader that fails after so many calls, and a writer whose flush may fail.
@@ -124,11 +123,18 @@ fn read_failing_behind(
     let left = run_over(rt, &case.job, case.input.as_slice(), good);
     if left.reading_failed {
         let sure = sure_of(rt, &case.job, case.input.as_slice(), reads)?;
-        expect_unread(abort, row, case, sure.as_slice(), line.as_slice(), &left);
+        expect_unread(
+            abort,
+            row.name,
+            case,
+            sure.as_slice(),
+            line.as_slice(),
+            &left,
+        );
     } else if flush {
         expect_whole(abort, row, case, &left);
     } else {
-        expect_unwritten(abort, row, case, case.whole.len(), 1, &left);
+        expect_unwritten(abort, row.name, case, case.whole.len(), 1, &left);
     }
     Ok(())
 }
@@ -151,7 +157,7 @@ fn write_failing_after(rt: HostRuntime, abort: &impl Abort, row: &Row, case: &Ca
             ..SOUND
         };
         let left = run_over(rt, &case.job, case.input.as_slice(), good);
-        expect_unwritten(abort, row, case, writes, 0, &left);
+        expect_unwritten(abort, row.name, case, writes, 0, &left);
     }
 }
 
@@ -188,6 +194,7 @@ fn expect_written(
     let case = case_of(rt, abort, row)?;
     let good = Good { reads, ..SOUND };
     let left = run_over(rt, &case.job, case.input.as_slice(), good);
-    assert!(abort; left.output.as_slice() == written, "{reads}");
+    let is_written = left.output.as_slice() == written;
+    holds(abort, row.name, "what is sure", is_written);
     Ok(())
 }

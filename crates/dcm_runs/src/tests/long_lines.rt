@@ -1,7 +1,6 @@
 // Lines of a dump that come to a limit.
 use super::rows::{Start, bytes_of};
-use super::{Answer, STEPS, over_memory};
-use std::process::Abort;
+use super::{STEPS, expect_answer, over_memory};
 use std::test::Fail;
 
 const SYNTAX_LINE: &[u8] = b"(0002,0010) UI =LittleEndianExplicit\n";
@@ -32,12 +31,6 @@ fn comments(rt: HostRuntime, letters: usize) -> Result<Vec<u8>, Fail> {
     Ok(lines)
 }
 
-fn expect(rt: &impl Abort, answer: &Answer, status: u8, output: &[u8], told: &[u8]) {
-    assert_eq!(rt; answer.status, status);
-    assert!(rt; answer.output.as_slice() == output);
-    assert!(rt; answer.told.as_slice() == told);
-}
-
 #[test]
 fn longest_line(rt: HostRuntime) -> Result<(), Fail> {
     let lines = comments(rt, MOST_LETTERS)?;
@@ -47,7 +40,7 @@ fn longest_line(rt: HostRuntime) -> Result<(), Fail> {
     file.push(b' ')?;
     for step in STEPS {
         let answer = over_memory(rt, WORDS, lines.as_slice(), step, ROOM)?;
-        expect(&rt, &answer, 0, file.as_slice(), b"");
+        expect_answer(&rt, "longest line", &answer, 0, file.as_slice(), b"");
     }
     Ok(())
 }
@@ -58,7 +51,7 @@ fn line_too_long(rt: HostRuntime) -> Result<(), Fail> {
     for step in STEPS {
         let answer = over_memory(rt, WORDS, lines.as_slice(), step, ROOM)?;
         let told = b"dcmtools: B1 at byte 37, line 2: line too long\n";
-        expect(&rt, &answer, 2, b"", told);
+        expect_answer(&rt, "line too long", &answer, 2, b"", told);
     }
     Ok(())
 }
@@ -70,7 +63,14 @@ fn value_that_was_cut(rt: HostRuntime) -> Result<(), Fail> {
     for step in STEPS {
         let answer = over_memory(rt, WORDS, lines.as_slice(), step, ROOM)?;
         let told = b"dcmtools: B3 at byte 37, line 2: value does not fit\n";
-        expect(&rt, &answer, 2, bytes_of(Start::ExplicitLittle), told);
+        expect_answer(
+            &rt,
+            "value that was cut",
+            &answer,
+            2,
+            bytes_of(Start::ExplicitLittle),
+            told,
+        );
     }
     Ok(())
 }
@@ -89,7 +89,7 @@ fn sixty_fifth_sequence(rt: HostRuntime) -> Result<(), Fail> {
     for step in STEPS {
         let answer = over_memory(rt, WORDS, lines.as_slice(), step, ROOM)?;
         let told = b"dcmtools: B8 at byte 5925, line 130: nested too deep\n";
-        expect(&rt, &answer, 2, file.as_slice(), told);
+        expect_answer(&rt, "65th sequence", &answer, 2, file.as_slice(), told);
     }
     Ok(())
 }

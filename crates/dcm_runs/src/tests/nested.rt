@@ -1,6 +1,6 @@
 // Deep and long files.
 use super::rows::{Start, bytes_of, header_of};
-use super::{STEPS, joined, over_memory, over_std};
+use super::{STEPS, expect_answer, holds, joined, over_memory, over_std};
 use std::test::Fail;
 
 const SEQUENCE: &[u8] = b"\x08\0@\x11SQ\0\0\xff\xff\xff\xff";
@@ -68,9 +68,7 @@ fn sixty_four_sequences(rt: HostRuntime) -> Result<(), Fail> {
     }
     for step in STEPS {
         let answer = over_memory(rt, "dcmdump -", file.as_slice(), step, 60_000)?;
-        assert_eq!(rt; answer.status, 0);
-        assert!(rt; answer.output == lines);
-        assert!(rt; answer.told.is_empty());
+        expect_answer(&rt, "64 sequences", &answer, 0, lines.as_slice(), b"");
     }
     Ok(())
 }
@@ -90,9 +88,7 @@ fn sixty_four_sequences_kept(rt: HostRuntime) -> Result<(), Fail> {
     let file = sixty_four(rt)?;
     for step in STEPS {
         let answer = over_memory(rt, "dcmconv - -", file.as_slice(), step, 60_000)?;
-        assert_eq!(rt; answer.status, 0);
-        assert!(rt; answer.output == file);
-        assert!(rt; answer.told.is_empty());
+        expect_answer(&rt, "64 sequences kept", &answer, 0, file.as_slice(), b"");
     }
     Ok(())
 }
@@ -104,12 +100,8 @@ fn one_more(rt: HostRuntime) -> Result<(), Fail> {
         let file = nested(rt, behind)?;
         for step in STEPS {
             let answer = over_std(rt, "dcmdump -", file.as_slice(), step)?;
-            assert_eq!(rt; answer.status, 2);
-            assert!(rt; answer.output == lines);
-            assert!(rt;
-                answer.told.as_slice()
-                    == b"dcmtools: R11 at byte 1452: nested too deep\n".as_slice()
-            );
+            let told = b"dcmtools: R11 at byte 1452: nested too deep\n";
+            expect_answer(&rt, "one more", &answer, 2, lines.as_slice(), told);
         }
     }
     Ok(())
@@ -129,9 +121,10 @@ fn largest_meta_group(rt: HostRuntime) -> Result<(), Fail> {
         b"(0002,0102) OB 00\\00\\00\\00\\00\\00\\00\\00\\00\\00\\00\\00\\00\\00\\00\\00\\00\\00\\00\\00\\00\\... # 16332, 1 PrivateInformation\n\n# Dicom-Data-Set\n# Used TransferSyntax: LittleEndianExplicit\n".as_slice();
     for step in STEPS {
         let answer = over_memory(rt, "dcmdump -", file.as_slice(), step, 3000)?;
-        assert_eq!(rt; answer.status, 0);
-        assert!(rt; answer.output.ends_with(wanted));
-        assert!(rt; answer.told.is_empty());
+        let is_dumped = answer.status == 0 && answer.told.is_empty();
+        holds(&rt, "largest meta group", "status", is_dumped);
+        let is_shown = answer.output.ends_with(wanted);
+        holds(&rt, "largest meta group", "output", is_shown);
     }
     Ok(())
 }
@@ -156,9 +149,7 @@ fn text_past_its_short_form(rt: HostRuntime) -> Result<(), Fail> {
     let wanted = letters(rt, Start::ExplicitLittle, head, b" ")?;
     for step in STEPS {
         let answer = over_std(rt, "dcmconv +te - -", file.as_slice(), step)?;
-        assert_eq!(rt; answer.status, 0);
-        assert!(rt; answer.output == wanted);
-        assert!(rt; answer.told.is_empty());
+        expect_answer(&rt, "a long text", &answer, 0, wanted.as_slice(), b"");
     }
     Ok(())
 }

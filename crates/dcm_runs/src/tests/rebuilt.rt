@@ -1,7 +1,7 @@
 // Files that are dumped in full, and built again of their dumps.
 use super::nested::sixty_four;
 use super::rows::{Start, bytes_of, header_of};
-use super::{Answer, STEPS, joined, over_memory, over_std};
+use super::{Answer, STEPS, expect_answer, holds, joined, over_memory, over_std};
 use std::process::Abort;
 use std::test::Fail;
 
@@ -157,8 +157,8 @@ fn output_of(
     step: usize,
 ) -> Result<Vec<u8>, Fail> {
     let answer = over(rt, devices, words, input, step)?;
-    assert_eq!(abort; answer.status, 0, "{words}");
-    assert!(abort; answer.told.is_empty(), "{words}");
+    let is_well = answer.status == 0 && answer.told.is_empty();
+    holds(abort, words, "status", is_well);
     Ok(answer.output)
 }
 
@@ -212,9 +212,15 @@ fn expect_rebuilt_by(
                 dump.as_slice(),
                 step,
             )?;
-            assert!(abort; answer.as_slice() == built, "{name}");
+            holds(
+                abort,
+                name,
+                "file that is built",
+                answer.as_slice() == built,
+            );
             let answer = output_of(rt, abort, devices, words.convert, file, step)?;
-            assert!(abort; answer.as_slice() == converted, "{name}");
+            let is_converted = answer.as_slice() == converted;
+            holds(abort, name, "conversion", is_converted);
         }
     }
     Ok(())
@@ -359,15 +365,12 @@ fn a_long_line_is_refused(rt: HostRuntime) -> Result<(), Fail> {
     }
     for step in STEPS {
         let dump = output_of(rt, &rt, Devices::Std, "dcmdump +L -", file.as_slice(), step)?;
-        assert!(rt; dump.as_slice().starts_with(header_of(Start::Implicit)));
+        let has_header = dump.as_slice().starts_with(header_of(Start::Implicit));
+        holds(&rt, "a long line", "header of the dump", has_header);
         for devices in [Devices::Memory, Devices::Std] {
             let answer = over(rt, devices, "dump2dcm +l 16384 - -", dump.as_slice(), step)?;
-            assert_eq!(rt; answer.status, 2);
-            assert!(rt; answer.output.is_empty());
-            assert!(rt;
-                answer.told.as_slice()
-                    == b"dcmtools: B1 at byte 338, line 10: line too long\n".as_slice()
-            );
+            let told = b"dcmtools: B1 at byte 338, line 10: line too long\n";
+            expect_answer(&rt, "a long line", &answer, 2, b"", told);
         }
     }
     Ok(())

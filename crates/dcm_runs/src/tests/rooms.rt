@@ -3,7 +3,7 @@ use super::buildings::buildings;
 use super::conversions::conversions;
 use super::modifications::modifications;
 use super::rows::{Row, bytes_of, dumps, front_of};
-use super::{joined, room, split};
+use super::{Answer, expect, holds, joined, room, split};
 use dcm_base::{MemIn, MemOut};
 use dcm_cli::in_memory::run_in_memory;
 use dcm_cli::plan;
@@ -19,7 +19,7 @@ fn run_in_room(
     abort: &impl Abort,
     row: &Row,
     size: usize,
-) -> Result<(u8, Vec<u8>, Vec<u8>), Fail> {
+) -> Result<Answer, Fail> {
     let words = split(rt, row.words)?;
     let planned = match plan(rt.alloc(), words.as_slice()) {
         Ok(planned) => planned,
@@ -30,26 +30,25 @@ fn run_in_room(
     let out = MemOut::new(room(rt, size)?);
     let errors = MemOut::new(room(rt, row.told.len())?);
     let left = run_in_memory(&planned.job, input, out, errors);
-    Ok((
-        left.status,
-        left.out.written().to_vec(rt.alloc())?,
-        left.errors.written().to_vec(rt.alloc())?,
-    ))
+    Ok(Answer {
+        status: left.status,
+        output: left.out.written().to_vec(rt.alloc())?,
+        told: left.errors.written().to_vec(rt.alloc())?,
+    })
 }
 
 /// Expects the whole answer where there is room for it, and status 4 where a byte is missing.
 fn expect_rooms(rt: HostRuntime, abort: &impl Abort, row: &Row) -> Result<(), Fail> {
     let wanted = joined(rt, front_of(row), row.lines)?;
-    let (status, output, told) = run_in_room(rt, abort, row, wanted.len())?;
-    assert_eq!(abort; status, row.status, "{}", row.name);
-    assert!(abort; output == wanted, "{}", row.name);
-    assert!(abort; told.as_slice() == row.told, "{}", row.name);
+    let answer = run_in_room(rt, abort, row, wanted.len())?;
+    expect(abort, row, wanted.as_slice(), &answer);
     if wanted.is_empty() {
         return Ok(());
     }
-    let (status, output, _) = run_in_room(rt, abort, row, wanted.len() - 1)?;
-    assert_eq!(abort; status, 4, "{}", row.name);
-    assert!(abort; wanted.starts_with(output.as_slice()), "{}", row.name);
+    let answer = run_in_room(rt, abort, row, wanted.len() - 1)?;
+    holds(abort, row.name, "status without room", answer.status == 4);
+    let is_front = wanted.starts_with(answer.output.as_slice());
+    holds(abort, row.name, "output without room", is_front);
     Ok(())
 }
 

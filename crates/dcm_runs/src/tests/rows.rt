@@ -78,7 +78,7 @@ const JPEG: &[u8] =
 const JPEG_HEADER: &[u8] =
     b"# Dicom-File-Format\n\n# Dicom-Meta-Information-Header\n# Used TransferSyntax: LittleEndianExplicit\n(0002,0000) UL 30                                       #   4, 1 FileMetaInformationGroupLength\n(0002,0010) UI =JPEGBaseline                            #  22, 1 TransferSyntaxUID\n\n# Dicom-Data-Set\n# Used TransferSyntax: JPEGBaseline\n";
 
-pub const ROWS: [Row; 41] = [
+const ROWS: [Row; 41] = [
     Row {
         name: "a file without elements",
         words: "dcmdump -",

@@ -1,6 +1,6 @@
 // Conversions over devices that fail.
 use super::{expect_written, read_failing, tell_failing, write_failing};
-use crate::tests::conversions::{CONVERSIONS, conversions};
+use crate::tests::conversions::conversions;
 use crate::tests::joined;
 use crate::tests::rows::{Start, bytes_of};
 use std::test::Fail;
@@ -45,7 +45,9 @@ const HEAD: &[u8] = b"\x7f\xe0\0\x10OW\0\0\0\0\0\x04";
 
 #[test]
 fn what_is_sure_is_written(rt: HostRuntime) -> Result<(), Fail> {
-    let row = &CONVERSIONS[WORDS];
+    let Some(row) = conversions().get(WORDS) else {
+        panic!(rt; "too few rows");
+    };
     let group = bytes_of(Start::Big);
     let opened = joined(rt, group, HEAD)?;
     let one_word = joined(rt, opened.as_slice(), b"\x02\x01")?;

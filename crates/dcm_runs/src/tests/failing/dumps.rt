@@ -1,7 +1,7 @@
 // Dumps over devices that fail.
 use super::{expect_written, read_failing, tell_failing, write_failing};
 use crate::tests::joined;
-use crate::tests::rows::{ROWS, Row, dumps, header_of};
+use crate::tests::rows::{Row, dumps, header_of};
 use std::process::Abort;
 use std::test::Fail;
 
@@ -56,21 +56,22 @@ fn telling_fails(rt: HostRuntime) -> Result<(), Fail> {
     Ok(())
 }
 
-#[test]
-fn output_begins_after_the_group(rt: HostRuntime) -> Result<(), Fail> {
-    let row = &ROWS[1];
-    expect_written(rt, &rt, row, 172, b"")?;
-    expect_written(rt, &rt, row, 174, header_of(row.header))
-}
+/// The place of the row of a name.
+const NAME: usize = 1;
 
 #[test]
-fn a_text_is_written_as_it_comes(rt: HostRuntime) -> Result<(), Fail> {
-    let row = Row {
-        words: "dcmdump +L -",
-        ..ROWS[1]
+fn what_is_sure_is_written(rt: HostRuntime) -> Result<(), Fail> {
+    let Some(short) = dumps().get(NAME) else {
+        panic!(rt; "too few rows");
     };
-    let header = header_of(row.header);
+    let header = header_of(short.header);
+    expect_written(rt, &rt, short, 172, b"")?;
+    expect_written(rt, &rt, short, 174, header)?;
+    let full = Row {
+        words: "dcmdump +L -",
+        ..*short
+    };
     let begun = joined(rt, header, b"(0010,0010) PN [AB")?;
-    expect_written(rt, &rt, &row, 179, header)?;
-    expect_written(rt, &rt, &row, 182, begun.as_slice())
+    expect_written(rt, &rt, &full, 179, header)?;
+    expect_written(rt, &rt, &full, 182, begun.as_slice())
 }
