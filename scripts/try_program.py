@@ -13,7 +13,7 @@ import tempfile
 ROOT = os.path.dirname(os.path.dirname(os.path.abspath(__file__)))
 with open(os.path.join(ROOT, "examples", "name.dcm"), "rb") as example:
     NAME = example.read()
-with open(os.path.join(ROOT, "crates", "run_conversion", "stdout"), "rb") as converted:
+with open(os.path.join(ROOT, "examples", "name-big.dcm"), "rb") as converted:
     BIG = converted.read()
 
 # the preamble, the prefix and a meta group of a JPEG syntax

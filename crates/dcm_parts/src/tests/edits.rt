@@ -1,3 +1,4 @@
+use super::holds;
 use dcm_base::{Dictionary, EditRefusal, Tag, Vr};
 use dcm_edit::{Action, Edit, EditFault, Edits, Index, dictionary_said};
 use std::test::Fail;
@@ -41,8 +42,8 @@ fn takes_edits_of_the_standard(rt: HostRuntime) -> Result<(), Fail> {
         ("-m PatientName=A", 1),
     ] {
         match parsed_in(rt, Dictionary::Standard, line)? {
-            Ok(edits) => assert!(rt; edits.len() == count, "{line}"),
-            Err(fault) => assert!(rt; false, "{line}: {fault:?}"),
+            Ok(edits) => holds(&rt, line, edits.len() == count),
+            Err(_) => holds(&rt, line, false),
         }
     }
     Ok(())
@@ -120,8 +121,8 @@ fn refuses_edits_of_the_standard(rt: HostRuntime) -> Result<(), Fail> {
         ),
     ] {
         match parsed_in(rt, dictionary, line)? {
-            Ok(_) => assert!(rt; false, "{line}"),
-            Err(fault) => assert!(rt; fault == EditFault::Refused(refusal, number), "{line}"),
+            Ok(_) => holds(&rt, line, false),
+            Err(fault) => holds(&rt, line, fault == EditFault::Refused(refusal, number)),
         }
     }
     Ok(())
@@ -141,7 +142,7 @@ fn names_a_dictionary(rt: HostRuntime) -> Result<(), Fail> {
         ("-e -e +dict", Dictionary::Standard),
     ] {
         let words = words_of(rt, line)?;
-        assert!(rt; dictionary_said(words.as_slice()) == dictionary, "{line}");
+        holds(&rt, line, dictionary_said(words.as_slice()) == dictionary);
     }
     Ok(())
 }
@@ -161,8 +162,8 @@ fn takes_edits(rt: HostRuntime) -> Result<(), Fail> {
         ("-m PatientName", 1),
     ] {
         match parsed(rt, line)? {
-            Ok(edits) => assert!(rt; edits.len() == count, "{line}"),
-            Err(fault) => assert!(rt; false, "{line}: {fault:?}"),
+            Ok(edits) => holds(&rt, line, edits.len() == count),
+            Err(_) => holds(&rt, line, false),
         }
     }
     Ok(())
@@ -190,8 +191,8 @@ fn refuses_edits(rt: HostRuntime) -> Result<(), Fail> {
         ("-ep -e", EditRefusal::BadOption, 2),
     ] {
         match parsed(rt, line)? {
-            Ok(_) => assert!(rt; false, "{line}"),
-            Err(fault) => assert!(rt; fault == EditFault::Refused(refusal, number), "{line}"),
+            Ok(_) => holds(&rt, line, false),
+            Err(fault) => holds(&rt, line, fault == EditFault::Refused(refusal, number)),
         }
     }
     Ok(())
@@ -222,10 +223,10 @@ fn keeps_paths_and_values(rt: HostRuntime) -> Result<(), Fail> {
     };
     match parsed(rt, line)? {
         Ok(edits) => match edits.list() {
-            [edit] => assert!(rt; inserts(edit, 12, tag, Vr::UI, b"1.2")),
-            _ => assert!(rt; false),
+            [edit] => holds(&rt, line, inserts(edit, 12, tag, Vr::UI, b"1.2")),
+            _ => holds(&rt, line, false),
         },
-        Err(_) => assert!(rt; false),
+        Err(_) => holds(&rt, line, false),
     }
     Ok(())
 }
@@ -239,10 +240,10 @@ fn keeps_representations_of_the_standard(rt: HostRuntime) -> Result<(), Fail> {
     };
     match parsed_in(rt, Dictionary::Standard, line)? {
         Ok(edits) => match edits.list() {
-            [edit] => assert!(rt; inserts(edit, 3, tag, Vr::IS, b"1")),
-            _ => assert!(rt; false),
+            [edit] => holds(&rt, line, inserts(edit, 3, tag, Vr::IS, b"1")),
+            _ => holds(&rt, line, false),
         },
-        Err(_) => assert!(rt; false),
+        Err(_) => holds(&rt, line, false),
     }
     Ok(())
 }

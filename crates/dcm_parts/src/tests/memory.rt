@@ -1,3 +1,4 @@
+use super::holds;
 use dcm_edit::{EditFault, Edits};
 use dcm_words::{Job, Usage, plan};
 use linked_list_allocator::LocalHeap;
@@ -150,7 +151,7 @@ fn refuses_each_growth_of_the_list(rt: HostRuntime) -> Result<(), Fail> {
         (63, false),
     ] {
         let growth = growth_of_list(rt, count)?;
-        assert!(rt; (growth > 0) == grows, "{count} edits: {growth}");
+        expect((growth > 0) == grows, "the list grows at another count")?;
     }
     Ok(())
 }
@@ -171,10 +172,10 @@ fn refuses_each_growth_of_a_path(rt: HostRuntime) -> Result<(), Fail> {
         (64, false),
     ] {
         let next = least_heap_of_path(rt, steps)?;
-        assert!(rt;
+        expect(
             next >= least && (next > least) == grows,
-            "{steps} steps: {next}"
-        );
+            "a path grows at another count",
+        )?;
         least = next;
     }
     Ok(())
@@ -198,7 +199,7 @@ fn refuses_each_value(rt: HostRuntime) -> Result<(), Fail> {
     ] {
         let least = least_heap(rt, words_of(rt, line)?.as_slice())?;
         let next = least_heap(rt, words_of(rt, longer)?.as_slice())?;
-        assert!(rt; next > least, "{longer}: {next}");
+        holds(&rt, longer, next > least);
     }
     Ok(())
 }
@@ -218,7 +219,7 @@ fn refuses_memory_of_a_plan(rt: HostRuntime) -> Result<(), Fail> {
     ] {
         let least = least_heap(rt, words_of(rt, edits)?.as_slice())?;
         let of_plan = least_heap_of_plan(rt, words_of(rt, line)?.as_slice())?;
-        assert!(rt; of_plan == least, "{line}: {of_plan}");
+        holds(&rt, line, of_plan == least);
     }
     Ok(())
 }

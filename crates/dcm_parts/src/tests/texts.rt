@@ -269,6 +269,6 @@ fn turns_units(rt: HostRuntime) {
         swap(unit, &mut bytes);
         assert!(rt; unit == 1 || bytes[24] == before[24 + unit - 1]);
         swap(unit, &mut bytes);
-        assert!(rt; bytes == before, "at {unit}");
+        assert!(rt; bytes == before);
     }
 }

@@ -1,3 +1,4 @@
+use super::holds;
 use dcm_base::{Dictionary, EditRefusal, Mode, Syntax, WordFault};
 use dcm_words::{Convert, Dump, Job, Modify, Planned, Usage, plan};
 use std::test::Fail;
@@ -37,7 +38,7 @@ fn plans_edits(rt: HostRuntime) -> Result<(), Fail> {
         ("dcmodify -ep in in", Err(Usage::Whole(WordFault::SamePath))),
     ] {
         let planned = edits_of(rt, line)?;
-        assert!(rt; planned == expected, "{line}: {planned:?}");
+        holds(&rt, line, planned == expected);
     }
     Ok(())
 }
@@ -116,7 +117,7 @@ fn plans_dictionaries(rt: HostRuntime) -> Result<(), Fail> {
         ),
     ] {
         let planned = dictionary_of(rt, line)?;
-        assert!(rt; planned == Ok(dictionary), "{line}: {planned:?}");
+        holds(&rt, line, planned == Ok(dictionary));
     }
     Ok(())
 }
@@ -166,7 +167,7 @@ fn refuses_dictionaries(rt: HostRuntime) -> Result<(), Fail> {
         ),
     ] {
         let planned = dictionary_of(rt, line)?;
-        assert!(rt; planned == Err(usage), "{line}: {planned:?}");
+        holds(&rt, line, planned == Err(usage));
     }
     Ok(())
 }

@@ -1,9 +1,0 @@
-//! The program dcmtools, for the gate to run with a conversion.
-#![tactic(auto)]
-
-use dcm_cli::dcmtools;
-use std::process::ExitCode;
-
-fn main(rt: HostRuntime) -> ExitCode {
-    ExitCode::from(dcmtools(rt))
-}
