@@ -46,7 +46,6 @@ pub use level::{Container, Level, MOST_LISTS};
 pub use lookup::{Dictionary, element_in, keyword_in, tag_in, vr_in};
 pub use memory::{Measured, MemIn, MemOut};
 pub use mode::Mode;
-pub use standard::{Entry, KEYWORDS, STANDARD};
 pub use std_device::Std;
 pub use syntax::{Coding, Syntax};
 pub use tag::{ITEM_GROUP, META_GROUP, Tag};

@@ -12,9 +12,9 @@ use crate::vr::Vr;
 /// A dictionary of data elements (PS3.6 section 6).
 #[derive(Clone, Copy, Debug, PartialEq, Eq)]
 pub enum Dictionary {
-    /// The extract: `ELEMENTS`.
+    /// The extract, 90 elements: `ELEMENTS`.
     Extract,
-    /// All elements of the standard that have one value representation, and PixelData: `STANDARD`.
+    /// All 4,862 elements of the standard that have one value representation, and PixelData.
     Standard,
 }
 

@@ -15,7 +15,7 @@ use Rattle.dcm_base.specs.NewMeta.{new_meta}
 use Rattle.dcm_base.specs.Header.{set_header, meta_header}
 use Rattle.dcm_base.specs.Dump.{dump_front}
 use Rattle.dcm_base.specs.Recode.{recode}
-use Rattle.dcm_edit.specs.Edit.{Edit, edited, found}
+use Rattle.dcm_edit_words.specs.Edit.{Edit, edited, found}
 use Rattle.dcm_base.specs.Fault.{fault_number, fault_text, line_fault_number, line_fault_text}
 use Rattle.dcm_base.specs.Build as build
 use Rattle.dcm_base.specs.declared.fault.LineStop.{LineStop}

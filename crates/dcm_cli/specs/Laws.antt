@@ -6,7 +6,7 @@ use Rattle.dcm_base.specs.MetaReads.{Meta}
 use Rattle.dcm_base.specs.declared.tag.Tag.{Tag}
 use Rattle.dcm_base.specs.declared.vr.Vr.{Vr}
 use Rattle.dcm_base.specs.declared.lookup.Dictionary.{Dictionary}
-use Rattle.dcm_edit.specs.Edit.{Edit, erase_all, erase_private, modify_all}
+use Rattle.dcm_edit_words.specs.Edit.{Edit, erase_all, erase_private, modify_all}
 use Rattle.dcm_edit.specs.Everywhere.{Among, EverywhereIn, IsOther, IsPublic, IsWrittenJust}
 use Rattle.dcm_edit.specs.Repeating.{EraseByNoNumber}
 use Rattle.dcm_words.specs.declared.job.Job.{Job}

@@ -13,14 +13,14 @@ use Rattle.dcm_base.specs.Reads.{INPUT_LIMIT, Reads}
 use Rattle.dcm_base.specs.Recode.{recode}
 use Rattle.dcm_base.specs.Stop.{complete}
 use Rattle.dcm_base.specs.Transfer.{native}
-use Rattle.dcm_edit.specs.Edit.{Edit, edited}
+use Rattle.dcm_edit_words.specs.Edit.{Edit, edited}
 use Rattle.dcm_tools.specs.MetaAgain.{meta_again}
 use Rattle.dcm_base.specs.declared.mode.Mode.TheVariants.{Full}
 use Rattle.dcm_base.specs.Syntax.{dictionary_of, read_by, is_big}
 use Rattle.dcm_base.specs.declared.lookup.Dictionary.{Dictionary}
 use Rattle.dcm_words.specs.Words.{convert, dump, modify}
 use Rattle.dcm_cli.specs.Answer.{Answer, HeadIs, FileReads, ReadAnswers, Source, alone, file, set_at, target_syntax, target_uid, unopened}
-use Rattle.dcm_edit.specs.EditWords.{meant_edits_in}
+use Rattle.dcm_edit_words.specs.EditWords.{meant_edits_in}
 use Rattle.dcm_base.specs.declared.syntax.Syntax.TheVariants.{Implicit as implicit_in}
 
 -- a file is read without fault, by a dump as well as by a conversion to its own transfer syntax

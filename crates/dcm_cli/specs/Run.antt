@@ -6,8 +6,8 @@ use Rattle.dcm_base.specs.declared.fault.LineStop.{LineStop}
 use Rattle.dcm_base.specs.Device.{AppendsFront}
 use Rattle.dcm_base.specs.Front.{Front}
 use Rattle.dcm_base.specs.Stop.{Stop, complete, refused}
-use Rattle.dcm_edit.specs.Edit.{Edit, found}
-use Rattle.dcm_edit.specs.Meaning.{AreMeant}
+use Rattle.dcm_edit_words.specs.Edit.{Edit, found}
+use Rattle.dcm_edit_words.specs.Meaning.{AreMeant}
 use Rattle.dcm_words.specs.Words.{Job, build as building, modify}
 use Rattle.dcm_cli.specs.declared.ending.Ending.{Ending}
 use Rattle.dcm_cli.specs.declared.ending.Ending.TheVariants as endings

@@ -1,7 +1,7 @@
 // The edits of a file.
 ghost use Rattle.std.specs.Prelude.{◌≡◌, ◌≤◌, ◌<◌, ◌+◌, ◌^◌, length, true};
 ghost use Rattle.std.specs.Io.KnownBytes.{IsAtEnd};
-ghost use Rattle.dcm_edit.specs.Meaning.{AreMeant};
+ghost use Rattle.dcm_edit_words.specs.Meaning.{AreMeant};
 ghost use Rattle.dcm_stream.specs.Sinks as sinks;
 ghost use Rattle.dcm_words.specs.Words.{modify as modify_job};
 ghost use Rattle.dcm_cli.specs.Calls as calls;

@@ -1,7 +1,6 @@
 -- The edits as bits of a mask.
 pub mod Found
 pub mod Bits
-pub mod Selection
 pub mod Meaning
 pub mod Answering
 pub mod Editing

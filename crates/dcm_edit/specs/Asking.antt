@@ -5,14 +5,15 @@ use Rattle.std.specs.Borrow.{Bor}
 use Rattle.dcm_base.specs.declared.tag.Tag.{Tag}
 use Rattle.dcm_base.specs.declared.vr.Vr.{Vr}
 use Rattle.dcm_base.specs.Tag.{below, same_tag}
-use Rattle.dcm_edit.specs.Edit.{Index, number, every, selects, PathEdit, step, insert, modify, erase, erase_item, Edit, on_path, modify_all, erase_all, erase_private, elsewhere, within, fate, acts, erases, NewElement, no_element, new_leaf, new_sequence, element_of}
-use Rattle.dcm_edit.specs.Edit as spec
-use Rattle.dcm_edit.specs.NewOnes.{above_last, is_between, passes_new}
-use Rattle.dcm_edit.specs.EditSink.{has_place, makes, steps, depth, AreWithin}
+use Rattle.dcm_edit_words.specs.Edit.{Index, number, every, selects, PathEdit, step, insert, modify, erase, erase_item, Edit, on_path, modify_all, erase_all, erase_private, elsewhere, within, fate, acts, erases, NewElement, no_element, new_leaf, new_sequence, element_of}
+use Rattle.dcm_edit_words.specs.Edit as spec
+use Rattle.dcm_edit_words.specs.NewOnes.{above_last, is_between, passes_new}
+use Rattle.dcm_edit.specs.EditSink.{has_place, makes}
+use Rattle.dcm_edit_words.specs.Bounds.{steps, depth, AreWithin}
 use Rattle.dcm_edit.specs.Masks.{is_set, at_depth, goes_along}
-use Rattle.dcm_edit.specs.Meaning.{index_of}
-use Rattle.dcm_edit.specs.declared.edit.NewElement.{NewElement as Element}
-use Rattle.dcm_edit.specs.declared.edit.Step.{Step}
+use Rattle.dcm_edit_words.specs.Meaning.{index_of}
+use Rattle.dcm_edit_words.specs.declared.edit.NewElement.{NewElement as Element}
+use Rattle.dcm_edit_words.specs.declared.edit.Step.{Step}
 use Rattle.dcm_edit.specs.declared.asked.Fate.{Fate}
 use Rattle.dcm_edit.specs.declared.asked.Fate.TheVariants as fates
 use Rattle.dcm_edit.specs.declared.asked.Gap.{Gap}

@@ -1,15 +1,13 @@
 -- All edits in one pass over the atoms of a data set.
-use Rattle.std.specs.Prelude.{◌≡◌, ◌<◌, ◌≤◌, ℕ, zero, suc, min, nat_lt, length, List, [], ◌∷◌, Option, Some, None, Bool, true, false, ◌||◌, map, if◌then◌else◌}
+use Rattle.std.specs.Prelude.{◌≡◌, ℕ, zero, suc, min, nat_lt, length, List, [], ◌∷◌, Option, Some, None, Bool, true, false, ◌||◌, map, if◌then◌else◌}
 use Rattle.dcm_base.specs.declared.tag.Tag.{Tag}
 use Rattle.dcm_base.specs.declared.vr.Vr.{Vr}
 use Rattle.dcm_base.specs.declared.length.Length.{Length}
-use Rattle.dcm_base.specs.declared.length.Length.TheVariants.{Known}
 use Rattle.dcm_base.specs.Syntax.{Little}
 use Rattle.dcm_base.specs.Tag.{is_above}
 use Rattle.dcm_base.specs.Tree.{no_tree, leaf}
 use Rattle.dcm_base.specs.Front.{Front, front, OpenTree, nothing_open, open_leaf, open_sequence, open_fragments, OpenItem, no_open_item, open_item}
-use Rattle.dcm_base.specs.declared.form.Form.TheVariants.{Value as a_value}
-use Rattle.dcm_base.specs.Spelling.{form, reached_tag}
+use Rattle.dcm_base.specs.Spelling.{reached_tag}
 use Rattle.dcm_base.specs.Atoms.{Atom, opens, value_byte, closes_leaf, opens_item, closes_item, closes_sequence, opens_fragment, ends, Shows, trees_then}
 use Rattle.dcm_base.specs.Bars.{ascending_bar}
 use Rattle.dcm_head.specs.declared.head.Head.{Head}
@@ -18,9 +16,9 @@ use Rattle.dcm_stream.specs.declared.token.Bar.TheVariants.{Order}
 use Rattle.dcm_stream.specs.Driven.{bars_by}
 use Rattle.dcm_stream.specs.Skip.{opened, closed}
 use Rattle.dcm_tools.specs.Laws.{StaysShallow}
-use Rattle.dcm_edit.specs.Edit.{Index, number, every, PathEdit, step, insert, modify, erase, erase_item, Edit, on_path, modify_all, erase_all, erase_private, elsewhere, within, Fate, stays, becomes, goes, fate, erases, acts, NewElement, no_element, new_leaf, new_sequence, element_of}
-use Rattle.dcm_edit.specs.Together.{first_fate, any_erases, all_within}
-use Rattle.dcm_edit.specs.NewOnes.{puts, above_last, is_between}
+use Rattle.dcm_edit_words.specs.Edit.{Edit, within, Fate, stays, becomes, goes, fate, erases, acts, NewElement, no_element, new_leaf, new_sequence, element_of}
+use Rattle.dcm_edit_words.specs.Together.{first_fate, any_erases, all_within}
+use Rattle.dcm_edit_words.specs.NewOnes.{puts, above_last, is_between}
 
 -- an open data set: what the edits ask of it, the tag of its last head, and how many items its last element has so far
 pub record Level : Type 0 where
@@ -177,65 +175,3 @@ abbrev mutual
   pub item_anew : OpenItem → OpenItem
   item_anew no_open_item = no_open_item
   item_anew (open_item declared set) = open_item declared (reached_anew set)
-
--- an edit's new element is no sequence
-abbrev pub PathHasValue : PathEdit → Type 0
-PathHasValue (step tag index edit) = PathHasValue edit
-PathHasValue (insert tag vr value) = form Little vr (Known 0) ≡ a_value
-PathHasValue (modify tag vr value) = form Little vr (Known 0) ≡ a_value
-PathHasValue (erase tag) = Unit {0}
-PathHasValue (erase_item tag index) = Unit {0}
-
-abbrev pub HasValue : Edit → Type 0
-HasValue (on_path edit) = PathHasValue edit
-HasValue (modify_all tag vr value) = form Little vr (Known 0) ≡ a_value
-HasValue (erase_all tag) = Unit {0}
-HasValue erase_private = Unit {0}
-HasValue elsewhere = Unit {0}
-
-abbrev pub HaveValues : List Edit → Type 0
-HaveValues [] = Unit {0}
-HaveValues (e ∷ es) = HasValue e × HaveValues es
-
--- an index has at most nine digits, so that no count that has come to its most selects an item by a number
-abbrev pub HasShortIndex : Index → Type 0
-HasShortIndex (number n) = n < 1000000000
-HasShortIndex every = Unit {0}
-
-abbrev pub PathHasShortIndexes : PathEdit → Type 0
-PathHasShortIndexes (step tag index edit) = HasShortIndex index × PathHasShortIndexes edit
-PathHasShortIndexes (insert tag vr value) = Unit {0}
-PathHasShortIndexes (modify tag vr value) = Unit {0}
-PathHasShortIndexes (erase tag) = Unit {0}
-PathHasShortIndexes (erase_item tag index) = HasShortIndex index
-
-abbrev pub HasShortIndexes : Edit → Type 0
-HasShortIndexes (on_path edit) = PathHasShortIndexes edit
-HasShortIndexes (modify_all tag vr value) = Unit {0}
-HasShortIndexes (erase_all tag) = Unit {0}
-HasShortIndexes erase_private = Unit {0}
-HasShortIndexes elsewhere = Unit {0}
-
-abbrev pub HaveShortIndexes : List Edit → Type 0
-HaveShortIndexes [] = Unit {0}
-HaveShortIndexes (e ∷ es) = HasShortIndexes e × HaveShortIndexes es
-
--- how many steps a path has
-abbrev pub steps : PathEdit → ℕ
-steps (step tag index edit) = suc (steps edit)
-steps (insert tag vr value) = 0
-steps (modify tag vr value) = 0
-steps (erase tag) = 0
-steps (erase_item tag index) = 0
-
-abbrev pub depth : Edit → ℕ
-depth (on_path edit) = steps edit
-depth (modify_all tag vr value) = 0
-depth (erase_all tag) = 0
-depth erase_private = 0
-depth elsewhere = 0
-
--- no path has more than n steps
-abbrev pub AreWithin : ℕ → List Edit → Type 0
-AreWithin n [] = Unit {0}
-AreWithin n (e ∷ es) = (depth e ≤ n) × AreWithin n es

@@ -7,10 +7,10 @@ use Rattle.dcm_base.specs.declared.vr.Vr.{Vr}
 use Rattle.dcm_base.specs.Steps.{outputs}
 use Rattle.dcm_head.specs.declared.head.Head.{Head}
 use Rattle.dcm_stream.specs.Skip.{depth, is_open}
-use Rattle.dcm_edit.specs.declared.edit.Edit.{Edit as AnEdit}
+use Rattle.dcm_edit_words.specs.declared.edit.Edit.{Edit as AnEdit}
 use Rattle.dcm_edit.specs.declared.editor.Level.{Level}
 use Rattle.dcm_edit.specs.declared.editor.Editor.{Editor}
-use Rattle.dcm_edit.specs.Edit.{Edit, Fate}
+use Rattle.dcm_edit_words.specs.Edit.{Edit, Fate}
 use Rattle.dcm_edit.specs.EditSink.{State, either, head_by, next, passed}
 use Rattle.dcm_edit.specs.Masks as masks
 use Rattle.dcm_base.specs.Atoms.{Atom, opens, closes_item, ends}
@@ -18,9 +18,9 @@ use Rattle.dcm_base.specs.Tree.{Trees, no_tree}
 use Rattle.dcm_edit.specs.Asking.{answer_of, lies_in, any_answer}
 use Rattle.dcm_edit.specs.declared.asked.Question.{Question}
 use Rattle.dcm_edit.specs.declared.asked.Question.TheVariants.{Meets}
-use Rattle.dcm_edit.specs.NewOnes.{puts}
-use Rattle.dcm_edit.specs.Meaning.{edit_of}
-use Rattle.dcm_edit.specs.Together as together
+use Rattle.dcm_edit_words.specs.NewOnes.{puts}
+use Rattle.dcm_edit_words.specs.Meaning.{edit_of}
+use Rattle.dcm_edit_words.specs.Together as together
 
 abbrev pub level_of : Level → masks.MaskLevel
 level_of l = record { mask = l.mask; last = l.last; count = l.items }

@@ -7,7 +7,7 @@ use Rattle.dcm_base.specs.Tag.{same_tag, is_private}
 use Rattle.dcm_base.specs.Tree.{Trees, no_tree, leaf, sequence, fragments, Items, no_item, item}
 use Rattle.dcm_base.specs.Front.{Front, front}
 use Rattle.dcm_base.specs.Normal.{normal_vr, normal_value}
-use Rattle.dcm_edit.specs.Edit.{Edit}
+use Rattle.dcm_edit_words.specs.Edit.{Edit}
 
 -- what an element has: a value, or items or fragments
 pub data Content : Type 0 where

@@ -18,13 +18,14 @@ use Rattle.dcm_base.specs.declared.vr.Vr.{Vr}
 use Rattle.dcm_stream.specs.Driven.{bars_by}
 use Rattle.dcm_tools.specs.EncodeSink.{encode_start, encode_step, encode_writes}
 use Rattle.dcm_tools.specs.Laws.{StaysShallow}
-use Rattle.dcm_edit.specs.Edit.{Edit, edited, erase_all, erase_private, found, modify_all}
-use Rattle.dcm_edit.specs.EditSink.{AreWithin, HaveShortIndexes, HaveValues, begun, edit_bar, next, passed, reached_anew}
-use Rattle.dcm_edit.specs.EditWords.{meant_edits_in}
+use Rattle.dcm_edit_words.specs.Edit.{Edit, edited, erase_all, erase_private, found, modify_all}
+use Rattle.dcm_edit.specs.EditSink.{begun, edit_bar, next, passed, reached_anew}
+use Rattle.dcm_edit_words.specs.Bounds.{AreWithin, HaveShortIndexes, HaveValues}
+use Rattle.dcm_edit_words.specs.EditWords.{meant_edits_in}
 use Rattle.dcm_edit.specs.Everywhere.{Among, EverywhereIn, IsOther, IsPublic, IsWrittenJust}
 use Rattle.dcm_edit.specs.Modification.{Modifies, OfBytes, ReadsAgain}
 use Rattle.dcm_edit.specs.Others.{any_changes, set_without}
-use Rattle.dcm_edit.specs.Overlap.{AreApart, ArePublic}
+use Rattle.dcm_edit_words.specs.Overlap.{AreApart, ArePublic}
 use Rattle.dcm_edit.specs.Repeating.{EraseByNoNumber}
 
 -- what the encode sink writes of the atoms that the edit sink passes on

@@ -1,16 +1,7 @@
-pub mod Edit
 pub mod EditSink
-pub mod EditWords
 pub mod Masks
-pub mod NewOnes
-pub mod Overlap
-pub mod Together
 pub mod Asking
-pub mod EditCode
-pub mod Meaning
 pub mod Editing
-pub mod Parts
-pub mod Making
 pub mod Through
 pub mod Sound
 pub mod Modification

@@ -3,8 +3,8 @@ use Rattle.std.specs.Prelude.{◌≡◌, ◌⊎◌, ℕ, zero, suc, min, List, [
 use Rattle.std.specs.Int.{bit_at}
 use Rattle.dcm_base.specs.declared.tag.Tag.{Tag}
 use Rattle.dcm_base.specs.Tag.{same_tag}
-use Rattle.dcm_edit.specs.Edit.{number, every, selects, PathEdit, step, insert, modify, erase, erase_item, Edit, on_path, modify_all, erase_all, erase_private, elsewhere, acts}
-use Rattle.dcm_edit.specs.Together.{first_fate, any_erases}
+use Rattle.dcm_edit_words.specs.Edit.{number, every, selects, PathEdit, step, insert, modify, erase, erase_item, Edit, on_path, modify_all, erase_all, erase_private, elsewhere, acts}
+use Rattle.dcm_edit_words.specs.Together.{first_fate, any_erases}
 use Rattle.dcm_edit.specs.EditSink.{Level, State, MOST_COUNTED, dropped_after_head, dropped_after_end}
 
 -- bit k of a mask is for the edit with k others before it

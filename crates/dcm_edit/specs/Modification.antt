@@ -8,8 +8,8 @@ use Rattle.dcm_base.specs.Stop.{Stop, complete}
 use Rattle.dcm_base.specs.Bars.{ascending_bar, target_bar}
 use Rattle.dcm_base.specs.Reads.{INPUT_LIMIT, Reads}
 use Rattle.dcm_base.specs.Recode.{recode}
-use Rattle.dcm_edit.specs.Edit.{Edit, edited}
-use Rattle.dcm_edit.specs.EditWords.{meant_edits_in}
+use Rattle.dcm_edit_words.specs.Edit.{Edit, edited}
+use Rattle.dcm_edit_words.specs.EditWords.{meant_edits_in}
 
 -- the edits are those that some words mean by the dictionary of the syntax, the data set f is read without fault, its tags ascend,
 -- and what is written of it with the edits begins at an offset

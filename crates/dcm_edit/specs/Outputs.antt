@@ -6,9 +6,9 @@ use Rattle.dcm_base.specs.Syntax.{Little}
 use Rattle.dcm_base.specs.declared.tag.Tag.{Tag}
 use Rattle.dcm_stream.specs.Sinks as sinks
 use Rattle.dcm_stream.specs.declared.sink.Sink.{Ghosts}
-use Rattle.dcm_edit.specs.declared.edit.NewElement.{NewElement as Element}
-use Rattle.dcm_edit.specs.Edit.{Edit, before}
-use Rattle.dcm_edit.specs.NewOnes.{puts, first_new}
+use Rattle.dcm_edit_words.specs.declared.edit.NewElement.{NewElement as Element}
+use Rattle.dcm_edit_words.specs.Edit.{Edit, before}
+use Rattle.dcm_edit_words.specs.NewOnes.{puts, first_new}
 
 -- it took these elements, or a beginning of their output went out where the call failed
 abbrev pub Puts : {S T E : Type 0} → Ghosts S → (old new : S) → Trees → Result T E → Type 0

@@ -1,6 +1,6 @@
 -- Edits that make the same of what they have made.
 use Rattle.std.specs.Prelude.{◌≡◌, List, [], ◌∷◌, Bool, true, false}
-use Rattle.dcm_edit.specs.Edit.{number, every, PathEdit, step, insert, modify, erase, erase_item, Edit, on_path, modify_all, erase_all, erase_private, elsewhere}
+use Rattle.dcm_edit_words.specs.Edit.{number, every, PathEdit, step, insert, modify, erase, erase_item, Edit, on_path, modify_all, erase_all, erase_private, elsewhere}
 
 -- whether the path ends in the number of an item: the items after it then get lower ones
 abbrev pub ends_in_number : PathEdit → Bool

@@ -2,9 +2,9 @@
 use Rattle.std.specs.Prelude.{List, [], ◌∷◌, ⊤}
 use Rattle.std.specs.Coded.{×_prop, Unit-prop}
 use Rattle.std.proofs.Math.Bool.{Bool-set}
-use Rattle.dcm_edit.specs.Edit.{Edit}
+use Rattle.dcm_edit_words.specs.Edit.{Edit}
 use Rattle.dcm_edit.specs.EditSink.{Level, State}
-use Rattle.dcm_edit.specs.Overlap.{ApartFrom, AreApart, ArePublic}
+use Rattle.dcm_edit_words.specs.Overlap.{ApartFrom, AreApart, ArePublic}
 
 -- it is apart in each of them, and names no tag of an odd group
 abbrev pub AreSound : List Level → Type 0

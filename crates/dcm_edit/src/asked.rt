@@ -2,16 +2,16 @@
 ghost use Rattle.std.specs.Prelude.{◌≡◌, ◌&&◌, ◌||◌, ◌==◌, ◌<◌, ◌^◌};
 ghost use Rattle.std.specs.List.{list_all};
 ghost use Rattle.dcm_base.specs.Tag.{same_tag, below, is_private as is_private_tag};
-ghost use Rattle.dcm_edit.specs.Edit as spec;
+ghost use Rattle.dcm_edit_words.specs.Edit as spec;
 ghost use Rattle.dcm_edit.specs.EditSink.{has_place as has_place_spec, makes as makes_spec};
 ghost use Rattle.dcm_edit.specs.Asking as asking;
 ghost use Rattle.dcm_edit.specs.Masks as masks;
-ghost use Rattle.dcm_edit.specs.NewOnes.{passes_new};
+ghost use Rattle.dcm_edit_words.specs.NewOnes.{passes_new};
 ghost use Rattle.dcm_edit.specs.declared.asked.Question.TheVariants.{Meets};
-ghost use Rattle.dcm_edit.specs.Meaning.{index_of, action_of, along, path_edit_of, edit_of};
+ghost use Rattle.dcm_edit_words.specs.Meaning.{index_of, action_of, along, path_edit_of, edit_of};
 
-use crate::edit::{Action, Edit, Index, NewElement, PathEdit, Step};
 use dcm_base::Tag;
+use dcm_edit_words::{Action, Edit, Index, NewElement, PathEdit, Step};
 use std::alloc::Allocator;
 
 /// What becomes of an element.

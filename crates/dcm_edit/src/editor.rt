@@ -7,13 +7,13 @@ ghost use Rattle.dcm_edit.specs.Asking as asking;
 ghost use Rattle.dcm_edit.specs.EditSink as spec;
 ghost use Rattle.dcm_edit.specs.Editing as editing;
 ghost use Rattle.dcm_edit.specs.Masks as masks;
-ghost use Rattle.dcm_edit.specs.Meaning.{edit_of};
+ghost use Rattle.dcm_edit_words.specs.Meaning.{edit_of};
 
 use crate::asked::{Fate, Question};
-use crate::edit::Edit;
 use crate::mask::{all, answering, any_answers, any_meets, first_fate};
 use arrayvec::ArrayVec;
 use dcm_base::Tag;
+use dcm_edit_words::Edit;
 use dcm_stream::{Skip, Token};
 use std::alloc::Allocator;
 

@@ -5,12 +5,12 @@ ghost use Rattle.dcm_base.specs.Front.{Front};
 ghost use Rattle.dcm_base.specs.Recode.{recode};
 ghost use Rattle.dcm_base.specs.declared.lookup.Dictionary.{Dictionary};
 ghost use Rattle.dcm_base.specs.declared.syntax.Syntax.{Syntax};
-ghost use Rattle.dcm_edit.specs.Edit.{Edit, edited};
+ghost use Rattle.dcm_edit_words.specs.Edit.{Edit, edited};
 ghost use Rattle.dcm_edit.specs.EditSink.{reached_anew};
-ghost use Rattle.dcm_edit.specs.EditWords.{meant_edits_in};
+ghost use Rattle.dcm_edit_words.specs.EditWords.{meant_edits_in};
 ghost use Rattle.dcm_edit.specs.Laws as laws;
-ghost use Rattle.dcm_edit.specs.Overlap.{AreApart, ArePublic};
-ghost use Rattle.dcm_edit.specs.Together.{together};
+ghost use Rattle.dcm_edit_words.specs.Overlap.{AreApart, ArePublic};
+ghost use Rattle.dcm_edit_words.specs.Together.{together};
 
 /// Edits that do not overlap, done all at once, do what they do one after another, where the tags of each data set ascend.
 pub fn one_by_one()

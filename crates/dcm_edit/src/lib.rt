@@ -1,8 +1,6 @@
-//! Edits of a data set: the words that mean them, and what they do.
+//! What edits do to a data set, in one pass.
 //!
-//! - `Edits::parse_in` reads words as `-m PatientName=A` into at most 64 edits, by a dictionary of their tags, or refuses them
-//!   with an `EditFault`. It is the only call of the tools that takes memory, from the allocator that it is given.
-//!   `dictionary_said` is the dictionary that the words name by `+dict` and `-dict`, and `Edits::parse` takes the extract.
+//! - `Edits` are the edits of a command line, which `Edits::parse` makes of its words (dcm_edit_words).
 //! - `EditSink` lies between the machine and another sink. It passes on what the edits make of the tokens, all edits at once,
 //!   in a state of fixed size, and `unplaced` says which of them have found no place so far.
 //! - `laws` has that they do what they would do one after another (`one_by_one`), and what is promised of the data set that
@@ -17,24 +15,11 @@
 #![tactic(auto)]
 
 mod asked;
-mod edit;
 mod editor;
-mod edits;
-mod fault;
-mod form;
-mod known;
 pub mod laws;
-mod making;
 mod mask;
 mod new;
-mod overlap;
-mod parse;
-mod path;
 mod sink;
 
-pub use edit::{Action, Edit, Index, NewElement, PathEdit, Step};
-pub use edits::Edits;
-pub use fault::EditFault;
-pub use mask::MOST_EDITS;
-pub use parse::{dictionary_said, dictionary_word};
+pub use dcm_edit_words::{EditFault, Edits, MOST_EDITS};
 pub use sink::EditSink;

@@ -1,19 +1,16 @@
 // Which edits of a command line ask something of an open data set, as a mask: bit k for edit k, counted from 0.
 ghost use Rattle.std.specs.Prelude.{◌≡◌, ◌≢◌, ◌<◌, ◌≤◌, ◌+◌, ◌^◌, ℕ, length, map, not, true, false, Some};
-ghost use Rattle.dcm_edit.specs.Edit as spec;
+ghost use Rattle.dcm_edit_words.specs.Edit as spec;
 ghost use Rattle.dcm_edit.specs.Asking as asking;
 ghost use Rattle.dcm_edit.specs.Masks as masks;
-ghost use Rattle.dcm_edit.specs.Meaning.{edit_of};
-ghost use Rattle.dcm_edit.specs.Together as together;
+ghost use Rattle.dcm_edit_words.specs.Meaning.{edit_of};
+ghost use Rattle.dcm_edit_words.specs.Together as together;
 ghost use Rattle.dcm_edit.specs.declared.asked.Question.TheVariants.{Meets};
 
 use crate::asked::{Fate, Gap, New, Question, answers, fate_by, is_below, meets, new_element};
-use crate::edit::Edit;
 use dcm_base::Tag;
+use dcm_edit_words::{Edit, MOST_EDITS};
 use std::alloc::Allocator;
-
-/// The most edits of a command line: the bits of a mask.
-pub const MOST_EDITS: usize = 64;
 
 #[inline(always)]
 fn is_set(mask: u64, place: usize) -> bool

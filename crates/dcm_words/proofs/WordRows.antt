@@ -11,8 +11,8 @@ use Rattle.dcm_words.specs.declared.usage.Usage.{Usage}
 use Rattle.dcm_words.specs.declared.usage.Usage.TheVariants.{AtWord, Whole, InEdit}
 use Rattle.dcm_base.specs.declared.lookup.Dictionary.TheVariants.{Extract, Standard}
 use Rattle.dcm_base.specs.Dictionary.{elements, entries, keywords, elements_in, element_in, tag_in}
-use Rattle.dcm_edit.specs.Edit.{Edit, number, every, step, insert, modify, erase, erase_item, on_path, modify_all, erase_private}
-use Rattle.dcm_edit.specs.EditWords.{meant_edits, in_edit, InEdit as EditFault}
+use Rattle.dcm_edit_words.specs.Edit.{Edit, number, every, step, insert, modify, erase, erase_item, on_path, modify_all, erase_private}
+use Rattle.dcm_edit_words.specs.EditWords.{meant_edits, in_edit, InEdit as EditFault}
 use Rattle.dcm_words.specs.Words.{meant, Plan, Job, dump, convert, build, modify as modifies}
 
 -- all that a row computes with

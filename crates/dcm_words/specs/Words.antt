@@ -14,8 +14,8 @@ use Rattle.dcm_words.specs.declared.usage.Word.TheVariants.{Read, Show, WholeFil
 use Rattle.dcm_words.specs.declared.usage.Usage.{Usage}
 use Rattle.dcm_words.specs.declared.usage.Usage.TheVariants.{AtWord, Whole, InEdit}
 use Rattle.dcm_base.specs.ReadValue.{number_in}
-use Rattle.dcm_edit.specs.Edit.{Edit}
-use Rattle.dcm_edit.specs.EditWords.{dictionary_word, dictionary_said, meant_edits_in}
+use Rattle.dcm_edit_words.specs.Edit.{Edit}
+use Rattle.dcm_edit_words.specs.EditWords.{dictionary_word, dictionary_said, meant_edits_in}
 
 -- what a tool is to do, with the dictionary that it reads with
 pub data Job : Type 0 where

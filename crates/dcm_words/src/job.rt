@@ -3,7 +3,7 @@ ghost use Rattle.std.specs.Prelude.{◌≤◌};
 ghost use Rattle.dcm_words.specs.Words.{LEAST_LIMIT, GREATEST_LIMIT};
 
 use dcm_base::{Dictionary, Mode, Syntax};
-use dcm_edit::Edits;
+use dcm_edit_words::Edits;
 use std::alloc::{Allocator, Global};
 
 /// What a run has to do.

@@ -7,7 +7,7 @@ ghost use Rattle.dcm_words.specs.Plans.{reader, job_of, is_modify, GivesUnlessMe
 use crate::job::{Build, Convert, Dump, Job, Modify, Planned};
 use crate::usage::{Usage, Word};
 use dcm_base::{Dictionary, Mode, Syntax, WordFault};
-use dcm_edit::{EditFault, Edits, dictionary_said, dictionary_word};
+use dcm_edit_words::{EditFault, Edits, dictionary_said, dictionary_word};
 use std::alloc::Allocator;
 
 /// The path of a standard stream.

@@ -7,7 +7,7 @@ use Rattle.std.proofs.lemmas.List.{append-nil}
 use Rattle.dcm_base.specs.Device.{AppendsFront, Puts, Tells}
 use Rattle.dcm_base.specs.Front.{Front}
 use Rattle.dcm_base.proofs.Writes.Puts.{append_known_twice, front_longer, puts_behind}
-use Rattle.dcm_edit.specs.Edit.{Edit, found}
+use Rattle.dcm_edit_words.specs.Edit.{Edit, found}
 use Rattle.dcm_cli.specs.Answer.{unplaced_lines, status_of_lines}
 use Rattle.dcm_cli.specs.Run.{unplaced_mask, mask_status}
 use Rattle.dcm_cli.specs.ErrorLines.{Tries, mask_lines, line_where, unplaced_line}

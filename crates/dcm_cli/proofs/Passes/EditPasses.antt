@@ -3,9 +3,9 @@ use Rattle.std.proofs.Common.{◌≡◌, ◌∙◌, ap, ℕ, ◌+◌, List, leng
 use Rattle.dcm_base.specs.Stop.{complete}
 use Rattle.dcm_base.specs.declared.lookup.Dictionary.{Dictionary}
 use Rattle.dcm_stream.specs.Reading.{start_of}
-use Rattle.dcm_edit.specs.Edit.{Edit}
+use Rattle.dcm_edit_words.specs.Edit.{Edit}
 use Rattle.dcm_edit.specs.EditSink.{State as EditState}
-use Rattle.dcm_edit.specs.Meaning.{AreMeant}
+use Rattle.dcm_edit_words.specs.Meaning.{AreMeant}
 use Rattle.dcm_tools.specs.EncodeSink.{EncodeState}
 use Rattle.dcm_words.specs.Words.{modify}
 use Rattle.dcm_cli.specs.declared.ending.Ending.{Ending}

@@ -18,17 +18,18 @@ use Rattle.dcm_stream.specs.Reading.{read_all}
 use Rattle.dcm_stream.proofs.Steps.Ascending.{ascending_bars}
 use Rattle.dcm_stream.proofs.Steps.Follows.{follows, answers}
 use Rattle.dcm_tools.specs.EncodeSink.{EncodeState, encode_start, encode_step, encode_writes}
-use Rattle.dcm_edit.specs.Edit.{Edit, edited, found}
-use Rattle.dcm_edit.specs.EditSink.{State as EditState, AreWithin, BarsShallow, HaveShortIndexes, HaveValues, begun}
-use Rattle.dcm_edit.specs.Meaning.{AreMeant}
-use Rattle.dcm_edit.specs.Overlap.{AreApart, ArePublic}
+use Rattle.dcm_edit_words.specs.Edit.{Edit, edited, found}
+use Rattle.dcm_edit.specs.EditSink.{State as EditState, BarsShallow, begun}
+use Rattle.dcm_edit_words.specs.Bounds.{AreWithin, HaveShortIndexes, HaveValues}
+use Rattle.dcm_edit_words.specs.Meaning.{AreMeant}
+use Rattle.dcm_edit_words.specs.Overlap.{AreApart, ArePublic}
 use Rattle.dcm_edit.specs.Through.{through_bar, through_step, through_writes}
 use Rattle.dcm_edit.proofs.EditSinks.DrivesEdits.{driven_same, output_same, edit_bars}
-use Rattle.dcm_edit.proofs.Words.EditCount.{few}
+use Rattle.dcm_edit_words.proofs.Words.EditCount.{few}
 use Rattle.dcm_edit.proofs.ReadBack.EditReads.{edit_reads_whole, edit_reads_so_far}
-use Rattle.dcm_edit.proofs.Words.EditWordLemmas.{edits_are_apart}
+use Rattle.dcm_edit_words.proofs.Words.EditWordLemmas.{edits_are_apart}
 use Rattle.dcm_edit.proofs.EditSinks.Through.{through_fold, through_outputs}
-use Rattle.dcm_edit.proofs.Words.WordValues.{edits_fit}
+use Rattle.dcm_edit_words.proofs.Words.WordValues.{edits_fit}
 use Rattle.dcm_words.specs.Words.{modify}
 use Rattle.dcm_cli.proofs.Passes.Files.{FileMaker}
 use Rattle.dcm_cli.proofs.Passes.Makers.{Drives, Maker}

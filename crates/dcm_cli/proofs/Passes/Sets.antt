@@ -16,7 +16,7 @@ use Rattle.dcm_stream.specs.Machine.{next_offset}
 use Rattle.dcm_cli.specs.declared.ending.Ending.{Ending}
 use Rattle.dcm_cli.specs.declared.ending.Ending.TheVariants.{Worked, Unread, Output}
 use Rattle.dcm_cli.specs.Pass.{Ends, at_end, at_fault, halted, unread, unwritten, end_unwritten}
-use Rattle.dcm_edit.specs.Edit.{Edit}
+use Rattle.dcm_edit_words.specs.Edit.{Edit}
 use Rattle.dcm_words.specs.Words.{Job}
 use Rattle.dcm_cli.specs.declared.ending.Verdict.TheVariants.{Done}
 use Rattle.dcm_cli.specs.Answer.{going_on, edits_of}

@@ -21,7 +21,7 @@ use Rattle.dcm_base.specs.Tag.{is_tag}
 use Rattle.dcm_base.specs.Tree.{Trees, no_tree, leaf, sequence, fragments}
 use Rattle.dcm_base.proofs.Conversions.NormalForm.{leaf_again}
 use Rattle.dcm_base.specs.declared.lookup.Dictionary.{Dictionary}
-use Rattle.dcm_edit.specs.Edit.{Edit, edited}
+use Rattle.dcm_edit_words.specs.Edit.{Edit, edited}
 use Rattle.dcm_edit.specs.Repeating.{EraseByNoNumber}
 use Rattle.dcm_edit.proofs.ReadBack.EditedAscends.{edited_ascends}
 use Rattle.dcm_edit.proofs.ReadBack.TwiceWritten.{edited_twice}

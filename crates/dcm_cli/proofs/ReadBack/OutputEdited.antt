@@ -11,7 +11,7 @@ use Rattle.dcm_base.specs.NewMeta.{new_meta}
 use Rattle.dcm_base.specs.Normal.{normal_front}
 use Rattle.dcm_base.specs.Stop.{complete}
 use Rattle.dcm_base.specs.declared.lookup.Dictionary.{Dictionary}
-use Rattle.dcm_edit.specs.Edit.{Edit, edited, erase_all, erase_private, modify_all}
+use Rattle.dcm_edit_words.specs.Edit.{Edit, edited, erase_all, erase_private, modify_all}
 use Rattle.dcm_edit.specs.Everywhere.{Among, EverywhereIn, IsOther, IsPublic, IsWrittenJust}
 use Rattle.dcm_edit.specs.Modification.{Modifies, ReadsAgain}
 use Rattle.dcm_edit.proofs.ReadBack.EditedReads.{edited_reads}
@@ -22,7 +22,7 @@ use Rattle.dcm_cli.specs.Answer.{Answer, Source, answer, file, opened, set_at}
 use Rattle.dcm_cli.specs.ReadsAgain.{InOutput, IsModified, OfWholeFile}
 use Rattle.dcm_cli.proofs.Runs.OneSource.{one_source}
 use Rattle.dcm_cli.proofs.ReadBack.ReadsAgain.{Read, begins_within, modified_reads, read_of, rest_bytes, set_within, of_head}
-use Rattle.dcm_edit.specs.EditWords.{meant_edits_in}
+use Rattle.dcm_edit_words.specs.EditWords.{meant_edits_in}
 
 module _ (d : Dictionary) (edits : List Edit) (input : List ℕ) (a : Answer) (m : Meta) (coding : Coding) (f : Front) (h : IsModified d edits input a m coding f) where
   abbrev s : Syntax

@@ -29,15 +29,15 @@ use Rattle.dcm_tools.proofs.ReadBack.NewMetaReads.{any, own}
 use Rattle.dcm_tools.proofs.ReadBack.RecodeReads.{IsReady, read_ready, recode_reads}
 use Rattle.dcm_tools.proofs.ReadBack.Sources.{a_byte, bytes_behind}
 use Rattle.dcm_build.proofs.Rebuilds.FilesBuild.{headed}
-use Rattle.dcm_edit.specs.Edit.{Edit, edited}
+use Rattle.dcm_edit_words.specs.Edit.{Edit, edited}
 use Rattle.dcm_edit.proofs.ReadBack.EditedReads.{front_ready, edited_reads}
 use Rattle.dcm_edit.proofs.ReadBack.StaysReady.{FrontReady, edited_ready}
-use Rattle.dcm_edit.proofs.Words.WordValues.{edits_fit}
+use Rattle.dcm_edit_words.proofs.Words.WordValues.{edits_fit}
 use Rattle.dcm_edit.proofs.Words.WordsReady.{edits_ready}
 use Rattle.dcm_words.specs.Words.{Job, convert, modify}
 use Rattle.dcm_cli.specs.Answer.{job_dictionary, HeadIs, Answer, Source, file as a_file, set_at, job_bar, answer, target_syntax, target_uid, uid_of_syntax, written_file, FileReads, not_opened, not_changed, opened}
 use Rattle.dcm_cli.specs.ReadsAgain.{IsRead, HasRoom, IsModified, ReadsModified, IsConverted, ReadsConverted}
-use Rattle.dcm_edit.specs.EditWords.{meant_edits_in}
+use Rattle.dcm_edit_words.specs.EditWords.{meant_edits_in}
 
 -- ---- what was read
 

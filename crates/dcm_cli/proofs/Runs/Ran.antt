@@ -7,7 +7,7 @@ use Rattle.dcm_base.specs.Device.{AppendsFront}
 use Rattle.dcm_base.specs.Front.{Front}
 use Rattle.dcm_base.specs.Stop.{Stop, complete, refused}
 use Rattle.dcm_base.specs.declared.lookup.Dictionary.{Dictionary}
-use Rattle.dcm_edit.specs.Edit.{Edit}
+use Rattle.dcm_edit_words.specs.Edit.{Edit}
 use Rattle.dcm_words.specs.Words.{Job, dump, convert, build as building, modify}
 use Rattle.dcm_words.specs.declared.job.Job.{Job as RunJob}
 use Rattle.dcm_words.specs.declared.job.Job.TheVariants.{Dump, Convert, Build, Modify}

@@ -13,8 +13,8 @@ use Rattle.dcm_base.specs.Header.{set_header}
 use Rattle.dcm_base.specs.MetaReads.{Meta, MetaAnswer, MetaReads, begins, refused as meta_refused, is_undecided as meta_undecided}
 use Rattle.dcm_base.specs.Reads.{INPUT_LIMIT, Reads, ended}
 use Rattle.dcm_base.specs.Stop.{Bar, Stop, refused, is_undecided}
-use Rattle.dcm_edit.specs.Edit.{Edit}
-use Rattle.dcm_edit.specs.Meaning.{AreMeant}
+use Rattle.dcm_edit_words.specs.Edit.{Edit}
+use Rattle.dcm_edit_words.specs.Meaning.{AreMeant}
 use Rattle.dcm_words.specs.Words.{Job, dump, convert, build as building, modify}
 use Rattle.dcm_base.proofs.DataSets.OneAnswer.{reads_once}
 use Rattle.dcm_base.specs.Syntax.{read_by, coding_by}

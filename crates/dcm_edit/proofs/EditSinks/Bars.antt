@@ -18,9 +18,10 @@ use Rattle.dcm_stream.specs.declared.token.Bar.{Bar as SinkBar}
 use Rattle.dcm_stream.specs.declared.token.Bar.TheVariants.{Order}
 use Rattle.dcm_stream.specs.Driven.{bars_by}
 use Rattle.dcm_tools.specs.Laws.{StaysShallow}
-use Rattle.dcm_edit.specs.Edit.{Edit, element_of}
-use Rattle.dcm_edit.specs.Together.{all_within}
-use Rattle.dcm_edit.specs.EditSink.{Level, State, HaveShortIndexes, has_place, begun, next, edit_bar}
+use Rattle.dcm_edit_words.specs.Edit.{Edit, element_of}
+use Rattle.dcm_edit_words.specs.Together.{all_within}
+use Rattle.dcm_edit.specs.EditSink.{Level, State, has_place, begun, next, edit_bar}
+use Rattle.dcm_edit_words.specs.Bounds.{HaveShortIndexes}
 use Rattle.dcm_edit.proofs.EditSinks.Unbounded.{next_unbounded}
 use Rattle.dcm_edit.proofs.EditSinks.Runs.{at, level, fold_fragments, fold_trees, fold_items}
 use Rattle.dcm_edit.proofs.EditSinks.Bounds.{HasRoom, same_state}

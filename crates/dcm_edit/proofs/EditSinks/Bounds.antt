@@ -7,9 +7,10 @@ use Rattle.dcm_base.specs.declared.tag.Tag.{Tag}
 use Rattle.dcm_base.specs.Tag.{same_tag}
 use Rattle.dcm_base.specs.Steps.{outputs}
 use Rattle.dcm_base.specs.Atoms.{Atom, opens, value_byte, closes_leaf, opens_item, closes_item, closes_sequence, opens_fragment, ends}
-use Rattle.dcm_edit.specs.Edit.{Index, number, every, selects, step, insert, modify, erase, erase_item, Edit, on_path, modify_all, erase_all, erase_private, elsewhere, within, erases, element_of}
-use Rattle.dcm_edit.specs.Together.{any_erases, all_within}
-use Rattle.dcm_edit.specs.EditSink.{Level, State, either, MOST_COUNTED, HasShortIndex, HasShortIndexes, HaveShortIndexes, dropped_after_head, dropped_after_end, has_place, one_more_item, item_in, after_item, item_head_by, unless_dropped, next, passed}
+use Rattle.dcm_edit_words.specs.Edit.{Index, number, every, selects, step, insert, modify, erase, erase_item, Edit, on_path, modify_all, erase_all, erase_private, elsewhere, within, erases, element_of}
+use Rattle.dcm_edit_words.specs.Together.{any_erases, all_within}
+use Rattle.dcm_edit.specs.EditSink.{Level, State, either, MOST_COUNTED, dropped_after_head, dropped_after_end, has_place, one_more_item, item_in, after_item, item_head_by, unless_dropped, next, passed}
+use Rattle.dcm_edit_words.specs.Bounds.{HasShortIndex, HasShortIndexes, HaveShortIndexes}
 use Rattle.dcm_edit.proofs.EditSinks.Unbounded.{dropped_unbounded, item_unbounded, next_unbounded}
 
 -- ---- counts that have come to their most

@@ -24,8 +24,9 @@ use Rattle.dcm_stream.proofs.Steps.Ascending.{ascending_bars}
 use Rattle.dcm_stream.proofs.Steps.Follows.{follows, answers}
 use Rattle.dcm_stream.proofs.Runs.Inputs.{driven_is, output_is, ends_by, refuses_by, waits_by}
 use Rattle.dcm_tools.proofs.ReadBack.Shallow.{machine_shallow}
-use Rattle.dcm_edit.specs.Edit.{Edit}
-use Rattle.dcm_edit.specs.EditSink.{HaveShortIndexes, begun, next, edit_bar, BarsShallow}
+use Rattle.dcm_edit_words.specs.Edit.{Edit}
+use Rattle.dcm_edit.specs.EditSink.{begun, next, edit_bar, BarsShallow}
+use Rattle.dcm_edit_words.specs.Bounds.{HaveShortIndexes}
 use Rattle.dcm_edit.proofs.EditSinks.Bars.{bar_steps}
 use Rattle.dcm_edit.proofs.ReadBack.ReadsAscend.{late}
 

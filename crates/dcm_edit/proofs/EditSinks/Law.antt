@@ -6,9 +6,10 @@ use Rattle.dcm_base.specs.Ascending.{FrontAscends}
 use Rattle.dcm_base.specs.Atoms.{Atom, Shows}
 use Rattle.dcm_base.specs.Steps.{outputs}
 use Rattle.dcm_tools.specs.Laws.{StaysShallow}
-use Rattle.dcm_edit.specs.Edit.{Edit, edited, found}
-use Rattle.dcm_edit.specs.Overlap.{AreApart, ArePublic}
-use Rattle.dcm_edit.specs.EditSink.{State, HaveValues, HaveShortIndexes, begun, next, passed, reached_anew}
+use Rattle.dcm_edit_words.specs.Edit.{Edit, edited, found}
+use Rattle.dcm_edit_words.specs.Overlap.{AreApart, ArePublic}
+use Rattle.dcm_edit.specs.EditSink.{State, begun, next, passed, reached_anew}
+use Rattle.dcm_edit_words.specs.Bounds.{HaveValues, HaveShortIndexes}
 use Rattle.dcm_edit.proofs.EditSinks.Bounds.{Fits, HasRoom, same_output, same_state}
 use Rattle.dcm_edit.proofs.EditSinks.Rooms.{front_room}
 use Rattle.dcm_edit.proofs.Masks.Found.{edit_unbounded}

@@ -8,16 +8,17 @@ use Rattle.dcm_base.specs.Syntax.{Little}
 use Rattle.dcm_base.specs.declared.length.Length.{Length}
 use Rattle.dcm_base.specs.declared.length.Length.TheVariants.{Known, Undefined}
 use Rattle.dcm_base.specs.Tree.{Trees, no_tree, leaf, sequence, fragments, Items, no_item, item, then_trees}
-use Rattle.dcm_edit.specs.NewOnes.{above_last, puts, is_between}
-use Rattle.dcm_edit.specs.Edit.{Edit, Fate, stays, becomes, goes, settled, acts}
-use Rattle.dcm_edit.specs.Together.{first_fate, any_erases, all_within}
+use Rattle.dcm_edit_words.specs.NewOnes.{above_last, puts, is_between}
+use Rattle.dcm_edit_words.specs.Edit.{Edit, Fate, stays, becomes, goes, settled, acts}
+use Rattle.dcm_edit_words.specs.Together.{first_fate, any_erases, all_within}
 use Rattle.dcm_base.specs.declared.form.Form.TheVariants.{Value as a_value, Sequence as a_sequence, FragmentList as a_fragment_list}
 use Rattle.dcm_base.specs.Spelling.{form, last_tag}
 use Rattle.dcm_base.specs.Value.{order}
 use Rattle.dcm_base.specs.Atoms.{Atom, opens, value_byte, closes_leaf, opens_item, closes_item, closes_sequence, opens_fragment, fragments_then, ShowTrees, ShowItems, trees_then}
-use Rattle.dcm_edit.specs.EditSink.{HaveValues, Level, either, head_by}
+use Rattle.dcm_edit.specs.EditSink.{Level, either, head_by}
+use Rattle.dcm_edit_words.specs.Bounds.{HaveValues}
 use Rattle.dcm_edit.proofs.EditSinks.Unbounded.{dropped_unbounded}
-use Rattle.dcm_edit.proofs.Trees.Kept.{kept, kept_items}
+use Rattle.dcm_edit_words.proofs.Trees.Kept.{kept, kept_items}
 use Rattle.dcm_edit.proofs.EditSinks.Shown.{shown_after, Own, own_shown, own_more, own_puts, all_within_have, FateHas, first_fate_has}
 use Rattle.dcm_edit.proofs.EditSinks.Runs.{at, level, out, items_after, last_count, either_none, either_twice, head_seen, item_seen, end_seen, seen, seen_items, seen_item, dropped_bytes, dropped_fragments, dropped_trees, dropped_items}
 

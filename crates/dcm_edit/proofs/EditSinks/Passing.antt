@@ -19,14 +19,14 @@ use Rattle.dcm_stream.specs.declared.token.Token.{Token}
 use Rattle.dcm_stream.specs.declared.token.Token.TheVariants as tokens
 use Rattle.dcm_stream.specs.Skip.{depth, opened, closed}
 use Rattle.dcm_stream.specs.Tokens.{atoms_of}
-use Rattle.dcm_edit.specs.Edit.{Edit}
-use Rattle.dcm_edit.specs.Together.{first_fate}
-use Rattle.dcm_edit.specs.NewOnes.{above_last, is_between}
+use Rattle.dcm_edit_words.specs.Edit.{Edit}
+use Rattle.dcm_edit_words.specs.Together.{first_fate}
+use Rattle.dcm_edit_words.specs.NewOnes.{above_last, is_between}
 use Rattle.dcm_edit.specs.EditSink.{State, next, passed, unless_dropped, new_ones, head_by, item_head_by}
 use Rattle.dcm_edit.specs.Editing.{level_of, meant, asked_here, missing, erases_next, IsEnd}
 use Rattle.dcm_edit.specs.Masks as masks
-use Rattle.dcm_edit.specs.Meaning.{edit_of}
-use Rattle.dcm_edit.specs.declared.edit.Edit.{Edit as AnEdit}
+use Rattle.dcm_edit_words.specs.Meaning.{edit_of}
+use Rattle.dcm_edit_words.specs.declared.edit.Edit.{Edit as AnEdit}
 use Rattle.dcm_edit.specs.declared.editor.Editor.{Editor}
 use Rattle.dcm_edit.proofs.Masks.Answering.{bytes_stay}
 

@@ -4,9 +4,9 @@ use Rattle.std.specs.Prelude.{map, fold}
 use Rattle.dcm_base.specs.declared.tag.Tag.{Tag}
 use Rattle.dcm_base.specs.declared.length.Length.{Length}
 use Rattle.dcm_base.specs.Tree.{Trees, no_tree, leaf, sequence, fragments, Items, no_item, item}
-use Rattle.dcm_edit.specs.Edit.{Edit, within, fate, erases, acts, element_of}
-use Rattle.dcm_edit.specs.NewOnes.{above_last, is_between}
-use Rattle.dcm_edit.specs.Together.{first_fate, any_erases, all_within}
+use Rattle.dcm_edit_words.specs.Edit.{Edit, within, fate, erases, acts, element_of}
+use Rattle.dcm_edit_words.specs.NewOnes.{above_last, is_between}
+use Rattle.dcm_edit_words.specs.Together.{first_fate, any_erases, all_within}
 use Rattle.dcm_base.specs.Spelling.{last_tag}
 use Rattle.dcm_base.specs.Value.{order}
 use Rattle.dcm_base.specs.Atoms.{Atom, value_byte, closes_leaf, closes_item, closes_sequence, fragments_then, ShowTrees, ShowItems}

@@ -11,15 +11,16 @@ use Rattle.dcm_base.specs.declared.length.Length.TheVariants.{Known, Undefined}
 use Rattle.dcm_base.specs.Tree.{Trees, no_tree, leaf, sequence, fragments, Items, no_item, item, then_trees}
 use Rattle.dcm_base.specs.Front.{OpenTree, nothing_open, open_leaf, open_sequence, open_fragments}
 use Rattle.dcm_base.specs.Tag.{below}
-use Rattle.dcm_edit.specs.Edit.{step, insert, modify, erase, erase_item, PathEdit, Edit, on_path, modify_all, erase_all, erase_private, elsewhere, within, Fate, stays, becomes, goes, fate, settled, erases, has, put, NewElement, no_element, new_leaf, new_sequence, before, around, new_element, element_of, with_new, changed, changed_items, edited_set, edited_sets, number, every}
-use Rattle.dcm_edit.specs.Together.{or_else, first_fate, all_within, completed}
-use Rattle.dcm_edit.specs.NewOnes.{put_new, puts}
-use Rattle.dcm_edit.proofs.Trees.Laws.{chosen}
+use Rattle.dcm_edit_words.specs.Edit.{step, insert, modify, erase, erase_item, PathEdit, Edit, on_path, modify_all, erase_all, erase_private, elsewhere, within, Fate, stays, becomes, goes, fate, settled, erases, has, put, NewElement, no_element, new_leaf, new_sequence, before, around, new_element, element_of, with_new, changed, changed_items, edited_set, edited_sets, number, every}
+use Rattle.dcm_edit_words.specs.Together.{or_else, first_fate, all_within, completed}
+use Rattle.dcm_edit_words.specs.NewOnes.{put_new, puts}
+use Rattle.dcm_edit_words.proofs.Trees.Laws.{chosen}
 use Rattle.dcm_base.specs.declared.form.Form.TheVariants.{Value as a_value, Sequence as a_sequence}
 use Rattle.dcm_base.specs.Spelling.{form, inside, reached_tag}
 use Rattle.dcm_base.specs.Value.{order}
 use Rattle.dcm_base.specs.Atoms.{Atom, opens, value_byte, closes_leaf, opens_item, closes_item, closes_sequence, opens_fragment, fragments_then, ShowTrees, ShowItems, trees_then, items_then}
-use Rattle.dcm_edit.specs.EditSink.{PathHasValue, HasValue, HaveValues, open_anew}
+use Rattle.dcm_edit.specs.EditSink.{open_anew}
+use Rattle.dcm_edit_words.specs.Bounds.{PathHasValue, HasValue, HaveValues}
 
 -- ---- trees that follow one another
 

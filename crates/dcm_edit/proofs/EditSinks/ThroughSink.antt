@@ -5,10 +5,10 @@ use Rattle.std.specs.Io.KnownBytes.{append_known}
 use Rattle.dcm_base.specs.Atoms.{Atom}
 use Rattle.dcm_base.specs.Device.{Puts, AppendsFront}
 use Rattle.dcm_base.specs.Steps.{outputs, Goes}
-use Rattle.dcm_edit.specs.declared.edit.Edit.{Edit as AnEdit}
-use Rattle.dcm_edit.specs.Edit.{Edit}
+use Rattle.dcm_edit_words.specs.declared.edit.Edit.{Edit as AnEdit}
+use Rattle.dcm_edit_words.specs.Edit.{Edit}
 use Rattle.dcm_edit.specs.EditSink.{State, next, passed}
-use Rattle.dcm_edit.specs.Meaning.{edit_of}
+use Rattle.dcm_edit_words.specs.Meaning.{edit_of}
 use Rattle.dcm_edit.specs.Masks.{MaskState, meant}
 use Rattle.dcm_edit.specs.Editing as editing
 use Rattle.dcm_edit.specs.Sound.{IsSound}

@@ -2,9 +2,9 @@
 use Rattle.std.specs.Prelude.{ℕ, zero, suc, Option, Some, None, Bool, false, ◌||◌, map, if◌then◌else◌, ◌∷◌}
 use Rattle.dcm_base.specs.declared.tag.Tag.{Tag}
 use Rattle.dcm_base.specs.Atoms.{Atom, opens, value_byte, closes_leaf, opens_item, closes_item, closes_sequence, opens_fragment, ends}
-use Rattle.dcm_edit.specs.Edit.{fate, acts, element_of}
-use Rattle.dcm_edit.specs.Together.{first_fate, any_erases, all_within}
-use Rattle.dcm_edit.specs.NewOnes.{is_between}
+use Rattle.dcm_edit_words.specs.Edit.{fate, acts, element_of}
+use Rattle.dcm_edit_words.specs.Together.{first_fate, any_erases, all_within}
+use Rattle.dcm_edit_words.specs.NewOnes.{is_between}
 use Rattle.dcm_edit.specs.EditSink.{Level, State, new_level, makes, dropped_after_end, either, at_head, found_by_item, found_at_end, after_item}
 
 abbrev pub dropped_unbounded : ℕ → Bool → ℕ

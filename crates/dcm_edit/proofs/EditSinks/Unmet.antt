@@ -15,16 +15,16 @@ use Rattle.dcm_stream.specs.declared.token.Token.{Token}
 use Rattle.dcm_stream.specs.declared.token.Token.TheVariants as tokens
 use Rattle.dcm_head.specs.declared.head.Head.{Head}
 use Rattle.dcm_stream.proofs.Runs.Skipped.{none_open}
-use Rattle.dcm_edit.specs.Edit.{Edit, Fate, stays, becomes, goes, fate, acts, has, put, NewElement, no_element, new_leaf, new_sequence, element_of}
-use Rattle.dcm_edit.specs.Together.{completed, or_else, first_fate}
-use Rattle.dcm_edit.specs.NewOnes.{is_between, passes_new, put_new, puts}
+use Rattle.dcm_edit_words.specs.Edit.{Edit, Fate, stays, becomes, goes, fate, acts, has, put, NewElement, no_element, new_leaf, new_sequence, element_of}
+use Rattle.dcm_edit_words.specs.Together.{completed, or_else, first_fate}
+use Rattle.dcm_edit_words.specs.NewOnes.{is_between, passes_new, put_new, puts}
 use Rattle.dcm_edit.specs.EditSink.{Level, State, makes, either, next, passed, unless_dropped, new_ones, head_by}
 use Rattle.dcm_edit.specs.Asking.{answer_of, any_answer}
 use Rattle.dcm_edit.specs.Editing.{state, meant, asked_here, leaves}
 use Rattle.dcm_edit.specs.Masks as masks
-use Rattle.dcm_edit.specs.Meaning.{edit_of}
+use Rattle.dcm_edit_words.specs.Meaning.{edit_of}
 use Rattle.dcm_edit.specs.declared.asked.Question.TheVariants.{AtHead, Meets}
-use Rattle.dcm_edit.specs.declared.edit.Edit.{Edit as AnEdit}
+use Rattle.dcm_edit_words.specs.declared.edit.Edit.{Edit as AnEdit}
 use Rattle.dcm_edit.specs.declared.editor.Editor.{Editor}
 use Rattle.dcm_edit.proofs.EditSinks.Passing.{same_asked}
 

@@ -5,8 +5,8 @@ use Rattle.std.specs.Int.{bit_at}
 use Rattle.std.proofs.lemmas.Nat.Bits.{bit_at_or, bit_at-lt}
 use Rattle.dcm_base.specs.declared.tag.Tag.{Tag}
 use Rattle.dcm_base.specs.Atoms.{value_byte}
-use Rattle.dcm_edit.specs.Edit.{Edit, elsewhere}
-use Rattle.dcm_edit.specs.Together.{any_erases}
+use Rattle.dcm_edit_words.specs.Edit.{Edit, elsewhere}
+use Rattle.dcm_edit_words.specs.Together.{any_erases}
 use Rattle.dcm_edit.specs.EditSink.{State, either, next}
 use Rattle.dcm_edit.specs.Masks.{is_set, bits, at_depth, asked, goes_along, GoAlong, AllSet}
 use Rattle.dcm_edit.specs.Asking.{answer_of, any_answer}

@@ -5,7 +5,7 @@ use Rattle.std.specs.Int.{w64}
 use Rattle.std.proofs.Math.Pow.{pow-lt}
 use Rattle.std.proofs.Math.Nat.{mod-eq_of_lt}
 use Rattle.std.proofs.lemmas.Nat.Bits.{bit_at_set_same, bit_at_set_other, bit_at_ones}
-use Rattle.dcm_edit.specs.Edit.{Edit}
+use Rattle.dcm_edit_words.specs.Edit.{Edit}
 use Rattle.dcm_edit.specs.Masks.{is_set, bits, asked}
 use Rattle.dcm_edit.specs.Asking.{asked_one}
 

@@ -6,8 +6,8 @@ use Rattle.std.proofs.Math.Nat.{min_comm}
 use Rattle.dcm_base.specs.declared.tag.Tag.{Tag}
 use Rattle.dcm_base.specs.declared.length.Length.{Length}
 use Rattle.dcm_base.specs.Atoms.{opens_item}
-use Rattle.dcm_edit.specs.Edit.{Edit}
-use Rattle.dcm_edit.specs.Together.{any_erases}
+use Rattle.dcm_edit_words.specs.Edit.{Edit}
+use Rattle.dcm_edit_words.specs.Together.{any_erases}
 use Rattle.dcm_edit.specs.EditSink.{MOST_AROUND, MOST_COUNTED, dropped_after_head, either, next, begun}
 use Rattle.dcm_edit.specs.Editing.{level_of}
 use Rattle.dcm_edit.specs.declared.editor.Level.{Level}

@@ -5,17 +5,18 @@ use Rattle.dcm_base.specs.declared.tag.Tag.{Tag}
 use Rattle.dcm_base.specs.Tree.{Trees, no_tree, leaf, sequence, fragments, Items, no_item, item, item_count}
 use Rattle.dcm_base.specs.Front.{Front, front, OpenTree, nothing_open, open_leaf, open_sequence, open_fragments, OpenItem, no_open_item, open_item}
 use Rattle.dcm_base.specs.Tag.{same_tag, below}
-use Rattle.dcm_edit.specs.NewOnes.{above_last, is_between}
-use Rattle.dcm_edit.specs.Edit.{Edit, within, fate, erases, acts, has, is_passed, NewElement, no_element, new_leaf, new_sequence, element_of, has_place_in, has_place_so_far, found_in, found_in_items, found, found_open, found_open_item, edited}
-use Rattle.dcm_edit.specs.Overlap.{AreApart, ArePublic}
+use Rattle.dcm_edit_words.specs.NewOnes.{above_last, is_between}
+use Rattle.dcm_edit_words.specs.Edit.{Edit, within, fate, erases, acts, has, is_passed, NewElement, no_element, new_leaf, new_sequence, element_of, has_place_in, has_place_so_far, found_in, found_in_items, found, found_open, found_open_item, edited}
+use Rattle.dcm_edit_words.specs.Overlap.{AreApart, ArePublic}
 use Rattle.dcm_base.specs.Ascending.{Ascend, ItemsAscend, ReachedLast, FrontAscends, OpenAscends, OpenItemAscends}
 use Rattle.dcm_base.proofs.Dictionaries.TagOrder.{below_other, below_other_way, is_above_below}
 use Rattle.dcm_base.specs.Spelling.{last_tag, reached_tag}
 use Rattle.dcm_base.specs.Atoms.{Atom, end_atoms, Shows, ShowsOpen, ShowsOpenItem}
-use Rattle.dcm_edit.specs.EditSink.{HaveValues, begun, has_place, makes, either, reached_anew}
+use Rattle.dcm_edit.specs.EditSink.{begun, has_place, makes, either, reached_anew}
+use Rattle.dcm_edit_words.specs.Bounds.{HaveValues}
 use Rattle.dcm_edit.proofs.EditSinks.Unbounded.{next_unbounded}
-use Rattle.dcm_edit.proofs.Trees.NewOnes.{has-above, below_not_back, same_not_below, and_none, and_all}
-use Rattle.dcm_edit.proofs.Trees.Kept.{AllUnder, under_tag, under_last}
+use Rattle.dcm_edit_words.proofs.Trees.NewOnes.{has-above, below_not_back, same_not_below, and_none, and_all}
+use Rattle.dcm_edit_words.proofs.Trees.Kept.{AllUnder, under_tag, under_last}
 use Rattle.dcm_edit.proofs.EditSinks.Runs.{out, head_seen, item_seen, seen, seen_items, bits_alike}
 use Rattle.dcm_edit.proofs.Trees.SoFar.{last_some, passed_closed}
 use Rattle.dcm_edit.proofs.Trees.Fronts.{seen_front, seen_open, seen_open_item, found_front, edit_passes}

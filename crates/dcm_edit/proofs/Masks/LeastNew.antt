@@ -5,9 +5,9 @@ use Rattle.std.proofs.lemmas.Bool.Decides.{nat_tests}
 use Rattle.dcm_base.specs.declared.tag.Tag.{Tag}
 use Rattle.dcm_base.specs.Tag.{same_tag, below}
 use Rattle.dcm_base.proofs.Dictionaries.TagOrder.{below_trans, tag_is, same_tag_self}
-use Rattle.dcm_edit.specs.Edit.{Edit, NewElement, no_element, new_leaf, new_sequence, element_of}
-use Rattle.dcm_edit.specs.Together.{completed}
-use Rattle.dcm_edit.specs.NewOnes.{passes_new, passing, lesser, least_new, first_new}
+use Rattle.dcm_edit_words.specs.Edit.{Edit, NewElement, no_element, new_leaf, new_sequence, element_of}
+use Rattle.dcm_edit_words.specs.Together.{completed}
+use Rattle.dcm_edit_words.specs.NewOnes.{passes_new, passing, lesser, least_new, first_new}
 use Rattle.dcm_edit.specs.Asking as asking
 use Rattle.dcm_edit.specs.Asking.{Seen, nothing_new, a_value, a_sequence, seen, seen_of, new_tag, in_gap, seen_in, is_above_seen}
 use Rattle.dcm_edit.specs.declared.asked.Gap.{Gap}

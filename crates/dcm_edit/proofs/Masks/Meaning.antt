@@ -8,14 +8,14 @@ use Rattle.dcm_base.specs.declared.length.Length.{Length}
 use Rattle.dcm_base.specs.Tag.{same_tag}
 use Rattle.dcm_base.specs.Tree.{Trees, no_tree}
 use Rattle.dcm_base.specs.Atoms.{opens, closes_leaf, opens_item, closes_item, closes_sequence, opens_fragment, ends}
-use Rattle.dcm_edit.specs.Edit.{number, every, selects, PathEdit, step, insert, modify, erase, erase_item, Edit, on_path, modify_all, erase_all, erase_private, elsewhere, within, acts, fate, NewElement, no_element, new_leaf, new_sequence, around, new_element, element_of}
-use Rattle.dcm_edit.specs.Together.{first_fate, all_within}
-use Rattle.dcm_edit.specs.Overlap.{AreApart, ArePublic}
-use Rattle.dcm_edit.specs.NewOnes.{puts, above_last, is_between, passes_new, passing, first_new}
+use Rattle.dcm_edit_words.specs.Edit.{number, every, selects, PathEdit, step, insert, modify, erase, erase_item, Edit, on_path, modify_all, erase_all, erase_private, elsewhere, within, acts, fate, NewElement, no_element, new_leaf, new_sequence, around, new_element, element_of}
+use Rattle.dcm_edit_words.specs.Together.{first_fate, all_within}
+use Rattle.dcm_edit_words.specs.Overlap.{AreApart, ArePublic}
+use Rattle.dcm_edit_words.specs.NewOnes.{puts, above_last, is_between, passes_new, passing, first_new}
 use Rattle.dcm_edit.specs.EditSink.{Level, State, MOST_AROUND, begun, has_place, makes, dropped_after_head, either, in_item, item_in, after_item, next, found_by_item}
 use Rattle.dcm_edit.specs.Masks.{is_set, rest_of_path, at_depth, asked, goes_along, GoAlong, bits, AllSet, first_tag, is_insert, makes_element, makes_sequence, MaskLevel, MaskState, level_meant, outer_meant, meant, asked_here, masks_begun, masks_after_head, masks_in_item, masks_after_item, masks_after_end, masks_in_fragment, masks_at_end}
-use Rattle.dcm_edit.proofs.Overlapping.Items.{all_within_all_apart, all_within_public}
-use Rattle.dcm_edit.proofs.Trees.MadeSequences.{made_holds}
+use Rattle.dcm_edit_words.proofs.Overlapping.Items.{all_within_all_apart, all_within_public}
+use Rattle.dcm_edit_words.proofs.Trees.MadeSequences.{made_holds}
 
 rest_more : (d : ℕ) (p : PathEdit) → rest_of_path (suc d) p ≡ rest_of_path (suc zero) (rest_of_path d p)
 rest_more zero p = refl

@@ -7,8 +7,8 @@ use Rattle.std.proofs.lemmas.Nat.{pow-add}
 use Rattle.std.proofs.lemmas.List.{drop-map}
 use Rattle.std.proofs.Math.Nat.{div-div-eq-div-mul}
 use Rattle.dcm_base.specs.declared.tag.Tag.{Tag}
-use Rattle.dcm_edit.specs.Edit.{Edit, elsewhere, fate, Fate, stays, element_of}
-use Rattle.dcm_edit.specs.Together.{first_fate, or_else}
+use Rattle.dcm_edit_words.specs.Edit.{Edit, elsewhere, fate, Fate, stays, element_of}
+use Rattle.dcm_edit_words.specs.Together.{first_fate, or_else}
 use Rattle.dcm_edit.specs.Masks.{is_set, bits, at_depth, asked, Skips}
 use Rattle.dcm_edit.specs.Asking.{answer_of, any_answer, asked_one, Seen, seen, seen_in, lesser, least_new}
 use Rattle.dcm_edit.specs.declared.asked.Question.{Question}

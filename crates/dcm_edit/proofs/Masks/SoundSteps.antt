@@ -3,11 +3,11 @@ use Rattle.std.proofs.Common.{List, [], ◌∷◌, length, fold, Option, Some, N
 use Rattle.std.specs.Prelude.{nat_lt, if◌then◌else◌}
 use Rattle.dcm_base.specs.declared.tag.Tag.{Tag}
 use Rattle.dcm_base.specs.Atoms.{Atom, opens, value_byte, closes_leaf, opens_item, closes_item, closes_sequence, opens_fragment, ends}
-use Rattle.dcm_edit.specs.Edit.{Edit}
+use Rattle.dcm_edit_words.specs.Edit.{Edit}
 use Rattle.dcm_edit.specs.EditSink.{Level, State, MOST_AROUND, begun, next, in_item, item_in, after_item}
-use Rattle.dcm_edit.specs.Overlap.{AreApart, ArePublic}
+use Rattle.dcm_edit_words.specs.Overlap.{AreApart, ArePublic}
 use Rattle.dcm_edit.specs.Sound.{AreSound, IsSound}
-use Rattle.dcm_edit.proofs.Overlapping.Items.{all_within_all_apart, all_within_public}
+use Rattle.dcm_edit_words.proofs.Overlapping.Items.{all_within_all_apart, all_within_public}
 
 pub sound_begun : (es : List Edit) → AreApart es → ArePublic es → IsSound (begun es)
 sound_begun es a p = ((a, p), tt)

@@ -4,15 +4,15 @@ use Rattle.std.specs.List.{list_all}
 use Rattle.std.specs.Prelude.{◌==◌, if◌then◌else◌}
 use Rattle.std.proofs.lemmas.Bool.Decides.{nat_tests}
 use Rattle.dcm_base.specs.declared.tag.Tag.{Tag}
-use Rattle.dcm_edit.specs.declared.edit.Index.{Index as AnIndex}
-use Rattle.dcm_edit.specs.declared.edit.Index.TheVariants as indexes
-use Rattle.dcm_edit.specs.declared.edit.Step.{Step}
-use Rattle.dcm_edit.specs.declared.edit.Action.{Action}
-use Rattle.dcm_edit.specs.declared.edit.Action.TheVariants as actions
+use Rattle.dcm_edit_words.specs.declared.edit.Index.{Index as AnIndex}
+use Rattle.dcm_edit_words.specs.declared.edit.Index.TheVariants as indexes
+use Rattle.dcm_edit_words.specs.declared.edit.Step.{Step}
+use Rattle.dcm_edit_words.specs.declared.edit.Action.{Action}
+use Rattle.dcm_edit_words.specs.declared.edit.Action.TheVariants as actions
 use Rattle.dcm_base.specs.declared.vr.Vr.{Vr}
 use Rattle.dcm_base.specs.Tag.{same_tag}
-use Rattle.dcm_edit.specs.Edit.{Index, selects, PathEdit, step, insert, modify, erase, erase_item, Edit, on_path, modify_all, erase_all, erase_private, elsewhere, within, stays, path_fate, erases, NewElement, no_element, new_leaf, new_sequence, new_element, around}
-use Rattle.dcm_edit.specs.Meaning.{index_of, action_of, along}
+use Rattle.dcm_edit_words.specs.Edit.{Index, selects, PathEdit, step, insert, modify, erase, erase_item, Edit, on_path, modify_all, erase_all, erase_private, elsewhere, within, stays, path_fate, erases, NewElement, no_element, new_leaf, new_sequence, new_element, around}
+use Rattle.dcm_edit_words.specs.Meaning.{index_of, action_of, along}
 use Rattle.dcm_edit.specs.Masks.{rest_of_path, at_depth, goes_along}
 use Rattle.dcm_edit.specs.Asking.{is_first, sequence_on, Seen, nothing_new, a_value, a_sequence, seen}
 

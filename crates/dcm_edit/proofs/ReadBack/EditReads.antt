@@ -19,12 +19,13 @@ use Rattle.dcm_tools.specs.EncodeSink.{encode_start, encode_step, encode_writes}
 use Rattle.dcm_tools.specs.Laws.{StaysShallow}
 use Rattle.dcm_tools.proofs.Conversions.DataSets.{encode_steps}
 use Rattle.dcm_tools.proofs.ReadBack.IsRead.{IsRead, unclosed, whole_read, far_read}
-use Rattle.dcm_edit.specs.Edit.{Edit, edited, found}
-use Rattle.dcm_edit.specs.Overlap.{AreApart, ArePublic}
-use Rattle.dcm_edit.specs.EditSink.{HaveValues, HaveShortIndexes, AreWithin, begun, next, passed, reached_anew}
+use Rattle.dcm_edit_words.specs.Edit.{Edit, edited, found}
+use Rattle.dcm_edit_words.specs.Overlap.{AreApart, ArePublic}
+use Rattle.dcm_edit.specs.EditSink.{begun, next, passed, reached_anew}
+use Rattle.dcm_edit_words.specs.Bounds.{HaveValues, HaveShortIndexes, AreWithin}
 use Rattle.dcm_edit.proofs.EditSinks.Law.{edit_steps}
 use Rattle.dcm_edit.proofs.ReadBack.RecodeAnew.{recode_anew}
-use Rattle.dcm_edit.proofs.Trees.Depths.{edited_shallow}
+use Rattle.dcm_edit_words.proofs.Trees.Depths.{edited_shallow}
 use Rattle.dcm_edit.proofs.Trees.DepthAtoms.{front_shallow, front_stays, anew_shallow}
 use Rattle.dcm_edit.proofs.ReadBack.ReadsAscend.{late, longer, ReadAtoms, read_atoms, reads_ascend, reads_ascend_so_far}
 

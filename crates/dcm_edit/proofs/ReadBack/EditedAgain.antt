@@ -9,7 +9,7 @@ use Rattle.dcm_base.specs.Reads.{INPUT_LIMIT, Reads}
 use Rattle.dcm_base.specs.Recode.{recode}
 use Rattle.dcm_base.specs.Normal.{normal_front}
 use Rattle.dcm_base.proofs.DataSets.OneAnswer.{reads_once}
-use Rattle.dcm_edit.specs.Edit.{Edit, edited}
+use Rattle.dcm_edit_words.specs.Edit.{Edit, edited}
 use Rattle.dcm_edit.specs.Repeating.{EraseByNoNumber}
 use Rattle.dcm_edit.specs.Modification.{Modifies}
 use Rattle.dcm_edit.proofs.ReadBack.TwiceWritten.{edited_twice}

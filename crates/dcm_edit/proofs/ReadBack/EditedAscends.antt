@@ -17,10 +17,10 @@ use Rattle.dcm_base.specs.Reads.{INPUT_LIMIT, Reads}
 use Rattle.dcm_base.specs.Recode.{recode}
 use Rattle.dcm_base.specs.Normal.{normal_vr, normal_sequence_vr, normal_value, normal, normal_items, whole_front, normal_front}
 use Rattle.dcm_base.specs.Syntax.{dictionary_of}
-use Rattle.dcm_edit.specs.Edit.{Edit, edited, edited_sets}
-use Rattle.dcm_edit.specs.EditWords.{meant_edits_in}
-use Rattle.dcm_edit.proofs.Trees.Laws.{Ascend-weaker}
-use Rattle.dcm_edit.proofs.Trees.OneByOne.{Ascend-edited_sets}
+use Rattle.dcm_edit_words.specs.Edit.{Edit, edited, edited_sets}
+use Rattle.dcm_edit_words.specs.EditWords.{meant_edits_in}
+use Rattle.dcm_edit_words.proofs.Trees.Laws.{Ascend-weaker}
+use Rattle.dcm_edit_words.proofs.Trees.OneByOne.{Ascend-edited_sets}
 use Rattle.dcm_edit.proofs.ReadBack.ReadsAscend.{reads_ascend}
 use Rattle.dcm_edit.proofs.ReadBack.EditedReads.{front_whole, edited_reads}
 use Rattle.dcm_edit.proofs.ReadBack.TwiceWritten.{edits_whole}

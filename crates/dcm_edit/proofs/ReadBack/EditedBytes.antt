@@ -15,11 +15,11 @@ use Rattle.dcm_base.proofs.DumpsBack.Texts.{Bytes, bytes_of}
 use Rattle.dcm_base.specs.Syntax.{dictionary_of}
 use Rattle.dcm_tools.proofs.ReadBack.RecodeReads.{Whole, source_whole}
 use Rattle.dcm_tools.proofs.ReadBack.Sources.{a_byte}
-use Rattle.dcm_edit.specs.Edit.{Edit, edited, edited_sets}
-use Rattle.dcm_edit.specs.EditWords.{meant_edits_in}
+use Rattle.dcm_edit_words.specs.Edit.{Edit, edited, edited_sets}
+use Rattle.dcm_edit_words.specs.EditWords.{meant_edits_in}
 use Rattle.dcm_edit.specs.Modification.{OfBytes}
 use Rattle.dcm_edit.proofs.ReadBack.TwiceWritten.{front_recodes}
-use Rattle.dcm_edit.proofs.Words.WordValues.{AllFine}
+use Rattle.dcm_edit_words.proofs.Words.WordValues.{AllFine}
 use Rattle.dcm_edit.proofs.ReadBack.BytesKept.{AllEditBytes, edited_bytes, trees_read, set_written}
 use Rattle.dcm_edit.proofs.Words.WordBytes.{words_bytes}
 

@@ -14,10 +14,10 @@ use Rattle.dcm_base.proofs.DataSets.OwnSyntax.{own_reads}
 use Rattle.dcm_base.proofs.DataSets.InOrder.{unbarred_reads}
 use Rattle.dcm_base.specs.Syntax.{dictionary_of}
 use Rattle.dcm_tools.proofs.ReadBack.RecodeReads.{IsReady, read_ready, ready_reads}
-use Rattle.dcm_edit.specs.Edit.{Edit, edited}
-use Rattle.dcm_edit.specs.EditWords.{meant_edits_in}
+use Rattle.dcm_edit_words.specs.Edit.{Edit, edited}
+use Rattle.dcm_edit_words.specs.EditWords.{meant_edits_in}
 use Rattle.dcm_edit.proofs.ReadBack.StaysReady.{FrontReady, edited_ready}
-use Rattle.dcm_edit.proofs.Words.WordValues.{edits_fit}
+use Rattle.dcm_edit_words.proofs.Words.WordValues.{edits_fit}
 use Rattle.dcm_edit.proofs.Words.WordsReady.{edits_ready}
 
 -- what is read of a syntax fits that syntax

@@ -14,9 +14,9 @@ use Rattle.dcm_base.specs.Recode.{even}
 use Rattle.dcm_base.specs.Normal.{normal_vr, normal_sequence_vr}
 use Rattle.dcm_base.proofs.Dictionaries.TagOrder.{tag_is}
 use Rattle.dcm_tools.proofs.ReadBack.HasRoom.{IsElement, Ready, ReadyItems}
-use Rattle.dcm_edit.specs.Edit.{number, every, PathEdit, step, insert, modify, erase, erase_item, Edit, on_path, modify_all, erase_all, erase_private, elsewhere, step_into, within, selects, Fate, stays, becomes, goes, path_fate, fate, settled, erases, has, has_open, put, NewElement, no_element, new_leaf, new_sequence, before, around, new_element, element_of, with_new, changed, changed_items, is_passed, with_tag, with_new_so_far, edited_by, edited}
-use Rattle.dcm_edit.specs.EditSink.{steps, depth, AreWithin}
-use Rattle.dcm_edit.proofs.Overlapping.Items.{depth-within}
+use Rattle.dcm_edit_words.specs.Edit.{number, every, PathEdit, step, insert, modify, erase, erase_item, Edit, on_path, modify_all, erase_all, erase_private, elsewhere, step_into, within, selects, Fate, stays, becomes, goes, path_fate, fate, settled, erases, has, has_open, put, NewElement, no_element, new_leaf, new_sequence, before, around, new_element, element_of, with_new, changed, changed_items, is_passed, with_tag, with_new_so_far, edited_by, edited}
+use Rattle.dcm_edit_words.specs.Bounds.{steps, depth, AreWithin}
+use Rattle.dcm_edit_words.proofs.Overlapping.Items.{depth-within}
 
 -- ---- the elements that edits name
 

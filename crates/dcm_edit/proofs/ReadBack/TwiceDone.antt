@@ -8,9 +8,9 @@ use Rattle.dcm_base.specs.Tag.{below, same_tag}
 use Rattle.dcm_base.specs.Tree.{Trees, no_tree, leaf, sequence, fragments, Items, no_item, item}
 use Rattle.dcm_base.specs.Normal.{normal_vr, normal_value, UnlessGroupLength}
 use Rattle.dcm_base.proofs.Dictionaries.TagOrder.{same_tag_self}
-use Rattle.dcm_edit.specs.Edit.{number, every, PathEdit, step, insert, modify, erase, erase_item, Edit, on_path, modify_all, erase_all, erase_private, elsewhere, within, selects, Fate, stays, becomes, goes, fate, settled, erases, has, put, NewElement, no_element, new_leaf, new_sequence, before, around, new_element, element_of, with_new, changed, changed_items, edited_set}
+use Rattle.dcm_edit_words.specs.Edit.{number, every, PathEdit, step, insert, modify, erase, erase_item, Edit, on_path, modify_all, erase_all, erase_private, elsewhere, within, selects, Fate, stays, becomes, goes, fate, settled, erases, has, put, NewElement, no_element, new_leaf, new_sequence, before, around, new_element, element_of, with_new, changed, changed_items, edited_set}
 use Rattle.dcm_edit.specs.Repeating.{ends_in_number, erases_by_number}
-use Rattle.dcm_edit.proofs.Trees.Laws.{chosen}
+use Rattle.dcm_edit_words.proofs.Trees.Laws.{chosen}
 
 -- the value that the edit makes of an element is written as the one that is there
 abbrev pub LeafDone : Syntax → Tag → Vr → List ℕ → Fate → Type 0

@@ -8,12 +8,12 @@ use Rattle.dcm_base.specs.declared.syntax.Syntax.{Syntax}
 use Rattle.dcm_base.specs.Tag.{below, same_tag, is_private}
 use Rattle.dcm_base.specs.Tree.{Trees, no_tree, leaf, sequence, fragments, Items, no_item, item}
 use Rattle.dcm_base.proofs.Dictionaries.TagOrder.{same_tag_self, same_tag_sym, tag_is, number_is}
-use Rattle.dcm_edit.specs.Edit.{Index, number, every, PathEdit, step, insert, modify, erase, erase_item, Edit, on_path, modify_all, erase_all, erase_private, elsewhere, within, Fate, stays, becomes, goes, fate, settled, erases, has, put, NewElement, no_element, new_leaf, new_sequence, before, around, new_element, element_of, with_new, changed, changed_items, edited_set, edited_sets}
-use Rattle.dcm_edit.specs.Overlap.{Mark, at_tag, at_index, path, same_index, same_mark, ends, is_every, clash, meets, overlaps, ApartFrom, AreApart, is_public, ArePublic}
+use Rattle.dcm_edit_words.specs.Edit.{Index, number, every, PathEdit, step, insert, modify, erase, erase_item, Edit, on_path, modify_all, erase_all, erase_private, elsewhere, within, Fate, stays, becomes, goes, fate, settled, erases, has, put, NewElement, no_element, new_leaf, new_sequence, before, around, new_element, element_of, with_new, changed, changed_items, edited_set, edited_sets}
+use Rattle.dcm_edit_words.specs.Overlap.{Mark, at_tag, at_index, path, same_index, same_mark, ends, is_every, clash, meets, overlaps, ApartFrom, AreApart, is_public, ArePublic}
 use Rattle.dcm_edit.specs.Repeating.{erases_by_number, EraseByNoNumber}
-use Rattle.dcm_edit.proofs.Trees.Laws.{chosen, cond_alike}
-use Rattle.dcm_edit.proofs.Overlapping.Places.{IfBecomes, quiet, quiet_ends, within_apart, within_public, and_left, and_right, not_true, same_tag_false}
-use Rattle.dcm_edit.proofs.Overlapping.Items.{quiet_step, keeps_items}
+use Rattle.dcm_edit_words.proofs.Trees.Laws.{chosen, cond_alike}
+use Rattle.dcm_edit_words.proofs.Overlapping.Places.{IfBecomes, quiet, quiet_ends, within_apart, within_public, and_left, and_right, not_true, same_tag_false}
+use Rattle.dcm_edit_words.proofs.Overlapping.Items.{quiet_step, keeps_items}
 use Rattle.dcm_edit.proofs.ReadBack.TwiceDone.{LeafDone, IsThere, Done, ItemsDone, SetDone, either, number_within, all_go, new_leaf_done, new_sequence_done, edit_done}
 
 -- ---- whether edits overlap does not depend on their order

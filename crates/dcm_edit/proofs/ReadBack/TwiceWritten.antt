@@ -20,13 +20,13 @@ use Rattle.dcm_base.specs.Spelling.{last_tag}
 use Rattle.dcm_base.proofs.Conversions.NormalForm.{recodes_normal, normal_once}
 use Rattle.dcm_base.proofs.Dictionaries.TagOrder.{same_tag_self, tag_is}
 use Rattle.dcm_base.specs.Syntax.{dictionary_of}
-use Rattle.dcm_edit.specs.Edit.{number, every, step, insert, modify, erase, erase_item, Edit, on_path, modify_all, erase_all, erase_private, elsewhere, within, Fate, stays, becomes, goes, fate, settled, erases, has, put, NewElement, no_element, new_leaf, new_sequence, before, new_element, element_of, with_new, is_passed, with_new_so_far, changed, changed_items, edited_set, edited_sets, edited_by, edited}
-use Rattle.dcm_edit.specs.EditWords.{meant_edits_in}
-use Rattle.dcm_edit.specs.Overlap.{AreApart, ArePublic}
+use Rattle.dcm_edit_words.specs.Edit.{number, every, step, insert, modify, erase, erase_item, Edit, on_path, modify_all, erase_all, erase_private, elsewhere, within, Fate, stays, becomes, goes, fate, settled, erases, has, put, NewElement, no_element, new_leaf, new_sequence, before, new_element, element_of, with_new, is_passed, with_new_so_far, changed, changed_items, edited_set, edited_sets, edited_by, edited}
+use Rattle.dcm_edit_words.specs.EditWords.{meant_edits_in}
+use Rattle.dcm_edit_words.specs.Overlap.{AreApart, ArePublic}
 use Rattle.dcm_edit.specs.Repeating.{EraseByNoNumber}
-use Rattle.dcm_edit.proofs.Trees.Laws.{chosen, then_trees-none}
-use Rattle.dcm_edit.proofs.Overlapping.Items.{or_last}
-use Rattle.dcm_edit.proofs.Words.EditWordLemmas.{edits_are_apart}
+use Rattle.dcm_edit_words.proofs.Trees.Laws.{chosen, then_trees-none}
+use Rattle.dcm_edit_words.proofs.Overlapping.Items.{or_last}
+use Rattle.dcm_edit_words.proofs.Words.EditWordLemmas.{edits_are_apart}
 use Rattle.dcm_edit.proofs.ReadBack.EditedReads.{front_whole}
 use Rattle.dcm_edit.proofs.ReadBack.TwiceDone.{LeafDone, IsThere, Done, ItemsDone, SetDone}
 use Rattle.dcm_edit.proofs.ReadBack.TwiceKept.{OfTag, of_around, IsNotErased, as_it_stays, there_changed, AllDone, all_done, all_keep}

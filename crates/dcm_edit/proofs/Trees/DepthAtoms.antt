@@ -12,7 +12,7 @@ use Rattle.dcm_tools.proofs.Dumps.OpenLists.{stays_on, stays_opened, stays_bytes
 use Rattle.dcm_tools.proofs.ReadBack.Shallow.{leads_nowhere, leads_more}
 use Rattle.dcm_tools.proofs.ReadBack.Sources.{lists_of}
 use Rattle.dcm_edit.specs.EditSink.{reached_anew, open_anew, item_anew}
-use Rattle.dcm_edit.proofs.Trees.Depths.{IsShallow, AreShallow, FrontShallow, OpenShallow, ItemShallow}
+use Rattle.dcm_edit_words.proofs.Trees.Depths.{IsShallow, AreShallow, FrontShallow, OpenShallow, ItemShallow}
 
 -- ---- from the atoms
 

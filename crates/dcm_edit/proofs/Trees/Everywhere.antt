@@ -7,7 +7,7 @@ use Rattle.dcm_base.specs.Tag.{below, same_tag, is_private}
 use Rattle.dcm_base.specs.Tree.{Trees, no_tree, leaf, sequence, fragments, Items, no_item, item, then_trees}
 use Rattle.dcm_base.specs.Front.{Front, front, nothing_open, open_leaf, open_sequence, open_fragments}
 use Rattle.dcm_base.proofs.Dictionaries.TagOrder.{tag_is}
-use Rattle.dcm_edit.specs.Edit.{number, every, PathEdit, step, insert, modify, erase, erase_item, Edit, on_path, modify_all, erase_all, erase_private, elsewhere, step_into, within, selects, Fate, stays, becomes, goes, path_fate, fate, settled, erases, has, has_open, put, NewElement, no_element, new_leaf, new_sequence, before, around, new_element, element_of, with_new, changed, changed_items, is_passed, with_tag, with_new_so_far, edited_by, edited}
+use Rattle.dcm_edit_words.specs.Edit.{number, every, PathEdit, step, insert, modify, erase, erase_item, Edit, on_path, modify_all, erase_all, erase_private, elsewhere, step_into, within, selects, Fate, stays, becomes, goes, path_fate, fate, settled, erases, has, has_open, put, NewElement, no_element, new_leaf, new_sequence, before, around, new_element, element_of, with_new, changed, changed_items, is_passed, with_tag, with_new_so_far, edited_by, edited}
 use Rattle.dcm_edit.specs.Everywhere.{Content, a_value, a_list, Everywhere, InEachItem}
 
 -- nothing is open, and so it is with each element

@@ -7,19 +7,20 @@ use Rattle.dcm_base.specs.declared.length.Length.{Length}
 use Rattle.dcm_base.specs.declared.length.Length.TheVariants.{Known, Undefined}
 use Rattle.dcm_base.specs.Tree.{Trees, no_tree, leaf, Items, no_item, item, then_trees, item_count}
 use Rattle.dcm_base.specs.Front.{Front, front, OpenTree, nothing_open, open_leaf, open_sequence, open_fragments, OpenItem, no_open_item, open_item}
-use Rattle.dcm_edit.specs.NewOnes.{above_last, puts, is_between}
-use Rattle.dcm_edit.specs.Edit.{Edit, within, Fate, stays, becomes, goes, acts, element_of, made_whole, while_it_stays, edited}
-use Rattle.dcm_edit.specs.Together.{first_fate, any_erases, all_within, all_changed_items, all_still_open, all_open_item, together}
-use Rattle.dcm_edit.specs.Overlap.{AreApart, ArePublic}
+use Rattle.dcm_edit_words.specs.NewOnes.{above_last, puts, is_between}
+use Rattle.dcm_edit_words.specs.Edit.{Edit, within, Fate, stays, becomes, goes, acts, element_of, made_whole, while_it_stays, edited}
+use Rattle.dcm_edit_words.specs.Together.{first_fate, any_erases, all_within, all_changed_items, all_still_open, all_open_item, together}
+use Rattle.dcm_edit_words.specs.Overlap.{AreApart, ArePublic}
 use Rattle.dcm_base.specs.Ascending.{FrontAscends, OpenAscends, OpenItemAscends}
-use Rattle.dcm_edit.proofs.Trees.OneByOneFront.{one_by_one}
-use Rattle.dcm_edit.proofs.Overlapping.Items.{all_within_all_apart, all_within_public}
+use Rattle.dcm_edit_words.proofs.Trees.OneByOneFront.{one_by_one}
+use Rattle.dcm_edit_words.proofs.Overlapping.Items.{all_within_all_apart, all_within_public}
 use Rattle.dcm_base.specs.Spelling.{last_tag}
 use Rattle.dcm_base.specs.Value.{order}
 use Rattle.dcm_base.specs.Atoms.{Atom, opens, value_byte, opens_item, opens_fragment, ends, fragments_then, ShowTrees, ShowItems, open_fragment_atoms, end_atoms, MayEnd, is_closed, Shows, ShowsOpen, ShowsOpenItem, trees_then}
-use Rattle.dcm_edit.specs.EditSink.{HaveValues, Level, State, begun, has_place, either, head_by, reached_anew, open_anew, item_anew}
+use Rattle.dcm_edit.specs.EditSink.{Level, State, begun, has_place, either, head_by, reached_anew, open_anew, item_anew}
+use Rattle.dcm_edit_words.specs.Bounds.{HaveValues}
 use Rattle.dcm_edit.proofs.EditSinks.Unbounded.{dropped_unbounded, next_unbounded}
-use Rattle.dcm_edit.proofs.Trees.Kept.{kept, items_kept}
+use Rattle.dcm_edit_words.proofs.Trees.Kept.{kept, items_kept}
 use Rattle.dcm_edit.proofs.EditSinks.Shown.{shown_after, Own, own_shown, own_more, own_puts, all_within_have, FateHas, first_fate_has, anew_reached}
 use Rattle.dcm_edit.proofs.EditSinks.Runs.{at, level, out, items_after, last_count, head_seen, item_seen, end_seen, seen, seen_items, either_none, either_twice, either_within, fold_fragments, fold_trees, fold_items, dropped_fragments, dropped_trees, dropped_items}
 use Rattle.dcm_edit.proofs.EditSinks.Passes.{kept_fragments, new_before, leaf_instead, trees_pass, items_pass}

@@ -16,13 +16,13 @@ use Rattle.dcm_base.specs.Normal.{normal, normal_items, normal_front, normal_vr,
 use Rattle.dcm_base.proofs.DataSets.OneAnswer.{reads_once}
 use Rattle.dcm_base.proofs.Dictionaries.TagOrder.{tag_is}
 use Rattle.dcm_base.specs.Syntax.{dictionary_of}
-use Rattle.dcm_edit.specs.Edit.{PathEdit, step, insert, modify, erase, erase_item, Edit, on_path, modify_all, erase_all, erase_private, elsewhere, within, stays, becomes, goes, erases, element_of, no_element, edited_by, edited}
-use Rattle.dcm_edit.specs.EditWords.{meant_edits_in}
+use Rattle.dcm_edit_words.specs.Edit.{PathEdit, step, insert, modify, erase, erase_item, Edit, on_path, modify_all, erase_all, erase_private, elsewhere, within, stays, becomes, goes, erases, element_of, no_element, edited_by, edited}
+use Rattle.dcm_edit_words.specs.EditWords.{meant_edits_in}
 use Rattle.dcm_edit.specs.Everywhere.{Content, a_value, a_list, Everywhere, InEachItem, EverywhereIn, IsOther, IsPublic, HasJust, IsWrittenJust, Among}
-use Rattle.dcm_edit.specs.Overlap.{path, is_on, is_named, ApartFrom, AreApart, is_public_path, is_public, ArePublic}
+use Rattle.dcm_edit_words.specs.Overlap.{path, is_on, is_named, ApartFrom, AreApart, is_public_path, is_public, ArePublic}
 use Rattle.dcm_edit.proofs.ReadBack.EditedReads.{edited_reads, front_ready}
 use Rattle.dcm_edit.proofs.ReadBack.StaysReady.{FrontReady}
-use Rattle.dcm_edit.proofs.Words.EditWordLemmas.{edits_are_apart}
+use Rattle.dcm_edit_words.proofs.Words.EditWordLemmas.{edits_are_apart}
 use Rattle.dcm_edit.proofs.Trees.Everywhere.{WholeWith, PathFits, Fits, AllFit, SettledAs, Settles, edited_by_fits, edited_fits, edited_by_so}
 
 -- ---- after the edit, whatever the others do

@@ -12,13 +12,13 @@ use Rattle.dcm_base.specs.Spelling.{inside}
 use Rattle.dcm_base.specs.Tree.{Trees, no_tree, leaf, then_trees}
 use Rattle.dcm_base.proofs.DataSets.Row.{trees_then-append, trees_then-then}
 use Rattle.dcm_base.proofs.Dictionaries.TagOrder.{tag_is, below_other_way}
-use Rattle.dcm_edit.specs.Edit.{PathEdit, step, insert, modify, erase, erase_item, Edit, on_path, modify_all, erase_all, erase_private, elsewhere, NewElement, no_element, new_leaf, new_sequence, new_element, element_of, before}
-use Rattle.dcm_edit.specs.Together.{completed}
-use Rattle.dcm_edit.specs.NewOnes.{puts, passes_new, any_new, least_new, first_new}
+use Rattle.dcm_edit_words.specs.Edit.{PathEdit, step, insert, modify, erase, erase_item, Edit, on_path, modify_all, erase_all, erase_private, elsewhere, NewElement, no_element, new_leaf, new_sequence, new_element, element_of, before}
+use Rattle.dcm_edit_words.specs.Together.{completed}
+use Rattle.dcm_edit_words.specs.NewOnes.{puts, passes_new, any_new, least_new, first_new}
 use Rattle.dcm_edit.specs.Masks.{is_set, rest_of_path, at_depth, asked}
 use Rattle.dcm_edit.specs.Asking.{nothing_new, a_value, a_sequence, seen, lies_in, in_gap, path_size, edit_size, AreShort}
 use Rattle.dcm_edit.specs.declared.asked.Gap.{Gap}
-use Rattle.dcm_edit.proofs.Masks.Selection.{Above, is_least, puts_none_new, puts_between, puts_above, above_between, above_above}
+use Rattle.dcm_edit_words.proofs.Trees.Selection.{Above, is_least, puts_none_new, puts_between, puts_above, above_between, above_above}
 
 -- the new elements of a gap
 abbrev pub row : Gap → List Edit → List Atom

@@ -7,7 +7,7 @@ use Rattle.dcm_base.specs.declared.length.Length.{Length}
 use Rattle.dcm_base.specs.Tag.{below, same_tag, is_private}
 use Rattle.dcm_base.specs.Tree.{Trees, no_tree, leaf, sequence, fragments, Items, no_item, item, then_trees}
 use Rattle.dcm_base.specs.Front.{Front, front, nothing_open, open_leaf, open_sequence, open_fragments}
-use Rattle.dcm_edit.specs.Edit.{number, every, PathEdit, step, insert, modify, erase, erase_item, Edit, on_path, modify_all, erase_all, erase_private, elsewhere, within, selects, Fate, stays, becomes, goes, fate, settled, erases, has, has_open, put, NewElement, no_element, new_leaf, new_sequence, before, around, new_element, element_of, with_new, changed, changed_items, is_passed, with_tag, with_new_so_far, acts, edited_by, edited}
+use Rattle.dcm_edit_words.specs.Edit.{number, every, PathEdit, step, insert, modify, erase, erase_item, Edit, on_path, modify_all, erase_all, erase_private, elsewhere, within, selects, Fate, stays, becomes, goes, fate, settled, erases, has, has_open, put, NewElement, no_element, new_leaf, new_sequence, before, around, new_element, element_of, with_new, changed, changed_items, is_passed, with_tag, with_new_so_far, acts, edited_by, edited}
 use Rattle.dcm_base.proofs.Dictionaries.TagOrder.{same_tag_self}
 use Rattle.dcm_edit.proofs.Trees.Everywhere.{WholeWith, edited_by_fits}
 use Rattle.dcm_edit.proofs.Trees.Gone.{Anything, any_fits}

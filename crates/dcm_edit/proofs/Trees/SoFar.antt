@@ -5,18 +5,18 @@ use Rattle.dcm_base.specs.declared.tag.Tag.{Tag}
 use Rattle.dcm_base.specs.Tree.{Trees, no_tree, leaf, sequence, fragments, then_trees}
 use Rattle.dcm_base.specs.Front.{Front, front, OpenTree, nothing_open, open_leaf, open_sequence, open_fragments}
 use Rattle.dcm_base.specs.Tag.{same_tag, below}
-use Rattle.dcm_edit.specs.NewOnes.{above_last, put_at, put_new, puts, is_between}
-use Rattle.dcm_edit.specs.Edit.{Edit, Fate, stays, becomes, goes, has, put, NewElement, no_element, new_leaf, new_sequence, before, element_of, with_new_so_far, made_whole, while_it_stays, has_open, is_passed}
-use Rattle.dcm_edit.specs.Together.{completed, first_fate, all_changed, all_open_made_whole, all_still_open, together, with_all_missing_so_far}
-use Rattle.dcm_edit.specs.Overlap.{AreApart, ArePublic}
+use Rattle.dcm_edit_words.specs.NewOnes.{above_last, put_at, put_new, puts, is_between}
+use Rattle.dcm_edit_words.specs.Edit.{Edit, Fate, stays, becomes, goes, has, put, NewElement, no_element, new_leaf, new_sequence, before, element_of, with_new_so_far, made_whole, while_it_stays, has_open, is_passed}
+use Rattle.dcm_edit_words.specs.Together.{completed, first_fate, all_changed, all_open_made_whole, all_still_open, together, with_all_missing_so_far}
+use Rattle.dcm_edit_words.specs.Overlap.{AreApart, ArePublic}
 use Rattle.dcm_base.specs.Ascending.{Ascend, ReachedLast, OpenAscends}
 use Rattle.dcm_base.proofs.Dictionaries.TagOrder.{below_other_way}
-use Rattle.dcm_edit.proofs.Trees.Laws.{or_false, then_trees-none}
+use Rattle.dcm_edit_words.proofs.Trees.Laws.{or_false, then_trees-none}
 use Rattle.dcm_base.specs.Spelling.{last_tag, reached_tag}
 use Rattle.dcm_base.specs.Atoms.{is_closed}
 use Rattle.dcm_edit.specs.EditSink.{reached_anew}
-use Rattle.dcm_edit.proofs.Trees.NewOnes.{below_not_back, has_more, off, and_all, and_none}
-use Rattle.dcm_edit.proofs.Trees.Kept.{kept, puts_alike, puts_none, kept_within, followed_twice, under_all, under_tag, under_last}
+use Rattle.dcm_edit_words.proofs.Trees.NewOnes.{below_not_back, has_more, off, and_all, and_none}
+use Rattle.dcm_edit_words.proofs.Trees.Kept.{kept, puts_alike, puts_none, kept_within, followed_twice, under_all, under_tag, under_last}
 
 -- ---- which new ones pass
 

@@ -14,9 +14,9 @@ use Rattle.dcm_base.specs.Tag.{tag_number, tag_of_number}
 use Rattle.dcm_base.specs.declared.lookup.Dictionary.TheVariants.{Extract, Standard}
 use Rattle.dcm_base.specs.Dictionary.{Element, Entry, elements, entries, keywords, element_of, elements_in, element_in, called, tag_in, vr_in, is_group_length, is_private_creator}
 use Rattle.dcm_tools.proofs.ReadBack.HasRoom.{IsElement}
-use Rattle.dcm_edit.specs.Edit.{Index}
-use Rattle.dcm_edit.specs.EditWords.{◌>>=◌, or_refuse, PathPart, TagName, by_number, by_keyword, Known, known_tag, known_part, known_parts}
-use Rattle.dcm_edit.proofs.Words.EditWordLemmas.{bind_ok, ok_is, if_err, or_refused, mapped, found_passes, same_group, Within, AllWithin}
+use Rattle.dcm_edit_words.specs.Edit.{Index}
+use Rattle.dcm_edit_words.specs.EditWords.{◌>>=◌, or_refuse, PathPart, TagName, by_number, by_keyword, Known, known_tag, known_part, known_parts}
+use Rattle.dcm_edit_words.proofs.Words.EditWordLemmas.{bind_ok, ok_is, if_err, or_refused, mapped, found_passes, same_group, Within, AllWithin}
 
 abbrev pub IsListed : Dictionary → Known → Type 0
 IsListed d k = IsElement k.tag × (vr_in d k.tag ≡ k.vr)

@@ -1,15 +1,16 @@
 -- What holds of the edits that words mean, as the edit sink asks it.
 use Rattle.std.proofs.Common.{◌≡◌, ◌≤◌, List, length, map, sym, subst, ap, arith}
 use Rattle.std.proofs.lemmas.List.{length-map}
-use Rattle.dcm_edit.specs.declared.edit.Edit.{Edit as AnEdit}
-use Rattle.dcm_edit.specs.Edit.{Edit}
-use Rattle.dcm_edit.specs.EditSink.{AreWithin, begun}
-use Rattle.dcm_edit.specs.Meaning.{edit_of, AreMeant}
+use Rattle.dcm_edit_words.specs.declared.edit.Edit.{Edit as AnEdit}
+use Rattle.dcm_edit_words.specs.Edit.{Edit}
+use Rattle.dcm_edit.specs.EditSink.{begun}
+use Rattle.dcm_edit_words.specs.Bounds.{AreWithin}
+use Rattle.dcm_edit_words.specs.Meaning.{edit_of, AreMeant}
 use Rattle.dcm_edit.specs.Sound.{IsSound}
-use Rattle.dcm_edit.proofs.Words.EditCount.{few}
-use Rattle.dcm_edit.proofs.Words.EditWordLemmas.{edits_are_apart}
+use Rattle.dcm_edit_words.proofs.Words.EditCount.{few}
+use Rattle.dcm_edit_words.proofs.Words.EditWordLemmas.{edits_are_apart}
 use Rattle.dcm_edit.proofs.Masks.SoundSteps.{sound_begun}
-use Rattle.dcm_edit.proofs.Words.WordValues.{edits_fit}
+use Rattle.dcm_edit_words.proofs.Words.WordValues.{edits_fit}
 
 pub few_meant : (edits : List Edit) → AreMeant edits → length edits ≤ 64
 few_meant edits m = few m.dictionary m.words edits m.mean

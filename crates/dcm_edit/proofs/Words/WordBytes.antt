@@ -15,10 +15,10 @@ use Rattle.dcm_base.specs.ValueText.{Shape, text, identifier, unsigned, signed, 
 use Rattle.dcm_base.proofs.DumpsBack.Numbers.{Bytes-append}
 use Rattle.dcm_base.proofs.DumpsBack.DigitNumbers.{bind_some, if_some}
 use Rattle.dcm_base.proofs.DumpsBack.Texts.{Bytes}
-use Rattle.dcm_edit.specs.Edit.{Index, PathEdit, insert, modify, Edit}
-use Rattle.dcm_edit.specs.EditWords.{Cut, cut, onto, cut_at, parts_of, Known, known_parts, has_form, uses_sequences, takes_value, Kind, inserts, modifies, erases, modifies_all, erases_all, last_vr, on_steps, step_to, item_or_element, edit_on, value_for, edit_of_known, edit_of_parts, meant_edit, meant_edits_in, or_refuse}
-use Rattle.dcm_edit.proofs.Words.EditWordLemmas.{bind_ok, ok_is, if_ok, or_refused}
-use Rattle.dcm_edit.proofs.Words.WordValues.{AllFine, AllHave, fine_edits_have}
+use Rattle.dcm_edit_words.specs.Edit.{Index, PathEdit, insert, modify, Edit}
+use Rattle.dcm_edit_words.specs.EditWords.{Cut, cut, onto, cut_at, parts_of, Known, known_parts, has_form, uses_sequences, takes_value, Kind, inserts, modifies, erases, modifies_all, erases_all, last_vr, on_steps, step_to, item_or_element, edit_on, value_for, edit_of_known, edit_of_parts, meant_edit, meant_edits_in, or_refuse}
+use Rattle.dcm_edit_words.proofs.Words.EditWordLemmas.{bind_ok, ok_is, if_ok, or_refused}
+use Rattle.dcm_edit_words.proofs.Words.WordValues.{AllFine, AllHave, fine_edits_have}
 use Rattle.dcm_edit.proofs.ReadBack.BytesKept.{low_bytes, PathBytes, EditBytes, AllEditBytes}
 
 some_is : {A : Type 0} (x y : A) → (let o : Option A = Some x in o ≡ Some y) → x ≡ y

@@ -22,12 +22,12 @@ use Rattle.dcm_base.specs.ValueText.{shape}
 use Rattle.dcm_base.specs.Spelling.{form}
 use Rattle.dcm_base.proofs.DumpsBack.DigitNumbers.{bind_some, if_some}
 use Rattle.dcm_tools.proofs.ReadBack.Sources.{target_value, target_sequence}
-use Rattle.dcm_edit.specs.Edit.{Index, PathEdit, insert, modify, Edit}
-use Rattle.dcm_edit.specs.EditWords.{PathPart, parts_of, Known, known_parts, has_form, is_indexed, uses_sequences, takes_value, Kind, inserts, modifies, erases, modifies_all, erases_all, last_vr, on_steps, step_to, item_or_element, edit_on, value_for, edit_of_known, edit_of_parts, meant_edit, meant_edits_in, or_refuse}
-use Rattle.dcm_edit.proofs.Words.EditWordLemmas.{bind_ok, ok_is, if_ok, or_refused, parts_within}
+use Rattle.dcm_edit_words.specs.Edit.{Index, PathEdit, insert, modify, Edit}
+use Rattle.dcm_edit_words.specs.EditWords.{PathPart, parts_of, Known, known_parts, has_form, is_indexed, uses_sequences, takes_value, Kind, inserts, modifies, erases, modifies_all, erases_all, last_vr, on_steps, step_to, item_or_element, edit_on, value_for, edit_of_known, edit_of_parts, meant_edit, meant_edits_in, or_refuse}
+use Rattle.dcm_edit_words.proofs.Words.EditWordLemmas.{bind_ok, ok_is, if_ok, or_refused, parts_within}
 use Rattle.dcm_edit.proofs.Words.KnownTags.{IsListed, AllListed, parts_listed}
 use Rattle.dcm_edit.proofs.ReadBack.StaysReady.{LeafReady, StepReady, PathReady, EditReady, AreReady}
-use Rattle.dcm_edit.proofs.Words.WordValues.{EndsPlain, and_one, and_two, plain_last, parts_end, parts_count, form_ends, form_one, if_test, AllHave, all_edits_have}
+use Rattle.dcm_edit_words.proofs.Words.WordValues.{EndsPlain, and_one, and_two, plain_last, parts_end, parts_count, form_ends, form_one, if_test, AllHave, all_edits_have}
 
 -- ---- values
 

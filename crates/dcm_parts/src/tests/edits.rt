@@ -1,16 +1,7 @@
-use super::holds;
+use super::{holds, words_of};
 use dcm_base::{Dictionary, EditRefusal, Tag, Vr};
-use dcm_edit::{Action, Edit, EditFault, Edits, Index, dictionary_said};
+use dcm_edit_words::{Action, Edit, EditFault, Edits, Index, dictionary_said};
 use std::test::Fail;
-
-/// The words of a line.
-fn words_of(rt: HostRuntime, line: &'static str) -> Result<Vec<&'static [u8]>, Fail> {
-    let mut words = Vec::new(rt.alloc());
-    for word in line.split(' ') {
-        words.push(word.as_bytes())?;
-    }
-    Ok(words)
-}
 
 /// The edits that the words of a line mean by a dictionary, or the refusal.
 fn parsed_in(

@@ -1,4 +1,4 @@
-use super::holds;
+use super::{holds, words_of};
 use dcm_edit::{EditFault, Edits};
 use dcm_words::{Job, Usage, plan};
 use linked_list_allocator::LocalHeap;
@@ -179,15 +179,6 @@ fn refuses_each_growth_of_a_path(rt: HostRuntime) -> Result<(), Fail> {
         least = next;
     }
     Ok(())
-}
-
-/// The words of a line.
-fn words_of(rt: HostRuntime, line: &'static str) -> Result<Vec<&'static [u8]>, Fail> {
-    let mut words: Vec<&'static [u8]> = Vec::new(rt.alloc());
-    for word in line.split(' ') {
-        words.push(word.as_bytes())?;
-    }
-    Ok(words)
 }
 
 #[test]

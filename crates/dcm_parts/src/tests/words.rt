@@ -1,14 +1,11 @@
-use super::holds;
+use super::{holds, words_of};
 use dcm_base::{Dictionary, EditRefusal, Mode, Syntax, WordFault};
 use dcm_words::{Convert, Dump, Job, Modify, Planned, Usage, plan};
 use std::test::Fail;
 
 /// How many edits the words of a line mean from one path to another, or the refusal.
 fn edits_of(rt: HostRuntime, line: &'static str) -> Result<Result<usize, Usage>, Fail> {
-    let mut words: Vec<&[u8]> = Vec::new(rt.alloc());
-    for word in line.split(' ') {
-        words.push(word.as_bytes())?;
-    }
+    let words = words_of(rt, line)?;
     match plan(rt.alloc(), words.as_slice()) {
         Ok(
             Planned {
@@ -52,10 +49,7 @@ struct Said {
 }
 
 fn said_of(rt: HostRuntime, line: &'static str) -> Result<Result<Said, Usage>, Fail> {
-    let mut words: Vec<&[u8]> = Vec::new(rt.alloc());
-    for word in line.split(' ') {
-        words.push(word.as_bytes())?;
-    }
+    let words = words_of(rt, line)?;
     let planned = match plan(rt.alloc(), words.as_slice()) {
         Ok(planned) => planned,
         Err(Usage::Memory) => return Err(Fail::new("out of memory")),

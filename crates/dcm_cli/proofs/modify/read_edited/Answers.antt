@@ -1,6 +1,6 @@
 use Rattle.std.proofs.Common.{◌≡◌, ◌∙◌, ap, subst, ℕ, List, Option, rules}
 use Rattle.dcm_stream.specs.Reading.{start_of}
-use Rattle.dcm_edit.specs.Edit.{Edit}
+use Rattle.dcm_edit_words.specs.Edit.{Edit}
 use Rattle.dcm_edit.specs.EditSink.{State as EditState, begun}
 use Rattle.dcm_edit.specs.Editing as editing
 use Rattle.dcm_edit.specs.Masks as masks

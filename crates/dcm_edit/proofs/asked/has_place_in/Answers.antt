@@ -1,7 +1,7 @@
 use Rattle.std.proofs.Common.{◌∙◌, sym, ap}
-use Rattle.dcm_edit.specs.Edit as spec
+use Rattle.dcm_edit_words.specs.Edit as spec
 use Rattle.dcm_edit.specs.EditSink.{has_place}
-use Rattle.dcm_edit.specs.Meaning.{edit_of}
+use Rattle.dcm_edit_words.specs.Meaning.{edit_of}
 use Rattle.dcm_edit.proofs.Overlapping.Paths.{within_along}
 use Rattle.dcm_edit.proofs.asked.has_place_in.Goals as goal
 

@@ -1,4 +1,4 @@
-use Rattle.dcm_edit.proofs.Words.WordValues.{edits_fit}
+use Rattle.dcm_edit_words.proofs.Words.WordValues.{edits_fit}
 use Rattle.dcm_edit.proofs.laws.edits_fit.Goals as goal
 
 pub returns : goal.returns

@@ -1,4 +1,4 @@
-use Rattle.dcm_edit.proofs.Trees.OneByOneFront.{one_by_one}
+use Rattle.dcm_edit_words.proofs.Trees.OneByOneFront.{one_by_one}
 use Rattle.dcm_edit.proofs.laws.one_by_one.Goals as goal
 
 pub returns : goal.returns

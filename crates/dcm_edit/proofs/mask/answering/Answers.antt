@@ -1,7 +1,7 @@
 use Rattle.std.proofs.Common.{◌≡◌, ◌+◌, List, [], ◌∷◌, length, map, refl, subst, arith}
-use Rattle.dcm_edit.specs.declared.edit.Edit.{Edit}
+use Rattle.dcm_edit_words.specs.declared.edit.Edit.{Edit}
 use Rattle.dcm_edit.specs.Asking as asking
-use Rattle.dcm_edit.specs.Meaning.{edit_of}
+use Rattle.dcm_edit_words.specs.Meaning.{edit_of}
 use Rattle.dcm_edit.proofs.Masks.Bits.{SoFar, goes_on, high_on}
 use Rattle.dcm_edit.proofs.Masks.Skips.{none_set, high_skips, so_far_skips}
 use Rattle.dcm_edit.proofs.mask.answering.Goals as goal

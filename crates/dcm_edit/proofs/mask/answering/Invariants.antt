@@ -1,7 +1,7 @@
 use Rattle.std.proofs.Common.{◌≡◌, ◌<◌, ◌≤◌, ℕ, ◌+◌, length, map, false}
 use Rattle.dcm_edit.specs.Masks as masks
 use Rattle.dcm_edit.specs.Asking as asking
-use Rattle.dcm_edit.specs.Meaning.{edit_of}
+use Rattle.dcm_edit_words.specs.Meaning.{edit_of}
 use Rattle.dcm_edit.proofs.mask.answering.Given as goal
 
 -- the answers so far are right, whatever the later bits are

@@ -1,7 +1,7 @@
 use Rattle.std.proofs.Common.{◌≡◌, ◌+◌, length, map}
 use Rattle.dcm_edit.specs.Masks as masks
 use Rattle.dcm_edit.specs.Asking as asking
-use Rattle.dcm_edit.specs.Meaning.{edit_of}
+use Rattle.dcm_edit_words.specs.Meaning.{edit_of}
 use Rattle.dcm_edit.specs.declared.asked.Question.TheVariants.{Meets}
 use Rattle.dcm_edit.proofs.mask.any_meets.Given as goal
 

@@ -1,7 +1,7 @@
 use Rattle.std.proofs.Common.{◌≡◌, ◌+◌, length, map}
 use Rattle.dcm_edit.specs.Masks as masks
-use Rattle.dcm_edit.specs.Together as together
-use Rattle.dcm_edit.specs.Meaning.{edit_of}
+use Rattle.dcm_edit_words.specs.Together as together
+use Rattle.dcm_edit_words.specs.Meaning.{edit_of}
 use Rattle.dcm_edit.proofs.mask.first_fate.Given as goal
 
 -- no edit so far changes the element

@@ -1,6 +1,6 @@
 use Rattle.std.proofs.Common.{arith, ◌≡◌, ◌^◌, length, map}
 use Rattle.std.proofs.Math.Nat.{div-le_self}
-use Rattle.dcm_edit.specs.Meaning.{edit_of}
+use Rattle.dcm_edit_words.specs.Meaning.{edit_of}
 use Rattle.dcm_edit.proofs.Masks.Skips.{lacking_skips, size_of_map}
 use Rattle.dcm_edit.proofs.mask.rest_of.Goals as goal
 

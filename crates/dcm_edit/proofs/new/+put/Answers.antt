@@ -6,9 +6,9 @@ use Rattle.dcm_base.specs.Tree.{no_tree}
 use Rattle.dcm_base.specs.Syntax.{Little}
 use Rattle.dcm_edit.specs.Asking.{new_tag}
 use Rattle.dcm_edit.specs.Masks.{asked}
-use Rattle.dcm_edit.specs.Meaning.{edit_of}
-use Rattle.dcm_edit.specs.NewOnes.{puts, above_last, first_new}
-use Rattle.dcm_edit.specs.Overlap.{AreApart, ArePublic}
+use Rattle.dcm_edit_words.specs.Meaning.{edit_of}
+use Rattle.dcm_edit_words.specs.NewOnes.{puts, above_last, first_new}
+use Rattle.dcm_edit_words.specs.Overlap.{AreApart, ArePublic}
 use Rattle.dcm_stream.specs.Sinks.{Takes}
 use Rattle.dcm_edit.proofs.Masks.Answering.{going_along}
 use Rattle.dcm_edit.proofs.EditSinks.Passing.{takes_nothing}

@@ -5,7 +5,7 @@ use Rattle.dcm_base.specs.Atoms.{Atom}
 use Rattle.dcm_base.specs.Steps.{outputs}
 use Rattle.dcm_edit.specs.Asking.{in_gap}
 use Rattle.dcm_edit.specs.Masks.{asked}
-use Rattle.dcm_edit.specs.Meaning.{edit_of}
+use Rattle.dcm_edit_words.specs.Meaning.{edit_of}
 use Rattle.dcm_edit.proofs.Trees.NewRows.{row, new_count}
 use Rattle.dcm_edit.proofs.new.+put.Given as goal
 

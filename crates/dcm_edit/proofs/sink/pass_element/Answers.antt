@@ -3,7 +3,7 @@ use Rattle.dcm_base.specs.Atoms.{Atom, opens, trees_then}
 use Rattle.dcm_base.specs.Syntax.{Little}
 use Rattle.dcm_stream.specs.Sinks.{Takes}
 use Rattle.dcm_edit.specs.EditSink.{head_by}
-use Rattle.dcm_edit.specs.Edit.{Fate}
+use Rattle.dcm_edit_words.specs.Edit.{Fate}
 use Rattle.dcm_edit.specs.Editing as editing
 use Rattle.dcm_edit.proofs.EditSinks.Passing.{head_passed}
 use Rattle.dcm_edit.proofs.EditSinks.Taken.{failed_taken, then_taken}

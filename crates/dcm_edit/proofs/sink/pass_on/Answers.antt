@@ -1,4 +1,4 @@
-use Rattle.std.proofs.Common.{List, Ok, refl, inl, sym, ◌∙◌, ap, subst}
+use Rattle.std.proofs.Common.{List, Ok, refl, sym, ◌∙◌, ap, subst}
 use Rattle.std.specs.Prelude.{fold}
 use Rattle.dcm_base.specs.Atoms.{Atom}
 use Rattle.dcm_stream.specs.Sinks.{Takes}

@@ -1,6 +1,6 @@
 use Rattle.std.proofs.Common.{map, ap}
 use Rattle.dcm_stream.specs.Skip.{depth}
-use Rattle.dcm_edit.specs.Meaning.{edit_of}
+use Rattle.dcm_edit_words.specs.Meaning.{edit_of}
 use Rattle.dcm_edit.proofs.Masks.Editing.{enters, mask_level}
 use Rattle.dcm_edit.proofs.editor.Editor.enter_item.Goals as goal
 

@@ -1,7 +1,7 @@
 use Rattle.std.proofs.Common.{◌∙◌, ap, ℕ, map}
 use Rattle.dcm_edit.specs.Asking.{answer_of}
 use Rattle.dcm_edit.specs.Masks as masks
-use Rattle.dcm_edit.specs.Meaning.{edit_of}
+use Rattle.dcm_edit_words.specs.Meaning.{edit_of}
 use Rattle.dcm_edit.proofs.Masks.Answering.{found_either}
 use Rattle.dcm_edit.proofs.editor.Editor.found_with.Goals as goal
 

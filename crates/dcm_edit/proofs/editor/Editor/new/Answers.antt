@@ -1,6 +1,6 @@
 use Rattle.std.proofs.Common.{map, arith}
 use Rattle.dcm_stream.specs.Skip.{depth}
-use Rattle.dcm_edit.specs.Meaning.{edit_of}
+use Rattle.dcm_edit_words.specs.Meaning.{edit_of}
 use Rattle.std.proofs.lemmas.List.{length-map}
 use Rattle.dcm_edit.proofs.Masks.Editing.{begins}
 use Rattle.dcm_edit.proofs.editor.Editor.new.Goals as goal

@@ -1,7 +1,7 @@
 use Rattle.std.proofs.Common.{map, arith}
 use Rattle.dcm_stream.specs.Skip.{depth}
 use Rattle.dcm_edit.specs.Editing.{level_of}
-use Rattle.dcm_edit.specs.Meaning.{edit_of}
+use Rattle.dcm_edit_words.specs.Meaning.{edit_of}
 use Rattle.dcm_edit.proofs.Masks.Editing.{full_stays}
 use Rattle.dcm_edit.proofs.editor.Editor.open_item.Goals as goal
 

@@ -1,5 +1,5 @@
 use Rattle.std.proofs.Common.{List, sym, ap, ◌∙◌, subst}
-use Rattle.dcm_edit.specs.Edit.{Edit}
+use Rattle.dcm_edit_words.specs.Edit.{Edit}
 use Rattle.dcm_edit.specs.EditSink.{State, begun}
 use Rattle.dcm_edit.specs.Editing as editing
 use Rattle.dcm_edit.specs.Masks as masks

@@ -1,7 +1,7 @@
 use Rattle.std.proofs.Common.{List, length, ap, arith}
 use Rattle.std.proofs.lemmas.List.{length-map}
-use Rattle.dcm_edit.specs.Edit.{Edit}
-use Rattle.dcm_edit.specs.Meaning.{edit_of}
+use Rattle.dcm_edit_words.specs.Edit.{Edit}
+use Rattle.dcm_edit_words.specs.Meaning.{edit_of}
 use Rattle.dcm_edit.proofs.Words.MeantEdits.{few_listed}
 use Rattle.dcm_edit.proofs.sink.EditSink.unplaced.Goals as goal
 

@@ -1,0 +1,3 @@
+pub mod Words
+pub mod Overlapping
+pub mod Trees

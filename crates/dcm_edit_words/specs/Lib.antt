@@ -1,0 +1,10 @@
+pub mod Edit
+pub mod EditWords
+pub mod NewOnes
+pub mod Overlap
+pub mod Together
+pub mod EditCode
+pub mod Meaning
+pub mod Parts
+pub mod Making
+pub mod Bounds
