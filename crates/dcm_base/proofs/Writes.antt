@@ -1,5 +1,3 @@
--- Bytes that go out in parts, and steps over lists in parts.
-pub mod Puts
+-- Steps over lists in parts, and digits that go out.
 pub mod Runs
-pub mod PartsOut
 pub mod HexDigits

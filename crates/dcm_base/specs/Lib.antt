@@ -18,7 +18,6 @@ pub mod Bars
 pub mod Reads
 pub mod MetaGroup
 pub mod MetaReads
-pub mod Decimal
 pub mod ValueText
 pub mod Dump
 pub mod Header
@@ -30,8 +29,6 @@ pub mod ReadValue
 pub mod Line
 pub mod Build
 pub mod Atoms
-pub mod Device
-pub mod Memory
 pub mod Steps
 pub mod Outputs
 pub mod Laws

@@ -1,6 +1,6 @@
 -- What a call does to its output, by the members of the writer.
 use Rattle.std.specs.Prelude.{ℕ, Bool, List, Option, Result}
-use Rattle.dcm_base.specs.Device as device
+use Rattle.dcm_devices.specs.Device as device
 use Rattle.dcm_base.specs.Steps as steps
 
 -- the members of a writer

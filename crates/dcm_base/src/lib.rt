@@ -1,11 +1,9 @@
-//! What all crates speak of: facts of the standard, faults, and devices.
+//! What all crates speak of: facts of the standard, and faults.
 //!
 //! - **Facts**: `Tag`, `Vr` with its letters, unit and pad byte, `Length`, `Syntax`; `element`, `keyword` and `tag_of` of the
 //!   dictionary's extract (PS3.6), `element_in`, `vr_in`, `keyword_in` and `tag_in` of a `Dictionary`, the extract or the whole; `uid_name` and `uid_of`; `coding_of` a transfer syntax; `form_of` an element.
 //! - **Faults**: `Fault` of a file, `LineFault` of lines, `EditRefusal` and `WordFault` of words, each with its number and text.
-//! - **Devices**: the traits `DeviceIn` and `DeviceOut`; `MemIn` and `MemOut` over memory, `Std` over std's readers and
-//!   writers; `Watched` around a device remembers whether it has failed. Bytes go through `get_some`, `put_all`, `put_parts`,
-//!   `put_decimal` and `flush_out`.
+//! - **Devices**: those of `dcm_devices`, handed on under the same names.
 //! - **`specs`** has the definitions that the contracts of all crates cite: data sets as trees, how bytes spell them, dumps,
 //!   conversions, files that are built. `laws` has what is proved of the definitions alone.
 //!
@@ -16,8 +14,6 @@
 //!     assert!(rt; dict_vr(name) == Vr::PN && Vr::PN.pad() == b' ');
 #![tactic(auto)]
 
-mod calls;
-mod device;
 mod dictionary;
 mod fault;
 mod form;
@@ -25,31 +21,27 @@ pub mod laws;
 mod length;
 mod level;
 mod lookup;
-mod memory;
 mod mode;
 mod standard;
-mod std_device;
 mod syntax;
 mod tag;
 mod transfer;
 mod uid;
 mod vr;
-mod watched;
 
-pub use calls::{flush_out, get_some, put_all, put_decimal, put_parts};
-pub use device::{Device, DeviceIn, DeviceOut, ReadFailed, WriteFailed};
+pub use dcm_devices::{
+    Device, DeviceIn, DeviceOut, Measured, MemIn, MemOut, ReadFailed, Std, Watched, WriteFailed,
+    flush_out, get_some, put_all, put_decimal, put_parts,
+};
 pub use dictionary::{ELEMENTS, dict_vr, element, keyword, tag_of};
 pub use fault::{EditRefusal, Fault, LineFault, LineStop, Stop, WordFault};
 pub use form::{Form, form_of};
 pub use length::Length;
 pub use level::{Container, Level, MOST_LISTS};
 pub use lookup::{Dictionary, element_in, keyword_in, tag_in, vr_in};
-pub use memory::{Measured, MemIn, MemOut};
 pub use mode::Mode;
-pub use std_device::Std;
 pub use syntax::{Coding, Syntax};
 pub use tag::{ITEM_GROUP, META_GROUP, Tag};
 pub use transfer::{BIG_UID, Deflated, IMPLICIT_UID, LITTLE_UID, coding_of};
 pub use uid::{uid_name, uid_of};
 pub use vr::{Vr, vr_of};
-pub use watched::Watched;

@@ -3,7 +3,7 @@ use Rattle.std.specs.Prelude.{◌≡◌, ℕ, List, [], Bool, true, Option, None
 use Rattle.std.specs.Io.KnownBytes.{append_known}
 use Rattle.dcm_base.specs.declared.fault.LineStop.{LineStop}
 use Rattle.dcm_base.specs.declared.fault.LineFault.{LineFault}
-use Rattle.dcm_base.specs.Device.{AppendsFront}
+use Rattle.dcm_devices.specs.Device.{AppendsFront}
 use Rattle.dcm_base.specs.Line.{Step, show_leaf, show_fragment}
 use Rattle.dcm_build.specs.declared.file.NewFile.{NewFile}
 use Rattle.dcm_build.specs.declared.file.Stopped.{Stopped}

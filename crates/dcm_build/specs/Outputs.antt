@@ -1,6 +1,6 @@
 -- What a call in the building of a file does to its output, by the members of the writer.
 use Rattle.std.specs.Prelude.{◌≡◌, ℕ, false, List, None, Result}
-use Rattle.dcm_base.specs.Device as device
+use Rattle.dcm_devices.specs.Device as device
 pub use Rattle.dcm_base.specs.Outputs.{Writer, Puts, Tells}
 use Rattle.dcm_base.specs.Steps.{Goes}
 use Rattle.dcm_base.specs.Build.{first_fault, without_return}

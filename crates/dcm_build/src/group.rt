@@ -1,7 +1,7 @@
 // The meta group of a file that is built, as it grows (PS3.10 7.1).
 ghost use Rattle.std.specs.Prelude.{◌≡◌, ◌+◌, ◌≤◌, ◌∷◌, ◌++◌, [], nat_lt, length};
 ghost use Rattle.dcm_base.specs.Build.{named_coding, named_syntax, usable as usable_coding};
-ghost use Rattle.dcm_base.specs.Device.{Puts, Tells};
+ghost use Rattle.dcm_devices.specs.Device.{Puts, Tells};
 ghost use Rattle.dcm_base.specs.Head.{head_size};
 ghost use Rattle.dcm_base.specs.MetaReads.{syntax_value as value_named};
 ghost use Rattle.dcm_base.specs.Size.{trees_size};

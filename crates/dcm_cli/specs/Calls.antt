@@ -1,7 +1,7 @@
 -- What a call leaves of its reader and its writers, by their members.
 use Rattle.std.specs.Prelude.{◌≡◌, ◌⊎◌, ◌↔◌, ℕ, List, Bool, true, false, Option, Some, Result, MatchResult}
 use Rattle.dcm_base.specs.declared.syntax.Syntax.{Syntax}
-use Rattle.dcm_base.specs.Device.{Puts}
+use Rattle.dcm_devices.specs.Device.{Puts}
 use Rattle.dcm_base.specs.Outputs.{Writer}
 use Rattle.dcm_base.specs.declared.lookup.Dictionary.{Dictionary}
 use Rattle.dcm_head.specs.MetaReading.{Reading, group_of}

@@ -2,7 +2,7 @@
 use Rattle.std.specs.Prelude.{◌≡◌, ◌⊎◌, ℕ, zero, suc, ◌/◌, ◌%◌, ◌==◌, List, [], ◌∷◌, ◌++◌, codes, decimal, Bool, true, false, Option, if◌then◌else◌}
 use Rattle.std.specs.Io.KnownBytes.{append_known}
 use Rattle.dcm_base.specs.declared.fault.Stop.{Stop}
-use Rattle.dcm_base.specs.Device.{AppendsFront}
+use Rattle.dcm_devices.specs.Device.{AppendsFront}
 use Rattle.dcm_base.specs.Fault.{fault_number, fault_text, edit_refusal_number, edit_refusal_text, word_fault_number, word_fault_text}
 use Rattle.dcm_words.specs.declared.usage.Usage.{Usage}
 use Rattle.dcm_words.specs.declared.usage.Usage.TheVariants.{AtWord, Whole, InEdit, Memory}

@@ -1,7 +1,7 @@
 -- What a run over memory leaves, where there is room for the answer.
 use Rattle.std.specs.Prelude.{◌≡◌, ◌≤◌, ℕ, List, ◌++◌, length, false}
-use Rattle.dcm_base.specs.Memory.{written, room_of}
-use Rattle.dcm_base.specs.declared.memory.MemOut.{MemOut}
+use Rattle.dcm_devices.specs.Memory.{written, room_of}
+use Rattle.dcm_devices.specs.declared.memory.MemOut.{MemOut}
 use Rattle.dcm_words.specs.Words.{Job}
 use Rattle.dcm_cli.specs.Answer.{Answer, Answers}
 

@@ -1,7 +1,7 @@
 -- What the building of a file from the lines of a dump leaves: how it ended, and what was written.
 use Rattle.std.specs.Prelude.{◌≡◌, ℕ, List, Option, Some, None, Result, Ok, Err}
 use Rattle.std.specs.Io.KnownBytes.{append_known}
-use Rattle.dcm_base.specs.Device.{AppendsFront}
+use Rattle.dcm_devices.specs.Device.{AppendsFront}
 use Rattle.dcm_build.specs.declared.build.BuildHalt.{BuildHalt}
 use Rattle.dcm_build.specs.declared.build.BuildHalt.TheVariants as halts
 use Rattle.dcm_build.specs.Building.{BuildState, finishes, finish_writes}

@@ -1,6 +1,6 @@
 // The pieces in which an input is read.
 ghost use Rattle.std.specs.Prelude.{◌≡◌, ◌≤◌, ◌<◌, ◌^◌, length};
-ghost use Rattle.dcm_base.specs.Device.{Tells};
+ghost use Rattle.dcm_devices.specs.Device.{Tells};
 ghost use Rattle.dcm_cli.specs.Pieces as spec;
 
 use dcm_base::{DeviceIn, ReadFailed, Watched, get_some};

@@ -2,7 +2,7 @@
 ghost use Rattle.std.specs.Prelude.{◌≡◌, ◌≤◌, ◌<◌, ◌+◌, ◌^◌, length, Option, IfOk, true};
 ghost use Rattle.std.specs.Io.KnownBytes.{IsAtEnd};
 ghost use Rattle.dcm_base.specs.declared.syntax.Syntax.{Syntax};
-ghost use Rattle.dcm_base.specs.Device.{Tells};
+ghost use Rattle.dcm_devices.specs.Device.{Tells};
 ghost use Rattle.dcm_base.specs.MetaReads.{Meta as FileMeta};
 ghost use Rattle.dcm_words.specs.Words.{convert as convert_job};
 ghost use Rattle.dcm_head.specs.MetaReading.{HasEnded, uid_of};

@@ -1,6 +1,7 @@
 //! What edits do to a data set, in one pass.
 //!
-//! - `Edits` are the edits of a command line, which `Edits::parse` makes of its words (dcm_edit_words).
+//! - `Edits` are the edits of a command line, which `Edits::parse` makes of its words. They are of dcm_edit_words, whose names are
+//!   handed on here.
 //! - `EditSink` lies between the machine and another sink. It passes on what the edits make of the tokens, all edits at once,
 //!   in a state of fixed size, and `unplaced` says which of them have found no place so far.
 //! - `laws` has that they do what they would do one after another (`one_by_one`), and what is promised of the data set that
@@ -21,5 +22,8 @@ mod mask;
 mod new;
 mod sink;
 
-pub use dcm_edit_words::{EditFault, Edits, MOST_EDITS};
+pub use dcm_edit_words::{
+    Action, Edit, EditFault, Edits, Index, MOST_EDITS, NewElement, PathEdit, Step, dictionary_said,
+    dictionary_word,
+};
 pub use sink::EditSink;

@@ -8,7 +8,7 @@ use Rattle.dcm_base.specs.declared.syntax.Syntax.{Syntax}
 use Rattle.dcm_base.specs.Syntax.{Little}
 use Rattle.dcm_base.specs.declared.fault.Fault.{Fault}
 use Rattle.dcm_base.specs.Atoms.{Atom, front_atoms, is_closed}
-use Rattle.dcm_base.specs.Device.{Puts}
+use Rattle.dcm_devices.specs.Device.{Puts}
 use Rattle.dcm_base.specs.Bars.{is_fragment_form, is_above}
 use Rattle.dcm_base.specs.Front.{Front}
 use Rattle.dcm_base.specs.Reads.{Reads, ended}

@@ -2,7 +2,7 @@
 use Rattle.std.specs.Prelude.{◌≡◌, ℕ, ◌+◌, ◌-◌, ◌≤◌, List, [], ◌++◌, length, take, map, Bool, true, false, Option, Some, None, Result, Ok, Err, fold, ⊤, is_some, ◌||◌, ◌&&◌, ◌==◌}
 use Rattle.std.specs.Io.KnownBytes.{append_known}
 use Rattle.dcm_base.specs.Atoms.{Atom, value_byte}
-use Rattle.dcm_base.specs.Device.{AppendsFront}
+use Rattle.dcm_devices.specs.Device.{AppendsFront}
 use Rattle.dcm_base.specs.Steps.{outputs, Goes}
 use Rattle.dcm_base.specs.Stop.{Stop, complete, refused, is_empty}
 use Rattle.dcm_base.specs.Reads.{INPUT_LIMIT}

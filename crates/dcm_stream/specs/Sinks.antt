@@ -1,7 +1,7 @@
 -- What a call does to a sink, by the sink's members.
 use Rattle.std.specs.Prelude.{◌≡◌, ℕ, List, Option, None, Bool, Result}
 use Rattle.dcm_base.specs.Atoms.{Atom}
-use Rattle.dcm_base.specs.Device as device
+use Rattle.dcm_devices.specs.Device as device
 use Rattle.dcm_base.specs.Steps.{Goes}
 use Rattle.dcm_base.specs.Stop.{Stop}
 use Rattle.dcm_stream.specs.declared.machine.Halt.{Halt}

@@ -1,6 +1,6 @@
 // What takes tokens.
 ghost use Rattle.std.specs.Prelude.{◌≡◌, ℕ, Bool, List, Option, OnOk, fold};
-ghost use Rattle.dcm_base.specs.Device.{Puts, Tells};
+ghost use Rattle.dcm_devices.specs.Device.{Puts, Tells};
 ghost use Rattle.dcm_base.specs.Atoms.{Atom};
 ghost use Rattle.dcm_stream.specs.declared.token.Bar.{Bar};
 ghost use Rattle.dcm_head.specs.declared.head.Head.{Head};

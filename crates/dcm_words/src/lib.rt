@@ -2,6 +2,7 @@
 //!
 //! - `plan` reads the words of a command line into a `Planned`: the paths, and a `Job` with all that its tool has to know.
 //! - Words that it refuses are a `Usage`: which word is wrong and why, which edit, or want of memory.
+//! - The words of dcmodify between its name and its two paths are edits, which `Edits` of dcm_edit_words reads.
 //!
 //! A conversion:
 //!

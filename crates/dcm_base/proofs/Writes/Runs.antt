@@ -2,8 +2,8 @@
 use Rattle.std.proofs.Common.{◌≡◌, ◌∙◌, sym, ap, subst, refl, ℕ, List, [], ◌∷◌, ◌++◌, append_assoc}
 use Rattle.std.specs.Prelude.{fold, Option, Result, Ok, Err, OnOk, IsErr}
 use Rattle.std.specs.Io.KnownBytes.{append_known}
-use Rattle.dcm_base.specs.Device.{Puts, AppendsFront}
-use Rattle.dcm_base.proofs.Writes.Puts.{append_known_twice, append_known_none, front_longer, puts_behind}
+use Rattle.dcm_devices.specs.Device.{Puts, AppendsFront}
+use Rattle.dcm_devices.proofs.Writes.Puts.{append_known_twice, append_known_none, front_longer, puts_behind}
 use Rattle.std.proofs.lemmas.List.Sums.{fold-append}
 use Rattle.std.proofs.lemmas.List.{append-nil, take_all, take_more, take-append-drop, take-append-le}
 use Rattle.std.proofs.Common.{suc, ◌+◌, ◌<◌, ◌≤◌, length, take, drop, get_or, drop-cons, arith}

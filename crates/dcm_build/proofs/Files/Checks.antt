@@ -3,8 +3,8 @@ use Rattle.std.proofs.Common.{◌≡◌, ◌∙◌, ap, ◌++◌, sym, subst, re
 use Rattle.std.specs.Prelude.{OnOk, IsErrAnd}
 use Rattle.std.specs.Io.KnownBytes.{append_known}
 use Rattle.dcm_base.specs.declared.fault.LineFault.{LineFault}
-use Rattle.dcm_base.specs.Device.{AppendsFront, Puts}
-use Rattle.dcm_base.proofs.Writes.Puts.{append_known_none, append_known_twice, puts_behind, front_longer}
+use Rattle.dcm_devices.specs.Device.{AppendsFront, Puts}
+use Rattle.dcm_devices.proofs.Writes.Puts.{append_known_none, append_known_twice, puts_behind, front_longer}
 use Rattle.dcm_base.specs.Line.{Step, Meaning, one}
 use Rattle.dcm_build.specs.declared.file.Stopped.{Stopped}
 use Rattle.dcm_build.specs.declared.file.Stopped.TheVariants.{Refused, Output}

@@ -10,7 +10,7 @@ use Rattle.dcm_base.specs.Syntax.{Little}
 use Rattle.dcm_base.specs.declared.length.Length.TheVariants.{Known}
 use Rattle.dcm_base.specs.declared.form.Form.TheVariants.{Value as a_value}
 use Rattle.dcm_base.specs.Build.{named_syntax}
-use Rattle.dcm_base.specs.Device.{Puts, AppendsFront}
+use Rattle.dcm_devices.specs.Device.{Puts, AppendsFront}
 use Rattle.dcm_base.specs.Head.{ElementHead, head_size}
 use Rattle.dcm_base.specs.MetaGroup.{GroupPlace, an_element, the_end, too_few, a_fault, group_place, AreMeta}
 use Rattle.dcm_base.specs.MetaReads.{PREFIX, syntax_value}
@@ -24,7 +24,7 @@ use Rattle.dcm_base.specs.Tree.{Trees, no_tree, leaf, sequence, fragments, then_
 use Rattle.dcm_base.proofs.DataSets.Extend.{element_extends, trees_extend}
 use Rattle.dcm_base.proofs.DataSets.Heads.{eight_le_head_size}
 use Rattle.dcm_base.proofs.DataSets.Path.{trees_then_at}
-use Rattle.dcm_base.proofs.Writes.Puts.{puts_behind, puts_err, front_longer}
+use Rattle.dcm_devices.proofs.Writes.Puts.{puts_behind, puts_err, front_longer}
 use Rattle.dcm_base.proofs.DataSets.Sizes.{element_takes, trees_take}
 use Rattle.dcm_head.specs.Rewriting.{FirstIs, NoneIs, OfElements}
 use Rattle.dcm_head.proofs.MetaGroups.Elements.{element_is}

@@ -4,7 +4,7 @@ use Rattle.std.specs.Prelude.{Result, Ok, is_err, true, false}
 use Rattle.std.specs.Io.KnownBytes.{append_known, prepend_known}
 use Rattle.dcm_base.specs.declared.mode.Mode.{Mode}
 use Rattle.dcm_base.specs.declared.syntax.Syntax.{Syntax}
-use Rattle.dcm_base.specs.Device.{AppendsFront, Puts}
+use Rattle.dcm_devices.specs.Device.{AppendsFront, Puts}
 use Rattle.dcm_base.specs.Bars.{no_bar}
 use Rattle.dcm_base.specs.Dump.{dump_front}
 use Rattle.dcm_base.specs.Front.{Front}
@@ -12,7 +12,7 @@ use Rattle.dcm_base.specs.Reads.{Reads}
 use Rattle.dcm_base.specs.Header.{set_header}
 use Rattle.dcm_base.specs.Stop.{Stop}
 use Rattle.dcm_words.specs.Words.{dump}
-use Rattle.dcm_base.proofs.Writes.Puts.{append_known_twice, front_longer, puts_behind}
+use Rattle.dcm_devices.proofs.Writes.Puts.{append_known_twice, front_longer, puts_behind}
 use Rattle.dcm_base.specs.Syntax.{read_by}
 use Rattle.dcm_base.specs.declared.lookup.Dictionary.{Dictionary}
 use Rattle.dcm_stream.specs.Reading.{start_of}

@@ -6,7 +6,7 @@ use Rattle.dcm_base.specs.Steps.{outputs, Goes}
 use Rattle.dcm_base.specs.Stop.{Stop}
 use Rattle.dcm_base.specs.Reads.{INPUT_LIMIT}
 use Rattle.std.specs.Io.KnownBytes.{append_known}
-use Rattle.dcm_base.proofs.Writes.Puts.{append_known_none}
+use Rattle.dcm_devices.proofs.Writes.Puts.{append_known_none}
 use Rattle.dcm_base.proofs.Writes.Runs.{goes_on, goes_failed}
 use Rattle.dcm_head.specs.declared.head.Head.{Head}
 use Rattle.dcm_stream.specs.declared.token.Bar.{Bar}

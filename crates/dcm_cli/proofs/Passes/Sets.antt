@@ -5,12 +5,12 @@ use Rattle.std.specs.Io.KnownBytes.{append_known, IsAtEnd}
 use Rattle.std.proofs.lemmas.List.{append-nil}
 use Rattle.dcm_base.specs.declared.syntax.Syntax.{Syntax}
 use Rattle.dcm_base.specs.Atoms.{front_atoms, is_closed}
-use Rattle.dcm_base.specs.Device.{AppendsFront}
+use Rattle.dcm_devices.specs.Device.{AppendsFront}
 use Rattle.dcm_base.specs.Front.{Front, front}
 use Rattle.dcm_base.specs.Reads.{INPUT_LIMIT, Reads, ended}
 use Rattle.dcm_base.specs.Steps.{outputs}
 use Rattle.dcm_base.specs.Stop.{Bar, Stop, complete, refused, is_undecided}
-use Rattle.dcm_base.proofs.Writes.Puts.{front_longer}
+use Rattle.dcm_devices.proofs.Writes.Puts.{front_longer}
 use Rattle.dcm_stream.specs.Reading.{start_of, finish, end_shows}
 use Rattle.dcm_stream.specs.Machine.{next_offset}
 use Rattle.dcm_cli.specs.declared.ending.Ending.{Ending}

@@ -2,9 +2,9 @@
 use Rattle.std.proofs.Common.{◌≡◌, ◌∙◌, ap, subst, ℕ, ◌-◌, ◌≤◌, List, ◌∷◌, ◌++◌, length, Bool, true, false, Option, Some, arith, inl, inr, length-append}
 use Rattle.std.specs.Io.KnownBytes.{append_known}
 use Rattle.std.proofs.lemmas.List.{length-take-le}
-use Rattle.dcm_base.specs.Device.{AppendsFront}
-use Rattle.dcm_base.specs.Memory.{written, size, room_of}
-use Rattle.dcm_base.specs.declared.memory.MemOut.{MemOut}
+use Rattle.dcm_devices.specs.Device.{AppendsFront}
+use Rattle.dcm_devices.specs.Memory.{written, size, room_of}
+use Rattle.dcm_devices.specs.declared.memory.MemOut.{MemOut}
 use Rattle.dcm_words.specs.Words.{Job}
 use Rattle.dcm_cli.specs.Answer.{Answer, Answers}
 use Rattle.dcm_cli.specs.InMemory.{LeavesAnswer}

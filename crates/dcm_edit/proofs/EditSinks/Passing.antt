@@ -12,7 +12,7 @@ use Rattle.dcm_base.specs.Syntax.{Little}
 use Rattle.dcm_base.specs.Atoms.{Atom, opens, value_byte, closes_leaf, opens_item, closes_item, closes_sequence, opens_fragment, ends, trees_then}
 use Rattle.dcm_base.specs.Steps.{outputs}
 use Rattle.dcm_base.specs.Tree.{Trees}
-use Rattle.dcm_base.proofs.Writes.Puts.{append_known_none}
+use Rattle.dcm_devices.proofs.Writes.Puts.{append_known_none}
 use Rattle.dcm_base.proofs.DataSets.Row.{trees_then-append}
 use Rattle.dcm_stream.specs.declared.sink.Sink.{Ghosts}
 use Rattle.dcm_stream.specs.declared.token.Token.{Token}

@@ -8,7 +8,7 @@ use Rattle.dcm_base.specs.declared.vr.Vr.{Vr}
 use Rattle.dcm_base.specs.declared.length.Length.TheVariants.{Known}
 use Rattle.dcm_base.specs.Syntax.{Little}
 use Rattle.dcm_base.specs.Atoms.{Atom, opens, value_byte, closes_leaf, trees_then}
-use Rattle.dcm_base.specs.Device.{Puts, AppendsFront}
+use Rattle.dcm_devices.specs.Device.{Puts, AppendsFront}
 use Rattle.dcm_base.specs.Steps.{outputs}
 use Rattle.dcm_base.specs.Tree.{no_tree, leaf}
 use Rattle.dcm_base.proofs.Writes.Runs.{goes_of, goes_on, goes_failed}

@@ -13,8 +13,8 @@ use Rattle.dcm_base.specs.Spelling.{Spells}
 use Rattle.dcm_base.specs.MetaGroup.{AreMeta}
 use Rattle.dcm_base.specs.Recode.{recode_set, recoded_leaf, unless_dropped}
 use Rattle.dcm_base.specs.NewMeta.{with_syntax, without_syntax, new_elements, group_length}
-use Rattle.dcm_base.specs.Device.{Puts, AppendsFront}
-use Rattle.dcm_base.proofs.Writes.Puts.{front_longer, puts_behind, puts_err}
+use Rattle.dcm_devices.specs.Device.{Puts, AppendsFront}
+use Rattle.dcm_devices.proofs.Writes.Puts.{front_longer, puts_behind, puts_err}
 use Rattle.dcm_head.specs.Rewriting.{left, written_element, FirstIs, NoneIs}
 
 step_at : (named is : Bool) (uid : List ℕ) (tag : Tag) (vr : Vr) (value : List ℕ) (rest : Trees)

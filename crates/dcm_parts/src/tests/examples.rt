@@ -1,6 +1,7 @@
 // The examples in the descriptions of the libraries, at the top of each `lib.rt`.
 use dcm_base::{
-    Coding, Dictionary, Length, MemOut, Mode, Syntax, Tag, Vr, Watched, dict_vr, tag_of,
+    Coding, Dictionary, Length, MemOut, Mode, Syntax, Tag, Vr, Watched, dict_vr, put_all,
+    put_decimal, tag_of,
 };
 use dcm_build::Builder;
 use dcm_edit::{EditSink, Edits};
@@ -23,6 +24,14 @@ fn output(rt: HostRuntime) -> Result<Watched<MemOut>, Fail> {
     let mut room = Vec::new(rt.alloc());
     room.extend_from_slice(&[0; 300])?;
     Ok(Watched::new(MemOut::new(room)))
+}
+
+#[test]
+fn devices(rt: HostRuntime) -> Result<(), Fail> {
+    let mut out = output(rt)?;
+    assert!(rt; put_all(&mut out, b"size ").is_ok() && put_decimal(&mut out, 512, 6).is_ok());
+    assert!(rt; out.device().written() == b"size    512".as_slice());
+    Ok(())
 }
 
 #[test]

@@ -11,7 +11,7 @@ use Rattle.dcm_base.specs.declared.level.Container.TheVariants.{Item as an_item,
 use Rattle.dcm_base.specs.Place.{level}
 use Rattle.dcm_base.specs.Spelling.{inside}
 use Rattle.dcm_base.specs.Atoms.{Atom}
-use Rattle.dcm_base.specs.Device.{AppendsFront}
+use Rattle.dcm_devices.specs.Device.{AppendsFront}
 use Rattle.dcm_base.specs.Steps.{outputs}
 use Rattle.dcm_base.specs.Stop.{Stop}
 use Rattle.dcm_head.specs.declared.head.Head.{Head}

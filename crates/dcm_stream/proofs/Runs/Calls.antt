@@ -9,7 +9,7 @@ use Rattle.dcm_base.specs.declared.fault.Stop.{Stop as Refusal}
 use Rattle.dcm_base.specs.Atoms.{Atom}
 use Rattle.dcm_base.specs.Steps.{Goes}
 use Rattle.dcm_base.specs.Stop.{Stop, complete, refused}
-use Rattle.dcm_base.proofs.Writes.Puts.{append_known_none}
+use Rattle.dcm_devices.proofs.Writes.Puts.{append_known_none}
 use Rattle.dcm_base.proofs.Writes.Runs.{goes_on}
 use Rattle.dcm_head.specs.declared.head.Head.{Head}
 use Rattle.dcm_stream.specs.declared.token.Bar.{Bar}

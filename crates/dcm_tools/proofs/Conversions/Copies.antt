@@ -6,12 +6,12 @@ use Rattle.std.proofs.lemmas.Bool.Decides.{eqb_tells}
 use mathlib.Core.Logic.{⊎_elim}
 use Rattle.std.proofs.lemmas.List.{length-append, append-nil, length-take, length-drop, take-append-drop}
 use Rattle.dcm_base.specs.Steps.{outputs, Goes}
-use Rattle.dcm_base.specs.Device.{AppendsFront, Puts}
+use Rattle.dcm_devices.specs.Device.{AppendsFront, Puts}
 use Rattle.dcm_base.specs.Value.{units, rest_part, turned}
 use Rattle.dcm_base.proofs.Conversions.UnitLaws.{units_cons, units_none, cut, left, cut_units}
 use Rattle.dcm_base.proofs.Conversions.Order.{rest_cons, rest_short, turned_cons, turned_short}
 use Rattle.std.proofs.lemmas.Grind.{flat_map-append}
-use Rattle.dcm_base.proofs.Writes.Puts.{puts_behind, front_longer}
+use Rattle.dcm_devices.proofs.Writes.Puts.{puts_behind, front_longer}
 use Rattle.dcm_value.proofs.UnitOrder.Pieces.{units_append}
 use Rattle.dcm_value.proofs.UnitOrder.Buffers.{Fed, fed_parts, first_size, both_size}
 use Rattle.dcm_tools.specs.EncodeSink.{Copying, copies, copy_writes, ordered}

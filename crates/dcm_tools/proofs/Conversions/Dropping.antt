@@ -4,7 +4,7 @@ use Rattle.std.specs.Prelude.{fold}
 use Rattle.std.specs.Io.KnownBytes.{append_known}
 use Rattle.dcm_base.specs.Atoms.{value_byte}
 use Rattle.dcm_base.specs.Steps.{outputs}
-use Rattle.dcm_base.proofs.Writes.Puts.{append_known_none}
+use Rattle.dcm_devices.proofs.Writes.Puts.{append_known_none}
 use Rattle.dcm_stream.specs.declared.token.Token.{Token}
 use Rattle.dcm_stream.specs.declared.token.Token.TheVariants.{Open, Bytes, CloseLeaf, OpenItem, CloseItem, CloseSeq, OpenFragment, End}
 use Rattle.dcm_stream.specs.Tokens.{atoms_of}

@@ -6,11 +6,11 @@ use Rattle.std.proofs.lemmas.Bool.{cases_lt}
 use Rattle.std.proofs.lemmas.List.{append-nil, length-take, length-drop, take-append-drop, take_all, drop_all}
 use Rattle.dcm_base.specs.declared.vr.Vr.{Vr}
 use Rattle.dcm_base.specs.declared.vr.Vr.TheVariants.{AT, US, SS, OW, UL, SL, FL, OF, OL, FD, OD, OV, SV, UV}
-use Rattle.dcm_base.specs.Device.{AppendsFront, Puts}
+use Rattle.dcm_devices.specs.Device.{AppendsFront, Puts}
 use Rattle.dcm_base.specs.Representation.{unit}
 use Rattle.dcm_base.specs.Value.{turned}
 use Rattle.dcm_base.proofs.Conversions.Order.{turned_cons, turned_short, unit_some}
-use Rattle.dcm_base.proofs.Writes.Puts.{append_known_twice, append_known_none}
+use Rattle.dcm_devices.proofs.Writes.Puts.{append_known_twice, append_known_none}
 
 -- some of the bytes went out, and these are left
 pub record PutSoFar (held holds : Option (List ℕ)) (all left : List ℕ) : Type 0 where

@@ -14,9 +14,9 @@ use Rattle.dcm_base.specs.Spelling.{Spells, form, TreesAt}
 use Rattle.dcm_base.specs.MetaGroup.{AreMeta}
 use Rattle.dcm_base.specs.Atoms.{Atom, opens, value_byte, closes_leaf}
 use Rattle.dcm_base.specs.Dump.{leaf_line, dump_set}
-use Rattle.dcm_base.specs.Device.{Puts, AppendsFront}
+use Rattle.dcm_devices.specs.Device.{Puts, AppendsFront}
 use Rattle.dcm_base.specs.Steps.{Goes}
-use Rattle.dcm_base.proofs.Writes.Puts.{append_known_twice, front_longer, puts_behind, puts_err}
+use Rattle.dcm_devices.proofs.Writes.Puts.{append_known_twice, front_longer, puts_behind, puts_err}
 use Rattle.dcm_base.specs.declared.lookup.Dictionary.{Dictionary}
 use Rattle.dcm_head.specs.Rewriting.{FirstIs, NoneIs}
 use Rattle.dcm_tools.specs.DumpSink.{DumpState, dump_start, dump_step, dump_writes}

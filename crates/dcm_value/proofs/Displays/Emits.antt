@@ -9,10 +9,10 @@ use Rattle.std.specs.Io.KnownBytes.{append_known}
 use Rattle.std.proofs.lemmas.List.{take-append-le, take-append-drop, length-take, length-append, append-nil}
 use Rattle.dcm_base.specs.declared.mode.Mode.{Mode}
 use Rattle.dcm_base.specs.declared.mode.Mode.TheVariants.{Short, Full}
-use Rattle.dcm_base.specs.Device.{AppendsFront, Puts}
+use Rattle.dcm_devices.specs.Device.{AppendsFront, Puts}
 use Rattle.dcm_base.specs.ValueText.{escape, escaped, identified, bracketed}
 use Rattle.std.proofs.lemmas.Grind.{flat_map-append}
-use Rattle.dcm_base.proofs.Writes.Puts.{append_known_twice, append_known_none, puts_behind, puts_err, front_longer}
+use Rattle.dcm_devices.proofs.Writes.Puts.{append_known_twice, append_known_none, puts_behind, puts_err, front_longer}
 use Rattle.dcm_value.specs.Display.{Display, emit, front_after, front_size, at_once, is_short}
 use Rattle.dcm_value.proofs.Displays.Facts.{take_within}
 

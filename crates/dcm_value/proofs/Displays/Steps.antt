@@ -2,14 +2,14 @@
 use Rattle.std.proofs.Common.{◌≡◌, ◌<◌, ℕ, zero, suc, ◌+◌, ◌*◌, ◌%◌, ◌==◌, ◌&&◌, List, [], ◌∷◌, ◌++◌, length, take, drop, codes, ap, sym, ◌∙◌, arith, refl, append_assoc, cond, false, Bool, fold, eq-eqb, ne_eqb, subst, suc-mul, get_or}
 use Rattle.std.specs.Prelude.{count_by, Option, Result, Ok, Err, OnOk, IsErr}
 use Rattle.std.specs.Io.KnownBytes.{append_known}
-use Rattle.dcm_base.specs.Device.{Puts, AppendsFront}
+use Rattle.dcm_devices.specs.Device.{Puts, AppendsFront}
 use Rattle.std.proofs.lemmas.List.{length-append, append-nil, take-append-drop, length-take, length-drop}
 use Rattle.std.proofs.lemmas.List.Sums.{fold-append, sum_by-cons}
 use Rattle.dcm_base.specs.Representation.{pad}
 use Rattle.dcm_base.specs.Steps.{outputs, Goes}
 use Rattle.dcm_base.specs.Value.{pieces}
 use Rattle.dcm_base.specs.ValueText.{shown_unit, escape, escaped}
-use Rattle.dcm_base.proofs.Writes.Puts.{append_known_none, puts_behind, puts_err, front_longer}
+use Rattle.dcm_devices.proofs.Writes.Puts.{append_known_none, puts_behind, puts_err, front_longer}
 use Rattle.dcm_base.proofs.Writes.Runs.{outputs-append, goes_on, goes_failed}
 use Rattle.std.proofs.Math.Seq.{take-length}
 use Rattle.std.proofs.lemmas.List.{take_more}

@@ -1,5 +1,5 @@
 use Rattle.std.proofs.Common.{◌∙◌, Err, refl}
-use Rattle.dcm_base.proofs.Writes.Puts.{puts_err}
+use Rattle.dcm_devices.proofs.Writes.Puts.{puts_err}
 use Rattle.dcm_stream.proofs.Runs.Tokens.{handed_more, handed_failed}
 use Rattle.dcm_tools.specs.EncodeSink.{encode_step, encode_writes}
 use Rattle.dcm_tools.specs.Encoder.{state}

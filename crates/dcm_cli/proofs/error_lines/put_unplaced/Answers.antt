@@ -1,6 +1,6 @@
 use Rattle.std.proofs.Common.{◌≡◌, ◌∙◌, append_assoc, sym, subst, [], ◌∷◌, Bool, true, codes}
 use Rattle.std.specs.Prelude.{decimal}
-use Rattle.dcm_base.specs.Device.{Puts}
+use Rattle.dcm_devices.specs.Device.{Puts}
 use Rattle.dcm_cli.specs.ErrorLines.{line_where}
 use Rattle.dcm_cli.proofs.error_lines.put_unplaced.Goals as goal
 

@@ -1,8 +1,8 @@
 use Rattle.std.proofs.Common.{◌≡◌, ◌∙◌, ap, sym, subst, refl, ◌≤◌, length}
-use Rattle.dcm_base.specs.Memory.{room_of}
-use Rattle.dcm_base.specs.declared.memory.MemIn.{MemIn}
-use Rattle.dcm_base.specs.declared.memory.MemOut.{MemOut}
-use Rattle.dcm_base.specs.declared.memory.Measured.{Measured}
+use Rattle.dcm_devices.specs.Memory.{room_of}
+use Rattle.dcm_devices.specs.declared.memory.MemIn.{MemIn}
+use Rattle.dcm_devices.specs.declared.memory.MemOut.{MemOut}
+use Rattle.dcm_devices.specs.declared.memory.Measured.{Measured}
 use Rattle.dcm_cli.specs.Answer.{Answers}
 use Rattle.dcm_cli.specs.InMemory.{LeavesAnswer}
 use Rattle.dcm_words.specs.Plans.{job_of}

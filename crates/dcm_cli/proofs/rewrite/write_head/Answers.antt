@@ -1,7 +1,7 @@
 use Rattle.std.proofs.Common.{◌≡◌, ap, refl, ℕ, List, ◌++◌, take}
 use Rattle.dcm_base.specs.MetaReads.{PREFIX}
 use Rattle.dcm_base.specs.NewMeta.{new_meta}
-use Rattle.dcm_base.proofs.Writes.PartsOut.{part_failed, parts_put}
+use Rattle.dcm_devices.proofs.Writes.PartsOut.{part_failed, parts_put}
 use Rattle.dcm_cli.proofs.rewrite.write_head.Goals as goal
 
 pub returns-in_err-put_parts-clause-bytes : goal.returns-in_err-put_parts-clause-bytes

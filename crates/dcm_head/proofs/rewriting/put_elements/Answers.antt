@@ -1,6 +1,6 @@
 use Rattle.std.proofs.Common.{◌∙◌, refl, sym, ap, arith}
 use Rattle.std.specs.Io.KnownBytes.{append_known}
-use Rattle.dcm_base.proofs.Writes.Puts.{append_known_none, append_known_twice}
+use Rattle.dcm_devices.proofs.Writes.Puts.{append_known_none, append_known_twice}
 use Rattle.dcm_head.specs.Rewriting.{written_element}
 use Rattle.dcm_head.proofs.MetaGroups.Rewritten.{left_all, left_more, left_none, failed_at}
 use Rattle.dcm_head.proofs.rewriting.put_elements.Goals as goal

@@ -6,7 +6,7 @@ use Rattle.dcm_base.specs.Spelling.{Spells}
 use Rattle.dcm_base.specs.Dump.{dump_set}
 use Rattle.dcm_base.specs.Header.{meta_header, set_header}
 use Rattle.dcm_head.specs.MetaReading.{uid_of}
-use Rattle.dcm_base.proofs.Writes.PartsOut.{part_failed, parts_put}
+use Rattle.dcm_devices.proofs.Writes.PartsOut.{part_failed, parts_put}
 use Rattle.dcm_base.specs.declared.lookup.Dictionary.{Dictionary}
 use Rattle.dcm_tools.proofs.dump.header.dump_header_by.Goals as goal
 

@@ -1,6 +1,6 @@
 use Rattle.std.proofs.Common.{List, ℕ, Option, ap, subst, ◌∙◌, rules}
 use Rattle.std.specs.Prelude.{flat_map}
-use Rattle.dcm_base.specs.Device.{Puts}
+use Rattle.dcm_devices.specs.Device.{Puts}
 use Rattle.dcm_base.specs.Dump.{leaf_line}
 use Rattle.dcm_stream.specs.Tokens.{atoms_of}
 use Rattle.dcm_tools.specs.Lines.{state}

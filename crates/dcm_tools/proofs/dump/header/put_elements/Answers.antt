@@ -1,6 +1,6 @@
 use Rattle.std.proofs.Common.{◌∙◌, refl, sym, ap, arith}
 use Rattle.std.specs.Io.KnownBytes.{append_known}
-use Rattle.dcm_base.proofs.Writes.Puts.{append_known_none}
+use Rattle.dcm_devices.proofs.Writes.Puts.{append_known_none}
 use Rattle.dcm_tools.proofs.Dumps.MetaLines.{left_all, left_more, left_none, first_form, failed_at, gone_more}
 use Rattle.dcm_tools.proofs.dump.header.put_elements.Goals as goal
 

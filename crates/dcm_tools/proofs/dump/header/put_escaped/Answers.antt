@@ -1,6 +1,6 @@
 use Rattle.std.proofs.Common.{◌≡◌, ◌∙◌, get_or}
 use Rattle.dcm_base.specs.ValueText.{escape}
-use Rattle.dcm_base.proofs.Writes.PartsOut.{parts_failed}
+use Rattle.dcm_devices.proofs.Writes.PartsOut.{parts_failed}
 use Rattle.dcm_tools.proofs.dump.header.put_escaped.Goals as goal
 
 pub returns-in_err-put_all-clause-bytes : goal.returns-in_err-put_all-clause-bytes

@@ -1,5 +1,5 @@
 use Rattle.std.proofs.Common.{◌≡◌, refl, List, ℕ, [], ◌∷◌, ◌++◌, append_assoc, codes}
-use Rattle.dcm_base.proofs.Writes.PartsOut.{part_failed, parts_put}
+use Rattle.dcm_devices.proofs.Writes.PartsOut.{part_failed, parts_put}
 use Rattle.dcm_base.specs.Header as header
 use Rattle.dcm_tools.proofs.dump.header.set_header.Goals as goal
 

@@ -1,5 +1,5 @@
 use Rattle.std.proofs.Common.{◌≡◌, ◌∙◌, sym, ap, subst, List, ℕ, ◌++◌, append_assoc}
-use Rattle.dcm_base.specs.Device.{Puts}
+use Rattle.dcm_devices.specs.Device.{Puts}
 use Rattle.dcm_base.specs.ValueText.{padded}
 use Rattle.dcm_base.specs.Dump.{line, line_start}
 use Rattle.dcm_tools.specs.Layout.{line_rest}

@@ -1,5 +1,5 @@
 use Rattle.std.proofs.Common.{refl}
-use Rattle.dcm_base.proofs.Writes.PartsOut.{part_failed, parts_put}
+use Rattle.dcm_devices.proofs.Writes.PartsOut.{part_failed, parts_put}
 use Rattle.dcm_tools.specs.Layout.{line_rest}
 use Rattle.dcm_tools.proofs.dump.layout.put_rest.Goals as goal
 

@@ -1,6 +1,6 @@
 use Rattle.std.proofs.Common.{◌≡◌, ◌∙◌, ap, sym, subst, refl, true, ◌++◌, List, ℕ}
 use Rattle.std.specs.Prelude.{OnOk}
-use Rattle.dcm_base.specs.Device.{Puts}
+use Rattle.dcm_devices.specs.Device.{Puts}
 use Rattle.dcm_base.specs.ValueText.{escaped}
 use Rattle.dcm_value.specs.Display.{is_cut, emit, at_once}
 use Rattle.dcm_value.specs.Shown.{display_of}

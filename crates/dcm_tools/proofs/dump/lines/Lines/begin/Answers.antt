@@ -1,8 +1,8 @@
 use Rattle.std.proofs.Common.{refl, ap, sym, ◌∙◌, List, ℕ, [], length}
 use Rattle.std.proofs.lemmas.List.{append-nil}
 use Rattle.std.specs.Io.KnownBytes.{append_known}
-use Rattle.dcm_base.proofs.Writes.Puts.{append_known_twice}
-use Rattle.dcm_base.proofs.Writes.PartsOut.{part_failed, parts_put}
+use Rattle.dcm_devices.proofs.Writes.Puts.{append_known_twice}
+use Rattle.dcm_devices.proofs.Writes.PartsOut.{part_failed, parts_put}
 use Rattle.dcm_value.specs.Progress as progress
 use Rattle.dcm_tools.specs.DumpSink as spec
 use Rattle.dcm_tools.proofs.Dumps.Brackets.{begun_opened, opened_mode}

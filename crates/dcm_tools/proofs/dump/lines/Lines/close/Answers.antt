@@ -1,5 +1,5 @@
 use Rattle.std.proofs.Common.{refl, ap, sym, ◌≡◌, ◌∙◌, ℕ, List, ◌++◌, length}
-use Rattle.dcm_base.proofs.Writes.PartsOut.{part_failed, parts_put}
+use Rattle.dcm_devices.proofs.Writes.PartsOut.{part_failed, parts_put}
 use Rattle.dcm_value.specs.Progress as progress
 use Rattle.dcm_value.specs.ValueText.{progress as text_progress}
 use Rattle.dcm_tools.specs.DumpSink as spec

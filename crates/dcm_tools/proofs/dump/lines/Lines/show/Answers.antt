@@ -3,8 +3,8 @@ use Rattle.std.specs.Prelude.{fold}
 use Rattle.std.specs.Io.KnownBytes.{append_known}
 use Rattle.dcm_base.specs.Atoms.{value_byte}
 use Rattle.dcm_base.specs.Steps.{outputs}
-use Rattle.dcm_base.specs.Device.{AppendsFront}
-use Rattle.dcm_base.proofs.Writes.Puts.{puts_err, append_known_none}
+use Rattle.dcm_devices.specs.Device.{AppendsFront}
+use Rattle.dcm_devices.proofs.Writes.Puts.{puts_err, append_known_none}
 use Rattle.dcm_value.specs.Progress as progress
 use Rattle.dcm_value.specs.ValueText.{progress as text_progress}
 use Rattle.dcm_value.proofs.Displays.Emits.{settled_of}

@@ -1,6 +1,6 @@
 use Rattle.std.proofs.Common.{sym, ap, ◌∙◌}
 use Rattle.std.specs.Io.KnownBytes.{append_known}
-use Rattle.dcm_base.proofs.Writes.Puts.{append_known_none}
+use Rattle.dcm_devices.proofs.Writes.Puts.{append_known_none}
 use Rattle.dcm_stream.specs.Tokens.{atoms_of}
 use Rattle.dcm_tools.specs.Lines.{state}
 use Rattle.dcm_tools.proofs.Dumps.ValueBytes.{lost_stays, lost_silent}

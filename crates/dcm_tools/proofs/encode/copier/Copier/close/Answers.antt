@@ -1,5 +1,5 @@
 use Rattle.std.proofs.Common.{option_to_list}
-use Rattle.dcm_base.proofs.Writes.Puts.{puts_err, front_longer}
+use Rattle.dcm_devices.proofs.Writes.Puts.{puts_err, front_longer}
 use Rattle.dcm_tools.proofs.encode.copier.Copier.close.Goals as goal
 
 pub returns-in_err-put_all-clause-bytes : goal.returns-in_err-put_all-clause-bytes

@@ -1,5 +1,5 @@
 use Rattle.std.proofs.Common.{rules, ◌≡◌, ap, None, Some}
-use Rattle.dcm_base.proofs.Writes.Puts.{puts_err}
+use Rattle.dcm_devices.proofs.Writes.Puts.{puts_err}
 use Rattle.dcm_tools.specs.Copier.{copying}
 use Rattle.dcm_tools.specs.Encoder.{state, copying_of}
 use Rattle.dcm_tools.proofs.Conversions.Dropping.{no_copy_state, no_copy_bytes, copy_state, copy_bytes}

@@ -1,5 +1,5 @@
-use Rattle.dcm_base.proofs.Writes.PartsOut.{parts_failed}
-use Rattle.dcm_base.proofs.calls.put_parts.Goals as goal
+use Rattle.dcm_devices.proofs.Writes.PartsOut.{parts_failed}
+use Rattle.dcm_devices.proofs.calls.put_parts.Goals as goal
 
 pub returns-in_err-put_all-clause-bytes : goal.returns-in_err-put_all-clause-bytes
 returns-in_err-put_all-clause-bytes g c =

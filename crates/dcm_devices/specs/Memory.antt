@@ -1,6 +1,6 @@
 -- Writers over memory.
 use Rattle.std.specs.Prelude.{ℕ, ◌-◌, List, take, vec_len}
-use Rattle.dcm_base.specs.declared.memory.MemOut.{MemOut}
+use Rattle.dcm_devices.specs.declared.memory.MemOut.{MemOut}
 
 -- the bytes that were put so far
 abbrev pub written : MemOut → List ℕ

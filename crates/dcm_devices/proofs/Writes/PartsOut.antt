@@ -4,8 +4,8 @@ use Rattle.std.specs.Prelude.{IsErr, flat_map}
 use Rattle.std.specs.Io.KnownBytes.{append_known}
 use Rattle.std.proofs.lemmas.Grind.{flat_map-append}
 use Rattle.std.proofs.lemmas.List.{take-append-drop}
-use Rattle.dcm_base.specs.Device.{AppendsFront, Puts}
-use Rattle.dcm_base.proofs.Writes.Puts.{puts_err, front_longer, puts_behind}
+use Rattle.dcm_devices.specs.Device.{AppendsFront, Puts}
+use Rattle.dcm_devices.proofs.Writes.Puts.{puts_err, front_longer, puts_behind}
 
 -- the call failed at one of them
 pub parts_failed : {X T E : Type 0} (f : X → List ℕ) (old mid new : Option (List ℕ)) (xs : List X) (i : ℕ) (d : X) (r : Result T E) → i < length xs

@@ -1,7 +1,7 @@
 use Rattle.std.proofs.Common.{◌≡◌, take}
 use Rattle.std.specs.Prelude.{flat_map}
 use Rattle.std.specs.Io.KnownBytes.{append_known}
-use Rattle.dcm_base.proofs.calls.put_parts.Given as goal
+use Rattle.dcm_devices.proofs.calls.put_parts.Given as goal
 
 -- the parts so far went out
 abbrev pub invariant-loop-part : goal.invariant-loop-part

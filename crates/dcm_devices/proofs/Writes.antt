@@ -1,0 +1,3 @@
+-- Bytes that go out in parts.
+pub mod Puts
+pub mod PartsOut
