@@ -122,6 +122,7 @@ impl<'a> System for Answers<'a> {
 /// What words leave: the status, standard error, and whether there were calls on devices.
 #[derive(Drop)]
 struct Left {
+    words: &'static str,
     status: u8,
     told: Vec<u8>,
     has_calls: bool,
@@ -144,6 +145,7 @@ fn obeyed(
     };
     let status = obey(&system, rt.alloc(), words.as_slice(), &mut errors);
     Ok(Left {
+        words: line,
         status,
         told: bytes_in(rt, errors.device())?,
         has_calls: calls.get() > 0,
@@ -152,9 +154,9 @@ fn obeyed(
 
 /// Expects a status and a line, and calls on devices or none.
 fn expect_left(rt: &impl Abort, left: &Left, status: u8, line: &[u8], has_calls: bool) {
-    holds(rt, "opening", "status", left.status == status);
-    holds(rt, "opening", "line", left.told.as_slice() == line);
-    holds(rt, "opening", "calls", left.has_calls == has_calls);
+    holds(rt, left.words, "status", left.status == status);
+    holds(rt, left.words, "line", left.told.as_slice() == line);
+    holds(rt, left.words, "calls", left.has_calls == has_calls);
 }
 
 const NO_INPUT: &[u8] = b"dcmtools: input cannot be opened\n";
