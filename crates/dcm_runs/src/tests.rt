@@ -1,4 +1,5 @@
 mod buildings;
+mod cases;
 mod command_lines;
 mod conversions;
 mod cuts;
@@ -14,14 +15,15 @@ mod rows;
 
 use buildings::buildings;
 use conversions::conversions;
-use dcm_base::{MemIn, MemOut, Std, Watched};
+use dcm_base::{DeviceIn, DeviceOut, MemIn, MemOut, Std, Watched};
 use dcm_cli::run::run;
-use dcm_cli::{plan, tell};
+use dcm_cli::{Job, plan, tell};
 use dictionaries::dictionaries;
+use itoa::Buffer;
 use modifications::modifications;
 use rows::{Row, bytes_of, front_of};
 use std::io;
-use std::io::Read;
+use std::io::{ErrorKind, Read};
 use std::process::Abort;
 use std::test::Fail;
 
@@ -40,12 +42,33 @@ fn joined(rt: HostRuntime, first: &[u8], second: &[u8]) -> Result<Vec<u8>, Fail>
     Ok(all)
 }
 
-fn room(rt: HostRuntime, size: usize) -> Result<Vec<u8>, Fail> {
-    let mut bytes = Vec::new(rt.alloc());
-    for _ in 0..size {
-        bytes.push(0)?;
+/// A line with a number in it.
+fn numbered(rt: HostRuntime, front: &[u8], number: usize, behind: &[u8]) -> Result<Vec<u8>, Fail> {
+    let mut digits = Buffer::new();
+    let mut line = joined(rt, front, digits.format(number).as_bytes())?;
+    line.extend_from_slice(behind)?;
+    Ok(line)
+}
+
+/// A beginning, a part so many times, and an end.
+fn repeated(
+    rt: HostRuntime,
+    front: &[u8],
+    part: &[u8],
+    times: usize,
+    behind: &[u8],
+) -> Result<Vec<u8>, Fail> {
+    let mut all = front.to_vec(rt.alloc())?;
+    for _ in 0..times {
+        all.extend_from_slice(part)?;
     }
-    Ok(bytes)
+    all.extend_from_slice(behind)?;
+    Ok(all)
+}
+
+/// Room for so many bytes.
+fn room(rt: HostRuntime, size: usize) -> Result<Vec<u8>, Fail> {
+    Ok(vec![in rt.alloc(); 0; size]?)
 }
 
 /// The words of a line.
@@ -57,6 +80,42 @@ fn split(rt: HostRuntime, line: &'static str) -> Result<Vec<&'static [u8]>, Fail
     Ok(words)
 }
 
+/// The status of a job's run over these devices. It has no clauses, so that those of `run` are taken in here alone.
+fn job_status<R: DeviceIn, W: DeviceOut>(
+    job: &Job,
+    input: &mut Watched<R>,
+    out: &mut Watched<W>,
+    errors: &mut Watched<W>,
+) -> u8 {
+    run(job, input, out, errors).status
+}
+
+/// The status of a run that words ask for, over these devices.
+fn status_of<R: DeviceIn, W: DeviceOut>(
+    rt: HostRuntime,
+    line: &'static str,
+    input: &mut Watched<R>,
+    out: &mut Watched<W>,
+    errors: &mut Watched<W>,
+) -> Result<u8, Fail> {
+    let words = split(rt, line)?;
+    let status = match plan(rt.alloc(), words.as_slice()) {
+        Ok(planned) => job_status(&planned.job, input, out, errors),
+        Err(usage) => tell(&usage, errors),
+    };
+    Ok(status)
+}
+
+/// A writer over memory with room for so many bytes.
+fn memory_out(rt: HostRuntime, size: usize) -> Result<Watched<MemOut>, Fail> {
+    Ok(Watched::new(MemOut::new(room(rt, size)?)))
+}
+
+/// What was written into memory.
+fn bytes_in(rt: HostRuntime, out: &MemOut) -> Result<Vec<u8>, Fail> {
+    Ok(out.written().to_vec(rt.alloc())?)
+}
+
 /// A run over memory, that reads so many bytes at a time and has room for so many.
 fn over_memory(
     rt: HostRuntime,
@@ -65,30 +124,34 @@ fn over_memory(
     step: usize,
     size: usize,
 ) -> Result<Answer, Fail> {
-    let words = split(rt, line)?;
     let mut input = Watched::new(MemIn::new(input, step.max(1)));
-    let mut out = Watched::new(MemOut::new(room(rt, size)?));
-    let mut errors = Watched::new(MemOut::new(room(rt, 200)?));
-    let status = match plan(rt.alloc(), words.as_slice()) {
-        Ok(planned) => run(&planned.job, &mut input, &mut out, &mut errors).status,
-        Err(usage) => tell(&usage, &mut errors),
-    };
+    let mut out = memory_out(rt, size)?;
+    let mut errors = memory_out(rt, 200)?;
+    let status = status_of(rt, line, &mut input, &mut out, &mut errors)?;
     Ok(Answer {
         status,
-        output: out.device().written().to_vec(rt.alloc())?,
-        told: errors.device().written().to_vec(rt.alloc())?,
+        output: bytes_in(rt, out.device())?,
+        told: bytes_in(rt, errors.device())?,
     })
 }
 
-/// A reader that gives at most so many bytes at a time.
+/// More calls than a run makes.
+const ALL: usize = usize::MAX;
+
+/// A reader of std that gives at most so many bytes a call, and fails at the call after so many good ones.
 #[derive(Drop)]
 struct Steps<'a> {
     rest: &'a [u8],
     step: usize,
+    good: usize,
 }
 
 impl<'a> Read for Steps<'a> {
     fn read(&mut self, bytes: &mut [u8]) -> io::Result<usize> {
+        if self.good == 0 {
+            return Err(io::Error::from(ErrorKind::Interrupted));
+        }
+        self.good -= 1;
         let n = self.step.min(bytes.len()).min(self.rest.len());
         let (front, rest) = self.rest.split_at(n);
         bytes[..n].copy_from_slice(front);
@@ -104,14 +167,14 @@ fn over_std(
     input: &[u8],
     step: usize,
 ) -> Result<Answer, Fail> {
-    let words = split(rt, line)?;
-    let mut input = Watched::new(Std::new(Steps { rest: input, step }));
+    let mut input = Watched::new(Std::new(Steps {
+        rest: input,
+        step,
+        good: ALL,
+    }));
     let mut out = Watched::new(Std::new(Vec::new(rt.alloc())));
     let mut errors = Watched::new(Std::new(Vec::new(rt.alloc())));
-    let status = match plan(rt.alloc(), words.as_slice()) {
-        Ok(planned) => run(&planned.job, &mut input, &mut out, &mut errors).status,
-        Err(usage) => tell(&usage, &mut errors),
-    };
+    let status = status_of(rt, line, &mut input, &mut out, &mut errors)?;
     Ok(Answer {
         status,
         output: out.into_device().into_inner(),
@@ -121,77 +184,96 @@ fn over_std(
 
 const STEPS: [usize; 5] = [1, 2, 3, 7, 100_000];
 
+/// More room than an output may take beyond what is wanted.
+const ROOM: usize = 1000;
+
 /// Expects that something is so in the run with this name. An assertion of its own at each place takes a proof longer.
 fn holds(rt: &impl Abort, name: &str, what: &str, is_so: bool) {
     assert!(rt; is_so, "{name}: {what}");
 }
 
-/// Expects a status, an output and lines on standard error.
-fn expect_answer(
-    rt: &impl Abort,
-    name: &str,
-    answer: &Answer,
+/// What a run is to answer.
+#[derive(Clone, Copy)]
+struct Wanted<'a> {
     status: u8,
-    output: &[u8],
-    told: &[u8],
-) {
-    holds(rt, name, "status", answer.status == status);
-    holds(rt, name, "output", answer.output.as_slice() == output);
-    holds(rt, name, "standard error", answer.told.as_slice() == told);
+    output: &'a [u8],
+    told: &'a [u8],
 }
 
-fn expect(rt: &impl Abort, row: &Row, wanted: &[u8], answer: &Answer) {
-    expect_answer(rt, row.name, answer, row.status, wanted, row.told);
+/// Expects a status, an output and lines on standard error.
+fn expect_answer(rt: &impl Abort, name: &str, answer: &Answer, wanted: Wanted<'_>) {
+    holds(rt, name, "status", answer.status == wanted.status);
+    let is_written = answer.output.as_slice() == wanted.output;
+    holds(rt, name, "output", is_written);
+    let is_told = answer.told.as_slice() == wanted.told;
+    holds(rt, name, "standard error", is_told);
 }
 
-fn expect_answers(rt: HostRuntime, abort: &impl Abort, row: &Row) -> Result<(), Fail> {
-    let input = joined(rt, bytes_of(row.start), row.input)?;
-    let wanted = joined(rt, front_of(row), row.lines)?;
+/// Expects an answer of a run over memory and of one over std, both in pieces of several sizes.
+fn expect_runs(
+    rt: HostRuntime,
+    abort: &impl Abort,
+    name: &str,
+    words: &'static str,
+    input: &[u8],
+    wanted: Wanted<'_>,
+) -> Result<(), Fail> {
+    let size = wanted.output.len().saturating_add(ROOM);
     for step in STEPS {
-        let answer = over_memory(rt, row.words, input.as_slice(), step, 3000)?;
-        expect(abort, row, wanted.as_slice(), &answer);
-        let answer = over_std(rt, row.words, input.as_slice(), step)?;
-        expect(abort, row, wanted.as_slice(), &answer);
+        let answer = over_memory(rt, words, input, step, size)?;
+        expect_answer(abort, name, &answer, wanted);
+        let answer = over_std(rt, words, input, step)?;
+        expect_answer(abort, name, &answer, wanted);
+    }
+    Ok(())
+}
+
+/// The rows of tables.
+fn rows_of(rt: HostRuntime, tables: &[&'static [Row]]) -> Result<Vec<Row>, Fail> {
+    let mut rows = Vec::new(rt.alloc());
+    for table in tables {
+        rows.extend_from_slice(table)?;
+    }
+    Ok(rows)
+}
+
+/// Expects the answers of all rows of tables.
+fn expect_rows(rt: HostRuntime, abort: &impl Abort, tables: &[&'static [Row]]) -> Result<(), Fail> {
+    let rows = rows_of(rt, tables)?;
+    for row in rows.as_slice() {
+        let input = joined(rt, bytes_of(row.start), row.input)?;
+        let output = joined(rt, front_of(row), row.lines)?;
+        let wanted = Wanted {
+            status: row.status,
+            output: output.as_slice(),
+            told: row.told,
+        };
+        expect_runs(rt, abort, row.name, row.words, input.as_slice(), wanted)?;
     }
     Ok(())
 }
 
 #[test]
 fn dumps(rt: HostRuntime) -> Result<(), Fail> {
-    for row in rows::dumps() {
-        expect_answers(rt, &rt, row)?;
-    }
-    Ok(())
+    expect_rows(rt, &rt, &rows::dumps())
 }
 
 #[test]
 fn converts(rt: HostRuntime) -> Result<(), Fail> {
-    for row in conversions() {
-        expect_answers(rt, &rt, row)?;
-    }
-    Ok(())
+    expect_rows(rt, &rt, &conversions())
 }
 
 #[test]
 fn builds(rt: HostRuntime) -> Result<(), Fail> {
-    for row in buildings() {
-        expect_answers(rt, &rt, row)?;
-    }
-    Ok(())
+    expect_rows(rt, &rt, &buildings())
 }
 
 #[test]
 fn modifies(rt: HostRuntime) -> Result<(), Fail> {
-    for row in modifications() {
-        expect_answers(rt, &rt, row)?;
-    }
-    Ok(())
+    expect_rows(rt, &rt, &modifications())
 }
 
 #[test]
 fn reads_by_dictionaries(rt: HostRuntime) -> Result<(), Fail> {
-    for row in dictionaries() {
-        expect_answers(rt, &rt, row)?;
-    }
-    Ok(())
+    expect_rows(rt, &rt, &dictionaries())
 }

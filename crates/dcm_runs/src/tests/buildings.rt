@@ -1,190 +1,167 @@
 // Files that are built from the lines of a dump.
-use super::rows::{Row, Start};
+use super::rows::{EMPTY, Row, Start};
 
-const BUILDINGS: [Row; 18] = [
-    Row {
-        name: "no lines",
-        words: "dump2dcm - -",
-        start: Start::Nothing,
-        input: b"",
-        header: Start::Nothing,
-        lines: b"",
-        status: 2,
-        told: b"dcmtools: B7 at byte 0, line 1: no usable transfer syntax\n",
-    },
-    Row {
-        name: "an element without a meta group",
-        words: "dump2dcm - -",
-        start: Start::Nothing,
-        input: b"(0010,0010) PN [A]",
-        header: Start::Nothing,
-        lines: b"",
-        status: 2,
-        told: b"dcmtools: B7 at byte 0, line 1: no usable transfer syntax\n",
-    },
+/// Lines that build a file.
+const BUILT: [Row; 8] = [
     Row {
         name: "a meta group alone",
         words: "dump2dcm - -",
-        start: Start::Nothing,
         input: b"(0002,0010) UI =LittleEndianExplicit\n",
         header: Start::ExplicitLittle,
-        lines: b"",
-        status: 0,
-        told: b"",
+        ..EMPTY
     },
     Row {
         name: "a name",
         words: "dump2dcm -e - -",
-        start: Start::Nothing,
         input: b"(0002,0010) UI =LittleEndianExplicit\n(0010,0010) PN [AB^CD]                                  #   6, 1 PatientName\n",
         header: Start::ExplicitLittle,
         lines: b"\x10\0\x10\0PN\x06\0AB^CD ",
-        status: 0,
-        told: b"",
+        ..EMPTY
     },
     Row {
         name: "a carriage return, comments, and no newline",
         words: "dump2dcm - -",
-        start: Start::Nothing,
         input: b"# a dump\r\n\r\n(0002,0010) UI [1.2.840.10008.1.2]\r\n  (0010,0010) PN [A%5d] # a name",
         header: Start::Implicit,
         lines: b"\x10\0\x10\0\x02\0\0\0A]",
-        status: 0,
-        told: b"",
+        ..EMPTY
     },
     Row {
         name: "a number in big endian",
         words: "dump2dcm - -",
-        start: Start::Nothing,
         input: b"(0002,0010) UI =BigEndianExplicit\n(0028,0010) US 258\\3\n",
         header: Start::Big,
         lines: b"\0(\0\x10US\0\x04\x01\x02\0\x03",
-        status: 0,
-        told: b"",
+        ..EMPTY
     },
     Row {
         name: "items",
         words: "dump2dcm - -",
-        start: Start::Nothing,
         input: b"(0002,0010) UI =LittleEndianExplicit\n(0008,1140) SQ (Sequence with explicit length #=1)\n  (fffe,e000) na (Item with explicit length #=1)\n    (0008,1155) UI [1.2]\n  (fffe,e00d) na (ItemDelimitationItem)\n(fffe,e0dd) na (SequenceDelimitationItem)\n(0010,0020) LO (no value available)\n",
         header: Start::ExplicitLittle,
         lines: b"\x08\0@\x11SQ\0\0\xff\xff\xff\xff\xfe\xff\0\xe0\xff\xff\xff\xff\x08\0U\x11UI\x04\01.2\0\xfe\xff\r\xe0\0\0\0\0\xfe\xff\xdd\xe0\0\0\0\0\x10\0 \0LO\0\0",
-        status: 0,
-        told: b"",
+        ..EMPTY
+    },
+    Row {
+        name: "fragments that are whole",
+        words: "dump2dcm - -",
+        input: b"(0002,0010) UI =JPEGBaseline\n(7fe0,0010) OB (PixelSequence #=2)\n  (fffe,e000) pi (no value available)\n  (fffe,e000) pi ff\\d8\\01\n(fffe,e0dd) na (SequenceDelimitationItem)\n",
+        header: Start::Jpeg,
+        lines: b"\xe0\x7f\x10\0OB\0\0\xff\xff\xff\xff\xfe\xff\0\xe0\0\0\0\0\xfe\xff\0\xe0\x04\0\0\0\xff\xd8\x01\0\xfe\xff\xdd\xe0\0\0\0\0",
+        ..EMPTY
+    },
+    Row {
+        name: "the highest number",
+        words: "dump2dcm - -",
+        input: b"(0002,0010) UI =LittleEndianExplicit\n(0009,1001) UV 18446744073709551615",
+        header: Start::ExplicitLittle,
+        lines: b"\x09\0\x01\x10UV\0\0\x08\0\0\0\xff\xff\xff\xff\xff\xff\xff\xff",
+        ..EMPTY
+    },
+    Row {
+        name: "a line of just the limit",
+        words: "dump2dcm +l 080 - -",
+        input: b"(0002,0010) UI =LittleEndianExplicit\n(0010,4000) LT [aaaaaaaaaaaaaaaaaaaaaaaaaaaaaaaaaaaaaaaaaaaaaaaaaaaaaaaaaaaaaaa]\n",
+        header: Start::ExplicitLittle,
+        lines: b"\x10\0\0@LT@\0aaaaaaaaaaaaaaaaaaaaaaaaaaaaaaaaaaaaaaaaaaaaaaaaaaaaaaaaaaaaaaa ",
+        ..EMPTY
+    },
+];
+
+/// Lines at fault.
+const FAULTS: [Row; 10] = [
+    Row {
+        name: "no lines",
+        words: "dump2dcm - -",
+        status: 2,
+        told: b"dcmtools: B7 at byte 0, line 1: no usable transfer syntax\n",
+        ..EMPTY
+    },
+    Row {
+        name: "an element without a meta group",
+        words: "dump2dcm - -",
+        input: b"(0010,0010) PN [A]",
+        status: 2,
+        told: b"dcmtools: B7 at byte 0, line 1: no usable transfer syntax\n",
+        ..EMPTY
     },
     Row {
         name: "fragments",
         words: "dump2dcm - -",
-        start: Start::Nothing,
         input: b"(0002,0010) UI =JPEGBaseline\n(7fe0,0010) OB (PixelSequence #=2)\n  (fffe,e000) pi (no value available)\n  (fffe,e000) pi ff\\d8\\1\n",
         header: Start::Jpeg,
         lines: b"\xe0\x7f\x10\0OB\0\0\xff\xff\xff\xff\xfe\xff\0\xe0\0\0\0\0",
         status: 2,
         told: b"dcmtools: B3 at byte 102, line 4: value does not fit\n",
-    },
-    Row {
-        name: "fragments that are whole",
-        words: "dump2dcm - -",
-        start: Start::Nothing,
-        input: b"(0002,0010) UI =JPEGBaseline\n(7fe0,0010) OB (PixelSequence #=2)\n  (fffe,e000) pi (no value available)\n  (fffe,e000) pi ff\\d8\\01\n(fffe,e0dd) na (SequenceDelimitationItem)\n",
-        header: Start::Jpeg,
-        lines: b"\xe0\x7f\x10\0OB\0\0\xff\xff\xff\xff\xfe\xff\0\xe0\0\0\0\0\xfe\xff\0\xe0\x04\0\0\0\xff\xd8\x01\0\xfe\xff\xdd\xe0\0\0\0\0",
-        status: 0,
-        told: b"",
+        ..EMPTY
     },
     Row {
         name: "a line without a value",
         words: "dump2dcm - -",
-        start: Start::Nothing,
         input: b"(0002,0010) UI =LittleEndianExplicit\n(0010,0010) PN",
-        header: Start::Nothing,
-        lines: b"",
         status: 2,
         told: b"dcmtools: B2 at byte 37, line 2: not a dump line\n",
+        ..EMPTY
     },
     Row {
         name: "an end of nothing",
         words: "dump2dcm - -",
-        start: Start::Nothing,
         input: b"(0002,0010) UI =LittleEndianExplicit\n(fffe,e00d) na (ItemDelimitationItem)",
         header: Start::ExplicitLittle,
-        lines: b"",
         status: 2,
         told: b"dcmtools: B4 at byte 37, line 2: not allowed here\n",
+        ..EMPTY
     },
     Row {
         name: "tags that descend",
         words: "dump2dcm - -",
-        start: Start::Nothing,
         input: b"(0002,0010) UI =LittleEndianExplicit\n(0010,0020) LO [7]\n(0010,0010) PN [A]\n",
         header: Start::ExplicitLittle,
         lines: b"\x10\0 \0LO\x02\07 ",
         status: 2,
         told: b"dcmtools: B5 at byte 56, line 3: tags not ascending\n",
+        ..EMPTY
     },
     Row {
         name: "the meta group again",
         words: "dump2dcm - -",
-        start: Start::Nothing,
         input: b"(0002,0010) UI =LittleEndianExplicit\n(0010,0010) PN [A]\n(0002,0010) UI =LittleEndianExplicit\n",
         header: Start::ExplicitLittle,
         lines: b"\x10\0\x10\0PN\x02\0A ",
         status: 2,
         told: b"dcmtools: B6 at byte 56, line 3: bad meta group\n",
+        ..EMPTY
     },
     Row {
         name: "an open sequence",
         words: "dump2dcm - -",
-        start: Start::Nothing,
         input: b"(0002,0010) UI =LittleEndianExplicit\n(0008,1140) SQ (Sequence with undefined length)\n",
         header: Start::ExplicitLittle,
         lines: b"\x08\0@\x11SQ\0\0\xff\xff\xff\xff",
         status: 2,
         told: b"dcmtools: B9 at byte 85, line 3: input ends too early\n",
-    },
-    Row {
-        name: "the highest number",
-        words: "dump2dcm - -",
-        start: Start::Nothing,
-        input: b"(0002,0010) UI =LittleEndianExplicit\n(0009,1001) UV 18446744073709551615",
-        header: Start::ExplicitLittle,
-        lines: b"\x09\0\x01\x10UV\0\0\x08\0\0\0\xff\xff\xff\xff\xff\xff\xff\xff",
-        status: 0,
-        told: b"",
+        ..EMPTY
     },
     Row {
         name: "a number too high",
         words: "dump2dcm - -",
-        start: Start::Nothing,
         input: b"(0002,0010) UI =LittleEndianExplicit\n(0009,1001) UV 18446744073709551616",
         header: Start::ExplicitLittle,
-        lines: b"",
         status: 2,
         told: b"dcmtools: B3 at byte 37, line 2: value does not fit\n",
-    },
-    Row {
-        name: "a line of just the limit",
-        words: "dump2dcm +l 080 - -",
-        start: Start::Nothing,
-        input: b"(0002,0010) UI =LittleEndianExplicit\n(0010,4000) LT [aaaaaaaaaaaaaaaaaaaaaaaaaaaaaaaaaaaaaaaaaaaaaaaaaaaaaaaaaaaaaaa]\n",
-        header: Start::ExplicitLittle,
-        lines: b"\x10\0\0@LT@\0aaaaaaaaaaaaaaaaaaaaaaaaaaaaaaaaaaaaaaaaaaaaaaaaaaaaaaaaaaaaaaa ",
-        status: 0,
-        told: b"",
+        ..EMPTY
     },
     Row {
         name: "a line past the limit",
         words: "dump2dcm +l 080 - -",
-        start: Start::Nothing,
         input: b"(0002,0010) UI =LittleEndianExplicit\n(0010,4000) LT [aaaaaaaaaaaaaaaaaaaaaaaaaaaaaaaaaaaaaaaaaaaaaaaaaaaaaaaaaaaaaaaa]\n",
-        header: Start::Nothing,
-        lines: b"",
         status: 2,
         told: b"dcmtools: B1 at byte 37, line 2: line too long\n",
+        ..EMPTY
     },
 ];
 
 /// All files that are built.
-pub fn buildings() -> &'static [Row] {
-    &BUILDINGS
+pub fn buildings() -> [&'static [Row]; 2] {
+    [&BUILT, &FAULTS]
 }

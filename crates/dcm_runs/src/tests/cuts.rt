@@ -4,8 +4,7 @@ use super::conversions::conversions;
 use super::dictionaries::dictionaries;
 use super::modifications::modifications;
 use super::rows::{Row, Start, bytes_of, dumps, front_of};
-use super::{Answer, holds, joined, over_memory};
-use itoa::Buffer;
+use super::{Answer, holds, joined, numbered, over_memory, rows_of};
 use std::process::Abort;
 use std::test::Fail;
 
@@ -16,11 +15,12 @@ const ROOM: usize = 3000;
 
 /// The line of an input that ends too early after so many bytes.
 fn early_end(rt: HostRuntime, read: usize) -> Result<Vec<u8>, Fail> {
-    let mut digits = Buffer::new();
-    let mut line = b"dcmtools: R1 at byte ".to_vec(rt.alloc())?;
-    line.extend_from_slice(digits.format(read).as_bytes())?;
-    line.extend_from_slice(b": input ends too early\n")?;
-    Ok(line)
+    numbered(
+        rt,
+        b"dcmtools: R1 at byte ",
+        read,
+        b": input ends too early\n",
+    )
 }
 
 /// Whether a row writes a head. Where its whole input is at fault before that, a cut one may be a file without elements.
@@ -67,36 +67,33 @@ fn cut_everywhere(rt: HostRuntime, abort: &impl Abort, row: &Row) -> Result<(), 
     Ok(())
 }
 
-#[test]
-fn dumps_of_cut_files(rt: HostRuntime) -> Result<(), Fail> {
-    for row in dumps() {
-        cut_everywhere(rt, &rt, row)?;
+/// Runs rows with their inputs cut at each byte.
+fn cut_rows(rt: HostRuntime, abort: &impl Abort, tables: &[&'static [Row]]) -> Result<(), Fail> {
+    let rows = rows_of(rt, tables)?;
+    for row in rows.as_slice() {
+        cut_everywhere(rt, abort, row)?;
     }
     Ok(())
+}
+
+#[test]
+fn dumps_of_cut_files(rt: HostRuntime) -> Result<(), Fail> {
+    cut_rows(rt, &rt, &dumps())
 }
 
 #[test]
 fn conversions_of_cut_files(rt: HostRuntime) -> Result<(), Fail> {
-    for row in conversions() {
-        cut_everywhere(rt, &rt, row)?;
-    }
-    Ok(())
+    cut_rows(rt, &rt, &conversions())
 }
 
 #[test]
 fn edits_of_cut_files(rt: HostRuntime) -> Result<(), Fail> {
-    for row in modifications() {
-        cut_everywhere(rt, &rt, row)?;
-    }
-    Ok(())
+    cut_rows(rt, &rt, &modifications())
 }
 
 #[test]
 fn dictionaries_of_cut_files(rt: HostRuntime) -> Result<(), Fail> {
-    for row in dictionaries() {
-        cut_everywhere(rt, &rt, row)?;
-    }
-    Ok(())
+    cut_rows(rt, &rt, &dictionaries())
 }
 
 /// Expects what is answered to the first lines of a dump: a file of them, the fault of the whole, no transfer syntax so far,
@@ -134,7 +131,8 @@ fn cut_after_lines(rt: HostRuntime, abort: &impl Abort, row: &Row) -> Result<(),
 
 #[test]
 fn files_of_cut_dumps(rt: HostRuntime) -> Result<(), Fail> {
-    for row in buildings() {
+    let rows = rows_of(rt, &buildings())?;
+    for row in rows.as_slice() {
         cut_after_lines(rt, &rt, row)?;
     }
     Ok(())

@@ -6,44 +6,18 @@ mod dictionaries;
 mod dumps;
 mod modifications;
 
-use super::rows::{Row, bytes_of, front_of};
-use super::{holds, joined, split};
-use dcm_cli::{Job, plan};
+use super::cases::{Case, case_of};
+use super::rows::Row;
+use super::{holds, numbered, rows_of};
 use devices::{Failure, Good, Left, SOUND, run_over, sure_of};
-use itoa::Buffer;
 use std::process::Abort;
 use std::test::Fail;
-
-/// The job of a row, its input and its whole output.
-#[derive(Drop)]
-struct Case {
-    job: Job,
-    input: Vec<u8>,
-    whole: Vec<u8>,
-}
-
-fn case_of(rt: HostRuntime, abort: &impl Abort, row: &Row) -> Result<Case, Fail> {
-    let words = split(rt, row.words)?;
-    let planned = match plan(rt.alloc(), words.as_slice()) {
-        Ok(planned) => planned,
-        Err(_) => panic!(abort; "{}", row.name),
-    };
-    Ok(Case {
-        job: planned.job,
-        input: joined(rt, bytes_of(row.start), row.input)?,
-        whole: joined(rt, front_of(row), row.lines)?,
-    })
-}
 
 const OUTPUT_FAILED: &[u8] = b"dcmtools: output failed\n";
 
 /// The line that reports that reading failed.
 fn unread_line(rt: HostRuntime, read: usize) -> Result<Vec<u8>, Fail> {
-    let mut line = b"dcmtools: reading failed after ".to_vec(rt.alloc())?;
-    let mut digits = Buffer::new();
-    line.extend_from_slice(digits.format(read).as_bytes())?;
-    line.extend_from_slice(b" bytes\n")?;
-    Ok(line)
+    numbered(rt, b"dcmtools: reading failed after ", read, b" bytes\n")
 }
 
 /// Expects what every run leaves: nothing on a writer that had failed, and lines after all of the output.
@@ -142,33 +116,62 @@ fn read_failing_behind(
 /// Runs a row over readers that fail, at the last at the call that would give the end.
 fn read_failing(rt: HostRuntime, abort: &impl Abort, row: &Row, flush: bool) -> Result<(), Fail> {
     let case = case_of(rt, abort, row)?;
-    for reads in 0..case.input.len() {
+    for reads in 0..=case.input.len() {
         read_failing_behind(rt, abort, row, &case, reads, flush)?;
     }
-    read_failing_behind(rt, abort, row, &case, case.input.len(), flush)
+    Ok(())
 }
 
-/// Runs a case over a writer that fails after so many calls.
-fn write_failing_after(rt: HostRuntime, abort: &impl Abort, row: &Row, case: &Case, writes: usize) {
-    for failure in [Failure::Error, Failure::NoByte] {
-        let good = Good {
-            writes,
-            failure,
-            ..SOUND
-        };
-        let left = run_over(rt, &case.job, case.input.as_slice(), good);
-        expect_unwritten(abort, row.name, case, writes, 0, &left);
+/// Runs rows over readers that fail, and writers whose flush may fail.
+fn reads_fail(
+    rt: HostRuntime,
+    abort: &impl Abort,
+    tables: &[&'static [Row]],
+    flush: bool,
+) -> Result<(), Fail> {
+    let rows = rows_of(rt, tables)?;
+    for row in rows.as_slice() {
+        read_failing(rt, abort, row, flush)?;
     }
+    Ok(())
+}
+
+/// Runs a case over a writer that fails so after so many calls.
+fn write_failing_after(
+    rt: HostRuntime,
+    abort: &impl Abort,
+    row: &Row,
+    case: &Case,
+    writes: usize,
+    failure: Failure,
+) {
+    let good = Good {
+        writes,
+        failure,
+        ..SOUND
+    };
+    let left = run_over(rt, &case.job, case.input.as_slice(), good);
+    expect_unwritten(abort, row.name, case, writes, 0, &left);
 }
 
 /// Runs a row over writers that fail.
 fn write_failing(rt: HostRuntime, abort: &impl Abort, row: &Row) -> Result<(), Fail> {
     let case = case_of(rt, abort, row)?;
     for writes in 0..case.whole.len() {
-        write_failing_after(rt, abort, row, &case, writes);
+        write_failing_after(rt, abort, row, &case, writes, Failure::Error);
+        write_failing_after(rt, abort, row, &case, writes, Failure::NoByte);
     }
     let left = run_over(rt, &case.job, case.input.as_slice(), SOUND);
     expect_whole(abort, row, &case, &left);
+    Ok(())
+}
+
+/// Runs rows over writers that fail.
+fn writes_fail(rt: HostRuntime, abort: &impl Abort, tables: &[&'static [Row]]) -> Result<(), Fail> {
+    let rows = rows_of(rt, tables)?;
+    for row in rows.as_slice() {
+        write_failing(rt, abort, row)?;
+    }
     Ok(())
 }
 
@@ -183,18 +186,40 @@ fn tell_failing(rt: HostRuntime, abort: &impl Abort, row: &Row) -> Result<(), Fa
     Ok(())
 }
 
-/// Expects what is written of a row where reading fails after so many bytes.
+/// Runs rows over error writers that fail.
+fn tells_fail(rt: HostRuntime, abort: &impl Abort, tables: &[&'static [Row]]) -> Result<(), Fail> {
+    let rows = rows_of(rt, tables)?;
+    for row in rows.as_slice() {
+        tell_failing(rt, abort, row)?;
+    }
+    Ok(())
+}
+
+/// Expects how much of a row's output is written where reading fails: each time so many bytes are read, and so many written.
 fn expect_written(
     rt: HostRuntime,
     abort: &impl Abort,
     row: &Row,
-    reads: usize,
-    written: &[u8],
+    counts: &[(usize, usize)],
 ) -> Result<(), Fail> {
     let case = case_of(rt, abort, row)?;
-    let good = Good { reads, ..SOUND };
-    let left = run_over(rt, &case.job, case.input.as_slice(), good);
-    let is_written = left.output.as_slice() == written;
-    holds(abort, row.name, "what is sure", is_written);
+    for (reads, size) in counts {
+        let good = Good {
+            reads: *reads,
+            ..SOUND
+        };
+        let left = run_over(rt, &case.job, case.input.as_slice(), good);
+        let output = left.output.as_slice();
+        let is_written = output.len() == *size && case.whole.as_slice().starts_with(output);
+        holds(abort, row.name, "what is sure", is_written);
+    }
     Ok(())
+}
+
+/// The first row of a table.
+fn first_of(rt: &impl Abort, rows: &'static [Row]) -> &'static Row {
+    match rows {
+        [row, ..] => row,
+        [] => panic!(rt; "no rows"),
+    }
 }

@@ -1,15 +1,15 @@
 // Deep and long files.
 use super::rows::{Start, bytes_of, header_of};
-use super::{STEPS, expect_answer, holds, joined, over_memory, over_std};
+use super::{STEPS, Wanted, expect_runs, holds, joined, over_memory, repeated};
 use std::test::Fail;
 
 const SEQUENCE: &[u8] = b"\x08\0@\x11SQ\0\0\xff\xff\xff\xff";
 
-const ITEM: &[u8] = b"\xfe\xff\0\xe0\xff\xff\xff\xff";
+/// A sequence and its item.
+pub const OPENINGS: &[u8] = b"\x08\0@\x11SQ\0\0\xff\xff\xff\xff\xfe\xff\0\xe0\xff\xff\xff\xff";
 
-const ITEM_END: &[u8] = b"\xfe\xff\x0d\xe0\0\0\0\0";
-
-const SEQUENCE_END: &[u8] = b"\xfe\xff\xdd\xe0\0\0\0\0";
+/// The ends of both.
+const ENDS: &[u8] = b"\xfe\xff\x0d\xe0\0\0\0\0\xfe\xff\xdd\xe0\0\0\0\0";
 
 const FRAGMENTS: &[u8] = b"\xe0\x7f\x10\0OB\0\0\xff\xff\xff\xff";
 
@@ -37,13 +37,8 @@ fn indent(all: &mut Vec<u8>, level: usize, line: &[u8]) -> Result<(), Fail> {
 
 /// A file of 64 sequences, each with an item that holds the next, and what follows the innermost item's opening.
 fn nested(rt: HostRuntime, behind: &[u8]) -> Result<Vec<u8>, Fail> {
-    let mut file = bytes_of(Start::ExplicitLittle).to_vec(rt.alloc())?;
-    for _ in 0..DEPTH {
-        file.extend_from_slice(SEQUENCE)?;
-        file.extend_from_slice(ITEM)?;
-    }
-    file.extend_from_slice(behind)?;
-    Ok(file)
+    let group = bytes_of(Start::ExplicitLittle);
+    repeated(rt, group, OPENINGS, DEPTH, behind)
 }
 
 /// The lines of the openings.
@@ -58,51 +53,56 @@ fn opening_lines(rt: HostRuntime) -> Result<Vec<u8>, Fail> {
 
 #[test]
 fn sixty_four_sequences(rt: HostRuntime) -> Result<(), Fail> {
-    let mut file = nested(rt, b"")?;
+    let file = sixty_four(rt)?;
     let mut lines = opening_lines(rt)?;
     for level in (0..DEPTH).rev() {
-        file.extend_from_slice(ITEM_END)?;
-        file.extend_from_slice(SEQUENCE_END)?;
         indent(&mut lines, 2 * level + 1, ITEM_END_LINE)?;
         indent(&mut lines, 2 * level, SEQUENCE_END_LINE)?;
     }
-    for step in STEPS {
-        let answer = over_memory(rt, "dcmdump -", file.as_slice(), step, 60_000)?;
-        expect_answer(&rt, "64 sequences", &answer, 0, lines.as_slice(), b"");
-    }
-    Ok(())
+    let wanted = Wanted {
+        status: 0,
+        output: lines.as_slice(),
+        told: b"",
+    };
+    expect_runs(
+        rt,
+        &rt,
+        "64 sequences",
+        "dcmdump -",
+        file.as_slice(),
+        wanted,
+    )
 }
 
 /// A file of 64 sequences, all of them closed.
 pub fn sixty_four(rt: HostRuntime) -> Result<Vec<u8>, Fail> {
-    let mut file = nested(rt, b"")?;
-    for _ in 0..DEPTH {
-        file.extend_from_slice(ITEM_END)?;
-        file.extend_from_slice(SEQUENCE_END)?;
-    }
-    Ok(file)
+    let opened = nested(rt, b"")?;
+    repeated(rt, opened.as_slice(), ENDS, DEPTH, b"")
 }
 
 #[test]
 fn sixty_four_sequences_kept(rt: HostRuntime) -> Result<(), Fail> {
     let file = sixty_four(rt)?;
-    for step in STEPS {
-        let answer = over_memory(rt, "dcmconv - -", file.as_slice(), step, 60_000)?;
-        expect_answer(&rt, "64 sequences kept", &answer, 0, file.as_slice(), b"");
-    }
-    Ok(())
+    let file = file.as_slice();
+    let wanted = Wanted {
+        status: 0,
+        output: file,
+        told: b"",
+    };
+    expect_runs(rt, &rt, "64 sequences kept", "dcmconv - -", file, wanted)
 }
 
 #[test]
 fn one_more(rt: HostRuntime) -> Result<(), Fail> {
     let lines = opening_lines(rt)?;
+    let wanted = Wanted {
+        status: 2,
+        output: lines.as_slice(),
+        told: b"dcmtools: R11 at byte 1452: nested too deep\n",
+    };
     for behind in [SEQUENCE, FRAGMENTS] {
         let file = nested(rt, behind)?;
-        for step in STEPS {
-            let answer = over_std(rt, "dcmdump -", file.as_slice(), step)?;
-            let told = b"dcmtools: R11 at byte 1452: nested too deep\n";
-            expect_answer(&rt, "one more", &answer, 2, lines.as_slice(), told);
-        }
+        expect_runs(rt, &rt, "one more", "dcmdump -", file.as_slice(), wanted)?;
     }
     Ok(())
 }
@@ -112,11 +112,9 @@ const LARGEST: usize = 16_332;
 
 #[test]
 fn largest_meta_group(rt: HostRuntime) -> Result<(), Fail> {
-    let mut file = bytes_of(Start::ExplicitLittle).to_vec(rt.alloc())?;
-    file.extend_from_slice(b"\x02\0\x02\x01OB\0\0\xcc\x3f\0\0")?;
-    for _ in 0..LARGEST {
-        file.push(0)?;
-    }
+    let head = b"\x02\0\x02\x01OB\0\0\xcc\x3f\0\0";
+    let front = joined(rt, bytes_of(Start::ExplicitLittle), head)?;
+    let file = repeated(rt, front.as_slice(), b"\0", LARGEST, b"")?;
     let wanted =
         b"(0002,0102) OB 00\\00\\00\\00\\00\\00\\00\\00\\00\\00\\00\\00\\00\\00\\00\\00\\00\\00\\00\\00\\00\\... # 16332, 1 PrivateInformation\n\n# Dicom-Data-Set\n# Used TransferSyntax: LittleEndianExplicit\n".as_slice();
     for step in STEPS {
@@ -133,23 +131,27 @@ fn largest_meta_group(rt: HostRuntime) -> Result<(), Fail> {
 const LONGEST_SHORT: usize = 65_535;
 
 /// What stands before a text, so many letters, and what stands behind them.
-fn letters(rt: HostRuntime, start: Start, head: &[u8], behind: &[u8]) -> Result<Vec<u8>, Fail> {
-    let mut file = joined(rt, bytes_of(start), head)?;
-    for _ in 0..LONGEST_SHORT {
-        file.push(b'a')?;
-    }
-    file.extend_from_slice(behind)?;
-    Ok(file)
+pub fn letters(rt: HostRuntime, start: Start, head: &[u8], behind: &[u8]) -> Result<Vec<u8>, Fail> {
+    let front = joined(rt, bytes_of(start), head)?;
+    repeated(rt, front.as_slice(), b"a", LONGEST_SHORT, behind)
 }
 
 #[test]
 fn text_past_its_short_form(rt: HostRuntime) -> Result<(), Fail> {
     let file = letters(rt, Start::Implicit, b"\x10\0\0@\xff\xff\0\0", b"")?;
     let head = b"\x10\0\0@UN\0\0\0\0\x01\0";
-    let wanted = letters(rt, Start::ExplicitLittle, head, b" ")?;
-    for step in STEPS {
-        let answer = over_std(rt, "dcmconv +te - -", file.as_slice(), step)?;
-        expect_answer(&rt, "a long text", &answer, 0, wanted.as_slice(), b"");
-    }
-    Ok(())
+    let output = letters(rt, Start::ExplicitLittle, head, b" ")?;
+    let wanted = Wanted {
+        status: 0,
+        output: output.as_slice(),
+        told: b"",
+    };
+    expect_runs(
+        rt,
+        &rt,
+        "a long text",
+        "dcmconv +te - -",
+        file.as_slice(),
+        wanted,
+    )
 }

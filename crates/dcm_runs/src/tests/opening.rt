@@ -3,8 +3,8 @@ ghost use Rattle.std.specs.Prelude.{◌≡◌, None, true};
 ghost use Rattle.dcm_cli.specs.Devices.{anything};
 ghost use Rattle.dcm_cli.specs.Output.{anything as any_file};
 
-use super::{room, split};
-use dcm_base::{Device, DeviceIn, DeviceOut, MemOut, ReadFailed, Watched, WriteFailed};
+use super::{bytes_in, holds, memory_out, split};
+use dcm_base::{Device, DeviceIn, DeviceOut, ReadFailed, WriteFailed};
 use dcm_cli::devices::System;
 use dcm_cli::obey;
 use dcm_cli::opened::{FileKind, Opened};
@@ -119,24 +119,44 @@ impl<'a> System for Answers<'a> {
     fn close(&self, _output: Counted<'a>) {}
 }
 
-/// What words leave over such a system: the status, standard error, and the number of calls on devices.
+/// What words leave: the status, standard error, and whether there were calls on devices.
+#[derive(Drop)]
+struct Left {
+    words: &'static str,
+    status: u8,
+    told: Vec<u8>,
+    has_calls: bool,
+}
+
+/// What words leave over such a system.
 fn obeyed(
     rt: HostRuntime,
     line: &'static str,
     input: Answer,
     output: Answer,
-) -> Result<(u8, Vec<u8>, usize), Fail> {
+) -> Result<Left, Fail> {
     let words = split(rt, line)?;
     let calls = Cell::new(0usize);
-    let mut errors = Watched::new(MemOut::new(room(rt, 200)?));
+    let mut errors = memory_out(rt, 200)?;
     let system = Answers {
         input,
         output,
         calls: &calls,
     };
     let status = obey(&system, rt.alloc(), words.as_slice(), &mut errors);
-    let told = errors.device().written().to_vec(rt.alloc())?;
-    Ok((status, told, calls.get()))
+    Ok(Left {
+        words: line,
+        status,
+        told: bytes_in(rt, errors.device())?,
+        has_calls: calls.get() > 0,
+    })
+}
+
+/// Expects a status and a line, and calls on devices or none.
+fn expect_left(rt: &impl Abort, left: &Left, status: u8, line: &[u8], has_calls: bool) {
+    holds(rt, left.words, "status", left.status == status);
+    holds(rt, left.words, "line", left.told.as_slice() == line);
+    holds(rt, left.words, "calls", left.has_calls == has_calls);
 }
 
 const NO_INPUT: &[u8] = b"dcmtools: input cannot be opened\n";
@@ -152,54 +172,57 @@ const FILE: Answer = Answer::Opens(FileKind::Regular {
 
 const PIPE: Answer = Answer::Opens(FileKind::Other);
 
-/// The kind of an error, the status, and the line of an input.
-const FAILURES: [(ErrorKind, u8, bool); 5] = [
-    (ErrorKind::NotFound, 4, false),
-    (ErrorKind::PermissionDenied, 4, false),
-    (ErrorKind::OutOfMemory, 5, true),
-    (ErrorKind::IsADirectory, 4, false),
-    (ErrorKind::Interrupted, 4, false),
+/// The kinds of errors that are told as those of opening.
+const FAILURES: [ErrorKind; 4] = [
+    ErrorKind::NotFound,
+    ErrorKind::PermissionDenied,
+    ErrorKind::IsADirectory,
+    ErrorKind::Interrupted,
 ];
+
+/// Expects a status and a line where an input cannot be opened so, and where an output cannot.
+fn expect_error(
+    rt: HostRuntime,
+    abort: &impl Abort,
+    kind: ErrorKind,
+    status: u8,
+    lines: [&[u8]; 2],
+) -> Result<(), Fail> {
+    let [of_input, of_output] = lines;
+    let left = obeyed(rt, "dcmconv a b", Answer::Fails(kind), FILE)?;
+    expect_left(abort, &left, status, of_input, false);
+    let left = obeyed(rt, "dcmconv a b", FILE, Answer::Fails(kind))?;
+    expect_left(abort, &left, status, of_output, false);
+    Ok(())
+}
 
 #[test]
 fn errors_of_opening(rt: HostRuntime) -> Result<(), Fail> {
-    for (kind, status, is_memory) in FAILURES {
-        let (is, told, calls) = obeyed(rt, "dcmconv a b", Answer::Fails(kind), FILE)?;
-        assert_eq!(rt; is, status);
-        assert!(rt; told.as_slice() == if is_memory { NO_MEMORY } else { NO_INPUT });
-        assert_eq!(rt; calls, 0);
-        let (is, told, calls) = obeyed(rt, "dcmconv a b", FILE, Answer::Fails(kind))?;
-        assert_eq!(rt; is, status);
-        assert!(rt; told.as_slice() == if is_memory { NO_MEMORY } else { NO_OUTPUT });
-        assert_eq!(rt; calls, 0);
+    for kind in FAILURES {
+        expect_error(rt, &rt, kind, 4, [NO_INPUT, NO_OUTPUT])?;
     }
-    Ok(())
+    let no_memory = [NO_MEMORY, NO_MEMORY];
+    expect_error(rt, &rt, ErrorKind::OutOfMemory, 5, no_memory)
 }
 
 #[test]
 fn refused_devices(rt: HostRuntime) -> Result<(), Fail> {
     let directory = Answer::Opens(FileKind::Directory);
-    let (status, told, calls) = obeyed(rt, "dcmdump a", directory, PIPE)?;
-    assert_eq!(rt; status, 4);
-    assert!(rt; told.as_slice() == NO_INPUT);
-    assert_eq!(rt; calls, 0);
-    let (status, told, calls) = obeyed(rt, "dcmconv a b", FILE, FILE)?;
-    assert_eq!(rt; status, 4);
-    assert!(rt; told.as_slice() == NO_OUTPUT);
-    assert_eq!(rt; calls, 0);
-    let (status, told, calls) = obeyed(rt, "dcmcopy a b", FILE, PIPE)?;
-    assert_eq!(rt; status, 1);
-    assert!(rt; told.as_slice() == b"dcmtools: V1 at word 1: unknown tool\n".as_slice());
-    assert_eq!(rt; calls, 0);
-    let (status, told, calls) = obeyed(rt, "dcmconv a b", FILE, PIPE)?;
-    assert_eq!(rt; status, 4);
-    assert!(rt; told.as_slice() == b"dcmtools: reading failed after 0 bytes\n".as_slice());
-    assert!(rt; calls > 0);
+    let left = obeyed(rt, "dcmdump a", directory, PIPE)?;
+    expect_left(&rt, &left, 4, NO_INPUT, false);
+    let left = obeyed(rt, "dcmconv a b", FILE, FILE)?;
+    expect_left(&rt, &left, 4, NO_OUTPUT, false);
+    let left = obeyed(rt, "dcmcopy a b", FILE, PIPE)?;
+    let line = b"dcmtools: V1 at word 1: unknown tool\n";
+    expect_left(&rt, &left, 1, line, false);
+    let left = obeyed(rt, "dcmconv a b", FILE, PIPE)?;
+    let line = b"dcmtools: reading failed after 0 bytes\n";
+    expect_left(&rt, &left, 4, line, true);
     Ok(())
 }
 
 /// Which call of a file fails.
-#[derive(Clone, Copy, Debug, PartialEq, Eq)]
+#[derive(Clone, Copy, PartialEq, Eq)]
 enum Call {
     HoldsBytes,
     Empty,
@@ -209,7 +232,7 @@ enum Call {
 }
 
 /// How often a file was emptied, written and flushed.
-#[derive(Clone, Copy, Debug, PartialEq, Eq)]
+#[derive(Clone, Copy, PartialEq, Eq)]
 struct Calls {
     empties: usize,
     writes: usize,
@@ -289,8 +312,8 @@ fn expect_calls(abort: &impl Abort, left: ([bool; 3], Calls), well: [bool; 3], c
         writes,
         flushes,
     };
-    assert!(abort; left.0 == well);
-    assert_eq!(abort; left.1, calls);
+    holds(abort, "a file", "results", left.0 == well);
+    holds(abort, "a file", "calls", left.1 == calls);
 }
 
 #[test]

@@ -1,7 +1,7 @@
 // Files that are dumped in full, and built again of their dumps.
-use super::nested::sixty_four;
+use super::nested::{letters, sixty_four};
 use super::rows::{Start, bytes_of, header_of};
-use super::{Answer, STEPS, expect_answer, holds, joined, over_memory, over_std};
+use super::{Answer, STEPS, Wanted, expect_answer, holds, joined, over_memory, over_std};
 use std::process::Abort;
 use std::test::Fail;
 
@@ -14,7 +14,8 @@ struct File {
     built: &'static [u8],
 }
 
-const FILES: [File; 17] = [
+/// Files that are built as they were.
+const KEPT: [File; 13] = [
     File {
         name: "no elements",
         start: Start::ExplicitLittle,
@@ -28,12 +29,6 @@ const FILES: [File; 17] = [
         built: b"\x10\0\x10\0PN\x06\0AB^CD ",
     },
     File {
-        name: "an odd text",
-        start: Start::ExplicitLittle,
-        input: b"\x10\0\0@LT\x01\0 ",
-        built: b"\x10\0\0@LT\x02\0  ",
-    },
-    File {
         name: "three values and an escape",
         start: Start::ExplicitLittle,
         input: b"\x08\0p\0LO\x06\0a\\b\\c\n",
@@ -44,18 +39,6 @@ const FILES: [File; 17] = [
         start: Start::Implicit,
         input: b"\x09\0\x01\x10\x02\0\0\0AB",
         built: b"\x09\0\x01\x10\x02\0\0\0AB",
-    },
-    File {
-        name: "an empty sequence",
-        start: Start::ExplicitLittle,
-        input: b"\x08\0@\x11SQ\0\0\0\0\0\0",
-        built: b"\x08\0@\x11SQ\0\0\xff\xff\xff\xff\xfe\xff\xdd\xe0\0\0\0\0",
-    },
-    File {
-        name: "a sequence and an item of known length",
-        start: Start::ExplicitLittle,
-        input: b"\x08\0@\x11SQ\0\0\xff\xff\xff\xff\xfe\xff\0\xe0\x0c\0\0\0\x08\0U\x11UI\x04\01.2\0\xfe\xff\xdd\xe0\0\0\0\0",
-        built: b"\x08\0@\x11SQ\0\0\xff\xff\xff\xff\xfe\xff\0\xe0\xff\xff\xff\xff\x08\0U\x11UI\x04\01.2\0\xfe\xff\r\xe0\0\0\0\0\xfe\xff\xdd\xe0\0\0\0\0",
     },
     File {
         name: "fragments",
@@ -74,12 +57,6 @@ const FILES: [File; 17] = [
         start: Start::ExplicitLittle,
         input: b"\xe0\x7f\x10\0OW\0\0\x04\0\0\0\x01\x02\x03\x04",
         built: b"\xe0\x7f\x10\0OW\0\0\x04\0\0\0\x01\x02\x03\x04",
-    },
-    File {
-        name: "unknown of undefined length in big endian",
-        start: Start::Big,
-        input: b"\0\x09\x10\x10UN\0\0\xff\xff\xff\xff\xfe\xff\0\xe0\xff\xff\xff\xff\x10\0\x10\0\x02\0\0\0AB\xfe\xff\r\xe0\0\0\0\0\xfe\xff\xdd\xe0\0\0\0\0",
-        built: b"\0\x09\x10\x10SQ\0\0\xff\xff\xff\xff\xff\xfe\xe0\0\xff\xff\xff\xff\0\x10\0\x10PN\0\x02AB\xff\xfe\xe0\r\0\0\0\0\xff\xfe\xe0\xdd\0\0\0\0",
     },
     File {
         name: "a tag",
@@ -119,13 +96,76 @@ const FILES: [File; 17] = [
     },
 ];
 
-/// All files.
-fn files() -> &'static [File] {
-    &FILES
+fn kept() -> &'static [File] {
+    &KEPT
+}
+
+/// Files that are built otherwise: with even lengths, and undefined ones.
+const CHANGED: [File; 4] = [
+    File {
+        name: "an odd text",
+        start: Start::ExplicitLittle,
+        input: b"\x10\0\0@LT\x01\0 ",
+        built: b"\x10\0\0@LT\x02\0  ",
+    },
+    File {
+        name: "an empty sequence",
+        start: Start::ExplicitLittle,
+        input: b"\x08\0@\x11SQ\0\0\0\0\0\0",
+        built: b"\x08\0@\x11SQ\0\0\xff\xff\xff\xff\xfe\xff\xdd\xe0\0\0\0\0",
+    },
+    File {
+        name: "a sequence and an item of known length",
+        start: Start::ExplicitLittle,
+        input: b"\x08\0@\x11SQ\0\0\xff\xff\xff\xff\xfe\xff\0\xe0\x0c\0\0\0\x08\0U\x11UI\x04\01.2\0\xfe\xff\xdd\xe0\0\0\0\0",
+        built: b"\x08\0@\x11SQ\0\0\xff\xff\xff\xff\xfe\xff\0\xe0\xff\xff\xff\xff\x08\0U\x11UI\x04\01.2\0\xfe\xff\r\xe0\0\0\0\0\xfe\xff\xdd\xe0\0\0\0\0",
+    },
+    File {
+        name: "unknown of undefined length in big endian",
+        start: Start::Big,
+        input: b"\0\x09\x10\x10UN\0\0\xff\xff\xff\xff\xfe\xff\0\xe0\xff\xff\xff\xff\x10\0\x10\0\x02\0\0\0AB\xfe\xff\r\xe0\0\0\0\0\xfe\xff\xdd\xe0\0\0\0\0",
+        built: b"\0\x09\x10\x10SQ\0\0\xff\xff\xff\xff\xff\xfe\xe0\0\xff\xff\xff\xff\0\x10\0\x10PN\0\x02AB\xff\xfe\xe0\r\0\0\0\0\xff\xfe\xe0\xdd\0\0\0\0",
+    },
+];
+
+fn changed() -> &'static [File] {
+    &CHANGED
+}
+
+/// Files that hold elements of the standard that the extract lacks: what the dump by the whole dictionary builds of them.
+const FILES_OF_THE_STANDARD: [File; 4] = [
+    File {
+        name: "a number",
+        start: Start::ExplicitLittle,
+        input: b"\x18\0\x51\x11IS\x04\0120 ",
+        built: b"\x18\0\x51\x11IS\x04\0120 ",
+    },
+    File {
+        name: "an implicit sequence of known length",
+        start: Start::Implicit,
+        input: b"\x0a\x30\x10\0\x12\0\0\0\xfe\xff\0\xe0\x0a\0\0\0\x0a\x30\x12\0\x02\0\0\01 ",
+        built: b"\x0a\x30\x10\0\xff\xff\xff\xff\xfe\xff\0\xe0\xff\xff\xff\xff\x0a\x30\x12\0\x02\0\0\01 \xfe\xff\x0d\xe0\0\0\0\0\xfe\xff\xdd\xe0\0\0\0\0",
+    },
+    File {
+        name: "an implicit number of eight bytes",
+        start: Start::Implicit,
+        input: b"\x18\0\x73\x90\x08\0\0\0\x01\x02\x03\x04\x05\x06\x07\x08",
+        built: b"\x18\0\x73\x90\x08\0\0\0\x01\x02\x03\x04\x05\x06\x07\x08",
+    },
+    File {
+        name: "a number within unknown of undefined length in big endian",
+        start: Start::Big,
+        input: b"\0\x09\x10\x10UN\0\0\xff\xff\xff\xff\xfe\xff\0\xe0\xff\xff\xff\xff\x18\0\x73\x90\x08\0\0\0\x01\x02\x03\x04\x05\x06\x07\x08\xfe\xff\x0d\xe0\0\0\0\0\xfe\xff\xdd\xe0\0\0\0\0",
+        built: b"\0\x09\x10\x10SQ\0\0\xff\xff\xff\xff\xff\xfe\xe0\0\xff\xff\xff\xff\0\x18\x90\x73FD\0\x08\x08\x07\x06\x05\x04\x03\x02\x01\xff\xfe\xe0\x0d\0\0\0\0\xff\xfe\xe0\xdd\0\0\0\0",
+    },
+];
+
+fn files_of_the_standard() -> &'static [File] {
+    &FILES_OF_THE_STANDARD
 }
 
 /// What a run reads and writes.
-#[derive(Clone, Copy, PartialEq, Eq)]
+#[derive(Clone, Copy)]
 enum Devices {
     Memory,
     Std,
@@ -179,118 +219,74 @@ const BY_STANDARD: Words = Words {
     convert: "dcmconv +dict - -",
 };
 
+const BUILD: &str = "dump2dcm +l 16384 - -";
+
 /// A file, what its dump builds, and what a conversion to its own transfer syntax writes.
-fn expect_rebuilt(
-    rt: HostRuntime,
-    abort: &impl Abort,
-    name: &str,
-    file: &[u8],
-    built: &[u8],
-    converted: &[u8],
-) -> Result<(), Fail> {
-    expect_rebuilt_by(rt, abort, BY_EXTRACT, name, file, built, converted)
+#[derive(Clone, Copy)]
+struct Rebuilt<'a> {
+    name: &'a str,
+    words: Words,
+    file: &'a [u8],
+    built: &'a [u8],
+    converted: &'a [u8],
 }
 
-/// The same by a dictionary that words name.
-fn expect_rebuilt_by(
+fn expect_rebuilt_over(
+    rt: HostRuntime,
+    abort: &impl Abort,
+    devices: Devices,
+    wanted: Rebuilt<'_>,
+    step: usize,
+) -> Result<(), Fail> {
+    let dump = output_of(rt, abort, devices, wanted.words.dump, wanted.file, step)?;
+    let built = output_of(rt, abort, devices, BUILD, dump.as_slice(), step)?;
+    let is_built = built.as_slice() == wanted.built;
+    holds(abort, wanted.name, "file that is built", is_built);
+    let converted = output_of(rt, abort, devices, wanted.words.convert, wanted.file, step)?;
+    let is_converted = converted.as_slice() == wanted.converted;
+    holds(abort, wanted.name, "conversion", is_converted);
+    Ok(())
+}
+
+fn expect_rebuilt(rt: HostRuntime, abort: &impl Abort, wanted: Rebuilt<'_>) -> Result<(), Fail> {
+    for step in STEPS {
+        expect_rebuilt_over(rt, abort, Devices::Memory, wanted, step)?;
+        expect_rebuilt_over(rt, abort, Devices::Std, wanted, step)?;
+    }
+    Ok(())
+}
+
+/// Expects that files are rebuilt by a dictionary that words name.
+fn expect_files(
     rt: HostRuntime,
     abort: &impl Abort,
     words: Words,
-    name: &str,
-    file: &[u8],
-    built: &[u8],
-    converted: &[u8],
+    files: &[File],
 ) -> Result<(), Fail> {
-    for step in STEPS {
-        for devices in [Devices::Memory, Devices::Std] {
-            let dump = output_of(rt, abort, devices, words.dump, file, step)?;
-            let answer = output_of(
-                rt,
-                abort,
-                devices,
-                "dump2dcm +l 16384 - -",
-                dump.as_slice(),
-                step,
-            )?;
-            holds(
-                abort,
-                name,
-                "file that is built",
-                answer.as_slice() == built,
-            );
-            let answer = output_of(rt, abort, devices, words.convert, file, step)?;
-            let is_converted = answer.as_slice() == converted;
-            holds(abort, name, "conversion", is_converted);
-        }
+    for file in files {
+        let input = joined(rt, bytes_of(file.start), file.input)?;
+        let built = joined(rt, bytes_of(file.start), file.built)?;
+        let wanted = Rebuilt {
+            name: file.name,
+            words,
+            file: input.as_slice(),
+            built: built.as_slice(),
+            converted: built.as_slice(),
+        };
+        expect_rebuilt(rt, abort, wanted)?;
     }
     Ok(())
 }
 
 #[test]
 fn files_are_rebuilt(rt: HostRuntime) -> Result<(), Fail> {
-    for file in files() {
-        let input = joined(rt, bytes_of(file.start), file.input)?;
-        let built = joined(rt, bytes_of(file.start), file.built)?;
-        expect_rebuilt(
-            rt,
-            &rt,
-            file.name,
-            input.as_slice(),
-            built.as_slice(),
-            built.as_slice(),
-        )?;
-    }
-    Ok(())
-}
-
-/// Files that hold elements of the standard that the extract lacks: what the dump by the whole dictionary builds of them.
-const FILES_OF_THE_STANDARD: [File; 4] = [
-    File {
-        name: "a number",
-        start: Start::ExplicitLittle,
-        input: b"\x18\0\x51\x11IS\x04\0120 ",
-        built: b"\x18\0\x51\x11IS\x04\0120 ",
-    },
-    File {
-        name: "an implicit sequence of known length",
-        start: Start::Implicit,
-        input: b"\x0a\x30\x10\0\x12\0\0\0\xfe\xff\0\xe0\x0a\0\0\0\x0a\x30\x12\0\x02\0\0\01 ",
-        built: b"\x0a\x30\x10\0\xff\xff\xff\xff\xfe\xff\0\xe0\xff\xff\xff\xff\x0a\x30\x12\0\x02\0\0\01 \xfe\xff\x0d\xe0\0\0\0\0\xfe\xff\xdd\xe0\0\0\0\0",
-    },
-    File {
-        name: "an implicit number of eight bytes",
-        start: Start::Implicit,
-        input: b"\x18\0\x73\x90\x08\0\0\0\x01\x02\x03\x04\x05\x06\x07\x08",
-        built: b"\x18\0\x73\x90\x08\0\0\0\x01\x02\x03\x04\x05\x06\x07\x08",
-    },
-    File {
-        name: "a number within unknown of undefined length in big endian",
-        start: Start::Big,
-        input: b"\0\x09\x10\x10UN\0\0\xff\xff\xff\xff\xfe\xff\0\xe0\xff\xff\xff\xff\x18\0\x73\x90\x08\0\0\0\x01\x02\x03\x04\x05\x06\x07\x08\xfe\xff\x0d\xe0\0\0\0\0\xfe\xff\xdd\xe0\0\0\0\0",
-        built: b"\0\x09\x10\x10SQ\0\0\xff\xff\xff\xff\xff\xfe\xe0\0\xff\xff\xff\xff\0\x18\x90\x73FD\0\x08\x08\x07\x06\x05\x04\x03\x02\x01\xff\xfe\xe0\x0d\0\0\0\0\xff\xfe\xe0\xdd\0\0\0\0",
-    },
-];
-
-fn files_of_the_standard() -> &'static [File] {
-    &FILES_OF_THE_STANDARD
+    expect_files(rt, &rt, BY_EXTRACT, kept())?;
+    expect_files(rt, &rt, BY_EXTRACT, changed())
 }
 
 #[test]
 fn files_are_rebuilt_by_the_whole_dictionary(rt: HostRuntime) -> Result<(), Fail> {
-    for file in files_of_the_standard() {
-        let input = joined(rt, bytes_of(file.start), file.input)?;
-        let built = joined(rt, bytes_of(file.start), file.built)?;
-        expect_rebuilt_by(
-            rt,
-            &rt,
-            BY_STANDARD,
-            file.name,
-            input.as_slice(),
-            built.as_slice(),
-            built.as_slice(),
-        )?;
-    }
-    Ok(())
+    expect_files(rt, &rt, BY_STANDARD, files_of_the_standard())
 }
 
 /// A meta group of three elements, the preamble of which holds other bytes than zeros.
@@ -307,71 +303,73 @@ const BEHIND_PREAMBLE: &[u8] =
 fn a_preamble_is_not_rebuilt(rt: HostRuntime) -> Result<(), Fail> {
     let file = joined(rt, OTHER_PREAMBLE, BEHIND_PREAMBLE)?;
     let built = joined(rt, ZEROS, BEHIND_PREAMBLE)?;
-    expect_rebuilt(
-        rt,
-        &rt,
-        "a preamble",
-        file.as_slice(),
-        built.as_slice(),
-        file.as_slice(),
-    )
+    let wanted = Rebuilt {
+        name: "a preamble",
+        words: BY_EXTRACT,
+        file: file.as_slice(),
+        built: built.as_slice(),
+        converted: file.as_slice(),
+    };
+    expect_rebuilt(rt, &rt, wanted)
 }
 
 #[test]
 fn sixty_four_sequences_are_rebuilt(rt: HostRuntime) -> Result<(), Fail> {
     let file = sixty_four(rt)?;
-    expect_rebuilt(
-        rt,
-        &rt,
-        "64 sequences",
-        file.as_slice(),
-        file.as_slice(),
-        file.as_slice(),
-    )
+    let wanted = Rebuilt {
+        name: "64 sequences",
+        words: BY_EXTRACT,
+        file: file.as_slice(),
+        built: file.as_slice(),
+        converted: file.as_slice(),
+    };
+    expect_rebuilt(rt, &rt, wanted)
 }
 
 /// A value that ends within a number: the dump has its whole numbers alone.
 #[test]
 fn a_byte_behind_numbers_is_not_rebuilt(rt: HostRuntime) -> Result<(), Fail> {
-    let file = joined(
-        rt,
-        bytes_of(Start::Big),
-        b"\0(\0\x10US\0\x05\0\x01\x02\0\x05",
-    )?;
-    let built = joined(rt, bytes_of(Start::Big), b"\0(\0\x10US\0\x04\0\x01\x02\0")?;
-    let converted = joined(
-        rt,
-        bytes_of(Start::Big),
-        b"\0(\0\x10US\0\x06\0\x01\x02\0\x05\0",
-    )?;
-    expect_rebuilt(
-        rt,
-        &rt,
-        "a byte behind numbers",
-        file.as_slice(),
-        built.as_slice(),
-        converted.as_slice(),
-    )
+    let group = bytes_of(Start::Big);
+    let file = joined(rt, group, b"\0(\0\x10US\0\x05\0\x01\x02\0\x05")?;
+    let built = joined(rt, group, b"\0(\0\x10US\0\x04\0\x01\x02\0")?;
+    let converted = joined(rt, group, b"\0(\0\x10US\0\x06\0\x01\x02\0\x05\0")?;
+    let wanted = Rebuilt {
+        name: "a byte behind numbers",
+        words: BY_EXTRACT,
+        file: file.as_slice(),
+        built: built.as_slice(),
+        converted: converted.as_slice(),
+    };
+    expect_rebuilt(rt, &rt, wanted)
 }
 
-/// The longest value of a short form, which no line holds.
-const LETTERS: usize = 65_535;
+/// Expects that the dump of a value that no line holds is refused.
+fn expect_long_line(
+    rt: HostRuntime,
+    abort: &impl Abort,
+    file: &[u8],
+    step: usize,
+) -> Result<(), Fail> {
+    let dump = output_of(rt, abort, Devices::Std, BY_EXTRACT.dump, file, step)?;
+    let has_header = dump.as_slice().starts_with(header_of(Start::Implicit));
+    holds(abort, "a long line", "header of the dump", has_header);
+    let wanted = Wanted {
+        status: 2,
+        output: b"",
+        told: b"dcmtools: B1 at byte 338, line 10: line too long\n",
+    };
+    let answer = over_memory(rt, BUILD, dump.as_slice(), step, ROOM)?;
+    expect_answer(abort, "a long line", &answer, wanted);
+    let answer = over_std(rt, BUILD, dump.as_slice(), step)?;
+    expect_answer(abort, "a long line", &answer, wanted);
+    Ok(())
+}
 
 #[test]
 fn a_long_line_is_refused(rt: HostRuntime) -> Result<(), Fail> {
-    let mut file = joined(rt, bytes_of(Start::Implicit), b"\x10\0\0@\xff\xff\0\0")?;
-    for _ in 0..LETTERS {
-        file.push(b'a')?;
-    }
+    let file = letters(rt, Start::Implicit, b"\x10\0\0@\xff\xff\0\0", b"")?;
     for step in STEPS {
-        let dump = output_of(rt, &rt, Devices::Std, "dcmdump +L -", file.as_slice(), step)?;
-        let has_header = dump.as_slice().starts_with(header_of(Start::Implicit));
-        holds(&rt, "a long line", "header of the dump", has_header);
-        for devices in [Devices::Memory, Devices::Std] {
-            let answer = over(rt, devices, "dump2dcm +l 16384 - -", dump.as_slice(), step)?;
-            let told = b"dcmtools: B1 at byte 338, line 10: line too long\n";
-            expect_answer(&rt, "a long line", &answer, 2, b"", told);
-        }
+        expect_long_line(rt, &rt, file.as_slice(), step)?;
     }
     Ok(())
 }

@@ -1,36 +1,24 @@
 // Files that are built over devices that fail.
-use super::{read_failing, tell_failing, write_failing};
+use super::{reads_fail, tells_fail, writes_fail};
 use crate::tests::buildings::buildings;
 use std::test::Fail;
 
 #[test]
 fn reading_fails(rt: HostRuntime) -> Result<(), Fail> {
-    for row in buildings() {
-        read_failing(rt, &rt, row, true)?;
-    }
-    Ok(())
+    reads_fail(rt, &rt, &buildings(), true)
 }
 
 #[test]
 fn reading_and_flushing_fail(rt: HostRuntime) -> Result<(), Fail> {
-    for row in buildings() {
-        read_failing(rt, &rt, row, false)?;
-    }
-    Ok(())
+    reads_fail(rt, &rt, &buildings(), false)
 }
 
 #[test]
 fn writing_fails(rt: HostRuntime) -> Result<(), Fail> {
-    for row in buildings() {
-        write_failing(rt, &rt, row)?;
-    }
-    Ok(())
+    writes_fail(rt, &rt, &buildings())
 }
 
 #[test]
 fn telling_fails(rt: HostRuntime) -> Result<(), Fail> {
-    for row in buildings() {
-        tell_failing(rt, &rt, row)?;
-    }
-    Ok(())
+    tells_fail(rt, &rt, &buildings())
 }

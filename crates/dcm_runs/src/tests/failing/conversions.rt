@@ -1,60 +1,40 @@
 // Conversions over devices that fail.
-use super::{expect_written, read_failing, tell_failing, write_failing};
+use super::{expect_written, first_of, reads_fail, tells_fail, writes_fail};
 use crate::tests::conversions::conversions;
-use crate::tests::joined;
-use crate::tests::rows::{Start, bytes_of};
 use std::test::Fail;
 
 #[test]
 fn reading_fails(rt: HostRuntime) -> Result<(), Fail> {
-    for row in conversions() {
-        read_failing(rt, &rt, row, true)?;
-    }
-    Ok(())
+    reads_fail(rt, &rt, &conversions(), true)
 }
 
 #[test]
 fn reading_and_flushing_fail(rt: HostRuntime) -> Result<(), Fail> {
-    for row in conversions() {
-        read_failing(rt, &rt, row, false)?;
-    }
-    Ok(())
+    reads_fail(rt, &rt, &conversions(), false)
 }
 
 #[test]
 fn writing_fails(rt: HostRuntime) -> Result<(), Fail> {
-    for row in conversions() {
-        write_failing(rt, &rt, row)?;
-    }
-    Ok(())
+    writes_fail(rt, &rt, &conversions())
 }
 
 #[test]
 fn telling_fails(rt: HostRuntime) -> Result<(), Fail> {
-    for row in conversions() {
-        tell_failing(rt, &rt, row)?;
-    }
-    Ok(())
+    tells_fail(rt, &rt, &conversions())
 }
 
-/// The place of the row of words that are turned to big endian.
-const WORDS: usize = 8;
-
-/// The head of these words as it is written.
-const HEAD: &[u8] = b"\x7f\xe0\0\x10OW\0\0\0\0\0\x04";
-
+/// Of words that are turned to big endian first the meta group is sure, with 172 bytes, then their head,
+/// with 12, and then each whole word.
 #[test]
 fn what_is_sure_is_written(rt: HostRuntime) -> Result<(), Fail> {
-    let Some(row) = conversions().get(WORDS) else {
-        panic!(rt; "too few rows");
-    };
-    let group = bytes_of(Start::Big);
-    let opened = joined(rt, group, HEAD)?;
-    let one_word = joined(rt, opened.as_slice(), b"\x02\x01")?;
-    expect_written(rt, &rt, row, 173, b"")?;
-    expect_written(rt, &rt, row, 174, group)?;
-    expect_written(rt, &rt, row, 183, group)?;
-    expect_written(rt, &rt, row, 184, opened.as_slice())?;
-    expect_written(rt, &rt, row, 185, opened.as_slice())?;
-    expect_written(rt, &rt, row, 187, one_word.as_slice())
+    let [values, ..] = conversions();
+    let counts = [
+        (173, 0),
+        (174, 172),
+        (183, 172),
+        (184, 184),
+        (185, 184),
+        (187, 186),
+    ];
+    expect_written(rt, &rt, first_of(&rt, values), &counts)
 }

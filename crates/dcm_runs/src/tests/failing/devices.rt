@@ -1,44 +1,19 @@
 // Devices that fail, and what a run over them leaves.
 ghost use Rattle.std.specs.Prelude.{◌≡◌, Some};
 
-use crate::tests::room;
-use dcm_base::{Device, DeviceIn, MemOut, ReadFailed, Std, Watched};
+use crate::tests::{ALL, Steps, bytes_in, job_status, memory_out};
+use dcm_base::{Device, DeviceIn, ReadFailed, Std, Watched};
 use dcm_cli::Job;
-use dcm_cli::run::run;
 use std::cell::Cell;
 use std::io;
-use std::io::{ErrorKind, Read, Write};
+use std::io::{ErrorKind, Write};
 use std::test::Fail;
-
-/// More calls than a run makes.
-const ALL: usize = usize::MAX;
 
 /// The room for an output, and for a line.
 const ROOM: usize = 3000;
 
-/// A reader of std that gives one byte a call, and fails at the call after so many good ones.
-#[derive(Drop)]
-struct FailReader<'a> {
-    rest: &'a [u8],
-    good: usize,
-}
-
-impl<'a> Read for FailReader<'a> {
-    fn read(&mut self, bytes: &mut [u8]) -> io::Result<usize> {
-        if self.good == 0 {
-            return Err(io::Error::from(ErrorKind::Interrupted));
-        }
-        self.good -= 1;
-        let n = bytes.len().min(self.rest.len()).min(1);
-        let (front, rest) = self.rest.split_at(n);
-        bytes[..n].copy_from_slice(front);
-        self.rest = rest;
-        Ok(n)
-    }
-}
-
 /// How a write fails.
-#[derive(Clone, Copy, Debug, PartialEq, Eq)]
+#[derive(Clone, Copy)]
 pub enum Failure {
     Error,
     /// It takes no byte.
@@ -199,15 +174,16 @@ pub struct Left {
 /// Runs a job over devices of which so many calls go well.
 pub fn run_over(rt: HostRuntime, job: &Job, input: &[u8], good: Good) -> Left {
     let clock = Cell::new(0);
-    let mut input = Watched::new(Std::new(FailReader {
+    let mut input = Watched::new(Std::new(Steps {
         rest: input,
+        step: 1,
         good: good.reads,
     }));
     let out = FailWriter::new(rt, good.writes, good.failure, good.flush, &clock);
     let mut out = Watched::new(Std::new(out));
     let errors = FailWriter::new(rt, good.lines, good.failure, true, &clock);
     let mut errors = Watched::new(Std::new(errors));
-    let status = run(job, &mut input, &mut out, &mut errors).status;
+    let status = job_status(job, &mut input, &mut out, &mut errors);
     let wrote = out.into_device().into_inner();
     let told = errors.into_device().into_inner();
     Left {
@@ -228,8 +204,8 @@ pub fn sure_of(rt: HostRuntime, job: &Job, input: &[u8], read: usize) -> Result<
         good: read,
         failed: false,
     });
-    let mut out = Watched::new(MemOut::new(room(rt, ROOM)?));
-    let mut errors = Watched::new(MemOut::new(room(rt, ROOM)?));
-    run(job, &mut input, &mut out, &mut errors);
-    Ok(out.device().written().to_vec(rt.alloc())?)
+    let mut out = memory_out(rt, ROOM)?;
+    let mut errors = memory_out(rt, ROOM)?;
+    job_status(job, &mut input, &mut out, &mut errors);
+    bytes_in(rt, out.device())
 }

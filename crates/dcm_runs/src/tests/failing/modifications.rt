@@ -1,61 +1,33 @@
 // Modifications over devices that fail.
-use super::{expect_written, read_failing, tell_failing, write_failing};
-use crate::tests::joined;
+use super::{expect_written, first_of, reads_fail, tells_fail, writes_fail};
 use crate::tests::modifications::modifications;
-use crate::tests::rows::{Start, bytes_of};
 use std::test::Fail;
 
 #[test]
 fn reading_fails(rt: HostRuntime) -> Result<(), Fail> {
-    for row in modifications() {
-        read_failing(rt, &rt, row, true)?;
-    }
-    Ok(())
+    reads_fail(rt, &rt, &modifications(), true)
 }
 
 #[test]
 fn reading_and_flushing_fail(rt: HostRuntime) -> Result<(), Fail> {
-    for row in modifications() {
-        read_failing(rt, &rt, row, false)?;
-    }
-    Ok(())
+    reads_fail(rt, &rt, &modifications(), false)
 }
 
 #[test]
 fn writing_fails(rt: HostRuntime) -> Result<(), Fail> {
-    for row in modifications() {
-        write_failing(rt, &rt, row)?;
-    }
-    Ok(())
+    writes_fail(rt, &rt, &modifications())
 }
 
 #[test]
 fn telling_fails(rt: HostRuntime) -> Result<(), Fail> {
-    for row in modifications() {
-        tell_failing(rt, &rt, row)?;
-    }
-    Ok(())
+    tells_fail(rt, &rt, &modifications())
 }
 
-/// The place of the row of a new element in a file that is cut.
-const CUT: usize = 2;
-
-/// The new element of this row.
-const NEW: &[u8] = b"\x08\0P\0SH\x02\0X ";
-
-/// The head of the element after it.
-const HEAD: &[u8] = b"\x08\0`\0CS\x02\0";
-
+/// Of a new element in a file that is cut first the meta group is sure, with 172 bytes, and then the new
+/// element, with 10, and the head of the one after it.
 #[test]
 fn what_is_sure_is_written(rt: HostRuntime) -> Result<(), Fail> {
-    let Some(row) = modifications().get(CUT) else {
-        panic!(rt; "too few rows");
-    };
-    let group = bytes_of(Start::ExplicitLittle);
-    let put = joined(rt, group, NEW)?;
-    let opened = joined(rt, put.as_slice(), HEAD)?;
-    expect_written(rt, &rt, row, 173, b"")?;
-    expect_written(rt, &rt, row, 174, group)?;
-    expect_written(rt, &rt, row, 195, group)?;
-    expect_written(rt, &rt, row, 196, opened.as_slice())
+    let [new, ..] = modifications();
+    let counts = [(173, 0), (174, 172), (195, 172), (196, 190)];
+    expect_written(rt, &rt, first_of(&rt, new), &counts)
 }

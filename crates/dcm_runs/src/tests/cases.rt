@@ -1,0 +1,30 @@
+// The job of a row, and its files.
+use super::rows::{Row, bytes_of, front_of};
+use super::{joined, split};
+use dcm_cli::{Job, plan};
+use std::process::Abort;
+use std::test::Fail;
+
+/// The job of a row, its input and its whole output.
+#[derive(Drop)]
+pub struct Case {
+    pub job: Job,
+    pub input: Vec<u8>,
+    pub whole: Vec<u8>,
+}
+
+fn job_of(rt: HostRuntime, abort: &impl Abort, row: &Row) -> Result<Job, Fail> {
+    let words = split(rt, row.words)?;
+    match plan(rt.alloc(), words.as_slice()) {
+        Ok(planned) => Ok(planned.job),
+        Err(_) => panic!(abort; "{}", row.name),
+    }
+}
+
+pub fn case_of(rt: HostRuntime, abort: &impl Abort, row: &Row) -> Result<Case, Fail> {
+    Ok(Case {
+        job: job_of(rt, abort, row)?,
+        input: joined(rt, bytes_of(row.start), row.input)?,
+        whole: joined(rt, front_of(row), row.lines)?,
+    })
+}
