@@ -13,11 +13,13 @@ use std::alloc::Allocator;
 /// The path of a standard stream.
 const STANDARD: &[u8] = b"-";
 
-/// The most bytes that a line may have without an option, and the limits that an option may give.
+/// The most bytes that a line may have without an option.
 const USUAL_LIMIT: usize = 4096;
 
+/// The least limit of a line that `+l` may give.
 const LEAST_LIMIT: usize = 80;
 
+/// The greatest one.
 const GREATEST_LIMIT: usize = 16_384;
 
 /// A tool whose words are options and paths.
@@ -53,14 +55,10 @@ struct Said<'a> {
 fn other_word(word: &[u8]) -> Word
     ensures { result ≡ spec.other_word word.now }
 {
-    if word == b"-".as_slice() {
-        Word::Path
-    } else if word.is_empty() {
-        Word::Path
-    } else if word[0] == b'-' || word[0] == b'+' {
-        Word::Unknown
-    } else {
-        Word::Path
+    match word {
+        [b'-'] => Word::Path,
+        [b'-' | b'+', ..] => Word::Unknown,
+        _ => Word::Path,
     }
 }
 
@@ -74,6 +72,7 @@ fn read_word(word: &[u8]) -> Word
     }
 }
 
+/// What a word says to dcmdump.
 fn dump_word(word: &[u8]) -> Word
     ensures { result ≡ spec.dump_word word.now }
 {
@@ -96,6 +95,7 @@ fn dump_word(word: &[u8]) -> Word
     }
 }
 
+/// What a word says to dcmconv, which does anyway what `-e` and `+fo` ask for.
 fn convert_word(word: &[u8]) -> Word
     ensures { result ≡ spec.convert_word word.now }
 {
@@ -116,6 +116,7 @@ fn convert_word(word: &[u8]) -> Word
     }
 }
 
+/// What a word says to dump2dcm.
 fn build_word(word: &[u8]) -> Word
     ensures { result ≡ spec.build_word word.now }
 {
@@ -139,6 +140,7 @@ fn word_of(tool: Tool, word: &[u8]) -> Word
     }
 }
 
+/// The number of a decimal digit.
 fn decimal_digit(byte: u8) -> Option<usize>
     ensures value { result ≡ spec_digit 10 byte }
     ensures below { IfSome result (λ d. d < 10) }
