@@ -144,7 +144,6 @@ pub fn answering<A: Allocator>(
 }
 
 /// Whether an edit of a mask answers yes.
-#[tactic(auto, using(crate::proofs::Masks::Skips::any_skips, crate::proofs::Masks::Skips::any_next))]
 #[inline(always)]
 pub fn any_answers<A: Allocator>(
     edits: &[Edit<A>],
@@ -168,7 +167,6 @@ pub fn any_answers<A: Allocator>(
 
 /// Whether an edit of a mask changes an element with this tag, or puts another one between the last one and it. Each element of
 /// an input is asked for, so this is not one question of many.
-#[tactic(auto, using(crate::proofs::Masks::Skips::any_skips, crate::proofs::Masks::Skips::any_next))]
 #[inline(always)]
 pub fn any_meets<A: Allocator>(
     edits: &[Edit<A>],

@@ -1,5 +1,5 @@
 -- The edits that a mask lacks ask nothing: to skip them changes no answer.
-use Rattle.std.proofs.Common.{◌≡◌, ℕ, zero, suc, ◌+◌, ◌%◌, ◌/◌, ◌^◌, ◌<◌, ◌≤◌, List, [], ◌∷◌, length, map, drop, Bool, false, ◌||◌, refl, sym, ◌∙◌, ap, subst, inl, inr, arith}
+use Rattle.std.proofs.Common.{◌≡◌, ℕ, zero, suc, ◌+◌, ◌%◌, ◌/◌, ◌^◌, ◌<◌, ◌≤◌, List, [], ◌∷◌, length, map, drop, Bool, true, false, ◌||◌, refl, sym, ◌∙◌, ap, subst, inl, inr, arith}
 use Rattle.std.specs.Prelude.{◌==◌, if◌then◌else◌}
 use Rattle.std.specs.Int.{bit_at, w64, trailing_zeros}
 use Rattle.std.proofs.lemmas.Nat.Bits.{bit_at-trailing_zeros, bit_at-zero}
@@ -45,6 +45,20 @@ any_skips q depth mask k (e ∷ es) j left (inr (unset, later)) = or_no _ _ _ (a
 
 pub any_next : (q : Question) (depth mask k : ℕ) (e : Edit) (es : List Edit) → answer_of q (asked_one depth mask k e) ≡ false → any_answer q (asked depth mask (k + 1) es) ≡ any_answer q (asked depth mask k (e ∷ es))
 any_next q depth mask k e es no_here = or_no _ _ _ no_here (ap (λ (n : ℕ). any_answer q (asked depth mask n es)) (omega arith))
+
+-- as the edits of a slice are taken one by one
+module _ {X : Type 0} (f : X → Edit) (q : Question) (depth mask k : ℕ) where
+  pub any_on : (e : X) (after edits : List X) (j : ℕ) (left : List Edit) → edits ≡ e ∷ after → answer_of q (asked_one depth mask k (f e)) ≡ false → Skips mask (k + 1) (map f after) j left → any_answer q (asked depth mask j left) ≡ any_answer q (asked depth mask k (map f edits))
+  any_on e after edits j left is unmet skipped =
+      any_skips q depth mask (k + 1) (map f after) j left skipped ∙ any_next q depth mask k (f e) (map f after) unmet ∙ ap (λ (xs : List X). any_answer q (asked depth mask k (map f xs))) (sym is)
+
+  pub any_here : (e : X) (after edits : List X) → edits ≡ e ∷ after → answer_of q (asked_one depth mask k (f e)) ≡ true → any_answer q (asked depth mask k (map f edits)) ≡ true
+  any_here e after edits is met =
+      ap (λ (xs : List X). any_answer q (asked depth mask k (map f xs))) is ∙ ap (λ (b : Bool). b || any_answer q (asked depth mask (suc k) (map f after))) met
+
+  pub any_none : (edits : List X) → length edits ≡ 0 → any_answer q (asked depth mask k (map f edits)) ≡ false
+  any_none [] l = refl
+  any_none (e ∷ edits) l = absurd (omega arith)
 
 -- ---- the first fate
 
