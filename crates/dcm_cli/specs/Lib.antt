@@ -1,14 +1,11 @@
 pub mod ErrorLines
 pub mod Answer
-pub mod Pieces
 pub mod Pass
 pub mod SinkPass
 pub mod EditPass
 pub mod Lines
 pub mod Run
 pub mod InMemory
-pub mod Devices
-pub mod Output
 pub mod Program
 pub mod DumpBuilds
 pub mod NoEdits

@@ -7,12 +7,12 @@ use Rattle.dcm_words.specs.declared.usage.Usage.{Usage}
 use Rattle.dcm_words.specs.declared.usage.Usage.TheVariants as usages
 use Rattle.dcm_words.specs.Words.{Job, Plan, meant}
 use Rattle.dcm_words.specs.Plans.{is_modify, planned as plan_of}
-use Rattle.dcm_cli.specs.declared.opened.Opened.{Opened}
-use Rattle.dcm_cli.specs.declared.opened.Unopened.{Unopened}
-use Rattle.dcm_cli.specs.declared.opened.Unopened.TheVariants.{Input, Output, Memory}
+use Rattle.dcm_files.specs.declared.opened.Opened.{Opened}
+use Rattle.dcm_files.specs.declared.opened.Unopened.{Unopened}
+use Rattle.dcm_files.specs.declared.opened.Unopened.TheVariants.{Input, Output, Memory}
 use Rattle.dcm_base.specs.Outputs.{Writer}
 use Rattle.dcm_cli.specs.Calls.{Reader}
-use Rattle.dcm_cli.specs.Devices.{MayAnswer, OpensDevices}
+use Rattle.dcm_files.specs.Devices.{MayAnswer, OpensDevices}
 use Rattle.dcm_cli.specs.Run.{Ran}
 use Rattle.dcm_cli.specs.Stops.{Stops}
 use Rattle.dcm_cli.specs.ErrorLines.{Tries, usage_line, usage_status, open_line}

@@ -7,9 +7,9 @@ ghost use Rattle.dcm_cli.specs.Lines as lines;
 ghost use Rattle.dcm_cli.specs.Pass as spec;
 
 use crate::ending::{Ending, Verdict};
-use crate::pieces::next_piece;
 use dcm_base::{DeviceIn, DeviceOut, Watched};
 use dcm_build::{BuildHalt, Builder};
+use dcm_files::next_piece;
 use dcm_words::Build;
 
 /// The bytes that are read at a time.

@@ -6,8 +6,8 @@ ghost use Rattle.dcm_cli.specs.Pass as spec;
 ghost use Rattle.dcm_cli.specs.Stops.{HeadStops};
 
 use crate::ending::HeadEnding;
-use crate::pieces::next_piece;
 use dcm_base::{DeviceIn, Watched};
+use dcm_files::next_piece;
 use dcm_head::{Meta, MetaRead};
 
 /// Where a data set begins: with a byte of an earlier piece, and then within the bytes that the buffer holds.

@@ -18,19 +18,14 @@
 
 mod build;
 mod convert;
-pub mod devices;
 mod dump;
 mod ending;
 mod error_lines;
 mod head;
-mod host;
 pub mod in_memory;
 pub mod laws;
 mod modify;
-pub mod opened;
-pub mod output;
 mod pass;
-mod pieces;
 mod program;
 mod rewrite;
 pub mod run;

@@ -9,8 +9,8 @@ ghost use Rattle.dcm_cli.specs.SinkPass as sink_pass;
 
 use crate::ending::{Ending, ending_of};
 use crate::head::Beginning;
-use crate::pieces::next_piece;
 use dcm_base::{Coding, DeviceIn, Watched};
+use dcm_files::next_piece;
 use dcm_stream::{Halt, Machine, Sink};
 
 /// Feeds a machine that has not halted.

@@ -7,12 +7,10 @@ ghost use Rattle.dcm_cli.specs.Program.{WorksBy, ObeysBy};
 ghost use Rattle.dcm_cli.specs.ErrorLines.{usage_line};
 ghost use Rattle.dcm_words.specs.declared.usage.Usage.TheVariants as usages;
 
-use crate::devices::{System, open_devices};
 use crate::error_lines::{tell, tell_open};
-use crate::host::Host;
-use crate::opened::Unopened;
 use crate::run::run;
 use dcm_base::{DeviceOut, Watched, WordFault};
+use dcm_files::{Host, System, Unopened, open_devices};
 use dcm_words::{Planned, Usage, plan};
 use std::alloc::{AllocError, Global};
 use std::io::ErrorKind;

@@ -4,7 +4,7 @@ use Rattle.dcm_words.specs.declared.usage.Usage.{Usage}
 use Rattle.dcm_words.specs.declared.usage.Usage.TheVariants.{AtWord, Whole, InEdit, Memory}
 use Rattle.dcm_words.specs.Words.{Job, meant}
 use Rattle.dcm_words.specs.Plans.{Gives, GivesUnlessMemory, is_modify}
-use Rattle.dcm_cli.specs.Devices.{MayAnswer}
+use Rattle.dcm_files.specs.Devices.{MayAnswer}
 use Rattle.dcm_cli.specs.Program.{Errors, Reports, Telling, HasRun, Obeys, refused, no_memory}
 use Rattle.dcm_cli.specs.ErrorLines.{usage_line, usage_status}
 

@@ -1,14 +1,12 @@
 // Devices that cannot be opened, and files whose calls fail.
 ghost use Rattle.std.specs.Prelude.{◌≡◌, None, true};
-ghost use Rattle.dcm_cli.specs.Devices.{anything};
-ghost use Rattle.dcm_cli.specs.Output.{anything as any_file};
+ghost use Rattle.dcm_files.specs.Devices.{anything};
+ghost use Rattle.dcm_files.specs.Output.{anything as any_file};
 
 use super::{bytes_in, holds, memory_out, split};
 use dcm_base::{Device, DeviceIn, DeviceOut, ReadFailed, WriteFailed};
-use dcm_cli::devices::System;
 use dcm_cli::obey;
-use dcm_cli::opened::{FileKind, Opened};
-use dcm_cli::output::{OutputFile, Target};
+use dcm_files::{FileKind, Opened, OutputFile, System, Target};
 use std::cell::Cell;
 use std::io;
 use std::io::{ErrorKind, Write};

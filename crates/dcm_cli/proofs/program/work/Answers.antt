@@ -1,5 +1,5 @@
 use Rattle.std.proofs.Common.{subst}
-use Rattle.dcm_cli.specs.Devices.{OpensDevices}
+use Rattle.dcm_files.specs.Devices.{OpensDevices}
 use Rattle.dcm_cli.specs.Program.{not_opened, has_run}
 use Rattle.dcm_cli.proofs.Runs.Obeying.{over}
 use Rattle.dcm_cli.proofs.program.work.Goals as goal

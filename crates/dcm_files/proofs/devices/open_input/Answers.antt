@@ -1,6 +1,6 @@
 use Rattle.std.proofs.Common.{rules, refl}
-use Rattle.dcm_cli.specs.Devices.{stream, no_text, refused, directory, opened}
-use Rattle.dcm_cli.proofs.devices.open_input.Goals as goal
+use Rattle.dcm_files.specs.Devices.{stream, no_text, refused, directory, opened}
+use Rattle.dcm_files.proofs.devices.open_input.Goals as goal
 
 pub returns-then-eq : goal.returns-then-eq
 returns-then-eq g c = stream c.stdin.result (search rules) (search rules) refl

@@ -1,6 +1,6 @@
 use Rattle.std.proofs.Common.{rules, subst}
-use Rattle.dcm_cli.specs.Output.{Begins, not_begun, begun}
-use Rattle.dcm_cli.proofs.output.OutputFileWrite.write.Goals as goal
+use Rattle.dcm_files.specs.Output.{Begins, not_begun, begun}
+use Rattle.dcm_files.proofs.output.OutputFileWrite.write.Goals as goal
 
 pub returns-in_err-begin-clause-written : goal.returns-in_err-begin-clause-written
 returns-in_err-begin-clause-written g c =

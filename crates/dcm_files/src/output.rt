@@ -1,8 +1,8 @@
 // A file that is written from its beginning.
 ghost use Rattle.std.specs.Prelude.{◌≡◌, OnOk, true, false};
 ghost use Rattle.std.specs.Io.{WritesAtMost};
-ghost use Rattle.dcm_cli.specs.Output as spec;
-ghost use Rattle.dcm_cli.specs.Output.{FileMayDo, Begins};
+ghost use Rattle.dcm_files.specs.Output as spec;
+ghost use Rattle.dcm_files.specs.Output.{FileMayDo, Begins};
 
 use std::fs::File;
 use std::io;

@@ -5,11 +5,11 @@ use Rattle.std.specs.Str.{IsUtf8}
 use Rattle.std.specs.declared.io.Error.{Error}
 use Rattle.std.specs.declared.io.ErrorKind.{ErrorKind}
 use Rattle.std.specs.declared.io.ErrorKind.TheVariants as kinds
-use Rattle.dcm_cli.specs.declared.opened.FileKind.{FileKind}
-use Rattle.dcm_cli.specs.declared.opened.FileKind.TheVariants.{Regular, Directory}
-use Rattle.dcm_cli.specs.declared.opened.Opened.{Opened}
-use Rattle.dcm_cli.specs.declared.opened.Unopened.{Unopened}
-use Rattle.dcm_cli.specs.declared.opened.Unopened.TheVariants.{Input, Output, Memory}
+use Rattle.dcm_files.specs.declared.opened.FileKind.{FileKind}
+use Rattle.dcm_files.specs.declared.opened.FileKind.TheVariants.{Regular, Directory}
+use Rattle.dcm_files.specs.declared.opened.Opened.{Opened}
+use Rattle.dcm_files.specs.declared.opened.Unopened.{Unopened}
+use Rattle.dcm_files.specs.declared.opened.Unopened.TheVariants.{Input, Output, Memory}
 
 -- the path of a standard stream
 abbrev pub standard : List ℕ

@@ -2,11 +2,11 @@
 ghost use Rattle.std.specs.Prelude.{◌≡◌, IfOk, IfErr};
 ghost use Rattle.std.specs.IoError.{error_kind};
 ghost use Rattle.std.specs.Str.{IsUtf8};
-ghost use Rattle.dcm_cli.specs.Devices as spec;
-ghost use Rattle.dcm_cli.specs.Devices.{MayAnswer, IsCause, OpensInput, OpensOutput, OpensDevices};
+ghost use Rattle.dcm_files.specs.Devices as spec;
+ghost use Rattle.dcm_files.specs.Devices.{MayAnswer, IsCause, OpensInput, OpensOutput, OpensDevices};
 
 use crate::opened::{FileKind, Opened, Unopened};
-use dcm_base::{DeviceIn, DeviceOut};
+use dcm_devices::{DeviceIn, DeviceOut};
 use std::io::ErrorKind;
 use std::{io, str};
 

@@ -1,7 +1,7 @@
 -- What is done with a file that is written from its beginning.
 use Rattle.std.specs.Prelude.{◌≡◌, ℕ, List, Bool, true, false, Result, Ok, Err}
 use Rattle.std.specs.declared.io.Error.{Error}
-use Rattle.dcm_cli.specs.declared.output.OutputFile.{OutputFile}
+use Rattle.dcm_files.specs.declared.output.OutputFile.{OutputFile}
 
 -- what calls on a file may answer, and leave of it
 pub record FileMayDo (F : Type 0) : Type 1 where

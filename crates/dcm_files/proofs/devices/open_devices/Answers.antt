@@ -1,6 +1,6 @@
 use Rattle.std.proofs.Common.{rules, subst, refl}
-use Rattle.dcm_cli.specs.Devices.{OpensInput, OpensOutput, no_input, no_output, same, both}
-use Rattle.dcm_cli.proofs.devices.open_devices.Goals as goal
+use Rattle.dcm_files.specs.Devices.{OpensInput, OpensOutput, no_input, no_output, same, both}
+use Rattle.dcm_files.proofs.devices.open_devices.Goals as goal
 
 pub returns-in-Err : goal.returns-in-Err
 returns-in-Err g c =

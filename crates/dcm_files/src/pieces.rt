@@ -1,9 +1,9 @@
 // The pieces in which an input is read.
 ghost use Rattle.std.specs.Prelude.{◌≡◌, ◌≤◌, ◌<◌, ◌^◌, length};
 ghost use Rattle.dcm_devices.specs.Device.{Tells};
-ghost use Rattle.dcm_cli.specs.Pieces as spec;
+ghost use Rattle.dcm_files.specs.Pieces as spec;
 
-use dcm_base::{DeviceIn, ReadFailed, Watched, get_some};
+use dcm_devices::{DeviceIn, ReadFailed, Watched, get_some};
 
 /// Reads the next piece of an input into the front of a buffer, by one call, and counts its bytes with those before it.
 /// Answers its size. None is the end of the input.

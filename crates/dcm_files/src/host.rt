@@ -1,10 +1,10 @@
 // The devices that the system has.
-ghost use Rattle.dcm_cli.specs.Devices.{anything};
+ghost use Rattle.dcm_files.specs.Devices.{anything};
 
 use crate::devices::System;
 use crate::opened::{FileKind, Opened};
 use crate::output::OutputFile;
-use dcm_base::{Device, Std};
+use dcm_devices::{Device, Std};
 use either::{Either, Left, Right};
 use std::fs::{File, Metadata, OpenOptions};
 use std::io::{BufWriter, Stderr, Stdin, Stdout};

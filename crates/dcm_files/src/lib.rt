@@ -1,0 +1,29 @@
+//! The devices of a program: what the system opens for it, and the file that it writes. This crate knows nothing of DICOM.
+//!
+//! - `System` is what opens devices; `Host` is the real one. A system answers an `Opened`, a device with its `FileKind`.
+//! - `open_devices` opens the input and the output that words name, `-` for a standard stream, and refuses two that are one
+//!   file. `open_input` and `open_output` open one of them.
+//! - `OutputFile` is a file that keeps what it held until its first byte is written. It is over any `Target`, of which a
+//!   `File` is one.
+//! - `next_piece` reads an input piece by piece.
+//! - `specs` says what a call leaves: `Devices` of opening, `Output` of a file that is written, `Pieces` of a piece.
+//!
+//! Two writes and a flush. A `target` that held bytes is emptied once, before the first of them:
+//!
+//!     let mut file = OutputFile::new(target);
+//!     let first = file.write(b"ab").is_ok();
+//!     let second = file.write(b"b").is_ok();
+//!     let flushed = file.flush().is_ok();
+#![tactic(auto)]
+
+mod devices;
+mod host;
+mod opened;
+mod output;
+mod pieces;
+
+pub use devices::{System, open_devices, open_input, open_output};
+pub use host::Host;
+pub use opened::{FileKind, Opened, Unopened};
+pub use output::{OutputFile, Target};
+pub use pieces::next_piece;
