@@ -1,4 +1,5 @@
 // The devices that the system has.
+ghost use Rattle.std.specs.Prelude.{◌≡◌, false};
 ghost use Rattle.dcm_files.specs.Devices.{anything};
 
 use crate::devices::System;
@@ -60,14 +61,20 @@ pub struct Host {
 }
 
 impl Host {
-    pub fn new(rt: HostRuntime) -> Self {
+    /// The system, with the numbers of the standard streams that are closed taken.
+    pub fn new(rt: HostRuntime) -> Self
+        ensures { result.rt ≡ rt }
+    {
         Host {
             rt,
             _reserved: reserve(rt),
         }
     }
 
-    pub fn stderr(&self) -> Std<Stderr> {
+    /// Standard error, on which nothing has failed.
+    pub fn stderr(&self) -> Std<Stderr>
+        ensures { result.failed ≡ false }
+    {
         Std::new(self.rt.stderr())
     }
 
