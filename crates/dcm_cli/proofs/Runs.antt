@@ -8,3 +8,4 @@ pub mod OneAnswer
 pub mod Stopping
 pub mod InMemory
 pub mod Obeying
+pub mod ObeyingMemory

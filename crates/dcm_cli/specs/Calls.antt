@@ -20,8 +20,8 @@ use Rattle.dcm_cli.specs.Stops as stops
 use Rattle.dcm_cli.specs.ErrorLines as error_lines
 
 -- the members of a reader
-abbrev pub Reader : Type 0 → Type 0
-Reader R = record { has_failed : R → Bool; remaining : R → Option (List ℕ) }
+abbrev pub Reader : Type 0 → Type 1
+Reader R = record { has_failed : R → Bool; remaining : R → Option (List ℕ); gets : R → Option (List ℕ) → R → Type 0 }
 
 -- ---- lines on standard error
 
@@ -38,7 +38,7 @@ Works r w job old new held holds ending =
 
 -- nothing of it was read once the answer was decided
 abbrev pub Stops : {R : Type 0} → Reader R → Job → (old new : R) → Type 0
-Stops r job old new = (file : List ℕ) → r.remaining old ≡ Some file → stops.Stops job file (r.remaining new)
+Stops r job old new = (file : List ℕ) → r.remaining old ≡ Some file → stops.Stops r.remaining r.gets job old new
 
 -- a run of a job, where neither device had failed
 abbrev pub Runs : {R W E : Type 0} → Reader R → Writer W → Writer E → Job → (old new : R) → (held holds : W) → (told tells : E) → (status : ℕ) → Type 0

@@ -25,8 +25,8 @@ pub record EditPass {S : Type 0} (sink : Ghosts S) (edits : List Edit) (old new 
   pub ending_is : ending ≡ with_unplaced passed (not_found last.found)
 
 -- before the last piece the reading of a data set through edits had not halted
-abbrev pub EditStops : {S : Type 0} → Ghosts S → (edits : List Edit) → (old : S) → (first : Reading) → (buffered : List ℕ) → (is_over : Bool) → (had left : Option (List ℕ)) → Type 0
-EditStops sink edits old first buffered is_over had left = BehindStops through_bar (through_step sink.step) first (begun edits, sink.state old) buffered is_over had left
+abbrev pub EditStops : {S R : Type 0} → Ghosts S → Reader R → (edits : List Edit) → (old : S) → (first : Reading) → (buffered : List ℕ) → (is_over : Bool) → (had left : R) → Type 0
+EditStops sink r edits old first buffered is_over had left = BehindStops through_bar (through_step sink.step) first (begun edits, sink.state old) buffered is_over r.remaining r.gets had left
 
 -- where the data set of an opened file begins
 abbrev pub first_of : Opened → Reading
@@ -38,4 +38,4 @@ Edits sink r edits old new had left o buffer ending =
     EditPass sink edits old new (r.remaining had) (r.remaining left) (set_bytes o.beginning buffer) (first_of o) o.beginning.is_over ending
 
 abbrev pub Stops : {S R : Type 0} → Ghosts S → Reader R → (edits : List Edit) → (old : S) → (had left : R) → Opened → (buffer : List ℕ) → Type 0
-Stops sink r edits old had left o buffer = EditStops sink edits old (first_of o) (set_bytes o.beginning buffer) o.beginning.is_over (r.remaining had) (r.remaining left)
+Stops sink r edits old had left o buffer = EditStops sink r edits old (first_of o) (set_bytes o.beginning buffer) o.beginning.is_over had left

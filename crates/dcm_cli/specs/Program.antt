@@ -1,18 +1,21 @@
 -- What a program does with the words of its command line.
-use Rattle.std.specs.Prelude.{◌≡◌, ◌⊎◌, ◌↔◌, ◌≤◌, ℕ, List, map, Bool, true, false, Option, Some, Ok, Err}
+use Rattle.std.specs.Prelude.{◌≡◌, ◌≢◌, ◌⊎◌, ◌↔◌, ◌≤◌, ℕ, List, map, Bool, true, false, Option, Some, Ok, Err}
 use Rattle.std.specs.Borrow.{Bor}
+use Rattle.std.specs.IoError.{error_kind}
+use Rattle.std.specs.declared.io.Error.{Error}
+use Rattle.std.specs.declared.io.ErrorKind.TheVariants as kinds
 use Rattle.dcm_base.specs.declared.fault.WordFault.TheVariants.{UnknownTool}
 use Rattle.dcm_words.specs.declared.job.Planned.{Planned}
 use Rattle.dcm_words.specs.declared.usage.Usage.{Usage}
 use Rattle.dcm_words.specs.declared.usage.Usage.TheVariants as usages
 use Rattle.dcm_words.specs.Words.{Job, Plan, meant}
-use Rattle.dcm_words.specs.Plans.{is_modify, planned as plan_of}
+use Rattle.dcm_words.specs.Plans.{takes_memory, planned as plan_of}
 use Rattle.dcm_files.specs.declared.opened.Opened.{Opened}
 use Rattle.dcm_files.specs.declared.opened.Unopened.{Unopened}
 use Rattle.dcm_files.specs.declared.opened.Unopened.TheVariants.{Input, Output, Memory}
 use Rattle.dcm_base.specs.Outputs.{Writer}
 use Rattle.dcm_cli.specs.Calls.{Reader}
-use Rattle.dcm_files.specs.Devices.{MayAnswer, OpensDevices}
+use Rattle.dcm_files.specs.Devices.{MayDo, OpensDevices}
 use Rattle.dcm_cli.specs.Run.{Ran}
 use Rattle.dcm_cli.specs.Stops.{Stops}
 use Rattle.dcm_cli.specs.ErrorLines.{Tries, usage_line, usage_status, open_line}
@@ -44,44 +47,74 @@ unopened_status _ = 4
 -- what devices tell
 pub record Telling (I O : Type 0) : Type 1 where
   pub remaining : I → Option (List ℕ)
+  pub gets : I → Option (List ℕ) → I → Type 0
   pub unread : I → Bool
   pub contents : O → Option (List ℕ)
   pub room : O → Option ℕ
   pub unwritten : O → Bool
   pub is_flushed : O → Bool
 
--- a job was run over these devices
-pub record HasRun {I O : Type 0} (t : Telling I O) (job : Job) (e : Errors) (i : I) (o : O) (status : ℕ) : Type 0 where
-  pub input : I
-  pub output : O
+-- a job was run over these devices, and left them so
+pub record HasRun {I O : Type 0} (t : Telling I O) (job : Job) (e : Errors) (i : I) (o : O) (input : I) (output : O) (status : ℕ) : Type 0 where
   pub ran : (file : List ℕ) → t.remaining i ≡ Some file → t.unread i ≡ false → t.unwritten o ≡ false
       → Ran job file (record { left = t.remaining input; held = t.contents o; holds = t.contents output; room = t.room output; told = e.told; tells = e.tells; unread = t.unread input; unwritten = t.unwritten output; untold_before = e.untold_before; untold = e.untold }) status
-  pub stops : (file : List ℕ) → t.remaining i ≡ Some file → Stops job file (t.remaining input)
+  pub stops : (file : List ℕ) → t.remaining i ≡ Some file → Stops t.remaining t.gets job i input
   pub flushed : t.unwritten o ≡ false → t.unwritten output ≡ false → t.is_flushed output ≡ true
   pub within : status ≤ 4
   pub failed : t.unread i ≡ false → t.unwritten o ≡ false → (status ≡ 4) ↔ ((t.unread input ≡ true) ⊎ (t.unwritten output ≡ true))
 
--- the devices of a plan cannot be opened, and that is reported; or its job was run over them
-pub data Works {I O : Type 0} (may : MayAnswer I O) (t : Telling I O) (p : Plan) (e : Errors) (status : ℕ) : Type 0 where
-  not_opened : (u : Unopened) → OpensDevices may p.input p.output (Err u) → Reports e (unopened_line u) → status ≡ unopened_status u → Works may t p e status
-  has_run : (i : Opened I) (o : Opened O) → OpensDevices may p.input p.output (Ok (i, o)) → HasRun t p.job e i.device o.device status → Works may t p e status
+-- they were given back just as it left them
+pub record GivesBack {S I O : Type 0} (may : MayDo S I O) (input : I) (output : O) (old new : S) : Type 0 where
+  pub between : S
+  pub closed : may.closes old output between
+  pub released : may.releases between input new
 
--- the words are refused, and that is reported; or what they mean was done
-pub data Obeys {I O : Type 0} (may : MayAnswer I O) (t : Telling I O) (words : List (List ℕ)) (e : Errors) (status : ℕ) : Type 0 where
-  refused : (u : Usage) → meant words ≡ Err u → Reports e (usage_line u) → status ≡ usage_status u → Obeys may t words e status
-  no_memory : is_modify words ≡ true → Reports e (usage_line usages.Memory) → status ≡ usage_status usages.Memory → Obeys may t words e status
-  worked : (p : Plan) → meant words ≡ Ok p → Works may t p e status → Obeys may t words e status
+-- a job was run over these devices, and they were given back
+pub record RunsOver {S I O : Type 0} (may : MayDo S I O) (t : Telling I O) (job : Job) (e : Errors) (i : I) (o : O) (old : S) (status : ℕ) (new : S) : Type 0 where
+  pub input : I
+  pub output : O
+  pub run : HasRun t job e i o input output status
+  pub back : GivesBack may input output old new
+
+-- the devices of a plan cannot be opened, and that is reported; or its job was run over them. Nothing else was done with the
+-- system
+pub data Works {S I O : Type 0} (may : MayDo S I O) (t : Telling I O) (p : Plan) (e : Errors) (old : S) (status : ℕ) (new : S) : Type 0 where
+  not_opened : (u : Unopened) → OpensDevices may p.input p.output old (Err u) new → Reports e (unopened_line u) → status ≡ unopened_status u → Works may t p e old status new
+  has_run : (i : Opened I) (o : Opened O) (has_both : S) → OpensDevices may p.input p.output old (Ok (i, o)) has_both → RunsOver may t p.job e i.device o.device has_both status new
+      → Works may t p e old status new
+
+-- the words are refused, and that is reported, with nothing done with the system; or what they mean was done
+pub data Obeys {S I O : Type 0} (may : MayDo S I O) (t : Telling I O) (words : List (List ℕ)) (e : Errors) (old : S) (status : ℕ) (new : S) : Type 0 where
+  refused : (u : Usage) → meant words ≡ Err u → Reports e (usage_line u) → status ≡ usage_status u → new ≡ old → Obeys may t words e old status new
+  no_memory : takes_memory words ≡ true → Reports e (usage_line usages.Memory) → status ≡ usage_status usages.Memory → new ≡ old → Obeys may t words e old status new
+  worked : (p : Plan) → meant words ≡ Ok p → Works may t p e old status new → Obeys may t words e old status new
+
+-- words could not be read for this cause, and that is reported
+pub record Unread (e : Errors) (cause : Error) (status : ℕ) : Type 0 where
+  pub line : error_kind cause ≢ kinds.OutOfMemory → Reports e (usage_line no_tool)
+  pub status_is : error_kind cause ≢ kinds.OutOfMemory → status ≡ 1
+  pub memory_line : error_kind cause ≡ kinds.OutOfMemory → Reports e (usage_line usages.Memory)
+  pub memory : error_kind cause ≡ kinds.OutOfMemory → status ≡ 5
+
+-- the words that the system gave were obeyed; or it gave none, or there was no memory for their bytes, and that is reported
+pub data Starts {S I O : Type 0} (may : MayDo S I O) (t : Telling I O) (e : Errors) (old : S) (status : ℕ) (new : S) : Type 0 where
+  no_words : (cause : Error) → may.words old (Err cause) new → Unread e cause status → Starts may t e old status new
+  no_bytes : (words : List (List ℕ)) → may.words old (Ok words) new → Reports e (usage_line usages.Memory) → status ≡ usage_status usages.Memory → Starts may t e old status new
+  obeyed : (words : List (List ℕ)) (has_words : S) → may.words old (Ok words) has_words → Obeys may t words e has_words status new → Starts may t e old status new
 
 -- ---- of devices with these members
 
 abbrev pub telling : {I O : Type 0} → Reader I → Writer O → Telling I O
-telling r w = record { remaining = r.remaining; unread = r.has_failed; contents = w.contents; room = w.room; unwritten = w.has_failed; is_flushed = w.is_flushed }
+telling r w = record { remaining = r.remaining; gets = r.gets; unread = r.has_failed; contents = w.contents; room = w.room; unwritten = w.has_failed; is_flushed = w.is_flushed }
 
 abbrev pub errors_of : {E : Type 0} → Writer E → (old new : E) → Errors
 errors_of e old new = record { told = e.contents old; tells = e.contents new; untold_before = e.has_failed old; untold = e.has_failed new }
 
-abbrev pub WorksBy : {I O E A : Type 0} → MayAnswer I O → Reader I → Writer O → Writer E → Planned A → (old new : E) → (status : ℕ) → Type 0
-WorksBy may r w e planned old new status = Works may (telling r w) (plan_of planned) (errors_of e old new) status
+abbrev pub WorksBy : {S I O E A : Type 0} → MayDo S I O → Reader I → Writer O → Writer E → Planned A → (before after : S) → (old new : E) → (status : ℕ) → Type 0
+WorksBy may r w e planned before after old new status = Works may (telling r w) (plan_of planned) (errors_of e old new) before status after
 
-abbrev pub ObeysBy : {I O E : Type 0} → MayAnswer I O → Reader I → Writer O → Writer E → List (Bor (List ℕ)) → (old new : E) → (status : ℕ) → Type 0
-ObeysBy may r w e words old new status = Obeys may (telling r w) (map (λ w. w.now) words) (errors_of e old new) status
+abbrev pub ObeysBy : {S I O E : Type 0} → MayDo S I O → Reader I → Writer O → Writer E → List (Bor (List ℕ)) → (before after : S) → (old new : E) → (status : ℕ) → Type 0
+ObeysBy may r w e words before after old new status = Obeys may (telling r w) (map (λ w. w.now) words) (errors_of e old new) before status after
+
+abbrev pub StartsBy : {S I O E : Type 0} → MayDo S I O → Reader I → Writer O → Writer E → (before after : S) → (old new : E) → (status : ℕ) → Type 0
+StartsBy may r w e before after old new status = Starts may (telling r w) (errors_of e old new) before status after

@@ -39,8 +39,8 @@ TellsOutput sink old new ending = pass.TellsOutput (sink.has_failed old) (sink.h
 
 -- before the last piece the reading of a data set, of which these bytes were read, had not halted
 abbrev pub Stops : {S R : Type 0} → Ghosts S → Reader R → (old : S) → (first : Reading) → (beginning : List ℕ) → (had left : R) → Type 0
-Stops sink r old first beginning had left = stops.SetStops sink.bar sink.step first (sink.state old) beginning (r.remaining had) (r.remaining left)
+Stops sink r old first beginning had left = stops.SetStops sink.bar sink.step first (sink.state old) beginning r.remaining r.gets had left
 
 abbrev pub BehindStops : {S R : Type 0} → Ghosts S → Reader R → (old : S) → (had left : R) → Beginning → (buffer : List ℕ) → (first : Reading) → Type 0
 BehindStops sink r old had left beginning buffer first =
-    stops.BehindStops sink.bar sink.step first (sink.state old) (pass.set_bytes beginning buffer) beginning.is_over (r.remaining had) (r.remaining left)
+    stops.BehindStops sink.bar sink.step first (sink.state old) (pass.set_bytes beginning buffer) beginning.is_over r.remaining r.gets had left

@@ -65,7 +65,7 @@ pub fn read_head_of<R: DeviceIn>(
     requires bound { length buffer.old ≤ 262144 }
     ensures within { IfOk result (λ b. (b.used ≤ b.filled) × (b.filled ≤ length buffer.new)) }
     ensures read { spec.HeadReads (R.remaining input.old) (R.remaining input.new) meta.new buffer.new result }
-    ensures stops { HeadStops (R.remaining input.old) (R.remaining input.new) }
+    ensures stops { HeadStops R.remaining R.gets input.old input.new }
     ensures failed { calls.TellsHead R.DeviceIn input.old input.new result }
     ensures kept { length buffer.new ≡ length buffer.old }
 {

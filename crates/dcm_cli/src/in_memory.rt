@@ -1,10 +1,14 @@
 // Runs over memory.
-ghost use Rattle.dcm_cli.specs.InMemory.{LeavesAnswers};
+ghost use Rattle.std.specs.Prelude.{map};
+ghost use Rattle.dcm_cli.specs.InMemory.{LeavesAnswers, ObeysInMemory, RefusesInMemory};
 ghost use Rattle.dcm_words.specs.Plans.{job_of};
 
+use crate::program::obey;
 use crate::run::run;
 use dcm_base::{Measured, MemIn, MemOut, Watched};
+use dcm_files::MemSystem;
 use dcm_words::Job;
+use std::alloc::Global;
 
 /// What a run over memory leaves.
 #[derive(Drop)]
@@ -27,5 +31,35 @@ pub fn run_in_memory(job: &Job, input: MemIn, out: MemOut, errors: MemOut) -> In
         out: out.into_device().into_inner(),
         errors: errors.into_device().into_inner(),
         status: outcome.status,
+    }
+}
+
+/// What obeying words over files in memory leaves.
+#[derive(Drop)]
+pub struct Obeyed {
+    /// The file that was written, if one was.
+    pub written: Option<MemOut>,
+    pub errors: MemOut,
+    pub status: u8,
+}
+
+/// Obeys words over two files in memory, one that can be read and one that can be written. Where the words mean a job from the
+/// one to the other, and there is room for its answer, the file, the lines and the status are those of the answer.
+pub fn obey_in_memory<'a>(
+    alloc: Global,
+    words: &[&[u8]],
+    system: MemSystem<'a>,
+    errors: MemOut,
+) -> Obeyed
+    ensures worked { ObeysInMemory (map (λ w. w.now) words.now) system.entry errors result.written result.errors result.status }
+    ensures refused { RefusesInMemory (map (λ w. w.now) words.now) system.entry errors result.written result.errors result.status }
+{
+    let mut system = system;
+    let mut errors = Watched::new(Measured::new(errors));
+    let status = obey(&mut system, alloc, words, &mut errors);
+    Obeyed {
+        written: system.into_written(),
+        errors: errors.into_device().into_inner(),
+        status,
     }
 }

@@ -33,4 +33,4 @@ mod syntax;
 
 pub use dcm_words::{Build, Convert, Dump, Job, Planned, plan};
 pub use error_lines::{tell, tell_open};
-pub use program::{dcmtools, obey};
+pub use program::{dcmtools, obey, start};

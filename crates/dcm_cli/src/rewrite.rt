@@ -82,7 +82,7 @@ pub fn open_file<R: DeviceIn, W: DeviceOut>(
     requires room { 0 < length buffer.old }
     requires bound { length buffer.old ≤ 262144 }
     ensures opens { calls.Opens R.DeviceIn W.DeviceOut dictionary target input.old input.new out.old out.new buffer.new result }
-    ensures stops { HeadStops (R.remaining input.old) (R.remaining input.new) }
+    ensures stops { HeadStops R.remaining R.gets input.old input.new }
     ensures start { IfOk result (λ o. o.start ≤ 2 ^ 62) }
     ensures within { IfOk result (λ o. (o.beginning.used ≤ o.beginning.filled) × (o.beginning.filled ≤ length buffer.new)) }
     ensures count { IfOk result (λ o. o.start + length (spec.set_bytes o.beginning buffer.new) ≡ o.beginning.read) }

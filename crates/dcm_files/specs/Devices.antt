@@ -1,5 +1,5 @@
 -- Which devices a program opens, and why it does not.
-use Rattle.std.specs.Prelude.{◌≡◌, ◌≢◌, ℕ, ◌==◌, List, codes, Bool, true, false, Result, Ok, Err, if◌then◌else◌}
+use Rattle.std.specs.Prelude.{◌≡◌, ◌≢◌, ℕ, ◌==◌, List, map, codes, String, string_bytes, Vec, Bool, true, false, Result, Ok, Err, if◌then◌else◌}
 use Rattle.std.specs.IoError.{error_kind}
 use Rattle.std.specs.Str.{IsUtf8}
 use Rattle.std.specs.declared.io.Error.{Error}
@@ -15,32 +15,54 @@ use Rattle.dcm_files.specs.declared.opened.Unopened.TheVariants.{Input, Output, 
 abbrev pub standard : List ℕ
 standard = codes "-"
 
--- what the system may answer to a program that opens its devices
-pub record MayAnswer (I O : Type 0) : Type 1 where
-  pub stdin : Opened I → Type 0
+-- what the calls of a program that opens its devices may answer, and what they may leave of the system: no other call leads
+-- from a system to a later one
+pub record MayDo (S I O : Type 0) : Type 1 where
+  -- the words of the command line after the program's name
+  pub words : S → Result (List (List ℕ)) Error → S → Type 0
+  pub stdin : S → Opened I → S → Type 0
   -- of a path that is read
-  pub opens : List ℕ → Result (Opened I) Error → Type 0
-  pub stdout : Result (Opened O) Error → Type 0
+  pub opens : S → List ℕ → Result (Opened I) Error → S → Type 0
+  -- takes an input back, as the program leaves it
+  pub releases : S → I → S → Type 0
+  pub stdout : S → Result (Opened O) Error → S → Type 0
   -- of a path that is written
-  pub creates : List ℕ → Result (Opened O) Error → Type 0
+  pub creates : S → List ℕ → Result (Opened O) Error → S → Type 0
+  -- takes an output back, as the program leaves it
+  pub closes : S → O → S → Type 0
 
 -- nothing is known of the system
-abbrev pub anything : {I O : Type 0} → MayAnswer I O
-anything = record { stdin = λ d. Unit {0}; opens = λ path r. Unit {0}; stdout = λ r. Unit {0}; creates = λ path r. Unit {0} }
+abbrev pub anything : {S I O : Type 0} → MayDo S I O
+anything = record {
+  words = λ old r new. Unit {0};
+  stdin = λ old d new. Unit {0};
+  opens = λ old path r new. Unit {0};
+  releases = λ old d new. Unit {0};
+  stdout = λ old r new. Unit {0};
+  creates = λ old path r new. Unit {0};
+  closes = λ old d new. Unit {0};
+}
+
+-- the bytes of words
+abbrev pub texts : {A B : Type 0} → Result (Vec (String A) B) Error → Result (List (List ℕ)) Error
+texts (Ok words) = Ok (map string_bytes words.items)
+texts (Err e) = Err e
 
 -- what the opening of an input gives
-pub data OpensInput {I O : Type 0} (may : MayAnswer I O) (path : List ℕ) (r : Result (Opened I) Error) : Type 0 where
-  stream : (d : Opened I) → path ≡ standard → may.stdin d → r ≡ Ok d → OpensInput may path r
-  no_text : (e : Error) → path ≢ standard → ¬ (IsUtf8 path) → error_kind e ≡ kinds.InvalidFilename → r ≡ Err e → OpensInput may path r
-  refused : (e : Error) → path ≢ standard → may.opens path (Err e) → r ≡ Err e → OpensInput may path r
-  directory : (d : Opened I) (e : Error) → path ≢ standard → may.opens path (Ok d) → d.kind ≡ Directory → error_kind e ≡ kinds.IsADirectory → r ≡ Err e → OpensInput may path r
-  opened : (d : Opened I) → path ≢ standard → may.opens path (Ok d) → d.kind ≢ Directory → r ≡ Ok d → OpensInput may path r
+pub data OpensInput {S I O : Type 0} (may : MayDo S I O) (path : List ℕ) (old : S) (r : Result (Opened I) Error) (new : S) : Type 0 where
+  stream : (d : Opened I) → path ≡ standard → may.stdin old d new → r ≡ Ok d → OpensInput may path old r new
+  no_text : (e : Error) → path ≢ standard → ¬ (IsUtf8 path) → error_kind e ≡ kinds.InvalidFilename → r ≡ Err e → new ≡ old → OpensInput may path old r new
+  refused : (e : Error) → path ≢ standard → may.opens old path (Err e) new → r ≡ Err e → OpensInput may path old r new
+  -- nothing is read of a directory
+  directory : (d : Opened I) (e : Error) (had : S) → path ≢ standard → may.opens old path (Ok d) had → d.kind ≡ Directory → may.releases had d.device new
+      → error_kind e ≡ kinds.IsADirectory → r ≡ Err e → OpensInput may path old r new
+  opened : (d : Opened I) → path ≢ standard → may.opens old path (Ok d) new → d.kind ≢ Directory → r ≡ Ok d → OpensInput may path old r new
 
 -- and that of an output
-pub data OpensOutput {I O : Type 0} (may : MayAnswer I O) (path : List ℕ) (r : Result (Opened O) Error) : Type 0 where
-  out_stream : path ≡ standard → may.stdout r → OpensOutput may path r
-  out_no_text : (e : Error) → path ≢ standard → ¬ (IsUtf8 path) → error_kind e ≡ kinds.InvalidFilename → r ≡ Err e → OpensOutput may path r
-  answered : path ≢ standard → may.creates path r → OpensOutput may path r
+pub data OpensOutput {S I O : Type 0} (may : MayDo S I O) (path : List ℕ) (old : S) (r : Result (Opened O) Error) (new : S) : Type 0 where
+  out_stream : path ≡ standard → may.stdout old r new → OpensOutput may path old r new
+  out_no_text : (e : Error) → path ≢ standard → ¬ (IsUtf8 path) → error_kind e ≡ kinds.InvalidFilename → r ≡ Err e → new ≡ old → OpensOutput may path old r new
+  answered : path ≢ standard → may.creates old path r new → OpensOutput may path old r new
 
 -- two kinds of devices are one regular file
 abbrev pub is_same_file : FileKind → FileKind → Bool
@@ -52,9 +74,13 @@ pub record IsCause (kind : ErrorKind) (which cause : Unopened) : Type 0 where
   pub memory : kind ≡ kinds.OutOfMemory → cause ≡ Memory
   pub other : kind ≢ kinds.OutOfMemory → cause ≡ which
 
--- what the opening of both gives
-pub data OpensDevices {I O : Type 0} (may : MayAnswer I O) (input output : List ℕ) (r : Result (Opened I × Opened O) Unopened) : Type 0 where
-  no_input : (e : Error) (u : Unopened) → OpensInput may input (Err e) → IsCause (error_kind e) Input u → r ≡ Err u → OpensDevices may input output r
-  no_output : (i : Opened I) (e : Error) (u : Unopened) → OpensInput may input (Ok i) → OpensOutput may output (Err e) → IsCause (error_kind e) Output u → r ≡ Err u → OpensDevices may input output r
-  same : (i : Opened I) (o : Opened O) → OpensInput may input (Ok i) → OpensOutput may output (Ok o) → is_same_file i.kind o.kind ≡ true → r ≡ Err Output → OpensDevices may input output r
-  both : (i : Opened I) (o : Opened O) → OpensInput may input (Ok i) → OpensOutput may output (Ok o) → is_same_file i.kind o.kind ≡ false → r ≡ Ok (i, o) → OpensDevices may input output r
+-- what the opening of both gives: the input is opened, and then the output; devices that are refused are given back as they
+-- were opened
+pub data OpensDevices {S I O : Type 0} (may : MayDo S I O) (input output : List ℕ) (old : S) (r : Result (Opened I × Opened O) Unopened) (new : S) : Type 0 where
+  no_input : (e : Error) (u : Unopened) → OpensInput may input old (Err e) new → IsCause (error_kind e) Input u → r ≡ Err u → OpensDevices may input output old r new
+  no_output : (i : Opened I) (e : Error) (u : Unopened) (has_input tried : S) → OpensInput may input old (Ok i) has_input → OpensOutput may output has_input (Err e) tried
+      → may.releases tried i.device new → IsCause (error_kind e) Output u → r ≡ Err u → OpensDevices may input output old r new
+  same : (i : Opened I) (o : Opened O) (has_input has_both closed : S) → OpensInput may input old (Ok i) has_input → OpensOutput may output has_input (Ok o) has_both
+      → is_same_file i.kind o.kind ≡ true → may.closes has_both o.device closed → may.releases closed i.device new → r ≡ Err Output → OpensDevices may input output old r new
+  both : (i : Opened I) (o : Opened O) (has_input : S) → OpensInput may input old (Ok i) has_input → OpensOutput may output has_input (Ok o) new
+      → is_same_file i.kind o.kind ≡ false → r ≡ Ok (i, o) → OpensDevices may input output old r new

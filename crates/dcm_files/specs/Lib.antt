@@ -1,3 +1,4 @@
 pub mod Devices
 pub mod Output
 pub mod Pieces
+pub mod Memory

@@ -1,5 +1,5 @@
 -- What the reading of a piece of an input leaves.
-use Rattle.std.specs.Prelude.{◌≡◌, ◌<◌, ◌≤◌, ◌+◌, ℕ, List, length, take, Option, None, Some, Result, Ok, Err}
+use Rattle.std.specs.Prelude.{◌≡◌, ◌<◌, ◌≤◌, ◌+◌, ℕ, List, [], length, take, Option, None, Some, Result, Ok, Err}
 use Rattle.std.specs.Io.KnownBytes.{prepend_known, IsAtEnd}
 
 -- the buffer begins with the next bytes, at least one; or none were read, since the input has ended, or since reading failed
@@ -13,3 +13,9 @@ abbrev pub CountsPiece : {E : Type 0} → (old new : ℕ) → Result (Option ℕ
 CountsPiece old new (Ok (Some size)) = new ≡ old + size
 CountsPiece old new (Ok None) = new ≡ old
 CountsPiece old new (Err e) = new ≡ old
+
+-- what the call gave: a piece, no bytes at the end, or nothing since it failed
+abbrev pub given : {E : Type 0} → (buffer : List ℕ) → Result (Option ℕ) E → Option (List ℕ)
+given buffer (Ok (Some size)) = Some (take size buffer)
+given buffer (Ok None) = Some []
+given buffer (Err e) = None

@@ -3,7 +3,7 @@ ghost use Rattle.std.specs.Prelude.{◌≡◌, IfOk, IfErr};
 ghost use Rattle.std.specs.IoError.{error_kind};
 ghost use Rattle.std.specs.Str.{IsUtf8};
 ghost use Rattle.dcm_files.specs.Devices as spec;
-ghost use Rattle.dcm_files.specs.Devices.{MayAnswer, IsCause, OpensInput, OpensOutput, OpensDevices};
+ghost use Rattle.dcm_files.specs.Devices.{MayDo, IsCause, OpensInput, OpensOutput, OpensDevices};
 
 use crate::opened::{FileKind, Opened, Unopened};
 use dcm_devices::{DeviceIn, DeviceOut};
@@ -13,33 +13,42 @@ use std::{io, str};
 /// The path of a standard stream.
 const STANDARD: &[u8] = b"-";
 
-/// What opens the devices of a program.
+/// What opens the devices of a program. Each call is a step of it, also where the call opens nothing.
 pub trait System {
     type Input: DeviceIn + Drop;
 
     type Output: DeviceOut + Drop;
 
-    /// What the calls below may answer.
-    ghost may_answer: { Self → MayAnswer Self.Input Self.Output };
+    /// What the calls below may answer, and what they may leave of the system.
+    ghost may_do: { MayDo Self Self.Input Self.Output };
+
+    /// The words of the command line after the program's name.
+    fn words(&mut self) -> io::Result<Vec<String>>
+        ensures { may_do.words self.old (spec.texts result) self.new };
 
     /// Standard input.
-    fn stdin(&self) -> Opened<Self::Input>
-        ensures { (may_answer self.now).stdin result };
+    fn stdin(&mut self) -> Opened<Self::Input>
+        ensures { may_do.stdin self.old result self.new };
 
     /// What is read at a path.
-    fn open(&self, path: &str) -> io::Result<Opened<Self::Input>>
-        ensures { (may_answer self.now).opens path.now result };
+    fn open(&mut self, path: &str) -> io::Result<Opened<Self::Input>>
+        ensures { may_do.opens self.old path.now result self.new };
+
+    /// Takes an input back.
+    fn release(&mut self, input: Self::Input)
+        ensures { may_do.releases self.old input self.new };
 
     /// Standard output.
-    fn stdout(&self) -> io::Result<Opened<Self::Output>>
-        ensures { (may_answer self.now).stdout result };
+    fn stdout(&mut self) -> io::Result<Opened<Self::Output>>
+        ensures { may_do.stdout self.old result self.new };
 
     /// What is written at a path. A file that is there keeps what it holds until its first byte is written.
-    fn create(&self, path: &str) -> io::Result<Opened<Self::Output>>
-        ensures { (may_answer self.now).creates path.now result };
+    fn create(&mut self, path: &str) -> io::Result<Opened<Self::Output>>
+        ensures { may_do.creates self.old path.now result self.new };
 
     /// Closes an output. What one that failed still holds is not written again.
-    fn close(&self, output: Self::Output);
+    fn close(&mut self, output: Self::Output)
+        ensures { may_do.closes self.old output self.new };
 }
 
 /// A path as a text.
@@ -54,22 +63,23 @@ fn path(word: &[u8]) -> io::Result<&str>
 }
 
 /// Opens an input, `-` for standard input. A path of a directory is refused.
-pub fn open_input<S: System>(system: &S, word: &[u8]) -> io::Result<Opened<S::Input>>
-    ensures { OpensInput (S.may_answer system.now) word.now result }
+pub fn open_input<S: System>(system: &mut S, word: &[u8]) -> io::Result<Opened<S::Input>>
+    ensures { OpensInput S.may_do word.now system.old result system.new }
 {
     if word == STANDARD {
         return Ok(system.stdin());
     }
     let input = system.open(path(word)?)?;
     if input.kind == FileKind::Directory {
+        system.release(input.device);
         return Err(io::Error::from(ErrorKind::IsADirectory));
     }
     Ok(input)
 }
 
 /// Opens an output, `-` for standard output.
-pub fn open_output<S: System>(system: &S, word: &[u8]) -> io::Result<Opened<S::Output>>
-    ensures { OpensOutput (S.may_answer system.now) word.now result }
+pub fn open_output<S: System>(system: &mut S, word: &[u8]) -> io::Result<Opened<S::Output>>
+    ensures { OpensOutput S.may_do word.now system.old result system.new }
 {
     if word == STANDARD {
         return system.stdout();
@@ -103,13 +113,14 @@ fn unopened(e: &io::Error, which: Unopened) -> Unopened
     }
 }
 
-/// Opens the devices of a job, the input before the output. They are refused where both are one file.
+/// Opens the devices of a job, the input before the output. They are refused where both are one file. Of devices that are
+/// refused nothing was read and nothing written.
 pub fn open_devices<S: System>(
-    system: &S,
+    system: &mut S,
     input: &[u8],
     output: &[u8],
 ) -> Result<(Opened<S::Input>, Opened<S::Output>), Unopened>
-    ensures { OpensDevices (S.may_answer system.now) input.now output.now result }
+    ensures { OpensDevices S.may_do input.now output.now system.old result system.new }
 {
     let input = match open_input(system, input) {
         Ok(input) => input,
@@ -117,9 +128,14 @@ pub fn open_devices<S: System>(
     };
     let output = match open_output(system, output) {
         Ok(output) => output,
-        Err(e) => return Err(unopened(&e, Unopened::Output)),
+        Err(e) => {
+            system.release(input.device);
+            return Err(unopened(&e, Unopened::Output));
+        }
     };
     if is_same_file(input.kind, output.kind) {
+        system.close(output.device);
+        system.release(input.device);
         return Err(Unopened::Output);
     }
     Ok((input, output))

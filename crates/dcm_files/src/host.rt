@@ -10,7 +10,7 @@ use either::{Either, Left, Right};
 use std::fs::{File, Metadata, OpenOptions};
 use std::io::{BufWriter, Stderr, Stdin, Stdout};
 use std::os::unix::fs::MetadataExt;
-use std::{fs, io};
+use std::{env, fs, io};
 
 /// What can be neither read nor written, for a standard stream that is closed.
 const NOTHING: &str = "/";
@@ -94,9 +94,17 @@ impl System for Host {
 
     type Output = Std<BufWriter<Either<Stdout, OutputFile<File>>>>;
 
-    ghost may_answer = { λ _. anything };
+    ghost may_do = { anything };
 
-    fn stdin(&self) -> Opened<Self::Input> {
+    fn words(&mut self) -> io::Result<Vec<String>> {
+        let mut words = Vec::new(self.rt.alloc());
+        for word in env::args(&self.rt)?.skip(1) {
+            words.push(word)?;
+        }
+        Ok(words)
+    }
+
+    fn stdin(&mut self) -> Opened<Self::Input> {
         let kind = match fs::metadata(&self.rt, STANDARD_INPUT) {
             Ok(file) => kind_of(&file),
             Err(_) => FileKind::Other,
@@ -107,7 +115,7 @@ impl System for Host {
         }
     }
 
-    fn open(&self, path: &str) -> io::Result<Opened<Self::Input>> {
+    fn open(&mut self, path: &str) -> io::Result<Opened<Self::Input>> {
         let file = File::open(&self.rt, path)?;
         let kind = kind_of(&file.metadata()?);
         Ok(Opened {
@@ -116,12 +124,14 @@ impl System for Host {
         })
     }
 
+    fn release(&mut self, _input: Self::Input) {}
+
     /// A standard stream is written as it is, also where it is the file that is read.
-    fn stdout(&self) -> io::Result<Opened<Self::Output>> {
+    fn stdout(&mut self) -> io::Result<Opened<Self::Output>> {
         self.buffered(Left(self.rt.stdout()), FileKind::Other)
     }
 
-    fn create(&self, path: &str) -> io::Result<Opened<Self::Output>> {
+    fn create(&mut self, path: &str) -> io::Result<Opened<Self::Output>> {
         let file = OpenOptions::new()
             .write(true)
             .create(true)
@@ -130,7 +140,7 @@ impl System for Host {
         self.buffered(Right(OutputFile::new(file)), kind)
     }
 
-    fn close(&self, output: Self::Output) {
+    fn close(&mut self, output: Self::Output) {
         let failed = output.failed();
         let writer = output.into_inner();
         if failed {

@@ -18,12 +18,14 @@
 
 mod devices;
 mod host;
+mod memory;
 mod opened;
 mod output;
 mod pieces;
 
 pub use devices::{System, open_devices, open_input, open_output};
 pub use host::Host;
+pub use memory::MemSystem;
 pub use opened::{FileKind, Opened, Unopened};
 pub use output::{OutputFile, Target};
 pub use pieces::next_piece;

@@ -16,6 +16,7 @@ pub fn next_piece<R: DeviceIn>(
     requires bound { length buffer.old ≤ 262144 }
     requires limit { read.old ≤ 2 ^ 62 }
     ensures bytes { spec.GivesPiece (R.remaining input.old) (R.remaining input.new) buffer.new result }
+    ensures call { R.gets input.old (spec.given buffer.new result) input.new }
     ensures count { spec.CountsPiece read.old read.new result }
     ensures failed { Tells (R.has_failed input.old) (R.has_failed input.new) result }
     ensures kept { length buffer.new ≡ length buffer.old }

@@ -4,7 +4,7 @@ use Rattle.dcm_base.specs.declared.fault.WordFault.TheVariants.{WrongPaths}
 use Rattle.dcm_words.specs.declared.usage.Usage.{Usage}
 use Rattle.dcm_words.specs.declared.usage.Usage.TheVariants.{Whole}
 use Rattle.dcm_words.specs.Words.{Plan, EditWords, and_edit_word, paths_apart, is_path, modify_plan, modify_plan_with}
-use Rattle.dcm_words.specs.Plans.{edits_between}
+use Rattle.dcm_words.specs.Plans.{edits_between, has_paths}
 
 abbrev texts : List (Bor (List ℕ)) → List (List ℕ)
 texts ws = map (λ w. w.now) ws
@@ -72,6 +72,9 @@ module _ (ws : List (Bor (List ℕ))) (d : Bor (List ℕ)) (h : 2 ≤ length ws)
 
   pub two_paths : true ≡ is_path input → true ≡ is_path output → modify_plan (texts ws) ≡ modify_plan_with between
   two_paths i o = judged_as (texts ws) between true (words_end ws d h) (both (is_path input) (is_path output) i o)
+
+  pub paths_here : true ≡ is_path input → true ≡ is_path output → has_paths (texts ws) ≡ true
+  paths_here i o = ap (λ p. elim p [ None ↦ false | Some e ↦ is_path e.input && is_path e.output ]) (words_end ws d h) ∙ both (is_path input) (is_path output) i o
 
   pub no_input : false ≡ is_path input → modify_plan (texts ws) ≡ Err (Whole WrongPaths)
   no_input i = judged_as (texts ws) between false (words_end ws d h) (not_first (is_path input) (is_path output) i)

@@ -1,5 +1,5 @@
 -- What a function made of the words of a command line.
-use Rattle.std.specs.Prelude.{◌≡◌, ℕ, ◌+◌, ◌<◌, nat_le, List, [], ◌∷◌, length, Option, Some, None, Result, Ok, Err, Bool, false, if◌then◌else◌, codes, bytes_eq}
+use Rattle.std.specs.Prelude.{◌≡◌, ℕ, ◌+◌, ◌<◌, nat_le, List, [], ◌∷◌, length, Option, Some, None, Result, Ok, Err, Bool, false, ◌&&◌, if◌then◌else◌, codes, bytes_eq}
 use Rattle.dcm_words.specs.declared.usage.Usage.{Usage}
 use Rattle.dcm_words.specs.declared.usage.Usage.TheVariants.{AtWord, Whole, InEdit, Memory}
 use Rattle.dcm_words.specs.declared.usage.Word.{Word}
@@ -41,10 +41,14 @@ GivesUnlessMemory (Err (InEdit u n)) meant = meant ≡ Err (InEdit u n)
 abbrev pub edits_between : List (List ℕ) → List ℕ → List ℕ → words.EditWords
 edits_between edits input output = record { edits = edits; input = input; output = output }
 
--- whether the first word is dcmodify, which has edits
-abbrev pub is_modify : List (List ℕ) → Bool
-is_modify [] = false
-is_modify (tool ∷ others) = bytes_eq tool (codes "dcmodify")
+-- whether two paths end the words of dcmodify after its name
+abbrev pub has_paths : List (List ℕ) → Bool
+has_paths others = elim (words.paths_apart others) [ None ↦ false | Some e ↦ words.is_path e.input && words.is_path e.output ]
+
+-- whether memory is taken for the edits that the words mean: the first word is dcmodify, and two paths end the others
+abbrev pub takes_memory : List (List ℕ) → Bool
+takes_memory [] = false
+takes_memory (tool ∷ others) = bytes_eq tool (codes "dcmodify") && has_paths others
 
 -- ---- word by word
 

@@ -2,7 +2,7 @@
 ghost use Rattle.std.specs.Prelude.{◌≡◌, ◌+◌, ◌<◌, List, ℕ, drop, length, map, option_map, IfSome, false};
 ghost use Rattle.dcm_base.specs.ReadValue.{digit as spec_digit, number_in};
 ghost use Rattle.dcm_words.specs.Words as spec;
-ghost use Rattle.dcm_words.specs.Plans.{reader, job_of, is_modify, GivesUnlessMemory, edits_between, capped, limit_behind as said_limit, LimitAs, Gives, PathsAre, SaidAs};
+ghost use Rattle.dcm_words.specs.Plans.{reader, job_of, takes_memory, has_paths, GivesUnlessMemory, edits_between, capped, limit_behind as said_limit, LimitAs, Gives, PathsAre, SaidAs};
 
 use crate::job::{Build, Convert, Dump, Job, Modify, Planned};
 use crate::usage::{Usage, Word};
@@ -332,7 +332,8 @@ fn plan_modify<'a, A: Allocator + Copy>(
     alloc: A,
     words: &'a [&'a [u8]],
 ) -> Result<Planned<'a, A>, Usage>
-    ensures { GivesUnlessMemory result (spec.modify_plan (map (λ w. w.now) words.now)) }
+    ensures meant { GivesUnlessMemory result (spec.modify_plan (map (λ w. w.now) words.now)) }
+    ensures memory { has_paths (map (λ w. w.now) words.now) ≡ false → Gives result (spec.modify_plan (map (λ w. w.now) words.now)) }
 {
     let [edit_words @ .., input, output] = words else {
         return Err(Usage::Whole(WordFault::WrongPaths));
@@ -350,14 +351,14 @@ fn plan_modify<'a, A: Allocator + Copy>(
 }
 
 /// The job that the words after the program's name mean, with the paths borrowed from them, or the first refusal. Memory is
-/// taken for the edits of dcmodify alone.
+/// taken for the edits of dcmodify alone, once its paths are seen.
 #[tactic(auto, unfolding(crate::specs::Words::meant))]
 pub fn plan<'a, A: Allocator + Copy>(
     alloc: A,
     words: &'a [&'a [u8]],
 ) -> Result<Planned<'a, A>, Usage>
     ensures meant { GivesUnlessMemory result (spec.meant (map (λ w. w.now) words.now)) }
-    ensures memory { is_modify (map (λ w. w.now) words.now) ≡ false → Gives result (spec.meant (map (λ w. w.now) words.now)) }
+    ensures memory { takes_memory (map (λ w. w.now) words.now) ≡ false → Gives result (spec.meant (map (λ w. w.now) words.now)) }
 {
     match words {
         [tool, rest @ ..] if *tool == b"dcmdump".as_slice() => plan_dump(rest),

@@ -81,3 +81,9 @@ module _ (job : Job) (input : List ℕ) (left : Option (List ℕ)) (out new_out 
       (filled new_out) (filled new_errors) ran a answers (let at = taken out in omega (arith, at, enough))
       in
       record { output = l.output; told = λ most. l.lines (let at = taken errors in omega (arith, at, most)); status_is = l.status_is }
+
+-- a line was written where there was room for it
+pub line_left : (errors new_errors : MemOut) (line : List ℕ) → Tries (sized (size errors) (written errors)) (sized (size new_errors) (written new_errors)) errors.failed new_errors.failed line → length line ≤ room_of errors
+    → written new_errors ≡ written errors ++ line
+line_left errors new_errors line tries room =
+    tried (size errors) (size new_errors) (written errors) (written new_errors) errors.failed new_errors.failed (filled new_errors) line tries (let at = taken errors in omega (arith, at, room))

@@ -43,6 +43,8 @@ impl<'a> Device for Counted<'a> {
 impl<'a> DeviceIn for Counted<'a> {
     ghost remaining = { λ _. None };
 
+    ghost gets = { λ old bytes new. Unit {0} };
+
     fn get(&mut self, _buf: &mut [u8]) -> Result<usize, ReadFailed> {
         self.note();
         Err(ReadFailed)
@@ -96,25 +98,31 @@ impl<'a> System for Answers<'a> {
 
     type Output = Counted<'a>;
 
-    ghost may_answer = { λ _. anything };
+    ghost may_do = { anything };
 
-    fn stdin(&self) -> Opened<Counted<'a>> {
+    fn words(&mut self) -> io::Result<Vec<String>> {
+        Err(io::Error::from(ErrorKind::Unsupported))
+    }
+
+    fn stdin(&mut self) -> Opened<Counted<'a>> {
         self.opened(FileKind::Other)
     }
 
-    fn open(&self, _path: &str) -> io::Result<Opened<Counted<'a>>> {
+    fn open(&mut self, _path: &str) -> io::Result<Opened<Counted<'a>>> {
         self.answer(self.input)
     }
 
-    fn stdout(&self) -> io::Result<Opened<Counted<'a>>> {
+    fn stdout(&mut self) -> io::Result<Opened<Counted<'a>>> {
         self.answer(self.output)
     }
 
-    fn create(&self, _path: &str) -> io::Result<Opened<Counted<'a>>> {
+    fn create(&mut self, _path: &str) -> io::Result<Opened<Counted<'a>>> {
         self.answer(self.output)
     }
 
-    fn close(&self, _output: Counted<'a>) {}
+    fn release(&mut self, _input: Counted<'a>) {}
+
+    fn close(&mut self, _output: Counted<'a>) {}
 }
 
 /// What words leave: the status, standard error, and whether there were calls on devices.
@@ -136,12 +144,12 @@ fn obeyed(
     let words = split(rt, line)?;
     let calls = Cell::new(0usize);
     let mut errors = memory_out(rt, 200)?;
-    let system = Answers {
+    let mut system = Answers {
         input,
         output,
         calls: &calls,
     };
-    let status = obey(&system, rt.alloc(), words.as_slice(), &mut errors);
+    let status = obey(&mut system, rt.alloc(), words.as_slice(), &mut errors);
     Ok(Left {
         words: line,
         status,

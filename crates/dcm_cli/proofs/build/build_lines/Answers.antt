@@ -1,6 +1,7 @@
-use Rattle.std.proofs.Common.{◌≡◌, ◌∙◌, ap, sym, subst, ℕ, List, ◌++◌, take, length-append, arith}
+use Rattle.std.proofs.Common.{rules, ◌≡◌, ◌∙◌, ap, sym, subst, ℕ, List, ◌++◌, take, length-append, arith, [], Some, None, refl}
 use Rattle.std.proofs.lemmas.List.{append-nil, length-take-le}
 use Rattle.std.specs.Io.KnownBytes.{prepend_known}
+use Rattle.dcm_devices.specs.Device.{no_calls}
 use Rattle.dcm_build.specs.Building.{BuildState}
 use Rattle.dcm_words.specs.Words.{build as build_job}
 use Rattle.dcm_cli.specs.declared.ending.Ending.{Ending}
@@ -8,10 +9,27 @@ use Rattle.dcm_cli.specs.declared.ending.Ending.TheVariants.{Unread}
 use Rattle.dcm_cli.specs.Run.{Worked}
 use Rattle.dcm_cli.proofs.Passes.Alone.{splits}
 use Rattle.dcm_cli.proofs.Passes.Lines.{going_is, not_unwritten, built_on, built_halted, built_unread, built_ended}
-use Rattle.dcm_cli.proofs.Passes.Passes.{read_twice}
+use Rattle.dcm_cli.proofs.Passes.Passes.{read_nothing, read_twice}
 use Rattle.dcm_cli.proofs.Passes.Sets.{none_left}
-use Rattle.dcm_cli.proofs.Runs.Stopping.{read_piece, no_piece, build_stops}
+use Rattle.dcm_cli.proofs.Runs.Stopping.{gave_on, read_piece, no_piece, build_stops}
 use Rattle.dcm_cli.proofs.build.build_lines.Goals as goal
+
+pub loop-size-init : goal.loop-size-init
+loop-size-init g c =
+    record {
+      front = [];
+      calls = no_calls refl refl;
+      given = read_nothing (g.R.DeviceIn.remaining c.args.input.now);
+      state = search rules;
+      out = search rules;
+      going = search rules;
+      count = refl;
+      place = search rules;
+      within = omega arith;
+      unread = refl;
+      unwritten = refl;
+      size = refl;
+    }
 
 pub returns-in-Ok-None-clause-worked : goal.returns-in-Ok-None-clause-worked
 returns-in-Ok-None-clause-worked g c = λ file is.
@@ -59,6 +77,7 @@ loop-size-preserved g c =
     let failed = (going_is c.feed.new.self.state.told c.feed.new.self.failed going).0 in
     record {
       front = loop.invariant.front ++ piece;
+      calls = gave_on g.R.DeviceIn.gets _ _ _ loop.invariant.front c.next_piece.new.buffer c.in-Ok-Some.size loop.invariant.calls came.0 came.1 (rw c.in-Ok-Some.field-0-is at c.in-Ok-Some.ensures.call);
       given = read_twice _ _ _ loop.invariant.front piece loop.invariant.given came.2;
       state = on.0;
       out = on.1;
@@ -75,20 +94,20 @@ pub returns-in-Ok-None-clause-stops : goal.returns-in-Ok-None-clause-stops
 returns-in-Ok-None-clause-stops g c = λ file is.
     let loop = c.loop-size in
     let none = ap (λ (z : BuildState). z.told) (sym loop.invariant.state) ∙ (going_is loop.builder.state.told loop.builder.failed loop.invariant.going).1 in
-    build_stops c.args.limit file (g.R.DeviceIn.remaining c.args.input.now) (g.R.DeviceIn.remaining c.next_piece.new.input) loop.invariant.front is
-    (no_piece _ _ _ loop.invariant.front loop.invariant.given (rw c.in-Ok-None.field-0-is at c.in-Ok-None.ensures.bytes).1) none
+    build_stops g.R.DeviceIn.remaining g.R.DeviceIn.gets c.args.limit file c.args.input.now c.next_piece.new.input loop.invariant.front is
+    (no_piece g.R.DeviceIn.remaining g.R.DeviceIn.gets _ _ _ loop.invariant.front (Some []) refl loop.invariant.calls loop.invariant.given (rw c.in-Ok-None.field-0-is at c.in-Ok-None.ensures.bytes).1 (rw c.in-Ok-None.field-0-is at c.in-Ok-None.ensures.call)) none
 
 pub returns-in-Err-clause-stops : goal.returns-in-Err-clause-stops
 returns-in-Err-clause-stops g c = λ file is.
     let loop = c.loop-size in
     let none = ap (λ (z : BuildState). z.told) (sym loop.invariant.state) ∙ (going_is loop.builder.state.told loop.builder.failed loop.invariant.going).1 in
-    build_stops c.args.limit file (g.R.DeviceIn.remaining c.args.input.now) (g.R.DeviceIn.remaining c.next_piece.new.input) loop.invariant.front is
-    (no_piece _ _ _ loop.invariant.front loop.invariant.given c.in-Err.ensures.bytes) none
+    build_stops g.R.DeviceIn.remaining g.R.DeviceIn.gets c.args.limit file c.args.input.now c.next_piece.new.input loop.invariant.front is
+    (no_piece g.R.DeviceIn.remaining g.R.DeviceIn.gets _ _ _ loop.invariant.front None refl loop.invariant.calls loop.invariant.given c.in-Err.ensures.bytes c.in-Err.ensures.call) none
 
 pub returns-in-Err-feed-clause-stops : goal.returns-in-Err-feed-clause-stops
 returns-in-Err-feed-clause-stops g c = λ file is.
     let loop = c.loop-size in
     let came = rw c.in-Ok-Some.field-0-is at c.in-Ok-Some.ensures.bytes in
     let none = ap (λ (z : BuildState). z.told) (sym loop.invariant.state) ∙ (going_is loop.builder.state.told loop.builder.failed loop.invariant.going).1 in
-    build_stops c.args.limit file (g.R.DeviceIn.remaining c.args.input.now) (g.R.DeviceIn.remaining c.next_piece.new.input) loop.invariant.front is
-    (read_piece _ _ _ loop.invariant.front c.next_piece.new.buffer c.in-Ok-Some.size loop.invariant.given came.2 (let size = c.next_piece.ensures.kept ∙ loop.invariant.size in omega (arith, size, c.requires.bound))) none
+    build_stops g.R.DeviceIn.remaining g.R.DeviceIn.gets c.args.limit file c.args.input.now c.next_piece.new.input loop.invariant.front is
+    (read_piece g.R.DeviceIn.remaining g.R.DeviceIn.gets _ _ _ loop.invariant.front c.next_piece.new.buffer c.in-Ok-Some.size loop.invariant.calls loop.invariant.given came.2 (rw c.in-Ok-Some.field-0-is at c.in-Ok-Some.ensures.call)) none

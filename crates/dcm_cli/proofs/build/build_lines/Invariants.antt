@@ -1,5 +1,6 @@
 use Rattle.std.proofs.Common.{◌≡◌, ◌≤◌, ℕ, List, length, ◌-◌, ◌^◌, false}
 use Rattle.std.specs.Prelude.{fold}
+use Rattle.dcm_devices.specs.Device.{Gave}
 use Rattle.std.specs.Io.KnownBytes.{append_known, prepend_known}
 use Rattle.dcm_base.specs.Steps.{outputs}
 use Rattle.dcm_build.specs.Builder.{is_halted}
@@ -10,6 +11,7 @@ use Rattle.dcm_cli.proofs.build.build_lines.Given as goal
 abbrev pub invariant-loop-size : goal.invariant-loop-size
 invariant-loop-size g l = record {
   front : List ℕ;
+  calls : Gave g.R.DeviceIn.gets l.fn.input front l.input;
   given : g.R.DeviceIn.remaining l.fn.input ≡ prepend_known front (g.R.DeviceIn.remaining l.input);
   state : l.builder.state ≡ fold build_step (build_start l.fn.limit) front;
   out : g.W.DeviceOut.contents l.out ≡ append_known (g.W.DeviceOut.contents l.fn.out) (outputs build_step build_writes (build_start l.fn.limit) front);

@@ -40,16 +40,16 @@ returns-clause-worked g c = λ file is.
     subst (λ (known : Option (List ℕ)). Worked (convert c.args.dictionary c.args.target) file after held known c.read_set.result) (search (rules, k, n)) worked
 
 pub returns-in-Err-clause-stops : goal.returns-in-Err-clause-stops
-returns-in-Err-clause-stops g c = λ file is. head_stops (convert c.args.dictionary c.args.target) refl file (g.R.DeviceIn.remaining c.args.input.now) (g.R.DeviceIn.remaining c.open_file.new.input) is c.open_file.ensures.stops
+returns-in-Err-clause-stops g c = λ file is. head_stops g.R.DeviceIn.remaining g.R.DeviceIn.gets (convert c.args.dictionary c.args.target) refl file c.args.input.now c.open_file.new.input is c.open_file.ensures.stops
 
 pub returns-clause-stops : goal.returns-clause-stops
 returns-clause-stops g c = λ file is.
     let opened = c.in-Ok.opened in
     let buffer = c.open_file.new.buffer in
-    let left = g.R.DeviceIn.remaining c.open_file.new.input in
-    let after = g.R.DeviceIn.remaining c.read_set.new.input in
-    let Stopped : EncodeState → Type 0 = λ s. BehindStops encode_bar encode_step (start_of opened.coding.syntax opened.start) s (spec.set_bytes opened.beginning buffer) opened.beginning.is_over left after in
+    let left = c.open_file.new.input in
+    let after = c.read_set.new.input in
+    let Stopped : EncodeState → Type 0 = λ s. BehindStops encode_bar encode_step (start_of opened.coding.syntax opened.start) s (spec.set_bytes opened.beginning buffer) opened.beginning.is_over g.R.DeviceIn.remaining g.R.DeviceIn.gets left after in
     let stopped = subst (λ t. Stopped (encode_start t)) c.target_syntax.ensures (subst Stopped c.new-sink.ensures.state c.read_set.ensures.stops) in
     let opens = c.in-Ok.ensures.opens in
-    opened_stops c.args.target (convert c.args.dictionary c.args.target) refl (file_encoder c.args.dictionary c.args.target) file (g.R.DeviceIn.remaining c.args.input.now) left after (g.W.DeviceOut.contents c.args.out.now) (g.W.DeviceOut.contents c.open_file.new.out)
+    opened_stops c.args.target (convert c.args.dictionary c.args.target) refl (file_encoder c.args.dictionary c.args.target) file g.R.DeviceIn.remaining g.R.DeviceIn.gets c.args.input.now left after (g.W.DeviceOut.contents c.args.out.now) (g.W.DeviceOut.contents c.open_file.new.out)
     buffer opened is opens opens.keeps c.open_file.ensures.stops stopped

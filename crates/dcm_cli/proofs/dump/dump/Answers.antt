@@ -15,8 +15,8 @@ returns-in-Some-clause-worked g c = λ file is.
 
 pub returns-in-None-clause-stops : goal.returns-in-None-clause-stops
 returns-in-None-clause-stops g c = λ file is.
-    subst (λ (bare : Option Syntax). Stops (dump c.args.dump.dictionary c.args.dump.mode bare) file (g.R.DeviceIn.remaining c.dump_file.new.input)) (sym c.in-None.is) (c.dump_file.ensures.stops file is)
+    subst (λ (bare : Option Syntax). Stops g.R.DeviceIn.remaining g.R.DeviceIn.gets (dump c.args.dump.dictionary c.args.dump.mode bare) c.args.input.now c.dump_file.new.input) (sym c.in-None.is) (c.dump_file.ensures.stops file is)
 
 pub returns-in-Some-clause-stops : goal.returns-in-Some-clause-stops
 returns-in-Some-clause-stops g c = λ file is.
-    subst (λ (bare : Option Syntax). Stops (dump c.args.dump.dictionary c.args.dump.mode bare) file (g.R.DeviceIn.remaining c.dump_set.new.input)) (sym c.in-Some.is) (c.dump_set.ensures.stops file is)
+    subst (λ (bare : Option Syntax). Stops g.R.DeviceIn.remaining g.R.DeviceIn.gets (dump c.args.dump.dictionary c.args.dump.mode bare) c.args.input.now c.dump_set.new.input) (sym c.in-Some.is) (c.dump_set.ensures.stops file is)

@@ -72,25 +72,25 @@ returns-clause-worked g c = λ file is.
     subst (λ (holds : Option (List ℕ)). Worked (dump c.args.dictionary c.args.mode None) file (g.R.DeviceIn.remaining c.read_set.new.input) (g.W.DeviceOut.contents c.args.out.now) holds c.read_set.result) (search (rules, k, n)) f
 
 pub returns-in-Err-clause-stops : goal.returns-in-Err-clause-stops
-returns-in-Err-clause-stops g c = λ file is. head_stops (dump c.args.dictionary c.args.mode None) refl file (g.R.DeviceIn.remaining c.args.input.now) (g.R.DeviceIn.remaining c.read_head_of.new.input) is c.read_head_of.ensures.stops
+returns-in-Err-clause-stops g c = λ file is. head_stops g.R.DeviceIn.remaining g.R.DeviceIn.gets (dump c.args.dictionary c.args.mode None) refl file c.args.input.now c.read_head_of.new.input is c.read_head_of.ensures.stops
 
 pub returns-then-is_err-clause-stops : goal.returns-then-is_err-clause-stops
-returns-then-is_err-clause-stops g c = λ file is. head_stops (dump c.args.dictionary c.args.mode None) refl file (g.R.DeviceIn.remaining c.args.input.now) (g.R.DeviceIn.remaining c.read_head_of.new.input) is c.read_head_of.ensures.stops
+returns-then-is_err-clause-stops g c = λ file is. head_stops g.R.DeviceIn.remaining g.R.DeviceIn.gets (dump c.args.dictionary c.args.mode None) refl file c.args.input.now c.read_head_of.new.input is c.read_head_of.ensures.stops
 
 pub returns-clause-stops : goal.returns-clause-stops
 returns-clause-stops g c = λ file is.
     let head = c.in-Ok.ensures.read in
     let r = c.read_head_of.new.meta in
-    let left = g.R.DeviceIn.remaining c.read_head_of.new.input in
-    let after = g.R.DeviceIn.remaining c.read_set.new.input in
-    let o = file_opened c.args.dictionary r c.in-Ok.beginning c.read_head_of.new.buffer (g.R.DeviceIn.remaining c.args.input.now) left head.read file is head.given head.outcome in
+    let left = c.read_head_of.new.input in
+    let after = c.read_set.new.input in
+    let o = file_opened c.args.dictionary r c.in-Ok.beginning c.read_head_of.new.buffer (g.R.DeviceIn.remaining c.args.input.now) (g.R.DeviceIn.remaining left) head.read file is head.given head.outcome in
     let codings : Some (Ended c.coding.result) ≡ Some (Ended o.reads.named) = sym c.coding.ensures ∙ o.end_is in
     let named : c.coding.result ≡ o.reads.named = cc in
     let coding : c.read_by.result ≡ o.coding = c.read_by.ensures ∙ ap (coding_by c.args.dictionary) named ∙ sym o.reads.coding_is in
     let start : c.set_start-start.result ≡ 132 + length o.group = c.set_start-start.ensures.place ∙ o.place_is in
-    let Stopped : Coding → ℕ → DumpState → Type 0 = λ x n s. BehindStops bars_nothing dump_step (start_of x.syntax n) s (spec.set_bytes c.in-Ok.beginning c.read_head_of.new.buffer) c.in-Ok.beginning.is_over left after in
+    let Stopped : Coding → ℕ → DumpState → Type 0 = λ x n s. BehindStops bars_nothing dump_step (start_of x.syntax n) s (spec.set_bytes c.in-Ok.beginning c.read_head_of.new.buffer) c.in-Ok.beginning.is_over g.R.DeviceIn.remaining g.R.DeviceIn.gets left after in
     let stopped = subst (λ x. Stopped x (132 + length o.group) (dump_start c.args.dictionary c.args.mode)) coding
     (subst (λ n. Stopped c.read_by.result n (dump_start c.args.dictionary c.args.mode)) start
     (subst (λ s. Stopped c.read_by.result c.set_start-start.result s) c.by-sink.ensures.state c.read_set.ensures.stops))
     in
-    file_stops (dump c.args.dictionary c.args.mode None) refl file r o refl (file_dumper c.args.dictionary c.args.mode o.coding) (g.R.DeviceIn.remaining c.args.input.now) left after c.in-Ok.beginning c.read_head_of.new.buffer head.read is head.given head.outcome c.read_head_of.ensures.stops stopped
+    file_stops (dump c.args.dictionary c.args.mode None) refl file r o refl (file_dumper c.args.dictionary c.args.mode o.coding) g.R.DeviceIn.remaining g.R.DeviceIn.gets c.args.input.now left after c.in-Ok.beginning c.read_head_of.new.buffer head.read is head.given head.outcome c.read_head_of.ensures.stops stopped

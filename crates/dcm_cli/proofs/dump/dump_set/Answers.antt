@@ -15,8 +15,8 @@ use Rattle.dcm_base.specs.declared.lookup.Dictionary.{Dictionary}
 use Rattle.dcm_cli.specs.Answer.{uid_of_syntax}
 use Rattle.dcm_cli.specs.Run.{Worked}
 use Rattle.dcm_cli.proofs.Passes.Alone.{alone_unheaded, alone_worked, put_failed, put_whole}
-use Rattle.dcm_cli.specs.Stops.{SetStops}
-use Rattle.dcm_cli.proofs.Runs.Stopping.{alone_stops, alone_unread}
+use Rattle.dcm_cli.specs.Stops.{SetStops, no_call}
+use Rattle.dcm_cli.proofs.Runs.Stopping.{alone_stops}
 use Rattle.dcm_cli.proofs.dump.dump_set.Goals as goal
 
 -- the unique identifier depends on no dictionary
@@ -47,13 +47,13 @@ returns-clause-worked g c = λ file is.
     subst (λ (holds : Option (List ℕ)). Worked (dump c.args.dictionary c.args.mode (Some c.args.syntax)) file (g.R.DeviceIn.remaining c.read_rest.new.input) (g.W.DeviceOut.contents c.args.out.now) holds c.read_rest.result) (search (rules, k, n)) f
 
 pub returns-then-is_err-clause-stops : goal.returns-then-is_err-clause-stops
-returns-then-is_err-clause-stops g c = λ file is. alone_unread c.args.dictionary c.args.mode c.args.syntax file (g.R.DeviceIn.remaining c.args.input.now) is
+returns-then-is_err-clause-stops g c = λ file is. no_call refl
 
 pub returns-clause-stops : goal.returns-clause-stops
 returns-clause-stops g c = λ file is.
-    let had = g.R.DeviceIn.remaining c.args.input.now in
-    let after = g.R.DeviceIn.remaining c.read_rest.new.input in
+    let old = c.args.input.now in
+    let new = c.read_rest.new.input in
     let first = ap (λ (p : Progress). p.reading) c.new-machine.ensures ∙ ap (λ (s : Syntax). start_of s 0) c.read_by.ensures in
-    alone_stops c.args.dictionary c.args.mode c.args.syntax file had after is
-    (subst (λ (r : Reading). SetStops bars_nothing dump_step r (dump_start c.args.dictionary c.args.mode) [] had after) first
-    (subst (λ (s : DumpState). SetStops bars_nothing dump_step c.new-machine.result.reading s [] had after) c.by-sink.ensures.state c.read_rest.ensures.stops))
+    alone_stops g.R.DeviceIn.remaining g.R.DeviceIn.gets c.args.dictionary c.args.mode c.args.syntax file old new is
+    (subst (λ (r : Reading). SetStops bars_nothing dump_step r (dump_start c.args.dictionary c.args.mode) [] g.R.DeviceIn.remaining g.R.DeviceIn.gets old new) first
+    (subst (λ (s : DumpState). SetStops bars_nothing dump_step c.new-machine.result.reading s [] g.R.DeviceIn.remaining g.R.DeviceIn.gets old new) c.by-sink.ensures.state c.read_rest.ensures.stops))

@@ -1,13 +1,30 @@
-use Rattle.std.proofs.Common.{◌≡◌, ◌∙◌, ℕ, List, ◌++◌, ap, sym, subst, refl, take, length, length-append, arith, None, inl}
+use Rattle.std.proofs.Common.{◌≡◌, ◌∙◌, ℕ, List, ◌++◌, ap, sym, subst, refl, take, length, length-append, arith, [], Some, None, inl}
 use Rattle.std.proofs.lemmas.List.{length-take-le}
+use Rattle.dcm_devices.specs.Device.{no_calls}
 use Rattle.dcm_head.specs.MetaReading.{Reading}
 use Rattle.dcm_head.proofs.HeadReading.Stays.{kept_all}
 use Rattle.dcm_cli.specs.declared.head.Beginning.{Beginning}
 use Rattle.dcm_cli.specs.Pass.{Begins}
-use Rattle.dcm_cli.proofs.Passes.Passes.{read_twice}
+use Rattle.dcm_cli.proofs.Passes.Passes.{read_nothing, read_twice}
 use Rattle.dcm_cli.proofs.Passes.Heads.{read_on, begins_in, going_on}
-use Rattle.dcm_cli.proofs.Runs.Stopping.{read_piece, no_piece}
+use Rattle.dcm_cli.proofs.Runs.Stopping.{gave_on, read_piece, no_piece}
 use Rattle.dcm_cli.proofs.head.read_head_of.Goals as goal
+
+pub loop-size-init : goal.loop-size-init
+loop-size-init g c =
+    let start = c.requires.start in
+    record {
+      front = [];
+      calls = no_calls refl refl;
+      given = read_nothing (g.R.DeviceIn.remaining c.args.input.now);
+      reading = start;
+      going = ap (λ (r : Reading). r.end) start;
+      bytes = ap (λ (r : Reading). r.bytes) start;
+      count = refl;
+      few = omega arith;
+      unread = refl;
+      size = refl;
+    }
 
 pub loop-size-smaller : goal.loop-size-smaller
 loop-size-smaller g c =
@@ -31,6 +48,7 @@ loop-size-preserved g c =
     let count : c.next_piece.new.read ≡ length (loop.invariant.front ++ piece) = (let whole = length-append loop.invariant.front piece in omega (arith, whole, long, counted, loop.invariant.count)) in
     record {
       front = loop.invariant.front ++ piece;
+      calls = gave_on g.R.DeviceIn.gets _ _ _ loop.invariant.front c.next_piece.new.buffer c.in-Ok-Some.size loop.invariant.calls came.0 came.1 (rw c.in-Ok-Some.field-0-is at c.in-Ok-Some.ensures.call);
       given = read_twice _ _ _ loop.invariant.front piece loop.invariant.given came.2;
       reading = read_on c.feed.new.self loop.meta loop.invariant.front piece loop.invariant.reading c.feed.ensures.state;
       going = none;
@@ -77,7 +95,7 @@ returns-in-Ok-None-clause-stops g c =
     record {
       front = loop.invariant.front;
       going = going_on loop.meta loop.invariant.front loop.invariant.reading loop.invariant.going;
-      last = no_piece _ _ _ loop.invariant.front loop.invariant.given (rw c.in-Ok-None.field-0-is at c.in-Ok-None.ensures.bytes).1;
+      last = no_piece g.R.DeviceIn.remaining g.R.DeviceIn.gets _ _ _ loop.invariant.front (Some []) refl loop.invariant.calls loop.invariant.given (rw c.in-Ok-None.field-0-is at c.in-Ok-None.ensures.bytes).1 (rw c.in-Ok-None.field-0-is at c.in-Ok-None.ensures.call);
     }
 
 pub returns-in-Err-clause-stops : goal.returns-in-Err-clause-stops
@@ -86,7 +104,7 @@ returns-in-Err-clause-stops g c =
     record {
       front = loop.invariant.front;
       going = going_on loop.meta loop.invariant.front loop.invariant.reading loop.invariant.going;
-      last = no_piece _ _ _ loop.invariant.front loop.invariant.given c.in-Err.ensures.bytes;
+      last = no_piece g.R.DeviceIn.remaining g.R.DeviceIn.gets _ _ _ loop.invariant.front None refl loop.invariant.calls loop.invariant.given c.in-Err.ensures.bytes c.in-Err.ensures.call;
     }
 
 pub returns-in-Refused-clause-stops : goal.returns-in-Refused-clause-stops
@@ -96,7 +114,7 @@ returns-in-Refused-clause-stops g c =
     record {
       front = loop.invariant.front;
       going = going_on loop.meta loop.invariant.front loop.invariant.reading loop.invariant.going;
-      last = read_piece _ _ _ loop.invariant.front c.next_piece.new.buffer c.in-Ok-Some.size loop.invariant.given came.2 (let size = c.next_piece.ensures.kept ∙ loop.invariant.size in omega (arith, size, c.requires.bound));
+      last = read_piece g.R.DeviceIn.remaining g.R.DeviceIn.gets _ _ _ loop.invariant.front c.next_piece.new.buffer c.in-Ok-Some.size loop.invariant.calls loop.invariant.given came.2 (rw c.in-Ok-Some.field-0-is at c.in-Ok-Some.ensures.call);
     }
 
 pub returns-in-Ended-clause-stops : goal.returns-in-Ended-clause-stops
@@ -106,5 +124,5 @@ returns-in-Ended-clause-stops g c =
     record {
       front = loop.invariant.front;
       going = going_on loop.meta loop.invariant.front loop.invariant.reading loop.invariant.going;
-      last = read_piece _ _ _ loop.invariant.front c.next_piece.new.buffer c.in-Ok-Some.size loop.invariant.given came.2 (let size = c.next_piece.ensures.kept ∙ loop.invariant.size in omega (arith, size, c.requires.bound));
+      last = read_piece g.R.DeviceIn.remaining g.R.DeviceIn.gets _ _ _ loop.invariant.front c.next_piece.new.buffer c.in-Ok-Some.size loop.invariant.calls loop.invariant.given came.2 (rw c.in-Ok-Some.field-0-is at c.in-Ok-Some.ensures.call);
     }

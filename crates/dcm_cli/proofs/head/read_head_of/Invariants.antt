@@ -1,4 +1,5 @@
 use Rattle.std.proofs.Common.{◌≡◌, ◌<◌, ℕ, List, length, ◌-◌, None}
+use Rattle.dcm_devices.specs.Device.{Gave}
 use Rattle.std.specs.Io.KnownBytes.{prepend_known}
 use Rattle.dcm_cli.specs.Pass.{head_read}
 use Rattle.dcm_cli.proofs.head.read_head_of.Given as goal
@@ -7,6 +8,7 @@ use Rattle.dcm_cli.proofs.head.read_head_of.Given as goal
 abbrev pub invariant-loop-size : goal.invariant-loop-size
 invariant-loop-size g l = record {
   front : List ℕ;
+  calls : Gave g.R.DeviceIn.gets l.fn.input front l.input;
   given : g.R.DeviceIn.remaining l.fn.input ≡ prepend_known front (g.R.DeviceIn.remaining l.input);
   reading : l.meta ≡ head_read front;
   going : l.meta.end ≡ None;

@@ -44,14 +44,14 @@ returns-clause-worked g c = λ file is.
     subst (λ (known : Option (List ℕ)). Worked (modify c.args.dictionary c.args.edits.now) file after held known c.read_edited.result) (search (rules, k, n)) worked
 
 pub returns-in-Err-clause-stops : goal.returns-in-Err-clause-stops
-returns-in-Err-clause-stops g c = λ file is. head_stops (modify c.args.dictionary c.args.edits.now) refl file (g.R.DeviceIn.remaining c.args.input.now) (g.R.DeviceIn.remaining c.open_file.new.input) is c.open_file.ensures.stops
+returns-in-Err-clause-stops g c = λ file is. head_stops g.R.DeviceIn.remaining g.R.DeviceIn.gets (modify c.args.dictionary c.args.edits.now) refl file c.args.input.now c.open_file.new.input is c.open_file.ensures.stops
 
 pub returns-clause-stops : goal.returns-clause-stops
 returns-clause-stops g c = λ file is.
     let opened = c.in-Ok.opened in
     let buffer = c.open_file.new.buffer in
-    let left = g.R.DeviceIn.remaining c.open_file.new.input in
-    let after = g.R.DeviceIn.remaining c.read_edited.new.input in
-    let stopped = subst (λ (s : EncodeState). BehindStops through_bar (through_step encode_step) (start_of opened.coding.syntax opened.start) (begun c.args.edits.now, s) (spec.set_bytes opened.beginning buffer) opened.beginning.is_over left after) c.new-sink.ensures.state c.read_edited.ensures.stops in
-    opened_stops None (modify c.args.dictionary c.args.edits.now) refl (file_editor c.args.dictionary c.args.edits.now c.requires.meant) file (g.R.DeviceIn.remaining c.args.input.now) left after (g.W.DeviceOut.contents c.args.out.now) (g.W.DeviceOut.contents c.open_file.new.out)
+    let left = c.open_file.new.input in
+    let after = c.read_edited.new.input in
+    let stopped = subst (λ (s : EncodeState). BehindStops through_bar (through_step encode_step) (start_of opened.coding.syntax opened.start) (begun c.args.edits.now, s) (spec.set_bytes opened.beginning buffer) opened.beginning.is_over g.R.DeviceIn.remaining g.R.DeviceIn.gets left after) c.new-sink.ensures.state c.read_edited.ensures.stops in
+    opened_stops None (modify c.args.dictionary c.args.edits.now) refl (file_editor c.args.dictionary c.args.edits.now c.requires.meant) file g.R.DeviceIn.remaining g.R.DeviceIn.gets c.args.input.now left after (g.W.DeviceOut.contents c.args.out.now) (g.W.DeviceOut.contents c.open_file.new.out)
     buffer opened is c.in-Ok.ensures.opens refl c.open_file.ensures.stops stopped

@@ -43,7 +43,7 @@ returns-clause-stops g c =
     let first : EditState = begun c.args.edits.now in
     let new = c.new-edited.result in
     let Stopped : EditState × g.S.Sink.State → Type 0 = λ from. BehindStops through_bar (through_step g.S.Sink.step) (start_of opened.coding.syntax opened.start) from (spec.set_bytes opened.beginning c.args.buffer.now) opened.beginning.is_over
-    (g.R.DeviceIn.remaining c.args.input.now) (g.R.DeviceIn.remaining c.read_set-ending.new.input)
+    g.R.DeviceIn.remaining g.R.DeviceIn.gets c.args.input.now c.read_set-ending.new.input
     in
     let begins : masks.meant new.edits.now (editing.state new.editor) ≡ first = ap (λ (es : List Edit). masks.meant es (editing.state new.editor)) c.new-edited.ensures.edits ∙ c.new-edited.ensures.state in
     subst Stopped (ap (λ (s : EditState). (s, g.S.Sink.state new.inner.now)) begins ∙ ap (λ (x : g.row.S.Denot). (first, g.S.Sink.state x)) c.new-edited.ensures.inner) c.read_set-ending.ensures.stops

@@ -1,4 +1,4 @@
-use Rattle.std.proofs.Common.{subst, map}
+use Rattle.std.proofs.Common.{subst, map, refl}
 use Rattle.dcm_words.specs.Words.{meant}
 use Rattle.dcm_words.specs.Plans.{planned as plan_of, Gives, GivesUnlessMemory}
 use Rattle.dcm_cli.specs.Program.{worked}
@@ -14,7 +14,7 @@ returns-in-Ok-clause-obeys g c =
 pub returns-in-Err-clause-obeys : goal.returns-in-Err-clause-obeys
 returns-in-Err-clause-obeys g c =
     let words = map (λ w. w.now) c.args.words.now in
-    refuse _ _ words _ _ c.in-Err.usage
+    refuse _ _ words _ _ _ _ c.in-Err.usage
     (subst (λ r. GivesUnlessMemory r (meant words)) c.in-Err.is c.plan.ensures.meant)
     (λ other. subst (λ r. Gives r (meant words)) c.in-Err.is (c.plan.ensures.memory other))
-    c.tell.ensures.line c.tell.ensures.status
+    c.tell.ensures.line c.tell.ensures.status refl

@@ -34,13 +34,13 @@ pub returns-in-Build-clause-meant : goal.returns-in-Build-clause-meant
 returns-in-Build-clause-meant g c = subst (λ (job : Job Global). IsMeant (job_of job)) (sym c.in-Build.is) tt
 
 pub returns-in-Dump-clause-stops : goal.returns-in-Dump-clause-stops
-returns-in-Dump-clause-stops g c = λ file is. subst (λ (job : Job Global). Stops (job_of job) file (g.R.DeviceIn.remaining c.dump.new.input)) (sym c.in-Dump.is) (c.dump.ensures.stops file is)
+returns-in-Dump-clause-stops g c = λ file is. subst (λ (job : Job Global). Stops g.R.DeviceIn.remaining g.R.DeviceIn.gets (job_of job) c.args.input.now c.dump.new.input) (sym c.in-Dump.is) (c.dump.ensures.stops file is)
 
 pub returns-in-Convert-clause-stops : goal.returns-in-Convert-clause-stops
-returns-in-Convert-clause-stops g c = λ file is. subst (λ (job : Job Global). Stops (job_of job) file (g.R.DeviceIn.remaining c.convert.new.input)) (sym c.in-Convert.is) (c.convert.ensures.stops file is)
+returns-in-Convert-clause-stops g c = λ file is. subst (λ (job : Job Global). Stops g.R.DeviceIn.remaining g.R.DeviceIn.gets (job_of job) c.args.input.now c.convert.new.input) (sym c.in-Convert.is) (c.convert.ensures.stops file is)
 
 pub returns-in-Build-clause-stops : goal.returns-in-Build-clause-stops
-returns-in-Build-clause-stops g c = λ file is. subst (λ (job : Job Global). Stops (job_of job) file (g.R.DeviceIn.remaining c.build.new.input)) (sym c.in-Build.is) (c.build.ensures.stops file is)
+returns-in-Build-clause-stops g c = λ file is. subst (λ (job : Job Global). Stops g.R.DeviceIn.remaining g.R.DeviceIn.gets (job_of job) c.args.input.now c.build.new.input) (sym c.in-Build.is) (c.build.ensures.stops file is)
 
 pub returns-in-Modify-clause-stops : goal.returns-in-Modify-clause-stops
-returns-in-Modify-clause-stops g c = λ file is. subst (λ (job : Job Global). Stops (job_of job) file (g.R.DeviceIn.remaining c.modify.new.input)) (sym c.in-Modify.is) (c.modify.ensures.stops file is)
+returns-in-Modify-clause-stops g c = λ file is. subst (λ (job : Job Global). Stops g.R.DeviceIn.remaining g.R.DeviceIn.gets (job_of job) c.args.input.now c.modify.new.input) (sym c.in-Modify.is) (c.modify.ensures.stops file is)

@@ -5,26 +5,27 @@ use Rattle.dcm_files.proofs.devices.open_devices.Goals as goal
 pub returns-in-Err : goal.returns-in-Err
 returns-in-Err g c =
     no_input c.in-Err.e c.unopened.result
-    (subst (λ r. OpensInput (g.S.System.may_answer c.args.system.now) c.args.input.now r) c.in-Err.is c.open_input.ensures)
+    (subst (λ r. OpensInput g.S.System.may_do c.args.input.now c.args.system.now r c.open_input.new.system) c.in-Err.is c.open_input.ensures)
     c.unopened.ensures refl
 
 pub returns-in-Err-open_output : goal.returns-in-Err-open_output
 returns-in-Err-open_output g c =
-    no_output c.in-Ok.input c.in-Err-open_output.e c.unopened-in-Err-open_output.result
-    (subst (λ r. OpensInput (g.S.System.may_answer c.args.system.now) c.args.input.now r) c.in-Ok.is c.open_input.ensures)
-    (subst (λ r. OpensOutput (g.S.System.may_answer c.args.system.now) c.args.output.now r) c.in-Err-open_output.is c.open_output.ensures)
+    no_output c.in-Ok.input c.in-Err-open_output.e c.unopened-in-Err-open_output.result c.open_input.new.system c.open_output.new.system
+    (subst (λ r. OpensInput g.S.System.may_do c.args.input.now c.args.system.now r c.open_input.new.system) c.in-Ok.is c.open_input.ensures)
+    (subst (λ r. OpensOutput g.S.System.may_do c.args.output.now c.open_input.new.system r c.open_output.new.system) c.in-Err-open_output.is c.open_output.ensures)
+    (search rules)
     c.unopened-in-Err-open_output.ensures refl
 
 pub returns-then-is_same_file : goal.returns-then-is_same_file
 returns-then-is_same_file g c =
-    same c.in-Ok.input c.in-Ok-open_output.output
-    (subst (λ r. OpensInput (g.S.System.may_answer c.args.system.now) c.args.input.now r) c.in-Ok.is c.open_input.ensures)
-    (subst (λ r. OpensOutput (g.S.System.may_answer c.args.system.now) c.args.output.now r) c.in-Ok-open_output.is c.open_output.ensures)
-    (search rules) refl
+    same c.in-Ok.input c.in-Ok-open_output.output c.open_input.new.system c.open_output.new.system c.close.new.self
+    (subst (λ r. OpensInput g.S.System.may_do c.args.input.now c.args.system.now r c.open_input.new.system) c.in-Ok.is c.open_input.ensures)
+    (subst (λ r. OpensOutput g.S.System.may_do c.args.output.now c.open_input.new.system r c.open_output.new.system) c.in-Ok-open_output.is c.open_output.ensures)
+    (search rules) (search rules) (search rules) refl
 
 pub returns : goal.returns
 returns g c =
-    both c.in-Ok.input c.in-Ok-open_output.output
-    (subst (λ r. OpensInput (g.S.System.may_answer c.args.system.now) c.args.input.now r) c.in-Ok.is c.open_input.ensures)
-    (subst (λ r. OpensOutput (g.S.System.may_answer c.args.system.now) c.args.output.now r) c.in-Ok-open_output.is c.open_output.ensures)
+    both c.in-Ok.input c.in-Ok-open_output.output c.open_input.new.system
+    (subst (λ r. OpensInput g.S.System.may_do c.args.input.now c.args.system.now r c.open_input.new.system) c.in-Ok.is c.open_input.ensures)
+    (subst (λ r. OpensOutput g.S.System.may_do c.args.output.now c.open_input.new.system r c.open_output.new.system) c.in-Ok-open_output.is c.open_output.ensures)
     (search rules) refl

@@ -124,6 +124,8 @@ impl<'a> Device for FailMemory<'a> {
 impl<'a> DeviceIn for FailMemory<'a> {
     ghost remaining = { λ r. Some r.rest.now };
 
+    ghost gets = { λ old bytes new. Unit {0} };
+
     fn get(&mut self, buf: &mut [u8]) -> Result<usize, ReadFailed> {
         if self.good == 0 {
             self.failed = true;
