@@ -33,6 +33,9 @@ abbrev pub open_line : Bool → List ℕ
 open_line false = error_line (codes "input cannot be opened")
 open_line true = error_line (codes "output cannot be opened")
 
+abbrev pub same_line : List ℕ
+same_line = error_line (codes "output is the input")
+
 abbrev pub fault_line : Stop → List ℕ
 fault_line stop = error_line (fault_number stop.fault ++ codes " at byte " ++ decimal stop.at ++ codes ": " ++ fault_text stop.fault)
 

@@ -1,10 +1,12 @@
 -- What a program does with the words of its command line.
-use Rattle.std.specs.Prelude.{◌≡◌, ◌≢◌, ◌⊎◌, ◌↔◌, ◌≤◌, ℕ, List, map, Bool, true, false, Option, Some, Ok, Err}
+use Rattle.std.specs.Prelude.{◌≡◌, ◌⊎◌, ◌↔◌, ◌≤◌, ℕ, List, [], map, Bool, true, false, Option, Some, None, Ok, Err}
+use Rattle.std.specs.Io.KnownBytes.{append_known}
 use Rattle.std.specs.Borrow.{Bor}
 use Rattle.std.specs.IoError.{error_kind}
 use Rattle.std.specs.declared.io.Error.{Error}
-use Rattle.std.specs.declared.io.ErrorKind.TheVariants as kinds
-use Rattle.dcm_base.specs.declared.fault.WordFault.TheVariants.{UnknownTool}
+use Rattle.dcm_devices.specs.Device.{AppendsFront}
+use Rattle.dcm_words.specs.declared.topic.Topic.{Topic}
+use Rattle.dcm_words.specs.Topics.{asked, text}
 use Rattle.dcm_words.specs.declared.job.Planned.{Planned}
 use Rattle.dcm_words.specs.declared.usage.Usage.{Usage}
 use Rattle.dcm_words.specs.declared.usage.Usage.TheVariants as usages
@@ -12,13 +14,13 @@ use Rattle.dcm_words.specs.Words.{Job, Plan, meant}
 use Rattle.dcm_words.specs.Plans.{takes_memory, planned as plan_of}
 use Rattle.dcm_files.specs.declared.opened.Opened.{Opened}
 use Rattle.dcm_files.specs.declared.opened.Unopened.{Unopened}
-use Rattle.dcm_files.specs.declared.opened.Unopened.TheVariants.{Input, Output, Memory}
+use Rattle.dcm_files.specs.declared.opened.Unopened.TheVariants.{Input, Output, Same, Memory}
 use Rattle.dcm_base.specs.Outputs.{Writer}
 use Rattle.dcm_cli.specs.Calls.{Reader}
-use Rattle.dcm_files.specs.Devices.{MayDo, OpensDevices}
+use Rattle.dcm_files.specs.Devices.{MayDo, IsCause, OpensDevices}
 use Rattle.dcm_cli.specs.Run.{Ran}
 use Rattle.dcm_cli.specs.Stops.{Stops}
-use Rattle.dcm_cli.specs.ErrorLines.{Tries, usage_line, usage_status, open_line}
+use Rattle.dcm_cli.specs.ErrorLines.{Tries, usage_line, usage_status, open_line, same_line, output_line}
 
 -- what standard error holds before and after, where it tells that, and whether it has failed
 pub record Errors : Type 0 where
@@ -31,13 +33,10 @@ pub record Errors : Type 0 where
 abbrev pub Reports : Errors → List ℕ → Type 0
 Reports e lines = Tries e.told e.tells e.untold_before e.untold lines
 
--- words that are no text are the words of no tool
-abbrev pub no_tool : Usage
-no_tool = usages.AtWord UnknownTool 1
-
 abbrev pub unopened_line : Unopened → List ℕ
 unopened_line Input = open_line false
 unopened_line Output = open_line true
+unopened_line Same = same_line
 unopened_line Memory = usage_line usages.Memory
 
 abbrev pub unopened_status : Unopened → ℕ
@@ -83,24 +82,59 @@ pub data Works {S I O : Type 0} (may : MayDo S I O) (t : Telling I O) (p : Plan)
   has_run : (i : Opened I) (o : Opened O) (has_both : S) → OpensDevices may p.input p.output old (Ok (i, o)) has_both → RunsOver may t p.job e i.device o.device has_both status new
       → Works may t p e old status new
 
--- the words are refused, and that is reported, with nothing done with the system; or what they mean was done
+-- what an output holds before and after a text is written, and whether it has failed
+pub record Shown : Type 0 where
+  pub held : Option (List ℕ)
+  pub holds : Option (List ℕ)
+  pub room : Option ℕ
+  pub unwritten_before : Bool
+  pub unwritten : Bool
+  pub is_flushed : Bool
+
+-- all of a text was written, and nothing is reported; or the output failed, with a beginning of it or as it was flushed, and
+-- that is reported
+pub data PutsText (text : List ℕ) (o : Shown) (e : Errors) (status : ℕ) : Type 0 where
+  put : o.holds ≡ append_known o.held text → o.unwritten ≡ o.unwritten_before → (o.unwritten ≡ false → o.is_flushed ≡ true) → Reports e [] → status ≡ 0
+      → PutsText text o e status
+  not_put : AppendsFront o.held o.holds text → o.unwritten ≡ true → Reports e output_line → status ≡ 4 → PutsText text o e status
+  not_flushed : o.holds ≡ append_known o.held text → o.unwritten ≡ true → o.room ≡ None → Reports e output_line → status ≡ 4 → PutsText text o e status
+
+abbrev pub shown : {I O : Type 0} → Telling I O → (before after : O) → Shown
+shown t before after = record {
+  held = t.contents before;
+  holds = t.contents after;
+  room = t.room after;
+  unwritten_before = t.unwritten before;
+  unwritten = t.unwritten after;
+  is_flushed = t.is_flushed after;
+}
+
+-- a text is shown on standard output, which is then closed; or that cannot be opened, and this is reported
+pub data Shows {S I O : Type 0} (may : MayDo S I O) (t : Telling I O) (text : List ℕ) (e : Errors) (old : S) (status : ℕ) (new : S) : Type 0 where
+  no_stdout : (cause : Error) (u : Unopened) → may.stdout old (Err cause) new → IsCause (error_kind cause) Output u → Reports e (unopened_line u)
+      → status ≡ unopened_status u → Shows may t text e old status new
+  shows : (o : Opened O) (output : O) (has_output : S) → may.stdout old (Ok o) has_output → PutsText text (shown t o.device output) e status
+      → may.closes has_output output new → Shows may t text e old status new
+
+-- the words ask for a text, which is shown; or they are refused, and that is reported, with nothing done with the system; or
+-- what they mean was done
 pub data Obeys {S I O : Type 0} (may : MayDo S I O) (t : Telling I O) (words : List (List ℕ)) (e : Errors) (old : S) (status : ℕ) (new : S) : Type 0 where
-  refused : (u : Usage) → meant words ≡ Err u → Reports e (usage_line u) → status ≡ usage_status u → new ≡ old → Obeys may t words e old status new
-  no_memory : takes_memory words ≡ true → Reports e (usage_line usages.Memory) → status ≡ usage_status usages.Memory → new ≡ old → Obeys may t words e old status new
-  worked : (p : Plan) → meant words ≡ Ok p → Works may t p e old status new → Obeys may t words e old status new
+  asks : (topic : Topic) → asked words ≡ Some topic → Shows may t (text topic) e old status new → Obeys may t words e old status new
+  refused : (u : Usage) → asked words ≡ None → meant words ≡ Err u → Reports e (usage_line u) → status ≡ usage_status u → new ≡ old → Obeys may t words e old status new
+  no_memory : asked words ≡ None → takes_memory words ≡ true → Reports e (usage_line usages.Memory) → status ≡ usage_status usages.Memory → new ≡ old
+      → Obeys may t words e old status new
+  worked : (p : Plan) → asked words ≡ None → meant words ≡ Ok p → Works may t p e old status new → Obeys may t words e old status new
 
--- words could not be read for this cause, and that is reported
-pub record Unread (e : Errors) (cause : Error) (status : ℕ) : Type 0 where
-  pub line : error_kind cause ≢ kinds.OutOfMemory → Reports e (usage_line no_tool)
-  pub status_is : error_kind cause ≢ kinds.OutOfMemory → status ≡ 1
-  pub memory_line : error_kind cause ≡ kinds.OutOfMemory → Reports e (usage_line usages.Memory)
-  pub memory : error_kind cause ≡ kinds.OutOfMemory → status ≡ 5
+-- there was no memory, and that is reported
+pub record NoMemory (e : Errors) (status : ℕ) : Type 0 where
+  pub line : Reports e (usage_line usages.Memory)
+  pub status_is : status ≡ usage_status usages.Memory
 
--- the words that the system gave were obeyed; or it gave none, or there was no memory for their bytes, and that is reported
+-- the words that the system gave were obeyed; or there was no memory for them
 pub data Starts {S I O : Type 0} (may : MayDo S I O) (t : Telling I O) (e : Errors) (old : S) (status : ℕ) (new : S) : Type 0 where
-  no_words : (cause : Error) → may.words old (Err cause) new → Unread e cause status → Starts may t e old status new
-  no_bytes : (words : List (List ℕ)) → may.words old (Ok words) new → Reports e (usage_line usages.Memory) → status ≡ usage_status usages.Memory → Starts may t e old status new
-  obeyed : (words : List (List ℕ)) (has_words : S) → may.words old (Ok words) has_words → Obeys may t words e has_words status new → Starts may t e old status new
+  no_words : may.words old None new → NoMemory e status → Starts may t e old status new
+  no_views : (words : List (List ℕ)) → may.words old (Some words) new → NoMemory e status → Starts may t e old status new
+  obeyed : (words : List (List ℕ)) (has_words : S) → may.words old (Some words) has_words → Obeys may t words e has_words status new → Starts may t e old status new
 
 -- ---- of devices with these members
 
@@ -115,6 +149,20 @@ WorksBy may r w e planned before after old new status = Works may (telling r w) 
 
 abbrev pub ObeysBy : {S I O E : Type 0} → MayDo S I O → Reader I → Writer O → Writer E → List (Bor (List ℕ)) → (before after : S) → (old new : E) → (status : ℕ) → Type 0
 ObeysBy may r w e words before after old new status = Obeys may (telling r w) (map (λ w. w.now) words) (errors_of e old new) before status after
+
+abbrev pub PutsTextBy : {O E : Type 0} → Writer O → Writer E → List ℕ → (before after : O) → (old new : E) → (status : ℕ) → Type 0
+PutsTextBy w e text before after old new status =
+    PutsText text (record {
+      held = w.contents before;
+      holds = w.contents after;
+      room = w.room after;
+      unwritten_before = w.has_failed before;
+      unwritten = w.has_failed after;
+      is_flushed = w.is_flushed after;
+    }) (errors_of e old new) status
+
+abbrev pub ShowsBy : {S I O E : Type 0} → MayDo S I O → Reader I → Writer O → Writer E → Topic → (before after : S) → (old new : E) → (status : ℕ) → Type 0
+ShowsBy may r w e topic before after old new status = Shows may (telling r w) (text topic) (errors_of e old new) before status after
 
 abbrev pub StartsBy : {S I O E : Type 0} → MayDo S I O → Reader I → Writer O → Writer E → (before after : S) → (old new : E) → (status : ℕ) → Type 0
 StartsBy may r w e before after old new status = Starts may (telling r w) (errors_of e old new) before status after

@@ -108,6 +108,15 @@ pub fn tell_open<E: DeviceOut>(output: bool, errors: &mut Watched<E>) -> u8
     DEVICE
 }
 
+/// Reports that the output is the input, and answers the status.
+pub fn tell_same<E: DeviceOut>(errors: &mut Watched<E>) -> u8
+    ensures line { calls.Tries E.DeviceOut errors.old errors.new spec.same_line }
+    ensures status { result ≡ 4 }
+{
+    tell_line(errors, &[b"dcmtools: output is the input\n".as_slice()]);
+    DEVICE
+}
+
 /// Tells a fault of the input.
 pub fn tell_fault<E: DeviceOut>(stop: Stop, errors: &mut Watched<E>)
     ensures { calls.Tries E.DeviceOut errors.old errors.new (spec.fault_line stop) }

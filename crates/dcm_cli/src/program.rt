@@ -1,28 +1,27 @@
 // The program: words, devices, and the exit status.
-ghost use Rattle.std.specs.Prelude.{◌≤◌, ◌≡◌, ◌≢◌, map, string_bytes, IfOk};
-ghost use Rattle.std.specs.IoError.{error_kind};
+ghost use Rattle.std.specs.Prelude.{◌≤◌, ◌≡◌, map, IfOk};
 ghost use Rattle.dcm_cli.specs.Calls as calls;
 ghost use Rattle.dcm_cli.specs.Program as spec;
-ghost use Rattle.dcm_cli.specs.Program.{WorksBy, ObeysBy, StartsBy};
-ghost use Rattle.dcm_cli.specs.ErrorLines.{usage_line};
-ghost use Rattle.dcm_words.specs.declared.usage.Usage.TheVariants as usages;
+ghost use Rattle.dcm_cli.specs.Program.{WorksBy, PutsTextBy, ShowsBy, ObeysBy, StartsBy};
 
-use crate::error_lines::{tell, tell_open};
-use crate::run::run;
-use dcm_base::{DeviceOut, Watched, WordFault};
-use dcm_files::{Host, System, Unopened, open_devices};
-use dcm_words::{Planned, Usage, plan};
+use crate::ending::{Ending, Verdict};
+use crate::error_lines::{tell, tell_open, tell_same};
+use crate::run::{flushed, run, tell_ending};
+use dcm_base::{DeviceOut, Std, Watched, put_all};
+use dcm_files::{Host, System, Unopened, open_devices, unopened};
+use dcm_words::{Planned, Topic, Usage, asked, plan};
 use std::alloc::{AllocError, Global};
-use std::io;
-use std::io::ErrorKind;
 
-/// The bytes of words.
-fn views<'a>(alloc: Global, words: &'a [String]) -> Result<Vec<&'a [u8]>, AllocError>
-    ensures { IfOk result (λ views. map (λ w. w.now) views.items ≡ map string_bytes words.now) }
+/// How the writing of a text ends.
+const DONE: Ending = Ending::Worked(Verdict::Done { unplaced: 0 });
+
+/// Words, lent.
+fn views<'a>(alloc: Global, words: &'a [Vec<u8>]) -> Result<Vec<&'a [u8]>, AllocError>
+    ensures { IfOk result (λ views. map (λ w. w.now) views.items ≡ map (λ w. w.items) words.now) }
 {
     let mut views = Vec::new(alloc);
     for word in words {
-        views.push(word.as_bytes())?;
+        views.push(word.as_slice())?;
     }
     Ok(views)
 }
@@ -35,6 +34,7 @@ fn tell_unopened<E: DeviceOut>(unopened: Unopened, errors: &mut Watched<E>) -> u
     match unopened {
         Unopened::Input => tell_open(false, errors),
         Unopened::Output => tell_open(true, errors),
+        Unopened::Same => tell_same(errors),
         Unopened::Memory => tell(&Usage::Memory, errors),
     }
 }
@@ -56,6 +56,38 @@ fn work<S: System, E: DeviceOut>(system: &mut S, planned: &Planned, errors: &mut
     outcome.status
 }
 
+/// Writes a text, and answers the status.
+fn put_text<W: DeviceOut, E: DeviceOut>(
+    text: &str,
+    out: &mut Watched<W>,
+    errors: &mut Watched<E>,
+) -> u8
+    ensures put { PutsTextBy W.DeviceOut E.DeviceOut text.now out.old out.new errors.old errors.new result }
+    ensures within { result ≤ 4 }
+{
+    let ending = match put_all(out, text.as_bytes()) {
+        Ok(()) => DONE,
+        Err(_) => Ending::Output,
+    };
+    let ending = flushed(ending, out);
+    tell_ending(ending, errors)
+}
+
+/// Shows a text about the program on standard output, and answers the status.
+fn show<S: System, E: DeviceOut>(system: &mut S, topic: Topic, errors: &mut Watched<E>) -> u8
+    ensures shows { ShowsBy S.may_do S.Input.DeviceIn S.Output.DeviceOut E.DeviceOut topic system.old system.new errors.old errors.new result }
+    ensures within { result ≤ 5 }
+{
+    let output = match system.stdout() {
+        Ok(output) => output,
+        Err(e) => return tell_unopened(unopened(&e, Unopened::Output), errors),
+    };
+    let mut out = Watched::new(output.device);
+    let status = put_text(topic.text(), &mut out, errors);
+    system.close(out.into_device());
+    status
+}
+
 /// Does what the words of a command line say, after the program's name, with the devices that they name. It reports what is
 /// wrong, and answers the exit status.
 pub fn obey<S: System, E: DeviceOut>(
@@ -67,24 +99,12 @@ pub fn obey<S: System, E: DeviceOut>(
     ensures obeys { ObeysBy S.may_do S.Input.DeviceIn S.Output.DeviceOut E.DeviceOut words.now system.old system.new errors.old errors.new result }
     ensures within { result ≤ 5 }
 {
+    if let Some(topic) = asked(words) {
+        return show(system, topic, errors);
+    }
     match plan(alloc, words) {
         Ok(planned) => work(system, &planned, errors),
         Err(usage) => tell(&usage, errors),
-    }
-}
-
-/// Reports words that cannot be read. Words that are no text are the words of no tool.
-fn tell_unread_words<E: DeviceOut>(e: &io::Error, errors: &mut Watched<E>) -> u8
-    ensures line { error_kind e.now ≢ ErrorKind.OutOfMemory → calls.Tries E.DeviceOut errors.old errors.new (usage_line spec.no_tool) }
-    ensures status { error_kind e.now ≢ ErrorKind.OutOfMemory → result ≡ 1 }
-    ensures memory_line { error_kind e.now ≡ ErrorKind.OutOfMemory →
-        calls.Tries E.DeviceOut errors.old errors.new (usage_line usages.Memory) }
-    ensures memory { error_kind e.now ≡ ErrorKind.OutOfMemory → result ≡ 5 }
-    ensures within { result ≤ 5 }
-{
-    match e.kind() {
-        ErrorKind::OutOfMemory => tell(&Usage::Memory, errors),
-        _ => tell(&Usage::AtWord(WordFault::UnknownTool, 1), errors),
     }
 }
 
@@ -93,9 +113,8 @@ pub fn start<S: System, E: DeviceOut>(system: &mut S, alloc: Global, errors: &mu
     ensures starts { StartsBy S.may_do S.Input.DeviceIn S.Output.DeviceOut E.DeviceOut system.old system.new errors.old errors.new result }
     ensures within { result ≤ 5 }
 {
-    let words = match system.words() {
-        Ok(words) => words,
-        Err(e) => return tell_unread_words(&e, errors),
+    let Ok(words) = system.words() else {
+        return tell(&Usage::Memory, errors);
     };
     match views(alloc, words.as_slice()) {
         Ok(words) => obey(system, alloc, words.as_slice(), errors),
@@ -103,11 +122,14 @@ pub fn start<S: System, E: DeviceOut>(system: &mut S, alloc: Global, errors: &mu
     }
 }
 
-/// Does what the words of the command line say, over the system's devices, and answers the exit status.
+/// Does what the words of the command line say, over the system's devices, and answers the exit status. Where the numbers of closed
+/// streams cannot be taken, no file is opened.
 pub fn dcmtools(rt: HostRuntime) -> u8
     ensures { result ≤ 5 }
 {
-    let mut host = Host::new(rt);
-    let mut errors = Watched::new(host.stderr());
-    start(&mut host, rt.alloc(), &mut errors)
+    let mut errors = Watched::new(Std::new(rt.stderr()));
+    match Host::new(rt) {
+        Ok(mut host) => start(&mut host, rt.alloc(), &mut errors),
+        Err(_) => tell_open(false, &mut errors),
+    }
 }

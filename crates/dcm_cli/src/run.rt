@@ -30,7 +30,7 @@ pub struct Outcome {
 }
 
 /// Flushes the output, unless it has failed. A failed flush is told where nothing failed before.
-fn flushed<W: DeviceOut>(ending: Ending, out: &mut Watched<W>) -> Ending
+pub(crate) fn flushed<W: DeviceOut>(ending: Ending, out: &mut Watched<W>) -> Ending
     ensures contents { W.contents out.new ≡ W.contents out.old }
     ensures flushed { spec.FlushedAs ending result (W.has_failed out.old) (W.has_failed out.new) (W.room out.new) }
     ensures drained { spec.IsWritten ending → W.has_failed out.new ≡ false → W.is_flushed out.new ≡ true }
@@ -78,7 +78,7 @@ fn tell_verdict<E: DeviceOut>(verdict: Verdict, errors: &mut Watched<E>) -> u8
 }
 
 /// Tells how a job ended, and answers the status.
-fn tell_ending<E: DeviceOut>(ending: Ending, errors: &mut Watched<E>) -> u8
+pub(crate) fn tell_ending<E: DeviceOut>(ending: Ending, errors: &mut Watched<E>) -> u8
     ensures lines { calls.Tries E.DeviceOut errors.old errors.new (spec.ending_lines ending) }
     ensures status { result ≡ spec.ending_status ending }
     ensures within { result ≤ 4 }

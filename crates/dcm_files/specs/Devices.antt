@@ -1,15 +1,15 @@
 -- Which devices a program opens, and why it does not.
-use Rattle.std.specs.Prelude.{◌≡◌, ◌≢◌, ℕ, ◌==◌, List, map, codes, String, string_bytes, Vec, Bool, true, false, Result, Ok, Err, if◌then◌else◌}
+use Rattle.std.specs.Prelude.{◌≡◌, ◌≢◌, ◌&&◌, ℕ, ◌==◌, nat_lt, List, map, codes, Vec, Bool, Option, Some, None, Result, Ok, Err, if◌then◌else◌}
 use Rattle.std.specs.IoError.{error_kind}
 use Rattle.std.specs.Str.{IsUtf8}
 use Rattle.std.specs.declared.io.Error.{Error}
 use Rattle.std.specs.declared.io.ErrorKind.{ErrorKind}
 use Rattle.std.specs.declared.io.ErrorKind.TheVariants as kinds
 use Rattle.dcm_files.specs.declared.opened.FileKind.{FileKind}
-use Rattle.dcm_files.specs.declared.opened.FileKind.TheVariants.{Regular, Directory}
+use Rattle.dcm_files.specs.declared.opened.FileKind.TheVariants.{Regular, Directory, Unknown}
 use Rattle.dcm_files.specs.declared.opened.Opened.{Opened}
 use Rattle.dcm_files.specs.declared.opened.Unopened.{Unopened}
-use Rattle.dcm_files.specs.declared.opened.Unopened.TheVariants.{Input, Output, Memory}
+use Rattle.dcm_files.specs.declared.opened.Unopened.TheVariants.{Input, Output, Same, Memory}
 
 -- the path of a standard stream
 abbrev pub standard : List ℕ
@@ -18,8 +18,8 @@ standard = codes "-"
 -- what the calls of a program that opens its devices may answer, and what they may leave of the system: no other call leads
 -- from a system to a later one
 pub record MayDo (S I O : Type 0) : Type 1 where
-  -- the words of the command line after the program's name
-  pub words : S → Result (List (List ℕ)) Error → S → Type 0
+  -- the words of the command line after the program's name; none where memory for them was refused
+  pub words : S → Option (List (List ℕ)) → S → Type 0
   pub stdin : S → Opened I → S → Type 0
   -- of a path that is read
   pub opens : S → List ℕ → Result (Opened I) Error → S → Type 0
@@ -43,10 +43,10 @@ anything = record {
   closes = λ old d new. Unit {0};
 }
 
--- the bytes of words
-abbrev pub texts : {A B : Type 0} → Result (Vec (String A) B) Error → Result (List (List ℕ)) Error
-texts (Ok words) = Ok (map string_bytes words.items)
-texts (Err e) = Err e
+-- the words that were given, as bytes
+abbrev pub words_given : {A B E : Type 0} → Result (Vec (Vec ℕ A) B) E → Option (List (List ℕ))
+words_given (Ok words) = Some (map (λ w. w.items) words.items)
+words_given (Err e) = None
 
 -- what the opening of an input gives
 pub data OpensInput {S I O : Type 0} (may : MayDo S I O) (path : List ℕ) (old : S) (r : Result (Opened I) Error) (new : S) : Type 0 where
@@ -64,10 +64,11 @@ pub data OpensOutput {S I O : Type 0} (may : MayDo S I O) (path : List ℕ) (old
   out_no_text : (e : Error) → path ≢ standard → ¬ (IsUtf8 path) → error_kind e ≡ kinds.InvalidFilename → r ≡ Err e → new ≡ old → OpensOutput may path old r new
   answered : path ≢ standard → may.creates old path r new → OpensOutput may path old r new
 
--- two kinds of devices are one regular file
-abbrev pub is_same_file : FileKind → FileKind → Bool
-is_same_file (Regular device number) (Regular d n) = if device == d then number == n else false
-is_same_file _ _ = false
+-- why an input and an output are not used together: they are one regular file; or they may be, and the output holds bytes
+abbrev pub clash : FileKind → FileKind → Option Unopened
+clash (Regular device number size) (Regular d n held) = if device == d && number == n then Some Same else None
+clash Unknown (Regular device number size) = if nat_lt 0 size then Some Output else None
+clash _ _ = None
 
 -- why a job is not begun after an error of this kind, on opening its input or its output
 pub record IsCause (kind : ErrorKind) (which cause : Unopened) : Type 0 where
@@ -80,7 +81,8 @@ pub data OpensDevices {S I O : Type 0} (may : MayDo S I O) (input output : List 
   no_input : (e : Error) (u : Unopened) → OpensInput may input old (Err e) new → IsCause (error_kind e) Input u → r ≡ Err u → OpensDevices may input output old r new
   no_output : (i : Opened I) (e : Error) (u : Unopened) (has_input tried : S) → OpensInput may input old (Ok i) has_input → OpensOutput may output has_input (Err e) tried
       → may.releases tried i.device new → IsCause (error_kind e) Output u → r ≡ Err u → OpensDevices may input output old r new
-  same : (i : Opened I) (o : Opened O) (has_input has_both closed : S) → OpensInput may input old (Ok i) has_input → OpensOutput may output has_input (Ok o) has_both
-      → is_same_file i.kind o.kind ≡ true → may.closes has_both o.device closed → may.releases closed i.device new → r ≡ Err Output → OpensDevices may input output old r new
+  clashed : (i : Opened I) (o : Opened O) (cause : Unopened) (has_input has_both closed : S) → OpensInput may input old (Ok i) has_input
+      → OpensOutput may output has_input (Ok o) has_both → clash i.kind o.kind ≡ Some cause → may.closes has_both o.device closed → may.releases closed i.device new
+      → r ≡ Err cause → OpensDevices may input output old r new
   both : (i : Opened I) (o : Opened O) (has_input : S) → OpensInput may input old (Ok i) has_input → OpensOutput may output has_input (Ok o) new
-      → is_same_file i.kind o.kind ≡ false → r ≡ Ok (i, o) → OpensDevices may input output old r new
+      → clash i.kind o.kind ≡ None → r ≡ Ok (i, o) → OpensDevices may input output old r new

@@ -7,6 +7,7 @@ ghost use Rattle.dcm_files.specs.Devices.{MayDo, IsCause, OpensInput, OpensOutpu
 
 use crate::opened::{FileKind, Opened, Unopened};
 use dcm_devices::{DeviceIn, DeviceOut};
+use std::alloc::AllocError;
 use std::io::ErrorKind;
 use std::{io, str};
 
@@ -23,8 +24,8 @@ pub trait System {
     ghost may_do: { MayDo Self Self.Input Self.Output };
 
     /// The words of the command line after the program's name.
-    fn words(&mut self) -> io::Result<Vec<String>>
-        ensures { may_do.words self.old (spec.texts result) self.new };
+    fn words(&mut self) -> Result<Vec<Vec<u8>>, AllocError>
+        ensures { may_do.words self.old (spec.words_given result) self.new };
 
     /// Standard input.
     fn stdin(&mut self) -> Opened<Self::Input>
@@ -87,24 +88,27 @@ pub fn open_output<S: System>(system: &mut S, word: &[u8]) -> io::Result<Opened<
     system.create(path(word)?)
 }
 
-/// Whether both are one regular file, under whatever names.
-fn is_same_file(input: FileKind, output: FileKind) -> bool
-    ensures { result ≡ spec.is_same_file input output }
+/// Why an input and an output are not used together: both are one regular file, under whatever names; or they may be, since the
+/// system does not say what is read, and the output holds bytes.
+fn clash(input: FileKind, output: FileKind) -> Option<Unopened>
+    ensures { result ≡ spec.clash input output }
 {
     match (input, output) {
         (
             FileKind::Regular {
                 device: input_device,
                 number: input_number,
+                ..
             },
-            FileKind::Regular { device, number },
-        ) => input_device == device && input_number == number,
-        _ => false,
+            FileKind::Regular { device, number, .. },
+        ) if input_device == device && input_number == number => Some(Unopened::Same),
+        (FileKind::Unknown, FileKind::Regular { size, .. }) if size > 0 => Some(Unopened::Output),
+        _ => None,
     }
 }
 
 /// Why a job is not begun after this error on opening its input or its output.
-fn unopened(e: &io::Error, which: Unopened) -> Unopened
+pub fn unopened(e: &io::Error, which: Unopened) -> Unopened
     ensures { IsCause (error_kind e.now) which result }
 {
     match e.kind() {
@@ -113,8 +117,8 @@ fn unopened(e: &io::Error, which: Unopened) -> Unopened
     }
 }
 
-/// Opens the devices of a job, the input before the output. They are refused where both are one file. Of devices that are
-/// refused nothing was read and nothing written.
+/// Opens the devices of a job, the input before the output. They are refused where both are one file, or may be. Of devices that
+/// are refused nothing was read and nothing written.
 pub fn open_devices<S: System>(
     system: &mut S,
     input: &[u8],
@@ -133,10 +137,10 @@ pub fn open_devices<S: System>(
             return Err(unopened(&e, Unopened::Output));
         }
     };
-    if is_same_file(input.kind, output.kind) {
+    if let Some(cause) = clash(input.kind, output.kind) {
         system.close(output.device);
         system.release(input.device);
-        return Err(Unopened::Output);
+        return Err(cause);
     }
     Ok((input, output))
 }

@@ -1,5 +1,5 @@
 // The devices that the system has.
-ghost use Rattle.std.specs.Prelude.{◌≡◌, false};
+ghost use Rattle.std.specs.Prelude.{◌≡◌, IfOk};
 ghost use Rattle.dcm_files.specs.Devices.{anything};
 
 use crate::devices::System;
@@ -7,10 +7,13 @@ use crate::opened::{FileKind, Opened};
 use crate::output::OutputFile;
 use dcm_devices::{Device, Std};
 use either::{Either, Left, Right};
+use std::alloc::AllocError;
+use std::env::{Env, FillError};
 use std::fs::{File, Metadata, OpenOptions};
-use std::io::{BufWriter, Stderr, Stdin, Stdout};
+use std::io::{BufWriter, Stdin, Stdout};
+use std::os::fd::AsFd;
 use std::os::unix::fs::MetadataExt;
-use std::{env, fs, io};
+use std::{fs, io};
 
 /// What can be neither read nor written, for a standard stream that is closed.
 const NOTHING: &str = "/";
@@ -18,8 +21,17 @@ const NOTHING: &str = "/";
 /// What standard input reads from, as a path.
 const STANDARD_INPUT: &str = "/dev/stdin";
 
+/// What standard output writes to, as a path.
+const STANDARD_OUTPUT: &str = "/dev/stdout";
+
 /// The bytes that are written at a time.
 const BUFFER: usize = 262_144;
+
+/// The room that a word of the command line is given first. It is doubled where the word is longer.
+const WORD: usize = 256;
+
+/// How often it is doubled: no system has longer words.
+const MOST_DOUBLINGS: usize = 32;
 
 /// The numbers of standard streams that were closed when the program began.
 #[derive(Drop)]
@@ -29,14 +41,39 @@ struct Reserved {
     _errors: Option<File>,
 }
 
+/// Takes the number of a standard stream where it is closed. The lowest number that is free is taken, so the streams come in the
+/// order of their numbers.
+fn reserve_if_closed<T: AsFd>(rt: HostRuntime, stream: &T) -> io::Result<Option<File>> {
+    match stream.as_fd().try_clone_to_owned() {
+        Ok(_open) => Ok(None),
+        Err(_) => Ok(Some(File::open(&rt, NOTHING)?)),
+    }
+}
+
 /// Takes the numbers of standard streams that are closed, so that no file that is opened after it gets one of them, and with
 /// it what is written to the stream. They are kept as long as the answer is.
-fn reserve(rt: HostRuntime) -> Reserved {
-    Reserved {
-        _input: File::open(&rt, NOTHING).ok(),
-        _output: File::open(&rt, NOTHING).ok(),
-        _errors: File::open(&rt, NOTHING).ok(),
+fn reserve(rt: HostRuntime) -> io::Result<Reserved> {
+    Ok(Reserved {
+        _input: reserve_if_closed(rt, &rt.stdin())?,
+        _output: reserve_if_closed(rt, &rt.stdout())?,
+        _errors: reserve_if_closed(rt, &rt.stderr())?,
+    })
+}
+
+/// A word of the command line by its number, where 0 is the program's name, or none after the last one. It may be any bytes.
+fn word(rt: HostRuntime, number: usize) -> Result<Option<Vec<u8>>, AllocError> {
+    for doublings in 0..MOST_DOUBLINGS {
+        let mut word = vec![in rt.alloc(); 0u8; WORD << doublings]?;
+        match rt.arg(number, word.as_mut_slice()) {
+            Ok(length) => {
+                word.truncate(length);
+                return Ok(Some(word));
+            }
+            Err(FillError::TooLong) => {}
+            Err(FillError::NotPresent) => return Ok(None),
+        }
     }
+    Err(AllocError)
 }
 
 /// What a file is, by what the system says of it.
@@ -48,9 +85,18 @@ fn kind_of(file: &Metadata) -> FileKind {
         return FileKind::Regular {
             device: file.dev(),
             number: file.ino(),
+            size: file.len(),
         };
     }
     FileKind::Other
+}
+
+/// What a standard stream is, by its path. Without /proc no path leads to it.
+fn stream_kind(rt: HostRuntime, path: &str) -> FileKind {
+    match fs::metadata(&rt, path) {
+        Ok(file) => kind_of(&file),
+        Err(_) => FileKind::Unknown,
+    }
 }
 
 /// The system that the program runs on.
@@ -61,21 +107,14 @@ pub struct Host {
 }
 
 impl Host {
-    /// The system, with the numbers of the standard streams that are closed taken.
-    pub fn new(rt: HostRuntime) -> Self
-        ensures { result.rt ≡ rt }
+    /// The system, with the numbers of the standard streams that are closed taken. An error where they cannot be taken.
+    pub fn new(rt: HostRuntime) -> io::Result<Self>
+        ensures { IfOk result (λ host. host.rt ≡ rt) }
     {
-        Host {
+        Ok(Host {
             rt,
-            _reserved: reserve(rt),
-        }
-    }
-
-    /// Standard error, on which nothing has failed.
-    pub fn stderr(&self) -> Std<Stderr>
-        ensures { result.failed ≡ false }
-    {
-        Std::new(self.rt.stderr())
+            _reserved: reserve(rt)?,
+        })
     }
 
     /// An output, written through a buffer.
@@ -96,22 +135,21 @@ impl System for Host {
 
     ghost may_do = { anything };
 
-    fn words(&mut self) -> io::Result<Vec<String>> {
+    fn words(&mut self) -> Result<Vec<Vec<u8>>, AllocError> {
         let mut words = Vec::new(self.rt.alloc());
-        for word in env::args(&self.rt)?.skip(1) {
-            words.push(word)?;
+        for number in 1..usize::MAX {
+            match word(self.rt, number)? {
+                Some(word) => words.push(word)?,
+                None => break,
+            }
         }
         Ok(words)
     }
 
     fn stdin(&mut self) -> Opened<Self::Input> {
-        let kind = match fs::metadata(&self.rt, STANDARD_INPUT) {
-            Ok(file) => kind_of(&file),
-            Err(_) => FileKind::Other,
-        };
         Opened {
             device: Std::new(Left(self.rt.stdin())),
-            kind,
+            kind: stream_kind(self.rt, STANDARD_INPUT),
         }
     }
 
@@ -126,9 +164,9 @@ impl System for Host {
 
     fn release(&mut self, _input: Self::Input) {}
 
-    /// A standard stream is written as it is, also where it is the file that is read.
     fn stdout(&mut self) -> io::Result<Opened<Self::Output>> {
-        self.buffered(Left(self.rt.stdout()), FileKind::Other)
+        let kind = stream_kind(self.rt, STANDARD_OUTPUT);
+        self.buffered(Left(self.rt.stdout()), kind)
     }
 
     fn create(&mut self, path: &str) -> io::Result<Opened<Self::Output>> {

@@ -23,7 +23,7 @@ mod opened;
 mod output;
 mod pieces;
 
-pub use devices::{System, open_devices, open_input, open_output};
+pub use devices::{System, open_devices, open_input, open_output, unopened};
 pub use host::Host;
 pub use memory::MemSystem;
 pub use opened::{FileKind, Opened, Unopened};

@@ -5,6 +5,7 @@ ghost use Rattle.dcm_files.specs.Memory as spec;
 use crate::devices::System;
 use crate::opened::{FileKind, Opened};
 use dcm_devices::{Measured, MemIn, MemOut};
+use std::alloc::AllocError;
 use std::io;
 use std::io::ErrorKind;
 
@@ -54,8 +55,8 @@ impl<'a> System for MemSystem<'a> {
 
     ghost may_do = { spec.may_do };
 
-    fn words(&mut self) -> io::Result<Vec<String>> {
-        Err(io::Error::from(ErrorKind::Unsupported))
+    fn words(&mut self) -> Result<Vec<Vec<u8>>, AllocError> {
+        Err(AllocError)
     }
 
     fn stdin(&mut self) -> Opened<MemIn<'a>> {
@@ -74,6 +75,7 @@ impl<'a> System for MemSystem<'a> {
             kind: FileKind::Regular {
                 device: 0,
                 number: 0,
+                size: self.input.len() as u64,
             },
         })
     }
@@ -94,6 +96,7 @@ impl<'a> System for MemSystem<'a> {
                 kind: FileKind::Regular {
                     device: 0,
                     number: 1,
+                    size: 0,
                 },
             }),
             None => Err(io::Error::from(ErrorKind::StorageFull)),

@@ -3,11 +3,17 @@
 /// What a device was opened on.
 #[derive(Clone, Copy, Debug, PartialEq, Eq)]
 pub enum FileKind {
-    /// A regular file, by its device and its number there.
-    Regular { device: u64, number: u64 },
+    /// A regular file: its device, its number there, and the bytes that it held when it was opened.
+    Regular {
+        device: u64,
+        number: u64,
+        size: u64,
+    },
     Directory,
     /// A pipe, a terminal or another device.
     Other,
+    /// The system does not say what it is.
+    Unknown,
 }
 
 /// A device, and what it was opened on.
@@ -22,8 +28,10 @@ pub struct Opened<D> {
 pub enum Unopened {
     /// The input cannot be opened.
     Input,
-    /// The output cannot be opened, or is the file that is read.
+    /// The output cannot be opened, or holds bytes and may be the file that is read.
     Output,
+    /// The output is the file that is read.
+    Same,
     /// Opening one of them wants memory.
     Memory,
 }

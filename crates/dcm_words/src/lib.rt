@@ -2,6 +2,7 @@
 //!
 //! - `plan` reads the words of a command line into a `Planned`: the paths, and a `Job` with all that its tool has to know.
 //! - Words that it refuses are a `Usage`: which word is wrong and why, which edit, or want of memory.
+//! - `asked` says whether words ask for a text about the program, a `Topic`, in place of a job.
 //! - The words of dcmodify between its name and its two paths are edits, which `Edits` of dcm_edit_words reads.
 //!
 //! A conversion:
@@ -12,9 +13,12 @@
 #![tactic(auto)]
 
 mod job;
+mod texts;
+mod topic;
 mod usage;
 mod words;
 
 pub use job::{Build, Convert, Dump, Job, Modify, Planned};
+pub use topic::{Topic, asked};
 pub use usage::Usage;
 pub use words::plan;

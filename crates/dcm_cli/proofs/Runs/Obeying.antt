@@ -1,8 +1,9 @@
 -- What a program did, by what its parts did.
-use Rattle.std.proofs.Common.{Global, ◌≡◌, subst, refl, ℕ, List, Bool, true, false, Ok, Err}
+use Rattle.std.proofs.Common.{Global, ◌≡◌, subst, refl, ℕ, List, Bool, true, false, Some, None, Ok, Err}
 use Rattle.dcm_words.specs.declared.usage.Usage.{Usage}
 use Rattle.dcm_words.specs.declared.usage.Usage.TheVariants.{AtWord, Whole, InEdit, Memory}
 use Rattle.dcm_words.specs.Words.{Job, meant}
+use Rattle.dcm_words.specs.Topics.{asked}
 use Rattle.dcm_words.specs.Plans.{Gives, GivesUnlessMemory, takes_memory}
 use Rattle.dcm_files.specs.Devices.{MayDo}
 use Rattle.dcm_cli.specs.Program.{Errors, Reports, Telling, RunsOver, Obeys, refused, no_memory, Starts, obeyed}
@@ -14,20 +15,21 @@ pub over : {S I O : Type 0} (may : MayDo S I O) (t : Telling I O) (job : Job) (e
 over may t job e i j o p old status new input output run =
     subst (λ x. RunsOver may t job e x p old status new) input (subst (λ x. RunsOver may t job e i x old status new) output run)
 
-module _ {S I O : Type 0} (may : MayDo S I O) (t : Telling I O) (words : List (List ℕ)) (e : Errors) (old : S) (status : ℕ) (new : S) where
+module _ {S I O : Type 0} (may : MayDo S I O) (t : Telling I O) (words : List (List ℕ)) (e : Errors) (old : S) (status : ℕ) (new : S) (no_text : asked words ≡ None) where
   -- memory is refused to the edits of dcmodify alone, behind two paths
   memory : (b : Bool) → takes_memory words ≡ b → (takes_memory words ≡ false → meant words ≡ Err Memory) → Reports e (usage_line Memory) → status ≡ 5 → new ≡ old → Obeys may t words e old status new
-  memory true is meant_is line status_is same = no_memory is line status_is same
-  memory false is meant_is line status_is same = refused Memory (meant_is is) line status_is same
+  memory true is meant_is line status_is same = no_memory no_text is line status_is same
+  memory false is meant_is line status_is same = refused Memory no_text (meant_is is) line status_is same
 
   -- words that are refused
   pub refuse : (u : Usage) → GivesUnlessMemory {A = Global} (Err u) (meant words) → (takes_memory words ≡ false → Gives {A = Global} (Err u) (meant words)) → Reports e (usage_line u) → status ≡ usage_status u → new ≡ old
       → Obeys may t words e old status new
-  refuse (AtWord fault n) gives gives_all line status_is same = refused (AtWord fault n) gives line status_is same
-  refuse (Whole fault) gives gives_all line status_is same = refused (Whole fault) gives line status_is same
-  refuse (InEdit fault n) gives gives_all line status_is same = refused (InEdit fault n) gives line status_is same
+  refuse (AtWord fault n) gives gives_all line status_is same = refused (AtWord fault n) no_text gives line status_is same
+  refuse (Whole fault) gives gives_all line status_is same = refused (Whole fault) no_text gives line status_is same
+  refuse (InEdit fault n) gives gives_all line status_is same = refused (InEdit fault n) no_text gives line status_is same
   refuse Memory gives gives_all line status_is same = memory (takes_memory words) refl gives_all line status_is same
 
--- words that the system gave were obeyed, by their bytes
-pub started : {S I O : Type 0} (may : MayDo S I O) (t : Telling I O) (e : Errors) (old mid new : S) (status : ℕ) (words views : List (List ℕ)) → may.words old (Ok words) mid → views ≡ words → Obeys may t views e mid status new → Starts may t e old status new
+-- words that the system gave were obeyed, lent
+pub started : {S I O : Type 0} (may : MayDo S I O) (t : Telling I O) (e : Errors) (old mid new : S) (status : ℕ) (words views : List (List ℕ)) → may.words old (Some words) mid → views ≡ words
+    → Obeys may t views e mid status new → Starts may t e old status new
 started may t e old mid new status words views gave same obeys = obeyed words mid gave (subst (λ (ws : List (List ℕ)). Obeys may t ws e mid status new) same obeys)

@@ -12,7 +12,7 @@ use Rattle.dcm_files.specs.declared.opened.FileKind.TheVariants.{Regular, Direct
 use Rattle.dcm_files.specs.declared.opened.Opened.{Opened}
 use Rattle.dcm_files.specs.declared.opened.Unopened.{Unopened}
 use Rattle.dcm_files.specs.Devices as devices
-use Rattle.dcm_files.specs.Devices.{OpensInput, OpensOutput, OpensDevices, standard, is_same_file}
+use Rattle.dcm_files.specs.Devices.{OpensInput, OpensOutput, OpensDevices, standard, clash}
 use Rattle.dcm_files.specs.Memory.{may_do}
 use Rattle.dcm_words.specs.declared.usage.Usage.{Usage}
 use Rattle.dcm_words.specs.Words.{Plan, meant}

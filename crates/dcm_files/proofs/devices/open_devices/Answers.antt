@@ -1,5 +1,5 @@
 use Rattle.std.proofs.Common.{rules, subst, refl}
-use Rattle.dcm_files.specs.Devices.{OpensInput, OpensOutput, no_input, no_output, same, both}
+use Rattle.dcm_files.specs.Devices.{OpensInput, OpensOutput, no_input, no_output, clashed, both}
 use Rattle.dcm_files.proofs.devices.open_devices.Goals as goal
 
 pub returns-in-Err : goal.returns-in-Err
@@ -16,9 +16,9 @@ returns-in-Err-open_output g c =
     (search rules)
     c.unopened-in-Err-open_output.ensures refl
 
-pub returns-then-is_same_file : goal.returns-then-is_same_file
-returns-then-is_same_file g c =
-    same c.in-Ok.input c.in-Ok-open_output.output c.open_input.new.system c.open_output.new.system c.close.new.self
+pub returns-in-Some : goal.returns-in-Some
+returns-in-Some g c =
+    clashed c.in-Ok.input c.in-Ok-open_output.output c.in-Some.cause c.open_input.new.system c.open_output.new.system c.close.new.self
     (subst (λ r. OpensInput g.S.System.may_do c.args.input.now c.args.system.now r c.open_input.new.system) c.in-Ok.is c.open_input.ensures)
     (subst (λ r. OpensOutput g.S.System.may_do c.args.output.now c.open_input.new.system r c.open_output.new.system) c.in-Ok-open_output.is c.open_output.ensures)
     (search rules) (search rules) (search rules) refl

@@ -1,0 +1,97 @@
+// The texts that the program shows of itself. docs, the manual page and the completions name the same options:
+// scripts/check_texts.py compares them.
+
+/// The version, and the edition of the dictionary.
+pub const VERSION: &str = "dcmtools 0.2.0, with the data dictionary of DICOM PS3.6 2022a\n";
+
+/// How the program is used.
+pub const PROGRAM: &str = "\
+dcmtools: look into DICOM files, convert their transfer syntax, build them from text, and edit them
+
+  dcmtools dcmdump [OPTION].. FILE           show a file as text
+  dcmtools dcmconv [OPTION].. FILE OUTPUT    write a file in a transfer syntax
+  dcmtools dump2dcm [OPTION].. LINES OUTPUT  build a file from the lines of a dump
+  dcmtools dcmodify EDIT.. FILE OUTPUT       write a file with edits
+  dcmtools help [TOOL]                       show this text, or that of a tool
+  dcmtools version                           show the version and the edition of the dictionary
+
+dcmtools TOOL --help shows the options of a tool. FILE, LINES and OUTPUT may be -, which is standard
+input or standard output. Of options that conflict the last one wins.
+
+Exit status:
+  0  done
+  1  the command line is refused, and no file was opened
+  2  the input is at fault, at the byte that is named; what comes before it was written
+  3  an edit found no place; all else was done and written
+  4  a file could not be opened, read or written
+  5  out of memory
+
+The manual: man dcmtools, and docs/PROFILE.md
+";
+
+/// How dcmdump is used.
+pub const DUMP: &str = "\
+dcmtools dcmdump [OPTION].. FILE: show a DICOM file as text, an element on a line
+
+  -L     cut displays of more than 66 bytes (default)
+  +L     show displays whole
+  +fo    the input is a file with a meta group (default)
+  -f     the input is a data set alone, in one of the next three syntaxes
+  -ti    with -f: implicit VR little endian
+  -te    with -f: explicit VR little endian
+  -tb    with -f: explicit VR big endian
+  -dict  read with the extract of 90 elements (default)
+  +dict  read with the whole data dictionary of PS3.6
+
+Exit status: 0 done, 1 words refused, 2 input at fault, 4 file not opened, read or written,
+5 out of memory. The manual: man dcmtools, and docs/PROFILE.md
+";
+
+/// How dcmconv is used.
+pub const CONVERT: &str = "\
+dcmtools dcmconv [OPTION].. FILE OUTPUT: write a DICOM file in a transfer syntax
+
+  +t=    keep the transfer syntax (default)
+  +ti    write implicit VR little endian
+  +te    write explicit VR little endian
+  +tb    write explicit VR big endian
+  -e     write undefined lengths (always so)
+  +fo    the input is a file with a meta group (always so)
+  -dict  read with the extract of 90 elements (default)
+  +dict  read with the whole data dictionary of PS3.6
+
+Exit status: 0 done, 1 words refused, 2 input at fault, 4 file not opened, read or written,
+5 out of memory. The manual: man dcmtools, and docs/PROFILE.md
+";
+
+/// How dump2dcm is used.
+pub const BUILD: &str = "\
+dcmtools dump2dcm [OPTION].. LINES OUTPUT: build a DICOM file from the lines of dcmdump +L
+
+  +l N   a line has at most N bytes, 80 to 16384 (default 4096)
+  -e     write undefined lengths (always so)
+
+Exit status: 0 done, 1 words refused, 2 input at fault, 4 file not opened, read or written,
+5 out of memory. The manual: man dcmtools, and docs/PROFILE.md
+";
+
+/// How dcmodify is used.
+pub const MODIFY: &str = "\
+dcmtools dcmodify EDIT.. FILE OUTPUT: write a DICOM file with edits
+
+  -i PATH=VALUE  replace an element, or put it where it is missing
+  -m PATH=VALUE  replace an element that is there
+  -e PATH        erase an element or an item
+  -ma TAG=VALUE  replace each element of a tag, at all depths
+  -ea TAG        erase each element of a tag, at all depths
+  -ep            erase each element of an odd group, at all depths
+  -dict          name elements of the extract of 90 (default)
+  +dict          name elements of the whole data dictionary of PS3.6, and read with it
+
+A TAG is a keyword or (gggg,eeee). A PATH is a TAG, after steps such as ContentSequence[0]. or
+ContentSequence[*]. into items.
+
+Exit status: 0 done, 1 words refused, 2 input at fault, 3 an edit found no place and all else was
+done, 4 file not opened, read or written, 5 out of memory. The manual: man dcmtools, and
+docs/PROFILE.md
+";
