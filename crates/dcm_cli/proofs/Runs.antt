@@ -7,5 +7,6 @@ pub mod NoEdits
 pub mod OneAnswer
 pub mod Stopping
 pub mod InMemory
+pub mod Texts
 pub mod Obeying
 pub mod ObeyingMemory

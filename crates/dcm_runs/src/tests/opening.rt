@@ -7,6 +7,7 @@ use super::{bytes_in, holds, memory_out, split};
 use dcm_base::{Device, DeviceIn, DeviceOut, ReadFailed, WriteFailed};
 use dcm_cli::obey;
 use dcm_files::{FileKind, Opened, OutputFile, System, Target};
+use std::alloc::AllocError;
 use std::cell::Cell;
 use std::io;
 use std::io::{ErrorKind, Write};
@@ -100,8 +101,8 @@ impl<'a> System for Answers<'a> {
 
     ghost may_do = { anything };
 
-    fn words(&mut self) -> io::Result<Vec<String>> {
-        Err(io::Error::from(ErrorKind::Unsupported))
+    fn words(&mut self) -> Result<Vec<Vec<u8>>, AllocError> {
+        Err(AllocError)
     }
 
     fn stdin(&mut self) -> Opened<Counted<'a>> {
@@ -169,12 +170,26 @@ const NO_INPUT: &[u8] = b"dcmtools: input cannot be opened\n";
 
 const NO_OUTPUT: &[u8] = b"dcmtools: output cannot be opened\n";
 
+const SAME: &[u8] = b"dcmtools: output is the input\n";
+
+const READ: &[u8] = b"dcmtools: reading failed after 0 bytes\n";
+
 const NO_MEMORY: &[u8] = b"dcmtools: out of memory\n";
 
 const FILE: Answer = Answer::Opens(FileKind::Regular {
     device: 1,
     number: 2,
+    size: 3,
 });
+
+/// A regular file, by its device and number, with so many bytes.
+fn regular(device: u64, number: u64, size: u64) -> Answer {
+    Answer::Opens(FileKind::Regular {
+        device,
+        number,
+        size,
+    })
+}
 
 const PIPE: Answer = Answer::Opens(FileKind::Other);
 
@@ -216,13 +231,46 @@ fn refused_devices(rt: HostRuntime) -> Result<(), Fail> {
     let directory = Answer::Opens(FileKind::Directory);
     let left = obeyed(rt, "dcmdump a", directory, PIPE)?;
     expect_left(&rt, &left, 4, NO_INPUT, false);
-    let left = obeyed(rt, "dcmconv a b", FILE, FILE)?;
-    expect_left(&rt, &left, 4, NO_OUTPUT, false);
     let left = obeyed(rt, "dcmcopy a b", FILE, PIPE)?;
     let line = b"dcmtools: V1 at word 1: unknown tool\n";
     expect_left(&rt, &left, 1, line, false);
     let left = obeyed(rt, "dcmconv a b", FILE, PIPE)?;
-    let line = b"dcmtools: reading failed after 0 bytes\n";
+    expect_left(&rt, &left, 4, READ, true);
+    Ok(())
+}
+
+/// Words, kinds of the input and of the output, and the line where they are not used together. With calls on the devices the
+/// first one fails.
+fn clashes() -> [(&'static str, Answer, Answer, &'static [u8]); 8] {
+    let unknown = Answer::Opens(FileKind::Unknown);
+    [
+        ("dcmconv a b", FILE, FILE, SAME),
+        ("dcmconv a -", FILE, FILE, SAME),
+        ("dcmdump a", FILE, FILE, SAME),
+        ("dcmconv a b", FILE, regular(1, 3, 3), READ),
+        ("dcmconv a b", FILE, regular(2, 2, 3), READ),
+        ("dcmconv a b", unknown, FILE, NO_OUTPUT),
+        ("dcmconv a b", unknown, regular(1, 2, 0), READ),
+        ("dcmconv a b", FILE, unknown, READ),
+    ]
+}
+
+#[test]
+fn devices_that_are_one_file(rt: HostRuntime) -> Result<(), Fail> {
+    for (words, input, output, line) in clashes() {
+        let left = obeyed(rt, words, input, output)?;
+        expect_left(&rt, &left, 4, line, line == READ);
+    }
+    Ok(())
+}
+
+#[test]
+fn texts_that_fail(rt: HostRuntime) -> Result<(), Fail> {
+    let denied = Answer::Fails(ErrorKind::PermissionDenied);
+    let left = obeyed(rt, "help", FILE, denied)?;
+    expect_left(&rt, &left, 4, NO_OUTPUT, false);
+    let left = obeyed(rt, "dcmdump --version", FILE, PIPE)?;
+    let line = b"dcmtools: output failed\n";
     expect_left(&rt, &left, 4, line, true);
     Ok(())
 }

@@ -15,4 +15,4 @@ pub returns-clause-starts : goal.returns-clause-starts
 returns-clause-starts g c =
     no_views (map (λ w. w.items) c.in-Ok.words.items)
     (subst (λ r. g.S.System.may_do.words c.args.system.now (words_given r) c.words.new.self) c.in-Ok.is c.words.ensures)
-    (record { line = c.tell.ensures.line; status_is = c.tell.ensures.status })
+    (record { line = c.tell-in-Err.ensures.line; status_is = c.tell-in-Err.ensures.status })
