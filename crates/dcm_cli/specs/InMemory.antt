@@ -1,11 +1,12 @@
 -- What a run over memory leaves, where there is room for the answer.
-use Rattle.std.specs.Prelude.{◌≡◌, ◌≢◌, ◌≤◌, ◌⊎◌, ℕ, List, ◌++◌, length, true, false, Option, Some, Ok, Err}
+use Rattle.std.specs.Prelude.{◌≡◌, ◌≢◌, ◌≤◌, ◌⊎◌, ℕ, List, ◌++◌, length, true, false, Option, Some, None, Ok, Err}
 use Rattle.std.specs.Str.{IsUtf8}
 use Rattle.dcm_files.specs.Devices.{standard}
 use Rattle.dcm_files.specs.declared.memory.MemSystem.{MemSystem}
 use Rattle.dcm_devices.specs.Memory.{written, room_of}
 use Rattle.dcm_devices.specs.declared.memory.MemOut.{MemOut}
 use Rattle.dcm_words.specs.declared.usage.Usage.{Usage}
+use Rattle.dcm_words.specs.Topics.{asked}
 use Rattle.dcm_words.specs.Words.{Job, Plan, meant}
 use Rattle.dcm_words.specs.Plans.{takes_memory}
 use Rattle.dcm_cli.specs.Answer.{Answer, Answers}
@@ -32,7 +33,7 @@ pub record LeavesFile (a : Answer) (room : MemOut) (written : Option MemOut) (er
 -- edits, and nothing was written
 abbrev pub ObeysInMemory : (words : List (List ℕ)) → MemSystem → (errors : MemOut) → (written : Option MemOut) → (new_errors : MemOut) → (status : ℕ) → Type 0
 ObeysInMemory words s errors written new_errors status =
-    (p : Plan) → meant words ≡ Ok p → p.input ≡ s.input_name.now → p.output ≡ s.output_name.now → IsUtf8 p.input → IsUtf8 p.output → p.input ≢ standard → p.output ≢ standard
+    (p : Plan) → asked words ≡ None → meant words ≡ Ok p → p.input ≡ s.input_name.now → p.output ≡ s.output_name.now → IsUtf8 p.input → IsUtf8 p.output → p.input ≢ standard → p.output ≢ standard
     → (room : MemOut) → s.room ≡ Some room → room.failed ≡ false → (a : Answer) → Answers p.job s.input.now a → length a.output ≤ room_of room
     → LeavesFile a room written errors new_errors status ⊎ ((takes_memory words ≡ true) × (status ≡ 5) × (written ≡ s.written))
 
@@ -44,4 +45,4 @@ pub record LeavesRefusal (u : Usage) (s : MemSystem) (errors : MemOut) (written_
 
 abbrev pub RefusesInMemory : (words : List (List ℕ)) → MemSystem → (errors : MemOut) → (written : Option MemOut) → (new_errors : MemOut) → (status : ℕ) → Type 0
 RefusesInMemory words s errors written_file new_errors status =
-    (u : Usage) → meant words ≡ Err u → LeavesRefusal u s errors written_file new_errors status ⊎ ((takes_memory words ≡ true) × (status ≡ 5) × (written_file ≡ s.written))
+    (u : Usage) → asked words ≡ None → meant words ≡ Err u → LeavesRefusal u s errors written_file new_errors status ⊎ ((takes_memory words ≡ true) × (status ≡ 5) × (written_file ≡ s.written))

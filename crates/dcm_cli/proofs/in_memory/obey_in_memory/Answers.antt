@@ -11,11 +11,11 @@ use Rattle.dcm_cli.proofs.Runs.ObeyingMemory.{obeys_over, obeys_refused}
 use Rattle.dcm_cli.proofs.in_memory.obey_in_memory.Goals as goal
 
 pub returns-clause-worked : goal.returns-clause-worked
-returns-clause-worked c = λ p meant_is input_is output_is input_text output_text no_stdin no_stdout room room_is fine a answers enough.
+returns-clause-worked c = λ p no_text meant_is input_is output_is input_text output_text no_stdin no_stdout room room_is fine a answers enough.
     let status = c.obey-status.result in
     let old_errors : c.new-errors.result.out ≡ c.args.errors = ap (λ (m : Measured). m.out) c.new-errors.ensures ∙ c.new.ensures in
     let new_errors : c.obey-status.new.errors.out ≡ c.into_inner.result = sym (c.into_inner.ensures ∙ ap (λ (m : Measured). m.out) c.into_device.ensures) in
-    elim (obeys_over _ (map (λ w. w.now) c.args.words.now) _ c.args.system c.obey-status.new.system status p meant_is input_is output_is input_text output_text no_stdin no_stdout room room_is c.obey-status.ensures.obeys) [
+    elim (obeys_over _ (map (λ w. w.now) c.args.words.now) _ c.args.system c.obey-status.new.system status p no_text meant_is input_is output_is input_text output_text no_stdin no_stdout room room_is c.obey-status.ensures.obeys) [
       | inl x ↦ inl (record {
           file = x.output.out;
           written_is = c.into_written.ensures ∙ x.written;
@@ -31,10 +31,10 @@ returns-clause-worked c = λ p meant_is input_is output_is input_text output_tex
     ]
 
 pub returns-clause-refused : goal.returns-clause-refused
-returns-clause-refused c = λ u meant_is.
+returns-clause-refused c = λ u no_text meant_is.
     let old_errors : c.new-errors.result.out ≡ c.args.errors = ap (λ (m : Measured). m.out) c.new-errors.ensures ∙ c.new.ensures in
     let new_errors : c.obey-status.new.errors.out ≡ c.into_inner.result = sym (c.into_inner.ensures ∙ ap (λ (m : Measured). m.out) c.into_device.ensures) in
-    elim (obeys_refused _ (map (λ w. w.now) c.args.words.now) _ c.args.system c.obey-status.new.system c.obey-status.result u meant_is c.obey-status.ensures.obeys) [
+    elim (obeys_refused _ (map (λ w. w.now) c.args.words.now) _ c.args.system c.obey-status.new.system c.obey-status.result u no_text meant_is c.obey-status.ensures.obeys) [
       | inl x ↦ inl (record {
           line = subst (λ (m : MemOut). length (usage_line u) ≤ room_of m → written c.into_inner.result ≡ written m ++ usage_line u) old_errors
               (subst (λ (m : MemOut). length (usage_line u) ≤ room_of c.new-errors.result.out → written m ≡ written c.new-errors.result.out ++ usage_line u) new_errors
