@@ -110,7 +110,8 @@ TREE = {
 COPIED = {name: file for name, file in TREE.items() if name != b"DICOMDIR"}
 FAILING = [name for name, file in TREE.items() if file.fails]
 
-FILES = {b"scan.dcm": (SCAN, 0o600), b"plan.dcm": (PLAN, 0o600), b"set.bin": (SET, 0o600)}
+FILES = {b"scan.dcm": (SCAN, 0o640), b"plan.dcm": (PLAN, 0o640), b"set.bin": (SET, 0o640)}
+CUT = {name: (content[:-4], mode) for name, (content, mode) in FILES.items()}  # within the head of the last element, or its value
 
 # ssh to another machine that has a large file
 SSH = "#!/bin/sh\n[ \"$*\" = 'archive cat /store/large.dcm' ] && exec cat scan.dcm\n"
@@ -230,7 +231,7 @@ def table(run):
 
 
 def in_place(run):
-    return holds(run, {b"scan.dcm": (answer(run, ["dcmconv", "+dict", "+te"], SCAN), 0o600)})
+    return holds(run, {b"scan.dcm": (answer(run, ["dcmconv", "+dict", "+te"], SCAN), 0o640)})
 
 
 def made(run, folder, names, words):
@@ -245,7 +246,7 @@ def converted_tree(run):
 
 
 def converted_plan(run):
-    wrong = holds(run, {b"plan.dcm": (answer(run, ["dcmconv", "+dict", "+te"], PLAN), 0o600)})
+    wrong = holds(run, {b"plan.dcm": (answer(run, ["dcmconv", "+dict", "+te"], PLAN), 0o640)})
     return wrong + ([] if b"(300a,0010) SQ (Sequence" in run.printed else [f"printed {run.printed!r}"])
 
 
@@ -255,7 +256,7 @@ def opaque_values(run):
 
 def corrected_plan(run):
     words = ["dcmodify", "+dict", "-m", "DoseReferenceSequence[0].DoseReferenceNumber=2", "-i", "RTPlanLabel=Boost"]
-    return holds(run, {b"plan.dcm": (answer(run, words, PLAN), 0o600)})
+    return holds(run, {b"plan.dcm": (answer(run, words, PLAN), 0o640)})
 
 
 def corrected_names(run):
@@ -265,7 +266,7 @@ def corrected_names(run):
 
 
 def latin_name(run):
-    return holds(run, {b"scan.dcm": (scan(b"M\xfcller^J\xf6rg"), 0o600)})
+    return holds(run, {b"scan.dcm": (scan(b"M\xfcller^J\xf6rg"), 0o640)})
 
 
 CLEAN = ["dcmodify", "+dict", "-ma", "PatientName=ANON", "-ma", "PatientID=0", "-ea", "PatientBirthDate", "-ea", "OtherPatientNames", "-ep"]
@@ -281,11 +282,11 @@ def cleaned(run):
 def as_text(run):
     there = run.files.get(b"scan.txt", (b"", 0))[0]
     wrong = [] if b"(0010,0010) PN [Doe^Jane] " in there else [f"scan.txt is {there!r}"]
-    return wrong + holds(run, {b"scan.txt": (None, 0o600), b"edited.dcm": (scan(b"Doe^Jane"), 0o600)})
+    return wrong + holds(run, {b"scan.txt": (None, 0o600), b"edited.dcm": (scan(b"Doe^Jane"), 0o640)})
 
 
 def built(run):
-    return holds(run, {b"built.dcm": (SCAN, 0o600)})
+    return holds(run, {b"built.dcm": (SCAN, 0o640)})
 
 
 def from_elsewhere(run):
@@ -297,13 +298,12 @@ def which_syntax(run):
 
 
 def set_made_whole(run):
-    return holds(run, {b"set.dcm": (file_of(IMPLICIT, SET), 0o600)})
+    return holds(run, {b"set.dcm": (file_of(IMPLICIT, SET), 0o640)})
 
 
 class Block(NamedTuple):
     begins: str  # how the block's last command, or the line that is its own, begins
     check: Callable[[Run], list]
-    cut: dict = {}  # files that are cut in a run of its own, in which nothing may be changed
 
 
 BLOCKS = [
@@ -356,7 +356,7 @@ def run_block(binary, text, start, locale, change=None):
 def cut_files(work):
     for name in FILES:
         with open(os.path.join(work, name), "r+b") as file:
-            file.truncate(len(FILES[name][0]) - 1)
+            file.truncate(len(CUT[name][0]))
 
 
 def old_folders(work):
@@ -368,8 +368,7 @@ def old_folders(work):
 
 def keeps_cut_files(run):
     """A block whose input is cut leaves it as it was, and makes no file of it but a text."""
-    cut = {name: (content[:-1], mode) for name, (content, mode) in FILES.items()}
-    return [wrong for wrong in holds(run, cut) if not re.match(r"b'(in/.*|table.txt|failed.txt|scan.txt|(out|fixed|clean)/.*)'", wrong)]
+    return [wrong for wrong in holds(run, CUT) if not re.match(r"b'(in/.*|table.txt|failed.txt|scan.txt|(out|fixed|clean)/.*)'", wrong)]
 
 
 def keeps_older_files(run):
