@@ -253,6 +253,12 @@ FILES = [
     Case("an older OUTPUT keeps its mode", "dcmconv FILE out", WRITTEN, "640\n", before="umask 022; echo older > out; chmod 640 out", after="stat -c %a out; rm out"),
     Case("a limit of file size ends the program without a line", "dcmconv FILE out 2> out2", FILE_LIMIT, "4096\n0\n", 153, before="ulimit -f 4; exec 2> /dev/null", after="stat -c %s out out2; rm out out2"),
     Case("the same where the signal is ignored", "dcmconv FILE out", FILE_LIMIT, "4096\n", 4, "output failed", before="ulimit -f 4; trap '' XFSZ", after="stat -c %s out; rm out"),
+    Case(
+        "a large input takes no more memory",
+        'version > /dev/null; cat FILE <(head -c 200000000 /dev/zero) | (ulimit -v 8000; "$0" dcmconv - -) | wc -c',
+        file_of(LITTLE, head(PIXELS, "OB", 200_000_000)),
+        f"{AT_SET + 12 + 200_000_000}\n",
+    ),
     Case("a stack of 400 KB is enough", "dcmconv FILE -", FILE_LIMIT, FILE_LIMIT, before="ulimit -s 400"),
     Case("a stack of 400 KB is enough for a dump", "dcmdump FILE", WRITTEN, shown(LITTLE, NAME_LINE), before="ulimit -s 400"),
     Case("a stack of 400 KB is enough for lines", "dump2dcm FILE -", SYNTAX_LINE, file_of(LITTLE, b""), before="ulimit -s 400"),
