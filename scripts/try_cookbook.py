@@ -1,9 +1,10 @@
 #!/usr/bin/env python3
-"""Runs every block of docs/COOKBOOK.md that is marked `sh`, each on a tree with the traps of real media.
+"""Runs every block of docs/COOKBOOK.md that is marked `sh`, each on a tree with the traps of real media, and the commands of README.
 
 Each block is run by bash as it is, once more after `set -o pipefail`, and once in a UTF-8 locale. After it no file that was there
 may be lost or changed, in content or mode, unless the block says so; no new file may be missing, be of another mode, or be left over;
-each file that fails has to be named; and where names are taken out, none is left in the bytes.
+each file that fails has to be named; and where names are taken out, none is left in the bytes. Of README's table each command has to
+end with status 0.
 
     scripts/try_cookbook.py [BINARY]
 
@@ -386,6 +387,29 @@ def failures(binary, text, block):
     yield "folders that are there", run, keeps_older_files(run)
 
 
+def readme_commands():
+    """The commands of README's table, those of one row together."""
+    with open(os.path.join(ROOT, "README.md"), encoding="utf-8") as file:
+        rows = [line.replace("\\|", "|") for line in file if line.startswith("|") and "`dcmtools" in line]
+    return ["\n".join(re.findall(r"`(dcmtools [^`]*)`", row)) for row in rows]
+
+
+def wrong_commands(binary):
+    """The commands of README that do not end with status 0, on a file that has all the elements that they name."""
+    content = scan(b"AB^CD", b"7", PRIVATE + leaf(0x00181151, "IS", b"5"))
+    images = leaf(0x00081140, "SQ", item(leaf(0x00081155, "UI", b"1.2\0")))
+    content = content.replace(MODALITY, MODALITY + images)
+    for command in readme_commands():
+        with tempfile.TemporaryDirectory() as folder:
+            os.symlink(binary, os.path.join(folder, "dcmtools"))
+            with open(os.path.join(folder, "FILE"), "wb") as file:
+                file.write(content)
+            environment = os.environ | {"PATH": f"{folder}:{os.environ['PATH']}"}
+            done = subprocess.run(["bash", "-e", "-o", "pipefail", "-c", command], cwd=folder, env=environment, capture_output=True, timeout=60, check=False)
+            if done.returncode or done.stderr:
+                yield f"{command}: status {done.returncode}, {done.stderr!r}"
+
+
 def main():
     binary = os.path.abspath(sys.argv[1] if len(sys.argv) > 1 else os.path.join(ROOT, "crates/dcmtools/out/dcmtools"))
     texts = blocks_of(PAGE)
@@ -401,7 +425,10 @@ def main():
                 wrong += 1
                 print(f"{known[0].begins.strip()} .. ({mode}):", *faults, sep="\n  ")
                 print("  printed:", *run.printed.decode("utf-8", "backslashreplace").splitlines()[:20], sep="\n    ")
-    print(f"{len(texts)} blocks of {len(BLOCKS)}, {wrong} runs wrong")
+    for command in wrong_commands(binary):
+        wrong += 1
+        print(command)
+    print(f"{len(texts)} blocks of {len(BLOCKS)}, {len(readme_commands())} commands of README, {wrong} runs wrong")
     return 1 if wrong or len(texts) != len(BLOCKS) else 0
 
 
