@@ -1,8 +1,9 @@
 #!/usr/bin/env python3
 """Tries the claims of docs/PROFILE.md, in its order, on a built dcmtools.
 
-What PROFILE says of words, paths, streams and files is tried by try_program.py; of devices that fail, of pieces and of 64 and
-65 open sequences by the tests of dcm_runs; of R15 by those of dcm_parts, and of want of memory by hand (docs/PROVED.md).
+What PROFILE says of words, paths, streams and files is tried by try_program.py, too; of devices that fail, of pieces and of 64 and
+65 open sequences by the tests of dcm_runs; of R15 by those of dcm_parts, and of want of memory by try_memory.py. Of two runs into one
+OUTPUT, of overlay file systems, and of DCMTK's tools nothing is tried here.
 
     scripts/try_profile.py [BINARY]
 
@@ -133,6 +134,16 @@ class Case(NamedTuple):
     output: bytes | str = b""
     status: int = 0
     line: str = ""
+    before: str = ":"  # what the shell does before, and after, in the same folder
+    after: str = ":"
+
+
+class Shows(NamedTuple):
+    """Words that show a text, and what has to be in it."""
+
+    claim: str
+    words: str
+    parts: list
 
 
 def fault(claim, words, content, number, at, text, output=b""):
@@ -180,8 +191,15 @@ WORDS = [
     refused("a syntax without -f", "dcmdump -te FILE", "V5: options do not go together"),
     refused("-f -ti +fo", "dcmdump -f -ti +fo FILE", "V5: options do not go together"),
     refused("-- is not known", "dcmdump -- FILE", "V2 at word 2: unknown option"),
-    refused("there is no --help", "dcmdump --help", "V2 at word 2: unknown option"),
-    refused("there is no --version", "dcmconv --version", "V2 at word 2: unknown option"),
+    refused("--help is the only word after a tool's name", "dcmdump --help FILE", "V2 at word 2: unknown option"),
+    refused("--version is the only word after a tool's name", "dcmconv FILE out --version", "V2 at word 4: unknown option"),
+    refused("help of no tool", "foo help", "V1 at word 1: unknown tool"),
+    refused("no words", "", "V1 at word 1: unknown tool"),
+    Case("a file that is named help", "dcmdump -f -te ./help; rm help", AB, set_header("LittleEndianExplicit") + NAME_LINE, before="mv FILE help; cp help FILE"),
+    Case("a value that is not UTF-8", "dcmodify -m $'PatientName=M\\374ller' FILE -", file_of(LITTLE, AB), file_of(LITTLE, leaf(NAME, "PN", b"M\xfcller"))),
+    Case("a file whose name is not UTF-8", "dcmdump $'gr\\366sse'", AB, b"", 4, "input cannot be opened", before="cp FILE $'gr\\366sse'", after="rm $'gr\\366sse'"),
+    Case("an output whose name is not UTF-8", "dcmconv FILE $'gr\\366sse'", file_of(LITTLE, AB), b"", 4, "output cannot be opened"),
+    Case("it is read as standard input", "dcmdump - < $'gr\\366sse'", file_of(LITTLE, AB), shown(LITTLE, NAME_LINE), before="cp FILE $'gr\\366sse'", after="rm $'gr\\366sse'"),
     refused("a path that begins with -", "dcmdump -name", "V2 at word 2: unknown option"),
     refused("the word after +l is its number", "dump2dcm +l FILE FILE out", "V3 at word 2: bad option value"),
     refused("a limit that is too high", "dump2dcm +l 16385 FILE out", "V3 at word 2: bad option value"),
@@ -195,6 +213,56 @@ WORDS = [
     refused("dcmodify: +dict is before the paths", "dcmodify FILE out +dict", "V4: wrong number of paths"),
     refused("dcmodify: +dict has no number", "dcmodify +dict -e Rows +dict -x FILE out", "U1 in edit 2: bad option or path"),
     refused("dcmodify: +dict after -e is a keyword", "dcmodify -e +dict FILE out", "U2 in edit 1: unknown tag"),
+]
+
+
+SYNTAX_LINE = b"(0002,0010) UI =LittleEndianExplicit\n"
+
+
+def same_file(claim, words, content=None, **more):
+    return Case(claim, words, content or file_of(LITTLE, AB), b"", 4, "output is the input", **more)
+
+
+LARGE = file_of(IMPLICIT, leaf(PIXELS, "", bytes(600_000), IMPLICIT))
+
+# `ulimit` is there so that a program that reads what it writes does not fill the disk
+SAME_FILE = [
+    same_file("another path", "dcmconv FILE ./FILE"),
+    same_file("a link", "dcmodify -ep FILE link", before="ln -s FILE link", after="rm link"),
+    same_file("a hard link", "dcmconv FILE link", before="ln FILE link", after="rm link"),
+    same_file("lines", "dump2dcm FILE ./FILE", SYNTAX_LINE),
+    same_file("standard input", "dcmconv - FILE < FILE"),
+    same_file("standard input by another name", "dcmconv /dev/stdin FILE < FILE"),
+    same_file("standard output of dcmconv", "dcmconv FILE - >> FILE", before="ulimit -f 4000"),
+    same_file("standard output of dcmconv, over the input", "dcmconv FILE - 1<> FILE", before="ulimit -f 4000"),
+    same_file("standard output of dcmdump", "dcmdump FILE >> FILE", before="ulimit -f 4000"),
+    same_file("standard input and output", "dcmdump - < FILE >> FILE", before="ulimit -f 4000"),
+    same_file("standard input and output of dcmodify", "dcmodify -ep - - < FILE >> FILE", before="ulimit -f 4000"),
+    same_file("standard output by its name", "dcmconv FILE /dev/stdout >> FILE", before="ulimit -f 4000"),
+    same_file("a large file that is dumped into itself", "dcmdump +L FILE >> FILE", LARGE, before="ulimit -f 4000"),
+    same_file("a large file that is converted into itself", "dcmconv FILE - >> FILE", LARGE, before="ulimit -f 4000"),
+    Case("one pipe is not one file", "dcmconv - - < FILE | cat", file_of(LITTLE, AB), file_of(LITTLE, AB)),
+    Case("one device is not one file", "dcmconv /dev/null /dev/../dev/null", b"", b"", 2, "R1 at byte 0: input ends too early"),
+]
+
+WRITTEN = file_of(LITTLE, AB)
+FILE_LIMIT = file_of(LITTLE, leaf(PIXELS, "OB", bytes(60_000)))
+
+FILES = [
+    Case("a new OUTPUT has the mode of the umask", "dcmconv FILE out", WRITTEN, "644\n", before="umask 022; chmod 600 FILE", after="stat -c %a out; rm out"),
+    Case("an older OUTPUT keeps its mode", "dcmconv FILE out", WRITTEN, "640\n", before="umask 022; echo older > out; chmod 640 out", after="stat -c %a out; rm out"),
+    Case("a limit of file size ends the program without a line", "dcmconv FILE out 2> out2", FILE_LIMIT, "4096\n0\n", 153, before="ulimit -f 4; exec 2> /dev/null", after="stat -c %s out out2; rm out out2"),
+    Case("the same where the signal is ignored", "dcmconv FILE out", FILE_LIMIT, "4096\n", 4, "output failed", before="ulimit -f 4; trap '' XFSZ", after="stat -c %s out; rm out"),
+    Case(
+        "a large input takes no more memory",
+        'version > /dev/null; cat FILE <(head -c 200000000 /dev/zero) | (ulimit -v 8000; "$0" dcmconv - -) | wc -c',
+        file_of(LITTLE, head(PIXELS, "OB", 200_000_000)),
+        f"{AT_SET + 12 + 200_000_000}\n",
+    ),
+    Case("a stack of 400 KB is enough", "dcmconv FILE -", FILE_LIMIT, FILE_LIMIT, before="ulimit -s 400"),
+    Case("a stack of 400 KB is enough for a dump", "dcmdump FILE", WRITTEN, shown(LITTLE, NAME_LINE), before="ulimit -s 400"),
+    Case("a stack of 400 KB is enough for lines", "dump2dcm FILE -", SYNTAX_LINE, file_of(LITTLE, b""), before="ulimit -s 400"),
+    Case("a stack of 600 KB is enough for edits", "dcmodify -m PatientName=AB FILE -", WRITTEN, WRITTEN, before="ulimit -s 600"),
 ]
 
 TUBE = 0x00181151
@@ -485,7 +553,6 @@ WRITING = [
     fault("an encapsulated syntax cannot be changed", "dcmconv +te FILE -", file_of(JPEG, AB), "R14", len(file_of(JPEG, b"")), "encapsulated syntax cannot be changed"),
 ]
 
-SYNTAX_LINE = b"(0002,0010) UI =LittleEndianExplicit\n"
 AT_LINE = len(SYNTAX_LINE)
 BUILD = "dump2dcm FILE -"
 
@@ -506,6 +573,7 @@ NO_SYNTAX = "no usable transfer syntax"
 
 BUILDING = [
     builds("the last line may lack its newline, and one carriage return is dropped", b"(0010,0010) PN [AB]\r", AB),
+    builds("a line that is cut may build a wrong value", b"(0028,0010) US 51", leaf(ROWS, "US", b"\x33\0")),
     builds("comments and spaces are skipped", b"   \n# (0010,0010) PN [A]\n  (0010,0010)  PN  [AB]  # what\n\n", AB),
     builds("digits of either case", b"(7Fe0,0010) OB Ff\\d8\n", leaf(PIXELS, "OB", b"\xff\xd8")),
     builds("escapes, and a pad byte", b"(0010,0010) PN [a%5db%0A]\n", leaf(NAME, "PN", b"a]b\n")),
@@ -610,7 +678,49 @@ EDITING = [
     bad_edit("U6: -ma and a path", "-ma PatientID=7 -e 'ContentSequence[0].PatientID'", "U6 in edit 2: edits overlap"),
     bad_edit("U2 of a tag is before U4", "-e 'PatientID[0].Nothing'", "U2 in edit 1: unknown tag"),
     bad_edit("U6 is reported last", "-e PatientID -e PatientID -x", "U1 in edit 3: bad option or path"),
+    lost("-ep where nothing is private", "-ep", AB, AB, 1),
 ]
+
+HIDDEN = leaf(NAME, "", b"AB", IMPLICIT) + sequence(DOSES, item(leaf(NAME, "", b"Hidden", IMPLICIT), IMPLICIT), IMPLICIT)
+
+
+def names_left(claim, words, count, status=0):
+    """How many names a dump with the whole dictionary shows in the end."""
+    return Case(claim, f"{words} | \"$0\" dcmdump +dict - | grep -c PatientName", file_of(IMPLICIT, HIDDEN), f"{count}\n", int(count == 0))
+
+
+PRIVACY = [
+    names_left("without +dict an edit leaves a name in a sequence", "dcmodify -ea PatientName FILE -", 1),
+    names_left("with +dict it does not", "dcmodify +dict -ea PatientName FILE -", 0),
+    names_left("the name is in a conversion with +dict", "dcmconv +dict +te FILE -", 2),
+    names_left("after a conversion with +dict it is erased", 'dcmconv +dict +te FILE - | "$0" dcmodify -ea PatientName - -', 0),
+    Case(
+        "a conversion without +dict hides it for good",
+        'dcmconv +te FILE - | "$0" dcmodify +dict -ea PatientName - - | grep -a -c Hidden',
+        file_of(IMPLICIT, HIDDEN),
+        "1\n",
+    ),
+    converts(
+        "offsets in a DICOMDIR are copied, and what they point to moves",
+        CONVERT,
+        LITTLE,
+        LITTLE,
+        leaf(0x00041200, "UL", struct.pack("<I", AT_SET + 42)) + sequence(0x00041220, item(AB) + item(AB)),
+        leaf(0x00041200, "UL", struct.pack("<I", AT_SET + 42)) + open_sequence(0x00041220, open_item(AB) + open_item(AB)),
+    ),
+]
+
+TOOLS = ["dcmdump", "dcmconv", "dump2dcm", "dcmodify"]
+OPTIONS = [
+    ["-L", "+L", "+fo", "-f", "-ti", "-te", "-tb", "-dict", "+dict"],
+    ["+t=", "+ti", "+te", "+tb", "-e", "+fo", "-dict", "+dict"],
+    ["+l", "-e"],
+    ["-i", "-m", "-e", "-ma", "-ea", "-ep", "-dict", "+dict"],
+]
+
+TEXTS = [Shows(f"{word} of the program", word, TOOLS) for word in ("help", "--help")]
+TEXTS += [Shows(f"{word} of {tool}", f"{tool} {word}", [tool, *options]) for tool, options in zip(TOOLS, OPTIONS) for word in ("help", "--help")]
+TEXTS += [Shows(f"{word} {tool}", f"{tool} {word}", ["0.1.0", "2022a"]) for tool in ("", *TOOLS) for word in ("version", "--version")]
 
 SEQUENCE_OF_20 = head(IMAGES, "SQ", 20)
 OPENED = line(IMAGES, "SQ", "(Sequence with explicit length)", 20, 1, "ReferencedImageSequence")
@@ -640,7 +750,7 @@ FAULTS = [
     fault("R10: an item passes its sequence", DUMP, file_of(LITTLE, SEQUENCE_OF_20 + item(bytes(13))), "R10", AT_SET + 12, "passes the end of its container", shown(LITTLE, OPENED)),
     fault(
         "R11",
-        "dcmdump FILE | tail -n 1 | cut -c 1-10; exit ${PIPESTATUS[0]}",
+        "dcmdump FILE | tail -n 1 | cut -c 1-10; (exit ${PIPESTATUS[0]})",
         file_of(LITTLE, (head(IMAGES, "SQ", UNDEFINED) + head(0xFFFEE000, "", UNDEFINED)) * 64 + head(IMAGES, "SQ", UNDEFINED)),
         "R11",
         AT_SET + 64 * 20,
@@ -663,7 +773,7 @@ def wrong_case(binary, case):
     with tempfile.TemporaryDirectory() as folder:
         with open(os.path.join(folder, "FILE"), "wb") as file:
             file.write(case.input)
-        words = ["bash", "-c", f'"$0" {case.words}', binary]
+        words = ["bash", "-c", f'{case.before}\n"$0" {case.words}\nstatus=$?\n{case.after}\nexit $status', binary]
         done = subprocess.run(words, cwd=folder, capture_output=True, timeout=60, check=False)
         told = f"dcmtools: {case.line}\n".encode() if case.line else b""
         if (done.returncode, done.stderr) != (case.status, told):
@@ -672,13 +782,23 @@ def wrong_case(binary, case):
             return f"wrote {done.stdout!r}\n  and not {bytes_of(case.output)!r}"
         if os.listdir(folder) != ["FILE"]:
             return f"left {os.listdir(folder)}"
-        return ""
+        with open(os.path.join(folder, "FILE"), "rb") as file:
+            return "" if file.read() == case.input else "changed FILE"
+
+
+def wrong_text(binary, shows):
+    done = subprocess.run([binary, *shows.words.split()], capture_output=True, timeout=60, check=False)
+    lacks = [part for part in shows.parts if part.encode() not in done.stdout]
+    if (done.returncode, done.stderr) != (0, b"") or lacks:
+        return f"status {done.returncode}, {done.stderr!r}, lacks {lacks}"
+    return ""
 
 
 def main():
     binary = os.path.abspath(sys.argv[1] if len(sys.argv) > 1 else os.path.join(ROOT, "crates/dcmtools/out/dcmtools"))
-    cases = WORDS + READING + DICTIONARIES + SHOWING + WRITING + BUILDING + EDITING + FAULTS
+    cases = WORDS + SAME_FILE + READING + DICTIONARIES + SHOWING + WRITING + FILES + BUILDING + EDITING + PRIVACY + FAULTS
     answers = [(case.claim, wrong_case(binary, case)) for case in cases]
+    answers += [(shows.claim, wrong_text(binary, shows)) for shows in TEXTS]
     for claim, wrong in answers:
         if wrong:
             print(f"{claim}: {wrong}")

@@ -1,0 +1,436 @@
+#!/usr/bin/env python3
+"""Runs every block of docs/COOKBOOK.md that is marked `sh`, each on a tree with the traps of real media, and the commands of README.
+
+Each block is run by bash as it is, once more after `set -o pipefail`, and once in a UTF-8 locale. After it no file that was there
+may be lost or changed, in content or mode, unless the block says so; no new file may be missing, be of another mode, or be left over;
+each file that fails has to be named; and where names are taken out, none is left in the bytes. Of README's table each command has to
+end with status 0.
+
+    scripts/try_cookbook.py [BINARY]
+
+BINARY is crates/dcmtools/out/dcmtools if it is not given. Exits with 0 if each block does what the page says.
+"""
+import os
+import re
+import stat
+import struct
+import subprocess
+import sys
+import tempfile
+from typing import Callable, NamedTuple
+
+ROOT = os.path.dirname(os.path.dirname(os.path.abspath(__file__)))
+PAGE = os.path.join(ROOT, "docs", "COOKBOOK.md")
+
+IMPLICIT = b"1.2.840.10008.1.2\0"
+LITTLE = b"1.2.840.10008.1.2.1\0"
+JPEG = b"1.2.840.10008.1.2.4.50"
+
+NAMES = [b"Meier", b"Huber", b"M\xfcller", b"Hidden"]
+
+
+# ---- the bytes of files
+
+
+def leaf(tag, vr, value, explicit=True):
+    value += b" " * (len(value) % 2)
+    tag = struct.pack("<HH", tag >> 16, tag & 0xFFFF)
+    if not explicit:
+        return tag + struct.pack("<I", len(value)) + value
+    if vr in ("SQ", "UN", "OB"):
+        return tag + vr.encode() + struct.pack("<HI", 0, len(value)) + value
+    return tag + vr.encode() + struct.pack("<H", len(value)) + value
+
+
+def item(content):
+    return b"\xfe\xff\0\xe0" + struct.pack("<I", len(content)) + content
+
+
+def file_of(syntax, data_set):
+    group = leaf(0x00020010, "UI", syntax)
+    return bytes(128) + b"DICM" + leaf(0x00020000, "UL", struct.pack("<I", len(group))) + group + data_set
+
+
+MODALITY = leaf(0x00080060, "CS", b"CT")
+NAME, ID, BIRTH_DATE, DOSES, DOSE = 0x00100010, 0x00100020, 0x00100030, 0x300A0010, 0x300A0012
+
+
+def scan(name, number=b"7", after=b""):
+    return file_of(LITTLE, MODALITY + leaf(NAME, "PN", name) + leaf(ID, "LO", number) + after)
+
+
+def plan(name):
+    """In implicit VR, with a name in a sequence of known length that the extract lacks."""
+    inside = leaf(NAME, "", name, False) + leaf(DOSE, "", b"1", False)
+    return file_of(IMPLICIT, leaf(0x00080060, "", b"RTPLAN", False) + leaf(NAME, "", name, False) + leaf(ID, "", b"9", False)
+                   + leaf(DOSES, "", item(inside), False))
+
+
+OPAQUE = leaf(DOSES, "UN", item(leaf(NAME, "", b"Hidden", False)))
+PRIVATE = leaf(0x00110010, "LO", b"MAKER") + leaf(0x00111001, "UN", item(leaf(NAME, "", b"Hidden", False)))
+# a dump of this is larger than what a pipe holds
+LARGE = leaf(0x00400275, "SQ", item(leaf(0x00080104, "LO", b"a meaning")) * 1000)
+
+SCAN = scan(b"AB^CD")
+PLAN = file_of(IMPLICIT, leaf(0x00080060, "", b"RTPLAN", False) + leaf(DOSES, "", item(leaf(DOSE, "", b"1", False)), False))
+SET = leaf(NAME, "", b"Meier^Anna", False) + leaf(ID, "", b"7", False)
+
+
+class Input(NamedTuple):
+    content: bytes
+    mode: int = 0o644
+    fails: bool = False  # it is no file that can be read
+    converts: bool = True
+    named: bool = True  # it has a PatientName in its outermost data set
+    cleans: bool = True
+    opaque: bool = False  # it has opaque values by `+dict`
+
+
+TREE = {
+    b"seriesA/IM000001.dcm": Input(scan(b"Meier^Anna"), 0o600),
+    b"seriesB/IM000001.dcm": Input(scan(b"Huber^Otto", b"8")),
+    b"media/IM_0001": Input(scan(b"Meier^Max", b"12")),
+    b"media/IM_0001.part": Input(scan(b"Meier^Moritz", b"13"), 0o640),
+    b"latin.dcm": Input(file_of(LITTLE, leaf(0x00080005, "CS", b"ISO_IR 100") + MODALITY + leaf(NAME, "PN", b"M\xfcller^J\xf6rg") + leaf(ID, "LO", b"\xfc1"))),
+    b"gr\xf6sse.dcm": Input(scan(b"Huber^Eva", b"15"), 0o600),
+    b"two words 'and' \"quotes\" $HOME\nand a newline": Input(scan(b"Huber^Ida", b"16")),
+    b"-ends in a newline\n/-te": Input(scan(b"Huber^Udo", b"17")),
+    b"plan.dcm": Input(plan(b"Meier^Anna"), 0o600),
+    b"large.dcm": Input(scan(b"Meier^Anna", b"18", LARGE)),
+    b"large and opaque.dcm": Input(scan(b"Meier^Anna", b"19", LARGE + OPAQUE), cleans=False, opaque=True),
+    b"opaque": Input(scan(b"Meier^Anna", b"20", OPAQUE), cleans=False, opaque=True),
+    b"private.dcm": Input(file_of(LITTLE, MODALITY + leaf(NAME, "PN", b"Meier") + leaf(ID, "LO", b"21") + PRIVATE), opaque=True),
+    b"nameless.dcm": Input(file_of(LITTLE, MODALITY), named=False),
+    b"jpeg.dcm": Input(file_of(JPEG, MODALITY + leaf(NAME, "PN", b"Huber") + leaf(ID, "LO", b"22")), converts=False),
+    b"cut.dcm": Input(scan(b"Meier^Anna", b"23")[:-1], fails=True),
+    b"cut in a name.dcm": Input(scan(b"Meier^Anna")[:-16], fails=True),
+    b"notes": Input(b"no DICOM file", fails=True),
+    b"video.dcm": Input(bytes(1000), fails=True),
+    b"DICOMDIR": Input(scan(b"Meier^Anna", b"24")),
+}
+COPIED = {name: file for name, file in TREE.items() if name != b"DICOMDIR"}
+FAILING = [name for name, file in TREE.items() if file.fails]
+
+FILES = {b"scan.dcm": (SCAN, 0o640), b"plan.dcm": (PLAN, 0o640), b"set.bin": (SET, 0o640)}
+CUT = {name: (content[:-4], mode) for name, (content, mode) in FILES.items()}  # within the head of the last element, or its value
+
+# ssh to another machine that has a large file
+SSH = "#!/bin/sh\n[ \"$*\" = 'archive cat /store/large.dcm' ] && exec cat scan.dcm\n"
+
+
+# ---- what a run leaves
+
+
+class Run(NamedTuple):
+    binary: str
+    environment: dict
+    work: bytes
+    printed: bytes
+    files: dict  # each file that is there after it, with its content and mode
+
+
+def files_in(folder):
+    found = {}
+    for path, _, names in os.walk(folder):
+        for name in names:
+            full = os.path.join(path, name)
+            with open(full, "rb") as file:
+                found[os.path.relpath(full, folder)] = (file.read(), stat.S_IMODE(os.stat(full).st_mode))
+    return found
+
+
+def before():
+    there = {b"in/" + name: (file.content, file.mode) for name, file in TREE.items()}
+    return there | FILES
+
+
+def prepare(folder):
+    for name, (content, mode) in before().items():
+        path = os.path.join(folder, name)
+        os.makedirs(os.path.dirname(path), exist_ok=True)
+        with open(path, "wb") as file:
+            file.write(content)
+        os.chmod(path, mode)
+
+
+def answer(run, words, content):
+    """What the program itself writes for this input."""
+    return subprocess.run([run.binary, *words, "-", "-"], input=content, stdout=subprocess.PIPE, stderr=subprocess.DEVNULL, timeout=60, check=False).stdout
+
+
+def quoted(run, path):
+    """A path as the shell quotes it."""
+    done = subprocess.run(["bash", "-c", 'printf %q "$1"', "_", path], stdout=subprocess.PIPE, env=run.environment, timeout=60, check=True)
+    return done.stdout
+
+
+def lines_of(run, name, printed):
+    """The lines that begin with this file of the tree."""
+    start = quoted(run, b"in/" + name)
+    return [line[len(start):] for line in printed.split(b"\n") if line.startswith((start + b":", start + b"\t"))]
+
+
+def names_all(run, names, printed):
+    """Which files of the tree are named wrongly: too few, too many, or not once."""
+    return [f"{name!r} is named {count} times" for name in TREE if (count := len(lines_of(run, name, printed))) != int(name in names)]
+
+
+def holds(run, expected):
+    """What is wrong with the files that are there: those from before, with `expected` over them."""
+    there = before() | expected
+    wrong = [f"{path!r} is missing" for path in there if path not in run.files]
+    wrong += [f"{path!r} is left over" for path in run.files if path not in there]
+    for path, (content, mode) in there.items():
+        if path in run.files and content is not None and run.files[path][0] != content:
+            wrong.append(f"{path!r} has other bytes: {run.files[path][0][-60:]!r} and not {content[-60:]!r}")
+        if path in run.files and run.files[path][1] != mode:
+            wrong.append(f"{path!r} has mode {run.files[path][1]:o} and not {mode:o}")
+    return wrong
+
+
+# ---- what each block has to do
+
+
+def one_element(run):
+    lines = [line for line in run.printed.split(b"\n") if line]
+    return holds(run, {}) + ([] if len(lines) == 2 and all(b"[AB^CD]" in line for line in lines) else [f"printed {run.printed!r}"])
+
+
+def element_of_many(run):
+    wrong = holds(run, {}) + names_all(run, list(TREE), run.printed)
+    for name, file in TREE.items():
+        line = b"".join(lines_of(run, name, run.printed))
+        if file.fails != (b": status 2: " in line and b"dcmtools: R" in run.printed) or file.fails == line.startswith(b": status 0"):
+            wrong.append(f"{name!r} has {line!r}")
+        if not file.fails and file.named != (b"(0010,0010) PN [" in line):
+            wrong.append(f"{name!r} has {line!r}")
+    return wrong
+
+
+TABLE_ROWS = {
+    b"seriesA/IM000001.dcm": b"\t7\tCT",
+    b"seriesB/IM000001.dcm": b"\t8\tCT",
+    b"latin.dcm": b"\t\xfc1\tCT",
+    b"plan.dcm": b"\t9\tRTPLAN",
+    b"large.dcm": b"\t18\tCT",
+    b"nameless.dcm": b"\t\tCT",
+    b"notes": b"\tstatus 2: dcmtools: R1 at byte 13: input ends too early",
+    b"video.dcm": b"\tstatus 2: dcmtools: R2 at byte 128: no DICM prefix",
+}
+
+
+def table(run):
+    text = run.files.get(b"table.txt", (b"", 0))[0]
+    wrong = holds(run, {b"table.txt": (None, 0o644)}) + names_all(run, list(TREE), text)
+    for name in TREE:
+        rows = lines_of(run, name, text)
+        if name in TABLE_ROWS and rows != [TABLE_ROWS[name]]:
+            wrong.append(f"{name!r} has {rows!r}")
+        if TREE[name].fails != any(row.startswith(b"\tstatus 2: dcmtools: R") for row in rows):
+            wrong.append(f"{name!r} has {rows!r}")
+    return wrong
+
+
+def in_place(run):
+    return holds(run, {b"scan.dcm": (answer(run, ["dcmconv", "+dict", "+te"], SCAN), 0o640)})
+
+
+def made(run, folder, names, words):
+    return {folder + b"/" + name: (answer(run, words, TREE[name].content), TREE[name].mode) for name in names}
+
+
+def converted_tree(run):
+    good = [name for name, file in COPIED.items() if not file.fails and file.converts]
+    text = run.files.get(b"failed.txt", (b"", 0))[0]
+    expected = made(run, b"out", good, ["dcmconv", "+dict", "+te"]) | {b"failed.txt": (None, 0o644)}
+    return holds(run, expected) + names_all(run, [name for name in COPIED if name not in good], text)
+
+
+def converted_plan(run):
+    wrong = holds(run, {b"plan.dcm": (answer(run, ["dcmconv", "+dict", "+te"], PLAN), 0o640)})
+    return wrong + ([] if b"(300a,0010) SQ (Sequence" in run.printed else [f"printed {run.printed!r}"])
+
+
+def opaque_values(run):
+    return holds(run, {}) + names_all(run, [name for name, file in TREE.items() if file.fails or file.opaque], run.printed)
+
+
+def corrected_plan(run):
+    words = ["dcmodify", "+dict", "-m", "DoseReferenceSequence[0].DoseReferenceNumber=2", "-i", "RTPlanLabel=Boost"]
+    return holds(run, {b"plan.dcm": (answer(run, words, PLAN), 0o640)})
+
+
+def corrected_names(run):
+    good = [name for name, file in COPIED.items() if not file.fails and file.named]
+    expected = made(run, b"fixed", good, ["dcmodify", "+dict", "-m", "PatientName=Doe^Jane"])
+    return holds(run, expected) + names_all(run, [name for name in COPIED if name not in good], run.printed)
+
+
+def latin_name(run):
+    return holds(run, {b"scan.dcm": (scan(b"M\xfcller^J\xf6rg"), 0o640)})
+
+
+CLEAN = ["dcmodify", "+dict", "-ma", "PatientName=ANON", "-ma", "PatientID=0", "-ea", "PatientBirthDate", "-ea", "OtherPatientNames", "-ep"]
+
+
+def cleaned(run):
+    good = [name for name, file in COPIED.items() if not file.fails and file.cleans]
+    wrong = holds(run, made(run, b"clean", good, CLEAN))
+    wrong += [f"{path!r} holds {name!r}" for path, (content, _) in run.files.items() for name in NAMES if path.startswith(b"clean/") and name in content]
+    return wrong + names_all(run, [name for name in COPIED if name not in good or not TREE[name].named], run.printed)
+
+
+def as_text(run):
+    there = run.files.get(b"scan.txt", (b"", 0))[0]
+    wrong = [] if b"(0010,0010) PN [Doe^Jane] " in there else [f"scan.txt is {there!r}"]
+    return wrong + holds(run, {b"scan.txt": (None, 0o600), b"edited.dcm": (scan(b"Doe^Jane"), 0o640)})
+
+
+def built(run):
+    return holds(run, {b"built.dcm": (SCAN, 0o640)})
+
+
+def from_elsewhere(run):
+    return holds(run, {b"large.dcm": (SCAN, 0o600)})
+
+
+def which_syntax(run):
+    return holds(run, {}) + ([] if run.printed == b"is read with -f -ti\n" else [f"printed {run.printed!r}"])
+
+
+def set_made_whole(run):
+    return holds(run, {b"set.dcm": (file_of(IMPLICIT, SET), 0o640)})
+
+
+class Block(NamedTuple):
+    begins: str  # how the block's last command, or the line that is its own, begins
+    check: Callable[[Run], list]
+
+
+BLOCKS = [
+    Block("dcmtools dcmdump +dict scan.dcm |", one_element),
+    Block("    found=$(dcmtools dcmdump - <", element_of_many),
+    Block("value() {", table),
+    Block("    dcmtools dcmconv +dict +te scan.dcm", in_place),
+    Block("convert() {", converted_tree),
+    Block("    dcmtools dcmconv +dict +te plan.dcm", converted_plan),
+    Block("    found=$(dcmtools dcmdump +dict - <", opaque_values),
+    Block("    dcmtools dcmodify +dict -m 'DoseReferenceSequence", corrected_plan),
+    Block("mkdir fixed", corrected_names),
+    Block("name=$(printf", latin_name),
+    Block("mkdir clean", cleaned),
+    Block("    umask 077", as_text),
+    Block("    part=$(mktemp scan.XXXXXX) && dcmtools dcmdump +L scan.dcm |", built),
+    Block("    part=$(mktemp large.XXXXXX) && ssh", from_elsewhere),
+    Block("for syntax in", which_syntax),
+    Block("    { head -c 128 /dev/zero;", set_made_whole),
+]
+
+MODES = [("plain", "", "C"), ("pipefail", "set -o pipefail\n", "C"), ("a UTF-8 locale", "", "C.UTF-8")]
+
+
+# ---- the runs
+
+
+def blocks_of(page):
+    with open(page, encoding="utf-8") as file:
+        return re.findall(r"^```sh\n(.*?)^```$", file.read(), re.DOTALL | re.MULTILINE)
+
+
+def run_block(binary, text, start, locale, change=None):
+    with tempfile.TemporaryDirectory() as room:
+        tools, work = os.path.join(room, "tools"), os.fsencode(os.path.join(room, "work"))
+        os.mkdir(tools)
+        os.symlink(binary, os.path.join(tools, "dcmtools"))
+        with open(os.path.join(tools, "ssh"), "w", encoding="ascii") as file:
+            file.write(SSH)
+        os.chmod(file.name, 0o755)
+        prepare(work)
+        if change:
+            change(work)
+        environment = os.environ | {"PATH": f"{tools}:{os.environ['PATH']}", "LC_ALL": locale}
+        os.umask(0o022)
+        done = subprocess.run(["bash", "-c", start + text], cwd=work, env=environment, stdout=subprocess.PIPE, stderr=subprocess.STDOUT, timeout=600, check=False)
+        return Run(binary, environment, work, done.stdout, files_in(work))
+
+
+def cut_files(work):
+    for name in FILES:
+        with open(os.path.join(work, name), "r+b") as file:
+            file.truncate(len(CUT[name][0]))
+
+
+def old_folders(work):
+    for name in (b"out", b"fixed", b"clean"):
+        os.mkdir(os.path.join(work, name))
+        with open(os.path.join(work, name, b"latin.dcm"), "wb") as file:
+            file.write(b"older")
+
+
+def keeps_cut_files(run):
+    """A block whose input is cut leaves it as it was, and makes no file of it but a text."""
+    return [wrong for wrong in holds(run, CUT) if not re.match(r"b'(in/.*|table.txt|failed.txt|scan.txt|(out|fixed|clean)/.*)'", wrong)]
+
+
+def keeps_older_files(run):
+    return [f"{folder!r} was changed" for folder in (b"out/", b"fixed/", b"clean/") for path, (content, _) in run.files.items() if path.startswith(folder) and content != b"older"]
+
+
+def failures(binary, text, block):
+    """The runs of a block that did not end as they should."""
+    for mode, start, locale in MODES:
+        run = run_block(binary, text, start, locale)
+        yield mode, run, block.check(run)
+    run = run_block(binary, text, "", "C", cut_files)
+    yield "files that are cut", run, keeps_cut_files(run)
+    run = run_block(binary, text, "", "C", old_folders)
+    yield "folders that are there", run, keeps_older_files(run)
+
+
+def readme_commands():
+    """The commands of README's table, those of one row together."""
+    with open(os.path.join(ROOT, "README.md"), encoding="utf-8") as file:
+        rows = [line.replace("\\|", "|") for line in file if line.startswith("|") and "`dcmtools" in line]
+    return ["\n".join(re.findall(r"`(dcmtools [^`]*)`", row)) for row in rows]
+
+
+def wrong_commands(binary):
+    """The commands of README that do not end with status 0, on a file that has all the elements that they name."""
+    content = scan(b"AB^CD", b"7", PRIVATE + leaf(0x00181151, "IS", b"5"))
+    images = leaf(0x00081140, "SQ", item(leaf(0x00081155, "UI", b"1.2\0")))
+    content = content.replace(MODALITY, MODALITY + images)
+    for command in readme_commands():
+        with tempfile.TemporaryDirectory() as folder:
+            os.symlink(binary, os.path.join(folder, "dcmtools"))
+            with open(os.path.join(folder, "FILE"), "wb") as file:
+                file.write(content)
+            environment = os.environ | {"PATH": f"{folder}:{os.environ['PATH']}"}
+            done = subprocess.run(["bash", "-e", "-o", "pipefail", "-c", command], cwd=folder, env=environment, capture_output=True, timeout=60, check=False)
+            if done.returncode or done.stderr:
+                yield f"{command}: status {done.returncode}, {done.stderr!r}"
+
+
+def main():
+    binary = os.path.abspath(sys.argv[1] if len(sys.argv) > 1 else os.path.join(ROOT, "crates/dcmtools/out/dcmtools"))
+    texts = blocks_of(PAGE)
+    wrong = 0
+    for text in texts:
+        known = [block for block in BLOCKS if f"\n{block.begins}" in f"\n{text}"]
+        if len(known) != 1:
+            print(f"{len(known)} checks of this block:\n{text}")
+            wrong += 1
+            continue
+        for mode, run, faults in failures(binary, text, known[0]):
+            if faults:
+                wrong += 1
+                print(f"{known[0].begins.strip()} .. ({mode}):", *faults, sep="\n  ")
+                print("  printed:", *run.printed.decode("utf-8", "backslashreplace").splitlines()[:20], sep="\n    ")
+    for command in wrong_commands(binary):
+        wrong += 1
+        print(command)
+    print(f"{len(texts)} blocks of {len(BLOCKS)}, {len(readme_commands())} commands of README, {wrong} runs wrong")
+    return 1 if wrong or len(texts) != len(BLOCKS) else 0
+
+
+if __name__ == "__main__":
+    sys.exit(main())
