@@ -3,23 +3,23 @@
 
     scripts/try_faults.py [BINARY] [--only NAME] [--jobs N]
 
-BINARY is crates/dcmtools/out/dcmtools if it is not given. Each run of RUNS (a tool, its files and streams) is traced once without a
-fault. Then each call after the start of the program (what the loader does before it is not ours) fails with each error of ERRORS, once
-and with all later calls of its name; and from each place on all growth of memory is refused. --only takes the runs whose names begin
-so. Needs strace (apt-get install strace) and setarch. Exits with 0 if nothing is wrong. What has to hold:
+BINARY is crates/dcmtools/out/dcmtools if it is not given. Each run of RUNS (a tool, its files and streams) is traced once without
+a fault. Then each call after the start of the program (what the loader does before it is not ours) fails with each error of ERRORS,
+once and with all later calls of its name; and from each place on all growth of memory is refused. --only takes the runs whose names
+begin so. Needs strace (apt-get install strace) and setarch. Exits with 0 if nothing is wrong. What has to hold:
 
 - The status is 0 to 5, there is no signal and no hang, and at most one line of docs/PROFILE.md on standard error, of that status.
 - With the status of the run without a fault, all is as there. Else the status is 4 or 5, OUTPUT is missing, a beginning of what it
   would be, or what it was before, and standard output is a beginning. Nothing is written after a write that failed.
 - FILE is never changed, also where OUTPUT is FILE, and no file gets the number of a standard stream.
 - Closing OUTPUT fails: `output failed`, status 4. An interrupted close may also pass in silence: Linux has closed the file then.
-- A file that was opened, or a standard stream, cannot be asked what it is: `cannot be opened`, status 4, nothing is read or written. An
+- A file that was opened, or a standard stream, cannot be asked what it is: `cannot be opened`, status 4, nothing is written. An
   OUTPUT that cannot be asked for its size before its first byte is `output failed`, and keeps what it holds. A call that the
   system does not have (ENOSYS), or that was interrupted, may be made good by another one.
 - The number of a closed standard stream cannot be reserved: `input cannot be opened`, status 4, and OUTPUT is untouched.
 
-An interrupted call fails once, and may be tried again. A brk that fails answers the break as it is, which is what the kernel does; so
-addresses have to be the same in each run (setarch -R).
+An interrupted call fails once, and may be tried again. A brk that fails answers the break as it is, which is what the kernel does:
+so addresses have to be the same in each run (setarch -R).
 """
 import argparse
 import collections

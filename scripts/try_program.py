@@ -372,19 +372,39 @@ WRITTEN = [
     ("64 edits and a dictionary", "dcmodify +dict" + " -ep" * 64 + " +dict private.dcm out", 0, "", "out", NAME),
 ]
 
-# Whole commands for a shell, in which `$0` is the program: the status, the line, and a path with what has to be there. The limit of a
-# file's size is for a program that goes on for ever.
+# a limit of the size of files, in KB, for a program that goes on for ever, or after some of its output
+LIMITED = "trap '' XFSZ; ulimit -f {}; \"$0\" {}"
+
+# Whole commands for a shell, in which `$0` is the program: the status, the line, and a path with what has to be there.
 COMMANDS = [
-    ("a conversion that reads itself", "trap '' XFSZ; ulimit -f 5000; \"$0\" dcmconv growing.dcm - >> growing.dcm", 4, SAME, "growing.dcm", GROWING),
-    ("a dump that reads itself", "trap '' XFSZ; ulimit -f 5000; \"$0\" dcmdump +L growing.dcm >> growing.dcm", 4, SAME, "growing.dcm", GROWING),
-    ("a dump that reads over itself", "trap '' XFSZ; ulimit -f 5000; \"$0\" dcmdump +L growing.dcm 1<> growing.dcm", 4, SAME, "growing.dcm", GROWING),
-    ("edits that read themselves", "trap '' XFSZ; ulimit -f 5000; \"$0\" dcmodify -ma Rows=1 - - < growing.dcm >> growing.dcm", 4, SAME, "growing.dcm", GROWING),
-    ("a limit of the size", "trap '' XFSZ; ulimit -f 1; \"$0\" dcmconv large.dcm out", 4, "output failed", "out", LARGE[:1024]),
-    ("a limit of the size of standard output", "trap '' XFSZ; ulimit -f 1; \"$0\" dcmconv large.dcm - > out", 4, "output failed", "out", LARGE[:1024]),
-    ("a limit of the size of edits", "trap '' XFSZ; ulimit -f 1; \"$0\" dcmodify -ma Rows=1 large.dcm out", 4, "output failed", "out", LARGE[:1024]),
+    (what, LIMITED.format(5000, words), 4, SAME, "growing.dcm", GROWING)
+    for what, words in [
+        ("a conversion that reads itself", "dcmconv growing.dcm - >> growing.dcm"),
+        ("a conversion that reads over itself", "dcmconv +te - - < growing.dcm 1<> growing.dcm"),
+        ("a dump that reads itself", "dcmdump +L growing.dcm >> growing.dcm"),
+        ("a dump that reads over itself", "dcmdump +L growing.dcm 1<> growing.dcm"),
+        ("edits that read themselves", "dcmodify -ma Rows=1 - - < growing.dcm >> growing.dcm"),
+    ]
+]
+COMMANDS += [
+    (what, LIMITED.format(1, words), 4, "output failed", "out", LARGE[:1024])
+    for what, words in [
+        ("a limit of the size", "dcmconv large.dcm out"),
+        ("a limit of the size of standard output", "dcmconv large.dcm - > out"),
+        ("a limit of the size of edits", "dcmodify -ma Rows=1 large.dcm out"),
+    ]
+]
+COMMANDS += [
     ("a stack of 1 MB", "ulimit -s 1024; \"$0\" dcmodify -m PatientName=Q name.dcm out", 0, "", "out", REPLACED),
     ("the mode of a new file", "umask 027; \"$0\" dcmconv name.dcm out; test $(stat -c %a out) = 640", 0, "", "out", NAME),
-    ("the mode of an older file", "chmod 600 older; \"$0\" dcmconv name.dcm older; test $(stat -c %a older) = 600", 0, "", "older", NAME),
+    (
+        "the mode of an older file",
+        "chmod 600 older; \"$0\" dcmconv name.dcm older; test $(stat -c %a older) = 600",
+        0,
+        "",
+        "older",
+        NAME,
+    ),
 ]
 
 # the same, for root, with a folder in place of /proc
