@@ -18,6 +18,9 @@ import tempfile
 import time
 from pathlib import Path
 
+# nothing but the scripts themselves is left in their folder
+sys.dont_write_bytecode = True
+
 import try_program
 from try_program import BIG, FILES, LINES, NAME, REPLACED
 
