@@ -64,11 +64,14 @@ _dcmtools_replaced() {
     _dcmtools_words "${words[*]}" "$1"
 }
 
+# The words that are answered with usage or the version, alone or as the only word after a tool's name.
+_dcmtools_answered='help version --help --version'
+
 _dcmtools() {
     local current=${COMP_WORDS[COMP_CWORD]} switches
     COMPREPLY=()
     if ((COMP_CWORD == 1)); then
-        _dcmtools_words 'dcmdump dcmconv dump2dcm dcmodify' "$current"
+        _dcmtools_words "dcmdump dcmconv dump2dcm dcmodify $_dcmtools_answered" "$current"
         return
     fi
     case ${COMP_WORDS[1]} in
@@ -88,6 +91,9 @@ _dcmtools() {
         [-+]*) _dcmtools_words "$switches" "$current" ;;
         *) _dcmtools_files "$current" ;;
     esac
+    if ((COMP_CWORD == 2 && ${#COMP_WORDS[@]} == 3)); then
+        _dcmtools_words "$_dcmtools_answered" "$current"
+    fi
 }
 
 complete -F _dcmtools dcmtools

@@ -3,9 +3,11 @@
 
     scripts/try_program.py [BINARY]
 
-BINARY is crates/dcmtools/out/dcmtools if it is not given. Exits with 0 if each case ends as it should.
+BINARY is crates/dcmtools/out/dcmtools if it is not given. As root it also tries a system without /proc. Exits with 0 if each case
+ends as it should.
 """
 import os
+import shlex
 import subprocess
 import sys
 import tempfile
@@ -63,6 +65,15 @@ EXPLICIT_PLAN = (
 )
 
 
+# a file that is larger than what is read at a time, and whose end may be followed by more elements: by a copy of itself, say
+GROWING = IMPLICIT_GROUP + b"\x11\0\1\x10\x20\xa1\7\0" + bytes(500_000)
+
+# a file with a name in Latin-1, the same in UTF-8, and a file that has more bytes than a case allows
+LATIN = GROUP + b"\x10\0\x10\0PN\6\0M\xfcller"
+UTF_8 = GROUP + b"\x10\0\x10\0PN\x08\0M\xc3\xbcller "
+LARGE = NAME + b"\x11\0\x10\0UN\0\0\0\x40\0\0" + bytes(16384)
+
+
 def implicit_plan(number):
     opened = b"\x08\0\x60\0\6\0\0\0RTPLAN\x0a\x30\x10\0\xff\xff\xff\xff" + OPEN_ITEM
     return IMPLICIT_GROUP + opened + b"\x0a\x30\x12\0\2\0\0\0" + number + ENDS
@@ -83,19 +94,55 @@ FILES = {
     "tube.dcm": TUBE,
     "plan.dcm": PLAN,
     "private.dcm": NAME + b"\x11\0\x10\0LO\2\0AB",
+    "growing.dcm": GROWING,
+    "large.dcm": LARGE,
+    "help": NAME,
+    "version": NAME,
+    b"M\xfc.dcm": NAME,
     "empty": b"",
     "cut": NAME[:182],
     "older": b"older" * 100,
 }
 
-# what it is, the words behind the program for a shell, the status, the line on standard error
+# what OUTPUT that is FILE is answered with
+SAME = "output is the input"
+
+# what it is, the words after the program for a shell, the status, the line on standard error
 CASES = [
     ("a file", "dcmdump name.dcm", 0, ""),
     ("standard input", "dcmdump - < name.dcm", 0, ""),
-    ("an option behind the path", "dcmdump name.dcm +L", 0, ""),
+    ("an option after the path", "dcmdump name.dcm +L", 0, ""),
     ("no words", "", 1, "V1 at word 1: unknown tool"),
     ("an unknown tool", "dcmfind name.dcm", 1, "V1 at word 1: unknown tool"),
     ("a word that is no text", "$'\\xff'", 1, "V1 at word 1: unknown tool"),
+    ("an empty word", "''", 1, "V1 at word 1: unknown tool"),
+    ("a short word of usage", "-h", 1, "V1 at word 1: unknown tool"),
+    ("a word of usage in capitals", "HELP", 1, "V1 at word 1: unknown tool"),
+    ("a path after a word of usage", "--help name.dcm", 1, "V1 at word 1: unknown tool"),
+    ("a tool after a word of usage", "help dcmdump", 1, "V1 at word 1: unknown tool"),
+    ("a word of version twice", "--version --version", 1, "V1 at word 1: unknown tool"),
+    ("a word of usage before a path", "dcmdump --help name.dcm", 1, "V2 at word 2: unknown option"),
+    ("a word of version after a path", "dcmdump name.dcm --version", 1, "V2 at word 3: unknown option"),
+    ("two words of usage", "dcmconv --help help", 1, "V2 at word 2: unknown option"),
+    ("a word of usage as a limit", "dump2dcm +l help", 1, "V3 at word 2: bad option value"),
+    ("a word of usage before the paths", "dcmodify --help name.dcm out", 1, "U1 in edit 1: bad option or path"),
+    ("a word of usage as a path", "dcmodify -ep --help", 1, "V4: wrong number of paths"),
+    ("a word of usage as a tag", "dcmodify -e --help name.dcm out", 1, "U2 in edit 1: unknown tag"),
+    ("two files with such names", "dcmdump help version", 1, "V4: wrong number of paths"),
+    ("an option that is no text", "dcmdump $'+\\xfc' name.dcm", 1, "V2 at word 2: unknown option"),
+    ("a limit that is no text", "dump2dcm +l $'80\\xfc' lines out", 1, "V3 at word 2: bad option value"),
+    ("the same path that is no text", "dcmconv $'\\xfc' $'\\xfc'", 1, "V6: input and output are the same path"),
+    ("a path that is no text", "dcmdump $'M\\xfc.dcm'", 4, "input cannot be opened"),
+    ("a missing path that is no text", "dcmdump $'\\xfc'", 4, "input cannot be opened"),
+    ("a path of a modification that is no text", "dcmodify -ep $'M\\xfc.dcm' out", 4, "input cannot be opened"),
+    ("a path of 300 bytes", "dcmdump $(printf %0300d 0)", 4, "input cannot be opened"),
+    ("a path of 6,000 bytes", "dcmdump $(printf %06000d 0)", 4, "input cannot be opened"),
+    ("an output of 300 bytes", "dcmconv name.dcm $(printf %0300d 0)", 4, "output cannot be opened"),
+    ("an output with a slash at its end", "dcmconv name.dcm out/", 4, "output cannot be opened"),
+    ("endless zeros", "dcmdump /dev/zero", 2, "R2 at byte 128: no DICM prefix"),
+    ("an endless line", "dump2dcm /dev/zero -", 2, "B1 at byte 0, line 1: line too long"),
+    ("the null device as both", "dcmconv - - < /dev/null > /dev/null", 2, "R1 at byte 0: input ends too early"),
+    ("the null device by its path", "dcmdump /dev/null > /dev/null", 2, "R1 at byte 0: input ends too early"),
     ("an unknown option", "dcmdump -L +x name.dcm", 1, "V2 at word 3: unknown option"),
     ("no path", "dcmdump", 1, "V4: wrong number of paths"),
     ("two paths", "dcmdump name.dcm name.dcm", 1, "V4: wrong number of paths"),
@@ -113,6 +160,9 @@ CASES = [
     ("an option of the other tool", "dcmconv -ti name.dcm out", 1, "V2 at word 2: unknown option"),
     ("one path of a conversion", "dcmconv name.dcm", 1, "V4: wrong number of paths"),
     ("an empty path", "dcmconv name.dcm ''", 1, "V4: wrong number of paths"),
+    ("a full disk for usage", "--help > /dev/full", 4, "output failed"),
+    ("a full disk for a version", "dcmodify --version > /dev/full", 4, "output failed"),
+    ("a closed standard output of usage", "dcmconv help >&-", 4, "output failed"),
     ("a full disk for a conversion", "dcmconv name.dcm - > /dev/full", 4, "output failed"),
     ("a full disk by its path", "dcmconv name.dcm /dev/full", 4, "output failed"),
     ("an output that is a directory", "dcmconv name.dcm .", 4, "output cannot be opened"),
@@ -139,7 +189,8 @@ CASES = [
     ("the meta group", "dcmodify -e TransferSyntaxUID name.dcm out", 1, "U5 in edit 1: group 0002 cannot be edited"),
     ("edits that overlap", "dcmodify -m PatientID=7 -e PatientID name.dcm out", 1, "U6 in edit 2: edits overlap"),
     ("65 edits", "dcmodify" + " -ep" * 65 + " name.dcm out", 1, "U7 in edit 65: too many edits"),
-    ("an edit that is no text", "dcmodify -m $'PatientName=\\xfc' name.dcm out", 1, "V1 at word 1: unknown tool"),
+    ("a keyword that is no text", "dcmodify -m $'Rows\\xfc=1' name.dcm out", 1, "U2 in edit 1: unknown tag"),
+    ("an edit that is no text", "dcmodify -ep $'\\xfc' name.dcm out", 1, "U1 in edit 2: bad option or path"),
     ("a full disk for a modification", "dcmodify -ep name.dcm - > /dev/full", 4, "output failed"),
     ("a directory that is modified", "dcmodify -ep . -", 4, "input cannot be opened"),
     ("a full disk for the line of an edit", "dcmodify -ep name.dcm out 2> /dev/full", 3, ""),
@@ -158,12 +209,12 @@ CASES = [
     ("an index of a number of the standard", "dcmodify +dict -e 'XRayTubeCurrent[0]' name.dcm out", 1, "U4 in edit 1: sequence misused"),
 ]
 
-# the same, and a path with what is to stand there afterwards, or nothing where there is to be no file
+# the same, and a path with what has to be there afterwards, or nothing where there has to be no file
 WRITTEN = [
     ("a conversion", "dcmconv +tb name.dcm out", 0, "", "out", BIG),
     ("a conversion of standard streams", "dcmconv +tb - - < name.dcm > out", 0, "", "out", BIG),
     ("a conversion to a pipe", "dcmconv +tb name.dcm - | cat > out", 0, "", "out", BIG),
-    ("options behind the paths", "dcmconv name.dcm out +tb -e +fo", 0, "", "out", BIG),
+    ("options after the paths", "dcmconv name.dcm out +tb -e +fo", 0, "", "out", BIG),
     ("a conversion to its own syntax", "dcmconv name.dcm out", 0, "", "out", NAME),
     ("the last of two options", "dcmconv +tb +t= name.dcm out", 0, "", "out", NAME),
     ("an older output", "dcmconv name.dcm older", 0, "", "older", NAME),
@@ -241,11 +292,48 @@ WRITTEN = [
         "name.dcm",
         NAME,
     ),
-    ("another path of the same file", "dcmconv name.dcm ./name.dcm", 4, "output cannot be opened", "name.dcm", NAME),
-    ("a hard link", "dcmconv name.dcm linked", 4, "output cannot be opened", "name.dcm", NAME),
-    ("a symbolic link", "dcmodify -ep name.dcm symbolic", 4, "output cannot be opened", "name.dcm", NAME),
-    ("standard input that is the output", "dcmconv - name.dcm < name.dcm", 4, "output cannot be opened", "name.dcm", NAME),
-    ("lines that are the output", "dump2dcm lines ./lines", 4, "output cannot be opened", "lines", LINES),
+    ("another path of the same file", "dcmconv name.dcm ./name.dcm", 4, SAME, "name.dcm", NAME),
+    ("a hard link", "dcmconv name.dcm linked", 4, SAME, "name.dcm", NAME),
+    ("a symbolic link", "dcmodify -ep name.dcm symbolic", 4, SAME, "name.dcm", NAME),
+    ("standard input that is the output", "dcmconv - name.dcm < name.dcm", 4, SAME, "name.dcm", NAME),
+    ("lines that are the output", "dump2dcm lines ./lines", 4, SAME, "lines", LINES),
+    ("another folder of the same file", "dcmconv name.dcm /proc/self/cwd/name.dcm", 4, SAME, "name.dcm", NAME),
+    ("a symbolic link that is read", "dcmconv symbolic name.dcm", 4, SAME, "name.dcm", NAME),
+    ("an empty file that is the output", "dcmconv empty ./empty", 4, SAME, "empty", b""),
+    ("standard input by its path", "dcmconv /dev/stdin name.dcm < name.dcm", 4, SAME, "name.dcm", NAME),
+    ("standard input of a hard link", "dcmconv - name.dcm < linked", 4, SAME, "name.dcm", NAME),
+    ("an open file that is the output", "dcmconv name.dcm /dev/fd/3 3>> name.dcm", 4, SAME, "name.dcm", NAME),
+    ("standard output by its path that is the input", "dcmconv name.dcm /dev/stdout >> name.dcm", 4, SAME, "name.dcm", NAME),
+    ("a dump at the end of its input", "dcmdump name.dcm >> name.dcm", 4, SAME, "name.dcm", NAME),
+    ("a dump at the end of a hard link", "dcmdump name.dcm >> linked", 4, SAME, "name.dcm", NAME),
+    ("a dump at the end of standard input", "dcmdump - < name.dcm >> name.dcm", 4, SAME, "name.dcm", NAME),
+    ("a dump over its input", "dcmdump name.dcm 1<> name.dcm", 4, SAME, "name.dcm", NAME),
+    ("a dump over what the shell has emptied", "dcmdump name.dcm > name.dcm", 4, SAME, "name.dcm", b""),
+    ("a dump of one stream for both", "dcmdump - <> name.dcm 1>&0", 4, SAME, "name.dcm", NAME),
+    ("a conversion at the end of its input", "dcmconv name.dcm - >> name.dcm", 4, SAME, "name.dcm", NAME),
+    ("a conversion over its input", "dcmconv name.dcm - 1<> name.dcm", 4, SAME, "name.dcm", NAME),
+    ("a conversion at the end of standard input", "dcmconv - - < name.dcm >> name.dcm", 4, SAME, "name.dcm", NAME),
+    ("a conversion over standard input by its path", "dcmconv /dev/stdin - < name.dcm 1<> linked", 4, SAME, "name.dcm", NAME),
+    ("a modification at the end of its input", "dcmodify -ep name.dcm - >> name.dcm", 4, SAME, "name.dcm", NAME),
+    ("lines at the end of themselves", "dump2dcm lines - >> lines", 4, SAME, "lines", LINES),
+    ("the same file, and standard error closed", "dcmconv name.dcm - >> name.dcm 2>&-", 4, "", "name.dcm", NAME),
+    ("the same file, and a missing one", "dcmconv missing - >> name.dcm", 4, "input cannot be opened", "name.dcm", NAME),
+    ("the same file, and refused words", "dcmconv +x name.dcm - >> name.dcm", 1, "V2 at word 2: unknown option", "name.dcm", NAME),
+    ("the output as a standard input that is not read", "dcmconv name.dcm older < older", 0, "", "older", NAME),
+    ("the input as a standard output that is not written", "dcmconv name.dcm out >> name.dcm", 0, "", "out", NAME),
+    ("the end of another file", "dcmconv +tb name.dcm - >> empty", 0, "", "empty", BIG),
+    ("a link to no file", "dcmconv name.dcm leading", 0, "", "out", NAME),
+    ("a link to itself", "dcmconv name.dcm circle", 4, "output cannot be opened", "out", None),
+    ("a path of an output that is no text", "dcmconv name.dcm $'\\xfc'", 4, "output cannot be opened", "name.dcm", NAME),
+    ("standard input whose path is no text", "dcmconv +tb - out < $'M\\xfc.dcm'", 0, "", "out", BIG),
+    ("an edit that is no text", "dcmodify -m $'PatientName=M\\xfcller' name.dcm out", 0, "", "out", LATIN),
+    ("an edit in UTF-8", "dcmodify -m $'PatientName=M\\xc3\\xbcller' name.dcm out", 0, "", "out", UTF_8),
+    ("a new element that is no text", "dcmodify -i $'PatientID=\\xfc' name.dcm out", 0, "", "out", NAME + b"\x10\0\x20\0LO\2\0\xfc "),
+    ("files with the names of words", "dcmconv help out +tb", 0, "", "out", BIG),
+    ("an output with the name of a word", "dcmconv +tb help version", 0, "", "version", BIG),
+    ("a path of a file with such a name", "dcmconv +tb ./help out", 0, "", "out", BIG),
+    ("edits to a file with such a name", "dcmodify help version", 0, "", "version", NAME),
+    ("a last line without its end", "dump2dcm <(printf %s '(0002,0010) UI =LittleEndianExplicit') out", 0, "", "out", GROUP),
     (
         "an encapsulated file beside an older output",
         "dcmconv +te jpeg.dcm older",
@@ -284,8 +372,63 @@ WRITTEN = [
     ("64 edits and a dictionary", "dcmodify +dict" + " -ep" * 64 + " +dict private.dcm out", 0, "", "out", NAME),
 ]
 
+# a limit of the size of files, in KB, for a program that goes on for ever, or after some of its output
+LIMITED = "trap '' XFSZ; ulimit -f {}; \"$0\" {}"
+
+# Whole commands for a shell, in which `$0` is the program: the status, the line, and a path with what has to be there.
+COMMANDS = [
+    (what, LIMITED.format(5000, words), 4, SAME, "growing.dcm", GROWING)
+    for what, words in [
+        ("a conversion that reads itself", "dcmconv growing.dcm - >> growing.dcm"),
+        ("a conversion that reads over itself", "dcmconv +te - - < growing.dcm 1<> growing.dcm"),
+        ("a dump that reads itself", "dcmdump +L growing.dcm >> growing.dcm"),
+        ("a dump that reads over itself", "dcmdump +L growing.dcm 1<> growing.dcm"),
+        ("edits that read themselves", "dcmodify -ma Rows=1 - - < growing.dcm >> growing.dcm"),
+    ]
+]
+COMMANDS += [
+    (what, LIMITED.format(1, words), 4, "output failed", "out", LARGE[:1024])
+    for what, words in [
+        ("a limit of the size", "dcmconv large.dcm out"),
+        ("a limit of the size of standard output", "dcmconv large.dcm - > out"),
+        ("a limit of the size of edits", "dcmodify -ma Rows=1 large.dcm out"),
+    ]
+]
+COMMANDS += [
+    ("a stack of 1 MB", "ulimit -s 1024; \"$0\" dcmodify -m PatientName=Q name.dcm out", 0, "", "out", REPLACED),
+    ("the mode of a new file", "umask 027; \"$0\" dcmconv name.dcm out; test $(stat -c %a out) = 640", 0, "", "out", NAME),
+    (
+        "the mode of an older file",
+        "chmod 600 older; \"$0\" dcmconv name.dcm older; test $(stat -c %a older) = 600",
+        0,
+        "",
+        "older",
+        NAME,
+    ),
+]
+
+# the same, for root, with a folder in place of /proc
+WITHOUT_PROC = [
+    ("standard input", "\"$0\" dcmconv - name.dcm < name.dcm", 4, SAME, "name.dcm", NAME),
+    ("standard output", "\"$0\" dcmconv growing.dcm - >> growing.dcm", 4, SAME, "growing.dcm", GROWING),
+    ("both", "\"$0\" dcmdump - < name.dcm >> name.dcm", 4, SAME, "name.dcm", NAME),
+    ("a link", "\"$0\" dcmconv name.dcm linked", 4, SAME, "name.dcm", NAME),
+    ("another file", "\"$0\" dcmconv +tb - out < name.dcm", 0, "", "out", BIG),
+    ("another stream", "\"$0\" dcmconv +tb - - < name.dcm > out", 0, "", "out", BIG),
+    ("closed streams", "\"$0\" dcmconv +tb name.dcm out <&- >&- 2>&-", 0, "", "out", BIG),
+]
+
+# words that are answered with usage or a version, and what has to be in the answer
+USAGE, VERSION = ("help", "--help"), ("version", "--version")
+TOOLS = ("dcmdump", "dcmconv", "dump2dcm", "dcmodify")
+ANSWERED = [([word], TOOLS) for word in USAGE]
+ANSWERED += [([tool, word], (tool,)) for tool in TOOLS for word in USAGE]
+ANSWERED += [(words, ("dcmtools", ".")) for word in VERSION for words in ([word], *([tool, word] for tool in TOOLS))]
+
 # words that write to a pipe that nobody reads
 CLOSED_PIPE = [
+    ("a closed pipe of usage", ["--help"]),
+    ("a closed pipe of a version", ["dcmconv", "version"]),
     ("a closed pipe of a dump", ["dcmdump", "name.dcm"]),
     ("a closed pipe", ["dcmconv", "name.dcm", "-"]),
     ("a closed pipe of a modification", ["dcmodify", "name.dcm", "-"]),
@@ -294,10 +437,12 @@ CLOSED_PIPE = [
 
 def prepare(folder):
     for path, content in FILES.items():
-        with open(os.path.join(folder, path), "wb") as file:
+        with open(os.path.join(os.fsencode(folder), os.fsencode(path)), "wb") as file:
             file.write(content)
     os.link(os.path.join(folder, "name.dcm"), os.path.join(folder, "linked"))
     os.symlink("name.dcm", os.path.join(folder, "symbolic"))
+    os.symlink("out", os.path.join(folder, "leading"))
+    os.symlink("circle", os.path.join(folder, "circle"))
     os.mkfifo(os.path.join(folder, "queue"))
 
 
@@ -309,15 +454,16 @@ def content_of(path):
 
 
 def ends_well(done, status, line):
-    told = f"dcmtools: {line}\n".encode() if line else b""
-    if done.returncode == status and done.stderr == told:
+    reported = f"dcmtools: {line}\n".encode() if line else b""
+    if done.returncode == status and done.stderr == reported:
         return ""
     return f"status {done.returncode}, {done.stderr!r}"
 
 
-def run_words(binary, folder, words):
+def run_command(binary, folder, command):
+    """The end of a command, or of what stopped it after a while."""
     return subprocess.run(
-        ["bash", "-o", "pipefail", "-c", f'"$0" {words}', binary],
+        ["timeout", "--foreground", "20", "bash", "-o", "pipefail", "-c", command, binary],
         cwd=folder,
         capture_output=True,
         timeout=60,
@@ -325,14 +471,36 @@ def run_words(binary, folder, words):
     )
 
 
-def wrong_case(binary, words, status, line, path=None, content=None):
-    """What is wrong with a case, or nothing."""
+def wrong_command(binary, command, status, line, path=None, content=None):
+    """What is wrong with a command, or nothing."""
     with tempfile.TemporaryDirectory() as folder:
         prepare(folder)
-        wrong = ends_well(run_words(binary, folder, words), status, line)
-        if path and not wrong and content_of(os.path.join(folder, path)) != content:
-            wrong = f"{path} is {content_of(os.path.join(folder, path))!r}"
-        return wrong
+        wrong = ends_well(run_command(binary, folder, command), status, line)
+        found = content_of(os.path.join(folder, path)) if path and not wrong else content
+        if found == content:
+            return wrong
+        return f"{path} is {found and found[:400]!r}, of {found and len(found)} bytes"
+
+
+def wrong_case(binary, words, *rest):
+    """The same of words after the program."""
+    return wrong_command(binary, f'"$0" {words}', *rest)
+
+
+def wrong_without_proc(binary, command, *rest):
+    """The same of a command on a system without /proc."""
+    inner = f"mount -t tmpfs none /proc && {command}"
+    return wrong_command(binary, f"exec unshare -m bash -c {shlex.quote(inner)} \"$0\"", *rest)
+
+
+def wrong_answer(binary, words, parts):
+    """The same of words that are answered on standard output."""
+    with tempfile.TemporaryDirectory() as folder:
+        prepare(folder)
+        done = subprocess.run([binary, *words], cwd=folder, capture_output=True, timeout=60, check=False)
+        missing = [part for part in parts if part.encode() not in done.stdout]
+        whole = done.stdout.endswith(b"\n")
+        return ends_well(done, 0, "") or ("" if whole and not missing else f"the answer is {done.stdout!r}")
 
 
 def wrong_pipe(binary, words):
@@ -348,9 +516,21 @@ def wrong_pipe(binary, words):
         return ends_well(done, 4, "output failed")
 
 
+def answers_without_proc(binary):
+    """The cases of a system without /proc, where this can be tried."""
+    tried = subprocess.run(["unshare", "-m", "mount", "-t", "tmpfs", "none", "/proc"], capture_output=True, check=False)
+    if tried.returncode:
+        print("a system without /proc is not tried: this takes root, and the right to mount")
+        return []
+    return [(f"{what} without /proc", wrong_without_proc(binary, *rest)) for what, *rest in WITHOUT_PROC]
+
+
 def main():
     binary = os.path.abspath(sys.argv[1] if len(sys.argv) > 1 else os.path.join(ROOT, "crates/dcmtools/out/dcmtools"))
     answers = [(what, wrong_case(binary, *rest)) for what, *rest in CASES + WRITTEN]
+    answers += [(what, wrong_command(binary, *rest)) for what, *rest in COMMANDS]
+    answers += answers_without_proc(binary)
+    answers += [(" ".join(words), wrong_answer(binary, words, parts)) for words, parts in ANSWERED]
     answers += [(what, wrong_pipe(binary, words)) for what, words in CLOSED_PIPE]
     for what, wrong in answers:
         if wrong:

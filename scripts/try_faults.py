@@ -1,0 +1,488 @@
+#!/usr/bin/env python3
+"""Lets each system call of the four tools fail in turn, by strace, and looks at what is said and what is left.
+
+    scripts/try_faults.py [BINARY] [--only NAME] [--jobs N]
+
+BINARY is crates/dcmtools/out/dcmtools if it is not given. Each run of RUNS (a tool, its files and streams) is traced once without
+a fault. Then each call after the start of the program (what the loader does before it is not ours) fails with each error of ERRORS,
+once and with all later calls of its name; and from each place on all growth of memory is refused. --only takes the runs whose names
+begin so. Needs strace (apt-get install strace) and setarch. Exits with 0 if nothing is wrong. What has to hold:
+
+- The status is 0 to 5, there is no signal and no hang, and at most one line of docs/PROFILE.md on standard error, of that status.
+- With the status of the run without a fault, all is as there. Else the status is 4 or 5, OUTPUT is missing, a beginning of what it
+  would be, or what it was before, and standard output is a beginning. Nothing is written after a write that failed.
+- FILE is never changed, also where OUTPUT is FILE, and no file gets the number of a standard stream.
+- Closing OUTPUT fails: `output failed`, status 4. An interrupted close may also pass in silence: Linux has closed the file then.
+- A file that was opened, or a standard stream, cannot be asked what it is: `cannot be opened`, status 4, nothing is written. An
+  OUTPUT that cannot be asked for its size before its first byte is `output failed`, and keeps what it holds. A call that the
+  system does not have (ENOSYS), or that was interrupted, may be made good by another one.
+- The number of a closed standard stream cannot be reserved: `input cannot be opened`, status 4, and OUTPUT is untouched.
+
+An interrupted call fails once, and may be tried again. A brk that fails answers the break as it is, which is what the kernel does:
+so addresses have to be the same in each run (setarch -R).
+"""
+import argparse
+import collections
+import os
+import re
+import shutil
+import struct
+import subprocess
+import sys
+import tempfile
+from concurrent.futures import ThreadPoolExecutor
+from pathlib import Path
+from typing import NamedTuple
+
+ROOT = Path(__file__).resolve().parent.parent
+
+ERRORS = {
+    "openat": ["EMFILE", "ENFILE", "ENOMEM", "EACCES", "EINTR", "EIO", "ENOENT", "ELOOP", "ENOSPC", "EROFS", "EISDIR"],
+    "statx": ["EIO", "ENOMEM", "EINTR", "EACCES", "ENOSYS", "EOVERFLOW", "EBADF"],
+    "fstat": ["EIO", "EOVERFLOW", "EBADF"],
+    "newfstatat": ["EIO", "EOVERFLOW", "EBADF"],
+    "read": ["EIO", "EINTR", "EAGAIN", "EISDIR", "ENOMEM", "EBADF"],
+    "write": ["ENOSPC", "EIO", "EINTR", "EPIPE", "EDQUOT", "EFBIG", "EAGAIN", "EBADF", "ENOMEM"],
+    "ftruncate": ["EIO", "EINTR", "EPERM", "EROFS", "EINVAL", "ENOMEM"],
+    "mmap": ["ENOMEM", "EAGAIN"],
+    "mremap": ["ENOMEM"],
+    "close": ["EIO", "ENOSPC", "EDQUOT", "EINTR"],
+    "munmap": ["EINVAL"],
+    "getrandom": ["ENOSYS", "EAGAIN", "EINTR"],
+    "rt_sigaction": ["EINVAL"],
+    "poll": ["ENOMEM"],
+}
+MEMORY = ("brk", "mmap", "mremap")
+STATS = ("statx", "fstat", "newfstatat")
+
+# the lines of each status
+LINES = {
+    1: rb"[VU]\d[ :].*",
+    2: rb"[RB]\d+ at byte \d+(, line \d+)?: [a-zA-Z ]+",
+    3: rb"edit \d+ found no place",
+    4: rb"input cannot be opened|output cannot be opened|output is the input|reading failed after \d+ bytes|output failed",
+    5: rb"out of memory",
+}
+
+# how many problems of a run are shown
+SHOWN = 5
+
+OLDER = b"an older file, which is longer than it seems\n" * 40
+PIXELS = 700 * 1024
+
+
+class Run(NamedTuple):
+    """A run: its words, where {in}, {out} and {link} (to the input) are paths, and how it ends without a fault."""
+
+    name: str
+    words: list
+    data: bytes
+    status: int = 0
+    # what a shell does with the streams, where $in is the input; without it standard input is /dev/null
+    streams: str = ""
+    has_older: bool = False
+
+
+class Call(NamedTuple):
+    """A call of the program: its name, the how manyeth of the process it is, and its line."""
+
+    name: str
+    number: int
+    line: str
+
+
+class Fault(NamedTuple):
+    """What strace injects, the call that it hits first, and the error."""
+
+    injected: list
+    call: Call
+    error: str
+
+
+class Ended(NamedTuple):
+    """How a run ended: the status, the streams, what the input and OUTPUT hold, and the lines of strace."""
+
+    status: object
+    stdout: bytes
+    stderr: bytes
+    input: bytes
+    output: object
+    lines: list
+
+
+# The files that are read.
+
+
+def element(tag, vr, value):
+    value += (b"\0" if vr == b"UI" else b" ") * (len(value) % 2)
+    is_long = vr in (b"OW", b"SQ", b"UN")
+    length = struct.pack("<HI", 0, len(value)) if is_long else struct.pack("<H", len(value))
+    return struct.pack("<HH", tag >> 16, tag & 0xFFFF) + vr + length + value
+
+
+def dicom(pixels):
+    """A file with a sequence, a private element, and this many bytes of pixels."""
+    group = element(0x00020003, b"UI", b"1.2.3.4") + element(0x00020010, b"UI", b"1.2.840.10008.1.2.1")
+    item = element(0x00081150, b"UI", b"1.2.3") + element(0x00081155, b"UI", b"1.2.4")
+    return (
+        bytes(128)
+        + b"DICM"
+        + element(0x00020000, b"UL", struct.pack("<I", len(group)))
+        + group
+        + element(0x00081140, b"SQ", struct.pack("<HHI", 0xFFFE, 0xE000, len(item)) + item)
+        + element(0x00090010, b"LO", b"OWNER")
+        + element(0x00100010, b"PN", b"AB^CD")
+        + element(0x00100020, b"LO", b"7")
+        + (element(0x7FE00010, b"OW", bytes(range(256)) * (pixels // 256)) if pixels else b"")
+    )
+
+
+def lines(count):
+    """Lines of a dump, with this many private elements."""
+    head = b"(0002,0010) UI =LittleEndianExplicit\n(0008,0060) CS [CT]\n"
+    return head + b"".join(b"(0011,%04x) LO [%s]\n" % (0x1000 + k, b"x" * 60) for k in range(count))
+
+
+SMALL, BIG = dicom(0), dicom(PIXELS)
+EDITS = ["-m", "PatientName=X", "-ea", "PatientID", "-ep", "-i", "ReferencedImageSequence[0].ReferencedSOPInstanceUID=1.2"]
+NO_PLACE = ["-m", "Rows=7", "-e", "Columns"]
+
+
+def runs_of_size(size, data, text):
+    """The four tools on small or big files, with and without an older OUTPUT."""
+    conversion = ["dcmconv", "+tb", "+dict", "{in}", "{out}"]
+    edits = ["dcmodify", *EDITS, "-i", "StudyDate=20260101", "{in}", "{out}"]
+    yield Run(f"dump {size}", ["dcmdump", "+L", "{in}"], data)
+    yield Run(f"dump {size}, standard input", ["dcmdump", "+dict", "-"], data, streams='< "$in"')
+    yield Run(f"convert {size}, standard streams", ["dcmconv", "+ti", "-", "-"], data, streams='< "$in"')
+    yield Run(f"convert {size}, standard input", ["dcmconv", "+ti", "-", "{out}"], data, streams='< "$in"', has_older=True)
+    yield Run(f"modify {size}, no place", ["dcmodify", *NO_PLACE, "{in}", "{out}"], data, 3, has_older=True)
+    for has_older in (False, True):
+        name = f"{size}, older" if has_older else size
+        yield Run(f"convert {name}", conversion, data, has_older=has_older)
+        yield Run(f"modify {name}", edits, data, has_older=has_older)
+        yield Run(f"build {name}", ["dump2dcm", "{in}", "{out}"], text, has_older=has_older)
+
+
+# a part of the input, words that are refused, and words that are answered
+OTHERS = [
+    Run("cut", ["dcmconv", "+te", "{in}", "{out}"], BIG[:-1000], 2, has_older=True),
+    Run("cut head", ["dcmconv", "+te", "{in}", "{out}"], SMALL[:150], 2, has_older=True),
+    Run("refused", ["dcmodify", "-m", "Foo=1", "{in}", "{out}"], SMALL, 1, has_older=True),
+    Run("usage", ["--help"], SMALL),
+    Run("version", ["dcmconv", "--version"], SMALL),
+]
+
+# OUTPUT is FILE
+SAME = [
+    Run("same link", ["dcmconv", "{in}", "{link}"], SMALL, 4),
+    Run("same standard input", ["dcmconv", "-", "{in}"], BIG, 4, '< "$in"'),
+    Run("same standard output", ["dcmconv", "{in}", "-"], BIG, 4, '>> "$in"'),
+    Run("same standard streams", ["dcmconv", "+ti", "-", "-"], SMALL, 4, '< "$in" >> "$in"'),
+    Run("same dump", ["dcmdump", "{in}"], SMALL, 4, '1<> "$in"'),
+    Run("same edits", ["dcmodify", *NO_PLACE, "{link}", "-"], SMALL, 4, '>> "$in"'),
+    Run("same lines", ["dump2dcm", "-", "{link}"], lines(1), 4, '< "$in"'),
+]
+
+# standard streams that are closed
+CLOSED = [
+    Run("closed input", ["dcmconv", "{in}", "{out}"], SMALL, 0, "<&-", True),
+    Run("closed input that is read", ["dcmconv", "-", "{out}"], SMALL, 4, "<&-", True),
+    Run("closed output", ["dcmconv", "{in}", "{out}"], SMALL, 0, ">&-", True),
+    Run("closed output that is written", ["dcmdump", "{in}"], SMALL, 4, ">&-"),
+    Run("closed error", ["dcmodify", *NO_PLACE, "{in}", "{out}"], SMALL, 3, "2>&-"),
+    Run("closed input and error", ["dcmodify", *NO_PLACE, "{in}", "{out}"], SMALL, 3, "<&- 2>&-", True),
+    Run("closed output and error", ["dcmconv", "{in}", "{out}"], SMALL[:-3], 2, ">&- 2>&-"),
+    Run("closed streams", ["dcmconv", "+tb", "{in}", "{out}"], SMALL, 0, "<&- >&- 2>&-", True),
+]
+
+RUNS = [*runs_of_size("small", SMALL, lines(1)), *runs_of_size("big", BIG, lines(4000)), *OTHERS, *SAME, *CLOSED]
+
+
+def content_of(path):
+    return path.read_bytes() if path.exists() else None
+
+
+def traced(binary, room, run, injected=()):
+    """Runs it in a folder of its own, with these faults."""
+    folder = Path(tempfile.mkdtemp(dir=room))
+    paths = {name: folder / name for name in ("in", "out", "link", "log")}
+    paths["in"].write_bytes(run.data)
+    paths["link"].hardlink_to(paths["in"])
+    if run.has_older:
+        paths["out"].write_bytes(OLDER)
+    words = [word.format(**paths) if word.startswith("{") else word for word in run.words]
+    strace = ["setarch", "-R", "strace", "-o", paths["log"], "-s", "0"]
+    faults = [word for fault in injected for word in ("-e", f"inject={fault}")]
+    shell = ["sh", "-c", f'exec "$@" {run.streams}', "sh", binary]
+    environment = dict(os.environ, **{"in": str(paths["in"])})
+    try:
+        done = subprocess.run(
+            [*strace, *faults, *shell, *words],
+            stdin=subprocess.DEVNULL,
+            capture_output=True,
+            env=environment,
+            timeout=30,
+            check=False,
+        )
+        status, stdout, stderr = done.returncode, done.stdout, re.sub(rb"strace: .*\n", b"", done.stderr)
+    except subprocess.TimeoutExpired:
+        status, stdout, stderr = "hang", b"", b""
+    log = paths["log"].read_text(errors="replace").splitlines()
+    ended = Ended(status, stdout, stderr, content_of(paths["in"]), content_of(paths["out"]), log)
+    shutil.rmtree(folder)
+    return ended
+
+
+def calls_of(log):
+    """The calls of the program itself, which begins by ignoring SIGPIPE, and how many calls of each name there are in all."""
+    count, calls, is_begun = collections.Counter(), [], False
+    for line in log:
+        found = re.match(r"(\w+)\(", line)
+        if not found:
+            continue
+        name = found[1]
+        count[name] += 1
+        is_begun = is_begun or name == "rt_sigaction" and "SIGPIPE" in line
+        if is_begun and name != "exit_group":
+            calls.append(Call(name, count[name], line))
+    return calls, count
+
+
+def faults_of_call(call):
+    """Each error of a call, once and with all later calls of its name."""
+    for error in [] if call.name == "brk" else ERRORS.get(call.name, ["EIO"]):
+        for more in ("",) if error == "EINTR" else ("", "+"):
+            yield Fault([f"{call.name}:error={error}:when={call.number}{more}"], call, error)
+
+
+def refused(name, number, end):
+    """All growth of memory by calls of a name, from this one on."""
+    answer = f"retval={end}" if name == "brk" else "error=ENOMEM"
+    return f"{name}:{answer}:when={number}+"
+
+
+def faults_of_memory(calls, count):
+    """From each growth of memory on, all of it is refused."""
+    end = next((call.line.split("= ")[-1] for call in calls if call.name == "brk"), None)
+    left = collections.Counter(call.name for call in calls)
+    for call in calls:
+        if call.name in MEMORY and not (call.name == "brk" and "NULL" in call.line):
+            names = [name for name in MEMORY if name != "brk" or end]
+            next_numbers = {name: count[name] - left[name] + 1 for name in names}
+            yield Fault([refused(name, next_numbers[name], end) for name in names], call, "ENOMEM")
+        left[call.name] -= 1
+
+
+# What is wrong with a run that had a fault.
+
+
+def output_number(log, path_end="/out"):
+    """The number of OUTPUT, or that of standard output where none was opened."""
+    for line in log:
+        found = re.match(rf'openat\(.*{path_end}", O_WRONLY.*\) = (\d+)$', line)
+        if found:
+            return found[1]
+    return "1"
+
+
+def is_line_of(stderr, status):
+    return re.fullmatch(rb"dcmtools: (%s)\n" % LINES[status], stderr) is not None
+
+
+def hides_errors(run, ended):
+    """Whether no line can be read: standard error is closed, or writing to it failed."""
+    return "2>&-" in run.streams or any(re.match(r"write\(2,.*INJECTED", line) for line in ended.lines)
+
+
+def wrong_status(run, base, ended):
+    if ended.status not in LINES and ended.status != 0:
+        return f"status {ended.status}"
+    if ended.status != base.status and ended.status not in (4, 5):
+        return f"status {ended.status}, and {base.status} without a fault"
+    return ""
+
+
+def wrong_line(run, base, ended):
+    if hides_errors(run, ended):
+        return "" if not ended.stderr or base.stderr.startswith(ended.stderr) else f"standard error {ended.stderr!r}"
+    if ended.status == base.status and ended.stderr == base.stderr:
+        return ""
+    if ended.status == 0 or not is_line_of(ended.stderr, ended.status):
+        return f"status {ended.status} with {ended.stderr[:100]!r}"
+    return ""
+
+
+def is_emptied(ended):
+    return any(re.match(r"ftruncate\(.*= 0$", line) for line in ended.lines)
+
+
+def wrong_output(run, base, ended):
+    """Of OUTPUT and standard output."""
+    if ended.status == base.status and ended.stderr == base.stderr and not hides_errors(run, ended):
+        return "" if (ended.output, ended.stdout) == (base.output, base.stdout) else "other output"
+    if not base.stdout.startswith(ended.stdout):
+        return "standard output is no beginning"
+    is_older = run.has_older and ended.output == OLDER and not is_emptied(ended)
+    is_beginning = ended.output is not None and base.output is not None and base.output.startswith(ended.output)
+    if ended.output is None or is_older or is_beginning or ended.output == b"" and not run.has_older:
+        return ""
+    return f"OUTPUT has {len(ended.output)} bytes that it should not have"
+
+
+def wrong_input(run, base, ended):
+    return "" if ended.input == run.data else "FILE is changed"
+
+
+def wrong_writes(run, base, ended):
+    """No write may follow one that failed, but for the line."""
+    failed = set()
+    for line in ended.lines:
+        found = re.match(r"write\((\d+),.*= (-?\d+)( \w+)?", line)
+        if found and found[1] != "2":
+            if found[1] in failed:
+                return "a write after one that failed"
+            if found[2] == "-1" and found[3] != " EINTR":
+                failed.add(found[1])
+    return ""
+
+
+def wrong_numbers(run, base, ended):
+    """No file that is read or written may have the number of a standard stream."""
+    calls, _ = calls_of(ended.lines)
+    for call in calls:
+        found = re.match(r'openat\(.*/(in|out|link)", .*\) = ([012])$', call.line)
+        if found:
+            return f"the file {found[1]} has the number {found[2]}"
+    return ""
+
+
+def is_untouched(run, ended):
+    return ended.stdout == b"" and (ended.output == OLDER if run.has_older else not ended.output)
+
+
+def wrong_refusal(run, ended, pattern):
+    """Of a fault that has to end with one of these lines and status 4, and with nothing written."""
+    if ended.status != 4:
+        return f"status {ended.status} after {pattern.decode()} was due"
+    if not hides_errors(run, ended) and not re.fullmatch(rb"dcmtools: (%s)\n" % pattern, ended.stderr):
+        return f"{ended.stderr!r} in place of {pattern.decode()}"
+    return "" if is_untouched(run, ended) else "something was written"
+
+
+def is_as_without(base, ended):
+    return ended[:3] == base[:3] and ended.output == base.output
+
+
+def wrong_close(run, base, ended, fault):
+    """Of closing OUTPUT."""
+    if f"close({output_number(base.lines)})" not in fault.call.line or base.status not in (0, 3):
+        return ""
+    if fault.error == "EINTR" and is_as_without(base, ended):
+        return ""
+    if ended.status == 4 and (hides_errors(run, ended) or ended.stderr == b"dcmtools: output failed\n"):
+        return ""
+    return f"status {ended.status}, {ended.stderr!r} where closing OUTPUT failed"
+
+
+def has_read(base, call):
+    """Whether any of the input was read before a call."""
+    calls, _ = calls_of(base.lines)
+    return any(other.name == "read" for other in calls[: calls.index(call)])
+
+
+def wrong_question(run, base, ended, fault):
+    """Of asking what an open file is."""
+    if fault.call.name not in STATS or base.status == 1:
+        return ""
+    if fault.error in ("EINTR", "ENOSYS") and is_as_without(base, ended):
+        return ""
+    asked_late = has_read(base, fault.call)
+    return wrong_refusal(run, ended, b"output failed" if asked_late else b"(input|output) cannot be opened|out of memory")
+
+
+def wrong_reservation(run, base, ended, fault):
+    """Of taking the number of a stream that is closed."""
+    if fault.call.name != "openat" or '"/"' not in fault.call.line or base.status == 1:
+        return ""
+    if re.search(r"= [012]$", fault.call.line):
+        is_retried = fault.error == "EINTR" and is_as_without(base, ended)
+        return "" if is_retried else wrong_refusal(run, ended, b"input cannot be opened|out of memory")
+    # all streams are open
+    return "" if is_as_without(base, ended) else wrong_refusal(run, ended, b"(input|output) cannot be opened|out of memory")
+
+
+ALWAYS = (wrong_status, wrong_line, wrong_output, wrong_input, wrong_writes, wrong_numbers)
+OF_CALLS = (wrong_close, wrong_question, wrong_reservation)
+
+
+def problems_of(run, base, ended, fault):
+    if ended.status == "hang":
+        return ["a hang"]
+    found = [check(run, base, ended) for check in ALWAYS]
+    found += [check(run, base, ended, fault) for check in OF_CALLS]
+    return [problem for problem in found if problem]
+
+
+def wrong_base(run, base):
+    """What is wrong with a run without a fault."""
+    if base.status != run.status:
+        return f"status {base.status}, {base.stderr!r}"
+    is_line_due = base.status != 0 and "2>&-" not in run.streams
+    first = base.stderr.split(b"\n", 1)[0] + b"\n"
+    if is_line_due != bool(base.stderr) or is_line_due and not is_line_of(first, base.status):
+        return f"standard error {base.stderr!r}"
+    if run in SAME and base.stderr != b"dcmtools: output is the input\n":
+        return f"standard error {base.stderr!r}"
+    return wrong_input(run, base, base) or wrong_numbers(run, base, base)
+
+
+def try_run(binary, room, run, jobs):
+    """Lets each call of a run fail. How many faults there were, and the problems."""
+    base = traced(binary, room, run)
+    wrong = wrong_base(run, base)
+    if wrong:
+        return 0, [f"{run.name}: without a fault: {wrong}"], collections.Counter()
+    calls, count = calls_of(base.lines)
+    faults = [fault for call in calls for fault in faults_of_call(call)] + list(faults_of_memory(calls, count))
+    with ThreadPoolExecutor(jobs) as pool:
+        ends = list(pool.map(lambda fault: traced(binary, room, run, fault.injected), faults))
+    problems, tried, silent = [], 0, collections.Counter()
+    for fault, ended in zip(faults, ends):
+        if any("INJECTED" in line for line in ended.lines):
+            tried += 1
+            silent[fault.call.name] += is_as_without(base, ended)
+            found = problems_of(run, base, ended, fault)
+            if found:
+                problems.append(f"{run.name}: {' '.join(fault.injected)} at {fault.call.line[:70]}: {'; '.join(found)}")
+    return tried, problems, silent
+
+
+def missing_tools():
+    return [name for name in ("strace", "setarch") if not shutil.which(name)]
+
+
+def main():
+    parser = argparse.ArgumentParser(description="Lets each system call of dcmtools fail in turn.")
+    parser.add_argument("binary", nargs="?", default=ROOT / "crates/dcmtools/out/dcmtools")
+    parser.add_argument("--only", default="", help="the runs whose names begin so")
+    parser.add_argument("--jobs", type=int, default=os.cpu_count(), help="how many runs at once")
+    words = parser.parse_args()
+    if missing_tools():
+        print(f"{' and '.join(missing_tools())} cannot be found: apt-get install strace util-linux", file=sys.stderr)
+        return 2
+    total, wrong, silent = 0, 0, collections.Counter()
+    with tempfile.TemporaryDirectory(dir="/dev/shm" if os.path.isdir("/dev/shm") else None) as room:
+        for run in RUNS:
+            if run.name.startswith(words.only):
+                tried, problems, passed = try_run(os.path.abspath(words.binary), room, run, words.jobs)
+                shown = problems[:SHOWN] + ["and others"] * (len(problems) > SHOWN)
+                print(f"{run.name}: {tried} faults, {len(problems)} wrong", *shown, sep="\n  ", flush=True)
+                total, wrong, silent = total + tried, wrong + len(problems), silent + passed
+    print("passed in silence: " + ", ".join(f"{name} {number}" for name, number in silent.most_common()))
+    print(f"{total} faults, {wrong} wrong")
+    return 1 if wrong or not total else 0
+
+
+if __name__ == "__main__":
+    sys.exit(main())
