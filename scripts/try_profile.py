@@ -720,7 +720,7 @@ OPTIONS = [
 
 TEXTS = [Shows(f"{word} of the program", word, TOOLS) for word in ("help", "--help")]
 TEXTS += [Shows(f"{word} of {tool}", f"{tool} {word}", [tool, *options]) for tool, options in zip(TOOLS, OPTIONS) for word in ("help", "--help")]
-TEXTS += [Shows(f"{word} {tool}", f"{tool} {word}", ["0.1.0", "2022a"]) for tool in ("", *TOOLS) for word in ("version", "--version")]
+TEXTS += [Shows(f"{word} {tool}", f"{tool} {word}", ["0.2.0", "2022a"]) for tool in ("", *TOOLS) for word in ("version", "--version")]
 
 SEQUENCE_OF_20 = head(IMAGES, "SQ", 20)
 OPENED = line(IMAGES, "SQ", "(Sequence with explicit length)", 20, 1, "ReferencedImageSequence")

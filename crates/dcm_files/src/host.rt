@@ -10,7 +10,7 @@ use either::{Either, Left, Right};
 use std::alloc::AllocError;
 use std::env::{Env, FillError};
 use std::fs::{File, Metadata, OpenOptions};
-use std::io::{BufWriter, Stdin, Stdout};
+use std::io::{BufWriter, ErrorKind, Stdin, Stdout};
 use std::os::fd::AsFd;
 use std::os::unix::fs::MetadataExt;
 use std::{fs, io};
@@ -19,10 +19,10 @@ use std::{fs, io};
 const NOTHING: &str = "/";
 
 /// What standard input reads from, as a path.
-const STANDARD_INPUT: &str = "/dev/stdin";
+const STANDARD_INPUT: &str = "/proc/self/fd/0";
 
 /// What standard output writes to, as a path.
-const STANDARD_OUTPUT: &str = "/dev/stdout";
+const STANDARD_OUTPUT: &str = "/proc/self/fd/1";
 
 /// The bytes that are written at a time.
 const BUFFER: usize = 262_144;
@@ -91,11 +91,20 @@ fn kind_of(file: &Metadata) -> FileKind {
     FileKind::Other
 }
 
-/// What a standard stream is, by its path. Without /proc no path leads to it.
-fn stream_kind(rt: HostRuntime, path: &str) -> FileKind {
-    match fs::metadata(&rt, path) {
+/// What standard input is.
+fn input_kind(rt: HostRuntime) -> FileKind {
+    match fs::metadata(&rt, STANDARD_INPUT) {
         Ok(file) => kind_of(&file),
         Err(_) => FileKind::Unknown,
+    }
+}
+
+/// What standard output is. Without /proc no path leads to it; any other error is one of opening it.
+fn output_kind(rt: HostRuntime) -> io::Result<FileKind> {
+    match fs::metadata(&rt, STANDARD_OUTPUT) {
+        Ok(file) => Ok(kind_of(&file)),
+        Err(e) if e.kind() == ErrorKind::NotFound => Ok(FileKind::Unknown),
+        Err(e) => Err(e),
     }
 }
 
@@ -149,7 +158,7 @@ impl System for Host {
     fn stdin(&mut self) -> Opened<Self::Input> {
         Opened {
             device: Std::new(Left(self.rt.stdin())),
-            kind: stream_kind(self.rt, STANDARD_INPUT),
+            kind: input_kind(self.rt),
         }
     }
 
@@ -165,7 +174,7 @@ impl System for Host {
     fn release(&mut self, _input: Self::Input) {}
 
     fn stdout(&mut self) -> io::Result<Opened<Self::Output>> {
-        let kind = stream_kind(self.rt, STANDARD_OUTPUT);
+        let kind = output_kind(self.rt)?;
         self.buffered(Left(self.rt.stdout()), kind)
     }
 
