@@ -12,10 +12,11 @@ begin so. Needs strace (apt-get install strace) and setarch. Exits with 0 if not
 - With the status of the run without a fault, all is as there. Else the status is 4 or 5, OUTPUT is missing, a beginning of what it
   would be, or what it was before, and standard output is a beginning. Nothing is written after a write that failed.
 - FILE is never changed, also where OUTPUT is FILE, and no file gets the number of a standard stream.
-- Closing OUTPUT fails: `output failed`, status 4. An interrupted close may also pass in silence: Linux has closed the file then.
-- A file that was opened, or a standard stream, cannot be asked what it is: `cannot be opened`, status 4, nothing is written. An
-  OUTPUT that cannot be asked for its size before its first byte is `output failed`, and keeps what it holds. A call that the
-  system does not have (ENOSYS), or that was interrupted, may be made good by another one.
+- A close that fails passes in silence (docs/PROFILE.md, "Where it is written").
+- A file that was opened, or standard output, cannot be asked what it is: `cannot be opened`, status 4, nothing is written. The same
+  of standard input, where OUTPUT holds bytes; else the run is as it was. An OUTPUT that cannot be asked for its size before its
+  first byte is `output failed`, and keeps what it holds. A call that the system does not have (ENOSYS), or that was interrupted, may
+  be made good by another one.
 - The number of a closed standard stream cannot be reserved: `input cannot be opened`, status 4, and OUTPUT is untouched.
 
 An interrupted call fails once, and may be tried again. A brk that fails answers the break as it is, which is what the kernel does:
@@ -63,6 +64,8 @@ LINES = {
     4: rb"input cannot be opened|output cannot be opened|output is the input|reading failed after \d+ bytes|output failed",
     5: rb"out of memory",
 }
+
+NO_MEMORY = b"dcmtools: out of memory\n"
 
 # how many problems of a run are shown
 SHOWN = 5
@@ -362,8 +365,8 @@ def is_untouched(run, ended):
 
 
 def wrong_refusal(run, ended, pattern):
-    """Of a fault that has to end with one of these lines and status 4, and with nothing written."""
-    if ended.status != 4:
+    """Of a fault that has to end with one of these lines and its status, and with nothing written."""
+    if ended.status != (5 if ended.stderr == NO_MEMORY else 4):
         return f"status {ended.status} after {pattern.decode()} was due"
     if not hides_errors(run, ended) and not re.fullmatch(rb"dcmtools: (%s)\n" % pattern, ended.stderr):
         return f"{ended.stderr!r} in place of {pattern.decode()}"
@@ -372,17 +375,6 @@ def wrong_refusal(run, ended, pattern):
 
 def is_as_without(base, ended):
     return ended[:3] == base[:3] and ended.output == base.output
-
-
-def wrong_close(run, base, ended, fault):
-    """Of closing OUTPUT."""
-    if f"close({output_number(base.lines)})" not in fault.call.line or base.status not in (0, 3):
-        return ""
-    if fault.error == "EINTR" and is_as_without(base, ended):
-        return ""
-    if ended.status == 4 and (hides_errors(run, ended) or ended.stderr == b"dcmtools: output failed\n"):
-        return ""
-    return f"status {ended.status}, {ended.stderr!r} where closing OUTPUT failed"
 
 
 def has_read(base, call):
@@ -396,6 +388,8 @@ def wrong_question(run, base, ended, fault):
     if fault.call.name not in STATS or base.status == 1:
         return ""
     if fault.error in ("EINTR", "ENOSYS") and is_as_without(base, ended):
+        return ""
+    if '"/proc/self/fd/0"' in fault.call.line and is_as_without(base, ended):
         return ""
     asked_late = has_read(base, fault.call)
     return wrong_refusal(run, ended, b"output failed" if asked_late else b"(input|output) cannot be opened|out of memory")
@@ -413,7 +407,7 @@ def wrong_reservation(run, base, ended, fault):
 
 
 ALWAYS = (wrong_status, wrong_line, wrong_output, wrong_input, wrong_writes, wrong_numbers)
-OF_CALLS = (wrong_close, wrong_question, wrong_reservation)
+OF_CALLS = (wrong_question, wrong_reservation)
 
 
 def problems_of(run, base, ended, fault):

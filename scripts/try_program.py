@@ -118,9 +118,9 @@ CASES = [
     ("an empty word", "''", 1, "V1 at word 1: unknown tool"),
     ("a short word of usage", "-h", 1, "V1 at word 1: unknown tool"),
     ("a word of usage in capitals", "HELP", 1, "V1 at word 1: unknown tool"),
-    ("a path after a word of usage", "--help name.dcm", 1, "V1 at word 1: unknown tool"),
-    ("a tool after a word of usage", "help dcmdump", 1, "V1 at word 1: unknown tool"),
-    ("a word of version twice", "--version --version", 1, "V1 at word 1: unknown tool"),
+    ("a path after a word of usage", "--help name.dcm", 0, ""),
+    ("a tool after a word of usage", "help dcmdump", 0, ""),
+    ("a word of version twice", "--version --version", 0, ""),
     ("a word of usage before a path", "dcmdump --help name.dcm", 1, "V2 at word 2: unknown option"),
     ("a word of version after a path", "dcmdump name.dcm --version", 1, "V2 at word 3: unknown option"),
     ("two words of usage", "dcmconv --help help", 1, "V2 at word 2: unknown option"),
@@ -409,9 +409,7 @@ COMMANDS += [
 
 # the same, for root, with a folder in place of /proc
 WITHOUT_PROC = [
-    ("standard input", "\"$0\" dcmconv - name.dcm < name.dcm", 4, SAME, "name.dcm", NAME),
-    ("standard output", "\"$0\" dcmconv growing.dcm - >> growing.dcm", 4, SAME, "growing.dcm", GROWING),
-    ("both", "\"$0\" dcmdump - < name.dcm >> name.dcm", 4, SAME, "name.dcm", NAME),
+    ("standard input", "\"$0\" dcmconv - name.dcm < name.dcm", 4, "output cannot be opened", "name.dcm", NAME),
     ("a link", "\"$0\" dcmconv name.dcm linked", 4, SAME, "name.dcm", NAME),
     ("another file", "\"$0\" dcmconv +tb - out < name.dcm", 0, "", "out", BIG),
     ("another stream", "\"$0\" dcmconv +tb - - < name.dcm > out", 0, "", "out", BIG),
