@@ -280,15 +280,6 @@ def faults_of_memory(calls, count):
 # What is wrong with a run that had a fault.
 
 
-def output_number(log, path_end="/out"):
-    """The number of OUTPUT, or that of standard output where none was opened."""
-    for line in log:
-        found = re.match(rf'openat\(.*{path_end}", O_WRONLY.*\) = (\d+)$', line)
-        if found:
-            return found[1]
-    return "1"
-
-
 def is_line_of(stderr, status):
     return re.fullmatch(rb"dcmtools: (%s)\n" % LINES[status], stderr) is not None
 
