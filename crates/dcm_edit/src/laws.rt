@@ -101,6 +101,30 @@ pub fn others_stay()
     ensures { laws.OthersStay }
 {}
 
+/// So it is in what is written: it reads back as the normal form of the data set that was read, but for the elements of those tags.
+pub fn others_stay_written()
+    ensures { laws.OthersStayWritten }
+{}
+
+/// By another dictionary what is written reads back without fault too, as the normal form by that one, where it opens the edited
+/// data set alike: of an implicit one, no value is a sequence by it, and each sequence is one.
+pub fn edited_reads_by()
+    ensures { laws.EditedReadsBy }
+{}
+
+/// The standard dictionary knows each sequence that the extract knows: what was read by it, each dictionary opens alike.
+pub fn standard_opens_alike()
+    ensures { laws.StandardOpensAlike }
+{}
+
+/// What was erased, set and left is so for every reader whose dictionary opens the edited data set alike.
+pub fn edited_for_others()
+    ensures erased_all { laws.NoneIsLeftBy }
+    ensures erased_private { laws.NoPrivateIsLeftBy }
+    ensures modified_all { laws.AllAreModifiedBy }
+    ensures others_stay { laws.OthersStayBy }
+{}
+
 /// The same edits of what is written, as it reads back, write the same bytes again, where no edit erases an item by its number.
 pub fn edited_twice()
     ensures { laws.EditedTwice }

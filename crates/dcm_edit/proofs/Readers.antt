@@ -1,0 +1,5 @@
+-- What is written of an edited data set, read by another dictionary.
+pub mod Opened
+pub mod Bytes
+pub mod NormalForms
+pub mod Others
