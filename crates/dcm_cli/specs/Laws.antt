@@ -3,11 +3,15 @@ use Rattle.dcm_base.specs.declared.syntax.Coding.{Coding}
 use Rattle.dcm_base.specs.declared.syntax.Syntax.{Syntax}
 use Rattle.dcm_base.specs.Front.{Front}
 use Rattle.dcm_base.specs.MetaReads.{Meta}
+use Rattle.dcm_base.specs.Normal.{normal_front}
 use Rattle.dcm_base.specs.declared.tag.Tag.{Tag}
 use Rattle.dcm_base.specs.declared.vr.Vr.{Vr}
 use Rattle.dcm_base.specs.declared.lookup.Dictionary.{Dictionary}
+use Rattle.dcm_base.specs.declared.lookup.Dictionary.TheVariants.{Standard}
 use Rattle.dcm_edit_words.specs.Edit.{Edit, erase_all, erase_private, modify_all}
 use Rattle.dcm_edit.specs.Everywhere.{Among, EverywhereIn, IsOther, IsPublic, IsWrittenJust}
+use Rattle.dcm_edit.specs.Others.{any_changes, set_without}
+use Rattle.dcm_edit.specs.Readers.{OpensAlike}
 use Rattle.dcm_edit.specs.Repeating.{EraseByNoNumber}
 use Rattle.dcm_words.specs.declared.job.Job.{Job}
 use Rattle.dcm_cli.specs.Answer.{Answer, Answers, Sure}
@@ -55,6 +59,47 @@ ModifiedAll =
     (d : Dictionary) (edits : List Edit) (input : List ℕ) (a : Answer) (m : Meta) (coding : Coding) (f : Front)
     → IsModified d edits input a m coding f → (tag : Tag) (vr : Vr) (value : List ℕ) → Among (modify_all tag vr value) edits
     → InOutput d (λ s set. EverywhereIn (IsWrittenJust s tag vr value) set) a
+
+-- but for the elements whose tags the edits may change, it is the normal form of the data set that was read
+abbrev pub OthersStay : Type 0
+OthersStay =
+    (d : Dictionary) (edits : List Edit) (input : List ℕ) (a : Answer) (m : Meta) (coding : Coding) (f : Front)
+    → IsModified d edits input a m coding f
+    → InOutput d (λ s set. set_without (any_changes edits) set ≡ set_without (any_changes edits) (normal_front s f)) a
+
+-- by a dictionary that opens the output alike: after `-ea` no element has the tag, at any depth
+abbrev pub ErasedAllBy : Type 0
+ErasedAllBy =
+    (d e : Dictionary) (edits : List Edit) (input : List ℕ) (a : Answer) (m : Meta) (coding : Coding) (f : Front)
+    → IsModified d edits input a m coding f → InOutput d (OpensAlike e) a → (tag : Tag) → Among (erase_all tag) edits
+    → InOutput e (λ s set. EverywhereIn (IsOther tag) set) a
+
+-- after `-ep` no element is of an odd group
+abbrev pub ErasedPrivateBy : Type 0
+ErasedPrivateBy =
+    (d e : Dictionary) (edits : List Edit) (input : List ℕ) (a : Answer) (m : Meta) (coding : Coding) (f : Front)
+    → IsModified d edits input a m coding f → InOutput d (OpensAlike e) a → Among erase_private edits
+    → InOutput e (λ s set. EverywhereIn IsPublic set) a
+
+-- after `-ma` each element of the tag has the value as it is written
+abbrev pub ModifiedAllBy : Type 0
+ModifiedAllBy =
+    (d e : Dictionary) (edits : List Edit) (input : List ℕ) (a : Answer) (m : Meta) (coding : Coding) (f : Front)
+    → IsModified d edits input a m coding f → InOutput d (OpensAlike e) a → (tag : Tag) (vr : Vr) (value : List ℕ)
+    → Among (modify_all tag vr value) edits → InOutput e (λ s set. EverywhereIn (IsWrittenJust s tag vr value) set) a
+
+-- what the edits may not change is the normal form of what was read
+abbrev pub OthersStayBy : Type 0
+OthersStayBy =
+    (d e : Dictionary) (edits : List Edit) (input : List ℕ) (a : Answer) (m : Meta) (coding : Coding) (f : Front)
+    → IsModified d edits input a m coding f → InOutput d (OpensAlike e) a
+    → InOutput e (λ s set. set_without (any_changes edits) set ≡ set_without (any_changes edits) (normal_front s f)) a
+
+-- what was edited by the standard dictionary, each dictionary opens alike
+abbrev pub StandardOpensAlike : Type 0
+StandardOpensAlike =
+    (e : Dictionary) (edits : List Edit) (input : List ℕ) (a : Answer) (m : Meta) (coding : Coding) (f : Front)
+    → IsModified Standard edits input a m coding f → InOutput Standard (OpensAlike e) a
 
 -- the same edits again write the same bytes, unless one erases an item by its number
 abbrev pub ModifiedTwice : Type 0

@@ -1,5 +1,5 @@
 //! Laws of the definitions. Each function takes nothing and makes no call: its contract is the law.
-ghost use Rattle.dcm_cli.specs.Laws.{SureGrows, ModifiedReads, ConvertedReads, ErasedAll, ErasedPrivate, ModifiedAll, ModifiedTwice};
+ghost use Rattle.dcm_cli.specs.Laws.{SureGrows, ModifiedReads, ConvertedReads, ErasedAll, ErasedPrivate, ModifiedAll, OthersStay, ErasedAllBy, ErasedPrivateBy, ModifiedAllBy, OthersStayBy, StandardOpensAlike, ModifiedTwice};
 ghost use Rattle.dcm_cli.specs.Answer.{Answer, Answers};
 ghost use Rattle.dcm_cli.specs.DumpBuilds.{DumpBuilds};
 ghost use Rattle.dcm_cli.specs.NoEdits.{NoEditsConvert};
@@ -52,6 +52,27 @@ pub fn output_is_edited()
     ensures erased_all { ErasedAll }
     ensures erased_private { ErasedPrivate }
     ensures modified_all { ModifiedAll }
+{}
+
+/// However it is read, what no edit may change is in it: without the elements of the tags that edits may change, it is the normal
+/// form of the data set that was read, without them.
+pub fn output_keeps_others()
+    ensures { OthersStay }
+{}
+
+/// All of that is so for readers with another dictionary too, where it opens the output alike: in an implicit one, no value is a
+/// sequence by it, and each sequence is one. An explicit output each dictionary opens alike.
+pub fn output_for_others()
+    ensures erased_all { ErasedAllBy }
+    ensures erased_private { ErasedPrivateBy }
+    ensures modified_all { ModifiedAllBy }
+    ensures others_stay { OthersStayBy }
+{}
+
+/// Each dictionary opens alike what dcmodify has edited by the standard one. What was edited by the extract may hold a sequence of
+/// known length that the extract does not know, as one value, and the standard opens it.
+pub fn standard_output_opens()
+    ensures { StandardOpensAlike }
 {}
 
 /// Two runs in a row: dcmodify on a file without fault, and then on its output, with the same edits. Where no edit erases an item by
