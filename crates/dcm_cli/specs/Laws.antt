@@ -4,6 +4,7 @@ use Rattle.dcm_base.specs.declared.syntax.Syntax.{Syntax}
 use Rattle.dcm_base.specs.Front.{Front}
 use Rattle.dcm_base.specs.MetaReads.{Meta}
 use Rattle.dcm_base.specs.Normal.{normal_front}
+use Rattle.dcm_base.specs.Recode.{is_explicit}
 use Rattle.dcm_base.specs.declared.tag.Tag.{Tag}
 use Rattle.dcm_base.specs.declared.vr.Vr.{Vr}
 use Rattle.dcm_base.specs.declared.lookup.Dictionary.{Dictionary}
@@ -19,7 +20,7 @@ use Rattle.dcm_cli.specs.ReadsAgain.{InOutput, IsConverted, IsModified, ReadsCon
 use Rattle.dcm_cli.specs.Run.{IsMeant}
 use Rattle.dcm_words.specs.Plans.{job_of}
 use Rattle.dcm_words.specs.Words as words
-use Rattle.std.specs.Prelude.{◌++◌, ◌≡◌, ◌⊎◌, List, Option, ℕ}
+use Rattle.std.specs.Prelude.{◌++◌, ◌≡◌, ◌⊎◌, List, Option, true, ℕ}
 use Rattle.std.specs.declared.alloc.Global.{Global}
 
 -- what is sure of a beginning is a beginning of the output for every input that begins so
@@ -95,7 +96,19 @@ OthersStayBy =
     → IsModified d edits input a m coding f → InOutput d (OpensAlike e) a
     → InOutput e (λ s set. set_without (any_changes edits) set ≡ set_without (any_changes edits) (normal_front s f)) a
 
--- what was edited by the standard dictionary, each dictionary opens alike
+-- an explicit output each dictionary opens alike
+abbrev pub ExplicitOpensAlike : Type 0
+ExplicitOpensAlike =
+    (d e : Dictionary) (edits : List Edit) (input : List ℕ) (a : Answer) (m : Meta) (coding : Coding) (f : Front)
+    → IsModified d edits input a m coding f → is_explicit coding.syntax ≡ true → InOutput d (OpensAlike e) a
+
+-- the output opens alike by the dictionary of the edits
+abbrev pub OwnOpensAlike : Type 0
+OwnOpensAlike =
+    (d : Dictionary) (edits : List Edit) (input : List ℕ) (a : Answer) (m : Meta) (coding : Coding) (f : Front)
+    → IsModified d edits input a m coding f → InOutput d (OpensAlike d) a
+
+-- and by each one, if that is the standard
 abbrev pub StandardOpensAlike : Type 0
 StandardOpensAlike =
     (e : Dictionary) (edits : List Edit) (input : List ℕ) (a : Answer) (m : Meta) (coding : Coding) (f : Front)

@@ -1,5 +1,5 @@
 //! Laws of the definitions. Each function takes nothing and makes no call: its contract is the law.
-ghost use Rattle.dcm_cli.specs.Laws.{SureGrows, ModifiedReads, ConvertedReads, ErasedAll, ErasedPrivate, ModifiedAll, OthersStay, ErasedAllBy, ErasedPrivateBy, ModifiedAllBy, OthersStayBy, StandardOpensAlike, ModifiedTwice};
+ghost use Rattle.dcm_cli.specs.Laws.{SureGrows, ModifiedReads, ConvertedReads, ErasedAll, ErasedPrivate, ModifiedAll, OthersStay, ErasedAllBy, ErasedPrivateBy, ModifiedAllBy, OthersStayBy, ExplicitOpensAlike, OwnOpensAlike, StandardOpensAlike, ModifiedTwice};
 ghost use Rattle.dcm_cli.specs.Answer.{Answer, Answers};
 ghost use Rattle.dcm_cli.specs.DumpBuilds.{DumpBuilds};
 ghost use Rattle.dcm_cli.specs.NoEdits.{NoEditsConvert};
@@ -60,8 +60,8 @@ pub fn output_keeps_others()
     ensures { OthersStay }
 {}
 
-/// All of that is so for readers with another dictionary too, where it opens the output alike: in an implicit one, no value is a
-/// sequence by it, and each sequence is one. An explicit output each dictionary opens alike.
+/// What is erased, set and left is so for readers with another dictionary too, where it opens the output alike: in an implicit
+/// one, no value is a sequence by it, and each sequence is one.
 pub fn output_for_others()
     ensures erased_all { ErasedAllBy }
     ensures erased_private { ErasedPrivateBy }
@@ -69,10 +69,13 @@ pub fn output_for_others()
     ensures others_stay { OthersStayBy }
 {}
 
-/// Each dictionary opens alike what dcmodify has edited by the standard one. What was edited by the extract may hold a sequence of
-/// known length that the extract does not know, as one value, and the standard opens it.
-pub fn standard_output_opens()
-    ensures { StandardOpensAlike }
+/// Each dictionary opens an output alike that is explicit, or was edited by that dictionary, or by the standard one. Where an
+/// implicit file was edited by the extract, a reader with the standard one may see more: it opens a sequence of known length whose
+/// tag the extract does not have, which is one value to the extract, and in which nothing was edited.
+pub fn output_opens_alike()
+    ensures explicit { ExplicitOpensAlike }
+    ensures own { OwnOpensAlike }
+    ensures standard { StandardOpensAlike }
 {}
 
 /// Two runs in a row: dcmodify on a file without fault, and then on its output, with the same edits. Where no edit erases an item by

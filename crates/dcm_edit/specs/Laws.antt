@@ -1,5 +1,5 @@
 -- The statements of the laws.
-use Rattle.std.specs.Prelude.{◌≡◌, ◌≤◌, ℕ, List, Ok, false, fold, map}
+use Rattle.std.specs.Prelude.{◌≡◌, ◌≤◌, ℕ, List, Ok, false, fold, map, true}
 use Rattle.dcm_base.specs.Ascending.{FrontAscends}
 use Rattle.dcm_base.specs.Atoms.{Atom, Shows, front_atoms, is_closed}
 use Rattle.dcm_base.specs.Bars.{ascending_bar}
@@ -7,7 +7,7 @@ use Rattle.dcm_base.specs.Front.{Front}
 use Rattle.dcm_base.specs.Normal.{normal_front}
 use Rattle.dcm_base.specs.Number.{AreBytes}
 use Rattle.dcm_base.specs.Reads.{INPUT_LIMIT, Reads, ended}
-use Rattle.dcm_base.specs.Recode.{recode}
+use Rattle.dcm_base.specs.Recode.{is_explicit, recode}
 use Rattle.dcm_base.specs.Steps.{outputs}
 use Rattle.dcm_base.specs.Stop.{Stop, complete}
 use Rattle.dcm_base.specs.Syntax.{dictionary_of, read_by}
@@ -143,7 +143,17 @@ EditedReadsBy =
     (edits : List Edit) (s : Syntax) (at : ℕ) (f : Front) (e : Dictionary) → Modifies edits s at f
     → OpensAlike e s (edited edits f) → ReadsBy e edits s at f (normal_front (read_by e s) (edited edits f)) complete
 
--- what was read by the standard, each dictionary opens alike, with the edits
+-- an explicit data set each dictionary opens alike
+abbrev pub ExplicitOpensAlike : Type 0
+ExplicitOpensAlike = (s : Syntax) (f : Front) (e : Dictionary) → is_explicit s ≡ true → OpensAlike e s f
+
+-- an edited one opens alike by the dictionary that it was read by
+abbrev pub OwnOpensAlike : Type 0
+OwnOpensAlike =
+    (edits : List Edit) (s : Syntax) (at : ℕ) (f : Front) → Modifies edits s at f
+    → OpensAlike (dictionary_of s) s (edited edits f)
+
+-- and by each one, if it was read by the standard
 abbrev pub StandardOpensAlike : Type 0
 StandardOpensAlike =
     (edits : List Edit) (s : Syntax) (at : ℕ) (f : Front) (e : Dictionary) → Modifies edits s at f → dictionary_of s ≡ Standard

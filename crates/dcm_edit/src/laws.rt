@@ -112,9 +112,13 @@ pub fn edited_reads_by()
     ensures { laws.EditedReadsBy }
 {}
 
-/// The standard dictionary knows each sequence that the extract knows: what was read by it, each dictionary opens alike.
-pub fn standard_opens_alike()
-    ensures { laws.StandardOpensAlike }
+/// Each dictionary opens alike an explicit data set, an edited one that it has read itself, and one that the standard has read, since
+/// that knows each sequence of the extract. Of what the extract has read, the standard may open a value: a sequence of known length
+/// whose tag the extract does not have.
+pub fn opens_alike()
+    ensures explicit { laws.ExplicitOpensAlike }
+    ensures own { laws.OwnOpensAlike }
+    ensures standard { laws.StandardOpensAlike }
 {}
 
 /// What was erased, set and left is so for every reader whose dictionary opens the edited data set alike.

@@ -13,9 +13,9 @@ use Rattle.dcm_base.specs.MetaGroup.{group_place, the_end}
 use Rattle.dcm_base.specs.MetaReads.{Meta, PREFIX}
 use Rattle.dcm_base.specs.NewMeta.{new_meta}
 use Rattle.dcm_base.specs.Normal.{normal_front}
-use Rattle.dcm_base.specs.Recode.{recode}
+use Rattle.dcm_base.specs.Recode.{is_explicit, recode}
 use Rattle.dcm_base.specs.Stop.{complete}
-use Rattle.dcm_base.specs.Syntax.{read_by, coding_by, is_big}
+use Rattle.dcm_base.specs.Syntax.{coding_by, dictionary_of, is_big, read_by}
 use Rattle.dcm_edit_words.specs.Edit.{Edit, edited, erase_all, erase_private, modify_all}
 use Rattle.dcm_edit.specs.Everywhere.{Among, EverywhereIn, IsOther, IsPublic, IsWrittenJust}
 use Rattle.dcm_edit.specs.Modification.{Modifies}
@@ -25,7 +25,7 @@ use Rattle.dcm_edit.proofs.ReadBack.EditedReads.{front_reads}
 use Rattle.dcm_edit.proofs.ReadBack.StaysReady.{FrontReady}
 use Rattle.dcm_edit.proofs.Readers.Bytes.{front_alike}
 use Rattle.dcm_edit.proofs.Readers.NormalForms.{normal_fits, normal_fits_back}
-use Rattle.dcm_edit.proofs.Readers.Opened.{front_ready_by}
+use Rattle.dcm_edit.proofs.Readers.Opened.{explicit_opens, front_ready_by}
 use Rattle.dcm_edit.proofs.Readers.Others as others
 use Rattle.dcm_tools.specs.MetaAgain.{meta_again}
 use Rattle.dcm_tools.proofs.ReadBack.NewMetaReads.{own}
@@ -126,11 +126,20 @@ module _ (d : Dictionary) (edits : List Edit) (input : List ℕ) (a : Answer) (m
       pub output_keeps_others_by : InOutput e (λ to again. set_without (any_changes edits) again ≡ set_without (any_changes edits) (normal_front to f)) a
       output_keeps_others_by = seen_by (λ to again. set_without (any_changes edits) again ≡ set_without (any_changes edits) (normal_front to f)) (others.stays_in edits s at f done by)
 
--- what was edited by the standard, each dictionary opens alike
-pub standard_output_opens : (e : Dictionary) (edits : List Edit) (input : List ℕ) (a : Answer) (m : Meta) (coding : Coding) (f : Front) → IsModified Standard edits input a m coding f → InOutput Standard (OpensAlike e) a
-standard_output_opens e edits input a m coding f h =
-    let at : ℕ = set_at (new_meta m.elements m.uid) in
-    let set : Front = edited edits f in
-    let r = was_read Standard edits input a m coding f h in
-    in_output Standard edits input a m coding f h (OpensAlike e)
-    (normal_fits (read_by e coding.syntax) coding.syntax set (others.standard_opens_alike edits coding.syntax at f (modifies Standard edits input a m coding f h) e (of_head Standard input m r.group coding r.head)))
+  -- ---- who opens it alike
+
+  -- it is the normal form of what was edited
+  opens_it : (e : Dictionary) → OpensAlike e s set → InOutput d (OpensAlike e) a
+  opens_it e opens = in_output d edits input a m coding f h (OpensAlike e) (normal_fits (read_by e s) s set opens)
+
+  read_with : dictionary_of s ≡ d
+  read_with = let r = was_read d edits input a m coding f h in of_head d input m r.group coding r.head
+
+  pub explicit_output_opens : (e : Dictionary) → is_explicit s ≡ true → InOutput d (OpensAlike e) a
+  explicit_output_opens e is = opens_it e (explicit_opens e s set is)
+
+  pub own_output_opens : InOutput d (OpensAlike d) a
+  own_output_opens = opens_it d (subst (λ (k : Dictionary). OpensAlike k s set) read_with (others.own_opens_alike edits s at f done))
+
+  pub standard_output_opens : (e : Dictionary) → d ≡ Standard → InOutput d (OpensAlike e) a
+  standard_output_opens e is = opens_it e (others.standard_opens_alike edits s at f done e (read_with ∙ is))

@@ -1,5 +1,5 @@
 -- Normal forms without some elements, and what a dictionary opens of them.
-use Rattle.std.proofs.Common.{◌≡◌, ◌∙◌, ap, sym, refl, ℕ, List, length, map, Bool, true, false}
+use Rattle.std.proofs.Common.{◌≡◌, ◌∙◌, ap, sym, refl, length, map, Bool, true, false}
 use Rattle.std.specs.Prelude.{if◌then◌else◌, ◌==◌}
 use Rattle.dcm_base.specs.declared.length.Length.TheVariants.{Undefined}
 use Rattle.dcm_base.specs.declared.syntax.Syntax.{Syntax}

@@ -1,5 +1,5 @@
 -- What a dictionary opens of a data set that another one read.
-use Rattle.std.proofs.Common.{◌≡◌, ◌≢◌, ap, sym, refl, subst, ℕ, suc, ◌<◌, List, length, Bool, true, false, Option, Some, None, ◌&&◌, arith}
+use Rattle.std.proofs.Common.{◌≡◌, ◌≢◌, sym, refl, subst, ℕ, suc, ◌<◌, List, length, Bool, true, false, Option, Some, None, ◌&&◌, arith}
 use Rattle.std.specs.Prelude.{if◌then◌else◌, ◌==◌, ◌%◌, find}
 use Rattle.std.specs.Option.{option_map_or}
 use Rattle.std.proofs.lemmas.Bool.Decides.{nat_tests}
@@ -17,6 +17,7 @@ use Rattle.dcm_base.specs.Dictionary.{Element, elements_in, element_in, vr_in, i
 use Rattle.dcm_base.specs.Front.{Front, front}
 use Rattle.dcm_base.specs.Laws.{is_even}
 use Rattle.dcm_base.specs.Normal.{normal_vr, normal_sequence_vr, TellsValue, TellsSequence, FitsTarget, ItemsFit, FrontFits}
+use Rattle.dcm_base.specs.Recode.{is_explicit}
 use Rattle.dcm_base.specs.Spelling.{form}
 use Rattle.dcm_base.specs.Syntax.{dictionary_of, read_by}
 use Rattle.dcm_base.specs.Tag.{is_private, tag_number, tag_of_number}
@@ -25,6 +26,7 @@ use Rattle.dcm_base.proofs.DataSets.ImplicitLengths.{explicit_fits}
 use Rattle.dcm_base.proofs.Dictionaries.Parts.{extract_is_part, groups_are_even}
 use Rattle.dcm_tools.proofs.ReadBack.HasRoom.{Ready, ReadyItems}
 use Rattle.dcm_edit_words.proofs.Words.EditWordLemmas.{found_passes, mapped, same_group}
+use Rattle.dcm_edit.specs.Readers.{OpensAlike}
 use Rattle.dcm_edit.proofs.ReadBack.StaysReady.{FrontReady}
 
 -- ---- what has room in a syntax has room in it by another dictionary that opens it alike
@@ -147,23 +149,43 @@ sequence_in Extract t small none h =
     sequence_of_part (implicit_in Extract) (element_in Extract t) (element_in Standard t) (if is_group_length t then UL else if is_private_creator t then LO else UN) (λ x is. extract_is_part t x is)
     (λ x is. unknown_by (is_group_length t) (is_private t) _ none (element_public Standard t x small is)) (implicit_alike Standard Extract (vr_in Standard t) h)
 
--- ---- each dictionary opens what the standard has read as the standard does
+-- ---- what one dictionary has read, another one opens alike
 
-module _ (e : Dictionary) where
+module _ (d e : Dictionary) (values : (t : Tag) → vr_in d t ≢ SQ → vr_in e t ≢ SQ)
+    (sequences : (t : Tag) → t.element < 65536 → (t.element == 0) ≡ false → form (implicit_in d) (vr_in d t) Undefined ≡ a_sequence → form (implicit_in e) (vr_in e t) Undefined ≡ a_sequence) where
   mutual
     unfolding Ready FitsTarget
 
-    standard_fits : (n : ℕ) (x : Trees) → Ready (implicit_in Standard) n x → FitsTarget (implicit_in e) x
-    standard_fits n no_tree h = tt
-    standard_fits n (leaf t vr v rest) h = (λ k. value_by e t (value_plain (implicit_in Standard) (vr_in Standard t) _ (h.0 k).2), standard_fits n rest h.1)
-    standard_fits n (sequence t vr size items rest) h = (λ k. (sequence_in e t (h.0 k).0.0.1 k (h.0 k).2, standard_items_fit (suc n) items (h.0 k).3), standard_fits n rest h.1)
-    standard_fits n (fragments t vr values rest) h = standard_fits n rest h.1
+    set_opens : (n : ℕ) (x : Trees) → Ready (implicit_in d) n x → FitsTarget (implicit_in e) x
+    set_opens n no_tree h = tt
+    set_opens n (leaf t vr v rest) h = (λ k. values t (value_plain (implicit_in d) (vr_in d t) _ (h.0 k).2), set_opens n rest h.1)
+    set_opens n (sequence t vr size items rest) h = (λ k. (sequences t (h.0 k).0.0.1 k (h.0 k).2, items_open (suc n) items (h.0 k).3), set_opens n rest h.1)
+    set_opens n (fragments t vr values rest) h = set_opens n rest h.1
 
-    standard_items_fit : (n : ℕ) (x : Items) → ReadyItems (implicit_in Standard) n x → ItemsFit (implicit_in e) x
-    standard_items_fit n no_item h = tt
-    standard_items_fit n (item size set rest) h = (standard_fits n set h.0, standard_items_fit n rest h.1)
+    items_open : (n : ℕ) (x : Items) → ReadyItems (implicit_in d) n x → ItemsFit (implicit_in e) x
+    items_open n no_item h = tt
+    items_open n (item size set rest) h = (set_opens n set h.0, items_open n rest h.1)
 
-  pub standard_opens : (s : Syntax) (f : Front) → dictionary_of s ≡ Standard → FrontReady s f → FrontFits (read_by e s) f
-  standard_opens (implicit_in d) (front whole o reached closed) is h = standard_fits 0 whole (subst (λ (k : Dictionary). Ready (implicit_in k) 0 whole) is h.0)
-  standard_opens (little_in d) f is h = explicit_fits (little_in e) f refl
-  standard_opens (big_in d) f is h = explicit_fits (big_in e) f refl
+  pub front_opens : (f : Front) → FrontReady (implicit_in d) f → FrontFits (implicit_in e) f
+  front_opens (front whole o reached closed) h = set_opens 0 whole h.0
+
+standard_implicit : (d e : Dictionary) (f : Front) → d ≡ Standard → FrontReady (implicit_in d) f → FrontFits (implicit_in e) f
+standard_implicit d e f is h = front_opens Standard e (value_by e) (sequence_in e) f (subst (λ (k : Dictionary). FrontReady (implicit_in k) f) is h)
+
+-- each one what the standard has read
+pub standard_opens : (e : Dictionary) (s : Syntax) (f : Front) → dictionary_of s ≡ Standard → FrontReady s f → OpensAlike e s f
+standard_opens e (implicit_in d) f is h = standard_implicit d e f is h
+standard_opens e (little_in d) f is h = explicit_fits (little_in e) f refl
+standard_opens e (big_in d) f is h = explicit_fits (big_in e) f refl
+
+-- and each one what it has read itself
+pub own_opens : (s : Syntax) (f : Front) → FrontReady s f → OpensAlike (dictionary_of s) s f
+own_opens (implicit_in d) f h = front_opens d d (λ t k. k) (λ t small none k. k) f h
+own_opens (little_in d) f h = explicit_fits (little_in d) f refl
+own_opens (big_in d) f h = explicit_fits (big_in d) f refl
+
+-- in an explicit syntax the heads tell it
+pub explicit_opens : (e : Dictionary) (s : Syntax) (f : Front) → is_explicit s ≡ true → OpensAlike e s f
+explicit_opens e (implicit_in d) f is = absurd (cc)
+explicit_opens e (little_in d) f is = explicit_fits (little_in e) f refl
+explicit_opens e (big_in d) f is = explicit_fits (big_in e) f refl

@@ -17,7 +17,7 @@ use Rattle.dcm_edit_words.specs.Edit.{Edit, edited, erase_all, erase_private, mo
 use Rattle.dcm_edit_words.specs.Overlap.{AreApart, ArePublic}
 use Rattle.dcm_edit_words.proofs.Words.EditWordLemmas.{edits_are_apart}
 use Rattle.dcm_edit_words.proofs.Words.WordValues.{edits_fit}
-use Rattle.dcm_edit.specs.Everywhere.{Among, Content, EverywhereIn, HasJust, IsOther, IsPublic, IsWrittenJust}
+use Rattle.dcm_edit.specs.Everywhere.{Among, EverywhereIn, HasJust, IsOther, IsPublic, IsWrittenJust}
 use Rattle.dcm_edit.specs.Modification.{Modifies, ReadsAgain}
 use Rattle.dcm_edit.specs.Others.{any_changes, set_without}
 use Rattle.dcm_edit.specs.Readers.{OpensAlike, ReadsBy}
@@ -29,7 +29,7 @@ use Rattle.dcm_edit.proofs.Trees.Others.{others_stay}
 use Rattle.dcm_edit.proofs.Words.WordsReady.{edits_ready}
 use Rattle.dcm_edit.proofs.Readers.Bytes.{front_alike}
 use Rattle.dcm_edit.proofs.Readers.NormalForms.{normal_forms_without}
-use Rattle.dcm_edit.proofs.Readers.Opened.{front_ready_by, standard_opens}
+use Rattle.dcm_edit.proofs.Readers.Opened.{front_ready_by, own_opens, standard_opens}
 
 module _ (edits : List Edit) (s : Syntax) (at : ℕ) (f : Front) (h : Modifies edits s at f) where
   was_ready : FrontReady s f
@@ -56,6 +56,9 @@ module _ (edits : List Edit) (s : Syntax) (at : ℕ) (f : Front) (h : Modifies e
 
   pub standard_opens_alike : (e : Dictionary) → dictionary_of s ≡ Standard → OpensAlike e s (edited edits f)
   standard_opens_alike e is = standard_opens e s (edited edits f) is is_ready
+
+  pub own_opens_alike : OpensAlike (dictionary_of s) s (edited edits f)
+  own_opens_alike = own_opens s (edited edits f) is_ready
 
   module _ (e : Dictionary) (opens : OpensAlike e s (edited edits f)) where
     abbrev by : Syntax
