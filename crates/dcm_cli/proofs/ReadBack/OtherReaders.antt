@@ -1,5 +1,5 @@
 -- What dcmodify has done is so in its output for other readers too.
-use Rattle.std.proofs.Common.{◌≡◌, true, ◌∙◌, ap, sym, subst, refl, ℕ, ◌+◌, ◌≤◌, List, ◌++◌, length, None}
+use Rattle.std.proofs.Common.{◌≡◌, true, ◌∙◌, ap, sym, subst, refl, ℕ, List, ◌++◌, length, None}
 use Rattle.dcm_base.specs.declared.lookup.Dictionary.{Dictionary}
 use Rattle.dcm_base.specs.declared.lookup.Dictionary.TheVariants.{Standard}
 use Rattle.dcm_base.specs.declared.mode.Mode.TheVariants.{Full}
