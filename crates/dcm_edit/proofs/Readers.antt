@@ -3,3 +3,4 @@ pub mod Opened
 pub mod Bytes
 pub mod NormalForms
 pub mod Others
+pub mod Rows
