@@ -3,4 +3,7 @@ pub mod Opened
 pub mod Bytes
 pub mod NormalForms
 pub mod Others
+pub mod WholeReads
+pub mod Respelled
+pub mod Hidden
 pub mod Rows

@@ -28,7 +28,7 @@ use Rattle.dcm_edit.specs.Everywhere.{Among, EverywhereIn, IsOther, IsPublic, Is
 use Rattle.dcm_edit.specs.Modification.{Modifies, OfBytes, ReadsAgain}
 use Rattle.dcm_edit.specs.Others.{any_changes, set_without}
 use Rattle.dcm_edit_words.specs.Overlap.{AreApart, ArePublic}
-use Rattle.dcm_edit.specs.Readers.{OpensAlike, ReadsBy}
+use Rattle.dcm_edit.specs.Readers.{HidesNothing, OpensAlike, ReadsBy}
 use Rattle.dcm_edit.specs.Repeating.{EraseByNoNumber}
 
 -- what the encode sink writes of the atoms that the edit sink passes on
@@ -186,6 +186,25 @@ OthersStayBy =
     (edits : List Edit) (s : Syntax) (at : ℕ) (f again : Front) (stop : Stop) (e : Dictionary) → Modifies edits s at f
     → OpensAlike e s (edited edits f) → ReadsBy e edits s at f again stop
     → (stop ≡ complete) × (set_without (any_changes edits) again ≡ set_without (any_changes edits) (normal_front (read_by e s) f))
+
+-- to a dictionary from which the values of what is written hide nothing, and which reads it to its end: after `-ea` no element has
+-- the tag, at any depth
+abbrev pub NoneIsSeen : Type 0
+NoneIsSeen =
+    (edits : List Edit) (s : Syntax) (at : ℕ) (f again : Front) (e : Dictionary) (tag : Tag) → Modifies edits s at f
+    → HidesNothing e s (normal_front s (edited edits f)) → Among (erase_all tag) edits
+    → ReadsBy e edits s at f again complete → EverywhereIn (IsOther tag) again
+
+-- after `-ep` no element is of an odd group
+abbrev pub NoPrivateIsSeen : Type 0
+NoPrivateIsSeen =
+    (edits : List Edit) (s : Syntax) (at : ℕ) (f again : Front) (e : Dictionary) → Modifies edits s at f
+    → HidesNothing e s (normal_front s (edited edits f)) → Among erase_private edits
+    → ReadsBy e edits s at f again complete → EverywhereIn IsPublic again
+
+-- the values of what is written hide nothing from a dictionary that opens the edited data set alike
+abbrev pub AlikeHidesNothing : Type 0
+AlikeHidesNothing = (s : Syntax) (f : Front) (e : Dictionary) → OpensAlike e s f → HidesNothing e s (normal_front s f)
 
 -- the same edits of what is written write the same bytes again, where no edit erases an item by its number
 abbrev pub EditedTwice : Type 0

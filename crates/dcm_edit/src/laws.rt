@@ -129,6 +129,14 @@ pub fn edited_for_others()
     ensures others_stay { laws.OthersStayBy }
 {}
 
+/// What was erased is gone for every reader that reads what is written to its end, where the values hide nothing from it: a value that
+/// is a sequence by its dictionary is empty. So it is where that opens the edited data set alike.
+pub fn erased_for_all()
+    ensures erased_all { laws.NoneIsSeen }
+    ensures erased_private { laws.NoPrivateIsSeen }
+    ensures alike { laws.AlikeHidesNothing }
+{}
+
 /// The same edits of what is written, as it reads back, write the same bytes again, where no edit erases an item by its number.
 pub fn edited_twice()
     ensures { laws.EditedTwice }

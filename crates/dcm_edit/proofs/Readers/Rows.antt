@@ -14,7 +14,7 @@ use Rattle.dcm_base.specs.Normal.{FitsTarget, whole_front}
 use Rattle.dcm_base.specs.Spelling.{TreesAt, form, inside}
 use Rattle.dcm_base.specs.Tree.{Trees, no_tree, leaf, sequence, no_item, item}
 use Rattle.dcm_edit.specs.Everywhere.{Everywhere, IsOther}
-use Rattle.dcm_edit.specs.Readers.{OpensAlike}
+use Rattle.dcm_edit.specs.Readers.{HidesNothing, OpensAlike}
 
 -- LanguageCodeSequence
 abbrev pub languages : Tag
@@ -121,3 +121,11 @@ one_to_standard h = let other : true ≡ false = h.1.0.0 in cc
 pub not_alike : OpensAlike Standard (implicit_in Extract) (whole_front one_value) → ⊥
 unfolding FitsTarget
 not_alike h = h.0 refl standard_languages
+
+-- what the value hides from it
+pub hides : HidesNothing Standard (implicit_in Extract) (whole_front one_value) → ⊥
+hides h = let none : item_bytes ≡ [] = h.0 standard_languages in cc
+
+-- an empty one hides nothing
+pub empty_hides_nothing : HidesNothing Standard (implicit_in Extract) (whole_front (leaf languages UN [] no_tree))
+empty_hides_nothing = (λ is. refl, tt)
