@@ -12,11 +12,11 @@ use Rattle.dcm_base.specs.declared.lookup.Dictionary.TheVariants.{Standard}
 use Rattle.dcm_edit_words.specs.Edit.{Edit, erase_all, erase_private, modify_all}
 use Rattle.dcm_edit.specs.Everywhere.{Among, EverywhereIn, IsOther, IsPublic, IsWrittenJust}
 use Rattle.dcm_edit.specs.Others.{any_changes, set_without}
-use Rattle.dcm_edit.specs.Readers.{OpensAlike}
+use Rattle.dcm_edit.specs.Readers.{HidesNothing, OpensAlike}
 use Rattle.dcm_edit.specs.Repeating.{EraseByNoNumber}
 use Rattle.dcm_words.specs.declared.job.Job.{Job}
 use Rattle.dcm_cli.specs.Answer.{Answer, Answers, Sure}
-use Rattle.dcm_cli.specs.ReadsAgain.{InOutput, IsConverted, IsModified, ReadsConverted, ReadsModified}
+use Rattle.dcm_cli.specs.ReadsAgain.{InOutput, InWholeOutput, IsConverted, IsModified, ReadsConverted, ReadsModified}
 use Rattle.dcm_cli.specs.Run.{IsMeant}
 use Rattle.dcm_words.specs.Plans.{job_of}
 use Rattle.dcm_words.specs.Words as words
@@ -113,6 +113,26 @@ abbrev pub StandardOpensAlike : Type 0
 StandardOpensAlike =
     (e : Dictionary) (edits : List Edit) (input : List ℕ) (a : Answer) (m : Meta) (coding : Coding) (f : Front)
     → IsModified Standard edits input a m coding f → InOutput Standard (OpensAlike e) a
+
+-- by a dictionary from which the values of the output hide nothing: after `-ea` no element has the tag, at any depth
+abbrev pub ErasedAllSeen : Type 0
+ErasedAllSeen =
+    (d e : Dictionary) (edits : List Edit) (input : List ℕ) (a : Answer) (m : Meta) (coding : Coding) (f : Front)
+    → IsModified d edits input a m coding f → InOutput d (HidesNothing e) a → (tag : Tag) → Among (erase_all tag) edits
+    → InWholeOutput e (λ s set. EverywhereIn (IsOther tag) set) a
+
+-- after `-ep` no element is of an odd group
+abbrev pub ErasedPrivateSeen : Type 0
+ErasedPrivateSeen =
+    (d e : Dictionary) (edits : List Edit) (input : List ℕ) (a : Answer) (m : Meta) (coding : Coding) (f : Front)
+    → IsModified d edits input a m coding f → InOutput d (HidesNothing e) a → Among erase_private edits
+    → InWholeOutput e (λ s set. EverywhereIn IsPublic set) a
+
+-- they hide nothing from one that opens the output alike
+abbrev pub AlikeHidesNothing : Type 0
+AlikeHidesNothing =
+    (d e : Dictionary) (edits : List Edit) (input : List ℕ) (a : Answer) (m : Meta) (coding : Coding) (f : Front)
+    → IsModified d edits input a m coding f → InOutput d (OpensAlike e) a → InOutput d (HidesNothing e) a
 
 -- the same edits again write the same bytes, unless one erases an item by its number
 abbrev pub ModifiedTwice : Type 0

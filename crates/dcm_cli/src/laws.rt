@@ -1,5 +1,5 @@
 //! Laws of the definitions. Each function takes nothing and makes no call: its contract is the law.
-ghost use Rattle.dcm_cli.specs.Laws.{SureGrows, ModifiedReads, ConvertedReads, ErasedAll, ErasedPrivate, ModifiedAll, OthersStay, ErasedAllBy, ErasedPrivateBy, ModifiedAllBy, OthersStayBy, ExplicitOpensAlike, OwnOpensAlike, StandardOpensAlike, ModifiedTwice};
+ghost use Rattle.dcm_cli.specs.Laws.{SureGrows, ModifiedReads, ConvertedReads, ErasedAll, ErasedPrivate, ModifiedAll, OthersStay, ErasedAllBy, ErasedPrivateBy, ModifiedAllBy, OthersStayBy, ExplicitOpensAlike, OwnOpensAlike, StandardOpensAlike, ErasedAllSeen, ErasedPrivateSeen, AlikeHidesNothing, ModifiedTwice};
 ghost use Rattle.dcm_cli.specs.Answer.{Answer, Answers};
 ghost use Rattle.dcm_cli.specs.DumpBuilds.{DumpBuilds};
 ghost use Rattle.dcm_cli.specs.NoEdits.{NoEditsConvert};
@@ -76,6 +76,14 @@ pub fn output_opens_alike()
     ensures explicit { ExplicitOpensAlike }
     ensures own { OwnOpensAlike }
     ensures standard { StandardOpensAlike }
+{}
+
+/// What was erased is gone for every reader that reads the output to its end, where its values hide nothing from it: a value that is
+/// a sequence by its dictionary is empty. They hide nothing from one that opens the output alike.
+pub fn output_erased_for_all()
+    ensures erased_all { ErasedAllSeen }
+    ensures erased_private { ErasedPrivateSeen }
+    ensures alike { AlikeHidesNothing }
 {}
 
 /// Two runs in a row: dcmodify on a file without fault, and then on its output, with the same edits. Where no edit erases an item by
