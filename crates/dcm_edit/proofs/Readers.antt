@@ -3,6 +3,7 @@ pub mod Opened
 pub mod Bytes
 pub mod NormalForms
 pub mod Others
+pub mod Renamed
 pub mod WholeReads
 pub mod Respelled
 pub mod Hidden

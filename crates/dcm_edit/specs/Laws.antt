@@ -143,6 +143,13 @@ EditedReadsBy =
     (edits : List Edit) (s : Syntax) (at : ℕ) (f : Front) (e : Dictionary) → Modifies edits s at f
     → OpensAlike e s (edited edits f) → ReadsBy e edits s at f (normal_front (read_by e s) (edited edits f)) complete
 
+-- it is the same data set as the one that reads back by its own dictionary, but for the representations: the normal form of that
+abbrev pub ReadsAlike : Type 0
+ReadsAlike =
+    (edits : List Edit) (s : Syntax) (at : ℕ) (f again other : Front) (stop end : Stop) (e : Dictionary) → Modifies edits s at f
+    → OpensAlike e s (edited edits f) → ReadsAgain edits s at f again stop → ReadsBy e edits s at f other end
+    → other ≡ normal_front (read_by e s) again
+
 -- an explicit data set each dictionary opens alike
 abbrev pub ExplicitOpensAlike : Type 0
 ExplicitOpensAlike = (s : Syntax) (f : Front) (e : Dictionary) → is_explicit s ≡ true → OpensAlike e s f

@@ -107,9 +107,11 @@ pub fn others_stay_written()
 {}
 
 /// By another dictionary what is written reads back without fault too, as the normal form by that one, where it opens the edited
-/// data set alike: of an implicit one, no value is a sequence by it, and each sequence is one.
+/// data set alike: of an implicit one, no value is a sequence by it, and each sequence is one. That is the same data set, with the
+/// representations of that dictionary.
 pub fn edited_reads_by()
-    ensures { laws.EditedReadsBy }
+    ensures reads { laws.EditedReadsBy }
+    ensures alike { laws.ReadsAlike }
 {}
 
 /// Each dictionary opens alike an explicit data set, an edited one that it has read itself, and one that the standard has read, since

@@ -1,5 +1,5 @@
 -- What was edited is so for every reader that opens it alike.
-use Rattle.std.proofs.Common.{◌≡◌, sym, subst, ℕ, ◌+◌, ◌≤◌, List, length}
+use Rattle.std.proofs.Common.{◌≡◌, ◌∙◌, ap, refl, sym, subst, ℕ, ◌+◌, ◌≤◌, List, length}
 use Rattle.dcm_base.specs.declared.lookup.Dictionary.{Dictionary}
 use Rattle.dcm_base.specs.declared.lookup.Dictionary.TheVariants.{Standard}
 use Rattle.dcm_base.specs.declared.syntax.Syntax.{Syntax}
@@ -29,6 +29,7 @@ use Rattle.dcm_edit.proofs.Trees.Others.{others_stay}
 use Rattle.dcm_edit.proofs.Words.WordsReady.{edits_ready}
 use Rattle.dcm_edit.proofs.Readers.Bytes.{front_alike}
 use Rattle.dcm_edit.proofs.Readers.NormalForms.{normal_forms_without}
+use Rattle.dcm_edit.proofs.Readers.Renamed.{renamed}
 use Rattle.dcm_edit.proofs.Readers.Opened.{front_ready_by, own_opens, standard_opens}
 
 module _ (edits : List Edit) (s : Syntax) (at : ℕ) (f : Front) (h : Modifies edits s at f) where
@@ -48,11 +49,15 @@ module _ (edits : List Edit) (s : Syntax) (at : ℕ) (f : Front) (h : Modifies e
   pub stays_in : (to : Syntax) → set_without (any_changes edits) (normal_front to (edited edits f)) ≡ set_without (any_changes edits) (normal_front to f)
   stays_in to = normal_forms_without (any_changes edits) to (edited edits f) f (others_stay edits f was_whole)
 
-  pub others_stay_written : (again : Front) (stop : Stop) → ReadsAgain edits s at f again stop → (stop ≡ complete) × (set_without (any_changes edits) again ≡ set_without (any_changes edits) (normal_front s f))
-  others_stay_written again stop reads =
+  -- what reads back is the normal form
+  own_read : (again : Front) (stop : Stop) → ReadsAgain edits s at f again stop → (stop ≡ complete) × (again ≡ normal_front s (edited edits f))
+  own_read again stop reads =
       let own = edited_reads s h.words edits h.mean h.start h.bytes f h.begins h.are_bytes h.reads at h.within in
-      let one = reads_once (target_bar s) s at (recode s (edited edits f)) (normal_front s (edited edits f)) again complete stop own reads in
-      (sym one.1, subst (λ (g : Front). set_without (any_changes edits) g ≡ set_without (any_changes edits) (normal_front s f)) one.0 (stays_in s))
+      let one = reads_once (target_bar s) s at (recode s (edited edits f)) again (normal_front s (edited edits f)) stop complete reads own in
+      (one.1, one.0)
+
+  pub others_stay_written : (again : Front) (stop : Stop) → ReadsAgain edits s at f again stop → (stop ≡ complete) × (set_without (any_changes edits) again ≡ set_without (any_changes edits) (normal_front s f))
+  others_stay_written again stop reads = let own = own_read again stop reads in (own.0, ap (set_without (any_changes edits)) own.1 ∙ stays_in s)
 
   pub standard_opens_alike : (e : Dictionary) → dictionary_of s ≡ Standard → OpensAlike e s (edited edits f)
   standard_opens_alike e is = standard_opens e s (edited edits f) is is_ready
@@ -90,6 +95,11 @@ module _ (edits : List Edit) (s : Syntax) (at : ℕ) (f : Front) (h : Modifies e
         front_has by (HasJust tag vr value) (IsWrittenJust by tag vr value) (written_just by tag vr value) (λ t k. k) (edited edits f) (modified_all tag vr value edits f among apart.0 apart.1 was_whole)
 
     -- ---- the laws
+
+    pub reads_alike : (again other : Front) (stop end : Stop) → ReadsAgain edits s at f again stop → ReadsBy e edits s at f other end → other ≡ normal_front by again
+    reads_alike again other stop end own reads =
+        let two = so_read (λ (g : Front). g ≡ normal_front by (edited edits f)) other end reads refl in
+        two.1 ∙ sym (ap (normal_front by) (own_read again stop own).1 ∙ renamed e s (edited edits f))
 
     pub none_is_left : (again : Front) (stop : Stop) (tag : Tag) → Among (erase_all tag) edits → ReadsBy e edits s at f again stop → (stop ≡ complete) × EverywhereIn (IsOther tag) again
     none_is_left again stop tag among reads = so_read (EverywhereIn (IsOther tag)) again stop reads (without_it tag among)
