@@ -68,7 +68,15 @@ OthersStay =
     → IsModified d edits input a m coding f
     → InOutput d (λ s set. set_without (any_changes edits) set ≡ set_without (any_changes edits) (normal_front s f)) a
 
--- by a dictionary that opens the output alike: after `-ea` no element has the tag, at any depth
+-- a dictionary that opens the output alike reads the same data set in it without fault, but for the representations: the normal form
+-- of the one that the dictionary of the edits reads
+abbrev pub ReadsAlike : Type 0
+ReadsAlike =
+    (d e : Dictionary) (edits : List Edit) (input : List ℕ) (a : Answer) (m : Meta) (coding : Coding) (f : Front)
+    → IsModified d edits input a m coding f → InOutput d (OpensAlike e) a
+    → InOutput d (λ s own. InOutput e (λ to set. set ≡ normal_front to own) a) a
+
+-- by such a dictionary: after `-ea` no element has the tag, at any depth
 abbrev pub ErasedAllBy : Type 0
 ErasedAllBy =
     (d e : Dictionary) (edits : List Edit) (input : List ℕ) (a : Answer) (m : Meta) (coding : Coding) (f : Front)

@@ -1,5 +1,5 @@
 //! Laws of the definitions. Each function takes nothing and makes no call: its contract is the law.
-ghost use Rattle.dcm_cli.specs.Laws.{SureGrows, ModifiedReads, ConvertedReads, ErasedAll, ErasedPrivate, ModifiedAll, OthersStay, ErasedAllBy, ErasedPrivateBy, ModifiedAllBy, OthersStayBy, ExplicitOpensAlike, OwnOpensAlike, StandardOpensAlike, ErasedAllSeen, ErasedPrivateSeen, AlikeHidesNothing, ModifiedTwice};
+ghost use Rattle.dcm_cli.specs.Laws.{SureGrows, ModifiedReads, ConvertedReads, ErasedAll, ErasedPrivate, ModifiedAll, OthersStay, ReadsAlike, ErasedAllBy, ErasedPrivateBy, ModifiedAllBy, OthersStayBy, ExplicitOpensAlike, OwnOpensAlike, StandardOpensAlike, ErasedAllSeen, ErasedPrivateSeen, AlikeHidesNothing, ModifiedTwice};
 ghost use Rattle.dcm_cli.specs.Answer.{Answer, Answers};
 ghost use Rattle.dcm_cli.specs.DumpBuilds.{DumpBuilds};
 ghost use Rattle.dcm_cli.specs.NoEdits.{NoEditsConvert};
@@ -61,8 +61,9 @@ pub fn output_keeps_others()
 {}
 
 /// What is erased, set and left is so for readers with another dictionary too, where it opens the output alike: in an implicit
-/// one, no value is a sequence by it, and each sequence is one.
+/// one, no value is a sequence by it, and each sequence is one. They read the same data set, with other representations.
 pub fn output_for_others()
+    ensures alike { ReadsAlike }
     ensures erased_all { ErasedAllBy }
     ensures erased_private { ErasedPrivateBy }
     ensures modified_all { ModifiedAllBy }

@@ -30,6 +30,7 @@ use Rattle.dcm_edit.proofs.Readers.Hidden.{alike_hides, no_private_is_seen, none
 use Rattle.dcm_edit.proofs.Readers.NormalForms.{normal_fits, normal_fits_back}
 use Rattle.dcm_edit.proofs.Readers.Opened.{explicit_opens, front_ready_by}
 use Rattle.dcm_edit.proofs.Readers.Others as others
+use Rattle.dcm_edit.proofs.Readers.Renamed.{renamed}
 use Rattle.dcm_base.proofs.DataSets.OwnSyntax.{own_reads}
 use Rattle.dcm_head.proofs.MetaGroups.OneMeta.{one_meta}
 use Rattle.dcm_tools.specs.MetaAgain.{meta_again}
@@ -135,6 +136,11 @@ module _ (d : Dictionary) (edits : List Edit) (input : List ℕ) (a : Answer) (m
 
       pub output_keeps_others_by : InOutput e (λ to again. set_without (any_changes edits) again ≡ set_without (any_changes edits) (normal_front to f)) a
       output_keeps_others_by = seen_by (λ to again. set_without (any_changes edits) again ≡ set_without (any_changes edits) (normal_front to f)) (others.stays_in edits s at f done by)
+
+      -- it is the data set that its own dictionary reads, with other representations
+      pub output_alike : InOutput d (λ to own_set. InOutput e (λ to again. again ≡ normal_front to own_set) a) a
+      output_alike =
+          in_output d edits input a m coding f h (λ to own_set. InOutput e (λ to again. again ≡ normal_front to own_set) a) (seen_by (λ to again. again ≡ normal_front to (normal_front s set)) (sym (renamed e s set)))
 
   -- ---- readers from which it hides nothing
 

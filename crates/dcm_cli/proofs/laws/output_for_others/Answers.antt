@@ -1,5 +1,8 @@
-use Rattle.dcm_cli.proofs.ReadBack.OtherReaders.{output_without_by, output_public_by, output_modified_by, output_keeps_others_by}
+use Rattle.dcm_cli.proofs.ReadBack.OtherReaders.{output_alike, output_keeps_others_by, output_modified_by, output_public_by, output_without_by}
 use Rattle.dcm_cli.proofs.laws.output_for_others.Goals as goal
+
+pub returns-clause-alike : goal.returns-clause-alike
+returns-clause-alike c = λ d e edits input a m coding f h in_it. output_alike d edits input a m coding f h e in_it
 
 pub returns-clause-erased_all : goal.returns-clause-erased_all
 returns-clause-erased_all c = λ d e edits input a m coding f h in_it. output_without_by d edits input a m coding f h e in_it
