@@ -68,8 +68,8 @@ OthersStay =
     → IsModified d edits input a m coding f
     → InOutput d (λ s set. set_without (any_changes edits) set ≡ set_without (any_changes edits) (normal_front s f)) a
 
--- a dictionary that opens the output alike reads the same data set in it without fault, but for the representations: the normal form
--- of the one that the dictionary of the edits reads
+-- a dictionary that opens the output alike reads the same data set in it without fault, but for the representations:
+-- the normal form of the one that the dictionary of the edits reads
 abbrev pub ReadsAlike : Type 0
 ReadsAlike =
     (d e : Dictionary) (edits : List Edit) (input : List ℕ) (a : Answer) (m : Meta) (coding : Coding) (f : Front)

@@ -137,18 +137,20 @@ OthersStayWritten =
     → ReadsAgain edits s at f again stop
     → (stop ≡ complete) × (set_without (any_changes edits) again ≡ set_without (any_changes edits) (normal_front s f))
 
--- by a dictionary that opens the edited data set alike, what is written reads without fault, as the normal form by that dictionary
+-- by a dictionary that opens the edited data set alike, what is written reads without fault, as the normal form by that
+-- dictionary
 abbrev pub EditedReadsBy : Type 0
 EditedReadsBy =
     (edits : List Edit) (s : Syntax) (at : ℕ) (f : Front) (e : Dictionary) → Modifies edits s at f
     → OpensAlike e s (edited edits f) → ReadsBy e edits s at f (normal_front (read_by e s) (edited edits f)) complete
 
--- it is the same data set as the one that reads back by its own dictionary, but for the representations: the normal form of that
+-- it is the same data set as the one that reads back by its own dictionary, but for the representations: the normal
+-- form of that
 abbrev pub ReadsAlike : Type 0
 ReadsAlike =
-    (edits : List Edit) (s : Syntax) (at : ℕ) (f again other : Front) (stop end : Stop) (e : Dictionary) → Modifies edits s at f
-    → OpensAlike e s (edited edits f) → ReadsAgain edits s at f again stop → ReadsBy e edits s at f other end
-    → other ≡ normal_front (read_by e s) again
+    (edits : List Edit) (s : Syntax) (at : ℕ) (f again other : Front) (stop end : Stop) (e : Dictionary)
+    → Modifies edits s at f → OpensAlike e s (edited edits f) → ReadsAgain edits s at f again stop
+    → ReadsBy e edits s at f other end → other ≡ normal_front (read_by e s) again
 
 -- an explicit data set each dictionary opens alike
 abbrev pub ExplicitOpensAlike : Type 0
@@ -163,15 +165,15 @@ OwnOpensAlike =
 -- and by each one, if it was read by the standard
 abbrev pub StandardOpensAlike : Type 0
 StandardOpensAlike =
-    (edits : List Edit) (s : Syntax) (at : ℕ) (f : Front) (e : Dictionary) → Modifies edits s at f → dictionary_of s ≡ Standard
-    → OpensAlike e s (edited edits f)
+    (edits : List Edit) (s : Syntax) (at : ℕ) (f : Front) (e : Dictionary) → Modifies edits s at f
+    → dictionary_of s ≡ Standard → OpensAlike e s (edited edits f)
 
 -- by a dictionary that opens the edited data set alike: after `-ea` no element has the tag, at any depth
 abbrev pub NoneIsLeftBy : Type 0
 NoneIsLeftBy =
     (edits : List Edit) (s : Syntax) (at : ℕ) (f again : Front) (stop : Stop) (e : Dictionary) (tag : Tag)
-    → Modifies edits s at f → OpensAlike e s (edited edits f) → Among (erase_all tag) edits → ReadsBy e edits s at f again stop
-    → (stop ≡ complete) × EverywhereIn (IsOther tag) again
+    → Modifies edits s at f → OpensAlike e s (edited edits f) → Among (erase_all tag) edits
+    → ReadsBy e edits s at f again stop → (stop ≡ complete) × EverywhereIn (IsOther tag) again
 
 -- after `-ep` no element is of an odd group
 abbrev pub NoPrivateIsLeftBy : Type 0
@@ -185,17 +187,19 @@ abbrev pub AllAreModifiedBy : Type 0
 AllAreModifiedBy =
     (edits : List Edit) (s : Syntax) (at : ℕ) (f again : Front) (stop : Stop) (e : Dictionary) (tag : Tag) (vr : Vr)
     (value : List ℕ) → Modifies edits s at f → OpensAlike e s (edited edits f) → Among (modify_all tag vr value) edits
-    → ReadsBy e edits s at f again stop → (stop ≡ complete) × EverywhereIn (IsWrittenJust (read_by e s) tag vr value) again
+    → ReadsBy e edits s at f again stop
+    → (stop ≡ complete) × EverywhereIn (IsWrittenJust (read_by e s) tag vr value) again
 
 -- what no edit may change reads back as the normal form of it
 abbrev pub OthersStayBy : Type 0
 OthersStayBy =
     (edits : List Edit) (s : Syntax) (at : ℕ) (f again : Front) (stop : Stop) (e : Dictionary) → Modifies edits s at f
     → OpensAlike e s (edited edits f) → ReadsBy e edits s at f again stop
-    → (stop ≡ complete) × (set_without (any_changes edits) again ≡ set_without (any_changes edits) (normal_front (read_by e s) f))
+    → (stop ≡ complete)
+    × (set_without (any_changes edits) again ≡ set_without (any_changes edits) (normal_front (read_by e s) f))
 
--- to a dictionary from which the values of what is written hide nothing, and which reads it to its end: after `-ea` no element has
--- the tag, at any depth
+-- to a dictionary from which the values of what is written hide nothing, and which reads it to its end: after `-ea` no
+-- element has the tag, at any depth
 abbrev pub NoneIsSeen : Type 0
 NoneIsSeen =
     (edits : List Edit) (s : Syntax) (at : ℕ) (f again : Front) (e : Dictionary) (tag : Tag) → Modifies edits s at f

@@ -19,16 +19,18 @@ use Rattle.dcm_base.specs.Syntax.{read_by}
 use Rattle.dcm_base.specs.Tree.{Trees, no_tree, leaf, sequence, fragments, Items, no_item, item}
 use Rattle.dcm_edit_words.specs.Edit.{Edit, edited}
 
--- the dictionary opens the elements of a data set of the syntax as they are: by it no value of an implicit one is a sequence, and
--- each sequence is one (PS3.5 6.2.2); in an explicit one the heads say that themselves
+-- the dictionary opens the elements of a data set of the syntax as they are: by it no value of an implicit one is a
+-- sequence, and each sequence is one (PS3.5 6.2.2); in an explicit one the heads say that themselves
 abbrev pub OpensAlike : Dictionary → Syntax → Front → Type 0
 OpensAlike e s set = FrontFits (read_by e s) set
 
 -- what is written is read by the dictionary, in the same syntax
 abbrev pub ReadsBy : Dictionary → List Edit → Syntax → (at : ℕ) → Front → (again : Front) → Stop → Type 0
-ReadsBy e edits s at f again stop = Reads (target_bar (read_by e s)) (read_by e s) at (recode s (edited edits f)) again stop
+ReadsBy e edits s at f again stop =
+    Reads (target_bar (read_by e s)) (read_by e s) at (recode s (edited edits f)) again stop
 
--- by the dictionary of a syntax a value is no sequence, or an empty one, and a sequence of this length is one (PS3.5 6.2.2)
+-- by the dictionary of a syntax a value is no sequence, or an empty one, and a sequence of this length is one
+-- (PS3.5 6.2.2)
 abbrev pub HoldsNothing : Syntax → Tag → List ℕ → Type 0
 HoldsNothing (implicit_in e) t v = vr_in e t ≡ SQ → v ≡ []
 HoldsNothing s t v = Unit {0}
@@ -42,7 +44,8 @@ abbrev mutual
   pub NothingHidden : Syntax → Trees → Type 0
   NothingHidden s no_tree = Unit {0}
   NothingHidden s (leaf t vr v rest) = HoldsNothing s t v × NothingHidden s rest
-  NothingHidden s (sequence t vr declared items rest) = IsSequence s t declared × NoItemHidden s items × NothingHidden s rest
+  NothingHidden s (sequence t vr declared items rest) =
+      IsSequence s t declared × NoItemHidden s items × NothingHidden s rest
   NothingHidden s (fragments t vr values rest) = NothingHidden s rest
 
   pub NoItemHidden : Syntax → Items → Type 0
