@@ -3,3 +3,4 @@ pub mod DumpBuilds
 pub mod ReadsAgain
 pub mod OutputEdited
 pub mod ModifiedTwice
+pub mod OtherReaders

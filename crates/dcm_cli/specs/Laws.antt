@@ -3,19 +3,24 @@ use Rattle.dcm_base.specs.declared.syntax.Coding.{Coding}
 use Rattle.dcm_base.specs.declared.syntax.Syntax.{Syntax}
 use Rattle.dcm_base.specs.Front.{Front}
 use Rattle.dcm_base.specs.MetaReads.{Meta}
+use Rattle.dcm_base.specs.Normal.{normal_front}
+use Rattle.dcm_base.specs.Recode.{is_explicit}
 use Rattle.dcm_base.specs.declared.tag.Tag.{Tag}
 use Rattle.dcm_base.specs.declared.vr.Vr.{Vr}
 use Rattle.dcm_base.specs.declared.lookup.Dictionary.{Dictionary}
+use Rattle.dcm_base.specs.declared.lookup.Dictionary.TheVariants.{Standard}
 use Rattle.dcm_edit_words.specs.Edit.{Edit, erase_all, erase_private, modify_all}
 use Rattle.dcm_edit.specs.Everywhere.{Among, EverywhereIn, IsOther, IsPublic, IsWrittenJust}
+use Rattle.dcm_edit.specs.Others.{any_changes, set_without}
+use Rattle.dcm_edit.specs.Readers.{HidesNothing, OpensAlike}
 use Rattle.dcm_edit.specs.Repeating.{EraseByNoNumber}
 use Rattle.dcm_words.specs.declared.job.Job.{Job}
 use Rattle.dcm_cli.specs.Answer.{Answer, Answers, Sure}
-use Rattle.dcm_cli.specs.ReadsAgain.{InOutput, IsConverted, IsModified, ReadsConverted, ReadsModified}
+use Rattle.dcm_cli.specs.ReadsAgain.{InOutput, InWholeOutput, IsConverted, IsModified, ReadsConverted, ReadsModified}
 use Rattle.dcm_cli.specs.Run.{IsMeant}
 use Rattle.dcm_words.specs.Plans.{job_of}
 use Rattle.dcm_words.specs.Words as words
-use Rattle.std.specs.Prelude.{◌++◌, ◌≡◌, ◌⊎◌, List, Option, ℕ}
+use Rattle.std.specs.Prelude.{◌++◌, ◌≡◌, ◌⊎◌, List, Option, true, ℕ}
 use Rattle.std.specs.declared.alloc.Global.{Global}
 
 -- what is sure of a beginning is a beginning of the output for every input that begins so
@@ -55,6 +60,87 @@ ModifiedAll =
     (d : Dictionary) (edits : List Edit) (input : List ℕ) (a : Answer) (m : Meta) (coding : Coding) (f : Front)
     → IsModified d edits input a m coding f → (tag : Tag) (vr : Vr) (value : List ℕ) → Among (modify_all tag vr value) edits
     → InOutput d (λ s set. EverywhereIn (IsWrittenJust s tag vr value) set) a
+
+-- but for the elements whose tags the edits may change, it is the normal form of the data set that was read
+abbrev pub OthersStay : Type 0
+OthersStay =
+    (d : Dictionary) (edits : List Edit) (input : List ℕ) (a : Answer) (m : Meta) (coding : Coding) (f : Front)
+    → IsModified d edits input a m coding f
+    → InOutput d (λ s set. set_without (any_changes edits) set ≡ set_without (any_changes edits) (normal_front s f)) a
+
+-- a dictionary that opens the output alike reads the same data set in it without fault, but for the representations:
+-- the normal form of the one that the dictionary of the edits reads
+abbrev pub ReadsAlike : Type 0
+ReadsAlike =
+    (d e : Dictionary) (edits : List Edit) (input : List ℕ) (a : Answer) (m : Meta) (coding : Coding) (f : Front)
+    → IsModified d edits input a m coding f → InOutput d (OpensAlike e) a
+    → InOutput d (λ s own. InOutput e (λ to set. set ≡ normal_front to own) a) a
+
+-- by such a dictionary: after `-ea` no element has the tag, at any depth
+abbrev pub ErasedAllBy : Type 0
+ErasedAllBy =
+    (d e : Dictionary) (edits : List Edit) (input : List ℕ) (a : Answer) (m : Meta) (coding : Coding) (f : Front)
+    → IsModified d edits input a m coding f → InOutput d (OpensAlike e) a → (tag : Tag) → Among (erase_all tag) edits
+    → InOutput e (λ s set. EverywhereIn (IsOther tag) set) a
+
+-- after `-ep` no element is of an odd group
+abbrev pub ErasedPrivateBy : Type 0
+ErasedPrivateBy =
+    (d e : Dictionary) (edits : List Edit) (input : List ℕ) (a : Answer) (m : Meta) (coding : Coding) (f : Front)
+    → IsModified d edits input a m coding f → InOutput d (OpensAlike e) a → Among erase_private edits
+    → InOutput e (λ s set. EverywhereIn IsPublic set) a
+
+-- after `-ma` each element of the tag has the value as it is written
+abbrev pub ModifiedAllBy : Type 0
+ModifiedAllBy =
+    (d e : Dictionary) (edits : List Edit) (input : List ℕ) (a : Answer) (m : Meta) (coding : Coding) (f : Front)
+    → IsModified d edits input a m coding f → InOutput d (OpensAlike e) a → (tag : Tag) (vr : Vr) (value : List ℕ)
+    → Among (modify_all tag vr value) edits → InOutput e (λ s set. EverywhereIn (IsWrittenJust s tag vr value) set) a
+
+-- what the edits may not change is the normal form of what was read
+abbrev pub OthersStayBy : Type 0
+OthersStayBy =
+    (d e : Dictionary) (edits : List Edit) (input : List ℕ) (a : Answer) (m : Meta) (coding : Coding) (f : Front)
+    → IsModified d edits input a m coding f → InOutput d (OpensAlike e) a
+    → InOutput e (λ s set. set_without (any_changes edits) set ≡ set_without (any_changes edits) (normal_front s f)) a
+
+-- an explicit output each dictionary opens alike
+abbrev pub ExplicitOpensAlike : Type 0
+ExplicitOpensAlike =
+    (d e : Dictionary) (edits : List Edit) (input : List ℕ) (a : Answer) (m : Meta) (coding : Coding) (f : Front)
+    → IsModified d edits input a m coding f → is_explicit coding.syntax ≡ true → InOutput d (OpensAlike e) a
+
+-- the output opens alike by the dictionary of the edits
+abbrev pub OwnOpensAlike : Type 0
+OwnOpensAlike =
+    (d : Dictionary) (edits : List Edit) (input : List ℕ) (a : Answer) (m : Meta) (coding : Coding) (f : Front)
+    → IsModified d edits input a m coding f → InOutput d (OpensAlike d) a
+
+-- and by each one, if that is the standard
+abbrev pub StandardOpensAlike : Type 0
+StandardOpensAlike =
+    (e : Dictionary) (edits : List Edit) (input : List ℕ) (a : Answer) (m : Meta) (coding : Coding) (f : Front)
+    → IsModified Standard edits input a m coding f → InOutput Standard (OpensAlike e) a
+
+-- by a dictionary from which the values of the output hide nothing: after `-ea` no element has the tag, at any depth
+abbrev pub ErasedAllSeen : Type 0
+ErasedAllSeen =
+    (d e : Dictionary) (edits : List Edit) (input : List ℕ) (a : Answer) (m : Meta) (coding : Coding) (f : Front)
+    → IsModified d edits input a m coding f → InOutput d (HidesNothing e) a → (tag : Tag) → Among (erase_all tag) edits
+    → InWholeOutput e (λ s set. EverywhereIn (IsOther tag) set) a
+
+-- after `-ep` no element is of an odd group
+abbrev pub ErasedPrivateSeen : Type 0
+ErasedPrivateSeen =
+    (d e : Dictionary) (edits : List Edit) (input : List ℕ) (a : Answer) (m : Meta) (coding : Coding) (f : Front)
+    → IsModified d edits input a m coding f → InOutput d (HidesNothing e) a → Among erase_private edits
+    → InWholeOutput e (λ s set. EverywhereIn IsPublic set) a
+
+-- they hide nothing from one that opens the output alike
+abbrev pub AlikeHidesNothing : Type 0
+AlikeHidesNothing =
+    (d e : Dictionary) (edits : List Edit) (input : List ℕ) (a : Answer) (m : Meta) (coding : Coding) (f : Front)
+    → IsModified d edits input a m coding f → InOutput d (OpensAlike e) a → InOutput d (HidesNothing e) a
 
 -- the same edits again write the same bytes, unless one erases an item by its number
 abbrev pub ModifiedTwice : Type 0

@@ -5,7 +5,7 @@ use Rattle.dcm_base.specs.declared.syntax.Syntax.{Syntax}
 use Rattle.dcm_base.specs.Bars.{no_bar, target_bar}
 use Rattle.dcm_base.specs.Front.{Front}
 use Rattle.dcm_base.specs.MetaGroup.{META_LIMIT, group_place, the_end}
-use Rattle.dcm_base.specs.MetaReads.{Meta, MetaReads, begins}
+use Rattle.dcm_base.specs.MetaReads.{Meta}
 use Rattle.dcm_base.specs.NewMeta.{new_meta}
 use Rattle.dcm_base.specs.Normal.{FrontFits, normal_front}
 use Rattle.dcm_base.specs.Number.{AreBytes}
@@ -75,3 +75,9 @@ OfWholeFile P (alone syntax set stop) = ⊥
 -- however the output is read as a file by the dictionary, it is whole, and so it is with its data set
 abbrev pub InOutput : Dictionary → (Syntax → Front → Type 0) → Answer → Type 0
 InOutput d P a = (source : Source) → FileReads (dump d Full None) a.output source → OfWholeFile P source
+
+-- however the output is read as a file by the dictionary, to its end, so it is with its data set
+abbrev pub InWholeOutput : Dictionary → (Syntax → Front → Type 0) → Answer → Type 0
+InWholeOutput d P a =
+    (m : Meta) (coding : Coding) (set : Front) → FileReads (dump d Full None) a.output (file m coding set complete)
+    → P coding.syntax set

@@ -1,5 +1,5 @@
 //! Laws of the definitions. Each function takes nothing and makes no call: its contract is the law.
-ghost use Rattle.dcm_cli.specs.Laws.{SureGrows, ModifiedReads, ConvertedReads, ErasedAll, ErasedPrivate, ModifiedAll, ModifiedTwice};
+ghost use Rattle.dcm_cli.specs.Laws.{SureGrows, ModifiedReads, ConvertedReads, ErasedAll, ErasedPrivate, ModifiedAll, OthersStay, ReadsAlike, ErasedAllBy, ErasedPrivateBy, ModifiedAllBy, OthersStayBy, ExplicitOpensAlike, OwnOpensAlike, StandardOpensAlike, ErasedAllSeen, ErasedPrivateSeen, AlikeHidesNothing, ModifiedTwice};
 ghost use Rattle.dcm_cli.specs.Answer.{Answer, Answers};
 ghost use Rattle.dcm_cli.specs.DumpBuilds.{DumpBuilds};
 ghost use Rattle.dcm_cli.specs.NoEdits.{NoEditsConvert};
@@ -52,6 +52,41 @@ pub fn output_is_edited()
     ensures erased_all { ErasedAll }
     ensures erased_private { ErasedPrivate }
     ensures modified_all { ModifiedAll }
+{}
+
+/// However it is read, what no edit may change is in it: without the elements of the tags that edits may change, it is
+/// the normal form of the data set that was read, without them.
+pub fn output_keeps_others()
+    ensures { OthersStay }
+{}
+
+/// What is erased, set and left is so for readers with another dictionary too, where it opens the output alike: in an
+/// implicit one, no value is a sequence by it, and each sequence is one. They read the same data set, with other
+/// representations.
+pub fn output_for_others()
+    ensures alike { ReadsAlike }
+    ensures erased_all { ErasedAllBy }
+    ensures erased_private { ErasedPrivateBy }
+    ensures modified_all { ModifiedAllBy }
+    ensures others_stay { OthersStayBy }
+{}
+
+/// Each dictionary opens an output alike that is explicit, or was edited by that dictionary, or by the standard one.
+/// Where an implicit file was edited by the extract, a reader with the standard one may see more: it opens a sequence
+/// of known length whose tag the extract does not have, which is one value to the extract, and in which nothing was
+/// edited.
+pub fn output_opens_alike()
+    ensures explicit { ExplicitOpensAlike }
+    ensures own { OwnOpensAlike }
+    ensures standard { StandardOpensAlike }
+{}
+
+/// What was erased is gone for every reader that reads the output to its end, where its values hide nothing from it: a
+/// value that is a sequence by its dictionary is empty. They hide nothing from one that opens the output alike.
+pub fn output_erased_for_all()
+    ensures erased_all { ErasedAllSeen }
+    ensures erased_private { ErasedPrivateSeen }
+    ensures alike { AlikeHidesNothing }
 {}
 
 /// Two runs in a row: dcmodify on a file without fault, and then on its output, with the same edits. Where no edit erases an item by

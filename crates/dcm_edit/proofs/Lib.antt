@@ -4,3 +4,4 @@ pub mod Trees
 pub mod Masks
 pub mod EditSinks
 pub mod ReadBack
+pub mod Readers

@@ -1,5 +1,5 @@
 -- The statements of the laws.
-use Rattle.std.specs.Prelude.{◌≡◌, ◌≤◌, ℕ, List, Ok, false, fold, map}
+use Rattle.std.specs.Prelude.{◌≡◌, ◌≤◌, ℕ, List, Ok, false, fold, map, true}
 use Rattle.dcm_base.specs.Ascending.{FrontAscends}
 use Rattle.dcm_base.specs.Atoms.{Atom, Shows, front_atoms, is_closed}
 use Rattle.dcm_base.specs.Bars.{ascending_bar}
@@ -7,11 +7,13 @@ use Rattle.dcm_base.specs.Front.{Front}
 use Rattle.dcm_base.specs.Normal.{normal_front}
 use Rattle.dcm_base.specs.Number.{AreBytes}
 use Rattle.dcm_base.specs.Reads.{INPUT_LIMIT, Reads, ended}
-use Rattle.dcm_base.specs.Recode.{recode}
+use Rattle.dcm_base.specs.Recode.{is_explicit, recode}
 use Rattle.dcm_base.specs.Steps.{outputs}
 use Rattle.dcm_base.specs.Stop.{Stop, complete}
+use Rattle.dcm_base.specs.Syntax.{dictionary_of, read_by}
 use Rattle.dcm_base.specs.declared.length.Length.{Length}
 use Rattle.dcm_base.specs.declared.lookup.Dictionary.{Dictionary}
+use Rattle.dcm_base.specs.declared.lookup.Dictionary.TheVariants.{Standard}
 use Rattle.dcm_base.specs.declared.syntax.Syntax.{Syntax}
 use Rattle.dcm_base.specs.declared.tag.Tag.{Tag}
 use Rattle.dcm_base.specs.declared.vr.Vr.{Vr}
@@ -26,6 +28,7 @@ use Rattle.dcm_edit.specs.Everywhere.{Among, EverywhereIn, IsOther, IsPublic, Is
 use Rattle.dcm_edit.specs.Modification.{Modifies, OfBytes, ReadsAgain}
 use Rattle.dcm_edit.specs.Others.{any_changes, set_without}
 use Rattle.dcm_edit_words.specs.Overlap.{AreApart, ArePublic}
+use Rattle.dcm_edit.specs.Readers.{HidesNothing, OpensAlike, ReadsBy}
 use Rattle.dcm_edit.specs.Repeating.{EraseByNoNumber}
 
 -- what the encode sink writes of the atoms that the edit sink passes on
@@ -126,6 +129,93 @@ abbrev pub OthersStay : Type 0
 OthersStay =
     (edits : List Edit) (s : Syntax) (at : ℕ) (f : Front) → Modifies edits s at f
     → set_without (any_changes edits) (edited edits f) ≡ set_without (any_changes edits) f
+
+-- what is written reads back as the normal form of the data set that was read, but for the elements of those tags
+abbrev pub OthersStayWritten : Type 0
+OthersStayWritten =
+    (edits : List Edit) (s : Syntax) (at : ℕ) (f again : Front) (stop : Stop) → Modifies edits s at f
+    → ReadsAgain edits s at f again stop
+    → (stop ≡ complete) × (set_without (any_changes edits) again ≡ set_without (any_changes edits) (normal_front s f))
+
+-- by a dictionary that opens the edited data set alike, what is written reads without fault, as the normal form by that
+-- dictionary
+abbrev pub EditedReadsBy : Type 0
+EditedReadsBy =
+    (edits : List Edit) (s : Syntax) (at : ℕ) (f : Front) (e : Dictionary) → Modifies edits s at f
+    → OpensAlike e s (edited edits f) → ReadsBy e edits s at f (normal_front (read_by e s) (edited edits f)) complete
+
+-- it is the same data set as the one that reads back by its own dictionary, but for the representations: the normal
+-- form of that
+abbrev pub ReadsAlike : Type 0
+ReadsAlike =
+    (edits : List Edit) (s : Syntax) (at : ℕ) (f again other : Front) (stop end : Stop) (e : Dictionary)
+    → Modifies edits s at f → OpensAlike e s (edited edits f) → ReadsAgain edits s at f again stop
+    → ReadsBy e edits s at f other end → other ≡ normal_front (read_by e s) again
+
+-- an explicit data set each dictionary opens alike
+abbrev pub ExplicitOpensAlike : Type 0
+ExplicitOpensAlike = (s : Syntax) (f : Front) (e : Dictionary) → is_explicit s ≡ true → OpensAlike e s f
+
+-- an edited one opens alike by the dictionary that it was read by
+abbrev pub OwnOpensAlike : Type 0
+OwnOpensAlike =
+    (edits : List Edit) (s : Syntax) (at : ℕ) (f : Front) → Modifies edits s at f
+    → OpensAlike (dictionary_of s) s (edited edits f)
+
+-- and by each one, if it was read by the standard
+abbrev pub StandardOpensAlike : Type 0
+StandardOpensAlike =
+    (edits : List Edit) (s : Syntax) (at : ℕ) (f : Front) (e : Dictionary) → Modifies edits s at f
+    → dictionary_of s ≡ Standard → OpensAlike e s (edited edits f)
+
+-- by a dictionary that opens the edited data set alike: after `-ea` no element has the tag, at any depth
+abbrev pub NoneIsLeftBy : Type 0
+NoneIsLeftBy =
+    (edits : List Edit) (s : Syntax) (at : ℕ) (f again : Front) (stop : Stop) (e : Dictionary) (tag : Tag)
+    → Modifies edits s at f → OpensAlike e s (edited edits f) → Among (erase_all tag) edits
+    → ReadsBy e edits s at f again stop → (stop ≡ complete) × EverywhereIn (IsOther tag) again
+
+-- after `-ep` no element is of an odd group
+abbrev pub NoPrivateIsLeftBy : Type 0
+NoPrivateIsLeftBy =
+    (edits : List Edit) (s : Syntax) (at : ℕ) (f again : Front) (stop : Stop) (e : Dictionary) → Modifies edits s at f
+    → OpensAlike e s (edited edits f) → Among erase_private edits → ReadsBy e edits s at f again stop
+    → (stop ≡ complete) × EverywhereIn IsPublic again
+
+-- after `-ma` each element of the tag has the value as it is written
+abbrev pub AllAreModifiedBy : Type 0
+AllAreModifiedBy =
+    (edits : List Edit) (s : Syntax) (at : ℕ) (f again : Front) (stop : Stop) (e : Dictionary) (tag : Tag) (vr : Vr)
+    (value : List ℕ) → Modifies edits s at f → OpensAlike e s (edited edits f) → Among (modify_all tag vr value) edits
+    → ReadsBy e edits s at f again stop
+    → (stop ≡ complete) × EverywhereIn (IsWrittenJust (read_by e s) tag vr value) again
+
+-- what no edit may change reads back as the normal form of it
+abbrev pub OthersStayBy : Type 0
+OthersStayBy =
+    (edits : List Edit) (s : Syntax) (at : ℕ) (f again : Front) (stop : Stop) (e : Dictionary) → Modifies edits s at f
+    → OpensAlike e s (edited edits f) → ReadsBy e edits s at f again stop
+    → (stop ≡ complete)
+    × (set_without (any_changes edits) again ≡ set_without (any_changes edits) (normal_front (read_by e s) f))
+
+-- to a dictionary from which the values of what is written hide nothing, and which reads it to its end: after `-ea` no
+-- element has the tag, at any depth
+abbrev pub NoneIsSeen : Type 0
+NoneIsSeen =
+    (edits : List Edit) (s : Syntax) (at : ℕ) (f again : Front) (e : Dictionary) (tag : Tag) → Modifies edits s at f
+    → HidesNothing e s (normal_front s (edited edits f)) → Among (erase_all tag) edits
+    → ReadsBy e edits s at f again complete → EverywhereIn (IsOther tag) again
+
+-- after `-ep` no element is of an odd group
+abbrev pub NoPrivateIsSeen : Type 0
+NoPrivateIsSeen =
+    (edits : List Edit) (s : Syntax) (at : ℕ) (f again : Front) (e : Dictionary) → Modifies edits s at f
+    → HidesNothing e s (normal_front s (edited edits f)) → Among erase_private edits
+    → ReadsBy e edits s at f again complete → EverywhereIn IsPublic again
+
+-- the values of what is written hide nothing from a dictionary that opens the edited data set alike
+abbrev pub AlikeHidesNothing : Type 0
+AlikeHidesNothing = (s : Syntax) (f : Front) (e : Dictionary) → OpensAlike e s f → HidesNothing e s (normal_front s f)
 
 -- the same edits of what is written write the same bytes again, where no edit erases an item by its number
 abbrev pub EditedTwice : Type 0

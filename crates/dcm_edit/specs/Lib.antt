@@ -10,3 +10,4 @@ pub mod Others
 pub mod Repeating
 pub mod Laws
 pub mod Outputs
+pub mod Readers

@@ -101,6 +101,45 @@ pub fn others_stay()
     ensures { laws.OthersStay }
 {}
 
+/// So it is in what is written: it reads back as the normal form of the data set that was read, but for the elements of
+/// those tags.
+pub fn others_stay_written()
+    ensures { laws.OthersStayWritten }
+{}
+
+/// By another dictionary what is written reads back without fault too, as the normal form by that one, where it opens
+/// the edited data set alike: of an implicit one, no value is a sequence by it, and each sequence is one. That is the
+/// same data set, with the representations of that dictionary.
+pub fn edited_reads_by()
+    ensures reads { laws.EditedReadsBy }
+    ensures alike { laws.ReadsAlike }
+{}
+
+/// Each dictionary opens alike an explicit data set, an edited one that it has read itself, and one that the standard
+/// has read, since that knows each sequence of the extract. Of what the extract has read, the standard may open a
+/// value: a sequence of known length whose tag the extract does not have.
+pub fn opens_alike()
+    ensures explicit { laws.ExplicitOpensAlike }
+    ensures own { laws.OwnOpensAlike }
+    ensures standard { laws.StandardOpensAlike }
+{}
+
+/// What was erased, set and left is so for every reader whose dictionary opens the edited data set alike.
+pub fn edited_for_others()
+    ensures erased_all { laws.NoneIsLeftBy }
+    ensures erased_private { laws.NoPrivateIsLeftBy }
+    ensures modified_all { laws.AllAreModifiedBy }
+    ensures others_stay { laws.OthersStayBy }
+{}
+
+/// What was erased is gone for every reader that reads what is written to its end, where the values hide nothing from
+/// it: a value that is a sequence by its dictionary is empty. So it is where that opens the edited data set alike.
+pub fn erased_for_all()
+    ensures erased_all { laws.NoneIsSeen }
+    ensures erased_private { laws.NoPrivateIsSeen }
+    ensures alike { laws.AlikeHidesNothing }
+{}
+
 /// The same edits of what is written, as it reads back, write the same bytes again, where no edit erases an item by its number.
 pub fn edited_twice()
     ensures { laws.EditedTwice }

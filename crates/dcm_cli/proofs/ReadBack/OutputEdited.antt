@@ -56,7 +56,7 @@ module _ (d : Dictionary) (edits : List Edit) (input : List ℕ) (a : Answer) (m
   reads = let k = modifies in edited_reads s k.words edits k.mean k.start k.bytes f k.begins k.are_bytes k.reads at k.within
 
   -- the output is read in one way
-  in_output : (P : Syntax → Front → Type 0) → P s again → InOutput d P a
+  pub in_output : (P : Syntax → Front → Type 0) → P s again → InOutput d P a
   in_output P p source there =
       let r = modified_reads d edits input a m coding f h in
       let one = one_source (dump d Full None) a.output source (file (meta_again m m.uid) coding again complete) there

@@ -142,7 +142,7 @@ module _ (input output : List ℕ) (m : Meta) (old uid : List ℕ) (was named : 
   written_set again reads =
       subst (λ (x : List ℕ). Reads (target_bar s) s (set_at group) x again complete) (sym (behind_group m.preamble PREFIX group written (long input m old was head) refl)) reads
 
-  written_reads : output ≡ written_file uid s m set → HasRoom output m uid s set → FrontReady s set → (Renews input m was uid written → ReadsRenewed m uid written named)
+  pub written_reads : output ≡ written_file uid s m set → HasRoom output m uid s set → FrontReady s set → (Renews input m was uid written → ReadsRenewed m uid written named)
       → (set_at group + length written ≤ INPUT_LIMIT → Reads (target_bar s) s (set_at group) written (normal_front s set) complete)
       → IsRead d output (meta_again m uid) group coding (normal_front s set)
   written_reads is room ready again reads =
@@ -159,7 +159,7 @@ read_by_it d (implicit_in e) = refl
 read_by_it d (little_in e) = refl
 read_by_it d (big_in e) = refl
 
-read_twice : (d e : Dictionary) (s : Syntax) → read_by d (read_by e s) ≡ read_by d s
+pub read_twice : (d e : Dictionary) (s : Syntax) → read_by d (read_by e s) ≡ read_by d s
 read_twice d e (implicit_in k) = refl
 read_twice d e (little_in k) = refl
 read_twice d e (big_in k) = refl

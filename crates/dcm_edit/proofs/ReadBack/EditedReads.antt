@@ -26,7 +26,7 @@ own_fits (implicit_in d) bar start bytes f stop h = implicit_fits d (implicit_in
 own_fits (little_in d) bar start bytes f stop h = explicit_fits (little_in d) f refl
 own_fits (big_in d) bar start bytes f stop h = explicit_fits (big_in d) f refl
 
-front_reads : (s : Syntax) (at : ℕ) (f : Front) → FrontReady s f → at + length (recode s f) ≤ INPUT_LIMIT → Reads (target_bar s) s at (recode s f) (normal_front s f) complete
+pub front_reads : (s : Syntax) (at : ℕ) (f : Front) → FrontReady s f → at + length (recode s f) ≤ INPUT_LIMIT → Reads (target_bar s) s at (recode s f) (normal_front s f) complete
 front_reads s at (front whole nothing_open reached closed) h limit = ready_reads s at whole reached closed limit h.0
 front_reads s at (front whole (open_leaf tag vr size value) reached closed) h limit = absurd (let none = h.1 in cc)
 front_reads s at (front whole (open_sequence tag vr declared items last) reached closed) h limit = absurd (let none = h.1 in cc)

@@ -171,6 +171,13 @@ module _ (s : Syntax) (P Q : Tag → Content → Type 0) (values : (t : Tag) (vr
   pub front_has : (f : Front) → WholeWith P f → EverywhereIn Q (normal_front s f)
   front_has (front whole o reached closed) h = normal_has whole h.0
 
+-- the value in the normal form
+written_alike : (s : Syntax) (t tag : Tag) (vr w : Vr) (value v : List ℕ) → tag ≡ t → (w ≡ vr) × (v ≡ value) → (normal_vr s tag w (length v) ≡ normal_vr s t vr (length value)) × (normal_value s tag w v ≡ normal_value s t vr value)
+written_alike s t tag vr w value v same h = (cc, cc)
+
+pub written_just : (s : Syntax) (t : Tag) (vr : Vr) (value : List ℕ) (tag : Tag) (w : Vr) (v : List ℕ) → HasJust t vr value tag (a_value w v) → IsWrittenJust s t vr value tag (a_value (normal_vr s tag w (length v)) (normal_value s tag w v))
+written_just s t vr value tag w v h = λ same. written_alike s t tag vr w value v (sym (tag_is t tag same)) (h same)
+
 -- ---- what reads back
 
 mutual
@@ -207,10 +214,4 @@ module _ (s : Syntax) (words : List (List ℕ)) (edits : List Edit) (mean : mean
   erased_private_is_gone among = read_back IsPublic (front_has s IsPublic IsPublic (λ tag vr v h. h) (λ tag h. h) (edited edits f) (erased_private edits f among apart.0 apart.1 whole_set))
 
   pub modified_all_is_so : (t : Tag) (vr : Vr) (value : List ℕ) → Among (modify_all t vr value) edits → (stop ≡ complete) × EverywhereIn (IsWrittenJust s t vr value) g
-  modified_all_is_so t vr value among = read_back (IsWrittenJust s t vr value) (front_has s (HasJust t vr value) (IsWrittenJust s t vr value) written (λ tag h. h) (edited edits f) (modified_all t vr value edits f among apart.0 apart.1 whole_set))
-    where
-      alike : (tag : Tag) (w : Vr) (v : List ℕ) → tag ≡ t → (w ≡ vr) × (v ≡ value) → (normal_vr s tag w (length v) ≡ normal_vr s t vr (length value)) × (normal_value s tag w v ≡ normal_value s t vr value)
-      alike tag w v same h = (cc, cc)
-
-      written : (tag : Tag) (w : Vr) (v : List ℕ) → HasJust t vr value tag (a_value w v) → IsWrittenJust s t vr value tag (a_value (normal_vr s tag w (length v)) (normal_value s tag w v))
-      written tag w v h = λ same. alike tag w v (sym (tag_is t tag same)) (h same)
+  modified_all_is_so t vr value among = read_back (IsWrittenJust s t vr value) (front_has s (HasJust t vr value) (IsWrittenJust s t vr value) (written_just s t vr value) (λ tag h. h) (edited edits f) (modified_all t vr value edits f among apart.0 apart.1 whole_set))
