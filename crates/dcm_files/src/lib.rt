@@ -25,7 +25,7 @@ mod pieces;
 
 pub use devices::{System, open_devices, open_input, open_output, unopened};
 pub use host::Host;
-pub use memory::MemSystem;
+pub use memory::{MemFile, MemSystem};
 pub use opened::{FileKind, Opened, Unopened};
 pub use output::{OutputFile, Target};
 pub use pieces::next_piece;
