@@ -1,16 +1,20 @@
--- What a run over memory leaves, where there is room for the answer.
-use Rattle.std.specs.Prelude.{◌≡◌, ◌≢◌, ◌≤◌, ◌⊎◌, ℕ, List, ◌++◌, length, true, false, Option, Some, None, Ok, Err}
-use Rattle.std.specs.Str.{IsUtf8}
+-- What a run over memory leaves, where there is room for the answer, and what words come to over files in memory.
+use Rattle.std.specs.Prelude.{◌≡◌, ◌≤◌, ◌⊎◌, ◌==◌, ◌||◌, ℕ, List, [], ◌++◌, length, bytes_eq, if◌then◌else◌, Bool, true, false, Option, None, Some, Result, Ok, Err}
+use Rattle.std.specs.Option.{option_map}
+use Rattle.std.specs.Str.{is_utf8}
 use Rattle.dcm_files.specs.Devices.{standard}
+use Rattle.dcm_files.specs.Memory.{file_named}
 use Rattle.dcm_files.specs.declared.memory.MemSystem.{MemSystem}
 use Rattle.dcm_devices.specs.Memory.{written, room_of}
 use Rattle.dcm_devices.specs.declared.memory.MemOut.{MemOut}
+use Rattle.dcm_words.specs.declared.topic.Topic.{Topic}
+use Rattle.dcm_words.specs.Topics.{asked, text}
 use Rattle.dcm_words.specs.declared.usage.Usage.{Usage}
-use Rattle.dcm_words.specs.Topics.{asked}
+use Rattle.dcm_words.specs.declared.usage.Usage.TheVariants.{Memory}
 use Rattle.dcm_words.specs.Words.{Job, Plan, meant}
 use Rattle.dcm_words.specs.Plans.{takes_memory}
 use Rattle.dcm_cli.specs.Answer.{Answer, Answers}
-use Rattle.dcm_cli.specs.ErrorLines.{usage_line, usage_status}
+use Rattle.dcm_cli.specs.ErrorLines.{usage_line, usage_status, open_line, same_line}
 
 -- all of the output, the status, and the lines where there is room for them
 pub record LeavesAnswer (a : Answer) (out new_out errors new_errors : MemOut) (status : ℕ) : Type 0 where
@@ -23,26 +27,101 @@ abbrev pub LeavesAnswers : Job → (input : List ℕ) → (out new_out errors ne
 LeavesAnswers job input out new_out errors new_errors status =
     out.failed ≡ false → (a : Answer) → Answers job input a → length a.output ≤ room_of out → LeavesAnswer a out new_out errors new_errors status
 
--- the answer stands in the file that was written
-pub record LeavesFile (a : Answer) (room : MemOut) (written : Option MemOut) (errors new_errors : MemOut) (status : ℕ) : Type 0 where
-  pub file : MemOut
-  pub written_is : written ≡ Some file
-  pub left : LeavesAnswer a room file errors new_errors status
+-- ---- what words come to over files
 
--- of words that mean a job from the one file to the other, where there is room for its answer; or memory was refused to their
--- edits, and nothing was written
-abbrev pub ObeysInMemory : (words : List (List ℕ)) → MemSystem → (errors : MemOut) → (written : Option MemOut) → (new_errors : MemOut) → (status : ℕ) → Type 0
-ObeysInMemory words s errors written new_errors status =
-    (p : Plan) → asked words ≡ None → meant words ≡ Ok p → p.input ≡ s.input_name.now → p.output ≡ s.output_name.now → IsUtf8 p.input → IsUtf8 p.output → p.input ≢ standard → p.output ≢ standard
-    → (room : MemOut) → s.room ≡ Some room → room.failed ≡ false → (a : Answer) → Answers p.job s.input.now a → length a.output ≤ room_of room
-    → LeavesFile a room written errors new_errors status ⊎ ((takes_memory words ≡ true) × (status ≡ 5) × (written ≡ s.written))
+-- what is written, where an output is opened; the lines on standard error; and the status
+pub record Outcome : Type 0 where
+  pub output : Option (List ℕ)
+  pub lines : List ℕ
+  pub status : ℕ
 
--- of words that are refused: nothing is written, and the refusal is told where there is room for its line
-pub record LeavesRefusal (u : Usage) (s : MemSystem) (errors : MemOut) (written_file : Option MemOut) (new_errors : MemOut) (status : ℕ) : Type 0 where
-  pub line : length (usage_line u) ≤ room_of errors → written new_errors ≡ written errors ++ usage_line u
-  pub status_is : status ≡ usage_status u
-  pub nothing : written_file ≡ s.written
+-- what can be read at a path: standard input, or the first file of that name, where the path is a text
+abbrev pub bytes_at : MemSystem → (path : List ℕ) → Option (List ℕ)
+bytes_at s path =
+    if bytes_eq path standard then Some s.stdin.now
+    else if is_utf8 path then option_map (λ f. f.bytes.now) (file_named s.files.now path)
+    else None
 
-abbrev pub RefusesInMemory : (words : List (List ℕ)) → MemSystem → (errors : MemOut) → (written : Option MemOut) → (new_errors : MemOut) → (status : ℕ) → Type 0
-RefusesInMemory words s errors written_file new_errors status =
-    (u : Usage) → asked words ≡ None → meant words ≡ Err u → LeavesRefusal u s errors written_file new_errors status ⊎ ((takes_memory words ≡ true) × (status ≡ 5) × (written_file ≡ s.written))
+-- whether a path can be written: standard output can, and each path that is a text
+abbrev pub is_writable : (path : List ℕ) → Bool
+is_writable path = bytes_eq path standard || is_utf8 path
+
+-- the number of the file at a path, if there is one
+abbrev pub number_at : MemSystem → (path : List ℕ) → Option ℕ
+number_at s path = if bytes_eq path standard then None else option_map (λ f. f.number) (file_named s.files.now path)
+
+abbrev pub is_one_file : Option ℕ → Option ℕ → Bool
+is_one_file (Some n) (Some m) = n == m
+is_one_file _ _ = false
+
+-- a text is shown
+abbrev pub shown : Topic → Outcome
+shown topic = record { output = Some (text topic); lines = []; status = 0 }
+
+-- nothing is opened
+abbrev pub refused : Usage → Outcome
+refused u = record { output = None; lines = usage_line u; status = usage_status u }
+
+-- the input or the output cannot be opened
+abbrev pub not_opened : (is_output : Bool) → Outcome
+not_opened is_output = record { output = None; lines = open_line is_output; status = 4 }
+
+-- both are one file: the output is closed, and nothing was written
+abbrev pub same_file : Outcome
+same_file = record { output = Some []; lines = same_line; status = 4 }
+
+abbrev pub answered : Answer → Outcome
+answered a = record { output = Some a.output; lines = a.told; status = a.status }
+
+-- what a job comes to, by the input if it can be read, by whether the output can be written, and by whether they are one file
+abbrev pub JobComes : (input : Option (List ℕ)) → (can_write is_one : Bool) → Job → Outcome → Type 0
+JobComes None can_write is_one job o = o ≡ not_opened false
+JobComes (Some bytes) false is_one job o = o ≡ not_opened true
+JobComes (Some bytes) true true job o = o ≡ same_file
+JobComes (Some bytes) true false job o = (a : Answer) × Answers job bytes a × (o ≡ answered a)
+
+abbrev pub PlanComes : MemSystem → Plan → Outcome → Type 0
+PlanComes s p o = JobComes (bytes_at s p.input) (is_writable p.output) (is_one_file (number_at s p.input) (number_at s p.output)) p.job o
+
+-- by the text that is asked for, and else by what is meant
+abbrev pub ComesBy : Option Topic → Result Plan Usage → MemSystem → Outcome → Type 0
+ComesBy (Some topic) plan s o = o ≡ shown topic
+ComesBy None (Err u) s o = o ≡ refused u
+ComesBy None (Ok p) s o = PlanComes s p o
+
+-- what the words of a command line come to over files in memory
+abbrev pub Comes : (words : List (List ℕ)) → MemSystem → Outcome → Type 0
+Comes words s o = ComesBy (asked words) (meant words) s o
+
+-- ---- what obeying them leaves
+
+-- there is room for what is written
+abbrev pub HasRoom : Option (List ℕ) → (room : Option MemOut) → Type 0
+HasRoom None room = Unit {0}
+HasRoom (Some bytes) None = ⊥
+HasRoom (Some bytes) (Some room) = (room.failed ≡ false) × (length bytes ≤ room_of room)
+
+-- the output was the room, and took these bytes
+pub record Took (bytes : List ℕ) (room output : Option MemOut) : Type 0 where
+  pub before : MemOut
+  pub after : MemOut
+  pub room_is : room ≡ Some before
+  pub output_is : output ≡ Some after
+  pub bytes_are : written after ≡ written before ++ bytes
+
+-- all of it was written, or no output was opened
+abbrev pub IsWritten : Option (List ℕ) → MemSystem → (output : Option MemOut) → Type 0
+IsWritten None s output = output ≡ s.written
+IsWritten (Some bytes) s output = Took bytes s.room output
+
+-- what was written, the status, and the lines where there is room for them
+pub record Leaves (o : Outcome) (s : MemSystem) (errors : MemOut) (output : Option MemOut) (new_errors : MemOut) (status : ℕ) : Type 0 where
+  pub output_is : IsWritten o.output s output
+  pub lines_are : length o.lines ≤ room_of errors → written new_errors ≡ written errors ++ o.lines
+  pub status_is : status ≡ o.status
+
+-- what the words come to, where there is room for it; or memory was refused to the edits that they may mean
+abbrev pub ObeysInMemory : (words : List (List ℕ)) → MemSystem → (errors : MemOut) → (output : Option MemOut) → (new_errors : MemOut) → (status : ℕ) → Type 0
+ObeysInMemory words s errors output new_errors status =
+    (o : Outcome) → Comes words s o → HasRoom o.output s.room
+    → Leaves o s errors output new_errors status ⊎ ((takes_memory words ≡ true) × Leaves (refused Memory) s errors output new_errors status)

@@ -1,6 +1,6 @@
 // Runs over memory.
 ghost use Rattle.std.specs.Prelude.{map};
-ghost use Rattle.dcm_cli.specs.InMemory.{LeavesAnswers, ObeysInMemory, RefusesInMemory};
+ghost use Rattle.dcm_cli.specs.InMemory.{LeavesAnswers, ObeysInMemory};
 ghost use Rattle.dcm_words.specs.Plans.{job_of};
 
 use crate::program::obey;
@@ -37,22 +37,21 @@ pub fn run_in_memory(job: &Job, input: MemIn, out: MemOut, errors: MemOut) -> In
 /// What obeying words over files in memory leaves.
 #[derive(Drop)]
 pub struct Obeyed {
-    /// The file that was written, if one was.
+    /// The output that was closed, if one was.
     pub written: Option<MemOut>,
     pub errors: MemOut,
     pub status: u8,
 }
 
-/// Obeys words over two files in memory, one that can be read and one that can be written. Where the words mean a job from the
-/// one to the other, and there is room for its answer, the file, the lines and the status are those of the answer.
+/// Obeys words over files in memory. Where there is room for what they come to, the output and the status are those, and where
+/// there is room for the lines, they are written too. Only edits can want more memory than there is: then nothing is opened.
 pub fn obey_in_memory<'a>(
     alloc: Global,
     words: &[&[u8]],
     system: MemSystem<'a>,
     errors: MemOut,
 ) -> Obeyed
-    ensures worked { ObeysInMemory (map (λ w. w.now) words.now) system.entry errors result.written result.errors result.status }
-    ensures refused { RefusesInMemory (map (λ w. w.now) words.now) system.entry errors result.written result.errors result.status }
+    ensures { ObeysInMemory (map (λ w. w.now) words.now) system.entry errors result.written result.errors result.status }
 {
     let mut system = system;
     let mut errors = Watched::new(Measured::new(errors));

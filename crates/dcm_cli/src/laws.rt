@@ -2,7 +2,9 @@
 ghost use Rattle.dcm_cli.specs.Laws.{SureGrows, ModifiedReads, ConvertedReads, ErasedAll, ErasedPrivate, ModifiedAll, OthersStay, ReadsAlike, ErasedAllBy, ErasedPrivateBy, ModifiedAllBy, OthersStayBy, ExplicitOpensAlike, OwnOpensAlike, StandardOpensAlike, ErasedAllSeen, ErasedPrivateSeen, AlikeHidesNothing, ModifiedTwice};
 ghost use Rattle.dcm_cli.specs.Answer.{Answer, Answers};
 ghost use Rattle.dcm_cli.specs.DumpBuilds.{DumpBuilds};
+ghost use Rattle.dcm_cli.specs.InMemory.{Outcome, Comes};
 ghost use Rattle.dcm_cli.specs.NoEdits.{NoEditsConvert};
+ghost use Rattle.dcm_files.specs.declared.memory.MemSystem.{MemSystem};
 ghost use Rattle.dcm_words.specs.Words as words;
 ghost use Rattle.std.specs.Prelude.{◌≡◌, List, ℕ};
 
@@ -14,6 +16,16 @@ pub fn answers_one()
 /// A job has an answer to each input, whatever its bytes are.
 pub fn answers_some()
     ensures { (job : words.Job) (input : List ℕ) → (a : Answer) × Answers job input a }
+{}
+
+/// Words come to at most one outcome over files in memory.
+pub fn comes_one()
+    ensures { (words : List (List ℕ)) (s : MemSystem) (a b : Outcome) → Comes words s a → Comes words s b → a ≡ b }
+{}
+
+/// They come to one, whatever they are and whatever the files hold.
+pub fn comes_some()
+    ensures { (words : List (List ℕ)) (s : MemSystem) → (o : Outcome) × Comes words s o }
 {}
 
 /// What is sure of a beginning of an input is a beginning of the output for every input that begins so. Edits are those that

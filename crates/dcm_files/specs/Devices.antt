@@ -52,17 +52,17 @@ words_given (Err e) = None
 pub data OpensInput {S I O : Type 0} (may : MayDo S I O) (path : List ℕ) (old : S) (r : Result (Opened I) Error) (new : S) : Type 0 where
   stream : (d : Opened I) → path ≡ standard → may.stdin old d new → r ≡ Ok d → OpensInput may path old r new
   no_text : (e : Error) → path ≢ standard → ¬ (IsUtf8 path) → error_kind e ≡ kinds.InvalidFilename → r ≡ Err e → new ≡ old → OpensInput may path old r new
-  refused : (e : Error) → path ≢ standard → may.opens old path (Err e) new → r ≡ Err e → OpensInput may path old r new
+  refused : (e : Error) → path ≢ standard → IsUtf8 path → may.opens old path (Err e) new → r ≡ Err e → OpensInput may path old r new
   -- nothing is read of a directory
-  directory : (d : Opened I) (e : Error) (had : S) → path ≢ standard → may.opens old path (Ok d) had → d.kind ≡ Directory → may.releases had d.device new
+  directory : (d : Opened I) (e : Error) (had : S) → path ≢ standard → IsUtf8 path → may.opens old path (Ok d) had → d.kind ≡ Directory → may.releases had d.device new
       → error_kind e ≡ kinds.IsADirectory → r ≡ Err e → OpensInput may path old r new
-  opened : (d : Opened I) → path ≢ standard → may.opens old path (Ok d) new → d.kind ≢ Directory → r ≡ Ok d → OpensInput may path old r new
+  opened : (d : Opened I) → path ≢ standard → IsUtf8 path → may.opens old path (Ok d) new → d.kind ≢ Directory → r ≡ Ok d → OpensInput may path old r new
 
 -- and that of an output
 pub data OpensOutput {S I O : Type 0} (may : MayDo S I O) (path : List ℕ) (old : S) (r : Result (Opened O) Error) (new : S) : Type 0 where
   out_stream : path ≡ standard → may.stdout old r new → OpensOutput may path old r new
   out_no_text : (e : Error) → path ≢ standard → ¬ (IsUtf8 path) → error_kind e ≡ kinds.InvalidFilename → r ≡ Err e → new ≡ old → OpensOutput may path old r new
-  answered : path ≢ standard → may.creates old path r new → OpensOutput may path old r new
+  answered : path ≢ standard → IsUtf8 path → may.creates old path r new → OpensOutput may path old r new
 
 -- why an input and an output are not used together: they are one regular file; or they may be, and the output holds bytes
 abbrev pub clash : FileKind → FileKind → Option Unopened

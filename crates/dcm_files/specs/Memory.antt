@@ -1,30 +1,48 @@
 -- What a system over files in memory does.
-use Rattle.std.specs.Prelude.{◌≡◌, ℕ, List, length, Option, Some, None, Result, IsOkAnd}
+use Rattle.std.specs.Prelude.{◌≡◌, ℕ, List, length, find, bytes_eq, Option, Some, None, Result, IsOkAnd, IsErrAnd}
+use Rattle.std.specs.IoError.{error_kind}
 use Rattle.std.specs.declared.io.Error.{Error}
+use Rattle.std.specs.declared.io.ErrorKind.TheVariants.{NotFound, StorageFull}
 use Rattle.dcm_devices.specs.declared.memory.MemIn.{MemIn}
 use Rattle.dcm_devices.specs.declared.memory.MemOut.{MemOut}
 use Rattle.dcm_devices.specs.declared.memory.Measured.{Measured}
+use Rattle.dcm_files.specs.declared.memory.MemFile.{MemFile}
 use Rattle.dcm_files.specs.declared.memory.MemSystem.{MemSystem}
-use Rattle.dcm_files.specs.declared.opened.FileKind.TheVariants.{Regular}
+use Rattle.dcm_files.specs.declared.opened.FileKind.{FileKind}
+use Rattle.dcm_files.specs.declared.opened.FileKind.TheVariants.{Regular, Other}
 use Rattle.dcm_files.specs.declared.opened.Opened.{Opened}
 use Rattle.dcm_files.specs.Devices.{MayDo}
 
--- the file is read
-abbrev pub Finds : MemSystem → List ℕ → Result (Opened MemIn) Error → Type 0
-Finds s path r = path ≡ s.input_name.now → IsOkAnd r (λ d. (d.device.rest.now ≡ s.input.now) × (d.kind ≡ Regular 0 0 (length s.input.now)))
+-- the first file of a name
+abbrev pub file_named : List MemFile → List ℕ → Option MemFile
+file_named files name = find (λ f. bytes_eq f.name.now name) files
 
--- the file is written into the room
-abbrev pub Creates : MemSystem → List ℕ → Result (Opened Measured) Error → MemSystem → Type 0
-Creates s path r new = path ≡ s.output_name.now → (room : MemOut) → s.room ≡ Some room
-    → IsOkAnd r (λ d. (d.device.out ≡ room) × (d.kind ≡ Regular 0 1 0)) × (new ≡ record s { room = None })
+-- what a file is opened as
+abbrev pub kind_of : MemFile → FileKind
+kind_of f = Regular 0 f.number (length f.bytes.now)
+
+-- what is written where this file is, or none
+abbrev pub kind_written : Option MemFile → FileKind
+kind_written (Some f) = kind_of f
+kind_written None = Regular 1 0 0
+
+-- this file is read, or there is none
+abbrev pub GivesFile : Option MemFile → Result (Opened MemIn) Error → Type 0
+GivesFile (Some f) r = IsOkAnd r (λ d. (d.device.rest.now ≡ f.bytes.now) × (d.kind ≡ kind_of f))
+GivesFile None r = IsErrAnd r (λ e. error_kind e ≡ NotFound)
+
+-- the room is written, or it was taken before
+abbrev pub GivesRoom : Option MemOut → FileKind → Result (Opened Measured) Error → Type 0
+GivesRoom (Some room) kind r = IsOkAnd r (λ d. (d.device.out ≡ room) × (d.kind ≡ kind))
+GivesRoom None kind r = IsErrAnd r (λ e. error_kind e ≡ StorageFull)
 
 abbrev pub may_do : MayDo MemSystem MemIn Measured
 may_do = record {
-  words = λ old r new. Unit {0};
-  stdin = λ old d new. Unit {0};
-  opens = λ old path r new. Finds old path r × (new ≡ old);
+  words = λ old r new. (r ≡ None) × (new ≡ old);
+  stdin = λ old d new. (d.device.rest.now ≡ old.stdin.now) × (d.kind ≡ Other) × (new ≡ old);
+  opens = λ old path r new. GivesFile (file_named old.files.now path) r × (new ≡ old);
   releases = λ old d new. new ≡ old;
-  stdout = λ old r new. Unit {0};
-  creates = λ old path r new. Creates old path r new;
+  stdout = λ old r new. GivesRoom old.room Other r × (new ≡ record old { room = None });
+  creates = λ old path r new. GivesRoom old.room (kind_written (file_named old.files.now path)) r × (new ≡ record old { room = None });
   closes = λ old d new. new ≡ record old { written = Some d.out };
 }

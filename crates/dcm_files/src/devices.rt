@@ -55,6 +55,7 @@ pub trait System {
 /// A path as a text.
 fn path(word: &[u8]) -> io::Result<&str>
     ensures ok { IfOk result (λ path. path.now ≡ word.now) }
+    ensures text { IfOk result (λ path. IsUtf8 word.now) }
     ensures err { IfErr result (λ e. ¬ (IsUtf8 word.now) × (error_kind e ≡ ErrorKind.InvalidFilename)) }
 {
     match str::from_utf8(word) {

@@ -1,6 +1,7 @@
 //! The devices of a program: what the system opens for it, and the file that it writes. This crate knows nothing of DICOM.
 //!
-//! - `System` is what opens devices; `Host` is the real one. A system answers an `Opened`, a device with its `FileKind`.
+//! - `System` is what opens devices; `Host` is the real one, and `MemSystem` is over files in memory. A system answers an `Opened`,
+//!   a device with its `FileKind`.
 //! - `open_devices` opens the input and the output that words name, `-` for a standard stream, and refuses two that are one
 //!   file. `open_input` and `open_output` open one of them.
 //! - `OutputFile` is a file that keeps what it held until its first byte is written. It is over any `Target`, of which a
@@ -25,7 +26,7 @@ mod pieces;
 
 pub use devices::{System, open_devices, open_input, open_output, unopened};
 pub use host::Host;
-pub use memory::MemSystem;
+pub use memory::{MemFile, MemSystem};
 pub use opened::{FileKind, Opened, Unopened};
 pub use output::{OutputFile, Target};
 pub use pieces::next_piece;

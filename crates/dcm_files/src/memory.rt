@@ -12,28 +12,75 @@ use std::io::ErrorKind;
 /// The bytes that an input gives at a time.
 const STEP: usize = 65_536;
 
-/// A system of two files in memory: one that can be read, and one that can be written, into the room that it holds until then.
+/// What a file is that is made where there is none.
+const NEW: FileKind = FileKind::Regular {
+    device: 1,
+    number: 0,
+    size: 0,
+};
+
+/// A file in memory. Two names of one file have one number.
+#[derive(Clone, Copy)]
+pub struct MemFile<'a> {
+    pub name: &'a [u8],
+    pub number: u64,
+    pub bytes: &'a [u8],
+}
+
+impl<'a> MemFile<'a> {
+    /// What it is opened as.
+    fn kind(&self) -> FileKind
+        ensures { result ≡ spec.kind_of self.now }
+    {
+        FileKind::Regular {
+            device: 0,
+            number: self.number,
+            size: self.bytes.len() as u64,
+        }
+    }
+}
+
+/// The first file of a name.
+fn file_named<'a>(files: &[MemFile<'a>], name: &[u8]) -> Option<MemFile<'a>>
+    ensures { result ≡ spec.file_named files.now name.now }
+{
+    for file in files {
+        if file.name == name {
+            return Some(*file);
+        }
+    }
+    None
+}
+
+/// What a file of this name is written as: the one that is there, or a new one.
+fn kind_written(files: &[MemFile], name: &[u8]) -> FileKind
+    ensures { result ≡ spec.kind_written (spec.file_named files.now name.now) }
+{
+    match file_named(files, name) {
+        Some(file) => file.kind(),
+        None => NEW,
+    }
+}
+
+/// A system of files in memory. It has room for one output, whatever its path is: the files stay as they are.
 #[derive(Drop)]
 pub struct MemSystem<'a> {
-    input_name: &'a [u8],
-    input: &'a [u8],
-    output_name: &'a [u8],
+    files: &'a [MemFile<'a>],
+    stdin: &'a [u8],
     room: Option<MemOut>,
     written: Option<MemOut>,
 }
 
 impl<'a> MemSystem<'a> {
-    pub fn new(input_name: &'a [u8], input: &'a [u8], output_name: &'a [u8], room: MemOut) -> Self
-        ensures input_name { result.input_name.now ≡ input_name.now }
-        ensures input { result.input.now ≡ input.now }
-        ensures output_name { result.output_name.now ≡ output_name.now }
+    pub fn new(files: &'a [MemFile<'a>], stdin: &'a [u8], room: MemOut) -> Self
+        ensures files { result.files.now ≡ files.now }
+        ensures stdin { result.stdin.now ≡ stdin.now }
         ensures room { result.room ≡ Some room }
         ensures written { result.written ≡ None }
     {
         MemSystem {
-            input_name,
-            input,
-            output_name,
+            files,
+            stdin,
             room: Some(room),
             written: None,
         }
@@ -45,6 +92,20 @@ impl<'a> MemSystem<'a> {
     {
         let MemSystem { written, .. } = self;
         written
+    }
+
+    /// Opens the room as an output.
+    fn open_room(&mut self, kind: FileKind) -> io::Result<Opened<Measured>>
+        ensures gives { spec.GivesRoom self.old.room kind result }
+        ensures taken { self.new ≡ record self.old { room = None } }
+    {
+        match self.room.take() {
+            Some(room) => Ok(Opened {
+                device: Measured::new(room),
+                kind,
+            }),
+            None => Err(io::Error::from(ErrorKind::StorageFull)),
+        }
     }
 }
 
@@ -61,46 +122,30 @@ impl<'a> System for MemSystem<'a> {
 
     fn stdin(&mut self) -> Opened<MemIn<'a>> {
         Opened {
-            device: MemIn::new(self.input, STEP),
+            device: MemIn::new(self.stdin, STEP),
             kind: FileKind::Other,
         }
     }
 
     fn open(&mut self, path: &str) -> io::Result<Opened<MemIn<'a>>> {
-        if path.as_bytes() != self.input_name {
-            return Err(io::Error::from(ErrorKind::NotFound));
+        match file_named(self.files, path.as_bytes()) {
+            Some(file) => Ok(Opened {
+                device: MemIn::new(file.bytes, STEP),
+                kind: file.kind(),
+            }),
+            None => Err(io::Error::from(ErrorKind::NotFound)),
         }
-        Ok(Opened {
-            device: MemIn::new(self.input, STEP),
-            kind: FileKind::Regular {
-                device: 0,
-                number: 0,
-                size: self.input.len() as u64,
-            },
-        })
     }
 
     fn release(&mut self, _input: MemIn<'a>) {}
 
     fn stdout(&mut self) -> io::Result<Opened<Measured>> {
-        Err(io::Error::from(ErrorKind::Unsupported))
+        self.open_room(FileKind::Other)
     }
 
     fn create(&mut self, path: &str) -> io::Result<Opened<Measured>> {
-        if path.as_bytes() != self.output_name {
-            return Err(io::Error::from(ErrorKind::NotFound));
-        }
-        match self.room.take() {
-            Some(room) => Ok(Opened {
-                device: Measured::new(room),
-                kind: FileKind::Regular {
-                    device: 0,
-                    number: 1,
-                    size: 0,
-                },
-            }),
-            None => Err(io::Error::from(ErrorKind::StorageFull)),
-        }
+        let kind = kind_written(self.files, path.as_bytes());
+        self.open_room(kind)
     }
 
     fn close(&mut self, output: Measured) {

@@ -4,11 +4,7 @@
 #[derive(Clone, Copy, Debug, PartialEq, Eq)]
 pub enum FileKind {
     /// A regular file: its device, its number there, and the bytes that it held when it was opened.
-    Regular {
-        device: u64,
-        number: u64,
-        size: u64,
-    },
+    Regular { device: u64, number: u64, size: u64 },
     Directory,
     /// A pipe, a terminal or another device.
     Other,

@@ -5,6 +5,7 @@ mod conversions;
 mod cuts;
 mod dictionaries;
 mod failing;
+mod files;
 mod long_lines;
 mod modifications;
 mod nested;

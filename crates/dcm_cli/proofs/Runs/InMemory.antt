@@ -1,15 +1,18 @@
 -- Runs over writers that tell their size.
-use Rattle.std.proofs.Common.{◌≡◌, ◌∙◌, ap, subst, ℕ, ◌-◌, ◌≤◌, List, ◌∷◌, ◌++◌, length, Bool, true, false, Option, Some, arith, inl, inr, length-append}
+use Rattle.std.proofs.Common.{◌≡◌, ◌∙◌, ap, subst, refl, ℕ, ◌-◌, ◌≤◌, List, [], ◌∷◌, ◌++◌, length, Bool, true, false, Option, Some, arith, inl, inr, length-append}
 use Rattle.std.specs.Io.KnownBytes.{append_known}
 use Rattle.std.proofs.lemmas.List.{length-take-le}
 use Rattle.dcm_devices.specs.Device.{AppendsFront}
 use Rattle.dcm_devices.specs.Memory.{written, size, room_of}
+use Rattle.dcm_devices.specs.declared.memory.MemIn.{MemIn}
 use Rattle.dcm_devices.specs.declared.memory.MemOut.{MemOut}
+use Rattle.dcm_devices.specs.declared.memory.Measured.{Measured}
 use Rattle.dcm_words.specs.Words.{Job}
 use Rattle.dcm_cli.specs.Answer.{Answer, Answers}
 use Rattle.dcm_cli.specs.InMemory.{LeavesAnswer}
 use Rattle.dcm_cli.specs.Run.{Ran, as_answered, not_read, not_written, not_flushed, Devices}
 use Rattle.dcm_cli.specs.ErrorLines.{Tries}
+use Rattle.dcm_cli.specs.Program.{Errors, Reports, Telling, HasRun, PutsText, put, not_put, not_flushed as text_not_flushed}
 use Rattle.dcm_cli.proofs.Runs.OneAnswer.{one_answer}
 
 -- what is told of a writer of this size that holds these bytes
@@ -87,3 +90,38 @@ pub line_left : (errors new_errors : MemOut) (line : List ℕ) → Tries (sized 
     → written new_errors ≡ written errors ++ line
 line_left errors new_errors line tries room =
     tried (size errors) (size new_errors) (written errors) (written new_errors) errors.failed new_errors.failed (filled new_errors) line tries (let at = taken errors in omega (arith, at, room))
+
+-- what devices over memory tell
+abbrev pub memory_telling : Telling MemIn Measured
+memory_telling = record {
+  remaining = λ m. Some m.rest.now;
+  gets = λ old bytes new. Unit {0};
+  unread = λ m. false;
+  contents = λ m. Some (size m.out ∷ written m.out);
+  room = λ m. Some (room_of m.out);
+  unwritten = λ m. m.out.failed;
+  is_flushed = λ m. true;
+}
+
+abbrev pub memory_errors : (errors new_errors : MemOut) → Errors
+memory_errors errors new_errors = record {
+  told = sized (size errors) (written errors);
+  tells = sized (size new_errors) (written new_errors);
+  untold_before = errors.failed;
+  untold = new_errors.failed;
+}
+
+-- a job was run over them
+pub ran_left : (job : Job) (i : MemIn) (o : Measured) (input : MemIn) (output : Measured) (errors new_errors : MemOut) (status : ℕ) → HasRun memory_telling job (memory_errors errors new_errors) i o input output status
+    → o.out.failed ≡ false → (a : Answer) → Answers job i.rest.now a → length a.output ≤ room_of o.out → LeavesAnswer a o.out output.out errors new_errors status
+ran_left job i o input output errors new_errors status has_run fine a answers enough =
+    memory_left job i.rest.now (Some input.rest.now) o.out output.out errors new_errors status (has_run.ran i.rest.now refl refl fine) a answers enough
+
+-- a text was written where there was room for it
+pub text_left : (out new_out : MemOut) (e : Errors) (text : List ℕ) (status : ℕ)
+    → PutsText text (record { held = sized (size out) (written out); holds = sized (size new_out) (written new_out); room = Some (room_of new_out); unwritten_before = out.failed; unwritten = new_out.failed; is_flushed = true }) e status
+    → length text ≤ room_of out → (written new_out ≡ written out ++ text) × Reports e [] × (status ≡ 0)
+text_left out new_out e text status (put holds same flushed line was) enough = (grew (size out) (size new_out) (written out) (written new_out) text holds, line, was)
+text_left out new_out e text status (not_put front failed line was) enough =
+    absurd (full (size out) (size new_out) (written out) (written new_out) text front (filled new_out failed) (let at = taken out in omega (arith, at, enough)))
+text_left out new_out e text status (text_not_flushed holds failed none line was) enough = absurd (cc)

@@ -9,10 +9,10 @@ pub returns-in_err-path : goal.returns-in_err-path
 returns-in_err-path g c = no_text c.in_err-path.field-0.0 (search rules) (search rules) (search rules) (search rules) refl
 
 pub returns-in_err-input : goal.returns-in_err-input
-returns-in_err-input g c = refused c.in_err-input.field-0.0 (search rules) (search rules) (search rules)
+returns-in_err-input g c = refused c.in_err-input.field-0.0 (search rules) (search rules) (search rules) (search rules)
 
 pub returns-then-eq-2 : goal.returns-then-eq-2
-returns-then-eq-2 g c = directory c.in_ok-input.input c.from.result c.«open».new.self (search rules) (search rules) (search rules) (search rules) (search rules) refl
+returns-then-eq-2 g c = directory c.in_ok-input.input c.from.result c.«open».new.self (search rules) (search rules) (search rules) (search rules) (search rules) (search rules) refl
 
 pub returns : goal.returns
-returns g c = opened c.in_ok-input.input (search rules) (search rules) (search rules) refl
+returns g c = opened c.in_ok-input.input (search rules) (search rules) (search rules) (search rules) refl

@@ -1,0 +1,146 @@
+// Words over files in memory.
+use super::rows::{Start, bytes_of, header_of};
+use super::{Answer, Wanted, expect_answer, holds, joined, room};
+use dcm_base::MemOut;
+use dcm_cli::in_memory::obey_in_memory;
+use dcm_files::{MemFile, MemSystem};
+use std::process::Abort;
+use std::test::Fail;
+
+/// What words leave: the answer, with no bytes where no output was closed, and whether one was.
+#[derive(Drop)]
+struct Left {
+    answer: Answer,
+    is_closed: bool,
+}
+
+/// The bytes of an output that was closed.
+fn closed_bytes(rt: HostRuntime, written: &Option<MemOut>) -> Result<Vec<u8>, Fail> {
+    let mut bytes = Vec::new(rt.alloc());
+    if let Some(out) = written {
+        bytes.extend_from_slice(out.written())?;
+    }
+    Ok(bytes)
+}
+
+/// What words leave over the file `a`, which has a second name `link`, and a file `other`. Standard input has the bytes of `a`.
+fn left_by(rt: HostRuntime, words: &[&[u8]], bytes: &[u8]) -> Result<Left, Fail> {
+    let named = |name: &'static [u8], number: u64, bytes| MemFile {
+        name,
+        number,
+        bytes,
+    };
+    let files = [named(b"a", 1, bytes), named(b"link", 1, bytes), named(b"other", 2, b"")];
+    let system = MemSystem::new(&files, bytes, MemOut::new(room(rt, 1000)?));
+    let errors = MemOut::new(room(rt, 200)?);
+    let obeyed = obey_in_memory(rt.alloc(), words, system, errors);
+    Ok(Left {
+        answer: Answer {
+            status: obeyed.status,
+            output: closed_bytes(rt, &obeyed.written)?,
+            told: obeyed.errors.written().to_vec(rt.alloc())?,
+        },
+        is_closed: obeyed.written.is_some(),
+    })
+}
+
+/// Words, and what they come to: the front and the rest of the output where one is closed, the line, and the status.
+#[derive(Clone, Copy)]
+struct Case {
+    words: &'static [&'static [u8]],
+    output: Option<(&'static [u8], &'static [u8])>,
+    told: &'static [u8],
+    status: u8,
+}
+
+/// What the file `a` has after its meta group.
+const NAME: &[u8] = b"\x10\0\x10\0PN\x06\0AB^CD ";
+
+/// The same in big endian.
+const BIG_NAME: &[u8] = b"\0\x10\0\x10PN\0\x06AB^CD ";
+
+/// And as it is dumped.
+const LINE: &[u8] =
+    b"(0010,0010) PN [AB^CD]                                  #   6, 1 PatientName\n";
+
+const VERSION: &[u8] = b"dcmtools 0.2.0, with the data dictionary of DICOM PS3.6 2022a\n";
+
+/// Words that do what they say.
+fn done(words: &'static [&'static [u8]], front: &'static [u8], rest: &'static [u8]) -> Case {
+    Case {
+        words,
+        output: Some((front, rest)),
+        told: b"",
+        status: 0,
+    }
+}
+
+/// Words that open no output.
+fn refused(words: &'static [&'static [u8]], told: &'static [u8], status: u8) -> Case {
+    Case {
+        words,
+        output: None,
+        told,
+        status,
+    }
+}
+
+fn works() -> [Case; 6] {
+    let file = bytes_of(Start::ExplicitLittle);
+    let big = bytes_of(Start::Big);
+    [
+        done(&[b"dcmdump", b"a"], header_of(Start::ExplicitLittle), LINE),
+        done(&[b"dcmconv", b"+tb", b"link", b"new"], big, BIG_NAME),
+        done(&[b"dcmconv", b"a", b"other"], file, NAME),
+        done(&[b"dcmconv", b"-", b"a"], file, NAME),
+        done(&[b"dcmconv", b"a", b"-"], file, NAME),
+        done(&[b"dcmconv", b"--version"], VERSION, b""),
+    ]
+}
+
+const NO_INPUT: &[u8] = b"dcmtools: input cannot be opened\n";
+
+const NO_OUTPUT: &[u8] = b"dcmtools: output cannot be opened\n";
+
+const SAME_PATH: &[u8] = b"dcmtools: V6: input and output are the same path\n";
+
+fn failures() -> [Case; 6] {
+    [
+        refused(&[b"dcmdump", b"none"], NO_INPUT, 4),
+        refused(&[b"dcmdump", b"\xff"], NO_INPUT, 4),
+        refused(&[b"dcmconv", b"none", b"\xff"], NO_INPUT, 4),
+        refused(&[b"dcmconv", b"a", b"\xff"], NO_OUTPUT, 4),
+        refused(&[b"dcmconv", b"a", b"a"], SAME_PATH, 1),
+        Case {
+            words: &[b"dcmconv", b"a", b"link"],
+            output: Some((b"", b"")),
+            told: b"dcmtools: output is the input\n",
+            status: 4,
+        },
+    ]
+}
+
+/// Expects what the words of cases come to.
+fn expect_cases(rt: HostRuntime, abort: &impl Abort, cases: &[Case]) -> Result<(), Fail> {
+    let bytes = joined(rt, bytes_of(Start::ExplicitLittle), NAME)?;
+    for case in cases {
+        let left = left_by(rt, case.words, bytes.as_slice())?;
+        let (front, rest) = case.output.unwrap_or((b"", b""));
+        let output = joined(rt, front, rest)?;
+        let wanted = Wanted {
+            status: case.status,
+            output: output.as_slice(),
+            told: case.told,
+        };
+        expect_answer(abort, "words over files", &left.answer, wanted);
+        let is_closed = case.output.is_some();
+        holds(abort, "words over files", "closed", left.is_closed == is_closed);
+    }
+    Ok(())
+}
+
+#[test]
+fn words_over_files(rt: HostRuntime) -> Result<(), Fail> {
+    expect_cases(rt, &rt, &works())?;
+    expect_cases(rt, &rt, &failures())
+}
