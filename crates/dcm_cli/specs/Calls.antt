@@ -28,17 +28,20 @@ Tries e old new lines = error_lines.Tries (e.contents old) (e.contents new) (e.h
 
 -- ---- the work on a job
 
--- the work on an input: the calls that it made of it, none once the answer was decided; and, whatever the input may hold after
--- the bytes that they gave, what it left
-pub record Works {R W : Type 0} (r : Reader R) (w : Writer W) (job : Job) (old new : R) (held holds : W) (ending : Ending) : Type 0 where
+-- the work on an input: the calls that it made, none once the answer was decided; and what it left, whatever the input may
+-- hold after the bytes that they gave
+pub record Works {R W : Type 0} (r : Reader R) (w : Writer W) (job : Job) (old new : R) (held holds : W)
+    (ending : Ending) : Type 0 where
   pub given : List ℕ
   pub how : How
   pub reads : ReadsInput r (IsUndecided job) old given how new
-  pub worked : (rest : List ℕ) → Allows how rest → run.Worked job (given ++ rest) (Some rest) (w.contents held) (w.contents holds) ending
+  pub worked : (rest : List ℕ) → Allows how rest
+      → run.Worked job (given ++ rest) (Some rest) (w.contents held) (w.contents holds) ending
 
--- a run of a job: the calls that it made of its input, none once the answer was decided; and, whatever the input may hold after
--- the bytes that they gave, what it left where neither device had failed
-pub record Runs {R W E : Type 0} (r : Reader R) (w : Writer W) (e : Writer E) (job : Job) (old new : R) (held holds : W) (told tells : E) (status : ℕ) : Type 0 where
+-- a run of a job: the calls that it made of its input, none once the answer was decided; and what it left, whatever the input
+-- may hold after the bytes that they gave, where neither device had failed
+pub record Runs {R W E : Type 0} (r : Reader R) (w : Writer W) (e : Writer E) (job : Job) (old new : R) (held holds : W)
+    (told tells : E) (status : ℕ) : Type 0 where
   pub given : List ℕ
   pub how : How
   pub reads : ReadsInput r (IsUndecided job) old given how new
@@ -75,8 +78,8 @@ abbrev pub PutsHead : {W T E : Type 0} → Writer W → (old new : W) → Readin
 PutsHead w old new meta uid result = OfElements (group_of meta) (λ elements. Puts (w.contents old) (w.contents new) (opening.head_text meta uid elements) result)
 
 -- a file was opened that is to be written again, or why not
-pub record Opens {R W : Type 0} (r : Reader R) (w : Writer W) (d : Dictionary) (target : Option Syntax) (old new : R) (held holds : W) (buffer : List ℕ)
-    (result : Result Opened Ending) : Type 0 where
+pub record Opens {R W : Type 0} (r : Reader R) (w : Writer W) (d : Dictionary) (target : Option Syntax) (old new : R)
+    (held holds : W) (buffer : List ℕ) (result : Result Opened Ending) : Type 0 where
   pub read : List ℕ
   pub how : How
   pub reads : ReadsInput r pass.HeadGoesOn old read how new

@@ -16,12 +16,12 @@ not_found [] = 0
 not_found (b ∷ bs) = (if b then 0 else 1) + 2 * not_found bs
 
 -- the edits went between the machine and the sink, and those that found no place are told
-pub record EditPass {S R : Type 0} (sink : Ghosts S) (r : Reader R) (edits : List Edit) (old new : S) (had left : R) (buffered : List ℕ) (first : Reading)
-    (is_over : Bool) (ending : Ending) : Type 0 where
+pub record EditPass {S R : Type 0} (sink : Ghosts S) (r : Reader R) (edits : List Edit) (old new : S) (had left : R)
+    (buffered : List ℕ) (first : Reading) (is_over : Bool) (ending : Ending) : Type 0 where
   pub last : State
   pub passed : Ending
-  pub ends : ReadsSet through_bar (through_step sink.step) (through_writes sink.step sink.writes) r had left is_over buffered first (begun edits, sink.state old) (sink.contents old)
-      (last, sink.state new) (sink.contents new) passed
+  pub ends : ReadsSet through_bar (through_step sink.step) (through_writes sink.step sink.writes) r had left is_over
+      buffered first (begun edits, sink.state old) (sink.contents old) (last, sink.state new) (sink.contents new) passed
   pub was : is_over ≡ true → WasRead passed
   pub ending_is : ending ≡ with_unplaced passed (not_found last.found)
 

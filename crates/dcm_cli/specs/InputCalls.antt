@@ -36,16 +36,18 @@ TellsHow old new in_part = new ≡ old
 TellsHow old new to_end = new ≡ old
 TellsHow old new with_failure = new ≡ true
 
--- all calls of a reader: they gave these bytes. None was made; or calls were made that gave at least a byte each, and then,
--- since more had to be known, one more, which gave some, or none at the end, or failed
-pub data InputCalls {R : Type 0} (gets : R → Option (List ℕ) → R → Type 0) (Needed : List ℕ → Type 0) (old : R) (given : List ℕ)
-    (how : How) (new : R) : Type 0 where
+-- all the calls that led from a reader to a later one, and the bytes that they gave. None was made; or calls were made that
+-- gave at least a byte each, and then, since more had to be known, one more, which gave some, or none at the end, or failed
+pub data InputCalls {R : Type 0} (gets : R → Option (List ℕ) → R → Type 0) (Needed : List ℕ → Type 0)
+    (old : R) (given : List ℕ) (how : How) (new : R) : Type 0 where
   no_call : given ≡ [] → how ≡ in_part → new ≡ old → InputCalls gets Needed old given how new
-  last_call : (before : List ℕ) (mid : R) (call : Option (List ℕ)) → Gave gets old before mid → Needed before → gets mid call new
-      → given ≡ before ++ unwrap_or call [] → how ≡ how_of call → InputCalls gets Needed old given how new
+  last_call : (before : List ℕ) (mid : R) (call : Option (List ℕ)) → Gave gets old before mid → Needed before
+      → gets mid call new → given ≡ before ++ unwrap_or call [] → how ≡ how_of call
+      → InputCalls gets Needed old given how new
 
 -- a reader was read by such calls. Where it tells what it has still to give, these bytes are the front of that
-pub record ReadsInput {R : Type 0} (r : Reader R) (Needed : List ℕ → Type 0) (old : R) (given : List ℕ) (how : How) (new : R) : Type 0 where
+pub record ReadsInput {R : Type 0} (r : Reader R) (Needed : List ℕ → Type 0)
+    (old : R) (given : List ℕ) (how : How) (new : R) : Type 0 where
   pub calls : InputCalls r.gets Needed old given how new
   pub left : r.remaining old ≡ prepend_known given (r.remaining new)
   pub end : how ≡ to_end → IsAtEnd (r.remaining new)

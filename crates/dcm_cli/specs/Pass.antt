@@ -70,7 +70,9 @@ pub record Begins (r : meta.Reading) (b : Beginning) (buffer : List ℕ) (how : 
 
 -- why it was not
 abbrev pub FailsHead : meta.Reading → How → (read : List ℕ) → HeadEnding → Type 0
-FailsHead r how read (heads.Refused stop) = (r.end ≡ Some (meta_end.Refused stop)) × ((r ≡ head_read read) ⊎ ((how ≡ to_end) × (r ≡ meta.meta_finished (head_read read))))
+FailsHead r how read (heads.Refused stop) =
+    (r.end ≡ Some (meta_end.Refused stop))
+    × ((r ≡ head_read read) ⊎ ((how ≡ to_end) × (r ≡ meta.meta_finished (head_read read))))
 FailsHead r how read (heads.Unread count) = (r ≡ head_read read) × (r.end ≡ None) × (count ≡ length read)
 
 -- the input ended with it, where so many bytes were read, or is at fault
@@ -89,7 +91,8 @@ abbrev pub HeadGoesOn : List ℕ → Type 0
 HeadGoesOn bytes = (head_read bytes).end ≡ None
 
 -- a reader was read for it
-pub record HeadReads {R : Type 0} (r : Reader R) (old new : R) (m : meta.Reading) (buffer : List ℕ) (result : Result Beginning HeadEnding) : Type 0 where
+pub record HeadReads {R : Type 0} (r : Reader R) (old new : R) (m : meta.Reading) (buffer : List ℕ)
+    (result : Result Beginning HeadEnding) : Type 0 where
   pub read : List ℕ
   pub how : How
   pub reads : ReadsInput r HeadGoesOn old read how new
@@ -153,12 +156,18 @@ pub data Ends {S : Type 0} (bars : S → Head → Option Bar) (step : S → Atom
       → AppendsFront held holds (outputs (steps bars step) (steps_write bars step writes) (old, s) read ++ outputs step writes (fold (steps bars step) (old, s) read).1 (end_shows (finish (fold (steps bars step) (old, s) read).0)))
       → Ends bars step writes old s held left t holds read ending
 
--- a reader was read as a data set whose first bytes had been read, which was not done where they were all. For all that it may
--- still hold, the reading ended so
-pub record ReadsSet {S R : Type 0} (bars : S → Head → Option Bar) (step : S → Atom → S) (writes : S → Atom → List ℕ) (r : Reader R) (had left : R)
-    (is_over : Bool) (beginning : List ℕ) (first : Reading) (s : S) (held : Option (List ℕ)) (t : S) (holds : Option (List ℕ)) (ending : Ending) : Type 0 where
+-- a data set whose first bytes had been read goes on after these
+abbrev pub SetGoesOn : {S : Type 0} → (S → Head → Option Bar) → (S → Atom → S) → (is_over : Bool) → (beginning : List ℕ) → Reading → S → List ℕ → Type 0
+SetGoesOn bars step is_over beginning first s bytes =
+    (is_over ≡ false) × ((fold (steps bars step) (first, s) (beginning ++ bytes)).0.halt ≡ None)
+
+-- a reader was read as the rest of such a data set; and how its reading ended, whatever the input may hold after the bytes that
+-- were given
+pub record ReadsSet {S R : Type 0} (bars : S → Head → Option Bar) (step : S → Atom → S) (writes : S → Atom → List ℕ)
+    (r : Reader R) (had left : R) (is_over : Bool) (beginning : List ℕ) (first : Reading) (s : S) (held : Option (List ℕ))
+    (t : S) (holds : Option (List ℕ)) (ending : Ending) : Type 0 where
   pub more : List ℕ
   pub how : How
-  pub reads : ReadsInput r (λ bytes. (is_over ≡ false) × ((fold (steps bars step) (first, s) (beginning ++ bytes)).0.halt ≡ None)) had more how left
+  pub reads : ReadsInput r (SetGoesOn bars step is_over beginning first s) had more how left
   pub ends : (rest : List ℕ) → Allows how rest → (is_over ≡ true → rest ≡ [])
       → Ends bars step writes first s held (Some rest) t holds (beginning ++ more) ending

@@ -129,13 +129,17 @@ pub record Devices : Type 0 where
 pub data Ran (job : Job) (given rest : List ℕ) (d : Devices) (status : ℕ) : Type 0 where
   -- no device failed: just the output, the lines and the status of the answer
   as_answered : (a : Answer) → Answers job (given ++ rest) a → d.unread ≡ false → d.unwritten ≡ false
-      → d.holds ≡ append_known d.held a.output → Tries d.told d.tells d.untold_before d.untold a.told → status ≡ a.status → Ran job given rest d status
+      → d.holds ≡ append_known d.held a.output → Tries d.told d.tells d.untold_before d.untold a.told
+      → status ≡ a.status → Ran job given rest d status
   -- reading failed after the bytes that were given: exactly what is sure of them was written
   not_read : (out : List ℕ) → d.unread ≡ true → Sure job given out
-      → d.holds ≡ append_known d.held out → Tries d.told d.tells d.untold_before d.untold (unread_line (length given)) → status ≡ 4 → Ran job given rest d status
+      → d.holds ≡ append_known d.held out → Tries d.told d.tells d.untold_before d.untold (unread_line (length given))
+      → status ≡ 4 → Ran job given rest d status
   -- the output failed: a beginning of it was written, and not all of it
   not_written : (a : Answer) → Answers job (given ++ rest) a → d.unread ≡ false → d.unwritten ≡ true
-      → AppendsFront d.held d.holds a.output → Tries d.told d.tells d.untold_before d.untold output_line → status ≡ 4 → Ran job given rest d status
+      → AppendsFront d.held d.holds a.output → Tries d.told d.tells d.untold_before d.untold output_line
+      → status ≡ 4 → Ran job given rest d status
   -- all of it was written, and then it was not flushed
   not_flushed : (a : Answer) → Answers job (given ++ rest) a → d.unread ≡ false → d.unwritten ≡ true → d.room ≡ None
-      → d.holds ≡ append_known d.held a.output → Tries d.told d.tells d.untold_before d.untold output_line → status ≡ 4 → Ran job given rest d status
+      → d.holds ≡ append_known d.held a.output → Tries d.told d.tells d.untold_before d.untold output_line
+      → status ≡ 4 → Ran job given rest d status

@@ -22,13 +22,14 @@ EndsSet sink old new before r = pass.EndsSet sink.step sink.writes before (sink.
 -- an input was read as a data set that was read up to here
 abbrev pub ReadsRest : {S R : Type 0} → Ghosts S → Reader R → (old new : S) → (had left : R) → Reading → Ending → Type 0
 ReadsRest sink r old new had left before ending =
-    pass.ReadsSet sink.bar sink.step sink.writes r had left false [] before (sink.state old) (sink.contents old) (sink.state new) (sink.contents new) ending
+    pass.ReadsSet sink.bar sink.step sink.writes r had left false [] before
+    (sink.state old) (sink.contents old) (sink.state new) (sink.contents new) ending
 
 -- and as a data set whose first bytes were read with the head of its file
 abbrev pub ReadsSet : {S R : Type 0} → Ghosts S → Reader R → (old new : S) → (had left : R) → Beginning → (buffer : List ℕ) → Syntax → (start : ℕ) → Ending → Type 0
 ReadsSet sink r old new had left beginning buffer s start ending =
-    pass.ReadsSet sink.bar sink.step sink.writes r had left beginning.is_over (pass.set_bytes beginning buffer) (start_of s start) (sink.state old) (sink.contents old)
-    (sink.state new) (sink.contents new) ending
+    pass.ReadsSet sink.bar sink.step sink.writes r had left beginning.is_over (pass.set_bytes beginning buffer) (start_of s start)
+    (sink.state old) (sink.contents old) (sink.state new) (sink.contents new) ending
 
 -- its writer failed in the call exactly where that is the ending
 abbrev pub TellsOutput : {S : Type 0} → Ghosts S → (old new : S) → Ending → Type 0

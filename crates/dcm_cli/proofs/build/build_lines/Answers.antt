@@ -1,4 +1,4 @@
-use Rattle.std.proofs.Common.{rules, ◌≡◌, ◌∙◌, ap, sym, subst, ℕ, List, ◌++◌, take, length-append, arith, [], Some, None, refl}
+use Rattle.std.proofs.Common.{rules, ◌≡◌, ◌∙◌, ap, sym, subst, ℕ, List, ◌++◌, take, length-append, arith, [], Some, refl}
 use Rattle.std.proofs.lemmas.List.{append-nil, length-take-le}
 use Rattle.dcm_devices.specs.Device.{no_calls}
 use Rattle.dcm_words.specs.Words.{build as build_job}

@@ -1,7 +1,5 @@
-use Rattle.std.proofs.Common.{◌≡◌, ap, sym, subst, ℕ, List, [], ◌++◌, append_assoc, Option, Some, None, refl, rules, false}
-use Rattle.std.specs.Prelude.{fold}
+use Rattle.std.proofs.Common.{ap, sym, subst, ℕ, List, [], ◌++◌, append_assoc, Option, Some, refl, rules}
 use Rattle.dcm_words.specs.Words.{Job, convert}
-use Rattle.dcm_stream.specs.Machine.{steps}
 use Rattle.dcm_stream.specs.Reading.{start_of}
 use Rattle.dcm_tools.specs.EncodeSink.{EncodeState, encode_bar, encode_step, encode_writes, encode_start}
 use Rattle.dcm_tools.specs.Encoder.{state as encoder_state}
@@ -46,7 +44,7 @@ returns-clause-worked g c =
     in
     let set = subst (λ t. Passed (encode_start t) mid) c.target_syntax.ensures passed in
     let first : EncodeState = (file_encoder c.args.dictionary c.args.target opened.coding).maker.first in
-    let Going : List ℕ → Type 0 = λ more. (opened.beginning.is_over ≡ false) × ((fold (steps encode_bar encode_step) (start_of opened.coding.syntax opened.start, first) (spec.set_bytes opened.beginning buffer ++ more)).0.halt ≡ None) in
+    let Going : List ℕ → Type 0 = spec.SetGoesOn encode_bar encode_step opened.beginning.is_over (spec.set_bytes opened.beginning buffer) (start_of opened.coding.syntax opened.start) first in
     let j = joined reader spec.HeadGoesOn Going (IsUndecided job) c.args.input.now c.open_file.new.input c.read_set.new.input x.read set.more x.how set.how x.reads set.reads (head_undecided job refl)
     (λ more is going. opened_undecided c.args.target job refl (file_encoder c.args.dictionary c.args.target) x.read more x.how (allows_any x.how is (more ++ [])) held mid buffer opened x.opens x.opens.keeps going.0 going.1)
     (λ more going. began_gave reader c.args.input.now c.open_file.new.input x.opens.reading opened.beginning buffer x.read x.how x.opens.head.begins x.reads going.0)

@@ -1,4 +1,4 @@
-use Rattle.std.proofs.Common.{◌≡◌, ◌∙◌, ap, sym, subst, ℕ, List, ◌++◌, [], append_assoc, Option, Some, None, refl, rules, false}
+use Rattle.std.proofs.Common.{◌≡◌, ◌∙◌, ap, sym, subst, ℕ, List, ◌++◌, [], append_assoc, Option, Some, None, refl, rules}
 use Rattle.std.specs.Prelude.{fold}
 use Rattle.std.specs.Io.KnownBytes.{append_known}
 use Rattle.dcm_base.specs.Syntax.{Little}
@@ -12,7 +12,7 @@ use Rattle.dcm_stream.specs.Reading.{start_of}
 use Rattle.dcm_tools.specs.DumpSink.{DumpState, dump_start, dump_step, dump_writes, bars_nothing}
 use Rattle.dcm_cli.specs.declared.ending.Ending.{Ending}
 use Rattle.dcm_tools.specs.Lines.{state as lines_state}
-use Rattle.dcm_cli.specs.InputCalls.{Reader, Allows, How, in_part, IsUndecided}
+use Rattle.dcm_cli.specs.InputCalls.{Reader, in_part, IsUndecided}
 use Rattle.dcm_cli.specs.Opening.{HeadRead}
 use Rattle.dcm_cli.specs.Pass as spec
 use Rattle.dcm_cli.specs.Run.{Worked}
@@ -75,7 +75,7 @@ returns-clause-worked g c =
     let set = subst (λ s. spec.ReadsSet bars_nothing dump_step dump_writes reader c.read_head_of.new.input c.read_set.new.input b.is_over (spec.set_bytes b buffer) (start_of coding.syntax start) s mid last holds c.read_set.result)
     c.by-sink.ensures.state c.read_set.ensures.ends
     in
-    let Going : List ℕ → Type 0 = λ more. (b.is_over ≡ false) × ((fold (steps bars_nothing dump_step) (start_of coding.syntax start, first) (spec.set_bytes b buffer ++ more)).0.halt ≡ None) in
+    let Going : List ℕ → Type 0 = spec.SetGoesOn bars_nothing dump_step b.is_over (spec.set_bytes b buffer) (start_of coding.syntax start) first in
     let undecided : (more : List ℕ) → head.how ≡ in_part → Going more → IsUndecided job (head.read ++ more) = λ more is going.
     let o = head_opened c.args.dictionary head.read (more ++ []) head.how (allows_any head.how is (more ++ [])) buffer r b coding start h in
     set_undecided job refl head.read more r o refl (file_dumper c.args.dictionary c.args.mode coding) head.how b buffer head.outcome going.0

@@ -1,9 +1,8 @@
-use Rattle.std.proofs.Common.{◌≡◌, refl, ◌∙◌, ap, sym, subst, ℕ, List, [], ◌++◌, Option, Some, None, rules, true, false}
-use Rattle.std.specs.Prelude.{fold}
+use Rattle.std.proofs.Common.{◌≡◌, refl, ◌∙◌, ap, sym, subst, ℕ, List, [], ◌++◌, Option, Some, rules, true, false}
 use Rattle.std.specs.Io.KnownBytes.{append_known}
 use Rattle.dcm_base.specs.Header.{set_header}
 use Rattle.dcm_devices.specs.Device.{AppendsFront}
-use Rattle.dcm_stream.specs.Machine.{Progress, steps}
+use Rattle.dcm_stream.specs.Machine.{Progress}
 use Rattle.dcm_stream.specs.Reading.{Reading, start_of}
 use Rattle.dcm_tools.specs.DumpSink.{DumpState, dump_start, dump_step, dump_writes, bars_nothing}
 use Rattle.dcm_tools.specs.Lines.{state as lines_state}
@@ -56,7 +55,7 @@ returns-clause-worked g c =
     (subst (λ (s : DumpState). spec.ReadsSet bars_nothing dump_step dump_writes reader c.args.input.now c.read_rest.new.input false [] c.new-machine.result.reading s held last holds c.read_rest.result) c.by-sink.ensures.state
     c.read_rest.ensures.reads)
     in
-    let Going : List ℕ → Type 0 = λ bytes. (false ≡ false) × ((fold (steps bars_nothing dump_step) (begins, begun) bytes).0.halt ≡ None) in
+    let Going : List ℕ → Type 0 = spec.SetGoesOn bars_nothing dump_step false [] begins begun in
     let k = c.read_rest.ensures.kept in
     let n = c.by-sink.ensures.same_reference in
     record {

@@ -1,4 +1,4 @@
-use Rattle.std.proofs.Common.{◌≡◌, ◌∙◌, ℕ, List, ◌++◌, ap, sym, subst, refl, take, length, length-append, arith, [], Some, None, inl}
+use Rattle.std.proofs.Common.{◌≡◌, ◌∙◌, ℕ, List, ◌++◌, ap, sym, subst, refl, take, length, length-append, arith, [], None, inl}
 use Rattle.std.proofs.lemmas.List.{length-take-le}
 use Rattle.dcm_devices.specs.Device.{no_calls}
 use Rattle.dcm_head.specs.MetaReading.{Reading}

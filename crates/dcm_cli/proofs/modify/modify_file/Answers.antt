@@ -1,7 +1,5 @@
-use Rattle.std.proofs.Common.{◌≡◌, ap, sym, subst, refl, ℕ, List, [], ◌++◌, append_assoc, Option, Some, None, rules, false}
-use Rattle.std.specs.Prelude.{fold}
+use Rattle.std.proofs.Common.{ap, sym, subst, refl, ℕ, List, [], ◌++◌, append_assoc, Option, Some, None, rules}
 use Rattle.dcm_words.specs.Words.{Job, modify}
-use Rattle.dcm_stream.specs.Machine.{steps}
 use Rattle.dcm_stream.specs.Reading.{start_of}
 use Rattle.dcm_edit.specs.EditSink.{begun}
 use Rattle.dcm_edit.specs.Through.{through_step, through_writes, through_bar}
@@ -47,9 +45,7 @@ returns-clause-worked g c =
     let set = subst (λ known. Passed (encode_start opened.coding.syntax) known) (ap (λ (x : g.row.W.Denot). g.W.DeviceOut.contents x) c.new-sink.ensures.out)
     (subst (λ s. Passed s (g.W.DeviceOut.contents c.new-sink.result.out.now)) c.new-sink.ensures.state pass.ends)
     in
-    let Going : List ℕ → Type 0 = λ more. (opened.beginning.is_over ≡ false)
-    × ((fold (steps through_bar (through_step encode_step)) (start_of opened.coding.syntax opened.start, (begun c.args.edits.now, encode_start opened.coding.syntax)) (spec.set_bytes opened.beginning buffer ++ more)).0.halt ≡ None)
-    in
+    let Going : List ℕ → Type 0 = spec.SetGoesOn through_bar (through_step encode_step) opened.beginning.is_over (spec.set_bytes opened.beginning buffer) (start_of opened.coding.syntax opened.start) (begun c.args.edits.now, encode_start opened.coding.syntax) in
     let j = joined reader spec.HeadGoesOn Going (IsUndecided job) c.args.input.now c.open_file.new.input c.read_edited.new.input x.read set.more x.how set.how x.reads set.reads (head_undecided job refl)
     (λ more is going. opened_undecided None job refl (file_editor c.args.dictionary c.args.edits.now c.requires.meant) x.read more x.how (allows_any x.how is (more ++ [])) held mid buffer opened x.opens refl going.0 going.1)
     (λ more going. began_gave reader c.args.input.now c.open_file.new.input x.opens.reading opened.beginning buffer x.read x.how x.opens.head.begins x.reads going.0)

@@ -1,8 +1,6 @@
-use Rattle.std.proofs.Common.{rules, ◌≡◌, ◌∙◌, ℕ, List, ◌++◌, sym, subst, Ok, Err, take, arith, length-append, [], Some, None, refl, false}
-use Rattle.std.specs.Prelude.{fold}
+use Rattle.std.proofs.Common.{rules, ◌∙◌, ℕ, List, ◌++◌, sym, subst, Ok, Err, take, arith, length-append, [], Some, refl, false}
 use Rattle.std.proofs.lemmas.List.{length-take-le}
 use Rattle.dcm_devices.specs.Device.{no_calls}
-use Rattle.dcm_stream.specs.Machine.{steps}
 use Rattle.dcm_cli.specs.declared.ending.Ending.TheVariants.{Unread}
 use Rattle.dcm_cli.specs.InputCalls.{in_part, to_end, with_failure}
 use Rattle.dcm_cli.specs.Pass as spec
@@ -28,7 +26,7 @@ pub returns-in-Ok-None-clause-reads : goal.returns-in-Ok-None-clause-reads
 returns-in-Ok-None-clause-reads g c =
     let loop = c.loop-size in
     let front = loop.invariant.front in
-    let Needed : List ℕ → Type 0 = λ bytes. (false ≡ false) × ((fold (steps g.S.Sink.bar g.S.Sink.step) (c.args.machine.now.reading, g.S.Sink.state c.args.sink.now) bytes).0.halt ≡ None) in
+    let Needed : List ℕ → Type 0 = spec.SetGoesOn g.S.Sink.bar g.S.Sink.step false [] c.args.machine.now.reading (g.S.Sink.state c.args.sink.now) in
     let going = still_going g.S.Sink.bar g.S.Sink.step g.S.Sink.writes c.args.machine.now (g.S.Sink.state c.args.sink.now) (g.S.Sink.contents c.args.sink.now) (g.S.Sink.has_failed c.args.sink.now)
     loop.machine (g.S.Sink.state loop.sink) (g.S.Sink.contents loop.sink) (g.S.Sink.has_failed loop.sink) front loop.invariant.fed
     in
@@ -48,7 +46,7 @@ pub returns-in-Err-clause-reads : goal.returns-in-Err-clause-reads
 returns-in-Err-clause-reads g c =
     let loop = c.loop-size in
     let front = loop.invariant.front in
-    let Needed : List ℕ → Type 0 = λ bytes. (false ≡ false) × ((fold (steps g.S.Sink.bar g.S.Sink.step) (c.args.machine.now.reading, g.S.Sink.state c.args.sink.now) bytes).0.halt ≡ None) in
+    let Needed : List ℕ → Type 0 = spec.SetGoesOn g.S.Sink.bar g.S.Sink.step false [] c.args.machine.now.reading (g.S.Sink.state c.args.sink.now) in
     let going = still_going g.S.Sink.bar g.S.Sink.step g.S.Sink.writes c.args.machine.now (g.S.Sink.state c.args.sink.now) (g.S.Sink.contents c.args.sink.now) (g.S.Sink.has_failed c.args.sink.now)
     loop.machine (g.S.Sink.state loop.sink) (g.S.Sink.contents loop.sink) (g.S.Sink.has_failed loop.sink) front loop.invariant.fed
     in
@@ -67,7 +65,7 @@ pub returns-in-Err-feed-clause-reads : goal.returns-in-Err-feed-clause-reads
 returns-in-Err-feed-clause-reads g c =
     let loop = c.loop-size in
     let front = loop.invariant.front in
-    let Needed : List ℕ → Type 0 = λ bytes. (false ≡ false) × ((fold (steps g.S.Sink.bar g.S.Sink.step) (c.args.machine.now.reading, g.S.Sink.state c.args.sink.now) bytes).0.halt ≡ None) in
+    let Needed : List ℕ → Type 0 = spec.SetGoesOn g.S.Sink.bar g.S.Sink.step false [] c.args.machine.now.reading (g.S.Sink.state c.args.sink.now) in
     let going = still_going g.S.Sink.bar g.S.Sink.step g.S.Sink.writes c.args.machine.now (g.S.Sink.state c.args.sink.now) (g.S.Sink.contents c.args.sink.now) (g.S.Sink.has_failed c.args.sink.now)
     loop.machine (g.S.Sink.state loop.sink) (g.S.Sink.contents loop.sink) (g.S.Sink.has_failed loop.sink) front loop.invariant.fed
     in

@@ -13,7 +13,7 @@ pub returns-in-Err-clause-ends : goal.returns-in-Err-clause-ends
 returns-in-Err-clause-ends g c =
     let bytes : List ℕ = spec.set_bytes c.args.beginning c.args.buffer.now in
     let first = ap (λ (p : Progress). p.reading) c.new-machine.ensures in
-    let Needed : List ℕ → Type 0 = λ more. (c.args.beginning.is_over ≡ false) × ((fold (steps g.S.Sink.bar g.S.Sink.step) (start_of c.args.coding.syntax c.args.start, g.S.Sink.state c.args.sink.now) (bytes ++ more)).0.halt ≡ None) in
+    let Needed : List ℕ → Type 0 = spec.SetGoesOn g.S.Sink.bar g.S.Sink.step c.args.beginning.is_over bytes (start_of c.args.coding.syntax c.args.start) (g.S.Sink.state c.args.sink.now) in
     let ends : (rest : List ℕ) → (c.args.beginning.is_over ≡ true → rest ≡ []) → spec.Ends g.S.Sink.bar g.S.Sink.step g.S.Sink.writes c.new-machine.result.reading (g.S.Sink.state c.args.sink.now) (g.S.Sink.contents c.args.sink.now)
     (Some rest) (g.S.Sink.state c.feed_beginning.new.sink) (g.S.Sink.contents c.feed_beginning.new.sink) bytes (spec.ending_of (Err c.in-Err.halt)) = λ rest none.
     ends_halted g.S.Sink.bar g.S.Sink.step g.S.Sink.writes c.new-machine.result (g.S.Sink.state c.args.sink.now) (g.S.Sink.contents c.args.sink.now) (g.S.Sink.has_failed c.args.sink.now)
@@ -36,7 +36,7 @@ pub returns-then-beginning-clause-ends : goal.returns-then-beginning-clause-ends
 returns-then-beginning-clause-ends g c =
     let bytes : List ℕ = spec.set_bytes c.args.beginning c.args.buffer.now in
     let first = ap (λ (p : Progress). p.reading) c.new-machine.ensures in
-    let Needed : List ℕ → Type 0 = λ more. (c.args.beginning.is_over ≡ false) × ((fold (steps g.S.Sink.bar g.S.Sink.step) (start_of c.args.coding.syntax c.args.start, g.S.Sink.state c.args.sink.now) (bytes ++ more)).0.halt ≡ None) in
+    let Needed : List ℕ → Type 0 = spec.SetGoesOn g.S.Sink.bar g.S.Sink.step c.args.beginning.is_over bytes (start_of c.args.coding.syntax c.args.start) (g.S.Sink.state c.args.sink.now) in
     let ends : (rest : List ℕ) → (c.args.beginning.is_over ≡ true → rest ≡ []) → spec.Ends g.S.Sink.bar g.S.Sink.step g.S.Sink.writes c.new-machine.result.reading (g.S.Sink.state c.args.sink.now) (g.S.Sink.contents c.args.sink.now)
     (Some rest) (g.S.Sink.state c.end.new.sink) (g.S.Sink.contents c.end.new.sink) bytes (spec.ending_of c.end.result) = λ rest none.
     ends_at_end g.S.Sink.bar g.S.Sink.step g.S.Sink.writes c.new-machine.result (g.S.Sink.state c.args.sink.now) (g.S.Sink.contents c.args.sink.now) (g.S.Sink.has_failed c.args.sink.now)
@@ -60,13 +60,13 @@ returns-clause-ends g c =
     let bytes : List ℕ = spec.set_bytes c.args.beginning c.args.buffer.now in
     let first = ap (λ (p : Progress). p.reading) c.new-machine.ensures in
     let rest_read = c.read_rest.ensures.reads in
-    let Going : List ℕ → Type 0 = λ more. (false ≡ false) × ((fold (steps g.S.Sink.bar g.S.Sink.step) (c.feed_beginning.new.machine.reading, g.S.Sink.state c.feed_beginning.new.sink) more).0.halt ≡ None) in
-    let Needed : List ℕ → Type 0 = λ more. (c.args.beginning.is_over ≡ false) × ((fold (steps g.S.Sink.bar g.S.Sink.step) (start_of c.args.coding.syntax c.args.start, g.S.Sink.state c.args.sink.now) (bytes ++ more)).0.halt ≡ None) in
+    let Going : List ℕ → Type 0 = spec.SetGoesOn g.S.Sink.bar g.S.Sink.step false [] c.feed_beginning.new.machine.reading (g.S.Sink.state c.feed_beginning.new.sink) in
+    let Needed : List ℕ → Type 0 = spec.SetGoesOn g.S.Sink.bar g.S.Sink.step c.args.beginning.is_over bytes (start_of c.args.coding.syntax c.args.start) (g.S.Sink.state c.args.sink.now) in
     let going : (more : List ℕ) → Going more → Needed more = λ more h. (
       c.if-beginning.false,
       subst (λ (r : Reading). (fold (steps g.S.Sink.bar g.S.Sink.step) (r, g.S.Sink.state c.args.sink.now) (bytes ++ more)).0.halt ≡ None) first
-      (going_behind g.S.Sink.bar g.S.Sink.step g.S.Sink.writes c.new-machine.result (g.S.Sink.state c.args.sink.now) (g.S.Sink.contents c.args.sink.now) (g.S.Sink.has_failed c.args.sink.now)
-      c.feed_beginning.new.machine (g.S.Sink.state c.feed_beginning.new.sink) (g.S.Sink.contents c.feed_beginning.new.sink) (g.S.Sink.has_failed c.feed_beginning.new.sink) bytes more c.in_default.ensures.fed h.1),
+          (going_behind g.S.Sink.bar g.S.Sink.step g.S.Sink.writes c.new-machine.result (g.S.Sink.state c.args.sink.now) (g.S.Sink.contents c.args.sink.now) (g.S.Sink.has_failed c.args.sink.now)
+          c.feed_beginning.new.machine (g.S.Sink.state c.feed_beginning.new.sink) (g.S.Sink.contents c.feed_beginning.new.sink) (g.S.Sink.has_failed c.feed_beginning.new.sink) bytes more c.in_default.ensures.fed h.1),
     ) in
     record {
       more = rest_read.more;
