@@ -28,8 +28,8 @@ Tries e old new lines = error_lines.Tries (e.contents old) (e.contents new) (e.h
 
 -- ---- the work on a job
 
--- the work on an input: the calls that it made, none once the answer was decided; and what it left, whatever the input may
--- hold after the bytes that they gave
+-- the work on an input: the calls that it made, none once the answer was decided; and what it left, whatever the input
+-- may hold after the bytes that they gave
 pub record Works {R W : Type 0} (r : Reader R) (w : Writer W) (job : Job) (old new : R) (held holds : W)
     (ending : Ending) : Type 0 where
   pub given : List ℕ
@@ -38,8 +38,8 @@ pub record Works {R W : Type 0} (r : Reader R) (w : Writer W) (job : Job) (old n
   pub worked : (rest : List ℕ) → Allows how rest
       → run.Worked job (given ++ rest) (Some rest) (w.contents held) (w.contents holds) ending
 
--- a run of a job: the calls that it made of its input, none once the answer was decided; and what it left, whatever the input
--- may hold after the bytes that they gave, where neither device had failed
+-- a run of a job: the calls that it made of its input, none once the answer was decided; and what it left, whatever the
+-- input may hold after the bytes that they gave, where neither device had failed
 pub record Runs {R W E : Type 0} (r : Reader R) (w : Writer W) (e : Writer E) (job : Job) (old new : R) (held holds : W)
     (told tells : E) (status : ℕ) : Type 0 where
   pub given : List ℕ

@@ -36,8 +36,9 @@ TellsHow old new in_part = new ≡ old
 TellsHow old new to_end = new ≡ old
 TellsHow old new with_failure = new ≡ true
 
--- all the calls that led from a reader to a later one, and the bytes that they gave. None was made; or calls were made that
--- gave at least a byte each, and then, since more had to be known, one more, which gave some, or none at the end, or failed
+-- all the calls that led from a reader to a later one, and the bytes that they gave. None was made; or calls were made
+-- that gave at least a byte each, and then, since more had to be known, one more, which gave some, or none at the end, or
+-- failed
 pub data InputCalls {R : Type 0} (gets : R → Option (List ℕ) → R → Type 0) (Needed : List ℕ → Type 0)
     (old : R) (given : List ℕ) (how : How) (new : R) : Type 0 where
   no_call : given ≡ [] → how ≡ in_part → new ≡ old → InputCalls gets Needed old given how new

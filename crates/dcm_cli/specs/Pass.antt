@@ -157,12 +157,13 @@ pub data Ends {S : Type 0} (bars : S → Head → Option Bar) (step : S → Atom
       → Ends bars step writes old s held left t holds read ending
 
 -- a data set whose first bytes had been read goes on after these
-abbrev pub SetGoesOn : {S : Type 0} → (S → Head → Option Bar) → (S → Atom → S) → (is_over : Bool) → (beginning : List ℕ) → Reading → S → List ℕ → Type 0
+abbrev pub SetGoesOn : {S : Type 0} → (S → Head → Option Bar) → (S → Atom → S) → (is_over : Bool) → (beginning : List ℕ)
+    → Reading → S → List ℕ → Type 0
 SetGoesOn bars step is_over beginning first s bytes =
     (is_over ≡ false) × ((fold (steps bars step) (first, s) (beginning ++ bytes)).0.halt ≡ None)
 
--- a reader was read as the rest of such a data set; and how its reading ended, whatever the input may hold after the bytes that
--- were given
+-- a reader was read as the rest of such a data set; and how its reading ended, whatever the input may hold after the
+-- bytes that were given
 pub record ReadsSet {S R : Type 0} (bars : S → Head → Option Bar) (step : S → Atom → S) (writes : S → Atom → List ℕ)
     (r : Reader R) (had left : R) (is_over : Bool) (beginning : List ℕ) (first : Reading) (s : S) (held : Option (List ℕ))
     (t : S) (holds : Option (List ℕ)) (ending : Ending) : Type 0 where

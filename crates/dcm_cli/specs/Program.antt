@@ -53,8 +53,8 @@ pub record Telling (I O : Type 0) : Type 1 where
   pub unwritten : O → Bool
   pub is_flushed : O → Bool
 
--- a job was run over these devices, and left them so: the calls that it made of its input, none once the answer was decided;
--- and what it left, whatever the input may hold after the bytes that they gave, where neither device had failed
+-- a job was run over these devices, and left them so: the calls that it made of its input, none once the answer was
+-- decided; and what it left, whatever the input may hold after the bytes that they gave, where neither device had failed
 pub record HasRun {I O : Type 0} (t : Telling I O) (job : Job) (e : Errors) (i : I) (o : O) (input : I) (output : O) (status : ℕ) : Type 0 where
   pub given : List ℕ
   pub how : How
