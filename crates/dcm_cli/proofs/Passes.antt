@@ -1,6 +1,7 @@
 -- What a pass over a file has read and made.
 pub mod Fed
 pub mod Passes
+pub mod Readers
 pub mod Heads
 pub mod Makers
 pub mod Sets

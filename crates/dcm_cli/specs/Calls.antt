@@ -1,5 +1,5 @@
 -- What a call leaves of its reader and its writers, by their members.
-use Rattle.std.specs.Prelude.{◌≡◌, ◌⊎◌, ◌↔◌, ℕ, List, Bool, true, false, Option, Some, Result, MatchResult}
+use Rattle.std.specs.Prelude.{◌≡◌, ◌⊎◌, ◌↔◌, ℕ, List, ◌++◌, true, false, Option, Some, Result, MatchResult}
 use Rattle.dcm_base.specs.declared.syntax.Syntax.{Syntax}
 use Rattle.dcm_devices.specs.Device.{Puts}
 use Rattle.dcm_base.specs.Outputs.{Writer}
@@ -13,15 +13,12 @@ use Rattle.dcm_cli.specs.declared.ending.Ending.{Ending}
 use Rattle.dcm_cli.specs.declared.ending.HeadEnding.{HeadEnding}
 use Rattle.dcm_cli.specs.declared.head.Beginning.{Beginning}
 use Rattle.dcm_cli.specs.declared.rewrite.Opened.{Opened}
+pub use Rattle.dcm_cli.specs.InputCalls.{Reader}
+use Rattle.dcm_cli.specs.InputCalls.{How, Allows, ReadsInput, IsUndecided}
 use Rattle.dcm_cli.specs.Opening as opening
 use Rattle.dcm_cli.specs.Pass as pass
 use Rattle.dcm_cli.specs.Run as run
-use Rattle.dcm_cli.specs.Stops as stops
 use Rattle.dcm_cli.specs.ErrorLines as error_lines
-
--- the members of a reader
-abbrev pub Reader : Type 0 → Type 1
-Reader R = record { has_failed : R → Bool; remaining : R → Option (List ℕ); gets : R → Option (List ℕ) → R → Type 0 }
 
 -- ---- lines on standard error
 
@@ -31,31 +28,35 @@ Tries e old new lines = error_lines.Tries (e.contents old) (e.contents new) (e.h
 
 -- ---- the work on a job
 
--- the work on an input that was to be read from here on
-abbrev pub Works : {R W : Type 0} → Reader R → Writer W → Job → (old new : R) → (held holds : W) → Ending → Type 0
-Works r w job old new held holds ending =
-    (file : List ℕ) → r.remaining old ≡ Some file → run.Worked job file (r.remaining new) (w.contents held) (w.contents holds) ending
+-- the work on an input: the calls that it made, none once the answer was decided; and what it left, whatever the input
+-- may hold after the bytes that they gave
+pub record Works {R W : Type 0} (r : Reader R) (w : Writer W) (job : Job) (old new : R) (held holds : W)
+    (ending : Ending) : Type 0 where
+  pub given : List ℕ
+  pub how : How
+  pub reads : ReadsInput r (IsUndecided job) old given how new
+  pub worked : (rest : List ℕ) → Allows how rest
+      → run.Worked job (given ++ rest) (Some rest) (w.contents held) (w.contents holds) ending
 
--- nothing of it was read once the answer was decided
-abbrev pub Stops : {R : Type 0} → Reader R → Job → (old new : R) → Type 0
-Stops r job old new = (file : List ℕ) → r.remaining old ≡ Some file → stops.Stops r.remaining r.gets job old new
-
--- a run of a job, where neither device had failed
-abbrev pub Runs : {R W E : Type 0} → Reader R → Writer W → Writer E → Job → (old new : R) → (held holds : W) → (told tells : E) → (status : ℕ) → Type 0
-Runs r w e job old new held holds told tells status =
-    (file : List ℕ) → r.remaining old ≡ Some file → r.has_failed old ≡ false → w.has_failed held ≡ false
-    → run.Ran job file (record {
-      left = r.remaining new;
-      held = w.contents held;
-      holds = w.contents holds;
-      room = w.room holds;
-      told = e.contents told;
-      tells = e.contents tells;
-      unread = r.has_failed new;
-      unwritten = w.has_failed holds;
-      untold_before = e.has_failed told;
-      untold = e.has_failed tells;
-    }) status
+-- a run of a job: the calls that it made of its input, none once the answer was decided; and what it left, whatever the
+-- input may hold after the bytes that they gave, where neither device had failed
+pub record Runs {R W E : Type 0} (r : Reader R) (w : Writer W) (e : Writer E) (job : Job) (old new : R) (held holds : W)
+    (told tells : E) (status : ℕ) : Type 0 where
+  pub given : List ℕ
+  pub how : How
+  pub reads : ReadsInput r (IsUndecided job) old given how new
+  pub ran : (rest : List ℕ) → Allows how rest → r.has_failed old ≡ false → w.has_failed held ≡ false
+      → run.Ran job given rest (record {
+        held = w.contents held;
+        holds = w.contents holds;
+        room = w.room holds;
+        told = e.contents told;
+        tells = e.contents tells;
+        unread = r.has_failed new;
+        unwritten = w.has_failed holds;
+        untold_before = e.has_failed told;
+        untold = e.has_failed tells;
+      }) status
 
 abbrev pub RunsJob : {R W E A : Type 0} → Reader R → Writer W → Writer E → words.Job A → (old new : R) → (held holds : W) → (told tells : E) → (status : ℕ) → Type 0
 RunsJob r w e job old new held holds told tells status = Runs r w e (job_of job) old new held holds told tells status
@@ -77,8 +78,12 @@ abbrev pub PutsHead : {W T E : Type 0} → Writer W → (old new : W) → Readin
 PutsHead w old new meta uid result = OfElements (group_of meta) (λ elements. Puts (w.contents old) (w.contents new) (opening.head_text meta uid elements) result)
 
 -- a file was opened that is to be written again, or why not
-abbrev pub Opens : {R W : Type 0} → Reader R → Writer W → Dictionary → Option Syntax → (old new : R) → (held holds : W) → (buffer : List ℕ) → Result Opened Ending → Type 0
-Opens r w d target old new held holds buffer result = opening.Opens d target (r.remaining old) (r.remaining new) (w.contents held) (w.contents holds) buffer result
+pub record Opens {R W : Type 0} (r : Reader R) (w : Writer W) (d : Dictionary) (target : Option Syntax) (old new : R)
+    (held holds : W) (buffer : List ℕ) (result : Result Opened Ending) : Type 0 where
+  pub read : List ℕ
+  pub how : How
+  pub reads : ReadsInput r pass.HeadGoesOn old read how new
+  pub opens : opening.Opens d target read how (w.contents held) (w.contents holds) buffer result
 
 -- the reader failed in the call exactly where that is why
 abbrev pub OpensUnread : {R : Type 0} → Reader R → (old new : R) → Result Opened Ending → Type 0

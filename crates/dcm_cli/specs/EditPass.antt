@@ -7,9 +7,8 @@ use Rattle.dcm_edit.specs.EditSink.{State, begun}
 use Rattle.dcm_edit.specs.Through.{through_bar, through_step, through_writes}
 use Rattle.dcm_cli.specs.declared.ending.Ending.{Ending}
 use Rattle.dcm_cli.specs.declared.rewrite.Opened.{Opened}
-use Rattle.dcm_cli.specs.Calls.{Reader}
-use Rattle.dcm_cli.specs.Pass.{BehindBeginning, WasRead, set_bytes, with_unplaced}
-use Rattle.dcm_cli.specs.Stops.{BehindStops}
+use Rattle.dcm_cli.specs.InputCalls.{Reader}
+use Rattle.dcm_cli.specs.Pass.{ReadsSet, WasRead, set_bytes, with_unplaced}
 
 -- of answers one after another those that are no: bit 0 is set for the first
 unfoldable pub not_found : List Bool → ℕ
@@ -17,16 +16,14 @@ not_found [] = 0
 not_found (b ∷ bs) = (if b then 0 else 1) + 2 * not_found bs
 
 -- the edits went between the machine and the sink, and those that found no place are told
-pub record EditPass {S : Type 0} (sink : Ghosts S) (edits : List Edit) (old new : S) (had left : Option (List ℕ)) (buffered : List ℕ) (first : Reading) (is_over : Bool) (ending : Ending) : Type 0 where
+pub record EditPass {S R : Type 0} (sink : Ghosts S) (r : Reader R) (edits : List Edit) (old new : S) (had left : R)
+    (buffered : List ℕ) (first : Reading) (is_over : Bool) (ending : Ending) : Type 0 where
   pub last : State
   pub passed : Ending
-  pub ends : BehindBeginning through_bar (through_step sink.step) (through_writes sink.step sink.writes) had buffered first (begun edits, sink.state old) (sink.contents old) left (last, sink.state new) (sink.contents new) passed
+  pub ends : ReadsSet through_bar (through_step sink.step) (through_writes sink.step sink.writes) r had left is_over
+      buffered first (begun edits, sink.state old) (sink.contents old) (last, sink.state new) (sink.contents new) passed
   pub was : is_over ≡ true → WasRead passed
   pub ending_is : ending ≡ with_unplaced passed (not_found last.found)
-
--- before the last piece the reading of a data set through edits had not halted
-abbrev pub EditStops : {S R : Type 0} → Ghosts S → Reader R → (edits : List Edit) → (old : S) → (first : Reading) → (buffered : List ℕ) → (is_over : Bool) → (had left : R) → Type 0
-EditStops sink r edits old first buffered is_over had left = BehindStops through_bar (through_step sink.step) first (begun edits, sink.state old) buffered is_over r.remaining r.gets had left
 
 -- where the data set of an opened file begins
 abbrev pub first_of : Opened → Reading
@@ -35,7 +32,4 @@ first_of o = start_of o.coding.syntax o.start
 -- the same of an opened file, by the members of its reader
 abbrev pub Edits : {S R : Type 0} → Ghosts S → Reader R → (edits : List Edit) → (old new : S) → (had left : R) → Opened → (buffer : List ℕ) → Ending → Type 0
 Edits sink r edits old new had left o buffer ending =
-    EditPass sink edits old new (r.remaining had) (r.remaining left) (set_bytes o.beginning buffer) (first_of o) o.beginning.is_over ending
-
-abbrev pub Stops : {S R : Type 0} → Ghosts S → Reader R → (edits : List Edit) → (old : S) → (had left : R) → Opened → (buffer : List ℕ) → Type 0
-Stops sink r edits old had left o buffer = EditStops sink r edits old (first_of o) (set_bytes o.beginning buffer) o.beginning.is_over had left
+    EditPass sink r edits old new had left (set_bytes o.beginning buffer) (first_of o) o.beginning.is_over ending

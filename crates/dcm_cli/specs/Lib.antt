@@ -12,5 +12,5 @@ pub mod NoEdits
 pub mod ReadsAgain
 pub mod Opening
 pub mod Calls
-pub mod Stops
+pub mod InputCalls
 pub mod Laws

@@ -1,6 +1,6 @@
 -- What the opening of a file that is written again leaves: its head was read, and was written with another transfer syntax.
 use Rattle.std.specs.Prelude.{◌≡◌, ℕ, List, ◌++◌, take, true, false, Option, Some, Result, Ok, Err}
-use Rattle.std.specs.Io.KnownBytes.{append_known, prepend_known}
+use Rattle.std.specs.Io.KnownBytes.{append_known}
 use Rattle.dcm_base.specs.declared.fault.Fault.TheVariants.{CannotChange}
 use Rattle.dcm_base.specs.declared.syntax.Coding.{Coding}
 use Rattle.dcm_base.specs.declared.syntax.Syntax.{Syntax}
@@ -21,13 +21,12 @@ use Rattle.dcm_cli.specs.declared.ending.Verdict.TheVariants.{Refused}
 use Rattle.dcm_cli.specs.declared.head.Beginning.{Beginning}
 use Rattle.dcm_cli.specs.declared.rewrite.Opened.{Opened}
 use Rattle.dcm_cli.specs.Answer.{refuses_change, target_uid}
+use Rattle.dcm_cli.specs.InputCalls.{How}
 use Rattle.dcm_cli.specs.Pass.{Begins, FailsHead, ending_of_head}
 
 -- the head of a file was read
-pub record HeadRead (d : Dictionary) (had left : Option (List ℕ)) (buffer : List ℕ) (r : meta.Reading) (b : Beginning) (coding : Coding) (start : ℕ) : Type 0 where
-  pub read : List ℕ
-  pub given : had ≡ prepend_known read left
-  pub begins : Begins r b buffer left read
+pub record HeadRead (d : Dictionary) (read : List ℕ) (how : How) (buffer : List ℕ) (r : meta.Reading) (b : Beginning) (coding : Coding) (start : ℕ) : Type 0 where
+  pub begins : Begins r b buffer how read
   pub named : Coding
   pub end_is : r.end ≡ Some (Ended named)
   pub coding_is : coding ≡ coding_by d named
@@ -42,23 +41,23 @@ abbrev pub head_text : meta.Reading → (uid : List ℕ) → Trees → List ℕ
 head_text r uid elements = take 128 r.bytes ++ PREFIX ++ new_meta elements uid
 
 -- it was written
-pub record OpenedAs (d : Dictionary) (target : Option Syntax) (had left held holds : Option (List ℕ)) (buffer : List ℕ) (o : Opened) : Type 0 where
+pub record OpenedAs (d : Dictionary) (target : Option Syntax) (read : List ℕ) (how : How) (held holds : Option (List ℕ)) (buffer : List ℕ) (o : Opened) : Type 0 where
   pub reading : meta.Reading
   pub uid : List ℕ
-  pub head : HeadRead d had left buffer reading o.beginning o.coding o.start
+  pub head : HeadRead d read how buffer reading o.beginning o.coding o.start
   pub keeps : refuses_change (convert d target) o.coding ≡ false
   pub uid_is : TargetUid target reading uid
   pub written : OfElements (meta.group_of reading) (λ elements. holds ≡ append_known held (head_text reading uid elements))
 
 -- or the file has no such data set, or cannot be changed, or its head was not written whole
-pub data NotOpened (d : Dictionary) (target : Option Syntax) (had left held holds : Option (List ℕ)) (ending : Ending) : Type 0 where
-  no_set : (r : meta.Reading) (read : List ℕ) (head : HeadEnding) → had ≡ prepend_known read left → FailsHead r left read head → holds ≡ held → ending ≡ ending_of_head head
-      → NotOpened d target had left held holds ending
-  no_change : (buffer : List ℕ) (r : meta.Reading) (b : Beginning) (coding : Coding) (start : ℕ) → HeadRead d had left buffer r b coding start → refuses_change (convert d target) coding ≡ true
-      → holds ≡ held → ending ≡ Worked (Refused (record { fault = CannotChange; at = start })) → NotOpened d target had left held holds ending
-  no_head : (buffer : List ℕ) (r : meta.Reading) (b : Beginning) (coding : Coding) (start : ℕ) (uid : List ℕ) → HeadRead d had left buffer r b coding start → refuses_change (convert d target) coding ≡ false
-      → TargetUid target r uid → OfElements (meta.group_of r) (λ elements. AppendsFront held holds (head_text r uid elements)) → ending ≡ Output → NotOpened d target had left held holds ending
+pub data NotOpened (d : Dictionary) (target : Option Syntax) (read : List ℕ) (how : How) (held holds : Option (List ℕ)) (ending : Ending) : Type 0 where
+  no_set : (r : meta.Reading) (head : HeadEnding) → FailsHead r how read head → holds ≡ held → ending ≡ ending_of_head head
+      → NotOpened d target read how held holds ending
+  no_change : (buffer : List ℕ) (r : meta.Reading) (b : Beginning) (coding : Coding) (start : ℕ) → HeadRead d read how buffer r b coding start → refuses_change (convert d target) coding ≡ true
+      → holds ≡ held → ending ≡ Worked (Refused (record { fault = CannotChange; at = start })) → NotOpened d target read how held holds ending
+  no_head : (buffer : List ℕ) (r : meta.Reading) (b : Beginning) (coding : Coding) (start : ℕ) (uid : List ℕ) → HeadRead d read how buffer r b coding start → refuses_change (convert d target) coding ≡ false
+      → TargetUid target r uid → OfElements (meta.group_of r) (λ elements. AppendsFront held holds (head_text r uid elements)) → ending ≡ Output → NotOpened d target read how held holds ending
 
-abbrev pub Opens : Dictionary → Option Syntax → (had left held holds : Option (List ℕ)) → (buffer : List ℕ) → Result Opened Ending → Type 0
-Opens d target had left held holds buffer (Ok o) = OpenedAs d target had left held holds buffer o
-Opens d target had left held holds buffer (Err ending) = NotOpened d target had left held holds ending
+abbrev pub Opens : Dictionary → Option Syntax → (read : List ℕ) → How → (held holds : Option (List ℕ)) → (buffer : List ℕ) → Result Opened Ending → Type 0
+Opens d target read how held holds buffer (Ok o) = OpenedAs d target read how held holds buffer o
+Opens d target read how held holds buffer (Err ending) = NotOpened d target read how held holds ending

@@ -1,6 +1,6 @@
 -- What the work on a job leaves: how it ended, and what was written.
-use Rattle.std.specs.Prelude.{◌≡◌, ◌⊎◌, ℕ, ◌+◌, ◌-◌, List, ◌++◌, length, take, drop, option_to_list, Bool, true, false, Option, None, Some, Result, Ok, Err, OnOk, fold, ◌≤◌}
-use Rattle.std.specs.Io.KnownBytes.{append_known, prepend_known, IsAtEnd}
+use Rattle.std.specs.Prelude.{◌≡◌, ◌⊎◌, ℕ, ◌+◌, ◌-◌, List, [], ◌++◌, length, take, drop, option_to_list, Bool, true, false, Option, None, Some, Result, Ok, Err, OnOk, fold, ◌≤◌}
+use Rattle.std.specs.Io.KnownBytes.{append_known, IsAtEnd}
 use Rattle.dcm_base.specs.declared.fault.Stop.{Stop as HaltStop}
 use Rattle.dcm_base.specs.Atoms.{Atom}
 use Rattle.dcm_devices.specs.Device.{AppendsFront}
@@ -22,6 +22,7 @@ use Rattle.dcm_cli.specs.declared.ending.HeadEnding.{HeadEnding}
 use Rattle.dcm_cli.specs.declared.ending.HeadEnding.TheVariants as heads
 use Rattle.dcm_cli.specs.declared.ending.Verdict.TheVariants.{Done, Refused, RefusedLine}
 use Rattle.dcm_cli.specs.declared.head.Beginning.{Beginning}
+use Rattle.dcm_cli.specs.InputCalls.{Reader, How, to_end, Allows, ReadsInput}
 
 -- ---- the devices
 
@@ -59,18 +60,20 @@ abbrev pub set_bytes : Beginning → (buffer : List ℕ) → List ℕ
 set_bytes b buffer = option_to_list b.ahead ++ take (b.filled - b.used) (drop b.used buffer)
 
 -- the head was read, and these bytes of the data set
-pub record Begins (r : meta.Reading) (b : Beginning) (buffer : List ℕ) (left : Option (List ℕ)) (read : List ℕ) : Type 0 where
+pub record Begins (r : meta.Reading) (b : Beginning) (buffer : List ℕ) (how : How) (read : List ℕ) : Type 0 where
   pub ended : meta.HasEnded r.end
   pub reading : (r ≡ head_read read) ⊎ ((b.is_over ≡ true) × (r ≡ meta.meta_finished (head_read read)))
   pub place : r.place + length (set_bytes b buffer) ≡ length read
   pub set : drop r.place read ≡ set_bytes b buffer
   pub count : b.read ≡ length read
-  pub over : b.is_over ≡ true → IsAtEnd left
+  pub over : b.is_over ≡ true → how ≡ to_end
 
 -- why it was not
-abbrev pub FailsHead : meta.Reading → (left : Option (List ℕ)) → (read : List ℕ) → HeadEnding → Type 0
-FailsHead r left read (heads.Refused stop) = (r.end ≡ Some (meta_end.Refused stop)) × ((r ≡ head_read read) ⊎ (IsAtEnd left × (r ≡ meta.meta_finished (head_read read))))
-FailsHead r left read (heads.Unread count) = (r ≡ head_read read) × (r.end ≡ None) × (count ≡ length read)
+abbrev pub FailsHead : meta.Reading → How → (read : List ℕ) → HeadEnding → Type 0
+FailsHead r how read (heads.Refused stop) =
+    (r.end ≡ Some (meta_end.Refused stop))
+    × ((r ≡ head_read read) ⊎ ((how ≡ to_end) × (r ≡ meta.meta_finished (head_read read))))
+FailsHead r how read (heads.Unread count) = (r ≡ head_read read) × (r.end ≡ None) × (count ≡ length read)
 
 -- the input ended with it, where so many bytes were read, or is at fault
 abbrev pub FinishesHead : Option MetaEnd → (read : ℕ) → Result Beginning HeadEnding → Type 0
@@ -79,14 +82,21 @@ FinishesHead end read (Err (heads.Refused stop)) = end ≡ Some (meta_end.Refuse
 FinishesHead end read (Err (heads.Unread count)) = ⊥
 
 -- these bytes were read for it, or it was refused or could not be read behind them
-abbrev pub HeadReadOf : meta.Reading → (buffer : List ℕ) → (left : Option (List ℕ)) → (read : List ℕ) → Result Beginning HeadEnding → Type 0
-HeadReadOf r buffer left read (Ok b) = Begins r b buffer left read
-HeadReadOf r buffer left read (Err ending) = FailsHead r left read ending
+abbrev pub HeadReadOf : meta.Reading → (buffer : List ℕ) → How → (read : List ℕ) → Result Beginning HeadEnding → Type 0
+HeadReadOf r buffer how read (Ok b) = Begins r b buffer how read
+HeadReadOf r buffer how read (Err ending) = FailsHead r how read ending
 
-pub record HeadReads (had left : Option (List ℕ)) (r : meta.Reading) (buffer : List ℕ) (result : Result Beginning HeadEnding) : Type 0 where
+-- it has not ended with these bytes
+abbrev pub HeadGoesOn : List ℕ → Type 0
+HeadGoesOn bytes = (head_read bytes).end ≡ None
+
+-- a reader was read for it
+pub record HeadReads {R : Type 0} (r : Reader R) (old new : R) (m : meta.Reading) (buffer : List ℕ)
+    (result : Result Beginning HeadEnding) : Type 0 where
   pub read : List ℕ
-  pub given : had ≡ prepend_known read left
-  pub outcome : HeadReadOf r buffer left read result
+  pub how : How
+  pub reads : ReadsInput r HeadGoesOn old read how new
+  pub outcome : HeadReadOf m buffer how read result
 
 -- the edits that found no place are those of this mask
 abbrev pub with_unplaced : Ending → ℕ → Ending
@@ -146,14 +156,19 @@ pub data Ends {S : Type 0} (bars : S → Head → Option Bar) (step : S → Atom
       → AppendsFront held holds (outputs (steps bars step) (steps_write bars step writes) (old, s) read ++ outputs step writes (fold (steps bars step) (old, s) read).1 (end_shows (finish (fold (steps bars step) (old, s) read).0)))
       → Ends bars step writes old s held left t holds read ending
 
--- the rest of an input was read as a data set that was read up to here
-pub record Pumps {S : Type 0} (bars : S → Head → Option Bar) (step : S → Atom → S) (writes : S → Atom → List ℕ) (had : Option (List ℕ)) (old : Reading) (s : S) (held left : Option (List ℕ)) (t : S) (holds : Option (List ℕ)) (ending : Ending) : Type 0 where
-  pub read : List ℕ
-  pub given : had ≡ prepend_known read left
-  pub ends : Ends bars step writes old s held left t holds read ending
+-- a data set whose first bytes had been read goes on after these
+abbrev pub SetGoesOn : {S : Type 0} → (S → Head → Option Bar) → (S → Atom → S) → (is_over : Bool) → (beginning : List ℕ)
+    → Reading → S → List ℕ → Type 0
+SetGoesOn bars step is_over beginning first s bytes =
+    (is_over ≡ false) × ((fold (steps bars step) (first, s) (beginning ++ bytes)).0.halt ≡ None)
 
--- and a data set whose first bytes stand in the buffer
-pub record BehindBeginning {S : Type 0} (bars : S → Head → Option Bar) (step : S → Atom → S) (writes : S → Atom → List ℕ) (had : Option (List ℕ)) (beginning : List ℕ) (first : Reading) (s : S) (held left : Option (List ℕ)) (t : S) (holds : Option (List ℕ)) (ending : Ending) : Type 0 where
+-- a reader was read as the rest of such a data set; and how its reading ended, whatever the input may hold after the
+-- bytes that were given
+pub record ReadsSet {S R : Type 0} (bars : S → Head → Option Bar) (step : S → Atom → S) (writes : S → Atom → List ℕ)
+    (r : Reader R) (had left : R) (is_over : Bool) (beginning : List ℕ) (first : Reading) (s : S) (held : Option (List ℕ))
+    (t : S) (holds : Option (List ℕ)) (ending : Ending) : Type 0 where
   pub more : List ℕ
-  pub given : had ≡ prepend_known more left
-  pub ends : Ends bars step writes first s held left t holds (beginning ++ more) ending
+  pub how : How
+  pub reads : ReadsInput r (SetGoesOn bars step is_over beginning first s) had more how left
+  pub ends : (rest : List ℕ) → Allows how rest → (is_over ≡ true → rest ≡ [])
+      → Ends bars step writes first s held (Some rest) t holds (beginning ++ more) ending

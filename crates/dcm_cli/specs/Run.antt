@@ -113,10 +113,8 @@ ending_status Output = 4
 
 -- ---- a run
 
--- what it left of its input, what its writers hold before and after, the room that is left in the output, and which devices
--- failed in it
+-- what its writers hold before and after, the room that is left in the output, and which devices failed in it
 pub record Devices : Type 0 where
-  pub left : Option (List ℕ)
   pub held : Option (List ℕ)
   pub holds : Option (List ℕ)
   pub room : Option ℕ
@@ -127,17 +125,21 @@ pub record Devices : Type 0 where
   pub untold_before : Bool
   pub untold : Bool
 
--- of an input that was to be read from here on, where no device had failed
-pub data Ran (job : Job) (input : List ℕ) (d : Devices) (status : ℕ) : Type 0 where
+-- where no device had failed, of an input that gave bytes and may have held others after them
+pub data Ran (job : Job) (given rest : List ℕ) (d : Devices) (status : ℕ) : Type 0 where
   -- no device failed: just the output, the lines and the status of the answer
-  as_answered : (a : Answer) → Answers job input a → d.unread ≡ false → d.unwritten ≡ false
-      → d.holds ≡ append_known d.held a.output → Tries d.told d.tells d.untold_before d.untold a.told → status ≡ a.status → Ran job input d status
-  -- reading failed after p, and the rest was left: exactly what is sure of p was written
-  not_read : (p rest out : List ℕ) → input ≡ p ++ rest → d.left ≡ Some rest → d.unread ≡ true → Sure job p out
-      → d.holds ≡ append_known d.held out → Tries d.told d.tells d.untold_before d.untold (unread_line (length p)) → status ≡ 4 → Ran job input d status
+  as_answered : (a : Answer) → Answers job (given ++ rest) a → d.unread ≡ false → d.unwritten ≡ false
+      → d.holds ≡ append_known d.held a.output → Tries d.told d.tells d.untold_before d.untold a.told
+      → status ≡ a.status → Ran job given rest d status
+  -- reading failed after the bytes that were given: exactly what is sure of them was written
+  not_read : (out : List ℕ) → d.unread ≡ true → Sure job given out
+      → d.holds ≡ append_known d.held out → Tries d.told d.tells d.untold_before d.untold (unread_line (length given))
+      → status ≡ 4 → Ran job given rest d status
   -- the output failed: a beginning of it was written, and not all of it
-  not_written : (a : Answer) → Answers job input a → d.unread ≡ false → d.unwritten ≡ true
-      → AppendsFront d.held d.holds a.output → Tries d.told d.tells d.untold_before d.untold output_line → status ≡ 4 → Ran job input d status
+  not_written : (a : Answer) → Answers job (given ++ rest) a → d.unread ≡ false → d.unwritten ≡ true
+      → AppendsFront d.held d.holds a.output → Tries d.told d.tells d.untold_before d.untold output_line
+      → status ≡ 4 → Ran job given rest d status
   -- all of it was written, and then it was not flushed
-  not_flushed : (a : Answer) → Answers job input a → d.unread ≡ false → d.unwritten ≡ true → d.room ≡ None
-      → d.holds ≡ append_known d.held a.output → Tries d.told d.tells d.untold_before d.untold output_line → status ≡ 4 → Ran job input d status
+  not_flushed : (a : Answer) → Answers job (given ++ rest) a → d.unread ≡ false → d.unwritten ≡ true → d.room ≡ None
+      → d.holds ≡ append_known d.held a.output → Tries d.told d.tells d.untold_before d.untold output_line
+      → status ≡ 4 → Ran job given rest d status

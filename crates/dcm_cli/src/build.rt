@@ -46,7 +46,6 @@ fn build_lines<R: DeviceIn, W: DeviceOut>(
     requires room { 0 < length buffer.old }
     requires bound { length buffer.old ≤ 65536 }
     ensures worked { calls.Works R.DeviceIn W.DeviceOut (build_job limit) input.old input.new out.old out.new result }
-    ensures stops { calls.Stops R.DeviceIn (build_job limit) input.old input.new }
     ensures unread { spec.TellsUnread (R.has_failed input.old) (R.has_failed input.new) result }
     ensures failed { spec.TellsOutput (W.has_failed out.old) (W.has_failed out.new) result }
 {
@@ -70,7 +69,6 @@ pub fn build<R: DeviceIn, W: DeviceOut>(
     out: &mut Watched<W>,
 ) -> Ending
     ensures worked { calls.Works R.DeviceIn W.DeviceOut (build_job build.limit) input.old input.new out.old out.new result }
-    ensures stops { calls.Stops R.DeviceIn (build_job build.limit) input.old input.new }
     ensures unread { spec.TellsUnread (R.has_failed input.old) (R.has_failed input.new) result }
     ensures failed { spec.TellsOutput (W.has_failed out.old) (W.has_failed out.new) result }
 {

@@ -25,7 +25,6 @@ fn convert_file<R: DeviceIn, W: DeviceOut>(
     requires room { 0 < length buffer.old }
     requires bound { length buffer.old ≤ 262144 }
     ensures worked { calls.Works R.DeviceIn W.DeviceOut (convert_job dictionary target) input.old input.new out.old out.new result }
-    ensures stops { calls.Stops R.DeviceIn (convert_job dictionary target) input.old input.new }
     ensures unread { spec.TellsUnread (R.has_failed input.old) (R.has_failed input.new) result }
     ensures failed { spec.TellsOutput (W.has_failed out.old) (W.has_failed out.new) result }
 {
@@ -50,7 +49,6 @@ pub fn convert<R: DeviceIn, W: DeviceOut>(
     out: &mut Watched<W>,
 ) -> Ending
     ensures worked { calls.Works R.DeviceIn W.DeviceOut (convert_job convert.dictionary convert.target) input.old input.new out.old out.new result }
-    ensures stops { calls.Stops R.DeviceIn (convert_job convert.dictionary convert.target) input.old input.new }
     ensures unread { spec.TellsUnread (R.has_failed input.old) (R.has_failed input.new) result }
     ensures failed { spec.TellsOutput (W.has_failed out.old) (W.has_failed out.new) result }
 {

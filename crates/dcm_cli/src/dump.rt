@@ -30,7 +30,6 @@ fn dump_file<R: DeviceIn, W: DeviceOut>(
     requires room { 0 < length buffer.old }
     requires bound { length buffer.old ≤ 65536 }
     ensures worked { calls.Works R.DeviceIn W.DeviceOut (dump_job dictionary mode None) input.old input.new out.old out.new result }
-    ensures stops { calls.Stops R.DeviceIn (dump_job dictionary mode None) input.old input.new }
     ensures unread { spec.TellsUnread (R.has_failed input.old) (R.has_failed input.new) result }
     ensures failed { spec.TellsOutput (W.has_failed out.old) (W.has_failed out.new) result }
 {
@@ -66,7 +65,6 @@ fn dump_set<R: DeviceIn, W: DeviceOut>(
     requires room { 0 < length buffer.old }
     requires bound { length buffer.old ≤ 65536 }
     ensures worked { calls.Works R.DeviceIn W.DeviceOut (dump_job dictionary mode (Some syntax)) input.old input.new out.old out.new result }
-    ensures stops { calls.Stops R.DeviceIn (dump_job dictionary mode (Some syntax)) input.old input.new }
     ensures unread { spec.TellsUnread (R.has_failed input.old) (R.has_failed input.new) result }
     ensures failed { spec.TellsOutput (W.has_failed out.old) (W.has_failed out.new) result }
 {
@@ -88,7 +86,6 @@ pub fn dump<R: DeviceIn, W: DeviceOut>(
     out: &mut Watched<W>,
 ) -> Ending
     ensures worked { calls.Works R.DeviceIn W.DeviceOut (dump_job dump.dictionary dump.mode dump.bare) input.old input.new out.old out.new result }
-    ensures stops { calls.Stops R.DeviceIn (dump_job dump.dictionary dump.mode dump.bare) input.old input.new }
     ensures unread { spec.TellsUnread (R.has_failed input.old) (R.has_failed input.new) result }
     ensures failed { spec.TellsOutput (W.has_failed out.old) (W.has_failed out.new) result }
 {

@@ -3,7 +3,6 @@ ghost use Rattle.std.specs.Prelude.{◌≡◌, ◌≤◌, ◌<◌, ◌^◌, leng
 ghost use Rattle.dcm_head.specs.MetaReading.{HasEnded, at_start, meta_finished};
 ghost use Rattle.dcm_cli.specs.Calls as calls;
 ghost use Rattle.dcm_cli.specs.Pass as spec;
-ghost use Rattle.dcm_cli.specs.Stops.{HeadStops};
 
 use crate::ending::HeadEnding;
 use dcm_base::{DeviceIn, Watched};
@@ -64,8 +63,7 @@ pub fn read_head_of<R: DeviceIn>(
     requires room { 0 < length buffer.old }
     requires bound { length buffer.old ≤ 262144 }
     ensures within { IfOk result (λ b. (b.used ≤ b.filled) × (b.filled ≤ length buffer.new)) }
-    ensures read { spec.HeadReads (R.remaining input.old) (R.remaining input.new) meta.new buffer.new result }
-    ensures stops { HeadStops R.remaining R.gets input.old input.new }
+    ensures read { spec.HeadReads R.DeviceIn input.old input.new meta.new buffer.new result }
     ensures failed { calls.TellsHead R.DeviceIn input.old input.new result }
     ensures kept { length buffer.new ≡ length buffer.old }
 {

@@ -1,6 +1,5 @@
 // The edits of a file.
-ghost use Rattle.std.specs.Prelude.{◌≡◌, ◌≤◌, ◌<◌, ◌+◌, ◌^◌, length, true};
-ghost use Rattle.std.specs.Io.KnownBytes.{IsAtEnd};
+ghost use Rattle.std.specs.Prelude.{◌≡◌, ◌≤◌, ◌<◌, ◌+◌, ◌^◌, length};
 ghost use Rattle.dcm_edit_words.specs.Meaning.{AreMeant};
 ghost use Rattle.dcm_stream.specs.Sinks as sinks;
 ghost use Rattle.dcm_words.specs.Words.{modify as modify_job};
@@ -44,8 +43,6 @@ fn read_edited<R: DeviceIn, S: Sink>(
     requires bound { length buffer.old ≤ 262144 }
     requires within { (opened.beginning.used ≤ opened.beginning.filled) × (opened.beginning.filled ≤ length buffer.old) }
     requires count { opened.start + length (spec.set_bytes opened.beginning buffer.old) ≡ opened.beginning.read }
-    requires over { opened.beginning.is_over ≡ true → IsAtEnd (R.remaining input.old) }
-    ensures stops { edit_pass.Stops S.Sink R.DeviceIn edits.now sink.old input.old input.new opened buffer.old }
     ensures passes { edit_pass.Edits S.Sink R.DeviceIn edits.now sink.old sink.new input.old input.new opened buffer.old result }
     ensures unread { spec.TellsUnread (R.has_failed input.old) (R.has_failed input.new) result }
     ensures failed { sink_pass.TellsOutput S.Sink sink.old sink.new result }
@@ -75,7 +72,6 @@ fn modify_file<R: DeviceIn, W: DeviceOut>(
     requires room { 0 < length buffer.old }
     requires bound { length buffer.old ≤ 262144 }
     ensures worked { calls.Works R.DeviceIn W.DeviceOut (modify_job dictionary edits.now) input.old input.new out.old out.new result }
-    ensures stops { calls.Stops R.DeviceIn (modify_job dictionary edits.now) input.old input.new }
     ensures unread { spec.TellsUnread (R.has_failed input.old) (R.has_failed input.new) result }
     ensures failed { spec.TellsOutput (W.has_failed out.old) (W.has_failed out.new) result }
 {
@@ -94,7 +90,6 @@ pub fn modify<R: DeviceIn, W: DeviceOut>(
     out: &mut Watched<W>,
 ) -> Ending
     ensures worked { calls.Works R.DeviceIn W.DeviceOut (modify_job modify.now.dictionary modify.now.edits) input.old input.new out.old out.new result }
-    ensures stops { calls.Stops R.DeviceIn (modify_job modify.now.dictionary modify.now.edits) input.old input.new }
     ensures unread { spec.TellsUnread (R.has_failed input.old) (R.has_failed input.new) result }
     ensures failed { spec.TellsOutput (W.has_failed out.old) (W.has_failed out.new) result }
     ensures meant { AreMeant modify.now.edits }

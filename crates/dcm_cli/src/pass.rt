@@ -1,8 +1,6 @@
 // A data set, out of a device into a sink.
-ghost use Rattle.std.specs.Prelude.{◌≡◌, ◌≤◌, ◌<◌, ◌+◌, ◌^◌, [], length, true, false};
-ghost use Rattle.std.specs.Io.KnownBytes.{IsAtEnd};
+ghost use Rattle.std.specs.Prelude.{◌≡◌, ◌≤◌, ◌<◌, ◌+◌, ◌^◌, length, true, false};
 ghost use Rattle.dcm_stream.specs.Machine as machine_spec;
-ghost use Rattle.dcm_stream.specs.Reading.{start_of};
 ghost use Rattle.dcm_stream.specs.Sinks as sinks;
 ghost use Rattle.dcm_cli.specs.Pass as spec;
 ghost use Rattle.dcm_cli.specs.SinkPass as sink_pass;
@@ -67,8 +65,7 @@ pub fn read_rest<R: DeviceIn, S: Sink>(
     requires going { machine_spec.is_halted machine.old ≡ false }
     requires before { read_before ≡ machine_spec.next_offset machine.old.reading }
     requires limit { read_before ≤ 2 ^ 62 }
-    ensures pumps { sink_pass.Pumps S.Sink R.DeviceIn sink.old sink.new input.old input.new machine.old.reading result }
-    ensures stops { sink_pass.Stops S.Sink R.DeviceIn sink.old machine.old.reading [] input.old input.new }
+    ensures reads { sink_pass.ReadsRest S.Sink R.DeviceIn sink.old sink.new input.old input.new machine.old.reading result }
     ensures unread { spec.TellsUnread (R.has_failed input.old) (R.has_failed input.new) result }
     ensures failed { sink_pass.TellsOutput S.Sink sink.old sink.new result }
     ensures kept { sinks.Keeps S.Sink sink.old sink.new }
@@ -100,9 +97,7 @@ pub fn read_set<R: DeviceIn, S: Sink>(
     requires bound { length buffer.old ≤ 262144 }
     requires within { (beginning.used ≤ beginning.filled) × (beginning.filled ≤ length buffer.old) }
     requires count { start + length (spec.set_bytes beginning buffer.old) ≡ beginning.read }
-    requires over { beginning.is_over ≡ true → IsAtEnd (R.remaining input.old) }
     ensures ends { sink_pass.ReadsSet S.Sink R.DeviceIn sink.old sink.new input.old input.new beginning buffer.old coding.syntax start result }
-    ensures stops { sink_pass.BehindStops S.Sink R.DeviceIn sink.old input.old input.new beginning buffer.old (start_of coding.syntax start) }
     ensures over { beginning.is_over ≡ true → spec.WasRead result }
     ensures unread { spec.TellsUnread (R.has_failed input.old) (R.has_failed input.new) result }
     ensures failed { sink_pass.TellsOutput S.Sink sink.old sink.new result }

@@ -1,6 +1,5 @@
 // A file that is written again: what comes before its data set.
-ghost use Rattle.std.specs.Prelude.{◌≡◌, ◌≤◌, ◌<◌, ◌+◌, ◌^◌, length, Option, IfOk, true};
-ghost use Rattle.std.specs.Io.KnownBytes.{IsAtEnd};
+ghost use Rattle.std.specs.Prelude.{◌≡◌, ◌≤◌, ◌<◌, ◌+◌, ◌^◌, length, Option, IfOk};
 ghost use Rattle.dcm_base.specs.declared.syntax.Syntax.{Syntax};
 ghost use Rattle.dcm_devices.specs.Device.{Tells};
 ghost use Rattle.dcm_base.specs.MetaReads.{Meta as FileMeta};
@@ -9,7 +8,6 @@ ghost use Rattle.dcm_head.specs.MetaReading.{HasEnded, uid_of};
 ghost use Rattle.dcm_cli.specs.Answer as answer;
 ghost use Rattle.dcm_cli.specs.Calls as calls;
 ghost use Rattle.dcm_cli.specs.Pass as spec;
-ghost use Rattle.dcm_cli.specs.Stops.{HeadStops};
 
 use crate::ending::{Ending, Verdict, ending_of_head};
 use crate::head::{Beginning, read_head_of, set_start};
@@ -82,11 +80,9 @@ pub fn open_file<R: DeviceIn, W: DeviceOut>(
     requires room { 0 < length buffer.old }
     requires bound { length buffer.old ≤ 262144 }
     ensures opens { calls.Opens R.DeviceIn W.DeviceOut dictionary target input.old input.new out.old out.new buffer.new result }
-    ensures stops { HeadStops R.remaining R.gets input.old input.new }
     ensures start { IfOk result (λ o. o.start ≤ 2 ^ 62) }
     ensures within { IfOk result (λ o. (o.beginning.used ≤ o.beginning.filled) × (o.beginning.filled ≤ length buffer.new)) }
     ensures count { IfOk result (λ o. o.start + length (spec.set_bytes o.beginning buffer.new) ≡ o.beginning.read) }
-    ensures over { IfOk result (λ o. o.beginning.is_over ≡ true → IsAtEnd (R.remaining input.new)) }
     ensures kept { length buffer.new ≡ length buffer.old }
     ensures unread { calls.OpensUnread R.DeviceIn input.old input.new result }
     ensures failed { calls.OpensUnwritten W.DeviceOut out.old out.new result }

@@ -103,7 +103,6 @@ fn work<R: DeviceIn, W: DeviceOut>(
     out: &mut Watched<W>,
 ) -> Ending
     ensures worked { calls.Works R.DeviceIn W.DeviceOut (job_of job.now) input.old input.new out.old out.new result }
-    ensures stops { calls.Stops R.DeviceIn (job_of job.now) input.old input.new }
     ensures unread { TellsUnread (R.has_failed input.old) (R.has_failed input.new) result }
     ensures failed { TellsOutput (W.has_failed out.old) (W.has_failed out.new) result }
     ensures meant { spec.IsMeant (job_of job.now) }
@@ -125,7 +124,6 @@ pub fn run<R: DeviceIn, W: DeviceOut, E: DeviceOut>(
     errors: &mut Watched<E>,
 ) -> Outcome
     ensures ran { RunsJob R.DeviceIn W.DeviceOut E.DeviceOut job.now input.old input.new out.old out.new errors.old errors.new result.status }
-    ensures stops { calls.Stops R.DeviceIn (job_of job.now) input.old input.new }
     ensures flushed { W.has_failed out.old ≡ false → W.has_failed out.new ≡ false → W.is_flushed out.new ≡ true }
     ensures within { result.status ≤ 4 }
     ensures failed { calls.TellsFailed R.DeviceIn W.DeviceOut input.old input.new out.old out.new result.status }

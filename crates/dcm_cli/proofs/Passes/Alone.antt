@@ -1,7 +1,7 @@
 -- The dump of a data set alone, in the words of the definitions.
 use Rattle.std.proofs.Common.{◌≡◌, ◌∙◌, ap, sym, subst, ℕ, List, ◌++◌, Option, None, Some, refl, arith, Err}
 use Rattle.std.specs.Prelude.{Result, Ok, is_err, true, false}
-use Rattle.std.specs.Io.KnownBytes.{append_known, prepend_known}
+use Rattle.std.specs.Io.KnownBytes.{append_known}
 use Rattle.dcm_base.specs.declared.mode.Mode.{Mode}
 use Rattle.dcm_base.specs.declared.syntax.Syntax.{Syntax}
 use Rattle.dcm_devices.specs.Device.{AppendsFront, Puts}
@@ -19,16 +19,11 @@ use Rattle.dcm_stream.specs.Reading.{start_of}
 use Rattle.dcm_tools.specs.DumpSink.{DumpState, dump_start, dump_step, dump_writes, bars_nothing}
 use Rattle.dcm_cli.specs.declared.ending.Ending.{Ending}
 use Rattle.dcm_cli.specs.declared.ending.Ending.TheVariants.{Unread, Output}
-use Rattle.dcm_cli.specs.Pass.{Pumps}
+use Rattle.dcm_cli.specs.Pass.{Ends}
 use Rattle.dcm_cli.specs.Answer.{alone, uid_of_syntax, going_on}
 use Rattle.dcm_cli.specs.Run.{Answered, Worked, answered, could_not_read, could_not_write, verdict_of_stop}
 use Rattle.dcm_cli.proofs.Passes.Makers.{dumper}
 use Rattle.dcm_cli.proofs.Passes.Sets.{SetMade, set_read, set_unread, set_unwritten, Last, set_made, all_read, no_edits}
-
--- what is left of an input, where some of it was read
-pub splits : (had left : Option (List ℕ)) (read file : List ℕ) → had ≡ Some file → had ≡ prepend_known read left → (rest : List ℕ) × (left ≡ Some rest) × (file ≡ read ++ rest)
-splits had None read file some given = absurd (let no : Some file ≡ None = sym some ∙ given in cc)
-splits had (Some rest) read file some given = (rest, refl, cc)
 
 module _ (d : Dictionary) (mode : Mode) (bare : Syntax) (file : List ℕ) (left held : Option (List ℕ)) where
   abbrev s : Syntax
@@ -45,21 +40,20 @@ module _ (d : Dictionary) (mode : Mode) (bare : Syntax) (file : List ℕ) (left 
       let a = all_read (dumper d mode) s 0 (omega arith) file in
       could_not_write (header ++ dump_front d mode 0 a.0) (verdict_of_stop a.1) (read_as a.0 a.1 a.2) refl (front_longer (dump_front d mode 0 a.0) beginning)
 
-  pub alone_worked : (had mid : Option (List ℕ)) (t : DumpState) (holds : Option (List ℕ)) (ending : Ending) → had ≡ Some file → mid ≡ append_known held header
-      → Pumps bars_nothing dump_step dump_writes had (start_of s 0) (dump_start d mode) mid left t holds ending → Worked (dump d mode (Some bare)) file left held holds ending
-  alone_worked had mid t holds ending some went pumps =
-      let parts = splits had left pumps.read file some pumps.given in
-      of_set pumps.read parts.0 parts.1 parts.2 (set_made (dumper d mode) s 0 (omega arith) mid t left holds pumps.read parts.0 ending parts.1 pumps.ends)
+  pub alone_worked : (read rest : List ℕ) (mid : Option (List ℕ)) (t : DumpState) (holds : Option (List ℕ)) (ending : Ending) → file ≡ read ++ rest → left ≡ Some rest → mid ≡ append_known held header
+      → Ends bars_nothing dump_step dump_writes (start_of s 0) (dump_start d mode) mid left t holds read ending → Worked (dump d mode (Some bare)) file left held holds ending
+  alone_worked read rest mid t holds ending parts at went ends =
+      of_set (set_made (dumper d mode) s 0 (omega arith) mid t left holds read rest ending at ends)
     where
       behind : (text : List ℕ) → holds ≡ append_known mid text → holds ≡ append_known held (header ++ text)
       behind text e = e ∙ ap (λ (known : Option (List ℕ)). append_known known text) went ∙ append_known_twice held header text
 
-      of_set : (read rest : List ℕ) → left ≡ Some rest → file ≡ read ++ rest → SetMade no_bar (dump_front d mode 0) (Last (dumper d mode) s 0 (omega arith)) s 0 read rest mid t holds ending → Worked (dump d mode (Some bare)) file left held holds ending
-      of_set read rest at parts (set_read f stop reads last is e) =
+      of_set : SetMade no_bar (dump_front d mode 0) (Last (dumper d mode) s 0 (omega arith)) s 0 read rest mid t holds ending → Worked (dump d mode (Some bare)) file left held holds ending
+      of_set (set_read f stop reads last is e) =
           answered (header ++ dump_front d mode 0 f) (verdict_of_stop stop) (read_as f stop (subst (λ (bs : List ℕ). Reads no_bar s 0 bs f stop) (sym parts) reads)) is (behind (dump_front d mode 0 f) e)
-      of_set read rest at parts (set_unread f stop reads undecided is e) =
+      of_set (set_unread f stop reads undecided is e) =
           could_not_read read rest (header ++ dump_front d mode 0 (going_on f)) parts at (record { set = f; stop = stop; reads = reads; open_end = undecided; out_is = refl }) (is ∙ ap Unread (omega arith)) (behind (dump_front d mode 0 (going_on f)) e)
-      of_set read rest at parts (set_unwritten f stop reads is e) =
+      of_set (set_unwritten f stop reads is e) =
           could_not_write (header ++ dump_front d mode 0 f) (verdict_of_stop stop) (read_as f stop (subst (λ (bs : List ℕ). Reads no_bar s 0 bs f stop) (sym parts) reads)) is
           (puts_behind {T = Unit {0}} {E = Unit {0}} held mid holds header (dump_front d mode 0 f) (Err tt) went e)
 

@@ -1,7 +1,7 @@
 -- A file that a job reads, in the words of the definitions.
 use Rattle.std.proofs.Common.{◌≡◌, ◌∙◌, ap, sym, subst, ℕ, ◌+◌, ◌≤◌, List, [], ◌++◌, append_assoc, length, length-append, drop, Bool, true, false, Option, None, Some, refl, arith, Err, inl, inr}
 use Rattle.std.specs.Prelude.{◌⊎◌}
-use Rattle.std.specs.Io.KnownBytes.{append_known, prepend_known, IsAtEnd}
+use Rattle.std.specs.Io.KnownBytes.{append_known}
 use Rattle.std.proofs.lemmas.List.{append-nil, drop-append-le}
 use Rattle.dcm_base.specs.declared.fault.Stop.{Stop as HaltStop}
 use Rattle.dcm_base.specs.declared.fault.Fault.TheVariants.{CannotChange}
@@ -31,12 +31,13 @@ use Rattle.dcm_cli.specs.declared.ending.HeadEnding.{HeadEnding}
 use Rattle.dcm_cli.specs.declared.ending.HeadEnding.TheVariants as heads
 use Rattle.dcm_cli.specs.declared.ending.Verdict.TheVariants.{Done, Refused}
 use Rattle.dcm_cli.specs.declared.head.Beginning.{Beginning}
-use Rattle.dcm_cli.specs.Pass.{Begins, FailsHead, BehindBeginning, WasRead, head_read, set_bytes, ending_of_head, with_unplaced}
+use Rattle.dcm_cli.specs.InputCalls.{How, to_end, Allows}
+use Rattle.dcm_cli.specs.Pass.{Begins, FailsHead, Ends, WasRead, head_read, set_bytes, ending_of_head, with_unplaced}
 use Rattle.dcm_cli.specs.Answer.{job_dictionary, edits_of, Source, file as of_file, unopened, going_on, job_bar, refuses_change, target_syntax, target_uid, file_output, output_of, Sure, FileReads, FileSure, not_opened as was_not_opened, not_changed, opened as was_opened, before_set, within_set}
 use Rattle.dcm_cli.specs.Run.{Answered, Worked, answered, could_not_read, could_not_write, verdict_of_source, verdict_of_stop, verdict_at, unplaced_mask}
-use Rattle.dcm_cli.proofs.Passes.Alone.{splits}
+use Rattle.dcm_cli.proofs.Passes.Readers.{nothing_follows}
 use Rattle.dcm_cli.proofs.Passes.Makers.{Maker, dumper, encoder}
-use Rattle.dcm_cli.proofs.Passes.Sets.{SetMade, set_read, set_unread, set_unwritten, Last, set_made, all_read, none_left, no_edits}
+use Rattle.dcm_cli.proofs.Passes.Sets.{SetMade, set_read, set_unread, set_unwritten, Last, set_made, all_read, no_edits}
 use Rattle.dcm_cli.proofs.Passes.MetaHeads.{Opened, opened, one_head, not_opened, ended_stays, finished_same, has_end, goes_on_still, ends_before}
 
 -- ---- jobs that read files
@@ -93,39 +94,35 @@ file_encoder d target coding = record {
 finished_over : (r : Reading) (read rest : List ℕ) (end : MetaEnd) → r.end ≡ Some end → r ≡ head_read read → meta_finished (head_read (read ++ rest)) ≡ r
 finished_over r read rest end h e = ap meta_finished (ended_stays r read rest end e h) ∙ finished_same r end h
 
-finished_at : (r : Reading) (left : Option (List ℕ)) (read rest : List ℕ) → left ≡ Some rest → IsAtEnd left → r ≡ meta_finished (head_read read) → meta_finished (head_read (read ++ rest)) ≡ r
-finished_at r left read rest some over e =
-    ap (λ (bs : List ℕ). meta_finished (head_read (read ++ bs))) (none_left left rest over some) ∙ ap (λ (bs : List ℕ). meta_finished (head_read bs)) (append-nil read) ∙ sym e
+finished_at : (r : Reading) (how : How) (read rest : List ℕ) → Allows how rest → how ≡ to_end → r ≡ meta_finished (head_read read) → meta_finished (head_read (read ++ rest)) ≡ r
+finished_at r how read rest ok over e =
+    ap (λ (bs : List ℕ). meta_finished (head_read (read ++ bs))) (nothing_follows how rest ok over) ∙ ap (λ (bs : List ℕ). meta_finished (head_read bs)) (append-nil read) ∙ sym e
 
-pub file_unopened : (job : Job) → reads_file job ≡ true → (file : List ℕ) (held had left : Option (List ℕ)) (r : Reading) (read : List ℕ) (ending : HeadEnding) → had ≡ Some file → had ≡ prepend_known read left
-    → FailsHead r left read ending → Worked job file left held held (ending_of_head ending)
-file_unopened job is_file file held had left r read ending some given fails =
-    let parts = splits had left read file some given in
-    by_ending ending parts.0 parts.1 parts.2 fails
+pub file_unopened : (job : Job) → reads_file job ≡ true → (held : Option (List ℕ)) (r : Reading) (read rest : List ℕ) (how : How) (ending : HeadEnding) → Allows how rest
+    → FailsHead r how read ending → Worked job (read ++ rest) (Some rest) held held (ending_of_head ending)
+file_unopened job is_file held r read rest how ending ok fails = by_ending ending fails
   where
-    by_finish : (stop : HaltStop) (rest : List ℕ) → left ≡ Some rest → r.end ≡ Some (meta_end.Refused stop) → (r ≡ head_read read) ⊎ (IsAtEnd left × (r ≡ meta_finished (head_read read))) → meta_finished (head_read (read ++ rest)) ≡ r
-    by_finish stop rest at h (inl e) = finished_over r read rest (meta_end.Refused stop) h e
-    by_finish stop rest at h (inr x) = finished_at r left read rest at x.0 x.1
+    by_finish : (stop : HaltStop) → r.end ≡ Some (meta_end.Refused stop) → (r ≡ head_read read) ⊎ ((how ≡ to_end) × (r ≡ meta_finished (head_read read))) → meta_finished (head_read (read ++ rest)) ≡ r
+    by_finish stop h (inl e) = finished_over r read rest (meta_end.Refused stop) h e
+    by_finish stop h (inr x) = finished_at r how read rest ok x.0 x.1
 
-    by_ending : (ending : HeadEnding) (rest : List ℕ) → left ≡ Some rest → file ≡ read ++ rest → FailsHead r left read ending → Worked job file left held held (ending_of_head ending)
-    by_ending (heads.Refused stop) rest at whole f =
-        let said = not_opened r (read ++ rest) stop (by_finish stop rest at f.0 f.1) f.0 in
-        let reads = was_not_opened stop.fault stop.at (subst (λ (bs : List ℕ). MetaReads bs (refused stop.fault stop.at)) (sym whole) said) refl in
-        answered [] (Refused stop) (file_answered job is_file file (unopened stop.fault stop.at) reads) refl (sym (append_known_none held))
-    by_ending (heads.Unread count) rest at whole f =
+    by_ending : (ending : HeadEnding) → FailsHead r how read ending → Worked job (read ++ rest) (Some rest) held held (ending_of_head ending)
+    by_ending (heads.Refused stop) f =
+        let said = not_opened r (read ++ rest) stop (by_finish stop f.0 f.1) f.0 in
+        let reads = was_not_opened stop.fault stop.at said refl in
+        answered [] (Refused stop) (file_answered job is_file (read ++ rest) (unopened stop.fault stop.at) reads) refl (sym (append_known_none held))
+    by_ending (heads.Unread count) f =
         let still = goes_on_still read (ap (λ (x : Reading). x.end) (sym f.0) ∙ f.1) in
-        could_not_read read rest [] whole at (file_sure job is_file read [] (before_set still.0 still.1 still.2 refl)) (ap Unread f.2) (sym (append_known_none held))
+        could_not_read read rest [] refl refl (file_sure job is_file read [] (before_set still.0 still.1 still.2 refl)) (ap Unread f.2) (sym (append_known_none held))
 
 -- ---- a head that was read
-by_reading : (r : Reading) (b : Beginning) (buffer : List ℕ) (left : Option (List ℕ)) (read rest : List ℕ) → left ≡ Some rest → Begins r b buffer left read
+by_reading : (r : Reading) (b : Beginning) (buffer : List ℕ) (how : How) (read rest : List ℕ) → Allows how rest → Begins r b buffer how read
     → (r ≡ head_read read) ⊎ ((b.is_over ≡ true) × (r ≡ meta_finished (head_read read))) → meta_finished (head_read (read ++ rest)) ≡ r
-by_reading r b buffer left read rest at beginning (inl e) = let end = has_end r beginning.ended in finished_over r read rest end.0 end.1 e
-by_reading r b buffer left read rest at beginning (inr x) = finished_at r left read rest at (beginning.over x.0) x.1
+by_reading r b buffer how read rest ok beginning (inl e) = let end = has_end r beginning.ended in finished_over r read rest end.0 end.1 e
+by_reading r b buffer how read rest ok beginning (inr x) = finished_at r how read rest ok (beginning.over x.0) x.1
 
-pub file_opened : (d : Dictionary) (r : Reading) (b : Beginning) (buffer : List ℕ) (had left : Option (List ℕ)) (read file : List ℕ) → had ≡ Some file → had ≡ prepend_known read left → Begins r b buffer left read → Opened d r file
-file_opened d r b buffer had left read file some given beginning =
-    let parts = splits had left read file some given in
-    subst (Opened d r) (sym parts.2) (opened d r (read ++ parts.0) (by_reading r b buffer left read parts.0 parts.1 beginning beginning.reading) beginning.ended)
+pub file_opened : (d : Dictionary) (r : Reading) (b : Beginning) (buffer : List ℕ) (how : How) (read rest : List ℕ) → Allows how rest → Begins r b buffer how read → Opened d r (read ++ rest)
+file_opened d r b buffer how read rest ok beginning = opened d r (read ++ rest) (by_reading r b buffer how read rest ok beginning beginning.reading) beginning.ended
 
 module _ (job : Job) (is_file : reads_file job ≡ true) (file : List ℕ) (after held : Option (List ℕ)) (r : Reading) (o : Opened (job_dictionary job) r file) where
   abbrev start : ℕ
@@ -183,15 +180,14 @@ module _ (job : Job) (is_file : reads_file job ≡ true) (file : List ℕ) (afte
       not_written = λ is. is;
     }
 
-    pub file_worked : (had left mid : Option (List ℕ)) (t : k.maker.State) (holds : Option (List ℕ)) (b : Beginning) (buffer read : List ℕ) (passed ending : Ending) → Concludes t passed ending → had ≡ Some file → had ≡ prepend_known read left → Begins r b buffer left read
+    pub file_worked : (rest later : List ℕ) (how : How) (mid : Option (List ℕ)) (t : k.maker.State) (holds : Option (List ℕ)) (b : Beginning) (buffer read more : List ℕ) (passed ending : Ending) → Concludes t passed ending
+        → file ≡ read ++ rest → rest ≡ more ++ later → after ≡ Some later → Begins r b buffer how read
         → mid ≡ append_known held (k.header o.m)
         → (b.is_over ≡ true → WasRead passed)
-        → BehindBeginning k.maker.bars k.maker.step k.maker.writes left (set_bytes b buffer) (start_of o.coding.syntax start) k.maker.first mid after t holds passed
+        → Ends k.maker.bars k.maker.step k.maker.writes (start_of o.coding.syntax start) k.maker.first mid after t holds (set_bytes b buffer ++ more) passed
         → Worked job file after held holds ending
-    file_worked had left mid t holds b buffer read passed ending concludes some given beginning went was pass =
-        let parts = splits had left read file some given in
-        let more = splits left after pass.more parts.0 parts.1 pass.given in
-        of_set parts.0 more.0 more.1 parts.2 more.2 (set_made k.maker o.coding.syntax start small mid t after holds (set_bytes b buffer ++ pass.more) more.0 passed more.1 pass.ends)
+    file_worked rest later how mid t holds b buffer read more passed ending concludes whole split at beginning went was ends =
+        of_set rest later at whole split (set_made k.maker o.coding.syntax start small mid t after holds (set_bytes b buffer ++ more) later passed at ends)
       where
         behind : (f : Front) → holds ≡ append_known mid (k.text f) → holds ≡ append_known held (file_output job o.m o.coding f)
         behind f e =
@@ -206,39 +202,39 @@ module _ (job : Job) (is_file : reads_file job ≡ true) (file : List ℕ) (afte
         set_there : (bytes : List ℕ) → drop start (read ++ bytes) ≡ set_bytes b buffer ++ bytes
         set_there bytes = drop-append-le start read bytes within ∙ ap (λ (n : ℕ). drop n read ++ bytes) (sym o.place_is) ∙ ap (λ (bs : List ℕ). bs ++ bytes) beginning.set
 
-        file_set : (rest later : List ℕ) → file ≡ read ++ rest → rest ≡ pass.more ++ later → (set_bytes b buffer ++ pass.more) ++ later ≡ drop start file
+        file_set : (rest later : List ℕ) → file ≡ read ++ rest → rest ≡ more ++ later → (set_bytes b buffer ++ more) ++ later ≡ drop start file
         file_set rest later whole split =
-            append_assoc (set_bytes b buffer) pass.more later ∙ ap (λ (bs : List ℕ). set_bytes b buffer ++ bs) (sym split) ∙ sym (set_there rest) ∙ ap (drop start) (sym whole)
+            append_assoc (set_bytes b buffer) more later ∙ ap (λ (bs : List ℕ). set_bytes b buffer ++ bs) (sym split) ∙ sym (set_there rest) ∙ ap (drop start) (sym whole)
 
         -- what is sure, where a group that was ended by what follows it
-        sure_of : (f : Front) (stop : Stop) → r ≡ head_read (read ++ pass.more) → SetReads (set_bytes b buffer ++ pass.more) f stop → is_undecided (Some stop) ≡ true
-            → FileSure job (read ++ pass.more) (file_output job o.m o.coding (going_on f))
+        sure_of : (f : Front) (stop : Stop) → r ≡ head_read (read ++ more) → SetReads (set_bytes b buffer ++ more) f stop → is_undecided (Some stop) ≡ true
+            → FileSure job (read ++ more) (file_output job o.m o.coding (going_on f))
         sure_of f stop e reads undecided =
             let end = has_end r beginning.ended in
-            let x : Opened (job_dictionary job) r (read ++ pass.more) = opened (job_dictionary job) r (read ++ pass.more) (ap meta_finished (sym e) ∙ finished_same r end.0 end.1) beginning.ended in
+            let x : Opened (job_dictionary job) r (read ++ more) = opened (job_dictionary job) r (read ++ more) (ap meta_finished (sym e) ∙ finished_same r end.0 end.1) beginning.ended in
             let groups : length x.group ≡ length o.group = ap length (sym x.group_is ∙ o.group_is) in
-            let long = length-append read pass.more in
-            let less = ends_before (job_dictionary job) r (read ++ pass.more) e x (let p = o.place_is in let w = within in omega arith) in
-            within_set o.m o.group o.coding f stop (one_head (job_dictionary job) r file (read ++ pass.more) o x) (omega (arith, less, groups)) kept
-            (subst (λ (bs : List ℕ). SetReads bs f stop) (sym (set_there pass.more)) reads) undecided refl
+            let long = length-append read more in
+            let less = ends_before (job_dictionary job) r (read ++ more) e x (let p = o.place_is in let w = within in omega arith) in
+            within_set o.m o.group o.coding f stop (one_head (job_dictionary job) r file (read ++ more) o x) (omega (arith, less, groups)) kept
+            (subst (λ (bs : List ℕ). SetReads bs f stop) (sym (set_there more)) reads) undecided refl
 
-        by_over : (rest later : List ℕ) → after ≡ Some later → file ≡ read ++ rest → rest ≡ pass.more ++ later → (f : Front) (stop : Stop) → SetReads (set_bytes b buffer ++ pass.more) f stop → is_undecided (Some stop) ≡ true
-            → passed ≡ Unread (start + length (set_bytes b buffer ++ pass.more)) → holds ≡ append_known mid (k.text (going_on f))
+        by_over : (rest later : List ℕ) → after ≡ Some later → file ≡ read ++ rest → rest ≡ more ++ later → (f : Front) (stop : Stop) → SetReads (set_bytes b buffer ++ more) f stop → is_undecided (Some stop) ≡ true
+            → passed ≡ Unread (start + length (set_bytes b buffer ++ more)) → holds ≡ append_known mid (k.text (going_on f))
             → (r ≡ head_read read) ⊎ ((b.is_over ≡ true) × (r ≡ meta_finished (head_read read))) → Worked job file after held holds ending
         by_over rest later at whole split f stop reads undecided is e (inr over) = absurd (subst WasRead is (was over.0))
         by_over rest later at whole split f stop reads undecided is e (inl same) =
             let end = has_end r beginning.ended in
-            let still : head_read (read ++ pass.more) ≡ r = ended_stays r read pass.more end.0 same end.1 in
-            let longer = length-append (set_bytes b buffer) pass.more in
-            let long = length-append read pass.more in
-            let count : start + length (set_bytes b buffer ++ pass.more) ≡ length (read ++ pass.more) = (let p = beginning.place in let q = o.place_is in omega arith) in
+            let still : head_read (read ++ more) ≡ r = ended_stays r read more end.0 same end.1 in
+            let longer = length-append (set_bytes b buffer) more in
+            let long = length-append read more in
+            let count : start + length (set_bytes b buffer ++ more) ≡ length (read ++ more) = (let p = beginning.place in let q = o.place_is in omega arith) in
             let out = file_output job o.m o.coding (going_on f) in
-            could_not_read (read ++ pass.more) later out
-            (whole ∙ ap (λ (bs : List ℕ). read ++ bs) split ∙ sym (append_assoc read pass.more later)) at
-            (file_sure job is_file (read ++ pass.more) out (sure_of f stop (sym still) reads undecided)) (concludes.not_read (length (read ++ pass.more)) (is ∙ ap Unread count)) (behind (going_on f) e)
+            could_not_read (read ++ more) later out
+            (whole ∙ ap (λ (bs : List ℕ). read ++ bs) split ∙ sym (append_assoc read more later)) at
+            (file_sure job is_file (read ++ more) out (sure_of f stop (sym still) reads undecided)) (concludes.not_read (length (read ++ more)) (is ∙ ap Unread count)) (behind (going_on f) e)
 
-        of_set : (rest later : List ℕ) → after ≡ Some later → file ≡ read ++ rest → rest ≡ pass.more ++ later
-            → SetMade (job_bar job o.coding) k.text LastOf o.coding.syntax start (set_bytes b buffer ++ pass.more) later mid t holds passed → Worked job file after held holds ending
+        of_set : (rest later : List ℕ) → after ≡ Some later → file ≡ read ++ rest → rest ≡ more ++ later
+            → SetMade (job_bar job o.coding) k.text LastOf o.coding.syntax start (set_bytes b buffer ++ more) later mid t holds passed → Worked job file after held holds ending
         of_set rest later at whole split (set_read f stop reads last is e) =
             let there = subst (λ (bs : List ℕ). SetReads bs f stop) (file_set rest later whole split) reads in
             answered (file_output job o.m o.coding f) (verdict_at job f stop) (read_as f stop there) (concludes.done f stop there last is) (behind f e)

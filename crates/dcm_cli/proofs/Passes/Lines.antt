@@ -18,6 +18,7 @@ use Rattle.dcm_build.proofs.Files.Runs.{whole, so_far, refused}
 use Rattle.dcm_cli.specs.declared.ending.Ending.TheVariants as endings
 use Rattle.dcm_cli.specs.declared.ending.Ending.TheVariants.{Unread, Output}
 use Rattle.dcm_cli.specs.Answer.{LinesSure}
+use Rattle.dcm_cli.specs.InputCalls.{IsUndecided}
 use Rattle.dcm_cli.specs.Lines.{ending_of, EndsLines}
 use Rattle.dcm_cli.specs.Run.{Worked, answered, could_not_read, could_not_write, verdict_of_told}
 
@@ -54,6 +55,10 @@ module _ (limit : ℕ) where
         short = subst (λ (line : List ℕ). length line ≤ limit) b.line b.short;
         out_is = b.file;
       }
+
+  -- more lines may follow
+  pub lines_undecided : (read : List ℕ) (s : BuildState) → s ≡ state read → s.told ≡ None → IsUndecided (building limit) read
+  lines_undecided read s at none = (written read, lines_sure read (ap (λ (z : BuildState). z.told) (sym at) ∙ none))
 
   -- what is sure stands at the front of the output
   pub lines_grow : (p later out : List ℕ) → (state p).told ≡ None → out ≡ written p → (rest : List ℕ) × (output (p ++ later) ≡ out ++ rest)

@@ -1,6 +1,7 @@
 -- What a run leaves, by how the work on its job ended.
-use Rattle.std.proofs.Common.{◌≡◌, ◌∙◌, ap, sym, subst, ℕ, ◌<◌, ◌≤◌, ◌^◌, List, [], length, Bool, true, false, Option, None, Some, refl, inl, inr, ◌⊎◌}
+use Rattle.std.proofs.Common.{◌≡◌, ◌∙◌, ap, sym, subst, ℕ, ◌<◌, ◌≤◌, ◌^◌, List, [], ◌++◌, length, Bool, true, false, Option, None, Some, refl, inl, inr, ◌⊎◌}
 use Rattle.std.specs.Io.KnownBytes.{append_known}
+use Rattle.std.proofs.lemmas.List.{append_cancel_right}
 use Rattle.dcm_base.specs.Build as build
 use Rattle.dcm_base.specs.declared.fault.LineStop.{LineStop}
 use Rattle.dcm_devices.specs.Device.{AppendsFront}
@@ -16,7 +17,7 @@ use Rattle.dcm_cli.specs.declared.ending.Ending.TheVariants as endings
 use Rattle.dcm_cli.specs.declared.ending.Ending.TheVariants.{Unread, Output}
 use Rattle.dcm_cli.specs.declared.ending.Verdict.{Verdict}
 use Rattle.dcm_cli.specs.declared.ending.Verdict.TheVariants.{Done, RefusedLine}
-use Rattle.dcm_cli.specs.Answer.{Answer, Answers, Source, unopened, file, alone, ReadAnswers, answer, building_line, output_of, edits_of, stop_line, stop_status}
+use Rattle.dcm_cli.specs.Answer.{Answer, Answers, Sure, Source, unopened, file, alone, ReadAnswers, answer, building_line, output_of, edits_of, stop_line, stop_status}
 use Rattle.dcm_cli.specs.Pass.{TellsUnread, TellsOutput}
 use Rattle.dcm_cli.specs.Run.{IsMeant, Answered, ReadEnds, BuildEnds, Worked, answered, could_not_read, could_not_write, FlushedAs, verdict_at, verdict_of_source, verdict_of_told, unplaced_mask, verdict_lines, verdict_status, ending_lines, ending_status, Ran, as_answered, not_read, not_written, not_flushed, Devices}
 use Rattle.dcm_cli.specs.ErrorLines.{Tries}
@@ -110,11 +111,17 @@ given (Convert c) meant input out verdict h = reads_given (convert c.dictionary 
 given (Build b) meant input out verdict h = built_given b.limit input out verdict h
 given (Modify m) meant input out verdict h = edits_given m.dictionary m.edits input out verdict (are_few m.dictionary m.edits meant) h
 
-module _ {A : Type 0} (job : RunJob A) (meant : IsMeant (job_of job)) (input : List ℕ) (left held worked holds told tells : Option (List ℕ)) (room : Option ℕ) (r_old r_new w_old w_mid w_new e_old e_new : Bool) (ending after : Ending) (status : ℕ)
+-- what was read, where the rest is known
+one_front : (before p rest left : List ℕ) → before ++ rest ≡ p ++ left → Some rest ≡ Some left → p ≡ before
+one_front before p rest left whole at =
+    let same : left ≡ rest = cc in
+    append_cancel_right p before rest (ap (λ (bytes : List ℕ). p ++ bytes) (sym same) ∙ sym whole)
+
+module _ {A : Type 0} (job : RunJob A) (meant : IsMeant (job_of job)) (before rest : List ℕ) (held worked holds told tells : Option (List ℕ)) (room : Option ℕ) (r_old r_new w_old w_mid w_new e_old e_new : Bool) (ending after : Ending) (status : ℕ)
     (kept : holds ≡ worked) (flushed : FlushedAs ending after w_mid w_new room) (unread : TellsUnread r_old r_new ending) (failed : TellsOutput w_old w_mid ending)
     (line : Tries told tells e_old e_new (ending_lines after)) (status_was : status ≡ ending_status after) (readable : r_old ≡ false) (writable : w_old ≡ false) where
   abbrev devices : Devices
-  devices = record { left = left; held = held; holds = holds; room = room; told = told; tells = tells; unread = r_new; unwritten = w_new; untold_before = e_old; untold = e_new }
+  devices = record { held = held; holds = holds; room = room; told = told; tells = tells; unread = r_new; unwritten = w_new; untold_before = e_old; untold = e_new }
 
   told_of : (x : Ending) → after ≡ x → Tries told tells e_old e_new (ending_lines x)
   told_of x is = subst (λ (y : Ending). Tries told tells e_old e_new (ending_lines y)) is line
@@ -122,26 +129,28 @@ module _ {A : Type 0} (job : RunJob A) (meant : IsMeant (job_of job)) (input : L
   status_of : (x : Ending) → after ≡ x → status ≡ ending_status x
   status_of x is = status_was ∙ ap ending_status is
 
-  after_answer : (out : List ℕ) (verdict : Verdict) (k : Given (job_of job) input out verdict) → ending ≡ endings.Worked verdict → worked ≡ append_known held out → Ran (job_of job) input devices status
+  after_answer : (out : List ℕ) (verdict : Verdict) (k : Given (job_of job) (before ++ rest) out verdict) → ending ≡ endings.Worked verdict → worked ≡ append_known held out → Ran (job_of job) before rest devices status
   after_answer out verdict k is grown = by_flush (subst (λ (x : Ending). FlushedAs x after w_mid w_new room) is flushed)
     where
       read : r_new ≡ false
       read = subst (λ (x : Ending). TellsUnread r_old r_new x) is unread ∙ readable
 
-      by_flush : ((after ≡ endings.Worked verdict) × (w_new ≡ w_mid)) ⊎ ((after ≡ Output) × (w_new ≡ true) × (room ≡ None)) → Ran (job_of job) input devices status
+      by_flush : ((after ≡ endings.Worked verdict) × (w_new ≡ w_mid)) ⊎ ((after ≡ Output) × (w_new ≡ true) × (room ≡ None)) → Ran (job_of job) before rest devices status
       by_flush (inl x) =
           as_answered k.a k.answers read (x.1 ∙ subst (λ (x : Ending). TellsOutput w_old w_mid x) is failed ∙ writable)
           (kept ∙ grown ∙ ap (append_known held) k.output_is) (subst (Tries told tells e_old e_new) k.told_is (told_of (endings.Worked verdict) x.0)) (status_of (endings.Worked verdict) x.0 ∙ k.status_is)
       by_flush (inr x) =
           not_flushed k.a k.answers read x.1 x.2 (kept ∙ grown ∙ ap (append_known held) k.output_is) (told_of Output x.0) (status_of Output x.0)
 
-  pub run_ran : Worked (job_of job) input left held worked ending → Ran (job_of job) input devices status
-  run_ran (answered out verdict was is grown) = after_answer out verdict (given job meant input out verdict was) is grown
-  run_ran (could_not_read p rest out whole at sure is grown) =
-      let still : after ≡ Unread (length p) = subst (λ (x : Ending). FlushedAs x after w_mid w_new room) is flushed in
-      not_read p rest out whole at (subst (λ (x : Ending). TellsUnread r_old r_new x) is unread) sure (kept ∙ grown) (told_of (Unread (length p)) still) (status_of (Unread (length p)) still)
+  pub run_ran : Worked (job_of job) (before ++ rest) (Some rest) held worked ending → Ran (job_of job) before rest devices status
+  run_ran (answered out verdict was is grown) = after_answer out verdict (given job meant (before ++ rest) out verdict was) is grown
+  run_ran (could_not_read p left out whole at sure is grown) =
+      let same : p ≡ before = one_front before p rest left whole at in
+      let here : after ≡ Unread (length before) = subst (λ (x : Ending). FlushedAs x after w_mid w_new room) is flushed ∙ ap (λ (bytes : List ℕ). Unread (length bytes)) same in
+      not_read out (subst (λ (x : Ending). TellsUnread r_old r_new x) is unread) (subst (λ (bytes : List ℕ). Sure (job_of job) bytes out) same sure) (kept ∙ grown)
+      (told_of (Unread (length before)) here) (status_of (Unread (length before)) here)
   run_ran (could_not_write out verdict was is grown) =
-      let k = given job meant input out verdict was in
+      let k = given job meant (before ++ rest) out verdict was in
       let still : (after ≡ Output) × (w_new ≡ w_mid) = subst (λ (x : Ending). FlushedAs x after w_mid w_new room) is flushed in
       not_written k.a k.answers (subst (λ (x : Ending). TellsUnread r_old r_new x) is unread ∙ readable)
       (still.1 ∙ subst (λ (x : Ending). TellsOutput w_old w_mid x) is failed)

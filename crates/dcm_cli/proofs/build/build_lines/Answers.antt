@@ -1,17 +1,14 @@
-use Rattle.std.proofs.Common.{rules, ◌≡◌, ◌∙◌, ap, sym, subst, ℕ, List, ◌++◌, take, length-append, arith, [], Some, None, refl}
+use Rattle.std.proofs.Common.{rules, ◌≡◌, ◌∙◌, ap, sym, subst, ℕ, List, ◌++◌, take, length-append, arith, [], Some, refl}
 use Rattle.std.proofs.lemmas.List.{append-nil, length-take-le}
-use Rattle.std.specs.Io.KnownBytes.{prepend_known}
 use Rattle.dcm_devices.specs.Device.{no_calls}
-use Rattle.dcm_build.specs.Building.{BuildState}
 use Rattle.dcm_words.specs.Words.{build as build_job}
 use Rattle.dcm_cli.specs.declared.ending.Ending.{Ending}
 use Rattle.dcm_cli.specs.declared.ending.Ending.TheVariants.{Unread}
+use Rattle.dcm_cli.specs.InputCalls.{in_part, to_end, with_failure, IsUndecided}
 use Rattle.dcm_cli.specs.Run.{Worked}
-use Rattle.dcm_cli.proofs.Passes.Alone.{splits}
-use Rattle.dcm_cli.proofs.Passes.Lines.{going_is, not_unwritten, built_on, built_halted, built_unread, built_ended}
+use Rattle.dcm_cli.proofs.Passes.Lines.{going_is, not_unwritten, built_on, built_halted, built_unread, built_ended, lines_undecided}
 use Rattle.dcm_cli.proofs.Passes.Passes.{read_nothing, read_twice}
-use Rattle.dcm_cli.proofs.Passes.Sets.{none_left}
-use Rattle.dcm_cli.proofs.Runs.Stopping.{gave_on, read_piece, no_piece, build_stops}
+use Rattle.dcm_cli.proofs.Passes.Readers.{members, gave_on, piece_read, end_read, failed_read}
 use Rattle.dcm_cli.proofs.build.build_lines.Goals as goal
 
 pub loop-size-init : goal.loop-size-init
@@ -32,35 +29,53 @@ loop-size-init g c =
     }
 
 pub returns-in-Ok-None-clause-worked : goal.returns-in-Ok-None-clause-worked
-returns-in-Ok-None-clause-worked g c = λ file is.
+returns-in-Ok-None-clause-worked g c =
     let loop = c.loop-size in
-    let left = g.R.DeviceIn.remaining c.next_piece.new.input in
-    let over = rw c.in-Ok-None.field-0-is at c.in-Ok-None.ensures.bytes in
-    let given = loop.invariant.given ∙ ap (prepend_known loop.invariant.front) (sym over.1) in
-    let parts = splits (g.R.DeviceIn.remaining c.args.input.now) left loop.invariant.front file is given in
-    let whole : file ≡ loop.invariant.front = parts.2 ∙ ap (λ bytes. loop.invariant.front ++ bytes) (none_left left parts.0 over.0 parts.1) ∙ append-nil loop.invariant.front in
-    subst (λ (ending : Ending). Worked (build_job c.args.limit) file left (g.W.DeviceOut.contents c.args.out.now) (g.W.DeviceOut.contents c.end.new.out) ending) (sym c.ending_of.ensures)
-    (built_ended c.args.limit file loop.invariant.front left (g.W.DeviceOut.contents c.args.out.now) loop.builder.state (g.W.DeviceOut.contents loop.out) loop.invariant.state loop.invariant.out whole (g.W.DeviceOut.contents c.end.new.out) c.end.result c.end.ensures.ends)
+    let front = loop.invariant.front in
+    record {
+      given = front;
+      how = to_end;
+      reads = end_read (members g.R.Device g.R.DeviceIn) (IsUndecided (build_job c.args.limit)) _ loop.input c.next_piece.new.input front loop.invariant.calls loop.invariant.given loop.invariant.unread
+          (lines_undecided c.args.limit front loop.builder.state loop.invariant.state (going_is loop.builder.state.told loop.builder.failed loop.invariant.going).1)
+          (rw c.in-Ok-None.field-0-is at c.in-Ok-None.ensures.bytes) (rw c.in-Ok-None.field-0-is at c.in-Ok-None.ensures.call) c.in-Ok-None.ensures.failed;
+      worked = λ rest none.
+          let whole : front ++ rest ≡ front = ap (λ (bytes : List ℕ). front ++ bytes) none ∙ append-nil front in
+          subst (λ (ending : Ending). Worked (build_job c.args.limit) (front ++ rest) (Some rest) (g.W.DeviceOut.contents c.args.out.now) (g.W.DeviceOut.contents c.end.new.out) ending) (sym c.ending_of.ensures)
+          (built_ended c.args.limit (front ++ rest) front (Some rest) (g.W.DeviceOut.contents c.args.out.now) loop.builder.state (g.W.DeviceOut.contents loop.out) loop.invariant.state loop.invariant.out whole (g.W.DeviceOut.contents c.end.new.out) c.end.result c.end.ensures.ends);
+    }
 
 pub returns-in-Err-clause-worked : goal.returns-in-Err-clause-worked
-returns-in-Err-clause-worked g c = λ file is.
+returns-in-Err-clause-worked g c =
     let loop = c.loop-size in
-    let parts = splits (g.R.DeviceIn.remaining c.args.input.now) (g.R.DeviceIn.remaining loop.input) loop.invariant.front file is loop.invariant.given in
-    subst (λ (n : ℕ). Worked (build_job c.args.limit) file (g.R.DeviceIn.remaining c.next_piece.new.input) (g.W.DeviceOut.contents c.args.out.now) (g.W.DeviceOut.contents loop.out) (Unread n)) (sym (c.in-Err.ensures.count ∙ loop.invariant.count))
-    (built_unread c.args.limit file loop.invariant.front (g.R.DeviceIn.remaining c.next_piece.new.input) (g.W.DeviceOut.contents c.args.out.now) loop.builder.state (g.W.DeviceOut.contents loop.out) loop.invariant.state loop.invariant.out
-    parts.0 (going_is loop.builder.state.told loop.builder.failed loop.invariant.going).1 parts.2 (c.in-Err.ensures.bytes ∙ parts.1))
+    let front = loop.invariant.front in
+    let going = (going_is loop.builder.state.told loop.builder.failed loop.invariant.going).1 in
+    record {
+      given = front;
+      how = with_failure;
+      reads = failed_read (members g.R.Device g.R.DeviceIn) (IsUndecided (build_job c.args.limit)) _ loop.input c.next_piece.new.input front loop.invariant.calls loop.invariant.given loop.invariant.unread
+          (lines_undecided c.args.limit front loop.builder.state loop.invariant.state going) c.in-Err.ensures.bytes c.in-Err.ensures.call c.in-Err.ensures.failed;
+      worked = λ rest ok.
+          subst (λ (n : ℕ). Worked (build_job c.args.limit) (front ++ rest) (Some rest) (g.W.DeviceOut.contents c.args.out.now) (g.W.DeviceOut.contents loop.out) (Unread n)) (sym (c.in-Err.ensures.count ∙ loop.invariant.count))
+          (built_unread c.args.limit (front ++ rest) front (Some rest) (g.W.DeviceOut.contents c.args.out.now) loop.builder.state (g.W.DeviceOut.contents loop.out) loop.invariant.state loop.invariant.out rest going refl refl);
+    }
 
 pub returns-in-Err-feed-clause-worked : goal.returns-in-Err-feed-clause-worked
-returns-in-Err-feed-clause-worked g c = λ file is.
+returns-in-Err-feed-clause-worked g c =
     let loop = c.loop-size in
+    let front = loop.invariant.front in
     let piece : List ℕ = take c.in-Ok-Some.size c.next_piece.new.buffer in
-    let came = rw c.in-Ok-Some.field-0-is at c.in-Ok-Some.ensures.bytes in
-    let left = g.R.DeviceIn.remaining c.next_piece.new.input in
-    let given = read_twice _ _ _ loop.invariant.front piece loop.invariant.given came.2 in
-    let parts = splits (g.R.DeviceIn.remaining c.args.input.now) left (loop.invariant.front ++ piece) file is given in
-    subst (λ (ending : Ending). Worked (build_job c.args.limit) file left (g.W.DeviceOut.contents c.args.out.now) (g.W.DeviceOut.contents c.feed.new.out) ending) (sym c.ending_of-in-Err-feed.ensures)
-    (built_halted c.args.limit (g.W.DeviceOut.contents c.args.out.now) loop.builder.state (g.W.DeviceOut.contents loop.out) c.feed.new.self (g.W.DeviceOut.contents c.feed.new.out) loop.invariant.front piece
-    loop.invariant.state loop.invariant.out (c.in-Err-feed.ensures.goes (going_is loop.builder.state.told loop.builder.failed loop.invariant.going).0) file parts.0 left c.in-Err-feed.halt parts.2 c.in-Err-feed.ensures.answer)
+    let going = going_is loop.builder.state.told loop.builder.failed loop.invariant.going in
+    record {
+      given = front ++ piece;
+      how = in_part;
+      reads = piece_read (members g.R.Device g.R.DeviceIn) (IsUndecided (build_job c.args.limit)) _ loop.input c.next_piece.new.input front loop.invariant.calls loop.invariant.given loop.invariant.unread
+          (lines_undecided c.args.limit front loop.builder.state loop.invariant.state going.1) c.next_piece.new.buffer c.in-Ok-Some.size
+          (rw c.in-Ok-Some.field-0-is at c.in-Ok-Some.ensures.bytes) (rw c.in-Ok-Some.field-0-is at c.in-Ok-Some.ensures.call) c.in-Ok-Some.ensures.failed;
+      worked = λ rest ok.
+          subst (λ (ending : Ending). Worked (build_job c.args.limit) ((front ++ piece) ++ rest) (Some rest) (g.W.DeviceOut.contents c.args.out.now) (g.W.DeviceOut.contents c.feed.new.out) ending) (sym c.ending_of-in-Err-feed.ensures)
+          (built_halted c.args.limit (g.W.DeviceOut.contents c.args.out.now) loop.builder.state (g.W.DeviceOut.contents loop.out) c.feed.new.self (g.W.DeviceOut.contents c.feed.new.out) front piece
+          loop.invariant.state loop.invariant.out (c.in-Err-feed.ensures.goes going.0) ((front ++ piece) ++ rest) rest (Some rest) c.in-Err-feed.halt refl c.in-Err-feed.ensures.answer);
+    }
 
 pub loop-size-preserved : goal.loop-size-preserved
 loop-size-preserved g c =
@@ -89,25 +104,3 @@ loop-size-preserved g c =
       unwritten = not_unwritten c.feed.new.self.failed _ _ failed (c.in_default.ensures.failed loop.invariant.going) ∙ loop.invariant.unwritten;
       size = c.next_piece.ensures.kept ∙ loop.invariant.size;
     }
-
-pub returns-in-Ok-None-clause-stops : goal.returns-in-Ok-None-clause-stops
-returns-in-Ok-None-clause-stops g c = λ file is.
-    let loop = c.loop-size in
-    let none = ap (λ (z : BuildState). z.told) (sym loop.invariant.state) ∙ (going_is loop.builder.state.told loop.builder.failed loop.invariant.going).1 in
-    build_stops g.R.DeviceIn.remaining g.R.DeviceIn.gets c.args.limit file c.args.input.now c.next_piece.new.input loop.invariant.front is
-    (no_piece g.R.DeviceIn.remaining g.R.DeviceIn.gets _ _ _ loop.invariant.front (Some []) refl loop.invariant.calls loop.invariant.given (rw c.in-Ok-None.field-0-is at c.in-Ok-None.ensures.bytes).1 (rw c.in-Ok-None.field-0-is at c.in-Ok-None.ensures.call)) none
-
-pub returns-in-Err-clause-stops : goal.returns-in-Err-clause-stops
-returns-in-Err-clause-stops g c = λ file is.
-    let loop = c.loop-size in
-    let none = ap (λ (z : BuildState). z.told) (sym loop.invariant.state) ∙ (going_is loop.builder.state.told loop.builder.failed loop.invariant.going).1 in
-    build_stops g.R.DeviceIn.remaining g.R.DeviceIn.gets c.args.limit file c.args.input.now c.next_piece.new.input loop.invariant.front is
-    (no_piece g.R.DeviceIn.remaining g.R.DeviceIn.gets _ _ _ loop.invariant.front None refl loop.invariant.calls loop.invariant.given c.in-Err.ensures.bytes c.in-Err.ensures.call) none
-
-pub returns-in-Err-feed-clause-stops : goal.returns-in-Err-feed-clause-stops
-returns-in-Err-feed-clause-stops g c = λ file is.
-    let loop = c.loop-size in
-    let came = rw c.in-Ok-Some.field-0-is at c.in-Ok-Some.ensures.bytes in
-    let none = ap (λ (z : BuildState). z.told) (sym loop.invariant.state) ∙ (going_is loop.builder.state.told loop.builder.failed loop.invariant.going).1 in
-    build_stops g.R.DeviceIn.remaining g.R.DeviceIn.gets c.args.limit file c.args.input.now c.next_piece.new.input loop.invariant.front is
-    (read_piece g.R.DeviceIn.remaining g.R.DeviceIn.gets _ _ _ loop.invariant.front c.next_piece.new.buffer c.in-Ok-Some.size loop.invariant.calls loop.invariant.given came.2 (rw c.in-Ok-Some.field-0-is at c.in-Ok-Some.ensures.call)) none

@@ -1,13 +1,14 @@
-use Rattle.std.proofs.Common.{◌≡◌, ◌∙◌, ℕ, List, ◌++◌, ap, sym, subst, refl, take, length, length-append, arith, [], Some, None, inl}
+use Rattle.std.proofs.Common.{◌≡◌, ◌∙◌, ℕ, List, ◌++◌, ap, sym, subst, refl, take, length, length-append, arith, [], None, inl}
 use Rattle.std.proofs.lemmas.List.{length-take-le}
 use Rattle.dcm_devices.specs.Device.{no_calls}
 use Rattle.dcm_head.specs.MetaReading.{Reading}
 use Rattle.dcm_head.proofs.HeadReading.Stays.{kept_all}
 use Rattle.dcm_cli.specs.declared.head.Beginning.{Beginning}
-use Rattle.dcm_cli.specs.Pass.{Begins}
+use Rattle.dcm_cli.specs.InputCalls.{in_part, to_end, with_failure}
+use Rattle.dcm_cli.specs.Pass.{Begins, HeadGoesOn}
 use Rattle.dcm_cli.proofs.Passes.Passes.{read_nothing, read_twice}
-use Rattle.dcm_cli.proofs.Passes.Heads.{read_on, begins_in, going_on}
-use Rattle.dcm_cli.proofs.Runs.Stopping.{gave_on, read_piece, no_piece}
+use Rattle.dcm_cli.proofs.Passes.Heads.{read_on, begins_in, going_on, finished_head}
+use Rattle.dcm_cli.proofs.Passes.Readers.{members, gave_on, piece_read, end_read, failed_read}
 use Rattle.dcm_cli.proofs.head.read_head_of.Goals as goal
 
 pub loop-size-init : goal.loop-size-init
@@ -59,70 +60,64 @@ loop-size-preserved g c =
       size = c.next_piece.ensures.kept ∙ loop.invariant.size;
     }
 
+pub returns-in-Ok-None-clause-read : goal.returns-in-Ok-None-clause-read
+returns-in-Ok-None-clause-read g c =
+    let loop = c.loop-size in
+    let front = loop.invariant.front in
+    record {
+      read = front;
+      how = to_end;
+      reads = end_read (members g.R.Device g.R.DeviceIn) HeadGoesOn _ loop.input c.next_piece.new.input front loop.invariant.calls loop.invariant.given loop.invariant.unread
+          (going_on loop.meta front loop.invariant.reading loop.invariant.going)
+          (rw c.in-Ok-None.field-0-is at c.in-Ok-None.ensures.bytes) (rw c.in-Ok-None.field-0-is at c.in-Ok-None.ensures.call) c.in-Ok-None.ensures.failed;
+      outcome = finished_head c.finish_head.new.meta loop.meta front c.next_piece.new.buffer c.next_piece.new.read c.finish_head.result loop.invariant.reading loop.invariant.going loop.invariant.bytes c.finish_head.ensures.state
+          (rw c.in-Ok-None.field-0-is at c.in-Ok-None.ensures.count ∙ loop.invariant.count) c.finish_head.ensures.answer;
+    }
+
+pub returns-in-Err-clause-read : goal.returns-in-Err-clause-read
+returns-in-Err-clause-read g c =
+    let loop = c.loop-size in
+    let front = loop.invariant.front in
+    record {
+      read = front;
+      how = with_failure;
+      reads = failed_read (members g.R.Device g.R.DeviceIn) HeadGoesOn _ loop.input c.next_piece.new.input front loop.invariant.calls loop.invariant.given loop.invariant.unread
+          (going_on loop.meta front loop.invariant.reading loop.invariant.going) c.in-Err.ensures.bytes c.in-Err.ensures.call c.in-Err.ensures.failed;
+      outcome = (loop.invariant.reading, loop.invariant.going, c.in-Err.ensures.count ∙ loop.invariant.count);
+    }
+
 pub returns-in-Refused-clause-read : goal.returns-in-Refused-clause-read
 returns-in-Refused-clause-read g c =
     let loop = c.loop-size in
+    let front = loop.invariant.front in
     let piece : List ℕ = take c.in-Ok-Some.size c.next_piece.new.buffer in
-    let came = rw c.in-Ok-Some.field-0-is at c.in-Ok-Some.ensures.bytes in
     record {
-      read = loop.invariant.front ++ piece;
-      given = read_twice _ _ _ loop.invariant.front piece loop.invariant.given came.2;
-      outcome = (c.in-Refused.ensures.answer, inl (read_on c.feed.new.self loop.meta loop.invariant.front piece loop.invariant.reading c.feed.ensures.state));
+      read = front ++ piece;
+      how = in_part;
+      reads = piece_read (members g.R.Device g.R.DeviceIn) HeadGoesOn _ loop.input c.next_piece.new.input front loop.invariant.calls loop.invariant.given loop.invariant.unread
+          (going_on loop.meta front loop.invariant.reading loop.invariant.going) c.next_piece.new.buffer c.in-Ok-Some.size
+          (rw c.in-Ok-Some.field-0-is at c.in-Ok-Some.ensures.bytes) (rw c.in-Ok-Some.field-0-is at c.in-Ok-Some.ensures.call) c.in-Ok-Some.ensures.failed;
+      outcome = (c.in-Refused.ensures.answer, inl (read_on c.feed.new.self loop.meta front piece loop.invariant.reading c.feed.ensures.state));
     }
 
 pub returns-in-Ended-clause-read : goal.returns-in-Ended-clause-read
 returns-in-Ended-clause-read g c =
     let loop = c.loop-size in
+    let front = loop.invariant.front in
     let piece : List ℕ = take c.in-Ok-Some.size c.next_piece.new.buffer in
     let came = rw c.in-Ok-Some.field-0-is at c.in-Ok-Some.ensures.bytes in
     let counted = rw c.in-Ok-Some.field-0-is at c.in-Ok-Some.ensures.count in
     let long = length-take-le c.in-Ok-Some.size c.next_piece.new.buffer came.1 in
     let buffer = c.next_piece.new.buffer in
-    let left = g.R.DeviceIn.remaining c.next_piece.new.input in
     let said = c.in-Ended.ensures.answer in
     record {
-      read = loop.invariant.front ++ piece;
-      given = read_twice _ _ _ loop.invariant.front piece loop.invariant.given came.2;
-      outcome = subst (λ (b : Beginning). Begins c.feed.new.self b buffer left (loop.invariant.front ++ piece)) (sym c.beginning_in.ensures)
-          (begins_in c.feed.new.self loop.meta loop.invariant.front piece buffer c.in-Ok-Some.size c.in-Ended.used c.next_piece.new.read c.in-Ended.ahead left
+      read = front ++ piece;
+      how = in_part;
+      reads = piece_read (members g.R.Device g.R.DeviceIn) HeadGoesOn _ loop.input c.next_piece.new.input front loop.invariant.calls loop.invariant.given loop.invariant.unread
+          (going_on loop.meta front loop.invariant.reading loop.invariant.going) buffer c.in-Ok-Some.size
+          came (rw c.in-Ok-Some.field-0-is at c.in-Ok-Some.ensures.call) c.in-Ok-Some.ensures.failed;
+      outcome = subst (λ (b : Beginning). Begins c.feed.new.self b buffer in_part (front ++ piece)) (sym c.beginning_in.ensures)
+          (begins_in c.feed.new.self loop.meta front piece buffer c.in-Ok-Some.size c.in-Ended.used c.next_piece.new.read c.in-Ended.ahead in_part
           loop.invariant.reading loop.invariant.bytes c.feed.ensures.state said.0 said.1 refl long c.in-Ended.ensures.used
-          (let whole = length-append loop.invariant.front piece in omega (arith, whole, long, counted, loop.invariant.count)));
-    }
-
-pub returns-in-Ok-None-clause-stops : goal.returns-in-Ok-None-clause-stops
-returns-in-Ok-None-clause-stops g c =
-    let loop = c.loop-size in
-    record {
-      front = loop.invariant.front;
-      going = going_on loop.meta loop.invariant.front loop.invariant.reading loop.invariant.going;
-      last = no_piece g.R.DeviceIn.remaining g.R.DeviceIn.gets _ _ _ loop.invariant.front (Some []) refl loop.invariant.calls loop.invariant.given (rw c.in-Ok-None.field-0-is at c.in-Ok-None.ensures.bytes).1 (rw c.in-Ok-None.field-0-is at c.in-Ok-None.ensures.call);
-    }
-
-pub returns-in-Err-clause-stops : goal.returns-in-Err-clause-stops
-returns-in-Err-clause-stops g c =
-    let loop = c.loop-size in
-    record {
-      front = loop.invariant.front;
-      going = going_on loop.meta loop.invariant.front loop.invariant.reading loop.invariant.going;
-      last = no_piece g.R.DeviceIn.remaining g.R.DeviceIn.gets _ _ _ loop.invariant.front None refl loop.invariant.calls loop.invariant.given c.in-Err.ensures.bytes c.in-Err.ensures.call;
-    }
-
-pub returns-in-Refused-clause-stops : goal.returns-in-Refused-clause-stops
-returns-in-Refused-clause-stops g c =
-    let loop = c.loop-size in
-    let came = rw c.in-Ok-Some.field-0-is at c.in-Ok-Some.ensures.bytes in
-    record {
-      front = loop.invariant.front;
-      going = going_on loop.meta loop.invariant.front loop.invariant.reading loop.invariant.going;
-      last = read_piece g.R.DeviceIn.remaining g.R.DeviceIn.gets _ _ _ loop.invariant.front c.next_piece.new.buffer c.in-Ok-Some.size loop.invariant.calls loop.invariant.given came.2 (rw c.in-Ok-Some.field-0-is at c.in-Ok-Some.ensures.call);
-    }
-
-pub returns-in-Ended-clause-stops : goal.returns-in-Ended-clause-stops
-returns-in-Ended-clause-stops g c =
-    let loop = c.loop-size in
-    let came = rw c.in-Ok-Some.field-0-is at c.in-Ok-Some.ensures.bytes in
-    record {
-      front = loop.invariant.front;
-      going = going_on loop.meta loop.invariant.front loop.invariant.reading loop.invariant.going;
-      last = read_piece g.R.DeviceIn.remaining g.R.DeviceIn.gets _ _ _ loop.invariant.front c.next_piece.new.buffer c.in-Ok-Some.size loop.invariant.calls loop.invariant.given came.2 (rw c.in-Ok-Some.field-0-is at c.in-Ok-Some.ensures.call);
+          (let whole = length-append front piece in omega (arith, whole, long, counted, loop.invariant.count)));
     }

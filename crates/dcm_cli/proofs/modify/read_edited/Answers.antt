@@ -7,7 +7,7 @@ use Rattle.dcm_edit.specs.Masks as masks
 use Rattle.dcm_edit.specs.Through.{through_step, through_writes, through_bar}
 use Rattle.dcm_cli.specs.Pass as spec
 use Rattle.dcm_cli.proofs.Lines.FoundMasks.{not_found_by}
-use Rattle.dcm_cli.specs.Stops.{BehindStops}
+use Rattle.dcm_cli.proofs.Passes.Readers.{members}
 use Rattle.dcm_cli.proofs.modify.read_edited.Goals as goal
 
 pub returns-clause-passes : goal.returns-clause-passes
@@ -16,9 +16,9 @@ returns-clause-passes g c =
     let opened = c.args.opened in
     let state : EditState = masks.meant last.edits.now (editing.state last.editor) in
     let first : EditState = begun c.args.edits.now in
-    let Passed : EditState × g.S.Sink.State → Option (List ℕ) → g.row.S.Denot → Type 0 = λ from held x. spec.BehindBeginning through_bar (through_step g.S.Sink.step) (through_writes g.S.Sink.step g.S.Sink.writes)
-    (g.R.DeviceIn.remaining c.args.input.now) (spec.set_bytes opened.beginning c.args.buffer.now) (start_of opened.coding.syntax opened.start) from held
-    (g.R.DeviceIn.remaining c.read_set-ending.new.input) (state, g.S.Sink.state x) (g.S.Sink.contents x) c.read_set-ending.result
+    let Passed : EditState × g.S.Sink.State → Option (List ℕ) → g.row.S.Denot → Type 0 = λ from held x. spec.ReadsSet through_bar (through_step g.S.Sink.step) (through_writes g.S.Sink.step g.S.Sink.writes)
+    (members g.R.Device g.R.DeviceIn) c.args.input.now c.read_set-ending.new.input opened.beginning.is_over (spec.set_bytes opened.beginning c.args.buffer.now) (start_of opened.coding.syntax opened.start) from held
+    (state, g.S.Sink.state x) (g.S.Sink.contents x) c.read_set-ending.result
     in
     let new = c.new-edited.result in
     let begins : masks.meant new.edits.now (editing.state new.editor) ≡ first = ap (λ (es : List Edit). masks.meant es (editing.state new.editor)) c.new-edited.ensures.edits ∙ c.new-edited.ensures.state in
@@ -36,14 +36,3 @@ returns-clause-passes g c =
       was = c.read_set-ending.ensures.over;
       ending_is = c.with_unplaced.ensures ∙ ap (λ (m : ℕ). spec.with_unplaced c.read_set-ending.result m) mask;
     }
-
-pub returns-clause-stops : goal.returns-clause-stops
-returns-clause-stops g c =
-    let opened = c.args.opened in
-    let first : EditState = begun c.args.edits.now in
-    let new = c.new-edited.result in
-    let Stopped : EditState × g.S.Sink.State → Type 0 = λ from. BehindStops through_bar (through_step g.S.Sink.step) (start_of opened.coding.syntax opened.start) from (spec.set_bytes opened.beginning c.args.buffer.now) opened.beginning.is_over
-    g.R.DeviceIn.remaining g.R.DeviceIn.gets c.args.input.now c.read_set-ending.new.input
-    in
-    let begins : masks.meant new.edits.now (editing.state new.editor) ≡ first = ap (λ (es : List Edit). masks.meant es (editing.state new.editor)) c.new-edited.ensures.edits ∙ c.new-edited.ensures.state in
-    subst Stopped (ap (λ (s : EditState). (s, g.S.Sink.state new.inner.now)) begins ∙ ap (λ (x : g.row.S.Denot). (first, g.S.Sink.state x)) c.new-edited.ensures.inner) c.read_set-ending.ensures.stops

@@ -6,31 +6,51 @@ use Rattle.dcm_cli.proofs.rewrite.open_file.Goals as goal
 pub returns-in-Err-clause-opens : goal.returns-in-Err-clause-opens
 returns-in-Err-clause-opens g c =
     let head = c.in-Err.ensures.read in
-    no_set c.read_head_of.new.meta head.read c.in-Err.ending head.given head.outcome refl c.ending_of_head.ensures
+    record {
+      read = head.read;
+      how = head.how;
+      reads = head.reads;
+      opens = no_set c.read_head_of.new.meta c.in-Err.ending head.outcome refl c.ending_of_head.ensures;
+    }
 
 pub returns-then-refuses_change-clause-opens : goal.returns-then-refuses_change-clause-opens
 returns-then-refuses_change-clause-opens g c =
     let head = c.in-Ok.ensures.read in
-    no_change c.read_head_of.new.buffer c.read_head_of.new.meta c.in-Ok.beginning c.read_by-coding.result c.set_start-start.result
-    (record { read = head.read; given = head.given; begins = head.outcome; named = c.coding.result; end_is = c.coding.ensures; coding_is = c.read_by-coding.ensures; start_is = c.set_start-start.ensures.place })
-    (sym (c.if-refuses_change.ensures c.args.dictionary)) refl refl
+    record {
+      read = head.read;
+      how = head.how;
+      reads = head.reads;
+      opens = no_change c.read_head_of.new.buffer c.read_head_of.new.meta c.in-Ok.beginning c.read_by-coding.result c.set_start-start.result
+          (record { begins = head.outcome; named = c.coding.result; end_is = c.coding.ensures; coding_is = c.read_by-coding.ensures; start_is = c.set_start-start.ensures.place })
+          (sym (c.if-refuses_change.ensures c.args.dictionary)) refl refl;
+    }
 
 pub returns-then-is_err-clause-opens : goal.returns-then-is_err-clause-opens
 returns-then-is_err-clause-opens g c =
     let head = c.in-Ok.ensures.read in
-    no_head c.read_head_of.new.buffer c.read_head_of.new.meta c.in-Ok.beginning c.read_by-coding.result c.set_start-start.result c.target_uid.result.now
-    (record { read = head.read; given = head.given; begins = head.outcome; named = c.coding.result; end_is = c.coding.ensures; coding_is = c.read_by-coding.ensures; start_is = c.set_start-start.ensures.place })
-    (sym (c.if-refuses_change.ensures c.args.dictionary)) c.target_uid.ensures.value
-    (λ elements spelled are. put_failed _ _ _ c.write_head.result (sym c.if-is_err.ensures.value) (c.write_head.ensures.bytes elements spelled are)) refl
+    record {
+      read = head.read;
+      how = head.how;
+      reads = head.reads;
+      opens = no_head c.read_head_of.new.buffer c.read_head_of.new.meta c.in-Ok.beginning c.read_by-coding.result c.set_start-start.result c.target_uid.result.now
+          (record { begins = head.outcome; named = c.coding.result; end_is = c.coding.ensures; coding_is = c.read_by-coding.ensures; start_is = c.set_start-start.ensures.place })
+          (sym (c.if-refuses_change.ensures c.args.dictionary)) c.target_uid.ensures.value
+          (λ elements spelled are. put_failed _ _ _ c.write_head.result (sym c.if-is_err.ensures.value) (c.write_head.ensures.bytes elements spelled are)) refl;
+    }
 
 pub returns-clause-opens : goal.returns-clause-opens
 returns-clause-opens g c =
     let head = c.in-Ok.ensures.read in
     record {
-      reading = c.read_head_of.new.meta;
-      uid = c.target_uid.result.now;
-      head = record { read = head.read; given = head.given; begins = head.outcome; named = c.coding.result; end_is = c.coding.ensures; coding_is = c.read_by-coding.ensures; start_is = c.set_start-start.ensures.place };
-      keeps = sym (c.if-refuses_change.ensures c.args.dictionary);
-      uid_is = c.target_uid.ensures.value;
-      written = λ elements spelled are. put_whole _ _ _ c.write_head.result (sym c.if-is_err.ensures.value) (c.write_head.ensures.bytes elements spelled are);
+      read = head.read;
+      how = head.how;
+      reads = head.reads;
+      opens = record {
+        reading = c.read_head_of.new.meta;
+        uid = c.target_uid.result.now;
+        head = record { begins = head.outcome; named = c.coding.result; end_is = c.coding.ensures; coding_is = c.read_by-coding.ensures; start_is = c.set_start-start.ensures.place };
+        keeps = sym (c.if-refuses_change.ensures c.args.dictionary);
+        uid_is = c.target_uid.ensures.value;
+        written = λ elements spelled are. put_whole _ _ _ c.write_head.result (sym c.if-is_err.ensures.value) (c.write_head.ensures.bytes elements spelled are);
+      };
     }
