@@ -357,7 +357,8 @@ def is_untouched(run, ended):
 
 def wrong_refusal(run, ended, pattern):
     """Of a fault that has to end with one of these lines and its status, and with nothing written."""
-    if ended.status != (5 if ended.stderr == NO_MEMORY else 4):
+    due = (4, 5) if hides_errors(run, ended) else (5 if ended.stderr == NO_MEMORY else 4,)
+    if ended.status not in due:
         return f"status {ended.status} after {pattern.decode()} was due"
     if not hides_errors(run, ended) and not re.fullmatch(rb"dcmtools: (%s)\n" % pattern, ended.stderr):
         return f"{ended.stderr!r} in place of {pattern.decode()}"

@@ -12,6 +12,7 @@ use Rattle.dcm_cli.specs.Answer.{Answer, Answers}
 use Rattle.dcm_cli.specs.InMemory.{LeavesAnswer}
 use Rattle.dcm_cli.specs.Run.{Ran, as_answered, not_read, not_written, not_flushed, Devices}
 use Rattle.dcm_cli.specs.ErrorLines.{Tries}
+use Rattle.dcm_cli.proofs.Passes.Readers.{known}
 use Rattle.dcm_cli.specs.Program.{Errors, Reports, Telling, HasRun, PutsText, put, not_put, not_flushed as text_not_flushed}
 use Rattle.dcm_cli.proofs.Runs.OneAnswer.{one_answer}
 
@@ -115,7 +116,9 @@ memory_errors errors new_errors = record {
 pub ran_left : (job : Job) (i : MemIn) (o : Measured) (input : MemIn) (output : Measured) (errors new_errors : MemOut) (status : ℕ) → HasRun memory_telling job (memory_errors errors new_errors) i o input output status
     → o.out.failed ≡ false → (a : Answer) → Answers job i.rest.now a → length a.output ≤ room_of o.out → LeavesAnswer a o.out output.out errors new_errors status
 ran_left job i o input output errors new_errors status has_run fine a answers enough =
-    memory_left job i.rest.now (Some input.rest.now) o.out output.out errors new_errors status (has_run.ran i.rest.now refl refl fine) a answers enough
+    let here = known _ _ _ _ has_run.given has_run.how has_run.reads i.rest.now refl in
+    memory_left job has_run.given here.0 o.out output.out errors new_errors status (has_run.ran here.0 here.1 refl fine) a
+    (subst (λ (bytes : List ℕ). Answers job bytes a) here.2 answers) enough
 
 -- a text was written where there was room for it
 pub text_left : (out new_out : MemOut) (e : Errors) (text : List ℕ) (status : ℕ)

@@ -30,7 +30,11 @@ fn left_by(rt: HostRuntime, words: &[&[u8]], bytes: &[u8]) -> Result<Left, Fail>
         number,
         bytes,
     };
-    let files = [named(b"a", 1, bytes), named(b"link", 1, bytes), named(b"other", 2, b"")];
+    let files = [
+        named(b"a", 1, bytes),
+        named(b"link", 1, bytes),
+        named(b"other", 2, b""),
+    ];
     let system = MemSystem::new(&files, bytes, MemOut::new(room(rt, 1000)?));
     let errors = MemOut::new(room(rt, 200)?);
     let obeyed = obey_in_memory(rt.alloc(), words, system, errors);
@@ -134,7 +138,12 @@ fn expect_cases(rt: HostRuntime, abort: &impl Abort, cases: &[Case]) -> Result<(
         };
         expect_answer(abort, "words over files", &left.answer, wanted);
         let is_closed = case.output.is_some();
-        holds(abort, "words over files", "closed", left.is_closed == is_closed);
+        holds(
+            abort,
+            "words over files",
+            "closed",
+            left.is_closed == is_closed,
+        );
     }
     Ok(())
 }
