@@ -23,8 +23,8 @@ returns-clause-worked c = λ p meant_is input_is output_is input_text output_tex
         left = subst (λ (m : MemOut). LeavesAnswer a m x.output.out c.args.errors c.into_inner.result status) x.output_is
             (subst (λ (m : MemOut). LeavesAnswer a x.o.out x.output.out m c.into_inner.result status) old_errors
             (subst (λ (m : MemOut). LeavesAnswer a x.o.out x.output.out c.new-errors.result.out m status) new_errors
-            (memory_left p.job x.run.given here.0 x.o.out x.output.out c.new-errors.result.out c.obey-status.new.errors.out status
-            (x.run.ran here.0 here.1 refl (ap (λ (m : MemOut). m.failed) x.output_is ∙ fine)) a
+            (memory_left p.job x.run.given here.0 x.run.how here.1 x.o.out x.output.out c.new-errors.result.out c.obey-status.new.errors.out status
+            (x.run.ran refl (ap (λ (m : MemOut). m.failed) x.output_is ∙ fine)) a
             (subst (λ (bs : List ℕ). Answers p.job bs a) (sym x.input_is ∙ here.2) answers)
             (subst (λ (m : MemOut). length a.output ≤ room_of m) (sym x.output_is) enough))));
       })
