@@ -12,3 +12,4 @@ pub mod Lines
 pub mod Files
 pub mod Opens
 pub mod EditPasses
+pub mod Decided

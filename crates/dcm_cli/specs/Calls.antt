@@ -37,16 +37,17 @@ pub record Works {R W : Type 0} (r : Reader R) (w : Writer W) (job : Job) (old n
   pub reads : ReadsInput r (IsUndecided job) old given how new
   pub worked : (rest : List ℕ) → Allows how rest
       → run.Worked job (given ++ rest) (Some rest) (w.contents held) (w.contents holds) ending
+  pub decided : run.IsDecided job given how ending
 
--- a run of a job: the calls that it made of its input, none once the answer was decided; and what it left, whatever the
--- input may hold after the bytes that they gave, where neither device had failed
+-- a run of a job: the calls that it made of its input, none once the answer was decided; and what it left, where neither
+-- device had failed
 pub record Runs {R W E : Type 0} (r : Reader R) (w : Writer W) (e : Writer E) (job : Job) (old new : R) (held holds : W)
     (told tells : E) (status : ℕ) : Type 0 where
   pub given : List ℕ
   pub how : How
   pub reads : ReadsInput r (IsUndecided job) old given how new
-  pub ran : (rest : List ℕ) → Allows how rest → r.has_failed old ≡ false → w.has_failed held ≡ false
-      → run.Ran job given rest (record {
+  pub ran : r.has_failed old ≡ false → w.has_failed held ≡ false
+      → run.Ran job given how (record {
         held = w.contents held;
         holds = w.contents holds;
         room = w.room holds;

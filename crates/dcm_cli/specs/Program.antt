@@ -19,7 +19,7 @@ use Rattle.dcm_base.specs.Outputs.{Writer}
 use Rattle.dcm_cli.specs.Calls.{Reader}
 use Rattle.dcm_files.specs.Devices.{MayDo, IsCause, OpensDevices}
 use Rattle.dcm_cli.specs.Run.{Ran}
-use Rattle.dcm_cli.specs.InputCalls.{How, Allows, ReadsInput, IsUndecided}
+use Rattle.dcm_cli.specs.InputCalls.{How, ReadsInput, IsUndecided}
 use Rattle.dcm_cli.specs.ErrorLines.{Tries, usage_line, usage_status, open_line, same_line, output_line}
 
 -- what standard error holds before and after, where it tells that, and whether it has failed
@@ -54,14 +54,14 @@ pub record Telling (I O : Type 0) : Type 1 where
   pub is_flushed : O → Bool
 
 -- a job was run over these devices, and left them so: the calls that it made of its input, none once the answer was
--- decided; and what it left, whatever the input may hold after the bytes that they gave, where neither device had failed
+-- decided; and what it left, where neither device had failed
 pub record HasRun {I O : Type 0} (t : Telling I O) (job : Job) (e : Errors) (i : I) (o : O) (input : I) (output : O) (status : ℕ) : Type 0 where
   pub given : List ℕ
   pub how : How
   pub reads : ReadsInput (record { has_failed = t.unread; remaining = t.remaining; gets = t.gets }) (IsUndecided job)
       i given how input
-  pub ran : (rest : List ℕ) → Allows how rest → t.unread i ≡ false → t.unwritten o ≡ false
-      → Ran job given rest (record {
+  pub ran : t.unread i ≡ false → t.unwritten o ≡ false
+      → Ran job given how (record {
         held = t.contents o;
         holds = t.contents output;
         room = t.room output;

@@ -15,6 +15,7 @@ use Rattle.dcm_cli.specs.declared.ending.Ending.TheVariants.{Unread, Output}
 use Rattle.dcm_cli.specs.declared.ending.Verdict.{Verdict}
 use Rattle.dcm_cli.specs.declared.ending.Verdict.TheVariants.{Done, Refused, RefusedLine}
 use Rattle.dcm_cli.specs.Answer.{Answer, Source, unopened, file, alone, InputReads, output_of, edits_of, building_line, Answers, Sure}
+use Rattle.dcm_cli.specs.InputCalls.{How, Allows}
 use Rattle.dcm_cli.specs.ErrorLines.{Tries, fault_line, unread_line, output_line, mask_lines}
 
 -- the edits of a job are those that some words mean
@@ -74,6 +75,15 @@ pub data Worked (job : Job) (input : List ℕ) (left held holds : Option (List �
   -- the output failed
   could_not_write : (out : List ℕ) (verdict : Verdict) → Answered job input out verdict → ending ≡ Output → AppendsFront held holds out → Worked job input left held holds ending
 
+-- one output and one verdict are those of all inputs that begin with these bytes and may go on so
+abbrev pub AnsweredAll : Job → (given : List ℕ) → How → (out : List ℕ) → Verdict → Type 0
+AnsweredAll job given how out verdict = (rest : List ℕ) → Allows how rest → Answered job (given ++ rest) out verdict
+
+-- where no device failed, there is such an output
+abbrev pub IsDecided : Job → (given : List ℕ) → How → Ending → Type 0
+IsDecided job given how ending =
+    (verdict : Verdict) → ending ≡ endings.Worked verdict → (out : List ℕ) × AnsweredAll job given how out verdict
+
 -- the output is flushed: it fails there just where it is then told, and only where its writer does not tell its room
 abbrev pub FlushedAs : Ending → Ending → (old new : Bool) → (room : Option ℕ) → Type 0
 FlushedAs (endings.Worked verdict) after old new room = ((after ≡ endings.Worked verdict) × (new ≡ old)) ⊎ ((after ≡ Output) × (new ≡ true) × (room ≡ None))
@@ -125,21 +135,26 @@ pub record Devices : Type 0 where
   pub untold_before : Bool
   pub untold : Bool
 
--- where no device had failed, of an input that gave bytes and may have held others after them
-pub data Ran (job : Job) (given rest : List ℕ) (d : Devices) (status : ℕ) : Type 0 where
+-- this is the answer of all inputs that begin with these bytes and may go on so
+abbrev pub AnswersAll : Job → (given : List ℕ) → How → Answer → Type 0
+AnswersAll job given how a = (rest : List ℕ) → Allows how rest → Answers job (given ++ rest) a
+
+-- where no device had failed, of an input that gave these bytes, read so
+pub data Ran (job : Job) (given : List ℕ) (how : How) (d : Devices) (status : ℕ) : Type 0 where
   -- no device failed: just the output, the lines and the status of the answer
-  as_answered : (a : Answer) → Answers job (given ++ rest) a → d.unread ≡ false → d.unwritten ≡ false
+  as_answered : (a : Answer) → AnswersAll job given how a → d.unread ≡ false → d.unwritten ≡ false
       → d.holds ≡ append_known d.held a.output → Tries d.told d.tells d.untold_before d.untold a.told
-      → status ≡ a.status → Ran job given rest d status
-  -- reading failed after the bytes that were given: exactly what is sure of them was written
+      → status ≡ a.status → Ran job given how d status
+  -- reading failed after these bytes: exactly what is sure of them was written
   not_read : (out : List ℕ) → d.unread ≡ true → Sure job given out
       → d.holds ≡ append_known d.held out → Tries d.told d.tells d.untold_before d.untold (unread_line (length given))
-      → status ≡ 4 → Ran job given rest d status
-  -- the output failed: a beginning of it was written, and not all of it
-  not_written : (a : Answer) → Answers job (given ++ rest) a → d.unread ≡ false → d.unwritten ≡ true
-      → AppendsFront d.held d.holds a.output → Tries d.told d.tells d.untold_before d.untold output_line
-      → status ≡ 4 → Ran job given rest d status
+      → status ≡ 4 → Ran job given how d status
+  -- the output failed: a beginning of it was written, and not all of it, whatever follows these bytes
+  not_written : ((rest : List ℕ) → Allows how rest
+      → (a : Answer) × Answers job (given ++ rest) a × AppendsFront d.held d.holds a.output)
+      → d.unread ≡ false → d.unwritten ≡ true → Tries d.told d.tells d.untold_before d.untold output_line
+      → status ≡ 4 → Ran job given how d status
   -- all of it was written, and then it was not flushed
-  not_flushed : (a : Answer) → Answers job (given ++ rest) a → d.unread ≡ false → d.unwritten ≡ true → d.room ≡ None
+  not_flushed : (a : Answer) → AnswersAll job given how a → d.unread ≡ false → d.unwritten ≡ true → d.room ≡ None
       → d.holds ≡ append_known d.held a.output → Tries d.told d.tells d.untold_before d.untold output_line
-      → status ≡ 4 → Ran job given rest d status
+      → status ≡ 4 → Ran job given how d status

@@ -32,7 +32,7 @@ module _ (d : Dictionary) (mode : Mode) (bare : Syntax) (file : List ℕ) (left 
   abbrev header : List ℕ
   header = set_header (uid_of_syntax s)
 
-  read_as : (f : Front) (stop : Stop) → Reads no_bar s 0 file f stop → Answered (dump d mode (Some bare)) file (header ++ dump_front d mode 0 f) (verdict_of_stop stop)
+  pub read_as : (f : Front) (stop : Stop) → Reads no_bar s 0 file f stop → Answered (dump d mode (Some bare)) file (header ++ dump_front d mode 0 f) (verdict_of_stop stop)
   read_as f stop reads = record { source = alone s f stop; reads = record { set = f; stop = stop; reads = reads; source_is = refl }; out_is = refl; verdict_is = no_edits (dump d mode (Some bare)) refl f stop }
 
   pub alone_unheaded : (holds : Option (List ℕ)) → AppendsFront held holds header → Worked (dump d mode (Some bare)) file left held holds Output

@@ -49,7 +49,7 @@ reads_file (convert d target) = true
 reads_file (build limit) = false
 reads_file (modify d edits) = true
 
-file_answered : (job : Job) → reads_file job ≡ true → (bytes : List ℕ) (source : Source) → FileReads job bytes source → Answered job bytes (output_of job source) (verdict_of_source job source)
+pub file_answered : (job : Job) → reads_file job ≡ true → (bytes : List ℕ) (source : Source) → FileReads job bytes source → Answered job bytes (output_of job source) (verdict_of_source job source)
 file_answered (dump d mode None) is bytes source reads = record { source = source; reads = reads; out_is = refl; verdict_is = refl }
 file_answered (dump d mode (Some syntax)) is bytes source reads = cc
 file_answered (convert d target) is bytes source reads = record { source = source; reads = reads; out_is = refl; verdict_is = refl }
@@ -98,22 +98,30 @@ finished_at : (r : Reading) (how : How) (read rest : List ℕ) → Allows how re
 finished_at r how read rest ok over e =
     ap (λ (bs : List ℕ). meta_finished (head_read (read ++ bs))) (nothing_follows how rest ok over) ∙ ap (λ (bs : List ℕ). meta_finished (head_read bs)) (append-nil read) ∙ sym e
 
+-- its head is at fault
+pub unopened_answered : (job : Job) → reads_file job ≡ true → (r : Reading) (read rest : List ℕ) (how : How) (stop : HaltStop) → Allows how rest → FailsHead r how read (heads.Refused stop) → Answered job (read ++ rest) [] (Refused stop)
+unopened_answered job is_file r read rest how stop ok f =
+    let said = not_opened r (read ++ rest) stop (by_finish f.1) f.0 in
+    file_answered job is_file (read ++ rest) (unopened stop.fault stop.at) (was_not_opened stop.fault stop.at said refl)
+  where
+    by_finish : (r ≡ head_read read) ⊎ ((how ≡ to_end) × (r ≡ meta_finished (head_read read))) → meta_finished (head_read (read ++ rest)) ≡ r
+    by_finish (inl e) = finished_over r read rest (meta_end.Refused stop) f.0 e
+    by_finish (inr x) = finished_at r how read rest ok x.0 x.1
+
 pub file_unopened : (job : Job) → reads_file job ≡ true → (held : Option (List ℕ)) (r : Reading) (read rest : List ℕ) (how : How) (ending : HeadEnding) → Allows how rest
     → FailsHead r how read ending → Worked job (read ++ rest) (Some rest) held held (ending_of_head ending)
 file_unopened job is_file held r read rest how ending ok fails = by_ending ending fails
   where
-    by_finish : (stop : HaltStop) → r.end ≡ Some (meta_end.Refused stop) → (r ≡ head_read read) ⊎ ((how ≡ to_end) × (r ≡ meta_finished (head_read read))) → meta_finished (head_read (read ++ rest)) ≡ r
-    by_finish stop h (inl e) = finished_over r read rest (meta_end.Refused stop) h e
-    by_finish stop h (inr x) = finished_at r how read rest ok x.0 x.1
-
     by_ending : (ending : HeadEnding) → FailsHead r how read ending → Worked job (read ++ rest) (Some rest) held held (ending_of_head ending)
-    by_ending (heads.Refused stop) f =
-        let said = not_opened r (read ++ rest) stop (by_finish stop f.0 f.1) f.0 in
-        let reads = was_not_opened stop.fault stop.at said refl in
-        answered [] (Refused stop) (file_answered job is_file (read ++ rest) (unopened stop.fault stop.at) reads) refl (sym (append_known_none held))
+    by_ending (heads.Refused stop) f = answered [] (Refused stop) (unopened_answered job is_file r read rest how stop ok f) refl (sym (append_known_none held))
     by_ending (heads.Unread count) f =
         let still = goes_on_still read (ap (λ (x : Reading). x.end) (sym f.0) ∙ f.1) in
         could_not_read read rest [] refl refl (file_sure job is_file read [] (before_set still.0 still.1 still.2 refl)) (ap Unread f.2) (sym (append_known_none held))
+
+-- or cannot be changed
+pub unchanged_answered : (job : Job) → reads_file job ≡ true → (file : List ℕ) (r : Reading) (o : Opened (job_dictionary job) r file) → refuses_change job o.coding ≡ true
+    → Answered job file [] (Refused (record { fault = CannotChange; at = 132 + length o.group }))
+unchanged_answered job is_file file r o refuses = file_answered job is_file file (unopened CannotChange (132 + length o.group)) (not_changed o.m o.group o.coding o.reads refuses refl)
 
 -- ---- a head that was read
 by_reading : (r : Reading) (b : Beginning) (buffer : List ℕ) (how : How) (read rest : List ℕ) → Allows how rest → Begins r b buffer how read

@@ -18,9 +18,10 @@ use Rattle.dcm_build.proofs.Files.Runs.{whole, so_far, refused}
 use Rattle.dcm_cli.specs.declared.ending.Ending.TheVariants as endings
 use Rattle.dcm_cli.specs.declared.ending.Ending.TheVariants.{Unread, Output}
 use Rattle.dcm_cli.specs.Answer.{LinesSure}
-use Rattle.dcm_cli.specs.InputCalls.{IsUndecided}
+use Rattle.dcm_cli.specs.InputCalls.{in_part, IsUndecided}
 use Rattle.dcm_cli.specs.Lines.{ending_of, EndsLines}
-use Rattle.dcm_cli.specs.Run.{Worked, answered, could_not_read, could_not_write, verdict_of_told}
+use Rattle.dcm_cli.specs.Run.{IsDecided, Worked, answered, could_not_read, could_not_write, verdict_of_told}
+use Rattle.dcm_cli.proofs.Passes.Decided.{decided_as, decided_output}
 
 -- ---- the file
 
@@ -119,6 +120,18 @@ module _ (limit : ℕ) (held : Option (List ℕ)) (s : BuildState) (mid : Option
             verdict_is = ap verdict_of_told (sym stays.told_is ∙ ap (λ (bs : List ℕ). (build.built limit bs).told) (sym is));
           })
           x.3 w.1
+
+  -- which is for all that may follow
+  pub built_decided : (h : BuildHalt) → Err h ≡ answer p.state.told p.failed → IsDecided (building limit) (front ++ piece) in_part (ending_of (Err h))
+  built_decided h e = by_halt (halt_is p.state.told p.failed h e)
+    where
+      by_halt : ((p.failed ≡ true) × (h ≡ halts.Output)) ⊎ ((p.failed ≡ false) × (t : LineStop) × (p.state.told ≡ Some t) × (ending_of (Err h) ≡ endings.Worked (verdict_of_told (Some t)))) → IsDecided (building limit) (front ++ piece) in_part (ending_of (Err h))
+      by_halt (inl x) = decided_output (building limit) (front ++ piece) in_part (ending_of (Err h)) (ap (λ (z : BuildHalt). ending_of (Err z)) x.1)
+      by_halt (inr x) =
+          let w = subst (λ (f : Bool). Goes build_step build_writes (build_start limit) held p.state holds (front ++ piece) (well f)) x.0 went in
+          decided_as (building limit) (front ++ piece) in_part (ending_of (Err h)) (verdict_of_told (Some x.1)) (written limit (front ++ piece)) x.3
+          (λ rest ok. let stays = refused limit (front ++ piece) rest x.1 (ap (λ (z : BuildState). z.told) (sym w.0) ∙ x.2) in
+          record { out_is = stays.file; verdict_is = ap verdict_of_told (sym stays.told_is) })
 
 module _ (limit : ℕ) (file read : List ℕ) (left held : Option (List ℕ)) (s : BuildState) (mid : Option (List ℕ)) (at : s ≡ state limit read) (out : mid ≡ append_known held (written limit read)) where
   -- reading fails

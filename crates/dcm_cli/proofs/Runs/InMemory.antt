@@ -10,6 +10,7 @@ use Rattle.dcm_devices.specs.declared.memory.Measured.{Measured}
 use Rattle.dcm_words.specs.Words.{Job}
 use Rattle.dcm_cli.specs.Answer.{Answer, Answers}
 use Rattle.dcm_cli.specs.InMemory.{LeavesAnswer}
+use Rattle.dcm_cli.specs.InputCalls.{How, Allows}
 use Rattle.dcm_cli.specs.Run.{Ran, as_answered, not_read, not_written, not_flushed, Devices}
 use Rattle.dcm_cli.specs.ErrorLines.{Tries}
 use Rattle.dcm_cli.proofs.Passes.Readers.{known}
@@ -46,14 +47,14 @@ record Left (a : Answer) (before after : List ℕ) (line_room : ℕ) (told tells
   lines : length a.told ≤ line_room → tells ≡ told ++ a.told
   status_is : status ≡ a.status
 
-module _ (job : Job) (given rest : List ℕ) (size now : ℕ) (before after : List ℕ) (line_size line_now : ℕ) (told tells : List ℕ) (room : ℕ) (unwritten untold_before untold : Bool) (status : ℕ)
+module _ (job : Job) (given rest : List ℕ) (how : How) (ok : Allows how rest) (size now : ℕ) (before after : List ℕ) (line_size line_now : ℕ) (told tells : List ℕ) (room : ℕ) (unwritten untold_before untold : Bool) (status : ℕ)
     (filled : unwritten ≡ true → length after ≡ now) (line_filled : untold ≡ true → length tells ≡ line_now) where
   abbrev sized_devices : Devices
   sized_devices = record { held = sized size before; holds = sized now after; room = Some room; told = sized line_size told; tells = sized line_now tells; unread = false; unwritten = unwritten; untold_before = untold_before; untold = untold }
 
-  left_answered : Ran job given rest sized_devices status → (a : Answer) → Answers job (given ++ rest) a → length a.output ≤ size - length before → Left a before after (line_size - length told) told tells status
-  left_answered (as_answered b is read fine holds lines status_was) a answers enough =
-      let same : b ≡ a = one_answer job (given ++ rest) b a is answers in
+  left_answered : Ran job given how sized_devices status → (a : Answer) → Answers job (given ++ rest) a → length a.output ≤ size - length before → Left a before after (line_size - length told) told tells status
+  left_answered (as_answered b all read fine holds lines status_was) a answers enough =
+      let same : b ≡ a = one_answer job (given ++ rest) b a (all rest ok) answers in
       record {
         output = grew size now before after b.output holds ∙ ap (λ (x : Answer). before ++ x.output) same;
         lines = λ most.
@@ -62,11 +63,12 @@ module _ (job : Job) (given rest : List ℕ) (size now : ℕ) (before after : Li
         status_is = status_was ∙ ap (λ (x : Answer). x.status) same;
       }
   left_answered (not_read out unread sure holds lines status_was) a answers enough = absurd (cc)
-  left_answered (not_written b is read failed front lines status_was) a answers enough =
-      let same : b ≡ a = one_answer job (given ++ rest) b a is answers in
+  left_answered (not_written each read failed lines status_was) a answers enough =
+      let b = each rest ok in
+      let same : b.0 ≡ a = one_answer job (given ++ rest) b.0 a b.1 answers in
       let is_long = ap (λ (x : Answer). length x.output) same in
-      absurd (full size now before after b.output front (filled failed) (omega (arith, is_long, enough)))
-  left_answered (not_flushed b is read failed none holds lines status_was) a answers enough = absurd (cc)
+      absurd (full size now before after b.0.output b.2 (filled failed) (omega (arith, is_long, enough)))
+  left_answered (not_flushed b all read failed none holds lines status_was) a answers enough = absurd (cc)
 
 -- as many bytes as were put
 taken : (m : MemOut) → length (written m) ≡ m.at
@@ -75,13 +77,13 @@ taken m = length-take-le m.at m.bytes.items (subst (λ (n : ℕ). m.at ≤ n) m.
 filled : (m : MemOut) → m.failed ≡ true → length (written m) ≡ size m
 filled m failed = taken m ∙ m.full failed
 
-module _ (job : Job) (given rest : List ℕ) (out new_out errors new_errors : MemOut) (status : ℕ) where
+module _ (job : Job) (given rest : List ℕ) (how : How) (ok : Allows how rest) (out new_out errors new_errors : MemOut) (status : ℕ) where
   abbrev devices : Devices
   devices = record { held = sized (size out) (written out); holds = sized (size new_out) (written new_out); room = Some (room_of new_out); told = sized (size errors) (written errors); tells = sized (size new_errors) (written new_errors); unread = false; unwritten = new_out.failed; untold_before = errors.failed; untold = new_errors.failed }
 
-  pub memory_left : Ran job given rest devices status → (a : Answer) → Answers job (given ++ rest) a → length a.output ≤ room_of out → LeavesAnswer a out new_out errors new_errors status
+  pub memory_left : Ran job given how devices status → (a : Answer) → Answers job (given ++ rest) a → length a.output ≤ room_of out → LeavesAnswer a out new_out errors new_errors status
   memory_left ran a answers enough =
-      let l = left_answered job given rest (size out) (size new_out) (written out) (written new_out) (size errors) (size new_errors) (written errors) (written new_errors) (room_of new_out) new_out.failed errors.failed new_errors.failed status
+      let l = left_answered job given rest how ok (size out) (size new_out) (written out) (written new_out) (size errors) (size new_errors) (written errors) (written new_errors) (room_of new_out) new_out.failed errors.failed new_errors.failed status
       (filled new_out) (filled new_errors) ran a answers (let at = taken out in omega (arith, at, enough))
       in
       record { output = l.output; told = λ most. l.lines (let at = taken errors in omega (arith, at, most)); status_is = l.status_is }
@@ -117,7 +119,7 @@ pub ran_left : (job : Job) (i : MemIn) (o : Measured) (input : MemIn) (output : 
     → o.out.failed ≡ false → (a : Answer) → Answers job i.rest.now a → length a.output ≤ room_of o.out → LeavesAnswer a o.out output.out errors new_errors status
 ran_left job i o input output errors new_errors status has_run fine a answers enough =
     let here = known _ _ _ _ has_run.given has_run.how has_run.reads i.rest.now refl in
-    memory_left job has_run.given here.0 o.out output.out errors new_errors status (has_run.ran here.0 here.1 refl fine) a
+    memory_left job has_run.given here.0 has_run.how here.1 o.out output.out errors new_errors status (has_run.ran refl fine) a
     (subst (λ (bytes : List ℕ). Answers job bytes a) here.2 answers) enough
 
 -- a text was written where there was room for it

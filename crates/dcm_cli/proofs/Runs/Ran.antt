@@ -19,10 +19,13 @@ use Rattle.dcm_cli.specs.declared.ending.Verdict.{Verdict}
 use Rattle.dcm_cli.specs.declared.ending.Verdict.TheVariants.{Done, RefusedLine}
 use Rattle.dcm_cli.specs.Answer.{Answer, Answers, Sure, Source, unopened, file, alone, ReadAnswers, answer, building_line, output_of, edits_of, stop_line, stop_status}
 use Rattle.dcm_cli.specs.Pass.{TellsUnread, TellsOutput}
-use Rattle.dcm_cli.specs.Run.{IsMeant, Answered, ReadEnds, BuildEnds, Worked, answered, could_not_read, could_not_write, FlushedAs, verdict_at, verdict_of_source, verdict_of_told, unplaced_mask, verdict_lines, verdict_status, ending_lines, ending_status, Ran, as_answered, not_read, not_written, not_flushed, Devices}
+use Rattle.dcm_cli.specs.InputCalls.{How, Allows}
+use Rattle.dcm_cli.specs.Run.{AnsweredAll, AnswersAll, IsDecided, IsMeant, Answered, ReadEnds, BuildEnds, Worked, answered, could_not_read, could_not_write, FlushedAs, verdict_at, verdict_of_source, verdict_of_told, unplaced_mask, verdict_lines, verdict_status, ending_lines, ending_status, Ran, as_answered, not_read, not_written, not_flushed, Devices}
 use Rattle.dcm_cli.specs.ErrorLines.{Tries}
 use Rattle.dcm_words.specs.Plans.{job_of}
 use Rattle.dcm_cli.proofs.Passes.MakesEdits.{are_few}
+use Rattle.dcm_cli.proofs.Passes.Readers.{allows_nothing}
+use Rattle.dcm_cli.proofs.Runs.OneAnswer.{one_answer}
 use Rattle.dcm_cli.proofs.Lines.Unplaced.{no_lines, lines_of_mask, status_of_mask, few_without, few_edits}
 
 -- the answer of an input that was read
@@ -117,7 +120,10 @@ one_front before p rest left whole at =
     let same : left ≡ rest = cc in
     append_cancel_right p before rest (ap (λ (bytes : List ℕ). p ++ bytes) (sym same) ∙ sym whole)
 
-module _ {A : Type 0} (job : RunJob A) (meant : IsMeant (job_of job)) (before rest : List ℕ) (held worked holds told tells : Option (List ℕ)) (room : Option ℕ) (r_old r_new w_old w_mid w_new e_old e_new : Bool) (ending after : Ending) (status : ℕ)
+same_answer : (a b : Answer) → a.output ≡ b.output → a.told ≡ b.told → a.status ≡ b.status → a ≡ b
+same_answer a b output told status = λ i. record { output = output i; told = told i; status = status i }
+
+module _ {A : Type 0} (job : RunJob A) (meant : IsMeant (job_of job)) (before : List ℕ) (how : How) (held worked holds told tells : Option (List ℕ)) (room : Option ℕ) (r_old r_new w_old w_mid w_new e_old e_new : Bool) (ending after : Ending) (status : ℕ)
     (kept : holds ≡ worked) (flushed : FlushedAs ending after w_mid w_new room) (unread : TellsUnread r_old r_new ending) (failed : TellsOutput w_old w_mid ending)
     (line : Tries told tells e_old e_new (ending_lines after)) (status_was : status ≡ ending_status after) (readable : r_old ≡ false) (writable : w_old ≡ false) where
   abbrev devices : Devices
@@ -129,30 +135,52 @@ module _ {A : Type 0} (job : RunJob A) (meant : IsMeant (job_of job)) (before re
   status_of : (x : Ending) → after ≡ x → status ≡ ending_status x
   status_of x is = status_was ∙ ap ending_status is
 
-  after_answer : (out : List ℕ) (verdict : Verdict) (k : Given (job_of job) (before ++ rest) out verdict) → ending ≡ endings.Worked verdict → worked ≡ append_known held out → Ran (job_of job) before rest devices status
-  after_answer out verdict k is grown = by_flush (subst (λ (x : Ending). FlushedAs x after w_mid w_new room) is flushed)
+  after_answer : (out : List ℕ) (verdict : Verdict) → AnsweredAll (job_of job) before how out verdict → ending ≡ endings.Worked verdict → worked ≡ append_known held out → Ran (job_of job) before how devices status
+  after_answer out verdict all is grown = by_flush (subst (λ (x : Ending). FlushedAs x after w_mid w_new room) is flushed)
     where
+      k : Given (job_of job) (before ++ []) out verdict
+      k = given job meant (before ++ []) out verdict (all [] (allows_nothing how))
+
+      answers : AnswersAll (job_of job) before how k.a
+      answers rest ok =
+          let other = given job meant (before ++ rest) out verdict (all rest ok) in
+          subst (Answers (job_of job) (before ++ rest)) (same_answer other.a k.a (sym other.output_is ∙ k.output_is) (sym other.told_is ∙ k.told_is) (sym other.status_is ∙ k.status_is)) other.answers
+
       read : r_new ≡ false
       read = subst (λ (x : Ending). TellsUnread r_old r_new x) is unread ∙ readable
 
-      by_flush : ((after ≡ endings.Worked verdict) × (w_new ≡ w_mid)) ⊎ ((after ≡ Output) × (w_new ≡ true) × (room ≡ None)) → Ran (job_of job) before rest devices status
+      by_flush : ((after ≡ endings.Worked verdict) × (w_new ≡ w_mid)) ⊎ ((after ≡ Output) × (w_new ≡ true) × (room ≡ None)) → Ran (job_of job) before how devices status
       by_flush (inl x) =
-          as_answered k.a k.answers read (x.1 ∙ subst (λ (x : Ending). TellsOutput w_old w_mid x) is failed ∙ writable)
+          as_answered k.a answers read (x.1 ∙ subst (λ (x : Ending). TellsOutput w_old w_mid x) is failed ∙ writable)
           (kept ∙ grown ∙ ap (append_known held) k.output_is) (subst (Tries told tells e_old e_new) k.told_is (told_of (endings.Worked verdict) x.0)) (status_of (endings.Worked verdict) x.0 ∙ k.status_is)
       by_flush (inr x) =
-          not_flushed k.a k.answers read x.1 x.2 (kept ∙ grown ∙ ap (append_known held) k.output_is) (told_of Output x.0) (status_of Output x.0)
+          not_flushed k.a answers read x.1 x.2 (kept ∙ grown ∙ ap (append_known held) k.output_is) (told_of Output x.0) (status_of Output x.0)
 
-  pub run_ran : Worked (job_of job) (before ++ rest) (Some rest) held worked ending → Ran (job_of job) before rest devices status
-  run_ran (answered out verdict was is grown) = after_answer out verdict (given job meant (before ++ rest) out verdict was) is grown
-  run_ran (could_not_read p left out whole at sure is grown) =
-      let same : p ≡ before = one_front before p rest left whole at in
-      let here : after ≡ Unread (length before) = subst (λ (x : Ending). FlushedAs x after w_mid w_new room) is flushed ∙ ap (λ (bytes : List ℕ). Unread (length bytes)) same in
-      not_read out (subst (λ (x : Ending). TellsUnread r_old r_new x) is unread) (subst (λ (bytes : List ℕ). Sure (job_of job) bytes out) same sure) (kept ∙ grown)
-      (told_of (Unread (length before)) here) (status_of (Unread (length before)) here)
-  run_ran (could_not_write out verdict was is grown) =
+  -- the output had failed, whatever follows
+  unwritten_for : (rest : List ℕ) → ending ≡ Output → Worked (job_of job) (before ++ rest) (Some rest) held worked ending → (a : Answer) × Answers (job_of job) (before ++ rest) a × AppendsFront held holds a.output
+  unwritten_for rest is (answered out verdict was e grown) = absurd (let no : Output ≡ endings.Worked verdict = sym is ∙ e in cc)
+  unwritten_for rest is (could_not_read p left out whole at sure e grown) = absurd (let no : Output ≡ Unread (length p) = sym is ∙ e in cc)
+  unwritten_for rest is (could_not_write out verdict was e grown) =
       let k = given job meant (before ++ rest) out verdict was in
-      let still : (after ≡ Output) × (w_new ≡ w_mid) = subst (λ (x : Ending). FlushedAs x after w_mid w_new room) is flushed in
-      not_written k.a k.answers (subst (λ (x : Ending). TellsUnread r_old r_new x) is unread ∙ readable)
-      (still.1 ∙ subst (λ (x : Ending). TellsOutput w_old w_mid x) is failed)
-      (subst (λ (known : Option (List ℕ)). AppendsFront held known k.a.output) (sym kept) (subst (AppendsFront held worked) k.output_is grown))
-      (told_of Output still.0) (status_of Output still.0)
+      (k.a, k.answers, subst (λ (known : Option (List ℕ)). AppendsFront held known k.a.output) (sym kept) (subst (AppendsFront held worked) k.output_is grown))
+
+  pub run_ran : ((rest : List ℕ) → Allows how rest → Worked (job_of job) (before ++ rest) (Some rest) held worked ending) → IsDecided (job_of job) before how ending → Ran (job_of job) before how devices status
+  run_ran works decided = by_first (works [] (allows_nothing how))
+    where
+      by_first : Worked (job_of job) (before ++ []) (Some []) held worked ending → Ran (job_of job) before how devices status
+      by_first (answered out verdict was is grown) =
+          let all = decided verdict is in
+          let one = given job meant (before ++ []) all.0 verdict (all.1 [] (allows_nothing how)) in
+          let other = given job meant (before ++ []) out verdict was in
+          let same : out ≡ all.0 = other.output_is ∙ ap (λ (x : Answer). x.output) (one_answer (job_of job) (before ++ []) other.a one.a other.answers one.answers) ∙ sym one.output_is in
+          after_answer all.0 verdict all.1 is (grown ∙ ap (append_known held) same)
+      by_first (could_not_read p left out whole at sure is grown) =
+          let same : p ≡ before = one_front before p [] left whole at in
+          let here : after ≡ Unread (length before) = subst (λ (x : Ending). FlushedAs x after w_mid w_new room) is flushed ∙ ap (λ (bytes : List ℕ). Unread (length bytes)) same in
+          not_read out (subst (λ (x : Ending). TellsUnread r_old r_new x) is unread) (subst (λ (bytes : List ℕ). Sure (job_of job) bytes out) same sure) (kept ∙ grown)
+          (told_of (Unread (length before)) here) (status_of (Unread (length before)) here)
+      by_first (could_not_write out verdict was is grown) =
+          let still : (after ≡ Output) × (w_new ≡ w_mid) = subst (λ (x : Ending). FlushedAs x after w_mid w_new room) is flushed in
+          not_written (λ rest ok. unwritten_for rest is (works rest ok)) (subst (λ (x : Ending). TellsUnread r_old r_new x) is unread ∙ readable)
+          (still.1 ∙ subst (λ (x : Ending). TellsOutput w_old w_mid x) is failed)
+          (told_of Output still.0) (status_of Output still.0)

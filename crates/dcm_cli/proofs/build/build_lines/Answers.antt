@@ -5,8 +5,9 @@ use Rattle.dcm_words.specs.Words.{build as build_job}
 use Rattle.dcm_cli.specs.declared.ending.Ending.{Ending}
 use Rattle.dcm_cli.specs.declared.ending.Ending.TheVariants.{Unread}
 use Rattle.dcm_cli.specs.InputCalls.{in_part, to_end, with_failure, IsUndecided}
-use Rattle.dcm_cli.specs.Run.{Worked}
-use Rattle.dcm_cli.proofs.Passes.Lines.{going_is, not_unwritten, built_on, built_halted, built_unread, built_ended, lines_undecided}
+use Rattle.dcm_cli.specs.Run.{IsDecided, Worked}
+use Rattle.dcm_cli.proofs.Passes.Decided.{decided_at_end, decided_unread}
+use Rattle.dcm_cli.proofs.Passes.Lines.{going_is, not_unwritten, built_on, built_halted, built_unread, built_ended, built_decided, lines_undecided}
 use Rattle.dcm_cli.proofs.Passes.Passes.{read_nothing, read_twice}
 use Rattle.dcm_cli.proofs.Passes.Readers.{members, gave_on, piece_read, end_read, failed_read}
 use Rattle.dcm_cli.proofs.build.build_lines.Goals as goal
@@ -32,16 +33,19 @@ pub returns-in-Ok-None-clause-worked : goal.returns-in-Ok-None-clause-worked
 returns-in-Ok-None-clause-worked g c =
     let loop = c.loop-size in
     let front = loop.invariant.front in
+    let worked : (rest : List ℕ) → rest ≡ [] → Worked (build_job c.args.limit) (front ++ rest) (Some rest) (g.W.DeviceOut.contents c.args.out.now) (g.W.DeviceOut.contents c.end.new.out) c.ending_of.result = λ rest none.
+    let whole : front ++ rest ≡ front = ap (λ (bytes : List ℕ). front ++ bytes) none ∙ append-nil front in
+    subst (λ (ending : Ending). Worked (build_job c.args.limit) (front ++ rest) (Some rest) (g.W.DeviceOut.contents c.args.out.now) (g.W.DeviceOut.contents c.end.new.out) ending) (sym c.ending_of.ensures)
+    (built_ended c.args.limit (front ++ rest) front (Some rest) (g.W.DeviceOut.contents c.args.out.now) loop.builder.state (g.W.DeviceOut.contents loop.out) loop.invariant.state loop.invariant.out whole (g.W.DeviceOut.contents c.end.new.out) c.end.result c.end.ensures.ends)
+    in
     record {
       given = front;
       how = to_end;
       reads = end_read (members g.R.Device g.R.DeviceIn) (IsUndecided (build_job c.args.limit)) _ loop.input c.next_piece.new.input front loop.invariant.calls loop.invariant.given loop.invariant.unread
           (lines_undecided c.args.limit front loop.builder.state loop.invariant.state (going_is loop.builder.state.told loop.builder.failed loop.invariant.going).1)
           (rw c.in-Ok-None.field-0-is at c.in-Ok-None.ensures.bytes) (rw c.in-Ok-None.field-0-is at c.in-Ok-None.ensures.call) c.in-Ok-None.ensures.failed;
-      worked = λ rest none.
-          let whole : front ++ rest ≡ front = ap (λ (bytes : List ℕ). front ++ bytes) none ∙ append-nil front in
-          subst (λ (ending : Ending). Worked (build_job c.args.limit) (front ++ rest) (Some rest) (g.W.DeviceOut.contents c.args.out.now) (g.W.DeviceOut.contents c.end.new.out) ending) (sym c.ending_of.ensures)
-          (built_ended c.args.limit (front ++ rest) front (Some rest) (g.W.DeviceOut.contents c.args.out.now) loop.builder.state (g.W.DeviceOut.contents loop.out) loop.invariant.state loop.invariant.out whole (g.W.DeviceOut.contents c.end.new.out) c.end.result c.end.ensures.ends);
+      worked = worked;
+      decided = decided_at_end (build_job c.args.limit) front to_end c.ending_of.result (g.W.DeviceOut.contents c.args.out.now) (g.W.DeviceOut.contents c.end.new.out) refl (worked [] refl);
     }
 
 pub returns-in-Err-clause-worked : goal.returns-in-Err-clause-worked
@@ -57,6 +61,7 @@ returns-in-Err-clause-worked g c =
       worked = λ rest ok.
           subst (λ (n : ℕ). Worked (build_job c.args.limit) (front ++ rest) (Some rest) (g.W.DeviceOut.contents c.args.out.now) (g.W.DeviceOut.contents loop.out) (Unread n)) (sym (c.in-Err.ensures.count ∙ loop.invariant.count))
           (built_unread c.args.limit (front ++ rest) front (Some rest) (g.W.DeviceOut.contents c.args.out.now) loop.builder.state (g.W.DeviceOut.contents loop.out) loop.invariant.state loop.invariant.out rest going refl refl);
+      decided = decided_unread (build_job c.args.limit) front with_failure (Unread c.next_piece.new.read) c.next_piece.new.read refl;
     }
 
 pub returns-in-Err-feed-clause-worked : goal.returns-in-Err-feed-clause-worked
@@ -75,6 +80,9 @@ returns-in-Err-feed-clause-worked g c =
           subst (λ (ending : Ending). Worked (build_job c.args.limit) ((front ++ piece) ++ rest) (Some rest) (g.W.DeviceOut.contents c.args.out.now) (g.W.DeviceOut.contents c.feed.new.out) ending) (sym c.ending_of-in-Err-feed.ensures)
           (built_halted c.args.limit (g.W.DeviceOut.contents c.args.out.now) loop.builder.state (g.W.DeviceOut.contents loop.out) c.feed.new.self (g.W.DeviceOut.contents c.feed.new.out) front piece
           loop.invariant.state loop.invariant.out (c.in-Err-feed.ensures.goes going.0) ((front ++ piece) ++ rest) rest (Some rest) c.in-Err-feed.halt refl c.in-Err-feed.ensures.answer);
+      decided = subst (IsDecided (build_job c.args.limit) (front ++ piece) in_part) (sym c.ending_of-in-Err-feed.ensures)
+          (built_decided c.args.limit (g.W.DeviceOut.contents c.args.out.now) loop.builder.state (g.W.DeviceOut.contents loop.out) c.feed.new.self (g.W.DeviceOut.contents c.feed.new.out) front piece
+          loop.invariant.state loop.invariant.out (c.in-Err-feed.ensures.goes going.0) c.in-Err-feed.halt c.in-Err-feed.ensures.answer);
     }
 
 pub loop-size-preserved : goal.loop-size-preserved

@@ -1,4 +1,4 @@
-use Rattle.std.proofs.Common.{◌≡◌, ◌∙◌, ap, sym, subst, ℕ, List, ◌++◌, [], append_assoc, Option, Some, None, refl, rules}
+use Rattle.std.proofs.Common.{◌∷◌, ◌≡◌, ◌∙◌, ap, sym, subst, ℕ, List, ◌++◌, [], append_assoc, Option, Some, None, refl, rules}
 use Rattle.std.specs.Prelude.{fold}
 use Rattle.std.specs.Io.KnownBytes.{append_known}
 use Rattle.dcm_base.specs.Syntax.{Little}
@@ -12,14 +12,16 @@ use Rattle.dcm_stream.specs.Reading.{start_of}
 use Rattle.dcm_tools.specs.DumpSink.{DumpState, dump_start, dump_step, dump_writes, bars_nothing}
 use Rattle.dcm_cli.specs.declared.ending.Ending.{Ending}
 use Rattle.dcm_tools.specs.Lines.{state as lines_state}
-use Rattle.dcm_cli.specs.InputCalls.{Reader, in_part, IsUndecided}
+use Rattle.dcm_cli.specs.InputCalls.{Allows, Reader, in_part, IsUndecided}
 use Rattle.dcm_cli.specs.Opening.{HeadRead}
 use Rattle.dcm_cli.specs.Pass as spec
-use Rattle.dcm_cli.specs.Run.{Worked}
+use Rattle.dcm_cli.specs.declared.ending.Ending.TheVariants.{Output}
+use Rattle.dcm_cli.specs.Run.{IsDecided, Worked}
+use Rattle.dcm_cli.proofs.Passes.Decided.{decided_output, decided_by, unopened_decided, set_decided}
 use Rattle.dcm_cli.proofs.Passes.Alone.{put_failed, put_whole}
 use Rattle.dcm_cli.proofs.Passes.Files.{file_unopened, file_unheaded, file_worked, concludes_same, file_opened, file_dumper}
 use Rattle.dcm_cli.proofs.Passes.Opens.{head_opened}
-use Rattle.dcm_cli.proofs.Passes.Readers.{members, allows_any, nothing_follows, ends_empty, joined}
+use Rattle.dcm_cli.proofs.Passes.Readers.{members, allows_any, allows_nothing, nothing_follows, ends_empty, joined}
 use Rattle.dcm_cli.proofs.Runs.Stopping.{head_reads, head_undecided, began_gave, set_undecided}
 use Rattle.dcm_cli.proofs.dump.dump_file.Goals as goal
 
@@ -34,6 +36,7 @@ returns-in-Err-clause-worked g c =
       worked = λ rest ok.
           subst (λ (x : Ending). Worked job (head.read ++ rest) (Some rest) (g.W.DeviceOut.contents c.args.out.now) (g.W.DeviceOut.contents c.args.out.now) x) (sym c.ending_of_head.ensures)
           (file_unopened job refl (g.W.DeviceOut.contents c.args.out.now) c.read_head_of.new.meta head.read rest head.how c.in-Err.ending ok head.outcome);
+      decided = subst (IsDecided job head.read head.how) (sym c.ending_of_head.ensures) (unopened_decided job refl c.read_head_of.new.meta head.read head.how c.in-Err.ending head.outcome);
     }
 
 pub returns-then-is_err-clause-worked : goal.returns-then-is_err-clause-worked
@@ -52,6 +55,7 @@ returns-then-is_err-clause-worked g c =
           file_unheaded job refl (head.read ++ rest) (Some rest) (g.W.DeviceOut.contents c.args.out.now) r o refl (file_dumper c.args.dictionary c.args.mode o.coding) (g.W.DeviceOut.contents c.dump_header_by.new.out)
           (subst (λ uid. AppendsFront (g.W.DeviceOut.contents c.args.out.now) (g.W.DeviceOut.contents c.dump_header_by.new.out) (header uid)) o.uid_is
           (put_failed _ _ (header (uid_of r)) c.dump_header_by.result (sym c.if-is_err.ensures.value) went));
+      decided = decided_output job head.read head.how Output refl;
     }
 
 pub returns-clause-worked : goal.returns-clause-worked
@@ -84,6 +88,25 @@ returns-clause-worked g c =
     let j = joined reader spec.HeadGoesOn Going (IsUndecided job) c.args.input.now c.read_head_of.new.input c.read_set.new.input head.read set.more head.how set.how head.reads set.reads (head_undecided job refl) undecided
     (λ more going. began_gave reader c.args.input.now c.read_head_of.new.input r b buffer head.read head.how head.outcome head.reads going.0)
     in
+    let worked : (rest : List ℕ) → Allows j.how rest → Worked job ((head.read ++ set.more) ++ rest) (Some rest) held holds c.read_set.result = λ rest ok.
+    let a = j.allows rest ok in
+    let file : List ℕ = head.read ++ (set.more ++ rest) in
+    let o = head_opened c.args.dictionary head.read (set.more ++ rest) head.how a.0 buffer r b coding start h in
+    let header : List ℕ → List ℕ = λ uid. meta_header c.args.dictionary c.args.mode o.m.elements ++ set_header uid in
+    let went = c.dump_header_by.ensures.bytes o.m.elements (subst (Spells Little o.m.elements) (sym o.group_is) o.spelled) o.meta in
+    let mid_is : mid ≡ append_known held (header o.m.uid) =
+    ap (λ (x : g.row.W.Denot). g.W.DeviceOut.contents x) c.by-sink.ensures.out
+    ∙ put_whole _ _ (header (uid_of r)) c.dump_header_by.result (sym c.if-is_err.ensures.value) went
+    ∙ ap (λ (uid : List ℕ). append_known held (header uid)) o.uid_is
+    in
+    let ends = subst (λ (n : ℕ). spec.Ends bars_nothing dump_step dump_writes (start_of coding.syntax n) first mid (Some rest) last holds (spec.set_bytes b buffer ++ set.more) c.read_set.result) (h.start_is ∙ o.place_is)
+    (set.ends rest a.1 (λ over. ends_empty set.more rest (nothing_follows head.how (set.more ++ rest) a.0 (head.outcome.over over))))
+    in
+    let maker = file_dumper c.args.dictionary c.args.mode coding in
+    let same = concludes_same job refl file (Some rest) held r o refl maker refl last c.read_set.result in
+    let f = file_worked job refl file (Some rest) held r o refl maker (set.more ++ rest) rest head.how mid last holds b buffer head.read set.more c.read_set.result c.read_set.result same refl refl refl head.outcome mid_is c.read_set.ensures.over ends in
+    subst (λ (bytes : List ℕ). Worked job bytes (Some rest) held holds c.read_set.result) (sym (append_assoc head.read set.more rest)) f
+    in
     let k = c.read_set.ensures.kept in
     let n = c.by-sink.ensures.same_reference in
     record {
@@ -91,22 +114,8 @@ returns-clause-worked g c =
       how = j.how;
       reads = j.reads;
       worked = λ rest ok.
-          let a = j.allows rest ok in
-          let file : List ℕ = head.read ++ (set.more ++ rest) in
-          let o = head_opened c.args.dictionary head.read (set.more ++ rest) head.how a.0 buffer r b coding start h in
-          let header : List ℕ → List ℕ = λ uid. meta_header c.args.dictionary c.args.mode o.m.elements ++ set_header uid in
-          let went = c.dump_header_by.ensures.bytes o.m.elements (subst (Spells Little o.m.elements) (sym o.group_is) o.spelled) o.meta in
-          let mid_is : mid ≡ append_known held (header o.m.uid) =
-          ap (λ (x : g.row.W.Denot). g.W.DeviceOut.contents x) c.by-sink.ensures.out
-          ∙ put_whole _ _ (header (uid_of r)) c.dump_header_by.result (sym c.if-is_err.ensures.value) went
-          ∙ ap (λ (uid : List ℕ). append_known held (header uid)) o.uid_is
-          in
-          let ends = subst (λ (n : ℕ). spec.Ends bars_nothing dump_step dump_writes (start_of coding.syntax n) first mid (Some rest) last holds (spec.set_bytes b buffer ++ set.more) c.read_set.result) (h.start_is ∙ o.place_is)
-          (set.ends rest a.1 (λ over. ends_empty set.more rest (nothing_follows head.how (set.more ++ rest) a.0 (head.outcome.over over))))
-          in
-          let maker = file_dumper c.args.dictionary c.args.mode coding in
-          let same = concludes_same job refl file (Some rest) held r o refl maker refl last c.read_set.result in
-          let f = file_worked job refl file (Some rest) held r o refl maker (set.more ++ rest) rest head.how mid last holds b buffer head.read set.more c.read_set.result c.read_set.result same refl refl refl head.outcome mid_is c.read_set.ensures.over ends in
-          subst (λ (known : Option (List ℕ)). Worked job ((head.read ++ set.more) ++ rest) (Some rest) held known c.read_set.result) (search (rules, k, n))
-          (subst (λ (bytes : List ℕ). Worked job bytes (Some rest) held holds c.read_set.result) (sym (append_assoc head.read set.more rest)) f);
+          subst (λ (known : Option (List ℕ)). Worked job ((head.read ++ set.more) ++ rest) (Some rest) held known c.read_set.result) (search (rules, k, n)) (worked rest ok);
+      decided = decided_by job (head.read ++ set.more) j.how c.read_set.result held holds (worked [] (allows_nothing j.how)) (λ one.
+          set_decided job refl coding refl (file_dumper c.args.dictionary c.args.mode coding) head.read set.more head.how j.how buffer r b start h (λ rest ok. (j.allows rest ok).0) mid last holds c.read_set.result c.read_set.result (λ x no is. is) one
+          (set.ends (0 ∷ []) (j.allows (0 ∷ []) one).1 (λ over. ends_empty set.more (0 ∷ []) (nothing_follows head.how (set.more ++ 0 ∷ []) (j.allows (0 ∷ []) one).0 (head.outcome.over over)))));
     }

@@ -1,4 +1,4 @@
-use Rattle.std.proofs.Common.{ap, sym, subst, refl, ℕ, List, [], ◌++◌, append_assoc, Option, Some, None, rules}
+use Rattle.std.proofs.Common.{◌∷◌, ◌∙◌, ap, sym, subst, refl, ℕ, List, [], ◌++◌, append_assoc, Option, Some, None, rules}
 use Rattle.dcm_words.specs.Words.{Job, modify}
 use Rattle.dcm_stream.specs.Reading.{start_of}
 use Rattle.dcm_edit.specs.EditSink.{begun}
@@ -6,12 +6,14 @@ use Rattle.dcm_edit.specs.Through.{through_step, through_writes, through_bar}
 use Rattle.dcm_tools.specs.EncodeSink.{EncodeState, encode_step, encode_writes, encode_start}
 use Rattle.dcm_tools.specs.Encoder.{state as encoder_state}
 use Rattle.dcm_cli.specs.declared.ending.Ending.{Ending}
-use Rattle.dcm_cli.specs.InputCalls.{Reader, IsUndecided}
+use Rattle.dcm_cli.specs.EditPass.{not_found}
+use Rattle.dcm_cli.specs.InputCalls.{Allows, Reader, IsUndecided}
 use Rattle.dcm_cli.specs.Pass as spec
 use Rattle.dcm_cli.specs.Run.{Worked}
+use Rattle.dcm_cli.proofs.Passes.Decided.{decided_by, not_opened_decided, set_decided, still_not_done}
 use Rattle.dcm_cli.proofs.Passes.EditPasses.{edits_not_opened, edits_worked}
 use Rattle.dcm_cli.proofs.Passes.MakesEdits.{file_editor}
-use Rattle.dcm_cli.proofs.Passes.Readers.{members, allows_any, nothing_follows, ends_empty, joined}
+use Rattle.dcm_cli.proofs.Passes.Readers.{members, allows_any, allows_nothing, nothing_follows, ends_empty, joined}
 use Rattle.dcm_cli.proofs.Runs.Stopping.{head_reads, head_undecided, began_gave, opened_undecided}
 use Rattle.dcm_cli.proofs.modify.modify_file.Goals as goal
 
@@ -25,6 +27,7 @@ returns-in-Err-clause-worked g c =
       reads = head_reads (members g.R.Device g.R.DeviceIn) job refl _ _ x.read x.how x.reads;
       worked = λ rest ok.
           edits_not_opened c.args.dictionary c.args.edits.now c.requires.meant x.read rest x.how ok (g.W.DeviceOut.contents c.args.out.now) (g.W.DeviceOut.contents c.open_file.new.out) c.in-Err.ending x.opens;
+      decided = not_opened_decided None job refl (λ coding. refl) x.read x.how (g.W.DeviceOut.contents c.args.out.now) (g.W.DeviceOut.contents c.open_file.new.out) c.in-Err.ending x.opens;
     }
 
 pub returns-clause-worked : goal.returns-clause-worked
@@ -50,6 +53,14 @@ returns-clause-worked g c =
     (λ more is going. opened_undecided None job refl (file_editor c.args.dictionary c.args.edits.now c.requires.meant) x.read more x.how (allows_any x.how is (more ++ [])) held mid buffer opened x.opens refl going.0 going.1)
     (λ more going. began_gave reader c.args.input.now c.open_file.new.input x.opens.reading opened.beginning buffer x.read x.how x.opens.head.begins x.reads going.0)
     in
+    let worked : (rest : List ℕ) → Allows j.how rest → Worked job ((x.read ++ set.more) ++ rest) (Some rest) held holds c.read_edited.result = λ rest ok.
+    let a = j.allows rest ok in
+    let f = subst (λ (ending : Ending). Worked job (x.read ++ (set.more ++ rest)) (Some rest) held holds ending) (sym pass.ending_is)
+    (edits_worked c.args.dictionary c.args.edits.now c.requires.meant x.read (set.more ++ rest) x.how a.0 held mid buffer opened x.opens set.more rest refl pass.last last holds pass.passed pass.was
+    (set.ends rest a.1 (λ over. ends_empty set.more rest (nothing_follows x.how (set.more ++ rest) a.0 (x.opens.head.begins.over over)))))
+    in
+    subst (λ (bytes : List ℕ). Worked job bytes (Some rest) held holds c.read_edited.result) (sym (append_assoc x.read set.more rest)) f
+    in
     let k = c.read_edited.ensures.kept in
     let n = c.new-sink.ensures.same_reference in
     record {
@@ -57,11 +68,8 @@ returns-clause-worked g c =
       how = j.how;
       reads = j.reads;
       worked = λ rest ok.
-          let a = j.allows rest ok in
-          let f = subst (λ (ending : Ending). Worked job (x.read ++ (set.more ++ rest)) (Some rest) held holds ending) (sym pass.ending_is)
-          (edits_worked c.args.dictionary c.args.edits.now c.requires.meant x.read (set.more ++ rest) x.how a.0 held mid buffer opened x.opens set.more rest refl pass.last last holds pass.passed pass.was
-          (set.ends rest a.1 (λ over. ends_empty set.more rest (nothing_follows x.how (set.more ++ rest) a.0 (x.opens.head.begins.over over)))))
-          in
-          subst (λ (known : Option (List ℕ)). Worked job ((x.read ++ set.more) ++ rest) (Some rest) held known c.read_edited.result) (search (rules, k, n))
-          (subst (λ (bytes : List ℕ). Worked job bytes (Some rest) held holds c.read_edited.result) (sym (append_assoc x.read set.more rest)) f);
+          subst (λ (known : Option (List ℕ)). Worked job ((x.read ++ set.more) ++ rest) (Some rest) held known c.read_edited.result) (search (rules, k, n)) (worked rest ok);
+      decided = decided_by job (x.read ++ set.more) j.how c.read_edited.result held holds (worked [] (allows_nothing j.how)) (λ one.
+          set_decided job refl opened.coding refl (file_editor c.args.dictionary c.args.edits.now c.requires.meant opened.coding) x.read set.more x.how j.how buffer x.opens.reading opened.beginning opened.start x.opens.head (λ rest ok. (j.allows rest ok).0) mid (pass.last, last) holds pass.passed c.read_edited.result (λ y no is. pass.ending_is ∙ ap (λ (e : Ending). spec.with_unplaced e (not_found pass.last.found)) is ∙ still_not_done y (not_found pass.last.found) no) one
+          (set.ends (0 ∷ []) (j.allows (0 ∷ []) one).1 (λ over. ends_empty set.more (0 ∷ []) (nothing_follows x.how (set.more ++ 0 ∷ []) (j.allows (0 ∷ []) one).0 (x.opens.head.begins.over over)))));
     }
