@@ -151,7 +151,7 @@ pub data Ran (job : Job) (given : List ℕ) (how : How) (d : Devices) (status : 
       → status ≡ 4 → Ran job given how d status
   -- the output failed: a beginning of it was written, and not all of it, whatever follows these bytes
   not_written : ((rest : List ℕ) → Allows how rest
-        → (a : Answer) × Answers job (given ++ rest) a × AppendsFront d.held d.holds a.output)
+      → (a : Answer) × Answers job (given ++ rest) a × AppendsFront d.held d.holds a.output)
       → d.unread ≡ false → d.unwritten ≡ true → Tries d.told d.tells d.untold_before d.untold output_line
       → status ≡ 4 → Ran job given how d status
   -- all of it was written, and then it was not flushed

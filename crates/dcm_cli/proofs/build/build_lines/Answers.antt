@@ -34,9 +34,9 @@ returns-in-Ok-None-clause-worked g c =
     let loop = c.loop-size in
     let front = loop.invariant.front in
     let worked : (rest : List ℕ) → rest ≡ [] → Worked (build_job c.args.limit) (front ++ rest) (Some rest) (g.W.DeviceOut.contents c.args.out.now) (g.W.DeviceOut.contents c.end.new.out) c.ending_of.result = λ rest none.
-          let whole : front ++ rest ≡ front = ap (λ (bytes : List ℕ). front ++ bytes) none ∙ append-nil front in
-          subst (λ (ending : Ending). Worked (build_job c.args.limit) (front ++ rest) (Some rest) (g.W.DeviceOut.contents c.args.out.now) (g.W.DeviceOut.contents c.end.new.out) ending) (sym c.ending_of.ensures)
-          (built_ended c.args.limit (front ++ rest) front (Some rest) (g.W.DeviceOut.contents c.args.out.now) loop.builder.state (g.W.DeviceOut.contents loop.out) loop.invariant.state loop.invariant.out whole (g.W.DeviceOut.contents c.end.new.out) c.end.result c.end.ensures.ends)
+    let whole : front ++ rest ≡ front = ap (λ (bytes : List ℕ). front ++ bytes) none ∙ append-nil front in
+    subst (λ (ending : Ending). Worked (build_job c.args.limit) (front ++ rest) (Some rest) (g.W.DeviceOut.contents c.args.out.now) (g.W.DeviceOut.contents c.end.new.out) ending) (sym c.ending_of.ensures)
+    (built_ended c.args.limit (front ++ rest) front (Some rest) (g.W.DeviceOut.contents c.args.out.now) loop.builder.state (g.W.DeviceOut.contents loop.out) loop.invariant.state loop.invariant.out whole (g.W.DeviceOut.contents c.end.new.out) c.end.result c.end.ensures.ends)
     in
     record {
       given = front;

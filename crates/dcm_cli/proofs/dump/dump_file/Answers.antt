@@ -89,23 +89,23 @@ returns-clause-worked g c =
     (λ more going. began_gave reader c.args.input.now c.read_head_of.new.input r b buffer head.read head.how head.outcome head.reads going.0)
     in
     let worked : (rest : List ℕ) → Allows j.how rest → Worked job ((head.read ++ set.more) ++ rest) (Some rest) held holds c.read_set.result = λ rest ok.
-          let a = j.allows rest ok in
-          let file : List ℕ = head.read ++ (set.more ++ rest) in
-          let o = head_opened c.args.dictionary head.read (set.more ++ rest) head.how a.0 buffer r b coding start h in
-          let header : List ℕ → List ℕ = λ uid. meta_header c.args.dictionary c.args.mode o.m.elements ++ set_header uid in
-          let went = c.dump_header_by.ensures.bytes o.m.elements (subst (Spells Little o.m.elements) (sym o.group_is) o.spelled) o.meta in
-          let mid_is : mid ≡ append_known held (header o.m.uid) =
-          ap (λ (x : g.row.W.Denot). g.W.DeviceOut.contents x) c.by-sink.ensures.out
-          ∙ put_whole _ _ (header (uid_of r)) c.dump_header_by.result (sym c.if-is_err.ensures.value) went
-          ∙ ap (λ (uid : List ℕ). append_known held (header uid)) o.uid_is
-          in
-          let ends = subst (λ (n : ℕ). spec.Ends bars_nothing dump_step dump_writes (start_of coding.syntax n) first mid (Some rest) last holds (spec.set_bytes b buffer ++ set.more) c.read_set.result) (h.start_is ∙ o.place_is)
-          (set.ends rest a.1 (λ over. ends_empty set.more rest (nothing_follows head.how (set.more ++ rest) a.0 (head.outcome.over over))))
-          in
-          let maker = file_dumper c.args.dictionary c.args.mode coding in
-          let same = concludes_same job refl file (Some rest) held r o refl maker refl last c.read_set.result in
-          let f = file_worked job refl file (Some rest) held r o refl maker (set.more ++ rest) rest head.how mid last holds b buffer head.read set.more c.read_set.result c.read_set.result same refl refl refl head.outcome mid_is c.read_set.ensures.over ends in
-          subst (λ (bytes : List ℕ). Worked job bytes (Some rest) held holds c.read_set.result) (sym (append_assoc head.read set.more rest)) f
+    let a = j.allows rest ok in
+    let file : List ℕ = head.read ++ (set.more ++ rest) in
+    let o = head_opened c.args.dictionary head.read (set.more ++ rest) head.how a.0 buffer r b coding start h in
+    let header : List ℕ → List ℕ = λ uid. meta_header c.args.dictionary c.args.mode o.m.elements ++ set_header uid in
+    let went = c.dump_header_by.ensures.bytes o.m.elements (subst (Spells Little o.m.elements) (sym o.group_is) o.spelled) o.meta in
+    let mid_is : mid ≡ append_known held (header o.m.uid) =
+    ap (λ (x : g.row.W.Denot). g.W.DeviceOut.contents x) c.by-sink.ensures.out
+    ∙ put_whole _ _ (header (uid_of r)) c.dump_header_by.result (sym c.if-is_err.ensures.value) went
+    ∙ ap (λ (uid : List ℕ). append_known held (header uid)) o.uid_is
+    in
+    let ends = subst (λ (n : ℕ). spec.Ends bars_nothing dump_step dump_writes (start_of coding.syntax n) first mid (Some rest) last holds (spec.set_bytes b buffer ++ set.more) c.read_set.result) (h.start_is ∙ o.place_is)
+    (set.ends rest a.1 (λ over. ends_empty set.more rest (nothing_follows head.how (set.more ++ rest) a.0 (head.outcome.over over))))
+    in
+    let maker = file_dumper c.args.dictionary c.args.mode coding in
+    let same = concludes_same job refl file (Some rest) held r o refl maker refl last c.read_set.result in
+    let f = file_worked job refl file (Some rest) held r o refl maker (set.more ++ rest) rest head.how mid last holds b buffer head.read set.more c.read_set.result c.read_set.result same refl refl refl head.outcome mid_is c.read_set.ensures.over ends in
+    subst (λ (bytes : List ℕ). Worked job bytes (Some rest) held holds c.read_set.result) (sym (append_assoc head.read set.more rest)) f
     in
     let k = c.read_set.ensures.kept in
     let n = c.by-sink.ensures.same_reference in

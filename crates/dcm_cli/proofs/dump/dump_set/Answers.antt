@@ -60,8 +60,8 @@ returns-clause-worked g c =
     in
     let Going : List ℕ → Type 0 = spec.SetGoesOn bars_nothing dump_step false [] begins begun in
     let worked : (rest : List ℕ) → Allows set.how rest → Worked job (set.more ++ rest) (Some rest) (g.W.DeviceOut.contents c.args.out.now) holds c.read_rest.result = λ rest ok.
-          alone_worked c.args.dictionary c.args.mode c.args.syntax (set.more ++ rest) (Some rest) (g.W.DeviceOut.contents c.args.out.now) set.more rest held last holds c.read_rest.result refl refl mid
-          (set.ends rest ok (λ over. absurd (let no : false ≡ true = over in cc)))
+    alone_worked c.args.dictionary c.args.mode c.args.syntax (set.more ++ rest) (Some rest) (g.W.DeviceOut.contents c.args.out.now) set.more rest held last holds c.read_rest.result refl refl mid
+    (set.ends rest ok (λ over. absurd (let no : false ≡ true = over in cc)))
     in
     let k = c.read_rest.ensures.kept in
     let n = c.by-sink.ensures.same_reference in

@@ -54,12 +54,12 @@ returns-clause-worked g c =
     (λ more going. began_gave reader c.args.input.now c.open_file.new.input x.opens.reading opened.beginning buffer x.read x.how x.opens.head.begins x.reads going.0)
     in
     let worked : (rest : List ℕ) → Allows j.how rest → Worked job ((x.read ++ set.more) ++ rest) (Some rest) held holds c.read_edited.result = λ rest ok.
-          let a = j.allows rest ok in
-          let f = subst (λ (ending : Ending). Worked job (x.read ++ (set.more ++ rest)) (Some rest) held holds ending) (sym pass.ending_is)
-          (edits_worked c.args.dictionary c.args.edits.now c.requires.meant x.read (set.more ++ rest) x.how a.0 held mid buffer opened x.opens set.more rest refl pass.last last holds pass.passed pass.was
-          (set.ends rest a.1 (λ over. ends_empty set.more rest (nothing_follows x.how (set.more ++ rest) a.0 (x.opens.head.begins.over over)))))
-          in
-          subst (λ (bytes : List ℕ). Worked job bytes (Some rest) held holds c.read_edited.result) (sym (append_assoc x.read set.more rest)) f
+    let a = j.allows rest ok in
+    let f = subst (λ (ending : Ending). Worked job (x.read ++ (set.more ++ rest)) (Some rest) held holds ending) (sym pass.ending_is)
+    (edits_worked c.args.dictionary c.args.edits.now c.requires.meant x.read (set.more ++ rest) x.how a.0 held mid buffer opened x.opens set.more rest refl pass.last last holds pass.passed pass.was
+    (set.ends rest a.1 (λ over. ends_empty set.more rest (nothing_follows x.how (set.more ++ rest) a.0 (x.opens.head.begins.over over)))))
+    in
+    subst (λ (bytes : List ℕ). Worked job bytes (Some rest) held holds c.read_edited.result) (sym (append_assoc x.read set.more rest)) f
     in
     let k = c.read_edited.ensures.kept in
     let n = c.new-sink.ensures.same_reference in
