@@ -1,16 +1,14 @@
 -- What obeying words over files in memory comes to.
-use Rattle.std.proofs.Common.{◌≡◌, ◌≢◌, append-nil, ◌∙◌, ap, sym, subst, refl, ◌⊎◌, inl, inr, ◌==◌, ◌||◌, ◌≤◌, ℕ, List, [], ◌∷◌, ◌++◌, length, bytes_eq, if◌then◌else◌, Bool, true, false, Option, None, Some, Result, Ok, Err}
-use Rattle.std.specs.Bool.{Decides}
+use Rattle.std.proofs.Common.{◌≡◌, ◌≢◌, append-nil, ◌∙◌, ap, sym, subst, refl, ◌⊎◌, inl, inr, ◌||◌, ◌≤◌, ℕ, List, [], length, bytes_eq, if◌then◌else◌, Bool, true, false, Option, None, Some, Result, Ok, Err}
 use Rattle.std.specs.Option.{option_map}
 use Rattle.std.specs.Str.{IsUtf8, is_utf8}
 use Rattle.std.specs.IoError.{error_kind}
 use Rattle.std.specs.declared.io.Error.{Error}
 use Rattle.std.specs.declared.io.ErrorKind.{ErrorKind}
 use Rattle.std.specs.declared.io.ErrorKind.TheVariants as kinds
-use Rattle.std.proofs.lemmas.Bool.Decides.{not_from_Decides}
 use Rattle.std.proofs.lemmas.Slice.Eq.{bytes_eq-Decides}
 use Rattle.std.proofs.lemmas.Str.{IsUtf8-from_is_utf8, is_utf8-from_IsUtf8}
-use Rattle.dcm_devices.specs.Memory.{written, size, room_of}
+use Rattle.dcm_devices.specs.Memory.{written, room_of}
 use Rattle.dcm_devices.specs.declared.memory.MemIn.{MemIn}
 use Rattle.dcm_devices.specs.declared.memory.MemOut.{MemOut}
 use Rattle.dcm_devices.specs.declared.memory.Measured.{Measured}
@@ -125,13 +123,18 @@ module _ (s : MemSystem) where
       (subst (λ (n : Option ℕ). IsFound (bytes_of (file_named s.files.now path)) n r) (sym (other_chosen (bytes_eq path standard) None (number_of (file_named s.files.now path)) o)) (found (file_named s.files.now path) r gave))
 
   input_opened : (path : List ℕ) (r : Result (Opened MemIn) Error) (mid : MemSystem) → OpensInput may_do path s r mid → IsFound (bytes_at s path) (number_at s path) r × (mid ≡ s)
-  input_opened path r mid (devices.stream d is gave are) =
-      (subst (IsFound (bytes_at s path) (number_at s path)) (sym are)
-        (ap (bytes_at s) is ∙ ap Some (sym gave.0), subst (λ (n : Option ℕ). IsInput n d.kind) (sym (ap (number_at s) is)) gave.1), gave.2)
-  input_opened path r mid (devices.no_text x other bad kind are same) =
-      (subst (IsFound (bytes_at s path) (number_at s path)) (sym are)
-        (no_text_chosen (bytes_eq path standard) (is_utf8 path) (Some s.stdin.now) (bytes_of (file_named s.files.now path)) None (is_other path other) (is_no_text path bad),
-         no_memory_fault x kinds.InvalidFilename kind (λ e. cc)), same)
+  input_opened path r mid (devices.stream d is gave are) = (
+    subst (IsFound (bytes_at s path) (number_at s path)) (sym are)
+        (ap (bytes_at s) is ∙ ap Some (sym gave.0), subst (λ (n : Option ℕ). IsInput n d.kind) (sym (ap (number_at s) is)) gave.1),
+    gave.2,
+  )
+  input_opened path r mid (devices.no_text x other bad kind are same) = (
+    subst (IsFound (bytes_at s path) (number_at s path)) (sym are) (
+      no_text_chosen (bytes_eq path standard) (is_utf8 path) (Some s.stdin.now) (bytes_of (file_named s.files.now path)) None (is_other path other) (is_no_text path bad),
+      no_memory_fault x kinds.InvalidFilename kind (λ e. cc),
+    ),
+    same,
+  )
   input_opened path r mid (devices.refused x other text gave are) =
       (subst (IsFound (bytes_at s path) (number_at s path)) (sym are) (found_at path (Err x) other text gave.0), gave.1)
   input_opened path r mid (devices.directory d x had other text gave kind released was are) =
@@ -157,17 +160,20 @@ module _ (s : MemSystem) where
       (written_as (file_named s.files.now path))
 
   output_made : (path : List ℕ) (r : Result (Opened Measured) Error) (after : MemSystem) → OpensOutput may_do path s r after → IsMade (is_writable path) (number_at s path) s.room r × (after.written ≡ s.written)
-  output_made path r after (devices.out_stream is gave) =
-      (made (is_writable path) (number_at s path) Other s.room r (ap is_writable is) (subst (λ (n : Option ℕ). IsOutput n Other) (sym (ap (number_at s) is)) (inl refl)) gave.0,
-       ap (λ (z : MemSystem). z.written) gave.1)
-  output_made path r after (devices.out_no_text x other bad kind are same) =
-      (subst (IsMade (is_writable path) (number_at s path) s.room) (sym are)
+  output_made path r after (devices.out_stream is gave) = (
+    made (is_writable path) (number_at s path) Other s.room r (ap is_writable is) (subst (λ (n : Option ℕ). IsOutput n Other) (sym (ap (number_at s) is)) (inl refl)) gave.0,
+    ap (λ (z : MemSystem). z.written) gave.1,
+  )
+  output_made path r after (devices.out_no_text x other bad kind are same) = (
+    subst (IsMade (is_writable path) (number_at s path) s.room) (sym are)
         (inl (either_is (bytes_eq path standard) (is_utf8 path) (is_other path other) ∙ is_no_text path bad), no_memory_fault x kinds.InvalidFilename kind (λ e. cc)),
-       ap (λ (z : MemSystem). z.written) same)
-  output_made path r after (devices.answered other text gave) =
-      (made (is_writable path) (number_at s path) (kind_written (file_named s.files.now path)) s.room r
+    ap (λ (z : MemSystem). z.written) same,
+  )
+  output_made path r after (devices.answered other text gave) = (
+    made (is_writable path) (number_at s path) (kind_written (file_named s.files.now path)) s.room r
         (either_is (bytes_eq path standard) (is_utf8 path) (is_other path other) ∙ is_text path text) (number_written path other) gave.0,
-       ap (λ (z : MemSystem). z.written) gave.1)
+    ap (λ (z : MemSystem). z.written) gave.1,
+  )
 
   -- after an input was opened
   output_opened : (path : List ℕ) (r : Result (Opened Measured) Error) (mid after : MemSystem) → mid ≡ s → OpensOutput may_do path mid r after
@@ -336,7 +342,7 @@ module _ (s new : MemSystem) (errors new_errors : MemOut) (status : ℕ) where
   -- a text was shown
   shows_left : (topic : Topic) → HasRoom (shown topic).output s.room → Shows may_do memory_telling (text topic) e s status new → Left (shown topic)
   shows_left topic room (program.no_stdout x u gave cause line was) =
-      absurd (elim (made true None Other s.room (Err x) refl (inl refl) gave.0).0 [ | inl n ↦ no_both true n refl | inr n ↦ room_there (text topic) s.room room n ])
+      absurd (elim (made true None Other s.room (Err x) refl (inl refl) gave.0).0 [ inl n ↦ no_both true n refl | inr n ↦ room_there (text topic) s.room room n ])
   shows_left topic room (program.shows d output had gave puts closes) =
       let is = (made true None Other s.room (Ok d) refl (inl refl) gave.0).1 in
       let t = text_left d.device.out output.out e (text topic) status puts (room_fits (text topic) s.room d.device.out is room).1 in
