@@ -69,7 +69,7 @@ def wrong_names() -> list[str]:
     places = {
         "man/dcmtools.1": f".Os dcmtools {version}\n",
         "CHANGELOG.md": f"\n## {version} ",
-        "crates/dcm_base/src/standard.rt": f"edition {edition}.",
+        "crates/dcm_base/src/dictionary/standard.rt": f"edition {edition}.",
     }
     return [f"{path} does not say {text.strip()!r}" for path, text in places.items() if text not in read(path)]
 

@@ -1,5 +1,5 @@
 #!/usr/bin/env python3
-"""Makes crates/dcm_base/src/standard.rt, the table of the whole data dictionary (PS3.6 sections 6 to 9, PS3.7 E).
+"""Makes crates/dcm_base/src/dictionary/standard.rt, the table of the whole data dictionary (PS3.6 sections 6 to 9, PS3.7 E).
 
     scripts/make_dictionary.py [--list] SOURCE
     scripts/make_dictionary.py --extract
@@ -8,14 +8,14 @@ SOURCE is `_dicom_dict.py` of pydicom or `dicom.dic` of DCMTK: each is the stand
 output, and one line on standard error tells which edition of the standard was read and how many elements are in the table.
 With --list the rows go out as plain lines instead, to compare two sources. The table in the repository is of pydicom 2.3.1:
 
-    scripts/make_dictionary.py /usr/lib/python3/dist-packages/pydicom/_dicom_dict.py > crates/dcm_base/src/standard.rt
+    scripts/make_dictionary.py /usr/lib/python3/dist-packages/pydicom/_dicom_dict.py > crates/dcm_base/src/dictionary/standard.rt
 
 In the table is each element that has a keyword and exactly one VR, in tag order, retired ones too, and PixelData, as OW. Not in
 it are the other elements between two VRs, those of repeating groups (tags with `xx`), items and delimiters, and elements without
 a keyword.
 
 Beside the table is `PLACES`, a guess at the row of a number by its remainder. It saves a search where it is right, and no proof
-rests on it. With --extract the guesses of the extract go out, for crates/dcm_base/src/dictionary.rt, where its elements are.
+rests on it. With --extract the guesses of the extract go out, for crates/dcm_base/src/dictionary/extract.rt, where its elements are.
 """
 import ast
 import re
@@ -101,7 +101,7 @@ def places(numbers: list[int], first: set[int], count: int) -> str:
 
 def extract() -> list[int]:
     """The numbers of the elements of the extract."""
-    text = (Path(__file__).parent.parent / "crates/dcm_base/src/dictionary.rt").read_text()
+    text = (Path(__file__).parent.parent / "crates/dcm_base/src/dictionary/extract.rt").read_text()
     return [int(n.replace("_", ""), 16) for n in re.findall(r"\b0x[0-9A-F]{4}_[0-9A-F]{4}\b", text)]
 
 

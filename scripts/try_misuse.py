@@ -16,7 +16,7 @@ ROOT = os.path.dirname(os.path.dirname(os.path.abspath(__file__)))
 
 FRONT = """//! A use of the libraries.
 #![tactic(auto)]
-use dcm_edit::{EditFault, EditSink, Edits};
+use dcm_editor::{EditFault, EditSink, Edits};
 use dcm_stream::{Halt, Machine, Sink, Token};
 use std::alloc::Global;
 """
@@ -111,7 +111,7 @@ def copy_to(folder):
     with open(os.path.join(ROOT, "crates.txt")) as crates:
         listed = crates.read()
     with open(os.path.join(folder, "crates.txt"), "w") as crates:
-        crates.write(listed + "misuse: dcm_edit dcm_stream\n")
+        crates.write(listed + "misuse: dcm_editor dcm_stream\n")
     crate = os.path.join(folder, "crates", "misuse")
     os.makedirs(os.path.join(crate, "src"))
     return crate

@@ -7,3 +7,4 @@ pub mod Unique
 pub mod Parts
 pub mod Items
 pub mod KeywordLengths
+pub mod Search

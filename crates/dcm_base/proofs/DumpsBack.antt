@@ -1,5 +1,6 @@
 -- What a full dump shows means what it shows: values, lines and steps of building.
 pub mod DigitNumbers
+pub mod DigitSteps
 pub mod Texts
 pub mod Numbers
 pub mod Parts

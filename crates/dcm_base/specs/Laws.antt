@@ -1,44 +1,48 @@
 -- The statements of the laws.
 use Rattle.std.specs.Prelude.{◌≡◌, ◌≢◌, ◌≤◌, ◌/◌, ◌%◌, ◌++◌, ◌==◌, ℕ, Bool, not, List, codes, length, true, false, Some}
 use Rattle.std.specs.List.{list_all}
-use Rattle.dcm_base.specs.Dictionary.{Element}
-use Rattle.dcm_base.specs.Front.{Front}
-use Rattle.dcm_base.specs.Stop.{Bar, Stop}
-use Rattle.dcm_base.specs.Reads.{Reads}
-use Rattle.dcm_base.specs.Normal.{FrontFits}
-use Rattle.dcm_base.specs.Number.{AreBytes, HasLength, IsLength, IsTag}
-use Rattle.dcm_base.specs.Representation.{is_sequence, letters}
-use Rattle.dcm_base.specs.Dump.{line, leaf_line, fragment_line, sequence_line}
-use Rattle.dcm_base.specs.Line.{LineMeans, one, show_leaf, begin_sequence, begin_fragments, show_fragment, may_be_sequence, may_be_fragments}
+use Rattle.dcm_base.specs.Tables.Dictionary.{Element}
+use Rattle.dcm_base.specs.Tree.Front.{Front}
+use Rattle.dcm_base.specs.Reading.Stop.{Bar, Stop}
+use Rattle.dcm_base.specs.Reading.Reads.{Reads}
+use Rattle.dcm_base.specs.Conversion.Normal.{FrontFits}
+use Rattle.dcm_base.specs.Tables.Number.{AreBytes, HasLength, IsLength, IsTag}
+use Rattle.dcm_base.specs.Tables.Representation.{is_sequence, letters}
+use Rattle.dcm_base.specs.Dump.Dump.{line, leaf_line, fragment_line, sequence_line}
+use Rattle.dcm_base.specs.Lines.Line.{LineMeans, one, show_leaf, begin_sequence, begin_fragments, show_fragment}
+use Rattle.dcm_base.specs.Lines.Line.{may_be_sequence, may_be_fragments}
 use Rattle.dcm_base.specs.declared.length.Length.{Length}
 use Rattle.dcm_base.specs.declared.length.Length.TheVariants.{Undefined}
 use Rattle.dcm_base.specs.declared.mode.Mode.TheVariants.{Full}
 use Rattle.dcm_base.specs.declared.tag.Tag.{Tag}
 use Rattle.dcm_base.specs.declared.vr.Vr.TheVariants.{OB}
-use Rattle.dcm_base.specs.ReadValue.{value_of_text, value_shown}
-use Rattle.dcm_base.specs.ValueText.{display, shown_unit}
+use Rattle.dcm_base.specs.Lines.ReadValue.{value_of_text, value_shown}
+use Rattle.dcm_base.specs.Dump.ValueText.{display, shown_unit}
 use Rattle.dcm_base.specs.declared.vr.Vr.{Vr}
 use Rattle.dcm_base.specs.declared.syntax.Syntax.{Syntax}
 use Rattle.dcm_base.specs.declared.syntax.Syntax.TheVariants.{Implicit as implicit_in}
-use Rattle.dcm_base.specs.declared.lookup.Dictionary.{Dictionary}
-use Rattle.dcm_base.specs.Syntax.{dictionary_of}
+use Rattle.dcm_base.specs.declared.dictionary.Dictionary.{Dictionary}
+use Rattle.dcm_base.specs.Tables.Syntax.{dictionary_of}
 
 -- what is read of a data set, and where reading stops, is one
 abbrev pub OneReading : Type 0
 OneReading =
-    (bar : Bar) (s : Syntax) (start : ℕ) (bytes : List ℕ) (f g : Front) (stop other : Stop) → Reads bar s start bytes f stop
+    (bar : Bar) (s : Syntax) (start : ℕ) (bytes : List ℕ) (f g : Front) (stop other : Stop)
+    → Reads bar s start bytes f stop
     → Reads bar s start bytes g other → (f ≡ g) × (stop ≡ other)
 
 -- the full text of a value of whole units stands for the value, without the pad byte that the text drops
 abbrev pub ValuesReadBack : Type 0
 ValuesReadBack =
-    (vr : Vr) (v : List ℕ) → is_sequence vr ≡ false → AreBytes v → length v % shown_unit vr ≡ 0 → length (display vr v) ≤ 16384
+    (vr : Vr) (v : List ℕ) → is_sequence vr ≡ false → AreBytes v → length v % shown_unit vr ≡ 0
+    → length (display vr v) ≤ 16384
     → value_of_text vr (display vr v) ≡ Some (value_shown vr v)
 
 -- the full line of a value means that value
 abbrev pub LeafLinesMean : Type 0
 LeafLinesMean =
-    (d : Dictionary) (level : ℕ) (tag : Tag) (vr : Vr) (v : List ℕ) → IsTag tag → tag.group ≢ 0xFFFE → is_sequence vr ≡ false → AreBytes v
+    (d : Dictionary) (level : ℕ) (tag : Tag) (vr : Vr) (v : List ℕ) → IsTag tag → tag.group ≢ 0xFFFE
+    → is_sequence vr ≡ false → AreBytes v
     → IsLength (length v) → length v % shown_unit vr ≡ 0 → length (display vr v) ≤ 16384
     → LineMeans (leaf_line d Full level tag vr v) (one (show_leaf tag vr (Some (value_shown vr v))))
 
@@ -63,7 +67,8 @@ FragmentListLinesMean =
 -- what was read of an implicit data set fits each target with the same dictionary
 abbrev pub ImplicitFits : Type 0
 ImplicitFits =
-    (d : Dictionary) (target : Syntax) (bar : Bar) (start : ℕ) (bytes : List ℕ) (f : Front) (stop : Stop) → dictionary_of target ≡ d
+    (d : Dictionary) (target : Syntax) (bar : Bar) (start : ℕ) (bytes : List ℕ) (f : Front) (stop : Stop)
+    → dictionary_of target ≡ d
     → Reads bar (implicit_in d) start bytes f stop → FrontFits target f
 
 -- the keyword of an element on a line of its own

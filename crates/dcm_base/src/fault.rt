@@ -1,6 +1,6 @@
 // Refusals, each with its number and its words.
 ghost use Rattle.std.specs.Prelude.{◌≡◌};
-ghost use Rattle.dcm_base.specs.Fault as spec;
+ghost use Rattle.dcm_base.specs.Tables.Fault as spec;
 
 use thiserror::Error;
 
@@ -221,8 +221,10 @@ pub struct Stop {
     pub at: u64,
 }
 
-/// Why lines that are built into a file are refused: a fault, the offset at which the line begins, and the number of the line, from
-/// 1. An input that ends too early is refused at its size, and one that is too long at the limit of an input, with no line.
+/// Why lines that are built into a file are refused: a fault, the offset at which the line begins, and the number of
+/// the line, from
+/// 1. An input that ends too early is refused at its size, and one that is too long at the limit of an input, with no
+/// line.
 #[derive(Clone, Copy, Debug, PartialEq, Eq)]
 pub struct LineStop {
     pub fault: LineFault,

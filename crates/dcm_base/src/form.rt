@@ -1,5 +1,5 @@
 ghost use Rattle.std.specs.Prelude.{◌≡◌};
-ghost use Rattle.dcm_base.specs.Spelling as spec;
+ghost use Rattle.dcm_base.specs.Bytes.Spelling as spec;
 
 use crate::length::Length;
 use crate::syntax::Syntax;
@@ -15,7 +15,7 @@ pub enum Form {
 }
 
 /// What follows a head of this syntax, representation and length (PS3.5 7.5, 6.2.2, A.4).
-#[tactic(auto, unfolding(crate::specs::Spelling::form))]
+#[tactic(auto, unfolding(crate::specs::Bytes::Spelling::form))]
 pub fn form_of(syntax: Syntax, vr: Vr, length: Length) -> Form
     ensures { result ≡ spec.form syntax vr length }
 {

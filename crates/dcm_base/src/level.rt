@@ -1,5 +1,4 @@
 use crate::length::Length;
-use crate::lookup::Dictionary;
 use crate::syntax::Syntax;
 
 /// The most sequences and fragment lists that may be open at a time.
@@ -29,7 +28,7 @@ impl Default for Level {
     fn default() -> Self {
         Level {
             container: Container::DataSet,
-            syntax: Syntax::Little(Dictionary::Extract),
+            syntax: Syntax::LITTLE,
             declared: Length::Undefined,
             end_offset: None,
         }

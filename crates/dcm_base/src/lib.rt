@@ -1,10 +1,14 @@
 //! What all crates speak of: facts of the standard, and faults.
 //!
-//! - **Facts**: `Tag`, `Vr` with its letters, unit and pad byte, `Length`, `Syntax`; `element`, `keyword` and `tag_of` of the
-//!   dictionary's extract (PS3.6), `element_in`, `vr_in`, `keyword_in` and `tag_in` of a `Dictionary`, the extract or the whole; `uid_name` and `uid_of`; `coding_of` a transfer syntax; `form_of` an element.
-//! - **Faults**: `Fault` of a file, `LineFault` of lines, `EditRefusal` and `WordFault` of words, each with its number and text.
+//! - **Facts**: `Tag`, `Vr` with its letters, unit and pad byte, `Length`, `Syntax`; `element`, `keyword` and `tag_of`
+//! of the
+//!   dictionary's extract (PS3.6), `element_in`, `vr_in`, `keyword_in` and `tag_in` of a `Dictionary`, the extract or
+//! the whole; `uid_name` and `uid_of`; `coding_of` a transfer syntax; `form_of` an element.
+//! - **Faults**: `Fault` of a file, `LineFault` of lines, `EditRefusal` and `WordFault` of words, each with its number
+//! and text.
 //! - **Devices**: those of `dcm_devices`, handed on under the same names.
-//! - **`specs`** has the definitions that the contracts of all crates cite: data sets as trees, how bytes spell them, dumps,
+//! - **`specs`** has the definitions that the contracts of all crates cite: data sets as trees, how bytes spell them,
+//! dumps,
 //!   conversions, files that are built. `laws` has what is proved of the definitions alone.
 //!
 //! Facts by a tag:
@@ -15,14 +19,14 @@
 #![tactic(auto)]
 
 mod dictionary;
+mod digits;
 mod fault;
 mod form;
 pub mod laws;
 mod length;
 mod level;
-mod lookup;
+mod limits;
 mod mode;
-mod standard;
 mod syntax;
 mod tag;
 mod transfer;
@@ -33,12 +37,15 @@ pub use dcm_devices::{
     Device, DeviceIn, DeviceOut, Measured, MemIn, MemOut, ReadFailed, Std, Watched, WriteFailed,
     flush_out, get_some, put_all, put_decimal, put_parts,
 };
-pub use dictionary::{ELEMENTS, dict_vr, element, keyword, tag_of};
+pub use dictionary::{
+    Dictionary, ELEMENTS, dict_vr, element, element_in, keyword, keyword_in, tag_in, tag_of, vr_in,
+};
+pub use digits::{decimal_digit, decimal_number};
 pub use fault::{EditRefusal, Fault, LineFault, LineStop, Stop, WordFault};
 pub use form::{Form, form_of};
 pub use length::Length;
 pub use level::{Container, Level, MOST_LISTS};
-pub use lookup::{Dictionary, element_in, keyword_in, tag_in, vr_in};
+pub use limits::{LINE_LIMIT, VALUE_LIMIT};
 pub use mode::Mode;
 pub use syntax::{Coding, Syntax};
 pub use tag::{ITEM_GROUP, META_GROUP, Tag};

@@ -1,8 +1,8 @@
 // Transfer syntaxes (PS3.5 annex A).
 ghost use Rattle.std.specs.Prelude.{◌≡◌};
-ghost use Rattle.dcm_base.specs.Transfer as spec;
+ghost use Rattle.dcm_base.specs.Tables.Transfer as spec;
 
-use crate::lookup::Dictionary;
+use crate::dictionary::Dictionary;
 use crate::syntax::{Coding, Syntax};
 
 /// Implicit VR Little Endian (PS3.5 A.1).
@@ -26,9 +26,9 @@ fn is_deflated(uid: &[u8]) -> bool
         || uid == b"1.2.840.10008.1.2.4.205".as_slice()
 }
 
-/// How a data set of this transfer syntax is spelled (PS3.5 A.1, A.2, A.3, A.4), read by the extract; `Coding::read_by` names
-/// another dictionary.
-#[tactic(auto, unfolding(crate::specs::Transfer::coding_of))]
+/// How a data set of this transfer syntax is spelled (PS3.5 A.1, A.2, A.3, A.4), read by the extract;
+/// `Coding::read_by` names another dictionary.
+#[tactic(auto, unfolding(crate::specs::Tables::Transfer::coding_of))]
 pub fn coding_of(uid: &[u8]) -> Result<Coding, Deflated>
     ensures { result ≡ spec.coding_of uid.now }
 {
@@ -40,7 +40,7 @@ pub fn coding_of(uid: &[u8]) -> Result<Coding, Deflated>
         return Ok(native(Syntax::Implicit(Dictionary::Extract)));
     }
     if uid == LITTLE_UID {
-        return Ok(native(Syntax::Little(Dictionary::Extract)));
+        return Ok(native(Syntax::LITTLE));
     }
     if uid == BIG_UID {
         return Ok(native(Syntax::Big(Dictionary::Extract)));
@@ -49,7 +49,7 @@ pub fn coding_of(uid: &[u8]) -> Result<Coding, Deflated>
         return Err(Deflated);
     }
     Ok(Coding {
-        syntax: Syntax::Little(Dictionary::Extract),
+        syntax: Syntax::LITTLE,
         encapsulated: true,
     })
 }

@@ -1,6 +1,6 @@
 ghost use Rattle.std.specs.Prelude.{◌≡◌, find, bytes_eq};
 ghost use Rattle.std.specs.Option.{option_copied};
-ghost use Rattle.dcm_base.specs.Representation as spec;
+ghost use Rattle.dcm_base.specs.Tables.Representation as spec;
 
 /// The value representations (PS3.5 6.2).
 #[derive(Clone, Copy, Debug, PartialEq, Eq)]
@@ -147,7 +147,7 @@ impl Vr {
     }
 
     /// Its two letters.
-    #[tactic(auto, unfolding(crate::specs::Representation::letters))]
+    #[tactic(auto, unfolding(crate::specs::Tables::Representation::letters))]
     pub fn letters(self) -> [u8; 2]
         ensures { result ≡ spec.letters self }
     {
@@ -172,7 +172,7 @@ fn lettered<'a>(rows: &'a [(Vr, [u8; 2])], letters: &[u8; 2]) -> Option<&'a (Vr,
 }
 
 /// The value representation of two letters.
-#[tactic(auto, unfolding(crate::specs::Representation::vr_of))]
+#[tactic(auto, unfolding(crate::specs::Tables::Representation::vr_of))]
 #[inline]
 pub fn vr_of(letters: &[u8; 2]) -> Option<Vr>
     ensures { result ≡ spec.vr_of letters.now }

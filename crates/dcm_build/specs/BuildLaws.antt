@@ -1,16 +1,16 @@
 -- What the laws of a file that is built line by line say.
 use Rattle.std.specs.Prelude.{◌≡◌, ◌↔◌, ℕ, ◌≤◌, List, ◌++◌, length, Option, Some, None, fold}
-use Rattle.dcm_base.specs.Build as build
+use Rattle.dcm_base.specs.Lines.Build as build
 use Rattle.dcm_base.specs.declared.fault.LineStop.{LineStop}
-use Rattle.dcm_base.specs.Reads.{INPUT_LIMIT}
+use Rattle.dcm_base.specs.Reading.Reads.{INPUT_LIMIT}
 use Rattle.dcm_build.specs.Building.{BuildState, build_start, build_step, finishes, finish_writes}
 
--- a whole input builds this, from the state behind its bytes and what they wrote
+-- a whole input builds this, by the state after its bytes and what they wrote
 pub record Builds (limit : ℕ) (bytes : List ℕ) (s : BuildState) (written : List ℕ) : Type 0 where
   pub file : written ++ finish_writes s ≡ build.built_bytes (build.built limit bytes).built
   pub told : (finishes s).told ≡ (build.built limit bytes).told
 
--- behind a beginning of an input without fault: what its ended lines have built, and the line that has not ended
+-- after a beginning of an input without fault: what its ended lines have built, and the line that has not ended
 pub record BuiltSoFar (limit : ℕ) (bytes : List ℕ) (s : BuildState) (written : List ℕ) : Type 0 where
   pub file : written ≡ build.written_so_far limit bytes
   pub no_fault : (build.built_by limit (build.lines_of bytes).ended).told ≡ None
@@ -18,7 +18,7 @@ pub record BuiltSoFar (limit : ℕ) (bytes : List ℕ) (s : BuildState) (written
   pub short : length s.line ≤ limit
   pub within : length bytes ≤ INPUT_LIMIT
 
--- of an input this is told, and what was built before it is this
+-- of an input this is reported, and what was built before it is this
 pub record Stays (limit : ℕ) (bytes : List ℕ) (told : LineStop) (written : List ℕ) : Type 0 where
   pub told_is : (build.built limit bytes).told ≡ Some told
   pub file : written ≡ build.built_bytes (build.built limit bytes).built
@@ -40,7 +40,8 @@ after_call limit before piece = fold build_step (fold build_step (build_start li
 abbrev pub CallRefuses : (limit : ℕ) → (before piece : List ℕ) → Type 0
 CallRefuses limit before piece = IsTold (after_call limit before piece).told ↔ (Undecided limit (before ++ piece) → ⊥)
 
--- and with the one that is told of them
+-- and with the one that is reported of them
 abbrev pub CallTells : (limit : ℕ) → (before piece : List ℕ) → LineStop → Type 0
 CallTells limit before piece told =
-    ((after_call limit before piece).told ≡ Some told) ↔ (((build.built limit (before ++ piece)).told ≡ Some told) × (Undecided limit (before ++ piece) → ⊥))
+    ((after_call limit before piece).told ≡ Some told) ↔ (((build.built limit (before ++ piece)).told ≡ Some told)
+    × (Undecided limit (before ++ piece) → ⊥))

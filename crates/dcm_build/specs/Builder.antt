@@ -1,11 +1,13 @@
 -- A builder and the output that it drives.
-use Rattle.std.specs.Prelude.{◌≡◌, ℕ, suc, ◌+◌, ◌<◌, ◌≤◌, List, [], ◌∷◌, ◌++◌, length, take, Bool, true, false, Option, Some, None, Result, Ok, Err, ◌||◌, ◌==◌, is_some, ⊤}
+use Rattle.std.specs.Prelude.{◌≡◌, ℕ, suc, ◌+◌, ◌<◌, ◌≤◌, List, [], ◌∷◌, ◌++◌, length, take, Bool, true, false, Option}
+use Rattle.std.specs.Prelude.{Some, None, Result, Ok, Err, ◌||◌, ◌==◌, is_some, ⊤}
 use Rattle.std.specs.Str.{byte}
 use Rattle.std.specs.Io.KnownBytes.{append_known}
 use Rattle.dcm_base.specs.declared.fault.LineStop.{LineStop}
 use Rattle.dcm_devices.specs.Device.{AppendsFront}
-use Rattle.dcm_base.specs.Reads.{INPUT_LIMIT}
-use Rattle.dcm_base.specs.Steps.{Goes}
+use Rattle.dcm_base.specs.Lines.Limits.{LINE_LIMIT}
+use Rattle.dcm_base.specs.Reading.Reads.{INPUT_LIMIT}
+use Rattle.dcm_base.specs.Steps.Steps.{Goes}
 use Rattle.dcm_build.specs.declared.build.BuildHalt.{BuildHalt}
 use Rattle.dcm_build.specs.declared.build.BuildHalt.TheVariants.{Refused, Output}
 use Rattle.dcm_build.specs.declared.file.Stopped.{Stopped}
@@ -18,7 +20,7 @@ use Rattle.dcm_build.specs.NewFile.{LineAt, state}
 abbrev pub line_at : LineReader → LineAt
 line_at p = record { limit = p.limit; line = p.line.items; offset = p.offset; number = p.number }
 
--- what the lines so far have built, and the fault that was told
+-- what the lines so far have built, and the fault that was reported
 abbrev pub building : LineReader → Option LineStop → BuildState
 building p told = state p.file (line_at p) told
 
@@ -26,9 +28,10 @@ building p told = state p.file (line_at p) told
 abbrev pub read : LineAt → ℕ
 read at = at.offset + length at.line
 
--- the line fits its limit, and each count its bounds; the last line may pass the limit of an input by the newline that it lacks
+-- the line fits its limit, and each count its bounds; the last line may pass the limit of an input by the newline that
+-- it lacks
 pub record Stands (at : LineAt) : Type 0 where
-  pub limit : at.limit ≤ 16384
+  pub limit : at.limit ≤ LINE_LIMIT
   pub line : length at.line ≤ at.limit
   pub within : 0 < length at.line → read at ≤ INPUT_LIMIT
   pub offset : at.offset ≤ INPUT_LIMIT + 1
@@ -44,8 +47,8 @@ abbrev pub more : LineAt → List ℕ → LineAt
 more at bs = record at { line = at.line ++ bs }
 
 -- where the next line begins
-abbrev pub behind : LineAt → LineAt
-behind at = record at { line = []; offset = at.offset + length at.line + 1; number = suc at.number }
+abbrev pub next_line_at : LineAt → LineAt
+next_line_at at = record at { line = []; offset = at.offset + length at.line + 1; number = suc at.number }
 
 -- ---- what a call answers
 
@@ -60,13 +63,13 @@ went (Ok x) = Ok tt
 went (Err (Refused stop)) = Ok tt
 went (Err Output) = Err tt
 
--- the fault that is told
+-- the fault that is reported
 abbrev pub fault_of : {T : Type 0} → Result T BuildHalt → Option LineStop
 fault_of (Ok x) = None
 fault_of (Err (Refused stop)) = Some stop
 fault_of (Err Output) = None
 
--- the output failed in the call just where it tells so
+-- the output failed in the call exactly where that is the answer
 abbrev pub TellsHalt : {T : Type 0} → Bool → Bool → Result T BuildHalt → Type 0
 TellsHalt old new (Ok x) = new ≡ old
 TellsHalt old new (Err (Refused stop)) = new ≡ old
@@ -75,16 +78,18 @@ TellsHalt old new (Err Output) = new ≡ true
 -- ---- parts of a call
 
 -- what was built came to this state, and these bytes went out, or a beginning of them
-abbrev pub Reaches : {T : Type 0} → (held holds : Option (List ℕ)) → (Option LineStop → BuildState) → BuildState → List ℕ → Result T BuildHalt → Type 0
+abbrev pub Reaches : {T : Type 0} → (held holds : Option (List ℕ)) → (Option LineStop → BuildState) → BuildState
+    → List ℕ → Result T BuildHalt → Type 0
 Reaches held holds new s bytes (Ok x) = (new None ≡ s) × (holds ≡ append_known held bytes)
 Reaches held holds new s bytes (Err (Refused stop)) = (new (Some stop) ≡ s) × (holds ≡ append_known held bytes)
 Reaches held holds new s bytes (Err Output) = AppendsFront held holds bytes
 
--- these bytes were gone over, or a beginning of what they write went out
-abbrev pub Feeds : {T : Type 0} → BuildState → (held : Option (List ℕ)) → (Option LineStop → BuildState) → (holds : Option (List ℕ)) → List ℕ → Result T BuildHalt → Type 0
+-- these bytes were read, or a beginning of what they write went out
+abbrev pub Feeds : {T : Type 0} → BuildState → (held : Option (List ℕ)) → (Option LineStop → BuildState)
+    → (holds : Option (List ℕ)) → List ℕ → Result T BuildHalt → Type 0
 Feeds old held new holds bytes r = Goes build_step build_writes old held (new (fault_of r)) holds bytes (went r)
 
--- the bytes that were gone over: so many, or all where it goes no further
+-- the bytes that were read: so many, or all where it goes no further
 abbrev pub bytes_read : Result ℕ BuildHalt → List ℕ → List ℕ
 bytes_read (Ok n) piece = take n piece
 bytes_read (Err halt) piece = piece

@@ -1,20 +1,28 @@
 -- A file that is built byte by byte from the lines of a dump, in a fixed room.
-use Rattle.std.specs.Prelude.{ℕ, suc, ◌+◌, ◌==◌, ◌&&◌, ◌||◌, not, nat_le, nat_lt, Bool, true, false, if◌then◌else◌, List, [], ◌∷◌, ◌++◌, length, map, fold, Option, Some, None, is_none, is_some, unwrap_or}
+use Rattle.std.specs.Prelude.{ℕ, suc, ◌+◌, ◌==◌, ◌&&◌, ◌||◌, not, nat_le, nat_lt, Bool, true, false, if◌then◌else◌}
+use Rattle.std.specs.Prelude.{List, [], ◌∷◌, ◌++◌, length, map, fold, Option, Some, None, is_none, is_some, unwrap_or}
 use Rattle.std.specs.Str.{byte}
+use Rattle.dcm_base.specs.declared.level.TheConstants.{MOST_LISTS}
 use Rattle.dcm_base.specs.declared.length.Length.TheVariants.{Known, Undefined}
-use Rattle.dcm_base.specs.Syntax.{Little}
+use Rattle.dcm_base.specs.Tables.Syntax.{Little}
 use Rattle.dcm_base.specs.declared.fault.LineFault.{LineFault}
-use Rattle.dcm_base.specs.declared.fault.LineFault.TheVariants.{LineTooLong, NotALine, ValueDoesNotFit, NotAllowed, NotAscending, BadMetaGroup, NoTransferSyntax, TooDeep, EndsEarly, TooLong}
-use Rattle.dcm_base.specs.Atoms.{Atom, opens, value_byte, closes_leaf, opens_item, closes_item, closes_sequence, opens_fragment}
-use Rattle.dcm_base.specs.Build.{named_coding, coding_or_little, allows_fragments, has_place_in, element_tag, is_meta, is_opening, is_fragment_opening, is_after, lacks_value, first_fault, without_return, is_the_top}
+use Rattle.dcm_base.specs.declared.fault.LineFault.TheVariants.{LineTooLong, NotALine, ValueDoesNotFit, NotAllowed}
+use Rattle.dcm_base.specs.declared.fault.LineFault.TheVariants.{NotAscending, BadMetaGroup, NoTransferSyntax, TooDeep}
+use Rattle.dcm_base.specs.declared.fault.LineFault.TheVariants.{EndsEarly, TooLong}
+use Rattle.dcm_base.specs.Steps.Atoms.{Atom, opens, value_byte, closes_leaf, opens_item, closes_item, closes_sequence}
+use Rattle.dcm_base.specs.Steps.Atoms.{opens_fragment}
+use Rattle.dcm_base.specs.Lines.Build.{named_coding, coding_or_little, allows_fragments, has_place_in, element_tag}
+use Rattle.dcm_base.specs.Lines.Build.{is_meta, is_opening, is_fragment_opening, is_after, lacks_value, first_fault}
+use Rattle.dcm_base.specs.Lines.Build.{without_return, is_the_top}
 use Rattle.dcm_base.specs.declared.fault.LineStop.{LineStop}
-use Rattle.dcm_base.specs.Head.{head_size}
-use Rattle.dcm_base.specs.Line.{Step, show_leaf, begin_sequence, begin_fragments, begin_item, show_fragment, end_item, end_sequence, Meaning, nothing, one, no_line, means}
-use Rattle.dcm_base.specs.MetaGroup.{META_LIMIT}
-use Rattle.dcm_base.specs.Reads.{INPUT_LIMIT}
-use Rattle.dcm_base.specs.Size.{trees_size}
-use Rattle.dcm_base.specs.Steps.{outputs}
-use Rattle.dcm_tools.specs.EncodeSink.{EncodeState, encode_start, encode_step, encode_writes}
+use Rattle.dcm_base.specs.Bytes.Head.{head_size}
+use Rattle.dcm_base.specs.Lines.Line.{Step, show_leaf, begin_sequence, begin_fragments, begin_item, show_fragment}
+use Rattle.dcm_base.specs.Lines.Line.{end_item, end_sequence, Meaning, nothing, one, no_line, means}
+use Rattle.dcm_base.specs.File.MetaGroup.{META_LIMIT}
+use Rattle.dcm_base.specs.Reading.Reads.{INPUT_LIMIT}
+use Rattle.dcm_base.specs.Reading.Size.{trees_size}
+use Rattle.dcm_base.specs.Steps.Steps.{outputs}
+use Rattle.dcm_sinks.specs.EncodeSink.{EncodeState, encode_start, encode_step, encode_writes}
 use Rattle.dcm_build.specs.NewGroup.{Shown, shown, trees_of, file_head}
 use Rattle.dcm_build.specs.OpenContainers.{OpenContainers, at_top, container_of, reached_in, lists_open, standing_with}
 
@@ -27,7 +35,7 @@ pub record BuildState : Type 0 where
   -- the elements that the lines of the meta group have shown, and whether it has ended
   pub meta : List Shown
   pub meta_ended : Bool
-  -- what stands open of the data set, and how it is written
+  -- what is open of the data set, and how it is written
   pub standing : OpenContainers
   pub encoding : EncodeState
   -- the first fault, which stays
@@ -66,7 +74,10 @@ abbrev pub ends_meta : Step → BuildState → Bool
 ends_meta step s = not (is_meta step) && not s.meta_ended
 
 abbrev pub meta_over : BuildState → BuildState
-meta_over s = record s { meta_ended = true; encoding = encode_start (coding_or_little (named_coding (trees_of s.meta))) }
+meta_over s = record s {
+  meta_ended = true;
+  encoding = encode_start (coding_or_little (named_coding (trees_of s.meta)));
+}
 
 abbrev pub in_group : Step → BuildState → BuildState
 in_group step s = if ends_meta step s then meta_over s else s
@@ -90,10 +101,11 @@ is_misplaced step s =
     || (is_fragment_opening step && not (allows_fragments (named_coding (trees_of s.meta))))
 
 abbrev pub is_out_of_order : Step → BuildState → Bool
-is_out_of_order step s = not (is_meta step) && not (is_after (reached_in s.standing.reached s.standing.containers) (element_tag step))
+is_out_of_order step s = not (is_meta step)
+    && not (is_after (reached_in s.standing.reached s.standing.containers) (element_tag step))
 
 abbrev pub is_too_deep : Step → BuildState → Bool
-is_too_deep step s = is_opening step && nat_le 64 (lists_open s.standing.containers)
+is_too_deep step s = is_opening step && nat_le MOST_LISTS (lists_open s.standing.containers)
 
 abbrev pub is_meta_too_large : Step → BuildState → Bool
 is_meta_too_large step s = is_meta step && nat_lt META_LIMIT (trees_size Little (trees_of s.meta) + shown_size step)
@@ -114,7 +126,8 @@ abbrev pub value_atoms : List ℕ → List Atom
 value_atoms value = map value_byte value ++ closes_leaf ∷ []
 
 abbrev pub step_atoms : Step → List Atom
-step_atoms (show_leaf tag vr value) = opens tag vr (Known (length (unwrap_or value []))) Little ∷ value_atoms (unwrap_or value [])
+step_atoms (show_leaf tag vr value) = opens tag vr (Known (length (unwrap_or value []))) Little ∷ value_atoms
+    (unwrap_or value [])
 step_atoms (begin_sequence tag vr) = opens tag vr Undefined Little ∷ []
 step_atoms (begin_fragments tag vr) = opens tag vr Undefined Little ∷ []
 step_atoms begin_item = opens_item Undefined ∷ []
@@ -126,7 +139,10 @@ abbrev pub tells : LineFault → BuildState → BuildState
 tells fault s = record s { told = Some (record { fault = fault; offset = s.offset; line = s.number }) }
 
 abbrev pub with_set : Step → BuildState → BuildState
-with_set step s = record s { standing = standing_with step s.standing; encoding = fold encode_step s.encoding (step_atoms step) }
+with_set step s = record s {
+  standing = standing_with step s.standing;
+  encoding = fold encode_step s.encoding (step_atoms step);
+}
 
 abbrev pub taken : Step → BuildState → BuildState
 taken step s = if is_meta step then with_meta step s else with_set step s
@@ -141,7 +157,8 @@ abbrev pub placed_writes : Step → BuildState → List ℕ
 placed_writes step s = elim (first_fault (step_checks step s)) [ Some fault ↦ [] | None ↦ taken_writes step s ]
 
 abbrev pub shows : Step → BuildState → BuildState
-shows step s = elim (first_fault (group_checks step s)) [ Some fault ↦ tells fault s | None ↦ placed step (in_group step s) ]
+shows step s = elim (first_fault (group_checks step s))
+    [ Some fault ↦ tells fault s | None ↦ placed step (in_group step s) ]
 
 abbrev pub shows_writes : Step → BuildState → List ℕ
 shows_writes step s = elim (first_fault (group_checks step s)) [
@@ -161,7 +178,7 @@ meaning_writes nothing s = []
 meaning_writes (one step) s = shows_writes step s
 meaning_writes no_line s = []
 
--- the next line begins behind so many bytes and a newline, unless this one is at fault
+-- the next line begins after so many bytes and a newline, unless this one is at fault
 abbrev pub next_line : ℕ → BuildState → BuildState
 next_line size s = elim s.told [
   | Some t ↦ s
@@ -213,7 +230,7 @@ end_checks s =
     ∷ (not (is_the_top (container_of s.standing.containers)), EndsEarly)
     ∷ []
 
--- told at the input's size
+-- reported at the input's size
 abbrev pub tells_at_end : ℕ → LineFault → BuildState → BuildState
 tells_at_end size fault s = record s { told = Some (record { fault = fault; offset = size; line = s.number }) }
 
@@ -227,7 +244,8 @@ end_writes s = if not s.meta_ended && is_some (named_coding (trees_of s.meta)) t
 abbrev pub closed : ℕ → BuildState → BuildState
 closed size s = elim s.told [
   | Some t ↦ s
-  | None ↦ elim (first_fault (end_checks s)) [ Some fault ↦ tells_at_end size fault (ended_meta s) | None ↦ ended_meta s ]
+  | None ↦ elim (first_fault (end_checks s))
+      [ Some fault ↦ tells_at_end size fault (ended_meta s) | None ↦ ended_meta s ]
 ]
 
 abbrev pub closed_writes : BuildState → List ℕ

@@ -2,24 +2,24 @@
 use Rattle.std.specs.Prelude.{◌≡◌, ◌≤◌, ◌+◌, ◌%◌, ℕ, List, ◌++◌, length, drop, replicate, Some, None}
 use Rattle.dcm_base.specs.declared.syntax.Coding.{Coding}
 use Rattle.dcm_base.specs.declared.mode.Mode.TheVariants.{Full}
-use Rattle.dcm_base.specs.Syntax.{Little, read_by}
-use Rattle.dcm_base.specs.Ascending.{Ascend}
-use Rattle.dcm_base.specs.Dump.{dump_set}
-use Rattle.dcm_base.specs.Header.{meta_header, set_header}
-use Rattle.dcm_base.specs.MetaGroup.{META_LIMIT, AreMeta}
-use Rattle.dcm_base.specs.Bars.{no_bar}
-use Rattle.dcm_base.specs.MetaReads.{PREFIX, Meta, MetaReads, begins}
-use Rattle.dcm_base.specs.Normal.{whole_front}
-use Rattle.dcm_base.specs.Stop.{complete}
-use Rattle.dcm_base.specs.ValueText.{shown_unit}
-use Rattle.dcm_base.specs.NewMeta.{new_meta}
-use Rattle.dcm_base.specs.Number.{AreBytes}
-use Rattle.dcm_base.specs.Reads.{INPUT_LIMIT, Reads}
-use Rattle.dcm_base.specs.Recode.{recode_set}
-use Rattle.dcm_base.specs.Size.{trees_size}
-use Rattle.dcm_base.specs.Tree.{Trees, no_tree, leaf, sequence, fragments, Items, no_item, item}
-use Rattle.dcm_base.specs.Build.{built, built_bytes, lines_of, named_coding, named_syntax}
-use Rattle.dcm_base.specs.declared.lookup.Dictionary.{Dictionary}
+use Rattle.dcm_base.specs.Tables.Syntax.{Little, read_by}
+use Rattle.dcm_base.specs.Lines.Ascending.{Ascend}
+use Rattle.dcm_base.specs.Dump.Dump.{dump_set}
+use Rattle.dcm_base.specs.Dump.Header.{meta_header, set_header}
+use Rattle.dcm_base.specs.File.MetaGroup.{META_LIMIT, AreMeta}
+use Rattle.dcm_base.specs.Reading.Bars.{no_bar}
+use Rattle.dcm_base.specs.File.MetaReads.{PREFIX, Meta, MetaReads, begins}
+use Rattle.dcm_base.specs.Conversion.Normal.{whole_front}
+use Rattle.dcm_base.specs.Reading.Stop.{complete}
+use Rattle.dcm_base.specs.Dump.ValueText.{shown_unit}
+use Rattle.dcm_base.specs.Conversion.NewMeta.{new_meta}
+use Rattle.dcm_base.specs.Tables.Number.{AreBytes}
+use Rattle.dcm_base.specs.Reading.Reads.{INPUT_LIMIT, Reads}
+use Rattle.dcm_base.specs.Conversion.Recode.{recode_set}
+use Rattle.dcm_base.specs.Reading.Size.{trees_size}
+use Rattle.dcm_base.specs.Tree.Tree.{Trees, no_tree, leaf, sequence, fragments, Items, no_item, item}
+use Rattle.dcm_base.specs.Lines.Build.{built, built_bytes, lines_of, named_coding, named_syntax}
+use Rattle.dcm_base.specs.declared.dictionary.Dictionary.{Dictionary}
 use Rattle.dcm_build.specs.DumpLines.{AllWithin, SetReadsBack}
 use Rattle.dcm_build.specs.StepsBuild.{MayStand}
 
@@ -27,8 +27,8 @@ use Rattle.dcm_build.specs.StepsBuild.{MayStand}
 abbrev pub full_dump : Dictionary → Trees → Trees → List ℕ
 full_dump d meta set = meta_header d Full meta ++ set_header (named_syntax meta) ++ dump_set d Full 0 set
 
--- a file whose full dump builds it again, where none of its lines is too long: the group names a coding, values are of whole
--- units, and the tags of each data set ascend
+-- a file whose full dump builds it again, where none of its lines is too long: the group names a coding, values are
+-- of whole units, and the tags of each data set ascend
 pub record CanBuild (meta : Trees) (coding : Coding) (set : Trees) : Type 0 where
   pub group : AreMeta meta
   pub size : trees_size Little meta ≤ META_LIMIT
@@ -39,17 +39,20 @@ pub record CanBuild (meta : Trees) (coding : Coding) (set : Trees) : Type 0 wher
   pub ascends : Ascend None set
   pub stands : MayStand coding 0 set
 
--- no line passes the limit, and there are no more bytes than are read of an input; a newline ends each line of a dump, the last too
+-- no line passes the limit, and there are no more bytes than are read of an input; a newline ends each line of a dump,
+-- the last too
 pub record FitsLines (limit : ℕ) (text : List ℕ) : Type 0 where
   pub lines : AllWithin limit (lines_of text).ended
   pub size : length text ≤ INPUT_LIMIT
 
--- a file is read by a dictionary: its meta group, which names a coding, and these elements in its data set, without fault
+-- a file is read by a dictionary: its meta group, which names a coding, and these elements in its data set, without
+-- fault
 pub record FileRead (d : Dictionary) (file : List ℕ) (meta : Meta) (coding : Coding) (set : Trees) : Type 0 where
   pub bytes : AreBytes file
   pub group : List ℕ
   pub head : MetaReads file (begins meta group coding)
-  pub reads : Reads no_bar (read_by d coding.syntax) (132 + length group) (drop (132 + length group) file) (whole_front set) complete
+  pub reads : Reads no_bar (read_by d coding.syntax) (132 + length group) (drop (132 + length group) file)
+      (whole_front set) complete
 
 -- each value is of whole units, an attribute tag of four bytes; a fragment is of bytes
 unfoldable mutual
@@ -63,7 +66,8 @@ unfoldable mutual
   ItemsOfWholeUnits no_item = Unit {0}
   ItemsOfWholeUnits (item declared set rest) = WholeUnits set × ItemsOfWholeUnits rest
 
--- a text builds the file with these elements, in its own transfer syntax, behind a preamble of zeros
+-- a text builds the file with these elements, in its own transfer syntax, after a preamble of zeros
 pub record BuildsFile (limit : ℕ) (text : List ℕ) (meta : Trees) (coding : Coding) (set : Trees) : Type 0 where
   pub no_fault : (built limit text).told ≡ None
-  pub file : built_bytes (built limit text).built ≡ replicate 128 0 ++ PREFIX ++ new_meta meta (named_syntax meta) ++ recode_set coding.syntax set
+  pub file : built_bytes (built limit text).built ≡ replicate 128 0 ++ PREFIX ++ new_meta meta (named_syntax meta)
+      ++ recode_set coding.syntax set

@@ -2,14 +2,16 @@
 use Rattle.std.specs.Prelude.{◌≡◌, ◌≢◌, ◌≤◌, ◌%◌, ℕ, List, [], ◌∷◌, ◌++◌, length, map, Some, true, false, nat_le}
 use Rattle.std.specs.List.{list_all}
 use Rattle.dcm_base.specs.declared.tag.Tag.{Tag}
+use Rattle.dcm_base.specs.declared.tag.TheConstants.{ITEM_GROUP}
 use Rattle.dcm_base.specs.declared.vr.Vr.{Vr}
 use Rattle.dcm_base.specs.declared.vr.Vr.TheVariants.{OB}
-use Rattle.dcm_base.specs.Number.{AreBytes, HasLength, IsLength, IsTag}
-use Rattle.dcm_base.specs.Representation.{is_sequence}
-use Rattle.dcm_base.specs.Tree.{Trees, no_tree, leaf, sequence, fragments, Items, no_item, item}
-use Rattle.dcm_base.specs.ValueText.{shown_unit}
-use Rattle.dcm_base.specs.ReadValue.{value_shown}
-use Rattle.dcm_base.specs.Line.{Step, show_leaf, begin_sequence, begin_fragments, begin_item, show_fragment, end_item, end_sequence, one, means, may_be_sequence, may_be_fragments}
+use Rattle.dcm_base.specs.Tables.Number.{AreBytes, HasLength, IsLength, IsTag}
+use Rattle.dcm_base.specs.Tables.Representation.{is_sequence}
+use Rattle.dcm_base.specs.Tree.Tree.{Trees, no_tree, leaf, sequence, fragments, Items, no_item, item}
+use Rattle.dcm_base.specs.Dump.ValueText.{shown_unit}
+use Rattle.dcm_base.specs.Lines.ReadValue.{value_shown}
+use Rattle.dcm_base.specs.Lines.Line.{Step, show_leaf, begin_sequence, begin_fragments, begin_item, show_fragment}
+use Rattle.dcm_base.specs.Lines.Line.{end_item, end_sequence, one, means, may_be_sequence, may_be_fragments}
 
 -- ---- steps
 
@@ -21,8 +23,10 @@ unfoldable mutual
   pub set_steps : Trees → List Step
   set_steps no_tree = []
   set_steps (leaf tag vr value rest) = show_leaf tag vr (Some (value_shown vr value)) ∷ set_steps rest
-  set_steps (sequence tag vr declared items rest) = begin_sequence tag vr ∷ (items_steps items ++ end_sequence ∷ set_steps rest)
-  set_steps (fragments tag vr values rest) = begin_fragments tag vr ∷ (map fragment_step values ++ end_sequence ∷ set_steps rest)
+  set_steps (sequence tag vr declared items rest) =
+      begin_sequence tag vr ∷ (items_steps items ++ end_sequence ∷ set_steps rest)
+  set_steps (fragments tag vr values rest) =
+      begin_fragments tag vr ∷ (map fragment_step values ++ end_sequence ∷ set_steps rest)
 
   pub items_steps : Items → List Step
   items_steps no_item = []
@@ -34,10 +38,6 @@ unfoldable mutual
 abbrev pub joined : List (List ℕ) → List ℕ
 joined [] = []
 joined (line ∷ lines) = line ++ 10 ∷ joined lines
-
--- the greatest limit that the lines of a dump may have
-abbrev pub GREATEST_LIMIT : ℕ
-GREATEST_LIMIT = 16384
 
 -- none of these lines passes a limit
 abbrev pub AllWithin : ℕ → List (List ℕ) → Type 0
@@ -66,7 +66,7 @@ pub record TextMeans (text : List ℕ) (steps : List Step) : Type 0 where
 -- ---- data sets whose full dump can be read back, where none of its lines is too long
 
 abbrev pub IsElement : Tag → Type 0
-IsElement tag = IsTag tag × (tag.group ≢ 0xFFFE)
+IsElement tag = IsTag tag × (tag.group ≢ ITEM_GROUP)
 
 -- a value of whole units
 pub record ReadsBack (vr : Vr) (value : List ℕ) : Type 0 where
@@ -85,7 +85,8 @@ unfoldable mutual
   SetReadsBack (leaf tag vr value rest) = IsElement tag × ReadsBack vr value × SetReadsBack rest
   SetReadsBack (sequence tag vr declared items rest) =
       IsElement tag × (may_be_sequence vr ≡ true) × HasLength declared × ItemsReadBack items × SetReadsBack rest
-  SetReadsBack (fragments tag vr values rest) = IsElement tag × (may_be_fragments vr ≡ true) × AllReadBack values × SetReadsBack rest
+  SetReadsBack (fragments tag vr values rest) = IsElement tag × (may_be_fragments vr ≡ true) × AllReadBack values
+      × SetReadsBack rest
 
   pub ItemsReadBack : Items → Type 0
   ItemsReadBack no_item = Unit {0}

@@ -2,13 +2,13 @@
 use Rattle.std.specs.Prelude.{ℕ, zero, suc, ◌+◌, List, [], ◌∷◌, ◌++◌, length, take, drop, replicate}
 use Rattle.dcm_base.specs.declared.tag.Tag.{Tag}
 use Rattle.dcm_base.specs.declared.vr.Vr.{Vr}
-use Rattle.dcm_base.specs.Syntax.{Little}
-use Rattle.dcm_base.specs.Build.{named_syntax}
-use Rattle.dcm_base.specs.MetaReads.{PREFIX}
-use Rattle.dcm_base.specs.NewMeta.{new_meta}
-use Rattle.dcm_base.specs.Tree.{Trees, no_tree, leaf}
-use Rattle.dcm_base.specs.Spelling.{Spells}
-use Rattle.dcm_base.specs.MetaGroup.{an_element, the_end, too_few, a_fault, group_place, AreMeta}
+use Rattle.dcm_base.specs.Tables.Syntax.{Little}
+use Rattle.dcm_base.specs.Lines.Build.{named_syntax}
+use Rattle.dcm_base.specs.File.MetaReads.{PREFIX}
+use Rattle.dcm_base.specs.Conversion.NewMeta.{new_meta}
+use Rattle.dcm_base.specs.Tree.Tree.{Trees, no_tree, leaf}
+use Rattle.dcm_base.specs.Bytes.Spelling.{Spells}
+use Rattle.dcm_base.specs.File.MetaGroup.{an_element, the_end, too_few, a_fault, group_place, AreMeta}
 
 -- an element as its line shows it
 pub record Shown : Type 0 where

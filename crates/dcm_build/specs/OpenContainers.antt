@@ -1,9 +1,11 @@
--- What stands open of a data set that is built line by line.
+-- What is open of a data set that is built line by line.
 use Rattle.std.specs.Prelude.{ℕ, suc, List, [], ◌∷◌, Option, Some, None}
 use Rattle.dcm_base.specs.declared.tag.Tag.{Tag}
 use Rattle.dcm_base.specs.declared.level.Container.{Container}
-use Rattle.dcm_base.specs.declared.level.Container.TheVariants.{DataSet as the_data_set, Item as an_item, Sequence as a_sequence, FragmentList as a_fragment_list}
-use Rattle.dcm_base.specs.Line.{Step, show_leaf, begin_sequence, begin_fragments, begin_item, show_fragment, end_item, end_sequence}
+use Rattle.dcm_base.specs.declared.level.Container.TheVariants.{DataSet as the_data_set, Item as an_item}
+use Rattle.dcm_base.specs.declared.level.Container.TheVariants.{Sequence as a_sequence, FragmentList as a_fragment_list}
+use Rattle.dcm_base.specs.Lines.Line.{Step, show_leaf, begin_sequence, begin_fragments, begin_item, show_fragment}
+use Rattle.dcm_base.specs.Lines.Line.{end_item, end_sequence}
 use Rattle.dcm_build.specs.declared.open_containers.Open.{Open}
 use Rattle.dcm_build.specs.declared.open_containers.Open.TheVariants.{Sequence, FragmentList, Item}
 

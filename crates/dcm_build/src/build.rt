@@ -1,5 +1,7 @@
 // A file that is built from the lines of a dump, which come in pieces.
-ghost use Rattle.std.specs.Prelude.{◌≡◌, ◌+◌, ◌≤◌, ◌^◌, OnOk, None, length, true, false};
+ghost use Rattle.std.specs.Prelude.{◌≡◌, ◌+◌, ◌≤◌, OnOk, None, length, true, false};
+ghost use Rattle.dcm_base.specs.Lines.Limits.{LINE_LIMIT};
+ghost use Rattle.dcm_base.specs.Reading.Reads.{INPUT_LIMIT};
 ghost use Rattle.dcm_build.specs.Builder as spec;
 ghost use Rattle.dcm_build.specs.Building as steps;
 ghost use Rattle.dcm_build.specs.Outputs as outputs;
@@ -17,7 +19,8 @@ pub enum BuildHalt {
     Output,
 }
 
-/// Builds a file from the lines of a dump, and writes what is sure of it. It holds one line, the meta group and one value.
+/// Builds a file from the lines of a dump, and writes what is sure of it. It holds one line, the meta group and one
+/// value.
 #[derive(Drop)]
 pub struct Builder {
     reader: LineReader,
@@ -38,7 +41,7 @@ impl Model for Builder {
 impl Builder {
     /// A builder that refuses lines of more bytes than the limit.
     pub fn new(limit: usize) -> Self
-        requires { limit ≤ 16384 }
+        requires { limit ≤ LINE_LIMIT }
         ensures { result ≡ record { state = steps.build_start limit; failed = false } }
     {
         Builder {
@@ -47,45 +50,35 @@ impl Builder {
         }
     }
 
-    /// Goes over the next bytes of the input. After a halt each call answers the same halt.
+    /// Reads the next bytes of the input. After a halt each call answers the same halt.
     pub fn feed<W: DeviceOut>(
         &mut self,
         piece: &[u8],
         out: &mut Watched<W>,
     ) -> Result<(), BuildHalt>
-        ensures goes { outputs.GoesOver W.DeviceOut out.old out.new self.old self.new piece.now }
+        ensures went { outputs.Went W.DeviceOut out.old out.new self.old self.new piece.now }
         ensures answer { result ≡ spec.answer self.new.state.told self.new.failed }
         ensures going { OnOk result (spec.is_halted self.new ≡ false) }
         ensures halted { spec.is_halted self.old ≡ true → (self.new ≡ self.old) × (out.new ≡ out.old) }
-        ensures failed { outputs.TellsFailed W.DeviceOut out.old out.new self.old self.new }
-        // While nothing halts it, it goes over each byte, and over no more than the limit.
-        ensures place { spec.is_halted self.new ≡ false → steps.read_size self.new.state ≡ steps.read_size self.old.state + length piece.now }
-        ensures within { spec.is_halted self.new ≡ false → steps.read_size self.old.state ≤ 2 ^ 62 → steps.read_size self.new.state ≤ 2 ^ 62 }
+        // While nothing halts it, it reads each byte, and no more than the limit.
+        ensures place { spec.is_halted self.new ≡ false
+            → steps.read_size self.new.state ≡ steps.read_size self.old.state + length piece.now }
+        ensures within { spec.is_halted self.new ≡ false → steps.read_size self.old.state ≤ INPUT_LIMIT
+            → steps.read_size self.new.state ≤ INPUT_LIMIT }
     {
-        let mut rest = piece;
-        while !rest.is_empty() && self.halt.is_none() {
-            match self.reader.read_some(rest, out) {
-                Ok(n) => {
-                    let (_, after) = rest.split_at(n);
-                    rest = after;
-                }
-                Err(halt) => {
-                    self.halt = Some(halt);
-                    rest = &[];
-                }
-            }
+        if self.halt.is_none() {
+            self.halt = self.reader.read_all(piece, out).err();
         }
         answer(self.halt)
     }
 
     /// The input ends. Where that is no fault, the file is whole.
     pub fn finish<W: DeviceOut>(&mut self, out: &mut Watched<W>) -> Result<(), BuildHalt>
-        ensures bytes { outputs.Writes W.DeviceOut out.old out.new self.old self.new steps.finish_writes }
+        ensures wrote { outputs.Finished W.DeviceOut out.old out.new self.old self.new steps.finish_writes }
         ensures state { self.new.failed ≡ false → self.new.state ≡ steps.finishes self.old.state }
         ensures answer { result ≡ spec.answer self.new.state.told self.new.failed }
         ensures going { OnOk result (spec.is_halted self.new ≡ false) }
         ensures halted { spec.is_halted self.old ≡ true → (self.new ≡ self.old) × (out.new ≡ out.old) }
-        ensures failed { outputs.TellsFailed W.DeviceOut out.old out.new self.old self.new }
     {
         if self.halt.is_none() {
             self.halt = self.reader.end(out).err();

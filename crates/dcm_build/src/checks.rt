@@ -1,10 +1,10 @@
 // What is asked of a step before it is taken.
 ghost use Rattle.std.specs.Prelude.{◌≡◌};
-ghost use Rattle.dcm_base.specs.Build as build;
+ghost use Rattle.dcm_base.specs.Lines.Build as build;
 ghost use Rattle.dcm_build.specs.LineShown.{step_of};
 
 use crate::line::Step;
-use dcm_base::{Coding, Container, Dictionary, LineFault, META_GROUP, Syntax, Tag};
+use dcm_base::{Coding, Container, LineFault, META_GROUP, Syntax, Tag};
 
 /// The fault of the first check that fails.
 pub fn first_fault(checks: &[(bool, LineFault)]) -> Option<LineFault>
@@ -30,6 +30,7 @@ pub fn element_tag(step: Step<'_>) -> Option<Tag>
     }
 }
 
+/// Whether a step shows or opens an element of the meta group.
 pub fn is_meta(step: Step<'_>) -> bool
     ensures { result ≡ build.is_meta (step_of step.entry) }
 {
@@ -39,18 +40,21 @@ pub fn is_meta(step: Step<'_>) -> bool
     }
 }
 
+/// Whether a step opens a list of fragments.
 pub fn is_fragment_opening(step: Step<'_>) -> bool
     ensures { result ≡ build.is_fragment_opening (step_of step.entry) }
 {
     matches!(step, Step::FragmentList(_, _))
 }
 
+/// Whether a step opens a sequence or a list of fragments.
 pub fn is_opening(step: Step<'_>) -> bool
     ensures { result ≡ build.is_opening (step_of step.entry) }
 {
     matches!(step, Step::Sequence(_, _) | Step::FragmentList(_, _))
 }
 
+/// Whether what a step shows may be in this container.
 pub fn has_place_in(container: Container, step: Step<'_>) -> bool
     ensures { result ≡ build.has_place_in container (step_of step.entry) }
 {
@@ -75,7 +79,7 @@ pub fn is_after(reached: Option<Tag>, tag: Option<Tag>) -> bool
     }
 }
 
-/// Fragment lists stand in explicit little endian alone (PS3.5 A.4).
+/// Whether the coding has fragment lists: explicit little endian alone has them (PS3.5 A.4).
 pub fn allows_fragments(coding: Option<Coding>) -> bool
     ensures { result ≡ build.allows_fragments coding }
 {
@@ -85,12 +89,12 @@ pub fn allows_fragments(coding: Option<Coding>) -> bool
     }
 }
 
-/// The syntax of a coding, or the one that stands where there is none.
+/// The syntax of a coding, or explicit little endian where there is none.
 pub fn coding_or_little(coding: Option<Coding>) -> Syntax
     ensures { result ≡ build.coding_or_little coding }
 {
     match coding {
         Some(coding) => coding.syntax,
-        None => Syntax::Little(Dictionary::Extract),
+        None => Syntax::LITTLE,
     }
 }

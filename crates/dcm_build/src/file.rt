@@ -1,9 +1,13 @@
 // A file that is built, step by step.
-ghost use Rattle.std.specs.Prelude.{◌≡◌, ◌≤◌, ◌&&◌, ◌∷◌, [], OnOk, None, false, true, is_some, unwrap_or, not, flat_map, length};
-ghost use Rattle.dcm_base.specs.Atoms.{opens};
-ghost use Rattle.dcm_base.specs.Build as build;
-ghost use Rattle.dcm_base.specs.ReadValue.{value_of_text};
-ghost use Rattle.dcm_base.specs.Syntax.{Little};
+ghost use Rattle.std.specs.Prelude.{◌≡◌, ◌≤◌, ◌&&◌, ◌∷◌, [], OnOk, None, false, true, is_some, unwrap_or, not};
+ghost use Rattle.std.specs.Prelude.{flat_map, length};
+ghost use Rattle.dcm_base.specs.Steps.Atoms.{opens};
+ghost use Rattle.dcm_base.specs.Lines.Build as build;
+ghost use Rattle.dcm_base.specs.Lines.Line as lines;
+ghost use Rattle.dcm_base.specs.Lines.ReadValue as values;
+ghost use Rattle.dcm_base.specs.Lines.ReadValue.{value_of_text};
+ghost use Rattle.dcm_base.specs.Tables.Syntax.{Little};
+ghost use Rattle.dcm_devices.specs.Writing.{Wrote};
 ghost use Rattle.dcm_stream.specs.Tokens.{atoms_of};
 ghost use Rattle.dcm_build.specs.Building as spec;
 ghost use Rattle.dcm_build.specs.LineShown.{step_of};
@@ -20,16 +24,13 @@ use crate::line::{Meaning, Step, means, without_return};
 use crate::open_containers::OpenContainers;
 use arrayvec::ArrayVec;
 use dcm_base::{
-    Coding, Container, DeviceOut, Dictionary, Length, LineFault, MOST_LISTS, Syntax, Tag, Vr,
+    Coding, Container, DeviceOut, Length, LineFault, MOST_LISTS, Syntax, Tag, VALUE_LIMIT, Vr,
     Watched, WriteFailed,
 };
 use dcm_head::Head;
+use dcm_sinks::Encoder;
 use dcm_stream::Token;
-use dcm_tools::Encoder;
 use dcm_value::read_value_into;
-
-/// The most bytes of a value that is read from a text.
-const MOST_VALUE: usize = 65_536;
 
 /// Why a line stops the building of a file.
 #[derive(Clone, Copy, Debug, PartialEq, Eq)]
@@ -49,19 +50,19 @@ impl From<WriteFailed> for Stopped {
     }
 }
 
-/// A file that is built: its meta group as it grows, what stands open of its data set, how that is written, and the value
-/// that was read last.
+/// A file that is built: its meta group as it grows, what is open of its data set, how that is written, and the
+/// value that was read last.
 #[derive(Drop)]
 pub struct NewFile {
     group: NewGroup,
     meta_ended: bool,
     standing: OpenContainers,
     encoder: Encoder,
-    value: ArrayVec<u8, MOST_VALUE>,
+    value: ArrayVec<u8, VALUE_LIMIT>,
 }
 
-/// Reads a value from its text, and tells whether that stands for one. Where it does not, the value is empty.
-fn read_text(vr: Vr, text: &[u8], value: &mut ArrayVec<u8, MOST_VALUE>) -> bool
+/// Reads a value from its text, and answers whether that means one. Where it does not, the value is empty.
+fn read_text(vr: Vr, text: &[u8], value: &mut ArrayVec<u8, VALUE_LIMIT>) -> bool
     ensures is_read { result ≡ is_some (value_of_text vr text.now) }
     ensures value { value.new.items ≡ unwrap_or (value_of_text vr text.now) [] }
 {
@@ -74,8 +75,8 @@ fn read_text(vr: Vr, text: &[u8], value: &mut ArrayVec<u8, MOST_VALUE>) -> bool
     }
 }
 
-/// Reads the value that a step shows, where it shows one, and tells whether it stands for one.
-fn read_value(step: Step<'_>, value: &mut ArrayVec<u8, MOST_VALUE>) -> bool
+/// Reads the value that a step shows, where it shows one, and answers whether its text means one.
+fn read_value(step: Step<'_>, value: &mut ArrayVec<u8, VALUE_LIMIT>) -> bool
     ensures is_read { result ≡ not (build.lacks_value (step_of step.entry)) }
     ensures value { value.new.items ≡ files.value_in (step_of step.entry) }
 {
@@ -100,8 +101,8 @@ fn put_tokens<W: DeviceOut>(
     tokens: &[Token<'_>],
 ) -> Result<(), WriteFailed>
     ensures state { OnOk result (outputs.Encoded encoder.old encoder.new (flat_map atoms_of tokens.now)) }
-    ensures bytes { outputs.Encodes W.DeviceOut out.old out.new encoder.old (flat_map atoms_of tokens.now) result }
-    ensures failed { outputs.Tells W.DeviceOut out.old out.new result }
+    ensures wrote { Wrote W.DeviceOut out.old out.new (outputs.encoded encoder.old (flat_map atoms_of tokens.now))
+        result }
 {
     for token in tokens {
         encoder.take(out, *token)?;
@@ -113,10 +114,7 @@ fn put_tokens<W: DeviceOut>(
 fn opening<'a>(tag: Tag, vr: Vr, length: Length) -> Token<'a>
     ensures { atoms_of result ≡ opens tag vr length Little ∷ [] }
 {
-    Token::Open(
-        Head { tag, vr, length },
-        Syntax::Little(Dictionary::Extract),
-    )
+    Token::Open(Head { tag, vr, length }, Syntax::LITTLE)
 }
 
 /// Writes what a step shows.
@@ -127,10 +125,10 @@ fn put_step<W: DeviceOut>(
     value: &[u8],
 ) -> Result<(), WriteFailed>
     requires value { value.now ≡ files.value_in (step_of step) }
-    requires size { length value.now ≤ 65536 }
+    requires size { length value.now ≤ values.VALUE_LIMIT }
     ensures state { OnOk result (outputs.Encoded encoder.old encoder.new (spec.step_atoms (step_of step.entry))) }
-    ensures bytes { outputs.Encodes W.DeviceOut out.old out.new encoder.old (spec.step_atoms (step_of step.entry)) result }
-    ensures failed { outputs.Tells W.DeviceOut out.old out.new result }
+    ensures wrote { Wrote W.DeviceOut out.old out.new
+        (outputs.encoded encoder.old (spec.step_atoms (step_of step.entry))) result }
 {
     match step {
         Step::Leaf(tag, vr, _) => put_tokens(encoder, out, Token::leaf(tag, vr, value).as_slice()),
@@ -185,7 +183,7 @@ impl NewFile {
     }
 
     /// Whether the step ends the meta group.
-    fn ends_group(&self, step: Step<'_>) -> bool
+    fn ends_group_before(&self, step: Step<'_>) -> bool
         ensures { result ≡ spec.ends_meta (step_of step.entry) (files.seen self.now) }
     {
         !is_meta(step) && !self.meta_ended
@@ -197,7 +195,7 @@ impl NewFile {
         first_fault(&[
             (is_meta(step) && self.meta_ended, LineFault::BadMetaGroup),
             (
-                self.ends_group(step) && self.group.coding().is_none(),
+                self.ends_group_before(step) && self.group.coding().is_none(),
                 LineFault::NoTransferSyntax,
             ),
         ])
@@ -218,7 +216,7 @@ impl NewFile {
     }
 
     /// Adds an element to the meta group.
-    fn add_meta(&mut self, step: Step<'_>)
+    fn add_to_group(&mut self, step: Step<'_>)
         requires value { self.old.value.items ≡ files.value_in (step_of step) }
         requires meta { build.is_meta (step_of step) ≡ true }
         requires valued { build.lacks_value (step_of step) ≡ false }
@@ -240,8 +238,8 @@ impl NewFile {
         requires placed { spec.is_misplaced (step_of step) (files.seen self.old) ≡ false }
         requires few { spec.is_too_deep (step_of step) (files.seen self.old) ≡ false }
         ensures state { OnOk result (outputs.Becomes self.old self.new (spec.with_set (step_of step.entry))) }
-        ensures bytes { outputs.Encodes W.DeviceOut out.old out.new self.old.encoder (spec.step_atoms (step_of step.entry)) result }
-        ensures failed { outputs.Tells W.DeviceOut out.old out.new result }
+        ensures wrote { Wrote W.DeviceOut out.old out.new
+            (outputs.encoded self.old.encoder (spec.step_atoms (step_of step.entry))) result }
     {
         self.standing.take(step);
         put_step(&mut self.encoder, out, step, self.value.as_slice())
@@ -252,21 +250,20 @@ impl NewFile {
         requires value { self.old.value.items ≡ files.value_in (step_of step) }
         requires fits { build.first_fault (spec.step_checks (step_of step) (files.seen self.old)) ≡ None }
         ensures state { OnOk result (outputs.Becomes self.old self.new (spec.taken (step_of step.entry))) }
-        ensures bytes { outputs.Puts W.DeviceOut out.old out.new (spec.taken_writes (step_of step.entry) (files.seen self.old)) result }
-        ensures failed { outputs.Tells W.DeviceOut out.old out.new result }
+        ensures wrote { Wrote W.DeviceOut out.old out.new
+            (spec.taken_writes (step_of step.entry) (files.seen self.old)) result }
     {
         if is_meta(step) {
-            self.add_meta(step);
+            self.add_to_group(step);
             return Ok(());
         }
         self.add_to_set(step, out)
     }
 
-    /// The meta group ends: it is written, and what stands before it.
+    /// The meta group ends: it is written, after the preamble and the prefix.
     fn end_group<W: DeviceOut>(&mut self, out: &mut Watched<W>) -> Result<(), WriteFailed>
         ensures state { OnOk result (outputs.Becomes self.old self.new spec.meta_over) }
-        ensures bytes { outputs.Puts W.DeviceOut out.old out.new (spec.file_start (files.seen self.old)) result }
-        ensures failed { outputs.Tells W.DeviceOut out.old out.new result }
+        ensures wrote { Wrote W.DeviceOut out.old out.new (spec.file_start (files.seen self.old)) result }
     {
         self.group.put(out)?;
         self.meta_ended = true;
@@ -275,25 +272,29 @@ impl NewFile {
     }
 
     /// The meta group ends before the first step that is no element of it.
-    fn leave_group<W: DeviceOut>(
+    fn end_group_before<W: DeviceOut>(
         &mut self,
         step: Step<'_>,
         out: &mut Watched<W>,
     ) -> Result<(), WriteFailed>
         ensures state { OnOk result (outputs.Becomes self.old self.new (spec.in_group (step_of step.entry))) }
-        ensures bytes { outputs.Puts W.DeviceOut out.old out.new (spec.leaving_writes (step_of step.entry) (files.seen self.old)) result }
-        ensures failed { outputs.Tells W.DeviceOut out.old out.new result }
+        ensures wrote { Wrote W.DeviceOut out.old out.new
+            (spec.leaving_writes (step_of step.entry) (files.seen self.old)) result }
     {
-        if self.ends_group(step) {
+        if self.ends_group_before(step) {
             return self.end_group(out);
         }
         Ok(())
     }
 
     /// Takes a step of a group that may come here.
-    fn place<W: DeviceOut>(&mut self, step: Step<'_>, out: &mut Watched<W>) -> Result<(), Stopped>
-        ensures comes { outputs.Places W.DeviceOut out.old out.new self.old self.new (step_of step.entry) result }
-        ensures failed { files.TellsStopped (W.has_failed out.old) (W.has_failed out.new) result }
+    fn check_and_add<W: DeviceOut>(
+        &mut self,
+        step: Step<'_>,
+        out: &mut Watched<W>,
+    ) -> Result<(), Stopped>
+        ensures { outputs.Took W.DeviceOut out.old out.new self.old self.new (spec.placed (step_of step.entry))
+            (spec.placed_writes (step_of step.entry)) result }
     {
         let is_read = read_value(step, &mut self.value);
         if let Some(fault) = self.step_fault(step, is_read) {
@@ -304,15 +305,19 @@ impl NewFile {
     }
 
     /// Takes what a line shows.
-    fn show<W: DeviceOut>(&mut self, step: Step<'_>, out: &mut Watched<W>) -> Result<(), Stopped>
-        ensures comes { outputs.Shows W.DeviceOut out.old out.new self.old self.new (step_of step.entry) result }
-        ensures failed { files.TellsStopped (W.has_failed out.old) (W.has_failed out.new) result }
+    fn take_step<W: DeviceOut>(
+        &mut self,
+        step: Step<'_>,
+        out: &mut Watched<W>,
+    ) -> Result<(), Stopped>
+        ensures { outputs.Took W.DeviceOut out.old out.new self.old self.new (spec.shows (step_of step.entry))
+            (spec.shows_writes (step_of step.entry)) result }
     {
         if let Some(fault) = self.group_fault(step) {
             return Err(Stopped::Refused(fault));
         }
-        self.leave_group(step, out)?;
-        self.place(step, out)
+        self.end_group_before(step, out)?;
+        self.check_and_add(step, out)
     }
 
     /// Takes a line, without its newline.
@@ -321,12 +326,13 @@ impl NewFile {
         line: &[u8],
         out: &mut Watched<W>,
     ) -> Result<(), Stopped>
-        ensures comes { outputs.TakesLine W.DeviceOut out.old out.new self.old self.new line.now result }
-        ensures failed { files.TellsStopped (W.has_failed out.old) (W.has_failed out.new) result }
+        ensures { outputs.Took W.DeviceOut out.old out.new self.old self.new
+            (spec.meaning_taken (lines.means (build.without_return line.now)))
+            (spec.meaning_writes (lines.means (build.without_return line.now))) result }
     {
         match means(without_return(line)) {
             Meaning::Nothing => Ok(()),
-            Meaning::Step(step) => self.show(step, out),
+            Meaning::Step(step) => self.take_step(step, out),
             Meaning::NoLine => Err(Stopped::Refused(LineFault::NotALine)),
         }
     }
@@ -348,19 +354,18 @@ impl NewFile {
     }
 
     /// Whether the end of the input ends the meta group.
-    fn ends_at_end(&self) -> bool
+    fn ends_group_at_end(&self) -> bool
         ensures { result ≡ (not self.now.meta_ended && is_some (build.named_coding (trees_of self.now.group))) }
     {
         !self.meta_ended && self.group.coding().is_some()
     }
 
     /// The meta group ends where no line of another group came.
-    fn leave_group_at_end<W: DeviceOut>(&mut self, out: &mut Watched<W>) -> Result<(), WriteFailed>
+    fn end_group_at_end<W: DeviceOut>(&mut self, out: &mut Watched<W>) -> Result<(), WriteFailed>
         ensures state { OnOk result (outputs.Becomes self.old self.new spec.ended_meta) }
-        ensures bytes { outputs.Puts W.DeviceOut out.old out.new (spec.end_writes (files.seen self.old)) result }
-        ensures failed { outputs.Tells W.DeviceOut out.old out.new result }
+        ensures wrote { Wrote W.DeviceOut out.old out.new (spec.end_writes (files.seen self.old)) result }
     {
-        if self.ends_at_end() {
+        if self.ends_group_at_end() {
             return self.end_group(out);
         }
         Ok(())
@@ -368,11 +373,10 @@ impl NewFile {
 
     /// The input ends.
     pub fn finish<W: DeviceOut>(&mut self, out: &mut Watched<W>) -> Result<(), Stopped>
-        ensures ends { outputs.Finishes W.DeviceOut out.old out.new self.old self.new result }
-        ensures failed { files.TellsStopped (W.has_failed out.old) (W.has_failed out.new) result }
+        ensures { outputs.Ended W.DeviceOut out.old out.new self.old self.new result }
     {
         let fault = self.end_fault();
-        self.leave_group_at_end(out)?;
+        self.end_group_at_end(out)?;
         match fault {
             Some(fault) => Err(Stopped::Refused(fault)),
             None => Ok(()),
@@ -387,7 +391,7 @@ impl NewFile {
             group: NewGroup::new(),
             meta_ended: false,
             standing: OpenContainers::new(),
-            encoder: Encoder::new(Syntax::Little(Dictionary::Extract)),
+            encoder: Encoder::new(Syntax::LITTLE),
             value: ArrayVec::new(),
         }
     }

@@ -1,21 +1,23 @@
 // The meta group of a file that is built, as it grows (PS3.10 7.1).
 ghost use Rattle.std.specs.Prelude.{◌≡◌, ◌+◌, ◌≤◌, ◌∷◌, ◌++◌, [], nat_lt, length};
-ghost use Rattle.dcm_base.specs.Build.{named_coding, named_syntax, usable as usable_coding};
-ghost use Rattle.dcm_devices.specs.Device.{Puts, Tells};
-ghost use Rattle.dcm_base.specs.Head.{head_size};
-ghost use Rattle.dcm_base.specs.MetaReads.{syntax_value as value_named};
-ghost use Rattle.dcm_base.specs.Size.{trees_size};
-ghost use Rattle.dcm_base.specs.Spelling.{form};
-ghost use Rattle.dcm_base.specs.Transfer.{without_pads as unpadded};
+ghost use Rattle.dcm_base.specs.Lines.Build.{named_coding, named_syntax, usable as usable_coding};
+ghost use Rattle.dcm_devices.specs.Writing.{Wrote};
+ghost use Rattle.dcm_base.specs.Bytes.Head.{head_size};
+ghost use Rattle.dcm_base.specs.File.MetaGroup as meta;
+ghost use Rattle.dcm_base.specs.File.MetaReads.{syntax_value as value_named};
+ghost use Rattle.dcm_base.specs.Lines.ReadValue.{VALUE_LIMIT};
+ghost use Rattle.dcm_base.specs.Reading.Size.{trees_size};
+ghost use Rattle.dcm_base.specs.Bytes.Spelling.{form};
+ghost use Rattle.dcm_base.specs.Tables.Transfer.{without_pads as unpadded};
 ghost use Rattle.dcm_base.specs.declared.form.Form.TheVariants.{Value as a_value};
 ghost use Rattle.dcm_base.specs.declared.length.Length.TheVariants.{Known};
-ghost use Rattle.dcm_base.specs.Syntax.{Little};
+ghost use Rattle.dcm_base.specs.Tables.Syntax.{Little};
 ghost use Rattle.dcm_build.specs.NewGroup.{file_head, shown, trees_of};
 ghost use Rattle.dcm_head.specs.Rewriting.{OfElements};
 
 use arrayvec::ArrayVec;
 use dcm_base::{
-    Coding, DeviceOut, Dictionary, Length, Syntax, Tag, Vr, Watched, WriteFailed, coding_of,
+    Coding, DeviceOut, Length, META_GROUP, Syntax, Tag, Vr, Watched, WriteFailed, coding_of,
     put_parts,
 };
 use dcm_head::{
@@ -65,9 +67,9 @@ fn usable(uid: &[u8]) -> Option<Coding>
 
 /// The value of the first element of a group that names a transfer syntax, and nothing where none does.
 fn syntax_value(group: &[u8]) -> &[u8]
-    requires { length group.now ≤ 16384 }
+    requires { length group.now ≤ meta.META_LIMIT }
     ensures value { OfElements group.now (λ elements. result.now ≡ value_named elements) }
-    ensures within { length result.now ≤ 16384 }
+    ensures within { length result.now ≤ meta.META_LIMIT }
 {
     let mut rest = group;
     'elements: while let Some(first) = first_element(rest) {
@@ -81,7 +83,7 @@ fn syntax_value(group: &[u8]) -> &[u8]
 
 /// The bytes of an element with a value of this size.
 pub fn element_size(vr: Vr, size: usize) -> usize
-    requires { size ≤ 65536 }
+    requires { size ≤ VALUE_LIMIT }
     ensures { result ≡ head_size Little vr + size }
 {
     let head = if vr.is_long() { LONG_HEAD } else { SHORT_HEAD };
@@ -89,13 +91,14 @@ pub fn element_size(vr: Vr, size: usize) -> usize
 }
 
 fn extend(spelled: &mut ArrayVec<u8, META_LIMIT>, bytes: &[u8])
-    requires { length spelled.old.items + length bytes.now ≤ 16384 }
+    requires { length spelled.old.items + length bytes.now ≤ meta.META_LIMIT }
     ensures { spelled.new.items ≡ spelled.old.items ++ bytes.now }
 {
     let _ = spelled.try_extend_from_slice(bytes);
 }
 
 impl NewGroup {
+    /// No element has been shown.
     pub fn new() -> Self
         ensures { result ≡ [] }
     {
@@ -106,23 +109,21 @@ impl NewGroup {
 
     /// Whether so many bytes more are too much for the group.
     pub fn is_full_for(&self, size: usize) -> bool
-        ensures { result ≡ nat_lt 16384 (trees_size Little (trees_of self.now) + size) }
+        ensures { result ≡ nat_lt meta.META_LIMIT (trees_size Little (trees_of self.now) + size) }
     {
         size > META_LIMIT - self.spelled.len()
     }
 
     /// One element more.
     pub fn push(&mut self, tag: Tag, vr: Vr, value: &[u8])
-        requires group { tag.group ≡ 2 }
+        requires group { tag.group ≡ META_GROUP }
         requires form { form Little vr (Known (length value.now)) ≡ a_value }
-        requires room { trees_size Little (trees_of self.old) + (head_size Little vr + length value.now) ≤ 16384 }
+        requires room { trees_size Little (trees_of self.old) + (head_size Little vr + length value.now)
+            ≤ meta.META_LIMIT }
         ensures { self.new ≡ self.old ++ shown tag vr value.now ∷ [] }
     {
         let length = Length::Known(value.len() as u32);
-        let head = element_head(
-            Syntax::Little(Dictionary::Extract),
-            &Head { tag, vr, length },
-        );
+        let head = element_head(Syntax::LITTLE, &Head { tag, vr, length });
         extend(&mut self.spelled, head.as_slice());
         extend(&mut self.spelled, value);
     }
@@ -130,7 +131,7 @@ impl NewGroup {
     /// The first transfer syntax that is named, without pad bytes.
     fn transfer_syntax(&self) -> &[u8]
         ensures value { result.now ≡ named_syntax (trees_of self.now) }
-        ensures within { length result.now ≤ 16384 }
+        ensures within { length result.now ≤ meta.META_LIMIT }
     {
         without_pads(syntax_value(self.spelled.as_slice()))
     }
@@ -144,8 +145,7 @@ impl NewGroup {
 
     /// Writes what is before a data set: a preamble of zeros, the prefix, and the group with its length.
     pub fn put<W: DeviceOut>(&self, out: &mut Watched<W>) -> Result<(), WriteFailed>
-        ensures bytes { Puts (W.contents out.old) (W.contents out.new) (file_head self.now) result }
-        ensures failed { Tells (W.has_failed out.old) (W.has_failed out.new) result }
+        ensures { Wrote W.DeviceOut out.old out.new (file_head self.now) result }
     {
         put_parts(out, &[&EMPTY_PREAMBLE, PREFIX])?;
         write_meta(self.spelled.as_slice(), self.transfer_syntax(), out)

@@ -1,11 +1,11 @@
 //! The building of a file from the lines of a dump.
 //!
-//! - `Builder` is fed lines in any pieces. It holds the line that has not ended, at most 16,384 bytes, and the meta group
-//!   until it ends, and writes each element as soon as its line has ended.
-//! - `BuildHalt` says why it goes no further: a `LineStop` of dcm_base, which is a fault with the offset and the number of its
-//!   line, or a writer that failed.
-//! - `laws` has what it builds of a whole input (`build_steps`), and that a full dump builds again what a conversion writes
-//!   (`dump_builds`).
+//! - `Builder` is fed lines in any pieces. It holds the line that has not ended, at most 16,384 bytes, and the meta
+//!   group until it ends, and writes each element as soon as its line has ended.
+//! - `BuildHalt` says why it goes no further: a `LineStop` of dcm_base, which is a fault with the offset and the number
+//!   of its line, or a writer that failed.
+//! - `laws` has what it builds of a whole input (`build_steps`), and that a full dump builds again what a conversion
+//!   writes (`dump_builds`).
 //!
 //! A file of two lines:
 //!

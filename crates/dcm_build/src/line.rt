@@ -1,12 +1,12 @@
 // The lines of a dump.
 ghost use Rattle.std.specs.Prelude.{◌≡◌, ◌≤◌, ◌&&◌, Some, option_map, length, take, drop, codes, bytes_eq};
-ghost use Rattle.dcm_base.specs.Build as build;
+ghost use Rattle.dcm_base.specs.Lines.Build as build;
 ghost use Rattle.dcm_base.specs.declared.vr.Vr.TheVariants.{OB};
-ghost use Rattle.dcm_base.specs.Line as spec;
-ghost use Rattle.dcm_base.specs.ReadValue.{value_of_text};
+ghost use Rattle.dcm_base.specs.Lines.Line as spec;
+ghost use Rattle.dcm_base.specs.Lines.ReadValue.{value_of_text};
 ghost use Rattle.dcm_build.specs.LineShown as shown;
 
-use dcm_base::{Tag, Vr, vr_of};
+use dcm_base::{ITEM_GROUP, Tag, Vr, vr_of};
 use dcm_value::tag_of_text;
 
 /// The bytes of a tag in a line.
@@ -65,7 +65,7 @@ fn without_spaces(bytes: &[u8]) -> &[u8]
     rest
 }
 
-/// What stands behind one or more spaces.
+/// What follows one or more spaces.
 fn past_spaces(bytes: &[u8]) -> Option<&[u8]>
     ensures { option_map (λ b. b.now) result ≡ spec.past_spaces bytes.now }
 {
@@ -75,7 +75,7 @@ fn past_spaces(bytes: &[u8]) -> Option<&[u8]>
     }
 }
 
-/// Whether nothing or a comment stands there.
+/// Whether there is nothing, or a comment.
 fn is_end(bytes: &[u8]) -> bool
     ensures { result ≡ spec.is_end bytes.now }
 {
@@ -101,7 +101,7 @@ fn bracket_end(bytes: &[u8]) -> usize
     bytes.len()
 }
 
-/// Whether a closing parenthesis stands there that a space or the line's end follows.
+/// Whether there is a closing parenthesis that a space or the line's end follows.
 fn is_closed(bytes: &[u8]) -> bool
     ensures { result ≡ shown.is_closed bytes.now }
 {
@@ -147,7 +147,7 @@ fn field_end(bytes: &[u8]) -> usize
     }
 }
 
-/// The value field at the front of bytes, where nothing or a comment stands behind it.
+/// The value field at the front of bytes, where nothing or a comment follows it.
 fn sole_value(bytes: &[u8]) -> Option<&[u8]>
     ensures { option_map (λ v. v.now) result ≡ shown.sole_value bytes.now }
 {
@@ -184,7 +184,7 @@ fn only_where(holds: bool, step: Step<'_>) -> Meaning<'_>
     }
 }
 
-/// Whether the letters of items and delimiters stand there, and what follows begins with this text.
+/// Whether the letters are those of items and delimiters, and what follows begins with this text.
 fn is_named(letters: &[u8; 2], bytes: &[u8], text: &[u8]) -> bool
     ensures { result ≡ (bytes_eq letters.now (codes "na") && spec.begins text.now bytes.now) }
 {
@@ -243,9 +243,9 @@ struct LineParts<'a> {
     rest: &'a [u8],
 }
 
-/// The letters behind a tag, and all from the value field on, which isn't missing.
-fn behind_tag(bytes: &[u8]) -> Option<(&[u8; 2], &[u8])>
-    ensures { option_map (λ p. (p.0.now, p.1.now)) result ≡ shown.behind_tag bytes.now }
+/// The letters after a tag, and all from the value field on, which isn't missing.
+fn after_tag(bytes: &[u8]) -> Option<(&[u8; 2], &[u8])>
+    ensures { option_map (λ p. (p.0.now, p.1.now)) result ≡ shown.after_tag bytes.now }
 {
     let named = past_spaces(bytes)?;
     let (letters, after) = named.split_first_chunk()?;
@@ -261,14 +261,14 @@ fn parts(line: &[u8]) -> Option<LineParts<'_>>
 {
     let (text, after) = without_spaces(line).split_at_checked(TAG)?;
     let tag = tag_of_text(text)?;
-    let (letters, rest) = behind_tag(after)?;
+    let (letters, rest) = after_tag(after)?;
     Some(LineParts { tag, letters, rest })
 }
 
 fn parts_meaning(parts: LineParts<'_>) -> Meaning<'_>
     ensures { shown.meaning_of result ≡ spec.meaning_of (Some (shown.parts_of parts.entry)) }
 {
-    if parts.tag.group == Tag::ITEM.group {
+    if parts.tag.group == ITEM_GROUP {
         return item_meaning(parts.tag, parts.letters, parts.rest);
     }
     match vr_of(parts.letters) {

@@ -1,6 +1,7 @@
 // The lines of an input, read piece by piece.
 ghost use Rattle.std.specs.Prelude.{◌≡◌, ◌+◌, ◌<◌, ◌≤◌, None, get_or, length, take, IfOk, OnOk};
-ghost use Rattle.dcm_base.specs.Reads.{INPUT_LIMIT as MOST_READ};
+ghost use Rattle.dcm_base.specs.Lines.Limits as limits;
+ghost use Rattle.dcm_base.specs.Reading.Reads as reads;
 ghost use Rattle.dcm_build.specs.Builder as spec;
 ghost use Rattle.dcm_build.specs.Building as steps;
 ghost use Rattle.dcm_build.specs.Outputs as outputs;
@@ -9,18 +10,15 @@ use crate::build::BuildHalt;
 use crate::file::{NewFile, Stopped};
 use arrayvec::ArrayVec;
 use bstr::ByteSlice;
-use dcm_base::{DeviceOut, LineFault, LineStop, Watched};
+use dcm_base::{DeviceOut, LINE_LIMIT, LineFault, LineStop, Watched};
 use dcm_stream::INPUT_LIMIT;
 
-/// The most bytes of a line.
-const MOST_LINE: usize = 16_384;
-
-/// What the lines so far have built, the bytes of the line that has not ended, how many it may have, where it begins, and which
-/// it is.
+/// What the lines so far have built, the bytes of the line that has not ended, how many it may have, where it begins,
+/// and which it is.
 #[derive(Drop)]
 pub struct LineReader {
     pub file: NewFile,
-    pub line: ArrayVec<u8, MOST_LINE>,
+    pub line: ArrayVec<u8, LINE_LIMIT>,
     pub limit: usize,
     pub offset: u64,
     pub number: u64,
@@ -66,9 +64,9 @@ impl LineReader {
         }
     }
 
-    /// Goes over bytes that do not end the line.
+    /// Reads bytes that do not end the line.
     fn read_line_bytes(&mut self, bytes: &[u8])
-        requires { length self.old.line.items + length bytes.now ≤ 16384 }
+        requires { length self.old.line.items + length bytes.now ≤ limits.LINE_LIMIT }
         ensures file { self.new.file ≡ self.old.file }
         ensures line { spec.line_at self.new ≡ spec.more (spec.line_at self.old) bytes.now }
     {
@@ -78,9 +76,9 @@ impl LineReader {
     /// The line ends.
     fn end_line<W: DeviceOut>(&mut self, out: &mut Watched<W>) -> Result<(), BuildHalt>
         requires { spec.Stands (spec.line_at self.old) }
-        ensures reaches { outputs.Reaches W.DeviceOut out.old out.new self.old self.new steps.line_taken steps.line_writes result }
-        ensures place { OnOk result (spec.line_at self.new ≡ spec.behind (spec.line_at self.old)) }
-        ensures failed { outputs.TellsHalt W.DeviceOut out.old out.new result }
+        ensures reached { outputs.Reached W.DeviceOut out.old out.new self.old self.new steps.line_taken
+            steps.line_writes result }
+        ensures place { OnOk result (spec.line_at self.new ≡ spec.next_line_at (spec.line_at self.old)) }
     {
         if let Err(stopped) = self.file.take_line(self.line.as_slice(), out) {
             return Err(halt(stopped, self.offset, self.number));
@@ -94,9 +92,9 @@ impl LineReader {
     /// The last line ends, which may lack its newline.
     fn end_last_line<W: DeviceOut>(&mut self, out: &mut Watched<W>) -> Result<(), BuildHalt>
         requires { spec.Stands (spec.line_at self.old) }
-        ensures reaches { outputs.Reaches W.DeviceOut out.old out.new self.old self.new steps.last_line steps.last_writes result }
+        ensures reached { outputs.Reached W.DeviceOut out.old out.new self.old self.new steps.last_line
+            steps.last_writes result }
         ensures stands { OnOk result (spec.Stands (spec.line_at self.new)) }
-        ensures failed { outputs.TellsHalt W.DeviceOut out.old out.new result }
     {
         if self.line.is_empty() {
             return Ok(());
@@ -104,8 +102,8 @@ impl LineReader {
         self.end_line(out)
     }
 
-    /// Goes over a beginning of the bytes, and tells how many.
-    pub fn read_some<W: DeviceOut>(
+    /// Reads a beginning of the bytes, and answers how many.
+    fn read_some<W: DeviceOut>(
         &mut self,
         piece: &[u8],
         out: &mut Watched<W>,
@@ -113,11 +111,11 @@ impl LineReader {
         requires some { 0 < length piece.now }
         requires stands { spec.Stands (spec.line_at self.old) }
         ensures some { IfOk result (λ n. (0 < n) × (n ≤ length piece.now)) }
-        ensures feeds { outputs.FeedsPiece W.DeviceOut out.old out.new self.old self.new piece.now result }
+        ensures fed { outputs.Fed W.DeviceOut out.old out.new self.old self.new (spec.bytes_read result piece.now)
+            result }
         ensures stands { OnOk result (spec.Stands (spec.line_at self.new)) }
         ensures size { IfOk result (λ n. spec.read (spec.line_at self.new) ≡ spec.read (spec.line_at self.old) + n) }
-        ensures within { OnOk result (spec.read (spec.line_at self.new) ≤ MOST_READ) }
-        ensures failed { outputs.TellsHalt W.DeviceOut out.old out.new result }
+        ensures within { OnOk result (spec.read (spec.line_at self.new) ≤ reads.INPUT_LIMIT) }
     {
         let read = self.offset + self.line.len() as u64;
         if read >= INPUT_LIMIT {
@@ -140,12 +138,35 @@ impl LineReader {
         Err(halt(fault, self.offset, self.number))
     }
 
+    /// Reads all of the bytes, unless something halts it.
+    pub fn read_all<W: DeviceOut>(
+        &mut self,
+        piece: &[u8],
+        out: &mut Watched<W>,
+    ) -> Result<(), BuildHalt>
+        requires { spec.Stands (spec.line_at self.old) }
+        ensures fed { outputs.Fed W.DeviceOut out.old out.new self.old self.new piece.now result }
+        ensures stands { OnOk result (spec.Stands (spec.line_at self.new)) }
+        ensures size { OnOk result
+            (spec.read (spec.line_at self.new) ≡ spec.read (spec.line_at self.old) + length piece.now) }
+        ensures within { OnOk result (spec.read (spec.line_at self.old) ≤ reads.INPUT_LIMIT
+            → spec.read (spec.line_at self.new) ≤ reads.INPUT_LIMIT) }
+    {
+        let mut rest = piece;
+        while !rest.is_empty() {
+            let n = self.read_some(rest, out)?;
+            let (_, after) = rest.split_at(n);
+            rest = after;
+        }
+        Ok(())
+    }
+
     /// The input ends here: the last line ends, and the file is closed where it may be.
     pub fn end<W: DeviceOut>(&mut self, out: &mut Watched<W>) -> Result<(), BuildHalt>
         requires { spec.Stands (spec.line_at self.old) }
-        ensures reaches { outputs.Reaches W.DeviceOut out.old out.new self.old self.new steps.finishes steps.finish_writes result }
+        ensures reached { outputs.Reached W.DeviceOut out.old out.new self.old self.new steps.finishes
+            steps.finish_writes result }
         ensures stands { OnOk result (spec.Stands (spec.line_at self.new)) }
-        ensures failed { outputs.TellsHalt W.DeviceOut out.old out.new result }
     {
         let size = self.offset + self.line.len() as u64;
         self.end_last_line(out)?;

@@ -1,18 +1,20 @@
-// What stands open of a data set that is built.
+// What is open of a data set that is built.
 ghost use Rattle.std.specs.Prelude.{◌≡◌, ◌<◌, [], ◌∷◌, None, reverse, true};
 ghost use Rattle.dcm_base.specs.declared.level.Container.TheVariants.{Sequence as a_sequence};
-ghost use Rattle.dcm_base.specs.Build.{has_place_in, is_opening};
+ghost use Rattle.dcm_base.specs.Lines.Build.{has_place_in, is_opening};
 ghost use Rattle.dcm_build.specs.LineShown.{step_of};
 ghost use Rattle.dcm_build.specs.Nesting.{is_list};
 ghost use Rattle.dcm_build.specs.OpenContainers as spec;
 
 use crate::line::Step;
 use arrayvec::ArrayVec;
-use dcm_base::{Container, Tag};
-use dcm_tools::MOST_OPEN;
+use dcm_base::{Container, MOST_LISTS, Tag};
 use std::marker::Model;
 
-/// What stands open: a sequence, a fragment list, or an item with the tag of its last element.
+/// The most containers that are open at a time: sequences and fragment lists, and an item in each sequence.
+const MOST_OPEN: usize = 2 * MOST_LISTS;
+
+/// What is open: a sequence, a fragment list, or an item with the tag of its last element.
 #[derive(Clone, Copy, Debug, Default, PartialEq, Eq)]
 pub enum Open {
     #[default]
@@ -21,8 +23,8 @@ pub enum Open {
     Item(Option<Tag>),
 }
 
-/// The tag of the last element of the top data set, and what is open in it: at most 64 sequences and fragment lists, and
-/// items that stand in sequences.
+/// The tag of the last element of the top data set, and what is open in it: at most 64 sequences and fragment lists,
+/// and items of sequences.
 #[derive(Drop)]
 pub struct OpenContainers {
     top_reached: Option<Tag>,
@@ -41,7 +43,7 @@ impl Model for OpenContainers {
     ghost invariant = { λ s. Nests (reverse s.outermost_first.items) };
 }
 
-/// The tag of the last element of the innermost data set that these containers, the outermost first, stand in: that of the
+/// The tag of the last element of the innermost data set around these containers, the outermost first: that of the
 /// innermost item, or of the top data set.
 fn reached_among(top: Option<Tag>, outermost_first: &[Open]) -> Option<Tag>
     ensures { result ≡ spec.reached_in top (reverse outermost_first.now) }
@@ -129,7 +131,7 @@ impl OpenContainers {
     /// A sequence or fragment list is opened.
     pub fn enter_list(&mut self, list: Open)
         requires list { is_list list ≡ true }
-        requires few { spec.lists_open self.old.containers < 64 }
+        requires few { spec.lists_open self.old.containers < MOST_LISTS }
         ensures { self.new ≡ spec.entering list self.old }
     {
         self.outermost_first.push(list);
@@ -146,7 +148,7 @@ impl OpenContainers {
     /// Goes into what a step opens, or out of what it ends.
     pub fn take(&mut self, step: Step<'_>)
         requires placed { has_place_in (spec.container_of self.old.containers) (step_of step) ≡ true }
-        requires few { is_opening (step_of step) ≡ true → spec.lists_open self.old.containers < 64 }
+        requires few { is_opening (step_of step) ≡ true → spec.lists_open self.old.containers < MOST_LISTS }
         ensures { self.new ≡ spec.standing_with (step_of step.entry) self.old }
     {
         match step {

@@ -1,17 +1,36 @@
 -- The lines on standard error.
-use Rattle.std.specs.Prelude.{◌≡◌, ◌⊎◌, ℕ, zero, suc, ◌/◌, ◌%◌, ◌==◌, List, [], ◌∷◌, ◌++◌, codes, decimal, Bool, true, false, Option, if◌then◌else◌}
+use Rattle.std.specs.Prelude.{◌≡◌, ◌⊎◌, ℕ, zero, suc, ◌/◌, ◌%◌, ◌==◌, List, [], ◌∷◌, ◌++◌, codes, decimal, Bool, true}
+use Rattle.std.specs.Prelude.{false, Option, flat_map, if◌then◌else◌}
 use Rattle.std.specs.Io.KnownBytes.{append_known}
+use Rattle.std.specs.Borrow.{Bor}
 use Rattle.dcm_base.specs.declared.fault.Stop.{Stop}
 use Rattle.dcm_devices.specs.Device.{AppendsFront}
-use Rattle.dcm_base.specs.Fault.{fault_number, fault_text, edit_refusal_number, edit_refusal_text, word_fault_number, word_fault_text}
+use Rattle.dcm_base.specs.Tables.Fault.{fault_number, fault_text, edit_refusal_number, edit_refusal_text}
+use Rattle.dcm_base.specs.Tables.Fault.{word_fault_number, word_fault_text}
 use Rattle.dcm_words.specs.declared.usage.Usage.{Usage}
 use Rattle.dcm_words.specs.declared.usage.Usage.TheVariants.{AtWord, Whole, InEdit, Memory}
+use Rattle.dcm_cli.specs.Change.{Change}
+use Rattle.dcm_cli.specs.Status.{MEMORY, USAGE}
 
--- lines were told, or the writer failed in the call and has a beginning of them
-abbrev pub Tries : Option (List ℕ) → Option (List ℕ) → Bool → Bool → List ℕ → Type 0
-Tries old new failed_before failed_after line =
-    ((new ≡ append_known old line) × (failed_after ≡ failed_before)) ⊎ (AppendsFront old new line × (failed_after ≡ true))
+-- lines were written, or the writer failed in the call and has a beginning of them
+abbrev pub Tries : (before after : Option (List ℕ)) → (failed_before failed_after : Bool) → (lines : List ℕ) → Type 0
+Tries before after failed_before failed_after lines =
+    ((after ≡ append_known before lines) × (failed_after ≡ failed_before))
+    ⊎ (AppendsFront before after lines × (failed_after ≡ true))
 
+-- the same of a writer that was changed so
+abbrev pub Reports : Change → (lines : List ℕ) → Type 0
+Reports c lines = Tries c.before c.after c.failed_before c.failed_after lines
+
+-- the most bytes of a line
+abbrev pub LONGEST : ℕ
+LONGEST = 192
+
+-- parts of a line, one after the other
+abbrev pub joined : List (Bor (List ℕ)) → List ℕ
+joined parts = flat_map (λ part. part.now) parts
+
+-- a line: the name of the program, a text and a newline
 abbrev pub error_line : List ℕ → List ℕ
 error_line text = codes "dcmtools: " ++ text ++ 10 ∷ []
 
@@ -19,29 +38,40 @@ error_line text = codes "dcmtools: " ++ text ++ 10 ∷ []
 abbrev pub refusal_line : (number place text : List ℕ) → List ℕ
 refusal_line number place text = error_line (number ++ place ++ codes ": " ++ text)
 
+-- words that are refused
 abbrev pub usage_line : Usage → List ℕ
-usage_line (AtWord refusal word) = error_line (word_fault_number refusal ++ codes " at word " ++ decimal word ++ codes ": " ++ word_fault_text refusal)
+usage_line (AtWord refusal word) =
+    error_line (word_fault_number refusal ++ codes " at word " ++ decimal word ++ codes ": " ++ word_fault_text refusal)
 usage_line (Whole refusal) = error_line (word_fault_number refusal ++ codes ": " ++ word_fault_text refusal)
-usage_line (InEdit refusal edit) = error_line (edit_refusal_number refusal ++ codes " in edit " ++ decimal edit ++ codes ": " ++ edit_refusal_text refusal)
+usage_line (InEdit refusal edit) =
+    error_line (edit_refusal_number refusal ++ codes " in edit " ++ decimal edit ++ codes ": "
+    ++ edit_refusal_text refusal)
 usage_line Memory = error_line (codes "out of memory")
 
+-- the status of words that are refused
 abbrev pub usage_status : Usage → ℕ
-usage_status Memory = 5
-usage_status _ = 1
+usage_status Memory = MEMORY
+usage_status _ = USAGE
 
+-- the input cannot be opened, or the output
 abbrev pub open_line : Bool → List ℕ
 open_line false = error_line (codes "input cannot be opened")
 open_line true = error_line (codes "output cannot be opened")
 
+-- the output is the input
 abbrev pub same_line : List ℕ
 same_line = error_line (codes "output is the input")
 
+-- a fault of the input
 abbrev pub fault_line : Stop → List ℕ
-fault_line stop = error_line (fault_number stop.fault ++ codes " at byte " ++ decimal stop.at ++ codes ": " ++ fault_text stop.fault)
+fault_line stop = error_line (fault_number stop.fault ++ codes " at byte " ++ decimal stop.at ++ codes ": "
+    ++ fault_text stop.fault)
 
+-- reading failed after so many bytes
 abbrev pub unread_line : ℕ → List ℕ
 unread_line read = error_line (codes "reading failed after " ++ decimal read ++ codes " bytes")
 
+-- the output failed
 abbrev pub output_line : List ℕ
 output_line = error_line (codes "output failed")
 

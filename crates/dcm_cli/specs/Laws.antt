@@ -1,23 +1,24 @@
 -- The statements of the laws.
 use Rattle.dcm_base.specs.declared.syntax.Coding.{Coding}
 use Rattle.dcm_base.specs.declared.syntax.Syntax.{Syntax}
-use Rattle.dcm_base.specs.Front.{Front}
-use Rattle.dcm_base.specs.MetaReads.{Meta}
-use Rattle.dcm_base.specs.Normal.{normal_front}
-use Rattle.dcm_base.specs.Recode.{is_explicit}
+use Rattle.dcm_base.specs.Tree.Front.{Front}
+use Rattle.dcm_base.specs.File.MetaReads.{Meta}
+use Rattle.dcm_base.specs.Conversion.Normal.{normal_front}
+use Rattle.dcm_base.specs.Conversion.Recode.{is_explicit}
 use Rattle.dcm_base.specs.declared.tag.Tag.{Tag}
 use Rattle.dcm_base.specs.declared.vr.Vr.{Vr}
-use Rattle.dcm_base.specs.declared.lookup.Dictionary.{Dictionary}
-use Rattle.dcm_base.specs.declared.lookup.Dictionary.TheVariants.{Standard}
-use Rattle.dcm_edit_words.specs.Edit.{Edit, erase_all, erase_private, modify_all}
-use Rattle.dcm_edit.specs.Everywhere.{Among, EverywhereIn, IsOther, IsPublic, IsWrittenJust}
-use Rattle.dcm_edit.specs.Others.{any_changes, set_without}
-use Rattle.dcm_edit.specs.Readers.{HidesNothing, OpensAlike}
-use Rattle.dcm_edit.specs.Repeating.{EraseByNoNumber}
+use Rattle.dcm_base.specs.declared.dictionary.Dictionary.{Dictionary}
+use Rattle.dcm_base.specs.declared.dictionary.Dictionary.TheVariants.{Standard}
+use Rattle.dcm_edits.specs.Edit.{Edit, erase_all, erase_private, modify_all}
+use Rattle.dcm_editor.specs.Everywhere.{Among, EverywhereIn, IsOther, IsPublic, IsWrittenJust}
+use Rattle.dcm_editor.specs.Others.{any_changes, set_without}
+use Rattle.dcm_editor.specs.Readers.{HidesNothing, OpensAlike}
+use Rattle.dcm_editor.specs.Repeating.{EraseByNoNumber}
 use Rattle.dcm_words.specs.declared.job.Job.{Job}
 use Rattle.dcm_cli.specs.Answer.{Answer, Answers, Sure}
 use Rattle.dcm_cli.specs.ReadsAgain.{InOutput, InWholeOutput, IsConverted, IsModified, ReadsConverted, ReadsModified}
 use Rattle.dcm_cli.specs.Run.{IsMeant}
+use Rattle.dcm_cli.specs.Status.{DONE, UNPLACED}
 use Rattle.dcm_words.specs.Plans.{job_of}
 use Rattle.dcm_words.specs.Words as words
 use Rattle.std.specs.Prelude.{◌++◌, ◌≡◌, ◌⊎◌, List, Option, true, ℕ}
@@ -52,13 +53,15 @@ ErasedAll =
 abbrev pub ErasedPrivate : Type 0
 ErasedPrivate =
     (d : Dictionary) (edits : List Edit) (input : List ℕ) (a : Answer) (m : Meta) (coding : Coding) (f : Front)
-    → IsModified d edits input a m coding f → Among erase_private edits → InOutput d (λ s set. EverywhereIn IsPublic set) a
+    → IsModified d edits input a m coding f → Among erase_private edits
+    → InOutput d (λ s set. EverywhereIn IsPublic set) a
 
 -- after `-ma` each element of the tag has the value as it is written, at any depth
 abbrev pub ModifiedAll : Type 0
 ModifiedAll =
     (d : Dictionary) (edits : List Edit) (input : List ℕ) (a : Answer) (m : Meta) (coding : Coding) (f : Front)
-    → IsModified d edits input a m coding f → (tag : Tag) (vr : Vr) (value : List ℕ) → Among (modify_all tag vr value) edits
+    → IsModified d edits input a m coding f → (tag : Tag) (vr : Vr) (value : List ℕ)
+    → Among (modify_all tag vr value) edits
     → InOutput d (λ s set. EverywhereIn (IsWrittenJust s tag vr value) set) a
 
 -- but for the elements whose tags the edits may change, it is the normal form of the data set that was read
@@ -147,4 +150,4 @@ abbrev pub ModifiedTwice : Type 0
 ModifiedTwice =
     (d : Dictionary) (edits : List Edit) (input : List ℕ) (a b : Answer) (m : Meta) (coding : Coding) (f : Front)
     → IsModified d edits input a m coding f → EraseByNoNumber edits → Answers (words.modify d edits) a.output b
-    → (b.output ≡ a.output) × ((b.status ≡ 0) ⊎ (b.status ≡ 3))
+    → (b.output ≡ a.output) × ((b.status ≡ DONE) ⊎ (b.status ≡ UNPLACED))

@@ -1,3 +1,5 @@
+pub mod Status
+pub mod Change
 pub mod ErrorLines
 pub mod Answer
 pub mod Pass

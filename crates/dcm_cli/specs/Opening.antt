@@ -1,15 +1,16 @@
--- What the opening of a file that is written again leaves: its head was read, and was written with another transfer syntax.
+-- What the opening of a file that is written again leaves: its head was read, and was written with another transfer
+-- syntax.
 use Rattle.std.specs.Prelude.{◌≡◌, ℕ, List, ◌++◌, take, true, false, Option, Some, Result, Ok, Err}
 use Rattle.std.specs.Io.KnownBytes.{append_known}
 use Rattle.dcm_base.specs.declared.fault.Fault.TheVariants.{CannotChange}
 use Rattle.dcm_base.specs.declared.syntax.Coding.{Coding}
 use Rattle.dcm_base.specs.declared.syntax.Syntax.{Syntax}
 use Rattle.dcm_devices.specs.Device.{AppendsFront}
-use Rattle.dcm_base.specs.MetaReads.{Meta, PREFIX}
-use Rattle.dcm_base.specs.NewMeta.{new_meta}
-use Rattle.dcm_base.specs.Tree.{Trees}
-use Rattle.dcm_base.specs.Syntax.{coding_by}
-use Rattle.dcm_base.specs.declared.lookup.Dictionary.{Dictionary}
+use Rattle.dcm_base.specs.File.MetaReads.{Meta, PREFIX}
+use Rattle.dcm_base.specs.Conversion.NewMeta.{new_meta}
+use Rattle.dcm_base.specs.Tree.Tree.{Trees}
+use Rattle.dcm_base.specs.Tables.Syntax.{coding_by}
+use Rattle.dcm_base.specs.declared.dictionary.Dictionary.{Dictionary}
 use Rattle.dcm_words.specs.Words.{convert}
 use Rattle.dcm_head.specs.declared.meta_read.MetaEnd.TheVariants.{Ended}
 use Rattle.dcm_head.specs.MetaReading as meta
@@ -25,7 +26,8 @@ use Rattle.dcm_cli.specs.InputCalls.{How}
 use Rattle.dcm_cli.specs.Pass.{Begins, FailsHead, ending_of_head}
 
 -- the head of a file was read
-pub record HeadRead (d : Dictionary) (read : List ℕ) (how : How) (buffer : List ℕ) (r : meta.Reading) (b : Beginning) (coding : Coding) (start : ℕ) : Type 0 where
+pub record HeadRead (d : Dictionary) (read : List ℕ) (how : How) (buffer : List ℕ) (r : meta.Reading) (b : Beginning)
+    (coding : Coding) (start : ℕ) : Type 0 where
   pub begins : Begins r b buffer how read
   pub named : Coding
   pub end_is : r.end ≡ Some (Ended named)
@@ -41,23 +43,34 @@ abbrev pub head_text : meta.Reading → (uid : List ℕ) → Trees → List ℕ
 head_text r uid elements = take 128 r.bytes ++ PREFIX ++ new_meta elements uid
 
 -- it was written
-pub record OpenedAs (d : Dictionary) (target : Option Syntax) (read : List ℕ) (how : How) (held holds : Option (List ℕ)) (buffer : List ℕ) (o : Opened) : Type 0 where
+pub record OpenedAs (d : Dictionary) (target : Option Syntax) (read : List ℕ) (how : How)
+    (before after : Option (List ℕ)) (buffer : List ℕ) (o : Opened) : Type 0 where
   pub reading : meta.Reading
   pub uid : List ℕ
   pub head : HeadRead d read how buffer reading o.beginning o.coding o.start
   pub keeps : refuses_change (convert d target) o.coding ≡ false
   pub uid_is : TargetUid target reading uid
-  pub written : OfElements (meta.group_of reading) (λ elements. holds ≡ append_known held (head_text reading uid elements))
+  pub written : OfElements (meta.group_of reading) (λ elements. after
+      ≡ append_known before (head_text reading uid elements))
 
 -- or the file has no such data set, or cannot be changed, or its head was not written whole
-pub data NotOpened (d : Dictionary) (target : Option Syntax) (read : List ℕ) (how : How) (held holds : Option (List ℕ)) (ending : Ending) : Type 0 where
-  no_set : (r : meta.Reading) (head : HeadEnding) → FailsHead r how read head → holds ≡ held → ending ≡ ending_of_head head
-      → NotOpened d target read how held holds ending
-  no_change : (buffer : List ℕ) (r : meta.Reading) (b : Beginning) (coding : Coding) (start : ℕ) → HeadRead d read how buffer r b coding start → refuses_change (convert d target) coding ≡ true
-      → holds ≡ held → ending ≡ Worked (Refused (record { fault = CannotChange; at = start })) → NotOpened d target read how held holds ending
-  no_head : (buffer : List ℕ) (r : meta.Reading) (b : Beginning) (coding : Coding) (start : ℕ) (uid : List ℕ) → HeadRead d read how buffer r b coding start → refuses_change (convert d target) coding ≡ false
-      → TargetUid target r uid → OfElements (meta.group_of r) (λ elements. AppendsFront held holds (head_text r uid elements)) → ending ≡ Output → NotOpened d target read how held holds ending
+pub data NotOpened (d : Dictionary) (target : Option Syntax) (read : List ℕ) (how : How)
+    (before after : Option (List ℕ)) (ending : Ending) : Type 0 where
+  no_set : (r : meta.Reading) (head : HeadEnding) → FailsHead r how read head → after ≡ before
+      → ending ≡ ending_of_head head
+      → NotOpened d target read how before after ending
+  no_change : (buffer : List ℕ) (r : meta.Reading) (b : Beginning) (coding : Coding) (start : ℕ)
+      → HeadRead d read how buffer r b coding start → refuses_change (convert d target) coding ≡ true
+      → after ≡ before → ending ≡ Worked (Refused (record { fault = CannotChange; at = start }))
+      → NotOpened d target read how before after ending
+  no_head : (buffer : List ℕ) (r : meta.Reading) (b : Beginning) (coding : Coding) (start : ℕ) (uid : List ℕ)
+      → HeadRead d read how buffer r b coding start → refuses_change (convert d target) coding ≡ false
+      → TargetUid target r uid → OfElements (meta.group_of r)
+      (λ elements. AppendsFront before after (head_text r uid elements)) → ending ≡ Output
+      → NotOpened d target read how before after ending
 
-abbrev pub Opens : Dictionary → Option Syntax → (read : List ℕ) → How → (held holds : Option (List ℕ)) → (buffer : List ℕ) → Result Opened Ending → Type 0
-Opens d target read how held holds buffer (Ok o) = OpenedAs d target read how held holds buffer o
-Opens d target read how held holds buffer (Err ending) = NotOpened d target read how held holds ending
+-- one of both, by the answer; the output's writer has these bytes before and after
+abbrev pub Opens : Dictionary → Option Syntax → (read : List ℕ) → How → (before after : Option (List ℕ))
+    → (buffer : List ℕ) → Result Opened Ending → Type 0
+Opens d target read how before after buffer (Ok o) = OpenedAs d target read how before after buffer o
+Opens d target read how before after buffer (Err ending) = NotOpened d target read how before after ending

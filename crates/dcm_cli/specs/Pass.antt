@@ -1,12 +1,13 @@
 -- What the work on a job leaves: how it ended, and what was written.
-use Rattle.std.specs.Prelude.{◌≡◌, ◌⊎◌, ℕ, ◌+◌, ◌-◌, List, [], ◌++◌, length, take, drop, option_to_list, Bool, true, false, Option, None, Some, Result, Ok, Err, OnOk, fold, ◌≤◌}
+use Rattle.std.specs.Prelude.{◌≡◌, ◌⊎◌, ℕ, ◌+◌, ◌-◌, List, [], ◌++◌, length, take, drop, option_to_list, Bool, true}
+use Rattle.std.specs.Prelude.{false, Option, None, Some, Result, Ok, Err, OnOk, IfOk, MatchResult, fold, ◌≤◌}
 use Rattle.std.specs.Io.KnownBytes.{append_known, IsAtEnd}
 use Rattle.dcm_base.specs.declared.fault.Stop.{Stop as HaltStop}
-use Rattle.dcm_base.specs.Atoms.{Atom}
+use Rattle.dcm_base.specs.Steps.Atoms.{Atom}
 use Rattle.dcm_devices.specs.Device.{AppendsFront}
-use Rattle.dcm_base.specs.Steps.{outputs, Goes}
-use Rattle.dcm_base.specs.Reads.{INPUT_LIMIT}
-use Rattle.dcm_base.specs.Stop.{complete, refused}
+use Rattle.dcm_base.specs.Steps.Steps.{outputs, Goes}
+use Rattle.dcm_base.specs.Reading.Reads.{INPUT_LIMIT}
+use Rattle.dcm_base.specs.Reading.Stop.{complete, refused}
 use Rattle.dcm_head.specs.declared.head.Head.{Head}
 use Rattle.dcm_head.specs.declared.meta_read.MetaEnd.{MetaEnd}
 use Rattle.dcm_head.specs.declared.meta_read.MetaEnd.TheVariants as meta_end
@@ -26,11 +27,11 @@ use Rattle.dcm_cli.specs.InputCalls.{Reader, How, to_end, Allows, ReadsInput}
 
 -- ---- the devices
 
--- the reader failed in the call just where that is told
-abbrev pub TellsUnread : (old new : Bool) → Ending → Type 0
-TellsUnread old new (Worked verdict) = new ≡ old
-TellsUnread old new (Unread read) = new ≡ true
-TellsUnread old new Output = new ≡ old
+-- the reader failed in the call exactly where that is the ending
+abbrev pub TellsUnread : (failed_before failed_after : Bool) → Ending → Type 0
+TellsUnread failed_before failed_after (Worked verdict) = failed_after ≡ failed_before
+TellsUnread failed_before failed_after (Unread read) = failed_after ≡ true
+TellsUnread failed_before failed_after Output = failed_after ≡ failed_before
 
 -- reading did not fail
 abbrev pub WasRead : Ending → Type 0
@@ -38,11 +39,11 @@ WasRead (Worked verdict) = Unit {0}
 WasRead (Unread read) = ⊥
 WasRead Output = Unit {0}
 
--- the output's writer failed in the call just where that is told
-abbrev pub TellsOutput : (old new : Bool) → Ending → Type 0
-TellsOutput old new (Worked verdict) = new ≡ old
-TellsOutput old new (Unread read) = new ≡ old
-TellsOutput old new Output = new ≡ true
+-- the output's writer failed in the call exactly where that is the ending
+abbrev pub TellsOutput : (failed_before failed_after : Bool) → Ending → Type 0
+TellsOutput failed_before failed_after (Worked verdict) = failed_after ≡ failed_before
+TellsOutput failed_before failed_after (Unread read) = failed_after ≡ failed_before
+TellsOutput failed_before failed_after Output = failed_after ≡ true
 
 -- ---- the head of a file
 
@@ -58,6 +59,10 @@ head_read read = fold meta.meta_step meta.at_start read
 -- what the buffer and the byte ahead of it have of the data set
 abbrev pub set_bytes : Beginning → (buffer : List ℕ) → List ℕ
 set_bytes b buffer = option_to_list b.ahead ++ take (b.filled - b.used) (drop b.used buffer)
+
+-- what the buffer has of the data set is within it
+abbrev pub IsWithin : Beginning → (buffer : List ℕ) → Type 0
+IsWithin b buffer = (b.used ≤ b.filled) × (b.filled ≤ length buffer)
 
 -- the head was read, and these bytes of the data set
 pub record Begins (r : meta.Reading) (b : Beginning) (buffer : List ℕ) (how : How) (read : List ℕ) : Type 0 where
@@ -77,11 +82,12 @@ FailsHead r how read (heads.Unread count) = (r ≡ head_read read) × (r.end ≡
 
 -- the input ended with it, where so many bytes were read, or is at fault
 abbrev pub FinishesHead : Option MetaEnd → (read : ℕ) → Result Beginning HeadEnding → Type 0
-FinishesHead end read (Ok b) = meta.HasEnded end × (b ≡ record { ahead = None; used = 0; filled = 0; read = read; is_over = true })
+FinishesHead end read (Ok b) = meta.HasEnded end
+    × (b ≡ record { ahead = None; used = 0; filled = 0; read = read; is_over = true })
 FinishesHead end read (Err (heads.Refused stop)) = end ≡ Some (meta_end.Refused stop)
 FinishesHead end read (Err (heads.Unread count)) = ⊥
 
--- these bytes were read for it, or it was refused or could not be read behind them
+-- these bytes were read for it, or it was refused or could not be read after them
 abbrev pub HeadReadOf : meta.Reading → (buffer : List ℕ) → How → (read : List ℕ) → Result Beginning HeadEnding → Type 0
 HeadReadOf r buffer how read (Ok b) = Begins r b buffer how read
 HeadReadOf r buffer how read (Err ending) = FailsHead r how read ending
@@ -90,13 +96,21 @@ HeadReadOf r buffer how read (Err ending) = FailsHead r how read ending
 abbrev pub HeadGoesOn : List ℕ → Type 0
 HeadGoesOn bytes = (head_read bytes).end ≡ None
 
--- a reader was read for it
-pub record HeadReads {R : Type 0} (r : Reader R) (old new : R) (m : meta.Reading) (buffer : List ℕ)
+-- a reader failed in the call exactly where that is why the head was not read
+abbrev pub TellsHead : (failed_before failed_after : Bool) → Result Beginning HeadEnding → Type 0
+TellsHead failed_before failed_after result = MatchResult result (λ b. failed_after ≡ failed_before)
+    (λ e. TellsUnread failed_before failed_after (ending_of_head e))
+
+-- a reader was read for it into a buffer, which has its size; what is left of the data set is within the buffer
+pub record HeadReads {R : Type 0} (r : Reader R) (before after : R) (m : meta.Reading) (buffer_before buffer : List ℕ)
     (result : Result Beginning HeadEnding) : Type 0 where
   pub read : List ℕ
   pub how : How
-  pub reads : ReadsInput r HeadGoesOn old read how new
+  pub reads : ReadsInput r HeadGoesOn before read how after
   pub outcome : HeadReadOf m buffer how read result
+  pub within : IfOk result (λ b. IsWithin b buffer)
+  pub failed : TellsHead (r.has_failed before) (r.has_failed after) result
+  pub kept : length buffer ≡ length buffer_before
 
 -- the edits that found no place are those of this mask
 abbrev pub with_unplaced : Ending → ℕ → Ending
@@ -114,61 +128,91 @@ ending_of (Ok x) = Worked (Done 0)
 ending_of (Err (halts.Refused stop)) = Worked (Refused stop)
 ending_of (Err halts.Output) = Output
 
--- a machine and its sink were fed these bytes
-pub record Fed {S : Type 0} (bars : S → Head → Option Bar) (step : S → Atom → S) (writes : S → Atom → List ℕ) (old : Progress) (s : S) (held : Option (List ℕ)) (had_failed : Bool) (new : Progress) (t : S) (holds : Option (List ℕ)) (has_failed : Bool) (bytes : List ℕ) (result : Result (Unit {0}) Halt) : Type 0 where
-  pub goes : Goes (steps bars step) (steps_write bars step writes) (old.reading, s) held (new.reading, t) holds bytes (well new.failed)
-  pub answer_is : result ≡ answer new.reading.halt new.failed
-  pub going : OnOk result (is_halted new ≡ false)
-  pub failed : TellsFailed had_failed has_failed new.failed
-  pub place : is_halted new ≡ false → next_offset new.reading ≡ next_offset old.reading + length bytes
-  pub within : is_halted new ≡ false → next_offset new.reading ≤ INPUT_LIMIT
+-- a machine and its sink were fed these bytes; the place in the data set, the sink's state, and what its writer has and
+-- whether that has failed, before and after
+pub record Fed {S : Type 0} (bars : S → Head → Option Bar) (step : S → Atom → S) (writes : S → Atom → List ℕ)
+    (before : Progress) (state_before : S) (contents_before : Option (List ℕ)) (failed_before : Bool)
+    (after : Progress) (state_after : S) (contents_after : Option (List ℕ)) (failed_after : Bool)
+    (bytes : List ℕ) (result : Result (Unit {0}) Halt) : Type 0 where
+  pub goes : Goes (steps bars step) (steps_write bars step writes) (before.reading, state_before) contents_before
+      (after.reading, state_after) contents_after bytes (well after.failed)
+  pub answer_is : result ≡ answer after.reading.halt after.failed
+  pub going : OnOk result (is_halted after ≡ false)
+  pub failed : TellsFailed failed_before failed_after after.failed
+  pub place : is_halted after ≡ false → next_offset after.reading ≡ next_offset before.reading + length bytes
+  pub within : is_halted after ≡ false → next_offset after.reading ≤ INPUT_LIMIT
 
 -- the input has ended where a data set was read up to here
-abbrev pub EndsSet : {S : Type 0} → (S → Atom → S) → (S → Atom → List ℕ) → Reading → S → (held : Option (List ℕ)) → S → (holds : Option (List ℕ)) → Result (Unit {0}) Halt → Type 0
-EndsSet step writes r s held t holds (Ok x) = (finish r ≡ complete) × (t ≡ fold step s (end_shows complete)) × (holds ≡ append_known held (outputs step writes s (end_shows complete)))
-EndsSet step writes r s held t holds (Err (halts.Refused stop)) = (finish r ≡ refused stop.fault stop.at) × (holds ≡ held)
-EndsSet step writes r s held t holds (Err halts.Output) = AppendsFront held holds (outputs step writes s (end_shows (finish r)))
+abbrev pub EndsSet : {S : Type 0} → (S → Atom → S) → (S → Atom → List ℕ) → Reading → (state_before : S)
+    → (contents_before : Option (List ℕ)) → (state_after : S) → (contents_after : Option (List ℕ))
+    → Result (Unit {0}) Halt → Type 0
+EndsSet step writes r state_before contents_before state_after contents_after (Ok x) =
+    (finish r ≡ complete) × (state_after ≡ fold step state_before (end_shows complete))
+    × (contents_after ≡ append_known contents_before (outputs step writes state_before (end_shows complete)))
+EndsSet step writes r state_before contents_before state_after contents_after (Err (halts.Refused stop)) =
+    (finish r ≡ refused stop.fault stop.at) × (contents_after ≡ contents_before)
+EndsSet step writes r state_before contents_before state_after contents_after (Err halts.Output) =
+    AppendsFront contents_before contents_after (outputs step writes state_before (end_shows (finish r)))
 
--- how the reading of a data set ended, where these bytes of it were read, what was written, and where it was no fault the sink's state
-pub data Ends {S : Type 0} (bars : S → Head → Option Bar) (step : S → Atom → S) (writes : S → Atom → List ℕ) (old : Reading) (s : S) (held left : Option (List ℕ)) (t : S) (holds : Option (List ℕ)) (read : List ℕ) (ending : Ending) : Type 0 where
+-- the place in the data set and the state of the sink after these bytes
+abbrev pub after_bytes : {S : Type 0} → (S → Head → Option Bar) → (S → Atom → S) → Reading → S → List ℕ → Reading × S
+after_bytes bars step r s read = fold (steps bars step) (r, s) read
+
+-- what was written of them
+abbrev pub written : {S : Type 0} → (S → Head → Option Bar) → (S → Atom → S) → (S → Atom → List ℕ)
+    → Reading → S → List ℕ → List ℕ
+written bars step writes r s read = outputs (steps bars step) (steps_write bars step writes) (r, s) read
+
+-- how the reading of a data set ended, where these bytes of it were read, what was written, and where it was no fault
+-- the sink's state
+pub data Ends {S : Type 0} (bars : S → Head → Option Bar) (step : S → Atom → S) (writes : S → Atom → List ℕ)
+    (r : Reading) (s : S) (contents_before left : Option (List ℕ)) (s_after : S) (contents_after : Option (List ℕ))
+    (read : List ℕ) (ending : Ending) : Type 0 where
   -- the input has ended
-  at_end : IsAtEnd left → (fold (steps bars step) (old, s) read).0.halt ≡ None → finish (fold (steps bars step) (old, s) read).0 ≡ complete → ending ≡ Worked (Done 0)
-      → t ≡ fold step (fold (steps bars step) (old, s) read).1 (end_shows complete)
-      → holds ≡ append_known held (outputs (steps bars step) (steps_write bars step writes) (old, s) read ++ outputs step writes (fold (steps bars step) (old, s) read).1 (end_shows complete))
-      → Ends bars step writes old s held left t holds read ending
+  at_end : IsAtEnd left → (after_bytes bars step r s read).0.halt ≡ None
+      → finish (after_bytes bars step r s read).0 ≡ complete → ending ≡ Worked (Done 0)
+      → s_after ≡ fold step (after_bytes bars step r s read).1 (end_shows complete)
+      → contents_after ≡ append_known contents_before (written bars step writes r s read
+      ++ outputs step writes (after_bytes bars step r s read).1 (end_shows complete))
+      → Ends bars step writes r s contents_before left s_after contents_after read ending
   -- and that is a fault
-  at_fault : (stop : HaltStop) → IsAtEnd left → (fold (steps bars step) (old, s) read).0.halt ≡ None → finish (fold (steps bars step) (old, s) read).0 ≡ refused stop.fault stop.at → ending ≡ Worked (Refused stop)
-      → holds ≡ append_known held (outputs (steps bars step) (steps_write bars step writes) (old, s) read)
-      → Ends bars step writes old s held left t holds read ending
+  at_fault : (stop : HaltStop) → IsAtEnd left → (after_bytes bars step r s read).0.halt ≡ None
+      → finish (after_bytes bars step r s read).0 ≡ refused stop.fault stop.at → ending ≡ Worked (Refused stop)
+      → contents_after ≡ append_known contents_before (written bars step writes r s read)
+      → Ends bars step writes r s contents_before left s_after contents_after read ending
   -- the data set is at fault
-  halted : (stop : HaltStop) → (fold (steps bars step) (old, s) read).0.halt ≡ Some (refused stop.fault stop.at) → ending ≡ Worked (Refused stop)
-      → holds ≡ append_known held (outputs (steps bars step) (steps_write bars step writes) (old, s) read)
-      → Ends bars step writes old s held left t holds read ending
+  halted : (stop : HaltStop) → (after_bytes bars step r s read).0.halt ≡ Some (refused stop.fault stop.at)
+      → ending ≡ Worked (Refused stop)
+      → contents_after ≡ append_known contents_before (written bars step writes r s read)
+      → Ends bars step writes r s contents_before left s_after contents_after read ending
   -- reading failed
-  unread : (fold (steps bars step) (old, s) read).0.halt ≡ None → ending ≡ Unread (next_offset old + length read)
-      → holds ≡ append_known held (outputs (steps bars step) (steps_write bars step writes) (old, s) read)
-      → Ends bars step writes old s held left t holds read ending
+  unread : (after_bytes bars step r s read).0.halt ≡ None → ending ≡ Unread (next_offset r + length read)
+      → contents_after ≡ append_known contents_before (written bars step writes r s read)
+      → Ends bars step writes r s contents_before left s_after contents_after read ending
   -- the output failed
-  unwritten : ending ≡ Output → AppendsFront held holds (outputs (steps bars step) (steps_write bars step writes) (old, s) read)
-      → Ends bars step writes old s held left t holds read ending
+  unwritten : ending ≡ Output → AppendsFront contents_before contents_after (written bars step writes r s read)
+      → Ends bars step writes r s contents_before left s_after contents_after read ending
   -- with the last bytes of it
-  end_unwritten : IsAtEnd left → (fold (steps bars step) (old, s) read).0.halt ≡ None → ending ≡ Output
-      → AppendsFront held holds (outputs (steps bars step) (steps_write bars step writes) (old, s) read ++ outputs step writes (fold (steps bars step) (old, s) read).1 (end_shows (finish (fold (steps bars step) (old, s) read).0)))
-      → Ends bars step writes old s held left t holds read ending
+  end_unwritten : IsAtEnd left → (after_bytes bars step r s read).0.halt ≡ None → ending ≡ Output
+      → AppendsFront contents_before contents_after (written bars step writes r s read
+      ++ outputs step writes (after_bytes bars step r s read).1 (end_shows (finish (after_bytes bars step r s read).0)))
+      → Ends bars step writes r s contents_before left s_after contents_after read ending
 
 -- a data set whose first bytes had been read goes on after these
-abbrev pub SetGoesOn : {S : Type 0} → (S → Head → Option Bar) → (S → Atom → S) → (is_over : Bool) → (beginning : List ℕ)
-    → Reading → S → List ℕ → Type 0
+abbrev pub SetGoesOn : {S : Type 0} → (S → Head → Option Bar) → (S → Atom → S) → (is_over : Bool)
+    → (beginning : List ℕ) → Reading → S → List ℕ → Type 0
 SetGoesOn bars step is_over beginning first s bytes =
-    (is_over ≡ false) × ((fold (steps bars step) (first, s) (beginning ++ bytes)).0.halt ≡ None)
+    (is_over ≡ false) × ((after_bytes bars step first s (beginning ++ bytes)).0.halt ≡ None)
 
 -- a reader was read as the rest of such a data set; and how its reading ended, whatever the input may hold after the
 -- bytes that were given
 pub record ReadsSet {S R : Type 0} (bars : S → Head → Option Bar) (step : S → Atom → S) (writes : S → Atom → List ℕ)
-    (r : Reader R) (had left : R) (is_over : Bool) (beginning : List ℕ) (first : Reading) (s : S) (held : Option (List ℕ))
-    (t : S) (holds : Option (List ℕ)) (ending : Ending) : Type 0 where
+    (r : Reader R) (before after : R) (is_over : Bool) (beginning : List ℕ) (first : Reading)
+    (state_before : S) (contents_before : Option (List ℕ)) (state_after : S) (contents_after : Option (List ℕ))
+    (ending : Ending) : Type 0 where
   pub more : List ℕ
   pub how : How
-  pub reads : ReadsInput r (SetGoesOn bars step is_over beginning first s) had more how left
+  pub reads : ReadsInput r (SetGoesOn bars step is_over beginning first state_before) before more how after
   pub ends : (rest : List ℕ) → Allows how rest → (is_over ≡ true → rest ≡ [])
-      → Ends bars step writes first s held (Some rest) t holds (beginning ++ more) ending
+      → Ends bars step writes first state_before contents_before (Some rest) state_after contents_after
+      (beginning ++ more) ending

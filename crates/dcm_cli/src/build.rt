@@ -1,10 +1,10 @@
 // The building of a file from the lines of a dump.
 ghost use Rattle.std.specs.Prelude.{◌≡◌, ◌≤◌, ◌<◌, length, false};
-ghost use Rattle.dcm_words.specs.Words.{build as build_job};
+ghost use Rattle.dcm_words.specs.Words.{GREATEST_LIMIT, build as build_job};
 ghost use Rattle.dcm_build.specs.Builder as builder_spec;
+ghost use Rattle.dcm_files.specs.Pieces.{BUFFER_LIMIT};
 ghost use Rattle.dcm_cli.specs.Calls as calls;
 ghost use Rattle.dcm_cli.specs.Lines as lines;
-ghost use Rattle.dcm_cli.specs.Pass as spec;
 
 use crate::ending::{Ending, Verdict};
 use dcm_base::{DeviceIn, DeviceOut, Watched};
@@ -29,8 +29,7 @@ fn ending_of(answer: Result<(), BuildHalt>) -> Ending
 /// Ends the input of a builder that has not halted.
 fn end<W: DeviceOut>(builder: &mut Builder, out: &mut Watched<W>) -> Result<(), BuildHalt>
     requires { builder_spec.is_halted builder.old ≡ false }
-    ensures ends { lines.EndsLines builder.old.state (W.contents out.old) (W.contents out.new) result }
-    ensures failed { spec.TellsOutput (W.has_failed out.old) (W.has_failed out.new) (lines.ending_of result) }
+    ensures { lines.Ends W.DeviceOut out.old out.new builder.old.state result }
 {
     builder.finish(out)
 }
@@ -42,12 +41,10 @@ fn build_lines<R: DeviceIn, W: DeviceOut>(
     out: &mut Watched<W>,
     buffer: &mut [u8],
 ) -> Ending
-    requires limit { limit ≤ 16384 }
+    requires limit { limit ≤ GREATEST_LIMIT }
     requires room { 0 < length buffer.old }
-    requires bound { length buffer.old ≤ 65536 }
-    ensures worked { calls.Works R.DeviceIn W.DeviceOut (build_job limit) input.old input.new out.old out.new result }
-    ensures unread { spec.TellsUnread (R.has_failed input.old) (R.has_failed input.new) result }
-    ensures failed { spec.TellsOutput (W.has_failed out.old) (W.has_failed out.new) result }
+    requires bound { length buffer.old ≤ BUFFER_LIMIT }
+    ensures { calls.Works R.DeviceIn W.DeviceOut (build_job limit) input.old input.new out.old out.new result }
 {
     let mut builder = Builder::new(limit);
     let mut read = 0;
@@ -63,14 +60,14 @@ fn build_lines<R: DeviceIn, W: DeviceOut>(
     }
 }
 
+/// Writes the file that the lines of a dump build.
 pub fn build<R: DeviceIn, W: DeviceOut>(
     build: Build,
     input: &mut Watched<R>,
     out: &mut Watched<W>,
 ) -> Ending
-    ensures worked { calls.Works R.DeviceIn W.DeviceOut (build_job build.limit) input.old input.new out.old out.new result }
-    ensures unread { spec.TellsUnread (R.has_failed input.old) (R.has_failed input.new) result }
-    ensures failed { spec.TellsOutput (W.has_failed out.old) (W.has_failed out.new) result }
+    ensures { calls.Works R.DeviceIn W.DeviceOut (build_job build.limit) input.old input.new out.old out.new
+        result }
 {
     let mut buffer = [0u8; PIECE];
     build_lines(build.limit, input, out, &mut buffer)

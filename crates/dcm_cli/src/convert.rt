@@ -1,20 +1,20 @@
 // The conversion of a file.
 ghost use Rattle.std.specs.Prelude.{◌≤◌, ◌<◌, length};
 ghost use Rattle.dcm_words.specs.Words.{convert as convert_job};
+ghost use Rattle.dcm_files.specs.Pieces.{BUFFER_LIMIT};
 ghost use Rattle.dcm_cli.specs.Calls as calls;
-ghost use Rattle.dcm_cli.specs.Pass as spec;
 
 use crate::ending::Ending;
 use crate::pass::read_set;
 use crate::rewrite::{open_file, target_syntax};
 use dcm_base::{DeviceIn, DeviceOut, Dictionary, Syntax, Watched};
-use dcm_tools::EncodeSink;
+use dcm_sinks::EncodeSink;
 use dcm_words::Convert;
 
 /// The bytes that are read at a time. Most of them are written again, each piece by one call.
 const PIECE: usize = 262_144;
 
-/// Writes a file in another transfer syntax, or in its own.
+/// Reads a file into a buffer, piece by piece, and writes it in another transfer syntax, or in its own.
 fn convert_file<R: DeviceIn, W: DeviceOut>(
     dictionary: Dictionary,
     target: Option<Syntax>,
@@ -23,10 +23,9 @@ fn convert_file<R: DeviceIn, W: DeviceOut>(
     buffer: &mut [u8],
 ) -> Ending
     requires room { 0 < length buffer.old }
-    requires bound { length buffer.old ≤ 262144 }
-    ensures worked { calls.Works R.DeviceIn W.DeviceOut (convert_job dictionary target) input.old input.new out.old out.new result }
-    ensures unread { spec.TellsUnread (R.has_failed input.old) (R.has_failed input.new) result }
-    ensures failed { spec.TellsOutput (W.has_failed out.old) (W.has_failed out.new) result }
+    requires bound { length buffer.old ≤ BUFFER_LIMIT }
+    ensures { calls.Works R.DeviceIn W.DeviceOut (convert_job dictionary target) input.old input.new out.old
+        out.new result }
 {
     let opened = match open_file(dictionary, target, input, out, buffer) {
         Ok(opened) => opened,
@@ -43,14 +42,14 @@ fn convert_file<R: DeviceIn, W: DeviceOut>(
     )
 }
 
+/// Writes a file in another transfer syntax, or in its own.
 pub fn convert<R: DeviceIn, W: DeviceOut>(
     convert: Convert,
     input: &mut Watched<R>,
     out: &mut Watched<W>,
 ) -> Ending
-    ensures worked { calls.Works R.DeviceIn W.DeviceOut (convert_job convert.dictionary convert.target) input.old input.new out.old out.new result }
-    ensures unread { spec.TellsUnread (R.has_failed input.old) (R.has_failed input.new) result }
-    ensures failed { spec.TellsOutput (W.has_failed out.old) (W.has_failed out.new) result }
+    ensures { calls.Works R.DeviceIn W.DeviceOut (convert_job convert.dictionary convert.target) input.old
+        input.new out.old out.new result }
 {
     let mut buffer = [0u8; PIECE];
     convert_file(convert.dictionary, convert.target, input, out, &mut buffer)

@@ -3,8 +3,8 @@ ghost use Rattle.std.specs.Prelude.{◌≤◌, ◌<◌, length, None, Some};
 ghost use Rattle.dcm_base.specs.declared.mode.Mode.{Mode};
 ghost use Rattle.dcm_base.specs.declared.syntax.Syntax.{Syntax};
 ghost use Rattle.dcm_words.specs.Words.{dump as dump_job};
+ghost use Rattle.dcm_files.specs.Pieces.{BUFFER_LIMIT};
 ghost use Rattle.dcm_cli.specs.Calls as calls;
-ghost use Rattle.dcm_cli.specs.Pass as spec;
 
 use crate::ending::{Ending, ending_of_head};
 use crate::head::{read_head_of, set_start};
@@ -12,8 +12,8 @@ use crate::pass::{read_rest, read_set};
 use crate::syntax::uid_of_syntax;
 use dcm_base::{Coding, DeviceIn, DeviceOut, Dictionary, Mode, Syntax, Watched};
 use dcm_head::Meta;
+use dcm_sinks::{DumpSink, dump_header_with, set_header};
 use dcm_stream::Machine;
-use dcm_tools::{DumpSink, dump_header_by, set_header};
 use dcm_words::Dump;
 
 /// The bytes that are read at a time.
@@ -28,21 +28,20 @@ fn dump_file<R: DeviceIn, W: DeviceOut>(
     buffer: &mut [u8],
 ) -> Ending
     requires room { 0 < length buffer.old }
-    requires bound { length buffer.old ≤ 65536 }
-    ensures worked { calls.Works R.DeviceIn W.DeviceOut (dump_job dictionary mode None) input.old input.new out.old out.new result }
-    ensures unread { spec.TellsUnread (R.has_failed input.old) (R.has_failed input.new) result }
-    ensures failed { spec.TellsOutput (W.has_failed out.old) (W.has_failed out.new) result }
+    requires bound { length buffer.old ≤ BUFFER_LIMIT }
+    ensures { calls.Works R.DeviceIn W.DeviceOut (dump_job dictionary mode None) input.old input.new out.old
+        out.new result }
 {
     let mut meta = Meta::new();
     let beginning = match read_head_of(&mut meta, input, buffer) {
         Ok(beginning) => beginning,
         Err(ending) => return ending_of_head(ending),
     };
-    if dump_header_by(&meta, dictionary, mode, out).is_err() {
+    if dump_header_with(&meta, dictionary, mode, out).is_err() {
         return Ending::Output;
     }
     let start = set_start(&meta);
-    let mut sink = DumpSink::by(out, dictionary, mode);
+    let mut sink = DumpSink::with_dictionary(out, dictionary, mode);
     read_set(
         beginning,
         meta.coding().read_by(dictionary),
@@ -63,10 +62,9 @@ fn dump_set<R: DeviceIn, W: DeviceOut>(
     buffer: &mut [u8],
 ) -> Ending
     requires room { 0 < length buffer.old }
-    requires bound { length buffer.old ≤ 65536 }
-    ensures worked { calls.Works R.DeviceIn W.DeviceOut (dump_job dictionary mode (Some syntax)) input.old input.new out.old out.new result }
-    ensures unread { spec.TellsUnread (R.has_failed input.old) (R.has_failed input.new) result }
-    ensures failed { spec.TellsOutput (W.has_failed out.old) (W.has_failed out.new) result }
+    requires bound { length buffer.old ≤ BUFFER_LIMIT }
+    ensures { calls.Works R.DeviceIn W.DeviceOut (dump_job dictionary mode (Some syntax)) input.old input.new
+        out.old out.new result }
 {
     if set_header(uid_of_syntax(syntax), out).is_err() {
         return Ending::Output;
@@ -75,19 +73,19 @@ fn dump_set<R: DeviceIn, W: DeviceOut>(
         syntax: syntax.read_by(dictionary),
         encapsulated: false,
     };
-    let mut sink = DumpSink::by(out, dictionary, mode);
+    let mut sink = DumpSink::with_dictionary(out, dictionary, mode);
     let mut machine = Machine::new(coding, 0);
     read_rest(0, input, buffer, &mut machine, &mut sink)
 }
 
+/// Writes the dump of a file, or of a data set alone.
 pub fn dump<R: DeviceIn, W: DeviceOut>(
     dump: Dump,
     input: &mut Watched<R>,
     out: &mut Watched<W>,
 ) -> Ending
-    ensures worked { calls.Works R.DeviceIn W.DeviceOut (dump_job dump.dictionary dump.mode dump.bare) input.old input.new out.old out.new result }
-    ensures unread { spec.TellsUnread (R.has_failed input.old) (R.has_failed input.new) result }
-    ensures failed { spec.TellsOutput (W.has_failed out.old) (W.has_failed out.new) result }
+    ensures { calls.Works R.DeviceIn W.DeviceOut (dump_job dump.dictionary dump.mode dump.bare) input.old
+        input.new out.old out.new result }
 {
     let mut buffer = [0u8; PIECE];
     match dump.bare {

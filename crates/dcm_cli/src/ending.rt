@@ -10,6 +10,7 @@ use dcm_stream::Halt;
 pub enum Verdict {
     /// All was done, except the edits that found no place: bit k is set for edit k, counted from 0.
     Done { unplaced: u64 },
+    /// The input is refused.
     Refused(Stop),
     /// The lines of a dump are refused.
     RefusedLine(LineStop),
@@ -18,6 +19,7 @@ pub enum Verdict {
 /// How the work on a job ended, before its output is flushed.
 #[derive(Clone, Copy, Debug, PartialEq, Eq)]
 pub enum Ending {
+    /// No device failed.
     Worked(Verdict),
     /// Reading failed after so many bytes.
     Unread(u64),
@@ -28,6 +30,7 @@ pub enum Ending {
 /// Why the data set of a file was not reached.
 #[derive(Clone, Copy, Debug, PartialEq, Eq)]
 pub enum HeadEnding {
+    /// The head of the file is refused.
     Refused(Stop),
     /// Reading failed after so many bytes.
     Unread(u64),

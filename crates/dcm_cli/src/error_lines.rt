@@ -1,31 +1,25 @@
 // Lines on standard error, each by one write.
-ghost use Rattle.std.specs.Prelude.{◌≡◌, ◌≤◌, ◌+◌, ◌++◌, length, flat_map};
-ghost use Rattle.dcm_devices.specs.Device.{Puts, Tells};
+ghost use Rattle.std.specs.Prelude.{◌≡◌, ◌≤◌, ◌+◌, ◌++◌, length};
+ghost use Rattle.dcm_devices.specs.Writing.{Wrote};
 ghost use Rattle.dcm_cli.specs.Answer as answer;
 ghost use Rattle.dcm_cli.specs.Calls as calls;
 ghost use Rattle.dcm_cli.specs.ErrorLines as spec;
+ghost use Rattle.dcm_cli.specs.Status as statuses;
 
+use crate::status::{DEVICE, MEMORY, USAGE};
 use arrayvec::ArrayVec;
 use dcm_base::{DeviceOut, LineStop, Stop, Watched, WriteFailed, put_all};
-use dcm_edit::MOST_EDITS;
+use dcm_editor::MOST_EDITS;
 use dcm_words::Usage;
 use itoa::Buffer;
-
-/// The status of words that are refused.
-const USAGE: u8 = 1;
-
-/// The status of a device that failed or could not be opened.
-pub const DEVICE: u8 = 4;
-
-/// The status of want of memory.
-pub const MEMORY: u8 = 5;
 
 /// The most bytes of a line.
 const LONGEST: usize = 192;
 
+/// The parts of a line, one after the other.
 fn compose(parts: &[&[u8]]) -> ArrayVec<u8, LONGEST>
-    requires { length (flat_map (λ part. part.now) parts.now) ≤ 192 }
-    ensures { result.items ≡ flat_map (λ part. part.now) parts.now }
+    requires { length (spec.joined parts.now) ≤ spec.LONGEST }
+    ensures { result.items ≡ spec.joined parts.now }
 {
     let mut line = ArrayVec::new();
     for part in parts {
@@ -36,9 +30,8 @@ fn compose(parts: &[&[u8]]) -> ArrayVec<u8, LONGEST>
 
 /// Writes a line. A failing writer has a beginning of it.
 fn put_line<E: DeviceOut>(errors: &mut Watched<E>, parts: &[&[u8]]) -> Result<(), WriteFailed>
-    requires { length (flat_map (λ part. part.now) parts.now) ≤ 192 }
-    ensures bytes { Puts (E.contents errors.old) (E.contents errors.new) (flat_map (λ part. part.now) parts.now) result }
-    ensures failed { Tells (E.has_failed errors.old) (E.has_failed errors.new) result }
+    requires { length (spec.joined parts.now) ≤ spec.LONGEST }
+    ensures { Wrote E.DeviceOut errors.old errors.new (spec.joined parts.now) result }
 {
     let line = compose(parts);
     put_all(errors, line.as_slice())
@@ -46,16 +39,17 @@ fn put_line<E: DeviceOut>(errors: &mut Watched<E>, parts: &[&[u8]]) -> Result<()
 
 /// Writes a line, after which no other comes.
 fn tell_line<E: DeviceOut>(errors: &mut Watched<E>, parts: &[&[u8]])
-    requires { length (flat_map (λ part. part.now) parts.now) ≤ 192 }
-    ensures { calls.Tries E.DeviceOut errors.old errors.new (flat_map (λ part. part.now) parts.now) }
+    requires { length (spec.joined parts.now) ≤ spec.LONGEST }
+    ensures { calls.Reports E.DeviceOut errors.old errors.new (spec.joined parts.now) }
 {
     let _ = put_line(errors, parts);
 }
 
-/// Tells a refusal: its number, where it is, and its words.
+/// Reports a refusal: its number, where it is, and its words.
 fn tell_refusal<E: DeviceOut>(number: &str, place: &[&[u8]], text: &str, errors: &mut Watched<E>)
-    requires { length number.now + length (flat_map (λ part. part.now) place.now) + length text.now ≤ 179 }
-    ensures { calls.Tries E.DeviceOut errors.old errors.new (spec.refusal_line number.now (flat_map (λ part. part.now) place.now) text.now) }
+    requires { length number.now + length (spec.joined place.now) + length text.now + 13 ≤ spec.LONGEST }
+    ensures { calls.Reports E.DeviceOut errors.old errors.new
+        (spec.refusal_line number.now (spec.joined place.now) text.now) }
 {
     let place = compose(place);
     tell_line(
@@ -71,9 +65,9 @@ fn tell_refusal<E: DeviceOut>(number: &str, place: &[&[u8]], text: &str, errors:
     );
 }
 
-/// Tells why words are refused, and answers the status.
+/// Reports why words are refused, and answers the status.
 pub fn tell<E: DeviceOut>(usage: &Usage, errors: &mut Watched<E>) -> u8
-    ensures line { calls.Tries E.DeviceOut errors.old errors.new (spec.usage_line usage.now) }
+    ensures line { calls.Reports E.DeviceOut errors.old errors.new (spec.usage_line usage.now) }
     ensures status { result ≡ spec.usage_status usage.now }
 {
     let mut digits = Buffer::new();
@@ -95,10 +89,10 @@ pub fn tell<E: DeviceOut>(usage: &Usage, errors: &mut Watched<E>) -> u8
     USAGE
 }
 
-/// Tells that the input or the output cannot be opened, and answers the status.
+/// Reports that the input or the output cannot be opened, and answers the status.
 pub fn tell_open<E: DeviceOut>(output: bool, errors: &mut Watched<E>) -> u8
-    ensures line { calls.Tries E.DeviceOut errors.old errors.new (spec.open_line output) }
-    ensures status { result ≡ 4 }
+    ensures line { calls.Reports E.DeviceOut errors.old errors.new (spec.open_line output) }
+    ensures status { result ≡ statuses.DEVICE }
 {
     if output {
         tell_line(errors, &[b"dcmtools: output cannot be opened\n".as_slice()]);
@@ -110,23 +104,23 @@ pub fn tell_open<E: DeviceOut>(output: bool, errors: &mut Watched<E>) -> u8
 
 /// Reports that the output is the input, and answers the status.
 pub fn tell_same<E: DeviceOut>(errors: &mut Watched<E>) -> u8
-    ensures line { calls.Tries E.DeviceOut errors.old errors.new spec.same_line }
-    ensures status { result ≡ 4 }
+    ensures line { calls.Reports E.DeviceOut errors.old errors.new spec.same_line }
+    ensures status { result ≡ statuses.DEVICE }
 {
     tell_line(errors, &[b"dcmtools: output is the input\n".as_slice()]);
     DEVICE
 }
 
-/// Tells a fault of the input.
+/// Reports a fault of the input.
 pub fn tell_fault<E: DeviceOut>(stop: Stop, errors: &mut Watched<E>)
-    ensures { calls.Tries E.DeviceOut errors.old errors.new (spec.fault_line stop) }
+    ensures { calls.Reports E.DeviceOut errors.old errors.new (spec.fault_line stop) }
 {
     let mut digits = Buffer::new();
     let place = [b" at byte ".as_slice(), digits.format(stop.at).as_bytes()];
     tell_refusal(stop.fault.number(), &place, stop.fault.text(), errors);
 }
 
-/// Which line a fault is of, where it is one's: what stands before its number, and that.
+/// Which line a fault is of, where it is one's: what is before its number, and that.
 fn line_place(line: u64, digits: &mut Buffer) -> (&'static [u8], &[u8])
     ensures bytes { result.0.now ++ result.1.now ≡ answer.line_place line }
     ensures within { length result.0.now + length result.1.now ≤ 27 }
@@ -137,25 +131,25 @@ fn line_place(line: u64, digits: &mut Buffer) -> (&'static [u8], &[u8])
     (b", line ".as_slice(), digits.format(line).as_bytes())
 }
 
-/// Tells why lines that were to be built are refused.
+/// Reports why lines that were to be built are refused.
 pub fn tell_line_fault<E: DeviceOut>(stop: LineStop, errors: &mut Watched<E>)
-    ensures { calls.Tries E.DeviceOut errors.old errors.new (answer.building_line stop) }
+    ensures { calls.Reports E.DeviceOut errors.old errors.new (answer.building_line stop) }
 {
     let mut digits = Buffer::new();
     let mut line_digits = Buffer::new();
-    let (behind, number) = line_place(stop.line, &mut line_digits);
+    let (before_number, number) = line_place(stop.line, &mut line_digits);
     let place = [
         b" at byte ".as_slice(),
         digits.format(stop.offset).as_bytes(),
-        behind,
+        before_number,
         number,
     ];
     tell_refusal(stop.fault.number(), &place, stop.fault.text(), errors);
 }
 
-/// Tells that reading failed behind so many bytes.
+/// Reports that reading failed after so many bytes.
 pub fn tell_unread<E: DeviceOut>(read: u64, errors: &mut Watched<E>)
-    ensures { calls.Tries E.DeviceOut errors.old errors.new (spec.unread_line read) }
+    ensures { calls.Reports E.DeviceOut errors.old errors.new (spec.unread_line read) }
 {
     let mut digits = Buffer::new();
     tell_line(
@@ -170,9 +164,9 @@ pub fn tell_unread<E: DeviceOut>(read: u64, errors: &mut Watched<E>)
     );
 }
 
-/// Tells that the output failed.
+/// Reports that the output failed.
 pub fn tell_output<E: DeviceOut>(errors: &mut Watched<E>)
-    ensures { calls.Tries E.DeviceOut errors.old errors.new spec.output_line }
+    ensures { calls.Reports E.DeviceOut errors.old errors.new spec.output_line }
 {
     tell_line(errors, &[b"dcmtools: output failed\n".as_slice()]);
 }
@@ -183,8 +177,7 @@ fn put_unplaced<E: DeviceOut>(
     number: usize,
     errors: &mut Watched<E>,
 ) -> Result<(), WriteFailed>
-    ensures bytes { Puts (E.contents errors.old) (E.contents errors.new) (spec.line_where is_unplaced number) result }
-    ensures failed { Tells (E.has_failed errors.old) (E.has_failed errors.new) result }
+    ensures { Wrote E.DeviceOut errors.old errors.new (spec.line_where is_unplaced number) result }
 {
     if !is_unplaced {
         return Ok(());
@@ -200,10 +193,10 @@ fn put_unplaced<E: DeviceOut>(
     )
 }
 
-/// Tells which edits found no place, each on a line: bit k is set for edit k, counted from 0. After a line that failed
-/// no other is tried.
+/// Reports which edits found no place, each on a line: bit k is set for edit k, counted from 0. After a line that
+/// failed no other is tried.
 pub fn tell_unplaced<E: DeviceOut>(unplaced: u64, errors: &mut Watched<E>)
-    ensures { calls.Tries E.DeviceOut errors.old errors.new (spec.mask_lines 64 1 unplaced) }
+    ensures { calls.Reports E.DeviceOut errors.old errors.new (spec.mask_lines 64 1 unplaced) }
 {
     let mut rest = unplaced;
     for number in 1..=MOST_EDITS {

@@ -1,7 +1,8 @@
 // The head of a file, out of a device.
-ghost use Rattle.std.specs.Prelude.{◌≡◌, ◌≤◌, ◌<◌, ◌^◌, length, false, IfOk};
+ghost use Rattle.std.specs.Prelude.{◌≡◌, ◌≤◌, ◌<◌, length, false};
 ghost use Rattle.dcm_head.specs.MetaReading.{HasEnded, at_start, meta_finished};
-ghost use Rattle.dcm_cli.specs.Calls as calls;
+ghost use Rattle.dcm_base.specs.Reading.Reads.{INPUT_LIMIT};
+ghost use Rattle.dcm_files.specs.Pieces.{BUFFER_LIMIT};
 ghost use Rattle.dcm_cli.specs.Pass as spec;
 
 use crate::ending::HeadEnding;
@@ -12,11 +13,15 @@ use dcm_head::{Meta, MetaRead};
 /// Where a data set begins: with a byte of an earlier piece, and then within the bytes that the buffer holds.
 #[derive(Clone, Copy, Debug, PartialEq, Eq)]
 pub struct Beginning {
+    /// The byte of an earlier piece, if there is one.
     pub ahead: Option<u8>,
+    /// How many bytes of the buffer are of the head.
     pub used: usize,
+    /// How many bytes the buffer holds.
     pub filled: usize,
-    /// How many bytes were read of the input, and whether it has ended.
+    /// How many bytes were read of the input.
     pub read: u64,
+    /// Whether the input has ended.
     pub is_over: bool,
 }
 
@@ -61,11 +66,8 @@ pub fn read_head_of<R: DeviceIn>(
 ) -> Result<Beginning, HeadEnding>
     requires start { meta.old ≡ at_start }
     requires room { 0 < length buffer.old }
-    requires bound { length buffer.old ≤ 262144 }
-    ensures within { IfOk result (λ b. (b.used ≤ b.filled) × (b.filled ≤ length buffer.new)) }
-    ensures read { spec.HeadReads R.DeviceIn input.old input.new meta.new buffer.new result }
-    ensures failed { calls.TellsHead R.DeviceIn input.old input.new result }
-    ensures kept { length buffer.new ≡ length buffer.old }
+    requires bound { length buffer.old ≤ BUFFER_LIMIT }
+    ensures { spec.HeadReads R.DeviceIn input.old input.new meta.new buffer.old buffer.new result }
 {
     let mut read: u64 = 0;
     loop {
@@ -86,7 +88,7 @@ pub fn read_head_of<R: DeviceIn>(
 pub fn set_start(meta: &Meta) -> u64
     requires { HasEnded meta.now.end }
     ensures place { result ≡ meta.now.place }
-    ensures limit { result ≤ 2 ^ 62 }
+    ensures limit { result ≤ INPUT_LIMIT }
 {
     GROUP_AT + meta.bytes().len() as u64
 }

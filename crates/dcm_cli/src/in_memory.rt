@@ -13,13 +13,16 @@ use std::alloc::Global;
 /// What a run over memory leaves.
 #[derive(Drop)]
 pub struct InMemory {
+    /// The output.
     pub out: MemOut,
+    /// The error writer.
     pub errors: MemOut,
+    /// The exit status.
     pub status: u8,
 }
 
-/// Does a job over memory. Where there is room for the whole output, no device fails that counts: the output and the status are
-/// those of the answer, and where there is room for its lines, they are written too.
+/// Does a job over memory. Where there is room for the whole output, no device fails that counts: the output and the
+/// status are those of the answer, and where there is room for its lines, they are written too.
 pub fn run_in_memory(job: &Job, input: MemIn, out: MemOut, errors: MemOut) -> InMemory
     ensures { LeavesAnswers (job_of job.now) input.entry.rest.now out result.out errors result.errors result.status }
 {
@@ -39,19 +42,23 @@ pub fn run_in_memory(job: &Job, input: MemIn, out: MemOut, errors: MemOut) -> In
 pub struct Obeyed {
     /// The output that was closed, if one was.
     pub written: Option<MemOut>,
+    /// The error writer.
     pub errors: MemOut,
+    /// The exit status.
     pub status: u8,
 }
 
-/// Obeys words over files in memory. Where there is room for what they come to, the output and the status are those, and where
-/// there is room for the lines, they are written too. Only edits can want more memory than there is: then nothing is opened.
+/// Obeys words over files in memory. Where there is room for what they come to, the output and the status are those,
+/// and where there is room for the lines, they are written too. Only edits can want more memory than there is: then
+/// nothing is opened.
 pub fn obey_in_memory<'a>(
     alloc: Global,
     words: &[&[u8]],
     system: MemSystem<'a>,
     errors: MemOut,
 ) -> Obeyed
-    ensures { ObeysInMemory (map (λ w. w.now) words.now) system.entry errors result.written result.errors result.status }
+    ensures { ObeysInMemory (map (λ w. w.now) words.now) system.entry errors result.written result.errors
+        result.status }
 {
     let mut system = system;
     let mut errors = Watched::new(Measured::new(errors));

@@ -1,5 +1,8 @@
 //! Laws of the definitions. Each function takes nothing and makes no call: its contract is the law.
-ghost use Rattle.dcm_cli.specs.Laws.{SureGrows, ModifiedReads, ConvertedReads, ErasedAll, ErasedPrivate, ModifiedAll, OthersStay, ReadsAlike, ErasedAllBy, ErasedPrivateBy, ModifiedAllBy, OthersStayBy, ExplicitOpensAlike, OwnOpensAlike, StandardOpensAlike, ErasedAllSeen, ErasedPrivateSeen, AlikeHidesNothing, ModifiedTwice};
+ghost use Rattle.dcm_cli.specs.Laws.{SureGrows, ModifiedReads, ConvertedReads, ErasedAll, ErasedPrivate, ModifiedAll};
+ghost use Rattle.dcm_cli.specs.Laws.{OthersStay, ReadsAlike, ErasedAllBy, ErasedPrivateBy, ModifiedAllBy, OthersStayBy};
+ghost use Rattle.dcm_cli.specs.Laws.{ExplicitOpensAlike, OwnOpensAlike, StandardOpensAlike, ErasedAllSeen};
+ghost use Rattle.dcm_cli.specs.Laws.{ErasedPrivateSeen, AlikeHidesNothing, ModifiedTwice};
 ghost use Rattle.dcm_cli.specs.Answer.{Answer, Answers};
 ghost use Rattle.dcm_cli.specs.DumpBuilds.{DumpBuilds};
 ghost use Rattle.dcm_cli.specs.InMemory.{Outcome, Comes};
@@ -28,27 +31,29 @@ pub fn comes_some()
     ensures { (words : List (List ℕ)) (s : MemSystem) → (o : Outcome) × Comes words s o }
 {}
 
-/// What is sure of a beginning of an input is a beginning of the output for every input that begins so. Edits are those that
-/// some words mean.
+/// What is sure of a beginning of an input is a beginning of the output for every input that begins so. Edits are
+/// those that some words mean.
 pub fn sure_grows()
     ensures { SureGrows }
 {}
 
-/// Two runs in a row: the full dump of a file, and what it builds. Where the file is read without fault, its values are of whole
-/// units, the tags of each of its data sets ascend, and no line of the dump passes the limit, the second run ends with status 0,
-/// and its output is that of a conversion to the file's own transfer syntax, but for the first 128 bytes, which are 0.
+/// Two runs in a row: the full dump of a file, and what it builds. Where the file is read without fault, its values
+/// are of whole units, the tags of each of its data sets ascend, and no line of the dump passes the limit, the second
+/// run ends with status 0, and its output is that of a conversion to the file's own transfer syntax, but for the
+/// first 128 bytes, which are 0.
 pub fn dump_builds_runs()
     ensures { DumpBuilds }
 {}
 
-/// What dcmodify answers without edits is what dcmconv answers for the file's own transfer syntax, where no tag is refused for
-/// its order.
+/// What dcmodify answers without edits is what dcmconv answers for the file's own transfer syntax, where no tag is
+/// refused for its order.
 pub fn no_edits_convert()
     ensures { NoEditsConvert }
 {}
 
-/// What dcmodify writes of a file without fault is a file that is read without fault: its preamble and its transfer syntax are those
-/// of the input, its meta group is the one that was written anew, and its data set is the normal form of the edited one.
+/// What dcmodify writes of a file without fault is a file that is read without fault: its preamble and its transfer
+/// syntax are those of the input, its meta group is the one that was written anew, and its data set is the normal
+/// form of the edited one.
 pub fn modified_reads()
     ensures { ModifiedReads }
 {}
@@ -58,8 +63,9 @@ pub fn converted_reads()
     ensures { ConvertedReads }
 {}
 
-/// However the output of dcmodify for a file without fault is read as a file: it is read without fault, after `-ea` no element has
-/// the tag, after `-ep` none is of an odd group, and after `-ma` each of the tag has the value, as it is written, at any depth.
+/// However the output of dcmodify for a file without fault is read as a file: it is read without fault, after `-ea`
+/// no element has the tag, after `-ep` none is of an odd group, and after `-ma` each of the tag has the value, as it
+/// is written, at any depth.
 pub fn output_is_edited()
     ensures erased_all { ErasedAll }
     ensures erased_private { ErasedPrivate }
@@ -101,8 +107,9 @@ pub fn output_erased_for_all()
     ensures alike { AlikeHidesNothing }
 {}
 
-/// Two runs in a row: dcmodify on a file without fault, and then on its output, with the same edits. Where no edit erases an item by
-/// its number, the second run writes the same bytes again and refuses nothing: its status is 0 or 3.
+/// Two runs in a row: dcmodify on a file without fault, and then on its output, with the same edits. Where no edit
+/// erases an item by its number, the second run writes the same bytes again and refuses nothing: its status is 0 or
+/// 3.
 pub fn modified_twice()
     ensures { ModifiedTwice }
 {}

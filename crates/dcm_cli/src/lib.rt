@@ -1,11 +1,12 @@
 //! The program dcmtools: the run of a job over devices, lines on standard error, files, and the exit status.
 //!
-//! - `run::run` does a job: it reads its input in pieces of at most 262,144 bytes, writes its output as it goes, reports what
-//!   is wrong, and answers how it ended. Its contract is the theorem of the whole.
-//! - `dump`, `convert`, `modify` and `build` are the work on the four kinds of jobs, by `pieces`, `head`, `pass` and `rewrite`.
-//! - `tell` and `tell_open` report words that are refused and files that cannot be opened.
-//! - `obey` does what words say, over any system that opens devices (`System`); `dcmtools` does it over the real one, and
-//!   `main` calls it.
+//! - `run::run` does a job: it reads its input in pieces of at most 262,144 bytes, writes its output as it goes,
+//!   reports what is wrong, and answers how it ended. Its contract is the theorem of the whole.
+//! - `dump`, `convert`, `modify` and `build` are the work on the four kinds of jobs, by `head`, `pass` and `rewrite`.
+//! - `tell` and `tell_open` report words that are refused and files that cannot be opened; `status` has the exit
+//!   statuses.
+//! - `obey` does what words say, over any system that opens devices (`System`); `dcmtools` does it over the real one,
+//!   and `main` calls it.
 //!
 //! A run over memory:
 //!
@@ -22,13 +23,18 @@ mod dump;
 mod ending;
 mod error_lines;
 mod head;
+/// Runs over memory.
 pub mod in_memory;
+/// Laws of the definitions.
 pub mod laws;
 mod modify;
 mod pass;
 mod program;
 mod rewrite;
+/// A job over devices.
 pub mod run;
+/// The exit statuses.
+pub mod status;
 mod syntax;
 
 pub use dcm_words::{Build, Convert, Dump, Job, Planned, plan};

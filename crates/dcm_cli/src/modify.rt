@@ -1,20 +1,20 @@
 // The edits of a file.
-ghost use Rattle.std.specs.Prelude.{◌≡◌, ◌≤◌, ◌<◌, ◌+◌, ◌^◌, length};
-ghost use Rattle.dcm_edit_words.specs.Meaning.{AreMeant};
-ghost use Rattle.dcm_stream.specs.Sinks as sinks;
+ghost use Rattle.std.specs.Prelude.{◌≡◌, ◌≤◌, ◌<◌, ◌+◌, length};
+ghost use Rattle.dcm_edits.specs.Meaning.{AreMeant};
 ghost use Rattle.dcm_words.specs.Words.{modify as modify_job};
+ghost use Rattle.dcm_base.specs.Reading.Reads.{INPUT_LIMIT};
+ghost use Rattle.dcm_files.specs.Pieces.{BUFFER_LIMIT};
 ghost use Rattle.dcm_cli.specs.Calls as calls;
 ghost use Rattle.dcm_cli.specs.EditPass as edit_pass;
 ghost use Rattle.dcm_cli.specs.Pass as spec;
-ghost use Rattle.dcm_cli.specs.SinkPass as sink_pass;
 
 use crate::ending::{Ending, Verdict};
 use crate::pass::read_set;
 use crate::rewrite::{Opened, open_file};
 use dcm_base::{DeviceIn, DeviceOut, Dictionary, Watched};
-use dcm_edit::{EditSink, Edits};
+use dcm_editor::{EditSink, Edits};
+use dcm_sinks::EncodeSink;
 use dcm_stream::Sink;
-use dcm_tools::EncodeSink;
 use dcm_words::Modify;
 
 /// The bytes that are read at a time. Most of them are written again, each piece by one call.
@@ -38,15 +38,13 @@ fn read_edited<R: DeviceIn, S: Sink>(
     buffer: &mut [u8],
     sink: &mut S,
 ) -> Ending
-    requires start { opened.start ≤ 2 ^ 62 }
+    requires start { opened.start ≤ INPUT_LIMIT }
     requires room { 0 < length buffer.old }
-    requires bound { length buffer.old ≤ 262144 }
-    requires within { (opened.beginning.used ≤ opened.beginning.filled) × (opened.beginning.filled ≤ length buffer.old) }
+    requires bound { length buffer.old ≤ BUFFER_LIMIT }
+    requires within { spec.IsWithin opened.beginning buffer.old }
     requires count { opened.start + length (spec.set_bytes opened.beginning buffer.old) ≡ opened.beginning.read }
-    ensures passes { edit_pass.Edits S.Sink R.DeviceIn edits.now sink.old sink.new input.old input.new opened buffer.old result }
-    ensures unread { spec.TellsUnread (R.has_failed input.old) (R.has_failed input.new) result }
-    ensures failed { sink_pass.TellsOutput S.Sink sink.old sink.new result }
-    ensures kept { sinks.Keeps S.Sink sink.old sink.new }
+    ensures { edit_pass.Edits S.Sink R.DeviceIn edits.now sink.old sink.new input.old input.new opened
+        buffer.old result }
 {
     let mut edited = EditSink::new(edits, sink);
     let ending = read_set(
@@ -70,10 +68,9 @@ fn modify_file<R: DeviceIn, W: DeviceOut>(
 ) -> Ending
     requires meant { AreMeant edits.now }
     requires room { 0 < length buffer.old }
-    requires bound { length buffer.old ≤ 262144 }
-    ensures worked { calls.Works R.DeviceIn W.DeviceOut (modify_job dictionary edits.now) input.old input.new out.old out.new result }
-    ensures unread { spec.TellsUnread (R.has_failed input.old) (R.has_failed input.new) result }
-    ensures failed { spec.TellsOutput (W.has_failed out.old) (W.has_failed out.new) result }
+    requires bound { length buffer.old ≤ BUFFER_LIMIT }
+    ensures { calls.Works R.DeviceIn W.DeviceOut (modify_job dictionary edits.now) input.old input.new out.old
+        out.new result }
 {
     let opened = match open_file(dictionary, None, input, out, buffer) {
         Ok(opened) => opened,
@@ -89,12 +86,11 @@ pub fn modify<R: DeviceIn, W: DeviceOut>(
     input: &mut Watched<R>,
     out: &mut Watched<W>,
 ) -> Ending
-    ensures worked { calls.Works R.DeviceIn W.DeviceOut (modify_job modify.now.dictionary modify.now.edits) input.old input.new out.old out.new result }
-    ensures unread { spec.TellsUnread (R.has_failed input.old) (R.has_failed input.new) result }
-    ensures failed { spec.TellsOutput (W.has_failed out.old) (W.has_failed out.new) result }
+    ensures worked { calls.Works R.DeviceIn W.DeviceOut (modify_job modify.now.dictionary modify.now.edits) input.old
+        input.new out.old out.new result }
     ensures meant { AreMeant modify.now.edits }
 {
-    // The list is asked for since it is said of it that some words mean the edits.
+    // The list is asked for since its contract says that some words mean the edits.
     let _list = modify.edits.list();
     let mut buffer = [0u8; PIECE];
     modify_file(modify.dictionary, &modify.edits, input, out, &mut buffer)

@@ -1,7 +1,8 @@
 // A data set, out of a device into a sink.
-ghost use Rattle.std.specs.Prelude.{◌≡◌, ◌≤◌, ◌<◌, ◌+◌, ◌^◌, length, true, false};
+ghost use Rattle.std.specs.Prelude.{◌≡◌, ◌≤◌, ◌<◌, ◌+◌, length, false};
 ghost use Rattle.dcm_stream.specs.Machine as machine_spec;
-ghost use Rattle.dcm_stream.specs.Sinks as sinks;
+ghost use Rattle.dcm_base.specs.Reading.Reads.{INPUT_LIMIT};
+ghost use Rattle.dcm_files.specs.Pieces.{BUFFER_LIMIT};
 ghost use Rattle.dcm_cli.specs.Pass as spec;
 ghost use Rattle.dcm_cli.specs.SinkPass as sink_pass;
 
@@ -14,8 +15,7 @@ use dcm_stream::{Halt, Machine, Sink};
 /// Feeds a machine that has not halted.
 fn feed<S: Sink>(piece: &[u8], machine: &mut Machine, sink: &mut S) -> Result<(), Halt>
     requires { machine_spec.is_halted machine.old ≡ false }
-    ensures fed { sink_pass.Fed S.Sink sink.old sink.new machine.old machine.new piece.now result }
-    ensures kept { sinks.Keeps S.Sink sink.old sink.new }
+    ensures { sink_pass.Feeds S.Sink sink.old sink.new machine.old machine.new piece.now result }
 {
     machine.feed(piece, sink)
 }
@@ -27,10 +27,10 @@ fn feed_beginning<S: Sink>(
     machine: &mut Machine,
     sink: &mut S,
 ) -> Result<(), Halt>
-    requires within { (beginning.used ≤ beginning.filled) × (beginning.filled ≤ length buffer.now) }
+    requires within { spec.IsWithin beginning buffer.now }
     requires going { machine_spec.is_halted machine.old ≡ false }
-    ensures fed { sink_pass.Fed S.Sink sink.old sink.new machine.old machine.new (spec.set_bytes beginning buffer.now) result }
-    ensures kept { sinks.Keeps S.Sink sink.old sink.new }
+    ensures { sink_pass.Feeds S.Sink sink.old sink.new machine.old machine.new (spec.set_bytes beginning buffer.now)
+        result }
 {
     let rest = &buffer[beginning.used..beginning.filled];
     match beginning.ahead {
@@ -45,14 +45,12 @@ fn feed_beginning<S: Sink>(
 /// Ends the data set of a machine that has not halted.
 fn end<S: Sink>(machine: &mut Machine, sink: &mut S) -> Result<(), Halt>
     requires { machine_spec.is_halted machine.old ≡ false }
-    ensures ends { sink_pass.EndsSet S.Sink sink.old sink.new machine.old.reading result }
-    ensures failed { sink_pass.TellsOutput S.Sink sink.old sink.new (spec.ending_of result) }
-    ensures kept { sinks.Keeps S.Sink sink.old sink.new }
+    ensures { sink_pass.EndsSet S.Sink sink.old sink.new machine.old.reading result }
 {
     machine.finish(sink)
 }
 
-/// Feeds a machine all that an input has still to give, behind so many bytes.
+/// Feeds a machine all that an input has still to give, after so many bytes.
 pub fn read_rest<R: DeviceIn, S: Sink>(
     read_before: u64,
     input: &mut Watched<R>,
@@ -61,14 +59,12 @@ pub fn read_rest<R: DeviceIn, S: Sink>(
     sink: &mut S,
 ) -> Ending
     requires room { 0 < length buffer.old }
-    requires bound { length buffer.old ≤ 262144 }
+    requires bound { length buffer.old ≤ BUFFER_LIMIT }
     requires going { machine_spec.is_halted machine.old ≡ false }
     requires before { read_before ≡ machine_spec.next_offset machine.old.reading }
-    requires limit { read_before ≤ 2 ^ 62 }
-    ensures reads { sink_pass.ReadsRest S.Sink R.DeviceIn sink.old sink.new input.old input.new machine.old.reading result }
-    ensures unread { spec.TellsUnread (R.has_failed input.old) (R.has_failed input.new) result }
-    ensures failed { sink_pass.TellsOutput S.Sink sink.old sink.new result }
-    ensures kept { sinks.Keeps S.Sink sink.old sink.new }
+    requires limit { read_before ≤ INPUT_LIMIT }
+    ensures { sink_pass.ReadsRest S.Sink R.DeviceIn sink.old sink.new input.old input.new machine.old.reading
+        result }
 {
     let mut read = read_before;
     loop {
@@ -92,16 +88,13 @@ pub fn read_set<R: DeviceIn, S: Sink>(
     buffer: &mut [u8],
     sink: &mut S,
 ) -> Ending
-    requires start { start ≤ 2 ^ 62 }
+    requires start { start ≤ INPUT_LIMIT }
     requires room { 0 < length buffer.old }
-    requires bound { length buffer.old ≤ 262144 }
-    requires within { (beginning.used ≤ beginning.filled) × (beginning.filled ≤ length buffer.old) }
+    requires bound { length buffer.old ≤ BUFFER_LIMIT }
+    requires within { spec.IsWithin beginning buffer.old }
     requires count { start + length (spec.set_bytes beginning buffer.old) ≡ beginning.read }
-    ensures ends { sink_pass.ReadsSet S.Sink R.DeviceIn sink.old sink.new input.old input.new beginning buffer.old coding.syntax start result }
-    ensures over { beginning.is_over ≡ true → spec.WasRead result }
-    ensures unread { spec.TellsUnread (R.has_failed input.old) (R.has_failed input.new) result }
-    ensures failed { sink_pass.TellsOutput S.Sink sink.old sink.new result }
-    ensures kept { sinks.Keeps S.Sink sink.old sink.new }
+    ensures { sink_pass.ReadsSet S.Sink R.DeviceIn sink.old sink.new input.old input.new beginning buffer.old
+        coding.syntax start result }
 {
     let mut machine = Machine::new(coding, start);
     if let Err(halt) = feed_beginning(beginning, buffer, &mut machine, sink) {

@@ -1,8 +1,11 @@
 // The program: words, devices, and the exit status.
 ghost use Rattle.std.specs.Prelude.{◌≤◌, ◌≡◌, map, IfOk};
+ghost use Rattle.dcm_words.specs.Plans as plans;
+ghost use Rattle.dcm_words.specs.Topics as topics;
 ghost use Rattle.dcm_cli.specs.Calls as calls;
+ghost use Rattle.dcm_cli.specs.Change.{change_of};
 ghost use Rattle.dcm_cli.specs.Program as spec;
-ghost use Rattle.dcm_cli.specs.Program.{WorksBy, PutsTextBy, ShowsBy, ObeysBy, StartsBy};
+ghost use Rattle.dcm_cli.specs.Status as statuses;
 
 use crate::ending::{Ending, Verdict};
 use crate::error_lines::{tell, tell_open, tell_same};
@@ -28,7 +31,7 @@ fn views<'a>(alloc: Global, words: &'a [Vec<u8>]) -> Result<Vec<&'a [u8]>, Alloc
 
 /// Reports why a job is not begun, and answers the status.
 fn tell_unopened<E: DeviceOut>(unopened: Unopened, errors: &mut Watched<E>) -> u8
-    ensures line { calls.Tries E.DeviceOut errors.old errors.new (spec.unopened_line unopened) }
+    ensures line { calls.Reports E.DeviceOut errors.old errors.new (spec.unopened_line unopened) }
     ensures status { result ≡ spec.unopened_status unopened }
 {
     match unopened {
@@ -41,8 +44,9 @@ fn tell_unopened<E: DeviceOut>(unopened: Unopened, errors: &mut Watched<E>) -> u
 
 /// Opens the devices of a job and runs it. Nothing is read or written where one cannot be opened.
 fn work<S: System, E: DeviceOut>(system: &mut S, planned: &Planned, errors: &mut Watched<E>) -> u8
-    ensures works { WorksBy S.may_do S.Input.DeviceIn S.Output.DeviceOut E.DeviceOut planned.now system.old system.new errors.old errors.new result }
-    ensures within { result ≤ 5 }
+    ensures works { spec.Works S.may_do S.Input.DeviceIn S.Output.DeviceOut (plans.planned planned.now)
+        (change_of E.DeviceOut errors.old errors.new) system.old result system.new }
+    ensures within { result ≤ statuses.MEMORY }
 {
     let (input, output) = match open_devices(system, planned.input, planned.output) {
         Ok(devices) => devices,
@@ -62,8 +66,9 @@ fn put_text<W: DeviceOut, E: DeviceOut>(
     out: &mut Watched<W>,
     errors: &mut Watched<E>,
 ) -> u8
-    ensures put { PutsTextBy W.DeviceOut E.DeviceOut text.now out.old out.new errors.old errors.new result }
-    ensures within { result ≤ 4 }
+    ensures put { spec.PutsText text.now (change_of W.DeviceOut out.old out.new)
+        (change_of E.DeviceOut errors.old errors.new) result }
+    ensures within { result ≤ statuses.DEVICE }
 {
     let ending = match put_all(out, text.as_bytes()) {
         Ok(()) => DONE,
@@ -75,8 +80,9 @@ fn put_text<W: DeviceOut, E: DeviceOut>(
 
 /// Shows a text about the program on standard output, and answers the status.
 fn show<S: System, E: DeviceOut>(system: &mut S, topic: Topic, errors: &mut Watched<E>) -> u8
-    ensures shows { ShowsBy S.may_do S.Input.DeviceIn S.Output.DeviceOut E.DeviceOut topic system.old system.new errors.old errors.new result }
-    ensures within { result ≤ 5 }
+    ensures shows { spec.Shows S.may_do S.Output.DeviceOut (topics.text topic)
+        (change_of E.DeviceOut errors.old errors.new) system.old result system.new }
+    ensures within { result ≤ statuses.MEMORY }
 {
     let output = match system.stdout() {
         Ok(output) => output,
@@ -88,16 +94,17 @@ fn show<S: System, E: DeviceOut>(system: &mut S, topic: Topic, errors: &mut Watc
     status
 }
 
-/// Does what the words of a command line say, after the program's name, with the devices that they name. It reports what is
-/// wrong, and answers the exit status.
+/// Does what the words of a command line say, after the program's name, with the devices that they name. It reports
+/// what is wrong, and answers the exit status.
 pub fn obey<S: System, E: DeviceOut>(
     system: &mut S,
     alloc: Global,
     words: &[&[u8]],
     errors: &mut Watched<E>,
 ) -> u8
-    ensures obeys { ObeysBy S.may_do S.Input.DeviceIn S.Output.DeviceOut E.DeviceOut words.now system.old system.new errors.old errors.new result }
-    ensures within { result ≤ 5 }
+    ensures obeys { spec.Obeys S.may_do S.Input.DeviceIn S.Output.DeviceOut (map (λ w. w.now) words.now)
+        (change_of E.DeviceOut errors.old errors.new) system.old result system.new }
+    ensures within { result ≤ statuses.MEMORY }
 {
     if let Some(topic) = asked(words) {
         return show(system, topic, errors);
@@ -110,8 +117,9 @@ pub fn obey<S: System, E: DeviceOut>(
 
 /// Does what the words of the command line say, with the devices that they name, and answers the exit status.
 pub fn start<S: System, E: DeviceOut>(system: &mut S, alloc: Global, errors: &mut Watched<E>) -> u8
-    ensures starts { StartsBy S.may_do S.Input.DeviceIn S.Output.DeviceOut E.DeviceOut system.old system.new errors.old errors.new result }
-    ensures within { result ≤ 5 }
+    ensures starts { spec.Starts S.may_do S.Input.DeviceIn S.Output.DeviceOut
+        (change_of E.DeviceOut errors.old errors.new) system.old result system.new }
+    ensures within { result ≤ statuses.MEMORY }
 {
     let Ok(words) = system.words() else {
         return tell(&Usage::Memory, errors);
@@ -122,10 +130,10 @@ pub fn start<S: System, E: DeviceOut>(system: &mut S, alloc: Global, errors: &mu
     }
 }
 
-/// Does what the words of the command line say, over the system's devices, and answers the exit status. Where the numbers of closed
-/// streams cannot be taken, no file is opened.
+/// Does what the words of the command line say, over the system's devices, and answers the exit status. Where the
+/// numbers of closed streams cannot be taken, no file is opened.
 pub fn dcmtools(rt: HostRuntime) -> u8
-    ensures { result ≤ 5 }
+    ensures { result ≤ statuses.MEMORY }
 {
     let mut errors = Watched::new(Std::new(rt.stderr()));
     match Host::new(rt) {

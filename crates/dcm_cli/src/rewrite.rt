@@ -1,10 +1,11 @@
 // A file that is written again: what comes before its data set.
-ghost use Rattle.std.specs.Prelude.{◌≡◌, ◌≤◌, ◌<◌, ◌+◌, ◌^◌, length, Option, IfOk};
+ghost use Rattle.std.specs.Prelude.{◌≡◌, ◌≤◌, ◌<◌, ◌+◌, length, Option, IfOk};
 ghost use Rattle.dcm_base.specs.declared.syntax.Syntax.{Syntax};
-ghost use Rattle.dcm_devices.specs.Device.{Tells};
-ghost use Rattle.dcm_base.specs.MetaReads.{Meta as FileMeta};
+ghost use Rattle.dcm_base.specs.File.MetaReads.{Meta as FileMeta};
 ghost use Rattle.dcm_words.specs.Words.{convert as convert_job};
 ghost use Rattle.dcm_head.specs.MetaReading.{HasEnded, uid_of};
+ghost use Rattle.dcm_base.specs.Reading.Reads.{INPUT_LIMIT};
+ghost use Rattle.dcm_files.specs.Pieces.{BUFFER_LIMIT};
 ghost use Rattle.dcm_cli.specs.Answer as answer;
 ghost use Rattle.dcm_cli.specs.Calls as calls;
 ghost use Rattle.dcm_cli.specs.Pass as spec;
@@ -20,8 +21,11 @@ use dcm_head::{Meta, PREFIX};
 /// A file whose data set is to be written again: the coding and the offset of the data set, and what was read of it.
 #[derive(Clone, Copy, Debug, PartialEq, Eq)]
 pub struct Opened {
+    /// Where the data set begins in what was read.
     pub beginning: Beginning,
+    /// The coding of the data set.
     pub coding: Coding,
+    /// The offset of the data set in the file.
     pub start: u64,
 }
 
@@ -54,7 +58,7 @@ fn target_uid<'m>(target: Option<Syntax>, meta: &'m Meta) -> &'m [u8]
     }
 }
 
-/// Writes what stands before the data set: the preamble, the prefix, and the meta group with this transfer syntax.
+/// Writes what is before the data set: the preamble, the prefix, and the meta group with this transfer syntax.
 fn write_head<W: DeviceOut>(
     meta: &Meta,
     uid: &[u8],
@@ -62,14 +66,14 @@ fn write_head<W: DeviceOut>(
 ) -> Result<(), WriteFailed>
     requires ended { HasEnded meta.now.end }
     requires uid { length uid.now < 65535 }
-    ensures bytes { calls.PutsHead W.DeviceOut out.old out.new meta.now uid.now result }
-    ensures failed { Tells (W.has_failed out.old) (W.has_failed out.new) result }
+    ensures { calls.WritesHead W.DeviceOut out.old out.new meta.now uid.now result }
 {
     put_parts(out, &[meta.preamble(), PREFIX])?;
     meta.rewritten(uid, out)
 }
 
-/// Reads the head of a file, and writes it again with the transfer syntax of the target. The coding is read by the dictionary.
+/// Reads the head of a file, and writes it again with the transfer syntax of the target. The coding is read by the
+/// dictionary.
 pub fn open_file<R: DeviceIn, W: DeviceOut>(
     dictionary: Dictionary,
     target: Option<Syntax>,
@@ -78,14 +82,12 @@ pub fn open_file<R: DeviceIn, W: DeviceOut>(
     buffer: &mut [u8],
 ) -> Result<Opened, Ending>
     requires room { 0 < length buffer.old }
-    requires bound { length buffer.old ≤ 262144 }
-    ensures opens { calls.Opens R.DeviceIn W.DeviceOut dictionary target input.old input.new out.old out.new buffer.new result }
-    ensures start { IfOk result (λ o. o.start ≤ 2 ^ 62) }
-    ensures within { IfOk result (λ o. (o.beginning.used ≤ o.beginning.filled) × (o.beginning.filled ≤ length buffer.new)) }
+    requires bound { length buffer.old ≤ BUFFER_LIMIT }
+    ensures opens { calls.Opens R.DeviceIn W.DeviceOut dictionary target input.old input.new out.old out.new
+        buffer.old buffer.new result }
+    ensures start { IfOk result (λ o. o.start ≤ INPUT_LIMIT) }
+    ensures within { IfOk result (λ o. spec.IsWithin o.beginning buffer.new) }
     ensures count { IfOk result (λ o. o.start + length (spec.set_bytes o.beginning buffer.new) ≡ o.beginning.read) }
-    ensures kept { length buffer.new ≡ length buffer.old }
-    ensures unread { calls.OpensUnread R.DeviceIn input.old input.new result }
-    ensures failed { calls.OpensUnwritten W.DeviceOut out.old out.new result }
 {
     let mut meta = Meta::new();
     let beginning = match read_head_of(&mut meta, input, buffer) {

@@ -1,35 +1,30 @@
 // A job over devices.
 ghost use Rattle.std.specs.Prelude.{◌≡◌, ◌≤◌, true, false};
 ghost use Rattle.dcm_cli.specs.Calls as calls;
-ghost use Rattle.dcm_cli.specs.Calls.{RunsJob};
-ghost use Rattle.dcm_cli.specs.Pass.{TellsUnread, TellsOutput};
+ghost use Rattle.dcm_cli.specs.Calls.{Runs};
+ghost use Rattle.dcm_cli.specs.Change.{change_of};
 ghost use Rattle.dcm_cli.specs.Run as spec;
+ghost use Rattle.dcm_cli.specs.Status as statuses;
 ghost use Rattle.dcm_words.specs.Plans.{job_of};
 
 use crate::build::build;
 use crate::convert::convert;
 use crate::dump::dump;
 use crate::ending::{Ending, Verdict};
-use crate::error_lines::{
-    DEVICE, tell_fault, tell_line_fault, tell_output, tell_unplaced, tell_unread,
-};
+use crate::error_lines::{tell_fault, tell_line_fault, tell_output, tell_unplaced, tell_unread};
 use crate::modify::modify;
+use crate::status::{DEVICE, DONE, FAULT, UNPLACED};
 use dcm_base::{DeviceIn, DeviceOut, Watched, flush_out};
 use dcm_words::Job;
-
-/// The status of an input at fault.
-const FAULT: u8 = 2;
-
-/// The status where an edit found no place.
-const UNPLACED: u8 = 3;
 
 /// How a run ended.
 #[derive(Clone, Copy, Debug, PartialEq, Eq)]
 pub struct Outcome {
+    /// The exit status.
     pub status: u8,
 }
 
-/// Flushes the output, unless it has failed. A failed flush is told where nothing failed before.
+/// Flushes the output, unless it has failed. A failed flush is reported where nothing failed before.
 pub(crate) fn flushed<W: DeviceOut>(ending: Ending, out: &mut Watched<W>) -> Ending
     ensures contents { W.contents out.new ≡ W.contents out.old }
     ensures flushed { spec.FlushedAs ending result (W.has_failed out.old) (W.has_failed out.new) (W.room out.new) }
@@ -52,14 +47,14 @@ pub(crate) fn flushed<W: DeviceOut>(ending: Ending, out: &mut Watched<W>) -> End
 fn done_status(unplaced: u64) -> u8
     ensures { result ≡ spec.mask_status unplaced }
 {
-    if unplaced == 0 { 0 } else { UNPLACED }
+    if unplaced == 0 { DONE } else { UNPLACED }
 }
 
-/// Tells what the work on a job came to, and answers the status.
+/// Reports what the work on a job came to, and answers the status.
 fn tell_verdict<E: DeviceOut>(verdict: Verdict, errors: &mut Watched<E>) -> u8
-    ensures lines { calls.Tries E.DeviceOut errors.old errors.new (spec.verdict_lines verdict) }
+    ensures lines { calls.Reports E.DeviceOut errors.old errors.new (spec.verdict_lines verdict) }
     ensures status { result ≡ spec.verdict_status verdict }
-    ensures within { result ≤ 3 }
+    ensures within { result ≤ statuses.UNPLACED }
 {
     match verdict {
         Verdict::Done { unplaced } => {
@@ -77,11 +72,11 @@ fn tell_verdict<E: DeviceOut>(verdict: Verdict, errors: &mut Watched<E>) -> u8
     }
 }
 
-/// Tells how a job ended, and answers the status.
+/// Reports how a job ended, and answers the status.
 pub(crate) fn tell_ending<E: DeviceOut>(ending: Ending, errors: &mut Watched<E>) -> u8
-    ensures lines { calls.Tries E.DeviceOut errors.old errors.new (spec.ending_lines ending) }
+    ensures lines { calls.Reports E.DeviceOut errors.old errors.new (spec.ending_lines ending) }
     ensures status { result ≡ spec.ending_status ending }
-    ensures within { result ≤ 4 }
+    ensures within { result ≤ statuses.DEVICE }
 {
     match ending {
         Ending::Worked(verdict) => tell_verdict(verdict, errors),
@@ -103,8 +98,6 @@ fn work<R: DeviceIn, W: DeviceOut>(
     out: &mut Watched<W>,
 ) -> Ending
     ensures worked { calls.Works R.DeviceIn W.DeviceOut (job_of job.now) input.old input.new out.old out.new result }
-    ensures unread { TellsUnread (R.has_failed input.old) (R.has_failed input.new) result }
-    ensures failed { TellsOutput (W.has_failed out.old) (W.has_failed out.new) result }
     ensures meant { spec.IsMeant (job_of job.now) }
 {
     match job {
@@ -115,7 +108,7 @@ fn work<R: DeviceIn, W: DeviceOut>(
     }
 }
 
-/// Does a job: reads its input in pieces, writes its output as it goes, tells what is wrong on one line, and answers
+/// Does a job: reads its input in pieces, writes its output as it goes, reports what is wrong on one line, and answers
 /// how it ended.
 pub fn run<R: DeviceIn, W: DeviceOut, E: DeviceOut>(
     job: &Job,
@@ -123,10 +116,8 @@ pub fn run<R: DeviceIn, W: DeviceOut, E: DeviceOut>(
     out: &mut Watched<W>,
     errors: &mut Watched<E>,
 ) -> Outcome
-    ensures ran { RunsJob R.DeviceIn W.DeviceOut E.DeviceOut job.now input.old input.new out.old out.new errors.old errors.new result.status }
-    ensures flushed { W.has_failed out.old ≡ false → W.has_failed out.new ≡ false → W.is_flushed out.new ≡ true }
-    ensures within { result.status ≤ 4 }
-    ensures failed { calls.TellsFailed R.DeviceIn W.DeviceOut input.old input.new out.old out.new result.status }
+    ensures { Runs R.DeviceIn W.DeviceOut (job_of job.now) (change_of E.DeviceOut errors.old errors.new) input.old
+        input.new out.old out.new result.status }
 {
     let ending = work(job, input, out);
     let ending = flushed(ending, out);

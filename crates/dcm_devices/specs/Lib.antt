@@ -1,3 +1,4 @@
 pub mod Device
 pub mod Memory
 pub mod Decimal
+pub mod Writing

@@ -1,8 +1,10 @@
 //! Reading and writing bytes, by devices that remember whether they failed. This crate knows nothing of DICOM.
 //!
-//! - The traits `DeviceIn` and `DeviceOut` are what gives bytes and what takes them; `Device`, below both, says whether a call
+//! - The traits `DeviceIn` and `DeviceOut` are what gives bytes and what takes them; `Device`, below both, says whether
+//! a call
 //!   on it has failed. A call that fails is `ReadFailed` or `WriteFailed`.
-//! - `MemIn` and `MemOut` are over memory, and tell their bytes; `Measured` tells its size too. `Std` is over std's readers and
+//! - `MemIn` and `MemOut` are over memory, and tell their bytes; `Measured` tells its size too. `Std` is over std's
+//! readers and
 //!   writers.
 //! - `Watched` is around a device, so that only the calls of this crate reach it: `get_some`, `put_all`, `put_parts`,
 //!   `put_decimal` and `flush_out`. After each of them it is known what went in or out, and whether the device failed.

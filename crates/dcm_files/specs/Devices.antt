@@ -1,5 +1,6 @@
 -- Which devices a program opens, and why it does not.
-use Rattle.std.specs.Prelude.{◌≡◌, ◌≢◌, ◌&&◌, ℕ, ◌==◌, nat_lt, List, map, codes, Vec, Bool, Option, Some, None, Result, Ok, Err, if◌then◌else◌}
+use Rattle.std.specs.Prelude.{◌≡◌, ◌≢◌, ◌&&◌, ℕ, ◌==◌, nat_lt, List, map, codes, Vec, Option, Some, None, Result}
+use Rattle.std.specs.Prelude.{Ok, Err, if◌then◌else◌}
 use Rattle.std.specs.IoError.{error_kind}
 use Rattle.std.specs.Str.{IsUtf8}
 use Rattle.std.specs.declared.io.Error.{Error}
@@ -15,8 +16,8 @@ use Rattle.dcm_files.specs.declared.opened.Unopened.TheVariants.{Input, Output, 
 abbrev pub standard : List ℕ
 standard = codes "-"
 
--- what the calls of a program that opens its devices may answer, and what they may leave of the system: no other call leads
--- from a system to a later one
+-- what the calls of a program that opens its devices may answer, and what they may leave of the system: no other call
+-- leads from a system to a later one
 pub record MayDo (S I O : Type 0) : Type 1 where
   -- the words of the command line after the program's name; none where memory for them was refused
   pub words : S → Option (List (List ℕ)) → S → Type 0
@@ -34,13 +35,13 @@ pub record MayDo (S I O : Type 0) : Type 1 where
 -- nothing is known of the system
 abbrev pub anything : {S I O : Type 0} → MayDo S I O
 anything = record {
-  words = λ old r new. Unit {0};
-  stdin = λ old d new. Unit {0};
-  opens = λ old path r new. Unit {0};
-  releases = λ old d new. Unit {0};
-  stdout = λ old r new. Unit {0};
-  creates = λ old path r new. Unit {0};
-  closes = λ old d new. Unit {0};
+  words = λ before r after. Unit {0};
+  stdin = λ before d after. Unit {0};
+  opens = λ before path r after. Unit {0};
+  releases = λ before d after. Unit {0};
+  stdout = λ before r after. Unit {0};
+  creates = λ before path r after. Unit {0};
+  closes = λ before d after. Unit {0};
 }
 
 -- the words that were given, as bytes
@@ -49,24 +50,32 @@ words_given (Ok words) = Some (map (λ w. w.items) words.items)
 words_given (Err e) = None
 
 -- what the opening of an input gives
-pub data OpensInput {S I O : Type 0} (may : MayDo S I O) (path : List ℕ) (old : S) (r : Result (Opened I) Error) (new : S) : Type 0 where
-  stream : (d : Opened I) → path ≡ standard → may.stdin old d new → r ≡ Ok d → OpensInput may path old r new
-  no_text : (e : Error) → path ≢ standard → ¬ (IsUtf8 path) → error_kind e ≡ kinds.InvalidFilename → r ≡ Err e → new ≡ old → OpensInput may path old r new
-  refused : (e : Error) → path ≢ standard → IsUtf8 path → may.opens old path (Err e) new → r ≡ Err e → OpensInput may path old r new
+pub data OpensInput {S I O : Type 0} (may : MayDo S I O) (path : List ℕ) (before : S) (r : Result (Opened I) Error)
+    (after : S) : Type 0 where
+  stream : (d : Opened I) → path ≡ standard → may.stdin before d after → r ≡ Ok d → OpensInput may path before r after
+  no_text : (e : Error) → path ≢ standard → ¬ (IsUtf8 path) → error_kind e ≡ kinds.InvalidFilename → r ≡ Err e
+      → after ≡ before → OpensInput may path before r after
+  refused : (e : Error) → path ≢ standard → IsUtf8 path → may.opens before path (Err e) after → r ≡ Err e
+      → OpensInput may path before r after
   -- nothing is read of a directory
-  directory : (d : Opened I) (e : Error) (had : S) → path ≢ standard → IsUtf8 path → may.opens old path (Ok d) had → d.kind ≡ Directory → may.releases had d.device new
-      → error_kind e ≡ kinds.IsADirectory → r ≡ Err e → OpensInput may path old r new
-  opened : (d : Opened I) → path ≢ standard → IsUtf8 path → may.opens old path (Ok d) new → d.kind ≢ Directory → r ≡ Ok d → OpensInput may path old r new
+  directory : (d : Opened I) (e : Error) (had : S) → path ≢ standard → IsUtf8 path → may.opens before path (Ok d) had
+      → d.kind ≡ Directory → may.releases had d.device after
+      → error_kind e ≡ kinds.IsADirectory → r ≡ Err e → OpensInput may path before r after
+  opened : (d : Opened I) → path ≢ standard → IsUtf8 path → may.opens before path (Ok d) after → d.kind ≢ Directory
+      → r ≡ Ok d → OpensInput may path before r after
 
 -- and that of an output
-pub data OpensOutput {S I O : Type 0} (may : MayDo S I O) (path : List ℕ) (old : S) (r : Result (Opened O) Error) (new : S) : Type 0 where
-  out_stream : path ≡ standard → may.stdout old r new → OpensOutput may path old r new
-  out_no_text : (e : Error) → path ≢ standard → ¬ (IsUtf8 path) → error_kind e ≡ kinds.InvalidFilename → r ≡ Err e → new ≡ old → OpensOutput may path old r new
-  answered : path ≢ standard → IsUtf8 path → may.creates old path r new → OpensOutput may path old r new
+pub data OpensOutput {S I O : Type 0} (may : MayDo S I O) (path : List ℕ) (before : S) (r : Result (Opened O) Error)
+    (after : S) : Type 0 where
+  out_stream : path ≡ standard → may.stdout before r after → OpensOutput may path before r after
+  out_no_text : (e : Error) → path ≢ standard → ¬ (IsUtf8 path) → error_kind e ≡ kinds.InvalidFilename → r ≡ Err e
+      → after ≡ before → OpensOutput may path before r after
+  answered : path ≢ standard → IsUtf8 path → may.creates before path r after → OpensOutput may path before r after
 
--- why an input and an output are not used together: they are one regular file; or they may be, and the output holds bytes
+-- why an input and an output are not used together: they are one regular file; or they may be, and the output holds
+-- bytes
 abbrev pub clash : FileKind → FileKind → Option Unopened
-clash (Regular device number size) (Regular d n held) = if device == d && number == n then Some Same else None
+clash (Regular device number size) (Regular d n other) = if device == d && number == n then Some Same else None
 clash Unknown (Regular device number size) = if nat_lt 0 size then Some Output else None
 clash _ _ = None
 
@@ -75,14 +84,21 @@ pub record IsCause (kind : ErrorKind) (which cause : Unopened) : Type 0 where
   pub memory : kind ≡ kinds.OutOfMemory → cause ≡ Memory
   pub other : kind ≢ kinds.OutOfMemory → cause ≡ which
 
--- what the opening of both gives: the input is opened, and then the output; devices that are refused are given back as they
--- were opened
-pub data OpensDevices {S I O : Type 0} (may : MayDo S I O) (input output : List ℕ) (old : S) (r : Result (Opened I × Opened O) Unopened) (new : S) : Type 0 where
-  no_input : (e : Error) (u : Unopened) → OpensInput may input old (Err e) new → IsCause (error_kind e) Input u → r ≡ Err u → OpensDevices may input output old r new
-  no_output : (i : Opened I) (e : Error) (u : Unopened) (has_input tried : S) → OpensInput may input old (Ok i) has_input → OpensOutput may output has_input (Err e) tried
-      → may.releases tried i.device new → IsCause (error_kind e) Output u → r ≡ Err u → OpensDevices may input output old r new
-  clashed : (i : Opened I) (o : Opened O) (cause : Unopened) (has_input has_both closed : S) → OpensInput may input old (Ok i) has_input
-      → OpensOutput may output has_input (Ok o) has_both → clash i.kind o.kind ≡ Some cause → may.closes has_both o.device closed → may.releases closed i.device new
-      → r ≡ Err cause → OpensDevices may input output old r new
-  both : (i : Opened I) (o : Opened O) (has_input : S) → OpensInput may input old (Ok i) has_input → OpensOutput may output has_input (Ok o) new
-      → clash i.kind o.kind ≡ None → r ≡ Ok (i, o) → OpensDevices may input output old r new
+-- what the opening of both gives: the input is opened, and then the output; devices that are refused are given back
+-- as they were opened
+pub data OpensDevices {S I O : Type 0} (may : MayDo S I O) (input output : List ℕ) (before : S)
+    (r : Result (Opened I × Opened O) Unopened) (after : S) : Type 0 where
+  no_input : (e : Error) (u : Unopened) → OpensInput may input before (Err e) after → IsCause (error_kind e) Input u
+      → r ≡ Err u → OpensDevices may input output before r after
+  no_output : (i : Opened I) (e : Error) (u : Unopened) (has_input tried : S)
+      → OpensInput may input before (Ok i) has_input → OpensOutput may output has_input (Err e) tried
+      → may.releases tried i.device after → IsCause (error_kind e) Output u → r ≡ Err u
+      → OpensDevices may input output before r after
+  clashed : (i : Opened I) (o : Opened O) (cause : Unopened) (has_input has_both closed : S)
+      → OpensInput may input before (Ok i) has_input
+      → OpensOutput may output has_input (Ok o) has_both → clash i.kind o.kind ≡ Some cause
+      → may.closes has_both o.device closed → may.releases closed i.device after
+      → r ≡ Err cause → OpensDevices may input output before r after
+  both : (i : Opened I) (o : Opened O) (has_input : S) → OpensInput may input before (Ok i) has_input
+      → OpensOutput may output has_input (Ok o) after
+      → clash i.kind o.kind ≡ None → r ≡ Ok (i, o) → OpensDevices may input output before r after

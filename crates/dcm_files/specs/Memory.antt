@@ -36,13 +36,15 @@ abbrev pub GivesRoom : Option MemOut → FileKind → Result (Opened Measured) E
 GivesRoom (Some room) kind r = IsOkAnd r (λ d. (d.device.out ≡ room) × (d.kind ≡ kind))
 GivesRoom None kind r = IsErrAnd r (λ e. error_kind e ≡ StorageFull)
 
+-- what its calls do
 abbrev pub may_do : MayDo MemSystem MemIn Measured
 may_do = record {
-  words = λ old r new. (r ≡ None) × (new ≡ old);
-  stdin = λ old d new. (d.device.rest.now ≡ old.stdin.now) × (d.kind ≡ Other) × (new ≡ old);
-  opens = λ old path r new. GivesFile (file_named old.files.now path) r × (new ≡ old);
-  releases = λ old d new. new ≡ old;
-  stdout = λ old r new. GivesRoom old.room Other r × (new ≡ record old { room = None });
-  creates = λ old path r new. GivesRoom old.room (kind_written (file_named old.files.now path)) r × (new ≡ record old { room = None });
-  closes = λ old d new. new ≡ record old { written = Some d.out };
+  words = λ before r after. (r ≡ None) × (after ≡ before);
+  stdin = λ before d after. (d.device.rest.now ≡ before.stdin.now) × (d.kind ≡ Other) × (after ≡ before);
+  opens = λ before path r after. GivesFile (file_named before.files.now path) r × (after ≡ before);
+  releases = λ before d after. after ≡ before;
+  stdout = λ before r after. GivesRoom before.room Other r × (after ≡ record before { room = None });
+  creates = λ before path r after. GivesRoom before.room (kind_written (file_named before.files.now path)) r
+      × (after ≡ record before { room = None });
+  closes = λ before d after. after ≡ record before { written = Some d.out };
 }

@@ -16,8 +16,10 @@ const STANDARD: &[u8] = b"-";
 
 /// What opens the devices of a program. Each call is a step of it, also where the call opens nothing.
 pub trait System {
+    /// What is read.
     type Input: DeviceIn + Drop;
 
+    /// What is written.
     type Output: DeviceOut + Drop;
 
     /// What the calls below may answer, and what they may leave of the system.
@@ -89,8 +91,8 @@ pub fn open_output<S: System>(system: &mut S, word: &[u8]) -> io::Result<Opened<
     system.create(path(word)?)
 }
 
-/// Why an input and an output are not used together: both are one regular file, under whatever names; or they may be, since the
-/// system does not say what is read, and the output holds bytes.
+/// Why an input and an output are not used together: both are one regular file, under whatever names; or they may be,
+/// since the system does not say what is read, and the output holds bytes.
 fn clash(input: FileKind, output: FileKind) -> Option<Unopened>
     ensures { result ≡ spec.clash input output }
 {
@@ -118,8 +120,8 @@ pub fn unopened(e: &io::Error, which: Unopened) -> Unopened
     }
 }
 
-/// Opens the devices of a job, the input before the output. They are refused where both are one file, or may be. Of devices that
-/// are refused nothing was read and nothing written.
+/// Opens the devices of a job, the input before the output. They are refused where both are one file, or may be. Of
+/// devices that are refused nothing was read and nothing written.
 pub fn open_devices<S: System>(
     system: &mut S,
     input: &[u8],

@@ -41,8 +41,8 @@ struct Reserved {
     _errors: Option<File>,
 }
 
-/// Takes the number of a standard stream where it is closed. The lowest number that is free is taken, so the streams come in the
-/// order of their numbers.
+/// Takes the number of a standard stream where it is closed. The lowest number that is free is taken, so the streams
+/// come in the order of their numbers.
 fn reserve_if_closed<T: AsFd>(rt: HostRuntime, stream: &T) -> io::Result<Option<File>> {
     match stream.as_fd().try_clone_to_owned() {
         Ok(_open) => Ok(None),
@@ -50,8 +50,8 @@ fn reserve_if_closed<T: AsFd>(rt: HostRuntime, stream: &T) -> io::Result<Option<
     }
 }
 
-/// Takes the numbers of standard streams that are closed, so that no file that is opened after it gets one of them, and with
-/// it what is written to the stream. They are kept as long as the answer is.
+/// Takes the numbers of standard streams that are closed, so that no file that is opened after it gets one of them,
+/// and with it what is written to the stream. They are kept as long as the answer is.
 fn reserve(rt: HostRuntime) -> io::Result<Reserved> {
     Ok(Reserved {
         _input: reserve_if_closed(rt, &rt.stdin())?,
@@ -60,7 +60,8 @@ fn reserve(rt: HostRuntime) -> io::Result<Reserved> {
     })
 }
 
-/// A word of the command line by its number, where 0 is the program's name, or none after the last one. It may be any bytes.
+/// A word of the command line by its number, where 0 is the program's name, or none after the last one. It may be any
+/// bytes.
 fn word(rt: HostRuntime, number: usize) -> Result<Option<Vec<u8>>, AllocError> {
     for doublings in 0..MOST_DOUBLINGS {
         let mut word = vec![in rt.alloc(); 0u8; WORD << doublings]?;

@@ -1,11 +1,12 @@
-//! The devices of a program: what the system opens for it, and the file that it writes. This crate knows nothing of DICOM.
+//! The devices of a program: what the system opens for it, and the file that it writes. This crate knows nothing of
+//! DICOM.
 //!
-//! - `System` is what opens devices; `Host` is the real one, and `MemSystem` is over files in memory. A system answers an `Opened`,
-//!   a device with its `FileKind`.
-//! - `open_devices` opens the input and the output that words name, `-` for a standard stream, and refuses two that are one
-//!   file. `open_input` and `open_output` open one of them.
-//! - `OutputFile` is a file that keeps what it held until its first byte is written. It is over any `Target`, of which a
-//!   `File` is one.
+//! - `System` is what opens devices; `Host` is the real one, and `MemSystem` is over files in memory. A system answers
+//!   an `Opened`, a device with its `FileKind`.
+//! - `open_devices` opens the input and the output that words name, `-` for a standard stream, and refuses two that are
+//!   one file. `open_input` and `open_output` open one of them.
+//! - `OutputFile` is a file that keeps what it held until its first byte is written. It is over any `Target`, of which
+//!   a `File` is one.
 //! - `next_piece` reads an input piece by piece.
 //! - `specs` says what a call leaves: `Devices` of opening, `Output` of a file that is written, `Pieces` of a piece.
 //!

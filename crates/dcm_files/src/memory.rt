@@ -22,8 +22,11 @@ const NEW: FileKind = FileKind::Regular {
 /// A file in memory. Two names of one file have one number.
 #[derive(Clone, Copy)]
 pub struct MemFile<'a> {
+    /// The path that it is opened by.
     pub name: &'a [u8],
+    /// The number of the file.
     pub number: u64,
+    /// What it holds.
     pub bytes: &'a [u8],
 }
 
@@ -72,6 +75,7 @@ pub struct MemSystem<'a> {
 }
 
 impl<'a> MemSystem<'a> {
+    /// The system with these files, this standard input, and room for an output.
     pub fn new(files: &'a [MemFile<'a>], stdin: &'a [u8], room: MemOut) -> Self
         ensures files { result.files.now ≡ files.now }
         ensures stdin { result.stdin.now ≡ stdin.now }

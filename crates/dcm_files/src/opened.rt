@@ -5,6 +5,7 @@
 pub enum FileKind {
     /// A regular file: its device, its number there, and the bytes that it held when it was opened.
     Regular { device: u64, number: u64, size: u64 },
+    /// A directory.
     Directory,
     /// A pipe, a terminal or another device.
     Other,
@@ -15,7 +16,9 @@ pub enum FileKind {
 /// A device, and what it was opened on.
 #[derive(Drop)]
 pub struct Opened<D> {
+    /// The device.
     pub device: D,
+    /// What it was opened on.
     pub kind: FileKind,
 }
 

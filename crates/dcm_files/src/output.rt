@@ -26,7 +26,7 @@ pub trait Target {
         ensures bound { WritesAtMost result bytes.now }
         ensures written { may_do.writes self.old bytes.now result self.new };
 
-    /// Hands on what it holds back.
+    /// Writes out what it holds back.
     fn hand_on(&mut self) -> io::Result<()>
         ensures { may_do.flushes self.old result self.new };
 }
@@ -73,8 +73,9 @@ impl<F> OutputFile<F> {
 }
 
 impl<F: Target> OutputFile<F> {
-    /// Truncates a regular file before its first byte is written. Streams and devices have nothing to truncate, and a new file
-    /// is left alone: ext4 writes a file that was truncated to the disk when it is closed, which takes as long again.
+    /// Truncates a regular file before its first byte is written. Streams and devices have nothing to truncate, and a
+    /// new file is left alone: ext4 writes a file that was truncated to the disk when it is closed, which takes as
+    /// long again.
     fn begin(&mut self) -> io::Result<()>
         ensures begins { Begins F.may_do self.old self.new result }
         ensures begun { OnOk result (self.new.is_begun ≡ true) }

@@ -1,6 +1,5 @@
 // The pieces in which an input is read.
-ghost use Rattle.std.specs.Prelude.{◌≡◌, ◌≤◌, ◌<◌, ◌^◌, length};
-ghost use Rattle.dcm_devices.specs.Device.{Tells};
+ghost use Rattle.std.specs.Prelude.{◌≤◌, ◌<◌, length};
 ghost use Rattle.dcm_files.specs.Pieces as spec;
 
 use dcm_devices::{DeviceIn, ReadFailed, Watched, get_some};
@@ -13,13 +12,9 @@ pub fn next_piece<R: DeviceIn>(
     read: &mut u64,
 ) -> Result<Option<usize>, ReadFailed>
     requires room { 0 < length buffer.old }
-    requires bound { length buffer.old ≤ 262144 }
-    requires limit { read.old ≤ 2 ^ 62 }
-    ensures bytes { spec.GivesPiece (R.remaining input.old) (R.remaining input.new) buffer.new result }
-    ensures call { R.gets input.old (spec.given buffer.new result) input.new }
-    ensures count { spec.CountsPiece read.old read.new result }
-    ensures failed { Tells (R.has_failed input.old) (R.has_failed input.new) result }
-    ensures kept { length buffer.new ≡ length buffer.old }
+    requires bound { length buffer.old ≤ spec.BUFFER_LIMIT }
+    requires limit { read.old ≤ spec.READ_LIMIT }
+    ensures { spec.ReadsPiece R.DeviceIn input.old input.new buffer.old buffer.new read.old read.new result }
 {
     let size = get_some(input, buffer)?;
     if size == 0 {

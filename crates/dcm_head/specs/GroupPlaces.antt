@@ -1,5 +1,5 @@
 -- The places of the code as the definition of the meta group has them.
-use Rattle.dcm_base.specs.MetaGroup as group
+use Rattle.dcm_base.specs.File.MetaGroup as group
 use Rattle.dcm_head.specs.declared.group.Place.{Place}
 use Rattle.dcm_head.specs.declared.group.Place.TheVariants.{Element, End, TooFew, Bad}
 

@@ -5,12 +5,12 @@ use Rattle.dcm_base.specs.declared.length.Length.{Length}
 use Rattle.dcm_base.specs.declared.length.Length.TheVariants.{Known, Undefined}
 use Rattle.std.specs.Bool.{MatchBool}
 use Rattle.dcm_base.specs.declared.vr.Vr.TheVariants.{UN}
-use Rattle.dcm_base.specs.Number.{IsTag}
-use Rattle.dcm_base.specs.Dictionary.{vr_in}
-use Rattle.dcm_base.specs.Syntax.{dictionary_of}
-use Rattle.dcm_base.specs.Tag.{is_item}
-use Rattle.dcm_base.specs.Representation.{is_long}
-use Rattle.dcm_base.specs.Recode.{head, plain_head, is_explicit}
+use Rattle.dcm_base.specs.Tables.Number.{IsTag}
+use Rattle.dcm_base.specs.Tables.Dictionary.{vr_in}
+use Rattle.dcm_base.specs.Tables.Syntax.{dictionary_of}
+use Rattle.dcm_base.specs.Tables.Tag.{is_item}
+use Rattle.dcm_base.specs.Tables.Representation.{is_long}
+use Rattle.dcm_base.specs.Conversion.Recode.{head, plain_head, is_explicit}
 use Rattle.dcm_head.specs.declared.head.Head.{Head}
 use Rattle.dcm_head.specs.HeadRead.{is_delimiter}
 
@@ -21,7 +21,7 @@ head_bytes s h =
     else if is_delimiter h.tag then plain_head s h.tag (Known 0)
     else head s h.tag h.vr h.length
 
--- whether the length stands in two bytes
+-- whether the length has two bytes
 abbrev pub is_short_form : Syntax → Head → Bool
 is_short_form s h = is_explicit s && not (is_item h.tag || (is_delimiter h.tag || is_long h.vr))
 
@@ -30,12 +30,12 @@ abbrev pub FitsShort : Length → Type 0
 FitsShort (Known n) = n < 65536
 FitsShort Undefined = ⊥
 
--- four bytes hold this length, and FFFFFFFF stands for the undefined one
+-- four bytes hold this length, and FFFFFFFF is the undefined one
 abbrev pub FitsLong : Length → Type 0
 FitsLong (Known n) = n < 0xFFFFFFFF
 FitsLong Undefined = Unit {0}
 
--- the representation and the length are those that the head's bytes can tell
+-- the representation and the length are those that the head's bytes can say
 abbrev pub IsTold : Syntax → Head → Type 0
 IsTold s h =
     MatchBool (is_item h.tag) (h.vr ≡ UN)

@@ -1,15 +1,16 @@
 -- What the front of bytes is read as (PS3.5 7.1.2, 7.1.3, 7.5).
-use Rattle.std.specs.Prelude.{◌≡◌, true, ◌≤◌, ◌<◌, ◌⊎◌, ℕ, Bool, false, ◌||◌, ◌&&◌, nat_lt, if◌then◌else◌, List, length, drop, slice_index, Option, Some, None}
+use Rattle.std.specs.Prelude.{◌≡◌, true, ◌≤◌, ◌<◌, ◌⊎◌, ℕ, Bool, false, ◌||◌, ◌&&◌, nat_lt, if◌then◌else◌, List, length}
+use Rattle.std.specs.Prelude.{drop, slice_index, Option, Some, None}
 use Rattle.dcm_base.specs.declared.tag.Tag.{Tag}
 use Rattle.dcm_base.specs.declared.vr.Vr.{Vr}
 use Rattle.dcm_base.specs.declared.vr.Vr.TheVariants.{UN}
 use Rattle.dcm_base.specs.declared.syntax.Syntax.{Syntax}
 use Rattle.dcm_base.specs.declared.length.Length.TheVariants.{Known}
-use Rattle.dcm_base.specs.Number.{number}
-use Rattle.dcm_base.specs.Tag.{is_item, is_item_end, is_sequence_end}
-use Rattle.dcm_base.specs.Head.{tag_at, vr_at, length_at, head_size, long_length, HeadAt}
-use Rattle.dcm_base.specs.Representation.{is_capital}
-use Rattle.dcm_base.specs.Recode.{is_explicit}
+use Rattle.dcm_base.specs.Tables.Number.{number}
+use Rattle.dcm_base.specs.Tables.Tag.{is_item, is_item_end, is_sequence_end}
+use Rattle.dcm_base.specs.Bytes.Head.{tag_at, vr_at, length_at, head_size, long_length, HeadAt}
+use Rattle.dcm_base.specs.Tables.Representation.{is_capital}
+use Rattle.dcm_base.specs.Conversion.Recode.{is_explicit}
 use Rattle.dcm_head.specs.declared.head.Head.{Head}
 use Rattle.dcm_head.specs.declared.head.HeadRead.{HeadRead}
 use Rattle.dcm_head.specs.declared.head.HeadRead.TheVariants.{Done, More, BadVr}
@@ -23,7 +24,7 @@ element_done s bytes vr =
     if nat_lt (length bytes) (head_size s vr) then More (head_size s vr)
     else Done (record { tag = tag_at s bytes; vr = vr; length = length_at s vr bytes }) (head_size s vr)
 
--- the head of an element, whose representation is told by its letters or the dictionary, or by nothing
+-- the head of an element, whose representation is that of its letters or the dictionary, or unknown
 abbrev pub element_read : Syntax → List ℕ → Option Vr → HeadRead
 element_read s bytes None = BadVr
 element_read s bytes (Some vr) = element_done s bytes vr
@@ -57,7 +58,8 @@ IsShort s bytes size = ((size ≡ 8) × (length bytes < 8)) ⊎ ((size ≡ 12) �
 
 -- an element begins here, in an explicit syntax, and has no two capitals for its representation
 abbrev pub HasBadVr : Syntax → List ℕ → Type 0
-HasBadVr s bytes = BeginsElement s bytes × (is_explicit s ≡ true) × ((is_capital (slice_index bytes 4) && is_capital (slice_index bytes 5)) ≡ false)
+HasBadVr s bytes = BeginsElement s bytes × (is_explicit s ≡ true)
+    × ((is_capital (slice_index bytes 4) && is_capital (slice_index bytes 5)) ≡ false)
 
 -- so many bytes spell this head
 abbrev pub Begins : Syntax → List ℕ → Head → ℕ → Type 0

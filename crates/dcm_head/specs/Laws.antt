@@ -3,8 +3,8 @@ use Rattle.std.specs.Prelude.{◌≡◌, ◌↔◌, ◌++◌, ℕ, List, IsTrue,
 use Rattle.dcm_base.specs.declared.fault.Fault.{Fault}
 use Rattle.dcm_base.specs.declared.syntax.Syntax.{Syntax}
 use Rattle.dcm_head.specs.declared.head.Head.{Head}
-use Rattle.dcm_base.specs.Head.{HeadAt}
-use Rattle.dcm_base.specs.MetaReads.{MetaAnswer, MetaReads, is_undecided}
+use Rattle.dcm_base.specs.Bytes.Head.{HeadAt}
+use Rattle.dcm_base.specs.File.MetaReads.{MetaAnswer, MetaReads, is_undecided}
 use Rattle.dcm_head.specs.MetaReading.{BeginsAt, CallRefuses, at_start, meta_step}
 
 -- bytes begin with at most one head

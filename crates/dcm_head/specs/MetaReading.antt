@@ -1,21 +1,23 @@
 -- The reading of a file's head, byte by byte.
-use Rattle.std.specs.Prelude.{◌≡◌, ◌↔◌, ◌+◌, ◌-◌, ◌≤◌, ◌<◌, ◌==◌, ◌⊎◌, ◌&&◌, ℕ, Bool, false, nat_lt, bytes_eq, List, [], ◌∷◌, ◌++◌, length, take, drop, Option, Some, None, Result, Ok, Err, if◌then◌else◌, fold}
+use Rattle.std.specs.Prelude.{◌≡◌, ◌↔◌, ◌+◌, ◌-◌, ◌≤◌, ◌<◌, ◌==◌, ◌⊎◌, ◌&&◌, ℕ, Bool, false, nat_lt, bytes_eq, List, []}
+use Rattle.std.specs.Prelude.{◌∷◌, ◌++◌, length, take, drop, Option, Some, None, Result, Ok, Err, if◌then◌else◌, fold}
 use Rattle.dcm_base.specs.declared.tag.Tag.{Tag}
 use Rattle.dcm_base.specs.declared.fault.Fault.{Fault}
 use Rattle.dcm_base.specs.declared.fault.Fault.TheVariants.{EndsEarly, NoPrefix, NoTransferSyntax, Deflated}
 use Rattle.dcm_base.specs.declared.syntax.Coding.{Coding}
 use Rattle.dcm_base.specs.declared.transfer.Deflated.{Deflated as DeflatedSyntax}
-use Rattle.dcm_base.specs.Tag.{is_tag}
+use Rattle.dcm_base.specs.Tables.Tag.{is_tag}
 use Rattle.dcm_base.specs.declared.fault.Stop.{Stop}
 use Rattle.dcm_head.specs.declared.meta_read.MetaEnd.{MetaEnd}
 use Rattle.dcm_head.specs.declared.meta_read.MetaEnd.TheVariants.{Refused, Ended}
 use Rattle.dcm_head.specs.declared.meta_read.MetaRead.{MetaRead}
 use Rattle.dcm_head.specs.declared.meta_read.MetaRead.TheVariants as reads
-use Rattle.dcm_base.specs.Transfer.{without_pads, coding_of}
-use Rattle.dcm_base.specs.MetaGroup.{GroupPlace, an_element, the_end, too_few, a_fault, group_place}
-use Rattle.dcm_base.specs.MetaReads.{PREFIX, MetaAnswer, begins, refused, is_undecided}
+use Rattle.dcm_base.specs.Tables.Transfer.{without_pads, coding_of}
+use Rattle.dcm_base.specs.File.MetaGroup.{GroupPlace, an_element, the_end, too_few, a_fault, group_place}
+use Rattle.dcm_base.specs.File.MetaReads.{PREFIX, MetaAnswer, begins, refused, is_undecided}
 
--- the bytes so far; where the element that comes begins; where the transfer syntax stands, 0 where it doesn't yet; how the reading ended
+-- the bytes so far; where the element that comes begins; where the transfer syntax is, 0 where it doesn't yet; how
+-- the reading ended
 pub record Reading : Type 0 where
   pub bytes : List ℕ
   pub place : ℕ
@@ -42,7 +44,8 @@ coded_end place (Err deflated) = Refused (record { fault = Deflated; at = place 
 
 -- how a group with this transfer syntax ends at a place
 abbrev pub group_end : ℕ → List ℕ → MetaEnd
-group_end place uid = if length uid == 0 then Refused (record { fault = NoTransferSyntax; at = place }) else coded_end place (coding_of uid)
+group_end place uid = if length uid == 0 then Refused (record { fault = NoTransferSyntax; at = place })
+    else coded_end place (coding_of uid)
 
 abbrev pub group_ended : Reading → Reading
 group_ended r = ending r (group_end r.place (uid_of r))
@@ -51,11 +54,15 @@ group_ended r = ending r (group_end r.place (uid_of r))
 abbrev pub is_first_syntax : ℕ → Tag → Bool
 is_first_syntax uid_at tag = (uid_at == 0) && is_tag 2 0x10 tag
 
--- behind a whole element
+-- after a whole element
 abbrev pub behind : Reading → Tag → (head size : ℕ) → Reading
 behind r tag head size =
     let value = r.place + head in
-    if is_first_syntax r.uid_at tag then record r { place = value + size; uid_at = value; uid_size = length (without_pads (take size (drop value r.bytes))) }
+    if is_first_syntax r.uid_at tag then record r {
+      place = value + size;
+      uid_at = value;
+      uid_size = length (without_pads (take size (drop value r.bytes)));
+    }
     else record r { place = value + size }
 
 abbrev pub at_place : Reading → GroupPlace → Reading
@@ -148,7 +155,8 @@ group_of r = take (r.place - 132) (drop 132 r.bytes)
 abbrev pub Says : Reading → MetaAnswer → Type 0
 Says r (refused fault offset) = r.end ≡ Some (Refused (record { fault = fault; at = offset }))
 Says r (begins meta group coding) =
-    (r.end ≡ Some (Ended coding)) × (r.place ≡ 132 + length group) × (take 128 r.bytes ≡ meta.preamble) × (group_of r ≡ group) × (uid_of r ≡ meta.uid)
+    (r.end ≡ Some (Ended coding)) × (r.place ≡ 132 + length group) × (take 128 r.bytes ≡ meta.preamble)
+    × (group_of r ≡ group) × (uid_of r ≡ meta.uid)
 
 -- a reading after a call with a piece, where these bytes were fed before
 abbrev pub after_call : (before piece : List ℕ) → Reading
@@ -172,4 +180,6 @@ CallEnds before piece answer = IsOver (after_call before piece) ↔ IsDecided (b
 
 -- and with a fault exactly where it is the answer to them
 abbrev pub CallRefuses : (before piece : List ℕ) → MetaAnswer → Fault → ℕ → Type 0
-CallRefuses before piece answer fault offset = Refuses (after_call before piece) fault offset ↔ ((answer ≡ refused fault offset) × IsDecided (before ++ piece) answer)
+CallRefuses before piece answer fault offset =
+    Refuses (after_call before piece) fault offset ↔ ((answer ≡ refused fault offset)
+    × IsDecided (before ++ piece) answer)

@@ -3,17 +3,17 @@ use Rattle.std.specs.Prelude.{◌≡◌, ◌≤◌, ℕ, ◌+◌, Bool, if◌the
 use Rattle.dcm_base.specs.declared.tag.Tag.{Tag}
 use Rattle.dcm_base.specs.declared.vr.Vr.{Vr}
 use Rattle.dcm_base.specs.declared.vr.Vr.TheVariants.{UI}
-use Rattle.dcm_base.specs.Syntax.{Little}
-use Rattle.dcm_base.specs.Tag.{is_tag}
-use Rattle.dcm_base.specs.Tree.{Trees, no_tree, leaf}
-use Rattle.dcm_base.specs.Spelling.{Spells}
-use Rattle.dcm_base.specs.MetaGroup.{AreMeta}
-use Rattle.dcm_base.specs.Recode.{recoded_leaf, unless_dropped}
-use Rattle.dcm_base.specs.NewMeta.{new_meta, with_syntax, without_syntax}
-use Rattle.dcm_base.specs.Outputs.{Puts, Writer}
+use Rattle.dcm_base.specs.Tables.Syntax.{Little}
+use Rattle.dcm_base.specs.Tables.Tag.{is_tag}
+use Rattle.dcm_base.specs.Tree.Tree.{Trees, no_tree, leaf}
+use Rattle.dcm_base.specs.Bytes.Spelling.{Spells}
+use Rattle.dcm_base.specs.File.MetaGroup.{AreMeta}
+use Rattle.dcm_base.specs.Conversion.Recode.{recoded_leaf, unless_dropped}
+use Rattle.dcm_base.specs.Conversion.NewMeta.{new_meta, with_syntax, without_syntax}
+use Rattle.dcm_base.specs.Steps.Outputs.{Puts, Tells, Writer}
 use Rattle.dcm_head.specs.declared.element.MetaElement.{MetaElement}
 
--- what is left of the elements, where the transfer syntax stands written or not
+-- what is left of the elements, where the transfer syntax is written or not
 abbrev pub left : Bool → List ℕ → Trees → Trees
 left named uid elements = if named then without_syntax elements else with_syntax uid elements
 
@@ -26,10 +26,12 @@ written_element named uid tag vr value =
 abbrev pub written_as : Bool → List ℕ → MetaElement → List ℕ
 written_as named uid element = written_element named uid element.tag element.vr element.value.now
 
--- the first of the elements that bytes spell, with its value and the bytes behind it
+-- the first of the elements that bytes spell, with its value and the bytes after it
 abbrev pub FirstIs : List ℕ → Tag → Vr → List ℕ → List ℕ → Type 0
 FirstIs bytes tag vr value after =
-    (8 + length after ≤ length bytes) × (length value ≤ length bytes) × ((elements : Trees) → Spells Little elements bytes → AreMeta elements → (rest : Trees) × (elements ≡ leaf tag vr value rest) × Spells Little rest after × AreMeta rest)
+    (8 + length after ≤ length bytes) × (length value ≤ length bytes)
+    × ((elements : Trees) → Spells Little elements bytes → AreMeta elements → (rest : Trees)
+    × (elements ≡ leaf tag vr value rest) × Spells Little rest after × AreMeta rest)
 
 -- the bytes spell no element
 abbrev pub NoneIs : List ℕ → Type 0
@@ -39,6 +41,13 @@ NoneIs bytes = (elements : Trees) → Spells Little elements bytes → AreMeta e
 abbrev pub OfElements : List ℕ → (Trees → Type 0) → Type 0
 OfElements bytes Holds = (elements : Trees) → Spells Little elements bytes → AreMeta elements → Holds elements
 
--- a group was written anew, or a beginning of it where the call failed
-abbrev pub Renews : {W T E : Type 0} → Writer W → (old new : W) → (group uid : List ℕ) → Result T E → Type 0
-Renews w old new group uid r = OfElements group (λ elements. Puts w old new (new_meta elements uid) r)
+-- the same of what went out, or a beginning of it where the call failed; and the writer has failed exactly where the
+-- call did
+pub record WroteElements {W T E : Type 0} (w : Writer W) (old new : W) (group : List ℕ) (text : Trees → List ℕ)
+    (r : Result T E) : Type 0 where
+  pub bytes : OfElements group (λ elements. Puts w old new (text elements) r)
+  pub failed : Tells w old new r
+
+-- a group was written anew
+abbrev pub WroteGroup : {W T E : Type 0} → Writer W → (old new : W) → (group uid : List ℕ) → Result T E → Type 0
+WroteGroup w old new group uid r = WroteElements w old new group (λ elements. new_meta elements uid) r

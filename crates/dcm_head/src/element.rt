@@ -5,7 +5,7 @@ ghost use Rattle.dcm_head.specs.Rewriting as spec;
 use crate::group::{Place, place_of};
 use dcm_base::{Tag, Vr};
 
-/// An element of a meta group: its tag, representation and value, and the bytes behind it.
+/// An element of a meta group (PS3.10 7.1): its tag, representation and value, and the bytes after it.
 #[derive(Clone, Copy, Debug, PartialEq, Eq)]
 pub struct MetaElement<'a> {
     pub tag: Tag,

@@ -1,14 +1,14 @@
-// What stands where an element of the meta group may begin (PS3.10 7.1).
+// What is where an element of the meta group may begin (PS3.10 7.1).
 ghost use Rattle.std.specs.Prelude.{◌≡◌, ◌≤◌, length};
-ghost use Rattle.dcm_base.specs.Head.{head_size};
-ghost use Rattle.dcm_base.specs.MetaGroup as spec;
-ghost use Rattle.dcm_base.specs.Syntax.{Little};
+ghost use Rattle.dcm_base.specs.Bytes.Head.{head_size};
+ghost use Rattle.dcm_base.specs.File.MetaGroup as spec;
+ghost use Rattle.dcm_base.specs.Tables.Syntax.{Little};
 ghost use Rattle.dcm_head.specs.GroupPlaces.{place_is};
 
 use crate::head::{Head, HeadRead, SHORT_HEAD, read_explicit, read_short, read_tag};
-use dcm_base::{Dictionary, Fault, Length, META_GROUP, Syntax, Tag, Vr};
+use dcm_base::{Fault, Length, META_GROUP, Syntax, Tag, Vr};
 
-/// A whole element with the sizes of its head and its value, the group's end, too few bytes to tell, or a fault.
+/// A whole element with the sizes of its head and its value, the group's end, too few bytes to know, or a fault.
 #[derive(Clone, Copy, Debug, PartialEq, Eq)]
 pub enum Place {
     Element(Tag, Vr, usize, usize),
@@ -17,7 +17,7 @@ pub enum Place {
     Bad(Fault),
 }
 
-/// The bytes of a meta group at most.
+/// The most bytes of a meta group.
 pub const META_LIMIT: usize = 16_384;
 
 /// The bytes that spell a group's number.
@@ -56,14 +56,14 @@ pub fn place_of(taken: usize, rest: &[u8]) -> Place
     if rest.len() < GROUP_SIZE {
         return Place::TooFew;
     }
-    if read_short(Syntax::Little(Dictionary::Extract), rest) != META_GROUP {
+    if read_short(Syntax::LITTLE, rest) != META_GROUP {
         return Place::End;
     }
     if rest.len() < SHORT_HEAD {
         return Place::TooFew;
     }
-    let tag = read_tag(Syntax::Little(Dictionary::Extract), rest);
-    match read_explicit(Syntax::Little(Dictionary::Extract), tag, rest) {
+    let tag = read_tag(Syntax::LITTLE, rest);
+    match read_explicit(Syntax::LITTLE, tag, rest) {
         HeadRead::BadVr => Place::Bad(Fault::BadMeta),
         HeadRead::More(_) => Place::TooFew,
         HeadRead::Done(head, used) => place_of_head(taken, rest.len(), head, used),

@@ -1,15 +1,15 @@
-// Heads as they stand in bytes (PS3.5 7.1.2, 7.1.3, 7.5).
+// Heads as bytes (PS3.5 7.1.2, 7.1.3, 7.5).
 ghost use Rattle.std.specs.Prelude.{◌≡◌, true, ◌≤◌, length};
-ghost use Rattle.dcm_base.specs.Head.{tag_at, vr_at, long_length};
-ghost use Rattle.dcm_base.specs.Number.{number};
-ghost use Rattle.dcm_base.specs.Recode as recode;
-ghost use Rattle.dcm_base.specs.Representation.{is_capital as is_capital_letter, vr_read};
+ghost use Rattle.dcm_base.specs.Bytes.Head.{tag_at, vr_at, long_length};
+ghost use Rattle.dcm_base.specs.Tables.Number.{number};
+ghost use Rattle.dcm_base.specs.Conversion.Recode as recode;
+ghost use Rattle.dcm_base.specs.Tables.Representation.{is_capital as is_capital_letter, vr_read};
 ghost use Rattle.dcm_head.specs.HeadRead as spec;
 
 use byteorder::{BigEndian, ByteOrder, LittleEndian};
 use dcm_base::{Length, Syntax, Tag, Vr, vr_in, vr_of};
 
-/// A head: tag, value representation and declared length. Items and delimiters have UN.
+/// A head: tag, value representation and declared length (PS3.5 7.1). Items and delimiters have UN.
 #[derive(Clone, Copy, Debug, PartialEq, Eq)]
 pub struct Head {
     pub tag: Tag,
@@ -17,7 +17,7 @@ pub struct Head {
     pub length: Length,
 }
 
-/// What stands at the front of bytes.
+/// What bytes begin with.
 #[derive(Clone, Copy, Debug, PartialEq, Eq)]
 pub enum HeadRead {
     /// A head, and the number of its bytes.
@@ -28,10 +28,10 @@ pub enum HeadRead {
     BadVr,
 }
 
-/// The bytes of a head without a representation, or with a length of two bytes.
+/// The size of a head without a representation, or with a length of two bytes (PS3.5 7.1.2, 7.1.3).
 pub const SHORT_HEAD: usize = 8;
 
-/// The bytes of a head with two reserved bytes and a length of four.
+/// The size of a head with two reserved bytes and a length of four (PS3.5 7.1.2).
 pub const LONG_HEAD: usize = 12;
 
 /// How the undefined length is spelled (PS3.5 7.1.1).
@@ -159,8 +159,8 @@ fn without_vr(tag: Tag, length: Length) -> HeadRead
 
 /// The head with this tag that the bytes begin with, of an element, an item or a delimiter (PS3.5 7.1.2, 7.1.3, 7.5).
 ///
-/// Two capitals that name no representation are UN, and a delimiter's length is 0 whatever its bytes. Under 12 bytes of a
-/// head that has so many, more are asked for.
+/// Two capitals that name no representation are UN, and a delimiter's length is 0 whatever its bytes. Under 12 bytes
+/// of a head that has so many, more are asked for.
 #[inline(always)]
 pub fn read_tagged(syntax: Syntax, tag: Tag, bytes: &[u8]) -> HeadRead
     requires eight { 8 ≤ length bytes.now }
@@ -177,7 +177,7 @@ pub fn read_tagged(syntax: Syntax, tag: Tag, bytes: &[u8]) -> HeadRead
     read_element(syntax, tag, bytes)
 }
 
-/// The head that the bytes begin with. Under 8 bytes, more are asked for.
+/// The head that the bytes begin with (PS3.5 7.1). Under 8 bytes, more are asked for.
 pub fn read_head(syntax: Syntax, bytes: &[u8]) -> HeadRead
     ensures { result ≡ spec.head_read syntax bytes.now }
 {

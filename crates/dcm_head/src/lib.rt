@@ -1,15 +1,18 @@
-//! Heads of elements, items and delimiters (PS3.5 7.1), and the head of a file: its preamble, prefix and meta group (PS3.10 7.1).
+//! Heads of elements, items and delimiters (PS3.5 7.1), and the head of a file: its preamble, prefix and meta group
+//! (PS3.10 7.1).
 //!
-//! - `read_head` reads a head out of the first bytes that it is given, or says how many it needs; `write_head` writes one.
-//! - `Meta` reads the head of a file, fed in any pieces, and holds it: at most 16,528 bytes. `Meta::rewritten` writes its group
-//!   anew with another transfer syntax; `write_meta` does so of any group, and `first_element` walks over one.
+//! - `read_head` reads a head out of the first bytes that it is given, or says how many it needs; `write_head` writes
+//!   one.
+//! - `Meta` reads the head of a file, fed in any pieces, and holds it: at most 16,528 bytes. `Meta::rewritten` writes
+//!   its group anew with another transfer syntax; `write_meta` does so of any group, and `first_element` walks over
+//!   one.
 //!
 //! A head and its eight bytes:
 //!
 //!     let bytes = b"\x10\x00\x10\x00PN\x06\x00".as_slice();
 //!     let name = Head { tag, vr: Vr::PN, length: Length::Known(6) };
-//!     assert!(rt; read_head(Syntax::Little(Dictionary::Extract), bytes) == HeadRead::Done(name, 8));
-//!     assert!(rt; write_head(Syntax::Little(Dictionary::Extract), &name).as_slice() == bytes);
+//!     assert!(rt; read_head(Syntax::LITTLE, bytes) == HeadRead::Done(name, 8));
+//!     assert!(rt; write_head(Syntax::LITTLE, &name).as_slice() == bytes);
 #![tactic(auto)]
 
 mod element;
@@ -27,6 +30,6 @@ pub use group::META_LIMIT;
 pub use head::{Head, HeadRead, LONG_HEAD, SHORT_HEAD, read_head, read_tag, read_tagged};
 pub use meta::{Meta, PREAMBLE, PREFIX};
 pub use meta_read::{MetaEnd, MetaRead};
-pub use pads::size_without_pads;
+pub use pads::{size_without_pads, without_pads};
 pub use rewriting::write_meta;
 pub use write::{element_head, write_head};

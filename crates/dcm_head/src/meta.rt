@@ -1,8 +1,7 @@
 // The head of a file: preamble, prefix and meta group (PS3.10 7.1).
 ghost use Rattle.std.specs.Prelude.{◌≡◌, ◌+◌, ◌-◌, ◌≤◌, ◌<◌, None, Some, take, drop, length, fold};
-ghost use Rattle.dcm_base.specs.Outputs as outputs;
 ghost use Rattle.dcm_head.specs.MetaReading as reading;
-ghost use Rattle.dcm_head.specs.Rewriting.{Renews};
+ghost use Rattle.dcm_head.specs.Rewriting.{WroteGroup};
 
 use crate::group::{Place, place_of};
 use crate::meta_read::{MetaEnd, MetaRead};
@@ -18,13 +17,13 @@ pub const PREAMBLE: usize = 128;
 /// What comes between the preamble and the meta group (PS3.10 7.1).
 pub const PREFIX: &[u8] = b"DICM";
 
-/// The bytes of preamble and prefix, behind which the group begins.
+/// The bytes of preamble and prefix, after which the group begins.
 const GROUP_AT: usize = 132;
 
-/// Preamble, prefix, a group, and the longest head behind it.
+/// Preamble, prefix, a group, and the longest head after it.
 const ROOM: usize = 16_528;
 
-/// The reader of a file's head, which is fed in pieces of any size up to the end of the meta group.
+/// The reader of a file's head, which is fed in pieces of any size up to the end of the meta group (PS3.10 7.1).
 #[derive(Drop)]
 pub struct Meta {
     bytes: ArrayVec<u8, ROOM>,
@@ -39,9 +38,21 @@ impl Model for Meta {
 
     ghost Value = { Reading };
 
-    ghost view = { λ m. record { bytes = m.bytes.items; place = m.place; uid_at = m.uid_at; uid_size = m.uid_size; end = m.end } };
+    ghost view = { λ m. record {
+      bytes = m.bytes.items;
+      place = m.place;
+      uid_at = m.uid_at;
+      uid_size = m.uid_size;
+      end = m.end;
+    } };
 
-    ghost invariant = { λ m. Keeps (record { bytes = m.bytes.items; place = m.place; uid_at = m.uid_at; uid_size = m.uid_size; end = m.end }) };
+    ghost invariant = { λ m. Keeps (record {
+      bytes = m.bytes.items;
+      place = m.place;
+      uid_at = m.uid_at;
+      uid_size = m.uid_size;
+      end = m.end;
+    }) };
 }
 
 /// The answer where the data set begins at a place, so many bytes came before the piece and these in all.
@@ -122,7 +133,7 @@ impl Meta {
         }
     }
 
-    /// Goes over a piece of the file, of which it looks at no byte behind the first two after the group. After a
+    /// Reads a piece of the file, of which it looks at no byte after the first two that follow the group. After a
     /// refusal it answers the same again; it is not fed once the group has ended.
     pub fn feed(&mut self, piece: &[u8]) -> MetaRead
         requires { reading.IsOpen self.old.end }
@@ -140,7 +151,8 @@ impl Meta {
         }
     }
 
-    /// Goes over the end of the file, at which the group may end too.
+    /// Takes note of the end of the file, at which the group may end too. Fails where the head is refused, with the
+    /// fault and its offset in the file.
     pub fn finish(&mut self) -> Result<(), Stop>
         ensures state { self.new ≡ reading.meta_finished self.old }
         ensures answer { reading.FinishAnswers self.new.end result }
@@ -166,7 +178,7 @@ impl Meta {
         }
     }
 
-    /// The transfer syntax, without the bytes 00 and 20 at its end.
+    /// The unique identifier of the transfer syntax, without the bytes 00 and 20 at its end (PS3.10 7.1).
     pub fn uid(&self) -> &[u8]
         requires { reading.HasEnded self.now.end }
         ensures value { result.now ≡ reading.uid_of self.now }
@@ -184,7 +196,7 @@ impl Meta {
         part(self.bytes.as_slice(), 0, PREAMBLE)
     }
 
-    /// The meta group: the bytes behind the prefix, up to the data set.
+    /// The meta group: the bytes after the prefix, up to the data set.
     pub fn bytes(&self) -> &[u8]
         requires { reading.HasEnded self.now.end }
         ensures group { result.now ≡ reading.group_of self.now }
@@ -204,13 +216,12 @@ impl Meta {
     ) -> Result<(), WriteFailed>
         requires ended { reading.HasEnded self.now.end }
         requires uid { length uid.now < 65535 }
-        ensures bytes { Renews W.DeviceOut out.old out.new (reading.group_of self.now) uid.now result }
-        ensures failed { outputs.Tells W.DeviceOut out.old out.new result }
+        ensures { WroteGroup W.DeviceOut out.old out.new (reading.group_of self.now) uid.now result }
     {
         write_meta(self.bytes(), uid, out)
     }
 
-    /// Goes over a byte of the preamble or the prefix.
+    /// Reads a byte of the preamble or the prefix.
     fn step_before(&mut self, byte: u8)
         requires going { self.old.end ≡ None }
         requires before { length self.old.bytes < 132 }
@@ -225,7 +236,7 @@ impl Meta {
         }
     }
 
-    /// Goes over a byte of the group.
+    /// Reads a byte of the group.
     fn step_within(&mut self, byte: u8)
         requires going { self.old.end ≡ None }
         requires within { 132 ≤ length self.old.bytes }
@@ -270,7 +281,7 @@ impl Meta {
         self.bytes.len()
     }
 
-    /// Goes over a byte.
+    /// Reads a byte.
     fn step(&mut self, byte: u8)
         requires { self.old.end ≡ None }
         ensures { self.new ≡ reading.meta_step self.old byte }
@@ -282,7 +293,7 @@ impl Meta {
         }
     }
 
-    /// Goes over bytes as long as there is no end.
+    /// Reads bytes as long as there is no end.
     fn go_over(&mut self, piece: &[u8])
         ensures { self.new ≡ fold reading.meta_step self.old piece.now }
     {
@@ -304,7 +315,7 @@ impl Meta {
         begins_at(self.bytes.as_slice(), before, self.place)
     }
 
-    /// Goes over the end of the file, where there is no end yet.
+    /// Takes note of the end of the file, where there is no end yet.
     fn finish_open(&mut self)
         requires { self.old.end ≡ None }
         ensures { self.new ≡ reading.meta_finished self.old }

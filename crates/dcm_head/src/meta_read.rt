@@ -7,7 +7,7 @@ pub enum MetaEnd {
     Ended(Coding),
 }
 
-/// What a piece led to. The data set begins `used` bytes into the piece, behind the byte `ahead` of an earlier one.
+/// What a piece led to. The data set begins `used` bytes into the piece, after the byte `ahead` of an earlier one.
 #[derive(Clone, Copy, Debug, PartialEq, Eq)]
 pub enum MetaRead {
     More,

@@ -1,6 +1,6 @@
 // The bytes that make a transfer syntax even (PS3.5 9.1).
 ghost use Rattle.std.specs.Prelude.{◌≡◌, ◌≤◌, length};
-ghost use Rattle.dcm_base.specs.Transfer as spec;
+ghost use Rattle.dcm_base.specs.Tables.Transfer as spec;
 
 fn is_pad(byte: u8) -> bool
     ensures { result ≡ spec.is_pad byte }
@@ -8,7 +8,7 @@ fn is_pad(byte: u8) -> bool
     byte == 0 || byte == b' '
 }
 
-/// The size of a value without the bytes 00 and 20 at its end.
+/// The size of a value without the bytes 00 and 20 at its end (PS3.5 6.2).
 pub fn size_without_pads(value: &[u8]) -> usize
     ensures size { result ≡ length (spec.without_pads value.now) }
     ensures within { result ≤ length value.now }
@@ -18,4 +18,13 @@ pub fn size_without_pads(value: &[u8]) -> usize
         n -= 1;
     }
     n
+}
+
+/// A value without the bytes 00 and 20 at its end.
+pub fn without_pads(value: &[u8]) -> &[u8]
+    ensures value { result.now ≡ spec.without_pads value.now }
+    ensures within { length result.now ≤ length value.now }
+{
+    let (kept, _) = value.split_at(size_without_pads(value));
+    kept
 }

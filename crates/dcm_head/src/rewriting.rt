@@ -1,19 +1,19 @@
 // A meta group written anew, with a transfer syntax (PS3.10 7.1).
 ghost use Rattle.std.specs.Prelude.{◌≡◌, ◌≤◌, ◌<◌, ◌||◌, ◌^◌, IfSome, IfNone, [], length};
 ghost use Rattle.std.specs.Int.{to_le_bytes, w32};
-ghost use Rattle.dcm_base.specs.Outputs as outputs;
-ghost use Rattle.dcm_base.specs.NewMeta.{new_elements};
-ghost use Rattle.dcm_base.specs.Recode.{even as even_size, head as recoded_head, recoded_leaf};
-ghost use Rattle.dcm_base.specs.Tag.{is_tag};
+ghost use Rattle.dcm_devices.specs.Writing.{Wrote};
+ghost use Rattle.dcm_base.specs.Conversion.NewMeta.{new_elements};
+ghost use Rattle.dcm_base.specs.Conversion.Recode.{even as even_size, head as recoded_head, recoded_leaf};
+ghost use Rattle.dcm_base.specs.Tables.Tag.{is_tag};
 ghost use Rattle.dcm_base.specs.declared.length.Length.TheVariants.{Known};
-ghost use Rattle.dcm_base.specs.Syntax.{Little};
+ghost use Rattle.dcm_base.specs.Tables.Syntax.{Little};
 ghost use Rattle.dcm_head.specs.Rewriting as spec;
 
 use crate::element::{MetaElement, first_element};
 use crate::head::{Head, LONG_HEAD};
 use crate::write::explicit_head;
 use arrayvec::ArrayVec;
-use dcm_base::{DeviceOut, Dictionary, Length, Syntax, Tag, Vr, Watched, WriteFailed, put_parts};
+use dcm_base::{DeviceOut, Length, Syntax, Tag, Vr, Watched, WriteFailed, put_parts};
 
 /// The size of a value with its pad byte.
 fn even(size: usize) -> usize
@@ -30,10 +30,7 @@ fn leaf_head(tag: Tag, vr: Vr, size: usize) -> ArrayVec<u8, LONG_HEAD>
     ensures { result.items ≡ recoded_head Little tag vr (Known (even_size size)) }
 {
     let length = Length::Known(even(size) as u32);
-    explicit_head(
-        Syntax::Little(Dictionary::Extract),
-        &Head { tag, vr, length },
-    )
+    explicit_head(Syntax::LITTLE, &Head { tag, vr, length })
 }
 
 /// The size of an element that is written.
@@ -52,8 +49,7 @@ fn put_leaf<W: DeviceOut>(
     value: &[u8],
 ) -> Result<(), WriteFailed>
     requires { length value.now < 65535 }
-    ensures bytes { outputs.Puts W.DeviceOut out.old out.new (recoded_leaf Little tag vr value.now) result }
-    ensures failed { outputs.Tells W.DeviceOut out.old out.new result }
+    ensures { Wrote W.DeviceOut out.old out.new (recoded_leaf Little tag vr value.now) result }
 {
     let head = leaf_head(tag, vr, value.len());
     let pad = [vr.pad()];
@@ -61,12 +57,13 @@ fn put_leaf<W: DeviceOut>(
     put_parts(out, &[head.as_slice(), value, pad])
 }
 
-/// The representation and value that stand in the new group for an element, if any do: the first that names a transfer
+/// The representation and value that the new group has of an element, if it has any: the first that names a transfer
 /// syntax names this one.
 fn renewed<'a>(first: MetaElement<'a>, named: bool, uid: &'a [u8]) -> Option<(Vr, &'a [u8])>
     requires value { length first.value.now < 65535 }
     requires uid { length uid.now < 65535 }
-    ensures some { IfSome result (λ r. recoded_leaf Little first.entry.tag r.0 r.1.now ≡ spec.written_as named uid.now first.entry) }
+    ensures some { IfSome result (λ r. recoded_leaf Little first.entry.tag r.0 r.1.now
+        ≡ spec.written_as named uid.now first.entry) }
     ensures none { IfNone result (spec.written_as named uid.now first.entry ≡ []) }
     ensures limit { IfSome result (λ r. length r.1.now < 65535) }
 {
@@ -80,7 +77,7 @@ fn renewed<'a>(first: MetaElement<'a>, named: bool, uid: &'a [u8]) -> Option<(Vr
     }
 }
 
-/// The size of what stands for an element in the new group.
+/// The size of what the new group has of an element.
 fn element_size(first: MetaElement<'_>, named: bool, uid: &[u8]) -> usize
     requires value { length first.value.now < 65535 }
     requires uid { length uid.now < 65535 }
@@ -101,8 +98,7 @@ fn put_element<W: DeviceOut>(
 ) -> Result<(), WriteFailed>
     requires value { length first.value.now < 65535 }
     requires uid { length uid.now < 65535 }
-    ensures bytes { outputs.Puts W.DeviceOut out.old out.new (spec.written_as named uid.now first.entry) result }
-    ensures failed { outputs.Tells W.DeviceOut out.old out.new result }
+    ensures { Wrote W.DeviceOut out.old out.new (spec.written_as named uid.now first.entry) result }
 {
     match renewed(first, named, uid) {
         Some((vr, value)) => put_leaf(out, first.tag, vr, value),
@@ -142,8 +138,8 @@ fn put_elements<W: DeviceOut>(
 ) -> Result<(), WriteFailed>
     requires group { length group.now ≤ 16384 }
     requires uid { length uid.now < 65535 }
-    ensures bytes { spec.OfElements group.now (λ elements. outputs.Puts W.DeviceOut out.old out.new (new_elements elements uid.now) result) }
-    ensures failed { outputs.Tells W.DeviceOut out.old out.new result }
+    ensures { spec.WroteElements W.DeviceOut out.old out.new group.now (λ elements. new_elements elements uid.now)
+        result }
 {
     let mut rest = group;
     let mut named = false;
@@ -165,8 +161,7 @@ pub fn write_meta<W: DeviceOut>(
 ) -> Result<(), WriteFailed>
     requires run { length run.now ≤ 16384 }
     requires uid { length uid.now < 65535 }
-    ensures bytes { spec.Renews W.DeviceOut out.old out.new run.now uid.now result }
-    ensures failed { outputs.Tells W.DeviceOut out.old out.new result }
+    ensures { spec.WroteGroup W.DeviceOut out.old out.new run.now uid.now result }
 {
     let size = elements_size(run, uid) as u32;
     put_leaf(out, Tag::META_LENGTH, Vr::UL, &size.to_le_bytes())?;

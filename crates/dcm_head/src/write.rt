@@ -1,8 +1,8 @@
 // Heads as bytes (PS3.5 7.1.2, 7.1.3, 7.5).
 ghost use Rattle.std.specs.Prelude.{◌≡◌, ◌+◌, ◌≤◌, ◌++◌, true, false, length};
 ghost use Rattle.std.specs.Int.{w16, w32};
-ghost use Rattle.dcm_base.specs.Recode as recode;
-ghost use Rattle.dcm_base.specs.Representation.{is_long as has_long_form};
+ghost use Rattle.dcm_base.specs.Conversion.Recode as recode;
+ghost use Rattle.dcm_base.specs.Tables.Representation.{is_long as has_long_form};
 ghost use Rattle.dcm_head.specs.HeadBytes as spec;
 
 use crate::head::{Head, LONG_HEAD, UNDEFINED, is_delimiter};
@@ -87,8 +87,8 @@ pub fn explicit_head(syntax: Syntax, head: &Head) -> HeadBytes
     bytes
 }
 
-/// The bytes of an element's head: with its representation's own letters and reserved bytes of zero in an explicit syntax, and
-/// without both in the implicit one.
+/// The bytes of an element's head: with its representation's own letters and reserved bytes of zero in an explicit
+/// syntax, and without both in the implicit one.
 pub fn element_head(syntax: Syntax, head: &Head) -> ArrayVec<u8, LONG_HEAD>
     requires { recode.is_explicit syntax ≡ true → has_long_form head.now.vr ≡ false → spec.FitsShort head.now.length }
     ensures { result.items ≡ recode.head syntax head.now.tag head.now.vr head.now.length }

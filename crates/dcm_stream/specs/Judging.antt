@@ -1,5 +1,6 @@
 -- What a head leads to: a fault, the want of more bytes, or what it opens or closes.
-use Rattle.std.specs.Prelude.{◌≡◌, ◌⊎◌, ℕ, ◌+◌, List, [], ◌∷◌, length, drop, Bool, true, false, ◌&&◌, ◌==◌, nat_le, if◌then◌else◌, Option, Some, None, option_map, MatchOption, Result, Ok, Err}
+use Rattle.std.specs.Prelude.{◌≡◌, ◌⊎◌, ℕ, ◌+◌, List, [], ◌∷◌, length, drop, Bool, true, false, ◌&&◌, ◌==◌, nat_le}
+use Rattle.std.specs.Prelude.{if◌then◌else◌, Option, Some, None, option_map, MatchOption, Result, Ok, Err}
 use Rattle.dcm_base.specs.declared.syntax.Syntax.{Syntax}
 use Rattle.dcm_base.specs.declared.length.Length.{Length}
 use Rattle.dcm_base.specs.declared.length.Length.TheVariants.{Undefined}
@@ -8,14 +9,17 @@ use Rattle.dcm_base.specs.declared.form.Form.TheVariants.{Value as a_value, Noth
 use Rattle.dcm_base.specs.declared.level.Container.{Container}
 use Rattle.dcm_base.specs.declared.level.Level.{Level}
 use Rattle.dcm_base.specs.declared.fault.Fault.{Fault}
-use Rattle.dcm_base.specs.declared.fault.Fault.TheVariants.{EndsEarly, UndefinedLength, PassesEnd, TooDeep, NotAscending, FragmentsBarred}
-use Rattle.dcm_base.specs.Atoms.{Atom, opens, opens_item, opens_fragment}
-use Rattle.dcm_base.specs.declared.level.Container.TheVariants.{Item as an_item, Sequence as a_sequence, FragmentList as a_fragment_list}
-use Rattle.dcm_base.specs.Place.{level, room, passes, depth, is_undefined}
-use Rattle.dcm_base.specs.Stop.{refused, HeadBar, opens_list, has_no_form, is_fragment_list, with_length, place_stop, is_early}
-use Rattle.dcm_base.specs.Head.{tag_at}
-use Rattle.dcm_base.specs.Tag.{is_item}
-use Rattle.dcm_base.specs.Spelling.{form, inside}
+use Rattle.dcm_base.specs.declared.fault.Fault.TheVariants.{EndsEarly, UndefinedLength, PassesEnd, TooDeep}
+use Rattle.dcm_base.specs.declared.fault.Fault.TheVariants.{NotAscending, FragmentsBarred}
+use Rattle.dcm_base.specs.Steps.Atoms.{Atom, opens, opens_item, opens_fragment}
+use Rattle.dcm_base.specs.declared.level.Container.TheVariants.{Item as an_item, Sequence as a_sequence}
+use Rattle.dcm_base.specs.declared.level.Container.TheVariants.{FragmentList as a_fragment_list}
+use Rattle.dcm_base.specs.Reading.Place.{level, room, passes, depth, is_undefined}
+use Rattle.dcm_base.specs.Reading.Stop.{refused, HeadBar, opens_list, has_no_form, is_fragment_list, with_length}
+use Rattle.dcm_base.specs.Reading.Stop.{place_stop, is_early}
+use Rattle.dcm_base.specs.Bytes.Head.{tag_at}
+use Rattle.dcm_base.specs.Tables.Tag.{is_item}
+use Rattle.dcm_base.specs.Bytes.Spelling.{form, inside}
 use Rattle.dcm_head.specs.declared.head.Head.{Head}
 use Rattle.dcm_head.specs.declared.head.HeadRead.TheVariants.{Done}
 use Rattle.dcm_head.specs.HeadRead.{tag_read}
@@ -25,9 +29,10 @@ use Rattle.dcm_stream.specs.declared.judge.Opening.{Opening}
 use Rattle.dcm_stream.specs.declared.judge.Opening.TheVariants as opening
 use Rattle.dcm_stream.specs.declared.judge.Judged.{Judged}
 use Rattle.dcm_stream.specs.declared.judge.Judged.TheVariants as judged
-use Rattle.dcm_stream.specs.Reading.{Opened, value_opens, container_opens, element_opens, item_opens, head_opens, closes}
+use Rattle.dcm_stream.specs.Reading.{Opened, value_opens, container_opens, element_opens, item_opens, head_opens}
+use Rattle.dcm_stream.specs.Reading.{closes}
 
--- the fault by which a sink's bar is told
+-- the fault by which a sink's bar is reported
 abbrev pub fault_of : Bar → Fault
 fault_of Order = NotAscending
 fault_of Fragments = FragmentsBarred
@@ -48,11 +53,16 @@ opening_atom (opening.End container) = closes container
 -- what is open after it, where its contents begin at this offset
 abbrev pub opened_by : (begin : ℕ) → List Level → Opening → Opened
 opened_by begin levels (opening.Leaf head s size) = value_opens levels (opens head.tag head.vr head.length s) size
-opened_by begin levels (opening.Sequence head s) = container_opens (level a_sequence (inside s head.vr) head.length begin) levels (opens head.tag head.vr head.length s)
-opened_by begin levels (opening.FragmentList head s) = container_opens (level a_fragment_list s Undefined begin) levels (opens head.tag head.vr head.length s)
-opened_by begin levels (opening.Item s declared) = container_opens (level an_item s declared begin) levels (opens_item declared)
+opened_by begin levels (opening.Sequence head s) =
+    container_opens (level a_sequence (inside s head.vr) head.length begin) levels
+    (opens head.tag head.vr head.length s)
+opened_by begin levels (opening.FragmentList head s) =
+    container_opens (level a_fragment_list s Undefined begin) levels (opens head.tag head.vr head.length s)
+opened_by begin levels (opening.Item s declared) =
+    container_opens (level an_item s declared begin) levels (opens_item declared)
 opened_by begin levels (opening.Fragment size) = value_opens levels (opens_fragment size) size
-opened_by begin levels (opening.End container) = record { levels = drop 1 levels; left = 0; atoms = closes container ∷ [] }
+opened_by begin levels (opening.End container) =
+    record { levels = drop 1 levels; left = 0; atoms = closes container ∷ [] }
 
 -- why an element is refused whose head is whole, but for the sink's bars
 abbrev pub shape_fault : Form → (size : ℕ) → Length → Option ℕ → (depth : ℕ) → Option Fault
@@ -80,7 +90,8 @@ or_fault (Some fault) later = Some fault
 -- why an element with this head of so many bytes is refused
 abbrev pub element_fault : HeadBar → Syntax → List Level → (position : ℕ) → Head → (size : ℕ) → Option Fault
 element_fault bar s levels position head size =
-    or_fault (shape_fault (form s head.vr head.length) size head.length (room position levels) (depth levels)) (bar head.tag head.vr head.length)
+    or_fault (shape_fault (form s head.vr head.length) size head.length (room position levels) (depth levels))
+    (bar head.tag head.vr head.length)
 
 -- what opens or closes with it, wherever its contents begin
 abbrev pub OpensAs : ((begin : ℕ) → List Level → Opened) → Opening → Type 0
@@ -92,34 +103,44 @@ OpensNothing f declared = (f ≡ no_form) ⊎ ((f ≡ a_value) × (declared ≡ 
 
 -- what an element of this form opens
 abbrev pub OpensElement : Form → Syntax → Head → Option Opening → Type 0
-OpensElement f s head o = MatchOption o (OpensNothing f head.length) (OpensAs (element_opens f s head.tag head.vr head.length))
+OpensElement f s head o = MatchOption o (OpensNothing f head.length)
+    (OpensAs (element_opens f s head.tag head.vr head.length))
 
 -- the answer on the head of an element, but for the sink's bars
 abbrev pub JudgesShape : Syntax → Head → (size : ℕ) → Option ℕ → (depth : ℕ) → Result Opening Fault → Type 0
-JudgesShape s head size room depth (Err fault) = shape_fault (form s head.vr head.length) size head.length room depth ≡ Some fault
+JudgesShape s head size room depth (Err fault) = shape_fault (form s head.vr head.length) size head.length room depth
+    ≡ Some fault
 JudgesShape s head size room depth (Ok o) =
-    (shape_fault (form s head.vr head.length) size head.length room depth ≡ None) × OpensAs (element_opens (form s head.vr head.length) s head.tag head.vr head.length) o
+    (shape_fault (form s head.vr head.length) size head.length room depth ≡ None)
+    × OpensAs (element_opens (form s head.vr head.length) s head.tag head.vr head.length) o
 
 -- the answer on the head of an element
-abbrev pub JudgesElement : HeadBar → Syntax → List Level → (position : ℕ) → Head → (size : ℕ) → Result Opening Fault → Type 0
-JudgesElement bar s levels position head size (Err fault) = (element_fault bar s levels position head size ≡ Some fault) × (is_early fault ≡ false)
+abbrev pub JudgesElement : HeadBar → Syntax → List Level → (position : ℕ) → Head → (size : ℕ) → Result Opening Fault
+    → Type 0
+JudgesElement bar s levels position head size (Err fault) =
+    (element_fault bar s levels position head size ≡ Some fault) × (is_early fault ≡ false)
 JudgesElement bar s levels position head size (Ok o) =
-    (element_fault bar s levels position head size ≡ None) × OpensAs (element_opens (form s head.vr head.length) s head.tag head.vr head.length) o
+    (element_fault bar s levels position head size ≡ None)
+    × OpensAs (element_opens (form s head.vr head.length) s head.tag head.vr head.length) o
 
 -- what an item opens, but a fragment of no known length
 abbrev pub OpensItem : Level → Length → Option Opening → Type 0
 OpensItem inner declared None = is_unsized_fragment inner.container declared ≡ true
-OpensItem inner declared (Some o) = (is_unsized_fragment inner.container declared ≡ false) × OpensAs (item_opens inner.container inner.syntax declared) o
+OpensItem inner declared (Some o) = (is_unsized_fragment inner.container declared ≡ false)
+    × OpensAs (item_opens inner.container inner.syntax declared) o
 
 -- the answer on the head of an item
 abbrev pub JudgesItem : Level → Length → Option ℕ → Result Opening Fault → Type 0
-JudgesItem inner declared room (Err fault) = (item_fault inner.container declared room ≡ Some fault) × (is_early fault ≡ false)
-JudgesItem inner declared room (Ok o) = (item_fault inner.container declared room ≡ None) × OpensAs (item_opens inner.container inner.syntax declared) o
+JudgesItem inner declared room (Err fault) = (item_fault inner.container declared room ≡ Some fault)
+    × (is_early fault ≡ false)
+JudgesItem inner declared room (Ok o) = (item_fault inner.container declared room ≡ None)
+    × OpensAs (item_opens inner.container inner.syntax declared) o
 
 -- why a head of so many bytes is refused where it may come, and what it opens or closes
 abbrev pub head_fault : HeadBar → Level → List Level → (position : ℕ) → Head → (size : ℕ) → Option Fault
 head_fault bar inner levels position head size =
-    if head.tag.group == 0xFFFE then (if is_item head.tag then item_fault inner.container head.length (room position levels) else None)
+    if head.tag.group == 0xFFFE then (if is_item head.tag
+    then item_fault inner.container head.length (room position levels) else None)
     else element_fault bar inner.syntax levels position head size
 
 abbrev pub opens_with : Level → Head → (begin : ℕ) → List Level → Opened
@@ -129,14 +150,19 @@ opens_with inner head begin levels =
     else record { levels = drop 1 levels; left = 0; atoms = closes inner.container ∷ [] })
     else element_opens (form inner.syntax head.vr head.length) inner.syntax head.tag head.vr head.length begin levels
 
-abbrev pub JudgesHead : HeadBar → Level → List Level → (position : ℕ) → Head → (size : ℕ) → Result Opening Fault → Type 0
-JudgesHead bar inner levels position head size (Err fault) = (head_fault bar inner levels position head size ≡ Some fault) × (is_early fault ≡ false)
-JudgesHead bar inner levels position head size (Ok o) = (head_fault bar inner levels position head size ≡ None) × OpensAs (opens_with inner head) o
+abbrev pub JudgesHead : HeadBar → Level → List Level → (position : ℕ) → Head → (size : ℕ) → Result Opening Fault
+    → Type 0
+JudgesHead bar inner levels position head size (Err fault) =
+    (head_fault bar inner levels position head size ≡ Some fault) × (is_early fault ≡ false)
+JudgesHead bar inner levels position head size (Ok o) = (head_fault bar inner levels position head size ≡ None)
+    × OpensAs (opens_with inner head) o
 
 -- the answer on the front of bytes at a place: a fault, the want of more bytes, or a whole head of so many bytes
 abbrev pub Judges : HeadBar → Level → List Level → (position : ℕ) → List ℕ → Judged → Type 0
-Judges bar inner levels position bytes (judged.Refused fault) = (place_stop bar inner levels position bytes ≡ Some (refused fault position)) × (is_early fault ≡ false)
-Judges bar inner levels position bytes judged.More = place_stop bar inner levels position bytes ≡ Some (refused EndsEarly (position + length bytes))
+Judges bar inner levels position bytes (judged.Refused fault) =
+    (place_stop bar inner levels position bytes ≡ Some (refused fault position)) × (is_early fault ≡ false)
+Judges bar inner levels position bytes judged.More = place_stop bar inner levels position bytes
+    ≡ Some (refused EndsEarly (position + length bytes))
 Judges bar inner levels position bytes (judged.Opens o size) =
     (place_stop bar inner levels position bytes ≡ None)
     × ((begin : ℕ) → head_opens begin bytes levels ≡ opened_by begin levels o)

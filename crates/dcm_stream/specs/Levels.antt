@@ -1,7 +1,7 @@
 -- The open containers as they are kept, the innermost first.
 use Rattle.std.specs.Prelude.{◌≡◌, ℕ, List, [], ◌∷◌, map, Option, None, ⊤}
 use Rattle.dcm_base.specs.declared.level.Level.{Level}
-use Rattle.dcm_base.specs.Place.{least, depth}
+use Rattle.dcm_base.specs.Reading.Place.{least, depth}
 use Rattle.dcm_stream.specs.declared.levels.OpenLevel.{OpenLevel}
 
 abbrev pub level_of : OpenLevel → Level
@@ -18,4 +18,5 @@ nearest_end (inner ∷ outer) = least inner.end_offset (nearest_end outer)
 -- each is kept with the nearest end and the depth of itself and those around it
 abbrev pub AreSummed : List OpenLevel → Type 0
 AreSummed [] = ⊤
-AreSummed (o ∷ outer) = (o.nearest ≡ nearest_end (o.level ∷ levels_of outer)) × (o.depth ≡ depth (o.level ∷ levels_of outer)) × AreSummed outer
+AreSummed (o ∷ outer) = (o.nearest ≡ nearest_end (o.level ∷ levels_of outer))
+    × (o.depth ≡ depth (o.level ∷ levels_of outer)) × AreSummed outer

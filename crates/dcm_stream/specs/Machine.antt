@@ -1,17 +1,19 @@
 -- A machine and the sink that it drives.
-use Rattle.std.specs.Prelude.{◌≡◌, ℕ, ◌+◌, ◌-◌, ◌≤◌, List, [], ◌++◌, length, take, map, Bool, true, false, Option, Some, None, Result, Ok, Err, fold, ⊤, is_some, ◌||◌, ◌&&◌, ◌==◌}
+use Rattle.std.specs.Prelude.{◌≡◌, ℕ, ◌+◌, ◌-◌, ◌≤◌, List, [], ◌++◌, length, take, map, Bool, true, false, Option, Some}
+use Rattle.std.specs.Prelude.{None, Result, Ok, Err, fold, ⊤, is_some, ◌||◌, ◌&&◌, ◌==◌}
 use Rattle.std.specs.Io.KnownBytes.{append_known}
-use Rattle.dcm_base.specs.Atoms.{Atom, value_byte}
+use Rattle.dcm_base.specs.Steps.Atoms.{Atom, value_byte}
 use Rattle.dcm_devices.specs.Device.{AppendsFront}
-use Rattle.dcm_base.specs.Steps.{outputs, Goes}
-use Rattle.dcm_base.specs.Stop.{Stop, complete, refused, is_empty}
-use Rattle.dcm_base.specs.Reads.{INPUT_LIMIT}
+use Rattle.dcm_base.specs.Steps.Steps.{outputs, Goes}
+use Rattle.dcm_base.specs.Reading.Stop.{Stop, complete, refused, is_empty}
+use Rattle.dcm_base.specs.Reading.Reads.{INPUT_LIMIT}
 use Rattle.dcm_head.specs.declared.head.Head.{Head}
 use Rattle.dcm_stream.specs.declared.token.Bar.{Bar}
 use Rattle.dcm_stream.specs.declared.cursor.Cursor.{Cursor}
 use Rattle.dcm_stream.specs.declared.machine.Halt.{Halt}
 use Rattle.dcm_stream.specs.declared.machine.Halt.TheVariants.{Refused, Output}
-use Rattle.dcm_stream.specs.Reading.{Reading, Opened, closing, settled, read_byte, is_top, drives_byte, finish, end_shows}
+use Rattle.dcm_stream.specs.Reading.{Reading, Opened, closing, settled, read_byte, is_top, drives_byte, finish}
+use Rattle.dcm_stream.specs.Reading.{end_shows}
 use Rattle.dcm_stream.specs.declared.judge.Opening.{Opening}
 use Rattle.dcm_stream.specs.Judging.{bars_head, opened_by}
 use Rattle.dcm_stream.specs.Bounds.{IsSmall}
@@ -20,7 +22,8 @@ use Rattle.dcm_stream.specs.Bounds.{IsSmall}
 abbrev pub steps : {S : Type 0} → (S → Head → Option Bar) → (S → Atom → S) → Reading × S → ℕ → Reading × S
 steps bars step = drives_byte (bars_head bars) step
 
-abbrev pub steps_write : {S : Type 0} → (S → Head → Option Bar) → (S → Atom → S) → (S → Atom → List ℕ) → Reading × S → ℕ → List ℕ
+abbrev pub steps_write : {S : Type 0} → (S → Head → Option Bar) → (S → Atom → S) → (S → Atom → List ℕ) → Reading × S
+    → ℕ → List ℕ
 steps_write bars step writes p b = outputs step writes p.1 (read_byte (bars_head bars p.1) p.0 b).1
 
 -- what is read of a data set at a place, and why it goes no further
@@ -50,7 +53,7 @@ halt_of (Ok x) = None
 halt_of (Err (Refused stop)) = Some (refused stop.fault stop.at)
 halt_of (Err Output) = None
 
--- the writer failed in the call just where the output did
+-- the writer failed in the call exactly where the output did
 abbrev pub TellsHalt : {T : Type 0} → Bool → Bool → Result T Halt → Type 0
 TellsHalt old new (Ok x) = new ≡ old
 TellsHalt old new (Err (Refused stop)) = new ≡ old
@@ -59,20 +62,24 @@ TellsHalt old new (Err Output) = new ≡ true
 -- ---- parts of a call
 
 -- a sink took these atoms, and the machine came to this reading; or a beginning of their output went out
-abbrev pub Comes : {S T : Type 0} → (S → Atom → S) → (S → Atom → List ℕ) → S → Option (List ℕ) → S → Option (List ℕ) → (Option Stop → Reading) → Reading × List Atom → Result T Halt → Type 0
-Comes step writes s held t holds new p (Ok x) = (new None ≡ p.0) × (t ≡ fold step s p.1) × (holds ≡ append_known held (outputs step writes s p.1))
-Comes step writes s held t holds new p (Err (Refused stop)) = (new (Some (refused stop.fault stop.at)) ≡ p.0) × (t ≡ fold step s p.1) × (holds ≡ append_known held (outputs step writes s p.1))
+abbrev pub Comes : {S T : Type 0} → (S → Atom → S) → (S → Atom → List ℕ) → S → Option (List ℕ) → S → Option (List ℕ)
+    → (Option Stop → Reading) → Reading × List Atom → Result T Halt → Type 0
+Comes step writes s held t holds new p (Ok x) = (new None ≡ p.0) × (t ≡ fold step s p.1)
+    × (holds ≡ append_known held (outputs step writes s p.1))
+Comes step writes s held t holds new p (Err (Refused stop)) = (new (Some (refused stop.fault stop.at)) ≡ p.0)
+    × (t ≡ fold step s p.1) × (holds ≡ append_known held (outputs step writes s p.1))
 Comes step writes s held t holds new p (Err Output) = AppendsFront held holds (outputs step writes s p.1)
 
--- behind bytes of a value
+-- after bytes of a value
 abbrev pub value_read : Reading → (left : ℕ) → List ℕ → Reading × List Atom
-value_read r left bytes = settled (r.position + length bytes) (record { levels = r.levels; left = left; atoms = map value_byte bytes ++ closing left }) left
+value_read r left bytes = settled (r.position + length bytes)
+    (record { levels = r.levels; left = left; atoms = map value_byte bytes ++ closing left }) left
 
--- behind bytes of the value that is open
+-- after bytes of the value that is open
 abbrev pub reads_value : Cursor → List ℕ → Reading × List Atom
 reads_value p bytes = value_read (reading p None) (p.left - length bytes) bytes
 
--- behind a place where no byte of a value is to come, and where so many are
+-- after a place where no byte of a value is to come, and where so many are
 abbrev pub settles : Cursor → Reading × List Atom
 settles p = settled p.position (record { levels = p.levels; left = 0; atoms = [] }) 0
 
@@ -87,12 +94,13 @@ entered position o = settled position o o.left
 abbrev pub enters : Cursor → Opening → Reading × List Atom
 enters p opening = entered p.position (opened_by p.position p.levels opening)
 
--- a machine and its sink went over these bytes, or a beginning of the output went out
-abbrev pub Feeds : {S T : Type 0} → (S → Head → Option Bar) → (S → Atom → S) → (S → Atom → List ℕ) → Reading → S → Option (List ℕ) → (Option Stop → Reading) → S → Option (List ℕ) → List ℕ → Result T Halt → Type 0
+-- a machine and its sink read these bytes, or a beginning of the output went out
+abbrev pub Feeds : {S T : Type 0} → (S → Head → Option Bar) → (S → Atom → S) → (S → Atom → List ℕ) → Reading → S
+    → Option (List ℕ) → (Option Stop → Reading) → S → Option (List ℕ) → List ℕ → Result T Halt → Type 0
 Feeds bars step writes old s held new t holds bytes r =
     Goes (steps bars step) (steps_write bars step writes) (old, s) held (new (halt_of r), t) holds bytes (went r)
 
--- the bytes that were gone over: so many, or all where it goes no further
+-- the bytes that were read: so many, or all where it goes no further
 abbrev pub bytes_read : Result ℕ Halt → List ℕ → List ℕ
 bytes_read (Ok n) piece = take n piece
 bytes_read (Err halt) piece = piece
@@ -143,20 +151,23 @@ abbrev pub well : (failed : Bool) → Result (Unit {0}) (Unit {0})
 well true = Err tt
 well false = Ok tt
 
--- the writer failed in the call just where the output did
+-- the writer failed in the call exactly where the output did
 abbrev pub TellsFailed : (old new : Bool) → (failed : Bool) → Type 0
 TellsFailed old new true = new ≡ true
 TellsFailed old new false = new ≡ old
 
--- a machine and its sink went over these bytes, or a beginning of the output went out
-abbrev pub GoesOver : {S : Type 0} → (S → Head → Option Bar) → (S → Atom → S) → (S → Atom → List ℕ) → Progress → S → Option (List ℕ) → Progress → S → Option (List ℕ) → List ℕ → Type 0
-GoesOver bars step writes old s held new t holds bytes = Goes (steps bars step) (steps_write bars step writes) (old.reading, s) held (new.reading, t) holds bytes (well new.failed)
+-- a machine and its sink read these bytes, or a beginning of the output went out
+abbrev pub GoesOver : {S : Type 0} → (S → Head → Option Bar) → (S → Atom → S) → (S → Atom → List ℕ) → Progress → S
+    → Option (List ℕ) → Progress → S → Option (List ℕ) → List ℕ → Type 0
+GoesOver bars step writes old s held new t holds bytes =
+    Goes (steps bars step) (steps_write bars step writes) (old.reading, s) held (new.reading, t) holds bytes
+    (well new.failed)
 
 -- what is shown where the input ends
 abbrev pub shows_end : Progress → List Atom
 shows_end p = end_shows (finish p.reading)
 
--- behind the input's end
+-- after the input's end
 abbrev pub ended : Stop → Reading → Reading
 ended complete r = r
 ended (refused fault offset) r = record r { halt = Some (refused fault offset) }

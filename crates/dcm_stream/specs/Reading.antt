@@ -1,26 +1,33 @@
 -- What is read of a data set, byte by byte.
-use Rattle.std.specs.Prelude.{ℕ, zero, suc, ◌+◌, List, [], ◌∷◌, ◌++◌, length, drop, Bool, true, false, ◌&&◌, nat_lt, ◌==◌, if◌then◌else◌, Option, Some, None, fold}
+use Rattle.std.specs.Prelude.{ℕ, zero, suc, ◌+◌, List, [], ◌∷◌, ◌++◌, length, drop, Bool, true, false, ◌&&◌, nat_lt}
+use Rattle.std.specs.Prelude.{◌==◌, if◌then◌else◌, Option, Some, None, fold}
 use Rattle.dcm_base.specs.declared.tag.Tag.{Tag}
 use Rattle.dcm_base.specs.declared.vr.Vr.{Vr}
 use Rattle.dcm_base.specs.declared.syntax.Syntax.{Syntax}
 use Rattle.dcm_base.specs.declared.fault.Fault.TheVariants.{EndsEarly, PassesEnd, TooLong}
 use Rattle.dcm_base.specs.declared.length.Length.{Length}
 use Rattle.dcm_base.specs.declared.length.Length.TheVariants.{Known, Undefined}
-use Rattle.dcm_base.specs.Number.{number}
-use Rattle.dcm_base.specs.Tag.{is_item}
-use Rattle.dcm_base.specs.Head.{tag_at, vr_at, length_at, long_length}
+use Rattle.dcm_base.specs.Tables.Number.{number}
+use Rattle.dcm_base.specs.Tables.Tag.{is_item}
+use Rattle.dcm_base.specs.Bytes.Head.{tag_at, vr_at, length_at, long_length}
 use Rattle.dcm_base.specs.declared.form.Form.{Form}
-use Rattle.dcm_base.specs.declared.form.Form.TheVariants.{Value as a_value, Sequence as a_sequence, FragmentList as a_fragment_list, Nothing as no_form}
-use Rattle.dcm_base.specs.Spelling.{form, inside}
+use Rattle.dcm_base.specs.declared.form.Form.TheVariants.{Value as a_value, Sequence as a_sequence}
+use Rattle.dcm_base.specs.declared.form.Form.TheVariants.{FragmentList as a_fragment_list, Nothing as no_form}
+use Rattle.dcm_base.specs.Bytes.Spelling.{form, inside}
 use Rattle.dcm_base.specs.declared.level.Container.{Container}
 use Rattle.dcm_base.specs.declared.level.Level.{Level}
-use Rattle.dcm_base.specs.declared.level.Container.TheVariants.{DataSet as the_data_set, Item as an_item, Sequence as sequence_container, FragmentList as fragment_container}
-use Rattle.dcm_base.specs.Place.{level, room, passes}
-use Rattle.dcm_base.specs.Atoms.{Atom, opens, value_byte, closes_leaf, opens_item, closes_item, closes_sequence, opens_fragment, ends}
-use Rattle.dcm_base.specs.Stop.{Stop, complete, refused, HeadBar, innermost_stop, is_empty, is_the_data_set, is_undecided}
-use Rattle.dcm_base.specs.Reads.{INPUT_LIMIT}
+use Rattle.dcm_base.specs.declared.level.Container.TheVariants.{DataSet as the_data_set, Item as an_item}
+use Rattle.dcm_base.specs.declared.level.Container.TheVariants.{Sequence as sequence_container}
+use Rattle.dcm_base.specs.declared.level.Container.TheVariants.{FragmentList as fragment_container}
+use Rattle.dcm_base.specs.Reading.Place.{level, room, passes}
+use Rattle.dcm_base.specs.Steps.Atoms.{Atom, opens, value_byte, closes_leaf, opens_item, closes_item, closes_sequence}
+use Rattle.dcm_base.specs.Steps.Atoms.{opens_fragment, ends}
+use Rattle.dcm_base.specs.Reading.Stop.{Stop, complete, refused, HeadBar, innermost_stop, is_empty, is_the_data_set}
+use Rattle.dcm_base.specs.Reading.Stop.{is_undecided}
+use Rattle.dcm_base.specs.Reading.Reads.{INPUT_LIMIT}
 
--- the offset up to which whole heads and values were read, the bytes of a head behind it, how many bytes of a value are to come, the open containers, the innermost first, and why it goes no further
+-- the offset up to which whole heads and values were read, the bytes of a head after it, how many bytes of a value are
+-- to come, the open containers, the innermost first, and why it goes no further
 pub record Reading : Type 0 where
   pub position : ℕ
   pub head : List ℕ
@@ -30,12 +37,18 @@ pub record Reading : Type 0 where
 
 -- nothing has been read of a data set that begins at this offset
 abbrev pub start_of : Syntax → (start : ℕ) → Reading
-start_of s start = record { position = start; head = []; left = 0; levels = level the_data_set s Undefined start ∷ []; halt = None }
+start_of s start = record {
+  position = start;
+  head = [];
+  left = 0;
+  levels = level the_data_set s Undefined start ∷ [];
+  halt = None;
+}
 
 abbrev pub halted : Reading → Stop → Reading
 halted r stop = record r { head = []; halt = Some stop }
 
--- what is open behind a head or a byte of a value, how many bytes of a value are to come, and the atoms
+-- what is open after a head or a byte of a value, how many bytes of a value are to come, and the atoms
 pub record Opened : Type 0 where
   pub levels : List Level
   pub left : ℕ
@@ -59,12 +72,15 @@ container_opens inner outer atom = record { levels = inner ∷ outer; left = 0; 
 -- what the head of an element opens, whose contents begin at this offset
 abbrev pub element_opens : Form → Syntax → Tag → Vr → Length → (begin : ℕ) → List Level → Opened
 element_opens a_value s tag vr declared begin around = value_opens around (opens tag vr declared s) (size_of declared)
-element_opens a_sequence s tag vr declared begin around = container_opens (level sequence_container (inside s vr) declared begin) around (opens tag vr declared s)
-element_opens a_fragment_list s tag vr declared begin around = container_opens (level fragment_container s Undefined begin) around (opens tag vr declared s)
+element_opens a_sequence s tag vr declared begin around =
+    container_opens (level sequence_container (inside s vr) declared begin) around (opens tag vr declared s)
+element_opens a_fragment_list s tag vr declared begin around =
+    container_opens (level fragment_container s Undefined begin) around (opens tag vr declared s)
 element_opens no_form s tag vr declared begin around = record { levels = around; left = 0; atoms = [] }
 
 abbrev pub item_opens : Container → Syntax → Length → (begin : ℕ) → List Level → Opened
-item_opens fragment_container s declared begin around = value_opens around (opens_fragment (size_of declared)) (size_of declared)
+item_opens fragment_container s declared begin around =
+    value_opens around (opens_fragment (size_of declared)) (size_of declared)
 item_opens _ s declared begin around = container_opens (level an_item s declared begin) around (opens_item declared)
 
 -- the atom that closes a container
@@ -75,7 +91,8 @@ closes _ = closes_sequence
 -- an element whose representation is known
 abbrev pub plain_opens : Option Vr → Syntax → (begin : ℕ) → List ℕ → List Level → Opened
 plain_opens None s begin head around = record { levels = around; left = 0; atoms = [] }
-plain_opens (Some vr) s begin head around = element_opens (form s vr (length_at s vr head)) s (tag_at s head) vr (length_at s vr head) begin around
+plain_opens (Some vr) s begin head around = element_opens (form s vr (length_at s vr head)) s (tag_at s head) vr
+    (length_at s vr head) begin around
 
 -- what a whole head opens or closes: a delimiter closes the innermost container
 abbrev pub head_opens : (begin : ℕ) → List ℕ → List Level → Opened
@@ -83,7 +100,8 @@ head_opens begin head [] = record { levels = []; left = 0; atoms = [] }
 head_opens begin head (inner ∷ outer) =
     let tag = tag_at inner.syntax head in
     if tag.group == 0xFFFE
-    then (if is_item tag then item_opens inner.container inner.syntax (long_length (number inner.syntax 4 (drop 4 head))) begin (inner ∷ outer)
+    then (if is_item tag then item_opens inner.container inner.syntax
+    (long_length (number inner.syntax 4 (drop 4 head))) begin (inner ∷ outer)
     else record { levels = outer; left = 0; atoms = closes inner.container ∷ [] })
     else plain_opens (vr_at inner.syntax head) inner.syntax begin head (inner ∷ outer)
 
@@ -95,19 +113,23 @@ ends_at position (Some end) = end == position
 unfoldable pub full_closed : (position : ℕ) → List Level → List Level × List Atom
 full_closed position [] = ([], [])
 full_closed position (inner ∷ outer) =
-    if ends_at position inner.end_offset then ((full_closed position outer).0, closes inner.container ∷ (full_closed position outer).1)
+    if ends_at position inner.end_offset
+    then ((full_closed position outer).0, closes inner.container ∷ (full_closed position outer).1)
     else (inner ∷ outer, [])
 
 -- no head fits into the room that is left
 abbrev pub room_stop : (position : ℕ) → List Level → Option Stop
 room_stop position levels = if passes 8 (room position levels) then Some (refused PassesEnd position) else None
 
--- behind a head or a byte of a value: containers close where no byte of a value is to come
+-- after a head or a byte of a value: containers close where no byte of a value is to come
 abbrev pub settled : (position : ℕ) → Opened → (left : ℕ) → Reading × List Atom
 settled position o zero =
-    let closed = full_closed position o.levels in
-    (record { position = position; head = []; left = 0; levels = closed.0; halt = room_stop position closed.0 }, o.atoms ++ closed.1)
-settled position o (suc left) = (record { position = position; head = []; left = suc left; levels = o.levels; halt = None }, o.atoms)
+    let closed = full_closed position o.levels in (
+      record { position = position; head = []; left = 0; levels = closed.0; halt = room_stop position closed.0 },
+      o.atoms ++ closed.1,
+    )
+settled position o (suc left) =
+    (record { position = position; head = []; left = suc left; levels = o.levels; halt = None }, o.atoms)
 
 abbrev pub head_read : Reading → List ℕ → Option Stop → Reading × List Atom
 head_read r head None =
@@ -120,8 +142,10 @@ head_read r head (Some stop) = if is_undecided (Some stop) then (record r { head
 abbrev pub byte_read : HeadBar → Reading → ℕ → Option Stop → (within : Bool) → (left : ℕ) → Reading × List Atom
 byte_read bar r b (Some stop) within left = (r, [])
 byte_read bar r b None false left = (halted r (refused TooLong INPUT_LIMIT), [])
-byte_read bar r b None true (suc left) = settled (r.position + 1) (record { levels = r.levels; left = left; atoms = value_byte b ∷ closing left }) left
-byte_read bar r b None true zero = head_read r (r.head ++ b ∷ []) (innermost_stop bar r.levels r.position (r.head ++ b ∷ []))
+byte_read bar r b None true (suc left) =
+    settled (r.position + 1) (record { levels = r.levels; left = left; atoms = value_byte b ∷ closing left }) left
+byte_read bar r b None true zero =
+    head_read r (r.head ++ b ∷ []) (innermost_stop bar r.levels r.position (r.head ++ b ∷ []))
 
 -- what a byte leads to, and the atoms that it shows
 unfoldable pub read_byte : HeadBar → Reading → ℕ → Reading × List Atom
@@ -134,7 +158,8 @@ is_top (inner ∷ outer) = is_the_data_set inner.container
 -- the input ends
 abbrev pub stop_at_end : Option Stop → Reading → Stop
 stop_at_end (Some stop) r = stop
-stop_at_end None r = if (r.left == 0) && is_top r.levels && is_empty r.head then complete else refused EndsEarly (r.position + length r.head)
+stop_at_end None r = if (r.left == 0) && is_top r.levels && is_empty r.head then complete
+    else refused EndsEarly (r.position + length r.head)
 
 unfoldable pub finish : Reading → Stop
 finish r = stop_at_end r.halt r

@@ -1,6 +1,7 @@
 -- What is open of an element or item that is left out.
 use Rattle.std.specs.Prelude.{ℕ, zero, suc, min, Bool, true, false, if◌then◌else◌}
-use Rattle.dcm_base.specs.Atoms.{Atom, opens, value_byte, closes_leaf, opens_item, closes_item, closes_sequence, opens_fragment, ends}
+use Rattle.dcm_base.specs.Steps.Atoms.{Atom, opens, value_byte, closes_leaf, opens_item, closes_item, closes_sequence}
+use Rattle.dcm_base.specs.Steps.Atoms.{opens_fragment, ends}
 use Rattle.dcm_stream.specs.declared.skip.Skip.{Skip}
 
 -- how many elements, items and fragments of it are open, with itself: none, where nothing is left out

@@ -1,12 +1,14 @@
 -- Tokens as atoms, in which cuts of values are not seen.
 use Rattle.std.specs.Prelude.{◌≡◌, ℕ, ◌<◌, length, List, [], ◌∷◌, ◌++◌, map, Option, None, Some, Result, Ok, Err, ⊤}
-use Rattle.dcm_base.specs.Atoms.{Atom, opens, value_byte, closes_leaf, opens_item, closes_item, closes_sequence, opens_fragment, ends}
+use Rattle.dcm_base.specs.Steps.Atoms.{Atom, opens, value_byte, closes_leaf, opens_item, closes_item, closes_sequence}
+use Rattle.dcm_base.specs.Steps.Atoms.{opens_fragment, ends}
 use Rattle.dcm_base.specs.declared.length.Length.TheVariants.{Known}
-use Rattle.dcm_base.specs.Syntax.{Little}
+use Rattle.dcm_base.specs.Tables.Syntax.{Little}
 use Rattle.dcm_base.specs.declared.tag.Tag.{Tag}
 use Rattle.dcm_base.specs.declared.vr.Vr.{Vr}
 use Rattle.dcm_stream.specs.declared.token.Token.{Token}
-use Rattle.dcm_stream.specs.declared.token.Token.TheVariants.{Open, Bytes, CloseLeaf, OpenItem, CloseItem, CloseSeq, OpenFragment, End}
+use Rattle.dcm_stream.specs.declared.token.Token.TheVariants.{Open, Bytes, CloseLeaf, OpenItem, CloseItem, CloseSeq}
+use Rattle.dcm_stream.specs.declared.token.Token.TheVariants.{OpenFragment, End}
 use Rattle.dcm_stream.specs.declared.token.Bar.{Bar}
 
 -- one atom for each token, and one for each byte of a value
@@ -27,7 +29,7 @@ leaf_atoms tag vr value = opens tag vr (Known (length value)) Little ∷ (map va
 abbrev pub fragment_atoms : List ℕ → List Atom
 fragment_atoms value = opens_fragment (length value) ∷ (map value_byte value ++ closes_leaf ∷ [])
 
--- what is handed on as bytes of a value is at least one byte
+-- bytes of a value in a token are at least one byte
 abbrev pub IsFilled : Token → Type 0
 IsFilled (Open head syntax) = ⊤
 IsFilled (Bytes bytes) = 0 < length bytes.now

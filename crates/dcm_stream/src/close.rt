@@ -32,16 +32,14 @@ fn full_container(levels: &OpenLevels, position: u64) -> Option<Container>
     }
 }
 
-/// Closes the containers that are full at this offset, the innermost first.
+/// Closes the containers that are full at this offset, the innermost first. Fails where the sink's writer fails.
 pub fn close_full<S: Sink>(
     levels: &mut OpenLevels,
     position: u64,
     sink: &mut S,
 ) -> Result<(), WriteFailed>
     ensures levels { OnOk result (levels.new ≡ (full_closed position levels.old).0) }
-    ensures goes { sinks.Takes S.Sink sink.old sink.new (full_closed position levels.old).1 result }
-    ensures failed { sinks.Tells S.Sink sink.old sink.new result }
-    ensures kept { sinks.Keeps S.Sink sink.old sink.new }
+    ensures took { sinks.Took S.Sink sink.old sink.new (full_closed position levels.old).1 result }
 {
     while let Some(container) = full_container(levels, position) {
         sink.take(closing_token(container))?;

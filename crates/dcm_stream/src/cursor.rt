@@ -1,10 +1,10 @@
-// Where the reading of a data set stands (PS3.5 7).
+// How far the reading of a data set has come (PS3.5 7).
 ghost use Rattle.std.specs.Prelude.{◌≡◌, ◌+◌, ◌-◌, ◌^◌, ◌<◌, ◌≤◌, [], ◌∷◌, ◌++◌, None, length, IfOk};
 ghost use Rattle.dcm_stream.specs.Judging.{opened_by};
 ghost use Rattle.dcm_stream.specs.Reading as steps;
 ghost use Rattle.dcm_stream.specs.Machine as spec;
 ghost use Rattle.dcm_stream.specs.Sinks as sinks;
-ghost use Rattle.dcm_base.specs.Place as places;
+ghost use Rattle.dcm_base.specs.Reading.Place as places;
 
 use super::close::close_full;
 use super::judge::{Judged, Opening, judge, opening_token, syntax_inside};
@@ -15,8 +15,8 @@ use arrayvec::ArrayVec;
 use dcm_base::{Container, Fault, Length, Stop, Syntax};
 use dcm_head::{LONG_HEAD, SHORT_HEAD};
 
-/// The offset up to which heads and values were read whole, the bytes of a head behind it, the bytes of a value that are
-/// to come, and the open containers.
+/// The offset up to which heads and values were read whole, the bytes of a head after it, the bytes of a value that
+/// are to come, and the open containers.
 #[derive(Drop)]
 pub struct Cursor {
     pub position: u64,
@@ -51,9 +51,7 @@ impl Cursor {
     fn settle<S: Sink>(&mut self, sink: &mut S) -> Result<(), Halt>
         requires head { self.old.head.items ≡ [] }
         requires left { self.old.left ≡ 0 }
-        ensures comes { sinks.Comes S.Sink sink.old sink.new (spec.reading self.new) (spec.settles self.old) result }
-        ensures failed { sinks.TellsHalt S.Sink sink.old sink.new result }
-        ensures kept { sinks.Keeps S.Sink sink.old sink.new }
+        ensures { sinks.Came S.Sink sink.old sink.new (spec.reading self.new) (spec.settles self.old) result }
     {
         close_full(&mut self.levels, self.position, sink)?;
         if passes(SHORT_HEAD as u64, self.levels.room(self.position)) {
@@ -66,9 +64,8 @@ impl Cursor {
     #[inline(always)]
     fn settle_value<S: Sink>(&mut self, sink: &mut S) -> Result<(), Halt>
         requires head { self.old.head.items ≡ [] }
-        ensures comes { sinks.Comes S.Sink sink.old sink.new (spec.reading self.new) (spec.settles_value self.old) result }
-        ensures failed { sinks.TellsHalt S.Sink sink.old sink.new result }
-        ensures kept { sinks.Keeps S.Sink sink.old sink.new }
+        ensures { sinks.Came S.Sink sink.old sink.new (spec.reading self.new)
+            (spec.settles_value self.old) result }
     {
         if self.left > 0 {
             return Ok(());
@@ -77,16 +74,15 @@ impl Cursor {
         self.settle(sink)
     }
 
-    /// Goes over bytes of the open value.
+    /// Reads bytes of the open value.
     #[inline(always)]
     fn read_value<S: Sink>(&mut self, value: &[u8], sink: &mut S) -> Result<(), Halt>
         requires head { self.old.head.items ≡ [] }
         requires some { 0 < length value.now }
         requires fits { length value.now ≤ self.old.left }
         requires within { self.old.position + length value.now ≤ 2 ^ 62 }
-        ensures comes { sinks.Comes S.Sink sink.old sink.new (spec.reading self.new) (spec.reads_value self.old value.now) result }
-        ensures failed { sinks.TellsHalt S.Sink sink.old sink.new result }
-        ensures kept { sinks.Keeps S.Sink sink.old sink.new }
+        ensures { sinks.Came S.Sink sink.old sink.new (spec.reading self.new)
+            (spec.reads_value self.old value.now) result }
     {
         sink.take(Token::Bytes(value))?;
         self.position += value.len() as u64;
@@ -98,7 +94,10 @@ impl Cursor {
     fn open(&mut self, container: Container, syntax: Syntax, declared: Length)
         requires within { self.old.position ≤ 2 ^ 62 }
         requires few { length self.old.levels < 129 }
-        ensures { self.new ≡ record self.old { levels = places.level container syntax declared self.old.position ∷ self.old.levels } }
+        ensures { self.new ≡ record self.old {
+          levels =
+              places.level container syntax declared self.old.position ∷ self.old.levels;
+        } }
     {
         self.levels
             .push(level_at(container, syntax, declared, self.position));
@@ -111,9 +110,8 @@ impl Cursor {
         requires left { self.old.left ≡ 0 }
         requires within { self.old.position ≤ 2 ^ 62 }
         requires few { length (opened_by self.old.position self.old.levels opening).levels ≤ 129 }
-        ensures comes { sinks.Comes S.Sink sink.old sink.new (spec.reading self.new) (spec.enters self.old opening) result }
-        ensures failed { sinks.TellsHalt S.Sink sink.old sink.new result }
-        ensures kept { sinks.Keeps S.Sink sink.old sink.new }
+        ensures { sinks.Came S.Sink sink.old sink.new (spec.reading self.new)
+            (spec.enters self.old opening) result }
     {
         sink.take(opening_token(opening))?;
         match opening {
@@ -134,24 +132,24 @@ impl Cursor {
         self.settle(sink)
     }
 
-    /// Goes over bytes that end no head, and holds them.
+    /// Reads bytes that end no head, and holds them.
     fn read_head_bytes(&mut self, bytes: &[u8])
         requires { length self.old.head.items + length bytes.now ≤ 12 }
-        ensures { spec.reading self.new None ≡ record (spec.reading self.old None) { head = self.old.head.items ++ bytes.now } }
+        ensures { spec.reading self.new None
+            ≡ record (spec.reading self.old None) { head = self.old.head.items ++ bytes.now } }
     {
         let _ = self.head.try_extend_from_slice(bytes);
     }
 
-    /// Goes over a byte that may end a head.
+    /// Reads a byte that may end a head.
     #[inline(never)]
     fn read_head_byte<S: Sink>(&mut self, byte: u8, sink: &mut S) -> Result<(), Halt>
         requires stands { spec.Stands (spec.reading self.old None) }
         requires left { self.old.left ≡ 0 }
         requires long { 7 ≤ length self.old.head.items }
         requires within { self.old.position + length self.old.head.items < 2 ^ 62 }
-        ensures feeds { sinks.Feeds S.Sink sink.old sink.new (spec.reading self.old None) (spec.reading self.new) (byte ∷ []) result }
-        ensures failed { sinks.TellsHalt S.Sink sink.old sink.new result }
-        ensures kept { sinks.Keeps S.Sink sink.old sink.new }
+        ensures { sinks.Fed S.Sink sink.old sink.new (spec.reading self.old None) (spec.reading self.new)
+            (byte ∷ []) result }
     {
         let Some(inner) = self.levels.innermost() else {
             unreachable!()
@@ -177,7 +175,7 @@ impl Cursor {
         }
     }
 
-    /// Goes over the head that the bytes begin with, or over all of them where that is not whole.
+    /// Reads the head that the bytes begin with, or all of them where that is not whole.
     #[inline(always)]
     fn read_head<S: Sink>(&mut self, bytes: &[u8], sink: &mut S) -> Result<usize, Halt>
         requires stands { spec.Stands (spec.reading self.old None) }
@@ -186,9 +184,7 @@ impl Cursor {
         requires eight { 8 ≤ length bytes.now }
         requires within { self.old.position + length bytes.now ≤ 2 ^ 62 }
         ensures some { IfOk result (λ n. (0 < n) × (n ≤ length bytes.now)) }
-        ensures feeds { sinks.FeedsPiece S.Sink sink.old sink.new self.old self.new bytes.now result }
-        ensures failed { sinks.TellsHalt S.Sink sink.old sink.new result }
-        ensures kept { sinks.Keeps S.Sink sink.old sink.new }
+        ensures fed { sinks.FedPiece S.Sink sink.old sink.new self.old self.new bytes.now result }
     {
         let Some(inner) = self.levels.innermost() else {
             unreachable!()
@@ -207,14 +203,13 @@ impl Cursor {
         }
     }
 
-    /// Goes over a beginning of the bytes, and tells how many.
+    /// Reads a beginning of the bytes, and answers how many. Fails where the data set is refused or the sink's writer
+    /// fails.
     pub fn read_some<S: Sink>(&mut self, piece: &[u8], sink: &mut S) -> Result<usize, Halt>
         requires some { 0 < length piece.now }
         requires stands { spec.Stands (spec.reading self.old None) }
         ensures some { IfOk result (λ n. (0 < n) × (n ≤ length piece.now)) }
-        ensures feeds { sinks.FeedsPiece S.Sink sink.old sink.new self.old self.new piece.now result }
-        ensures failed { sinks.TellsHalt S.Sink sink.old sink.new result }
-        ensures kept { sinks.Keeps S.Sink sink.old sink.new }
+        ensures fed { sinks.FedPiece S.Sink sink.old sink.new self.old self.new piece.now result }
     {
         let read = self.position + self.head.len() as u64;
         if read >= INPUT_LIMIT {
@@ -242,20 +237,18 @@ impl Cursor {
         Ok(1)
     }
 
-    /// Whether the data set may end here: it alone is open, and no byte of a head stands behind it.
+    /// Whether the data set may end here: it alone is open, and no byte of a head comes after it.
     fn may_end(&self) -> bool
         ensures { result ≡ spec.may_end self.now }
     {
         self.left == 0 && self.levels.is_top() && self.head.is_empty()
     }
 
-    /// The input ends here: the data set is closed where it may end.
+    /// The input ends here: the data set is closed where it may end, and refused elsewhere. Fails where the sink's
+    /// writer fails, too.
     pub fn end<S: Sink>(&self, sink: &mut S) -> Result<(), Halt>
         requires { spec.Stands (spec.reading self.now None) }
-        ensures answer { spec.EndsWith (steps.finish (spec.reading self.now None)) result }
-        ensures goes { sinks.Takes S.Sink sink.old sink.new (steps.end_shows (steps.finish (spec.reading self.now None))) (spec.went result) }
-        ensures failed { sinks.TellsHalt S.Sink sink.old sink.new result }
-        ensures kept { sinks.Keeps S.Sink sink.old sink.new }
+        ensures { sinks.Ended S.Sink sink.old sink.new (steps.finish (spec.reading self.now None)) result }
     {
         if !self.may_end() {
             let end = self.position + self.head.len() as u64;

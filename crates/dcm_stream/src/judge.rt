@@ -2,8 +2,8 @@
 ghost use Rattle.std.specs.Prelude.{◌≡◌, ◌+◌, ◌^◌, ◌≤◌, ◌∷◌, [], length, false};
 ghost use Rattle.dcm_stream.specs.Places.{innermost};
 ghost use Rattle.dcm_stream.specs.Tokens.{IsFilled, atoms_of};
-ghost use Rattle.dcm_base.specs.Place as place;
-ghost use Rattle.dcm_base.specs.Spelling as spelling;
+ghost use Rattle.dcm_base.specs.Reading.Place as place;
+ghost use Rattle.dcm_base.specs.Bytes.Spelling as spelling;
 ghost use Rattle.dcm_stream.specs.Judging as spec;
 
 use super::close::closing_token;
@@ -62,7 +62,7 @@ pub fn opening_token(opening: Opening) -> Token<'static>
 
 /// The syntax of what an element holds: UN of undefined length holds implicit heads, read by the same dictionary
 /// (PS3.5 6.2.2).
-#[tactic(auto, unfolding(dcm_base::specs::Spelling::inside))]
+#[tactic(auto, unfolding(dcm_base::specs::Bytes::Spelling::inside))]
 pub fn syntax_inside(syntax: Syntax, vr: Vr) -> Syntax
     ensures { result ≡ spelling.inside syntax vr }
 {

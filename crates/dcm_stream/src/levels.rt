@@ -1,7 +1,7 @@
 // The open containers, and what may come in them.
 ghost use Rattle.std.specs.Prelude.{◌≡◌, ◌+◌, ◌^◌, ◌<◌, ◌≤◌, [], ◌∷◌, drop, length};
-ghost use Rattle.dcm_base.specs.Place as spec;
-ghost use Rattle.dcm_base.specs.Stop as stops;
+ghost use Rattle.dcm_base.specs.Reading.Place as spec;
+ghost use Rattle.dcm_base.specs.Reading.Stop as stops;
 ghost use Rattle.dcm_stream.specs.Levels.{nearest_end};
 ghost use Rattle.dcm_stream.specs.Places.{innermost};
 ghost use Rattle.dcm_stream.specs.Reading as reading;
@@ -41,7 +41,7 @@ impl Model for OpenLevels {
     ghost invariant = { λ o. AreSummed (reverse o.outermost_first.items) };
 }
 
-/// Whether an element of a data set has this tag. Those of the meta group stand in none (PS3.10 7.1).
+/// Whether an element of a data set has this tag. Those of the meta group are in none (PS3.10 7.1).
 fn is_data(tag: Tag) -> bool
     ensures { result ≡ spec.is_data tag }
 {
@@ -49,7 +49,7 @@ fn is_data(tag: Tag) -> bool
 }
 
 /// Whether a head of this tag may come in a container (PS3.5 7.5).
-#[tactic(auto, unfolding(dcm_base::specs::Place::is_allowed))]
+#[tactic(auto, unfolding(dcm_base::specs::Reading::Place::is_allowed))]
 pub fn is_allowed(container: Container, declared: Length, tag: Tag) -> bool
     ensures { result ≡ spec.is_allowed container declared tag }
 {
@@ -179,7 +179,7 @@ impl OpenLevels {
     }
 
     /// How many sequences and fragment lists are open.
-    #[tactic(auto, unfolding(dcm_base::specs::Place::depth))]
+    #[tactic(auto, unfolding(dcm_base::specs::Reading::Place::depth))]
     pub fn depth(&self) -> usize
         ensures { result ≡ spec.depth self.now }
     {

@@ -9,7 +9,7 @@ use super::cursor::Cursor;
 use dcm_base::{Coding, Stop, WriteFailed};
 use std::marker::Model;
 
-/// No more than so many bytes of an input are read.
+/// The most bytes of an input that are read. A longer one is refused as too long.
 pub const INPUT_LIMIT: u64 = 1 << 62;
 
 /// Why a machine goes no further.
@@ -31,8 +31,8 @@ impl From<WriteFailed> for Halt {
     }
 }
 
-/// Reads a data set in pieces, and hands each token to a sink as soon as it is sure. It holds at most 11 bytes of a head
-/// and at most 129 open containers, and no byte of a value.
+/// Reads a data set in pieces, and gives a sink each token as soon as it is sure. It holds at most 11 bytes of a
+/// head and at most 129 open containers, and no byte of a value.
 #[derive(Drop)]
 pub struct Machine {
     cursor: Cursor,
@@ -62,16 +62,16 @@ impl Machine {
         }
     }
 
-    /// Goes over the next bytes of the data set. After a halt each call answers the same halt.
+    /// Reads the next bytes of the data set. Fails where they are refused, with the fault and its offset in the input,
+    /// and where the sink's writer fails. After a halt each call answers the same halt.
     pub fn feed<S: Sink>(&mut self, piece: &[u8], sink: &mut S) -> Result<(), Halt>
-        ensures goes { self.old.failed ≡ false → sinks.GoesOver S.Sink sink.old sink.new self.old self.new piece.now }
+        ensures advanced { sinks.Advanced S.Sink sink.old sink.new self.old self.new piece.now }
         ensures answer { result ≡ spec.answer self.new.reading.halt self.new.failed }
         ensures going { OnOk result (spec.is_halted self.new ≡ false) }
         ensures halted { spec.is_halted self.old ≡ true → (self.new ≡ self.old) × (sink.new ≡ sink.old) }
-        ensures failed { spec.is_halted self.old ≡ false → sinks.TellsFailed S.Sink sink.old sink.new self.new.failed }
-        ensures kept { sinks.Keeps S.Sink sink.old sink.new }
-        // While nothing halts it, it goes over each byte, and over no more than the limit.
-        ensures place { spec.is_halted self.new ≡ false → spec.next_offset self.new.reading ≡ spec.next_offset self.old.reading + length piece.now }
+        // While nothing halts it, it reads each byte, and no more than the limit.
+        ensures place { spec.is_halted self.new ≡ false → spec.next_offset self.new.reading
+            ≡ spec.next_offset self.old.reading + length piece.now }
         ensures within { spec.is_halted self.new ≡ false → spec.next_offset self.new.reading ≤ 2 ^ 62 }
     {
         let mut rest = piece;
@@ -90,14 +90,13 @@ impl Machine {
         answer(self.halt)
     }
 
-    /// The input ends. Where that is no fault, the data set is closed.
+    /// The input ends. Where that is no fault, the data set is closed. Fails as `feed` does.
     pub fn finish<S: Sink>(&mut self, sink: &mut S) -> Result<(), Halt>
-        ensures goes { self.old.failed ≡ false → sinks.Takes S.Sink sink.old sink.new (spec.shows_end self.old) (spec.well self.new.failed) }
+        ensures finished { sinks.Finished S.Sink sink.old sink.new self.old self.new }
         ensures answer { result ≡ spec.answer self.new.reading.halt self.new.failed }
-        ensures reading { self.old.failed ≡ false → self.new.reading ≡ spec.ended (steps.finish self.old.reading) self.old.reading }
+        ensures reading { self.old.failed ≡ false
+            → self.new.reading ≡ spec.ended (steps.finish self.old.reading) self.old.reading }
         ensures halted { spec.is_halted self.old ≡ true → (self.new ≡ self.old) × (sink.new ≡ sink.old) }
-        ensures failed { spec.is_halted self.old ≡ false → sinks.TellsFailed S.Sink sink.old sink.new self.new.failed }
-        ensures kept { sinks.Keeps S.Sink sink.old sink.new }
     {
         if self.halt.is_none() {
             self.halt = self.cursor.end(sink).err();

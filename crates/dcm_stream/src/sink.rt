@@ -1,10 +1,10 @@
 // What takes tokens.
 ghost use Rattle.std.specs.Prelude.{◌≡◌, ℕ, Bool, List, Option, OnOk, fold};
 ghost use Rattle.dcm_devices.specs.Device.{Puts, Tells};
-ghost use Rattle.dcm_base.specs.Atoms.{Atom};
+ghost use Rattle.dcm_base.specs.Steps.Atoms.{Atom};
 ghost use Rattle.dcm_stream.specs.declared.token.Bar.{Bar};
 ghost use Rattle.dcm_head.specs.declared.head.Head.{Head};
-ghost use Rattle.dcm_base.specs.Steps.{outputs};
+ghost use Rattle.dcm_base.specs.Steps.Steps.{outputs};
 ghost use Rattle.dcm_stream.specs.Tokens.{atoms_of, Bars, IsFilled};
 
 use super::{Bar, Token};
@@ -18,7 +18,7 @@ pub trait Sink {
 
     ghost state: { Self → State };
 
-    /// The state behind an atom.
+    /// The state after an atom.
     ghost step: { State → Atom → State };
 
     /// The bytes that an atom makes it write.
@@ -27,7 +27,7 @@ pub trait Sink {
     /// Why it refuses a head, where it does.
     ghost bar: { State → Head → Option Bar };
 
-    /// What its writer holds, where that is told.
+    /// What its writer holds, where that is known.
     ghost contents: { Self → Option (List ℕ) };
 
     /// Whether its writer has failed.
@@ -38,12 +38,13 @@ pub trait Sink {
 
     ghost kept: { Self → Kept };
 
-    /// Takes a token. No sink is handed empty `Bytes`: a value without bytes is opened and closed. An `Err` is a writer that
-    /// failed in this call.
+    /// Takes a token. No sink is given empty `Bytes`: a value without bytes is opened and closed. An `Err` is a
+    /// writer that failed in this call.
     fn take(&mut self, token: Token) -> Result<(), WriteFailed>
         requires { IsFilled token }
         ensures state { OnOk result (state self.new ≡ fold step (state self.old) (atoms_of token.entry)) }
-        ensures bytes { Puts (contents self.old) (contents self.new) (outputs step writes (state self.old) (atoms_of token.entry)) result }
+        ensures bytes { Puts (contents self.old) (contents self.new)
+            (outputs step writes (state self.old) (atoms_of token.entry)) result }
         ensures failed { Tells (has_failed self.old) (has_failed self.new) result }
         ensures kept { kept self.new ≡ kept self.old };
 

@@ -5,8 +5,8 @@ ghost use Rattle.dcm_stream.specs.Tokens.{atoms_of};
 
 use super::Token;
 
-/// What is open of an element or item that is left out: nothing, or itself and what is open within it. It begins at a head
-/// that is left out, and ends with the end that belongs to that head.
+/// What is open of an element or item that is left out: nothing, or itself and what is open within it. It begins at a
+/// head that is left out, and ends with the end that belongs to that head.
 #[derive(Clone, Copy, Debug, PartialEq, Eq)]
 pub struct Skip {
     depth: u32,
@@ -43,7 +43,7 @@ impl Skip {
         self.depth = self.depth.saturating_sub(1);
     }
 
-    /// Goes over a token, at which nothing begins to be left out.
+    /// Reads a token, at which nothing begins to be left out.
     #[tactic(auto, using(crate::proofs::Runs::Skipped::bytes_change_nothing))]
     pub fn pass(&mut self, token: Token)
         ensures { spec.depth self.new ≡ fold spec.after (spec.depth self.old) (atoms_of token.entry) }

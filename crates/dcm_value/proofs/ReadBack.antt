@@ -1,6 +1,5 @@
 -- A value from the text that shows it.
 pub mod DigitTable
-pub mod DigitSteps
 pub mod Parts
 pub mod Texts
 pub mod Units

@@ -1,12 +1,13 @@
 -- A display that is shown piece by piece, and padded to 40 bytes.
-use Rattle.std.specs.Prelude.{ℕ, ◌+◌, ◌-◌, min, nat_lt, Bool, true, false, ◌&&◌, if◌then◌else◌, List, [], ◌++◌, length, take, replicate, codes}
+use Rattle.std.specs.Prelude.{ℕ, ◌+◌, ◌-◌, min, nat_lt, Bool, true, false, ◌&&◌, if◌then◌else◌, List, [], ◌++◌, length}
+use Rattle.std.specs.Prelude.{take, replicate, codes}
 use Rattle.dcm_base.specs.declared.mode.Mode.{Mode}
 use Rattle.dcm_base.specs.declared.mode.Mode.TheVariants.{Short, Full}
-use Rattle.dcm_base.specs.ValueText.{padded}
+use Rattle.dcm_base.specs.Dump.ValueText.{padded}
 
 pub record Display : Type 0 where
   pub mode : Mode
-  -- how many bytes were shown, where 67 stands for more too
+  -- how many bytes were shown, where 67 is more too
   pub shown : ℕ
   -- in Short the first 66
   pub front : List ℕ
@@ -33,7 +34,11 @@ is_cut d = is_short d.mode && nat_lt 66 d.shown
 
 -- these bytes are shown next
 unfoldable pub emit : Display → List ℕ → Display
-emit d bytes = record { mode = d.mode; shown = min 67 (d.shown + length bytes); front = front_after d.mode d.front bytes }
+emit d bytes = record {
+  mode = d.mode;
+  shown = min 67 (d.shown + length bytes);
+  front = front_after d.mode d.front bytes;
+}
 
 -- what is written at once of bytes that are shown
 abbrev pub at_once : Mode → List ℕ → List ℕ

@@ -9,3 +9,4 @@ pub mod ValueText
 pub mod Laws
 pub mod Parts
 pub mod Taking
+pub mod Emits

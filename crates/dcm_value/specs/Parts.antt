@@ -1,6 +1,6 @@
 -- The bytes of one part of a text.
 use Rattle.std.specs.Prelude.{ℕ, List, Option}
-use Rattle.dcm_base.specs.ReadValue.{unsigned_value, signed_value, tag_value, hex_value}
+use Rattle.dcm_base.specs.Lines.ReadValue.{unsigned_value, signed_value, tag_value, hex_value}
 use Rattle.dcm_value.specs.declared.units.Kind.{Kind}
 use Rattle.dcm_value.specs.declared.units.Kind.TheVariants.{Unsigned, Signed, Tags, Hexadecimal}
 

@@ -1,12 +1,13 @@
 -- A value that is shown byte by byte.
-use Rattle.std.specs.Prelude.{ℕ, ◌+◌, ◌/◌, ◌%◌, ◌==◌, ◌&&◌, nat_lt, Bool, true, false, if◌then◌else◌, List, [], ◌∷◌, ◌++◌, length, codes, count_by}
+use Rattle.std.specs.Prelude.{ℕ, ◌+◌, ◌/◌, ◌%◌, ◌==◌, ◌&&◌, nat_lt, Bool, true, false, if◌then◌else◌, List, [], ◌∷◌}
+use Rattle.std.specs.Prelude.{◌++◌, length, codes, count_by}
 use Rattle.dcm_base.specs.declared.vr.Vr.{Vr}
 use Rattle.dcm_base.specs.declared.syntax.Syntax.{Syntax}
 use Rattle.dcm_base.specs.declared.mode.Mode.{Mode}
-use Rattle.dcm_base.specs.Representation.{pad}
-use Rattle.dcm_base.specs.Value.{units, order}
-use Rattle.dcm_base.specs.Steps.{outputs}
-use Rattle.dcm_base.specs.ValueText.{shape, shown_unit, is_single, escape, unit_text, unpadded, identified}
+use Rattle.dcm_base.specs.Tables.Representation.{pad}
+use Rattle.dcm_base.specs.Tree.Value.{units, order}
+use Rattle.dcm_base.specs.Steps.Steps.{outputs}
+use Rattle.dcm_base.specs.Dump.ValueText.{shape, shown_unit, is_single, escape, unit_text, unpadded, identified}
 use Rattle.dcm_value.specs.declared.way.Way.{Way}
 use Rattle.dcm_value.specs.declared.way.Way.TheVariants.{InBrackets, ByName, InUnits}
 use Rattle.dcm_value.specs.Way.{way_of}
@@ -25,7 +26,15 @@ pub record Progress : Type 0 where
   pub display : Display
 
 abbrev pub started : Vr → Syntax → ℕ → Mode → Progress
-started vr syntax size mode = record { vr = vr; syntax = syntax; size = size; seen = 0; held = []; values = 0; display = blank mode }
+started vr syntax size mode = record {
+  vr = vr;
+  syntax = syntax;
+  size = size;
+  seen = 0;
+  held = [];
+  values = 0;
+  display = blank mode;
+}
 
 abbrev pub way : Progress → Way
 way p = way_of (shape p.vr) p.size
@@ -59,12 +68,13 @@ separator values = if values == 0 then [] else codes "\\"
 abbrev pub adds_as : Way → Progress → ℕ → List ℕ
 adds_as InBrackets p b = if is_pad_byte p b then [] else escape b
 adds_as ByName p b = []
-adds_as InUnits p b = if is_whole p b then separator p.values ++ unit_text (shape p.vr) (order p.syntax p.vr (p.held ++ b ∷ [])) else []
+adds_as InUnits p b = if is_whole p b then separator p.values
+    ++ unit_text (shape p.vr) (order p.syntax p.vr (p.held ++ b ∷ [])) else []
 
 abbrev pub adds : Progress → ℕ → List ℕ
 adds p b = adds_as (way p) p b
 
--- the bytes that wait behind it
+-- the bytes that wait after it
 abbrev pub held_as : Way → Progress → ℕ → List ℕ
 held_as InBrackets p b = p.held
 held_as ByName p b = p.held ++ b ∷ []
@@ -76,9 +86,14 @@ counts_as InBrackets p b = if b == 92 then 1 else 0
 counts_as ByName p b = 0
 counts_as InUnits p b = if is_whole p b then 1 else 0
 
--- behind n bytes, of which these wait, and that many units or backslashes, with this text shown
+-- after n bytes, of which these wait, and that many units or backslashes, with this text shown
 abbrev pub further : Progress → ℕ → List ℕ → ℕ → List ℕ → Progress
-further p n held values bytes = record p { seen = p.seen + n; held = held; values = p.values + values; display = emit p.display bytes }
+further p n held values bytes = record p {
+  seen = p.seen + n;
+  held = held;
+  values = p.values + values;
+  display = emit p.display bytes;
+}
 
 -- bytes more that wait
 abbrev pub waits : Progress → List ℕ → Progress
@@ -103,7 +118,7 @@ shows p v = counts p (length v / shown_unit p.vr) (shown p v)
 abbrev pub first : Progress → List ℕ → List ℕ
 first p u = one_text p.vr p.syntax u
 
--- the text of whole units behind others, and what it leads to
+-- the text of whole units after others, and what it leads to
 abbrev pub others : Progress → List ℕ → List ℕ
 others p v = separated_units p.vr p.syntax v
 
@@ -118,7 +133,7 @@ step p b = further p 1 (held_as (way p) p b) (counts_as (way p) p b) (adds p b)
 unfoldable pub writes : Progress → ℕ → List ℕ
 writes p b = at_once p.display.mode (adds p b)
 
--- what is written of the opening, and with bytes behind it
+-- what is written of the opening, and with bytes after it
 abbrev pub opening_writes : Progress → List ℕ
 opening_writes p = at_once p.display.mode (opening p)
 

@@ -1,4 +1,4 @@
--- What a `Shown` stands for.
+-- A `Shown` in the definitions.
 use Rattle.dcm_value.specs.declared.display.Shown.{Shown}
 use Rattle.dcm_value.specs.Display.{Display}
 

@@ -1,8 +1,8 @@
 -- How a value is shown: in brackets as it comes, in units, or when all of it is there, since it may have a name.
 use Rattle.std.specs.Prelude.{ℕ, nat_le, if◌then◌else◌, Bool, ◌&&◌, ◌==◌, ◌-◌, List, length, take, slice_index}
 use Rattle.dcm_base.specs.declared.vr.Vr.{Vr}
-use Rattle.dcm_base.specs.Representation.{pad}
-use Rattle.dcm_base.specs.ValueText.{Shape, text, identifier, shown_unit}
+use Rattle.dcm_base.specs.Tables.Representation.{pad}
+use Rattle.dcm_base.specs.Dump.ValueText.{Shape, text, identifier, shown_unit}
 use Rattle.dcm_value.specs.declared.way.Way.{Way}
 use Rattle.dcm_value.specs.declared.way.Way.TheVariants.{InBrackets, ByName, InUnits}
 

@@ -1,7 +1,8 @@
 // What is shown of a value, cut or whole.
-ghost use Rattle.std.specs.Prelude.{◌≡◌, ◌==◌, ◌&&◌, nat_lt, ◌+◌, ◌-◌, ◌<◌, ◌≤◌, ◌++◌, length, take, replicate, List, ℕ, OnOk, true};
-ghost use Rattle.dcm_base.specs.Outputs as outputs;
-ghost use Rattle.dcm_base.specs.ValueText.{escaped, identified};
+ghost use Rattle.std.specs.Prelude.{◌≡◌, ◌==◌, ◌&&◌, nat_lt, ◌+◌, ◌-◌, ◌<◌, ◌≤◌, ◌++◌, length, take, replicate, List};
+ghost use Rattle.std.specs.Prelude.{ℕ, OnOk, true};
+ghost use Rattle.dcm_value.specs.Emits.{Emits};
+ghost use Rattle.dcm_base.specs.Dump.ValueText.{escaped, identified};
 ghost use Rattle.dcm_value.specs.Units.{separated_units};
 ghost use Rattle.dcm_value.specs.Display as spec;
 
@@ -79,9 +80,7 @@ impl Shown {
         bytes: &[u8],
         out: &mut Watched<W>,
     ) -> Result<(), WriteFailed>
-        ensures state { OnOk result (display_of self.new ≡ spec.emit (display_of self.old) bytes.now) }
-        ensures bytes { outputs.Puts W.DeviceOut out.old out.new (spec.at_once self.old.mode bytes.now) result }
-        ensures failed { outputs.Tells W.DeviceOut out.old out.new result }
+        ensures { Emits W.DeviceOut out.old out.new (display_of self.old) (display_of self.new) bytes.now result }
     {
         match self.mode {
             Mode::Full => put_all(out, bytes)?,
@@ -117,9 +116,8 @@ impl Shown {
         bytes: &[u8],
         out: &mut Watched<W>,
     ) -> Result<(), WriteFailed>
-        ensures state { OnOk result (display_of self.new ≡ spec.emit (display_of self.old) (escaped bytes.now)) }
-        ensures bytes { outputs.Puts W.DeviceOut out.old out.new (spec.at_once self.old.mode (escaped bytes.now)) result }
-        ensures failed { outputs.Tells W.DeviceOut out.old out.new result }
+        ensures { Emits W.DeviceOut out.old out.new (display_of self.old) (display_of self.new)
+            (escaped bytes.now) result }
     {
         if bytes.len() <= TEXT / 3 && is_plain_text(bytes) {
             return self.emit(bytes, out);
@@ -136,7 +134,7 @@ impl Shown {
         Ok(())
     }
 
-    /// Shows units, each behind a backslash.
+    /// Shows units, each after a backslash.
     pub fn emit_units<W: DeviceOut>(
         &mut self,
         vr: Vr,
@@ -144,9 +142,8 @@ impl Shown {
         units: &[u8],
         out: &mut Watched<W>,
     ) -> Result<(), WriteFailed>
-        ensures state { OnOk result (display_of self.new ≡ spec.emit (display_of self.old) (separated_units vr syntax units.now)) }
-        ensures bytes { outputs.Puts W.DeviceOut out.old out.new (spec.at_once self.old.mode (separated_units vr syntax units.now)) result }
-        ensures failed { outputs.Tells W.DeviceOut out.old out.new result }
+        ensures { Emits W.DeviceOut out.old out.new (display_of self.old) (display_of self.new)
+            (separated_units vr syntax units.now) result }
     {
         let most = TEXT / LONGEST * shown_unit(vr);
         let mut rest = units;
@@ -166,9 +163,8 @@ impl Shown {
         uid: &[u8],
         out: &mut Watched<W>,
     ) -> Result<(), WriteFailed>
-        ensures state { OnOk result (display_of self.new ≡ spec.emit (display_of self.old) (identified uid.now)) }
-        ensures bytes { outputs.Puts W.DeviceOut out.old out.new (spec.at_once self.old.mode (identified uid.now)) result }
-        ensures failed { outputs.Tells W.DeviceOut out.old out.new result }
+        ensures { Emits W.DeviceOut out.old out.new (display_of self.old) (display_of self.new)
+            (identified uid.now) result }
     {
         match uid_name(uid) {
             Some(name) => {

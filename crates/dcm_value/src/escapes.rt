@@ -1,6 +1,7 @@
 // The bytes of a text as a dump shows them.
-ghost use Rattle.std.specs.Prelude.{◌≡◌, ◌≤◌, ◌+◌, ◌*◌, ◌++◌, ◌/◌, ◌%◌, ◌==◌, ◌&&◌, if◌then◌else◌, [], ◌∷◌, length, count_by};
-ghost use Rattle.dcm_base.specs.ValueText as spec;
+ghost use Rattle.std.specs.Prelude.{◌≡◌, ◌≤◌, ◌+◌, ◌*◌, ◌++◌, ◌/◌, ◌%◌, ◌==◌, ◌&&◌, if◌then◌else◌, [], ◌∷◌, length};
+ghost use Rattle.std.specs.Prelude.{count_by};
+ghost use Rattle.dcm_base.specs.Dump.ValueText as spec;
 ghost use Rattle.dcm_value.specs.Plain.{is_plain_byte};
 ghost use Rattle.std.specs.List.{list_all};
 

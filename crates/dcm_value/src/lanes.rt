@@ -1,6 +1,6 @@
 // Values between the orders of bytes (PS3.5 7.3).
 ghost use Rattle.std.specs.Prelude.{◌≡◌, ◌<◌};
-ghost use Rattle.dcm_base.specs.Value.{turned};
+ghost use Rattle.dcm_base.specs.Tree.Value.{turned};
 ghost use Rattle.dcm_value.specs.Swap.{IsUnit};
 
 use std::simd::Simd;
@@ -11,7 +11,7 @@ const FOURS: [usize; 16] = [3, 2, 1, 0, 7, 6, 5, 4, 11, 10, 9, 8, 15, 14, 13, 12
 
 const EIGHTS: [usize; 16] = [7, 6, 5, 4, 3, 2, 1, 0, 15, 14, 13, 12, 11, 10, 9, 8];
 
-/// Turns each whole unit of 1, 2, 4 or 8 bytes round. The bytes after the last whole unit stay.
+/// Turns each whole unit of 1, 2, 4 or 8 bytes round (PS3.5 7.3). The bytes after the last whole unit stay.
 pub fn swap(unit: usize, bytes: &mut [u8])
     requires { IsUnit unit }
     ensures { bytes.new ≡ turned unit bytes.old }

@@ -9,7 +9,8 @@ pub fn text_steps()
     ensures so_far { TextSoFar }
 {}
 
-/// The text that shows a value of whole units is read as that value, without the pad byte that is not shown. SQ has none.
+/// The text that shows a value of whole units is read as that value, without the pad byte that is not shown. SQ has
+/// none.
 pub fn value_reads_back()
     ensures { ReadsBack }
 {}

@@ -1,8 +1,9 @@
 //! The text of values (PS3.5 6.2), both ways.
 //!
-//! - `ValueText` is the text of one value as a dump shows it, with its pad byte and its values counted. It is fed the value in
-//!   any pieces and writes the text as it goes; with `Mode::Short` it holds the 66 bytes that may be cut.
-//! - `read_value` reads such a text back into the bytes of the value, in little endian; `read_value_into` does so in a buffer.
+//! - `ValueText` is the text of one value as a dump shows it, with its pad byte and its values counted. It is fed the
+//!   value in any pieces and writes the text as it goes; with `Mode::Short` it holds the 66 bytes that may be cut.
+//! - `read_value` reads such a text back into the bytes of the value, in little endian; `read_value_into` does so in a
+//!   buffer.
 //! - `escape` and `unescape` are one byte of a text, `tag_of_text` a tag, `swap` turns the units of a big endian value.
 //! - `UnitBuffer` makes the pieces of a value into whole units.
 //!

@@ -1,14 +1,14 @@
 // The bytes of a unit from its text.
 ghost use Rattle.std.specs.Prelude.{◌≡◌, option_map};
 ghost use Rattle.byteorder.specs.Endian.{little_bytes};
-ghost use Rattle.dcm_base.specs.ReadValue as spec;
+ghost use Rattle.dcm_base.specs.Lines.ReadValue as spec;
 ghost use Rattle.dcm_value.specs.Swap.{IsUnit};
 ghost use Rattle.dcm_value.specs.Parts.{part_value};
 
-use crate::digits::{decimal, hexadecimal};
+use crate::digits::hexadecimal;
 use crate::units::{Kind, append, highest};
 use arrayvec::ArrayVec;
-use dcm_base::Tag;
+use dcm_base::{Tag, decimal_number};
 
 /// The lowest bytes of a number, the lowest first.
 fn little(size: usize, number: u64) -> ArrayVec<u8, 8>
@@ -25,7 +25,7 @@ fn unsigned(size: usize, text: &[u8]) -> Option<ArrayVec<u8, 8>>
     requires { IsUnit size }
     ensures { option_map (λ v. v.items) result ≡ spec.unsigned_value size text.now }
 {
-    let number = decimal(text)?;
+    let number = decimal_number(text)?;
     if number > u128::from(highest(size)) {
         return None;
     }
@@ -37,19 +37,19 @@ fn positive(size: usize, text: &[u8]) -> Option<ArrayVec<u8, 8>>
     requires { IsUnit size }
     ensures { option_map (λ v. v.items) result ≡ spec.positive_value size text.now }
 {
-    let number = decimal(text)?;
+    let number = decimal_number(text)?;
     if number > u128::from(highest(size) / 2) {
         return None;
     }
     Some(little(size, number as u64))
 }
 
-/// The number of this size below zero that stands behind a sign.
+/// The number of this size below zero that comes after a sign.
 fn negative(size: usize, text: &[u8]) -> Option<ArrayVec<u8, 8>>
     requires { IsUnit size }
     ensures { option_map (λ v. v.items) result ≡ spec.negative_value size text.now }
 {
-    let number = decimal(text)?;
+    let number = decimal_number(text)?;
     let highest = highest(size);
     if number > u128::from(highest / 2) + 1 {
         return None;
@@ -71,7 +71,7 @@ fn signed(size: usize, text: &[u8]) -> Option<ArrayVec<u8, 8>>
     }
 }
 
-/// The tag that `(gggg,eeee)` names, with digits in either case.
+/// The tag that a text of the form `(gggg,eeee)` names, with digits in either case. No other text names one.
 pub fn tag_of_text(text: &[u8]) -> Option<Tag>
     ensures { result ≡ spec.tag_of_text text.now }
 {

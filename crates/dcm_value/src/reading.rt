@@ -1,8 +1,9 @@
 // Values from their texts.
-ghost use Rattle.std.specs.Prelude.{◌≡◌, ◌≢◌, ◌<◌, [], ◌∷◌, length, codes, MatchOption, MatchResult, IfSome, position, ◌==◌};
-ghost use Rattle.dcm_base.specs.ReadValue as spec;
-ghost use Rattle.dcm_base.specs.Representation.{unit};
-ghost use Rattle.dcm_base.specs.ValueText.{shape};
+ghost use Rattle.std.specs.Prelude.{◌≡◌, ◌≢◌, ◌<◌, [], ◌∷◌, length, codes, MatchOption, MatchResult, IfSome, position};
+ghost use Rattle.std.specs.Prelude.{◌==◌};
+ghost use Rattle.dcm_base.specs.Lines.ReadValue as spec;
+ghost use Rattle.dcm_base.specs.Tables.Representation.{unit};
+ghost use Rattle.dcm_base.specs.Dump.ValueText.{shape};
 ghost use Rattle.dcm_value.specs.Parts.{part_value};
 ghost use Rattle.dcm_value.specs.Taking.{Begins, Reads, TakesPart};
 ghost use Rattle.dcm_value.specs.Swap.{IsUnit};
@@ -12,17 +13,14 @@ use crate::parts::part;
 use crate::units::{Kind, kind_of};
 use crate::way::{Way, way_of};
 use arrayvec::ArrayVec;
-use dcm_base::{Vr, uid_of};
+use dcm_base::{VALUE_LIMIT, Vr, uid_of};
 
-/// The most bytes of a value that is read from a text.
-const LIMIT: usize = 65536;
-
-/// A text that stands for no value of its representation.
+/// A text that shows no value of its representation, or one of more than 65,536 bytes.
 #[derive(Clone, Copy, Debug, PartialEq, Eq)]
 pub struct BadValue;
 
-/// More bytes behind those that are there.
-fn extend(value: &mut ArrayVec<u8, LIMIT>, bytes: &[u8]) -> Result<(), BadValue>
+/// More bytes after those that are there.
+fn extend(value: &mut ArrayVec<u8, VALUE_LIMIT>, bytes: &[u8]) -> Result<(), BadValue>
     ensures { TakesPart (Some bytes.now) value.old.items value.new.items result }
 {
     match value.try_extend_from_slice(bytes) {
@@ -36,7 +34,7 @@ fn read_part(
     kind: Kind,
     size: usize,
     text: &[u8],
-    value: &mut ArrayVec<u8, LIMIT>,
+    value: &mut ArrayVec<u8, VALUE_LIMIT>,
 ) -> Result<(), BadValue>
     requires { IsUnit size }
     ensures { TakesPart (part_value kind size text.now) value.old.items value.new.items result }
@@ -59,7 +57,7 @@ fn read_parts(
     kind: Kind,
     size: usize,
     text: &[u8],
-    value: &mut ArrayVec<u8, LIMIT>,
+    value: &mut ArrayVec<u8, VALUE_LIMIT>,
 ) -> Result<(), BadValue>
     requires size { IsUnit size }
     requires none { value.old.items ≡ [] }
@@ -75,9 +73,10 @@ fn read_parts(
     read_part(kind, size, rest, value)
 }
 
-/// The byte that stands behind a percent sign, and what stands behind it.
+/// The byte that follows a percent sign as two digits, and what comes after it.
 fn read_escape(text: &[u8]) -> Option<(u8, &[u8])>
-    ensures value { MatchOption result (spec.bracketed_value (37 ∷ text.now) ≡ None) (λ r. Begins (37 ∷ text.now) r.0 r.1.now) }
+    ensures value { MatchOption result (spec.bracketed_value (37 ∷ text.now) ≡ None)
+        (λ r. Begins (37 ∷ text.now) r.0 r.1.now) }
     ensures shorter { IfSome result (λ r. length r.1.now < length text.now) }
 {
     match text {
@@ -86,7 +85,7 @@ fn read_escape(text: &[u8]) -> Option<(u8, &[u8])>
     }
 }
 
-/// The first byte of a text in brackets that has not ended, and what stands behind it.
+/// The first byte of a text in brackets that has not ended, and what comes after it.
 fn read_byte(text: &[u8]) -> Option<(u8, &[u8])>
     requires { text.now ≢ codes "]" }
     ensures value { MatchOption result (spec.bracketed_value text.now ≡ None) (λ r. Begins text.now r.0 r.1.now) }
@@ -102,8 +101,8 @@ fn read_byte(text: &[u8]) -> Option<(u8, &[u8])>
     }
 }
 
-/// The bytes of a text behind its opening bracket.
-fn read_bracketed(text: &[u8], value: &mut ArrayVec<u8, LIMIT>) -> Result<(), BadValue>
+/// The bytes of a text after its opening bracket.
+fn read_bracketed(text: &[u8], value: &mut ArrayVec<u8, VALUE_LIMIT>) -> Result<(), BadValue>
     requires { value.old.items ≡ [] }
     ensures { Reads (spec.bracketed_value text.now) value.new.items result }
 {
@@ -121,7 +120,7 @@ fn read_bracketed(text: &[u8], value: &mut ArrayVec<u8, LIMIT>) -> Result<(), Ba
 }
 
 /// A text in brackets.
-fn read_text(text: &[u8], value: &mut ArrayVec<u8, LIMIT>) -> Result<(), BadValue>
+fn read_text(text: &[u8], value: &mut ArrayVec<u8, VALUE_LIMIT>) -> Result<(), BadValue>
     requires { value.old.items ≡ [] }
     ensures { Reads (spec.text_value text.now) value.new.items result }
 {
@@ -132,7 +131,7 @@ fn read_text(text: &[u8], value: &mut ArrayVec<u8, LIMIT>) -> Result<(), BadValu
 }
 
 /// A unique identifier, by its name or in brackets.
-fn read_identifier(text: &[u8], value: &mut ArrayVec<u8, LIMIT>) -> Result<(), BadValue>
+fn read_identifier(text: &[u8], value: &mut ArrayVec<u8, VALUE_LIMIT>) -> Result<(), BadValue>
     requires { value.old.items ≡ [] }
     ensures { Reads (spec.uid_value text.now) value.new.items result }
 {
@@ -154,7 +153,7 @@ fn unit_size(vr: Vr) -> usize
 }
 
 /// A value by its representation.
-fn read_shape(vr: Vr, text: &[u8], value: &mut ArrayVec<u8, LIMIT>) -> Result<(), BadValue>
+fn read_shape(vr: Vr, text: &[u8], value: &mut ArrayVec<u8, VALUE_LIMIT>) -> Result<(), BadValue>
     requires { value.old.items ≡ [] }
     ensures { Reads (spec.value_in (shape vr) (unit vr) text.now) value.new.items result }
 {
@@ -165,10 +164,15 @@ fn read_shape(vr: Vr, text: &[u8], value: &mut ArrayVec<u8, LIMIT>) -> Result<()
     }
 }
 
-/// Reads a value from the text by which a dump shows it (PS3.5 6.2), into what is then all that stands there: its bytes
-/// in little endian order, with no pad byte, at most 65,536.
-pub fn read_value_into(vr: Vr, text: &[u8], value: &mut ArrayVec<u8, LIMIT>) -> Result<(), BadValue>
-    ensures { MatchResult result (λ _. spec.value_of_text vr text.now ≡ Some value.new.items) (λ _. spec.value_of_text vr text.now ≡ None) }
+/// Reads a value from the text by which a dump shows it (PS3.5 6.2), into what is then all that is there: its bytes
+/// in little endian order, with no pad byte, at most 65,536. Fails where the text shows no such value.
+pub fn read_value_into(
+    vr: Vr,
+    text: &[u8],
+    value: &mut ArrayVec<u8, VALUE_LIMIT>,
+) -> Result<(), BadValue>
+    ensures { MatchResult result (λ _. spec.value_of_text vr text.now ≡ Some value.new.items)
+        (λ _. spec.value_of_text vr text.now ≡ None) }
 {
     value.clear();
     if vr == Vr::SQ {
@@ -180,9 +184,11 @@ pub fn read_value_into(vr: Vr, text: &[u8], value: &mut ArrayVec<u8, LIMIT>) -> 
     read_shape(vr, text, value)
 }
 
-/// The value that the text of a dump stands for, in little endian order and with no pad byte, at most 65,536 bytes.
-pub fn read_value(vr: Vr, text: &[u8]) -> Result<ArrayVec<u8, LIMIT>, BadValue>
-    ensures { MatchResult result (λ v. spec.value_of_text vr text.now ≡ Some v.items) (λ _. spec.value_of_text vr text.now ≡ None) }
+/// The value that the text of a dump shows (PS3.5 6.2), in little endian order and with no pad byte, at most 65,536
+/// bytes. Fails where it shows no such value.
+pub fn read_value(vr: Vr, text: &[u8]) -> Result<ArrayVec<u8, VALUE_LIMIT>, BadValue>
+    ensures { MatchResult result (λ v. spec.value_of_text vr text.now ≡ Some v.items)
+        (λ _. spec.value_of_text vr text.now ≡ None) }
 {
     let mut value = ArrayVec::new();
     read_value_into(vr, text, &mut value)?;

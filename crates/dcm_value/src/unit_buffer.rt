@@ -3,7 +3,8 @@ ghost use Rattle.std.specs.Prelude.{◌≡◌, ◌⊎◌, ◌<◌, ◌≤◌, �
 
 use arrayvec::ArrayVec;
 
-/// The bytes of a unit that is not whole yet (PS3.5 7.3), at most N. A value comes in pieces, which may cut a unit in two.
+/// The bytes of a unit that is not whole yet (PS3.5 7.3), at most N. A value comes in pieces, which may cut a unit in
+/// two.
 #[derive(Drop)]
 pub struct UnitBuffer<const N: usize> {
     bytes: ArrayVec<u8, N>,
@@ -47,7 +48,8 @@ impl<const N: usize> UnitBuffer<N> {
     pub fn feed<'b>(&mut self, size: usize, bytes: &'b [u8]) -> Units<'b, N>
         requires held { length self.old.bytes.items < size }
         requires room { size ≤ N }
-        ensures bytes { self.old.bytes.items ++ bytes.now ≡ result.first.items ++ (result.others.now ++ self.new.bytes.items) }
+        ensures bytes { self.old.bytes.items ++ bytes.now ≡ result.first.items
+            ++ (result.others.now ++ self.new.bytes.items) }
         ensures first { (result.first.items ≡ []) ⊎ (length result.first.items ≡ size) }
         ensures others { length result.others.now / size * size ≡ length result.others.now }
         ensures held { length self.new.bytes.items < size }

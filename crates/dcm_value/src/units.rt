@@ -1,7 +1,8 @@
-// Units of a value as a dump shows them. A unit is handed over with its highest byte first.
-ghost use Rattle.std.specs.Prelude.{◌≡◌, ◌<◌, ◌≤◌, ◌+◌, ◌*◌, ◌^◌, ◌++◌, [], ◌∷◌, ◌/◌, if◌then◌else◌, codes, length, reverse, flat_map, decimal};
-ghost use Rattle.dcm_base.specs.ValueText as spec;
-ghost use Rattle.dcm_base.specs.Value.{number_of, units as units_of};
+// Units of a value as a dump shows them. A unit is given with its highest byte first.
+ghost use Rattle.std.specs.Prelude.{◌≡◌, ◌<◌, ◌≤◌, ◌+◌, ◌*◌, ◌^◌, ◌++◌, [], ◌∷◌, ◌/◌, if◌then◌else◌, codes, length};
+ghost use Rattle.std.specs.Prelude.{reverse, flat_map, decimal};
+ghost use Rattle.dcm_base.specs.Dump.ValueText as spec;
+ghost use Rattle.dcm_base.specs.Tree.Value.{number_of, units as units_of};
 ghost use Rattle.dcm_value.specs.Units as high;
 ghost use Rattle.dcm_value.specs.Swap.{IsUnit};
 
@@ -117,11 +118,12 @@ pub fn highest(size: usize) -> u64
     }
 }
 
-/// A number more whose highest bit tells the sign.
+/// A number more whose highest bit is the sign.
 fn append_signed<const N: usize>(unit: &[u8], text: &mut ArrayVec<u8, N>)
     requires room { length text.old.items + 21 ≤ N }
     requires unit { IsUnit (length unit.now) }
-    ensures text { text.new.items ≡ text.old.items ++ spec.signed_text (length unit.now) (number_of (reverse unit.now)) }
+    ensures text { text.new.items ≡ text.old.items
+        ++ spec.signed_text (length unit.now) (number_of (reverse unit.now)) }
     ensures size { length text.new.items ≤ length text.old.items + 21 }
 {
     let number = number(unit);
@@ -165,7 +167,7 @@ pub fn append_unit<const N: usize>(kind: Kind, unit: &[u8], text: &mut ArrayVec<
     }
 }
 
-/// Units of K bytes more, each behind a backslash.
+/// Units of K bytes more, each after a backslash.
 fn append_sized<const K: usize, const N: usize>(
     kind: Kind,
     units: &[u8],
@@ -183,11 +185,12 @@ fn append_sized<const K: usize, const N: usize>(
     }
 }
 
-/// Units of K bytes more in hexadecimal, each behind a backslash.
+/// Units of K bytes more in hexadecimal, each after a backslash.
 fn append_hexadecimals<const K: usize, const N: usize>(units: &[u8], text: &mut ArrayVec<u8, N>)
     requires size { IsUnit K }
     requires room { length text.old.items + LONGEST * (length units.now / K) ≤ N }
-    ensures text { text.new.items ≡ text.old.items ++ high.separated (high.high_text Kind.Hexadecimal) (units_of K units.now) }
+    ensures text { text.new.items ≡ text.old.items
+        ++ high.separated (high.high_text Kind.Hexadecimal) (units_of K units.now) }
     ensures size { length text.new.items ≤ length text.old.items + LONGEST * (length units.now / K) }
 {
     for at in 0..units.len() / K {
@@ -196,7 +199,7 @@ fn append_hexadecimals<const K: usize, const N: usize>(units: &[u8], text: &mut 
     }
 }
 
-/// The units of a value of this kind more, each behind a backslash.
+/// The units of a value of this kind more, each after a backslash.
 fn append_high<const N: usize>(kind: Kind, size: usize, units: &[u8], text: &mut ArrayVec<u8, N>)
     requires size { IsUnit size }
     requires tags { kind ≡ Kind.Tags → size ≡ 4 }
@@ -219,7 +222,7 @@ fn append_high<const N: usize>(kind: Kind, size: usize, units: &[u8], text: &mut
 /// The most units that are shown at a time.
 pub const BLOCK: usize = 128;
 
-/// The units of a value more, each behind a backslash. They come in the order of the syntax.
+/// The units of a value more, each after a backslash. They come in the order of the syntax.
 pub fn append_units<const N: usize>(
     vr: Vr,
     syntax: Syntax,
@@ -228,7 +231,8 @@ pub fn append_units<const N: usize>(
 )
     requires room { length text.old.items + LONGEST * (length units.now / spec.shown_unit vr) ≤ N }
     requires few { length units.now ≤ BLOCK * spec.shown_unit vr }
-    ensures text { text.new.items ≡ text.old.items ++ high.separated (high.one_text vr syntax) (units_of (spec.shown_unit vr) units.now) }
+    ensures text { text.new.items ≡ text.old.items
+        ++ high.separated (high.one_text vr syntax) (units_of (spec.shown_unit vr) units.now) }
     ensures size { length text.new.items ≤ length text.old.items + LONGEST * (length units.now / spec.shown_unit vr) }
 {
     let kind = kind_of(vr);

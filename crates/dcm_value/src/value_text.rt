@@ -1,7 +1,8 @@
 // The text of a value.
 ghost use Rattle.std.specs.Prelude.{◌≡◌, ◌+◌, ◌*◌, ◌/◌, ◌<◌, ◌≤◌, [], ◌∷◌, ◌++◌, length, fold, OnOk, IfOk};
-ghost use Rattle.dcm_base.specs.Outputs as outputs;
-ghost use Rattle.dcm_base.specs.ValueText.{shown_unit as unit_size, shape};
+ghost use Rattle.dcm_base.specs.Steps.Outputs as outputs;
+ghost use Rattle.dcm_devices.specs.Writing.{Wrote};
+ghost use Rattle.dcm_base.specs.Dump.ValueText.{shown_unit as unit_size, shape};
 ghost use Rattle.dcm_value.specs.Display.{emit, at_once};
 ghost use Rattle.dcm_value.specs.Way as ways;
 
@@ -70,7 +71,8 @@ impl ValueText {
     }
 
     /// Takes the next bytes of the value, at most as many as are missing, and shows what can be shown of them. Of a
-    /// text that is not cut the opening bracket is shown by the first call, also where no byte comes.
+    /// text that is not cut the opening bracket is shown by the first call, also where no byte comes. Fails where the
+    /// writer fails.
     pub fn feed<W: DeviceOut>(
         &mut self,
         bytes: &[u8],
@@ -78,8 +80,7 @@ impl ValueText {
     ) -> Result<(), WriteFailed>
         requires within { (progress self.old).seen + length bytes.now ≤ (progress self.old).size }
         ensures state { OnOk result (progress self.new ≡ fold spec.step (spec.opened (progress self.old)) bytes.now) }
-        ensures bytes { outputs.Puts W.DeviceOut out.old out.new (spec.feeds (progress self.old) bytes.now) result }
-        ensures failed { outputs.Tells W.DeviceOut out.old out.new result }
+        ensures wrote { Wrote W.DeviceOut out.old out.new (spec.feeds (progress self.old) bytes.now) result }
         ensures seen { OnOk result ((progress self.new).seen ≡ (progress self.old).seen + length bytes.now) }
         ensures size { OnOk result ((progress self.new).size ≡ (progress self.old).size) }
     {
@@ -95,15 +96,14 @@ impl ValueText {
         }
     }
 
-    /// Shows what comes before the first byte, unless it is shown already.
+    /// Shows what comes before the first byte, unless it is shown already. Fails where the writer fails.
     pub fn open<W: DeviceOut>(&mut self, out: &mut Watched<W>) -> Result<(), WriteFailed>
         ensures seen { self.new.seen ≡ self.old.seen }
         ensures size { self.new.size ≡ self.old.size }
         ensures vr { self.new.vr ≡ self.old.vr }
         ensures held { self.new.held ≡ self.old.held }
         ensures state { OnOk result (progress self.new ≡ spec.opened (progress self.old)) }
-        ensures bytes { outputs.Puts W.DeviceOut out.old out.new (spec.opening_writes (progress self.old)) result }
-        ensures failed { outputs.Tells W.DeviceOut out.old out.new result }
+        ensures wrote { Wrote W.DeviceOut out.old out.new (spec.opening_writes (progress self.old)) result }
     {
         if self.way() == Way::InBrackets && self.size > 0 && self.shown.is_blank() {
             self.shown.emit(b"[", out)?;
@@ -119,8 +119,8 @@ impl ValueText {
     ) -> Result<(), WriteFailed>
         requires way { spec.way (progress self.old) ≡ Way.InBrackets }
         requires within { self.old.seen + length bytes.now ≤ self.old.size }
-        ensures goes { outputs.Goes spec.step spec.writes W.DeviceOut out.old out.new (progress self.old) (progress self.new) bytes.now result }
-        ensures failed { outputs.Tells W.DeviceOut out.old out.new result }
+        ensures went { outputs.Went spec.step spec.writes W.DeviceOut out.old out.new (progress self.old)
+            (progress self.new) bytes.now result }
         ensures seen { OnOk result (self.new.seen ≡ self.old.seen + length bytes.now) }
         ensures size { self.new.size ≡ self.old.size }
     {
@@ -139,8 +139,8 @@ impl ValueText {
     ) -> Result<(), WriteFailed>
         requires way { spec.way (progress self.old) ≡ Way.InUnits }
         requires within { self.old.seen + length bytes.now ≤ self.old.size }
-        ensures goes { outputs.Goes spec.step spec.writes W.DeviceOut out.old out.new (progress self.old) (progress self.new) bytes.now result }
-        ensures failed { outputs.Tells W.DeviceOut out.old out.new result }
+        ensures went { outputs.Went spec.step spec.writes W.DeviceOut out.old out.new (progress self.old)
+            (progress self.new) bytes.now result }
         ensures seen { OnOk result (self.new.seen ≡ self.old.seen + length bytes.now) }
         ensures size { self.new.size ≡ self.old.size }
     {
@@ -163,8 +163,8 @@ impl ValueText {
         ensures vr { self.new.vr ≡ self.old.vr }
         ensures held { self.new.held ≡ self.old.held }
         ensures state { OnOk result (progress self.new ≡ spec.shows (progress self.old) units.now) }
-        ensures bytes { outputs.Puts W.DeviceOut out.old out.new (at_once self.old.shown.mode (spec.shown (progress self.old) units.now)) result }
-        ensures failed { outputs.Tells W.DeviceOut out.old out.new result }
+        ensures wrote { Wrote W.DeviceOut out.old out.new
+            (at_once self.old.shown.mode (spec.shown (progress self.old) units.now)) result }
     {
         if self.values > 0 || units.is_empty() {
             return self.show_others(units, out);
@@ -186,9 +186,10 @@ impl ValueText {
         ensures size { self.new.size ≡ self.old.size }
         ensures vr { self.new.vr ≡ self.old.vr }
         ensures held { self.new.held ≡ self.old.held }
-        ensures state { OnOk result (progress self.new ≡ spec.counts (progress self.old) 1 (spec.first (progress self.old) unit.now)) }
-        ensures bytes { outputs.Puts W.DeviceOut out.old out.new (at_once self.old.shown.mode (spec.first (progress self.old) unit.now)) result }
-        ensures failed { outputs.Tells W.DeviceOut out.old out.new result }
+        ensures state { OnOk result (progress self.new
+            ≡ spec.counts (progress self.old) 1 (spec.first (progress self.old) unit.now)) }
+        ensures wrote { Wrote W.DeviceOut out.old out.new
+            (at_once self.old.shown.mode (spec.first (progress self.old) unit.now)) result }
     {
         self.values += 1;
         let text = unit_text(self.vr, self.syntax, unit);
@@ -207,15 +208,15 @@ impl ValueText {
         ensures vr { self.new.vr ≡ self.old.vr }
         ensures held { self.new.held ≡ self.old.held }
         ensures state { OnOk result (progress self.new ≡ spec.shows_others (progress self.old) units.now) }
-        ensures bytes { outputs.Puts W.DeviceOut out.old out.new (at_once self.old.shown.mode (spec.others (progress self.old) units.now)) result }
-        ensures failed { outputs.Tells W.DeviceOut out.old out.new result }
+        ensures wrote { Wrote W.DeviceOut out.old out.new
+            (at_once self.old.shown.mode (spec.others (progress self.old) units.now)) result }
     {
         self.values += (units.len() / shown_unit(self.vr)) as u32;
         self.shown.emit_units(self.vr, self.syntax, units, out)
     }
 
-    /// Ends the display, and appends to the line what was not written of it, and spaces up to 40 bytes. The answer is how many
-    /// values there were.
+    /// Ends the display, and appends to the line what was not written of it, and spaces up to 40 bytes. The answer is
+    /// how many values there were. Fails where the writer fails.
     pub fn finish<const N: usize, W: DeviceOut>(
         &mut self,
         line: &mut ArrayVec<u8, N>,
@@ -223,23 +224,24 @@ impl ValueText {
     ) -> Result<u64, WriteFailed>
         requires room { length line.old.items + 66 ≤ N }
         ensures state { OnOk result (progress self.new ≡ spec.closed (progress self.old)) }
-        ensures bytes { outputs.Puts W.DeviceOut out.old out.new (spec.closing_writes (progress self.old)) result }
+        ensures wrote { Wrote W.DeviceOut out.old out.new (spec.closing_writes (progress self.old)) result }
         ensures line { OnOk result (line.new.items ≡ line.old.items ++ spec.end_writes (progress self.old)) }
         ensures within { OnOk result (length line.new.items ≤ length line.old.items + 66) }
         ensures count { IfOk result (λ n. n ≡ spec.multiplicity (progress self.old)) }
-        ensures failed { outputs.Tells W.DeviceOut out.old out.new result }
     {
         self.close(out)?;
         self.shown.append_end(line);
         Ok(self.count())
     }
 
-    /// Shows what stands behind the last byte.
+    /// Shows what comes after the last byte.
     fn close<W: DeviceOut>(&mut self, out: &mut Watched<W>) -> Result<(), WriteFailed>
-        ensures display { OnOk result (display_of self.new.shown ≡ emit (display_of self.old.shown) (spec.closing (progress self.old))) }
-        ensures kept { OnOk result (progress self.new ≡ record (progress self.old) { display = display_of self.new.shown }) }
-        ensures bytes { outputs.Puts W.DeviceOut out.old out.new (at_once self.old.shown.mode (spec.closing (progress self.old))) result }
-        ensures failed { outputs.Tells W.DeviceOut out.old out.new result }
+        ensures display { OnOk result (display_of self.new.shown
+            ≡ emit (display_of self.old.shown) (spec.closing (progress self.old))) }
+        ensures kept { OnOk result (progress self.new
+            ≡ record (progress self.old) { display = display_of self.new.shown }) }
+        ensures wrote { Wrote W.DeviceOut out.old out.new
+            (at_once self.old.shown.mode (spec.closing (progress self.old))) result }
     {
         if self.size == 0 {
             return self.shown.emit(b"(no value available)", out);

@@ -1,7 +1,7 @@
 // How a value is shown.
 ghost use Rattle.std.specs.Prelude.{◌≡◌};
-ghost use Rattle.dcm_base.specs.ReadValue.{takes_bytes};
-ghost use Rattle.dcm_base.specs.ValueText as text;
+ghost use Rattle.dcm_base.specs.Lines.ReadValue.{takes_bytes};
+ghost use Rattle.dcm_base.specs.Dump.ValueText as text;
 ghost use Rattle.dcm_value.specs.Way as spec;
 
 use dcm_base::Vr;

@@ -1,7 +1,7 @@
 -- Numbers that are no higher than one past the greatest limit.
 use Rattle.std.proofs.Common.{◌≡◌, ℕ, suc, ◌+◌, ◌*◌, List, [], ◌∷◌, drop, length, ◌<◌, get_or, Option, Some, None, option_map, refl, ap, sym, ◌∙◌, arith, drop-cons, add-one}
 use Rattle.std.proofs.lemmas.Bool.Decides.{nat_tests}
-use Rattle.dcm_base.specs.ReadValue.{◌>>=◌, digit, number_in}
+use Rattle.dcm_base.specs.Lines.ReadValue.{◌>>=◌, digit, number_in}
 use Rattle.dcm_words.specs.Plans.{capped}
 
 cap_step : (n m d : ℕ) → capped n ≡ capped m → capped (n * 10 + d) ≡ capped (m * 10 + d)

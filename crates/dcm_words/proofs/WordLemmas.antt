@@ -9,7 +9,7 @@ use Rattle.dcm_base.specs.declared.fault.WordFault.TheVariants.{UnknownOption, B
 use Rattle.dcm_words.specs.Words.{Said, said_with, said_after, and_path, limit_of, Job, plan_with_two}
 use Rattle.dcm_words.specs.declared.words.Paths.{Paths}
 use Rattle.dcm_words.specs.declared.words.Paths.TheVariants as paths
-use Rattle.dcm_words.specs.Plans.{given, limit_behind, PathsAre}
+use Rattle.dcm_words.specs.Plans.{given, limit_after, PathsAre}
 
 abbrev texts : List (Bor (List ℕ)) → List (List ℕ)
 texts ws = map (λ w. w.now) ws
@@ -83,7 +83,7 @@ module _ (read : List ℕ → Word) where
   limit_good : (n : ℕ) (s : Said) (w v : List ℕ) (words : List (List ℕ)) (limit : ℕ) → read w ≡ Limit → limit_of v ≡ Some limit → said_after read n s (w ∷ v ∷ words) ≡ said_after read (n + 2) (record s { limit = limit }) words
   limit_good n s w v words limit e l = rw (e, l, said_after) refl
 
-  limit_goes : (n : ℕ) (s : Said) (w : List ℕ) (vs : List (List ℕ)) (limit : ℕ) → read w ≡ Limit → limit_behind n vs ≡ Ok limit → said_after read n s (w ∷ vs) ≡ said_after read (n + 2) (record s { limit = limit }) (drop 1 vs)
+  limit_goes : (n : ℕ) (s : Said) (w : List ℕ) (vs : List (List ℕ)) (limit : ℕ) → read w ≡ Limit → limit_after n vs ≡ Ok limit → said_after read n s (w ∷ vs) ≡ said_after read (n + 2) (record s { limit = limit }) (drop 1 vs)
   limit_goes n s w [] limit e l = absurd (cc)
   limit_goes n s w (v ∷ words) limit e l = goes_by (limit_of v) refl l
     where
@@ -91,7 +91,7 @@ module _ (read : List ℕ → Word) where
       goes_by None is l = absurd (cc)
       goes_by (Some k) is l = let same : k ≡ limit = cc in limit_good n s w v words k e is ∙ ap (λ k. said_after read (n + 2) (record s { limit = k }) words) same
 
-  limit_stops : (n : ℕ) (s : Said) (w : List ℕ) (vs : List (List ℕ)) (u : Usage) → read w ≡ Limit → limit_behind n vs ≡ Err u → said_after read n s (w ∷ vs) ≡ Err u
+  limit_stops : (n : ℕ) (s : Said) (w : List ℕ) (vs : List (List ℕ)) (u : Usage) → read w ≡ Limit → limit_after n vs ≡ Err u → said_after read n s (w ∷ vs) ≡ Err u
   limit_stops n s w [] u e l = let same : AtWord BadOptionValue n ≡ u = cc in limit_alone n s w e ∙ ap Err same
   limit_stops n s w (v ∷ words) u e l = stops_by (limit_of v) refl l
     where
@@ -100,7 +100,7 @@ module _ (read : List ℕ → Word) where
       stops_by (Some k) is l = absurd (cc)
 
   -- the turn of the loop that takes a limit and its value
-  pub limit_turn : {M : Result Said Usage} (i : ℕ) (ws : List (Bor (List ℕ))) (d : Bor (List ℕ)) (s t : Said) (limit : ℕ) → i < length ws → Limit ≡ read (get_or ws i d).now → limit_behind (i + 2) (texts (drop (i + 1) ws)) ≡ Ok limit
+  pub limit_turn : {M : Result Said Usage} (i : ℕ) (ws : List (Bor (List ℕ))) (d : Bor (List ℕ)) (s t : Said) (limit : ℕ) → i < length ws → Limit ≡ read (get_or ws i d).now → limit_after (i + 2) (texts (drop (i + 1) ws)) ≡ Ok limit
       → record s { limit = limit } ≡ t → said_after read (i + 2) s (texts (drop i ws)) ≡ M → said_after read (i + 1 + 1 + 2) t (texts (drop (i + 1 + 1) ws)) ≡ M
   limit_turn i ws d s t limit h p l e v =
       let n : i + 1 + 1 + 2 ≡ i + 2 + 2 = omega arith in
@@ -111,7 +111,7 @@ module _ (read : List ℕ → Word) where
       ∙ sym (ap (λ (r : List (List ℕ)). said_after read (i + 2) s r) (next_word i ws d h))
       ∙ v
 
-  pub limit_refused : (i : ℕ) (ws : List (Bor (List ℕ))) (d : Bor (List ℕ)) (s : Said) (u : Usage) → i < length ws → Limit ≡ read (get_or ws i d).now → limit_behind (i + 2) (texts (drop (i + 1) ws)) ≡ Err u
+  pub limit_refused : (i : ℕ) (ws : List (Bor (List ℕ))) (d : Bor (List ℕ)) (s : Said) (u : Usage) → i < length ws → Limit ≡ read (get_or ws i d).now → limit_after (i + 2) (texts (drop (i + 1) ws)) ≡ Err u
       → said_after read (i + 2) s (texts (drop i ws)) ≡ Err u
   limit_refused i ws d s u h p l =
       ap (λ (r : List (List ℕ)). said_after read (i + 2) s r) (next_word i ws d h)

@@ -4,15 +4,15 @@ use Rattle.std.specs.Prelude.{codes}
 use Rattle.dcm_base.specs.declared.tag.Tag.{Tag}
 use Rattle.dcm_base.specs.declared.vr.Vr.TheVariants.{UI, PN, LO, US}
 use Rattle.dcm_base.specs.declared.mode.Mode.TheVariants.{Short, Full}
-use Rattle.dcm_base.specs.Syntax.{Implicit, Little, Big}
+use Rattle.dcm_base.specs.Tables.Syntax.{Implicit, Little, Big}
 use Rattle.dcm_base.specs.declared.fault.EditRefusal.TheVariants.{BadOption, UnknownTag, ValueDoesNotFit, SequenceMisused, MetaGroup, Overlap, TooMany}
 use Rattle.dcm_base.specs.declared.fault.WordFault.TheVariants.{UnknownTool, UnknownOption, BadOptionValue, WrongPaths, OptionsApart, SamePath}
 use Rattle.dcm_words.specs.declared.usage.Usage.{Usage}
 use Rattle.dcm_words.specs.declared.usage.Usage.TheVariants.{AtWord, Whole, InEdit}
-use Rattle.dcm_base.specs.declared.lookup.Dictionary.TheVariants.{Extract, Standard}
-use Rattle.dcm_base.specs.Dictionary.{elements, entries, keywords, elements_in, element_in, tag_in}
-use Rattle.dcm_edit_words.specs.Edit.{Edit, number, every, step, insert, modify, erase, erase_item, on_path, modify_all, erase_private}
-use Rattle.dcm_edit_words.specs.EditWords.{meant_edits, in_edit, InEdit as EditFault}
+use Rattle.dcm_base.specs.declared.dictionary.Dictionary.TheVariants.{Extract, Standard}
+use Rattle.dcm_base.specs.Tables.Dictionary.{elements, entries, keywords, elements_in, element_in, tag_in}
+use Rattle.dcm_edits.specs.Edit.{Edit, number, every, step, insert, modify, erase, erase_item, on_path, modify_all, erase_private}
+use Rattle.dcm_edits.specs.EditWords.{meant_edits, in_edit, InEdit as EditFault}
 use Rattle.dcm_words.specs.Words.{meant, Plan, Job, dump, convert, build, modify as modifies}
 
 -- all that a row computes with

@@ -1,9 +1,11 @@
 -- What a function made of the words of a command line.
-use Rattle.std.specs.Prelude.{◌≡◌, ℕ, ◌+◌, ◌<◌, nat_le, List, [], ◌∷◌, length, Option, Some, None, Result, Ok, Err, Bool, false, ◌&&◌, if◌then◌else◌, codes, bytes_eq}
+use Rattle.std.specs.Prelude.{◌≡◌, ℕ, ◌+◌, ◌<◌, nat_le, List, [], ◌∷◌, length, Option, Some, None, Result, Ok, Err}
+use Rattle.std.specs.Prelude.{Bool, false, ◌&&◌, if◌then◌else◌, codes, bytes_eq}
 use Rattle.dcm_words.specs.declared.usage.Usage.{Usage}
 use Rattle.dcm_words.specs.declared.usage.Usage.TheVariants.{AtWord, Whole, InEdit, Memory}
 use Rattle.dcm_words.specs.declared.usage.Word.{Word}
 use Rattle.dcm_base.specs.declared.fault.WordFault.TheVariants.{BadOptionValue}
+use Rattle.dcm_base.specs.Lines.Limits.{LINE_LIMIT}
 use Rattle.dcm_words.specs.Words as words
 use Rattle.dcm_words.specs.declared.job.Build.{Build}
 use Rattle.dcm_words.specs.declared.job.Job.{Job}
@@ -43,7 +45,11 @@ edits_between edits input output = record { edits = edits; input = input; output
 
 -- whether two paths end the words of dcmodify after its name
 abbrev pub has_paths : List (List ℕ) → Bool
-has_paths others = elim (words.paths_apart others) [ None ↦ false | Some e ↦ words.is_path e.input && words.is_path e.output ]
+has_paths others = elim (words.paths_apart others) [
+  | None ↦ false
+  | Some e ↦ words.is_path e.input
+      && words.is_path e.output
+]
 
 -- whether memory is taken for the edits that the words mean: the first word is dcmodify, and two paths end the others
 abbrev pub takes_memory : List (List ℕ) → Bool
@@ -60,16 +66,16 @@ reader tools.Build w = words.build_word w
 
 -- a number, or one past the greatest limit where it is higher
 abbrev pub capped : ℕ → ℕ
-capped n = if nat_le n words.GREATEST_LIMIT then n else words.GREATEST_LIMIT + 1
+capped n = if nat_le n LINE_LIMIT then n else LINE_LIMIT + 1
 
--- the limit that the words behind word n begin with
+-- the limit that the words after word n begin with
 abbrev pub given : ℕ → Option ℕ → Result ℕ Usage
 given n None = Err (AtWord BadOptionValue n)
 given n (Some limit) = Ok limit
 
-abbrev pub limit_behind : ℕ → List (List ℕ) → Result ℕ Usage
-limit_behind n [] = given n None
-limit_behind n (v ∷ others) = given n (words.limit_of v)
+abbrev pub limit_after : ℕ → List (List ℕ) → Result ℕ Usage
+limit_after n [] = given n None
+limit_after n (v ∷ others) = given n (words.limit_of v)
 
 -- what a function made of them
 abbrev pub LimitAs : Result Build Usage → Result ℕ Usage → Type 0
@@ -85,7 +91,15 @@ PathsAre paths.More ps = 2 < length ps
 
 -- what was said so far, with these paths
 abbrev pub said_with_paths : Said → List (List ℕ) → words.Said
-said_with_paths s ps = record { dictionary = s.dictionary; mode = s.mode; data_set = s.data_set; bare = s.bare; target = s.target; limit = s.build.limit; paths = ps }
+said_with_paths s ps = record {
+  dictionary = s.dictionary;
+  mode = s.mode;
+  data_set = s.data_set;
+  bare = s.bare;
+  target = s.target;
+  limit = s.build.limit;
+  paths = ps;
+}
 
 -- what a function made of all the words
 abbrev pub SaidAs : Result Said Usage → Result words.Said Usage → Type 0

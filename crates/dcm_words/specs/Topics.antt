@@ -1,5 +1,6 @@
 -- The texts that a command line asks for.
-use Rattle.std.specs.Prelude.{ℕ, List, [], ◌∷◌, Option, Some, None, Bool, ◌||◌, if◌then◌else◌, codes, bytes_eq, unwrap_or}
+use Rattle.std.specs.Prelude.{ℕ, List, [], ◌∷◌, Option, Some, None, Bool, ◌||◌, if◌then◌else◌, codes, bytes_eq}
+use Rattle.std.specs.Prelude.{unwrap_or}
 use Rattle.dcm_words.specs.declared.topic.Topic.{Topic}
 use Rattle.dcm_words.specs.declared.topic.Topic.TheVariants.{Program, Dump, Convert, Build, Modify, Version}
 use Rattle.dcm_words.specs.declared.texts.TheConstants as texts
@@ -41,8 +42,9 @@ abbrev pub asked_after : List ℕ → List (List ℕ) → Option Topic
 asked_after first (word ∷ []) = elim (use_of first) [ Some tool ↦ asked_of_tool tool word | None ↦ None ]
 asked_after first others = None
 
--- the text that the words after the program's name ask for, if they do: by their first word, or by the only word after a
--- tool's name
+-- the text that the words after the program's name ask for, if they do: by their first word, or by the only word
+-- after a tool's name
 unfoldable pub asked : List (List ℕ) → Option Topic
 asked [] = None
-asked (first ∷ others) = if is_help first then Some (use_of_only others) else if is_version first then Some Version else asked_after first others
+asked (first ∷ others) = if is_help first then Some (use_of_only others) else if is_version first then Some Version
+    else asked_after first others

@@ -1,21 +1,26 @@
 -- What the words of a command line mean.
-use Rattle.std.specs.Prelude.{ℕ, suc, ◌+◌, List, [], ◌∷◌, Option, Some, None, Result, Ok, Err, Bool, true, false, ◌||◌, ◌&&◌, not, ◌==◌, nat_le, if◌then◌else◌, codes, bytes_eq}
+use Rattle.std.specs.Prelude.{ℕ, suc, ◌+◌, List, [], ◌∷◌, Option, Some, None, Result, Ok, Err, Bool, true, false, ◌||◌}
+use Rattle.std.specs.Prelude.{◌&&◌, not, ◌==◌, nat_le, if◌then◌else◌, codes, bytes_eq}
 use Rattle.std.specs.Option.{is_some}
 use Rattle.std.specs.Str.{byte}
-use Rattle.dcm_base.specs.declared.lookup.Dictionary.{Dictionary}
-use Rattle.dcm_base.specs.declared.lookup.Dictionary.TheVariants.{Extract}
+use Rattle.dcm_base.specs.declared.dictionary.Dictionary.{Dictionary}
+use Rattle.dcm_base.specs.declared.dictionary.Dictionary.TheVariants.{Extract}
 use Rattle.dcm_base.specs.declared.syntax.Syntax.{Syntax}
-use Rattle.dcm_base.specs.Syntax.{Implicit, Little, Big}
+use Rattle.dcm_base.specs.Tables.Syntax.{Implicit, Little, Big}
 use Rattle.dcm_base.specs.declared.mode.Mode.{Mode}
 use Rattle.dcm_base.specs.declared.mode.Mode.TheVariants.{Short, Full}
-use Rattle.dcm_base.specs.declared.fault.WordFault.TheVariants.{UnknownTool, UnknownOption, BadOptionValue, WrongPaths, OptionsApart, SamePath}
+use Rattle.dcm_base.specs.declared.fault.WordFault.TheVariants.{UnknownTool, UnknownOption, BadOptionValue, WrongPaths}
+use Rattle.dcm_base.specs.declared.fault.WordFault.TheVariants.{OptionsApart, SamePath}
 use Rattle.dcm_words.specs.declared.usage.Word.{Word}
-use Rattle.dcm_words.specs.declared.usage.Word.TheVariants.{Read, Show, WholeFile, DataSet, Bare, Target, Limit, Accepted, Path, Unknown}
+use Rattle.dcm_words.specs.declared.usage.Word.TheVariants.{Read, Show, WholeFile, DataSet, Bare, Target, Limit}
+use Rattle.dcm_words.specs.declared.usage.Word.TheVariants.{Accepted, Path, Unknown}
 use Rattle.dcm_words.specs.declared.usage.Usage.{Usage}
 use Rattle.dcm_words.specs.declared.usage.Usage.TheVariants.{AtWord, Whole, InEdit}
-use Rattle.dcm_base.specs.ReadValue.{number_in}
-use Rattle.dcm_edit_words.specs.Edit.{Edit}
-use Rattle.dcm_edit_words.specs.EditWords.{dictionary_word, dictionary_said, meant_edits_in}
+pub use Rattle.dcm_base.specs.Lines.Limits.{LINE_LIMIT as GREATEST_LIMIT}
+use Rattle.dcm_base.specs.Lines.Limits.{LINE_LIMIT}
+use Rattle.dcm_base.specs.Lines.ReadValue.{number_in}
+use Rattle.dcm_edits.specs.Edit.{Edit}
+use Rattle.dcm_edits.specs.EditWords.{dictionary_word, dictionary_said, meant_edits_in}
 
 -- what a tool is to do, with the dictionary that it reads with
 pub data Job : Type 0 where
@@ -73,19 +78,16 @@ build_word w =
     else if bytes_eq w (codes "-e") then Accepted
     else other_word w
 
--- the limits that a line may have, and the one that it has without an option
+-- the least limit that a line may be given, and the one that it has without an option; LINE_LIMIT is the greatest
 abbrev pub LEAST_LIMIT : ℕ
 LEAST_LIMIT = 80
-
-abbrev pub GREATEST_LIMIT : ℕ
-GREATEST_LIMIT = 16384
 
 abbrev pub USUAL_LIMIT : ℕ
 USUAL_LIMIT = 4096
 
 abbrev pub limit_within : Option ℕ → Option ℕ
 limit_within None = None
-limit_within (Some n) = if nat_le LEAST_LIMIT n && nat_le n GREATEST_LIMIT then Some n else None
+limit_within (Some n) = if nat_le LEAST_LIMIT n && nat_le n LINE_LIMIT then Some n else None
 
 -- the number that digits spell, leading zeros allowed
 abbrev pub limit_of : List ℕ → Option ℕ
@@ -104,7 +106,15 @@ pub record Said : Type 0 where
   pub paths : List (List ℕ)
 
 abbrev pub nothing_said : Said
-nothing_said = record { dictionary = Extract; mode = Short; data_set = false; bare = None; target = None; limit = USUAL_LIMIT; paths = [] }
+nothing_said = record {
+  dictionary = Extract;
+  mode = Short;
+  data_set = false;
+  bare = None;
+  target = None;
+  limit = USUAL_LIMIT;
+  paths = [];
+}
 
 -- paths are kept in the order of the words
 abbrev pub and_path : List (List ℕ) → List ℕ → List (List ℕ)
@@ -121,7 +131,7 @@ said_with (Target syntax) w s = record s { target = syntax }
 said_with Path w s = record s { paths = and_path s.paths w }
 said_with _ w s = s
 
--- the words from number n on, after what the ones before have said; the word behind that for a limit is its value
+-- the words from number n on, after what the ones before have said; the word after that for a limit is its value
 abbrev pub said_after : (List ℕ → Word) → ℕ → Said → List (List ℕ) → Result Said Usage
 said_after read n s [] = Ok s
 said_after read n s (w ∷ []) = elim (read w) [
@@ -131,7 +141,11 @@ said_after read n s (w ∷ []) = elim (read w) [
 ]
 said_after read n s (w ∷ v ∷ words) = elim (read w) [
   | Unknown ↦ Err (AtWord UnknownOption n)
-  | Limit ↦ elim (limit_of v) [ None ↦ Err (AtWord BadOptionValue n) | Some limit ↦ said_after read (n + 2) (record s { limit = limit }) words ]
+  | Limit ↦ elim (limit_of v) [
+    | None ↦ Err (AtWord BadOptionValue n)
+    | Some limit ↦ said_after read (n + 2)
+        (record s { limit = limit }) words
+  ]
   | word ↦ said_after read (suc n) (said_with word w s) (v ∷ words)
 ]
 
@@ -149,10 +163,12 @@ abbrev pub differ : List ℕ → List ℕ → Bool
 differ input output = not (bytes_eq input output) || bytes_eq input standard
 
 abbrev pub plan_if_apart : List ℕ → List ℕ → Job → Result Plan Usage
-plan_if_apart input output job = if differ input output then Ok (record { input = input; output = output; job = job }) else Err (Whole SamePath)
+plan_if_apart input output job = if differ input output then Ok (record { input = input; output = output; job = job })
+    else Err (Whole SamePath)
 
 abbrev pub plan_with_two : List (List ℕ) → Job → Result Plan Usage
-plan_with_two (input ∷ output ∷ []) job = if is_empty_word input || is_empty_word output then Err (Whole WrongPaths) else plan_if_apart input output job
+plan_with_two (input ∷ output ∷ []) job = if is_empty_word input || is_empty_word output then Err (Whole WrongPaths)
+    else plan_if_apart input output job
 plan_with_two _ job = Err (Whole WrongPaths)
 
 abbrev pub same : Bool → Bool → Bool
@@ -161,7 +177,9 @@ same false b = not b
 
 -- a data set alone is read only in a syntax that the words name, which are for it alone
 abbrev pub dump_plan_of : List ℕ → Said → Result Plan Usage
-dump_plan_of input s = if same s.data_set (is_some s.bare) then Ok (record { input = input; output = standard; job = dump s.dictionary s.mode s.bare }) else Err (Whole OptionsApart)
+dump_plan_of input s = if same s.data_set (is_some s.bare)
+    then Ok (record { input = input; output = standard; job = dump s.dictionary s.mode s.bare })
+    else Err (Whole OptionsApart)
 
 abbrev pub dump_plan_with : List (List ℕ) → Said → Result Plan Usage
 dump_plan_with (input ∷ []) s = if is_empty_word input then Err (Whole WrongPaths) else dump_plan_of input s
@@ -171,7 +189,8 @@ abbrev pub dump_plan : List (List ℕ) → Result Plan Usage
 dump_plan words = elim (said_by dump_word words) [ Ok s ↦ dump_plan_with s.paths s | Err u ↦ Err u ]
 
 abbrev pub convert_plan : List (List ℕ) → Result Plan Usage
-convert_plan words = elim (said_by convert_word words) [ Ok s ↦ plan_with_two s.paths (convert s.dictionary s.target) | Err u ↦ Err u ]
+convert_plan words = elim (said_by convert_word words)
+    [ Ok s ↦ plan_with_two s.paths (convert s.dictionary s.target) | Err u ↦ Err u ]
 
 abbrev pub build_plan : List (List ℕ) → Result Plan Usage
 build_plan words = elim (said_by build_word words) [ Ok s ↦ plan_with_two s.paths (build s.limit) | Err u ↦ Err u ]
@@ -196,7 +215,8 @@ abbrev pub is_path : List ℕ → Bool
 is_path w = not (is_empty_word w) && not (is_option w)
 
 abbrev pub modify_plan_in : Dictionary → EditWords → Result Plan Usage
-modify_plan_in d e = elim (meant_edits_in d e.edits) [ Ok edits ↦ plan_if_apart e.input e.output (modify d edits) | Err u ↦ Err (InEdit u.refusal u.number) ]
+modify_plan_in d e = elim (meant_edits_in d e.edits)
+    [ Ok edits ↦ plan_if_apart e.input e.output (modify d edits) | Err u ↦ Err (InEdit u.refusal u.number) ]
 
 -- the last dictionary that is named counts for all edits
 abbrev pub modify_plan_with : EditWords → Result Plan Usage

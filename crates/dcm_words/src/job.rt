@@ -1,9 +1,10 @@
 // What a run has to do.
 ghost use Rattle.std.specs.Prelude.{◌≤◌};
-ghost use Rattle.dcm_words.specs.Words.{LEAST_LIMIT, GREATEST_LIMIT};
+ghost use Rattle.dcm_base.specs.Lines.Limits.{LINE_LIMIT};
+ghost use Rattle.dcm_words.specs.Words.{LEAST_LIMIT};
 
 use dcm_base::{Dictionary, Mode, Syntax};
-use dcm_edit_words::Edits;
+use dcm_edits::Edits;
 use std::alloc::{Allocator, Global};
 
 /// What a run has to do.
@@ -34,7 +35,7 @@ pub struct Convert {
 #[derive(Clone, Copy, Debug, PartialEq, Eq)]
 pub struct Build {
     pub limit: usize,
-    ghost within: { (LEAST_LIMIT ≤ limit) × (limit ≤ GREATEST_LIMIT) },
+    ghost within: { (LEAST_LIMIT ≤ limit) × (limit ≤ LINE_LIMIT) },
 }
 
 /// The edits of a file, and the dictionary that they are meant by and the file is read with.

@@ -1,9 +1,10 @@
 //! Command lines, and the jobs that they mean.
 //!
-//! - `plan` reads the words of a command line into a `Planned`: the paths, and a `Job` with all that its tool has to know.
+//! - `plan` reads the words of a command line into a `Planned`: the paths, and a `Job` with all that its tool has to
+//!   know.
 //! - Words that it refuses are a `Usage`: which word is wrong and why, which edit, or want of memory.
 //! - `asked` says whether words ask for a text about the program, a `Topic`, in place of a job.
-//! - The words of dcmodify between its name and its two paths are edits, which `Edits` of dcm_edit_words reads.
+//! - The words of dcmodify between its name and its two paths are edits, which `Edits` of dcm_edits reads.
 //!
 //! A conversion:
 //!

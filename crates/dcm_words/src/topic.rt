@@ -69,8 +69,8 @@ fn use_of(tool: &[u8]) -> Option<Topic>
     }
 }
 
-/// What is shown where the first word asks how something is used: the use of the tool that the only other word names, else that
-/// of the program.
+/// What is shown where the first word asks how something is used: the use of the tool that the only other word names,
+/// else that of the program.
 fn use_of_only(others: &[&[u8]]) -> Topic
     ensures { result ≡ spec.use_of_only (map (λ w. w.now) others.now) }
 {
@@ -109,8 +109,8 @@ fn asked_after(first: &[u8], others: &[&[u8]]) -> Option<Topic>
     }
 }
 
-/// The text that the words after the program's name ask for, if they do: by their first word, or by the only word after a tool's
-/// name.
+/// The text that the words after the program's name ask for, if they do: by their first word, or by the only word
+/// after a tool's name.
 #[tactic(auto, unfolding(crate::specs::Topics::asked))]
 pub fn asked(words: &[&[u8]]) -> Option<Topic>
     ensures { result ≡ spec.asked (map (λ w. w.now) words.now) }

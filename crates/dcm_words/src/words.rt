@@ -1,13 +1,14 @@
 // The words of a command line.
-ghost use Rattle.std.specs.Prelude.{◌≡◌, ◌+◌, ◌<◌, List, ℕ, drop, length, map, option_map, IfSome, false};
-ghost use Rattle.dcm_base.specs.ReadValue.{digit as spec_digit, number_in};
+ghost use Rattle.std.specs.Prelude.{◌≡◌, ◌+◌, ◌<◌, List, ℕ, drop, length, map, option_map, false};
+ghost use Rattle.dcm_base.specs.Lines.ReadValue.{number_in};
 ghost use Rattle.dcm_words.specs.Words as spec;
-ghost use Rattle.dcm_words.specs.Plans.{reader, job_of, takes_memory, has_paths, GivesUnlessMemory, edits_between, capped, limit_behind as said_limit, LimitAs, Gives, PathsAre, SaidAs};
+ghost use Rattle.dcm_words.specs.Plans.{reader, job_of, takes_memory, has_paths, GivesUnlessMemory, edits_between};
+ghost use Rattle.dcm_words.specs.Plans.{capped, limit_after as said_limit, LimitAs, Gives, PathsAre, SaidAs};
 
 use crate::job::{Build, Convert, Dump, Job, Modify, Planned};
 use crate::usage::{Usage, Word};
-use dcm_base::{Dictionary, Mode, Syntax, WordFault};
-use dcm_edit_words::{EditFault, Edits, dictionary_said, dictionary_word};
+use dcm_base::{Dictionary, LINE_LIMIT, Mode, Syntax, WordFault, decimal_digit};
+use dcm_edits::{EditFault, Edits, dictionary_said, dictionary_word};
 use std::alloc::Allocator;
 
 /// The path of a standard stream.
@@ -18,9 +19,6 @@ const USUAL_LIMIT: usize = 4096;
 
 /// The least limit of a line that `+l` may give.
 const LEAST_LIMIT: usize = 80;
-
-/// The greatest one.
-const GREATEST_LIMIT: usize = 16_384;
 
 /// A tool whose words are options and paths.
 #[derive(Clone, Copy, Debug, PartialEq, Eq)]
@@ -87,7 +85,7 @@ fn dump_word(word: &[u8]) -> Word
     } else if word == b"-ti".as_slice() {
         Word::Bare(Syntax::Implicit(Dictionary::Extract))
     } else if word == b"-te".as_slice() {
-        Word::Bare(Syntax::Little(Dictionary::Extract))
+        Word::Bare(Syntax::LITTLE)
     } else if word == b"-tb".as_slice() {
         Word::Bare(Syntax::Big(Dictionary::Extract))
     } else {
@@ -104,7 +102,7 @@ fn convert_word(word: &[u8]) -> Word
     } else if word == b"+ti".as_slice() {
         Word::Target(Some(Syntax::Implicit(Dictionary::Extract)))
     } else if word == b"+te".as_slice() {
-        Word::Target(Some(Syntax::Little(Dictionary::Extract)))
+        Word::Target(Some(Syntax::LITTLE))
     } else if word == b"+tb".as_slice() {
         Word::Target(Some(Syntax::Big(Dictionary::Extract)))
     } else if word == b"-e".as_slice() {
@@ -140,24 +138,13 @@ fn word_of(tool: Tool, word: &[u8]) -> Word
     }
 }
 
-/// The number of a decimal digit.
-fn decimal_digit(byte: u8) -> Option<usize>
-    ensures value { result ≡ spec_digit 10 byte }
-    ensures below { IfSome result (λ d. d < 10) }
-{
-    match byte {
-        b'0'..=b'9' => Some(usize::from(byte - b'0')),
-        _ => None,
-    }
-}
-
 /// The number that digits spell, or one past the greatest limit where it is higher.
 fn limited_number(digits: &[u8]) -> Option<usize>
     ensures { result ≡ option_map capped (number_in 10 0 digits.now) }
 {
     let mut number = 0;
     for byte in digits {
-        number = (10 * number + decimal_digit(*byte)?).min(GREATEST_LIMIT + 1);
+        number = (10 * number + usize::from(decimal_digit(*byte)?)).min(LINE_LIMIT + 1);
     }
     Some(number)
 }
@@ -167,14 +154,14 @@ fn limit_of(word: &[u8]) -> Option<Build>
     ensures { option_map (λ b. b.limit) result ≡ spec.limit_of word.now }
 {
     let limit = limited_number(word)?;
-    if limit < LEAST_LIMIT || limit > GREATEST_LIMIT {
+    if limit < LEAST_LIMIT || limit > LINE_LIMIT {
         return None;
     }
     Some(Build { limit })
 }
 
-/// The limit that the word behind this place gives.
-fn limit_behind(words: &[&[u8]], place: usize) -> Result<Build, Usage>
+/// The limit that the word after this place gives.
+fn limit_after(words: &[&[u8]], place: usize) -> Result<Build, Usage>
     requires { place < length words.now }
     ensures { LimitAs result (said_limit (place + 2) (map (λ w. w.now) (drop (place + 1) words.now))) }
 {
@@ -184,7 +171,7 @@ fn limit_behind(words: &[&[u8]], place: usize) -> Result<Build, Usage>
     }
 }
 
-/// The paths so far, and one behind them.
+/// The paths so far, and one after them.
 fn and_path<'a>(paths: Paths<'a>, path: &'a [u8]) -> Paths<'a>
     ensures { (ps : List (List ℕ)) → PathsAre paths.entry ps → PathsAre result (spec.and_path ps path.now) }
 {
@@ -196,7 +183,7 @@ fn and_path<'a>(paths: Paths<'a>, path: &'a [u8]) -> Paths<'a>
     }
 }
 
-/// What the words behind a tool's name have said, or the first refusal.
+/// What the words after a tool's name have said, or the first refusal.
 fn said_by<'a>(tool: Tool, words: &'a [&'a [u8]]) -> Result<Said<'a>, Usage>
     ensures { SaidAs result (spec.said_by (reader tool) (map (λ w. w.now) words.now)) }
 {
@@ -220,7 +207,7 @@ fn said_by<'a>(tool: Tool, words: &'a [&'a [u8]]) -> Result<Said<'a>, Usage>
             Word::Bare(syntax) => said.bare = Some(syntax),
             Word::Target(syntax) => said.target = syntax,
             Word::Limit => {
-                said.build = limit_behind(words, i)?;
+                said.build = limit_after(words, i)?;
                 i += 1;
             }
             Word::Accepted => {}
@@ -232,7 +219,7 @@ fn said_by<'a>(tool: Tool, words: &'a [&'a [u8]]) -> Result<Said<'a>, Usage>
     Ok(said)
 }
 
-/// What the words of dcmdump behind its name mean, or the first refusal.
+/// What the words of dcmdump after its name mean, or the first refusal.
 fn plan_dump<'a, A: Allocator>(words: &'a [&'a [u8]]) -> Result<Planned<'a, A>, Usage>
     ensures { Gives result (spec.dump_plan (map (λ w. w.now) words.now)) }
 {
@@ -281,7 +268,7 @@ fn plan_with_two<'a, A: Allocator>(paths: Paths<'a>, job: Job<A>) -> Result<Plan
     }
 }
 
-/// What the words of dcmconv behind its name mean, or the first refusal.
+/// What the words of dcmconv after its name mean, or the first refusal.
 fn plan_convert<'a, A: Allocator>(words: &'a [&'a [u8]]) -> Result<Planned<'a, A>, Usage>
     ensures { Gives result (spec.convert_plan (map (λ w. w.now) words.now)) }
 {
@@ -295,7 +282,7 @@ fn plan_convert<'a, A: Allocator>(words: &'a [&'a [u8]]) -> Result<Planned<'a, A
     )
 }
 
-/// What the words of dump2dcm behind its name mean, or the first refusal.
+/// What the words of dump2dcm after its name mean, or the first refusal.
 fn plan_build<'a, A: Allocator>(words: &'a [&'a [u8]]) -> Result<Planned<'a, A>, Usage>
     ensures { Gives result (spec.build_plan (map (λ w. w.now) words.now)) }
 {
@@ -318,7 +305,8 @@ fn plan_edits<'a, A: Allocator + Copy>(
     input: &'a [u8],
     output: &'a [u8],
 ) -> Result<Planned<'a, A>, Usage>
-    ensures { GivesUnlessMemory result (spec.modify_plan_in dictionary (edits_between (map (λ w. w.now) edit_words.now) input.now output.now)) }
+    ensures { GivesUnlessMemory result
+        (spec.modify_plan_in dictionary (edits_between (map (λ w. w.now) edit_words.now) input.now output.now)) }
 {
     match Edits::parse_in(alloc, dictionary, edit_words) {
         Ok(edits) => plan_if_apart(input, output, Job::Modify(Modify { dictionary, edits })),
@@ -333,7 +321,8 @@ fn plan_modify<'a, A: Allocator + Copy>(
     words: &'a [&'a [u8]],
 ) -> Result<Planned<'a, A>, Usage>
     ensures meant { GivesUnlessMemory result (spec.modify_plan (map (λ w. w.now) words.now)) }
-    ensures memory { has_paths (map (λ w. w.now) words.now) ≡ false → Gives result (spec.modify_plan (map (λ w. w.now) words.now)) }
+    ensures memory { has_paths (map (λ w. w.now) words.now) ≡ false
+        → Gives result (spec.modify_plan (map (λ w. w.now) words.now)) }
 {
     let [edit_words @ .., input, output] = words else {
         return Err(Usage::Whole(WordFault::WrongPaths));
@@ -350,15 +339,16 @@ fn plan_modify<'a, A: Allocator + Copy>(
     )
 }
 
-/// The job that the words after the program's name mean, with the paths borrowed from them, or the first refusal. Memory is
-/// taken for the edits of dcmodify alone, once its paths are seen.
+/// The job that the words after the program's name mean, with the paths borrowed from them, or the first refusal.
+/// Memory is taken for the edits of dcmodify alone, once its paths are seen.
 #[tactic(auto, unfolding(crate::specs::Words::meant))]
 pub fn plan<'a, A: Allocator + Copy>(
     alloc: A,
     words: &'a [&'a [u8]],
 ) -> Result<Planned<'a, A>, Usage>
     ensures meant { GivesUnlessMemory result (spec.meant (map (λ w. w.now) words.now)) }
-    ensures memory { takes_memory (map (λ w. w.now) words.now) ≡ false → Gives result (spec.meant (map (λ w. w.now) words.now)) }
+    ensures memory { takes_memory (map (λ w. w.now) words.now) ≡ false
+        → Gives result (spec.meant (map (λ w. w.now) words.now)) }
 {
     match words {
         [tool, rest @ ..] if *tool == b"dcmdump".as_slice() => plan_dump(rest),

@@ -7,13 +7,13 @@ use Rattle.dcm_base.specs.declared.vr.Vr.{Vr}
 use Rattle.dcm_base.specs.declared.vr.Vr.TheVariants.{SQ, UN}
 use Rattle.dcm_base.specs.declared.syntax.Syntax.{Syntax}
 use Rattle.dcm_base.specs.declared.syntax.Syntax.TheVariants.{Implicit as implicit_in, Little as little_in, Big as big_in}
-use Rattle.dcm_base.specs.declared.lookup.Dictionary.{Dictionary}
+use Rattle.dcm_base.specs.declared.dictionary.Dictionary.{Dictionary}
 use Rattle.dcm_base.specs.declared.length.Length.TheVariants.{Known, Undefined}
-use Rattle.dcm_base.specs.Tree.{Trees, no_tree, leaf, sequence, fragments, Items, no_item, item}
-use Rattle.dcm_base.specs.Representation.{is_long, pad}
-use Rattle.dcm_base.specs.Value.{order, evened}
-use Rattle.dcm_base.specs.Recode.{head, even, is_explicit, item_head, item_delimiter, sequence_delimiter, too_long, leaf_head, leaf_bytes, recoded_leaf, recoded_fragment, unless_dropped, recode_set, recode_items}
-use Rattle.dcm_base.specs.Normal.{normal_vr, normal_sequence_vr, normal_value, unless_group_length, normal, normal_items}
+use Rattle.dcm_base.specs.Tree.Tree.{Trees, no_tree, leaf, sequence, fragments, Items, no_item, item}
+use Rattle.dcm_base.specs.Tables.Representation.{is_long, pad}
+use Rattle.dcm_base.specs.Tree.Value.{order, evened}
+use Rattle.dcm_base.specs.Conversion.Recode.{head, even, is_explicit, item_head, item_delimiter, sequence_delimiter, too_long, leaf_head, leaf_bytes, recoded_leaf, recoded_fragment, unless_dropped, recode_set, recode_items}
+use Rattle.dcm_base.specs.Conversion.Normal.{normal_vr, normal_sequence_vr, normal_value, unless_group_length, normal, normal_items}
 use Rattle.dcm_base.proofs.Conversions.Order.{order_twice, length-order}
 
 -- ---- sizes

@@ -9,8 +9,8 @@ use Rattle.dcm_base.specs.declared.vr.Vr.{Vr}
 use Rattle.dcm_base.specs.declared.vr.Vr.TheVariants.{AT, US, SS, OW, UL, SL, FL, OF, OL, FD, OD, OV, SV, UV}
 use Rattle.dcm_base.specs.declared.syntax.Syntax.{Syntax}
 use Rattle.dcm_base.specs.declared.syntax.Syntax.TheVariants.{Implicit as implicit_in, Little as little_in, Big as big_in}
-use Rattle.dcm_base.specs.Representation.{unit}
-use Rattle.dcm_base.specs.Value.{units, rest_part, turned, order}
+use Rattle.dcm_base.specs.Tables.Representation.{unit}
+use Rattle.dcm_base.specs.Tree.Value.{units, rest_part, turned, order}
 use Rattle.dcm_base.proofs.Conversions.UnitLaws.{units_cons, units_none}
 use Rattle.dcm_base.proofs.Conversions.OrderLaws.{keeps_length, turns_units}
 

@@ -5,7 +5,7 @@ use mathlib.Core.Logic.{⊎_elim}
 use Rattle.std.proofs.lemmas.List.{length-append, append-nil, length-reverse, length-take, length-drop, take-append-drop}
 use Rattle.std.proofs.Math.Seq.{drop-append-add}
 use Rattle.std.proofs.Math.Nat.{div-eq_of_lt, add-div_left}
-use Rattle.dcm_base.specs.Value.{units, rest_part, turned}
+use Rattle.dcm_base.specs.Tree.Value.{units, rest_part, turned}
 use Rattle.dcm_base.proofs.Conversions.UnitLaws.{units_cons, units_none}
 
 module _ (k : ℕ) (some : 0 < k) where

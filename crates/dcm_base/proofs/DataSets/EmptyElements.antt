@@ -1,13 +1,13 @@
 -- A data set of one empty element is read whole: no stop comes before its end.
 use Rattle.std.proofs.Common.{◌≡◌, ℕ, ◌+◌, ◌<◌, List, [], ◌∷◌, ◌++◌, length, Some, None, false, true, inl, inr, refl, sym, ap, ◌∙◌, subst, arith, lit≤}
 use Rattle.dcm_base.specs.declared.vr.Vr.TheVariants.{PN}
-use Rattle.dcm_base.specs.Syntax.{Little}
-use Rattle.dcm_base.specs.Tree.{no_tree, leaf}
-use Rattle.dcm_base.specs.Front.{Front, front, nothing_open}
-use Rattle.dcm_base.specs.Spelling.{SpellsFront}
-use Rattle.dcm_base.specs.Stop.{complete, stop_at}
-use Rattle.dcm_base.specs.Bars.{no_bar}
-use Rattle.dcm_base.specs.Reads.{StopsFirst, Reads}
+use Rattle.dcm_base.specs.Tables.Syntax.{Little}
+use Rattle.dcm_base.specs.Tree.Tree.{no_tree, leaf}
+use Rattle.dcm_base.specs.Tree.Front.{Front, front, nothing_open}
+use Rattle.dcm_base.specs.Bytes.Spelling.{SpellsFront}
+use Rattle.dcm_base.specs.Reading.Stop.{complete, stop_at}
+use Rattle.dcm_base.specs.Reading.Bars.{no_bar}
+use Rattle.dcm_base.specs.Reading.Reads.{StopsFirst, Reads}
 use Rattle.dcm_base.proofs.DataSets.Fronts.{front_same}
 use Rattle.dcm_base.proofs.DataSets.Between.{between}
 use Rattle.dcm_base.proofs.WorkedRows.Readings.{all, patient_name}

@@ -9,14 +9,14 @@ use Rattle.dcm_base.specs.declared.syntax.Syntax.{Syntax}
 use Rattle.dcm_base.specs.declared.syntax.Syntax.TheVariants.{Implicit as implicit_in, Little as little_in, Big as big_in}
 use Rattle.dcm_base.specs.declared.length.Length.{Length}
 use Rattle.dcm_base.specs.declared.length.Length.TheVariants.{Known, Undefined}
-use Rattle.dcm_base.specs.Tree.{Trees, no_tree, leaf, sequence, fragments, Items, no_item, item}
-use Rattle.dcm_base.specs.Number.{number}
-use Rattle.dcm_base.specs.Representation.{is_long, vr_read}
-use Rattle.dcm_base.specs.Dictionary.{vr_in}
-use Rattle.dcm_base.specs.Head.{ElementHead, ItemHead, Delimiter, tag_at, vr_at, length_at, long_length, head_size}
-use Rattle.dcm_base.specs.Tag.{item_end_tag, sequence_end_tag}
-use Rattle.dcm_base.specs.Value.{order}
-use Rattle.dcm_base.specs.Spelling.{inside, Enclosed, FragmentsAt, TreesAt, ItemsAt}
+use Rattle.dcm_base.specs.Tree.Tree.{Trees, no_tree, leaf, sequence, fragments, Items, no_item, item}
+use Rattle.dcm_base.specs.Tables.Number.{number}
+use Rattle.dcm_base.specs.Tables.Representation.{is_long, vr_read}
+use Rattle.dcm_base.specs.Tables.Dictionary.{vr_in}
+use Rattle.dcm_base.specs.Bytes.Head.{ElementHead, ItemHead, Delimiter, tag_at, vr_at, length_at, long_length, head_size}
+use Rattle.dcm_base.specs.Tables.Tag.{item_end_tag, sequence_end_tag}
+use Rattle.dcm_base.specs.Tree.Value.{order}
+use Rattle.dcm_base.specs.Bytes.Spelling.{inside, Enclosed, FragmentsAt, TreesAt, ItemsAt}
 use Rattle.dcm_base.proofs.DataSets.Heads.{eight_le_head_size}
 
 pub number_extends : (s : Syntax) (n : ℕ) (b z : List ℕ) → n ≤ length b → number s n (b ++ z) ≡ number s n b

@@ -4,11 +4,11 @@ use Rattle.dcm_base.specs.declared.vr.Vr.{Vr}
 use Rattle.dcm_base.specs.declared.syntax.Syntax.{Syntax}
 use Rattle.dcm_base.specs.declared.length.Length.{Length}
 use Rattle.dcm_base.specs.declared.length.Length.TheVariants.{Known, Undefined}
-use Rattle.dcm_base.specs.Tree.{Trees, no_tree, leaf, sequence, fragments, Items, no_item, item}
-use Rattle.dcm_base.specs.Front.{Front, front, OpenTree, nothing_open, open_leaf, open_sequence, open_fragments, OpenItem, no_open_item, open_item}
-use Rattle.dcm_base.specs.Tag.{item_end_tag, sequence_end_tag}
-use Rattle.dcm_base.specs.Value.{order}
-use Rattle.dcm_base.specs.Spelling.{inside, Enclosed, FragmentsAt, TreesAt, ItemsAt, reached_tag, SpellsOpenFragment, SpellsFront, SpellsOpen, SpellsOpenItem}
+use Rattle.dcm_base.specs.Tree.Tree.{Trees, no_tree, leaf, sequence, fragments, Items, no_item, item}
+use Rattle.dcm_base.specs.Tree.Front.{Front, front, OpenTree, nothing_open, open_leaf, open_sequence, open_fragments, OpenItem, no_open_item, open_item}
+use Rattle.dcm_base.specs.Tables.Tag.{item_end_tag, sequence_end_tag}
+use Rattle.dcm_base.specs.Tree.Value.{order}
+use Rattle.dcm_base.specs.Bytes.Spelling.{inside, Enclosed, FragmentsAt, TreesAt, ItemsAt, reached_tag, SpellsOpenFragment, SpellsFront, SpellsOpen, SpellsOpenItem}
 use Rattle.dcm_base.proofs.DataSets.Heads.{known_same, element_same, item_same, NoElement, NoItem, element_begins, item_begins}
 use Rattle.dcm_base.proofs.Conversions.Order.{order_same}
 use Rattle.dcm_base.proofs.DataSets.Whole.{append_same, at_end_NoElement, at_end_NoItem, delimiter_NoElement, delimiter_NoItem, enclosed_same, fragments_same, forms_same, value_sequence, value_fragments, sequence_fragments, leaf_same, enclosed_along, trees_same, items_same}

@@ -7,12 +7,12 @@ use Rattle.dcm_base.specs.declared.vr.Vr.{Vr}
 use Rattle.dcm_base.specs.declared.vr.Vr.TheVariants.{UN}
 use Rattle.dcm_base.specs.declared.syntax.Syntax.{Syntax}
 use Rattle.dcm_base.specs.declared.syntax.Syntax.TheVariants.{Implicit as implicit_in, Little as little_in, Big as big_in}
-use Rattle.dcm_base.specs.Representation.{is_long}
-use Rattle.dcm_base.specs.Tag.{is_tag}
+use Rattle.dcm_base.specs.Tables.Representation.{is_long}
+use Rattle.dcm_base.specs.Tables.Tag.{is_tag}
 use Rattle.dcm_base.specs.declared.length.Length.{Length}
 use Rattle.dcm_base.specs.declared.length.Length.TheVariants.{Known}
-use Rattle.dcm_base.specs.Head.{HeadAt, PlainHead, ElementHead, ItemHead, Delimiter, tag_at, length_at, head_size}
-use Rattle.dcm_base.specs.Tag.{is_item, is_item_end, is_sequence_end, item_tag}
+use Rattle.dcm_base.specs.Bytes.Head.{HeadAt, PlainHead, ElementHead, ItemHead, Delimiter, tag_at, length_at, head_size}
+use Rattle.dcm_base.specs.Tables.Tag.{is_item, is_item_end, is_sequence_end, item_tag}
 
 -- the size of a known length
 pub known_same : (m n : ℕ) → Known m ≡ Known n → m ≡ n

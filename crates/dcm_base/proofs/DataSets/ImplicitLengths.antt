@@ -5,20 +5,20 @@ use Rattle.dcm_base.specs.declared.vr.Vr.{Vr}
 use Rattle.dcm_base.specs.declared.vr.Vr.TheVariants.{SQ, UN}
 use Rattle.dcm_base.specs.declared.syntax.Syntax.{Syntax}
 use Rattle.dcm_base.specs.declared.syntax.Syntax.TheVariants.{Implicit as implicit_in, Little as little_in, Big as big_in}
-use Rattle.dcm_base.specs.Syntax.{dictionary_of}
-use Rattle.dcm_base.specs.declared.lookup.Dictionary.{Dictionary}
+use Rattle.dcm_base.specs.Tables.Syntax.{dictionary_of}
+use Rattle.dcm_base.specs.declared.dictionary.Dictionary.{Dictionary}
 use Rattle.dcm_base.specs.declared.length.Length.{Length}
 use Rattle.dcm_base.specs.declared.length.Length.TheVariants.{Known, Undefined}
-use Rattle.dcm_base.specs.Tree.{Trees, no_tree, leaf, sequence, fragments, Items, no_item, item}
-use Rattle.dcm_base.specs.Front.{Front, front}
-use Rattle.dcm_base.specs.Tag.{item_end_tag, sequence_end_tag}
-use Rattle.dcm_base.specs.Dictionary.{vr_in}
-use Rattle.dcm_base.specs.Head.{ElementHead, vr_at, tag_at}
-use Rattle.dcm_base.specs.Spelling.{a_value, a_sequence, form, inside, Enclosed, TreesAt, ItemsAt, SpellsFront}
-use Rattle.dcm_base.specs.Stop.{Stop, complete, refused, Bar}
-use Rattle.dcm_base.specs.Reads.{Reads, ended}
-use Rattle.dcm_base.specs.Recode.{is_explicit}
-use Rattle.dcm_base.specs.Normal.{FitsTarget, ItemsFit, FrontFits, TellsValue, TellsSequence}
+use Rattle.dcm_base.specs.Tree.Tree.{Trees, no_tree, leaf, sequence, fragments, Items, no_item, item}
+use Rattle.dcm_base.specs.Tree.Front.{Front, front}
+use Rattle.dcm_base.specs.Tables.Tag.{item_end_tag, sequence_end_tag}
+use Rattle.dcm_base.specs.Tables.Dictionary.{vr_in}
+use Rattle.dcm_base.specs.Bytes.Head.{ElementHead, vr_at, tag_at}
+use Rattle.dcm_base.specs.Bytes.Spelling.{a_value, a_sequence, form, inside, Enclosed, TreesAt, ItemsAt, SpellsFront}
+use Rattle.dcm_base.specs.Reading.Stop.{Stop, complete, refused, Bar}
+use Rattle.dcm_base.specs.Reading.Reads.{Reads, ended}
+use Rattle.dcm_base.specs.Conversion.Recode.{is_explicit}
+use Rattle.dcm_base.specs.Conversion.Normal.{FitsTarget, ItemsFit, FrontFits, TellsValue, TellsSequence}
 use Rattle.dcm_base.proofs.DataSets.Heads.{some_same}
 
 -- ---- an explicit target

@@ -5,15 +5,15 @@ use Rattle.dcm_base.specs.declared.vr.Vr.{Vr}
 use Rattle.dcm_base.specs.declared.syntax.Syntax.{Syntax}
 use Rattle.dcm_base.specs.declared.level.Level.{Level}
 use Rattle.dcm_base.specs.declared.fault.Fault.TheVariants.{EndsEarly, NotAscending, PassesEnd, TooDeep, UndefinedLength}
-use Rattle.dcm_base.specs.Bars.{ascending_bar, innermost_reached, no_bar}
-use Rattle.dcm_base.specs.Front.{Front}
-use Rattle.dcm_base.specs.Head.{head_size, tag_at, vr_at, length_at, long_length}
-use Rattle.dcm_base.specs.Number.{number}
-use Rattle.dcm_base.specs.Place.{depth, passes, room, levels, value_open}
-use Rattle.dcm_base.specs.Reads.{INPUT_LIMIT, Reads, at_the_cut, told}
-use Rattle.dcm_base.specs.Spelling.{form}
-use Rattle.dcm_base.specs.Stop.{Stop, refused, barred, opens_list, with_length, first_case, has_no_form, element_stop, item_stop, head_stop, innermost_stop, value_stop, stop_at, or_else}
-use Rattle.dcm_base.specs.Tag.{is_above, is_item}
+use Rattle.dcm_base.specs.Reading.Bars.{ascending_bar, innermost_reached, no_bar}
+use Rattle.dcm_base.specs.Tree.Front.{Front}
+use Rattle.dcm_base.specs.Bytes.Head.{head_size, tag_at, vr_at, length_at, long_length}
+use Rattle.dcm_base.specs.Tables.Number.{number}
+use Rattle.dcm_base.specs.Reading.Place.{depth, passes, room, levels, value_open}
+use Rattle.dcm_base.specs.Reading.Reads.{INPUT_LIMIT, Reads, at_the_cut, told}
+use Rattle.dcm_base.specs.Bytes.Spelling.{form}
+use Rattle.dcm_base.specs.Reading.Stop.{Stop, refused, barred, opens_list, with_length, first_case, has_no_form, element_stop, item_stop, head_stop, innermost_stop, value_stop, stop_at, or_else}
+use Rattle.dcm_base.specs.Tables.Tag.{is_above, is_item}
 
 -- with the bar, the same stop, or one for the order of tags where there is none without it
 abbrev Weaker : Option Stop → Option Stop → Type 0

@@ -6,12 +6,12 @@ use Rattle.dcm_base.specs.declared.vr.Vr.{Vr}
 use Rattle.dcm_base.specs.declared.syntax.Syntax.{Syntax}
 use Rattle.dcm_base.specs.declared.length.Length.{Length}
 use Rattle.dcm_base.specs.declared.length.Length.TheVariants.{Known, Undefined}
-use Rattle.dcm_base.specs.Tree.{Trees, Items}
-use Rattle.dcm_base.specs.Front.{front, OpenTree, nothing_open, open_sequence, no_open_item, open_item}
-use Rattle.dcm_base.specs.Head.{head_size}
-use Rattle.dcm_base.specs.Spelling.{inside, reached_tag, StaysOpen}
-use Rattle.dcm_base.specs.Size.{trees_size, items_size}
-use Rattle.dcm_base.specs.Place.{Container, the_data_set, an_item, a_sequence, Level, level, end_of, levels, set_levels, tree_levels, least, distance, room, passes}
+use Rattle.dcm_base.specs.Tree.Tree.{Trees, Items}
+use Rattle.dcm_base.specs.Tree.Front.{front, OpenTree, nothing_open, open_sequence, no_open_item, open_item}
+use Rattle.dcm_base.specs.Bytes.Head.{head_size}
+use Rattle.dcm_base.specs.Bytes.Spelling.{inside, reached_tag, StaysOpen}
+use Rattle.dcm_base.specs.Reading.Size.{trees_size, items_size}
+use Rattle.dcm_base.specs.Reading.Place.{Container, the_data_set, an_item, a_sequence, Level, level, end_of, levels, set_levels, tree_levels, least, distance, room, passes}
 use Rattle.dcm_base.proofs.DataSets.Sizes.{element_takes, item_takes, trees_take, items_take}
 use Rattle.dcm_base.proofs.DataSets.Path.{Path, at_top, in_item, plug, syntax_of, item_length, PathAt, RoomFor, Placed, Roomy}
 

@@ -2,10 +2,10 @@
 use Rattle.std.proofs.Common.{◌≡◌, ℕ, ◌+◌, ◌-◌, ◌<◌, List, length, take, Option, Some, None, sym, ap, ◌∙◌, subst, arith, inl, inr}
 use Rattle.std.proofs.lemmas.Bool.{cases_lt}
 use Rattle.dcm_base.specs.declared.syntax.Syntax.{Syntax}
-use Rattle.dcm_base.specs.Front.{Front}
-use Rattle.dcm_base.specs.Spelling.{SpellsFront}
-use Rattle.dcm_base.specs.Stop.{Stop, Bar, stop_at}
-use Rattle.dcm_base.specs.Reads.{StopsFirst, Reads, INPUT_LIMIT, told, ended}
+use Rattle.dcm_base.specs.Tree.Front.{Front}
+use Rattle.dcm_base.specs.Bytes.Spelling.{SpellsFront}
+use Rattle.dcm_base.specs.Reading.Stop.{Stop, Bar, stop_at}
+use Rattle.dcm_base.specs.Reading.Reads.{StopsFirst, Reads, INPUT_LIMIT, told, ended}
 use Rattle.dcm_base.proofs.DataSets.Heads.{some_same}
 use Rattle.dcm_base.proofs.DataSets.Whole.{append_same}
 use Rattle.dcm_base.proofs.DataSets.Fronts.{front_same}

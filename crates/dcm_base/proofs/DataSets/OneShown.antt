@@ -6,11 +6,11 @@ use Rattle.dcm_base.specs.declared.vr.Vr.{Vr}
 use Rattle.dcm_base.specs.declared.syntax.Syntax.{Syntax}
 use Rattle.dcm_base.specs.declared.length.Length.{Length}
 use Rattle.dcm_base.specs.declared.length.Length.TheVariants.{Known, Undefined}
-use Rattle.dcm_base.specs.Tree.{Trees, no_tree, leaf, sequence, fragments, Items, no_item, item}
-use Rattle.dcm_base.specs.Front.{Front, front, OpenTree, nothing_open, open_leaf, open_sequence, open_fragments, OpenItem, no_open_item, open_item}
-use Rattle.dcm_base.specs.Value.{order}
-use Rattle.dcm_base.specs.Spelling.{Form, a_value, a_sequence, a_fragment_list, form, reached_tag}
-use Rattle.dcm_base.specs.Atoms.{Atom, opens, value_byte, closes_leaf, opens_item, closes_item, closes_sequence, opens_fragment, ends, fragments_then, ShowTrees, ShowItems, open_fragment_atoms, end_atoms, MayEnd, Shows, ShowsOpen, ShowsOpenItem}
+use Rattle.dcm_base.specs.Tree.Tree.{Trees, no_tree, leaf, sequence, fragments, Items, no_item, item}
+use Rattle.dcm_base.specs.Tree.Front.{Front, front, OpenTree, nothing_open, open_leaf, open_sequence, open_fragments, OpenItem, no_open_item, open_item}
+use Rattle.dcm_base.specs.Tree.Value.{order}
+use Rattle.dcm_base.specs.Bytes.Spelling.{Form, a_value, a_sequence, a_fragment_list, form, reached_tag}
+use Rattle.dcm_base.specs.Steps.Atoms.{Atom, opens, value_byte, closes_leaf, opens_item, closes_item, closes_sequence, opens_fragment, ends, fragments_then, ShowTrees, ShowItems, open_fragment_atoms, end_atoms, MayEnd, Shows, ShowsOpen, ShowsOpenItem}
 use Rattle.dcm_base.proofs.DataSets.Heads.{known_same}
 use Rattle.dcm_base.proofs.Conversions.Order.{order_same}
 use Rattle.dcm_base.proofs.DataSets.Whole.{value_sequence, value_fragments, sequence_fragments}

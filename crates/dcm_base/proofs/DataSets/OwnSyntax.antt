@@ -6,22 +6,22 @@ use Rattle.dcm_base.specs.declared.vr.Vr.{Vr}
 use Rattle.dcm_base.specs.declared.vr.Vr.TheVariants.{SQ, UN, OB, OW}
 use Rattle.dcm_base.specs.declared.syntax.Syntax.{Syntax}
 use Rattle.dcm_base.specs.declared.syntax.Syntax.TheVariants.{Implicit as implicit_in, Little as little_in, Big as big_in}
-use Rattle.dcm_base.specs.Syntax.{Little}
+use Rattle.dcm_base.specs.Tables.Syntax.{Little}
 use Rattle.dcm_base.specs.declared.level.Container.{Container}
 use Rattle.dcm_base.specs.declared.level.Level.{Level}
 use Rattle.dcm_base.specs.declared.fault.Fault.{Fault}
 use Rattle.dcm_base.specs.declared.fault.Fault.TheVariants.{EndsEarly, FragmentsBarred, PassesEnd, TagNotAllowed, TooDeep, UndefinedLength}
 use Rattle.dcm_base.specs.declared.length.Length.{Length}
 use Rattle.dcm_base.specs.declared.length.Length.TheVariants.{Known, Undefined}
-use Rattle.dcm_base.specs.Bars.{is_fragment_form, holds_fragments, no_bar, fragments_bar, target_bar}
-use Rattle.dcm_base.specs.Front.{Front, front, OpenTree, nothing_open, open_leaf, open_sequence, open_fragments, OpenItem, no_open_item, open_item}
-use Rattle.dcm_base.specs.Head.{head_size, tag_at, vr_at, length_at, long_length}
-use Rattle.dcm_base.specs.Number.{number}
-use Rattle.dcm_base.specs.Place.{depth, is_allowed, passes, room, levels, set_levels, tree_levels, item_levels, value_open}
-use Rattle.dcm_base.specs.Reads.{Reads, StopsFirst}
-use Rattle.dcm_base.specs.Spelling.{form, inside}
-use Rattle.dcm_base.specs.Stop.{Stop, complete, refused, is_empty, is_the_data_set, barred, opens_list, with_length, first_case, has_no_form, element_cases, element_stop, item_stop, head_stop, innermost_stop, value_stop, stop_at, or_else}
-use Rattle.dcm_base.specs.Tag.{is_item}
+use Rattle.dcm_base.specs.Reading.Bars.{is_fragment_form, holds_fragments, no_bar, fragments_bar, target_bar}
+use Rattle.dcm_base.specs.Tree.Front.{Front, front, OpenTree, nothing_open, open_leaf, open_sequence, open_fragments, OpenItem, no_open_item, open_item}
+use Rattle.dcm_base.specs.Bytes.Head.{head_size, tag_at, vr_at, length_at, long_length}
+use Rattle.dcm_base.specs.Tables.Number.{number}
+use Rattle.dcm_base.specs.Reading.Place.{depth, is_allowed, passes, room, levels, set_levels, tree_levels, item_levels, value_open}
+use Rattle.dcm_base.specs.Reading.Reads.{Reads, StopsFirst}
+use Rattle.dcm_base.specs.Bytes.Spelling.{form, inside}
+use Rattle.dcm_base.specs.Reading.Stop.{Stop, complete, refused, is_empty, is_the_data_set, barred, opens_list, with_length, first_case, has_no_form, element_cases, element_stop, item_stop, head_stop, innermost_stop, value_stop, stop_at, or_else}
+use Rattle.dcm_base.specs.Tables.Tag.{is_item}
 
 -- ---- the innermost container is not of explicit little endian
 

@@ -6,13 +6,13 @@ use Rattle.dcm_base.specs.declared.vr.Vr.{Vr}
 use Rattle.dcm_base.specs.declared.syntax.Syntax.{Syntax}
 use Rattle.dcm_base.specs.declared.length.Length.{Length}
 use Rattle.dcm_base.specs.declared.length.Length.TheVariants.{Known, Undefined}
-use Rattle.dcm_base.specs.Tree.{Trees, no_tree, leaf, sequence, fragments, Items, no_item, item}
-pub use Rattle.dcm_base.specs.Tree.{then_trees, then_items}
-use Rattle.dcm_base.specs.Front.{Front, front, OpenTree, nothing_open, open_leaf, open_sequence, open_fragments, no_open_item, open_item}
-use Rattle.dcm_base.specs.Head.{ElementHead, ItemHead, Delimiter}
-use Rattle.dcm_base.specs.Tag.{item_end_tag, sequence_end_tag}
-use Rattle.dcm_base.specs.Value.{order}
-use Rattle.dcm_base.specs.Spelling.{a_value, a_sequence, a_fragment_list, form, inside, FragmentsAt, TreesAt, ItemsAt, reached_tag, is_open, StaysOpen, SpellsFront, SpellsOpen}
+use Rattle.dcm_base.specs.Tree.Tree.{Trees, no_tree, leaf, sequence, fragments, Items, no_item, item}
+pub use Rattle.dcm_base.specs.Tree.Tree.{then_trees, then_items}
+use Rattle.dcm_base.specs.Tree.Front.{Front, front, OpenTree, nothing_open, open_leaf, open_sequence, open_fragments, no_open_item, open_item}
+use Rattle.dcm_base.specs.Bytes.Head.{ElementHead, ItemHead, Delimiter}
+use Rattle.dcm_base.specs.Tables.Tag.{item_end_tag, sequence_end_tag}
+use Rattle.dcm_base.specs.Tree.Value.{order}
+use Rattle.dcm_base.specs.Bytes.Spelling.{a_value, a_sequence, a_fragment_list, form, inside, FragmentsAt, TreesAt, ItemsAt, reached_tag, is_open, StaysOpen, SpellsFront, SpellsOpen}
 use Rattle.dcm_base.proofs.Conversions.Order.{order_twice, length-order}
 use Rattle.dcm_base.proofs.DataSets.Extend.{element_extends, item_extends, fragments_extend, trees_extend, items_extend}
 

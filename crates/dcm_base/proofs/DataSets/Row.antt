@@ -7,11 +7,11 @@ use Rattle.dcm_base.specs.declared.vr.Vr.{Vr}
 use Rattle.dcm_base.specs.declared.syntax.Syntax.{Syntax}
 use Rattle.dcm_base.specs.declared.length.Length.{Length}
 use Rattle.dcm_base.specs.declared.length.Length.TheVariants.{Known, Undefined}
-use Rattle.dcm_base.specs.Tree.{Trees, no_tree, leaf, sequence, fragments, Items, no_item, item}
-use Rattle.dcm_base.specs.Front.{front, OpenTree, nothing_open, open_leaf, open_sequence, no_open_item, open_item}
-use Rattle.dcm_base.specs.Value.{order}
-use Rattle.dcm_base.specs.Spelling.{inside}
-use Rattle.dcm_base.specs.Atoms.{Atom, opens, value_byte, closes_leaf, opens_item, closes_item, closes_sequence, opens_fragment, fragments_then, trees_then, items_then, front_atoms, open_atoms}
+use Rattle.dcm_base.specs.Tree.Tree.{Trees, no_tree, leaf, sequence, fragments, Items, no_item, item}
+use Rattle.dcm_base.specs.Tree.Front.{front, OpenTree, nothing_open, open_leaf, open_sequence, no_open_item, open_item}
+use Rattle.dcm_base.specs.Tree.Value.{order}
+use Rattle.dcm_base.specs.Bytes.Spelling.{inside}
+use Rattle.dcm_base.specs.Steps.Atoms.{Atom, opens, value_byte, closes_leaf, opens_item, closes_item, closes_sequence, opens_fragment, fragments_then, trees_then, items_then, front_atoms, open_atoms}
 use Rattle.dcm_base.proofs.Conversions.Order.{order_twice}
 use Rattle.dcm_base.proofs.DataSets.Path.{then_trees, then_items, Path, at_top, in_item, plug, syntax_of}
 

@@ -3,12 +3,12 @@ use Rattle.std.proofs.Common.{◌≡◌, ℕ, List, [], ◌∷◌, Bool, true, f
 use Rattle.dcm_base.specs.declared.syntax.Syntax.{Syntax}
 use Rattle.dcm_base.specs.declared.length.Length.{Length}
 use Rattle.dcm_base.specs.declared.length.Length.TheVariants.{Known, Undefined}
-use Rattle.dcm_base.specs.Tree.{Trees, no_tree, leaf, sequence, fragments, Items, no_item, item}
-use Rattle.dcm_base.specs.Front.{Front, front, OpenTree, nothing_open, open_leaf, open_sequence, open_fragments, OpenItem, no_open_item, open_item}
-use Rattle.dcm_base.specs.Spelling.{Enclosed, TreesAt, ItemsAt, inside, SpellsFront, SpellsOpen, SpellsOpenItem, SpellsOpenFragment}
+use Rattle.dcm_base.specs.Tree.Tree.{Trees, no_tree, leaf, sequence, fragments, Items, no_item, item}
+use Rattle.dcm_base.specs.Tree.Front.{Front, front, OpenTree, nothing_open, open_leaf, open_sequence, open_fragments, OpenItem, no_open_item, open_item}
+use Rattle.dcm_base.specs.Bytes.Spelling.{Enclosed, TreesAt, ItemsAt, inside, SpellsFront, SpellsOpen, SpellsOpenItem, SpellsOpenFragment}
 use Rattle.dcm_base.specs.declared.tag.Tag.{Tag}
-use Rattle.dcm_base.specs.Tag.{item_end_tag, sequence_end_tag}
-use Rattle.dcm_base.specs.Atoms.{Atom, closes_item, closes_sequence, ShowTrees, ShowItems, trees_then, items_then, end_atoms, MayEnd, MissesFragment, is_closed, Shows, ShowsOpen, ShowsOpenItem, front_atoms, open_atoms, open_item_atoms}
+use Rattle.dcm_base.specs.Tables.Tag.{item_end_tag, sequence_end_tag}
+use Rattle.dcm_base.specs.Steps.Atoms.{Atom, closes_item, closes_sequence, ShowTrees, ShowItems, trees_then, items_then, end_atoms, MayEnd, MissesFragment, is_closed, Shows, ShowsOpen, ShowsOpenItem, front_atoms, open_atoms, open_item_atoms}
 
 -- what shows the contents shows what encloses them
 enclosed_shown : (s : Syntax) (end_tag : Tag) (declared : Length) (R : List ℕ → List ℕ → Type 0) (c e : List ℕ) (P : Type 0)

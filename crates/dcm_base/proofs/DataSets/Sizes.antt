@@ -5,12 +5,12 @@ use Rattle.dcm_base.specs.declared.vr.Vr.{Vr}
 use Rattle.dcm_base.specs.declared.syntax.Syntax.{Syntax}
 use Rattle.dcm_base.specs.declared.length.Length.{Length}
 use Rattle.dcm_base.specs.declared.length.Length.TheVariants.{Known, Undefined}
-use Rattle.dcm_base.specs.Tree.{Trees, no_tree, leaf, sequence, fragments, Items, no_item, item}
-use Rattle.dcm_base.specs.Head.{ElementHead, ItemHead, Delimiter, head_size}
-use Rattle.dcm_base.specs.Tag.{item_end_tag, sequence_end_tag}
-use Rattle.dcm_base.specs.Value.{order}
-use Rattle.dcm_base.specs.Spelling.{inside, Enclosed, FragmentsAt, TreesAt, ItemsAt}
-use Rattle.dcm_base.specs.Size.{end_size, fragments_size, trees_size, items_size}
+use Rattle.dcm_base.specs.Tree.Tree.{Trees, no_tree, leaf, sequence, fragments, Items, no_item, item}
+use Rattle.dcm_base.specs.Bytes.Head.{ElementHead, ItemHead, Delimiter, head_size}
+use Rattle.dcm_base.specs.Tables.Tag.{item_end_tag, sequence_end_tag}
+use Rattle.dcm_base.specs.Tree.Value.{order}
+use Rattle.dcm_base.specs.Bytes.Spelling.{inside, Enclosed, FragmentsAt, TreesAt, ItemsAt}
+use Rattle.dcm_base.specs.Reading.Size.{end_size, fragments_size, trees_size, items_size}
 use Rattle.dcm_base.proofs.Conversions.Order.{length-order}
 
 pub element_takes : (s : Syntax) (t : Tag) (v : Vr) (l : Length) (b c : List ℕ) → ElementHead s t v l b c → length b ≡ head_size s v + length c

@@ -4,13 +4,13 @@ use Rattle.dcm_base.specs.declared.tag.Tag.{Tag}
 use Rattle.dcm_base.specs.declared.vr.Vr.{Vr}
 use Rattle.dcm_base.specs.declared.syntax.Syntax.{Syntax}
 use Rattle.dcm_base.specs.declared.length.Length.{Length}
-use Rattle.dcm_base.specs.Tree.{Trees, Items}
-use Rattle.dcm_base.specs.Front.{Front, front, OpenTree, nothing_open, open_leaf, open_sequence, no_open_item, open_item}
-use Rattle.dcm_base.specs.Head.{head_size}
-use Rattle.dcm_base.specs.Spelling.{inside}
-use Rattle.dcm_base.specs.Size.{trees_size}
-use Rattle.dcm_base.specs.Place.{a_sequence, Level, level, levels, set_levels, value_open, value_open_in_tree}
-use Rattle.dcm_base.specs.Stop.{Bar, stop_at, value_stop, innermost_stop, place_stop}
+use Rattle.dcm_base.specs.Tree.Tree.{Trees, Items}
+use Rattle.dcm_base.specs.Tree.Front.{Front, front, OpenTree, nothing_open, open_leaf, open_sequence, no_open_item, open_item}
+use Rattle.dcm_base.specs.Bytes.Head.{head_size}
+use Rattle.dcm_base.specs.Bytes.Spelling.{inside}
+use Rattle.dcm_base.specs.Reading.Size.{trees_size}
+use Rattle.dcm_base.specs.Reading.Place.{a_sequence, Level, level, levels, set_levels, value_open, value_open_in_tree}
+use Rattle.dcm_base.specs.Reading.Stop.{Bar, stop_at, value_stop, innermost_stop, place_stop}
 use Rattle.dcm_base.proofs.DataSets.Path.{Path, at_top, in_item, plug, syntax_of, item_length}
 use Rattle.dcm_base.proofs.DataSets.Levels.{container_of, begin_of, around, plug_levels}
 

@@ -12,7 +12,7 @@ use Rattle.std.proofs.lemmas.List.Kept.{AllPairs-from_increasing}
 use Rattle.std.proofs.lemmas.List.Recursion.{found_at, found_nowhere}
 use Rattle.dcm_base.specs.declared.vr.Vr.{Vr}
 use Rattle.dcm_base.specs.declared.vr.Vr.TheVariants.{AE}
-use Rattle.dcm_base.specs.Dictionary.{Element, elements, numbered}
+use Rattle.dcm_base.specs.Tables.Dictionary.{Element, elements, numbered}
 
 abbrev pub Row : Type 0
 Row = ℕ × Vr × Bor (List ℕ)

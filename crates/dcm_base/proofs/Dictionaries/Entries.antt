@@ -12,9 +12,9 @@ use Rattle.std.proofs.lemmas.List.Kept.{AllPairs-from_increasing}
 use Rattle.std.proofs.lemmas.List.Recursion.{found_at, found_nowhere}
 use Rattle.dcm_base.specs.declared.vr.Vr.{Vr}
 use Rattle.dcm_base.specs.declared.vr.Vr.TheVariants.{AE}
-use Rattle.dcm_base.specs.declared.lookup.Dictionary.{Dictionary}
-use Rattle.dcm_base.specs.declared.lookup.Dictionary.TheVariants.{Extract, Standard}
-use Rattle.dcm_base.specs.Dictionary.{Element, Entry, entries, keywords, keyword_of, element_of, elements_in, entry_of, fits, AllFit, numbered}
+use Rattle.dcm_base.specs.declared.dictionary.Dictionary.{Dictionary}
+use Rattle.dcm_base.specs.declared.dictionary.Dictionary.TheVariants.{Extract, Standard}
+use Rattle.dcm_base.specs.Tables.Dictionary.{Element, Entry, entries, keywords, keyword_of, element_of, elements_in, entry_of, fits, AllFit, numbered}
 use Rattle.dcm_base.proofs.Dictionaries.ByNumber.{ascend, increasing, numbers_ascend, rest_passes}
 
 abbrev no_entry : Entry

@@ -6,10 +6,10 @@ use Rattle.std.specs.Option.{option_map_or}
 use Rattle.std.proofs.lemmas.Bool.Decides.{nat_tests}
 use Rattle.dcm_base.specs.declared.tag.Tag.{Tag}
 use Rattle.dcm_base.specs.declared.vr.Vr.{Vr}
-use Rattle.dcm_base.specs.declared.lookup.Dictionary.{Dictionary}
-use Rattle.dcm_base.specs.declared.lookup.Dictionary.TheVariants.{Extract, Standard}
-use Rattle.dcm_base.specs.Tag.{tag_number}
-use Rattle.dcm_base.specs.Dictionary.{Element, Entry, elements, entries, keywords, elements_in, element_of, element_in, numbered, keyword_in, is_private_creator, other_keyword}
+use Rattle.dcm_base.specs.declared.dictionary.Dictionary.{Dictionary}
+use Rattle.dcm_base.specs.declared.dictionary.Dictionary.TheVariants.{Extract, Standard}
+use Rattle.dcm_base.specs.Tables.Tag.{tag_number}
+use Rattle.dcm_base.specs.Tables.Dictionary.{Element, Entry, elements, entries, keywords, elements_in, element_of, element_in, numbered, keyword_in, is_private_creator, other_keyword}
 use Rattle.dcm_base.proofs.Dictionaries.ByNumber.{rest_passes}
 use Rattle.dcm_base.proofs.Dictionaries.Entries.{first_passes}
 
@@ -56,10 +56,10 @@ chosen found length creator a b c p q r =
     ∙ ap (λ (x : Bool). if x then b else c) r
 
 -- so they are called by their tags
-pub item_called : (d : Dictionary) (t : Tag) → t.group ≡ 0xFFFE → 0 < t.element → keyword_in d t ≡ other_keyword (tag_number t)
+pub item_called : (d : Dictionary) (t : Tag) → t.group ≡ 0xFFFE → 0 < t.element → keyword_in d t ≡ other_keyword t
 unfolding keyword_in element_in items
 item_called d t group some =
     let above : items ≤ tag_number t = omega (arith, group) in
     let length : (t.element == 0) ≡ false = grind (arith, nat_tests, some) in
     let creator : is_private_creator t ≡ false = ap (λ (g : ℕ). (g % 2 == 1) && (nat_le 16 t.element && nat_le t.element 255)) group in
-    chosen _ _ _ _ _ (other_keyword (tag_number t)) (none_of (tag_number t) above (elements_in d) (all_below d)) length creator
+    chosen _ _ _ _ _ (other_keyword t) (none_of (tag_number t) above (elements_in d) (all_below d)) length creator

@@ -5,10 +5,10 @@ use Rattle.std.specs.List.{list_all}
 use Rattle.std.proofs.lemmas.Bool.{leb-true}
 use Rattle.dcm_base.specs.declared.tag.Tag.{Tag}
 use Rattle.dcm_base.specs.declared.vr.Vr.{Vr}
-use Rattle.dcm_base.specs.Tag.{tag_number}
-use Rattle.dcm_base.specs.Dictionary.{Element, elements, elements_in, element_in, entries, keywords}
-use Rattle.dcm_base.specs.declared.lookup.Dictionary.{Dictionary}
-use Rattle.dcm_base.specs.declared.lookup.Dictionary.TheVariants.{Extract, Standard}
+use Rattle.dcm_base.specs.Tables.Tag.{tag_number}
+use Rattle.dcm_base.specs.Tables.Dictionary.{Element, elements, elements_in, element_in, entries, keywords}
+use Rattle.dcm_base.specs.declared.dictionary.Dictionary.{Dictionary}
+use Rattle.dcm_base.specs.declared.dictionary.Dictionary.TheVariants.{Extract, Standard}
 use Rattle.dcm_base.proofs.Dictionaries.Lines.{standard_keywords, standard_has}
 
 -- what each row has, the one that is found has

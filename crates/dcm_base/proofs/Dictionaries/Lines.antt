@@ -4,9 +4,9 @@ use Rattle.std.specs.Prelude.{codes, bytes_eq}
 use Rattle.std.proofs.lemmas.Slice.Eq.{bytes_eq-Decides}
 use Rattle.std.specs.List.{list_all}
 use Rattle.std.proofs.lemmas.Bool.Decides.{nat_tests}
-use Rattle.dcm_base.specs.Dictionary.{Element, Entry, entries, keywords, keyword_of, element_of, elements_in}
+use Rattle.dcm_base.specs.Tables.Dictionary.{Element, Entry, entries, keywords, keyword_of, element_of, elements_in}
 use Rattle.dcm_base.specs.Laws.{is_line, as_line}
-use Rattle.dcm_base.specs.declared.lookup.Dictionary.TheVariants.{Standard}
+use Rattle.dcm_base.specs.declared.dictionary.Dictionary.TheVariants.{Standard}
 use Rattle.dcm_base.proofs.Dictionaries.ByNumber.{rest_passes}
 use Rattle.dcm_base.proofs.Dictionaries.Entries.{first_passes}
 

@@ -4,10 +4,10 @@ use Rattle.std.specs.Prelude.{find, option_map}
 use Rattle.std.specs.List.{list_all}
 use Rattle.dcm_base.specs.declared.vr.Vr.{Vr}
 use Rattle.dcm_base.specs.declared.tag.Tag.{Tag}
-use Rattle.dcm_base.specs.declared.lookup.Dictionary.{Dictionary}
-use Rattle.dcm_base.specs.declared.lookup.Dictionary.TheVariants.{Extract, Standard}
-use Rattle.dcm_base.specs.Tag.{tag_number}
-use Rattle.dcm_base.specs.Dictionary.{Element, Entry, elements, entries, keywords, keyword_of, element_of, elements_in, element_in, numbered}
+use Rattle.dcm_base.specs.declared.dictionary.Dictionary.{Dictionary}
+use Rattle.dcm_base.specs.declared.dictionary.Dictionary.TheVariants.{Extract, Standard}
+use Rattle.dcm_base.specs.Tables.Tag.{tag_number}
+use Rattle.dcm_base.specs.Tables.Dictionary.{Element, Entry, elements, entries, keywords, keyword_of, element_of, elements_in, element_in, numbered}
 use Rattle.dcm_base.specs.Laws.{is_even}
 use Rattle.dcm_base.proofs.Dictionaries.Lines.{standard_keywords, standard_keywords_are}
 

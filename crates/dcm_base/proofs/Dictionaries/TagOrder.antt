@@ -3,7 +3,7 @@ use Rattle.std.proofs.Common.{◌≡◌, ℕ, Option, Some, None, true, false, r
 use Rattle.std.specs.Prelude.{nat_eq}
 use Rattle.std.proofs.lemmas.Bool.Decides.{nat_tests}
 use Rattle.dcm_base.specs.declared.tag.Tag.{Tag}
-use Rattle.dcm_base.specs.Tag.{same_tag, below, is_above}
+use Rattle.dcm_base.specs.Tables.Tag.{same_tag, below, is_above}
 
 pub below_trans : (a b c : Tag) → below a b ≡ true → below b c ≡ true → below a c ≡ true
 below_trans a b c p q = grind (arith, nat_tests)

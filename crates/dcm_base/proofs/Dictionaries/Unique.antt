@@ -8,9 +8,9 @@ use Rattle.std.proofs.lemmas.List.Recursion.{found_at}
 use Rattle.std.proofs.lemmas.Bool.Decides.{nat_tests}
 use Rattle.std.proofs.lemmas.List.{get_or-map, length-map}
 use Rattle.dcm_base.specs.declared.vr.Vr.{Vr}
-use Rattle.dcm_base.specs.declared.lookup.Dictionary.{Dictionary}
-use Rattle.dcm_base.specs.declared.lookup.Dictionary.TheVariants.{Extract, Standard}
-use Rattle.dcm_base.specs.Dictionary.{Element, Entry, elements, entries, keywords, keyword_of, element_of, elements_in, numbered, called}
+use Rattle.dcm_base.specs.declared.dictionary.Dictionary.{Dictionary}
+use Rattle.dcm_base.specs.declared.dictionary.Dictionary.TheVariants.{Extract, Standard}
+use Rattle.dcm_base.specs.Tables.Dictionary.{Element, Entry, elements, entries, keywords, keyword_of, element_of, elements_in, numbered, called}
 use Rattle.dcm_base.proofs.Dictionaries.ByNumber.{rest_passes}
 use Rattle.dcm_base.proofs.Dictionaries.Entries.{first_passes}
 use Rattle.dcm_base.proofs.Dictionaries.Lines.{standard_keywords, standard_keywords_are}

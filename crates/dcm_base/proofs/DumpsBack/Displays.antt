@@ -8,10 +8,10 @@ use Rattle.std.proofs.lemmas.List.{length-take-le, length-drop, length-reverse}
 use Rattle.std.proofs.lemmas.Fmt.{decimal_nonempty}
 use Rattle.dcm_base.specs.declared.vr.Vr.{Vr}
 use Rattle.dcm_base.specs.declared.vr.Vr.TheVariants.{AE, AS, AT, CS, DA, DS, DT, FD, FL, IS, LO, LT, OB, OD, OF, OL, OV, OW, PN, SH, SL, SQ, SS, ST, SV, TM, UC, UI, UL, UN, UR, US, UT, UV}
-use Rattle.dcm_base.specs.Representation.{is_sequence}
-use Rattle.dcm_base.specs.Uid.{uids, uid_name, Named}
-use Rattle.dcm_base.specs.Value.{pieces, units, number_of}
-use Rattle.dcm_base.specs.ValueText.{Shape, hex_byte, unsigned, signed, tags, hexadecimal, shown_unit, unpadded, bracketed, identified, unit_text, units_text, display}
+use Rattle.dcm_base.specs.Tables.Representation.{is_sequence}
+use Rattle.dcm_base.specs.Tables.Uid.{uids, uid_name, Named}
+use Rattle.dcm_base.specs.Tree.Value.{pieces, units, number_of}
+use Rattle.dcm_base.specs.Dump.ValueText.{Shape, hex_byte, unsigned, signed, tags, hexadecimal, shown_unit, unpadded, bracketed, identified, unit_text, units_text, display}
 use Rattle.dcm_base.proofs.DumpsBack.Texts.{Bytes}
 use Rattle.dcm_base.proofs.DumpsBack.Numbers.{Bytes-reverse, length-hex}
 use Rattle.dcm_base.proofs.DumpsBack.Parts.{Each, each_piece, Bytes-take, Bytes-drop}

@@ -7,8 +7,8 @@ use Rattle.std.specs.Int.Digits.{AllBelowBase, digits_of}
 use Rattle.std.proofs.lemmas.Bool.Decides.{nat_tests}
 use Rattle.std.proofs.lemmas.Fmt.{decimal-digits_of}
 use Rattle.std.proofs.lemmas.Int.Digits.{all_below_base_digits_of}
-use Rattle.dcm_base.specs.ValueText.{lower, upper, hex_byte, hex_word, tag_text, escape, escaped, bracketed}
-use Rattle.dcm_base.specs.Line.{Field, field, with_front, value_field, through_bracket, through_parenthesis, up_to_space, at_space_or_end}
+use Rattle.dcm_base.specs.Dump.ValueText.{lower, upper, hex_byte, hex_word, tag_text, escape, escaped, bracketed}
+use Rattle.dcm_base.specs.Lines.Line.{Field, field, with_front, value_field, through_bracket, through_parenthesis, up_to_space, at_space_or_end}
 use Rattle.dcm_base.proofs.DumpsBack.Texts.{Bytes}
 use Rattle.dcm_base.proofs.DumpsBack.Parts.{Each}
 

@@ -6,18 +6,18 @@ use Rattle.std.specs.Option.{option_map_or}
 use Rattle.dcm_base.specs.declared.tag.Tag.{Tag}
 use Rattle.dcm_base.specs.declared.vr.Vr.{Vr}
 use Rattle.dcm_base.specs.declared.length.Length.TheVariants.{Known, Undefined}
-use Rattle.dcm_base.specs.Tag.{tag_number}
+use Rattle.dcm_base.specs.Tables.Tag.{tag_number, is_item, is_item_end, is_sequence_end}
 use Rattle.dcm_base.specs.declared.length.Length.{Length}
-use Rattle.dcm_base.specs.Dictionary.{Element, elements, elements_in, entries, keywords, element_in, keyword_in, is_group_length, is_private_creator, other_keyword}
+use Rattle.dcm_base.specs.Tables.Dictionary.{Element, elements, elements_in, entries, keywords, element_in, keyword_in, is_group_length, is_private_creator, other_keyword}
 use Rattle.dcm_base.proofs.Dictionaries.Lines.{standard_keywords, standard_has}
-use Rattle.dcm_base.specs.ValueText.{tag_text}
-use Rattle.dcm_base.specs.Dump.{length_text, line}
-use Rattle.dcm_base.specs.Line.{is_end, is_skipped, meaning_of, means}
+use Rattle.dcm_base.specs.Dump.ValueText.{tag_text}
+use Rattle.dcm_base.specs.Dump.Dump.{length_text, line}
+use Rattle.dcm_base.specs.Lines.Line.{is_end, is_skipped, meaning_of, means}
 use Rattle.dcm_base.proofs.DumpsBack.Fields.{Bytewise, Bytewise-append, Bytewise-decimal, IsPrinted, printed_text, tag_is_printed}
 use Rattle.dcm_base.proofs.Dictionaries.KeywordLengths.{found_has}
 use Rattle.dcm_base.proofs.DumpsBack.LineParts.{past_indent, line_means, tag_from}
-use Rattle.dcm_base.specs.declared.lookup.Dictionary.{Dictionary}
-use Rattle.dcm_base.specs.declared.lookup.Dictionary.TheVariants.{Extract, Standard}
+use Rattle.dcm_base.specs.declared.dictionary.Dictionary.{Dictionary}
+use Rattle.dcm_base.specs.declared.dictionary.Dictionary.TheVariants.{Extract, Standard}
 
 -- spaces, one space more and a comment are a space and what is skipped
 pub record Behind (w : List ℕ) : Type 0 where
@@ -88,9 +88,9 @@ keyword_is_printed k t = by_element (find (λ (e : Element). e.0 == tag_number t
     by_kind false false other h = h
 
     by_element : (o : Option Element) → find (λ (e : Element). e.0 == tag_number t) (elements_in k) ≡ o
-        → Bytewise IsPrinted (option_map_or (λ (e : Vr × List ℕ). e.1) (option_map (λ (e : Element). (e.1, e.2)) o) (if is_group_length t then codes "GenericGroupLength" else if is_private_creator t then codes "PrivateCreator" else other_keyword (tag_number t)))
+        → Bytewise IsPrinted (option_map_or (λ (e : Vr × List ℕ). e.1) (option_map (λ (e : Element). (e.1, e.2)) o) (if is_group_length t then codes "GenericGroupLength" else if is_private_creator t then codes "PrivateCreator" else other_keyword t))
     by_element (Some e) p = printed_text e.2 (found_has (λ x. x.0 == tag_number t) (λ x. is_printed_keyword x.2) (elements_in k) e (all_printed_keywords k) p)
-    by_element None p = by_kind (is_group_length t) (is_private_creator t) (other_keyword (tag_number t)) (by_number (tag_number t == 0xFFFEE000) (tag_number t == 0xFFFEE00D) (tag_number t == 0xFFFEE0DD))
+    by_element None p = by_kind (is_group_length t) (is_private_creator t) (other_keyword t) (by_number (is_item t) (is_item_end t) (is_sequence_end t))
 
 -- behind the display
 abbrev comment : List ℕ → ℕ → List ℕ → List ℕ

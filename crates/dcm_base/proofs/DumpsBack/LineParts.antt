@@ -2,9 +2,9 @@
 use Rattle.std.proofs.Common.{◌≡◌, ℕ, zero, suc, ◌<◌, List, [], ◌∷◌, ◌++◌, take, drop, Option, Some, None, Bool, false, refl, ◌∙◌, ap, replicate}
 use Rattle.std.specs.Prelude.{if◌then◌else◌, ◌==◌}
 use Rattle.dcm_base.specs.declared.tag.Tag.{Tag}
-use Rattle.dcm_base.specs.ValueText.{tag_text, hex_word}
-use Rattle.dcm_base.specs.ReadValue.{◌>>=◌, hex_number, tag_of_text}
-use Rattle.dcm_base.specs.Line.{without_spaces, past_spaces, is_end, Parts, parts, nothing, meaning_of, means}
+use Rattle.dcm_base.specs.Dump.ValueText.{tag_text, hex_word}
+use Rattle.dcm_base.specs.Lines.ReadValue.{◌>>=◌, hex_number, tag_of_text}
+use Rattle.dcm_base.specs.Lines.Line.{without_spaces, past_spaces, is_end, Parts, parts, nothing, meaning_of, means}
 use Rattle.dcm_base.proofs.DumpsBack.Numbers.{word_back}
 
 abbrev pub tag_from : ℕ → ℕ → Tag

@@ -9,13 +9,13 @@ use Rattle.dcm_base.specs.declared.vr.Vr.TheVariants.{AE, AS, CS, DA, DS, DT, IS
 use Rattle.dcm_base.specs.declared.syntax.Syntax.{Syntax}
 use Rattle.dcm_base.specs.declared.syntax.Syntax.TheVariants.{Implicit as implicit_in, Little as little_in, Big as big_in}
 use Rattle.dcm_base.specs.declared.length.Length.TheVariants.{Known, Undefined}
-use Rattle.dcm_base.specs.Tree.{Trees, no_tree, leaf, sequence, fragments, Items, no_item, item}
-use Rattle.dcm_base.specs.Representation.{is_long, pad, unit}
-use Rattle.dcm_base.specs.Value.{order, turned, evened}
-use Rattle.dcm_base.specs.ValueText.{shape, unpadded}
-use Rattle.dcm_base.specs.ReadValue.{takes_bytes, value_shown}
-use Rattle.dcm_base.specs.Recode.{head, is_explicit, item_head, item_delimiter, sequence_delimiter, even, leaf_head, leaf_bytes, too_long, recoded_leaf, unless_dropped, recode_set, recode_items}
-use Rattle.dcm_base.specs.Build.{rebuilt, rebuilt_items}
+use Rattle.dcm_base.specs.Tree.Tree.{Trees, no_tree, leaf, sequence, fragments, Items, no_item, item}
+use Rattle.dcm_base.specs.Tables.Representation.{is_long, pad, unit}
+use Rattle.dcm_base.specs.Tree.Value.{order, turned, evened}
+use Rattle.dcm_base.specs.Dump.ValueText.{shape, unpadded}
+use Rattle.dcm_base.specs.Lines.ReadValue.{takes_bytes, value_shown}
+use Rattle.dcm_base.specs.Conversion.Recode.{head, is_explicit, item_head, item_delimiter, sequence_delimiter, even, leaf_head, leaf_bytes, too_long, recoded_leaf, unless_dropped, recode_set, recode_items}
+use Rattle.dcm_base.specs.Lines.Build.{rebuilt, rebuilt_items}
 use Rattle.dcm_base.proofs.Conversions.Order.{turned_cons, turned_short}
 
 -- ---- values

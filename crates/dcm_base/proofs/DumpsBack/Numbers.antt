@@ -11,10 +11,10 @@ use Rattle.std.proofs.lemmas.List.{length-reverse, length-map, reverse-append}
 use Rattle.std.proofs.lemmas.List.Sums.{fold-append}
 use Rattle.std.proofs.Math.Nat.{pow-suc, div-div-eq-div-mul, mod-eq_of_lt}
 use Rattle.byteorder.specs.Endian.{little_bytes}
-use Rattle.dcm_base.specs.ReadValue.{◌>>=◌, tag_value, digit, number_in, decimal_number, hex_number, hex_value, signed_value, positive_value, negative_value, unsigned_value, only_if}
+use Rattle.dcm_base.specs.Lines.ReadValue.{◌>>=◌, tag_value, digit, number_in, decimal_number, hex_number, hex_value, signed_value, positive_value, negative_value, unsigned_value, only_if}
 use Rattle.dcm_base.specs.declared.tag.Tag.{Tag}
-use Rattle.dcm_base.specs.Value.{number_of}
-use Rattle.dcm_base.specs.ValueText.{lower, hex_byte, hex_word, signed_text, tag_text}
+use Rattle.dcm_base.specs.Tree.Value.{number_of}
+use Rattle.dcm_base.specs.Dump.ValueText.{lower, hex_byte, hex_word, signed_text, tag_text}
 use Rattle.dcm_base.proofs.DumpsBack.Texts.{Bytes, lower_digit}
 
 -- ---- the bytes of a number

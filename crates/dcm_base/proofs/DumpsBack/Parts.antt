@@ -4,8 +4,8 @@ use Rattle.std.specs.Prelude.{◌==◌}
 use Rattle.std.specs.List.{join_with_byte, slice_split, onto_first}
 use Rattle.std.proofs.lemmas.List.Splits.{slice_split-cons_yes, slice_split-cons_no}
 use Rattle.std.proofs.lemmas.List.{length-take-le, length-drop, take-append-drop}
-use Rattle.dcm_base.specs.ReadValue.{◌>>=◌, each_part, joined}
-use Rattle.dcm_base.specs.Value.{pieces}
+use Rattle.dcm_base.specs.Lines.ReadValue.{◌>>=◌, each_part, joined}
+use Rattle.dcm_base.specs.Tree.Value.{pieces}
 use Rattle.dcm_base.proofs.DumpsBack.Texts.{Bytes}
 
 -- no byte is a backslash

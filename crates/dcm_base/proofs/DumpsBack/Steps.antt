@@ -11,18 +11,18 @@ use Rattle.dcm_base.specs.declared.vr.Vr.TheVariants.{AE, SQ, UN, OB, OW}
 use Rattle.dcm_base.specs.declared.mode.Mode.TheVariants.{Full}
 use Rattle.dcm_base.specs.declared.length.Length.{Length}
 use Rattle.dcm_base.specs.declared.length.Length.TheVariants.{Known, Undefined}
-use Rattle.dcm_base.specs.Number.{IsTag}
-use Rattle.dcm_base.specs.Representation.{letters, vr_of, is_sequence}
-use Rattle.dcm_base.specs.ValueText.{Shape, text, identifier, unsigned, signed, tags, hexadecimal, shape, is_single, counted, shown_unit, count, display}
-use Rattle.dcm_base.specs.Dump.{line, leaf_line, fragment_line, sequence_line, item_line, item_end_line, sequence_end_line}
-use Rattle.dcm_base.specs.ReadValue.{value_of_text, value_shown}
-use Rattle.dcm_base.specs.Line.{Step, show_leaf, begin_sequence, begin_fragments, begin_item, show_fragment, end_item, end_sequence, Meaning, one, no_line, begins, is_skipped, with_value, may_be_sequence, may_be_fragments, element_meaning, meaning_of, LineMeans}
+use Rattle.dcm_base.specs.Tables.Number.{IsTag}
+use Rattle.dcm_base.specs.Tables.Representation.{letters, vr_of, is_sequence}
+use Rattle.dcm_base.specs.Dump.ValueText.{Shape, text, identifier, unsigned, signed, tags, hexadecimal, shape, is_single, counted, shown_unit, count, display}
+use Rattle.dcm_base.specs.Dump.Dump.{line, leaf_line, fragment_line, sequence_line, item_line, item_end_line, sequence_end_line}
+use Rattle.dcm_base.specs.Lines.ReadValue.{value_of_text, value_shown}
+use Rattle.dcm_base.specs.Lines.Line.{Step, show_leaf, begin_sequence, begin_fragments, begin_item, show_fragment, end_item, end_sequence, Meaning, one, no_line, begins, is_skipped, with_value, may_be_sequence, may_be_fragments, element_meaning, meaning_of, LineMeans}
 use Rattle.dcm_base.proofs.DumpsBack.Texts.{Bytes}
 use Rattle.dcm_base.proofs.DumpsBack.Values.{value_back}
 use Rattle.dcm_base.proofs.DumpsBack.Fields.{Shows, Bytewise, IsPrinted, printed_text, all_printed}
 use Rattle.dcm_base.proofs.DumpsBack.Displays.{display_shows, hex_begins_plain, BeginsPlain}
 use Rattle.dcm_base.proofs.DumpsBack.LineMeanings.{Meant, line_meant, IsSmall}
-use Rattle.dcm_base.specs.declared.lookup.Dictionary.{Dictionary}
+use Rattle.dcm_base.specs.declared.dictionary.Dictionary.{Dictionary}
 
 if_false : {A : Type 0} (b : Bool) (x y : A) → b ≡ false → (if b then x else y) ≡ y
 if_false b x y p = rw p refl

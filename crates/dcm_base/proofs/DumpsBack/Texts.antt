@@ -2,9 +2,9 @@
 use Rattle.std.proofs.Common.{◌≡◌, ℕ, suc, ◌<◌, ◌+◌, ◌*◌, ◌/◌, ◌%◌, List, [], ◌∷◌, ◌++◌, length, Some, Bool, true, false, refl, ◌∙◌, ap, arith, append_assoc, length-append}
 use Rattle.std.specs.Prelude.{if◌then◌else◌, nat_lt, ◌==◌, ◌||◌}
 use Rattle.std.proofs.lemmas.Bool.Decides.{nat_tests}
-use Rattle.dcm_base.specs.Number.{AreBytes}
-use Rattle.dcm_base.specs.ReadValue.{◌>>=◌, digit, number_in, hex_number, bracketed_value}
-use Rattle.dcm_base.specs.ValueText.{lower, upper, escape, escaped}
+use Rattle.dcm_base.specs.Tables.Number.{AreBytes}
+use Rattle.dcm_base.specs.Lines.ReadValue.{◌>>=◌, digit, number_in, hex_number, bracketed_value}
+use Rattle.dcm_base.specs.Dump.ValueText.{lower, upper, escape, escaped}
 
 -- each is a byte
 abbrev pub Bytes : List ℕ → Type 0

@@ -13,11 +13,11 @@ use Rattle.std.proofs.lemmas.Slice.Eq.{bytes_eq-Decides}
 use Rattle.std.proofs.Math.Nat.{mul-div_cancel, mul-le-mul, mul_comm, div-add-mod}
 use Rattle.dcm_base.specs.declared.vr.Vr.{Vr}
 use Rattle.dcm_base.specs.declared.vr.Vr.TheVariants.{AE, AS, AT, CS, DA, DS, DT, FD, FL, IS, LO, LT, OB, OD, OF, OL, OV, OW, PN, SH, SL, SQ, SS, ST, SV, TM, UC, UI, UL, UN, UR, US, UT, UV}
-use Rattle.dcm_base.specs.Representation.{is_sequence, pad}
-use Rattle.dcm_base.specs.Uid.{uids, uid_in, uid_name, uid_of, Named}
-use Rattle.dcm_base.specs.Value.{pieces, units, number_of}
-use Rattle.dcm_base.specs.ValueText.{Shape, text, identifier, unsigned, signed, tags, hexadecimal, shown_unit, lower, upper, hex_byte, hex_word, escape, escaped, unpadded, bracketed, identified, signed_text, tag_text, unit_text, units_text, display}
-use Rattle.dcm_base.specs.ReadValue.{◌>>=◌, joined, is_no_value, within_limit, value_in, value_of_text, value_shown, hex_value, unsigned_value, signed_value, tag_value}
+use Rattle.dcm_base.specs.Tables.Representation.{is_sequence, pad}
+use Rattle.dcm_base.specs.Tables.Uid.{uids, uid_in, uid_name, uid_of, Named}
+use Rattle.dcm_base.specs.Tree.Value.{pieces, units, number_of}
+use Rattle.dcm_base.specs.Dump.ValueText.{Shape, text, identifier, unsigned, signed, tags, hexadecimal, shown_unit, lower, upper, hex_byte, hex_word, escape, escaped, unpadded, bracketed, identified, signed_text, tag_text, unit_text, units_text, display}
+use Rattle.dcm_base.specs.Lines.ReadValue.{◌>>=◌, joined, is_no_value, within_limit, value_in, value_of_text, value_shown, hex_value, unsigned_value, signed_value, tag_value}
 use Rattle.dcm_base.proofs.DumpsBack.Texts.{Bytes, escaped_back}
 use Rattle.dcm_base.proofs.DumpsBack.Numbers.{hex_back, signed_back, unsigned_back, tag_back, number_below, length-hex, Bytes-reverse}
 use Rattle.dcm_base.proofs.DumpsBack.Parts.{Apart, Apart-append, IsPart, Each, Bytes-take, Bytes-drop, each_piece, parts_back, parts_within}

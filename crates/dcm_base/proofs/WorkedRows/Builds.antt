@@ -1,9 +1,9 @@
 -- Worked rows: the files that lines build, behind their preamble.
 use Rattle.std.proofs.Common.{◌≡◌, ℕ, List, [], ◌∷◌, ◌++◌, length, take, drop, refl, replicate}
 use Rattle.std.specs.Prelude.{codes}
-use Rattle.dcm_base.specs.Representation.{letters}
-use Rattle.dcm_base.specs.Recode.{recode, recode_set}
-use Rattle.dcm_base.specs.Build.{built, built_bytes, written_so_far}
+use Rattle.dcm_base.specs.Tables.Representation.{letters}
+use Rattle.dcm_base.specs.Conversion.Recode.{recode, recode_set}
+use Rattle.dcm_base.specs.Lines.Build.{built, built_bytes, written_so_far}
 use Rattle.dcm_base.proofs.WorkedRows.Lines.{all as lines}
 
 -- all that a row computes with

@@ -3,12 +3,12 @@ use Rattle.std.proofs.Common.{◌≡◌, ℕ, List, [], ◌∷◌, length, take,
 use Rattle.dcm_base.specs.declared.tag.Tag.{Tag}
 use Rattle.dcm_base.specs.declared.vr.Vr.{Vr}
 use Rattle.dcm_base.specs.declared.vr.Vr.TheVariants.{UL, PN, LT, UN, SQ, US, OB, OW, AT, CS, UV}
-use Rattle.dcm_base.specs.Syntax.{Little, Big}
+use Rattle.dcm_base.specs.Tables.Syntax.{Little, Big}
 use Rattle.dcm_base.specs.declared.length.Length.TheVariants.{Known, Undefined}
-use Rattle.dcm_base.specs.Tree.{no_tree, leaf, sequence, fragments, no_item, item}
-use Rattle.dcm_base.specs.Front.{Front, front, open_leaf, open_sequence, no_open_item}
-use Rattle.dcm_base.specs.Representation.{letters}
-use Rattle.dcm_base.specs.Recode.{recode, recode_set}
+use Rattle.dcm_base.specs.Tree.Tree.{no_tree, leaf, sequence, fragments, no_item, item}
+use Rattle.dcm_base.specs.Tree.Front.{Front, front, open_leaf, open_sequence, no_open_item}
+use Rattle.dcm_base.specs.Tables.Representation.{letters}
+use Rattle.dcm_base.specs.Conversion.Recode.{recode, recode_set}
 
 -- all that a row computes with
 unfoldable all : ℕ

@@ -1,14 +1,14 @@
 -- Worked rows: data sets that are cut or refused, as far as they were read.
 use Rattle.std.proofs.Common.{◌≡◌, [], ◌∷◌, ◌++◌, Some, refl, arith, lit≤}
 use Rattle.dcm_base.specs.declared.vr.Vr.TheVariants.{PN, OW, LO}
-use Rattle.dcm_base.specs.Syntax.{Little}
+use Rattle.dcm_base.specs.Tables.Syntax.{Little}
 use Rattle.dcm_base.specs.declared.fault.Fault.TheVariants.{PassesEnd, EndsEarly, NotAscending}
 use Rattle.dcm_base.specs.declared.length.Length.TheVariants.{Known, Undefined}
-use Rattle.dcm_base.specs.Tree.{no_tree, leaf}
-use Rattle.dcm_base.specs.Front.{Front, no_open_item, open_item}
-use Rattle.dcm_base.specs.Spelling.{SpellsFront}
-use Rattle.dcm_base.specs.Stop.{refused, stop_at}
-use Rattle.dcm_base.specs.Bars.{no_bar, ascending_bar}
+use Rattle.dcm_base.specs.Tree.Tree.{no_tree, leaf}
+use Rattle.dcm_base.specs.Tree.Front.{Front, no_open_item, open_item}
+use Rattle.dcm_base.specs.Bytes.Spelling.{SpellsFront}
+use Rattle.dcm_base.specs.Reading.Stop.{refused, stop_at}
+use Rattle.dcm_base.specs.Reading.Bars.{no_bar, ascending_bar}
 use Rattle.dcm_base.proofs.WorkedRows.Readings.{all, tag, whole_set, open_value, patient_name, instance, leaf_bytes, instance_leaf, leaf_spelled, open_front, opening, pixels}
 
 -- ---- tags that do not ascend

@@ -2,15 +2,15 @@
 use Rattle.std.proofs.Common.{◌≡◌, ℕ, zero, suc, List, [], ◌∷◌, ◌++◌, Some, None, false, refl, arith}
 use Rattle.dcm_base.specs.declared.tag.Tag.{Tag}
 use Rattle.dcm_base.specs.declared.vr.Vr.TheVariants.{SQ}
-use Rattle.dcm_base.specs.Syntax.{Little}
+use Rattle.dcm_base.specs.Tables.Syntax.{Little}
 use Rattle.dcm_base.specs.declared.fault.Fault.TheVariants.{TooDeep, EndsEarly, TooLong}
 use Rattle.dcm_base.specs.declared.length.Length.TheVariants.{Undefined}
-use Rattle.dcm_base.specs.Tree.{Trees, no_tree, sequence, no_item, item}
-use Rattle.dcm_base.specs.Front.{Front, front, nothing_open, open_sequence, open_item}
-use Rattle.dcm_base.specs.Spelling.{TreesAt, SpellsFront}
-use Rattle.dcm_base.specs.Stop.{complete, refused, stop_at}
-use Rattle.dcm_base.specs.Bars.{no_bar}
-use Rattle.dcm_base.specs.Reads.{Reads}
+use Rattle.dcm_base.specs.Tree.Tree.{Trees, no_tree, sequence, no_item, item}
+use Rattle.dcm_base.specs.Tree.Front.{Front, front, nothing_open, open_sequence, open_item}
+use Rattle.dcm_base.specs.Bytes.Spelling.{TreesAt, SpellsFront}
+use Rattle.dcm_base.specs.Reading.Stop.{complete, refused, stop_at}
+use Rattle.dcm_base.specs.Reading.Bars.{no_bar}
+use Rattle.dcm_base.specs.Reading.Reads.{Reads}
 use Rattle.dcm_base.proofs.WorkedRows.Readings.{all}
 
 abbrev images : Tag

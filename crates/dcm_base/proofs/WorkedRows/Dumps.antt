@@ -7,14 +7,14 @@ use Rattle.dcm_base.specs.declared.vr.Vr.TheVariants.{UL, UI, PN, LT, LO, UN, SQ
 use Rattle.dcm_base.specs.declared.mode.Mode.TheVariants.{Short, Full}
 use Rattle.dcm_base.specs.declared.length.Length.{Length}
 use Rattle.dcm_base.specs.declared.length.Length.TheVariants.{Known, Undefined}
-use Rattle.dcm_base.specs.Tree.{Trees, no_tree, leaf, sequence, fragments, no_item, item}
-use Rattle.dcm_base.specs.Front.{Front, front, nothing_open, open_leaf, open_sequence, open_fragments, OpenItem, no_open_item, open_item}
-use Rattle.dcm_base.specs.Dictionary.{keyword_in, element_in, elements_in, elements}
-use Rattle.dcm_base.specs.Representation.{letters}
-use Rattle.dcm_base.specs.Uid.{uid_name, uids}
-use Rattle.dcm_base.specs.Dump.{dump_set, dump_front}
-use Rattle.dcm_base.specs.Header.{meta_header, set_header}
-use Rattle.dcm_base.specs.declared.lookup.Dictionary.TheVariants.{Extract}
+use Rattle.dcm_base.specs.Tree.Tree.{Trees, no_tree, leaf, sequence, fragments, no_item, item}
+use Rattle.dcm_base.specs.Tree.Front.{Front, front, nothing_open, open_leaf, open_sequence, open_fragments, OpenItem, no_open_item, open_item}
+use Rattle.dcm_base.specs.Tables.Dictionary.{keyword_in, element_in, elements_in, elements}
+use Rattle.dcm_base.specs.Tables.Representation.{letters}
+use Rattle.dcm_base.specs.Tables.Uid.{uid_name, uids}
+use Rattle.dcm_base.specs.Dump.Dump.{dump_set, dump_front}
+use Rattle.dcm_base.specs.Dump.Header.{meta_header, set_header}
+use Rattle.dcm_base.specs.declared.dictionary.Dictionary.TheVariants.{Extract}
 
 -- all that a row computes with
 unfoldable all : ℕ

@@ -1,9 +1,9 @@
 -- Worked rows of the dictionaries (PS3.6 sections 6 and 7).
 use Rattle.std.proofs.Common.{◌≡◌, Some, None, refl}
 use Rattle.std.specs.Prelude.{ℕ, codes}
-use Rattle.dcm_base.specs.declared.lookup.Dictionary.TheVariants.{Extract, Standard}
+use Rattle.dcm_base.specs.declared.dictionary.Dictionary.TheVariants.{Extract, Standard}
 use Rattle.dcm_base.specs.declared.vr.Vr.TheVariants.{AE, LO, OW, PN, SQ, UL, UN}
-use Rattle.dcm_base.specs.Dictionary.{elements, entries, keywords, elements_in, element_in, vr_in, keyword_in, tag_in}
+use Rattle.dcm_base.specs.Tables.Dictionary.{elements, entries, keywords, elements_in, element_in, vr_in, keyword_in, tag_in}
 
 -- all that a row computes with
 unfoldable all : ℕ

@@ -3,8 +3,8 @@ use Rattle.std.proofs.Common.{◌≡◌, ℕ, [], ◌∷◌, Some, None, refl}
 use Rattle.std.specs.Prelude.{codes}
 use Rattle.dcm_base.specs.declared.tag.Tag.{Tag}
 use Rattle.dcm_base.specs.declared.vr.Vr.TheVariants.{AT, OB, OW, PN, SQ, UN}
-use Rattle.dcm_base.specs.Representation.{vr_of}
-use Rattle.dcm_base.specs.Line.{show_leaf, begin_sequence, begin_fragments, begin_item, show_fragment, end_item, end_sequence, nothing, one, no_line, means}
+use Rattle.dcm_base.specs.Tables.Representation.{vr_of}
+use Rattle.dcm_base.specs.Lines.Line.{show_leaf, begin_sequence, begin_fragments, begin_item, show_fragment, end_item, end_sequence, nothing, one, no_line, means}
 
 abbrev tag : ℕ → ℕ → Tag
 tag g e = record { group = g; element = e }

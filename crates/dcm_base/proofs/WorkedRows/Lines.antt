@@ -6,15 +6,15 @@ use Rattle.dcm_base.specs.declared.vr.Vr.TheVariants.{UI, PN, LO, SQ, LT, UL, UV
 use Rattle.dcm_base.specs.declared.fault.LineFault.{LineFault}
 use Rattle.dcm_base.specs.declared.fault.LineFault.TheVariants.{LineTooLong, NotALine, ValueDoesNotFit, NotAllowed, NotAscending, BadMetaGroup, NoTransferSyntax, TooDeep, EndsEarly}
 use Rattle.dcm_base.specs.declared.length.Length.TheVariants.{Undefined}
-use Rattle.dcm_base.specs.Tree.{Trees, no_tree, leaf, sequence, fragments, no_item, item}
-use Rattle.dcm_base.specs.Front.{Front, front, nothing_open, open_sequence, no_open_item, open_item}
-use Rattle.dcm_base.specs.Representation.{vr_of}
-use Rattle.dcm_base.specs.Uid.{uid_of, uids}
-use Rattle.dcm_base.specs.Transfer.{without_pads, coding_of}
-use Rattle.dcm_base.specs.Size.{trees_size}
-use Rattle.dcm_base.specs.Place.{set_levels, levels, depth}
-use Rattle.dcm_base.specs.Bars.{innermost_reached}
-use Rattle.dcm_base.specs.Build.{built, Built, Progress, with_step, no_elements}
+use Rattle.dcm_base.specs.Tree.Tree.{Trees, no_tree, leaf, sequence, fragments, no_item, item}
+use Rattle.dcm_base.specs.Tree.Front.{Front, front, nothing_open, open_sequence, no_open_item, open_item}
+use Rattle.dcm_base.specs.Tables.Representation.{vr_of}
+use Rattle.dcm_base.specs.Tables.Uid.{uid_of, uids}
+use Rattle.dcm_base.specs.Tables.Transfer.{without_pads, coding_of}
+use Rattle.dcm_base.specs.Reading.Size.{trees_size}
+use Rattle.dcm_base.specs.Reading.Place.{set_levels, levels, depth}
+use Rattle.dcm_base.specs.Reading.Bars.{innermost_reached}
+use Rattle.dcm_base.specs.Lines.Build.{built, Built, Progress, with_step, no_elements}
 use Rattle.dcm_base.specs.declared.fault.LineStop.{LineStop}
 
 -- all that a row computes with

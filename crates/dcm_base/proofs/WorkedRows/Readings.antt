@@ -3,20 +3,20 @@ use Rattle.std.proofs.Common.{◌≡◌, ℕ, List, [], ◌∷◌, ◌++◌, Som
 use Rattle.dcm_base.specs.declared.tag.Tag.{Tag}
 use Rattle.dcm_base.specs.declared.vr.Vr.{Vr}
 use Rattle.dcm_base.specs.declared.vr.Vr.TheVariants.{PN, SQ, UI, US, UN, OB, OW, OV, SV, UV, UL, CS, LT, AT}
-use Rattle.dcm_base.specs.Syntax.{Implicit, Little, Big}
+use Rattle.dcm_base.specs.Tables.Syntax.{Implicit, Little, Big}
 use Rattle.dcm_base.specs.declared.fault.Fault.TheVariants.{PassesEnd, UnknownRepresentation, UndefinedLength, FragmentsBarred}
 use Rattle.dcm_base.specs.declared.length.Length.{Length}
 use Rattle.dcm_base.specs.declared.length.Length.TheVariants.{Known, Undefined}
-use Rattle.dcm_base.specs.Tree.{Trees, no_tree, leaf, sequence, fragments, Items, no_item, item}
-use Rattle.dcm_base.specs.Front.{Front, front, nothing_open, open_leaf, open_sequence, OpenItem, no_open_item, open_item}
-use Rattle.dcm_base.specs.Representation.{vr_of}
-use Rattle.dcm_base.specs.Dictionary.{vr_in, element_in, elements_in, elements}
-use Rattle.dcm_base.specs.Head.{vr_at, length_at}
-use Rattle.dcm_base.specs.Spelling.{form, inside, FragmentsAt, TreesAt, ItemsAt, last_tag, SpellsFront}
-use Rattle.dcm_base.specs.Size.{fragments_size, trees_size}
-use Rattle.dcm_base.specs.Place.{set_levels, levels, value_open, room, depth, is_allowed}
-use Rattle.dcm_base.specs.Stop.{complete, refused, stop_at}
-use Rattle.dcm_base.specs.Bars.{innermost_reached, no_bar, fragments_bar}
+use Rattle.dcm_base.specs.Tree.Tree.{Trees, no_tree, leaf, sequence, fragments, Items, no_item, item}
+use Rattle.dcm_base.specs.Tree.Front.{Front, front, nothing_open, open_leaf, open_sequence, OpenItem, no_open_item, open_item}
+use Rattle.dcm_base.specs.Tables.Representation.{vr_of}
+use Rattle.dcm_base.specs.Tables.Dictionary.{vr_in, element_in, elements_in, elements}
+use Rattle.dcm_base.specs.Bytes.Head.{vr_at, length_at}
+use Rattle.dcm_base.specs.Bytes.Spelling.{form, inside, FragmentsAt, TreesAt, ItemsAt, last_tag, SpellsFront}
+use Rattle.dcm_base.specs.Reading.Size.{fragments_size, trees_size}
+use Rattle.dcm_base.specs.Reading.Place.{set_levels, levels, value_open, room, depth, is_allowed}
+use Rattle.dcm_base.specs.Reading.Stop.{complete, refused, stop_at}
+use Rattle.dcm_base.specs.Reading.Bars.{innermost_reached, no_bar, fragments_bar}
 
 -- all that a row computes with
 unfoldable pub all : ℕ

@@ -2,8 +2,8 @@
 use Rattle.std.proofs.Common.{◌≡◌, ℕ, [], ◌∷◌, Some, None, refl, replicate}
 use Rattle.std.specs.Prelude.{codes}
 use Rattle.dcm_base.specs.declared.vr.Vr.TheVariants.{AT, FD, LO, LT, OB, OV, OW, PN, SQ, SS, SV, UI, UL, US, UV}
-use Rattle.dcm_base.specs.Uid.{uid_of, uids}
-use Rattle.dcm_base.specs.ReadValue.{value_of_text, value_of_word}
+use Rattle.dcm_base.specs.Tables.Uid.{uid_of, uids}
+use Rattle.dcm_base.specs.Lines.ReadValue.{value_of_text, value_of_word}
 
 -- all that a row computes with
 unfoldable all : ℕ

@@ -3,8 +3,8 @@ use Rattle.std.proofs.Common.{◌≡◌, ◌<◌, ℕ, zero, suc, ◌/◌, ◌%�
 use Rattle.std.specs.Prelude.{slice_index, flat_map, IsOk, OnOk}
 use Rattle.std.proofs.lemmas.Bool.{and_parts, cases_lt}
 use Rattle.hex.specs.Hex.{encode_lower, encode_with, lower_digits}
-use Rattle.dcm_base.specs.Number.{AreBytes}
-use Rattle.dcm_base.specs.ValueText.{lower, hex_byte, hex_word}
+use Rattle.dcm_base.specs.Tables.Number.{AreBytes}
+use Rattle.dcm_base.specs.Dump.ValueText.{lower, hex_byte, hex_word}
 
 -- the first n digits of the table
 are_digits : ℕ → Bool

@@ -8,7 +8,7 @@ use Rattle.std.proofs.lemmas.List.Sums.{fold-append}
 use Rattle.std.proofs.lemmas.List.{append-nil, take_all, take_more, take-append-drop, take-append-le}
 use Rattle.std.proofs.Common.{suc, ◌+◌, ◌<◌, ◌≤◌, length, take, drop, get_or, drop-cons, arith}
 use Rattle.std.specs.List.{refill}
-use Rattle.dcm_base.specs.Steps.{outputs, Goes}
+use Rattle.dcm_base.specs.Steps.Steps.{outputs, Goes}
 
 -- a list has no more than all of it
 pub take_within : (n : ℕ) (xs : List ℕ) → length xs ≤ n → take n xs ≡ xs

@@ -5,7 +5,7 @@ use Rattle.std.specs.Io.KnownBytes.{append_known}
 use Rattle.dcm_base.specs.declared.fault.LineFault.{LineFault}
 use Rattle.dcm_devices.specs.Device.{AppendsFront, Puts}
 use Rattle.dcm_devices.proofs.Writes.Puts.{append_known_none, append_known_twice, puts_behind, front_longer}
-use Rattle.dcm_base.specs.Line.{Step, Meaning, one}
+use Rattle.dcm_base.specs.Lines.Line.{Step, Meaning, one}
 use Rattle.dcm_build.specs.declared.file.Stopped.{Stopped}
 use Rattle.dcm_build.specs.declared.file.Stopped.TheVariants.{Refused, Output}
 use Rattle.dcm_build.specs.Building.{BuildState, tells, in_group, placed, placed_writes, shows, shows_writes, meaning_taken, meaning_writes}
@@ -49,10 +49,10 @@ comes_behind held mid holds new x first bytes (Ok y) went h = (h.0, h.1 ∙ ap (
 comes_behind held mid holds new x first bytes (Err (Refused fault)) went h = (h.0, h.1 ∙ ap (λ known. append_known known bytes) went ∙ append_known_twice held first bytes)
 comes_behind held mid holds new x first bytes (Err Output) went h = puts_behind {T = ℕ} {E = ℕ} held mid holds first bytes (Err 0) went h
 
-pub shown_behind : {T : Type 0} (step : Step) (o : Option LineFault) (s t m n new : BuildState) (first : List ℕ) (held mid holds : Option (List ℕ)) (r : Result T Stopped) → o ≡ None → m ≡ in_group step s → n ≡ in_group step t → mid ≡ append_known held first
+pub shown_after : {T : Type 0} (step : Step) (o : Option LineFault) (s t m n new : BuildState) (first : List ℕ) (held mid holds : Option (List ℕ)) (r : Result T Stopped) → o ≡ None → m ≡ in_group step s → n ≡ in_group step t → mid ≡ append_known held first
     → Comes mid holds new (placed step m) (placed_writes step n) r
     → Comes held holds new (elim o [ Some f ↦ tells f s | None ↦ placed step (in_group step s) ]) (elim o [ Some f ↦ [] | None ↦ first ++ placed_writes step (in_group step t) ]) r
-shown_behind step o s t m n new first held mid holds r none e f went h =
+shown_after step o s t m n new first held mid holds r none e f went h =
     passed_at o s (placed step (in_group step s)) new (first ++ placed_writes step (in_group step t)) held holds r none
     (comes_behind held mid holds new (placed step (in_group step s)) first (placed_writes step (in_group step t)) r went
     (subst (λ (z : BuildState). Comes mid holds new (placed step (in_group step s)) (placed_writes step z) r) f

@@ -1,5 +1,5 @@
 -- How deep what stands open is, and how it is seen from the outermost on.
-use Rattle.std.proofs.Common.{◌≡◌, ◌∙◌, ap, refl, ℕ, suc, ◌+◌, ◌<◌, ◌≤◌, List, [], ◌∷◌, length, take, get_or, reverse, arith}
+use Rattle.std.proofs.Common.{◌≡◌, ◌∙◌, ap, ℕ, suc, ◌+◌, ◌<◌, ◌≤◌, List, [], ◌∷◌, length, take, get_or, reverse, arith}
 use Rattle.std.proofs.lemmas.List.{take_more, length-reverse}
 use Rattle.dcm_base.specs.declared.level.Container.TheVariants.{Sequence as a_sequence}
 use Rattle.dcm_stream.proofs.Containers.Reversed.{turned_more}

@@ -6,10 +6,10 @@ use Rattle.std.proofs.lemmas.Bool.{cases_Bool, lt-ltb, leb-true}
 use Rattle.std.proofs.lemmas.List.{append-nil}
 use Rattle.std.proofs.lemmas.List.Sums.{fold-append}
 use Rattle.dcm_base.specs.declared.fault.LineFault.TheVariants.{LineTooLong}
-use Rattle.dcm_base.specs.Build as build
-use Rattle.dcm_base.specs.Build.{Lines, lines, more_lines, at_start}
+use Rattle.dcm_base.specs.Lines.Build as build
+use Rattle.dcm_base.specs.Lines.Build.{Lines, lines, more_lines, at_start}
 use Rattle.dcm_base.specs.declared.fault.LineStop.{LineStop}
-use Rattle.dcm_base.specs.Reads.{INPUT_LIMIT}
+use Rattle.dcm_base.specs.Reading.Reads.{INPUT_LIMIT}
 use Rattle.dcm_build.specs.Builder.{Plain}
 use Rattle.dcm_build.specs.Building.{BuildState, build_start, build_step, going_step, cut_short, line_taken, tells}
 use Rattle.dcm_build.specs.BuildLaws.{Undecided, IsTold, CallRefuses, CallTells}

@@ -6,13 +6,13 @@ use Rattle.std.specs.Str.{byte}
 use Rattle.std.proofs.lemmas.Bool.{cases_Bool, cases_lt, lt-ltb, le-ltb, le-leb, leb-true, ltb-true, ltb-false}
 use Rattle.std.proofs.lemmas.List.{append-nil}
 use Rattle.dcm_base.specs.declared.fault.LineFault.TheVariants.{LineTooLong, TooLong}
-use Rattle.dcm_base.specs.Build as build
-use Rattle.dcm_base.specs.Build.{first_fault, Built, Refused, refused, Progress, Lines, lines, more_lines, last_apart, lines_of, with_line, line_built, moved, tell, built_bytes, with_rest, at_input_end, at_the_cut, with_meaning, without_return}
+use Rattle.dcm_base.specs.Lines.Build as build
+use Rattle.dcm_base.specs.Lines.Build.{first_fault, Built, Refused, refused, Progress, Lines, lines, more_lines, last_apart, lines_of, with_line, line_built, moved, tell, built_bytes, with_rest, at_input_end, at_the_cut, with_meaning, without_return}
 use Rattle.dcm_base.specs.declared.fault.LineStop.{LineStop}
-use Rattle.dcm_base.specs.Line.{means}
-use Rattle.dcm_base.specs.Reads.{INPUT_LIMIT}
+use Rattle.dcm_base.specs.Lines.Line.{means}
+use Rattle.dcm_base.specs.Reading.Reads.{INPUT_LIMIT}
 use Rattle.dcm_build.proofs.Files.OpenContainers.{standing_in}
-use Rattle.dcm_base.specs.Steps.{outputs}
+use Rattle.dcm_base.specs.Steps.Steps.{outputs}
 use Rattle.dcm_build.specs.Building as steps
 use Rattle.dcm_build.specs.Building.{BuildState, build_start, build_step, build_writes, line_taken, line_writes, next_line, line_byte, meaning_taken, meaning_writes}
 use Rattle.dcm_build.proofs.Lines.Forms.{means_form}

@@ -6,21 +6,21 @@ use Rattle.std.proofs.lemmas.Bool.Decides.{nat_tests}
 use Rattle.std.proofs.lemmas.List.{append-nil, take_at, drop_at, drop-drop}
 use Rattle.dcm_base.specs.declared.tag.Tag.{Tag}
 use Rattle.dcm_base.specs.declared.vr.Vr.{Vr}
-use Rattle.dcm_base.specs.Syntax.{Little}
+use Rattle.dcm_base.specs.Tables.Syntax.{Little}
 use Rattle.dcm_base.specs.declared.length.Length.TheVariants.{Known}
 use Rattle.dcm_base.specs.declared.form.Form.TheVariants.{Value as a_value}
-use Rattle.dcm_base.specs.Build.{named_syntax}
+use Rattle.dcm_base.specs.Lines.Build.{named_syntax}
 use Rattle.dcm_devices.specs.Device.{Puts, AppendsFront}
-use Rattle.dcm_base.specs.Head.{ElementHead, head_size}
-use Rattle.dcm_base.specs.MetaGroup.{GroupPlace, an_element, the_end, too_few, a_fault, group_place, AreMeta}
-use Rattle.dcm_base.specs.MetaReads.{PREFIX, syntax_value}
-use Rattle.dcm_base.specs.NewMeta.{new_meta}
-use Rattle.dcm_base.specs.Number.{IsTag}
-use Rattle.dcm_base.specs.Recode.{head}
-use Rattle.dcm_base.specs.Size.{trees_size}
-use Rattle.dcm_base.specs.Spelling.{form, TreesAt, Spells}
-use Rattle.dcm_base.specs.Tag.{is_tag}
-use Rattle.dcm_base.specs.Tree.{Trees, no_tree, leaf, sequence, fragments, then_trees}
+use Rattle.dcm_base.specs.Bytes.Head.{ElementHead, head_size}
+use Rattle.dcm_base.specs.File.MetaGroup.{GroupPlace, an_element, the_end, too_few, a_fault, group_place, AreMeta}
+use Rattle.dcm_base.specs.File.MetaReads.{PREFIX, syntax_value}
+use Rattle.dcm_base.specs.Conversion.NewMeta.{new_meta}
+use Rattle.dcm_base.specs.Tables.Number.{IsTag}
+use Rattle.dcm_base.specs.Conversion.Recode.{head}
+use Rattle.dcm_base.specs.Reading.Size.{trees_size}
+use Rattle.dcm_base.specs.Bytes.Spelling.{form, TreesAt, Spells}
+use Rattle.dcm_base.specs.Tables.Tag.{is_tag}
+use Rattle.dcm_base.specs.Tree.Tree.{Trees, no_tree, leaf, sequence, fragments, then_trees}
 use Rattle.dcm_base.proofs.DataSets.Extend.{element_extends, trees_extend}
 use Rattle.dcm_base.proofs.DataSets.Heads.{eight_le_head_size}
 use Rattle.dcm_base.proofs.DataSets.Path.{trees_then_at}

@@ -3,10 +3,10 @@ use Rattle.std.proofs.Common.{◌≡◌, ◌∙◌, ap, sym, ℕ, zero, suc, ◌
 use Rattle.std.specs.Prelude.{fold}
 use Rattle.std.proofs.lemmas.List.{append-nil}
 use Rattle.dcm_base.specs.declared.fault.LineFault.{LineFault}
-use Rattle.dcm_base.specs.Build.{Progress, Lines, lines, at_start, at_input_end, at_the_cut, with_rest, first_fault, end_checks, meta_has_ended, tell}
+use Rattle.dcm_base.specs.Lines.Build.{Progress, Lines, lines, at_start, at_input_end, at_the_cut, with_rest, first_fault, end_checks, meta_has_ended, tell}
 use Rattle.dcm_base.specs.declared.fault.LineStop.{LineStop}
-use Rattle.dcm_base.specs.Reads.{INPUT_LIMIT}
-use Rattle.dcm_base.specs.Steps.{outputs}
+use Rattle.dcm_base.specs.Reading.Reads.{INPUT_LIMIT}
+use Rattle.dcm_base.specs.Steps.Steps.{outputs}
 use Rattle.dcm_build.specs.Building.{BuildState, build_start, build_step, build_writes}
 use Rattle.dcm_build.proofs.Files.Lines.{lines_from, result, overlong, run_lines, Ran, runs, told_of, all_ran}
 

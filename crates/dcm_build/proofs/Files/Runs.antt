@@ -6,13 +6,13 @@ use Rattle.dcm_base.specs.declared.level.Container.{Container}
 use Rattle.dcm_base.specs.declared.syntax.Coding.{Coding}
 use Rattle.dcm_base.specs.declared.fault.LineFault.{LineFault}
 use Rattle.dcm_base.specs.declared.fault.LineFault.TheVariants.{EndsEarly, NoTransferSyntax}
-use Rattle.dcm_base.specs.Build as build
-use Rattle.dcm_base.specs.Build.{first_fault, Built, Progress, Lines, lines, lines_of, with_line, tell, built_bytes, with_rest, at_input_end, meta_has_ended, named_coding, innermost, open_levels}
+use Rattle.dcm_base.specs.Lines.Build as build
+use Rattle.dcm_base.specs.Lines.Build.{first_fault, Built, Progress, Lines, lines, lines_of, with_line, tell, built_bytes, with_rest, at_input_end, meta_has_ended, named_coding, innermost, open_levels}
 use Rattle.dcm_base.specs.declared.fault.LineStop.{LineStop}
-use Rattle.dcm_base.specs.Front.{Front}
-use Rattle.dcm_base.specs.Reads.{INPUT_LIMIT}
-use Rattle.dcm_base.specs.Steps.{outputs}
-use Rattle.dcm_base.specs.Tree.{Trees}
+use Rattle.dcm_base.specs.Tree.Front.{Front}
+use Rattle.dcm_base.specs.Reading.Reads.{INPUT_LIMIT}
+use Rattle.dcm_base.specs.Steps.Steps.{outputs}
+use Rattle.dcm_base.specs.Tree.Tree.{Trees}
 use Rattle.dcm_build.specs.Building as steps
 use Rattle.dcm_build.specs.Building.{BuildState, build_start, build_step, build_writes, file_start, meta_over, line_taken, line_writes, last_line, last_writes, closed, closed_writes, ended_meta, end_writes, read_size, finishes, finish_writes, tells_at_end}
 use Rattle.dcm_build.specs.BuildLaws.{Builds, BuiltSoFar, Stays}

@@ -2,17 +2,17 @@
 use Rattle.std.proofs.Common.{◌≡◌, ◌∙◌, ap, sym, refl, subst, ℕ, List, [], ◌∷◌, ◌++◌, length, map, Option, Some, None, Bool, true, false}
 use Rattle.dcm_base.specs.declared.tag.Tag.{Tag}
 use Rattle.dcm_base.specs.declared.vr.Vr.{Vr}
-use Rattle.dcm_base.specs.Syntax.{Little}
+use Rattle.dcm_base.specs.Tables.Syntax.{Little}
 use Rattle.dcm_base.specs.declared.length.Length.TheVariants.{Known, Undefined}
 use Rattle.dcm_base.specs.declared.form.Form.TheVariants.{Value as a_value, Sequence as a_sequence, FragmentList as a_fragment_list}
 use Rattle.dcm_base.specs.declared.level.Container.TheVariants.{Sequence as a_sequence_container, FragmentList as a_fragment_container}
-use Rattle.dcm_base.specs.Tree.{Trees, no_tree, leaf, sequence, fragments, Items, no_item, item, then_trees, then_items}
-use Rattle.dcm_base.specs.Front.{Front, front, nothing_open, open_leaf, open_sequence, open_fragments, no_open_item, open_item}
-use Rattle.dcm_base.specs.Spelling.{form, last_tag}
-use Rattle.dcm_base.specs.Value.{order}
-use Rattle.dcm_base.specs.Atoms.{Atom, opens, value_byte, closes_leaf, opens_item, closes_item, closes_sequence, opens_fragment, fragments_then, ShowTrees, ShowItems, Shows, is_closed}
-use Rattle.dcm_base.specs.Line.{Step, show_leaf, begin_sequence, begin_fragments, begin_item, show_fragment, end_item, end_sequence}
-use Rattle.dcm_base.specs.Build.{has_place_in, no_elements, with_step, step_in_item, finished}
+use Rattle.dcm_base.specs.Tree.Tree.{Trees, no_tree, leaf, sequence, fragments, Items, no_item, item, then_trees, then_items}
+use Rattle.dcm_base.specs.Tree.Front.{Front, front, nothing_open, open_leaf, open_sequence, open_fragments, no_open_item, open_item}
+use Rattle.dcm_base.specs.Bytes.Spelling.{form, last_tag}
+use Rattle.dcm_base.specs.Tree.Value.{order}
+use Rattle.dcm_base.specs.Steps.Atoms.{Atom, opens, value_byte, closes_leaf, opens_item, closes_item, closes_sequence, opens_fragment, fragments_then, ShowTrees, ShowItems, Shows, is_closed}
+use Rattle.dcm_base.specs.Lines.Line.{Step, show_leaf, begin_sequence, begin_fragments, begin_item, show_fragment, end_item, end_sequence}
+use Rattle.dcm_base.specs.Lines.Build.{has_place_in, no_elements, with_step, step_in_item, finished}
 use Rattle.dcm_build.specs.Building.{value_atoms, step_atoms}
 use Rattle.dcm_build.proofs.Files.OpenContainers.{Where, the_top, within, standing_at, standing_in, standing_of, HasPlace, IsBuilt, nothing_in, InItem, ends_it, goes_on, in_item, around, no_end_at_top}
 

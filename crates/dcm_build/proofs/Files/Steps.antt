@@ -8,43 +8,43 @@ use Rattle.dcm_base.specs.declared.tag.Tag.{Tag}
 use Rattle.dcm_base.specs.declared.vr.Vr.{Vr}
 use Rattle.dcm_base.specs.declared.level.Container.{Container}
 use Rattle.dcm_base.specs.declared.syntax.Coding.{Coding}
-use Rattle.dcm_base.specs.Syntax.{Little}
+use Rattle.dcm_base.specs.Tables.Syntax.{Little}
 use Rattle.dcm_base.specs.declared.length.Length.{Length}
 use Rattle.dcm_base.specs.declared.length.Length.TheVariants.{Known, Undefined}
 use Rattle.dcm_base.specs.declared.form.Form.{Form}
 use Rattle.dcm_base.specs.declared.form.Form.TheVariants.{Value as a_value, Sequence as a_sequence, FragmentList as a_fragment_list}
 use Rattle.dcm_base.specs.declared.fault.LineFault.{LineFault}
 use Rattle.dcm_base.specs.declared.fault.LineFault.TheVariants.{NotAllowed, NotAscending, ValueDoesNotFit, TooDeep, BadMetaGroup, NoTransferSyntax}
-use Rattle.dcm_base.specs.Atoms.{Atom, opens, value_byte, closes_leaf, opens_item, closes_item, closes_sequence, opens_fragment}
-use Rattle.dcm_base.specs.Bars.{innermost_reached}
-use Rattle.dcm_base.specs.Build as build
-use Rattle.dcm_base.specs.Build.{Built, Refused, refused, first_fault, has_place_in, is_meta, is_opening, is_fragment_opening, allows_fragments, is_after, element_tag, lacks_value, coding_or_little, named_syntax, named_coding, no_elements, innermost, open_levels, with_step, built_bytes}
-use Rattle.dcm_base.specs.Front.{Front}
-use Rattle.dcm_base.specs.Line.{Step, show_leaf, begin_sequence, begin_fragments, begin_item, show_fragment, end_item, end_sequence, Meaning, nothing, one, no_line}
-use Rattle.dcm_base.specs.MetaGroup.{META_LIMIT}
-use Rattle.dcm_base.specs.MetaReads.{PREFIX}
-use Rattle.dcm_base.specs.NewMeta.{new_meta}
-use Rattle.dcm_base.specs.Place.{depth}
-use Rattle.dcm_base.specs.Size.{trees_size}
-use Rattle.dcm_base.specs.Spelling.{form}
-use Rattle.dcm_base.specs.Steps.{outputs}
-use Rattle.dcm_base.specs.Stop.{opens_list}
-use Rattle.dcm_base.specs.Tree.{Trees, no_tree, leaf, then_trees}
+use Rattle.dcm_base.specs.Steps.Atoms.{Atom, opens, value_byte, closes_leaf, opens_item, closes_item, closes_sequence, opens_fragment}
+use Rattle.dcm_base.specs.Reading.Bars.{innermost_reached}
+use Rattle.dcm_base.specs.Lines.Build as build
+use Rattle.dcm_base.specs.Lines.Build.{Built, Refused, refused, first_fault, has_place_in, is_meta, is_opening, is_fragment_opening, allows_fragments, is_after, element_tag, lacks_value, coding_or_little, named_syntax, named_coding, no_elements, innermost, open_levels, with_step, built_bytes}
+use Rattle.dcm_base.specs.Tree.Front.{Front}
+use Rattle.dcm_base.specs.Lines.Line.{Step, show_leaf, begin_sequence, begin_fragments, begin_item, show_fragment, end_item, end_sequence, Meaning, nothing, one, no_line}
+use Rattle.dcm_base.specs.File.MetaGroup.{META_LIMIT}
+use Rattle.dcm_base.specs.File.MetaReads.{PREFIX}
+use Rattle.dcm_base.specs.Conversion.NewMeta.{new_meta}
+use Rattle.dcm_base.specs.Reading.Place.{depth}
+use Rattle.dcm_base.specs.Reading.Size.{trees_size}
+use Rattle.dcm_base.specs.Bytes.Spelling.{form}
+use Rattle.dcm_base.specs.Steps.Steps.{outputs}
+use Rattle.dcm_base.specs.Reading.Stop.{opens_list}
+use Rattle.dcm_base.specs.Tree.Tree.{Trees, no_tree, leaf, then_trees}
 use Rattle.dcm_base.proofs.Writes.Runs.{outputs-append}
 use Rattle.dcm_build.specs.declared.open_containers.Open.{Open}
 use Rattle.dcm_build.specs.declared.open_containers.Open.TheVariants.{Sequence, FragmentList, Item}
 use Rattle.dcm_build.specs.Building as steps
 use Rattle.dcm_build.specs.Building.{BuildState, value_atoms, step_atoms, file_start, shown_size, meta_over, ends_meta, taken, taken_writes, placed, placed_writes, shows, shows_writes, tells, meaning_taken, meaning_writes}
-use Rattle.dcm_tools.specs.EncodeSink.{EncodeState, encode_start, encode_step, encode_writes}
-use Rattle.dcm_tools.specs.Laws.{lists_behind}
+use Rattle.dcm_sinks.specs.EncodeSink.{EncodeState, encode_start, encode_step, encode_writes}
+use Rattle.dcm_sinks.specs.Laws.{lists_behind}
 use Rattle.dcm_build.specs.NewGroup.{trees_of}
 use Rattle.dcm_build.specs.OpenContainers.{OpenContainers, container_of, reached_in, lists_open, reaching, standing_with}
 use Rattle.dcm_build.proofs.Lines.Forms.{MeansForm}
 use Rattle.dcm_build.proofs.Files.Meta.{one_shown, trees_more}
 use Rattle.dcm_build.proofs.Files.Shows.{HasForm, HasValue, Grown, all_grown, none_grown}
 use Rattle.dcm_build.proofs.Files.OpenContainers.{HasPlace, standing_in, standing_of, all_alike, all_reached, all_stands}
-use Rattle.dcm_tools.proofs.Conversions.DataSets.{encode_steps}
-use Rattle.dcm_tools.proofs.ReadBack.Shallow.{Leads, leads_nowhere, leads_more, leads_both, leads_within}
+use Rattle.dcm_sinks.proofs.Conversions.DataSets.{encode_steps}
+use Rattle.dcm_sinks.proofs.ReadBack.Shallow.{Leads, leads_nowhere, leads_more, leads_both, leads_within}
 
 -- ---- how many lists are open behind the atoms of a step
 

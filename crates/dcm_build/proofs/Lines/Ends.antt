@@ -3,8 +3,8 @@ use Rattle.std.proofs.Common.{◌≡◌, ◌∙◌, ap, sym, subst, arith, ℕ, 
 use Rattle.std.specs.Prelude.{IsErrAnd}
 use Rattle.std.specs.Io.KnownBytes.{append_known}
 use Rattle.std.proofs.lemmas.List.{append-nil}
-use Rattle.dcm_base.specs.Build.{first_fault, without_return}
-use Rattle.dcm_base.specs.Line.{means}
+use Rattle.dcm_base.specs.Lines.Build.{first_fault, without_return}
+use Rattle.dcm_base.specs.Lines.Line.{means}
 use Rattle.dcm_base.specs.declared.fault.LineFault.{LineFault}
 use Rattle.dcm_devices.proofs.Writes.Puts.{append_known_twice, front_longer, puts_behind}
 use Rattle.dcm_build.specs.declared.build.BuildHalt.{BuildHalt}
@@ -13,7 +13,7 @@ use Rattle.dcm_build.specs.declared.file.NewFile.{NewFile}
 use Rattle.dcm_build.specs.declared.file.Stopped.{Stopped}
 use Rattle.dcm_build.specs.declared.file.Stopped.TheVariants.{Refused as refused_line, Output as failed_output}
 use Rattle.dcm_build.specs.declared.line_reader.LineReader.{LineReader}
-use Rattle.dcm_build.specs.Builder.{line_at, building, behind, halts, Reaches}
+use Rattle.dcm_build.specs.Builder.{line_at, building, next_line_at, halts, Reaches}
 use Rattle.dcm_build.specs.Building.{BuildState, next_line, meaning_taken, meaning_writes, line_taken, line_writes, closed, closed_writes, end_checks, end_writes, ended_meta, tells_at_end}
 use Rattle.dcm_build.specs.NewFile.{LineAt, state, seen, Comes, Ends}
 
@@ -24,14 +24,14 @@ TakesLine held holds f at new line r = Comes held holds (state new at None) (mea
 -- ---- a line
 
 -- where the next one begins
-pub place_behind : (p : LineReader) (line : List ℕ) (offset : ℕ) → line ≡ [] → offset ≡ p.offset + length p.line.items + 1 → record { limit = p.limit; line = line; offset = offset; number = p.number + 1 } ≡ behind (line_at p)
-place_behind p line offset e f =
+pub place_after : (p : LineReader) (line : List ℕ) (offset : ℕ) → line ≡ [] → offset ≡ p.offset + length p.line.items + 1 → record { limit = p.limit; line = line; offset = offset; number = p.number + 1 } ≡ next_line_at (line_at p)
+place_after p line offset e f =
     let on : p.number + 1 ≡ suc p.number = omega arith in
     ap (λ (l : List ℕ). record (line_at p) { line = l; offset = offset; number = p.number + 1 }) e
     ∙ ap (λ (n : ℕ). record (line_at p) { line = []; offset = n; number = p.number + 1 }) f
     ∙ ap (λ (n : ℕ). record (line_at p) { line = []; offset = p.offset + length p.line.items + 1; number = n }) on
 
-pub line_ended : {T : Type 0} (p q : LineReader) (held holds : Option (List ℕ)) (line : List ℕ) (x : T) → line ≡ p.line.items → TakesLine held holds p.file (line_at p) q.file line (Ok x) → line_at q ≡ behind (line_at p)
+pub line_ended : {T : Type 0} (p q : LineReader) (held holds : Option (List ℕ)) (line : List ℕ) (x : T) → line ≡ p.line.items → TakesLine held holds p.file (line_at p) q.file line (Ok x) → line_at q ≡ next_line_at (line_at p)
     → (building q None ≡ line_taken (building p None)) × (holds ≡ append_known held (line_writes (building p None)))
 line_ended {T} p q held holds line x e h at =
     let taken = subst (λ (l : List ℕ). TakesLine {T = T} held holds p.file (line_at p) q.file l (Ok x)) e h in

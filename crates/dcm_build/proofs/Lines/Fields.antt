@@ -2,7 +2,7 @@
 use Rattle.std.proofs.Common.{◌≡◌, ◌∙◌, ap, sym, refl, ℕ, ◌+◌, List, [], ◌∷◌, ◌++◌, append_assoc, length, take, drop}
 use Rattle.std.proofs.lemmas.List.{append-nil, length-append}
 use Rattle.std.proofs.Math.Seq.{take-append_seam, drop-append_seam}
-use Rattle.dcm_base.specs.Line.{Field, field, with_front}
+use Rattle.dcm_base.specs.Lines.Line.{Field, field, with_front}
 
 -- these bytes were passed, and the field goes on behind them
 pub record Passed (f : List ℕ → Field) (bytes : List ℕ) (end : ℕ) (rest : List ℕ) : Type 0 where

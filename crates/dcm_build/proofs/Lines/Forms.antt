@@ -4,15 +4,15 @@ use Rattle.std.specs.Prelude.{codes, bytes_eq}
 use Rattle.dcm_base.specs.declared.tag.Tag.{Tag}
 use Rattle.dcm_base.specs.declared.vr.Vr.{Vr}
 use Rattle.dcm_base.specs.declared.vr.Vr.TheVariants.{SQ, UN, OB, OW}
-use Rattle.dcm_base.specs.Syntax.{Little}
+use Rattle.dcm_base.specs.Tables.Syntax.{Little}
 use Rattle.dcm_base.specs.declared.length.Length.TheVariants.{Known, Undefined}
 use Rattle.dcm_base.specs.declared.form.Form.TheVariants.{Value as a_value, Sequence as a_sequence, FragmentList as a_fragment_list}
-use Rattle.dcm_base.specs.Build.{lacks_value}
-use Rattle.dcm_base.specs.Spelling.{form}
-use Rattle.dcm_base.specs.Tag.{is_item, is_item_end, is_sequence_end}
-use Rattle.dcm_base.specs.ReadValue.{value_of_text}
-use Rattle.dcm_base.specs.Representation.{vr_of}
-use Rattle.dcm_base.specs.Line.{Step, show_leaf, begin_sequence, begin_fragments, begin_item, show_fragment, end_item, end_sequence, Meaning, nothing, one, no_line, means, with_value, only_where, value_field, is_skipped, begins, item_meaning, element_meaning, may_be_sequence, may_be_fragments, is_item_group, Parts, parts, meaning_of}
+use Rattle.dcm_base.specs.Lines.Build.{lacks_value}
+use Rattle.dcm_base.specs.Bytes.Spelling.{form}
+use Rattle.dcm_base.specs.Tables.Tag.{is_item, is_item_end, is_sequence_end}
+use Rattle.dcm_base.specs.Lines.ReadValue.{value_of_text}
+use Rattle.dcm_base.specs.Tables.Representation.{vr_of}
+use Rattle.dcm_base.specs.Lines.Line.{Step, show_leaf, begin_sequence, begin_fragments, begin_item, show_fragment, end_item, end_sequence, Meaning, nothing, one, no_line, means, with_value, only_where, value_field, is_skipped, begins, item_meaning, element_meaning, may_be_sequence, may_be_fragments, is_item_group, Parts, parts, meaning_of}
 use Rattle.dcm_build.proofs.Files.Shows.{HasForm}
 
 abbrev pub MeansForm : Meaning → Type 0

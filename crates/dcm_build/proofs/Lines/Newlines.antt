@@ -4,8 +4,8 @@ use Rattle.std.specs.Prelude.{fold, nat_le, ◌==◌}
 use Rattle.std.specs.Str.{byte}
 use Rattle.std.proofs.lemmas.Bool.Decides.{nat_tests}
 use Rattle.std.proofs.lemmas.List.{append-nil}
-use Rattle.dcm_base.specs.Reads.{INPUT_LIMIT}
-use Rattle.dcm_base.specs.Steps.{outputs}
+use Rattle.dcm_base.specs.Reading.Reads.{INPUT_LIMIT}
+use Rattle.dcm_base.specs.Steps.Steps.{outputs}
 use Rattle.dcm_build.specs.declared.file.NewFile.{NewFile}
 use Rattle.dcm_build.specs.Builder.{Plain, read, more}
 use Rattle.dcm_build.specs.Building.{build_step, build_writes, line_taken, line_writes}

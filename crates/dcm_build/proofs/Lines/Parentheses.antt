@@ -1,7 +1,7 @@
 -- The closing parenthesis of a field, found byte by byte.
 use Rattle.std.proofs.Common.{◌≡◌, ◌∙◌, ap, sym, refl, ℕ, ◌+◌, ◌-◌, ◌<◌, List, [], ◌∷◌, length, take, drop, get_or, Bool, true, false, if◌then◌else◌}
 use Rattle.std.proofs.lemmas.List.{drop_more, take_rest}
-use Rattle.dcm_base.specs.Line.{Field, field, with_front, through_parenthesis}
+use Rattle.dcm_base.specs.Lines.Line.{Field, field, with_front, through_parenthesis}
 use Rattle.dcm_build.specs.LineShown.{is_closed}
 use Rattle.dcm_build.proofs.Lines.Fields.{Passed, one_passed, ends_with}
 

@@ -1,8 +1,8 @@
 -- The spaces that a line begins with are passed once.
 use Rattle.std.proofs.Common.{◌≡◌, ◌∙◌, ap, refl, sym, ℕ, List, [], ◌∷◌, take, drop, Bool, true, false, cond, Option, None, Some}
 use Rattle.std.specs.Prelude.{◌==◌, if◌then◌else◌}
-use Rattle.dcm_base.specs.ReadValue.{◌>>=◌, tag_of_text}
-use Rattle.dcm_base.specs.Line.{Parts, space, is_end, is_skipped, without_spaces, past_spaces, parts, meaning_of, means, nothing}
+use Rattle.dcm_base.specs.Lines.ReadValue.{◌>>=◌, tag_of_text}
+use Rattle.dcm_base.specs.Lines.Line.{Parts, space, is_end, without_spaces, past_spaces, parts, meaning_of, means, nothing}
 
 by_test : (c : ℕ) (cs : List ℕ) (b : Bool) → (c == space) ≡ b → without_spaces (without_spaces cs) ≡ without_spaces cs
     → without_spaces (cond b (without_spaces cs) (c ∷ cs)) ≡ cond b (without_spaces cs) (c ∷ cs)

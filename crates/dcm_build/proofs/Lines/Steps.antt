@@ -1,6 +1,6 @@
 -- What the parts of a line show.
 use Rattle.std.proofs.Common.{◌≡◌, sym, refl, ℕ, List, Some, None, Bool, true, false, if◌then◌else◌}
-use Rattle.dcm_base.specs.Line.{Step, one, no_line, with_value, is_skipped, value_field}
+use Rattle.dcm_base.specs.Lines.Line.{Step, one, no_line, with_value, is_skipped, value_field}
 use Rattle.dcm_build.specs.LineShown.{sole_value}
 
 module _ (show : List ℕ → Step) where

@@ -11,27 +11,28 @@ use Rattle.dcm_base.specs.declared.syntax.Coding.{Coding}
 use Rattle.dcm_base.specs.declared.fault.LineFault.{LineFault}
 use Rattle.dcm_base.specs.declared.fault.LineFault.TheVariants.{NoTransferSyntax, EndsEarly}
 use Rattle.dcm_base.specs.declared.mode.Mode.TheVariants.{Full}
-use Rattle.dcm_base.specs.Dump.{dump_set}
-use Rattle.dcm_base.specs.Front.{Front, front, nothing_open}
-use Rattle.dcm_base.specs.Header.{syntax_name, set_header, meta_header}
-use Rattle.dcm_base.specs.MetaReads.{PREFIX}
-use Rattle.dcm_base.specs.NewMeta.{new_meta}
-use Rattle.dcm_base.specs.Reads.{INPUT_LIMIT}
-use Rattle.dcm_base.specs.Recode.{recode, recode_set}
-use Rattle.dcm_base.specs.Size.{trees_size}
-use Rattle.dcm_base.specs.Spelling.{last_tag}
-use Rattle.dcm_base.specs.Tree.{Trees, no_tree}
-use Rattle.dcm_base.specs.Uid.{Named, uids, uid_name}
-use Rattle.dcm_base.specs.ValueText.{escaped}
-use Rattle.dcm_base.specs.Build.{Built, Progress, Lines, lines, lines_of, built, built_cut, built_whole, built_bytes, nothing_built, usable, named_syntax, named_coding, coding_or_little, at_start, at_input_end, end_checks, first_fault, meta_has_ended, tell, is_the_top, innermost, open_levels, rebuilt}
+use Rattle.dcm_base.specs.Dump.Dump.{dump_set}
+use Rattle.dcm_base.specs.Tree.Front.{Front, front, nothing_open}
+use Rattle.dcm_base.specs.Dump.Header.{syntax_name, set_header, meta_header}
+use Rattle.dcm_base.specs.File.MetaReads.{PREFIX}
+use Rattle.dcm_base.specs.Conversion.NewMeta.{new_meta}
+use Rattle.dcm_base.specs.Reading.Reads.{INPUT_LIMIT}
+use Rattle.dcm_base.specs.Conversion.Recode.{recode, recode_set}
+use Rattle.dcm_base.specs.Reading.Size.{trees_size}
+use Rattle.dcm_base.specs.Bytes.Spelling.{last_tag}
+use Rattle.dcm_base.specs.Tree.Tree.{Trees, no_tree}
+use Rattle.dcm_base.specs.Tables.Uid.{Named, uids, uid_name}
+use Rattle.dcm_base.specs.Dump.ValueText.{escaped}
+use Rattle.dcm_base.specs.Lines.Build.{Built, Progress, Lines, lines, lines_of, built, built_cut, built_whole, built_bytes, nothing_built, usable, named_syntax, named_coding, coding_or_little, at_start, at_input_end, end_checks, first_fault, meta_has_ended, tell, is_the_top, innermost, open_levels, rebuilt}
 use Rattle.dcm_base.specs.declared.fault.LineStop.{LineStop}
 use Rattle.dcm_base.proofs.DumpsBack.Fields.{Bytewise, IsPrinted, all_printed, text_shows}
 use Rattle.dcm_base.proofs.DumpsBack.Texts.{Bytes, bytes_of}
 use Rattle.dcm_base.proofs.DumpsBack.Values.{found, mapped}
 use Rattle.dcm_base.proofs.DumpsBack.Losses.{recodes_same}
-use Rattle.dcm_base.specs.declared.lookup.Dictionary.{Dictionary}
+use Rattle.dcm_base.specs.declared.dictionary.Dictionary.{Dictionary}
 use Rattle.dcm_build.specs.DumpBuilds.{full_dump, CanBuild, FitsLines, BuildsFile}
-use Rattle.dcm_build.specs.DumpLines.{joined, set_steps, GREATEST_LIMIT, AllWithin}
+use Rattle.dcm_base.specs.Lines.Limits.{LINE_LIMIT}
+use Rattle.dcm_build.specs.DumpLines.{joined, set_steps, AllWithin}
 use Rattle.dcm_build.proofs.Files.Lines.{run_lines}
 use Rattle.dcm_build.proofs.Files.OpenContainers.{standing_in, all_alike}
 use Rattle.dcm_build.proofs.Rebuilds.DumpLines.{set_means}
@@ -168,7 +169,7 @@ module _ (d : Dictionary) (meta : Trees) (coding : Coding) (set : Trees) (h : Ca
       no_fault_at_end e (is_none (named_coding m)) (is_the_top (innermost (open_levels f))) (ap (λ (x : Trees). is_none (named_coding x)) is ∙ ap is_none again)
       (ap (λ (x : Front). is_the_top (innermost (open_levels x))) set_is ∙ top_is_open (rebuilt set) (last_tag None set))
 
-  module _ (limit : ℕ) (allowed : limit ≤ GREATEST_LIMIT) (fits : FitsLines limit (full_dump d meta set)) where
+  module _ (limit : ℕ) (allowed : limit ≤ LINE_LIMIT) (fits : FitsLines limit (full_dump d meta set)) where
     abbrev text : List ℕ
     text = full_dump d meta set
 
@@ -182,7 +183,7 @@ module _ (d : Dictionary) (meta : Trees) (coding : Coding) (set : Trees) (h : Ca
     within = subst (λ (l : Lines). AllWithin limit l.ended) split fits.lines
 
     runs : (ran.told ≡ None) × (ran.built ≡ all.last)
-    runs = lines_run limit all.leads.its_lines at_start nothing_built all.last all.leads.printed within refl refl (all.leads.leads (within_more limit GREATEST_LIMIT allowed all.leads.its_lines within))
+    runs = lines_run limit all.leads.its_lines at_start nothing_built all.last all.leads.printed within refl refl (all.leads.leads (within_more limit LINE_LIMIT allowed all.leads.its_lines within))
 
     whole : built limit text ≡ at_input_end (length text) ran
     unfolding built
@@ -201,5 +202,5 @@ module _ (d : Dictionary) (meta : Trees) (coding : Coding) (set : Trees) (h : Ca
       file = ap (λ (p : Progress). built_bytes p.built) (whole ∙ ended) ∙ ap (λ (b : Built). built_bytes (meta_has_ended b)) runs.1 ∙ file_by all.last.meta all.last.set all.last.meta_ended all.meta_is all.set_is;
     }
 
-pub dump_builds : (d : Dictionary) (limit : ℕ) (meta : Trees) (coding : Coding) (set : Trees) → limit ≤ GREATEST_LIMIT → CanBuild meta coding set → FitsLines limit (full_dump d meta set) → BuildsFile limit (full_dump d meta set) meta coding set
+pub dump_builds : (d : Dictionary) (limit : ℕ) (meta : Trees) (coding : Coding) (set : Trees) → limit ≤ LINE_LIMIT → CanBuild meta coding set → FitsLines limit (full_dump d meta set) → BuildsFile limit (full_dump d meta set) meta coding set
 dump_builds d limit meta coding set allowed h fits = dump_builds_file d meta coding set h limit allowed fits

@@ -6,21 +6,22 @@ use Rattle.dcm_base.specs.declared.vr.Vr.TheVariants.{OB}
 use Rattle.dcm_base.specs.declared.mode.Mode.TheVariants.{Full}
 use Rattle.dcm_base.specs.declared.length.Length.{Length}
 use Rattle.dcm_base.specs.declared.length.Length.TheVariants.{Known, Undefined}
-use Rattle.dcm_base.specs.Number.{HasLength}
-use Rattle.dcm_base.specs.Tag.{item_tag}
-use Rattle.dcm_base.specs.Representation.{letters}
-use Rattle.dcm_base.specs.Dictionary.{keyword_in}
-use Rattle.dcm_base.specs.ValueText.{count, display}
-use Rattle.dcm_base.specs.ReadValue.{value_of_text, value_shown}
-use Rattle.dcm_base.specs.Tree.{Trees, no_tree, leaf, sequence, fragments, Items, no_item, item}
-use Rattle.dcm_base.specs.Dump.{length_text, line_start, line, leaf_line, fragment_line, fragment_lines, sequence_line, sequence_end_line, item_line, item_end_line, dump_set, dump_items}
-use Rattle.dcm_base.specs.Line.{Step, show_leaf, show_fragment, Meaning, one, LineMeans}
+use Rattle.dcm_base.specs.Tables.Number.{HasLength}
+use Rattle.dcm_base.specs.Tables.Tag.{item_tag}
+use Rattle.dcm_base.specs.Tables.Representation.{letters}
+use Rattle.dcm_base.specs.Tables.Dictionary.{keyword_in}
+use Rattle.dcm_base.specs.Dump.ValueText.{count, display}
+use Rattle.dcm_base.specs.Lines.ReadValue.{value_of_text, value_shown}
+use Rattle.dcm_base.specs.Tree.Tree.{Trees, no_tree, leaf, sequence, fragments, Items, no_item, item}
+use Rattle.dcm_base.specs.Dump.Dump.{length_text, line_start, line, leaf_line, fragment_line, fragment_lines, sequence_line, sequence_end_line, item_line, item_end_line, dump_set, dump_items}
+use Rattle.dcm_base.specs.Lines.Line.{Step, show_leaf, show_fragment, Meaning, one, LineMeans}
 use Rattle.dcm_base.proofs.DumpsBack.LineMeanings.{IsSmall}
 use Rattle.dcm_base.proofs.DumpsBack.Texts.{bytes_of}
 use Rattle.dcm_base.proofs.DumpsBack.Values.{value_back}
 use Rattle.dcm_base.proofs.DumpsBack.Steps.{leaf_shows, fragment_shows, sequence_reads, fragments_read, item_reads, item_end_reads, sequence_end_reads}
-use Rattle.dcm_base.specs.declared.lookup.Dictionary.{Dictionary}
-use Rattle.dcm_build.specs.DumpLines.{fragment_step, set_steps, items_steps, joined, GREATEST_LIMIT, AllWithin, ArePrinted, EachMeans, IsElement, ReadsBack, AllReadBack, SetReadsBack, ItemsReadBack}
+use Rattle.dcm_base.specs.declared.dictionary.Dictionary.{Dictionary}
+use Rattle.dcm_base.specs.Lines.Limits.{LINE_LIMIT}
+use Rattle.dcm_build.specs.DumpLines.{fragment_step, set_steps, items_steps, joined, AllWithin, ArePrinted, EachMeans, IsElement, ReadsBack, AllReadBack, SetReadsBack, ItemsReadBack}
 
 -- ---- texts, one behind the other
 
@@ -51,7 +52,7 @@ pub record ShortMeans (text : List ℕ) (steps : List Step) : Type 0 where
   pub lines : List (List ℕ)
   pub is : text ≡ joined lines
   pub printed : ArePrinted lines
-  pub mean : AllWithin GREATEST_LIMIT lines → EachMeans lines steps
+  pub mean : AllWithin LINE_LIMIT lines → EachMeans lines steps
 
 no_text : ShortMeans [] []
 no_text = record { lines = []; is = refl; printed = tt; mean = λ w. tt }
@@ -60,7 +61,7 @@ one_line : (line : List ℕ) (step : Step) → LineMeans line (one step) → Sho
 one_line line step h = record { lines = h.body ∷ []; is = h.is; printed = (h.printed, tt); mean = λ w. (h.means_is, tt) }
 
 -- a line that means its step where this part of it is not too long
-one_short : (line part : List ℕ) (m : Meaning) (step : Step) → LineMeans line m → ((body : List ℕ) → line ≡ body ++ 10 ∷ [] → length part ≤ length body) → (length part ≤ GREATEST_LIMIT → m ≡ one step) → ShortMeans line (step ∷ [])
+one_short : (line part : List ℕ) (m : Meaning) (step : Step) → LineMeans line m → ((body : List ℕ) → line ≡ body ++ 10 ∷ [] → length part ≤ length body) → (length part ≤ LINE_LIMIT → m ≡ one step) → ShortMeans line (step ∷ [])
 one_short line part m step h shorter same =
     record { lines = h.body ∷ []; is = h.is; printed = (h.printed, tt); mean = λ w. (h.means_is ∙ same (let k = shorter h.body h.is in let l = w.0 in omega (arith, k, l)), tt) }
 
@@ -69,7 +70,7 @@ both_texts a b ss ts h k = record {
   lines = h.lines ++ k.lines;
   is = ap (λ (x : List ℕ). x ++ b) h.is ∙ ap (λ (x : List ℕ). joined h.lines ++ x) k.is ∙ sym (joined_both h.lines k.lines);
   printed = printed_both h.lines k.lines h.printed k.printed;
-  mean = λ w. mean_both h.lines k.lines ss ts (h.mean (first_within GREATEST_LIMIT h.lines k.lines w)) (k.mean (rest_within GREATEST_LIMIT h.lines k.lines w));
+  mean = λ w. mean_both h.lines k.lines ss ts (h.mean (first_within LINE_LIMIT h.lines k.lines w)) (k.mean (rest_within LINE_LIMIT h.lines k.lines w));
 }
 
 -- ---- values

@@ -8,43 +8,44 @@ use Rattle.dcm_base.specs.declared.vr.Vr.TheVariants.{SQ, UN, OB, OW}
 use Rattle.dcm_base.specs.declared.syntax.Coding.{Coding}
 use Rattle.dcm_base.specs.declared.syntax.Syntax.{Syntax}
 use Rattle.dcm_base.specs.declared.syntax.Syntax.TheVariants.{Implicit as implicit_in, Little as little_in, Big as big_in}
-use Rattle.dcm_base.specs.Syntax.{Little, read_by}
+use Rattle.dcm_base.specs.Tables.Syntax.{Little, read_by}
 use Rattle.dcm_base.specs.declared.transfer.Deflated.{Deflated as DeflatedSyntax}
 use Rattle.dcm_base.specs.declared.length.Length.{Length}
 use Rattle.dcm_base.specs.declared.length.Length.TheVariants.{Known, Undefined}
 use Rattle.dcm_base.specs.declared.form.Form.TheVariants.{Value as a_value, Sequence as a_sequence, FragmentList as a_fragment_list}
-use Rattle.dcm_base.specs.Tree.{Trees, no_tree, leaf, sequence, fragments, Items, no_item, item}
-use Rattle.dcm_base.specs.Number.{number, AreBytes, HasLength}
-use Rattle.dcm_base.specs.Tag.{is_tag, item_end_tag, sequence_end_tag}
-use Rattle.dcm_base.specs.Representation.{is_sequence, unit}
-use Rattle.dcm_base.specs.ValueText.{shown_unit}
-use Rattle.dcm_base.specs.Value.{pieces, order}
-use Rattle.dcm_base.specs.Head.{length_at, long_length}
-use Rattle.dcm_base.specs.Reads.{INPUT_LIMIT}
-use Rattle.dcm_base.specs.Size.{trees_size}
-use Rattle.dcm_base.specs.Spelling.{form, inside, FragmentsAt, TreesAt, ItemsAt}
-use Rattle.dcm_base.specs.Place.{is_data}
-use Rattle.dcm_base.specs.Stop.{HeadBar}
-use Rattle.dcm_base.specs.Transfer.{is_pad, before_pads, without_pads, coding_of}
-use Rattle.dcm_base.specs.MetaGroup.{META_LIMIT, AreMeta, GroupPlace, an_element, the_end, too_few, a_fault}
-use Rattle.dcm_base.specs.MetaReads.{PREFIX, Meta, MetaAnswer, MetaReads, begins, coded, named, answer_behind, syntax_value, too_short, no_prefix, with_group}
-use Rattle.dcm_base.specs.Atoms.{Atom, ends, value_byte, closes_leaf, closes_item, closes_sequence, fragments_then, trees_then, items_then}
-use Rattle.dcm_base.specs.Normal.{whole_front}
-use Rattle.dcm_base.specs.Ascending.{Ascend}
-use Rattle.dcm_base.specs.Line.{may_be_sequence, may_be_fragments}
-use Rattle.dcm_base.specs.Build.{usable, named_syntax, named_coding}
+use Rattle.dcm_base.specs.Tree.Tree.{Trees, no_tree, leaf, sequence, fragments, Items, no_item, item}
+use Rattle.dcm_base.specs.Tables.Number.{number, AreBytes, HasLength}
+use Rattle.dcm_base.specs.Tables.Tag.{is_tag, item_end_tag, sequence_end_tag}
+use Rattle.dcm_base.specs.Tables.Representation.{is_sequence, unit}
+use Rattle.dcm_base.specs.Dump.ValueText.{shown_unit}
+use Rattle.dcm_base.specs.Tree.Value.{pieces, order}
+use Rattle.dcm_base.specs.Bytes.Head.{length_at, long_length}
+use Rattle.dcm_base.specs.Reading.Reads.{INPUT_LIMIT}
+use Rattle.dcm_base.specs.Reading.Size.{trees_size}
+use Rattle.dcm_base.specs.Bytes.Spelling.{form, inside, FragmentsAt, TreesAt, ItemsAt}
+use Rattle.dcm_base.specs.Reading.Place.{is_data}
+use Rattle.dcm_base.specs.Reading.Stop.{HeadBar}
+use Rattle.dcm_base.specs.Tables.Transfer.{is_pad, before_pads, without_pads, coding_of}
+use Rattle.dcm_base.specs.File.MetaGroup.{META_LIMIT, AreMeta, GroupPlace, an_element, the_end, too_few, a_fault}
+use Rattle.dcm_base.specs.File.MetaReads.{PREFIX, Meta, MetaAnswer, MetaReads, begins, coded, named, answer_behind, syntax_value, too_short, no_prefix, with_group}
+use Rattle.dcm_base.specs.Steps.Atoms.{Atom, ends, value_byte, closes_leaf, closes_item, closes_sequence, fragments_then, trees_then, items_then}
+use Rattle.dcm_base.specs.Conversion.Normal.{whole_front}
+use Rattle.dcm_base.specs.Lines.Ascending.{Ascend}
+use Rattle.dcm_base.specs.Lines.Line.{may_be_sequence, may_be_fragments}
+use Rattle.dcm_base.specs.Lines.Build.{usable, named_syntax, named_coding}
 use Rattle.dcm_base.proofs.DumpsBack.Numbers.{Bytes-append, Bytes-reverse}
 use Rattle.dcm_base.proofs.Conversions.Order.{order_twice}
 use Rattle.dcm_base.proofs.DumpsBack.Parts.{Bytes-take, Bytes-drop}
 use Rattle.dcm_base.proofs.DataSets.Sizes.{trees_take}
 use Rattle.dcm_base.proofs.DumpsBack.Texts.{Bytes, bytes_of}
-use Rattle.dcm_base.specs.declared.lookup.Dictionary.{Dictionary}
-use Rattle.dcm_base.specs.Bars.{holds_fragments}
-use Rattle.dcm_tools.proofs.ReadBack.RecodeReads.{source_whole, source_fine}
-use Rattle.dcm_tools.proofs.ReadBack.Sources.{bytes_behind, bytes_parts, a_byte, four_bytes, long_known, length_known, bytes_of_head, no_sequence, fragments_little, Fine, fine_bytes, lists_of, begun, enclosed_ready, element_tag}
-use Rattle.dcm_tools.proofs.ReadBack.WrittenRead.{target_heads}
+use Rattle.dcm_base.specs.declared.dictionary.Dictionary.{Dictionary}
+use Rattle.dcm_base.specs.Reading.Bars.{holds_fragments}
+use Rattle.dcm_sinks.proofs.ReadBack.RecodeReads.{source_whole, source_fine}
+use Rattle.dcm_sinks.proofs.ReadBack.Sources.{bytes_behind, bytes_parts, a_byte, four_bytes, long_known, length_known, bytes_of_head, no_sequence, fragments_little, Fine, fine_bytes, lists_of, begun, enclosed_ready, element_tag}
+use Rattle.dcm_sinks.proofs.ReadBack.WrittenRead.{target_heads}
 use Rattle.dcm_build.specs.DumpBuilds.{full_dump, CanBuild, FitsLines, BuildsFile, FileRead, WholeUnits, ItemsOfWholeUnits}
-use Rattle.dcm_build.specs.DumpLines.{GREATEST_LIMIT, ReadsBack, AllReadBack, SetReadsBack, ItemsReadBack}
+use Rattle.dcm_base.specs.Lines.Limits.{LINE_LIMIT}
+use Rattle.dcm_build.specs.DumpLines.{ReadsBack, AllReadBack, SetReadsBack, ItemsReadBack}
 use Rattle.dcm_build.specs.StepsBuild.{MayStand, ItemsMayStand}
 use Rattle.dcm_build.proofs.Rebuilds.DumpBuilds.{dump_builds}
 
@@ -333,6 +334,6 @@ can_build d file meta coding set h units_group units ascends =
       stands = can.0.0.1;
     }
 
-pub file_builds : (d : Dictionary) (limit : ℕ) (file : List ℕ) (meta : Meta) (coding : Coding) (set : Trees) → limit ≤ GREATEST_LIMIT → FileRead d file meta coding set → WholeUnits meta.elements → WholeUnits set → Ascend None set
+pub file_builds : (d : Dictionary) (limit : ℕ) (file : List ℕ) (meta : Meta) (coding : Coding) (set : Trees) → limit ≤ LINE_LIMIT → FileRead d file meta coding set → WholeUnits meta.elements → WholeUnits set → Ascend None set
     → FitsLines limit (full_dump d meta.elements set) → BuildsFile limit (full_dump d meta.elements set) meta.elements coding set
 file_builds d limit file meta coding set allowed h units_group units ascends fits = dump_builds d limit meta.elements coding set allowed (can_build d file meta coding set h units_group units ascends) fits

@@ -5,13 +5,14 @@ use Rattle.std.specs.List.{list_all}
 use Rattle.std.proofs.lemmas.Bool.Decides.{nat_tests}
 use Rattle.std.proofs.lemmas.List.{append-nil, reverse-append, reverse-reverse}
 use Rattle.std.proofs.lemmas.List.Folds.{list_all-append}
-use Rattle.dcm_base.specs.Line.{Step, nothing, means}
+use Rattle.dcm_base.specs.Lines.Line.{Step, nothing, means}
 use Rattle.dcm_base.specs.declared.mode.Mode.TheVariants.{Full}
-use Rattle.dcm_base.specs.Tree.{Trees}
-use Rattle.dcm_base.specs.Dump.{dump_set}
-use Rattle.dcm_base.specs.Build.{Built, Progress, Lines, lines, lines_of, more_lines, with_line, moved, with_meaning, without_return, without_return_reversed}
-use Rattle.dcm_base.specs.declared.lookup.Dictionary.{Dictionary}
-use Rattle.dcm_build.specs.DumpLines.{set_steps, joined, GREATEST_LIMIT, AllWithin, ArePrinted, EachMeans, TextMeans, SetReadsBack}
+use Rattle.dcm_base.specs.Tree.Tree.{Trees}
+use Rattle.dcm_base.specs.Dump.Dump.{dump_set}
+use Rattle.dcm_base.specs.Lines.Build.{Built, Progress, Lines, lines, lines_of, more_lines, with_line, moved, with_meaning, without_return, without_return_reversed}
+use Rattle.dcm_base.specs.declared.dictionary.Dictionary.{Dictionary}
+use Rattle.dcm_base.specs.Lines.Limits.{LINE_LIMIT}
+use Rattle.dcm_build.specs.DumpLines.{set_steps, joined, AllWithin, ArePrinted, EachMeans, TextMeans, SetReadsBack}
 use Rattle.dcm_build.specs.StepsBuild.{Leads}
 use Rattle.dcm_build.proofs.Files.Lines.{lines_from, lines_are, run_lines, line_means}
 use Rattle.dcm_build.proofs.Rebuilds.DumpLines.{joined_both, printed_both, first_within, rest_within, ShortMeans, set_means}
@@ -40,7 +41,7 @@ pub record TextLeads (text : List ℕ) (b c : Built) : Type 0 where
   pub its_lines : List (List ℕ)
   pub is : text ≡ joined its_lines
   pub printed : ArePrinted its_lines
-  pub leads : AllWithin GREATEST_LIMIT its_lines → LinesLead its_lines b c
+  pub leads : AllWithin LINE_LIMIT its_lines → LinesLead its_lines b c
 
 pub text_leads : (text : List ℕ) (steps : List Step) (b c : Built) → ShortMeans text steps → Leads steps b c → TextLeads text b c
 text_leads text steps b c h k = record { its_lines = h.lines; is = h.is; printed = h.printed; leads = λ w. by_steps h.lines steps b c (h.mean w) k }
@@ -50,7 +51,7 @@ texts_lead x y b c d h k = record {
   its_lines = h.its_lines ++ k.its_lines;
   is = ap (λ (z : List ℕ). z ++ y) h.is ∙ ap (λ (z : List ℕ). joined h.its_lines ++ z) k.is ∙ sym (joined_both h.its_lines k.its_lines);
   printed = printed_both h.its_lines k.its_lines h.printed k.printed;
-  leads = λ w. lead_both h.its_lines k.its_lines b c d (h.leads (first_within GREATEST_LIMIT h.its_lines k.its_lines w)) (k.leads (rest_within GREATEST_LIMIT h.its_lines k.its_lines w));
+  leads = λ w. lead_both h.its_lines k.its_lines b c d (h.leads (first_within LINE_LIMIT h.its_lines k.its_lines w)) (k.leads (rest_within LINE_LIMIT h.its_lines k.its_lines w));
 }
 
 -- a line that shows nothing
@@ -90,10 +91,10 @@ lines_of_joined (l ∷ ls) h = line_ends [] l (joined ls) h.0 ∙ ap (more_lines
 pub lines_of_text : (text : List ℕ) (ls : List (List ℕ)) → text ≡ joined ls → ArePrinted ls → lines_of text ≡ lines ls []
 lines_of_text text ls is h = lines_are text ∙ ap (lines_from []) is ∙ lines_of_joined ls h
 
-pub lines_mean : (d : Dictionary) (level : ℕ) (set : Trees) → SetReadsBack set → AllWithin GREATEST_LIMIT (lines_of (dump_set d Full level set)).ended → TextMeans (dump_set d Full level set) (set_steps set)
+pub lines_mean : (d : Dictionary) (level : ℕ) (set : Trees) → SetReadsBack set → AllWithin LINE_LIMIT (lines_of (dump_set d Full level set)).ended → TextMeans (dump_set d Full level set) (set_steps set)
 lines_mean d level set h w =
     let m = set_means d level set h in
-    record { lines = m.lines; is = m.is; printed = m.printed; mean = m.mean (subst (λ (l : Lines). AllWithin GREATEST_LIMIT l.ended) (lines_of_text (dump_set d Full level set) m.lines m.is m.printed) w) }
+    record { lines = m.lines; is = m.is; printed = m.printed; mean = m.mean (subst (λ (l : Lines). AllWithin LINE_LIMIT l.ended) (lines_of_text (dump_set d Full level set) m.lines m.is m.printed) w) }
 
 -- ---- no carriage return
 

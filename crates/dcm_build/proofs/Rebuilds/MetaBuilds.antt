@@ -8,23 +8,23 @@ use Rattle.dcm_base.specs.declared.tag.Tag.{Tag}
 use Rattle.dcm_base.specs.declared.vr.Vr.{Vr}
 use Rattle.dcm_base.specs.declared.vr.Vr.TheVariants.{AE, UI}
 use Rattle.dcm_base.specs.declared.syntax.Syntax.{Syntax}
-use Rattle.dcm_base.specs.Syntax.{Little}
+use Rattle.dcm_base.specs.Tables.Syntax.{Little}
 use Rattle.dcm_base.specs.declared.fault.LineFault.{LineFault}
 use Rattle.dcm_base.specs.declared.fault.LineFault.TheVariants.{NotAllowed, NotAscending, ValueDoesNotFit, TooDeep, BadMetaGroup, NoTransferSyntax}
 use Rattle.dcm_base.specs.declared.level.Container.{Container}
-use Rattle.dcm_base.specs.Tag.{is_tag}
-use Rattle.dcm_base.specs.Tree.{Trees, no_tree, leaf, sequence, fragments, then_trees}
-use Rattle.dcm_base.specs.Representation.{pad}
-use Rattle.dcm_base.specs.Size.{trees_size}
-use Rattle.dcm_base.specs.MetaGroup.{META_LIMIT, AreMeta}
-use Rattle.dcm_base.specs.MetaReads.{syntax_value}
-use Rattle.dcm_base.specs.NewMeta.{without_syntax, with_syntax, group_length, new_meta}
-use Rattle.dcm_base.specs.Recode.{recode_set, recoded_leaf, unless_dropped}
-use Rattle.dcm_base.specs.Transfer.{is_pad, before_pads, without_pads}
-use Rattle.dcm_base.specs.ValueText.{shape, unpadded}
-use Rattle.dcm_base.specs.ReadValue.{takes_bytes, value_shown}
-use Rattle.dcm_base.specs.Line.{Step, show_leaf}
-use Rattle.dcm_base.specs.Build.{Built, no_elements, named_syntax, named_coding, is_meta, has_place_in, innermost, open_levels, first_fault, step_checks, with_meta, with_step, checked, with_shown, rebuilt}
+use Rattle.dcm_base.specs.Tables.Tag.{is_tag}
+use Rattle.dcm_base.specs.Tree.Tree.{Trees, no_tree, leaf, sequence, fragments, then_trees}
+use Rattle.dcm_base.specs.Tables.Representation.{pad}
+use Rattle.dcm_base.specs.Reading.Size.{trees_size}
+use Rattle.dcm_base.specs.File.MetaGroup.{META_LIMIT, AreMeta}
+use Rattle.dcm_base.specs.File.MetaReads.{syntax_value}
+use Rattle.dcm_base.specs.Conversion.NewMeta.{without_syntax, with_syntax, group_length, new_meta}
+use Rattle.dcm_base.specs.Conversion.Recode.{recode_set, recoded_leaf, unless_dropped}
+use Rattle.dcm_base.specs.Tables.Transfer.{is_pad, before_pads, without_pads}
+use Rattle.dcm_base.specs.Dump.ValueText.{shape, unpadded}
+use Rattle.dcm_base.specs.Lines.ReadValue.{takes_bytes, value_shown}
+use Rattle.dcm_base.specs.Lines.Line.{Step, show_leaf}
+use Rattle.dcm_base.specs.Lines.Build.{Built, no_elements, named_syntax, named_coding, is_meta, has_place_in, innermost, open_levels, first_fault, step_checks, with_meta, with_step, checked, with_shown, rebuilt}
 use Rattle.dcm_base.proofs.DumpsBack.Losses.{recodes_same}
 use Rattle.dcm_build.specs.DumpLines.{set_steps}
 use Rattle.dcm_build.specs.StepsBuild.{Leads}

@@ -6,24 +6,23 @@ use Rattle.std.proofs.lemmas.Bool.Decides.{nat_tests}
 use Rattle.dcm_base.specs.declared.tag.Tag.{Tag}
 use Rattle.dcm_base.specs.declared.vr.Vr.{Vr}
 use Rattle.dcm_base.specs.declared.syntax.Coding.{Coding}
-use Rattle.dcm_base.specs.declared.syntax.Syntax.{Syntax}
-use Rattle.dcm_base.specs.Syntax.{Little}
+use Rattle.dcm_base.specs.Tables.Syntax.{Little}
 use Rattle.dcm_base.specs.declared.length.Length.TheVariants.{Undefined}
 use Rattle.dcm_base.specs.declared.fault.LineFault.{LineFault}
 use Rattle.dcm_base.specs.declared.fault.LineFault.TheVariants.{NotAllowed, NotAscending, ValueDoesNotFit, TooDeep, BadMetaGroup, NoTransferSyntax}
 use Rattle.dcm_base.specs.declared.level.Container.{Container}
-use Rattle.dcm_base.specs.Tree.{Trees, no_tree, leaf, sequence, fragments, Items, no_item, item, then_trees, then_items}
-use Rattle.dcm_base.specs.Front.{Front, front, nothing_open, open_sequence, open_fragments, no_open_item, open_item}
-use Rattle.dcm_base.specs.Tag.{is_above}
-use Rattle.dcm_base.specs.Ascending.{Ascend, ItemsAscend}
-use Rattle.dcm_base.specs.Spelling.{last_tag}
-use Rattle.dcm_base.specs.MetaGroup.{META_LIMIT}
-use Rattle.dcm_base.specs.Place.{depth}
-use Rattle.dcm_base.specs.Size.{trees_size}
-use Rattle.dcm_base.specs.Bars.{innermost_reached, holds_fragments}
-use Rattle.dcm_base.specs.ReadValue.{value_shown}
-use Rattle.dcm_base.specs.Line.{Step, show_leaf, begin_sequence, begin_fragments, begin_item, show_fragment, end_item, end_sequence}
-use Rattle.dcm_base.specs.Build.{Built, Refused, refused, no_elements, named_coding, allows_fragments, holds_elements, checked, in_group, accepted, with_meta, is_meta, is_opening, is_fragment_opening, is_after, element_tag, lacks_value, has_place_in, innermost, open_levels, first_fault, step_checks, with_step, step_in_item, finished, with_shown, rebuilt, rebuilt_items}
+use Rattle.dcm_base.specs.Tree.Tree.{Trees, no_tree, leaf, sequence, fragments, Items, no_item, item, then_trees, then_items}
+use Rattle.dcm_base.specs.Tree.Front.{Front, front, nothing_open, open_sequence, open_fragments, no_open_item, open_item}
+use Rattle.dcm_base.specs.Tables.Tag.{is_above}
+use Rattle.dcm_base.specs.Lines.Ascending.{Ascend, ItemsAscend}
+use Rattle.dcm_base.specs.Bytes.Spelling.{last_tag}
+use Rattle.dcm_base.specs.File.MetaGroup.{META_LIMIT}
+use Rattle.dcm_base.specs.Reading.Place.{depth}
+use Rattle.dcm_base.specs.Reading.Size.{trees_size}
+use Rattle.dcm_base.specs.Reading.Bars.{innermost_reached, holds_fragments}
+use Rattle.dcm_base.specs.Lines.ReadValue.{value_shown}
+use Rattle.dcm_base.specs.Lines.Line.{Step, show_leaf, begin_sequence, begin_fragments, begin_item, show_fragment, end_item, end_sequence}
+use Rattle.dcm_base.specs.Lines.Build.{Built, Refused, refused, no_elements, named_coding, allows_fragments, holds_elements, checked, in_group, accepted, with_meta, is_meta, is_opening, is_fragment_opening, is_after, element_tag, lacks_value, has_place_in, innermost, open_levels, first_fault, step_checks, with_step, step_in_item, finished, with_shown, rebuilt, rebuilt_items}
 use Rattle.dcm_build.specs.declared.open_containers.Open.TheVariants.{Sequence, FragmentList}
 use Rattle.dcm_build.specs.OpenContainers.{OpenContainers, container_of, reached_in, lists_open, entering}
 use Rattle.dcm_build.specs.DumpLines.{fragment_step, set_steps, items_steps}

@@ -4,9 +4,9 @@ use Rattle.std.specs.Prelude.{◌==◌, not, if◌then◌else◌}
 use Rattle.std.specs.Int.{bit_at}
 use Rattle.std.proofs.lemmas.Bool.{cases_lt}
 use Rattle.std.proofs.lemmas.Nat.Bits.{bit_at_lowest, bit_at-suc, bit_at-zero, bit_at-lt, same_from_bits}
-use Rattle.dcm_base.specs.Front.{Front}
-use Rattle.dcm_edit_words.specs.Edit.{Edit, found}
-use Rattle.dcm_edit.specs.Masks.{is_set, bits}
+use Rattle.dcm_base.specs.Tree.Front.{Front}
+use Rattle.dcm_edits.specs.Edit.{Edit, found}
+use Rattle.dcm_editor.specs.Masks.{is_set, bits}
 use Rattle.dcm_cli.specs.EditPass.{not_found}
 use Rattle.dcm_cli.specs.Run.{unplaced_mask}
 

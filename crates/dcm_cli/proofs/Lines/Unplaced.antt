@@ -5,9 +5,9 @@ use Rattle.std.specs.Io.KnownBytes.{append_known}
 use native.Mathlib.Numerals.{unary_clauses}
 use Rattle.std.proofs.lemmas.List.{append-nil}
 use Rattle.dcm_devices.specs.Device.{AppendsFront, Puts, Tells}
-use Rattle.dcm_base.specs.Front.{Front}
+use Rattle.dcm_base.specs.Tree.Front.{Front}
 use Rattle.dcm_devices.proofs.Writes.Puts.{append_known_twice, front_longer, puts_behind}
-use Rattle.dcm_edit_words.specs.Edit.{Edit, found}
+use Rattle.dcm_edits.specs.Edit.{Edit, found}
 use Rattle.dcm_cli.specs.Answer.{unplaced_lines, status_of_lines}
 use Rattle.dcm_cli.specs.Run.{unplaced_mask, mask_status}
 use Rattle.dcm_cli.specs.ErrorLines.{Tries, mask_lines, line_where, unplaced_line}

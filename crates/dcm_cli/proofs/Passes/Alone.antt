@@ -1,22 +1,22 @@
 -- The dump of a data set alone, in the words of the definitions.
-use Rattle.std.proofs.Common.{◌≡◌, ◌∙◌, ap, sym, subst, ℕ, List, ◌++◌, Option, None, Some, refl, arith, Err}
+use Rattle.std.proofs.Common.{◌≡◌, ◌∙◌, ap, sym, subst, ℕ, List, ◌++◌, Option, Some, refl, arith, Err}
 use Rattle.std.specs.Prelude.{Result, Ok, is_err, true, false}
 use Rattle.std.specs.Io.KnownBytes.{append_known}
 use Rattle.dcm_base.specs.declared.mode.Mode.{Mode}
 use Rattle.dcm_base.specs.declared.syntax.Syntax.{Syntax}
 use Rattle.dcm_devices.specs.Device.{AppendsFront, Puts}
-use Rattle.dcm_base.specs.Bars.{no_bar}
-use Rattle.dcm_base.specs.Dump.{dump_front}
-use Rattle.dcm_base.specs.Front.{Front}
-use Rattle.dcm_base.specs.Reads.{Reads}
-use Rattle.dcm_base.specs.Header.{set_header}
-use Rattle.dcm_base.specs.Stop.{Stop}
+use Rattle.dcm_base.specs.Reading.Bars.{no_bar}
+use Rattle.dcm_base.specs.Dump.Dump.{dump_front}
+use Rattle.dcm_base.specs.Tree.Front.{Front}
+use Rattle.dcm_base.specs.Reading.Reads.{Reads}
+use Rattle.dcm_base.specs.Dump.Header.{set_header}
+use Rattle.dcm_base.specs.Reading.Stop.{Stop}
 use Rattle.dcm_words.specs.Words.{dump}
 use Rattle.dcm_devices.proofs.Writes.Puts.{append_known_twice, front_longer, puts_behind}
-use Rattle.dcm_base.specs.Syntax.{read_by}
-use Rattle.dcm_base.specs.declared.lookup.Dictionary.{Dictionary}
+use Rattle.dcm_base.specs.Tables.Syntax.{read_by}
+use Rattle.dcm_base.specs.declared.dictionary.Dictionary.{Dictionary}
 use Rattle.dcm_stream.specs.Reading.{start_of}
-use Rattle.dcm_tools.specs.DumpSink.{DumpState, dump_start, dump_step, dump_writes, bars_nothing}
+use Rattle.dcm_sinks.specs.DumpSink.{DumpState, dump_start, dump_step, dump_writes, bars_nothing}
 use Rattle.dcm_cli.specs.declared.ending.Ending.{Ending}
 use Rattle.dcm_cli.specs.declared.ending.Ending.TheVariants.{Unread, Output}
 use Rattle.dcm_cli.specs.Pass.{Ends}

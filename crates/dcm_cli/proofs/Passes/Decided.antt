@@ -1,21 +1,19 @@
 -- What decides an answer: one is that of all inputs that the calls allow.
-use Rattle.std.proofs.Common.{◌≡◌, ◌∙◌, ap, sym, subst, ℕ, ◌+◌, ◌≤◌, List, [], ◌∷◌, ◌++◌, append_assoc, length, drop, true, false, Option, Some, None, refl, arith}
-use Rattle.std.proofs.lemmas.List.{append-nil, drop-append-le}
-use Rattle.dcm_base.specs.declared.fault.Stop.{Stop as HaltStop}
+use Rattle.std.proofs.Common.{◌≡◌, ◌∙◌, ap, sym, subst, ℕ, ◌+◌, ◌≤◌, List, [], ◌∷◌, ◌++◌, append_assoc, length, drop, true, false, Option, Some, refl, arith}
+use Rattle.std.proofs.lemmas.List.{drop-append-le}
 use Rattle.dcm_base.specs.declared.fault.Fault.TheVariants.{CannotChange}
-use Rattle.dcm_base.specs.declared.lookup.Dictionary.{Dictionary}
+use Rattle.dcm_base.specs.declared.dictionary.Dictionary.{Dictionary}
 use Rattle.dcm_base.specs.declared.mode.Mode.{Mode}
 use Rattle.dcm_base.specs.declared.syntax.Coding.{Coding}
 use Rattle.dcm_base.specs.declared.syntax.Syntax.{Syntax}
-use Rattle.dcm_base.specs.Bars.{no_bar}
-use Rattle.dcm_base.specs.Dump.{dump_front}
-use Rattle.dcm_base.specs.Header.{set_header}
-use Rattle.dcm_base.specs.Reads.{INPUT_LIMIT, Reads}
-use Rattle.dcm_base.specs.Stop.{refused}
-use Rattle.dcm_base.specs.Syntax.{read_by}
+use Rattle.dcm_base.specs.Dump.Dump.{dump_front}
+use Rattle.dcm_base.specs.Dump.Header.{set_header}
+use Rattle.dcm_base.specs.Reading.Reads.{INPUT_LIMIT, Reads}
+use Rattle.dcm_base.specs.Reading.Stop.{refused}
+use Rattle.dcm_base.specs.Tables.Syntax.{read_by}
 use Rattle.dcm_head.specs.MetaReading.{Reading as HeadReading}
 use Rattle.dcm_stream.specs.Reading.{start_of}
-use Rattle.dcm_tools.specs.DumpSink.{DumpState, dump_start, dump_step, dump_writes, bars_nothing}
+use Rattle.dcm_sinks.specs.DumpSink.{DumpState, dump_start, dump_step, dump_writes, bars_nothing}
 use Rattle.dcm_words.specs.Words.{Job, dump, convert}
 use Rattle.dcm_cli.specs.declared.ending.Ending.{Ending}
 use Rattle.dcm_cli.specs.declared.ending.Ending.TheVariants as endings
@@ -31,7 +29,7 @@ use Rattle.dcm_cli.specs.Opening.{HeadRead, NotOpened, no_set, no_change, no_hea
 use Rattle.dcm_cli.specs.Pass.{Ends, at_end, at_fault, halted, unread, unwritten, end_unwritten, FailsHead, ending_of_head, set_bytes, with_unplaced}
 use Rattle.dcm_cli.specs.Run.{Answered, AnsweredAll, IsDecided, Worked, answered, could_not_read, could_not_write}
 use Rattle.dcm_cli.proofs.Passes.Alone.{read_as}
-use Rattle.dcm_cli.proofs.Passes.Files.{FileMaker, reads_file, file_opened, file_answered, unopened_answered, unchanged_answered, small}
+use Rattle.dcm_cli.proofs.Passes.Files.{FileMaker, reads_file, file_opened, file_answered, unopened_answered, unchanged_answered}
 use Rattle.dcm_cli.proofs.Passes.Makers.{dumper, refuses_as}
 use Rattle.dcm_cli.proofs.Passes.MetaHeads.{Opened, one_head}
 use Rattle.dcm_cli.proofs.Passes.Opens.{head_opened, in_coding}

@@ -1,12 +1,12 @@
 -- A file through edits: what its run has come to.
 use Rattle.std.proofs.Common.{◌≡◌, ◌∙◌, ap, ℕ, ◌+◌, List, ◌++◌, length, true, Option, Some, None, refl}
-use Rattle.dcm_base.specs.Stop.{complete}
-use Rattle.dcm_base.specs.declared.lookup.Dictionary.{Dictionary}
+use Rattle.dcm_base.specs.Reading.Stop.{complete}
+use Rattle.dcm_base.specs.declared.dictionary.Dictionary.{Dictionary}
 use Rattle.dcm_stream.specs.Reading.{start_of}
-use Rattle.dcm_edit_words.specs.Edit.{Edit}
-use Rattle.dcm_edit.specs.EditSink.{State as EditState}
-use Rattle.dcm_edit_words.specs.Meaning.{AreMeant}
-use Rattle.dcm_tools.specs.EncodeSink.{EncodeState}
+use Rattle.dcm_edits.specs.Edit.{Edit}
+use Rattle.dcm_editor.specs.EditSink.{State as EditState}
+use Rattle.dcm_edits.specs.Meaning.{AreMeant}
+use Rattle.dcm_sinks.specs.EncodeSink.{EncodeState}
 use Rattle.dcm_words.specs.Words.{modify}
 use Rattle.dcm_cli.specs.declared.ending.Ending.{Ending}
 use Rattle.dcm_cli.specs.declared.rewrite.Opened.{Opened as OpenedFile}

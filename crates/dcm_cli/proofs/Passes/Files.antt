@@ -9,17 +9,17 @@ use Rattle.dcm_base.specs.declared.mode.Mode.{Mode}
 use Rattle.dcm_base.specs.declared.syntax.Coding.{Coding}
 use Rattle.dcm_base.specs.declared.syntax.Syntax.{Syntax}
 use Rattle.dcm_devices.specs.Device.{AppendsFront}
-use Rattle.dcm_base.specs.Dump.{dump_front}
-use Rattle.dcm_base.specs.Header.{set_header, meta_header}
-use Rattle.dcm_base.specs.Front.{Front}
-use Rattle.dcm_base.specs.Stop.{Stop, complete, refused as stop_refused, is_undecided}
-use Rattle.dcm_base.specs.MetaReads.{Meta, MetaReads, refused, PREFIX}
-use Rattle.dcm_base.specs.NewMeta.{new_meta}
-use Rattle.dcm_base.specs.Recode.{recode}
-use Rattle.dcm_base.specs.Reads.{INPUT_LIMIT, Reads}
+use Rattle.dcm_base.specs.Dump.Dump.{dump_front}
+use Rattle.dcm_base.specs.Dump.Header.{set_header, meta_header}
+use Rattle.dcm_base.specs.Tree.Front.{Front}
+use Rattle.dcm_base.specs.Reading.Stop.{Stop, complete, refused as stop_refused, is_undecided}
+use Rattle.dcm_base.specs.File.MetaReads.{Meta, PREFIX}
+use Rattle.dcm_base.specs.Conversion.NewMeta.{new_meta}
+use Rattle.dcm_base.specs.Conversion.Recode.{recode}
+use Rattle.dcm_base.specs.Reading.Reads.{INPUT_LIMIT, Reads}
 use Rattle.dcm_words.specs.Words.{Job, dump, convert, build, modify}
 use Rattle.dcm_devices.proofs.Writes.Puts.{append_known_twice, append_known_none, front_longer, puts_behind}
-use Rattle.dcm_base.specs.declared.lookup.Dictionary.{Dictionary}
+use Rattle.dcm_base.specs.declared.dictionary.Dictionary.{Dictionary}
 use Rattle.dcm_head.specs.declared.meta_read.MetaEnd.{MetaEnd}
 use Rattle.dcm_head.specs.declared.meta_read.MetaEnd.TheVariants as meta_end
 use Rattle.dcm_head.specs.MetaReading.{Reading, meta_finished}

@@ -2,10 +2,10 @@
 use Rattle.std.proofs.Common.{◌≡◌, ◌∙◌, ap, sym, subst, ℕ, ◌≤◌, List, ◌++◌, append_assoc, length, Bool, true, false, Option, None, Some, refl, Err, inl, inr, ◌⊎◌}
 use Rattle.std.specs.Prelude.{Result, Ok, fold, is_some, ◌||◌}
 use Rattle.std.specs.Io.KnownBytes.{append_known}
-use Rattle.dcm_base.specs.Build as build
+use Rattle.dcm_base.specs.Lines.Build as build
 use Rattle.dcm_base.specs.declared.fault.LineStop.{LineStop}
 use Rattle.dcm_devices.specs.Device.{AppendsFront}
-use Rattle.dcm_base.specs.Steps.{outputs, Goes}
+use Rattle.dcm_base.specs.Steps.Steps.{outputs, Goes}
 use Rattle.dcm_words.specs.Words.{build as building}
 use Rattle.dcm_devices.proofs.Writes.Puts.{append_known_twice, front_longer, puts_behind}
 use Rattle.dcm_base.proofs.Writes.Runs.{outputs-append, goes_on}
@@ -20,7 +20,7 @@ use Rattle.dcm_cli.specs.declared.ending.Ending.TheVariants.{Unread, Output}
 use Rattle.dcm_cli.specs.Answer.{LinesSure}
 use Rattle.dcm_cli.specs.InputCalls.{in_part, IsUndecided}
 use Rattle.dcm_cli.specs.Lines.{ending_of, EndsLines}
-use Rattle.dcm_cli.specs.Run.{IsDecided, Worked, answered, could_not_read, could_not_write, verdict_of_told}
+use Rattle.dcm_cli.specs.Run.{IsDecided, Worked, answered, could_not_read, could_not_write, verdict_of_line_stop}
 use Rattle.dcm_cli.proofs.Passes.Decided.{decided_as, decided_output}
 
 -- ---- the file
@@ -70,7 +70,7 @@ module _ (limit : ℕ) where
 -- ---- the work
 
 -- which halt was answered
-halt_is : (told : Option LineStop) (failed : Bool) (h : BuildHalt) → Err h ≡ answer told failed → ((failed ≡ true) × (h ≡ halts.Output)) ⊎ ((failed ≡ false) × (t : LineStop) × (told ≡ Some t) × (ending_of (Err h) ≡ endings.Worked (verdict_of_told (Some t))))
+halt_is : (told : Option LineStop) (failed : Bool) (h : BuildHalt) → Err h ≡ answer told failed → ((failed ≡ true) × (h ≡ halts.Output)) ⊎ ((failed ≡ false) × (t : LineStop) × (told ≡ Some t) × (ending_of (Err h) ≡ endings.Worked (verdict_of_line_stop (Some t))))
 halt_is told true h e = inl (refl, cc)
 halt_is None false h e = cc
 halt_is (Some t) false (halts.Refused stop) e = inr (refl, t, refl, cc)
@@ -106,18 +106,18 @@ module _ (limit : ℕ) (held : Option (List ℕ)) (s : BuildState) (mid : Option
       there : output limit (read ++ rest) ≡ output limit file
       there = ap (output limit) (sym is)
 
-      by_halt : ((p.failed ≡ true) × (h ≡ halts.Output)) ⊎ ((p.failed ≡ false) × (t : LineStop) × (p.state.told ≡ Some t) × (ending_of (Err h) ≡ endings.Worked (verdict_of_told (Some t)))) → Worked (building limit) file left held holds (ending_of (Err h))
+      by_halt : ((p.failed ≡ true) × (h ≡ halts.Output)) ⊎ ((p.failed ≡ false) × (t : LineStop) × (p.state.told ≡ Some t) × (ending_of (Err h) ≡ endings.Worked (verdict_of_line_stop (Some t)))) → Worked (building limit) file left held holds (ending_of (Err h))
       by_halt (inl x) =
           let grown : AppendsFront held holds (written limit read) = subst (λ (f : Bool). Goes build_step build_writes (build_start limit) held p.state holds read (well f)) x.0 went in
-          could_not_write (output limit file) (verdict_of_told (build.built limit file).told) (record { out_is = refl; verdict_is = refl }) (ap (λ (z : BuildHalt). ending_of (Err z)) x.1)
+          could_not_write (output limit file) (verdict_of_line_stop (build.built limit file).told) (record { out_is = refl; verdict_is = refl }) (ap (λ (z : BuildHalt). ending_of (Err z)) x.1)
           (subst (AppendsFront held holds) (begins limit read rest ∙ there) (front_longer (outputs build_step build_writes (state limit read) rest ++ finish_writes (state limit (read ++ rest))) grown))
       by_halt (inr x) =
           let w = subst (λ (f : Bool). Goes build_step build_writes (build_start limit) held p.state holds read (well f)) x.0 went in
           let stays = refused limit read rest x.1 (ap (λ (z : BuildState). z.told) (sym w.0) ∙ x.2) in
-          answered (written limit read) (verdict_of_told (Some x.1))
+          answered (written limit read) (verdict_of_line_stop (Some x.1))
           (record {
             out_is = stays.file ∙ there;
-            verdict_is = ap verdict_of_told (sym stays.told_is ∙ ap (λ (bs : List ℕ). (build.built limit bs).told) (sym is));
+            verdict_is = ap verdict_of_line_stop (sym stays.told_is ∙ ap (λ (bs : List ℕ). (build.built limit bs).told) (sym is));
           })
           x.3 w.1
 
@@ -125,13 +125,13 @@ module _ (limit : ℕ) (held : Option (List ℕ)) (s : BuildState) (mid : Option
   pub built_decided : (h : BuildHalt) → Err h ≡ answer p.state.told p.failed → IsDecided (building limit) (front ++ piece) in_part (ending_of (Err h))
   built_decided h e = by_halt (halt_is p.state.told p.failed h e)
     where
-      by_halt : ((p.failed ≡ true) × (h ≡ halts.Output)) ⊎ ((p.failed ≡ false) × (t : LineStop) × (p.state.told ≡ Some t) × (ending_of (Err h) ≡ endings.Worked (verdict_of_told (Some t)))) → IsDecided (building limit) (front ++ piece) in_part (ending_of (Err h))
+      by_halt : ((p.failed ≡ true) × (h ≡ halts.Output)) ⊎ ((p.failed ≡ false) × (t : LineStop) × (p.state.told ≡ Some t) × (ending_of (Err h) ≡ endings.Worked (verdict_of_line_stop (Some t)))) → IsDecided (building limit) (front ++ piece) in_part (ending_of (Err h))
       by_halt (inl x) = decided_output (building limit) (front ++ piece) in_part (ending_of (Err h)) (ap (λ (z : BuildHalt). ending_of (Err z)) x.1)
       by_halt (inr x) =
           let w = subst (λ (f : Bool). Goes build_step build_writes (build_start limit) held p.state holds (front ++ piece) (well f)) x.0 went in
-          decided_as (building limit) (front ++ piece) in_part (ending_of (Err h)) (verdict_of_told (Some x.1)) (written limit (front ++ piece)) x.3
+          decided_as (building limit) (front ++ piece) in_part (ending_of (Err h)) (verdict_of_line_stop (Some x.1)) (written limit (front ++ piece)) x.3
           (λ rest ok. let stays = refused limit (front ++ piece) rest x.1 (ap (λ (z : BuildState). z.told) (sym w.0) ∙ x.2) in
-          record { out_is = stays.file; verdict_is = ap verdict_of_told (sym stays.told_is) })
+          record { out_is = stays.file; verdict_is = ap verdict_of_line_stop (sym stays.told_is) })
 
 module _ (limit : ℕ) (file read : List ℕ) (left held : Option (List ℕ)) (s : BuildState) (mid : Option (List ℕ)) (at : s ≡ state limit read) (out : mid ≡ append_known held (written limit read)) where
   -- reading fails
@@ -144,12 +144,12 @@ module _ (limit : ℕ) (file read : List ℕ) (left held : Option (List ℕ)) (s
     there =
         ap (λ (z : BuildState). written limit read ++ finish_writes z) at ∙ all_written limit read ∙ ap (output limit) (sym is)
 
-    ends : (told : Option LineStop) → (finishes s).told ≡ told → holds ≡ append_known mid (finish_writes s) → Worked (building limit) file left held holds (endings.Worked (verdict_of_told told))
+    ends : (told : Option LineStop) → (finishes s).told ≡ told → holds ≡ append_known mid (finish_writes s) → Worked (building limit) file left held holds (endings.Worked (verdict_of_line_stop told))
     ends told e grown =
-        answered (output limit file) (verdict_of_told told)
+        answered (output limit file) (verdict_of_line_stop told)
         (record {
           out_is = refl;
-          verdict_is = ap verdict_of_told (sym e ∙ ap (λ (z : BuildState). (finishes z).told) at ∙ (whole limit read).told ∙ ap (λ (bs : List ℕ). (build.built limit bs).told) (sym is));
+          verdict_is = ap verdict_of_line_stop (sym e ∙ ap (λ (z : BuildState). (finishes z).told) at ∙ (whole limit read).told ∙ ap (λ (bs : List ℕ). (build.built limit bs).told) (sym is));
         })
         refl
         (grown ∙ ap (λ (known : Option (List ℕ)). append_known known (finish_writes s)) out ∙ append_known_twice held (written limit read) (finish_writes s) ∙ ap (append_known held) there)
@@ -158,5 +158,5 @@ module _ (limit : ℕ) (file read : List ℕ) (left held : Option (List ℕ)) (s
     built_ended (Ok x) e = ends None e.0 e.1
     built_ended (Err (halts.Refused stop)) e = ends (Some stop) e.0 e.1
     built_ended (Err halts.Output) e =
-        could_not_write (output limit file) (verdict_of_told (build.built limit file).told) (record { out_is = refl; verdict_is = refl }) refl
+        could_not_write (output limit file) (verdict_of_line_stop (build.built limit file).told) (record { out_is = refl; verdict_is = refl }) refl
         (subst (AppendsFront held holds) there (puts_behind {T = Unit {0}} {E = Unit {0}} held mid holds (written limit read) (finish_writes s) (Err tt) out e))

@@ -4,16 +4,16 @@ use Rattle.std.specs.Prelude.{fold}
 use Rattle.dcm_base.specs.declared.fault.Fault.{Fault}
 use Rattle.dcm_base.specs.declared.mode.Mode.{Mode}
 use Rattle.dcm_base.specs.declared.syntax.Syntax.{Syntax}
-use Rattle.dcm_base.specs.Atoms.{Atom, front_atoms, is_closed}
-use Rattle.dcm_base.specs.Bars.{no_bar, target_bar}
-use Rattle.dcm_base.specs.Dump.{dump_front}
-use Rattle.dcm_base.specs.Front.{Front}
-use Rattle.dcm_base.specs.Reads.{INPUT_LIMIT, Reads, ended}
-use Rattle.dcm_base.specs.Recode.{recode}
-use Rattle.dcm_base.specs.Steps.{outputs}
-use Rattle.dcm_base.specs.Stop.{Bar, Stop, refused}
+use Rattle.dcm_base.specs.Steps.Atoms.{Atom, front_atoms, is_closed}
+use Rattle.dcm_base.specs.Reading.Bars.{no_bar, target_bar}
+use Rattle.dcm_base.specs.Dump.Dump.{dump_front}
+use Rattle.dcm_base.specs.Tree.Front.{Front}
+use Rattle.dcm_base.specs.Reading.Reads.{INPUT_LIMIT, Reads, ended}
+use Rattle.dcm_base.specs.Conversion.Recode.{recode}
+use Rattle.dcm_base.specs.Steps.Steps.{outputs}
+use Rattle.dcm_base.specs.Reading.Stop.{Bar, Stop, refused}
 use Rattle.dcm_base.proofs.Writes.Runs.{outputs-append}
-use Rattle.dcm_base.specs.declared.lookup.Dictionary.{Dictionary}
+use Rattle.dcm_base.specs.declared.dictionary.Dictionary.{Dictionary}
 use Rattle.dcm_head.specs.declared.head.Head.{Head}
 use Rattle.dcm_stream.specs.declared.token.Bar.{Bar as SinkBar}
 use Rattle.dcm_stream.specs.Driven.{bars_by, driven, driven_output, EndsAs, RefusesAs, WaitsAs}
@@ -22,10 +22,10 @@ use Rattle.dcm_stream.specs.Machine.{steps, steps_write}
 use Rattle.dcm_stream.specs.Reading.{Reading, start_of, finish, end_shows, read_all}
 use Rattle.dcm_stream.proofs.Runs.Inputs.{bars_none, driven_is, output_is, ends_by, refuses_by, waits_by}
 use Rattle.dcm_stream.proofs.Steps.Follows.{follows, answers}
-use Rattle.dcm_tools.specs.DumpSink.{DumpState, dump_start, dump_step, dump_writes, bars_nothing}
-use Rattle.dcm_tools.specs.EncodeSink.{EncodeState, encode_bar, encode_start, encode_step, encode_writes}
-use Rattle.dcm_tools.proofs.Dumps.Reads.{reads_whole, reads_so_far}
-use Rattle.dcm_tools.proofs.Conversions.Reads.{encode_bars, reads_whole as encode_reads_whole, reads_so_far as encode_reads_so_far}
+use Rattle.dcm_sinks.specs.DumpSink.{DumpState, dump_start, dump_step, dump_writes, bars_nothing}
+use Rattle.dcm_sinks.specs.EncodeSink.{EncodeState, encode_bar, encode_start, encode_step, encode_writes}
+use Rattle.dcm_sinks.proofs.Dumps.Reads.{reads_whole, reads_so_far}
+use Rattle.dcm_sinks.proofs.Conversions.Reads.{encode_bars, reads_whole as encode_reads_whole, reads_so_far as encode_reads_so_far}
 
 -- a machine with a sink over the bytes of a data set: what the definitions read of them, and what the sink makes of its atoms
 pub record Drives {S : Type 0} (bars : S → Head → Option SinkBar) (step : S → Atom → S) (writes : S → Atom → List ℕ) (bar : Bar) (first : S) (s : Syntax) (start : ℕ) (bytes : List ℕ) : Type 0 where

@@ -3,33 +3,33 @@ use Rattle.std.proofs.Common.{◌≡◌, ◌∙◌, ap, ℕ, ◌≤◌, List, �
 use Rattle.std.specs.Prelude.{map}
 use Rattle.dcm_base.specs.declared.syntax.Coding.{Coding}
 use Rattle.dcm_base.specs.declared.syntax.Syntax.{Syntax}
-use Rattle.dcm_base.specs.Atoms.{Atom, front_atoms}
-use Rattle.dcm_base.specs.Bars.{ascending_bar}
-use Rattle.dcm_base.specs.Front.{Front}
-use Rattle.dcm_base.specs.MetaReads.{PREFIX}
-use Rattle.dcm_base.specs.NewMeta.{new_meta}
-use Rattle.dcm_base.specs.Reads.{INPUT_LIMIT, Reads}
-use Rattle.dcm_base.specs.Recode.{recode}
-use Rattle.dcm_base.specs.Stop.{Stop}
-use Rattle.dcm_base.specs.declared.lookup.Dictionary.{Dictionary}
+use Rattle.dcm_base.specs.Steps.Atoms.{Atom, front_atoms}
+use Rattle.dcm_base.specs.Reading.Bars.{ascending_bar}
+use Rattle.dcm_base.specs.Tree.Front.{Front}
+use Rattle.dcm_base.specs.File.MetaReads.{PREFIX}
+use Rattle.dcm_base.specs.Conversion.NewMeta.{new_meta}
+use Rattle.dcm_base.specs.Reading.Reads.{INPUT_LIMIT, Reads}
+use Rattle.dcm_base.specs.Conversion.Recode.{recode}
+use Rattle.dcm_base.specs.Reading.Stop.{Stop}
+use Rattle.dcm_base.specs.declared.dictionary.Dictionary.{Dictionary}
 use Rattle.dcm_stream.specs.Ascending.{ascending}
 use Rattle.dcm_stream.specs.Judging.{bars_head}
 use Rattle.dcm_stream.specs.Reading.{read_all}
 use Rattle.dcm_stream.proofs.Steps.Ascending.{ascending_bars}
 use Rattle.dcm_stream.proofs.Steps.Follows.{follows, answers}
-use Rattle.dcm_tools.specs.EncodeSink.{EncodeState, encode_start, encode_step, encode_writes}
-use Rattle.dcm_edit_words.specs.Edit.{Edit, edited, found}
-use Rattle.dcm_edit.specs.EditSink.{State as EditState, BarsShallow, begun}
-use Rattle.dcm_edit_words.specs.Bounds.{AreWithin, HaveShortIndexes, HaveValues}
-use Rattle.dcm_edit_words.specs.Meaning.{AreMeant}
-use Rattle.dcm_edit_words.specs.Overlap.{AreApart, ArePublic}
-use Rattle.dcm_edit.specs.Through.{through_bar, through_step, through_writes}
-use Rattle.dcm_edit.proofs.EditSinks.DrivesEdits.{driven_same, output_same, edit_bars}
-use Rattle.dcm_edit_words.proofs.Words.EditCount.{few}
-use Rattle.dcm_edit.proofs.ReadBack.EditReads.{edit_reads_whole, edit_reads_so_far}
-use Rattle.dcm_edit_words.proofs.Words.EditWordLemmas.{edits_are_apart}
-use Rattle.dcm_edit.proofs.EditSinks.Through.{through_fold, through_outputs}
-use Rattle.dcm_edit_words.proofs.Words.WordValues.{edits_fit}
+use Rattle.dcm_sinks.specs.EncodeSink.{EncodeState, encode_start, encode_step, encode_writes}
+use Rattle.dcm_edits.specs.Edit.{Edit, edited, found}
+use Rattle.dcm_editor.specs.EditSink.{State as EditState, BarsShallow, begun}
+use Rattle.dcm_edits.specs.Bounds.{AreWithin, HaveShortIndexes, HaveValues}
+use Rattle.dcm_edits.specs.Meaning.{AreMeant}
+use Rattle.dcm_edits.specs.Overlap.{AreApart, ArePublic}
+use Rattle.dcm_editor.specs.Through.{through_bar, through_step, through_writes}
+use Rattle.dcm_editor.proofs.EditSinks.DrivesEdits.{driven_same, output_same, edit_bars}
+use Rattle.dcm_edits.proofs.Words.EditCount.{few}
+use Rattle.dcm_editor.proofs.ReadBack.EditReads.{edit_reads_whole, edit_reads_so_far}
+use Rattle.dcm_edits.proofs.Words.EditWordLemmas.{edits_are_apart}
+use Rattle.dcm_editor.proofs.EditSinks.Through.{through_fold, through_outputs}
+use Rattle.dcm_edits.proofs.Words.WordValues.{edits_fit}
 use Rattle.dcm_words.specs.Words.{modify}
 use Rattle.dcm_cli.proofs.Passes.Files.{FileMaker}
 use Rattle.dcm_cli.proofs.Passes.Makers.{Drives, Maker}

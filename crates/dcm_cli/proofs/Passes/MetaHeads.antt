@@ -5,16 +5,16 @@ use Rattle.std.proofs.lemmas.List.Sums.{fold-append}
 use Rattle.std.proofs.lemmas.Bool.Decides.{nat_tests}
 use Rattle.dcm_base.specs.declared.fault.Stop.{Stop as HaltStop}
 use Rattle.dcm_base.specs.declared.syntax.Coding.{Coding}
-use Rattle.dcm_base.specs.Syntax.{Little, coding_by}
+use Rattle.dcm_base.specs.Tables.Syntax.{Little, coding_by}
 use Rattle.dcm_base.specs.declared.transfer.Deflated.{Deflated as DeflatedSyntax}
-use Rattle.dcm_base.specs.Tree.{Trees}
-use Rattle.dcm_base.specs.Spelling.{Spells}
-use Rattle.dcm_base.specs.Transfer.{coding_of, without_pads}
-use Rattle.dcm_base.specs.MetaGroup.{META_LIMIT, AreMeta, GroupPlace, an_element, the_end, too_few, a_fault}
+use Rattle.dcm_base.specs.Tree.Tree.{Trees}
+use Rattle.dcm_base.specs.Bytes.Spelling.{Spells}
+use Rattle.dcm_base.specs.Tables.Transfer.{coding_of, without_pads}
+use Rattle.dcm_base.specs.File.MetaGroup.{META_LIMIT, AreMeta, GroupPlace, an_element, the_end, too_few, a_fault}
 use Rattle.dcm_base.proofs.DataSets.Whole.{trees_same, at_end_NoElement}
-use Rattle.dcm_base.specs.MetaReads.{Meta, MetaAnswer, MetaReads, begins, refused, coded, named, answer_behind, syntax_value, too_short, no_prefix, with_group, is_undecided, PREFIX}
-use Rattle.dcm_base.specs.NewMeta.{new_meta}
-use Rattle.dcm_base.specs.declared.lookup.Dictionary.{Dictionary}
+use Rattle.dcm_base.specs.File.MetaReads.{Meta, MetaAnswer, MetaReads, begins, refused, coded, named, answer_behind, syntax_value, too_short, no_prefix, with_group, is_undecided, PREFIX}
+use Rattle.dcm_base.specs.Conversion.NewMeta.{new_meta}
+use Rattle.dcm_base.specs.declared.dictionary.Dictionary.{Dictionary}
 use Rattle.dcm_head.specs.declared.meta_read.MetaEnd.{MetaEnd}
 use Rattle.dcm_head.specs.declared.meta_read.MetaEnd.TheVariants.{Refused, Ended}
 use Rattle.dcm_head.specs.MetaReading.{Reading, HasEnded, Says, meta_step, meta_finished, finished_from, group_of, uid_of}

@@ -4,12 +4,12 @@ use Rattle.std.specs.Io.KnownBytes.{append_known}
 use Rattle.dcm_base.specs.declared.fault.Fault.TheVariants.{CannotChange}
 use Rattle.dcm_base.specs.declared.syntax.Coding.{Coding}
 use Rattle.dcm_base.specs.declared.syntax.Syntax.{Syntax}
-use Rattle.dcm_base.specs.Syntax.{Little, coding_by}
+use Rattle.dcm_base.specs.Tables.Syntax.{Little, coding_by}
 use Rattle.dcm_devices.specs.Device.{AppendsFront}
-use Rattle.dcm_base.specs.MetaReads.{Meta, MetaReads, begins, PREFIX}
-use Rattle.dcm_base.specs.NewMeta.{new_meta}
-use Rattle.dcm_base.specs.Spelling.{Spells}
-use Rattle.dcm_base.specs.declared.lookup.Dictionary.{Dictionary}
+use Rattle.dcm_base.specs.File.MetaReads.{Meta, PREFIX}
+use Rattle.dcm_base.specs.Conversion.NewMeta.{new_meta}
+use Rattle.dcm_base.specs.Bytes.Spelling.{Spells}
+use Rattle.dcm_base.specs.declared.dictionary.Dictionary.{Dictionary}
 use Rattle.dcm_words.specs.Words.{Job, convert}
 use Rattle.dcm_head.specs.declared.meta_read.MetaEnd.TheVariants.{Ended}
 use Rattle.dcm_head.specs.MetaReading.{Reading}

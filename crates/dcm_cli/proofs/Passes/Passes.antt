@@ -3,10 +3,10 @@ use Rattle.std.proofs.Common.{◌≡◌, ◌∙◌, ap, sym, subst, ℕ, ◌+◌
 use Rattle.std.specs.Prelude.{Result, Ok, Err, fold}
 use Rattle.std.specs.Io.KnownBytes.{append_known, prepend_known, IsAtEnd}
 use Rattle.dcm_base.specs.declared.fault.Stop.{Stop as HaltStop}
-use Rattle.dcm_base.specs.Atoms.{Atom}
+use Rattle.dcm_base.specs.Steps.Atoms.{Atom}
 use Rattle.dcm_devices.specs.Device.{AppendsFront}
-use Rattle.dcm_base.specs.Steps.{outputs, Goes}
-use Rattle.dcm_base.specs.Stop.{Stop, complete, refused}
+use Rattle.dcm_base.specs.Steps.Steps.{outputs, Goes}
+use Rattle.dcm_base.specs.Reading.Stop.{Stop, complete, refused}
 use Rattle.std.proofs.lemmas.List.Sums.{fold-append}
 use Rattle.dcm_devices.proofs.Writes.Puts.{append_known_twice, puts_behind}
 use Rattle.dcm_base.proofs.Writes.Runs.{outputs-append}

@@ -6,7 +6,7 @@ use Rattle.dcm_devices.specs.declared.device.Device.{Ghosts as Device}
 use Rattle.dcm_devices.specs.declared.device.DeviceIn.{Ghosts as DeviceIn}
 use Rattle.dcm_devices.specs.declared.device.DeviceOut.{Ghosts as DeviceOut}
 use Rattle.dcm_devices.specs.Device.{Gave, no_calls, and_call}
-use Rattle.dcm_base.specs.Outputs.{Writer}
+use Rattle.dcm_base.specs.Steps.Outputs.{Writer}
 use Rattle.dcm_cli.specs.InputCalls.{Reader, How, in_part, to_end, with_failure, how_of, Allows, TellsHow, InputCalls, no_call, last_call, ReadsInput}
 use Rattle.dcm_cli.proofs.Passes.Passes.{read_nothing, read_twice}
 

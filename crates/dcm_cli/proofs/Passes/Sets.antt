@@ -4,19 +4,19 @@ use Rattle.std.specs.Prelude.{fold}
 use Rattle.std.specs.Io.KnownBytes.{append_known, IsAtEnd}
 use Rattle.std.proofs.lemmas.List.{append-nil}
 use Rattle.dcm_base.specs.declared.syntax.Syntax.{Syntax}
-use Rattle.dcm_base.specs.Atoms.{front_atoms, is_closed}
+use Rattle.dcm_base.specs.Steps.Atoms.{front_atoms, is_closed}
 use Rattle.dcm_devices.specs.Device.{AppendsFront}
-use Rattle.dcm_base.specs.Front.{Front, front}
-use Rattle.dcm_base.specs.Reads.{INPUT_LIMIT, Reads, ended}
-use Rattle.dcm_base.specs.Steps.{outputs}
-use Rattle.dcm_base.specs.Stop.{Bar, Stop, complete, refused, is_undecided}
+use Rattle.dcm_base.specs.Tree.Front.{Front, front}
+use Rattle.dcm_base.specs.Reading.Reads.{INPUT_LIMIT, Reads, ended}
+use Rattle.dcm_base.specs.Steps.Steps.{outputs}
+use Rattle.dcm_base.specs.Reading.Stop.{Bar, Stop, complete, refused, is_undecided}
 use Rattle.dcm_devices.proofs.Writes.Puts.{front_longer}
 use Rattle.dcm_stream.specs.Reading.{start_of, finish, end_shows}
 use Rattle.dcm_stream.specs.Machine.{next_offset}
 use Rattle.dcm_cli.specs.declared.ending.Ending.{Ending}
 use Rattle.dcm_cli.specs.declared.ending.Ending.TheVariants.{Worked, Unread, Output}
 use Rattle.dcm_cli.specs.Pass.{Ends, at_end, at_fault, halted, unread, unwritten, end_unwritten}
-use Rattle.dcm_edit_words.specs.Edit.{Edit}
+use Rattle.dcm_edits.specs.Edit.{Edit}
 use Rattle.dcm_words.specs.Words.{Job}
 use Rattle.dcm_cli.specs.declared.ending.Verdict.TheVariants.{Done}
 use Rattle.dcm_cli.specs.Answer.{going_on, edits_of}

@@ -5,23 +5,23 @@ use Rattle.std.proofs.Math.Seq.{drop-append_seam}
 use Rattle.dcm_base.specs.declared.mode.Mode.TheVariants.{Full}
 use Rattle.dcm_base.specs.declared.syntax.Coding.{Coding}
 use Rattle.dcm_base.specs.declared.syntax.Syntax.{Syntax}
-use Rattle.dcm_base.specs.Bars.{no_bar}
-use Rattle.dcm_base.specs.Build as build
-use Rattle.dcm_base.specs.Build.{Progress, named_syntax}
+use Rattle.dcm_base.specs.Reading.Bars.{no_bar}
+use Rattle.dcm_base.specs.Lines.Build as build
+use Rattle.dcm_base.specs.Lines.Build.{Progress, named_syntax}
 use Rattle.dcm_base.specs.declared.fault.LineStop.{LineStop}
-use Rattle.dcm_base.specs.Dump.{dump_set, dump_front}
-use Rattle.dcm_base.specs.Front.{Front}
-use Rattle.dcm_base.specs.Header.{meta_header, set_header}
-use Rattle.dcm_base.specs.MetaReads.{Meta, MetaReads, begins, PREFIX}
-use Rattle.dcm_base.specs.NewMeta.{new_meta}
-use Rattle.dcm_base.specs.Normal.{whole_front}
-use Rattle.dcm_base.specs.Number.{AreBytes}
-use Rattle.dcm_base.specs.Reads.{Reads}
-use Rattle.dcm_base.specs.Recode.{recode, recode_set, recode_items, unless_dropped, head as head_bytes, sequence_delimiter, item_head, item_delimiter}
-use Rattle.dcm_base.specs.Stop.{Stop, complete}
-use Rattle.dcm_base.specs.Tree.{Trees, no_tree, leaf, sequence, fragments, Items, no_item, item}
-use Rattle.dcm_base.specs.Syntax.{read_by, coding_by}
-use Rattle.dcm_base.specs.declared.lookup.Dictionary.{Dictionary}
+use Rattle.dcm_base.specs.Dump.Dump.{dump_set, dump_front}
+use Rattle.dcm_base.specs.Tree.Front.{Front}
+use Rattle.dcm_base.specs.Dump.Header.{meta_header, set_header}
+use Rattle.dcm_base.specs.File.MetaReads.{Meta, MetaReads, begins, PREFIX}
+use Rattle.dcm_base.specs.Conversion.NewMeta.{new_meta}
+use Rattle.dcm_base.specs.Conversion.Normal.{whole_front}
+use Rattle.dcm_base.specs.Tables.Number.{AreBytes}
+use Rattle.dcm_base.specs.Reading.Reads.{Reads}
+use Rattle.dcm_base.specs.Conversion.Recode.{recode, recode_set, recode_items, unless_dropped, head as head_bytes, sequence_delimiter, item_head, item_delimiter}
+use Rattle.dcm_base.specs.Reading.Stop.{Stop, complete}
+use Rattle.dcm_base.specs.Tree.Tree.{Trees, no_tree, leaf, sequence, fragments, Items, no_item, item}
+use Rattle.dcm_base.specs.Tables.Syntax.{read_by, coding_by}
+use Rattle.dcm_base.specs.declared.dictionary.Dictionary.{Dictionary}
 use Rattle.dcm_build.specs.DumpBuilds.{full_dump, FileRead, FitsLines, BuildsFile}
 use Rattle.dcm_build.proofs.Rebuilds.FilesBuild.{Headed, headed, file_builds}
 use Rattle.dcm_words.specs.Words.{GREATEST_LIMIT, dump, convert, build as building}
@@ -115,8 +115,8 @@ after_preamble preamble prefix group set size =
 in_front : (zeros prefix group set : List ℕ) → zeros ++ prefix ++ group ++ set ≡ zeros ++ (prefix ++ group ++ set)
 in_front zeros prefix group set = ap (λ (bs : List ℕ). bs ++ set) (append_assoc zeros prefix group) ∙ append_assoc zeros (prefix ++ group) set
 
-fine : (p : Progress) → p.told ≡ None → built_answer p ≡ record { output = build.built_bytes p.built; told = []; status = 0 }
-fine p e = ap (λ (o : Option LineStop). elim o as (λ x. Answer) [ None ↦ record { output = build.built_bytes p.built; told = []; status = 0 } | Some t ↦ record { output = build.built_bytes p.built; told = building_line t; status = 2 } ]) e
+fine : (p : Progress) → p.told ≡ None → built_answer p ≡ record { output = build.built_bytes p.built; lines = []; status = 0 }
+fine p e = ap (λ (o : Option LineStop). elim o as (λ x. Answer) [ None ↦ record { output = build.built_bytes p.built; lines = []; status = 0 } | Some t ↦ record { output = build.built_bytes p.built; lines = building_line t; status = 2 } ]) e
 
 -- ---- both runs
 
@@ -151,12 +151,12 @@ module _ (d : Dictionary) (limit : ℕ) (file : List ℕ) (dumped built converte
   built_file : BuildsFile limit (full_dump d h.meta.elements h.set) h.meta.elements coding h.set
   built_file = file_builds d limit file h.meta coding h.set allowed read h.units_of_group h.units h.ascends (subst (FitsLines limit) dumped_is fits)
 
-  built_is : built ≡ record { output = replicate 128 0 ++ group_and_set; told = []; status = 0 }
+  built_is : built ≡ record { output = replicate 128 0 ++ group_and_set; lines = []; status = 0 }
   built_is =
       builds
       ∙ ap (λ (text : List ℕ). built_answer (build.built limit text)) dumped_is
       ∙ fine (build.built limit (full_dump d h.meta.elements h.set)) built_file.no_fault
-      ∙ ap (λ (bs : List ℕ). record { output = bs; told = []; status = 0 }) (built_file.file ∙ in_front (replicate 128 0) PREFIX (new_meta h.meta.elements (named_syntax h.meta.elements)) (recode_set coding.syntax h.set))
+      ∙ ap (λ (bs : List ℕ). record { output = bs; lines = []; status = 0 }) (built_file.file ∙ in_front (replicate 128 0) PREFIX (new_meta h.meta.elements (named_syntax h.meta.elements)) (recode_set coding.syntax h.set))
 
   converted_is : drop 128 converted.output ≡ group_and_set
   converted_is =
@@ -170,6 +170,6 @@ module _ (d : Dictionary) (limit : ℕ) (file : List ℕ) (dumped built converte
   pub dump_builds : BuildsWhatConverts built converted
   dump_builds = record {
     status = ap (λ (a : Answer). a.status) built_is;
-    told = ap (λ (a : Answer). a.told) built_is;
+    lines = ap (λ (a : Answer). a.lines) built_is;
     output = ap (λ (a : Answer). a.output) built_is ∙ ap (λ (bs : List ℕ). replicate 128 0 ++ bs) (sym converted_is);
   }

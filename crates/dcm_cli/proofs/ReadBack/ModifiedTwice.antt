@@ -4,28 +4,28 @@ use Rattle.std.specs.Prelude.{◌⊎◌, ◌==◌, ◌&&◌}
 use Rattle.std.proofs.lemmas.Bool.Decides.{nat_tests}
 use Rattle.dcm_base.specs.declared.syntax.Coding.{Coding}
 use Rattle.dcm_base.specs.declared.syntax.Syntax.{Syntax}
-use Rattle.dcm_base.specs.Syntax.{Little}
+use Rattle.dcm_base.specs.Tables.Syntax.{Little}
 use Rattle.dcm_base.specs.declared.tag.Tag.{Tag}
 use Rattle.dcm_base.specs.declared.vr.Vr.{Vr}
 use Rattle.dcm_base.specs.declared.vr.Vr.TheVariants.{UI}
-use Rattle.dcm_base.specs.Bars.{ascending_bar}
-use Rattle.dcm_base.specs.Front.{Front}
-use Rattle.dcm_base.specs.MetaGroup.{AreMeta}
-use Rattle.dcm_base.specs.MetaReads.{Meta, PREFIX}
-use Rattle.dcm_base.specs.NewMeta.{group_length, new_meta, with_syntax, without_syntax}
-use Rattle.dcm_base.specs.Normal.{normal, normal_front, normal_value, normal_vr}
-use Rattle.dcm_base.specs.Reads.{Reads}
-use Rattle.dcm_base.specs.Recode.{recode, recode_set, recoded_leaf}
-use Rattle.dcm_base.specs.Stop.{complete}
-use Rattle.dcm_base.specs.Tag.{is_tag}
-use Rattle.dcm_base.specs.Tree.{Trees, no_tree, leaf, sequence, fragments}
+use Rattle.dcm_base.specs.Reading.Bars.{ascending_bar}
+use Rattle.dcm_base.specs.Tree.Front.{Front}
+use Rattle.dcm_base.specs.File.MetaGroup.{AreMeta}
+use Rattle.dcm_base.specs.File.MetaReads.{Meta, PREFIX}
+use Rattle.dcm_base.specs.Conversion.NewMeta.{group_length, new_meta, with_syntax, without_syntax}
+use Rattle.dcm_base.specs.Conversion.Normal.{normal, normal_front, normal_value, normal_vr}
+use Rattle.dcm_base.specs.Reading.Reads.{Reads}
+use Rattle.dcm_base.specs.Conversion.Recode.{recode, recode_set, recoded_leaf}
+use Rattle.dcm_base.specs.Reading.Stop.{complete}
+use Rattle.dcm_base.specs.Tables.Tag.{is_tag}
+use Rattle.dcm_base.specs.Tree.Tree.{Trees, no_tree, leaf, sequence, fragments}
 use Rattle.dcm_base.proofs.Conversions.NormalForm.{leaf_again}
-use Rattle.dcm_base.specs.declared.lookup.Dictionary.{Dictionary}
-use Rattle.dcm_edit_words.specs.Edit.{Edit, edited}
-use Rattle.dcm_edit.specs.Repeating.{EraseByNoNumber}
-use Rattle.dcm_edit.proofs.ReadBack.EditedAscends.{edited_ascends}
-use Rattle.dcm_edit.proofs.ReadBack.TwiceWritten.{edited_twice}
-use Rattle.dcm_tools.specs.MetaAgain.{elements_again, meta_again}
+use Rattle.dcm_base.specs.declared.dictionary.Dictionary.{Dictionary}
+use Rattle.dcm_edits.specs.Edit.{Edit, edited}
+use Rattle.dcm_editor.specs.Repeating.{EraseByNoNumber}
+use Rattle.dcm_editor.proofs.ReadBack.EditedAscends.{edited_ascends}
+use Rattle.dcm_editor.proofs.ReadBack.TwiceWritten.{edited_twice}
+use Rattle.dcm_sinks.specs.MetaAgain.{elements_again, meta_again}
 use Rattle.dcm_words.specs.Words.{modify}
 use Rattle.dcm_cli.specs.Answer.{Answer, Answers, FileReads, Source, answer, file, opened, set_at, status_of_lines, unplaced_lines, written_file}
 use Rattle.dcm_cli.specs.ReadsAgain.{IsModified}

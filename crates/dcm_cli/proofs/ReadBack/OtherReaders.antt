@@ -1,40 +1,40 @@
 -- What dcmodify has done is so in its output for other readers too.
 use Rattle.std.proofs.Common.{◌≡◌, true, ◌∙◌, ap, sym, subst, refl, ℕ, List, ◌++◌, length, None, drop}
-use Rattle.dcm_base.specs.declared.lookup.Dictionary.{Dictionary}
-use Rattle.dcm_base.specs.declared.lookup.Dictionary.TheVariants.{Standard}
+use Rattle.dcm_base.specs.declared.dictionary.Dictionary.{Dictionary}
+use Rattle.dcm_base.specs.declared.dictionary.Dictionary.TheVariants.{Standard}
 use Rattle.dcm_base.specs.declared.mode.Mode.TheVariants.{Full}
 use Rattle.dcm_base.specs.declared.syntax.Coding.{Coding}
 use Rattle.dcm_base.specs.declared.syntax.Syntax.{Syntax}
 use Rattle.dcm_base.specs.declared.syntax.Syntax.TheVariants.{Implicit as implicit_in, Little as little_in, Big as big_in}
 use Rattle.dcm_base.specs.declared.tag.Tag.{Tag}
 use Rattle.dcm_base.specs.declared.vr.Vr.{Vr}
-use Rattle.dcm_base.specs.Bars.{no_bar}
-use Rattle.dcm_base.specs.Front.{Front}
-use Rattle.dcm_base.specs.MetaGroup.{group_place, the_end}
-use Rattle.dcm_base.specs.MetaReads.{Meta, PREFIX, begins}
-use Rattle.dcm_base.specs.NewMeta.{new_meta}
-use Rattle.dcm_base.specs.Normal.{normal_front}
-use Rattle.dcm_base.specs.Recode.{is_explicit, recode}
-use Rattle.dcm_base.specs.Reads.{Reads}
-use Rattle.dcm_base.specs.Stop.{complete}
-use Rattle.dcm_base.specs.Syntax.{coding_by, dictionary_of, is_big, read_by}
-use Rattle.dcm_edit_words.specs.Edit.{Edit, edited, erase_all, erase_private, modify_all}
-use Rattle.dcm_edit.specs.Everywhere.{Among, EverywhereIn, IsOther, IsPublic, IsWrittenJust}
-use Rattle.dcm_edit.specs.Modification.{Modifies}
-use Rattle.dcm_edit.specs.Others.{any_changes, set_without}
-use Rattle.dcm_edit.specs.Readers.{HidesNothing, OpensAlike, ReadsBy}
-use Rattle.dcm_edit.proofs.ReadBack.EditedReads.{front_reads}
-use Rattle.dcm_edit.proofs.ReadBack.StaysReady.{FrontReady}
-use Rattle.dcm_edit.proofs.Readers.Bytes.{front_alike}
-use Rattle.dcm_edit.proofs.Readers.Hidden.{alike_hides, no_private_is_seen, none_is_seen}
-use Rattle.dcm_edit.proofs.Readers.NormalForms.{normal_fits, normal_fits_back}
-use Rattle.dcm_edit.proofs.Readers.Opened.{explicit_opens, front_ready_by}
-use Rattle.dcm_edit.proofs.Readers.Others as others
-use Rattle.dcm_edit.proofs.Readers.Renamed.{renamed}
+use Rattle.dcm_base.specs.Reading.Bars.{no_bar}
+use Rattle.dcm_base.specs.Tree.Front.{Front}
+use Rattle.dcm_base.specs.File.MetaGroup.{group_place, the_end}
+use Rattle.dcm_base.specs.File.MetaReads.{Meta, PREFIX, begins}
+use Rattle.dcm_base.specs.Conversion.NewMeta.{new_meta}
+use Rattle.dcm_base.specs.Conversion.Normal.{normal_front}
+use Rattle.dcm_base.specs.Conversion.Recode.{is_explicit, recode}
+use Rattle.dcm_base.specs.Reading.Reads.{Reads}
+use Rattle.dcm_base.specs.Reading.Stop.{complete}
+use Rattle.dcm_base.specs.Tables.Syntax.{coding_by, dictionary_of, is_big, read_by}
+use Rattle.dcm_edits.specs.Edit.{Edit, edited, erase_all, erase_private, modify_all}
+use Rattle.dcm_editor.specs.Everywhere.{Among, EverywhereIn, IsOther, IsPublic, IsWrittenJust}
+use Rattle.dcm_editor.specs.Modification.{Modifies}
+use Rattle.dcm_editor.specs.Others.{any_changes, set_without}
+use Rattle.dcm_editor.specs.Readers.{HidesNothing, OpensAlike, ReadsBy}
+use Rattle.dcm_editor.proofs.ReadBack.EditedReads.{front_reads}
+use Rattle.dcm_editor.proofs.ReadBack.StaysReady.{FrontReady}
+use Rattle.dcm_editor.proofs.Readers.Bytes.{front_alike}
+use Rattle.dcm_editor.proofs.Readers.Hidden.{alike_hides, no_private_is_seen, none_is_seen}
+use Rattle.dcm_editor.proofs.Readers.NormalForms.{normal_fits, normal_fits_back}
+use Rattle.dcm_editor.proofs.Readers.Opened.{explicit_opens, front_ready_by}
+use Rattle.dcm_editor.proofs.Readers.Others as others
+use Rattle.dcm_editor.proofs.Readers.Renamed.{renamed}
 use Rattle.dcm_base.proofs.DataSets.OwnSyntax.{own_reads}
 use Rattle.dcm_head.proofs.MetaGroups.OneMeta.{one_meta}
-use Rattle.dcm_tools.specs.MetaAgain.{meta_again}
-use Rattle.dcm_tools.proofs.ReadBack.NewMetaReads.{own}
+use Rattle.dcm_sinks.specs.MetaAgain.{meta_again}
+use Rattle.dcm_sinks.proofs.ReadBack.NewMetaReads.{own}
 use Rattle.dcm_words.specs.Words.{dump, modify}
 use Rattle.dcm_cli.specs.Answer.{Answer, FileReads, Source, answer, file, opened, set_at, written_file}
 use Rattle.dcm_cli.specs.ReadsAgain.{HasRoom, InOutput, InWholeOutput, IsModified, IsRead, OfWholeFile}

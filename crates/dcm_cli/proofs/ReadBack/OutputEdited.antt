@@ -5,24 +5,24 @@ use Rattle.dcm_base.specs.declared.syntax.Coding.{Coding}
 use Rattle.dcm_base.specs.declared.syntax.Syntax.{Syntax}
 use Rattle.dcm_base.specs.declared.tag.Tag.{Tag}
 use Rattle.dcm_base.specs.declared.vr.Vr.{Vr}
-use Rattle.dcm_base.specs.Front.{Front}
-use Rattle.dcm_base.specs.MetaReads.{Meta}
-use Rattle.dcm_base.specs.NewMeta.{new_meta}
-use Rattle.dcm_base.specs.Normal.{normal_front}
-use Rattle.dcm_base.specs.Stop.{complete}
-use Rattle.dcm_base.specs.declared.lookup.Dictionary.{Dictionary}
-use Rattle.dcm_edit_words.specs.Edit.{Edit, edited, erase_all, erase_private, modify_all}
-use Rattle.dcm_edit.specs.Everywhere.{Among, EverywhereIn, IsOther, IsPublic, IsWrittenJust}
-use Rattle.dcm_edit.specs.Modification.{Modifies, ReadsAgain}
-use Rattle.dcm_edit.proofs.ReadBack.EditedReads.{edited_reads}
-use Rattle.dcm_edit.proofs.Trees.Gone.{erased_all_is_gone, erased_private_is_gone, modified_all_is_so}
-use Rattle.dcm_tools.specs.MetaAgain.{meta_again}
+use Rattle.dcm_base.specs.Tree.Front.{Front}
+use Rattle.dcm_base.specs.File.MetaReads.{Meta}
+use Rattle.dcm_base.specs.Conversion.NewMeta.{new_meta}
+use Rattle.dcm_base.specs.Conversion.Normal.{normal_front}
+use Rattle.dcm_base.specs.Reading.Stop.{complete}
+use Rattle.dcm_base.specs.declared.dictionary.Dictionary.{Dictionary}
+use Rattle.dcm_edits.specs.Edit.{Edit, edited, erase_all, erase_private, modify_all}
+use Rattle.dcm_editor.specs.Everywhere.{Among, EverywhereIn, IsOther, IsPublic, IsWrittenJust}
+use Rattle.dcm_editor.specs.Modification.{Modifies, ReadsAgain}
+use Rattle.dcm_editor.proofs.ReadBack.EditedReads.{edited_reads}
+use Rattle.dcm_editor.proofs.Trees.Gone.{erased_all_is_gone, erased_private_is_gone, modified_all_is_so}
+use Rattle.dcm_sinks.specs.MetaAgain.{meta_again}
 use Rattle.dcm_words.specs.Words.{dump, modify}
 use Rattle.dcm_cli.specs.Answer.{Answer, Source, answer, file, opened, set_at}
 use Rattle.dcm_cli.specs.ReadsAgain.{InOutput, IsModified, OfWholeFile}
 use Rattle.dcm_cli.proofs.Runs.OneSource.{one_source}
 use Rattle.dcm_cli.proofs.ReadBack.ReadsAgain.{Read, begins_within, modified_reads, read_of, rest_bytes, set_within, of_head}
-use Rattle.dcm_edit_words.specs.EditWords.{meant_edits_in}
+use Rattle.dcm_edits.specs.EditWords.{meant_edits_in}
 
 module _ (d : Dictionary) (edits : List Edit) (input : List ℕ) (a : Answer) (m : Meta) (coding : Coding) (f : Front) (h : IsModified d edits input a m coding f) where
   abbrev s : Syntax

@@ -4,40 +4,40 @@ use Rattle.std.proofs.lemmas.List.{append-nil, drop_at}
 use Rattle.dcm_base.specs.declared.syntax.Coding.{Coding}
 use Rattle.dcm_base.specs.declared.syntax.Syntax.{Syntax}
 use Rattle.dcm_base.specs.declared.syntax.Syntax.TheVariants.{Implicit as implicit_in, Little as little_in, Big as big_in}
-use Rattle.dcm_base.specs.Bars.{no_bar, target_bar}
-use Rattle.dcm_base.specs.Front.{Front, front, nothing_open, open_leaf, open_sequence, open_fragments}
-use Rattle.dcm_base.specs.MetaGroup.{group_place, the_end}
-use Rattle.dcm_base.specs.MetaReads.{Meta, MetaReads, begins, PREFIX}
-use Rattle.dcm_base.specs.NewMeta.{new_meta}
-use Rattle.dcm_base.specs.Normal.{FrontFits, normal_front}
-use Rattle.dcm_base.specs.Number.{AreBytes}
-use Rattle.dcm_base.specs.Reads.{INPUT_LIMIT, Reads}
-use Rattle.dcm_base.specs.Recode.{recode}
-use Rattle.dcm_base.specs.Stop.{Stop, Bar, complete}
-use Rattle.dcm_base.specs.Transfer.{native, without_pads, coding_of}
+use Rattle.dcm_base.specs.Reading.Bars.{no_bar, target_bar}
+use Rattle.dcm_base.specs.Tree.Front.{Front, front, nothing_open, open_leaf, open_sequence, open_fragments}
+use Rattle.dcm_base.specs.File.MetaGroup.{group_place, the_end}
+use Rattle.dcm_base.specs.File.MetaReads.{Meta, MetaReads, begins, PREFIX}
+use Rattle.dcm_base.specs.Conversion.NewMeta.{new_meta}
+use Rattle.dcm_base.specs.Conversion.Normal.{FrontFits, normal_front}
+use Rattle.dcm_base.specs.Tables.Number.{AreBytes}
+use Rattle.dcm_base.specs.Reading.Reads.{INPUT_LIMIT, Reads}
+use Rattle.dcm_base.specs.Conversion.Recode.{recode}
+use Rattle.dcm_base.specs.Reading.Stop.{Stop, Bar, complete}
+use Rattle.dcm_base.specs.Tables.Transfer.{native, without_pads, coding_of}
 use Rattle.dcm_base.proofs.DataSets.ImplicitLengths.{explicit_fits, implicit_fits}
 use Rattle.dcm_base.proofs.DataSets.OwnSyntax.{own_reads}
 use Rattle.dcm_base.proofs.DataSets.OneAnswer.{reads_once}
 use Rattle.dcm_base.proofs.DumpsBack.Texts.{bytes_of}
-use Rattle.dcm_base.specs.Syntax.{dictionary_of, read_by, coding_by, is_big}
-use Rattle.dcm_base.specs.declared.lookup.Dictionary.{Dictionary}
-use Rattle.dcm_base.specs.declared.lookup.Dictionary.TheVariants.{Extract}
+use Rattle.dcm_base.specs.Tables.Syntax.{dictionary_of, read_by, coding_by, is_big}
+use Rattle.dcm_base.specs.declared.dictionary.Dictionary.{Dictionary}
+use Rattle.dcm_base.specs.declared.dictionary.Dictionary.TheVariants.{Extract}
 use Rattle.dcm_stream.proofs.Steps.ReadsSome.{plain}
-use Rattle.dcm_tools.specs.MetaAgain.{meta_again, Renews, Names, ReadsRenewed}
-use Rattle.dcm_tools.proofs.ReadBack.GroupEnds.{set_ends}
-use Rattle.dcm_tools.proofs.ReadBack.NewMetaReads.{any, own}
-use Rattle.dcm_tools.proofs.ReadBack.RecodeReads.{IsReady, read_ready, recode_reads}
-use Rattle.dcm_tools.proofs.ReadBack.Sources.{a_byte, bytes_behind}
+use Rattle.dcm_sinks.specs.MetaAgain.{meta_again, Renews, Names, ReadsRenewed}
+use Rattle.dcm_sinks.proofs.ReadBack.GroupEnds.{set_ends}
+use Rattle.dcm_sinks.proofs.ReadBack.NewMetaReads.{any, own}
+use Rattle.dcm_sinks.proofs.ReadBack.RecodeReads.{IsReady, read_ready, recode_reads}
+use Rattle.dcm_sinks.proofs.ReadBack.Sources.{a_byte, bytes_behind}
 use Rattle.dcm_build.proofs.Rebuilds.FilesBuild.{headed}
-use Rattle.dcm_edit_words.specs.Edit.{Edit, edited}
-use Rattle.dcm_edit.proofs.ReadBack.EditedReads.{front_ready, edited_reads}
-use Rattle.dcm_edit.proofs.ReadBack.StaysReady.{FrontReady, edited_ready}
-use Rattle.dcm_edit_words.proofs.Words.WordValues.{edits_fit}
-use Rattle.dcm_edit.proofs.Words.WordsReady.{edits_ready}
+use Rattle.dcm_edits.specs.Edit.{Edit, edited}
+use Rattle.dcm_editor.proofs.ReadBack.EditedReads.{front_ready, edited_reads}
+use Rattle.dcm_editor.proofs.ReadBack.StaysReady.{FrontReady, edited_ready}
+use Rattle.dcm_edits.proofs.Words.WordValues.{edits_fit}
+use Rattle.dcm_editor.proofs.Words.WordsReady.{edits_ready}
 use Rattle.dcm_words.specs.Words.{Job, convert, modify}
 use Rattle.dcm_cli.specs.Answer.{job_dictionary, HeadIs, Answer, Source, file as a_file, set_at, job_bar, answer, target_syntax, target_uid, uid_of_syntax, written_file, FileReads, not_opened, not_changed, opened}
 use Rattle.dcm_cli.specs.ReadsAgain.{IsRead, HasRoom, IsModified, ReadsModified, IsConverted, ReadsConverted}
-use Rattle.dcm_edit_words.specs.EditWords.{meant_edits_in}
+use Rattle.dcm_edits.specs.EditWords.{meant_edits_in}
 
 -- ---- what was read
 

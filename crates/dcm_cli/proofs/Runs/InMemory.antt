@@ -4,17 +4,20 @@ use Rattle.std.specs.Io.KnownBytes.{append_known}
 use Rattle.std.proofs.lemmas.List.{length-take-le}
 use Rattle.dcm_devices.specs.Device.{AppendsFront}
 use Rattle.dcm_devices.specs.Memory.{written, size, room_of}
+use Rattle.dcm_devices.specs.Writing.{Writer}
 use Rattle.dcm_devices.specs.declared.memory.MemIn.{MemIn}
 use Rattle.dcm_devices.specs.declared.memory.MemOut.{MemOut}
 use Rattle.dcm_devices.specs.declared.memory.Measured.{Measured}
 use Rattle.dcm_words.specs.Words.{Job}
 use Rattle.dcm_cli.specs.Answer.{Answer, Answers}
 use Rattle.dcm_cli.specs.InMemory.{LeavesAnswer}
+use Rattle.dcm_cli.specs.Calls.{Reader, Runs}
+use Rattle.dcm_cli.specs.Change.{Change}
 use Rattle.dcm_cli.specs.InputCalls.{How, Allows}
-use Rattle.dcm_cli.specs.Run.{Ran, as_answered, not_read, not_written, not_flushed, Devices}
-use Rattle.dcm_cli.specs.ErrorLines.{Tries}
+use Rattle.dcm_cli.specs.Run.{Ran, as_answered, not_read, not_written, not_flushed}
+use Rattle.dcm_cli.specs.ErrorLines.{Tries, Reports}
 use Rattle.dcm_cli.proofs.Passes.Readers.{known}
-use Rattle.dcm_cli.specs.Program.{Errors, Reports, Telling, HasRun, PutsText, put, not_put, not_flushed as text_not_flushed}
+use Rattle.dcm_cli.specs.Program.{PutsText, put, not_put, not_flushed as text_not_flushed}
 use Rattle.dcm_cli.proofs.Runs.OneAnswer.{one_answer}
 
 -- what is told of a writer of this size that holds these bytes
@@ -44,22 +47,25 @@ module _ (size now : ℕ) (before after : List ℕ) (failed_before failed : Bool
 -- what a run leaves of writers of these sizes with room for its answer
 record Left (a : Answer) (before after : List ℕ) (line_room : ℕ) (told tells : List ℕ) (status : ℕ) : Type 0 where
   output : after ≡ before ++ a.output
-  lines : length a.told ≤ line_room → tells ≡ told ++ a.told
+  lines : length a.lines ≤ line_room → tells ≡ told ++ a.lines
   status_is : status ≡ a.status
 
-module _ (job : Job) (given rest : List ℕ) (how : How) (ok : Allows how rest) (size now : ℕ) (before after : List ℕ) (line_size line_now : ℕ) (told tells : List ℕ) (room : ℕ) (unwritten untold_before untold : Bool) (status : ℕ)
+module _ (job : Job) (given rest : List ℕ) (how : How) (ok : Allows how rest) (size now : ℕ) (before after : List ℕ) (line_size line_now : ℕ) (told tells : List ℕ) (room line_left : ℕ) (unwritten_before unwritten untold_before untold : Bool) (status : ℕ)
     (filled : unwritten ≡ true → length after ≡ now) (line_filled : untold ≡ true → length tells ≡ line_now) where
-  abbrev sized_devices : Devices
-  sized_devices = record { held = sized size before; holds = sized now after; room = Some room; told = sized line_size told; tells = sized line_now tells; unread = false; unwritten = unwritten; untold_before = untold_before; untold = untold }
+  abbrev output_change : Change
+  output_change = record { before = sized size before; after = sized now after; failed_before = unwritten_before; failed_after = unwritten; room = Some room; is_flushed = true }
 
-  left_answered : Ran job given how sized_devices status → (a : Answer) → Answers job (given ++ rest) a → length a.output ≤ size - length before → Left a before after (line_size - length told) told tells status
+  abbrev errors_change : Change
+  errors_change = record { before = sized line_size told; after = sized line_now tells; failed_before = untold_before; failed_after = untold; room = Some line_left; is_flushed = true }
+
+  left_answered : Ran job given how false output_change errors_change status → (a : Answer) → Answers job (given ++ rest) a → length a.output ≤ size - length before → Left a before after (line_size - length told) told tells status
   left_answered (as_answered b all read fine holds lines status_was) a answers enough =
       let same : b ≡ a = one_answer job (given ++ rest) b a (all rest ok) answers in
       record {
         output = grew size now before after b.output holds ∙ ap (λ (x : Answer). before ++ x.output) same;
         lines = λ most.
-            let small : length b.told ≤ line_size - length told = (let is_long = ap (λ (x : Answer). length x.told) same in omega (arith, is_long, most)) in
-            tried line_size line_now told tells untold_before untold line_filled b.told lines small ∙ ap (λ (x : Answer). told ++ x.told) same;
+            let small : length b.lines ≤ line_size - length told = (let is_long = ap (λ (x : Answer). length x.lines) same in omega (arith, is_long, most)) in
+            tried line_size line_now told tells untold_before untold line_filled b.lines lines small ∙ ap (λ (x : Answer). told ++ x.lines) same;
         status_is = status_was ∙ ap (λ (x : Answer). x.status) same;
       }
   left_answered (not_read out unread sure holds lines status_was) a answers enough = absurd (cc)
@@ -77,16 +83,24 @@ taken m = length-take-le m.at m.bytes.items (subst (λ (n : ℕ). m.at ≤ n) m.
 filled : (m : MemOut) → m.failed ≡ true → length (written m) ≡ size m
 filled m failed = taken m ∙ m.full failed
 
-module _ (job : Job) (given rest : List ℕ) (how : How) (ok : Allows how rest) (out new_out errors new_errors : MemOut) (status : ℕ) where
-  abbrev devices : Devices
-  devices = record { held = sized (size out) (written out); holds = sized (size new_out) (written new_out); room = Some (room_of new_out); told = sized (size errors) (written errors); tells = sized (size new_errors) (written new_errors); unread = false; unwritten = new_out.failed; untold_before = errors.failed; untold = new_errors.failed }
+-- what was done to a writer of memory
+abbrev pub memory_change : (before after : MemOut) → Change
+memory_change before after = record {
+  before = sized (size before) (written before);
+  after = sized (size after) (written after);
+  failed_before = before.failed;
+  failed_after = after.failed;
+  room = Some (room_of after);
+  is_flushed = true;
+}
 
-  pub memory_left : Ran job given how devices status → (a : Answer) → Answers job (given ++ rest) a → length a.output ≤ room_of out → LeavesAnswer a out new_out errors new_errors status
+module _ (job : Job) (given rest : List ℕ) (how : How) (ok : Allows how rest) (out new_out errors new_errors : MemOut) (status : ℕ) where
+  pub memory_left : Ran job given how false (memory_change out new_out) (memory_change errors new_errors) status → (a : Answer) → Answers job (given ++ rest) a → length a.output ≤ room_of out → LeavesAnswer a out new_out errors new_errors status
   memory_left ran a answers enough =
-      let l = left_answered job given rest how ok (size out) (size new_out) (written out) (written new_out) (size errors) (size new_errors) (written errors) (written new_errors) (room_of new_out) new_out.failed errors.failed new_errors.failed status
+      let l = left_answered job given rest how ok (size out) (size new_out) (written out) (written new_out) (size errors) (size new_errors) (written errors) (written new_errors) (room_of new_out) (room_of new_errors) out.failed new_out.failed errors.failed new_errors.failed status
       (filled new_out) (filled new_errors) ran a answers (let at = taken out in omega (arith, at, enough))
       in
-      record { output = l.output; told = λ most. l.lines (let at = taken errors in omega (arith, at, most)); status_is = l.status_is }
+      record { output = l.output; lines = λ most. l.lines (let at = taken errors in omega (arith, at, most)); status_is = l.status_is }
 
 -- a line was written where there was room for it
 pub line_left : (errors new_errors : MemOut) (line : List ℕ) → Tries (sized (size errors) (written errors)) (sized (size new_errors) (written new_errors)) errors.failed new_errors.failed line → length line ≤ room_of errors
@@ -94,28 +108,20 @@ pub line_left : (errors new_errors : MemOut) (line : List ℕ) → Tries (sized 
 line_left errors new_errors line tries room =
     tried (size errors) (size new_errors) (written errors) (written new_errors) errors.failed new_errors.failed (filled new_errors) line tries (let at = taken errors in omega (arith, at, room))
 
--- what devices over memory tell
-abbrev pub memory_telling : Telling MemIn Measured
-memory_telling = record {
-  remaining = λ m. Some m.rest.now;
-  gets = λ old bytes new. Unit {0};
-  unread = λ m. false;
+-- the members of a reader of memory, and of a writer
+abbrev pub memory_reader : Reader MemIn
+memory_reader = record { has_failed = λ m. false; remaining = λ m. Some m.rest.now; gets = λ before bytes after. Unit {0} }
+
+abbrev pub memory_writer : Writer Measured
+memory_writer = record {
+  has_failed = λ m. m.out.failed;
   contents = λ m. Some (size m.out ∷ written m.out);
   room = λ m. Some (room_of m.out);
-  unwritten = λ m. m.out.failed;
   is_flushed = λ m. true;
 }
 
-abbrev pub memory_errors : (errors new_errors : MemOut) → Errors
-memory_errors errors new_errors = record {
-  told = sized (size errors) (written errors);
-  tells = sized (size new_errors) (written new_errors);
-  untold_before = errors.failed;
-  untold = new_errors.failed;
-}
-
 -- a job was run over them
-pub ran_left : (job : Job) (i : MemIn) (o : Measured) (input : MemIn) (output : Measured) (errors new_errors : MemOut) (status : ℕ) → HasRun memory_telling job (memory_errors errors new_errors) i o input output status
+pub ran_left : (job : Job) (i : MemIn) (o : Measured) (input : MemIn) (output : Measured) (errors new_errors : MemOut) (status : ℕ) → Runs memory_reader memory_writer job (memory_change errors new_errors) i input o output status
     → o.out.failed ≡ false → (a : Answer) → Answers job i.rest.now a → length a.output ≤ room_of o.out → LeavesAnswer a o.out output.out errors new_errors status
 ran_left job i o input output errors new_errors status has_run fine a answers enough =
     let here = known _ _ _ _ has_run.given has_run.how has_run.reads i.rest.now refl in
@@ -123,8 +129,7 @@ ran_left job i o input output errors new_errors status has_run fine a answers en
     (subst (λ (bytes : List ℕ). Answers job bytes a) here.2 answers) enough
 
 -- a text was written where there was room for it
-pub text_left : (out new_out : MemOut) (e : Errors) (text : List ℕ) (status : ℕ)
-    → PutsText text (record { held = sized (size out) (written out); holds = sized (size new_out) (written new_out); room = Some (room_of new_out); unwritten_before = out.failed; unwritten = new_out.failed; is_flushed = true }) e status
+pub text_left : (out new_out : MemOut) (e : Change) (text : List ℕ) (status : ℕ) → PutsText text (memory_change out new_out) e status
     → length text ≤ room_of out → (written new_out ≡ written out ++ text) × Reports e [] × (status ≡ 0)
 text_left out new_out e text status (put holds same flushed line was) enough = (grew (size out) (size new_out) (written out) (written new_out) text holds, line, was)
 text_left out new_out e text status (not_put front failed line was) enough =

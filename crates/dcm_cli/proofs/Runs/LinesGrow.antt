@@ -1,10 +1,10 @@
 -- What is sure of the lines of a beginning stands at the front of what is built.
 use Rattle.std.proofs.Common.{◌≡◌, ◌∙◌, ap, sym, ℕ, ◌==◌, ◌≤◌, List, [], ◌∷◌, ◌++◌, append_assoc, length, length-append, cond, Bool, true, false, Option, None, Some, refl, arith, inl, inr, ◌⊎◌}
 use Rattle.std.specs.Str.{byte}
-use Rattle.dcm_base.specs.Build as build
-use Rattle.dcm_base.specs.Build.{Progress, Lines, lines, more_lines, lines_of, at_start}
+use Rattle.dcm_base.specs.Lines.Build as build
+use Rattle.dcm_base.specs.Lines.Build.{Progress, Lines, lines, more_lines, lines_of, at_start}
 use Rattle.dcm_base.specs.declared.fault.LineStop.{LineStop}
-use Rattle.dcm_base.specs.Reads.{INPUT_LIMIT}
+use Rattle.dcm_base.specs.Reading.Reads.{INPUT_LIMIT}
 use Rattle.dcm_build.proofs.Files.Lines.{lines_from, lines_are, run_lines}
 use Rattle.dcm_build.proofs.Files.Runs.{so_far}
 use Rattle.dcm_build.proofs.Files.NoFaults.{none_told}
@@ -73,6 +73,6 @@ module _ (limit : ℕ) (p later out : List ℕ) (sure : LinesSure limit p out) w
 pub answer_output : (p : Progress) → (built_answer p).output ≡ build.built_bytes p.built
 answer_output p = by_told p.told
   where
-    by_told : (o : Option LineStop) → (elim o as (λ x. Answer) [ None ↦ record { output = build.built_bytes p.built; told = []; status = 0 } | Some t ↦ record { output = build.built_bytes p.built; told = building_line t; status = 2 } ]).output ≡ build.built_bytes p.built
+    by_told : (o : Option LineStop) → (elim o as (λ x. Answer) [ None ↦ record { output = build.built_bytes p.built; lines = []; status = 0 } | Some t ↦ record { output = build.built_bytes p.built; lines = building_line t; status = 2 } ]).output ≡ build.built_bytes p.built
     by_told None = refl
     by_told (Some t) = refl

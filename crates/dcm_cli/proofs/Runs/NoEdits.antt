@@ -1,9 +1,9 @@
 -- Without edits a file is read and written as by a conversion to its own transfer syntax.
 use Rattle.std.proofs.Common.{◌≡◌, ◌∙◌, subst, ℕ, List, [], drop, None, refl}
-use Rattle.dcm_base.specs.Stop.{complete, refused}
+use Rattle.dcm_base.specs.Reading.Stop.{complete, refused}
 use Rattle.dcm_base.proofs.DataSets.OwnSyntax.{own_reads}
 use Rattle.dcm_base.proofs.DataSets.InOrder.{unbarred_reads}
-use Rattle.dcm_base.specs.declared.lookup.Dictionary.{Dictionary}
+use Rattle.dcm_base.specs.declared.dictionary.Dictionary.{Dictionary}
 use Rattle.dcm_words.specs.Words.{convert, modify}
 use Rattle.dcm_cli.specs.Answer.{Source, unopened, file as a_file, alone, answer, set_at, FileReads, not_opened, not_changed, opened}
 use Rattle.dcm_cli.specs.NoEdits.{IsInOrder, NoEditsConvert}

@@ -1,16 +1,14 @@
 -- What obeying words over files in memory comes to.
-use Rattle.std.proofs.Common.{◌≡◌, ◌≢◌, append-nil, ◌∙◌, ap, sym, subst, refl, ◌⊎◌, inl, inr, ◌==◌, ◌||◌, ◌≤◌, ℕ, List, [], ◌∷◌, ◌++◌, length, bytes_eq, if◌then◌else◌, Bool, true, false, Option, None, Some, Result, Ok, Err}
-use Rattle.std.specs.Bool.{Decides}
+use Rattle.std.proofs.Common.{◌≡◌, ◌≢◌, append-nil, ◌∙◌, ap, sym, subst, refl, ◌⊎◌, inl, inr, ◌||◌, ◌≤◌, ℕ, List, [], length, bytes_eq, if◌then◌else◌, Bool, true, false, Option, None, Some, Result, Ok, Err}
 use Rattle.std.specs.Option.{option_map}
 use Rattle.std.specs.Str.{IsUtf8, is_utf8}
 use Rattle.std.specs.IoError.{error_kind}
 use Rattle.std.specs.declared.io.Error.{Error}
 use Rattle.std.specs.declared.io.ErrorKind.{ErrorKind}
 use Rattle.std.specs.declared.io.ErrorKind.TheVariants as kinds
-use Rattle.std.proofs.lemmas.Bool.Decides.{not_from_Decides}
 use Rattle.std.proofs.lemmas.Slice.Eq.{bytes_eq-Decides}
 use Rattle.std.proofs.lemmas.Str.{IsUtf8-from_is_utf8, is_utf8-from_IsUtf8}
-use Rattle.dcm_devices.specs.Memory.{written, size, room_of}
+use Rattle.dcm_devices.specs.Memory.{written, room_of}
 use Rattle.dcm_devices.specs.declared.memory.MemIn.{MemIn}
 use Rattle.dcm_devices.specs.declared.memory.MemOut.{MemOut}
 use Rattle.dcm_devices.specs.declared.memory.Measured.{Measured}
@@ -31,12 +29,13 @@ use Rattle.dcm_words.specs.declared.usage.Usage.TheVariants.{Memory}
 use Rattle.dcm_words.specs.Words.{Job, Plan, meant}
 use Rattle.dcm_words.specs.Plans.{takes_memory}
 use Rattle.dcm_cli.specs.Answer.{Answer, Answers}
-use Rattle.dcm_cli.specs.ErrorLines.{usage_line, usage_status}
+use Rattle.dcm_cli.specs.Change.{Change}
+use Rattle.dcm_cli.specs.ErrorLines.{Reports, usage_line, usage_status}
 use Rattle.dcm_cli.specs.InMemory as spec
 use Rattle.dcm_cli.specs.InMemory.{Outcome, bytes_at, is_writable, number_at, is_one_file, shown, not_opened, same_file, answered, JobComes, PlanComes, ComesBy, Comes, HasRoom, Took, IsWritten, Leaves, LeavesAnswer}
 use Rattle.dcm_cli.specs.Program as program
-use Rattle.dcm_cli.specs.Program.{Errors, Reports, Telling, HasRun, RunsOver, Works, Shows, Obeys, unopened_line, unopened_status}
-use Rattle.dcm_cli.proofs.Runs.InMemory.{memory_telling, memory_errors, ran_left, line_left, text_left}
+use Rattle.dcm_cli.specs.Program.{RunsOver, Works, Shows, Obeys, unopened_line, unopened_status}
+use Rattle.dcm_cli.proofs.Runs.InMemory.{memory_reader, memory_writer, memory_change, ran_left, line_left, text_left}
 use Rattle.dcm_cli.proofs.Runs.OneAnswer.{one_answer, some_answer}
 
 -- ---- paths
@@ -268,8 +267,8 @@ module _ (s new : MemSystem) (errors new_errors : MemOut) (status : ℕ) where
   abbrev Left : Outcome → Type 0
   Left o = Leaves o s errors new.written new_errors status
 
-  abbrev e : Errors
-  e = memory_errors errors new_errors
+  abbrev e : Change
+  e = memory_change errors new_errors
 
   -- an outcome of which all is known
   leave : (o : Outcome) → IsWritten o.output s new.written → Reports e o.lines → status ≡ o.status → Left o
@@ -277,7 +276,7 @@ module _ (s new : MemSystem) (errors new_errors : MemOut) (status : ℕ) where
 
   -- a job was run
   run_left : (p : Plan) (i : Opened MemIn) (d : Opened Measured) (had : MemSystem) (a : Answer) → s.room ≡ Some d.device.out → (d.device.out.failed ≡ false) × (length a.output ≤ room_of d.device.out)
-      → Answers p.job i.device.rest.now a → RunsOver may_do memory_telling p.job e i.device d.device had status new → Left (answered a)
+      → Answers p.job i.device.rest.now a → RunsOver may_do memory_reader memory_writer p.job e i.device d.device had status new → Left (answered a)
   run_left p i d had a room fits answers runs =
       let l = ran_left p.job i.device d.device runs.input runs.output errors new_errors status runs.run fits.0 a answers fits.1 in
       record {
@@ -288,7 +287,7 @@ module _ (s new : MemSystem) (errors new_errors : MemOut) (status : ℕ) where
           output_is = ap (λ (z : MemSystem). z.written) (runs.back.released ∙ runs.back.closed);
           bytes_are = l.output;
         };
-        lines_are = λ room. l.told room;
+        lines_are = λ room. l.lines room;
         status_is = l.status_is;
       }
 
@@ -333,7 +332,7 @@ module _ (s new : MemSystem) (errors new_errors : MemOut) (status : ℕ) where
         left_as same_file (comes_at (Some bs) true true bytes can one)
         (leave same_file (closed_empty m room_is after) (subst (λ (v : Unopened). Reports e (unopened_line v)) is line) (was ∙ ap unopened_status is))
 
-    plan_left : Works may_do memory_telling p e s status new → Left o
+    plan_left : Works may_do memory_reader memory_writer p e s status new → Left o
     plan_left (program.not_opened u opens line was) = refused_left u (devices_are s p.input p.output (Err u) new opens) line was
     plan_left (program.has_run i d had opens runs) =
         let x = devices_are s p.input p.output (Ok (i, d)) had opens in
@@ -342,7 +341,7 @@ module _ (s new : MemSystem) (errors new_errors : MemOut) (status : ℕ) where
         (run_left p i d had c.0 x.room_is (room_fits c.0.output s.room d.device.out x.room_is (subst (λ (q : Outcome). HasRoom q.output s.room) c.2 room)) c.1 runs)
 
   -- a text was shown
-  shows_left : (topic : Topic) → HasRoom (shown topic).output s.room → Shows may_do memory_telling (text topic) e s status new → Left (shown topic)
+  shows_left : (topic : Topic) → HasRoom (shown topic).output s.room → Shows may_do memory_writer (text topic) e s status new → Left (shown topic)
   shows_left topic room (program.no_stdout x u gave cause line was) =
       absurd (elim (made true None Other s.room (Err x) refl (inl refl) gave.0).0 [ inl n ↦ no_both true n refl | inr n ↦ room_there (text topic) s.room room n ])
   shows_left topic room (program.shows d output had gave puts closes) =
@@ -359,7 +358,7 @@ module _ (s new : MemSystem) (errors new_errors : MemOut) (status : ℕ) where
     by : (topic : Option Topic) (plan : Result Plan Usage) → asked words ≡ topic → meant words ≡ plan → ComesBy topic plan s o
     by topic plan a m = subst (λ (x : Option Topic). ComesBy x plan s o) a (subst (λ (x : Result Plan Usage). ComesBy (asked words) x s o) m comes)
 
-    pub obeys_left : Obeys may_do memory_telling words e s status new → Left o ⊎ ((takes_memory words ≡ true) × Left (spec.refused Memory))
+    pub obeys_left : Obeys may_do memory_reader memory_writer words e s status new → Left o ⊎ ((takes_memory words ≡ true) × Left (spec.refused Memory))
     obeys_left (program.asks topic is was_shown) =
         let same = by (Some topic) (meant words) is refl in
         inl (subst Left (sym same) (shows_left topic (subst (λ (q : Outcome). HasRoom q.output s.room) same room) was_shown))

@@ -4,17 +4,17 @@ use Rattle.dcm_base.specs.declared.fault.Fault.{Fault}
 use Rattle.dcm_base.specs.declared.fault.Fault.TheVariants.{CannotChange}
 use Rattle.dcm_base.specs.declared.mode.Mode.{Mode}
 use Rattle.dcm_base.specs.declared.syntax.Coding.{Coding}
-use Rattle.dcm_base.specs.Front.{Front}
-use Rattle.dcm_base.specs.MetaReads.{Meta, begins, refused as meta_refused}
-use Rattle.dcm_base.specs.Reads.{Reads}
-use Rattle.dcm_base.specs.Stop.{Stop}
+use Rattle.dcm_base.specs.Tree.Front.{Front}
+use Rattle.dcm_base.specs.File.MetaReads.{Meta, begins, refused as meta_refused}
+use Rattle.dcm_base.specs.Reading.Reads.{Reads}
+use Rattle.dcm_base.specs.Reading.Stop.{Stop}
 use Rattle.dcm_words.specs.Words.{Job, dump, convert}
 use Rattle.dcm_base.proofs.DataSets.OneAnswer.{reads_once}
 use Rattle.dcm_head.proofs.MetaGroups.OneMeta.{one_meta}
 use Rattle.dcm_cli.specs.Answer.{job_dictionary, HeadIs, Source, unopened, file as a_file, set_at, job_bar, refuses_change, FileReads, not_opened, not_changed, opened}
 use Rattle.dcm_base.proofs.DataSets.OwnSyntax.{own_reads}
-use Rattle.dcm_base.specs.Syntax.{coding_by}
-use Rattle.dcm_base.specs.declared.lookup.Dictionary.{Dictionary}
+use Rattle.dcm_base.specs.Tables.Syntax.{coding_by}
+use Rattle.dcm_base.specs.declared.dictionary.Dictionary.{Dictionary}
 use Rattle.dcm_cli.proofs.Runs.Sure.{beginnings_alike}
 
 faults_alike : (f g : Fault) (m n : ℕ) → meta_refused f m ≡ meta_refused g n → unopened f m ≡ unopened g n

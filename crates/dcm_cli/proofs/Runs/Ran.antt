@@ -2,13 +2,13 @@
 use Rattle.std.proofs.Common.{◌≡◌, ◌∙◌, ap, sym, subst, ℕ, ◌<◌, ◌≤◌, ◌^◌, List, [], ◌++◌, length, Bool, true, false, Option, None, Some, refl, inl, inr, ◌⊎◌}
 use Rattle.std.specs.Io.KnownBytes.{append_known}
 use Rattle.std.proofs.lemmas.List.{append_cancel_right}
-use Rattle.dcm_base.specs.Build as build
+use Rattle.dcm_base.specs.Lines.Build as build
 use Rattle.dcm_base.specs.declared.fault.LineStop.{LineStop}
 use Rattle.dcm_devices.specs.Device.{AppendsFront}
-use Rattle.dcm_base.specs.Front.{Front}
-use Rattle.dcm_base.specs.Stop.{Stop, complete, refused}
-use Rattle.dcm_base.specs.declared.lookup.Dictionary.{Dictionary}
-use Rattle.dcm_edit_words.specs.Edit.{Edit}
+use Rattle.dcm_base.specs.Tree.Front.{Front}
+use Rattle.dcm_base.specs.Reading.Stop.{Stop, complete, refused}
+use Rattle.dcm_base.specs.declared.dictionary.Dictionary.{Dictionary}
+use Rattle.dcm_edits.specs.Edit.{Edit}
 use Rattle.dcm_words.specs.Words.{Job, dump, convert, build as building, modify}
 use Rattle.dcm_words.specs.declared.job.Job.{Job as RunJob}
 use Rattle.dcm_words.specs.declared.job.Job.TheVariants.{Dump, Convert, Build, Modify}
@@ -20,8 +20,9 @@ use Rattle.dcm_cli.specs.declared.ending.Verdict.TheVariants.{Done, RefusedLine}
 use Rattle.dcm_cli.specs.Answer.{Answer, Answers, Sure, Source, unopened, file, alone, ReadAnswers, answer, building_line, output_of, edits_of, stop_line, stop_status}
 use Rattle.dcm_cli.specs.Pass.{TellsUnread, TellsOutput}
 use Rattle.dcm_cli.specs.InputCalls.{How, Allows}
-use Rattle.dcm_cli.specs.Run.{AnsweredAll, AnswersAll, IsDecided, IsMeant, Answered, ReadEnds, BuildEnds, Worked, answered, could_not_read, could_not_write, FlushedAs, verdict_at, verdict_of_source, verdict_of_told, unplaced_mask, verdict_lines, verdict_status, ending_lines, ending_status, Ran, as_answered, not_read, not_written, not_flushed, Devices}
-use Rattle.dcm_cli.specs.ErrorLines.{Tries}
+use Rattle.dcm_cli.specs.Run.{AnsweredAll, AnswersAll, IsDecided, IsMeant, Answered, ReadEnds, BuildEnds, Worked, answered, could_not_read, could_not_write, FlushedAs, verdict_at, verdict_of_source, verdict_of_line_stop, unplaced_mask, verdict_lines, verdict_status, ending_lines, ending_status, Ran, as_answered, not_read, not_written, not_flushed}
+use Rattle.dcm_cli.specs.Change.{Change}
+use Rattle.dcm_cli.specs.ErrorLines.{Reports}
 use Rattle.dcm_words.specs.Plans.{job_of}
 use Rattle.dcm_cli.proofs.Passes.MakesEdits.{are_few}
 use Rattle.dcm_cli.proofs.Passes.Readers.{allows_nothing}
@@ -36,14 +37,14 @@ output_is job (alone syntax set stop) = refl
 
 -- where the mask of its edits is one of 64 bits
 module _ (job : Job) (short : (set : Front) → unplaced_mask (edits_of job) set < 2 ^ 64) where
-  told_at : (set : Front) (stop : Stop) → verdict_lines (verdict_at job set stop) ≡ stop_line job set stop
-  told_at set complete = lines_of_mask 64 1 (edits_of job) set (short set)
-  told_at set (refused fault offset) = refl
+  lines_at : (set : Front) (stop : Stop) → verdict_lines (verdict_at job set stop) ≡ stop_line job set stop
+  lines_at set complete = lines_of_mask 64 1 (edits_of job) set (short set)
+  lines_at set (refused fault offset) = refl
 
-  told_is : (source : Source) → verdict_lines (verdict_of_source job source) ≡ (answer job source).told
-  told_is (unopened fault offset) = refl
-  told_is (file meta coding set stop) = told_at set stop
-  told_is (alone syntax set stop) = told_at set stop
+  lines_are : (source : Source) → verdict_lines (verdict_of_source job source) ≡ (answer job source).lines
+  lines_are (unopened fault offset) = refl
+  lines_are (file meta coding set stop) = lines_at set stop
+  lines_are (alone syntax set stop) = lines_at set stop
 
   status_at : (set : Front) (stop : Stop) → verdict_status (verdict_at job set stop) ≡ stop_status job set stop
   status_at set complete = status_of_mask 1 (edits_of job) set
@@ -60,7 +61,7 @@ record Given (job : Job) (input out : List ℕ) (verdict : Verdict) : Type 0 whe
   a : Answer
   answers : Answers job input a
   output_is : out ≡ a.output
-  told_is : verdict_lines verdict ≡ a.told
+  lines_are : verdict_lines verdict ≡ a.lines
   status_is : verdict_status verdict ≡ a.status
 
 -- a data set that was read
@@ -69,35 +70,35 @@ reads_given job input out verdict short answers h = record {
   a = answer job h.source;
   answers = answers (answer job h.source) (record { source = h.source; reads = h.reads; answer_is = refl });
   output_is = h.out_is ∙ output_is job h.source;
-  told_is = ap verdict_lines h.verdict_is ∙ told_is job short h.source;
+  lines_are = ap verdict_lines h.verdict_is ∙ lines_are job short h.source;
   status_is = ap verdict_status h.verdict_is ∙ status_is job short h.source;
 }
 
 -- lines that were built
 abbrev answer_of : build.Built → Option LineStop → Answer
 answer_of b told = elim told as (λ x. Answer) [
-  | None ↦ record { output = build.built_bytes b; told = []; status = 0 }
-  | Some t ↦ record { output = build.built_bytes b; told = building_line t; status = 2 }
+  | None ↦ record { output = build.built_bytes b; lines = []; status = 0 }
+  | Some t ↦ record { output = build.built_bytes b; lines = building_line t; status = 2 }
 ]
 
 module _ (limit : ℕ) (input out : List ℕ) (verdict : Verdict) (h : BuildEnds limit input out verdict) where
   by_told : (told : Option LineStop) → (build.built limit input).told ≡ told → Given (building limit) input out verdict
   by_told None e =
-      let is : verdict ≡ Done 0 = h.verdict_is ∙ ap verdict_of_told e in
+      let is : verdict ≡ Done 0 = h.verdict_is ∙ ap verdict_of_line_stop e in
       record {
-        a = record { output = build.built_bytes (build.built limit input).built; told = []; status = 0 };
+        a = record { output = build.built_bytes (build.built limit input).built; lines = []; status = 0 };
         answers = sym (ap (answer_of (build.built limit input).built) e);
         output_is = h.out_is;
-        told_is = ap verdict_lines is ∙ no_lines 64 1;
+        lines_are = ap verdict_lines is ∙ no_lines 64 1;
         status_is = ap verdict_status is;
       }
   by_told (Some t) e =
-      let is : verdict ≡ RefusedLine t = h.verdict_is ∙ ap verdict_of_told e in
+      let is : verdict ≡ RefusedLine t = h.verdict_is ∙ ap verdict_of_line_stop e in
       record {
-        a = record { output = build.built_bytes (build.built limit input).built; told = building_line t; status = 2 };
+        a = record { output = build.built_bytes (build.built limit input).built; lines = building_line t; status = 2 };
         answers = sym (ap (answer_of (build.built limit input).built) e);
         output_is = h.out_is;
-        told_is = ap verdict_lines is;
+        lines_are = ap verdict_lines is;
         status_is = ap verdict_status is;
       }
 
@@ -120,23 +121,20 @@ one_front before p rest left whole at =
     let same : left ≡ rest = cc in
     append_cancel_right p before rest (ap (λ (bytes : List ℕ). p ++ bytes) (sym same) ∙ sym whole)
 
-same_answer : (a b : Answer) → a.output ≡ b.output → a.told ≡ b.told → a.status ≡ b.status → a ≡ b
-same_answer a b output told status = λ i. record { output = output i; told = told i; status = status i }
+same_answer : (a b : Answer) → a.output ≡ b.output → a.lines ≡ b.lines → a.status ≡ b.status → a ≡ b
+same_answer a b output lines status = λ i. record { output = output i; lines = lines i; status = status i }
 
-module _ {A : Type 0} (job : RunJob A) (meant : IsMeant (job_of job)) (before : List ℕ) (how : How) (held worked holds told tells : Option (List ℕ)) (room : Option ℕ) (r_old r_new w_old w_mid w_new e_old e_new : Bool) (ending after : Ending) (status : ℕ)
-    (kept : holds ≡ worked) (flushed : FlushedAs ending after w_mid w_new room) (unread : TellsUnread r_old r_new ending) (failed : TellsOutput w_old w_mid ending)
-    (line : Tries told tells e_old e_new (ending_lines after)) (status_was : status ≡ ending_status after) (readable : r_old ≡ false) (writable : w_old ≡ false) where
-  abbrev devices : Devices
-  devices = record { held = held; holds = holds; room = room; told = told; tells = tells; unread = r_new; unwritten = w_new; untold_before = e_old; untold = e_new }
-
-  told_of : (x : Ending) → after ≡ x → Tries told tells e_old e_new (ending_lines x)
-  told_of x is = subst (λ (y : Ending). Tries told tells e_old e_new (ending_lines y)) is line
+module _ {A : Type 0} (job : RunJob A) (meant : IsMeant (job_of job)) (before : List ℕ) (how : How) (worked : Option (List ℕ)) (o e : Change) (r_old r_new w_old w_mid : Bool) (ending after : Ending) (status : ℕ)
+    (kept : o.after ≡ worked) (flushed : FlushedAs ending after w_mid o.failed_after o.room) (unread : TellsUnread r_old r_new ending) (failed : TellsOutput w_old w_mid ending)
+    (line : Reports e (ending_lines after)) (status_was : status ≡ ending_status after) (readable : r_old ≡ false) (writable : w_old ≡ false) where
+  lines_of : (x : Ending) → after ≡ x → Reports e (ending_lines x)
+  lines_of x is = subst (λ (y : Ending). Reports e (ending_lines y)) is line
 
   status_of : (x : Ending) → after ≡ x → status ≡ ending_status x
   status_of x is = status_was ∙ ap ending_status is
 
-  after_answer : (out : List ℕ) (verdict : Verdict) → AnsweredAll (job_of job) before how out verdict → ending ≡ endings.Worked verdict → worked ≡ append_known held out → Ran (job_of job) before how devices status
-  after_answer out verdict all is grown = by_flush (subst (λ (x : Ending). FlushedAs x after w_mid w_new room) is flushed)
+  after_answer : (out : List ℕ) (verdict : Verdict) → AnsweredAll (job_of job) before how out verdict → ending ≡ endings.Worked verdict → worked ≡ append_known o.before out → Ran (job_of job) before how r_new o e status
+  after_answer out verdict all is grown = by_flush (subst (λ (x : Ending). FlushedAs x after w_mid o.failed_after o.room) is flushed)
     where
       k : Given (job_of job) (before ++ []) out verdict
       k = given job meant (before ++ []) out verdict (all [] (allows_nothing how))
@@ -144,43 +142,43 @@ module _ {A : Type 0} (job : RunJob A) (meant : IsMeant (job_of job)) (before : 
       answers : AnswersAll (job_of job) before how k.a
       answers rest ok =
           let other = given job meant (before ++ rest) out verdict (all rest ok) in
-          subst (Answers (job_of job) (before ++ rest)) (same_answer other.a k.a (sym other.output_is ∙ k.output_is) (sym other.told_is ∙ k.told_is) (sym other.status_is ∙ k.status_is)) other.answers
+          subst (Answers (job_of job) (before ++ rest)) (same_answer other.a k.a (sym other.output_is ∙ k.output_is) (sym other.lines_are ∙ k.lines_are) (sym other.status_is ∙ k.status_is)) other.answers
 
       read : r_new ≡ false
       read = subst (λ (x : Ending). TellsUnread r_old r_new x) is unread ∙ readable
 
-      by_flush : ((after ≡ endings.Worked verdict) × (w_new ≡ w_mid)) ⊎ ((after ≡ Output) × (w_new ≡ true) × (room ≡ None)) → Ran (job_of job) before how devices status
+      by_flush : ((after ≡ endings.Worked verdict) × (o.failed_after ≡ w_mid)) ⊎ ((after ≡ Output) × (o.failed_after ≡ true) × (o.room ≡ None)) → Ran (job_of job) before how r_new o e status
       by_flush (inl x) =
           as_answered k.a answers read (x.1 ∙ subst (λ (x : Ending). TellsOutput w_old w_mid x) is failed ∙ writable)
-          (kept ∙ grown ∙ ap (append_known held) k.output_is) (subst (Tries told tells e_old e_new) k.told_is (told_of (endings.Worked verdict) x.0)) (status_of (endings.Worked verdict) x.0 ∙ k.status_is)
+          (kept ∙ grown ∙ ap (append_known o.before) k.output_is) (subst (Reports e) k.lines_are (lines_of (endings.Worked verdict) x.0)) (status_of (endings.Worked verdict) x.0 ∙ k.status_is)
       by_flush (inr x) =
-          not_flushed k.a answers read x.1 x.2 (kept ∙ grown ∙ ap (append_known held) k.output_is) (told_of Output x.0) (status_of Output x.0)
+          not_flushed k.a answers read x.1 x.2 (kept ∙ grown ∙ ap (append_known o.before) k.output_is) (lines_of Output x.0) (status_of Output x.0)
 
   -- the output had failed, whatever follows
-  unwritten_for : (rest : List ℕ) → ending ≡ Output → Worked (job_of job) (before ++ rest) (Some rest) held worked ending → (a : Answer) × Answers (job_of job) (before ++ rest) a × AppendsFront held holds a.output
+  unwritten_for : (rest : List ℕ) → ending ≡ Output → Worked (job_of job) (before ++ rest) (Some rest) o.before worked ending → (a : Answer) × Answers (job_of job) (before ++ rest) a × AppendsFront o.before o.after a.output
   unwritten_for rest is (answered out verdict was e grown) = absurd (let no : Output ≡ endings.Worked verdict = sym is ∙ e in cc)
   unwritten_for rest is (could_not_read p left out whole at sure e grown) = absurd (let no : Output ≡ Unread (length p) = sym is ∙ e in cc)
   unwritten_for rest is (could_not_write out verdict was e grown) =
       let k = given job meant (before ++ rest) out verdict was in
-      (k.a, k.answers, subst (λ (known : Option (List ℕ)). AppendsFront held known k.a.output) (sym kept) (subst (AppendsFront held worked) k.output_is grown))
+      (k.a, k.answers, subst (λ (known : Option (List ℕ)). AppendsFront o.before known k.a.output) (sym kept) (subst (AppendsFront o.before worked) k.output_is grown))
 
-  pub run_ran : ((rest : List ℕ) → Allows how rest → Worked (job_of job) (before ++ rest) (Some rest) held worked ending) → IsDecided (job_of job) before how ending → Ran (job_of job) before how devices status
+  pub run_ran : ((rest : List ℕ) → Allows how rest → Worked (job_of job) (before ++ rest) (Some rest) o.before worked ending) → IsDecided (job_of job) before how ending → Ran (job_of job) before how r_new o e status
   run_ran works decided = by_first (works [] (allows_nothing how))
     where
-      by_first : Worked (job_of job) (before ++ []) (Some []) held worked ending → Ran (job_of job) before how devices status
+      by_first : Worked (job_of job) (before ++ []) (Some []) o.before worked ending → Ran (job_of job) before how r_new o e status
       by_first (answered out verdict was is grown) =
           let all = decided verdict is in
           let one = given job meant (before ++ []) all.0 verdict (all.1 [] (allows_nothing how)) in
           let other = given job meant (before ++ []) out verdict was in
           let same : out ≡ all.0 = other.output_is ∙ ap (λ (x : Answer). x.output) (one_answer (job_of job) (before ++ []) other.a one.a other.answers one.answers) ∙ sym one.output_is in
-          after_answer all.0 verdict all.1 is (grown ∙ ap (append_known held) same)
+          after_answer all.0 verdict all.1 is (grown ∙ ap (append_known o.before) same)
       by_first (could_not_read p left out whole at sure is grown) =
           let same : p ≡ before = one_front before p [] left whole at in
-          let here : after ≡ Unread (length before) = subst (λ (x : Ending). FlushedAs x after w_mid w_new room) is flushed ∙ ap (λ (bytes : List ℕ). Unread (length bytes)) same in
+          let here : after ≡ Unread (length before) = subst (λ (x : Ending). FlushedAs x after w_mid o.failed_after o.room) is flushed ∙ ap (λ (bytes : List ℕ). Unread (length bytes)) same in
           not_read out (subst (λ (x : Ending). TellsUnread r_old r_new x) is unread) (subst (λ (bytes : List ℕ). Sure (job_of job) bytes out) same sure) (kept ∙ grown)
-          (told_of (Unread (length before)) here) (status_of (Unread (length before)) here)
+          (lines_of (Unread (length before)) here) (status_of (Unread (length before)) here)
       by_first (could_not_write out verdict was is grown) =
-          let still : (after ≡ Output) × (w_new ≡ w_mid) = subst (λ (x : Ending). FlushedAs x after w_mid w_new room) is flushed in
+          let still : (after ≡ Output) × (o.failed_after ≡ w_mid) = subst (λ (x : Ending). FlushedAs x after w_mid o.failed_after o.room) is flushed in
           not_written (λ rest ok. unwritten_for rest is (works rest ok)) (subst (λ (x : Ending). TellsUnread r_old r_new x) is unread ∙ readable)
           (still.1 ∙ subst (λ (x : Ending). TellsOutput w_old w_mid x) is failed)
-          (told_of Output still.0) (status_of Output still.0)
+          (lines_of Output still.0) (status_of Output still.0)

@@ -7,14 +7,14 @@ use Rattle.dcm_devices.specs.Device.{Gave, and_call}
 use Rattle.dcm_base.specs.declared.mode.Mode.{Mode}
 use Rattle.dcm_base.specs.declared.syntax.Coding.{Coding}
 use Rattle.dcm_base.specs.declared.syntax.Syntax.{Syntax}
-use Rattle.dcm_base.specs.Header.{set_header}
-use Rattle.dcm_base.specs.Steps.{outputs}
-use Rattle.dcm_base.specs.Syntax.{read_by}
-use Rattle.dcm_base.specs.declared.lookup.Dictionary.{Dictionary}
+use Rattle.dcm_base.specs.Dump.Header.{set_header}
+use Rattle.dcm_base.specs.Steps.Steps.{outputs}
+use Rattle.dcm_base.specs.Tables.Syntax.{read_by}
+use Rattle.dcm_base.specs.declared.dictionary.Dictionary.{Dictionary}
 use Rattle.dcm_head.specs.MetaReading.{Reading as HeadReading, HasEnded}
 use Rattle.dcm_stream.specs.Machine.{steps, steps_write, next_offset}
-use Rattle.dcm_stream.specs.Reading.{Reading, start_of}
-use Rattle.dcm_tools.specs.DumpSink.{dump_start, dump_step, dump_writes, bars_nothing}
+use Rattle.dcm_stream.specs.Reading.{start_of}
+use Rattle.dcm_sinks.specs.DumpSink.{dump_start, dump_step, dump_writes, bars_nothing}
 use Rattle.dcm_words.specs.Words.{Job, dump}
 use Rattle.dcm_cli.specs.declared.ending.Ending.{Ending}
 use Rattle.dcm_cli.specs.declared.ending.Ending.TheVariants as endings

@@ -4,22 +4,22 @@ use Rattle.std.specs.Prelude.{◌⊎◌, nat_eq}
 use Rattle.std.proofs.lemmas.List.{append-nil, drop-append-le}
 use Rattle.std.proofs.lemmas.Bool.Decides.{nat_tests}
 use Rattle.dcm_base.specs.declared.mode.Mode.{Mode}
-use Rattle.dcm_base.specs.Build.{built}
+use Rattle.dcm_base.specs.Lines.Build.{built}
 use Rattle.dcm_base.specs.declared.syntax.Syntax.{Syntax}
 use Rattle.dcm_base.specs.declared.syntax.Coding.{Coding}
-use Rattle.dcm_base.specs.Dump.{dump_front}
-use Rattle.dcm_base.specs.Front.{Front}
-use Rattle.dcm_base.specs.Header.{set_header}
-use Rattle.dcm_base.specs.MetaReads.{Meta, MetaAnswer, MetaReads, begins, refused as meta_refused, is_undecided as meta_undecided}
-use Rattle.dcm_base.specs.Reads.{INPUT_LIMIT, Reads, ended}
-use Rattle.dcm_base.specs.Stop.{Bar, Stop, refused, is_undecided}
-use Rattle.dcm_edit_words.specs.Edit.{Edit}
-use Rattle.dcm_edit_words.specs.Meaning.{AreMeant}
+use Rattle.dcm_base.specs.Dump.Dump.{dump_front}
+use Rattle.dcm_base.specs.Tree.Front.{Front}
+use Rattle.dcm_base.specs.Dump.Header.{set_header}
+use Rattle.dcm_base.specs.File.MetaReads.{Meta, MetaAnswer, MetaReads, begins, refused as meta_refused, is_undecided as meta_undecided}
+use Rattle.dcm_base.specs.Reading.Reads.{INPUT_LIMIT, Reads, ended}
+use Rattle.dcm_base.specs.Reading.Stop.{Bar, Stop, refused, is_undecided}
+use Rattle.dcm_edits.specs.Edit.{Edit}
+use Rattle.dcm_edits.specs.Meaning.{AreMeant}
 use Rattle.dcm_words.specs.Words.{Job, dump, convert, build as building, modify}
 use Rattle.dcm_base.proofs.DataSets.OneAnswer.{reads_once}
-use Rattle.dcm_base.specs.Syntax.{read_by, coding_by}
-use Rattle.dcm_base.specs.declared.lookup.Dictionary.{Dictionary}
-use Rattle.dcm_base.specs.declared.lookup.Dictionary.TheVariants.{Extract}
+use Rattle.dcm_base.specs.Tables.Syntax.{read_by, coding_by}
+use Rattle.dcm_base.specs.declared.dictionary.Dictionary.{Dictionary}
+use Rattle.dcm_base.specs.declared.dictionary.Dictionary.TheVariants.{Extract}
 use Rattle.dcm_head.specs.declared.meta_read.MetaEnd.{MetaEnd}
 use Rattle.dcm_head.specs.MetaReading.{Reading, HasEnded, Says, meta_finished}
 use Rattle.dcm_head.proofs.HeadReading.State.{described}
@@ -29,7 +29,7 @@ use Rattle.dcm_stream.specs.Reading.{finish}
 use Rattle.dcm_words.specs.declared.job.Job.{Job as RunJob}
 use Rattle.dcm_words.specs.declared.job.Job.TheVariants.{Dump, Convert, Build, Modify}
 use Rattle.dcm_words.specs.Plans.{job_of}
-use Rattle.dcm_cli.specs.Answer.{job_dictionary, HeadIs, Answer, Answers, Sure, ReadAnswers, Source, answer, going_on, job_bar, refuses_change, file_output, uid_of_syntax, AloneReads, AloneSure, FileReads, FileSure, not_opened, not_changed, opened as was_opened, before_set, within_set}
+use Rattle.dcm_cli.specs.Answer.{job_dictionary, Answer, Answers, Sure, ReadAnswers, Source, answer, going_on, job_bar, refuses_change, file_output, uid_of_syntax, AloneReads, AloneSure, FileReads, FileSure, not_opened, not_changed, opened as was_opened, before_set, within_set}
 use Rattle.dcm_cli.specs.Pass.{head_read}
 use Rattle.dcm_cli.specs.Run.{IsMeant}
 use Rattle.dcm_cli.proofs.Passes.Makers.{Maker, dumper, made, made_output, last_output, more_made, waits_as, made_behind}

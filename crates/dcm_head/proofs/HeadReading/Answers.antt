@@ -6,14 +6,14 @@ use Rattle.std.proofs.lemmas.List.{take_at}
 use Rattle.dcm_base.specs.declared.fault.Fault.TheVariants.{EndsEarly, NoPrefix, NoTransferSyntax}
 use Rattle.dcm_base.specs.declared.syntax.Coding.{Coding}
 use Rattle.dcm_base.specs.declared.transfer.Deflated.{Deflated}
-use Rattle.dcm_base.specs.Tree.{Trees}
-use Rattle.dcm_base.specs.MetaGroup.{GroupPlace}
-use Rattle.dcm_base.specs.MetaGroup.{an_element, the_end, too_few, a_fault}
+use Rattle.dcm_base.specs.Tree.Tree.{Trees}
+use Rattle.dcm_base.specs.File.MetaGroup.{GroupPlace}
+use Rattle.dcm_base.specs.File.MetaGroup.{an_element, the_end, too_few, a_fault}
 use Rattle.dcm_head.specs.declared.meta_read.MetaEnd.{MetaEnd}
 use Rattle.dcm_head.specs.declared.meta_read.MetaEnd.TheVariants.{Refused}
-use Rattle.dcm_base.specs.Transfer.{without_pads, coding_of}
-use Rattle.dcm_base.specs.MetaGroup.{group_place, is_element}
-use Rattle.dcm_base.specs.MetaReads.{PREFIX, syntax_value, Meta, MetaAnswer, refused, MetaReads, too_short, no_prefix, with_group, ended, named, coded, is_undecided}
+use Rattle.dcm_base.specs.Tables.Transfer.{without_pads, coding_of}
+use Rattle.dcm_base.specs.File.MetaGroup.{group_place, is_element}
+use Rattle.dcm_base.specs.File.MetaReads.{PREFIX, syntax_value, Meta, MetaAnswer, refused, MetaReads, too_short, no_prefix, with_group, ended, named, coded, is_undecided}
 use Rattle.dcm_head.specs.MetaReading.{Reading, Says, meta_finished, finished_from, group_end, coded_end, group_ended, group_of, uid_of}
 use Rattle.dcm_head.proofs.MetaGroups.Places.{at_empty}
 use Rattle.dcm_head.proofs.HeadReading.MoreBytes.{Sure, place_sure}

@@ -4,10 +4,10 @@ use Rattle.std.proofs.lemmas.List.{drop-append-le}
 use Rattle.std.proofs.lemmas.Bool.Decides.{leb_tells}
 use Rattle.dcm_base.specs.declared.tag.Tag.{Tag}
 use Rattle.dcm_base.specs.declared.vr.Vr.{Vr}
-use Rattle.dcm_base.specs.MetaGroup.{an_element, the_end, too_few}
+use Rattle.dcm_base.specs.File.MetaGroup.{an_element, the_end, too_few}
 use Rattle.dcm_head.specs.declared.meta_read.MetaEnd.{MetaEnd}
 use Rattle.dcm_head.specs.declared.meta_read.MetaEnd.TheVariants.{Refused, Ended}
-use Rattle.dcm_base.specs.MetaGroup.{group_place}
+use Rattle.dcm_base.specs.File.MetaGroup.{group_place}
 use Rattle.dcm_head.specs.MetaReading.{Reading, Keeps, Waits, HasEnded}
 use Rattle.dcm_head.proofs.MetaGroups.Elements.{element_tells, element_exact, end_exact, cut_room}
 

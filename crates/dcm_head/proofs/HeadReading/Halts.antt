@@ -4,7 +4,7 @@ use Rattle.std.specs.Prelude.{fold}
 use Rattle.std.proofs.lemmas.List.Sums.{fold-append}
 use Rattle.dcm_base.specs.declared.fault.Fault.{Fault}
 use Rattle.dcm_base.specs.declared.fault.Stop.{Stop}
-use Rattle.dcm_base.specs.MetaReads.{MetaAnswer, MetaReads, begins, refused, is_undecided}
+use Rattle.dcm_base.specs.File.MetaReads.{MetaAnswer, MetaReads, begins, refused, is_undecided}
 use Rattle.dcm_head.specs.declared.meta_read.MetaEnd.{MetaEnd}
 use Rattle.dcm_head.specs.declared.meta_read.MetaEnd.TheVariants.{Refused, Ended}
 use Rattle.dcm_head.specs.MetaReading.{Reading, Says, at_start, meta_step, meta_finished, finished_from, IsOver, Refuses, IsDecided, CallEnds, CallRefuses}

@@ -4,17 +4,17 @@ use Rattle.std.proofs.lemmas.Bool.{lt-ltb, le-ltb, ltb-false, ne_eqb}
 use Rattle.std.proofs.lemmas.Bool.Decides.{leb_tells, eqb_tells}
 use Rattle.dcm_base.specs.declared.tag.Tag.{Tag}
 use Rattle.dcm_base.specs.declared.vr.Vr.{Vr}
-use Rattle.dcm_base.specs.Syntax.{Little}
+use Rattle.dcm_base.specs.Tables.Syntax.{Little}
 use Rattle.dcm_base.specs.declared.fault.Fault.TheVariants.{BadMeta, MetaTooLarge}
 use Rattle.dcm_base.specs.declared.length.Length.{Length}
 use Rattle.dcm_base.specs.declared.length.Length.TheVariants.{Known, Undefined}
-use Rattle.dcm_base.specs.Number.{number}
-use Rattle.dcm_base.specs.Head.{tag_at, vr_at, head_size, length_at}
+use Rattle.dcm_base.specs.Tables.Number.{number}
+use Rattle.dcm_base.specs.Bytes.Head.{tag_at, vr_at, head_size, length_at}
 use Rattle.dcm_base.proofs.DataSets.Extend.{number_extends, tag_at_extends, vr_at_extends, length_at_extends}
-use Rattle.dcm_base.specs.MetaGroup.{GroupPlace}
-use Rattle.dcm_base.specs.MetaGroup.{an_element, the_end, too_few, a_fault}
-use Rattle.dcm_base.specs.MetaGroup.{group_place, group_place_of_vr, group_place_of_head, is_sequence}
-use Rattle.dcm_base.specs.MetaReads.{is_at}
+use Rattle.dcm_base.specs.File.MetaGroup.{GroupPlace}
+use Rattle.dcm_base.specs.File.MetaGroup.{an_element, the_end, too_few, a_fault}
+use Rattle.dcm_base.specs.File.MetaGroup.{group_place, group_place_of_vr, group_place_of_head, is_sequence}
+use Rattle.dcm_base.specs.File.MetaReads.{is_at}
 use Rattle.dcm_head.proofs.MetaGroups.Places.{at_other, at_short, at_eight}
 
 chosen : (p q s t : Bool) (bad large whole : GroupPlace) → (cond p bad (cond q large (cond s too_few whole)) ≡ too_few → ⊥) → (s ≡ false → t ≡ false) → cond p bad (cond q large (cond t too_few whole)) ≡ cond p bad (cond q large (cond s too_few whole))

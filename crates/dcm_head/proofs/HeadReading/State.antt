@@ -8,17 +8,17 @@ use Rattle.std.proofs.lemmas.List.{drop_at, take-append-drop, take-append-le, dr
 use Rattle.dcm_base.specs.declared.tag.Tag.{Tag}
 use Rattle.dcm_base.specs.declared.vr.Vr.{Vr}
 use Rattle.dcm_base.specs.declared.fault.Fault.TheVariants.{EndsEarly, NoPrefix}
-use Rattle.dcm_base.specs.Syntax.{Little}
-use Rattle.dcm_base.specs.Tag.{is_tag}
-use Rattle.dcm_base.specs.Tree.{Trees, no_tree}
-use Rattle.dcm_base.specs.Spelling.{Spells}
-use Rattle.dcm_base.specs.MetaGroup.{GroupPlace}
-use Rattle.dcm_base.specs.MetaGroup.{an_element, the_end, too_few, a_fault}
+use Rattle.dcm_base.specs.Tables.Syntax.{Little}
+use Rattle.dcm_base.specs.Tables.Tag.{is_tag}
+use Rattle.dcm_base.specs.Tree.Tree.{Trees, no_tree}
+use Rattle.dcm_base.specs.Bytes.Spelling.{Spells}
+use Rattle.dcm_base.specs.File.MetaGroup.{GroupPlace}
+use Rattle.dcm_base.specs.File.MetaGroup.{an_element, the_end, too_few, a_fault}
 use Rattle.dcm_head.specs.declared.meta_read.MetaEnd.{MetaEnd}
 use Rattle.dcm_head.specs.declared.meta_read.MetaEnd.TheVariants.{Refused}
-use Rattle.dcm_base.specs.Transfer.{without_pads}
-use Rattle.dcm_base.specs.MetaGroup.{group_place, AreMeta, is_element}
-use Rattle.dcm_base.specs.MetaReads.{PREFIX, syntax_value}
+use Rattle.dcm_base.specs.Tables.Transfer.{without_pads}
+use Rattle.dcm_base.specs.File.MetaGroup.{group_place, AreMeta, is_element}
+use Rattle.dcm_base.specs.File.MetaReads.{PREFIX, syntax_value}
 use Rattle.dcm_head.specs.MetaReading.{Reading, at_start, meta_step, step_from, reached, at_place, behind, is_first_syntax, has_prefix, group_end, uid_of}
 use Rattle.dcm_head.proofs.MetaGroups.Elements.{element_tells, element_exact}
 use Rattle.dcm_head.proofs.HeadReading.MoreBytes.{place_settles}

@@ -3,13 +3,13 @@ use Rattle.std.proofs.Common.{◌≡◌, ◌∙◌, ◌⊎◌, inl, inr, ◌+◌
 use Rattle.std.proofs.lemmas.List.{take_at, drop_at, drop-drop, append-nil, length-take}
 use Rattle.std.specs.Prelude.{fold, is_some, option_to_list}
 use Rattle.dcm_base.specs.declared.syntax.Coding.{Coding}
-use Rattle.dcm_base.specs.MetaGroup.{GroupPlace}
-use Rattle.dcm_base.specs.MetaGroup.{an_element, the_end, too_few, a_fault}
+use Rattle.dcm_base.specs.File.MetaGroup.{GroupPlace}
+use Rattle.dcm_base.specs.File.MetaGroup.{an_element, the_end, too_few, a_fault}
 use Rattle.dcm_head.specs.declared.meta_read.MetaEnd.{MetaEnd}
 use Rattle.dcm_head.specs.declared.meta_read.MetaEnd.TheVariants.{Ended}
 use Rattle.dcm_head.specs.declared.meta_read.MetaRead.{MetaRead}
 use Rattle.dcm_head.specs.declared.meta_read.MetaRead.TheVariants as reads
-use Rattle.dcm_base.specs.MetaGroup.{group_place}
+use Rattle.dcm_base.specs.File.MetaGroup.{group_place}
 use Rattle.dcm_head.specs.MetaReading.{Reading, meta_step, step_from, reached, at_place, is_first_syntax, has_prefix, IsOpen, Answers, BeginsAt, EndsIn, HasEnded, UsesWithin}
 
 pub stays : (r : Reading) (end : MetaEnd) (bytes : List ℕ) → r.end ≡ Some end → fold meta_step r bytes ≡ r

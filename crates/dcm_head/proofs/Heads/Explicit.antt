@@ -7,10 +7,10 @@ use Rattle.dcm_base.specs.declared.syntax.Syntax.{Syntax}
 use Rattle.dcm_base.specs.declared.syntax.Syntax.TheVariants.{Implicit as implicit_in, Little as little_in, Big as big_in}
 use Rattle.dcm_base.specs.declared.length.Length.{Length}
 use Rattle.dcm_base.specs.declared.length.Length.TheVariants.{Known}
-use Rattle.dcm_base.specs.Number.{number}
-use Rattle.dcm_base.specs.Representation.{vr_read, is_long}
-use Rattle.dcm_base.specs.Head.{PlainHead, tag_at, vr_at, head_size, length_at, long_length}
-use Rattle.dcm_base.specs.Recode.{is_explicit}
+use Rattle.dcm_base.specs.Tables.Number.{number}
+use Rattle.dcm_base.specs.Tables.Representation.{vr_read, is_long}
+use Rattle.dcm_base.specs.Bytes.Head.{PlainHead, tag_at, vr_at, head_size, length_at, long_length}
+use Rattle.dcm_base.specs.Conversion.Recode.{is_explicit}
 
 pub vr_is : (s : Syntax) (b : List ℕ) (r : Option Vr) → is_explicit s ≡ true → r ≡ vr_read (get_or b 4 0) (get_or b 5 0) → r ≡ vr_at s b
 unfolding vr_at

@@ -1,5 +1,5 @@
 -- What is read at the front of bytes is the head that stands there.
-use Rattle.std.proofs.Common.{◌≡◌, ◌≢◌, ℕ, ◌≤◌, ◌<◌, ◌⊎◌, inl, inr, List, [], ◌∷◌, length, drop, length-drop, unwrap_or, get_or, Option, Some, None, Bool, true, false, cond, nat_lt, ◌&&◌, refl, sym, ap, ◌∙◌, subst, arith}
+use Rattle.std.proofs.Common.{◌≡◌, ℕ, ◌≤◌, ◌<◌, ◌⊎◌, inl, inr, List, [], ◌∷◌, length, drop, length-drop, unwrap_or, get_or, Option, Some, None, Bool, true, false, cond, nat_lt, ◌&&◌, refl, sym, ap, ◌∙◌, subst, arith}
 use Rattle.std.specs.Bool.{MatchBool}
 use Rattle.std.proofs.lemmas.Bool.{ltb-true, ltb-false}
 use Rattle.dcm_base.specs.declared.tag.Tag.{Tag}
@@ -9,12 +9,12 @@ use Rattle.dcm_base.specs.declared.syntax.Syntax.{Syntax}
 use Rattle.dcm_base.specs.declared.syntax.Syntax.TheVariants.{Implicit as implicit_in, Little as little_in, Big as big_in}
 use Rattle.dcm_base.specs.declared.length.Length.{Length}
 use Rattle.dcm_base.specs.declared.length.Length.TheVariants.{Known}
-use Rattle.dcm_base.specs.Number.{number}
-use Rattle.dcm_base.specs.Representation.{is_capital, vr_of, vr_read, is_long}
-use Rattle.dcm_base.specs.Tag.{is_item}
-use Rattle.dcm_base.specs.Head.{HeadAt, PlainHead, ItemHead, Delimiter, tag_at, vr_at, head_size, length_at, long_length}
+use Rattle.dcm_base.specs.Tables.Number.{number}
+use Rattle.dcm_base.specs.Tables.Representation.{is_capital, vr_of, vr_read, is_long}
+use Rattle.dcm_base.specs.Tables.Tag.{is_item}
+use Rattle.dcm_base.specs.Bytes.Head.{HeadAt, PlainHead, ItemHead, Delimiter, tag_at, vr_at, head_size, length_at, long_length}
 use Rattle.dcm_base.proofs.DataSets.Heads.{is_tag_true, head_tag, eight_le_head_size}
-use Rattle.dcm_base.specs.Recode.{is_explicit}
+use Rattle.dcm_base.specs.Conversion.Recode.{is_explicit}
 use Rattle.dcm_head.specs.declared.head.Head.{Head}
 use Rattle.dcm_head.specs.declared.head.HeadRead.{HeadRead}
 use Rattle.dcm_head.specs.declared.head.HeadRead.TheVariants.{Done, More, BadVr}

@@ -7,9 +7,9 @@ use Rattle.dcm_base.specs.declared.vr.Vr.TheVariants.{UN}
 use Rattle.dcm_base.specs.declared.syntax.Syntax.{Syntax}
 use Rattle.dcm_base.specs.declared.length.Length.{Length}
 use Rattle.dcm_base.specs.declared.length.Length.TheVariants.{Known}
-use Rattle.dcm_base.specs.Number.{number}
-use Rattle.dcm_base.specs.Tag.{is_item}
-use Rattle.dcm_base.specs.Head.{PlainHead, tag_at, vr_at, head_size, length_at, long_length}
+use Rattle.dcm_base.specs.Tables.Number.{number}
+use Rattle.dcm_base.specs.Tables.Tag.{is_item}
+use Rattle.dcm_base.specs.Bytes.Head.{PlainHead, tag_at, vr_at, head_size, length_at, long_length}
 use Rattle.dcm_head.specs.declared.head.HeadRead.{HeadRead}
 use Rattle.dcm_head.specs.declared.head.HeadRead.TheVariants.{Done, More, BadVr}
 use Rattle.dcm_head.specs.HeadRead.{is_delimiter, element_done, element_read, tag_read, head_read}

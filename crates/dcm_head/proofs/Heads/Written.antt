@@ -1,5 +1,5 @@
 -- The bytes of a head spell it.
-use Rattle.std.proofs.Common.{◌≡◌, ◌≢◌, ℕ, ◌+◌, ◌≤◌, ◌<◌, List, [], ◌∷◌, ◌++◌, length, drop, get_or, Some, Bool, true, false, cond, ◌&&◌, ◌||◌, not, refl, sym, ap, ◌∙◌, subst, arith, append_assoc}
+use Rattle.std.proofs.Common.{◌≡◌, ℕ, ◌+◌, ◌≤◌, ◌<◌, List, [], ◌∷◌, ◌++◌, length, drop, get_or, Some, Bool, true, false, cond, ◌&&◌, ◌||◌, not, refl, sym, ap, ◌∙◌, subst, arith, append_assoc}
 use Rattle.std.specs.Bool.{MatchBool}
 use Rattle.std.specs.Int.{w16, w32}
 use Rattle.std.proofs.lemmas.Bool.{ne_eqb}
@@ -12,15 +12,15 @@ use Rattle.dcm_base.specs.declared.syntax.Syntax.{Syntax}
 use Rattle.dcm_base.specs.declared.syntax.Syntax.TheVariants.{Implicit as implicit_in, Little as little_in, Big as big_in}
 use Rattle.dcm_base.specs.declared.length.Length.{Length}
 use Rattle.dcm_base.specs.declared.length.Length.TheVariants.{Known, Undefined}
-use Rattle.dcm_base.specs.Number.{number, IsTag}
-use Rattle.dcm_base.specs.Representation.{is_long, letters, vr_of, vr_read}
-use Rattle.dcm_base.specs.Tag.{is_item, item_tag}
-use Rattle.dcm_base.specs.Head.{PlainHead, ItemHead, Delimiter, HeadSpells, tag_at, vr_at, length_at, long_length}
-use Rattle.dcm_base.specs.Recode.{number_bytes, tag_bytes, length_number, plain_head, head, is_explicit}
-use Rattle.dcm_base.specs.Dictionary.{vr_in}
+use Rattle.dcm_base.specs.Tables.Number.{number, IsTag}
+use Rattle.dcm_base.specs.Tables.Representation.{is_long, letters, vr_of, vr_read}
+use Rattle.dcm_base.specs.Tables.Tag.{is_item, item_tag}
+use Rattle.dcm_base.specs.Bytes.Head.{PlainHead, ItemHead, Delimiter, HeadSpells, tag_at, vr_at, length_at, long_length}
+use Rattle.dcm_base.specs.Conversion.Recode.{number_bytes, tag_bytes, length_number, plain_head, head, is_explicit}
+use Rattle.dcm_base.specs.Tables.Dictionary.{vr_in}
 use Rattle.dcm_base.proofs.DataSets.Heads.{is_tag_true}
-use Rattle.dcm_base.specs.Syntax.{dictionary_of}
-use Rattle.dcm_base.specs.declared.lookup.Dictionary.{Dictionary}
+use Rattle.dcm_base.specs.Tables.Syntax.{dictionary_of}
+use Rattle.dcm_base.specs.declared.dictionary.Dictionary.{Dictionary}
 use Rattle.dcm_head.specs.declared.head.Head.{Head}
 use Rattle.dcm_head.specs.HeadRead.{is_delimiter}
 use Rattle.dcm_head.specs.HeadBytes.{head_bytes, FitsShort, FitsLong, HasSpelling}

@@ -4,17 +4,17 @@ use Rattle.std.proofs.lemmas.Bool.{le-ltb, eqb-true, ltb-false}
 use Rattle.std.proofs.lemmas.Bool.Decides.{leb_tells, eqb_tells}
 use Rattle.dcm_base.specs.declared.tag.Tag.{Tag}
 use Rattle.dcm_base.specs.declared.vr.Vr.{Vr}
-use Rattle.dcm_base.specs.Syntax.{Little}
+use Rattle.dcm_base.specs.Tables.Syntax.{Little}
 use Rattle.dcm_base.specs.declared.fault.Fault.TheVariants.{BadMeta, MetaTooLarge}
 use Rattle.dcm_base.specs.declared.length.Length.{Length}
 use Rattle.dcm_base.specs.declared.length.Length.TheVariants.{Known, Undefined}
-use Rattle.dcm_base.specs.Number.{number}
-use Rattle.dcm_base.specs.Representation.{is_long}
-use Rattle.dcm_base.specs.Head.{tag_at, vr_at, head_size, length_at}
+use Rattle.dcm_base.specs.Tables.Number.{number}
+use Rattle.dcm_base.specs.Tables.Representation.{is_long}
+use Rattle.dcm_base.specs.Bytes.Head.{tag_at, vr_at, head_size, length_at}
 use Rattle.dcm_base.proofs.DataSets.Heads.{eight_le_head_size}
 use Rattle.dcm_base.proofs.DataSets.Extend.{number_extends, tag_at_extends, vr_at_extends, length_at_extends}
-use Rattle.dcm_base.specs.MetaGroup.{an_element, the_end, too_few, a_fault}
-use Rattle.dcm_base.specs.MetaGroup.{group_place, group_place_of_vr, group_place_of_head, is_sequence}
+use Rattle.dcm_base.specs.File.MetaGroup.{an_element, the_end, too_few, a_fault}
+use Rattle.dcm_base.specs.File.MetaGroup.{group_place, group_place_of_vr, group_place_of_head, is_sequence}
 use Rattle.dcm_head.proofs.MetaGroups.Places.{at_two, at_eight, at_other}
 
 pub record IsElement (taken : ℕ) (rest : List ℕ) (tag : Tag) (vr : Vr) (head size : ℕ) : Type 0 where

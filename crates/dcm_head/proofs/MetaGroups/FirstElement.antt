@@ -3,13 +3,13 @@ use Rattle.std.proofs.Common.{◌≡◌, ◌∙◌, ◌+◌, ◌≤◌, List, []
 use Rattle.std.proofs.lemmas.List.{take_at, drop_at, drop-drop, drop-take, length-take}
 use Rattle.dcm_base.specs.declared.tag.Tag.{Tag}
 use Rattle.dcm_base.specs.declared.vr.Vr.{Vr}
-use Rattle.dcm_base.specs.Syntax.{Little}
-use Rattle.dcm_base.specs.Tree.{Trees, no_tree, leaf, sequence, fragments}
-use Rattle.dcm_base.specs.Head.{head_size}
-use Rattle.dcm_base.specs.Spelling.{Spells}
+use Rattle.dcm_base.specs.Tables.Syntax.{Little}
+use Rattle.dcm_base.specs.Tree.Tree.{Trees, no_tree, leaf, sequence, fragments}
+use Rattle.dcm_base.specs.Bytes.Head.{head_size}
+use Rattle.dcm_base.specs.Bytes.Spelling.{Spells}
 use Rattle.dcm_base.proofs.DataSets.Heads.{eight_le_head_size}
-use Rattle.dcm_base.specs.MetaGroup.{an_element, the_end}
-use Rattle.dcm_base.specs.MetaGroup.{group_place, AreMeta}
+use Rattle.dcm_base.specs.File.MetaGroup.{an_element, the_end}
+use Rattle.dcm_base.specs.File.MetaGroup.{group_place, AreMeta}
 use Rattle.dcm_head.specs.Rewriting.{FirstIs, NoneIs}
 use Rattle.dcm_head.proofs.MetaGroups.Places.{at_empty}
 use Rattle.dcm_head.proofs.MetaGroups.Elements.{element_tells, element_is}

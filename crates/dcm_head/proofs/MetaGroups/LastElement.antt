@@ -4,15 +4,15 @@ use Rattle.std.proofs.lemmas.List.{append-nil}
 use Rattle.dcm_base.specs.declared.tag.Tag.{Tag}
 use Rattle.dcm_base.specs.declared.vr.Vr.{Vr}
 use Rattle.dcm_base.specs.declared.vr.Vr.TheVariants.{SQ}
-use Rattle.dcm_base.specs.Syntax.{Little}
-use Rattle.dcm_base.specs.Tag.{is_tag}
+use Rattle.dcm_base.specs.Tables.Syntax.{Little}
+use Rattle.dcm_base.specs.Tables.Tag.{is_tag}
 use Rattle.dcm_base.specs.declared.length.Length.{Length}
 use Rattle.dcm_base.specs.declared.length.Length.TheVariants.{Known}
-use Rattle.dcm_base.specs.Tree.{Trees, no_tree, leaf, sequence, fragments, Items}
+use Rattle.dcm_base.specs.Tree.Tree.{Trees, no_tree, leaf, sequence, fragments, Items}
 use Rattle.dcm_base.specs.declared.form.Form.TheVariants.{Value as a_value}
-use Rattle.dcm_base.specs.Spelling.{form, TreesAt, Spells}
-use Rattle.dcm_base.specs.MetaGroup.{is_sequence, AreMeta}
-use Rattle.dcm_base.specs.MetaReads.{syntax_value}
+use Rattle.dcm_base.specs.Bytes.Spelling.{form, TreesAt, Spells}
+use Rattle.dcm_base.specs.File.MetaGroup.{is_sequence, AreMeta}
+use Rattle.dcm_base.specs.File.MetaReads.{syntax_value}
 use Rattle.dcm_head.proofs.MetaGroups.Elements.{IsElement}
 use Rattle.dcm_head.proofs.MetaGroups.OneGroup.{LeafAt, leaf_longer, first_leaf, empty_spelled}
 

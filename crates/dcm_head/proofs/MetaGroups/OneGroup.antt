@@ -4,19 +4,19 @@ use Rattle.std.proofs.lemmas.List.{take_at, drop_at, take-append-drop, take-appe
 use Rattle.dcm_base.specs.declared.tag.Tag.{Tag}
 use Rattle.dcm_base.specs.declared.vr.Vr.{Vr}
 use Rattle.dcm_base.specs.declared.vr.Vr.TheVariants.{SQ}
-use Rattle.dcm_base.specs.Syntax.{Little}
+use Rattle.dcm_base.specs.Tables.Syntax.{Little}
 use Rattle.dcm_base.specs.declared.length.Length.{Length}
 use Rattle.dcm_base.specs.declared.length.Length.TheVariants.{Known}
-use Rattle.dcm_base.specs.Tree.{Trees, no_tree, leaf, sequence, fragments, Items}
-use Rattle.dcm_base.specs.Head.{ElementHead, head_size, length_at}
-use Rattle.dcm_base.specs.Value.{order}
+use Rattle.dcm_base.specs.Tree.Tree.{Trees, no_tree, leaf, sequence, fragments, Items}
+use Rattle.dcm_base.specs.Bytes.Head.{ElementHead, head_size, length_at}
+use Rattle.dcm_base.specs.Tree.Value.{order}
 use Rattle.dcm_base.specs.declared.form.Form.TheVariants.{Value as a_value, Sequence as a_sequence}
-use Rattle.dcm_base.specs.Spelling.{form, TreesAt, Spells}
+use Rattle.dcm_base.specs.Bytes.Spelling.{form, TreesAt, Spells}
 use Rattle.dcm_base.proofs.DataSets.Heads.{eight_le_head_size}
 use Rattle.dcm_base.proofs.DataSets.Extend.{element_extends}
-use Rattle.dcm_base.specs.MetaGroup.{GroupPlace}
-use Rattle.dcm_base.specs.MetaGroup.{an_element}
-use Rattle.dcm_base.specs.MetaGroup.{group_place, is_sequence, AreMeta, is_element, GroupReads}
+use Rattle.dcm_base.specs.File.MetaGroup.{GroupPlace}
+use Rattle.dcm_base.specs.File.MetaGroup.{an_element}
+use Rattle.dcm_base.specs.File.MetaGroup.{group_place, is_sequence, AreMeta, is_element, GroupReads}
 use Rattle.dcm_head.proofs.MetaGroups.Elements.{IsElement, element_is}
 
 pub no_sequence : (vr : Vr) (n : ℕ) → form Little vr (Known n) ≡ a_value → is_sequence vr ≡ false

@@ -1,8 +1,8 @@
 -- A file's head has at most one answer.
 use Rattle.std.proofs.Common.{◌≡◌, ◌∙◌, ◌≤◌, List, ◌++◌, length, take, drop, ℕ, refl, ap, sym, subst, arith, length-append}
 use Rattle.std.proofs.lemmas.List.{take_at, drop_at}
-use Rattle.dcm_base.specs.MetaGroup.{GroupReads}
-use Rattle.dcm_base.specs.MetaReads.{MetaAnswer, MetaReads, too_short, no_prefix, with_group, answer_behind, PREFIX}
+use Rattle.dcm_base.specs.File.MetaGroup.{GroupReads}
+use Rattle.dcm_base.specs.File.MetaReads.{MetaAnswer, MetaReads, too_short, no_prefix, with_group, answer_behind, PREFIX}
 use Rattle.dcm_head.proofs.MetaGroups.OneGroup.{one_group, from_start}
 
 -- two cuts behind 128 bytes

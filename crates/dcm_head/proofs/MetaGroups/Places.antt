@@ -3,13 +3,13 @@ use Rattle.std.proofs.Common.{◌≡◌, ℕ, ◌≤◌, ◌<◌, List, [], ◌�
 use Rattle.std.proofs.lemmas.Bool.{lt-ltb, le-ltb}
 use Rattle.dcm_base.specs.declared.tag.Tag.{Tag}
 use Rattle.dcm_base.specs.declared.vr.Vr.{Vr}
-use Rattle.dcm_base.specs.Syntax.{Little}
+use Rattle.dcm_base.specs.Tables.Syntax.{Little}
 use Rattle.dcm_base.specs.declared.fault.Fault.TheVariants.{BadMeta}
 use Rattle.dcm_base.specs.declared.length.Length.{Length}
-use Rattle.dcm_base.specs.Number.{number}
-use Rattle.dcm_base.specs.Head.{PlainHead, tag_at, vr_at, head_size, length_at}
-use Rattle.dcm_base.specs.MetaGroup.{the_end, too_few, a_fault}
-use Rattle.dcm_base.specs.MetaGroup.{group_place, group_place_of_vr, group_place_of_head}
+use Rattle.dcm_base.specs.Tables.Number.{number}
+use Rattle.dcm_base.specs.Bytes.Head.{PlainHead, tag_at, vr_at, head_size, length_at}
+use Rattle.dcm_base.specs.File.MetaGroup.{the_end, too_few, a_fault}
+use Rattle.dcm_base.specs.File.MetaGroup.{group_place, group_place_of_vr, group_place_of_head}
 
 pub at_empty : (taken : ℕ) (rest : List ℕ) → length rest ≡ 0 → group_place taken rest ≡ the_end
 unfolding group_place

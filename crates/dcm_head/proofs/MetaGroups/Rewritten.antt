@@ -6,13 +6,13 @@ use Rattle.std.specs.Io.KnownBytes.{append_known}
 use Rattle.dcm_base.specs.declared.tag.Tag.{Tag}
 use Rattle.dcm_base.specs.declared.vr.Vr.{Vr}
 use Rattle.dcm_base.specs.declared.vr.Vr.TheVariants.{UI}
-use Rattle.dcm_base.specs.Syntax.{Little}
-use Rattle.dcm_base.specs.Tag.{is_tag}
-use Rattle.dcm_base.specs.Tree.{Trees, no_tree, leaf}
-use Rattle.dcm_base.specs.Spelling.{Spells}
-use Rattle.dcm_base.specs.MetaGroup.{AreMeta}
-use Rattle.dcm_base.specs.Recode.{recode_set, recoded_leaf, unless_dropped}
-use Rattle.dcm_base.specs.NewMeta.{with_syntax, without_syntax, new_elements, group_length}
+use Rattle.dcm_base.specs.Tables.Syntax.{Little}
+use Rattle.dcm_base.specs.Tables.Tag.{is_tag}
+use Rattle.dcm_base.specs.Tree.Tree.{Trees, no_tree, leaf}
+use Rattle.dcm_base.specs.Bytes.Spelling.{Spells}
+use Rattle.dcm_base.specs.File.MetaGroup.{AreMeta}
+use Rattle.dcm_base.specs.Conversion.Recode.{recode_set, recoded_leaf, unless_dropped}
+use Rattle.dcm_base.specs.Conversion.NewMeta.{with_syntax, without_syntax, new_elements, group_length}
 use Rattle.dcm_devices.specs.Device.{Puts, AppendsFront}
 use Rattle.dcm_devices.proofs.Writes.Puts.{front_longer, puts_behind, puts_err}
 use Rattle.dcm_head.specs.Rewriting.{left, written_element, FirstIs, NoneIs}

@@ -1,7 +1,7 @@
 -- Values and the pads at their ends.
 use Rattle.std.proofs.Common.{◌≡◌, ℕ, ◌+◌, ◌-◌, ◌≤◌, ◌<◌, List, [], ◌∷◌, ◌++◌, length, take, get_or, Bool, true, false, cond, refl, sym, ap, ◌∙◌, arith}
 use Rattle.std.proofs.lemmas.List.{take_more, length-take-le}
-use Rattle.dcm_base.specs.Transfer.{is_pad, before_pads, without_pads}
+use Rattle.dcm_base.specs.Tables.Transfer.{is_pad, before_pads, without_pads}
 
 -- a pad at the end
 pub pads_more : (bytes : List ℕ) (byte : ℕ) → is_pad byte ≡ true → without_pads (bytes ++ byte ∷ []) ≡ without_pads bytes

@@ -63,7 +63,7 @@ impl Sink for Signs {
 }
 
 const LITTLE: Coding = Coding {
-    syntax: Syntax::Little(Dictionary::Extract),
+    syntax: Syntax::LITTLE,
     encapsulated: false,
 };
 

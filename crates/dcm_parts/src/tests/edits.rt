@@ -1,6 +1,6 @@
 use super::{holds, words_of};
 use dcm_base::{Dictionary, EditRefusal, Tag, Vr};
-use dcm_edit_words::{Action, Edit, EditFault, Edits, Index, dictionary_said};
+use dcm_edits::{Action, Edit, EditFault, Edits, Index, dictionary_said};
 use std::test::Fail;
 
 /// The edits that the words of a line mean by a dictionary, or the refusal.

@@ -1,13 +1,12 @@
 // The examples in the descriptions of the libraries, at the top of each `lib.rt`.
 use dcm_base::{
-    Coding, Dictionary, Length, MemOut, Mode, Syntax, Tag, Vr, Watched, dict_vr, put_all,
-    put_decimal, tag_of,
+    Coding, Length, MemOut, Mode, Syntax, Tag, Vr, Watched, dict_vr, put_all, put_decimal, tag_of,
 };
 use dcm_build::Builder;
-use dcm_edit::{EditSink, Edits};
+use dcm_editor::{EditSink, Edits};
 use dcm_head::{Head, HeadRead, read_head, write_head};
+use dcm_sinks::{DumpSink, EncodeSink};
 use dcm_stream::Machine;
-use dcm_tools::{DumpSink, EncodeSink};
 use dcm_value::read_value;
 use dcm_words::{Job, plan};
 use std::test::Fail;
@@ -15,7 +14,7 @@ use std::test::Fail;
 const NAME: &[u8] = b"\x10\x00\x10\x00PN\x06\x00AB^CD ";
 
 const LITTLE: Coding = Coding {
-    syntax: Syntax::Little(Dictionary::Extract),
+    syntax: Syntax::LITTLE,
     encapsulated: false,
 };
 
@@ -56,8 +55,8 @@ fn heads(rt: HostRuntime) {
         vr: Vr::PN,
         length: Length::Known(6),
     };
-    assert!(rt; read_head(Syntax::Little(Dictionary::Extract), bytes) == HeadRead::Done(name, 8));
-    assert!(rt; write_head(Syntax::Little(Dictionary::Extract), &name).as_slice() == bytes);
+    assert!(rt; read_head(Syntax::LITTLE, bytes) == HeadRead::Done(name, 8));
+    assert!(rt; write_head(Syntax::LITTLE, &name).as_slice() == bytes);
 }
 
 #[test]
@@ -105,7 +104,7 @@ fn edits(rt: HostRuntime) -> Result<(), Fail> {
     };
     let mut out = output(rt)?;
     let mut machine = Machine::new(LITTLE, 0);
-    let mut sink = EncodeSink::new(&mut out, Syntax::Little(Dictionary::Extract));
+    let mut sink = EncodeSink::new(&mut out, Syntax::LITTLE);
     let mut edited = EditSink::new(&edits, &mut sink);
     assert!(rt; machine.feed(NAME, &mut edited).is_ok() && machine.finish(&mut edited).is_ok());
     assert!(rt; edited.unplaced() == 0 && out.device().written().is_empty());

@@ -1,5 +1,5 @@
 use super::{holds, words_of};
-use dcm_edit::{EditFault, Edits};
+use dcm_editor::{EditFault, Edits};
 use dcm_words::{Job, Usage, plan};
 use linked_list_allocator::LocalHeap;
 use std::alloc::Allocator;

@@ -6,7 +6,7 @@ use std::test::Fail;
 /// The syntaxes, with the dictionary's extract.
 const IMPLICIT: Syntax = Syntax::Implicit(Dictionary::Extract);
 
-const LITTLE: Syntax = Syntax::Little(Dictionary::Extract);
+const LITTLE: Syntax = Syntax::LITTLE;
 
 const BIG: Syntax = Syntax::Big(Dictionary::Extract);
 

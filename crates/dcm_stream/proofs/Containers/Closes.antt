@@ -5,9 +5,9 @@ use Rattle.std.specs.Io.KnownBytes.{append_known}
 use Rattle.std.proofs.lemmas.List.{reverse-reverse, take-append-le, take_all}
 use Rattle.dcm_base.specs.declared.level.Container.{Container}
 use Rattle.dcm_base.specs.declared.level.Level.{Level}
-use Rattle.dcm_base.specs.Atoms.{Atom}
+use Rattle.dcm_base.specs.Steps.Atoms.{Atom}
 use Rattle.dcm_devices.specs.Device.{AppendsFront}
-use Rattle.dcm_base.specs.Steps.{outputs, Goes}
+use Rattle.dcm_base.specs.Steps.Steps.{outputs, Goes}
 use Rattle.dcm_base.proofs.Writes.Runs.{goes_on, goes_failed}
 use Rattle.dcm_stream.specs.Reading.{ends_at, closes, full_closed}
 use Rattle.dcm_stream.specs.Places.{full_innermost}

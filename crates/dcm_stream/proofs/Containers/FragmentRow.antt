@@ -6,9 +6,9 @@ use Rattle.dcm_base.specs.declared.tag.Tag.{Tag}
 use Rattle.dcm_base.specs.declared.vr.Vr.{Vr}
 use Rattle.dcm_base.specs.declared.syntax.Syntax.{Syntax}
 use Rattle.dcm_base.specs.declared.length.Length.TheVariants.{Undefined}
-use Rattle.dcm_base.specs.Tree.{Trees, no_tree, fragments}
-use Rattle.dcm_base.specs.Front.{nothing_open, open_fragments}
-use Rattle.dcm_base.specs.Atoms.{Atom, opens, value_byte, closes_leaf, closes_sequence, opens_fragment, fragments_then, trees_then, front_atoms}
+use Rattle.dcm_base.specs.Tree.Tree.{Trees, no_tree, fragments}
+use Rattle.dcm_base.specs.Tree.Front.{nothing_open, open_fragments}
+use Rattle.dcm_base.specs.Steps.Atoms.{Atom, opens, value_byte, closes_leaf, closes_sequence, opens_fragment, fragments_then, trees_then, front_atoms}
 use Rattle.dcm_base.proofs.DataSets.Path.{then_trees, Path, plug, syntax_of}
 use Rattle.dcm_base.proofs.DataSets.Row.{fragments_then-append, trees_then-then, path_then, plug_atoms, place_append}
 

@@ -7,15 +7,15 @@ use Rattle.dcm_base.specs.declared.vr.Vr.{Vr}
 use Rattle.dcm_base.specs.declared.syntax.Syntax.{Syntax}
 use Rattle.dcm_base.specs.declared.length.Length.{Length}
 use Rattle.dcm_base.specs.declared.length.Length.TheVariants.{Known, Undefined}
-use Rattle.dcm_base.specs.Tree.{Trees, no_tree, sequence, Items, no_item, item}
-use Rattle.dcm_base.specs.Front.{OpenTree, nothing_open, open_leaf, open_sequence, open_fragments, no_open_item, open_item}
-use Rattle.dcm_base.specs.Head.{head_size}
-use Rattle.dcm_base.specs.Spelling.{inside, StaysOpen, SpellsFront}
-use Rattle.dcm_base.specs.Size.{trees_size}
+use Rattle.dcm_base.specs.Tree.Tree.{Trees, no_tree, sequence, Items, no_item, item}
+use Rattle.dcm_base.specs.Tree.Front.{OpenTree, nothing_open, open_leaf, open_sequence, open_fragments, no_open_item, open_item}
+use Rattle.dcm_base.specs.Bytes.Head.{head_size}
+use Rattle.dcm_base.specs.Bytes.Spelling.{inside, StaysOpen, SpellsFront}
+use Rattle.dcm_base.specs.Reading.Size.{trees_size}
 use Rattle.dcm_base.specs.declared.level.Level.{Level}
 use Rattle.dcm_base.specs.declared.level.Container.TheVariants.{Sequence as a_sequence, FragmentList as a_fragment_list}
-use Rattle.dcm_base.specs.Place.{level, room, passes, levels, tree_levels}
-use Rattle.dcm_base.specs.Atoms.{Atom, closes_item, closes_sequence, front_atoms}
+use Rattle.dcm_base.specs.Reading.Place.{level, room, passes, levels, tree_levels}
+use Rattle.dcm_base.specs.Steps.Atoms.{Atom, closes_item, closes_sequence, front_atoms}
 use Rattle.dcm_base.proofs.DataSets.Sizes.{element_takes, trees_take}
 use Rattle.dcm_base.proofs.DataSets.Path.{then_trees, then_items, Path, at_top, in_item, plug, syntax_of, item_length, Placed, set_stands, sequence_stands, leaf_stands, fragments_stand, fragment_stands, item_is_full, sequence_is_full}
 use Rattle.dcm_base.proofs.DataSets.Levels.{begin_of, around, plug_levels, path_position}

@@ -2,10 +2,10 @@
 use Rattle.std.proofs.Common.{◌≡◌, ℕ, ◌+◌, ◌-◌, ◌≤◌, min, List, [], ◌∷◌, length, Option, Some, None, false, refl, arith}
 use Rattle.std.proofs.lemmas.Bool.{ltb-false, le-ltb}
 use Rattle.dcm_base.specs.declared.syntax.Syntax.{Syntax}
-use Rattle.dcm_base.specs.Tree.{Trees}
-use Rattle.dcm_base.specs.Front.{OpenTree}
+use Rattle.dcm_base.specs.Tree.Tree.{Trees}
+use Rattle.dcm_base.specs.Tree.Front.{OpenTree}
 use Rattle.dcm_base.specs.declared.level.Level.{Level}
-use Rattle.dcm_base.specs.Place.{end_of, least, distance, room, passes}
+use Rattle.dcm_base.specs.Reading.Place.{end_of, least, distance, room, passes}
 use Rattle.dcm_base.proofs.DataSets.Path.{Path, item_length, Placed, Roomy}
 use Rattle.dcm_base.proofs.DataSets.Levels.{begin_of, around, path_position, least_passes, level_stays, room_around}
 use Rattle.dcm_base.proofs.DataSets.Stops.{set_level}

@@ -3,7 +3,7 @@ use Rattle.std.proofs.Common.{◌≡◌, ◌∙◌, ap, sym, subst, refl, ℕ, �
 use Rattle.dcm_base.specs.declared.level.Container.{Container}
 use Rattle.dcm_base.specs.declared.level.Container.TheVariants.{DataSet, Item, Sequence, FragmentList}
 use Rattle.dcm_base.specs.declared.level.Level.{Level}
-use Rattle.dcm_base.specs.Place.{distance, least, room, counts, depth}
+use Rattle.dcm_base.specs.Reading.Place.{distance, least, room, counts, depth}
 use Rattle.dcm_stream.specs.declared.levels.OpenLevel.{OpenLevel}
 use Rattle.dcm_stream.specs.Levels.{levels_of, nearest_end, AreSummed}
 use Rattle.dcm_stream.proofs.Containers.Reversed.{turned_more}

@@ -15,12 +15,12 @@ use Rattle.dcm_base.specs.declared.form.Form.{Form}
 use Rattle.dcm_base.specs.declared.form.Form.TheVariants.{Value as a_value, Sequence as sequence_form, FragmentList as fragment_form, Nothing as no_form}
 use Rattle.dcm_base.specs.declared.fault.Fault.{Fault}
 use Rattle.dcm_base.specs.declared.fault.Fault.TheVariants.{EndsEarly, UnknownRepresentation, UndefinedLength, TagNotAllowed, PassesEnd, TooDeep}
-use Rattle.dcm_base.specs.Number.{number}
-use Rattle.dcm_base.specs.Tag.{is_item, is_item_end, is_sequence_end}
-use Rattle.dcm_base.specs.Head.{tag_at, vr_at, length_at, head_size, long_length}
-use Rattle.dcm_base.specs.Spelling.{form}
-use Rattle.dcm_base.specs.Place.{room, passes, depth, is_data, is_undefined, is_allowed}
-use Rattle.dcm_base.specs.Stop.{Stop, refused, HeadBar, first_case, is_empty, is_the_data_set, is_fragment_list, opens_list, has_no_form, with_length, barred, element_stop, item_stop, head_stop, place_stop, is_early}
+use Rattle.dcm_base.specs.Tables.Number.{number}
+use Rattle.dcm_base.specs.Tables.Tag.{is_item, is_item_end, is_sequence_end}
+use Rattle.dcm_base.specs.Bytes.Head.{tag_at, vr_at, length_at, head_size, long_length}
+use Rattle.dcm_base.specs.Bytes.Spelling.{form}
+use Rattle.dcm_base.specs.Reading.Place.{room, passes, depth, is_data, is_undefined, is_allowed}
+use Rattle.dcm_base.specs.Reading.Stop.{Stop, refused, HeadBar, first_case, is_empty, is_the_data_set, is_fragment_list, opens_list, has_no_form, with_length, barred, element_stop, item_stop, head_stop, place_stop, is_early}
 use Rattle.dcm_head.specs.declared.head.Head.{Head}
 use Rattle.dcm_head.specs.declared.head.HeadRead.TheVariants.{Done, More, BadVr}
 use Rattle.dcm_head.specs.HeadRead.{is_delimiter, element_read, tag_read}
@@ -28,7 +28,7 @@ use Rattle.dcm_head.proofs.Heads.Reads.{by_tests}
 use Rattle.dcm_stream.specs.declared.token.Bar.{Bar}
 use Rattle.dcm_stream.specs.Tokens.{Bars}
 use Rattle.dcm_stream.specs.Places.{innermost}
-use Rattle.dcm_base.specs.Atoms.{opens, opens_fragment}
+use Rattle.dcm_base.specs.Steps.Atoms.{opens, opens_fragment}
 use Rattle.dcm_stream.specs.declared.judge.Opening.{Opening}
 use Rattle.dcm_stream.specs.declared.judge.Opening.TheVariants as opening
 use Rattle.dcm_stream.specs.declared.judge.Judged.TheVariants as judged

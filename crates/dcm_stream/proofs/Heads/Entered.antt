@@ -8,12 +8,12 @@ use Rattle.dcm_base.specs.declared.level.Level.{Level}
 use Rattle.dcm_base.specs.declared.length.Length.{Length}
 use Rattle.dcm_base.specs.declared.length.Length.TheVariants.{Undefined}
 use Rattle.dcm_base.specs.declared.level.Container.TheVariants.{Item as an_item, Sequence as a_sequence, FragmentList as a_fragment_list}
-use Rattle.dcm_base.specs.Place.{level}
-use Rattle.dcm_base.specs.Spelling.{inside}
-use Rattle.dcm_base.specs.Atoms.{Atom}
+use Rattle.dcm_base.specs.Reading.Place.{level}
+use Rattle.dcm_base.specs.Bytes.Spelling.{inside}
+use Rattle.dcm_base.specs.Steps.Atoms.{Atom}
 use Rattle.dcm_devices.specs.Device.{AppendsFront}
-use Rattle.dcm_base.specs.Steps.{outputs}
-use Rattle.dcm_base.specs.Stop.{Stop}
+use Rattle.dcm_base.specs.Steps.Steps.{outputs}
+use Rattle.dcm_base.specs.Reading.Stop.{Stop}
 use Rattle.dcm_head.specs.declared.head.Head.{Head}
 use Rattle.dcm_stream.specs.declared.judge.Opening.{Opening}
 use Rattle.dcm_stream.specs.declared.judge.Opening.TheVariants as opening

@@ -10,20 +10,20 @@ use Rattle.dcm_base.specs.declared.syntax.Syntax.{Syntax}
 use Rattle.dcm_base.specs.declared.syntax.Syntax.TheVariants.{Little as little_in}
 use Rattle.dcm_base.specs.declared.length.Length.{Length}
 use Rattle.dcm_base.specs.declared.length.Length.TheVariants.{Known, Undefined}
-use Rattle.dcm_base.specs.Tree.{Trees, no_tree, leaf, no_item}
-use Rattle.dcm_base.specs.Front.{nothing_open, open_leaf, open_sequence, open_fragments, no_open_item}
-use Rattle.dcm_base.specs.Number.{number}
-use Rattle.dcm_base.specs.Tag.{is_item}
-use Rattle.dcm_base.specs.Head.{ElementHead, ItemHead, Delimiter, tag_at, vr_at, length_at, head_size, long_length}
+use Rattle.dcm_base.specs.Tree.Tree.{Trees, no_tree, leaf, no_item}
+use Rattle.dcm_base.specs.Tree.Front.{nothing_open, open_leaf, open_sequence, open_fragments, no_open_item}
+use Rattle.dcm_base.specs.Tables.Number.{number}
+use Rattle.dcm_base.specs.Tables.Tag.{is_item}
+use Rattle.dcm_base.specs.Bytes.Head.{ElementHead, ItemHead, Delimiter, tag_at, vr_at, length_at, head_size, long_length}
 use Rattle.dcm_base.specs.declared.form.Form.{Form}
 use Rattle.dcm_base.specs.declared.form.Form.TheVariants.{Value as a_value, Sequence as a_sequence, FragmentList as a_fragment_list, Nothing as no_form}
-use Rattle.dcm_base.specs.Spelling.{form, inside}
-use Rattle.dcm_base.specs.Size.{trees_size}
+use Rattle.dcm_base.specs.Bytes.Spelling.{form, inside}
+use Rattle.dcm_base.specs.Reading.Size.{trees_size}
 use Rattle.dcm_base.specs.declared.level.Level.{Level}
 use Rattle.dcm_base.specs.declared.level.Container.TheVariants.{Sequence as sequence_container, FragmentList as fragment_container}
-use Rattle.dcm_base.specs.Place.{level, room, passes, tree_levels}
-use Rattle.dcm_base.specs.Stop.{has_no_form, with_length}
-use Rattle.dcm_base.specs.Atoms.{Atom, opens, closes_leaf, front_atoms}
+use Rattle.dcm_base.specs.Reading.Place.{level, room, passes, tree_levels}
+use Rattle.dcm_base.specs.Reading.Stop.{has_no_form, with_length}
+use Rattle.dcm_base.specs.Steps.Atoms.{Atom, opens, closes_leaf, front_atoms}
 use Rattle.dcm_base.proofs.DataSets.Heads.{is_tag_true}
 use Rattle.dcm_base.proofs.DataSets.Sizes.{element_takes, trees_take}
 use Rattle.dcm_base.proofs.DataSets.Path.{then_trees, Path, plug, syntax_of, Placed, Roomy, order_nil, leaf_opens, sequence_opens, fragments_open, leaf_closes}

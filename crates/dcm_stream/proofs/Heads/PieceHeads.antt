@@ -8,12 +8,12 @@ use Rattle.dcm_base.specs.declared.vr.Vr.{Vr}
 use Rattle.dcm_base.specs.declared.length.Length.{Length}
 use Rattle.dcm_base.specs.declared.level.Level.{Level}
 use Rattle.dcm_base.specs.declared.fault.Fault.{Fault}
-use Rattle.dcm_base.specs.Tag.{is_item}
-use Rattle.dcm_base.specs.Head.{tag_at, vr_at, length_at, head_size, long_length}
-use Rattle.dcm_base.specs.Spelling.{form}
-use Rattle.dcm_base.specs.Atoms.{Atom}
-use Rattle.dcm_base.specs.Stop.{Stop, refused, HeadBar, innermost_stop, place_stop, is_undecided}
-use Rattle.dcm_base.specs.Reads.{INPUT_LIMIT}
+use Rattle.dcm_base.specs.Tables.Tag.{is_item}
+use Rattle.dcm_base.specs.Bytes.Head.{tag_at, vr_at, length_at, head_size, long_length}
+use Rattle.dcm_base.specs.Bytes.Spelling.{form}
+use Rattle.dcm_base.specs.Steps.Atoms.{Atom}
+use Rattle.dcm_base.specs.Reading.Stop.{Stop, refused, HeadBar, innermost_stop, place_stop, is_undecided}
+use Rattle.dcm_base.specs.Reading.Reads.{INPUT_LIMIT}
 use Rattle.dcm_base.proofs.DataSets.Between.{WholeHead}
 use Rattle.dcm_base.proofs.DataSets.Extend.{tag_at_extends, vr_at_extends, length_at_extends, number_behind_extends}
 use Rattle.dcm_base.proofs.DataSets.Heads.{some_same, eight_le_head_size}

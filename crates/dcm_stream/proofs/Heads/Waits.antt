@@ -5,7 +5,7 @@ use Rattle.dcm_base.specs.declared.level.Level.{Level}
 use Rattle.dcm_base.specs.declared.tag.Tag.{Tag}
 use Rattle.dcm_base.specs.declared.vr.Vr.{Vr}
 use Rattle.dcm_base.specs.declared.length.Length.{Length}
-use Rattle.dcm_base.specs.Stop.{refused, place_stop, is_undecided, is_early_bar}
+use Rattle.dcm_base.specs.Reading.Stop.{refused, place_stop, is_undecided, is_early_bar}
 use Rattle.dcm_head.specs.declared.head.Head.{Head}
 use Rattle.dcm_stream.specs.declared.token.Bar.{Bar}
 use Rattle.dcm_stream.specs.declared.token.Bar.TheVariants.{Order, Fragments}

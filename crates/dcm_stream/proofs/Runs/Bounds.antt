@@ -7,19 +7,19 @@ use Rattle.dcm_base.specs.declared.vr.Vr.{Vr}
 use Rattle.dcm_base.specs.declared.syntax.Syntax.{Syntax}
 use Rattle.dcm_base.specs.declared.fault.Fault.TheVariants.{PassesEnd, TooLong}
 use Rattle.dcm_base.specs.declared.length.Length.{Length}
-use Rattle.dcm_base.specs.Number.{number}
-use Rattle.dcm_base.specs.Tag.{is_item, is_item_end}
-use Rattle.dcm_base.specs.Head.{tag_at, length_at, long_length}
+use Rattle.dcm_base.specs.Tables.Number.{number}
+use Rattle.dcm_base.specs.Tables.Tag.{is_item, is_item_end}
+use Rattle.dcm_base.specs.Bytes.Head.{tag_at, length_at, long_length}
 use Rattle.dcm_base.specs.declared.form.Form.{Form}
 use Rattle.dcm_base.specs.declared.form.Form.TheVariants.{Value as a_value, Sequence as sequence_form, FragmentList as fragment_form, Nothing as no_form}
-use Rattle.dcm_base.specs.Spelling.{form}
+use Rattle.dcm_base.specs.Bytes.Spelling.{form}
 use Rattle.dcm_base.specs.declared.level.Container.{Container}
 use Rattle.dcm_base.specs.declared.level.Level.{Level}
 use Rattle.dcm_base.specs.declared.level.Container.TheVariants.{DataSet as the_data_set, Item as an_item, Sequence as a_sequence, FragmentList as a_fragment_list}
-use Rattle.dcm_base.specs.Place.{level, counts, depth, room, passes, is_data, is_undefined, is_allowed}
-use Rattle.dcm_base.specs.Stop.{Stop, refused, HeadBar, innermost_stop, is_the_data_set, opens_list, is_undecided}
-use Rattle.dcm_base.specs.Reads.{INPUT_LIMIT}
-use Rattle.dcm_base.specs.Atoms.{Atom, value_byte}
+use Rattle.dcm_base.specs.Reading.Place.{level, counts, depth, room, passes, is_data, is_undefined, is_allowed}
+use Rattle.dcm_base.specs.Reading.Stop.{Stop, refused, HeadBar, innermost_stop, is_the_data_set, opens_list, is_undecided}
+use Rattle.dcm_base.specs.Reading.Reads.{INPUT_LIMIT}
+use Rattle.dcm_base.specs.Steps.Atoms.{Atom, value_byte}
 use Rattle.dcm_stream.specs.Reading.{Reading, start_of, Opened, closing, ends_at, closes, element_opens, item_opens, head_opens, full_closed, room_stop, settled, head_read, byte_read, read_byte}
 use Rattle.dcm_stream.specs.Bounds.{may_hold, are_nested, IsSmall, StaysSmall}
 use Rattle.dcm_stream.proofs.Heads.Stops.{NeverEarly, FitsHead, fits_element, fits_item, fits_delimiter, Fits, place_none, place_short}

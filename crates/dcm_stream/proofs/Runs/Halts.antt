@@ -5,9 +5,9 @@ use Rattle.std.proofs.lemmas.List.{append-nil}
 use Rattle.std.proofs.lemmas.List.Sums.{fold-append}
 use Rattle.dcm_base.specs.declared.syntax.Syntax.{Syntax}
 use Rattle.dcm_base.specs.declared.fault.Fault.{Fault}
-use Rattle.dcm_base.specs.Atoms.{Atom}
-use Rattle.dcm_base.specs.Reads.{INPUT_LIMIT, Reads, ended}
-use Rattle.dcm_base.specs.Stop.{Stop, refused, Bar, HeadBar, is_undecided}
+use Rattle.dcm_base.specs.Steps.Atoms.{Atom}
+use Rattle.dcm_base.specs.Reading.Reads.{INPUT_LIMIT, Reads, ended}
+use Rattle.dcm_base.specs.Reading.Stop.{Stop, refused, Bar, HeadBar, is_undecided}
 use Rattle.dcm_base.proofs.DataSets.Heads.{some_same}
 use Rattle.dcm_base.proofs.DataSets.OneAnswer.{reads_once}
 use Rattle.dcm_stream.specs.Reading.{Reading, start_of, finish, reads_byte, read_all}

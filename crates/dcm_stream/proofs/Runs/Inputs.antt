@@ -4,16 +4,16 @@ use Rattle.std.specs.Prelude.{fold, option_map}
 use Rattle.std.proofs.lemmas.List.{append-nil}
 use Rattle.std.proofs.lemmas.List.Sums.{fold-append}
 use Rattle.dcm_base.specs.declared.syntax.Syntax.{Syntax}
-use Rattle.dcm_base.specs.Syntax.{Little}
+use Rattle.dcm_base.specs.Tables.Syntax.{Little}
 use Rattle.dcm_base.specs.declared.fault.Fault.{Fault}
 use Rattle.dcm_base.specs.declared.fault.Fault.TheVariants.{FragmentsBarred, NotAscending}
-use Rattle.dcm_base.specs.Atoms.{Atom, is_closed}
-use Rattle.dcm_base.specs.Front.{Front, front}
-use Rattle.dcm_base.specs.Bars.{is_fragment_form, is_above, no_bar, fragments_bar, ascending_bar}
-use Rattle.dcm_base.specs.Reads.{INPUT_LIMIT, Reads, ended}
-use Rattle.dcm_base.specs.Spelling.{form, SpellsFront}
-use Rattle.dcm_base.specs.Steps.{outputs}
-use Rattle.dcm_base.specs.Stop.{Stop, Bar, refused, is_early, is_early_bar, is_undecided}
+use Rattle.dcm_base.specs.Steps.Atoms.{Atom, is_closed}
+use Rattle.dcm_base.specs.Tree.Front.{Front, front}
+use Rattle.dcm_base.specs.Reading.Bars.{is_fragment_form, is_above, no_bar, fragments_bar, ascending_bar}
+use Rattle.dcm_base.specs.Reading.Reads.{INPUT_LIMIT, Reads, ended}
+use Rattle.dcm_base.specs.Bytes.Spelling.{form, SpellsFront}
+use Rattle.dcm_base.specs.Steps.Steps.{outputs}
+use Rattle.dcm_base.specs.Reading.Stop.{Stop, Bar, refused, is_early, is_early_bar, is_undecided}
 use Rattle.dcm_base.proofs.Writes.Runs.{outputs-append}
 use Rattle.dcm_head.specs.declared.head.Head.{Head}
 use Rattle.dcm_stream.specs.declared.token.Bar.{Bar as SinkBar}

@@ -3,11 +3,11 @@ use Rattle.std.proofs.Common.{◌≡◌, ◌∙◌, sym, ap, subst, ℕ, ◌≤�
 use Rattle.std.specs.Io.KnownBytes.{append_known}
 use Rattle.dcm_base.specs.declared.syntax.Syntax.{Syntax}
 use Rattle.dcm_base.specs.declared.fault.Fault.{Fault}
-use Rattle.dcm_base.specs.Atoms.{Atom, front_atoms}
+use Rattle.dcm_base.specs.Steps.Atoms.{Atom, front_atoms}
 use Rattle.dcm_devices.specs.Device.{AppendsFront, Puts}
-use Rattle.dcm_base.specs.Reads.{INPUT_LIMIT, Reads, ended}
-use Rattle.dcm_base.specs.Steps.{outputs, Goes}
-use Rattle.dcm_base.specs.Stop.{Bar, refused, is_undecided}
+use Rattle.dcm_base.specs.Reading.Reads.{INPUT_LIMIT, Reads, ended}
+use Rattle.dcm_base.specs.Steps.Steps.{outputs, Goes}
+use Rattle.dcm_base.specs.Reading.Stop.{Bar, refused, is_undecided}
 use Rattle.dcm_devices.proofs.Writes.Puts.{front_longer, puts_behind}
 use Rattle.dcm_base.proofs.Writes.Runs.{outputs-append, goes_on}
 use Rattle.dcm_head.specs.declared.head.Head.{Head}

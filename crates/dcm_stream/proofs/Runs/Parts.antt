@@ -6,12 +6,12 @@ use Rattle.std.proofs.lemmas.Bool.{lt-ltb, le-ltb}
 use Rattle.std.proofs.lemmas.List.{append-nil}
 use Rattle.dcm_base.specs.declared.level.Level.{Level}
 use Rattle.dcm_base.specs.declared.fault.Fault.TheVariants.{TooLong}
-use Rattle.dcm_base.specs.Atoms.{Atom, value_byte, closes_leaf}
+use Rattle.dcm_base.specs.Steps.Atoms.{Atom, value_byte, closes_leaf}
 use Rattle.dcm_devices.specs.Device.{AppendsFront}
-use Rattle.dcm_base.specs.Steps.{outputs}
-use Rattle.dcm_base.specs.Place.{room, passes}
-use Rattle.dcm_base.specs.Stop.{Stop, refused, innermost_stop, is_undecided}
-use Rattle.dcm_base.specs.Reads.{INPUT_LIMIT}
+use Rattle.dcm_base.specs.Steps.Steps.{outputs}
+use Rattle.dcm_base.specs.Reading.Place.{room, passes}
+use Rattle.dcm_base.specs.Reading.Stop.{Stop, refused, innermost_stop, is_undecided}
+use Rattle.dcm_base.specs.Reading.Reads.{INPUT_LIMIT}
 use Rattle.dcm_devices.proofs.Writes.Puts.{append_known_none}
 use Rattle.dcm_base.proofs.Writes.Runs.{goes_on, goes_failed}
 use Rattle.dcm_head.specs.declared.head.Head.{Head}

@@ -4,10 +4,10 @@ use Rattle.std.specs.Prelude.{IsErrAnd, IfOk}
 use Rattle.std.proofs.lemmas.List.{take-append-le}
 use Rattle.dcm_base.specs.declared.level.Level.{Level}
 use Rattle.dcm_base.specs.declared.fault.Fault.TheVariants.{TooLong}
-use Rattle.dcm_base.specs.Atoms.{Atom}
-use Rattle.dcm_base.specs.Place.{room, passes}
-use Rattle.dcm_base.specs.Stop.{refused}
-use Rattle.dcm_base.specs.Reads.{INPUT_LIMIT}
+use Rattle.dcm_base.specs.Steps.Atoms.{Atom}
+use Rattle.dcm_base.specs.Reading.Place.{room, passes}
+use Rattle.dcm_base.specs.Reading.Stop.{refused}
+use Rattle.dcm_base.specs.Reading.Reads.{INPUT_LIMIT}
 use Rattle.dcm_head.specs.declared.head.Head.{Head}
 use Rattle.dcm_stream.specs.declared.token.Bar.{Bar}
 use Rattle.dcm_stream.specs.declared.cursor.Cursor.{Cursor}

@@ -1,7 +1,7 @@
 -- What is left out.
 use Rattle.std.proofs.Common.{◌≡◌, ◌<◌, refl, ℕ, zero, suc, List, [], ◌∷◌, map, true, false, arith}
 use Rattle.std.specs.Prelude.{fold}
-use Rattle.dcm_base.specs.Atoms.{value_byte}
+use Rattle.dcm_base.specs.Steps.Atoms.{value_byte}
 use Rattle.dcm_stream.specs.Skip.{after, is_open}
 
 -- the bytes of a value change nothing of it

@@ -5,10 +5,10 @@ use Rattle.std.specs.Io.KnownBytes.{append_known}
 use Rattle.std.proofs.lemmas.Bool.{cases_Bool, ltb-true}
 use Rattle.std.proofs.lemmas.List.{take-append-drop}
 use Rattle.dcm_base.specs.declared.fault.Fault.TheVariants.{TooLong}
-use Rattle.dcm_base.specs.Atoms.{Atom, value_byte}
-use Rattle.dcm_base.specs.Steps.{outputs}
-use Rattle.dcm_base.specs.Stop.{Stop, refused, HeadBar, innermost_stop, is_undecided}
-use Rattle.dcm_base.specs.Reads.{INPUT_LIMIT}
+use Rattle.dcm_base.specs.Steps.Atoms.{Atom, value_byte}
+use Rattle.dcm_base.specs.Steps.Steps.{outputs}
+use Rattle.dcm_base.specs.Reading.Stop.{Stop, refused, HeadBar, innermost_stop, is_undecided}
+use Rattle.dcm_base.specs.Reading.Reads.{INPUT_LIMIT}
 use Rattle.dcm_devices.proofs.Writes.Puts.{append_known_none}
 use Rattle.dcm_base.proofs.Writes.Runs.{goes_on, goes_failed}
 use Rattle.dcm_head.specs.declared.head.Head.{Head}

@@ -4,9 +4,9 @@ use Rattle.std.specs.Prelude.{fold, flat_map, IsErr}
 use Rattle.std.specs.Io.KnownBytes.{append_known}
 use Rattle.std.proofs.lemmas.Grind.{flat_map-append}
 use Rattle.std.proofs.lemmas.List.{append-nil, take_more, take-append-drop}
-use Rattle.dcm_base.specs.Atoms.{Atom}
+use Rattle.dcm_base.specs.Steps.Atoms.{Atom}
 use Rattle.dcm_devices.specs.Device.{AppendsFront}
-use Rattle.dcm_base.specs.Steps.{outputs, Goes}
+use Rattle.dcm_base.specs.Steps.Steps.{outputs, Goes}
 use Rattle.dcm_stream.specs.declared.token.Token.{Token}
 use Rattle.dcm_stream.specs.Tokens.{atoms_of}
 use Rattle.dcm_stream.proofs.Containers.Closes.{taken_more, failed_more}

@@ -4,14 +4,14 @@ use Rattle.std.proofs.lemmas.Bool.{cases_Bool}
 use Rattle.std.proofs.lemmas.List.{append-nil}
 use Rattle.dcm_base.specs.declared.syntax.Syntax.{Syntax}
 use Rattle.dcm_base.specs.declared.fault.Fault.TheVariants.{PassesEnd}
-use Rattle.dcm_base.specs.Tree.{Trees}
-use Rattle.dcm_base.specs.Front.{Front, front, OpenTree, nothing_open, open_leaf, open_sequence, open_fragments, no_open_item, open_item}
-use Rattle.dcm_base.specs.Spelling.{SpellsFront}
+use Rattle.dcm_base.specs.Tree.Tree.{Trees}
+use Rattle.dcm_base.specs.Tree.Front.{Front, front, OpenTree, nothing_open, open_leaf, open_sequence, open_fragments, no_open_item, open_item}
+use Rattle.dcm_base.specs.Bytes.Spelling.{SpellsFront}
 use Rattle.dcm_base.specs.declared.level.Level.{Level}
-use Rattle.dcm_base.specs.Place.{room, passes, levels, tree_levels, value_open}
-use Rattle.dcm_base.specs.Atoms.{Atom, value_byte, front_atoms, Shows}
-use Rattle.dcm_base.specs.Stop.{Stop, complete, refused, Bar, HeadBar, stop_at, value_stop, innermost_stop, place_stop, is_undecided}
-use Rattle.dcm_base.specs.Reads.{INPUT_LIMIT}
+use Rattle.dcm_base.specs.Reading.Place.{room, passes, levels, tree_levels, value_open}
+use Rattle.dcm_base.specs.Steps.Atoms.{Atom, value_byte, front_atoms, Shows}
+use Rattle.dcm_base.specs.Reading.Stop.{Stop, complete, refused, Bar, HeadBar, stop_at, value_stop, innermost_stop, place_stop, is_undecided}
+use Rattle.dcm_base.specs.Reading.Reads.{INPUT_LIMIT}
 use Rattle.dcm_base.proofs.DataSets.Path.{Path, at_top, in_item, plug, syntax_of, Placed}
 use Rattle.dcm_base.proofs.DataSets.Levels.{around, plug_levels}
 use Rattle.dcm_base.proofs.DataSets.Stops.{set_level, value_open_plug}

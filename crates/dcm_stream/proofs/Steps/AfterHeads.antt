@@ -6,18 +6,18 @@ use Rattle.dcm_base.specs.declared.vr.Vr.{Vr}
 use Rattle.dcm_base.specs.declared.syntax.Syntax.{Syntax}
 use Rattle.dcm_base.specs.declared.length.Length.{Length}
 use Rattle.dcm_base.specs.declared.length.Length.TheVariants.{Known, Undefined}
-use Rattle.dcm_base.specs.Tree.{Trees, no_tree, sequence, fragments, Items, no_item, item}
-use Rattle.dcm_base.specs.Front.{OpenTree, nothing_open, open_leaf, open_sequence, open_fragments, no_open_item, open_item}
-use Rattle.dcm_base.specs.Number.{number}
-use Rattle.dcm_base.specs.Tag.{item_end_tag, sequence_end_tag, is_item, is_item_end, is_sequence_end}
-use Rattle.dcm_base.specs.Head.{ItemHead, Delimiter, tag_at, head_size, long_length}
-use Rattle.dcm_base.specs.Spelling.{inside}
-use Rattle.dcm_base.specs.Size.{trees_size}
+use Rattle.dcm_base.specs.Tree.Tree.{Trees, no_tree, sequence, fragments, Items, no_item, item}
+use Rattle.dcm_base.specs.Tree.Front.{OpenTree, nothing_open, open_leaf, open_sequence, open_fragments, no_open_item, open_item}
+use Rattle.dcm_base.specs.Tables.Number.{number}
+use Rattle.dcm_base.specs.Tables.Tag.{item_end_tag, sequence_end_tag, is_item, is_item_end, is_sequence_end}
+use Rattle.dcm_base.specs.Bytes.Head.{ItemHead, Delimiter, tag_at, head_size, long_length}
+use Rattle.dcm_base.specs.Bytes.Spelling.{inside}
+use Rattle.dcm_base.specs.Reading.Size.{trees_size}
 use Rattle.dcm_base.specs.declared.level.Level.{Level}
 use Rattle.dcm_base.specs.declared.level.Container.TheVariants.{Item as an_item, Sequence as sequence_container, FragmentList as fragment_container}
-use Rattle.dcm_base.specs.Place.{level, room, passes, levels, tree_levels, is_data, is_undefined, is_allowed}
-use Rattle.dcm_base.specs.Stop.{with_length}
-use Rattle.dcm_base.specs.Atoms.{Atom, closes_leaf, opens_item, closes_item, closes_sequence, opens_fragment, front_atoms}
+use Rattle.dcm_base.specs.Reading.Place.{level, room, passes, levels, tree_levels, is_data, is_undefined, is_allowed}
+use Rattle.dcm_base.specs.Reading.Stop.{with_length}
+use Rattle.dcm_base.specs.Steps.Atoms.{Atom, closes_leaf, opens_item, closes_item, closes_sequence, opens_fragment, front_atoms}
 use Rattle.dcm_base.proofs.DataSets.Heads.{is_tag_true}
 use Rattle.dcm_base.proofs.DataSets.Sizes.{element_takes, trees_take, items_take}
 use Rattle.dcm_base.proofs.DataSets.Path.{then_trees, then_items, Path, at_top, in_item, plug, syntax_of, item_length, Placed, item_opens as item_opens_at, item_ends, sequence_ends, fragment_opens, fragment_closes, fragments_end}

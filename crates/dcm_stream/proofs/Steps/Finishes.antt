@@ -3,10 +3,10 @@ use Rattle.std.proofs.Common.{◌≡◌, sym, ap, subst, refl, ℕ, ◌+◌, Lis
 use Rattle.std.specs.Prelude.{fold, IsErrAnd}
 use Rattle.std.specs.Io.KnownBytes.{append_known}
 use Rattle.dcm_base.specs.declared.fault.Fault.TheVariants.{EndsEarly}
-use Rattle.dcm_base.specs.Atoms.{Atom, ends}
+use Rattle.dcm_base.specs.Steps.Atoms.{Atom, ends}
 use Rattle.dcm_devices.specs.Device.{AppendsFront}
-use Rattle.dcm_base.specs.Steps.{outputs, Goes}
-use Rattle.dcm_base.specs.Stop.{Stop, complete, refused}
+use Rattle.dcm_base.specs.Steps.Steps.{outputs, Goes}
+use Rattle.dcm_base.specs.Reading.Stop.{Stop, complete, refused}
 use Rattle.dcm_devices.proofs.Writes.Puts.{append_known_none}
 use Rattle.dcm_stream.specs.declared.cursor.Cursor.{Cursor}
 use Rattle.dcm_stream.specs.declared.machine.Halt.{Halt}

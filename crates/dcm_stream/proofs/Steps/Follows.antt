@@ -8,15 +8,15 @@ use Rattle.dcm_base.specs.declared.syntax.Syntax.{Syntax}
 use Rattle.dcm_base.specs.declared.fault.Fault.{Fault}
 use Rattle.dcm_base.specs.declared.fault.Fault.TheVariants.{EndsEarly, TooLong}
 use Rattle.dcm_base.specs.declared.length.Length.TheVariants.{Undefined}
-use Rattle.dcm_base.specs.Tree.{Trees, no_tree}
-use Rattle.dcm_base.specs.Front.{Front, OpenTree, nothing_open, open_leaf, open_sequence, open_fragments, no_open_item, open_item}
-use Rattle.dcm_base.specs.Spelling.{TreesAt}
+use Rattle.dcm_base.specs.Tree.Tree.{Trees, no_tree}
+use Rattle.dcm_base.specs.Tree.Front.{Front, OpenTree, nothing_open, open_leaf, open_sequence, open_fragments, no_open_item, open_item}
+use Rattle.dcm_base.specs.Bytes.Spelling.{TreesAt}
 use Rattle.dcm_base.specs.declared.level.Level.{Level}
 use Rattle.dcm_base.specs.declared.level.Container.TheVariants.{DataSet as the_data_set}
-use Rattle.dcm_base.specs.Place.{level, room, passes, levels, tree_levels}
-use Rattle.dcm_base.specs.Atoms.{Atom, ends, front_atoms, trees_then}
-use Rattle.dcm_base.specs.Stop.{Stop, complete, refused, Bar, HeadBar, stop_at, value_stop, innermost_stop, is_empty, is_the_data_set, is_undecided}
-use Rattle.dcm_base.specs.Reads.{Reads, INPUT_LIMIT, ended}
+use Rattle.dcm_base.specs.Reading.Place.{level, room, passes, levels, tree_levels}
+use Rattle.dcm_base.specs.Steps.Atoms.{Atom, ends, front_atoms, trees_then}
+use Rattle.dcm_base.specs.Reading.Stop.{Stop, complete, refused, Bar, HeadBar, stop_at, value_stop, innermost_stop, is_empty, is_the_data_set, is_undecided}
+use Rattle.dcm_base.specs.Reading.Reads.{Reads, INPUT_LIMIT, ended}
 use Rattle.dcm_base.proofs.DataSets.Path.{Path, at_top, in_item, plug, Placed, set_stands}
 use Rattle.dcm_base.proofs.DataSets.Levels.{plug_levels}
 use Rattle.dcm_base.proofs.DataSets.Row.{trees_then-append}

@@ -9,13 +9,13 @@ use Rattle.dcm_base.specs.declared.vr.Vr.{Vr}
 use Rattle.dcm_base.specs.declared.syntax.Syntax.{Syntax}
 use Rattle.dcm_base.specs.declared.fault.Fault.{Fault}
 use Rattle.dcm_base.specs.declared.fault.Fault.TheVariants.{EndsEarly, TooLong}
-use Rattle.dcm_base.specs.Front.{Front}
-use Rattle.dcm_base.specs.Head.{tag_at, vr_at, head_size}
-use Rattle.dcm_base.specs.Spelling.{SpellsFront}
+use Rattle.dcm_base.specs.Tree.Front.{Front}
+use Rattle.dcm_base.specs.Bytes.Head.{tag_at, vr_at, head_size}
+use Rattle.dcm_base.specs.Bytes.Spelling.{SpellsFront}
 use Rattle.dcm_base.specs.declared.level.Level.{Level}
-use Rattle.dcm_base.specs.Place.{value_open}
-use Rattle.dcm_base.specs.Stop.{Stop, complete, refused, Bar, stop_at, is_early, is_undecided}
-use Rattle.dcm_base.specs.Reads.{StopsFirst, Reads, INPUT_LIMIT, told, ended, at_the_cut, end_too_long}
+use Rattle.dcm_base.specs.Reading.Place.{value_open}
+use Rattle.dcm_base.specs.Reading.Stop.{Stop, complete, refused, Bar, stop_at, is_early, is_undecided}
+use Rattle.dcm_base.specs.Reading.Reads.{StopsFirst, Reads, INPUT_LIMIT, told, ended, at_the_cut, end_too_long}
 use Rattle.dcm_base.proofs.DataSets.Extend.{tag_at_extends, vr_at_extends}
 use Rattle.dcm_base.proofs.DataSets.Heads.{some_same, eight_le_head_size}
 use Rattle.dcm_base.proofs.DataSets.Whole.{append_same}

@@ -2,15 +2,15 @@
 use Rattle.std.proofs.Common.{◌≡◌, ◌≤◌, ℕ, List, Bool, true, false, Some, None, cond, refl}
 use Rattle.dcm_base.specs.declared.syntax.Syntax.{Syntax}
 use Rattle.dcm_base.specs.declared.syntax.Syntax.TheVariants.{Implicit as implicit_in, Little as little_in, Big as big_in}
-use Rattle.dcm_base.specs.Syntax.{Little}
+use Rattle.dcm_base.specs.Tables.Syntax.{Little}
 use Rattle.dcm_base.specs.declared.fault.Fault.TheVariants.{FragmentsBarred}
-use Rattle.dcm_base.specs.Front.{Front, front, nothing_open}
-use Rattle.dcm_base.specs.Tree.{no_tree}
-use Rattle.dcm_base.specs.Atoms.{Atom}
-use Rattle.dcm_base.specs.Spelling.{form}
-use Rattle.dcm_base.specs.Stop.{Stop, Bar, HeadBar, is_early_bar}
-use Rattle.dcm_base.specs.Bars.{no_bar, ascending_bar, fragments_bar, target_bar, is_fragment_form}
-use Rattle.dcm_base.specs.Reads.{INPUT_LIMIT, Reads}
+use Rattle.dcm_base.specs.Tree.Front.{Front, front, nothing_open}
+use Rattle.dcm_base.specs.Tree.Tree.{no_tree}
+use Rattle.dcm_base.specs.Steps.Atoms.{Atom}
+use Rattle.dcm_base.specs.Bytes.Spelling.{form}
+use Rattle.dcm_base.specs.Reading.Stop.{Stop, Bar, HeadBar, is_early_bar}
+use Rattle.dcm_base.specs.Reading.Bars.{no_bar, ascending_bar, fragments_bar, target_bar, is_fragment_form}
+use Rattle.dcm_base.specs.Reading.Reads.{INPUT_LIMIT, Reads}
 use Rattle.dcm_stream.specs.Ascending.{ascending}
 use Rattle.dcm_stream.specs.Reading.{finish, read_all}
 use Rattle.dcm_stream.specs.Follows.{BarsAs}

@@ -8,14 +8,14 @@ use Rattle.dcm_base.specs.declared.syntax.Syntax.{Syntax}
 use Rattle.dcm_base.specs.declared.fault.Fault.{Fault}
 use Rattle.dcm_base.specs.declared.fault.Fault.TheVariants.{EndsEarly, UndefinedLength, TagNotAllowed, PassesEnd, TooDeep}
 use Rattle.dcm_base.specs.declared.length.Length.{Length}
-use Rattle.dcm_base.specs.Front.{Front}
-use Rattle.dcm_base.specs.Number.{number}
-use Rattle.dcm_base.specs.Tag.{is_item}
-use Rattle.dcm_base.specs.Head.{tag_at, vr_at, length_at, head_size, long_length}
-use Rattle.dcm_base.specs.Spelling.{form}
+use Rattle.dcm_base.specs.Tree.Front.{Front}
+use Rattle.dcm_base.specs.Tables.Number.{number}
+use Rattle.dcm_base.specs.Tables.Tag.{is_item}
+use Rattle.dcm_base.specs.Bytes.Head.{tag_at, vr_at, length_at, head_size, long_length}
+use Rattle.dcm_base.specs.Bytes.Spelling.{form}
 use Rattle.dcm_base.specs.declared.level.Level.{Level}
-use Rattle.dcm_base.specs.Place.{levels, value_open, room, passes, depth, is_allowed}
-use Rattle.dcm_base.specs.Stop.{Stop, complete, refused, Bar, HeadBar, first_case, is_empty, is_the_data_set, opens_list, has_no_form, with_length, barred, element_stop, item_stop, head_stop, or_else, place_stop, innermost_stop, value_stop, stop_at, is_undecided}
+use Rattle.dcm_base.specs.Reading.Place.{levels, value_open, room, passes, depth, is_allowed}
+use Rattle.dcm_base.specs.Reading.Stop.{Stop, complete, refused, Bar, HeadBar, first_case, is_empty, is_the_data_set, opens_list, has_no_form, with_length, barred, element_stop, item_stop, head_stop, or_else, place_stop, innermost_stop, value_stop, stop_at, is_undecided}
 use Rattle.dcm_base.proofs.DataSets.Extend.{tag_at_extends, vr_at_extends, length_at_extends, number_behind_extends}
 
 -- ---- the tests of a place

@@ -3,12 +3,12 @@ use Rattle.std.proofs.Common.{◌≡◌, ℕ, zero, suc, ◌+◌, List, [], ◌�
 use Rattle.dcm_base.specs.declared.tag.Tag.{Tag}
 use Rattle.dcm_base.specs.declared.vr.Vr.{Vr}
 use Rattle.dcm_base.specs.declared.syntax.Syntax.{Syntax}
-use Rattle.dcm_base.specs.Tree.{Trees, no_tree, leaf}
-use Rattle.dcm_base.specs.Front.{OpenTree, nothing_open, open_leaf, open_sequence, open_fragments}
-use Rattle.dcm_base.specs.Value.{order}
+use Rattle.dcm_base.specs.Tree.Tree.{Trees, no_tree, leaf}
+use Rattle.dcm_base.specs.Tree.Front.{OpenTree, nothing_open, open_leaf, open_sequence, open_fragments}
+use Rattle.dcm_base.specs.Tree.Value.{order}
 use Rattle.dcm_base.specs.declared.level.Level.{Level}
-use Rattle.dcm_base.specs.Place.{room, passes, levels, tree_levels}
-use Rattle.dcm_base.specs.Atoms.{Atom, value_byte, closes_leaf, front_atoms}
+use Rattle.dcm_base.specs.Reading.Place.{room, passes, levels, tree_levels}
+use Rattle.dcm_base.specs.Steps.Atoms.{Atom, value_byte, closes_leaf, front_atoms}
 use Rattle.dcm_base.proofs.Conversions.Order.{length-order}
 use Rattle.dcm_base.proofs.DataSets.Path.{then_trees, Path, plug, syntax_of, Placed, byte_comes, leaf_closes, fragment_byte, fragment_closes}
 use Rattle.dcm_base.proofs.DataSets.Levels.{around, plug_levels}

@@ -4,16 +4,18 @@ use Rattle.std.proofs.lemmas.Bool.{cases_lt, false≢true}
 use mathlib.Core.Logic.{⊎_elim}
 use Rattle.std.specs.Prelude.{IsErr, OnOk}
 use Rattle.std.specs.Option.{option_map_or}
-use Rattle.dcm_base.specs.Uid.{uid_name}
+use Rattle.dcm_base.specs.Tables.Uid.{uid_name}
 use Rattle.std.specs.Io.KnownBytes.{append_known}
 use Rattle.std.proofs.lemmas.List.{take-append-le, take-append-drop, length-take, length-append, append-nil}
 use Rattle.dcm_base.specs.declared.mode.Mode.{Mode}
 use Rattle.dcm_base.specs.declared.mode.Mode.TheVariants.{Short, Full}
 use Rattle.dcm_devices.specs.Device.{AppendsFront, Puts}
-use Rattle.dcm_base.specs.ValueText.{escape, escaped, identified, bracketed}
+use Rattle.dcm_base.specs.Dump.ValueText.{escape, escaped, identified, bracketed}
 use Rattle.std.proofs.lemmas.Grind.{flat_map-append}
 use Rattle.dcm_devices.proofs.Writes.Puts.{append_known_twice, append_known_none, puts_behind, puts_err, front_longer}
 use Rattle.dcm_value.specs.Display.{Display, emit, front_after, front_size, at_once, is_short}
+use Rattle.dcm_value.specs.Emits.{Emits}
+use Rattle.dcm_devices.specs.Writing.{Writer}
 use Rattle.dcm_value.proofs.Displays.Facts.{take_within}
 
 pub take_take : (n : ℕ) (xs ys : List ℕ) → take n (take n xs ++ ys) ≡ take n (xs ++ ys)
@@ -150,3 +152,7 @@ named uid name e = ap (λ n. option_map_or (λ name. codes "=" ++ name) n (brack
 
 pub unnamed : (uid : List ℕ) → None ≡ uid_name uid → identified uid ≡ codes "[" ++ (escaped uid ++ codes "]")
 unnamed uid e = ap (λ n. option_map_or (λ name. codes "=" ++ name) n (bracketed uid)) (sym e) ∙ append_assoc (codes "[") (escaped uid) (codes "]")
+
+-- the same bytes
+pub emits_same : {W T E : Type 0} {w : Writer W} {held holds : W} {old new : Display} {xs ys : List ℕ} {r : Result T E} → xs ≡ ys → Emits w held holds old new xs r → Emits w held holds old new ys r
+emits_same {W} {T} {E} {w} {held} {holds} {old} {new} {xs} {ys} {r} e h = subst (λ all. Emits w held holds old new all r) e h

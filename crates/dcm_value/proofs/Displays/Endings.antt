@@ -5,7 +5,7 @@ use mathlib.Core.Logic.{⊎_elim}
 use Rattle.std.proofs.lemmas.List.{take-append-le, take-append-drop, length-take, length-append, append-nil}
 use Rattle.dcm_base.specs.declared.mode.Mode.{Mode}
 use Rattle.dcm_base.specs.declared.mode.Mode.TheVariants.{Short, Full}
-use Rattle.dcm_base.specs.ValueText.{padded, shortened}
+use Rattle.dcm_base.specs.Dump.ValueText.{padded, shortened}
 use Rattle.dcm_value.specs.Display.{blank, emit, at_once, ending}
 use Rattle.dcm_value.specs.Progress.{Progress, closing, finishes}
 use Rattle.dcm_value.proofs.Displays.Facts.{take_within}

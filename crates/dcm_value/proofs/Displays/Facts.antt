@@ -1,13 +1,8 @@
 -- Facts on what is shown of a value.
-use Rattle.std.proofs.Common.{◌≡◌, ◌≤◌, ◌<◌, ℕ, ◌+◌, ◌-◌, min, replicate, codes, List, ◌++◌, length, take, drop, ap, sym, ◌∙◌, arith}
-use Rattle.std.proofs.Common.{Option, Result, subst, cond, lt-ltb}
-use Rattle.std.specs.Io.KnownBytes.{append_known}
+use Rattle.std.proofs.Common.{◌≡◌, ◌≤◌, ℕ, ◌+◌, ◌-◌, min, replicate, List, ◌++◌, length, take, drop, ap, sym, ◌∙◌, arith}
 use Rattle.dcm_base.specs.declared.mode.Mode.{Mode}
 use Rattle.dcm_base.specs.declared.mode.Mode.TheVariants.{Short, Full}
-use Rattle.dcm_devices.specs.Device.{Puts}
-use Rattle.dcm_base.specs.ValueText.{padded}
-use Rattle.dcm_devices.proofs.Writes.Puts.{puts_behind}
-use Rattle.dcm_value.specs.Display.{ending_of, front_size}
+use Rattle.dcm_value.specs.Display.{front_size}
 use Rattle.std.proofs.lemmas.List.{take_min, length-take, length-append, drop-replicate}
 use Rattle.std.proofs.Math.Seq.{take-append-add, take-length}
 

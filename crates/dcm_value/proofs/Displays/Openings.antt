@@ -3,7 +3,7 @@ use Rattle.std.proofs.Common.{◌≡◌, ◌<◌, ℕ, ◌+◌, ◌==◌, ◌&&�
 use Rattle.std.proofs.lemmas.Bool.{cases_Bool, cases_lt, false≢true}
 use Rattle.std.proofs.lemmas.List.Sums.{fold-append}
 use mathlib.Core.Logic.{⊎_elim}
-use Rattle.dcm_base.specs.Steps.{outputs}
+use Rattle.dcm_base.specs.Steps.Steps.{outputs}
 use Rattle.dcm_base.proofs.Writes.Runs.{outputs-append}
 use Rattle.dcm_value.specs.Display.{Display, emit, at_once}
 use Rattle.dcm_value.specs.Progress.{Progress, way, step, writes, adds, opening, opening_writes, opened, is_unopened, is_bracketed, feeds}

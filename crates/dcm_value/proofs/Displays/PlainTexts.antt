@@ -2,7 +2,7 @@
 use Rattle.std.proofs.Common.{◌≡◌, ◌∙◌, ap, refl, ℕ, List, [], ◌∷◌, Bool, true, false}
 use Rattle.std.specs.Prelude.{nat_lt, ◌||◌, ◌==◌, ◌++◌, if◌then◌else◌, not, ◌&&◌}
 use Rattle.std.specs.List.{list_all}
-use Rattle.dcm_base.specs.ValueText.{escaped, escape}
+use Rattle.dcm_base.specs.Dump.ValueText.{escaped, escape}
 use Rattle.dcm_value.specs.Plain.{is_plain_byte}
 
 -- one byte

@@ -5,19 +5,19 @@ use Rattle.std.specs.Io.KnownBytes.{append_known}
 use Rattle.dcm_devices.specs.Device.{Puts, AppendsFront}
 use Rattle.std.proofs.lemmas.List.{length-append, append-nil, take-append-drop, length-take, length-drop}
 use Rattle.std.proofs.lemmas.List.Sums.{fold-append, sum_by-cons}
-use Rattle.dcm_base.specs.Representation.{pad}
-use Rattle.dcm_base.specs.Steps.{outputs, Goes}
-use Rattle.dcm_base.specs.Value.{pieces}
-use Rattle.dcm_base.specs.ValueText.{shown_unit, escape, escaped}
+use Rattle.dcm_base.specs.Tables.Representation.{pad}
+use Rattle.dcm_base.specs.Steps.Steps.{outputs, Goes}
+use Rattle.dcm_base.specs.Tree.Value.{pieces}
+use Rattle.dcm_base.specs.Dump.ValueText.{shown_unit, escape, escaped}
 use Rattle.dcm_devices.proofs.Writes.Puts.{append_known_none, puts_behind, puts_err, front_longer}
-use Rattle.dcm_base.proofs.Writes.Runs.{outputs-append, goes_on, goes_failed}
+use Rattle.dcm_base.proofs.Writes.Runs.{outputs-append}
 use Rattle.std.proofs.Math.Seq.{take-length}
 use Rattle.std.proofs.lemmas.List.{take_more}
 use Rattle.dcm_value.specs.declared.way.Way.{Way}
 use Rattle.dcm_value.specs.declared.way.Way.TheVariants.{InBrackets, ByName, InUnits}
-use Rattle.dcm_value.specs.Display.{Display, emit, at_once, ending}
+use Rattle.dcm_value.specs.Display.{Display, emit, at_once}
 use Rattle.dcm_value.specs.Units.{one_text, separated}
-use Rattle.dcm_value.specs.Progress.{Progress, way, further, waits, step, writes, adds, adds_as, held_as, counts_as, is_whole, is_pad_byte, separator, opening, opening_writes, opened, feeds, closing, finishes}
+use Rattle.dcm_value.specs.Progress.{Progress, way, further, waits, step, writes, adds, adds_as, held_as, counts_as, is_whole, is_pad_byte, separator, opening, opening_writes, opened, feeds}
 use Rattle.dcm_value.proofs.Displays.Emits.{IsSettled, emit_twice, emit_settled, emit_mode, once_none, once_append}
 
 -- bytes that lead from one progress to another, and show this

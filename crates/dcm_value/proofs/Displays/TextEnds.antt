@@ -1,5 +1,5 @@
 -- The last bytes of a text.
-use Rattle.std.proofs.Common.{◌≡◌, ◌<◌, ◌≤◌, eq-eqb, ℕ, ◌+◌, ◌-◌, ◌%◌, ◌==◌, ◌&&◌, List, [], ◌∷◌, ◌++◌, length, take, get_or, slice_index, ap, sym, ◌∙◌, arith, refl, cond, true, false, Bool, subst}
+use Rattle.std.proofs.Common.{◌≡◌, ◌≤◌, eq-eqb, ℕ, ◌+◌, ◌-◌, ◌%◌, ◌==◌, ◌&&◌, List, [], ◌∷◌, ◌++◌, length, take, get_or, slice_index, ap, sym, ◌∙◌, arith, refl, cond, true, false, Bool, subst}
 use Rattle.std.specs.Prelude.{count_by}
 use Rattle.std.proofs.lemmas.List.{length-append, append-nil}
 use Rattle.std.proofs.lemmas.Bool.{cases_lt, ne_eqb}
@@ -8,8 +8,8 @@ use Rattle.std.proofs.lemmas.Grind.{flat_map-append}
 use Rattle.std.proofs.lemmas.List.Sums.{sum_by-cons, sum_by-append}
 use Rattle.std.proofs.Math.Seq.{get_or-append_seam, take-append_seam}
 use Rattle.dcm_base.specs.declared.vr.Vr.{Vr}
-use Rattle.dcm_base.specs.Representation.{pad}
-use Rattle.dcm_base.specs.ValueText.{escape, escaped}
+use Rattle.dcm_base.specs.Tables.Representation.{pad}
+use Rattle.dcm_base.specs.Dump.ValueText.{escape, escaped}
 use Rattle.dcm_value.specs.declared.way.Way.TheVariants.{InBrackets}
 use Rattle.dcm_value.specs.Way.{without_pad}
 use Rattle.dcm_value.specs.Progress.{Progress, way, further}

@@ -8,8 +8,8 @@ use Rattle.std.proofs.Math.Seq.{get_or-append_seam, take-append_seam}
 use Rattle.dcm_base.specs.declared.vr.Vr.{Vr}
 use Rattle.dcm_base.specs.declared.syntax.Syntax.{Syntax}
 use Rattle.dcm_base.specs.declared.mode.Mode.{Mode}
-use Rattle.dcm_base.specs.Representation.{pad}
-use Rattle.dcm_base.specs.ValueText.{shape, escape, escaped, unpadded, bracketed, identified, padded, shortened, is_single}
+use Rattle.dcm_base.specs.Tables.Representation.{pad}
+use Rattle.dcm_base.specs.Dump.ValueText.{shape, escape, escaped, unpadded, bracketed, identified, padded, shortened, is_single}
 use Rattle.dcm_value.specs.declared.way.Way.TheVariants.{InBrackets, ByName}
 use Rattle.dcm_value.specs.Way.{way_of}
 use Rattle.dcm_value.specs.Display.{blank, emit, at_once}

@@ -11,10 +11,10 @@ use Rattle.dcm_base.specs.declared.vr.Vr.TheVariants.{AE, AS, AT, CS, DA, DS, DT
 use Rattle.dcm_base.specs.declared.syntax.Syntax.{Syntax}
 use Rattle.dcm_base.specs.declared.syntax.Syntax.TheVariants.{Implicit as implicit_in, Little as little_in, Big as big_in}
 use Rattle.dcm_base.specs.declared.mode.Mode.{Mode}
-use Rattle.dcm_base.specs.Representation.{unit, pad}
-use Rattle.dcm_base.specs.Uid.{Named, uid_name, uids, name_in}
-use Rattle.dcm_base.specs.Value.{order, turned}
-use Rattle.dcm_base.specs.ValueText.{Shape, text, identifier, unsigned, signed, tags, hexadecimal, shape, text_of, padded, shortened, display, shown, count, counted, is_single, shown_so_far, shown_unit, escaped, bracketed, identified, unpadded, units_text}
+use Rattle.dcm_base.specs.Tables.Representation.{unit, pad}
+use Rattle.dcm_base.specs.Tables.Uid.{Named, uid_name, uids, name_in}
+use Rattle.dcm_base.specs.Tree.Value.{order, turned}
+use Rattle.dcm_base.specs.Dump.ValueText.{Shape, text, identifier, unsigned, signed, tags, hexadecimal, shape, text_of, padded, shortened, display, shown, count, counted, is_single, shown_so_far, shown_unit, escaped, bracketed, identified, unpadded, units_text}
 use Rattle.dcm_base.proofs.Conversions.OrderLaws.{turned_bytes}
 use Rattle.dcm_base.proofs.Conversions.Order.{length-order}
 use Rattle.dcm_value.specs.declared.way.Way.TheVariants.{InBrackets, ByName, InUnits}

@@ -8,9 +8,9 @@ use Rattle.std.proofs.Math.Nat.{div-eq_of_lt, add-div_left, mul-div_cancel}
 use Rattle.std.proofs.lemmas.Bool.{cases_lt}
 use mathlib.Core.Logic.{⊎_elim}
 use Rattle.dcm_devices.specs.Device.{Puts, AppendsFront}
-use Rattle.dcm_base.specs.Steps.{outputs, Goes}
-use Rattle.dcm_base.specs.Value.{pieces, units}
-use Rattle.dcm_base.specs.ValueText.{shown_unit}
+use Rattle.dcm_base.specs.Steps.Steps.{outputs, Goes}
+use Rattle.dcm_base.specs.Tree.Value.{pieces, units}
+use Rattle.dcm_base.specs.Dump.ValueText.{shown_unit}
 use Rattle.dcm_base.proofs.Conversions.UnitLaws.{units_cons, units_none}
 use Rattle.dcm_devices.proofs.Writes.Puts.{puts_behind, puts_err, front_longer}
 use Rattle.dcm_value.specs.declared.way.Way.TheVariants.{InUnits}

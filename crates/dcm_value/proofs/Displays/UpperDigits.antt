@@ -2,7 +2,7 @@
 use Rattle.std.proofs.Common.{◌≡◌, ◌<◌, ℕ, zero, suc, ◌==◌, ◌&&◌, Bool, true, refl, arith, eqb-true, inl, inr}
 use Rattle.std.specs.Char.{to_ascii_uppercase}
 use Rattle.std.proofs.lemmas.Bool.{and_parts, cases_lt}
-use Rattle.dcm_base.specs.ValueText.{lower, upper}
+use Rattle.dcm_base.specs.Dump.ValueText.{lower, upper}
 
 -- the first n digits
 are_upper : ℕ → Bool

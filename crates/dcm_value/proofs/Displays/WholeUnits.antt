@@ -6,8 +6,8 @@ use Rattle.std.proofs.Math.Nat.{mul-div_cancel, div-mul-le_self, lt-div-mul-add}
 use Rattle.dcm_base.specs.declared.vr.Vr.{Vr}
 use Rattle.dcm_base.specs.declared.syntax.Syntax.{Syntax}
 use Rattle.dcm_base.specs.declared.mode.Mode.{Mode}
-use Rattle.dcm_base.specs.Value.{pieces, units, order}
-use Rattle.dcm_base.specs.ValueText.{shape, shown_unit, unit_text, units_text, padded, shortened, is_single}
+use Rattle.dcm_base.specs.Tree.Value.{pieces, units, order}
+use Rattle.dcm_base.specs.Dump.ValueText.{shape, shown_unit, unit_text, units_text, padded, shortened, is_single}
 use Rattle.dcm_base.proofs.Conversions.UnitLaws.{units_none}
 use Rattle.dcm_value.specs.declared.way.Way.TheVariants.{InUnits}
 use Rattle.dcm_value.specs.Way.{way_of}

@@ -3,8 +3,8 @@ use Rattle.std.proofs.Common.{◌≡◌, ◌<◌, ℕ, ◌&&◌, List, [], ◌++
 use Rattle.dcm_base.specs.declared.vr.Vr.{Vr}
 use Rattle.dcm_base.specs.declared.syntax.Syntax.{Syntax}
 use Rattle.dcm_base.specs.declared.mode.Mode.{Mode}
-use Rattle.dcm_base.specs.Steps.{outputs}
-use Rattle.dcm_base.specs.ValueText.{shape, padded, shortened, is_single}
+use Rattle.dcm_base.specs.Steps.Steps.{outputs}
+use Rattle.dcm_base.specs.Dump.ValueText.{shape, padded, shortened, is_single}
 use Rattle.dcm_value.specs.declared.way.Way.{Way}
 use Rattle.dcm_value.specs.declared.way.Way.TheVariants.{InBrackets}
 use Rattle.dcm_value.specs.Way.{way_of}

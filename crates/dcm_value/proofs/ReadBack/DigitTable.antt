@@ -1,7 +1,7 @@
 -- The table of digits.
 use Rattle.std.proofs.Common.{◌≡◌, ◌<◌, ℕ, zero, suc, ◌+◌, ◌*◌, ◌/◌, ◌%◌, ◌==◌, ◌&&◌, Bool, true, false, List, [], ◌∷◌, length, get_or, refl, ap, ◌∙◌, arith, eqb-true}
 use Rattle.std.proofs.lemmas.Bool.{false≢true}
-use Rattle.dcm_base.specs.ValueText.{lower, hex_byte}
+use Rattle.dcm_base.specs.Dump.ValueText.{lower, hex_byte}
 use Rattle.dcm_value.specs.declared.units.TheConstants.{DIGITS}
 
 -- the digits of the bytes from b on

@@ -9,8 +9,8 @@ use Rattle.hex.specs.declared.error.FromHexError.{FromHexError}
 use Rattle.hex.specs.declared.error.FromHexError.TheVariants.{InvalidHexCharacter}
 use Rattle.hex.proofs.HexLemmas.{decode_sized-odd, decode_sized-other}
 use Rattle.hex.proofs.Pairs.{cons_byte, decode_pairs-ok_pair, decode_pairs-err_pair, decode_sized-pairs}
-use Rattle.dcm_base.specs.Value.{number_of}
-use Rattle.dcm_base.specs.ReadValue.{◌>>=◌, digit, number_in, hex_number}
+use Rattle.dcm_base.specs.Tree.Value.{number_of}
+use Rattle.dcm_base.specs.Lines.ReadValue.{◌>>=◌, digit, number_in, hex_number}
 use Rattle.dcm_value.proofs.ReadBack.Texts.{all_below, one_below}
 use Rattle.dcm_value.proofs.ReadBack.Units.{high_number, high_reverse}
 

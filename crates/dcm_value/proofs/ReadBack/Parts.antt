@@ -10,9 +10,9 @@ use Rattle.std.proofs.lemmas.List.{length-append}
 use Rattle.std.proofs.lemmas.List.Splits.{slice_split_first}
 use Rattle.dcm_base.specs.declared.vr.Vr.{Vr}
 use Rattle.dcm_base.specs.declared.vr.Vr.TheVariants.{AE, AS, AT, CS, DA, DS, DT, FD, FL, IS, LO, LT, OB, OD, OF, OL, OV, OW, PN, SH, SL, SQ, SS, ST, SV, TM, UC, UI, UL, UN, UR, US, UT, UV}
-use Rattle.dcm_base.specs.Representation.{unit}
-use Rattle.dcm_base.specs.ValueText.{Shape, text, identifier, unsigned, signed, tags, hexadecimal, shape}
-use Rattle.dcm_base.specs.ReadValue.{◌>>=◌, within_limit, VALUE_LIMIT, only_if, each_part, joined, hex_number, bracketed_value, value_in, value_of_text, is_no_value}
+use Rattle.dcm_base.specs.Tables.Representation.{unit}
+use Rattle.dcm_base.specs.Dump.ValueText.{Shape, text, identifier, unsigned, signed, tags, hexadecimal, shape}
+use Rattle.dcm_base.specs.Lines.ReadValue.{◌>>=◌, within_limit, VALUE_LIMIT, only_if, each_part, joined, hex_number, bracketed_value, value_in, value_of_text, is_no_value}
 use Rattle.dcm_value.specs.declared.way.Way.TheVariants.{InUnits}
 use Rattle.dcm_value.specs.Way.{way_of}
 use Rattle.dcm_value.specs.Units.{kind_of}

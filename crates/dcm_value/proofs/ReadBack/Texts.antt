@@ -5,10 +5,10 @@ use Rattle.std.specs.Option.{option_map_or}
 use Rattle.std.proofs.lemmas.Bool.{false≢true, ltb-true, cases_Bool, cases_lt, eqb-true}
 use mathlib.Core.Logic.{⊎_elim}
 use Rattle.std.proofs.lemmas.List.{length-append}
-use Rattle.dcm_base.specs.Number.{AreBytes}
-use Rattle.dcm_base.specs.Uid.{Named, uids, uid_name, uid_of, name_in, uid_in}
-use Rattle.dcm_base.specs.ValueText.{upper, lower, escape, escaped, bracketed, identified}
-use Rattle.dcm_base.specs.ReadValue.{◌>>=◌, digit, hex_number, bracketed_value, text_value, uid_value}
+use Rattle.dcm_base.specs.Tables.Number.{AreBytes}
+use Rattle.dcm_base.specs.Tables.Uid.{Named, uids, uid_name, uid_of, name_in, uid_in}
+use Rattle.dcm_base.specs.Dump.ValueText.{upper, lower, escape, escaped, bracketed, identified}
+use Rattle.dcm_base.specs.Lines.ReadValue.{◌>>=◌, digit, hex_number, bracketed_value, text_value, uid_value}
 use Rattle.dcm_value.proofs.ReadBack.Parts.{plain_byte}
 
 both : (a b : Bool) → a && b ≡ true → (a ≡ true) × (b ≡ true)

@@ -11,10 +11,10 @@ use Rattle.byteorder.specs.Endian.{little_bytes}
 use Rattle.std.specs.Int.{byte_at, bytes_low_first}
 use Rattle.std.proofs.Math.Nat.{pow-suc, div-div-eq-div-mul, div-one, pow-le-pow_right, mod-eq_of_lt}
 use Rattle.dcm_base.specs.declared.tag.Tag.{Tag}
-use Rattle.dcm_base.specs.Number.{AreBytes}
-use Rattle.dcm_base.specs.Value.{number_of, pieces}
-use Rattle.dcm_base.specs.ValueText.{lower, hex_byte, hex_word, signed_text, tag_text}
-use Rattle.dcm_base.specs.ReadValue.{◌>>=◌, only_if, digit, number_in, decimal_number, hex_number, unsigned_value, positive_value, negative_value, signed_value, tag_value, hex_value, each_part, joined}
+use Rattle.dcm_base.specs.Tables.Number.{AreBytes}
+use Rattle.dcm_base.specs.Tree.Value.{number_of, pieces}
+use Rattle.dcm_base.specs.Dump.ValueText.{lower, hex_byte, hex_word, signed_text, tag_text}
+use Rattle.dcm_base.specs.Lines.ReadValue.{◌>>=◌, only_if, digit, number_in, decimal_number, hex_number, unsigned_value, positive_value, negative_value, signed_value, tag_value, hex_value, each_part, joined}
 use Rattle.dcm_value.proofs.ReadBack.Texts.{lower_digit, all_below, one_below}
 use Rattle.dcm_value.proofs.Displays.Facts.{take_within}
 

@@ -8,11 +8,11 @@ use Rattle.std.proofs.lemmas.Bool.{cases_Bool}
 use mathlib.Core.Logic.{⊎_elim}
 use Rattle.dcm_base.specs.declared.vr.Vr.{Vr}
 use Rattle.dcm_base.specs.declared.vr.Vr.TheVariants.{AE, AS, AT, CS, DA, DS, DT, FD, FL, IS, LO, LT, OB, OD, OF, OL, OV, OW, PN, SH, SL, SQ, SS, ST, SV, TM, UC, UI, UL, UN, UR, US, UT, UV}
-use Rattle.dcm_base.specs.Number.{AreBytes}
-use Rattle.dcm_base.specs.Representation.{unit, pad}
-use Rattle.dcm_base.specs.Value.{pieces}
-use Rattle.dcm_base.specs.ValueText.{Shape, text, identifier, unsigned, signed, tags, hexadecimal, shape, shown_unit, unit_text, display, shown, unpadded, bracketed, identified}
-use Rattle.dcm_base.specs.ReadValue.{◌>>=◌, within_limit, VALUE_LIMIT, value_in, value_of_text, is_no_value}
+use Rattle.dcm_base.specs.Tables.Number.{AreBytes}
+use Rattle.dcm_base.specs.Tables.Representation.{unit, pad}
+use Rattle.dcm_base.specs.Tree.Value.{pieces}
+use Rattle.dcm_base.specs.Dump.ValueText.{Shape, text, identifier, unsigned, signed, tags, hexadecimal, shape, shown_unit, unit_text, display, shown, unpadded, bracketed, identified}
+use Rattle.dcm_base.specs.Lines.ReadValue.{◌>>=◌, within_limit, VALUE_LIMIT, value_in, value_of_text, is_no_value}
 use Rattle.dcm_value.specs.Units.{kind_of}
 use Rattle.dcm_value.specs.Parts.{part_value}
 use Rattle.dcm_value.specs.Laws.{ReadsBack, kept}

@@ -7,7 +7,7 @@ use Rattle.std.proofs.lemmas.List.{length-drop, take-append-le, drop-append-le, 
 use Rattle.std.proofs.lemmas.Simd.{put_chunk_is, length-chunk}
 use lib.Lanes.{pick_l, put_chunk, chunk}
 use borrow.Rule.Slice.PartMut.{put_mid, mid_of}
-use Rattle.dcm_base.specs.Value.{turned}
+use Rattle.dcm_base.specs.Tree.Value.{turned}
 use Rattle.dcm_value.proofs.UnitOrder.Reversals.{units_reversed, swapped, swapped_turned, units_reversed-add, length-units_reversed}
 
 -- what lies behind the units stays

@@ -1,5 +1,5 @@
 -- Units whose highest byte stands first show what the units of a value show.
-use Rattle.std.proofs.Common.{true, false, ◌≡◌, ◌≢◌, ◌≤◌, ◌<◌, ℕ, zero, suc, ◌*◌, ◌/◌, List, [], ◌∷◌, ◌++◌, length, take, drop, refl, sym, ap, ◌∙◌, arith, lit<, suc-mul, subst}
+use Rattle.std.proofs.Common.{true, false, ◌≡◌, ◌≤◌, ◌<◌, ℕ, zero, suc, ◌*◌, ◌/◌, List, [], ◌∷◌, ◌++◌, length, take, drop, refl, sym, ap, ◌∙◌, arith, lit<, suc-mul, subst}
 use Rattle.std.specs.Prelude.{reverse, flat_map, map, decimal}
 use mathlib.Core.Logic.{⊎_elim}
 use Rattle.std.proofs.lemmas.Bool.{cases_lt}
@@ -9,13 +9,13 @@ use Rattle.dcm_base.specs.declared.vr.Vr.{Vr}
 use Rattle.dcm_base.specs.declared.vr.Vr.TheVariants.{AE, AS, AT, CS, DA, DS, DT, FD, FL, IS, LO, LT, OB, OD, OF, OL, OV, OW, PN, SH, SL, SQ, SS, ST, SV, TM, UC, UI, UL, UN, UR, US, UT, UV}
 use Rattle.dcm_base.specs.declared.syntax.Syntax.{Syntax}
 use Rattle.dcm_base.specs.declared.syntax.Syntax.TheVariants.{Implicit as implicit_in, Little as little_in, Big as big_in}
-use Rattle.dcm_base.specs.Representation.{unit}
-use Rattle.dcm_base.specs.Value.{pieces, units, order, turned, number_of}
-use Rattle.dcm_base.specs.ValueText.{Shape, text, identifier, unsigned, signed, tags, hexadecimal, shape, shown_unit, unit_text, hex_byte, signed_text}
+use Rattle.dcm_base.specs.Tables.Representation.{unit}
+use Rattle.dcm_base.specs.Tree.Value.{pieces, units, order, turned, number_of}
+use Rattle.dcm_base.specs.Dump.ValueText.{Shape, text, identifier, unsigned, signed, tags, hexadecimal, shape, shown_unit, unit_text, hex_byte, signed_text}
 use Rattle.dcm_base.proofs.Conversions.UnitLaws.{units_cons, units_none}
 use Rattle.dcm_base.proofs.Conversions.OrderLaws.{turns_units, keeps_length, turned_bytes}
 use Rattle.dcm_base.proofs.Conversions.Order.{turned_cons, turned_unit}
-use Rattle.dcm_base.specs.Syntax.{is_big}
+use Rattle.dcm_base.specs.Tables.Syntax.{is_big}
 use Rattle.dcm_value.specs.Units.{kind_of, high_text, high, one_text, separated}
 
 -- shown alike, turned or not

@@ -6,7 +6,7 @@ use Rattle.std.proofs.Math.Seq.{drop-length}
 use Rattle.std.proofs.lemmas.Bool.{cases_lt}
 use mathlib.Core.Logic.{⊎_elim}
 use Rattle.dcm_base.proofs.Conversions.UnitLaws.{units_cons, units_none}
-use Rattle.dcm_base.specs.Value.{pieces, units}
+use Rattle.dcm_base.specs.Tree.Value.{pieces, units}
 use Rattle.dcm_value.specs.Units.{separated}
 
 -- the next piece

@@ -5,7 +5,7 @@ use Rattle.std.proofs.Math.Nat.{mul-suc, mul-zero, suc-add, mul-le-mul_left, mul
 use Rattle.std.proofs.Math.Seq.{take-append-add, drop-append-add}
 use Rattle.std.proofs.lemmas.List.{length-take, length-take-le, length-reverse, length-append, length-drop}
 use borrow.Rule.Slice.PartMut.{put_mid, mid_of}
-use Rattle.dcm_base.specs.Value.{pieces, turned}
+use Rattle.dcm_base.specs.Tree.Value.{pieces, turned}
 use Rattle.dcm_base.proofs.Conversions.OrderLaws.{turned_bytes}
 
 -- the first units of n bytes reversed, and what follows them

@@ -1,7 +1,7 @@
 use Rattle.std.proofs.Common.{arith}
 use Rattle.dcm_base.specs.declared.length.Length.{Length}
 use Rattle.dcm_base.specs.declared.length.Length.TheVariants.{Known, Undefined}
-use Rattle.dcm_base.specs.Number.{HasLength}
+use Rattle.dcm_base.specs.Tables.Number.{HasLength}
 use Rattle.dcm_base.proofs.DumpsBack.Texts.{bytes_of}
 use Rattle.dcm_base.proofs.DumpsBack.LineMeanings.{IsSmall}
 use Rattle.dcm_base.proofs.DumpsBack.Steps.{leaf_reads, fragment_reads, sequence_reads, fragments_read, item_reads, item_end_reads, sequence_end_reads}

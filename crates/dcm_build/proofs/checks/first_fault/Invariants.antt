@@ -1,5 +1,5 @@
 use Rattle.std.proofs.Common.{◌≡◌, length}
-use Rattle.dcm_base.specs.Build.{first_fault}
+use Rattle.dcm_base.specs.Lines.Build.{first_fault}
 use Rattle.dcm_build.proofs.checks.first_fault.Given as goal
 
 -- no check so far fails

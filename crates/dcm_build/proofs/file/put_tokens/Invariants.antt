@@ -1,10 +1,10 @@
 use Rattle.std.proofs.Common.{◌≡◌, take}
 use Rattle.std.specs.Prelude.{fold, flat_map}
 use Rattle.std.specs.Io.KnownBytes.{append_known}
-use Rattle.dcm_base.specs.Steps.{outputs}
+use Rattle.dcm_base.specs.Steps.Steps.{outputs}
 use Rattle.dcm_stream.specs.Tokens.{atoms_of}
-use Rattle.dcm_tools.specs.EncodeSink.{encode_step, encode_writes}
-use Rattle.dcm_tools.specs.Encoder as encoders
+use Rattle.dcm_sinks.specs.EncodeSink.{encode_step, encode_writes}
+use Rattle.dcm_sinks.specs.Encoder as encoders
 use Rattle.dcm_build.proofs.file.put_tokens.Given as goal
 
 -- the tokens so far were written

@@ -1,6 +1,6 @@
 use Rattle.std.proofs.Common.{◌≤◌, length}
-use Rattle.dcm_base.specs.MetaReads.{syntax_value}
-use Rattle.dcm_base.specs.Tree.{Trees}
+use Rattle.dcm_base.specs.File.MetaReads.{syntax_value}
+use Rattle.dcm_base.specs.Tree.Tree.{Trees}
 use Rattle.dcm_head.specs.Rewriting.{OfElements}
 use Rattle.dcm_build.proofs.Files.Meta.{Remain}
 use Rattle.dcm_build.proofs.group.syntax_value.Given as goal

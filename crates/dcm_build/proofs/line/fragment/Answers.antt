@@ -1,6 +1,6 @@
 use Rattle.dcm_base.specs.declared.vr.Vr.TheVariants.{OB}
-use Rattle.dcm_base.specs.Line as spec
-use Rattle.dcm_base.specs.ReadValue.{value_of_text}
+use Rattle.dcm_base.specs.Lines.Line as spec
+use Rattle.dcm_base.specs.Lines.ReadValue.{value_of_text}
 use Rattle.dcm_build.proofs.Lines.Steps.{shows_value, shows_none}
 use Rattle.dcm_build.proofs.line.fragment.Goals as goal
 

@@ -1,5 +1,5 @@
-use Rattle.dcm_base.specs.Line as spec
-use Rattle.dcm_base.specs.ReadValue.{value_of_text}
+use Rattle.dcm_base.specs.Lines.Line as spec
+use Rattle.dcm_base.specs.Lines.ReadValue.{value_of_text}
 use Rattle.dcm_build.proofs.Lines.Steps.{shows_value, shows_none}
 use Rattle.dcm_build.proofs.line.leaf.Goals as goal
 

@@ -1,5 +1,5 @@
 use Rattle.std.proofs.Common.{◌∙◌, ap, sym}
-use Rattle.dcm_base.specs.Line.{meaning_of}
+use Rattle.dcm_base.specs.Lines.Line.{meaning_of}
 use Rattle.dcm_build.proofs.Lines.Spaces.{line_means}
 use Rattle.dcm_build.proofs.line.means.Goals as goal
 

@@ -1,5 +1,5 @@
 use Rattle.std.proofs.Common.{drop}
-use Rattle.dcm_base.specs.Line.{through_parenthesis}
+use Rattle.dcm_base.specs.Lines.Line.{through_parenthesis}
 use Rattle.dcm_build.proofs.Lines.Fields.{Passed}
 use Rattle.dcm_build.proofs.line.parenthesis_end.Given as goal
 

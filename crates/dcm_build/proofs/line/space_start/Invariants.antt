@@ -1,5 +1,5 @@
 use Rattle.std.proofs.Common.{drop}
-use Rattle.dcm_base.specs.Line.{up_to_space}
+use Rattle.dcm_base.specs.Lines.Line.{up_to_space}
 use Rattle.dcm_build.proofs.Lines.Fields.{Passed}
 use Rattle.dcm_build.proofs.line.space_start.Given as goal
 

@@ -1,5 +1,5 @@
 use Rattle.std.proofs.Common.{◌≡◌, length}
-use Rattle.dcm_base.specs.Line.{without_spaces as left}
+use Rattle.dcm_base.specs.Lines.Line.{without_spaces as left}
 use Rattle.dcm_build.proofs.line.without_spaces.Given as goal
 
 -- only spaces were passed

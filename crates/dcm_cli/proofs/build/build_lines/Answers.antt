@@ -29,8 +29,8 @@ loop-size-init g c =
       size = refl;
     }
 
-pub returns-in-Ok-None-clause-worked : goal.returns-in-Ok-None-clause-worked
-returns-in-Ok-None-clause-worked g c =
+pub returns-in-Ok-None : goal.returns-in-Ok-None
+returns-in-Ok-None g c =
     let loop = c.loop-size in
     let front = loop.invariant.front in
     let worked : (rest : List ℕ) → rest ≡ [] → Worked (build_job c.args.limit) (front ++ rest) (Some rest) (g.W.DeviceOut.contents c.args.out.now) (g.W.DeviceOut.contents c.end.new.out) c.ending_of.result = λ rest none.
@@ -46,10 +46,12 @@ returns-in-Ok-None-clause-worked g c =
           (rw c.in-Ok-None.field-0-is at c.in-Ok-None.ensures.bytes) (rw c.in-Ok-None.field-0-is at c.in-Ok-None.ensures.call) c.in-Ok-None.ensures.failed;
       worked = worked;
       decided = decided_at_end (build_job c.args.limit) front to_end c.ending_of.result (g.W.DeviceOut.contents c.args.out.now) (g.W.DeviceOut.contents c.end.new.out) refl (worked [] refl);
+      unread = search rules;
+      failed = search rules;
     }
 
-pub returns-in-Err-clause-worked : goal.returns-in-Err-clause-worked
-returns-in-Err-clause-worked g c =
+pub returns-in-Err : goal.returns-in-Err
+returns-in-Err g c =
     let loop = c.loop-size in
     let front = loop.invariant.front in
     let going = (going_is loop.builder.state.told loop.builder.failed loop.invariant.going).1 in
@@ -62,10 +64,12 @@ returns-in-Err-clause-worked g c =
           subst (λ (n : ℕ). Worked (build_job c.args.limit) (front ++ rest) (Some rest) (g.W.DeviceOut.contents c.args.out.now) (g.W.DeviceOut.contents loop.out) (Unread n)) (sym (c.in-Err.ensures.count ∙ loop.invariant.count))
           (built_unread c.args.limit (front ++ rest) front (Some rest) (g.W.DeviceOut.contents c.args.out.now) loop.builder.state (g.W.DeviceOut.contents loop.out) loop.invariant.state loop.invariant.out rest going refl refl);
       decided = decided_unread (build_job c.args.limit) front with_failure (Unread c.next_piece.new.read) c.next_piece.new.read refl;
+      unread = search rules;
+      failed = search rules;
     }
 
-pub returns-in-Err-feed-clause-worked : goal.returns-in-Err-feed-clause-worked
-returns-in-Err-feed-clause-worked g c =
+pub returns-in-Err-feed : goal.returns-in-Err-feed
+returns-in-Err-feed g c =
     let loop = c.loop-size in
     let front = loop.invariant.front in
     let piece : List ℕ = take c.in-Ok-Some.size c.next_piece.new.buffer in
@@ -79,10 +83,12 @@ returns-in-Err-feed-clause-worked g c =
       worked = λ rest ok.
           subst (λ (ending : Ending). Worked (build_job c.args.limit) ((front ++ piece) ++ rest) (Some rest) (g.W.DeviceOut.contents c.args.out.now) (g.W.DeviceOut.contents c.feed.new.out) ending) (sym c.ending_of-in-Err-feed.ensures)
           (built_halted c.args.limit (g.W.DeviceOut.contents c.args.out.now) loop.builder.state (g.W.DeviceOut.contents loop.out) c.feed.new.self (g.W.DeviceOut.contents c.feed.new.out) front piece
-          loop.invariant.state loop.invariant.out (c.in-Err-feed.ensures.goes going.0) ((front ++ piece) ++ rest) rest (Some rest) c.in-Err-feed.halt refl c.in-Err-feed.ensures.answer);
+          loop.invariant.state loop.invariant.out (c.in-Err-feed.ensures.went.goes going.0) ((front ++ piece) ++ rest) rest (Some rest) c.in-Err-feed.halt refl c.in-Err-feed.ensures.answer);
       decided = subst (IsDecided (build_job c.args.limit) (front ++ piece) in_part) (sym c.ending_of-in-Err-feed.ensures)
           (built_decided c.args.limit (g.W.DeviceOut.contents c.args.out.now) loop.builder.state (g.W.DeviceOut.contents loop.out) c.feed.new.self (g.W.DeviceOut.contents c.feed.new.out) front piece
-          loop.invariant.state loop.invariant.out (c.in-Err-feed.ensures.goes going.0) c.in-Err-feed.halt c.in-Err-feed.ensures.answer);
+          loop.invariant.state loop.invariant.out (c.in-Err-feed.ensures.went.goes going.0) c.in-Err-feed.halt c.in-Err-feed.ensures.answer);
+      unread = search rules;
+      failed = search rules;
     }
 
 pub loop-size-preserved : goal.loop-size-preserved
@@ -94,7 +100,7 @@ loop-size-preserved g c =
     let long = length-take-le c.in-Ok-Some.size c.next_piece.new.buffer came.1 in
     let going = c.in_default.ensures.going in
     let on = built_on c.args.limit (g.W.DeviceOut.contents c.args.out.now) loop.builder.state (g.W.DeviceOut.contents loop.out) c.feed.new.self (g.W.DeviceOut.contents c.feed.new.out) loop.invariant.front piece
-    loop.invariant.state loop.invariant.out (c.in_default.ensures.goes (going_is loop.builder.state.told loop.builder.failed loop.invariant.going).0) going
+    loop.invariant.state loop.invariant.out (c.in_default.ensures.went.goes (going_is loop.builder.state.told loop.builder.failed loop.invariant.going).0) going
     in
     let place = c.in_default.ensures.place going in
     let failed = (going_is c.feed.new.self.state.told c.feed.new.self.failed going).0 in
@@ -109,6 +115,6 @@ loop-size-preserved g c =
       place = omega (arith, place, long, counted, loop.invariant.place);
       within = let most = c.in_default.ensures.within going (omega (arith, loop.invariant.place, loop.invariant.within)) in omega (arith, most, place, long, counted, loop.invariant.place);
       unread = c.in-Ok-Some.ensures.failed ∙ loop.invariant.unread;
-      unwritten = not_unwritten c.feed.new.self.failed _ _ failed (c.in_default.ensures.failed loop.invariant.going) ∙ loop.invariant.unwritten;
+      unwritten = not_unwritten c.feed.new.self.failed _ _ failed (c.in_default.ensures.went.failed loop.invariant.going) ∙ loop.invariant.unwritten;
       size = c.next_piece.ensures.kept ∙ loop.invariant.size;
     }

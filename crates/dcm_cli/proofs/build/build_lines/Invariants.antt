@@ -2,7 +2,7 @@ use Rattle.std.proofs.Common.{◌≡◌, ◌≤◌, ℕ, List, length, ◌-◌, 
 use Rattle.std.specs.Prelude.{fold}
 use Rattle.dcm_devices.specs.Device.{Gave}
 use Rattle.std.specs.Io.KnownBytes.{append_known, prepend_known}
-use Rattle.dcm_base.specs.Steps.{outputs}
+use Rattle.dcm_base.specs.Steps.Steps.{outputs}
 use Rattle.dcm_build.specs.Builder.{is_halted}
 use Rattle.dcm_build.specs.Building.{build_start, build_step, build_writes, read_size}
 use Rattle.dcm_cli.proofs.build.build_lines.Given as goal

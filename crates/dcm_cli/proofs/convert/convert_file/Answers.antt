@@ -1,8 +1,8 @@
 use Rattle.std.proofs.Common.{◌∷◌, ap, sym, subst, ℕ, List, [], ◌++◌, append_assoc, Option, Some, refl, rules}
 use Rattle.dcm_words.specs.Words.{Job, convert}
 use Rattle.dcm_stream.specs.Reading.{start_of}
-use Rattle.dcm_tools.specs.EncodeSink.{EncodeState, encode_bar, encode_step, encode_writes, encode_start}
-use Rattle.dcm_tools.specs.Encoder.{state as encoder_state}
+use Rattle.dcm_sinks.specs.EncodeSink.{EncodeState, encode_bar, encode_step, encode_writes, encode_start}
+use Rattle.dcm_sinks.specs.Encoder.{state as encoder_state}
 use Rattle.dcm_cli.specs.InputCalls.{Allows, Reader, IsUndecided}
 use Rattle.dcm_cli.specs.Pass as spec
 use Rattle.dcm_cli.specs.Run.{Worked}
@@ -13,8 +13,8 @@ use Rattle.dcm_cli.proofs.Passes.Readers.{members, allows_any, allows_nothing, n
 use Rattle.dcm_cli.proofs.Runs.Stopping.{head_reads, head_undecided, began_gave, opened_undecided}
 use Rattle.dcm_cli.proofs.convert.convert_file.Goals as goal
 
-pub returns-in-Err-clause-worked : goal.returns-in-Err-clause-worked
-returns-in-Err-clause-worked g c =
+pub returns-in-Err : goal.returns-in-Err
+returns-in-Err g c =
     let job : Job = convert c.args.dictionary c.args.target in
     let x = c.in-Err.ensures.opens in
     record {
@@ -25,10 +25,12 @@ returns-in-Err-clause-worked g c =
           not_opened c.args.target job refl (λ coding. refl) (file_encoder c.args.dictionary c.args.target) (λ coding m. refl) x.read rest x.how ok
           (g.W.DeviceOut.contents c.args.out.now) (g.W.DeviceOut.contents c.open_file.new.out) c.in-Err.ending x.opens;
       decided = not_opened_decided c.args.target job refl (λ coding. refl) x.read x.how (g.W.DeviceOut.contents c.args.out.now) (g.W.DeviceOut.contents c.open_file.new.out) c.in-Err.ending x.opens;
+      unread = search rules;
+      failed = search rules;
     }
 
-pub returns-clause-worked : goal.returns-clause-worked
-returns-clause-worked g c =
+pub returns : goal.returns
+returns g c =
     let reader : Reader g.row.R.Denot = (members g.R.Device g.R.DeviceIn) in
     let job : Job = convert c.args.dictionary c.args.target in
     let x = c.in-Ok.ensures.opens in
@@ -70,4 +72,6 @@ returns-clause-worked g c =
       decided = decided_by job (x.read ++ set.more) j.how c.read_set.result held holds (worked [] (allows_nothing j.how)) (λ one.
           set_decided job refl opened.coding x.opens.keeps (file_encoder c.args.dictionary c.args.target opened.coding) x.read set.more x.how j.how buffer x.opens.reading opened.beginning opened.start x.opens.head (λ rest ok. (j.allows rest ok).0) mid last holds c.read_set.result c.read_set.result (λ y no is. is) one
           (set.ends (0 ∷ []) (j.allows (0 ∷ []) one).1 (λ over. ends_empty set.more (0 ∷ []) (nothing_follows x.how (set.more ++ 0 ∷ []) (j.allows (0 ∷ []) one).0 (x.opens.head.begins.over over)))));
+      unread = search rules;
+      failed = search rules;
     }

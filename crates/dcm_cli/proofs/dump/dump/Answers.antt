@@ -5,12 +5,12 @@ use Rattle.dcm_cli.specs.Calls.{Works}
 use Rattle.dcm_cli.proofs.Passes.Readers.{members, writer}
 use Rattle.dcm_cli.proofs.dump.dump.Goals as goal
 
-pub returns-in-None-clause-worked : goal.returns-in-None-clause-worked
-returns-in-None-clause-worked g c =
+pub returns-in-None : goal.returns-in-None
+returns-in-None g c =
     subst (λ (bare : Option Syntax). Works (members g.R.Device g.R.DeviceIn) (writer g.W.Device g.W.DeviceOut) (dump c.args.dump.dictionary c.args.dump.mode bare) c.args.input.now c.dump_file.new.input c.args.out.now c.dump_file.new.out c.dump_file.result)
-    (sym c.in-None.is) c.dump_file.ensures.worked
+    (sym c.in-None.is) c.dump_file.ensures
 
-pub returns-in-Some-clause-worked : goal.returns-in-Some-clause-worked
-returns-in-Some-clause-worked g c =
+pub returns-in-Some : goal.returns-in-Some
+returns-in-Some g c =
     subst (λ (bare : Option Syntax). Works (members g.R.Device g.R.DeviceIn) (writer g.W.Device g.W.DeviceOut) (dump c.args.dump.dictionary c.args.dump.mode bare) c.args.input.now c.dump_set.new.input c.args.out.now c.dump_set.new.out c.dump_set.result)
-    (sym c.in-Some.is) c.dump_set.ensures.worked
+    (sym c.in-Some.is) c.dump_set.ensures

@@ -1,17 +1,17 @@
 use Rattle.std.proofs.Common.{◌∷◌, ◌≡◌, ◌∙◌, ap, sym, subst, ℕ, List, ◌++◌, [], append_assoc, Option, Some, None, refl, rules}
 use Rattle.std.specs.Prelude.{fold}
 use Rattle.std.specs.Io.KnownBytes.{append_known}
-use Rattle.dcm_base.specs.Syntax.{Little}
+use Rattle.dcm_base.specs.Tables.Syntax.{Little}
 use Rattle.dcm_devices.specs.Device.{AppendsFront}
-use Rattle.dcm_base.specs.Header.{set_header, meta_header}
-use Rattle.dcm_base.specs.Spelling.{Spells}
+use Rattle.dcm_base.specs.Dump.Header.{set_header, meta_header}
+use Rattle.dcm_base.specs.Bytes.Spelling.{Spells}
 use Rattle.dcm_words.specs.Words.{Job, dump}
 use Rattle.dcm_head.specs.MetaReading.{uid_of}
 use Rattle.dcm_stream.specs.Machine.{steps}
 use Rattle.dcm_stream.specs.Reading.{start_of}
-use Rattle.dcm_tools.specs.DumpSink.{DumpState, dump_start, dump_step, dump_writes, bars_nothing}
+use Rattle.dcm_sinks.specs.DumpSink.{DumpState, dump_start, dump_step, dump_writes, bars_nothing}
 use Rattle.dcm_cli.specs.declared.ending.Ending.{Ending}
-use Rattle.dcm_tools.specs.Lines.{state as lines_state}
+use Rattle.dcm_sinks.specs.Lines.{state as lines_state}
 use Rattle.dcm_cli.specs.InputCalls.{Allows, Reader, in_part, IsUndecided}
 use Rattle.dcm_cli.specs.Opening.{HeadRead}
 use Rattle.dcm_cli.specs.Pass as spec
@@ -25,9 +25,9 @@ use Rattle.dcm_cli.proofs.Passes.Readers.{members, allows_any, allows_nothing, n
 use Rattle.dcm_cli.proofs.Runs.Stopping.{head_reads, head_undecided, began_gave, set_undecided}
 use Rattle.dcm_cli.proofs.dump.dump_file.Goals as goal
 
-pub returns-in-Err-clause-worked : goal.returns-in-Err-clause-worked
-returns-in-Err-clause-worked g c =
-    let head = c.in-Err.ensures.read in
+pub returns-in-Err : goal.returns-in-Err
+returns-in-Err g c =
+    let head = c.in-Err.ensures in
     let job : Job = dump c.args.dictionary c.args.mode None in
     record {
       given = head.read;
@@ -37,11 +37,13 @@ returns-in-Err-clause-worked g c =
           subst (λ (x : Ending). Worked job (head.read ++ rest) (Some rest) (g.W.DeviceOut.contents c.args.out.now) (g.W.DeviceOut.contents c.args.out.now) x) (sym c.ending_of_head.ensures)
           (file_unopened job refl (g.W.DeviceOut.contents c.args.out.now) c.read_head_of.new.meta head.read rest head.how c.in-Err.ending ok head.outcome);
       decided = subst (IsDecided job head.read head.how) (sym c.ending_of_head.ensures) (unopened_decided job refl c.read_head_of.new.meta head.read head.how c.in-Err.ending head.outcome);
+      unread = search rules;
+      failed = search rules;
     }
 
-pub returns-then-is_err-clause-worked : goal.returns-then-is_err-clause-worked
-returns-then-is_err-clause-worked g c =
-    let head = c.in-Ok.ensures.read in
+pub returns-then-is_err : goal.returns-then-is_err
+returns-then-is_err g c =
+    let head = c.in-Ok.ensures in
     let job : Job = dump c.args.dictionary c.args.mode None in
     let r = c.read_head_of.new.meta in
     record {
@@ -50,19 +52,21 @@ returns-then-is_err-clause-worked g c =
       reads = head_reads (members g.R.Device g.R.DeviceIn) job refl _ _ head.read head.how head.reads;
       worked = λ rest ok.
           let o = file_opened c.args.dictionary r c.in-Ok.beginning c.read_head_of.new.buffer head.how head.read rest ok head.outcome in
-          let went = c.dump_header_by.ensures.bytes o.m.elements (subst (Spells Little o.m.elements) (sym o.group_is) o.spelled) o.meta in
+          let went = c.dump_header_with.ensures.bytes o.m.elements (subst (Spells Little o.m.elements) (sym o.group_is) o.spelled) o.meta in
           let header : List ℕ → List ℕ = λ uid. meta_header c.args.dictionary c.args.mode o.m.elements ++ set_header uid in
-          file_unheaded job refl (head.read ++ rest) (Some rest) (g.W.DeviceOut.contents c.args.out.now) r o refl (file_dumper c.args.dictionary c.args.mode o.coding) (g.W.DeviceOut.contents c.dump_header_by.new.out)
-          (subst (λ uid. AppendsFront (g.W.DeviceOut.contents c.args.out.now) (g.W.DeviceOut.contents c.dump_header_by.new.out) (header uid)) o.uid_is
-          (put_failed _ _ (header (uid_of r)) c.dump_header_by.result (sym c.if-is_err.ensures.value) went));
+          file_unheaded job refl (head.read ++ rest) (Some rest) (g.W.DeviceOut.contents c.args.out.now) r o refl (file_dumper c.args.dictionary c.args.mode o.coding) (g.W.DeviceOut.contents c.dump_header_with.new.out)
+          (subst (λ uid. AppendsFront (g.W.DeviceOut.contents c.args.out.now) (g.W.DeviceOut.contents c.dump_header_with.new.out) (header uid)) o.uid_is
+          (put_failed _ _ (header (uid_of r)) c.dump_header_with.result (sym c.if-is_err.ensures.value) went));
       decided = decided_output job head.read head.how Output refl;
+      unread = search rules;
+      failed = search rules;
     }
 
-pub returns-clause-worked : goal.returns-clause-worked
-returns-clause-worked g c =
+pub returns : goal.returns
+returns g c =
     let reader : Reader g.row.R.Denot = members g.R.Device g.R.DeviceIn in
     let job : Job = dump c.args.dictionary c.args.mode None in
-    let head = c.in-Ok.ensures.read in
+    let head = c.in-Ok.ensures in
     let r = c.read_head_of.new.meta in
     let b = c.in-Ok.beginning in
     let buffer = c.read_head_of.new.buffer in
@@ -71,13 +75,13 @@ returns-clause-worked g c =
     let first : DumpState = dump_start c.args.dictionary c.args.mode in
     let last : DumpState = lines_state c.read_set.new.sink.lines in
     let held = g.W.DeviceOut.contents c.args.out.now in
-    let mid = g.W.DeviceOut.contents c.by-sink.result.out.now in
+    let mid = g.W.DeviceOut.contents c.with_dictionary-sink.result.out.now in
     let holds = g.W.DeviceOut.contents c.read_set.new.sink.out.now in
     let h : HeadRead c.args.dictionary head.read head.how buffer r b coding start =
     record { begins = head.outcome; named = c.coding.result; end_is = c.coding.ensures; coding_is = c.read_by.ensures; start_is = c.set_start-start.ensures.place }
     in
     let set = subst (λ s. spec.ReadsSet bars_nothing dump_step dump_writes reader c.read_head_of.new.input c.read_set.new.input b.is_over (spec.set_bytes b buffer) (start_of coding.syntax start) s mid last holds c.read_set.result)
-    c.by-sink.ensures.state c.read_set.ensures.ends
+    c.with_dictionary-sink.ensures.state c.read_set.ensures.ends
     in
     let Going : List ℕ → Type 0 = spec.SetGoesOn bars_nothing dump_step b.is_over (spec.set_bytes b buffer) (start_of coding.syntax start) first in
     let undecided : (more : List ℕ) → head.how ≡ in_part → Going more → IsUndecided job (head.read ++ more) = λ more is going.
@@ -93,10 +97,10 @@ returns-clause-worked g c =
     let file : List ℕ = head.read ++ (set.more ++ rest) in
     let o = head_opened c.args.dictionary head.read (set.more ++ rest) head.how a.0 buffer r b coding start h in
     let header : List ℕ → List ℕ = λ uid. meta_header c.args.dictionary c.args.mode o.m.elements ++ set_header uid in
-    let went = c.dump_header_by.ensures.bytes o.m.elements (subst (Spells Little o.m.elements) (sym o.group_is) o.spelled) o.meta in
+    let went = c.dump_header_with.ensures.bytes o.m.elements (subst (Spells Little o.m.elements) (sym o.group_is) o.spelled) o.meta in
     let mid_is : mid ≡ append_known held (header o.m.uid) =
-    ap (λ (x : g.row.W.Denot). g.W.DeviceOut.contents x) c.by-sink.ensures.out
-    ∙ put_whole _ _ (header (uid_of r)) c.dump_header_by.result (sym c.if-is_err.ensures.value) went
+    ap (λ (x : g.row.W.Denot). g.W.DeviceOut.contents x) c.with_dictionary-sink.ensures.out
+    ∙ put_whole _ _ (header (uid_of r)) c.dump_header_with.result (sym c.if-is_err.ensures.value) went
     ∙ ap (λ (uid : List ℕ). append_known held (header uid)) o.uid_is
     in
     let ends = subst (λ (n : ℕ). spec.Ends bars_nothing dump_step dump_writes (start_of coding.syntax n) first mid (Some rest) last holds (spec.set_bytes b buffer ++ set.more) c.read_set.result) (h.start_is ∙ o.place_is)
@@ -108,7 +112,7 @@ returns-clause-worked g c =
     subst (λ (bytes : List ℕ). Worked job bytes (Some rest) held holds c.read_set.result) (sym (append_assoc head.read set.more rest)) f
     in
     let k = c.read_set.ensures.kept in
-    let n = c.by-sink.ensures.same_reference in
+    let n = c.with_dictionary-sink.ensures.same_reference in
     record {
       given = head.read ++ set.more;
       how = j.how;
@@ -118,4 +122,6 @@ returns-clause-worked g c =
       decided = decided_by job (head.read ++ set.more) j.how c.read_set.result held holds (worked [] (allows_nothing j.how)) (λ one.
           set_decided job refl coding refl (file_dumper c.args.dictionary c.args.mode coding) head.read set.more head.how j.how buffer r b start h (λ rest ok. (j.allows rest ok).0) mid last holds c.read_set.result c.read_set.result (λ x no is. is) one
           (set.ends (0 ∷ []) (j.allows (0 ∷ []) one).1 (λ over. ends_empty set.more (0 ∷ []) (nothing_follows head.how (set.more ++ 0 ∷ []) (j.allows (0 ∷ []) one).0 (head.outcome.over over)))));
+      unread = search rules;
+      failed = search rules;
     }

@@ -1,17 +1,17 @@
 use Rattle.std.proofs.Common.{◌∷◌, ◌≡◌, refl, ◌∙◌, ap, sym, subst, ℕ, List, [], ◌++◌, Option, Some, rules, true, false}
 use Rattle.std.specs.Io.KnownBytes.{append_known}
-use Rattle.dcm_base.specs.Header.{set_header}
+use Rattle.dcm_base.specs.Dump.Header.{set_header}
 use Rattle.dcm_devices.specs.Device.{AppendsFront}
 use Rattle.dcm_stream.specs.Machine.{Progress}
 use Rattle.dcm_stream.specs.Reading.{Reading, start_of}
-use Rattle.dcm_tools.specs.DumpSink.{DumpState, dump_start, dump_step, dump_writes, bars_nothing}
-use Rattle.dcm_tools.specs.Lines.{state as lines_state}
+use Rattle.dcm_sinks.specs.DumpSink.{DumpState, dump_start, dump_step, dump_writes, bars_nothing}
+use Rattle.dcm_sinks.specs.Lines.{state as lines_state}
 use Rattle.dcm_cli.specs.Pass as spec
 use Rattle.dcm_words.specs.Words.{Job, dump}
 use Rattle.dcm_base.specs.declared.syntax.Syntax.{Syntax}
 use Rattle.dcm_base.specs.declared.syntax.Syntax.TheVariants.{Implicit as implicit_in, Little as little_in, Big as big_in}
-use Rattle.dcm_base.specs.Syntax.{read_by}
-use Rattle.dcm_base.specs.declared.lookup.Dictionary.{Dictionary}
+use Rattle.dcm_base.specs.Tables.Syntax.{read_by}
+use Rattle.dcm_base.specs.declared.dictionary.Dictionary.{Dictionary}
 use Rattle.dcm_cli.specs.Answer.{uid_of_syntax}
 use Rattle.dcm_cli.specs.InputCalls.{Allows, Reader, in_part, IsUndecided}
 use Rattle.dcm_cli.specs.declared.ending.Ending.TheVariants.{Output}
@@ -28,8 +28,8 @@ uid_alike d (implicit_in e) = refl
 uid_alike d (little_in e) = refl
 uid_alike d (big_in e) = refl
 
-pub returns-then-is_err-clause-worked : goal.returns-then-is_err-clause-worked
-returns-then-is_err-clause-worked g c =
+pub returns-then-is_err : goal.returns-then-is_err
+returns-then-is_err g c =
     let job : Job = dump c.args.dictionary c.args.mode (Some c.args.syntax) in
     record {
       given = [];
@@ -40,22 +40,24 @@ returns-then-is_err-clause-worked g c =
           (subst (λ uid. AppendsFront (g.W.DeviceOut.contents c.args.out.now) (g.W.DeviceOut.contents c.set_header.new.out) (set_header uid)) (c.uid_of_syntax.ensures.value ∙ uid_alike c.args.dictionary c.args.syntax)
           (put_failed _ _ (set_header c.uid_of_syntax.result.now) c.set_header.result (sym c.if-is_err.ensures.value) c.set_header.ensures.bytes));
       decided = decided_output job [] in_part Output refl;
+      unread = search rules;
+      failed = search rules;
     }
 
-pub returns-clause-worked : goal.returns-clause-worked
-returns-clause-worked g c =
+pub returns : goal.returns
+returns g c =
     let reader : Reader g.row.R.Denot = members g.R.Device g.R.DeviceIn in
     let job : Job = dump c.args.dictionary c.args.mode (Some c.args.syntax) in
     let went = put_whole _ _ (set_header c.uid_of_syntax.result.now) c.set_header.result (sym c.if-is_err.ensures.value) c.set_header.ensures.bytes ∙ ap (λ uid. append_known (g.W.DeviceOut.contents c.args.out.now) (set_header uid)) (c.uid_of_syntax.ensures.value ∙ uid_alike c.args.dictionary c.args.syntax) in
-    let mid = ap (λ (x : g.row.W.Denot). g.W.DeviceOut.contents x) c.by-sink.ensures.out ∙ went in
+    let mid = ap (λ (x : g.row.W.Denot). g.W.DeviceOut.contents x) c.with_dictionary-sink.ensures.out ∙ went in
     let first = ap (λ (p : Progress). p.reading) c.new-machine.ensures ∙ ap (λ (s : Syntax). start_of s 0) c.read_by.ensures in
     let begun : DumpState = dump_start c.args.dictionary c.args.mode in
     let begins : Reading = start_of (read_by c.args.dictionary c.args.syntax) 0 in
     let last : DumpState = lines_state c.read_rest.new.sink.lines in
-    let held = g.W.DeviceOut.contents c.by-sink.result.out.now in
+    let held = g.W.DeviceOut.contents c.with_dictionary-sink.result.out.now in
     let holds = g.W.DeviceOut.contents c.read_rest.new.sink.out.now in
     let set = subst (λ (r : Reading). spec.ReadsSet bars_nothing dump_step dump_writes reader c.args.input.now c.read_rest.new.input false [] r begun held last holds c.read_rest.result) first
-    (subst (λ (s : DumpState). spec.ReadsSet bars_nothing dump_step dump_writes reader c.args.input.now c.read_rest.new.input false [] c.new-machine.result.reading s held last holds c.read_rest.result) c.by-sink.ensures.state
+    (subst (λ (s : DumpState). spec.ReadsSet bars_nothing dump_step dump_writes reader c.args.input.now c.read_rest.new.input false [] c.new-machine.result.reading s held last holds c.read_rest.result) c.with_dictionary-sink.ensures.state
     c.read_rest.ensures.reads)
     in
     let Going : List ℕ → Type 0 = spec.SetGoesOn bars_nothing dump_step false [] begins begun in
@@ -64,7 +66,7 @@ returns-clause-worked g c =
     (set.ends rest ok (λ over. absurd (let no : false ≡ true = over in cc)))
     in
     let k = c.read_rest.ensures.kept in
-    let n = c.by-sink.ensures.same_reference in
+    let n = c.with_dictionary-sink.ensures.same_reference in
     record {
       given = set.more;
       how = set.how;
@@ -74,4 +76,6 @@ returns-clause-worked g c =
       decided = decided_by job set.more set.how c.read_rest.result (g.W.DeviceOut.contents c.args.out.now) holds (worked [] (allows_nothing set.how)) (λ one.
           alone_decided c.args.dictionary c.args.mode c.args.syntax set.more set.how held last holds c.read_rest.result
           (set.ends (0 ∷ []) one (λ over. absurd (let no : false ≡ true = over in cc))));
+      unread = search rules;
+      failed = search rules;
     }

@@ -1,4 +1,4 @@
-use Rattle.std.proofs.Common.{◌≡◌, ◌∙◌, ℕ, List, ◌++◌, ap, sym, subst, refl, take, length, length-append, arith, [], None, inl}
+use Rattle.std.proofs.Common.{rules, ◌≡◌, ◌∙◌, ℕ, List, ◌++◌, ap, sym, subst, refl, take, length, length-append, arith, [], None, inl}
 use Rattle.std.proofs.lemmas.List.{length-take-le}
 use Rattle.dcm_devices.specs.Device.{no_calls}
 use Rattle.dcm_head.specs.MetaReading.{Reading}
@@ -60,8 +60,8 @@ loop-size-preserved g c =
       size = c.next_piece.ensures.kept ∙ loop.invariant.size;
     }
 
-pub returns-in-Ok-None-clause-read : goal.returns-in-Ok-None-clause-read
-returns-in-Ok-None-clause-read g c =
+pub returns-in-Ok-None : goal.returns-in-Ok-None
+returns-in-Ok-None g c =
     let loop = c.loop-size in
     let front = loop.invariant.front in
     record {
@@ -72,10 +72,13 @@ returns-in-Ok-None-clause-read g c =
           (rw c.in-Ok-None.field-0-is at c.in-Ok-None.ensures.bytes) (rw c.in-Ok-None.field-0-is at c.in-Ok-None.ensures.call) c.in-Ok-None.ensures.failed;
       outcome = finished_head c.finish_head.new.meta loop.meta front c.next_piece.new.buffer c.next_piece.new.read c.finish_head.result loop.invariant.reading loop.invariant.going loop.invariant.bytes c.finish_head.ensures.state
           (rw c.in-Ok-None.field-0-is at c.in-Ok-None.ensures.count ∙ loop.invariant.count) c.finish_head.ensures.answer;
+      within = search rules;
+      failed = search rules;
+      kept = search rules;
     }
 
-pub returns-in-Err-clause-read : goal.returns-in-Err-clause-read
-returns-in-Err-clause-read g c =
+pub returns-in-Err : goal.returns-in-Err
+returns-in-Err g c =
     let loop = c.loop-size in
     let front = loop.invariant.front in
     record {
@@ -84,10 +87,13 @@ returns-in-Err-clause-read g c =
       reads = failed_read (members g.R.Device g.R.DeviceIn) HeadGoesOn _ loop.input c.next_piece.new.input front loop.invariant.calls loop.invariant.given loop.invariant.unread
           (going_on loop.meta front loop.invariant.reading loop.invariant.going) c.in-Err.ensures.bytes c.in-Err.ensures.call c.in-Err.ensures.failed;
       outcome = (loop.invariant.reading, loop.invariant.going, c.in-Err.ensures.count ∙ loop.invariant.count);
+      within = search rules;
+      failed = search rules;
+      kept = search rules;
     }
 
-pub returns-in-Refused-clause-read : goal.returns-in-Refused-clause-read
-returns-in-Refused-clause-read g c =
+pub returns-in-Refused : goal.returns-in-Refused
+returns-in-Refused g c =
     let loop = c.loop-size in
     let front = loop.invariant.front in
     let piece : List ℕ = take c.in-Ok-Some.size c.next_piece.new.buffer in
@@ -98,10 +104,13 @@ returns-in-Refused-clause-read g c =
           (going_on loop.meta front loop.invariant.reading loop.invariant.going) c.next_piece.new.buffer c.in-Ok-Some.size
           (rw c.in-Ok-Some.field-0-is at c.in-Ok-Some.ensures.bytes) (rw c.in-Ok-Some.field-0-is at c.in-Ok-Some.ensures.call) c.in-Ok-Some.ensures.failed;
       outcome = (c.in-Refused.ensures.answer, inl (read_on c.feed.new.self loop.meta front piece loop.invariant.reading c.feed.ensures.state));
+      within = search rules;
+      failed = search rules;
+      kept = search rules;
     }
 
-pub returns-in-Ended-clause-read : goal.returns-in-Ended-clause-read
-returns-in-Ended-clause-read g c =
+pub returns-in-Ended : goal.returns-in-Ended
+returns-in-Ended g c =
     let loop = c.loop-size in
     let front = loop.invariant.front in
     let piece : List ℕ = take c.in-Ok-Some.size c.next_piece.new.buffer in
@@ -120,4 +129,7 @@ returns-in-Ended-clause-read g c =
           (begins_in c.feed.new.self loop.meta front piece buffer c.in-Ok-Some.size c.in-Ended.used c.next_piece.new.read c.in-Ended.ahead in_part
           loop.invariant.reading loop.invariant.bytes c.feed.ensures.state said.0 said.1 refl long c.in-Ended.ensures.used
           (let whole = length-append front piece in omega (arith, whole, long, counted, loop.invariant.count)));
+      within = search rules;
+      failed = search rules;
+      kept = search rules;
     }

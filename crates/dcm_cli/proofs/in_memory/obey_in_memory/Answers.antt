@@ -3,7 +3,7 @@ use Rattle.dcm_devices.specs.declared.memory.MemOut.{MemOut}
 use Rattle.dcm_devices.specs.declared.memory.Measured.{Measured}
 use Rattle.dcm_words.specs.Plans.{takes_memory}
 use Rattle.dcm_words.specs.declared.usage.Usage.TheVariants.{Memory}
-use Rattle.dcm_cli.specs.InMemory.{Outcome, Leaves, refused}
+use Rattle.dcm_cli.specs.InMemory.{Leaves, refused}
 use Rattle.dcm_cli.proofs.Runs.ObeyingMemory.{obeys_left}
 use Rattle.dcm_cli.proofs.in_memory.obey_in_memory.Goals as goal
 

@@ -16,7 +16,7 @@ returns c = λ fine a answers enough.
     let errors : c.new-errors.result.out ≡ c.args.errors = ap (λ (m : Measured). m.out) c.new-errors.ensures ∙ c.new-2.ensures in
     let new_out : c.run-outcome.new.out.out ≡ c.into_inner.result = sym (c.into_inner.ensures ∙ ap (λ (m : Measured). m.out) c.into_device.ensures) in
     let new_errors : c.run-outcome.new.errors.out ≡ c.into_inner-2.result = sym (c.into_inner-2.ensures ∙ ap (λ (m : Measured). m.out) c.into_device-2.ensures) in
-    let run = c.run-outcome.ensures.ran in
+    let run = c.run-outcome.ensures in
     let here = known _ _ _ _ run.given run.how run.reads c.new-input.result.rest.now refl in
     let left = memory_left (job_of c.args.job.now) run.given here.0 run.how here.1 c.new-out.result.out c.run-outcome.new.out.out c.new-errors.result.out c.run-outcome.new.errors.out c.run-outcome.result.status
     (run.ran refl (ap (λ (m : MemOut). m.failed) out ∙ fine)) a

@@ -1,5 +1,5 @@
 use Rattle.std.proofs.Common.{refl}
-use Rattle.dcm_base.specs.declared.lookup.Dictionary.TheVariants.{Standard}
+use Rattle.dcm_base.specs.declared.dictionary.Dictionary.TheVariants.{Standard}
 use Rattle.dcm_cli.proofs.ReadBack.OtherReaders.{explicit_output_opens, own_output_opens, standard_output_opens}
 use Rattle.dcm_cli.proofs.laws.output_opens_alike.Goals as goal
 

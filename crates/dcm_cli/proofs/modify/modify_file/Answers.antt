@@ -1,10 +1,10 @@
 use Rattle.std.proofs.Common.{◌∷◌, ◌∙◌, ap, sym, subst, refl, ℕ, List, [], ◌++◌, append_assoc, Option, Some, None, rules}
 use Rattle.dcm_words.specs.Words.{Job, modify}
 use Rattle.dcm_stream.specs.Reading.{start_of}
-use Rattle.dcm_edit.specs.EditSink.{begun}
-use Rattle.dcm_edit.specs.Through.{through_step, through_writes, through_bar}
-use Rattle.dcm_tools.specs.EncodeSink.{EncodeState, encode_step, encode_writes, encode_start}
-use Rattle.dcm_tools.specs.Encoder.{state as encoder_state}
+use Rattle.dcm_editor.specs.EditSink.{begun}
+use Rattle.dcm_editor.specs.Through.{through_step, through_writes, through_bar}
+use Rattle.dcm_sinks.specs.EncodeSink.{EncodeState, encode_step, encode_writes, encode_start}
+use Rattle.dcm_sinks.specs.Encoder.{state as encoder_state}
 use Rattle.dcm_cli.specs.declared.ending.Ending.{Ending}
 use Rattle.dcm_cli.specs.EditPass.{not_found}
 use Rattle.dcm_cli.specs.InputCalls.{Allows, Reader, IsUndecided}
@@ -17,8 +17,8 @@ use Rattle.dcm_cli.proofs.Passes.Readers.{members, allows_any, allows_nothing, n
 use Rattle.dcm_cli.proofs.Runs.Stopping.{head_reads, head_undecided, began_gave, opened_undecided}
 use Rattle.dcm_cli.proofs.modify.modify_file.Goals as goal
 
-pub returns-in-Err-clause-worked : goal.returns-in-Err-clause-worked
-returns-in-Err-clause-worked g c =
+pub returns-in-Err : goal.returns-in-Err
+returns-in-Err g c =
     let job : Job = modify c.args.dictionary c.args.edits.now in
     let x = c.in-Err.ensures.opens in
     record {
@@ -28,10 +28,12 @@ returns-in-Err-clause-worked g c =
       worked = λ rest ok.
           edits_not_opened c.args.dictionary c.args.edits.now c.requires.meant x.read rest x.how ok (g.W.DeviceOut.contents c.args.out.now) (g.W.DeviceOut.contents c.open_file.new.out) c.in-Err.ending x.opens;
       decided = not_opened_decided None job refl (λ coding. refl) x.read x.how (g.W.DeviceOut.contents c.args.out.now) (g.W.DeviceOut.contents c.open_file.new.out) c.in-Err.ending x.opens;
+      unread = search rules;
+      failed = search rules;
     }
 
-pub returns-clause-worked : goal.returns-clause-worked
-returns-clause-worked g c =
+pub returns : goal.returns
+returns g c =
     let reader : Reader g.row.R.Denot = (members g.R.Device g.R.DeviceIn) in
     let job : Job = modify c.args.dictionary c.args.edits.now in
     let x = c.in-Ok.ensures.opens in
@@ -72,4 +74,6 @@ returns-clause-worked g c =
       decided = decided_by job (x.read ++ set.more) j.how c.read_edited.result held holds (worked [] (allows_nothing j.how)) (λ one.
           set_decided job refl opened.coding refl (file_editor c.args.dictionary c.args.edits.now c.requires.meant opened.coding) x.read set.more x.how j.how buffer x.opens.reading opened.beginning opened.start x.opens.head (λ rest ok. (j.allows rest ok).0) mid (pass.last, last) holds pass.passed c.read_edited.result (λ y no is. pass.ending_is ∙ ap (λ (e : Ending). spec.with_unplaced e (not_found pass.last.found)) is ∙ still_not_done y (not_found pass.last.found) no) one
           (set.ends (0 ∷ []) (j.allows (0 ∷ []) one).1 (λ over. ends_empty set.more (0 ∷ []) (nothing_follows x.how (set.more ++ 0 ∷ []) (j.allows (0 ∷ []) one).0 (x.opens.head.begins.over over)))));
+      unread = search rules;
+      failed = search rules;
     }

@@ -1,17 +1,17 @@
 use Rattle.std.proofs.Common.{◌≡◌, ◌∙◌, ap, subst, ℕ, List, Option, rules}
 use Rattle.dcm_stream.specs.Reading.{start_of}
-use Rattle.dcm_edit_words.specs.Edit.{Edit}
-use Rattle.dcm_edit.specs.EditSink.{State as EditState, begun}
-use Rattle.dcm_edit.specs.Editing as editing
-use Rattle.dcm_edit.specs.Masks as masks
-use Rattle.dcm_edit.specs.Through.{through_step, through_writes, through_bar}
+use Rattle.dcm_edits.specs.Edit.{Edit}
+use Rattle.dcm_editor.specs.EditSink.{State as EditState, begun}
+use Rattle.dcm_editor.specs.Editing as editing
+use Rattle.dcm_editor.specs.Masks as masks
+use Rattle.dcm_editor.specs.Through.{through_step, through_writes, through_bar}
 use Rattle.dcm_cli.specs.Pass as spec
 use Rattle.dcm_cli.proofs.Lines.FoundMasks.{not_found_by}
 use Rattle.dcm_cli.proofs.Passes.Readers.{members}
 use Rattle.dcm_cli.proofs.modify.read_edited.Goals as goal
 
-pub returns-clause-passes : goal.returns-clause-passes
-returns-clause-passes g c =
+pub returns : goal.returns
+returns g c =
     let last = c.read_set-ending.new.sink in
     let opened = c.args.opened in
     let state : EditState = masks.meant last.edits.now (editing.state last.editor) in
@@ -30,9 +30,14 @@ returns-clause-passes g c =
     let n = c.new-edited.ensures.same_reference in
     let mask = not_found_by last.edits.now last.editor.found c.unplaced.result c.unplaced.ensures.placed c.unplaced.ensures.few in
     record {
-      last = state;
-      passed = c.read_set-ending.result;
-      ends = subst (λ (x : g.row.S.Denot). Passed (first, g.S.Sink.state c.args.sink.now) (g.S.Sink.contents c.args.sink.now) x) (search (rules, k, n)) whole;
-      was = c.read_set-ending.ensures.over;
-      ending_is = c.with_unplaced.ensures ∙ ap (λ (m : ℕ). spec.with_unplaced c.read_set-ending.result m) mask;
+      passes = record {
+        last = state;
+        passed = c.read_set-ending.result;
+        ends = subst (λ (x : g.row.S.Denot). Passed (first, g.S.Sink.state c.args.sink.now) (g.S.Sink.contents c.args.sink.now) x) (search (rules, k, n)) whole;
+        was = c.read_set-ending.ensures.over;
+        ending_is = c.with_unplaced.ensures ∙ ap (λ (m : ℕ). spec.with_unplaced c.read_set-ending.result m) mask;
+      };
+      unread = search rules;
+      failed = search rules;
+      kept = search rules;
     }

@@ -22,8 +22,8 @@ loop-size-init g c =
       size = refl;
     }
 
-pub returns-in-Ok-None-clause-reads : goal.returns-in-Ok-None-clause-reads
-returns-in-Ok-None-clause-reads g c =
+pub returns-in-Ok-None : goal.returns-in-Ok-None
+returns-in-Ok-None g c =
     let loop = c.loop-size in
     let front = loop.invariant.front in
     let Needed : List ℕ → Type 0 = spec.SetGoesOn g.S.Sink.bar g.S.Sink.step false [] c.args.machine.now.reading (g.S.Sink.state c.args.sink.now) in
@@ -31,19 +31,24 @@ returns-in-Ok-None-clause-reads g c =
     loop.machine (g.S.Sink.state loop.sink) (g.S.Sink.contents loop.sink) (g.S.Sink.has_failed loop.sink) front loop.invariant.fed
     in
     record {
-      more = front;
-      how = to_end;
-      reads = end_read (members g.R.Device g.R.DeviceIn) Needed _ loop.input c.next_piece.new.input front loop.invariant.calls loop.invariant.given loop.invariant.unread (refl, going)
-          (rw c.in-Ok-None.field-0-is at c.in-Ok-None.ensures.bytes) (rw c.in-Ok-None.field-0-is at c.in-Ok-None.ensures.call) c.in-Ok-None.ensures.failed;
-      ends = λ rest over none. subst (λ ending. spec.Ends g.S.Sink.bar g.S.Sink.step g.S.Sink.writes c.args.machine.now.reading (g.S.Sink.state c.args.sink.now) (g.S.Sink.contents c.args.sink.now)
-          (Some rest) (g.S.Sink.state c.end.new.sink) (g.S.Sink.contents c.end.new.sink) front ending) (sym c.ending_of.ensures)
-          (ends_at_end g.S.Sink.bar g.S.Sink.step g.S.Sink.writes c.args.machine.now (g.S.Sink.state c.args.sink.now) (g.S.Sink.contents c.args.sink.now) (g.S.Sink.has_failed c.args.sink.now)
-          loop.machine (g.S.Sink.state loop.sink) (g.S.Sink.contents loop.sink) (g.S.Sink.has_failed loop.sink) front
-          (Some rest) (g.S.Sink.state c.end.new.sink) (g.S.Sink.contents c.end.new.sink) c.end.result over loop.invariant.fed c.end.ensures.ends);
+      reads = record {
+        more = front;
+        how = to_end;
+        reads = end_read (members g.R.Device g.R.DeviceIn) Needed _ loop.input c.next_piece.new.input front loop.invariant.calls loop.invariant.given loop.invariant.unread (refl, going)
+            (rw c.in-Ok-None.field-0-is at c.in-Ok-None.ensures.bytes) (rw c.in-Ok-None.field-0-is at c.in-Ok-None.ensures.call) c.in-Ok-None.ensures.failed;
+        ends = λ rest over none. subst (λ ending. spec.Ends g.S.Sink.bar g.S.Sink.step g.S.Sink.writes c.args.machine.now.reading (g.S.Sink.state c.args.sink.now) (g.S.Sink.contents c.args.sink.now)
+            (Some rest) (g.S.Sink.state c.end.new.sink) (g.S.Sink.contents c.end.new.sink) front ending) (sym c.ending_of.ensures)
+            (ends_at_end g.S.Sink.bar g.S.Sink.step g.S.Sink.writes c.args.machine.now (g.S.Sink.state c.args.sink.now) (g.S.Sink.contents c.args.sink.now) (g.S.Sink.has_failed c.args.sink.now)
+            loop.machine (g.S.Sink.state loop.sink) (g.S.Sink.contents loop.sink) (g.S.Sink.has_failed loop.sink) front
+            (Some rest) (g.S.Sink.state c.end.new.sink) (g.S.Sink.contents c.end.new.sink) c.end.result over loop.invariant.fed c.end.ensures.ends);
+      };
+      unread = search rules;
+      failed = search rules;
+      kept = search rules;
     }
 
-pub returns-in-Err-clause-reads : goal.returns-in-Err-clause-reads
-returns-in-Err-clause-reads g c =
+pub returns-in-Err : goal.returns-in-Err
+returns-in-Err g c =
     let loop = c.loop-size in
     let front = loop.invariant.front in
     let Needed : List ℕ → Type 0 = spec.SetGoesOn g.S.Sink.bar g.S.Sink.step false [] c.args.machine.now.reading (g.S.Sink.state c.args.sink.now) in
@@ -51,18 +56,23 @@ returns-in-Err-clause-reads g c =
     loop.machine (g.S.Sink.state loop.sink) (g.S.Sink.contents loop.sink) (g.S.Sink.has_failed loop.sink) front loop.invariant.fed
     in
     record {
-      more = front;
-      how = with_failure;
-      reads = failed_read (members g.R.Device g.R.DeviceIn) Needed _ loop.input c.next_piece.new.input front loop.invariant.calls loop.invariant.given loop.invariant.unread (refl, going)
-          c.in-Err.ensures.bytes c.in-Err.ensures.call c.in-Err.ensures.failed;
-      ends = λ rest ok none. subst (λ (n : ℕ). spec.Ends g.S.Sink.bar g.S.Sink.step g.S.Sink.writes c.args.machine.now.reading (g.S.Sink.state c.args.sink.now) (g.S.Sink.contents c.args.sink.now)
-          (Some rest) (g.S.Sink.state loop.sink) (g.S.Sink.contents loop.sink) front (Unread n)) (sym (c.in-Err.ensures.count ∙ loop.invariant.count))
-          (ends_unread g.S.Sink.bar g.S.Sink.step g.S.Sink.writes c.args.machine.now (g.S.Sink.state c.args.sink.now) (g.S.Sink.contents c.args.sink.now) (g.S.Sink.has_failed c.args.sink.now)
-          loop.machine (g.S.Sink.state loop.sink) (g.S.Sink.contents loop.sink) (g.S.Sink.has_failed loop.sink) front (Some rest) loop.invariant.fed);
+      reads = record {
+        more = front;
+        how = with_failure;
+        reads = failed_read (members g.R.Device g.R.DeviceIn) Needed _ loop.input c.next_piece.new.input front loop.invariant.calls loop.invariant.given loop.invariant.unread (refl, going)
+            c.in-Err.ensures.bytes c.in-Err.ensures.call c.in-Err.ensures.failed;
+        ends = λ rest ok none. subst (λ (n : ℕ). spec.Ends g.S.Sink.bar g.S.Sink.step g.S.Sink.writes c.args.machine.now.reading (g.S.Sink.state c.args.sink.now) (g.S.Sink.contents c.args.sink.now)
+            (Some rest) (g.S.Sink.state loop.sink) (g.S.Sink.contents loop.sink) front (Unread n)) (sym (c.in-Err.ensures.count ∙ loop.invariant.count))
+            (ends_unread g.S.Sink.bar g.S.Sink.step g.S.Sink.writes c.args.machine.now (g.S.Sink.state c.args.sink.now) (g.S.Sink.contents c.args.sink.now) (g.S.Sink.has_failed c.args.sink.now)
+            loop.machine (g.S.Sink.state loop.sink) (g.S.Sink.contents loop.sink) (g.S.Sink.has_failed loop.sink) front (Some rest) loop.invariant.fed);
+      };
+      unread = search rules;
+      failed = search rules;
+      kept = search rules;
     }
 
-pub returns-in-Err-feed-clause-reads : goal.returns-in-Err-feed-clause-reads
-returns-in-Err-feed-clause-reads g c =
+pub returns-in-Err-feed : goal.returns-in-Err-feed
+returns-in-Err-feed g c =
     let loop = c.loop-size in
     let front = loop.invariant.front in
     let Needed : List ℕ → Type 0 = spec.SetGoesOn g.S.Sink.bar g.S.Sink.step false [] c.args.machine.now.reading (g.S.Sink.state c.args.sink.now) in
@@ -71,20 +81,25 @@ returns-in-Err-feed-clause-reads g c =
     in
     let piece : List ℕ = take c.in-Ok-Some.size c.next_piece.new.buffer in
     record {
-      more = front ++ piece;
-      how = in_part;
-      reads = piece_read (members g.R.Device g.R.DeviceIn) Needed _ loop.input c.next_piece.new.input front loop.invariant.calls loop.invariant.given loop.invariant.unread (refl, going)
-          c.next_piece.new.buffer c.in-Ok-Some.size
-          (rw c.in-Ok-Some.field-0-is at c.in-Ok-Some.ensures.bytes) (rw c.in-Ok-Some.field-0-is at c.in-Ok-Some.ensures.call) c.in-Ok-Some.ensures.failed;
-      ends = λ rest ok none. subst (λ ending. spec.Ends g.S.Sink.bar g.S.Sink.step g.S.Sink.writes c.args.machine.now.reading (g.S.Sink.state c.args.sink.now) (g.S.Sink.contents c.args.sink.now)
-          (Some rest) (g.S.Sink.state c.feed.new.sink) (g.S.Sink.contents c.feed.new.sink) (front ++ piece) ending) (sym c.ending_of-in-Err-feed.ensures)
-          (ends_halted g.S.Sink.bar g.S.Sink.step g.S.Sink.writes c.args.machine.now (g.S.Sink.state c.args.sink.now) (g.S.Sink.contents c.args.sink.now) (g.S.Sink.has_failed c.args.sink.now)
-          c.feed.new.machine (g.S.Sink.state c.feed.new.sink) (g.S.Sink.contents c.feed.new.sink) (g.S.Sink.has_failed c.feed.new.sink) (front ++ piece)
-          (Some rest) c.in-Err-feed.halt
-          (fed_on g.S.Sink.bar g.S.Sink.step g.S.Sink.writes c.args.machine.now (g.S.Sink.state c.args.sink.now) (g.S.Sink.contents c.args.sink.now) (g.S.Sink.has_failed c.args.sink.now)
-          loop.machine (g.S.Sink.state loop.sink) (g.S.Sink.contents loop.sink) (g.S.Sink.has_failed loop.sink)
-          c.feed.new.machine (g.S.Sink.state c.feed.new.sink) (g.S.Sink.contents c.feed.new.sink) (g.S.Sink.has_failed c.feed.new.sink) front piece (Err c.in-Err-feed.halt)
-          loop.invariant.fed c.in-Err-feed.ensures.fed));
+      reads = record {
+        more = front ++ piece;
+        how = in_part;
+        reads = piece_read (members g.R.Device g.R.DeviceIn) Needed _ loop.input c.next_piece.new.input front loop.invariant.calls loop.invariant.given loop.invariant.unread (refl, going)
+            c.next_piece.new.buffer c.in-Ok-Some.size
+            (rw c.in-Ok-Some.field-0-is at c.in-Ok-Some.ensures.bytes) (rw c.in-Ok-Some.field-0-is at c.in-Ok-Some.ensures.call) c.in-Ok-Some.ensures.failed;
+        ends = λ rest ok none. subst (λ ending. spec.Ends g.S.Sink.bar g.S.Sink.step g.S.Sink.writes c.args.machine.now.reading (g.S.Sink.state c.args.sink.now) (g.S.Sink.contents c.args.sink.now)
+            (Some rest) (g.S.Sink.state c.feed.new.sink) (g.S.Sink.contents c.feed.new.sink) (front ++ piece) ending) (sym c.ending_of-in-Err-feed.ensures)
+            (ends_halted g.S.Sink.bar g.S.Sink.step g.S.Sink.writes c.args.machine.now (g.S.Sink.state c.args.sink.now) (g.S.Sink.contents c.args.sink.now) (g.S.Sink.has_failed c.args.sink.now)
+            c.feed.new.machine (g.S.Sink.state c.feed.new.sink) (g.S.Sink.contents c.feed.new.sink) (g.S.Sink.has_failed c.feed.new.sink) (front ++ piece)
+            (Some rest) c.in-Err-feed.halt
+            (fed_on g.S.Sink.bar g.S.Sink.step g.S.Sink.writes c.args.machine.now (g.S.Sink.state c.args.sink.now) (g.S.Sink.contents c.args.sink.now) (g.S.Sink.has_failed c.args.sink.now)
+            loop.machine (g.S.Sink.state loop.sink) (g.S.Sink.contents loop.sink) (g.S.Sink.has_failed loop.sink)
+            c.feed.new.machine (g.S.Sink.state c.feed.new.sink) (g.S.Sink.contents c.feed.new.sink) (g.S.Sink.has_failed c.feed.new.sink) front piece (Err c.in-Err-feed.halt)
+            loop.invariant.fed c.in-Err-feed.ensures.fed));
+      };
+      unread = search rules;
+      failed = search rules;
+      kept = search rules;
     }
 
 pub loop-size-preserved : goal.loop-size-preserved

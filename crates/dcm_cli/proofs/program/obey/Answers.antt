@@ -1,5 +1,4 @@
-use Rattle.std.proofs.Common.{◌∙◌, sym, subst, map, refl, rules, ◌≡◌, Option, None, Some}
-use Rattle.dcm_words.specs.Topics.{asked}
+use Rattle.std.proofs.Common.{◌∙◌, sym, subst, map, refl}
 use Rattle.dcm_words.specs.Words.{meant}
 use Rattle.dcm_words.specs.Plans.{planned as plan_of, Gives, GivesUnlessMemory}
 use Rattle.dcm_cli.specs.Program.{asks, worked}
@@ -19,7 +18,7 @@ returns-in-Ok-clause-obeys g c =
 pub returns-in-Err-clause-obeys : goal.returns-in-Err-clause-obeys
 returns-in-Err-clause-obeys g c =
     let words = map (λ w. w.now) c.args.words.now in
-    refuse _ _ words _ _ _ _ (sym c.asked.ensures ∙ none_of c.asked.result c.in_default.not-Some) c.in-Err.usage
+    refuse _ _ _ words _ _ _ _ (sym c.asked.ensures ∙ none_of c.asked.result c.in_default.not-Some) c.in-Err.usage
     (subst (λ r. GivesUnlessMemory r (meant words)) c.in-Err.is c.plan.ensures.meant)
     (λ other. subst (λ r. Gives r (meant words)) c.in-Err.is (c.plan.ensures.memory other))
     c.tell.ensures.line c.tell.ensures.status refl

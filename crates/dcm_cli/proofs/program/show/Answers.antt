@@ -1,5 +1,6 @@
-use Rattle.std.proofs.Common.{◌≡◌, ◌∙◌, sym, subst, refl, rules, Option, List, ℕ, Bool}
-use Rattle.dcm_cli.specs.Program.{no_stdout, shows, PutsText}
+use Rattle.std.proofs.Common.{subst, rules}
+use Rattle.dcm_cli.specs.Program.{no_stdout, shows}
+use Rattle.dcm_cli.proofs.Passes.Readers.{writer}
 use Rattle.dcm_cli.proofs.Runs.Texts.{over_output}
 use Rattle.dcm_cli.proofs.program.show.Goals as goal
 
@@ -13,5 +14,5 @@ pub returns-clause-shows : goal.returns-clause-shows
 returns-clause-shows g c =
     shows c.in-Ok.output c.put_text-status.new.out c.stdout.new.self
     (subst (λ r. g.S.System.may_do.stdout c.args.system.now r c.stdout.new.self) c.in-Ok.is c.stdout.ensures)
-    (over_output g.S.Output.DeviceOut.contents g.S.Output.DeviceOut.room g.S.Output.Device.has_failed g.S.Output.DeviceOut.is_flushed _ _ _ _ _ _ _ c.text.ensures c.new-out.ensures c.put_text-status.ensures.put)
+    (over_output (writer g.S.Output.Device g.S.Output.DeviceOut) _ _ _ _ _ _ _ c.text.ensures c.new-out.ensures c.put_text-status.ensures.put)
     (search rules)

@@ -14,14 +14,14 @@ pub returns-clause-works : goal.returns-clause-works
 returns-clause-works g c =
     has_run c.in-Ok.devices.0 c.in-Ok.devices.1 c.open_devices.new.system
     (subst (λ r. OpensDevices g.S.System.may_do c.args.planned.now.input.now c.args.planned.now.output.now c.args.system.now r c.open_devices.new.system) c.in-Ok.is c.open_devices.ensures)
-    (over _ _ _ _ c.new-input.result _ c.new-out.result _ _ _ _ c.new-input.ensures c.new-out.ensures (record {
+    (over _ _ _ _ _ c.new-input.result _ c.new-out.result _ _ _ _ c.new-input.ensures c.new-out.ensures (record {
       input = c.run-outcome.new.input;
       output = c.run-outcome.new.out;
       run = record {
-        given = c.run-outcome.ensures.ran.given;
-        how = c.run-outcome.ensures.ran.how;
-        reads = c.run-outcome.ensures.ran.reads;
-        ran = λ readable writable. c.run-outcome.ensures.ran.ran readable writable;
+        given = c.run-outcome.ensures.given;
+        how = c.run-outcome.ensures.how;
+        reads = c.run-outcome.ensures.reads;
+        ran = λ readable writable. c.run-outcome.ensures.ran readable writable;
         flushed = λ before after. c.run-outcome.ensures.flushed before after;
         within = c.run-outcome.ensures.within;
         failed = λ readable writable. c.run-outcome.ensures.failed readable writable;

@@ -1,15 +1,15 @@
-use Rattle.std.proofs.Common.{◌≡◌, ap, refl, ℕ, List, ◌++◌, take}
-use Rattle.dcm_base.specs.MetaReads.{PREFIX}
-use Rattle.dcm_base.specs.NewMeta.{new_meta}
+use Rattle.std.proofs.Common.{rules, ◌≡◌, ap, refl, ℕ, List, ◌++◌, take}
+use Rattle.dcm_base.specs.File.MetaReads.{PREFIX}
+use Rattle.dcm_base.specs.Conversion.NewMeta.{new_meta}
 use Rattle.dcm_devices.proofs.Writes.PartsOut.{part_failed, parts_put}
 use Rattle.dcm_cli.proofs.rewrite.write_head.Goals as goal
 
-pub returns-in_err-put_parts-clause-bytes : goal.returns-in_err-put_parts-clause-bytes
-returns-in_err-put_parts-clause-bytes g c = λ elements s m.
+pub returns-in_err-put_parts : goal.returns-in_err-put_parts
+returns-in_err-put_parts g c =
     let first : c.preamble.result.now ++ PREFIX ≡ take 128 c.args.meta.now.bytes ++ PREFIX = ap (λ (bs : List ℕ). bs ++ PREFIX) c.preamble.ensures.value in
-    part_failed _ _ (take 128 c.args.meta.now.bytes ++ PREFIX) _ (new_meta elements c.args.uid.now) _ c.from_residual.result c.from_residual.ensures.0 first refl c.in_err-put_parts.ensures.bytes
+    record { bytes = λ elements s m. part_failed _ _ (take 128 c.args.meta.now.bytes ++ PREFIX) _ (new_meta elements c.args.uid.now) _ c.from_residual.result c.from_residual.ensures.0 first refl c.in_err-put_parts.ensures.bytes; failed = search rules }
 
-pub returns-clause-bytes : goal.returns-clause-bytes
-returns-clause-bytes g c = λ elements s m.
+pub returns : goal.returns
+returns g c =
     let first : c.preamble.result.now ++ PREFIX ≡ take 128 c.args.meta.now.bytes ++ PREFIX = ap (λ (bs : List ℕ). bs ++ PREFIX) c.preamble.ensures.value in
-    parts_put _ _ _ (take 128 c.args.meta.now.bytes ++ PREFIX) _ (new_meta elements c.args.uid.now) _ _ c.rewritten.result first refl refl c.in_ok-put_parts.ensures.bytes (c.rewritten.ensures.bytes elements s m)
+    record { bytes = λ elements s m. parts_put _ _ _ (take 128 c.args.meta.now.bytes ++ PREFIX) _ (new_meta elements c.args.uid.now) _ _ c.rewritten.result first refl refl c.in_ok-put_parts.ensures.bytes (c.rewritten.ensures.bytes elements s m); failed = search rules }

@@ -8,15 +8,15 @@ use Rattle.dcm_cli.proofs.run.work.Goals as goal
 
 pub returns-in-Dump-clause-worked : goal.returns-in-Dump-clause-worked
 returns-in-Dump-clause-worked g c =
-    subst (λ (job : Job Global). Works (members g.R.Device g.R.DeviceIn) (writer g.W.Device g.W.DeviceOut) (job_of job) c.args.input.now c.dump.new.input c.args.out.now c.dump.new.out c.dump.result) (sym c.in-Dump.is) c.dump.ensures.worked
+    subst (λ (job : Job Global). Works (members g.R.Device g.R.DeviceIn) (writer g.W.Device g.W.DeviceOut) (job_of job) c.args.input.now c.dump.new.input c.args.out.now c.dump.new.out c.dump.result) (sym c.in-Dump.is) c.dump.ensures
 
 pub returns-in-Convert-clause-worked : goal.returns-in-Convert-clause-worked
 returns-in-Convert-clause-worked g c =
-    subst (λ (job : Job Global). Works (members g.R.Device g.R.DeviceIn) (writer g.W.Device g.W.DeviceOut) (job_of job) c.args.input.now c.convert.new.input c.args.out.now c.convert.new.out c.convert.result) (sym c.in-Convert.is) c.convert.ensures.worked
+    subst (λ (job : Job Global). Works (members g.R.Device g.R.DeviceIn) (writer g.W.Device g.W.DeviceOut) (job_of job) c.args.input.now c.convert.new.input c.args.out.now c.convert.new.out c.convert.result) (sym c.in-Convert.is) c.convert.ensures
 
 pub returns-in-Build-clause-worked : goal.returns-in-Build-clause-worked
 returns-in-Build-clause-worked g c =
-    subst (λ (job : Job Global). Works (members g.R.Device g.R.DeviceIn) (writer g.W.Device g.W.DeviceOut) (job_of job) c.args.input.now c.build.new.input c.args.out.now c.build.new.out c.build.result) (sym c.in-Build.is) c.build.ensures.worked
+    subst (λ (job : Job Global). Works (members g.R.Device g.R.DeviceIn) (writer g.W.Device g.W.DeviceOut) (job_of job) c.args.input.now c.build.new.input c.args.out.now c.build.new.out c.build.result) (sym c.in-Build.is) c.build.ensures
 
 pub returns-in-Modify-clause-worked : goal.returns-in-Modify-clause-worked
 returns-in-Modify-clause-worked g c =

@@ -1,7 +1,7 @@
 use Rattle.std.proofs.Common.{◌≡◌, ◌∙◌, ◌+◌, sym, ap, subst, arith, drop, take, List, ℕ}
 use Rattle.dcm_base.specs.declared.tag.Tag.{Tag}
 use Rattle.dcm_base.specs.declared.vr.Vr.{Vr}
-use Rattle.dcm_base.specs.MetaGroup.{an_element}
+use Rattle.dcm_base.specs.File.MetaGroup.{an_element}
 use Rattle.dcm_head.specs.declared.group.Place.{Place}
 use Rattle.dcm_head.specs.declared.group.Place.TheVariants.{Element, End, TooFew, Bad}
 use Rattle.dcm_head.specs.GroupPlaces.{place_is}

@@ -1,6 +1,6 @@
 use Rattle.std.proofs.Common.{◌∙◌, ◌<◌, sym, arith, length, eq-eqb}
 use Rattle.std.proofs.lemmas.Bool.{ne_eqb, eqb-false, eqb-true}
-use Rattle.dcm_base.specs.Syntax.{Little}
+use Rattle.dcm_base.specs.Tables.Syntax.{Little}
 use Rattle.dcm_head.proofs.Heads.Reads.{element_told}
 use Rattle.dcm_head.proofs.MetaGroups.Places.{at_empty, at_one, at_other, at_short, at_bad, at_long, at_head}
 use Rattle.dcm_head.proofs.group.place_of.Goals as goal

@@ -4,11 +4,11 @@ use Rattle.dcm_base.specs.declared.vr.Vr.{Vr}
 use Rattle.dcm_base.specs.declared.syntax.Syntax.{Syntax}
 use Rattle.dcm_base.specs.declared.syntax.Syntax.TheVariants.{Implicit as implicit_in, Little as little_in, Big as big_in}
 use Rattle.dcm_base.specs.declared.length.Length.{Length}
-use Rattle.dcm_base.specs.Dictionary.{vr_in}
-use Rattle.dcm_base.specs.Number.{number}
-use Rattle.dcm_base.specs.Head.{tag_at, vr_at, length_at, long_length}
-use Rattle.dcm_base.specs.declared.lookup.Dictionary.{Dictionary}
-use Rattle.dcm_base.specs.Syntax.{Implicit}
+use Rattle.dcm_base.specs.Tables.Dictionary.{vr_in}
+use Rattle.dcm_base.specs.Tables.Number.{number}
+use Rattle.dcm_base.specs.Bytes.Head.{tag_at, vr_at, length_at, long_length}
+use Rattle.dcm_base.specs.declared.dictionary.Dictionary.{Dictionary}
+use Rattle.dcm_base.specs.Tables.Syntax.{Implicit}
 use Rattle.dcm_head.specs.declared.head.HeadRead.TheVariants.{Done}
 use Rattle.dcm_head.specs.HeadRead.{element_read}
 use Rattle.dcm_head.proofs.Heads.Explicit.{tail_is}

@@ -1,6 +1,6 @@
 use Rattle.std.proofs.Common.{◌≡◌, subst, ◌⊎◌, true, false, Some, None, length}
 use Rattle.std.specs.Prelude.{fold}
-use Rattle.dcm_base.specs.MetaReads.{MetaAnswer, is_undecided}
+use Rattle.dcm_base.specs.File.MetaReads.{MetaAnswer, is_undecided}
 use Rattle.dcm_head.specs.MetaReading.{Says, at_start, meta_step, meta_finished}
 use Rattle.std.proofs.lemmas.List.Sums.{fold-append}
 use Rattle.dcm_head.proofs.HeadReading.Stays.{stays, kept_all}

@@ -1,6 +1,6 @@
 use Rattle.std.proofs.Common.{◌≡◌, ◌∙◌, length, take, ℕ, sym, ap, arith}
 use Rattle.std.proofs.lemmas.List.{take_all}
-use Rattle.dcm_base.specs.Transfer.{without_pads}
+use Rattle.dcm_base.specs.Tables.Transfer.{without_pads}
 use Rattle.dcm_head.proofs.MetaGroups.Transfers.{pads_taken, taken_no_pad, nothing_left}
 use Rattle.dcm_head.proofs.pads.size_without_pads.Goals as goal
 

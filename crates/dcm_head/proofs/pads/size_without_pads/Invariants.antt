@@ -1,5 +1,5 @@
 use Rattle.std.proofs.Common.{◌≡◌, ◌≤◌, length, take}
-use Rattle.dcm_base.specs.Transfer.{without_pads}
+use Rattle.dcm_base.specs.Tables.Transfer.{without_pads}
 use Rattle.dcm_head.proofs.pads.size_without_pads.Given as goal
 
 abbrev pub invariant-loop-n : goal.invariant-loop-n

@@ -1,5 +1,5 @@
 use Rattle.std.proofs.Common.{◌≡◌, ◌≤◌, ◌+◌, ◌*◌, length}
-use Rattle.dcm_base.specs.Tree.{Trees}
+use Rattle.dcm_base.specs.Tree.Tree.{Trees}
 use Rattle.dcm_head.specs.Rewriting.{OfElements}
 use Rattle.dcm_head.proofs.MetaGroups.Rewritten.{Left}
 use Rattle.dcm_head.proofs.rewriting.elements_size.Given as goal

@@ -1,4 +1,4 @@
-use Rattle.std.proofs.Common.{◌∙◌, refl, sym, ap, arith}
+use Rattle.std.proofs.Common.{rules, ◌∙◌, refl, sym, ap, arith}
 use Rattle.std.specs.Io.KnownBytes.{append_known}
 use Rattle.dcm_devices.proofs.Writes.Puts.{append_known_none, append_known_twice}
 use Rattle.dcm_head.specs.Rewriting.{written_element}
@@ -12,10 +12,10 @@ elements-init g c = record {
   failed = refl;
 }
 
-pub returns-in_err-put_element-clause-bytes : goal.returns-in_err-put_element-clause-bytes
-returns-in_err-put_element-clause-bytes g c = λ all s m.
-    let l = c.elements.invariant.gone all s m in
-    failed_at _ _ _ c.elements.rest.now c.args.uid.now c.elements.named all _ _ _ _ c.from_residual.result l.0 c.in-Some.ensures.some l.1 c.in_err-put_element.ensures.bytes c.from_residual.ensures.0
+pub returns-in_err-put_element : goal.returns-in_err-put_element
+returns-in_err-put_element g c =
+    let gone = c.elements.invariant.gone in
+    record { bytes = λ all s m. failed_at _ _ _ c.elements.rest.now c.args.uid.now c.elements.named all _ _ _ _ c.from_residual.result (gone all s m).0 c.in-Some.ensures.some (gone all s m).1 c.in_err-put_element.ensures.bytes c.from_residual.ensures.0; failed = search rules }
 
 pub elements-preserved : goal.elements-preserved
 elements-preserved g c =
@@ -33,7 +33,7 @@ elements-preserved g c =
       failed = c.in_ok-put_element.ensures.failed ∙ c.elements.invariant.failed;
     }
 
-pub returns-clause-bytes : goal.returns-clause-bytes
-returns-clause-bytes g c = λ all s m.
-    let l = c.elements.invariant.gone all s m in
-    l.1 ∙ ap (append_known _) (left_none c.elements.rest.now c.args.uid.now c.elements.named all l.0 c.in_default.ensures.none)
+pub returns : goal.returns
+returns g c =
+    let gone = c.elements.invariant.gone in
+    record { bytes = λ all s m. (gone all s m).1 ∙ ap (append_known _) (left_none c.elements.rest.now c.args.uid.now c.elements.named all (gone all s m).0 c.in_default.ensures.none); failed = search rules }

@@ -1,6 +1,6 @@
 use Rattle.std.proofs.Common.{◌≡◌, ◌≤◌, length}
 use Rattle.std.specs.Io.KnownBytes.{append_known}
-use Rattle.dcm_base.specs.Tree.{Trees}
+use Rattle.dcm_base.specs.Tree.Tree.{Trees}
 use Rattle.dcm_head.specs.Rewriting.{OfElements}
 use Rattle.dcm_head.proofs.MetaGroups.Rewritten.{Left}
 use Rattle.dcm_head.proofs.rewriting.put_elements.Given as goal

@@ -1,20 +1,21 @@
-use Rattle.std.proofs.Common.{◌∙◌, ◌++◌, ap, sym, List}
+use Rattle.std.proofs.Common.{rules, ◌∙◌, ◌++◌, ap, sym, List}
 use Rattle.std.proofs.lemmas.List.{append-nil}
-use Rattle.dcm_base.specs.Atoms.{Atom}
+use Rattle.dcm_base.specs.Steps.Atoms.{Atom}
 use Rattle.dcm_base.specs.declared.level.Level.{Level}
 use Rattle.dcm_stream.specs.Tokens.{atoms_of}
 use Rattle.dcm_stream.specs.Reading.{full_closed}
 use Rattle.dcm_stream.proofs.Containers.Closes.{closes_one, closes_none, closes_first, closes_next, taken_more, failed_more}
 use Rattle.dcm_stream.proofs.close.close_full.Goals as goal
 
-pub returns-in_err-take-clause-goes : goal.returns-in_err-take-clause-goes
-returns-in_err-take-clause-goes g c =
+pub returns-in_err-take-clause-took : goal.returns-in_err-take-clause-took
+returns-in_err-take-clause-took g c =
     let levels = c.loop-container.levels in
     let one = closes_one c.args.position levels c.in-Some.container c.in-Some.ensures in
-    failed_more g.S.Sink.step g.S.Sink.writes (g.S.Sink.state c.args.sink.now) (g.S.Sink.contents c.args.sink.now) (g.S.Sink.state c.loop-container.sink) (g.S.Sink.contents c.loop-container.sink) _ _
+    let takes = failed_more g.S.Sink.step g.S.Sink.writes (g.S.Sink.state c.args.sink.now) (g.S.Sink.contents c.args.sink.now) (g.S.Sink.state c.loop-container.sink) (g.S.Sink.contents c.loop-container.sink) _ _
     c.loop-container.invariant.front (atoms_of c.closing_token.result) _ _ _ c.loop-container.invariant.state c.loop-container.invariant.bytes c.from_residual.ensures.0
     (closes_first c.args.position levels c.in-Some.container (atoms_of c.closing_token.result) _ c.loop-container.invariant.front c.closing_token.ensures.atoms one c.loop-container.invariant.atoms)
-    c.in_err-take.ensures.bytes
+    c.in_err-take.ensures.bytes in
+    record { takes = takes; failed = search rules; kept = search rules }
 
 pub loop-container-preserved : goal.loop-container-preserved
 loop-container-preserved g c =
@@ -39,8 +40,8 @@ returns-clause-levels g c =
     let none = closes_none c.args.position c.loop-container.levels c.in_default.ensures in
     sym (c.loop-container.invariant.levels ∙ ap (λ (p : List Level × List Atom). p.0) none)
 
-pub returns-clause-goes : goal.returns-clause-goes
-returns-clause-goes g c =
+pub returns-clause-took : goal.returns-clause-took
+returns-clause-took g c =
     let none = closes_none c.args.position c.loop-container.levels c.in_default.ensures in
     let all = c.loop-container.invariant.atoms ∙ ap (λ (p : List Level × List Atom). c.loop-container.invariant.front ++ p.1) none ∙ append-nil c.loop-container.invariant.front in
-    rw all (c.loop-container.invariant.state, c.loop-container.invariant.bytes)
+    record { takes = rw all (c.loop-container.invariant.state, c.loop-container.invariant.bytes); failed = search rules; kept = search rules }

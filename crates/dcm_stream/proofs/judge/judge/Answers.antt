@@ -1,6 +1,6 @@
 use Rattle.std.proofs.Common.{◌≤◌, ◌∙◌, ap, sym, refl, length, arith}
 use Rattle.dcm_base.specs.declared.tag.Tag.{Tag}
-use Rattle.dcm_base.specs.Place.{passes}
+use Rattle.dcm_base.specs.Reading.Place.{passes}
 use Rattle.dcm_head.specs.HeadRead.{tag_read}
 use Rattle.dcm_stream.specs.Judging.{bars_head}
 use Rattle.dcm_stream.proofs.Heads.Elements.{may_come, bad_stops, more_stops, whole_head, opens_judged, fault_judged}

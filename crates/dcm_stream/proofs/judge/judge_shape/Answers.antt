@@ -1,8 +1,8 @@
 use Rattle.std.proofs.Common.{◌≡◌, ◌∙◌, ap, sym, subst, ℕ, Bool, false}
 use Rattle.std.specs.Prelude.{◌&&◌, nat_le}
 use Rattle.dcm_base.specs.declared.form.Form.{Form}
-use Rattle.dcm_base.specs.Place.{passes, room, depth}
-use Rattle.dcm_base.specs.Stop.{opens_list}
+use Rattle.dcm_base.specs.Reading.Place.{passes, room, depth}
+use Rattle.dcm_base.specs.Reading.Stop.{opens_list}
 use Rattle.dcm_stream.specs.Reading.{element_opens}
 use Rattle.dcm_stream.specs.Judging.{shape_fault, OpensAs}
 use Rattle.dcm_stream.proofs.Heads.Elements.{has_form, without_form, shape_passes, shape_unformed, shape_fits, not_deep}

@@ -1,11 +1,10 @@
-use Rattle.std.proofs.Common.{◌∙◌}
+use Rattle.std.proofs.Common.{rules, ◌∙◌}
 use Rattle.dcm_stream.proofs.Runs.Tokens.{handed_more, handed_failed}
 use Rattle.dcm_stream.proofs.taking.take_all.Goals as goal
 
-pub returns-in_err-take-clause-takes : goal.returns-in_err-take-clause-takes
-returns-in_err-take-clause-takes g c =
-    handed_failed g.S.Sink.step g.S.Sink.writes (g.S.Sink.state c.args.sink.now) _ _ _ (g.S.Sink.state c.take.new.self) _ c.args.tokens.now c.loop-token.token-index _ _ c.loop-token-test.true c.loop-token.invariant.state c.loop-token.invariant.bytes
-    c.from_residual.ensures.0 c.in_err-take.ensures.bytes
+pub returns-in_err-take : goal.returns-in_err-take
+returns-in_err-take g c =
+    record { takes = handed_failed g.S.Sink.step g.S.Sink.writes (g.S.Sink.state c.args.sink.now) _ _ _ (g.S.Sink.state c.take.new.self) _ c.args.tokens.now c.loop-token.token-index _ _ c.loop-token-test.true c.loop-token.invariant.state c.loop-token.invariant.bytes c.from_residual.ensures.0 c.in_err-take.ensures.bytes; failed = search rules; kept = search rules }
 
 pub loop-token-preserved : goal.loop-token-preserved
 loop-token-preserved g c =

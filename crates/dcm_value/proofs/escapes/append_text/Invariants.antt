@@ -1,5 +1,5 @@
 use Rattle.std.proofs.Common.{◌≡◌, ◌≤◌, ◌+◌, ◌*◌, ◌++◌, length, take}
-use Rattle.dcm_base.specs.ValueText.{escaped}
+use Rattle.dcm_base.specs.Dump.ValueText.{escaped}
 use Rattle.dcm_value.proofs.escapes.append_text.Given as goal
 
 -- the bytes so far stand there

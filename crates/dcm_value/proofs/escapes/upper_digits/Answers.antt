@@ -1,8 +1,8 @@
 use Rattle.std.proofs.Common.{◌≡◌, ◌<◌, ◌/◌, ◌%◌, ◌∙◌, ◌∷◌, [], List, ℕ, zero, suc, ap, arith, refl, get_or}
 use Rattle.std.specs.Char.{to_ascii_uppercase}
 use Rattle.hex.specs.Hex.{encode_lower}
-use Rattle.dcm_base.specs.ValueText.{hex_byte, upper}
-use Rattle.dcm_base.specs.Number.{AreBytes}
+use Rattle.dcm_base.specs.Dump.ValueText.{hex_byte, upper}
+use Rattle.dcm_base.specs.Tables.Number.{AreBytes}
 use Rattle.dcm_base.proofs.Writes.HexDigits.{same_digits, written_out}
 use Rattle.dcm_value.proofs.Displays.UpperDigits.{upper_digit}
 use Rattle.dcm_value.proofs.escapes.upper_digits.Goals as goal

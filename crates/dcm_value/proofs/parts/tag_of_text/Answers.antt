@@ -3,7 +3,7 @@ use Rattle.std.specs.Prelude.{if◌then◌else◌, bytes_eq, codes}
 use Rattle.std.proofs.lemmas.Bool.{false≢true}
 use Rattle.std.proofs.lemmas.List.{length-drop, get_or-drop}
 use Rattle.std.proofs.lemmas.Slice.Eq.{bytes_eq-Decides}
-use Rattle.dcm_base.specs.ReadValue.{◌>>=◌, hex_number, tag_of_text}
+use Rattle.dcm_base.specs.Lines.ReadValue.{◌>>=◌, hex_number, tag_of_text}
 use Rattle.dcm_base.specs.declared.tag.Tag.{Tag}
 use Rattle.dcm_value.proofs.parts.tag_of_text.Goals.{then-text-ne11-via-then-text-ne11, then-text-ne11-via-else-text-ne11+then-text-ne40, then-text-ne11-via-else-text-ne11+else-text-ne40+then-text-ne44, then-text-ne11-via-else-text-ne11+else-text-ne40+else-text-ne44+then-text-ne41}
 use Rattle.dcm_value.proofs.parts.tag_of_text.Goals as goal

@@ -1,5 +1,5 @@
 use Rattle.std.proofs.Common.{◌≡◌, ◌≤◌, length}
-use Rattle.dcm_base.specs.ReadValue.{bracketed_value}
+use Rattle.dcm_base.specs.Lines.ReadValue.{bracketed_value}
 use Rattle.dcm_value.specs.Taking.{behind}
 use Rattle.dcm_value.proofs.reading.read_bracketed.Given as goal
 

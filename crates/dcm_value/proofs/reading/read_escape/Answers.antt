@@ -1,6 +1,6 @@
 use Rattle.std.proofs.Common.{◌≡◌, ◌<◌, ◌≤◌, ℕ, ◌-◌, List, [], ◌∷◌, length, take, drop, get_or, None, refl, ap, sym, ◌∙◌, arith}
 use Rattle.std.proofs.Math.Seq.{take-length}
-use Rattle.dcm_base.specs.ReadValue.{◌>>=◌, hex_number, bracketed_value}
+use Rattle.dcm_base.specs.Lines.ReadValue.{◌>>=◌, hex_number, bracketed_value}
 use Rattle.dcm_value.specs.Taking.{behind}
 use Rattle.dcm_value.proofs.reading.read_escape.Goals as goal
 

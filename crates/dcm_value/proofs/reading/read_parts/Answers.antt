@@ -1,5 +1,5 @@
 use Rattle.std.proofs.Common.{◌≡◌, ◌∙◌, ap, sym, ◌+◌, take, drop, drop-drop, List, ℕ, Option}
-use Rattle.dcm_base.specs.ReadValue.{◌>>=◌, joined}
+use Rattle.dcm_base.specs.Lines.ReadValue.{◌>>=◌, joined}
 use Rattle.dcm_value.specs.Parts.{part_value}
 use Rattle.dcm_value.specs.Taking.{behind}
 use Rattle.dcm_value.proofs.ReadBack.Parts.{took, failed, reads_err, reads_last, joined_first, joined_last}

@@ -1,7 +1,7 @@
 use Rattle.std.proofs.Common.{rules, ◌≡◌, sym, ◌∙◌, ap, subst}
-use Rattle.dcm_base.specs.ValueText.{shape}
-use Rattle.dcm_base.specs.Representation.{unit}
-use Rattle.dcm_base.specs.ReadValue.{joined}
+use Rattle.dcm_base.specs.Dump.ValueText.{shape}
+use Rattle.dcm_base.specs.Tables.Representation.{unit}
+use Rattle.dcm_base.specs.Lines.ReadValue.{joined}
 use Rattle.dcm_value.specs.declared.way.Way.TheVariants.{InUnits}
 use Rattle.dcm_value.specs.Way.{way_of}
 use Rattle.dcm_value.specs.Units.{kind_of}

@@ -1,8 +1,8 @@
 use Rattle.std.proofs.Common.{rules, ◌≡◌, ◌≢◌, false}
 use Rattle.dcm_base.specs.declared.vr.Vr.TheVariants.{SQ}
-use Rattle.dcm_base.specs.ReadValue.{is_no_value, value_in, value_of_text}
-use Rattle.dcm_base.specs.ValueText.{shape}
-use Rattle.dcm_base.specs.Representation.{unit}
+use Rattle.dcm_base.specs.Lines.ReadValue.{is_no_value, value_in, value_of_text}
+use Rattle.dcm_base.specs.Dump.ValueText.{shape}
+use Rattle.dcm_base.specs.Tables.Representation.{unit}
 use Rattle.dcm_value.proofs.ReadBack.Parts.{means, meant_by}
 use Rattle.dcm_value.proofs.reading.read_value_into.Goals as goal
 

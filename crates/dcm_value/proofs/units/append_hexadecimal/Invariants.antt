@@ -1,6 +1,6 @@
 use Rattle.std.proofs.Common.{◌≡◌, ◌+◌, ◌*◌, ◌++◌, length, take}
 use Rattle.std.specs.Prelude.{flat_map}
-use Rattle.dcm_base.specs.ValueText.{hex_byte}
+use Rattle.dcm_base.specs.Dump.ValueText.{hex_byte}
 use Rattle.dcm_value.proofs.units.append_hexadecimal.Given as goal
 
 -- the digits of the bytes so far stand there

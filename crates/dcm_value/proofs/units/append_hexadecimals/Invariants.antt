@@ -1,5 +1,5 @@
 use Rattle.std.proofs.Common.{◌≡◌, ◌≤◌, ◌+◌, ◌*◌, ◌++◌, length}
-use Rattle.dcm_base.specs.Value.{pieces}
+use Rattle.dcm_base.specs.Tree.Value.{pieces}
 use Rattle.dcm_value.specs.declared.units.Kind.TheVariants.{Hexadecimal}
 use Rattle.dcm_value.specs.Units.{high_text, separated}
 use Rattle.dcm_value.proofs.units.append_hexadecimals.Given as goal

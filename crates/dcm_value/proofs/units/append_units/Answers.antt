@@ -1,8 +1,8 @@
 use Rattle.std.proofs.Common.{rules, sym, ◌∙◌, ◌≡◌, false, ◌++◌}
-use Rattle.dcm_base.specs.Value.{turned, units}
-use Rattle.dcm_base.specs.ValueText.{shape, shown_unit}
-use Rattle.dcm_base.specs.Representation.{unit}
-use Rattle.dcm_base.specs.Syntax.{is_big}
+use Rattle.dcm_base.specs.Tree.Value.{turned, units}
+use Rattle.dcm_base.specs.Dump.ValueText.{shape, shown_unit}
+use Rattle.dcm_base.specs.Tables.Representation.{unit}
+use Rattle.dcm_base.specs.Tables.Syntax.{is_big}
 use Rattle.dcm_value.specs.Units.{kind_of, high_text, high, separated}
 use Rattle.dcm_value.proofs.UnitOrder.HighestFirst.{big_stays, bytes_stay, others_turn, shows_units}
 use Rattle.dcm_value.proofs.units.append_units.Goals as goal

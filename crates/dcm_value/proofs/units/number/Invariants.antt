@@ -1,6 +1,6 @@
 use Rattle.std.proofs.Common.{◌≡◌, ◌<◌, ◌^◌, take}
 use Rattle.std.specs.Prelude.{reverse}
-use Rattle.dcm_base.specs.Value.{number_of}
+use Rattle.dcm_base.specs.Tree.Value.{number_of}
 use Rattle.dcm_value.proofs.units.number.Given as goal
 
 -- the number of the bytes so far

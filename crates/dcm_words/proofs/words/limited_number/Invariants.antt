@@ -1,5 +1,5 @@
 use Rattle.std.proofs.Common.{◌≡◌, ◌≤◌, drop, option_map}
-use Rattle.dcm_base.specs.ReadValue.{number_in}
+use Rattle.dcm_base.specs.Lines.ReadValue.{number_in}
 use Rattle.dcm_words.specs.Plans.{capped}
 use Rattle.dcm_words.proofs.words.limited_number.Given as goal
 

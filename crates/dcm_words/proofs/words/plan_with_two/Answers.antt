@@ -1,4 +1,4 @@
-use Rattle.std.proofs.Common.{◌∷◌, [], List, ℕ, sym, ◌∙◌, subst}
+use Rattle.std.proofs.Common.{sym, ◌∙◌, subst}
 use Rattle.dcm_words.specs.Plans.{PathsAre, job_of}
 use Rattle.dcm_words.specs.declared.words.Paths.{Paths}
 use Rattle.dcm_words.proofs.WordLemmas.{AreWrong, empty_first, empty_second, not_two}

@@ -1,87 +1,25 @@
-use Rattle.std.proofs.Common.{◌≡◌, ◌++◌, ◌∙◌, ap, sym, ℕ, length, take, None, [], append_assoc, refl, List, ◌+◌, length-append, arith}
-use Rattle.std.proofs.lemmas.List.{take-append-drop, append-nil, length-take-le}
-use Rattle.dcm_stream.proofs.Runs.Calls.{empty_by}
-use Rattle.dcm_build.specs.declared.build.Builder.TheInside.{Inside}
-use Rattle.dcm_build.specs.Building.{read_size}
-use Rattle.dcm_build.proofs.Files.Calls.{view_at, going_none, no_some, none_of, not_halted, tells_begin, tells_none, tells_still, tells_halt, gone_nowhere, gone_on, gone_halted, gone_still}
+use Rattle.std.proofs.Common.{◌∙◌, ap, not, [], ◌≡◌, None}
+use Rattle.dcm_build.proofs.Files.Calls.{none_of, gone_by, gone_nowhere, gone_still, tells_by, tells_begin}
 use Rattle.dcm_build.proofs.build.Builder.feed.Goals as goal
-use Rattle.dcm_build.proofs.build.Builder.feed.Goals.{then-loop-self-test+else-is_none, else-loop-self-test}
+use Rattle.dcm_build.proofs.build.Builder.feed.Goals.{then-is_none, else-is_none}
 
-pub loop-self-init : goal.loop-self-init
-loop-self-init g c = record {
-  front = [];
-  whole = refl;
-  goes = λ fine. gone_nowhere c.self.inside.reader c.self.inside.halt c.args.self.now (g.W.DeviceOut.contents c.args.out.now) c.self.view_is fine;
-  place = λ none. let same = ap read_size (view_at c.self.inside.reader c.self.inside.halt c.args.self.now c.self.view_is none) in omega (arith, same);
-  within = λ none. let same = ap read_size (view_at c.self.inside.reader c.self.inside.halt c.args.self.now c.self.view_is none) in λ le. omega (arith, same, le);
-  stands = c.self.invariant;
-  halted = λ h. (refl, refl);
-  failed = λ h. tells_begin (g.W.Device.has_failed c.args.out.now) c.self.inside.reader c.self.inside.halt c.args.self.now c.self.view_is h;
-}
-
-pub loop-self-preserved-in-Ok : goal.loop-self-preserved-in-Ok
-loop-self-preserved-in-Ok g c =
-    let none : c.loop-self.self-inside.halt ≡ None = none_of c.loop-self.self-inside.halt c.if-is_none.ensures in
-    let n : ℕ = c.in-Ok.n in
-    let rest = c.loop-self.rest.now in
-    let front = c.loop-self.invariant.front in
-    let reader = c.loop-self.self-inside.reader in
-    record {
-      front = front ++ take n rest;
-      whole = c.loop-self.invariant.whole ∙ ap (λ (xs : List ℕ). front ++ xs) (sym (take-append-drop n rest) ∙ ap (λ (xs : List ℕ). take n rest ++ xs) (sym c.split_at.ensures.back)) ∙ sym (append_assoc front (take n rest) c.split_at.result.1.now);
-      goes = λ fine. gone_on c.args.self.now.state (g.W.DeviceOut.contents c.args.out.now) reader (g.W.DeviceOut.contents c.loop-self.out) c.read_some.new.self (g.W.DeviceOut.contents c.read_some.new.out) front (take n rest) c.loop-self.self-inside.halt n none (c.loop-self.invariant.goes fine) c.in-Ok.ensures.feeds;
-      place = λ h.
-          let size : length (front ++ take n rest) ≡ length front + length (take n rest) = length-append front (take n rest) in
-          let taken : length (take n rest) ≡ n = length-take-le n rest c.in-Ok.ensures.some.1 in
-          let more = c.in-Ok.ensures.size in
-          let before = c.loop-self.invariant.place none in
-          omega (arith, size, taken, more, before);
-      within = λ h. λ le. c.in-Ok.ensures.within;
-      stands = λ h. c.in-Ok.ensures.stands;
-      halted = λ h. absurd (not_halted c.self.inside.reader c.self.inside.halt c.args.self.now c.self.view_is (ap (λ (i : Inside). i.halt) (sym (c.loop-self.invariant.halted h).0) ∙ none) h);
-      failed = λ h. tells_still _ _ c.loop-self.self-inside.halt none (c.in-Ok.ensures.failed ∙ tells_none _ _ c.loop-self.self-inside.halt none (c.loop-self.invariant.failed h));
-    }
-
-pub loop-self-preserved : goal.loop-self-preserved
-loop-self-preserved g c =
-    let none : c.loop-self.self-inside.halt ≡ None = none_of c.loop-self.self-inside.halt c.if-is_none.ensures in
-    let rest = c.loop-self.rest.now in
-    let front = c.loop-self.invariant.front in
-    let reader = c.loop-self.self-inside.reader in
-    record {
-      front = front ++ rest;
-      whole = c.loop-self.invariant.whole ∙ sym (append-nil (front ++ rest));
-      goes = λ fine. gone_halted c.args.self.now.state (g.W.DeviceOut.contents c.args.out.now) reader (g.W.DeviceOut.contents c.loop-self.out) c.read_some.new.self (g.W.DeviceOut.contents c.read_some.new.out) front rest c.loop-self.self-inside.halt c.in-Err.halt none (c.loop-self.invariant.goes fine) c.in-Err.ensures.feeds;
-      place = λ h. absurd (cc);
-      within = λ h. absurd (cc);
-      stands = λ h. absurd (cc);
-      halted = λ h. absurd (not_halted c.self.inside.reader c.self.inside.halt c.args.self.now c.self.view_is (ap (λ (i : Inside). i.halt) (sym (c.loop-self.invariant.halted h).0) ∙ none) h);
-      failed = λ h. tells_halt ℕ _ _ _ c.in-Err.halt (tells_none _ _ c.loop-self.self-inside.halt none (c.loop-self.invariant.failed h)) c.in-Err.ensures.failed;
-    }
-
-pub returns-clause-goes : goal.returns-clause-goes
-returns-clause-goes g c = λ fine.
-    let front = c.loop-self.invariant.front in
-    let rest = c.loop-self.rest.now in
-    elim c.loop-self-test.branch [
-      | then-loop-self-test+else-is_none w ↦ rw c.loop-self.invariant.whole
-          (gone_still c.args.self.now.state (g.W.DeviceOut.contents c.args.out.now) c.loop-self.self-inside.reader (g.W.DeviceOut.contents c.loop-self.out) front rest c.loop-self.self-inside.halt w.if-is_none.ensures (c.loop-self.invariant.goes fine))
-      | else-loop-self-test w ↦ let none : rest ≡ [] = empty_by rest w.loop-self-test.ensures in rw (c.loop-self.invariant.whole, none, append-nil) (c.loop-self.invariant.goes fine)
+pub returns-clause-went : goal.returns-clause-went
+returns-clause-went g c =
+    let before = c.self.inside.reader in
+    let halt = c.self.inside.halt in
+    let p = c.args.self.now in
+    elim c.if-is_none.branch [
+      | then-is_none w ↦
+          let none : halt ≡ None = none_of halt (c.is_none.ensures ∙ ap not w.if-is_none.true) in
+          rw (w.self-inside-is, w.out-is) (record {
+            goes = λ fine. gone_by p (g.W.DeviceOut.contents c.args.out.now) before w.read_all.new.self (g.W.DeviceOut.contents w.read_all.new.out) c.args.piece.now halt w.err-self-inside.result w.read_all.result c.self.view_is none w.err-self-inside.ensures.value
+                w.read_all.ensures.fed.feeds;
+            failed = λ h. tells_by _ _ w.err-self-inside.result w.read_all.result w.err-self-inside.ensures.value w.read_all.ensures.fed.failed;
+          })
+      | else-is_none w ↦
+          let some = c.is_none.ensures ∙ ap not w.if-is_none.false in
+          rw (w.self-inside-is, w.out-is) (record {
+            goes = λ fine. gone_still p.state (g.W.DeviceOut.contents c.args.out.now) before (g.W.DeviceOut.contents c.args.out.now) [] c.args.piece.now halt some (gone_nowhere before halt p (g.W.DeviceOut.contents c.args.out.now) c.self.view_is fine);
+            failed = λ h. tells_begin (g.W.Device.has_failed c.args.out.now) before halt p c.self.view_is h;
+          })
     ]
-
-pub returns-clause-place : goal.returns-clause-place
-returns-clause-place g c = λ going.
-    let none : c.loop-self.self-inside.halt ≡ None = going_none c.loop-self.self-inside.halt going in
-    let before = c.loop-self.invariant.place none in
-    let front = c.loop-self.invariant.front in
-    let rest = c.loop-self.rest.now in
-    elim c.loop-self-test.branch [
-      | then-loop-self-test+else-is_none w ↦ absurd (no_some c.loop-self.self-inside.halt none w.if-is_none.ensures)
-      | else-loop-self-test w ↦
-          let empty : rest ≡ [] = empty_by rest w.loop-self-test.ensures in
-          let whole : length c.args.piece.now ≡ length front = ap length (c.loop-self.invariant.whole ∙ ap (λ (xs : List ℕ). front ++ xs) empty ∙ append-nil front) in
-          omega (arith, before, whole)
-    ]
-
-pub returns-clause-within : goal.returns-clause-within
-returns-clause-within g c = λ going. c.loop-self.invariant.within (going_none c.loop-self.self-inside.halt going)

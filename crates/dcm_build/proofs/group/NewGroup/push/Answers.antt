@@ -1,5 +1,5 @@
 use Rattle.std.proofs.Common.{◌∙◌, ◌++◌, ap, arith, length, length-append, append_assoc, List, ℕ}
-use Rattle.dcm_base.specs.Number.{IsTag}
+use Rattle.dcm_base.specs.Tables.Number.{IsTag}
 use Rattle.dcm_build.proofs.Files.Meta.{fits, grows}
 use Rattle.dcm_build.proofs.group.NewGroup.push.Goals as goal
 

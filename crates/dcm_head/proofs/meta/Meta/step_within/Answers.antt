@@ -1,7 +1,7 @@
 use Rattle.std.proofs.Common.{◌≡◌, ◌∙◌, ◌+◌, ◌-◌, ◌≤◌, Some, drop, length, [], ◌∷◌, ◌++◌, sym, ap, arith, subst, refl, length-append}
 use Rattle.std.proofs.lemmas.List.{length-take}
 use Rattle.dcm_head.specs.declared.meta.Meta.TheInside.{Inside}
-use Rattle.dcm_base.specs.MetaGroup.{group_place}
+use Rattle.dcm_base.specs.File.MetaGroup.{group_place}
 use Rattle.dcm_head.specs.MetaReading.{Reading}
 use Rattle.dcm_head.proofs.HeadReading.GoesOn.{room, passed, kept_behind, ends, over}
 use Rattle.dcm_head.proofs.meta.Meta.step_within.Goals as goal

@@ -1,4 +1,4 @@
-use Rattle.std.proofs.Common.{◌≡◌, ◌∙◌, ap}
+use Rattle.std.proofs.Common.{rules, ◌≡◌, ◌∙◌, ap}
 use Rattle.dcm_stream.specs.declared.cursor.Cursor.{Cursor}
 use Rattle.dcm_stream.specs.Tokens.{atoms_of}
 use Rattle.dcm_stream.specs.Machine.{reading}
@@ -6,21 +6,21 @@ use Rattle.dcm_stream.proofs.Heads.Entered.{Leads, leads_sequence, leads_fragmen
 use Rattle.dcm_stream.proofs.cursor.Cursor.enter.Goals as goal
 use Rattle.dcm_stream.proofs.cursor.Cursor.enter.Goals.{in-Sequence, in-FragmentList, in-Item, in-End}
 
-pub returns-in_err-take-clause-comes : goal.returns-in_err-take-clause-comes
-returns-in_err-take-clause-comes g c =
+pub returns-in_err-take : goal.returns-in_err-take
+returns-in_err-take g c =
     let cursor = c.args.self.now in
-    fails_enter g.S.Sink.step g.S.Sink.writes cursor.position cursor.levels c.args.opening (g.S.Sink.state c.args.sink.now) (g.S.Sink.contents c.args.sink.now)
-    (g.S.Sink.state c.take.new.self) (g.S.Sink.contents c.take.new.self) (reading cursor) (atoms_of c.opening_token.result) c.from_residual.result c.opening_token.ensures.atoms c.from_residual.ensures.1 c.in_err-take.ensures.bytes
+    record { comes = fails_enter g.S.Sink.step g.S.Sink.writes cursor.position cursor.levels c.args.opening (g.S.Sink.state c.args.sink.now) (g.S.Sink.contents c.args.sink.now) (g.S.Sink.state c.take.new.self) (g.S.Sink.contents c.take.new.self) (reading cursor) (atoms_of c.opening_token.result) c.from_residual.result c.opening_token.ensures.atoms c.from_residual.ensures.1 c.in_err-take.ensures.bytes; failed = search rules; kept = search rules }
 
-pub returns-in-Leaf-clause-comes : goal.returns-in-Leaf-clause-comes
-returns-in-Leaf-clause-comes g c =
+pub returns-in-Leaf : goal.returns-in-Leaf
+returns-in-Leaf g c =
     let cursor = c.args.self.now in
-    enters_value g.S.Sink.step g.S.Sink.writes cursor.position cursor.levels c.args.opening c.in-Leaf.size (g.S.Sink.state c.args.sink.now) (g.S.Sink.contents c.args.sink.now)
+    let comes = enters_value g.S.Sink.step g.S.Sink.writes cursor.position cursor.levels c.args.opening c.in-Leaf.size (g.S.Sink.state c.args.sink.now) (g.S.Sink.contents c.args.sink.now)
     (g.S.Sink.state c.take.new.self) (g.S.Sink.contents c.take.new.self) (g.S.Sink.state c.settle_value.new.sink) (g.S.Sink.contents c.settle_value.new.sink) (reading c.settle_value.new.self)
-    (atoms_of c.opening_token.result) c.settle_value.result c.in-Leaf.is c.opening_token.ensures.atoms c.in_ok-take.ensures.state c.in_ok-take.ensures.bytes c.settle_value.ensures.comes
+    (atoms_of c.opening_token.result) c.settle_value.result c.in-Leaf.is c.opening_token.ensures.atoms c.in_ok-take.ensures.state c.in_ok-take.ensures.bytes c.settle_value.ensures.comes in
+    record { comes = comes; failed = search rules; kept = search rules }
 
-pub returns-clause-comes : goal.returns-clause-comes
-returns-clause-comes g c =
+pub returns : goal.returns
+returns g c =
     let cursor = c.args.self.now in
     let leads : Leads cursor.position cursor.levels c.args.opening c.match-opening.self.levels =
     elim c.match-opening.branch [
@@ -36,6 +36,7 @@ returns-clause-comes g c =
       | in-FragmentList w ↦ ap (λ (p : Cursor). p.position) (w.self-is ∙ w.open-in-FragmentList.ensures)
       | in-Item w ↦ ap (λ (p : Cursor). p.position) (w.self-is ∙ w.open-in-Item.ensures)
     ] in
-    enters_container g.S.Sink.step g.S.Sink.writes cursor.position cursor.levels c.args.opening c.match-opening.self (g.S.Sink.state c.args.sink.now) (g.S.Sink.contents c.args.sink.now)
+    let comes = enters_container g.S.Sink.step g.S.Sink.writes cursor.position cursor.levels c.args.opening c.match-opening.self (g.S.Sink.state c.args.sink.now) (g.S.Sink.contents c.args.sink.now)
     (g.S.Sink.state c.take.new.self) (g.S.Sink.contents c.take.new.self) (g.S.Sink.state c.settle.new.sink) (g.S.Sink.contents c.settle.new.sink) (reading c.settle.new.self)
-    (atoms_of c.opening_token.result) c.settle.result leads at c.opening_token.ensures.atoms c.in_ok-take.ensures.state c.in_ok-take.ensures.bytes c.settle.ensures.comes
+    (atoms_of c.opening_token.result) c.settle.result leads at c.opening_token.ensures.atoms c.in_ok-take.ensures.state c.in_ok-take.ensures.bytes c.settle.ensures.comes in
+    record { comes = comes; failed = search rules; kept = search rules }

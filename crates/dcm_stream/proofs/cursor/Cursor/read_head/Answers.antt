@@ -1,4 +1,4 @@
-use Rattle.std.proofs.Common.{◌+◌, sym, refl, ℕ, Ok, Err, arith}
+use Rattle.std.proofs.Common.{rules, ◌+◌, sym, refl, ℕ, Ok, Err, arith}
 use Rattle.dcm_stream.specs.Machine.{reading}
 use Rattle.dcm_stream.proofs.Heads.HeadBytes.{some_container}
 use Rattle.dcm_stream.proofs.Runs.Pieces.{fails_first}
@@ -11,15 +11,13 @@ unreachable-requires g c = some_container c.args.self.now c.requires.stands c.in
 pub read_head_bytes-requires : goal.read_head_bytes-requires
 read_head_bytes-requires g c = piece_short g.S.Sink.bar g.S.Sink.step g.S.Sink.writes c.args.self.now c.in-Some.inner (g.S.Sink.state c.args.sink.now) c.args.bytes.now c.requires.head c.requires.left c.requires.within (sym c.in-Some.ensures) c.judge.result c.in-More.is c.judge.ensures
 
-pub returns-in-More-clause-feeds : goal.returns-in-More-clause-feeds
-returns-in-More-clause-feeds g c =
-    piece_waits g.S.Sink.bar g.S.Sink.step g.S.Sink.writes c.args.self.now c.in-Some.inner (g.S.Sink.state c.args.sink.now) c.args.bytes.now c.requires.head c.requires.left c.requires.within (sym c.in-Some.ensures) (g.S.Sink.contents c.args.sink.now)
-    c.read_head_bytes.new.self c.judge.result (tt {0}) c.judge.ensures c.in-More.is c.read_head_bytes.ensures
+pub returns-in-More-clause-fed : goal.returns-in-More-clause-fed
+returns-in-More-clause-fed g c =
+    record { feeds = piece_waits g.S.Sink.bar g.S.Sink.step g.S.Sink.writes c.args.self.now c.in-Some.inner (g.S.Sink.state c.args.sink.now) c.args.bytes.now c.requires.head c.requires.left c.requires.within (sym c.in-Some.ensures) (g.S.Sink.contents c.args.sink.now) c.read_head_bytes.new.self c.judge.result (tt {0}) c.judge.ensures c.in-More.is c.read_head_bytes.ensures; failed = search rules; kept = search rules }
 
-pub returns-in-Refused-clause-feeds : goal.returns-in-Refused-clause-feeds
-returns-in-Refused-clause-feeds g c =
-    piece_refused g.S.Sink.bar g.S.Sink.step g.S.Sink.writes c.args.self.now c.in-Some.inner (g.S.Sink.state c.args.sink.now) c.args.bytes.now c.requires.head c.requires.left c.requires.within (sym c.in-Some.ensures) ℕ (g.S.Sink.contents c.args.sink.now)
-    c.judge.result c.in-Refused.fault c.refused.result (omega (arith, c.requires.eight)) c.judge.ensures c.in-Refused.is c.refused.ensures
+pub returns-in-Refused-clause-fed : goal.returns-in-Refused-clause-fed
+returns-in-Refused-clause-fed g c =
+    record { feeds = piece_refused g.S.Sink.bar g.S.Sink.step g.S.Sink.writes c.args.self.now c.in-Some.inner (g.S.Sink.state c.args.sink.now) c.args.bytes.now c.requires.head c.requires.left c.requires.within (sym c.in-Some.ensures) ℕ (g.S.Sink.contents c.args.sink.now) c.judge.result c.in-Refused.fault c.refused.result (omega (arith, c.requires.eight)) c.judge.ensures c.in-Refused.is c.refused.ensures; failed = search rules; kept = search rules }
 
 pub overflow_add-self : goal.overflow_add-self
 overflow_add-self g c =
@@ -35,18 +33,18 @@ pub enter-requires-clause-few : goal.enter-requires-clause-few
 enter-requires-clause-few g c =
     piece_few g.S.Sink.bar g.S.Sink.step g.S.Sink.writes c.args.self.now c.in-Some.inner (g.S.Sink.state c.args.sink.now) c.args.bytes.now c.requires.head c.requires.left c.requires.within (sym c.in-Some.ensures) c.judge.result c.in-Opens.opening c.in-Opens.size (c.args.self.now.position + c.in-Opens.size) c.requires.stands c.judge.ensures c.in-Opens.is
 
-pub returns-in_err-enter-in-Opens-clause-feeds : goal.returns-in_err-enter-in-Opens-clause-feeds
-returns-in_err-enter-in-Opens-clause-feeds g c =
+pub returns-in_err-enter-in-Opens-clause-fed : goal.returns-in_err-enter-in-Opens-clause-fed
+returns-in_err-enter-in-Opens-clause-fed g c =
     let fed = piece_opens g.S.Sink.bar g.S.Sink.step g.S.Sink.writes c.args.self.now c.in-Some.inner (g.S.Sink.state c.args.sink.now) c.args.bytes.now c.requires.head c.requires.left c.requires.within (sym c.in-Some.ensures) {T = Unit {0}} (g.S.Sink.contents c.args.sink.now)
     (g.S.Sink.state c.enter.new.sink) (g.S.Sink.contents c.enter.new.sink) (reading c.enter.new.self) c.judge.result c.in-Opens.opening c.in-Opens.size (Err c.in_err-enter-in-Opens.field-0.0) c.judge.ensures c.in-Opens.is c.in_err-enter-in-Opens.ensures.comes in
-    fails_first g.S.Sink.bar g.S.Sink.step g.S.Sink.writes (Unit {0}) c.args.self.now (g.S.Sink.state c.args.sink.now) (g.S.Sink.contents c.args.sink.now) (g.S.Sink.state c.enter.new.sink) (g.S.Sink.contents c.enter.new.sink) c.enter.new.self
-    _ c.args.bytes.now c.in-Opens.size c.in_err-enter-in-Opens.field-0.0 c.from_residual.result refl c.from_residual.ensures.1 fed
+    record { feeds = fails_first g.S.Sink.bar g.S.Sink.step g.S.Sink.writes (Unit {0}) c.args.self.now (g.S.Sink.state c.args.sink.now) (g.S.Sink.contents c.args.sink.now) (g.S.Sink.state c.enter.new.sink) (g.S.Sink.contents c.enter.new.sink) c.enter.new.self _ c.args.bytes.now c.in-Opens.size c.in_err-enter-in-Opens.field-0.0 c.from_residual.result refl c.from_residual.ensures.1 fed; failed = search rules; kept = search rules }
 
 pub returns-in_ok-enter-in-Opens-clause-some : goal.returns-in_ok-enter-in-Opens-clause-some
 returns-in_ok-enter-in-Opens-clause-some g c =
     piece_fits g.S.Sink.bar g.S.Sink.step g.S.Sink.writes c.args.self.now c.in-Some.inner (g.S.Sink.state c.args.sink.now) c.args.bytes.now c.requires.head c.requires.left c.requires.within (sym c.in-Some.ensures) c.judge.result c.in-Opens.opening c.in-Opens.size c.judge.ensures c.in-Opens.is
 
-pub returns-in_ok-enter-in-Opens-clause-feeds : goal.returns-in_ok-enter-in-Opens-clause-feeds
-returns-in_ok-enter-in-Opens-clause-feeds g c =
-    piece_opens g.S.Sink.bar g.S.Sink.step g.S.Sink.writes c.args.self.now c.in-Some.inner (g.S.Sink.state c.args.sink.now) c.args.bytes.now c.requires.head c.requires.left c.requires.within (sym c.in-Some.ensures) {T = Unit {0}} (g.S.Sink.contents c.args.sink.now)
-    (g.S.Sink.state c.enter.new.sink) (g.S.Sink.contents c.enter.new.sink) (reading c.enter.new.self) c.judge.result c.in-Opens.opening c.in-Opens.size (Ok (tt {0})) c.judge.ensures c.in-Opens.is c.in_ok-enter-in-Opens.ensures.comes
+pub returns-in_ok-enter-in-Opens-clause-fed : goal.returns-in_ok-enter-in-Opens-clause-fed
+returns-in_ok-enter-in-Opens-clause-fed g c =
+    let feeds = piece_opens g.S.Sink.bar g.S.Sink.step g.S.Sink.writes c.args.self.now c.in-Some.inner (g.S.Sink.state c.args.sink.now) c.args.bytes.now c.requires.head c.requires.left c.requires.within (sym c.in-Some.ensures) {T = Unit {0}} (g.S.Sink.contents c.args.sink.now)
+    (g.S.Sink.state c.enter.new.sink) (g.S.Sink.contents c.enter.new.sink) (reading c.enter.new.self) c.judge.result c.in-Opens.opening c.in-Opens.size (Ok (tt {0})) c.judge.ensures c.in-Opens.is c.in_ok-enter-in-Opens.ensures.comes in
+    record { feeds = feeds; failed = search rules; kept = search rules }

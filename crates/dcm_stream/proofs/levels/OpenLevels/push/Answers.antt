@@ -1,5 +1,5 @@
 use Rattle.std.proofs.Common.{◌≤◌, ◌∙◌, ap, length, ℕ, Option, arith}
-use Rattle.dcm_base.specs.Place.{depth, least}
+use Rattle.dcm_base.specs.Reading.Place.{depth, least}
 use Rattle.dcm_stream.proofs.Containers.Rooms.{depth_few, counts_few, push_summed}
 use Rattle.dcm_stream.proofs.levels.OpenLevels.push.Goals as goal
 

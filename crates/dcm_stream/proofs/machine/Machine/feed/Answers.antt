@@ -1,4 +1,4 @@
-use Rattle.std.proofs.Common.{◌≡◌, ◌++◌, ◌∙◌, ap, sym, ℕ, length, take, None, [], append_assoc, refl, List, ◌+◌, length-append, arith}
+use Rattle.std.proofs.Common.{rules, ◌≡◌, ◌++◌, ◌∙◌, ap, sym, ℕ, length, take, None, [], append_assoc, refl, List, ◌+◌, length-append, arith}
 use Rattle.std.proofs.lemmas.List.{take-append-drop, append-nil}
 use Rattle.dcm_stream.specs.declared.machine.Machine.TheInside.{Inside}
 use Rattle.dcm_stream.specs.Machine.{next_offset, reading, stop_of, is_output}
@@ -30,16 +30,16 @@ loop-self-preserved-in-Ok g c =
       front = front ++ take n rest;
       whole = c.loop-self.invariant.whole ∙ ap (λ (xs : List ℕ). front ++ xs) (sym (take-append-drop n rest) ∙ ap (λ (xs : List ℕ). take n rest ++ xs) (sym c.split_at.ensures.back)) ∙ sym (append_assoc front (take n rest) c.split_at.result.1.now);
       goes = λ fine. gone_on g.S.Sink.bar g.S.Sink.step g.S.Sink.writes c.args.self.now.reading (g.S.Sink.state c.args.sink.now) (g.S.Sink.contents c.args.sink.now) cursor (g.S.Sink.state c.loop-self.sink) (g.S.Sink.contents c.loop-self.sink)
-          c.read_some.new.self (g.S.Sink.state c.read_some.new.sink) (g.S.Sink.contents c.read_some.new.sink) front (take n rest) c.loop-self.self-inside.halt n none (c.loop-self.invariant.goes fine) c.in-Ok.ensures.feeds;
+          c.read_some.new.self (g.S.Sink.state c.read_some.new.sink) (g.S.Sink.contents c.read_some.new.sink) front (take n rest) c.loop-self.self-inside.halt n none (c.loop-self.invariant.goes fine) c.in-Ok.ensures.fed.feeds;
       place = λ h.
           let size : length (front ++ take n rest) ≡ length front + length (take n rest) = length-append front (take n rest) in
-          let more = offset_behind g.S.Sink.bar g.S.Sink.step g.S.Sink.writes (reading cursor None) (g.S.Sink.state c.loop-self.sink) (take n rest) (reading c.read_some.new.self None) (g.S.Sink.state c.read_some.new.sink) (c.loop-self.invariant.stands none) c.in-Ok.ensures.feeds.0 refl in
+          let more = offset_behind g.S.Sink.bar g.S.Sink.step g.S.Sink.writes (reading cursor None) (g.S.Sink.state c.loop-self.sink) (take n rest) (reading c.read_some.new.self None) (g.S.Sink.state c.read_some.new.sink) (c.loop-self.invariant.stands none) c.in-Ok.ensures.fed.feeds.0 refl in
           let before = c.loop-self.invariant.place none in
           omega (arith, size, more, before);
-      stands = λ h. stands_behind g.S.Sink.bar g.S.Sink.step g.S.Sink.writes (reading cursor None) (g.S.Sink.state c.loop-self.sink) (take n rest) (reading c.read_some.new.self None) (g.S.Sink.state c.read_some.new.sink) (c.loop-self.invariant.stands none) c.in-Ok.ensures.feeds.0;
+      stands = λ h. stands_behind g.S.Sink.bar g.S.Sink.step g.S.Sink.writes (reading cursor None) (g.S.Sink.state c.loop-self.sink) (take n rest) (reading c.read_some.new.self None) (g.S.Sink.state c.read_some.new.sink) (c.loop-self.invariant.stands none) c.in-Ok.ensures.fed.feeds.0;
       halted = λ h. absurd (not_halted c.self.inside.cursor c.self.inside.halt c.args.self.now c.self.view_is (ap (λ (i : Inside). i.halt) (sym (c.loop-self.invariant.halted h).0) ∙ none) h);
-      failed = λ h. tells_still _ _ c.loop-self.self-inside.halt none (c.in-Ok.ensures.failed ∙ tells_none _ _ c.loop-self.self-inside.halt none (c.loop-self.invariant.failed h));
-      kept = c.in-Ok.ensures.kept ∙ c.loop-self.invariant.kept;
+      failed = λ h. tells_still _ _ c.loop-self.self-inside.halt none (c.in-Ok.ensures.fed.failed ∙ tells_none _ _ c.loop-self.self-inside.halt none (c.loop-self.invariant.failed h));
+      kept = c.in-Ok.ensures.fed.kept ∙ c.loop-self.invariant.kept;
     }
 
 pub loop-self-preserved : goal.loop-self-preserved
@@ -52,24 +52,28 @@ loop-self-preserved g c =
       front = front ++ rest;
       whole = c.loop-self.invariant.whole ∙ sym (append-nil (front ++ rest));
       goes = λ fine. gone_halted g.S.Sink.bar g.S.Sink.step g.S.Sink.writes c.args.self.now.reading (g.S.Sink.state c.args.sink.now) (g.S.Sink.contents c.args.sink.now) cursor (g.S.Sink.state c.loop-self.sink) (g.S.Sink.contents c.loop-self.sink)
-          c.read_some.new.self (g.S.Sink.state c.read_some.new.sink) (g.S.Sink.contents c.read_some.new.sink) front rest c.loop-self.self-inside.halt c.in-Err.halt none (c.loop-self.invariant.goes fine) c.in-Err.ensures.feeds;
+          c.read_some.new.self (g.S.Sink.state c.read_some.new.sink) (g.S.Sink.contents c.read_some.new.sink) front rest c.loop-self.self-inside.halt c.in-Err.halt none (c.loop-self.invariant.goes fine) c.in-Err.ensures.fed.feeds;
       place = λ h. absurd (cc);
       stands = λ h. absurd (cc);
       halted = λ h. absurd (not_halted c.self.inside.cursor c.self.inside.halt c.args.self.now c.self.view_is (ap (λ (i : Inside). i.halt) (sym (c.loop-self.invariant.halted h).0) ∙ none) h);
-      failed = λ h. tells_halt ℕ _ _ _ c.in-Err.halt (tells_none _ _ c.loop-self.self-inside.halt none (c.loop-self.invariant.failed h)) c.in-Err.ensures.failed;
-      kept = c.in-Err.ensures.kept ∙ c.loop-self.invariant.kept;
+      failed = λ h. tells_halt ℕ _ _ _ c.in-Err.halt (tells_none _ _ c.loop-self.self-inside.halt none (c.loop-self.invariant.failed h)) c.in-Err.ensures.fed.failed;
+      kept = c.in-Err.ensures.fed.kept ∙ c.loop-self.invariant.kept;
     }
 
-pub returns-clause-goes : goal.returns-clause-goes
-returns-clause-goes g c = λ fine.
-    let front = c.loop-self.invariant.front in
-    let rest = c.loop-self.rest.now in
-    elim c.loop-self-test.branch [
-      | then-loop-self-test+else-is_none w ↦ rw c.loop-self.invariant.whole
-          (gone_still g.S.Sink.bar g.S.Sink.step g.S.Sink.writes c.args.self.now.reading (g.S.Sink.state c.args.sink.now) (g.S.Sink.contents c.args.sink.now) c.loop-self.self-inside.cursor (g.S.Sink.state c.loop-self.sink) (g.S.Sink.contents c.loop-self.sink)
-          front rest c.loop-self.self-inside.halt w.if-is_none.ensures (c.loop-self.invariant.goes fine))
-      | else-loop-self-test w ↦ let none : rest ≡ [] = empty_by rest w.loop-self-test.ensures in rw (c.loop-self.invariant.whole, none, append-nil) (c.loop-self.invariant.goes fine)
-    ]
+pub returns-clause-advanced : goal.returns-clause-advanced
+returns-clause-advanced g c = record {
+  goes_over = λ fine.
+      let front = c.loop-self.invariant.front in
+      let rest = c.loop-self.rest.now in
+      elim c.loop-self-test.branch [
+        | then-loop-self-test+else-is_none w ↦ rw c.loop-self.invariant.whole
+            (gone_still g.S.Sink.bar g.S.Sink.step g.S.Sink.writes c.args.self.now.reading (g.S.Sink.state c.args.sink.now) (g.S.Sink.contents c.args.sink.now) c.loop-self.self-inside.cursor (g.S.Sink.state c.loop-self.sink) (g.S.Sink.contents c.loop-self.sink)
+            front rest c.loop-self.self-inside.halt w.if-is_none.ensures (c.loop-self.invariant.goes fine))
+        | else-loop-self-test w ↦ let none : rest ≡ [] = empty_by rest w.loop-self-test.ensures in rw (c.loop-self.invariant.whole, none, append-nil) (c.loop-self.invariant.goes fine)
+      ];
+  failed = search rules;
+  kept = search rules;
+}
 
 pub returns-clause-place : goal.returns-clause-place
 returns-clause-place g c = λ going.

@@ -1,5 +1,5 @@
 use Rattle.std.proofs.Common.{◌≡◌, ◌++◌, ◌+◌, List, ℕ, length, None, true, false}
-use Rattle.dcm_base.specs.Steps.{Goes}
+use Rattle.dcm_base.specs.Steps.Steps.{Goes}
 use Rattle.dcm_stream.specs.Machine.{Stands, next_offset, reading, stop_of, is_output, is_halted, well, TellsFailed, steps, steps_write}
 use Rattle.dcm_stream.proofs.machine.Machine.feed.Given as goal
 

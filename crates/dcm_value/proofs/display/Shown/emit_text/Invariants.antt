@@ -1,5 +1,5 @@
 use Rattle.std.proofs.Common.{◌≡◌, length}
-use Rattle.dcm_base.specs.ValueText.{escaped}
+use Rattle.dcm_base.specs.Dump.ValueText.{escaped}
 use Rattle.dcm_value.specs.Shown.{display_of}
 use Rattle.dcm_value.proofs.Displays.Emits.{PartShown}
 use Rattle.dcm_value.proofs.display.Shown.emit_text.Given as goal

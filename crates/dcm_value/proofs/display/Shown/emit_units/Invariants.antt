@@ -1,6 +1,6 @@
 use Rattle.std.proofs.Common.{◌≡◌, length}
-use Rattle.dcm_base.specs.Value.{units}
-use Rattle.dcm_base.specs.ValueText.{shown_unit}
+use Rattle.dcm_base.specs.Tree.Value.{units}
+use Rattle.dcm_base.specs.Dump.ValueText.{shown_unit}
 use Rattle.dcm_value.specs.Shown.{display_of}
 use Rattle.dcm_value.specs.Units.{one_text, separated}
 use Rattle.dcm_value.proofs.Displays.Emits.{PartShown}

@@ -6,11 +6,11 @@ use Rattle.dcm_value.proofs.Displays.Emits.{settled_of}
 use Rattle.dcm_value.proofs.Displays.Steps.{same_progress, leads_name, feeds_on, opening_waits, opening_failed}
 use Rattle.dcm_value.proofs.value_text.ValueText.feed.Goals as goal
 
-pub returns-in_err-open-clause-bytes : goal.returns-in_err-open-clause-bytes
-returns-in_err-open-clause-bytes g c = opening_failed _ _ (progress c.args.self.now) c.args.bytes.now _ c.from_residual.ensures.0 c.in_err-open.ensures.bytes
+pub returns-in_err-open-clause-wrote : goal.returns-in_err-open-clause-wrote
+returns-in_err-open-clause-wrote g c = record { bytes = opening_failed _ _ (progress c.args.self.now) c.args.bytes.now _ c.from_residual.ensures.0 c.in_err-open.ensures.wrote.bytes; failed = search rules }
 
-pub returns-in-InBrackets-clause-bytes : goal.returns-in-InBrackets-clause-bytes
-returns-in-InBrackets-clause-bytes g c = feeds_on (progress c.args.self.now) _ _ _ _ _ c.args.bytes.now c.feed_text.result c.in_ok-open.ensures.state c.in_ok-open.ensures.bytes c.feed_text.ensures.goes
+pub returns-in-InBrackets-clause-wrote : goal.returns-in-InBrackets-clause-wrote
+returns-in-InBrackets-clause-wrote g c = record { bytes = feeds_on (progress c.args.self.now) _ _ _ _ _ c.args.bytes.now c.feed_text.result c.in_ok-open.ensures.state c.in_ok-open.ensures.wrote.bytes c.feed_text.ensures.went.goes; failed = search rules }
 
 pub returns-in-ByName-clause-state : goal.returns-in-ByName-clause-state
 returns-in-ByName-clause-state g c =
@@ -20,10 +20,10 @@ returns-in-ByName-clause-state g c =
     let name = leads_name q c.args.bytes.now is_way (settled_of s.mode s.count s.front.items s.capped s.filled) in
     same_progress q _ _ _ _ _ _ _ _ refl c.hold.ensures refl refl ∙ sym name.state ∙ ap (λ x. fold step x c.args.bytes.now) c.in_ok-open.ensures.state
 
-pub returns-in-ByName-clause-bytes : goal.returns-in-ByName-clause-bytes
-returns-in-ByName-clause-bytes g c =
+pub returns-in-ByName-clause-wrote : goal.returns-in-ByName-clause-wrote
+returns-in-ByName-clause-wrote g c =
     let q = progress c.open.new.self in
     let s = c.open.new.self.shown in
     let is_way : way q ≡ ByName = search rules in
     let name = leads_name q c.args.bytes.now is_way (settled_of s.mode s.count s.front.items s.capped s.filled) in
-    opening_waits (progress c.args.self.now) q _ _ c.args.bytes.now c.in_ok-open.ensures.state c.in_ok-open.ensures.bytes name
+    record { bytes = opening_waits (progress c.args.self.now) q _ _ c.args.bytes.now c.in_ok-open.ensures.state c.in_ok-open.ensures.wrote.bytes name; failed = search rules }

@@ -1,6 +1,6 @@
-use Rattle.std.proofs.Common.{◌<◌, ap, sym, refl, subst, arith, length}
+use Rattle.std.proofs.Common.{rules, ◌<◌, ap, sym, refl, subst, arith, length}
 use Rattle.std.proofs.Math.Nat.{div-le_self}
-use Rattle.dcm_base.specs.ValueText.{shown_unit}
+use Rattle.dcm_base.specs.Dump.ValueText.{shown_unit}
 use Rattle.dcm_value.specs.Way.{room}
 use Rattle.dcm_value.specs.ValueText.{progress}
 use Rattle.dcm_value.proofs.Displays.Emits.{settled_of}
@@ -39,18 +39,18 @@ show_units-requires-2-clause-counted g c =
     let seen = ap (λ q. q.seen) state in
     omega (arith, fed_lengths fed, div-le_self (length c.as_slice.result.now) (shown_unit p.vr))
 
-pub returns-in_err-show_units-clause-goes : goal.returns-in_err-show_units-clause-goes
-returns-in_err-show_units-clause-goes g c =
+pub returns-in_err-show_units-clause-went : goal.returns-in_err-show_units-clause-went
+returns-in_err-show_units-clause-went g c =
     let p = progress c.args.self.now in
     let s = c.args.self.now.shown in
     let short : length p.held < shown_unit p.vr = subst (λ w. length p.held < room w p.vr) c.requires.way c.args.self.now.waiting in
     let fed : Fed (shown_unit p.vr) p.held c.args.bytes.now c.as_slice.result.now c.feed-units.result.others.now c.feed-units.new.self.bytes.items = fed_of c.as_slice.ensures.value c.shown_unit.ensures.value c.feed-units.ensures.bytes c.feed-units.ensures.first c.feed-units.ensures.others c.feed-units.ensures.held in
-    fed_stops p _ _ _ _ c.requires.way (settled_of s.mode s.count s.front.items s.capped s.filled) short fed _ _ _ _ c.from_residual.ensures.0 c.in_err-show_units.ensures.bytes
+    record { goes = fed_stops p _ _ _ _ c.requires.way (settled_of s.mode s.count s.front.items s.capped s.filled) short fed _ _ _ _ c.from_residual.ensures.0 c.in_err-show_units.ensures.wrote.bytes; failed = search rules }
 
-pub returns-clause-goes : goal.returns-clause-goes
-returns-clause-goes g c =
+pub returns-clause-went : goal.returns-clause-went
+returns-clause-went g c =
     let p = progress c.args.self.now in
     let s = c.args.self.now.shown in
     let short : length p.held < shown_unit p.vr = subst (λ w. length p.held < room w p.vr) c.requires.way c.args.self.now.waiting in
     let fed : Fed (shown_unit p.vr) p.held c.args.bytes.now c.as_slice.result.now c.feed-units.result.others.now c.feed-units.new.self.bytes.items = fed_of c.as_slice.ensures.value c.shown_unit.ensures.value c.feed-units.ensures.bytes c.feed-units.ensures.first c.feed-units.ensures.others c.feed-units.ensures.held in
-    fed_goes p _ _ _ _ c.requires.way (settled_of s.mode s.count s.front.items s.capped s.filled) short fed _ _ _ _ _ _ c.in_ok-show_units.ensures.state c.in_ok-show_units.ensures.bytes c.show_units-2.ensures.state c.show_units-2.ensures.bytes
+    record { goes = fed_goes p _ _ _ _ c.requires.way (settled_of s.mode s.count s.front.items s.capped s.filled) short fed _ _ _ _ _ _ c.in_ok-show_units.ensures.state c.in_ok-show_units.ensures.wrote.bytes c.show_units-2.ensures.state c.show_units-2.ensures.wrote.bytes; failed = search rules }

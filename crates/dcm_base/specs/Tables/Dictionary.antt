@@ -1,0 +1,96 @@
+-- The data dictionary (PS3.6 section 6), and the extract of it.
+use Rattle.std.specs.Prelude.{◌≡◌, ℕ, ◌+◌, Bool, true, ◌&&◌, ◌==◌, nat_le, if◌then◌else◌, List, map, find, length}
+use Rattle.std.specs.Prelude.{codes, Option, option_map, bytes_eq}
+use Rattle.std.specs.List.{slice_range, list_all}
+use Rattle.std.specs.Option.{option_map_or}
+use Rattle.dcm_base.specs.declared.tag.Tag.{Tag}
+use Rattle.dcm_base.specs.declared.vr.Vr.{Vr}
+use Rattle.dcm_base.specs.declared.vr.Vr.TheVariants.{UL, LO, UN}
+use Rattle.dcm_base.specs.declared.dictionary.extract.TheConstants.{ELEMENTS}
+use Rattle.dcm_base.specs.declared.dictionary.Dictionary.{Dictionary}
+use Rattle.dcm_base.specs.declared.dictionary.Dictionary.TheVariants.{Extract, Standard}
+use Rattle.dcm_base.specs.declared.dictionary.standard.TheConstants.{KEYWORDS, STANDARD}
+use Rattle.dcm_base.specs.Tables.Tag.{tag_number, tag_of_number, is_private, is_item, is_item_end, is_sequence_end}
+
+-- the number of a tag, its value representation and its keyword
+abbrev pub Element : Type 0
+Element = ℕ × Vr × List ℕ
+
+unfoldable pub elements : List Element
+elements = map (λ e. (e.0, e.1, e.2.now)) ELEMENTS
+
+-- the value representation and the keyword of a number
+abbrev pub numbered : List Element → ℕ → Option (Vr × List ℕ)
+numbered es n = option_map (λ e. (e.1, e.2)) (find (λ e. e.0 == n) es)
+
+-- the number that has a keyword
+abbrev pub called : List Element → List ℕ → Option ℕ
+called es k = option_map (λ e. e.0) (find (λ e. bytes_eq e.2 k) es)
+
+-- the length of a group, in its element 0000
+abbrev pub is_group_length : Tag → Bool
+is_group_length t = t.element == 0
+
+-- a block of private elements is reserved by an element 0010 to 00FF of an odd group (PS3.5 7.8.1)
+abbrev pub is_private_creator : Tag → Bool
+is_private_creator t = is_private t && (nat_le 16 t.element && nat_le t.element 255)
+
+-- what items and delimiters are called, and what all other tags are
+abbrev pub other_keyword : Tag → List ℕ
+other_keyword t = if is_item t then codes "Item" else if is_item_end t then codes "ItemDelimitationItem"
+    else if is_sequence_end t then codes "SequenceDelimitationItem" else codes "Unknown Tag & Data"
+
+-- the keyword of a tag that no dictionary has
+abbrev pub unlisted_keyword : Tag → List ℕ
+unlisted_keyword t = if is_group_length t then codes "GenericGroupLength"
+    else if is_private_creator t then codes "PrivateCreator" else other_keyword t
+
+-- an element of the standard's table: its number, its value representation, and where its keyword begins in the text
+-- of all keywords and how long it is
+abbrev pub Entry : Type 0
+Entry = ℕ × Vr × ℕ × ℕ
+
+unfoldable pub entries : List Entry
+entries = STANDARD
+
+-- the text of the keywords
+unfoldable pub keywords : List ℕ
+keywords = KEYWORDS.now
+
+abbrev pub keyword_of : List ℕ → Entry → List ℕ
+keyword_of text e = slice_range text e.2 (e.2 + e.3)
+
+abbrev pub element_of : List ℕ → Entry → Element
+element_of text e = (e.0, e.1, keyword_of text e)
+
+-- the elements of a dictionary, in tag order
+unfoldable pub elements_in : Dictionary → List Element
+elements_in Extract = elements
+elements_in Standard = map (element_of keywords) entries
+
+-- the value representation and the keyword of a tag of the dictionary
+unfoldable pub element_in : Dictionary → Tag → Option (Vr × List ℕ)
+element_in d t = numbered (elements_in d) (tag_number t)
+
+-- the value representation of an implicit head, by the dictionary
+unfoldable pub vr_in : Dictionary → Tag → Vr
+vr_in d t = option_map_or (λ e. e.0) (element_in d t)
+    (if is_group_length t then UL else if is_private_creator t then LO else UN)
+
+unfoldable pub keyword_in : Dictionary → Tag → List ℕ
+keyword_in d t = option_map_or (λ e. e.1) (element_in d t) (unlisted_keyword t)
+
+-- the tag of the dictionary's element that has the keyword
+unfoldable pub tag_in : Dictionary → List ℕ → Option Tag
+tag_in d k = option_map tag_of_number (called (elements_in d) k)
+
+-- the first entry with a number
+abbrev pub entry_of : List Entry → ℕ → Option Entry
+entry_of es n = find (λ e. e.0 == n) es
+
+-- the keyword lies within the text
+abbrev pub fits : List ℕ → Entry → Bool
+fits text e = nat_le (e.2 + e.3) (length text)
+
+abbrev pub AllFit : List ℕ → List Entry → Type 0
+AllFit text es = list_all (fits text) es ≡ true

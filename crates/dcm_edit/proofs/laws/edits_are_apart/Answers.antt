@@ -1,5 +1,0 @@
-use Rattle.dcm_edit_words.proofs.Words.EditWordLemmas.{edits_are_apart}
-use Rattle.dcm_edit.proofs.laws.edits_are_apart.Goals as goal
-
-pub returns : goal.returns
-returns c = edits_are_apart

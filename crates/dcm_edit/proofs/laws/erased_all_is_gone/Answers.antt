@@ -1,5 +1,0 @@
-use Rattle.dcm_edit.proofs.Trees.Gone.{erased_all_is_gone}
-use Rattle.dcm_edit.proofs.laws.erased_all_is_gone.Goals as goal
-
-pub returns : goal.returns
-returns c = λ edits s at f again stop tag h among reads. erased_all_is_gone s h.words edits h.mean h.start h.bytes f h.begins h.are_bytes h.reads at h.within again stop reads tag among

@@ -1,5 +1,0 @@
-use Rattle.dcm_edit_words.proofs.Trees.OneByOneFront.{one_by_one}
-use Rattle.dcm_edit.proofs.laws.one_by_one.Goals as goal
-
-pub returns : goal.returns
-returns c = one_by_one

@@ -1,5 +1,0 @@
-use Rattle.dcm_edit.proofs.ReadBack.ReadsAscend.{reads_ascend, reads_ascend_so_far}
-use Rattle.dcm_edit.proofs.laws.reads_ascend.Goals as goal
-
-pub returns : goal.returns
-returns c = record { whole = reads_ascend; so_far = reads_ascend_so_far }

@@ -1,5 +1,0 @@
-use Rattle.dcm_edit.proofs.ReadBack.RecodeAnew.{recode_anew}
-use Rattle.dcm_edit.proofs.laws.recode_anew.Goals as goal
-
-pub returns : goal.returns
-returns c = recode_anew

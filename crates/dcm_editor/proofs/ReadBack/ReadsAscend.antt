@@ -1,0 +1,87 @@
+-- What is read under the bar on tags that do not ascend, ascends.
+use Rattle.std.proofs.Common.{◌≡◌, ◌∙◌, ap, sym, refl, subst, ℕ, ◌≤◌, List, [], ◌∷◌, ◌++◌, length, None, Bool, true, false, arith}
+use Rattle.std.specs.Prelude.{cond, fold, Some}
+use Rattle.std.proofs.lemmas.List.{length-append}
+use Rattle.dcm_base.specs.Tables.Tag.{is_above}
+use Rattle.dcm_base.specs.declared.fault.Fault.TheVariants.{NotAscending}
+use Rattle.dcm_base.specs.declared.syntax.Syntax.{Syntax}
+use Rattle.dcm_base.specs.Tree.Front.{Front, front, nothing_open, open_leaf, open_sequence, open_fragments}
+use Rattle.dcm_base.specs.Lines.Ascending.{FrontAscends}
+use Rattle.dcm_base.specs.Bytes.Spelling.{SpellsFront}
+use Rattle.dcm_base.specs.Reading.Stop.{Stop, complete, refused, is_early_bar}
+use Rattle.dcm_base.specs.Reading.Reads.{INPUT_LIMIT, Reads, ended}
+use Rattle.dcm_base.specs.Reading.Bars.{ascending_bar}
+use Rattle.dcm_base.specs.Steps.Atoms.{Atom, ends, front_atoms, is_closed}
+use Rattle.dcm_base.proofs.DataSets.OneAnswer.{reads_once}
+use Rattle.dcm_base.proofs.DataSets.Shown.{front_shown}
+use Rattle.dcm_stream.specs.Ascending.{reached_after, innermost, ascending}
+use Rattle.dcm_stream.specs.Reading.{read_all, finish, end_shows}
+use Rattle.dcm_stream.proofs.Steps.Ascending.{ascending_bars}
+use Rattle.dcm_stream.proofs.Steps.Follows.{answers}
+use Rattle.dcm_stream.proofs.Heads.Stops.{NeverEarly}
+use Rattle.dcm_sinks.proofs.ReadBack.IsRead.{not_closed, far_atoms}
+use Rattle.dcm_editor.proofs.ReadBack.Rises.{machine_rises, Rises}
+use Rattle.dcm_editor.proofs.ReadBack.Ascends.{front_ascends}
+
+never : (b : Bool) → is_early_bar (cond b None (Some NotAscending)) ≡ false
+never true = refl
+never false = refl
+
+pub late : (atoms : List Atom) → NeverEarly (ascending atoms)
+late atoms = λ tag vr declared. never (is_above tag (innermost (fold reached_after (None ∷ []) atoms)))
+
+-- ---- an end without fault comes where nothing is open
+
+pub longer : (xs : List Atom) → xs ++ ends ∷ [] ≡ xs → ⊥
+longer xs e = omega (arith, ap length e, length-append xs (ends ∷ []))
+
+ended_ascends : (s : Syntax) (stop : Stop) (g : Front) (atoms : List Atom) → atoms ≡ front_atoms s g → atoms ++ end_shows stop ≡ front_atoms s (ended stop g) → FrontAscends g → FrontAscends (ended stop g)
+unfolding front_atoms
+ended_ascends s (refused fault offset) g atoms e i h = h
+ended_ascends s complete (front whole nothing_open reached was) atoms e i h = (h.0, tt)
+ended_ascends s complete (front whole (open_leaf tag vr size value) reached was) atoms e i h = absurd (longer atoms (i ∙ sym e))
+ended_ascends s complete (front whole (open_sequence tag vr declared items last) reached was) atoms e i h = absurd (longer atoms (i ∙ sym e))
+ended_ascends s complete (front whole (open_fragments tag vr values last) reached was) atoms e i h = absurd (longer atoms (i ∙ sym e))
+
+before_end : (stop : Stop) (g : Front) → is_closed g ≡ false → FrontAscends (ended stop g) → FrontAscends g
+before_end (refused fault offset) g c h = h
+before_end complete (front whole nothing_open reached was) c h = (h.0, tt)
+before_end complete (front whole (open_leaf tag vr size value) reached was) c h = absurd (let e : true ≡ false = h.1.unfinished in cc)
+before_end complete (front whole (open_sequence tag vr declared items last) reached was) c h = absurd (let e : true ≡ false = h.1.0.unfinished in cc)
+before_end complete (front whole (open_fragments tag vr values last) reached was) c h = absurd (let e : true ≡ false = h.1.unfinished in cc)
+
+-- ---- the law
+
+-- what was read before its end, and its atoms, without the end and with it
+pub record ReadAtoms (s : Syntax) (start : ℕ) (bytes : List ℕ) (f : Front) (stop : Stop) : Type 0 where
+  pub reached : Front
+  pub read : List ℕ
+  pub spelled : SpellsFront s reached read
+  pub is : f ≡ ended stop reached
+  pub atoms_are : (read_all ascending s start bytes).1 ≡ front_atoms s reached
+  pub ended_are : (read_all ascending s start bytes).1 ++ end_shows stop ≡ front_atoms s (ended stop reached)
+
+pub read_atoms : (s : Syntax) (start : ℕ) (bytes : List ℕ) (f : Front) (stop : Stop) → start ≤ INPUT_LIMIT → Reads ascending_bar s start bytes f stop → ReadAtoms s start bytes f stop
+read_atoms s start bytes f stop le (reached, why, first, said, is) =
+    let reads : Reads ascending_bar s start bytes f stop = (reached, why, first, said, is) in
+    let atoms : List Atom = (read_all ascending s start bytes).1 in
+    let a = answers ascending ascending_bar ascending_bars s start bytes le in
+    let one = reads_once ascending_bar s start bytes a.f f (finish (read_all ascending s start bytes).0) stop a.reads reads in
+    record {
+      reached = reached;
+      read = first.read;
+      spelled = first.spelled;
+      is = is;
+      atoms_are = far_atoms ascending ascending_bar ascending_bars late s start bytes le reached stop (not_closed s reached first.read first.spelled) (subst (λ (x : Front). Reads ascending_bar s start bytes x stop) is reads);
+      ended_are = ap (λ (x : Stop). atoms ++ end_shows x) (sym one.1) ∙ a.shown ∙ ap (front_atoms s) (one.0 ∙ is);
+    }
+
+pub reads_ascend : (s : Syntax) (start : ℕ) (bytes : List ℕ) (f : Front) (stop : Stop) → start ≤ INPUT_LIMIT → Reads ascending_bar s start bytes f stop → FrontAscends f
+reads_ascend s start bytes f stop le reads =
+    let r : ReadAtoms s start bytes f stop = read_atoms s start bytes f stop le reads in
+    subst FrontAscends (sym r.is)
+    (ended_ascends s stop r.reached (read_all ascending s start bytes).1 r.atoms_are r.ended_are
+    (front_ascends r.reached (front_atoms s r.reached) [] (front_shown s r.reached r.read r.spelled) (subst (λ (x : List Atom). Rises (None ∷ []) x) r.atoms_are (machine_rises s start bytes))))
+
+pub reads_ascend_so_far : (s : Syntax) (start : ℕ) (bytes : List ℕ) (f : Front) (stop : Stop) → start ≤ INPUT_LIMIT → is_closed f ≡ false → Reads ascending_bar s start bytes (ended stop f) stop → FrontAscends f
+reads_ascend_so_far s start bytes f stop le c reads = before_end stop f c (reads_ascend s start bytes (ended stop f) stop le reads)

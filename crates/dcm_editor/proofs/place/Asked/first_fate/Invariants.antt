@@ -1,0 +1,15 @@
+use Rattle.std.proofs.Common.{◌≡◌, ◌+◌, length, map}
+use Rattle.dcm_editor.specs.Masks as masks
+use Rattle.dcm_edits.specs.Together as together
+use Rattle.dcm_edits.specs.Meaning.{edit_of}
+use Rattle.dcm_editor.proofs.place.Asked.first_fate.Given as goal
+
+-- no edit so far changes the element
+abbrev pub invariant-loop-edit : goal.invariant-loop-edit
+invariant-loop-edit g l = record {
+  few : l.rest.place + length l.rest.edits.now ≡ length l.fn.self.edits.now;
+  same : together.first_fate (masks.asked l.fn.self.depth l.fn.self.mask l.rest.place (map edit_of l.rest.edits.now)) l.fn.tag ≡ together.first_fate (masks.asked l.fn.self.depth l.fn.self.mask 0 (map edit_of l.fn.self.edits.now)) l.fn.tag;
+}
+
+abbrev pub decreases-loop-edit : goal.decreases-loop-edit
+decreases-loop-edit g l = length l.rest.edits.now

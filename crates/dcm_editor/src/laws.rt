@@ -1,0 +1,163 @@
+//! Laws of the definitions. Each function takes nothing and makes no call: its contract is the law.
+ghost use Rattle.std.specs.Prelude.{◌≡◌, ◌≤◌, ℕ, List, length, Ok};
+ghost use Rattle.dcm_base.specs.Lines.Ascending.{FrontAscends};
+ghost use Rattle.dcm_base.specs.Tree.Front.{Front};
+ghost use Rattle.dcm_base.specs.Conversion.Recode.{recode};
+ghost use Rattle.dcm_base.specs.declared.dictionary.Dictionary.{Dictionary};
+ghost use Rattle.dcm_base.specs.declared.syntax.Syntax.{Syntax};
+ghost use Rattle.dcm_edits.specs.Edit.{Edit, edited};
+ghost use Rattle.dcm_editor.specs.EditSink.{reached_anew};
+ghost use Rattle.dcm_edits.specs.EditWords.{meant_edits_in};
+ghost use Rattle.dcm_editor.specs.Laws as laws;
+ghost use Rattle.dcm_edits.specs.Overlap.{AreApart, ArePublic};
+ghost use Rattle.dcm_edits.specs.Together.{together};
+
+/// Edits that do not overlap, done all at once, do what they do one after another, where the tags of each data set
+/// ascend.
+pub fn one_by_one()
+    ensures { (edits : List Edit) (f : Front) → AreApart edits → ArePublic edits → FrontAscends f
+        → together edits f ≡ edited edits f }
+{}
+
+/// The edits that the words of a command line mean do not overlap, and name no tag of an odd group.
+pub fn edits_are_apart()
+    ensures { (d : Dictionary) (words : List (List ℕ)) (edits : List Edit) → meant_edits_in d words ≡ Ok edits
+        → AreApart edits × ArePublic edits }
+{}
+
+/// What is passed on of the atoms of a data set, whole or as far as it was read, shows it as the edits one after
+/// another leave it, reached tags aside, and the edits that have found their place are known, where the tags of each
+/// data set ascend and no more than 64 sequences and fragment lists are open at a time.
+pub fn edit_steps()
+    ensures { laws.StepsEdit }
+{}
+
+/// The sink bars a head exactly where its tag is not above the last one of its data set.
+pub fn bar_steps()
+    ensures { laws.StepsBar }
+{}
+
+/// What is read of an input under that bar ascends, and so does what was read of it so far.
+pub fn reads_ascend()
+    ensures whole { laws.ReadAscends }
+    ensures so_far { laws.ReadSoFarAscends }
+{}
+
+/// What is written of a data set in a target syntax does not depend on its reached tags.
+pub fn recode_anew()
+    ensures { (target : Syntax) (f : Front) → recode target (reached_anew f) ≡ recode target f }
+{}
+
+/// The words of a command line mean at most 64 edits.
+pub fn edits_are_few()
+    ensures { (d : Dictionary) (words : List (List ℕ)) (edits : List Edit) → meant_edits_in d words ≡ Ok edits
+        → length edits ≤ 64 }
+{}
+
+/// The new elements of the edits that the words of a command line mean are no sequences, their indexes have at most
+/// nine digits, and their paths at most 64 steps.
+pub fn edits_fit()
+    ensures { laws.EditsFit }
+{}
+
+/// Of what is read of an input under the bar of the edit sink, and of what was read of it so far, the edit sink and
+/// the encode sink after it write the edited data set in the target syntax, and the edits that have found their place
+/// are known.
+pub fn edit_reads()
+    ensures whole { laws.EditsWhole }
+    ensures so_far { laws.EditsSoFar }
+{}
+
+/// What is written of a data set that was read without fault, as the edits of a command line leave it, reads back
+/// without fault, in the syntax of the input, as the normal form of the edited data set, where it ends within the
+/// limit of an input.
+pub fn edited_reads()
+    ensures { laws.EditedReads }
+{}
+
+/// It reads back so under the bar of dcmodify too: its tags ascend, so that it can be edited again.
+pub fn edited_ascends()
+    ensures { laws.EditedAscends }
+{}
+
+/// What is written is bytes, where the words of the command line are.
+pub fn edited_is_bytes()
+    ensures { laws.EditedIsBytes }
+{}
+
+/// With `-ea` what is written reads back as a data set in which no element has the tag, at any depth.
+pub fn erased_all_is_gone()
+    ensures { laws.NoneIsLeft }
+{}
+
+/// With `-ep` no element of an odd group is left in it, at any depth.
+pub fn erased_private_is_gone()
+    ensures { laws.NoPrivateIsLeft }
+{}
+
+/// With `-ma` each element of the tag has the value in it, as it is written, at any depth.
+pub fn modified_all_is_so()
+    ensures { laws.AllAreModified }
+{}
+
+/// What no edit may change stays as it was: without the elements of the tags that edits may change, at every depth, the
+/// edited
+/// data set and the one that was read are the same. These are the last tag of each edit, each tag on the path of an
+/// `-i`, and with
+/// `-ep` those of odd groups.
+pub fn others_stay()
+    ensures { laws.OthersStay }
+{}
+
+/// So it is in what is written: it reads back as the normal form of the data set that was read, but for the elements of
+/// those tags.
+pub fn others_stay_written()
+    ensures { laws.OthersStayWritten }
+{}
+
+/// By another dictionary what is written reads back without fault too, as the normal form by that one, where it opens
+/// the edited data set alike: of an implicit one, no value is a sequence by it, and each sequence is one. That is the
+/// same data set, with the representations of that dictionary.
+pub fn edited_reads_by()
+    ensures reads { laws.EditedReadsBy }
+    ensures alike { laws.ReadsAlike }
+{}
+
+/// Each dictionary opens alike an explicit data set, an edited one that it has read itself, and one that the standard
+/// has read, since that knows each sequence of the extract. Of what the extract has read, the standard may open a
+/// value: a sequence of known length whose tag the extract does not have.
+pub fn opens_alike()
+    ensures explicit { laws.ExplicitOpensAlike }
+    ensures own { laws.OwnOpensAlike }
+    ensures standard { laws.StandardOpensAlike }
+{}
+
+/// What was erased, set and left is so for every reader whose dictionary opens the edited data set alike.
+pub fn edited_for_others()
+    ensures erased_all { laws.NoneIsLeftBy }
+    ensures erased_private { laws.NoPrivateIsLeftBy }
+    ensures modified_all { laws.AllAreModifiedBy }
+    ensures others_stay { laws.OthersStayBy }
+{}
+
+/// What was erased is gone for every reader that reads what is written to its end, where the values hide nothing from
+/// it: a value that is a sequence by its dictionary is empty. So it is where that opens the edited data set alike.
+pub fn erased_for_all()
+    ensures erased_all { laws.NoneIsSeen }
+    ensures erased_private { laws.NoPrivateIsSeen }
+    ensures alike { laws.AlikeHidesNothing }
+{}
+
+/// The same edits of what is written, as it reads back, write the same bytes again, where no edit erases an item by its
+/// number.
+pub fn edited_twice()
+    ensures { laws.EditedTwice }
+{}
+
+/// A second run with the same edits reads what the first one wrote without fault, and writes the same bytes again,
+/// where no edit erases an item by its number. What is said of the first run holds of the second one too, where bytes
+/// were written.
+pub fn edited_again()
+    ensures writes { laws.WritesAgain }
+    ensures modifies { laws.ModifiesAgain }
+{}

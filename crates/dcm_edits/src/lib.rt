@@ -1,0 +1,31 @@
+//! What an edit of a data set is, and the words that mean edits.
+//!
+//! - `Edits::parse_in` reads words as `-m PatientName=A` into at most 64 edits, by a dictionary of their tags, or
+//!   refuses them with an `EditFault`. It is the only call of the tools that takes memory, from the allocator that it
+//!   is given. `dictionary_said` is the dictionary that the words name by `+dict` and `-dict`, and `Edits::parse` takes
+//!   the extract.
+//! - An `Edit` is a path with an `Action` at its end, or is of all data sets at every depth. A `Step` of a path leads
+//!   into one item of a sequence, or into every one.
+//! - `specs` has the definitions of edits: what one edit does to a data set (`Edit`), what all do at once (`Together`),
+//!   which overlap (`Overlap`), and which edits words mean (`EditWords`). dcm_editor does them in one pass.
+//!
+//! Words, and what they mean:
+//!
+//!     let edits = Edits::parse(rt.alloc(), &[b"-m", b"PatientName=A"])?;
+//!     assert!(rt; edits.len() == 1);
+#![tactic(auto)]
+
+mod edit;
+mod edits;
+mod fault;
+mod form;
+mod known;
+mod making;
+mod overlap;
+mod parse;
+mod path;
+
+pub use edit::{Action, Edit, Index, NewElement, PathEdit, Step};
+pub use edits::{Edits, MOST_EDITS};
+pub use fault::EditFault;
+pub use parse::{dictionary_said, dictionary_word};

@@ -1,0 +1,148 @@
+// The edits that words mean.
+ghost use Rattle.std.specs.Prelude.{◌≡◌, ◌+◌, ◌<◌, ◌≤◌, length, map, IfOk};
+ghost use Rattle.dcm_base.specs.declared.dictionary.Dictionary.TheVariants.{Extract};
+ghost use Rattle.dcm_edits.specs.EditWords as spec;
+ghost use Rattle.dcm_edits.specs.Making.{option_as, fault_of, texts, texts_from, MakesFrom, MakesAll, first_edit};
+ghost use Rattle.dcm_edits.specs.Meaning.{edit_of as edit_as};
+
+use crate::edit::Edit;
+use crate::edits::MOST_EDITS;
+use crate::fault::{EditFault, Failure};
+use crate::form::Kind;
+use crate::making::edit_of_word;
+use dcm_base::{Dictionary, EditRefusal};
+use std::alloc::Allocator;
+
+/// What a word says that begins an edit.
+#[derive(Clone, Copy, Debug, PartialEq, Eq)]
+enum OptionWord {
+    /// The next word has a path.
+    Takes(Kind),
+    Private,
+    Unknown,
+}
+
+impl OptionWord {
+    /// Whether the next word belongs to it.
+    fn takes_next(self) -> bool
+        ensures { result ≡ spec.takes_next (option_as self) }
+    {
+        match self {
+            OptionWord::Takes(_) => true,
+            OptionWord::Private | OptionWord::Unknown => false,
+        }
+    }
+}
+
+fn option_word(word: &[u8]) -> OptionWord
+    ensures { option_as result ≡ spec.option_word word.now }
+{
+    if word == b"-i".as_slice() {
+        OptionWord::Takes(Kind::Inserts)
+    } else if word == b"-m".as_slice() {
+        OptionWord::Takes(Kind::Modifies)
+    } else if word == b"-e".as_slice() {
+        OptionWord::Takes(Kind::Erases)
+    } else if word == b"-ma".as_slice() {
+        OptionWord::Takes(Kind::ModifiesAll)
+    } else if word == b"-ea".as_slice() {
+        OptionWord::Takes(Kind::ErasesAll)
+    } else if word == b"-ep".as_slice() {
+        OptionWord::Private
+    } else {
+        OptionWord::Unknown
+    }
+}
+
+/// The dictionary that a word names: `+dict` the standard, `-dict` the extract. Other words name none.
+pub fn dictionary_word(word: &[u8]) -> Option<Dictionary>
+    ensures { result ≡ spec.dictionary_word word.now }
+{
+    if word == b"-dict".as_slice() {
+        Some(Dictionary::Extract)
+    } else if word == b"+dict".as_slice() {
+        Some(Dictionary::Standard)
+    } else {
+        None
+    }
+}
+
+/// The dictionary that the words of edits name: that of the last `+dict` or `-dict` where an option may be, or the
+/// extract where there is none.
+pub fn dictionary_said(words: &[&[u8]]) -> Dictionary
+    ensures { result ≡ spec.dictionary_said Extract (texts words.now) }
+{
+    let mut dictionary = Dictionary::Extract;
+    let mut place = 0;
+    while place < words.len() {
+        if option_word(words[place]).takes_next() {
+            place += 2;
+        } else {
+            dictionary = dictionary_word(words[place]).unwrap_or(dictionary);
+            place += 1;
+        }
+    }
+    dictionary
+}
+
+/// A failure of the edit with this number.
+fn in_edit(failure: Failure, number: usize) -> EditFault
+    ensures { result ≡ fault_of failure number }
+{
+    match failure {
+        Failure::Refused(refusal) => EditFault::Refused(refusal, number),
+        Failure::Memory => EditFault::Memory,
+    }
+}
+
+/// The edit whose words begin at this place, which has this number, and how many words it has.
+fn next_edit<A: Allocator + Copy>(
+    alloc: A,
+    dictionary: Dictionary,
+    number: usize,
+    words: &[&[u8]],
+    place: usize,
+) -> Result<(Edit<A>, usize), EditFault>
+    requires { place < length words.now }
+    ensures edit { MakesFrom (λ r. (edit_as r.0, texts_from (place + r.1) words.now)) number result
+        (first_edit dictionary (texts_from place words.now)) }
+    ensures used { IfOk result (λ r. (0 < r.1) × (place + r.1 ≤ length words.now)) }
+{
+    match option_word(words[place]) {
+        OptionWord::Private => Ok((Edit::ErasePrivate, 1)),
+        OptionWord::Takes(kind) => match words.get(place + 1) {
+            Some(word) => match edit_of_word(alloc, dictionary, kind, word) {
+                Ok(edit) => Ok((edit, 2)),
+                Err(failure) => Err(in_edit(failure, number)),
+            },
+            None => Err(EditFault::Refused(EditRefusal::BadOption, number)),
+        },
+        OptionWord::Unknown => Err(EditFault::Refused(EditRefusal::BadOption, number)),
+    }
+}
+
+/// The edits of words, which may overlap. Words that name a dictionary are none.
+pub fn edits_of<A: Allocator + Copy>(
+    alloc: A,
+    dictionary: Dictionary,
+    words: &[&[u8]],
+) -> Result<Vec<Edit<A>, A>, EditFault>
+    ensures { MakesAll (λ v. map edit_as v.items) result
+        (spec.meant_from dictionary 1 (spec.without_dictionary (texts words.now))) }
+{
+    let mut edits = Vec::new(alloc);
+    let mut place = 0;
+    while place < words.len() {
+        if dictionary_word(words[place]).is_some() {
+            place += 1;
+            continue;
+        }
+        if edits.len() == MOST_EDITS {
+            return Err(EditFault::Refused(EditRefusal::TooMany, MOST_EDITS + 1));
+        }
+        let (edit, used) = next_edit(alloc, dictionary, edits.len() + 1, words, place)?;
+        edits.push(edit)?;
+        place += used;
+    }
+    Ok(edits)
+}

@@ -1,0 +1,5 @@
+use Rattle.dcm_sinks.proofs.Conversions.Reads.{reads_so_far, reads_whole}
+use Rattle.dcm_sinks.proofs.laws.encode_reads.Goals as goal
+
+pub returns : goal.returns
+returns c = record { whole = reads_whole; so_far = reads_so_far }

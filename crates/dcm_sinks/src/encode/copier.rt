@@ -1,0 +1,152 @@
+// A value on its way from one syntax to another (PS3.5 7.3, 8.1).
+ghost use Rattle.std.specs.Prelude.{◌≡◌, ◌<◌, ◌≤◌, ◌+◌, ◌-◌, ◌==◌, ◌++◌, option_to_list, if◌then◌else◌, OnOk, []};
+ghost use Rattle.std.specs.Prelude.{length};
+ghost use Rattle.dcm_devices.specs.Writing.{Wrote};
+ghost use Rattle.dcm_base.specs.Conversion.Recode.{too_long as is_long_value};
+ghost use Rattle.dcm_base.specs.Tables.Representation.{unit};
+ghost use Rattle.dcm_base.specs.Tree.Value.{turned};
+ghost use Rattle.dcm_sinks.specs.EncodeSink as spec;
+
+use dcm_base::{DeviceOut, Syntax, Vr, Watched, WriteFailed, put_all};
+use dcm_value::{UnitBuffer, swap};
+
+/// The bytes of the longest unit.
+const LONGEST_UNIT: usize = 8;
+
+/// The bytes of the longest value whose length has two bytes.
+const LONGEST_SHORT: u32 = 65534;
+
+/// The bytes that are turned round at a time.
+const BLOCK: usize = 8192;
+
+/// The pad byte of a fragment (PS3.5 A.4).
+const FRAGMENT_PAD: u8 = 0;
+
+/// A value on its way from one syntax to another. It goes out in whole units.
+#[derive(Drop)]
+pub struct Copier {
+    vr: Vr,
+    is_turned: bool,
+    held: UnitBuffer<LONGEST_UNIT>,
+    pad: Option<u8>,
+    ghost short: { length held.bytes.items < unit vr },
+}
+
+/// Whether a value of this size, with its pad byte, is too long for a length of two bytes.
+pub fn is_too_long(target: Syntax, vr: Vr, size: u32) -> bool
+    ensures { result ≡ is_long_value target vr size }
+{
+    !matches!(target, Syntax::Implicit(_)) && !vr.is_long() && size > LONGEST_SHORT
+}
+
+/// Whether the units of a value are turned round: what is too long is written in little endian order.
+fn is_turned(source: Syntax, target: Syntax, vr: Vr, size: u32) -> bool
+    ensures { result ≡ spec.turns source target vr size }
+{
+    let ends_big = target.is_big() && !is_too_long(target, vr, size);
+    if source.is_big() { !ends_big } else { ends_big }
+}
+
+/// The pad byte that makes an odd value even.
+fn padding(size: u32, pad: u8) -> Option<u8>
+    ensures { spec.padding size pad ≡ option_to_list result }
+{
+    if size % 2 == 0 { None } else { Some(pad) }
+}
+
+/// Writes bytes with each whole unit turned round.
+fn put_turned<W: DeviceOut>(vr: Vr, bytes: &[u8], out: &mut Watched<W>) -> Result<(), WriteFailed>
+    ensures { Wrote W.DeviceOut out.old out.new (turned (unit vr) bytes.now) result }
+{
+    if vr.unit() == 1 || bytes.is_empty() {
+        return put_all(out, bytes);
+    }
+    let mut block = [0u8; BLOCK];
+    let mut rest = bytes;
+    while !rest.is_empty() {
+        let (part, after) = rest.split_at(rest.len().min(BLOCK));
+        put_block(vr, part, &mut block, out)?;
+        rest = after;
+    }
+    Ok(())
+}
+
+/// Writes bytes that a block holds, with each whole unit turned round.
+fn put_block<W: DeviceOut>(
+    vr: Vr,
+    bytes: &[u8],
+    block: &mut [u8; BLOCK],
+    out: &mut Watched<W>,
+) -> Result<(), WriteFailed>
+    requires { length bytes.now ≤ 8192 }
+    ensures { Wrote W.DeviceOut out.old out.new (turned (unit vr) bytes.now) result }
+{
+    let block = &mut block[..bytes.len()];
+    block.copy_from_slice(bytes);
+    swap(vr.unit(), block);
+    put_all(out, block)
+}
+
+impl Copier {
+    ghost use Rattle.dcm_sinks.specs.Copier.{Copied, copying, ordered};
+
+    /// The value of an element of this size.
+    pub fn of_leaf(source: Syntax, target: Syntax, vr: Vr, size: u32) -> Copier
+        ensures { copying result ≡ spec.leaf_copy source target vr size }
+    {
+        Copier {
+            vr,
+            is_turned: is_turned(source, target, vr, size),
+            held: UnitBuffer::new(),
+            pad: padding(size, vr.pad()),
+        }
+    }
+
+    /// A fragment of this size.
+    pub fn of_fragment(size: u32) -> Copier
+        ensures { copying result ≡ spec.fragment_copy size }
+    {
+        Copier {
+            vr: Vr::OB,
+            is_turned: false,
+            held: UnitBuffer::new(),
+            pad: padding(size, FRAGMENT_PAD),
+        }
+    }
+
+    /// Takes bytes of the value in any cut, and writes the units that are whole. Fails where the writer fails, which
+    /// has then taken a beginning of them.
+    pub fn feed<W: DeviceOut>(
+        &mut self,
+        bytes: &[u8],
+        out: &mut Watched<W>,
+    ) -> Result<(), WriteFailed>
+        ensures { Copied W.DeviceOut out.old out.new self.old self.new bytes.now result }
+    {
+        let units = self.held.feed(self.vr.unit(), bytes);
+        self.put_units(units.first.as_slice(), out)?;
+        self.put_units(units.others, out)
+    }
+
+    /// Writes whole units.
+    fn put_units<W: DeviceOut>(&self, units: &[u8], out: &mut Watched<W>) -> Result<(), WriteFailed>
+        ensures { Wrote W.DeviceOut out.old out.new (ordered self.now units.now) result }
+    {
+        if self.is_turned {
+            put_turned(self.vr, units, out)
+        } else {
+            put_all(out, units)
+        }
+    }
+
+    /// Writes the bytes after the last whole unit, and the pad byte of an odd value. Fails where the writer fails.
+    pub fn close<W: DeviceOut>(&self, out: &mut Watched<W>) -> Result<(), WriteFailed>
+        ensures { Wrote W.DeviceOut out.old out.new (spec.copy_ends (copying self.now)) result }
+    {
+        put_all(out, self.held.as_slice())?;
+        match self.pad {
+            Some(pad) => put_all(out, &[pad]),
+            None => Ok(()),
+        }
+    }
+}

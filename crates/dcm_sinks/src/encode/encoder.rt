@@ -1,0 +1,243 @@
+// A data set in a target syntax, token by token (PS3.5 7.1, 7.5, A.4).
+ghost use Rattle.std.specs.Prelude.{◌≡◌, ◌<◌, if◌then◌else◌, OnOk, map, false, true};
+ghost use Rattle.std.specs.Int.{w32};
+ghost use Rattle.dcm_base.specs.Steps.Atoms.{value_byte, closes_leaf, opens_fragment};
+ghost use Rattle.dcm_base.specs.Reading.Bars.{holds_fragments as syntax_holds_fragments};
+ghost use Rattle.dcm_devices.specs.Writing.{Wrote};
+ghost use Rattle.dcm_base.specs.Conversion.Recode as recode;
+ghost use Rattle.dcm_base.specs.Tables.Representation.{is_long as has_long_form};
+ghost use Rattle.dcm_base.specs.declared.form.Form.TheVariants.{Value as a_value};
+ghost use Rattle.dcm_base.specs.declared.length.Length.TheVariants as lengths;
+ghost use Rattle.dcm_base.specs.declared.syntax.Syntax.{Syntax as AnySyntax};
+ghost use Rattle.dcm_base.specs.declared.vr.Vr.TheVariants as representations;
+ghost use Rattle.dcm_stream.specs.Skip.{depth};
+ghost use Rattle.dcm_stream.specs.Tokens.{atoms_of};
+ghost use Rattle.dcm_head.specs.HeadRead.{is_delimiter as is_delimiter_tag};
+ghost use Rattle.dcm_sinks.specs.EncodeSink as spec;
+
+use crate::encode::copier::{Copier, is_too_long};
+use arrayvec::ArrayVec;
+use dcm_base::{DeviceOut, Form, Length, Syntax, Tag, Vr, Watched, WriteFailed, form_of, put_all};
+use dcm_head::{Head, LONG_HEAD, element_head, write_head};
+use dcm_stream::{Skip, Token};
+
+/// The number of the element that holds the length of its group (PS3.5 7.2).
+const GROUP_LENGTH: u16 = 0x0000;
+
+/// How far the writing of a data set has come.
+#[derive(Drop)]
+pub struct Encoder {
+    target: Syntax,
+    /// What is open of an element that is not written.
+    skip: Skip,
+    copier: Option<Copier>,
+}
+
+/// The length of a value of this size with its pad byte. The size of all ones, which no head has, wraps round.
+fn even(size: u32) -> Length
+    ensures bytes { (s : AnySyntax) → recode.number_bytes s w32 (recode.length_number result)
+        ≡ recode.number_bytes s w32 (recode.even size) }
+    ensures exact { size < 4294967295 → result ≡ lengths.Known (recode.even size) }
+{
+    Length::Known(size.wrapping_add(size % 2))
+}
+
+/// The representation that a value of this size is written with: where it is too long for its own, unknown.
+fn written_vr(target: Syntax, vr: Vr, size: u32) -> Vr
+    ensures { result ≡ (if recode.too_long target vr size then representations.UN else vr) }
+{
+    if is_too_long(target, vr, size) {
+        Vr::UN
+    } else {
+        vr
+    }
+}
+
+/// The head of a value of this size (PS3.5 7.1.2, 7.1.3).
+pub fn leaf_head(target: Syntax, tag: Tag, vr: Vr, size: u32) -> ArrayVec<u8, LONG_HEAD>
+    ensures { result.items ≡ recode.leaf_head target tag vr size }
+{
+    let (vr, length) = (written_vr(target, vr, size), even(size));
+    element_head(target, &Head { tag, vr, length })
+}
+
+/// The head of a sequence or fragment list, whose length is undefined.
+fn list_head(target: Syntax, tag: Tag, vr: Vr) -> ArrayVec<u8, LONG_HEAD>
+    requires { has_long_form vr ≡ true }
+    ensures { result.items ≡ recode.head target tag vr lengths.Undefined }
+{
+    let length = Length::Undefined;
+    element_head(target, &Head { tag, vr, length })
+}
+
+/// The head of an item or fragment.
+fn item_head(target: Syntax, length: Length) -> ArrayVec<u8, LONG_HEAD>
+    ensures { result.items ≡ recode.item_head target length }
+{
+    let (tag, vr) = (Tag::ITEM, Vr::UN);
+    write_head(target, &Head { tag, vr, length })
+}
+
+/// The delimiter of an item or of a sequence.
+fn delimiter(target: Syntax, tag: Tag) -> ArrayVec<u8, LONG_HEAD>
+    requires { is_delimiter_tag tag ≡ true }
+    ensures { result.items ≡ recode.plain_head target tag (lengths.Known 0) }
+{
+    let (vr, length) = (Vr::UN, Length::Known(0));
+    write_head(target, &Head { tag, vr, length })
+}
+
+impl Encoder {
+    ghost use Rattle.dcm_sinks.specs.Encoder.{Took, opened, opening, opening_writes, state};
+
+    /// The beginning of a data set in this syntax.
+    pub fn new(target: Syntax) -> Encoder
+        ensures { state result ≡ spec.encode_start target }
+    {
+        Encoder {
+            target,
+            skip: Skip::nothing(),
+            copier: None,
+        }
+    }
+
+    /// Whether the syntax that is written has fragment lists (PS3.5 A.4).
+    pub fn holds_fragments(&self) -> bool
+        ensures { result ≡ syntax_holds_fragments (state self.now).target }
+    {
+        matches!(self.target, Syntax::Little(_))
+    }
+
+    fn open_leaf<W: DeviceOut>(
+        &mut self,
+        out: &mut Watched<W>,
+        head: Head,
+        size: u32,
+        syntax: Syntax,
+    ) -> Result<(), WriteFailed>
+        ensures state { OnOk result (state self.new
+            ≡ spec.encode_opens a_value (state self.old) head.vr (lengths.Known size) syntax) }
+        ensures wrote { Wrote W.DeviceOut out.old out.new (recode.leaf_head self.old.target head.tag head.vr size)
+            result }
+    {
+        let bytes = leaf_head(self.target, head.tag, head.vr, size);
+        put_all(out, bytes.as_slice())?;
+        self.copier = Some(Copier::of_leaf(syntax, self.target, head.vr, size));
+        Ok(())
+    }
+
+    /// An element that is written begins.
+    fn open_element<W: DeviceOut>(
+        &mut self,
+        out: &mut Watched<W>,
+        head: Head,
+        syntax: Syntax,
+    ) -> Result<(), WriteFailed>
+        ensures state { OnOk result (state self.new ≡ opened (state self.old) head syntax) }
+        ensures wrote { Wrote W.DeviceOut out.old out.new (opening_writes (state self.old) head syntax) result }
+    {
+        match (form_of(syntax, head.vr, head.length), head.length) {
+            (Form::Value, Length::Known(size)) => self.open_leaf(out, head, size, syntax),
+            (Form::Sequence, _) => {
+                put_all(out, list_head(self.target, head.tag, Vr::SQ).as_slice())
+            }
+            (Form::FragmentList, _) => {
+                put_all(out, list_head(self.target, head.tag, head.vr).as_slice())
+            }
+            (Form::Value, Length::Undefined) | (Form::Nothing, _) => Ok(()),
+        }
+    }
+
+    fn open<W: DeviceOut>(
+        &mut self,
+        out: &mut Watched<W>,
+        head: Head,
+        syntax: Syntax,
+    ) -> Result<(), WriteFailed>
+        ensures state { OnOk result (state self.new ≡ spec.live_step (state self.old) (opening head syntax)) }
+        ensures wrote { Wrote W.DeviceOut out.old out.new (spec.live_writes (state self.old) (opening head syntax))
+            result }
+    {
+        if head.tag.element == GROUP_LENGTH {
+            self.skip.open(true);
+            return Ok(());
+        }
+        self.open_element(out, head, syntax)
+    }
+
+    fn copy<W: DeviceOut>(&mut self, out: &mut Watched<W>, bytes: &[u8]) -> Result<(), WriteFailed>
+        requires { depth self.old.skip ≡ 0 }
+        ensures { Took W.DeviceOut out.old out.new self.old self.new (map value_byte bytes.now) result }
+    {
+        match self.copier.take() {
+            None => Ok(()),
+            Some(mut copier) => {
+                copier.feed(bytes, out)?;
+                self.copier = Some(copier);
+                Ok(())
+            }
+        }
+    }
+
+    fn close<W: DeviceOut>(&mut self, out: &mut Watched<W>) -> Result<(), WriteFailed>
+        ensures state { OnOk result (state self.new ≡ spec.live_step (state self.old) closes_leaf) }
+        ensures wrote { Wrote W.DeviceOut out.old out.new (spec.live_writes (state self.old) closes_leaf) result }
+    {
+        match self.copier.take() {
+            Some(copier) => copier.close(out),
+            None => Ok(()),
+        }
+    }
+
+    fn open_fragment<W: DeviceOut>(
+        &mut self,
+        out: &mut Watched<W>,
+        size: u32,
+    ) -> Result<(), WriteFailed>
+        ensures state { OnOk result (state self.new ≡ spec.live_step (state self.old) (opens_fragment size)) }
+        ensures wrote { Wrote W.DeviceOut out.old out.new (spec.live_writes (state self.old) (opens_fragment size))
+            result }
+    {
+        put_all(out, item_head(self.target, even(size)).as_slice())?;
+        self.copier = Some(Copier::of_fragment(size));
+        Ok(())
+    }
+
+    /// Writes what a token of an element that is not dropped makes of it.
+    fn take_live<W: DeviceOut>(
+        &mut self,
+        out: &mut Watched<W>,
+        token: Token,
+    ) -> Result<(), WriteFailed>
+        requires { depth self.old.skip ≡ 0 }
+        ensures { Took W.DeviceOut out.old out.new self.old self.new (atoms_of token.entry) result }
+    {
+        match token {
+            Token::Open(head, syntax) => self.open(out, head, syntax),
+            Token::Bytes(bytes) => self.copy(out, bytes),
+            Token::CloseLeaf => self.close(out),
+            Token::OpenItem(_) => {
+                put_all(out, item_head(self.target, Length::Undefined).as_slice())
+            }
+            Token::CloseItem => put_all(out, delimiter(self.target, Tag::ITEM_END).as_slice()),
+            Token::CloseSeq => put_all(out, delimiter(self.target, Tag::SEQUENCE_END).as_slice()),
+            Token::OpenFragment(size) => self.open_fragment(out, size),
+            Token::End => Ok(()),
+        }
+    }
+
+    /// Writes what a token shows. Fails where the writer fails, which has then taken a beginning of it.
+    pub fn take<W: DeviceOut>(
+        &mut self,
+        out: &mut Watched<W>,
+        token: Token,
+    ) -> Result<(), WriteFailed>
+        ensures { Took W.DeviceOut out.old out.new self.old self.new (atoms_of token.entry) result }
+    {
+        if self.skip.is_open() {
+            self.skip.pass(token);
+            return Ok(());
+        }
+        self.take_live(out, token)
+    }
+}

@@ -1,0 +1,22 @@
+//! What the tools write of a data set: its dump, or itself in another syntax.
+//!
+//! - `DumpSink` writes the lines of a dump, `Lines` in it; `dump_header` and `set_header` write what comes before them.
+//! - `EncodeSink` writes the data set in a target syntax, with undefined lengths and without lengths of groups, by an
+//!   `Encoder`, which dcm_build uses too. A value is copied or turned by units as it comes, and never held.
+//! - `laws` has what both sinks make of all tokens of a data set: `dump_steps` and `encode_steps`, and the premises of
+//!   their bars.
+//!
+//! A dump:
+//!
+//!     let mut sink = DumpSink::new(&mut out, Mode::Short);
+//!     let mut machine = Machine::new(coding, 0);
+//!     assert!(rt; machine.feed(NAME, &mut sink).is_ok() && machine.finish(&mut sink).is_ok());
+//!     assert!(rt; out.device().written().starts_with(b"(0010,0010) PN [AB^CD] "));
+#![tactic(auto)]
+
+mod dump;
+mod encode;
+pub mod laws;
+
+pub use dump::{DumpSink, MOST_OPEN, dump_header, dump_header_with, set_header};
+pub use encode::{EncodeSink, Encoder, leaf_head};

@@ -1,5 +1,0 @@
-use Rattle.dcm_tools.proofs.Dumps.Reads.{reads_so_far, reads_whole}
-use Rattle.dcm_tools.proofs.laws.dump_reads.Goals as goal
-
-pub returns : goal.returns
-returns c = record { whole = reads_whole; so_far = reads_so_far }

@@ -1,5 +1,0 @@
-use Rattle.dcm_tools.proofs.Conversions.Reads.{reads_so_far, reads_whole}
-use Rattle.dcm_tools.proofs.laws.encode_reads.Goals as goal
-
-pub returns : goal.returns
-returns c = record { whole = reads_whole; so_far = reads_so_far }
