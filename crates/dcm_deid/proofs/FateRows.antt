@@ -1,0 +1,32 @@
+-- Fates of some elements.
+use Rattle.std.proofs.Common.{◌≡◌, refl, true, false}
+use Rattle.dcm_base.specs.declared.tag.Tag.{Tag}
+use Rattle.dcm_base.specs.Tables.Dictionary as D
+use Rattle.dcm_deid.specs.declared.fate.Fate.TheVariants.{Remove, Empty, Replace, Uid, Keep}
+use Rattle.dcm_deid.specs.declared.fate.Options.{Options}
+use Rattle.dcm_deid.specs.declared.fate.Depth.{Depth}
+use Rattle.dcm_deid.specs.declared.fate.Depth.TheVariants.{Outermost, Inside}
+use Rattle.dcm_deid.specs.declared.fate.ReadAs.TheVariants.{AsBytes}
+use Rattle.dcm_deid.specs.Fate.{actions, fate_as}
+
+abbrev none : Options
+none = record { uids = false; device = false; institution = false; patient = false; dates = false }
+
+abbrev dates_kept : Options
+dates_kept = record { uids = false; device = false; institution = false; patient = false; dates = true }
+
+name : fate_as none Outermost AsBytes (record { group = 0x0010; element = 0x0010 }) ≡ Empty
+unfolding fate_as D.vr_in D.element_in D.elements_in D.entries actions
+name = refl
+
+private_one : fate_as none Inside AsBytes (record { group = 0x0009; element = 0x0010 }) ≡ Remove
+unfolding fate_as D.vr_in D.element_in D.elements_in D.entries actions
+private_one = refl
+
+date_kept : fate_as dates_kept Inside AsBytes (record { group = 0x0008; element = 0x0020 }) ≡ Keep
+unfolding fate_as D.vr_in D.element_in D.elements_in D.entries actions
+date_kept = refl
+
+opaque_one : fate_as none Inside AsBytes (record { group = 0x0008; element = 0x1140 }) ≡ Remove
+unfolding fate_as D.vr_in D.element_in D.elements_in D.entries actions
+opaque_one = refl

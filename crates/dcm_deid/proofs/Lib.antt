@@ -1,0 +1,4 @@
+pub mod Rows
+pub mod Known
+pub mod Trees
+mod FateRows

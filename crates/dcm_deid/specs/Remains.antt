@@ -1,0 +1,66 @@
+-- What is left of a data set without identity.
+use Rattle.std.specs.Prelude.{◌≡◌, ℕ, List, []}
+use Rattle.dcm_base.specs.declared.tag.Tag.{Tag}
+use Rattle.dcm_base.specs.declared.vr.Vr.{Vr}
+use Rattle.dcm_base.specs.Tree.Tree.{Trees, no_tree, leaf, sequence, fragments, Items, no_item, item}
+use Rattle.dcm_base.specs.Tables.Representation.{pad}
+use Rattle.dcm_base.specs.Tree.Value.{evened}
+use Rattle.dcm_deid.specs.declared.fate.Fate.{Fate}
+use Rattle.dcm_deid.specs.declared.fate.Fate.TheVariants.{Remove, Empty, Replace, Uid, Keep}
+use Rattle.dcm_deid.specs.declared.fate.Options.{Options}
+use Rattle.dcm_deid.specs.declared.fate.Depth.{Depth}
+use Rattle.dcm_deid.specs.declared.fate.Depth.TheVariants.{Outermost, Inside}
+use Rattle.dcm_deid.specs.declared.fate.ReadAs.{ReadAs}
+use Rattle.dcm_deid.specs.declared.fate.ReadAs.TheVariants.{AsBytes, AsItems}
+use Rattle.dcm_deid.specs.Fate.{fate_as}
+use Rattle.dcm_deid.specs.Deidentify.{Renaming, dummy, Fates, by_fate}
+
+-- a new unique identifier of some one, with its pad byte
+abbrev pub IsRenamed : Renaming → Vr → List ℕ → Type 0
+IsRenamed new vr value = (old : List ℕ) × (value ≡ evened (pad vr) (new old))
+
+-- nothing that was taken is in a value, by the fate of its element
+abbrev pub ValueIsClean : Renaming → Fate → Vr → List ℕ → Type 0
+ValueIsClean new Remove vr value = ⊥
+ValueIsClean new Empty vr value = value ≡ []
+ValueIsClean new Replace vr value = value ≡ dummy vr
+ValueIsClean new Uid vr value = IsRenamed new vr value
+ValueIsClean new Keep vr value = Unit {0}
+
+-- a sequence whose items, if it is kept, are clean
+abbrev pub SequenceIsClean : Fate → Items → (clean : Type 0) → Type 0
+SequenceIsClean Remove items clean = ⊥
+SequenceIsClean Keep items clean = clean
+SequenceIsClean _ items clean = items ≡ no_item
+
+abbrev pub IsKept : Fate → Type 0
+IsKept Keep = Unit {0}
+IsKept _ = ⊥
+
+-- nothing that was taken is in a data set, at any depth
+abbrev mutual
+  pub IsClean : Fates → Renaming → Depth → Trees → Type 0
+  IsClean fates new depth no_tree = Unit {0}
+  IsClean fates new depth (leaf tag vr value rest) = ValueIsClean new (fates depth AsBytes tag) vr value
+      × IsClean fates new depth rest
+  IsClean fates new depth (sequence tag vr declared items rest) =
+      SequenceIsClean (fates depth AsItems tag) items (ItemsAreClean fates new items) × IsClean fates new depth rest
+  IsClean fates new depth (fragments tag vr parts rest) = IsKept (fates depth AsBytes tag)
+      × IsClean fates new depth rest
+
+  pub ItemsAreClean : Fates → Renaming → Items → Type 0
+  ItemsAreClean fates new no_item = Unit {0}
+  ItemsAreClean fates new (item declared set rest) = IsClean fates new Inside set × ItemsAreClean fates new rest
+
+-- what is not kept goes
+abbrev pub kept_or_removed : Fate → Fate
+kept_or_removed Keep = Keep
+kept_or_removed _ = Remove
+
+abbrev pub value_itself : Fate → Vr → List ℕ → List ℕ
+value_itself fate vr value = value
+
+-- the elements of fate keep alone, at every depth; lengths aside
+abbrev pub kept_of : Options → Depth → Trees → Trees
+kept_of options depth set = by_fate (λ at form tag. kept_or_removed (fate_as options at form tag)) value_itself depth
+    set

@@ -1,0 +1,166 @@
+ghost use Rattle.std.specs.Prelude.{◌≡◌, map, find, option_map, ◌==◌};
+ghost use Rattle.std.specs.List.{list_any};
+ghost use Rattle.std.specs.List.Sorted.{IsStrictlyIncreasing};
+ghost use Rattle.dcm_base.specs.Tables.Tag.{tag_number};
+ghost use Rattle.dcm_deid.specs.Fate as spec;
+
+use crate::table::{ACTIONS, Action};
+use dcm_base::{Dictionary, Tag, Vr, element_in};
+
+/// What becomes of an element.
+#[derive(Clone, Copy, Debug, PartialEq, Eq)]
+pub enum Fate {
+    /// It goes.
+    Remove,
+    /// Its head stays, with no value.
+    Empty,
+    /// Its head stays, with a value that is the same for all.
+    Replace,
+    /// Its head stays, with a new unique identifier.
+    Uid,
+    /// It stays as it is.
+    Keep,
+}
+
+/// The options that keep more (PS3.15 E.3), each given or not.
+#[derive(Clone, Copy, Debug, PartialEq, Eq)]
+pub struct Options {
+    /// Retain UIDs.
+    pub uids: bool,
+    /// Retain Device Identity.
+    pub device: bool,
+    /// Retain Institution Identity.
+    pub institution: bool,
+    /// Retain Patient Characteristics.
+    pub patient: bool,
+    /// Retain Longitudinal Temporal Information, Full Dates.
+    pub dates: bool,
+}
+
+/// One of these options.
+#[derive(Clone, Copy, Debug, PartialEq, Eq)]
+pub enum Retain {
+    Uids,
+    Device,
+    Institution,
+    Patient,
+    Dates,
+}
+
+/// Whether an element is one of the file's own data set, or of one in an item.
+#[derive(Clone, Copy, Debug, PartialEq, Eq)]
+pub enum Depth {
+    Outermost,
+    Inside,
+}
+
+/// Whether an element was read as bytes, a value or fragments of one, or as a sequence of items.
+#[derive(Clone, Copy, Debug, PartialEq, Eq)]
+pub enum ReadAs {
+    AsBytes,
+    AsItems,
+}
+
+impl Options {
+    /// Whether an option is given.
+    fn gives(&self, retain: Retain) -> bool
+        ensures { result ≡ spec.is_given self.now retain }
+    {
+        match retain {
+            Retain::Uids => self.uids,
+            Retain::Device => self.device,
+            Retain::Institution => self.institution,
+            Retain::Patient => self.patient,
+            Retain::Dates => self.dates,
+        }
+    }
+
+    /// Whether one of them is given.
+    fn keeps(&self, retains: &[Retain]) -> bool
+        ensures { result ≡ spec.keeps self.now retains.now }
+    {
+        retains.iter().any(|retain| self.gives(*retain))
+    }
+}
+
+/// The table.
+#[tactic(auto, unfolding(crate::specs::Fate::actions))]
+fn actions() -> &'static [Action]
+    ensures { map (λ a. (a.0, a.1, a.2.now)) result.now ≡ spec.actions }
+{
+    &ACTIONS
+}
+
+/// The row that has the number, where the numbers ascend.
+fn row_of(actions: &[Action], number: u32) -> Option<&Action>
+    requires ascending { IsStrictlyIncreasing (map (λ a. a.0) actions.now) }
+    ensures { option_map (λ a. a.now) result ≡ find (λ a. a.0 == number) actions.now }
+{
+    match actions.binary_search_by_key(&number, |action| action.0) {
+        Ok(at) => Some(&actions[at]),
+        Err(_) => None,
+    }
+}
+
+/// What becomes of an element that the table does not have: dates, times and names of persons are emptied.
+fn fate_of_vr(options: &Options, vr: Vr) -> Fate
+    ensures { result ≡ spec.fate_of_vr options.now vr }
+{
+    match vr {
+        Vr::DA | Vr::TM | Vr::DT if !options.dates => Fate::Empty,
+        Vr::PN => Fate::Empty,
+        _ => Fate::Keep,
+    }
+}
+
+/// What becomes of an element that the dictionary has, with this representation.
+fn fate_of_known(options: &Options, tag: Tag, vr: Vr) -> Fate
+    ensures { result ≡ spec.fate_in_table options.now (find (λ a. a.0 == tag_number tag) spec.actions) vr }
+{
+    match row_of(actions(), tag.number()) {
+        Some(action) if options.keeps(action.2) => Fate::Keep,
+        Some(action) => action.1,
+        None => fate_of_vr(options, vr),
+    }
+}
+
+/// Whether an element of the file's own data set says what was done. Those are put anew.
+fn is_put(options: &Options, tag: Tag) -> bool
+    ensures { result ≡ spec.is_put options.now tag }
+{
+    match (tag.group, tag.element) {
+        (0x0012, 0x0062..=0x0064) => true,
+        (0x0028, 0x0303) => !options.dates,
+        _ => false,
+    }
+}
+
+/// Whether an element that the dictionary has goes whatever the table says: a length of a group, a sequence that was
+/// read as
+/// bytes, since nobody looked into it, or what says what was done.
+fn is_removed(options: &Options, depth: Depth, read: ReadAs, tag: Tag, vr: Vr) -> bool
+    ensures { result ≡ spec.is_removed options.now depth read tag vr }
+{
+    let is_opaque = match read {
+        ReadAs::AsBytes => vr == Vr::SQ,
+        ReadAs::AsItems => false,
+    };
+    let is_put = match depth {
+        Depth::Outermost => is_put(options, tag),
+        Depth::Inside => false,
+    };
+    tag.element == 0 || is_opaque || is_put
+}
+
+/// What becomes of an element (PS3.15 table E.1-1), by the options that are given, where it is, and how it was read.
+/// What
+/// the dictionary of the standard does not have is removed.
+pub fn fate_of(options: &Options, depth: Depth, read: ReadAs, tag: Tag) -> Fate
+    ensures { result ≡ spec.fate_as options.now depth read tag }
+{
+    match element_in(Dictionary::Standard, tag) {
+        Some((vr, _)) if is_removed(options, depth, read, tag, vr) => Fate::Remove,
+        Some((vr, _)) => fate_of_known(options, tag, vr),
+        None => Fate::Remove,
+    }
+}

@@ -1,0 +1,76 @@
+//! Laws of the definitions. Each function takes nothing and makes no call: its contract is the law.
+ghost use Rattle.std.specs.Prelude.{◌≡◌, ◌≢◌, true, false, Option, map};
+ghost use Rattle.std.specs.List.Sorted.{IsStrictlyIncreasing};
+ghost use Rattle.dcm_deid.specs.Fate.{Action, actions};
+ghost use Rattle.dcm_base.specs.declared.tag.Tag.{Tag};
+ghost use Rattle.dcm_base.specs.declared.syntax.Syntax.{Syntax};
+ghost use Rattle.dcm_base.specs.Conversion.Recode.{recode};
+ghost use Rattle.dcm_base.specs.Tree.Tree.{Trees};
+ghost use Rattle.dcm_deid.specs.declared.fate.Options.{Options};
+ghost use Rattle.dcm_deid.specs.declared.fate.Depth.{Depth};
+ghost use Rattle.dcm_deid.specs.declared.fate.Depth.TheVariants.{Outermost};
+ghost use Rattle.dcm_deid.specs.declared.fate.ReadAs.{ReadAs};
+ghost use Rattle.dcm_deid.specs.declared.fate.ReadAs.TheVariants.{AsBytes};
+ghost use Rattle.dcm_deid.specs.Fate.{is_known, fate_as};
+ghost use Rattle.dcm_deid.specs.Deidentify.{Renaming, deidentified_set};
+ghost use Rattle.dcm_deid.specs.Alike.{Alike};
+ghost use Rattle.dcm_deid.specs.Saying.{deidentified, read_whole, unsaid, whole_of};
+ghost use Rattle.dcm_base.specs.Tables.Dictionary.{vr_in};
+ghost use Rattle.dcm_base.specs.Tables.Representation.{is_sequence};
+ghost use Rattle.dcm_base.specs.declared.dictionary.Dictionary.TheVariants.{Standard};
+ghost use Rattle.dcm_deid.specs.declared.fate.Fate.TheVariants.{Remove};
+ghost use Rattle.dcm_deid.specs.Pairs.{Pairs};
+ghost use Rattle.dcm_deid.specs.Remains.{IsClean, kept_of};
+
+/// The numbers of the table ascend, so that it has no tag twice.
+pub fn actions_ascend()
+    ensures { IsStrictlyIncreasing (map (λ (a : Action). a.0) actions) }
+{}
+
+/// Nothing of what is taken out of a data set has any influence on what is left of it.
+pub fn nothing_flows()
+    ensures { (options : Options) (new : Renaming) (depth : Depth) (f g : Trees) → Alike options depth f g
+        → deidentified_set options new depth f ≡ deidentified_set options new depth g }
+{}
+
+/// Nothing that is taken is left, at any depth.
+pub fn taken_is_gone()
+    ensures { (options : Options) (new : Renaming) (depth : Depth) (f : Trees)
+        → IsClean (fate_as options) new depth (deidentified_set options new depth f) }
+{}
+
+/// What has fate keep, and is no sequence that was read as bytes, is as it was, at every depth.
+pub fn others_are_kept()
+    ensures { (options : Options) (new : Renaming) (depth : Depth) (f : Trees)
+        → kept_of options depth (deidentified_set options new depth f) ≡ kept_of options depth f }
+{}
+
+/// Nothing is added to a whole data set but the elements that say what was done.
+pub fn only_said_is_put()
+    ensures { (options : Options) (new : Renaming) (reached : Option Tag) (f : Trees)
+        → unsaid (whole_of (deidentified options new (read_whole reached f)))
+        ≡ unsaid (deidentified_set options new Outermost f) }
+{}
+
+/// So it is with the bytes that are written: data sets that are read without fault and differ only in what is taken
+/// give the same.
+pub fn nothing_flows_out()
+    ensures { (options : Options) (new : Renaming) (target : Syntax) (reached other : Option Tag) (f g : Trees)
+        → Alike options Outermost f g → recode target (deidentified options new (read_whole reached f))
+        ≡ recode target (deidentified options new (read_whole other g)) }
+{}
+
+/// Data sets whose elements pair off, but for those that go and what is taken of those that stay, differ only in what
+/// is taken.
+pub fn pairs_are_alike()
+    ensures { (options : Options) (depth : Depth) (f g : Trees) → Pairs (fate_as options) depth f g
+        → Alike options depth f g }
+{}
+
+/// What stays has a tag of the dictionary, and if it was read as bytes it is no sequence there.
+pub fn what_stays_is_known()
+    ensures known { (options : Options) (depth : Depth) (read : ReadAs) (tag : Tag)
+        → fate_as options depth read tag ≢ Remove → is_known tag ≡ true }
+    ensures looked_into { (options : Options) (depth : Depth) (tag : Tag) → fate_as options depth AsBytes tag ≢ Remove
+        → is_sequence (vr_in Standard tag) ≡ false }
+{}

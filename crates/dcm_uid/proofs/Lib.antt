@@ -1,0 +1,4 @@
+pub mod Replaced
+pub mod Decimals
+pub mod Digests
+mod HmacRows

@@ -1,0 +1,113 @@
+// New UIDs in place of old ones.
+ghost use Rattle.std.specs.Prelude.{◌≡◌, ◌≤◌, ◌+◌, ◌++◌, ℕ, List, length};
+ghost use Rattle.std.specs.List.{list_all};
+ghost use Rattle.dcm_uid.specs.Hmac.{IsKey, hmac_sha256};
+ghost use Rattle.dcm_uid.specs.Uid as spec;
+
+use crate::hmac::Key;
+use arrayvec::ArrayVec;
+use dcm_head::without_pads;
+use itoa::Buffer;
+
+/// The UUID of version 8 of a digest (RFC 9562 5.8).
+fn uuid(d: &[u8; 32]) -> [u8; 16]
+    ensures { result ≡ spec.uuid d.now }
+{
+    [
+        d[0],
+        d[1],
+        d[2],
+        d[3],
+        d[4],
+        d[5],
+        d[6] % 16 + 128,
+        d[7],
+        d[8] % 64 + 128,
+        d[9],
+        d[10],
+        d[11],
+        d[12],
+        d[13],
+        d[14],
+        d[15],
+    ]
+}
+
+/// Its number.
+fn uuid_number(d: &[u8; 32]) -> u128
+    ensures { result ≡ spec.uuid_number d.now }
+{
+    u128::from_be_bytes(uuid(d))
+}
+
+/// Appends bytes, for which there is room.
+fn append<const N: usize>(out: &mut ArrayVec<u8, N>, bytes: &[u8])
+    requires { length out.old.items + length bytes.now ≤ N }
+    ensures { out.new.items ≡ out.old.items ++ bytes.now }
+{
+    match out.try_extend_from_slice(bytes) {
+        Ok(()) => (),
+        Err(_) => unreachable!(),
+    }
+}
+
+/// The new UID in place of `b` under a key: `2.25.` and the number of a UUID (PS3.5 B.2).
+pub fn new_uid(key: &Key, b: &[u8]) -> ArrayVec<u8, 44>
+    ensures value { (k : List ℕ) → IsKey key.now k → result.items ≡ spec.new_uid k b.now }
+    ensures short { length result.items ≤ 44 }
+    ensures form { spec.IsNewUid result.items }
+{
+    let number = uuid_number(&key.hmac(b));
+    let mut buffer = Buffer::new();
+    let mut uid = ArrayVec::new();
+    append(&mut uid, b"2.25.");
+    append(&mut uid, buffer.format(number).as_bytes());
+    uid
+}
+
+/// Whether a byte is a digit or a point.
+fn is_uid_byte(b: u8) -> bool
+    ensures { result ≡ spec.is_uid_byte b }
+{
+    b == b'.' || (b'0' <= b && b <= b'9')
+}
+
+/// Whether all are digits and points.
+fn are_uid_bytes(b: &[u8]) -> bool
+    ensures { result ≡ list_all spec.is_uid_byte b.now }
+{
+    b.iter().all(|x| is_uid_byte(*x))
+}
+
+/// Whether it is a UID of the standard's own.
+fn is_standard(b: &[u8]) -> bool
+    ensures { result ≡ spec.is_standard b.now }
+{
+    b.starts_with(b"1.2.840.10008.") && are_uid_bytes(b)
+}
+
+/// Whether it is one UID of at most 64 bytes (PS3.5 6.2).
+fn is_one_uid(b: &[u8]) -> bool
+    ensures { result ≡ spec.is_one_uid b.now }
+{
+    !b.is_empty() && b.len() <= 64 && !b.contains(&92)
+}
+
+/// What takes the place of the value of a UID under a key (PS3.15 E.1.1, action U), without padding: nothing where it
+/// is
+/// not one UID of at most 64 bytes, itself where it is the standard's own, else a new one.
+pub fn new_value(key: &Key, value: &[u8]) -> ArrayVec<u8, 64>
+    ensures { (k : List ℕ) → IsKey key.now k → result.items ≡ spec.new_value k value.now }
+{
+    let b = without_pads(value);
+    let mut out = ArrayVec::new();
+    if !is_one_uid(b) {
+        return out;
+    }
+    if is_standard(b) {
+        append(&mut out, b);
+    } else {
+        append(&mut out, new_uid(key, b).as_slice());
+    }
+    out
+}
