@@ -1,16 +1,18 @@
 // What a head leads to: a fault, the want of more bytes, or what it opens or closes.
-ghost use Rattle.std.specs.Prelude.{◌≡◌, ◌+◌, ◌^◌, ◌≤◌, ◌∷◌, [], length, false};
+ghost use Rattle.std.specs.Prelude.{◌≡◌, ◌+◌, ◌^◌, ◌≤◌, ◌∷◌, [], length, false, option_map};
 ghost use Rattle.dcm_stream.specs.Places.{innermost};
 ghost use Rattle.dcm_stream.specs.Tokens.{IsFilled, atoms_of};
 ghost use Rattle.dcm_base.specs.Reading.Place as place;
 ghost use Rattle.dcm_base.specs.Bytes.Spelling as spelling;
 ghost use Rattle.dcm_stream.specs.Judging as spec;
+ghost use Rattle.dcm_stream.specs.Machine.{sign_held};
 
 use super::close::closing_token;
 use super::levels::{OpenLevels, is_allowed, opens_list, passes, with_length};
+use super::sign::OpenSign;
 use super::{Bar, Sink, Token};
 use dcm_base::{
-    Container, Fault, Form, ITEM_GROUP, Length, Level, MOST_LISTS, Syntax, Vr, form_of,
+    Container, Fault, Form, ITEM_GROUP, Length, Level, MOST_LISTS, Syntax, Vr, form_of, read_as,
 };
 use dcm_head::{Head, HeadRead, read_tag, read_tagged};
 
@@ -60,7 +62,18 @@ pub fn opening_token(opening: Opening) -> Token<'static>
     }
 }
 
-/// The syntax of what an element holds: UN of undefined length holds implicit heads, read by the same dictionary
+/// What is kept of the value that it opens.
+#[inline(always)]
+pub fn opening_sign(opening: Opening) -> Option<OpenSign>
+    ensures { option_map sign_held result ≡ spec.opened_sign opening }
+{
+    match opening {
+        Opening::Leaf(head, _, _) => OpenSign::of(head.tag, head.vr),
+        _ => None,
+    }
+}
+
+/// The syntax of what a sequence holds: one that is spelled as UN holds implicit heads, read by the same dictionary
 /// (PS3.5 6.2.2).
 #[tactic(auto, unfolding(dcm_base::specs::Bytes::Spelling::inside))]
 pub fn syntax_inside(syntax: Syntax, vr: Vr) -> Syntax
@@ -101,7 +114,7 @@ fn judge_shape(
     if passes(size, room) {
         return Err(Fault::PassesEnd);
     }
-    let form = form_of(syntax, head.vr, head.length);
+    let form = form_of(syntax, read_as(syntax, head.tag, head.vr), head.length);
     let Some(opening) = element_opening(form, syntax, head) else {
         return Err(Fault::UndefinedLength);
     };
