@@ -23,6 +23,7 @@ pub enum Fault {
     FragmentsBarred,
     CannotChange,
     TooLong,
+    IdentityStays,
 }
 
 impl Fault {
@@ -46,6 +47,7 @@ impl Fault {
             Fault::FragmentsBarred => "R13",
             Fault::CannotChange => "R14",
             Fault::TooLong => "R15",
+            Fault::IdentityStays => "R16",
         }
     }
 
@@ -69,6 +71,7 @@ impl Fault {
             Fault::FragmentsBarred => "fragments not allowed in the target syntax",
             Fault::CannotChange => "encapsulated syntax cannot be changed",
             Fault::TooLong => "input too long",
+            Fault::IdentityStays => "identity cannot be taken out",
         }
     }
 }

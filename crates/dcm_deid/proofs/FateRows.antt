@@ -30,3 +30,8 @@ date_kept = refl
 opaque_one : fate_as none Inside AsBytes (record { group = 0x0008; element = 0x1140 }) ≡ Remove
 unfolding fate_as D.vr_in D.element_in D.elements_in D.entries D.ambiguous actions
 opaque_one = refl
+
+-- SmallestImagePixelValue, which the standard leaves between US and SS
+between_two : fate_as none Inside AsBytes (record { group = 0x0028; element = 0x0106 }) ≡ Keep
+unfolding fate_as D.vr_in D.element_in D.elements_in D.entries D.ambiguous actions
+between_two = refl

@@ -4,3 +4,7 @@ pub mod Alike
 pub mod Remains
 pub mod Saying
 pub mod Pairs
+pub mod DeidentifySink
+pub mod Deidentifying
+pub mod Through
+pub mod Laws

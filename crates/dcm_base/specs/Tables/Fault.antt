@@ -26,6 +26,7 @@ fault_number reading.NotAscending = codes "R12"
 fault_number reading.FragmentsBarred = codes "R13"
 fault_number reading.CannotChange = codes "R14"
 fault_number reading.TooLong = codes "R15"
+fault_number reading.IdentityStays = codes "R16"
 
 abbrev pub fault_text : Fault → List ℕ
 fault_text reading.EndsEarly = codes "input ends too early"
@@ -43,6 +44,7 @@ fault_text reading.NotAscending = codes "tags not ascending"
 fault_text reading.FragmentsBarred = codes "fragments not allowed in the target syntax"
 fault_text reading.CannotChange = codes "encapsulated syntax cannot be changed"
 fault_text reading.TooLong = codes "input too long"
+fault_text reading.IdentityStays = codes "identity cannot be taken out"
 
 -- why a line of a dump is refused, where it is built into a file
 abbrev pub line_fault_number : LineFault → List ℕ
