@@ -8,10 +8,10 @@ use Rattle.dcm_devices.specs.Device.{AppendsFront}
 use Rattle.dcm_base.specs.Lines.Limits.{LINE_LIMIT}
 use Rattle.dcm_base.specs.Reading.Reads.{INPUT_LIMIT}
 use Rattle.dcm_base.specs.Steps.Steps.{Goes}
-use Rattle.dcm_build.specs.declared.build.BuildHalt.{BuildHalt}
-use Rattle.dcm_build.specs.declared.build.BuildHalt.TheVariants.{Refused, Output}
-use Rattle.dcm_build.specs.declared.file.Stopped.{Stopped}
-use Rattle.dcm_build.specs.declared.file.Stopped.TheVariants.{Refused as refused_line, Output as failed_output}
+use Rattle.dcm_build.specs.Halts.{BuildHalt}
+use Rattle.dcm_base.specs.declared.stopped.Stopped.TheVariants.{Refused, Output}
+use Rattle.dcm_build.specs.Halts.{LineHalt}
+use Rattle.dcm_base.specs.declared.stopped.Stopped.TheVariants.{Refused as refused_line, Output as failed_output}
 use Rattle.dcm_build.specs.declared.line_reader.LineReader.{LineReader}
 use Rattle.dcm_build.specs.Building.{BuildState, build_step, build_writes}
 use Rattle.dcm_build.specs.NewFile.{LineAt, state}

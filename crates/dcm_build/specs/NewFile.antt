@@ -6,8 +6,8 @@ use Rattle.dcm_base.specs.declared.fault.LineFault.{LineFault}
 use Rattle.dcm_devices.specs.Device.{AppendsFront}
 use Rattle.dcm_base.specs.Lines.Line.{Step, show_leaf, show_fragment}
 use Rattle.dcm_build.specs.declared.file.NewFile.{NewFile}
-use Rattle.dcm_build.specs.declared.file.Stopped.{Stopped}
-use Rattle.dcm_build.specs.declared.file.Stopped.TheVariants.{Refused, Output}
+use Rattle.dcm_build.specs.Halts.{LineHalt}
+use Rattle.dcm_base.specs.declared.stopped.Stopped.TheVariants.{Refused, Output}
 use Rattle.dcm_build.specs.Building.{BuildState, tells}
 use Rattle.dcm_sinks.specs.Encoder as encoders
 

@@ -10,9 +10,9 @@ use Rattle.dcm_sinks.specs.Encoder as encoders
 pub use Rattle.dcm_sinks.specs.Encoder.{Encoded}
 use Rattle.dcm_sinks.specs.EncodeSink.{encode_step, encode_writes}
 use Rattle.dcm_stream.specs.Machine.{TellsFailed, well}
-use Rattle.dcm_build.specs.declared.build.BuildHalt.{BuildHalt}
+use Rattle.dcm_build.specs.Halts.{BuildHalt}
 use Rattle.dcm_build.specs.declared.file.NewFile.{NewFile}
-use Rattle.dcm_build.specs.declared.file.Stopped.{Stopped}
+use Rattle.dcm_build.specs.Halts.{LineHalt}
 use Rattle.dcm_build.specs.declared.line_reader.LineReader.{LineReader}
 use Rattle.dcm_build.specs.Builder.{Feeds, Progress, Reaches, TellsHalt, building, is_halted}
 use Rattle.dcm_build.specs.Building.{BuildState, build_start, build_step, build_writes, end_checks, end_writes}

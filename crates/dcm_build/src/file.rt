@@ -41,7 +41,7 @@ pub enum Stopped {
 }
 
 impl From<WriteFailed> for Stopped {
-    ghost use Rattle.dcm_build.specs.declared.file.Stopped.{Stopped};
+    ghost use Rattle.dcm_build.specs.Halts.{LineHalt};
 
     ghost from_gives = { λ _ s. s ≡ Stopped.Output };
 

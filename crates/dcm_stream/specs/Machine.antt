@@ -11,8 +11,8 @@ use Rattle.dcm_head.specs.declared.head.Head.{Head}
 use Rattle.dcm_stream.specs.declared.token.Bar.{Bar}
 use Rattle.dcm_stream.specs.declared.cursor.Cursor.{Cursor}
 use Rattle.dcm_stream.specs.declared.sign.OpenSign.{OpenSign}
-use Rattle.dcm_stream.specs.declared.machine.Halt.{Halt}
-use Rattle.dcm_stream.specs.declared.machine.Halt.TheVariants.{Refused, Output}
+use Rattle.dcm_stream.specs.Halts.{Halt}
+use Rattle.dcm_base.specs.declared.stopped.Stopped.TheVariants.{Refused, Output}
 use Rattle.dcm_stream.specs.Reading.{Reading, Sign, Opened, sign_reads, value_left, settled, read_byte, is_top}
 use Rattle.dcm_stream.specs.Reading.{drives_byte, finish, end_shows}
 use Rattle.dcm_stream.specs.declared.judge.Opening.{Opening}

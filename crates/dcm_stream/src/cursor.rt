@@ -14,7 +14,7 @@ use super::machine::INPUT_LIMIT;
 use super::sign::OpenSign;
 use super::{Halt, Sink, Token};
 use arrayvec::ArrayVec;
-use dcm_base::{Container, Fault, Length, Stop, Syntax};
+use dcm_base::{Container, Fault, Length, Stop, Stopped, Syntax};
 use dcm_head::{LONG_HEAD, SHORT_HEAD};
 
 /// The offset up to which heads and values were read whole, the bytes of a head after it, the bytes of a value that
@@ -29,9 +29,9 @@ pub struct Cursor {
 }
 
 fn refused(fault: Fault, at: u64) -> Halt
-    ensures { result ≡ Halt.Refused (record { fault = fault; at = at }) }
+    ensures { result ≡ Stopped.Refused (record { fault = fault; at = at }) }
 {
-    Halt::Refused(Stop { fault, at })
+    Stopped::Refused(Stop { fault, at })
 }
 
 impl Cursor {

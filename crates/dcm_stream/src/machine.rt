@@ -6,30 +6,14 @@ ghost use Rattle.dcm_stream.specs.Sinks as sinks;
 
 use super::Sink;
 use super::cursor::Cursor;
-use dcm_base::{Coding, Stop, WriteFailed};
+use dcm_base::{Coding, Stop, Stopped};
 use std::marker::Model;
 
 /// The most bytes of an input that are read. A longer one is refused as too long.
 pub const INPUT_LIMIT: u64 = 1 << 62;
 
-/// Why a machine goes no further.
-#[derive(Clone, Copy, Debug, PartialEq, Eq)]
-pub enum Halt {
-    /// The input is refused.
-    Refused(Stop),
-    /// The sink's output failed.
-    Output,
-}
-
-impl From<WriteFailed> for Halt {
-    ghost use Rattle.dcm_stream.specs.declared.machine.Halt.{Halt};
-
-    ghost from_gives = { λ _ h. h ≡ Halt.Output };
-
-    fn from(_failed: WriteFailed) -> Self {
-        Halt::Output
-    }
-}
+/// Why a machine goes no further: the input is refused, or the sink's output failed.
+pub type Halt = Stopped<Stop>;
 
 /// Reads a data set in pieces, and gives a sink each token as soon as it is sure. It holds at most 11 bytes of a
 /// head and at most 129 open containers, and no byte of a value.

@@ -6,8 +6,8 @@ use Rattle.dcm_base.specs.declared.fault.LineFault.{LineFault}
 use Rattle.dcm_devices.specs.Device.{AppendsFront, Puts}
 use Rattle.dcm_devices.proofs.Writes.Puts.{append_known_none, append_known_twice, puts_behind, front_longer}
 use Rattle.dcm_base.specs.Lines.Line.{Step, Meaning, one}
-use Rattle.dcm_build.specs.declared.file.Stopped.{Stopped}
-use Rattle.dcm_build.specs.declared.file.Stopped.TheVariants.{Refused, Output}
+use Rattle.dcm_build.specs.Halts.{LineHalt}
+use Rattle.dcm_base.specs.declared.stopped.Stopped.TheVariants.{Refused, Output}
 use Rattle.dcm_build.specs.Building.{BuildState, tells, in_group, placed, placed_writes, shows, shows_writes, meaning_taken, meaning_writes}
 use Rattle.dcm_build.specs.NewFile.{LineAt, Comes}
 

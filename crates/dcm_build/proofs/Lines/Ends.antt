@@ -7,11 +7,11 @@ use Rattle.dcm_base.specs.Lines.Build.{first_fault, without_return}
 use Rattle.dcm_base.specs.Lines.Line.{means}
 use Rattle.dcm_base.specs.declared.fault.LineFault.{LineFault}
 use Rattle.dcm_devices.proofs.Writes.Puts.{append_known_twice, front_longer, puts_behind}
-use Rattle.dcm_build.specs.declared.build.BuildHalt.{BuildHalt}
-use Rattle.dcm_build.specs.declared.build.BuildHalt.TheVariants.{Refused, Output}
+use Rattle.dcm_build.specs.Halts.{BuildHalt}
+use Rattle.dcm_base.specs.declared.stopped.Stopped.TheVariants.{Refused, Output}
 use Rattle.dcm_build.specs.declared.file.NewFile.{NewFile}
-use Rattle.dcm_build.specs.declared.file.Stopped.{Stopped}
-use Rattle.dcm_build.specs.declared.file.Stopped.TheVariants.{Refused as refused_line, Output as failed_output}
+use Rattle.dcm_build.specs.Halts.{LineHalt}
+use Rattle.dcm_base.specs.declared.stopped.Stopped.TheVariants.{Refused as refused_line, Output as failed_output}
 use Rattle.dcm_build.specs.declared.line_reader.LineReader.{LineReader}
 use Rattle.dcm_build.specs.Builder.{line_at, building, next_line_at, halts, Reaches}
 use Rattle.dcm_build.specs.Building.{BuildState, next_line, meaning_taken, meaning_writes, line_taken, line_writes, closed, closed_writes, end_checks, end_writes, ended_meta, tells_at_end}

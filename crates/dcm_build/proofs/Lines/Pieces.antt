@@ -11,10 +11,10 @@ use Rattle.dcm_base.specs.Reading.Reads.{INPUT_LIMIT}
 use Rattle.dcm_base.specs.Steps.Steps.{outputs}
 use Rattle.dcm_base.specs.declared.fault.LineFault.TheVariants.{LineTooLong, TooLong}
 use Rattle.dcm_devices.proofs.Writes.Puts.{append_known_none, front_longer}
-use Rattle.dcm_build.specs.declared.build.BuildHalt.{BuildHalt}
-use Rattle.dcm_build.specs.declared.build.BuildHalt.TheVariants.{Refused, Output}
+use Rattle.dcm_build.specs.Halts.{BuildHalt}
+use Rattle.dcm_base.specs.declared.stopped.Stopped.TheVariants.{Refused, Output}
 use Rattle.dcm_build.specs.declared.file.NewFile.{NewFile}
-use Rattle.dcm_build.specs.declared.file.Stopped.TheVariants.{Refused as refused_line}
+use Rattle.dcm_base.specs.declared.stopped.Stopped.TheVariants.{Refused as refused_line}
 use Rattle.dcm_build.specs.declared.line_reader.LineReader.{LineReader}
 use Rattle.dcm_build.specs.Builder.{line_at, building, more, read, Plain, Stands, halts, Reaches, Feeds, bytes_read}
 use Rattle.dcm_build.specs.Building.{BuildState, build_step, build_writes, line_taken, line_writes}
