@@ -2,6 +2,7 @@
 """Makes crates/dcm_base/src/dictionary/standard.rt, the table of the whole data dictionary (PS3.6 sections 6 to 9, PS3.7 E).
 
     scripts/make_dictionary.py [--list] SOURCE
+    scripts/make_dictionary.py --ambiguous SOURCE
     scripts/make_dictionary.py --extract
 
 SOURCE is `_dicom_dict.py` of pydicom or `dicom.dic` of DCMTK: each is the standard's tables as a file. The table goes to standard
@@ -14,6 +15,10 @@ In the table is each element that has a keyword and exactly one VR, in tag order
 it are the other elements between two VRs, those of repeating groups (tags with `xx`), items and delimiters, and elements without
 a keyword.
 
+With --ambiguous the elements between two VRs go out, without PixelData, and the guesses at their rows: the two tables of
+crates/dcm_base/src/dictionary/ambiguous.rt. Each has the VR that an implicit head of it has where pixels are not signed: US for
+`US or SS`, but UN for those that come before PixelRepresentation, which says whether they are; OW for all others (PS3.5 A.1).
+
 Beside the table is `PLACES`, a guess at the row of a number by its remainder. It saves a search where it is right, and no proof
 rests on it. With --extract the guesses of the extract go out, for crates/dcm_base/src/dictionary/extract.rt, where its elements are.
 """
@@ -24,19 +29,24 @@ from pathlib import Path
 from typing import NamedTuple
 
 PIXEL_DATA = 0x7FE00010
+PIXEL_REPRESENTATION = 0x00280103
 ITEMS = 0xFFFE
 
 # What the standard writes with `x` and DCMTK as one tag of them: (0028,04x0), (0028,08x0), (1000,xxx0), (1010,xxxx).
 REPEATED = re.compile("002804[1-9A-F][0-3]|002808[0-9A-F][02348]|1000[0-9A-F]{3}[0-5]|1010[0-9A-F]{4}")
 
 
+# What DCMTK calls a VR that the standard leaves open, and a UL that is an offset.
+DCMTK_NAMES = {"up": "UL", "px": "OW", "xs": "US or SS", "lt": "US or SS or OW", "ox": "OB or OW"}
+
 # The most columns of a line of the table.
 WIDTH = 900
 
 # How many remainders of a number have a place. Of the numbers below 5,000 this one tells most elements apart; more would tell more
-# apart, and each check would take longer. That of the extract is the least that tells all its elements apart.
+# apart, and each check would take longer. Those of the two other tables are the least that tell all their elements apart.
 PLACES = 4_917
 EXTRACT_PLACES = 583
+AMBIGUOUS_PLACES = 172
 
 
 class Element(NamedTuple):
@@ -61,7 +71,7 @@ def read_dcmtk(path: Path) -> tuple[str, list[Element]]:
     for line in text.splitlines():
         row = re.match(r"\(([0-9A-Fa-f]{4}),([0-9A-Fa-f]{4})\)\t(\w+)\t(?:RETIRED_)?(\w+)\t", line)
         if row:
-            vr = {"up": "UL", "px": "OW"}.get(row[3], row[3])
+            vr = DCMTK_NAMES.get(row[3], row[3])
             elements.append(Element(int(row[1] + row[2], 16), vr, row[4]))
     return edition, elements
 
@@ -78,6 +88,18 @@ def chosen(elements: list[Element]) -> list[Element]:
     table = sorted(filter(is_in_table, elements))
     assert len({e.number for e in table}) == len({e.keyword for e in table}) == len(table)
     return table
+
+
+def is_ambiguous(element: Element) -> bool:
+    repeated = REPEATED.fullmatch(f"{element.number:08X}")
+    return " or " in element.vr and element.number != PIXEL_DATA and not repeated
+
+
+def unsigned_vr(element: Element) -> str:
+    """The VR of an element between two, where pixels are not signed."""
+    if element.vr != "US or SS":
+        return "OW"
+    return "UN" if element.number < PIXEL_REPRESENTATION else "US"
 
 
 def packed(parts: list[str], indent: str) -> str:
@@ -99,6 +121,17 @@ def places(numbers: list[int], first: set[int], count: int) -> str:
     return packed([f"{found.get(it, 0)}, " for it in range(count)], "    ")
 
 
+def tag_of(element: Element) -> str:
+    return f"0x{element.number >> 16:04X}_{element.number & 0xFFFF:04X}"
+
+
+def ambiguous(elements: list[Element]) -> str:
+    """The two tables of the elements between two VRs."""
+    table = sorted(filter(is_ambiguous, elements))
+    rows = [f'    ({tag_of(e)}, Vr::{unsigned_vr(e)}, "{e.keyword}"),' for e in table]
+    return "\n".join([*rows, "", places([e.number for e in table], set(), AMBIGUOUS_PLACES)])
+
+
 def extract() -> list[int]:
     """The numbers of the elements of the extract."""
     text = (Path(__file__).parent.parent / "crates/dcm_base/src/dictionary/extract.rt").read_text()
@@ -111,8 +144,7 @@ def rust(edition: str, elements: list[Element]) -> str:
     keywords = packed([e.keyword + "\\n" for e in elements], "").replace("\n", "\\\n")
     rows, start = [], 0
     for e in elements:
-        tag = f"0x{e.number >> 16:04X}_{e.number & 0xFFFF:04X}"
-        rows.append(f"({tag}, Vr::{e.vr}, {start}, {len(e.keyword)}), ")
+        rows.append(f"({tag_of(e)}, Vr::{e.vr}, {start}, {len(e.keyword)}), ")
         start += len(e.keyword) + 1
     return f"""//! The data dictionary of the standard (PS3.6 sections 6 to 9, PS3.7 E), edition {edition}.
 //! `scripts/make_dictionary.py` wrote this file.
@@ -143,12 +175,15 @@ def main(words: list[str]) -> int:
     if words == ["--extract"]:
         print(places(extract(), set(), EXTRACT_PLACES))
         return 0
-    paths = [Path(w) for w in words if w != "--list"]
+    paths = [Path(w) for w in words if w not in ("--list", "--ambiguous")]
     if len(paths) != 1:
         print(__doc__, file=sys.stderr)
         return 1
     read = read_dcmtk if paths[0].suffix == ".dic" else read_pydicom
     edition, elements = read(paths[0])
+    if "--ambiguous" in words:
+        print(ambiguous(elements))
+        return 0
     table = chosen(elements)
     if "--list" in words:
         for e in table:

@@ -52,7 +52,7 @@ def file_of(syntax, data_set):
 
 
 MODALITY = leaf(0x00080060, "CS", b"CT")
-NAME, ID, BIRTH_DATE, DOSES, DOSE = 0x00100010, 0x00100020, 0x00100030, 0x300A0010, 0x300A0012
+NAME, ID, BIRTH_DATE, DOSES, DOSE, OVERLAY = 0x00100010, 0x00100020, 0x00100030, 0x300A0010, 0x300A0012, 0x60003000
 
 
 def scan(name, number=b"7", after=b""):
@@ -66,7 +66,8 @@ def plan(name):
                    + leaf(DOSES, "", item(inside), False))
 
 
-OPAQUE = leaf(DOSES, "UN", item(leaf(NAME, "", b"Hidden", False)))
+OPAQUE = leaf(OVERLAY, "UN", item(leaf(NAME, "", b"Hidden", False)))
+UNKNOWN = leaf(DOSES, "UN", item(leaf(NAME, "", b"Hidden", False)))
 PRIVATE = leaf(0x00110010, "LO", b"MAKER") + leaf(0x00111001, "UN", item(leaf(NAME, "", b"Hidden", False)))
 # a dump of this is larger than what a pipe holds
 LARGE = leaf(0x00400275, "SQ", item(leaf(0x00080104, "LO", b"a meaning")) * 1000)
@@ -99,6 +100,7 @@ TREE = {
     b"large.dcm": Input(scan(b"Meier^Anna", b"18", LARGE)),
     b"large and opaque.dcm": Input(scan(b"Meier^Anna", b"19", LARGE + OPAQUE), cleans=False, opaque=True),
     b"opaque": Input(scan(b"Meier^Anna", b"20", OPAQUE), cleans=False, opaque=True),
+    b"unknown.dcm": Input(scan(b"Meier^Anna", b"25", UNKNOWN)),
     b"private.dcm": Input(file_of(LITTLE, MODALITY + leaf(NAME, "PN", b"Meier") + leaf(ID, "LO", b"21") + PRIVATE), opaque=True),
     b"nameless.dcm": Input(file_of(LITTLE, MODALITY), named=False),
     b"jpeg.dcm": Input(file_of(JPEG, MODALITY + leaf(NAME, "PN", b"Huber") + leaf(ID, "LO", b"22")), converts=False),

@@ -298,7 +298,35 @@ def unknown_doses(uid, vr_inside, number):
     )
 
 
-BETWEEN = leaf(SMALLEST, "", b"\1\2", IMPLICIT) + leaf(WAVEFORM, "", b"\1\2", IMPLICIT) + leaf(OVERLAY, "", b"\1\2", IMPLICIT)
+PERIMETER = 0x00280071
+SIGN = 0x00280103
+LUTS = 0x00283010
+LUT = 0x00283002
+LUT_DATA = 0x00283006
+
+ONE = leaf(SIGN, "", b"\1\0", IMPLICIT)
+TWO = leaf(SIGN, "", b"\2\0", IMPLICIT)
+ONE_LINE = line(SIGN, "US", "1", 2, 1, "PixelRepresentation")
+TWO_LINE = line(SIGN, "US", "2", 2, 1, "PixelRepresentation")
+LAST = leaf(SMALLEST, "", b"\xff\xff", IMPLICIT)
+LUT_ITEM = item(leaf(LUT, "", b"\xff\xff", IMPLICIT), IMPLICIT)
+
+
+def last_line(vr):
+    return line(SMALLEST, vr, {"US": "65535", "SS": "-1"}[vr], 2, 1, "SmallestImagePixelValue")
+
+
+def signed_item(before, vr):
+    """A sequence of an item with what comes before an element between two VRs, and the conversion of it to explicit."""
+    inside = item(before + leaf(LUT, "", b"\xff\xff", IMPLICIT), IMPLICIT)
+    converted = leaf(SIGN, "US", before[-2:]) if before else b""
+    return sequence(LUTS, inside, IMPLICIT), open_sequence(LUTS, open_item(converted + leaf(LUT, vr, b"\xff\xff")))
+
+
+SIGNED_ITEMS = [signed_item(b"", "SS"), signed_item(TWO, "US"), signed_item(b"", "SS")]
+
+UNKNOWN_DOSES = leaf(DOSES, "UN", DOSE_ITEM)
+OPEN_DOSES = open_sequence(DOSES, open_item(leaf(DOSE, "IS", b"1 ")))
 
 DICTIONARIES = [
     dumps("a keyword that the extract lacks", LITTLE, leaf(TUBE, "IS", b"90"), line(TUBE, "IS", "[90]", 2, 1, UNKNOWN)),
@@ -319,13 +347,48 @@ DICTIONARIES = [
     Case("a data set alone, with +dict", "dcmdump -f -ti +dict FILE", KNOWN_DOSES, set_header("LittleEndianImplicit") + DOSE_LINES),
     dumps("UN of undefined length in big endian, without +dict", BIG, *unknown_doses(BIG, "UN", "31\\20")),
     dumps("UN of undefined length in big endian, with +dict", BIG, *unknown_doses(BIG, "IS", "[1]"), "dcmdump +dict FILE"),
+    dumps("without +dict elements between two VRs are UN", IMPLICIT, LAST, line(SMALLEST, "UN", "ff\\ff", 2, 1, UNKNOWN)),
+    dumps("+dict: US or SS where no sign came", IMPLICIT, LAST, last_line("US"), "dcmdump +dict FILE"),
+    dumps("+dict: US or SS where pixels are signed, and no more", IMPLICIT, ONE + LAST + TWO + LAST, ONE_LINE + last_line("SS") + TWO_LINE + last_line("US"), "dcmdump +dict FILE"),
     dumps(
-        "+dict: elements between two VRs and of repeating groups are UN",
+        "+dict: other elements between two VRs, and those of repeating groups",
         IMPLICIT,
-        BETWEEN,
-        "".join(line(tag, "UN", "01\\02", 2, 1, UNKNOWN) for tag in (SMALLEST, WAVEFORM, OVERLAY)),
+        b"".join(leaf(tag, "", b"\1\2", IMPLICIT) for tag in (PERIMETER, LUT_DATA, WAVEFORM, OVERLAY)),
+        line(PERIMETER, "UN", "01\\02", 2, 1, "PerimeterValue")
+        + line(LUT_DATA, "OW", "0201", 2, 1, "LUTData")
+        + line(WAVEFORM, "OW", "0201", 2, 1, "WaveformData")
+        + line(OVERLAY, "UN", "01\\02", 2, 1, UNKNOWN),
         "dcmdump +dict FILE",
     ),
+    converts(
+        "an item begins as what is around its sequence, and what it says ends with it",
+        "dcmconv +dict +te FILE -",
+        IMPLICIT,
+        LITTLE,
+        ONE + b"".join(given for given, _ in SIGNED_ITEMS),
+        leaf(SIGN, "US", b"\1\0") + b"".join(converted for _, converted in SIGNED_ITEMS),
+    ),
+    Case(
+        "no edit changes a VR",
+        "dcmodify +dict -m PixelRepresentation=0 FILE -",
+        file_of(LITTLE, leaf(SIGN, "US", b"\1\0") + leaf(LUTS, "UN", LUT_ITEM)),
+        file_of(LITTLE, leaf(SIGN, "US", b"\0\0") + open_sequence(LUTS, open_item(leaf(LUT, "SS", b"\xff\xff")))),
+    ),
+    dumps("UN of known length, without +dict", LITTLE, UNKNOWN_DOSES, line(DOSES, "UN", DOSE_ITEM.hex("\\"), 18, 1, UNKNOWN)),
+    dumps("UN of known length that is a sequence by +dict", LITTLE, UNKNOWN_DOSES, DOSE_LINES.replace(" SQ ", " UN "), "dcmdump +dict FILE"),
+    dumps("any other is bytes", LITTLE, leaf(ID, "UN", b"12"), line(ID, "UN", "31\\32", 2, 1, "PatientID"), "dcmdump +dict FILE"),
+    converts("it is written as a sequence", "dcmconv +dict FILE -", LITTLE, LITTLE, UNKNOWN_DOSES, OPEN_DOSES),
+    converts("so it is in big endian", "dcmconv +dict +te FILE -", BIG, LITTLE, leaf(DOSES, "UN", DOSE_ITEM, BIG), OPEN_DOSES),
+    fault(
+        "UN of bytes that are no items, by +dict",
+        "dcmdump +dict FILE",
+        file_of(LITTLE, leaf(DOSES, "UN", b"no items")),
+        "R9",
+        AT_SET + 12,
+        "tag not allowed here",
+        shown(LITTLE, line(DOSES, "UN", "(Sequence with explicit length)", 8, 1, "DoseReferenceSequence")),
+    ),
+    dumps("the same with -dict", LITTLE, leaf(DOSES, "UN", b"no items"), line(DOSES, "UN", b"no items".hex("\\"), 8, 1, UNKNOWN), "dcmdump -dict FILE"),
     dumps("+dict: PixelData is OW", IMPLICIT, leaf(PIXELS, "", b"\1\2", IMPLICIT), line(PIXELS, "OW", "0201", 2, 1, "PixelData"), "dcmdump +dict FILE"),
     dumps(
         "+dict: private elements are as before",
@@ -695,11 +758,12 @@ PRIVACY = [
     names_left("the name is in a conversion with +dict", "dcmconv +dict +te FILE -", 2),
     names_left("after a conversion with +dict it is erased", 'dcmconv +dict +te FILE - | "$0" dcmodify -ea PatientName - -', 0),
     Case(
-        "a conversion without +dict hides it for good",
-        'dcmconv +te FILE - | "$0" dcmodify +dict -ea PatientName - - | grep -a -c Hidden',
+        "a conversion without +dict makes it opaque, and an edit without +dict leaves it",
+        'dcmconv +te FILE - | "$0" dcmodify -ea PatientName - - | grep -a -c Hidden',
         file_of(IMPLICIT, HIDDEN),
         "1\n",
     ),
+    names_left("an edit with +dict reaches into it again", 'dcmconv +te FILE - | "$0" dcmodify +dict -ea PatientName - -', 0),
     converts(
         "offsets in a DICOMDIR are copied, and what they point to moves",
         CONVERT,

@@ -1,7 +1,9 @@
 -- Bytes spell one data set, as far as it was read, and have one stop (PS3.5 7).
 pub mod Heads
 pub mod Whole
-pub mod Apart
+pub mod After
+pub mod Alike
+mod Apart
 pub mod Fronts
 pub mod OneAnswer
 pub mod Sizes

@@ -2,6 +2,7 @@
 pub mod TagOrder
 pub mod ByNumber
 pub mod Entries
+pub mod Private
 pub mod Lines
 pub mod Unique
 pub mod Parts

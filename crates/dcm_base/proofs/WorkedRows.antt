@@ -9,3 +9,5 @@ pub mod LineMeanings
 pub mod Lines
 pub mod Builds
 pub mod Elements
+pub mod Signs
+pub mod UnknownSequences

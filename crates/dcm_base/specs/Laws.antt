@@ -5,7 +5,8 @@ use Rattle.dcm_base.specs.Tables.Dictionary.{Element}
 use Rattle.dcm_base.specs.Tree.Front.{Front}
 use Rattle.dcm_base.specs.Reading.Stop.{Bar, Stop}
 use Rattle.dcm_base.specs.Reading.Reads.{Reads}
-use Rattle.dcm_base.specs.Conversion.Normal.{FrontFits}
+use Rattle.dcm_base.specs.Conversion.Normal.{FrontFits, FrontStays}
+use Rattle.dcm_base.specs.Conversion.Recode.{is_explicit}
 use Rattle.dcm_base.specs.Tables.Number.{AreBytes, HasLength, IsLength, IsTag}
 use Rattle.dcm_base.specs.Tables.Representation.{is_sequence, letters}
 use Rattle.dcm_base.specs.Dump.Dump.{line, leaf_line, fragment_line, sequence_line}
@@ -70,6 +71,13 @@ ImplicitFits =
     (d : Dictionary) (target : Syntax) (bar : Bar) (start : ℕ) (bytes : List ℕ) (f : Front) (stop : Stop)
     → dictionary_of target ≡ d
     → Reads bar (implicit_in d) start bytes f stop → FrontFits target f
+
+-- what was read of a data set fits each explicit target with the same dictionary, but for values that are too long
+abbrev pub ExplicitFits : Type 0
+ExplicitFits =
+    (source target : Syntax) (bar : Bar) (start : ℕ) (bytes : List ℕ) (f : Front) (stop : Stop)
+    → is_explicit target ≡ true → dictionary_of target ≡ dictionary_of source → FrontStays target f
+    → Reads bar source start bytes f stop → FrontFits target f
 
 -- the keyword of an element on a line of its own
 abbrev pub as_line : Element → List ℕ

@@ -42,7 +42,7 @@ pub use dictionary::{
 };
 pub use digits::{decimal_digit, decimal_number};
 pub use fault::{EditRefusal, Fault, LineFault, LineStop, Stop, WordFault};
-pub use form::{Form, form_of};
+pub use form::{Form, form_of, read_as};
 pub use length::Length;
 pub use level::{Container, Level, MOST_LISTS};
 pub use limits::{LINE_LIMIT, VALUE_LIMIT};

@@ -8,10 +8,10 @@ use Rattle.dcm_base.specs.Conversion.Recode.{is_explicit}
 use Rattle.dcm_base.specs.declared.tag.Tag.{Tag}
 use Rattle.dcm_base.specs.declared.vr.Vr.{Vr}
 use Rattle.dcm_base.specs.declared.dictionary.Dictionary.{Dictionary}
-use Rattle.dcm_base.specs.declared.dictionary.Dictionary.TheVariants.{Standard}
+use Rattle.dcm_base.specs.declared.dictionary.Dictionary.TheVariants.{Standard, Extract}
 use Rattle.dcm_edits.specs.Edit.{Edit, erase_all, erase_private, modify_all}
 use Rattle.dcm_editor.specs.Everywhere.{Among, EverywhereIn, IsOther, IsPublic, IsWrittenJust}
-use Rattle.dcm_editor.specs.Others.{any_changes, set_without}
+use Rattle.dcm_editor.specs.Others.{any_changes, set_without, KeepsSign}
 use Rattle.dcm_editor.specs.Readers.{HidesNothing, OpensAlike}
 use Rattle.dcm_editor.specs.Repeating.{EraseByNoNumber}
 use Rattle.dcm_words.specs.declared.job.Job.{Job}
@@ -23,6 +23,7 @@ use Rattle.dcm_words.specs.Plans.{job_of}
 use Rattle.dcm_words.specs.Words as words
 use Rattle.std.specs.Prelude.{◌++◌, ◌≡◌, ◌⊎◌, List, Option, true, ℕ}
 use Rattle.std.specs.declared.alloc.Global.{Global}
+use Rattle.dcm_base.specs.Tables.Syntax.{read_by}
 
 -- what is sure of a beginning is a beginning of the output for every input that begins so
 abbrev pub SureGrows : Type 0
@@ -68,7 +69,7 @@ ModifiedAll =
 abbrev pub OthersStay : Type 0
 OthersStay =
     (d : Dictionary) (edits : List Edit) (input : List ℕ) (a : Answer) (m : Meta) (coding : Coding) (f : Front)
-    → IsModified d edits input a m coding f
+    → IsModified d edits input a m coding f → KeepsSign coding.syntax edits
     → InOutput d (λ s set. set_without (any_changes edits) set ≡ set_without (any_changes edits) (normal_front s f)) a
 
 -- a dictionary that opens the output alike reads the same data set in it without fault, but for the representations:
@@ -104,14 +105,14 @@ ModifiedAllBy =
 abbrev pub OthersStayBy : Type 0
 OthersStayBy =
     (d e : Dictionary) (edits : List Edit) (input : List ℕ) (a : Answer) (m : Meta) (coding : Coding) (f : Front)
-    → IsModified d edits input a m coding f → InOutput d (OpensAlike e) a
+    → IsModified d edits input a m coding f → KeepsSign (read_by e coding.syntax) edits → InOutput d (OpensAlike e) a
     → InOutput e (λ s set. set_without (any_changes edits) set ≡ set_without (any_changes edits) (normal_front s f)) a
 
--- an explicit output each dictionary opens alike
+-- an explicit output the extract opens alike
 abbrev pub ExplicitOpensAlike : Type 0
 ExplicitOpensAlike =
-    (d e : Dictionary) (edits : List Edit) (input : List ℕ) (a : Answer) (m : Meta) (coding : Coding) (f : Front)
-    → IsModified d edits input a m coding f → is_explicit coding.syntax ≡ true → InOutput d (OpensAlike e) a
+    (d : Dictionary) (edits : List Edit) (input : List ℕ) (a : Answer) (m : Meta) (coding : Coding) (f : Front)
+    → IsModified d edits input a m coding f → is_explicit coding.syntax ≡ true → InOutput d (OpensAlike Extract) a
 
 -- the output opens alike by the dictionary of the edits
 abbrev pub OwnOpensAlike : Type 0

@@ -7,7 +7,7 @@ use Rattle.dcm_base.specs.Tree.Front.{Front}
 use Rattle.dcm_base.specs.File.MetaGroup.{META_LIMIT, group_place, the_end}
 use Rattle.dcm_base.specs.File.MetaReads.{Meta}
 use Rattle.dcm_base.specs.Conversion.NewMeta.{new_meta}
-use Rattle.dcm_base.specs.Conversion.Normal.{FrontFits, normal_front}
+use Rattle.dcm_base.specs.Conversion.Normal.{FrontFits, normal_front, FrontStays}
 use Rattle.dcm_base.specs.Tables.Number.{AreBytes}
 use Rattle.dcm_base.specs.Reading.Reads.{INPUT_LIMIT, Reads}
 use Rattle.dcm_base.specs.Conversion.Recode.{recode}
@@ -38,7 +38,8 @@ pub record HasRoom (output : List ℕ) (m : Meta) (uid : List ℕ) (s : Syntax) 
   pub group_ends : is_big s ≡ true → group_place (length (new_meta m.elements uid)) (recode s set) ≡ the_end
   pub within : length output ≤ INPUT_LIMIT
 
--- dcmodify answers a file that was read by a dictionary without fault
+-- dcmodify answers a file that was read by a dictionary without fault; a value that becomes too long for its
+-- representation, and is written as UN, is of no tag that the dictionary calls a sequence
 pub record IsModified (d : Dictionary) (edits : List Edit) (input : List ℕ) (a : Answer) (m : Meta) (coding : Coding)
     (f : Front) : Type 0 where
   pub words : List (List ℕ)
@@ -46,6 +47,7 @@ pub record IsModified (d : Dictionary) (edits : List Edit) (input : List ℕ) (a
   pub are_bytes : AreBytes input
   pub answers : ReadAnswers (modify d edits) input a
   pub source_is : answers.source ≡ file m coding f complete
+  pub stays : FrontStays coding.syntax f
   pub room : HasRoom a.output m m.uid coding.syntax (edited edits f)
 
 -- its output is read with the coding of the input: the new meta group, and the normal form of the edited data set
@@ -53,13 +55,15 @@ abbrev pub ReadsModified : Dictionary → List Edit → Answer → Meta → Codi
 ReadsModified d edits a m coding f = IsRead d a.output (meta_again m m.uid) (new_meta m.elements m.uid) coding
     (normal_front coding.syntax (edited edits f))
 
--- dcmconv answers a file that was read without fault, to implicit one whose elements the dictionary tells apart
+-- dcmconv answers a file that was read without fault, to implicit one whose elements the dictionary tells apart; so of
+-- a value that becomes too long
 pub record IsConverted (d : Dictionary) (target : Option Syntax) (input : List ℕ) (a : Answer) (m : Meta)
     (coding : Coding) (f : Front) : Type 0 where
   pub are_bytes : AreBytes input
   pub answers : ReadAnswers (convert d target) input a
   pub source_is : answers.source ≡ file m coding f complete
   pub tells : (e : Dictionary) → target ≡ Some (implicit_in e) → FrontFits (implicit_in d) f
+  pub stays : FrontStays (target_syntax target coding) f
   pub room : HasRoom a.output m (target_uid target m) (target_syntax target coding) f
 
 -- the coding that a conversion writes

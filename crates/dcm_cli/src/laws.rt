@@ -53,7 +53,8 @@ pub fn no_edits_convert()
 
 /// What dcmodify writes of a file without fault is a file that is read without fault: its preamble and its transfer
 /// syntax are those of the input, its meta group is the one that was written anew, and its data set is the normal
-/// form of the edited one.
+/// form of the edited one. Here and in what follows, a value that is too long for its representation, and so becomes
+/// unknown, may not be of a tag that the dictionary calls a sequence: that would be read as one.
 pub fn modified_reads()
     ensures { ModifiedReads }
 {}
@@ -73,14 +74,15 @@ pub fn output_is_edited()
 {}
 
 /// However it is read, what no edit may change is in it: without the elements of the tags that edits may change, it is
-/// the normal form of the data set that was read, without them.
+/// the normal form of the data set that was read, without them. In an implicit one that is read by the whole dictionary
+/// no edit may change PixelRepresentation, on which the representations of others depend.
 pub fn output_keeps_others()
     ensures { OthersStay }
 {}
 
 /// What is erased, set and left is so for readers with another dictionary too, where it opens the output alike: in an
-/// implicit one, no value is a sequence by it, and each sequence is one. They read the same data set, with other
-/// representations.
+/// implicit one, no value is a sequence by it, and each sequence is one; in an explicit one, no unknown value is a
+/// sequence by it. They read the same data set, with other representations.
 pub fn output_for_others()
     ensures alike { ReadsAlike }
     ensures erased_all { ErasedAllBy }
@@ -89,10 +91,10 @@ pub fn output_for_others()
     ensures others_stay { OthersStayBy }
 {}
 
-/// Each dictionary opens an output alike that is explicit, or was edited by that dictionary, or by the standard one.
-/// Where an implicit file was edited by the extract, a reader with the standard one may see more: it opens a sequence
-/// of known length whose tag the extract does not have, which is one value to the extract, and in which nothing was
-/// edited.
+/// The extract opens an explicit output alike, and each dictionary one that was edited by that dictionary, or by the
+/// standard one. Where a file was edited by the extract, a reader with the standard one may see more: it opens a
+/// sequence of known length whose tag the extract does not have, or that is unknown in an explicit file, which is one
+/// value to the extract, and in which nothing was edited.
 pub fn output_opens_alike()
     ensures explicit { ExplicitOpensAlike }
     ensures own { OwnOpensAlike }
@@ -100,7 +102,8 @@ pub fn output_opens_alike()
 {}
 
 /// What was erased is gone for every reader that reads the output to its end, where its values hide nothing from it: a
-/// value that is a sequence by its dictionary is empty. They hide nothing from one that opens the output alike.
+/// value that is a sequence by its dictionary is empty, and in an explicit output there is none. They hide nothing from
+/// one that opens the output alike.
 pub fn output_erased_for_all()
     ensures erased_all { ErasedAllSeen }
     ensures erased_private { ErasedPrivateSeen }

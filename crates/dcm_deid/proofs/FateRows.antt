@@ -16,17 +16,17 @@ abbrev dates_kept : Options
 dates_kept = record { uids = false; device = false; institution = false; patient = false; dates = true }
 
 name : fate_as none Outermost AsBytes (record { group = 0x0010; element = 0x0010 }) ≡ Empty
-unfolding fate_as D.vr_in D.element_in D.elements_in D.entries actions
+unfolding fate_as D.vr_in D.element_in D.elements_in D.entries D.ambiguous actions
 name = refl
 
 private_one : fate_as none Inside AsBytes (record { group = 0x0009; element = 0x0010 }) ≡ Remove
-unfolding fate_as D.vr_in D.element_in D.elements_in D.entries actions
+unfolding fate_as D.vr_in D.element_in D.elements_in D.entries D.ambiguous actions
 private_one = refl
 
 date_kept : fate_as dates_kept Inside AsBytes (record { group = 0x0008; element = 0x0020 }) ≡ Keep
-unfolding fate_as D.vr_in D.element_in D.elements_in D.entries actions
+unfolding fate_as D.vr_in D.element_in D.elements_in D.entries D.ambiguous actions
 date_kept = refl
 
 opaque_one : fate_as none Inside AsBytes (record { group = 0x0008; element = 0x1140 }) ≡ Remove
-unfolding fate_as D.vr_in D.element_in D.elements_in D.entries actions
+unfolding fate_as D.vr_in D.element_in D.elements_in D.entries D.ambiguous actions
 opaque_one = refl

@@ -5,6 +5,7 @@ pub mod ReadsAscend
 pub mod RecodeAnew
 pub mod EditReads
 pub mod StaysReady
+pub mod Plain
 pub mod EditedReads
 pub mod TwiceDone
 pub mod TwiceKept

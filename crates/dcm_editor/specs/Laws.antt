@@ -4,7 +4,7 @@ use Rattle.dcm_base.specs.Lines.Ascending.{FrontAscends}
 use Rattle.dcm_base.specs.Steps.Atoms.{Atom, Shows, front_atoms, is_closed}
 use Rattle.dcm_base.specs.Reading.Bars.{ascending_bar}
 use Rattle.dcm_base.specs.Tree.Front.{Front}
-use Rattle.dcm_base.specs.Conversion.Normal.{normal_front}
+use Rattle.dcm_base.specs.Conversion.Normal.{normal_front, FrontStays}
 use Rattle.dcm_base.specs.Tables.Number.{AreBytes}
 use Rattle.dcm_base.specs.Reading.Reads.{INPUT_LIMIT, Reads, ended}
 use Rattle.dcm_base.specs.Conversion.Recode.{is_explicit, recode}
@@ -13,7 +13,7 @@ use Rattle.dcm_base.specs.Reading.Stop.{Stop, complete}
 use Rattle.dcm_base.specs.Tables.Syntax.{dictionary_of, read_by}
 use Rattle.dcm_base.specs.declared.length.Length.{Length}
 use Rattle.dcm_base.specs.declared.dictionary.Dictionary.{Dictionary}
-use Rattle.dcm_base.specs.declared.dictionary.Dictionary.TheVariants.{Standard}
+use Rattle.dcm_base.specs.declared.dictionary.Dictionary.TheVariants.{Standard, Extract}
 use Rattle.dcm_base.specs.declared.syntax.Syntax.{Syntax}
 use Rattle.dcm_base.specs.declared.tag.Tag.{Tag}
 use Rattle.dcm_base.specs.declared.vr.Vr.{Vr}
@@ -26,7 +26,7 @@ use Rattle.dcm_edits.specs.Bounds.{AreWithin, HaveShortIndexes, HaveValues}
 use Rattle.dcm_edits.specs.EditWords.{meant_edits_in}
 use Rattle.dcm_editor.specs.Everywhere.{Among, EverywhereIn, IsOther, IsPublic, IsWrittenJust}
 use Rattle.dcm_editor.specs.Modification.{Modifies, OfBytes, ReadsAgain}
-use Rattle.dcm_editor.specs.Others.{any_changes, set_without}
+use Rattle.dcm_editor.specs.Others.{any_changes, set_without, KeepsSign}
 use Rattle.dcm_edits.specs.Overlap.{AreApart, ArePublic}
 use Rattle.dcm_editor.specs.Readers.{HidesNothing, OpensAlike, ReadsBy}
 use Rattle.dcm_editor.specs.Repeating.{EraseByNoNumber}
@@ -92,13 +92,13 @@ EditsSoFar =
 -- what is written reads back without fault, as the normal form of the edited data set
 abbrev pub EditedReads : Type 0
 EditedReads =
-    (edits : List Edit) (s : Syntax) (at : ℕ) (f : Front) → Modifies edits s at f
+    (edits : List Edit) (s : Syntax) (at : ℕ) (f : Front) → Modifies edits s at f → FrontStays s f
     → ReadsAgain edits s at f (normal_front s (edited edits f)) complete
 
 -- it reads back so under the bar of dcmodify too
 abbrev pub EditedAscends : Type 0
 EditedAscends =
-    (edits : List Edit) (s : Syntax) (at : ℕ) (f : Front) → Modifies edits s at f
+    (edits : List Edit) (s : Syntax) (at : ℕ) (f : Front) → Modifies edits s at f → FrontStays s f
     → Reads ascending_bar s at (recode s (edited edits f)) (normal_front s (edited edits f)) complete
 
 -- what is written is bytes, where the words of the command line are
@@ -110,21 +110,23 @@ EditedIsBytes =
 -- after `-ea` no element has the tag, at any depth
 abbrev pub NoneIsLeft : Type 0
 NoneIsLeft =
-    (edits : List Edit) (s : Syntax) (at : ℕ) (f again : Front) (stop : Stop) (tag : Tag) → Modifies edits s at f
+    (edits : List Edit) (s : Syntax) (at : ℕ) (f again : Front) (stop : Stop) (tag : Tag)
+    → Modifies edits s at f → FrontStays s f
     → Among (erase_all tag) edits → ReadsAgain edits s at f again stop → (stop ≡ complete)
     × EverywhereIn (IsOther tag) again
 
 -- after `-ep` no element is of an odd group, at any depth
 abbrev pub NoPrivateIsLeft : Type 0
 NoPrivateIsLeft =
-    (edits : List Edit) (s : Syntax) (at : ℕ) (f again : Front) (stop : Stop) → Modifies edits s at f
+    (edits : List Edit) (s : Syntax) (at : ℕ) (f again : Front) (stop : Stop) → Modifies edits s at f → FrontStays s f
     → Among erase_private edits → ReadsAgain edits s at f again stop → (stop ≡ complete) × EverywhereIn IsPublic again
 
 -- after `-ma` each element of the tag has the value as it is written, at any depth
 abbrev pub AllAreModified : Type 0
 AllAreModified =
     (edits : List Edit) (s : Syntax) (at : ℕ) (f again : Front) (stop : Stop) (tag : Tag) (vr : Vr) (value : List ℕ)
-    → Modifies edits s at f → Among (modify_all tag vr value) edits → ReadsAgain edits s at f again stop
+    → Modifies edits s at f → FrontStays s f → Among (modify_all tag vr value) edits
+    → ReadsAgain edits s at f again stop
     → (stop ≡ complete) × EverywhereIn (IsWrittenJust s tag vr value) again
 
 -- without the elements of the tags that edits may change, both data sets are the same, at every depth
@@ -136,7 +138,8 @@ OthersStay =
 -- what is written reads back as the normal form of the data set that was read, but for the elements of those tags
 abbrev pub OthersStayWritten : Type 0
 OthersStayWritten =
-    (edits : List Edit) (s : Syntax) (at : ℕ) (f again : Front) (stop : Stop) → Modifies edits s at f
+    (edits : List Edit) (s : Syntax) (at : ℕ) (f again : Front) (stop : Stop)
+    → Modifies edits s at f → FrontStays s f → KeepsSign s edits
     → ReadsAgain edits s at f again stop
     → (stop ≡ complete) × (set_without (any_changes edits) again ≡ set_without (any_changes edits) (normal_front s f))
 
@@ -152,23 +155,23 @@ EditedReadsBy =
 abbrev pub ReadsAlike : Type 0
 ReadsAlike =
     (edits : List Edit) (s : Syntax) (at : ℕ) (f again other : Front) (stop end : Stop) (e : Dictionary)
-    → Modifies edits s at f → OpensAlike e s (edited edits f) → ReadsAgain edits s at f again stop
+    → Modifies edits s at f → FrontStays s f → OpensAlike e s (edited edits f) → ReadsAgain edits s at f again stop
     → ReadsBy e edits s at f other end → other ≡ normal_front (read_by e s) again
 
--- an explicit data set each dictionary opens alike
+-- an explicit data set the extract opens alike
 abbrev pub ExplicitOpensAlike : Type 0
-ExplicitOpensAlike = (s : Syntax) (f : Front) (e : Dictionary) → is_explicit s ≡ true → OpensAlike e s f
+ExplicitOpensAlike = (s : Syntax) (f : Front) → is_explicit s ≡ true → OpensAlike Extract s f
 
 -- an edited one opens alike by the dictionary that it was read by
 abbrev pub OwnOpensAlike : Type 0
 OwnOpensAlike =
-    (edits : List Edit) (s : Syntax) (at : ℕ) (f : Front) → Modifies edits s at f
+    (edits : List Edit) (s : Syntax) (at : ℕ) (f : Front) → Modifies edits s at f → FrontStays s f
     → OpensAlike (dictionary_of s) s (edited edits f)
 
 -- and by each one, if it was read by the standard
 abbrev pub StandardOpensAlike : Type 0
 StandardOpensAlike =
-    (edits : List Edit) (s : Syntax) (at : ℕ) (f : Front) (e : Dictionary) → Modifies edits s at f
+    (edits : List Edit) (s : Syntax) (at : ℕ) (f : Front) (e : Dictionary) → Modifies edits s at f → FrontStays s f
     → dictionary_of s ≡ Standard → OpensAlike e s (edited edits f)
 
 -- by a dictionary that opens the edited data set alike: after `-ea` no element has the tag, at any depth
@@ -196,7 +199,8 @@ AllAreModifiedBy =
 -- what no edit may change reads back as the normal form of it
 abbrev pub OthersStayBy : Type 0
 OthersStayBy =
-    (edits : List Edit) (s : Syntax) (at : ℕ) (f again : Front) (stop : Stop) (e : Dictionary) → Modifies edits s at f
+    (edits : List Edit) (s : Syntax) (at : ℕ) (f again : Front) (stop : Stop) (e : Dictionary)
+    → Modifies edits s at f → KeepsSign (read_by e s) edits
     → OpensAlike e s (edited edits f) → ReadsBy e edits s at f again stop
     → (stop ≡ complete)
     × (set_without (any_changes edits) again ≡ set_without (any_changes edits) (normal_front (read_by e s) f))
@@ -229,7 +233,7 @@ EditedTwice =
 -- a second run reads what the first one wrote without fault, and writes the same bytes again
 abbrev pub WritesAgain : Type 0
 WritesAgain =
-    (edits : List Edit) (s : Syntax) (at : ℕ) (f again : Front) (stop : Stop) → Modifies edits s at f
+    (edits : List Edit) (s : Syntax) (at : ℕ) (f again : Front) (stop : Stop) → Modifies edits s at f → FrontStays s f
     → EraseByNoNumber edits
     → Reads ascending_bar s at (recode s (edited edits f)) again stop
     → (stop ≡ complete) × (recode s (edited edits again) ≡ recode s (edited edits f))
@@ -237,7 +241,7 @@ WritesAgain =
 -- what is said of the first run holds of the second one, where bytes were written
 abbrev pub ModifiesAgain : Type 0
 ModifiesAgain =
-    (edits : List Edit) (s : Syntax) (at : ℕ) (f again : Front) (stop : Stop) → Modifies edits s at f
+    (edits : List Edit) (s : Syntax) (at : ℕ) (f again : Front) (stop : Stop) → Modifies edits s at f → FrontStays s f
     → EraseByNoNumber edits
     → AreBytes (recode s (edited edits f)) → Reads ascending_bar s at (recode s (edited edits f)) again stop
     → Modifies edits s at again

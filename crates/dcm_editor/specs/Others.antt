@@ -1,11 +1,15 @@
 -- The elements that no edit names.
-use Rattle.std.specs.Prelude.{Bool, true, false, ◌&&◌, ◌||◌, if◌then◌else◌, List, [], ◌∷◌}
+use Rattle.std.specs.Prelude.{Bool, true, false, ◌&&◌, ◌||◌, if◌then◌else◌, List, [], ◌∷◌, ◌≡◌}
 use Rattle.dcm_base.specs.declared.tag.Tag.{Tag}
 use Rattle.dcm_base.specs.Tables.Tag.{same_tag, is_private}
 use Rattle.dcm_base.specs.Tree.Tree.{Trees, no_tree, leaf, sequence, fragments, Items, no_item, item}
 use Rattle.dcm_base.specs.Tree.Front.{Front, front}
 use Rattle.dcm_edits.specs.Edit.{PathEdit, step, insert, modify, erase, erase_item, Edit, on_path, modify_all}
 use Rattle.dcm_edits.specs.Edit.{erase_all, erase_private, elsewhere}
+use Rattle.dcm_base.specs.declared.dictionary.Dictionary.TheVariants.{Extract}
+use Rattle.dcm_base.specs.declared.syntax.Syntax.{Syntax}
+use Rattle.dcm_base.specs.declared.syntax.Syntax.TheVariants.{Implicit as implicit_in}
+use Rattle.dcm_base.specs.Bytes.Spelling.{says_sign}
 
 -- whether a path ends in an insertion
 abbrev pub inserts : PathEdit → Bool
@@ -51,3 +55,10 @@ abbrev mutual
 -- of a data set that was read without fault
 abbrev pub set_without : (Tag → Bool) → Front → Trees
 set_without p (front whole open_tree reached closed) = without p whole
+
+-- no edit changes PixelRepresentation, on which the representations of an implicit data set depend; by the extract they
+-- depend on nothing
+abbrev pub KeepsSign : Syntax → List Edit → Type 0
+KeepsSign (implicit_in Extract) edits = Unit {0}
+KeepsSign (implicit_in d) edits = (t : Tag) → says_sign t ≡ true → any_changes edits t ≡ false
+KeepsSign s edits = Unit {0}

@@ -70,7 +70,8 @@ pub fn edit_reads()
 
 /// What is written of a data set that was read without fault, as the edits of a command line leave it, reads back
 /// without fault, in the syntax of the input, as the normal form of the edited data set, where it ends within the
-/// limit of an input.
+/// limit of an input. Here and in what follows, a value that is too long for its representation, and so becomes
+/// unknown, may not be of a tag that the dictionary calls a sequence: that would be read as one.
 pub fn edited_reads()
     ensures { laws.EditedReads }
 {}
@@ -110,22 +111,25 @@ pub fn others_stay()
 {}
 
 /// So it is in what is written: it reads back as the normal form of the data set that was read, but for the elements of
-/// those tags.
+/// those tags. In an implicit data set that is read by the whole dictionary no edit may change PixelRepresentation, on
+/// which the representations of others depend.
 pub fn others_stay_written()
     ensures { laws.OthersStayWritten }
 {}
 
 /// By another dictionary what is written reads back without fault too, as the normal form by that one, where it opens
-/// the edited data set alike: of an implicit one, no value is a sequence by it, and each sequence is one. That is the
-/// same data set, with the representations of that dictionary.
+/// the edited data set alike: of an implicit one, no value is a sequence by it, and each sequence is one; of an
+/// explicit one, no unknown value is a sequence by it. That is the same data set, with the representations of that
+/// dictionary.
 pub fn edited_reads_by()
     ensures reads { laws.EditedReadsBy }
     ensures alike { laws.ReadsAlike }
 {}
 
-/// Each dictionary opens alike an explicit data set, an edited one that it has read itself, and one that the standard
-/// has read, since that knows each sequence of the extract. Of what the extract has read, the standard may open a
-/// value: a sequence of known length whose tag the extract does not have.
+/// The extract opens alike an explicit data set, each dictionary an edited one that it has read itself, and each one
+/// that the standard has read, since that knows each sequence of the extract. Of what the extract has read, the
+/// standard may open a value: a sequence of known length whose tag the extract does not have, in an explicit data set
+/// an unknown one.
 pub fn opens_alike()
     ensures explicit { laws.ExplicitOpensAlike }
     ensures own { laws.OwnOpensAlike }
@@ -141,7 +145,8 @@ pub fn edited_for_others()
 {}
 
 /// What was erased is gone for every reader that reads what is written to its end, where the values hide nothing from
-/// it: a value that is a sequence by its dictionary is empty. So it is where that opens the edited data set alike.
+/// it: a value that is a sequence by its dictionary is empty, and in an explicit data set there is none. So it is where
+/// that opens the edited data set alike.
 pub fn erased_for_all()
     ensures erased_all { laws.NoneIsSeen }
     ensures erased_private { laws.NoPrivateIsSeen }

@@ -3,6 +3,7 @@ mod cases;
 mod command_lines;
 mod conversions;
 mod cuts;
+mod deep;
 mod dictionaries;
 mod failing;
 mod files;
@@ -13,6 +14,8 @@ mod opening;
 mod rebuilt;
 mod rooms;
 mod rows;
+mod signs;
+mod unknown;
 
 use buildings::buildings;
 use conversions::conversions;
@@ -23,10 +26,12 @@ use dictionaries::dictionaries;
 use itoa::Buffer;
 use modifications::modifications;
 use rows::{Row, bytes_of, front_of};
+use signs::signs;
 use std::io;
 use std::io::{ErrorKind, Read};
 use std::process::Abort;
 use std::test::Fail;
+use unknown::unknown;
 
 /// What a run answers: the status, the output, and standard error.
 #[derive(Drop)]
@@ -277,4 +282,14 @@ fn modifies(rt: HostRuntime) -> Result<(), Fail> {
 #[test]
 fn reads_by_dictionaries(rt: HostRuntime) -> Result<(), Fail> {
     expect_rows(rt, &rt, &dictionaries())
+}
+
+#[test]
+fn reads_signs(rt: HostRuntime) -> Result<(), Fail> {
+    expect_rows(rt, &rt, &signs())
+}
+
+#[test]
+fn reads_unknown_sequences(rt: HostRuntime) -> Result<(), Fail> {
+    expect_rows(rt, &rt, &unknown())
 }

@@ -15,7 +15,7 @@ use Rattle.dcm_base.specs.Tables.Representation.{letters}
 use Rattle.dcm_base.specs.declared.form.Form.{Form}
 use Rattle.dcm_base.specs.declared.form.Form.TheVariants.{Value as a_value, Sequence as a_sequence}
 use Rattle.dcm_base.specs.declared.form.Form.TheVariants.{FragmentList as a_fragment_list, Nothing as no_form}
-use Rattle.dcm_base.specs.Bytes.Spelling.{form}
+use Rattle.dcm_base.specs.Bytes.Spelling.{form, read_as}
 use Rattle.dcm_base.specs.Steps.Atoms.{Atom, opens, value_byte, closes_leaf, opens_item, closes_item, closes_sequence}
 use Rattle.dcm_base.specs.Steps.Atoms.{opens_fragment, ends}
 use Rattle.dcm_base.specs.Dump.Dump.{line_start, line, open_line, sequence_line, item_line, sequence_end_line}
@@ -119,7 +119,8 @@ close_writes d mode level (open_value owner p) = late_start mode (owner_start le
     ++ owner_rest d owner p
 
 abbrev pub live_step : DumpState → Atom → DumpState
-live_step s (opens tag vr declared syntax) = dump_opens (form syntax vr declared) s tag vr declared syntax
+live_step s (opens tag vr declared syntax) =
+    dump_opens (form syntax (read_as syntax tag vr) declared) s tag vr declared syntax
 live_step s (value_byte b) = takes_byte s s.value b
 live_step s closes_leaf = record s { value = no_value }
 live_step s (opens_item declared) = deeper s declared
@@ -129,7 +130,8 @@ live_step s (opens_fragment size) = begin s Fragment (started OB Little size s.m
 live_step s ends = s
 
 abbrev pub live_writes : DumpState → Atom → List ℕ
-live_writes s (opens tag vr declared syntax) = dump_opens_writes (form syntax vr declared) s tag vr declared syntax
+live_writes s (opens tag vr declared syntax) =
+    dump_opens_writes (form syntax (read_as syntax tag vr) declared) s tag vr declared syntax
 live_writes s (value_byte b) = byte_writes s.value b
 live_writes s closes_leaf = close_writes s.dictionary s.mode (length s.lengths) s.value
 live_writes s (opens_item declared) = item_line s.dictionary (length s.lengths) declared

@@ -14,7 +14,7 @@ use Rattle.dcm_base.specs.declared.form.Form.TheVariants.{FragmentList as a_frag
 use Rattle.dcm_base.specs.Tables.Representation.{pad, unit}
 use Rattle.dcm_base.specs.Conversion.Recode.{head, even, too_long, leaf_head, item_head, item_delimiter}
 use Rattle.dcm_base.specs.Conversion.Recode.{sequence_delimiter}
-use Rattle.dcm_base.specs.Bytes.Spelling.{form}
+use Rattle.dcm_base.specs.Bytes.Spelling.{form, read_as}
 use Rattle.dcm_base.specs.Reading.Bars.{is_fragment_form, holds_fragments}
 use Rattle.dcm_base.specs.Steps.Atoms.{Atom, opens, value_byte, closes_leaf, opens_item, closes_item, closes_sequence}
 use Rattle.dcm_base.specs.Steps.Atoms.{opens_fragment, ends}
@@ -112,7 +112,7 @@ close_writes (Some c) = copy_ends c
 abbrev pub live_step : EncodeState → Atom → EncodeState
 live_step s (opens tag vr declared syntax) =
     if tag.element == 0 then record s { dropped = opened s.dropped true }
-    else encode_opens (form syntax vr declared) s vr declared syntax
+    else encode_opens (form syntax (read_as syntax tag vr) declared) s vr declared syntax
 live_step s (value_byte b) = takes_byte s s.copying b
 live_step s closes_leaf = record s { copying = None }
 live_step s (opens_item declared) = s
@@ -123,7 +123,7 @@ live_step s ends = s
 
 abbrev pub live_writes : EncodeState → Atom → List ℕ
 live_writes s (opens tag vr declared syntax) = if tag.element == 0 then []
-    else encode_opens_writes (form syntax vr declared) s.target tag vr declared
+    else encode_opens_writes (form syntax (read_as syntax tag vr) declared) s.target tag vr declared
 live_writes s (value_byte b) = byte_writes s.copying b
 live_writes s closes_leaf = close_writes s.copying
 live_writes s (opens_item declared) = item_head s.target Undefined

@@ -3,7 +3,7 @@ use Rattle.std.specs.Prelude.{◌≡◌, ℕ, List, Option, None, Some, Result, 
 use Rattle.dcm_base.specs.declared.syntax.Syntax.{Syntax}
 use Rattle.dcm_base.specs.Steps.Atoms.{Atom, opens}
 use Rattle.dcm_base.specs.Steps.Outputs as device
-use Rattle.dcm_base.specs.Bytes.Spelling.{form}
+use Rattle.dcm_stream.specs.Judging.{head_form}
 use Rattle.dcm_base.specs.Steps.Steps.{outputs}
 use Rattle.dcm_head.specs.declared.head.Head.{Head}
 use Rattle.dcm_stream.specs.Skip.{depth}
@@ -26,11 +26,11 @@ opening head syntax = opens head.tag head.vr head.length syntax
 
 -- where one that is written begins, and what goes out
 abbrev pub opened : EncodeState → Head → Syntax → EncodeState
-opened s head syntax = encode_opens (form syntax head.vr head.length) s head.vr head.length syntax
+opened s head syntax = encode_opens (head_form syntax head) s head.vr head.length syntax
 
 abbrev pub opening_writes : EncodeState → Head → Syntax → List ℕ
 opening_writes s head syntax =
-    encode_opens_writes (form syntax head.vr head.length) s.target head.tag head.vr head.length
+    encode_opens_writes (head_form syntax head) s.target head.tag head.vr head.length
 
 -- it read these atoms
 abbrev pub Encoded : (old new : Encoder) → List Atom → Type 0

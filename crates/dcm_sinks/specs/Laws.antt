@@ -14,7 +14,7 @@ use Rattle.std.specs.Prelude.{◌≡◌, ℕ, zero, suc, ◌≤◌, if◌then◌
 use Rattle.dcm_base.specs.declared.mode.Mode.{Mode}
 use Rattle.dcm_base.specs.declared.syntax.Syntax.{Syntax}
 use Rattle.dcm_base.specs.Reading.Stop.{opens_list, Stop, complete}
-use Rattle.dcm_base.specs.Bytes.Spelling.{form}
+use Rattle.dcm_base.specs.Bytes.Spelling.{form, read_as}
 use Rattle.dcm_base.specs.Dump.Dump.{dump_front}
 use Rattle.dcm_sinks.specs.Conversion.{Converts}
 use Rattle.dcm_base.specs.Reading.Bars.{no_bar, target_bar}
@@ -27,7 +27,7 @@ one_less (suc n) = n
 
 -- how many sequences and fragment lists are open after an atom, where so many were
 abbrev pub lists_behind : ℕ → Atom → ℕ
-lists_behind n (opens tag vr declared s) = if opens_list (form s vr declared) then suc n else n
+lists_behind n (opens tag vr declared s) = if opens_list (form s (read_as s tag vr) declared) then suc n else n
 lists_behind n (value_byte b) = n
 lists_behind n closes_leaf = n
 lists_behind n (opens_item declared) = n

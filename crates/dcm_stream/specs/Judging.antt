@@ -19,7 +19,7 @@ use Rattle.dcm_base.specs.Reading.Stop.{refused, HeadBar, opens_list, has_no_for
 use Rattle.dcm_base.specs.Reading.Stop.{place_stop, is_early}
 use Rattle.dcm_base.specs.Bytes.Head.{tag_at}
 use Rattle.dcm_base.specs.Tables.Tag.{is_item}
-use Rattle.dcm_base.specs.Bytes.Spelling.{form, inside}
+use Rattle.dcm_base.specs.Bytes.Spelling.{form, inside, read_as}
 use Rattle.dcm_head.specs.declared.head.Head.{Head}
 use Rattle.dcm_head.specs.declared.head.HeadRead.TheVariants.{Done}
 use Rattle.dcm_head.specs.HeadRead.{tag_read}
@@ -29,8 +29,8 @@ use Rattle.dcm_stream.specs.declared.judge.Opening.{Opening}
 use Rattle.dcm_stream.specs.declared.judge.Opening.TheVariants as opening
 use Rattle.dcm_stream.specs.declared.judge.Judged.{Judged}
 use Rattle.dcm_stream.specs.declared.judge.Judged.TheVariants as judged
-use Rattle.dcm_stream.specs.Reading.{Opened, value_opens, container_opens, element_opens, item_opens, head_opens}
-use Rattle.dcm_stream.specs.Reading.{closes}
+use Rattle.dcm_stream.specs.Reading.{Opened, Sign, sign_of, value_opens, container_opens, without_value, element_opens}
+use Rattle.dcm_stream.specs.Reading.{item_opens, head_opens, closes}
 
 -- the fault by which a sink's bar is reported
 abbrev pub fault_of : Bar → Fault
@@ -52,7 +52,8 @@ opening_atom (opening.End container) = closes container
 
 -- what is open after it, where its contents begin at this offset
 abbrev pub opened_by : (begin : ℕ) → List Level → Opening → Opened
-opened_by begin levels (opening.Leaf head s size) = value_opens levels (opens head.tag head.vr head.length s) size
+opened_by begin levels (opening.Leaf head s size) =
+    value_opens levels (sign_of head.tag head.vr) (opens head.tag head.vr head.length s) size
 opened_by begin levels (opening.Sequence head s) =
     container_opens (level a_sequence (inside s head.vr) head.length begin) levels
     (opens head.tag head.vr head.length s)
@@ -60,9 +61,13 @@ opened_by begin levels (opening.FragmentList head s) =
     container_opens (level a_fragment_list s Undefined begin) levels (opens head.tag head.vr head.length s)
 opened_by begin levels (opening.Item s declared) =
     container_opens (level an_item s declared begin) levels (opens_item declared)
-opened_by begin levels (opening.Fragment size) = value_opens levels (opens_fragment size) size
-opened_by begin levels (opening.End container) =
-    record { levels = drop 1 levels; left = 0; atoms = closes container ∷ [] }
+opened_by begin levels (opening.Fragment size) = value_opens levels None (opens_fragment size) size
+opened_by begin levels (opening.End container) = without_value (drop 1 levels) (closes container)
+
+-- the sign of the value that it opens
+abbrev pub opened_sign : Opening → Option Sign
+opened_sign (opening.Leaf head s size) = sign_of head.tag head.vr
+opened_sign _ = None
 
 -- why an element is refused whose head is whole, but for the sink's bars
 abbrev pub shape_fault : Form → (size : ℕ) → Length → Option ℕ → (depth : ℕ) → Option Fault
@@ -87,10 +92,14 @@ abbrev pub or_fault : Option Fault → Option Fault → Option Fault
 or_fault None later = later
 or_fault (Some fault) later = Some fault
 
+-- what follows the head of an element
+abbrev pub head_form : Syntax → Head → Form
+head_form s head = form s (read_as s head.tag head.vr) head.length
+
 -- why an element with this head of so many bytes is refused
 abbrev pub element_fault : HeadBar → Syntax → List Level → (position : ℕ) → Head → (size : ℕ) → Option Fault
 element_fault bar s levels position head size =
-    or_fault (shape_fault (form s head.vr head.length) size head.length (room position levels) (depth levels))
+    or_fault (shape_fault (head_form s head) size head.length (room position levels) (depth levels))
     (bar head.tag head.vr head.length)
 
 -- what opens or closes with it, wherever its contents begin
@@ -108,11 +117,11 @@ OpensElement f s head o = MatchOption o (OpensNothing f head.length)
 
 -- the answer on the head of an element, but for the sink's bars
 abbrev pub JudgesShape : Syntax → Head → (size : ℕ) → Option ℕ → (depth : ℕ) → Result Opening Fault → Type 0
-JudgesShape s head size room depth (Err fault) = shape_fault (form s head.vr head.length) size head.length room depth
+JudgesShape s head size room depth (Err fault) = shape_fault (head_form s head) size head.length room depth
     ≡ Some fault
 JudgesShape s head size room depth (Ok o) =
-    (shape_fault (form s head.vr head.length) size head.length room depth ≡ None)
-    × OpensAs (element_opens (form s head.vr head.length) s head.tag head.vr head.length) o
+    (shape_fault (head_form s head) size head.length room depth ≡ None)
+    × OpensAs (element_opens (head_form s head) s head.tag head.vr head.length) o
 
 -- the answer on the head of an element
 abbrev pub JudgesElement : HeadBar → Syntax → List Level → (position : ℕ) → Head → (size : ℕ) → Result Opening Fault
@@ -121,7 +130,7 @@ JudgesElement bar s levels position head size (Err fault) =
     (element_fault bar s levels position head size ≡ Some fault) × (is_early fault ≡ false)
 JudgesElement bar s levels position head size (Ok o) =
     (element_fault bar s levels position head size ≡ None)
-    × OpensAs (element_opens (form s head.vr head.length) s head.tag head.vr head.length) o
+    × OpensAs (element_opens (head_form s head) s head.tag head.vr head.length) o
 
 -- what an item opens, but a fragment of no known length
 abbrev pub OpensItem : Level → Length → Option Opening → Type 0
@@ -147,8 +156,8 @@ abbrev pub opens_with : Level → Head → (begin : ℕ) → List Level → Open
 opens_with inner head begin levels =
     if head.tag.group == 0xFFFE
     then (if is_item head.tag then item_opens inner.container inner.syntax head.length begin levels
-    else record { levels = drop 1 levels; left = 0; atoms = closes inner.container ∷ [] })
-    else element_opens (form inner.syntax head.vr head.length) inner.syntax head.tag head.vr head.length begin levels
+    else without_value (drop 1 levels) (closes inner.container))
+    else element_opens (head_form inner.syntax head) inner.syntax head.tag head.vr head.length begin levels
 
 abbrev pub JudgesHead : HeadBar → Level → List Level → (position : ℕ) → Head → (size : ℕ) → Result Opening Fault
     → Type 0

@@ -1,6 +1,6 @@
 -- A machine and the sink that it drives.
 use Rattle.std.specs.Prelude.{◌≡◌, ℕ, ◌+◌, ◌-◌, ◌≤◌, List, [], ◌++◌, length, take, map, Bool, true, false, Option, Some}
-use Rattle.std.specs.Prelude.{None, Result, Ok, Err, fold, ⊤, is_some, ◌||◌, ◌&&◌, ◌==◌}
+use Rattle.std.specs.Prelude.{None, option_map, Result, Ok, Err, fold, ⊤, is_some, ◌||◌, ◌&&◌, ◌==◌}
 use Rattle.std.specs.Io.KnownBytes.{append_known}
 use Rattle.dcm_base.specs.Steps.Atoms.{Atom, value_byte}
 use Rattle.dcm_devices.specs.Device.{AppendsFront}
@@ -10,10 +10,11 @@ use Rattle.dcm_base.specs.Reading.Reads.{INPUT_LIMIT}
 use Rattle.dcm_head.specs.declared.head.Head.{Head}
 use Rattle.dcm_stream.specs.declared.token.Bar.{Bar}
 use Rattle.dcm_stream.specs.declared.cursor.Cursor.{Cursor}
+use Rattle.dcm_stream.specs.declared.sign.OpenSign.{OpenSign}
 use Rattle.dcm_stream.specs.declared.machine.Halt.{Halt}
 use Rattle.dcm_stream.specs.declared.machine.Halt.TheVariants.{Refused, Output}
-use Rattle.dcm_stream.specs.Reading.{Reading, Opened, closing, settled, read_byte, is_top, drives_byte, finish}
-use Rattle.dcm_stream.specs.Reading.{end_shows}
+use Rattle.dcm_stream.specs.Reading.{Reading, Sign, Opened, sign_reads, value_left, settled, read_byte, is_top}
+use Rattle.dcm_stream.specs.Reading.{drives_byte, finish, end_shows}
 use Rattle.dcm_stream.specs.declared.judge.Opening.{Opening}
 use Rattle.dcm_stream.specs.Judging.{bars_head, opened_by}
 use Rattle.dcm_stream.specs.Bounds.{IsSmall}
@@ -27,8 +28,18 @@ abbrev pub steps_write : {S : Type 0} → (S → Head → Option Bar) → (S →
 steps_write bars step writes p b = outputs step writes p.1 (read_byte (bars_head bars p.1) p.0 b).1
 
 -- what is read of a data set at a place, and why it goes no further
+abbrev pub sign_held : OpenSign → Sign
+sign_held sign = record { vr = sign.vr; first = sign.first.items }
+
 abbrev pub reading : Cursor → Option Stop → Reading
-reading p halt = record { position = p.position; head = p.head.items; left = p.left; levels = p.levels; halt = halt }
+reading p halt = record {
+  position = p.position;
+  head = p.head.items;
+  left = p.left;
+  sign = option_map sign_held p.sign;
+  levels = p.levels;
+  halt = halt;
+}
 
 -- the offset of the next byte
 abbrev pub next_offset : Reading → ℕ
@@ -73,18 +84,22 @@ Comes step writes s held t holds new p (Err Output) = AppendsFront held holds (o
 -- after bytes of a value
 abbrev pub value_read : Reading → (left : ℕ) → List ℕ → Reading × List Atom
 value_read r left bytes = settled (r.position + length bytes)
-    (record { levels = r.levels; left = left; atoms = map value_byte bytes ++ closing left }) left
+    (value_left left (sign_reads bytes r.sign) r.levels (map value_byte bytes)) left
 
 -- after bytes of the value that is open
 abbrev pub reads_value : Cursor → List ℕ → Reading × List Atom
 reads_value p bytes = value_read (reading p None) (p.left - length bytes) bytes
 
+-- the sign that is held
+abbrev pub held_sign : Cursor → Option Sign
+held_sign p = option_map sign_held p.sign
+
 -- after a place where no byte of a value is to come, and where so many are
 abbrev pub settles : Cursor → Reading × List Atom
-settles p = settled p.position (record { levels = p.levels; left = 0; atoms = [] }) 0
+settles p = settled p.position (record { levels = p.levels; left = 0; sign = held_sign p; atoms = [] }) 0
 
 abbrev pub settles_value : Cursor → Reading × List Atom
-settles_value p = settled p.position (record { levels = p.levels; left = p.left; atoms = closing p.left }) p.left
+settles_value p = settled p.position (value_left p.left (held_sign p) p.levels []) p.left
 
 -- what was opened is entered at an offset
 abbrev pub entered : ℕ → Opened → Reading × List Atom

@@ -1,6 +1,6 @@
 -- What is read of a data set, byte by byte.
-use Rattle.std.specs.Prelude.{ℕ, zero, suc, ◌+◌, List, [], ◌∷◌, ◌++◌, length, drop, Bool, true, false, ◌&&◌, nat_lt}
-use Rattle.std.specs.Prelude.{◌==◌, if◌then◌else◌, Option, Some, None, fold}
+use Rattle.std.specs.Prelude.{ℕ, zero, suc, ◌+◌, List, [], ◌∷◌, ◌++◌, length, take, drop, Bool, true, false, ◌&&◌}
+use Rattle.std.specs.Prelude.{nat_lt, ◌==◌, if◌then◌else◌, Option, Some, None, fold}
 use Rattle.dcm_base.specs.declared.tag.Tag.{Tag}
 use Rattle.dcm_base.specs.declared.vr.Vr.{Vr}
 use Rattle.dcm_base.specs.declared.syntax.Syntax.{Syntax}
@@ -13,7 +13,10 @@ use Rattle.dcm_base.specs.Bytes.Head.{tag_at, vr_at, length_at, long_length}
 use Rattle.dcm_base.specs.declared.form.Form.{Form}
 use Rattle.dcm_base.specs.declared.form.Form.TheVariants.{Value as a_value, Sequence as a_sequence}
 use Rattle.dcm_base.specs.declared.form.Form.TheVariants.{FragmentList as a_fragment_list, Nothing as no_form}
-use Rattle.dcm_base.specs.Bytes.Spelling.{form, inside}
+use Rattle.dcm_base.specs.Bytes.Spelling.{form, inside, read_as, says_sign, is_one}
+use Rattle.dcm_base.specs.Tables.Dictionary.{if_signed}
+use Rattle.dcm_base.specs.Tables.Syntax.{dictionary_of, read_by}
+use Rattle.dcm_base.specs.Tree.Value.{order}
 use Rattle.dcm_base.specs.declared.level.Container.{Container}
 use Rattle.dcm_base.specs.declared.level.Level.{Level}
 use Rattle.dcm_base.specs.declared.level.Container.TheVariants.{DataSet as the_data_set, Item as an_item}
@@ -26,12 +29,55 @@ use Rattle.dcm_base.specs.Reading.Stop.{Stop, complete, refused, HeadBar, innerm
 use Rattle.dcm_base.specs.Reading.Stop.{is_undecided}
 use Rattle.dcm_base.specs.Reading.Reads.{INPUT_LIMIT}
 
+-- PixelRepresentation that is open: its representation, and the first bytes of its value, as they come
+pub record Sign : Type 0 where
+  pub vr : Vr
+  pub first : List ℕ
+
+-- the most bytes of a unit, so that they tell how a value begins in little endian order
+abbrev pub SIGN_BYTES : ℕ
+SIGN_BYTES = 8
+
+-- a value begins
+abbrev pub sign_of : Tag → Vr → Option Sign
+sign_of tag vr = if says_sign tag then Some (record { vr = vr; first = [] }) else None
+
+-- bytes of it come
+abbrev pub sign_reads : List ℕ → Option Sign → Option Sign
+sign_reads bytes None = None
+sign_reads bytes (Some sign) = Some (record { vr = sign.vr; first = take SIGN_BYTES (sign.first ++ bytes) })
+
+-- the syntax after it
+abbrev pub signed_by : Sign → Syntax → Syntax
+signed_by sign s = read_by (if_signed (is_one sign.vr (order s sign.vr sign.first)) (dictionary_of s)) s
+
+-- a container whose contents are of this syntax from here on
+abbrev pub in_syntax : Syntax → Level → Level
+in_syntax s inner = record {
+  container = inner.container;
+  syntax = s;
+  declared = inner.declared;
+  end_offset = inner.end_offset;
+}
+
+abbrev pub innermost_in : Syntax → List Level → List Level
+innermost_in s [] = []
+innermost_in s (inner ∷ outer) = in_syntax s inner ∷ outer
+
+-- PixelRepresentation ends: what comes in its data set is of the syntax after it
+abbrev pub sign_ends : Option Sign → List Level → List Level
+sign_ends None levels = levels
+sign_ends (Some sign) [] = []
+sign_ends (Some sign) (inner ∷ outer) = in_syntax (signed_by sign inner.syntax) inner ∷ outer
+
 -- the offset up to which whole heads and values were read, the bytes of a head after it, how many bytes of a value are
--- to come, the open containers, the innermost first, and why it goes no further
+-- to come, what is read of an open PixelRepresentation, the open containers, the innermost first, and why it goes no
+-- further
 pub record Reading : Type 0 where
   pub position : ℕ
   pub head : List ℕ
   pub left : ℕ
+  pub sign : Option Sign
   pub levels : List Level
   pub halt : Option Stop
 
@@ -41,6 +87,7 @@ start_of s start = record {
   position = start;
   head = [];
   left = 0;
+  sign = None;
   levels = level the_data_set s Undefined start ∷ [];
   halt = None;
 }
@@ -48,10 +95,12 @@ start_of s start = record {
 abbrev pub halted : Reading → Stop → Reading
 halted r stop = record r { head = []; halt = Some stop }
 
--- what is open after a head or a byte of a value, how many bytes of a value are to come, and the atoms
+-- what is open after a head or a byte of a value, how many bytes of a value are to come, what is read of an open
+-- PixelRepresentation, and the atoms
 pub record Opened : Type 0 where
   pub levels : List Level
   pub left : ℕ
+  pub sign : Option Sign
   pub atoms : List Atom
 
 -- a value is closed with its last byte
@@ -63,24 +112,51 @@ abbrev pub size_of : Length → ℕ
 size_of (Known size) = size
 size_of Undefined = 0
 
-abbrev pub value_opens : List Level → Atom → (size : ℕ) → Opened
-value_opens levels atom size = record { levels = levels; left = size; atoms = atom ∷ closing size }
+-- with it PixelRepresentation ends
+abbrev pub left_levels : (left : ℕ) → Option Sign → List Level → List Level
+left_levels zero sign levels = sign_ends sign levels
+left_levels (suc left) sign levels = levels
+
+abbrev pub left_sign : (left : ℕ) → Option Sign → Option Sign
+left_sign zero sign = None
+left_sign (suc left) sign = sign
+
+-- after these atoms of a value of which so many bytes are to come
+abbrev pub value_left : (left : ℕ) → Option Sign → List Level → List Atom → Opened
+value_left left sign levels atoms = record {
+  levels = left_levels left sign levels;
+  left = left;
+  sign = left_sign left sign;
+  atoms = atoms ++ closing left;
+}
+
+abbrev pub value_opens : List Level → Option Sign → Atom → (size : ℕ) → Opened
+value_opens levels sign atom size = value_left size sign levels (atom ∷ [])
+
+-- a container opens, or closes, and no value
+abbrev pub without_value : List Level → Atom → Opened
+without_value levels atom = record { levels = levels; left = 0; sign = None; atoms = atom ∷ [] }
 
 abbrev pub container_opens : Level → List Level → Atom → Opened
-container_opens inner outer atom = record { levels = inner ∷ outer; left = 0; atoms = atom ∷ [] }
+container_opens inner outer atom = without_value (inner ∷ outer) atom
+
+-- nothing is opened
+abbrev pub nothing_opens : List Level → Opened
+nothing_opens levels = record { levels = levels; left = 0; sign = None; atoms = [] }
 
 -- what the head of an element opens, whose contents begin at this offset
 abbrev pub element_opens : Form → Syntax → Tag → Vr → Length → (begin : ℕ) → List Level → Opened
-element_opens a_value s tag vr declared begin around = value_opens around (opens tag vr declared s) (size_of declared)
+element_opens a_value s tag vr declared begin around =
+    value_opens around (sign_of tag vr) (opens tag vr declared s) (size_of declared)
 element_opens a_sequence s tag vr declared begin around =
     container_opens (level sequence_container (inside s vr) declared begin) around (opens tag vr declared s)
 element_opens a_fragment_list s tag vr declared begin around =
     container_opens (level fragment_container s Undefined begin) around (opens tag vr declared s)
-element_opens no_form s tag vr declared begin around = record { levels = around; left = 0; atoms = [] }
+element_opens no_form s tag vr declared begin around = nothing_opens around
 
 abbrev pub item_opens : Container → Syntax → Length → (begin : ℕ) → List Level → Opened
 item_opens fragment_container s declared begin around =
-    value_opens around (opens_fragment (size_of declared)) (size_of declared)
+    value_opens around None (opens_fragment (size_of declared)) (size_of declared)
 item_opens _ s declared begin around = container_opens (level an_item s declared begin) around (opens_item declared)
 
 -- the atom that closes a container
@@ -90,19 +166,21 @@ closes _ = closes_sequence
 
 -- an element whose representation is known
 abbrev pub plain_opens : Option Vr → Syntax → (begin : ℕ) → List ℕ → List Level → Opened
-plain_opens None s begin head around = record { levels = around; left = 0; atoms = [] }
-plain_opens (Some vr) s begin head around = element_opens (form s vr (length_at s vr head)) s (tag_at s head) vr
-    (length_at s vr head) begin around
+plain_opens None s begin head around = nothing_opens around
+plain_opens (Some vr) s begin head around =
+    let tag = tag_at s head in
+    let declared = length_at s vr head in
+    element_opens (form s (read_as s tag vr) declared) s tag vr declared begin around
 
 -- what a whole head opens or closes: a delimiter closes the innermost container
 abbrev pub head_opens : (begin : ℕ) → List ℕ → List Level → Opened
-head_opens begin head [] = record { levels = []; left = 0; atoms = [] }
+head_opens begin head [] = nothing_opens []
 head_opens begin head (inner ∷ outer) =
     let tag = tag_at inner.syntax head in
     if tag.group == 0xFFFE
     then (if is_item tag then item_opens inner.container inner.syntax
     (long_length (number inner.syntax 4 (drop 4 head))) begin (inner ∷ outer)
-    else record { levels = outer; left = 0; atoms = closes inner.container ∷ [] })
+    else without_value outer (closes inner.container))
     else plain_opens (vr_at inner.syntax head) inner.syntax begin head (inner ∷ outer)
 
 abbrev pub ends_at : ℕ → Option ℕ → Bool
@@ -125,11 +203,20 @@ room_stop position levels = if passes 8 (room position levels) then Some (refuse
 abbrev pub settled : (position : ℕ) → Opened → (left : ℕ) → Reading × List Atom
 settled position o zero =
     let closed = full_closed position o.levels in (
-      record { position = position; head = []; left = 0; levels = closed.0; halt = room_stop position closed.0 },
+      record {
+        position = position;
+        head = [];
+        left = 0;
+        sign = o.sign;
+        levels = closed.0;
+        halt = room_stop position closed.0;
+      },
       o.atoms ++ closed.1,
     )
-settled position o (suc left) =
-    (record { position = position; head = []; left = suc left; levels = o.levels; halt = None }, o.atoms)
+settled position o (suc left) = (
+  record { position = position; head = []; left = suc left; sign = o.sign; levels = o.levels; halt = None },
+  o.atoms,
+)
 
 abbrev pub head_read : Reading → List ℕ → Option Stop → Reading × List Atom
 head_read r head None =
@@ -143,7 +230,7 @@ abbrev pub byte_read : HeadBar → Reading → ℕ → Option Stop → (within :
 byte_read bar r b (Some stop) within left = (r, [])
 byte_read bar r b None false left = (halted r (refused TooLong INPUT_LIMIT), [])
 byte_read bar r b None true (suc left) =
-    settled (r.position + 1) (record { levels = r.levels; left = left; atoms = value_byte b ∷ closing left }) left
+    settled (r.position + 1) (value_left left (sign_reads (b ∷ []) r.sign) r.levels (value_byte b ∷ [])) left
 byte_read bar r b None true zero =
     head_read r (r.head ++ b ∷ []) (innermost_stop bar r.levels r.position (r.head ++ b ∷ []))
 

@@ -1,27 +1,29 @@
 // How far the reading of a data set has come (PS3.5 7).
-ghost use Rattle.std.specs.Prelude.{◌≡◌, ◌+◌, ◌-◌, ◌^◌, ◌<◌, ◌≤◌, [], ◌∷◌, ◌++◌, None, length, IfOk};
-ghost use Rattle.dcm_stream.specs.Judging.{opened_by};
+ghost use Rattle.std.specs.Prelude.{◌≡◌, ◌+◌, ◌-◌, ◌^◌, ◌<◌, ◌≤◌, [], ◌∷◌, ◌++◌, None, length, option_map, IfOk};
+ghost use Rattle.dcm_stream.specs.Judging.{opened_by, opened_sign};
 ghost use Rattle.dcm_stream.specs.Reading as steps;
 ghost use Rattle.dcm_stream.specs.Machine as spec;
 ghost use Rattle.dcm_stream.specs.Sinks as sinks;
 ghost use Rattle.dcm_base.specs.Reading.Place as places;
 
 use super::close::close_full;
-use super::judge::{Judged, Opening, judge, opening_token, syntax_inside};
+use super::judge::{Judged, Opening, judge, opening_sign, opening_token, syntax_inside};
 use super::levels::{OpenLevels, level_at, passes};
 use super::machine::INPUT_LIMIT;
+use super::sign::OpenSign;
 use super::{Halt, Sink, Token};
 use arrayvec::ArrayVec;
-use dcm_base::{Container, Fault, Length, Stop, Syntax};
+use dcm_base::{Container, Fault, Length, Stop, Syntax, Vr};
 use dcm_head::{LONG_HEAD, SHORT_HEAD};
 
 /// The offset up to which heads and values were read whole, the bytes of a head after it, the bytes of a value that
-/// are to come, and the open containers.
+/// are to come, what is read of an open PixelRepresentation, and the open containers.
 #[derive(Drop)]
 pub struct Cursor {
     pub position: u64,
     pub head: ArrayVec<u8, LONG_HEAD>,
     pub left: u32,
+    pub sign: Option<OpenSign>,
     pub levels: OpenLevels,
 }
 
@@ -42,6 +44,7 @@ impl Cursor {
             position: start,
             head: ArrayVec::new(),
             left: 0,
+            sign: None,
             levels: OpenLevels::new(set),
         }
     }
@@ -60,6 +63,70 @@ impl Cursor {
         Ok(())
     }
 
+    /// PixelRepresentation ends, where it is open.
+    #[inline(always)]
+    fn end_sign(&mut self)
+        ensures { self.new ≡ record self.old {
+          sign = None;
+          levels = steps.sign_ends (spec.held_sign self.old) self.old.levels;
+        } }
+    {
+        if self.sign.is_some() {
+            self.end_open_sign();
+        }
+    }
+
+    /// It is open, and ends: what comes in its data set is of another syntax.
+    #[inline(never)]
+    fn end_open_sign(&mut self)
+        ensures { self.new ≡ record self.old {
+          sign = None;
+          levels = steps.sign_ends (spec.held_sign self.old) self.old.levels;
+        } }
+    {
+        if let Some(sign) = self.sign.take()
+            && let Some(inner) = self.levels.innermost()
+        {
+            self.levels.set_syntax(sign.syntax_after(inner.syntax));
+        }
+    }
+
+    /// PixelRepresentation begins where that opens it.
+    #[inline(always)]
+    fn begin_sign(&mut self, opening: Opening)
+        ensures sign { spec.held_sign self.new ≡ opened_sign opening }
+        ensures rest { self.new ≡ record self.old { sign = self.new.sign } }
+    {
+        match opening_sign(opening) {
+            Some(vr) => self.set_sign(Some(vr)),
+            None if self.sign.is_some() => self.set_sign(None),
+            None => {}
+        }
+    }
+
+    /// PixelRepresentation of this representation begins, or something else opens or closes.
+    #[inline(never)]
+    fn set_sign(&mut self, vr: Option<Vr>)
+        ensures sign { spec.held_sign self.new ≡ option_map (λ vr. record { vr = vr; first = [] }) vr }
+        ensures rest { self.new ≡ record self.old { sign = self.new.sign } }
+    {
+        self.sign = match vr {
+            Some(vr) => Some(OpenSign::new(vr)),
+            None => None,
+        };
+    }
+
+    /// Bytes of an open PixelRepresentation come.
+    #[inline(always)]
+    fn read_sign(&mut self, value: &[u8])
+        ensures { spec.reading self.new None
+            ≡ record (spec.reading self.old None) { sign = steps.sign_reads value.now (spec.held_sign self.old) } }
+    {
+        if let Some(sign) = &mut self.sign {
+            sign.read(value);
+        }
+    }
+
     /// Closes a value of which no byte is left.
     #[inline(always)]
     fn settle_value<S: Sink>(&mut self, sink: &mut S) -> Result<(), Halt>
@@ -71,6 +138,7 @@ impl Cursor {
             return Ok(());
         }
         sink.take(Token::CloseLeaf)?;
+        self.end_sign();
         self.settle(sink)
     }
 
@@ -87,6 +155,7 @@ impl Cursor {
         sink.take(Token::Bytes(value))?;
         self.position += value.len() as u64;
         self.left -= value.len() as u32;
+        self.read_sign(value);
         self.settle_value(sink)
     }
 
@@ -114,6 +183,7 @@ impl Cursor {
             (spec.enters self.old opening) result }
     {
         sink.take(opening_token(opening))?;
+        self.begin_sign(opening);
         match opening {
             Opening::Leaf(_, _, size) | Opening::Fragment(size) => {
                 self.left = size;

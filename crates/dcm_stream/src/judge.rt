@@ -1,5 +1,5 @@
 // What a head leads to: a fault, the want of more bytes, or what it opens or closes.
-ghost use Rattle.std.specs.Prelude.{◌≡◌, ◌+◌, ◌^◌, ◌≤◌, ◌∷◌, [], length, false};
+ghost use Rattle.std.specs.Prelude.{◌≡◌, ◌+◌, ◌^◌, ◌≤◌, ◌∷◌, [], length, false, option_map};
 ghost use Rattle.dcm_stream.specs.Places.{innermost};
 ghost use Rattle.dcm_stream.specs.Tokens.{IsFilled, atoms_of};
 ghost use Rattle.dcm_base.specs.Reading.Place as place;
@@ -8,9 +8,10 @@ ghost use Rattle.dcm_stream.specs.Judging as spec;
 
 use super::close::closing_token;
 use super::levels::{OpenLevels, is_allowed, opens_list, passes, with_length};
+use super::sign::says_sign;
 use super::{Bar, Sink, Token};
 use dcm_base::{
-    Container, Fault, Form, ITEM_GROUP, Length, Level, MOST_LISTS, Syntax, Vr, form_of,
+    Container, Fault, Form, ITEM_GROUP, Length, Level, MOST_LISTS, Syntax, Vr, form_of, read_as,
 };
 use dcm_head::{Head, HeadRead, read_tag, read_tagged};
 
@@ -60,7 +61,18 @@ pub fn opening_token(opening: Opening) -> Token<'static>
     }
 }
 
-/// The syntax of what an element holds: UN of undefined length holds implicit heads, read by the same dictionary
+/// The representation of PixelRepresentation where it opens that.
+#[inline(always)]
+pub fn opening_sign(opening: Opening) -> Option<Vr>
+    ensures { option_map (λ vr. record { vr = vr; first = [] }) result ≡ spec.opened_sign opening }
+{
+    match opening {
+        Opening::Leaf(head, _, _) if says_sign(head.tag) => Some(head.vr),
+        _ => None,
+    }
+}
+
+/// The syntax of what a sequence holds: one that is spelled as UN holds implicit heads, read by the same dictionary
 /// (PS3.5 6.2.2).
 #[tactic(auto, unfolding(dcm_base::specs::Bytes::Spelling::inside))]
 pub fn syntax_inside(syntax: Syntax, vr: Vr) -> Syntax
@@ -101,7 +113,7 @@ fn judge_shape(
     if passes(size, room) {
         return Err(Fault::PassesEnd);
     }
-    let form = form_of(syntax, head.vr, head.length);
+    let form = form_of(syntax, read_as(syntax, head.tag, head.vr), head.length);
     let Some(opening) = element_opening(form, syntax, head) else {
         return Err(Fault::UndefinedLength);
     };

@@ -213,6 +213,19 @@ impl OpenLevels {
         });
     }
 
+    /// What comes in the innermost container is of this syntax.
+    pub fn set_syntax(&mut self, syntax: Syntax)
+        ensures { self.new ≡ reading.innermost_in syntax self.old }
+    {
+        let Some(last) = self.outermost_first.as_slice().last() else {
+            return;
+        };
+        let mut inner = *last;
+        inner.level.syntax = syntax;
+        self.outermost_first.pop();
+        self.outermost_first.push(inner);
+    }
+
     /// The innermost container ends.
     pub fn pop(&mut self)
         ensures { self.new ≡ drop 1 self.old }

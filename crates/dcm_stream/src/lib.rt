@@ -21,6 +21,7 @@ mod judge;
 pub mod laws;
 mod levels;
 mod machine;
+mod sign;
 mod sink;
 mod skip;
 mod taking;

@@ -1,7 +1,8 @@
 -- The normal form of a data set is converted to the same bytes.
-use Rattle.std.proofs.Common.{◌≡◌, ℕ, ◌%◌, List, [], ◌∷◌, ◌++◌, length, map, flat_map, Bool, true, false, not, refl, ap, ◌∙◌, arith, length-append}
+use Rattle.std.proofs.Common.{◌≡◌, ℕ, ◌%◌, List, [], ◌∷◌, ◌++◌, length, map, flat_map, Bool, true, false, not, refl, ap, ◌∙◌, arith, length-append, sym, subst}
 use Rattle.std.specs.Prelude.{◌==◌, ◌&&◌, if◌then◌else◌, nat_lt}
 use Rattle.std.proofs.lemmas.Bool.Decides.{nat_tests}
+use Rattle.std.proofs.lemmas.Bool.{eqb-true}
 use Rattle.dcm_base.specs.declared.tag.Tag.{Tag}
 use Rattle.dcm_base.specs.declared.vr.Vr.{Vr}
 use Rattle.dcm_base.specs.declared.vr.Vr.TheVariants.{SQ, UN}
@@ -13,6 +14,12 @@ use Rattle.dcm_base.specs.Tree.Tree.{Trees, no_tree, leaf, sequence, fragments, 
 use Rattle.dcm_base.specs.Tables.Representation.{is_long, pad}
 use Rattle.dcm_base.specs.Tree.Value.{order, evened}
 use Rattle.dcm_base.specs.Conversion.Recode.{head, even, is_explicit, item_head, item_delimiter, sequence_delimiter, too_long, leaf_head, leaf_bytes, recoded_leaf, recoded_fragment, unless_dropped, recode_set, recode_items}
+use Rattle.dcm_base.specs.declared.dictionary.Dictionary.{Dictionary}
+use Rattle.dcm_base.specs.Tables.Dictionary.{if_signed}
+use Rattle.dcm_base.specs.Tables.Syntax.{read_by, dictionary_of}
+use Rattle.dcm_base.specs.Bytes.Spelling.{after, is_one, dictionary_after, sign_after}
+use Rattle.dcm_base.specs.declared.dictionary.Dictionary.TheVariants.{Extract, Standard, Signed}
+use Rattle.dcm_base.proofs.DataSets.After.{after_same}
 use Rattle.dcm_base.specs.Conversion.Normal.{normal_vr, normal_sequence_vr, normal_value, unless_group_length, normal, normal_items}
 use Rattle.dcm_base.proofs.Conversions.Order.{order_twice, length-order}
 
@@ -115,6 +122,13 @@ fragments_again s (v ∷ values) = both (fragment_again s v) (fragments_again s 
 
 -- ---- data sets
 
+sequences_alike : (s : Syntax) (t : Tag) (a b c d : List ℕ) → a ≡ b → c ≡ d
+    → unless_dropped t (head s t SQ Undefined ++ a ++ sequence_delimiter s) ++ c ≡ unless_dropped t (head s t SQ Undefined ++ b ++ sequence_delimiter s) ++ d
+sequences_alike s t a b c d p q = ap (λ (z : List ℕ). unless_dropped t (head s t SQ Undefined ++ z ++ sequence_delimiter s) ++ c) p ∙ ap (λ (z : List ℕ). unless_dropped t (head s t SQ Undefined ++ b ++ sequence_delimiter s) ++ z) q
+
+item_bytes_alike : (s : Syntax) (a b c d : List ℕ) → a ≡ b → c ≡ d → item_head s Undefined ++ a ++ item_delimiter s ++ c ≡ item_head s Undefined ++ b ++ item_delimiter s ++ d
+item_bytes_alike s a b c d p q = ap (λ (z : List ℕ). item_head s Undefined ++ z ++ item_delimiter s ++ c) p ∙ ap (λ (z : List ℕ). item_head s Undefined ++ b ++ item_delimiter s ++ z) q
+
 -- a tree is dropped or stays, as its bytes do
 kept_bytes : (s : Syntax) (t : Tag) (tree : Trees → Trees) (x y : List ℕ) (more : Trees) (others : List ℕ) (c : Bool) → (t.element == 0) ≡ c
     → recode_set s (tree more) ≡ unless_dropped t x ++ recode_set s more → x ≡ y → recode_set s more ≡ others
@@ -123,13 +137,39 @@ kept_bytes s t tree x y more others true e is same rest = rest
 kept_bytes s t tree x y more others false e is same rest = is ∙ ap (λ (c : Bool). (if c then [] else x) ++ recode_set s more) e ∙ both same rest
 
 mutual
+  unfolding recode_set
+
+  pub recode_by : (e : Dictionary) (s : Syntax) (x : Trees) → recode_set (read_by e s) x ≡ recode_set s x
+  recode_by e s no_tree = refl
+  recode_by e (implicit_in d) (leaf t vr v rest) = ap (λ (z : List ℕ). unless_dropped t (recoded_leaf (implicit_in d) t vr v) ++ z) (recode_by e (implicit_in d) rest)
+  recode_by e (little_in d) (leaf t vr v rest) = ap (λ (z : List ℕ). unless_dropped t (recoded_leaf (little_in d) t vr v) ++ z) (recode_by e (little_in d) rest)
+  recode_by e (big_in d) (leaf t vr v rest) = ap (λ (z : List ℕ). unless_dropped t (recoded_leaf (big_in d) t vr v) ++ z) (recode_by e (big_in d) rest)
+  recode_by e (implicit_in d) (sequence t vr size items rest) = sequences_alike (implicit_in d) t _ _ _ _ (items_by e (implicit_in d) items) (recode_by e (implicit_in d) rest)
+  recode_by e (little_in d) (sequence t vr size items rest) = sequences_alike (little_in d) t _ _ _ _ (items_by e (little_in d) items) (recode_by e (little_in d) rest)
+  recode_by e (big_in d) (sequence t vr size items rest) = sequences_alike (big_in d) t _ _ _ _ (items_by e (big_in d) items) (recode_by e (big_in d) rest)
+  recode_by e (implicit_in d) (fragments t vr values rest) = ap (λ (z : List ℕ). unless_dropped t (head (implicit_in d) t vr Undefined ++ flat_map (recoded_fragment (implicit_in d)) values ++ sequence_delimiter (implicit_in d)) ++ z) (recode_by e (implicit_in d) rest)
+  recode_by e (little_in d) (fragments t vr values rest) = ap (λ (z : List ℕ). unless_dropped t (head (little_in d) t vr Undefined ++ flat_map (recoded_fragment (little_in d)) values ++ sequence_delimiter (little_in d)) ++ z) (recode_by e (little_in d) rest)
+  recode_by e (big_in d) (fragments t vr values rest) = ap (λ (z : List ℕ). unless_dropped t (head (big_in d) t vr Undefined ++ flat_map (recoded_fragment (big_in d)) values ++ sequence_delimiter (big_in d)) ++ z) (recode_by e (big_in d) rest)
+
+  pub items_by : (e : Dictionary) (s : Syntax) (x : Items) → recode_items (read_by e s) x ≡ recode_items s x
+  items_by e s no_item = refl
+  items_by e (implicit_in d) (item size set rest) = item_bytes_alike (implicit_in d) _ _ _ _ (recode_by e (implicit_in d) set) (items_by e (implicit_in d) rest)
+  items_by e (little_in d) (item size set rest) = item_bytes_alike (little_in d) _ _ _ _ (recode_by e (little_in d) set) (items_by e (little_in d) rest)
+  items_by e (big_in d) (item size set rest) = item_bytes_alike (big_in d) _ _ _ _ (recode_by e (big_in d) set) (items_by e (big_in d) rest)
+
+-- what is alike in one syntax is so in the other
+recode_across : (e : Dictionary) (s : Syntax) (x y : Trees) → recode_set (read_by e s) x ≡ recode_set (read_by e s) y → recode_set s x ≡ recode_set s y
+recode_across e s x y h = sym (recode_by e s x) ∙ h ∙ recode_by e s y
+
+mutual
   unfolding normal recode_set
 
   pub recodes_normal : (s : Syntax) (set : Trees) → recode_set s (normal s set) ≡ recode_set s set
   recodes_normal s no_tree = refl
   recodes_normal s (leaf t vr v rest) =
-      kept_bytes s t (leaf t (normal_vr s t vr (length v)) (normal_value s t vr v)) (recoded_leaf s t (normal_vr s t vr (length v)) (normal_value s t vr v)) (recoded_leaf s t vr v) (normal s rest) (recode_set s rest) (t.element == 0) refl
-      refl (leaf_again s t vr v) (recodes_normal s rest)
+      kept_bytes s t (leaf t (normal_vr s t vr (length v)) (normal_value s t vr v)) (recoded_leaf s t (normal_vr s t vr (length v)) (normal_value s t vr v)) (recoded_leaf s t vr v) (normal (after s t (normal_vr s t vr (length v)) (normal_value s t vr v)) rest) (recode_set s rest) (t.element == 0) refl
+      refl (leaf_again s t vr v)
+      (recode_across (dictionary_after (dictionary_of s) t (normal_vr s t vr (length v)) (normal_value s t vr v)) s (normal (after s t (normal_vr s t vr (length v)) (normal_value s t vr v)) rest) rest (recodes_normal (after s t (normal_vr s t vr (length v)) (normal_value s t vr v)) rest))
   recodes_normal s (sequence t vr declared items rest) =
       kept_bytes s t (sequence t (normal_sequence_vr s t) Undefined (normal_items s items)) (head s t SQ Undefined ++ recode_items s (normal_items s items) ++ sequence_delimiter s) (head s t SQ Undefined ++ recode_items s items ++ sequence_delimiter s)
       (normal s rest) (recode_set s rest) (t.element == 0) refl
@@ -157,14 +197,14 @@ vr_again s vr n true e = unknown (too_long s UN (even n))
 vr_again s vr n false e = ap (λ (d : Bool). if d then UN else vr) (same_size s vr n ∙ e)
 
 -- what a leaf reads back as, once more
-record Again (s : Syntax) (t : Tag) (vr : Vr) (v : List ℕ) : Type 0 where
-  vrs : normal_vr s t (normal_vr s t vr (length v)) (length (normal_value s t vr v)) ≡ normal_vr s t vr (length v)
-  values : normal_value s t (normal_vr s t vr (length v)) (normal_value s t vr v) ≡ normal_value s t vr v
+pub record Again (s : Syntax) (t : Tag) (vr : Vr) (v : List ℕ) : Type 0 where
+  pub vrs : normal_vr s t (normal_vr s t vr (length v)) (length (normal_value s t vr v)) ≡ normal_vr s t vr (length v)
+  pub values : normal_value s t (normal_vr s t vr (length v)) (normal_value s t vr v) ≡ normal_value s t vr v
 
 explicit_value : (s : Syntax) (vr w x : Vr) (n m : ℕ) (u : List ℕ) → w ≡ x → m ≡ even n → evened (pad x) (leaf_bytes s x (even n) (order s x u)) ≡ u → order s w (evened (pad x) (leaf_bytes s x m (order s x u))) ≡ order s x u
 explicit_value s vr w x n m u e k h = ap (λ (y : Vr). order s y (evened (pad x) (leaf_bytes s x m (order s x u)))) e ∙ ap (λ (j : ℕ). order s x (evened (pad x) (leaf_bytes s x j (order s x u)))) k ∙ ap (order s x) h
 
-leaf_once : (s : Syntax) (t : Tag) (vr : Vr) (v : List ℕ) → Again s t vr v
+pub leaf_once : (s : Syntax) (t : Tag) (vr : Vr) (v : List ℕ) → Again s t vr v
 leaf_once (implicit_in d) t vr v = record { vrs = refl; values = implicit_value d t vr v }
 leaf_once (little_in d) t vr v =
     let c : Bool = too_long (little_in d) vr (length v) in
@@ -188,10 +228,40 @@ fragments_once (v ∷ values) = alike (evened_same 0 (evened 0 v) (length v) (ev
     alike : {a b : List ℕ} {c d : List (List ℕ)} → a ≡ b → c ≡ d → a ∷ c ≡ b ∷ d
     alike p q = cc
 
-kept_tree : (s : Syntax) (t : Tag) (tree other : Trees → Trees) (more : Trees) (c : Bool) → (t.element == 0) ≡ c → normal s (tree more) ≡ unless_group_length t other (normal s more)
-    → ((x : Trees) → other x ≡ tree x) → normal s more ≡ more → normal s (if c then more else tree more) ≡ (if c then more else tree more)
-kept_tree s t tree other more true e is same rest = rest
-kept_tree s t tree other more false e is same rest = is ∙ ap (λ (c : Bool). if c then normal s more else other (normal s more)) e ∙ same (normal s more) ∙ ap tree rest
+kept_tree : (s s2 : Syntax) (t : Tag) (tree other : Trees → Trees) (more : Trees) (c : Bool) → (t.element == 0) ≡ c → normal s (tree more) ≡ unless_group_length t other (normal s2 more)
+    → ((x : Trees) → other x ≡ tree x) → ((t.element == 0) ≡ true → s2 ≡ s) → normal s2 more ≡ more → normal s (if c then more else tree more) ≡ (if c then more else tree more)
+kept_tree s s2 t tree other more true e is same own rest = subst (λ (k : Syntax). normal k more ≡ more) (own e) rest
+kept_tree s s2 t tree other more false e is same own rest = is ∙ ap (λ (c : Bool). if c then normal s2 more else other (normal s2 more)) e ∙ same (normal s2 more) ∙ ap tree rest
+
+pub own_dictionary : (s : Syntax) → read_by (dictionary_of s) s ≡ s
+own_dictionary (implicit_in d) = refl
+own_dictionary (little_in d) = refl
+own_dictionary (big_in d) = refl
+
+zero_is_other : (n : ℕ) → (n == 0) ≡ true → (n == 0x103) ≡ false
+zero_is_other n e = subst (λ (k : ℕ). (k == 0x103) ≡ false) (sym (eqb-true n 0 e)) refl
+
+sign_dropped : (d : Dictionary) (t : Tag) (v : Vr) (x : List ℕ) → (t.element == 0) ≡ true → sign_after d t v x ≡ d
+unfolding sign_after
+sign_dropped d t v x e =
+    ap (λ (b : Bool). if both_hold (t.group == 0x28) b then if_signed (is_one v x) d else d) (zero_is_other t.element e)
+    ∙ ap (λ (b : Bool). if b then if_signed (is_one v x) d else d) (never (t.group == 0x28))
+  where
+    both_hold : Bool → Bool → Bool
+    both_hold a b = a && b
+
+    never : (a : Bool) → (a && false) ≡ false
+    never true = refl
+    never false = refl
+
+-- the length of a group says no sign
+dropped_dictionary : (d : Dictionary) (t : Tag) (v : Vr) (x : List ℕ) → (t.element == 0) ≡ true → dictionary_after d t v x ≡ d
+dropped_dictionary Extract t v x e = refl
+dropped_dictionary Standard t v x e = sign_dropped Standard t v x e
+dropped_dictionary Signed t v x e = sign_dropped Signed t v x e
+
+pub dropped_own : (s : Syntax) (t : Tag) (v : Vr) (x : List ℕ) → (t.element == 0) ≡ true → after s t v x ≡ s
+dropped_own s t v x e = ap (λ (d : Dictionary). read_by d s) (dropped_dictionary (dictionary_of s) t v x e) ∙ own_dictionary s
 
 leaves_alike : (t : Tag) (v w : Vr) (x y : List ℕ) (more : Trees) → v ≡ w → x ≡ y → leaf t v x more ≡ leaf t w y more
 leaves_alike t v w x y more p q = cc
@@ -208,14 +278,17 @@ mutual
       let w : Vr = normal_vr s t vr (length v) in
       let x : List ℕ = normal_value s t vr v in
       let again = leaf_once s t vr v in
-      kept_tree s t (leaf t w x) (leaf t (normal_vr s t w (length x)) (normal_value s t w x)) (normal s rest) (t.element == 0) refl refl
-      (λ more. leaves_alike t (normal_vr s t w (length x)) w (normal_value s t w x) x more again.vrs again.values) (normal_once s rest)
+      let s2 : Syntax = after s t w x in
+      let same : after s t (normal_vr s t w (length x)) (normal_value s t w x) ≡ s2 = after_same s t t _ w _ x [] [] (refl, again.vrs, again.values, refl) in
+      kept_tree s s2 t (leaf t w x) (leaf t (normal_vr s t w (length x)) (normal_value s t w x)) (normal s2 rest) (t.element == 0) refl
+      (ap (λ (k : Syntax). unless_group_length t (leaf t (normal_vr s t w (length x)) (normal_value s t w x)) (normal k (normal s2 rest))) same)
+      (λ more. leaves_alike t (normal_vr s t w (length x)) w (normal_value s t w x) x more again.vrs again.values) (dropped_own s t w x) (normal_once s2 rest)
   normal_once s (sequence t vr declared items rest) =
-      kept_tree s t (sequence t (normal_sequence_vr s t) Undefined (normal_items s items)) (sequence t (normal_sequence_vr s t) Undefined (normal_items s (normal_items s items))) (normal s rest) (t.element == 0) refl refl
-      (λ more. ap (λ (x : Items). sequence t (normal_sequence_vr s t) Undefined x more) (items_once s items)) (normal_once s rest)
+      kept_tree s s t (sequence t (normal_sequence_vr s t) Undefined (normal_items s items)) (sequence t (normal_sequence_vr s t) Undefined (normal_items s (normal_items s items))) (normal s rest) (t.element == 0) refl refl
+      (λ more. ap (λ (x : Items). sequence t (normal_sequence_vr s t) Undefined x more) (items_once s items)) (λ e. refl) (normal_once s rest)
   normal_once s (fragments t vr values rest) =
-      kept_tree s t (fragments t vr (map (evened 0) values)) (fragments t vr (map (evened 0) (map (evened 0) values))) (normal s rest) (t.element == 0) refl refl
-      (λ more. ap (λ (x : List (List ℕ)). fragments t vr x more) (fragments_once values)) (normal_once s rest)
+      kept_tree s s t (fragments t vr (map (evened 0) values)) (fragments t vr (map (evened 0) (map (evened 0) values))) (normal s rest) (t.element == 0) refl refl
+      (λ more. ap (λ (x : List (List ℕ)). fragments t vr x more) (fragments_once values)) (λ e. refl) (normal_once s rest)
 
   pub items_once : (s : Syntax) (items : Items) → normal_items s (normal_items s items) ≡ normal_items s items
   items_once s no_item = refl

@@ -12,9 +12,10 @@ use Rattle.dcm_base.specs.Tree.Front.{front, OpenTree, nothing_open, open_leaf, 
 use Rattle.dcm_base.specs.Bytes.Head.{ElementHead, ItemHead, Delimiter}
 use Rattle.dcm_base.specs.Tables.Tag.{item_end_tag, sequence_end_tag}
 use Rattle.dcm_base.specs.Tree.Value.{order}
-use Rattle.dcm_base.specs.Bytes.Spelling.{a_value, a_sequence, a_fragment_list, form, inside, Enclosed, FragmentsAt, TreesAt, ItemsAt, is_open, is_open_item, StaysOpen, SpellsOpenFragment, SpellsOpen, SpellsOpenItem}
+use Rattle.dcm_base.specs.Bytes.Spelling.{a_value, a_sequence, a_fragment_list, form, inside, Enclosed, FragmentsAt, TreesAt, ItemsAt, is_open, is_open_item, StaysOpen, SpellsOpenFragment, SpellsOpen, SpellsOpenItem, after, after_trees, read_as}
 use Rattle.dcm_base.proofs.DataSets.Heads.{known_same, element_same, item_same, NoElement, NoItem, element_begins, item_begins}
 use Rattle.dcm_base.proofs.Conversions.Order.{length-order}
+use Rattle.dcm_base.proofs.DataSets.After.{none_after, behind_same, open_behind_same}
 use Rattle.dcm_base.proofs.DataSets.Whole.{append_same, at_end_NoElement, at_end_NoItem, delimiter_NoElement, delimiter_NoItem, enclosed_same, fragments_same, forms_same, value_sequence, value_fragments, sequence_fragments, leaf_same, enclosed_along, trees_same, items_same}
 
 pub enclosed_apart : (s : Syntax) (end_tag : Tag) (Stop : List ℕ → Type 0) → Stop [] → ((d e : List ℕ) → Delimiter s end_tag d e → Stop d)
@@ -89,7 +90,7 @@ fragments_apart s (v ∷ vs) (w ∷ ws) (Some fragment) b p c (others, head, mor
     fragments_apart s vs ws (Some fragment) others p c more np (subst (λ (z : List ℕ). FragmentsAt s ws z c) (sym both.1) more') l e
 
 -- one whole leaf is no open tree
-pub leaf_first : (s : Syntax) (tag : Tag) (vr : Vr) (value : List ℕ) (o : OpenTree) (b others : List ℕ) → form s vr (Known (length value)) ≡ a_value
+pub leaf_first : (s : Syntax) (tag : Tag) (vr : Vr) (value : List ℕ) (o : OpenTree) (b others : List ℕ) → form s (read_as s tag vr) (Known (length value)) ≡ a_value
     → ElementHead s tag vr (Known (length value)) b (order s vr value ++ others) → SpellsOpen s o b → ⊥
 unfolding SpellsOpen
 leaf_first s tag vr value nothing_open b others fo head l = element_begins s _ _ _ b _ head (subst (NoElement s) (sym l) (at_end_NoElement s))
@@ -100,7 +101,7 @@ leaf_first s tag vr value (open_fragments tag' vr' values' last') b others fo he
     value_fragments (forms_same s _ _ _ _ _ _ b _ _ _ _ fo fo' head head')
 
 -- nor is one whole sequence, whose items are apart from items that end in an open one
-pub sequence_first : (s : Syntax) (tag : Tag) (vr : Vr) (declared : Length) (items : Items) (o : OpenTree) (b contents others : List ℕ) → form s vr declared ≡ a_sequence
+pub sequence_first : (s : Syntax) (tag : Tag) (vr : Vr) (declared : Length) (items : Items) (o : OpenTree) (b contents others : List ℕ) → form s (read_as s tag vr) declared ≡ a_sequence
     → ElementHead s tag vr declared b contents → Enclosed (inside s vr) sequence_end_tag declared (ItemsAt (inside s vr) items) contents others
     → ((s' : Syntax) (y : Items) (last : OpenItem) (b p c : List ℕ) → ItemsAt s' items b p → NoItem s' p → ItemsAt s' y b c → SpellsOpenItem s' last c → is_open_item last ≡ true → ⊥)
     → SpellsOpen s o b → ⊥
@@ -120,7 +121,7 @@ sequence_first s tag vr declared items (open_fragments tag' vr' values' last') b
     sequence_fragments (forms_same s _ _ _ _ _ _ b _ _ _ _ fo fo' head head')
 
 -- nor is one whole fragment list
-pub fragments_first : (s : Syntax) (tag : Tag) (vr : Vr) (values : List (List ℕ)) (o : OpenTree) (b contents others : List ℕ) → form s vr Undefined ≡ a_fragment_list
+pub fragments_first : (s : Syntax) (tag : Tag) (vr : Vr) (values : List (List ℕ)) (o : OpenTree) (b contents others : List ℕ) → form s (read_as s tag vr) Undefined ≡ a_fragment_list
     → ElementHead s tag vr Undefined b contents → Enclosed s sequence_end_tag Undefined (FragmentsAt s values) contents others
     → SpellsOpen s o b → ⊥
 unfolding SpellsOpen
@@ -140,7 +141,7 @@ fragments_first s tag vr values (open_fragments tag' vr' values' last') b conten
 -- one whole item isn't an open one, where its trees are apart from trees that end in an open one
 pub item_first : (s : Syntax) (declared : Length) (set : Trees) (last : OpenItem) (b contents others : List ℕ)
     → ItemHead s declared b contents → Enclosed s item_end_tag declared (TreesAt s set) contents others
-    → ((y : Trees) (o : OpenTree) (b p c : List ℕ) → TreesAt s set b p → NoElement s p → TreesAt s y b c → SpellsOpen s o c → is_open o ≡ true → ⊥)
+    → ((y : Trees) (o : OpenTree) (b p c : List ℕ) → TreesAt s set b p → NoElement s p → TreesAt s y b c → SpellsOpen (after_trees s y) o c → is_open o ≡ true → ⊥)
     → SpellsOpenItem s last b → ⊥
 unfolding SpellsOpen
 item_first s declared set no_open_item b contents others head inner apart l = item_begins s _ b _ head (subst (NoItem s) (sym l) (at_end_NoItem s))
@@ -150,14 +151,14 @@ item_first s declared set (open_item declared' (front whole' open' reached' clos
     let inner2 = subst (λ (z : List ℕ). Enclosed s item_end_tag declared' (TreesAt s set) z others) h.1 inner1 in
     enclosed_apart s item_end_tag (NoElement s) (at_end_NoElement s) (delimiter_NoElement s) declared' (TreesAt s set) (is_open open') contents' others
     (λ q r nq held. apart whole' open' contents' q spelled'.0 r nq spelled'.1 spelled'.2 held)
-    (λ q r nq held. let at_end = closed_at_end s open' spelled'.0 spelled'.2 held in
+    (λ q r nq held. let at_end = closed_at_end (after_trees s whole') open' spelled'.0 spelled'.2 held in
     (trees_same s set whole' contents' q spelled'.0 r spelled'.1 nq (subst (NoElement s) (sym at_end) (at_end_NoElement s))).1 ∙ at_end)
     inner2 stays'
 
 mutual
   unfolding TreesAt
 
-  pub trees_apart : (s : Syntax) (x y : Trees) (o : OpenTree) (b p c : List ℕ) → TreesAt s x b p → NoElement s p → TreesAt s y b c → SpellsOpen s o c → is_open o ≡ true → ⊥
+  pub trees_apart : (s : Syntax) (x y : Trees) (o : OpenTree) (b p c : List ℕ) → TreesAt s x b p → NoElement s p → TreesAt s y b c → SpellsOpen (after_trees s y) o c → is_open o ≡ true → ⊥
   trees_apart s no_tree no_tree o b p c h np k l e = open_begins s o c l e (subst (NoElement s) (sym h ∙ k) np)
   trees_apart s no_tree (leaf tag vr value rest) o b p c h np (others, fo, head, more) l e = element_begins s _ _ _ b _ head (subst (NoElement s) (sym h) np)
   trees_apart s no_tree (sequence tag vr declared items rest) o b p c h np (contents, others, fo, head, inner, more) l e = element_begins s _ _ _ b _ head (subst (NoElement s) (sym h) np)
@@ -166,7 +167,7 @@ mutual
       leaf_first s tag vr value o b others fo head (subst (SpellsOpen s o) (sym k) l)
   trees_apart s (leaf tag vr value rest) (leaf tag' vr' value' rest') o b p c (others, fo, head, more) np (others', fo', head', more') l e =
       let h = leaf_same s tag tag' vr vr' value value' b others others' head head' in
-      trees_apart s rest rest' o others p c more np (subst (λ (z : List ℕ). TreesAt s rest' z c) (sym h.3) more') l e
+      trees_apart (after s tag vr value) rest rest' o others p c more (none_after s tag vr value p np) (behind_same s tag tag' vr vr' value value' others others' c rest' h more') (open_behind_same s tag tag' vr vr' value value' others others' c rest' o h l) e
   trees_apart s (leaf tag vr value rest) (sequence tag' vr' declared' items' rest') o b p c (others, fo, head, more) np (contents', others', fo', head', inner', more') l e =
       value_sequence (forms_same s _ _ _ _ _ _ b _ _ _ _ fo fo' head head')
   trees_apart s (leaf tag vr value rest) (fragments tag' vr' values' rest') o b p c (others, fo, head, more) np (contents', others', fo', head', inner', more') l e =

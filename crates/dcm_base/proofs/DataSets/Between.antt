@@ -6,14 +6,17 @@ use Rattle.dcm_base.specs.declared.vr.Vr.{Vr}
 use Rattle.dcm_base.specs.declared.syntax.Syntax.{Syntax}
 use Rattle.dcm_base.specs.declared.length.Length.{Length}
 use Rattle.dcm_base.specs.declared.length.Length.TheVariants.{Known, Undefined}
+use Rattle.dcm_base.specs.declared.dictionary.Dictionary.{Dictionary}
+use Rattle.dcm_base.specs.Tables.Syntax.{read_by}
 use Rattle.dcm_base.specs.Tree.Tree.{Trees, no_tree, leaf, sequence, fragments, Items, no_item, item}
 use Rattle.dcm_base.specs.Tree.Front.{Front, front, OpenTree, nothing_open, open_leaf, open_sequence, open_fragments, OpenItem, no_open_item, open_item}
 use Rattle.dcm_base.specs.Bytes.Head.{ElementHead, ItemHead, Delimiter, tag_at, vr_at, head_size}
 use Rattle.dcm_base.specs.Tables.Tag.{item_end_tag, sequence_end_tag}
 use Rattle.dcm_base.specs.Tree.Value.{order}
-use Rattle.dcm_base.specs.Bytes.Spelling.{a_value, a_sequence, a_fragment_list, form, inside, Enclosed, FragmentsAt, TreesAt, ItemsAt, is_open_item, holds_open, StaysOpen, SpellsOpenFragment, SpellsFront, SpellsOpen, SpellsOpenItem}
+use Rattle.dcm_base.specs.Bytes.Spelling.{a_value, a_sequence, a_fragment_list, form, inside, Enclosed, FragmentsAt, TreesAt, ItemsAt, is_open_item, holds_open, StaysOpen, SpellsOpenFragment, SpellsFront, SpellsOpen, SpellsOpenItem, after, after_trees, read_as}
 use Rattle.dcm_base.specs.Reading.Place.{value_open, value_open_in_tree, value_open_in_item}
 use Rattle.dcm_base.proofs.DataSets.Heads.{known_same, element_same, item_same, NoElement, NoItem, element_begins, item_begins, eight_le_head_size}
+use Rattle.dcm_base.proofs.DataSets.After.{after_same, behind_same, delimiter_by}
 use Rattle.dcm_base.proofs.DataSets.Whole.{append_same, at_end_NoElement, at_end_NoItem, delimiter_NoElement, delimiter_NoItem, enclosed_same, fragments_same, forms_same, value_sequence, value_fragments, sequence_fragments, leaf_same, enclosed_along, trees_same, items_same}
 use Rattle.dcm_base.proofs.DataSets.Apart.{leaf_first, sequence_first, fragments_first, fragment_first, item_first, trees_apart, items_apart}
 use Rattle.dcm_base.proofs.DataSets.Extend.{tag_at_extends, vr_at_extends, element_extends, item_extends, trees_extend, items_extend, fragments_extend}
@@ -61,6 +64,17 @@ pub end_NoItem : (s : Syntax) (p : List ℕ) → EndAt s sequence_end_tag p → 
 end_NoItem s p (inl e) = subst (NoItem s) (sym e) (at_end_NoItem s)
 end_NoItem s p (inr (e, d)) = delimiter_NoItem s p e d
 
+end_by : (e : Dictionary) (s : Syntax) (end_tag : Tag) (p : List ℕ) → EndAt s end_tag p → EndAt (read_by e s) end_tag p
+end_by e s end_tag p (inl h) = inl h
+end_by e s end_tag p (inr (q, d)) = inr (q, delimiter_by e s end_tag p q d)
+
+-- the end is one in the syntax after trees too
+end_behind : (s : Syntax) (x : Trees) (end_tag : Tag) (p : List ℕ) → EndAt s end_tag p → EndAt (after_trees s x) end_tag p
+end_behind s no_tree end_tag p h = h
+end_behind s (leaf tag vr value rest) end_tag p h = end_behind (after s tag vr value) rest end_tag p (end_by _ s end_tag p h)
+end_behind s (sequence tag vr declared items rest) end_tag p h = end_behind s rest end_tag p h
+end_behind s (fragments tag vr values rest) end_tag p h = end_behind s rest end_tag p h
+
 -- what follows whole trees, whole items or whole fragments: their end, or an open one
 pub data Tail (Open : Type 0) : Type 0 where
   the_end : Tail Open
@@ -80,18 +94,18 @@ FragmentsTail s (an_open o) p = SpellsOpenFragment s o p
 
 -- ---- a whole one is no tail
 
-leaf_no_tail : (s : Syntax) (tag : Tag) (vr : Vr) (value : List ℕ) (tail : Tail OpenTree) (b others : List ℕ) → form s vr (Known (length value)) ≡ a_value
+leaf_no_tail : (s : Syntax) (tag : Tag) (vr : Vr) (value : List ℕ) (tail : Tail OpenTree) (b others : List ℕ) → form s (read_as s tag vr) (Known (length value)) ≡ a_value
     → ElementHead s tag vr (Known (length value)) b (order s vr value ++ others) → SetTail s tail b → ⊥
 leaf_no_tail s tag vr value the_end b others fo head t = element_begins s _ _ _ b _ head (end_NoElement s b t)
 leaf_no_tail s tag vr value (an_open o) b others fo head t = leaf_first s tag vr value o b others fo head t
 
-sequence_no_tail : (s : Syntax) (tag : Tag) (vr : Vr) (declared : Length) (items : Items) (tail : Tail OpenTree) (b contents others : List ℕ) → form s vr declared ≡ a_sequence
+sequence_no_tail : (s : Syntax) (tag : Tag) (vr : Vr) (declared : Length) (items : Items) (tail : Tail OpenTree) (b contents others : List ℕ) → form s (read_as s tag vr) declared ≡ a_sequence
     → ElementHead s tag vr declared b contents → Enclosed (inside s vr) sequence_end_tag declared (ItemsAt (inside s vr) items) contents others → SetTail s tail b → ⊥
 sequence_no_tail s tag vr declared items the_end b contents others fo head inner t = element_begins s _ _ _ b _ head (end_NoElement s b t)
 sequence_no_tail s tag vr declared items (an_open o) b contents others fo head inner t =
     sequence_first s tag vr declared items o b contents others fo head inner (λ s' y last b p c. items_apart s' items y last b p c) t
 
-fragments_no_tail : (s : Syntax) (tag : Tag) (vr : Vr) (values : List (List ℕ)) (tail : Tail OpenTree) (b contents others : List ℕ) → form s vr Undefined ≡ a_fragment_list
+fragments_no_tail : (s : Syntax) (tag : Tag) (vr : Vr) (values : List (List ℕ)) (tail : Tail OpenTree) (b contents others : List ℕ) → form s (read_as s tag vr) Undefined ≡ a_fragment_list
     → ElementHead s tag vr Undefined b contents → Enclosed s sequence_end_tag Undefined (FragmentsAt s values) contents others → SetTail s tail b → ⊥
 fragments_no_tail s tag vr values the_end b contents others fo head inner t = element_begins s _ _ _ b _ head (end_NoElement s b t)
 fragments_no_tail s tag vr values (an_open o) b contents others fo head inner t = fragments_first s tag vr values o b contents others fo head inner t
@@ -107,9 +121,9 @@ fragment_no_tail s value (an_open o) b others head t = fragment_first s value o 
 
 -- ---- the same whole ones stand in front
 
-trees_align : (s : Syntax) (w y : Trees) (tail : Tail OpenTree) (b c d : List ℕ) → TreesAt s w b c → TreesAt s y b d → SetTail s tail d → (z : Trees) × TreesAt s z c d
+trees_align : (s : Syntax) (w y : Trees) (tail : Tail OpenTree) (b c d : List ℕ) → TreesAt s w b c → TreesAt s y b d → SetTail (after_trees s y) tail d → (z : Trees) × TreesAt (after_trees s w) z c d × SetTail (after_trees (after_trees s w) z) tail d
 unfolding TreesAt
-trees_align s no_tree y tail b c d h k t = (y, subst (λ (z : List ℕ). TreesAt s y z d) h k)
+trees_align s no_tree y tail b c d h k t = (y, subst (λ (z : List ℕ). TreesAt s y z d) h k, t)
 trees_align s (leaf tag vr value rest) no_tree tail b c d (others, fo, head, more) k t = absurd (leaf_no_tail s tag vr value tail b others fo head (subst (SetTail s tail) (sym k) t))
 trees_align s (sequence tag vr declared items rest) no_tree tail b c d (contents, others, fo, head, inner, more) k t =
     absurd (sequence_no_tail s tag vr declared items tail b contents others fo head inner (subst (SetTail s tail) (sym k) t))
@@ -117,7 +131,7 @@ trees_align s (fragments tag vr values rest) no_tree tail b c d (contents, other
     absurd (fragments_no_tail s tag vr values tail b contents others fo head inner (subst (SetTail s tail) (sym k) t))
 trees_align s (leaf tag vr value rest) (leaf tag' vr' value' rest') tail b c d (others, fo, head, more) (others', fo', head', more') t =
     let h = leaf_same s tag tag' vr vr' value value' b others others' head head' in
-    trees_align s rest rest' tail others c d more (subst (λ (z : List ℕ). TreesAt s rest' z d) (sym h.3) more') t
+    trees_align (after s tag vr value) rest rest' tail others c d more (behind_same s tag tag' vr vr' value value' others others' d rest' h more') (subst (λ (k : Syntax). SetTail (after_trees k rest') tail d) (sym (after_same s tag tag' vr vr' value value' others others' h)) t)
 trees_align s (leaf tag vr value rest) (sequence tag' vr' declared' items' rest') tail b c d (others, fo, head, more) (contents', others', fo', head', inner', more') t =
     absurd (value_sequence (forms_same s _ _ _ _ _ _ b _ _ _ _ fo fo' head head'))
 trees_align s (leaf tag vr value rest) (fragments tag' vr' values' rest') tail b c d (others, fo, head, more) (contents', others', fo', head', inner', more') t =
@@ -170,7 +184,7 @@ fragments_align s (v ∷ vs) (w ∷ ws) tail b c d (others, head, more) (others'
 
 -- ---- what begins with trees, items or fragments and their tail begins with a head
 
-trees_begin : (s : Syntax) (z : Trees) (tail : Tail OpenTree) (x d : List ℕ) → TreesAt s z x d → SetTail s tail d → Goes s x
+trees_begin : (s : Syntax) (z : Trees) (tail : Tail OpenTree) (x d : List ℕ) → TreesAt s z x d → SetTail (after_trees s z) tail d → Goes s x
 unfolding TreesAt SpellsOpen
 trees_begin s no_tree the_end x d h t = subst (Goes s) (sym h) (end_goes s item_end_tag d refl t)
 trees_begin s no_tree (an_open nothing_open) x d h t = inl (h ∙ t)
@@ -230,7 +244,7 @@ enclosed_goes s end_tag Undefined R held n c x others stays (d, r, delimiter) go
 
 unfoldable mutual
   pub next_syntax : Syntax → Front → Syntax
-  next_syntax s (front whole open_tree reached closed) = next_in_tree s open_tree
+  next_syntax s (front whole open_tree reached closed) = next_in_tree (after_trees s whole) open_tree
 
   pub next_in_tree : Syntax → OpenTree → Syntax
   next_in_tree s nothing_open = s
@@ -246,7 +260,7 @@ unfoldable mutual
 sequence_goes : (s : Syntax) (tag : Tag) (vr : Vr) (declared : Length) (items : Items) (last : OpenItem) (z : Trees) (tail : Tail OpenTree) (c x d : List ℕ) (n : Syntax)
     → SpellsOpen s (open_sequence tag vr declared items last) c
     → ((y : Items) (tail : Tail OpenItem) (c x d : List ℕ) → SpellsOpenItem (inside s vr) last c → ItemsAt (inside s vr) y (c ++ x) d → ItemsTail (inside s vr) tail d → Goes n x)
-    → TreesAt s z (c ++ x) d → SetTail s tail d → Goes n x
+    → TreesAt s z (c ++ x) d → SetTail (after_trees s z) tail d → Goes n x
 unfolding TreesAt SpellsOpen
 sequence_goes s tag vr declared items last no_tree the_end c x d n (contents, others, fo, head, stays, inner, more) goes k t =
     absurd (element_begins s _ _ _ (c ++ x) _ (element_extends s tag vr declared c contents x head) (subst (NoElement s) (sym k) (end_NoElement s d t)))
@@ -277,7 +291,7 @@ sequence_goes s tag vr declared items last (fragments tag' vr' values' rest') ta
 
 -- an open fragment list with no open fragment goes on with a head
 fragment_list_goes : (s : Syntax) (tag : Tag) (vr : Vr) (values : List (List ℕ)) (z : Trees) (tail : Tail OpenTree) (c x d : List ℕ)
-    → SpellsOpen s (open_fragments tag vr values None) c → TreesAt s z (c ++ x) d → SetTail s tail d → Goes s x
+    → SpellsOpen s (open_fragments tag vr values None) c → TreesAt s z (c ++ x) d → SetTail (after_trees s z) tail d → Goes s x
 unfolding TreesAt SpellsOpen
 fragment_list_goes s tag vr values no_tree the_end c x d (contents, others, fo, head, inner, more) k t =
     absurd (element_begins s _ _ _ (c ++ x) _ (element_extends s tag vr Undefined c contents x head) (subst (NoElement s) (sym k) (end_NoElement s d t)))
@@ -310,12 +324,12 @@ front_apart s (front whole o reached closed) y c (d, at, op, re, cl) k held = tr
 mutual
   unfolding SpellsFront ItemsAt next_syntax value_open
 
-  front_goes : (s : Syntax) (f : Front) (y : Trees) (tail : Tail OpenTree) (b x d : List ℕ) → SpellsFront s f b → value_open f ≡ false → TreesAt s y (b ++ x) d → SetTail s tail d → Goes (next_syntax s f) x
+  front_goes : (s : Syntax) (f : Front) (y : Trees) (tail : Tail OpenTree) (b x d : List ℕ) → SpellsFront s f b → value_open f ≡ false → TreesAt s y (b ++ x) d → SetTail (after_trees s y) tail d → Goes (next_syntax s f) x
   front_goes s (front whole o reached closed) y tail b x d (c, at, op, re, cl) v k t =
       let aligned = trees_align s whole y tail (b ++ x) (c ++ x) d (trees_extend s whole b c x at) k t in
-      open_goes s o aligned.0 tail c x d op v aligned.1 t
+      open_goes (after_trees s whole) o aligned.0 tail c x d op v aligned.1 aligned.2
 
-  open_goes : (s : Syntax) (o : OpenTree) (z : Trees) (tail : Tail OpenTree) (c x d : List ℕ) → SpellsOpen s o c → value_open_in_tree o ≡ false → TreesAt s z (c ++ x) d → SetTail s tail d → Goes (next_in_tree s o) x
+  open_goes : (s : Syntax) (o : OpenTree) (z : Trees) (tail : Tail OpenTree) (c x d : List ℕ) → SpellsOpen s o c → value_open_in_tree o ≡ false → TreesAt s z (c ++ x) d → SetTail (after_trees s z) tail d → Goes (next_in_tree s o) x
   open_goes s nothing_open z tail c x d op v k t = trees_begin s z tail x d (subst (λ (y : List ℕ). TreesAt s z (y ++ x) d) op k) t
   open_goes s (open_leaf tag vr size value) z tail c x d op v k t = absurd cc
   open_goes s (open_sequence tag vr declared items last) z tail c x d op v k t =
@@ -338,7 +352,7 @@ mutual
       let inner1 = subst (λ (z : Length). Enclosed s item_end_tag z (TreesAt s set') contents' others') (sym h.0) inner' in
       let inner2 = subst (λ (z : List ℕ). Enclosed s item_end_tag declared (TreesAt s set') z others') (sym h.1) inner1 in
       enclosed_goes s item_end_tag declared (TreesAt s set') (holds_open set) (next_syntax s set) contents x others' stays inner2
-      (λ x1 p r e. front_goes s set set' the_end contents x1 p more v r e)
+      (λ x1 p r e. front_goes s set set' the_end contents x1 p more v r (end_behind s set' item_end_tag p e))
       (λ r held. front_apart s set set' contents more r held)
 
 -- between two fronts, of which the first awaits a head, stands a whole head

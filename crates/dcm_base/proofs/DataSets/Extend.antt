@@ -16,7 +16,7 @@ use Rattle.dcm_base.specs.Tables.Dictionary.{vr_in}
 use Rattle.dcm_base.specs.Bytes.Head.{ElementHead, ItemHead, Delimiter, tag_at, vr_at, length_at, long_length, head_size}
 use Rattle.dcm_base.specs.Tables.Tag.{item_end_tag, sequence_end_tag}
 use Rattle.dcm_base.specs.Tree.Value.{order}
-use Rattle.dcm_base.specs.Bytes.Spelling.{inside, Enclosed, FragmentsAt, TreesAt, ItemsAt}
+use Rattle.dcm_base.specs.Bytes.Spelling.{inside, Enclosed, FragmentsAt, TreesAt, ItemsAt, after}
 use Rattle.dcm_base.proofs.DataSets.Heads.{eight_le_head_size}
 
 pub number_extends : (s : Syntax) (n : ℕ) (b z : List ℕ) → n ≤ length b → number s n (b ++ z) ≡ number s n b
@@ -104,7 +104,7 @@ mutual
   pub trees_extend : (s : Syntax) (x : Trees) (b p z : List ℕ) → TreesAt s x b p → TreesAt s x (b ++ z) (p ++ z)
   trees_extend s no_tree b p z h = ap (λ (x : List ℕ). x ++ z) h
   trees_extend s (leaf tag vr value rest) b p z (others, fo, head, more) =
-      (others ++ z, fo, subst (λ (x : List ℕ). ElementHead s tag vr (Known (length value)) (b ++ z) x) (append_assoc (order s vr value) others z) (element_extends s tag vr (Known (length value)) b (order s vr value ++ others) z head), trees_extend s rest others p z more)
+      (others ++ z, fo, subst (λ (x : List ℕ). ElementHead s tag vr (Known (length value)) (b ++ z) x) (append_assoc (order s vr value) others z) (element_extends s tag vr (Known (length value)) b (order s vr value ++ others) z head), trees_extend (after s tag vr value) rest others p z more)
   trees_extend s (sequence tag vr declared items rest) b p z (contents, others, fo, head, inner, more) = (
     contents ++ z,
     others ++ z,

@@ -8,15 +8,16 @@ use Rattle.dcm_base.specs.Tree.Tree.{Trees, no_tree, leaf, sequence, fragments, 
 use Rattle.dcm_base.specs.Tree.Front.{Front, front, OpenTree, nothing_open, open_leaf, open_sequence, open_fragments, OpenItem, no_open_item, open_item}
 use Rattle.dcm_base.specs.Tables.Tag.{item_end_tag, sequence_end_tag}
 use Rattle.dcm_base.specs.Tree.Value.{order}
-use Rattle.dcm_base.specs.Bytes.Spelling.{inside, Enclosed, FragmentsAt, TreesAt, ItemsAt, reached_tag, SpellsOpenFragment, SpellsFront, SpellsOpen, SpellsOpenItem}
+use Rattle.dcm_base.specs.Bytes.Spelling.{inside, Enclosed, FragmentsAt, TreesAt, ItemsAt, reached_tag, SpellsOpenFragment, SpellsFront, SpellsOpen, SpellsOpenItem, after, after_trees}
 use Rattle.dcm_base.proofs.DataSets.Heads.{known_same, element_same, item_same, NoElement, NoItem, element_begins, item_begins}
 use Rattle.dcm_base.proofs.Conversions.Order.{order_same}
+use Rattle.dcm_base.proofs.DataSets.After.{behind_same, open_behind_same}
 use Rattle.dcm_base.proofs.DataSets.Whole.{append_same, at_end_NoElement, at_end_NoItem, delimiter_NoElement, delimiter_NoItem, enclosed_same, fragments_same, forms_same, value_sequence, value_fragments, sequence_fragments, leaf_same, enclosed_along, trees_same, items_same}
 use Rattle.dcm_base.proofs.DataSets.Apart.{leaf_first, sequence_first, fragments_first, fragment_first, item_first, trees_apart, items_apart}
 
 -- ---- the whole part
 
-pub whole_same : (s : Syntax) (x y : Trees) (o o' : OpenTree) (b c d : List ℕ) → TreesAt s x b c → SpellsOpen s o c → TreesAt s y b d → SpellsOpen s o' d → (x ≡ y) × (c ≡ d)
+pub whole_same : (s : Syntax) (x y : Trees) (o o' : OpenTree) (b c d : List ℕ) → TreesAt s x b c → SpellsOpen (after_trees s x) o c → TreesAt s y b d → SpellsOpen (after_trees s y) o' d → (x ≡ y) × (c ≡ d)
 unfolding TreesAt
 whole_same s no_tree no_tree o o' b c d h l k m = (refl, sym h ∙ k)
 whole_same s no_tree (leaf tag vr value rest) o o' b c d h l (others, fo, head, more) m =
@@ -36,7 +37,7 @@ whole_same s (leaf tag vr value rest) (leaf tag' vr' value' rest') o o' b c d (o
     let h0 = h.0 in
     let h1 = h.1 in
     let h2 = h.2 in
-    let ih = whole_same s rest rest' o o' others c d more l (subst (λ (z : List ℕ). TreesAt s rest' z d) (sym h.3) more') m in
+    let ih = whole_same (after s tag vr value) rest rest' o o' others c d more l (behind_same s tag tag' vr vr' value value' others others' d rest' h more') (open_behind_same s tag tag' vr vr' value value' others others' d rest' o' h m) in
     let ih0 = ih.0 in
     (cc, ih.1)
 whole_same s (leaf tag vr value rest) (sequence tag' vr' declared' items' rest') o o' b c d (others, fo, head, more) l (contents', others', fo', head', inner', more') m =
@@ -130,7 +131,8 @@ mutual
   front_same s (front whole o reached closed) (front whole' o' reached' closed') b (others, at, op, re, cl) (others', at', op', re', cl') =
       let w = whole_same s whole whole' o o' b others others' at op at' op' in
       let w0 = w.0 in
-      let oo = open_same s o o' others op (subst (SpellsOpen s o') (sym w.1) op') in
+      let op1 = subst (SpellsOpen (after_trees s whole') o') (sym w.1) op' in
+      let oo = open_same (after_trees s whole) o o' others op (subst (λ (k : Trees). SpellsOpen (after_trees s k) o' others) (sym w.0) op1) in
       let rr : reached ≡ reached' = re ∙ ap (λ (z : Trees). reached_tag z o) w.0 ∙ ap (λ (z : OpenTree). reached_tag whole' z) oo ∙ sym re' in
       let cc' : closed ≡ closed' = cl ∙ sym cl' in
       cc

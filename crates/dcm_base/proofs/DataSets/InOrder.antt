@@ -11,7 +11,7 @@ use Rattle.dcm_base.specs.Bytes.Head.{head_size, tag_at, vr_at, length_at, long_
 use Rattle.dcm_base.specs.Tables.Number.{number}
 use Rattle.dcm_base.specs.Reading.Place.{depth, passes, room, levels, value_open}
 use Rattle.dcm_base.specs.Reading.Reads.{INPUT_LIMIT, Reads, at_the_cut, told}
-use Rattle.dcm_base.specs.Bytes.Spelling.{form}
+use Rattle.dcm_base.specs.Bytes.Spelling.{form, read_as}
 use Rattle.dcm_base.specs.Reading.Stop.{Stop, refused, barred, opens_list, with_length, first_case, has_no_form, element_stop, item_stop, head_stop, innermost_stop, value_stop, stop_at, or_else}
 use Rattle.dcm_base.specs.Tables.Tag.{is_above, is_item}
 
@@ -37,9 +37,9 @@ module _ (f : Front) where
       let declared = length_at s vr rest in
       earlier_case (passes (head_size s vr) (room position around)) (refused PassesEnd position) _ _
       (earlier_case (nat_lt (length rest) (head_size s vr)) (refused EndsEarly (position + length rest)) _ _
-      (earlier_case (has_no_form (form s vr declared)) (refused UndefinedLength position) _ _
+      (earlier_case (has_no_form (form s (read_as s (tag_at s rest) vr) declared)) (refused UndefinedLength position) _ _
       (earlier_case (passes (with_length (head_size s vr) declared) (room position around)) (refused PassesEnd position) _ _
-      (earlier_case (opens_list (form s vr declared) && nat_le 64 (depth around)) (refused TooDeep position) _ _
+      (earlier_case (opens_list (form s (read_as s (tag_at s rest) vr) declared) && nat_le 64 (depth around)) (refused TooDeep position) _ _
       (last_case position (is_above (tag_at s rest) (innermost_reached f)))))))
 
   weaker_head : (inner : Level) (around : List Level) (position : ℕ) (rest : List ℕ) → Weaker (head_stop (ascending_bar f) inner around position rest) (head_stop (no_bar f) inner around position rest)

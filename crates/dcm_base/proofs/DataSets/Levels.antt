@@ -13,7 +13,7 @@ use Rattle.dcm_base.specs.Bytes.Spelling.{inside, reached_tag, StaysOpen}
 use Rattle.dcm_base.specs.Reading.Size.{trees_size, items_size}
 use Rattle.dcm_base.specs.Reading.Place.{Container, the_data_set, an_item, a_sequence, Level, level, end_of, levels, set_levels, tree_levels, least, distance, room, passes}
 use Rattle.dcm_base.proofs.DataSets.Sizes.{element_takes, item_takes, trees_take, items_take}
-use Rattle.dcm_base.proofs.DataSets.Path.{Path, at_top, in_item, plug, syntax_of, item_length, PathAt, RoomFor, Placed, Roomy}
+use Rattle.dcm_base.proofs.DataSets.Path.{Path, at_top, in_item, plug, syntax_of, behind, item_length, PathAt, RoomFor, Placed, Roomy}
 
 abbrev pub container_of : Path → Container
 container_of at_top = the_data_set
@@ -23,19 +23,19 @@ container_of (in_item outer above tag vr declared items item_declared) = an_item
 abbrev pub begin_of : Syntax → (start : ℕ) → Path → ℕ
 begin_of s start at_top = start
 begin_of s start (in_item outer above tag vr declared items item_declared) =
-    begin_of s start outer + trees_size (syntax_of s outer) above + head_size (syntax_of s outer) vr + items_size (inside (syntax_of s outer) vr) items + 8
+    begin_of s start outer + trees_size (syntax_of s outer) above + head_size (behind s outer above) vr + items_size (inside (behind s outer above) vr) items + 8
 
 -- the containers round the innermost set
 abbrev pub around : Syntax → (start : ℕ) → Path → List Level
 around s start at_top = []
 around s start (in_item outer above tag vr declared items item_declared) =
-    level a_sequence (inside (syntax_of s outer) vr) declared (begin_of s start outer + trees_size (syntax_of s outer) above + head_size (syntax_of s outer) vr)
-    ∷ level (container_of outer) (syntax_of s outer) (item_length outer) (begin_of s start outer)
+    level a_sequence (inside (behind s outer above) vr) declared (begin_of s start outer + trees_size (syntax_of s outer) above + head_size (behind s outer above) vr)
+    ∷ level (container_of outer) (behind s outer above) (item_length outer) (begin_of s start outer)
     ∷ around s start outer
 
 pub plug_levels : (s : Syntax) (start : ℕ) (path : Path) (whole : Trees) (o : OpenTree)
-    → levels s start (plug path whole o) ≡ tree_levels (syntax_of s path) (begin_of s start path + trees_size (syntax_of s path) whole)
-    (level (container_of path) (syntax_of s path) (item_length path) (begin_of s start path) ∷ around s start path) o
+    → levels s start (plug path whole o) ≡ tree_levels (behind s path whole) (begin_of s start path + trees_size (syntax_of s path) whole)
+    (level (container_of path) (behind s path whole) (item_length path) (begin_of s start path) ∷ around s start path) o
 unfolding levels set_levels
 plug_levels s start at_top whole o = refl
 plug_levels s start (in_item outer above tag vr declared items item_declared) whole o =
@@ -49,9 +49,9 @@ path_position s start (in_item outer above tag vr declared items item_declared) 
       arith,
       path_position s start outer b d path,
       trees_take (syntax_of s outer) above d e above_at,
-      element_takes (syntax_of s outer) tag vr declared e f head,
-      items_take (inside (syntax_of s outer) vr) items f g items_at,
-      item_takes (inside (syntax_of s outer) vr) item_declared g c item_head,
+      element_takes (behind s outer above) tag vr declared e f head,
+      items_take (inside (behind s outer above) vr) items f g items_at,
+      item_takes (inside (behind s outer above) vr) item_declared g c item_head,
     )
 
 -- what is least passes no less
@@ -74,8 +74,8 @@ room_around s start at_top b c z h free = tt
 room_around s start (in_item outer above tag vr declared items item_declared) b c z (d, e, f, g, path, stays, above_at, fo, head, inner, items_at, item_head) free =
     let position = path_position s start outer b d path in
     let begin_item = begin_of s start outer in
-    let begin_list = begin_of s start outer + trees_size (syntax_of s outer) above + head_size (syntax_of s outer) vr in
-    let at_list : start + length b ≡ begin_list + length f = omega (arith, position, trees_take (syntax_of s outer) above d e above_at, element_takes (syntax_of s outer) tag vr declared e f head) in
+    let begin_list = begin_of s start outer + trees_size (syntax_of s outer) above + head_size (behind s outer above) vr in
+    let at_list : start + length b ≡ begin_list + length f = omega (arith, position, trees_take (syntax_of s outer) above d e above_at, element_takes (behind s outer above) tag vr declared e f head) in
     let both = least_passes (length z) (distance (start + length b) (end_of declared begin_list))
     (least (distance (start + length b) (end_of (item_length outer) begin_item)) (room (start + length b) (around s start outer))) free in
     let rest = least_passes (length z) (distance (start + length b) (end_of (item_length outer) begin_item)) (room (start + length b) (around s start outer)) both.1 in (
@@ -89,7 +89,7 @@ pub room_in_set : (s : Syntax) (start : ℕ) (path : Path) (whole : Trees) (b z 
     → passes (length z) (room (start + length b) (levels s start (plug path whole nothing_open))) ≡ false → Roomy s path whole nothing_open b h z
 unfolding room set_levels
 room_in_set s start path whole b z h free =
-    let inner = level (container_of path) (syntax_of s path) (item_length path) (begin_of s start path) in
+    let inner = level (container_of path) (behind s path whole) (item_length path) (begin_of s start path) in
     let free' : passes (length z) (room (start + length b) (inner ∷ around s start path)) ≡ false =
     subst (λ (ls : List Level). passes (length z) (room (start + length b) ls) ≡ false) (plug_levels s start path whole nothing_open) free in
     let both = least_passes (length z) (distance (start + length b) (end_of (item_length path) (begin_of s start path))) (room (start + length b) (around s start path)) free' in (
@@ -103,12 +103,12 @@ pub room_in_sequence : (s : Syntax) (start : ℕ) (path : Path) (whole : Trees) 
     → Roomy s path whole (open_sequence tag vr declared items no_open_item) b h z × StaysOpen declared true (h.open_at.0 ++ z)
 unfolding room set_levels
 room_in_sequence s start path whole tag vr declared items b z h free =
-    let s' = syntax_of s path in
+    let s' = behind s path whole in
     let o = open_sequence tag vr declared items no_open_item in
     let begin_set = begin_of s start path in
-    let begin_list = begin_of s start path + trees_size s' whole + head_size s' vr in
+    let begin_list = begin_of s start path + trees_size (syntax_of s path) whole + head_size s' vr in
     let position = path_position s start path b h.c h.path_at in
-    let at_list : start + length b ≡ begin_list + length h.open_at.0 = omega (arith, position, trees_take s' whole h.c h.d h.trees_at, element_takes s' tag vr declared h.d h.open_at.0 h.open_at.2) in
+    let at_list : start + length b ≡ begin_list + length h.open_at.0 = omega (arith, position, trees_take (syntax_of s path) whole h.c h.d h.trees_at, element_takes s' tag vr declared h.d h.open_at.0 h.open_at.2) in
     let free' = subst (λ (ls : List Level). passes (length z) (room (start + length b) ls) ≡ false) (plug_levels s start path whole o) free in
     let both = least_passes (length z) (distance (start + length b) (end_of declared begin_list))
     (least (distance (start + length b) (end_of (item_length path) begin_set)) (room (start + length b) (around s start path))) free' in

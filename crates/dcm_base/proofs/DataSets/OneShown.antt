@@ -9,7 +9,7 @@ use Rattle.dcm_base.specs.declared.length.Length.TheVariants.{Known, Undefined}
 use Rattle.dcm_base.specs.Tree.Tree.{Trees, no_tree, leaf, sequence, fragments, Items, no_item, item}
 use Rattle.dcm_base.specs.Tree.Front.{Front, front, OpenTree, nothing_open, open_leaf, open_sequence, open_fragments, OpenItem, no_open_item, open_item}
 use Rattle.dcm_base.specs.Tree.Value.{order}
-use Rattle.dcm_base.specs.Bytes.Spelling.{Form, a_value, a_sequence, a_fragment_list, form, reached_tag}
+use Rattle.dcm_base.specs.Bytes.Spelling.{Form, a_value, a_sequence, a_fragment_list, form, reached_tag, read_as}
 use Rattle.dcm_base.specs.Steps.Atoms.{Atom, opens, value_byte, closes_leaf, opens_item, closes_item, closes_sequence, opens_fragment, ends, fragments_then, ShowTrees, ShowItems, open_fragment_atoms, end_atoms, MayEnd, Shows, ShowsOpen, ShowsOpenItem}
 use Rattle.dcm_base.proofs.DataSets.Heads.{known_same}
 use Rattle.dcm_base.proofs.Conversions.Order.{order_same}
@@ -27,10 +27,11 @@ record SameOpening (t u : Tag) (v w : Vr) (l m : Length) (s r : Syntax) (a b : L
 opening_same : (x : List Atom) (t u : Tag) (v w : Vr) (l m : Length) (s r : Syntax) (a b : List Atom) → x ≡ opens t v l s ∷ a → x ≡ opens u w m r ∷ b → SameOpening t u v w l m s r a b
 opening_same x t u v w l m s r a b p q = record { tags = cc; vrs = cc; lengths = cc; syntaxes = cc; rest = cc }
 
-forms_one : (x : List Atom) (t u : Tag) (v w : Vr) (l m : Length) (s r : Syntax) (a b : List Atom) (f g : Form) → x ≡ opens t v l s ∷ a → x ≡ opens u w m r ∷ b → form s v l ≡ f → form r w m ≡ g → f ≡ g
+forms_one : (x : List Atom) (t u : Tag) (v w : Vr) (l m : Length) (s r : Syntax) (a b : List Atom) (f g : Form) → x ≡ opens t v l s ∷ a → x ≡ opens u w m r ∷ b → form s (read_as s t v) l ≡ f → form r (read_as r u w) m ≡ g → f ≡ g
 forms_one x t u v w l m s r a b f g p q e h =
     let same = opening_same x t u v w l m s r a b p q in
-    sym e ∙ ap (λ (y : Syntax). form y v l) same.syntaxes ∙ ap (λ (y : Vr). form r y l) same.vrs ∙ ap (λ (y : Length). form r w y) same.lengths ∙ h
+    sym e ∙ ap (λ (y : Syntax). form y (read_as y t v) l) same.syntaxes ∙ ap (λ (y : Tag). form r (read_as r y v) l) same.tags ∙ ap (λ (y : Vr). form r (read_as r u y) l) same.vrs
+    ∙ ap (λ (y : Length). form r (read_as r u w) y) same.lengths ∙ h
 
 abbrev NotTree : List Atom → Type 0
 NotTree x = (t : Tag) (v : Vr) (l : Length) (s : Syntax) (a : List Atom) → x ≡ opens t v l s ∷ a → ⊥
@@ -226,7 +227,7 @@ open_item_at_close no_open_item p h = cc
 open_item_at_close (open_item declared set) p (contents, is, open_still, more) = cc
 
 leaf_closed : (x b : List Atom) (t : Tag) (v : Vr) (val : List ℕ) (s : Syntax) (o : OpenTree) (k : Bool)
-    → form s v (Known (length val)) ≡ a_value → x ≡ opens t v (Known (length val)) s ∷ (map value_byte (order s v val) ++ closes_leaf ∷ b) → ShowsOpen o (end_atoms k) x → ⊥
+    → form s (read_as s t v) (Known (length val)) ≡ a_value → x ≡ opens t v (Known (length val)) s ∷ (map value_byte (order s v val) ++ closes_leaf ∷ b) → ShowsOpen o (end_atoms k) x → ⊥
 unfolding ShowsOpen
 leaf_closed x b t v val s nothing_open k fo is h = end_ends k _ _ _ _ _ (sym h ∙ is)
 leaf_closed x b t v val s (open_leaf tag' vr' size' value') k fo is (s', fo', le', is') =
@@ -236,7 +237,7 @@ leaf_closed x b t v val s (open_sequence tag' vr' declared' items' last') k fo i
 leaf_closed x b t v val s (open_fragments tag' vr' values' last') k fo is (s', fo', mi', is') = value_fragments (forms_one x _ _ _ _ _ _ _ _ _ _ _ _ is is' fo fo')
 
 sequence_closed : (x contents b : List Atom) (t : Tag) (v : Vr) (l : Length) (items : Items) (s : Syntax) (o : OpenTree) (k : Bool)
-    → form s v l ≡ a_sequence → x ≡ opens t v l s ∷ contents → ShowItems items contents (closes_sequence ∷ b)
+    → form s (read_as s t v) l ≡ a_sequence → x ≡ opens t v l s ∷ contents → ShowItems items contents (closes_sequence ∷ b)
     → ((y : Items) (last : OpenItem) (a p c : List Atom) → ShowItems items a (closes_sequence ∷ p) → ShowItems y a c → ShowsOpenItem last c → ⊥)
     → ShowsOpen o (end_atoms k) x → ⊥
 unfolding ShowsOpen
@@ -248,7 +249,7 @@ sequence_closed x contents b t v l items s (open_sequence tag' vr' declared' ite
 sequence_closed x contents b t v l items s (open_fragments tag' vr' values' last') k fo is inner apart (s', fo', mi', is') = sequence_fragments (forms_one x _ _ _ _ _ _ _ _ _ _ _ _ is is' fo fo')
 
 fragments_closed : (x b : List Atom) (t : Tag) (v : Vr) (values : List (List ℕ)) (s : Syntax) (o : OpenTree) (k : Bool)
-    → form s v Undefined ≡ a_fragment_list → x ≡ opens t v Undefined s ∷ fragments_then values (closes_sequence ∷ b) → ShowsOpen o (end_atoms k) x → ⊥
+    → form s (read_as s t v) Undefined ≡ a_fragment_list → x ≡ opens t v Undefined s ∷ fragments_then values (closes_sequence ∷ b) → ShowsOpen o (end_atoms k) x → ⊥
 unfolding ShowsOpen
 fragments_closed x b t v values s nothing_open k fo is h = end_ends k _ _ _ _ _ (sym h ∙ is)
 fragments_closed x b t v values s (open_leaf tag' vr' size' value') k fo is (s', fo', le', is') = value_fragments (forms_one x _ _ _ _ _ _ _ _ _ _ _ _ is' is fo' fo)

@@ -17,9 +17,13 @@ use Rattle.dcm_base.specs.Reading.Bars.{is_fragment_form, holds_fragments, no_ba
 use Rattle.dcm_base.specs.Tree.Front.{Front, front, OpenTree, nothing_open, open_leaf, open_sequence, open_fragments, OpenItem, no_open_item, open_item}
 use Rattle.dcm_base.specs.Bytes.Head.{head_size, tag_at, vr_at, length_at, long_length}
 use Rattle.dcm_base.specs.Tables.Number.{number}
+use Rattle.dcm_base.specs.declared.dictionary.Dictionary.{Dictionary}
+use Rattle.dcm_base.specs.declared.dictionary.Dictionary.TheVariants.{Extract, Standard, Signed}
+use Rattle.dcm_base.specs.Tables.Syntax.{read_by}
+use Rattle.dcm_base.specs.Tree.Tree.{Trees, no_tree, leaf, sequence, fragments}
 use Rattle.dcm_base.specs.Reading.Place.{depth, is_allowed, passes, room, levels, set_levels, tree_levels, item_levels, value_open}
 use Rattle.dcm_base.specs.Reading.Reads.{Reads, StopsFirst}
-use Rattle.dcm_base.specs.Bytes.Spelling.{form, inside}
+use Rattle.dcm_base.specs.Bytes.Spelling.{form, inside, after, after_trees, read_as}
 use Rattle.dcm_base.specs.Reading.Stop.{Stop, complete, refused, is_empty, is_the_data_set, barred, opens_list, with_length, first_case, has_no_form, element_cases, element_stop, item_stop, head_stop, innermost_stop, value_stop, stop_at, or_else}
 use Rattle.dcm_base.specs.Tables.Tag.{is_item}
 
@@ -30,6 +34,17 @@ unfolding inside
 inside_apart s UN h = refl
 inside_apart s vr h = h
 
+by_apart : (e : Dictionary) (s : Syntax) → holds_fragments s ≡ false → holds_fragments (read_by e s) ≡ false
+by_apart e (implicit_in d) h = refl
+by_apart e (little_in d) h = absurd (cc)
+by_apart e (big_in d) h = refl
+
+behind_apart : (s : Syntax) (x : Trees) → holds_fragments s ≡ false → holds_fragments (after_trees s x) ≡ false
+behind_apart s no_tree h = h
+behind_apart s (leaf tag vr value rest) h = behind_apart (after s tag vr value) rest (by_apart _ s h)
+behind_apart s (sequence tag vr declared items rest) h = behind_apart s rest h
+behind_apart s (fragments tag vr values rest) h = behind_apart s rest h
+
 abbrev Apart : List Level → Type 0
 Apart [] = Unit {0}
 Apart (inner ∷ outer) = holds_fragments inner.syntax ≡ false
@@ -38,7 +53,7 @@ mutual
   unfolding set_levels
 
   set_apart : (s : Syntax) (container : Container) (declared : Length) (begin : ℕ) (outer : List Level) (f : Front) → holds_fragments s ≡ false → Apart (set_levels s container declared begin outer f)
-  set_apart s container declared begin outer (front whole open_tree reached closed) h = tree_apart s _ _ open_tree h h
+  set_apart s container declared begin outer (front whole open_tree reached closed) h = tree_apart (after_trees s whole) _ _ open_tree (behind_apart s whole h) (behind_apart s whole h)
 
   tree_apart : (s : Syntax) (begin : ℕ) (outer : List Level) (open_tree : OpenTree) → holds_fragments s ≡ false → Apart outer → Apart (tree_levels s begin outer open_tree)
   tree_apart s begin outer nothing_open h k = k
@@ -56,18 +71,23 @@ levels_apart s start f h = set_apart s _ _ _ _ f h
 
 -- ---- what would be barred has no form there
 
-barred_before : (s : Syntax) (vr : Vr) (declared : Length) → holds_fragments s ≡ false → (is_fragment_form (form Little vr declared) ≡ false) ⊎ (has_no_form (form s vr declared) ≡ true)
+barred_before : (s : Syntax) (t : Tag) (vr : Vr) (declared : Length) → holds_fragments s ≡ false
+    → (is_fragment_form (form Little vr declared) ≡ false) ⊎ (has_no_form (form s (read_as s t vr) declared) ≡ true)
 unfolding form
-barred_before s SQ declared h = inl refl
-barred_before s UN Undefined h = inl refl
-barred_before (implicit_in d) OB Undefined h = inr refl
-barred_before (little_in d) OB Undefined h = absurd (cc)
-barred_before (big_in d) OB Undefined h = inr refl
-barred_before (implicit_in d) OW Undefined h = inr refl
-barred_before (little_in d) OW Undefined h = absurd (cc)
-barred_before (big_in d) OW Undefined h = inr refl
-barred_before s vr (Known n) h = inl refl
-barred_before s vr Undefined h = inl refl
+barred_before s t SQ declared h = inl refl
+barred_before s t UN Undefined h = inl refl
+barred_before (implicit_in d) t OB Undefined h = inr refl
+barred_before (little_in d) t OB Undefined h = absurd (cc)
+barred_before (big_in Extract) t OB Undefined h = inr refl
+barred_before (big_in Standard) t OB Undefined h = inr refl
+barred_before (big_in Signed) t OB Undefined h = inr refl
+barred_before (implicit_in d) t OW Undefined h = inr refl
+barred_before (little_in d) t OW Undefined h = absurd (cc)
+barred_before (big_in Extract) t OW Undefined h = inr refl
+barred_before (big_in Standard) t OW Undefined h = inr refl
+barred_before (big_in Signed) t OW Undefined h = inr refl
+barred_before s t vr (Known n) h = inl refl
+barred_before s t vr Undefined h = inl refl
 
 third_decides : (a b c : Bool) (x y z : Stop) (more others : List (Bool × Stop)) → c ≡ true → first_case ((a, x) ∷ (b, y) ∷ (c, z) ∷ more) ≡ first_case ((a, x) ∷ (b, y) ∷ (c, z) ∷ others)
 third_decides true b c x y z more others e = refl
@@ -77,18 +97,18 @@ third_decides false false false x y z more others e = absurd (cc)
 
 module _ (f : Front) where
   same_cases : (s : Syntax) (around : List Level) (position : ℕ) (rest : List ℕ) (tag : Tag) (vr : Vr) (declared : Length) → holds_fragments s ≡ false
-      → first_case (element_cases (fragments_bar f tag vr declared) s around position rest vr declared) ≡ first_case (element_cases None s around position rest vr declared)
+      → first_case (element_cases (fragments_bar f tag vr declared) s around position rest tag vr declared) ≡ first_case (element_cases None s around position rest tag vr declared)
   same_cases s around position rest tag vr declared h =
-      elim (barred_before s vr declared h) [
-        | inl e ↦ ap (λ (b : Bool). first_case (element_cases (if b then Some FragmentsBarred else None) s around position rest vr declared)) e
-        | inr e ↦ third_decides (passes (head_size s vr) (room position around)) (nat_lt (length rest) (head_size s vr)) (has_no_form (form s vr declared))
+      elim (barred_before s tag vr declared h) [
+        | inl e ↦ ap (λ (b : Bool). first_case (element_cases (if b then Some FragmentsBarred else None) s around position rest tag vr declared)) e
+        | inr e ↦ third_decides (passes (head_size s vr) (room position around)) (nat_lt (length rest) (head_size s vr)) (has_no_form (form s (read_as s tag vr) declared))
             (refused PassesEnd position) (refused EndsEarly (position + length rest)) (refused UndefinedLength position) (later (fragments_bar f tag vr declared)) (later None) e
       ]
     where
       later : Option Fault → List (Bool × Stop)
       later bar =
           (passes (with_length (head_size s vr) declared) (room position around), refused PassesEnd position)
-          ∷ (opens_list (form s vr declared) && nat_le 64 (depth around), refused TooDeep position)
+          ∷ (opens_list (form s (read_as s tag vr) declared) && nat_le 64 (depth around), refused TooDeep position)
           ∷ barred bar position
 
   same_element : (s : Syntax) (around : List Level) (position : ℕ) (rest : List ℕ) (o : Option Vr) → holds_fragments s ≡ false → element_stop (fragments_bar f) s around position rest o ≡ element_stop (no_bar f) s around position rest o

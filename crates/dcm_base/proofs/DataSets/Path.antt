@@ -12,16 +12,23 @@ use Rattle.dcm_base.specs.Tree.Front.{Front, front, OpenTree, nothing_open, open
 use Rattle.dcm_base.specs.Bytes.Head.{ElementHead, ItemHead, Delimiter}
 use Rattle.dcm_base.specs.Tables.Tag.{item_end_tag, sequence_end_tag}
 use Rattle.dcm_base.specs.Tree.Value.{order}
-use Rattle.dcm_base.specs.Bytes.Spelling.{a_value, a_sequence, a_fragment_list, form, inside, FragmentsAt, TreesAt, ItemsAt, reached_tag, is_open, StaysOpen, SpellsFront, SpellsOpen}
+use Rattle.dcm_base.specs.Bytes.Spelling.{a_value, a_sequence, a_fragment_list, form, inside, FragmentsAt, TreesAt, ItemsAt, reached_tag, is_open, StaysOpen, SpellsFront, SpellsOpen, after, after_trees, read_as}
 use Rattle.dcm_base.proofs.Conversions.Order.{order_twice, length-order}
 use Rattle.dcm_base.proofs.DataSets.Extend.{element_extends, item_extends, fragments_extend, trees_extend, items_extend}
 
 -- ---- more at the end
 
-pub trees_then_at : (s : Syntax) (x y : Trees) (b p q : List ℕ) → TreesAt s x b p → TreesAt s y p q → TreesAt s (then_trees x y) b q
+-- the syntax after trees and more after them
+pub after_then : (s : Syntax) (x y : Trees) → after_trees s (then_trees x y) ≡ after_trees (after_trees s x) y
+after_then s no_tree y = refl
+after_then s (leaf tag vr value rest) y = after_then (after s tag vr value) rest y
+after_then s (sequence tag vr declared items rest) y = after_then s rest y
+after_then s (fragments tag vr values rest) y = after_then s rest y
+
+pub trees_then_at : (s : Syntax) (x y : Trees) (b p q : List ℕ) → TreesAt s x b p → TreesAt (after_trees s x) y p q → TreesAt s (then_trees x y) b q
 unfolding TreesAt
 trees_then_at s no_tree y b p q h k = subst (λ (z : List ℕ). TreesAt s y z q) (sym h) k
-trees_then_at s (leaf tag vr value rest) y b p q (others, fo, head, more) k = (others, fo, head, trees_then_at s rest y others p q more k)
+trees_then_at s (leaf tag vr value rest) y b p q (others, fo, head, more) k = (others, fo, head, trees_then_at (after s tag vr value) rest y others p q more k)
 trees_then_at s (sequence tag vr declared items rest) y b p q (contents, others, fo, head, inner, more) k = (contents, others, fo, head, inner, trees_then_at s rest y others p q more k)
 trees_then_at s (fragments tag vr values rest) y b p q (contents, others, fo, head, inner, more) k = (contents, others, fo, head, inner, trees_then_at s rest y others p q more k)
 
@@ -45,7 +52,11 @@ plug (in_item outer above tag vr declared items item_declared) whole o =
 
 abbrev pub syntax_of : Syntax → Path → Syntax
 syntax_of s at_top = s
-syntax_of s (in_item outer above tag vr declared items item_declared) = inside (syntax_of s outer) vr
+syntax_of s (in_item outer above tag vr declared items item_declared) = inside (after_trees (syntax_of s outer) above) vr
+
+-- the syntax after the whole trees of the innermost set
+abbrev pub behind : Syntax → Path → Trees → Syntax
+behind s path whole = after_trees (syntax_of s path) whole
 
 abbrev pub item_length : Path → Length
 item_length at_top = Undefined
@@ -57,12 +68,12 @@ PathAt s at_top b c = b ≡ c
 PathAt s (in_item outer above tag vr declared items item_declared) b c =
     (d e f g : List ℕ) × PathAt s outer b d × StaysOpen (item_length outer) true d
     × TreesAt (syntax_of s outer) above d e
-    × (form (syntax_of s outer) vr declared ≡ a_sequence)
-    × ElementHead (syntax_of s outer) tag vr declared e f × StaysOpen declared true f
-    × ItemsAt (inside (syntax_of s outer) vr) items f g
-    × ItemHead (inside (syntax_of s outer) vr) item_declared g c
+    × (form (behind s outer above) (read_as (behind s outer above) tag vr) declared ≡ a_sequence)
+    × ElementHead (behind s outer above) tag vr declared e f × StaysOpen declared true f
+    × ItemsAt (inside (behind s outer above) vr) items f g
+    × ItemHead (inside (behind s outer above) vr) item_declared g c
 
-pub plug_spells : (s : Syntax) (path : Path) (whole : Trees) (o : OpenTree) (b c d : List ℕ) → PathAt s path b c → TreesAt (syntax_of s path) whole c d → SpellsOpen (syntax_of s path) o d
+pub plug_spells : (s : Syntax) (path : Path) (whole : Trees) (o : OpenTree) (b c d : List ℕ) → PathAt s path b c → TreesAt (syntax_of s path) whole c d → SpellsOpen (behind s path whole) o d
     → StaysOpen (item_length path) (is_open o) c → SpellsFront s (plug path whole o) b
 unfolding SpellsFront
 plug_spells s at_top whole o b c d h at op stays = (d, subst (λ (z : List ℕ). TreesAt s whole z d) (sym h) at, op, refl, refl)
@@ -87,10 +98,10 @@ path_extends s (in_item outer above tag vr declared items item_declared) b c z (
   room.0,
   trees_extend (syntax_of s outer) above d e z above_at,
   fo,
-  element_extends (syntax_of s outer) tag vr declared e f z head,
+  element_extends (behind s outer above) tag vr declared e f z head,
   room.1,
-  items_extend (inside (syntax_of s outer) vr) items f g z items_at,
-  item_extends (inside (syntax_of s outer) vr) item_declared g c z item_head,
+  items_extend (inside (behind s outer above) vr) items f g z items_at,
+  item_extends (inside (behind s outer above) vr) item_declared g c z item_head,
 )
 
 -- ---- places: what is open may be full here, and then closes
@@ -101,19 +112,19 @@ FragmentAt s (Some fragment) b = (length fragment.1 ≤ fragment.0) × ItemHead 
 
 abbrev pub OpenAt : Syntax → OpenTree → List ℕ → Type 0
 OpenAt s nothing_open b = b ≡ []
-OpenAt s (open_leaf tag vr size value) b = (form s vr (Known size) ≡ a_value) × (length value ≤ size) × ElementHead s tag vr (Known size) b (order s vr value)
+OpenAt s (open_leaf tag vr size value) b = (form s (read_as s tag vr) (Known size) ≡ a_value) × (length value ≤ size) × ElementHead s tag vr (Known size) b (order s vr value)
 OpenAt s (open_sequence tag vr declared items no_open_item) b =
-    (contents : List ℕ) × (form s vr declared ≡ a_sequence) × ElementHead s tag vr declared b contents × StaysOpen declared true contents × ItemsAt (inside s vr) items contents []
+    (contents : List ℕ) × (form s (read_as s tag vr) declared ≡ a_sequence) × ElementHead s tag vr declared b contents × StaysOpen declared true contents × ItemsAt (inside s vr) items contents []
 OpenAt s (open_sequence tag vr declared items (open_item l f)) b = ⊥
 OpenAt s (open_fragments tag vr values last) b =
-    (contents others : List ℕ) × (form s vr Undefined ≡ a_fragment_list) × ElementHead s tag vr Undefined b contents × FragmentsAt s values contents others × FragmentAt s last others
+    (contents others : List ℕ) × (form s (read_as s tag vr) Undefined ≡ a_fragment_list) × ElementHead s tag vr Undefined b contents × FragmentsAt s values contents others × FragmentAt s last others
 
 pub record Placed (s : Syntax) (path : Path) (whole : Trees) (o : OpenTree) (b : List ℕ) : Type 0 where
   pub c : List ℕ
   pub d : List ℕ
   pub path_at : PathAt s path b c
   pub trees_at : TreesAt (syntax_of s path) whole c d
-  pub open_at : OpenAt (syntax_of s path) o d
+  pub open_at : OpenAt (behind s path whole) o d
   pub stays : StaysOpen (item_length path) true c
 
 -- room for z at a place
@@ -152,19 +163,19 @@ trees_before : (s : Syntax) (x : Trees) (c d z : List ℕ) → TreesAt s x c d �
 trees_before s x c d z h e = subst (λ (y : List ℕ). TreesAt s x (c ++ z) (y ++ z)) e (trees_extend s x c d z h)
 
 pub leaf_opens : (s : Syntax) (path : Path) (whole : Trees) (tag : Tag) (vr : Vr) (size : ℕ) (b z : List ℕ) (h : Placed s path whole nothing_open b) → Roomy s path whole nothing_open b h z
-    → form (syntax_of s path) vr (Known size) ≡ a_value → ElementHead (syntax_of s path) tag vr (Known size) z [] → Placed s path whole (open_leaf tag vr size []) (b ++ z)
+    → form (behind s path whole) (read_as (behind s path whole) tag vr) (Known size) ≡ a_value → ElementHead (behind s path whole) tag vr (Known size) z [] → Placed s path whole (open_leaf tag vr size []) (b ++ z)
 leaf_opens s path whole tag vr size b z h room fo head =
     record {
       c = h.c ++ z;
       d = z;
       path_at = path_extends s path b h.c z h.path_at room.0;
       trees_at = trees_before (syntax_of s path) whole h.c h.d z h.trees_at h.open_at;
-      open_at = (fo, omega arith, subst (λ (y : List ℕ). ElementHead (syntax_of s path) tag vr (Known size) z y) (sym (order_nil (syntax_of s path) vr)) head);
+      open_at = (fo, omega arith, subst (λ (y : List ℕ). ElementHead (behind s path whole) tag vr (Known size) z y) (sym (order_nil (behind s path whole) vr)) head);
       stays = room.1;
     }
 
 pub sequence_opens : (s : Syntax) (path : Path) (whole : Trees) (tag : Tag) (vr : Vr) (declared : Length) (b z : List ℕ) (h : Placed s path whole nothing_open b) → Roomy s path whole nothing_open b h z
-    → form (syntax_of s path) vr declared ≡ a_sequence → ElementHead (syntax_of s path) tag vr declared z [] → Placed s path whole (open_sequence tag vr declared no_item no_open_item) (b ++ z)
+    → form (behind s path whole) (read_as (behind s path whole) tag vr) declared ≡ a_sequence → ElementHead (behind s path whole) tag vr declared z [] → Placed s path whole (open_sequence tag vr declared no_item no_open_item) (b ++ z)
 unfolding ItemsAt
 sequence_opens s path whole tag vr declared b z h room fo head =
     record {
@@ -177,7 +188,7 @@ sequence_opens s path whole tag vr declared b z h room fo head =
     }
 
 pub fragments_open : (s : Syntax) (path : Path) (whole : Trees) (tag : Tag) (vr : Vr) (b z : List ℕ) (h : Placed s path whole nothing_open b) → Roomy s path whole nothing_open b h z
-    → form (syntax_of s path) vr Undefined ≡ a_fragment_list → ElementHead (syntax_of s path) tag vr Undefined z [] → Placed s path whole (open_fragments tag vr [] None) (b ++ z)
+    → form (behind s path whole) (read_as (behind s path whole) tag vr) Undefined ≡ a_fragment_list → ElementHead (behind s path whole) tag vr Undefined z [] → Placed s path whole (open_fragments tag vr [] None) (b ++ z)
 unfolding SpellsOpen FragmentsAt
 fragments_open s path whole tag vr b z h room fo head =
     record {
@@ -191,7 +202,7 @@ fragments_open s path whole tag vr b z h room fo head =
 
 pub item_opens : (s : Syntax) (path : Path) (whole : Trees) (tag : Tag) (vr : Vr) (declared : Length) (items : Items) (item_declared : Length) (b z : List ℕ)
     (h : Placed s path whole (open_sequence tag vr declared items no_open_item) b) → Roomy s path whole (open_sequence tag vr declared items no_open_item) b h z → StaysOpen declared true (h.open_at.0 ++ z)
-    → ItemHead (inside (syntax_of s path) vr) item_declared z [] → Placed s (in_item path whole tag vr declared items item_declared) no_tree nothing_open (b ++ z)
+    → ItemHead (inside (behind s path whole) vr) item_declared z [] → Placed s (in_item path whole tag vr declared items item_declared) no_tree nothing_open (b ++ z)
 unfolding TreesAt
 item_opens s path whole tag vr declared items item_declared b z h room stays head =
     record {
@@ -206,9 +217,9 @@ item_opens s path whole tag vr declared items item_declared b z h room stays hea
         room.1,
         trees_extend (syntax_of s path) whole h.c h.d z h.trees_at,
         h.open_at.1,
-        element_extends (syntax_of s path) tag vr declared h.d h.open_at.0 z h.open_at.2,
+        element_extends (behind s path whole) tag vr declared h.d h.open_at.0 z h.open_at.2,
         stays,
-        items_extend (inside (syntax_of s path) vr) items h.open_at.0 [] z h.open_at.4,
+        items_extend (inside (behind s path whole) vr) items h.open_at.0 [] z h.open_at.4,
         head,
       );
       trees_at = refl;
@@ -218,16 +229,16 @@ item_opens s path whole tag vr declared items item_declared b z h room stays hea
 
 pub byte_comes : (s : Syntax) (path : Path) (whole : Trees) (tag : Tag) (vr : Vr) (size : ℕ) (value : List ℕ) (x : ℕ) (b : List ℕ)
     (h : Placed s path whole (open_leaf tag vr size value) b) → Roomy s path whole (open_leaf tag vr size value) b h (x ∷ []) → length value < size
-    → Placed s path whole (open_leaf tag vr size (order (syntax_of s path) vr (order (syntax_of s path) vr value ++ x ∷ []))) (b ++ x ∷ [])
+    → Placed s path whole (open_leaf tag vr size (order (behind s path whole) vr (order (behind s path whole) vr value ++ x ∷ []))) (b ++ x ∷ [])
 byte_comes s path whole tag vr size value x b h room lt =
-    let s' = syntax_of s path in
+    let s' = behind s path whole in
     let z : List ℕ = x ∷ [] in
     let raw : List ℕ = order s' vr value ++ z in
     record {
       c = h.c ++ z;
       d = h.d ++ z;
       path_at = path_extends s path b h.c z h.path_at room.0;
-      trees_at = trees_extend s' whole h.c h.d z h.trees_at;
+      trees_at = trees_extend (syntax_of s path) whole h.c h.d z h.trees_at;
       open_at = (
         h.open_at.0,
         omega (arith, length-order s' vr raw, length-append (order s' vr value) z, length-order s' vr value),
@@ -242,14 +253,14 @@ pub leaf_closes : (s : Syntax) (path : Path) (whole : Trees) (tag : Tag) (vr : V
     → Placed s path (then_trees whole (leaf tag vr value no_tree)) nothing_open b
 unfolding TreesAt
 leaf_closes s path whole tag vr size value b h full =
-    let s' = syntax_of s path in
-    let fo : form s' vr (Known (length value)) ≡ a_value = subst (λ (n : ℕ). form s' vr (Known n) ≡ a_value) full h.open_at.0 in
+    let s' = behind s path whole in
+    let fo : form s' (read_as s' tag vr) (Known (length value)) ≡ a_value = subst (λ (n : ℕ). form s' (read_as s' tag vr) (Known n) ≡ a_value) full h.open_at.0 in
     let head : ElementHead s' tag vr (Known (length value)) h.d (order s' vr value) = subst (λ (n : ℕ). ElementHead s' tag vr (Known n) h.d (order s' vr value)) full h.open_at.2 in
     record {
       c = h.c;
       d = [];
       path_at = h.path_at;
-      trees_at = trees_then_at s' whole (leaf tag vr value no_tree) h.c h.d [] h.trees_at ([], fo, subst (λ (y : List ℕ). ElementHead s' tag vr (Known (length value)) h.d y) (sym (append-nil (order s' vr value))) head, refl);
+      trees_at = trees_then_at (syntax_of s path) whole (leaf tag vr value no_tree) h.c h.d [] h.trees_at ([], fo, subst (λ (y : List ℕ). ElementHead s' tag vr (Known (length value)) h.d y) (sym (append-nil (order s' vr value))) head, refl);
       open_at = refl;
       stays = h.stays;
     }
@@ -260,7 +271,7 @@ pub item_is_full : (s : Syntax) (outer : Path) (above : Trees) (tag : Tag) (vr :
 unfolding ItemsAt
 item_is_full s outer above tag vr declared items size whole b h full =
     let (d, e, f, g, path, around, above_at, fo, head, stays, items_at, item_head) = h.path_at in
-    let s'' = inside (syntax_of s outer) vr in
+    let s'' = inside (behind s outer above) vr in
     let whole_at : TreesAt s'' whole h.c [] = subst (λ (y : List ℕ). TreesAt s'' whole h.c y) h.open_at h.trees_at in
     record {
       c = d;
@@ -273,18 +284,18 @@ item_is_full s outer above tag vr declared items size whole b h full =
 
 pub item_ends : (s : Syntax) (outer : Path) (above : Trees) (tag : Tag) (vr : Vr) (declared : Length) (items : Items) (whole : Trees) (b z : List ℕ)
     (h : Placed s (in_item outer above tag vr declared items Undefined) whole nothing_open b) → Roomy s (in_item outer above tag vr declared items Undefined) whole nothing_open b h z
-    → Delimiter (inside (syntax_of s outer) vr) item_end_tag z []
+    → Delimiter (inside (behind s outer above) vr) item_end_tag z []
     → Placed s outer above (open_sequence tag vr declared (then_items items (item Undefined whole no_item)) no_open_item) (b ++ z)
 unfolding ItemsAt
 item_ends s outer above tag vr declared items whole b z h room delimiter =
     let (d, e, f, g, path, around, above_at, fo, head, stays, items_at, item_head) = h.path_at in
-    let s' = syntax_of s outer in
+    let s' = behind s outer above in
     let s'' = inside s' vr in
     record {
       c = d ++ z;
       d = e ++ z;
       path_at = path_extends s outer b d z path room.0.2;
-      trees_at = trees_extend s' above d e z above_at;
+      trees_at = trees_extend (syntax_of s outer) above d e z above_at;
       open_at = (
         f ++ z,
         fo,
@@ -313,17 +324,17 @@ sequence_is_full s path whole tag vr size items b h full =
 
 pub sequence_ends : (s : Syntax) (path : Path) (whole : Trees) (tag : Tag) (vr : Vr) (items : Items) (b z : List ℕ)
     (h : Placed s path whole (open_sequence tag vr Undefined items no_open_item) b) → Roomy s path whole (open_sequence tag vr Undefined items no_open_item) b h z
-    → Delimiter (inside (syntax_of s path) vr) sequence_end_tag z []
+    → Delimiter (inside (behind s path whole) vr) sequence_end_tag z []
     → Placed s path (then_trees whole (sequence tag vr Undefined items no_tree)) nothing_open (b ++ z)
 unfolding TreesAt
 sequence_ends s path whole tag vr items b z h room delimiter =
     let (f, fo, head, stays, items_at) = h.open_at in
-    let s' = syntax_of s path in
+    let s' = behind s path whole in
     record {
       c = h.c ++ z;
       d = [];
       path_at = path_extends s path b h.c z h.path_at room.0;
-      trees_at = trees_then_at s' whole (sequence tag vr Undefined items no_tree) (h.c ++ z) (h.d ++ z) [] (trees_extend s' whole h.c h.d z h.trees_at)
+      trees_at = trees_then_at (syntax_of s path) whole (sequence tag vr Undefined items no_tree) (h.c ++ z) (h.d ++ z) [] (trees_extend (syntax_of s path) whole h.c h.d z h.trees_at)
           (f ++ z, [], fo, element_extends s' tag vr Undefined h.d f z head, (z, items_extend (inside s' vr) items f [] z items_at, delimiter), refl);
       open_at = refl;
       stays = room.1;
@@ -352,15 +363,15 @@ fragment_stands s path whole tag vr values size value b h lt =
 
 pub fragment_opens : (s : Syntax) (path : Path) (whole : Trees) (tag : Tag) (vr : Vr) (values : List (List ℕ)) (size : ℕ) (b z : List ℕ)
     (h : Placed s path whole (open_fragments tag vr values None) b) → Roomy s path whole (open_fragments tag vr values None) b h z
-    → ItemHead (syntax_of s path) (Known size) z [] → Placed s path whole (open_fragments tag vr values (Some (size, []))) (b ++ z)
+    → ItemHead (behind s path whole) (Known size) z [] → Placed s path whole (open_fragments tag vr values (Some (size, []))) (b ++ z)
 fragment_opens s path whole tag vr values size b z h room item_head =
     let (contents, others, fo, head, inner, more) = h.open_at in
-    let s' = syntax_of s path in
+    let s' = behind s path whole in
     record {
       c = h.c ++ z;
       d = h.d ++ z;
       path_at = path_extends s path b h.c z h.path_at room.0;
-      trees_at = trees_extend s' whole h.c h.d z h.trees_at;
+      trees_at = trees_extend (syntax_of s path) whole h.c h.d z h.trees_at;
       open_at = (
         contents ++ z,
         z,
@@ -377,13 +388,13 @@ pub fragment_byte : (s : Syntax) (path : Path) (whole : Trees) (tag : Tag) (vr :
     → Placed s path whole (open_fragments tag vr values (Some (size, value ++ x ∷ []))) (b ++ x ∷ [])
 fragment_byte s path whole tag vr values size value x b h room lt =
     let (contents, others, fo, head, inner, more) = h.open_at in
-    let s' = syntax_of s path in
+    let s' = behind s path whole in
     let z : List ℕ = x ∷ [] in
     record {
       c = h.c ++ z;
       d = h.d ++ z;
       path_at = path_extends s path b h.c z h.path_at room.0;
-      trees_at = trees_extend s' whole h.c h.d z h.trees_at;
+      trees_at = trees_extend (syntax_of s path) whole h.c h.d z h.trees_at;
       open_at = (
         contents ++ z,
         others ++ z,
@@ -400,7 +411,7 @@ pub fragment_closes : (s : Syntax) (path : Path) (whole : Trees) (tag : Tag) (vr
 unfolding FragmentsAt
 fragment_closes s path whole tag vr values size value b h full =
     let (contents, others, fo, head, inner, more) = h.open_at in
-    let s' = syntax_of s path in
+    let s' = behind s path whole in
     let head1 : ItemHead s' (Known (length value)) others value = subst (λ (n : ℕ). ItemHead s' (Known n) others value) full more.1 in
     record {
       c = h.c;
@@ -421,16 +432,16 @@ fragment_closes s path whole tag vr values size value b h full =
 
 pub fragments_end : (s : Syntax) (path : Path) (whole : Trees) (tag : Tag) (vr : Vr) (values : List (List ℕ)) (b z : List ℕ)
     (h : Placed s path whole (open_fragments tag vr values None) b) → Roomy s path whole (open_fragments tag vr values None) b h z
-    → Delimiter (syntax_of s path) sequence_end_tag z [] → Placed s path (then_trees whole (fragments tag vr values no_tree)) nothing_open (b ++ z)
+    → Delimiter (behind s path whole) sequence_end_tag z [] → Placed s path (then_trees whole (fragments tag vr values no_tree)) nothing_open (b ++ z)
 unfolding TreesAt
 fragments_end s path whole tag vr values b z h room delimiter =
     let (contents, others, fo, head, inner, more) = h.open_at in
-    let s' = syntax_of s path in
+    let s' = behind s path whole in
     record {
       c = h.c ++ z;
       d = [];
       path_at = path_extends s path b h.c z h.path_at room.0;
-      trees_at = trees_then_at s' whole (fragments tag vr values no_tree) (h.c ++ z) (h.d ++ z) [] (trees_extend s' whole h.c h.d z h.trees_at) (
+      trees_at = trees_then_at (syntax_of s path) whole (fragments tag vr values no_tree) (h.c ++ z) (h.d ++ z) [] (trees_extend (syntax_of s path) whole h.c h.d z h.trees_at) (
         contents ++ z,
         [],
         fo,

@@ -5,7 +5,7 @@ use Rattle.dcm_base.specs.declared.length.Length.{Length}
 use Rattle.dcm_base.specs.declared.length.Length.TheVariants.{Known, Undefined}
 use Rattle.dcm_base.specs.Tree.Tree.{Trees, no_tree, leaf, sequence, fragments, Items, no_item, item}
 use Rattle.dcm_base.specs.Tree.Front.{Front, front, OpenTree, nothing_open, open_leaf, open_sequence, open_fragments, OpenItem, no_open_item, open_item}
-use Rattle.dcm_base.specs.Bytes.Spelling.{Enclosed, TreesAt, ItemsAt, inside, SpellsFront, SpellsOpen, SpellsOpenItem, SpellsOpenFragment}
+use Rattle.dcm_base.specs.Bytes.Spelling.{Enclosed, TreesAt, ItemsAt, inside, SpellsFront, SpellsOpen, SpellsOpenItem, SpellsOpenFragment, after, after_trees}
 use Rattle.dcm_base.specs.declared.tag.Tag.{Tag}
 use Rattle.dcm_base.specs.Tables.Tag.{item_end_tag, sequence_end_tag}
 use Rattle.dcm_base.specs.Steps.Atoms.{Atom, closes_item, closes_sequence, ShowTrees, ShowItems, trees_then, items_then, end_atoms, MayEnd, MissesFragment, is_closed, Shows, ShowsOpen, ShowsOpenItem, front_atoms, open_atoms, open_item_atoms}
@@ -21,7 +21,7 @@ mutual
 
   pub trees_shown : (s : Syntax) (x : Trees) (b p : List ℕ) (others : List Atom) → TreesAt s x b p → ShowTrees x (trees_then s x others) others
   trees_shown s no_tree b p others h = refl
-  trees_shown s (leaf tag vr value rest) b p others (b', fo, head, more) = (s, trees_then s rest others, fo, refl, trees_shown s rest b' p others more)
+  trees_shown s (leaf tag vr value rest) b p others (b', fo, head, more) = (s, trees_then (after s tag vr value) rest others, fo, refl, trees_shown (after s tag vr value) rest b' p others more)
   trees_shown s (sequence tag vr declared items rest) b p others (contents, b', fo, head, inner, more) = (
     s,
     items_then (inside s vr) items (closes_sequence ∷ trees_then s rest others),
@@ -62,7 +62,7 @@ mutual
 
   pub front_shown : (s : Syntax) (f : Front) (b : List ℕ) → SpellsFront s f b → Shows f (front_atoms s f)
   front_shown s (front whole o reached closed) b (others, at, op, re, cl) =
-      (open_atoms s o (end_atoms closed), trees_shown s whole b others (open_atoms s o (end_atoms closed)) at, open_shown s o others (end_atoms closed) op, may_end o closed cl, re)
+      (open_atoms (after_trees s whole) o (end_atoms closed), trees_shown s whole b others (open_atoms (after_trees s whole) o (end_atoms closed)) at, open_shown (after_trees s whole) o others (end_atoms closed) op, may_end o closed cl, re)
 
   pub open_shown : (s : Syntax) (o : OpenTree) (b : List ℕ) (at_end : List Atom) → SpellsOpen s o b → ShowsOpen o at_end (open_atoms s o at_end)
   open_shown s nothing_open b at_end h = refl

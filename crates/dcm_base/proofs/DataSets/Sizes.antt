@@ -9,7 +9,7 @@ use Rattle.dcm_base.specs.Tree.Tree.{Trees, no_tree, leaf, sequence, fragments, 
 use Rattle.dcm_base.specs.Bytes.Head.{ElementHead, ItemHead, Delimiter, head_size}
 use Rattle.dcm_base.specs.Tables.Tag.{item_end_tag, sequence_end_tag}
 use Rattle.dcm_base.specs.Tree.Value.{order}
-use Rattle.dcm_base.specs.Bytes.Spelling.{inside, Enclosed, FragmentsAt, TreesAt, ItemsAt}
+use Rattle.dcm_base.specs.Bytes.Spelling.{inside, Enclosed, FragmentsAt, TreesAt, ItemsAt, after}
 use Rattle.dcm_base.specs.Reading.Size.{end_size, fragments_size, trees_size, items_size}
 use Rattle.dcm_base.proofs.Conversions.Order.{length-order}
 
@@ -39,7 +39,7 @@ mutual
   pub trees_take : (s : Syntax) (x : Trees) (b p : List ℕ) → TreesAt s x b p → length b ≡ trees_size s x + length p
   trees_take s no_tree b p h = omega (arith, ap length h)
   trees_take s (leaf tag vr value rest) b p (others, fo, head, more) =
-      omega (arith, element_takes s tag vr (Known (length value)) b (order s vr value ++ others) head, length-append (order s vr value) others, length-order s vr value, trees_take s rest others p more)
+      omega (arith, element_takes s tag vr (Known (length value)) b (order s vr value ++ others) head, length-append (order s vr value) others, length-order s vr value, trees_take (after s tag vr value) rest others p more)
   trees_take s (sequence tag vr declared items rest) b p (contents, others, fo, head, inner, more) =
       let e = enclosed_takes (inside s vr) sequence_end_tag declared (ItemsAt (inside s vr) items) (items_size (inside s vr) items) contents others (λ b p r. items_take (inside s vr) items b p r) inner in
       omega (arith, element_takes s tag vr declared b contents head, e, trees_take s rest others p more)

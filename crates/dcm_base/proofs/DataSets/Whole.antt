@@ -10,8 +10,9 @@ use Rattle.dcm_base.specs.Tree.Tree.{Trees, no_tree, leaf, sequence, fragments, 
 use Rattle.dcm_base.specs.Bytes.Head.{ElementHead, Delimiter}
 use Rattle.dcm_base.specs.Tables.Tag.{item_end_tag, sequence_end_tag}
 use Rattle.dcm_base.specs.Tree.Value.{order}
-use Rattle.dcm_base.specs.Bytes.Spelling.{Form, a_value, a_sequence, a_fragment_list, form, inside, Enclosed, FragmentsAt, TreesAt, ItemsAt}
+use Rattle.dcm_base.specs.Bytes.Spelling.{Form, a_value, a_sequence, a_fragment_list, form, inside, Enclosed, FragmentsAt, TreesAt, ItemsAt, after, read_as}
 use Rattle.dcm_base.proofs.DataSets.Heads.{known_same, element_same, item_same, delimiter_same, NoElement, NoItem, element_begins, item_begins}
+use Rattle.dcm_base.proofs.DataSets.After.{none_after, behind_same}
 use Rattle.dcm_base.proofs.Conversions.Order.{length-order, order_same}
 
 pub append_same : (a b x y : List ℕ) → length a ≡ length b → a ++ x ≡ b ++ y → (a ≡ b) × (x ≡ y)
@@ -38,8 +39,9 @@ delimiter_NoItem s d e p le same =
 
 -- ---- one form
 
-pub form_differs : (s : Syntax) (v w : Vr) (l m : Length) (f g : Form) → form s v l ≡ f → form s w m ≡ g → v ≡ w → l ≡ m → f ≡ g
-form_differs s v w l m f g p q vrs lengths = sym p ∙ ap (λ (x : Vr). form s x l) vrs ∙ ap (λ (x : Length). form s w x) lengths ∙ q
+pub form_differs : (s : Syntax) (t u : Tag) (v w : Vr) (l m : Length) (f g : Form) → form s (read_as s t v) l ≡ f → form s (read_as s u w) m ≡ g → t ≡ u → v ≡ w → l ≡ m → f ≡ g
+form_differs s t u v w l m f g p q tags vrs lengths =
+    sym p ∙ ap (λ (x : Tag). form s (read_as s x v) l) tags ∙ ap (λ (x : Vr). form s (read_as s u x) l) vrs ∙ ap (λ (x : Length). form s (read_as s u w) x) lengths ∙ q
 
 -- ---- what a declared length encloses
 
@@ -72,10 +74,10 @@ fragments_same s (v ∷ vs) (w ∷ ws) b p q (others, head, more) (others', head
 
 -- ---- one tree
 
-pub forms_same : (s : Syntax) (t u : Tag) (v w : Vr) (l m : Length) (b c d : List ℕ) (f g : Form) → form s v l ≡ f → form s w m ≡ g → ElementHead s t v l b c → ElementHead s u w m b d → f ≡ g
+pub forms_same : (s : Syntax) (t u : Tag) (v w : Vr) (l m : Length) (b c d : List ℕ) (f g : Form) → form s (read_as s t v) l ≡ f → form s (read_as s u w) m ≡ g → ElementHead s t v l b c → ElementHead s u w m b d → f ≡ g
 forms_same s t u v w l m b c d f g p q x y =
     let h = element_same s t u v w l m b c d x y in
-    form_differs s v w l m f g p q h.vrs h.lengths
+    form_differs s t u v w l m f g p q h.tags h.vrs h.lengths
 
 pub value_sequence : a_value ≡ a_sequence → ⊥
 value_sequence e = cc
@@ -119,7 +121,7 @@ mutual
       let h0 = h.0 in
       let h1 = h.1 in
       let h2 = h.2 in
-      let ih = trees_same s rest rest' others p q more (subst (λ (z : List ℕ). TreesAt s rest' z q) (sym h.3) more') np nq in
+      let ih = trees_same (after s tag vr value) rest rest' others p q more (behind_same s tag tag' vr vr' value value' others others' q rest' h more') (none_after s tag vr value p np) (none_after s tag vr value q nq) in
       let ih0 = ih.0 in
       (cc, ih.1)
   trees_same s (leaf tag vr value rest) (sequence tag' vr' declared' items' rest') b p q (others, fo, head, more) (contents', others', fo', head', inner', more') np nq =

@@ -12,7 +12,7 @@ use Rattle.std.proofs.lemmas.List.Kept.{AllPairs-from_increasing}
 use Rattle.std.proofs.lemmas.List.Recursion.{found_at, found_nowhere}
 use Rattle.dcm_base.specs.declared.vr.Vr.{Vr}
 use Rattle.dcm_base.specs.declared.vr.Vr.TheVariants.{AE}
-use Rattle.dcm_base.specs.Tables.Dictionary.{Element, elements, numbered}
+use Rattle.dcm_base.specs.Tables.Dictionary.{Element, elements, ambiguous, numbered}
 
 abbrev pub Row : Type 0
 Row = ℕ × Vr × Bor (List ℕ)
@@ -62,10 +62,20 @@ same_numbers : (rows : List Row) → map (λ e. e.0) (map element_of rows) ≡ m
 same_numbers [] = refl
 same_numbers (r ∷ rows) = ap (λ ns. r.0 ∷ ns) (same_numbers rows)
 
+ambiguous_numbers_ascend : ascend (map (λ e. e.0) ambiguous) ≡ true
+unfolding ambiguous
+ambiguous_numbers_ascend = refl
+
 -- so those of its rows do
+rows_of_ascend : (table : List Element) → ascend (map (λ e. e.0) table) ≡ true → (rows : List Row) → map element_of rows ≡ table → IsStrictlyIncreasing (map (λ r. r.0) rows)
+rows_of_ascend table up rows is =
+    subst IsStrictlyIncreasing (same_numbers rows) (subst (λ es. IsStrictlyIncreasing (map (λ e. e.0) es)) (sym is) (increasing _ up))
+
 pub rows_ascend : (rows : List Row) → map element_of rows ≡ elements → IsStrictlyIncreasing (map (λ r. r.0) rows)
-rows_ascend rows is =
-    subst IsStrictlyIncreasing (same_numbers rows) (subst (λ es. IsStrictlyIncreasing (map (λ e. e.0) es)) (sym is) (increasing _ numbers_ascend))
+rows_ascend = rows_of_ascend elements numbers_ascend
+
+pub ambiguous_rows_ascend : (rows : List Row) → map element_of rows ≡ ambiguous → IsStrictlyIncreasing (map (λ r. r.0) rows)
+ambiguous_rows_ascend = rows_of_ascend ambiguous ambiguous_numbers_ascend
 
 module _ (n : ℕ) where
   abbrev has_number : Row → Bool

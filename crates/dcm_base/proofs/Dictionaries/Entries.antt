@@ -13,7 +13,7 @@ use Rattle.std.proofs.lemmas.List.Recursion.{found_at, found_nowhere}
 use Rattle.dcm_base.specs.declared.vr.Vr.{Vr}
 use Rattle.dcm_base.specs.declared.vr.Vr.TheVariants.{AE}
 use Rattle.dcm_base.specs.declared.dictionary.Dictionary.{Dictionary}
-use Rattle.dcm_base.specs.declared.dictionary.Dictionary.TheVariants.{Extract, Standard}
+use Rattle.dcm_base.specs.declared.dictionary.Dictionary.TheVariants.{Extract, Standard, Signed}
 use Rattle.dcm_base.specs.Tables.Dictionary.{Element, Entry, entries, keywords, keyword_of, element_of, elements_in, entry_of, fits, AllFit, numbered}
 use Rattle.dcm_base.proofs.Dictionaries.ByNumber.{ascend, increasing, numbers_ascend, rest_passes}
 
@@ -129,3 +129,4 @@ pub elements_ascend : (d : Dictionary) → IsStrictlyIncreasing (map (λ e. e.0)
 unfolding elements_in
 elements_ascend Extract = increasing _ numbers_ascend
 elements_ascend Standard = subst IsStrictlyIncreasing (same_numbers keywords entries) (increasing _ entry_numbers_ascend)
+elements_ascend Signed = subst IsStrictlyIncreasing (same_numbers keywords entries) (increasing _ entry_numbers_ascend)

@@ -6,9 +6,9 @@ use Rattle.std.proofs.lemmas.Bool.{leb-true}
 use Rattle.dcm_base.specs.declared.tag.Tag.{Tag}
 use Rattle.dcm_base.specs.declared.vr.Vr.{Vr}
 use Rattle.dcm_base.specs.Tables.Tag.{tag_number}
-use Rattle.dcm_base.specs.Tables.Dictionary.{Element, elements, elements_in, element_in, entries, keywords}
+use Rattle.dcm_base.specs.Tables.Dictionary.{Element, elements, elements_in, element_in, entries, keywords, ambiguous, ambiguous_in, signed_vr, numbered}
 use Rattle.dcm_base.specs.declared.dictionary.Dictionary.{Dictionary}
-use Rattle.dcm_base.specs.declared.dictionary.Dictionary.TheVariants.{Extract, Standard}
+use Rattle.dcm_base.specs.declared.dictionary.Dictionary.TheVariants.{Extract, Standard, Signed}
 use Rattle.dcm_base.proofs.Dictionaries.Lines.{standard_keywords, standard_has}
 
 -- what each row has, the one that is found has
@@ -43,15 +43,37 @@ all_fit : (d : Dictionary) → list_all (λ (e : Element). fits e.2) (elements_i
 unfolding elements_in
 all_fit Extract = extract_fits
 all_fit Standard = standard_has fits standard_fits
+all_fit Signed = standard_has fits standard_fits
+
+ambiguous_fit : list_all (λ (e : Element). fits e.2) ambiguous ≡ true
+unfolding ambiguous fits
+ambiguous_fit = refl
+
+-- of a row that is found
+row_fits : (es : List Element) → list_all (λ (e : Element). fits e.2) es ≡ true → (n : ℕ) (entry : Vr × List ℕ) → Some entry ≡ numbered es n → length entry.1 ≤ 64
+unfolding fits
+row_fits es all n entry is = by_row (find (λ (e : Element). e.0 == n) es) refl is
+  where
+    by_row : (o : Option Element) → find (λ (e : Element). e.0 == n) es ≡ o → Some entry ≡ option_map (λ (e : Element). (e.1, e.2)) o → length entry.1 ≤ 64
+    by_row (Some e) p is =
+        let fit : fits e.2 ≡ true = found_has (λ x. x.0 == n) (λ x. fits x.2) es e all p in
+        let same : entry ≡ (e.1, e.2) = cc in
+        subst (λ (x : Vr × List ℕ). length x.1 ≤ 64) (sym same) (leb-true (length e.2) 64 fit)
+    by_row None p is = cc
 
 -- of an element of a dictionary
 pub keyword_fits : (d : Dictionary) (t : Tag) (entry : Vr × List ℕ) → Some entry ≡ element_in d t → length entry.1 ≤ 64
-unfolding element_in fits
-keyword_fits d t entry is = by_row (find (λ (e : Element). e.0 == tag_number t) (elements_in d)) refl is
+unfolding element_in
+keyword_fits d t entry is = row_fits (elements_in d) (all_fit d) (tag_number t) entry is
+
+-- of an element between two representations
+pub ambiguous_fits : (d : Dictionary) (t : Tag) (entry : Vr × List ℕ) → Some entry ≡ ambiguous_in d t → length entry.1 ≤ 64
+ambiguous_fits Extract t entry is = cc
+ambiguous_fits Standard t entry is = row_fits ambiguous ambiguous_fit (tag_number t) entry is
+ambiguous_fits Signed t entry is = by_row (numbered ambiguous (tag_number t)) refl is
   where
-    by_row : (o : Option Element) → find (λ (e : Element). e.0 == tag_number t) (elements_in d) ≡ o → Some entry ≡ option_map (λ (e : Element). (e.1, e.2)) o → length entry.1 ≤ 64
+    by_row : (o : Option (Vr × List ℕ)) → o ≡ numbered ambiguous (tag_number t) → Some entry ≡ option_map (λ (e : Vr × List ℕ). (signed_vr e.0, e.1)) o → length entry.1 ≤ 64
     by_row (Some e) p is =
-        let fit : fits e.2 ≡ true = found_has (λ x. x.0 == tag_number t) (λ x. fits x.2) (elements_in d) e (all_fit d) p in
-        let same : entry ≡ (e.1, e.2) = cc in
-        subst (λ (x : Vr × List ℕ). length x.1 ≤ 64) (sym same) (leb-true (length e.2) 64 fit)
+        let same : entry ≡ (signed_vr e.0, e.1) = cc in
+        subst (λ (x : Vr × List ℕ). length x.1 ≤ 64) (sym same) (row_fits ambiguous ambiguous_fit (tag_number t) e p)
     by_row None p is = cc

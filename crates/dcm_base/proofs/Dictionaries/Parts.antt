@@ -5,7 +5,7 @@ use Rattle.std.specs.List.{list_all}
 use Rattle.dcm_base.specs.declared.vr.Vr.{Vr}
 use Rattle.dcm_base.specs.declared.tag.Tag.{Tag}
 use Rattle.dcm_base.specs.declared.dictionary.Dictionary.{Dictionary}
-use Rattle.dcm_base.specs.declared.dictionary.Dictionary.TheVariants.{Extract, Standard}
+use Rattle.dcm_base.specs.declared.dictionary.Dictionary.TheVariants.{Extract, Standard, Signed}
 use Rattle.dcm_base.specs.Tables.Tag.{tag_number}
 use Rattle.dcm_base.specs.Tables.Dictionary.{Element, Entry, elements, entries, keywords, keyword_of, element_of, elements_in, element_in, numbered}
 use Rattle.dcm_base.specs.Laws.{is_even}
@@ -74,3 +74,4 @@ pub groups_are_even : (d : Dictionary) → list_all (λ (e : Element). is_even e
 unfolding elements_in
 groups_are_even Extract = elements_even
 groups_are_even Standard = sym (even_too keywords entries) ∙ entries_even
+groups_are_even Signed = sym (even_too keywords entries) ∙ entries_even

@@ -9,7 +9,7 @@ use Rattle.std.proofs.lemmas.Bool.Decides.{nat_tests}
 use Rattle.std.proofs.lemmas.List.{get_or-map, length-map}
 use Rattle.dcm_base.specs.declared.vr.Vr.{Vr}
 use Rattle.dcm_base.specs.declared.dictionary.Dictionary.{Dictionary}
-use Rattle.dcm_base.specs.declared.dictionary.Dictionary.TheVariants.{Extract, Standard}
+use Rattle.dcm_base.specs.declared.dictionary.Dictionary.TheVariants.{Extract, Standard, Signed}
 use Rattle.dcm_base.specs.Tables.Dictionary.{Element, Entry, elements, entries, keywords, keyword_of, element_of, elements_in, numbered, called}
 use Rattle.dcm_base.proofs.Dictionaries.ByNumber.{rest_passes}
 use Rattle.dcm_base.proofs.Dictionaries.Entries.{first_passes}
@@ -134,6 +134,9 @@ keys_apart : (d : Dictionary) → apart (map key (elements_in d)) ≡ true
 unfolding elements_in
 keys_apart Extract = apart_of (map key elements) extract_apart
 keys_apart Standard =
+    let same = ap (map (number_from 0)) standard_keywords_are ∙ keyed keywords entries in
+    subst (λ ns. apart ns ≡ true) same (apart_of (map (number_from 0) standard_keywords) standard_apart)
+keys_apart Signed =
     let same = ap (map (number_from 0)) standard_keywords_are ∙ keyed keywords entries in
     subst (λ ns. apart ns ≡ true) same (apart_of (map (number_from 0) standard_keywords) standard_apart)
 

@@ -1,5 +1,5 @@
 -- A line of a dump means what it shows.
-use Rattle.std.proofs.Common.{◌≡◌, ℕ, zero, suc, ◌<◌, ◌-◌, ◌*◌, ◌^◌, List, [], ◌∷◌, ◌++◌, length, Option, Some, None, Bool, true, false, refl, ◌∙◌, ap, subst, arith, codes, replicate, append_assoc, decimal}
+use Rattle.std.proofs.Common.{◌≡◌, ℕ, zero, suc, ◌<◌, ◌-◌, ◌*◌, ◌^◌, List, [], ◌∷◌, ◌++◌, length, Option, Some, None, Bool, true, false, refl, sym, ◌∙◌, ap, subst, arith, codes, replicate, append_assoc, decimal}
 use Rattle.std.specs.Prelude.{◌==◌, if◌then◌else◌, nat_le, find, option_map}
 use Rattle.std.specs.List.{list_all}
 use Rattle.std.specs.Option.{option_map_or}
@@ -8,7 +8,7 @@ use Rattle.dcm_base.specs.declared.vr.Vr.{Vr}
 use Rattle.dcm_base.specs.declared.length.Length.TheVariants.{Known, Undefined}
 use Rattle.dcm_base.specs.Tables.Tag.{tag_number, is_item, is_item_end, is_sequence_end}
 use Rattle.dcm_base.specs.declared.length.Length.{Length}
-use Rattle.dcm_base.specs.Tables.Dictionary.{Element, elements, elements_in, entries, keywords, element_in, keyword_in, is_group_length, is_private_creator, other_keyword}
+use Rattle.dcm_base.specs.Tables.Dictionary.{Element, elements, elements_in, entries, keywords, element_in, keyword_in, is_group_length, is_private_creator, other_keyword, ambiguous, ambiguous_in, numbered, signed_vr}
 use Rattle.dcm_base.proofs.Dictionaries.Lines.{standard_keywords, standard_has}
 use Rattle.dcm_base.specs.Dump.ValueText.{tag_text}
 use Rattle.dcm_base.specs.Dump.Dump.{length_text, line}
@@ -17,7 +17,7 @@ use Rattle.dcm_base.proofs.DumpsBack.Fields.{Bytewise, Bytewise-append, Bytewise
 use Rattle.dcm_base.proofs.Dictionaries.KeywordLengths.{found_has}
 use Rattle.dcm_base.proofs.DumpsBack.LineParts.{past_indent, line_means, tag_from}
 use Rattle.dcm_base.specs.declared.dictionary.Dictionary.{Dictionary}
-use Rattle.dcm_base.specs.declared.dictionary.Dictionary.TheVariants.{Extract, Standard}
+use Rattle.dcm_base.specs.declared.dictionary.Dictionary.TheVariants.{Extract, Standard, Signed}
 
 -- spaces, one space more and a comment are a space and what is skipped
 pub record Behind (w : List ℕ) : Type 0 where
@@ -71,10 +71,39 @@ all_printed_keywords : (k : Dictionary) → list_all (λ (e : Element). is_print
 unfolding elements_in
 all_printed_keywords Extract = extract_printed
 all_printed_keywords Standard = standard_has is_printed_keyword standard_printed
+all_printed_keywords Signed = standard_has is_printed_keyword standard_printed
+
+ambiguous_printed : list_all (λ (e : Element). is_printed_keyword e.2) ambiguous ≡ true
+unfolding ambiguous is_printed_keyword
+ambiguous_printed = refl
+
+-- what a row says is printed, or else what is said where there is none
+row_is_printed : (es : List Element) → list_all (λ (e : Element). is_printed_keyword e.2) es ≡ true → (n : ℕ) (other : List ℕ) → Bytewise IsPrinted other
+    → Bytewise IsPrinted (option_map_or (λ (e : Vr × List ℕ). e.1) (numbered es n) other)
+unfolding is_printed_keyword
+row_is_printed es all n other h = by_row (find (λ (e : Element). e.0 == n) es) refl
+  where
+    by_row : (o : Option Element) → find (λ (e : Element). e.0 == n) es ≡ o → Bytewise IsPrinted (option_map_or (λ (e : Vr × List ℕ). e.1) (option_map (λ (e : Element). (e.1, e.2)) o) other)
+    by_row (Some e) p = printed_text e.2 (found_has (λ x. x.0 == n) (λ x. is_printed_keyword x.2) es e all p)
+    by_row None p = h
+
+-- the sign changes no keyword
+signed_keyword : (o : Option (Vr × List ℕ)) (other : List ℕ)
+    → option_map_or (λ (e : Vr × List ℕ). e.1) (option_map (λ (e : Vr × List ℕ). (signed_vr e.0, e.1)) o) other ≡ option_map_or (λ (e : Vr × List ℕ). e.1) o other
+signed_keyword None other = refl
+signed_keyword (Some e) other = refl
+
+ambiguous_is_printed : (k : Dictionary) (t : Tag) (other : List ℕ) → Bytewise IsPrinted other → Bytewise IsPrinted (option_map_or (λ (e : Vr × List ℕ). e.1) (ambiguous_in k t) other)
+ambiguous_is_printed Extract t other h = h
+ambiguous_is_printed Standard t other h = row_is_printed ambiguous ambiguous_printed (tag_number t) other h
+ambiguous_is_printed Signed t other h =
+    subst (Bytewise IsPrinted) (sym (signed_keyword (numbered ambiguous (tag_number t)) other)) (row_is_printed ambiguous ambiguous_printed (tag_number t) other h)
 
 keyword_is_printed : (k : Dictionary) (t : Tag) → Bytewise IsPrinted (keyword_in k t)
-unfolding keyword_in element_in is_printed_keyword
-keyword_is_printed k t = by_element (find (λ (e : Element). e.0 == tag_number t) (elements_in k)) refl
+unfolding keyword_in element_in
+keyword_is_printed k t =
+    row_is_printed (elements_in k) (all_printed_keywords k) (tag_number t) _
+    (ambiguous_is_printed k t _ (by_kind (is_group_length t) (is_private_creator t) (other_keyword t) (by_number (is_item t) (is_item_end t) (is_sequence_end t))))
   where
     by_number : (a b c : Bool) → Bytewise IsPrinted (if a then codes "Item" else if b then codes "ItemDelimitationItem" else if c then codes "SequenceDelimitationItem" else codes "Unknown Tag & Data")
     by_number true b c = printed_text (codes "Item") refl
@@ -86,11 +115,6 @@ keyword_is_printed k t = by_element (find (λ (e : Element). e.0 == tag_number t
     by_kind true b other h = printed_text (codes "GenericGroupLength") refl
     by_kind false true other h = printed_text (codes "PrivateCreator") refl
     by_kind false false other h = h
-
-    by_element : (o : Option Element) → find (λ (e : Element). e.0 == tag_number t) (elements_in k) ≡ o
-        → Bytewise IsPrinted (option_map_or (λ (e : Vr × List ℕ). e.1) (option_map (λ (e : Element). (e.1, e.2)) o) (if is_group_length t then codes "GenericGroupLength" else if is_private_creator t then codes "PrivateCreator" else other_keyword t))
-    by_element (Some e) p = printed_text e.2 (found_has (λ x. x.0 == tag_number t) (λ x. is_printed_keyword x.2) (elements_in k) e (all_printed_keywords k) p)
-    by_element None p = by_kind (is_group_length t) (is_private_creator t) (other_keyword t) (by_number (is_item t) (is_item_end t) (is_sequence_end t))
 
 -- behind the display
 abbrev comment : List ℕ → ℕ → List ℕ → List ℕ

@@ -1,13 +1,13 @@
 -- Worked rows of the dictionaries (PS3.6 sections 6 and 7).
 use Rattle.std.proofs.Common.{◌≡◌, Some, None, refl}
 use Rattle.std.specs.Prelude.{ℕ, codes}
-use Rattle.dcm_base.specs.declared.dictionary.Dictionary.TheVariants.{Extract, Standard}
-use Rattle.dcm_base.specs.declared.vr.Vr.TheVariants.{AE, LO, OW, PN, SQ, UL, UN}
-use Rattle.dcm_base.specs.Tables.Dictionary.{elements, entries, keywords, elements_in, element_in, vr_in, keyword_in, tag_in}
+use Rattle.dcm_base.specs.declared.dictionary.Dictionary.TheVariants.{Extract, Standard, Signed}
+use Rattle.dcm_base.specs.declared.vr.Vr.TheVariants.{AE, LO, OW, PN, SQ, SS, UL, UN, US}
+use Rattle.dcm_base.specs.Tables.Dictionary.{elements, entries, keywords, ambiguous, elements_in, element_in, vr_in, keyword_in, tag_in}
 
 -- all that a row computes with
 unfoldable all : ℕ
-unfolding elements entries keywords elements_in element_in vr_in keyword_in tag_in
+unfolding elements entries keywords ambiguous elements_in element_in vr_in keyword_in tag_in
 all = 0
 
 -- an element of both
@@ -40,18 +40,44 @@ sender_called : tag_in Standard (codes "SendingApplicationEntityTitle") ≡ Some
 unfolding all
 sender_called = refl
 
--- an element between US and SS is in neither, and PixelData, between OB and OW, is OW
+-- an element between US and SS is none that edits name; its representation is by the sign of the pixels, and PixelData,
+-- between OB and OW, is OW
 least_value : element_in Standard (record { group = 0x0028; element = 0x0106 }) ≡ None
 unfolding all
 least_value = refl
 
-least_value_vr : vr_in Standard (record { group = 0x0028; element = 0x0106 }) ≡ UN
+least_value_vr : vr_in Standard (record { group = 0x0028; element = 0x0106 }) ≡ US
 unfolding all
 least_value_vr = refl
 
-least_value_keyword : keyword_in Standard (record { group = 0x0028; element = 0x0106 }) ≡ codes "Unknown Tag & Data"
+signed_value_vr : vr_in Signed (record { group = 0x0028; element = 0x0106 }) ≡ SS
+unfolding all
+signed_value_vr = refl
+
+least_value_keyword : keyword_in Standard (record { group = 0x0028; element = 0x0106 }) ≡ codes "SmallestImagePixelValue"
 unfolding all
 least_value_keyword = refl
+
+signed_value_keyword : keyword_in Signed (record { group = 0x0028; element = 0x0106 }) ≡ codes "SmallestImagePixelValue"
+unfolding all
+signed_value_keyword = refl
+
+least_value_of_extract : vr_in Extract (record { group = 0x0028; element = 0x0106 }) ≡ UN
+unfolding all
+least_value_of_extract = refl
+
+-- one that comes before PixelRepresentation stays unknown, and US that is no such element stays US
+perimeter_vr : vr_in Signed (record { group = 0x0028; element = 0x0071 }) ≡ UN
+unfolding all
+perimeter_vr = refl
+
+table_data_vr : vr_in Signed (record { group = 0x0028; element = 0x3006 }) ≡ OW
+unfolding all
+table_data_vr = refl
+
+rows_vr : vr_in Signed (record { group = 0x0028; element = 0x0010 }) ≡ US
+unfolding all
+rows_vr = refl
 
 pixel_data : element_in Standard (record { group = 0x7FE0; element = 0x0010 }) ≡ Some (OW, codes "PixelData")
 unfolding all

@@ -11,7 +11,7 @@ use Rattle.dcm_base.specs.Tree.Front.{Front, front, nothing_open}
 use Rattle.dcm_base.specs.Tables.Dictionary.{vr_in}
 use Rattle.dcm_base.specs.Tables.Representation.{pad}
 use Rattle.dcm_base.specs.Tree.Value.{order, evened}
-use Rattle.dcm_base.specs.Bytes.Spelling.{a_sequence, form, last_tag}
+use Rattle.dcm_base.specs.Bytes.Spelling.{a_sequence, form, last_tag, after, read_as}
 use Rattle.dcm_base.specs.Conversion.Recode.{too_long, leaf_bytes}
 
 -- an implicit head leaves the representation to the dictionary, and a value that is too long for the short form is
@@ -32,12 +32,12 @@ normal_value s t vr v = order s (normal_vr s t vr (length v)) (evened (pad vr) (
 abbrev pub unless_group_length : Tag → (tree : Trees → Trees) → (rest : Trees) → Trees
 unless_group_length t tree rest = if t.element == 0 then rest else tree rest
 
--- sequences and items have undefined lengths
+-- sequences and items have undefined lengths; the representations after a leaf are those that its normal form leads to
 unfoldable mutual
   pub normal : Syntax → Trees → Trees
   normal s no_tree = no_tree
   normal s (leaf t vr v rest) = unless_group_length t (leaf t (normal_vr s t vr (length v)) (normal_value s t vr v))
-      (normal s rest)
+      (normal (after s t (normal_vr s t vr (length v)) (normal_value s t vr v)) rest)
   normal s (sequence t vr size items rest) =
       unless_group_length t (sequence t (normal_sequence_vr s t) Undefined (normal_items s items)) (normal s rest)
   normal s (fragments t vr values rest) = unless_group_length t (fragments t vr (map (evened 0) values)) (normal s rest)
@@ -55,10 +55,10 @@ normal_front s (front whole open_tree reached closed) = whole_front (normal s wh
 
 -- ---- where the bytes tell what was written
 
--- an implicit head tells a value from a sequence by the dictionary alone
-abbrev pub TellsValue : Syntax → Tag → Type 0
-TellsValue (implicit_in d) t = vr_in d t ≢ SQ
-TellsValue s t = Unit {0}
+-- an implicit head tells a value from a sequence by the dictionary alone, and so does an unknown one
+abbrev pub TellsValue : Syntax → Tag → Vr → ℕ → Type 0
+TellsValue (implicit_in d) t vr size = vr_in d t ≢ SQ
+TellsValue s t vr size = read_as s t (normal_vr s t vr size) ≡ normal_vr s t vr size
 
 abbrev pub TellsSequence : Syntax → Tag → Type 0
 TellsSequence (implicit_in d) t = form (implicit_in d) (vr_in d t) Undefined ≡ a_sequence
@@ -71,7 +71,7 @@ UnlessGroupLength t P = (t.element == 0) ≡ false → P
 unfoldable mutual
   pub FitsTarget : Syntax → Trees → Type 0
   FitsTarget s no_tree = Unit {0}
-  FitsTarget s (leaf t vr v rest) = UnlessGroupLength t (TellsValue s t) × FitsTarget s rest
+  FitsTarget s (leaf t vr v rest) = UnlessGroupLength t (TellsValue s t vr (length v)) × FitsTarget s rest
   FitsTarget s (sequence t vr size items rest) = UnlessGroupLength t (TellsSequence s t × ItemsFit s items)
       × FitsTarget s rest
   FitsTarget s (fragments t vr values rest) = FitsTarget s rest
@@ -82,3 +82,23 @@ unfoldable mutual
 
 abbrev pub FrontFits : Syntax → Front → Type 0
 FrontFits s (front whole open_tree reached closed) = FitsTarget s whole
+
+-- a value that is too long for its representation is written as UN; of a tag that the dictionary calls a sequence, it
+-- would be read as one
+abbrev pub StaysValue : Syntax → Tag → Vr → ℕ → Type 0
+StaysValue s t vr size = too_long s vr size ≡ true → read_as s t UN ≡ UN
+
+-- the values of a data set are no such ones
+unfoldable mutual
+  pub StayValues : Syntax → Trees → Type 0
+  StayValues s no_tree = Unit {0}
+  StayValues s (leaf t vr v rest) = StaysValue s t vr (length v) × StayValues s rest
+  StayValues s (sequence t vr size items rest) = ItemsStay s items × StayValues s rest
+  StayValues s (fragments t vr values rest) = StayValues s rest
+
+  pub ItemsStay : Syntax → Items → Type 0
+  ItemsStay s no_item = Unit {0}
+  ItemsStay s (item size set rest) = StayValues s set × ItemsStay s rest
+
+abbrev pub FrontStays : Syntax → Front → Type 0
+FrontStays s (front whole open_tree reached closed) = StayValues s whole

@@ -9,7 +9,7 @@ use Rattle.dcm_base.specs.Tree.Front.{Front, front, OpenTree, nothing_open, open
 use Rattle.dcm_base.specs.Tree.Front.{OpenItem, no_open_item, open_item}
 use Rattle.dcm_base.specs.Bytes.Head.{head_size}
 use Rattle.dcm_base.specs.Tables.Tag.{is_item, is_item_end, is_sequence_end}
-use Rattle.dcm_base.specs.Bytes.Spelling.{inside}
+use Rattle.dcm_base.specs.Bytes.Spelling.{inside, after_trees}
 use Rattle.dcm_base.specs.Reading.Size.{trees_size, items_size}
 pub use Rattle.dcm_base.specs.declared.level.Container.{Container}
 pub use Rattle.dcm_base.specs.declared.level.Container.TheVariants.{DataSet as the_data_set, Item as an_item}
@@ -30,7 +30,8 @@ level container s declared begin =
 unfoldable mutual
   pub set_levels : Syntax → Container → Length → (begin : ℕ) → (outer : List Level) → Front → List Level
   set_levels s container declared begin outer (front whole open_tree reached closed) =
-      tree_levels s (begin + trees_size s whole) (level container s declared begin ∷ outer) open_tree
+      tree_levels (after_trees s whole) (begin + trees_size s whole)
+      (level container (after_trees s whole) declared begin ∷ outer) open_tree
 
   pub tree_levels : Syntax → (begin : ℕ) → (outer : List Level) → OpenTree → List Level
   tree_levels s begin outer nothing_open = outer

@@ -13,7 +13,7 @@ use Rattle.dcm_base.specs.Tree.Front.{Front}
 use Rattle.dcm_base.specs.Tables.Number.{number}
 use Rattle.dcm_base.specs.Bytes.Head.{tag_at, vr_at, length_at, head_size, long_length}
 use Rattle.dcm_base.specs.Tables.Tag.{is_item}
-use Rattle.dcm_base.specs.Bytes.Spelling.{Form, a_sequence, a_fragment_list, no_form, form}
+use Rattle.dcm_base.specs.Bytes.Spelling.{Form, a_sequence, a_fragment_list, no_form, form, read_as}
 use Rattle.dcm_base.specs.Reading.Place.{Container, the_data_set, a_fragment_list as fragment_container, Level, levels}
 use Rattle.dcm_base.specs.Reading.Place.{value_open, room, passes, depth, is_undefined, is_allowed}
 
@@ -81,18 +81,18 @@ barred None position = []
 barred (Some fault) position = (true, refused fault position) ∷ []
 
 -- an element's head of this representation: the cases 6 to 11
-abbrev pub element_cases : Option Fault → Syntax → List Level → ℕ → List ℕ → Vr → Length → List (Bool × Stop)
-element_cases bar s around position rest vr declared =
+abbrev pub element_cases : Option Fault → Syntax → List Level → ℕ → List ℕ → Tag → Vr → Length → List (Bool × Stop)
+element_cases bar s around position rest tag vr declared =
     -- 6: R10, no room for the head
     (passes (head_size s vr) (room position around), refused PassesEnd position)
     -- 7: R1, the head is cut
     ∷ (nat_lt (length rest) (head_size s vr), refused EndsEarly (position + length rest))
     -- 8: R8
-    ∷ (has_no_form (form s vr declared), refused UndefinedLength position)
+    ∷ (has_no_form (form s (read_as s tag vr) declared), refused UndefinedLength position)
     -- 9: R10, no room for what the head declares
     ∷ (passes (with_length (head_size s vr) declared) (room position around), refused PassesEnd position)
     -- 10: R11
-    ∷ (opens_list (form s vr declared) && nat_le 64 (depth around), refused TooDeep position)
+    ∷ (opens_list (form s (read_as s tag vr) declared) && nat_le 64 (depth around), refused TooDeep position)
     -- 11: R12 where tags have to ascend, R13 where the target has no fragment lists
     ∷ barred bar position
 
@@ -101,7 +101,8 @@ abbrev pub element_stop : HeadBar → Syntax → List Level → ℕ → List ℕ
 element_stop bar s around position rest None = Some (refused UnknownRepresentation position)
 element_stop bar s around position rest (Some vr) =
     let declared = length_at s vr rest in
-    first_case (element_cases (bar (tag_at s rest) vr declared) s around position rest vr declared)
+    let tag = tag_at s rest in
+    first_case (element_cases (bar tag vr declared) s around position rest tag vr declared)
 
 -- an item's head: the cases 5 and 6
 abbrev pub item_stop : Container → List Level → ℕ → Length → Option Stop

@@ -9,7 +9,8 @@ use Rattle.dcm_base.specs.Tree.Tree.{Trees, no_tree, leaf, sequence, fragments, 
 use Rattle.dcm_base.specs.Tree.Front.{Front, front, OpenTree, nothing_open, open_leaf, open_sequence, open_fragments}
 use Rattle.dcm_base.specs.Tree.Front.{OpenItem, no_open_item, open_item}
 use Rattle.dcm_base.specs.Tree.Value.{order}
-use Rattle.dcm_base.specs.Bytes.Spelling.{a_value, a_sequence, a_fragment_list, form, inside, reached_tag}
+use Rattle.dcm_base.specs.Bytes.Spelling.{a_value, a_sequence, a_fragment_list, form, inside, reached_tag, after}
+use Rattle.dcm_base.specs.Bytes.Spelling.{after_trees, read_as}
 
 pub data Atom : Type 0 where
   opens : (tag : Tag) (vr : Vr) (declared : Length) (s : Syntax) → Atom
@@ -32,16 +33,16 @@ unfoldable mutual
   pub ShowTrees : Trees → List Atom → List Atom → Type 0
   ShowTrees no_tree atoms after = atoms ≡ after
   ShowTrees (leaf tag vr value rest) atoms after =
-      (s : Syntax) × (others : List Atom) × (form s vr (Known (length value)) ≡ a_value)
+      (s : Syntax) × (others : List Atom) × (form s (read_as s tag vr) (Known (length value)) ≡ a_value)
       × (atoms ≡ opens tag vr (Known (length value)) s ∷ (map value_byte (order s vr value) ++ closes_leaf ∷ others))
       × ShowTrees rest others after
   ShowTrees (sequence tag vr declared items rest) atoms after =
-      (s : Syntax) × (contents others : List Atom) × (form s vr declared ≡ a_sequence)
+      (s : Syntax) × (contents others : List Atom) × (form s (read_as s tag vr) declared ≡ a_sequence)
       × (atoms ≡ opens tag vr declared s ∷ contents)
       × ShowItems items contents (closes_sequence ∷ others)
       × ShowTrees rest others after
   ShowTrees (fragments tag vr values rest) atoms after =
-      (s : Syntax) × (others : List Atom) × (form s vr Undefined ≡ a_fragment_list)
+      (s : Syntax) × (others : List Atom) × (form s (read_as s tag vr) Undefined ≡ a_fragment_list)
       × (atoms ≡ opens tag vr Undefined s ∷ fragments_then values (closes_sequence ∷ others))
       × ShowTrees rest others after
 
@@ -84,14 +85,14 @@ unfoldable mutual
   pub ShowsOpen : OpenTree → List Atom → List Atom → Type 0
   ShowsOpen nothing_open at_end atoms = atoms ≡ at_end
   ShowsOpen (open_leaf tag vr size value) at_end atoms =
-      (s : Syntax) × (form s vr (Known size) ≡ a_value) × (length value < size)
+      (s : Syntax) × (form s (read_as s tag vr) (Known size) ≡ a_value) × (length value < size)
       × (atoms ≡ opens tag vr (Known size) s ∷ map value_byte (order s vr value))
   ShowsOpen (open_sequence tag vr declared items last) at_end atoms =
-      (s : Syntax) × (contents others : List Atom) × (form s vr declared ≡ a_sequence)
+      (s : Syntax) × (contents others : List Atom) × (form s (read_as s tag vr) declared ≡ a_sequence)
       × (atoms ≡ opens tag vr declared s ∷ contents)
       × ShowItems items contents others × ShowsOpenItem last others
   ShowsOpen (open_fragments tag vr values last) at_end atoms =
-      (s : Syntax) × (form s vr Undefined ≡ a_fragment_list) × MissesFragment last
+      (s : Syntax) × (form s (read_as s tag vr) Undefined ≡ a_fragment_list) × MissesFragment last
       × (atoms ≡ opens tag vr Undefined s ∷ fragments_then values (open_fragment_atoms last))
 
   pub ShowsOpenItem : OpenItem → List Atom → Type 0
@@ -105,7 +106,7 @@ unfoldable mutual
   trees_then s no_tree others = others
   trees_then s (leaf tag vr value rest) others =
       opens tag vr (Known (length value)) s ∷ (map value_byte (order s vr value)
-      ++ closes_leaf ∷ trees_then s rest others)
+      ++ closes_leaf ∷ trees_then (after s tag vr value) rest others)
   trees_then s (sequence tag vr declared items rest) others =
       opens tag vr declared s ∷ items_then (inside s vr) items (closes_sequence ∷ trees_then s rest others)
   trees_then s (fragments tag vr values rest) others =
@@ -119,7 +120,8 @@ unfoldable mutual
 -- the atoms of a data set that is spelled in this syntax, as far as it was read
 unfoldable mutual
   pub front_atoms : Syntax → Front → List Atom
-  front_atoms s (front whole open_tree reached closed) = trees_then s whole (open_atoms s open_tree (end_atoms closed))
+  front_atoms s (front whole open_tree reached closed) =
+      trees_then s whole (open_atoms (after_trees s whole) open_tree (end_atoms closed))
 
   pub open_atoms : Syntax → OpenTree → List Atom → List Atom
   open_atoms s nothing_open at_end = at_end

@@ -1,14 +1,15 @@
 -- The data dictionary (PS3.6 section 6), and the extract of it.
-use Rattle.std.specs.Prelude.{◌≡◌, ℕ, ◌+◌, Bool, true, ◌&&◌, ◌==◌, nat_le, if◌then◌else◌, List, map, find, length}
-use Rattle.std.specs.Prelude.{codes, Option, option_map, bytes_eq}
+use Rattle.std.specs.Prelude.{◌≡◌, ℕ, ◌+◌, Bool, true, false, ◌&&◌, ◌==◌, nat_le, if◌then◌else◌, List, map, find}
+use Rattle.std.specs.Prelude.{length, codes, Option, None, option_map, bytes_eq}
 use Rattle.std.specs.List.{slice_range, list_all}
 use Rattle.std.specs.Option.{option_map_or}
 use Rattle.dcm_base.specs.declared.tag.Tag.{Tag}
 use Rattle.dcm_base.specs.declared.vr.Vr.{Vr}
-use Rattle.dcm_base.specs.declared.vr.Vr.TheVariants.{UL, LO, UN}
+use Rattle.dcm_base.specs.declared.vr.Vr.TheVariants.{UL, LO, UN, US, SS}
+use Rattle.dcm_base.specs.declared.dictionary.ambiguous.TheConstants.{AMBIGUOUS}
 use Rattle.dcm_base.specs.declared.dictionary.extract.TheConstants.{ELEMENTS}
 use Rattle.dcm_base.specs.declared.dictionary.Dictionary.{Dictionary}
-use Rattle.dcm_base.specs.declared.dictionary.Dictionary.TheVariants.{Extract, Standard}
+use Rattle.dcm_base.specs.declared.dictionary.Dictionary.TheVariants.{Extract, Standard, Signed}
 use Rattle.dcm_base.specs.declared.dictionary.standard.TheConstants.{KEYWORDS, STANDARD}
 use Rattle.dcm_base.specs.Tables.Tag.{tag_number, tag_of_number, is_private, is_item, is_item_end, is_sequence_end}
 
@@ -63,22 +64,51 @@ keyword_of text e = slice_range text e.2 (e.2 + e.3)
 abbrev pub element_of : List ℕ → Entry → Element
 element_of text e = (e.0, e.1, keyword_of text e)
 
--- the elements of a dictionary, in tag order
+-- the elements of a dictionary that have one value representation, in tag order; edits name these alone
 unfoldable pub elements_in : Dictionary → List Element
 elements_in Extract = elements
 elements_in Standard = map (element_of keywords) entries
+elements_in Signed = map (element_of keywords) entries
 
 -- the value representation and the keyword of a tag of the dictionary
 unfoldable pub element_in : Dictionary → Tag → Option (Vr × List ℕ)
 element_in d t = numbered (elements_in d) (tag_number t)
 
+-- the elements that the standard leaves between two value representations (PS3.6 section 6), each with the one that it
+-- has where pixels are not signed
+unfoldable pub ambiguous : List Element
+ambiguous = map (λ e. (e.0, e.1, e.2.now)) AMBIGUOUS
+
+-- where pixels are signed, such an element is SS and not US
+abbrev pub signed_vr : Vr → Vr
+signed_vr US = SS
+signed_vr vr = vr
+
+-- the value representation and the keyword of a tag of such an element; the extract has none
+abbrev pub ambiguous_in : Dictionary → Tag → Option (Vr × List ℕ)
+ambiguous_in Extract t = None
+ambiguous_in Standard t = numbered ambiguous (tag_number t)
+ambiguous_in Signed t = option_map (λ e. (signed_vr e.0, e.1)) (numbered ambiguous (tag_number t))
+
+-- a dictionary where pixels are signed, or are not
+abbrev pub if_signed : Bool → Dictionary → Dictionary
+if_signed signed Extract = Extract
+if_signed true Standard = Signed
+if_signed false Standard = Standard
+if_signed true Signed = Signed
+if_signed false Signed = Standard
+
+-- the value representation of a tag that no dictionary has
+abbrev pub unlisted_vr : Tag → Vr
+unlisted_vr t = if is_group_length t then UL else if is_private_creator t then LO else UN
+
 -- the value representation of an implicit head, by the dictionary
 unfoldable pub vr_in : Dictionary → Tag → Vr
-vr_in d t = option_map_or (λ e. e.0) (element_in d t)
-    (if is_group_length t then UL else if is_private_creator t then LO else UN)
+vr_in d t = option_map_or (λ e. e.0) (element_in d t) (option_map_or (λ e. e.0) (ambiguous_in d t) (unlisted_vr t))
 
 unfoldable pub keyword_in : Dictionary → Tag → List ℕ
-keyword_in d t = option_map_or (λ e. e.1) (element_in d t) (unlisted_keyword t)
+keyword_in d t = option_map_or (λ e. e.1) (element_in d t)
+    (option_map_or (λ e. e.1) (ambiguous_in d t) (unlisted_keyword t))
 
 -- the tag of the dictionary's element that has the keyword
 unfoldable pub tag_in : Dictionary → List ℕ → Option Tag

@@ -125,7 +125,8 @@ const PLACES: [u16; 583] = [
     0, 0, 0, 0, 0, 0, 0, 0, 0, 0, 0, 55, 0, 0, 0, 0, 0, 0, 0, 0, 0, 0, 0, 0, 0, 0, 0, 56, 0, 0, 0, 0, 0, 0,
 ];
 
-type Row = (u32, Vr, &'static str);
+/// A row of such a table.
+pub(super) type Row = (u32, Vr, &'static str);
 
 /// The table.
 #[tactic(auto, unfolding(crate::specs::Tables::Dictionary::elements))]
@@ -138,7 +139,7 @@ fn rows() -> &'static [Row]
 /// The first row that has the number, where the numbers ascend. The places are a guess by its remainder, which saves
 /// the search where it is right.
 #[inline(always)]
-fn numbered(rows: &[Row], places: &[u16], number: u32) -> Option<(Vr, &'static str)>
+pub(super) fn numbered(rows: &[Row], places: &[u16], number: u32) -> Option<(Vr, &'static str)>
     requires ascending { IsStrictlyIncreasing (map (λ r. r.0) rows.now) }
     requires places { 0 < length places.now }
     ensures { option_map (λ r. (r.0, r.1.now)) result ≡ spec.numbered (map (λ r. (r.0, r.1, r.2.now)) rows.now) number }

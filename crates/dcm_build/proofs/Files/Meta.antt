@@ -31,6 +31,8 @@ use Rattle.dcm_head.proofs.MetaGroups.Elements.{element_is}
 use Rattle.dcm_head.proofs.Heads.Written.{element_spelled}
 use Rattle.dcm_head.proofs.MetaGroups.OneGroup.{LeafAt, first_leaf, leaf_is, leaf_size, empty_spelled}
 use Rattle.dcm_build.specs.NewGroup.{Shown, shown, trees_of, elements_by, elements_of, IsGroup}
+use Rattle.dcm_base.proofs.DataSets.After.{after_little}
+use Rattle.dcm_base.specs.declared.syntax.Syntax.{Syntax}
 
 -- ---- one element more
 
@@ -56,7 +58,7 @@ unfolding TreesAt
 alone tag vr v own l = ([], l.formed, l.head, refl)
 
 spelled_more : (meta : Trees) (bytes own : List ℕ) (tag : Tag) (vr : Vr) (v : List ℕ) → Spells Little meta bytes → LeafAt tag vr v own [] → Spells Little (with_leaf meta tag vr v) (bytes ++ own)
-spelled_more meta bytes own tag vr v s l = trees_then_at Little meta (leaf tag vr v no_tree) (bytes ++ own) own [] (trees_extend Little meta bytes [] own s) (alone tag vr v own l)
+spelled_more meta bytes own tag vr v s l = trees_then_at Little meta (leaf tag vr v no_tree) (bytes ++ own) own [] (trees_extend Little meta bytes [] own s) (subst (λ (k : Syntax). TreesAt k (leaf tag vr v no_tree) own []) (sym (after_little meta)) (alone tag vr v own l))
 
 -- an element with the true length of its value
 head_at : (tag : Tag) (vr : Vr) (n : ℕ) → IsTag tag → tag.group ≡ 2 → n < 65536 → ElementHead Little tag vr (Known n) (head Little tag vr (Known n)) []

@@ -10,7 +10,7 @@ use Rattle.dcm_base.specs.declared.level.Container.{Container}
 use Rattle.dcm_base.specs.declared.level.Container.TheVariants.{DataSet as the_data_set, Item as an_item, Sequence as a_sequence, FragmentList as a_fragment_list}
 use Rattle.dcm_base.specs.declared.level.Level.{Level}
 use Rattle.dcm_base.specs.Reading.Place.{level, counts, depth, levels, set_levels, tree_levels, item_levels}
-use Rattle.dcm_base.specs.Bytes.Spelling.{inside}
+use Rattle.dcm_base.specs.Bytes.Spelling.{inside, after_trees}
 use Rattle.dcm_base.specs.Bytes.Head.{head_size}
 use Rattle.dcm_base.specs.Reading.Size.{trees_size}
 use Rattle.dcm_base.specs.Reading.Bars.{innermost_reached, reached_in_tree, reached_in_item}
@@ -76,8 +76,8 @@ mutual
   item_alike : (sy : Syntax) (begin : ℕ) (ls : List Level) (s : OpenContainers) (last : OpenItem) → Alike ls s → Alike (item_levels sy begin ls last) (standing_of_item s last)
   item_alike sy begin ls s no_open_item h = h
   item_alike sy begin ls s (open_item declared (front whole open_tree reached closed)) h =
-      tree_alike sy ((begin + 8) + trees_size sy whole) _ (standing_at (within s.reached s.containers) reached) open_tree
-      (record { container = refl; deep = no_list an_item sy declared (begin + 8) ls (lists_open s.containers) refl h.deep })
+      tree_alike (after_trees sy whole) ((begin + 8) + trees_size sy whole) _ (standing_at (within s.reached s.containers) reached) open_tree
+      (record { container = refl; deep = no_list an_item (after_trees sy whole) declared (begin + 8) ls (lists_open s.containers) refl h.deep })
 
 nothing_deep : 0 ≡ depth []
 unfolding depth
@@ -86,7 +86,7 @@ nothing_deep = refl
 pub all_alike : (f : Front) → Alike (open_levels f) (standing_of f)
 unfolding levels set_levels standing_in
 all_alike (front whole open_tree reached closed) =
-    tree_alike Little (0 + trees_size Little whole) _ (standing_at the_top reached) open_tree (record { container = refl; deep = no_list the_data_set Little Undefined 0 [] 0 refl nothing_deep })
+    tree_alike (after_trees Little whole) (0 + trees_size Little whole) _ (standing_at the_top reached) open_tree (record { container = refl; deep = no_list the_data_set (after_trees Little whole) Undefined 0 [] 0 refl nothing_deep })
 
 mutual
   unfolding innermost_reached standing_in

@@ -8,7 +8,7 @@ use Rattle.dcm_base.specs.declared.vr.Vr.TheVariants.{SQ, UN, OB, OW}
 use Rattle.dcm_base.specs.declared.syntax.Coding.{Coding}
 use Rattle.dcm_base.specs.declared.syntax.Syntax.{Syntax}
 use Rattle.dcm_base.specs.declared.syntax.Syntax.TheVariants.{Implicit as implicit_in, Little as little_in, Big as big_in}
-use Rattle.dcm_base.specs.Tables.Syntax.{Little, read_by}
+use Rattle.dcm_base.specs.Tables.Syntax.{Little, read_by, dictionary_of}
 use Rattle.dcm_base.specs.declared.transfer.Deflated.{Deflated as DeflatedSyntax}
 use Rattle.dcm_base.specs.declared.length.Length.{Length}
 use Rattle.dcm_base.specs.declared.length.Length.TheVariants.{Known, Undefined}
@@ -22,7 +22,7 @@ use Rattle.dcm_base.specs.Tree.Value.{pieces, order}
 use Rattle.dcm_base.specs.Bytes.Head.{length_at, long_length}
 use Rattle.dcm_base.specs.Reading.Reads.{INPUT_LIMIT}
 use Rattle.dcm_base.specs.Reading.Size.{trees_size}
-use Rattle.dcm_base.specs.Bytes.Spelling.{form, inside, FragmentsAt, TreesAt, ItemsAt}
+use Rattle.dcm_base.specs.Bytes.Spelling.{form, inside, FragmentsAt, TreesAt, ItemsAt, read_as, read_in, after, dictionary_after}
 use Rattle.dcm_base.specs.Reading.Place.{is_data}
 use Rattle.dcm_base.specs.Reading.Stop.{HeadBar}
 use Rattle.dcm_base.specs.Tables.Transfer.{is_pad, before_pads, without_pads, coding_of}
@@ -39,15 +39,18 @@ use Rattle.dcm_base.proofs.DumpsBack.Parts.{Bytes-take, Bytes-drop}
 use Rattle.dcm_base.proofs.DataSets.Sizes.{trees_take}
 use Rattle.dcm_base.proofs.DumpsBack.Texts.{Bytes, bytes_of}
 use Rattle.dcm_base.specs.declared.dictionary.Dictionary.{Dictionary}
+use Rattle.dcm_base.specs.declared.dictionary.Dictionary.TheVariants.{Extract, Standard, Signed}
 use Rattle.dcm_base.specs.Reading.Bars.{holds_fragments}
 use Rattle.dcm_sinks.proofs.ReadBack.RecodeReads.{source_whole, source_fine}
-use Rattle.dcm_sinks.proofs.ReadBack.Sources.{bytes_behind, bytes_parts, a_byte, four_bytes, long_known, length_known, bytes_of_head, no_sequence, fragments_little, Fine, fine_bytes, lists_of, begun, enclosed_ready, element_tag}
+use Rattle.dcm_sinks.proofs.ReadBack.Sources.{no_sequence, bytes_behind, bytes_parts, a_byte, four_bytes, long_known, length_known, bytes_of_head, spelled_no_sequence, fragments_little, Fine, fine_bytes, lists_of, begun, enclosed_ready, element_tag}
 use Rattle.dcm_sinks.proofs.ReadBack.WrittenRead.{target_heads}
 use Rattle.dcm_build.specs.DumpBuilds.{full_dump, CanBuild, FitsLines, BuildsFile, FileRead, WholeUnits, ItemsOfWholeUnits}
 use Rattle.dcm_base.specs.Lines.Limits.{LINE_LIMIT}
 use Rattle.dcm_build.specs.DumpLines.{ReadsBack, AllReadBack, SetReadsBack, ItemsReadBack}
 use Rattle.dcm_build.specs.StepsBuild.{MayStand, ItemsMayStand}
 use Rattle.dcm_build.proofs.Rebuilds.DumpBuilds.{dump_builds}
+use Rattle.dcm_base.proofs.DataSets.Alike.{undefined_same}
+use Rattle.dcm_base.proofs.DataSets.After.{read_by_twice}
 
 -- ---- bytes
 
@@ -92,6 +95,18 @@ sequence_vr (little_in d) OB Undefined e = absurd (cc)
 sequence_vr (little_in d) OW Undefined e = absurd (cc)
 sequence_vr s vr Undefined e = absurd (cc)
 
+read_sequence_vr : (s : Syntax) (d : Dictionary) (t : Tag) (vr : Vr) (l : Length) → form s (read_in d t vr) l ≡ a_sequence → may_be_sequence vr ≡ true
+read_sequence_vr s Extract t vr l e = sequence_vr s vr l e
+read_sequence_vr s Standard t UN l e = refl
+read_sequence_vr s Standard t vr l e = sequence_vr s vr l e
+read_sequence_vr s Signed t UN l e = refl
+read_sequence_vr s Signed t vr l e = sequence_vr s vr l e
+
+spelled_sequence : (s : Syntax) (t : Tag) (vr : Vr) (l : Length) → form s (read_as s t vr) l ≡ a_sequence → may_be_sequence vr ≡ true
+spelled_sequence (implicit_in d) t vr l e = sequence_vr (implicit_in d) vr l e
+spelled_sequence (little_in d) t vr l e = read_sequence_vr (little_in d) d t vr l e
+spelled_sequence (big_in d) t vr l e = read_sequence_vr (big_in d) d t vr l e
+
 fragments_vr : (s : Syntax) (vr : Vr) → form s vr Undefined ≡ a_fragment_list → may_be_fragments vr ≡ true
 unfolding form
 fragments_vr s SQ e = absurd (cc)
@@ -124,15 +139,24 @@ holds_alike d (big_in e) = refl
 module _ (d : Dictionary) (coding : Coding) where
   -- the syntax of a data set, or of what an unknown sequence holds
   abbrev Right : Syntax → Type 0
-  Right s = (s ≡ read_by d coding.syntax) ⊎ (holds_fragments s ≡ false)
+  Right s = ((e : Dictionary) × (s ≡ read_by e coding.syntax)) ⊎ (holds_fragments s ≡ false)
 
   right_inside : (s : Syntax) (vr : Vr) → Right s → Right (inside s vr)
   unfolding inside
   right_inside s UN r = inr refl
   right_inside s vr r = r
 
+  holds_read_by : (e : Dictionary) (s : Syntax) → holds_fragments s ≡ false → holds_fragments (read_by e s) ≡ false
+  holds_read_by e (implicit_in f) h = refl
+  holds_read_by e (little_in f) h = absurd cc
+  holds_read_by e (big_in f) h = refl
+
+  right_after : (s : Syntax) (t : Tag) (vr : Vr) (v : List ℕ) → Right s → Right (after s t vr v)
+  right_after s t vr v (inl (e, is)) = let k = dictionary_after (dictionary_of s) t vr v in inl (k, ap (read_by k) is ∙ read_by_twice k e coding.syntax)
+  right_after s t vr v (inr h) = inr (holds_read_by (dictionary_after (dictionary_of s) t vr v) s h)
+
   right_little : (s : Syntax) → Right s → holds_fragments s ≡ true → holds_fragments coding.syntax ≡ true
-  right_little s (inl e) l = sym (holds_alike d coding.syntax) ∙ ap holds_fragments (sym e) ∙ l
+  right_little s (inl (e, is)) l = sym (holds_alike e coding.syntax) ∙ ap holds_fragments (sym is) ∙ l
   right_little s (inr e) l = absurd cc
 
   fragments_can : (s : Syntax) (values : List (List ℕ)) (b p : List ℕ) (n : ℕ) (others : List Atom) → FragmentsAt s values b p → Bytes b → Fine (target_heads Little) n (fragments_then values others)
@@ -154,18 +178,18 @@ module _ (d : Dictionary) (coding : Coding) where
     set_can s n no_tree b p others r h k f w = (((tt, tt), f), subst Bytes h k)
     set_can s n (leaf t vr v rest) b p others r (o, fo, head, more) k f w =
         let bar : HeadBar = target_heads Little in
-        let g = begun bar n n t vr (Known (length v)) s (map value_byte (order s vr v) ++ closes_leaf ∷ trees_then s rest others) (lists_of n a_value t vr (Known (length v)) s fo) f in
+        let g = begun bar n n t vr (Known (length v)) s (map value_byte (order s vr v) ++ closes_leaf ∷ trees_then (after s t vr v) rest others) (lists_of n a_value t vr (Known (length v)) s fo) f in
         let behind = bytes_parts (order s vr v) o (bytes_of_head s t vr (Known (length v)) b (order s vr v ++ o) head k) in
-        let after = set_can s n rest o p others r more behind.1 (fine_bytes bar n (order s vr v) (closes_leaf ∷ trees_then s rest others) g.more).2 w.1 in
+        let later = set_can (after s t vr v) n rest o p others (right_after s t vr v r) more behind.1 (fine_bytes bar n (order s vr v) (closes_leaf ∷ trees_then (after s t vr v) rest others) g.more).2 w.1 in
         let apart = data_group t g.accepted.0 in (
           (
             (
-              ((element_tag s t vr (Known (length v)) b (order s vr v ++ o) head k, apart.0), reads_back vr v (plain_vr vr (no_sequence s vr (length v) fo)) (value_bytes s vr v behind.0) (length_known s vr b (length v) k head.length_is) w.0, after.0.0.0),
-              (apart.1, after.0.0.1),
+              ((element_tag s t vr (Known (length v)) b (order s vr v ++ o) head k, apart.0), reads_back vr v (plain_vr vr (spelled_no_sequence s t vr (length v) fo)) (value_bytes s vr v behind.0) (length_known s vr b (length v) k head.length_is) w.0, later.0.0.0),
+              (apart.1, later.0.0.1),
             ),
-            after.0.1,
+            later.0.1,
           ),
-          after.1,
+          later.1,
         )
     set_can s n (sequence t vr declared items rest) b p others r (contents, o, fo, head, inner, more) k f w =
         let bar : HeadBar = target_heads Little in
@@ -178,7 +202,7 @@ module _ (d : Dictionary) (coding : Coding) where
         let few = g.few in (
           (
             (
-              ((element_tag s t vr declared b contents head k, apart.0), sequence_vr s vr declared fo, declared_length s vr b declared k head.length_is, held.0.0.0, after.0.0.0),
+              ((element_tag s t vr declared b contents head k, apart.0), spelled_sequence s t vr declared fo, declared_length s vr b declared k head.length_is, held.0.0.0, after.0.0.0),
               (apart.1, omega (arith, few), held.0.0.1, after.0.0.1),
             ),
             after.0.1,
@@ -195,8 +219,8 @@ module _ (d : Dictionary) (coding : Coding) where
         let few = g.few in (
           (
             (
-              ((element_tag s t vr Undefined b contents head k, apart.0), fragments_vr s vr fo, held.0.0, after.0.0.0),
-              (apart.1, omega (arith, few), right_little s r (fragments_little s vr fo).0, after.0.0.1),
+              ((element_tag s t vr Undefined b contents head k, apart.0), fragments_vr s vr (sym (undefined_same s t vr) ∙ fo), held.0.0, after.0.0.0),
+              (apart.1, omega (arith, few), right_little s r (fragments_little s vr (sym (undefined_same s t vr) ∙ fo)).0, after.0.0.1),
             ),
             after.0.1,
           ),
@@ -221,7 +245,7 @@ group_can no_tree b p m h k w = (tt, subst Bytes h k)
 group_can (leaf t vr v rest) b p m (o, fo, head, more) k w =
     let behind = bytes_parts v o (bytes_of_head Little t vr (Known (length v)) b (v ++ o) head k) in
     let after = group_can rest o p m.1 more behind.1 w.1 in (
-      ((element_tag Little t vr (Known (length v)) b (v ++ o) head k, head.no_item), reads_back vr v (plain_vr vr (no_sequence Little vr (length v) fo)) behind.0 (length_known Little vr b (length v) k head.length_is) w.0, after.0),
+      ((element_tag Little t vr (Known (length v)) b (v ++ o) head k, head.no_item), reads_back vr v (plain_vr vr (spelled_no_sequence Little t vr (length v) fo)) behind.0 (length_known Little vr b (length v) k head.length_is) w.0, after.0),
       after.1,
     )
 group_can (sequence t vr declared items rest) b p m h k w = absurd m
@@ -320,7 +344,7 @@ can_build d file meta coding set h units_group units ascends =
     let whole = source_whole Little (read_by d coding.syntax) at rest (whole_front set) few (are_bytes rest rest_bytes) h.reads in
     let fine = source_fine Little (read_by d coding.syntax) at rest (whole_front set) few (are_bytes rest rest_bytes) h.reads in
     let is : whole.trees ≡ set = same_trees whole.trees set (sym whole.is) in
-    let can = set_can d coding (read_by d coding.syntax) 0 set rest [] (ends ∷ []) (inl refl)
+    let can = set_can d coding (read_by d coding.syntax) 0 set rest [] (ends ∷ []) (inl (d, refl))
     (subst (λ (x : Trees). TreesAt (read_by d coding.syntax) x rest []) is whole.spelled) rest_bytes
     (subst (λ (x : Trees). Fine (target_heads Little) 0 (trees_then (read_by d coding.syntax) x (ends ∷ []))) is fine) units in
     record {

@@ -61,7 +61,7 @@ module _ {S : Type 0} (bars : S → Head → Option Bar) (step : S → Atom → 
       let q : Reading = record r { halt = Some stop } in
       let same : r ≡ q = ap (λ (h : Option Stop). let x : Reading = record r { halt = h } in x) e in
       subst (λ (x : Reading). (fold (steps bars step) (x, t) ys ≡ (x, t)) × (outputs (steps bars step) (steps_write bars step writes) (x, t) ys ≡ [])) (sym same)
-      (halted_stays bars step writes r.position r.head r.left r.levels stop t ys, halted_silent bars step writes r.position r.head r.left r.levels stop t ys)
+      (halted_stays bars step writes r.position r.head r.left r.sign r.levels stop t ys, halted_silent bars step writes r.position r.head r.left r.sign r.levels stop t ys)
 
   has_halted : (halt : Option Stop) (h : Halt) → Err h ≡ answer halt false → (stop : Stop) × (halt ≡ Some stop)
   has_halted None h e = cc

@@ -144,7 +144,7 @@ module _ (d : Dictionary) (edits : List Edit) (input : List ℕ) (a : Answer) (m
       let r = modified_reads d edits input a m coding f h in
       let k = modifies d edits input a m coding f h in
       opened (meta_again m m.uid) group coding again complete r.head refl
-      (subst (λ (bytes : List ℕ). Reads ascending_bar s (set_at group) bytes again complete) (sym set_written) (edited_ascends s k.words edits k.mean k.start k.bytes f k.begins k.are_bytes k.reads (set_at group) k.within))
+      (subst (λ (bytes : List ℕ). Reads ascending_bar s (set_at group) bytes again complete) (sym set_written) (edited_ascends s k.words edits k.mean k.start k.bytes f k.begins k.are_bytes k.reads h.stays (set_at group) k.within))
       refl
 
   answered : (b : Answer) → Answers (modify d edits) a.output b → b ≡ answer (modify d edits) source

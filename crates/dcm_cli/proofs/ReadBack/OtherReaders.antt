@@ -1,7 +1,7 @@
 -- What dcmodify has done is so in its output for other readers too.
 use Rattle.std.proofs.Common.{◌≡◌, true, ◌∙◌, ap, sym, subst, refl, ℕ, List, ◌++◌, length, None, drop}
 use Rattle.dcm_base.specs.declared.dictionary.Dictionary.{Dictionary}
-use Rattle.dcm_base.specs.declared.dictionary.Dictionary.TheVariants.{Standard}
+use Rattle.dcm_base.specs.declared.dictionary.Dictionary.TheVariants.{Standard, Extract}
 use Rattle.dcm_base.specs.declared.mode.Mode.TheVariants.{Full}
 use Rattle.dcm_base.specs.declared.syntax.Coding.{Coding}
 use Rattle.dcm_base.specs.declared.syntax.Syntax.{Syntax}
@@ -21,7 +21,7 @@ use Rattle.dcm_base.specs.Tables.Syntax.{coding_by, dictionary_of, is_big, read_
 use Rattle.dcm_edits.specs.Edit.{Edit, edited, erase_all, erase_private, modify_all}
 use Rattle.dcm_editor.specs.Everywhere.{Among, EverywhereIn, IsOther, IsPublic, IsWrittenJust}
 use Rattle.dcm_editor.specs.Modification.{Modifies}
-use Rattle.dcm_editor.specs.Others.{any_changes, set_without}
+use Rattle.dcm_editor.specs.Others.{any_changes, set_without, KeepsSign}
 use Rattle.dcm_editor.specs.Readers.{HidesNothing, OpensAlike, ReadsBy}
 use Rattle.dcm_editor.proofs.ReadBack.EditedReads.{front_reads}
 use Rattle.dcm_editor.proofs.ReadBack.StaysReady.{FrontReady}
@@ -42,6 +42,7 @@ use Rattle.dcm_cli.proofs.Runs.OneSource.{one_source}
 use Rattle.dcm_cli.proofs.Runs.Sure.{beginnings_alike}
 use Rattle.dcm_cli.proofs.ReadBack.OutputEdited.{in_output, modifies, was_read}
 use Rattle.dcm_cli.proofs.ReadBack.ReadsAgain.{behind_group, long, modified_reads, of_head, read_of, read_twice, written_reads}
+use Rattle.dcm_editor.proofs.ReadBack.Plain.{plain}
 
 coding_twice : (e d : Dictionary) (c : Coding) → coding_by e (coding_by d c) ≡ coding_by e c
 coding_twice e d c = ap (λ (x : Syntax). record { syntax = x; encapsulated = c.encapsulated }) (read_twice e d c.syntax)
@@ -67,7 +68,7 @@ module _ (d : Dictionary) (edits : List Edit) (input : List ℕ) (a : Answer) (m
   done : Modifies edits s at f
   done = modifies d edits input a m coding f h
 
-  ready : FrontReady s set
+  ready : FrontReady (plain s) set
   ready = others.is_ready edits s at f done
 
   output_is : a.output ≡ written_file m.uid s m set
@@ -80,9 +81,9 @@ module _ (d : Dictionary) (edits : List Edit) (input : List ℕ) (a : Answer) (m
       (there (file (meta_again m m.uid) coding (normal_front s set) complete) (opened (meta_again m m.uid) group coding (normal_front s set) complete r.head refl r.dumped refl)).1
 
   -- what the edits may not change is there as it was
-  pub output_keeps_others : InOutput d (λ to again. set_without (any_changes edits) again ≡ set_without (any_changes edits) (normal_front to f)) a
-  output_keeps_others =
-      in_output d edits input a m coding f h (λ to again. set_without (any_changes edits) again ≡ set_without (any_changes edits) (normal_front to f)) (others.stays_in edits s at f done s)
+  pub output_keeps_others : KeepsSign s edits → InOutput d (λ to again. set_without (any_changes edits) again ≡ set_without (any_changes edits) (normal_front to f)) a
+  output_keeps_others keep =
+      in_output d edits input a m coding f h (λ to again. set_without (any_changes edits) again ≡ set_without (any_changes edits) (normal_front to f)) (others.stays_in edits s at f done s keep)
 
   module _ (e : Dictionary) where
     abbrev by : Syntax
@@ -93,10 +94,10 @@ module _ (d : Dictionary) (edits : List Edit) (input : List ℕ) (a : Answer) (m
 
     module _ (in_it : InOutput d (OpensAlike e) a) where
       opens : OpensAlike e s set
-      opens = normal_fits_back by s set (in_own (OpensAlike e) in_it)
+      opens = normal_fits_back e s set (in_own (OpensAlike e) in_it)
 
       same : recode by set ≡ recode s set
-      same = front_alike e s set ready
+      same = front_alike e s (plain s) set ready
 
       ready_by : FrontReady by set
       ready_by = front_ready_by e s set opens ready
@@ -134,8 +135,8 @@ module _ (d : Dictionary) (edits : List Edit) (input : List ℕ) (a : Answer) (m
       pub output_modified_by : (tag : Tag) (vr : Vr) (value : List ℕ) → Among (modify_all tag vr value) edits → InOutput e (λ to again. EverywhereIn (IsWrittenJust to tag vr value) again) a
       output_modified_by tag vr value among = seen_by (λ to again. EverywhereIn (IsWrittenJust to tag vr value) again) (others.with_value edits s at f done e opens tag vr value among)
 
-      pub output_keeps_others_by : InOutput e (λ to again. set_without (any_changes edits) again ≡ set_without (any_changes edits) (normal_front to f)) a
-      output_keeps_others_by = seen_by (λ to again. set_without (any_changes edits) again ≡ set_without (any_changes edits) (normal_front to f)) (others.stays_in edits s at f done by)
+      pub output_keeps_others_by : KeepsSign by edits → InOutput e (λ to again. set_without (any_changes edits) again ≡ set_without (any_changes edits) (normal_front to f)) a
+      output_keeps_others_by keep = seen_by (λ to again. set_without (any_changes edits) again ≡ set_without (any_changes edits) (normal_front to f)) (others.stays_in edits s at f done by keep)
 
       -- it is the data set that its own dictionary reads, with other representations
       pub output_alike : InOutput d (λ to own_set. InOutput e (λ to again. again ≡ normal_front to own_set) a) a
@@ -169,22 +170,22 @@ module _ (d : Dictionary) (edits : List Edit) (input : List ℕ) (a : Answer) (m
     output_private_unseen hides among = λ n c again there. no_private_is_seen edits s at f again e done (in_own (HidesNothing e) hides) among (set_read n c again there).1
 
     pub alike_output_hides : InOutput d (OpensAlike e) a → InOutput d (HidesNothing e) a
-    alike_output_hides opens = in_output d edits input a m coding f h (HidesNothing e) (alike_hides e s set (normal_fits_back (read_by e s) s set (in_own (OpensAlike e) opens)))
+    alike_output_hides opens = in_output d edits input a m coding f h (HidesNothing e) (alike_hides e s set (normal_fits_back e s set (in_own (OpensAlike e) opens)))
 
   -- ---- who opens it alike
 
   -- it is the normal form of what was edited
   opens_it : (e : Dictionary) → OpensAlike e s set → InOutput d (OpensAlike e) a
-  opens_it e opens = in_output d edits input a m coding f h (OpensAlike e) (normal_fits (read_by e s) s set opens)
+  opens_it e opens = in_output d edits input a m coding f h (OpensAlike e) (normal_fits e s set opens)
 
   read_with : dictionary_of s ≡ d
   read_with = let r = was_read d edits input a m coding f h in of_head d input m r.group coding r.head
 
-  pub explicit_output_opens : (e : Dictionary) → is_explicit s ≡ true → InOutput d (OpensAlike e) a
-  explicit_output_opens e is = opens_it e (explicit_opens e s set is)
+  pub explicit_output_opens : is_explicit s ≡ true → InOutput d (OpensAlike Extract) a
+  explicit_output_opens is = opens_it Extract (explicit_opens s set is)
 
   pub own_output_opens : InOutput d (OpensAlike d) a
-  own_output_opens = opens_it d (subst (λ (k : Dictionary). OpensAlike k s set) read_with (others.own_opens_alike edits s at f done))
+  own_output_opens = opens_it d (subst (λ (k : Dictionary). OpensAlike k s set) read_with (others.own_opens_alike edits s at f done h.stays))
 
   pub standard_output_opens : (e : Dictionary) → d ≡ Standard → InOutput d (OpensAlike e) a
-  standard_output_opens e is = opens_it e (others.standard_opens_alike edits s at f done e (read_with ∙ is))
+  standard_output_opens e is = opens_it e (others.standard_opens_alike edits s at f done h.stays e (read_with ∙ is))

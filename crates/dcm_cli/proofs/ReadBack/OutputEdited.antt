@@ -53,7 +53,7 @@ module _ (d : Dictionary) (edits : List Edit) (input : List ℕ) (a : Answer) (m
       }
 
   reads : ReadsAgain edits s at f again complete
-  reads = let k = modifies in edited_reads s k.words edits k.mean k.start k.bytes f k.begins k.are_bytes k.reads at k.within
+  reads = let k = modifies in edited_reads s k.words edits k.mean k.start k.bytes f k.begins k.are_bytes k.reads h.stays at k.within
 
   -- the output is read in one way
   pub in_output : (P : Syntax → Front → Type 0) → P s again → InOutput d P a
@@ -67,14 +67,14 @@ module _ (d : Dictionary) (edits : List Edit) (input : List ℕ) (a : Answer) (m
   pub output_without : (tag : Tag) → Among (erase_all tag) edits → InOutput d (λ s set. EverywhereIn (IsOther tag) set) a
   output_without tag among =
       let k = modifies in
-      in_output (λ s set. EverywhereIn (IsOther tag) set) (erased_all_is_gone s k.words edits k.mean k.start k.bytes f k.begins k.are_bytes k.reads at k.within again complete reads tag among).1
+      in_output (λ s set. EverywhereIn (IsOther tag) set) (erased_all_is_gone s k.words edits k.mean k.start k.bytes f k.begins k.are_bytes k.reads h.stays at k.within again complete reads tag among).1
 
   pub output_public : Among erase_private edits → InOutput d (λ s set. EverywhereIn IsPublic set) a
   output_public among =
       let k = modifies in
-      in_output (λ s set. EverywhereIn IsPublic set) (erased_private_is_gone s k.words edits k.mean k.start k.bytes f k.begins k.are_bytes k.reads at k.within again complete reads among).1
+      in_output (λ s set. EverywhereIn IsPublic set) (erased_private_is_gone s k.words edits k.mean k.start k.bytes f k.begins k.are_bytes k.reads h.stays at k.within again complete reads among).1
 
   pub output_modified : (tag : Tag) (vr : Vr) (value : List ℕ) → Among (modify_all tag vr value) edits → InOutput d (λ s set. EverywhereIn (IsWrittenJust s tag vr value) set) a
   output_modified tag vr value among =
       let k = modifies in
-      in_output (λ s set. EverywhereIn (IsWrittenJust s tag vr value) set) (modified_all_is_so s k.words edits k.mean k.start k.bytes f k.begins k.are_bytes k.reads at k.within again complete reads tag vr value among).1
+      in_output (λ s set. EverywhereIn (IsWrittenJust s tag vr value) set) (modified_all_is_so s k.words edits k.mean k.start k.bytes f k.begins k.are_bytes k.reads h.stays at k.within again complete reads tag vr value among).1

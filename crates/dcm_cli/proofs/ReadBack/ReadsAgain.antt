@@ -9,7 +9,7 @@ use Rattle.dcm_base.specs.Tree.Front.{Front, front, nothing_open, open_leaf, ope
 use Rattle.dcm_base.specs.File.MetaGroup.{group_place, the_end}
 use Rattle.dcm_base.specs.File.MetaReads.{Meta, MetaReads, begins, PREFIX}
 use Rattle.dcm_base.specs.Conversion.NewMeta.{new_meta}
-use Rattle.dcm_base.specs.Conversion.Normal.{FrontFits, normal_front}
+use Rattle.dcm_base.specs.Conversion.Normal.{FrontFits, normal_front, FrontStays}
 use Rattle.dcm_base.specs.Tables.Number.{AreBytes}
 use Rattle.dcm_base.specs.Reading.Reads.{INPUT_LIMIT, Reads}
 use Rattle.dcm_base.specs.Conversion.Recode.{recode}
@@ -30,7 +30,7 @@ use Rattle.dcm_sinks.proofs.ReadBack.RecodeReads.{IsReady, read_ready, recode_re
 use Rattle.dcm_sinks.proofs.ReadBack.Sources.{a_byte, bytes_behind}
 use Rattle.dcm_build.proofs.Rebuilds.FilesBuild.{headed}
 use Rattle.dcm_edits.specs.Edit.{Edit, edited}
-use Rattle.dcm_editor.proofs.ReadBack.EditedReads.{front_ready, edited_reads}
+use Rattle.dcm_editor.proofs.ReadBack.EditedReads.{own_ready, edited_reads}
 use Rattle.dcm_editor.proofs.ReadBack.StaysReady.{FrontReady, edited_ready}
 use Rattle.dcm_edits.proofs.Words.WordValues.{edits_fit}
 use Rattle.dcm_editor.proofs.Words.WordsReady.{edits_ready}
@@ -179,9 +179,9 @@ modified_reads d edits input a m coding f h =
     written_reads input a.output m r.group m.uid r.head.named r.head.named d coding r.head.coding_is (edited edits f) r.head.head h.are_bytes
     (ap (λ (x : Answer). x.output) h.answers.answer_is ∙ ap (λ (x : Source). (answer (modify d edits) x).output) h.source_is)
     h.room
-    (edited_ready coding.syntax edits f (edits_fit (dictionary_of coding.syntax) h.words edits mean).2 (edits_ready coding.syntax h.words edits mean) (front_ready coding.syntax (set_at r.group) rest f le are r.set))
+    (edited_ready coding.syntax edits f (edits_fit (dictionary_of coding.syntax) h.words edits mean).2 (edits_ready coding.syntax h.words edits mean) (own_ready coding.syntax (set_at r.group) rest f le are r.set h.stays))
     (own input (recode coding.syntax (edited edits f)) m r.head.named)
-    (edited_reads coding.syntax h.words edits mean (set_at r.group) rest f le are r.set (set_at (new_meta m.elements m.uid)))
+    (edited_reads coding.syntax h.words edits mean (set_at r.group) rest f le are r.set h.stays (set_at (new_meta m.elements m.uid)))
 
 -- ---- dcmconv
 
@@ -192,15 +192,16 @@ syntax_named (little_in d) = record { some = λ e. cc; no_pad = refl; coding_is 
 syntax_named (big_in d) = record { some = λ e. cc; no_pad = refl; coding_is = refl }
 
 -- what is read of a syntax fits that syntax, and each explicit one
-own_fits : (s : Syntax) (bar : Bar) (start : ℕ) (bytes : List ℕ) (f : Front) → Reads bar s start bytes f complete → FrontFits s f
-own_fits (implicit_in d) bar start bytes f h = implicit_fits d (implicit_in d) bar start bytes f complete refl h
-own_fits (little_in d) bar start bytes f h = explicit_fits (little_in d) f refl
-own_fits (big_in d) bar start bytes f h = explicit_fits (big_in d) f refl
+own_fits : (s : Syntax) (bar : Bar) (start : ℕ) (bytes : List ℕ) (f : Front) → FrontStays s f → Reads bar s start bytes f complete → FrontFits s f
+own_fits (implicit_in d) bar start bytes f stay h = implicit_fits d (implicit_in d) bar start bytes f complete refl h
+own_fits (little_in d) bar start bytes f stay h = explicit_fits (little_in d) (little_in d) bar start bytes f complete refl refl stay h
+own_fits (big_in d) bar start bytes f stay h = explicit_fits (big_in d) (big_in d) bar start bytes f complete refl refl stay h
 
-target_fits : (d k : Dictionary) (s : Syntax) (f : Front) → k ≡ d → ((e : Dictionary) → Option.Some s ≡ Some (implicit_in e) → FrontFits (implicit_in d) f) → FrontFits (read_by k s) f
-target_fits d k (implicit_in e) f same h = subst (λ (x : Dictionary). FrontFits (implicit_in x) f) (sym same) (h e refl)
-target_fits d k (little_in e) f same h = explicit_fits (little_in k) f refl
-target_fits d k (big_in e) f same h = explicit_fits (big_in k) f refl
+target_fits : (d : Dictionary) (source s : Syntax) (bar : Bar) (start : ℕ) (bytes : List ℕ) (f : Front) → dictionary_of source ≡ d → ((e : Dictionary) → Option.Some s ≡ Some (implicit_in e) → FrontFits (implicit_in d) f)
+    → FrontStays (read_by (dictionary_of source) s) f → Reads bar source start bytes f complete → FrontFits (read_by (dictionary_of source) s) f
+target_fits d source (implicit_in e) bar start bytes f same h stay reads = subst (λ (x : Dictionary). FrontFits (implicit_in x) f) (sym same) (h e refl)
+target_fits d source (little_in e) bar start bytes f same h stay reads = explicit_fits source (little_in (dictionary_of source)) bar start bytes f complete refl refl stay reads
+target_fits d source (big_in e) bar start bytes f same h stay reads = explicit_fits source (big_in (dictionary_of source)) bar start bytes f complete refl refl stay reads
 
 ready_front : (s : Syntax) (f : Front) → IsReady s f → FrontReady s f
 ready_front s f r = subst (FrontReady s) (sym r.is) (r.ready, refl)
@@ -229,11 +230,11 @@ converted_by d target input a m was coding uid f h uids syntaxes fits renamed re
 
 pub converted_reads : (d : Dictionary) (target : Option Syntax) (input : List ℕ) (a : Answer) (m : Meta) (coding : Coding) (f : Front) → IsConverted d target input a m coding f → ReadsConverted d target a m coding f
 converted_reads d None input a m coding f h =
-    converted_by d None input a m coding coding m.uid f h refl refl (λ group head reads. own_fits coding.syntax (target_bar coding.syntax) (set_at group) (drop (set_at group) input) f reads)
+    converted_by d None input a m coding coding m.uid f h refl refl (λ group head reads. own_fits coding.syntax (target_bar coding.syntax) (set_at group) (drop (set_at group) input) f h.stays reads)
     (λ named. named) (λ named is. is) (λ named set. own input set m named)
 converted_reads d (Some s) input a m coding f h =
     converted_by d (Some s) input a m coding (native (read_by (dictionary_of coding.syntax) s)) (uid_of_syntax s) f h refl refl
-    (λ group head reads. target_fits d (dictionary_of coding.syntax) s f (of_head d input m group coding head) h.tells)
+    (λ group head reads. let to : Syntax = read_by (dictionary_of coding.syntax) s in target_fits d coding.syntax s (target_bar to) (set_at group) (drop (set_at group) input) f (of_head d input m group coding head) h.tells h.stays reads)
     (λ named. native (read_by Extract s))
     (λ named is. ap (λ (x : Syntax). native x) (ap (λ (k : Dictionary). read_by k s) (ap (λ (c : Coding). dictionary_of c.syntax) is ∙ read_by_it d named.syntax) ∙ sym (read_twice d Extract s)))
     (λ named set r. any input (uid_of_syntax s) set m named (native (read_by Extract s)) r (syntax_named s))

@@ -12,7 +12,7 @@ use Rattle.dcm_edits.specs.NewOnes.{above_last, puts, is_between}
 use Rattle.dcm_edits.specs.Edit.{Edit, Fate, stays, becomes, goes, settled, acts}
 use Rattle.dcm_edits.specs.Together.{first_fate, any_erases, all_within}
 use Rattle.dcm_base.specs.declared.form.Form.TheVariants.{Value as a_value, Sequence as a_sequence, FragmentList as a_fragment_list}
-use Rattle.dcm_base.specs.Bytes.Spelling.{form, last_tag}
+use Rattle.dcm_base.specs.Bytes.Spelling.{form, last_tag, read_as}
 use Rattle.dcm_base.specs.Tree.Value.{order}
 use Rattle.dcm_base.specs.Steps.Atoms.{Atom, opens, value_byte, closes_leaf, opens_item, closes_item, closes_sequence, opens_fragment, fragments_then, ShowTrees, ShowItems, trees_then}
 use Rattle.dcm_editor.specs.EditSink.{Level, either, head_by}
@@ -51,7 +51,7 @@ leaf_instead tag vr value k x y z h e p =
 -- ---- one element, by its fate
 
 leaf_by : (f : Fate) (es : List Edit) (tag : Tag) (vr : Vr) (value : List ℕ) (s : Syntax) (up : List Level) (bs : List Bool) (others z : List Atom) (k : Trees) → FateHas f
-    → form s vr (Known (length value)) ≡ a_value → ShowTrees k (out (at es (Some tag) 0 up 0 bs) others) z
+    → form s (read_as s tag vr) (Known (length value)) ≡ a_value → ShowTrees k (out (at es (Some tag) 0 up 0 bs) others) z
     → ShowTrees (settled f tag (leaf tag vr value) k)
     (head_by f tag (opens tag vr (Known (length value)) s) ++ out (at es (Some tag) 0 up (dropped_unbounded 0 (acts f)) bs) (map value_byte (order s vr value) ++ closes_leaf ∷ others)) z
 unfolding ShowTrees
@@ -68,7 +68,7 @@ leaf_by goes es tag vr value s up bs others z k h fo p =
     subst (λ (x : List Atom). ShowTrees k x z) (sym (dropped_bytes (order s vr value) es (Some tag) 0 up 0 bs (closes_leaf ∷ others))) p
 
 sequence_by : (f : Fate) (es : List Edit) (tag : Tag) (vr : Vr) (declared : Length) (items : Items) (n : ℕ) (s : Syntax) (up : List Level) (bs cs : List Bool) (contents others z : List Atom) (k : Trees)
-    → FateHas f → form s vr declared ≡ a_sequence
+    → FateHas f → form s (read_as s tag vr) declared ≡ a_sequence
     → ShowItems items (out (at es (Some tag) 0 up 0 bs) contents) (out (at es (Some tag) n up 0 cs) (closes_sequence ∷ others))
     → out (at es (Some tag) 0 up 1 bs) contents ≡ out (at es (Some tag) n up 1 cs) (closes_sequence ∷ others)
     → ShowTrees k (out (at es (Some tag) n up 0 cs) others) z
@@ -81,7 +81,7 @@ sequence_by goes es tag vr declared items n s up bs cs contents others z k h fo 
     subst (λ (x : List Atom). ShowTrees k x z) (sym skip) p
 
 fragments_by : (f : Fate) (es : List Edit) (tag : Tag) (vr : Vr) (values : List (List ℕ)) (s : Syntax) (up : List Level) (bs : List Bool) (others z : List Atom) (k : Trees) → FateHas f
-    → form s vr Undefined ≡ a_fragment_list → ShowTrees k (out (at es (Some tag) 0 up 0 bs) others) z
+    → form s (read_as s tag vr) Undefined ≡ a_fragment_list → ShowTrees k (out (at es (Some tag) 0 up 0 bs) others) z
     → ShowTrees (settled f tag (fragments tag vr values) k)
     (head_by f tag (opens tag vr Undefined s) ++ out (at es (Some tag) 0 up (dropped_unbounded 0 (acts f)) bs) (fragments_then values (closes_sequence ∷ others))) z
 unfolding ShowTrees

@@ -16,7 +16,7 @@ use Rattle.dcm_edits.specs.Together.{or_else, first_fate, all_within, completed}
 use Rattle.dcm_edits.specs.NewOnes.{put_new, puts}
 use Rattle.dcm_edits.proofs.Trees.Laws.{chosen}
 use Rattle.dcm_base.specs.declared.form.Form.TheVariants.{Value as a_value, Sequence as a_sequence}
-use Rattle.dcm_base.specs.Bytes.Spelling.{form, inside, reached_tag}
+use Rattle.dcm_base.specs.Bytes.Spelling.{form, inside, reached_tag, after}
 use Rattle.dcm_base.specs.Tree.Value.{order}
 use Rattle.dcm_base.specs.Steps.Atoms.{Atom, opens, value_byte, closes_leaf, opens_item, closes_item, closes_sequence, opens_fragment, fragments_then, ShowTrees, ShowItems, trees_then, items_then}
 use Rattle.dcm_editor.specs.EditSink.{open_anew}
@@ -93,7 +93,7 @@ mutual
   trees_more s no_tree x y = refl
   trees_more s (leaf tag vr value rest) x y =
       ap (λ (z : List Atom). opens tag vr (Known (length value)) s ∷ z)
-      (bytes_more (order s vr value) (trees_then s rest x) y (trees_then s rest (x ++ y)) (trees_more s rest x y))
+      (bytes_more (order s vr value) (trees_then (after s tag vr value) rest x) y (trees_then (after s tag vr value) rest (x ++ y)) (trees_more (after s tag vr value) rest x y))
   trees_more s (sequence tag vr declared items rest) x y =
       ap (λ (z : List Atom). opens tag vr declared s ∷ z)
       (items_more (inside s vr) items (closes_sequence ∷ trees_then s rest x) y

@@ -13,7 +13,7 @@ use Rattle.dcm_base.specs.Tables.Tag.{below, same_tag, is_private, item_tag, ite
 use Rattle.dcm_base.specs.Tree.Tree.{Trees, no_tree, leaf, sequence, fragments, Items, no_item, item}
 use Rattle.dcm_base.specs.Tree.Value.{pieces, order, evened}
 use Rattle.dcm_base.specs.Tables.Representation.{letters, is_long, pad, unit}
-use Rattle.dcm_base.specs.Bytes.Spelling.{inside, FragmentsAt, TreesAt, ItemsAt}
+use Rattle.dcm_base.specs.Bytes.Spelling.{inside, FragmentsAt, TreesAt, ItemsAt, after}
 use Rattle.dcm_base.specs.Conversion.Recode.{number_bytes, tag_bytes, length_number, plain_head, head, even, too_long, leaf_head, leaf_bytes, recoded_leaf, item_head, item_delimiter, recoded_fragment, recode_set, recode_items}
 use Rattle.dcm_base.proofs.Conversions.Order.{order_twice}
 use Rattle.dcm_base.proofs.DumpsBack.Texts.{Bytes}
@@ -219,8 +219,8 @@ mutual
   trees_read s no_tree b p h k = (tt, subst Bytes h k)
   trees_read s (leaf t vr v rest) b p (o, fo, head, more) k =
       let two = bytes_parts (order s vr v) o (bytes_of_head s t vr (Known (length v)) b (order s vr v ++ o) head k) in
-      let after = trees_read s rest o p more two.1 in
-      ((ordered_bytes s vr v two.0, after.0), after.1)
+      let later = trees_read (after s t vr v) rest o p more two.1 in
+      ((ordered_bytes s vr v two.0, later.0), later.1)
   trees_read s (sequence t vr declared items rest) b p (contents, o, fo, head, inner, more) k =
       let held = enclosed_ready (inside s vr) sequence_end_tag declared (ItemsAt (inside s vr) items) contents o (HoldBytes items) (bytes_of_head s t vr declared b contents head k)
       (λ c d kc r. items_read (inside s vr) items c d r kc) inner in

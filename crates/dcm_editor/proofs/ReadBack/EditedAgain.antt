@@ -7,7 +7,7 @@ use Rattle.dcm_base.specs.Reading.Stop.{Stop, complete}
 use Rattle.dcm_base.specs.Reading.Bars.{ascending_bar}
 use Rattle.dcm_base.specs.Reading.Reads.{INPUT_LIMIT, Reads}
 use Rattle.dcm_base.specs.Conversion.Recode.{recode}
-use Rattle.dcm_base.specs.Conversion.Normal.{normal_front}
+use Rattle.dcm_base.specs.Conversion.Normal.{normal_front, FrontStays}
 use Rattle.dcm_base.proofs.DataSets.OneAnswer.{reads_once}
 use Rattle.dcm_edits.specs.Edit.{Edit, edited}
 use Rattle.dcm_editor.specs.Repeating.{EraseByNoNumber}
@@ -15,12 +15,12 @@ use Rattle.dcm_editor.specs.Modification.{Modifies}
 use Rattle.dcm_editor.proofs.ReadBack.TwiceWritten.{edited_twice}
 use Rattle.dcm_editor.proofs.ReadBack.EditedAscends.{edited_ascends}
 
-module _ (edits : List Edit) (s : Syntax) (at : ℕ) (f again : Front) (stop : Stop) (h : Modifies edits s at f) (r : EraseByNoNumber edits) (reads : Reads ascending_bar s at (recode s (edited edits f)) again stop) where
+module _ (edits : List Edit) (s : Syntax) (at : ℕ) (f again : Front) (stop : Stop) (h : Modifies edits s at f) (stay : FrontStays s f) (r : EraseByNoNumber edits) (reads : Reads ascending_bar s at (recode s (edited edits f)) again stop) where
   -- what is read again is the normal form
   one : (again ≡ normal_front s (edited edits f)) × (stop ≡ complete)
   one =
       reads_once ascending_bar s at (recode s (edited edits f)) again (normal_front s (edited edits f)) stop complete reads
-      (edited_ascends s h.words edits h.mean h.start h.bytes f h.begins h.are_bytes h.reads at h.within)
+      (edited_ascends s h.words edits h.mean h.start h.bytes f h.begins h.are_bytes h.reads stay at h.within)
 
   same : recode s (edited edits again) ≡ recode s (edited edits f)
   same = ap (λ (g : Front). recode s (edited edits g)) one.0 ∙ edited_twice s h.words edits h.mean r h.start h.bytes f h.begins h.are_bytes h.reads

@@ -10,12 +10,12 @@ use Rattle.dcm_base.specs.Tree.Tree.{Trees, no_tree, leaf, sequence, fragments, 
 use Rattle.dcm_base.specs.Tree.Front.{Front}
 use Rattle.dcm_base.specs.Lines.Ascending.{Ascend, ItemsAscend, FrontAscends}
 use Rattle.dcm_base.specs.Tree.Value.{evened}
-use Rattle.dcm_base.specs.Bytes.Spelling.{last_tag}
+use Rattle.dcm_base.specs.Bytes.Spelling.{last_tag, after}
 use Rattle.dcm_base.specs.Reading.Stop.{complete}
 use Rattle.dcm_base.specs.Reading.Bars.{ascending_bar, target_bar}
 use Rattle.dcm_base.specs.Reading.Reads.{INPUT_LIMIT, Reads}
 use Rattle.dcm_base.specs.Conversion.Recode.{recode}
-use Rattle.dcm_base.specs.Conversion.Normal.{normal_vr, normal_sequence_vr, normal_value, normal, normal_items, whole_front, normal_front}
+use Rattle.dcm_base.specs.Conversion.Normal.{normal_vr, normal_sequence_vr, normal_value, normal, normal_items, whole_front, normal_front, FrontStays}
 use Rattle.dcm_base.specs.Tables.Syntax.{dictionary_of}
 use Rattle.dcm_edits.specs.Edit.{Edit, edited, edited_sets}
 use Rattle.dcm_edits.specs.EditWords.{meant_edits_in}
@@ -25,6 +25,7 @@ use Rattle.dcm_editor.proofs.ReadBack.ReadsAscend.{reads_ascend}
 use Rattle.dcm_editor.proofs.ReadBack.EditedReads.{front_whole, edited_reads}
 use Rattle.dcm_editor.proofs.ReadBack.TwiceWritten.{edits_whole}
 use Rattle.dcm_editor.proofs.ReadBack.RisingReads.{ascending_reads}
+use Rattle.dcm_base.specs.declared.vr.Vr.{Vr}
 
 -- ---- the normal form ascends
 
@@ -38,8 +39,10 @@ mutual
   normal_ascends : (s : Syntax) (last : Option Tag) (x : Trees) → Ascend last x → Ascend last (normal s x)
   normal_ascends s last no_tree a = tt
   normal_ascends s last (leaf t vr v rest) a =
-      let more = normal_ascends s (Some t) rest a.1 in
-      if_ascends last t (t.element == 0) (normal s rest) (leaf t (normal_vr s t vr (length v)) (normal_value s t vr v) (normal s rest)) a.0 more (a.0, more)
+      let w : Vr = normal_vr s t vr (length v) in
+      let x : List ℕ = normal_value s t vr v in
+      let more = normal_ascends (after s t w x) (Some t) rest a.1 in
+      if_ascends last t (t.element == 0) (normal (after s t w x) rest) (leaf t w x (normal (after s t w x) rest)) a.0 more (a.0, more)
   normal_ascends s last (sequence t vr declared items rest) a =
       let more = normal_ascends s (Some t) rest a.2 in
       if_ascends last t (t.element == 0) (normal s rest) (sequence t (normal_sequence_vr s t) Undefined (normal_items s items) (normal s rest)) a.0 more (a.0, normal_items_ascend s items a.1, more)
@@ -67,9 +70,9 @@ edited_is s es f x is =
     subst (λ (g : Front). normal_front s (edited es g) ≡ whole_front (normal s (edited_sets es x))) (sym is) (ap (normal_front s) (edits_whole es x (last_tag None x)))
 
 pub edited_ascends : (s : Syntax) (words : List (List ℕ)) (edits : List Edit) → meant_edits_in (dictionary_of s) words ≡ Ok edits → (start : ℕ) (bytes : List ℕ) (f : Front) → start ≤ INPUT_LIMIT → AreBytes bytes → Reads ascending_bar s start bytes f complete
-    → (at : ℕ) → at + length (recode s (edited edits f)) ≤ INPUT_LIMIT → Reads ascending_bar s at (recode s (edited edits f)) (normal_front s (edited edits f)) complete
-edited_ascends s words edits mean start bytes f le are reads at limit =
+    → FrontStays s f → (at : ℕ) → at + length (recode s (edited edits f)) ≤ INPUT_LIMIT → Reads ascending_bar s at (recode s (edited edits f)) (normal_front s (edited edits f)) complete
+edited_ascends s words edits mean start bytes f le are reads stay at limit =
     let w = front_whole s start bytes f le are reads in
     front_again s at (recode s (edited edits f)) (normal_front s (edited edits f)) (normal s (edited_sets edits w.trees)) (omega (arith, limit)) (edited_is s edits f w.trees w.is)
     (normal_ascends s None (edited_sets edits w.trees) (Ascend-edited_sets edits w.trees (whole_ascends f w.trees w.is (reads_ascend s start bytes f complete le reads))))
-    (edited_reads s words edits mean start bytes f le are reads at limit)
+    (edited_reads s words edits mean start bytes f le are reads stay at limit)

@@ -15,12 +15,12 @@ use Rattle.dcm_base.specs.declared.level.Container.TheVariants.{DataSet as the_d
 use Rattle.dcm_base.specs.Tables.Number.{number}
 use Rattle.dcm_base.specs.Tables.Tag.{is_above, is_item}
 use Rattle.dcm_base.specs.Bytes.Head.{tag_at, vr_at, length_at, long_length}
-use Rattle.dcm_base.specs.Bytes.Spelling.{form}
+use Rattle.dcm_base.specs.Bytes.Spelling.{form, read_as}
 use Rattle.dcm_base.specs.Reading.Stop.{Stop, HeadBar, innermost_stop, is_undecided}
 use Rattle.dcm_base.specs.Reading.Reads.{INPUT_LIMIT}
 use Rattle.dcm_base.specs.Steps.Atoms.{Atom, opens, value_byte, closes_leaf, opens_item, closes_item, closes_sequence, opens_fragment, ends}
 use Rattle.dcm_stream.specs.Ascending.{reached_after, innermost, ascending}
-use Rattle.dcm_stream.specs.Reading.{Reading, start_of, Opened, closing, size_of, ends_at, closes, element_opens, item_opens, plain_opens, head_opens, full_closed, settled, head_read, byte_read, read_byte, reads_byte, read_all}
+use Rattle.dcm_stream.specs.Reading.{Reading, start_of, Opened, closing, size_of, ends_at, closes, element_opens, item_opens, plain_opens, head_opens, full_closed, settled, head_read, byte_read, read_byte, reads_byte, read_all, without_value, value_left, sign_reads}
 use Rattle.dcm_sinks.proofs.ReadBack.Accepted.{Accepted, AllAccepted, byte_accepted}
 
 -- ---- heads that are above the last ones
@@ -144,14 +144,14 @@ item_one a_fragment_list s l begin around = closing_none (size_of l)
 
 plain_one : (v : Option Vr) (s : Syntax) (begin : ℕ) (z : List ℕ) (around : List Level) → OneHead (plain_opens v s begin z around).atoms
 plain_one None s begin z around = tt
-plain_one (Some vr) s begin z around = element_one (form s vr (length_at s vr z)) s (tag_at s z) vr (length_at s vr z) begin around
+plain_one (Some vr) s begin z around = element_one (form s (read_as s (tag_at s z) vr) (length_at s vr z)) s (tag_at s z) vr (length_at s vr z) begin around
 
 head_one : (begin : ℕ) (z : List ℕ) (ls : List Level) → OneHead (head_opens begin z ls).atoms
 head_one begin z [] = tt
 head_one begin z (inner ∷ outer) = by_tests ((tag_at inner.syntax z).group == 0xFFFE) (is_item (tag_at inner.syntax z))
   where
     by_tests : (b c : Bool)
-        → OneHead (cond {A = Opened} b (cond {A = Opened} c (item_opens inner.container inner.syntax (long_length (number inner.syntax 4 (drop 4 z))) begin (inner ∷ outer)) (record { levels = outer; left = 0; atoms = closes inner.container ∷ [] })) (plain_opens (vr_at inner.syntax z) inner.syntax begin z (inner ∷ outer))).atoms
+        → OneHead (cond {A = Opened} b (cond {A = Opened} c (item_opens inner.container inner.syntax (long_length (number inner.syntax 4 (drop 4 z))) begin (inner ∷ outer)) (without_value outer (closes inner.container))) (plain_opens (vr_at inner.syntax z) inner.syntax begin z (inner ∷ outer))).atoms
     by_tests true true = item_one inner.container inner.syntax (long_length (number inner.syntax 4 (drop 4 z))) begin (inner ∷ outer)
     by_tests true false = tt
     by_tests false c = plain_one (vr_at inner.syntax z) inner.syntax begin z (inner ∷ outer)
@@ -169,7 +169,7 @@ read_one r z (Some stop) = by_test (is_undecided (Some stop))
 byte_one : (bar : HeadBar) (r : Reading) (b : ℕ) (halt : Option Stop) (within : Bool) (n : ℕ) → OneHead (byte_read bar r b halt within n).1
 byte_one bar r b (Some stop) within n = tt
 byte_one bar r b None false n = tt
-byte_one bar r b None true (suc n) = settled_one (r.position + 1) (record { levels = r.levels; left = n; atoms = value_byte b ∷ closing n }) n (closing_none n)
+byte_one bar r b None true (suc n) = settled_one (r.position + 1) (value_left n (sign_reads (b ∷ []) r.sign) r.levels (value_byte b ∷ [])) n (closing_none n)
 byte_one bar r b None true zero = read_one r (r.head ++ b ∷ []) (innermost_stop bar r.levels r.position (r.head ++ b ∷ []))
 
 -- ---- all bytes

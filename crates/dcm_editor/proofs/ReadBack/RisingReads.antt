@@ -16,7 +16,7 @@ use Rattle.dcm_base.specs.Lines.Ascending.{Ascend, ItemsAscend}
 use Rattle.dcm_base.specs.Tree.Value.{order}
 use Rattle.dcm_base.specs.Bytes.Head.{head_size, tag_at, vr_at, length_at}
 use Rattle.dcm_base.specs.Reading.Place.{depth, passes, room}
-use Rattle.dcm_base.specs.Bytes.Spelling.{form, inside, last_tag}
+use Rattle.dcm_base.specs.Bytes.Spelling.{form, inside, last_tag, after, read_as}
 use Rattle.dcm_base.specs.Reading.Stop.{Stop, complete, refused, HeadBar, barred, opens_list, with_length, first_case, has_no_form, element_stop, head_stop, innermost_stop, or_else}
 use Rattle.dcm_base.specs.Reading.Bars.{ascending_bar, no_bar, target_bar}
 use Rattle.dcm_base.specs.Reading.Reads.{INPUT_LIMIT, Reads}
@@ -56,19 +56,19 @@ fragments_rise r st (v ∷ values) others h = (tt, bytes_rise r st v (closes_lea
 mutual
   unfolding trees_then last_tag
 
-  trees_rise : (s : Syntax) (x : Trees) (after : List Atom) (r : Option Tag) (st : List (Option Tag)) → Ascend r x → Rises (last_tag r x ∷ st) after → Rises (r ∷ st) (trees_then s x after)
-  trees_rise s no_tree after r st a h = h
-  trees_rise s (leaf tag vr value rest) after r st a h =
-      (a.0, bytes_rise (Some tag) st (order s vr value) (closes_leaf ∷ trees_then s rest after) (tt, trees_rise s rest after (Some tag) st a.1 h))
-  trees_rise s (sequence tag vr declared items rest) after r st a h =
-      (a.0, items_rise (inside s vr) items (closes_sequence ∷ trees_then s rest after) (Some tag) st a.1 (tt, trees_rise s rest after (Some tag) st a.2 h))
-  trees_rise s (fragments tag vr values rest) after r st a h =
-      (a.0, fragments_rise (Some tag) st values (closes_sequence ∷ trees_then s rest after) (tt, trees_rise s rest after (Some tag) st a.1 h))
+  trees_rise : (s : Syntax) (x : Trees) (others : List Atom) (r : Option Tag) (st : List (Option Tag)) → Ascend r x → Rises (last_tag r x ∷ st) others → Rises (r ∷ st) (trees_then s x others)
+  trees_rise s no_tree others r st a h = h
+  trees_rise s (leaf tag vr value rest) others r st a h =
+      (a.0, bytes_rise (Some tag) st (order s vr value) (closes_leaf ∷ trees_then (after s tag vr value) rest others) (tt, trees_rise (after s tag vr value) rest others (Some tag) st a.1 h))
+  trees_rise s (sequence tag vr declared items rest) others r st a h =
+      (a.0, items_rise (inside s vr) items (closes_sequence ∷ trees_then s rest others) (Some tag) st a.1 (tt, trees_rise s rest others (Some tag) st a.2 h))
+  trees_rise s (fragments tag vr values rest) others r st a h =
+      (a.0, fragments_rise (Some tag) st values (closes_sequence ∷ trees_then s rest others) (tt, trees_rise s rest others (Some tag) st a.1 h))
 
-  items_rise : (s : Syntax) (x : Items) (after : List Atom) (r : Option Tag) (st : List (Option Tag)) → ItemsAscend x → Rises (r ∷ st) after → Rises (r ∷ st) (items_then s x after)
-  items_rise s no_item after r st a h = h
-  items_rise s (item declared set rest) after r st a h =
-      (tt, trees_rise s set (closes_item ∷ items_then s rest after) None (r ∷ st) a.0 (tt, items_rise s rest after r st a.1 h))
+  items_rise : (s : Syntax) (x : Items) (others : List Atom) (r : Option Tag) (st : List (Option Tag)) → ItemsAscend x → Rises (r ∷ st) others → Rises (r ∷ st) (items_then s x others)
+  items_rise s no_item others r st a h = h
+  items_rise s (item declared set rest) others r st a h =
+      (tt, trees_rise s set (closes_item ∷ items_then s rest others) None (r ∷ st) a.0 (tt, items_rise s rest others r st a.1 h))
 
 whole_rises : (s : Syntax) (x : Trees) → Ascend None x → Rises (None ∷ []) (front_atoms s (whole_front x))
 unfolding front_atoms
@@ -117,9 +117,9 @@ module _ (st : List (Option Tag)) where
       let P : Type 0 = is_above (tag_at s z) (innermost st) ≡ true in
       case_alike (passes (head_size s vr) (room position around)) (refused PassesEnd position) _ _ P
       (case_alike (nat_lt (length z) (head_size s vr)) (refused EndsEarly (position + length z)) _ _ P
-      (case_alike (has_no_form (form s vr declared)) (refused UndefinedLength position) _ _ P
+      (case_alike (has_no_form (form s (read_as s (tag_at s z) vr) declared)) (refused UndefinedLength position) _ _ P
       (case_alike (passes (with_length (head_size s vr) declared) (room position around)) (refused PassesEnd position) _ _ P
-      (case_alike (opens_list (form s vr declared) && nat_le 64 (depth around)) (refused TooDeep position) _ _ P
+      (case_alike (opens_list (form s (read_as s (tag_at s z) vr) declared) && nat_le 64 (depth around)) (refused TooDeep position) _ _ P
       (last_alike position (is_above (tag_at s z) (innermost st))))))) k
 
   plain_rises : (s : Syntax) (around : List Level) (position begin : ℕ) (z : List ℕ) (v : Option Vr) → element_stop free s around position z v ≡ None → Rises st (plain_opens v s begin z around).atoms
@@ -127,8 +127,8 @@ module _ (st : List (Option Tag)) where
   plain_rises s around position begin z None e h = absurd (cc)
   plain_rises s around position begin z (Some vr) e h =
       let declared = length_at s vr z in
-      element_rises st (form s vr declared) s (tag_at s z) vr declared begin around
-      (third_false (passes (head_size s vr) (room position around)) (nat_lt (length z) (head_size s vr)) (has_no_form (form s vr declared)) _ _ _ _ e) h
+      element_rises st (form s (read_as s (tag_at s z) vr) declared) s (tag_at s z) vr declared begin around
+      (third_false (passes (head_size s vr) (room position around)) (nat_lt (length z) (head_size s vr)) (has_no_form (form s (read_as s (tag_at s z) vr) declared)) _ _ _ _ e) h
 
   -- by whether it is of the group of items and delimiters
   group_alike : (s : Syntax) (around : List Level) (position begin : ℕ) (z : List ℕ) (v : Option Vr) (g : Bool) (d : Option Stop) (x : Opened)

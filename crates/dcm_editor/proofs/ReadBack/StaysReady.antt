@@ -9,7 +9,7 @@ use Rattle.dcm_base.specs.declared.form.Form.TheVariants.{Value as a_value, Sequ
 use Rattle.dcm_base.specs.Tables.Tag.{below, same_tag, is_private}
 use Rattle.dcm_base.specs.Tree.Tree.{Trees, no_tree, leaf, sequence, fragments, Items, no_item, item, then_trees}
 use Rattle.dcm_base.specs.Tree.Front.{Front, front, nothing_open, open_leaf, open_sequence, open_fragments}
-use Rattle.dcm_base.specs.Bytes.Spelling.{form}
+use Rattle.dcm_base.specs.Bytes.Spelling.{form, read_as}
 use Rattle.dcm_base.specs.Conversion.Recode.{even}
 use Rattle.dcm_base.specs.Conversion.Normal.{normal_vr, normal_sequence_vr}
 use Rattle.dcm_base.proofs.Dictionaries.TagOrder.{tag_is}
@@ -17,16 +17,22 @@ use Rattle.dcm_sinks.proofs.ReadBack.HasRoom.{IsElement, Ready, ReadyItems}
 use Rattle.dcm_edits.specs.Edit.{number, every, PathEdit, step, insert, modify, erase, erase_item, Edit, on_path, modify_all, erase_all, erase_private, elsewhere, step_into, within, selects, Fate, stays, becomes, goes, path_fate, fate, settled, erases, has, has_open, put, NewElement, no_element, new_leaf, new_sequence, before, around, new_element, element_of, with_new, changed, changed_items, is_passed, with_tag, with_new_so_far, edited_by, edited}
 use Rattle.dcm_edits.specs.Bounds.{steps, depth, AreWithin}
 use Rattle.dcm_edits.proofs.Overlapping.Items.{depth-within}
+use Rattle.dcm_base.specs.Tables.Dictionary.{vr_in}
+use Rattle.dcm_base.specs.declared.dictionary.Dictionary.TheVariants.{Standard, Signed}
 
 -- ---- the elements that edits name
 
 -- a value of this tag
 abbrev pub LeafReady : Syntax → Tag → Vr → List ℕ → Type 0
-LeafReady s t vr v = IsElement t × (length v < 0xFFFFFFFF) × (form s (normal_vr s t vr (length v)) (Known (even (length v))) ≡ a_value)
+LeafReady s t vr v = IsElement t × (length v < 0xFFFFFFFF) × (form s (read_as s t (normal_vr s t vr (length v))) (Known (even (length v))) ≡ a_value)
 
 -- a sequence of this tag
 abbrev pub StepReady : Syntax → Tag → Type 0
 StepReady s t = IsElement t × (form s (normal_sequence_vr s t) Undefined ≡ a_sequence)
+
+-- whatever the sign of the pixels, it has one representation
+abbrev pub Steady : Tag → Type 0
+Steady t = vr_in Signed t ≡ vr_in Standard t
 
 abbrev pub PathReady : Syntax → PathEdit → Type 0
 PathReady s (step tag index edit) = StepReady s tag × PathReady s edit
@@ -37,7 +43,7 @@ PathReady s (erase_item tag index) = Unit {0}
 
 abbrev pub EditReady : Syntax → Edit → Type 0
 EditReady s (on_path edit) = PathReady s edit
-EditReady s (modify_all tag vr value) = LeafReady s tag vr value
+EditReady s (modify_all tag vr value) = LeafReady s tag vr value × Steady tag
 EditReady s (erase_all tag) = Unit {0}
 EditReady s erase_private = Unit {0}
 EditReady s elsewhere = Unit {0}
@@ -124,7 +130,7 @@ module _ (s : Syntax) where
 
   fate_ready : (e : Edit) (t : Tag) → EditReady s e → FateReady s t (fate e t)
   fate_ready (on_path edit) t h = path_fate_ready edit t h
-  fate_ready (modify_all tag vr value) t h = same_ready tag t vr value (same_tag tag t) refl h
+  fate_ready (modify_all tag vr value) t h = same_ready tag t vr value (same_tag tag t) refl h.0
   fate_ready (erase_all tag) t h = gone_ready t (same_tag tag t)
   fate_ready erase_private t h = gone_ready t (is_private t)
   fate_ready elsewhere t h = tt

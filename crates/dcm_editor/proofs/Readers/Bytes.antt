@@ -51,9 +51,9 @@ mutual
   items_alike d (big_in e) (item size set rest) = item_more (item_head (big_in e) Undefined) (item_delimiter (big_in e)) _ _ _ _ (set_alike d (big_in e) set) (items_alike d (big_in e) rest)
 
 -- of a data set in which nothing is open
-pub front_alike : (d : Dictionary) (s : Syntax) (f : Front) → FrontReady s f → recode (read_by d s) f ≡ recode s f
+pub front_alike : (d : Dictionary) (s k : Syntax) (f : Front) → FrontReady k f → recode (read_by d s) f ≡ recode s f
 unfolding recode
-front_alike d s (front whole nothing_open reached closed) h = ap (λ (x : List ℕ). x ++ []) (set_alike d s whole)
-front_alike d s (front whole (open_leaf tag vr size value) reached closed) h = absurd (let none = h.1 in cc)
-front_alike d s (front whole (open_sequence tag vr declared items last) reached closed) h = absurd (let none = h.1 in cc)
-front_alike d s (front whole (open_fragments tag vr values last) reached closed) h = absurd (let none = h.1 in cc)
+front_alike d s k (front whole nothing_open reached closed) h = ap (λ (x : List ℕ). x ++ []) (set_alike d s whole)
+front_alike d s k (front whole (open_leaf tag vr size value) reached closed) h = absurd (let none = h.1 in cc)
+front_alike d s k (front whole (open_sequence tag vr declared items last) reached closed) h = absurd (let none = h.1 in cc)
+front_alike d s k (front whole (open_fragments tag vr values last) reached closed) h = absurd (let none = h.1 in cc)

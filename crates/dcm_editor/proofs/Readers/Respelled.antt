@@ -1,5 +1,5 @@
 -- What implicit bytes spell to another dictionary, where a value that is a sequence to it is empty.
-use Rattle.std.proofs.Common.{◌≡◌, ap, sym, refl, subst, ℕ, List, [], ◌++◌, length, Bool, true, false, Option, Some}
+use Rattle.std.proofs.Common.{◌≡◌, ap, sym, refl, subst, ℕ, List, [], ◌++◌, length, Bool, true, false, Option, Some, ◌∙◌}
 use Rattle.dcm_base.specs.declared.form.Form.TheVariants.{Value as a_value, Sequence as a_sequence, FragmentList as a_fragment_list}
 use Rattle.dcm_base.specs.declared.length.Length.{Length}
 use Rattle.dcm_base.specs.declared.length.Length.TheVariants.{Known, Undefined}
@@ -12,21 +12,27 @@ use Rattle.dcm_base.specs.declared.vr.Vr.TheVariants.{SQ, UN}
 use Rattle.dcm_base.specs.Tables.Dictionary.{vr_in}
 use Rattle.dcm_base.specs.Bytes.Head.{Delimiter, ElementHead, ItemHead, length_at, vr_at}
 use Rattle.dcm_base.specs.Tables.Representation.{is_sequence}
-use Rattle.dcm_base.specs.Bytes.Spelling.{Enclosed, ItemsAt, TreesAt, form, inside}
+use Rattle.dcm_base.specs.Bytes.Spelling.{Enclosed, ItemsAt, TreesAt, form, inside, dictionary_after}
 use Rattle.dcm_base.specs.Tables.Tag.{item_end_tag, sequence_end_tag}
 use Rattle.dcm_base.specs.Tree.Tree.{Trees, no_tree, leaf, sequence, fragments, Items, no_item, item}
 use Rattle.dcm_editor.specs.Everywhere.{Content, Everywhere, InEachItem, a_value as holds_value, a_list}
-use Rattle.dcm_editor.specs.Readers.{HoldsNothing, NoItemHidden, NothingHidden}
+use Rattle.dcm_editor.specs.Readers.{HoldsNothing, NoItemHidden, NothingHidden, IsSequence}
+use Rattle.dcm_base.proofs.DataSets.Alike.{Alike, unsigned, unsigned_sequence, sequence_alike, alike_self, alike_behind}
 
 -- a value of a tag that is a sequence is an empty one
 abbrev seen_value : Bool → Tag → Vr → List ℕ → Trees → Trees
 seen_value true t vr v rest = sequence t vr (Known 0) no_item rest
 seen_value false t vr v rest = leaf t vr v rest
 
+-- after an empty sequence the dictionary is as it was
+abbrev seen_after : Bool → Dictionary → Tag → List ℕ → Dictionary
+seen_after true e t v = e
+seen_after false e t v = dictionary_after e t (vr_in e t) v
+
 abbrev mutual
   pub seen : Dictionary → Trees → Trees
   seen e no_tree = no_tree
-  seen e (leaf t vr v rest) = seen_value (is_sequence (vr_in e t)) t (vr_in e t) v (seen e rest)
+  seen e (leaf t vr v rest) = seen_value (is_sequence (vr_in e t)) t (vr_in e t) v (seen (seen_after (is_sequence (vr_in e t)) e t v) rest)
   seen e (sequence t vr declared items rest) = sequence t (vr_in e t) declared (seen_items e items) (seen e rest)
   seen e (fragments t vr values rest) = fragments t vr values (seen e rest)
 
@@ -36,21 +42,61 @@ abbrev mutual
 
 -- ---- what holds of each element by its tag holds there
 
-module _ (e : Dictionary) (P : Tag → Content → Type 0) (alike : (t : Tag) (c x : Content) → P t c → P t x) where
+module _ (P : Tag → Content → Type 0) (alike : (t : Tag) (c x : Content) → P t c → P t x) where
   value_has : (b : Bool) (t : Tag) (vr w : Vr) (v : List ℕ) (rest : Trees) → P t (holds_value vr v) → Everywhere P rest → Everywhere P (seen_value b t w v rest)
   value_has true t vr w v rest h more = (alike t (holds_value vr v) a_list h, tt, more)
   value_has false t vr w v rest h more = (alike t (holds_value vr v) (holds_value w v) h, more)
 
   mutual
-    pub seen_has : (x : Trees) → Everywhere P x → Everywhere P (seen e x)
-    seen_has no_tree h = tt
-    seen_has (leaf t vr v rest) h = value_has (is_sequence (vr_in e t)) t vr (vr_in e t) v (seen e rest) h.0 (seen_has rest h.1)
-    seen_has (sequence t vr declared items rest) h = (h.0, seen_items_have items h.1, seen_has rest h.2)
-    seen_has (fragments t vr values rest) h = (h.0, seen_has rest h.1)
+    pub seen_has : (e : Dictionary) (x : Trees) → Everywhere P x → Everywhere P (seen e x)
+    seen_has e no_tree h = tt
+    seen_has e (leaf t vr v rest) h =
+        let b : Bool = is_sequence (vr_in e t) in
+        value_has b t vr (vr_in e t) v (seen (seen_after b e t v) rest) h.0 (seen_has (seen_after b e t v) rest h.1)
+    seen_has e (sequence t vr declared items rest) h = (h.0, seen_items_have e items h.1, seen_has e rest h.2)
+    seen_has e (fragments t vr values rest) h = (h.0, seen_has e rest h.1)
 
-    seen_items_have : (x : Items) → InEachItem P x → InEachItem P (seen_items e x)
-    seen_items_have no_item h = tt
-    seen_items_have (item declared set rest) h = (seen_has set h.0, seen_items_have rest h.1)
+    seen_items_have : (e : Dictionary) (x : Items) → InEachItem P x → InEachItem P (seen_items e x)
+    seen_items_have e no_item h = tt
+    seen_items_have e (item declared set rest) h = (seen_has e set h.0, seen_items_have e rest h.1)
+
+known_sequence : (s : Syntax) (vr : Vr) (n : ℕ) → form s vr (Known n) ≡ a_sequence → vr ≡ SQ
+unfolding form
+known_sequence s SQ n h = refl
+known_sequence s vr n h = absurd (cc)
+
+sequence_known : (s : Syntax) (n : ℕ) → form s SQ (Known n) ≡ a_sequence
+unfolding form
+sequence_known s n = refl
+
+known_alike : (d e : Dictionary) (v w : Vr) (n : ℕ) → unsigned v ≡ unsigned w → form (implicit_in e) v (Known n) ≡ a_sequence → form (implicit_in d) w (Known n) ≡ a_sequence
+known_alike d e v w n same h =
+    let is : w ≡ SQ = unsigned_sequence w (sym same ∙ ap unsigned (known_sequence (implicit_in e) v n h)) in
+    subst (λ (x : Vr). form (implicit_in d) x (Known n) ≡ a_sequence) (sym is) (sequence_known (implicit_in d) n)
+
+-- ---- what hides nothing from a dictionary hides nothing from it after a leaf
+
+hold_by : (d e : Dictionary) (t : Tag) (vr : Vr) (v : List ℕ) → Alike d e → HoldsNothing (implicit_in e) t vr v → HoldsNothing (implicit_in d) t vr v
+hold_by d e t vr v same h = λ is. h (unsigned_sequence (vr_in e t) (sym (same t).0 ∙ ap unsigned is))
+
+is_by : (d e : Dictionary) (t : Tag) (l : Length) → Alike d e → IsSequence (implicit_in e) t l → IsSequence (implicit_in d) t l
+is_by d e t (Known n) same h = known_alike d e (vr_in e t) (vr_in d t) n (sym (same t).0) h
+is_by d e t Undefined same h = sequence_alike e d (vr_in e t) (vr_in d t) (sym (same t).0) h
+
+mutual
+  pub hidden_by : (d e : Dictionary) (x : Trees) → Alike d e → NothingHidden (implicit_in e) x → NothingHidden (implicit_in d) x
+  hidden_by d e no_tree same h = tt
+  hidden_by d e (leaf t vr v rest) same h = (hold_by d e t vr v same h.0, hidden_by d e rest same h.1)
+  hidden_by d e (sequence t vr declared items rest) same h = (is_by d e t declared same h.0, items_hidden_by d e items same h.1, hidden_by d e rest same h.2)
+  hidden_by d e (fragments t vr values rest) same h = hidden_by d e rest same h
+
+  items_hidden_by : (d e : Dictionary) (x : Items) → Alike d e → NoItemHidden (implicit_in e) x → NoItemHidden (implicit_in d) x
+  items_hidden_by d e no_item same h = tt
+  items_hidden_by d e (item declared set rest) same h = (hidden_by d e set same h.0, items_hidden_by d e rest same h.1)
+
+seen_alike : (b : Bool) (e : Dictionary) (t : Tag) (v : List ℕ) → Alike (seen_after b e t v) e
+seen_alike true e t v = alike_self e
+seen_alike false e t v = alike_behind e e t (vr_in e t) v (alike_self e)
 
 -- ---- the spelling
 
@@ -113,35 +159,38 @@ module _ (d e : Dictionary) where
   empty_at t w v rest b others p none is head more =
       (others, others, sequence_form (implicit_in e) w (Known 0) is, subst (λ (x : List ℕ). ElementHead (implicit_in e) t w (Known (length x)) b (x ++ others)) none head, empty_spelled (inside (implicit_in e) w) others, more)
 
-  value_by : (c : Bool) (t : Tag) (v : List ℕ) (rest : Trees) (b others p : List ℕ) → is_sequence (vr_in e t) ≡ c → HoldsNothing (implicit_in e) t v → ElementHead (implicit_in e) t (vr_in e t) (Known (length v)) b (v ++ others)
-      → TreesAt (implicit_in e) rest others p → TreesAt (implicit_in e) (seen_value c t (vr_in e t) v rest) b p
+  value_by : (c : Bool) (t : Tag) (vr : Vr) (v : List ℕ) (rest : Trees) (b others p : List ℕ) → is_sequence (vr_in e t) ≡ c → HoldsNothing (implicit_in e) t vr v → ElementHead (implicit_in e) t (vr_in e t) (Known (length v)) b (v ++ others)
+      → TreesAt (implicit_in (seen_after c e t v)) rest others p → TreesAt (implicit_in e) (seen_value c t (vr_in e t) v rest) b p
   unfolding TreesAt
-  value_by true t v rest b others p is none head more = empty_at t (vr_in e t) v rest b others p (none (is_SQ (vr_in e t) is)) is head more
-  value_by false t v rest b others p is none head more = (others, value_form (implicit_in e) (vr_in e t) (length v) is, head, more)
+  value_by true t vr v rest b others p is none head more = empty_at t (vr_in e t) v rest b others p (none (is_SQ (vr_in e t) is)) is head more
+  value_by false t vr v rest b others p is none head more = (others, value_form (implicit_in e) (vr_in e t) (length v) is, head, more)
 
-  mutual
-    unfolding TreesAt
+mutual
+  unfolding TreesAt
 
-    pub trees_by : (x : Trees) (b p : List ℕ) → NothingHidden (implicit_in e) x → TreesAt (implicit_in d) x b p → TreesAt (implicit_in e) (seen e x) b p
-    trees_by no_tree b p n h = h
-    trees_by (leaf t vr v rest) b p n (others, fo, head, more) =
-        value_by (is_sequence (vr_in e t)) t v (seen e rest) b others p refl n.0 (head_by t vr (Known (length v)) b (v ++ others) head) (trees_by rest others p n.1 more)
-    trees_by (sequence t vr declared items rest) b p n (contents, others, fo, head, inner, more) = (
-      contents,
-      others,
-      n.0,
-      head_by t vr declared b contents head,
-      sequence_by vr (vr_in e t) declared items (seen_items e items) contents others (λ c q r. items_by items c q n.1 r) inner,
-      trees_by rest others p n.2 more,
-    )
-    trees_by (fragments t vr values rest) b p n (contents, others, fo, head, inner, more) = absurd (no_fragments vr fo)
+  pub trees_by : (d e : Dictionary) (x : Trees) (b p : List ℕ) → NothingHidden (implicit_in e) x → TreesAt (implicit_in d) x b p → TreesAt (implicit_in e) (seen e x) b p
+  trees_by d e no_tree b p n h = h
+  trees_by d e (leaf t vr v rest) b p n (others, fo, head, more) =
+      let c : Bool = is_sequence (vr_in e t) in
+      let k : Dictionary = seen_after c e t v in
+      value_by d e c t vr v (seen k rest) b others p refl n.0 (head_by d e t vr (Known (length v)) b (v ++ others) head)
+      (trees_by (dictionary_after d t vr v) k rest others p (hidden_by k e rest (seen_alike c e t v) n.1) more)
+  trees_by d e (sequence t vr declared items rest) b p n (contents, others, fo, head, inner, more) = (
+    contents,
+    others,
+    n.0,
+    head_by d e t vr declared b contents head,
+    sequence_by d e vr (vr_in e t) declared items (seen_items e items) contents others (λ c q r. items_by d e items c q n.1 r) inner,
+    trees_by d e rest others p n.2 more,
+  )
+  trees_by d e (fragments t vr values rest) b p n (contents, others, fo, head, inner, more) = absurd (no_fragments d e vr fo)
 
-    items_by : (x : Items) (b p : List ℕ) → NoItemHidden (implicit_in e) x → ItemsAt (implicit_in d) x b p → ItemsAt (implicit_in e) (seen_items e x) b p
-    items_by no_item b p n h = h
-    items_by (item declared set rest) b p n (contents, others, head, inner, more) = (
-      contents,
-      others,
-      item_by declared b contents head,
-      enclosed_by item_end_tag declared (TreesAt (implicit_in d) set) (TreesAt (implicit_in e) (seen e set)) contents others (λ c q r. trees_by set c q n.0 r) inner,
-      items_by rest others p n.1 more,
-    )
+  items_by : (d e : Dictionary) (x : Items) (b p : List ℕ) → NoItemHidden (implicit_in e) x → ItemsAt (implicit_in d) x b p → ItemsAt (implicit_in e) (seen_items e x) b p
+  items_by d e no_item b p n h = h
+  items_by d e (item declared set rest) b p n (contents, others, head, inner, more) = (
+    contents,
+    others,
+    item_by d e declared b contents head,
+    enclosed_by d e item_end_tag declared (TreesAt (implicit_in d) set) (TreesAt (implicit_in e) (seen e set)) contents others (λ c q r. trees_by d e set c q n.0 r) inner,
+    items_by d e rest others p n.1 more,
+  )

@@ -8,7 +8,7 @@ use Rattle.dcm_base.specs.declared.syntax.Syntax.TheVariants.{Implicit as implic
 use Rattle.dcm_base.specs.declared.tag.Tag.{Tag}
 use Rattle.dcm_base.specs.declared.vr.Vr.{Vr}
 use Rattle.dcm_base.specs.declared.vr.Vr.TheVariants.{PN, SQ, UN}
-use Rattle.dcm_base.specs.Tables.Dictionary.{Element, Entry, elements, elements_in, element_in, element_of, entries, keywords, numbered, vr_in}
+use Rattle.dcm_base.specs.Tables.Dictionary.{Element, Entry, elements, elements_in, element_in, element_of, entries, keywords, numbered, vr_in, ambiguous}
 use Rattle.dcm_base.specs.Bytes.Head.{length_at, vr_at}
 use Rattle.dcm_base.specs.Conversion.Normal.{FitsTarget, whole_front}
 use Rattle.dcm_base.specs.Bytes.Spelling.{TreesAt, form, inside}
@@ -68,11 +68,11 @@ unfolding entries
 found_name = refl
 
 standard_languages : vr_in Standard languages ≡ SQ
-unfolding vr_in element_in elements_in
+unfolding vr_in element_in elements_in ambiguous
 standard_languages = by_number keywords entries 0x00080006 UN ∙ found_languages
 
 standard_name : vr_in Standard patient_name ≡ PN
-unfolding vr_in element_in elements_in
+unfolding vr_in element_in elements_in ambiguous
 standard_name = by_number keywords entries 0x00100010 UN ∙ found_name
 
 extract_languages : vr_in Extract languages ≡ UN

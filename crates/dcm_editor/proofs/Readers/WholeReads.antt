@@ -14,7 +14,7 @@ use Rattle.dcm_base.specs.Bytes.Head.{head_size, length_at, long_length, tag_at,
 use Rattle.dcm_base.specs.Tables.Number.{number}
 use Rattle.dcm_base.specs.Reading.Place.{depth, is_allowed, is_undefined, levels, passes, room, value_open}
 use Rattle.dcm_base.specs.Reading.Reads.{INPUT_LIMIT, Reads, at_the_cut, ended}
-use Rattle.dcm_base.specs.Bytes.Spelling.{SpellsFront, form}
+use Rattle.dcm_base.specs.Bytes.Spelling.{SpellsFront, form, read_as}
 use Rattle.dcm_base.specs.Reading.Stop.{Bar, HeadBar, Stop, barred, complete, element_stop, first_case, has_no_form, head_stop, innermost_stop, is_empty, is_fragment_list, is_the_data_set, item_stop, opens_list, or_else, refused, stop_at, value_stop, with_length}
 use Rattle.dcm_base.specs.Tables.Tag.{is_item}
 
@@ -40,8 +40,8 @@ module _ (bar : HeadBar) (inner : Level) (around : List Level) (p : ℕ) (rest :
   vr_never None h = cc
   vr_never (Some vr) h =
       let declared : Length = length_at inner.syntax vr rest in
-      element_never (passes (head_size inner.syntax vr) (room p around)) (nat_lt (length rest) (head_size inner.syntax vr)) (has_no_form (form inner.syntax vr declared)) (passes (with_length (head_size inner.syntax vr) declared) (room p around))
-      (opens_list (form inner.syntax vr declared) && nat_le 64 (depth around)) (bar (tag_at inner.syntax rest) vr declared) p (p + length rest) h
+      element_never (passes (head_size inner.syntax vr) (room p around)) (nat_lt (length rest) (head_size inner.syntax vr)) (has_no_form (form inner.syntax (read_as inner.syntax (tag_at inner.syntax rest) vr) declared)) (passes (with_length (head_size inner.syntax vr) declared) (room p around))
+      (opens_list (form inner.syntax (read_as inner.syntax (tag_at inner.syntax rest) vr) declared) && nat_le 64 (depth around)) (bar (tag_at inner.syntax rest) vr declared) p (p + length rest) h
 
   kind_never : (c i : Bool) → (if c then element_stop bar inner.syntax around p rest (vr_at inner.syntax rest) else (if i then item_stop inner.container around p (long_length (number inner.syntax 4 (drop 4 rest))) else None)) ≡ Some complete → ⊥
   kind_never true i h = vr_never (vr_at inner.syntax rest) h

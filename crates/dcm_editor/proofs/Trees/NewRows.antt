@@ -19,6 +19,8 @@ use Rattle.dcm_editor.specs.Masks.{is_set, rest_of_path, at_depth, asked}
 use Rattle.dcm_editor.specs.Asking.{nothing_new, a_value, a_sequence, seen, lies_in, in_gap, path_size, edit_size, AreShort}
 use Rattle.dcm_editor.specs.declared.asked.Gap.{Gap}
 use Rattle.dcm_edits.proofs.Trees.Selection.{Above, is_least, puts_none_new, puts_between, puts_above, above_between, above_above}
+use Rattle.dcm_base.proofs.DataSets.After.{after_little}
+use Rattle.dcm_base.specs.declared.syntax.Syntax.{Syntax}
 
 -- the new elements of a gap
 abbrev pub row : Gap → List Edit → List Atom
@@ -37,6 +39,7 @@ one_then : (x : NewElement) (rest : Trees) → trees_then Little (before x rest)
 one_then x rest =
     ap (λ (t : Trees). trees_then Little t []) (before_then x rest)
     ∙ trees_then-then Little (before x no_tree) rest []
+    ∙ ap (λ (k : Syntax). trees_then Little (before x no_tree) (trees_then k rest [])) (after_little (before x no_tree))
     ∙ trees_then-append Little (before x no_tree) [] (trees_then Little rest [])
 
 puts_in : (last next : Option Tag) (t : Tag) (es : List Edit) → least_new (lies_in last next) es ≡ Some t → puts (lies_in last next) es no_tree ≡ before (first_new t es) (puts (lies_in (Some t) next) es no_tree)

@@ -11,15 +11,17 @@ use Rattle.dcm_base.specs.declared.vr.Vr.TheVariants.{UL, LO, UN}
 use Rattle.dcm_base.specs.declared.fault.EditRefusal.{EditRefusal}
 use Rattle.dcm_base.specs.declared.fault.EditRefusal.TheVariants.{UnknownTag, MetaGroup}
 use Rattle.dcm_base.specs.Tables.Tag.{tag_number, tag_of_number}
-use Rattle.dcm_base.specs.declared.dictionary.Dictionary.TheVariants.{Extract, Standard}
-use Rattle.dcm_base.specs.Tables.Dictionary.{Element, Entry, elements, entries, keywords, element_of, elements_in, element_in, called, tag_in, vr_in, is_group_length, is_private_creator}
+use Rattle.dcm_base.specs.declared.dictionary.Dictionary.TheVariants.{Extract, Standard, Signed}
+use Rattle.dcm_base.specs.Tables.Dictionary.{Element, Entry, elements, entries, keywords, element_of, elements_in, element_in, called, tag_in, vr_in, is_group_length, is_private_creator, ambiguous_in, unlisted_vr}
 use Rattle.dcm_sinks.proofs.ReadBack.HasRoom.{IsElement}
 use Rattle.dcm_edits.specs.Edit.{Index}
 use Rattle.dcm_edits.specs.EditWords.{◌>>=◌, or_refuse, PathPart, TagName, by_number, by_keyword, Known, known_tag, known_part, known_parts}
 use Rattle.dcm_edits.proofs.Words.EditWordLemmas.{bind_ok, ok_is, if_err, or_refused, mapped, found_passes, same_group, Within, AllWithin}
+use Rattle.dcm_editor.proofs.ReadBack.StaysReady.{Steady}
+use Rattle.dcm_base.proofs.Dictionaries.Parts.{extract_is_part}
 
 abbrev pub IsListed : Dictionary → Known → Type 0
-IsListed d k = IsElement k.tag × (vr_in d k.tag ≡ k.vr)
+IsListed d k = IsElement k.tag × (vr_in d k.tag ≡ k.vr) × Steady k.tag
 
 abbrev pub AllListed : Dictionary → List Known → Type 0
 AllListed d [] = Unit {0}
@@ -47,6 +49,7 @@ are_of_elements : (d : Dictionary) → list_all (λ (e : Element). is_of_element
 unfolding elements_in
 are_of_elements Extract = extract_is_of_elements
 are_of_elements Standard = sym (same_test keywords entries) ∙ entries_are_of_elements
+are_of_elements Signed = sym (same_test keywords entries) ∙ entries_are_of_elements
 
 and_one : (a b : Bool) → (a && b) ≡ true → a ≡ true
 and_one true b p = refl
@@ -80,7 +83,23 @@ entry_vr (Some y) x otherwise p = let same : y ≡ x = cc in ap (λ (e : Vr × L
 
 vr_is : (d : Dictionary) (tag : Tag) (x : Vr × List ℕ) → element_in d tag ≡ Some x → vr_in d tag ≡ x.0
 unfolding vr_in
-vr_is d tag x p = entry_vr (element_in d tag) x (if is_group_length tag then UL else if is_private_creator tag then LO else UN) p
+vr_is d tag x p = entry_vr (element_in d tag) x (option_map_or (λ e. e.0) (ambiguous_in d tag) (unlisted_vr tag)) p
+
+-- an element that has one representation
+in_standard : (d : Dictionary) (tag : Tag) (x : Vr × List ℕ) → element_in d tag ≡ Some x → element_in Standard tag ≡ Some x
+unfolding element_in elements_in
+in_standard Extract tag x p = extract_is_part tag x p
+in_standard Standard tag x p = p
+in_standard Signed tag x p = p
+
+in_signed : (tag : Tag) (x : Vr × List ℕ) → element_in Standard tag ≡ Some x → element_in Signed tag ≡ Some x
+unfolding element_in elements_in
+in_signed tag x p = p
+
+steady : (d : Dictionary) (tag : Tag) (x : Vr × List ℕ) → element_in d tag ≡ Some x → Steady tag
+steady d tag x p =
+    let q = in_standard d tag x p in
+    vr_is Signed tag x (in_signed tag x q) ∙ sym (vr_is Standard tag x q)
 
 -- ---- known parts
 
@@ -88,8 +107,8 @@ if_not : {A : Type 0} (c : Bool) (u : EditRefusal) (r : Result A EditRefusal) (y
 if_not true u r y p = absurd cc
 if_not false u r y p = refl
 
-record_listed : (d : Dictionary) (tag : Tag) (vr : Vr) (index : Option Index) (k : Known) → IsElement tag → vr_in d tag ≡ vr → (let l : Known = record { tag = tag; vr = vr; index = index } in l ≡ k) → IsListed d k
-record_listed d tag vr index k h g p = let P : Known → Type 0 = λ x. IsListed d x in subst P p (h, g)
+record_listed : (d : Dictionary) (tag : Tag) (vr : Vr) (index : Option Index) (k : Known) → IsElement tag → vr_in d tag ≡ vr → Steady tag → (let l : Known = record { tag = tag; vr = vr; index = index } in l ≡ k) → IsListed d k
+record_listed d tag vr index k h g st p = let P : Known → Type 0 = λ x. IsListed d x in subst P p (h, g, st)
 
 tag_listed : (d : Dictionary) (index : Option Index) (tag : Tag) (k : Known) → tag.element < 65536 → known_tag d index tag ≡ Ok k → IsListed d k
 tag_listed d index tag k h p =
@@ -97,7 +116,7 @@ tag_listed d index tag k h p =
     let q = if_err (tag.group == 2) MetaGroup (or_refuse UnknownTag (element_in d tag) >>= λ e. Ok (record { tag = tag; vr = e.0; index = index })) k p in
     let r = bind_ok (or_refuse UnknownTag (element_in d tag)) (λ e. Ok (record { tag = tag; vr = e.0; index = index })) k q in
     let is : element_in d tag ≡ Some r.0 = or_refused UnknownTag (element_in d tag) r.0 r.1 in
-    record_listed d tag r.0.0 index k (element_is d tag r.0 h data_set is) (vr_is d tag r.0 is) (ok_is _ _ r.2)
+    record_listed d tag r.0.0 index k (element_is d tag r.0 h data_set is) (vr_is d tag r.0 is) (steady d tag r.0 is) (ok_is _ _ r.2)
 
 number_within : (n : ℕ) → (tag_of_number n).element < 65536
 number_within n = omega arith

@@ -1,5 +1,5 @@
 -- A target syntax has room for the elements that words name by its dictionary.
-use Rattle.std.proofs.Common.{◌≡◌, ◌≢◌, ◌∙◌, ◌≤◌, ℕ, suc, List, [], ◌∷◌, length, Option, Some, None, Ok, Bool, true, false, not, ◌&&◌, refl, sym, subst, arith}
+use Rattle.std.proofs.Common.{◌≡◌, ◌≢◌, ◌∙◌, ◌≤◌, ℕ, suc, List, [], ◌∷◌, length, Option, Some, None, Ok, Bool, true, false, not, ◌&&◌, refl, sym, subst, arith, ap}
 use Rattle.std.specs.Prelude.{if◌then◌else◌, ◌==◌, nat_le}
 use Rattle.std.specs.List.{slice_split}
 use Rattle.std.specs.Str.{byte}
@@ -7,7 +7,7 @@ use Rattle.std.specs.Option.{is_some}
 use Rattle.std.proofs.lemmas.Bool.{leb-true}
 use Rattle.dcm_base.specs.declared.tag.Tag.{Tag}
 use Rattle.dcm_base.specs.declared.vr.Vr.{Vr}
-use Rattle.dcm_base.specs.declared.vr.Vr.TheVariants.{SQ}
+use Rattle.dcm_base.specs.declared.vr.Vr.TheVariants.{SQ, UN}
 use Rattle.dcm_base.specs.declared.syntax.Syntax.{Syntax}
 use Rattle.dcm_base.specs.declared.syntax.Syntax.TheVariants.{Implicit as implicit_in, Little as little_in, Big as big_in}
 use Rattle.dcm_base.specs.Tables.Syntax.{dictionary_of, Little}
@@ -15,11 +15,11 @@ use Rattle.dcm_base.specs.declared.length.Length.TheVariants as length_variants
 use Rattle.dcm_base.specs.declared.form.Form.TheVariants.{Value as a_value, Sequence as a_sequence}
 use Rattle.dcm_base.specs.declared.fault.EditRefusal.TheVariants.{BadOption, SequenceMisused, ValueDoesNotFit}
 use Rattle.dcm_base.specs.Tables.Dictionary.{vr_in}
-use Rattle.dcm_base.specs.Conversion.Normal.{TellsValue, TellsSequence}
+use Rattle.dcm_base.specs.Conversion.Normal.{TellsValue, TellsSequence, normal_vr}
 use Rattle.dcm_base.specs.Lines.ReadValue.{◌>>=◌, VALUE_LIMIT, within_limit, is_no_value, takes_bytes, value_in, value_of_text, value_of_word}
 use Rattle.dcm_base.specs.Tables.Representation.{is_sequence, unit}
 use Rattle.dcm_base.specs.Dump.ValueText.{shape}
-use Rattle.dcm_base.specs.Bytes.Spelling.{form}
+use Rattle.dcm_base.specs.Bytes.Spelling.{form, read_in}
 use Rattle.dcm_base.proofs.DumpsBack.DigitNumbers.{bind_some, if_some}
 use Rattle.dcm_sinks.proofs.ReadBack.Sources.{target_value, target_sequence}
 use Rattle.dcm_edits.specs.Edit.{Index, PathEdit, insert, modify, Edit}
@@ -28,6 +28,8 @@ use Rattle.dcm_edits.proofs.Words.EditWordLemmas.{bind_ok, ok_is, if_ok, or_refu
 use Rattle.dcm_editor.proofs.Words.KnownTags.{IsListed, AllListed, parts_listed}
 use Rattle.dcm_editor.proofs.ReadBack.StaysReady.{LeafReady, StepReady, PathReady, EditReady, AreReady}
 use Rattle.dcm_edits.proofs.Words.WordValues.{EndsPlain, and_one, and_two, plain_last, parts_end, parts_count, form_ends, form_one, if_test, AllHave, all_edits_have}
+use Rattle.dcm_base.specs.declared.dictionary.Dictionary.{Dictionary}
+use Rattle.dcm_base.specs.declared.dictionary.Dictionary.TheVariants.{Extract, Standard, Signed}
 
 -- ---- values
 
@@ -81,10 +83,18 @@ no_sequence : (vr : Vr) → is_sequence vr ≡ false → vr ≢ SQ
 no_sequence SQ e = absurd cc
 no_sequence vr e = λ k. cc
 
-tells_value : (s : Syntax) (t : Tag) (vr : Vr) → vr_in (dictionary_of s) t ≡ vr → is_sequence vr ≡ false → TellsValue s t
-tells_value (implicit_in d) t vr e h = λ k. no_sequence vr h (sym e ∙ k)
-tells_value (little_in d) t vr e h = tt
-tells_value (big_in d) t vr e h = tt
+-- what is unknown is no sequence by a dictionary that calls the tag none
+read_plain : (d : Dictionary) (t : Tag) (w : Vr) → is_sequence (vr_in d t) ≡ false → read_in d t w ≡ w
+read_plain Extract t w e = refl
+read_plain Standard t UN e = ap (λ (b : Bool). if b then SQ else UN) e
+read_plain Standard t w e = refl
+read_plain Signed t UN e = ap (λ (b : Bool). if b then SQ else UN) e
+read_plain Signed t w e = refl
+
+tells_value : (s : Syntax) (t : Tag) (vr : Vr) (n : ℕ) → vr_in (dictionary_of s) t ≡ vr → is_sequence vr ≡ false → TellsValue s t vr n
+tells_value (implicit_in d) t vr n e h = λ k. no_sequence vr h (sym e ∙ k)
+tells_value (little_in d) t vr n e h = read_plain d t (normal_vr (little_in d) t vr n) (ap is_sequence e ∙ h)
+tells_value (big_in d) t vr n e h = read_plain d t (normal_vr (big_in d) t vr n) (ap is_sequence e ∙ h)
 
 tells_sequence : (s : Syntax) (t : Tag) (vr : Vr) → vr_in (dictionary_of s) t ≡ vr → is_sequence vr ≡ true → TellsSequence s t
 tells_sequence (implicit_in d) t vr e h = subst (λ (x : Vr). form (implicit_in d) x length_variants.Undefined ≡ a_sequence) (sym e) (sequence_form (implicit_in d) vr h)
@@ -93,7 +103,7 @@ tells_sequence (big_in d) t vr e h = tt
 
 leaf_ready : (s : Syntax) (k : Known) (v : List ℕ) → IsListed (dictionary_of s) k → is_sequence k.vr ≡ false → length v ≤ 65536 → LeafReady s k.tag k.vr v
 leaf_ready s k v listed plain short =
-    (listed.0, omega (arith, short), target_value s Little k.tag k.vr (length v) (value_form k.vr (length v) plain) (tells_value s k.tag k.vr listed.1 plain))
+    (listed.0, omega (arith, short), target_value s Little k.tag k.vr (length v) (value_form k.vr (length v) plain) (tells_value s k.tag k.vr (length v) listed.1 plain))
 
 step_ready : (s : Syntax) (k : Known) → IsListed (dictionary_of s) k → is_sequence k.vr ≡ true → StepReady s k.tag
 step_ready s k listed h = (listed.0, target_sequence s k.tag (tells_sequence s k.tag k.vr listed.1 h))
@@ -141,7 +151,7 @@ valued_ready s inserts k ks v a short p u l =
 valued_ready s modifies k ks v a short p u l =
     steps_ready s true (λ x. modify x.tag x.vr v) k ks a u (last_valued s (λ x. modify x.tag x.vr v) k ks (λ x listed plain. leaf_ready s x v listed plain short) a p u)
 valued_ready s erases k ks v a short p u l = erases_ready s true k ks a u
-valued_ready s modifies_all k [] v a short p u l = leaf_ready s k v a.0 (plain_last (is_indexed k) (is_sequence k.vr) p (and_one _ true u)) short
+valued_ready s modifies_all k [] v a short p u l = (leaf_ready s k v a.0 (plain_last (is_indexed k) (is_sequence k.vr) p (and_one _ true u)) short, a.0.2)
 valued_ready s modifies_all k (m ∷ ks) v a short p u l = absurd (two (length ks) (l refl))
   where
     two : (n : ℕ) → suc (suc n) ≡ 1 → ⊥

@@ -1,6 +1,6 @@
 // The dictionaries, with values of PS3.6 2022a (sections 6 to 8) and PS3.7 E.
 use dcm_base::{
-    Coding, Dictionary, Syntax, Tag, Vr, coding_of, element_in, keyword_in, tag_in, vr_in,
+    Coding, Dictionary, Syntax, Tag, Vr, coding_of, element_in, keyword_in, read_as, tag_in, vr_in,
 };
 
 /// An element: its tag, its value representation and its keyword.
@@ -44,15 +44,43 @@ fn of_standard() -> [Element; 18] {
     ]
 }
 
-/// Elements that neither has: between two value representations, and of repeating groups.
-fn of_neither() -> [((u16, u16), &'static [u8]); 6] {
+/// Elements of repeating groups, which no dictionary has.
+fn of_none() -> [((u16, u16), &'static [u8]); 2] {
     [
-        ((0x0028, 0x0106), b"SmallestImagePixelValue"),
-        ((0x0028, 0x0120), b"PixelPaddingValue"),
-        ((0x0028, 0x3006), b"LUTData"),
-        ((0x5400, 0x1010), b"WaveformData"),
         ((0x6000, 0x0010), b"OverlayRows"),
         ((0x6000, 0x3000), b"OverlayData"),
+    ]
+}
+
+/// Elements that the standard leaves between two value representations: the one where pixels are not signed, and the
+/// one where they are.
+fn between_two() -> [((u16, u16), Vr, Vr, &'static [u8]); 15] {
+    [
+        ((0x0014, 0x3050), Vr::OW, Vr::OW, b"DarkCurrentCounts"),
+        ((0x0018, 0x9810), Vr::UN, Vr::UN, b"ZeroVelocityPixelValue"),
+        ((0x0022, 0x1452), Vr::UN, Vr::UN, b"MappedPixelValue"),
+        ((0x0028, 0x0071), Vr::UN, Vr::UN, b"PerimeterValue"),
+        ((0x0028, 0x0104), Vr::US, Vr::SS, b"SmallestValidPixelValue"),
+        ((0x0028, 0x0106), Vr::US, Vr::SS, b"SmallestImagePixelValue"),
+        ((0x0028, 0x0120), Vr::US, Vr::SS, b"PixelPaddingValue"),
+        (
+            (0x0028, 0x1101),
+            Vr::US,
+            Vr::SS,
+            b"RedPaletteColorLookupTableDescriptor",
+        ),
+        ((0x0028, 0x1200), Vr::OW, Vr::OW, b"GrayLookupTableData"),
+        ((0x0028, 0x3002), Vr::US, Vr::SS, b"LUTDescriptor"),
+        ((0x0028, 0x3006), Vr::OW, Vr::OW, b"LUTData"),
+        (
+            (0x0040, 0x9211),
+            Vr::US,
+            Vr::SS,
+            b"RealWorldValueLastValueMapped",
+        ),
+        ((0x0060, 0x3006), Vr::US, Vr::SS, b"HistogramLastBinValue"),
+        ((0x5400, 0x0110), Vr::OW, Vr::OW, b"ChannelMinimumValue"),
+        ((0x5400, 0x1010), Vr::OW, Vr::OW, b"WaveformData"),
     ]
 }
 
@@ -84,13 +112,17 @@ fn lacks(dictionary: Dictionary, parts: (u16, u16), keyword: &[u8]) -> bool {
     element_in(dictionary, tag(parts)).is_none() && tag_in(dictionary, keyword).is_none()
 }
 
-/// What both dictionaries say of a tag that is none of an element.
-fn is_called(parts: (u16, u16), vr: Vr, keyword: &[u8]) -> bool {
+/// What a dictionary says of a tag.
+fn is_said(dictionary: Dictionary, parts: (u16, u16), vr: Vr, keyword: &[u8]) -> bool {
     let tag = tag(parts);
-    vr_in(Dictionary::Extract, tag) == vr
-        && vr_in(Dictionary::Standard, tag) == vr
-        && keyword_in(Dictionary::Extract, tag) == keyword
-        && keyword_in(Dictionary::Standard, tag) == keyword
+    vr_in(dictionary, tag) == vr && keyword_in(dictionary, tag) == keyword
+}
+
+/// What each dictionary says of a tag that is none of an element.
+fn is_called(parts: (u16, u16), vr: Vr, keyword: &[u8]) -> bool {
+    is_said(Dictionary::Extract, parts, vr, keyword)
+        && is_said(Dictionary::Standard, parts, vr, keyword)
+        && is_said(Dictionary::Signed, parts, vr, keyword)
 }
 
 #[test]
@@ -98,6 +130,7 @@ fn elements_of_both(rt: HostRuntime) {
     for element in of_both() {
         assert!(rt; has(Dictionary::Extract, element));
         assert!(rt; has(Dictionary::Standard, element));
+        assert!(rt; has(Dictionary::Signed, element));
     }
 }
 
@@ -105,15 +138,17 @@ fn elements_of_both(rt: HostRuntime) {
 fn elements_of_the_standard(rt: HostRuntime) {
     for element in of_standard() {
         assert!(rt; has(Dictionary::Standard, element));
+        assert!(rt; has(Dictionary::Signed, element));
         assert!(rt; lacks(Dictionary::Extract, element.0, element.2));
     }
 }
 
 #[test]
-fn elements_of_neither(rt: HostRuntime) {
-    for element in of_neither() {
+fn elements_of_none(rt: HostRuntime) {
+    for element in of_none() {
         assert!(rt; lacks(Dictionary::Extract, element.0, element.1));
         assert!(rt; lacks(Dictionary::Standard, element.0, element.1));
+        assert!(rt; lacks(Dictionary::Signed, element.0, element.1));
         assert!(rt; is_called(element.0, Vr::UN, b"Unknown Tag & Data"));
     }
     for keyword in [
@@ -125,6 +160,41 @@ fn elements_of_neither(rt: HostRuntime) {
         b"PrivateCreator".as_slice(),
     ] {
         assert!(rt; tag_in(Dictionary::Standard, keyword).is_none());
+    }
+}
+
+#[test]
+fn elements_between_two(rt: HostRuntime) {
+    for (tag, unsigned, signed, keyword) in between_two() {
+        assert!(rt; lacks(Dictionary::Extract, tag, keyword));
+        assert!(rt; lacks(Dictionary::Standard, tag, keyword));
+        assert!(rt; lacks(Dictionary::Signed, tag, keyword));
+        assert!(rt; is_said(Dictionary::Extract, tag, Vr::UN, b"Unknown Tag & Data"));
+        assert!(rt; is_said(Dictionary::Standard, tag, unsigned, keyword));
+        assert!(rt; is_said(Dictionary::Signed, tag, signed, keyword));
+    }
+}
+
+#[test]
+fn unknown_sequences(rt: HostRuntime) {
+    let sequence = tag((0x0008, 0x1140));
+    let (extract, standard) = (Dictionary::Extract, Dictionary::Standard);
+    for dictionary in [standard, Dictionary::Signed] {
+        for syntax in [Syntax::Little(dictionary), Syntax::Big(dictionary)] {
+            assert!(rt; read_as(syntax, sequence, Vr::UN) == Vr::SQ);
+            assert!(rt; read_as(syntax, sequence, Vr::OB) == Vr::OB);
+            assert!(rt; read_as(syntax, tag((0x0010, 0x0020)), Vr::UN) == Vr::UN);
+            assert!(rt; read_as(syntax, tag((0x0009, 0x1010)), Vr::UN) == Vr::UN);
+            assert!(rt; read_as(syntax, tag((0x0018, 0x9810)), Vr::UN) == Vr::UN);
+        }
+        assert!(rt; read_as(Syntax::Implicit(dictionary), sequence, Vr::UN) == Vr::UN);
+    }
+    for syntax in [
+        Syntax::Implicit(extract),
+        Syntax::Little(extract),
+        Syntax::Big(extract),
+    ] {
+        assert!(rt; read_as(syntax, sequence, Vr::UN) == Vr::UN);
     }
 }
 

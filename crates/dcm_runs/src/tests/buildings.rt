@@ -2,7 +2,7 @@
 use super::rows::{EMPTY, Row, Start};
 
 /// Lines that build a file.
-const BUILT: [Row; 8] = [
+const BUILT: [Row; 9] = [
     Row {
         name: "a meta group alone",
         words: "dump2dcm - -",
@@ -64,6 +64,14 @@ const BUILT: [Row; 8] = [
         input: b"(0002,0010) UI =LittleEndianExplicit\n(0010,4000) LT [aaaaaaaaaaaaaaaaaaaaaaaaaaaaaaaaaaaaaaaaaaaaaaaaaaaaaaaaaaaaaaa]\n",
         header: Start::ExplicitLittle,
         lines: b"\x10\0\0@LT@\0aaaaaaaaaaaaaaaaaaaaaaaaaaaaaaaaaaaaaaaaaaaaaaaaaaaaaaaaaaaaaaa ",
+        ..EMPTY
+    },
+    Row {
+        name: "an unknown sequence of known length",
+        words: "dump2dcm - -",
+        input: b"# Dicom-File-Format\n\n# Dicom-Meta-Information-Header\n# Used TransferSyntax: LittleEndianExplicit\n(0002,0000) UL 28                                       #   4, 1 FileMetaInformationGroupLength\n(0002,0010) UI =LittleEndianExplicit                    #  20, 1 TransferSyntaxUID\n\n# Dicom-Data-Set\n# Used TransferSyntax: LittleEndianExplicit\n(0008,1140) UN (Sequence with explicit length)          #  20, 1 ReferencedImageSequence\n  (fffe,e000) na (Item with explicit length)              #  12, 1 Item\n    (0010,0020) LO [1234]                                   #   4, 1 PatientID\n  (fffe,e00d) na (ItemDelimitationItem for re-encoding)   #   0, 0 ItemDelimitationItem\n(fffe,e0dd) na (SequenceDelimitationItem for re-encod.) #   0, 0 SequenceDelimitationItem\n",
+        header: Start::ExplicitLittle,
+        lines: b"\x08\0@\x11SQ\0\0\xff\xff\xff\xff\xfe\xff\0\xe0\xff\xff\xff\xff\x10\0 \0LO\x04\01234\xfe\xff\x0d\xe0\0\0\0\0\xfe\xff\xdd\xe0\0\0\0\0",
         ..EMPTY
     },
 ];

@@ -47,6 +47,9 @@ dcmodify -ma ReferencedImageSequence[0]=A a b: U1 in edit 1: bad option or path
 dcmodify -m (0009,0010)=A a b: U2 in edit 1: unknown tag
 dcmodify -e Foo-Bar a b: U2 in edit 1: unknown tag
 dcmodify -e -i X=1 a b: U2 in edit 1: unknown tag
+dcmodify +dict -e +dict -e Rows a b: U2 in edit 1: unknown tag
+dcmodify +dict -e SmallestImagePixelValue a b: U2 in edit 1: unknown tag
+dcmodify +dict -ea PixelData -m (0028,3006)=00 a b: U2 in edit 2: unknown tag
 dcmodify -m Rows[0].Foo=1 a b: U2 in edit 1: unknown tag
 dcmodify -i Rows=70000 a b: U3 in edit 1: value does not fit
 dcmodify -i (0028,0009)=(0018,106) a b: U3 in edit 1: value does not fit

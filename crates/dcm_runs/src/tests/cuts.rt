@@ -4,7 +4,9 @@ use super::conversions::conversions;
 use super::dictionaries::dictionaries;
 use super::modifications::modifications;
 use super::rows::{Row, Start, bytes_of, dumps, front_of};
-use super::{Answer, holds, joined, numbered, over_memory, rows_of};
+use super::signs::signs;
+use super::unknown::unknown;
+use super::{Answer, Wanted, expect_answer, holds, joined, numbered, over_memory, rows_of};
 use std::process::Abort;
 use std::test::Fail;
 
@@ -94,6 +96,46 @@ fn edits_of_cut_files(rt: HostRuntime) -> Result<(), Fail> {
 #[test]
 fn dictionaries_of_cut_files(rt: HostRuntime) -> Result<(), Fail> {
     cut_rows(rt, &rt, &dictionaries())
+}
+
+/// Runs a row with its data set cut at each byte: the bytes before the cut alone, and all bytes in two pieces.
+fn cut_set_everywhere(rt: HostRuntime, abort: &impl Abort, row: &Row) -> Result<(), Fail> {
+    let input = joined(rt, bytes_of(row.start), row.input)?;
+    let output = joined(rt, front_of(row), row.lines)?;
+    let wanted = Wanted {
+        status: row.status,
+        output: output.as_slice(),
+        told: row.told,
+    };
+    let size = output.len().saturating_add(ROOM);
+    for cut in bytes_of(row.start).len()..input.len() {
+        let (front, _) = input.as_slice().split_at(cut);
+        let early = early_end(rt, cut)?;
+        let answer = over_memory(rt, row.words, front, WHOLE, size)?;
+        expect_cut(abort, row, wanted.output, early.as_slice(), &answer);
+        let answer = over_memory(rt, row.words, input.as_slice(), cut, size)?;
+        expect_answer(abort, row.name, &answer, wanted);
+    }
+    Ok(())
+}
+
+/// Runs rows so.
+fn cut_sets(rt: HostRuntime, abort: &impl Abort, tables: &[&'static [Row]]) -> Result<(), Fail> {
+    let rows = rows_of(rt, tables)?;
+    for row in rows.as_slice() {
+        cut_set_everywhere(rt, abort, row)?;
+    }
+    Ok(())
+}
+
+#[test]
+fn signs_of_cut_files(rt: HostRuntime) -> Result<(), Fail> {
+    cut_sets(rt, &rt, &signs())
+}
+
+#[test]
+fn unknown_sequences_of_cut_files(rt: HostRuntime) -> Result<(), Fail> {
+    cut_sets(rt, &rt, &unknown())
 }
 
 /// Expects what is answered to the first lines of a dump: a file of them, the fault of the whole, no transfer syntax so far,

@@ -78,7 +78,7 @@ const DUMPS: [Row; 11] = [
         start: Start::Implicit,
         input: b"(\0\x06\x01\x02\0\0\0\x01\x02\0T\x10\x10\x02\0\0\0\x01\x02\0`\00\x02\0\0\0\x01\x02",
         header: Start::Implicit,
-        lines: b"(0028,0106) UN 01\\02                                    #   2, 1 Unknown Tag & Data\n(5400,1010) UN 01\\02                                    #   2, 1 Unknown Tag & Data\n(6000,3000) UN 01\\02                                    #   2, 1 Unknown Tag & Data\n",
+        lines: b"(0028,0106) US 513                                      #   2, 1 SmallestImagePixelValue\n(5400,1010) OW 0201                                     #   2, 1 WaveformData\n(6000,3000) UN 01\\02                                    #   2, 1 Unknown Tag & Data\n",
         ..EMPTY
     },
     Row {

@@ -9,7 +9,7 @@ const SEQUENCE: &[u8] = b"\x08\0@\x11SQ\0\0\xff\xff\xff\xff";
 pub const OPENINGS: &[u8] = b"\x08\0@\x11SQ\0\0\xff\xff\xff\xff\xfe\xff\0\xe0\xff\xff\xff\xff";
 
 /// The ends of both.
-const ENDS: &[u8] = b"\xfe\xff\x0d\xe0\0\0\0\0\xfe\xff\xdd\xe0\0\0\0\0";
+pub const ENDS: &[u8] = b"\xfe\xff\x0d\xe0\0\0\0\0\xfe\xff\xdd\xe0\0\0\0\0";
 
 const FRAGMENTS: &[u8] = b"\xe0\x7f\x10\0OB\0\0\xff\xff\xff\xff";
 

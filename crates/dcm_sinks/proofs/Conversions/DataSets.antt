@@ -13,7 +13,7 @@ use Rattle.dcm_base.specs.declared.form.Form.TheVariants.{Value as a_value, Sequ
 use Rattle.dcm_base.specs.Tables.Representation.{unit}
 use Rattle.dcm_base.specs.Tree.Tree.{Trees, no_tree, leaf, sequence, fragments, Items, no_item, item}
 use Rattle.dcm_base.specs.Tree.Front.{Front, front, OpenTree, nothing_open, open_leaf, open_sequence, open_fragments, OpenItem, no_open_item, open_item}
-use Rattle.dcm_base.specs.Bytes.Spelling.{form}
+use Rattle.dcm_base.specs.Bytes.Spelling.{form, read_as}
 use Rattle.dcm_base.specs.Tree.Value.{order, whole_part}
 use Rattle.dcm_base.specs.Conversion.Recode.{head, even, leaf_head, leaf_bytes, recoded_leaf, item_head, item_delimiter, sequence_delimiter, recoded_fragment, recode_set, recode_items, recode, recode_open, recode_open_item, recode_open_fragment}
 use Rattle.dcm_base.specs.Steps.Atoms.{Atom, value_byte, closes_leaf, opens_item, closes_item, closes_sequence, fragments_then, ShowTrees, ShowItems, Shows, ShowsOpen, ShowsOpenItem, open_fragment_atoms, end_atoms}
@@ -204,7 +204,7 @@ module _ (target : Syntax) where
         let in_h : StaysShallow k (map value_byte raw ++ closes_leaf ∷ w.1) = stays_opened k a_value tag vr (Known (length value)) s (map value_byte raw ++ closes_leaf ∷ w.1) w.2 (subst (StaysShallow k) w.3 h) in
         let rest_h : StaysShallow k w.1 = stays_on k closes_leaf w.1 (stays_bytes k raw (closes_leaf ∷ w.1) in_h) in
         ap ready w.3
-        ∙ element_encodes (tag.element == 0) (form s vr (Known (length value))) a_value tag vr (Known (length value)) s (map value_byte raw ++ closes_leaf ∷ w.1) bytes (ready w.1) w.2
+        ∙ element_encodes (tag.element == 0) (form s (read_as s tag vr) (Known (length value))) a_value tag vr (Known (length value)) s (map value_byte raw ++ closes_leaf ∷ w.1) bytes (ready w.1) w.2
         (leaf_encodes tag vr value s w.1)
         (bytes_dropped 0 raw (closes_leaf ∷ w.1))
         ∙ ap (λ z. cond (tag.element == 0) [] bytes ++ z) (trees_encode k rest w.1 after rest_h w.4)
@@ -216,7 +216,7 @@ module _ (target : Syntax) where
         let in_h : StaysShallow (suc k) w.1 = stays_opened k a_sequence tag vr declared w.0 w.1 w.3 (subst (StaysShallow k) w.4 h) in
         let rest_h : StaysShallow k w.2 = stays_on (suc k) closes_sequence w.2 (stays_items (suc k) items w.1 (closes_sequence ∷ w.2) w.5 in_h) in
         ap ready w.4
-        ∙ element_encodes (tag.element == 0) (form w.0 vr declared) a_sequence tag vr declared w.0 w.1 bytes (ready w.2) w.3
+        ∙ element_encodes (tag.element == 0) (form w.0 (read_as w.0 tag vr) declared) a_sequence tag vr declared w.0 w.1 bytes (ready w.2) w.3
         (ap (λ z. first ++ z) (items_encode (suc k) items w.1 (closes_sequence ∷ w.2) in_h w.5) ∙ three first (recode_items target items) last (ready w.2))
         (items_dropped 0 (suc k) items w.1 (closes_sequence ∷ w.2) (within_itself k) in_h w.5)
         ∙ ap (λ z. cond (tag.element == 0) [] bytes ++ z) (trees_encode k rest w.2 after rest_h w.6)
@@ -230,7 +230,7 @@ module _ (target : Syntax) where
         let in_h : StaysShallow (suc k) contents = stays_opened k a_fragment_list tag vr Undefined w.0 contents w.2 (subst (StaysShallow k) w.3 h) in
         let rest_h : StaysShallow k w.1 = stays_on (suc k) closes_sequence w.1 (stays_fragments (suc k) values (closes_sequence ∷ w.1) in_h) in
         ap ready w.3
-        ∙ element_encodes (tag.element == 0) (form w.0 vr Undefined) a_fragment_list tag vr Undefined w.0 contents bytes (ready w.1) w.2
+        ∙ element_encodes (tag.element == 0) (form w.0 (read_as w.0 tag vr) Undefined) a_fragment_list tag vr Undefined w.0 contents bytes (ready w.1) w.2
         (ap (λ z. first ++ z) (fragments_encode values (closes_sequence ∷ w.1)) ∙ three first inner last (ready w.1))
         (fragments_dropped 0 values (closes_sequence ∷ w.1) refl)
         ∙ ap (λ z. cond (tag.element == 0) [] bytes ++ z) (trees_encode k rest w.1 after rest_h w.4)
@@ -282,7 +282,7 @@ module _ (target : Syntax) where
         let raw : List ℕ = order s vr value in
         let bytes : List ℕ = leaf_head target tag vr size ++ leaf_bytes target vr size (whole_part (unit vr) value) in
         ap ready w.3
-        ∙ element_encodes (tag.element == 0) (form s vr (Known size)) a_value tag vr (Known size) s (map value_byte raw) bytes [] w.1
+        ∙ element_encodes (tag.element == 0) (form s (read_as s tag vr) (Known size)) a_value tag vr (Known size) s (map value_byte raw) bytes [] w.1
         (leaf_open tag vr size value s ∙ sym (append-nil bytes))
         (last_bytes_dropped 0 raw)
         ∙ append-nil (cond (tag.element == 0) [] bytes)
@@ -292,7 +292,7 @@ module _ (target : Syntax) where
         let in_h : StaysShallow (suc k) w.1 = stays_opened k a_sequence tag vr declared w.0 w.1 w.3 (subst (StaysShallow k) w.4 h) in
         let last_h : StaysShallow (suc k) w.2 = stays_items (suc k) items w.1 w.2 w.5 in_h in
         ap ready w.4
-        ∙ element_encodes (tag.element == 0) (form w.0 vr declared) a_sequence tag vr declared w.0 w.1 bytes [] w.3
+        ∙ element_encodes (tag.element == 0) (form w.0 (read_as w.0 tag vr) declared) a_sequence tag vr declared w.0 w.1 bytes [] w.3
         (ap (λ z. first ++ z) (items_encode (suc k) items w.1 w.2 in_h w.5)
         ∙ ap (λ z. first ++ (recode_items target items ++ z)) (open_item_encodes (suc k) last w.2 last_h w.6)
         ∙ sym (append_assoc first _ _)
@@ -304,7 +304,7 @@ module _ (target : Syntax) where
         let inner : List ℕ = flat_map (recoded_fragment target) values in
         let bytes : List ℕ = (first ++ inner) ++ recode_open_fragment target last in
         ap ready w.3
-        ∙ element_encodes (tag.element == 0) (form w.0 vr Undefined) a_fragment_list tag vr Undefined w.0 (fragments_then values (open_fragment_atoms last)) bytes [] w.1
+        ∙ element_encodes (tag.element == 0) (form w.0 (read_as w.0 tag vr) Undefined) a_fragment_list tag vr Undefined w.0 (fragments_then values (open_fragment_atoms last)) bytes [] w.1
         (ap (λ z. first ++ z) (fragments_encode values (open_fragment_atoms last))
         ∙ ap (λ z. first ++ (inner ++ z)) (fragment_open last)
         ∙ sym (append_assoc first _ _)

@@ -11,9 +11,10 @@ use Rattle.dcm_base.specs.declared.syntax.Syntax.{Syntax}
 use Rattle.dcm_base.specs.declared.syntax.Syntax.TheVariants.{Implicit as implicit_in, Little as little_in, Big as big_in}
 use Rattle.dcm_base.specs.Tables.Representation.{letters, is_long}
 use Rattle.dcm_base.specs.Conversion.Recode.{number_bytes, length_number, tag_bytes, head, even, is_explicit, too_long, leaf_head}
-use Rattle.dcm_base.specs.Bytes.Spelling.{form}
+use Rattle.dcm_base.specs.Bytes.Spelling.{form, read_as}
 use Rattle.dcm_base.specs.declared.form.Form.TheVariants.{Value as a_value, FragmentList as a_fragment_list, Nothing as no_form}
 use Rattle.dcm_head.specs.HeadBytes.{FitsShort}
+use Rattle.dcm_base.proofs.DataSets.Alike.{undefined_same}
 
 -- lengths of the same bytes
 abbrev pub SameBytes : Length → Length → Type 0
@@ -65,7 +66,7 @@ head_evened s tag vr size l same exact =
     head_same s tag (cond (too_long s vr size) UN vr) l (Known (even size)) same (λ explicit short. exact (let few = short_size s vr size explicit short in omega (arith, few)))
 
 -- a fragment list has a representation whose length stands in four bytes
-pub fragments_long : (s : Syntax) (vr : Vr) (declared : Length) → form s vr declared ≡ a_fragment_list → is_long vr ≡ true
+fragments_long : (s : Syntax) (vr : Vr) (declared : Length) → form s vr declared ≡ a_fragment_list → is_long vr ≡ true
 unfolding form
 fragments_long s AE (Known size) e = absurd (let no : a_value ≡ a_fragment_list = e in cc)
 fragments_long s AE Undefined e = absurd (let no : no_form ≡ a_fragment_list = e in cc)
@@ -122,3 +123,13 @@ fragments_long s UN declared e = refl
 fragments_long s UR declared e = refl
 fragments_long s UT declared e = refl
 fragments_long s UV declared e = refl
+
+no_known_list : (s : Syntax) (vr : Vr) (n : ℕ) → form s vr (Known n) ≡ a_fragment_list → ⊥
+unfolding form
+no_known_list s SQ n e = cc
+no_known_list s vr n e = cc
+
+-- a fragment list has a representation whose length stands in four bytes, as which it is read
+pub read_long : (s : Syntax) (t : Tag) (vr : Vr) (declared : Length) → form s (read_as s t vr) declared ≡ a_fragment_list → is_long vr ≡ true
+read_long s t vr (Known n) e = absurd (no_known_list s (read_as s t vr) n e)
+read_long s t vr Undefined e = fragments_long s vr Undefined (sym (undefined_same s t vr) ∙ e)

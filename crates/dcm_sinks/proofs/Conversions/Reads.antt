@@ -10,7 +10,7 @@ use Rattle.dcm_base.specs.declared.length.Length.TheVariants.{Known, Undefined}
 use Rattle.dcm_base.specs.declared.form.Form.{Form}
 use Rattle.dcm_base.specs.declared.form.Form.TheVariants.{Value as a_value, Sequence as a_sequence, FragmentList as a_fragment_list, Nothing as no_form}
 use Rattle.dcm_base.specs.Tree.Front.{Front, front}
-use Rattle.dcm_base.specs.Bytes.Spelling.{form, SpellsFront}
+use Rattle.dcm_base.specs.Bytes.Spelling.{form, SpellsFront, read_as, after_trees}
 use Rattle.dcm_base.specs.Reading.Stop.{Stop}
 use Rattle.dcm_base.specs.Reading.Bars.{is_fragment_form, holds_fragments, target_bar}
 use Rattle.dcm_base.specs.Reading.Reads.{INPUT_LIMIT, Reads, ended}
@@ -50,7 +50,7 @@ byte_keeps None s b = refl
 byte_keeps (Some c) s b = refl
 
 live_keeps : (s : EncodeState) (a : Atom) → (live_step s a).target ≡ s.target
-live_keeps s (opens tag vr declared syntax) = unless_dropped_keeps (tag.element == 0) (form syntax vr declared) s vr declared syntax
+live_keeps s (opens tag vr declared syntax) = unless_dropped_keeps (tag.element == 0) (form syntax (read_as syntax tag vr) declared) s vr declared syntax
 live_keeps s (value_byte b) = byte_keeps s.copying s b
 live_keeps s closes_leaf = refl
 live_keeps s (opens_item declared) = refl
@@ -87,10 +87,10 @@ read_encodes : (target s : Syntax) (f : Front) → IsRead s f → encodes (encod
 unfolding SpellsFront front_atoms recode
 read_encodes target s (front whole o reached closed) r =
     let w = r.spelled in
-    let others : List Atom = open_atoms s o (end_atoms closed) in
+    let others : List Atom = open_atoms (after_trees s whole) o (end_atoms closed) in
     let shown = trees_shown s whole r.bytes w.0 others w.1 in
     trees_encode target 0 whole (front_atoms s (front whole o reached closed)) others r.shallow shown
-    ∙ ap (λ z. recode_set target whole ++ z) (open_encodes target 0 o closed others (stays_trees 0 whole (front_atoms s (front whole o reached closed)) others shown r.shallow) (open_shown s o w.0 (end_atoms closed) w.2))
+    ∙ ap (λ z. recode_set target whole ++ z) (open_encodes target 0 o closed others (stays_trees 0 whole (front_atoms s (front whole o reached closed)) others shown r.shallow) (open_shown (after_trees s whole) o w.0 (end_atoms closed) w.2))
 
 pub reads_whole : (target s : Syntax) (start : ℕ) (bytes : List ℕ) (f : Front) (stop : Stop) → start ≤ INPUT_LIMIT → Reads (target_bar target) s start bytes f stop
     → encodes (encode_start target) (front_atoms s f) ≡ recode target f

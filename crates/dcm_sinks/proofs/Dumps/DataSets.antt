@@ -17,7 +17,7 @@ use Rattle.dcm_base.specs.Tables.Tag.{item_tag}
 use Rattle.dcm_base.specs.Tables.Representation.{letters}
 use Rattle.dcm_base.specs.Tree.Tree.{Trees, no_tree, leaf, sequence, fragments, Items, no_item, item}
 use Rattle.dcm_base.specs.Tree.Front.{Front, front, OpenTree, nothing_open, open_leaf, open_sequence, open_fragments, OpenItem, no_open_item, open_item}
-use Rattle.dcm_base.specs.Bytes.Spelling.{form}
+use Rattle.dcm_base.specs.Bytes.Spelling.{form, read_as}
 use Rattle.dcm_base.specs.Tree.Value.{order}
 use Rattle.dcm_base.specs.Dump.ValueText.{shape, hexadecimal, text_of, count, shown_so_far, padded, shortened, display}
 use Rattle.dcm_base.specs.Dump.Dump.{line_start, line, leaf_line, fragment_line, open_line, sequence_line, item_line, sequence_end_line, item_end_line, dump_set, dump_items, dump_front, dump_open, dump_open_item, open_fragment}
@@ -64,7 +64,7 @@ module _ (d : Dictionary) (mode : Mode) where
       ≡ dump_opens_writes g (between d mode lengths) tag vr declared s ++ dumps (dump_opens g (between d mode lengths) tag vr declared s) atoms
   opening lengths f g tag vr declared s atoms e = ap (λ (f : Form). dump_opens_writes f (between d mode lengths) tag vr declared s ++ dumps (dump_opens f (between d mode lengths) tag vr declared s) atoms) e
 
-  pub leaf_dumps : (lengths : List Length) (tag : Tag) (vr : Vr) (value : List ℕ) (s : Syntax) (others : List Atom) → form s vr (Known (length value)) ≡ a_value
+  pub leaf_dumps : (lengths : List Length) (tag : Tag) (vr : Vr) (value : List ℕ) (s : Syntax) (others : List Atom) → form s (read_as s tag vr) (Known (length value)) ≡ a_value
       → dumps (between d mode lengths) (opens tag vr (Known (length value)) s ∷ (map value_byte (order s vr value) ++ closes_leaf ∷ others)) ≡ leaf_line d mode (length lengths) tag vr value ++ dumps (between d mode lengths) others
   leaf_dumps lengths tag vr value s others e =
       let n : ℕ = length value in
@@ -77,7 +77,7 @@ module _ (d : Dictionary) (mode : Mode) where
       ap (λ (k : ℕ). feeds (started vr s k mode) raw ++ finishes (fold step (opened (started vr s k mode)) raw)) (sym same) ∙ whole_text vr s mode raw ∙ ap (text_of mode vr) (order_twice s vr value) in
       let counted : multiplicity last ≡ count vr value =
       ap (λ (k : ℕ). multiplicity (fold step (opened (started vr s k mode)) raw)) (sym same) ∙ whole_count vr s mode raw ∙ ap (count vr) (order_twice s vr value) in
-      opening lengths (form s vr (Known n)) a_value tag vr (Known n) s (map value_byte raw ++ closes_leaf ∷ others) e
+      opening lengths (form s (read_as s tag vr) (Known n)) a_value tag vr (Known n) s (map value_byte raw ++ closes_leaf ∷ others) e
       ∙ closes d mode lengths (Element tag vr) vr s n raw (omega (arith, same)) others
       ∙ ap (λ z. start ++ (z ++ (line_rest d tag (Known last.size) (multiplicity last) ++ behind))) shown
       ∙ ap (λ k. start ++ (text_of mode vr value ++ (line_rest d tag (Known k) (multiplicity last) ++ behind))) (keeps_size d mode lengths (Element tag vr) vr s n raw (omega (arith, same)))
@@ -119,17 +119,17 @@ module _ (d : Dictionary) (mode : Mode) where
   open_shallow : (n : ℕ) (atoms : List Atom) → StaysShallow n atoms → n ≤ 64
   open_shallow n atoms h = h [] atoms refl
 
-  sequence_opens : (n : ℕ) (lengths : List Length) (tag : Tag) (vr : Vr) (declared : Length) (s : Syntax) (contents : List Atom) → form s vr declared ≡ a_sequence → length lengths ≡ n + n → StaysShallow (suc n) contents
+  sequence_opens : (n : ℕ) (lengths : List Length) (tag : Tag) (vr : Vr) (declared : Length) (s : Syntax) (contents : List Atom) → form s (read_as s tag vr) declared ≡ a_sequence → length lengths ≡ n + n → StaysShallow (suc n) contents
       → dumps (between d mode lengths) (opens tag vr declared s ∷ contents) ≡ sequence_line d (length lengths) tag vr declared ++ dumps (between d mode (declared ∷ lengths)) contents
   sequence_opens n lengths tag vr declared s contents f e h =
-      opening lengths (form s vr declared) a_sequence tag vr declared s contents f
+      opening lengths (form s (read_as s tag vr) declared) a_sequence tag vr declared s contents f
       ∙ ap (λ t. sequence_line d (length lengths) tag vr declared ++ dumps t contents) (deepens lengths declared (set_fits n (length lengths) e (open_shallow (suc n) contents h)))
 
-  list_opens : (n : ℕ) (lengths : List Length) (tag : Tag) (vr : Vr) (s : Syntax) (contents : List Atom) → form s vr Undefined ≡ a_fragment_list → length lengths ≡ n + n → StaysShallow (suc n) contents
+  list_opens : (n : ℕ) (lengths : List Length) (tag : Tag) (vr : Vr) (s : Syntax) (contents : List Atom) → form s (read_as s tag vr) Undefined ≡ a_fragment_list → length lengths ≡ n + n → StaysShallow (suc n) contents
       → dumps (between d mode lengths) (opens tag vr Undefined s ∷ contents)
       ≡ line d (length lengths) tag (letters vr) (codes "(PixelSequence)") Undefined 1 ++ dumps (between d mode (Undefined ∷ lengths)) contents
   list_opens n lengths tag vr s contents f e h =
-      opening lengths (form s vr Undefined) a_fragment_list tag vr Undefined s contents f
+      opening lengths (form s (read_as s tag vr) Undefined) a_fragment_list tag vr Undefined s contents f
       ∙ ap (λ t. line d (length lengths) tag (letters vr) (codes "(PixelSequence)") Undefined 1 ++ dumps t contents) (deepens lengths Undefined (set_fits n (length lengths) e (open_shallow (suc n) contents h)))
 
   item_opens : (n : ℕ) (lengths : List Length) (declared : Length) (contents : List Atom) → length lengths + 1 ≡ n + n → StaysShallow n contents
@@ -221,7 +221,7 @@ module _ (d : Dictionary) (mode : Mode) where
         let start : List ℕ = line_start (length lengths) tag (letters vr) in
         let misses : length raw < size = subst (λ (n : ℕ). n < size) (sym (length-order s vr value)) w.2 in
         ap (dumps (between d mode lengths)) w.3
-        ∙ opening lengths (form s vr (Known size)) a_value tag vr (Known size) s (map value_byte raw) w.1
+        ∙ opening lengths (form s (read_as s tag vr) (Known size)) a_value tag vr (Known size) s (map value_byte raw) w.1
         ∙ stays d mode lengths (Element tag vr) vr s size raw (omega (arith, misses))
         ∙ ap (open_line mode start) (text_so_far vr s size mode raw misses)
         ∙ open_same mode start (shown_so_far (shape vr) vr size (order s vr raw))

@@ -8,7 +8,7 @@ use Rattle.dcm_base.specs.declared.length.Length.TheVariants.{Known, Undefined}
 use Rattle.dcm_base.specs.declared.form.Form.{Form}
 use Rattle.dcm_base.specs.declared.form.Form.TheVariants.{Value as a_value, Sequence as a_sequence, FragmentList as a_fragment_list}
 use Rattle.dcm_base.specs.Tree.Tree.{Trees, no_tree, leaf, sequence, fragments, Items, no_item, item}
-use Rattle.dcm_base.specs.Bytes.Spelling.{form}
+use Rattle.dcm_base.specs.Bytes.Spelling.{form, read_as}
 use Rattle.dcm_base.specs.Reading.Stop.{opens_list}
 use Rattle.dcm_base.specs.Tree.Value.{order}
 use Rattle.dcm_base.specs.Steps.Atoms.{Atom, opens, value_byte, closes_leaf, opens_item, closes_item, closes_sequence, opens_fragment, fragments_then, ShowTrees, ShowItems}
@@ -17,7 +17,7 @@ use Rattle.dcm_sinks.specs.Laws.{lists_behind, StaysShallow}
 pub stays_on : (n : ℕ) (a : Atom) (atoms : List Atom) → StaysShallow n (a ∷ atoms) → StaysShallow (lists_behind n a) atoms
 stays_on n a atoms h = λ first rest e. h (a ∷ first) rest (ap (λ xs. a ∷ xs) e)
 
-pub stays_opened : (n : ℕ) (f : Form) (tag : Tag) (vr : Vr) (declared : Length) (s : Syntax) (atoms : List Atom) → form s vr declared ≡ f
+pub stays_opened : (n : ℕ) (f : Form) (tag : Tag) (vr : Vr) (declared : Length) (s : Syntax) (atoms : List Atom) → form s (read_as s tag vr) declared ≡ f
     → StaysShallow n (opens tag vr declared s ∷ atoms) → StaysShallow (cond (opens_list f) (suc n) n) atoms
 stays_opened n f tag vr declared s atoms e h = subst (λ (g : Form). StaysShallow (cond (opens_list g) (suc n) n) atoms) e (stays_on n (opens tag vr declared s) atoms h)
 

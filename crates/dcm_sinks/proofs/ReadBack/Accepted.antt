@@ -15,12 +15,12 @@ use Rattle.dcm_base.specs.declared.level.Container.TheVariants.{DataSet as the_d
 use Rattle.dcm_base.specs.Tables.Number.{number}
 use Rattle.dcm_base.specs.Tables.Tag.{is_item, is_item_end, is_sequence_end}
 use Rattle.dcm_base.specs.Bytes.Head.{tag_at, vr_at, length_at, long_length, head_size}
-use Rattle.dcm_base.specs.Bytes.Spelling.{form}
+use Rattle.dcm_base.specs.Bytes.Spelling.{form, read_as}
 use Rattle.dcm_base.specs.Reading.Place.{room, passes, depth, is_data, is_undefined, is_allowed}
 use Rattle.dcm_base.specs.Reading.Stop.{Stop, complete, refused, HeadBar, first_case, is_empty, is_the_data_set, opens_list, has_no_form, with_length, barred, element_stop, item_stop, head_stop, place_stop, innermost_stop, is_undecided}
 use Rattle.dcm_base.specs.Reading.Reads.{INPUT_LIMIT}
 use Rattle.dcm_base.specs.Steps.Atoms.{Atom, opens, value_byte, closes_leaf, opens_item, closes_item, closes_sequence, opens_fragment, ends}
-use Rattle.dcm_stream.specs.Reading.{Reading, start_of, Opened, closing, size_of, ends_at, closes, element_opens, item_opens, head_opens, full_closed, settled, head_read, byte_read, read_byte, reads_byte, read_all, end_shows}
+use Rattle.dcm_stream.specs.Reading.{Reading, start_of, Opened, closing, size_of, ends_at, closes, element_opens, item_opens, head_opens, full_closed, settled, head_read, byte_read, read_byte, reads_byte, read_all, end_shows, sign_reads, value_left}
 use Rattle.dcm_stream.proofs.Steps.StopsStay.{tests}
 use Rattle.dcm_stream.proofs.Heads.Stops.{FitsHead, fits_element, fits_item, fits_delimiter, Fits, place_none}
 use Rattle.dcm_stream.proofs.Heads.Opening.{opens_element, opens_other}
@@ -132,7 +132,7 @@ module _ (bar : HeadBar) where
       ap (λ (x : Option Vr). element_stop bar s around position z x) (sym v)
       ∙ sym (ap (λ (x : Bool). cond (not x) (element_stop bar s around position z (vr_at s z)) (cond (is_item (tag_at s z)) (item_stop inner.container around position (long_length (number s 4 (drop 4 z)))) None)) g)
       ∙ h in
-      bar_untold (passes (head_size s vr) (room position around)) (nat_lt (length z) (head_size s vr)) (has_no_form (form s vr l)) (passes (with_length (head_size s vr) l) (room position around)) (opens_list (form s vr l) && nat_le 64 (depth around))
+      bar_untold (passes (head_size s vr) (room position around)) (nat_lt (length z) (head_size s vr)) (has_no_form (form s (read_as s (tag_at s z) vr) l)) (passes (with_length (head_size s vr) l) (room position around)) (opens_list (form s (read_as s (tag_at s z) vr) l) && nat_le 64 (depth around))
       (refused PassesEnd position) (refused EndsEarly (position + length z)) (refused UndefinedLength position) (refused PassesEnd position) (refused TooDeep position) position (bar (tag_at s z) vr l) k
 
   head_accepted : (begin : ℕ) (inner : Level) (outer : List Level) (position : ℕ) (z : List ℕ) → place_stop bar inner (inner ∷ outer) position z ≡ None → Fits inner (inner ∷ outer) position z → FitsHead inner (inner ∷ outer) position z
@@ -140,7 +140,7 @@ module _ (bar : HeadBar) where
   head_accepted begin inner outer position z e fits (fits_element vr g f) =
       let l = length_at inner.syntax vr z in
       subst (λ (o : Opened). AllAccepted bar o.atoms) (sym (opens_element begin z inner outer vr g f.vr_is))
-      (element_accepted (form inner.syntax vr l) inner.syntax (tag_at inner.syntax z) vr l begin (inner ∷ outer)
+      (element_accepted (form inner.syntax (read_as inner.syntax (tag_at inner.syntax z) vr) l) inner.syntax (tag_at inner.syntax z) vr l begin (inner ∷ outer)
       (allowed_data inner.container inner.declared (tag_at inner.syntax z) g fits.allowed, element_unbarred inner (inner ∷ outer) position z vr e g f.vr_is))
   head_accepted begin inner outer position z e fits (fits_item g i u f) =
       subst (λ (o : Opened). AllAccepted bar o.atoms) (sym (opens_other begin z inner outer true g i)) (item_accepted inner.container inner.syntax (long_length (number inner.syntax 4 (drop 4 z))) begin (inner ∷ outer))
@@ -166,7 +166,7 @@ module _ (bar : HeadBar) where
   pub byte_accepted : (r : Reading) (b : ℕ) (halt : Option Stop) (within : Bool) (n : ℕ) → AllAccepted bar (byte_read bar r b halt within n).1
   byte_accepted r b (Some stop) within n = tt
   byte_accepted r b None false n = tt
-  byte_accepted r b None true (suc n) = settled_accepted (r.position + 1) (record { levels = r.levels; left = n; atoms = value_byte b ∷ closing n }) n (tt, closing_accepted n)
+  byte_accepted r b None true (suc n) = settled_accepted (r.position + 1) (value_left n (sign_reads (b ∷ []) r.sign) r.levels (value_byte b ∷ [])) n (tt, closing_accepted n)
   byte_accepted r b None true zero = read_accepted r (r.head ++ b ∷ []) (innermost_stop bar r.levels r.position (r.head ++ b ∷ [])) refl
 
   all_read : (bytes : List ℕ) (r : Reading) (atoms : List Atom) → AllAccepted bar atoms → AllAccepted bar (fold (reads_byte (λ xs. bar)) (r, atoms) bytes).1

@@ -13,7 +13,7 @@ use Rattle.dcm_base.specs.declared.length.Length.{Length}
 use Rattle.dcm_base.specs.Tables.Number.{number}
 use Rattle.dcm_base.specs.Tables.Tag.{is_item, item_tag}
 use Rattle.dcm_base.specs.Bytes.Head.{ElementHead, ItemHead, Delimiter, tag_at, vr_at, long_length, head_size}
-use Rattle.dcm_base.specs.Bytes.Spelling.{form}
+use Rattle.dcm_base.specs.Bytes.Spelling.{form, read_as}
 use Rattle.dcm_base.specs.declared.level.Level.{Level}
 use Rattle.dcm_base.specs.Reading.Place.{room, passes, depth, is_allowed, is_undefined, least, distance}
 use Rattle.dcm_base.specs.Reading.Stop.{Stop, refused, HeadBar, is_empty, is_the_data_set, is_fragment_list, opens_list, has_no_form, with_length, barred, element_stop, item_stop, head_stop, place_stop, first_case, is_undecided}
@@ -21,19 +21,20 @@ use Rattle.dcm_base.specs.Reading.Reads.{INPUT_LIMIT}
 use Rattle.dcm_base.specs.Steps.Atoms.{value_byte, Atom}
 use Rattle.dcm_base.proofs.DataSets.Extend.{tag_at_extends, vr_at_extends}
 use Rattle.dcm_base.proofs.DataSets.Heads.{some_same, eight_le_head_size}
-use Rattle.dcm_stream.specs.Reading.{Reading, Opened, closing, element_opens, item_opens, head_opens, ends_at, closes, full_closed, settled, head_read, byte_read, read_byte}
+use Rattle.dcm_stream.specs.Reading.{Reading, Opened, closing, element_opens, item_opens, head_opens, ends_at, closes, full_closed, settled, head_read, byte_read, read_byte, Sign, sign_reads, sign_ends, left_sign, left_levels, value_left, without_value}
 use Rattle.dcm_stream.proofs.Steps.StopsStay.{tests, element_tests, place_extends}
 use Rattle.dcm_stream.proofs.Heads.Stops.{FitsHead, fits_element, fits_item, fits_delimiter, Fits, place_none}
 use Rattle.dcm_stream.proofs.Heads.Opening.{JustHead, opens_element, opens_other}
+use Rattle.std.proofs.lemmas.List.{append-nil}
 
 -- ---- a reading on its way
 
 -- n bytes of a value are to come, or a head
-abbrev pub at_value : (position : ℕ) → (left : ℕ) → List Level → Reading
-at_value position left ls = record { position = position; head = []; left = left; levels = ls; halt = None }
+abbrev pub at_value : (position : ℕ) → (left : ℕ) → Option Sign → List Level → Reading
+at_value position left sign ls = record { position = position; head = []; left = left; sign = sign; levels = ls; halt = None }
 
 abbrev pub at_head : (position : ℕ) → List Level → Reading
-at_head position ls = at_value position 0 ls
+at_head position ls = at_value position 0 None ls
 
 abbrev pub goes_by : HeadBar → Reading → ℕ → Reading
 goes_by bar r b = (read_byte bar r b).0
@@ -42,11 +43,11 @@ abbrev pub goes : HeadBar → Reading → List ℕ → Reading
 goes bar r bytes = fold (goes_by bar) r bytes
 
 -- over these bytes, wherever they stand
-abbrev pub Leads : HeadBar → List Level → List ℕ → (left : ℕ) → List Level → Type 0
-Leads bar ls bytes left ms = (p : ℕ) → p + length bytes ≤ INPUT_LIMIT → goes bar (at_head p ls) bytes ≡ at_value (p + length bytes) left ms
+abbrev pub Leads : HeadBar → List Level → List ℕ → (left : ℕ) → Option Sign → List Level → Type 0
+Leads bar ls bytes left sign ms = (p : ℕ) → p + length bytes ≤ INPUT_LIMIT → goes bar (at_head p ls) bytes ≡ at_value (p + length bytes) left sign ms
 
 abbrev pub Passes : HeadBar → List Level → List ℕ → List Level → Type 0
-Passes bar ls bytes ms = Leads bar ls bytes 0 ms
+Passes bar ls bytes ms = Leads bar ls bytes 0 None ms
 
 pub passes_none : (bar : HeadBar) (ls : List Level) → Passes bar ls [] ls
 passes_none bar ls p le = ap (λ (n : ℕ). at_head n ls) (let e : p ≡ p + 0 = omega arith in e)
@@ -80,38 +81,54 @@ endless_closed position [] h = refl
 endless_closed position (inner ∷ outer) h =
     ap (λ (e : Option ℕ). cond {A = List Level × List Atom} (ends_at position e) ((full_closed position outer).0, closes inner.container ∷ (full_closed position outer).1) (inner ∷ outer, [])) h.0
 
-pub settled_at : (position : ℕ) (o : Opened) (left : ℕ) → Endless o.levels → (settled position o left).0 ≡ at_value position left o.levels
+pub settled_at : (position : ℕ) (o : Opened) (left : ℕ) → Endless o.levels → (settled position o left).0 ≡ at_value position left o.sign o.levels
 settled_at position o (suc n) h = refl
 settled_at position o zero h =
     let e : (full_closed position o.levels).0 ≡ o.levels = ap (λ (p : List Level × List Atom). p.0) (endless_closed position o.levels h) in
-    ap (λ (ls : List Level). record { position = position; head = []; left = 0; levels = ls; halt = cond (passes 8 (room position ls)) (Some (refused PassesEnd position)) None }) e
-    ∙ ap (λ (r : Option ℕ). record { position = position; head = []; left = 0; levels = o.levels; halt = cond (passes 8 r) (Some (refused PassesEnd position)) None }) (endless_room position o.levels h)
+    ap (λ (ls : List Level). record { position = position; head = []; left = 0; sign = o.sign; levels = ls; halt = cond (passes 8 (room position ls)) (Some (refused PassesEnd position)) None }) e
+    ∙ ap (λ (r : Option ℕ). record { position = position; head = []; left = 0; sign = o.sign; levels = o.levels; halt = cond (passes 8 r) (Some (refused PassesEnd position)) None }) (endless_room position o.levels h)
 
 -- ---- values
 
-byte_of_value : (bar : HeadBar) (p n : ℕ) (ls : List Level) (b : ℕ) → Endless ls → p < INPUT_LIMIT → goes_by bar (at_value p (suc n) ls) b ≡ at_value (p + 1) n ls
+-- another syntax changes no end
+pub endless_left : (left : ℕ) (sign : Option Sign) (ls : List Level) → Endless ls → Endless (left_levels left sign ls)
+endless_left zero None ls h = h
+endless_left zero (Some sign) [] h = h
+endless_left zero (Some sign) (inner ∷ outer) h = h
+endless_left (suc left) sign ls h = h
+
+byte_of_value : (bar : HeadBar) (p n : ℕ) (sign : Option Sign) (ls : List Level) (b : ℕ) → Endless ls → p < INPUT_LIMIT
+    → (let next : Option Sign = sign_reads (b ∷ []) sign in goes_by bar (at_value p (suc n) sign ls) b ≡ at_value (p + 1) n (left_sign n next) (left_levels n next ls))
 unfolding read_byte
-byte_of_value bar p n ls b h lt =
-    ap (λ (t : Bool). (byte_read bar (at_value p (suc n) ls) b None t (suc n)).0) (lt-ltb (p + 0) INPUT_LIMIT (omega arith))
-    ∙ settled_at (p + 1) (record { levels = ls; left = n; atoms = value_byte b ∷ closing n }) n h
+byte_of_value bar p n sign ls b h lt =
+    ap (λ (t : Bool). (byte_read bar (at_value p (suc n) sign ls) b None t (suc n)).0) (lt-ltb (p + 0) INPUT_LIMIT (omega arith))
+    ∙ settled_at (p + 1) (value_left n (sign_reads (b ∷ []) sign) ls (value_byte b ∷ [])) n (endless_left n (sign_reads (b ∷ []) sign) ls h)
 
-value_goes : (bar : HeadBar) (n : ℕ) (ls : List Level) (v : List ℕ) (p : ℕ) → Endless ls → length v ≡ n → p + n ≤ INPUT_LIMIT → goes bar (at_value p n ls) v ≡ at_head (p + n) ls
-value_goes bar n ls [] p h l le =
-    ap (λ (k : ℕ). at_value p k ls) (sym l) ∙ ap (λ (k : ℕ). at_head k ls) (let e : p ≡ p + n = omega (arith, l) in e)
-value_goes bar zero ls (b ∷ v) p h l le = absurd (omega (arith, l))
-value_goes bar (suc n) ls (b ∷ v) p h l le =
-    ap (λ (r : Reading). fold (goes_by bar) r v) (byte_of_value bar p n ls b h (omega arith))
-    ∙ value_goes bar n ls v (p + 1) h (omega (arith, l)) (omega arith)
-    ∙ ap (λ (k : ℕ). at_head k ls) (let e : p + 1 + n ≡ p + suc n = omega arith in e)
+-- what is kept of a value, by the bytes that came
+module _ (kept : List ℕ → Option Sign) (more : (w : List ℕ) (b : ℕ) → sign_reads (b ∷ []) (kept w) ≡ kept (w ++ b ∷ [])) where
+  -- so many bytes are to come after some
+  abbrev within_value : (position left : ℕ) → List ℕ → List Level → Reading
+  within_value p n w ls = at_value p n (left_sign n (kept w)) (left_levels n (kept w) ls)
 
--- a head of a value, and the value
-pub value_passes : (bar : HeadBar) (ls ms : List Level) (z v : List ℕ) (n : ℕ) → Leads bar ls z n ms → Endless ms → length v ≡ n → Passes bar ls (z ++ v) ms
-value_passes bar ls ms z v n h free l p le =
-    let size : length (z ++ v) ≡ length z + length v = length-append z v in
-    fold-append (goes_by bar) (at_head p ls) z v
-    ∙ ap (λ (r : Reading). fold (goes_by bar) r v) (h p (omega (arith, size)))
-    ∙ value_goes bar n ms v (p + length z) free l (omega (arith, size, l))
-    ∙ ap (λ (k : ℕ). at_head k ms) (let e : p + length z + n ≡ p + length (z ++ v) = omega (arith, size, l) in e)
+  value_goes : (bar : HeadBar) (n : ℕ) (ls : List Level) (w v : List ℕ) (p : ℕ) → Endless ls → length v ≡ n → p + n ≤ INPUT_LIMIT → goes bar (within_value p n w ls) v ≡ at_head (p + n) (sign_ends (kept (w ++ v)) ls)
+  value_goes bar n ls w [] p h l le =
+      ap (λ (k : ℕ). within_value p k w ls) (sym l) ∙ ap (λ (k : ℕ). at_head k (sign_ends (kept w) ls)) (let e : p ≡ p + n = omega (arith, l) in e)
+      ∙ ap (λ (x : List ℕ). at_head (p + n) (sign_ends (kept x) ls)) (sym (append-nil w))
+  value_goes bar zero ls w (b ∷ v) p h l le = absurd (omega (arith, l))
+  value_goes bar (suc n) ls w (b ∷ v) p h l le =
+      ap (λ (r : Reading). fold (goes_by bar) r v) (byte_of_value bar p n (kept w) ls b h (omega arith) ∙ ap (λ (x : Option Sign). at_value (p + 1) n (left_sign n x) (left_levels n x ls)) (more w b))
+      ∙ value_goes bar n ls (w ++ b ∷ []) v (p + 1) h (omega (arith, l)) (omega arith)
+      ∙ ap (λ (k : ℕ). at_head k (sign_ends (kept ((w ++ b ∷ []) ++ v)) ls)) (let e : p + 1 + n ≡ p + suc n = omega arith in e)
+      ∙ ap (λ (x : List ℕ). at_head (p + suc n) (sign_ends (kept x) ls)) (append_assoc w (b ∷ []) v)
+
+  -- a head of a value, and the value
+  pub value_passes : (bar : HeadBar) (ls ms : List Level) (z v : List ℕ) (n : ℕ) → Leads bar ls z n (left_sign n (kept [])) (left_levels n (kept []) ms) → Endless ms → length v ≡ n → Passes bar ls (z ++ v) (sign_ends (kept v) ms)
+  value_passes bar ls ms z v n h free l p le =
+      let size : length (z ++ v) ≡ length z + length v = length-append z v in
+      fold-append (goes_by bar) (at_head p ls) z v
+      ∙ ap (λ (r : Reading). fold (goes_by bar) r v) (h p (omega (arith, size)))
+      ∙ value_goes bar n ms [] v (p + length z) free l (omega (arith, size, l))
+      ∙ ap (λ (k : ℕ). at_head k (sign_ends (kept v) ms)) (let e : p + length z + n ≡ p + length (z ++ v) = omega (arith, size, l) in e)
 
 -- ---- the bytes of a head
 
@@ -140,7 +157,7 @@ before_whole bar inner around position h more none just some =
 
 -- bytes of a head have come
 abbrev within_head : (position : ℕ) → List ℕ → List Level → Reading
-within_head p h ls = record { position = p; head = h; left = 0; levels = ls; halt = None }
+within_head p h ls = record { position = p; head = h; left = 0; sign = None; levels = ls; halt = None }
 
 asks : (bar : HeadBar) (p : ℕ) (h : List ℕ) (inner : Level) (outer : List Level) (b : ℕ) → p + length h < INPUT_LIMIT
     → goes_by bar (within_head p h (inner ∷ outer)) b ≡ (head_read (within_head p h (inner ∷ outer)) (h ++ b ∷ []) (place_stop bar inner (inner ∷ outer) p (h ++ b ∷ []))).0
@@ -173,7 +190,7 @@ head_goes bar p inner outer h b (c ∷ t) none just le =
 
 -- a head that nothing refuses
 pub head_leads : (bar : HeadBar) (p : ℕ) (inner : Level) (outer : List Level) (z : List ℕ) (o : Opened) → place_stop bar inner (inner ∷ outer) p z ≡ None → JustHead inner.syntax z → p + length z ≤ INPUT_LIMIT
-    → head_opens (p + length z) z (inner ∷ outer) ≡ o → Endless o.levels → goes bar (at_head p (inner ∷ outer)) z ≡ at_value (p + length z) o.left o.levels
+    → head_opens (p + length z) z (inner ∷ outer) ≡ o → Endless o.levels → goes bar (at_head p (inner ∷ outer)) z ≡ at_value (p + length z) o.left o.sign o.levels
 unfolding opened_at
 head_leads bar p inner outer [] o none just le is free = let eight = (place_none bar inner (inner ∷ outer) p [] none).eight in absurd (omega (arith, eight))
 head_leads bar p inner outer (b ∷ t) o none just le is free =
@@ -219,14 +236,14 @@ element_just s t vr l z h g = record {
 
 -- an element's own tests
 element_free : (bar : HeadBar) (s : Syntax) (around : List Level) (p : ℕ) (z : List ℕ) (t : Tag) (vr : Vr) (l : Length) → Endless around → ElementHead s t vr l z []
-    → has_no_form (form s vr l) ≡ false → (opens_list (form s vr l) && nat_le 64 (depth around)) ≡ false → bar t vr l ≡ None → element_stop bar s around p z (vr_at s z) ≡ None
+    → has_no_form (form s (read_as s t vr) l) ≡ false → (opens_list (form s (read_as s t vr) l) && nat_le 64 (depth around)) ≡ false → bar t vr l ≡ None → element_stop bar s around p z (vr_at s z) ≡ None
 element_free bar s around p z t vr l free h has shallow unbarred =
     ap (λ (v : Option Vr). element_stop bar s around p z v) (sym h.vr_is)
-    ∙ ap (λ (x : Length). element_tests (passes (head_size s vr) (room p around)) (nat_lt (length z) (head_size s vr)) (bar (tag_at s z) vr x) s around p (length z) vr x) (sym h.length_is)
-    ∙ ap (λ (x : Tag). element_tests (passes (head_size s vr) (room p around)) (nat_lt (length z) (head_size s vr)) (bar x vr l) s around p (length z) vr l) (sym h.tag_is)
-    ∙ ap (λ (x : Option Fault). element_tests (passes (head_size s vr) (room p around)) (nat_lt (length z) (head_size s vr)) x s around p (length z) vr l) unbarred
-    ∙ ap (λ (x : Bool). element_tests (passes (head_size s vr) (room p around)) x None s around p (length z) vr l) (le-ltb (length z) (head_size s vr) h.whole)
-    ∙ all_free (passes (head_size s vr) (room p around)) (has_no_form (form s vr l)) (passes (with_length (head_size s vr) l) (room p around)) (opens_list (form s vr l) && nat_le 64 (depth around))
+    ∙ ap (λ (x : Length). element_tests (passes (head_size s vr) (room p around)) (nat_lt (length z) (head_size s vr)) (bar (tag_at s z) vr x) s around p (length z) (tag_at s z) vr x) (sym h.length_is)
+    ∙ ap (λ (x : Tag). element_tests (passes (head_size s vr) (room p around)) (nat_lt (length z) (head_size s vr)) (bar x vr l) s around p (length z) x vr l) (sym h.tag_is)
+    ∙ ap (λ (x : Option Fault). element_tests (passes (head_size s vr) (room p around)) (nat_lt (length z) (head_size s vr)) x s around p (length z) t vr l) unbarred
+    ∙ ap (λ (x : Bool). element_tests (passes (head_size s vr) (room p around)) x None s around p (length z) t vr l) (le-ltb (length z) (head_size s vr) h.whole)
+    ∙ all_free (passes (head_size s vr) (room p around)) (has_no_form (form s (read_as s t vr) l)) (passes (with_length (head_size s vr) l) (room p around)) (opens_list (form s (read_as s t vr) l) && nat_le 64 (depth around))
     (roomy (head_size s vr) (room p around) (endless_room p around free)) has (roomy (with_length (head_size s vr) l) (room p around) (endless_room p around free)) shallow
   where
     roomy : (n : ℕ) (r : Option ℕ) → r ≡ None → passes n r ≡ false
@@ -243,9 +260,9 @@ element_free bar s around p z t vr l free h has shallow unbarred =
 
 -- an element's head leads to what it opens
 pub element_leads : (bar : HeadBar) (inner : Level) (outer : List Level) (p : ℕ) (z : List ℕ) (t : Tag) (vr : Vr) (l : Length) (o : Opened) → Endless (inner ∷ outer) → ElementHead inner.syntax t vr l z []
-    → (t.group == 0xFFFE) ≡ false → is_allowed inner.container inner.declared t ≡ true → has_no_form (form inner.syntax vr l) ≡ false
-    → (opens_list (form inner.syntax vr l) && nat_le 64 (depth (inner ∷ outer))) ≡ false → bar t vr l ≡ None → p + length z ≤ INPUT_LIMIT
-    → element_opens (form inner.syntax vr l) inner.syntax t vr l (p + length z) (inner ∷ outer) ≡ o → Endless o.levels → goes bar (at_head p (inner ∷ outer)) z ≡ at_value (p + length z) o.left o.levels
+    → (t.group == 0xFFFE) ≡ false → is_allowed inner.container inner.declared t ≡ true → has_no_form (form inner.syntax (read_as inner.syntax t vr) l) ≡ false
+    → (opens_list (form inner.syntax (read_as inner.syntax t vr) l) && nat_le 64 (depth (inner ∷ outer))) ≡ false → bar t vr l ≡ None → p + length z ≤ INPUT_LIMIT
+    → element_opens (form inner.syntax (read_as inner.syntax t vr) l) inner.syntax t vr l (p + length z) (inner ∷ outer) ≡ o → Endless o.levels → goes bar (at_head p (inner ∷ outer)) z ≡ at_value (p + length z) o.left o.sign o.levels
 element_leads bar inner outer p z t vr l o free h g allowed has shallow unbarred le is o_free =
     let s : Syntax = inner.syntax in
     let g' : ((tag_at s z).group == 0xFFFE) ≡ false = ap (λ (x : Tag). x.group == 0xFFFE) (sym h.tag_is) ∙ g in
@@ -255,8 +272,8 @@ element_leads bar inner outer p z t vr l o free h g allowed has shallow unbarred
     ∙ element_free bar s (inner ∷ outer) p z t vr l free h has shallow unbarred in
     let opened : head_opens (p + length z) z (inner ∷ outer) ≡ o =
     opens_element (p + length z) z inner outer vr g' (sym h.vr_is)
-    ∙ ap (λ (x : Length). element_opens (form s vr x) s (tag_at s z) vr x (p + length z) (inner ∷ outer)) (sym h.length_is)
-    ∙ ap (λ (x : Tag). element_opens (form s vr l) s x vr l (p + length z) (inner ∷ outer)) (sym h.tag_is)
+    ∙ ap (λ (x : Length). element_opens (form s (read_as s (tag_at s z) vr) x) s (tag_at s z) vr x (p + length z) (inner ∷ outer)) (sym h.length_is)
+    ∙ ap (λ (x : Tag). element_opens (form s (read_as s x vr) l) s x vr l (p + length z) (inner ∷ outer)) (sym h.tag_is)
     ∙ is in
     head_leads bar p inner outer z o none (element_just s t vr l z h g) le opened o_free
 
@@ -278,7 +295,7 @@ item_free c around p l free h = by_tests (is_fragment_list c && is_undefined l) 
 
 pub item_leads : (bar : HeadBar) (inner : Level) (outer : List Level) (p : ℕ) (z : List ℕ) (l : Length) (o : Opened) → Endless (inner ∷ outer) → ItemHead inner.syntax l z []
     → is_allowed inner.container inner.declared item_tag ≡ true → (is_fragment_list inner.container && is_undefined l) ≡ false → p + length z ≤ INPUT_LIMIT
-    → item_opens inner.container inner.syntax l (p + length z) (inner ∷ outer) ≡ o → Endless o.levels → goes bar (at_head p (inner ∷ outer)) z ≡ at_value (p + length z) o.left o.levels
+    → item_opens inner.container inner.syntax l (p + length z) (inner ∷ outer) ≡ o → Endless o.levels → goes bar (at_head p (inner ∷ outer)) z ≡ at_value (p + length z) o.left o.sign o.levels
 item_leads bar inner outer p z l o free h allowed known le is o_free =
     let s : Syntax = inner.syntax in
     let low = nothing_behind 8 z h.after_is in
@@ -310,4 +327,4 @@ delimiter_passes bar inner outer z t free h allowed special no_item p le =
     place_free bar inner outer p z free h.whole (ap (is_allowed inner.container inner.declared) (sym h.tag_is) ∙ allowed)
     ∙ ap (λ (x : Bool). cond (not x) (element_stop bar s (inner ∷ outer) p z (vr_at s z)) (cond (is_item (tag_at s z)) (item_stop inner.container (inner ∷ outer) p (long_length (number s 4 (drop 4 z)))) None)) g
     ∙ ap (λ (x : Bool). cond x (item_stop inner.container (inner ∷ outer) p (long_length (number s 4 (drop 4 z)))) None) i in
-    head_leads bar p inner outer z (record { levels = outer; left = 0; atoms = closes inner.container ∷ [] }) none (special_just s t z h.tag_is special eight) le (opens_other (p + length z) z inner outer false g i) free.1
+    head_leads bar p inner outer z (without_value outer (closes inner.container)) none (special_just s t z h.tag_is special eight) le (opens_other (p + length z) z inner outer false g i) free.1

@@ -153,7 +153,7 @@ leaf_written : (t : Tag) (vr : Vr) (v : List ℕ) (more : Trees) (r z : List ℕ
 leaf_written t vr v more r z true g h few formed rest = rest
 leaf_written t vr v more r z false g h few formed rest =
     leaf_at Little t (normal_vr Little t vr (length v)) (even (length v)) (normal_value Little t vr v) (leaf_head Little t vr (length v)) (normal_value Little t vr v) r z more (normal_size Little t vr v)
-    (target_value Little Little t vr (length v) formed tt) (leaf_told t vr (length v) g h few) refl rest
+    (target_value Little Little t vr (length v) formed refl) (leaf_told t vr (length v) g h few) refl rest
 
 group_written : (x : Trees) (z : List ℕ) → CanWrite x → TreesAt Little (normal Little x) (recode_set Little x ++ z) z
 unfolding CanWrite normal recode_set TreesAt

@@ -14,7 +14,7 @@ use Rattle.dcm_base.specs.declared.length.Length.TheVariants.{Undefined}
 use Rattle.dcm_base.specs.Tree.Tree.{Trees}
 use Rattle.dcm_base.specs.Tree.Front.{Front, front, OpenTree, nothing_open, open_leaf, open_sequence, open_fragments}
 use Rattle.dcm_base.specs.Tables.Number.{AreBytes}
-use Rattle.dcm_base.specs.Bytes.Spelling.{form, last_tag, TreesAt, SpellsFront}
+use Rattle.dcm_base.specs.Bytes.Spelling.{form, last_tag, TreesAt, SpellsFront, after_trees}
 use Rattle.dcm_base.specs.declared.level.Container.TheVariants.{DataSet as the_data_set}
 use Rattle.dcm_base.specs.Reading.Place.{depth}
 use Rattle.dcm_base.specs.Reading.Stop.{Stop, complete, refused, Bar, HeadBar, is_empty, is_early_bar}
@@ -171,7 +171,7 @@ top_depth : (s : Syntax) → depth (endless_level the_data_set s Undefined ∷ [
 unfolding depth
 top_depth s = refl
 
-ends_well : (s : Syntax) (position : ℕ) → finish (record { position = position; head = []; left = 0; levels = endless_level the_data_set s Undefined ∷ []; halt = None }) ≡ complete
+ends_well : (s : Syntax) (position : ℕ) → finish (record { position = position; head = []; left = 0; sign = None; levels = endless_level the_data_set s Undefined ∷ []; halt = None }) ≡ complete
 unfolding finish
 ends_well s position = refl
 
@@ -180,7 +180,7 @@ module _ (target : Syntax) (at : ℕ) (set : Trees) (limit : at + length (recode
   target_finishes =
       ap finish (reading_goes (target_heads target) (recode_set target set) (start_of target at) []
       ∙ trees_read target the_data_set Undefined [] set_takes tt 0 set (top_depth target) ready at limit)
-      ∙ ends_well target (at + length (recode_set target set))
+      ∙ ends_well (after_trees target (normal target set)) (at + length (recode_set target set))
 
   spelled_normal : TreesAt target (normal target set) (recode_set target set) []
   spelled_normal = subst (λ (x : List ℕ). TreesAt target (normal target set) x []) (append-nil (recode_set target set)) (trees_written target 0 set [] ready)

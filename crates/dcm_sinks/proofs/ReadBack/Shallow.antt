@@ -16,14 +16,14 @@ use Rattle.dcm_base.specs.declared.level.Container.TheVariants.{DataSet as the_d
 use Rattle.dcm_base.specs.Tables.Number.{number}
 use Rattle.dcm_base.specs.Bytes.Head.{tag_at, length_at, long_length}
 use Rattle.dcm_base.specs.declared.length.Length.TheVariants.{Undefined}
-use Rattle.dcm_base.specs.Bytes.Spelling.{form, inside}
+use Rattle.dcm_base.specs.Bytes.Spelling.{form, inside, read_as}
 use Rattle.dcm_base.specs.Reading.Place.{level, counts, depth, is_allowed}
 use Rattle.dcm_base.specs.Reading.Stop.{Stop, complete, refused, HeadBar, innermost_stop, is_the_data_set, opens_list, is_undecided}
 use Rattle.dcm_base.specs.Reading.Reads.{INPUT_LIMIT}
 use Rattle.dcm_base.specs.Steps.Atoms.{Atom, opens, value_byte, closes_leaf, opens_item, opens_fragment, ends}
-use Rattle.dcm_stream.specs.Reading.{Reading, start_of, Opened, closing, size_of, ends_at, closes, element_opens, item_opens, head_opens, full_closed, settled, head_read, byte_read, read_byte, reads_byte, read_all, end_shows}
+use Rattle.dcm_stream.specs.Reading.{Reading, start_of, Opened, closing, size_of, ends_at, closes, element_opens, item_opens, head_opens, full_closed, settled, head_read, byte_read, read_byte, reads_byte, read_all, end_shows, Sign, sign_of, sign_reads, left_levels, value_left}
 use Rattle.dcm_stream.specs.Bounds.{may_hold, are_nested, IsSmall}
-use Rattle.dcm_stream.proofs.Runs.Bounds.{Small, levels_accept, stays_small, start_small}
+use Rattle.dcm_stream.proofs.Runs.Bounds.{left_small, Small, levels_accept, stays_small, start_small}
 use Rattle.dcm_stream.proofs.Steps.AfterHeads.{data_false}
 use Rattle.dcm_stream.proofs.Heads.Stops.{NeverEarly, FitsHead, fits_element, fits_item, fits_delimiter, Fits, place_none}
 use Rattle.dcm_stream.proofs.Heads.Opening.{opens_element, opens_other}
@@ -133,11 +133,19 @@ closing_leads n (suc size) h = leads_nowhere n h
 deeper_by : (n : ℕ) (l : Level) (around : List Level) (a : Atom) → lists_behind (depth around) a ≡ n → n ≡ depth (l ∷ around) → depth around ≤ 64 → n ≤ 64 → Leads (depth around) (a ∷ []) (depth (l ∷ around))
 deeper_by n l around a e f h k = leads_more (depth around) (depth (l ∷ around)) (depth (l ∷ around)) a [] h (e ∙ f) (leads_nowhere (depth (l ∷ around)) (subst (λ (x : ℕ). x ≤ 64) f k))
 
-element_leads : (f : Form) (s : Syntax) (tag : Tag) (vr : Vr) (l : Length) (begin : ℕ) (around : List Level) → form s vr l ≡ f → depth around ≤ 64 → (opens_list f && nat_le 64 (depth around)) ≡ false
+-- another syntax changes no depth
+depth_left : (left : ℕ) (sign : Option Sign) (ls : List Level) → depth (left_levels left sign ls) ≡ depth ls
+unfolding depth
+depth_left zero None ls = refl
+depth_left zero (Some sign) [] = refl
+depth_left zero (Some sign) (inner ∷ outer) = refl
+depth_left (suc left) sign ls = refl
+
+element_leads : (f : Form) (s : Syntax) (tag : Tag) (vr : Vr) (l : Length) (begin : ℕ) (around : List Level) → form s (read_as s tag vr) l ≡ f → depth around ≤ 64 → (opens_list f && nat_le 64 (depth around)) ≡ false
     → Leads (depth around) (element_opens f s tag vr l begin around).atoms (depth (element_opens f s tag vr l begin around).levels)
 unfolding depth
 element_leads a_value s tag vr l begin around e h d =
-    leads_more (depth around) (depth around) (depth around) (opens tag vr l s) (closing (size_of l)) h (ap (λ (g : Form). cond (opens_list g) (suc (depth around)) (depth around)) e) (closing_leads (depth around) (size_of l) h)
+    subst (λ (n : ℕ). Leads (depth around) (opens tag vr l s ∷ closing (size_of l)) n) (sym (depth_left (size_of l) (sign_of tag vr) around)) (leads_more (depth around) (depth around) (depth around) (opens tag vr l s) (closing (size_of l)) h (ap (λ (g : Form). cond (opens_list g) (suc (depth around)) (depth around)) e) (closing_leads (depth around) (size_of l) h))
 element_leads no_form s tag vr l begin around e h d = leads_nowhere (depth around) h
 element_leads sequence_form s tag vr l begin around e h d =
     let lt = leb-false 64 (depth around) d in
@@ -155,7 +163,8 @@ item_leads the_data_set s l begin around h = in_item s l begin around h
 item_leads an_item s l begin around h = in_item s l begin around h
 item_leads a_sequence s l begin around h = in_item s l begin around h
 item_leads a_fragment_list s l begin around h =
-    leads_more (depth around) (depth around) (depth around) (opens_fragment (size_of l)) (closing (size_of l)) h refl (closing_leads (depth around) (size_of l) h)
+    subst (λ (n : ℕ). Leads (depth around) (opens_fragment (size_of l) ∷ closing (size_of l)) n) (sym (depth_left (size_of l) None around))
+    (leads_more (depth around) (depth around) (depth around) (opens_fragment (size_of l)) (closing (size_of l)) h refl (closing_leads (depth around) (size_of l) h))
 
 delimiter_in : (c : Container) (declared : Length) (tag : Tag) → (tag.group == 0xFFFE) ≡ true → is_allowed c declared tag ≡ true → is_the_data_set c ≡ false
 unfolding is_allowed
@@ -178,7 +187,7 @@ head_leads : (begin : ℕ) (inner : Level) (outer : List Level) (position : ℕ)
 head_leads begin inner outer position z h fits (fits_element vr g f) =
     let l = length_at inner.syntax vr z in
     subst (λ (o : Opened). OpenedLeads (depth (inner ∷ outer)) o) (sym (opens_element begin z inner outer vr g f.vr_is))
-    (element_leads (form inner.syntax vr l) inner.syntax (tag_at inner.syntax z) vr l begin (inner ∷ outer) refl h.shallow f.shallow)
+    (element_leads (form inner.syntax (read_as inner.syntax (tag_at inner.syntax z) vr) l) inner.syntax (tag_at inner.syntax z) vr l begin (inner ∷ outer) refl h.shallow f.shallow)
 head_leads begin inner outer position z h fits (fits_item g i u f) =
     subst (λ (o : Opened). OpenedLeads (depth (inner ∷ outer)) o) (sym (opens_other begin z inner outer true g i))
     (item_leads inner.container inner.syntax (long_length (number inner.syntax 4 (drop 4 z))) begin (inner ∷ outer) h.shallow)
@@ -215,8 +224,10 @@ byte_leads : (bar : HeadBar) (r : Reading) (b : ℕ) (halt : Option Stop) (withi
 byte_leads bar r b (Some stop) within n h = leads_nowhere (depth r.levels) h.shallow
 byte_leads bar r b None false n h = leads_nowhere (depth r.levels) h.shallow
 byte_leads bar r b None true (suc n) h =
-    settled_leads (depth r.levels) (r.position + 1) (record { levels = r.levels; left = n; atoms = value_byte b ∷ closing n }) n h
-    (leads_more (depth r.levels) (depth r.levels) (depth r.levels) (value_byte b) (closing n) h.shallow refl (closing_leads (depth r.levels) n h.shallow))
+    let sign : Option Sign = sign_reads (b ∷ []) r.sign in
+    settled_leads (depth r.levels) (r.position + 1) (value_left n sign r.levels (value_byte b ∷ [])) n (left_small n sign r.levels h)
+    (subst (λ (m : ℕ). Leads (depth r.levels) (value_byte b ∷ closing n) m) (sym (depth_left n sign r.levels))
+    (leads_more (depth r.levels) (depth r.levels) (depth r.levels) (value_byte b) (closing n) h.shallow refl (closing_leads (depth r.levels) n h.shallow)))
 byte_leads bar r b None true zero h = read_leads bar r (r.head ++ b ∷ []) (innermost_stop bar r.levels r.position (r.head ++ b ∷ [])) h refl
 
 reads_leads : (bar : HeadBar) (r : Reading) (b : ℕ) → Small r.levels → ReadLeads (depth r.levels) (read_byte bar r b)

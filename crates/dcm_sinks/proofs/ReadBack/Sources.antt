@@ -1,5 +1,5 @@
 -- What was read without fault has room in a target syntax.
-use Rattle.std.proofs.Common.{◌≡◌, ◌≢◌, ap, sym, refl, subst, ℕ, zero, suc, ◌≤◌, ◌<◌, List, [], ◌∷◌, ◌++◌, length, drop, map, Some, None, Bool, true, false, cond, arith}
+use Rattle.std.proofs.Common.{◌≡◌, ◌∙◌, ◌≢◌, ap, sym, refl, subst, ℕ, zero, suc, ◌≤◌, ◌<◌, List, [], ◌∷◌, ◌++◌, length, drop, map, Some, None, Bool, true, false, cond, arith}
 use Rattle.std.specs.Prelude.{◌==◌, slice_index}
 use Rattle.std.proofs.lemmas.Bool.{eqb-false}
 use Rattle.dcm_base.specs.Reading.Place.{is_data}
@@ -22,7 +22,7 @@ use Rattle.dcm_base.specs.Tables.Dictionary.{vr_in}
 use Rattle.dcm_base.specs.Tables.Representation.{is_long}
 use Rattle.dcm_base.specs.Tree.Value.{order}
 use Rattle.dcm_base.specs.Bytes.Head.{ElementHead, tag_at, length_at, long_length, head_size}
-use Rattle.dcm_base.specs.Bytes.Spelling.{form, inside, Enclosed, FragmentsAt, TreesAt, ItemsAt}
+use Rattle.dcm_base.specs.Bytes.Spelling.{form, inside, Enclosed, FragmentsAt, TreesAt, ItemsAt, read_as, after}
 use Rattle.dcm_base.specs.Reading.Stop.{HeadBar, opens_list}
 use Rattle.dcm_base.specs.Reading.Bars.{is_fragment_form, holds_fragments}
 use Rattle.dcm_base.specs.Conversion.Recode.{even, too_long}
@@ -34,6 +34,7 @@ use Rattle.dcm_sinks.proofs.Dumps.OpenLists.{stays_on}
 use Rattle.dcm_sinks.proofs.ReadBack.Accepted.{Accepted, AllAccepted}
 use Rattle.dcm_sinks.proofs.ReadBack.HasRoom.{AreShort, Ready, ReadyItems}
 use Rattle.dcm_sinks.proofs.ReadBack.WrittenRead.{target_heads}
+use Rattle.dcm_base.proofs.DataSets.Alike.{read_sequence, undefined_same}
 
 -- ---- bytes
 
@@ -100,15 +101,19 @@ unfolding form
 no_sequence s SQ n e = absurd (cc)
 no_sequence s vr n e = λ k. cc
 
-explicit_value : (s : Syntax) (vr : Vr) (n m : ℕ) (c : Bool) → vr ≢ SQ → form s (cond c UN vr) (Known m) ≡ a_value
+explicit_value : (s : Syntax) (vr : Vr) (m : ℕ) (c : Bool) → vr ≢ SQ → form s (cond c UN vr) (Known m) ≡ a_value
 unfolding form
-explicit_value s vr n m true h = refl
-explicit_value s vr n m false h = value_of s vr n m h
+explicit_value s vr m true h = refl
+explicit_value s vr m false h = value_of s vr m m h
 
-pub target_value : (target s : Syntax) (t : Tag) (vr : Vr) (n : ℕ) → form s vr (Known n) ≡ a_value → TellsValue target t → form target (normal_vr target t vr n) (Known (even n)) ≡ a_value
+-- what is read as a value is no SQ
+pub spelled_no_sequence : (s : Syntax) (t : Tag) (vr : Vr) (n : ℕ) → form s (read_as s t vr) (Known n) ≡ a_value → vr ≢ SQ
+spelled_no_sequence s t vr n fo = λ k. no_sequence s (read_as s t vr) n fo (ap (read_as s t) k ∙ read_sequence s t)
+
+pub target_value : (target s : Syntax) (t : Tag) (vr : Vr) (n : ℕ) → form s (read_as s t vr) (Known n) ≡ a_value → TellsValue target t vr n → form target (read_as target t (normal_vr target t vr n)) (Known (even n)) ≡ a_value
 target_value (implicit_in d) s t vr n fo tells = value_of (implicit_in d) (vr_in d t) n (even n) tells
-target_value (little_in d) s t vr n fo tells = explicit_value (little_in d) vr n (even n) (too_long (little_in d) vr n) (no_sequence s vr n fo)
-target_value (big_in d) s t vr n fo tells = explicit_value (big_in d) vr n (even n) (too_long (big_in d) vr n) (no_sequence s vr n fo)
+target_value (little_in d) s t vr n fo tells = ap (λ (v : Vr). form (little_in d) v (Known (even n))) tells ∙ explicit_value (little_in d) vr (even n) (too_long (little_in d) vr n) (spelled_no_sequence s t vr n fo)
+target_value (big_in d) s t vr n fo tells = ap (λ (v : Vr). form (big_in d) v (Known (even n))) tells ∙ explicit_value (big_in d) vr (even n) (too_long (big_in d) vr n) (spelled_no_sequence s t vr n fo)
 
 pub target_sequence : (target : Syntax) (t : Tag) → TellsSequence target t → form target (normal_sequence_vr target t) Undefined ≡ a_sequence
 unfolding form
@@ -160,7 +165,7 @@ pub fine_bytes : (bar : HeadBar) (n : ℕ) (v : List ℕ) (others : List Atom) �
 fine_bytes bar n [] others h = h
 fine_bytes bar n (b ∷ v) others h = fine_bytes bar n v others h.2
 
-pub lists_of : (n : ℕ) (f : Form) (t : Tag) (vr : Vr) (l : Length) (s : Syntax) → form s vr l ≡ f → lists_behind n (opens t vr l s) ≡ cond (opens_list f) (suc n) n
+pub lists_of : (n : ℕ) (f : Form) (t : Tag) (vr : Vr) (l : Length) (s : Syntax) → form s (read_as s t vr) l ≡ f → lists_behind n (opens t vr l s) ≡ cond (opens_list f) (suc n) n
 lists_of n f t vr l s e = ap (λ (g : Form). cond (opens_list g) (suc n) n) e
 
 -- behind a head
@@ -201,14 +206,14 @@ mutual
   trees_ready target s n no_tree b p others h k f = ((λ fits. tt, f), subst Bytes h k)
   trees_ready target s n (leaf t vr v rest) b p others (o, fo, head, more) k f =
       let bar : HeadBar = target_heads target in
-      let g = begun bar n n t vr (Known (length v)) s (map value_byte (order s vr v) ++ closes_leaf ∷ trees_then s rest others) (lists_of n a_value t vr (Known (length v)) s fo) f in
+      let g = begun bar n n t vr (Known (length v)) s (map value_byte (order s vr v) ++ closes_leaf ∷ trees_then (after s t vr v) rest others) (lists_of n a_value t vr (Known (length v)) s fo) f in
       let behind = bytes_parts (order s vr v) o (bytes_of_head s t vr (Known (length v)) b (order s vr v ++ o) head k) in
-      let after = trees_ready target s n rest o p others more behind.1 (fine_bytes bar n (order s vr v) (closes_leaf ∷ trees_then s rest others) g.more).2 in (
+      let later = trees_ready target (after s t vr v) n rest o p others more behind.1 (fine_bytes bar n (order s vr v) (closes_leaf ∷ trees_then (after s t vr v) rest others) g.more).2 in (
         (
-          λ fits. (λ e. ((element_tag s t vr (Known (length v)) b (order s vr v ++ o) head k, g.accepted.0), length_known s vr b (length v) k head.length_is, target_value target s t vr (length v) fo (fits.0 e)), after.0.0 fits.1),
-          after.0.1,
+          λ fits. (λ e. ((element_tag s t vr (Known (length v)) b (order s vr v ++ o) head k, g.accepted.0), length_known s vr b (length v) k head.length_is, target_value target s t vr (length v) fo (fits.0 e)), later.0.0 fits.1),
+          later.0.1,
         ),
-        after.1,
+        later.1,
       )
   trees_ready target s n (sequence t vr declared items rest) b p others (contents, o, fo, head, inner, more) k f =
       let bar : HeadBar = target_heads target in
@@ -227,14 +232,15 @@ mutual
   trees_ready target s n (fragments t vr values rest) b p others (contents, o, fo, head, inner, more) k f =
       let bar : HeadBar = target_heads target in
       let g = begun bar n (suc n) t vr Undefined s (fragments_then values (closes_sequence ∷ trees_then s rest others)) (lists_of n a_fragment_list t vr Undefined s fo) f in
-      let two = fragments_little s vr fo in
+      let fo' = sym (undefined_same s t vr) ∙ fo in
+      let two = fragments_little s vr fo' in
       let little : holds_fragments target ≡ true = target_little target t vr two.1 g.accepted.1 in
       let held = enclosed_ready s sequence_end_tag Undefined (FragmentsAt s values) contents o (AreShort values × Fine bar (suc n) (closes_sequence ∷ trees_then s rest others)) (bytes_of_head s t vr Undefined b contents head k)
       (λ c d kc r. fragments_ready s values c d bar (suc n) (closes_sequence ∷ trees_then s rest others) r kc g.more) inner in
       let after = trees_ready target s n rest o p others more held.1 held.0.1.2 in
       let few = g.few in (
         (
-          λ fits. (λ e. ((element_tag s t vr Undefined b contents head k, g.accepted.0), omega (arith, few), little, fragments_form s target vr two.0 little fo, held.0.0), after.0.0 fits),
+          λ fits. (λ e. ((element_tag s t vr Undefined b contents head k, g.accepted.0), omega (arith, few), little, fragments_form s target vr two.0 little fo', held.0.0), after.0.0 fits),
           after.0.1,
         ),
         after.1,

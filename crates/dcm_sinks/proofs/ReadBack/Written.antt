@@ -17,16 +17,18 @@ use Rattle.dcm_base.specs.Tables.Representation.{is_long, pad}
 use Rattle.dcm_base.specs.Tree.Value.{order, evened}
 use Rattle.dcm_base.specs.Bytes.Head.{PlainHead, ElementHead, ItemHead, Delimiter}
 use Rattle.dcm_base.specs.declared.form.Form.TheVariants.{Value as a_value, Sequence as a_sequence, FragmentList as a_fragment_list}
-use Rattle.dcm_base.specs.Bytes.Spelling.{form, inside, FragmentsAt, TreesAt, ItemsAt}
+use Rattle.dcm_base.specs.Bytes.Spelling.{form, inside, FragmentsAt, TreesAt, ItemsAt, read_as, after, dictionary_after}
 use Rattle.dcm_base.specs.Conversion.Recode.{head, even, too_long, leaf_head, leaf_bytes, item_head, item_delimiter, sequence_delimiter, recoded_leaf, recoded_fragment, recode_set, recode_items, is_explicit}
 use Rattle.dcm_base.specs.Conversion.Normal.{normal_vr, normal_sequence_vr, normal_value, UnlessGroupLength, normal, normal_items}
 use Rattle.dcm_base.proofs.Conversions.Order.{order_twice}
 use Rattle.dcm_base.proofs.DataSets.Extend.{element_extends, item_extends, delimiter_extends}
 use Rattle.dcm_head.proofs.Heads.Written.{element_spelled, item_spelled, delimiter_spelled}
-use Rattle.dcm_base.proofs.Conversions.NormalForm.{evened_size, normal_size}
+use Rattle.dcm_base.proofs.Conversions.NormalForm.{recode_by, dropped_own, evened_size, normal_size}
 use Rattle.dcm_base.specs.declared.dictionary.Dictionary.{Dictionary}
 use Rattle.dcm_base.specs.Reading.Bars.{holds_fragments}
-use Rattle.dcm_sinks.proofs.ReadBack.HasRoom.{IsElement, AreShort, Ready, ReadyItems}
+use Rattle.dcm_sinks.proofs.ReadBack.HasRoom.{ready_after, IsElement, AreShort, Ready, ReadyItems}
+use Rattle.dcm_base.proofs.DataSets.Alike.{undefined_same}
+use Rattle.dcm_base.specs.Tables.Syntax.{dictionary_of}
 
 -- ---- tags
 
@@ -131,12 +133,12 @@ two_parts a b r z = append_assoc (a ++ b) r z ∙ append_assoc a b (r ++ z)
 three_parts : (a b c r z : List ℕ) → (((a ++ b) ++ c) ++ r) ++ z ≡ a ++ (b ++ (c ++ (r ++ z)))
 three_parts a b c r z = append_assoc ((a ++ b) ++ c) r z ∙ append_assoc (a ++ b) c (r ++ z) ∙ append_assoc a b (c ++ (r ++ z))
 
-pub leaf_at : (s : Syntax) (t : Tag) (vr : Vr) (size : ℕ) (value h u r z : List ℕ) (more : Trees) → length value ≡ size → form s vr (Known size) ≡ a_value → ElementHead s t vr (Known size) h [] → order s vr value ≡ u
-    → TreesAt s more (r ++ z) z → TreesAt s (leaf t vr value more) (((h ++ u) ++ r) ++ z) z
+pub leaf_at : (s : Syntax) (t : Tag) (vr : Vr) (size : ℕ) (value h u r z : List ℕ) (more : Trees) → length value ≡ size → form s (read_as s t vr) (Known size) ≡ a_value → ElementHead s t vr (Known size) h [] → order s vr value ≡ u
+    → TreesAt (after s t vr value) more (r ++ z) z → TreesAt s (leaf t vr value more) (((h ++ u) ++ r) ++ z) z
 unfolding TreesAt
 leaf_at s t vr size value h u r z more l fo head o rest = (
   r ++ z,
-  ap (λ (k : ℕ). form s vr (Known k)) l ∙ fo,
+  ap (λ (k : ℕ). form s (read_as s t vr) (Known k)) l ∙ fo,
   subst (λ (k : ℕ). ElementHead s t vr (Known k) (((h ++ u) ++ r) ++ z) (order s vr value ++ (r ++ z))) (sym l)
       (subst (λ (x : List ℕ). ElementHead s t vr (Known size) x (order s vr value ++ (r ++ z))) (sym (two_parts h u r z))
       (subst (λ (x : List ℕ). ElementHead s t vr (Known size) (h ++ (u ++ (r ++ z))) (x ++ (r ++ z))) (sym o) (element_extends s t vr (Known size) h [] (u ++ (r ++ z)) head))),
@@ -149,7 +151,7 @@ unfolding TreesAt
 sequence_at s t vr items h c d r z more i fo head end inner rest = (
   c ++ (d ++ (r ++ z)),
   r ++ z,
-  fo,
+  undefined_same s t vr ∙ fo,
   subst (λ (x : List ℕ). ElementHead s t vr Undefined x (c ++ (d ++ (r ++ z)))) (sym (three_parts h c d r z)) (element_extends s t vr Undefined h [] (c ++ (d ++ (r ++ z))) head),
   (
     d ++ (r ++ z),
@@ -165,7 +167,7 @@ unfolding TreesAt
 fragments_at s t vr values h c d r z more fo head end inner rest = (
   c ++ (d ++ (r ++ z)),
   r ++ z,
-  fo,
+  undefined_same s t vr ∙ fo,
   subst (λ (x : List ℕ). ElementHead s t vr Undefined x (c ++ (d ++ (r ++ z)))) (sym (three_parts h c d r z)) (element_extends s t vr Undefined h [] (c ++ (d ++ (r ++ z))) head),
   (d ++ (r ++ z), inner (d ++ (r ++ z)), delimiter_extends s sequence_end_tag d [] (r ++ z) end),
   rest,
@@ -202,9 +204,9 @@ fragments_written s (v ∷ values) z h =
 -- ---- data sets
 
 leaf_written : (s : Syntax) (t : Tag) (vr : Vr) (v : List ℕ) (more : Trees) (r z : List ℕ) (c : Bool) → (t.element == 0) ≡ c
-    → UnlessGroupLength t (IsElement t × (length v < 0xFFFFFFFF) × (form s (normal_vr s t vr (length v)) (Known (even (length v))) ≡ a_value))
-    → TreesAt s more (r ++ z) z → TreesAt s (if c then more else leaf t (normal_vr s t vr (length v)) (normal_value s t vr v) more) (((if c then [] else recoded_leaf s t vr v) ++ r) ++ z) z
-leaf_written s t vr v more r z true e h rest = rest
+    → UnlessGroupLength t (IsElement t × (length v < 0xFFFFFFFF) × (form s (read_as s t (normal_vr s t vr (length v))) (Known (even (length v))) ≡ a_value))
+    → TreesAt (after s t (normal_vr s t vr (length v)) (normal_value s t vr v)) more (r ++ z) z → TreesAt s (if c then more else leaf t (normal_vr s t vr (length v)) (normal_value s t vr v) more) (((if c then [] else recoded_leaf s t vr v) ++ r) ++ z) z
+leaf_written s t vr v more r z true e h rest = subst (λ (k : Syntax). TreesAt k more (r ++ z) z) (dropped_own s t (normal_vr s t vr (length v)) (normal_value s t vr v) e) rest
 leaf_written s t vr v more r z false e h rest =
     let k = h e in
     let u : List ℕ = evened (pad vr) (leaf_bytes s vr (length v) v) in
@@ -232,7 +234,11 @@ mutual
 
   pub trees_written : (s : Syntax) (n : ℕ) (x : Trees) (z : List ℕ) → Ready s n x → TreesAt s (normal s x) (recode_set s x ++ z) z
   trees_written s n no_tree z h = refl
-  trees_written s n (leaf t vr v rest) z h = leaf_written s t vr v (normal s rest) (recode_set s rest) z (t.element == 0) refl h.0 (trees_written s n rest z h.1)
+  trees_written s n (leaf t vr v rest) z h =
+      let w : Vr = normal_vr s t vr (length v) in
+      let x : List ℕ = normal_value s t vr v in
+      leaf_written s t vr v (normal (after s t w x) rest) (recode_set s rest) z (t.element == 0) refl h.0
+      (subst (λ (r : List ℕ). TreesAt (after s t w x) (normal (after s t w x) rest) (r ++ z) z) (recode_by (dictionary_after (dictionary_of s) t w x) s rest) (trees_written (after s t w x) n rest z (ready_after s t w x n rest h.1)))
   trees_written s n (sequence t vr declared items rest) z h =
       sequence_written s t (normal_items s items) (normal s rest) n (recode_items s items) (recode_set s rest) z (ReadyItems s (suc n) items) (t.element == 0) refl h.0
       (λ e y. items_written s (suc n) items y (h.0 e).3) (trees_written s n rest z h.1)

@@ -16,6 +16,7 @@ use crate::dump::layout::{Line, begin_line, put_line, put_line_start, put_rest};
 use crate::dump::lengths::{Lengths, MOST_OPEN};
 use dcm_base::{
     DeviceOut, Dictionary, Form, Length, Mode, Syntax, Tag, Vr, Watched, WriteFailed, form_of,
+    read_as,
 };
 use dcm_head::Head;
 use dcm_stream::Token;
@@ -236,7 +237,7 @@ impl Lines {
         ensures wrote { Wrote W.DeviceOut out.old out.new (spec.live_writes (state self.old) (opening head syntax))
             result }
     {
-        match form_of(syntax, head.vr, head.length) {
+        match form_of(syntax, read_as(syntax, head.tag, head.vr), head.length) {
             Form::Value => {
                 let owner = Owner::Element(head.tag, head.vr);
                 self.begin(out, owner, head.vr, syntax, size_of(head.length))

@@ -17,7 +17,9 @@ ghost use Rattle.dcm_sinks.specs.EncodeSink as spec;
 
 use crate::encode::copier::{Copier, is_too_long};
 use arrayvec::ArrayVec;
-use dcm_base::{DeviceOut, Form, Length, Syntax, Tag, Vr, Watched, WriteFailed, form_of, put_all};
+use dcm_base::{
+    DeviceOut, Form, Length, Syntax, Tag, Vr, Watched, WriteFailed, form_of, put_all, read_as,
+};
 use dcm_head::{Head, LONG_HEAD, element_head, write_head};
 use dcm_stream::{Skip, Token};
 
@@ -136,7 +138,8 @@ impl Encoder {
         ensures state { OnOk result (state self.new ≡ opened (state self.old) head syntax) }
         ensures wrote { Wrote W.DeviceOut out.old out.new (opening_writes (state self.old) head syntax) result }
     {
-        match (form_of(syntax, head.vr, head.length), head.length) {
+        let form = form_of(syntax, read_as(syntax, head.tag, head.vr), head.length);
+        match (form, head.length) {
             (Form::Value, Length::Known(size)) => self.open_leaf(out, head, size, syntax),
             (Form::Sequence, _) => {
                 put_all(out, list_head(self.target, head.tag, Vr::SQ).as_slice())

@@ -49,7 +49,7 @@ room_inside n position inner outer h = (least_passes n (distance position inner.
 
 -- bytes that don't pass the room of the set have room at the place
 pub room_at : (s : Syntax) (start : ℕ) (path : Path) (whole : Trees) (o : OpenTree) (b z : List ℕ) (h : Placed s path whole o b)
-    → passes (length z) (room (start + length b) (set_level s start path ∷ around s start path)) ≡ false → Roomy s path whole o b h z
+    → passes (length z) (room (start + length b) (set_level s start path whole ∷ around s start path)) ≡ false → Roomy s path whole o b h z
 unfolding room
 room_at s start path whole o b z h free =
     let both = least_passes (length z) (distance (start + length b) (end_of (item_length path) (begin_of s start path))) (room (start + length b) (around s start path)) free in

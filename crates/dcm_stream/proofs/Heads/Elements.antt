@@ -18,7 +18,7 @@ use Rattle.dcm_base.specs.declared.fault.Fault.TheVariants.{EndsEarly, UnknownRe
 use Rattle.dcm_base.specs.Tables.Number.{number}
 use Rattle.dcm_base.specs.Tables.Tag.{is_item, is_item_end, is_sequence_end}
 use Rattle.dcm_base.specs.Bytes.Head.{tag_at, vr_at, length_at, head_size, long_length}
-use Rattle.dcm_base.specs.Bytes.Spelling.{form}
+use Rattle.dcm_base.specs.Bytes.Spelling.{form, read_as}
 use Rattle.dcm_base.specs.Reading.Place.{room, passes, depth, is_data, is_undefined, is_allowed}
 use Rattle.dcm_base.specs.Reading.Stop.{Stop, refused, HeadBar, first_case, is_empty, is_the_data_set, is_fragment_list, opens_list, has_no_form, with_length, barred, element_stop, item_stop, head_stop, place_stop, is_early}
 use Rattle.dcm_head.specs.declared.head.Head.{Head}
@@ -32,7 +32,7 @@ use Rattle.dcm_base.specs.Steps.Atoms.{opens, opens_fragment}
 use Rattle.dcm_stream.specs.declared.judge.Opening.{Opening}
 use Rattle.dcm_stream.specs.declared.judge.Opening.TheVariants as opening
 use Rattle.dcm_stream.specs.declared.judge.Judged.TheVariants as judged
-use Rattle.dcm_stream.specs.Reading.{Opened, size_of, value_opens, closes, element_opens, item_opens, plain_opens, head_opens}
+use Rattle.dcm_stream.specs.Reading.{Opened, size_of, value_opens, closes, element_opens, item_opens, plain_opens, head_opens, sign_of, without_value}
 use Rattle.dcm_stream.specs.Judging.{OpensNothing, fault_of, shape_fault, item_fault, or_fault, element_fault, head_fault, opens_with, opened_by, OpensAs, JudgesHead, Judges}
 use Rattle.dcm_stream.proofs.Heads.Opening.{undefined_no_value}
 use Rattle.dcm_stream.proofs.Steps.AfterHeads.{data_false}
@@ -97,19 +97,19 @@ module _ (bar : HeadBar) (s : Syntax) (around : List Level) (position : ℕ) (by
       let l = length_at s vr bytes in
       let m = was_more (nat_lt (length bytes) (head_size s vr)) k (head_size s vr) (head_size s vr) (record { tag = tag_at s bytes; vr = vr; length = l }) e in
       short_cases (passes (head_size s vr) (room position around)) (nat_lt (length bytes) (head_size s vr)) (refused EndsEarly (position + length bytes))
-      ((has_no_form (form s vr l), refused UndefinedLength position) ∷ (passes (with_length (head_size s vr) l) (room position around), refused PassesEnd position) ∷ (opens_list (form s vr l) && nat_le 64 (depth around), refused TooDeep position) ∷ barred (bar (tag_at s bytes) vr l) position) m.0
+      ((has_no_form (form s (read_as s (tag_at s bytes) vr) l), refused UndefinedLength position) ∷ (passes (with_length (head_size s vr) l) (room position around), refused PassesEnd position) ∷ (opens_list (form s (read_as s (tag_at s bytes) vr) l) && nat_le 64 (depth around), refused TooDeep position) ∷ barred (bar (tag_at s bytes) vr l) position) m.0
       ∙ ap (λ (t : Bool). cond t (Some (refused PassesEnd position)) (Some (refused EndsEarly (position + length bytes)))) (ap (λ (n : ℕ). passes n (room position around)) (sym m.1) ∙ p)
 
   whole_by : (vr : Vr) → nat_lt (length bytes) (head_size s vr) ≡ false
       → let l = length_at s vr bytes in
-      element_stop bar s around position bytes (Some vr) ≡ stop_of position (or_fault (shape_fault (form s vr l) (head_size s vr) l (room position around) (depth around)) (bar (tag_at s bytes) vr l))
+      element_stop bar s around position bytes (Some vr) ≡ stop_of position (or_fault (shape_fault (form s (read_as s (tag_at s bytes) vr) l) (head_size s vr) l (room position around) (depth around)) (bar (tag_at s bytes) vr l))
   whole_by vr e =
       let l = length_at s vr bytes in
       let r = room position around in
       let c1 = passes (head_size s vr) r in
-      let c3 = has_no_form (form s vr l) in
+      let c3 = has_no_form (form s (read_as s (tag_at s bytes) vr) l) in
       let c4 = passes (with_length (head_size s vr) l) r in
-      let c5 = opens_list (form s vr l) && nat_le 64 (depth around) in
+      let c5 = opens_list (form s (read_as s (tag_at s bytes) vr) l) && nat_le 64 (depth around) in
       ap (λ (t : Bool). first_case ((c1, refused PassesEnd position) ∷ (t, refused EndsEarly (position + length bytes)) ∷ (c3, refused UndefinedLength position) ∷ (c4, refused PassesEnd position) ∷ (c5, refused TooDeep position) ∷ barred (bar (tag_at s bytes) vr l) position)) e
       ∙ whole_cases c1 c3 c4 c5 (bar (tag_at s bytes) vr l) position (refused EndsEarly (position + length bytes))
 
@@ -120,7 +120,7 @@ module _ (bar : HeadBar) (s : Syntax) (around : List Level) (position : ℕ) (by
     pub length_is : head.length ≡ length_at s head.vr bytes
     pub size_is : size ≡ head_size s head.vr
     pub fits : size ≤ length bytes
-    pub stop_is : element_stop bar s around position bytes v ≡ stop_of position (or_fault (shape_fault (form s head.vr head.length) size head.length (room position around) (depth around)) (bar head.tag head.vr head.length))
+    pub stop_is : element_stop bar s around position bytes v ≡ stop_of position (or_fault (shape_fault (form s (read_as s head.tag head.vr) head.length) size head.length (room position around) (depth around)) (bar head.tag head.vr head.length))
 
   pub whole_of : (v : Option Vr) (head : Head) (size : ℕ) → Done head size ≡ element_read s bytes v → Whole v head size
   whole_of None head size e = absurd (cc)
@@ -132,11 +132,11 @@ module _ (bar : HeadBar) (s : Syntax) (around : List Level) (position : ℕ) (by
 
   -- what it opens
   pub whole_opens : (v : Option Vr) (head : Head) (size begin : ℕ) → Whole v head size
-      → plain_opens v s begin bytes around ≡ element_opens (form s head.vr head.length) s head.tag head.vr head.length begin around
+      → plain_opens v s begin bytes around ≡ element_opens (form s (read_as s head.tag head.vr) head.length) s head.tag head.vr head.length begin around
   whole_opens v head size begin w =
       ap (λ (x : Option Vr). plain_opens x s begin bytes around) w.vr_is
-      ∙ ap (λ (l : Length). element_opens (form s head.vr l) s (tag_at s bytes) head.vr l begin around) (sym w.length_is)
-      ∙ ap (λ (t : Tag). element_opens (form s head.vr head.length) s t head.vr head.length begin around) (sym w.tag_is)
+      ∙ ap (λ (l : Length). element_opens (form s (read_as s (tag_at s bytes) head.vr) l) s (tag_at s bytes) head.vr l begin around) (sym w.length_is)
+      ∙ ap (λ (t : Tag). element_opens (form s (read_as s t head.vr) head.length) s t head.vr head.length begin around) (sym w.tag_is)
 
 -- ---- what a sink answers
 
@@ -257,21 +257,21 @@ module _ (bar : HeadBar) (inner : Level) (around : List Level) (position : ℕ) 
     pub opens_is : (begin : ℕ) → innermost around ≡ Some inner → head_opens begin bytes around ≡ opens_with inner head begin around
 
   opens_by : (g i : Bool) (begin : ℕ) (outer : List Level) → (tag.group == 0xFFFE) ≡ g → is_item tag ≡ i
-      → head_opens begin bytes (inner ∷ outer) ≡ cond g (cond i (item_opens inner.container inner.syntax (long_length (number inner.syntax 4 (drop 4 bytes))) begin (inner ∷ outer)) (record { levels = outer; left = 0; atoms = closes inner.container ∷ [] }))
+      → head_opens begin bytes (inner ∷ outer) ≡ cond g (cond i (item_opens inner.container inner.syntax (long_length (number inner.syntax 4 (drop 4 bytes))) begin (inner ∷ outer)) (without_value outer (closes inner.container)))
       (plain_opens (vr_at inner.syntax bytes) inner.syntax begin bytes (inner ∷ outer))
   opens_by g i begin outer e f =
       let it : Opened = item_opens inner.container inner.syntax (long_length (number inner.syntax 4 (drop 4 bytes))) begin (inner ∷ outer) in
-      let end : Opened = record { levels = outer; left = 0; atoms = closes inner.container ∷ [] } in
+      let end : Opened = without_value outer (closes inner.container) in
       let el : Opened = plain_opens (vr_at inner.syntax bytes) inner.syntax begin bytes (inner ∷ outer) in
       ap (λ (x : Bool). cond {A = Opened} x (cond (is_item tag) it end) el) e ∙ ap (λ (x : Bool). cond {A = Opened} g (cond x it end) el) f
 
   with_by : (g i : Bool) (head : Head) (begin : ℕ) (levels : List Level) → (head.tag.group == 0xFFFE) ≡ g → is_item head.tag ≡ i
-      → opens_with inner head begin levels ≡ cond g (cond i (item_opens inner.container inner.syntax head.length begin levels) (record { levels = drop 1 levels; left = 0; atoms = closes inner.container ∷ [] }))
-      (element_opens (form inner.syntax head.vr head.length) inner.syntax head.tag head.vr head.length begin levels)
+      → opens_with inner head begin levels ≡ cond g (cond i (item_opens inner.container inner.syntax head.length begin levels) (without_value (drop 1 levels) (closes inner.container)))
+      (element_opens (form inner.syntax (read_as inner.syntax head.tag head.vr) head.length) inner.syntax head.tag head.vr head.length begin levels)
   with_by g i head begin levels e f =
       let it : Opened = item_opens inner.container inner.syntax head.length begin levels in
-      let end : Opened = record { levels = drop 1 levels; left = 0; atoms = closes inner.container ∷ [] } in
-      let el : Opened = element_opens (form inner.syntax head.vr head.length) inner.syntax head.tag head.vr head.length begin levels in
+      let end : Opened = without_value (drop 1 levels) (closes inner.container) in
+      let el : Opened = element_opens (form inner.syntax (read_as inner.syntax head.tag head.vr) head.length) inner.syntax head.tag head.vr head.length begin levels in
       ap (λ (x : Bool). cond {A = Opened} x (cond (is_item head.tag) it end) el) e ∙ ap (λ (x : Bool). cond {A = Opened} g (cond x it end) el) f
 
   fault_by : (g i : Bool) (head : Head) (size : ℕ) → (head.tag.group == 0xFFFE) ≡ g → is_item head.tag ≡ i
@@ -345,7 +345,7 @@ module _ (bar : HeadBar) (inner : Level) (around : List Level) (position : ℕ) 
 
 pub value_opens_as : (f : Form) (s : Syntax) (head : Head) (size : ℕ) → f ≡ a_value → size ≡ size_of head.length → OpensAs (element_opens f s head.tag head.vr head.length) (opening.Leaf head s size)
 value_opens_as f s head size e n begin levels =
-    ap (λ (x : Form). element_opens x s head.tag head.vr head.length begin levels) e ∙ ap (λ (k : ℕ). value_opens levels (opens head.tag head.vr head.length s) k) (sym n)
+    ap (λ (x : Form). element_opens x s head.tag head.vr head.length begin levels) e ∙ ap (λ (k : ℕ). value_opens levels (sign_of head.tag head.vr) (opens head.tag head.vr head.length s) k) (sym n)
 
 pub sequence_opens_as : (f : Form) (s : Syntax) (head : Head) → f ≡ sequence_form → OpensAs (element_opens f s head.tag head.vr head.length) (opening.Sequence head s)
 sequence_opens_as f s head e begin levels = ap (λ (x : Form). element_opens x s head.tag head.vr head.length begin levels) e
@@ -355,7 +355,7 @@ fragments_open_as f s head e begin levels = ap (λ (x : Form). element_opens x s
 
 pub fragment_opens_as : (c : Container) (s : Syntax) (declared : Length) (size : ℕ) → c ≡ a_fragment_list → size ≡ size_of declared → OpensAs (item_opens c s declared) (opening.Fragment size)
 fragment_opens_as c s declared size e n begin levels =
-    ap (λ (x : Container). item_opens x s declared begin levels) e ∙ ap (λ (k : ℕ). value_opens levels (opens_fragment k) k) (sym n)
+    ap (λ (x : Container). item_opens x s declared begin levels) e ∙ ap (λ (k : ℕ). value_opens levels None (opens_fragment k) k) (sym n)
 
 pub item_opens_as : (c : Container) (s : Syntax) (declared : Length) → (c ≡ the_data_set) ⊎ ((c ≡ an_item) ⊎ (c ≡ a_sequence)) → OpensAs (item_opens c s declared) (opening.Item s declared)
 item_opens_as c s declared (inl e) begin levels = ap (λ (x : Container). item_opens x s declared begin levels) e
@@ -402,6 +402,10 @@ formed a_value s head x h = refl
 formed sequence_form s head x h = refl
 formed fragment_form s head x h = refl
 formed no_form s head x h = absurd (some_atoms x (ap (λ (o : Opened). o.atoms) (h 0 [])))
+
+-- the form of a head, by the representation as which it is read
+pub formed_as : (s : Syntax) (head : Head) (f : Form) (v : Vr) → f ≡ form s v head.length → v ≡ read_as s head.tag head.vr → f ≡ form s (read_as s head.tag head.vr) head.length
+formed_as s head f v e r = e ∙ ap (λ (x : Vr). form s x head.length) r
 
 -- what opens has a form
 pub has_form : (f : Form) (s : Syntax) (head : Head) (o : Option Opening) (x : Opening) → MatchOption o (OpensNothing f head.length) (OpensAs (element_opens f s head.tag head.vr head.length)) → o ≡ Some x

@@ -19,9 +19,9 @@ use Rattle.dcm_stream.specs.declared.machine.Halt.{Halt}
 use Rattle.dcm_stream.specs.declared.machine.Halt.TheVariants.{Refused}
 use Rattle.dcm_stream.specs.Bounds.{are_nested}
 use Rattle.dcm_stream.specs.Places.{innermost}
-use Rattle.dcm_stream.specs.Reading.{Reading, halted, Opened, head_opens, head_read, byte_read, read_byte}
+use Rattle.dcm_stream.specs.Reading.{Reading, halted, Opened, head_opens, head_read, byte_read, read_byte, Sign}
 use Rattle.dcm_stream.specs.Judging.{bars_head, opened_by, Judges}
-use Rattle.dcm_stream.specs.Machine.{reading, Stands, Comes, entered, Feeds}
+use Rattle.dcm_stream.specs.Machine.{reading, Stands, Comes, entered, Feeds, held_sign}
 use Rattle.dcm_stream.proofs.Runs.Bounds.{few, Small, levels_accept}
 use Rattle.dcm_stream.proofs.Runs.Parts.{feeds_byte}
 
@@ -67,33 +67,35 @@ module _ {S : Type 0} (bars : S → Head → Option Bar) (step : S → Atom → 
 
   -- the head is refused
   pub feeds_refused : (T : Type 0) (held : Option (List ℕ)) (new : Cursor) (judged : Judged) (fault : Fault) (halt : Halt) → Judges bar inner around p.position bytes judged → judged ≡ judge.Refused fault
-      → halt ≡ Refused (record { fault = fault; at = p.position }) → new.position ≡ p.position → new.head.items ≡ [] → new.left ≡ p.left → new.levels ≡ p.levels
+      → halt ≡ Refused (record { fault = fault; at = p.position }) → new.position ≡ p.position → new.head.items ≡ [] → new.left ≡ p.left → new.levels ≡ p.levels → held_sign new ≡ held_sign p
       → Feeds {T = T} bars step writes (reading p None) s held (reading new) s held (b ∷ []) (Err halt)
-  feeds_refused T held new judged fault halt h e is_halt at1 at2 at3 at4 =
+  feeds_refused T held new judged fault halt h e is_halt at1 at2 at3 at4 at5 =
       let j : Judges bar inner around p.position bytes (judge.Refused fault) = subst (Judges bar inner around p.position bytes) e h in
       let at : read_byte bar (reading p None) b ≡ (halted (reading p None) (refused fault p.position), []) =
       by_judged bar p inner b left lt is ∙ ap (λ (o : Option Stop). head_read (reading p None) bytes o) j.0 ∙ stopped (reading p None) bytes fault p.position false j.1 in
       let same : reading new (Some (refused fault p.position)) ≡ halted (reading p None) (refused fault p.position) =
-      ap (λ (n : ℕ). record { position = n; head = new.head.items; left = new.left; levels = new.levels; halt = Some (refused fault p.position) }) at1
-      ∙ ap (λ (z : List ℕ). record { position = p.position; head = z; left = new.left; levels = new.levels; halt = Some (refused fault p.position) }) at2
-      ∙ ap (λ (n : ℕ). record { position = p.position; head = []; left = n; levels = new.levels; halt = Some (refused fault p.position) }) at3
-      ∙ ap (λ (ls : List Level). record { position = p.position; head = []; left = p.left; levels = ls; halt = Some (refused fault p.position) }) at4 in
+      ap (λ (n : ℕ). record { position = n; head = new.head.items; left = new.left; sign = held_sign new; levels = new.levels; halt = Some (refused fault p.position) }) at1
+      ∙ ap (λ (z : List ℕ). record { position = p.position; head = z; left = new.left; sign = held_sign new; levels = new.levels; halt = Some (refused fault p.position) }) at2
+      ∙ ap (λ (n : ℕ). record { position = p.position; head = []; left = n; sign = held_sign new; levels = new.levels; halt = Some (refused fault p.position) }) at3
+      ∙ ap (λ (ls : List Level). record { position = p.position; head = []; left = p.left; sign = held_sign new; levels = ls; halt = Some (refused fault p.position) }) at4
+      ∙ ap (λ (sign : Option Sign). record { position = p.position; head = []; left = p.left; sign = sign; levels = p.levels; halt = Some (refused fault p.position) }) at5 in
       subst (λ (x : Halt). Feeds {T = T} bars step writes (reading p None) s held (reading new) s held (b ∷ []) (Err x)) (sym is_halt)
       (feeds_byte bars step writes {T = T} (reading p None) s held s held (reading new) b _ (Err (Refused (record { fault = fault; at = p.position }))) at (same, refl, sym (append_known_none held)))
 
   -- more bytes are wanted
   pub feeds_waiting : {T : Type 0} (held : Option (List ℕ)) (new : Cursor) (judged : Judged) (x : T) → Judges bar inner around p.position bytes judged → judged ≡ judge.More
-      → new.position ≡ p.position → new.head.items ≡ bytes → new.left ≡ p.left → new.levels ≡ p.levels
+      → new.position ≡ p.position → new.head.items ≡ bytes → new.left ≡ p.left → new.levels ≡ p.levels → held_sign new ≡ held_sign p
       → Feeds bars step writes (reading p None) s held (reading new) s held (b ∷ []) (Ok x)
-  feeds_waiting held new judged x h e at1 at2 at3 at4 =
+  feeds_waiting held new judged x h e at1 at2 at3 at4 at5 =
       let j : Judges bar inner around p.position bytes judge.More = subst (Judges bar inner around p.position bytes) e h in
       let at : read_byte bar (reading p None) b ≡ (record (reading p None) { head = bytes }, []) =
       by_judged bar p inner b left lt is ∙ ap (λ (z : Option Stop). head_read (reading p None) bytes z) j ∙ stopped (reading p None) bytes EndsEarly (p.position + length bytes) true refl in
       let same : reading new None ≡ record (reading p None) { head = bytes } =
-      ap (λ (n : ℕ). record { position = n; head = new.head.items; left = new.left; levels = new.levels; halt = None }) at1
-      ∙ ap (λ (z : List ℕ). record { position = p.position; head = z; left = new.left; levels = new.levels; halt = None }) at2
-      ∙ ap (λ (n : ℕ). record { position = p.position; head = bytes; left = n; levels = new.levels; halt = None }) at3
-      ∙ ap (λ (ls : List Level). record { position = p.position; head = bytes; left = p.left; levels = ls; halt = None }) at4 in
+      ap (λ (n : ℕ). record { position = n; head = new.head.items; left = new.left; sign = held_sign new; levels = new.levels; halt = None }) at1
+      ∙ ap (λ (z : List ℕ). record { position = p.position; head = z; left = new.left; sign = held_sign new; levels = new.levels; halt = None }) at2
+      ∙ ap (λ (n : ℕ). record { position = p.position; head = bytes; left = n; sign = held_sign new; levels = new.levels; halt = None }) at3
+      ∙ ap (λ (ls : List Level). record { position = p.position; head = bytes; left = p.left; sign = held_sign new; levels = ls; halt = None }) at4
+      ∙ ap (λ (sign : Option Sign). record { position = p.position; head = bytes; left = p.left; sign = sign; levels = p.levels; halt = None }) at5 in
       feeds_byte bars step writes (reading p None) s held s held (reading new) b _ (Ok x) at (same, refl, sym (append_known_none held))
 
   -- something opens or ends

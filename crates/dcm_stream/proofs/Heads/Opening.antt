@@ -17,7 +17,7 @@ use Rattle.dcm_base.specs.Tables.Tag.{is_item}
 use Rattle.dcm_base.specs.Bytes.Head.{ElementHead, ItemHead, Delimiter, tag_at, vr_at, length_at, head_size, long_length}
 use Rattle.dcm_base.specs.declared.form.Form.{Form}
 use Rattle.dcm_base.specs.declared.form.Form.TheVariants.{Value as a_value, Sequence as a_sequence, FragmentList as a_fragment_list, Nothing as no_form}
-use Rattle.dcm_base.specs.Bytes.Spelling.{form, inside}
+use Rattle.dcm_base.specs.Bytes.Spelling.{form, inside, read_as}
 use Rattle.dcm_base.specs.Reading.Size.{trees_size}
 use Rattle.dcm_base.specs.declared.level.Level.{Level}
 use Rattle.dcm_base.specs.declared.level.Container.TheVariants.{Sequence as sequence_container, FragmentList as fragment_container}
@@ -26,15 +26,17 @@ use Rattle.dcm_base.specs.Reading.Stop.{has_no_form, with_length}
 use Rattle.dcm_base.specs.Steps.Atoms.{Atom, opens, closes_leaf, front_atoms}
 use Rattle.dcm_base.proofs.DataSets.Heads.{is_tag_true}
 use Rattle.dcm_base.proofs.DataSets.Sizes.{element_takes, trees_take}
-use Rattle.dcm_base.proofs.DataSets.Path.{then_trees, Path, plug, syntax_of, Placed, Roomy, order_nil, leaf_opens, sequence_opens, fragments_open, leaf_closes}
+use Rattle.dcm_base.proofs.DataSets.Path.{then_trees, Path, plug, syntax_of, behind, Placed, Roomy, order_nil, leaf_opens, sequence_opens, fragments_open, leaf_closes}
 use Rattle.dcm_base.proofs.DataSets.Levels.{begin_of, around, plug_levels, path_position}
 use Rattle.dcm_base.proofs.DataSets.Stops.{set_level}
 use Rattle.dcm_base.proofs.DataSets.Row.{leaf_opens_atoms, leaf_closes_atoms, sequence_opens_atoms}
-use Rattle.dcm_stream.specs.Reading.{Opened, closes, element_opens, item_opens, plain_opens, head_opens}
+use Rattle.dcm_stream.specs.Reading.{Opened, closes, element_opens, item_opens, plain_opens, head_opens, Sign, sign_of, sign_ends, without_value}
 use Rattle.dcm_stream.proofs.Containers.FragmentRow.{fragments_open_atoms}
 use Rattle.dcm_stream.proofs.Containers.Full.{Opens}
 use Rattle.dcm_stream.proofs.Heads.Stops.{FitsElement}
 use Rattle.dcm_stream.proofs.Containers.Room.{passes_zero, passes_less, passes_later, room_at}
+use Rattle.dcm_stream.proofs.Containers.Signs.{sign_so_far, set_signed, none_read}
+use Rattle.dcm_base.specs.Tree.Value.{order}
 
 -- ---- forms
 
@@ -54,41 +56,47 @@ known_no_fragments s vr n h = cc
 -- ---- elements
 
 abbrev pub Behind : Syntax → (start : ℕ) → List ℕ → List Atom → Opened → Type 0
-Behind s start b atoms o = Opens s start b o.levels o.left (atoms ++ o.atoms)
+Behind s start b atoms o = Opens s start b o.levels o.left o.sign (atoms ++ o.atoms)
 
 -- the place of an element in a set
 record InSet (s : Syntax) (start : ℕ) (path : Path) (whole : Trees) (b z : List ℕ) (begin : ℕ) (atoms : List Atom) (tag : Tag) (vr : Vr) (l : Length) : Type 0 where
   h : Placed s path whole nothing_open b
   a : atoms ≡ front_atoms s (plug path whole nothing_open)
   at : begin ≡ start + length b + length z
-  head : ElementHead (syntax_of s path) tag vr l z []
-  free : passes (with_length (length z) l) (room (start + length b) (set_level s start path ∷ around s start path)) ≡ false
+  head : ElementHead (behind s path whole) tag vr l z []
+  free : passes (with_length (length z) l) (room (start + length b) (set_level s start path whole ∷ around s start path)) ≡ false
   roomy : Roomy s path whole nothing_open b h z
 
+none_told : (s : Syntax) (tag : Tag) (vr : Vr) → sign_of tag vr ≡ sign_so_far tag vr (order s vr [])
+none_told s tag vr = sym (none_read tag vr) ∙ ap (sign_so_far tag vr) (sym (order_nil s vr))
+
 leaf_behind : (s : Syntax) (start : ℕ) (path : Path) (whole : Trees) (b z : List ℕ) (begin : ℕ) (atoms : List Atom) (tag : Tag) (vr : Vr) (size : ℕ)
-    → InSet s start path whole b z begin atoms tag vr (Known size) → form (syntax_of s path) vr (Known size) ≡ a_value
-    → Behind s start (b ++ z) atoms (element_opens a_value (syntax_of s path) tag vr (Known size) begin (set_level s start path ∷ around s start path))
+    → InSet s start path whole b z begin atoms tag vr (Known size) → form (behind s path whole) (read_as (behind s path whole) tag vr) (Known size) ≡ a_value
+    → Behind s start (b ++ z) atoms (element_opens a_value (behind s path whole) tag vr (Known size) begin (set_level s start path whole ∷ around s start path))
 unfolding tree_levels
 leaf_behind s start path whole b z begin atoms tag vr zero i fo =
     let opened = leaf_opens s path whole tag vr 0 b z i.h i.roomy fo i.head in
     let w = then_trees whole (leaf tag vr [] no_tree) in
-    let o : Atom = opens tag vr (Known 0) (syntax_of s path) in
+    let o : Atom = opens tag vr (Known 0) (behind s path whole) in
     record {
       path = path;
       whole = w;
       open_tree = nothing_open;
       placed = leaf_closes s path whole tag vr 0 [] (b ++ z) opened refl;
-      levels_are = sym (plug_levels s start path w nothing_open);
+      levels_are =
+          ap (λ (x : Option Sign). sign_ends x (set_level s start path whole ∷ around s start path)) (none_told (behind s path whole) tag vr)
+          ∙ set_signed s start path whole tag vr [] ∙ sym (plug_levels s start path w nothing_open);
       atoms_are =
           sym (append_assoc atoms (o ∷ []) (closes_leaf ∷ []))
           ∙ ap (λ (x : List Atom). (x ++ o ∷ []) ++ closes_leaf ∷ []) i.a
-          ∙ ap (λ (x : List Atom). x ++ closes_leaf ∷ []) (sym (leaf_opens_atoms s path whole tag vr 0 (order_nil (syntax_of s path) vr)))
+          ∙ ap (λ (x : List Atom). x ++ closes_leaf ∷ []) (sym (leaf_opens_atoms s path whole tag vr 0 (order_nil (behind s path whole) vr)))
           ∙ sym (leaf_closes_atoms s path whole tag vr 0 [] refl);
       left_is = refl;
-      fits = passes_zero (room (start + length (b ++ z)) (set_level s start path ∷ around s start path));
+      sign_is = refl;
+      fits = passes_zero (room (start + length (b ++ z)) (sign_ends (sign_of tag vr) (set_level s start path whole ∷ around s start path)));
     }
 leaf_behind s start path whole b z begin atoms tag vr (suc n) i fo =
-    let o : Atom = opens tag vr (Known (suc n)) (syntax_of s path) in
+    let o : Atom = opens tag vr (Known (suc n)) (behind s path whole) in
     let same : start + length b + length z ≡ start + length (b ++ z) = omega (arith, length-append b z) in
     record {
       path = path;
@@ -96,38 +104,40 @@ leaf_behind s start path whole b z begin atoms tag vr (suc n) i fo =
       open_tree = open_leaf tag vr (suc n) [];
       placed = leaf_opens s path whole tag vr (suc n) b z i.h i.roomy fo i.head;
       levels_are = sym (plug_levels s start path whole (open_leaf tag vr (suc n) []));
-      atoms_are = ap (λ (x : List Atom). x ++ o ∷ []) i.a ∙ sym (leaf_opens_atoms s path whole tag vr (suc n) (order_nil (syntax_of s path) vr));
+      atoms_are = ap (λ (x : List Atom). x ++ o ∷ []) i.a ∙ sym (leaf_opens_atoms s path whole tag vr (suc n) (order_nil (behind s path whole) vr));
       left_is = (omega arith, omega arith);
-      fits = subst (λ (p : ℕ). passes (suc n) (room p (set_level s start path ∷ around s start path)) ≡ false) same
-          (passes_later (length z) (suc n) (start + length b) (set_level s start path ∷ around s start path) i.free);
+      sign_is = none_told (behind s path whole) tag vr;
+      fits = subst (λ (p : ℕ). passes (suc n) (room p (set_level s start path whole ∷ around s start path)) ≡ false) same
+          (passes_later (length z) (suc n) (start + length b) (set_level s start path whole ∷ around s start path) i.free);
     }
 
 sequence_behind : (s : Syntax) (start : ℕ) (path : Path) (whole : Trees) (b z : List ℕ) (begin : ℕ) (atoms : List Atom) (tag : Tag) (vr : Vr) (l : Length)
-    → InSet s start path whole b z begin atoms tag vr l → form (syntax_of s path) vr l ≡ a_sequence
-    → Behind s start (b ++ z) atoms (element_opens a_sequence (syntax_of s path) tag vr l begin (set_level s start path ∷ around s start path))
+    → InSet s start path whole b z begin atoms tag vr l → form (behind s path whole) (read_as (behind s path whole) tag vr) l ≡ a_sequence
+    → Behind s start (b ++ z) atoms (element_opens a_sequence (behind s path whole) tag vr l begin (set_level s start path whole ∷ around s start path))
 unfolding tree_levels
 sequence_behind s start path whole b z begin atoms tag vr l i fo =
-    let s' = syntax_of s path in
+    let s' = behind s path whole in
     let o : Atom = opens tag vr l s' in
-    let at : begin ≡ begin_of s start path + trees_size s' whole + head_size s' vr =
-    omega (arith, i.at, path_position s start path b i.h.c i.h.path_at, trees_take s' whole i.h.c i.h.d i.h.trees_at, ap length i.h.open_at, element_takes s' tag vr l z [] i.head) in
+    let at : begin ≡ begin_of s start path + trees_size (syntax_of s path) whole + head_size s' vr =
+    omega (arith, i.at, path_position s start path b i.h.c i.h.path_at, trees_take (syntax_of s path) whole i.h.c i.h.d i.h.trees_at, ap length i.h.open_at, element_takes s' tag vr l z [] i.head) in
     record {
       path = path;
       whole = whole;
       open_tree = open_sequence tag vr l no_item no_open_item;
       placed = sequence_opens s path whole tag vr l b z i.h i.roomy fo i.head;
-      levels_are = ap (λ (x : ℕ). level sequence_container (inside s' vr) l x ∷ set_level s start path ∷ around s start path) at ∙ sym (plug_levels s start path whole (open_sequence tag vr l no_item no_open_item));
+      levels_are = ap (λ (x : ℕ). level sequence_container (inside s' vr) l x ∷ set_level s start path whole ∷ around s start path) at ∙ sym (plug_levels s start path whole (open_sequence tag vr l no_item no_open_item));
       atoms_are = ap (λ (x : List Atom). x ++ o ∷ []) i.a ∙ sym (sequence_opens_atoms s path whole tag vr l);
       left_is = refl;
-      fits = passes_zero (room (start + length (b ++ z)) (level sequence_container (inside s' vr) l begin ∷ set_level s start path ∷ around s start path));
+      sign_is = refl;
+      fits = passes_zero (room (start + length (b ++ z)) (level sequence_container (inside s' vr) l begin ∷ set_level s start path whole ∷ around s start path));
     }
 
 fragments_behind : (s : Syntax) (start : ℕ) (path : Path) (whole : Trees) (b z : List ℕ) (begin : ℕ) (atoms : List Atom) (tag : Tag) (vr : Vr)
-    → InSet s start path whole b z begin atoms tag vr Undefined → form (syntax_of s path) vr Undefined ≡ a_fragment_list
-    → Behind s start (b ++ z) atoms (element_opens a_fragment_list (syntax_of s path) tag vr Undefined begin (set_level s start path ∷ around s start path))
+    → InSet s start path whole b z begin atoms tag vr Undefined → form (behind s path whole) (read_as (behind s path whole) tag vr) Undefined ≡ a_fragment_list
+    → Behind s start (b ++ z) atoms (element_opens a_fragment_list (behind s path whole) tag vr Undefined begin (set_level s start path whole ∷ around s start path))
 unfolding tree_levels
 fragments_behind s start path whole b z begin atoms tag vr i fo =
-    let s' = syntax_of s path in
+    let s' = behind s path whole in
     record {
       path = path;
       whole = whole;
@@ -136,34 +146,35 @@ fragments_behind s start path whole b z begin atoms tag vr i fo =
       levels_are = sym (plug_levels s start path whole (open_fragments tag vr [] None));
       atoms_are = ap (λ (x : List Atom). x ++ opens tag vr Undefined s' ∷ []) i.a ∙ sym (fragments_open_atoms s path whole tag vr);
       left_is = refl;
-      fits = passes_zero (room (start + length (b ++ z)) (level fragment_container s' Undefined begin ∷ set_level s start path ∷ around s start path));
+      sign_is = refl;
+      fits = passes_zero (room (start + length (b ++ z)) (level fragment_container s' Undefined begin ∷ set_level s start path whole ∷ around s start path));
     }
 
 element_behind : (s : Syntax) (start : ℕ) (path : Path) (whole : Trees) (b z : List ℕ) (begin : ℕ) (atoms : List Atom) (tag : Tag) (vr : Vr) (f : Form) (l : Length)
-    → InSet s start path whole b z begin atoms tag vr l → form (syntax_of s path) vr l ≡ f → has_no_form f ≡ false
-    → Behind s start (b ++ z) atoms (element_opens f (syntax_of s path) tag vr l begin (set_level s start path ∷ around s start path))
+    → InSet s start path whole b z begin atoms tag vr l → form (behind s path whole) (read_as (behind s path whole) tag vr) l ≡ f → has_no_form f ≡ false
+    → Behind s start (b ++ z) atoms (element_opens f (behind s path whole) tag vr l begin (set_level s start path whole ∷ around s start path))
 element_behind s start path whole b z begin atoms tag vr a_value (Known size) i fo has = leaf_behind s start path whole b z begin atoms tag vr size i fo
-element_behind s start path whole b z begin atoms tag vr a_value Undefined i fo has = absurd (undefined_no_value (syntax_of s path) vr fo)
+element_behind s start path whole b z begin atoms tag vr a_value Undefined i fo has = absurd (undefined_no_value (behind s path whole) (read_as (behind s path whole) tag vr) fo)
 element_behind s start path whole b z begin atoms tag vr a_sequence l i fo has = sequence_behind s start path whole b z begin atoms tag vr l i fo
-element_behind s start path whole b z begin atoms tag vr a_fragment_list (Known size) i fo has = absurd (known_no_fragments (syntax_of s path) vr size fo)
+element_behind s start path whole b z begin atoms tag vr a_fragment_list (Known size) i fo has = absurd (known_no_fragments (behind s path whole) (read_as (behind s path whole) tag vr) size fo)
 element_behind s start path whole b z begin atoms tag vr a_fragment_list Undefined i fo has = fragments_behind s start path whole b z begin atoms tag vr i fo
 element_behind s start path whole b z begin atoms tag vr no_form l i fo has = absurd (cc)
 
 -- ---- what a head opens, by its tag
 
 pub opens_element : (begin : ℕ) (z : List ℕ) (inner : Level) (outer : List Level) (vr : Vr) → ((tag_at inner.syntax z).group == 0xFFFE) ≡ false → vr_at inner.syntax z ≡ Some vr
-    → head_opens begin z (inner ∷ outer) ≡ element_opens (form inner.syntax vr (length_at inner.syntax vr z)) inner.syntax (tag_at inner.syntax z) vr (length_at inner.syntax vr z) begin (inner ∷ outer)
+    → head_opens begin z (inner ∷ outer) ≡ element_opens (form inner.syntax (read_as inner.syntax (tag_at inner.syntax z) vr) (length_at inner.syntax vr z)) inner.syntax (tag_at inner.syntax z) vr (length_at inner.syntax vr z) begin (inner ∷ outer)
 opens_element begin z inner outer vr g v =
-    ap (λ (x : Bool). cond {A = Opened} x (cond (is_item (tag_at inner.syntax z)) (item_opens inner.container inner.syntax (long_length (number inner.syntax 4 (drop 4 z))) begin (inner ∷ outer)) (record { levels = outer; left = 0; atoms = closes inner.container ∷ [] }))
+    ap (λ (x : Bool). cond {A = Opened} x (cond (is_item (tag_at inner.syntax z)) (item_opens inner.container inner.syntax (long_length (number inner.syntax 4 (drop 4 z))) begin (inner ∷ outer)) (without_value outer (closes inner.container)))
     (plain_opens (vr_at inner.syntax z) inner.syntax begin z (inner ∷ outer))) g
     ∙ ap (λ (x : Option Vr). plain_opens x inner.syntax begin z (inner ∷ outer)) v
 
 pub opens_other : (begin : ℕ) (z : List ℕ) (inner : Level) (outer : List Level) (i : Bool) → ((tag_at inner.syntax z).group == 0xFFFE) ≡ true → is_item (tag_at inner.syntax z) ≡ i
-    → head_opens begin z (inner ∷ outer) ≡ cond i (item_opens inner.container inner.syntax (long_length (number inner.syntax 4 (drop 4 z))) begin (inner ∷ outer)) (record { levels = outer; left = 0; atoms = closes inner.container ∷ [] })
+    → head_opens begin z (inner ∷ outer) ≡ cond i (item_opens inner.container inner.syntax (long_length (number inner.syntax 4 (drop 4 z))) begin (inner ∷ outer)) (without_value outer (closes inner.container))
 opens_other begin z inner outer i g is =
-    ap (λ (x : Bool). cond {A = Opened} x (cond (is_item (tag_at inner.syntax z)) (item_opens inner.container inner.syntax (long_length (number inner.syntax 4 (drop 4 z))) begin (inner ∷ outer)) (record { levels = outer; left = 0; atoms = closes inner.container ∷ [] }))
+    ap (λ (x : Bool). cond {A = Opened} x (cond (is_item (tag_at inner.syntax z)) (item_opens inner.container inner.syntax (long_length (number inner.syntax 4 (drop 4 z))) begin (inner ∷ outer)) (without_value outer (closes inner.container)))
     (plain_opens (vr_at inner.syntax z) inner.syntax begin z (inner ∷ outer))) g
-    ∙ ap (λ (x : Bool). cond {A = Opened} x (item_opens inner.container inner.syntax (long_length (number inner.syntax 4 (drop 4 z))) begin (inner ∷ outer)) (record { levels = outer; left = 0; atoms = closes inner.container ∷ [] })) is
+    ∙ ap (λ (x : Bool). cond {A = Opened} x (item_opens inner.container inner.syntax (long_length (number inner.syntax 4 (drop 4 z))) begin (inner ∷ outer)) (without_value outer (closes inner.container))) is
 
 -- the bytes are just a head
 pub record JustHead (s : Syntax) (z : List ℕ) : Type 0 where
@@ -191,20 +202,20 @@ with_head n Undefined = omega arith
 
 pub set_element_behind : (s : Syntax) (start : ℕ) (path : Path) (whole : Trees) (b z : List ℕ) (begin : ℕ) (atoms : List Atom) (vr : Vr) → Placed s path whole nothing_open b
     → atoms ≡ front_atoms s (plug path whole nothing_open) → begin ≡ start + length b + length z
-    → ((tag_at (syntax_of s path) z).group == 0xFFFE) ≡ false → FitsElement (syntax_of s path) (set_level s start path ∷ around s start path) (start + length b) z vr → length z ≡ head_size (syntax_of s path) vr
-    → Behind s start (b ++ z) atoms (head_opens begin z (set_level s start path ∷ around s start path))
+    → ((tag_at (behind s path whole) z).group == 0xFFFE) ≡ false → FitsElement (behind s path whole) (set_level s start path whole ∷ around s start path) (start + length b) z vr → length z ≡ head_size (behind s path whole) vr
+    → Behind s start (b ++ z) atoms (head_opens begin z (set_level s start path whole ∷ around s start path))
 set_element_behind s start path whole b z begin atoms vr h a at g f e =
-    let s' = syntax_of s path in
+    let s' = behind s path whole in
     let l = length_at s' vr z in
-    let free : passes (with_length (length z) l) (room (start + length b) (set_level s start path ∷ around s start path)) ≡ false =
-    subst (λ (n : ℕ). passes (with_length n l) (room (start + length b) (set_level s start path ∷ around s start path)) ≡ false) (sym e) f.fits in
-    subst (Behind s start (b ++ z) atoms) (sym (opens_element begin z (set_level s start path) (around s start path) vr g f.vr_is))
-    (element_behind s start path whole b z begin atoms (tag_at s' z) vr (form s' vr l) l
+    let free : passes (with_length (length z) l) (room (start + length b) (set_level s start path whole ∷ around s start path)) ≡ false =
+    subst (λ (n : ℕ). passes (with_length n l) (room (start + length b) (set_level s start path whole ∷ around s start path)) ≡ false) (sym e) f.fits in
+    subst (Behind s start (b ++ z) atoms) (sym (opens_element begin z (set_level s start path whole) (around s start path) vr g f.vr_is))
+    (element_behind s start path whole b z begin atoms (tag_at s' z) vr (form s' (read_as s' (tag_at s' z) vr) l) l
     (record {
       h = h;
       a = a;
       at = at;
       head = element_head s' vr z g f.vr_is e;
       free = free;
-      roomy = room_at s start path whole nothing_open b z h (passes_less (length z) (with_length (length z) l) (room (start + length b) (set_level s start path ∷ around s start path)) (with_head (length z) l) free);
+      roomy = room_at s start path whole nothing_open b z h (passes_less (length z) (with_length (length z) l) (room (start + length b) (set_level s start path whole ∷ around s start path)) (with_head (length z) l) free);
     }) refl f.has_form)

@@ -10,7 +10,7 @@ use Rattle.dcm_base.specs.declared.level.Level.{Level}
 use Rattle.dcm_base.specs.declared.fault.Fault.{Fault}
 use Rattle.dcm_base.specs.Tables.Tag.{is_item}
 use Rattle.dcm_base.specs.Bytes.Head.{tag_at, vr_at, length_at, head_size, long_length}
-use Rattle.dcm_base.specs.Bytes.Spelling.{form}
+use Rattle.dcm_base.specs.Bytes.Spelling.{form, read_as}
 use Rattle.dcm_base.specs.Steps.Atoms.{Atom}
 use Rattle.dcm_base.specs.Reading.Stop.{Stop, refused, HeadBar, innermost_stop, place_stop, is_undecided}
 use Rattle.dcm_base.specs.Reading.Reads.{INPUT_LIMIT}
@@ -26,9 +26,9 @@ use Rattle.dcm_stream.specs.declared.cursor.Cursor.{Cursor}
 use Rattle.dcm_stream.specs.declared.machine.Halt.{Halt}
 use Rattle.dcm_stream.specs.declared.machine.Halt.TheVariants.{Refused}
 use Rattle.dcm_stream.specs.Places.{innermost}
-use Rattle.dcm_stream.specs.Reading.{Reading, Opened, halted, closes, element_opens, item_opens, head_opens}
+use Rattle.dcm_stream.specs.Reading.{Reading, Opened, halted, closes, element_opens, item_opens, head_opens, without_value}
 use Rattle.dcm_stream.specs.Judging.{bars_head, opened_by, Judges}
-use Rattle.dcm_stream.specs.Machine.{reading, Stands, Comes, entered, Feeds}
+use Rattle.dcm_stream.specs.Machine.{reading, Stands, Comes, entered, Feeds, held_sign}
 use Rattle.dcm_stream.proofs.Runs.Bounds.{few, Small, levels_accept}
 use Rattle.dcm_stream.proofs.Runs.Parts.{in_head}
 use Rattle.dcm_stream.proofs.Heads.Elements.{MayCome, SizeIs, size_of_special, size_of_element, whole_head}
@@ -49,7 +49,7 @@ opens_by_kind begin z w inner outer true eight g f =
     let same = tag_at_extends s z w (omega arith) in
     let i = is_item (tag_at s z) in
     opens_other begin (z ++ w) inner outer i (ap (λ (t : Tag). t.group == 0xFFFE) same ∙ g) (ap is_item same)
-    ∙ ap (λ (n : ℕ). cond {A = Opened} i (item_opens inner.container s (long_length n) begin (inner ∷ outer)) (record { levels = outer; left = 0; atoms = closes inner.container ∷ [] })) (number_behind_extends s 4 4 z w (omega arith))
+    ∙ ap (λ (n : ℕ). cond {A = Opened} i (item_opens inner.container s (long_length n) begin (inner ∷ outer)) (without_value outer (closes inner.container))) (number_behind_extends s 4 4 z w (omega arith))
     ∙ sym (opens_other begin z inner outer i g refl)
 opens_by_kind begin z w inner outer false eight g f =
     let s = inner.syntax in
@@ -57,8 +57,8 @@ opens_by_kind begin z w inner outer false eight g f =
     let vr = k.0 in
     let same = tag_at_extends s z w (omega arith) in
     opens_element begin (z ++ w) inner outer vr (ap (λ (t : Tag). t.group == 0xFFFE) same ∙ g) (vr_at_extends s z w eight ∙ k.1)
-    ∙ ap (λ (l : Length). element_opens (form s vr l) s (tag_at s (z ++ w)) vr l begin (inner ∷ outer)) (length_at_extends s vr z w k.2)
-    ∙ ap (λ (t : Tag). element_opens (form s vr (length_at s vr z)) s t vr (length_at s vr z) begin (inner ∷ outer)) same
+    ∙ ap (λ (l : Length). element_opens (form s (read_as s (tag_at s (z ++ w)) vr) l) s (tag_at s (z ++ w)) vr l begin (inner ∷ outer)) (length_at_extends s vr z w k.2)
+    ∙ ap (λ (t : Tag). element_opens (form s (read_as s t vr) (length_at s vr z)) s t vr (length_at s vr z) begin (inner ∷ outer)) same
     ∙ sym (opens_element begin z inner outer vr g k.1)
 
 -- ---- the bytes of a head, and none before its end
@@ -149,7 +149,7 @@ module _ {S : Type 0} (bars : S → Head → Option Bar) (step : S → Atom → 
   stop_at z = innermost_is at_bar p.levels inner p.position z is
 
   from_place : {T : Type 0} (held : Option (List ℕ)) (t : S) (holds : Option (List ℕ)) (new : Option Stop → Reading) (bs : List ℕ) (r : Result T Halt)
-      → Feeds bars step writes (in_head bars step writes p.position [] p.levels) s held new t holds bs r → Feeds bars step writes (reading p None) s held new t holds bs r
+      → Feeds bars step writes (in_head bars step writes p.position [] (held_sign p) p.levels) s held new t holds bs r → Feeds bars step writes (reading p None) s held new t holds bs r
   from_place held t holds new bs r h = subst (λ (x : Reading). Feeds bars step writes x s held new t holds bs r) (sym (head_in bars step writes p head left)) h
 
   -- more bytes are wanted
@@ -163,12 +163,12 @@ module _ {S : Type 0} (bars : S → Head → Option Bar) (step : S → Atom → 
       → Feeds bars step writes (reading p None) s held (reading new) s held (take (length bytes) bytes) (Ok x)
   piece_waits held new judged x j e n =
       let k : Judges at_bar inner p.levels p.position bytes judge.More = subst (Judges at_bar inner p.levels p.position bytes) e j in
-      let same : reading new None ≡ in_head bars step writes p.position bytes p.levels =
+      let same : reading new None ≡ in_head bars step writes p.position bytes (held_sign p) p.levels =
       n
-      ∙ ap (λ (z : List ℕ). record { position = p.position; head = z ++ bytes; left = p.left; levels = p.levels; halt = None }) head
-      ∙ ap (λ (m : ℕ). record { position = p.position; head = bytes; left = m; levels = p.levels; halt = None }) left in
+      ∙ ap (λ (z : List ℕ). record { position = p.position; head = z ++ bytes; left = p.left; sign = held_sign p; levels = p.levels; halt = None }) head
+      ∙ ap (λ (m : ℕ). record { position = p.position; head = bytes; left = m; sign = held_sign p; levels = p.levels; halt = None }) left in
       subst (λ (bs : List ℕ). Feeds bars step writes (reading p None) s held (reading new) s held bs (Ok x)) (sym (take_all (length bytes) bytes (omega arith)))
-      (from_place held s held (reading new) bytes (Ok x) (feeds_held bars step writes p.position p.levels s held (reading new) bytes x within (ap is_undecided (stop_at bytes ∙ k)) same))
+      (from_place held s held (reading new) bytes (Ok x) (feeds_held bars step writes p.position (held_sign p) p.levels s held (reading new) bytes x within (ap is_undecided (stop_at bytes ∙ k)) same))
 
   -- the head is refused
   pub piece_refused : (T : Type 0) (held : Option (List ℕ)) (judged : Judged) (fault : Fault) (halt : Halt) → 0 < length bytes → Judges at_bar inner p.levels p.position bytes judged → judged ≡ judge.Refused fault
@@ -176,10 +176,10 @@ module _ {S : Type 0} (bars : S → Head → Option Bar) (step : S → Atom → 
   piece_refused T held judged fault halt some j e n =
       let k : Judges at_bar inner p.levels p.position bytes (judge.Refused fault) = subst (Judges at_bar inner p.levels p.position bytes) e j in
       let stop : Stop = refused fault p.position in
-      let same : reading p (Some stop) ≡ halted (in_head bars step writes p.position [] p.levels) stop =
-      ap (λ (z : List ℕ). record { position = p.position; head = z; left = p.left; levels = p.levels; halt = Some stop }) head
-      ∙ ap (λ (m : ℕ). record { position = p.position; head = []; left = m; levels = p.levels; halt = Some stop }) left in
-      from_place {T = T} held s held (reading p) bytes (Err halt) (feeds_fault bars step writes p.position p.levels s T held (reading p) bytes fault halt some within k.1 (stop_at bytes ∙ k.0) n same)
+      let same : reading p (Some stop) ≡ halted (in_head bars step writes p.position [] (held_sign p) p.levels) stop =
+      ap (λ (z : List ℕ). record { position = p.position; head = z; left = p.left; sign = held_sign p; levels = p.levels; halt = Some stop }) head
+      ∙ ap (λ (m : ℕ). record { position = p.position; head = []; left = m; sign = held_sign p; levels = p.levels; halt = Some stop }) left in
+      from_place {T = T} held s held (reading p) bytes (Err halt) (feeds_fault bars step writes p.position (held_sign p) p.levels s T held (reading p) bytes fault halt some within k.1 (stop_at bytes ∙ k.0) n same)
 
   -- something opens or ends
   record Opened_at (o : Opening) (size : ℕ) : Type 0 where
@@ -237,6 +237,6 @@ module _ {S : Type 0} (bars : S → Head → Option Bar) (step : S → Atom → 
       subst (λ (x : Opened). Comes step writes s held t holds new (entered begin x) r) same (subst (λ (n : ℕ). Comes step writes s held t holds new (entered n (opened_by (p.position + size) p.levels o)) r) place h) in
       subst (λ (x : List ℕ). Feeds bars step writes (reading p None) s held new t holds x r) (sym last)
       (from_place held t holds new (front ++ b ∷ []) r
-      (feeds_whole bars step writes p.position p.levels s held t holds new front b r (omega (arith, before, fits.0, fits.1, within))
+      (feeds_whole bars step writes p.position (held_sign p) p.levels s held t holds new front b r (omega (arith, before, fits.0, fits.1, within))
       (ap is_undecided (stop_at front) ∙ before_undecided at_bar inner p.levels p.position bytes a.come a.none size front (drop (size - 1) bytes) a.size_is rest (omega (arith, before, fits.0)))
       (stop_at (front ++ b ∷ []) ∙ ap (place_stop at_bar inner p.levels p.position) (sym last) ∙ none) come))

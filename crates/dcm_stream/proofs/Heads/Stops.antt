@@ -13,7 +13,7 @@ use Rattle.dcm_base.specs.declared.length.Length.{Length}
 use Rattle.dcm_base.specs.Tables.Number.{number}
 use Rattle.dcm_base.specs.Tables.Tag.{is_item}
 use Rattle.dcm_base.specs.Bytes.Head.{tag_at, vr_at, length_at, head_size, long_length}
-use Rattle.dcm_base.specs.Bytes.Spelling.{form}
+use Rattle.dcm_base.specs.Bytes.Spelling.{form, read_as}
 use Rattle.dcm_base.specs.declared.level.Level.{Level}
 use Rattle.dcm_base.specs.Reading.Place.{room, passes, depth, is_allowed, is_undefined}
 use Rattle.dcm_base.specs.Reading.Stop.{Stop, complete, refused, HeadBar, first_case, is_empty, is_the_data_set, is_fragment_list, opens_list, has_no_form, with_length, barred, element_stop, item_stop, head_stop, place_stop, is_undecided, is_early_bar}
@@ -26,9 +26,9 @@ use Rattle.dcm_stream.proofs.Steps.StopsStay.{tests, element_tests}
 pub record FitsElement (s : Syntax) (around : List Level) (position : ℕ) (rest : List ℕ) (vr : Vr) : Type 0 where
   pub vr_is : vr_at s rest ≡ Some vr
   pub whole : head_size s vr ≤ length rest
-  pub has_form : has_no_form (form s vr (length_at s vr rest)) ≡ false
+  pub has_form : has_no_form (form s (read_as s (tag_at s rest) vr) (length_at s vr rest)) ≡ false
   pub fits : passes (with_length (head_size s vr) (length_at s vr rest)) (room position around) ≡ false
-  pub shallow : (opens_list (form s vr (length_at s vr rest)) && nat_le 64 (depth around)) ≡ false
+  pub shallow : (opens_list (form s (read_as s (tag_at s rest) vr) (length_at s vr rest)) && nat_le 64 (depth around)) ≡ false
 
 tests_none : (c1 c2 c3 c4 : Bool) (position size : ℕ) (h : Option Stop) → tests c1 c2 c3 c4 position size h ≡ None → (c1 ≡ false) × (c3 ≡ false) × (c4 ≡ false) × (h ≡ None)
 tests_none true c2 c3 c4 position size h e = absurd (cc)
@@ -50,7 +50,7 @@ element_none : (bar : HeadBar) (s : Syntax) (around : List Level) (position : �
 element_none bar s around position rest None is e = absurd (cc)
 element_none bar s around position rest (Some vr) is e =
     let l = length_at s vr rest in
-    let k = cases_none (passes (head_size s vr) (room position around)) (nat_lt (length rest) (head_size s vr)) (has_no_form (form s vr l)) (passes (with_length (head_size s vr) l) (room position around)) (opens_list (form s vr l) && nat_le 64 (depth around))
+    let k = cases_none (passes (head_size s vr) (room position around)) (nat_lt (length rest) (head_size s vr)) (has_no_form (form s (read_as s (tag_at s rest) vr) l)) (passes (with_length (head_size s vr) l) (room position around)) (opens_list (form s (read_as s (tag_at s rest) vr) l) && nat_le 64 (depth around))
     (refused PassesEnd position) (refused EndsEarly (position + length rest)) (refused UndefinedLength position) (refused PassesEnd position) (refused TooDeep position)
     (barred (bar (tag_at s rest) vr l) position) e in
     (vr, record { vr_is = is; whole = ltb-false _ _ k.0; has_form = k.1; fits = k.2; shallow = k.3 })
@@ -122,12 +122,12 @@ barred_decided false false true bar position h = refl
 barred_decided false false false None position h = refl
 barred_decided false false false (Some fault) position h = h
 
-element_tests_short : (c1 c2 : Bool) (bar : Option Fault) (s : Syntax) (around : List Level) (position size : ℕ) (vr : Vr) (l : Length) → is_early_bar bar ≡ false
-    → is_undecided (element_tests c1 c2 bar s around position size vr l) ≡ true → (c2 ≡ true) × (element_tests c1 c2 bar s around position size vr l ≡ Some (refused EndsEarly (position + size)))
-element_tests_short true c2 bar s around position size vr l h e = absurd (cc)
-element_tests_short false true bar s around position size vr l h e = (refl, refl)
-element_tests_short false false bar s around position size vr l h e =
-    let k = barred_decided (has_no_form (form s vr l)) (passes (with_length (head_size s vr) l) (room position around)) (opens_list (form s vr l) && nat_le 64 (depth around)) bar position h in
+element_tests_short : (c1 c2 : Bool) (bar : Option Fault) (s : Syntax) (around : List Level) (position size : ℕ) (tag : Tag) (vr : Vr) (l : Length) → is_early_bar bar ≡ false
+    → is_undecided (element_tests c1 c2 bar s around position size tag vr l) ≡ true → (c2 ≡ true) × (element_tests c1 c2 bar s around position size tag vr l ≡ Some (refused EndsEarly (position + size)))
+element_tests_short true c2 bar s around position size tag vr l h e = absurd (cc)
+element_tests_short false true bar s around position size tag vr l h e = (refl, refl)
+element_tests_short false false bar s around position size tag vr l h e =
+    let k = barred_decided (has_no_form (form s (read_as s tag vr) l)) (passes (with_length (head_size s vr) l) (room position around)) (opens_list (form s (read_as s tag vr) l) && nat_le 64 (depth around)) bar position h in
     absurd (cc)
 
 -- a bar is no early end
@@ -139,7 +139,7 @@ element_short : (bar : HeadBar) (s : Syntax) (around : List Level) (position : �
 element_short bar s around position rest None never e = absurd (cc)
 element_short bar s around position rest (Some vr) never e =
     let l = length_at s vr rest in
-    let k = element_tests_short (passes (head_size s vr) (room position around)) (nat_lt (length rest) (head_size s vr)) (bar (tag_at s rest) vr l) s around position (length rest) vr l (never (tag_at s rest) vr l) e in
+    let k = element_tests_short (passes (head_size s vr) (room position around)) (nat_lt (length rest) (head_size s vr)) (bar (tag_at s rest) vr l) s around position (length rest) (tag_at s rest) vr l (never (tag_at s rest) vr l) e in
     (vr, refl, ltb-true _ _ k.0, k.1)
 
 item_decided : (c1 c2 : Bool) (position : ℕ) → is_undecided (first_case ((c1, refused UndefinedLength position) ∷ (c2, refused PassesEnd position) ∷ [])) ≡ false

@@ -15,19 +15,19 @@ use Rattle.dcm_head.specs.declared.head.Head.{Head}
 use Rattle.dcm_stream.specs.declared.token.Bar.{Bar}
 use Rattle.dcm_stream.specs.declared.machine.Halt.{Halt}
 use Rattle.dcm_stream.specs.declared.machine.Halt.TheVariants.{Refused}
-use Rattle.dcm_stream.specs.Reading.{Reading, halted, head_opens, head_read, byte_read, read_byte, settled}
+use Rattle.dcm_stream.specs.Reading.{Reading, halted, head_opens, head_read, byte_read, read_byte, settled, Sign}
 use Rattle.dcm_stream.specs.Judging.{bars_head}
 use Rattle.dcm_stream.specs.Machine.{steps, steps_write, Comes, Feeds}
 use Rattle.dcm_stream.proofs.Steps.StopsStay.{innermost_extends}
 use Rattle.dcm_stream.proofs.Runs.Parts.{in_head, feeds_byte, feeds_on, halted_stays, halted_silent, undecided_read}
 
-module _ {S : Type 0} (bars : S → Head → Option Bar) (step : S → Atom → S) (writes : S → Atom → List ℕ) (position : ℕ) (levels : List Level) (s : S) where
+module _ {S : Type 0} (bars : S → Head → Option Bar) (step : S → Atom → S) (writes : S → Atom → List ℕ) (position : ℕ) (sign : Option Sign) (levels : List Level) (s : S) where
   -- what stops at these bytes of a head
   abbrev stop : List ℕ → Option Stop
   stop z = innermost_stop (bars_head bars s) levels position z
 
   abbrev holding : List ℕ → Reading
-  holding z = in_head bars step writes position z levels
+  holding z = in_head bars step writes position z sign levels
 
   one_byte : (head : List ℕ) (b : ℕ) → position + length head < INPUT_LIMIT → read_byte (bars_head bars s) (holding head) b ≡ head_read (holding head) (head ++ b ∷ []) (stop (head ++ b ∷ []))
   unfolding read_byte
@@ -81,8 +81,8 @@ module _ {S : Type 0} (bars : S → Head → Option Bar) (step : S → Atom → 
   refuses_now bs head b fault le d e u =
       let at : stop (head ++ b ∷ []) ≡ Some (refused fault position) = sym (stays head bs b u) ∙ e in
       let one = one_byte head b (omega arith) ∙ ap (head_read (holding head) (head ++ b ∷ [])) at ∙ refused_by (head ++ b ∷ []) (holding head) fault false d refl in (
-        ap (λ (q : Reading × List Atom). fold (steps bars step) (q.0, fold step s q.1) bs) one ∙ halted_stays bars step writes position [] 0 levels (refused fault position) s bs,
-        ap (λ (q : Reading × List Atom). outputs step writes s q.1 ++ outputs (steps bars step) (steps_write bars step writes) (q.0, fold step s q.1) bs) one ∙ halted_silent bars step writes position [] 0 levels (refused fault position) s bs,
+        ap (λ (q : Reading × List Atom). fold (steps bars step) (q.0, fold step s q.1) bs) one ∙ halted_stays bars step writes position [] 0 sign levels (refused fault position) s bs,
+        ap (λ (q : Reading × List Atom). outputs step writes s q.1 ++ outputs (steps bars step) (steps_write bars step writes) (q.0, fold step s q.1) bs) one ∙ halted_silent bars step writes position [] 0 sign levels (refused fault position) s bs,
       )
 
   refuses : (bs head : List ℕ) (b : ℕ) (fault : Fault) → position + length head + length (b ∷ bs) ≤ INPUT_LIMIT → is_early fault ≡ false → stop (head ++ b ∷ bs) ≡ Some (refused fault position) → Refuses head (b ∷ bs) fault

@@ -12,7 +12,7 @@ use Rattle.dcm_base.specs.Tables.Tag.{is_item, is_item_end}
 use Rattle.dcm_base.specs.Bytes.Head.{tag_at, length_at, long_length}
 use Rattle.dcm_base.specs.declared.form.Form.{Form}
 use Rattle.dcm_base.specs.declared.form.Form.TheVariants.{Value as a_value, Sequence as sequence_form, FragmentList as fragment_form, Nothing as no_form}
-use Rattle.dcm_base.specs.Bytes.Spelling.{form}
+use Rattle.dcm_base.specs.Bytes.Spelling.{form, read_as}
 use Rattle.dcm_base.specs.declared.level.Container.{Container}
 use Rattle.dcm_base.specs.declared.level.Level.{Level}
 use Rattle.dcm_base.specs.declared.level.Container.TheVariants.{DataSet as the_data_set, Item as an_item, Sequence as a_sequence, FragmentList as a_fragment_list}
@@ -20,7 +20,7 @@ use Rattle.dcm_base.specs.Reading.Place.{level, counts, depth, room, passes, is_
 use Rattle.dcm_base.specs.Reading.Stop.{Stop, refused, HeadBar, innermost_stop, is_the_data_set, opens_list, is_undecided}
 use Rattle.dcm_base.specs.Reading.Reads.{INPUT_LIMIT}
 use Rattle.dcm_base.specs.Steps.Atoms.{Atom, value_byte}
-use Rattle.dcm_stream.specs.Reading.{Reading, start_of, Opened, closing, ends_at, closes, element_opens, item_opens, head_opens, full_closed, room_stop, settled, head_read, byte_read, read_byte}
+use Rattle.dcm_stream.specs.Reading.{Reading, start_of, Opened, closing, ends_at, closes, element_opens, item_opens, head_opens, full_closed, room_stop, settled, head_read, byte_read, read_byte, Sign, sign_of, sign_reads, signed_by, in_syntax, left_levels, value_left, size_of}
 use Rattle.dcm_stream.specs.Bounds.{may_hold, are_nested, IsSmall, StaysSmall}
 use Rattle.dcm_stream.proofs.Heads.Stops.{NeverEarly, FitsHead, fits_element, fits_item, fits_delimiter, Fits, place_none, place_short}
 use Rattle.dcm_stream.proofs.Heads.Opening.{opens_element, opens_other}
@@ -121,9 +121,21 @@ pushed : (inner next : Level) (outer : List Level) → may_hold next.container i
 unfolding are_nested depth
 pushed inner next outer m h d = record { nested = ap (λ (x : Bool). x && are_nested (next ∷ outer)) m ∙ h.nested; shallow = d }
 
+-- the syntax of a container changes neither
+signed_small : (sign : Sign) (inner : Level) (outer : List Level) → Small (inner ∷ outer) → Small (in_syntax (signed_by sign inner.syntax) inner ∷ outer)
+unfolding are_nested depth
+signed_small sign inner [] h = record { nested = h.nested; shallow = h.shallow }
+signed_small sign inner (next ∷ outer) h = record { nested = h.nested; shallow = h.shallow }
+
+pub left_small : (left : ℕ) (sign : Option Sign) (ls : List Level) → Small ls → Small (left_levels left sign ls)
+left_small zero None ls h = h
+left_small zero (Some sign) [] h = h
+left_small zero (Some sign) (inner ∷ outer) h = signed_small sign inner outer h
+left_small (suc left) sign ls h = h
+
 element_small : (f : Form) (s : Syntax) (tag : Tag) (vr : Vr) (l : Length) (begin : ℕ) (next : Level) (outer : List Level) → may_hold next.container a_sequence ≡ true → may_hold next.container a_fragment_list ≡ true
     → (opens_list f && nat_le 64 (depth (next ∷ outer))) ≡ false → Small (next ∷ outer) → Small (element_opens f s tag vr l begin (next ∷ outer)).levels
-element_small a_value s tag vr l begin next outer m m' d h = h
+element_small a_value s tag vr l begin next outer m m' d h = left_small (size_of l) (sign_of tag vr) (next ∷ outer) h
 element_small no_form s tag vr l begin next outer m m' d h = h
 element_small sequence_form s tag vr l begin next outer m m' d h = pushed _ next outer m h (let lt = leb-false 64 (depth (next ∷ outer)) d in omega arith)
 element_small fragment_form s tag vr l begin next outer m m' d h = pushed _ next outer m' h (let lt = leb-false 64 (depth (next ∷ outer)) d in omega arith)
@@ -134,7 +146,7 @@ unfolding is_allowed
 item_small the_data_set s declared l tag begin next outer c g i a h = let k = data_false tag g in absurd (cc)
 item_small an_item s declared l tag begin next outer c g i a h = absurd (set_refuses (is_undefined declared) tag g i a)
 item_small a_sequence s declared l tag begin next outer c g i a h = pushed (level an_item s l begin) next outer (ap (λ (x : Container). may_hold x an_item) c) h (let d = h.shallow in omega arith)
-item_small a_fragment_list s declared l tag begin next outer c g i a h = h
+item_small a_fragment_list s declared l tag begin next outer c g i a h = left_small (size_of l) None (next ∷ outer) h
 
 delimiter_in : (c : Container) (declared : Length) (tag : Tag) → (tag.group == 0xFFFE) ≡ true → is_allowed c declared tag ≡ true → is_the_data_set c ≡ false
 unfolding is_allowed
@@ -148,7 +160,7 @@ head_small : (begin : ℕ) (inner : Level) (outer : List Level) (position : ℕ)
 head_small begin inner outer position z h fits (fits_element vr g f) =
     let m = element_in inner.container inner.declared (tag_at inner.syntax z) g fits.allowed in
     subst (λ (o : Opened). Small o.levels) (sym (opens_element begin z inner outer vr g f.vr_is))
-    (element_small (form inner.syntax vr (length_at inner.syntax vr z)) inner.syntax (tag_at inner.syntax z) vr (length_at inner.syntax vr z) begin inner outer m.0 m.1 f.shallow h)
+    (element_small (form inner.syntax (read_as inner.syntax (tag_at inner.syntax z) vr) (length_at inner.syntax vr z)) inner.syntax (tag_at inner.syntax z) vr (length_at inner.syntax vr z) begin inner outer m.0 m.1 f.shallow h)
 head_small begin inner outer position z h fits (fits_item g i u f) =
     subst (λ (o : Opened). Small o.levels) (sym (opens_other begin z inner outer true g i))
     (item_small inner.container inner.syntax inner.declared (long_length (number inner.syntax 4 (drop 4 z))) (tag_at inner.syntax z) begin inner outer refl g i fits.allowed h)
@@ -199,7 +211,7 @@ byte_small : (bar : HeadBar) (r : Reading) (b : ℕ) (halt : Option Stop) (withi
 byte_small bar r b (Some stop) within n never h left = h
 byte_small bar r b None false n never h left = stopped_small r (refused TooLong INPUT_LIMIT) h
 byte_small bar r b None true (suc n) never h left =
-    settled_small (r.position + 1) (record { levels = r.levels; left = n; atoms = value_byte b ∷ closing n }) n (record { nested = h.nested; shallow = h.shallow })
+    settled_small (r.position + 1) (value_left n (sign_reads (b ∷ []) r.sign) r.levels (value_byte b ∷ [])) n (left_small n (sign_reads (b ∷ []) r.sign) r.levels (record { nested = h.nested; shallow = h.shallow }))
 byte_small bar r b None true zero never h left = read_small bar r (r.head ++ b ∷ []) (innermost_stop bar r.levels r.position (r.head ++ b ∷ [])) never h left refl
 
 pub stays_small : (r : Reading) → IsSmall r → StaysSmall r

@@ -19,19 +19,27 @@ use Rattle.dcm_stream.specs.declared.token.Bar.{Bar}
 use Rattle.dcm_stream.specs.declared.cursor.Cursor.{Cursor}
 use Rattle.dcm_stream.specs.declared.machine.Halt.{Halt}
 use Rattle.dcm_stream.specs.declared.machine.Halt.TheVariants.{Refused, Output}
-use Rattle.dcm_stream.specs.Reading.{Reading, halted, closing, settled, head_read, byte_read, read_byte}
+use Rattle.dcm_stream.specs.Reading.{Reading, halted, closing, settled, head_read, byte_read, read_byte, Opened, Sign, sign_reads, sign_ends, left_levels, left_sign, value_left}
 use Rattle.dcm_stream.specs.Judging.{bars_head}
-use Rattle.dcm_stream.specs.Machine.{steps, steps_write, went, halt_of, Comes, settles, settles_value, value_read, Feeds}
+use Rattle.dcm_stream.specs.Machine.{steps, steps_write, went, halt_of, Comes, settles, settles_value, value_read, Feeds, held_sign}
 use Rattle.dcm_stream.proofs.Heads.Stops.{place_waits}
+use Rattle.dcm_stream.proofs.Containers.Signs.{reads_more}
 
 -- ---- parts of what a sink takes
 
+-- what is open, and how many bytes of a value are to come
+abbrev pub opened : List Level → (left : ℕ) → Option Sign → List Atom → Opened
+opened levels left sign atoms = record { levels = levels; left = left; sign = sign; atoms = atoms }
+
 -- the atoms of what was opened come first
-pub settled_atoms : (position m : ℕ) (levels : List Level) (xs ys : List Atom)
-    → settled position (record { levels = levels; left = m; atoms = xs ++ ys }) m
-    ≡ ((settled position (record { levels = levels; left = m; atoms = ys }) m).0, xs ++ (settled position (record { levels = levels; left = m; atoms = ys }) m).1)
-settled_atoms position zero levels xs ys = ap (λ (zs : List Atom). ((settled position (record { levels = levels; left = 0; atoms = ys }) 0).0, zs)) (append_assoc xs ys _)
-settled_atoms position (suc m) levels xs ys = refl
+pub settled_atoms : (position m : ℕ) (levels : List Level) (sign : Option Sign) (xs ys : List Atom)
+    → settled position (opened levels m sign (xs ++ ys)) m ≡ ((settled position (opened levels m sign ys) m).0, xs ++ (settled position (opened levels m sign ys) m).1)
+settled_atoms position zero levels sign xs ys = ap (λ (zs : List Atom). ((settled position (opened levels 0 sign ys) 0).0, zs)) (append_assoc xs ys _)
+settled_atoms position (suc m) levels sign xs ys = refl
+
+-- what a place comes to where so many bytes of a value are to come
+abbrev pub value_settles : Reading → Reading × List Atom
+value_settles r = settled r.position (value_left r.left r.sign r.levels []) r.left
 
 module _ {S : Type 0} (step : S → Atom → S) (writes : S → Atom → List ℕ) where
   -- atoms that were taken, and then others
@@ -52,28 +60,35 @@ module _ {S : Type 0} (step : S → Atom → S) (writes : S → Atom → List �
   comes_failed T s held t holds new q xs ys h = goes_failed step writes {T = Unit {0}} {E = Unit {0}} s held t holds xs ys (Err tt) refl h
 
   -- a value of which no byte is left, and then the containers that are full
-  pub comes_settled : {T : Type 0} (p : Cursor) (s : S) (held : Option (List ℕ)) (m : S) (mid : Option (List ℕ)) (t : S) (holds : Option (List ℕ)) (new : Option Stop → Reading) (r : Result T Halt)
-      → p.left ≡ 0 → m ≡ fold step s (closes_leaf ∷ []) → mid ≡ append_known held (outputs step writes s (closes_leaf ∷ [])) → Comes step writes m mid t holds new (settles p) r → Comes step writes s held t holds new (settles_value p) r
-  comes_settled p s held m mid t holds new r left a b h =
-      let at : settles_value p ≡ ((settles p).0, closes_leaf ∷ (settles p).1) = ap (λ (n : ℕ). settled p.position (record { levels = p.levels; left = n; atoms = closing n }) n) left in
-      subst (λ (q : Reading × List Atom). Comes step writes s held t holds new q r) (sym at) (comes_on s held m mid t holds new (settles p).0 (closes_leaf ∷ []) (settles p).1 r a b h)
+  pub comes_settled : {T : Type 0} (p q : Cursor) (s : S) (held : Option (List ℕ)) (m : S) (mid : Option (List ℕ)) (t : S) (holds : Option (List ℕ)) (new : Option Stop → Reading) (r : Result T Halt)
+      → p.left ≡ 0 → q.position ≡ p.position → q.levels ≡ sign_ends (held_sign p) p.levels → held_sign q ≡ None
+      → m ≡ fold step s (closes_leaf ∷ []) → mid ≡ append_known held (outputs step writes s (closes_leaf ∷ [])) → Comes step writes m mid t holds new (settles q) r → Comes step writes s held t holds new (settles_value p) r
+  comes_settled p q s held m mid t holds new r left place ends none a b h =
+      let z = settled p.position (opened (sign_ends (held_sign p) p.levels) 0 None []) 0 in
+      let same : settles q ≡ z =
+      ap (λ (n : ℕ). settled n (opened q.levels 0 (held_sign q) []) 0) place
+      ∙ ap (λ (ls : List Level). settled p.position (opened ls 0 (held_sign q) []) 0) ends
+      ∙ ap (λ (x : Option Sign). settled p.position (opened (sign_ends (held_sign p) p.levels) 0 x []) 0) none in
+      let at : settles_value p ≡ (z.0, closes_leaf ∷ z.1) = ap (λ (n : ℕ). settled p.position (value_left n (held_sign p) p.levels []) n) left in
+      subst (λ (x : Reading × List Atom). Comes step writes s held t holds new x r) (sym at)
+      (comes_on s held m mid t holds new z.0 (closes_leaf ∷ []) z.1 r a b (subst (λ (x : Reading × List Atom). Comes step writes m mid t holds new x r) same h))
 
-  -- atoms that were taken, and then what is behind them
-  pub comes_behind : {T : Type 0} (position left : ℕ) (levels : List Level) (s : S) (held : Option (List ℕ)) (m : S) (mid : Option (List ℕ)) (t : S) (holds : Option (List ℕ)) (new : Option Stop → Reading) (xs ys : List Atom) (r : Result T Halt)
-      → m ≡ fold step s xs → mid ≡ append_known held (outputs step writes s xs) → Comes step writes m mid t holds new (settled position (record { levels = levels; left = left; atoms = ys }) left) r
-      → Comes step writes s held t holds new (settled position (record { levels = levels; left = left; atoms = xs ++ ys }) left) r
-  comes_behind position left levels s held m mid t holds new xs ys r a b h =
-      let q = settled position (record { levels = levels; left = left; atoms = ys }) left in
-      subst (λ (z : Reading × List Atom). Comes step writes s held t holds new z r) (sym (settled_atoms position left levels xs ys)) (comes_on s held m mid t holds new q.0 xs q.1 r a b h)
+  -- atoms that were taken, and then what is after them
+  pub comes_behind : {T : Type 0} (position left : ℕ) (levels : List Level) (sign : Option Sign) (s : S) (held : Option (List ℕ)) (m : S) (mid : Option (List ℕ)) (t : S) (holds : Option (List ℕ)) (new : Option Stop → Reading) (xs ys : List Atom) (r : Result T Halt)
+      → m ≡ fold step s xs → mid ≡ append_known held (outputs step writes s xs) → Comes step writes m mid t holds new (settled position (opened levels left sign ys) left) r
+      → Comes step writes s held t holds new (settled position (opened levels left sign (xs ++ ys)) left) r
+  comes_behind position left levels sign s held m mid t holds new xs ys r a b h =
+      let q = settled position (opened levels left sign ys) left in
+      subst (λ (z : Reading × List Atom). Comes step writes s held t holds new z r) (sym (settled_atoms position left levels sign xs ys)) (comes_on s held m mid t holds new q.0 xs q.1 r a b h)
 
   -- an output that failed at atoms
-  pub fails_behind : {T : Type 0} (position left : ℕ) (levels : List Level) (s : S) (held : Option (List ℕ)) (t : S) (holds : Option (List ℕ)) (new : Option Stop → Reading) (xs ys : List Atom) (r : Result T Halt)
-      → IsErrAnd r (λ h. h ≡ Output) → AppendsFront held holds (outputs step writes s xs) → Comes step writes s held t holds new (settled position (record { levels = levels; left = left; atoms = xs ++ ys }) left) r
-  fails_behind {T} position left levels s held t holds new xs ys (Ok x) e h = absurd e
-  fails_behind {T} position left levels s held t holds new xs ys (Err halt) e h =
-      let q = settled position (record { levels = levels; left = left; atoms = ys }) left in
-      subst (λ (x : Halt). Comes {T = T} step writes s held t holds new (settled position (record { levels = levels; left = left; atoms = xs ++ ys }) left) (Err x)) (sym e)
-      (subst (λ (z : Reading × List Atom). Comes {T = T} step writes s held t holds new z (Err Output)) (sym (settled_atoms position left levels xs ys)) (comes_failed T s held t holds new q.0 xs q.1 h))
+  pub fails_behind : {T : Type 0} (position left : ℕ) (levels : List Level) (sign : Option Sign) (s : S) (held : Option (List ℕ)) (t : S) (holds : Option (List ℕ)) (new : Option Stop → Reading) (xs ys : List Atom) (r : Result T Halt)
+      → IsErrAnd r (λ h. h ≡ Output) → AppendsFront held holds (outputs step writes s xs) → Comes step writes s held t holds new (settled position (opened levels left sign (xs ++ ys)) left) r
+  fails_behind {T} position left levels sign s held t holds new xs ys (Ok x) e h = absurd e
+  fails_behind {T} position left levels sign s held t holds new xs ys (Err halt) e h =
+      let q = settled position (opened levels left sign ys) left in
+      subst (λ (x : Halt). Comes {T = T} step writes s held t holds new (settled position (opened levels left sign (xs ++ ys)) left) (Err x)) (sym e)
+      (subst (λ (z : Reading × List Atom). Comes {T = T} step writes s held t holds new z (Err Output)) (sym (settled_atoms position left levels sign xs ys)) (comes_failed T s held t holds new q.0 xs q.1 h))
 
 -- ---- the machine with its sink
 
@@ -112,56 +127,64 @@ module _ {S : Type 0} (bars : S → Head → Option Bar) (step : S → Atom → 
   left_over-is [] m = omega arith
   left_over-is (b ∷ bs) m = let e : left_over bs m ≡ length bs + m = left_over-is bs m in omega arith
 
-  abbrev pub in_value : (position left : ℕ) → List Level → Reading
-  in_value position left levels = record { position = position; head = []; left = left; levels = levels; halt = None }
+  abbrev pub in_value : (position left : ℕ) → Option Sign → List Level → Reading
+  in_value position left sign levels = record { position = position; head = []; left = left; sign = sign; levels = levels; halt = None }
 
-  value_step : (position n : ℕ) (levels : List Level) (s : S) (b : ℕ) → position < INPUT_LIMIT
-      → read_byte (bars_head bars s) (in_value position (suc n) levels) b ≡ settled (position + 1) (record { levels = levels; left = n; atoms = value_byte b ∷ closing n }) n
+  value_step : (position n : ℕ) (sign : Option Sign) (levels : List Level) (s : S) (b : ℕ) → position < INPUT_LIMIT
+      → read_byte (bars_head bars s) (in_value position (suc n) sign levels) b ≡ settled (position + 1) (value_left n (sign_reads (b ∷ []) sign) levels (value_byte b ∷ [])) n
   unfolding read_byte
-  value_step position n levels s b lt =
-      ap (λ (t : Bool). byte_read (bars_head bars s) (in_value position (suc n) levels) b None t (suc n)) (lt-ltb (position + 0) INPUT_LIMIT (omega arith))
+  value_step position n sign levels s b lt =
+      ap (λ (t : Bool). byte_read (bars_head bars s) (in_value position (suc n) sign levels) b None t (suc n)) (lt-ltb (position + 0) INPUT_LIMIT (omega arith))
 
-  abbrev value_comes : (position m : ℕ) → List Level → List ℕ → Reading × List Atom
-  value_comes position m levels bs = settled (position + length bs) (record { levels = levels; left = m; atoms = map value_byte bs ++ closing m }) m
+  abbrev value_comes : (position m : ℕ) → Option Sign → List Level → List ℕ → Reading × List Atom
+  value_comes position m sign levels bs = settled (position + length bs) (value_left m (sign_reads bs sign) levels (map value_byte bs)) m
 
-  value_steps : (position m : ℕ) (levels : List Level) (s : S) (b : ℕ) (bs : List ℕ) → position + length (b ∷ bs) ≤ INPUT_LIMIT
-      → fold (steps bars step) (in_value position (left_over (b ∷ bs) m) levels, s) (b ∷ bs) ≡ ((value_comes position m levels (b ∷ bs)).0, fold step s (value_comes position m levels (b ∷ bs)).1)
-  unfolding left_over
-  value_steps position m levels s b [] le = ap (λ (q : Reading × List Atom). (q.0, fold step s q.1)) (value_step position m levels s b (omega arith))
-  value_steps position m levels s b (c ∷ bs) le =
+  -- one byte and then others
+  value_on : (position m : ℕ) (sign : Option Sign) (levels : List Level) (b c : ℕ) (bs : List ℕ)
+      → ((value_comes (position + 1) m (sign_reads (b ∷ []) sign) levels (c ∷ bs)).0, value_byte b ∷ (value_comes (position + 1) m (sign_reads (b ∷ []) sign) levels (c ∷ bs)).1)
+      ≡ value_comes position m sign levels (b ∷ c ∷ bs)
+  value_on position m sign levels b c bs =
       let place : (position + 1) + length (c ∷ bs) ≡ position + length (b ∷ c ∷ bs) = omega arith in
-      let q = settled (position + length (b ∷ c ∷ bs)) (record { levels = levels; left = m; atoms = map value_byte (c ∷ bs) ++ closing m }) m in
-      ap (λ (q : Reading × List Atom). fold (steps bars step) (q.0, fold step s q.1) (c ∷ bs)) (value_step position (left_over (c ∷ bs) m) levels s b (omega arith))
-      ∙ value_steps (position + 1) m levels (step s (value_byte b)) c bs (omega arith)
-      ∙ ap (λ (n : ℕ). let z = settled n (record { levels = levels; left = m; atoms = map value_byte (c ∷ bs) ++ closing m }) m in (z.0, fold step (step s (value_byte b)) z.1)) place
-      ∙ sym (ap (λ (z : Reading × List Atom). (z.0, fold step s z.1)) (settled_atoms (position + length (b ∷ c ∷ bs)) m levels (value_byte b ∷ []) (map value_byte (c ∷ bs) ++ closing m)))
+      let after : Option Sign → List Atom → Opened = λ x atoms. value_left m x levels atoms in
+      let now : Option Sign = sign_reads (c ∷ bs) (sign_reads (b ∷ []) sign) in
+      ap (λ (n : ℕ). let z = settled n (after now (map value_byte (c ∷ bs))) m in (z.0, value_byte b ∷ z.1)) place
+      ∙ sym (settled_atoms (position + length (b ∷ c ∷ bs)) m (left_levels m now levels) (left_sign m now) (value_byte b ∷ []) (map value_byte (c ∷ bs) ++ closing m))
+      ∙ ap (λ (x : Option Sign). settled (position + length (b ∷ c ∷ bs)) (after x (map value_byte (b ∷ c ∷ bs))) m) (reads_more (b ∷ []) (c ∷ bs) sign)
 
-  value_outputs : (position m : ℕ) (levels : List Level) (s : S) (b : ℕ) (bs : List ℕ) → position + length (b ∷ bs) ≤ INPUT_LIMIT
-      → outputs (steps bars step) (steps_write bars step writes) (in_value position (left_over (b ∷ bs) m) levels, s) (b ∷ bs) ≡ outputs step writes s (value_comes position m levels (b ∷ bs)).1
+  value_steps : (position m : ℕ) (sign : Option Sign) (levels : List Level) (s : S) (b : ℕ) (bs : List ℕ) → position + length (b ∷ bs) ≤ INPUT_LIMIT
+      → fold (steps bars step) (in_value position (left_over (b ∷ bs) m) sign levels, s) (b ∷ bs) ≡ ((value_comes position m sign levels (b ∷ bs)).0, fold step s (value_comes position m sign levels (b ∷ bs)).1)
   unfolding left_over
-  value_outputs position m levels s b [] le =
-      append-nil (steps_write bars step writes (in_value position (suc m) levels, s) b)
-      ∙ ap (λ (q : Reading × List Atom). outputs step writes s q.1) (value_step position m levels s b (omega arith))
-  value_outputs position m levels s b (c ∷ bs) le =
-      let place : (position + 1) + length (c ∷ bs) ≡ position + length (b ∷ c ∷ bs) = omega arith in
-      ap (λ (q : Reading × List Atom). outputs step writes s q.1 ++ outputs (steps bars step) (steps_write bars step writes) (q.0, fold step s q.1) (c ∷ bs)) (value_step position (left_over (c ∷ bs) m) levels s b (omega arith))
-      ∙ ap (λ (xs : List ℕ). xs ++ outputs (steps bars step) (steps_write bars step writes) (in_value (position + 1) (left_over (c ∷ bs) m) levels, step s (value_byte b)) (c ∷ bs)) (append-nil (writes s (value_byte b)))
-      ∙ ap (λ (xs : List ℕ). writes s (value_byte b) ++ xs) (value_outputs (position + 1) m levels (step s (value_byte b)) c bs (omega arith)
-      ∙ ap (λ (n : ℕ). outputs step writes (step s (value_byte b)) (settled n (record { levels = levels; left = m; atoms = map value_byte (c ∷ bs) ++ closing m }) m).1) place)
-      ∙ sym (ap (λ (z : Reading × List Atom). outputs step writes s z.1) (settled_atoms (position + length (b ∷ c ∷ bs)) m levels (value_byte b ∷ []) (map value_byte (c ∷ bs) ++ closing m)))
+  value_steps position m sign levels s b [] le = ap (λ (q : Reading × List Atom). (q.0, fold step s q.1)) (value_step position m sign levels s b (omega arith))
+  value_steps position m sign levels s b (c ∷ bs) le =
+      ap (λ (q : Reading × List Atom). fold (steps bars step) (q.0, fold step s q.1) (c ∷ bs)) (value_step position (left_over (c ∷ bs) m) sign levels s b (omega arith))
+      ∙ value_steps (position + 1) m (sign_reads (b ∷ []) sign) levels (step s (value_byte b)) c bs (omega arith)
+      ∙ ap (λ (z : Reading × List Atom). (z.0, fold step s z.1)) (value_on position m sign levels b c bs)
+
+  value_outputs : (position m : ℕ) (sign : Option Sign) (levels : List Level) (s : S) (b : ℕ) (bs : List ℕ) → position + length (b ∷ bs) ≤ INPUT_LIMIT
+      → outputs (steps bars step) (steps_write bars step writes) (in_value position (left_over (b ∷ bs) m) sign levels, s) (b ∷ bs) ≡ outputs step writes s (value_comes position m sign levels (b ∷ bs)).1
+  unfolding left_over
+  value_outputs position m sign levels s b [] le =
+      append-nil (steps_write bars step writes (in_value position (suc m) sign levels, s) b)
+      ∙ ap (λ (q : Reading × List Atom). outputs step writes s q.1) (value_step position m sign levels s b (omega arith))
+  value_outputs position m sign levels s b (c ∷ bs) le =
+      let now : Option Sign = sign_reads (b ∷ []) sign in
+      ap (λ (q : Reading × List Atom). outputs step writes s q.1 ++ outputs (steps bars step) (steps_write bars step writes) (q.0, fold step s q.1) (c ∷ bs)) (value_step position (left_over (c ∷ bs) m) sign levels s b (omega arith))
+      ∙ ap (λ (xs : List ℕ). xs ++ outputs (steps bars step) (steps_write bars step writes) (in_value (position + 1) (left_over (c ∷ bs) m) now levels, step s (value_byte b)) (c ∷ bs)) (append-nil (writes s (value_byte b)))
+      ∙ ap (λ (xs : List ℕ). writes s (value_byte b) ++ xs) (value_outputs (position + 1) m now levels (step s (value_byte b)) c bs (omega arith))
+      ∙ ap (λ (z : Reading × List Atom). outputs step writes s z.1) (value_on position m sign levels b c bs)
 
   -- as many bytes of a value as are there
-  pub feeds_value : {T : Type 0} (position left : ℕ) (levels : List Level) (s : S) (held : Option (List ℕ)) (t : S) (holds : Option (List ℕ)) (new : Option Stop → Reading) (bs : List ℕ) (r : Result T Halt)
+  pub feeds_value : {T : Type 0} (position left : ℕ) (sign : Option Sign) (levels : List Level) (s : S) (held : Option (List ℕ)) (t : S) (holds : Option (List ℕ)) (new : Option Stop → Reading) (bs : List ℕ) (r : Result T Halt)
       → 0 < length bs → length bs ≤ left → position + length bs ≤ INPUT_LIMIT
-      → Comes step writes s held t holds new (value_read (in_value position left levels) (left - length bs) bs) r
-      → Feeds bars step writes (in_value position left levels) s held new t holds bs r
-  feeds_value position left levels s held t holds new [] r some fits within h = absurd (omega arith)
-  feeds_value position left levels s held t holds new (b ∷ bs) r some fits within h =
+      → Comes step writes s held t holds new (value_read (in_value position left sign levels) (left - length bs) bs) r
+      → Feeds bars step writes (in_value position left sign levels) s held new t holds bs r
+  feeds_value position left sign levels s held t holds new [] r some fits within h = absurd (omega arith)
+  feeds_value position left sign levels s held t holds new (b ∷ bs) r some fits within h =
       let m : ℕ = left - length (b ∷ bs) in
       let over : left ≡ left_over (b ∷ bs) m = omega (arith, left_over-is (b ∷ bs) m) in
-      feeds_bytes (in_value position left levels) s held t holds new (b ∷ bs) (value_comes position m levels (b ∷ bs)) r
-      (ap (λ (n : ℕ). fold (steps bars step) (in_value position n levels, s) (b ∷ bs)) over ∙ value_steps position m levels s b bs within)
-      (ap (λ (n : ℕ). outputs (steps bars step) (steps_write bars step writes) (in_value position n levels, s) (b ∷ bs)) over ∙ value_outputs position m levels s b bs within)
+      feeds_bytes (in_value position left sign levels) s held t holds new (b ∷ bs) (value_comes position m sign levels (b ∷ bs)) r
+      (ap (λ (n : ℕ). fold (steps bars step) (in_value position n sign levels, s) (b ∷ bs)) over ∙ value_steps position m sign levels s b bs within)
+      (ap (λ (n : ℕ). outputs (steps bars step) (steps_write bars step writes) (in_value position n sign levels, s) (b ∷ bs)) over ∙ value_outputs position m sign levels s b bs within)
       h
 
   -- ---- bytes of a head
@@ -170,59 +193,59 @@ module _ {S : Type 0} (bars : S → Head → Option Bar) (step : S → Atom → 
   undecided_read r z None e = absurd (cc)
   undecided_read r z (Some stop) e = ap (λ (t : Bool). cond {A = Reading × List Atom} t (record r { head = z }, []) (halted r stop, [])) e
 
-  abbrev pub in_head : ℕ → List ℕ → List Level → Reading
-  in_head position head levels = record { position = position; head = head; left = 0; levels = levels; halt = None }
+  abbrev pub in_head : ℕ → List ℕ → Option Sign → List Level → Reading
+  in_head position head sign levels = record { position = position; head = head; left = 0; sign = sign; levels = levels; halt = None }
 
-  head_step : (position : ℕ) (head : List ℕ) (inner : Level) (outer : List Level) (s : S) (b : ℕ) → position + length head < INPUT_LIMIT → passes 8 (room position (inner ∷ outer)) ≡ false → length head + 1 < 8
-      → read_byte (bars_head bars s) (in_head position head (inner ∷ outer)) b ≡ (in_head position (head ++ b ∷ []) (inner ∷ outer), [])
+  head_step : (position : ℕ) (head : List ℕ) (sign : Option Sign) (inner : Level) (outer : List Level) (s : S) (b : ℕ) → position + length head < INPUT_LIMIT → passes 8 (room position (inner ∷ outer)) ≡ false → length head + 1 < 8
+      → read_byte (bars_head bars s) (in_head position head sign (inner ∷ outer)) b ≡ (in_head position (head ++ b ∷ []) sign (inner ∷ outer), [])
   unfolding read_byte
-  head_step position head inner outer s b lt free short =
-      let r = in_head position head (inner ∷ outer) in
+  head_step position head sign inner outer s b lt free short =
+      let r = in_head position head sign (inner ∷ outer) in
       let few : length (head ++ b ∷ []) < 8 = rw length-append (omega arith) in
       ap (λ (t : Bool). byte_read (bars_head bars s) r b None t 0) (lt-ltb (position + length head) INPUT_LIMIT lt)
       ∙ undecided_read r (head ++ b ∷ []) (innermost_stop (bars_head bars s) (inner ∷ outer) position (head ++ b ∷ [])) (place_waits (bars_head bars s) inner (inner ∷ outer) position (head ++ b ∷ []) free few)
 
-  head_steps : (position : ℕ) (head : List ℕ) (inner : Level) (outer : List Level) (s : S) (bs : List ℕ) → position + length head + length bs ≤ INPUT_LIMIT → passes 8 (room position (inner ∷ outer)) ≡ false → length head + length bs < 8
-      → fold (steps bars step) (in_head position head (inner ∷ outer), s) bs ≡ (in_head position (head ++ bs) (inner ∷ outer), s)
-  head_steps position head inner outer s [] lt free short = ap (λ (z : List ℕ). (in_head position z (inner ∷ outer), s)) (sym (append-nil head))
-  head_steps position head inner outer s (b ∷ bs) lt free short =
+  head_steps : (position : ℕ) (head : List ℕ) (sign : Option Sign) (inner : Level) (outer : List Level) (s : S) (bs : List ℕ) → position + length head + length bs ≤ INPUT_LIMIT → passes 8 (room position (inner ∷ outer)) ≡ false → length head + length bs < 8
+      → fold (steps bars step) (in_head position head sign (inner ∷ outer), s) bs ≡ (in_head position (head ++ bs) sign (inner ∷ outer), s)
+  head_steps position head sign inner outer s [] lt free short = ap (λ (z : List ℕ). (in_head position z sign (inner ∷ outer), s)) (sym (append-nil head))
+  head_steps position head sign inner outer s (b ∷ bs) lt free short =
       let size : length (head ++ b ∷ []) ≡ length head + 1 = length-append head (b ∷ []) in
-      ap (λ (q : Reading × List Atom). fold (steps bars step) (q.0, fold step s q.1) bs) (head_step position head inner outer s b (omega arith) free (omega arith))
-      ∙ head_steps position (head ++ b ∷ []) inner outer s bs (omega arith) free (omega arith)
-      ∙ ap (λ (z : List ℕ). (in_head position z (inner ∷ outer), s)) (append_assoc head (b ∷ []) bs)
+      ap (λ (q : Reading × List Atom). fold (steps bars step) (q.0, fold step s q.1) bs) (head_step position head sign inner outer s b (omega arith) free (omega arith))
+      ∙ head_steps position (head ++ b ∷ []) sign inner outer s bs (omega arith) free (omega arith)
+      ∙ ap (λ (z : List ℕ). (in_head position z sign (inner ∷ outer), s)) (append_assoc head (b ∷ []) bs)
 
-  head_outputs : (position : ℕ) (head : List ℕ) (inner : Level) (outer : List Level) (s : S) (bs : List ℕ) → position + length head + length bs ≤ INPUT_LIMIT → passes 8 (room position (inner ∷ outer)) ≡ false → length head + length bs < 8
-      → outputs (steps bars step) (steps_write bars step writes) (in_head position head (inner ∷ outer), s) bs ≡ []
-  head_outputs position head inner outer s [] lt free short = refl
-  head_outputs position head inner outer s (b ∷ bs) lt free short =
+  head_outputs : (position : ℕ) (head : List ℕ) (sign : Option Sign) (inner : Level) (outer : List Level) (s : S) (bs : List ℕ) → position + length head + length bs ≤ INPUT_LIMIT → passes 8 (room position (inner ∷ outer)) ≡ false → length head + length bs < 8
+      → outputs (steps bars step) (steps_write bars step writes) (in_head position head sign (inner ∷ outer), s) bs ≡ []
+  head_outputs position head sign inner outer s [] lt free short = refl
+  head_outputs position head sign inner outer s (b ∷ bs) lt free short =
       let size : length (head ++ b ∷ []) ≡ length head + 1 = length-append head (b ∷ []) in
-      ap (λ (q : Reading × List Atom). outputs step writes s q.1 ++ outputs (steps bars step) (steps_write bars step writes) (q.0, fold step s q.1) bs) (head_step position head inner outer s b (omega arith) free (omega arith))
-      ∙ head_outputs position (head ++ b ∷ []) inner outer s bs (omega arith) free (omega arith)
+      ap (λ (q : Reading × List Atom). outputs step writes s q.1 ++ outputs (steps bars step) (steps_write bars step writes) (q.0, fold step s q.1) bs) (head_step position head sign inner outer s b (omega arith) free (omega arith))
+      ∙ head_outputs position (head ++ b ∷ []) sign inner outer s bs (omega arith) free (omega arith)
 
   -- ---- a halt
 
   -- nothing more happens
-  pub halted_stays : (position : ℕ) (head : List ℕ) (left : ℕ) (levels : List Level) (stop : Stop) (s : S) (bs : List ℕ)
-      → let r : Reading = record { position = position; head = head; left = left; levels = levels; halt = Some stop } in
+  pub halted_stays : (position : ℕ) (head : List ℕ) (left : ℕ) (sign : Option Sign) (levels : List Level) (stop : Stop) (s : S) (bs : List ℕ)
+      → let r : Reading = record { position = position; head = head; left = left; sign = sign; levels = levels; halt = Some stop } in
       fold (steps bars step) (r, s) bs ≡ (r, s)
   unfolding read_byte
-  halted_stays position head left levels stop s [] = refl
-  halted_stays position head left levels stop s (b ∷ bs) = halted_stays position head left levels stop s bs
+  halted_stays position head left sign levels stop s [] = refl
+  halted_stays position head left sign levels stop s (b ∷ bs) = halted_stays position head left sign levels stop s bs
 
-  pub halted_silent : (position : ℕ) (head : List ℕ) (left : ℕ) (levels : List Level) (stop : Stop) (s : S) (bs : List ℕ)
-      → let r : Reading = record { position = position; head = head; left = left; levels = levels; halt = Some stop } in
+  pub halted_silent : (position : ℕ) (head : List ℕ) (left : ℕ) (sign : Option Sign) (levels : List Level) (stop : Stop) (s : S) (bs : List ℕ)
+      → let r : Reading = record { position = position; head = head; left = left; sign = sign; levels = levels; halt = Some stop } in
       outputs (steps bars step) (steps_write bars step writes) (r, s) bs ≡ []
   unfolding read_byte
-  halted_silent position head left levels stop s [] = refl
-  halted_silent position head left levels stop s (b ∷ bs) = halted_silent position head left levels stop s bs
+  halted_silent position head left sign levels stop s [] = refl
+  halted_silent position head left sign levels stop s (b ∷ bs) = halted_silent position head left sign levels stop s bs
 
   -- bytes that end no head
-  pub feeds_head : {T : Type 0} (position : ℕ) (head : List ℕ) (inner : Level) (outer : List Level) (s : S) (held : Option (List ℕ)) (new : Option Stop → Reading) (bs : List ℕ) (x : T)
+  pub feeds_head : {T : Type 0} (position : ℕ) (head : List ℕ) (sign : Option Sign) (inner : Level) (outer : List Level) (s : S) (held : Option (List ℕ)) (new : Option Stop → Reading) (bs : List ℕ) (x : T)
       → position + length head + length bs ≤ INPUT_LIMIT → passes 8 (room position (inner ∷ outer)) ≡ false → length head + length bs < 8
-      → new None ≡ in_head position (head ++ bs) (inner ∷ outer) → Feeds bars step writes (in_head position head (inner ∷ outer)) s held new s held bs (Ok x)
-  feeds_head position head inner outer s held new bs x lt free short e = (
-    ap (λ (n : Reading). (n, s)) e ∙ sym (head_steps position head inner outer s bs lt free short),
-    sym (append_known_none held) ∙ ap (append_known held) (sym (head_outputs position head inner outer s bs lt free short)),
+      → new None ≡ in_head position (head ++ bs) sign (inner ∷ outer) → Feeds bars step writes (in_head position head sign (inner ∷ outer)) s held new s held bs (Ok x)
+  feeds_head position head sign inner outer s held new bs x lt free short e = (
+    ap (λ (n : Reading). (n, s)) e ∙ sym (head_steps position head sign inner outer s bs lt free short),
+    sym (append_known_none held) ∙ ap (append_known held) (sym (head_outputs position head sign inner outer s bs lt free short)),
   )
 
   -- past the limit

@@ -17,7 +17,7 @@ use Rattle.dcm_stream.specs.declared.cursor.Cursor.{Cursor}
 use Rattle.dcm_stream.specs.declared.machine.Halt.{Halt}
 use Rattle.dcm_stream.specs.declared.machine.Halt.TheVariants.{Refused, Output}
 use Rattle.dcm_base.specs.declared.syntax.Syntax.{Syntax}
-use Rattle.dcm_stream.specs.Reading.{Reading, start_of, halted, Opened, closing, settled, head_opens, head_read, byte_read, read_byte}
+use Rattle.dcm_stream.specs.Reading.{Reading, start_of, halted, Opened, closing, settled, head_opens, head_read, byte_read, read_byte, sign_reads, value_left}
 use Rattle.dcm_stream.specs.Judging.{bars_head}
 use Rattle.dcm_stream.specs.Machine.{steps, steps_write, reading, next_offset, Stands, Feeds}
 use Rattle.dcm_stream.proofs.Runs.Bounds.{stays_small, start_small}
@@ -42,7 +42,7 @@ byte_within : (bar : HeadBar) (r : Reading) (b : ℕ) (halt : Option Stop) (with
     → (byte_read bar r b halt within n).0.position + length (byte_read bar r b halt within n).0.head ≤ INPUT_LIMIT
 byte_within bar r b (Some stop) within n le lt = le
 byte_within bar r b None false n le lt = omega arith
-byte_within bar r b None true (suc n) le lt = omega (arith, lt refl, settled_at (r.position + 1) (record { levels = r.levels; left = n; atoms = value_byte b ∷ closing n }) n)
+byte_within bar r b None true (suc n) le lt = omega (arith, lt refl, settled_at (r.position + 1) (value_left n (sign_reads (b ∷ []) r.sign) r.levels (value_byte b ∷ [])) n)
 byte_within bar r b None true zero le lt =
     let less = lt refl in
     head_within r (r.head ++ b ∷ []) (innermost_stop bar r.levels r.position (r.head ++ b ∷ [])) (rw length-append (omega (arith, less)))
@@ -62,7 +62,7 @@ byte_reads bar r b (Some stop) within n h l no_head e = absurd (cc)
 byte_reads bar r b None false n h l no_head e = absurd (cc)
 byte_reads bar r b None true (suc n) h l no_head e =
     let none : length r.head ≡ 0 = ap length (no_head (omega arith)) in
-    omega (arith, none, settled_at (r.position + 1) (record { levels = r.levels; left = n; atoms = value_byte b ∷ closing n }) n)
+    omega (arith, none, settled_at (r.position + 1) (value_left n (sign_reads (b ∷ []) r.sign) r.levels (value_byte b ∷ [])) n)
 byte_reads bar r b None true zero h l no_head e =
     let z = r.head ++ b ∷ [] in
     let size : length z ≡ length r.head + 1 = length-append r.head (b ∷ []) in
@@ -121,7 +121,7 @@ module _ {S : Type 0} (bars : S → Head → Option Bar) (step : S → Atom → 
   feeds_halted T old s held new t holds xs ys (Refused stop) a =
       let r = reading new (Some (refused stop.fault stop.at)) in
       goes_on (steps bars step) (steps_write bars step writes) {T = Unit {0}} {E = Unit {0}} (old, s) held (r, t) holds (r, t) holds xs ys (Ok tt) a.0 a.1
-      (sym (halted_stays bars step writes r.position r.head r.left r.levels (refused stop.fault stop.at) t ys), sym (append_known_none holds) ∙ ap (append_known holds) (sym (halted_silent bars step writes r.position r.head r.left r.levels (refused stop.fault stop.at) t ys)))
+      (sym (halted_stays bars step writes r.position r.head r.left r.sign r.levels (refused stop.fault stop.at) t ys), sym (append_known_none holds) ∙ ap (append_known holds) (sym (halted_silent bars step writes r.position r.head r.left r.sign r.levels (refused stop.fault stop.at) t ys)))
   feeds_halted T old s held new t holds xs ys Output a =
       goes_failed (steps bars step) (steps_write bars step writes) {T = Unit {0}} {E = Unit {0}} (old, s) held (reading new None, t) holds xs ys (Err tt) refl a
 
@@ -141,8 +141,8 @@ module _ {S : Type 0} (bars : S → Head → Option Bar) (step : S → Atom → 
         ap (λ (x : Rattle.dcm_base.specs.declared.fault.Fault.Fault). (new (Some (refused x stop.at)), s)) f
             ∙ ap (λ (n : ℕ). (new (Some (refused TooLong n)), s)) a
             ∙ ap (λ (n : Reading). (n, s)) e
-            ∙ sym (ap (λ (q : Reading × List Atom). fold (steps bars step) (q.0, fold step s q.1) bs) byte ∙ halted_stays bars step writes r.position r.head r.left r.levels (refused TooLong INPUT_LIMIT) s bs),
+            ∙ sym (ap (λ (q : Reading × List Atom). fold (steps bars step) (q.0, fold step s q.1) bs) byte ∙ halted_stays bars step writes r.position r.head r.left r.sign r.levels (refused TooLong INPUT_LIMIT) s bs),
         sym (append_known_none held)
             ∙ ap (append_known held) (sym (ap (λ (q : Reading × List Atom). outputs step writes s q.1 ++ outputs (steps bars step) (steps_write bars step writes) (q.0, fold step s q.1) bs) byte
-            ∙ halted_silent bars step writes r.position r.head r.left r.levels (refused TooLong INPUT_LIMIT) s bs)),
+            ∙ halted_silent bars step writes r.position r.head r.left r.sign r.levels (refused TooLong INPUT_LIMIT) s bs)),
       )

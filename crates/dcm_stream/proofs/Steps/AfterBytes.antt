@@ -12,23 +12,23 @@ use Rattle.dcm_base.specs.Reading.Place.{room, passes, levels, tree_levels, valu
 use Rattle.dcm_base.specs.Steps.Atoms.{Atom, value_byte, front_atoms, Shows}
 use Rattle.dcm_base.specs.Reading.Stop.{Stop, complete, refused, Bar, HeadBar, stop_at, value_stop, innermost_stop, place_stop, is_undecided}
 use Rattle.dcm_base.specs.Reading.Reads.{INPUT_LIMIT}
-use Rattle.dcm_base.proofs.DataSets.Path.{Path, at_top, in_item, plug, syntax_of, Placed}
+use Rattle.dcm_base.proofs.DataSets.Path.{Path, at_top, in_item, plug, syntax_of, behind, Placed}
 use Rattle.dcm_base.proofs.DataSets.Levels.{around, plug_levels}
 use Rattle.dcm_base.proofs.DataSets.Stops.{set_level, value_open_plug}
 use Rattle.dcm_base.proofs.DataSets.Shown.{front_shown}
 use Rattle.dcm_base.proofs.DataSets.Between.{WholeHead, next_syntax, next_in_tree}
-use Rattle.dcm_stream.specs.Reading.{Reading, halted, Opened, closing, head_opens, full_closed, settled, head_read}
+use Rattle.dcm_stream.specs.Reading.{Reading, halted, Opened, Sign, sign_reads, value_left, closing, head_opens, full_closed, settled, head_read}
 use Rattle.dcm_stream.specs.Follows.{BarsAs, HaltsAt}
 use Rattle.dcm_stream.proofs.Heads.Stops.{place_end, place_short, place_none, place_begins, place_no_room, Fits}
-use Rattle.dcm_stream.proofs.Containers.Full.{LeftIs, Opens, Stands, list_level, settles}
+use Rattle.dcm_stream.proofs.Containers.Full.{LeftIs, Opens, Stands, list_level, no_sign, settles}
 use Rattle.dcm_stream.proofs.Steps.AfterHeads.{LevelsFit, LevelsHead, fragments_level, head_behind}
 use Rattle.dcm_stream.proofs.Steps.Values.{byte_behind}
 use Rattle.dcm_stream.proofs.Steps.Passing.{Passed, passed_extends, passes_place, none_within, just_head, refused_at}
 
 -- ---- the stop of a place
 
-front_of : (s : Syntax) (start : ℕ) (b : List ℕ) (ls : List Level) (left : ℕ) (atoms : List Atom) → Opens s start b ls left atoms → Front
-front_of s start b ls left atoms h = plug h.path h.whole h.open_tree
+front_of : (s : Syntax) (start : ℕ) (b : List ℕ) (ls : List Level) (left : ℕ) (sign : Option Sign) (atoms : List Atom) → Opens s start b ls left sign atoms → Front
+front_of s start b ls left sign atoms h = plug h.path h.whole h.open_tree
 
 awaits_at : (s : Syntax) (path : Path) (whole : Trees) (o : OpenTree) (b : List ℕ) → Placed s path whole o b → LeftIs o 0 → value_open (plug path whole o) ≡ false
 unfolding value_open
@@ -55,7 +55,7 @@ pub stop_holding : (bar : Bar) (s : Syntax) (start : ℕ) (f : Front) (position 
 unfolding stop_at
 stop_holding bar s start f position rest v = ap (λ (x : Bool). cond x (value_stop position rest) (innermost_stop (bar f) (levels s start f) position rest)) v
 
-next_plug : (s : Syntax) (path : Path) (whole : Trees) (o : OpenTree) → next_syntax s (plug path whole o) ≡ next_in_tree (syntax_of s path) o
+next_plug : (s : Syntax) (path : Path) (whole : Trees) (o : OpenTree) → next_syntax s (plug path whole o) ≡ next_in_tree (behind s path whole) o
 unfolding next_syntax
 next_plug s at_top whole o = refl
 next_plug s (in_item outer above tag vr declared items item_declared) whole o = next_plug s outer above (open_sequence tag vr declared items (open_item item_declared (front whole o _ false)))
@@ -70,13 +70,13 @@ pub record Innermost (s : Syntax) (start : ℕ) (f : Front) : Type 0 where
 innermost_at : (s : Syntax) (start : ℕ) (path : Path) (whole : Trees) (o : OpenTree) (b : List ℕ) → Placed s path whole o b → Innermost s start (plug path whole o)
 unfolding tree_levels next_syntax
 innermost_at s start path whole nothing_open b h =
-    record { inner = set_level s start path; outer = around s start path; levels_are = plug_levels s start path whole nothing_open; syntax_is = next_plug s path whole nothing_open }
+    record { inner = set_level s start path whole; outer = around s start path; levels_are = plug_levels s start path whole nothing_open; syntax_is = next_plug s path whole nothing_open }
 innermost_at s start path whole (open_leaf tag vr size value) b h =
-    record { inner = set_level s start path; outer = around s start path; levels_are = plug_levels s start path whole (open_leaf tag vr size value); syntax_is = next_plug s path whole (open_leaf tag vr size value) }
+    record { inner = set_level s start path whole; outer = around s start path; levels_are = plug_levels s start path whole (open_leaf tag vr size value); syntax_is = next_plug s path whole (open_leaf tag vr size value) }
 innermost_at s start path whole (open_sequence tag vr declared items no_open_item) b h =
     record {
       inner = list_level s start path whole vr declared;
-      outer = set_level s start path ∷ around s start path;
+      outer = set_level s start path whole ∷ around s start path;
       levels_are = plug_levels s start path whole (open_sequence tag vr declared items no_open_item);
       syntax_is = next_plug s path whole (open_sequence tag vr declared items no_open_item);
     }
@@ -84,7 +84,7 @@ innermost_at s start path whole (open_sequence tag vr declared items (open_item 
 innermost_at s start path whole (open_fragments tag vr values last) b h =
     record {
       inner = fragments_level s start path whole vr;
-      outer = set_level s start path ∷ around s start path;
+      outer = set_level s start path whole ∷ around s start path;
       levels_are = plug_levels s start path whole (open_fragments tag vr values last);
       syntax_is = next_plug s path whole (open_fragments tag vr values last);
     }
@@ -97,7 +97,7 @@ pub record Continues (bar : Bar) (s : Syntax) (start : ℕ) (p : List ℕ) (r : 
   pub going : r.halt ≡ None
   pub parts : p ≡ read ++ r.head
   pub position_is : r.position ≡ start + length read
-  pub stands : Stands s start read r.levels r.left atoms
+  pub stands : Stands s start read r.levels r.left r.sign atoms
   pub waits : is_undecided (stop_at bar s start (plug stands.opens.path stands.opens.whole stands.opens.open_tree) (start + length read) r.head) ≡ true
   pub passed : Passed bar s start p (length read)
 
@@ -105,9 +105,9 @@ abbrev pub Follow : Bar → Syntax → (start : ℕ) → List ℕ → Reading �
 Follow bar s start p r atoms = Continues bar s start p r atoms ⊎ HaltsAt bar s start p r atoms
 
 -- where no byte of a value is to come, and there is room, the end is undecided
-pub begin_waits : (bar : Bar) (s : Syntax) (start : ℕ) (b : List ℕ) (ls : List Level) (atoms : List Atom) (h : Opens s start b ls 0 atoms) → passes 8 (room (start + length b) ls) ≡ false
+pub begin_waits : (bar : Bar) (s : Syntax) (start : ℕ) (b : List ℕ) (ls : List Level) (sign : Option Sign) (atoms : List Atom) (h : Opens s start b ls 0 sign atoms) → passes 8 (room (start + length b) ls) ≡ false
     → is_undecided (stop_at bar s start (plug h.path h.whole h.open_tree) (start + length b) []) ≡ true
-begin_waits bar s start b ls atoms h free =
+begin_waits bar s start b ls sign atoms h free =
     let f = plug h.path h.whole h.open_tree in
     let i = innermost_at s start h.path h.whole h.open_tree b h.placed in
     let e : stop_at bar s start f (start + length b) [] ≡ place_stop (bar f) i.inner (i.inner ∷ i.outer) (start + length b) [] =
@@ -116,9 +116,9 @@ begin_waits bar s start b ls atoms h free =
     ap is_undecided e
     ∙ place_begins (bar f) i.inner (i.inner ∷ i.outer) (start + length b) (subst (λ (x : List Level). passes 8 (room (start + length b) x) ≡ false) (h.levels_are ∙ i.levels_are) free)
 
-no_room_stops : (bar : Bar) (s : Syntax) (start : ℕ) (b : List ℕ) (ls : List Level) (atoms : List Atom) (h : Opens s start b ls 0 atoms) → passes 8 (room (start + length b) ls) ≡ true
+no_room_stops : (bar : Bar) (s : Syntax) (start : ℕ) (b : List ℕ) (ls : List Level) (sign : Option Sign) (atoms : List Atom) (h : Opens s start b ls 0 sign atoms) → passes 8 (room (start + length b) ls) ≡ true
     → stop_at bar s start (plug h.path h.whole h.open_tree) (start + length b) [] ≡ Some (refused PassesEnd (start + length b))
-no_room_stops bar s start b ls atoms h free =
+no_room_stops bar s start b ls sign atoms h free =
     let f = plug h.path h.whole h.open_tree in
     let i = innermost_at s start h.path h.whole h.open_tree b h.placed in
     stop_awaiting bar s start f (start + length b) [] (awaits_at s h.path h.whole h.open_tree b h.placed h.left_is)
@@ -129,7 +129,7 @@ no_room_stops bar s start b ls atoms h free =
 
 arrives_by : (bar : Bar) (s : Syntax) (start : ℕ) (p : List ℕ) (o : Opened) (atoms : List Atom) (full : Bool) → start + length p ≤ INPUT_LIMIT
     → let r = settled (start + length p) o 0 in
-    Stands s start p r.0.levels 0 (atoms ++ r.1) → passes 8 (room (start + length p) r.0.levels) ≡ full → Passed bar s start p (length p) → Follow bar s start p r.0 (atoms ++ r.1)
+    Stands s start p r.0.levels 0 r.0.sign (atoms ++ r.1) → passes 8 (room (start + length p) r.0.levels) ≡ full → Passed bar s start p (length p) → Follow bar s start p r.0 (atoms ++ r.1)
 arrives_by bar s start p o atoms true within h e passed =
     let position = start + length p in
     let ls = (full_closed position o.levels).0 in
@@ -141,7 +141,7 @@ arrives_by bar s start p o atoms true within h e passed =
       halt_is = ap (λ (x : Bool). cond x (Some (refused PassesEnd position)) None) e;
       decided = refl;
       atoms_are = h.opens.atoms_are;
-      reads = refused_at bar s start p p [] f PassesEnd position within (sym (append-nil p)) h.spelled (no_room_stops bar s start p ls _ h.opens e) refl passed;
+      reads = refused_at bar s start p p [] f PassesEnd position within (sym (append-nil p)) h.spelled (no_room_stops bar s start p ls _ _ h.opens e) refl passed;
     })
 arrives_by bar s start p o atoms false within h e passed =
     inl (record {
@@ -151,11 +151,11 @@ arrives_by bar s start p o atoms false within h e passed =
       parts = sym (append-nil p);
       position_is = refl;
       stands = h;
-      waits = begin_waits bar s start p (full_closed (start + length p) o.levels).0 _ h.opens e;
+      waits = begin_waits bar s start p (full_closed (start + length p) o.levels).0 _ _ h.opens e;
       passed = passed;
     })
 
-arrives : (bar : Bar) (s : Syntax) (start : ℕ) (p : List ℕ) (o : Opened) (left : ℕ) (atoms : List Atom) → start + length p ≤ INPUT_LIMIT → Opens s start p o.levels left (atoms ++ o.atoms) → Passed bar s start p (length p)
+arrives : (bar : Bar) (s : Syntax) (start : ℕ) (p : List ℕ) (o : Opened) (left : ℕ) (atoms : List Atom) → start + length p ≤ INPUT_LIMIT → Opens s start p o.levels left o.sign (atoms ++ o.atoms) → Passed bar s start p (length p)
     → let r = settled (start + length p) o left in Follow bar s start p r.0 (atoms ++ r.1)
 arrives bar s start p o zero atoms within h passed =
     arrives_by bar s start p o atoms (passes 8 (room (start + length p) (settled (start + length p) o 0).0.levels)) within (settles s start p o 0 atoms h) refl passed
@@ -193,18 +193,18 @@ none_between : (x y : List ℕ) (b : ℕ) → b ∷ [] ≡ x ++ y → 0 < length
 none_between x y b e some short = omega arith
 
 pub value_step : (bar : Bar) (s : Syntax) (start : ℕ) (p : List ℕ) (r : Reading) (atoms : List Atom) (b n : ℕ) → Continues bar s start p r atoms → start + length p < INPUT_LIMIT → r.left ≡ suc n
-    → let q = settled (r.position + 1) (record { levels = r.levels; left = n; atoms = value_byte b ∷ closing n }) n in Follow bar s start (p ++ b ∷ []) q.0 (atoms ++ q.1)
+    → let q = settled (r.position + 1) (value_left n (sign_reads (b ∷ []) r.sign) r.levels (value_byte b ∷ [])) n in Follow bar s start (p ++ b ∷ []) q.0 (atoms ++ q.1)
 value_step bar s start p r atoms b n h lt left =
-    let o : Opened = record { levels = r.levels; left = n; atoms = value_byte b ∷ closing n } in
+    let o : Opened = value_left n (sign_reads (b ∷ []) r.sign) r.levels (value_byte b ∷ []) in
     let f = plug h.stands.opens.path h.stands.opens.whole h.stands.opens.open_tree in
     let holds = holds_at h.stands.opens.path h.stands.opens.whole h.stands.opens.open_tree n (subst (LeftIs h.stands.opens.open_tree) left h.stands.opens.left_is) in
     let nil : r.head ≡ [] = empty_waits (start + length h.read) r.head (sym (ap is_undecided (stop_holding bar s start f (start + length h.read) r.head holds)) ∙ h.waits) in
     let p_read : p ≡ h.read = h.parts ∙ ap (λ (x : List ℕ). h.read ++ x) nil ∙ append-nil h.read in
     let p' : p ++ b ∷ [] ≡ h.read ++ b ∷ [] = ap (λ (x : List ℕ). x ++ b ∷ []) p_read in
     let at : r.position + 1 ≡ start + length (p ++ b ∷ []) = omega (arith, h.position_is, length-append p (b ∷ []), ap length p_read) in
-    let opens : Opens s start (h.read ++ b ∷ []) r.levels n (atoms ++ value_byte b ∷ closing n) =
-    byte_behind s start h.read b n atoms r.levels (subst (λ (m : ℕ). Opens s start h.read r.levels m atoms) left h.stands.opens) in
-    let opens' : Opens s start (p ++ b ∷ []) r.levels n (atoms ++ value_byte b ∷ closing n) = subst (λ (x : List ℕ). Opens s start x r.levels n (atoms ++ value_byte b ∷ closing n)) (sym p') opens in
+    let opens : Opens s start (h.read ++ b ∷ []) o.levels n o.sign (atoms ++ value_byte b ∷ closing n) =
+    byte_behind s start h.read b n r.sign atoms r.levels (subst (λ (m : ℕ). Opens s start h.read r.levels m r.sign atoms) left h.stands.opens) in
+    let opens' : Opens s start (p ++ b ∷ []) o.levels n o.sign (atoms ++ value_byte b ∷ closing n) = subst (λ (x : List ℕ). Opens s start x o.levels n o.sign (atoms ++ value_byte b ∷ closing n)) (sym p') opens in
     let before : Passed bar s start (h.read ++ b ∷ []) (length h.read) = subst (λ (x : List ℕ). Passed bar s start x (length h.read)) p' (passed_extends bar s start p (b ∷ []) (length h.read) (omega (arith, ap length p_read)) h.passed) in
     let passed : Passed bar s start (h.read ++ b ∷ []) (length (h.read ++ b ∷ [])) =
     passes_place bar s start h.read (b ∷ []) f h.stands.spelled (stop_holding bar s start f (start + length h.read) (b ∷ []) holds) before (λ x y g e some short k. none_between x y b e some short) in
@@ -251,8 +251,8 @@ accepted_step bars bar same s start p r atoms b h lt left w none =
     let fits : Fits inner (inner ∷ outer) position head = place_none (bar f) inner (inner ∷ outer) position head (sym (w.stop_is head) ∙ none) in
     let just = just_head inner (inner ∷ outer) position r.head b w.not_whole fits in
     let o = head_opens begin head r.levels in
-    let opens : Opens s start (h.read ++ head) o.levels o.left (atoms ++ o.atoms) =
-    head_behind s start h.read head begin atoms r.levels (subst (λ (m : ℕ). Opens s start h.read r.levels m atoms) left h.stands.opens) (ap (λ (x : ℕ). x + length head) h.position_is)
+    let opens : Opens s start (h.read ++ head) o.levels o.left o.sign (atoms ++ o.atoms) =
+    head_behind s start h.read head begin atoms r.levels (subst (λ (x : Option Sign). Opens s start h.read r.levels 0 x atoms) (no_sign _ _ _ w.zero_left h.stands.opens.sign_is) (subst (λ (m : ℕ). Opens s start h.read r.levels m r.sign atoms) left h.stands.opens)) (ap (λ (x : ℕ). x + length head) h.position_is)
     (subst (λ (x : List Level). LevelsFit x position head) (sym ls_are) fits) (subst (λ (x : List Level). LevelsHead x head) (sym ls_are) just) in
     let p' : p ++ b ∷ [] ≡ h.read ++ head = ap (λ (x : List ℕ). x ++ b ∷ []) h.parts ∙ append_assoc h.read r.head (b ∷ []) in
     let sizes : length p ≡ length h.read + length r.head = ap length h.parts ∙ length-append h.read r.head in
@@ -264,7 +264,7 @@ accepted_step bars bar same s start p r atoms b h lt left w none =
     passes_place bar s start h.read head f h.stands.spelled none before (none_within s f h.read r.head b h.stands.spelled w.awaits not_whole) in
     subst (λ (m : ℕ). Follow bar s start (p ++ b ∷ []) (settled m o o.left).0 (atoms ++ (settled m o o.left).1)) (sym at)
     (arrives bar s start (p ++ b ∷ []) o o.left atoms (omega (arith, length-append p (b ∷ [])))
-    (subst (λ (x : List ℕ). Opens s start x o.levels o.left (atoms ++ o.atoms)) (sym p') opens)
+    (subst (λ (x : List ℕ). Opens s start x o.levels o.left o.sign (atoms ++ o.atoms)) (sym p') opens)
     (subst (λ (x : List ℕ). Passed bar s start x (length x)) (sym p') passed))
 
 -- one byte more of a head

@@ -20,16 +20,18 @@ use Rattle.dcm_base.specs.Reading.Stop.{with_length}
 use Rattle.dcm_base.specs.Steps.Atoms.{Atom, closes_leaf, opens_item, closes_item, closes_sequence, opens_fragment, front_atoms}
 use Rattle.dcm_base.proofs.DataSets.Heads.{is_tag_true}
 use Rattle.dcm_base.proofs.DataSets.Sizes.{element_takes, trees_take, items_take}
-use Rattle.dcm_base.proofs.DataSets.Path.{then_trees, then_items, Path, at_top, in_item, plug, syntax_of, item_length, Placed, item_opens as item_opens_at, item_ends, sequence_ends, fragment_opens, fragment_closes, fragments_end}
+use Rattle.dcm_base.proofs.DataSets.Path.{then_trees, then_items, Path, at_top, in_item, plug, syntax_of, behind, item_length, Placed, item_opens as item_opens_at, item_ends, sequence_ends, fragment_opens, fragment_closes, fragments_end}
 use Rattle.dcm_base.proofs.DataSets.Levels.{container_of, begin_of, around, plug_levels, path_position, room_in_sequence}
 use Rattle.dcm_base.proofs.DataSets.Stops.{set_level}
 use Rattle.dcm_base.proofs.DataSets.Row.{item_opens_atoms, item_closes_atoms, sequence_closes_atoms}
-use Rattle.dcm_stream.specs.Reading.{closes, item_opens, value_opens, head_opens}
+use Rattle.dcm_stream.specs.Reading.{closes, item_opens, value_opens, head_opens, without_value}
 use Rattle.dcm_stream.proofs.Containers.FragmentRow.{fragment_opens_atoms, fragment_closes_atoms, fragments_end_atoms}
 use Rattle.dcm_stream.proofs.Containers.Full.{LeftIs, Opens, list_level}
 use Rattle.dcm_stream.proofs.Heads.Stops.{FitsHead, fits_element, fits_item, fits_delimiter, Fits}
 use Rattle.dcm_stream.proofs.Containers.Room.{passes_zero, passes_less, passes_later, room_at, room_outside}
 use Rattle.dcm_stream.proofs.Heads.Opening.{Behind, JustHead, opens_other, item_head, delimiter_head, set_element_behind}
+use Rattle.dcm_stream.proofs.Containers.Signs.{set_then}
+use Rattle.dcm_base.proofs.DataSets.After.{tag_at_after}
 
 -- ---- which tags are allowed
 
@@ -87,9 +89,9 @@ special_group tag element h g = let k = special_false tag element g in cc
 -- ---- in a set
 
 set_end_behind : (s : Syntax) (start : ℕ) (path : Path) (whole : Trees) (b z : List ℕ) (begin : ℕ) (atoms : List Atom) → Placed s path whole nothing_open b
-    → atoms ≡ front_atoms s (plug path whole nothing_open) → tag_at (syntax_of s path) z ≡ item_end_tag → length z ≡ 8 → item_length path ≡ Undefined → Inside path
-    → passes (length z) (room (start + length b) (set_level s start path ∷ around s start path)) ≡ false
-    → Behind s start (b ++ z) atoms (record { levels = around s start path; left = 0; atoms = closes (container_of path) ∷ [] })
+    → atoms ≡ front_atoms s (plug path whole nothing_open) → tag_at (behind s path whole) z ≡ item_end_tag → length z ≡ 8 → item_length path ≡ Undefined → Inside path
+    → passes (length z) (room (start + length b) (set_level s start path whole ∷ around s start path)) ≡ false
+    → Behind s start (b ++ z) atoms (without_value (around s start path) (closes (container_of path)))
 unfolding tree_levels is_allowed
 set_end_behind s start at_top whole b z begin atoms h a tag_is eight undefined outside free = absurd outside
 set_end_behind s start (in_item outer above tag vr declared items (Known size)) whole b z begin atoms h a tag_is eight undefined is free = absurd (cc)
@@ -100,32 +102,33 @@ set_end_behind s start (in_item outer above tag vr declared items Undefined) who
       path = outer;
       whole = above;
       open_tree = o;
-      placed = item_ends s outer above tag vr declared items whole b z h (room_at s start path whole nothing_open b z h free) (delimiter_head (syntax_of s path) item_end_tag z tag_is eight);
+      placed = item_ends s outer above tag vr declared items whole b z h (room_at s start path whole nothing_open b z h free) (delimiter_head (syntax_of s path) item_end_tag z (sym (tag_at_after (syntax_of s path) whole z) ∙ tag_is) eight);
       levels_are = sym (plug_levels s start outer above o);
       atoms_are = ap (λ (x : List Atom). x ++ closes_item ∷ []) a ∙ sym (item_closes_atoms s outer above tag vr declared items Undefined whole);
       left_is = refl;
+      sign_is = refl;
       fits = passes_zero (room (start + length (b ++ z)) (around s start path));
     }
 
 set_head_behind : (s : Syntax) (start : ℕ) (path : Path) (whole : Trees) (b z : List ℕ) (begin : ℕ) (atoms : List Atom) → Placed s path whole nothing_open b
     → atoms ≡ front_atoms s (plug path whole nothing_open) → begin ≡ start + length b + length z
-    → Fits (set_level s start path) (set_level s start path ∷ around s start path) (start + length b) z → JustHead (syntax_of s path) z
-    → FitsHead (set_level s start path) (set_level s start path ∷ around s start path) (start + length b) z
-    → Behind s start (b ++ z) atoms (head_opens begin z (set_level s start path ∷ around s start path))
+    → Fits (set_level s start path whole) (set_level s start path whole ∷ around s start path) (start + length b) z → JustHead (behind s path whole) z
+    → FitsHead (set_level s start path whole) (set_level s start path whole ∷ around s start path) (start + length b) z
+    → Behind s start (b ++ z) atoms (head_opens begin z (set_level s start path whole ∷ around s start path))
 set_head_behind s start path whole b z begin atoms h a at fits just (fits_element vr g f) = set_element_behind s start path whole b z begin atoms vr h a at g f (just.element vr g f.vr_is)
 set_head_behind s start path whole b z begin atoms h a at fits just (fits_item g i u f) =
-    let k = set_special path (tag_at (syntax_of s path) z) g fits.allowed in absurd (item_end_no_item (tag_at (syntax_of s path) z) k.1 i)
+    let k = set_special path (tag_at (behind s path whole) z) g fits.allowed in absurd (item_end_no_item (tag_at (behind s path whole) z) k.1 i)
 set_head_behind s start path whole b z begin atoms h a at fits just (fits_delimiter g i) =
-    let k = set_special path (tag_at (syntax_of s path) z) g fits.allowed in
+    let k = set_special path (tag_at (behind s path whole) z) g fits.allowed in
     let eight = just.other g in
-    subst (Behind s start (b ++ z) atoms) (sym (opens_other begin z (set_level s start path) (around s start path) false g i))
-    (set_end_behind s start path whole b z begin atoms h a (is_tag_true 0xFFFE 0xE00D (tag_at (syntax_of s path) z) k.1) eight k.0 k.2
-    (subst (λ (n : ℕ). passes n (room (start + length b) (set_level s start path ∷ around s start path)) ≡ false) (sym eight) fits.room_for))
+    subst (Behind s start (b ++ z) atoms) (sym (opens_other begin z (set_level s start path whole) (around s start path) false g i))
+    (set_end_behind s start path whole b z begin atoms h a (is_tag_true 0xFFFE 0xE00D (tag_at (behind s path whole) z) k.1) eight k.0 k.2
+    (subst (λ (n : ℕ). passes n (room (start + length b) (set_level s start path whole ∷ around s start path)) ≡ false) (sym eight) fits.room_for))
 
 set_behind : (s : Syntax) (start : ℕ) (path : Path) (whole : Trees) (b z : List ℕ) (begin : ℕ) (atoms : List Atom) → Placed s path whole nothing_open b
     → atoms ≡ front_atoms s (plug path whole nothing_open) → begin ≡ start + length b + length z
-    → Fits (set_level s start path) (set_level s start path ∷ around s start path) (start + length b) z → JustHead (syntax_of s path) z
-    → Behind s start (b ++ z) atoms (head_opens begin z (set_level s start path ∷ around s start path))
+    → Fits (set_level s start path whole) (set_level s start path whole ∷ around s start path) (start + length b) z → JustHead (behind s path whole) z
+    → Behind s start (b ++ z) atoms (head_opens begin z (set_level s start path whole ∷ around s start path))
 set_behind s start path whole b z begin atoms h a at fits just = set_head_behind s start path whole b z begin atoms h a at fits just fits.head
 
 -- ---- in a sequence
@@ -133,16 +136,16 @@ set_behind s start path whole b z begin atoms h a at fits just = set_head_behind
 list_item_behind : (s : Syntax) (start : ℕ) (path : Path) (whole : Trees) (tag : Tag) (vr : Vr) (declared : Length) (items : Items) (b z : List ℕ) (begin : ℕ) (atoms : List Atom) (l : Length)
     (h : Placed s path whole (open_sequence tag vr declared items no_open_item) b)
     → atoms ≡ front_atoms s (plug path whole (open_sequence tag vr declared items no_open_item)) → begin ≡ start + length b + length z
-    → ItemHead (inside (syntax_of s path) vr) l z [] → length z ≡ 8
-    → passes (length z) (room (start + length b) (list_level s start path whole vr declared ∷ set_level s start path ∷ around s start path)) ≡ false
-    → Behind s start (b ++ z) atoms (item_opens sequence_container (inside (syntax_of s path) vr) l begin (list_level s start path whole vr declared ∷ set_level s start path ∷ around s start path))
+    → ItemHead (inside (behind s path whole) vr) l z [] → length z ≡ 8
+    → passes (length z) (room (start + length b) (list_level s start path whole vr declared ∷ set_level s start path whole ∷ around s start path)) ≡ false
+    → Behind s start (b ++ z) atoms (item_opens sequence_container (inside (behind s path whole) vr) l begin (list_level s start path whole vr declared ∷ set_level s start path whole ∷ around s start path))
 unfolding tree_levels
 list_item_behind s start path whole tag vr declared items b z begin atoms l h a at head eight free =
-    let s' = syntax_of s path in
+    let s' = behind s path whole in
     let o = open_sequence tag vr declared items no_open_item in
     let inner = in_item path whole tag vr declared items l in
     let place : begin ≡ begin_of s start inner =
-    omega (arith, path_position s start path b h.c h.path_at, trees_take s' whole h.c h.d h.trees_at, element_takes s' tag vr declared h.d h.open_at.0 h.open_at.2, items_take (inside s' vr) items h.open_at.0 [] h.open_at.4) in
+    omega (arith, path_position s start path b h.c h.path_at, trees_take (syntax_of s path) whole h.c h.d h.trees_at, element_takes s' tag vr declared h.d h.open_at.0 h.open_at.2, items_take (inside s' vr) items h.open_at.0 [] h.open_at.4) in
     let free' : passes (length z) (room (start + length b) (levels s start (plug path whole o))) ≡ false =
     subst (λ (ls : List Level). passes (length z) (room (start + length b) ls) ≡ false) (sym (plug_levels s start path whole o)) free in
     let fit = room_in_sequence s start path whole tag vr declared items b z h free' in
@@ -151,18 +154,19 @@ list_item_behind s start path whole tag vr declared items b z begin atoms l h a 
       whole = no_tree;
       open_tree = nothing_open;
       placed = item_opens_at s path whole tag vr declared items l b z h fit.0 fit.1 head;
-      levels_are = ap (λ (x : ℕ). level an_item (inside s' vr) l x ∷ list_level s start path whole vr declared ∷ set_level s start path ∷ around s start path) place ∙ sym (plug_levels s start inner no_tree nothing_open);
+      levels_are = ap (λ (x : ℕ). level an_item (inside s' vr) l x ∷ list_level s start path whole vr declared ∷ set_level s start path whole ∷ around s start path) place ∙ sym (plug_levels s start inner no_tree nothing_open);
       atoms_are = ap (λ (x : List Atom). x ++ opens_item l ∷ []) a ∙ sym (item_opens_atoms s path whole tag vr declared items l);
       left_is = refl;
-      fits = passes_zero (room (start + length (b ++ z)) (level an_item (inside s' vr) l begin ∷ list_level s start path whole vr declared ∷ set_level s start path ∷ around s start path));
+      sign_is = refl;
+      fits = passes_zero (room (start + length (b ++ z)) (level an_item (inside s' vr) l begin ∷ list_level s start path whole vr declared ∷ set_level s start path whole ∷ around s start path));
     }
 
 list_end_behind : (s : Syntax) (start : ℕ) (path : Path) (whole : Trees) (tag : Tag) (vr : Vr) (items : Items) (b z : List ℕ) (atoms : List Atom)
     (h : Placed s path whole (open_sequence tag vr Undefined items no_open_item) b)
     → atoms ≡ front_atoms s (plug path whole (open_sequence tag vr Undefined items no_open_item))
-    → Delimiter (inside (syntax_of s path) vr) sequence_end_tag z []
-    → passes (length z) (room (start + length b) (set_level s start path ∷ around s start path)) ≡ false
-    → Behind s start (b ++ z) atoms (record { levels = set_level s start path ∷ around s start path; left = 0; atoms = closes_sequence ∷ [] })
+    → Delimiter (inside (behind s path whole) vr) sequence_end_tag z []
+    → passes (length z) (room (start + length b) (set_level s start path whole ∷ around s start path)) ≡ false
+    → Behind s start (b ++ z) atoms (without_value (set_level s start path whole ∷ around s start path) closes_sequence)
 unfolding tree_levels
 list_end_behind s start path whole tag vr items b z atoms h a head free =
     let w = then_trees whole (sequence tag vr Undefined items no_tree) in
@@ -171,17 +175,18 @@ list_end_behind s start path whole tag vr items b z atoms h a head free =
       whole = w;
       open_tree = nothing_open;
       placed = sequence_ends s path whole tag vr items b z h (room_at s start path whole (open_sequence tag vr Undefined items no_open_item) b z h free) head;
-      levels_are = sym (plug_levels s start path w nothing_open);
+      levels_are = ap (λ (x : Level). x ∷ around s start path) (sym (set_then s start path whole (sequence tag vr Undefined items no_tree))) ∙ sym (plug_levels s start path w nothing_open);
       atoms_are = ap (λ (x : List Atom). x ++ closes_sequence ∷ []) a ∙ sym (sequence_closes_atoms s path whole tag vr Undefined items);
       left_is = refl;
-      fits = passes_zero (room (start + length (b ++ z)) (set_level s start path ∷ around s start path));
+      sign_is = refl;
+      fits = passes_zero (room (start + length (b ++ z)) (set_level s start path whole ∷ around s start path));
     }
 
 list_head_behind : (s : Syntax) (start : ℕ) (path : Path) (whole : Trees) (tag : Tag) (vr : Vr) (declared : Length) (items : Items) (b z : List ℕ) (begin : ℕ) (atoms : List Atom)
     → Placed s path whole (open_sequence tag vr declared items no_open_item) b
     → atoms ≡ front_atoms s (plug path whole (open_sequence tag vr declared items no_open_item)) → begin ≡ start + length b + length z
     → let inner = list_level s start path whole vr declared in
-    let ls = inner ∷ set_level s start path ∷ around s start path in
+    let ls = inner ∷ set_level s start path whole ∷ around s start path in
     Fits inner ls (start + length b) z → JustHead inner.syntax z → FitsHead inner ls (start + length b) z
     → (is_item (tag_at inner.syntax z) ≡ true) ⊎ ((declared ≡ Undefined) × (is_sequence_end (tag_at inner.syntax z) ≡ true))
     → Behind s start (b ++ z) atoms (head_opens begin z ls)
@@ -189,7 +194,7 @@ list_head_behind s start path whole tag vr declared items b z begin atoms h a at
 list_head_behind s start path whole tag vr declared items b z begin atoms h a at fits just (fits_element v g f) (inr k) = absurd (special_group _ 0xE0DD k.1 g)
 list_head_behind s start path whole tag vr declared items b z begin atoms h a at fits just (fits_item g i u f) allowed =
     let inner = list_level s start path whole vr declared in
-    let outer = set_level s start path ∷ around s start path in
+    let outer = set_level s start path whole ∷ around s start path in
     let eight = just.other g in
     subst (Behind s start (b ++ z) atoms) (sym (opens_other begin z inner outer true g i))
     (list_item_behind s start path whole tag vr declared items b z begin atoms (long_length (number inner.syntax 4 (drop 4 z))) h a at (item_head inner.syntax z i eight) eight
@@ -198,7 +203,7 @@ list_head_behind s start path whole tag vr declared items b z begin atoms h a at
 list_head_behind s start path whole tag vr (Known size) items b z begin atoms h a at fits just (fits_delimiter g i) (inr k) = absurd (let e = k.0 in cc)
 list_head_behind s start path whole tag vr Undefined items b z begin atoms h a at fits just (fits_delimiter g i) (inr k) =
     let inner = list_level s start path whole vr Undefined in
-    let outer = set_level s start path ∷ around s start path in
+    let outer = set_level s start path whole ∷ around s start path in
     let eight = just.other g in
     subst (Behind s start (b ++ z) atoms) (sym (opens_other begin z inner outer false g i))
     (list_end_behind s start path whole tag vr items b z atoms h a (delimiter_head inner.syntax sequence_end_tag z (is_tag_true 0xFFFE 0xE0DD (tag_at inner.syntax z) k.1) eight)
@@ -208,27 +213,27 @@ list_behind : (s : Syntax) (start : ℕ) (path : Path) (whole : Trees) (tag : Ta
     → Placed s path whole (open_sequence tag vr declared items no_open_item) b
     → atoms ≡ front_atoms s (plug path whole (open_sequence tag vr declared items no_open_item)) → begin ≡ start + length b + length z
     → let inner = list_level s start path whole vr declared in
-    let ls = inner ∷ set_level s start path ∷ around s start path in
+    let ls = inner ∷ set_level s start path whole ∷ around s start path in
     Fits inner ls (start + length b) z → JustHead inner.syntax z → Behind s start (b ++ z) atoms (head_opens begin z ls)
 list_behind s start path whole tag vr declared items b z begin atoms h a at fits just =
-    list_head_behind s start path whole tag vr declared items b z begin atoms h a at fits just fits.head (list_allows declared (tag_at (inside (syntax_of s path) vr) z) fits.allowed)
+    list_head_behind s start path whole tag vr declared items b z begin atoms h a at fits just fits.head (list_allows declared (tag_at (inside (behind s path whole) vr) z) fits.allowed)
 
 -- ---- in a fragment list
 
 abbrev pub fragments_level : Syntax → (start : ℕ) → Path → Trees → Vr → Level
-fragments_level s start path whole vr = level fragment_container (syntax_of s path) Undefined (begin_of s start path + trees_size (syntax_of s path) whole + head_size (syntax_of s path) vr)
+fragments_level s start path whole vr = level fragment_container (behind s path whole) Undefined (begin_of s start path + trees_size (syntax_of s path) whole + head_size (behind s path whole) vr)
 
 fragment_behind : (s : Syntax) (start : ℕ) (path : Path) (whole : Trees) (tag : Tag) (vr : Vr) (values : List (List ℕ)) (b z : List ℕ) (begin : ℕ) (atoms : List Atom) (size : ℕ)
     → Placed s path whole (open_fragments tag vr values None) b
     → atoms ≡ front_atoms s (plug path whole (open_fragments tag vr values None))
-    → ItemHead (syntax_of s path) (Known size) z []
-    → let ls = fragments_level s start path whole vr ∷ set_level s start path ∷ around s start path in
+    → ItemHead (behind s path whole) (Known size) z []
+    → let ls = fragments_level s start path whole vr ∷ set_level s start path whole ∷ around s start path in
     passes (length z + size) (room (start + length b) ls) ≡ false
-    → Behind s start (b ++ z) atoms (value_opens ls (opens_fragment size) size)
+    → Behind s start (b ++ z) atoms (value_opens ls None (opens_fragment size) size)
 unfolding tree_levels
 fragment_behind s start path whole tag vr values b z begin atoms zero h a head free =
-    let ls = fragments_level s start path whole vr ∷ set_level s start path ∷ around s start path in
-    let outer = set_level s start path ∷ around s start path in
+    let ls = fragments_level s start path whole vr ∷ set_level s start path whole ∷ around s start path in
+    let outer = set_level s start path whole ∷ around s start path in
     let fit = passes_less (length z) (length z + 0) (room (start + length b) outer) (omega arith) (room_outside (length z + 0) (start + length b) (fragments_level s start path whole vr) outer free) in
     let opened = fragment_opens s path whole tag vr values 0 b z h (room_at s start path whole (open_fragments tag vr values None) b z h fit) head in
     let o : Atom = opens_fragment 0 in
@@ -244,11 +249,12 @@ fragment_behind s start path whole tag vr values b z begin atoms zero h a head f
           ∙ ap (λ (x : List Atom). x ++ closes_leaf ∷ []) (sym (fragment_opens_atoms s path whole tag vr values 0))
           ∙ sym (fragment_closes_atoms s path whole tag vr values 0 [] refl);
       left_is = refl;
+      sign_is = refl;
       fits = passes_zero (room (start + length (b ++ z)) ls);
     }
 fragment_behind s start path whole tag vr values b z begin atoms (suc n) h a head free =
-    let ls = fragments_level s start path whole vr ∷ set_level s start path ∷ around s start path in
-    let outer = set_level s start path ∷ around s start path in
+    let ls = fragments_level s start path whole vr ∷ set_level s start path whole ∷ around s start path in
+    let outer = set_level s start path whole ∷ around s start path in
     let fit = passes_less (length z) (length z + suc n) (room (start + length b) outer) (omega arith) (room_outside (length z + suc n) (start + length b) (fragments_level s start path whole vr) outer free) in
     let same : start + length b + length z ≡ start + length (b ++ z) = omega (arith, length-append b z) in
     record {
@@ -259,15 +265,16 @@ fragment_behind s start path whole tag vr values b z begin atoms (suc n) h a hea
       levels_are = sym (plug_levels s start path whole (open_fragments tag vr values (Some (suc n, []))));
       atoms_are = ap (λ (x : List Atom). x ++ opens_fragment (suc n) ∷ []) a ∙ sym (fragment_opens_atoms s path whole tag vr values (suc n));
       left_is = (omega arith, omega arith);
+      sign_is = refl;
       fits = subst (λ (p : ℕ). passes (suc n) (room p ls) ≡ false) same (passes_later (length z) (suc n) (start + length b) ls free);
     }
 
 fragments_end_behind : (s : Syntax) (start : ℕ) (path : Path) (whole : Trees) (tag : Tag) (vr : Vr) (values : List (List ℕ)) (b z : List ℕ) (atoms : List Atom)
     → Placed s path whole (open_fragments tag vr values None) b
     → atoms ≡ front_atoms s (plug path whole (open_fragments tag vr values None))
-    → Delimiter (syntax_of s path) sequence_end_tag z []
-    → passes (length z) (room (start + length b) (set_level s start path ∷ around s start path)) ≡ false
-    → Behind s start (b ++ z) atoms (record { levels = set_level s start path ∷ around s start path; left = 0; atoms = closes_sequence ∷ [] })
+    → Delimiter (behind s path whole) sequence_end_tag z []
+    → passes (length z) (room (start + length b) (set_level s start path whole ∷ around s start path)) ≡ false
+    → Behind s start (b ++ z) atoms (without_value (set_level s start path whole ∷ around s start path) closes_sequence)
 unfolding tree_levels
 fragments_end_behind s start path whole tag vr values b z atoms h a head free =
     let w = then_trees whole (fragments tag vr values no_tree) in
@@ -276,20 +283,21 @@ fragments_end_behind s start path whole tag vr values b z atoms h a head free =
       whole = w;
       open_tree = nothing_open;
       placed = fragments_end s path whole tag vr values b z h (room_at s start path whole (open_fragments tag vr values None) b z h free) head;
-      levels_are = sym (plug_levels s start path w nothing_open);
+      levels_are = ap (λ (x : Level). x ∷ around s start path) (sym (set_then s start path whole (fragments tag vr values no_tree))) ∙ sym (plug_levels s start path w nothing_open);
       atoms_are = ap (λ (x : List Atom). x ++ closes_sequence ∷ []) a ∙ sym (fragments_end_atoms s path whole tag vr values);
       left_is = refl;
-      fits = passes_zero (room (start + length (b ++ z)) (set_level s start path ∷ around s start path));
+      sign_is = refl;
+      fits = passes_zero (room (start + length (b ++ z)) (set_level s start path whole ∷ around s start path));
     }
 
 -- the head of a fragment declares a length
 fragment_head_behind : (s : Syntax) (start : ℕ) (path : Path) (whole : Trees) (tag : Tag) (vr : Vr) (values : List (List ℕ)) (b z : List ℕ) (begin : ℕ) (atoms : List Atom) (l : Length)
     → Placed s path whole (open_fragments tag vr values None) b
     → atoms ≡ front_atoms s (plug path whole (open_fragments tag vr values None))
-    → ItemHead (syntax_of s path) l z [] → is_undefined l ≡ false
-    → let ls = fragments_level s start path whole vr ∷ set_level s start path ∷ around s start path in
+    → ItemHead (behind s path whole) l z [] → is_undefined l ≡ false
+    → let ls = fragments_level s start path whole vr ∷ set_level s start path whole ∷ around s start path in
     passes (with_length (length z) l) (room (start + length b) ls) ≡ false
-    → Behind s start (b ++ z) atoms (item_opens fragment_container (syntax_of s path) l begin ls)
+    → Behind s start (b ++ z) atoms (item_opens fragment_container (behind s path whole) l begin ls)
 fragment_head_behind s start path whole tag vr values b z begin atoms (Known size) h a head u free = fragment_behind s start path whole tag vr values b z begin atoms size h a head free
 fragment_head_behind s start path whole tag vr values b z begin atoms Undefined h a head u free = absurd (cc)
 
@@ -297,7 +305,7 @@ fragments_head_behind : (s : Syntax) (start : ℕ) (path : Path) (whole : Trees)
     → Placed s path whole (open_fragments tag vr values None) b
     → atoms ≡ front_atoms s (plug path whole (open_fragments tag vr values None))
     → let inner = fragments_level s start path whole vr in
-    let ls = inner ∷ set_level s start path ∷ around s start path in
+    let ls = inner ∷ set_level s start path whole ∷ around s start path in
     Fits inner ls (start + length b) z → JustHead inner.syntax z → FitsHead inner ls (start + length b) z
     → (is_item (tag_at inner.syntax z) ≡ true) ⊎ (is_sequence_end (tag_at inner.syntax z) ≡ true)
     → Behind s start (b ++ z) atoms (head_opens begin z ls)
@@ -305,7 +313,7 @@ fragments_head_behind s start path whole tag vr values b z begin atoms h a fits 
 fragments_head_behind s start path whole tag vr values b z begin atoms h a fits just (fits_element v g f) (inr i) = absurd (special_group _ 0xE0DD i g)
 fragments_head_behind s start path whole tag vr values b z begin atoms h a fits just (fits_item g i u f) allowed =
     let inner = fragments_level s start path whole vr in
-    let outer = set_level s start path ∷ around s start path in
+    let outer = set_level s start path whole ∷ around s start path in
     let l = long_length (number inner.syntax 4 (drop 4 z)) in
     let eight = just.other g in
     subst (Behind s start (b ++ z) atoms) (sym (opens_other begin z inner outer true g i))
@@ -314,7 +322,7 @@ fragments_head_behind s start path whole tag vr values b z begin atoms h a fits 
 fragments_head_behind s start path whole tag vr values b z begin atoms h a fits just (fits_delimiter g i) (inl is) = absurd (cc)
 fragments_head_behind s start path whole tag vr values b z begin atoms h a fits just (fits_delimiter g i) (inr k) =
     let inner = fragments_level s start path whole vr in
-    let outer = set_level s start path ∷ around s start path in
+    let outer = set_level s start path whole ∷ around s start path in
     let eight = just.other g in
     subst (Behind s start (b ++ z) atoms) (sym (opens_other begin z inner outer false g i))
     (fragments_end_behind s start path whole tag vr values b z atoms h a (delimiter_head inner.syntax sequence_end_tag z (is_tag_true 0xFFFE 0xE0DD (tag_at inner.syntax z) k) eight)
@@ -336,25 +344,25 @@ behind_at : (s : Syntax) (start : ℕ) (path : Path) (whole : Trees) (o : OpenTr
     → LevelsFit ls (start + length b) z → LevelsHead ls z → Behind s start (b ++ z) atoms (head_opens begin z ls)
 unfolding tree_levels
 behind_at s start path whole nothing_open b z begin atoms ls h l a left at fits just =
-    let e : ls ≡ set_level s start path ∷ around s start path = l ∙ plug_levels s start path whole nothing_open in
+    let e : ls ≡ set_level s start path whole ∷ around s start path = l ∙ plug_levels s start path whole nothing_open in
     subst (λ (x : List Level). Behind s start (b ++ z) atoms (head_opens begin z x)) (sym e)
     (set_behind s start path whole b z begin atoms h a at (subst (λ (x : List Level). LevelsFit x (start + length b) z) e fits) (subst (λ (x : List Level). LevelsHead x z) e just))
 behind_at s start path whole (open_leaf tag vr size value) b z begin atoms ls h l a left at fits just = absurd (omega arith)
 behind_at s start path whole (open_sequence tag vr declared items no_open_item) b z begin atoms ls h l a left at fits just =
-    let e : ls ≡ list_level s start path whole vr declared ∷ set_level s start path ∷ around s start path = l ∙ plug_levels s start path whole (open_sequence tag vr declared items no_open_item) in
+    let e : ls ≡ list_level s start path whole vr declared ∷ set_level s start path whole ∷ around s start path = l ∙ plug_levels s start path whole (open_sequence tag vr declared items no_open_item) in
     subst (λ (x : List Level). Behind s start (b ++ z) atoms (head_opens begin z x)) (sym e)
     (list_behind s start path whole tag vr declared items b z begin atoms h a at (subst (λ (x : List Level). LevelsFit x (start + length b) z) e fits) (subst (λ (x : List Level). LevelsHead x z) e just))
 behind_at s start path whole (open_sequence tag vr declared items (open_item m f)) b z begin atoms ls h l a left at fits just = absurd h.open_at
 behind_at s start path whole (open_fragments tag vr values None) b z begin atoms ls h l a left at fits just =
-    let e : ls ≡ fragments_level s start path whole vr ∷ set_level s start path ∷ around s start path = l ∙ plug_levels s start path whole (open_fragments tag vr values None) in
-    let fits' : Fits (fragments_level s start path whole vr) (fragments_level s start path whole vr ∷ set_level s start path ∷ around s start path) (start + length b) z = subst (λ (x : List Level). LevelsFit x (start + length b) z) e fits in
+    let e : ls ≡ fragments_level s start path whole vr ∷ set_level s start path whole ∷ around s start path = l ∙ plug_levels s start path whole (open_fragments tag vr values None) in
+    let fits' : Fits (fragments_level s start path whole vr) (fragments_level s start path whole vr ∷ set_level s start path whole ∷ around s start path) (start + length b) z = subst (λ (x : List Level). LevelsFit x (start + length b) z) e fits in
     subst (λ (x : List Level). Behind s start (b ++ z) atoms (head_opens begin z x)) (sym e)
     (fragments_head_behind s start path whole tag vr values b z begin atoms h a fits' (subst (λ (x : List Level). LevelsHead x z) e just) fits'.head
-    (fragments_allow Undefined (tag_at (syntax_of s path) z) fits'.allowed))
+    (fragments_allow Undefined (tag_at (behind s path whole) z) fits'.allowed))
 behind_at s start path whole (open_fragments tag vr values (Some fragment)) b z begin atoms ls h l a left at fits just = absurd (omega arith)
 
 -- behind a head that no stop refuses stands a place
-pub head_behind : (s : Syntax) (start : ℕ) (b z : List ℕ) (begin : ℕ) (atoms : List Atom) (ls : List Level) → Opens s start b ls 0 atoms → begin ≡ start + length b + length z
+pub head_behind : (s : Syntax) (start : ℕ) (b z : List ℕ) (begin : ℕ) (atoms : List Atom) (ls : List Level) → Opens s start b ls 0 None atoms → begin ≡ start + length b + length z
     → LevelsFit ls (start + length b) z → LevelsHead ls z → Behind s start (b ++ z) atoms (head_opens begin z ls)
 head_behind s start b z begin atoms ls h at fits just =
     behind_at s start h.path h.whole h.open_tree b z begin atoms ls h.placed h.levels_are h.atoms_are h.left_is at fits just

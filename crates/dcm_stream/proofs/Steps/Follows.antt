@@ -119,7 +119,7 @@ start_placed : (s : Syntax) → Placed s at_top no_tree nothing_open []
 unfolding TreesAt
 start_placed s = record { c = []; d = []; path_at = refl; trees_at = refl; open_at = refl; stays = tt }
 
-start_opens : (s : Syntax) (start : ℕ) → Opens s start [] (level the_data_set s Undefined start ∷ []) 0 []
+start_opens : (s : Syntax) (start : ℕ) → Opens s start [] (level the_data_set s Undefined start ∷ []) 0 None []
 unfolding front_atoms trees_then tree_levels
 start_opens s start =
     record {
@@ -130,6 +130,7 @@ start_opens s start =
       levels_are = sym (plug_levels s start at_top no_tree nothing_open);
       atoms_are = refl;
       left_is = refl;
+      sign_is = refl;
       fits = passes_zero (room (start + 0) (level the_data_set s Undefined start ∷ []));
     }
 
@@ -141,7 +142,7 @@ starts : (bar : Bar) (s : Syntax) (start : ℕ) → start ≤ INPUT_LIMIT → Co
 unfolding start_opens
 starts bar s start le =
     let o = start_opens s start in
-    let stands : Stands s start [] (level the_data_set s Undefined start ∷ []) 0 [] = record { opens = o; spelled = set_stands s at_top no_tree [] (start_placed s) tt } in
+    let stands : Stands s start [] (level the_data_set s Undefined start ∷ []) 0 None [] = record { opens = o; spelled = set_stands s at_top no_tree [] (start_placed s) tt } in
     record {
       read = [];
       within = omega arith;
@@ -149,7 +150,7 @@ starts bar s start le =
       parts = refl;
       position_is = omega arith;
       stands = stands;
-      waits = begin_waits bar s start [] (level the_data_set s Undefined start ∷ []) [] stands.opens (top_free s start (start + 0));
+      waits = begin_waits bar s start [] (level the_data_set s Undefined start ∷ []) None [] stands.opens (top_free s start (start + 0));
       passed = passed_none bar s start [];
     }
 

@@ -12,7 +12,7 @@ use Rattle.dcm_base.specs.Tree.Front.{Front}
 use Rattle.dcm_base.specs.Tables.Number.{number}
 use Rattle.dcm_base.specs.Tables.Tag.{is_item}
 use Rattle.dcm_base.specs.Bytes.Head.{tag_at, vr_at, length_at, head_size, long_length}
-use Rattle.dcm_base.specs.Bytes.Spelling.{form}
+use Rattle.dcm_base.specs.Bytes.Spelling.{form, read_as}
 use Rattle.dcm_base.specs.declared.level.Level.{Level}
 use Rattle.dcm_base.specs.Reading.Place.{levels, value_open, room, passes, depth, is_allowed}
 use Rattle.dcm_base.specs.Reading.Stop.{Stop, complete, refused, Bar, HeadBar, first_case, is_empty, is_the_data_set, opens_list, has_no_form, with_length, barred, element_stop, item_stop, head_stop, or_else, place_stop, innermost_stop, value_stop, stop_at, is_undecided}
@@ -42,37 +42,39 @@ tests_same false false false false d2 d3 d4 position m n h k u f =
 
 -- ---- an element
 
-abbrev pub element_tests : Bool → Bool → Option Fault → Syntax → List Level → (position size : ℕ) → Vr → Length → Option Stop
-element_tests c1 c2 bar s around position size vr declared =
+abbrev pub element_tests : Bool → Bool → Option Fault → Syntax → List Level → (position size : ℕ) → Tag → Vr → Length → Option Stop
+element_tests c1 c2 bar s around position size tag vr declared =
     first_case (
     (c1, refused PassesEnd position)
     ∷ (c2, refused EndsEarly (position + size))
-    ∷ (has_no_form (form s vr declared), refused UndefinedLength position)
+    ∷ (has_no_form (form s (read_as s tag vr) declared), refused UndefinedLength position)
     ∷ (passes (with_length (head_size s vr) declared) (room position around), refused PassesEnd position)
-    ∷ (opens_list (form s vr declared) && nat_le 64 (depth around), refused TooDeep position)
+    ∷ (opens_list (form s (read_as s tag vr) declared) && nat_le 64 (depth around), refused TooDeep position)
     ∷ barred bar position)
 
-element_tests_same : (c1 c2 d2 : Bool) (bar bar' : Option Fault) (s : Syntax) (around : List Level) (position m n : ℕ) (vr : Vr) (l l' : Length)
-    → is_undecided (element_tests c1 c2 bar s around position m vr l) ≡ false → (c2 ≡ false → (d2 ≡ false) × (bar' ≡ bar) × (l' ≡ l))
-    → element_tests c1 d2 bar' s around position n vr l' ≡ element_tests c1 c2 bar s around position m vr l
-element_tests_same true c2 d2 bar bar' s around position m n vr l l' u f = refl
-element_tests_same false true d2 bar bar' s around position m n vr l l' u f = absurd (cc)
-element_tests_same false false d2 bar bar' s around position m n vr l l' u f =
-    ap (λ (x : Bool). element_tests false x bar' s around position n vr l') (f refl).0
-    ∙ ap (λ (x : Option Fault). element_tests false false x s around position n vr l') (f refl).1
-    ∙ ap (λ (x : Length). element_tests false false bar s around position n vr x) (f refl).2
+element_tests_same : (c1 c2 d2 : Bool) (bar bar' : Option Fault) (s : Syntax) (around : List Level) (position m n : ℕ) (t t' : Tag) (vr : Vr) (l l' : Length)
+    → is_undecided (element_tests c1 c2 bar s around position m t vr l) ≡ false → (c2 ≡ false → (d2 ≡ false) × (bar' ≡ bar) × (t' ≡ t) × (l' ≡ l))
+    → element_tests c1 d2 bar' s around position n t' vr l' ≡ element_tests c1 c2 bar s around position m t vr l
+element_tests_same true c2 d2 bar bar' s around position m n t t' vr l l' u f = refl
+element_tests_same false true d2 bar bar' s around position m n t t' vr l l' u f = absurd (cc)
+element_tests_same false false d2 bar bar' s around position m n t t' vr l l' u f =
+    ap (λ (x : Bool). element_tests false x bar' s around position n t' vr l') (f refl).0
+    ∙ ap (λ (x : Option Fault). element_tests false false x s around position n t' vr l') (f refl).1
+    ∙ ap (λ (x : Tag). element_tests false false bar s around position n x vr l') (f refl).2
+    ∙ ap (λ (x : Length). element_tests false false bar s around position n t vr x) (f refl).3
 
 element_same : (bar : HeadBar) (s : Syntax) (around : List Level) (position : ℕ) (rest z : List ℕ) (v : Option Vr) → 8 ≤ length rest
     → is_undecided (element_stop bar s around position rest v) ≡ false → element_stop bar s around position (rest ++ z) v ≡ element_stop bar s around position rest v
 element_same bar s around position rest z None le u = refl
 element_same bar s around position rest z (Some vr) le u =
     element_tests_same (passes (head_size s vr) (room position around)) (nat_lt (length rest) (head_size s vr)) (nat_lt (length (rest ++ z)) (head_size s vr))
-    (bar (tag_at s rest) vr (length_at s vr rest)) (bar (tag_at s (rest ++ z)) vr (length_at s vr (rest ++ z))) s around position (length rest) (length (rest ++ z)) vr (length_at s vr rest) (length_at s vr (rest ++ z)) u
+    (bar (tag_at s rest) vr (length_at s vr rest)) (bar (tag_at s (rest ++ z)) vr (length_at s vr (rest ++ z))) s around position (length rest) (length (rest ++ z)) (tag_at s rest) (tag_at s (rest ++ z)) vr (length_at s vr rest) (length_at s vr (rest ++ z)) u
     (λ e.
     let whole : head_size s vr ≤ length rest = ltb-false _ _ e in
     let same = length_at_extends s vr rest z whole in (
       le-ltb _ _ (omega (arith, length-append rest z)),
       ap (λ (t : Tag). bar t vr (length_at s vr (rest ++ z))) (tag_at_extends s rest z (omega arith)) ∙ ap (λ (l : Length). bar (tag_at s rest) vr l) same,
+      tag_at_extends s rest z (omega arith),
       same,
     ))
 

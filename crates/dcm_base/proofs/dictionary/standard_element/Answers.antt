@@ -1,7 +1,8 @@
-use Rattle.std.proofs.Common.{refl, sym, ap, ◌∙◌, ◌==◌, Some}
+use Rattle.std.proofs.Common.{refl, sym, ap, ◌∙◌, ◌==◌, ◌<◌, Some, arith}
 use Rattle.dcm_base.specs.declared.dictionary.Dictionary.TheVariants.{Standard}
 use Rattle.dcm_base.specs.Tables.Dictionary.{elements_in, element_in, fits, keywords, numbered}
 use Rattle.dcm_base.proofs.Dictionaries.Entries.{entries_ascend, all_fit, found_passes, element_is}
+use Rattle.dcm_base.proofs.Dictionaries.Private.{private_unlisted}
 use Rattle.dcm_base.proofs.dictionary.standard_element.Goals as goal
 
 -- the table's numbers ascend
@@ -26,3 +27,9 @@ unfolding element_in
 returns-in-None c =
     element_is keywords _ c.number.result _ refl c.entries.ensures c.in-None.ensures
     ∙ ap (numbered (elements_in Standard)) c.number.ensures
+
+-- a private tag is not in the table
+pub returns-then-is_private : goal.returns-then-is_private
+returns-then-is_private c =
+    let small : c.args.tag.element < 65536 = omega (arith, c.well_formed) in
+    private_unlisted c.args.tag small (sym c.is_private.ensures ∙ c.if-is_private.true)

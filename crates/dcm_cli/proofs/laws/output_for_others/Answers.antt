@@ -14,4 +14,4 @@ pub returns-clause-modified_all : goal.returns-clause-modified_all
 returns-clause-modified_all c = λ d e edits input a m coding f h in_it. output_modified_by d edits input a m coding f h e in_it
 
 pub returns-clause-others_stay : goal.returns-clause-others_stay
-returns-clause-others_stay c = λ d e edits input a m coding f h in_it. output_keeps_others_by d edits input a m coding f h e in_it
+returns-clause-others_stay c = λ d e edits input a m coding f h keep in_it. output_keeps_others_by d edits input a m coding f h e in_it keep

@@ -4,7 +4,7 @@ use Rattle.dcm_cli.proofs.ReadBack.OtherReaders.{explicit_output_opens, own_outp
 use Rattle.dcm_cli.proofs.laws.output_opens_alike.Goals as goal
 
 pub returns-clause-explicit : goal.returns-clause-explicit
-returns-clause-explicit c = λ d e edits input a m coding f h is. explicit_output_opens d edits input a m coding f h e is
+returns-clause-explicit c = λ d edits input a m coding f h is. explicit_output_opens d edits input a m coding f h is
 
 pub returns-clause-own : goal.returns-clause-own
 returns-clause-own c = own_output_opens

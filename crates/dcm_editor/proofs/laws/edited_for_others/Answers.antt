@@ -11,4 +11,4 @@ pub returns-clause-modified_all : goal.returns-clause-modified_all
 returns-clause-modified_all c = λ edits s at f again stop e tag vr value h opens among reads. all_are_modified edits s at f h e opens again stop tag vr value among reads
 
 pub returns-clause-others_stay : goal.returns-clause-others_stay
-returns-clause-others_stay c = λ edits s at f again stop e h opens reads. others_stay_by edits s at f h e opens again stop reads
+returns-clause-others_stay c = λ edits s at f again stop e h keep opens reads. others_stay_by edits s at f h e opens keep again stop reads

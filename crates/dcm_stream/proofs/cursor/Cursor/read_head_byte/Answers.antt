@@ -12,14 +12,14 @@ returns-in-Refused g c =
     let cursor = c.args.self.now in
     let s = g.S.Sink.state c.args.sink.now in
     let judged = judged_at (bars_head g.S.Sink.bar s) c.in-Some.inner cursor.position cursor.levels c.as_slice.result.now (cursor.head.items ++ c.args.byte ∷ []) c.judge.result (c.as_slice.ensures.value ∙ c.push.ensures.items) c.judge.ensures in
-    record { feeds = feeds_refused g.S.Sink.bar g.S.Sink.step g.S.Sink.writes cursor c.in-Some.inner s c.args.byte c.requires.left c.requires.within (sym c.in-Some.ensures) (Unit {0}) (g.S.Sink.contents c.args.sink.now) (record { position = cursor.position; head = c.clear.new.self; left = cursor.left; levels = cursor.levels }) c.judge.result c.in-Refused.fault c.refused.result judged c.in-Refused.is c.refused.ensures refl c.clear.ensures refl refl; failed = search rules; kept = search rules }
+    record { feeds = feeds_refused g.S.Sink.bar g.S.Sink.step g.S.Sink.writes cursor c.in-Some.inner s c.args.byte c.requires.left c.requires.within (sym c.in-Some.ensures) (Unit {0}) (g.S.Sink.contents c.args.sink.now) (record { position = cursor.position; head = c.clear.new.self; left = cursor.left; sign = cursor.sign; levels = cursor.levels }) c.judge.result c.in-Refused.fault c.refused.result judged c.in-Refused.is c.refused.ensures refl c.clear.ensures refl refl refl; failed = search rules; kept = search rules }
 
 pub returns-in-More : goal.returns-in-More
 returns-in-More g c =
     let cursor = c.args.self.now in
     let s = g.S.Sink.state c.args.sink.now in
     let judged = judged_at (bars_head g.S.Sink.bar s) c.in-Some.inner cursor.position cursor.levels c.as_slice.result.now (cursor.head.items ++ c.args.byte ∷ []) c.judge.result (c.as_slice.ensures.value ∙ c.push.ensures.items) c.judge.ensures in
-    record { feeds = feeds_waiting g.S.Sink.bar g.S.Sink.step g.S.Sink.writes cursor c.in-Some.inner s c.args.byte c.requires.left c.requires.within (sym c.in-Some.ensures) (g.S.Sink.contents c.args.sink.now) (record { position = cursor.position; head = c.push.new.self; left = cursor.left; levels = cursor.levels }) c.judge.result (tt {0}) judged c.in-More.is refl c.push.ensures.items refl refl; failed = search rules; kept = search rules }
+    record { feeds = feeds_waiting g.S.Sink.bar g.S.Sink.step g.S.Sink.writes cursor c.in-Some.inner s c.args.byte c.requires.left c.requires.within (sym c.in-Some.ensures) (g.S.Sink.contents c.args.sink.now) (record { position = cursor.position; head = c.push.new.self; left = cursor.left; sign = cursor.sign; levels = cursor.levels }) c.judge.result (tt {0}) judged c.in-More.is refl c.push.ensures.items refl refl refl; failed = search rules; kept = search rules }
 
 pub enter-requires-clause-few : goal.enter-requires-clause-few
 enter-requires-clause-few g c =

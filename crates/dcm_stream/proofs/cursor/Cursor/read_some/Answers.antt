@@ -6,7 +6,7 @@ pub returns-then-read-ge-INPUT_LIMIT-clause-fed : goal.returns-then-read-ge-INPU
 returns-then-read-ge-INPUT_LIMIT-clause-fed g c =
     let cursor = c.args.self.now in
     let size : c.len.result ≡ length cursor.head.items = c.len.ensures.value in
-    record { feeds = limit_at g.S.Sink.bar g.S.Sink.step g.S.Sink.writes ℕ cursor (record { position = cursor.position; head = c.clear.new.self; left = cursor.left; levels = cursor.levels }) (g.S.Sink.state c.args.sink.now) (g.S.Sink.contents c.args.sink.now) c.args.piece.now c.refused.result c.refused.ensures (omega arith) c.requires.some refl c.clear.ensures refl refl; failed = search rules; kept = search rules }
+    record { feeds = limit_at g.S.Sink.bar g.S.Sink.step g.S.Sink.writes ℕ cursor (record { position = cursor.position; head = c.clear.new.self; left = cursor.left; sign = cursor.sign; levels = cursor.levels }) (g.S.Sink.state c.args.sink.now) (g.S.Sink.contents c.args.sink.now) c.args.piece.now c.refused.result c.refused.ensures (omega arith) c.requires.some refl c.clear.ensures refl refl refl; failed = search rules; kept = search rules }
 
 pub returns-in_err-read_value-clause-fed : goal.returns-in_err-read_value-clause-fed
 returns-in_err-read_value-clause-fed g c =
