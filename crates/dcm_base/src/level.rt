@@ -4,6 +4,9 @@ use crate::syntax::Syntax;
 /// The most sequences and fragment lists that may be open at a time.
 pub const MOST_LISTS: usize = 64;
 
+/// The most sequences, fragment lists and items that are open at a time: each sequence has one item open.
+pub const MOST_OPEN: usize = 2 * MOST_LISTS;
+
 /// What holds elements, items or fragments.
 #[derive(Clone, Copy, Debug, PartialEq, Eq)]
 pub enum Container {

@@ -1,15 +1,13 @@
 //! What all crates speak of: facts of the standard, and faults.
 //!
 //! - **Facts**: `Tag`, `Vr` with its letters, unit and pad byte, `Length`, `Syntax`; `element`, `keyword` and `tag_of`
-//! of the
-//!   dictionary's extract (PS3.6), `element_in`, `vr_in`, `keyword_in` and `tag_in` of a `Dictionary`, the extract or
-//! the whole; `uid_name` and `uid_of`; `coding_of` a transfer syntax; `form_of` an element.
+//!   of the dictionary's extract (PS3.6), `element_in`, `vr_in`, `keyword_in` and `tag_in` of a `Dictionary`, the
+//!   extract or the whole; `uid_name` and `uid_of`; `coding_of` a transfer syntax; `form_of` an element.
 //! - **Faults**: `Fault` of a file, `LineFault` of lines, `EditRefusal` and `WordFault` of words, each with its number
-//! and text.
+//!   and text. `Stopped` says why a reading or a building goes no further: a refusal, or an output that failed.
 //! - **Devices**: those of `dcm_devices`, handed on under the same names.
 //! - **`specs`** has the definitions that the contracts of all crates cite: data sets as trees, how bytes spell them,
-//! dumps,
-//!   conversions, files that are built. `laws` has what is proved of the definitions alone.
+//!   dumps, conversions, files that are built. `laws` has what is proved of the definitions alone.
 //!
 //! Facts by a tag:
 //!
@@ -27,6 +25,7 @@ mod length;
 mod level;
 mod limits;
 mod mode;
+mod stopped;
 mod syntax;
 mod tag;
 mod transfer;
@@ -44,9 +43,10 @@ pub use digits::{decimal_digit, decimal_number};
 pub use fault::{EditRefusal, Fault, LineFault, LineStop, Stop, WordFault};
 pub use form::{Form, form_of, read_as};
 pub use length::Length;
-pub use level::{Container, Level, MOST_LISTS};
+pub use level::{Container, Level, MOST_LISTS, MOST_OPEN};
 pub use limits::{LINE_LIMIT, VALUE_LIMIT};
 pub use mode::Mode;
+pub use stopped::Stopped;
 pub use syntax::{Coding, Syntax};
 pub use tag::{ITEM_GROUP, META_GROUP, Tag};
 pub use transfer::{BIG_UID, Deflated, IMPLICIT_UID, LITTLE_UID, coding_of};

@@ -1,5 +1,5 @@
 -- A builder and the output that it drives.
-use Rattle.std.specs.Prelude.{◌≡◌, ℕ, suc, ◌+◌, ◌<◌, ◌≤◌, List, [], ◌∷◌, ◌++◌, length, take, Bool, true, false, Option}
+use Rattle.std.specs.Prelude.{◌≡◌, ℕ, suc, ◌+◌, ◌<◌, ◌≤◌, List, [], ◌∷◌, ◌++◌, length, take, Bool, false, Option}
 use Rattle.std.specs.Prelude.{Some, None, Result, Ok, Err, ◌||◌, ◌==◌, is_some, ⊤}
 use Rattle.std.specs.Str.{byte}
 use Rattle.std.specs.Io.KnownBytes.{append_known}
@@ -8,10 +8,10 @@ use Rattle.dcm_devices.specs.Device.{AppendsFront}
 use Rattle.dcm_base.specs.Lines.Limits.{LINE_LIMIT}
 use Rattle.dcm_base.specs.Reading.Reads.{INPUT_LIMIT}
 use Rattle.dcm_base.specs.Steps.Steps.{Goes}
-use Rattle.dcm_build.specs.declared.build.BuildHalt.{BuildHalt}
-use Rattle.dcm_build.specs.declared.build.BuildHalt.TheVariants.{Refused, Output}
-use Rattle.dcm_build.specs.declared.file.Stopped.{Stopped}
-use Rattle.dcm_build.specs.declared.file.Stopped.TheVariants.{Refused as refused_line, Output as failed_output}
+use Rattle.dcm_base.specs.Steps.Halts.{went, refusal}
+pub use Rattle.dcm_base.specs.Steps.Halts.{answer, is_output, stop_of, TellsHalt}
+use Rattle.dcm_base.specs.declared.stopped.Stopped.TheVariants.{Refused, Output}
+use Rattle.dcm_build.specs.Halts.{BuildHalt, LineHalt}
 use Rattle.dcm_build.specs.declared.line_reader.LineReader.{LineReader}
 use Rattle.dcm_build.specs.Building.{BuildState, build_step, build_writes}
 use Rattle.dcm_build.specs.NewFile.{LineAt, state}
@@ -53,27 +53,9 @@ next_line_at at = record at { line = []; offset = at.offset + length at.line + 1
 -- ---- what a call answers
 
 -- why nothing more is built, where a line is refused at this offset or the output failed
-abbrev pub halts : Stopped → (offset line : ℕ) → BuildHalt
-halts (refused_line fault) offset line = Refused (record { fault = fault; offset = offset; line = line })
-halts failed_output offset line = Output
-
--- whether the output went well
-abbrev pub went : {T : Type 0} → Result T BuildHalt → Result (Unit {0}) (Unit {0})
-went (Ok x) = Ok tt
-went (Err (Refused stop)) = Ok tt
-went (Err Output) = Err tt
-
--- the fault that is reported
-abbrev pub fault_of : {T : Type 0} → Result T BuildHalt → Option LineStop
-fault_of (Ok x) = None
-fault_of (Err (Refused stop)) = Some stop
-fault_of (Err Output) = None
-
--- the output failed in the call exactly where that is the answer
-abbrev pub TellsHalt : {T : Type 0} → Bool → Bool → Result T BuildHalt → Type 0
-TellsHalt old new (Ok x) = new ≡ old
-TellsHalt old new (Err (Refused stop)) = new ≡ old
-TellsHalt old new (Err Output) = new ≡ true
+abbrev pub halts : LineHalt → (offset line : ℕ) → BuildHalt
+halts (Refused fault) offset line = Refused (record { fault = fault; offset = offset; line = line })
+halts Output offset line = Output
 
 -- ---- parts of a call
 
@@ -87,7 +69,7 @@ Reaches held holds new s bytes (Err Output) = AppendsFront held holds bytes
 -- these bytes were read, or a beginning of what they write went out
 abbrev pub Feeds : {T : Type 0} → BuildState → (held : Option (List ℕ)) → (Option LineStop → BuildState)
     → (holds : Option (List ℕ)) → List ℕ → Result T BuildHalt → Type 0
-Feeds old held new holds bytes r = Goes build_step build_writes old held (new (fault_of r)) holds bytes (went r)
+Feeds old held new holds bytes r = Goes build_step build_writes old held (new (refusal r)) holds bytes (went r)
 
 -- the bytes that were read: so many, or all where it goes no further
 abbrev pub bytes_read : Result ℕ BuildHalt → List ℕ → List ℕ
@@ -101,22 +83,6 @@ pub record Progress : Type 0 where
   pub state : BuildState
   pub failed : Bool
 
-abbrev pub stop_of : Option BuildHalt → Option LineStop
-stop_of None = None
-stop_of (Some (Refused stop)) = Some stop
-stop_of (Some Output) = None
-
-abbrev pub is_output : Option BuildHalt → Bool
-is_output None = false
-is_output (Some (Refused stop)) = false
-is_output (Some Output) = true
-
 -- whether it goes no further
 abbrev pub is_halted : Progress → Bool
 is_halted p = p.failed || is_some p.state.told
-
--- what a call answers
-abbrev pub answer : Option LineStop → (failed : Bool) → Result (Unit {0}) BuildHalt
-answer told true = Err Output
-answer None false = Ok tt
-answer (Some t) false = Err (Refused t)

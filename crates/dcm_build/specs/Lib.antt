@@ -1,3 +1,4 @@
+pub mod Halts
 pub mod LineShown
 pub mod OpenContainers
 pub mod Nesting

@@ -1,13 +1,13 @@
 -- What a `NewFile` means.
-use Rattle.std.specs.Prelude.{◌≡◌, ℕ, List, [], Bool, true, Option, None, Some, Result, Ok, Err, unwrap_or}
+use Rattle.std.specs.Prelude.{◌≡◌, ℕ, List, [], Option, None, Some, Result, Ok, Err, unwrap_or}
 use Rattle.std.specs.Io.KnownBytes.{append_known}
 use Rattle.dcm_base.specs.declared.fault.LineStop.{LineStop}
 use Rattle.dcm_base.specs.declared.fault.LineFault.{LineFault}
 use Rattle.dcm_devices.specs.Device.{AppendsFront}
 use Rattle.dcm_base.specs.Lines.Line.{Step, show_leaf, show_fragment}
 use Rattle.dcm_build.specs.declared.file.NewFile.{NewFile}
-use Rattle.dcm_build.specs.declared.file.Stopped.{Stopped}
-use Rattle.dcm_build.specs.declared.file.Stopped.TheVariants.{Refused, Output}
+use Rattle.dcm_build.specs.Halts.{LineHalt}
+use Rattle.dcm_base.specs.declared.stopped.Stopped.TheVariants.{Refused, Output}
 use Rattle.dcm_build.specs.Building.{BuildState, tells}
 use Rattle.dcm_sinks.specs.Encoder as encoders
 
@@ -45,21 +45,15 @@ value_in (show_fragment value) = unwrap_or value []
 value_in _ = []
 
 -- what was built came to this state, and these bytes went out, or a beginning of them
-abbrev pub Comes : {T : Type 0} → (held holds : Option (List ℕ)) → BuildState → BuildState → List ℕ → Result T Stopped
+abbrev pub Comes : {T : Type 0} → (held holds : Option (List ℕ)) → BuildState → BuildState → List ℕ → Result T LineHalt
     → Type 0
 Comes held holds new s bytes (Ok x) = (new ≡ s) × (holds ≡ append_known held bytes)
 Comes held holds new s bytes (Err (Refused fault)) = (tells fault new ≡ s) × (holds ≡ append_known held bytes)
 Comes held holds new s bytes (Err Output) = AppendsFront held holds bytes
 
--- the writer failed exactly where the output did
-abbrev pub TellsStopped : {T : Type 0} → Bool → Bool → Result T Stopped → Type 0
-TellsStopped old new (Ok x) = new ≡ old
-TellsStopped old new (Err (Refused fault)) = new ≡ old
-TellsStopped old new (Err Output) = new ≡ true
-
 -- the input ended in this state, and these bytes went out, or a beginning of them
 abbrev pub Ends : {T : Type 0} → (held holds : Option (List ℕ)) → BuildState → BuildState → Option LineFault → List ℕ
-    → Result T Stopped → Type 0
+    → Result T LineHalt → Type 0
 Ends held holds new s fault bytes (Ok x) = (new ≡ s) × (fault ≡ None) × (holds ≡ append_known held bytes)
 Ends held holds new s fault bytes (Err (Refused told)) = (new ≡ s) × (fault ≡ Some told)
     × (holds ≡ append_known held bytes)

@@ -9,15 +9,14 @@ use Rattle.dcm_sinks.specs.declared.encode.encoder.Encoder.{Encoder}
 use Rattle.dcm_sinks.specs.Encoder as encoders
 pub use Rattle.dcm_sinks.specs.Encoder.{Encoded}
 use Rattle.dcm_sinks.specs.EncodeSink.{encode_step, encode_writes}
-use Rattle.dcm_stream.specs.Machine.{TellsFailed, well}
-use Rattle.dcm_build.specs.declared.build.BuildHalt.{BuildHalt}
+use Rattle.dcm_base.specs.Steps.Halts.{TellsFailed, TellsHalt, well}
+use Rattle.dcm_build.specs.Halts.{BuildHalt, LineHalt}
 use Rattle.dcm_build.specs.declared.file.NewFile.{NewFile}
-use Rattle.dcm_build.specs.declared.file.Stopped.{Stopped}
 use Rattle.dcm_build.specs.declared.line_reader.LineReader.{LineReader}
-use Rattle.dcm_build.specs.Builder.{Feeds, Progress, Reaches, TellsHalt, building, is_halted}
+use Rattle.dcm_build.specs.Builder.{Feeds, Progress, Reaches, building, is_halted}
 use Rattle.dcm_build.specs.Building.{BuildState, build_start, build_step, build_writes, end_checks, end_writes}
 use Rattle.dcm_build.specs.Building.{ended_meta}
-use Rattle.dcm_build.specs.NewFile.{Comes, Ends, LineAt, TellsStopped, seen, state}
+use Rattle.dcm_build.specs.NewFile.{Comes, Ends, LineAt, seen, state}
 
 -- what was built came to this, wherever its lines are
 abbrev pub Becomes : (old new : NewFile) → (BuildState → BuildState) → Type 0
@@ -30,19 +29,19 @@ encoded encoder atoms = outputs encode_step encode_writes (encoders.state encode
 -- by this step what was built came to another state and these bytes went out, wherever its lines are, or a line was
 -- refused; and the writer has failed exactly where the output did
 pub record Took {W T : Type 0} (w : Writer W) (held holds : W) (old new : NewFile) (step : BuildState → BuildState)
-    (writes : BuildState → List ℕ) (r : Result T Stopped) : Type 0 where
+    (writes : BuildState → List ℕ) (r : Result T LineHalt) : Type 0 where
   pub comes : (at : LineAt)
       → Comes (w.contents held) (w.contents holds) (state new at None) (step (state old at None))
       (writes (state old at None)) r
-  pub failed : TellsStopped (w.has_failed held) (w.has_failed holds) r
+  pub failed : TellsHalt (w.has_failed held) (w.has_failed holds) r
 
 -- the input ended here, with a fault or without; and the writer has failed exactly where the output did
-pub record Ended {W T : Type 0} (w : Writer W) (held holds : W) (old new : NewFile) (r : Result T Stopped) : Type 0
+pub record Ended {W T : Type 0} (w : Writer W) (held holds : W) (old new : NewFile) (r : Result T LineHalt) : Type 0
   where
     pub ends : (at : LineAt)
         → Ends (w.contents held) (w.contents holds) (state new at None) (ended_meta (state old at None))
         (first_fault (end_checks (seen old))) (end_writes (seen old)) r
-    pub failed : TellsStopped (w.has_failed held) (w.has_failed holds) r
+    pub failed : TellsHalt (w.has_failed held) (w.has_failed holds) r
 
 -- nothing was built, wherever its lines are
 abbrev pub IsNew : NewFile → Type 0

@@ -7,17 +7,11 @@ ghost use Rattle.dcm_build.specs.Building as steps;
 ghost use Rattle.dcm_build.specs.Outputs as outputs;
 
 use crate::line_reader::LineReader;
-use dcm_base::{DeviceOut, LineStop, Watched};
+use dcm_base::{DeviceOut, LineStop, Stopped, Watched};
 use std::marker::Model;
 
-/// Why a builder goes no further.
-#[derive(Clone, Copy, Debug, PartialEq, Eq)]
-pub enum BuildHalt {
-    /// The input is refused.
-    Refused(LineStop),
-    /// The output failed.
-    Output,
-}
+/// Why a builder goes no further: the input is refused, or the output failed.
+pub type BuildHalt = Stopped<LineStop>;
 
 /// Builds a file from the lines of a dump, and writes what is sure of it. It holds one line, the meta group and one
 /// value.
@@ -69,7 +63,7 @@ impl Builder {
         if self.halt.is_none() {
             self.halt = self.reader.read_all(piece, out).err();
         }
-        answer(self.halt)
+        Stopped::answer(self.halt)
     }
 
     /// The input ends. Where that is no fault, the file is whole.
@@ -83,17 +77,6 @@ impl Builder {
         if self.halt.is_none() {
             self.halt = self.reader.end(out).err();
         }
-        answer(self.halt)
-    }
-}
-
-/// What a call answers.
-fn answer(halt: Option<BuildHalt>) -> Result<(), BuildHalt>
-    ensures going { OnOk result (halt ≡ None) }
-    ensures value { result ≡ spec.answer (spec.stop_of halt) (spec.is_output halt) }
-{
-    match halt {
-        None => Ok(()),
-        Some(halt) => Err(halt),
+        Stopped::answer(self.halt)
     }
 }

@@ -24,31 +24,16 @@ use crate::line::{Meaning, Step, means, without_return};
 use crate::open_containers::OpenContainers;
 use arrayvec::ArrayVec;
 use dcm_base::{
-    Coding, Container, DeviceOut, Length, LineFault, MOST_LISTS, Syntax, Tag, VALUE_LIMIT, Vr,
-    Watched, WriteFailed,
+    Coding, Container, DeviceOut, Length, LineFault, MOST_LISTS, Stopped, Syntax, Tag, VALUE_LIMIT,
+    Vr, Watched, WriteFailed,
 };
 use dcm_head::Head;
 use dcm_sinks::Encoder;
 use dcm_stream::Token;
 use dcm_value::read_value_into;
 
-/// Why a line stops the building of a file.
-#[derive(Clone, Copy, Debug, PartialEq, Eq)]
-pub enum Stopped {
-    Refused(LineFault),
-    /// The writer failed.
-    Output,
-}
-
-impl From<WriteFailed> for Stopped {
-    ghost use Rattle.dcm_build.specs.declared.file.Stopped.{Stopped};
-
-    ghost from_gives = { λ _ s. s ≡ Stopped.Output };
-
-    fn from(_failed: WriteFailed) -> Self {
-        Stopped::Output
-    }
-}
+/// Why a line stops the building of a file: it is refused, or the writer failed.
+pub type LineHalt = Stopped<LineFault>;
 
 /// A file that is built: its meta group as it grows, what is open of its data set, how that is written, and the
 /// value that was read last.
@@ -292,7 +277,7 @@ impl NewFile {
         &mut self,
         step: Step<'_>,
         out: &mut Watched<W>,
-    ) -> Result<(), Stopped>
+    ) -> Result<(), LineHalt>
         ensures { outputs.Took W.DeviceOut out.old out.new self.old self.new (spec.placed (step_of step.entry))
             (spec.placed_writes (step_of step.entry)) result }
     {
@@ -309,7 +294,7 @@ impl NewFile {
         &mut self,
         step: Step<'_>,
         out: &mut Watched<W>,
-    ) -> Result<(), Stopped>
+    ) -> Result<(), LineHalt>
         ensures { outputs.Took W.DeviceOut out.old out.new self.old self.new (spec.shows (step_of step.entry))
             (spec.shows_writes (step_of step.entry)) result }
     {
@@ -325,7 +310,7 @@ impl NewFile {
         &mut self,
         line: &[u8],
         out: &mut Watched<W>,
-    ) -> Result<(), Stopped>
+    ) -> Result<(), LineHalt>
         ensures { outputs.Took W.DeviceOut out.old out.new self.old self.new
             (spec.meaning_taken (lines.means (build.without_return line.now)))
             (spec.meaning_writes (lines.means (build.without_return line.now))) result }
@@ -372,7 +357,7 @@ impl NewFile {
     }
 
     /// The input ends.
-    pub fn finish<W: DeviceOut>(&mut self, out: &mut Watched<W>) -> Result<(), Stopped>
+    pub fn finish<W: DeviceOut>(&mut self, out: &mut Watched<W>) -> Result<(), LineHalt>
         ensures { outputs.Ended W.DeviceOut out.old out.new self.old self.new result }
     {
         let fault = self.end_fault();

@@ -7,10 +7,10 @@ ghost use Rattle.dcm_build.specs.Building as steps;
 ghost use Rattle.dcm_build.specs.Outputs as outputs;
 
 use crate::build::BuildHalt;
-use crate::file::{NewFile, Stopped};
+use crate::file::{LineHalt, NewFile};
 use arrayvec::ArrayVec;
 use bstr::ByteSlice;
-use dcm_base::{DeviceOut, LINE_LIMIT, LineFault, LineStop, Watched};
+use dcm_base::{DeviceOut, LINE_LIMIT, LineFault, LineStop, Stopped, Watched};
 use dcm_stream::INPUT_LIMIT;
 
 /// What the lines so far have built, the bytes of the line that has not ended, how many it may have, where it begins,
@@ -37,16 +37,16 @@ fn line_end(bytes: &[u8]) -> usize
 }
 
 /// Why nothing more is built.
-fn halt(stopped: Stopped, offset: u64, line: u64) -> BuildHalt
+fn halt(stopped: LineHalt, offset: u64, line: u64) -> BuildHalt
     ensures { result ≡ spec.halts stopped offset line }
 {
     match stopped {
-        Stopped::Refused(fault) => BuildHalt::Refused(LineStop {
+        Stopped::Refused(fault) => Stopped::Refused(LineStop {
             fault,
             offset,
             line,
         }),
-        Stopped::Output => BuildHalt::Output,
+        Stopped::Output => Stopped::Output,
     }
 }
 

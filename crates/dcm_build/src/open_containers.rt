@@ -8,11 +8,8 @@ ghost use Rattle.dcm_build.specs.OpenContainers as spec;
 
 use crate::line::Step;
 use arrayvec::ArrayVec;
-use dcm_base::{Container, MOST_LISTS, Tag};
+use dcm_base::{Container, MOST_LISTS, MOST_OPEN, Tag};
 use std::marker::Model;
-
-/// The most containers that are open at a time: sequences and fragment lists, and an item in each sequence.
-const MOST_OPEN: usize = 2 * MOST_LISTS;
 
 /// What is open: a sequence, a fragment list, or an item with the tag of its last element.
 #[derive(Clone, Copy, Debug, Default, PartialEq, Eq)]

@@ -3,8 +3,8 @@ use Rattle.std.specs.Prelude.{◌≡◌, ℕ, List, Option, Some, None, Result, 
 use Rattle.std.specs.Io.KnownBytes.{append_known}
 use Rattle.dcm_devices.specs.Device.{AppendsFront}
 use Rattle.dcm_devices.specs.Writing.{Writer}
-use Rattle.dcm_build.specs.declared.build.BuildHalt.{BuildHalt}
-use Rattle.dcm_build.specs.declared.build.BuildHalt.TheVariants as halts
+use Rattle.dcm_build.specs.Halts.{BuildHalt}
+use Rattle.dcm_base.specs.declared.stopped.Stopped.TheVariants as halts
 use Rattle.dcm_build.specs.Building.{BuildState, finishes, finish_writes}
 use Rattle.dcm_cli.specs.declared.ending.Ending.{Ending}
 use Rattle.dcm_cli.specs.declared.ending.Ending.TheVariants.{Worked, Output}

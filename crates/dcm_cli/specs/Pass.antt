@@ -14,8 +14,8 @@ use Rattle.dcm_head.specs.declared.meta_read.MetaEnd.TheVariants as meta_end
 use Rattle.dcm_head.specs.MetaReading as meta
 use Rattle.dcm_stream.specs.declared.token.Bar.{Bar}
 use Rattle.dcm_stream.specs.Reading.{Reading, finish, end_shows}
-use Rattle.dcm_stream.specs.declared.machine.Halt.{Halt}
-use Rattle.dcm_stream.specs.declared.machine.Halt.TheVariants as halts
+use Rattle.dcm_stream.specs.Halts.{Halt}
+use Rattle.dcm_base.specs.declared.stopped.Stopped.TheVariants as halts
 use Rattle.dcm_stream.specs.Machine.{Progress, steps, steps_write, next_offset, answer, well, is_halted, TellsFailed}
 use Rattle.dcm_cli.specs.declared.ending.Ending.{Ending}
 use Rattle.dcm_cli.specs.declared.ending.Ending.TheVariants.{Worked, Unread, Output}

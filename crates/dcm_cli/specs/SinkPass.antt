@@ -1,6 +1,6 @@
 -- What the pass over a data set leaves of a sink, by the sink's members.
 use Rattle.std.specs.Prelude.{◌≡◌, ℕ, List, [], true, false, Result}
-use Rattle.dcm_stream.specs.declared.machine.Halt.{Halt}
+use Rattle.dcm_stream.specs.Halts.{Halt}
 use Rattle.dcm_stream.specs.declared.sink.Sink.{Ghosts}
 use Rattle.dcm_stream.specs.Machine.{Progress}
 use Rattle.dcm_stream.specs.Sinks.{Keeps}

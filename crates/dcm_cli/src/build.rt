@@ -7,7 +7,7 @@ ghost use Rattle.dcm_cli.specs.Calls as calls;
 ghost use Rattle.dcm_cli.specs.Lines as lines;
 
 use crate::ending::{Ending, Verdict};
-use dcm_base::{DeviceIn, DeviceOut, Watched};
+use dcm_base::{DeviceIn, DeviceOut, Stopped, Watched};
 use dcm_build::{BuildHalt, Builder};
 use dcm_files::next_piece;
 use dcm_words::Build;
@@ -21,8 +21,8 @@ fn ending_of(answer: Result<(), BuildHalt>) -> Ending
 {
     match answer {
         Ok(()) => Ending::Worked(Verdict::Done { unplaced: 0 }),
-        Err(BuildHalt::Refused(stop)) => Ending::Worked(Verdict::RefusedLine(stop)),
-        Err(BuildHalt::Output) => Ending::Output,
+        Err(Stopped::Refused(stop)) => Ending::Worked(Verdict::RefusedLine(stop)),
+        Err(Stopped::Output) => Ending::Output,
     }
 }
 

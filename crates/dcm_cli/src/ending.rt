@@ -2,7 +2,7 @@
 ghost use Rattle.std.specs.Prelude.{◌≡◌};
 ghost use Rattle.dcm_cli.specs.Pass as spec;
 
-use dcm_base::{LineStop, Stop};
+use dcm_base::{LineStop, Stop, Stopped};
 use dcm_stream::Halt;
 
 /// What the work on a job came to, where no device failed.
@@ -42,8 +42,8 @@ pub fn ending_of(answer: Result<(), Halt>) -> Ending
 {
     match answer {
         Ok(()) => Ending::Worked(Verdict::Done { unplaced: 0 }),
-        Err(Halt::Refused(stop)) => Ending::Worked(Verdict::Refused(stop)),
-        Err(Halt::Output) => Ending::Output,
+        Err(Stopped::Refused(stop)) => Ending::Worked(Verdict::Refused(stop)),
+        Err(Stopped::Output) => Ending::Output,
     }
 }
 

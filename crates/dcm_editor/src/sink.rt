@@ -7,7 +7,7 @@ ghost use Rattle.dcm_stream.specs.Skip.{depth};
 ghost use Rattle.dcm_stream.specs.Tokens.{IsFilled, atoms_of};
 ghost use Rattle.dcm_editor.specs.Asking as asking;
 ghost use Rattle.dcm_editor.specs.EditSink.{State as EditState, passed, begun};
-ghost use Rattle.dcm_editor.specs.Sound.{IsSound, IsSound-prop};
+ghost use Rattle.dcm_editor.specs.Sound.{IsSound, IsSoundAt, IsSoundAt-prop};
 ghost use Rattle.dcm_editor.specs.Editing as editing;
 ghost use Rattle.dcm_editor.specs.Masks as masks;
 ghost use Rattle.dcm_edits.specs.Meaning.{edit_of};
@@ -185,7 +185,7 @@ pub struct EditSink<'e, S, A: Allocator = Global> {
     edits: &'e Edits<A>,
     inner: &'e mut S,
     editor: Editor,
-    ghost sound: { IsSound (masks.meant edits.now (editing.state editor)) } by { IsSound-prop (masks.meant edits.now (editing.state editor)) },
+    ghost sound: { IsSoundAt edits.now editor } by { IsSoundAt-prop edits.now editor },
 }
 
 impl<'e, S: Sink, A: Allocator> EditSink<'e, S, A> {

@@ -1,5 +1,6 @@
 // The elements of a meta group, one after another (PS3.10 7.1).
 ghost use Rattle.std.specs.Prelude.{◌≤◌, IfNone, IfSome, length};
+ghost use Rattle.dcm_base.specs.File.MetaGroup.{META_LIMIT};
 ghost use Rattle.dcm_head.specs.Rewriting as spec;
 
 use crate::group::{Place, place_of};
@@ -16,7 +17,7 @@ pub struct MetaElement<'a> {
 
 /// The first element of a group's bytes, or of what is left of them.
 pub fn first_element<'a>(bytes: &'a [u8]) -> Option<MetaElement<'a>>
-    requires { length bytes.now ≤ 16384 }
+    requires { length bytes.now ≤ META_LIMIT }
     ensures some { IfSome result (λ e. spec.FirstIs bytes.now e.tag e.vr e.value.now e.after.now) }
     ensures none { IfNone result (spec.NoneIs bytes.now) }
 {

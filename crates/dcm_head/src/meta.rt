@@ -1,5 +1,6 @@
 // The head of a file: preamble, prefix and meta group (PS3.10 7.1).
 ghost use Rattle.std.specs.Prelude.{◌≡◌, ◌+◌, ◌-◌, ◌≤◌, ◌<◌, None, Some, take, drop, length, fold};
+ghost use Rattle.dcm_base.specs.File.MetaGroup.{META_LIMIT};
 ghost use Rattle.dcm_head.specs.MetaReading as reading;
 ghost use Rattle.dcm_head.specs.Rewriting.{WroteGroup};
 
@@ -201,7 +202,7 @@ impl Meta {
         requires { reading.HasEnded self.now.end }
         ensures group { result.now ≡ reading.group_of self.now }
         ensures place { 132 + length result.now ≡ self.now.place }
-        ensures limit { length result.now ≤ 16384 }
+        ensures limit { length result.now ≤ META_LIMIT }
     {
         part(self.bytes.as_slice(), GROUP_AT, self.place - GROUP_AT)
     }

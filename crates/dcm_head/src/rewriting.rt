@@ -4,6 +4,7 @@ ghost use Rattle.std.specs.Int.{to_le_bytes, w32};
 ghost use Rattle.dcm_devices.specs.Writing.{Wrote};
 ghost use Rattle.dcm_base.specs.Conversion.NewMeta.{new_elements};
 ghost use Rattle.dcm_base.specs.Conversion.Recode.{even as even_size, head as recoded_head, recoded_leaf};
+ghost use Rattle.dcm_base.specs.File.MetaGroup.{META_LIMIT};
 ghost use Rattle.dcm_base.specs.Tables.Tag.{is_tag};
 ghost use Rattle.dcm_base.specs.declared.length.Length.TheVariants.{Known};
 ghost use Rattle.dcm_base.specs.Tables.Syntax.{Little};
@@ -114,7 +115,7 @@ fn is_named(named: bool, tag: Tag) -> bool
 
 /// The size of the elements of the new group.
 fn elements_size(group: &[u8], uid: &[u8]) -> usize
-    requires group { length group.now ≤ 16384 }
+    requires group { length group.now ≤ META_LIMIT }
     requires uid { length uid.now < 65535 }
     ensures size { spec.OfElements group.now (λ elements. result ≡ length (new_elements elements uid.now)) }
     ensures limit { result < 2 ^ 32 }
@@ -136,7 +137,7 @@ fn put_elements<W: DeviceOut>(
     group: &[u8],
     uid: &[u8],
 ) -> Result<(), WriteFailed>
-    requires group { length group.now ≤ 16384 }
+    requires group { length group.now ≤ META_LIMIT }
     requires uid { length uid.now < 65535 }
     ensures { spec.WroteElements W.DeviceOut out.old out.new group.now (λ elements. new_elements elements uid.now)
         result }
@@ -159,7 +160,7 @@ pub fn write_meta<W: DeviceOut>(
     uid: &[u8],
     out: &mut Watched<W>,
 ) -> Result<(), WriteFailed>
-    requires run { length run.now ≤ 16384 }
+    requires run { length run.now ≤ META_LIMIT }
     requires uid { length uid.now < 65535 }
     ensures { spec.WroteGroup W.DeviceOut out.old out.new run.now uid.now result }
 {

@@ -29,7 +29,8 @@ use Rattle.dcm_value.specs.Progress.{Progress, started, opening, opened, step, w
 use Rattle.dcm_sinks.specs.declared.dump.lines.Owner.{Owner}
 use Rattle.dcm_sinks.specs.declared.dump.lines.Owner.TheVariants.{Element, Fragment}
 use Rattle.dcm_sinks.specs.Layout.{line_rest}
-use Rattle.dcm_sinks.specs.Lengths.{MOST_OPEN, innermost, outer}
+use Rattle.dcm_base.specs.declared.level.TheConstants.{MOST_OPEN}
+use Rattle.dcm_sinks.specs.Lengths.{innermost, outer}
 
 pub data OpenValue : Type 0 where
   no_value : OpenValue

@@ -14,7 +14,6 @@ use dcm_base::{DeviceOut, Dictionary, Mode, Watched, WriteFailed};
 use dcm_head::Head;
 use dcm_stream::{Bar, Sink, Token};
 pub use header::{dump_header, dump_header_with, set_header};
-pub use lengths::MOST_OPEN;
 
 /// A sink that writes the lines of a data set. It bars nothing.
 #[derive(Drop)]

@@ -18,5 +18,5 @@ mod dump;
 mod encode;
 pub mod laws;
 
-pub use dump::{DumpSink, MOST_OPEN, dump_header, dump_header_with, set_header};
+pub use dump::{DumpSink, dump_header, dump_header_with, set_header};
 pub use encode::{EncodeSink, Encoder, leaf_head};

@@ -1,3 +1,4 @@
+pub mod Halts
 pub mod Tokens
 pub mod Reading
 pub mod Places

@@ -1,18 +1,19 @@
 -- A machine and the sink that it drives.
-use Rattle.std.specs.Prelude.{◌≡◌, ℕ, ◌+◌, ◌-◌, ◌≤◌, List, [], ◌++◌, length, take, map, Bool, true, false, Option, Some}
+use Rattle.std.specs.Prelude.{◌≡◌, ℕ, ◌+◌, ◌-◌, ◌≤◌, List, [], length, take, map, Bool, true, false, Option, Some}
 use Rattle.std.specs.Prelude.{None, option_map, Result, Ok, Err, fold, ⊤, is_some, ◌||◌, ◌&&◌, ◌==◌}
 use Rattle.std.specs.Io.KnownBytes.{append_known}
 use Rattle.dcm_base.specs.Steps.Atoms.{Atom, value_byte}
 use Rattle.dcm_devices.specs.Device.{AppendsFront}
 use Rattle.dcm_base.specs.Steps.Steps.{outputs, Goes}
+pub use Rattle.dcm_base.specs.Steps.Halts.{went, well, is_output, TellsHalt, TellsFailed}
 use Rattle.dcm_base.specs.Reading.Stop.{Stop, complete, refused, is_empty}
 use Rattle.dcm_base.specs.Reading.Reads.{INPUT_LIMIT}
 use Rattle.dcm_head.specs.declared.head.Head.{Head}
 use Rattle.dcm_stream.specs.declared.token.Bar.{Bar}
 use Rattle.dcm_stream.specs.declared.cursor.Cursor.{Cursor}
 use Rattle.dcm_stream.specs.declared.sign.OpenSign.{OpenSign}
-use Rattle.dcm_stream.specs.declared.machine.Halt.{Halt}
-use Rattle.dcm_stream.specs.declared.machine.Halt.TheVariants.{Refused, Output}
+use Rattle.dcm_stream.specs.Halts.{Halt}
+use Rattle.dcm_base.specs.declared.stopped.Stopped.TheVariants.{Refused, Output}
 use Rattle.dcm_stream.specs.Reading.{Reading, Sign, Opened, sign_reads, value_left, settled, read_byte, is_top}
 use Rattle.dcm_stream.specs.Reading.{drives_byte, finish, end_shows}
 use Rattle.dcm_stream.specs.declared.judge.Opening.{Opening}
@@ -52,23 +53,11 @@ pub record Stands (r : Reading) : Type 0 where
 
 -- ---- what a call answers
 
--- whether the output went well
-abbrev pub went : {T : Type 0} → Result T Halt → Result (Unit {0}) (Unit {0})
-went (Ok x) = Ok tt
-went (Err (Refused stop)) = Ok tt
-went (Err Output) = Err tt
-
 -- the stop by which the input is refused
 abbrev pub halt_of : {T : Type 0} → Result T Halt → Option Stop
 halt_of (Ok x) = None
 halt_of (Err (Refused stop)) = Some (refused stop.fault stop.at)
 halt_of (Err Output) = None
-
--- the writer failed in the call exactly where the output did
-abbrev pub TellsHalt : {T : Type 0} → Bool → Bool → Result T Halt → Type 0
-TellsHalt old new (Ok x) = new ≡ old
-TellsHalt old new (Err (Refused stop)) = new ≡ old
-TellsHalt old new (Err Output) = new ≡ true
 
 -- ---- parts of a call
 
@@ -145,11 +134,6 @@ stop_of None = None
 stop_of (Some (Refused stop)) = Some (refused stop.fault stop.at)
 stop_of (Some Output) = None
 
-abbrev pub is_output : Option Halt → Bool
-is_output None = false
-is_output (Some (Refused stop)) = false
-is_output (Some Output) = true
-
 -- whether it goes no further
 abbrev pub is_halted : Progress → Bool
 is_halted p = p.failed || is_some p.reading.halt
@@ -160,16 +144,6 @@ answer halt true = Err Output
 answer None false = Ok tt
 answer (Some complete) false = Ok tt
 answer (Some (refused fault offset)) false = Err (Refused (record { fault = fault; at = offset }))
-
--- whether the output went well
-abbrev pub well : (failed : Bool) → Result (Unit {0}) (Unit {0})
-well true = Err tt
-well false = Ok tt
-
--- the writer failed in the call exactly where the output did
-abbrev pub TellsFailed : (old new : Bool) → (failed : Bool) → Type 0
-TellsFailed old new true = new ≡ true
-TellsFailed old new false = new ≡ old
 
 -- a machine and its sink read these bytes, or a beginning of the output went out
 abbrev pub GoesOver : {S : Type 0} → (S → Head → Option Bar) → (S → Atom → S) → (S → Atom → List ℕ) → Progress → S

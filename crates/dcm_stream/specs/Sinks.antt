@@ -4,7 +4,7 @@ use Rattle.dcm_base.specs.Steps.Atoms.{Atom}
 use Rattle.dcm_devices.specs.Device as device
 use Rattle.dcm_base.specs.Steps.Steps.{Goes}
 use Rattle.dcm_base.specs.Reading.Stop.{Stop}
-use Rattle.dcm_stream.specs.declared.machine.Halt.{Halt}
+use Rattle.dcm_stream.specs.Halts.{Halt}
 use Rattle.dcm_stream.specs.declared.cursor.Cursor.{Cursor}
 use Rattle.dcm_stream.specs.declared.sink.Sink.{Ghosts}
 use Rattle.dcm_stream.specs.Machine as machine

@@ -1,10 +1,11 @@
 // How far the reading of a data set has come (PS3.5 7).
-ghost use Rattle.std.specs.Prelude.{◌≡◌, ◌+◌, ◌-◌, ◌^◌, ◌<◌, ◌≤◌, [], ◌∷◌, ◌++◌, None, length, option_map, IfOk};
+ghost use Rattle.std.specs.Prelude.{◌≡◌, ◌+◌, ◌-◌, ◌<◌, ◌≤◌, [], ◌∷◌, ◌++◌, None, length, option_map, IfOk};
 ghost use Rattle.dcm_stream.specs.Judging.{opened_by, opened_sign};
 ghost use Rattle.dcm_stream.specs.Reading as steps;
 ghost use Rattle.dcm_stream.specs.Machine as spec;
 ghost use Rattle.dcm_stream.specs.Sinks as sinks;
 ghost use Rattle.dcm_base.specs.Reading.Place as places;
+ghost use Rattle.dcm_base.specs.Reading.Reads as reads;
 
 use super::close::close_full;
 use super::judge::{Judged, Opening, judge, opening_sign, opening_token, syntax_inside};
@@ -13,7 +14,7 @@ use super::machine::INPUT_LIMIT;
 use super::sign::OpenSign;
 use super::{Halt, Sink, Token};
 use arrayvec::ArrayVec;
-use dcm_base::{Container, Fault, Length, Stop, Syntax, Vr};
+use dcm_base::{Container, Fault, Length, Stop, Stopped, Syntax, Vr};
 use dcm_head::{LONG_HEAD, SHORT_HEAD};
 
 /// The offset up to which heads and values were read whole, the bytes of a head after it, the bytes of a value that
@@ -28,15 +29,15 @@ pub struct Cursor {
 }
 
 fn refused(fault: Fault, at: u64) -> Halt
-    ensures { result ≡ Halt.Refused (record { fault = fault; at = at }) }
+    ensures { result ≡ Stopped.Refused (record { fault = fault; at = at }) }
 {
-    Halt::Refused(Stop { fault, at })
+    Stopped::Refused(Stop { fault, at })
 }
 
 impl Cursor {
     /// The beginning of a data set at this offset.
     pub fn new(syntax: Syntax, start: u64) -> Self
-        requires { start ≤ 2 ^ 62 }
+        requires { start ≤ reads.INPUT_LIMIT }
         ensures { spec.reading result None ≡ steps.start_of syntax start }
     {
         let set = level_at(Container::DataSet, syntax, Length::Undefined, start);
@@ -148,7 +149,7 @@ impl Cursor {
         requires head { self.old.head.items ≡ [] }
         requires some { 0 < length value.now }
         requires fits { length value.now ≤ self.old.left }
-        requires within { self.old.position + length value.now ≤ 2 ^ 62 }
+        requires within { self.old.position + length value.now ≤ reads.INPUT_LIMIT }
         ensures { sinks.Came S.Sink sink.old sink.new (spec.reading self.new)
             (spec.reads_value self.old value.now) result }
     {
@@ -161,7 +162,7 @@ impl Cursor {
 
     /// A container opens, whose contents begin here.
     fn open(&mut self, container: Container, syntax: Syntax, declared: Length)
-        requires within { self.old.position ≤ 2 ^ 62 }
+        requires within { self.old.position ≤ reads.INPUT_LIMIT }
         requires few { length self.old.levels < 129 }
         ensures { self.new ≡ record self.old {
           levels =
@@ -177,7 +178,7 @@ impl Cursor {
     fn enter<S: Sink>(&mut self, opening: Opening, sink: &mut S) -> Result<(), Halt>
         requires head { self.old.head.items ≡ [] }
         requires left { self.old.left ≡ 0 }
-        requires within { self.old.position ≤ 2 ^ 62 }
+        requires within { self.old.position ≤ reads.INPUT_LIMIT }
         requires few { length (opened_by self.old.position self.old.levels opening).levels ≤ 129 }
         ensures { sinks.Came S.Sink sink.old sink.new (spec.reading self.new)
             (spec.enters self.old opening) result }
@@ -217,7 +218,7 @@ impl Cursor {
         requires stands { spec.Stands (spec.reading self.old None) }
         requires left { self.old.left ≡ 0 }
         requires long { 7 ≤ length self.old.head.items }
-        requires within { self.old.position + length self.old.head.items < 2 ^ 62 }
+        requires within { self.old.position + length self.old.head.items < reads.INPUT_LIMIT }
         ensures { sinks.Fed S.Sink sink.old sink.new (spec.reading self.old None) (spec.reading self.new)
             (byte ∷ []) result }
     {
@@ -252,7 +253,7 @@ impl Cursor {
         requires left { self.old.left ≡ 0 }
         requires head { self.old.head.items ≡ [] }
         requires eight { 8 ≤ length bytes.now }
-        requires within { self.old.position + length bytes.now ≤ 2 ^ 62 }
+        requires within { self.old.position + length bytes.now ≤ reads.INPUT_LIMIT }
         ensures some { IfOk result (λ n. (0 < n) × (n ≤ length bytes.now)) }
         ensures fed { sinks.FedPiece S.Sink sink.old sink.new self.old self.new bytes.now result }
     {

@@ -1,8 +1,9 @@
 // What a head leads to: a fault, the want of more bytes, or what it opens or closes.
-ghost use Rattle.std.specs.Prelude.{◌≡◌, ◌+◌, ◌^◌, ◌≤◌, ◌∷◌, [], length, false, option_map};
+ghost use Rattle.std.specs.Prelude.{◌≡◌, ◌+◌, ◌≤◌, ◌∷◌, [], length, false, option_map};
 ghost use Rattle.dcm_stream.specs.Places.{innermost};
 ghost use Rattle.dcm_stream.specs.Tokens.{IsFilled, atoms_of};
 ghost use Rattle.dcm_base.specs.Reading.Place as place;
+ghost use Rattle.dcm_base.specs.Reading.Reads.{INPUT_LIMIT};
 ghost use Rattle.dcm_base.specs.Bytes.Spelling as spelling;
 ghost use Rattle.dcm_stream.specs.Judging as spec;
 
@@ -106,7 +107,7 @@ fn judge_shape(
     position: u64,
     levels: &OpenLevels,
 ) -> Result<Opening, Fault>
-    requires { size ≤ 2 ^ 62 }
+    requires { size ≤ INPUT_LIMIT }
     ensures { spec.JudgesShape syntax head size (place.room position levels.now) (place.depth levels.now) result }
 {
     let room = levels.room(position);
@@ -145,7 +146,7 @@ fn judge_element<S: Sink>(
     size: u64,
     sink: &S,
 ) -> Result<Opening, Fault>
-    requires { size ≤ 2 ^ 62 }
+    requires { size ≤ INPUT_LIMIT }
     ensures { spec.JudgesElement (spec.bars_head S.bar (S.state sink.now)) syntax levels.now position head size result }
 {
     let opening = judge_shape(syntax, head, size, position, levels)?;
@@ -191,7 +192,7 @@ fn judge_head<S: Sink>(
     size: u64,
     sink: &S,
 ) -> Result<Opening, Fault>
-    requires { size ≤ 2 ^ 62 }
+    requires { size ≤ INPUT_LIMIT }
     ensures { spec.JudgesHead (spec.bars_head S.bar (S.state sink.now)) inner levels.now position head size result }
 {
     if head.tag.group != ITEM_GROUP {
@@ -213,7 +214,7 @@ pub fn judge<S: Sink>(
     sink: &S,
 ) -> Judged
     requires eight { 8 ≤ length bytes.now }
-    requires within { position + length bytes.now ≤ 2 ^ 62 }
+    requires within { position + length bytes.now ≤ INPUT_LIMIT }
     requires inner { innermost levels.now ≡ Some inner }
     requires room { place.passes 8 (place.room position levels.now) ≡ false }
     ensures { spec.Judges (spec.bars_head S.bar (S.state sink.now)) inner levels.now position bytes.now result }

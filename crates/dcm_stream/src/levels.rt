@@ -1,17 +1,18 @@
 // The open containers, and what may come in them.
-ghost use Rattle.std.specs.Prelude.{◌≡◌, ◌+◌, ◌^◌, ◌<◌, ◌≤◌, [], ◌∷◌, drop, length};
+ghost use Rattle.std.specs.Prelude.{◌≡◌, ◌+◌, ◌<◌, ◌≤◌, [], ◌∷◌, drop, length};
 ghost use Rattle.dcm_base.specs.Reading.Place as spec;
+ghost use Rattle.dcm_base.specs.Reading.Reads.{INPUT_LIMIT};
 ghost use Rattle.dcm_base.specs.Reading.Stop as stops;
 ghost use Rattle.dcm_stream.specs.Levels.{nearest_end};
 ghost use Rattle.dcm_stream.specs.Places.{innermost};
 ghost use Rattle.dcm_stream.specs.Reading as reading;
 
 use arrayvec::ArrayVec;
-use dcm_base::{Container, Form, ITEM_GROUP, Length, Level, META_GROUP, MOST_LISTS, Syntax, Tag};
+use dcm_base::{Container, Form, ITEM_GROUP, Length, Level, META_GROUP, MOST_OPEN, Syntax, Tag};
 use std::marker::Model;
 
-/// The data set, and the most sequences and fragment lists with an item each.
-const MOST_LEVELS: usize = 2 * MOST_LISTS + 1;
+/// The data set, and the most that is open in it.
+const MOST_LEVELS: usize = MOST_OPEN + 1;
 
 /// An open container, and what is asked of it together with those around it.
 #[derive(Clone, Copy, Default)]
@@ -64,7 +65,7 @@ pub fn is_allowed(container: Container, declared: Length, tag: Tag) -> bool
 
 /// A container whose contents begin at this offset.
 pub fn level_at(container: Container, syntax: Syntax, declared: Length, begin: u64) -> Level
-    requires { begin ≤ 2 ^ 62 }
+    requires { begin ≤ INPUT_LIMIT }
     ensures { result ≡ spec.level container syntax declared begin }
 {
     let end_offset = match declared {
@@ -128,7 +129,7 @@ pub fn opens_list(form: Form) -> bool
 
 /// The bytes of a head and of what it declares.
 pub fn with_length(head: u64, declared: Length) -> u64
-    requires { head ≤ 2 ^ 62 }
+    requires { head ≤ INPUT_LIMIT }
     ensures { result ≡ stops.with_length head declared }
 {
     match declared {

@@ -1,35 +1,20 @@
 // The machine that reads a data set in pieces (PS3.5 7).
-ghost use Rattle.std.specs.Prelude.{◌≡◌, ◌+◌, ◌≤◌, ◌^◌, OnOk, None, length, true, false};
+ghost use Rattle.std.specs.Prelude.{◌≡◌, ◌+◌, ◌≤◌, OnOk, None, length, true, false};
+ghost use Rattle.dcm_base.specs.Reading.Reads as reads;
 ghost use Rattle.dcm_stream.specs.Reading as steps;
 ghost use Rattle.dcm_stream.specs.Machine as spec;
 ghost use Rattle.dcm_stream.specs.Sinks as sinks;
 
 use super::Sink;
 use super::cursor::Cursor;
-use dcm_base::{Coding, Stop, WriteFailed};
+use dcm_base::{Coding, Stop, Stopped};
 use std::marker::Model;
 
 /// The most bytes of an input that are read. A longer one is refused as too long.
 pub const INPUT_LIMIT: u64 = 1 << 62;
 
-/// Why a machine goes no further.
-#[derive(Clone, Copy, Debug, PartialEq, Eq)]
-pub enum Halt {
-    /// The input is refused.
-    Refused(Stop),
-    /// The sink's output failed.
-    Output,
-}
-
-impl From<WriteFailed> for Halt {
-    ghost use Rattle.dcm_stream.specs.declared.machine.Halt.{Halt};
-
-    ghost from_gives = { λ _ h. h ≡ Halt.Output };
-
-    fn from(_failed: WriteFailed) -> Self {
-        Halt::Output
-    }
-}
+/// Why a machine goes no further: the input is refused, or the sink's output failed.
+pub type Halt = Stopped<Stop>;
 
 /// Reads a data set in pieces, and gives a sink each token as soon as it is sure. It holds at most 11 bytes of a
 /// head and at most 129 open containers, and no byte of a value.
@@ -53,7 +38,7 @@ impl Model for Machine {
 impl Machine {
     /// A machine for a data set in this coding, whose first byte is at this offset of the input.
     pub fn new(coding: Coding, start: u64) -> Self
-        requires { start ≤ 2 ^ 62 }
+        requires { start ≤ reads.INPUT_LIMIT }
         ensures { result ≡ record { reading = steps.start_of coding.syntax start; failed = false } }
     {
         Machine {
@@ -72,7 +57,7 @@ impl Machine {
         // While nothing halts it, it reads each byte, and no more than the limit.
         ensures place { spec.is_halted self.new ≡ false → spec.next_offset self.new.reading
             ≡ spec.next_offset self.old.reading + length piece.now }
-        ensures within { spec.is_halted self.new ≡ false → spec.next_offset self.new.reading ≤ 2 ^ 62 }
+        ensures within { spec.is_halted self.new ≡ false → spec.next_offset self.new.reading ≤ reads.INPUT_LIMIT }
     {
         let mut rest = piece;
         while !rest.is_empty() && self.halt.is_none() {
@@ -87,7 +72,7 @@ impl Machine {
                 }
             }
         }
-        answer(self.halt)
+        Stopped::answer(self.halt)
     }
 
     /// The input ends. Where that is no fault, the data set is closed. Fails as `feed` does.
@@ -101,17 +86,6 @@ impl Machine {
         if self.halt.is_none() {
             self.halt = self.cursor.end(sink).err();
         }
-        answer(self.halt)
-    }
-}
-
-/// What a call answers.
-fn answer(halt: Option<Halt>) -> Result<(), Halt>
-    ensures going { OnOk result (halt ≡ None) }
-    ensures value { result ≡ spec.answer (spec.stop_of halt) (spec.is_output halt) }
-{
-    match halt {
-        None => Ok(()),
-        Some(halt) => Err(halt),
+        Stopped::answer(self.halt)
     }
 }

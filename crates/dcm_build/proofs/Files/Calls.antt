@@ -7,8 +7,8 @@ use Rattle.dcm_base.specs.Steps.Steps.{Goes}
 use Rattle.dcm_devices.proofs.Writes.Puts.{append_known_none}
 use Rattle.dcm_base.proofs.Writes.Runs.{goes_on, goes_failed}
 use Rattle.dcm_stream.specs.Machine.{well, TellsFailed}
-use Rattle.dcm_build.specs.declared.build.BuildHalt.{BuildHalt}
-use Rattle.dcm_build.specs.declared.build.BuildHalt.TheVariants.{Refused, Output}
+use Rattle.dcm_build.specs.Halts.{BuildHalt}
+use Rattle.dcm_base.specs.declared.stopped.Stopped.TheVariants.{Refused, Output}
 use Rattle.dcm_build.specs.declared.line_reader.LineReader.{LineReader}
 use Rattle.dcm_build.specs.Builder.{line_at, building, TellsHalt, Feeds, Progress, stop_of, is_output, is_halted}
 use Rattle.dcm_build.specs.Building.{BuildState, build_step, build_writes}

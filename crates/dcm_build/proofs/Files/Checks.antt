@@ -6,8 +6,8 @@ use Rattle.dcm_base.specs.declared.fault.LineFault.{LineFault}
 use Rattle.dcm_devices.specs.Device.{AppendsFront, Puts}
 use Rattle.dcm_devices.proofs.Writes.Puts.{append_known_none, append_known_twice, puts_behind, front_longer}
 use Rattle.dcm_base.specs.Lines.Line.{Step, Meaning, one}
-use Rattle.dcm_build.specs.declared.file.Stopped.{Stopped}
-use Rattle.dcm_build.specs.declared.file.Stopped.TheVariants.{Refused, Output}
+use Rattle.dcm_build.specs.Halts.{LineHalt}
+use Rattle.dcm_base.specs.declared.stopped.Stopped.TheVariants.{Refused, Output}
 use Rattle.dcm_build.specs.Building.{BuildState, tells, in_group, placed, placed_writes, shows, shows_writes, meaning_taken, meaning_writes}
 use Rattle.dcm_build.specs.NewFile.{LineAt, Comes}
 
@@ -26,7 +26,7 @@ refused_at T o s x bytes held fault e =
     subst (λ (o : Option LineFault). Comes {T = T} held held s (elim o [ Some f ↦ tells f s | None ↦ x ]) (elim o [ Some f ↦ [] | None ↦ bytes ]) (Err (Refused fault))) (sym e) (refl, sym (append_known_none held))
 
 -- no check fails
-pub passed_at : {T : Type 0} (o : Option LineFault) (s x new : BuildState) (bytes : List ℕ) (held holds : Option (List ℕ)) (r : Result T Stopped) → o ≡ None
+pub passed_at : {T : Type 0} (o : Option LineFault) (s x new : BuildState) (bytes : List ℕ) (held holds : Option (List ℕ)) (r : Result T LineHalt) → o ≡ None
     → Comes held holds new x bytes r → Comes held holds new (elim o [ Some f ↦ tells f s | None ↦ x ]) (elim o [ Some f ↦ [] | None ↦ bytes ]) r
 passed_at {T} o s x new bytes held holds r e h =
     subst (λ (o : Option LineFault). Comes {T = T} held holds new (elim o [ Some f ↦ tells f s | None ↦ x ]) (elim o [ Some f ↦ [] | None ↦ bytes ]) r) (sym e) h
@@ -44,12 +44,12 @@ pub group_put : {T E : Type 0} (r : Result T E) (t : Bool) (bytes : List ℕ) (h
 group_put r t bytes held holds e h = subst (λ u. Puts held holds (cond u bytes []) r) (sym e) h
 
 -- behind what went out
-pub comes_behind : {T : Type 0} (held mid holds : Option (List ℕ)) (new x : BuildState) (first bytes : List ℕ) (r : Result T Stopped) → mid ≡ append_known held first → Comes mid holds new x bytes r → Comes held holds new x (first ++ bytes) r
+pub comes_behind : {T : Type 0} (held mid holds : Option (List ℕ)) (new x : BuildState) (first bytes : List ℕ) (r : Result T LineHalt) → mid ≡ append_known held first → Comes mid holds new x bytes r → Comes held holds new x (first ++ bytes) r
 comes_behind held mid holds new x first bytes (Ok y) went h = (h.0, h.1 ∙ ap (λ known. append_known known bytes) went ∙ append_known_twice held first bytes)
 comes_behind held mid holds new x first bytes (Err (Refused fault)) went h = (h.0, h.1 ∙ ap (λ known. append_known known bytes) went ∙ append_known_twice held first bytes)
 comes_behind held mid holds new x first bytes (Err Output) went h = puts_behind {T = ℕ} {E = ℕ} held mid holds first bytes (Err 0) went h
 
-pub shown_after : {T : Type 0} (step : Step) (o : Option LineFault) (s t m n new : BuildState) (first : List ℕ) (held mid holds : Option (List ℕ)) (r : Result T Stopped) → o ≡ None → m ≡ in_group step s → n ≡ in_group step t → mid ≡ append_known held first
+pub shown_after : {T : Type 0} (step : Step) (o : Option LineFault) (s t m n new : BuildState) (first : List ℕ) (held mid holds : Option (List ℕ)) (r : Result T LineHalt) → o ≡ None → m ≡ in_group step s → n ≡ in_group step t → mid ≡ append_known held first
     → Comes mid holds new (placed step m) (placed_writes step n) r
     → Comes held holds new (elim o [ Some f ↦ tells f s | None ↦ placed step (in_group step s) ]) (elim o [ Some f ↦ [] | None ↦ first ++ placed_writes step (in_group step t) ]) r
 shown_after step o s t m n new first held mid holds r none e f went h =
@@ -58,13 +58,13 @@ shown_after step o s t m n new first held mid holds r none e f went h =
     (subst (λ (z : BuildState). Comes mid holds new (placed step (in_group step s)) (placed_writes step z) r) f
     (subst (λ (z : BuildState). Comes mid holds new (placed step z) (placed_writes step n) r) e h)))
 
-pub failed_shown : {T : Type 0} (o : Option LineFault) (s x new : BuildState) (first more : List ℕ) (held holds : Option (List ℕ)) (r : Result T Stopped) → o ≡ None → IsErrAnd r (λ h. h ≡ Output) → AppendsFront held holds first
+pub failed_shown : {T : Type 0} (o : Option LineFault) (s x new : BuildState) (first more : List ℕ) (held holds : Option (List ℕ)) (r : Result T LineHalt) → o ≡ None → IsErrAnd r (λ h. h ≡ Output) → AppendsFront held holds first
     → Comes held holds new (elim o [ Some f ↦ tells f s | None ↦ x ]) (elim o [ Some f ↦ [] | None ↦ first ++ more ]) r
 failed_shown o s x new first more held holds (Ok y) none e front = absurd e
 failed_shown {T} o s x new first more held holds (Err h) none e front =
-    passed_at {T = T} o s x new (first ++ more) held holds (Err h) none (subst (λ (h : Stopped). Comes {T = T} held holds new x (first ++ more) (Err h)) (sym e) (front_longer more front))
+    passed_at {T = T} o s x new (first ++ more) held holds (Err h) none (subst (λ (h : LineHalt). Comes {T = T} held holds new x (first ++ more) (Err h)) (sym e) (front_longer more front))
 
 -- what a line means
-pub means_step : {T : Type 0} (m : Meaning) (step : Step) (s t new : BuildState) (held holds : Option (List ℕ)) (r : Result T Stopped) → one step ≡ m
+pub means_step : {T : Type 0} (m : Meaning) (step : Step) (s t new : BuildState) (held holds : Option (List ℕ)) (r : Result T LineHalt) → one step ≡ m
     → Comes held holds new (shows step s) (shows_writes step t) r → Comes held holds new (meaning_taken m s) (meaning_writes m t) r
 means_step {T} m step s t new held holds r e h = subst (λ (m : Meaning). Comes {T = T} held holds new (meaning_taken m s) (meaning_writes m t) r) e h

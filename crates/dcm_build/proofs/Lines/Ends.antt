@@ -7,18 +7,17 @@ use Rattle.dcm_base.specs.Lines.Build.{first_fault, without_return}
 use Rattle.dcm_base.specs.Lines.Line.{means}
 use Rattle.dcm_base.specs.declared.fault.LineFault.{LineFault}
 use Rattle.dcm_devices.proofs.Writes.Puts.{append_known_twice, front_longer, puts_behind}
-use Rattle.dcm_build.specs.declared.build.BuildHalt.{BuildHalt}
-use Rattle.dcm_build.specs.declared.build.BuildHalt.TheVariants.{Refused, Output}
+use Rattle.dcm_build.specs.Halts.{BuildHalt}
+use Rattle.dcm_base.specs.declared.stopped.Stopped.TheVariants.{Refused, Output}
 use Rattle.dcm_build.specs.declared.file.NewFile.{NewFile}
-use Rattle.dcm_build.specs.declared.file.Stopped.{Stopped}
-use Rattle.dcm_build.specs.declared.file.Stopped.TheVariants.{Refused as refused_line, Output as failed_output}
+use Rattle.dcm_build.specs.Halts.{LineHalt}
 use Rattle.dcm_build.specs.declared.line_reader.LineReader.{LineReader}
 use Rattle.dcm_build.specs.Builder.{line_at, building, next_line_at, halts, Reaches}
 use Rattle.dcm_build.specs.Building.{BuildState, next_line, meaning_taken, meaning_writes, line_taken, line_writes, closed, closed_writes, end_checks, end_writes, ended_meta, tells_at_end}
 use Rattle.dcm_build.specs.NewFile.{LineAt, state, seen, Comes, Ends}
 
 -- the line was taken
-abbrev pub TakesLine : {T : Type 0} → (held holds : Option (List ℕ)) → NewFile → LineAt → NewFile → List ℕ → Result T Stopped → Type 0
+abbrev pub TakesLine : {T : Type 0} → (held holds : Option (List ℕ)) → NewFile → LineAt → NewFile → List ℕ → Result T LineHalt → Type 0
 TakesLine held holds f at new line r = Comes held holds (state new at None) (meaning_taken (means (without_return line)) (state f at None)) (meaning_writes (means (without_return line)) (state f at None)) r
 
 -- ---- a line
@@ -37,13 +36,13 @@ line_ended {T} p q held holds line x e h at =
     let taken = subst (λ (l : List ℕ). TakesLine {T = T} held holds p.file (line_at p) q.file l (Ok x)) e h in
     (ap (λ (a : LineAt). state q.file a None) at ∙ ap (next_line (length p.line.items)) taken.0, taken.1)
 
-refused : (T : Type 0) (p q : LineReader) (held holds : Option (List ℕ)) (stopped : Stopped) → TakesLine {T = Unit {0}} held holds p.file (line_at p) q.file p.line.items (Err stopped) → line_at q ≡ line_at p
+refused : (T : Type 0) (p q : LineReader) (held holds : Option (List ℕ)) (stopped : LineHalt) → TakesLine {T = Unit {0}} held holds p.file (line_at p) q.file p.line.items (Err stopped) → line_at q ≡ line_at p
     → Reaches {T = T} held holds (building q) (line_taken (building p None)) (line_writes (building p None)) (Err (halts stopped p.offset p.number))
-refused T p q held holds (refused_line fault) h at =
+refused T p q held holds (Refused fault) h at =
     (ap (λ (a : LineAt). state q.file a (Some (record { fault = fault; offset = p.offset; line = p.number }))) at ∙ ap (next_line (length p.line.items)) h.0, h.1)
-refused T p q held holds failed_output h at = h
+refused T p q held holds Output h at = h
 
-pub line_refused : (T : Type 0) (p q : LineReader) (held holds : Option (List ℕ)) (line : List ℕ) (stopped : Stopped) (halt : BuildHalt) → line ≡ p.line.items → TakesLine {T = Unit {0}} held holds p.file (line_at p) q.file line (Err stopped) → line_at q ≡ line_at p
+pub line_refused : (T : Type 0) (p q : LineReader) (held holds : Option (List ℕ)) (line : List ℕ) (stopped : LineHalt) (halt : BuildHalt) → line ≡ p.line.items → TakesLine {T = Unit {0}} held holds p.file (line_at p) q.file line (Err stopped) → line_at q ≡ line_at p
     → halt ≡ halts stopped p.offset p.number → Reaches {T = T} held holds (building q) (line_taken (building p None)) (line_writes (building p None)) (Err halt)
 line_refused T p q held holds line stopped halt e h at is =
     subst (λ (x : BuildHalt). Reaches {T = T} held holds (building q) (line_taken (building p None)) (line_writes (building p None)) (Err x)) (sym is)
@@ -81,16 +80,16 @@ whole_ended p q held mid holds s bytes size x e put at h = (
   h.2 ∙ ap (λ (known : Option (List ℕ)). append_known known (end_writes (seen p.file))) put ∙ append_known_twice held bytes (end_writes (seen p.file)) ∙ ap (λ (t : BuildState). append_known held (bytes ++ closed_writes t)) e,
 )
 
-end_refused : (T : Type 0) (p q : LineReader) (held mid holds : Option (List ℕ)) (bytes : List ℕ) (size : ℕ) (stopped : Stopped) → mid ≡ append_known held bytes → line_at q ≡ line_at p
+end_refused : (T : Type 0) (p q : LineReader) (held mid holds : Option (List ℕ)) (bytes : List ℕ) (size : ℕ) (stopped : LineHalt) → mid ≡ append_known held bytes → line_at q ≡ line_at p
     → Ends {T = Unit {0}} mid holds (state q.file (line_at p) None) (ended_meta (building p None)) (first_fault (end_checks (seen p.file))) (end_writes (seen p.file)) (Err stopped)
     → Reaches {T = T} held holds (building q) (closed size (building p None)) (bytes ++ closed_writes (building p None)) (Err (halts stopped size p.number))
-end_refused T p q held mid holds bytes size (refused_line fault) put at h = (
+end_refused T p q held mid holds bytes size (Refused fault) put at h = (
   ap (λ (a : LineAt). state q.file a (Some (record { fault = fault; offset = size; line = p.number }))) at ∙ ap (tells_at_end size fault) h.0 ∙ closed_at size p (Some fault) h.1,
   h.2 ∙ ap (λ (known : Option (List ℕ)). append_known known (end_writes (seen p.file))) put ∙ append_known_twice held bytes (end_writes (seen p.file)),
 )
-end_refused T p q held mid holds bytes size failed_output put at h = puts_behind {T = T} {E = Unit {0}} held mid holds bytes (end_writes (seen p.file)) (Err tt) put h
+end_refused T p q held mid holds bytes size Output put at h = puts_behind {T = T} {E = Unit {0}} held mid holds bytes (end_writes (seen p.file)) (Err tt) put h
 
-pub end_failed : (T : Type 0) (p q : LineReader) (held mid holds : Option (List ℕ)) (s : BuildState) (bytes : List ℕ) (size : ℕ) (stopped : Stopped) (halt : BuildHalt) → building p None ≡ s → mid ≡ append_known held bytes → line_at q ≡ line_at p
+pub end_failed : (T : Type 0) (p q : LineReader) (held mid holds : Option (List ℕ)) (s : BuildState) (bytes : List ℕ) (size : ℕ) (stopped : LineHalt) (halt : BuildHalt) → building p None ≡ s → mid ≡ append_known held bytes → line_at q ≡ line_at p
     → Ends {T = Unit {0}} mid holds (state q.file (line_at p) None) (ended_meta (building p None)) (first_fault (end_checks (seen p.file))) (end_writes (seen p.file)) (Err stopped) → halt ≡ halts stopped size p.number
     → Reaches {T = T} held holds (building q) (closed size s) (bytes ++ closed_writes s) (Err halt)
 end_failed T p q held mid holds s bytes size stopped halt e put at h is =

@@ -11,10 +11,9 @@ use Rattle.dcm_base.specs.Reading.Reads.{INPUT_LIMIT}
 use Rattle.dcm_base.specs.Steps.Steps.{outputs}
 use Rattle.dcm_base.specs.declared.fault.LineFault.TheVariants.{LineTooLong, TooLong}
 use Rattle.dcm_devices.proofs.Writes.Puts.{append_known_none, front_longer}
-use Rattle.dcm_build.specs.declared.build.BuildHalt.{BuildHalt}
-use Rattle.dcm_build.specs.declared.build.BuildHalt.TheVariants.{Refused, Output}
+use Rattle.dcm_build.specs.Halts.{BuildHalt}
+use Rattle.dcm_base.specs.declared.stopped.Stopped.TheVariants.{Refused, Output}
 use Rattle.dcm_build.specs.declared.file.NewFile.{NewFile}
-use Rattle.dcm_build.specs.declared.file.Stopped.TheVariants.{Refused as refused_line}
 use Rattle.dcm_build.specs.declared.line_reader.LineReader.{LineReader}
 use Rattle.dcm_build.specs.Builder.{line_at, building, more, read, Plain, Stands, halts, Reaches, Feeds, bytes_read}
 use Rattle.dcm_build.specs.Building.{BuildState, build_step, build_writes, line_taken, line_writes}
@@ -88,12 +87,12 @@ cut_at true a b e = refl
 cut_at false a b e = absurd (cc)
 
 -- past the limit of an input
-pub limit_at : (T : Type 0) (p : LineReader) (held : Option (List ℕ)) (piece : List ℕ) (halt : BuildHalt) → 0 < length piece → INPUT_LIMIT ≤ read (line_at p) → halt ≡ halts (refused_line TooLong) INPUT_LIMIT 0
+pub limit_at : (T : Type 0) (p : LineReader) (held : Option (List ℕ)) (piece : List ℕ) (halt : BuildHalt) → 0 < length piece → INPUT_LIMIT ≤ read (line_at p) → halt ≡ halts (Refused TooLong) INPUT_LIMIT 0
     → Feeds {T = T} (building p None) held (building p) held piece (Err halt)
 limit_at T p held piece halt some past is =
     let cut : nat_le INPUT_LIMIT (read (line_at p)) ≡ true = le-leb _ _ past in
     subst (λ (x : BuildHalt). Feeds {T = T} (building p None) held (building p) held piece (Err x)) (sym is)
-    (feeds_first T (building p None) p held held piece (halts (refused_line TooLong) INPUT_LIMIT 0) some
+    (feeds_first T (building p None) p held held piece (halts (Refused TooLong) INPUT_LIMIT 0) some
     (cut_at (nat_le INPUT_LIMIT (read (line_at p))) _ _ cut, sym (append_known_none held) ∙ ap (append_known held) (cut_at (nat_le INPUT_LIMIT (read (line_at p))) _ _ cut)))
 
 -- a byte that is no newline, for which the line has no room
@@ -113,14 +112,14 @@ full (b ∷ piece) (c ∷ front) (suc m) e some newline not =
     absurd (not (sym same ∙ newline (omega arith)))
 
 pub too_long : (T : Type 0) (p : LineReader) (held : Option (List ℕ)) (piece front : List ℕ) (m : ℕ) (halt : BuildHalt) → 0 < length piece → read (line_at p) < INPUT_LIMIT → front ≡ take m piece → (m ≡ 0 → p.limit ≤ length p.line.items)
-    → (0 < length front → get_or front 0 0 ≡ byte "\n") → (get_or piece 0 0 ≡ byte "\n" → ⊥) → halt ≡ halts (refused_line LineTooLong) p.offset p.number
+    → (0 < length front → get_or front 0 0 ≡ byte "\n") → (get_or piece 0 0 ≡ byte "\n" → ⊥) → halt ≡ halts (Refused LineTooLong) p.offset p.number
     → Feeds {T = T} (building p None) held (building p) held piece (Err halt)
 too_long T p held piece front m halt some within e room newline not is =
     let passed : nat_lt (length p.line.items) p.limit ≡ false = le-ltb (length p.line.items) p.limit (room (full piece front m e some newline not)) in
     let going : nat_le INPUT_LIMIT (read (line_at p)) ≡ false = not_cut INPUT_LIMIT (read (line_at p)) within in
     let other : (get_or piece 0 0 == byte "\n") ≡ false = ne_eqb (get_or piece 0 0) (byte "\n") not in
     subst (λ (x : BuildHalt). Feeds {T = T} (building p None) held (building p) held piece (Err x)) (sym is)
-    (feeds_first T (building p None) p held held piece (halts (refused_line LineTooLong) p.offset p.number) some (
+    (feeds_first T (building p None) p held held piece (halts (Refused LineTooLong) p.offset p.number) some (
       no_room (nat_le INPUT_LIMIT (read (line_at p))) (get_or piece 0 0 == byte "\n") (nat_lt (length p.line.items) p.limit) _ _ _ _ going other passed,
       sym (append_known_none held) ∙ ap (append_known held) (silent (nat_le INPUT_LIMIT (read (line_at p))) (get_or piece 0 0 == byte "\n") _ going other),
     ))

@@ -42,7 +42,7 @@ use Rattle.dcm_base.specs.declared.dictionary.Dictionary.{Dictionary}
 use Rattle.dcm_base.specs.declared.dictionary.Dictionary.TheVariants.{Extract, Standard, Signed}
 use Rattle.dcm_base.specs.Reading.Bars.{holds_fragments}
 use Rattle.dcm_sinks.proofs.ReadBack.RecodeReads.{source_whole, source_fine}
-use Rattle.dcm_sinks.proofs.ReadBack.Sources.{no_sequence, bytes_behind, bytes_parts, a_byte, four_bytes, long_known, length_known, bytes_of_head, spelled_no_sequence, fragments_little, Fine, fine_bytes, lists_of, begun, enclosed_ready, element_tag}
+use Rattle.dcm_sinks.proofs.ReadBack.Sources.{bytes_behind, bytes_parts, a_byte, four_bytes, long_known, length_known, bytes_of_head, spelled_no_sequence, fragments_little, Fine, fine_bytes, lists_of, begun, enclosed_ready, element_tag}
 use Rattle.dcm_sinks.proofs.ReadBack.WrittenRead.{target_heads}
 use Rattle.dcm_build.specs.DumpBuilds.{full_dump, CanBuild, FitsLines, BuildsFile, FileRead, WholeUnits, ItemsOfWholeUnits}
 use Rattle.dcm_base.specs.Lines.Limits.{LINE_LIMIT}

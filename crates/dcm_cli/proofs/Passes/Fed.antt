@@ -10,7 +10,7 @@ use Rattle.dcm_devices.proofs.Writes.Puts.{append_known_none}
 use Rattle.dcm_base.proofs.Writes.Runs.{goes_on, goes_failed}
 use Rattle.dcm_head.specs.declared.head.Head.{Head}
 use Rattle.dcm_stream.specs.declared.token.Bar.{Bar}
-use Rattle.dcm_stream.specs.declared.machine.Halt.{Halt}
+use Rattle.dcm_stream.specs.Halts.{Halt}
 use Rattle.dcm_stream.specs.Reading.{Reading}
 use Rattle.dcm_stream.specs.Machine.{Progress, steps, steps_write, answer, well, is_halted, next_offset, TellsFailed}
 use Rattle.dcm_stream.proofs.Runs.Parts.{halted_stays, halted_silent}

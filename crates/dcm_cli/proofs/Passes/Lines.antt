@@ -10,8 +10,8 @@ use Rattle.dcm_words.specs.Words.{build as building}
 use Rattle.dcm_devices.proofs.Writes.Puts.{append_known_twice, front_longer, puts_behind}
 use Rattle.dcm_base.proofs.Writes.Runs.{outputs-append, goes_on}
 use Rattle.dcm_stream.specs.Machine.{well, TellsFailed}
-use Rattle.dcm_build.specs.declared.build.BuildHalt.{BuildHalt}
-use Rattle.dcm_build.specs.declared.build.BuildHalt.TheVariants as halts
+use Rattle.dcm_build.specs.Halts.{BuildHalt}
+use Rattle.dcm_base.specs.declared.stopped.Stopped.TheVariants as halts
 use Rattle.dcm_build.specs.Builder.{Progress, answer, is_halted}
 use Rattle.dcm_build.specs.Building.{BuildState, build_start, build_step, build_writes, finishes, finish_writes}
 use Rattle.dcm_build.proofs.Files.Runs.{whole, so_far, refused}

@@ -12,8 +12,8 @@ use Rattle.dcm_devices.proofs.Writes.Puts.{append_known_twice, puts_behind}
 use Rattle.dcm_base.proofs.Writes.Runs.{outputs-append}
 use Rattle.dcm_head.specs.declared.head.Head.{Head}
 use Rattle.dcm_stream.specs.declared.token.Bar.{Bar}
-use Rattle.dcm_stream.specs.declared.machine.Halt.{Halt}
-use Rattle.dcm_stream.specs.declared.machine.Halt.TheVariants.{Refused as halt_refused, Output as halt_output}
+use Rattle.dcm_stream.specs.Halts.{Halt}
+use Rattle.dcm_base.specs.declared.stopped.Stopped.TheVariants.{Refused as halt_refused, Output as halt_output}
 use Rattle.dcm_stream.specs.Reading.{Reading, finish, end_shows}
 use Rattle.dcm_stream.specs.Machine.{Progress, steps, steps_write, answer, well, next_offset}
 use Rattle.dcm_cli.specs.declared.ending.Ending.{Ending}

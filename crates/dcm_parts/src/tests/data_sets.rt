@@ -1,8 +1,9 @@
 // Data sets in pieces of several sizes.
-ghost use Rattle.std.specs.Prelude.{◌≡◌, ◌<◌, ◌≤◌, ◌^◌, [], None, false};
+ghost use Rattle.std.specs.Prelude.{◌≡◌, ◌<◌, ◌≤◌, [], None, false};
+ghost use Rattle.dcm_base.specs.Reading.Reads.{INPUT_LIMIT};
 
 use arrayvec::ArrayVec;
-use dcm_base::{Coding, Dictionary, Fault, Stop, Syntax, WriteFailed};
+use dcm_base::{Coding, Dictionary, Fault, Stop, Stopped, Syntax, WriteFailed};
 use dcm_head::Head;
 use dcm_stream::{Bar, Halt, Machine, Sink, Token};
 
@@ -78,7 +79,7 @@ const BIG: Coding = Coding {
 };
 
 fn refused(fault: Fault, at: u64) -> Result<(), Halt> {
-    Err(Halt::Refused(Stop { fault, at }))
+    Err(Stopped::Refused(Stop { fault, at }))
 }
 
 fn feed_all(machine: &mut Machine, bytes: &[u8], step: usize, sink: &mut Signs) -> Result<(), Halt>
@@ -100,7 +101,7 @@ struct Input<'a> {
 
 /// The signs and the answer in pieces of this size.
 fn is_told_by(input: Input, step: usize, signs: &[u8], answer: Result<(), Halt>) -> bool
-    requires start { input.start ≤ 2 ^ 62 }
+    requires start { input.start ≤ INPUT_LIMIT }
     requires step { 0 < step }
 {
     let mut machine = Machine::new(input.coding, input.start);
@@ -113,7 +114,7 @@ fn is_told_by(input: Input, step: usize, signs: &[u8], answer: Result<(), Halt>)
 
 /// The signs and the answer in pieces of several sizes.
 fn is_told(input: Input, signs: &[u8], answer: Result<(), Halt>) -> bool
-    requires { input.start ≤ 2 ^ 62 }
+    requires { input.start ≤ INPUT_LIMIT }
 {
     is_told_by(input, 8192, signs, answer)
         && is_told_by(input, 1, signs, answer)

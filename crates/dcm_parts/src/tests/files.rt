@@ -1,4 +1,4 @@
-use dcm_base::{LineFault, LineStop, MemOut, Watched};
+use dcm_base::{LineFault, LineStop, MemOut, Stopped, Watched};
 use dcm_build::{BuildHalt, Builder};
 use std::test::Fail;
 
@@ -48,7 +48,7 @@ fn is_file(written: &[u8], meta: &[u8], set: &[u8]) -> bool {
 }
 
 fn refused(fault: LineFault, offset: u64, line: u64) -> Result<(), BuildHalt> {
-    Err(BuildHalt::Refused(LineStop {
+    Err(Stopped::Refused(LineStop {
         fault,
         offset,
         line,
@@ -156,9 +156,9 @@ fn tells_failed_output(rt: HostRuntime) -> Result<(), Fail> {
     let mut out = output(rt, 100)?;
     let mut builder = Builder::new(80);
     assert!(rt; builder.feed(META_LINE, &mut out).is_ok());
-    assert!(rt; builder.feed(NAME_LINE, &mut out) == Err(BuildHalt::Output));
+    assert!(rt; builder.feed(NAME_LINE, &mut out) == Err(Stopped::Output));
     assert!(rt; out.failed());
-    assert!(rt; builder.feed(NAME_LINE, &mut out) == Err(BuildHalt::Output));
-    assert!(rt; builder.finish(&mut out) == Err(BuildHalt::Output));
+    assert!(rt; builder.feed(NAME_LINE, &mut out) == Err(Stopped::Output));
+    assert!(rt; builder.finish(&mut out) == Err(Stopped::Output));
     Ok(())
 }

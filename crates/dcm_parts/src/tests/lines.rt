@@ -1,5 +1,5 @@
 // The lines of a dump, by the bytes that they are built into.
-use dcm_base::{LineFault, LineStop, MemOut, Watched};
+use dcm_base::{LineFault, LineStop, MemOut, Stopped, Watched};
 use dcm_build::{BuildHalt, Builder};
 use std::test::Fail;
 
@@ -144,7 +144,7 @@ fn refuses_lines(rt: HostRuntime) -> Result<(), Fail> {
         };
         assert!(rt; answer.is_err());
         match answer {
-            Err(BuildHalt::Refused(found)) => assert!(rt; found == stop),
+            Err(Stopped::Refused(found)) => assert!(rt; found == stop),
             _ => assert!(rt; false),
         }
     }

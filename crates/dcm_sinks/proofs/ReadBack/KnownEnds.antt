@@ -21,7 +21,7 @@ use Rattle.dcm_base.specs.Reading.Reads.{INPUT_LIMIT}
 use Rattle.dcm_base.specs.Steps.Atoms.{value_byte, Atom}
 use Rattle.dcm_base.proofs.DataSets.Extend.{tag_at_extends, vr_at_extends}
 use Rattle.dcm_base.proofs.DataSets.Heads.{some_same, eight_le_head_size}
-use Rattle.dcm_stream.specs.Reading.{Reading, Opened, closing, element_opens, item_opens, head_opens, ends_at, closes, full_closed, settled, head_read, byte_read, read_byte, Sign, sign_reads, sign_ends, left_sign, left_levels, value_left, without_value}
+use Rattle.dcm_stream.specs.Reading.{Reading, Opened, element_opens, item_opens, head_opens, ends_at, closes, full_closed, settled, head_read, byte_read, read_byte, Sign, sign_reads, sign_ends, left_sign, left_levels, value_left, without_value}
 use Rattle.dcm_stream.proofs.Steps.StopsStay.{tests, element_tests, place_extends}
 use Rattle.dcm_stream.proofs.Heads.Stops.{FitsHead, fits_element, fits_item, fits_delimiter, Fits, place_none}
 use Rattle.dcm_stream.proofs.Heads.Opening.{JustHead, opens_element, opens_other}

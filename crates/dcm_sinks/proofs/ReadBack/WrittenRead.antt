@@ -19,7 +19,7 @@ use Rattle.dcm_base.specs.Tables.Tag.{item_end_tag, sequence_end_tag, is_item_en
 use Rattle.dcm_base.specs.Tables.Dictionary.{vr_in}
 use Rattle.dcm_base.specs.Tables.Representation.{pad}
 use Rattle.dcm_base.specs.Tree.Value.{evened}
-use Rattle.dcm_base.specs.Bytes.Head.{ElementHead, Delimiter}
+use Rattle.dcm_base.specs.Bytes.Head.{Delimiter}
 use Rattle.dcm_base.specs.Bytes.Spelling.{form, read_as, after, after_trees, dictionary_after}
 use Rattle.dcm_base.specs.declared.level.Container.{Container}
 use Rattle.dcm_base.specs.declared.level.Level.{Level}

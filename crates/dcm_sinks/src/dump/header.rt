@@ -4,6 +4,7 @@ ghost use Rattle.dcm_devices.specs.Writing.{Wrote};
 ghost use Rattle.dcm_base.specs.Dump.Dump.{dump_set};
 ghost use Rattle.dcm_base.specs.Dump.Header as spec;
 ghost use Rattle.dcm_base.specs.Dump.ValueText.{escaped};
+ghost use Rattle.dcm_base.specs.File.MetaGroup.{META_LIMIT};
 ghost use Rattle.dcm_base.specs.declared.dictionary.Dictionary.TheVariants.{Extract};
 ghost use Rattle.dcm_head.specs.MetaReading.{HasEnded};
 ghost use Rattle.dcm_head.specs.Rewriting.{WroteElements};
@@ -67,7 +68,7 @@ fn put_elements<W: DeviceOut>(
     mode: Mode,
     out: &mut Watched<W>,
 ) -> Result<(), WriteFailed>
-    requires { length group.now ≤ 16384 }
+    requires { length group.now ≤ META_LIMIT }
     ensures { WroteElements W.DeviceOut out.old out.new group.now (dump_set dictionary mode 0) result }
 {
     let mut rest = group;

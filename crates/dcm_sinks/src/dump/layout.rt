@@ -5,6 +5,7 @@ ghost use Rattle.dcm_base.specs.Dump.Dump as dump;
 ghost use Rattle.dcm_base.specs.Dump.ValueText.{padded};
 ghost use Rattle.dcm_base.specs.Dump.ValueText.{tag_text};
 ghost use Rattle.dcm_base.specs.declared.length.Length.TheVariants.{Known};
+ghost use Rattle.dcm_base.specs.declared.level.TheConstants.{MOST_OPEN};
 ghost use Rattle.dcm_sinks.specs.Layout.{length_digits_of, length_field, line_rest, rest_start};
 
 use arrayvec::ArrayVec;
@@ -49,7 +50,7 @@ fn start_text(tag: Tag, letters: [u8; 2]) -> [u8; START]
 
 /// Begins a line: two spaces a level, tag and letters.
 pub fn begin_line(line: &mut Line, level: usize, tag: Tag, letters: [u8; 2])
-    requires { level ≤ 128 }
+    requires { level ≤ MOST_OPEN }
     ensures items { line.new.items ≡ dump.line_start level tag letters }
     ensures within { length line.new.items ≤ 271 }
 {
@@ -66,14 +67,14 @@ pub fn put_line_start<W: DeviceOut>(
     tag: Tag,
     letters: [u8; 2],
 ) -> Result<(), WriteFailed>
-    requires { level ≤ 128 }
+    requires { level ≤ MOST_OPEN }
     ensures { Wrote W.DeviceOut out.old out.new (dump.line_start level tag letters) result }
 {
     begin_line(line, level, tag, letters);
     put_all(out, line.as_slice())
 }
 
-/// A declared length as a dump shows it, right in three places.
+/// A declared length as a dump shows it, without the spaces before it.
 fn length_digits<'a>(length: Length, digits: &'a mut Buffer) -> &'a [u8]
     ensures { result.now ≡ length_digits_of length }
 {
@@ -197,7 +198,7 @@ pub fn put_line<W: DeviceOut>(
     declared: Length,
     count: u64,
 ) -> Result<(), WriteFailed>
-    requires level { level ≤ 128 }
+    requires level { level ≤ MOST_OPEN }
     requires display { length display.now ≤ 66 }
     ensures { Wrote W.DeviceOut out.old out.new (dump.line dictionary level tag letters display.now declared count)
         result }

@@ -3,11 +3,8 @@ ghost use Rattle.std.specs.Prelude.{◌≡◌, ◌<◌, ◌≤◌, [], ◌∷◌
 ghost use Rattle.dcm_sinks.specs.Lengths.{innermost, outer};
 
 use arrayvec::ArrayVec;
-use dcm_base::{Length, MOST_LISTS};
+use dcm_base::{Length, MOST_OPEN};
 use std::marker::Model;
-
-/// The most sequences, fragment lists and items that are open at a time.
-pub const MOST_OPEN: usize = 2 * MOST_LISTS;
 
 /// What the heads of the open sequences, fragment lists and items declare, the innermost first.
 #[derive(Drop)]
@@ -37,14 +34,14 @@ impl Lengths {
     /// How many are open.
     pub fn depth(&self) -> usize
         ensures depth { result ≡ length self.now }
-        ensures within { result ≤ 128 }
+        ensures within { result ≤ MOST_OPEN }
     {
         self.outermost_first.len()
     }
 
     /// One more is open, whose head declares this length.
     pub fn push(&mut self, declared: Length)
-        requires { length self.old < 128 }
+        requires { length self.old < MOST_OPEN }
         ensures { self.new ≡ declared ∷ self.old }
     {
         self.outermost_first.push(declared);

@@ -13,10 +13,10 @@ ghost use Rattle.dcm_value.specs.Progress as progress;
 ghost use Rattle.dcm_value.specs.ValueText.{progress as text_progress};
 
 use crate::dump::layout::{Line, begin_line, put_line, put_line_start, put_rest};
-use crate::dump::lengths::{Lengths, MOST_OPEN};
+use crate::dump::lengths::Lengths;
 use dcm_base::{
-    DeviceOut, Dictionary, Form, Length, Mode, Syntax, Tag, Vr, Watched, WriteFailed, form_of,
-    read_as,
+    DeviceOut, Dictionary, Form, Length, MOST_OPEN, Mode, Syntax, Tag, Vr, Watched, WriteFailed,
+    form_of, read_as,
 };
 use dcm_head::Head;
 use dcm_stream::Token;
@@ -128,7 +128,7 @@ fn put_early_start<W: DeviceOut>(
     level: usize,
     owner: Owner,
 ) -> Result<(), WriteFailed>
-    requires { level ≤ 128 }
+    requires { level ≤ MOST_OPEN }
     ensures { Wrote W.DeviceOut out.old out.new (spec.early_start mode (spec.owner_start level owner)) result }
 {
     match mode {
@@ -139,7 +139,7 @@ fn put_early_start<W: DeviceOut>(
 
 /// A line that may be cut is begun where its display is known.
 fn begin_late(mode: Mode, line: &mut Line, level: usize, owner: Owner)
-    requires { level ≤ 128 }
+    requires { level ≤ MOST_OPEN }
     ensures items { line.new.items ≡ spec.late_start mode (spec.owner_start level owner) }
     ensures within { length line.new.items ≤ 271 }
 {

@@ -1,6 +1,5 @@
 -- PixelRepresentation changes the syntax of its data set where it ends.
-use Rattle.std.proofs.Common.{◌≡◌, ℕ, List, [], ◌∷◌, ◌++◌, take, Bool, true, false, ◌==◌, if◌then◌else◌, Option, Some, None, refl, sym, ap, ◌∙◌}
-use Rattle.std.specs.Prelude.{◌&&◌}
+use Rattle.std.proofs.Common.{◌≡◌, ℕ, List, [], ◌∷◌, ◌++◌, take, Bool, true, false, if◌then◌else◌, Option, Some, None, refl, sym, ap, ◌∙◌}
 use Rattle.dcm_base.specs.declared.tag.Tag.{Tag}
 use Rattle.dcm_base.specs.declared.vr.Vr.{Vr}
 use Rattle.dcm_base.specs.declared.dictionary.Dictionary.{Dictionary}
@@ -19,7 +18,7 @@ use Rattle.dcm_base.specs.Reading.Place.{level, end_of}
 use Rattle.dcm_base.proofs.DataSets.Path.{then_trees, Path, syntax_of, behind, item_length, after_then}
 use Rattle.dcm_base.proofs.DataSets.Levels.{container_of, begin_of, around}
 use Rattle.dcm_base.proofs.DataSets.Stops.{set_level}
-use Rattle.dcm_stream.specs.Reading.{Sign, sign_of, sign_reads, sign_ends, signed_by}
+use Rattle.dcm_stream.specs.Reading.{Sign, sign_of, sign_reads, sign_ends}
 use Rattle.dcm_stream.proofs.Containers.SignBytes.{one_told, kept_more}
 
 -- the set after trees more

@@ -18,8 +18,8 @@ use Rattle.dcm_head.specs.declared.head.Head.{Head}
 use Rattle.dcm_stream.specs.declared.judge.Opening.{Opening}
 use Rattle.dcm_stream.specs.declared.judge.Opening.TheVariants as opening
 use Rattle.dcm_stream.specs.declared.cursor.Cursor.{Cursor}
-use Rattle.dcm_stream.specs.declared.machine.Halt.{Halt}
-use Rattle.dcm_stream.specs.declared.machine.Halt.TheVariants.{Output}
+use Rattle.dcm_stream.specs.Halts.{Halt}
+use Rattle.dcm_base.specs.declared.stopped.Stopped.TheVariants.{Output}
 use Rattle.dcm_stream.specs.Reading.{Reading, Opened, closing, settled, Sign, sign_of, left_levels, left_sign, value_left, without_value}
 use Rattle.dcm_stream.specs.Judging.{opening_atom, opened_by, opened_sign}
 use Rattle.dcm_stream.specs.Machine.{Comes, settles, entered, held_sign}

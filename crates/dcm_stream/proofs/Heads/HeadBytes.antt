@@ -15,8 +15,8 @@ use Rattle.dcm_stream.specs.declared.judge.Opening.{Opening}
 use Rattle.dcm_stream.specs.declared.judge.Judged.{Judged}
 use Rattle.dcm_stream.specs.declared.judge.Judged.TheVariants as judge
 use Rattle.dcm_stream.specs.declared.cursor.Cursor.{Cursor}
-use Rattle.dcm_stream.specs.declared.machine.Halt.{Halt}
-use Rattle.dcm_stream.specs.declared.machine.Halt.TheVariants.{Refused}
+use Rattle.dcm_stream.specs.Halts.{Halt}
+use Rattle.dcm_base.specs.declared.stopped.Stopped.TheVariants.{Refused}
 use Rattle.dcm_stream.specs.Bounds.{are_nested}
 use Rattle.dcm_stream.specs.Places.{innermost}
 use Rattle.dcm_stream.specs.Reading.{Reading, halted, Opened, head_opens, head_read, byte_read, read_byte, Sign}

@@ -23,8 +23,8 @@ use Rattle.dcm_stream.specs.declared.judge.Opening.{Opening}
 use Rattle.dcm_stream.specs.declared.judge.Judged.{Judged}
 use Rattle.dcm_stream.specs.declared.judge.Judged.TheVariants as judge
 use Rattle.dcm_stream.specs.declared.cursor.Cursor.{Cursor}
-use Rattle.dcm_stream.specs.declared.machine.Halt.{Halt}
-use Rattle.dcm_stream.specs.declared.machine.Halt.TheVariants.{Refused}
+use Rattle.dcm_stream.specs.Halts.{Halt}
+use Rattle.dcm_base.specs.declared.stopped.Stopped.TheVariants.{Refused}
 use Rattle.dcm_stream.specs.Places.{innermost}
 use Rattle.dcm_stream.specs.Reading.{Reading, Opened, halted, closes, element_opens, item_opens, head_opens, without_value}
 use Rattle.dcm_stream.specs.Judging.{bars_head, opened_by, Judges}

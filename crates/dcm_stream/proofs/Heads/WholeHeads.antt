@@ -13,8 +13,8 @@ use Rattle.dcm_base.specs.Reading.Reads.{INPUT_LIMIT}
 use Rattle.dcm_devices.proofs.Writes.Puts.{append_known_none}
 use Rattle.dcm_head.specs.declared.head.Head.{Head}
 use Rattle.dcm_stream.specs.declared.token.Bar.{Bar}
-use Rattle.dcm_stream.specs.declared.machine.Halt.{Halt}
-use Rattle.dcm_stream.specs.declared.machine.Halt.TheVariants.{Refused}
+use Rattle.dcm_stream.specs.Halts.{Halt}
+use Rattle.dcm_base.specs.declared.stopped.Stopped.TheVariants.{Refused}
 use Rattle.dcm_stream.specs.Reading.{Reading, halted, head_opens, head_read, byte_read, read_byte, settled, Sign}
 use Rattle.dcm_stream.specs.Judging.{bars_head}
 use Rattle.dcm_stream.specs.Machine.{steps, steps_write, Comes, Feeds}

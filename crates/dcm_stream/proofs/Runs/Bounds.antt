@@ -20,7 +20,7 @@ use Rattle.dcm_base.specs.Reading.Place.{level, counts, depth, room, passes, is_
 use Rattle.dcm_base.specs.Reading.Stop.{Stop, refused, HeadBar, innermost_stop, is_the_data_set, opens_list, is_undecided}
 use Rattle.dcm_base.specs.Reading.Reads.{INPUT_LIMIT}
 use Rattle.dcm_base.specs.Steps.Atoms.{Atom, value_byte}
-use Rattle.dcm_stream.specs.Reading.{Reading, start_of, Opened, closing, ends_at, closes, element_opens, item_opens, head_opens, full_closed, room_stop, settled, head_read, byte_read, read_byte, Sign, sign_of, sign_reads, signed_by, in_syntax, left_levels, value_left, size_of}
+use Rattle.dcm_stream.specs.Reading.{Reading, start_of, Opened, ends_at, closes, element_opens, item_opens, head_opens, full_closed, room_stop, settled, head_read, byte_read, read_byte, Sign, sign_of, sign_reads, signed_by, in_syntax, left_levels, value_left, size_of}
 use Rattle.dcm_stream.specs.Bounds.{may_hold, are_nested, IsSmall, StaysSmall}
 use Rattle.dcm_stream.proofs.Heads.Stops.{NeverEarly, FitsHead, fits_element, fits_item, fits_delimiter, Fits, place_none, place_short}
 use Rattle.dcm_stream.proofs.Heads.Opening.{opens_element, opens_other}

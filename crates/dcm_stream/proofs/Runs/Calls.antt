@@ -14,8 +14,8 @@ use Rattle.dcm_base.proofs.Writes.Runs.{goes_on}
 use Rattle.dcm_head.specs.declared.head.Head.{Head}
 use Rattle.dcm_stream.specs.declared.token.Bar.{Bar}
 use Rattle.dcm_stream.specs.declared.cursor.Cursor.{Cursor}
-use Rattle.dcm_stream.specs.declared.machine.Halt.{Halt}
-use Rattle.dcm_stream.specs.declared.machine.Halt.TheVariants.{Refused, Output}
+use Rattle.dcm_stream.specs.Halts.{Halt}
+use Rattle.dcm_base.specs.declared.stopped.Stopped.TheVariants.{Refused, Output}
 use Rattle.dcm_stream.specs.Reading.{Reading, finish, end_shows}
 use Rattle.dcm_stream.specs.Machine.{steps, steps_write, reading, went, TellsHalt, Feeds, EndsWith, Progress, stop_of, is_output, is_halted, well, TellsFailed, ended}
 use Rattle.dcm_stream.proofs.Runs.Parts.{feeds_on}

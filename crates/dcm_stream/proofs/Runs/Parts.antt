@@ -17,8 +17,8 @@ use Rattle.dcm_base.proofs.Writes.Runs.{goes_on, goes_failed}
 use Rattle.dcm_head.specs.declared.head.Head.{Head}
 use Rattle.dcm_stream.specs.declared.token.Bar.{Bar}
 use Rattle.dcm_stream.specs.declared.cursor.Cursor.{Cursor}
-use Rattle.dcm_stream.specs.declared.machine.Halt.{Halt}
-use Rattle.dcm_stream.specs.declared.machine.Halt.TheVariants.{Refused, Output}
+use Rattle.dcm_stream.specs.Halts.{Halt}
+use Rattle.dcm_base.specs.declared.stopped.Stopped.TheVariants.{Refused, Output}
 use Rattle.dcm_stream.specs.Reading.{Reading, halted, closing, settled, head_read, byte_read, read_byte, Opened, Sign, sign_reads, sign_ends, left_levels, left_sign, value_left}
 use Rattle.dcm_stream.specs.Judging.{bars_head}
 use Rattle.dcm_stream.specs.Machine.{steps, steps_write, went, halt_of, Comes, settles, settles_value, value_read, Feeds, held_sign}

@@ -11,8 +11,8 @@ use Rattle.dcm_base.specs.Reading.Reads.{INPUT_LIMIT}
 use Rattle.dcm_head.specs.declared.head.Head.{Head}
 use Rattle.dcm_stream.specs.declared.token.Bar.{Bar}
 use Rattle.dcm_stream.specs.declared.cursor.Cursor.{Cursor}
-use Rattle.dcm_stream.specs.declared.machine.Halt.{Halt}
-use Rattle.dcm_stream.specs.declared.machine.Halt.TheVariants.{Refused}
+use Rattle.dcm_stream.specs.Halts.{Halt}
+use Rattle.dcm_base.specs.declared.stopped.Stopped.TheVariants.{Refused}
 use Rattle.dcm_stream.specs.Bounds.{are_nested}
 use Rattle.dcm_stream.specs.Reading.{Reading, halted, Sign}
 use Rattle.dcm_stream.specs.Machine.{reading, Stands, Comes, value_read, Feeds, bytes_read, held_sign}

@@ -14,10 +14,10 @@ use Rattle.dcm_base.proofs.Writes.Runs.{goes_on, goes_failed}
 use Rattle.dcm_head.specs.declared.head.Head.{Head}
 use Rattle.dcm_stream.specs.declared.token.Bar.{Bar}
 use Rattle.dcm_stream.specs.declared.cursor.Cursor.{Cursor}
-use Rattle.dcm_stream.specs.declared.machine.Halt.{Halt}
-use Rattle.dcm_stream.specs.declared.machine.Halt.TheVariants.{Refused, Output}
+use Rattle.dcm_stream.specs.Halts.{Halt}
+use Rattle.dcm_base.specs.declared.stopped.Stopped.TheVariants.{Refused, Output}
 use Rattle.dcm_base.specs.declared.syntax.Syntax.{Syntax}
-use Rattle.dcm_stream.specs.Reading.{Reading, start_of, halted, Opened, closing, settled, head_opens, head_read, byte_read, read_byte, sign_reads, value_left}
+use Rattle.dcm_stream.specs.Reading.{Reading, start_of, halted, Opened, settled, head_opens, head_read, byte_read, read_byte, sign_reads, value_left}
 use Rattle.dcm_stream.specs.Judging.{bars_head}
 use Rattle.dcm_stream.specs.Machine.{steps, steps_write, reading, next_offset, Stands, Feeds}
 use Rattle.dcm_stream.proofs.Runs.Bounds.{stays_small, start_small}

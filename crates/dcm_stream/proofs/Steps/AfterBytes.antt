@@ -12,7 +12,7 @@ use Rattle.dcm_base.specs.Reading.Place.{room, passes, levels, tree_levels, valu
 use Rattle.dcm_base.specs.Steps.Atoms.{Atom, value_byte, front_atoms, Shows}
 use Rattle.dcm_base.specs.Reading.Stop.{Stop, complete, refused, Bar, HeadBar, stop_at, value_stop, innermost_stop, place_stop, is_undecided}
 use Rattle.dcm_base.specs.Reading.Reads.{INPUT_LIMIT}
-use Rattle.dcm_base.proofs.DataSets.Path.{Path, at_top, in_item, plug, syntax_of, behind, Placed}
+use Rattle.dcm_base.proofs.DataSets.Path.{Path, at_top, in_item, plug, behind, Placed}
 use Rattle.dcm_base.proofs.DataSets.Levels.{around, plug_levels}
 use Rattle.dcm_base.proofs.DataSets.Stops.{set_level, value_open_plug}
 use Rattle.dcm_base.proofs.DataSets.Shown.{front_shown}

@@ -9,8 +9,8 @@ use Rattle.dcm_base.specs.Steps.Steps.{outputs, Goes}
 use Rattle.dcm_base.specs.Reading.Stop.{Stop, complete, refused}
 use Rattle.dcm_devices.proofs.Writes.Puts.{append_known_none}
 use Rattle.dcm_stream.specs.declared.cursor.Cursor.{Cursor}
-use Rattle.dcm_stream.specs.declared.machine.Halt.{Halt}
-use Rattle.dcm_stream.specs.declared.machine.Halt.TheVariants.{Refused, Output}
+use Rattle.dcm_stream.specs.Halts.{Halt}
+use Rattle.dcm_base.specs.declared.stopped.Stopped.TheVariants.{Refused, Output}
 use Rattle.dcm_stream.specs.Reading.{finish, end_shows}
 use Rattle.dcm_stream.specs.Machine.{reading, may_end, went, EndsWith}
 

@@ -10,7 +10,7 @@ use Rattle.dcm_base.specs.declared.level.Level.{Level}
 use Rattle.dcm_base.specs.Reading.Place.{room, passes, levels, tree_levels}
 use Rattle.dcm_base.specs.Steps.Atoms.{Atom, value_byte, closes_leaf, front_atoms}
 use Rattle.dcm_base.proofs.Conversions.Order.{order_twice, length-order}
-use Rattle.dcm_base.proofs.DataSets.Path.{then_trees, Path, plug, syntax_of, behind, Placed, byte_comes, leaf_closes, fragment_byte, fragment_closes}
+use Rattle.dcm_base.proofs.DataSets.Path.{then_trees, Path, plug, behind, Placed, byte_comes, leaf_closes, fragment_byte, fragment_closes}
 use Rattle.dcm_base.proofs.DataSets.Levels.{around, plug_levels}
 use Rattle.dcm_base.proofs.DataSets.Stops.{set_level}
 use Rattle.dcm_base.proofs.DataSets.Row.{byte_comes_atoms, leaf_closes_atoms}

@@ -1,7 +1,5 @@
-use Rattle.std.proofs.Common.{◌≡◌, ◌∙◌, ◌-◌, ◌<◌, ◌≤◌, ap, sym, ℕ, length, get_or, true, false, arith}
+use Rattle.std.proofs.Common.{◌∙◌, ◌-◌, ap, sym, ℕ, get_or, arith}
 use Rattle.std.specs.Prelude.{◌==◌, ◌&&◌, bytes_eq, ◌∷◌, []}
-use Rattle.dcm_base.specs.Tables.Representation.{unit}
-use Rattle.dcm_base.specs.Tables.Syntax.{is_big}
 use Rattle.dcm_stream.proofs.Containers.SignBytes.{begins, turned_is_one, plain_one, single_one, short_one}
 use Rattle.dcm_stream.proofs.sign.is_one.Goals as goal
 use Rattle.dcm_stream.proofs.sign.is_one.Goals.{else-is_big-via-then-is_big+then-unit-gt1+else-first-unit, else-is_big-via-then-is_big+else-unit-gt1, else-is_big-via-else-is_big}

@@ -1,5 +1,4 @@
-use Rattle.std.proofs.Common.{sym}
-use Rattle.dcm_stream.proofs.Containers.Rooms.{last_popped, syntax_summed, syntax_levels}
+use Rattle.dcm_stream.proofs.Containers.Rooms.{last_popped, syntax_summed}
 use Rattle.dcm_stream.proofs.levels.OpenLevels.set_syntax.Goals as goal
 
 -- neither an end nor a container changes

@@ -1,6 +1,4 @@
-use Rattle.std.proofs.Common.{◌≡◌, ◌∙◌, ◌-◌, ◌+◌, ◌≤◌, ◌++◌, ap, subst, ℕ, List, length, take, min, Result, Ok, Err, arith}
-use Rattle.std.specs.Prelude.{OnOk}
-use Rattle.std.specs.Result.{IsOk}
+use Rattle.std.proofs.Common.{◌≡◌, ◌∙◌, ◌-◌, ◌+◌, ◌≤◌, ◌++◌, ap, ℕ, List, length, take, min, arith}
 use Rattle.dcm_stream.specs.Reading.{Sign}
 use Rattle.dcm_stream.proofs.Containers.SignBytes.{kept_least, went_well}
 use Rattle.dcm_stream.proofs.sign.OpenSign.read.Goals as goal
