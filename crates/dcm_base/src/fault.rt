@@ -23,6 +23,7 @@ pub enum Fault {
     FragmentsBarred,
     CannotChange,
     TooLong,
+    IdentityStays,
 }
 
 impl Fault {
@@ -46,6 +47,7 @@ impl Fault {
             Fault::FragmentsBarred => "R13",
             Fault::CannotChange => "R14",
             Fault::TooLong => "R15",
+            Fault::IdentityStays => "R16",
         }
     }
 
@@ -69,6 +71,7 @@ impl Fault {
             Fault::FragmentsBarred => "fragments not allowed in the target syntax",
             Fault::CannotChange => "encapsulated syntax cannot be changed",
             Fault::TooLong => "input too long",
+            Fault::IdentityStays => "identity cannot be taken out",
         }
     }
 }
@@ -182,6 +185,7 @@ pub enum WordFault {
     WrongPaths,
     OptionsApart,
     SamePath,
+    BadKey,
 }
 
 impl WordFault {
@@ -196,6 +200,7 @@ impl WordFault {
             WordFault::WrongPaths => "V4",
             WordFault::OptionsApart => "V5",
             WordFault::SamePath => "V6",
+            WordFault::BadKey => "V7",
         }
     }
 
@@ -210,6 +215,7 @@ impl WordFault {
             WordFault::WrongPaths => "wrong number of paths",
             WordFault::OptionsApart => "options do not go together",
             WordFault::SamePath => "input and output are the same path",
+            WordFault::BadKey => "key is not 16 to 4096 bytes",
         }
     }
 }

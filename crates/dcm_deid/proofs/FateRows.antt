@@ -1,10 +1,8 @@
 -- Fates of some elements.
 use Rattle.std.proofs.Common.{◌≡◌, refl, true, false}
-use Rattle.dcm_base.specs.declared.tag.Tag.{Tag}
 use Rattle.dcm_base.specs.Tables.Dictionary as D
-use Rattle.dcm_deid.specs.declared.fate.Fate.TheVariants.{Remove, Empty, Replace, Uid, Keep}
+use Rattle.dcm_deid.specs.declared.fate.Fate.TheVariants.{Remove, Empty, Keep}
 use Rattle.dcm_deid.specs.declared.fate.Options.{Options}
-use Rattle.dcm_deid.specs.declared.fate.Depth.{Depth}
 use Rattle.dcm_deid.specs.declared.fate.Depth.TheVariants.{Outermost, Inside}
 use Rattle.dcm_deid.specs.declared.fate.ReadAs.TheVariants.{AsBytes}
 use Rattle.dcm_deid.specs.Fate.{actions, fate_as}
@@ -30,3 +28,8 @@ date_kept = refl
 opaque_one : fate_as none Inside AsBytes (record { group = 0x0008; element = 0x1140 }) ≡ Remove
 unfolding fate_as D.vr_in D.element_in D.elements_in D.entries D.ambiguous actions
 opaque_one = refl
+
+-- SmallestImagePixelValue, which the standard leaves between US and SS
+between_two : fate_as none Inside AsBytes (record { group = 0x0028; element = 0x0106 }) ≡ Keep
+unfolding fate_as D.vr_in D.element_in D.elements_in D.entries D.ambiguous actions
+between_two = refl

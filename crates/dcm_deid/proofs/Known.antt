@@ -1,12 +1,13 @@
 -- The fate of an element by what the dictionary says of it.
-use Rattle.std.proofs.Common.{◌≡◌, ℕ, Bool, true, false, ◌&&◌, ◌||◌, not, ◌==◌, if◌then◌else◌, List, Option, Some, None, refl, ◌∙◌, sym, ap}
+use Rattle.std.proofs.Common.{◌≡◌, ℕ, Bool, true, false, ◌&&◌, ◌||◌, not, ◌==◌, if◌then◌else◌, List, Option, Some, None, refl}
 use Rattle.std.specs.Prelude.{find}
+use Rattle.std.specs.Option.{option_map_or}
 use Rattle.dcm_base.specs.declared.tag.Tag.{Tag}
 use Rattle.dcm_base.specs.declared.vr.Vr.{Vr}
 use Rattle.dcm_base.specs.declared.dictionary.Dictionary.TheVariants.{Standard}
 use Rattle.dcm_base.specs.Tables.Tag.{tag_number}
 use Rattle.dcm_base.specs.Tables.Representation.{is_sequence}
-use Rattle.dcm_base.specs.Tables.Dictionary.{element_in, vr_in}
+use Rattle.dcm_base.specs.Tables.Dictionary.{element_in, ambiguous_in, known_vr_in, first_vr, unlisted_vr, vr_in}
 use Rattle.dcm_deid.specs.declared.fate.Fate.{Fate}
 use Rattle.dcm_deid.specs.declared.fate.Fate.TheVariants.{Remove}
 use Rattle.dcm_deid.specs.declared.fate.Options.{Options}
@@ -25,10 +26,10 @@ bytes_gone : (opaque : Bool) (f : Fate) → Remove ≡ f → Remove ≡ (if opaq
 bytes_gone true f e = refl
 bytes_gone false f e = e
 
-fate_gone : (options : Options) (depth : Depth) (tag : Tag) → element_in Standard tag ≡ None → Remove ≡ fate options depth tag
+fate_gone : (options : Options) (depth : Depth) (tag : Tag) → known_vr_in Standard tag ≡ None → Remove ≡ fate options depth tag
 fate_gone options depth tag none = rw none (items_gone (is_put_at options depth tag) (tag.element == 0) (fate_of_known options tag))
 
-pub unknown_goes : (options : Options) (depth : Depth) (read : ReadAs) (tag : Tag) → element_in Standard tag ≡ None → Remove ≡ fate_as options depth read tag
+pub unknown_goes : (options : Options) (depth : Depth) (read : ReadAs) (tag : Tag) → known_vr_in Standard tag ≡ None → Remove ≡ fate_as options depth read tag
 unfolding fate_as
 unknown_goes options depth AsItems tag none = fate_gone options depth tag none
 unknown_goes options depth AsBytes tag none =
@@ -49,11 +50,21 @@ bytes_fate false put zero f = items_fate put zero f
 abbrev table_fate : Options → Tag → Vr → Fate
 table_fate options tag vr = fate_in_table options (find (λ (a : Action). a.0 == tag_number tag) actions) vr
 
-pub known_fate : (options : Options) (depth : Depth) (read : ReadAs) (tag : Tag) (e : Vr × List ℕ) → element_in Standard tag ≡ Some e
-    → (if is_removed options depth read tag e.0 then Remove else table_fate options tag e.0) ≡ fate_as options depth read tag
-unfolding fate_as vr_in
-known_fate options depth AsItems tag e is = rw is (items_fate (is_put_at options depth tag) (tag.element == 0) (table_fate options tag e.0))
-known_fate options depth AsBytes tag e is = rw is (bytes_fate (is_sequence e.0) (is_put_at options depth tag) (tag.element == 0) (table_fate options tag e.0))
+-- the representation of one that it has is the one by which an implicit head is read
+first_known : (a b : Option (Vr × List ℕ)) (other vr : Vr) → first_vr a b ≡ Some vr → option_map_or (λ e. e.0) a (option_map_or (λ e. e.0) b other) ≡ vr
+first_known None None other vr is = cc
+first_known None (Some e) other vr is = cc
+first_known (Some e) b other vr is = cc
+
+vr_known : (tag : Tag) (vr : Vr) → known_vr_in Standard tag ≡ Some vr → vr_in Standard tag ≡ vr
+unfolding vr_in
+vr_known tag vr is = first_known (element_in Standard tag) (ambiguous_in Standard tag) (unlisted_vr tag) vr is
+
+pub known_fate : (options : Options) (depth : Depth) (read : ReadAs) (tag : Tag) (vr : Vr) → known_vr_in Standard tag ≡ Some vr
+    → (if is_removed options depth read tag vr then Remove else table_fate options tag vr) ≡ fate_as options depth read tag
+unfolding fate_as
+known_fate options depth AsItems tag vr is = rw (is, vr_known tag vr is) (items_fate (is_put_at options depth tag) (tag.element == 0) (table_fate options tag vr))
+known_fate options depth AsBytes tag vr is = rw (is, vr_known tag vr is) (bytes_fate (is_sequence vr) (is_put_at options depth tag) (tag.element == 0) (table_fate options tag vr))
 
 pub chosen : (b : Bool) (f : Fate) → b ≡ true → Remove ≡ (if b then Remove else f)
 chosen b f e = rw e refl

@@ -2,3 +2,23 @@ pub mod Rows
 pub mod Known
 pub mod Trees
 mod FateRows
+pub mod Taking
+pub mod Passing
+pub mod Through
+pub mod HeldValues
+pub mod Forms
+pub mod Dropped
+pub mod Kept
+pub mod Walked
+pub mod OpenParts
+pub mod Bars
+pub mod PutOnes
+pub mod Weave
+pub mod Woven
+pub mod Placing
+pub mod PutInPlace
+pub mod AtEnd
+pub mod AtOpen
+pub mod SaidOnes
+pub mod Deidentified
+pub mod PixelsTold

@@ -1,5 +1,5 @@
 -- The rows of the table: their numbers ascend, and one is found by its number.
-use Rattle.std.proofs.Common.{◌≡◌, ℕ, Bor, Bool, true, false, ◌==◌, if◌then◌else◌, List, [], ◌∷◌, map, Option, Some, None, refl, ◌∙◌, sym, ap, subst}
+use Rattle.std.proofs.Common.{◌≡◌, ℕ, Bor, Bool, true, false, ◌==◌, if◌then◌else◌, List, [], ◌∷◌, map, Option, Some, refl, ◌∙◌, sym, ap, subst}
 use Rattle.std.specs.Prelude.{find, option_map}
 use Rattle.std.specs.List.Sorted.{IsStrictlyIncreasing}
 use Rattle.dcm_base.proofs.Dictionaries.ByNumber.{ascend, increasing}

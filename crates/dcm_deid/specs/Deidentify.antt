@@ -2,9 +2,9 @@
 use Rattle.std.specs.Prelude.{ℕ, List, [], codes, replicate}
 use Rattle.dcm_base.specs.declared.tag.Tag.{Tag}
 use Rattle.dcm_base.specs.declared.vr.Vr.{Vr}
-use Rattle.dcm_base.specs.declared.vr.Vr.TheVariants.{AE, AS, AT, CS, DA, DS, DT, FD, FL, IS, LO, LT, OB, OD, OF, OL}
-use Rattle.dcm_base.specs.declared.vr.Vr.TheVariants.{OV, OW, PN, SH, SL, SQ, SS, ST, SV, TM, UC, UI, UL, UN, UR, US}
-use Rattle.dcm_base.specs.declared.vr.Vr.TheVariants.{UT, UV}
+use Rattle.dcm_base.specs.declared.vr.Vr.TheVariants.{AE, AS, AT, CS, DA, DS, DT, IS, LO, LT, OB}
+use Rattle.dcm_base.specs.declared.vr.Vr.TheVariants.{PN, SH, SQ, ST, TM, UC, UI, UN, UR}
+use Rattle.dcm_base.specs.declared.vr.Vr.TheVariants.{UT}
 use Rattle.dcm_base.specs.declared.length.Length.TheVariants.{Undefined}
 use Rattle.dcm_base.specs.Tree.Tree.{Trees, no_tree, leaf, sequence, fragments, Items, no_item, item}
 use Rattle.dcm_base.specs.Tables.Representation.{pad, unit}
@@ -14,7 +14,7 @@ use Rattle.dcm_deid.specs.declared.fate.Fate.{Fate}
 use Rattle.dcm_deid.specs.declared.fate.Fate.TheVariants.{Remove, Empty, Replace, Uid, Keep}
 use Rattle.dcm_deid.specs.declared.fate.Options.{Options}
 use Rattle.dcm_deid.specs.declared.fate.Depth.{Depth}
-use Rattle.dcm_deid.specs.declared.fate.Depth.TheVariants.{Outermost, Inside}
+use Rattle.dcm_deid.specs.declared.fate.Depth.TheVariants.{Inside}
 use Rattle.dcm_deid.specs.declared.fate.ReadAs.{ReadAs}
 use Rattle.dcm_deid.specs.declared.fate.ReadAs.TheVariants.{AsBytes, AsItems}
 use Rattle.dcm_deid.specs.Fate.{fate_as}

@@ -8,9 +8,9 @@ use Rattle.dcm_base.specs.declared.vr.Vr.TheVariants.{DA, TM, DT, PN}
 use Rattle.dcm_base.specs.declared.dictionary.Dictionary.TheVariants.{Standard}
 use Rattle.dcm_base.specs.Tables.Tag.{tag_number, is_tag}
 use Rattle.dcm_base.specs.Tables.Representation.{is_sequence}
-use Rattle.dcm_base.specs.Tables.Dictionary.{element_in, vr_in}
+use Rattle.dcm_base.specs.Tables.Dictionary.{known_vr_in, vr_in}
 use Rattle.dcm_deid.specs.declared.fate.Fate.{Fate}
-use Rattle.dcm_deid.specs.declared.fate.Fate.TheVariants.{Remove, Empty, Replace, Uid, Keep}
+use Rattle.dcm_deid.specs.declared.fate.Fate.TheVariants.{Remove, Empty, Keep}
 use Rattle.dcm_deid.specs.declared.fate.Options.{Options}
 use Rattle.dcm_deid.specs.declared.fate.Retain.{Retain}
 use Rattle.dcm_deid.specs.declared.fate.Retain.TheVariants.{Uids, Device, Institution, Patient, Dates}
@@ -71,7 +71,7 @@ is_some_element None = false
 is_some_element (Some x) = true
 
 abbrev pub is_known : Tag → Bool
-is_known tag = not (tag.element == 0) && is_some_element (element_in Standard tag)
+is_known tag = not (tag.element == 0) && is_some_element (known_vr_in Standard tag)
 
 abbrev pub fate : Options → Depth → Tag → Fate
 fate options depth tag = if is_put_at options depth tag || not (is_known tag) then Remove else fate_of_known options tag

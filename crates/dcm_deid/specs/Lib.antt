@@ -4,3 +4,9 @@ pub mod Alike
 pub mod Remains
 pub mod Saying
 pub mod Pairs
+pub mod Pixels
+pub mod DeidentifySink
+pub mod Deidentifying
+pub mod Through
+pub mod Laws
+pub mod Meta

@@ -1,6 +1,5 @@
 -- What is left of a data set without identity.
 use Rattle.std.specs.Prelude.{◌≡◌, ℕ, List, []}
-use Rattle.dcm_base.specs.declared.tag.Tag.{Tag}
 use Rattle.dcm_base.specs.declared.vr.Vr.{Vr}
 use Rattle.dcm_base.specs.Tree.Tree.{Trees, no_tree, leaf, sequence, fragments, Items, no_item, item}
 use Rattle.dcm_base.specs.Tables.Representation.{pad}
@@ -9,8 +8,7 @@ use Rattle.dcm_deid.specs.declared.fate.Fate.{Fate}
 use Rattle.dcm_deid.specs.declared.fate.Fate.TheVariants.{Remove, Empty, Replace, Uid, Keep}
 use Rattle.dcm_deid.specs.declared.fate.Options.{Options}
 use Rattle.dcm_deid.specs.declared.fate.Depth.{Depth}
-use Rattle.dcm_deid.specs.declared.fate.Depth.TheVariants.{Outermost, Inside}
-use Rattle.dcm_deid.specs.declared.fate.ReadAs.{ReadAs}
+use Rattle.dcm_deid.specs.declared.fate.Depth.TheVariants.{Inside}
 use Rattle.dcm_deid.specs.declared.fate.ReadAs.TheVariants.{AsBytes, AsItems}
 use Rattle.dcm_deid.specs.Fate.{fate_as}
 use Rattle.dcm_deid.specs.Deidentify.{Renaming, dummy, Fates, by_fate}

@@ -5,7 +5,7 @@ ghost use Rattle.dcm_base.specs.Tables.Tag.{tag_number};
 ghost use Rattle.dcm_deid.specs.Fate as spec;
 
 use crate::table::{ACTIONS, Action};
-use dcm_base::{Dictionary, Tag, Vr, element_in};
+use dcm_base::{Dictionary, Tag, Vr, known_vr_in};
 
 /// What becomes of an element.
 #[derive(Clone, Copy, Debug, PartialEq, Eq)]
@@ -158,9 +158,9 @@ fn is_removed(options: &Options, depth: Depth, read: ReadAs, tag: Tag, vr: Vr) -
 pub fn fate_of(options: &Options, depth: Depth, read: ReadAs, tag: Tag) -> Fate
     ensures { result ≡ spec.fate_as options.now depth read tag }
 {
-    match element_in(Dictionary::Standard, tag) {
-        Some((vr, _)) if is_removed(options, depth, read, tag, vr) => Fate::Remove,
-        Some((vr, _)) => fate_of_known(options, tag, vr),
+    match known_vr_in(Dictionary::Standard, tag) {
+        Some(vr) if is_removed(options, depth, read, tag, vr) => Fate::Remove,
+        Some(vr) => fate_of_known(options, tag, vr),
         None => Fate::Remove,
     }
 }

@@ -19,6 +19,7 @@ ghost use Rattle.dcm_base.specs.Tables.Dictionary.{vr_in};
 ghost use Rattle.dcm_base.specs.Tables.Representation.{is_sequence};
 ghost use Rattle.dcm_base.specs.declared.dictionary.Dictionary.TheVariants.{Standard};
 ghost use Rattle.dcm_deid.specs.declared.fate.Fate.TheVariants.{Remove};
+ghost use Rattle.dcm_deid.specs.Laws.{BarSteps, DeidentifySteps, PixelSteps};
 ghost use Rattle.dcm_deid.specs.Pairs.{Pairs};
 ghost use Rattle.dcm_deid.specs.Remains.{IsClean, kept_of};
 
@@ -65,6 +66,22 @@ pub fn nothing_flows_out()
 pub fn pairs_are_alike()
     ensures { (options : Options) (depth : Depth) (f g : Trees) → Pairs (fate_as options) depth f g
         → Alike options depth f g }
+{}
+
+/// The bar of the sink is that of tags that ascend and of identity that can be taken out.
+pub fn bar_steps()
+    ensures { BarSteps }
+{}
+
+/// What the sink passes on of the atoms of a data set, whole or as far as it was read, shows it without identity.
+pub fn deidentify_steps()
+    ensures { DeidentifySteps }
+{}
+
+/// After a data set that was read without fault, the sink knows whether its pixels may show identity, as far as what
+/// was passed on says so.
+pub fn pixel_steps()
+    ensures { PixelSteps }
 {}
 
 /// What stays has a tag of the dictionary, and if it was read as bytes it is no sequence there.

@@ -1,9 +1,18 @@
 //! Taking identity out of a data set (PS3.15 annex E).
 #![tactic(auto)]
 
+mod deidentifier;
+mod dummy;
 mod fate;
+mod held;
+mod key;
 pub mod laws;
+mod meta;
+mod said;
+mod sink;
 mod table;
 
 pub use fate::{Depth, Fate, Options, ReadAs, Retain, fate_of};
+pub use meta::{MetaFate, MetaWithoutIdentity, NO_PREAMBLE, meta_fate};
+pub use sink::DeidentifySink;
 pub use table::{ACTIONS, Action};

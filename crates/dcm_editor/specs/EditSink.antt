@@ -7,9 +7,7 @@ use Rattle.dcm_base.specs.declared.length.Length.{Length}
 use Rattle.dcm_base.specs.Tables.Syntax.{Little}
 use Rattle.dcm_base.specs.Tables.Tag.{is_above}
 use Rattle.dcm_base.specs.Tree.Tree.{no_tree, leaf}
-use Rattle.dcm_base.specs.Tree.Front.{Front, front, OpenTree, nothing_open, open_leaf, open_sequence, open_fragments}
-use Rattle.dcm_base.specs.Tree.Front.{OpenItem, no_open_item, open_item}
-use Rattle.dcm_base.specs.Bytes.Spelling.{reached_tag}
+use Rattle.dcm_base.specs.Tree.Front.{Front}
 use Rattle.dcm_base.specs.Steps.Atoms.{Atom, opens, value_byte, closes_leaf, opens_item, closes_item, closes_sequence}
 use Rattle.dcm_base.specs.Steps.Atoms.{opens_fragment, ends, Shows, trees_then}
 use Rattle.dcm_base.specs.Reading.Bars.{ascending_bar}
@@ -186,19 +184,3 @@ abbrev pub BarsShallow : {S : Type 0} → (S → Head → Option SinkBar) → (S
 BarsShallow bars takes first = (f : Front) (atoms : List Atom) (tag : Tag) (vr : Vr) (declared : Length)
     → StaysShallow 0 atoms → Shows f atoms
     → bars_by bars takes first atoms tag vr declared ≡ ascending_bar f tag vr declared
-
--- a data set whose reached tags are those of its last elements
-abbrev mutual
-  pub reached_anew : Front → Front
-  reached_anew (front whole open_tree reached closed) =
-      front whole (open_anew open_tree) (reached_tag whole open_tree) closed
-
-  pub open_anew : OpenTree → OpenTree
-  open_anew nothing_open = nothing_open
-  open_anew (open_leaf tag vr size value) = open_leaf tag vr size value
-  open_anew (open_sequence tag vr declared items last) = open_sequence tag vr declared items (item_anew last)
-  open_anew (open_fragments tag vr values last) = open_fragments tag vr values last
-
-  pub item_anew : OpenItem → OpenItem
-  item_anew no_open_item = no_open_item
-  item_anew (open_item declared set) = open_item declared (reached_anew set)

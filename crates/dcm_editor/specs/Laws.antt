@@ -21,7 +21,8 @@ use Rattle.dcm_stream.specs.Driven.{bars_by}
 use Rattle.dcm_sinks.specs.EncodeSink.{encode_start, encode_step, encode_writes}
 use Rattle.dcm_sinks.specs.Laws.{StaysShallow}
 use Rattle.dcm_edits.specs.Edit.{Edit, edited, erase_all, erase_private, found, modify_all}
-use Rattle.dcm_editor.specs.EditSink.{begun, edit_bar, next, passed, reached_anew}
+use Rattle.dcm_base.specs.Steps.Anew.{reached_anew}
+use Rattle.dcm_editor.specs.EditSink.{begun, edit_bar, next, passed}
 use Rattle.dcm_edits.specs.Bounds.{AreWithin, HaveShortIndexes, HaveValues}
 use Rattle.dcm_edits.specs.EditWords.{meant_edits_in}
 use Rattle.dcm_editor.specs.Everywhere.{Among, EverywhereIn, IsOther, IsPublic, IsWrittenJust}

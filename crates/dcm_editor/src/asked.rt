@@ -1,7 +1,7 @@
 // What an edit asks of an open data set, which lies within so many items.
 ghost use Rattle.std.specs.Prelude.{◌≡◌, ◌&&◌, ◌||◌, ◌==◌, ◌<◌, ◌^◌};
 ghost use Rattle.std.specs.List.{list_all};
-ghost use Rattle.dcm_base.specs.Tables.Tag.{same_tag, below, is_private as is_private_tag};
+ghost use Rattle.dcm_base.specs.Tables.Tag.{same_tag, is_private as is_private_tag};
 ghost use Rattle.dcm_edits.specs.Edit as spec;
 ghost use Rattle.dcm_editor.specs.EditSink.{has_place as has_place_spec, makes as makes_spec};
 ghost use Rattle.dcm_editor.specs.Asking as asking;
@@ -69,14 +69,6 @@ fn is_same(tag: Tag, other: Tag) -> bool
     tag.group == other.group && tag.element == other.element
 }
 
-/// Tags are ordered by group, and within a group by element.
-#[inline(always)]
-pub fn is_below(tag: Tag, other: Tag) -> bool
-    ensures { result ≡ below tag other }
-{
-    tag.group < other.group || (tag.group == other.group && tag.element < other.element)
-}
-
 fn selects(index: Index, item: u32) -> bool
     ensures { result ≡ spec.selects (index_of index) item }
 {
@@ -94,11 +86,11 @@ impl Gap {
     {
         let is_above = match self.last {
             None => true,
-            Some(last) => is_below(last, tag),
+            Some(last) => last.is_below(tag),
         };
         let is_under = match self.next {
             None => true,
-            Some(next) => is_below(tag, next),
+            Some(next) => tag.is_below(next),
         };
         is_above && is_under
     }

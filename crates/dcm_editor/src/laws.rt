@@ -6,7 +6,7 @@ ghost use Rattle.dcm_base.specs.Conversion.Recode.{recode};
 ghost use Rattle.dcm_base.specs.declared.dictionary.Dictionary.{Dictionary};
 ghost use Rattle.dcm_base.specs.declared.syntax.Syntax.{Syntax};
 ghost use Rattle.dcm_edits.specs.Edit.{Edit, edited};
-ghost use Rattle.dcm_editor.specs.EditSink.{reached_anew};
+ghost use Rattle.dcm_base.specs.Steps.Anew.{reached_anew};
 ghost use Rattle.dcm_edits.specs.EditWords.{meant_edits_in};
 ghost use Rattle.dcm_editor.specs.Laws as laws;
 ghost use Rattle.dcm_edits.specs.Overlap.{AreApart, ArePublic};

@@ -7,7 +7,7 @@ ghost use Rattle.dcm_edits.specs.Meaning.{edit_of};
 ghost use Rattle.dcm_edits.specs.Together as together;
 ghost use Rattle.dcm_editor.specs.declared.asked.Question.TheVariants.{Meets};
 
-use crate::asked::{Fate, Gap, New, Question, answers, fate_by, is_below, meets, new_element};
+use crate::asked::{Fate, Gap, New, Question, answers, fate_by, meets, new_element};
 use crate::place::Asked;
 use dcm_base::Tag;
 use dcm_edits::{Edit, MOST_EDITS};
@@ -149,7 +149,7 @@ fn lesser<'e, A: Allocator>(first: Option<New<'e, A>>, other: New<'e, A>) -> New
         ≡ asking.lesser (asking.seen_of first.entry) (asking.seen_of (Some other.entry)) }
 {
     match first {
-        Some(new) if !is_below(other.tag(), new.tag()) => new,
+        Some(new) if !other.tag().is_below(new.tag()) => new,
         _ => other,
     }
 }

@@ -14,7 +14,7 @@ ghost use Rattle.dcm_edits.specs.Meaning.{edit_of};
 ghost use Rattle.dcm_editor.specs.Outputs as outputs;
 ghost use Rattle.dcm_editor.specs.Through.{through_step, through_writes, through_bar};
 
-use crate::asked::{Fate, Gap, is_below};
+use crate::asked::{Fate, Gap};
 use crate::editor::Editor;
 use crate::mask::unset_bits;
 use crate::new::{put_leaf_at, put_new};
@@ -239,7 +239,7 @@ impl<'e, S: Sink, A: Allocator> Sink for EditSink<'e, S, A> {
 
     fn accepts(&self, head: &Head) -> Result<(), Bar> {
         match self.editor.level.last {
-            Some(last) if !is_below(last, head.tag) => Err(Bar::Order),
+            Some(last) if !last.is_below(head.tag) => Err(Bar::Order),
             _ => Ok(()),
         }
     }

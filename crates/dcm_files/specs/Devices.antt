@@ -29,6 +29,13 @@ pub record MayDo (S I O : Type 0) : Type 1 where
   pub stdout : S → Result (Opened O) Error → S → Type 0
   -- of a path that is written
   pub creates : S → List ℕ → Result (Opened O) Error → S → Type 0
+  -- of a path: what is there
+  pub looks : S → List ℕ → Result (Option FileKind) Error → S → Type 0
+  -- of a path that is written, and at which nothing was
+  pub makes : S → List ℕ → Result (Opened O) Error → S → Type 0
+  -- from a path to another one
+  pub moves : S → (from to : List ℕ) → Result (Unit {0}) Error → S → Type 0
+  pub removes : S → List ℕ → Result (Unit {0}) Error → S → Type 0
   -- takes an output back, as the program leaves it
   pub closes : S → O → S → Type 0
 
@@ -41,6 +48,10 @@ anything = record {
   releases = λ before d after. Unit {0};
   stdout = λ before r after. Unit {0};
   creates = λ before path r after. Unit {0};
+  looks = λ before path r after. Unit {0};
+  makes = λ before path r after. Unit {0};
+  moves = λ before from to r after. Unit {0};
+  removes = λ before path r after. Unit {0};
   closes = λ before d after. Unit {0};
 }
 

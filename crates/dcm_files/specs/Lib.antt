@@ -2,3 +2,4 @@ pub mod Devices
 pub mod Output
 pub mod Pieces
 pub mod Memory
+pub mod Part

@@ -1,8 +1,9 @@
 -- What a system over files in memory does.
-use Rattle.std.specs.Prelude.{◌≡◌, ℕ, List, length, find, bytes_eq, Option, Some, None, Result, IsOkAnd, IsErrAnd}
+use Rattle.std.specs.Prelude.{◌≡◌, ℕ, List, length, find, bytes_eq, Option, Some, None, Result, Ok, IsOkAnd, IsErrAnd}
+use Rattle.std.specs.Option.{option_map}
 use Rattle.std.specs.IoError.{error_kind}
 use Rattle.std.specs.declared.io.Error.{Error}
-use Rattle.std.specs.declared.io.ErrorKind.TheVariants.{NotFound, StorageFull}
+use Rattle.std.specs.declared.io.ErrorKind.TheVariants.{AlreadyExists, NotFound, StorageFull}
 use Rattle.dcm_devices.specs.declared.memory.MemIn.{MemIn}
 use Rattle.dcm_devices.specs.declared.memory.MemOut.{MemOut}
 use Rattle.dcm_devices.specs.declared.memory.Measured.{Measured}
@@ -36,7 +37,12 @@ abbrev pub GivesRoom : Option MemOut → FileKind → Result (Opened Measured) E
 GivesRoom (Some room) kind r = IsOkAnd r (λ d. (d.device.out ≡ room) × (d.kind ≡ kind))
 GivesRoom None kind r = IsErrAnd r (λ e. error_kind e ≡ StorageFull)
 
--- what its calls do
+-- the room is written where no file is; else that is an error
+abbrev pub MakesFile : MemSystem → Option MemFile → Result (Opened Measured) Error → MemSystem → Type 0
+MakesFile before None r after = GivesRoom before.room (Regular 1 0 0) r × (after ≡ record before { room = None })
+MakesFile before (Some f) r after = IsErrAnd r (λ e. error_kind e ≡ AlreadyExists) × (after ≡ before)
+
+-- what its calls do. A file that is moved is still the one that was written, and one that is removed is not
 abbrev pub may_do : MayDo MemSystem MemIn Measured
 may_do = record {
   words = λ before r after. (r ≡ None) × (after ≡ before);
@@ -46,5 +52,9 @@ may_do = record {
   stdout = λ before r after. GivesRoom before.room Other r × (after ≡ record before { room = None });
   creates = λ before path r after. GivesRoom before.room (kind_written (file_named before.files.now path)) r
       × (after ≡ record before { room = None });
+  looks = λ before path r after. (r ≡ Ok (option_map kind_of (file_named before.files.now path))) × (after ≡ before);
+  makes = λ before path r after. MakesFile before (file_named before.files.now path) r after;
+  moves = λ before from to r after. (r ≡ Ok _) × (after ≡ before);
+  removes = λ before path r after. (r ≡ Ok _) × (after ≡ record before { written = None });
   closes = λ before d after. after ≡ record before { written = Some d.out };
 }

@@ -12,7 +12,7 @@ use std::io::ErrorKind;
 use std::{io, str};
 
 /// The path of a standard stream.
-const STANDARD: &[u8] = b"-";
+pub const STANDARD: &[u8] = b"-";
 
 /// What opens the devices of a program. Each call is a step of it, also where the call opens nothing.
 pub trait System {
@@ -49,13 +49,29 @@ pub trait System {
     fn create(&mut self, path: &str) -> io::Result<Opened<Self::Output>>
         ensures { may_do.creates self.old path.now result self.new };
 
+    /// What is at a path, or none where nothing is.
+    fn kind_at(&mut self, path: &str) -> io::Result<Option<FileKind>>
+        ensures { may_do.looks self.old path.now result self.new };
+
+    /// What is written at a path at which nothing was. An error where something is.
+    fn create_new(&mut self, path: &str) -> io::Result<Opened<Self::Output>>
+        ensures { may_do.makes self.old path.now result self.new };
+
+    /// Moves a file to another path, in place of the file that is there.
+    fn rename(&mut self, from: &str, to: &str) -> io::Result<()>
+        ensures { may_do.moves self.old from.now to.now result self.new };
+
+    /// Removes a file.
+    fn remove(&mut self, path: &str) -> io::Result<()>
+        ensures { may_do.removes self.old path.now result self.new };
+
     /// Closes an output. What one that failed still holds is not written again.
     fn close(&mut self, output: Self::Output)
         ensures { may_do.closes self.old output self.new };
 }
 
 /// A path as a text.
-fn path(word: &[u8]) -> io::Result<&str>
+pub(crate) fn path(word: &[u8]) -> io::Result<&str>
     ensures ok { IfOk result (λ path. path.now ≡ word.now) }
     ensures text { IfOk result (λ path. IsUtf8 word.now) }
     ensures err { IfErr result (λ e. ¬ (IsUtf8 word.now) × (error_kind e ≡ ErrorKind.InvalidFilename)) }
@@ -93,7 +109,7 @@ pub fn open_output<S: System>(system: &mut S, word: &[u8]) -> io::Result<Opened<
 
 /// Why an input and an output are not used together: both are one regular file, under whatever names; or they may be,
 /// since the system does not say what is read, and the output holds bytes.
-fn clash(input: FileKind, output: FileKind) -> Option<Unopened>
+pub(crate) fn clash(input: FileKind, output: FileKind) -> Option<Unopened>
     ensures { result ≡ spec.clash input output }
 {
     match (input, output) {

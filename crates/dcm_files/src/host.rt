@@ -188,6 +188,31 @@ impl System for Host {
         self.buffered(Right(OutputFile::new(file)), kind)
     }
 
+    fn kind_at(&mut self, path: &str) -> io::Result<Option<FileKind>> {
+        match fs::metadata(&self.rt, path) {
+            Ok(file) => Ok(Some(kind_of(&file))),
+            Err(e) if e.kind() == ErrorKind::NotFound => Ok(None),
+            Err(e) => Err(e),
+        }
+    }
+
+    fn create_new(&mut self, path: &str) -> io::Result<Opened<Self::Output>> {
+        let file = OpenOptions::new()
+            .write(true)
+            .create_new(true)
+            .open(&self.rt, path)?;
+        let kind = kind_of(&file.metadata()?);
+        self.buffered(Right(OutputFile::new(file)), kind)
+    }
+
+    fn rename(&mut self, from: &str, to: &str) -> io::Result<()> {
+        fs::rename(&self.rt, from, to)
+    }
+
+    fn remove(&mut self, path: &str) -> io::Result<()> {
+        fs::remove_file(&self.rt, path)
+    }
+
     fn close(&mut self, output: Self::Output) {
         let failed = output.failed();
         let writer = output.into_inner();

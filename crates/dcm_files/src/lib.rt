@@ -23,6 +23,7 @@ mod host;
 mod memory;
 mod opened;
 mod output;
+mod part;
 mod pieces;
 
 pub use devices::{System, open_devices, open_input, open_output, unopened};
@@ -30,4 +31,5 @@ pub use host::Host;
 pub use memory::{MemFile, MemSystem};
 pub use opened::{FileKind, Opened, Unopened};
 pub use output::{OutputFile, Target};
+pub use part::{end_part, open_whole_devices};
 pub use pieces::next_piece;

@@ -152,6 +152,29 @@ impl<'a> System for MemSystem<'a> {
         self.open_room(kind)
     }
 
+    fn kind_at(&mut self, path: &str) -> io::Result<Option<FileKind>> {
+        match file_named(self.files, path.as_bytes()) {
+            Some(file) => Ok(Some(file.kind())),
+            None => Ok(None),
+        }
+    }
+
+    fn create_new(&mut self, path: &str) -> io::Result<Opened<Measured>> {
+        match file_named(self.files, path.as_bytes()) {
+            Some(_) => Err(io::Error::from(ErrorKind::AlreadyExists)),
+            None => self.open_room(NEW),
+        }
+    }
+
+    fn rename(&mut self, _from: &str, _to: &str) -> io::Result<()> {
+        Ok(())
+    }
+
+    fn remove(&mut self, _path: &str) -> io::Result<()> {
+        self.written = None;
+        Ok(())
+    }
+
     fn close(&mut self, output: Measured) {
         self.written = Some(output.into_inner());
     }

@@ -5,7 +5,7 @@
 //!   one.
 //! - `Meta` reads the head of a file, fed in any pieces, and holds it: at most 16,528 bytes. `Meta::rewritten` writes
 //!   its group anew with another transfer syntax; `write_meta` does so of any group, and `first_element` walks over
-//!   one.
+//!   one. `Meta::renewed` and `renew_meta` write what a `Renewal` leaves of its elements.
 //!
 //! A head and its eight bytes:
 //!
@@ -22,6 +22,7 @@ pub mod laws;
 mod meta;
 mod meta_read;
 mod pads;
+mod renewal;
 mod rewriting;
 mod write;
 
@@ -31,5 +32,6 @@ pub use head::{Head, HeadRead, LONG_HEAD, SHORT_HEAD, read_head, read_tag, read_
 pub use meta::{Meta, PREAMBLE, PREFIX};
 pub use meta_read::{MetaEnd, MetaRead};
 pub use pads::{size_without_pads, without_pads};
-pub use rewriting::write_meta;
+pub use renewal::{AllStays, Renewal, Renewed};
+pub use rewriting::{renew_meta, write_meta};
 pub use write::{element_head, write_head};

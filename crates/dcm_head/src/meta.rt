@@ -2,12 +2,13 @@
 ghost use Rattle.std.specs.Prelude.{◌≡◌, ◌+◌, ◌-◌, ◌≤◌, ◌<◌, None, Some, take, drop, length, fold};
 ghost use Rattle.dcm_base.specs.File.MetaGroup.{META_LIMIT};
 ghost use Rattle.dcm_head.specs.MetaReading as reading;
-ghost use Rattle.dcm_head.specs.Rewriting.{WroteGroup};
+ghost use Rattle.dcm_head.specs.Rewriting.{WroteGroup, WroteRenewed};
 
 use crate::group::{Place, place_of};
 use crate::meta_read::{MetaEnd, MetaRead};
 use crate::pads::size_without_pads;
-use crate::rewriting::write_meta;
+use crate::renewal::Renewal;
+use crate::rewriting::{renew_meta, write_meta};
 use arrayvec::ArrayVec;
 use dcm_base::{Coding, DeviceOut, Fault, Stop, Tag, Watched, WriteFailed, coding_of};
 use std::marker::Model;
@@ -220,6 +221,23 @@ impl Meta {
         ensures { WroteGroup W.DeviceOut out.old out.new (reading.group_of self.now) uid.now result }
     {
         write_meta(self.bytes(), uid, out)
+    }
+
+    /// Writes what stays of the meta group anew, with its length and this transfer syntax (PS3.10 7.1).
+    ///
+    /// Fails where the writer fails, and has then written a beginning of the group.
+    pub fn renewed<N: Renewal, W: DeviceOut>(
+        &self,
+        renewal: &N,
+        uid: &[u8],
+        out: &mut Watched<W>,
+    ) -> Result<(), WriteFailed>
+        requires ended { reading.HasEnded self.now.end }
+        requires uid { length uid.now < 65535 }
+        ensures { WroteRenewed W.DeviceOut out.old out.new (N.renewing renewal.now) (reading.group_of self.now)
+            uid.now result }
+    {
+        renew_meta(renewal, self.bytes(), uid, out)
     }
 
     /// Reads a byte of the preamble or the prefix.

@@ -2,7 +2,7 @@
 ghost use Rattle.std.specs.Prelude.{◌≡◌, ◌≤◌, ◌<◌, ◌||◌, ◌^◌, IfSome, IfNone, [], length};
 ghost use Rattle.std.specs.Int.{to_le_bytes, w32};
 ghost use Rattle.dcm_devices.specs.Writing.{Wrote};
-ghost use Rattle.dcm_base.specs.Conversion.NewMeta.{new_elements};
+ghost use Rattle.dcm_base.specs.Conversion.NewMeta.{new_elements, renewed};
 ghost use Rattle.dcm_base.specs.Conversion.Recode.{even as even_size, head as recoded_head, recoded_leaf};
 ghost use Rattle.dcm_base.specs.File.MetaGroup.{META_LIMIT};
 ghost use Rattle.dcm_base.specs.Tables.Tag.{is_tag};
@@ -12,6 +12,7 @@ ghost use Rattle.dcm_head.specs.Rewriting as spec;
 
 use crate::element::{MetaElement, first_element};
 use crate::head::{Head, LONG_HEAD};
+use crate::renewal::{AllStays, Renewal, Renewed};
 use crate::write::explicit_head;
 use arrayvec::ArrayVec;
 use dcm_base::{DeviceOut, Length, Syntax, Tag, Vr, Watched, WriteFailed, put_parts};
@@ -107,49 +108,96 @@ fn put_element<W: DeviceOut>(
     }
 }
 
-fn is_named(named: bool, tag: Tag) -> bool
-    ensures { result ≡ (named || is_tag 2 0x10 tag) }
+/// The size of what the new group has of an element that may go or have another value.
+fn renewed_size(renewed: &Renewed, first: MetaElement<'_>, named: bool, uid: &[u8]) -> usize
+    requires value { length first.value.now < 65535 }
+    requires uid { length uid.now < 65535 }
+    ensures size { result ≡ length (spec.written_stay renewed.now named uid.now first.entry) }
+    ensures limit { result < 65547 }
 {
-    named || tag.names_syntax()
+    match renewed.of(first) {
+        Some(element) => element_size(element, named, uid),
+        None => 0,
+    }
+}
+
+/// Writes what the new group has of it.
+fn put_renewed<W: DeviceOut>(
+    out: &mut Watched<W>,
+    renewed: &Renewed,
+    first: MetaElement<'_>,
+    named: bool,
+    uid: &[u8],
+) -> Result<(), WriteFailed>
+    requires value { length first.value.now < 65535 }
+    requires uid { length uid.now < 65535 }
+    ensures { Wrote W.DeviceOut out.old out.new (spec.written_stay renewed.now named uid.now first.entry) result }
+{
+    match renewed.of(first) {
+        Some(element) => put_element(out, element, named, uid),
+        None => Ok(()),
+    }
 }
 
 /// The size of the elements of the new group.
-fn elements_size(group: &[u8], uid: &[u8]) -> usize
+fn elements_size<N: Renewal>(renewal: &N, group: &[u8], uid: &[u8]) -> usize
     requires group { length group.now ≤ META_LIMIT }
     requires uid { length uid.now < 65535 }
-    ensures size { spec.OfElements group.now (λ elements. result ≡ length (new_elements elements uid.now)) }
+    ensures size { spec.OfElements group.now (λ elements. result
+        ≡ length (new_elements (renewed (N.renewing renewal.now) elements) uid.now)) }
     ensures limit { result < 2 ^ 32 }
 {
     let mut rest = group;
     let mut named = false;
     let mut size = 0;
     'elements: while let Some(first) = first_element(rest) {
-        size += element_size(first, named, uid);
-        named = is_named(named, first.tag);
+        let renewed = renewal.renew(first);
+        size += renewed_size(&renewed, first, named, uid);
+        named = renewed.is_named(named, first.tag);
         rest = first.after;
     }
     size
 }
 
 /// Writes the elements of the new group.
-fn put_elements<W: DeviceOut>(
+fn put_elements<N: Renewal, W: DeviceOut>(
     out: &mut Watched<W>,
+    renewal: &N,
     group: &[u8],
     uid: &[u8],
 ) -> Result<(), WriteFailed>
     requires group { length group.now ≤ META_LIMIT }
     requires uid { length uid.now < 65535 }
-    ensures { spec.WroteElements W.DeviceOut out.old out.new group.now (λ elements. new_elements elements uid.now)
-        result }
+    ensures { spec.WroteElements W.DeviceOut out.old out.new group.now
+        (λ elements. new_elements (renewed (N.renewing renewal.now) elements) uid.now) result }
 {
     let mut rest = group;
     let mut named = false;
     'elements: while let Some(first) = first_element(rest) {
-        put_element(out, first, named, uid)?;
-        named = is_named(named, first.tag);
+        let renewed = renewal.renew(first);
+        put_renewed(out, &renewed, first, named, uid)?;
+        named = renewed.is_named(named, first.tag);
         rest = first.after;
     }
     Ok(())
+}
+
+/// Writes what stays of a whole meta group anew, with its length and this transfer syntax (PS3.10 7.1).
+///
+/// Fails where the writer fails, and has then written a beginning of the group.
+pub fn renew_meta<N: Renewal, W: DeviceOut>(
+    renewal: &N,
+    run: &[u8],
+    uid: &[u8],
+    out: &mut Watched<W>,
+) -> Result<(), WriteFailed>
+    requires run { length run.now ≤ META_LIMIT }
+    requires uid { length uid.now < 65535 }
+    ensures { spec.WroteRenewed W.DeviceOut out.old out.new (N.renewing renewal.now) run.now uid.now result }
+{
+    let size = elements_size(renewal, run, uid) as u32;
+    put_leaf(out, Tag::META_LENGTH, Vr::UL, &size.to_le_bytes())?;
+    put_elements(out, renewal, run, uid)
 }
 
 /// Writes a whole meta group anew, with its length and this transfer syntax (PS3.10 7.1).
@@ -164,7 +212,5 @@ pub fn write_meta<W: DeviceOut>(
     requires uid { length uid.now < 65535 }
     ensures { spec.WroteGroup W.DeviceOut out.old out.new run.now uid.now result }
 {
-    let size = elements_size(run, uid) as u32;
-    put_leaf(out, Tag::META_LENGTH, Vr::UL, &size.to_le_bytes())?;
-    put_elements(out, run, uid)
+    renew_meta(&AllStays, run, uid, out)
 }

@@ -9,3 +9,4 @@ pub mod Inputs
 pub mod Left
 pub mod Skipped
 pub mod Tokens
+pub mod Taking

@@ -133,6 +133,7 @@ fn barred(bar: Bar) -> Fault
     match bar {
         Bar::Order => Fault::NotAscending,
         Bar::Fragments => Fault::FragmentsBarred,
+        Bar::Identity => Fault::IdentityStays,
     }
 }
 

@@ -76,4 +76,6 @@ pub enum Bar {
     Order,
     /// The target syntax has no fragment lists.
     Fragments,
+    /// An element of which identity cannot be taken out, nor the element itself.
+    Identity,
 }

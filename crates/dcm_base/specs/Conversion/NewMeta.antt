@@ -1,6 +1,8 @@
 -- A meta group written anew, with a transfer syntax (PS3.10 7.1).
-use Rattle.std.specs.Prelude.{ℕ, if◌then◌else◌, List, ◌++◌, length}
+use Rattle.std.specs.Prelude.{ℕ, if◌then◌else◌, List, ◌++◌, length, Option, None, Some}
 use Rattle.std.specs.Int.{w32, to_le_bytes}
+use Rattle.dcm_base.specs.declared.tag.Tag.{Tag}
+use Rattle.dcm_base.specs.declared.vr.Vr.{Vr}
 use Rattle.dcm_base.specs.declared.vr.Vr.TheVariants.{UL, UI}
 use Rattle.dcm_base.specs.Tables.Syntax.{Little}
 use Rattle.dcm_base.specs.Tables.Tag.{is_tag}
@@ -34,3 +36,20 @@ group_length size = recoded_leaf Little (record { group = 2; element = 0 }) UL (
 -- the group's length, and then its elements
 abbrev pub new_meta : Trees → List ℕ → List ℕ
 new_meta elements uid = group_length (length (new_elements elements uid)) ++ new_elements elements uid
+
+-- ---- a group of which not all stays as it was
+
+-- the value that an element is to have, or none where it goes
+abbrev pub Renewing : Type 0
+Renewing = Tag → Vr → List ℕ → Option (List ℕ)
+
+abbrev pub leaf_if : Option (List ℕ) → Tag → Vr → Trees → Trees
+leaf_if None tag vr rest = rest
+leaf_if (Some value) tag vr rest = leaf tag vr value rest
+
+-- the elements that stay, with their values
+abbrev pub renewed : Renewing → Trees → Trees
+renewed new no_tree = no_tree
+renewed new (leaf tag vr value rest) = leaf_if (new tag vr value) tag vr (renewed new rest)
+renewed new (sequence tag vr declared items rest) = sequence tag vr declared items (renewed new rest)
+renewed new (fragments tag vr values rest) = fragments tag vr values (renewed new rest)

@@ -93,7 +93,7 @@ element_cases bar s around position rest tag vr declared =
     ∷ (passes (with_length (head_size s vr) declared) (room position around), refused PassesEnd position)
     -- 10: R11
     ∷ (opens_list (form s (read_as s tag vr) declared) && nat_le 64 (depth around), refused TooDeep position)
-    -- 11: R12 where tags have to ascend, R13 where the target has no fragment lists
+    -- 11: R12 where tags have to ascend and then R16, R13 where the target has no fragment lists
     ∷ barred bar position
 
 abbrev pub element_stop : HeadBar → Syntax → List Level → ℕ → List ℕ → Option Vr → Option Stop

@@ -1,6 +1,6 @@
 -- The data dictionary (PS3.6 section 6), and the extract of it.
 use Rattle.std.specs.Prelude.{◌≡◌, ℕ, ◌+◌, Bool, true, false, ◌&&◌, ◌==◌, nat_le, if◌then◌else◌, List, map, find}
-use Rattle.std.specs.Prelude.{length, codes, Option, None, option_map, bytes_eq}
+use Rattle.std.specs.Prelude.{length, codes, Option, Some, None, option_map, bytes_eq}
 use Rattle.std.specs.List.{slice_range, list_all}
 use Rattle.std.specs.Option.{option_map_or}
 use Rattle.dcm_base.specs.declared.tag.Tag.{Tag}
@@ -97,6 +97,14 @@ if_signed true Standard = Signed
 if_signed false Standard = Standard
 if_signed true Signed = Signed
 if_signed false Signed = Standard
+
+-- the value representation of a tag that the dictionary has, where pixels are not signed or are, as it says
+abbrev pub first_vr : Option (Vr × List ℕ) → Option (Vr × List ℕ) → Option Vr
+first_vr None other = option_map (λ e. e.0) other
+first_vr (Some e) other = Some e.0
+
+abbrev pub known_vr_in : Dictionary → Tag → Option Vr
+known_vr_in d t = first_vr (element_in d t) (ambiguous_in d t)
 
 -- the value representation of a tag that no dictionary has
 abbrev pub unlisted_vr : Tag → Vr

@@ -26,6 +26,7 @@ fault_number reading.NotAscending = codes "R12"
 fault_number reading.FragmentsBarred = codes "R13"
 fault_number reading.CannotChange = codes "R14"
 fault_number reading.TooLong = codes "R15"
+fault_number reading.IdentityStays = codes "R16"
 
 abbrev pub fault_text : Fault → List ℕ
 fault_text reading.EndsEarly = codes "input ends too early"
@@ -43,6 +44,7 @@ fault_text reading.NotAscending = codes "tags not ascending"
 fault_text reading.FragmentsBarred = codes "fragments not allowed in the target syntax"
 fault_text reading.CannotChange = codes "encapsulated syntax cannot be changed"
 fault_text reading.TooLong = codes "input too long"
+fault_text reading.IdentityStays = codes "identity cannot be taken out"
 
 -- why a line of a dump is refused, where it is built into a file
 abbrev pub line_fault_number : LineFault → List ℕ
@@ -96,6 +98,7 @@ word_fault_number word.BadOptionValue = codes "V3"
 word_fault_number word.WrongPaths = codes "V4"
 word_fault_number word.OptionsApart = codes "V5"
 word_fault_number word.SamePath = codes "V6"
+word_fault_number word.BadKey = codes "V7"
 
 abbrev pub word_fault_text : WordFault → List ℕ
 word_fault_text word.UnknownTool = codes "unknown tool"
@@ -104,3 +107,4 @@ word_fault_text word.BadOptionValue = codes "bad option value"
 word_fault_text word.WrongPaths = codes "wrong number of paths"
 word_fault_text word.OptionsApart = codes "options do not go together"
 word_fault_text word.SamePath = codes "input and output are the same path"
+word_fault_text word.BadKey = codes "key is not 16 to 4096 bytes"

@@ -2,7 +2,6 @@
 use Rattle.std.proofs.Common.{◌≡◌, ◌∙◌, ap, sym, refl, ℕ, List, []}
 use Rattle.dcm_base.specs.declared.tag.Tag.{Tag}
 use Rattle.dcm_base.specs.declared.vr.Vr.{Vr}
-use Rattle.dcm_base.specs.declared.length.Length.{Length}
 use Rattle.dcm_base.specs.declared.length.Length.TheVariants.{Undefined}
 use Rattle.dcm_base.specs.Tree.Tree.{Trees, no_tree, leaf, sequence, fragments, Items, no_item, item}
 use Rattle.dcm_base.specs.Tables.Representation.{pad}
@@ -11,12 +10,11 @@ use Rattle.dcm_deid.specs.declared.fate.Fate.{Fate}
 use Rattle.dcm_deid.specs.declared.fate.Fate.TheVariants.{Remove, Empty, Replace, Uid, Keep}
 use Rattle.dcm_deid.specs.declared.fate.Options.{Options}
 use Rattle.dcm_deid.specs.declared.fate.Depth.{Depth}
-use Rattle.dcm_deid.specs.declared.fate.Depth.TheVariants.{Outermost, Inside}
-use Rattle.dcm_deid.specs.declared.fate.ReadAs.{ReadAs}
+use Rattle.dcm_deid.specs.declared.fate.Depth.TheVariants.{Inside}
 use Rattle.dcm_deid.specs.declared.fate.ReadAs.TheVariants.{AsBytes, AsItems}
 use Rattle.dcm_deid.specs.Fate.{fate_as}
 use Rattle.dcm_deid.specs.Deidentify.{Renaming, dummy, value_by, leaf_by, sequence_by, fragments_by, Fates, Values, by_fate, items_by_fate, deidentified_set}
-use Rattle.dcm_deid.specs.Alike.{value_left, struck, Alike}
+use Rattle.dcm_deid.specs.Alike.{value_left, Alike}
 
 module _ (fates : Fates) (u v w : Values) (composed : (fate : Fate) (vr : Vr) (value : List ℕ) → w fate vr value ≡ u fate vr (v fate vr value)) where
   leaf_again : (depth : Depth) (fate : Fate) (tag : Tag) (vr : Vr) (value : List ℕ) (rest more : Trees) → fates depth AsBytes tag ≡ fate → more ≡ by_fate fates u depth rest

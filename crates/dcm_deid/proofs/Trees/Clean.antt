@@ -1,5 +1,5 @@
 -- What is left of a data set is clean.
-use Rattle.std.proofs.Common.{◌≡◌, sym, refl, subst, ℕ, List, []}
+use Rattle.std.proofs.Common.{◌≡◌, sym, refl, subst, ℕ, List}
 use Rattle.dcm_base.specs.declared.tag.Tag.{Tag}
 use Rattle.dcm_base.specs.declared.vr.Vr.{Vr}
 use Rattle.dcm_base.specs.Tree.Tree.{Trees, no_tree, leaf, sequence, fragments, Items, no_item, item}

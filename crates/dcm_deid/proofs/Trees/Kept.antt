@@ -1,5 +1,5 @@
 -- What has fate keep is as it was.
-use Rattle.std.proofs.Common.{◌≡◌, refl, ℕ, List, []}
+use Rattle.std.proofs.Common.{◌≡◌, refl, ℕ, List}
 use Rattle.dcm_base.specs.declared.tag.Tag.{Tag}
 use Rattle.dcm_base.specs.declared.vr.Vr.{Vr}
 use Rattle.dcm_base.specs.declared.length.Length.TheVariants.{Undefined}
@@ -9,7 +9,6 @@ use Rattle.dcm_deid.specs.declared.fate.Fate.TheVariants.{Remove, Empty, Replace
 use Rattle.dcm_deid.specs.declared.fate.Options.{Options}
 use Rattle.dcm_deid.specs.declared.fate.Depth.{Depth}
 use Rattle.dcm_deid.specs.declared.fate.Depth.TheVariants.{Inside}
-use Rattle.dcm_deid.specs.declared.fate.ReadAs.{ReadAs}
 use Rattle.dcm_deid.specs.declared.fate.ReadAs.TheVariants.{AsBytes, AsItems}
 use Rattle.dcm_deid.specs.Fate.{fate_as}
 use Rattle.dcm_deid.specs.Deidentify.{Renaming, value_by, leaf_by, sequence_by, fragments_by, Fates, by_fate, items_by_fate, deidentified_set}

@@ -1,9 +1,9 @@
 -- Data sets whose elements pair off have the same left.
-use Rattle.std.proofs.Common.{◌≡◌, ◌∙◌, ap, sym, refl, subst, ℕ, List, []}
+use Rattle.std.proofs.Common.{◌≡◌, ◌∙◌, ap, sym, refl, ℕ, List, []}
 use Rattle.dcm_base.specs.declared.tag.Tag.{Tag}
 use Rattle.dcm_base.specs.declared.vr.Vr.{Vr}
 use Rattle.dcm_base.specs.declared.length.Length.TheVariants.{Undefined}
-use Rattle.dcm_base.specs.Tree.Tree.{Trees, no_tree, leaf, sequence, fragments, Items, no_item, item}
+use Rattle.dcm_base.specs.Tree.Tree.{Trees, leaf, sequence, Items, no_item, item}
 use Rattle.dcm_deid.specs.declared.fate.Fate.{Fate}
 use Rattle.dcm_deid.specs.declared.fate.Fate.TheVariants.{Remove, Empty, Replace, Uid, Keep}
 use Rattle.dcm_deid.specs.declared.fate.Depth.{Depth}

@@ -1,19 +1,16 @@
 -- The elements that say what was done.
-use Rattle.std.proofs.Common.{◌≡◌, ◌∙◌, ap, sym, refl, ℕ, List, [], ◌∷◌, Bool, true, false, Option, Some, None}
+use Rattle.std.proofs.Common.{◌≡◌, ◌∙◌, ap, sym, refl, List, [], ◌∷◌, Bool, true, false, Option, Some, None}
 use Rattle.std.specs.Prelude.{◌||◌, not, if◌then◌else◌}
 use Rattle.dcm_base.specs.declared.tag.Tag.{Tag}
-use Rattle.dcm_base.specs.declared.vr.Vr.{Vr}
 use Rattle.dcm_base.specs.declared.syntax.Syntax.{Syntax}
 use Rattle.dcm_base.specs.Tables.Tag.{below}
 use Rattle.dcm_base.specs.Tree.Tree.{Trees, no_tree, leaf, sequence, fragments, then_trees}
-use Rattle.dcm_base.specs.Tree.Front.{Front, front, nothing_open}
-use Rattle.dcm_base.specs.Conversion.Recode.{recode, recode_set}
+use Rattle.dcm_base.specs.Tree.Front.{Front}
+use Rattle.dcm_base.specs.Conversion.Recode.{recode}
 use Rattle.dcm_edits.specs.Edit.{has, is_passed}
 use Rattle.dcm_deid.specs.declared.fate.Options.{Options}
-use Rattle.dcm_deid.specs.declared.fate.Depth.{Depth}
 use Rattle.dcm_deid.specs.declared.fate.Depth.TheVariants.{Outermost}
-use Rattle.dcm_deid.specs.Fate.{fate_as}
-use Rattle.dcm_deid.specs.Deidentify.{Renaming, value_by, by_fate, deidentified_set}
+use Rattle.dcm_deid.specs.Deidentify.{Renaming, deidentified_set}
 use Rattle.dcm_deid.specs.Alike.{Alike}
 use Rattle.dcm_deid.specs.Saying.{put_in, with_put, all_put, said, deidentified, says, unsaid, whole_of, read_whole}
 use Rattle.dcm_deid.proofs.Trees.Again.{nothing_flows}

@@ -8,7 +8,8 @@ use Rattle.dcm_base.specs.Steps.Steps.{outputs}
 use Rattle.dcm_sinks.specs.Laws.{StaysShallow}
 use Rattle.dcm_edits.specs.Edit.{Edit, edited, found}
 use Rattle.dcm_edits.specs.Overlap.{AreApart, ArePublic}
-use Rattle.dcm_editor.specs.EditSink.{State, begun, next, passed, reached_anew}
+use Rattle.dcm_base.specs.Steps.Anew.{reached_anew}
+use Rattle.dcm_editor.specs.EditSink.{State, begun, next, passed}
 use Rattle.dcm_edits.specs.Bounds.{HaveValues, HaveShortIndexes}
 use Rattle.dcm_editor.proofs.EditSinks.Bounds.{Fits, HasRoom, same_output, same_state}
 use Rattle.dcm_editor.proofs.EditSinks.Rooms.{front_room}

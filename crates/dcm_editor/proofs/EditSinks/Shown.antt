@@ -19,7 +19,7 @@ use Rattle.dcm_base.specs.declared.form.Form.TheVariants.{Value as a_value, Sequ
 use Rattle.dcm_base.specs.Bytes.Spelling.{form, inside, reached_tag, after}
 use Rattle.dcm_base.specs.Tree.Value.{order}
 use Rattle.dcm_base.specs.Steps.Atoms.{Atom, opens, value_byte, closes_leaf, opens_item, closes_item, closes_sequence, opens_fragment, fragments_then, ShowTrees, ShowItems, trees_then, items_then}
-use Rattle.dcm_editor.specs.EditSink.{open_anew}
+use Rattle.dcm_base.specs.Steps.Anew.{open_anew}
 use Rattle.dcm_edits.specs.Bounds.{PathHasValue, HasValue, HaveValues}
 
 -- ---- trees that follow one another

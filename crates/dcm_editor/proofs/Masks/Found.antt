@@ -12,7 +12,8 @@ use Rattle.dcm_base.specs.Lines.Ascending.{Ascend, ItemsAscend, ReachedLast, Fro
 use Rattle.dcm_base.proofs.Dictionaries.TagOrder.{below_other, below_other_way, is_above_below}
 use Rattle.dcm_base.specs.Bytes.Spelling.{last_tag, reached_tag}
 use Rattle.dcm_base.specs.Steps.Atoms.{Atom, end_atoms, Shows, ShowsOpen, ShowsOpenItem}
-use Rattle.dcm_editor.specs.EditSink.{begun, has_place, makes, either, reached_anew}
+use Rattle.dcm_base.specs.Steps.Anew.{reached_anew}
+use Rattle.dcm_editor.specs.EditSink.{begun, has_place, makes, either}
 use Rattle.dcm_edits.specs.Bounds.{HaveValues}
 use Rattle.dcm_editor.proofs.EditSinks.Unbounded.{next_unbounded}
 use Rattle.dcm_edits.proofs.Trees.NewOnes.{has-above, below_not_back, same_not_below, and_none, and_all}

@@ -21,7 +21,8 @@ use Rattle.dcm_sinks.proofs.Conversions.DataSets.{encode_steps}
 use Rattle.dcm_sinks.proofs.ReadBack.IsRead.{IsRead, unclosed, whole_read, far_read}
 use Rattle.dcm_edits.specs.Edit.{Edit, edited, found}
 use Rattle.dcm_edits.specs.Overlap.{AreApart, ArePublic}
-use Rattle.dcm_editor.specs.EditSink.{begun, next, passed, reached_anew}
+use Rattle.dcm_base.specs.Steps.Anew.{reached_anew}
+use Rattle.dcm_editor.specs.EditSink.{begun, next, passed}
 use Rattle.dcm_edits.specs.Bounds.{HaveValues, HaveShortIndexes, AreWithin}
 use Rattle.dcm_editor.proofs.EditSinks.Law.{edit_steps}
 use Rattle.dcm_editor.proofs.ReadBack.RecodeAnew.{recode_anew}

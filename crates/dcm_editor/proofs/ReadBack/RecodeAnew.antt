@@ -5,7 +5,7 @@ use Rattle.dcm_base.specs.declared.vr.Vr.TheVariants.{SQ}
 use Rattle.dcm_base.specs.declared.length.Length.TheVariants.{Undefined}
 use Rattle.dcm_base.specs.Tree.Front.{Front, front, OpenTree, nothing_open, open_leaf, open_sequence, open_fragments, OpenItem, no_open_item, open_item}
 use Rattle.dcm_base.specs.Conversion.Recode.{head, item_head, unless_dropped, recode_set, recode_items, recode, recode_open, recode_open_item}
-use Rattle.dcm_editor.specs.EditSink.{reached_anew, open_anew, item_anew}
+use Rattle.dcm_base.specs.Steps.Anew.{reached_anew, open_anew, item_anew}
 
 mutual
   unfolding recode

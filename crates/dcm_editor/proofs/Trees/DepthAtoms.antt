@@ -11,7 +11,7 @@ use Rattle.dcm_sinks.specs.Laws.{lists_behind, StaysShallow}
 use Rattle.dcm_sinks.proofs.Dumps.OpenLists.{stays_on, stays_opened, stays_bytes, stays_fragments, stays_same, stays_trees, stays_items}
 use Rattle.dcm_sinks.proofs.ReadBack.Shallow.{leads_nowhere, leads_more}
 use Rattle.dcm_sinks.proofs.ReadBack.Sources.{lists_of}
-use Rattle.dcm_editor.specs.EditSink.{reached_anew, open_anew, item_anew}
+use Rattle.dcm_base.specs.Steps.Anew.{reached_anew, open_anew, item_anew}
 use Rattle.dcm_edits.proofs.Trees.Depths.{IsShallow, AreShallow, FrontShallow, OpenShallow, ItemShallow}
 
 -- ---- from the atoms

@@ -17,7 +17,8 @@ use Rattle.dcm_edits.proofs.Overlapping.Items.{all_within_all_apart, all_within_
 use Rattle.dcm_base.specs.Bytes.Spelling.{last_tag}
 use Rattle.dcm_base.specs.Tree.Value.{order}
 use Rattle.dcm_base.specs.Steps.Atoms.{Atom, opens, value_byte, opens_item, opens_fragment, ends, fragments_then, ShowTrees, ShowItems, open_fragment_atoms, end_atoms, MayEnd, is_closed, Shows, ShowsOpen, ShowsOpenItem, trees_then}
-use Rattle.dcm_editor.specs.EditSink.{Level, State, begun, has_place, either, head_by, reached_anew, open_anew, item_anew}
+use Rattle.dcm_base.specs.Steps.Anew.{reached_anew, open_anew, item_anew}
+use Rattle.dcm_editor.specs.EditSink.{Level, State, begun, has_place, either, head_by}
 use Rattle.dcm_edits.specs.Bounds.{HaveValues}
 use Rattle.dcm_editor.proofs.EditSinks.Unbounded.{dropped_unbounded, next_unbounded}
 use Rattle.dcm_edits.proofs.Trees.Kept.{kept, items_kept}

@@ -14,7 +14,7 @@ use Rattle.dcm_base.proofs.Dictionaries.TagOrder.{below_other_way}
 use Rattle.dcm_edits.proofs.Trees.Laws.{or_false, then_trees-none}
 use Rattle.dcm_base.specs.Bytes.Spelling.{last_tag, reached_tag}
 use Rattle.dcm_base.specs.Steps.Atoms.{is_closed}
-use Rattle.dcm_editor.specs.EditSink.{reached_anew}
+use Rattle.dcm_base.specs.Steps.Anew.{reached_anew}
 use Rattle.dcm_edits.proofs.Trees.NewOnes.{below_not_back, has_more, off, and_all, and_none}
 use Rattle.dcm_edits.proofs.Trees.Kept.{kept, puts_alike, puts_none, kept_within, followed_twice, under_all, under_tag, under_last}
 

@@ -123,6 +123,22 @@ impl<'a> System for Answers<'a> {
 
     fn release(&mut self, _input: Counted<'a>) {}
 
+    fn kind_at(&mut self, _path: &str) -> io::Result<Option<FileKind>> {
+        Ok(None)
+    }
+
+    fn create_new(&mut self, _path: &str) -> io::Result<Opened<Counted<'a>>> {
+        self.answer(self.output)
+    }
+
+    fn rename(&mut self, _from: &str, _to: &str) -> io::Result<()> {
+        Ok(())
+    }
+
+    fn remove(&mut self, _path: &str) -> io::Result<()> {
+        Ok(())
+    }
+
     fn close(&mut self, _output: Counted<'a>) {}
 }
 

@@ -1,17 +1,17 @@
 use Rattle.std.proofs.Common.{◌∙◌, ◌+◌, refl, sym, ap, arith, length, length-append}
-use Rattle.dcm_head.specs.Rewriting.{written_element}
+use Rattle.dcm_head.specs.Rewriting.{written_stay}
 use Rattle.dcm_head.proofs.MetaGroups.Rewritten.{left_all, left_more, left_none}
 use Rattle.dcm_head.proofs.rewriting.elements_size.Goals as goal
 
 pub elements-init : goal.elements-init
-elements-init c = record {
+elements-init g c = record {
   short = c.requires.group;
   limit = omega arith;
-  gone = λ all s m. (left_all c.args.group.now c.args.uid.now all s m, refl);
+  gone = λ all s m. (left_all (g.N.Renewal.renewing c.args.renewal.now) c.args.group.now c.args.uid.now all s m, refl);
 }
 
 pub elements-preserved : goal.elements-preserved
-elements-preserved c =
+elements-preserved g c =
     let first = c.in-Some.ensures.some in
     let less = first.0 in
     record {
@@ -19,12 +19,12 @@ elements-preserved c =
       limit = omega arith;
       gone = λ all s m.
           let l = c.elements.invariant.gone all s m in (
-            left_more c.elements.rest.now c.args.uid.now c.elements.named all _ _ _ _ c.is_named-named.result l.0 first c.is_named-named.ensures,
-            (λ i. l.1 i + c.element_size-size.ensures.size i) ∙ sym (length-append l.0.gone (written_element c.elements.named c.args.uid.now c.in-Some.first.tag c.in-Some.first.vr c.in-Some.first.value.now)),
+            left_more (g.N.Renewal.renewing c.args.renewal.now) c.elements.rest.now c.args.uid.now c.elements.named all _ _ _ _ _ c.is_named-named.result c.renew-renewed.ensures l.0 first (c.is_named-named.ensures _),
+            (λ i. l.1 i + c.renewed_size-size.ensures.size i) ∙ sym (length-append l.0.gone (written_stay c.renew-renewed.result c.elements.named c.args.uid.now c.in-Some.first)),
           );
     }
 
 pub returns-clause-size : goal.returns-clause-size
-returns-clause-size c = λ all s m.
+returns-clause-size g c = λ all s m.
     let l = c.elements.invariant.gone all s m in
-    l.1 ∙ ap length (left_none c.elements.rest.now c.args.uid.now c.elements.named all l.0 (c.in_default.ensures.none))
+    l.1 ∙ ap length (left_none (g.N.Renewal.renewing c.args.renewal.now) c.elements.rest.now c.args.uid.now c.elements.named all l.0 (c.in_default.ensures.none))

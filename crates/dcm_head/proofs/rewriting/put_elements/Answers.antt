@@ -1,21 +1,21 @@
 use Rattle.std.proofs.Common.{rules, ◌∙◌, refl, sym, ap, arith}
 use Rattle.std.specs.Io.KnownBytes.{append_known}
 use Rattle.dcm_devices.proofs.Writes.Puts.{append_known_none, append_known_twice}
-use Rattle.dcm_head.specs.Rewriting.{written_element}
+use Rattle.dcm_head.specs.Rewriting.{written_stay}
 use Rattle.dcm_head.proofs.MetaGroups.Rewritten.{left_all, left_more, left_none, failed_at}
 use Rattle.dcm_head.proofs.rewriting.put_elements.Goals as goal
 
 pub elements-init : goal.elements-init
 elements-init g c = record {
   short = c.requires.group;
-  gone = λ all s m. (left_all c.args.group.now c.args.uid.now all s m, sym (append_known_none _));
+  gone = λ all s m. (left_all (g.N.Renewal.renewing c.args.renewal.now) c.args.group.now c.args.uid.now all s m, sym (append_known_none _));
   failed = refl;
 }
 
-pub returns-in_err-put_element : goal.returns-in_err-put_element
-returns-in_err-put_element g c =
+pub returns-in_err-put_renewed : goal.returns-in_err-put_renewed
+returns-in_err-put_renewed g c =
     let gone = c.elements.invariant.gone in
-    record { bytes = λ all s m. failed_at _ _ _ c.elements.rest.now c.args.uid.now c.elements.named all _ _ _ _ c.from_residual.result (gone all s m).0 c.in-Some.ensures.some (gone all s m).1 c.in_err-put_element.ensures.bytes c.from_residual.ensures.0; failed = search rules }
+    record { bytes = λ all s m. failed_at _ _ _ (g.N.Renewal.renewing c.args.renewal.now) c.elements.rest.now c.args.uid.now c.elements.named all _ _ _ _ _ c.from_residual.result c.renew-renewed.ensures (gone all s m).0 c.in-Some.ensures.some (gone all s m).1 c.in_err-put_renewed.ensures.bytes c.from_residual.ensures.0; failed = search rules }
 
 pub elements-preserved : goal.elements-preserved
 elements-preserved g c =
@@ -24,16 +24,15 @@ elements-preserved g c =
     record {
       short = omega arith;
       gone = λ all s m.
-          let l = c.elements.invariant.gone all s m in (
-            left_more c.elements.rest.now c.args.uid.now c.elements.named all _ _ _ _ c.is_named-named.result l.0 first c.is_named-named.ensures,
-            c.in_ok-put_element.ensures.bytes
-                ∙ ap (λ known. append_known known (written_element c.elements.named c.args.uid.now c.in-Some.first.tag c.in-Some.first.vr c.in-Some.first.value.now)) l.1
-                ∙ append_known_twice _ l.0.gone (written_element c.elements.named c.args.uid.now c.in-Some.first.tag c.in-Some.first.vr c.in-Some.first.value.now),
+          let l = c.elements.invariant.gone all s m in
+          let wrote = written_stay c.renew-renewed.result c.elements.named c.args.uid.now c.in-Some.first in (
+            left_more (g.N.Renewal.renewing c.args.renewal.now) c.elements.rest.now c.args.uid.now c.elements.named all _ _ _ _ _ c.is_named-named.result c.renew-renewed.ensures l.0 first (c.is_named-named.ensures _),
+            c.in_ok-put_renewed.ensures.bytes ∙ ap (λ known. append_known known wrote) l.1 ∙ append_known_twice _ l.0.gone wrote,
           );
-      failed = c.in_ok-put_element.ensures.failed ∙ c.elements.invariant.failed;
+      failed = c.in_ok-put_renewed.ensures.failed ∙ c.elements.invariant.failed;
     }
 
 pub returns : goal.returns
 returns g c =
     let gone = c.elements.invariant.gone in
-    record { bytes = λ all s m. (gone all s m).1 ∙ ap (append_known _) (left_none c.elements.rest.now c.args.uid.now c.elements.named all (gone all s m).0 c.in_default.ensures.none); failed = search rules }
+    record { bytes = λ all s m. (gone all s m).1 ∙ ap (append_known _) (left_none (g.N.Renewal.renewing c.args.renewal.now) c.elements.rest.now c.args.uid.now c.elements.named all (gone all s m).0 c.in_default.ensures.none); failed = search rules }

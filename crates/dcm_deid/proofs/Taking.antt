@@ -1,0 +1,35 @@
+-- What a sink takes in parts, where each call answers nothing but whether its writer failed.
+use Rattle.std.proofs.Common.{◌≡◌, List, ◌++◌, Bool, true, subst}
+use Rattle.std.specs.Prelude.{fold, Result, Ok, Err, OnOk, IsErr}
+use Rattle.dcm_devices.specs.declared.device.WriteFailed.{WriteFailed}
+use Rattle.dcm_devices.specs.Device.{Puts, Tells}
+use Rattle.dcm_base.specs.Steps.Atoms.{Atom}
+use Rattle.dcm_base.specs.Steps.Steps.{outputs}
+use Rattle.dcm_stream.specs.declared.sink.Sink.{Ghosts}
+use Rattle.dcm_stream.specs.Sinks.{Took, Keeps}
+use Rattle.dcm_deid.specs.DeidentifySink.{atoms_if}
+use Rattle.dcm_stream.proofs.Runs.Taking.{took_token, took_then, took_failed}
+
+abbrev pub Answer : Type 0
+Answer = Result (Unit {0}) WriteFailed
+
+abbrev pub TookAs : {X : Type 0} → Ghosts X → (old new : X) → List Atom → Answer → Type 0
+TookAs sink old new atoms r = Took {T = Unit {0}} {E = WriteFailed} sink old new atoms r
+
+module _ {X : Type 0} (sink : Ghosts X) where
+  -- one token
+  pub token : (old new : X) (atoms : List Atom) (r : Answer) → OnOk r (sink.state new ≡ fold sink.step (sink.state old) atoms)
+      → Puts (sink.contents old) (sink.contents new) (outputs sink.step sink.writes (sink.state old) atoms) r → Tells (sink.has_failed old) (sink.has_failed new) r → Keeps sink old new → TookAs sink old new atoms r
+  token old new atoms r state bytes failed kept = took_token sink old new atoms r state bytes failed kept
+
+  -- one part and then another
+  pub on : {x : Unit {0}} {r : Answer} (old mid new : X) (first rest : List Atom) → TookAs sink old mid first (Ok x) → TookAs sink mid new rest r → TookAs sink old new (first ++ rest) r
+  on {x} {r} old mid new first rest a b = took_then sink (Unit {0}) WriteFailed {x = x} old mid new first rest r a b
+
+  -- a failure in the first part
+  pub failed : {e : WriteFailed} (old new : X) (first rest : List Atom) (r : Answer) → IsErr r → TookAs sink old new first (Err e) → TookAs sink old new (first ++ rest) r
+  failed {e} old new first rest r is a = took_failed sink (Unit {0}) WriteFailed {e = e} old new first rest r is a
+
+  -- what is due
+  pub given : (old new : X) (atoms : List Atom) (r : Answer) (b : Bool) → true ≡ b → TookAs sink old new atoms r → TookAs sink old new (atoms_if b atoms) r
+  given old new atoms r b is a = subst (λ (t : Bool). TookAs sink old new (atoms_if t atoms) r) is a

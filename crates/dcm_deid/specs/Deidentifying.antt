@@ -1,0 +1,33 @@
+-- The state of the sink, as the program holds it.
+use Rattle.std.specs.Prelude.{◌≡◌, ℕ, List, option_map, reverse, fold}
+use Rattle.dcm_base.specs.Steps.Atoms.{Atom}
+use Rattle.dcm_base.specs.Steps.Steps.{outputs}
+use Rattle.dcm_stream.specs.Skip.{depth}
+use Rattle.dcm_deid.specs.declared.held.HeldValue.{HeldValue}
+use Rattle.dcm_deid.specs.declared.deidentifier.Deidentifier.{Deidentifier}
+use Rattle.dcm_deid.specs.declared.fate.Options.{Options}
+use Rattle.dcm_deid.specs.DeidentifySink.{Held, Place, State, next, passed}
+
+abbrev pub held : HeldValue → Held
+held h = record { tag = h.tag; vr = h.vr; syntax = h.syntax; bytes = h.bytes.items; is_longer = h.is_longer }
+
+abbrev pub place : Deidentifier → Place
+place d = record {
+  last = d.last;
+  outer = reverse d.outermost_first.items;
+  dropped = depth d.skip;
+  held = option_map held d.held;
+  may_show = d.may_show;
+}
+
+abbrev pub state : Options → (key : List ℕ) → Deidentifier → State
+state options key d = record { options = options; key = key; place = place d }
+
+-- what is passed on of these atoms
+abbrev pub passed_of : Options → (key : List ℕ) → Deidentifier → List Atom → List Atom
+passed_of options key d atoms = outputs next passed (state options key d) atoms
+
+-- it went on over these atoms
+abbrev pub GoesOn : Options → (old new : Deidentifier) → List Atom → Type 0
+GoesOn options old new atoms =
+    (key : List ℕ) → state options key new ≡ fold next (state options key old) atoms

@@ -1,0 +1,39 @@
+-- The head of a file without identity (PS3.10 7.1).
+use Rattle.std.specs.Prelude.{ℕ, List, Bool, ◌||◌, Option, Some, None, if◌then◌else◌, replicate}
+use Rattle.dcm_base.specs.declared.tag.Tag.{Tag}
+use Rattle.dcm_base.specs.declared.vr.Vr.{Vr}
+use Rattle.dcm_base.specs.Tables.Tag.{is_tag}
+use Rattle.dcm_base.specs.Conversion.NewMeta.{Renewing, renewed}
+use Rattle.dcm_base.specs.File.MetaReads.{Meta}
+use Rattle.dcm_uid.specs.Uid.{new_value}
+use Rattle.dcm_deid.specs.declared.fate.Options.{Options}
+use Rattle.dcm_deid.specs.declared.meta.MetaFate.{MetaFate}
+use Rattle.dcm_deid.specs.declared.meta.MetaFate.TheVariants.{Remove, Keep, Uid}
+
+-- the version of the group, the class of the instance, the transfer syntax, and the implementation
+abbrev pub stays : Tag → Bool
+stays tag = is_tag 2 1 tag || is_tag 2 2 tag || is_tag 2 0x10 tag || is_tag 2 0x12 tag || is_tag 2 0x13 tag
+
+-- and the instance, which gets a new unique identifier unless those are kept
+abbrev pub meta_fate : Options → Tag → MetaFate
+meta_fate options tag =
+    if stays tag then Keep else if is_tag 2 3 tag then (if options.uids then Keep else Uid) else Remove
+
+abbrev pub value_by_fate : MetaFate → (key value : List ℕ) → Option (List ℕ)
+value_by_fate Remove key value = None
+value_by_fate Keep key value = Some value
+value_by_fate Uid key value = Some (new_value key value)
+
+abbrev pub meta_renewing : Options → (key : List ℕ) → Renewing
+meta_renewing options key tag vr value = value_by_fate (meta_fate options tag) key value
+
+-- the head of a file without identity
+abbrev pub no_preamble : List ℕ
+no_preamble = replicate 128 0
+
+abbrev pub meta_without_identity : Options → (key : List ℕ) → Meta → Meta
+meta_without_identity options key m = record {
+  preamble = no_preamble;
+  elements = renewed (meta_renewing options key) m.elements;
+  uid = m.uid;
+}

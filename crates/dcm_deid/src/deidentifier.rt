@@ -1,0 +1,207 @@
+// How far the taking out of identity has come along an input.
+ghost use Rattle.std.specs.Prelude.{◌≡◌, ◌≤◌, ◌<◌, fold, length, None};
+ghost use Rattle.dcm_base.specs.Bytes.Spelling.{form, read_as};
+ghost use Rattle.dcm_deid.specs.DeidentifySink as spec;
+ghost use Rattle.dcm_deid.specs.Deidentifying as deidentifying;
+ghost use Rattle.dcm_deid.specs.Pixels as pixels;
+ghost use Rattle.dcm_stream.specs.Skip.{depth};
+ghost use Rattle.dcm_stream.specs.Tokens.{atoms_of};
+
+use crate::fate::{Depth, Fate, Options, ReadAs, fate_of};
+use crate::held::HeldValue;
+use arrayvec::ArrayVec;
+use dcm_base::{Form, Syntax, Tag, form_of, read_as};
+use dcm_head::Head;
+use dcm_stream::{Skip, Token};
+
+/// The most data sets that are open around another.
+const MOST_AROUND: usize = 64;
+
+/// BurnedInAnnotation.
+const BURNED_IN: Tag = Tag {
+    group: 0x0028,
+    element: 0x0301,
+};
+
+/// RecognizableVisualFeatures.
+const RECOGNIZABLE: Tag = Tag {
+    group: 0x0028,
+    element: 0x0302,
+};
+
+/// The last tag of each open data set, what is open of an element that is not written, the value of an open element
+/// that is held until it ends, and whether a value that was written says that the pixels may show identity.
+#[derive(Drop)]
+pub struct Deidentifier {
+    pub last: Option<Tag>,
+    pub outermost_first: ArrayVec<Option<Tag>, MOST_AROUND>,
+    pub skip: Skip,
+    pub held: Option<HeldValue>,
+    pub may_show: bool,
+}
+
+/// What follows the head of an element.
+pub fn form_after(head: Head, syntax: Syntax) -> Form
+    ensures { result ≡ spec.form_after head.tag head.vr head.length syntax }
+{
+    form_of(syntax, read_as(syntax, head.tag, head.vr), head.length)
+}
+
+/// Whether what follows a head was read as items.
+fn read_by(form: Form) -> ReadAs
+    ensures { result ≡ spec.read_by form }
+{
+    match form {
+        Form::Sequence => ReadAs::AsItems,
+        Form::Value | Form::FragmentList | Form::Nothing => ReadAs::AsBytes,
+    }
+}
+
+/// Whether an element of this tag says whether pixels show identity.
+fn says_of_pixels(tag: Tag) -> bool
+    ensures { result ≡ pixels.says_of_pixels tag }
+{
+    tag == BURNED_IN || tag == RECOGNIZABLE
+}
+
+/// Whether the value of an element is held until it ends.
+fn is_held(fate: Fate, form: Form, tag: Tag) -> bool
+    ensures { result ≡ spec.is_held fate form tag }
+{
+    match (form, fate) {
+        (Form::Value, Fate::Uid) => true,
+        (Form::Value, Fate::Keep) => says_of_pixels(tag),
+        _ => false,
+    }
+}
+
+impl Deidentifier {
+    /// Before the first token of an input.
+    pub fn new() -> Deidentifier
+        ensures { deidentifying.place result ≡ spec.first_place }
+    {
+        Deidentifier {
+            last: None,
+            outermost_first: ArrayVec::new(),
+            skip: Skip::nothing(),
+            held: None,
+            may_show: false,
+        }
+    }
+
+    /// Whether the innermost data set is the file's own.
+    pub fn depth(&self) -> Depth
+        ensures { result ≡ spec.depth_of (deidentifying.place self.now).outer }
+    {
+        if self.outermost_first.is_empty() {
+            Depth::Outermost
+        } else {
+            Depth::Inside
+        }
+    }
+
+    /// What becomes of an element of the innermost data set.
+    pub fn fate(&self, options: &Options, form: Form, tag: Tag) -> Fate
+        ensures { result ≡ spec.fate_at options.now (deidentifying.place self.now) form tag }
+    {
+        fate_of(options, self.depth(), read_by(form), tag)
+    }
+
+    /// After the head of an element.
+    fn open(&mut self, options: &Options, head: Head, syntax: Syntax)
+        ensures { deidentifying.place self.new
+            ≡ spec.after_head options.now (deidentifying.place self.old) head.tag head.vr head.length syntax }
+    {
+        if !self.skip.is_open() {
+            self.judge(options, head, syntax);
+        } else {
+            self.skip.open(true);
+        }
+        self.last = Some(head.tag);
+    }
+
+    /// What becomes of an element, of which nothing is left out so far.
+    fn judge(&mut self, options: &Options, head: Head, syntax: Syntax)
+        requires { depth self.old.skip ≡ 0 }
+        ensures last { self.new.last ≡ self.old.last }
+        ensures place { deidentifying.place self.new
+            ≡ spec.judged_at options.now (deidentifying.place self.old) head.tag head.vr head.length syntax }
+    {
+        let form = form_after(head, syntax);
+        let fate = self.fate(options, form, head.tag);
+        self.skip.open(fate != Fate::Keep);
+        self.held = if is_held(fate, form, head.tag) {
+            Some(HeldValue::new(head.tag, head.vr, syntax))
+        } else {
+            None
+        };
+    }
+
+    /// After bytes of a value.
+    fn add(&mut self, bytes: &[u8])
+        ensures { deidentifying.place self.new ≡ spec.with_bytes (deidentifying.place self.old) bytes.now }
+    {
+        if let Some(held) = &mut self.held {
+            held.add(bytes);
+        }
+    }
+
+    /// Whether the open value is written and says that pixels may show identity.
+    fn shows(&self) -> bool
+        ensures { result ≡ spec.says_yes (depth self.now.skip) (deidentifying.place self.now).held }
+    {
+        match &self.held {
+            Some(held) => !self.skip.is_open() && held.is_yes(),
+            None => false,
+        }
+    }
+
+    /// After the end of a value.
+    fn close_value(&mut self)
+        ensures { deidentifying.place self.new ≡ spec.after_value (deidentifying.place self.old) }
+    {
+        if self.shows() {
+            self.may_show = true;
+        }
+        self.held = None;
+        self.skip.close();
+    }
+
+    /// After the head of an item, where there is room for its data set.
+    fn open_item(&mut self)
+        ensures { deidentifying.place self.new ≡ spec.in_item (deidentifying.place self.old) }
+    {
+        if self.outermost_first.len() < MOST_AROUND {
+            self.skip.open(false);
+            self.outermost_first.push(self.last);
+            self.last = None;
+        }
+    }
+
+    /// After the end of an item.
+    fn close_item(&mut self)
+        ensures { deidentifying.place self.new
+            ≡ spec.after_item (deidentifying.place self.old) (deidentifying.place self.old).outer }
+    {
+        self.skip.close();
+        if let Some(last) = self.outermost_first.pop() {
+            self.last = last;
+        }
+    }
+
+    /// After a token.
+    pub fn go_on(&mut self, options: &Options, token: Token)
+        ensures { deidentifying.GoesOn options.now self.old self.new (atoms_of token.entry) }
+    {
+        match token {
+            Token::Open(head, syntax) => self.open(options, head, syntax),
+            Token::Bytes(bytes) => self.add(bytes),
+            Token::CloseLeaf => self.close_value(),
+            Token::OpenItem(_) => self.open_item(),
+            Token::CloseItem => self.close_item(),
+            Token::CloseSeq => self.skip.close(),
+            Token::OpenFragment(_) => self.skip.open(false),
+            Token::End => {}
+        }
+    }
+}

@@ -1,0 +1,110 @@
+// The value of an open element that has to be known when it ends.
+ghost use Rattle.std.specs.Prelude.{◌≡◌, ◌≤◌, ◌+◌, ◌++◌, fold, length};
+ghost use Rattle.dcm_base.specs.Tables.Transfer.{is_pad};
+ghost use Rattle.dcm_base.specs.Tree.Value.{order};
+ghost use Rattle.dcm_deid.specs.DeidentifySink as spec;
+ghost use Rattle.dcm_deid.specs.Deidentifying.{held};
+
+use crate::key::UidKey;
+use arrayvec::ArrayVec;
+use dcm_base::{Syntax, Tag, Vr};
+use dcm_head::without_pads;
+use dcm_value::swap;
+
+/// The most bytes of a unique identifier (PS3.5 6.2).
+pub const MOST_OF_UID: usize = 64;
+
+/// The value of an open element: its first bytes, and whether it is longer, its padding aside.
+#[derive(Drop)]
+pub struct HeldValue {
+    pub tag: Tag,
+    pub vr: Vr,
+    pub syntax: Syntax,
+    pub bytes: ArrayVec<u8, MOST_OF_UID>,
+    pub is_longer: bool,
+}
+
+/// Whether a byte pads a value.
+fn is_pad(byte: u8) -> bool
+    ensures { result ≡ is_pad byte }
+{
+    byte == 0 || byte == b' '
+}
+
+/// The same bytes once more.
+fn copied(bytes: &ArrayVec<u8, MOST_OF_UID>) -> ArrayVec<u8, MOST_OF_UID>
+    ensures { result.items ≡ bytes.now.items }
+{
+    let mut copy = ArrayVec::new();
+    match copy.try_extend_from_slice(bytes.as_slice()) {
+        Ok(()) => copy,
+        Err(_) => unreachable!(),
+    }
+}
+
+impl HeldValue {
+    /// A value that begins.
+    pub fn new(tag: Tag, vr: Vr, syntax: Syntax) -> HeldValue
+        ensures { held result ≡ spec.nothing_held tag vr syntax }
+    {
+        HeldValue {
+            tag,
+            vr,
+            syntax,
+            bytes: ArrayVec::new(),
+            is_longer: false,
+        }
+    }
+
+    /// One more byte.
+    fn add_byte(&mut self, byte: u8)
+        ensures { held self.new ≡ spec.held_with (held self.old) byte }
+    {
+        if self.bytes.len() < MOST_OF_UID {
+            self.bytes.push(byte);
+        } else if !is_pad(byte) {
+            self.is_longer = true;
+        }
+    }
+
+    /// More bytes.
+    pub fn add(&mut self, bytes: &[u8])
+        ensures { held self.new ≡ fold spec.held_with (held self.old) bytes.now }
+    {
+        for byte in bytes {
+            self.add_byte(*byte);
+        }
+    }
+
+    /// The first bytes, in little endian order.
+    fn ordered(&self) -> ArrayVec<u8, MOST_OF_UID>
+        ensures { result.items ≡ order self.now.syntax self.now.vr self.now.bytes.items }
+    {
+        let mut value = copied(&self.bytes);
+        if self.syntax.is_big() {
+            swap(self.vr.unit(), value.as_mut_slice());
+        }
+        value
+    }
+
+    /// What takes its place under a key, of an even number of bytes.
+    pub fn new_value(&self, key: &UidKey) -> ArrayVec<u8, MOST_OF_UID>
+        ensures { result.items ≡ spec.new_of key.now.bytes.now (held self.now) }
+    {
+        if self.is_longer {
+            return ArrayVec::new();
+        }
+        let mut new = key.new_value(self.ordered().as_slice());
+        if new.len() % 2 == 1 {
+            new.push(self.vr.pad());
+        }
+        new
+    }
+
+    /// Whether it is YES.
+    pub fn is_yes(&self) -> bool
+        ensures { result ≡ spec.is_yes (held self.now) }
+    {
+        !self.is_longer && without_pads(self.ordered().as_slice()) == b"YES".as_slice()
+    }
+}

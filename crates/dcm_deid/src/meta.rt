@@ -1,0 +1,70 @@
+// What stays of a meta group where identity is taken out of its file.
+ghost use Rattle.std.specs.Prelude.{◌≡◌, ◌&&◌, ◌≤◌, length};
+ghost use Rattle.dcm_deid.specs.Meta as spec;
+ghost use Rattle.dcm_deid.specs.Meta.{meta_renewing};
+
+use crate::fate::Options;
+use crate::key::UidKey;
+use dcm_base::Tag;
+use dcm_head::{MetaElement, PREAMBLE, Renewal, Renewed};
+
+/// The preamble of a file without identity.
+pub const NO_PREAMBLE: [u8; PREAMBLE] = [0; PREAMBLE];
+
+/// The group of the meta elements (PS3.10 7.1).
+const META_GROUP: u16 = 0x0002;
+
+/// What becomes of a meta element.
+#[derive(Clone, Copy, Debug, PartialEq, Eq)]
+pub enum MetaFate {
+    /// It goes.
+    Remove,
+    /// It stays as it is.
+    Keep,
+    /// It stays with a new unique identifier.
+    Uid,
+}
+
+/// What becomes of a meta element: the version, the class and the instance, the transfer syntax, and the implementation
+/// stay.
+pub fn meta_fate(options: &Options, tag: Tag) -> MetaFate
+    ensures { result ≡ spec.meta_fate options.now tag }
+{
+    match (tag.group, tag.element) {
+        (META_GROUP, 0x0003) if !options.uids => MetaFate::Uid,
+        (META_GROUP, 0x0001..=0x0003 | 0x0010 | 0x0012 | 0x0013) => MetaFate::Keep,
+        _ => MetaFate::Remove,
+    }
+}
+
+/// What stays of a meta group without identity.
+#[derive(Drop)]
+pub struct MetaWithoutIdentity<'a> {
+    options: Options,
+    key: UidKey<'a>,
+}
+
+impl<'a> MetaWithoutIdentity<'a> {
+    /// The key is that of new unique identifiers.
+    pub fn new(options: Options, key: &'a [u8]) -> Self
+        ensures options { result.options ≡ options }
+        ensures key { result.key.bytes.now ≡ key.now }
+    {
+        MetaWithoutIdentity {
+            options,
+            key: UidKey::new(key),
+        }
+    }
+}
+
+impl<'a> Renewal for MetaWithoutIdentity<'a> {
+    ghost renewing = { λ self. meta_renewing self.options self.key.bytes.now };
+
+    fn renew(&self, element: MetaElement<'_>) -> Renewed {
+        match meta_fate(&self.options, element.tag) {
+            MetaFate::Remove => Renewed::Gone,
+            MetaFate::Keep => Renewed::Same,
+            MetaFate::Uid => Renewed::New(self.key.new_value(element.value)),
+        }
+    }
+}

@@ -1,0 +1,296 @@
+// Taking identity out, between what reads a data set and what takes it.
+ghost use Rattle.std.specs.Prelude.{◌≡◌, ℕ, List, [], ◌∷◌, true, OnOk};
+ghost use Rattle.std.specs.Borrow.{GName};
+ghost use Rattle.dcm_base.specs.Reading.Bars as bars;
+ghost use Rattle.dcm_base.specs.Steps.Atoms.{opens, ends};
+ghost use Rattle.dcm_deid.specs.declared.fate.Options.{Options as AnyOptions};
+ghost use Rattle.dcm_deid.specs.DeidentifySink as spec;
+ghost use Rattle.dcm_deid.specs.DeidentifySink.{State as DeidentifyState};
+ghost use Rattle.dcm_deid.specs.Deidentifying as deidentifying;
+ghost use Rattle.dcm_deid.specs.Through.{through_step, through_writes, through_bar};
+ghost use Rattle.dcm_stream.specs.Sinks as sinks;
+ghost use Rattle.dcm_stream.specs.Skip.{depth, is_open};
+ghost use Rattle.dcm_stream.specs.Tokens.{IsFilled, atoms_of, leaf_atoms};
+
+use crate::deidentifier::{Deidentifier, form_after};
+use crate::dummy::dummy;
+use crate::fate::{Depth, Fate, Options};
+use crate::held::HeldValue;
+use crate::key::UidKey;
+use crate::said::{Gap, put_leaf, put_said};
+use dcm_base::{Form, Length, Syntax, Tag, WriteFailed};
+use dcm_head::Head;
+use dcm_stream::{Bar, Sink, Token};
+
+/// The records of a DICOMDIR, which are found by their offsets (PS3.3 F.2).
+const DIRECTORY_RECORDS: Tag = Tag {
+    group: 0x0004,
+    element: 0x1220,
+};
+
+/// An encapsulated document (PS3.3 C.24.2).
+const ENCAPSULATED_DOCUMENT: Tag = Tag {
+    group: 0x0042,
+    element: 0x0011,
+};
+
+/// Whether identity cannot be taken out of an element of this tag.
+fn holds_identity(tag: Tag) -> bool
+    ensures { result ≡ bars.holds_identity tag }
+{
+    tag == DIRECTORY_RECORDS || tag == ENCAPSULATED_DOCUMENT
+}
+
+/// Passes on what says what was done, at the outermost level, before an element of this tag or at the end.
+fn put_gap<S: Sink>(
+    options: &Options,
+    place: &Deidentifier,
+    next: Option<Tag>,
+    sink: &mut S,
+) -> Result<(), WriteFailed>
+    ensures { sinks.Took S.Sink sink.old sink.new
+        (spec.said_before options.now (deidentifying.place place.now) next) result }
+{
+    match place.depth() {
+        Depth::Outermost => {
+            let last = place.last;
+            put_said(options, Gap { last, next }, sink)
+        }
+        Depth::Inside => Ok(()),
+    }
+}
+
+/// Passes on the head of an element that is kept. The length of a sequence counts what is taken out of it.
+fn put_kept<S: Sink>(
+    form: Form,
+    head: Head,
+    syntax: Syntax,
+    sink: &mut S,
+) -> Result<(), WriteFailed>
+    ensures { sinks.Took S.Sink sink.old sink.new
+        (opens head.tag head.vr (spec.kept_length form head.length) syntax ∷ []) result }
+{
+    let length = match form {
+        Form::Sequence => Length::Undefined,
+        Form::Value | Form::FragmentList | Form::Nothing => head.length,
+    };
+    sink.take(Token::Open(Head { length, ..head }, syntax))
+}
+
+/// Passes on a sequence without items.
+fn put_empty_sequence<S: Sink>(head: Head, sink: &mut S) -> Result<(), WriteFailed>
+    ensures { sinks.Took S.Sink sink.old sink.new (spec.empty_sequence head.tag head.vr) result }
+{
+    let length = Length::Undefined;
+    sink.take(Token::Open(Head { length, ..head }, Syntax::LITTLE))?;
+    sink.take(Token::CloseSeq)
+}
+
+/// Passes on what an element becomes, as far as its head determines it.
+fn put_head<S: Sink>(
+    fate: Fate,
+    form: Form,
+    head: Head,
+    syntax: Syntax,
+    sink: &mut S,
+) -> Result<(), WriteFailed>
+    ensures { sinks.Took S.Sink sink.old sink.new (spec.head_by fate form head.tag head.vr head.length syntax) result }
+{
+    match (fate, form) {
+        (Fate::Keep, _) => put_kept(form, head, syntax, sink),
+        (Fate::Empty | Fate::Replace | Fate::Uid, Form::Sequence) => put_empty_sequence(head, sink),
+        (Fate::Empty, Form::Value) => put_leaf(head.tag, head.vr, &[], sink),
+        (Fate::Replace, Form::Value) => put_leaf(head.tag, head.vr, dummy(head.vr), sink),
+        _ => Ok(()),
+    }
+}
+
+/// Passes on what becomes of the head of an element, of which nothing is left out so far.
+fn pass_element<S: Sink>(
+    options: &Options,
+    place: &Deidentifier,
+    head: Head,
+    syntax: Syntax,
+    sink: &mut S,
+) -> Result<(), WriteFailed>
+    ensures { sinks.Took S.Sink sink.old sink.new (spec.passed_open options.now (deidentifying.place place.now)
+        (opens head.tag head.vr head.length syntax)) result }
+{
+    let form = form_after(head, syntax);
+    put_gap(options, place, Some(head.tag), sink)?;
+    put_head(
+        place.fate(options, form, head.tag),
+        form,
+        head,
+        syntax,
+        sink,
+    )
+}
+
+/// Passes on the end of a data set.
+fn pass_end<S: Sink>(
+    options: &Options,
+    place: &Deidentifier,
+    sink: &mut S,
+) -> Result<(), WriteFailed>
+    ensures { sinks.Took S.Sink sink.old sink.new (spec.passed_open options.now (deidentifying.place place.now) ends)
+        result }
+{
+    put_gap(options, place, None, sink)?;
+    sink.take(Token::End)
+}
+
+/// Passes on what a token becomes, of an element that is not left out.
+fn pass_open<S: Sink>(
+    options: &Options,
+    place: &Deidentifier,
+    token: Token,
+    sink: &mut S,
+) -> Result<(), WriteFailed>
+    requires kept { depth place.now.skip ≡ 0 }
+    requires filled { IsFilled token }
+    ensures { (key : List ℕ) → sinks.Took S.Sink sink.old sink.new
+        (deidentifying.passed_of options.now key place.now (atoms_of token.entry)) result }
+{
+    match token {
+        Token::Open(head, syntax) => pass_element(options, place, head, syntax, sink),
+        Token::OpenItem(_) => sink.take(Token::OpenItem(Length::Undefined)),
+        Token::End => pass_end(options, place, sink),
+        Token::Bytes(_)
+        | Token::CloseLeaf
+        | Token::CloseItem
+        | Token::CloseSeq
+        | Token::OpenFragment(_) => sink.take(token),
+    }
+}
+
+/// Passes on a new unique identifier in place of a whole one.
+fn put_new_uid<S: Sink>(held: &HeldValue, key: &UidKey, sink: &mut S) -> Result<(), WriteFailed>
+    ensures { sinks.Took S.Sink sink.old sink.new
+        (leaf_atoms held.now.tag held.now.vr (spec.new_of key.now.bytes.now (deidentifying.held held.now))) result }
+{
+    let value = held.new_value(key);
+    put_leaf(held.tag, held.vr, value.as_slice(), sink)
+}
+
+/// Passes on what a token becomes, of an element that is left out.
+fn pass_left_out<S: Sink>(
+    key: &UidKey,
+    place: &Deidentifier,
+    token: Token,
+    sink: &mut S,
+) -> Result<(), WriteFailed>
+    requires left_out { is_open (depth place.now.skip) ≡ true }
+    ensures { (options : AnyOptions) → sinks.Took S.Sink sink.old sink.new
+        (deidentifying.passed_of options key.now.bytes.now place.now (atoms_of token.entry)) result }
+{
+    match (token, &place.held) {
+        (Token::CloseLeaf, Some(held)) => put_new_uid(held, key, sink),
+        _ => Ok(()),
+    }
+}
+
+/// Passes on what a token becomes.
+fn pass<S: Sink>(
+    options: &Options,
+    key: &UidKey,
+    place: &Deidentifier,
+    token: Token,
+    sink: &mut S,
+) -> Result<(), WriteFailed>
+    requires filled { IsFilled token }
+    ensures { sinks.Took S.Sink sink.old sink.new
+        (deidentifying.passed_of options.now key.now.bytes.now place.now (atoms_of token.entry)) result }
+{
+    if place.skip.is_open() {
+        pass_left_out(key, place, token, sink)
+    } else {
+        pass_open(options, place, token, sink)
+    }
+}
+
+/// Passes on what a token becomes, and goes on after it.
+fn pass_on<S: Sink>(
+    options: &Options,
+    key: &UidKey,
+    place: &mut Deidentifier,
+    token: Token,
+    sink: &mut S,
+) -> Result<(), WriteFailed>
+    requires filled { IsFilled token }
+    ensures took { sinks.Took S.Sink sink.old sink.new
+        (deidentifying.passed_of options.now key.now.bytes.now place.old (atoms_of token.entry)) result }
+    ensures state { OnOk result (deidentifying.GoesOn options.now place.old place.new (atoms_of token.entry)) }
+{
+    pass(options, key, place, token, sink)?;
+    place.go_on(options, token);
+    Ok(())
+}
+
+/// A sink that passes the tokens of a data set on to another one, without identity: kept elements as they are, others
+/// as PS3.15 table E.1-1 asks, and at the outermost level the elements that say what was done. It bars tags that do
+/// not ascend and elements out of which identity cannot be taken, and does not ask what the other one bars.
+#[derive(Drop)]
+pub struct DeidentifySink<'a, S> {
+    options: Options,
+    key: UidKey<'a>,
+    inner: &'a mut S,
+    place: Deidentifier,
+}
+
+impl<'a, S: Sink> DeidentifySink<'a, S> {
+    /// The key is that of new unique identifiers.
+    pub fn new(options: Options, key: &'a [u8], inner: &'a mut S) -> Self
+        ensures same_reference { result.inner.ghost_name ≡ inner.entry.ghost_name }
+        ensures inner { result.inner.now ≡ inner.old }
+        ensures state { deidentifying.state result.options result.key.bytes.now result.place
+            ≡ spec.begun options key.now }
+    {
+        DeidentifySink {
+            options,
+            key: UidKey::new(key),
+            inner,
+            place: Deidentifier::new(),
+        }
+    }
+
+    /// Whether a value that was written says that the pixels show identity.
+    pub fn pixels_may_show(&self) -> bool
+        ensures { result ≡ (deidentifying.place self.now.place).may_show }
+    {
+        self.place.may_show
+    }
+}
+
+impl<'a, S: Sink> Sink for DeidentifySink<'a, S> {
+    ghost State = { DeidentifyState × S.State };
+
+    ghost state = { λ e. (deidentifying.state e.options e.key.bytes.now e.place, S.state e.inner.now) };
+
+    ghost step = { through_step S.step };
+
+    ghost writes = { through_writes S.step S.writes };
+
+    ghost bar = { through_bar };
+
+    ghost contents = { λ e. S.contents e.inner.now };
+
+    ghost has_failed = { λ e. S.has_failed e.inner.now };
+
+    ghost Kept = { GName × S.Kept };
+
+    ghost kept = { λ e. (e.inner.ghost_name, S.kept e.inner.now) };
+
+    #[inline(always)]
+    fn take(&mut self, token: Token) -> Result<(), WriteFailed> {
+        pass_on(&self.options, &self.key, &mut self.place, token, self.inner)
+    }
+
+    fn accepts(&self, head: &Head) -> Result<(), Bar> {
+        match self.place.last {
+            Some(last) if !last.is_below(head.tag) => Err(Bar::Order),
+            _ if holds_identity(head.tag) => Err(Bar::Identity),
+            _ => Ok(()),
+        }
+    }
+}

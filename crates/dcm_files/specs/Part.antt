@@ -1,0 +1,132 @@
+-- An output that has its name only once it is whole.
+use Rattle.std.specs.Prelude.{◌≡◌, ◌≢◌, ℕ, nat_le, length, List, ◌++◌, codes, Bool, true, false, ◌&&◌, not, Option}
+use Rattle.std.specs.Prelude.{Some, None}
+use Rattle.std.specs.Prelude.{Result, Ok, Err}
+use Rattle.std.specs.Option.{is_some, is_none}
+use Rattle.std.specs.IoError.{error_kind}
+use Rattle.std.specs.Str.{IsUtf8}
+use Rattle.std.specs.declared.io.Error.{Error}
+use Rattle.std.specs.declared.io.ErrorKind.TheVariants as kinds
+use Rattle.dcm_files.specs.declared.opened.FileKind.{FileKind}
+use Rattle.dcm_files.specs.declared.opened.FileKind.TheVariants.{Regular}
+use Rattle.dcm_files.specs.declared.opened.Opened.{Opened}
+use Rattle.dcm_files.specs.declared.opened.Unopened.{Unopened}
+use Rattle.dcm_files.specs.declared.opened.Unopened.TheVariants.{Input, Output}
+use Rattle.dcm_files.specs.Devices.{MayDo, IsCause, OpensInput, clash, standard}
+
+-- ---- paths
+
+-- the path at which an output is written until it is whole
+abbrev pub part_of : (output : List ℕ) → List ℕ
+part_of output = output ++ codes ".part"
+
+-- the most bytes of a path (PATH_MAX of Linux)
+abbrev pub LONGEST_PATH : ℕ
+LONGEST_PATH = 4096
+
+abbrev pub is_short : (output : List ℕ) → Bool
+is_short output = nat_le (length output) LONGEST_PATH
+
+-- ---- what may be replaced
+
+abbrev pub is_regular : FileKind → Bool
+is_regular (Regular device number size) = true
+is_regular _ = false
+
+-- it is the file that was read earlier, or may be
+abbrev pub was_read : (earlier : Option FileKind) → FileKind → Bool
+was_read None kind = false
+was_read (Some earlier) kind = is_some (clash earlier kind)
+
+-- nothing, or a regular file that was not read, as the input or earlier
+abbrev pub may_replace : (there : Option FileKind) → (input : FileKind) → (earlier : Option FileKind) → Bool
+may_replace None input earlier = true
+may_replace (Some kind) input earlier = is_regular kind && is_none (clash input kind) && not (was_read earlier kind)
+
+-- ---- what the opening of such an output gives
+
+-- a path that is no text, or is too long
+pub data BadPath (path : List ℕ) (e : Error) : Type 0 where
+  no_text : ¬ (IsUtf8 path) → error_kind e ≡ kinds.InvalidFilename → BadPath path e
+  too_long : is_short path ≡ false → error_kind e ≡ kinds.InvalidFilename → BadPath path e
+
+-- of a path: what is there is looked at, and then a part is made
+pub data OpensPart {S I O : Type 0} (may : MayDo S I O) (output : List ℕ) (input : FileKind) (earlier : Option FileKind)
+    (before : S) (r : Result (Opened O) Error) (after : S) : Type 0 where
+  no_text : (e : Error) → ¬ (IsUtf8 output) → error_kind e ≡ kinds.InvalidFilename → r ≡ Err e → after ≡ before
+      → OpensPart may output input earlier before r after
+  not_seen : (e : Error) → may.looks before output (Err e) after → r ≡ Err e
+      → OpensPart may output input earlier before r after
+  not_replaced : (there : Option FileKind) (e : Error) → may.looks before output (Ok there) after
+      → may_replace there input earlier ≡ false → error_kind e ≡ kinds.AlreadyExists → r ≡ Err e
+      → OpensPart may output input earlier before r after
+  too_long : (there : Option FileKind) (e : Error) → may.looks before output (Ok there) after
+      → may_replace there input earlier ≡ true → is_short output ≡ false
+      → error_kind e ≡ kinds.InvalidFilename → r ≡ Err e → OpensPart may output input earlier before r after
+  made : (there : Option FileKind) (has_looked : S) → may.looks before output (Ok there) has_looked
+      → may_replace there input earlier ≡ true → may.makes has_looked (part_of output) r after
+      → OpensPart may output input earlier before r after
+
+-- of standard output: it is closed again where it is a file that was read
+pub data OpensStream {S I O : Type 0} (may : MayDo S I O) (input : FileKind) (earlier : Option FileKind)
+    (before : S) (r : Result (Opened O) Unopened) (after : S) : Type 0 where
+  no_stdout : (e : Error) (u : Unopened) → may.stdout before (Err e) after → IsCause (error_kind e) Output u
+      → r ≡ Err u → OpensStream may input earlier before r after
+  was_read_earlier : (o : Opened O) (has_output : S) → may.stdout before (Ok o) has_output
+      → was_read earlier o.kind ≡ true
+      → may.closes has_output o.device after → r ≡ Err Output → OpensStream may input earlier before r after
+  clashed : (o : Opened O) (cause : Unopened) (has_output : S) → may.stdout before (Ok o) has_output
+      → was_read earlier o.kind ≡ false → clash input o.kind ≡ Some cause → may.closes has_output o.device after
+      → r ≡ Err cause → OpensStream may input earlier before r after
+  opened : (o : Opened O) → may.stdout before (Ok o) after → was_read earlier o.kind ≡ false → clash input o.kind ≡ None
+      → r ≡ Ok o → OpensStream may input earlier before r after
+
+-- of an output that has its name only once it is whole
+pub data OpensWhole {S I O : Type 0} (may : MayDo S I O) (output : List ℕ) (input : FileKind)
+    (earlier : Option FileKind)
+    (before : S) (r : Result (Opened O) Unopened) (after : S) : Type 0 where
+  stream : output ≡ standard → OpensStream may input earlier before r after
+      → OpensWhole may output input earlier before r after
+  no_part : (e : Error) (u : Unopened) → output ≢ standard → OpensPart may output input earlier before (Err e) after
+      → IsCause (error_kind e) Output u → r ≡ Err u → OpensWhole may output input earlier before r after
+  part : (o : Opened O) → output ≢ standard → OpensPart may output input earlier before (Ok o) after → r ≡ Ok o
+      → OpensWhole may output input earlier before r after
+
+-- of both: the input is opened, and then the output
+pub data OpensWholeDevices {S I O : Type 0} (may : MayDo S I O) (input output : List ℕ) (earlier : Option FileKind)
+    (before : S) (r : Result (Opened I × Opened O) Unopened) (after : S) : Type 0 where
+  no_input : (e : Error) (u : Unopened) → OpensInput may input before (Err e) after → IsCause (error_kind e) Input u
+      → r ≡ Err u → OpensWholeDevices may input output earlier before r after
+  no_output : (i : Opened I) (u : Unopened) (has_input tried : S) → OpensInput may input before (Ok i) has_input
+      → OpensWhole may output i.kind earlier has_input (Err u) tried → may.releases tried i.device after
+      → r ≡ Err u → OpensWholeDevices may input output earlier before r after
+  both : (i : Opened I) (o : Opened O) (has_input : S) → OpensInput may input before (Ok i) has_input
+      → OpensWhole may output i.kind earlier has_input (Ok o) after → r ≡ Ok (i, o)
+      → OpensWholeDevices may input output earlier before r after
+
+-- ---- what is done with it at the end
+
+-- a part is removed
+pub data RemovesPart {S I O : Type 0} (may : MayDo S I O) (output : List ℕ) (before : S)
+    (r : Result (Unit {0}) Error) (after : S) : Type 0 where
+  no_path : (e : Error) → BadPath output e → r ≡ Err e → after ≡ before → RemovesPart may output before r after
+  removed : may.removes before (part_of output) r after → RemovesPart may output before r after
+
+-- a part is moved to its name
+pub data MovesPart {S I O : Type 0} (may : MayDo S I O) (output : List ℕ) (before : S)
+    (r : Result (Unit {0}) Error) (after : S) : Type 0 where
+  no_path : (e : Error) → BadPath output e → r ≡ Err e → after ≡ before → MovesPart may output before r after
+  moved : may.moves before (part_of output) output r after → MovesPart may output before r after
+
+-- a stream is left as it is; a part that is not whole is removed; one that is whole is moved to its name, and removed
+-- where that fails
+pub data EndsPart {S I O : Type 0} (may : MayDo S I O) (output : List ℕ) (is_whole : Bool) (before : S)
+    (r : Result (Unit {0}) Error) (after : S) : Type 0 where
+  stream : output ≡ standard → r ≡ Ok _ → after ≡ before → EndsPart may output is_whole before r after
+  removed : output ≢ standard → is_whole ≡ false → RemovesPart may output before r after
+      → EndsPart may output is_whole before r after
+  moved : output ≢ standard → is_whole ≡ true → MovesPart may output before (Ok _) after → r ≡ Ok _
+      → EndsPart may output is_whole before r after
+  not_moved : (e : Error) (removing : Result (Unit {0}) Error) (tried : S) → output ≢ standard → is_whole ≡ true
+      → MovesPart may output before (Err e) tried → RemovesPart may output tried removing after → r ≡ Err e
+      → EndsPart may output is_whole before r after

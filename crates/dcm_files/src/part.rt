@@ -1,0 +1,176 @@
+// An output that has its name only once it is whole.
+ghost use Rattle.std.specs.Prelude.{◌≡◌, ◌++◌, ◌≤◌, IfOk, IfErr, length, false};
+ghost use Rattle.std.specs.IoError.{error_kind};
+ghost use Rattle.dcm_files.specs.Part as spec;
+
+use crate::devices::{STANDARD, System, clash, open_input, path, unopened};
+use crate::opened::{FileKind, Opened, Unopened};
+use arrayvec::ArrayVec;
+use std::io;
+use std::io::ErrorKind;
+
+/// What the name of a file ends in while it is written.
+const SUFFIX: &[u8] = b".part";
+
+/// The most bytes of a path, with the suffix: Linux has no longer ones (PATH_MAX).
+const LONGEST: usize = 4096 + SUFFIX.len();
+
+/// The path at which an output is written until it is whole.
+fn part_of(output: &[u8]) -> io::Result<ArrayVec<u8, LONGEST>>
+    ensures ok { IfOk result (λ part. part.items ≡ spec.part_of output.now) }
+    ensures err { IfErr result (λ e. (spec.is_short output.now ≡ false) × (error_kind e ≡ ErrorKind.InvalidFilename)) }
+{
+    let mut part = ArrayVec::new();
+    let fits = part.try_extend_from_slice(output).is_ok()
+        && part.try_extend_from_slice(SUFFIX).is_ok();
+    if fits {
+        Ok(part)
+    } else {
+        Err(io::Error::from(ErrorKind::InvalidFilename))
+    }
+}
+
+/// Whether a file may be put in the place of what is there: nothing, or a regular file that was not read.
+fn may_replace(there: Option<FileKind>, input: FileKind, earlier: Option<FileKind>) -> bool
+    ensures { result ≡ spec.may_replace there input earlier }
+{
+    match there {
+        None => true,
+        Some(kind) => is_regular(kind) && clash(input, kind).is_none() && !was_read(earlier, kind),
+    }
+}
+
+/// Whether it is a regular file.
+fn is_regular(kind: FileKind) -> bool
+    ensures { result ≡ spec.is_regular kind }
+{
+    matches!(kind, FileKind::Regular { .. })
+}
+
+/// Whether it is the file that was read earlier.
+fn was_read(earlier: Option<FileKind>, kind: FileKind) -> bool
+    ensures { result ≡ spec.was_read earlier kind }
+{
+    match earlier {
+        Some(earlier) => clash(earlier, kind).is_some(),
+        None => false,
+    }
+}
+
+/// Opens what is written at a path until it is whole: a new file, where its output may be put in the place of what is
+/// there.
+fn open_part<S: System>(
+    system: &mut S,
+    output: &[u8],
+    input: FileKind,
+    earlier: Option<FileKind>,
+) -> io::Result<Opened<S::Output>>
+    ensures { spec.OpensPart S.may_do output.now input earlier system.old result system.new }
+{
+    let there = system.kind_at(path(output)?)?;
+    if !may_replace(there, input, earlier) {
+        return Err(io::Error::from(ErrorKind::AlreadyExists));
+    }
+    let part = part_of(output)?;
+    system.create_new(path(part.as_slice())?)
+}
+
+/// Opens standard output, unless it is a file that was read.
+fn open_stream<S: System>(
+    system: &mut S,
+    input: FileKind,
+    earlier: Option<FileKind>,
+) -> Result<Opened<S::Output>, Unopened>
+    ensures { spec.OpensStream S.may_do input earlier system.old result system.new }
+{
+    let output = match system.stdout() {
+        Ok(output) => output,
+        Err(e) => return Err(unopened(&e, Unopened::Output)),
+    };
+    if was_read(earlier, output.kind) {
+        system.close(output.device);
+        return Err(Unopened::Output);
+    }
+    if let Some(cause) = clash(input, output.kind) {
+        system.close(output.device);
+        return Err(cause);
+    }
+    Ok(output)
+}
+
+/// Opens an output that has its name only once it is whole, `-` for standard output.
+fn open_whole<S: System>(
+    system: &mut S,
+    output: &[u8],
+    input: FileKind,
+    earlier: Option<FileKind>,
+) -> Result<Opened<S::Output>, Unopened>
+    ensures { spec.OpensWhole S.may_do output.now input earlier system.old result system.new }
+{
+    if output == STANDARD {
+        return open_stream(system, input, earlier);
+    }
+    match open_part(system, output, input, earlier) {
+        Ok(output) => Ok(output),
+        Err(e) => Err(unopened(&e, Unopened::Output)),
+    }
+}
+
+/// Opens the input of a job, and then its output, which has its name only once it is whole. They are refused where the
+/// output is the file that is read, or one that was read earlier.
+pub fn open_whole_devices<S: System>(
+    system: &mut S,
+    input: &[u8],
+    output: &[u8],
+    earlier: Option<FileKind>,
+) -> Result<(Opened<S::Input>, Opened<S::Output>), Unopened>
+    ensures { spec.OpensWholeDevices S.may_do input.now output.now earlier system.old result system.new }
+{
+    let input = match open_input(system, input) {
+        Ok(input) => input,
+        Err(e) => return Err(unopened(&e, Unopened::Input)),
+    };
+    match open_whole(system, output, input.kind, earlier) {
+        Ok(output) => Ok((input, output)),
+        Err(cause) => {
+            system.release(input.device);
+            Err(cause)
+        }
+    }
+}
+
+/// Moves a part to its name.
+fn move_part<S: System>(system: &mut S, output: &[u8]) -> io::Result<()>
+    ensures { spec.MovesPart S.may_do output.now system.old result system.new }
+{
+    let part = part_of(output)?;
+    system.rename(path(part.as_slice())?, path(output)?)
+}
+
+/// Removes a part.
+fn remove_part<S: System>(system: &mut S, output: &[u8]) -> io::Result<()>
+    ensures { spec.RemovesPart S.may_do output.now system.old result system.new }
+{
+    let part = part_of(output)?;
+    system.remove(path(part.as_slice())?)
+}
+
+/// Gives an output its name, where it is whole; else removes it. Fails where it cannot be given its name, and has
+/// removed it then.
+pub fn end_part<S: System>(system: &mut S, output: &[u8], is_whole: bool) -> io::Result<()>
+    ensures { spec.EndsPart S.may_do output.now is_whole system.old result system.new }
+{
+    if output == STANDARD {
+        return Ok(());
+    }
+    if !is_whole {
+        return remove_part(system, output);
+    }
+    match move_part(system, output) {
+        Ok(()) => Ok(()),
+        Err(e) => {
+            let _ = remove_part(system, output);
+            Err(e)
+        }
+    }
+}

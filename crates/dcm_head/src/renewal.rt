@@ -1,0 +1,73 @@
+// What stays of a meta group that is written anew.
+ghost use Rattle.std.specs.Prelude.{◌≡◌, ◌<◌, IfSome, IfNone, None, Some, length, List, ℕ};
+ghost use Rattle.dcm_base.specs.Conversion.NewMeta.{Renewing};
+ghost use Rattle.dcm_head.specs.Rewriting as spec;
+
+use crate::element::MetaElement;
+use arrayvec::ArrayVec;
+use dcm_base::Tag;
+
+/// The most bytes of a value that is put in place of another: those of a unique identifier (PS3.5 6.2).
+const MOST_OF_NEW: usize = 64;
+
+/// What becomes of an element.
+#[derive(Drop)]
+pub enum Renewed {
+    /// It goes.
+    Gone,
+    /// It stays as it is.
+    Same,
+    /// It stays with this value, without padding.
+    New(ArrayVec<u8, MOST_OF_NEW>),
+}
+
+impl Renewed {
+    /// The element as it stays.
+    pub fn of<'a>(&'a self, element: MetaElement<'a>) -> Option<MetaElement<'a>>
+        requires { length element.value.now < 65535 }
+        ensures some { IfSome result (λ e. spec.StaysAs self.now element.entry e) }
+        ensures limit { IfSome result (λ e. length e.value.now < 65535) }
+        ensures none { IfNone result (spec.renewed_value self.now element.entry.value.now ≡ None) }
+    {
+        match self {
+            Renewed::Gone => None,
+            Renewed::Same => Some(element),
+            Renewed::New(value) => Some(MetaElement {
+                value: value.as_slice(),
+                ..element
+            }),
+        }
+    }
+
+    /// Whether the transfer syntax is named after an element of this tag.
+    pub fn is_named(&self, named: bool, tag: Tag) -> bool
+        ensures { (value : List ℕ) → result ≡ spec.named_after (spec.renewed_value self.now value) named tag }
+    {
+        match self {
+            Renewed::Gone => named,
+            Renewed::Same | Renewed::New(_) => named || tag.names_syntax(),
+        }
+    }
+}
+
+/// What says what stays of a meta group.
+pub trait Renewal {
+    /// The value that an element is to have, or none where it goes.
+    ghost renewing: { Self → Renewing };
+
+    /// What becomes of an element.
+    fn renew(&self, element: MetaElement<'_>) -> Renewed
+        ensures { spec.renewed_value result element.entry.value.now
+            ≡ renewing self.now element.entry.tag element.entry.vr element.entry.value.now };
+}
+
+/// All elements stay as they are.
+pub struct AllStays;
+
+impl Renewal for AllStays {
+    ghost renewing = { λ self. spec.all_stays };
+
+    fn renew(&self, _element: MetaElement<'_>) -> Renewed {
+        Renewed::Same
+    }
+}
