@@ -71,7 +71,7 @@ _dcmtools() {
     local current=${COMP_WORDS[COMP_CWORD]} switches
     COMPREPLY=()
     if ((COMP_CWORD == 1)); then
-        _dcmtools_words "dcmdump dcmconv dump2dcm dcmodify $_dcmtools_answered" "$current"
+        _dcmtools_words "dcmdump dcmconv dump2dcm dcmodify dcmdeid $_dcmtools_answered" "$current"
         return
     fi
     case ${COMP_WORDS[1]} in
@@ -79,12 +79,14 @@ _dcmtools() {
         dcmconv) switches='+t= +ti +te +tb -e +fo -dict +dict' ;;
         dump2dcm) switches='+l -e' ;;
         dcmodify) switches='-i -m -e -ma -ea -ep -dict +dict' ;;
+        dcmdeid) switches='+ru +rd +ri +rp +rl +bi +k' ;;
         *) return ;;
     esac
     case ${COMP_WORDS[1]}${COMP_WORDS[COMP_CWORD - 1]} in
         dcmodify-i | dcmodify-m) _dcmtools_paths "$current" '='; return ;;
         dcmodify-e) _dcmtools_paths "$current" ''; return ;;
         dcmodify-ma) _dcmtools_replaced "$current"; return ;;
+        dcmdeid+k) _dcmtools_files "$current"; return ;;
         dcmodify-ea) _dcmtools_words "$_dcmtools_values $_dcmtools_sequences" "$current"; return ;;
     esac
     case $current in

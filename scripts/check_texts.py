@@ -12,7 +12,7 @@ import sys
 from pathlib import Path
 
 ROOT = Path(__file__).resolve().parent.parent
-TEXTS = {"dcmdump": "DUMP", "dcmconv": "CONVERT", "dump2dcm": "BUILD", "dcmodify": "MODIFY"}
+TEXTS = {"dcmdump": "DUMP", "dcmconv": "CONVERT", "dump2dcm": "BUILD", "dcmodify": "MODIFY", "dcmdeid": "DEIDENTIFY"}
 
 
 def read(path: str) -> str:
@@ -34,7 +34,7 @@ def manual_options(tool: str) -> set[str]:
     page = read("man/dcmtools.1")
     title = "Edits of dcmodify" if tool == "dcmodify" else f"Options of {tool}"
     sections = [page.split(f".Ss {title}")[1].split(".Ss")[0]]
-    if tool != "dump2dcm":
+    if tool not in ("dump2dcm", "dcmdeid"):
         sections.append(page.split(".Ss The dictionaries")[1].split(".Ss")[0])
     items = re.findall(r"^\.It (Fl|Cm) (\S+)", "\n".join(sections), re.M)
     return {("-" if kind == "Fl" else "") + word for kind, word in items}

@@ -1,5 +1,5 @@
 #!/usr/bin/env python3
-"""Lets each system call of the four tools fail in turn, by strace, and looks at what is said and what is left.
+"""Lets each system call of the tools fail in turn, by strace, and looks at what is said and what is left.
 
     scripts/try_faults.py [BINARY] [--only NAME] [--jobs N]
 
@@ -11,6 +11,7 @@ begin so. Needs strace (apt-get install strace) and setarch. Exits with 0 if not
 - The status is 0 to 5, there is no signal and no hang, and at most one line of docs/PROFILE.md on standard error, of that status.
 - With the status of the run without a fault, all is as there. Else the status is 4 or 5, OUTPUT is missing, a beginning of what it
   would be, or what it was before, and standard output is a beginning. Nothing is written after a write that failed.
+- Of dcmdeid OUTPUT is the whole new file or what it was before, and OUTPUT.part is gone, unless it could not be removed.
 - FILE is never changed, also where OUTPUT is FILE, and no file gets the number of a standard stream.
 - A close that fails passes in silence (docs/PROFILE.md, "Where it is written").
 - A file that was opened, or standard output, cannot be asked what it is: `cannot be opened`, status 4, nothing is written. The same
@@ -48,6 +49,8 @@ ERRORS = {
     "mmap": ["ENOMEM", "EAGAIN"],
     "mremap": ["ENOMEM"],
     "close": ["EIO", "ENOSPC", "EDQUOT", "EINTR"],
+    "rename": ["EACCES", "EXDEV", "ENOSPC", "EIO", "EINTR", "EROFS"],
+    "unlink": ["EACCES", "EIO", "EROFS"],
     "munmap": ["EINVAL"],
     "getrandom": ["ENOSYS", "EAGAIN", "EINTR"],
     "rt_sigaction": ["EINVAL"],
@@ -60,8 +63,8 @@ STATS = ("statx", "fstat", "newfstatat")
 LINES = {
     1: rb"[VU]\d[ :].*",
     2: rb"[RB]\d+ at byte \d+(, line \d+)?: [a-zA-Z ]+",
-    3: rb"edit \d+ found no place",
-    4: rb"input cannot be opened|output cannot be opened|output is the input|reading failed after \d+ bytes|output failed",
+    3: rb"edit \d+ found no place|pixels may show identity",
+    4: rb"key cannot be opened|reading the key failed|input cannot be opened|output cannot be opened|output is the input|reading failed after \d+ bytes|output failed",
     5: rb"out of memory",
 }
 
@@ -75,7 +78,7 @@ PIXELS = 700 * 1024
 
 
 class Run(NamedTuple):
-    """A run: its words, where {in}, {out} and {link} (to the input) are paths, and how it ends without a fault."""
+    """A run: its words, where {in}, {out}, {link} (to the input) and {key} are paths, and how it ends without a fault."""
 
     name: str
     words: list
@@ -103,13 +106,14 @@ class Fault(NamedTuple):
 
 
 class Ended(NamedTuple):
-    """How a run ended: the status, the streams, what the input and OUTPUT hold, and the lines of strace."""
+    """How a run ended: the status, the streams, what the input, OUTPUT and OUTPUT.part hold, and the lines of strace."""
 
     status: object
     stdout: bytes
     stderr: bytes
     input: bytes
     output: object
+    part: object
     lines: list
 
 
@@ -147,12 +151,15 @@ def lines(count):
 
 
 SMALL, BIG = dicom(0), dicom(PIXELS)
+KEY = b"a key of 16 byte"
+SHOWN_PIXELS = SMALL + element(0x00280301, b"CS", b"YES")
 EDITS = ["-m", "PatientName=X", "-ea", "PatientID", "-ep", "-i", "ReferencedImageSequence[0].ReferencedSOPInstanceUID=1.2"]
 NO_PLACE = ["-m", "Rows=7", "-e", "Columns"]
 
 
 def runs_of_size(size, data, text):
-    """The four tools on small or big files, with and without an older OUTPUT."""
+    """The tools on small or big files, with and without an older OUTPUT."""
+    identity = ["dcmdeid", "+rl", "+k", "{key}", "{in}", "{out}"]
     conversion = ["dcmconv", "+tb", "+dict", "{in}", "{out}"]
     edits = ["dcmodify", *EDITS, "-i", "StudyDate=20260101", "{in}", "{out}"]
     yield Run(f"dump {size}", ["dcmdump", "+L", "{in}"], data)
@@ -165,12 +172,18 @@ def runs_of_size(size, data, text):
         yield Run(f"convert {name}", conversion, data, has_older=has_older)
         yield Run(f"modify {name}", edits, data, has_older=has_older)
         yield Run(f"build {name}", ["dump2dcm", "{in}", "{out}"], text, has_older=has_older)
+        yield Run(f"identity {name}", identity, data, has_older=has_older)
 
 
 # a part of the input, words that are refused, and words that are answered
 OTHERS = [
     Run("cut", ["dcmconv", "+te", "{in}", "{out}"], BIG[:-1000], 2, has_older=True),
     Run("cut head", ["dcmconv", "+te", "{in}", "{out}"], SMALL[:150], 2, has_older=True),
+    Run("identity cut", ["dcmdeid", "+k", "{key}", "{in}", "{out}"], BIG[:-1000], 2, has_older=True),
+    Run("identity to standard output", ["dcmdeid", "{in}", "-"], SMALL),
+    Run("pixels", ["dcmdeid", "{in}", "{out}"], SHOWN_PIXELS, 3, has_older=True),
+    Run("identity over itself", ["dcmdeid", "{in}", "{link}"], SMALL, 4),
+    Run("identity over its key", ["dcmdeid", "+k", "{key}", "{in}", "-"], SMALL, 4, '>> "$key"'),
     Run("refused", ["dcmodify", "-m", "Foo=1", "{in}", "{out}"], SMALL, 1, has_older=True),
     Run("usage", ["--help"], SMALL),
     Run("version", ["dcmconv", "--version"], SMALL),
@@ -209,16 +222,17 @@ def content_of(path):
 def traced(binary, room, run, injected=()):
     """Runs it in a folder of its own, with these faults."""
     folder = Path(tempfile.mkdtemp(dir=room))
-    paths = {name: folder / name for name in ("in", "out", "link", "log")}
+    paths = {name: folder / name for name in ("in", "out", "link", "key", "log")}
     paths["in"].write_bytes(run.data)
     paths["link"].hardlink_to(paths["in"])
+    paths["key"].write_bytes(KEY)
     if run.has_older:
         paths["out"].write_bytes(OLDER)
     words = [word.format(**paths) if word.startswith("{") else word for word in run.words]
     strace = ["setarch", "-R", "strace", "-o", paths["log"], "-s", "0"]
     faults = [word for fault in injected for word in ("-e", f"inject={fault}")]
     shell = ["sh", "-c", f'exec "$@" {run.streams}', "sh", binary]
-    environment = dict(os.environ, **{"in": str(paths["in"])})
+    environment = dict(os.environ, **{"in": str(paths["in"]), "key": str(paths["key"])})
     try:
         done = subprocess.run(
             [*strace, *faults, *shell, *words],
@@ -232,7 +246,8 @@ def traced(binary, room, run, injected=()):
     except subprocess.TimeoutExpired:
         status, stdout, stderr = "hang", b"", b""
     log = paths["log"].read_text(errors="replace").splitlines()
-    ended = Ended(status, stdout, stderr, content_of(paths["in"]), content_of(paths["out"]), log)
+    contents = [content_of(path) for path in (paths["in"], paths["out"], folder / "out.part")]
+    ended = Ended(status, stdout, stderr, *contents, log)
     shutil.rmtree(folder)
     return ended
 
@@ -317,11 +332,19 @@ def wrong_output(run, base, ended):
         return "" if (ended.output, ended.stdout) == (base.output, base.stdout) else "other output"
     if not base.stdout.startswith(ended.stdout):
         return "standard output is no beginning"
+    if run.words[0] == "dcmdeid":
+        is_whole = ended.output in (base.output, OLDER if run.has_older else None)
+        return "" if is_whole else "OUTPUT is neither whole nor as it was"
     is_older = run.has_older and ended.output == OLDER and not is_emptied(ended)
     is_beginning = ended.output is not None and base.output is not None and base.output.startswith(ended.output)
     if ended.output is None or is_older or is_beginning or ended.output == b"" and not run.has_older:
         return ""
     return f"OUTPUT has {len(ended.output)} bytes that it should not have"
+
+
+def wrong_part(run, base, ended):
+    is_kept = any(re.match(r"unlink.*INJECTED", line) for line in ended.lines)
+    return "OUTPUT.part is left" if ended.part is not None and not is_kept else ""
 
 
 def wrong_input(run, base, ended):
@@ -369,10 +392,11 @@ def is_as_without(base, ended):
     return ended[:3] == base[:3] and ended.output == base.output
 
 
-def has_read(base, call):
-    """Whether any of the input was read before a call."""
+def has_read(run, base, call):
+    """Whether any of the input was read before a call. A key is read before it, by two calls."""
     calls, _ = calls_of(base.lines)
-    return any(other.name == "read" for other in calls[: calls.index(call)])
+    of_key = 2 if "{key}" in run.words else 0
+    return sum(other.name == "read" for other in calls[: calls.index(call)]) > of_key
 
 
 def wrong_question(run, base, ended, fault):
@@ -383,8 +407,8 @@ def wrong_question(run, base, ended, fault):
         return ""
     if '"/proc/self/fd/0"' in fault.call.line and is_as_without(base, ended):
         return ""
-    asked_late = has_read(base, fault.call)
-    return wrong_refusal(run, ended, b"output failed" if asked_late else b"(input|output) cannot be opened|out of memory")
+    asked_late = has_read(run, base, fault.call)
+    return wrong_refusal(run, ended, b"output failed" if asked_late else b"(key|input|output) cannot be opened|out of memory")
 
 
 def wrong_reservation(run, base, ended, fault):
@@ -398,7 +422,7 @@ def wrong_reservation(run, base, ended, fault):
     return "" if is_as_without(base, ended) else wrong_refusal(run, ended, b"(input|output) cannot be opened|out of memory")
 
 
-ALWAYS = (wrong_status, wrong_line, wrong_output, wrong_input, wrong_writes, wrong_numbers)
+ALWAYS = (wrong_status, wrong_line, wrong_output, wrong_part, wrong_input, wrong_writes, wrong_numbers)
 OF_CALLS = (wrong_question, wrong_reservation)
 
 

@@ -8,8 +8,13 @@ pub mod Sets
 pub mod Alone
 pub mod MetaHeads
 pub mod MakesEdits
+pub mod IdentityBar
+pub mod DeidentifyReads
+pub mod MakesDeidentified
 pub mod Lines
 pub mod Files
 pub mod Opens
 pub mod EditPasses
+pub mod DeidentifyPasses
 pub mod Decided
+pub mod KeyBytes

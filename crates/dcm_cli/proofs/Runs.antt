@@ -4,9 +4,13 @@ pub mod LinesGrow
 pub mod Sure
 pub mod OneSource
 pub mod NoEdits
+pub mod NothingFlows
 pub mod OneAnswer
 pub mod Stopping
 pub mod InMemory
 pub mod Texts
 pub mod Obeying
+pub mod OpenedMemory
+pub mod LeftMemory
+pub mod WholeMemory
 pub mod ObeyingMemory

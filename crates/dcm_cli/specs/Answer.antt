@@ -1,6 +1,6 @@
 -- What a run answers: the output, the lines on standard error, and the status.
 use Rattle.std.specs.Prelude.{◌≡◌, ℕ, zero, suc, ◌+◌, ◌<◌, ◌≤◌, Bool, true, false, List, [], ◌∷◌, ◌++◌, length, drop}
-use Rattle.std.specs.Prelude.{codes, decimal, Option, Some, None, if◌then◌else◌}
+use Rattle.std.specs.Prelude.{codes, decimal, Option, Some, None, if◌then◌else◌, ◌&&◌}
 use Rattle.dcm_base.specs.declared.syntax.Syntax.{Syntax}
 use Rattle.dcm_base.specs.declared.syntax.Syntax.TheVariants.{Implicit as implicit_in, Little as little_in}
 use Rattle.dcm_base.specs.declared.syntax.Syntax.TheVariants.{Big as big_in}
@@ -10,7 +10,7 @@ use Rattle.dcm_base.specs.declared.fault.Fault.TheVariants.{CannotChange}
 use Rattle.dcm_base.specs.Tree.Front.{Front, front}
 use Rattle.dcm_base.specs.Reading.Stop.{Stop, complete, refused, Bar, is_undecided}
 use Rattle.dcm_base.specs.Reading.Reads.{INPUT_LIMIT, Reads}
-use Rattle.dcm_base.specs.Reading.Bars.{no_bar, ascending_bar, target_bar}
+use Rattle.dcm_base.specs.Reading.Bars.{no_bar, ascending_bar, identity_bar, target_bar}
 use Rattle.dcm_base.specs.File.MetaReads as meta
 use Rattle.dcm_base.specs.File.MetaReads.{Meta, MetaReads, PREFIX}
 use Rattle.dcm_base.specs.Conversion.NewMeta.{new_meta}
@@ -23,10 +23,15 @@ use Rattle.dcm_base.specs.Lines.Build as build
 use Rattle.dcm_base.specs.declared.fault.LineStop.{LineStop}
 use Rattle.dcm_base.specs.Tables.Syntax.{dictionary_of, read_by, coding_by}
 use Rattle.dcm_base.specs.declared.dictionary.Dictionary.{Dictionary}
-use Rattle.dcm_base.specs.declared.dictionary.Dictionary.TheVariants.{Extract}
-use Rattle.dcm_words.specs.Words.{Job, dump, convert, build as building, modify}
-use Rattle.dcm_cli.specs.ErrorLines.{error_line, unplaced_line}
-use Rattle.dcm_cli.specs.Status.{DONE, FAULT, UNPLACED}
+use Rattle.dcm_base.specs.declared.dictionary.Dictionary.TheVariants.{Extract, Standard}
+use Rattle.dcm_uid.specs.Uid.{replaced}
+use Rattle.dcm_deid.specs.declared.fate.Options.{Options}
+use Rattle.dcm_deid.specs.Meta.{meta_without_identity}
+use Rattle.dcm_deid.specs.Pixels.{may_show}
+use Rattle.dcm_deid.specs.Saying.{deidentified, whole_of}
+use Rattle.dcm_words.specs.Words.{Job, dump, convert, build as building, modify, deidentify}
+use Rattle.dcm_cli.specs.ErrorLines.{error_line, pixels_line, unplaced_line}
+use Rattle.dcm_cli.specs.Status.{DONE, FAULT, REMARK}
 
 -- an answer
 pub record Answer : Type 0 where
@@ -59,6 +64,7 @@ job_dictionary (dump d mode bare) = d
 job_dictionary (convert d target) = d
 job_dictionary (building limit) = Extract
 job_dictionary (modify d edits) = d
+job_dictionary (deidentify options reports key) = Standard
 
 -- the unique identifier of the transfer syntax that a conversion writes
 abbrev pub target_uid : Option Syntax → Meta → List ℕ
@@ -69,6 +75,7 @@ target_uid (Some syntax) m = uid_of_syntax syntax
 abbrev pub job_bar : Job → Coding → Bar
 job_bar (convert d target) coding = target_bar (target_syntax target coding)
 job_bar (modify d edits) coding = ascending_bar
+job_bar (deidentify options reports key) coding = identity_bar
 job_bar _ coding = no_bar
 
 -- an encapsulated file keeps its transfer syntax
@@ -122,6 +129,8 @@ file_output (dump d mode bare) m coding set = meta_header d mode m.elements ++ s
     ++ dump_front d mode 0 set
 file_output (convert d target) m coding set = written_file (target_uid target m) (target_syntax target coding) m set
 file_output (modify d edits) m coding set = written_file m.uid coding.syntax m (edited edits set)
+file_output (deidentify options reports key) m coding set =
+    written_file m.uid coding.syntax (meta_without_identity options key m) (deidentified options (replaced key) set)
 file_output (building limit) m coding set = []
 
 -- of a data set alone
@@ -154,19 +163,29 @@ abbrev pub edits_of : Job → List Edit
 edits_of (modify d edits) = edits
 edits_of _ = []
 
--- the status, by the lines of edits that found no place
+-- whether what is written of a data set says that its pixels may show identity
+abbrev pub shows_identity : Options → (key : List ℕ) → Front → Bool
+shows_identity options key set = may_show (whole_of (deidentified options (replaced key) set))
+
+-- what is reported where all was done
+abbrev pub done_lines : Job → Front → List ℕ
+done_lines (deidentify options reports key) set =
+    if reports && shows_identity options key set then pixels_line else []
+done_lines job set = unplaced_lines 1 (edits_of job) set
+
+-- and the status
 abbrev pub status_of_lines : List ℕ → ℕ
 status_of_lines [] = DONE
-status_of_lines (c ∷ cs) = UNPLACED
+status_of_lines (c ∷ cs) = REMARK
 
 -- the lines, by why reading stopped
 abbrev pub stop_line : Job → Front → Stop → List ℕ
-stop_line job set complete = unplaced_lines 1 (edits_of job) set
+stop_line job set complete = done_lines job set
 stop_line job set (refused fault offset) = reading_line fault offset
 
 -- and the status
 abbrev pub stop_status : Job → Front → Stop → ℕ
-stop_status job set complete = status_of_lines (unplaced_lines 1 (edits_of job) set)
+stop_status job set complete = status_of_lines (done_lines job set)
 stop_status job set (refused fault offset) = FAULT
 
 -- the answer to an input, by how it was read

@@ -58,10 +58,10 @@ pub record Runs {R W : Type 0} (r : Reader R) (w : Writer W) (job : Job) (errors
 
 -- what is before the data set was written, or a beginning of it where the call failed; and the writer has failed where
 -- it did, and otherwise that stayed
-pub record WritesHead {W T E : Type 0} (w : Writer W) (before after : W) (meta : Reading) (uid : List ℕ)
-    (result : Result T E) : Type 0 where
+pub record WritesHead {W T E : Type 0} (w : Writer W) (before after : W) (change : opening.HeadChange)
+    (meta : Reading) (uid : List ℕ) (result : Result T E) : Type 0 where
   pub bytes : OfElements (group_of meta) (λ elements. Puts (w.contents before) (w.contents after)
-      (opening.head_text meta uid elements) result)
+      (opening.head_text change meta uid elements) result)
   pub failed : Tells (w.has_failed before) (w.has_failed after) result
 
 -- a reader failed in the call exactly where that is why a file was not opened
@@ -78,12 +78,13 @@ OpensUnwritten w before after result =
 
 -- a file was opened that is to be written again, or why not; the buffer has its size
 pub record Opens {R W : Type 0} (r : Reader R) (w : Writer W) (d : Dictionary) (target : Option Syntax)
-    (before after : R) (output_before output_after : W) (buffer_before buffer : List ℕ)
+    (change : opening.HeadChange) (before after : R) (output_before output_after : W) (buffer_before buffer : List ℕ)
     (result : Result Opened Ending) : Type 0 where
   pub read : List ℕ
   pub how : How
   pub reads : ReadsInput r pass.HeadGoesOn before read how after
-  pub opens : opening.Opens d target read how (w.contents output_before) (w.contents output_after) buffer result
+  pub opens : opening.Opens d target change read how (w.contents output_before) (w.contents output_after) buffer
+      result
   pub unread : OpensUnread r before after result
   pub failed : OpensUnwritten w output_before output_after result
   pub kept : length buffer ≡ length buffer_before

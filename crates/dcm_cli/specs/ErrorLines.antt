@@ -75,6 +75,15 @@ unread_line read = error_line (codes "reading failed after " ++ decimal read ++ 
 abbrev pub output_line : List ℕ
 output_line = error_line (codes "output failed")
 
+-- a value that was written says that pixels show identity
+abbrev pub pixels_line : List ℕ
+pixels_line = error_line (codes "pixels may show identity")
+
+-- the key cannot be opened, or cannot be read
+abbrev pub key_line : (was_opened : Bool) → List ℕ
+key_line false = error_line (codes "key cannot be opened")
+key_line true = error_line (codes "reading the key failed")
+
 -- an edit found no place; it is counted from 1
 abbrev pub unplaced_line : ℕ → List ℕ
 unplaced_line n = error_line (codes "edit " ++ decimal n ++ codes " found no place")

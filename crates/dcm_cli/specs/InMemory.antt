@@ -1,10 +1,11 @@
 -- What a run over memory leaves, where there is room for the answer, and what words come to over files in memory.
-use Rattle.std.specs.Prelude.{◌≡◌, ◌≤◌, ◌⊎◌, ◌==◌, ◌||◌, ℕ, List, [], ◌++◌, length, bytes_eq, if◌then◌else◌, Bool, true}
-use Rattle.std.specs.Prelude.{false, Option, None, Some, Result, Ok, Err}
-use Rattle.std.specs.Option.{option_map}
+use Rattle.std.specs.Prelude.{◌≡◌, ◌≤◌, ◌⊎◌, ◌==◌, ◌||◌, ◌&&◌, not, nat_le, ℕ, List, [], ◌++◌, length, bytes_eq}
+use Rattle.std.specs.Prelude.{if◌then◌else◌, Bool, true, false, Option, None, Some, Result, Ok, Err}
+use Rattle.std.specs.Option.{option_map, is_none}
 use Rattle.std.specs.Str.{is_utf8}
 use Rattle.dcm_files.specs.Devices.{standard}
 use Rattle.dcm_files.specs.Memory.{file_named}
+use Rattle.dcm_files.specs.Part.{part_of, is_short}
 use Rattle.dcm_files.specs.declared.memory.MemSystem.{MemSystem}
 use Rattle.dcm_devices.specs.Memory.{written, room_of}
 use Rattle.dcm_devices.specs.declared.memory.MemOut.{MemOut}
@@ -12,8 +13,12 @@ use Rattle.dcm_words.specs.declared.topic.Topic.{Topic}
 use Rattle.dcm_words.specs.Topics.{asked, text}
 use Rattle.dcm_words.specs.declared.usage.Usage.{Usage}
 use Rattle.dcm_words.specs.declared.usage.Usage.TheVariants.{Memory}
-use Rattle.dcm_words.specs.Words.{Job, Plan, meant}
+use Rattle.dcm_words.specs.Words.{Job, Plan, meant, deidentify}
 use Rattle.dcm_words.specs.Plans.{takes_memory}
+use Rattle.dcm_deid.specs.declared.fate.Options.{Options}
+use Rattle.dcm_cli.specs.declared.key.NoKey.{NoKey}
+use Rattle.dcm_cli.specs.declared.key.NoKey.TheVariants.{Unopened, Size}
+use Rattle.dcm_cli.specs.Keys.{LEAST_OF_KEY, MOST_OF_KEY, no_key_line, no_key_status}
 use Rattle.dcm_cli.specs.Answer.{Answer, Answers}
 use Rattle.dcm_cli.specs.ErrorLines.{usage_line, usage_status, open_line, same_line}
 use Rattle.dcm_cli.specs.Status.{DEVICE, DONE}
@@ -34,9 +39,18 @@ LeavesAnswers job input out_before out_after errors_before errors_after status =
 
 -- ---- what words come to over files
 
--- what is written, where an output is opened; the lines on standard error; and the status
+-- what becomes of the output
+pub data Output : Type 0 where
+  -- none is opened
+  no_output : Output
+  -- it takes these bytes
+  holds : (bytes : List ℕ) → Output
+  -- it takes these bytes, and is removed
+  removed : (bytes : List ℕ) → Output
+
+-- what becomes of the output; the lines on standard error; and the status
 pub record Outcome : Type 0 where
-  pub output : Option (List ℕ)
+  pub output : Output
   pub lines : List ℕ
   pub status : ℕ
 
@@ -62,23 +76,23 @@ is_one_file _ _ = false
 
 -- a text is shown
 abbrev pub shown : Topic → Outcome
-shown topic = record { output = Some (text topic); lines = []; status = DONE }
+shown topic = record { output = holds (text topic); lines = []; status = DONE }
 
 -- nothing is opened
 abbrev pub refused : Usage → Outcome
-refused u = record { output = None; lines = usage_line u; status = usage_status u }
+refused u = record { output = no_output; lines = usage_line u; status = usage_status u }
 
 -- the input or the output cannot be opened
 abbrev pub not_opened : (is_output : Bool) → Outcome
-not_opened is_output = record { output = None; lines = open_line is_output; status = DEVICE }
+not_opened is_output = record { output = no_output; lines = open_line is_output; status = DEVICE }
 
 -- both are one file: the output is closed, and nothing was written
 abbrev pub same_file : Outcome
-same_file = record { output = Some []; lines = same_line; status = DEVICE }
+same_file = record { output = holds []; lines = same_line; status = DEVICE }
 
 -- a job was answered
 abbrev pub answered : Answer → Outcome
-answered a = record { output = Some a.output; lines = a.lines; status = a.status }
+answered a = record { output = holds a.output; lines = a.lines; status = a.status }
 
 -- what a job comes to, by the input if it can be read, by whether the output can be written, and by whether they are
 -- one file
@@ -88,10 +102,74 @@ JobComes (Some bytes) false is_one job o = o ≡ not_opened true
 JobComes (Some bytes) true true job o = o ≡ same_file
 JobComes (Some bytes) true false job o = (a : Answer) × Answers job bytes a × (o ≡ answered a)
 
--- the same of a plan, over these files
+-- ---- identity taken out of a file
+
+-- the key, by the bytes at its path if they can be read; or why there is none
+abbrev pub key_of : Option (List ℕ) → Result (List ℕ) NoKey
+key_of None = Err Unopened
+key_of (Some bytes) =
+    if nat_le LEAST_OF_KEY (length bytes) && nat_le (length bytes) MOST_OF_KEY then Ok bytes else Err Size
+
+-- there is no key
+abbrev pub without_key : NoKey → Outcome
+without_key cause = record { output = no_output; lines = no_key_line cause; status = no_key_status cause }
+
+-- the number of the file of a key, if a plan names one
+abbrev pub key_number : MemSystem → (key : Option (List ℕ)) → Option ℕ
+key_number s None = None
+key_number s (Some path) = number_at s path
+
+-- whether an output can be written until it is whole: its path is a text, and not too long, and no part is there
+abbrev pub has_part : MemSystem → (output : List ℕ) → Bool
+has_part s output = is_utf8 output && is_short output && is_none (file_named s.files.now (part_of output))
+
+-- whether it is another file than the input and the key
+abbrev pub is_apart : MemSystem → Plan → Bool
+is_apart s p = not (is_one_file (number_at s p.input) (number_at s p.output))
+    && not (is_one_file (key_number s p.key) (number_at s p.output))
+
+-- whether an output that has its name only once it is whole can be written: standard output can
+abbrev pub can_end : MemSystem → Plan → Bool
+can_end s p = bytes_eq p.output standard || (has_part s p.output && is_apart s p)
+
+-- its job was answered: it is left where all was done, and standard output always; else it is removed
+abbrev pub ended : (is_stream : Bool) → Answer → Outcome
+ended is_stream a = record {
+  output = if is_stream || a.status == DONE then holds a.output else removed a.output;
+  lines = a.lines;
+  status = a.status;
+}
+
+-- what a job comes to, by the input if it can be read, and by whether such an output can be written
+abbrev pub WholeComes : (input : Option (List ℕ)) → (can_write is_stream : Bool) → Job → Outcome → Type 0
+WholeComes None can_write is_stream job o = o ≡ not_opened false
+WholeComes (Some bytes) false is_stream job o = o ≡ not_opened true
+WholeComes (Some bytes) true is_stream job o = (a : Answer) × Answers job bytes a × (o ≡ ended is_stream a)
+
+-- over the files of a plan
+abbrev pub WholeAt : MemSystem → Plan → Job → Outcome → Type 0
+WholeAt s p job o = WholeComes (bytes_at s p.input) (can_end s p) (bytes_eq p.output standard) job o
+
+-- what the taking of identity comes to, by the key
+abbrev pub KeyComes : Result (List ℕ) NoKey → MemSystem → Plan → Options → (reports : Bool) → Outcome → Type 0
+KeyComes (Err cause) s p options reports o = o ≡ without_key cause
+KeyComes (Ok key) s p options reports o = WholeAt s p (deidentify options reports key) o
+
+-- by the path of the key, if the plan names one
+abbrev pub DeidentifyComes : Option (List ℕ) → MemSystem → Plan → Options → (reports : Bool) → Outcome → Type 0
+DeidentifyComes None s p options reports o = WholeAt s p p.job o
+DeidentifyComes (Some path) s p options reports o = KeyComes (key_of (bytes_at s path)) s p options reports o
+
+-- ---- plans
+
+-- what a plan with this job comes to, over these files
+abbrev pub PlanComesAs : Job → MemSystem → Plan → Outcome → Type 0
+PlanComesAs (deidentify options reports key) s p o = DeidentifyComes p.key s p options reports o
+PlanComesAs job s p o = JobComes (bytes_at s p.input) (is_writable p.output)
+    (is_one_file (number_at s p.input) (number_at s p.output)) job o
+
 abbrev pub PlanComes : MemSystem → Plan → Outcome → Type 0
-PlanComes s p o = JobComes (bytes_at s p.input) (is_writable p.output)
-    (is_one_file (number_at s p.input) (number_at s p.output)) p.job o
+PlanComes s p o = PlanComesAs p.job s p o
 
 -- by the text that is asked for, and else by what is meant
 abbrev pub ComesBy : Option Topic → Result Plan Usage → MemSystem → Outcome → Type 0
@@ -105,11 +183,16 @@ Comes words s o = ComesBy (asked words) (meant words) s o
 
 -- ---- what obeying them leaves
 
+-- these bytes fit in the room
+abbrev pub Fits : (bytes : List ℕ) → (room : Option MemOut) → Type 0
+Fits bytes None = ⊥
+Fits bytes (Some room) = (room.failed ≡ false) × (length bytes ≤ room_of room)
+
 -- there is room for what is written
-abbrev pub HasRoom : Option (List ℕ) → (room : Option MemOut) → Type 0
-HasRoom None room = Unit {0}
-HasRoom (Some bytes) None = ⊥
-HasRoom (Some bytes) (Some room) = (room.failed ≡ false) × (length bytes ≤ room_of room)
+abbrev pub HasRoom : Output → (room : Option MemOut) → Type 0
+HasRoom no_output room = Unit {0}
+HasRoom (holds bytes) room = Fits bytes room
+HasRoom (removed bytes) room = Fits bytes room
 
 -- the output was the room, and took these bytes
 pub record Took (bytes : List ℕ) (room output : Option MemOut) : Type 0 where
@@ -119,10 +202,11 @@ pub record Took (bytes : List ℕ) (room output : Option MemOut) : Type 0 where
   pub output_is : output ≡ Some after
   pub bytes_are : written after ≡ written before ++ bytes
 
--- all of it was written, or no output was opened
-abbrev pub IsWritten : Option (List ℕ) → MemSystem → (output : Option MemOut) → Type 0
-IsWritten None s output = output ≡ s.written
-IsWritten (Some bytes) s output = Took bytes s.room output
+-- all of it was written and left, or it was removed, or no output was opened
+abbrev pub IsWritten : Output → MemSystem → (output : Option MemOut) → Type 0
+IsWritten no_output s output = output ≡ s.written
+IsWritten (holds bytes) s output = Took bytes s.room output
+IsWritten (removed bytes) s output = output ≡ None
 
 -- what was written, the status, and the lines where there is room for them
 pub record Leaves (o : Outcome) (s : MemSystem) (errors_before : MemOut) (output : Option MemOut)

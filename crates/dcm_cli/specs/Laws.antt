@@ -18,7 +18,7 @@ use Rattle.dcm_words.specs.declared.job.Job.{Job}
 use Rattle.dcm_cli.specs.Answer.{Answer, Answers, Sure}
 use Rattle.dcm_cli.specs.ReadsAgain.{InOutput, InWholeOutput, IsConverted, IsModified, ReadsConverted, ReadsModified}
 use Rattle.dcm_cli.specs.Run.{IsMeant}
-use Rattle.dcm_cli.specs.Status.{DONE, UNPLACED}
+use Rattle.dcm_cli.specs.Status.{DONE, REMARK}
 use Rattle.dcm_words.specs.Plans.{job_of}
 use Rattle.dcm_words.specs.Words as words
 use Rattle.std.specs.Prelude.{◌++◌, ◌≡◌, ◌⊎◌, List, Option, true, ℕ}
@@ -151,4 +151,4 @@ abbrev pub ModifiedTwice : Type 0
 ModifiedTwice =
     (d : Dictionary) (edits : List Edit) (input : List ℕ) (a b : Answer) (m : Meta) (coding : Coding) (f : Front)
     → IsModified d edits input a m coding f → EraseByNoNumber edits → Answers (words.modify d edits) a.output b
-    → (b.output ≡ a.output) × ((b.status ≡ DONE) ⊎ (b.status ≡ UNPLACED))
+    → (b.output ≡ a.output) × ((b.status ≡ DONE) ⊎ (b.status ≡ REMARK))

@@ -5,12 +5,15 @@ pub mod Answer
 pub mod Pass
 pub mod SinkPass
 pub mod EditPass
+pub mod DeidentifyPass
 pub mod Lines
 pub mod Run
+pub mod Keys
 pub mod InMemory
 pub mod Program
 pub mod DumpBuilds
 pub mod NoEdits
+pub mod Flows
 pub mod ReadsAgain
 pub mod Opening
 pub mod Calls

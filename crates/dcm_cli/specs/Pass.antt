@@ -1,6 +1,7 @@
 -- What the work on a job leaves: how it ended, and what was written.
 use Rattle.std.specs.Prelude.{◌≡◌, ◌⊎◌, ℕ, ◌+◌, ◌-◌, List, [], ◌++◌, length, take, drop, option_to_list, Bool, true}
 use Rattle.std.specs.Prelude.{false, Option, None, Some, Result, Ok, Err, OnOk, IfOk, MatchResult, fold, ◌≤◌}
+use Rattle.std.specs.Prelude.{if◌then◌else◌}
 use Rattle.std.specs.Io.KnownBytes.{append_known, IsAtEnd}
 use Rattle.dcm_base.specs.declared.fault.Stop.{Stop as HaltStop}
 use Rattle.dcm_base.specs.Steps.Atoms.{Atom}
@@ -21,7 +22,7 @@ use Rattle.dcm_cli.specs.declared.ending.Ending.{Ending}
 use Rattle.dcm_cli.specs.declared.ending.Ending.TheVariants.{Worked, Unread, Output}
 use Rattle.dcm_cli.specs.declared.ending.HeadEnding.{HeadEnding}
 use Rattle.dcm_cli.specs.declared.ending.HeadEnding.TheVariants as heads
-use Rattle.dcm_cli.specs.declared.ending.Verdict.TheVariants.{Done, Refused, RefusedLine}
+use Rattle.dcm_cli.specs.declared.ending.Verdict.TheVariants.{Done, PixelsMayShow, Refused, RefusedLine}
 use Rattle.dcm_cli.specs.declared.head.Beginning.{Beginning}
 use Rattle.dcm_cli.specs.InputCalls.{Reader, How, to_end, Allows, ReadsInput}
 
@@ -115,10 +116,20 @@ pub record HeadReads {R : Type 0} (r : Reader R) (before after : R) (m : meta.Re
 -- the edits that found no place are those of this mask
 abbrev pub with_unplaced : Ending → ℕ → Ending
 with_unplaced (Worked (Done none)) mask = Worked (Done mask)
+with_unplaced (Worked PixelsMayShow) mask = Worked PixelsMayShow
 with_unplaced (Worked (Refused stop)) mask = Worked (Refused stop)
 with_unplaced (Worked (RefusedLine stop)) mask = Worked (RefusedLine stop)
 with_unplaced (Unread count) mask = Unread count
 with_unplaced Output mask = Output
+
+-- where all was done, the pixels may show identity or not
+abbrev pub with_pixels : Ending → (may_show : Bool) → Ending
+with_pixels (Worked (Done none)) may_show = if may_show then Worked PixelsMayShow else Worked (Done none)
+with_pixels (Worked PixelsMayShow) may_show = Worked PixelsMayShow
+with_pixels (Worked (Refused stop)) may_show = Worked (Refused stop)
+with_pixels (Worked (RefusedLine stop)) may_show = Worked (RefusedLine stop)
+with_pixels (Unread count) may_show = Unread count
+with_pixels Output may_show = Output
 
 -- ---- a data set
 

@@ -1,5 +1,5 @@
 -- What a program does with the words of its command line.
-use Rattle.std.specs.Prelude.{◌≡◌, ℕ, List, [], true, false, Some, None, Ok, Err}
+use Rattle.std.specs.Prelude.{◌≡◌, ◌≢◌, ℕ, List, [], Bool, true, false, Option, Some, None, Result, Ok, Err}
 use Rattle.std.specs.Io.KnownBytes.{append_known}
 use Rattle.std.specs.IoError.{error_kind}
 use Rattle.std.specs.declared.io.Error.{Error}
@@ -9,12 +9,18 @@ use Rattle.dcm_words.specs.declared.topic.Topic.{Topic}
 use Rattle.dcm_words.specs.Topics.{asked, text}
 use Rattle.dcm_words.specs.declared.usage.Usage.{Usage}
 use Rattle.dcm_words.specs.declared.usage.Usage.TheVariants as usages
-use Rattle.dcm_words.specs.Words.{Job, Plan, meant}
+use Rattle.dcm_words.specs.Words.{Job, Plan, meant, deidentify}
 use Rattle.dcm_words.specs.Plans.{takes_memory}
 use Rattle.dcm_files.specs.declared.opened.Opened.{Opened}
 use Rattle.dcm_files.specs.declared.opened.Unopened.{Unopened}
 use Rattle.dcm_files.specs.declared.opened.Unopened.TheVariants.{Input, Output, Same, Memory}
 use Rattle.dcm_files.specs.Devices.{MayDo, IsCause, OpensDevices}
+use Rattle.dcm_files.specs.Part.{OpensWholeDevices, EndsPart}
+use Rattle.dcm_files.specs.declared.opened.FileKind.{FileKind}
+use Rattle.dcm_deid.specs.declared.fate.Options.{Options}
+use Rattle.dcm_cli.specs.declared.key.KeyRead.{KeyRead}
+use Rattle.dcm_cli.specs.declared.key.NoKey.{NoKey}
+use Rattle.dcm_cli.specs.Keys.{TakesKey, no_key_line, no_key_status}
 use Rattle.dcm_cli.specs.Calls.{Reader, Runs}
 use Rattle.dcm_cli.specs.Change.{Change, change_of}
 use Rattle.dcm_cli.specs.ErrorLines.{Reports, usage_line, usage_status, open_line, same_line, output_line}
@@ -57,6 +63,60 @@ pub data Works {S I O : Type 0} (may : MayDo S I O) (r : Reader I) (w : Writer O
       → RunsOver may r w p.job errors i.device o.device has_both status after
       → Works may r w p errors before status after
 
+-- ---- identity taken out of a file
+
+-- a writer was changed by one call, and then by another
+pub record Follows (whole first second : Change) : Type 0 where
+  pub begins : (first.before ≡ whole.before) × (first.failed_before ≡ whole.failed_before)
+  pub meets : (second.before ≡ first.after) × (second.failed_before ≡ first.failed_after)
+  pub ends : (whole.after ≡ second.after) × (whole.failed_after ≡ second.failed_after)
+
+-- after a run with this status the output was given its name where all was done, and else removed. Where it cannot be
+-- given its name, that is reported
+pub data EndsOutput {S I O : Type 0} (may : MayDo S I O) (output : List ℕ) (ran : ℕ) (errors : Change) (before : S)
+    (status : ℕ) (after : S) : Type 0 where
+  named : ran ≡ DONE → EndsPart may output true before (Ok _) after → Reports errors [] → status ≡ DONE
+      → EndsOutput may output ran errors before status after
+  not_named : (e : Error) → ran ≡ DONE → EndsPart may output true before (Err e) after → Reports errors output_line
+      → status ≡ DEVICE → EndsOutput may output ran errors before status after
+  removed : (removing : Result (Unit {0}) Error) → ran ≢ DONE → EndsPart may output false before removing after
+      → Reports errors [] → status ≡ ran → EndsOutput may output ran errors before status after
+
+-- the devices of a plan cannot be opened, and that is reported; or a job was run over them, and then its output was
+-- ended. The output is not the file that was read earlier
+pub data WorksWhole {S I O : Type 0} (may : MayDo S I O) (r : Reader I) (w : Writer O) (p : Plan) (job : Job)
+    (earlier : Option FileKind) (errors : Change) (before : S) (status : ℕ) (after : S) : Type 0 where
+  none_opened : (u : Unopened) → OpensWholeDevices may p.input p.output earlier before (Err u) after
+      → Reports errors (unopened_line u) → status ≡ unopened_status u
+      → WorksWhole may r w p job earlier errors before status after
+  has_ended : (i : Opened I) (o : Opened O) (has_both has_run : S) (ran : ℕ) (of_run of_end : Change)
+      → OpensWholeDevices may p.input p.output earlier before (Ok (i, o)) has_both
+      → RunsOver may r w job of_run i.device o.device has_both ran has_run
+      → EndsOutput may p.output ran of_end has_run status after → Follows errors of_run of_end
+      → WorksWhole may r w p job earlier errors before status after
+
+-- the key is read first, where the plan names one; where it cannot be, that is reported, and nothing else is opened
+pub data Deidentifies {S I O : Type 0} (may : MayDo S I O) (r : Reader I) (w : Writer O) (p : Plan)
+    (options : Options) (reports : Bool) (errors : Change) (before : S) (status : ℕ) (after : S) : Type 0 where
+  without_key : p.key ≡ None → WorksWhole may r w p p.job None errors before status after
+      → Deidentifies may r w p options reports errors before status after
+  no_key : (path : List ℕ) (cause : NoKey) → p.key ≡ Some path → TakesKey may r path before (Err cause) after
+      → Reports errors (no_key_line cause) → status ≡ no_key_status cause
+      → Deidentifies may r w p options reports errors before status after
+  with_key : (path : List ℕ) (k : KeyRead) (has_key : S) → p.key ≡ Some path
+      → TakesKey may r path before (Ok k) has_key
+      → WorksWhole may r w p (deidentify options reports k.bytes.items) (Some k.kind) errors has_key status after
+      → Deidentifies may r w p options reports errors before status after
+
+-- what is done of a plan with this job
+abbrev pub WorksAs : {S I O : Type 0} → Job → MayDo S I O → Reader I → Writer O → Plan → Change → S → (status : ℕ) → S
+    → Type 0
+WorksAs (deidentify options reports key) may r w p errors before status after =
+    Deidentifies may r w p options reports errors before status after
+WorksAs job may r w p errors before status after = Works may r w p errors before status after
+
+-- ---- texts
+
 -- all of a text was written, and nothing is reported; or the output failed, with a beginning of it or as it was
 -- flushed, and that is reported
 pub data PutsText (text : List ℕ) (output errors : Change) (status : ℕ) : Type 0 where
@@ -88,7 +148,7 @@ pub data Obeys {S I O : Type 0} (may : MayDo S I O) (r : Reader I) (w : Writer O
       → status ≡ usage_status u → after ≡ before → Obeys may r w words errors before status after
   no_memory : asked words ≡ None → takes_memory words ≡ true → Reports errors (usage_line usages.Memory)
       → status ≡ usage_status usages.Memory → after ≡ before → Obeys may r w words errors before status after
-  worked : (p : Plan) → asked words ≡ None → meant words ≡ Ok p → Works may r w p errors before status after
+  worked : (p : Plan) → asked words ≡ None → meant words ≡ Ok p → WorksAs p.job may r w p errors before status after
       → Obeys may r w words errors before status after
 
 -- there was no memory, and that is reported

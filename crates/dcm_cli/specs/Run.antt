@@ -1,6 +1,6 @@
 -- What a run leaves.
 use Rattle.std.specs.Prelude.{◌≡◌, ◌⊎◌, ℕ, zero, suc, ◌+◌, ◌*◌, Bool, true, false, List, [], ◌∷◌, ◌++◌, length, Option}
-use Rattle.std.specs.Prelude.{None, Some, if◌then◌else◌}
+use Rattle.std.specs.Prelude.{None, Some, if◌then◌else◌, ◌&&◌}
 use Rattle.std.specs.Io.KnownBytes.{append_known}
 use Rattle.dcm_base.specs.Lines.Build as build
 use Rattle.dcm_base.specs.declared.fault.LineStop.{LineStop}
@@ -9,18 +9,19 @@ use Rattle.dcm_base.specs.Tree.Front.{Front}
 use Rattle.dcm_base.specs.Reading.Stop.{Stop, complete, refused}
 use Rattle.dcm_edits.specs.Edit.{Edit, found}
 use Rattle.dcm_edits.specs.Meaning.{AreMeant}
-use Rattle.dcm_words.specs.Words.{Job, build as building, modify}
+use Rattle.dcm_words.specs.Words.{Job, build as building, modify, deidentify}
 use Rattle.dcm_cli.specs.declared.ending.Ending.{Ending}
 use Rattle.dcm_cli.specs.declared.ending.Ending.TheVariants as endings
 use Rattle.dcm_cli.specs.declared.ending.Ending.TheVariants.{Unread, Output}
 use Rattle.dcm_cli.specs.declared.ending.Verdict.{Verdict}
-use Rattle.dcm_cli.specs.declared.ending.Verdict.TheVariants.{Done, Refused, RefusedLine}
+use Rattle.dcm_cli.specs.declared.ending.Verdict.TheVariants.{Done, PixelsMayShow, Refused, RefusedLine}
 use Rattle.dcm_cli.specs.Answer.{Answer, Source, unopened, file, alone, InputReads, output_of, edits_of, building_line}
+use Rattle.dcm_cli.specs.Answer.{shows_identity}
 use Rattle.dcm_cli.specs.Answer.{Answers, Sure}
 use Rattle.dcm_cli.specs.InputCalls.{How, Allows}
 use Rattle.dcm_cli.specs.Change.{Change}
-use Rattle.dcm_cli.specs.ErrorLines.{Reports, fault_line, unread_line, output_line, mask_lines}
-use Rattle.dcm_cli.specs.Status.{DEVICE, DONE, FAULT, UNPLACED}
+use Rattle.dcm_cli.specs.ErrorLines.{Reports, fault_line, pixels_line, unread_line, output_line, mask_lines}
+use Rattle.dcm_cli.specs.Status.{DEVICE, DONE, FAULT, REMARK}
 
 -- the edits of a job are those that some words mean
 abbrev pub IsMeant : Job → Type 0
@@ -39,9 +40,15 @@ unfoldable pub unplaced_mask : List Edit → Front → ℕ
 unplaced_mask [] set = 0
 unplaced_mask (e ∷ edits) set = (if found e set then 0 else 1) + 2 * unplaced_mask edits set
 
--- what the work comes to
+-- what the work comes to where all was done
+abbrev pub done_verdict : Job → Front → Verdict
+done_verdict (deidentify options reports key) set =
+    if reports && shows_identity options key set then PixelsMayShow else Done 0
+done_verdict job set = Done (unplaced_mask (edits_of job) set)
+
+-- and else
 abbrev pub verdict_at : Job → Front → Stop → Verdict
-verdict_at job set complete = Done (unplaced_mask (edits_of job) set)
+verdict_at job set complete = done_verdict job set
 verdict_at job set (refused fault offset) = Refused (record { fault = fault; at = offset })
 
 -- by how the input was read
@@ -111,6 +118,7 @@ IsWritten Output = ⊥
 -- the lines that report what the work came to
 abbrev pub verdict_lines : Verdict → List ℕ
 verdict_lines (Done unplaced) = mask_lines 64 1 unplaced
+verdict_lines PixelsMayShow = pixels_line
 verdict_lines (Refused stop) = fault_line stop
 verdict_lines (RefusedLine stop) = building_line stop
 
@@ -123,11 +131,12 @@ ending_lines Output = output_line
 -- the status, by the edits that found no place
 abbrev pub mask_status : ℕ → ℕ
 mask_status zero = DONE
-mask_status (suc n) = UNPLACED
+mask_status (suc n) = REMARK
 
 -- by what the work came to
 abbrev pub verdict_status : Verdict → ℕ
 verdict_status (Done unplaced) = mask_status unplaced
+verdict_status PixelsMayShow = REMARK
 verdict_status (Refused stop) = FAULT
 verdict_status (RefusedLine stop) = FAULT
 

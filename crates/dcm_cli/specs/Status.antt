@@ -13,9 +13,9 @@ USAGE = 1
 abbrev pub FAULT : ℕ
 FAULT = 2
 
--- an edit found no place
-abbrev pub UNPLACED : ℕ
-UNPLACED = 3
+-- all was done, and there is more to say: an edit found no place, or pixels may show identity
+abbrev pub REMARK : ℕ
+REMARK = 3
 
 -- a device failed or could not be opened
 abbrev pub DEVICE : ℕ

@@ -6,7 +6,7 @@ ghost use Rattle.dcm_cli.specs.Calls as calls;
 
 use crate::ending::Ending;
 use crate::pass::read_set;
-use crate::rewrite::{open_file, target_syntax};
+use crate::rewrite::{NewHead, open_file, target_syntax};
 use dcm_base::{DeviceIn, DeviceOut, Dictionary, Syntax, Watched};
 use dcm_sinks::EncodeSink;
 use dcm_words::Convert;
@@ -27,7 +27,7 @@ fn convert_file<R: DeviceIn, W: DeviceOut>(
     ensures { calls.Works R.DeviceIn W.DeviceOut (convert_job dictionary target) input.old input.new out.old
         out.new result }
 {
-    let opened = match open_file(dictionary, target, input, out, buffer) {
+    let opened = match open_file(dictionary, target, &NewHead::AsItIs, input, out, buffer) {
         Ok(opened) => opened,
         Err(ending) => return ending,
     };

@@ -10,6 +10,8 @@ use dcm_stream::Halt;
 pub enum Verdict {
     /// All was done, except the edits that found no place: bit k is set for edit k, counted from 0.
     Done { unplaced: u64 },
+    /// All was done, and a value that was written says that pixels show identity.
+    PixelsMayShow,
     /// The input is refused.
     Refused(Stop),
     /// The lines of a dump are refused.

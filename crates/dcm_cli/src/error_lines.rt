@@ -171,6 +171,29 @@ pub fn tell_output<E: DeviceOut>(errors: &mut Watched<E>)
     tell_line(errors, &[b"dcmtools: output failed\n".as_slice()]);
 }
 
+/// Reports that pixels may show identity.
+pub fn tell_pixels<E: DeviceOut>(errors: &mut Watched<E>)
+    ensures { calls.Reports E.DeviceOut errors.old errors.new spec.pixels_line }
+{
+    tell_line(
+        errors,
+        &[b"dcmtools: pixels may show identity\n".as_slice()],
+    );
+}
+
+/// Reports that the key cannot be opened or read, and answers the status.
+pub fn tell_key<E: DeviceOut>(was_opened: bool, errors: &mut Watched<E>) -> u8
+    ensures line { calls.Reports E.DeviceOut errors.old errors.new (spec.key_line was_opened) }
+    ensures status { result ≡ statuses.DEVICE }
+{
+    if was_opened {
+        tell_line(errors, &[b"dcmtools: reading the key failed\n".as_slice()]);
+    } else {
+        tell_line(errors, &[b"dcmtools: key cannot be opened\n".as_slice()]);
+    }
+    DEVICE
+}
+
 /// Writes the line of an edit that found no place; it is counted from 1. Of another edit nothing is written.
 fn put_unplaced<E: DeviceOut>(
     is_unplaced: bool,

@@ -40,7 +40,7 @@ pub fn run_in_memory(job: &Job, input: MemIn, out: MemOut, errors: MemOut) -> In
 /// What obeying words over files in memory leaves.
 #[derive(Drop)]
 pub struct Obeyed {
-    /// The output that was closed, if one was.
+    /// The output that was closed, if one was and it was not removed.
     pub written: Option<MemOut>,
     /// The error writer.
     pub errors: MemOut,

@@ -7,6 +7,7 @@ ghost use Rattle.dcm_cli.specs.Answer.{Answer, Answers};
 ghost use Rattle.dcm_cli.specs.DumpBuilds.{DumpBuilds};
 ghost use Rattle.dcm_cli.specs.InMemory.{Outcome, Comes};
 ghost use Rattle.dcm_cli.specs.NoEdits.{NoEditsConvert};
+ghost use Rattle.dcm_cli.specs.Flows.{NothingFlows};
 ghost use Rattle.dcm_files.specs.declared.memory.MemSystem.{MemSystem};
 ghost use Rattle.dcm_words.specs.Words as words;
 ghost use Rattle.std.specs.Prelude.{◌≡◌, List, ℕ};
@@ -115,4 +116,11 @@ pub fn output_erased_for_all()
 /// 3.
 pub fn modified_twice()
     ensures { ModifiedTwice }
+{}
+
+/// Nothing of what dcmdeid takes out of a file is in its answer: two files that are read without fault, of which the same
+/// meta elements stay, and whose data sets differ only in what is taken, have the same output, lines and status. Unique
+/// identifiers that get new ones may differ in their padding alone.
+pub fn nothing_flows_in_answers()
+    ensures { NothingFlows }
 {}

@@ -19,12 +19,14 @@
 
 mod build;
 mod convert;
+mod deidentify;
 mod dump;
 mod ending;
 mod error_lines;
 mod head;
 /// Runs over memory.
 pub mod in_memory;
+mod key;
 /// Laws of the definitions.
 pub mod laws;
 mod modify;
@@ -37,6 +39,6 @@ pub mod run;
 pub mod status;
 mod syntax;
 
-pub use dcm_words::{Build, Convert, Dump, Job, Planned, plan};
+pub use dcm_words::{Build, Convert, Deidentify, Dump, Job, Planned, plan};
 pub use error_lines::{tell, tell_open};
 pub use program::{dcmtools, obey, start};

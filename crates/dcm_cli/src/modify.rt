@@ -10,7 +10,7 @@ ghost use Rattle.dcm_cli.specs.Pass as spec;
 
 use crate::ending::{Ending, Verdict};
 use crate::pass::read_set;
-use crate::rewrite::{Opened, open_file};
+use crate::rewrite::{NewHead, Opened, open_file};
 use dcm_base::{DeviceIn, DeviceOut, Dictionary, Watched};
 use dcm_editor::{EditSink, Edits};
 use dcm_sinks::EncodeSink;
@@ -72,7 +72,7 @@ fn modify_file<R: DeviceIn, W: DeviceOut>(
     ensures { calls.Works R.DeviceIn W.DeviceOut (modify_job dictionary edits.now) input.old input.new out.old
         out.new result }
 {
-    let opened = match open_file(dictionary, None, input, out, buffer) {
+    let opened = match open_file(dictionary, None, &NewHead::AsItIs, input, out, buffer) {
         Ok(opened) => opened,
         Err(ending) => return ending,
     };

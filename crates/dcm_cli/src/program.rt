@@ -4,15 +4,20 @@ ghost use Rattle.dcm_words.specs.Plans as plans;
 ghost use Rattle.dcm_words.specs.Topics as topics;
 ghost use Rattle.dcm_cli.specs.Calls as calls;
 ghost use Rattle.dcm_cli.specs.Change.{change_of};
+ghost use Rattle.dcm_cli.specs.Keys as keys;
 ghost use Rattle.dcm_cli.specs.Program as spec;
 ghost use Rattle.dcm_cli.specs.Status as statuses;
 
 use crate::ending::{Ending, Verdict};
-use crate::error_lines::{tell, tell_open, tell_same};
+use crate::error_lines::{tell, tell_key, tell_open, tell_output, tell_same};
+use crate::key::{NoKey, take_key};
 use crate::run::{flushed, run, tell_ending};
-use dcm_base::{DeviceOut, Std, Watched, put_all};
-use dcm_files::{Host, System, Unopened, open_devices, unopened};
-use dcm_words::{Planned, Topic, Usage, asked, plan};
+use crate::status;
+use dcm_base::{DeviceOut, Std, Watched, WordFault, put_all};
+use dcm_files::{
+    FileKind, Host, Opened, System, Unopened, end_part, open_devices, open_whole_devices, unopened,
+};
+use dcm_words::{Deidentify, Job, Planned, Topic, Usage, asked, plan};
 use std::alloc::{AllocError, Global};
 
 /// How the writing of a text ends.
@@ -42,22 +47,134 @@ fn tell_unopened<E: DeviceOut>(unopened: Unopened, errors: &mut Watched<E>) -> u
     }
 }
 
+/// Reports why there is no key, and answers the status.
+fn tell_no_key<E: DeviceOut>(cause: NoKey, errors: &mut Watched<E>) -> u8
+    ensures line { calls.Reports E.DeviceOut errors.old errors.new (keys.no_key_line cause) }
+    ensures status { result ≡ keys.no_key_status cause }
+{
+    match cause {
+        NoKey::Unopened => tell_key(false, errors),
+        NoKey::Unread => tell_key(true, errors),
+        NoKey::Size => tell(&Usage::Whole(WordFault::BadKey), errors),
+        NoKey::Memory => tell(&Usage::Memory, errors),
+    }
+}
+
+/// Runs a job over its devices, and gives them back.
+fn run_over<S: System, E: DeviceOut>(
+    system: &mut S,
+    job: &Job,
+    input: Opened<S::Input>,
+    output: Opened<S::Output>,
+    errors: &mut Watched<E>,
+) -> u8
+    ensures runs { spec.RunsOver S.may_do S.Input.DeviceIn S.Output.DeviceOut (plans.job_of job.now)
+        (change_of E.DeviceOut errors.old errors.new) input.device output.device system.old result system.new }
+    ensures within { result ≤ statuses.DEVICE }
+{
+    let mut input = Watched::new(input.device);
+    let mut out = Watched::new(output.device);
+    let outcome = run(job, &mut input, &mut out, errors);
+    system.close(out.into_device());
+    system.release(input.into_device());
+    outcome.status
+}
+
 /// Opens the devices of a job and runs it. Nothing is read or written where one cannot be opened.
 fn work<S: System, E: DeviceOut>(system: &mut S, planned: &Planned, errors: &mut Watched<E>) -> u8
     ensures works { spec.Works S.may_do S.Input.DeviceIn S.Output.DeviceOut (plans.planned planned.now)
         (change_of E.DeviceOut errors.old errors.new) system.old result system.new }
     ensures within { result ≤ statuses.MEMORY }
 {
-    let (input, output) = match open_devices(system, planned.input, planned.output) {
-        Ok(devices) => devices,
-        Err(unopened) => return tell_unopened(unopened, errors),
+    match open_devices(system, planned.input, planned.output) {
+        Ok((input, output)) => run_over(system, &planned.job, input, output, errors),
+        Err(unopened) => tell_unopened(unopened, errors),
+    }
+}
+
+/// Gives an output its name where its job was done, and else removes it; answers the status.
+fn end_output<S: System, E: DeviceOut>(
+    system: &mut S,
+    output: &[u8],
+    ran: u8,
+    errors: &mut Watched<E>,
+) -> u8
+    ensures ends { spec.EndsOutput S.may_do output.now ran (change_of E.DeviceOut errors.old errors.new) system.old
+        result system.new }
+    ensures within { ran ≤ statuses.DEVICE → result ≤ statuses.DEVICE }
+{
+    let is_whole = ran == status::DONE;
+    let ended = end_part(system, output, is_whole);
+    if is_whole && ended.is_err() {
+        tell_output(errors);
+        return status::DEVICE;
+    }
+    ran
+}
+
+/// Opens the devices of a plan and runs a job: the output has its name only once it is whole, and is not the file that
+/// was read earlier.
+fn work_whole<S: System, E: DeviceOut>(
+    system: &mut S,
+    planned: &Planned,
+    job: &Job,
+    earlier: Option<FileKind>,
+    errors: &mut Watched<E>,
+) -> u8
+    ensures works { spec.WorksWhole S.may_do S.Input.DeviceIn S.Output.DeviceOut (plans.planned planned.now)
+        (plans.job_of job.now) earlier (change_of E.DeviceOut errors.old errors.new) system.old result system.new }
+    ensures within { result ≤ statuses.MEMORY }
+{
+    match open_whole_devices(system, planned.input, planned.output, earlier) {
+        Ok((input, output)) => {
+            let ran = run_over(system, job, input, output, errors);
+            end_output(system, planned.output, ran, errors)
+        }
+        Err(unopened) => tell_unopened(unopened, errors),
+    }
+}
+
+/// Reads the key, where there is one, and takes identity out of a file.
+fn deidentify<S: System, E: DeviceOut>(
+    system: &mut S,
+    planned: &Planned,
+    what: &Deidentify,
+    errors: &mut Watched<E>,
+) -> u8
+    ensures works { spec.Deidentifies S.may_do S.Input.DeviceIn S.Output.DeviceOut (plans.planned planned.now)
+        what.now.options what.now.reports (change_of E.DeviceOut errors.old errors.new) system.old result system.new }
+    ensures within { result ≤ statuses.MEMORY }
+{
+    let Some(path) = planned.key else {
+        return work_whole(system, planned, &planned.job, None, errors);
     };
-    let mut input = Watched::new(input.device);
-    let mut out = Watched::new(output.device);
-    let outcome = run(&planned.job, &mut input, &mut out, errors);
-    system.close(out.into_device());
-    system.release(input.into_device());
-    outcome.status
+    match take_key(system, path) {
+        Ok(key) => {
+            let job = Job::Deidentify(Deidentify {
+                options: what.options,
+                reports: what.reports,
+                key: key.bytes,
+            });
+            work_whole(system, planned, &job, Some(key.kind), errors)
+        }
+        Err(cause) => tell_no_key(cause, errors),
+    }
+}
+
+/// Does what a plan says, and answers the status.
+fn work_on<S: System, E: DeviceOut>(
+    system: &mut S,
+    planned: &Planned,
+    errors: &mut Watched<E>,
+) -> u8
+    ensures works { spec.WorksAs (plans.job_of planned.now.job) S.may_do S.Input.DeviceIn S.Output.DeviceOut
+        (plans.planned planned.now) (change_of E.DeviceOut errors.old errors.new) system.old result system.new }
+    ensures within { result ≤ statuses.MEMORY }
+{
+    match &planned.job {
+        Job::Deidentify(what) => deidentify(system, planned, what, errors),
+        _ => work(system, planned, errors),
+    }
 }
 
 /// Writes a text, and answers the status.
@@ -110,7 +227,7 @@ pub fn obey<S: System, E: DeviceOut>(
         return show(system, topic, errors);
     }
     match plan(alloc, words) {
-        Ok(planned) => work(system, &planned, errors),
+        Ok(planned) => work_on(system, &planned, errors),
         Err(usage) => tell(&usage, errors),
     }
 }

@@ -8,7 +8,9 @@ ghost use Rattle.dcm_base.specs.Reading.Reads.{INPUT_LIMIT};
 ghost use Rattle.dcm_files.specs.Pieces.{BUFFER_LIMIT};
 ghost use Rattle.dcm_cli.specs.Answer as answer;
 ghost use Rattle.dcm_cli.specs.Calls as calls;
+ghost use Rattle.dcm_cli.specs.Opening as opening;
 ghost use Rattle.dcm_cli.specs.Pass as spec;
+ghost use Rattle.dcm_cli.specs.declared.rewrite.NewHead.TheVariants.{WithoutIdentity};
 
 use crate::ending::{Ending, Verdict, ending_of_head};
 use crate::head::{Beginning, read_head_of, set_start};
@@ -16,6 +18,7 @@ use crate::syntax::uid_of_syntax;
 use dcm_base::{
     Coding, DeviceIn, DeviceOut, Dictionary, Fault, Stop, Syntax, Watched, WriteFailed, put_parts,
 };
+use dcm_deid::{MetaWithoutIdentity, NO_PREAMBLE};
 use dcm_head::{Meta, PREFIX};
 
 /// A file whose data set is to be written again: the coding and the offset of the data set, and what was read of it.
@@ -27,6 +30,15 @@ pub struct Opened {
     pub coding: Coding,
     /// The offset of the data set in the file.
     pub start: u64,
+}
+
+/// How the head of a file is written again.
+#[derive(Drop)]
+pub enum NewHead<'a> {
+    /// As it is, but for its transfer syntax.
+    AsItIs,
+    /// Without identity.
+    WithoutIdentity(MetaWithoutIdentity<'a>),
 }
 
 /// Whether a file in this coding keeps its transfer syntax, and another is wanted.
@@ -58,18 +70,51 @@ fn target_uid<'m>(target: Option<Syntax>, meta: &'m Meta) -> &'m [u8]
     }
 }
 
-/// Writes what is before the data set: the preamble, the prefix, and the meta group with this transfer syntax.
-fn write_head<W: DeviceOut>(
+/// Writes what is before the data set as it is: the preamble, the prefix, and the meta group with this transfer syntax.
+fn write_same<W: DeviceOut>(
     meta: &Meta,
     uid: &[u8],
     out: &mut Watched<W>,
 ) -> Result<(), WriteFailed>
     requires ended { HasEnded meta.now.end }
     requires uid { length uid.now < 65535 }
-    ensures { calls.WritesHead W.DeviceOut out.old out.new meta.now uid.now result }
+    ensures { calls.WritesHead W.DeviceOut out.old out.new opening.unchanged meta.now uid.now result }
 {
     put_parts(out, &[meta.preamble(), PREFIX])?;
     meta.rewritten(uid, out)
+}
+
+/// Writes what is before the data set without identity: zeros, the prefix, and what stays of the meta group.
+fn write_without_identity<W: DeviceOut>(
+    what: &MetaWithoutIdentity,
+    meta: &Meta,
+    uid: &[u8],
+    out: &mut Watched<W>,
+) -> Result<(), WriteFailed>
+    requires ended { HasEnded meta.now.end }
+    requires uid { length uid.now < 65535 }
+    ensures { calls.WritesHead W.DeviceOut out.old out.new (opening.change_by (WithoutIdentity what.now)) meta.now
+        uid.now result }
+{
+    put_parts(out, &[NO_PREAMBLE.as_slice(), PREFIX])?;
+    meta.renewed(what, uid, out)
+}
+
+/// Writes what is before the data set: the preamble, the prefix, and the meta group with this transfer syntax.
+fn write_head<W: DeviceOut>(
+    head: &NewHead,
+    meta: &Meta,
+    uid: &[u8],
+    out: &mut Watched<W>,
+) -> Result<(), WriteFailed>
+    requires ended { HasEnded meta.now.end }
+    requires uid { length uid.now < 65535 }
+    ensures { calls.WritesHead W.DeviceOut out.old out.new (opening.change_by head.now) meta.now uid.now result }
+{
+    match head {
+        NewHead::AsItIs => write_same(meta, uid, out),
+        NewHead::WithoutIdentity(what) => write_without_identity(what, meta, uid, out),
+    }
 }
 
 /// Reads the head of a file, and writes it again with the transfer syntax of the target. The coding is read by the
@@ -77,14 +122,15 @@ fn write_head<W: DeviceOut>(
 pub fn open_file<R: DeviceIn, W: DeviceOut>(
     dictionary: Dictionary,
     target: Option<Syntax>,
+    head: &NewHead,
     input: &mut Watched<R>,
     out: &mut Watched<W>,
     buffer: &mut [u8],
 ) -> Result<Opened, Ending>
     requires room { 0 < length buffer.old }
     requires bound { length buffer.old ≤ BUFFER_LIMIT }
-    ensures opens { calls.Opens R.DeviceIn W.DeviceOut dictionary target input.old input.new out.old out.new
-        buffer.old buffer.new result }
+    ensures opens { calls.Opens R.DeviceIn W.DeviceOut dictionary target (opening.change_by head.now) input.old input.new
+        out.old out.new buffer.old buffer.new result }
     ensures start { IfOk result (λ o. o.start ≤ INPUT_LIMIT) }
     ensures within { IfOk result (λ o. spec.IsWithin o.beginning buffer.new) }
     ensures count { IfOk result (λ o. o.start + length (spec.set_bytes o.beginning buffer.new) ≡ o.beginning.read) }
@@ -102,7 +148,7 @@ pub fn open_file<R: DeviceIn, W: DeviceOut>(
             at: start,
         })));
     }
-    if write_head(&meta, target_uid(target, &meta), out).is_err() {
+    if write_head(head, &meta, target_uid(target, &meta), out).is_err() {
         return Err(Ending::Output);
     }
     Ok(Opened {

@@ -9,11 +9,14 @@ ghost use Rattle.dcm_words.specs.Plans.{job_of};
 
 use crate::build::build;
 use crate::convert::convert;
+use crate::deidentify::deidentify;
 use crate::dump::dump;
 use crate::ending::{Ending, Verdict};
-use crate::error_lines::{tell_fault, tell_line_fault, tell_output, tell_unplaced, tell_unread};
+use crate::error_lines::{
+    tell_fault, tell_line_fault, tell_output, tell_pixels, tell_unplaced, tell_unread,
+};
 use crate::modify::modify;
-use crate::status::{DEVICE, DONE, FAULT, UNPLACED};
+use crate::status::{DEVICE, DONE, FAULT, REMARK};
 use dcm_base::{DeviceIn, DeviceOut, Watched, flush_out};
 use dcm_words::Job;
 
@@ -47,19 +50,23 @@ pub(crate) fn flushed<W: DeviceOut>(ending: Ending, out: &mut Watched<W>) -> End
 fn done_status(unplaced: u64) -> u8
     ensures { result ≡ spec.mask_status unplaced }
 {
-    if unplaced == 0 { DONE } else { UNPLACED }
+    if unplaced == 0 { DONE } else { REMARK }
 }
 
 /// Reports what the work on a job came to, and answers the status.
 fn tell_verdict<E: DeviceOut>(verdict: Verdict, errors: &mut Watched<E>) -> u8
     ensures lines { calls.Reports E.DeviceOut errors.old errors.new (spec.verdict_lines verdict) }
     ensures status { result ≡ spec.verdict_status verdict }
-    ensures within { result ≤ statuses.UNPLACED }
+    ensures within { result ≤ statuses.REMARK }
 {
     match verdict {
         Verdict::Done { unplaced } => {
             tell_unplaced(unplaced, errors);
             done_status(unplaced)
+        }
+        Verdict::PixelsMayShow => {
+            tell_pixels(errors);
+            REMARK
         }
         Verdict::Refused(stop) => {
             tell_fault(stop, errors);
@@ -105,6 +112,7 @@ fn work<R: DeviceIn, W: DeviceOut>(
         Job::Convert(what) => convert(*what, input, out),
         Job::Build(what) => build(*what, input, out),
         Job::Modify(what) => modify(what, input, out),
+        Job::Deidentify(what) => deidentify(what, input, out),
     }
 }
 

@@ -22,3 +22,4 @@ pub mod AtOpen
 pub mod SaidOnes
 pub mod Deidentified
 pub mod PixelsTold
+pub mod Shallow

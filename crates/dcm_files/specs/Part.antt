@@ -55,17 +55,17 @@ pub data OpensPart {S I O : Type 0} (may : MayDo S I O) (output : List ℕ) (inp
     (before : S) (r : Result (Opened O) Error) (after : S) : Type 0 where
   no_text : (e : Error) → ¬ (IsUtf8 output) → error_kind e ≡ kinds.InvalidFilename → r ≡ Err e → after ≡ before
       → OpensPart may output input earlier before r after
-  not_seen : (e : Error) → may.looks before output (Err e) after → r ≡ Err e
+  not_seen : (e : Error) → IsUtf8 output → may.looks before output (Err e) after → r ≡ Err e
       → OpensPart may output input earlier before r after
-  not_replaced : (there : Option FileKind) (e : Error) → may.looks before output (Ok there) after
+  not_replaced : (there : Option FileKind) (e : Error) → IsUtf8 output → may.looks before output (Ok there) after
       → may_replace there input earlier ≡ false → error_kind e ≡ kinds.AlreadyExists → r ≡ Err e
       → OpensPart may output input earlier before r after
-  too_long : (there : Option FileKind) (e : Error) → may.looks before output (Ok there) after
+  too_long : (there : Option FileKind) (e : Error) → IsUtf8 output → may.looks before output (Ok there) after
       → may_replace there input earlier ≡ true → is_short output ≡ false
       → error_kind e ≡ kinds.InvalidFilename → r ≡ Err e → OpensPart may output input earlier before r after
-  made : (there : Option FileKind) (has_looked : S) → may.looks before output (Ok there) has_looked
-      → may_replace there input earlier ≡ true → may.makes has_looked (part_of output) r after
-      → OpensPart may output input earlier before r after
+  made : (there : Option FileKind) (has_looked : S) → IsUtf8 output → is_short output ≡ true
+      → may.looks before output (Ok there) has_looked → may_replace there input earlier ≡ true
+      → may.makes has_looked (part_of output) r after → OpensPart may output input earlier before r after
 
 -- of standard output: it is closed again where it is a file that was read
 pub data OpensStream {S I O : Type 0} (may : MayDo S I O) (input : FileKind) (earlier : Option FileKind)

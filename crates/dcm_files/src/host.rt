@@ -201,8 +201,14 @@ impl System for Host {
             .write(true)
             .create_new(true)
             .open(&self.rt, path)?;
-        let kind = kind_of(&file.metadata()?);
-        self.buffered(Right(OutputFile::new(file)), kind)
+        // Nobody asks what a new file is. Without memory for the buffer it is removed again.
+        match self.buffered(Right(OutputFile::new(file)), FileKind::Unknown) {
+            Ok(opened) => Ok(opened),
+            Err(e) => {
+                let _ = fs::remove_file(&self.rt, path);
+                Err(e)
+            }
+        }
     }
 
     fn rename(&mut self, from: &str, to: &str) -> io::Result<()> {

@@ -1,5 +1,5 @@
 // An output that has its name only once it is whole.
-ghost use Rattle.std.specs.Prelude.{◌≡◌, ◌++◌, ◌≤◌, IfOk, IfErr, length, false};
+ghost use Rattle.std.specs.Prelude.{◌≡◌, ◌++◌, ◌≤◌, IfOk, IfErr, OnOk, length, true, false};
 ghost use Rattle.std.specs.IoError.{error_kind};
 ghost use Rattle.dcm_files.specs.Part as spec;
 
@@ -18,6 +18,7 @@ const LONGEST: usize = 4096 + SUFFIX.len();
 /// The path at which an output is written until it is whole.
 fn part_of(output: &[u8]) -> io::Result<ArrayVec<u8, LONGEST>>
     ensures ok { IfOk result (λ part. part.items ≡ spec.part_of output.now) }
+    ensures short { OnOk result (spec.is_short output.now ≡ true) }
     ensures err { IfErr result (λ e. (spec.is_short output.now ≡ false) × (error_kind e ≡ ErrorKind.InvalidFilename)) }
 {
     let mut part = ArrayVec::new();

@@ -7,6 +7,9 @@ mod deep;
 mod dictionaries;
 mod failing;
 mod files;
+mod identities;
+mod identity_faults;
+mod identity_put;
 mod long_lines;
 mod modifications;
 mod nested;
@@ -17,12 +20,16 @@ mod rows;
 mod signs;
 mod unknown;
 
+use arrayvec::ArrayVec;
 use buildings::buildings;
 use conversions::conversions;
 use dcm_base::{DeviceIn, DeviceOut, MemIn, MemOut, Std, Watched};
 use dcm_cli::run::run;
-use dcm_cli::{Job, plan, tell};
+use dcm_cli::{Deidentify, Job, Planned, plan, tell};
 use dictionaries::dictionaries;
+use identities::identities;
+use identity_faults::identity_faults;
+use identity_put::identity_put;
 use itoa::Buffer;
 use modifications::modifications;
 use rows::{Row, bytes_of, front_of};
@@ -96,6 +103,40 @@ fn job_status<R: DeviceIn, W: DeviceOut>(
     run(job, input, out, errors).status
 }
 
+/// A key of 16 bytes.
+const KEY: &[u8] = b"a key of 16 byte";
+
+/// The longest key.
+const LONGEST_KEY: [u8; 4096] = [b'k'; 4096];
+
+/// What the file of a key has, by its path.
+fn key_at(path: &[u8]) -> &'static [u8] {
+    if path == b"KEY4096".as_slice() {
+        &LONGEST_KEY
+    } else {
+        KEY
+    }
+}
+
+/// The taking out of identity with a key.
+fn keyed(what: &Deidentify, bytes: &[u8]) -> Job {
+    let mut key = ArrayVec::new();
+    let _ = key.try_extend_from_slice(bytes);
+    Job::Deidentify(Deidentify {
+        options: what.options,
+        reports: what.reports,
+        key,
+    })
+}
+
+/// The job of a plan, with its key.
+fn job_with_key(planned: Planned) -> Job {
+    match (&planned.job, planned.key) {
+        (Job::Deidentify(what), Some(path)) => keyed(what, key_at(path)),
+        _ => planned.job,
+    }
+}
+
 /// The status of a run that words ask for, over these devices.
 fn status_of<R: DeviceIn, W: DeviceOut>(
     rt: HostRuntime,
@@ -106,7 +147,7 @@ fn status_of<R: DeviceIn, W: DeviceOut>(
 ) -> Result<u8, Fail> {
     let words = split(rt, line)?;
     let status = match plan(rt.alloc(), words.as_slice()) {
-        Ok(planned) => job_status(&planned.job, input, out, errors),
+        Ok(planned) => job_status(&job_with_key(planned), input, out, errors),
         Err(usage) => tell(&usage, errors),
     };
     Ok(status)
@@ -292,4 +333,15 @@ fn reads_signs(rt: HostRuntime) -> Result<(), Fail> {
 #[test]
 fn reads_unknown_sequences(rt: HostRuntime) -> Result<(), Fail> {
     expect_rows(rt, &rt, &unknown())
+}
+
+#[test]
+fn takes_identity_out(rt: HostRuntime) -> Result<(), Fail> {
+    expect_rows(rt, &rt, &identities())?;
+    expect_rows(rt, &rt, &identity_put())
+}
+
+#[test]
+fn takes_identity_out_up_to_a_fault(rt: HostRuntime) -> Result<(), Fail> {
+    expect_rows(rt, &rt, &identity_faults())
 }

@@ -1,15 +1,15 @@
 -- The words of a tool, one after another.
-use Rattle.std.proofs.Common.{◌≡◌, ◌≢◌, ◌==◌, ℕ, zero, suc, ◌<◌, ◌+◌, List, [], ◌∷◌, length, map, drop, get_or, Option, None, Some, Bool, true, false, Result, Ok, Err, refl, sym, ◌∙◌, ap, subst, arith, drop-cons, add-one, Bor}
+use Rattle.std.proofs.Common.{◌≡◌, ◌≢◌, ◌==◌, ℕ, zero, suc, ◌<◌, ◌+◌, List, [], ◌∷◌, length, map, drop, get_or, Option, None, Some, option_map, Bool, true, false, Result, Ok, Err, refl, sym, ◌∙◌, ap, subst, arith, drop-cons, add-one, Bor}
 use Rattle.std.proofs.lemmas.Bool.Decides.{nat_tests}
 use Rattle.dcm_words.specs.declared.usage.Word.{Word}
-use Rattle.dcm_words.specs.declared.usage.Word.TheVariants.{Read, Show, WholeFile, DataSet, Bare, Target, Limit, Accepted, Path, Unknown}
+use Rattle.dcm_words.specs.declared.usage.Word.TheVariants.{Read, Show, WholeFile, DataSet, Bare, Target, Limit, Retain, PixelsDealt, Key, Accepted, Path, Unknown}
 use Rattle.dcm_words.specs.declared.usage.Usage.{Usage}
 use Rattle.dcm_words.specs.declared.usage.Usage.TheVariants.{AtWord, Whole}
 use Rattle.dcm_base.specs.declared.fault.WordFault.TheVariants.{UnknownOption, BadOptionValue, WrongPaths}
-use Rattle.dcm_words.specs.Words.{Said, said_with, said_after, and_path, limit_of, Job, plan_with_two}
+use Rattle.dcm_words.specs.Words.{Said, said_with, said_with_value, said_after, and_path, limit_of, key_of, Job, plan_with_two}
 use Rattle.dcm_words.specs.declared.words.Paths.{Paths}
 use Rattle.dcm_words.specs.declared.words.Paths.TheVariants as paths
-use Rattle.dcm_words.specs.Plans.{given, limit_after, PathsAre}
+use Rattle.dcm_words.specs.Plans.{given, value_after, limit_after, key_after, PathsAre}
 
 abbrev texts : List (Bor (List ℕ)) → List (List ℕ)
 texts ws = map (λ w. w.now) ws
@@ -18,7 +18,14 @@ texts ws = map (λ w. w.now) ws
 abbrev pub goes : Word → Bool
 goes Unknown = false
 goes Limit = false
+goes Key = false
 goes _ = true
+
+-- words that want a value
+abbrev wants_value : Word → Bool
+wants_value Limit = true
+wants_value Key = true
+wants_value _ = false
 
 next_word : (i : ℕ) (ws : List (Bor (List ℕ))) (d : Bor (List ℕ)) → i < length ws → texts (drop i ws) ≡ (get_or ws i d).now ∷ texts (drop (i + 1) ws)
 next_word i ws d h = rw (add-one, drop-cons ws i d)
@@ -41,6 +48,9 @@ module _ (read : List ℕ → Word) where
   one_alone n s w (Bare y) e g = rw (e, said_after) refl
   one_alone n s w (Target y) e g = rw (e, said_after) refl
   one_alone n s w Limit e g = cc
+  one_alone n s w (Retain o) e g = rw (e, said_after) refl
+  one_alone n s w PixelsDealt e g = rw (e, said_after) refl
+  one_alone n s w Key e g = cc
   one_alone n s w Accepted e g = rw (e, said_after) refl
   one_alone n s w Path e g = rw (e, said_after) refl
   one_alone n s w Unknown e g = cc
@@ -53,6 +63,9 @@ module _ (read : List ℕ → Word) where
   one_before n s w v words (Bare y) e g = rw (e, said_after) refl
   one_before n s w v words (Target y) e g = rw (e, said_after) refl
   one_before n s w v words Limit e g = cc
+  one_before n s w v words (Retain o) e g = rw (e, said_after) refl
+  one_before n s w v words PixelsDealt e g = rw (e, said_after) refl
+  one_before n s w v words Key e g = cc
   one_before n s w v words Accepted e g = rw (e, said_after) refl
   one_before n s w v words Path e g = rw (e, said_after) refl
   one_before n s w v words Unknown e g = cc
@@ -73,49 +86,113 @@ module _ (read : List ℕ → Word) where
       ∙ (one_word (i + 2) s (get_or ws i d).now (texts (drop (i + 1) ws)) x (sym p) g
       ∙ ap (λ (m : ℕ). said_after read m (said_with x (get_or ws i d).now s) (texts (drop (i + 1) ws))) n)
 
-  -- the word behind that for a limit is its value
-  limit_alone : (n : ℕ) (s : Said) (w : List ℕ) → read w ≡ Limit → said_after read n s (w ∷ []) ≡ Err (AtWord BadOptionValue n)
-  limit_alone n s w e = rw (e, said_after) refl
+  -- the word after one that wants a value is that
+  value_alone : (n : ℕ) (s : Said) (w : List ℕ) (x : Word) → read w ≡ x → wants_value x ≡ true → said_after read n s (w ∷ []) ≡ Err (AtWord BadOptionValue n)
+  value_alone n s w Limit e wants = rw (e, said_after) refl
+  value_alone n s w Key e wants = rw (e, said_after) refl
+  value_alone n s w (Read d) e wants = cc
+  value_alone n s w (Show m) e wants = cc
+  value_alone n s w WholeFile e wants = cc
+  value_alone n s w DataSet e wants = cc
+  value_alone n s w (Bare y) e wants = cc
+  value_alone n s w (Target y) e wants = cc
+  value_alone n s w (Retain o) e wants = cc
+  value_alone n s w PixelsDealt e wants = cc
+  value_alone n s w Accepted e wants = cc
+  value_alone n s w Path e wants = cc
+  value_alone n s w Unknown e wants = cc
 
-  limit_bad : (n : ℕ) (s : Said) (w v : List ℕ) (words : List (List ℕ)) → read w ≡ Limit → limit_of v ≡ None → said_after read n s (w ∷ v ∷ words) ≡ Err (AtWord BadOptionValue n)
-  limit_bad n s w v words e l = rw (e, l, said_after) refl
+  value_bad : (n : ℕ) (s : Said) (w v : List ℕ) (words : List (List ℕ)) (x : Word) → read w ≡ x → wants_value x ≡ true → said_with_value x v s ≡ None → said_after read n s (w ∷ v ∷ words) ≡ Err (AtWord BadOptionValue n)
+  value_bad n s w v words Limit e wants none = rw (e, none, said_after) refl
+  value_bad n s w v words Key e wants none = rw (e, none, said_after) refl
+  value_bad n s w v words (Read d) e wants none = cc
+  value_bad n s w v words (Show m) e wants none = cc
+  value_bad n s w v words WholeFile e wants none = cc
+  value_bad n s w v words DataSet e wants none = cc
+  value_bad n s w v words (Bare y) e wants none = cc
+  value_bad n s w v words (Target y) e wants none = cc
+  value_bad n s w v words (Retain o) e wants none = cc
+  value_bad n s w v words PixelsDealt e wants none = cc
+  value_bad n s w v words Accepted e wants none = cc
+  value_bad n s w v words Path e wants none = cc
+  value_bad n s w v words Unknown e wants none = cc
 
-  limit_good : (n : ℕ) (s : Said) (w v : List ℕ) (words : List (List ℕ)) (limit : ℕ) → read w ≡ Limit → limit_of v ≡ Some limit → said_after read n s (w ∷ v ∷ words) ≡ said_after read (n + 2) (record s { limit = limit }) words
-  limit_good n s w v words limit e l = rw (e, l, said_after) refl
+  value_good : (n : ℕ) (s t : Said) (w v : List ℕ) (words : List (List ℕ)) (x : Word) → read w ≡ x → wants_value x ≡ true → said_with_value x v s ≡ Some t → said_after read n s (w ∷ v ∷ words) ≡ said_after read (n + 2) t words
+  value_good n s t w v words Limit e wants some = rw (e, some, said_after) refl
+  value_good n s t w v words Key e wants some = rw (e, some, said_after) refl
+  value_good n s t w v words (Read d) e wants some = cc
+  value_good n s t w v words (Show m) e wants some = cc
+  value_good n s t w v words WholeFile e wants some = cc
+  value_good n s t w v words DataSet e wants some = cc
+  value_good n s t w v words (Bare y) e wants some = cc
+  value_good n s t w v words (Target y) e wants some = cc
+  value_good n s t w v words (Retain o) e wants some = cc
+  value_good n s t w v words PixelsDealt e wants some = cc
+  value_good n s t w v words Accepted e wants some = cc
+  value_good n s t w v words Path e wants some = cc
+  value_good n s t w v words Unknown e wants some = cc
 
-  limit_goes : (n : ℕ) (s : Said) (w : List ℕ) (vs : List (List ℕ)) (limit : ℕ) → read w ≡ Limit → limit_after n vs ≡ Ok limit → said_after read n s (w ∷ vs) ≡ said_after read (n + 2) (record s { limit = limit }) (drop 1 vs)
-  limit_goes n s w [] limit e l = absurd (cc)
-  limit_goes n s w (v ∷ words) limit e l = goes_by (limit_of v) refl l
-    where
-      goes_by : (o : Option ℕ) → limit_of v ≡ o → given n o ≡ Ok limit → said_after read n s (w ∷ v ∷ words) ≡ said_after read (n + 2) (record s { limit = limit }) words
-      goes_by None is l = absurd (cc)
-      goes_by (Some k) is l = let same : k ≡ limit = cc in limit_good n s w v words k e is ∙ ap (λ k. said_after read (n + 2) (record s { limit = k }) words) same
+  module _ {A : Type 0} (x : Word) (of : List ℕ → Option A) (set : A → Said → Said) (wants : wants_value x ≡ true)
+      (is : (v : List ℕ) (s : Said) → said_with_value x v s ≡ option_map (λ a. set a s) (of v)) where
+    value_goes : (n : ℕ) (s : Said) (w : List ℕ) (vs : List (List ℕ)) (a : A) → read w ≡ x → value_after of n vs ≡ Ok a → said_after read n s (w ∷ vs) ≡ said_after read (n + 2) (set a s) (drop 1 vs)
+    value_goes n s w [] a e l = absurd (cc)
+    value_goes n s w (v ∷ words) a e l = goes_by (of v) refl l
+      where
+        goes_by : (o : Option A) → of v ≡ o → given n o ≡ Ok a → said_after read n s (w ∷ v ∷ words) ≡ said_after read (n + 2) (set a s) words
+        goes_by None from l = absurd (cc)
+        goes_by (Some k) from l =
+            let same : k ≡ a = cc in
+            value_good n s (set a s) w v words x e wants (is v s ∙ ap (option_map (λ b. set b s)) from ∙ ap (λ b. Some (set b s)) same)
 
-  limit_stops : (n : ℕ) (s : Said) (w : List ℕ) (vs : List (List ℕ)) (u : Usage) → read w ≡ Limit → limit_after n vs ≡ Err u → said_after read n s (w ∷ vs) ≡ Err u
-  limit_stops n s w [] u e l = let same : AtWord BadOptionValue n ≡ u = cc in limit_alone n s w e ∙ ap Err same
-  limit_stops n s w (v ∷ words) u e l = stops_by (limit_of v) refl l
-    where
-      stops_by : (o : Option ℕ) → limit_of v ≡ o → given n o ≡ Err u → said_after read n s (w ∷ v ∷ words) ≡ Err u
-      stops_by None is l = let same : AtWord BadOptionValue n ≡ u = cc in limit_bad n s w v words e is ∙ ap Err same
-      stops_by (Some k) is l = absurd (cc)
+    value_stops : (n : ℕ) (s : Said) (w : List ℕ) (vs : List (List ℕ)) (u : Usage) → read w ≡ x → value_after of n vs ≡ Err u → said_after read n s (w ∷ vs) ≡ Err u
+    value_stops n s w [] u e l = let same : AtWord BadOptionValue n ≡ u = cc in value_alone n s w x e wants ∙ ap Err same
+    value_stops n s w (v ∷ words) u e l = stops_by (of v) refl l
+      where
+        stops_by : (o : Option A) → of v ≡ o → given n o ≡ Err u → said_after read n s (w ∷ v ∷ words) ≡ Err u
+        stops_by None from l =
+            let same : AtWord BadOptionValue n ≡ u = cc in
+            value_bad n s w v words x e wants (is v s ∙ ap (option_map (λ b. set b s)) from) ∙ ap Err same
+        stops_by (Some k) from l = absurd (cc)
 
-  -- the turn of the loop that takes a limit and its value
+    -- the turn of the loop that takes such a word and its value
+    value_turn : {M : Result Said Usage} (i : ℕ) (ws : List (Bor (List ℕ))) (d : Bor (List ℕ)) (s t : Said) (a : A) → i < length ws → x ≡ read (get_or ws i d).now → value_after of (i + 2) (texts (drop (i + 1) ws)) ≡ Ok a
+        → set a s ≡ t → said_after read (i + 2) s (texts (drop i ws)) ≡ M → said_after read (i + 1 + 1 + 2) t (texts (drop (i + 1 + 1) ws)) ≡ M
+    value_turn i ws d s t a h p l e v =
+        let n : i + 1 + 1 + 2 ≡ i + 2 + 2 = omega arith in
+        ap (λ m. said_after read m t (texts (drop (i + 1 + 1) ws))) n
+        ∙ ap (λ r. said_after read (i + 2 + 2) t r) (sym (behind_one (i + 1) ws))
+        ∙ ap (λ u. said_after read (i + 2 + 2) u (drop 1 (texts (drop (i + 1) ws)))) (sym e)
+        ∙ sym (value_goes (i + 2) s (get_or ws i d).now (texts (drop (i + 1) ws)) a (sym p) l)
+        ∙ sym (ap (λ (r : List (List ℕ)). said_after read (i + 2) s r) (next_word i ws d h))
+        ∙ v
+
+    value_refused : (i : ℕ) (ws : List (Bor (List ℕ))) (d : Bor (List ℕ)) (s : Said) (u : Usage) → i < length ws → x ≡ read (get_or ws i d).now → value_after of (i + 2) (texts (drop (i + 1) ws)) ≡ Err u
+        → said_after read (i + 2) s (texts (drop i ws)) ≡ Err u
+    value_refused i ws d s u h p l =
+        ap (λ (r : List (List ℕ)). said_after read (i + 2) s r) (next_word i ws d h)
+        ∙ value_stops (i + 2) s (get_or ws i d).now (texts (drop (i + 1) ws)) u (sym p) l
+
+  limit_is : (v : List ℕ) (s : Said) → said_with_value Limit v s ≡ option_map (λ limit. record s { limit = limit }) (limit_of v)
+  limit_is v s = refl
+
+  key_is : (v : List ℕ) (s : Said) → said_with_value Key v s ≡ option_map (λ key. record s { key = Some key }) (key_of v)
+  key_is v s = refl
+
   pub limit_turn : {M : Result Said Usage} (i : ℕ) (ws : List (Bor (List ℕ))) (d : Bor (List ℕ)) (s t : Said) (limit : ℕ) → i < length ws → Limit ≡ read (get_or ws i d).now → limit_after (i + 2) (texts (drop (i + 1) ws)) ≡ Ok limit
       → record s { limit = limit } ≡ t → said_after read (i + 2) s (texts (drop i ws)) ≡ M → said_after read (i + 1 + 1 + 2) t (texts (drop (i + 1 + 1) ws)) ≡ M
-  limit_turn i ws d s t limit h p l e v =
-      let n : i + 1 + 1 + 2 ≡ i + 2 + 2 = omega arith in
-      ap (λ m. said_after read m t (texts (drop (i + 1 + 1) ws))) n
-      ∙ ap (λ r. said_after read (i + 2 + 2) t r) (sym (behind_one (i + 1) ws))
-      ∙ ap (λ u. said_after read (i + 2 + 2) u (drop 1 (texts (drop (i + 1) ws)))) (sym e)
-      ∙ sym (limit_goes (i + 2) s (get_or ws i d).now (texts (drop (i + 1) ws)) limit (sym p) l)
-      ∙ sym (ap (λ (r : List (List ℕ)). said_after read (i + 2) s r) (next_word i ws d h))
-      ∙ v
+  limit_turn i ws d s t limit h p l e v = value_turn Limit limit_of (λ a s. record s { limit = a }) refl limit_is i ws d s t limit h p l e v
 
   pub limit_refused : (i : ℕ) (ws : List (Bor (List ℕ))) (d : Bor (List ℕ)) (s : Said) (u : Usage) → i < length ws → Limit ≡ read (get_or ws i d).now → limit_after (i + 2) (texts (drop (i + 1) ws)) ≡ Err u
       → said_after read (i + 2) s (texts (drop i ws)) ≡ Err u
-  limit_refused i ws d s u h p l =
-      ap (λ (r : List (List ℕ)). said_after read (i + 2) s r) (next_word i ws d h)
-      ∙ limit_stops (i + 2) s (get_or ws i d).now (texts (drop (i + 1) ws)) u (sym p) l
+  limit_refused i ws d s u h p l = value_refused Limit limit_of (λ a s. record s { limit = a }) refl limit_is i ws d s u h p l
+
+  pub key_turn : {M : Result Said Usage} (i : ℕ) (ws : List (Bor (List ℕ))) (d : Bor (List ℕ)) (s t : Said) (key : List ℕ) → i < length ws → Key ≡ read (get_or ws i d).now → key_after (i + 2) (texts (drop (i + 1) ws)) ≡ Ok key
+      → record s { key = Some key } ≡ t → said_after read (i + 2) s (texts (drop i ws)) ≡ M → said_after read (i + 1 + 1 + 2) t (texts (drop (i + 1 + 1) ws)) ≡ M
+  key_turn i ws d s t key h p l e v = value_turn Key key_of (λ a s. record s { key = Some a }) refl key_is i ws d s t key h p l e v
+
+  pub key_refused : (i : ℕ) (ws : List (Bor (List ℕ))) (d : Bor (List ℕ)) (s : Said) (u : Usage) → i < length ws → Key ≡ read (get_or ws i d).now → key_after (i + 2) (texts (drop (i + 1) ws)) ≡ Err u
+      → said_after read (i + 2) s (texts (drop i ws)) ≡ Err u
+  key_refused i ws d s u h p l = value_refused Key key_of (λ a s. record s { key = Some a }) refl key_is i ws d s u h p l
 
   pub stops : (i : ℕ) (ws : List (Bor (List ℕ))) (d : Bor (List ℕ)) (s : Said) → i < length ws → Unknown ≡ read (get_or ws i d).now
       → said_after read (i + 2) s (texts (drop i ws)) ≡ Err (AtWord UnknownOption (i + 2))

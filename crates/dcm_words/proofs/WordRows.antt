@@ -1,5 +1,5 @@
 -- Worked rows: the words of a command line.
-use Rattle.std.proofs.Common.{◌≡◌, ℕ, List, [], ◌∷◌, ◌++◌, length, flat_map, replicate, Some, None, Result, Ok, Err, refl}
+use Rattle.std.proofs.Common.{◌≡◌, ℕ, List, [], ◌∷◌, ◌++◌, length, flat_map, replicate, Option, Some, None, Bool, true, false, Result, Ok, Err, refl}
 use Rattle.std.specs.Prelude.{codes}
 use Rattle.dcm_base.specs.declared.tag.Tag.{Tag}
 use Rattle.dcm_base.specs.declared.vr.Vr.TheVariants.{UI, PN, LO, US}
@@ -13,7 +13,8 @@ use Rattle.dcm_base.specs.declared.dictionary.Dictionary.TheVariants.{Extract, S
 use Rattle.dcm_base.specs.Tables.Dictionary.{elements, entries, keywords, elements_in, element_in, tag_in}
 use Rattle.dcm_edits.specs.Edit.{Edit, number, every, step, insert, modify, erase, erase_item, on_path, modify_all, erase_private}
 use Rattle.dcm_edits.specs.EditWords.{meant_edits, in_edit, InEdit as EditFault}
-use Rattle.dcm_words.specs.Words.{meant, Plan, Job, dump, convert, build, modify as modifies}
+use Rattle.dcm_deid.specs.declared.fate.Options.{Options}
+use Rattle.dcm_words.specs.Words.{meant, no_options, Plan, Job, dump, convert, build, modify as modifies, deidentify}
 
 -- all that a row computes with
 unfoldable all : ℕ
@@ -24,7 +25,11 @@ abbrev tag : ℕ → ℕ → Tag
 tag g e = record { group = g; element = e }
 
 abbrev planned : List ℕ → List ℕ → Job → Result Plan Usage
-planned input output job = Ok (record { input = input; output = output; job = job })
+planned input output job = Ok (record { input = input; output = output; key = None; job = job })
+
+-- of dcmdeid, from "in" to "out"
+abbrev taken : Options → (reports : Bool) → (key : Option (List ℕ)) → Result Plan Usage
+taken options reports key = Ok (record { input = codes "in"; output = codes "out"; key = key; job = deidentify options reports [] })
 
 abbrev length_of : Result (List Edit) EditFault → Result ℕ EditFault
 length_of (Ok es) = Ok (length es)
@@ -172,6 +177,109 @@ empty_limit = refl
 build_by_standard : meant (codes "dump2dcm" ∷ codes "+dict" ∷ codes "in" ∷ codes "out" ∷ []) ≡ Err (AtWord UnknownOption 2)
 unfolding all
 build_by_standard = refl
+
+-- dcmdeid
+plain_deidentify : meant (codes "dcmdeid" ∷ codes "in" ∷ codes "out" ∷ []) ≡ taken no_options true None
+unfolding all
+plain_deidentify = refl
+
+retain_uids : meant (codes "dcmdeid" ∷ codes "+ru" ∷ codes "in" ∷ codes "out" ∷ []) ≡ taken (record no_options { uids = true }) true None
+unfolding all
+retain_uids = refl
+
+retain_device : meant (codes "dcmdeid" ∷ codes "in" ∷ codes "+rd" ∷ codes "out" ∷ []) ≡ taken (record no_options { device = true }) true None
+unfolding all
+retain_device = refl
+
+retain_institution : meant (codes "dcmdeid" ∷ codes "in" ∷ codes "out" ∷ codes "+ri" ∷ []) ≡ taken (record no_options { institution = true }) true None
+unfolding all
+retain_institution = refl
+
+retain_patient : meant (codes "dcmdeid" ∷ codes "+rp" ∷ codes "+rp" ∷ codes "in" ∷ codes "out" ∷ []) ≡ taken (record no_options { patient = true }) true None
+unfolding all
+retain_patient = refl
+
+retain_dates : meant (codes "dcmdeid" ∷ codes "+rl" ∷ codes "in" ∷ codes "out" ∷ []) ≡ taken (record no_options { dates = true }) true None
+unfolding all
+retain_dates = refl
+
+retain_all : meant (codes "dcmdeid" ∷ codes "+rl" ∷ codes "+rp" ∷ codes "+ri" ∷ codes "+rd" ∷ codes "+ru" ∷ codes "in" ∷ codes "out" ∷ []) ≡ taken (record { uids = true; device = true; institution = true; patient = true; dates = true }) true None
+unfolding all
+retain_all = refl
+
+pixels_dealt : meant (codes "dcmdeid" ∷ codes "+bi" ∷ codes "in" ∷ codes "+ru" ∷ codes "out" ∷ []) ≡ taken (record no_options { uids = true }) false None
+unfolding all
+pixels_dealt = refl
+
+with_key : meant (codes "dcmdeid" ∷ codes "in" ∷ codes "+k" ∷ codes "key" ∷ codes "out" ∷ []) ≡ taken no_options true (Some (codes "key"))
+unfolding all
+with_key = refl
+
+last_key_counts : meant (codes "dcmdeid" ∷ codes "+k" ∷ codes "out" ∷ codes "+k" ∷ codes "key" ∷ codes "in" ∷ codes "out" ∷ []) ≡ taken no_options true (Some (codes "key"))
+unfolding all
+last_key_counts = refl
+
+-- the word after +k is its path, whatever it is
+key_is_option : meant (codes "dcmdeid" ∷ codes "+k" ∷ codes "+k" ∷ codes "in" ∷ codes "out" ∷ []) ≡ taken no_options true (Some (codes "+k"))
+unfolding all
+key_is_option = refl
+
+key_is_input : meant (codes "dcmdeid" ∷ codes "+k" ∷ codes "in" ∷ codes "in" ∷ codes "out" ∷ []) ≡ taken no_options true (Some (codes "in"))
+unfolding all
+key_is_input = refl
+
+no_key : meant (codes "dcmdeid" ∷ codes "in" ∷ codes "out" ∷ codes "+k" ∷ []) ≡ Err (AtWord BadOptionValue 4)
+unfolding all
+no_key = refl
+
+empty_key : meant (codes "dcmdeid" ∷ codes "+k" ∷ codes "" ∷ codes "in" ∷ codes "out" ∷ []) ≡ Err (AtWord BadOptionValue 2)
+unfolding all
+empty_key = refl
+
+stream_as_key : meant (codes "dcmdeid" ∷ codes "in" ∷ codes "+k" ∷ codes "-" ∷ codes "out" ∷ []) ≡ Err (AtWord BadOptionValue 3)
+unfolding all
+stream_as_key = refl
+
+-- from left to right
+option_before_key : meant (codes "dcmdeid" ∷ codes "-e" ∷ codes "+k" ∷ codes "-" ∷ codes "in" ∷ codes "out" ∷ []) ≡ Err (AtWord UnknownOption 2)
+unfolding all
+option_before_key = refl
+
+key_before_option : meant (codes "dcmdeid" ∷ codes "+k" ∷ codes "-" ∷ codes "-e" ∷ codes "in" ∷ codes "out" ∷ []) ≡ Err (AtWord BadOptionValue 2)
+unfolding all
+key_before_option = refl
+
+option_after_key : meant (codes "dcmdeid" ∷ codes "+k" ∷ codes "key" ∷ codes "+dict" ∷ codes "in" ∷ codes "out" ∷ []) ≡ Err (AtWord UnknownOption 4)
+unfolding all
+option_after_key = refl
+
+deidentify_one_path : meant (codes "dcmdeid" ∷ codes "+ru" ∷ codes "in" ∷ []) ≡ Err (Whole WrongPaths)
+unfolding all
+deidentify_one_path = refl
+
+deidentify_three_paths : meant (codes "dcmdeid" ∷ codes "a" ∷ codes "b" ∷ codes "c" ∷ []) ≡ Err (Whole WrongPaths)
+unfolding all
+deidentify_three_paths = refl
+
+deidentify_empty_path : meant (codes "dcmdeid" ∷ codes "in" ∷ codes "" ∷ []) ≡ Err (Whole WrongPaths)
+unfolding all
+deidentify_empty_path = refl
+
+deidentify_same_path : meant (codes "dcmdeid" ∷ codes "a" ∷ codes "a" ∷ []) ≡ Err (Whole SamePath)
+unfolding all
+deidentify_same_path = refl
+
+key_is_output : meant (codes "dcmdeid" ∷ codes "+k" ∷ codes "out" ∷ codes "in" ∷ codes "out" ∷ []) ≡ Err (Whole SamePath)
+unfolding all
+key_is_output = refl
+
+paths_before_same_key : meant (codes "dcmdeid" ∷ codes "+k" ∷ codes "a" ∷ codes "a" ∷ []) ≡ Err (Whole WrongPaths)
+unfolding all
+paths_before_same_key = refl
+
+deidentify_streams : meant (codes "dcmdeid" ∷ codes "-" ∷ codes "-" ∷ []) ≡ Ok (record { input = codes "-"; output = codes "-"; key = None; job = deidentify no_options true [] })
+unfolding all
+deidentify_streams = refl
 
 -- dcmodify
 no_edits : meant (codes "dcmodify" ∷ codes "in" ∷ codes "out" ∷ []) ≡ planned (codes "in") (codes "out") (modifies Extract [])

@@ -1,6 +1,8 @@
 -- What a function made of the words of a command line.
 use Rattle.std.specs.Prelude.{◌≡◌, ℕ, ◌+◌, ◌<◌, nat_le, List, [], ◌∷◌, length, Option, Some, None, Result, Ok, Err}
 use Rattle.std.specs.Prelude.{Bool, false, ◌&&◌, if◌then◌else◌, codes, bytes_eq}
+use Rattle.std.specs.Option.{option_map}
+use Rattle.std.specs.Borrow.{Bor}
 use Rattle.dcm_words.specs.declared.usage.Usage.{Usage}
 use Rattle.dcm_words.specs.declared.usage.Usage.TheVariants.{AtWord, Whole, InEdit, Memory}
 use Rattle.dcm_words.specs.declared.usage.Word.{Word}
@@ -22,9 +24,15 @@ job_of (jobs.Dump d) = words.dump d.dictionary d.mode d.bare
 job_of (jobs.Convert c) = words.convert c.dictionary c.target
 job_of (jobs.Build b) = words.build b.limit
 job_of (jobs.Modify m) = words.modify m.dictionary m.edits
+job_of (jobs.Deidentify d) = words.deidentify d.options d.reports d.key.items
 
 abbrev pub planned : {A : Type 0} → Planned A → words.Plan
-planned p = record { input = p.input.now; output = p.output.now; job = job_of p.job }
+planned p = record {
+  input = p.input.now;
+  output = p.output.now;
+  key = option_map (λ k. k.now) p.key;
+  job = job_of p.job;
+}
 
 -- what a function returned is what the words mean
 abbrev pub Gives : {A : Type 0} → Result (Planned A) Usage → Result words.Plan Usage → Type 0
@@ -63,24 +71,35 @@ abbrev pub reader : Tool → List ℕ → Word
 reader tools.Dump w = words.dump_word w
 reader tools.Convert w = words.convert_word w
 reader tools.Build w = words.build_word w
+reader tools.Deidentify w = words.deidentify_word w
 
 -- a number, or one past the greatest limit where it is higher
 abbrev pub capped : ℕ → ℕ
 capped n = if nat_le n LINE_LIMIT then n else LINE_LIMIT + 1
 
--- the limit that the words after word n begin with
-abbrev pub given : ℕ → Option ℕ → Result ℕ Usage
+-- the value that the words after word n begin with
+abbrev pub given : {A : Type 0} → ℕ → Option A → Result A Usage
 given n None = Err (AtWord BadOptionValue n)
-given n (Some limit) = Ok limit
+given n (Some value) = Ok value
+
+abbrev pub value_after : {A : Type 0} → (List ℕ → Option A) → ℕ → List (List ℕ) → Result A Usage
+value_after of n [] = given n None
+value_after of n (v ∷ others) = given n (of v)
 
 abbrev pub limit_after : ℕ → List (List ℕ) → Result ℕ Usage
-limit_after n [] = given n None
-limit_after n (v ∷ others) = given n (words.limit_of v)
+limit_after n others = value_after words.limit_of n others
+
+abbrev pub key_after : ℕ → List (List ℕ) → Result (List ℕ) Usage
+key_after n others = value_after words.key_of n others
 
 -- what a function made of them
 abbrev pub LimitAs : Result Build Usage → Result ℕ Usage → Type 0
 LimitAs (Ok b) meant = meant ≡ Ok b.limit
 LimitAs (Err u) meant = meant ≡ Err u
+
+abbrev pub KeyAs : Result (Bor (List ℕ)) Usage → Result (List ℕ) Usage → Type 0
+KeyAs (Ok k) meant = meant ≡ Ok k.now
+KeyAs (Err u) meant = meant ≡ Err u
 
 -- the paths so far
 abbrev pub PathsAre : Paths → List (List ℕ) → Type 0
@@ -98,6 +117,9 @@ said_with_paths s ps = record {
   bare = s.bare;
   target = s.target;
   limit = s.build.limit;
+  options = s.options;
+  pixels_dealt = s.pixels_dealt;
+  key = option_map (λ k. k.now) s.key;
   paths = ps;
 }
 

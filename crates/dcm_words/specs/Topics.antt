@@ -2,7 +2,7 @@
 use Rattle.std.specs.Prelude.{ℕ, List, [], ◌∷◌, Option, Some, None, Bool, ◌||◌, if◌then◌else◌, codes, bytes_eq}
 use Rattle.std.specs.Prelude.{unwrap_or}
 use Rattle.dcm_words.specs.declared.topic.Topic.{Topic}
-use Rattle.dcm_words.specs.declared.topic.Topic.TheVariants.{Program, Dump, Convert, Build, Modify, Version}
+use Rattle.dcm_words.specs.declared.topic.Topic.TheVariants.{Program, Dump, Convert, Build, Modify, Deidentify, Version}
 use Rattle.dcm_words.specs.declared.texts.TheConstants as texts
 
 -- the bytes of a text
@@ -12,6 +12,7 @@ text Dump = texts.DUMP.now
 text Convert = texts.CONVERT.now
 text Build = texts.BUILD.now
 text Modify = texts.MODIFY.now
+text Deidentify = texts.DEIDENTIFY.now
 text Version = texts.VERSION.now
 
 abbrev pub is_help : List ℕ → Bool
@@ -27,6 +28,7 @@ use_of tool =
     else if bytes_eq tool (codes "dcmconv") then Some Convert
     else if bytes_eq tool (codes "dump2dcm") then Some Build
     else if bytes_eq tool (codes "dcmodify") then Some Modify
+    else if bytes_eq tool (codes "dcmdeid") then Some Deidentify
     else None
 
 -- after a first word that asks: the use of the tool that the only other word names, else that of the program

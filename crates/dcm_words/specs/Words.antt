@@ -1,7 +1,7 @@
 -- What the words of a command line mean.
 use Rattle.std.specs.Prelude.{ℕ, suc, ◌+◌, List, [], ◌∷◌, Option, Some, None, Result, Ok, Err, Bool, true, false, ◌||◌}
 use Rattle.std.specs.Prelude.{◌&&◌, not, ◌==◌, nat_le, if◌then◌else◌, codes, bytes_eq}
-use Rattle.std.specs.Option.{is_some}
+use Rattle.std.specs.Option.{is_some, option_map}
 use Rattle.std.specs.Str.{byte}
 use Rattle.dcm_base.specs.declared.dictionary.Dictionary.{Dictionary}
 use Rattle.dcm_base.specs.declared.dictionary.Dictionary.TheVariants.{Extract}
@@ -13,7 +13,10 @@ use Rattle.dcm_base.specs.declared.fault.WordFault.TheVariants.{UnknownTool, Unk
 use Rattle.dcm_base.specs.declared.fault.WordFault.TheVariants.{OptionsApart, SamePath}
 use Rattle.dcm_words.specs.declared.usage.Word.{Word}
 use Rattle.dcm_words.specs.declared.usage.Word.TheVariants.{Read, Show, WholeFile, DataSet, Bare, Target, Limit}
-use Rattle.dcm_words.specs.declared.usage.Word.TheVariants.{Accepted, Path, Unknown}
+use Rattle.dcm_words.specs.declared.usage.Word.TheVariants.{Retain, PixelsDealt, Key, Accepted, Path, Unknown}
+use Rattle.dcm_deid.specs.declared.fate.Options.{Options}
+use Rattle.dcm_deid.specs.declared.fate.Retain.{Retain as Kept}
+use Rattle.dcm_deid.specs.declared.fate.Retain.TheVariants.{Uids, Device, Institution, Patient, Dates}
 use Rattle.dcm_words.specs.declared.usage.Usage.{Usage}
 use Rattle.dcm_words.specs.declared.usage.Usage.TheVariants.{AtWord, Whole, InEdit}
 pub use Rattle.dcm_base.specs.Lines.Limits.{LINE_LIMIT as GREATEST_LIMIT}
@@ -28,10 +31,14 @@ pub data Job : Type 0 where
   convert : (dictionary : Dictionary) (target : Option Syntax) → Job
   build : (limit : ℕ) → Job
   modify : (dictionary : Dictionary) (edits : List Edit) → Job
+  -- what more is kept, whether it is reported that pixels may show identity, and the key of new unique identifiers
+  deidentify : (options : Options) (reports : Bool) (key : List ℕ) → Job
 
+-- a job, and the paths of its input, its output and its key, which is not read so far
 pub record Plan : Type 0 where
   pub input : List ℕ
   pub output : List ℕ
+  pub key : Option (List ℕ)
   pub job : Job
 
 -- ---- words
@@ -78,6 +85,17 @@ build_word w =
     else if bytes_eq w (codes "-e") then Accepted
     else other_word w
 
+abbrev pub deidentify_word : List ℕ → Word
+deidentify_word w =
+    if bytes_eq w (codes "+ru") then Retain Uids
+    else if bytes_eq w (codes "+rd") then Retain Device
+    else if bytes_eq w (codes "+ri") then Retain Institution
+    else if bytes_eq w (codes "+rp") then Retain Patient
+    else if bytes_eq w (codes "+rl") then Retain Dates
+    else if bytes_eq w (codes "+bi") then PixelsDealt
+    else if bytes_eq w (codes "+k") then Key
+    else other_word w
+
 -- the least limit that a line may be given, and the one that it has without an option; LINE_LIMIT is the greatest
 abbrev pub LEAST_LIMIT : ℕ
 LEAST_LIMIT = 80
@@ -93,7 +111,15 @@ limit_within (Some n) = if nat_le LEAST_LIMIT n && nat_le n LINE_LIMIT then Some
 abbrev pub limit_of : List ℕ → Option ℕ
 limit_of w = limit_within (number_in 10 0 w)
 
--- ---- the words of dcmdump, dcmconv and dump2dcm
+abbrev pub is_empty_word : List ℕ → Bool
+is_empty_word [] = true
+is_empty_word (c ∷ cs) = false
+
+-- the path of a key: it is no standard stream
+abbrev pub key_of : List ℕ → Option (List ℕ)
+key_of w = if is_empty_word w || bytes_eq w standard then None else Some w
+
+-- ---- the words of dcmdump, dcmconv, dump2dcm and dcmdeid
 
 -- what the words so far have said; of two that exclude each other the last counts
 pub record Said : Type 0 where
@@ -103,7 +129,21 @@ pub record Said : Type 0 where
   pub bare : Option Syntax
   pub target : Option Syntax
   pub limit : ℕ
+  pub options : Options
+  pub pixels_dealt : Bool
+  pub key : Option (List ℕ)
   pub paths : List (List ℕ)
+
+-- the options of dcmdeid that keep more
+abbrev pub no_options : Options
+no_options = record { uids = false; device = false; institution = false; patient = false; dates = false }
+
+abbrev pub and_option : Options → Kept → Options
+and_option o Uids = record o { uids = true }
+and_option o Device = record o { device = true }
+and_option o Institution = record o { institution = true }
+and_option o Patient = record o { patient = true }
+and_option o Dates = record o { dates = true }
 
 abbrev pub nothing_said : Said
 nothing_said = record {
@@ -113,6 +153,9 @@ nothing_said = record {
   bare = None;
   target = None;
   limit = USUAL_LIMIT;
+  options = no_options;
+  pixels_dealt = false;
+  key = None;
   paths = [];
 }
 
@@ -128,23 +171,35 @@ said_with WholeFile w s = record s { data_set = false }
 said_with DataSet w s = record s { data_set = true }
 said_with (Bare syntax) w s = record s { bare = Some syntax }
 said_with (Target syntax) w s = record s { target = syntax }
+said_with (Retain option) w s = record s { options = and_option s.options option }
+said_with PixelsDealt w s = record s { pixels_dealt = true }
 said_with Path w s = record s { paths = and_path s.paths w }
 said_with _ w s = s
 
--- the words from number n on, after what the ones before have said; the word after that for a limit is its value
+-- a word that wants a value, and that value
+abbrev pub said_with_value : Word → List ℕ → Said → Option Said
+said_with_value Limit v s = option_map (λ limit. record s { limit = limit }) (limit_of v)
+said_with_value Key v s = option_map (λ key. record s { key = Some key }) (key_of v)
+said_with_value _ v s = None
+
+-- the words from number n on, after what the ones before have said; the word after one that wants a value is that
 abbrev pub said_after : (List ℕ → Word) → ℕ → Said → List (List ℕ) → Result Said Usage
 said_after read n s [] = Ok s
 said_after read n s (w ∷ []) = elim (read w) [
   | Unknown ↦ Err (AtWord UnknownOption n)
   | Limit ↦ Err (AtWord BadOptionValue n)
+  | Key ↦ Err (AtWord BadOptionValue n)
   | word ↦ Ok (said_with word w s)
 ]
 said_after read n s (w ∷ v ∷ words) = elim (read w) [
   | Unknown ↦ Err (AtWord UnknownOption n)
-  | Limit ↦ elim (limit_of v) [
+  | Limit ↦ elim (said_with_value Limit v s) [
     | None ↦ Err (AtWord BadOptionValue n)
-    | Some limit ↦ said_after read (n + 2)
-        (record s { limit = limit }) words
+    | Some t ↦ said_after read (n + 2) t words
+  ]
+  | Key ↦ elim (said_with_value Key v s) [
+    | None ↦ Err (AtWord BadOptionValue n)
+    | Some t ↦ said_after read (n + 2) t words
   ]
   | word ↦ said_after read (suc n) (said_with word w s) (v ∷ words)
 ]
@@ -155,16 +210,12 @@ said_by read words = said_after read 2 nothing_said words
 
 -- ---- plans
 
-abbrev pub is_empty_word : List ℕ → Bool
-is_empty_word [] = true
-is_empty_word (c ∷ cs) = false
-
 abbrev pub differ : List ℕ → List ℕ → Bool
 differ input output = not (bytes_eq input output) || bytes_eq input standard
 
 abbrev pub plan_if_apart : List ℕ → List ℕ → Job → Result Plan Usage
-plan_if_apart input output job = if differ input output then Ok (record { input = input; output = output; job = job })
-    else Err (Whole SamePath)
+plan_if_apart input output job = if differ input output
+    then Ok (record { input = input; output = output; key = None; job = job }) else Err (Whole SamePath)
 
 abbrev pub plan_with_two : List (List ℕ) → Job → Result Plan Usage
 plan_with_two (input ∷ output ∷ []) job = if is_empty_word input || is_empty_word output then Err (Whole WrongPaths)
@@ -178,7 +229,7 @@ same false b = not b
 -- a data set alone is read only in a syntax that the words name, which are for it alone
 abbrev pub dump_plan_of : List ℕ → Said → Result Plan Usage
 dump_plan_of input s = if same s.data_set (is_some s.bare)
-    then Ok (record { input = input; output = standard; job = dump s.dictionary s.mode s.bare })
+    then Ok (record { input = input; output = standard; key = None; job = dump s.dictionary s.mode s.bare })
     else Err (Whole OptionsApart)
 
 abbrev pub dump_plan_with : List (List ℕ) → Said → Result Plan Usage
@@ -194,6 +245,21 @@ convert_plan words = elim (said_by convert_word words)
 
 abbrev pub build_plan : List (List ℕ) → Result Plan Usage
 build_plan words = elim (said_by build_word words) [ Ok s ↦ plan_with_two s.paths (build s.limit) | Err u ↦ Err u ]
+
+-- the output does not have the path of the key
+abbrev pub is_same_key : Option (List ℕ) → List ℕ → Bool
+is_same_key None output = false
+is_same_key (Some key) output = bytes_eq key output
+
+abbrev pub plan_with_key : Option (List ℕ) → Plan → Result Plan Usage
+plan_with_key key p = if is_same_key key p.output then Err (Whole SamePath) else Ok (record p { key = key })
+
+abbrev pub deidentify_plan_of : Said → Result Plan Usage
+deidentify_plan_of s = elim (plan_with_two s.paths (deidentify s.options (not s.pixels_dealt) []))
+    [ Ok p ↦ plan_with_key s.key p | Err u ↦ Err u ]
+
+abbrev pub deidentify_plan : List (List ℕ) → Result Plan Usage
+deidentify_plan words = elim (said_by deidentify_word words) [ Ok s ↦ deidentify_plan_of s | Err u ↦ Err u ]
 
 -- the edits, and the last two words, which are the paths
 pub record EditWords : Type 0 where
@@ -228,9 +294,9 @@ modify_plan words = elim (paths_apart words) [
   | Some e ↦ elim (is_path e.input && is_path e.output) [ true ↦ modify_plan_with e | false ↦ Err (Whole WrongPaths) ]
 ]
 
--- the four tools
+-- the tools
 pub data Tool : Type 0 where
-  dcmdump dcmconv dump2dcm dcmodify : Tool
+  dcmdump dcmconv dump2dcm dcmodify dcmdeid : Tool
 
 abbrev pub tool_of : List ℕ → Option Tool
 tool_of w =
@@ -238,6 +304,7 @@ tool_of w =
     else if bytes_eq w (codes "dcmconv") then Some dcmconv
     else if bytes_eq w (codes "dump2dcm") then Some dump2dcm
     else if bytes_eq w (codes "dcmodify") then Some dcmodify
+    else if bytes_eq w (codes "dcmdeid") then Some dcmdeid
     else None
 
 abbrev pub tool_plan : Option Tool → List (List ℕ) → Result Plan Usage
@@ -246,6 +313,7 @@ tool_plan (Some dcmdump) words = dump_plan words
 tool_plan (Some dcmconv) words = convert_plan words
 tool_plan (Some dump2dcm) words = build_plan words
 tool_plan (Some dcmodify) words = modify_plan words
+tool_plan (Some dcmdeid) words = deidentify_plan words
 
 -- the plan that the words mean, or the first refusal
 unfoldable pub meant : List (List ℕ) → Result Plan Usage

@@ -3,7 +3,9 @@ ghost use Rattle.std.specs.Prelude.{◌≤◌};
 ghost use Rattle.dcm_base.specs.Lines.Limits.{LINE_LIMIT};
 ghost use Rattle.dcm_words.specs.Words.{LEAST_LIMIT};
 
+use arrayvec::ArrayVec;
 use dcm_base::{Dictionary, Mode, Syntax};
+use dcm_deid::Options;
 use dcm_edits::Edits;
 use std::alloc::{Allocator, Global};
 
@@ -14,6 +16,7 @@ pub enum Job<A: Allocator = Global> {
     Convert(Convert),
     Build(Build),
     Modify(Modify<A>),
+    Deidentify(Deidentify),
 }
 
 /// The dump of a file, or of a data set alone in a syntax, read with a dictionary.
@@ -45,10 +48,24 @@ pub struct Modify<A: Allocator = Global> {
     pub edits: Edits<A>,
 }
 
-/// A job, and the paths of its input and its output, where `-` is a standard stream.
+/// The most bytes of a key.
+pub const MOST_OF_KEY: usize = 4096;
+
+/// The taking of identity out of a file: what more is kept, whether it is reported that pixels may show identity, and
+/// the key of new unique identifiers, which has no bytes where none is given.
+#[derive(Debug, Drop)]
+pub struct Deidentify {
+    pub options: Options,
+    pub reports: bool,
+    pub key: ArrayVec<u8, MOST_OF_KEY>,
+}
+
+/// A job, and the paths of its input, its output and its key, where `-` is a standard stream. The key is not read so
+/// far.
 #[derive(Drop)]
 pub struct Planned<'a, A: Allocator = Global> {
     pub input: &'a [u8],
     pub output: &'a [u8],
+    pub key: Option<&'a [u8]>,
     pub job: Job<A>,
 }

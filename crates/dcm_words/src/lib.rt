@@ -4,6 +4,7 @@
 //!   know.
 //! - Words that it refuses are a `Usage`: which word is wrong and why, which edit, or want of memory.
 //! - `asked` says whether words ask for a text about the program, a `Topic`, in place of a job.
+//! - The words of dcmdeid may name a key. A `Planned` has its path; a `Deidentify` is to have its bytes.
 //! - The words of dcmodify between its name and its two paths are edits, which `Edits` of dcm_edits reads.
 //!
 //! A conversion:
@@ -19,7 +20,7 @@ mod topic;
 mod usage;
 mod words;
 
-pub use job::{Build, Convert, Dump, Job, Modify, Planned};
+pub use job::{Build, Convert, Deidentify, Dump, Job, MOST_OF_KEY, Modify, Planned};
 pub use topic::{Topic, asked};
 pub use usage::Usage;
 pub use words::plan;

@@ -6,12 +6,14 @@ pub const VERSION: &str = "dcmtools 0.2.0, with the data dictionary of DICOM PS3
 
 /// How the program is used.
 pub const PROGRAM: &str = "\
-dcmtools: look into DICOM files, convert their transfer syntax, build them from text, and edit them
+dcmtools: look into DICOM files, convert their transfer syntax, build them from text, edit them, and
+take identity out of them
 
   dcmtools dcmdump [OPTION].. FILE           show a file as text
   dcmtools dcmconv [OPTION].. FILE OUTPUT    write a file in a transfer syntax
   dcmtools dump2dcm [OPTION].. LINES OUTPUT  build a file from the lines of a dump
   dcmtools dcmodify EDIT.. FILE OUTPUT       write a file with edits
+  dcmtools dcmdeid [OPTION].. FILE OUTPUT    write a file without identity
   dcmtools help [TOOL]                       show this text, or that of a tool
   dcmtools version                           show the version and the edition of the dictionary
 
@@ -22,7 +24,7 @@ Exit status:
   0  done
   1  the command line is refused, and no file was opened
   2  the input is at fault, at the byte that is named; what comes before it was written
-  3  an edit found no place; all else was done and written
+  3  an edit found no place, and all else was done and written; or pixels may show identity
   4  a file could not be opened, read or written
   5  out of memory
 
@@ -93,5 +95,24 @@ ContentSequence[*]. into items.
 
 Exit status: 0 done, 1 words refused, 2 input at fault, 3 an edit found no place and all else was
 done, 4 file not opened, read or written, 5 out of memory. The manual: man dcmtools, and
+docs/PROFILE.md
+";
+
+/// How dcmdeid is used.
+pub const DEIDENTIFY: &str = "\
+dcmtools dcmdeid [OPTION].. FILE OUTPUT: write a DICOM file without identity (PS3.15 annex E)
+
+  +ru    keep unique identifiers
+  +rd    keep the identity of devices
+  +ri    keep the identity of institutions
+  +rp    keep characteristics of the patient
+  +rl    keep dates and times
+  +bi    what pixels show was dealt with: it is not reported
+  +k KEY make new unique identifiers with the bytes of the file KEY, 16 to 4096 of them
+
+OUTPUT is written as OUTPUT.part, and moved to its name at status 0; else it is removed.
+
+Exit status: 0 done, 1 words or key refused, 2 input at fault, 3 pixels may show identity and no
+OUTPUT was left, 4 file not opened, read or written, 5 out of memory. The manual: man dcmtools, and
 docs/PROFILE.md
 ";

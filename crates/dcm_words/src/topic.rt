@@ -2,7 +2,7 @@
 ghost use Rattle.std.specs.Prelude.{◌≡◌, map};
 ghost use Rattle.dcm_words.specs.Topics as spec;
 
-use crate::texts::{BUILD, CONVERT, DUMP, MODIFY, PROGRAM, VERSION};
+use crate::texts::{BUILD, CONVERT, DEIDENTIFY, DUMP, MODIFY, PROGRAM, VERSION};
 
 /// What a command line asks for, in place of a job.
 #[derive(Clone, Copy, Debug, PartialEq, Eq)]
@@ -17,6 +17,8 @@ pub enum Topic {
     Build,
     /// How dcmodify is used.
     Modify,
+    /// How dcmdeid is used.
+    Deidentify,
     /// Which version of the program this is.
     Version,
 }
@@ -33,6 +35,7 @@ impl Topic {
             Topic::Convert => CONVERT,
             Topic::Build => BUILD,
             Topic::Modify => MODIFY,
+            Topic::Deidentify => DEIDENTIFY,
             Topic::Version => VERSION,
         }
     }
@@ -64,6 +67,8 @@ fn use_of(tool: &[u8]) -> Option<Topic>
         Some(Topic::Build)
     } else if tool == b"dcmodify".as_slice() {
         Some(Topic::Modify)
+    } else if tool == b"dcmdeid".as_slice() {
+        Some(Topic::Deidentify)
     } else {
         None
     }

@@ -1,7 +1,8 @@
 // What the words of a command line say.
 use dcm_base::{Dictionary, EditRefusal, Mode, Syntax, WordFault};
+use dcm_deid::Retain;
 
-/// What one word says to dcmdump, dcmconv or dump2dcm.
+/// What one word says to dcmdump, dcmconv, dump2dcm or dcmdeid.
 #[derive(Clone, Copy, Debug, PartialEq, Eq)]
 pub enum Word {
     /// The dictionary that is read with.
@@ -18,6 +19,12 @@ pub enum Word {
     Target(Option<Syntax>),
     /// The next word is the limit of a line.
     Limit,
+    /// More is kept of a file from which identity is taken.
+    Retain(Retain),
+    /// What pixels show was dealt with.
+    PixelsDealt,
+    /// The next word is the path of the key of new unique identifiers.
+    Key,
     /// An option that changes nothing.
     Accepted,
     Path,

@@ -3,11 +3,14 @@ ghost use Rattle.std.specs.Prelude.{◌≡◌, ◌+◌, ◌<◌, List, ℕ, drop
 ghost use Rattle.dcm_base.specs.Lines.ReadValue.{number_in};
 ghost use Rattle.dcm_words.specs.Words as spec;
 ghost use Rattle.dcm_words.specs.Plans.{reader, job_of, takes_memory, has_paths, GivesUnlessMemory, edits_between};
-ghost use Rattle.dcm_words.specs.Plans.{capped, limit_after as said_limit, LimitAs, Gives, PathsAre, SaidAs};
+ghost use Rattle.dcm_words.specs.Plans.{capped, limit_after as said_limit, key_after as said_key, LimitAs, KeyAs};
+ghost use Rattle.dcm_words.specs.Plans.{Gives, PathsAre, SaidAs, planned as planned_of};
 
-use crate::job::{Build, Convert, Dump, Job, Modify, Planned};
+use crate::job::{Build, Convert, Deidentify, Dump, Job, Modify, Planned};
 use crate::usage::{Usage, Word};
+use arrayvec::ArrayVec;
 use dcm_base::{Dictionary, LINE_LIMIT, Mode, Syntax, WordFault, decimal_digit};
+use dcm_deid::{Options, Retain};
 use dcm_edits::{EditFault, Edits, dictionary_said, dictionary_word};
 use std::alloc::Allocator;
 
@@ -26,6 +29,7 @@ enum Tool {
     Dump,
     Convert,
     Build,
+    Deidentify,
 }
 
 /// The paths among the words so far, in their order.
@@ -46,8 +50,20 @@ struct Said<'a> {
     bare: Option<Syntax>,
     target: Option<Syntax>,
     build: Build,
+    options: Options,
+    pixels_dealt: bool,
+    key: Option<&'a [u8]>,
     paths: Paths<'a>,
 }
+
+/// No option that keeps more.
+const NO_OPTIONS: Options = Options {
+    uids: false,
+    device: false,
+    institution: false,
+    patient: false,
+    dates: false,
+};
 
 /// A path, unless the word has the form of an option.
 fn other_word(word: &[u8]) -> Word
@@ -127,6 +143,29 @@ fn build_word(word: &[u8]) -> Word
     }
 }
 
+/// What a word says to dcmdeid.
+fn deidentify_word(word: &[u8]) -> Word
+    ensures { result ≡ spec.deidentify_word word.now }
+{
+    if word == b"+ru".as_slice() {
+        Word::Retain(Retain::Uids)
+    } else if word == b"+rd".as_slice() {
+        Word::Retain(Retain::Device)
+    } else if word == b"+ri".as_slice() {
+        Word::Retain(Retain::Institution)
+    } else if word == b"+rp".as_slice() {
+        Word::Retain(Retain::Patient)
+    } else if word == b"+rl".as_slice() {
+        Word::Retain(Retain::Dates)
+    } else if word == b"+bi".as_slice() {
+        Word::PixelsDealt
+    } else if word == b"+k".as_slice() {
+        Word::Key
+    } else {
+        other_word(word)
+    }
+}
+
 /// What a word says to a tool.
 fn word_of(tool: Tool, word: &[u8]) -> Word
     ensures { result ≡ reader tool word.now }
@@ -135,6 +174,7 @@ fn word_of(tool: Tool, word: &[u8]) -> Word
         Tool::Dump => dump_word(word),
         Tool::Convert => convert_word(word),
         Tool::Build => build_word(word),
+        Tool::Deidentify => deidentify_word(word),
     }
 }
 
@@ -171,6 +211,45 @@ fn limit_after(words: &[&[u8]], place: usize) -> Result<Build, Usage>
     }
 }
 
+/// The path of a key that the word after this place gives.
+fn key_after<'a>(words: &'a [&'a [u8]], place: usize) -> Result<&'a [u8], Usage>
+    requires { place < length words.now }
+    ensures { KeyAs result (said_key (place + 2) (map (λ w. w.now) (drop (place + 1) words.now))) }
+{
+    match words.get(place + 1) {
+        Some(word) if !word.is_empty() && *word != STANDARD => Ok(word),
+        _ => Err(Usage::AtWord(WordFault::BadOptionValue, place + 2)),
+    }
+}
+
+/// The options so far, and this one.
+fn and_option(options: Options, retain: Retain) -> Options
+    ensures { result ≡ spec.and_option options retain }
+{
+    match retain {
+        Retain::Uids => Options {
+            uids: true,
+            ..options
+        },
+        Retain::Device => Options {
+            device: true,
+            ..options
+        },
+        Retain::Institution => Options {
+            institution: true,
+            ..options
+        },
+        Retain::Patient => Options {
+            patient: true,
+            ..options
+        },
+        Retain::Dates => Options {
+            dates: true,
+            ..options
+        },
+    }
+}
+
 /// The paths so far, and one after them.
 fn and_path<'a>(paths: Paths<'a>, path: &'a [u8]) -> Paths<'a>
     ensures { (ps : List (List ℕ)) → PathsAre paths.entry ps → PathsAre result (spec.and_path ps path.now) }
@@ -194,6 +273,9 @@ fn said_by<'a>(tool: Tool, words: &'a [&'a [u8]]) -> Result<Said<'a>, Usage>
         bare: None,
         target: None,
         build: Build { limit: USUAL_LIMIT },
+        options: NO_OPTIONS,
+        pixels_dealt: false,
+        key: None,
         paths: Paths::None,
     };
     let mut i = 0;
@@ -208,6 +290,12 @@ fn said_by<'a>(tool: Tool, words: &'a [&'a [u8]]) -> Result<Said<'a>, Usage>
             Word::Target(syntax) => said.target = syntax,
             Word::Limit => {
                 said.build = limit_after(words, i)?;
+                i += 1;
+            }
+            Word::Retain(retain) => said.options = and_option(said.options, retain),
+            Word::PixelsDealt => said.pixels_dealt = true,
+            Word::Key => {
+                said.key = Some(key_after(words, i)?);
                 i += 1;
             }
             Word::Accepted => {}
@@ -234,6 +322,7 @@ fn plan_dump<'a, A: Allocator>(words: &'a [&'a [u8]]) -> Result<Planned<'a, A>, 
     Ok(Planned {
         input,
         output: STANDARD,
+        key: None,
         job: Job::Dump(Dump {
             dictionary: said.dictionary,
             mode: said.mode,
@@ -253,7 +342,12 @@ fn plan_if_apart<'a, A: Allocator>(
     if input == output && input != STANDARD {
         return Err(Usage::Whole(WordFault::SamePath));
     }
-    Ok(Planned { input, output, job })
+    Ok(Planned {
+        input,
+        output,
+        key: None,
+        job,
+    })
 }
 
 /// A job with an input and an output.
@@ -288,6 +382,45 @@ fn plan_build<'a, A: Allocator>(words: &'a [&'a [u8]]) -> Result<Planned<'a, A>,
 {
     let said = said_by(Tool::Build, words)?;
     plan_with_two(said.paths, Job::Build(said.build))
+}
+
+/// Whether the path of a key is that of the output.
+fn is_same_key(key: Option<&[u8]>, output: &[u8]) -> bool
+    ensures { result ≡ spec.is_same_key (option_map (λ k. k.now) key.entry) output.now }
+{
+    match key {
+        Some(key) => key == output,
+        None => false,
+    }
+}
+
+/// A plan with the path of a key, unless the output has it.
+fn plan_with_key<'a, A: Allocator>(
+    planned: Planned<'a, A>,
+    key: Option<&'a [u8]>,
+) -> Result<Planned<'a, A>, Usage>
+    ensures { Gives result (spec.plan_with_key (option_map (λ k. k.now) key.entry) (planned_of planned.entry)) }
+{
+    if is_same_key(key, planned.output) {
+        return Err(Usage::Whole(WordFault::SamePath));
+    }
+    Ok(Planned { key, ..planned })
+}
+
+/// What the words of dcmdeid after its name mean, or the first refusal.
+fn plan_deidentify<'a, A: Allocator>(words: &'a [&'a [u8]]) -> Result<Planned<'a, A>, Usage>
+    ensures { Gives result (spec.deidentify_plan (map (λ w. w.now) words.now)) }
+{
+    let said = said_by(Tool::Deidentify, words)?;
+    let planned = plan_with_two(
+        said.paths,
+        Job::Deidentify(Deidentify {
+            options: said.options,
+            reports: !said.pixels_dealt,
+            key: ArrayVec::new(),
+        }),
+    )?;
+    plan_with_key(planned, said.key)
 }
 
 /// Whether a word is a path of dcmodify.
@@ -355,6 +488,7 @@ pub fn plan<'a, A: Allocator + Copy>(
         [tool, rest @ ..] if *tool == b"dcmconv".as_slice() => plan_convert(rest),
         [tool, rest @ ..] if *tool == b"dump2dcm".as_slice() => plan_build(rest),
         [tool, rest @ ..] if *tool == b"dcmodify".as_slice() => plan_modify(alloc, rest),
+        [tool, rest @ ..] if *tool == b"dcmdeid".as_slice() => plan_deidentify(rest),
         _ => Err(Usage::AtWord(WordFault::UnknownTool, 1)),
     }
 }

@@ -23,7 +23,7 @@ use Rattle.dcm_cli.specs.Pass.{Ends}
 use Rattle.dcm_cli.specs.Answer.{alone, uid_of_syntax, going_on}
 use Rattle.dcm_cli.specs.Run.{Answered, Worked, answered, could_not_read, could_not_write, verdict_of_stop}
 use Rattle.dcm_cli.proofs.Passes.Makers.{dumper}
-use Rattle.dcm_cli.proofs.Passes.Sets.{SetMade, set_read, set_unread, set_unwritten, Last, set_made, all_read, no_edits}
+use Rattle.dcm_cli.proofs.Passes.Sets.{SetMade, set_read, set_unread, set_unwritten, Last, set_made, all_read, told_nothing, dump_tells_nothing}
 
 module _ (d : Dictionary) (mode : Mode) (bare : Syntax) (file : List ℕ) (left held : Option (List ℕ)) where
   abbrev s : Syntax
@@ -33,7 +33,7 @@ module _ (d : Dictionary) (mode : Mode) (bare : Syntax) (file : List ℕ) (left 
   header = set_header (uid_of_syntax s)
 
   pub read_as : (f : Front) (stop : Stop) → Reads no_bar s 0 file f stop → Answered (dump d mode (Some bare)) file (header ++ dump_front d mode 0 f) (verdict_of_stop stop)
-  read_as f stop reads = record { source = alone s f stop; reads = record { set = f; stop = stop; reads = reads; source_is = refl }; out_is = refl; verdict_is = no_edits (dump d mode (Some bare)) refl f stop }
+  read_as f stop reads = record { source = alone s f stop; reads = record { set = f; stop = stop; reads = reads; source_is = refl }; out_is = refl; verdict_is = told_nothing (dump d mode (Some bare)) (dump_tells_nothing d mode (Some bare)) f stop }
 
   pub alone_unheaded : (holds : Option (List ℕ)) → AppendsFront held holds header → Worked (dump d mode (Some bare)) file left held holds Output
   alone_unheaded holds beginning =

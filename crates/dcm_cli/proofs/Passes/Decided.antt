@@ -1,5 +1,5 @@
 -- What decides an answer: one is that of all inputs that the calls allow.
-use Rattle.std.proofs.Common.{◌≡◌, ◌∙◌, ap, sym, subst, ℕ, ◌+◌, ◌≤◌, List, [], ◌∷◌, ◌++◌, append_assoc, length, drop, true, false, Option, Some, refl, arith}
+use Rattle.std.proofs.Common.{◌≡◌, ◌∙◌, ap, sym, subst, ℕ, ◌+◌, ◌≤◌, List, [], ◌∷◌, ◌++◌, append_assoc, length, drop, Bool, true, false, Option, Some, refl, arith}
 use Rattle.std.proofs.lemmas.List.{drop-append-le}
 use Rattle.dcm_base.specs.declared.fault.Fault.TheVariants.{CannotChange}
 use Rattle.dcm_base.specs.declared.dictionary.Dictionary.{Dictionary}
@@ -21,12 +21,12 @@ use Rattle.dcm_cli.specs.declared.ending.Ending.TheVariants.{Unread, Output}
 use Rattle.dcm_cli.specs.declared.ending.HeadEnding.{HeadEnding}
 use Rattle.dcm_cli.specs.declared.ending.HeadEnding.TheVariants as heads
 use Rattle.dcm_cli.specs.declared.ending.Verdict.{Verdict}
-use Rattle.dcm_cli.specs.declared.ending.Verdict.TheVariants.{Done, Refused, RefusedLine}
+use Rattle.dcm_cli.specs.declared.ending.Verdict.TheVariants.{Done, PixelsMayShow, Refused, RefusedLine}
 use Rattle.dcm_cli.specs.declared.head.Beginning.{Beginning}
 use Rattle.dcm_cli.specs.Answer.{job_dictionary, job_bar, refuses_change, uid_of_syntax, file as of_file, file_output, opened as was_opened}
 use Rattle.dcm_cli.specs.InputCalls.{How, in_part, to_end, with_failure, Allows}
-use Rattle.dcm_cli.specs.Opening.{HeadRead, NotOpened, no_set, no_change, no_head}
-use Rattle.dcm_cli.specs.Pass.{Ends, at_end, at_fault, halted, unread, unwritten, end_unwritten, FailsHead, ending_of_head, set_bytes, with_unplaced}
+use Rattle.dcm_cli.specs.Opening.{HeadChange, HeadRead, NotOpened, no_set, no_change, no_head}
+use Rattle.dcm_cli.specs.Pass.{Ends, at_end, at_fault, halted, unread, unwritten, end_unwritten, FailsHead, ending_of_head, set_bytes, with_unplaced, with_pixels}
 use Rattle.dcm_cli.specs.Run.{Answered, AnsweredAll, IsDecided, Worked, answered, could_not_read, could_not_write}
 use Rattle.dcm_cli.proofs.Passes.Alone.{read_as}
 use Rattle.dcm_cli.proofs.Passes.Files.{FileMaker, reads_file, file_opened, file_answered, unopened_answered, unchanged_answered}
@@ -69,19 +69,20 @@ pub unopened_decided : (job : Job) → reads_file job ≡ true → (r : HeadRead
 unopened_decided job is_file r read how (heads.Refused stop) f = decided_as job read how (endings.Worked (Refused stop)) (Refused stop) [] refl (λ rest ok. unopened_answered job is_file r read rest how stop ok f)
 unopened_decided job is_file r read how (heads.Unread count) f = decided_unread job read how (Unread count) count refl
 
-pub not_opened_decided : (target : Option Syntax) (job : Job) → reads_file job ≡ true → ((coding : Coding) → refuses_change job coding ≡ refuses_change (convert (job_dictionary job) target) coding) → (read : List ℕ) (how : How) (held holds : Option (List ℕ)) (ending : Ending)
-    → NotOpened (job_dictionary job) target read how held holds ending → IsDecided job read how ending
-not_opened_decided target job is_file alike read how held holds ending (no_set r head fails still is) =
+pub not_opened_decided : (target : Option Syntax) (change : HeadChange) (job : Job) → reads_file job ≡ true → ((coding : Coding) → refuses_change job coding ≡ refuses_change (convert (job_dictionary job) target) coding) → (read : List ℕ) (how : How) (held holds : Option (List ℕ)) (ending : Ending)
+    → NotOpened (job_dictionary job) target change read how held holds ending → IsDecided job read how ending
+not_opened_decided target change job is_file alike read how held holds ending (no_set r head fails still is) =
     subst (λ (x : Ending). IsDecided job read how x) (sym is) (unopened_decided job is_file r read how head fails)
-not_opened_decided target job is_file alike read how held holds ending (no_change buffer r b coding start h refuses still is) =
+not_opened_decided target change job is_file alike read how held holds ending (no_change buffer r b coding start h refuses still is) =
     decided_as job read how ending (Refused (record { fault = CannotChange; at = start })) [] is (λ rest ok.
     let o = head_opened (job_dictionary job) read rest how ok buffer r b coding start h in
     subst (λ (n : ℕ). Answered job (read ++ rest) [] (Refused (record { fault = CannotChange; at = n }))) (sym (h.start_is ∙ o.place_is)) (unchanged_answered job is_file (read ++ rest) r o (alike coding ∙ refuses)))
-not_opened_decided target job is_file alike read how held holds ending (no_head buffer r b coding start uid h keeps uid_is written is) = decided_output job read how ending is
+not_opened_decided target change job is_file alike read how held holds ending (no_head buffer r b coding start uid h keeps uid_is written is) = decided_output job read how ending is
 
 -- an ending that is not that all was done
 abbrev pub IsNotDone : Ending → Type 0
 IsNotDone (endings.Worked (Done n)) = ⊥
+IsNotDone (endings.Worked PixelsMayShow) = ⊥
 IsNotDone (endings.Worked (Refused stop)) = Unit {0}
 IsNotDone (endings.Worked (RefusedLine stop)) = Unit {0}
 IsNotDone (Unread n) = Unit {0}
@@ -90,10 +91,20 @@ IsNotDone Output = Unit {0}
 -- it stays where edits found no place
 pub still_not_done : (x : Ending) (mask : ℕ) → IsNotDone x → with_unplaced x mask ≡ x
 still_not_done (endings.Worked (Done n)) mask never = absurd never
+still_not_done (endings.Worked PixelsMayShow) mask never = absurd never
 still_not_done (endings.Worked (Refused stop)) mask _ = refl
 still_not_done (endings.Worked (RefusedLine stop)) mask _ = refl
 still_not_done (Unread n) mask _ = refl
 still_not_done Output mask _ = refl
+
+-- and where pixels may show identity
+pub still_without_pixels : (x : Ending) (shows : Bool) → IsNotDone x → with_pixels x shows ≡ x
+still_without_pixels (endings.Worked (Done n)) shows never = absurd never
+still_without_pixels (endings.Worked PixelsMayShow) shows never = absurd never
+still_without_pixels (endings.Worked (Refused stop)) shows _ = refl
+still_without_pixels (endings.Worked (RefusedLine stop)) shows _ = refl
+still_without_pixels (Unread n) shows _ = refl
+still_without_pixels Output shows _ = refl
 
 module _ (job : Job) (is_file : reads_file job ≡ true) (coding : Coding) (kept : refuses_change job coding ≡ false) (k : FileMaker job coding) (read more : List ℕ) (first how : How) (buffer : List ℕ) (r : HeadReading) (b : Beginning) (start : ℕ)
     (h : HeadRead (job_dictionary job) read first buffer r b coding start) (allows : (rest : List ℕ) → Allows how rest → Allows first (more ++ rest)) where

@@ -1,6 +1,6 @@
 -- A file that a job reads, in the words of the definitions.
 use Rattle.std.proofs.Common.{◌≡◌, ◌∙◌, ap, sym, subst, ℕ, ◌+◌, ◌≤◌, List, [], ◌++◌, append_assoc, length, length-append, drop, Bool, true, false, Option, None, Some, refl, arith, Err, inl, inr}
-use Rattle.std.specs.Prelude.{◌⊎◌}
+use Rattle.std.specs.Prelude.{◌⊎◌, if◌then◌else◌}
 use Rattle.std.specs.Io.KnownBytes.{append_known}
 use Rattle.std.proofs.lemmas.List.{append-nil, drop-append-le}
 use Rattle.dcm_base.specs.declared.fault.Stop.{Stop as HaltStop}
@@ -17,7 +17,7 @@ use Rattle.dcm_base.specs.File.MetaReads.{Meta, PREFIX}
 use Rattle.dcm_base.specs.Conversion.NewMeta.{new_meta}
 use Rattle.dcm_base.specs.Conversion.Recode.{recode}
 use Rattle.dcm_base.specs.Reading.Reads.{INPUT_LIMIT, Reads}
-use Rattle.dcm_words.specs.Words.{Job, dump, convert, build, modify}
+use Rattle.dcm_words.specs.Words.{Job, dump, convert, build, modify, deidentify}
 use Rattle.dcm_devices.proofs.Writes.Puts.{append_known_twice, append_known_none, front_longer, puts_behind}
 use Rattle.dcm_base.specs.declared.dictionary.Dictionary.{Dictionary}
 use Rattle.dcm_head.specs.declared.meta_read.MetaEnd.{MetaEnd}
@@ -29,15 +29,16 @@ use Rattle.dcm_cli.specs.declared.ending.Ending.TheVariants as endings
 use Rattle.dcm_cli.specs.declared.ending.Ending.TheVariants.{Unread, Output}
 use Rattle.dcm_cli.specs.declared.ending.HeadEnding.{HeadEnding}
 use Rattle.dcm_cli.specs.declared.ending.HeadEnding.TheVariants as heads
-use Rattle.dcm_cli.specs.declared.ending.Verdict.TheVariants.{Done, Refused}
+use Rattle.dcm_cli.specs.declared.ending.Verdict.{Verdict}
+use Rattle.dcm_cli.specs.declared.ending.Verdict.TheVariants.{Done, PixelsMayShow, Refused}
 use Rattle.dcm_cli.specs.declared.head.Beginning.{Beginning}
 use Rattle.dcm_cli.specs.InputCalls.{How, to_end, Allows}
-use Rattle.dcm_cli.specs.Pass.{Begins, FailsHead, Ends, WasRead, head_read, set_bytes, ending_of_head, with_unplaced}
-use Rattle.dcm_cli.specs.Answer.{job_dictionary, edits_of, Source, file as of_file, unopened, going_on, job_bar, refuses_change, target_syntax, target_uid, file_output, output_of, Sure, FileReads, FileSure, not_opened as was_not_opened, not_changed, opened as was_opened, before_set, within_set}
-use Rattle.dcm_cli.specs.Run.{Answered, Worked, answered, could_not_read, could_not_write, verdict_of_source, verdict_of_stop, verdict_at, unplaced_mask}
+use Rattle.dcm_cli.specs.Pass.{Begins, FailsHead, Ends, WasRead, head_read, set_bytes, ending_of_head, with_unplaced, with_pixels}
+use Rattle.dcm_cli.specs.Answer.{job_dictionary, Source, file as of_file, unopened, going_on, job_bar, refuses_change, target_syntax, target_uid, file_output, output_of, Sure, FileReads, FileSure, not_opened as was_not_opened, not_changed, opened as was_opened, before_set, within_set}
+use Rattle.dcm_cli.specs.Run.{Answered, Worked, answered, could_not_read, could_not_write, verdict_of_source, verdict_of_stop, verdict_at, done_verdict}
 use Rattle.dcm_cli.proofs.Passes.Readers.{nothing_follows}
 use Rattle.dcm_cli.proofs.Passes.Makers.{Maker, dumper, encoder}
-use Rattle.dcm_cli.proofs.Passes.Sets.{SetMade, set_read, set_unread, set_unwritten, Last, set_made, all_read, no_edits}
+use Rattle.dcm_cli.proofs.Passes.Sets.{SetMade, set_read, set_unread, set_unwritten, Last, set_made, all_read, TellsNothing, told_nothing}
 use Rattle.dcm_cli.proofs.Passes.MetaHeads.{Opened, opened, one_head, not_opened, ended_stays, finished_same, has_end, goes_on_still, ends_before}
 
 -- ---- jobs that read files
@@ -48,6 +49,7 @@ reads_file (dump d mode (Some syntax)) = false
 reads_file (convert d target) = true
 reads_file (build limit) = false
 reads_file (modify d edits) = true
+reads_file (deidentify options reports key) = true
 
 pub file_answered : (job : Job) → reads_file job ≡ true → (bytes : List ℕ) (source : Source) → FileReads job bytes source → Answered job bytes (output_of job source) (verdict_of_source job source)
 file_answered (dump d mode None) is bytes source reads = record { source = source; reads = reads; out_is = refl; verdict_is = refl }
@@ -55,6 +57,7 @@ file_answered (dump d mode (Some syntax)) is bytes source reads = cc
 file_answered (convert d target) is bytes source reads = record { source = source; reads = reads; out_is = refl; verdict_is = refl }
 file_answered (build limit) is bytes source reads = cc
 file_answered (modify d edits) is bytes source reads = record { source = source; reads = reads; out_is = refl; verdict_is = refl }
+file_answered (deidentify options reports key) is bytes source reads = record { source = source; reads = reads; out_is = refl; verdict_is = refl }
 
 file_sure : (job : Job) → reads_file job ≡ true → (p out : List ℕ) → FileSure job p out → Sure job p out
 file_sure (dump d mode None) is p out sure = sure
@@ -62,6 +65,7 @@ file_sure (dump d mode (Some syntax)) is p out sure = cc
 file_sure (convert d target) is p out sure = sure
 file_sure (build limit) is p out sure = cc
 file_sure (modify d edits) is p out sure = sure
+file_sure (deidentify options reports key) is p out sure = sure
 
 -- what a job makes of a file in a coding: what stands for its head, and then what a sink makes of the data set
 pub record FileMaker (job : Job) (coding : Coding) : Type 1 where
@@ -87,6 +91,15 @@ file_encoder d target coding = record {
   maker = encoder (target_syntax target coding);
   output_is = λ m f. refl;
 }
+
+-- ---- what is reported of pixels
+
+abbrev pub pixels_verdict : (shows : Bool) → Verdict
+pixels_verdict shows = if shows then PixelsMayShow else Done 0
+
+done_with_pixels : (shows : Bool) → with_pixels (endings.Worked (Done 0)) shows ≡ endings.Worked (pixels_verdict shows)
+done_with_pixels true = refl
+done_with_pixels false = refl
 
 -- ---- before the data set
 
@@ -169,7 +182,7 @@ module _ (job : Job) (is_file : reads_file job ≡ true) (file : List ℕ) (afte
       pub not_written : passed ≡ Output → ending ≡ Output
 
     -- of a job whose sink says which of its edits found no place
-    pub concludes_unplaced : (t : k.maker.State) (passed : Ending) (mask : ℕ) → ((f : Front) → SetReads (drop start file) f complete → LastOf t f → mask ≡ unplaced_mask (edits_of job) f) → Concludes t passed (with_unplaced passed mask)
+    pub concludes_unplaced : (t : k.maker.State) (passed : Ending) (mask : ℕ) → ((f : Front) → SetReads (drop start file) f complete → LastOf t f → done_verdict job f ≡ Done mask) → Concludes t passed (with_unplaced passed mask)
     concludes_unplaced t passed mask mask_is = record {
       done = by_stop;
       not_read = λ count is. ap (λ (x : Ending). with_unplaced x mask) is;
@@ -177,13 +190,25 @@ module _ (job : Job) (is_file : reads_file job ≡ true) (file : List ℕ) (afte
     }
       where
         by_stop : (f : Front) (stop : Stop) → SetReads (drop start file) f stop → (stop ≡ complete → LastOf t f) → passed ≡ endings.Worked (verdict_of_stop stop) → with_unplaced passed mask ≡ endings.Worked (verdict_at job f stop)
-        by_stop f complete reads last is = ap (λ (x : Ending). with_unplaced x mask) is ∙ ap (λ (m : ℕ). endings.Worked (Done m)) (mask_is f reads (last refl))
+        by_stop f complete reads last is = ap (λ (x : Ending). with_unplaced x mask) is ∙ ap endings.Worked (sym (mask_is f reads (last refl)))
         by_stop f (stop_refused fault offset) reads last is = ap (λ (x : Ending). with_unplaced x mask) is
 
-    -- of a job that makes no edits
-    pub concludes_same : edits_of job ≡ [] → (t : k.maker.State) (ending : Ending) → Concludes t ending ending
+    -- of a job whose sink says whether pixels may show identity
+    pub concludes_pixels : (t : k.maker.State) (passed : Ending) (shows : Bool) → ((f : Front) → SetReads (drop start file) f complete → LastOf t f → done_verdict job f ≡ pixels_verdict shows) → Concludes t passed (with_pixels passed shows)
+    concludes_pixels t passed shows verdict_is = record {
+      done = by_stop;
+      not_read = λ count is. ap (λ (x : Ending). with_pixels x shows) is;
+      not_written = λ is. ap (λ (x : Ending). with_pixels x shows) is;
+    }
+      where
+        by_stop : (f : Front) (stop : Stop) → SetReads (drop start file) f stop → (stop ≡ complete → LastOf t f) → passed ≡ endings.Worked (verdict_of_stop stop) → with_pixels passed shows ≡ endings.Worked (verdict_at job f stop)
+        by_stop f complete reads last is = ap (λ (x : Ending). with_pixels x shows) is ∙ done_with_pixels shows ∙ ap endings.Worked (sym (verdict_is f reads (last refl)))
+        by_stop f (stop_refused fault offset) reads last is = ap (λ (x : Ending). with_pixels x shows) is
+
+    -- of a job that has nothing to report where all was done
+    pub concludes_same : TellsNothing job → (t : k.maker.State) (ending : Ending) → Concludes t ending ending
     concludes_same none t ending = record {
-      done = λ f stop reads last is. is ∙ ap endings.Worked (no_edits job none f stop);
+      done = λ f stop reads last is. is ∙ ap endings.Worked (told_nothing job none f stop);
       not_read = λ count is. is;
       not_written = λ is. is;
     }

@@ -11,7 +11,7 @@ use Rattle.dcm_base.specs.Tree.Front.{Front}
 use Rattle.dcm_base.specs.Reading.Reads.{INPUT_LIMIT, Reads, ended}
 use Rattle.dcm_base.specs.Conversion.Recode.{recode}
 use Rattle.dcm_base.specs.Steps.Steps.{outputs}
-use Rattle.dcm_base.specs.Reading.Stop.{Bar, Stop, refused}
+use Rattle.dcm_base.specs.Reading.Stop.{Bar, HeadBar, Stop, refused}
 use Rattle.dcm_base.proofs.Writes.Runs.{outputs-append}
 use Rattle.dcm_base.specs.declared.dictionary.Dictionary.{Dictionary}
 use Rattle.dcm_head.specs.declared.head.Head.{Head}
@@ -22,6 +22,8 @@ use Rattle.dcm_stream.specs.Machine.{steps, steps_write}
 use Rattle.dcm_stream.specs.Reading.{Reading, start_of, finish, end_shows, read_all}
 use Rattle.dcm_stream.proofs.Runs.Inputs.{bars_none, driven_is, output_is, ends_by, refuses_by, waits_by}
 use Rattle.dcm_stream.proofs.Steps.Follows.{follows, answers}
+use Rattle.dcm_editor.proofs.EditSinks.DrivesEdits.{BarsShallowAs, driven_same, output_same}
+use Rattle.dcm_editor.proofs.ReadBack.Rises.{KeepsOrder}
 use Rattle.dcm_sinks.specs.DumpSink.{DumpState, dump_start, dump_step, dump_writes, bars_nothing}
 use Rattle.dcm_sinks.specs.EncodeSink.{EncodeState, encode_bar, encode_start, encode_step, encode_writes}
 use Rattle.dcm_sinks.proofs.Dumps.Reads.{reads_whole, reads_so_far}
@@ -85,6 +87,18 @@ drives_by bars step writes bar first same s start bytes le = record {
   output_is = output_is bars step writes first s start bytes;
   answered = answers (bars_by bars step first) bar same s start bytes le;
   followed = follows (bars_by bars step first) bar same s start bytes le;
+}
+
+-- a sink that bars what a bar does, tags that do not ascend among it, where no more than 64 sequences and fragment lists are open at a time
+pub drives_as : (told : List Atom → HeadBar) (bar : Bar) → KeepsOrder told bar → {S : Type 0} (bars : S → Head → Option SinkBar) (step : S → Atom → S) (writes : S → Atom → List ℕ) (first : S) → BarsShallowAs bar bars step first
+    → (s : Syntax) (start : ℕ) (bytes : List ℕ) → start ≤ INPUT_LIMIT → Drives bars step writes bar first s start bytes
+drives_as told bar k bars step writes first shallow s start bytes le = record {
+  reading = (read_all told s start bytes).0;
+  atoms = (read_all told s start bytes).1;
+  driven_is = driven_same told bar k s start bars step writes first shallow bytes le;
+  output_is = output_same told bar k s start bars step writes first shallow bytes le;
+  answered = answers told bar k.same s start bytes le;
+  followed = follows told bar k.same s start bytes le;
 }
 
 -- the dump

@@ -14,9 +14,6 @@ use Rattle.dcm_base.specs.Reading.Stop.{Stop}
 use Rattle.dcm_base.specs.declared.dictionary.Dictionary.{Dictionary}
 use Rattle.dcm_stream.specs.Ascending.{ascending}
 use Rattle.dcm_stream.specs.Judging.{bars_head}
-use Rattle.dcm_stream.specs.Reading.{read_all}
-use Rattle.dcm_stream.proofs.Steps.Ascending.{ascending_bars}
-use Rattle.dcm_stream.proofs.Steps.Follows.{follows, answers}
 use Rattle.dcm_sinks.specs.EncodeSink.{EncodeState, encode_start, encode_step, encode_writes}
 use Rattle.dcm_edits.specs.Edit.{Edit, edited, found}
 use Rattle.dcm_editor.specs.EditSink.{State as EditState, BarsShallow, begun}
@@ -24,33 +21,22 @@ use Rattle.dcm_edits.specs.Bounds.{AreWithin, HaveShortIndexes, HaveValues}
 use Rattle.dcm_edits.specs.Meaning.{AreMeant}
 use Rattle.dcm_edits.specs.Overlap.{AreApart, ArePublic}
 use Rattle.dcm_editor.specs.Through.{through_bar, through_step, through_writes}
-use Rattle.dcm_editor.proofs.EditSinks.DrivesEdits.{driven_same, output_same, edit_bars}
+use Rattle.dcm_editor.proofs.EditSinks.DrivesEdits.{edit_bars}
 use Rattle.dcm_edits.proofs.Words.EditCount.{few}
+use Rattle.dcm_editor.proofs.ReadBack.Rises.{in_order}
 use Rattle.dcm_editor.proofs.ReadBack.EditReads.{edit_reads_whole, edit_reads_so_far}
 use Rattle.dcm_edits.proofs.Words.EditWordLemmas.{edits_are_apart}
 use Rattle.dcm_editor.proofs.EditSinks.Through.{through_fold, through_outputs}
 use Rattle.dcm_edits.proofs.Words.WordValues.{edits_fit}
 use Rattle.dcm_words.specs.Words.{modify}
 use Rattle.dcm_cli.proofs.Passes.Files.{FileMaker}
-use Rattle.dcm_cli.proofs.Passes.Makers.{Drives, Maker}
+use Rattle.dcm_cli.proofs.Passes.Makers.{Maker, drives_as}
 use Rattle.dcm_cli.proofs.Passes.Sets.{Last}
 
 -- the edit sink bars for both
 pub through_shallow : {T : Type 0} (step : T → Atom → T) (writes : T → Atom → List ℕ) (edits : List Edit) (first : T) → HaveShortIndexes edits → BarsShallow through_bar (through_step step) (begun edits, first)
 through_shallow {T} step writes edits first x = λ f atoms tag vr declared h shown.
     ap (λ (p : EditState × T). bars_head through_bar p tag vr declared) (through_fold step writes (begun edits) first atoms) ∙ edit_bars edits x f atoms tag vr declared h shown
-
--- a sink that bars so
-pub drives_shallow : {T : Type 0} (step : T → Atom → T) (writes : T → Atom → List ℕ) (edits : List Edit) (first : T) → HaveShortIndexes edits → (s : Syntax) (start : ℕ) (bytes : List ℕ) → start ≤ INPUT_LIMIT
-    → Drives through_bar (through_step step) (through_writes step writes) ascending_bar (begun edits, first) s start bytes
-drives_shallow step writes edits first x s start bytes le = record {
-  reading = (read_all ascending s start bytes).0;
-  atoms = (read_all ascending s start bytes).1;
-  driven_is = driven_same through_bar (through_step step) (through_writes step writes) (begun edits, first) (through_shallow step writes edits first x) s start bytes le;
-  output_is = output_same through_bar (through_step step) (through_writes step writes) (begun edits, first) (through_shallow step writes edits first x) s start bytes le;
-  answered = answers ascending ascending_bar ascending_bars s start bytes le;
-  followed = follows ascending ascending_bar ascending_bars s start bytes le;
-}
 
 -- of edits that words mean
 module _ (d : Dictionary) (edits : List Edit) (meant : AreMeant edits) where
@@ -71,7 +57,8 @@ module _ (d : Dictionary) (edits : List Edit) (meant : AreMeant edits) where
     step = through_step encode_step;
     writes = through_writes encode_step encode_writes;
     first = (begun edits, encode_start target);
-    drives = drives_shallow encode_step encode_writes edits (encode_start target) fit.1;
+    drives = drives_as ascending ascending_bar in_order through_bar (through_step encode_step) (through_writes encode_step encode_writes) (begun edits, encode_start target)
+        (through_shallow encode_step encode_writes edits (encode_start target) fit.1);
     whole = λ s start bytes f stop le reads.
         through_outputs encode_step encode_writes (begun edits) (encode_start target) (front_atoms s f) ∙ (edit_reads_whole target edits apart.0 apart.1 fit.0 fit.1 fit.2 s start bytes f stop le reads).0;
     so_far = λ s start bytes f stop le closed reads.

@@ -24,6 +24,7 @@ use Rattle.dcm_head.proofs.HeadReading.Answers.{told}
 use Rattle.dcm_head.proofs.MetaGroups.OneMeta.{one_meta}
 use Rattle.dcm_cli.specs.Pass.{head_read}
 use Rattle.dcm_cli.specs.Answer.{HeadIs}
+use Rattle.dcm_cli.specs.Opening.{HeadChange, head_text}
 
 -- ---- the elements of the group
 
@@ -184,6 +185,8 @@ ends_before d r read e o le =
     apart m n not le = grind (arith, nat_tests, not, le)
 
 -- its head written anew
-pub head_anew : (d : Dictionary) (r : Reading) (file : List ℕ) (o : Opened d r file) (uid written : List ℕ) → written ≡ uid → take 128 r.bytes ++ PREFIX ++ new_meta o.m.elements written ≡ o.m.preamble ++ PREFIX ++ new_meta o.m.elements uid
-head_anew d r file o uid written e =
-    ap (λ (bs : List ℕ). bs ++ PREFIX ++ new_meta o.m.elements written) o.preamble_is ∙ ap (λ (u : List ℕ). o.m.preamble ++ PREFIX ++ new_meta o.m.elements u) e
+pub head_anew : (change : HeadChange) (d : Dictionary) (r : Reading) (file : List ℕ) (o : Opened d r file) (uid written : List ℕ) → written ≡ uid
+    → head_text change r written o.m.elements ≡ change.preamble o.m.preamble ++ PREFIX ++ new_meta (change.elements o.m.elements) uid
+head_anew change d r file o uid written e =
+    ap (λ (bs : List ℕ). change.preamble bs ++ PREFIX ++ new_meta (change.elements o.m.elements) written) o.preamble_is
+    ∙ ap (λ (u : List ℕ). change.preamble o.m.preamble ++ PREFIX ++ new_meta (change.elements o.m.elements) u) e

@@ -16,11 +16,12 @@ use Rattle.dcm_stream.specs.Machine.{next_offset}
 use Rattle.dcm_cli.specs.declared.ending.Ending.{Ending}
 use Rattle.dcm_cli.specs.declared.ending.Ending.TheVariants.{Worked, Unread, Output}
 use Rattle.dcm_cli.specs.Pass.{Ends, at_end, at_fault, halted, unread, unwritten, end_unwritten}
-use Rattle.dcm_edits.specs.Edit.{Edit}
-use Rattle.dcm_words.specs.Words.{Job}
+use Rattle.dcm_base.specs.declared.dictionary.Dictionary.{Dictionary}
+use Rattle.dcm_base.specs.declared.mode.Mode.{Mode}
+use Rattle.dcm_words.specs.Words.{Job, dump, convert}
 use Rattle.dcm_cli.specs.declared.ending.Verdict.TheVariants.{Done}
-use Rattle.dcm_cli.specs.Answer.{going_on, edits_of}
-use Rattle.dcm_cli.specs.Run.{verdict_of_stop, verdict_at, unplaced_mask}
+use Rattle.dcm_cli.specs.Answer.{going_on}
+use Rattle.dcm_cli.specs.Run.{verdict_of_stop, verdict_at, done_verdict, unplaced_mask}
 use Rattle.dcm_cli.proofs.Passes.Makers.{Maker, made, made_output, last_output, more_made, ends_as, refuses_as, waits_as, made_behind}
 
 -- of a data set from start on, of which this was read: all of its text was written, and where nothing was at fault the sink has gone over all of it; or
@@ -31,11 +32,22 @@ pub data SetMade {S : Type 0} (bar : Bar) (text : Front → List ℕ) (Last : S 
       → holds ≡ append_known held (text (going_on f)) → SetMade bar text Last s start read rest held t holds ending
   set_unwritten : (f : Front) (stop : Stop) → Reads bar s start (read ++ rest) f stop → ending ≡ Output → AppendsFront held holds (text f) → SetMade bar text Last s start read rest held t holds ending
 
--- what the work comes to of a job that makes no edits
-pub no_edits : (job : Job) → edits_of job ≡ [] → (set : Front) (stop : Stop) → verdict_of_stop stop ≡ verdict_at job set stop
+-- a job that has nothing to report where all was done
+abbrev pub TellsNothing : Job → Type 0
+TellsNothing job = (set : Front) → done_verdict job set ≡ Done 0
+
+-- what the work comes to
+pub told_nothing : (job : Job) → TellsNothing job → (set : Front) (stop : Stop) → verdict_of_stop stop ≡ verdict_at job set stop
+told_nothing job none set complete = sym (none set)
+told_nothing job none set (refused fault offset) = refl
+
+pub dump_tells_nothing : (d : Dictionary) (mode : Mode) (bare : Option Syntax) → TellsNothing (dump d mode bare)
 unfolding unplaced_mask
-no_edits job none set complete = sym (ap (λ (edits : List Edit). Done (unplaced_mask edits set)) none)
-no_edits job none set (refused fault offset) = refl
+dump_tells_nothing d mode bare set = refl
+
+pub convert_tells_nothing : (d : Dictionary) (target : Option Syntax) → TellsNothing (convert d target)
+unfolding unplaced_mask
+convert_tells_nothing d target set = refl
 
 -- nothing is left
 pub none_left : (left : Option (List ℕ)) (rest : List ℕ) → IsAtEnd left → left ≡ Some rest → rest ≡ []

@@ -1,16 +1,25 @@
 -- What a program did, by what its parts did.
-use Rattle.std.proofs.Common.{Global, ◌≡◌, subst, refl, ℕ, List, Bool, true, false, Some, None, Err}
+use Rattle.std.proofs.Common.{Global, ◌≡◌, ◌≢◌, ◌⊎◌, inl, inr, ap, sym, subst, refl, ◌==◌, ℕ, List, [], Bool, true, false, Option, Some, None, Result, Ok, Err, arith}
+use Rattle.std.specs.Io.KnownBytes.{append_known}
+use Rattle.std.specs.Result.{is_err}
+use Rattle.std.specs.declared.io.Error.{Error}
+use Rattle.std.proofs.lemmas.Bool.Decides.{nat_tests}
+use Rattle.std.proofs.lemmas.List.{append-nil}
+use Rattle.dcm_words.specs.declared.job.Deidentify.{Deidentify}
+use Rattle.dcm_words.specs.declared.job.Job.{Job as AnyJob}
+use Rattle.dcm_words.specs.declared.job.Job.TheVariants as jobs
 use Rattle.dcm_words.specs.declared.usage.Usage.{Usage}
 use Rattle.dcm_words.specs.declared.usage.Usage.TheVariants.{AtWord, Whole, InEdit, Memory}
-use Rattle.dcm_words.specs.Words.{Job, meant}
+use Rattle.dcm_words.specs.Words.{Job, Plan, meant}
 use Rattle.dcm_words.specs.Topics.{asked}
-use Rattle.dcm_words.specs.Plans.{Gives, GivesUnlessMemory, takes_memory}
+use Rattle.dcm_words.specs.Plans.{job_of, Gives, GivesUnlessMemory, takes_memory}
 use Rattle.dcm_devices.specs.Writing.{Writer}
 use Rattle.dcm_files.specs.Devices.{MayDo}
 use Rattle.dcm_cli.specs.Calls.{Reader}
-use Rattle.dcm_cli.specs.Change.{Change}
-use Rattle.dcm_cli.specs.Program.{RunsOver, Obeys, refused, no_memory, Starts, obeyed}
-use Rattle.dcm_cli.specs.ErrorLines.{Reports, usage_line, usage_status}
+use Rattle.dcm_files.specs.Part.{EndsPart}
+use Rattle.dcm_cli.specs.Change.{Change, change_of}
+use Rattle.dcm_cli.specs.Program.{RunsOver, Works, Deidentifies, WorksAs, EndsOutput, named, not_named, removed, Obeys, refused, no_memory, Starts, obeyed}
+use Rattle.dcm_cli.specs.ErrorLines.{Reports, output_line, usage_line, usage_status}
 
 -- a run over the same devices
 pub over : {S I O : Type 0} (may : MayDo S I O) (r : Reader I) (w : Writer O) (job : Job) (e : Change) (i j : I) (o p : O) (old : S) (status : ℕ) (new : S) → i ≡ j → o ≡ p
@@ -36,3 +45,45 @@ module _ {S I O : Type 0} (may : MayDo S I O) (r : Reader I) (w : Writer O) (wor
 pub started : {S I O : Type 0} (may : MayDo S I O) (r : Reader I) (w : Writer O) (e : Change) (old mid new : S) (status : ℕ) (words views : List (List ℕ)) → may.words old (Some words) mid → views ≡ words
     → Obeys may r w views e mid status new → Starts may r w e old status new
 started may r w e old mid new status words views gave same obeys = obeyed words mid gave (subst (λ (ws : List (List ℕ)). Obeys may r w ws e mid status new) same obeys)
+
+-- ---- outputs that have their name only once they are whole
+
+pub append_nothing : (o : Option (List ℕ)) → append_known o [] ≡ o
+append_nothing None = refl
+append_nothing (Some bytes) = ap Some (append-nil bytes)
+
+-- where no call was made, nothing was reported
+pub nothing_told : {E : Type 0} (w : Writer E) (errors : E) → Reports (change_of w errors errors) []
+nothing_told w errors = inl (sym (append_nothing (w.contents errors)), refl)
+
+is_done : (n : ℕ) → n ≡ 0 → (n == 0) ≡ true
+is_done n e = grind (arith, nat_tests, e)
+
+is_not_done : (n : ℕ) → n ≢ 0 → (n == 0) ≡ false
+is_not_done n e = grind (arith, nat_tests, e)
+
+module _ {S I O : Type 0} (may : MayDo S I O) (output : List ℕ) (ran : ℕ) (e : Change) (old new : S) where
+  -- it could not be given its name
+  pub end_failed : (r : Result (Unit {0}) Error) → EndsPart may output (ran == 0) old r new → is_err r ≡ true → ran ≡ 0 → Reports e output_line → EndsOutput may output ran e old 4 new
+  end_failed (Ok x) ends failed done line = absurd (cc)
+  end_failed (Err x) ends failed done line = not_named x done (subst (λ (b : Bool). EndsPart may output b old (Err x) new) (is_done ran done) ends) line refl
+
+  -- it was given its name, or removed
+  pub end_kept : (r : Result (Unit {0}) Error) → EndsPart may output (ran == 0) old r new → (ran ≢ 0) ⊎ ((ran ≡ 0) × (is_err r ≡ false)) → Reports e [] → EndsOutput may output ran e old ran new
+  end_kept r ends (inl not_done) nothing = removed r not_done (subst (λ (b : Bool). EndsPart may output b old r new) (is_not_done ran not_done) ends) nothing refl
+  end_kept (Ok x) ends (inr done) nothing = named done.0 (subst (λ (b : Bool). EndsPart may output b old (Ok x) new) (is_done ran done.0) ends) nothing done.0
+  end_kept (Err x) ends (inr done) nothing = absurd (let no = done.1 in cc)
+
+-- what is done of a plan whose job is another one
+pub other_job : {A S I O : Type 0} (may : MayDo S I O) (r : Reader I) (w : Writer O) (p : Plan) (e : Change) (old : S) (status : ℕ) (new : S) (j : AnyJob A) → ((d : Deidentify) → j ≡ jobs.Deidentify d → ⊥)
+    → Works may r w p e old status new → WorksAs (job_of j) may r w p e old status new
+other_job may r w p e old status new (jobs.Dump d) other works = works
+other_job may r w p e old status new (jobs.Convert d) other works = works
+other_job may r w p e old status new (jobs.Build d) other works = works
+other_job may r w p e old status new (jobs.Modify d) other works = works
+other_job may r w p e old status new (jobs.Deidentify d) other works = absurd (other d refl)
+
+-- and of one by which identity is taken out
+pub identity_job : {A S I O : Type 0} (may : MayDo S I O) (r : Reader I) (w : Writer O) (p : Plan) (e : Change) (old : S) (status : ℕ) (new : S) (j : AnyJob A) (d : Deidentify) → j ≡ jobs.Deidentify d
+    → Deidentifies may r w p d.options d.reports e old status new → WorksAs (job_of j) may r w p e old status new
+identity_job {A} may r w p e old status new j d is works = subst (λ (x : AnyJob A). WorksAs (job_of x) may r w p e old status new) (sym is) works

@@ -1,205 +1,37 @@
 -- What obeying words over files in memory comes to.
-use Rattle.std.proofs.Common.{◌≡◌, ◌≢◌, append-nil, ◌∙◌, ap, sym, subst, refl, ◌⊎◌, inl, inr, ◌||◌, ◌≤◌, ℕ, List, [], length, bytes_eq, if◌then◌else◌, Bool, true, false, Option, None, Some, Result, Ok, Err}
-use Rattle.std.specs.Option.{option_map}
-use Rattle.std.specs.Str.{IsUtf8, is_utf8}
-use Rattle.std.specs.IoError.{error_kind}
-use Rattle.std.specs.declared.io.Error.{Error}
-use Rattle.std.specs.declared.io.ErrorKind.{ErrorKind}
-use Rattle.std.specs.declared.io.ErrorKind.TheVariants as kinds
-use Rattle.std.proofs.lemmas.Slice.Eq.{bytes_eq-Decides}
-use Rattle.std.proofs.lemmas.Str.{IsUtf8-from_is_utf8, is_utf8-from_IsUtf8}
+use Rattle.std.proofs.Common.{◌≡◌, append-nil, ◌∙◌, ap, sym, subst, refl, ◌⊎◌, inl, inr, ◌≤◌, ℕ, List, [], length, bytes_eq, Bool, true, false, Option, None, Some, Result, Ok, Err}
 use Rattle.dcm_devices.specs.Memory.{written, room_of}
 use Rattle.dcm_devices.specs.declared.memory.MemIn.{MemIn}
 use Rattle.dcm_devices.specs.declared.memory.MemOut.{MemOut}
 use Rattle.dcm_devices.specs.declared.memory.Measured.{Measured}
-use Rattle.dcm_files.specs.declared.memory.MemFile.{MemFile}
 use Rattle.dcm_files.specs.declared.memory.MemSystem.{MemSystem}
-use Rattle.dcm_files.specs.declared.opened.FileKind.{FileKind}
-use Rattle.dcm_files.specs.declared.opened.FileKind.TheVariants.{Regular, Directory, Other}
+use Rattle.dcm_files.specs.declared.opened.FileKind.TheVariants.{Other}
 use Rattle.dcm_files.specs.declared.opened.Opened.{Opened}
 use Rattle.dcm_files.specs.declared.opened.Unopened.{Unopened}
 use Rattle.dcm_files.specs.declared.opened.Unopened.TheVariants.{Input, Output, Same}
 use Rattle.dcm_files.specs.Devices as devices
-use Rattle.dcm_files.specs.Devices.{IsCause, OpensInput, OpensOutput, OpensDevices, standard, clash}
-use Rattle.dcm_files.specs.Memory.{file_named, kind_of, kind_written, GivesFile, GivesRoom, may_do}
+use Rattle.dcm_files.specs.Devices.{OpensDevices, standard}
+use Rattle.dcm_files.specs.Memory.{may_do}
+use Rattle.dcm_deid.specs.declared.fate.Options.{Options}
 use Rattle.dcm_words.specs.declared.topic.Topic.{Topic}
 use Rattle.dcm_words.specs.Topics.{asked, text}
 use Rattle.dcm_words.specs.declared.usage.Usage.{Usage}
 use Rattle.dcm_words.specs.declared.usage.Usage.TheVariants.{Memory}
-use Rattle.dcm_words.specs.Words.{Job, Plan, meant}
+use Rattle.dcm_words.specs.Words.{Job, dump, convert, build, modify, deidentify, Plan, meant}
 use Rattle.dcm_words.specs.Plans.{takes_memory}
+use Rattle.dcm_cli.specs.declared.key.NoKey.{NoKey}
 use Rattle.dcm_cli.specs.Answer.{Answer, Answers}
 use Rattle.dcm_cli.specs.Change.{Change}
 use Rattle.dcm_cli.specs.ErrorLines.{Reports, usage_line, usage_status}
 use Rattle.dcm_cli.specs.InMemory as spec
-use Rattle.dcm_cli.specs.InMemory.{Outcome, bytes_at, is_writable, number_at, is_one_file, shown, not_opened, same_file, answered, JobComes, PlanComes, ComesBy, Comes, HasRoom, Took, IsWritten, Leaves, LeavesAnswer}
+use Rattle.dcm_cli.specs.InMemory.{Outcome, bytes_at, is_writable, number_at, is_one_file, shown, not_opened, same_file, answered, key_of, can_end, without_key, ended, JobComes, WholeComes, KeyComes, DeidentifyComes, PlanComesAs, ComesBy, Comes, HasRoom, Took, IsWritten, LeavesAnswer}
 use Rattle.dcm_cli.specs.Program as program
-use Rattle.dcm_cli.specs.Program.{RunsOver, Works, Shows, Obeys, unopened_line, unopened_status}
-use Rattle.dcm_cli.proofs.Runs.InMemory.{memory_reader, memory_writer, memory_change, ran_left, line_left, text_left}
+use Rattle.dcm_cli.specs.Program.{RunsOver, Works, WorksAs, Shows, Obeys, unopened_line, unopened_status}
+use Rattle.dcm_cli.proofs.Runs.InMemory.{memory_reader, memory_writer, memory_change, ran_left, text_left}
+use Rattle.dcm_cli.proofs.Runs.LeftMemory.{room_there, room_fits, LeftOf, leave_of}
 use Rattle.dcm_cli.proofs.Runs.OneAnswer.{one_answer, some_answer}
-
--- ---- paths
-
-no_both : (b : Bool) → b ≡ false → b ≡ true → ⊥
-no_both b n y = let no : false ≡ true = sym n ∙ y in cc
-
-not_so : (b : Bool) → (b ≡ true → ⊥) → b ≡ false
-not_so true never = absurd (never refl)
-not_so false never = refl
-
-is_other : (path : List ℕ) → path ≢ standard → bytes_eq path standard ≡ false
-is_other path other = not_so (bytes_eq path standard) (λ e. other ((bytes_eq-Decides path standard).0 e))
-
-is_text : (path : List ℕ) → IsUtf8 path → is_utf8 path ≡ true
-is_text path text = is_utf8-from_IsUtf8 path text
-
-is_no_text : (path : List ℕ) → (IsUtf8 path → ⊥) → is_utf8 path ≡ false
-is_no_text path bad = not_so (is_utf8 path) (λ e. bad (IsUtf8-from_is_utf8 path e))
-
--- what a choice is
-module _ {T : Type 0} where
-  text_chosen : (a b : Bool) (x y z : T) → a ≡ false → b ≡ true → (if a then x else if b then y else z) ≡ y
-  text_chosen true b x y z f t = absurd (no_both true f refl)
-  text_chosen false true x y z f t = refl
-  text_chosen false false x y z f t = absurd (no_both false refl t)
-
-  no_text_chosen : (a b : Bool) (x y z : T) → a ≡ false → b ≡ false → (if a then x else if b then y else z) ≡ z
-  no_text_chosen true b x y z f t = absurd (no_both true f refl)
-  no_text_chosen false true x y z f t = absurd (no_both true t refl)
-  no_text_chosen false false x y z f t = refl
-
-  other_chosen : (a : Bool) (x y : T) → a ≡ false → (if a then x else y) ≡ y
-  other_chosen true x y f = absurd (no_both true f refl)
-  other_chosen false x y f = refl
-
-either_is : (a b : Bool) → a ≡ false → (a || b) ≡ b
-either_is true b f = absurd (no_both true f refl)
-either_is false b f = refl
-
--- ---- what opening gave
-
--- an input with this number: a file's, or none
-abbrev IsInput : Option ℕ → FileKind → Type 0
-IsInput None kind = kind ≡ Other
-IsInput (Some n) kind = (held : ℕ) × (kind ≡ Regular 0 n held)
-
--- an output: it may be a new file
-abbrev IsOutput : Option ℕ → FileKind → Type 0
-IsOutput None kind = (kind ≡ Other) ⊎ (kind ≡ Regular 1 0 0)
-IsOutput (Some n) kind = (held : ℕ) × (kind ≡ Regular 0 n held)
-
-abbrev IsFound : Option (List ℕ) → Option ℕ → Result (Opened MemIn) Error → Type 0
-IsFound bytes number (Ok d) = (bytes ≡ Some d.device.rest.now) × IsInput number d.kind
-IsFound bytes number (Err x) = (bytes ≡ None) × (error_kind x ≢ kinds.OutOfMemory)
-
-abbrev IsMade : (can_write : Bool) → Option ℕ → (room : Option MemOut) → Result (Opened Measured) Error → Type 0
-IsMade can_write number room (Ok d) = (can_write ≡ true) × (room ≡ Some d.device.out) × IsOutput number d.kind
-IsMade can_write number room (Err x) = ((can_write ≡ false) ⊎ (room ≡ None)) × (error_kind x ≢ kinds.OutOfMemory)
-
-abbrev bytes_of : Option MemFile → Option (List ℕ)
-bytes_of f = option_map (λ f. f.bytes.now) f
-
-abbrev number_of : Option MemFile → Option ℕ
-number_of f = option_map (λ f. f.number) f
-
-no_memory_fault : (x : Error) (k : ErrorKind) → error_kind x ≡ k → k ≢ kinds.OutOfMemory → error_kind x ≢ kinds.OutOfMemory
-no_memory_fault x k is differs e = differs (sym is ∙ e)
-
-found : (f : Option MemFile) (r : Result (Opened MemIn) Error) → GivesFile f r → IsFound (bytes_of f) (number_of f) r
-found (Some f) (Ok d) g = (ap Some (sym g.0), (length f.bytes.now, g.1))
-found (Some f) (Err x) g = absurd g
-found None (Ok d) g = absurd g
-found None (Err x) g = (refl, no_memory_fault x kinds.NotFound g (λ e. cc))
-
-no_directory : (f : Option MemFile) (d : Opened MemIn) → GivesFile f (Ok d) → d.kind ≡ Directory → ⊥
-no_directory (Some f) d g is = let no : kind_of f ≡ Directory = sym g.1 ∙ is in cc
-no_directory None d g is = absurd g
-
-module _ (s : MemSystem) where
-  -- at a path that is a text
-  found_at : (path : List ℕ) (r : Result (Opened MemIn) Error) → path ≢ standard → IsUtf8 path → GivesFile (file_named s.files.now path) r → IsFound (bytes_at s path) (number_at s path) r
-  found_at path r other text gave =
-      let o = is_other path other in
-      subst (λ (b : Option (List ℕ)). IsFound b (number_at s path) r) (sym (text_chosen (bytes_eq path standard) (is_utf8 path) (Some s.stdin.now) (bytes_of (file_named s.files.now path)) None o (is_text path text)))
-      (subst (λ (n : Option ℕ). IsFound (bytes_of (file_named s.files.now path)) n r) (sym (other_chosen (bytes_eq path standard) None (number_of (file_named s.files.now path)) o)) (found (file_named s.files.now path) r gave))
-
-  input_opened : (path : List ℕ) (r : Result (Opened MemIn) Error) (mid : MemSystem) → OpensInput may_do path s r mid → IsFound (bytes_at s path) (number_at s path) r × (mid ≡ s)
-  input_opened path r mid (devices.stream d is gave are) = (
-    subst (IsFound (bytes_at s path) (number_at s path)) (sym are)
-        (ap (bytes_at s) is ∙ ap Some (sym gave.0), subst (λ (n : Option ℕ). IsInput n d.kind) (sym (ap (number_at s) is)) gave.1),
-    gave.2,
-  )
-  input_opened path r mid (devices.no_text x other bad kind are same) = (
-    subst (IsFound (bytes_at s path) (number_at s path)) (sym are) (
-      no_text_chosen (bytes_eq path standard) (is_utf8 path) (Some s.stdin.now) (bytes_of (file_named s.files.now path)) None (is_other path other) (is_no_text path bad),
-      no_memory_fault x kinds.InvalidFilename kind (λ e. cc),
-    ),
-    same,
-  )
-  input_opened path r mid (devices.refused x other text gave are) =
-      (subst (IsFound (bytes_at s path) (number_at s path)) (sym are) (found_at path (Err x) other text gave.0), gave.1)
-  input_opened path r mid (devices.directory d x had other text gave kind released was are) =
-      absurd (no_directory (file_named s.files.now path) d gave.0 kind)
-  input_opened path r mid (devices.opened d other text gave kind are) =
-      (subst (IsFound (bytes_at s path) (number_at s path)) (sym are) (found_at path (Ok d) other text gave.0), gave.1)
-
-made : (can_write : Bool) (number : Option ℕ) (kind : FileKind) (room : Option MemOut) (r : Result (Opened Measured) Error) → can_write ≡ true → IsOutput number kind → GivesRoom room kind r
-    → IsMade can_write number room r
-made can_write number kind (Some room) (Ok d) can is g = (can, ap Some (sym g.0), subst (IsOutput number) (sym g.1) is)
-made can_write number kind (Some room) (Err x) can is g = absurd g
-made can_write number kind None (Ok d) can is g = absurd g
-made can_write number kind None (Err x) can is g = (inr refl, no_memory_fault x kinds.StorageFull g (λ e. cc))
-
-written_as : (f : Option MemFile) → IsOutput (number_of f) (kind_written f)
-written_as (Some f) = (length f.bytes.now, refl)
-written_as None = inr refl
-
-module _ (s : MemSystem) where
-  number_written : (path : List ℕ) → path ≢ standard → IsOutput (number_at s path) (kind_written (file_named s.files.now path))
-  number_written path other =
-      subst (λ (n : Option ℕ). IsOutput n (kind_written (file_named s.files.now path))) (sym (other_chosen (bytes_eq path standard) None (number_of (file_named s.files.now path)) (is_other path other)))
-      (written_as (file_named s.files.now path))
-
-  output_made : (path : List ℕ) (r : Result (Opened Measured) Error) (after : MemSystem) → OpensOutput may_do path s r after → IsMade (is_writable path) (number_at s path) s.room r × (after.written ≡ s.written)
-  output_made path r after (devices.out_stream is gave) = (
-    made (is_writable path) (number_at s path) Other s.room r (ap is_writable is) (subst (λ (n : Option ℕ). IsOutput n Other) (sym (ap (number_at s) is)) (inl refl)) gave.0,
-    ap (λ (z : MemSystem). z.written) gave.1,
-  )
-  output_made path r after (devices.out_no_text x other bad kind are same) = (
-    subst (IsMade (is_writable path) (number_at s path) s.room) (sym are)
-        (inl (either_is (bytes_eq path standard) (is_utf8 path) (is_other path other) ∙ is_no_text path bad), no_memory_fault x kinds.InvalidFilename kind (λ e. cc)),
-    ap (λ (z : MemSystem). z.written) same,
-  )
-  output_made path r after (devices.answered other text gave) = (
-    made (is_writable path) (number_at s path) (kind_written (file_named s.files.now path)) s.room r
-        (either_is (bytes_eq path standard) (is_utf8 path) (is_other path other) ∙ is_text path text) (number_written path other) gave.0,
-    ap (λ (z : MemSystem). z.written) gave.1,
-  )
-
-  -- after an input was opened
-  output_opened : (path : List ℕ) (r : Result (Opened Measured) Error) (mid after : MemSystem) → mid ≡ s → OpensOutput may_do path mid r after
-      → IsMade (is_writable path) (number_at s path) s.room r × (after.written ≡ s.written)
-  output_opened path r mid after same opens = output_made path r after (subst (λ (z : MemSystem). OpensOutput may_do path z r after) same opens)
-
--- ---- one file
-
--- they clash exactly where they are one file
-abbrev one_clash : Bool → Option Unopened
-one_clash one = if one then Some Same else None
-
-clash_at : (a b : Option ℕ) (k l : FileKind) → IsInput a k → IsOutput b l → clash k l ≡ one_clash (is_one_file a b)
-clash_at None b k l i o = ap (λ (x : FileKind). clash x l) i
-clash_at (Some n) None k l i (inl o) = ap (λ (x : FileKind). clash x l) i.1 ∙ ap (clash (Regular 0 n i.0)) o
-clash_at (Some n) None k l i (inr o) = ap (λ (x : FileKind). clash x l) i.1 ∙ ap (clash (Regular 0 n i.0)) o
-clash_at (Some n) (Some m) k l i o = ap (λ (x : FileKind). clash x l) i.1 ∙ ap (clash (Regular 0 n i.0)) o.1
-
-clashes : (one : Bool) (u : Unopened) → one_clash one ≡ Some u → (one ≡ true) × (u ≡ Same)
-clashes true u is = (refl, cc)
-clashes false u is = absurd (cc)
-
-clashes_not : (one : Bool) → one_clash one ≡ None → one ≡ false
-clashes_not true is = absurd (cc)
-clashes_not false is = refl
+use Rattle.dcm_cli.proofs.Runs.OpenedMemory.{no_both, made, input_opened, output_opened, clash_at, clashes, clashes_not}
+use Rattle.dcm_cli.proofs.Runs.WholeMemory.{deidentified_left}
 
 -- ---- both devices
 
@@ -251,28 +83,18 @@ module _ (s : MemSystem) (input output : List ℕ) where
         room_is = o.0.1;
       })
 
--- ---- rooms
-
--- where there is room, it is there
-room_there : (bytes : List ℕ) (room : Option MemOut) → HasRoom (Some bytes) room → room ≡ None → ⊥
-room_there bytes None has none = has
-room_there bytes (Some m) has none = cc
-
-room_fits : (bytes : List ℕ) (room : Option MemOut) (m : MemOut) → room ≡ Some m → HasRoom (Some bytes) room → (m.failed ≡ false) × (length bytes ≤ room_of m)
-room_fits bytes room m is has = subst (λ (r : Option MemOut). HasRoom (Some bytes) r) is has
-
 -- ---- what is left
 
 module _ (s new : MemSystem) (errors new_errors : MemOut) (status : ℕ) where
   abbrev Left : Outcome → Type 0
-  Left o = Leaves o s errors new.written new_errors status
+  Left o = LeftOf s new errors new_errors status o
 
   abbrev e : Change
   e = memory_change errors new_errors
 
   -- an outcome of which all is known
   leave : (o : Outcome) → IsWritten o.output s new.written → Reports e o.lines → status ≡ o.status → Left o
-  leave o is line was = record { output_is = is; lines_are = λ room. line_left errors new_errors o.lines line room; status_is = was }
+  leave o is line was = leave_of s new errors new_errors status o is line was
 
   -- a job was run
   run_left : (p : Plan) (i : Opened MemIn) (d : Opened Measured) (had : MemSystem) (a : Answer) → s.room ≡ Some d.device.out → (d.device.out.failed ≡ false) × (length a.output ≤ room_of d.device.out)
@@ -291,7 +113,7 @@ module _ (s new : MemSystem) (errors new_errors : MemOut) (status : ℕ) where
         status_is = l.status_is;
       }
 
-  module _ (p : Plan) (o : Outcome) (comes : PlanComes s p o) (room : HasRoom o.output s.room) where
+  module _ (p : Plan) (o : Outcome) (comes : JobComes (bytes_at s p.input) (is_writable p.output) (is_one_file (number_at s p.input) (number_at s p.output)) p.job o) (room : HasRoom o.output s.room) where
     abbrev can_write : Bool
     can_write = is_writable p.output
 
@@ -332,13 +154,25 @@ module _ (s new : MemSystem) (errors new_errors : MemOut) (status : ℕ) where
         left_as same_file (comes_at (Some bs) true true bytes can one)
         (leave same_file (closed_empty m room_is after) (subst (λ (v : Unopened). Reports e (unopened_line v)) is line) (was ∙ ap unopened_status is))
 
-    plan_left : Works may_do memory_reader memory_writer p e s status new → Left o
-    plan_left (program.not_opened u opens line was) = refused_left u (devices_are s p.input p.output (Err u) new opens) line was
-    plan_left (program.has_run i d had opens runs) =
+    job_left : Works may_do memory_reader memory_writer p e s status new → Left o
+    job_left (program.not_opened u opens line was) = refused_left u (devices_are s p.input p.output (Err u) new opens) line was
+    job_left (program.has_run i d had opens runs) =
         let x = devices_are s p.input p.output (Ok (i, d)) had opens in
         let c = comes_at (Some i.device.rest.now) true false x.bytes_are x.can x.apart in
         left_as (answered c.0) c.2
         (run_left p i d had c.0 x.room_is (room_fits c.0.output s.room d.device.out x.room_is (subst (λ (q : Outcome). HasRoom q.output s.room) c.2 room)) c.1 runs)
+
+  -- a plan was followed, by its job
+  module _ (p : Plan) (o : Outcome) (room : HasRoom o.output s.room) where
+    abbrev Job_comes : Job → Type 0
+    Job_comes job = JobComes (bytes_at s p.input) (is_writable p.output) (is_one_file (number_at s p.input) (number_at s p.output)) job o
+
+    plan_left : (job : Job) → p.job ≡ job → PlanComesAs job s p o → WorksAs job may_do memory_reader memory_writer p e s status new → Left o
+    plan_left (dump d m b) is comes works = job_left p o (subst Job_comes (sym is) comes) room works
+    plan_left (convert d t) is comes works = job_left p o (subst Job_comes (sym is) comes) room works
+    plan_left (build l) is comes works = job_left p o (subst Job_comes (sym is) comes) room works
+    plan_left (modify d es) is comes works = job_left p o (subst Job_comes (sym is) comes) room works
+    plan_left (deidentify options reports key) is comes works = deidentified_left s new errors new_errors status p o room options reports comes works
 
   -- a text was shown
   shows_left : (topic : Topic) → HasRoom (shown topic).output s.room → Shows may_do memory_writer (text topic) e s status new → Left (shown topic)
@@ -364,7 +198,7 @@ module _ (s new : MemSystem) (errors new_errors : MemOut) (status : ℕ) where
         inl (subst Left (sym same) (shows_left topic (subst (λ (q : Outcome). HasRoom q.output s.room) same room) was_shown))
     obeys_left (program.refused u none is line was same) = inl (subst Left (sym (by None (Err u) none is)) (refuses_left u line was same))
     obeys_left (program.no_memory none takes line was same) = inr (takes, refuses_left Memory line was same)
-    obeys_left (program.worked p none is works) = inl (plan_left p o (by None (Ok p) none is) room works)
+    obeys_left (program.worked p none is works) = inl (plan_left p o room p.job refl (by None (Ok p) none is) works)
 
 -- ---- one outcome, and always one
 
@@ -375,10 +209,30 @@ module _ (s : MemSystem) where
   one_job (Some bs) true true job o q a b = a ∙ sym b
   one_job (Some bs) true false job o q a b = a.2 ∙ ap answered (one_answer job bs a.0 b.0 a.1 b.1) ∙ sym b.2
 
+  one_whole : (bytes : Option (List ℕ)) (can is_stream : Bool) (job : Job) (o q : Outcome) → WholeComes bytes can is_stream job o → WholeComes bytes can is_stream job q → o ≡ q
+  one_whole None can is_stream job o q a b = a ∙ sym b
+  one_whole (Some bs) false is_stream job o q a b = a ∙ sym b
+  one_whole (Some bs) true is_stream job o q a b = a.2 ∙ ap (ended is_stream) (one_answer job bs a.0 b.0 a.1 b.1) ∙ sym b.2
+
+  one_key : (key : Result (List ℕ) NoKey) (p : Plan) (options : Options) (reports : Bool) (o q : Outcome) → KeyComes key s p options reports o → KeyComes key s p options reports q → o ≡ q
+  one_key (Err cause) p options reports o q a b = a ∙ sym b
+  one_key (Ok key) p options reports o q a b = one_whole (bytes_at s p.input) (can_end s p) (bytes_eq p.output standard) (deidentify options reports key) o q a b
+
+  one_deidentified : (path : Option (List ℕ)) (p : Plan) (options : Options) (reports : Bool) (o q : Outcome) → DeidentifyComes path s p options reports o → DeidentifyComes path s p options reports q → o ≡ q
+  one_deidentified None p options reports o q a b = one_whole (bytes_at s p.input) (can_end s p) (bytes_eq p.output standard) p.job o q a b
+  one_deidentified (Some path) p options reports o q a b = one_key (key_of (bytes_at s path)) p options reports o q a b
+
+  one_plan : (job : Job) (p : Plan) (o q : Outcome) → PlanComesAs job s p o → PlanComesAs job s p q → o ≡ q
+  one_plan (dump d m t) p o q a b = one_job (bytes_at s p.input) (is_writable p.output) (is_one_file (number_at s p.input) (number_at s p.output)) (dump d m t) o q a b
+  one_plan (convert d t) p o q a b = one_job (bytes_at s p.input) (is_writable p.output) (is_one_file (number_at s p.input) (number_at s p.output)) (convert d t) o q a b
+  one_plan (build l) p o q a b = one_job (bytes_at s p.input) (is_writable p.output) (is_one_file (number_at s p.input) (number_at s p.output)) (build l) o q a b
+  one_plan (modify d es) p o q a b = one_job (bytes_at s p.input) (is_writable p.output) (is_one_file (number_at s p.input) (number_at s p.output)) (modify d es) o q a b
+  one_plan (deidentify options reports key) p o q a b = one_deidentified p.key p options reports o q a b
+
   one_by : (topic : Option Topic) (plan : Result Plan Usage) (o q : Outcome) → ComesBy topic plan s o → ComesBy topic plan s q → o ≡ q
   one_by (Some topic) plan o q a b = a ∙ sym b
   one_by None (Err u) o q a b = a ∙ sym b
-  one_by None (Ok p) o q a b = one_job (bytes_at s p.input) (is_writable p.output) (is_one_file (number_at s p.input) (number_at s p.output)) p.job o q a b
+  one_by None (Ok p) o q a b = one_plan p.job p o q a b
 
   pub one_outcome : (words : List (List ℕ)) (o q : Outcome) → Comes words s o → Comes words s q → o ≡ q
   one_outcome words o q a b = one_by (asked words) (meant words) o q a b
@@ -389,10 +243,30 @@ module _ (s : MemSystem) where
   some_job (Some bs) true true job = (same_file, refl)
   some_job (Some bs) true false job = let a = some_answer job bs in (answered a.0, (a.0, a.1, refl))
 
+  some_whole : (bytes : Option (List ℕ)) (can is_stream : Bool) (job : Job) → (o : Outcome) × WholeComes bytes can is_stream job o
+  some_whole None can is_stream job = (not_opened false, refl)
+  some_whole (Some bs) false is_stream job = (not_opened true, refl)
+  some_whole (Some bs) true is_stream job = let a = some_answer job bs in (ended is_stream a.0, (a.0, a.1, refl))
+
+  some_key : (key : Result (List ℕ) NoKey) (p : Plan) (options : Options) (reports : Bool) → (o : Outcome) × KeyComes key s p options reports o
+  some_key (Err cause) p options reports = (without_key cause, refl)
+  some_key (Ok key) p options reports = some_whole (bytes_at s p.input) (can_end s p) (bytes_eq p.output standard) (deidentify options reports key)
+
+  some_deidentified : (path : Option (List ℕ)) (p : Plan) (options : Options) (reports : Bool) → (o : Outcome) × DeidentifyComes path s p options reports o
+  some_deidentified None p options reports = some_whole (bytes_at s p.input) (can_end s p) (bytes_eq p.output standard) p.job
+  some_deidentified (Some path) p options reports = some_key (key_of (bytes_at s path)) p options reports
+
+  some_plan : (job : Job) (p : Plan) → (o : Outcome) × PlanComesAs job s p o
+  some_plan (dump d m t) p = some_job (bytes_at s p.input) (is_writable p.output) (is_one_file (number_at s p.input) (number_at s p.output)) (dump d m t)
+  some_plan (convert d t) p = some_job (bytes_at s p.input) (is_writable p.output) (is_one_file (number_at s p.input) (number_at s p.output)) (convert d t)
+  some_plan (build l) p = some_job (bytes_at s p.input) (is_writable p.output) (is_one_file (number_at s p.input) (number_at s p.output)) (build l)
+  some_plan (modify d es) p = some_job (bytes_at s p.input) (is_writable p.output) (is_one_file (number_at s p.input) (number_at s p.output)) (modify d es)
+  some_plan (deidentify options reports key) p = some_deidentified p.key p options reports
+
   some_by : (topic : Option Topic) (plan : Result Plan Usage) → (o : Outcome) × ComesBy topic plan s o
   some_by (Some topic) plan = (shown topic, refl)
   some_by None (Err u) = (spec.refused u, refl)
-  some_by None (Ok p) = some_job (bytes_at s p.input) (is_writable p.output) (is_one_file (number_at s p.input) (number_at s p.output)) p.job
+  some_by None (Ok p) = some_plan p.job p
 
   pub some_outcome : (words : List (List ℕ)) → (o : Outcome) × Comes words s o
   some_outcome words = some_by (asked words) (meant words)

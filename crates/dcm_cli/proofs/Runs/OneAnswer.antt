@@ -16,8 +16,9 @@ use Rattle.dcm_base.specs.declared.dictionary.Dictionary.{Dictionary}
 use Rattle.dcm_head.proofs.HeadReading.State.{described}
 use Rattle.dcm_head.proofs.HeadReading.Answers.{told}
 use Rattle.dcm_stream.proofs.Steps.ReadsSome.{plain, in_order, for_target}
-use Rattle.dcm_words.specs.Words.{Job, dump, convert, build as building, modify}
+use Rattle.dcm_words.specs.Words.{Job, dump, convert, build as building, modify, deidentify}
 use Rattle.dcm_cli.specs.Answer.{job_dictionary, HeadIs, Answer, Answers, Source, unopened, file as a_file, alone, answer, built_answer, set_at, job_bar, target_syntax, refuses_change, FileReads, not_opened, not_changed, opened, AloneReads}
+use Rattle.dcm_cli.proofs.Passes.IdentityBar.{identity_read}
 use Rattle.dcm_cli.proofs.Passes.MetaHeads.{group_spelled}
 use Rattle.dcm_cli.proofs.Runs.OneSource.{one_source}
 
@@ -40,6 +41,8 @@ one_answer (dump d mode bare) input a b x y = dumped_once d mode bare input a b 
 one_answer (convert d target) input a b x y = alike (convert d target) a b x.source y.source x.answer_is y.answer_is (one_source (convert d target) input x.source y.source x.reads y.reads)
 one_answer (building limit) input a b x y = x ∙ sym y
 one_answer (modify d edits) input a b x y = alike (modify d edits) a b x.source y.source x.answer_is y.answer_is (one_source (modify d edits) input x.source y.source x.reads y.reads)
+one_answer (deidentify options reports key) input a b x y =
+    alike (deidentify options reports key) a b x.source y.source x.answer_is y.answer_is (one_source (deidentify options reports key) input x.source y.source x.reads y.reads)
 
 -- ---- at least one
 
@@ -48,6 +51,7 @@ set_read (dump d mode bare) coding start bytes le = plain coding.syntax start by
 set_read (convert d target) coding start bytes le = for_target (target_syntax target coding) coding.syntax start bytes le
 set_read (building limit) coding start bytes le = plain coding.syntax start bytes le
 set_read (modify d edits) coding start bytes le = in_order coding.syntax start bytes le
+set_read (deidentify options reports key) coding start bytes le = identity_read coding.syntax start bytes le
 
 module _ (job : Job) (bytes : List ℕ) where
   behind_group : (m : Meta) (group : List ℕ) (coding : Coding) → HeadIs (job_dictionary job) bytes m group coding → refuses_change job coding ≡ false
@@ -82,3 +86,6 @@ some_answer (dump d mode bare) input = dumped d mode bare input
 some_answer (convert d target) input = let x = file_read (convert d target) input in (answer (convert d target) x.0, record { source = x.0; reads = x.1; answer_is = refl })
 some_answer (building limit) input = (built_answer (build.built limit input), refl)
 some_answer (modify d edits) input = let x = file_read (modify d edits) input in (answer (modify d edits) x.0, record { source = x.0; reads = x.1; answer_is = refl })
+some_answer (deidentify options reports key) input =
+    let x = file_read (deidentify options reports key) input in
+    (answer (deidentify options reports key) x.0, record { source = x.0; reads = x.1; answer_is = refl })

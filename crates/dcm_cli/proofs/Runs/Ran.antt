@@ -1,5 +1,6 @@
 -- What a run leaves, by how the work on its job ended.
 use Rattle.std.proofs.Common.{◌≡◌, ◌∙◌, ap, sym, subst, ℕ, ◌<◌, ◌≤◌, ◌^◌, List, [], ◌++◌, length, Bool, true, false, Option, None, Some, refl, inl, inr, ◌⊎◌}
+use Rattle.std.specs.Prelude.{if◌then◌else◌, ◌&&◌}
 use Rattle.std.specs.Io.KnownBytes.{append_known}
 use Rattle.std.proofs.lemmas.List.{append_cancel_right}
 use Rattle.dcm_base.specs.Lines.Build as build
@@ -8,22 +9,26 @@ use Rattle.dcm_devices.specs.Device.{AppendsFront}
 use Rattle.dcm_base.specs.Tree.Front.{Front}
 use Rattle.dcm_base.specs.Reading.Stop.{Stop, complete, refused}
 use Rattle.dcm_base.specs.declared.dictionary.Dictionary.{Dictionary}
+use Rattle.dcm_base.specs.declared.mode.Mode.{Mode}
+use Rattle.dcm_base.specs.declared.syntax.Syntax.{Syntax}
+use Rattle.dcm_deid.specs.declared.fate.Options.{Options}
 use Rattle.dcm_edits.specs.Edit.{Edit}
-use Rattle.dcm_words.specs.Words.{Job, dump, convert, build as building, modify}
+use Rattle.dcm_words.specs.Words.{Job, dump, convert, build as building, modify, deidentify}
 use Rattle.dcm_words.specs.declared.job.Job.{Job as RunJob}
-use Rattle.dcm_words.specs.declared.job.Job.TheVariants.{Dump, Convert, Build, Modify}
+use Rattle.dcm_words.specs.declared.job.Job.TheVariants.{Dump, Convert, Build, Modify, Deidentify}
 use Rattle.dcm_cli.specs.declared.ending.Ending.{Ending}
 use Rattle.dcm_cli.specs.declared.ending.Ending.TheVariants as endings
 use Rattle.dcm_cli.specs.declared.ending.Ending.TheVariants.{Unread, Output}
 use Rattle.dcm_cli.specs.declared.ending.Verdict.{Verdict}
 use Rattle.dcm_cli.specs.declared.ending.Verdict.TheVariants.{Done, RefusedLine}
-use Rattle.dcm_cli.specs.Answer.{Answer, Answers, Sure, Source, unopened, file, alone, ReadAnswers, answer, building_line, output_of, edits_of, stop_line, stop_status}
+use Rattle.dcm_cli.specs.Answer.{Answer, Answers, Sure, Source, unopened, file, alone, ReadAnswers, answer, building_line, output_of, done_lines, unplaced_lines, status_of_lines, shows_identity, stop_line, stop_status}
 use Rattle.dcm_cli.specs.Pass.{TellsUnread, TellsOutput}
 use Rattle.dcm_cli.specs.InputCalls.{How, Allows}
-use Rattle.dcm_cli.specs.Run.{AnsweredAll, AnswersAll, IsDecided, IsMeant, Answered, ReadEnds, BuildEnds, Worked, answered, could_not_read, could_not_write, FlushedAs, verdict_at, verdict_of_source, verdict_of_line_stop, unplaced_mask, verdict_lines, verdict_status, ending_lines, ending_status, Ran, as_answered, not_read, not_written, not_flushed}
+use Rattle.dcm_cli.specs.Run.{AnsweredAll, AnswersAll, IsDecided, IsMeant, Answered, ReadEnds, BuildEnds, Worked, answered, could_not_read, could_not_write, FlushedAs, done_verdict, verdict_at, verdict_of_source, verdict_of_line_stop, unplaced_mask, verdict_lines, verdict_status, ending_lines, ending_status, Ran, as_answered, not_read, not_written, not_flushed}
 use Rattle.dcm_cli.specs.Change.{Change}
-use Rattle.dcm_cli.specs.ErrorLines.{Reports}
+use Rattle.dcm_cli.specs.ErrorLines.{Reports, pixels_line}
 use Rattle.dcm_words.specs.Plans.{job_of}
+use Rattle.dcm_cli.proofs.Passes.Files.{pixels_verdict}
 use Rattle.dcm_cli.proofs.Passes.MakesEdits.{are_few}
 use Rattle.dcm_cli.proofs.Passes.Readers.{allows_nothing}
 use Rattle.dcm_cli.proofs.Runs.OneAnswer.{one_answer}
@@ -35,10 +40,14 @@ output_is job (unopened fault offset) = refl
 output_is job (file meta coding set stop) = refl
 output_is job (alone syntax set stop) = refl
 
--- where the mask of its edits is one of 64 bits
-module _ (job : Job) (short : (set : Front) → unplaced_mask (edits_of job) set < 2 ^ 64) where
+-- what is reported of a job, and the status, are those of its answer, where all was done
+record IsTold (job : Job) : Type 0 where
+  lines : (set : Front) → verdict_lines (done_verdict job set) ≡ done_lines job set
+  status : (set : Front) → verdict_status (done_verdict job set) ≡ status_of_lines (done_lines job set)
+
+module _ (job : Job) (told : IsTold job) where
   lines_at : (set : Front) (stop : Stop) → verdict_lines (verdict_at job set stop) ≡ stop_line job set stop
-  lines_at set complete = lines_of_mask 64 1 (edits_of job) set (short set)
+  lines_at set complete = told.lines set
   lines_at set (refused fault offset) = refl
 
   lines_are : (source : Source) → verdict_lines (verdict_of_source job source) ≡ (answer job source).lines
@@ -47,13 +56,47 @@ module _ (job : Job) (short : (set : Front) → unplaced_mask (edits_of job) set
   lines_are (alone syntax set stop) = lines_at set stop
 
   status_at : (set : Front) (stop : Stop) → verdict_status (verdict_at job set stop) ≡ stop_status job set stop
-  status_at set complete = status_of_mask 1 (edits_of job) set
+  status_at set complete = told.status set
   status_at set (refused fault offset) = refl
 
   status_is : (source : Source) → verdict_status (verdict_of_source job source) ≡ (answer job source).status
   status_is (unopened fault offset) = refl
   status_is (file meta coding set stop) = status_at set stop
   status_is (alone syntax set stop) = status_at set stop
+
+-- edits of which the mask is one of 64 bits
+module _ (edits : List Edit) (short : (set : Front) → unplaced_mask edits set < 2 ^ 64) where
+  edits_lines : (set : Front) → verdict_lines (Done (unplaced_mask edits set)) ≡ unplaced_lines 1 edits set
+  edits_lines set = lines_of_mask 64 1 edits set (short set)
+
+  edits_status : (set : Front) → verdict_status (Done (unplaced_mask edits set)) ≡ status_of_lines (unplaced_lines 1 edits set)
+  edits_status set = status_of_mask 1 edits set
+
+-- whether pixels may show identity
+pixels_lines : (shows : Bool) → verdict_lines (pixels_verdict shows) ≡ (if shows then pixels_line else [])
+pixels_lines true = refl
+pixels_lines false = no_lines 64 1
+
+pixels_status : (shows : Bool) → verdict_status (pixels_verdict shows) ≡ status_of_lines (if shows then pixels_line else [])
+pixels_status true = refl
+pixels_status false = refl
+
+dump_told : (d : Dictionary) (mode : Mode) (bare : Option Syntax) → IsTold (dump d mode bare)
+dump_told d mode bare = record { lines = edits_lines [] few_without; status = edits_status [] few_without }
+
+convert_told : (d : Dictionary) (target : Option Syntax) → IsTold (convert d target)
+convert_told d target = record { lines = edits_lines [] few_without; status = edits_status [] few_without }
+
+modify_told : (d : Dictionary) (edits : List Edit) → length edits ≤ 64 → IsTold (modify d edits)
+modify_told d edits few =
+    let short : (set : Front) → unplaced_mask edits set < 2 ^ 64 = λ set. few_edits 64 edits set few in
+    record { lines = edits_lines edits short; status = edits_status edits short }
+
+deidentify_told : (options : Options) (reports : Bool) (key : List ℕ) → IsTold (deidentify options reports key)
+deidentify_told options reports key = record {
+  lines = λ set. pixels_lines (reports && shows_identity options key set);
+  status = λ set. pixels_status (reports && shows_identity options key set);
+}
 
 -- ---- the answer of an input
 
@@ -65,13 +108,13 @@ record Given (job : Job) (input out : List ℕ) (verdict : Verdict) : Type 0 whe
   status_is : verdict_status verdict ≡ a.status
 
 -- a data set that was read
-reads_given : (job : Job) (input out : List ℕ) (verdict : Verdict) → ((set : Front) → unplaced_mask (edits_of job) set < 2 ^ 64) → ((a : Answer) → ReadAnswers job input a → Answers job input a) → ReadEnds job input out verdict → Given job input out verdict
-reads_given job input out verdict short answers h = record {
+reads_given : (job : Job) (input out : List ℕ) (verdict : Verdict) → IsTold job → ((a : Answer) → ReadAnswers job input a → Answers job input a) → ReadEnds job input out verdict → Given job input out verdict
+reads_given job input out verdict told answers h = record {
   a = answer job h.source;
   answers = answers (answer job h.source) (record { source = h.source; reads = h.reads; answer_is = refl });
   output_is = h.out_is ∙ output_is job h.source;
-  lines_are = ap verdict_lines h.verdict_is ∙ lines_are job short h.source;
-  status_is = ap verdict_status h.verdict_is ∙ status_is job short h.source;
+  lines_are = ap verdict_lines h.verdict_is ∙ lines_are job told h.source;
+  status_is = ap verdict_status h.verdict_is ∙ status_is job told h.source;
 }
 
 -- lines that were built
@@ -105,15 +148,13 @@ module _ (limit : ℕ) (input out : List ℕ) (verdict : Verdict) (h : BuildEnds
   built_given : Given (building limit) input out verdict
   built_given = by_told (build.built limit input).told refl
 
--- a file that was edited
-edits_given : (d : Dictionary) (edits : List Edit) (input out : List ℕ) (verdict : Verdict) → length edits ≤ 64 → ReadEnds (modify d edits) input out verdict → Given (modify d edits) input out verdict
-edits_given d edits input out verdict few h = reads_given (modify d edits) input out verdict (λ set. few_edits 64 edits set few) (λ a reads. reads) h
-
 given : {A : Type 0} (job : RunJob A) → IsMeant (job_of job) → (input out : List ℕ) (verdict : Verdict) → Answered (job_of job) input out verdict → Given (job_of job) input out verdict
-given (Dump d) meant input out verdict h = reads_given (dump d.dictionary d.mode d.bare) input out verdict few_without (λ a reads. reads) h
-given (Convert c) meant input out verdict h = reads_given (convert c.dictionary c.target) input out verdict few_without (λ a reads. reads) h
+given (Dump d) meant input out verdict h = reads_given (dump d.dictionary d.mode d.bare) input out verdict (dump_told d.dictionary d.mode d.bare) (λ a reads. reads) h
+given (Convert c) meant input out verdict h = reads_given (convert c.dictionary c.target) input out verdict (convert_told c.dictionary c.target) (λ a reads. reads) h
 given (Build b) meant input out verdict h = built_given b.limit input out verdict h
-given (Modify m) meant input out verdict h = edits_given m.dictionary m.edits input out verdict (are_few m.dictionary m.edits meant) h
+given (Modify m) meant input out verdict h = reads_given (modify m.dictionary m.edits) input out verdict (modify_told m.dictionary m.edits (are_few m.dictionary m.edits meant)) (λ a reads. reads) h
+given (Deidentify d) meant input out verdict h =
+    reads_given (deidentify d.options d.reports d.key.items) input out verdict (deidentify_told d.options d.reports d.key.items) (λ a reads. reads) h
 
 -- what was read, where the rest is known
 one_front : (before p rest left : List ℕ) → before ++ rest ≡ p ++ left → Some rest ≡ Some left → p ≡ before

@@ -24,7 +24,7 @@ use Rattle.dcm_cli.specs.declared.head.Beginning.{Beginning}
 use Rattle.dcm_cli.specs.declared.rewrite.Opened.{Opened as OpenedFile}
 use Rattle.dcm_cli.specs.Answer.{Sure, job_dictionary, refuses_change, uid_of_syntax}
 use Rattle.dcm_cli.specs.InputCalls.{Reader, How, in_part, with_failure, how_of, Allows, InputCalls, no_call, last_call, ReadsInput, IsUndecided}
-use Rattle.dcm_cli.specs.Opening.{OpenedAs}
+use Rattle.dcm_cli.specs.Opening.{HeadChange, OpenedAs}
 use Rattle.dcm_cli.specs.Pass.{Begins, HeadGoesOn, head_read, set_bytes, unread}
 use Rattle.dcm_cli.specs.Run.{Worked, answered, could_not_read, could_not_write, verdict_of_stop}
 use Rattle.dcm_cli.proofs.Passes.Alone.{alone_worked}
@@ -107,10 +107,10 @@ module _ (job : Job) (is_file : reads_file job ≡ true) (read more : List ℕ) 
       (λ over. absurd (let no : false ≡ true = sym started ∙ over in cc)) (unread going refl refl))
 
 -- of a file that is written again
-pub opened_undecided : (target : Option Syntax) (job : Job) → reads_file job ≡ true → (maker : (coding : Coding) → FileMaker job coding) (read more : List ℕ) (how : How) → Allows how (more ++ []) → (held holds : Option (List ℕ)) (buffer : List ℕ) (x : OpenedFile)
-    → (h : OpenedAs (job_dictionary job) target read how held holds buffer x) → refuses_change job x.coding ≡ false → x.beginning.is_over ≡ false
+pub opened_undecided : (target : Option Syntax) (change : HeadChange) (job : Job) → reads_file job ≡ true → (maker : (coding : Coding) → FileMaker job coding) (read more : List ℕ) (how : How) → Allows how (more ++ []) → (held holds : Option (List ℕ)) (buffer : List ℕ) (x : OpenedFile)
+    → (h : OpenedAs (job_dictionary job) target change read how held holds buffer x) → refuses_change job x.coding ≡ false → x.beginning.is_over ≡ false
     → (fold (steps (maker x.coding).maker.bars (maker x.coding).maker.step) (start_of x.coding.syntax x.start, (maker x.coding).maker.first) (set_bytes x.beginning buffer ++ more)).0.halt ≡ None → IsUndecided job (read ++ more)
-opened_undecided target job is_file maker read more how ok held holds buffer x h kept started going =
+opened_undecided target change job is_file maker read more how ok held holds buffer x h kept started going =
     let o = head_opened (job_dictionary job) read (more ++ []) how ok buffer h.reading x.beginning x.coding x.start h.head in
     let k = (maker x.coding).maker in
     set_undecided job is_file read more h.reading o kept (maker x.coding) how x.beginning buffer h.head.begins started

@@ -1,5 +1,5 @@
 -- What is sure of a beginning stands at the front of the output.
-use Rattle.std.proofs.Common.{◌≡◌, ◌∙◌, ap, sym, subst, ℕ, ◌+◌, ◌≤◌, ◌<◌, List, [], ◌++◌, append_assoc, length, drop, Option, None, Some, refl, arith, true, false, inl, inr}
+use Rattle.std.proofs.Common.{◌≡◌, ◌∙◌, ap, sym, subst, ℕ, ◌+◌, ◌≤◌, ◌<◌, List, [], ◌++◌, append_assoc, length, drop, Bool, Option, None, Some, refl, arith, true, false, inl, inr}
 use Rattle.std.specs.Prelude.{◌⊎◌, nat_eq}
 use Rattle.std.proofs.lemmas.List.{append-nil, drop-append-le}
 use Rattle.std.proofs.lemmas.Bool.Decides.{nat_tests}
@@ -15,7 +15,8 @@ use Rattle.dcm_base.specs.Reading.Reads.{INPUT_LIMIT, Reads, ended}
 use Rattle.dcm_base.specs.Reading.Stop.{Bar, Stop, refused, is_undecided}
 use Rattle.dcm_edits.specs.Edit.{Edit}
 use Rattle.dcm_edits.specs.Meaning.{AreMeant}
-use Rattle.dcm_words.specs.Words.{Job, dump, convert, build as building, modify}
+use Rattle.dcm_deid.specs.declared.fate.Options.{Options}
+use Rattle.dcm_words.specs.Words.{Job, dump, convert, build as building, modify, deidentify}
 use Rattle.dcm_base.proofs.DataSets.OneAnswer.{reads_once}
 use Rattle.dcm_base.specs.Tables.Syntax.{read_by, coding_by}
 use Rattle.dcm_base.specs.declared.dictionary.Dictionary.{Dictionary}
@@ -27,7 +28,7 @@ use Rattle.dcm_head.proofs.HeadReading.Answers.{told}
 use Rattle.dcm_head.proofs.MetaGroups.OneMeta.{one_meta}
 use Rattle.dcm_stream.specs.Reading.{finish}
 use Rattle.dcm_words.specs.declared.job.Job.{Job as RunJob}
-use Rattle.dcm_words.specs.declared.job.Job.TheVariants.{Dump, Convert, Build, Modify}
+use Rattle.dcm_words.specs.declared.job.Job.TheVariants.{Dump, Convert, Build, Modify, Deidentify}
 use Rattle.dcm_words.specs.Plans.{job_of}
 use Rattle.dcm_cli.specs.Answer.{job_dictionary, Answer, Answers, Sure, ReadAnswers, Source, answer, going_on, job_bar, refuses_change, file_output, uid_of_syntax, AloneReads, AloneSure, FileReads, FileSure, not_opened, not_changed, opened as was_opened, before_set, within_set}
 use Rattle.dcm_cli.specs.Pass.{head_read}
@@ -38,6 +39,7 @@ use Rattle.dcm_cli.proofs.Passes.MetaHeads.{opened, same_head, ended_stays, fini
 use Rattle.dcm_cli.proofs.Runs.LinesGrow.{sure_lines_grow, answer_output}
 use Rattle.dcm_cli.proofs.Passes.Files.{FileMaker, file_dumper, file_encoder}
 use Rattle.dcm_cli.proofs.Passes.MakesEdits.{file_editor}
+use Rattle.dcm_cli.proofs.Passes.MakesDeidentified.{file_deidentifier}
 
 -- ---- a data set
 
@@ -167,8 +169,13 @@ build_grows limit p later out a sure x =
 modify_grows : (d : Dictionary) (edits : List Edit) → AreMeant edits → (p later out : List ℕ) (a : Answer) → Sure (modify d edits) p out → Answers (modify d edits) (p ++ later) a → (rest : List ℕ) × (a.output ≡ out ++ rest)
 modify_grows d edits meant p later out a sure x = file_grows (modify d edits) (file_editor d edits meant) p later out a x.source sure x.answer_is x.reads
 
+-- a file without identity
+deidentify_grows : (options : Options) (reports : Bool) (key : List ℕ) (p later out : List ℕ) (a : Answer) → Sure (deidentify options reports key) p out → Answers (deidentify options reports key) (p ++ later) a → (rest : List ℕ) × (a.output ≡ out ++ rest)
+deidentify_grows options reports key p later out a sure x = file_grows (deidentify options reports key) (file_deidentifier options key reports) p later out a x.source sure x.answer_is x.reads
+
 pub sure_grows : {A : Type 0} (job : RunJob A) (p later out : List ℕ) (a : Answer) → IsMeant (job_of job) → Sure (job_of job) p out → Answers (job_of job) (p ++ later) a → (rest : List ℕ) × (a.output ≡ out ++ rest)
 sure_grows (Dump d) p later out a meant sure x = dump_grows d.dictionary d.mode d.bare p later out a sure x
 sure_grows (Convert c) p later out a meant sure x = file_grows (convert c.dictionary c.target) (file_encoder c.dictionary c.target) p later out a x.source sure x.answer_is x.reads
 sure_grows (Build b) p later out a meant sure x = build_grows b.limit p later out a sure x
 sure_grows (Modify m) p later out a meant sure x = modify_grows m.dictionary m.edits meant p later out a sure x
+sure_grows (Deidentify d) p later out a meant sure x = deidentify_grows d.options d.reports d.key.items p later out a sure x

@@ -5,7 +5,7 @@ use Rattle.dcm_base.specs.declared.syntax.Syntax.{Syntax}
 use Rattle.dcm_base.specs.Tree.Front.{Front, front, nothing_open, open_leaf, open_sequence, open_fragments}
 use Rattle.dcm_base.specs.Lines.Ascending.{FrontAscends}
 use Rattle.dcm_base.specs.Bytes.Spelling.{SpellsFront}
-use Rattle.dcm_base.specs.Reading.Stop.{Stop, complete, refused}
+use Rattle.dcm_base.specs.Reading.Stop.{Bar, HeadBar, Stop, complete, refused}
 use Rattle.dcm_base.specs.Reading.Reads.{INPUT_LIMIT, Reads, ended}
 use Rattle.dcm_base.specs.Reading.Bars.{ascending_bar}
 use Rattle.dcm_base.specs.Conversion.Recode.{recode}
@@ -14,7 +14,6 @@ use Rattle.dcm_base.specs.Steps.Atoms.{Atom, ends, front_atoms, is_closed, Shows
 use Rattle.dcm_base.proofs.DataSets.Shown.{trees_shown, front_shown}
 use Rattle.dcm_stream.specs.Ascending.{ascending}
 use Rattle.dcm_stream.specs.Reading.{end_shows}
-use Rattle.dcm_stream.proofs.Steps.Ascending.{ascending_bars}
 use Rattle.dcm_sinks.specs.EncodeSink.{encode_start, encode_step, encode_writes}
 use Rattle.dcm_sinks.specs.Laws.{StaysShallow}
 use Rattle.dcm_sinks.proofs.Conversions.DataSets.{encode_steps}
@@ -28,7 +27,8 @@ use Rattle.dcm_editor.proofs.EditSinks.Law.{edit_steps}
 use Rattle.dcm_editor.proofs.ReadBack.RecodeAnew.{recode_anew}
 use Rattle.dcm_edits.proofs.Trees.Depths.{edited_shallow}
 use Rattle.dcm_editor.proofs.Trees.DepthAtoms.{front_shallow, front_stays, anew_shallow}
-use Rattle.dcm_editor.proofs.ReadBack.ReadsAscend.{late, longer, ReadAtoms, read_atoms, reads_ascend, reads_ascend_so_far}
+use Rattle.dcm_editor.proofs.ReadBack.Rises.{KeepsOrder, in_order}
+use Rattle.dcm_editor.proofs.ReadBack.ReadsAscend.{longer, ReadAtoms, read_atoms, ascends_by, ascends_so_far_by}
 
 -- ---- edited and written
 
@@ -50,32 +50,45 @@ ended_shows s complete (front whole (open_leaf tag vr size value) reached was) r
 ended_shows s complete (front whole (open_sequence tag vr declared items last) reached was) read atoms w e i = absurd (longer atoms (i ∙ sym e))
 ended_shows s complete (front whole (open_fragments tag vr values last) reached was) read atoms w e i = absurd (longer atoms (i ∙ sym e))
 
-shows_whole : (s : Syntax) (start : ℕ) (bytes : List ℕ) (f : Front) (stop : Stop) → start ≤ INPUT_LIMIT → Reads ascending_bar s start bytes f stop → Shows f (front_atoms s f)
-shows_whole s start bytes f stop le reads =
-    let r : ReadAtoms s start bytes f stop = read_atoms s start bytes f stop le reads in
-    subst (λ (x : Front). Shows x (front_atoms s x)) (sym r.is) (ended_shows s stop r.reached r.read _ r.spelled r.atoms_are r.ended_are)
-
 unclosed_same : (f : Front) → is_closed f ≡ false → unclosed f ≡ f
 unclosed_same (front whole o reached closed) c = ap (front whole o reached) (sym c)
 
-shows_so_far : (s : Syntax) (start : ℕ) (bytes : List ℕ) (f : Front) (stop : Stop) → start ≤ INPUT_LIMIT → is_closed f ≡ false → Reads ascending_bar s start bytes (ended stop f) stop → Shows f (front_atoms s f)
-shows_so_far s start bytes f stop le c reads =
-    let r : IsRead s f = far_read ascending ascending_bar ascending_bars late s start bytes le f stop c reads in
-    front_shown s f r.bytes (subst (λ (x : Front). SpellsFront s x r.bytes) (unclosed_same f c) r.spelled)
+-- what is read, whole or so far, is shown, ascends, and is no deeper than 64 sequences and fragment lists
+pub record Shown (s : Syntax) (f : Front) : Type 0 where
+  pub ascends : FrontAscends f
+  pub shallow : StaysShallow 0 (front_atoms s f)
+  pub shows : Shows f (front_atoms s f)
+
+module _ (bars : List Atom → HeadBar) (bar : Bar) (k : KeepsOrder bars bar) (s : Syntax) (start : ℕ) (bytes : List ℕ) (f : Front) (stop : Stop) (le : start ≤ INPUT_LIMIT) where
+  pub shown_whole : Reads bar s start bytes f stop → Shown s f
+  shown_whole reads =
+      let r : ReadAtoms bars bar k s start bytes f stop = read_atoms bars bar k s start bytes f stop le reads in
+      record {
+        ascends = ascends_by bars bar k s start bytes f stop le reads;
+        shallow = (whole_read bars bar k.same k.late s start bytes le f stop reads).shallow;
+        shows = subst (λ (x : Front). Shows x (front_atoms s x)) (sym r.is) (ended_shows s stop r.reached r.read _ r.spelled r.atoms_are r.ended_are);
+      }
+
+  pub shown_so_far : is_closed f ≡ false → Reads bar s start bytes (ended stop f) stop → Shown s f
+  shown_so_far c reads =
+      let r : IsRead s f = far_read bars bar k.same k.late s start bytes le f stop c reads in
+      record {
+        ascends = ascends_so_far_by bars bar k s start bytes f stop le c reads;
+        shallow = r.shallow;
+        shows = front_shown s f r.bytes (subst (λ (x : Front). SpellsFront s x r.bytes) (unclosed_same f c) r.spelled);
+      }
 
 -- ---- the law
 
 module _ (target : Syntax) (es : List Edit) (p : AreApart es) (b : ArePublic es) (v : HaveValues es) (x : HaveShortIndexes es) (w : AreWithin 64 es) (s : Syntax) (start : ℕ) (bytes : List ℕ) (f : Front) (stop : Stop) (le : start ≤ INPUT_LIMIT) where
-  edited_is : FrontAscends f → StaysShallow 0 (front_atoms s f) → Shows f (front_atoms s f)
+  edited_is : Shown s f
       → (outputs encode_step encode_writes (encode_start target) (outputs next passed (begun es) (front_atoms s f)) ≡ recode target (edited es f)) × ((fold next (begun es) (front_atoms s f)).found ≡ map (λ e. found e f) es)
-  edited_is a h shown = (edit_encodes target es f (front_atoms s f) p b v x w a h shown, (edit_steps es f (front_atoms s f) p b v x a h shown).1)
+  edited_is r = (edit_encodes target es f (front_atoms s f) p b v x w r.ascends r.shallow r.shows, (edit_steps es f (front_atoms s f) p b v x r.ascends r.shallow r.shows).1)
 
   pub edit_reads_whole : Reads ascending_bar s start bytes f stop
       → (outputs encode_step encode_writes (encode_start target) (outputs next passed (begun es) (front_atoms s f)) ≡ recode target (edited es f)) × ((fold next (begun es) (front_atoms s f)).found ≡ map (λ e. found e f) es)
-  edit_reads_whole reads =
-      edited_is (reads_ascend s start bytes f stop le reads) (whole_read ascending ascending_bar ascending_bars late s start bytes le f stop reads).shallow (shows_whole s start bytes f stop le reads)
+  edit_reads_whole reads = edited_is (shown_whole ascending ascending_bar in_order s start bytes f stop le reads)
 
   pub edit_reads_so_far : is_closed f ≡ false → Reads ascending_bar s start bytes (ended stop f) stop
       → (outputs encode_step encode_writes (encode_start target) (outputs next passed (begun es) (front_atoms s f)) ≡ recode target (edited es f)) × ((fold next (begun es) (front_atoms s f)).found ≡ map (λ e. found e f) es)
-  edit_reads_so_far c reads =
-      edited_is (reads_ascend_so_far s start bytes f stop le c reads) (far_read ascending ascending_bar ascending_bars late s start bytes le f stop c reads).shallow (shows_so_far s start bytes f stop le c reads)
+  edit_reads_so_far c reads = edited_is (shown_so_far ascending ascending_bar in_order s start bytes f stop le c reads)

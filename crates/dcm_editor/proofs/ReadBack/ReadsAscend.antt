@@ -1,34 +1,22 @@
--- What is read under the bar on tags that do not ascend, ascends.
-use Rattle.std.proofs.Common.{◌≡◌, ◌∙◌, ap, sym, refl, subst, ℕ, ◌≤◌, List, [], ◌∷◌, ◌++◌, length, None, Bool, true, false, arith}
-use Rattle.std.specs.Prelude.{cond, fold, Some}
+-- What is read under a bar on tags that do not ascend, ascends.
+use Rattle.std.proofs.Common.{◌≡◌, ◌∙◌, ap, sym, subst, ℕ, ◌≤◌, List, [], ◌∷◌, ◌++◌, length, None, true, false, arith}
 use Rattle.std.proofs.lemmas.List.{length-append}
-use Rattle.dcm_base.specs.Tables.Tag.{is_above}
-use Rattle.dcm_base.specs.declared.fault.Fault.TheVariants.{NotAscending}
 use Rattle.dcm_base.specs.declared.syntax.Syntax.{Syntax}
 use Rattle.dcm_base.specs.Tree.Front.{Front, front, nothing_open, open_leaf, open_sequence, open_fragments}
 use Rattle.dcm_base.specs.Lines.Ascending.{FrontAscends}
 use Rattle.dcm_base.specs.Bytes.Spelling.{SpellsFront}
-use Rattle.dcm_base.specs.Reading.Stop.{Stop, complete, refused, is_early_bar}
+use Rattle.dcm_base.specs.Reading.Stop.{Bar, HeadBar, Stop, complete, refused}
 use Rattle.dcm_base.specs.Reading.Reads.{INPUT_LIMIT, Reads, ended}
 use Rattle.dcm_base.specs.Reading.Bars.{ascending_bar}
 use Rattle.dcm_base.specs.Steps.Atoms.{Atom, ends, front_atoms, is_closed}
 use Rattle.dcm_base.proofs.DataSets.OneAnswer.{reads_once}
 use Rattle.dcm_base.proofs.DataSets.Shown.{front_shown}
-use Rattle.dcm_stream.specs.Ascending.{reached_after, innermost, ascending}
+use Rattle.dcm_stream.specs.Ascending.{ascending}
 use Rattle.dcm_stream.specs.Reading.{read_all, finish, end_shows}
-use Rattle.dcm_stream.proofs.Steps.Ascending.{ascending_bars}
 use Rattle.dcm_stream.proofs.Steps.Follows.{answers}
-use Rattle.dcm_stream.proofs.Heads.Stops.{NeverEarly}
 use Rattle.dcm_sinks.proofs.ReadBack.IsRead.{not_closed, far_atoms}
-use Rattle.dcm_editor.proofs.ReadBack.Rises.{machine_rises, Rises}
+use Rattle.dcm_editor.proofs.ReadBack.Rises.{KeepsOrder, Rises, in_order, machine_rises}
 use Rattle.dcm_editor.proofs.ReadBack.Ascends.{front_ascends}
-
-never : (b : Bool) → is_early_bar (cond b None (Some NotAscending)) ≡ false
-never true = refl
-never false = refl
-
-pub late : (atoms : List Atom) → NeverEarly (ascending atoms)
-late atoms = λ tag vr declared. never (is_above tag (innermost (fold reached_after (None ∷ []) atoms)))
 
 -- ---- an end without fault comes where nothing is open
 
@@ -52,36 +40,45 @@ before_end complete (front whole (open_fragments tag vr values last) reached was
 
 -- ---- the law
 
--- what was read before its end, and its atoms, without the end and with it
-pub record ReadAtoms (s : Syntax) (start : ℕ) (bytes : List ℕ) (f : Front) (stop : Stop) : Type 0 where
-  pub reached : Front
-  pub read : List ℕ
-  pub spelled : SpellsFront s reached read
-  pub is : f ≡ ended stop reached
-  pub atoms_are : (read_all ascending s start bytes).1 ≡ front_atoms s reached
-  pub ended_are : (read_all ascending s start bytes).1 ++ end_shows stop ≡ front_atoms s (ended stop reached)
+module _ (bars : List Atom → HeadBar) (bar : Bar) (k : KeepsOrder bars bar) (s : Syntax) (start : ℕ) (bytes : List ℕ) (f : Front) (stop : Stop) where
+  -- what was read before its end, and its atoms, without the end and with it
+  pub record ReadAtoms : Type 0 where
+    pub reached : Front
+    pub read : List ℕ
+    pub spelled : SpellsFront s reached read
+    pub is : f ≡ ended stop reached
+    pub atoms_are : (read_all bars s start bytes).1 ≡ front_atoms s reached
+    pub ended_are : (read_all bars s start bytes).1 ++ end_shows stop ≡ front_atoms s (ended stop reached)
 
-pub read_atoms : (s : Syntax) (start : ℕ) (bytes : List ℕ) (f : Front) (stop : Stop) → start ≤ INPUT_LIMIT → Reads ascending_bar s start bytes f stop → ReadAtoms s start bytes f stop
-read_atoms s start bytes f stop le (reached, why, first, said, is) =
-    let reads : Reads ascending_bar s start bytes f stop = (reached, why, first, said, is) in
-    let atoms : List Atom = (read_all ascending s start bytes).1 in
-    let a = answers ascending ascending_bar ascending_bars s start bytes le in
-    let one = reads_once ascending_bar s start bytes a.f f (finish (read_all ascending s start bytes).0) stop a.reads reads in
-    record {
-      reached = reached;
-      read = first.read;
-      spelled = first.spelled;
-      is = is;
-      atoms_are = far_atoms ascending ascending_bar ascending_bars late s start bytes le reached stop (not_closed s reached first.read first.spelled) (subst (λ (x : Front). Reads ascending_bar s start bytes x stop) is reads);
-      ended_are = ap (λ (x : Stop). atoms ++ end_shows x) (sym one.1) ∙ a.shown ∙ ap (front_atoms s) (one.0 ∙ is);
-    }
+  module _ (le : start ≤ INPUT_LIMIT) where
+    pub read_atoms : Reads bar s start bytes f stop → ReadAtoms
+    read_atoms (reached, why, first, said, is) =
+        let reads : Reads bar s start bytes f stop = (reached, why, first, said, is) in
+        let atoms : List Atom = (read_all bars s start bytes).1 in
+        let a = answers bars bar k.same s start bytes le in
+        let one = reads_once bar s start bytes a.f f (finish (read_all bars s start bytes).0) stop a.reads reads in
+        record {
+          reached = reached;
+          read = first.read;
+          spelled = first.spelled;
+          is = is;
+          atoms_are = far_atoms bars bar k.same k.late s start bytes le reached stop (not_closed s reached first.read first.spelled) (subst (λ (x : Front). Reads bar s start bytes x stop) is reads);
+          ended_are = ap (λ (x : Stop). atoms ++ end_shows x) (sym one.1) ∙ a.shown ∙ ap (front_atoms s) (one.0 ∙ is);
+        }
+
+    pub ascends_by : Reads bar s start bytes f stop → FrontAscends f
+    ascends_by reads =
+        let r : ReadAtoms = read_atoms reads in
+        subst FrontAscends (sym r.is)
+        (ended_ascends s stop r.reached (read_all bars s start bytes).1 r.atoms_are r.ended_are
+        (front_ascends r.reached (front_atoms s r.reached) [] (front_shown s r.reached r.read r.spelled) (subst (λ (x : List Atom). Rises (None ∷ []) x) r.atoms_are (machine_rises bars bar k s start bytes))))
+
+pub ascends_so_far_by : (bars : List Atom → HeadBar) (bar : Bar) → KeepsOrder bars bar → (s : Syntax) (start : ℕ) (bytes : List ℕ) (f : Front) (stop : Stop) → start ≤ INPUT_LIMIT → is_closed f ≡ false
+    → Reads bar s start bytes (ended stop f) stop → FrontAscends f
+ascends_so_far_by bars bar k s start bytes f stop le c reads = before_end stop f c (ascends_by bars bar k s start bytes (ended stop f) stop le reads)
 
 pub reads_ascend : (s : Syntax) (start : ℕ) (bytes : List ℕ) (f : Front) (stop : Stop) → start ≤ INPUT_LIMIT → Reads ascending_bar s start bytes f stop → FrontAscends f
-reads_ascend s start bytes f stop le reads =
-    let r : ReadAtoms s start bytes f stop = read_atoms s start bytes f stop le reads in
-    subst FrontAscends (sym r.is)
-    (ended_ascends s stop r.reached (read_all ascending s start bytes).1 r.atoms_are r.ended_are
-    (front_ascends r.reached (front_atoms s r.reached) [] (front_shown s r.reached r.read r.spelled) (subst (λ (x : List Atom). Rises (None ∷ []) x) r.atoms_are (machine_rises s start bytes))))
+reads_ascend = ascends_by ascending ascending_bar in_order
 
 pub reads_ascend_so_far : (s : Syntax) (start : ℕ) (bytes : List ℕ) (f : Front) (stop : Stop) → start ≤ INPUT_LIMIT → is_closed f ≡ false → Reads ascending_bar s start bytes (ended stop f) stop → FrontAscends f
-reads_ascend_so_far s start bytes f stop le c reads = before_end stop f c (reads_ascend s start bytes (ended stop f) stop le reads)
+reads_ascend_so_far = ascends_so_far_by ascending ascending_bar in_order

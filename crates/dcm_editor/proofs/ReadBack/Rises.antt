@@ -1,4 +1,4 @@
--- Each head that a machine shows under the bar on tags that do not ascend is above the last one of its data set.
+-- Each head that a machine shows under a bar on tags that do not ascend is above the last one of its data set.
 use Rattle.std.proofs.Common.{◌≡◌, refl, ℕ, zero, suc, ◌+◌, List, [], ◌∷◌, ◌++◌, length, Option, Some, None, Bool, true, false, cond, drop}
 use Rattle.std.specs.Prelude.{fold, nat_lt, ◌==◌}
 use Rattle.dcm_base.specs.declared.tag.Tag.{Tag}
@@ -16,10 +16,14 @@ use Rattle.dcm_base.specs.Tables.Number.{number}
 use Rattle.dcm_base.specs.Tables.Tag.{is_above, is_item}
 use Rattle.dcm_base.specs.Bytes.Head.{tag_at, vr_at, length_at, long_length}
 use Rattle.dcm_base.specs.Bytes.Spelling.{form, read_as}
-use Rattle.dcm_base.specs.Reading.Stop.{Stop, HeadBar, innermost_stop, is_undecided}
+use Rattle.dcm_base.specs.Reading.Stop.{Stop, Bar, HeadBar, innermost_stop, is_early_bar, is_undecided}
+use Rattle.dcm_base.specs.Reading.Bars.{ascending_bar}
 use Rattle.dcm_base.specs.Reading.Reads.{INPUT_LIMIT}
 use Rattle.dcm_base.specs.Steps.Atoms.{Atom, opens, value_byte, closes_leaf, opens_item, closes_item, closes_sequence, opens_fragment, ends}
 use Rattle.dcm_stream.specs.Ascending.{reached_after, innermost, ascending}
+use Rattle.dcm_stream.specs.Follows.{BarsAs}
+use Rattle.dcm_stream.proofs.Heads.Stops.{NeverEarly}
+use Rattle.dcm_stream.proofs.Steps.Ascending.{ascending_bars}
 use Rattle.dcm_stream.specs.Reading.{Reading, start_of, Opened, closing, size_of, ends_at, closes, element_opens, item_opens, plain_opens, head_opens, full_closed, settled, head_read, byte_read, read_byte, reads_byte, read_all, without_value, value_left, sign_reads}
 use Rattle.dcm_sinks.proofs.ReadBack.Accepted.{Accepted, AllAccepted, byte_accepted}
 
@@ -76,24 +80,6 @@ none_rises st ends h = tt
 none_rise : (st : List (Option Tag)) (atoms : List Atom) → NoHeads atoms → Rises st atoms
 none_rise st [] h = tt
 none_rise st (a ∷ atoms) h = (none_rises st a h.0, none_rise (reached_after st a) atoms h.1)
-
-unbarred : (b : Bool) → cond {A = Option Fault} b None (Some NotAscending) ≡ None → b ≡ true
-unbarred true e = refl
-unbarred false e = absurd cc
-
-accepted_rises : (before : List Atom) (a : Atom) → Accepted (ascending before) a → RisesAt (fold reached_after (None ∷ []) before) a
-accepted_rises before (opens tag vr declared s) h = unbarred (is_above tag (innermost (fold reached_after (None ∷ []) before))) h.1
-accepted_rises before (value_byte b) h = tt
-accepted_rises before closes_leaf h = tt
-accepted_rises before (opens_item declared) h = tt
-accepted_rises before closes_item h = tt
-accepted_rises before closes_sequence h = tt
-accepted_rises before (opens_fragment size) h = tt
-accepted_rises before ends h = tt
-
-one_rises : (before atoms : List Atom) → AllAccepted (ascending before) atoms → OneHead atoms → Rises (fold reached_after (None ∷ []) before) atoms
-one_rises before [] h o = tt
-one_rises before (a ∷ atoms) h o = (accepted_rises before a h.0, none_rise _ atoms o)
 
 tail_of : (atoms : List Atom) → NoHeads atoms → OneHead atoms
 tail_of [] h = tt
@@ -174,18 +160,56 @@ byte_one bar r b None true zero = read_one r (r.head ++ b ∷ []) (innermost_sto
 
 -- ---- all bytes
 
-byte_rises : (before : List Atom) (r : Reading) (b : ℕ) → Rises (fold reached_after (None ∷ []) before) (read_byte (ascending before) r b).1
-unfolding read_byte
-byte_rises before r b =
-    one_rises before (read_byte (ascending before) r b).1
-    (byte_accepted (ascending before) r b r.halt (nat_lt (r.position + length r.head) INPUT_LIMIT) r.left)
-    (byte_one (ascending before) r b r.halt (nat_lt (r.position + length r.head) INPUT_LIMIT) r.left)
+-- a bar that a tag passes only above the last one of its data set, and that is no early end
+pub record KeepsOrder (bars : List Atom → HeadBar) (bar : Bar) : Type 0 where
+  pub same : BarsAs bars bar
+  pub late : (atoms : List Atom) → NeverEarly (bars atoms)
+  pub above : (atoms : List Atom) (tag : Tag) (vr : Vr) (declared : Length) → bars atoms tag vr declared ≡ None → is_above tag (innermost (fold reached_after (None ∷ []) atoms)) ≡ true
 
-all_rise : (bytes : List ℕ) (r : Reading) (atoms : List Atom) → Rises (None ∷ []) atoms → Rises (None ∷ []) (fold (reads_byte ascending) (r, atoms) bytes).1
-all_rise [] r atoms h = h
-all_rise (b ∷ bytes) r atoms h =
-    let q = read_byte (ascending atoms) r b in
-    all_rise bytes q.0 (atoms ++ q.1) (rises_both (None ∷ []) atoms q.1 h (byte_rises atoms r b))
+module _ (bars : List Atom → HeadBar) (bar : Bar) (k : KeepsOrder bars bar) where
+  accepted_rises : (before : List Atom) (a : Atom) → Accepted (bars before) a → RisesAt (fold reached_after (None ∷ []) before) a
+  accepted_rises before (opens tag vr declared s) h = k.above before tag vr declared h.1
+  accepted_rises before (value_byte b) h = tt
+  accepted_rises before closes_leaf h = tt
+  accepted_rises before (opens_item declared) h = tt
+  accepted_rises before closes_item h = tt
+  accepted_rises before closes_sequence h = tt
+  accepted_rises before (opens_fragment size) h = tt
+  accepted_rises before ends h = tt
 
-pub machine_rises : (s : Syntax) (start : ℕ) (bytes : List ℕ) → Rises (None ∷ []) (read_all ascending s start bytes).1
-machine_rises s start bytes = all_rise bytes (start_of s start) [] tt
+  one_rises : (before atoms : List Atom) → AllAccepted (bars before) atoms → OneHead atoms → Rises (fold reached_after (None ∷ []) before) atoms
+  one_rises before [] h o = tt
+  one_rises before (a ∷ atoms) h o = (accepted_rises before a h.0, none_rise _ atoms o)
+
+  byte_rises : (before : List Atom) (r : Reading) (b : ℕ) → Rises (fold reached_after (None ∷ []) before) (read_byte (bars before) r b).1
+  unfolding read_byte
+  byte_rises before r b =
+      one_rises before (read_byte (bars before) r b).1
+      (byte_accepted (bars before) r b r.halt (nat_lt (r.position + length r.head) INPUT_LIMIT) r.left)
+      (byte_one (bars before) r b r.halt (nat_lt (r.position + length r.head) INPUT_LIMIT) r.left)
+
+  all_rise : (bytes : List ℕ) (r : Reading) (atoms : List Atom) → Rises (None ∷ []) atoms → Rises (None ∷ []) (fold (reads_byte bars) (r, atoms) bytes).1
+  all_rise [] r atoms h = h
+  all_rise (b ∷ bytes) r atoms h =
+      let q = read_byte (bars atoms) r b in
+      all_rise bytes q.0 (atoms ++ q.1) (rises_both (None ∷ []) atoms q.1 h (byte_rises atoms r b))
+
+  pub machine_rises : (s : Syntax) (start : ℕ) (bytes : List ℕ) → Rises (None ∷ []) (read_all bars s start bytes).1
+  machine_rises s start bytes = all_rise bytes (start_of s start) [] tt
+
+-- ---- the bar on tags that do not ascend
+
+unbarred : (b : Bool) → cond {A = Option Fault} b None (Some NotAscending) ≡ None → b ≡ true
+unbarred true e = refl
+unbarred false e = absurd cc
+
+never : (b : Bool) → is_early_bar (cond b None (Some NotAscending)) ≡ false
+never true = refl
+never false = refl
+
+pub in_order : KeepsOrder ascending ascending_bar
+in_order = record {
+  same = ascending_bars;
+  late = λ atoms tag vr declared. never (is_above tag (innermost (fold reached_after (None ∷ []) atoms)));
+  above = λ atoms tag vr declared. unbarred (is_above tag (innermost (fold reached_after (None ∷ []) atoms)));
+}

@@ -77,7 +77,7 @@ fn said_of(rt: HostRuntime, line: &'static str) -> Result<Result<Said, Usage>, F
             syntax: None,
             mode: None,
         })),
-        Job::Build(_) => Err(Fail::new("another job")),
+        Job::Build(_) | Job::Deidentify(_) => Err(Fail::new("another job")),
     }
 }
 
@@ -175,6 +175,114 @@ fn plans_a_data_set_alone_by_a_dictionary(rt: HostRuntime) -> Result<(), Fail> {
             assert!(rt; matches!(said.syntax, Some(Syntax::Big(_))));
         }
         Err(_) => assert!(rt; false),
+    }
+    Ok(())
+}
+
+/// What the words of a line mean for the taking of identity: what more is kept, in the order of the options, whether it is
+/// reported that pixels may show identity, and whether the key is the file `key`.
+#[derive(Clone, Copy, Debug, PartialEq, Eq)]
+struct Taking {
+    kept: [bool; 5],
+    reports: bool,
+    has_key: bool,
+}
+
+/// What they mean without options.
+const TAKING: Taking = Taking {
+    kept: [false; 5],
+    reports: true,
+    has_key: false,
+};
+
+fn taking_of(rt: HostRuntime, line: &'static str) -> Result<Result<Taking, Usage>, Fail> {
+    let words = words_of(rt, line)?;
+    match plan(rt.alloc(), words.as_slice()) {
+        Ok(
+            Planned {
+                key,
+                job: Job::Deidentify(taking),
+                ..
+            },
+        ) => Ok(Ok(Taking {
+            kept: [
+                taking.options.uids,
+                taking.options.device,
+                taking.options.institution,
+                taking.options.patient,
+                taking.options.dates,
+            ],
+            reports: taking.reports,
+            has_key: key == Some(b"key".as_slice()),
+        })),
+        Ok(_) => Err(Fail::new("another job")),
+        Err(Usage::Memory) => Err(Fail::new("out of memory")),
+        Err(usage) => Ok(Err(usage)),
+    }
+}
+
+#[test]
+fn plans_taking_of_identity(rt: HostRuntime) -> Result<(), Fail> {
+    for (line, taking) in [
+        ("dcmdeid a b", TAKING),
+        (
+            "dcmdeid +ru a b",
+            Taking {
+                kept: [true, false, false, false, false],
+                ..TAKING
+            },
+        ),
+        (
+            "dcmdeid a +rd b +ri",
+            Taking {
+                kept: [false, true, true, false, false],
+                ..TAKING
+            },
+        ),
+        (
+            "dcmdeid +rl +bi +rp a b",
+            Taking {
+                kept: [false, false, false, true, true],
+                reports: false,
+                ..TAKING
+            },
+        ),
+        (
+            "dcmdeid +k b a +k key b",
+            Taking {
+                has_key: true,
+                ..TAKING
+            },
+        ),
+        ("dcmdeid +k a a b", TAKING),
+    ] {
+        let planned = taking_of(rt, line)?;
+        holds(&rt, line, planned == Ok(taking));
+    }
+    Ok(())
+}
+
+#[test]
+fn refuses_taking_of_identity(rt: HostRuntime) -> Result<(), Fail> {
+    for (line, usage) in [
+        (
+            "dcmdeid +dict a b",
+            Usage::AtWord(WordFault::UnknownOption, 2),
+        ),
+        (
+            "dcmdeid a b +k",
+            Usage::AtWord(WordFault::BadOptionValue, 4),
+        ),
+        (
+            "dcmdeid a +k - b",
+            Usage::AtWord(WordFault::BadOptionValue, 3),
+        ),
+        ("dcmdeid +k a b", Usage::Whole(WordFault::WrongPaths)),
+        ("dcmdeid a a", Usage::Whole(WordFault::SamePath)),
+        ("dcmdeid +k b a b", Usage::Whole(WordFault::SamePath)),
+    ] {
+        let planned = taking_of(rt, line)?;
+        holds(&rt, line, planned == Err(usage));
     }
     Ok(())
 }

@@ -1,6 +1,6 @@
 // The job of a row, and its files.
 use super::rows::{Row, bytes_of, front_of};
-use super::{joined, split};
+use super::{job_with_key, joined, split};
 use dcm_cli::{Job, plan};
 use std::process::Abort;
 use std::test::Fail;
@@ -16,7 +16,7 @@ pub struct Case {
 fn job_of(rt: HostRuntime, abort: &impl Abort, row: &Row) -> Result<Job, Fail> {
     let words = split(rt, row.words)?;
     match plan(rt.alloc(), words.as_slice()) {
-        Ok(planned) => Ok(planned.job),
+        Ok(planned) => Ok(job_with_key(planned)),
         Err(_) => panic!(abort; "{}", row.name),
     }
 }

@@ -27,6 +27,16 @@ dump2dcm +dict a b: V2 at word 2: unknown option
 dump2dcm a b -dict: V2 at word 4: unknown option
 dcmdump +dict: V4: wrong number of paths
 dcmconv a +dict a: V6: input and output are the same path
+dcmdeid +k - -: V3 at word 2: bad option value
+dcmdeid +rl +k - - -: V3 at word 3: bad option value
+dcmdeid +x +k - -: V2 at word 2: unknown option
+dcmdeid -dict - -: V2 at word 2: unknown option
+dcmdeid a - -: V4: wrong number of paths
+dcmdeid +k: V3 at word 2: bad option value
+dcmdeid a a: V6: input and output are the same path
+dcmdeid +k b a b: V6: input and output are the same path
+dcmdeid a: V4: wrong number of paths
+dcmdeid +k  - -: V3 at word 2: bad option value
 ";
 
 /// The same of edits.

@@ -4,6 +4,7 @@ mod conversions;
 mod devices;
 mod dictionaries;
 mod dumps;
+mod identities;
 mod modifications;
 
 use super::cases::{Case, case_of};

@@ -288,7 +288,7 @@ const ERASED: [Row; 8] = [
 ];
 
 /// Edits that find no place, and no edits.
-const UNPLACED: [Row; 6] = [
+const REMARK: [Row; 6] = [
     Row {
         name: "a deflated syntax",
         words: "dcmodify - -",
@@ -350,5 +350,5 @@ const UNPLACED: [Row; 6] = [
 
 /// All modifications.
 pub fn modifications() -> [&'static [Row]; 5] {
-    [&NEW, &MADE, &VALUES, &ERASED, &UNPLACED]
+    [&NEW, &MADE, &VALUES, &ERASED, &REMARK]
 }

@@ -21,6 +21,7 @@ use Rattle.dcm_cli.proofs.Passes.Decided.{decided_output, decided_by, unopened_d
 use Rattle.dcm_cli.proofs.Passes.Alone.{put_failed, put_whole}
 use Rattle.dcm_cli.proofs.Passes.Files.{file_unopened, file_unheaded, file_worked, concludes_same, file_opened, file_dumper}
 use Rattle.dcm_cli.proofs.Passes.Opens.{head_opened}
+use Rattle.dcm_cli.proofs.Passes.Sets.{dump_tells_nothing}
 use Rattle.dcm_cli.proofs.Passes.Readers.{members, allows_any, allows_nothing, nothing_follows, ends_empty, joined}
 use Rattle.dcm_cli.proofs.Runs.Stopping.{head_reads, head_undecided, began_gave, set_undecided}
 use Rattle.dcm_cli.proofs.dump.dump_file.Goals as goal
@@ -107,7 +108,7 @@ returns g c =
     (set.ends rest a.1 (λ over. ends_empty set.more rest (nothing_follows head.how (set.more ++ rest) a.0 (head.outcome.over over))))
     in
     let maker = file_dumper c.args.dictionary c.args.mode coding in
-    let same = concludes_same job refl file (Some rest) held r o refl maker refl last c.read_set.result in
+    let same = concludes_same job refl file (Some rest) held r o refl maker (dump_tells_nothing c.args.dictionary c.args.mode None) last c.read_set.result in
     let f = file_worked job refl file (Some rest) held r o refl maker (set.more ++ rest) rest head.how mid last holds b buffer head.read set.more c.read_set.result c.read_set.result same refl refl refl head.outcome mid_is c.read_set.ensures.over ends in
     subst (λ (bytes : List ℕ). Worked job bytes (Some rest) held holds c.read_set.result) (sym (append_assoc head.read set.more rest)) f
     in

@@ -8,6 +8,7 @@ use Rattle.dcm_sinks.specs.Encoder.{state as encoder_state}
 use Rattle.dcm_cli.specs.declared.ending.Ending.{Ending}
 use Rattle.dcm_cli.specs.EditPass.{not_found}
 use Rattle.dcm_cli.specs.InputCalls.{Allows, Reader, IsUndecided}
+use Rattle.dcm_cli.specs.Opening.{unchanged}
 use Rattle.dcm_cli.specs.Pass as spec
 use Rattle.dcm_cli.specs.Run.{Worked}
 use Rattle.dcm_cli.proofs.Passes.Decided.{decided_by, not_opened_decided, set_decided, still_not_done}
@@ -27,7 +28,7 @@ returns-in-Err g c =
       reads = head_reads (members g.R.Device g.R.DeviceIn) job refl _ _ x.read x.how x.reads;
       worked = λ rest ok.
           edits_not_opened c.args.dictionary c.args.edits.now c.requires.meant x.read rest x.how ok (g.W.DeviceOut.contents c.args.out.now) (g.W.DeviceOut.contents c.open_file.new.out) c.in-Err.ending x.opens;
-      decided = not_opened_decided None job refl (λ coding. refl) x.read x.how (g.W.DeviceOut.contents c.args.out.now) (g.W.DeviceOut.contents c.open_file.new.out) c.in-Err.ending x.opens;
+      decided = not_opened_decided None unchanged job refl (λ coding. refl) x.read x.how (g.W.DeviceOut.contents c.args.out.now) (g.W.DeviceOut.contents c.open_file.new.out) c.in-Err.ending x.opens;
       unread = search rules;
       failed = search rules;
     }
@@ -52,7 +53,7 @@ returns g c =
     in
     let Going : List ℕ → Type 0 = spec.SetGoesOn through_bar (through_step encode_step) opened.beginning.is_over (spec.set_bytes opened.beginning buffer) (start_of opened.coding.syntax opened.start) (begun c.args.edits.now, encode_start opened.coding.syntax) in
     let j = joined reader spec.HeadGoesOn Going (IsUndecided job) c.args.input.now c.open_file.new.input c.read_edited.new.input x.read set.more x.how set.how x.reads set.reads (head_undecided job refl)
-    (λ more is going. opened_undecided None job refl (file_editor c.args.dictionary c.args.edits.now c.requires.meant) x.read more x.how (allows_any x.how is (more ++ [])) held mid buffer opened x.opens refl going.0 going.1)
+    (λ more is going. opened_undecided None unchanged job refl (file_editor c.args.dictionary c.args.edits.now c.requires.meant) x.read more x.how (allows_any x.how is (more ++ [])) held mid buffer opened x.opens refl going.0 going.1)
     (λ more going. began_gave reader c.args.input.now c.open_file.new.input x.opens.reading opened.beginning buffer x.read x.how x.opens.head.begins x.reads going.0)
     in
     let worked : (rest : List ℕ) → Allows j.how rest → Worked job ((x.read ++ set.more) ++ rest) (Some rest) held holds c.read_edited.result = λ rest ok.

@@ -13,7 +13,7 @@ pub returns-in-Ok-clause-obeys : goal.returns-in-Ok-clause-obeys
 returns-in-Ok-clause-obeys g c =
     worked (plan_of c.in-Ok.planned) (sym c.asked.ensures ∙ none_of c.asked.result c.in_default.not-Some)
     (subst (λ r. GivesUnlessMemory r (meant (map (λ w. w.now) c.args.words.now))) c.in-Ok.is c.plan.ensures.meant)
-    c.work.ensures.works
+    c.work_on.ensures.works
 
 pub returns-in-Err-clause-obeys : goal.returns-in-Err-clause-obeys
 returns-in-Err-clause-obeys g c =

@@ -33,3 +33,10 @@ returns-in-Convert-clause-meant g c = subst (λ (job : Job Global). IsMeant (job
 
 pub returns-in-Build-clause-meant : goal.returns-in-Build-clause-meant
 returns-in-Build-clause-meant g c = subst (λ (job : Job Global). IsMeant (job_of job)) (sym c.in-Build.is) tt
+
+pub returns-in-Deidentify-clause-worked : goal.returns-in-Deidentify-clause-worked
+returns-in-Deidentify-clause-worked g c =
+    subst (λ (job : Job Global). Works (members g.R.Device g.R.DeviceIn) (writer g.W.Device g.W.DeviceOut) (job_of job) c.args.input.now c.deidentify.new.input c.args.out.now c.deidentify.new.out c.deidentify.result) (sym c.in-Deidentify.is) c.deidentify.ensures
+
+pub returns-in-Deidentify-clause-meant : goal.returns-in-Deidentify-clause-meant
+returns-in-Deidentify-clause-meant g c = subst (λ (job : Job Global). IsMeant (job_of job)) (sym c.in-Deidentify.is) tt

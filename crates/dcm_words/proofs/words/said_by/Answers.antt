@@ -1,10 +1,10 @@
-use Rattle.std.proofs.Common.{sym, subst, ap, refl, get_or, ℕ, List, []}
+use Rattle.std.proofs.Common.{sym, subst, ap, refl, ◌∙◌, get_or, ℕ, List, []}
 use Rattle.dcm_words.specs.Words.{and_path}
 use Rattle.dcm_words.specs.declared.words.Said.{Said}
 use Rattle.dcm_words.specs.Plans.{reader, PathsAre, said_with_paths}
-use Rattle.dcm_words.proofs.WordLemmas.{placed, turn, limit_turn}
+use Rattle.dcm_words.proofs.WordLemmas.{placed, turn, limit_turn, key_turn}
 use Rattle.dcm_words.proofs.words.said_by.Goals as goal
-use Rattle.dcm_words.proofs.words.said_by.Goals.{in-Read, in-Show, in-WholeFile, in-DataSet, in-Bare, in-Target, in-Limit+in_ok-said-in-Limit, in-Accepted, in-Path}
+use Rattle.dcm_words.proofs.words.said_by.Goals.{in-Read, in-Show, in-WholeFile, in-DataSet, in-Bare, in-Target, in-Limit+in_ok-said-in-Limit, in-Retain, in-PixelsDealt, in-Key+in_ok-key_after-in-Key, in-Accepted, in-Path}
 
 pub loop-i-preserved : goal.loop-i-preserved
 loop-i-preserved c =
@@ -40,6 +40,21 @@ loop-i-preserved c =
         read = read;
         paths = subst (λ (s : Said). PathsAre s.paths read) (sym w.said-is) c.loop-i.invariant.paths;
         the_rest = placed _ _ _ _ _ w.i-is (turn (reader c.args.tool) c.loop-i.i c.args.words.now _ _ _ _ c.loop-i-test.true w.in-Target.ensures refl (ap (λ (s : Said). said_with_paths s read) (sym w.said-is)) c.loop-i.invariant.the_rest);
+      }
+      | in-Retain w ↦ record {
+        read = read;
+        paths = subst (λ (s : Said). PathsAre s.paths read) (sym w.said-is) c.loop-i.invariant.paths;
+        the_rest = placed _ _ _ _ _ w.i-is (turn (reader c.args.tool) c.loop-i.i c.args.words.now _ (said_with_paths c.loop-i.said read) _ _ c.loop-i-test.true w.in-Retain.ensures refl (ap (λ o. said_with_paths (record c.loop-i.said { options = o }) read) (sym w.and_option-said.ensures) ∙ ap (λ (s : Said). said_with_paths s read) (sym w.said-is)) c.loop-i.invariant.the_rest);
+      }
+      | in-PixelsDealt w ↦ record {
+        read = read;
+        paths = subst (λ (s : Said). PathsAre s.paths read) (sym w.said-is) c.loop-i.invariant.paths;
+        the_rest = placed _ _ _ _ _ w.i-is (turn (reader c.args.tool) c.loop-i.i c.args.words.now _ _ _ _ c.loop-i-test.true w.in-PixelsDealt.ensures refl (ap (λ (s : Said). said_with_paths s read) (sym w.said-is)) c.loop-i.invariant.the_rest);
+      }
+      | in-Key+in_ok-key_after-in-Key w ↦ record {
+        read = read;
+        paths = subst (λ (s : Said). PathsAre s.paths read) (sym w.said-is) c.loop-i.invariant.paths;
+        the_rest = placed _ _ _ _ _ w.i-is (key_turn (reader c.args.tool) c.loop-i.i c.args.words.now _ _ _ _ c.loop-i-test.true w.in-Key.ensures w.in_ok-key_after-in-Key.ensures (ap (λ (s : Said). said_with_paths s read) (sym w.said-is)) c.loop-i.invariant.the_rest);
       }
       | in-Accepted w ↦ record {
         read = read;

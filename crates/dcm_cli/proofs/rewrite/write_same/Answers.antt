@@ -2,7 +2,7 @@ use Rattle.std.proofs.Common.{rules, ◌≡◌, ap, refl, ℕ, List, ◌++◌, t
 use Rattle.dcm_base.specs.File.MetaReads.{PREFIX}
 use Rattle.dcm_base.specs.Conversion.NewMeta.{new_meta}
 use Rattle.dcm_devices.proofs.Writes.PartsOut.{part_failed, parts_put}
-use Rattle.dcm_cli.proofs.rewrite.write_head.Goals as goal
+use Rattle.dcm_cli.proofs.rewrite.write_same.Goals as goal
 
 pub returns-in_err-put_parts : goal.returns-in_err-put_parts
 returns-in_err-put_parts g c =

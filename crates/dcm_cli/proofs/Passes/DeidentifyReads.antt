@@ -1,0 +1,72 @@
+-- What is read of an input, written without identity.
+use Rattle.std.proofs.Common.{◌≡◌, ◌∙◌, ap, sym, refl, subst, ℕ, ◌≤◌, List, ◌++◌, Option, Bool, true, false, arith}
+use Rattle.std.specs.Prelude.{fold}
+use Rattle.dcm_base.specs.declared.syntax.Syntax.{Syntax}
+use Rattle.dcm_base.specs.declared.tag.Tag.{Tag}
+use Rattle.dcm_base.specs.Conversion.Recode.{recode}
+use Rattle.dcm_base.specs.Reading.Bars.{identity_bar}
+use Rattle.dcm_base.specs.Reading.Reads.{INPUT_LIMIT, Reads, ended}
+use Rattle.dcm_base.specs.Reading.Stop.{complete}
+use Rattle.dcm_base.specs.Steps.Anew.{reached_anew}
+use Rattle.dcm_base.specs.Steps.Atoms.{Atom, Shows, front_atoms, is_closed}
+use Rattle.dcm_base.specs.Steps.Steps.{outputs}
+use Rattle.dcm_base.specs.Tree.Front.{Front, front, OpenTree, nothing_open, open_leaf, open_sequence, open_fragments}
+use Rattle.dcm_base.specs.Tree.Tree.{Trees}
+use Rattle.dcm_sinks.specs.EncodeSink.{encode_start, encode_step, encode_writes}
+use Rattle.dcm_sinks.specs.Laws.{StaysShallow}
+use Rattle.dcm_sinks.proofs.Conversions.DataSets.{encode_steps}
+use Rattle.dcm_editor.proofs.ReadBack.EditReads.{Shown, shown_whole}
+use Rattle.dcm_editor.proofs.ReadBack.RecodeAnew.{recode_anew}
+use Rattle.dcm_editor.proofs.Trees.DepthAtoms.{front_shallow, front_stays, anew_shallow}
+use Rattle.dcm_uid.specs.Uid.{replaced}
+use Rattle.dcm_deid.specs.declared.fate.Options.{Options}
+use Rattle.dcm_deid.specs.DeidentifySink.{State, begun, next, passed}
+use Rattle.dcm_deid.specs.Saying.{deidentified, read_whole}
+use Rattle.dcm_deid.proofs.Deidentified.{deidentify_steps}
+use Rattle.dcm_deid.proofs.PixelsTold.{pixel_steps}
+use Rattle.dcm_deid.proofs.Shallow.{deidentified_shallow}
+use Rattle.dcm_cli.specs.Answer.{shows_identity}
+use Rattle.dcm_cli.proofs.Passes.IdentityBar.{identity, identity_in_order}
+
+pub deidentify_encodes : (target : Syntax) (options : Options) (key : List ℕ) (s : Syntax) (f : Front) → Shown s f
+    → outputs encode_step encode_writes (encode_start target) (outputs next passed (begun options key) (front_atoms s f)) ≡ recode target (deidentified options (replaced key) f)
+deidentify_encodes target options key s f r =
+    let left : Front = deidentified options (replaced key) f in
+    let atoms : List Atom = outputs next passed (begun options key) (front_atoms s f) in
+    let shown : Shows (reached_anew left) atoms = deidentify_steps options key f (front_atoms s f) r.ascends r.shallow r.shows in
+    let shallow : StaysShallow 0 atoms =
+    front_stays (reached_anew left) 0 atoms shown (omega arith) (anew_shallow 0 left (deidentified_shallow options (replaced key) f (front_shallow f 0 (front_atoms s f) r.shows r.shallow))) in
+    encode_steps target (reached_anew left) atoms shallow shown ∙ recode_anew target left
+
+-- ---- whether pixels may show identity
+
+closed_at_end : (f : Front) → is_closed (ended complete f) ≡ true
+closed_at_end (front whole o reached closed) = refl
+
+-- where all was read, nothing is open
+pub record IsWhole (f : Front) : Type 0 where
+  pub reached : Option Tag
+  pub set : Trees
+  pub is : f ≡ read_whole reached set
+
+whole_by : (o : OpenTree) (whole : Trees) (reached : Option Tag) (closed : Bool) (atoms : List Atom) → closed ≡ true → Shows (front whole o reached closed) atoms → IsWhole (front whole o reached closed)
+unfolding Shows
+whole_by o whole reached true atoms e (others, shown, more, may, re) = record { reached = reached; set = whole; is = ap (λ (p : OpenTree). front whole p reached true) may }
+whole_by o whole reached false atoms e shown = absurd (let no : false ≡ true = e in cc)
+
+is_whole : (f : Front) (atoms : List Atom) → is_closed f ≡ true → Shows f atoms → IsWhole f
+is_whole (front whole o reached closed) atoms e shown = whole_by o whole reached closed atoms e shown
+
+pub read_is_whole : (s : Syntax) (start : ℕ) (bytes : List ℕ) (f : Front) → start ≤ INPUT_LIMIT → Reads identity_bar s start bytes f complete → IsWhole f
+read_is_whole s start bytes f le (reached, why, first, said, is) =
+    let r = shown_whole identity identity_bar identity_in_order s start bytes f complete le (reached, why, first, said, is) in
+    is_whole f (front_atoms s f) (ap is_closed is ∙ closed_at_end reached) r.shows
+
+pub pixels_known : (options : Options) (key : List ℕ) (s : Syntax) (start : ℕ) (bytes : List ℕ) (f : Front) → start ≤ INPUT_LIMIT → Reads identity_bar s start bytes f complete
+    → (fold next (begun options key) (front_atoms s f)).place.may_show ≡ shows_identity options key f
+pixels_known options key s start bytes f le reads =
+    let r = shown_whole identity identity_bar identity_in_order s start bytes f complete le reads in
+    let w = read_is_whole s start bytes f le reads in
+    let atoms : List Atom = front_atoms s f in
+    subst (λ (g : Front). (fold next (begun options key) atoms).place.may_show ≡ shows_identity options key g) (sym w.is)
+    (pixel_steps options key w.reached w.set atoms r.shallow (subst (λ (g : Front). Shows g atoms) w.is r.shows))

@@ -1,0 +1,71 @@
+-- What dcmdeid makes of a data set, by the sink that takes identity out before the encode sink.
+use Rattle.std.proofs.Common.{◌≡◌, ◌∙◌, ap, ℕ, ◌≤◌, List, ◌++◌, Bool, Some, None, refl}
+use Rattle.dcm_base.specs.declared.syntax.Coding.{Coding}
+use Rattle.dcm_base.specs.declared.syntax.Syntax.{Syntax}
+use Rattle.dcm_base.specs.declared.tag.Tag.{Tag}
+use Rattle.dcm_base.specs.declared.vr.Vr.{Vr}
+use Rattle.dcm_base.specs.declared.length.Length.{Length}
+use Rattle.dcm_base.specs.Conversion.NewMeta.{new_meta, renewed}
+use Rattle.dcm_base.specs.Conversion.Recode.{recode}
+use Rattle.dcm_base.specs.File.MetaReads.{PREFIX}
+use Rattle.dcm_base.specs.Reading.Bars.{identity_bar}
+use Rattle.dcm_base.specs.Reading.Reads.{INPUT_LIMIT, Reads}
+use Rattle.dcm_base.specs.Reading.Stop.{complete}
+use Rattle.dcm_base.specs.Steps.Atoms.{Atom, front_atoms}
+use Rattle.dcm_base.specs.Tree.Front.{Front}
+use Rattle.dcm_stream.specs.Judging.{bars_head}
+use Rattle.dcm_sinks.specs.EncodeSink.{EncodeState, encode_start, encode_step, encode_writes}
+use Rattle.dcm_editor.proofs.EditSinks.DrivesEdits.{BarsShallowAs}
+use Rattle.dcm_editor.proofs.ReadBack.EditReads.{shown_whole, shown_so_far}
+use Rattle.dcm_uid.specs.Uid.{replaced}
+use Rattle.dcm_deid.specs.declared.fate.Options.{Options}
+use Rattle.dcm_deid.specs.DeidentifySink.{State as DeidentifyState, begun}
+use Rattle.dcm_deid.specs.Meta.{meta_renewing, no_preamble}
+use Rattle.dcm_deid.specs.Saying.{deidentified}
+use Rattle.dcm_deid.specs.Through.{through_bar, through_step, through_writes}
+use Rattle.dcm_deid.proofs.Bars.{bar_steps}
+use Rattle.dcm_deid.proofs.Through.{through_fold, through_outputs}
+use Rattle.dcm_words.specs.Words.{deidentify}
+use Rattle.dcm_cli.specs.Answer.{shows_identity}
+use Rattle.dcm_cli.proofs.Passes.DeidentifyReads.{deidentify_encodes, pixels_known}
+use Rattle.dcm_cli.proofs.Passes.Files.{FileMaker}
+use Rattle.dcm_cli.proofs.Passes.IdentityBar.{identity, identity_in_order}
+use Rattle.dcm_cli.proofs.Passes.Makers.{Maker, drives_as}
+use Rattle.dcm_cli.proofs.Passes.Sets.{Last}
+
+module _ (options : Options) (key : List ℕ) where
+  -- the sink bars for both
+  pub through_shallow : (target : Syntax) → BarsShallowAs identity_bar through_bar (through_step encode_step) (begun options key, encode_start target)
+  through_shallow target = λ f atoms tag vr declared h shown.
+      ap (λ (p : DeidentifyState × EncodeState). bars_head through_bar p tag vr declared) (through_fold encode_step encode_writes (begun options key) (encode_start target) atoms)
+      ∙ bar_steps options key f atoms tag vr declared h shown
+
+  -- the data set without identity in a syntax
+  abbrev pub deidentifier : (target : Syntax) → Maker identity_bar (λ f. recode target (deidentified options (replaced key) f))
+  deidentifier target = record {
+    State = DeidentifyState × EncodeState;
+    bars = through_bar;
+    step = through_step encode_step;
+    writes = through_writes encode_step encode_writes;
+    first = (begun options key, encode_start target);
+    drives = drives_as identity identity_bar identity_in_order through_bar (through_step encode_step) (through_writes encode_step encode_writes) (begun options key, encode_start target) (through_shallow target);
+    whole = λ s start bytes f stop le reads.
+        through_outputs encode_step encode_writes (begun options key) (encode_start target) (front_atoms s f) ∙ deidentify_encodes target options key s f (shown_whole identity identity_bar identity_in_order s start bytes f stop le reads);
+    so_far = λ s start bytes f stop le closed reads.
+        through_outputs encode_step encode_writes (begun options key) (encode_start target) (front_atoms s f) ∙ deidentify_encodes target options key s f (shown_so_far identity identity_bar identity_in_order s start bytes f stop le closed reads);
+  }
+
+  abbrev pub file_deidentifier : (reports : Bool) (coding : Coding) → FileMaker (deidentify options reports key) coding
+  file_deidentifier reports coding = record {
+    header = λ m. no_preamble ++ PREFIX ++ new_meta (renewed (meta_renewing options key) m.elements) m.uid;
+    text = λ f. recode coding.syntax (deidentified options (replaced key) f);
+    maker = deidentifier coding.syntax;
+    output_is = λ m f. refl;
+  }
+
+  -- whether pixels may show identity, after all of a data set
+  pub last_shows : (target s : Syntax) (start : ℕ) (le : start ≤ INPUT_LIMIT) (bytes : List ℕ) (f : Front) (t : DeidentifyState × EncodeState) → Reads identity_bar s start bytes f complete → Last (deidentifier target) s start le t f
+      → t.0.place.may_show ≡ shows_identity options key f
+  last_shows target s start le bytes f t reads last =
+      ap (λ (p : DeidentifyState × EncodeState). p.0.place.may_show) (last ∙ through_fold encode_step encode_writes (begun options key) (encode_start target) (front_atoms s f))
+      ∙ pixels_known options key s start bytes f le reads

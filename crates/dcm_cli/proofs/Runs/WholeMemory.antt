@@ -1,0 +1,526 @@
+-- Identity taken out of a file, over files in memory.
+use Rattle.std.proofs.Common.{◌≡◌, ◌≢◌, ◌∙◌, ap, sym, subst, refl, ◌⊎◌, inl, inr, ◌||◌, ◌&&◌, not, ◌==◌, ◌≤◌, ◌<◌, nat_le, ℕ, List, [], ◌∷◌, ◌++◌, length, length-append, bytes_eq, if◌then◌else◌, Bool, true, false, Option, None, Some, Result, Ok, Err, arith}
+use Rattle.std.specs.Option.{option_map, is_some, is_none}
+use Rattle.std.specs.Str.{IsUtf8, is_utf8}
+use Rattle.std.specs.IoError.{error_kind}
+use Rattle.std.specs.Io.KnownBytes.{append_known}
+use Rattle.std.specs.declared.io.Error.{Error}
+use Rattle.std.specs.declared.io.ErrorKind.TheVariants as kinds
+use Rattle.std.proofs.lemmas.Bool.Decides.{nat_tests}
+use Rattle.std.proofs.lemmas.List.{append-nil}
+use Rattle.std.proofs.lemmas.Slice.Eq.{bytes_eq-Decides}
+use Rattle.std.proofs.lemmas.Str.{IsUtf8-from_is_utf8}
+use Rattle.dcm_devices.specs.Device.{AppendsFront}
+use Rattle.dcm_devices.specs.Memory.{written, room_of}
+use Rattle.dcm_devices.specs.declared.memory.MemIn.{MemIn}
+use Rattle.dcm_devices.specs.declared.memory.MemOut.{MemOut}
+use Rattle.dcm_devices.specs.declared.memory.Measured.{Measured}
+use Rattle.dcm_files.specs.declared.memory.MemFile.{MemFile}
+use Rattle.dcm_files.specs.declared.memory.MemSystem.{MemSystem}
+use Rattle.dcm_files.specs.declared.opened.FileKind.{FileKind}
+use Rattle.dcm_files.specs.declared.opened.FileKind.TheVariants.{Regular, Other}
+use Rattle.dcm_files.specs.declared.opened.Opened.{Opened}
+use Rattle.dcm_files.specs.declared.opened.Unopened.{Unopened}
+use Rattle.dcm_files.specs.declared.opened.Unopened.TheVariants.{Input, Output}
+use Rattle.dcm_files.specs.Devices.{OpensInput, standard, clash}
+use Rattle.dcm_files.specs.Memory.{file_named, kind_of, GivesRoom, MakesFile, may_do}
+use Rattle.dcm_files.specs.Part as part
+use Rattle.dcm_files.specs.Part.{part_of, is_short, was_read, may_replace, BadPath, OpensPart, OpensStream, OpensWhole, OpensWholeDevices, RemovesPart, MovesPart, EndsPart}
+use Rattle.arrayvec.specs.ArrayVec.{ArrayVec}
+use Rattle.dcm_deid.specs.declared.fate.Options.{Options}
+use Rattle.dcm_words.specs.Words.{Job, Plan, deidentify}
+use Rattle.dcm_cli.specs.declared.key.KeyRead.{KeyRead}
+use Rattle.dcm_cli.specs.declared.key.NoKey.{NoKey}
+use Rattle.dcm_cli.specs.declared.key.NoKey.TheVariants as causes
+use Rattle.dcm_cli.specs.Keys as keys
+use Rattle.dcm_cli.specs.Keys.{KeyIs, TakesKey}
+use Rattle.dcm_cli.specs.Answer.{Answer, Answers}
+use Rattle.dcm_cli.specs.Calls.{Runs}
+use Rattle.dcm_cli.specs.Change.{Change}
+use Rattle.dcm_cli.specs.InputCalls.{How, to_end, Allows, TellsHow}
+use Rattle.dcm_cli.specs.Run.{Ran, as_answered, not_read, not_written, not_flushed}
+use Rattle.dcm_cli.specs.ErrorLines.{Tries, Reports, unread_line, output_line}
+use Rattle.dcm_cli.specs.Status.{DONE}
+use Rattle.dcm_cli.specs.Program as program
+use Rattle.dcm_cli.specs.Program.{EndsOutput, WorksWhole, Deidentifies, unopened_line, unopened_status}
+use Rattle.dcm_cli.specs.InMemory.{Outcome, bytes_at, number_at, is_one_file, key_of, key_number, has_part, is_apart, can_end, without_key, not_opened, ended, WholeComes, WholeAt, KeyComes, DeidentifyComes, holds, removed, Fits, HasRoom, IsWritten, Leaves}
+use Rattle.dcm_cli.proofs.Passes.Readers.{known}
+use Rattle.dcm_cli.proofs.Runs.InMemory.{memory_reader, memory_writer, memory_change, ran_left}
+use Rattle.dcm_cli.proofs.Runs.LeftMemory.{room_there, room_fits, LeftOf, leave_of}
+use Rattle.dcm_cli.proofs.Runs.Obeying.{append_nothing}
+use Rattle.dcm_cli.proofs.Runs.OpenedMemory.{no_both, not_so, is_other, is_text, is_no_text, other_chosen, either_is, IsInput, number_of, no_memory_fault, input_opened, one_clash, clash_at}
+
+-- ---- choices
+
+either_true : (a b : Bool) → a ≡ true → (a || b) ≡ true
+either_true true b t = refl
+either_true false b t = absurd (no_both false refl t)
+
+both_true : (a b : Bool) → (a && b) ≡ true → (a ≡ true) × (b ≡ true)
+both_true true true e = (refl, refl)
+both_true true false e = absurd (no_both false refl e)
+both_true false b e = absurd (no_both false refl e)
+
+three_true : (a b c : Bool) → (a && b && c) ≡ true → (a ≡ true) × (b ≡ true) × (c ≡ true)
+three_true true true true e = (refl, refl, refl)
+three_true true true false e = absurd (no_both false refl e)
+three_true true false c e = absurd (no_both false refl e)
+three_true false b c e = absurd (no_both false refl e)
+
+no_right : (x : Bool) → (x && false) ≡ false
+no_right true = refl
+no_right false = refl
+
+module _ (a b c d : Bool) where
+  no_first : a ≡ false → ((a && b && c) && d) ≡ false
+  no_first f = rw (f) refl
+
+  no_second : b ≡ false → ((a && b && c) && d) ≡ false
+  no_second f = elim a as (λ x. ((x && b && c) && d) ≡ false) [ true ↦ rw (f) refl | false ↦ refl ]
+
+  no_third : c ≡ false → ((a && b && c) && d) ≡ false
+  no_third f = elim a as (λ x. ((x && b && c) && d) ≡ false) [ true ↦ elim b as (λ x. ((true && x && c) && d) ≡ false) [ true ↦ rw (f) refl | false ↦ refl ] | false ↦ refl ]
+
+  no_last : d ≡ false → ((a && b && c) && d) ≡ false
+  no_last f = ap (λ (x : Bool). (a && b && c) && x) f ∙ no_right (a && b && c)
+
+  all_four : a ≡ true → b ≡ true → c ≡ true → d ≡ true → ((a && b && c) && d) ≡ true
+  all_four x y z w = rw (x, y, z, w) refl
+
+-- ---- one file
+
+-- a file that was read earlier, with this number
+abbrev pub IsEarlier : Option ℕ → Option FileKind → Type 0
+IsEarlier number None = number ≡ None
+IsEarlier number (Some kind) = IsInput number kind
+
+no_one : (a : Option ℕ) → is_one_file a None ≡ false
+no_one None = refl
+no_one (Some n) = refl
+
+some_clash : (one : Bool) → is_some (one_clash one) ≡ one
+some_clash true = refl
+some_clash false = refl
+
+no_clash : (one : Bool) → is_none (one_clash one) ≡ not one
+no_clash true = refl
+no_clash false = refl
+
+-- none is a stream
+stream_apart : (a : Option ℕ) (k : FileKind) → IsInput a k → clash k Other ≡ None
+stream_apart None k i = ap (λ (x : FileKind). clash x Other) i
+stream_apart (Some n) k i = ap (λ (x : FileKind). clash x Other) i.1
+
+stream_unread : (b : Option ℕ) (earlier : Option FileKind) → IsEarlier b earlier → was_read earlier Other ≡ false
+stream_unread b None i = refl
+stream_unread b (Some k) i = ap (λ (x : Option Unopened). is_some x) (stream_apart b k i)
+
+read_at : (b : Option ℕ) (earlier : Option FileKind) (m held : ℕ) → IsEarlier b earlier → was_read earlier (Regular 0 m held) ≡ is_one_file b (Some m)
+read_at b None m held i = sym (ap (λ (x : Option ℕ). is_one_file x (Some m)) i)
+read_at b (Some k) m held i = ap (λ (x : Option Unopened). is_some x) (clash_at b (Some m) k (Regular 0 m held) i (held, refl)) ∙ some_clash (is_one_file b (Some m))
+
+-- what is there may be replaced where it is another file than both
+apart_at : (f : Option MemFile) (a b : Option ℕ) (input : FileKind) (earlier : Option FileKind) → IsInput a input → IsEarlier b earlier
+    → may_replace (option_map kind_of f) input earlier ≡ (not (is_one_file a (number_of f)) && not (is_one_file b (number_of f)))
+apart_at None a b input earlier i e = sym (ap (λ x. not x && not (is_one_file b None)) (no_one a) ∙ ap (λ x. not false && not x) (no_one b))
+apart_at (Some g) a b input earlier i e =
+    ap (λ (c : Option Unopened). is_none c && not (was_read earlier (kind_of g))) (clash_at a (Some g.number) input (kind_of g) i (length g.bytes.now, refl))
+    ∙ ap (λ x. x && not (was_read earlier (kind_of g))) (no_clash (is_one_file a (Some g.number)))
+    ∙ ap (λ x. not (is_one_file a (Some g.number)) && not x) (read_at b earlier g.number (length g.bytes.now) e)
+
+-- ---- an output that has its name only once it is whole
+
+abbrev IsPart : (can : Bool) → (room : Option MemOut) → Result (Opened Measured) Error → Type 0
+IsPart can room (Ok d) = (can ≡ true) × (room ≡ Some d.device.out)
+IsPart can room (Err x) = ((can ≡ false) ⊎ (room ≡ None)) × (error_kind x ≢ kinds.OutOfMemory)
+
+abbrev IsWhole : (can : Bool) → (room : Option MemOut) → Result (Opened Measured) Unopened → Type 0
+IsWhole can room (Ok d) = (can ≡ true) × (room ≡ Some d.device.out)
+IsWhole can room (Err u) = ((can ≡ false) ⊎ (room ≡ None)) × (u ≡ Output)
+
+room_made : (can : Bool) (room : Option MemOut) (kind : FileKind) (r : Result (Opened Measured) Error) → can ≡ true → GivesRoom room kind r → IsPart can room r
+room_made can (Some m) kind (Ok d) is g = (is, ap Some (sym g.0))
+room_made can (Some m) kind (Err x) is g = absurd g
+room_made can None kind (Ok d) is g = absurd g
+room_made can None kind (Err x) is g = (inr refl, no_memory_fault x kinds.StorageFull g (λ e. cc))
+
+-- the device of a room has its kind
+kind_made : (room : Option MemOut) (kind : FileKind) (d : Opened Measured) → GivesRoom room kind (Ok d) → d.kind ≡ kind
+kind_made (Some m) kind d g = g.1
+kind_made None kind d g = absurd g
+
+module _ (s : MemSystem) (output : List ℕ) (a b : Option ℕ) (input : FileKind) (earlier : Option FileKind) (is_input : IsInput a input) (is_earlier : IsEarlier b earlier) where
+  abbrev is_free : Bool
+  is_free = is_none (file_named s.files.now (part_of output))
+
+  abbrev apart : Bool
+  apart = not (is_one_file a (number_at s output)) && not (is_one_file b (number_at s output))
+
+  abbrev can : Bool
+  can = bytes_eq output standard || (has_part s output && apart)
+
+  -- under a name
+  under_name : (x : Bool) → output ≢ standard → (has_part s output && apart) ≡ x → can ≡ x
+  under_name x other is = either_is (bytes_eq output standard) (has_part s output && apart) (is_other output other) ∙ is
+
+  apart_is : output ≢ standard → may_replace (option_map kind_of (file_named s.files.now output)) input earlier ≡ apart
+  apart_is other =
+      apart_at (file_named s.files.now output) a b input earlier is_input is_earlier
+      ∙ sym (ap (λ (n : Option ℕ). not (is_one_file a n) && not (is_one_file b n)) (other_chosen (bytes_eq output standard) None (number_of (file_named s.files.now output)) (is_other output other)))
+
+  -- what is seen there
+  seen : (there : Option FileKind) (had : MemSystem) → may_do.looks s output (Ok there) had → (there ≡ option_map kind_of (file_named s.files.now output)) × (had ≡ s)
+  seen there had looks = (let e : Ok there ≡ Ok (option_map kind_of (file_named s.files.now output)) = looks.0 in cc, looks.1)
+
+  replaced : (there : Option FileKind) (had : MemSystem) (x : Bool) → output ≢ standard → may_do.looks s output (Ok there) had → may_replace there input earlier ≡ x → apart ≡ x
+  replaced there had x other looks is = sym (apart_is other) ∙ ap (λ (t : Option FileKind). may_replace t input earlier) (sym (seen there had looks).0) ∙ is
+
+  made_by : (f : Option MemFile) (r : Result (Opened Measured) Error) (after : MemSystem) → output ≢ standard → file_named s.files.now (part_of output) ≡ f → MakesFile s f r after
+      → is_utf8 output ≡ true → is_short output ≡ true → apart ≡ true → IsPart can s.room r × (after.written ≡ s.written)
+  made_by None r after other none makes text short free = (
+    room_made can s.room (Regular 1 0 0) r
+        (under_name true other (all_four (is_utf8 output) (is_short output) is_free apart text short (ap (λ (f : Option MemFile). is_none f) none) free)) makes.0,
+    ap (λ (z : MemSystem). z.written) makes.1,
+  )
+  made_by (Some f) (Ok d) after other some makes text short free = absurd makes.0
+  made_by (Some f) (Err x) after other some makes text short free = (
+    (inl (under_name false other (no_third (is_utf8 output) (is_short output) is_free apart (ap (λ (f : Option MemFile). is_none f) some))), no_memory_fault x kinds.AlreadyExists makes.0 (λ e. cc)),
+    ap (λ (z : MemSystem). z.written) makes.1,
+  )
+
+  abbrev Made : MemSystem → Result (Opened Measured) Error → Type 0
+  Made after r = IsPart can s.room r × (after.written ≡ s.written)
+
+  part_made : (r : Result (Opened Measured) Error) (after : MemSystem) → output ≢ standard → OpensPart may_do output input earlier s r after → Made after r
+  part_made r after other (part.no_text x bad kind are same) =
+      subst (Made after) (sym are)
+      ((inl (under_name false other (no_first (is_utf8 output) (is_short output) is_free apart (is_no_text output bad))), no_memory_fault x kinds.InvalidFilename kind (λ e. cc)), ap (λ (z : MemSystem). z.written) same)
+  part_made r after other (part.not_seen x text looks are) = absurd (let no : Err x ≡ Ok (option_map kind_of (file_named s.files.now output)) = looks.0 in cc)
+  part_made r after other (part.not_replaced there x text looks is kind are) =
+      subst (Made after) (sym are) (
+        (inl (under_name false other (no_last (is_utf8 output) (is_short output) is_free apart (replaced there after false other looks is))), no_memory_fault x kinds.AlreadyExists kind (λ e. cc)),
+        ap (λ (z : MemSystem). z.written) looks.1,
+      )
+  part_made r after other (part.too_long there x text looks is long kind are) =
+      subst (Made after) (sym are)
+      ((inl (under_name false other (no_second (is_utf8 output) (is_short output) is_free apart long)), no_memory_fault x kinds.InvalidFilename kind (λ e. cc)), ap (λ (z : MemSystem). z.written) looks.1)
+  part_made r after other (part.made there had text short looks is makes) =
+      made_by (file_named s.files.now (part_of output)) r after other refl
+      (subst (λ (z : MemSystem). MakesFile z (file_named z.files.now (part_of output)) r after) looks.1 makes)
+      (is_text output text) short (replaced there had true other looks is)
+
+  abbrev WholeMade : MemSystem → Result (Opened Measured) Unopened → Type 0
+  WholeMade after r = IsWhole can s.room r × (after.written ≡ s.written)
+
+  can_stream : output ≡ standard → can ≡ true
+  can_stream is = either_true (bytes_eq output standard) (has_part s output && apart) ((bytes_eq-Decides output standard).1 is)
+
+  stream_made : (r : Result (Opened Measured) Unopened) (after : MemSystem) → output ≡ standard → OpensStream may_do input earlier s r after → WholeMade after r
+  stream_made r after is (part.no_stdout x u gave cause are) =
+      let m = room_made can s.room Other (Err x) (can_stream is) gave.0 in
+      subst (WholeMade after) (sym are) ((m.0, cause.other m.1), ap (λ (z : MemSystem). z.written) gave.1)
+  stream_made r after is (part.was_read_earlier o had gave was closes are) =
+      absurd (no_both (was_read earlier o.kind) (ap (was_read earlier) (kind_made s.room Other o gave.0) ∙ stream_unread b earlier is_earlier) was)
+  stream_made r after is (part.clashed o cause had gave unread was closes are) =
+      absurd (let no : None ≡ Some cause = sym (ap (clash input) (kind_made s.room Other o gave.0) ∙ stream_apart a input is_input) ∙ was in cc)
+  stream_made r after is (part.opened o gave unread free are) =
+      subst (WholeMade after) (sym are) (room_made can s.room Other (Ok o) (can_stream is) gave.0, ap (λ (z : MemSystem). z.written) gave.1)
+
+  whole_made : (r : Result (Opened Measured) Unopened) (after : MemSystem) → OpensWhole may_do output input earlier s r after → WholeMade after r
+  whole_made r after (part.stream is opens) = stream_made r after is opens
+  whole_made r after (part.no_part x u other opens cause are) =
+      let m = part_made (Err x) after other opens in
+      subst (WholeMade after) (sym are) ((m.0.0, cause.other m.0.1), m.1)
+  whole_made r after (part.part o other opens are) = subst (WholeMade after) (sym are) (part_made (Ok o) after other opens)
+
+-- one that can be written has a path, where it is no stream
+path_of : (s : MemSystem) (output : List ℕ) (x : Bool) → (bytes_eq output standard || (has_part s output && x)) ≡ true → output ≢ standard → IsUtf8 output × (is_short output ≡ true)
+path_of s output x is other =
+    let y = three_true (is_utf8 output) (is_short output) (is_none (file_named s.files.now (part_of output)))
+    (both_true (has_part s output) x (sym (either_is (bytes_eq output standard) (has_part s output && x) (is_other output other)) ∙ is)).0
+    in
+    (IsUtf8-from_is_utf8 output y.0, y.1)
+
+-- ---- both devices
+
+-- why they were not opened, and the output that was closed before
+data NotOpened (bytes : Option (List ℕ)) (can_write : Bool) (room before : Option MemOut) (u : Unopened) (after : Option MemOut) : Type 0 where
+  by_input : bytes ≡ None → u ≡ Input → after ≡ before → NotOpened bytes can_write room before u after
+  by_output : (bs : List ℕ) → bytes ≡ Some bs → (can_write ≡ false) ⊎ (room ≡ None) → u ≡ Output → after ≡ before → NotOpened bytes can_write room before u after
+
+record BothOpened (bytes : Option (List ℕ)) (can_write : Bool) (room : Option MemOut) (i : Opened MemIn) (o : Opened Measured) : Type 0 where
+  bytes_are : bytes ≡ Some i.device.rest.now
+  can_is : can_write ≡ true
+  room_is : room ≡ Some o.device.out
+
+abbrev DevicesAre : Option (List ℕ) → (can_write : Bool) → (room before : Option MemOut) → Result (Opened MemIn × Opened Measured) Unopened → (after : Option MemOut) → Type 0
+DevicesAre bytes can_write room before (Ok x) after = BothOpened bytes can_write room x.0 x.1
+DevicesAre bytes can_write room before (Err u) after = NotOpened bytes can_write room before u after
+
+module _ (s : MemSystem) (p : Plan) (earlier : Option FileKind) (is_earlier : IsEarlier (key_number s p.key) earlier) where
+  abbrev Devices : MemSystem → Result (Opened MemIn × Opened Measured) Unopened → Type 0
+  Devices after r = DevicesAre (bytes_at s p.input) (can_end s p) s.room s.written r after.written
+
+  devices_are : (r : Result (Opened MemIn × Opened Measured) Unopened) (after : MemSystem) → OpensWholeDevices may_do p.input p.output earlier s r after → Devices after r
+  devices_are r after (part.no_input x u opens cause are) =
+      let i = input_opened s p.input (Err x) after opens in
+      subst (Devices after) (sym are) (by_input i.0.0 (cause.other i.0.1) (ap (λ (z : MemSystem). z.written) i.1))
+  devices_are r after (part.no_output d u had tried opens whole released are) =
+      let i = input_opened s p.input (Ok d) had opens in
+      let o = whole_made s p.output (number_at s p.input) (key_number s p.key) d.kind earlier i.0.1 is_earlier (Err u) tried (subst (λ (z : MemSystem). OpensWhole may_do p.output d.kind earlier z (Err u) tried) i.1 whole) in
+      subst (Devices after) (sym are) (by_output d.device.rest.now i.0.0 o.0.0 o.0.1 (ap (λ (z : MemSystem). z.written) released ∙ o.1))
+  devices_are r after (part.both d f had opens whole are) =
+      let i = input_opened s p.input (Ok d) had opens in
+      let o = whole_made s p.output (number_at s p.input) (key_number s p.key) d.kind earlier i.0.1 is_earlier (Ok f) after (subst (λ (z : MemSystem). OpensWhole may_do p.output d.kind earlier z (Ok f) after) i.1 whole) in
+      subst (Devices after) (sym are) (record { bytes_are = i.0.0; can_is = o.0.0; room_is = o.0.1 })
+
+-- ---- the end of an output
+
+first_chosen : {T : Type 0} (a : Bool) (x y : T) → a ≡ true → (if a then x else y) ≡ x
+first_chosen true x y t = refl
+first_chosen false x y t = absurd (no_both false refl t)
+
+either_second : (a b : Bool) → b ≡ true → (a || b) ≡ true
+either_second true b t = refl
+either_second false b t = t
+
+either_first : (a b : Bool) → b ≡ false → (a || b) ≡ a
+either_first true b f = refl
+either_first false b f = f
+
+is_zero : (n : ℕ) → (n == 0) ≡ true → n ≡ 0
+is_zero n e = grind (arith, nat_tests, e)
+
+module _ (output : List ℕ) (had after : MemSystem) (path : output ≢ standard → IsUtf8 output × (is_short output ≡ true)) where
+  not_bad : (x : Error) → output ≢ standard → BadPath output x → ⊥
+  not_bad x other (part.no_text bad kind) = bad (path other).0
+  not_bad x other (part.too_long long kind) = no_both (is_short output) long (path other).1
+
+  part_moved : output ≢ standard → MovesPart may_do output had (Ok _) after → after.written ≡ had.written
+  part_moved other (part.no_path x bad are same) = absurd (not_bad x other bad)
+  part_moved other (part.moved m) = ap (λ (z : MemSystem). z.written) m.1
+
+  not_moved : (x : Error) (tried : MemSystem) → output ≢ standard → MovesPart may_do output had (Err x) tried → ⊥
+  not_moved x tried other (part.no_path y bad are same) = not_bad y other bad
+  not_moved x tried other (part.moved m) = let no : Err x ≡ Ok _ = m.0 in cc
+
+  part_removed : (r : Result (Unit {0}) Error) → output ≢ standard → RemovesPart may_do output had r after → after.written ≡ None
+  part_removed r other (part.no_path x bad are same) = absurd (not_bad x other bad)
+  part_removed r other (part.removed m) = ap (λ (z : MemSystem). z.written) m.1
+
+  has_name : EndsPart may_do output true had (Ok _) after → after.written ≡ had.written
+  has_name (part.stream is are same) = ap (λ (z : MemSystem). z.written) same
+  has_name (part.removed other not_whole removes) = absurd (no_both true not_whole refl)
+  has_name (part.moved other whole moves are) = part_moved other moves
+  has_name (part.not_moved x removing tried other whole moves removes are) = absurd (not_moved x tried other moves)
+
+  has_no_name : (x : Error) → EndsPart may_do output true had (Err x) after → ⊥
+  has_no_name x (part.stream is are same) = let no : Err x ≡ Ok _ = are in cc
+  has_no_name x (part.removed other not_whole removes) = no_both true not_whole refl
+  has_no_name x (part.moved other whole moves are) = let no : Err x ≡ Ok _ = are in cc
+  has_no_name x (part.not_moved y removing tried other whole moves removes are) = not_moved y tried other moves
+
+  is_removed : (r : Result (Unit {0}) Error) → EndsPart may_do output false had r after → after.written ≡ (if bytes_eq output standard then had.written else None)
+  is_removed r (part.stream is are same) = ap (λ (z : MemSystem). z.written) same ∙ sym (first_chosen (bytes_eq output standard) had.written None ((bytes_eq-Decides output standard).1 is))
+  is_removed r (part.removed other not_whole removes) = part_removed r other removes ∙ sym (other_chosen (bytes_eq output standard) had.written None (is_other output other))
+  is_removed r (part.moved other whole moves are) = absurd (no_both false refl whole)
+  is_removed r (part.not_moved x removing tried other whole moves removes are) = absurd (no_both false refl whole)
+
+  -- what was done with it by the status of the run
+  record Ended (ran status : ℕ) (of_end : Change) : Type 0 where
+    status_is : status ≡ ran
+    nothing : Reports of_end []
+    left : after.written ≡ (if bytes_eq output standard || ran == DONE then had.written else None)
+
+  ended_so : (ran status : ℕ) (of_end : Change) → EndsOutput may_do output ran of_end had status after → Ended ran status of_end
+  ended_so ran status of_end (program.named is ends line was) = record {
+    status_is = was ∙ sym is;
+    nothing = line;
+    left = has_name ends ∙ sym (first_chosen (bytes_eq output standard || ran == DONE) had.written None (either_second (bytes_eq output standard) (ran == DONE) (ap (λ (n : ℕ). n == DONE) is)));
+  }
+  ended_so ran status of_end (program.not_named x is ends line was) = absurd (has_no_name x ends)
+  ended_so ran status of_end (program.removed r not_done ends line was) = record {
+    status_is = was;
+    nothing = line;
+    left = is_removed r ends
+        ∙ ap (λ (b : Bool). if b then had.written else None) (sym (either_first (bytes_eq output standard) (ran == DONE) (not_so (ran == DONE) (λ e. not_done (is_zero ran e)))));
+  }
+
+-- ---- the lines
+
+no_front : (front : List ℕ) (next : ℕ) (rest : List ℕ) → [] ≡ front ++ (next ∷ rest) → ⊥
+no_front [] next rest e = cc
+no_front (x ∷ front) next rest e = cc
+
+-- where nothing is reported, a writer stays
+nothing_put : (c : Change) → Reports c [] → (c.after ≡ c.before) × (c.failed_after ≡ c.failed_before)
+nothing_put c (inl x) = (x.0 ∙ append_nothing c.before, x.1)
+nothing_put c (inr x) = absurd (no_front x.0.front x.0.next x.0.rest x.0.whole)
+
+-- what a run reported of one change it reported of another with the same bytes
+module _ (c d : Change) (begins : c.before ≡ d.before) (ends : c.after ≡ d.after) (failed_before : c.failed_before ≡ d.failed_before) (failed : c.failed_after ≡ d.failed_after) where
+  reports_as : (lines : List ℕ) → Reports c lines → Reports d lines
+  reports_as lines h =
+      subst (λ (x : Option (List ℕ)). Tries x d.after d.failed_before d.failed_after lines) begins
+      (subst (λ (x : Option (List ℕ)). Tries c.before x d.failed_before d.failed_after lines) ends
+      (subst (λ (x : Bool). Tries c.before c.after x d.failed_after lines) failed_before
+      (subst (λ (x : Bool). Tries c.before c.after c.failed_before x lines) failed h)))
+
+  ran_as : (job : Job) (given : List ℕ) (how : How) (unread : Bool) (output : Change) (status : ℕ) → Ran job given how unread output c status → Ran job given how unread output d status
+  ran_as job given how unread output status (as_answered a all read fine took lines was) = as_answered a all read fine took (reports_as a.lines lines) was
+  ran_as job given how unread output status (not_read out bad sure took lines was) = not_read out bad sure took (reports_as (unread_line (length given)) lines) was
+  ran_as job given how unread output status (not_written each read bad lines was) = not_written each read bad (reports_as output_line lines) was
+  ran_as job given how unread output status (not_flushed a all read bad none took lines was) = not_flushed a all read bad none took (reports_as output_line lines) was
+
+  runs_as : (job : Job) (i input : MemIn) (o output : Measured) (status : ℕ) → Runs memory_reader memory_writer job c i input o output status → Runs memory_reader memory_writer job d i input o output status
+  runs_as job i input o output status h = record {
+    given = h.given;
+    how = h.how;
+    reads = h.reads;
+    ran = λ readable writable. ran_as job h.given h.how _ _ status (h.ran readable writable);
+    flushed = λ before after. h.flushed before after;
+    within = h.within;
+    failed = λ readable writable. h.failed readable writable;
+  }
+
+-- ---- the key
+
+small : (n : ℕ) → n < 16 → nat_le 16 n ≡ true → ⊥
+small n h e = grind (arith, nat_tests, h, e)
+
+great : (n : ℕ) → 4096 < n → nat_le n 4096 ≡ true → ⊥
+great n h e = grind (arith, nat_tests, h, e)
+
+fits_least : (n : ℕ) → 16 ≤ n → nat_le 16 n ≡ true
+fits_least n h = grind (arith, nat_tests, h)
+
+fits_most : (n : ℕ) → n ≤ 4096 → nat_le n 4096 ≡ true
+fits_most n h = grind (arith, nat_tests, h)
+
+-- a file that is no key
+wrong_size : (file : List ℕ) → (nat_le 16 (length file) && nat_le (length file) 4096) ≡ false → key_of (Some file) ≡ Err causes.Size
+wrong_size file e = other_chosen (nat_le 16 (length file) && nat_le (length file) 4096) (Ok file) (Err causes.Size) e
+
+all_given : (given rest file : List ℕ) → file ≡ given ++ rest → rest ≡ [] → file ≡ given
+all_given given rest file is none = is ∙ ap (λ (x : List ℕ). given ++ x) none ∙ append-nil given
+
+nothing_follows : (how : How) (rest : List ℕ) → how ≡ to_end → Allows how rest → rest ≡ []
+nothing_follows how rest is ok = subst (λ (h : How). Allows h rest) is ok
+
+module _ (how : How) (given rest file : List ℕ) (ok : Allows how rest) (is : file ≡ given ++ rest) where
+  no_key_is : (cause : NoKey) → TellsHow false false how → KeyIs given how (Err cause) → key_of (Some file) ≡ Err cause
+  no_key_is causes.Unopened tells h = absurd h
+  no_key_is causes.Memory tells h = absurd h
+  no_key_is causes.Unread tells h = absurd (let no : false ≡ true = subst (λ (x : How). TellsHow false false x) h tells in cc)
+  no_key_is causes.Size tells (inl h) =
+      let same = ap length (all_given given rest file is (nothing_follows how rest h.0 ok)) in
+      wrong_size file (not_so (nat_le 16 (length file) && nat_le (length file) 4096) (λ e. small (length file) (omega (arith, same, h.1)) (both_true (nat_le 16 (length file)) (nat_le (length file) 4096) e).0))
+  no_key_is causes.Size tells (inr h) =
+      let all = ap length is ∙ length-append given rest in
+      wrong_size file (not_so (nat_le 16 (length file) && nat_le (length file) 4096) (λ e. great (length file) (omega (arith, all, h.1)) (both_true (nat_le 16 (length file)) (nat_le (length file) 4096) e).1))
+
+  key_is : (key : ArrayVec ℕ) → KeyIs given how (Ok key) → key_of (Some file) ≡ Ok key.items
+  key_is key h =
+      let same = all_given given rest file is (nothing_follows how rest h.0 ok) in
+      let size = ap length same in
+      first_chosen (nat_le 16 (length file) && nat_le (length file) 4096) (Ok file) (Err causes.Size)
+      (rw (fits_least (length file) (omega (arith, size, h.2)), fits_most (length file) (omega (arith, size, h.3))) refl)
+      ∙ ap Ok (same ∙ sym h.1)
+
+module _ (s : MemSystem) (path : List ℕ) where
+  abbrev KeyFound : Result KeyRead NoKey → Type 0
+  KeyFound (Ok k) = (key_of (bytes_at s path) ≡ Ok k.bytes.items) × IsInput (number_at s path) k.kind
+  KeyFound (Err cause) = key_of (bytes_at s path) ≡ Err cause
+
+  key_taken : (r : Result KeyRead NoKey) (after : MemSystem) → TakesKey may_do memory_reader path s r after → KeyFound r × (after ≡ s)
+  key_taken r after (keys.not_opened x cause opens why are) =
+      let i = input_opened s path (Err x) after opens in
+      (subst KeyFound (sym are) (ap key_of i.0.0 ∙ ap Err (sym (why.other i.0.1))), i.1)
+  key_taken r after (keys.no_key i left had cause opens reads released are) =
+      let b = input_opened s path (Ok i) had opens in
+      let n = known _ _ _ _ reads.given reads.how reads.reads i.device.rest.now refl in
+      (subst KeyFound (sym are) (ap key_of b.0.0 ∙ no_key_is reads.how reads.given n.0 i.device.rest.now n.1 n.2 cause reads.reads.failed reads.key_is), released ∙ b.1)
+  key_taken r after (keys.key i left had k opens reads kind released are) =
+      let b = input_opened s path (Ok i) had opens in
+      let n = known _ _ _ _ reads.given reads.how reads.reads i.device.rest.now refl in (
+        subst KeyFound (sym are) (ap key_of b.0.0 ∙ key_is reads.how reads.given n.0 i.device.rest.now n.1 n.2 k.bytes reads.key_is, subst (IsInput (number_at s path)) (sym kind) b.0.1),
+        released ∙ b.1,
+      )
+
+-- ---- what is left
+
+left_by : (b : Bool) (s : MemSystem) (output : Option MemOut) (before after : MemOut) (bytes : List ℕ) → s.room ≡ Some before → written after ≡ written before ++ bytes → output ≡ (if b then Some after else None)
+    → IsWritten (if b then holds bytes else removed bytes) s output
+left_by true s output before after bytes room all is = record { before = before; after = after; room_is = room; output_is = is; bytes_are = all }
+left_by false s output before after bytes room all is = is
+
+fits_by : (b : Bool) (bytes : List ℕ) (room : Option MemOut) → HasRoom (if b then holds bytes else removed bytes) room → Fits bytes room
+fits_by true bytes room h = h
+fits_by false bytes room h = h
+
+module _ (s new : MemSystem) (errors new_errors : MemOut) (status : ℕ) (p : Plan) (o : Outcome) (room : HasRoom o.output s.room) where
+  abbrev e : Change
+  e = memory_change errors new_errors
+
+  abbrev Left : Outcome → Type 0
+  Left q = LeftOf s new errors new_errors status q
+
+  left_as : (q : Outcome) → o ≡ q → Left q → Left o
+  left_as q same l = subst Left (sym same) l
+
+  module _ (job : Job) (comes : WholeAt s p job o) where
+    comes_at : (bytes : Option (List ℕ)) (can_write : Bool) → bytes_at s p.input ≡ bytes → can_end s p ≡ can_write → WholeComes bytes can_write (bytes_eq p.output standard) job o
+    comes_at bytes can_write a b =
+        subst (λ (x : Option (List ℕ)). WholeComes x can_write (bytes_eq p.output standard) job o) a
+        (subst (λ (x : Bool). WholeComes (bytes_at s p.input) x (bytes_eq p.output standard) job o) b comes)
+
+    -- an output that can be written is written in the room
+    some_room : (bs : List ℕ) → WholeComes (Some bs) true (bytes_eq p.output standard) job o → s.room ≡ None → ⊥
+    some_room bs c none =
+        room_there c.0.output s.room (fits_by (bytes_eq p.output standard || c.0.status == DONE) c.0.output s.room (subst (λ (q : Outcome). HasRoom q.output s.room) c.2 room)) none
+
+    no_output_left : (bs : List ℕ) (x : Bool) → bytes_at s p.input ≡ Some bs → can_end s p ≡ x → (x ≡ false) ⊎ (s.room ≡ None) → Left (not_opened true) → Left o
+    no_output_left bs false bytes is why l = left_as (not_opened true) (comes_at (Some bs) false bytes is) l
+    no_output_left bs true bytes is (inl why) l = absurd (no_both true why refl)
+    no_output_left bs true bytes is (inr why) l = absurd (some_room bs (comes_at (Some bs) true bytes is) why)
+
+    refused_left : (u : Unopened) → NotOpened (bytes_at s p.input) (can_end s p) s.room s.written u new.written → Reports e (unopened_line u) → status ≡ unopened_status u → Left o
+    refused_left u (by_input none is after) line was =
+        left_as (not_opened false) (comes_at None (can_end s p) none refl)
+        (leave_of s new errors new_errors status (not_opened false) after (subst (λ (v : Unopened). Reports e (unopened_line v)) is line) (was ∙ ap unopened_status is))
+    refused_left u (by_output bs bytes why is after) line was =
+        no_output_left bs (can_end s p) bytes refl why
+        (leave_of s new errors new_errors status (not_opened true) after (subst (λ (v : Unopened). Reports e (unopened_line v)) is line) (was ∙ ap unopened_status is))
+
+    pub whole_left : (earlier : Option FileKind) → IsEarlier (key_number s p.key) earlier → WorksWhole may_do memory_reader memory_writer p job earlier e s status new → Left o
+    whole_left earlier is_earlier (program.none_opened u opens line was) = refused_left u (devices_are s p earlier is_earlier (Err u) new opens) line was
+    whole_left earlier is_earlier (program.has_ended i d had has_run ran of_run of_end opens runs ends follows) =
+        let x = devices_are s p earlier is_earlier (Ok (i, d)) had opens in
+        let c = comes_at (Some i.device.rest.now) true x.bytes_are x.can_is in
+        let a = c.0 in
+        let fits = room_fits a.output s.room d.device.out x.room_is (fits_by (bytes_eq p.output standard || a.status == DONE) a.output s.room (subst (λ (q : Outcome). HasRoom q.output s.room) c.2 room)) in
+        let end = ended_so p.output has_run new (path_of s p.output (is_apart s p) x.can_is) ran status of_end ends in
+        let kept = nothing_put of_end end.nothing in
+        let run = runs_as of_run e follows.begins.0 (sym (follows.ends.0 ∙ kept.0 ∙ follows.meets.0)) follows.begins.1 (sym (follows.ends.1 ∙ kept.1 ∙ follows.meets.1)) job i.device runs.input d.device runs.output ran runs.run in
+        let l = ran_left job i.device d.device runs.input runs.output errors new_errors ran run fits.0 a c.1 fits.1 in
+        let closed = ap (λ (z : MemSystem). z.written) (runs.back.released ∙ runs.back.closed) in
+        left_as (ended (bytes_eq p.output standard) a) c.2
+        (record {
+          output_is = left_by (bytes_eq p.output standard || a.status == DONE) s new.written d.device.out runs.output.out a.output x.room_is l.output
+              (end.left ∙ ap (λ (n : ℕ). if bytes_eq p.output standard || n == DONE then has_run.written else None) l.status_is ∙ ap (λ (w : Option MemOut). if bytes_eq p.output standard || a.status == DONE then w else None) closed);
+          lines_are = λ most. l.lines most;
+          status_is = end.status_is ∙ l.status_is;
+        })
+
+  pub deidentified_left : (options : Options) (reports : Bool) → DeidentifyComes p.key s p options reports o → Deidentifies may_do memory_reader memory_writer p options reports e s status new → Left o
+  deidentified_left options reports comes (program.without_key none works) =
+      whole_left p.job (subst (λ (k : Option (List ℕ)). DeidentifyComes k s p options reports o) none comes) None (ap (key_number s) none) works
+  deidentified_left options reports comes (program.no_key path cause some takes line was) =
+      let k = key_taken s path (Err cause) new takes in
+      let missing = subst (λ x. KeyComes x s p options reports o) k.0 (subst (λ (k : Option (List ℕ)). DeidentifyComes k s p options reports o) some comes) in
+      left_as (without_key cause) missing (leave_of s new errors new_errors status (without_key cause) (ap (λ (z : MemSystem). z.written) k.1) line was)
+  deidentified_left options reports comes (program.with_key path k had some takes works) =
+      let t = key_taken s path (Ok k) had takes in
+      let c = subst (λ x. KeyComes x s p options reports o) t.0.0 (subst (λ (k : Option (List ℕ)). DeidentifyComes k s p options reports o) some comes) in
+      whole_left (deidentify options reports k.bytes.items) c (Some k.kind) (subst (λ (n : Option ℕ). IsInput n k.kind) (sym (ap (key_number s) some)) t.0.1)
+      (subst (λ (z : MemSystem). WorksWhole may_do memory_reader memory_writer p (deidentify options reports k.bytes.items) (Some k.kind) e z status new) t.1 works)
