@@ -3,6 +3,7 @@ pub mod TagOrder
 pub mod ByNumber
 pub mod Entries
 pub mod Private
+pub mod Sequences
 pub mod Lines
 pub mod Unique
 pub mod Parts

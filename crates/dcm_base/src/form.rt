@@ -2,7 +2,7 @@ ghost use Rattle.std.specs.Prelude.{◌≡◌};
 ghost use Rattle.dcm_base.specs.Bytes.Spelling as spec;
 ghost use Rattle.dcm_base.specs.declared.vr.Vr.TheVariants.{UN};
 
-use crate::dictionary::{Dictionary, vr_in};
+use crate::dictionary::{Dictionary, is_standard_sequence};
 use crate::length::Length;
 use crate::syntax::Syntax;
 use crate::tag::Tag;
@@ -23,10 +23,13 @@ fn unknown_read_in(dictionary: Dictionary, tag: Tag) -> Vr
 {
     match dictionary {
         Dictionary::Extract => Vr::UN,
-        Dictionary::Standard | Dictionary::Signed => match vr_in(dictionary, tag) {
-            Vr::SQ => Vr::SQ,
-            _ => Vr::UN,
-        },
+        Dictionary::Standard | Dictionary::Signed => {
+            if is_standard_sequence(tag) {
+                Vr::SQ
+            } else {
+                Vr::UN
+            }
+        }
     }
 }
 

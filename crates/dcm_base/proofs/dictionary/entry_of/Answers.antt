@@ -1,19 +1,6 @@
-use Rattle.std.proofs.Common.{sym, rules}
-use Rattle.std.proofs.lemmas.List.Sorted.{answers_always}
-use Rattle.dcm_base.proofs.Dictionaries.Entries.{found, found_at_place, missed}
+use Rattle.std.proofs.Common.{sym}
+use Rattle.dcm_base.proofs.Dictionaries.Entries.{found_at_place}
 use Rattle.dcm_base.proofs.dictionary.entry_of.Goals as goal
-
--- the entry at the place is the first with the number
-pub returns-in-Ok : goal.returns-in-Ok
-returns-in-Ok c =
-    let position = c.in-Ok.ensures.position (λ e. e.0) (answers_always _ _ _ (λ f a r g called. search rules)) in
-    sym (found c.args.number c.args.entries.now c.requires.ascending c.in-Ok.at _ c.in-Ok.ensures.bound position)
-
--- no entry has the number
-pub returns-in-Err : goal.returns-in-Err
-returns-in-Err c =
-    let position = c.in-Err.ensures.position (λ e. e.0) (answers_always _ _ _ (λ f a r g called. search rules)) in
-    sym (missed c.args.number c.args.entries.now c.requires.ascending _ position)
 
 -- the guess was right
 pub returns-then-entries-at : goal.returns-then-entries-at

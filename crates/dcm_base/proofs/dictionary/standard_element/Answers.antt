@@ -12,14 +12,14 @@ entry_of-requires-clause-ascending c = entries_ascend c.entries.result.now c.ent
 -- and its keywords lie within the text
 pub keyword_of-requires : goal.keyword_of-requires
 keyword_of-requires c =
-    found_passes (λ e. e.0 == c.number.result) (fits c.keywords.result.now) c.entries.result.now c.in-Some.entry
+    found_passes (λ e. e.0 == c.number.result) (fits c.keywords.result.now) c.entries.result.now c.in-Some.entry.now
     (all_fit _ _ c.keywords.ensures c.entries.ensures) (sym c.in-Some.ensures)
 
 pub returns-in-Some : goal.returns-in-Some
 unfolding element_in
 returns-in-Some c =
-    ap (λ k. Some (c.in-Some.entry.1, k)) c.keyword_of.ensures
-    ∙ element_is _ _ c.number.result (Some c.in-Some.entry) c.keywords.ensures c.entries.ensures c.in-Some.ensures
+    ap (λ k. Some (c.in-Some.entry.now.1, k)) c.keyword_of.ensures
+    ∙ element_is _ _ c.number.result (Some c.in-Some.entry.now) c.keywords.ensures c.entries.ensures c.in-Some.ensures
     ∙ ap (numbered (elements_in Standard)) c.number.ensures
 
 pub returns-in-None : goal.returns-in-None
