@@ -61,6 +61,7 @@ fn build_lines<R: DeviceIn, W: DeviceOut>(
 }
 
 /// Writes the file that the lines of a dump build.
+#[inline(never)]
 pub fn build<R: DeviceIn, W: DeviceOut>(
     build: Build,
     input: &mut Watched<R>,

@@ -43,6 +43,7 @@ fn convert_file<R: DeviceIn, W: DeviceOut>(
 }
 
 /// Writes a file in another transfer syntax, or in its own.
+#[inline(never)]
 pub fn convert<R: DeviceIn, W: DeviceOut>(
     convert: Convert,
     input: &mut Watched<R>,

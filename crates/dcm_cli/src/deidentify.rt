@@ -89,6 +89,7 @@ fn deidentify_file<R: DeviceIn, W: DeviceOut>(
 }
 
 /// Writes a file without identity: its meta group and its data set.
+#[inline(never)]
 pub fn deidentify<R: DeviceIn, W: DeviceOut>(
     what: &Deidentify,
     input: &mut Watched<R>,

@@ -79,6 +79,7 @@ fn dump_set<R: DeviceIn, W: DeviceOut>(
 }
 
 /// Writes the dump of a file, or of a data set alone.
+#[inline(never)]
 pub fn dump<R: DeviceIn, W: DeviceOut>(
     dump: Dump,
     input: &mut Watched<R>,

@@ -81,6 +81,7 @@ fn modify_file<R: DeviceIn, W: DeviceOut>(
 }
 
 /// Writes a file, which is read by a dictionary, as the edits make it.
+#[inline(never)]
 pub fn modify<R: DeviceIn, W: DeviceOut>(
     modify: &Modify,
     input: &mut Watched<R>,
