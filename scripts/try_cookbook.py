@@ -85,6 +85,7 @@ class Input(NamedTuple):
     named: bool = True  # it has a PatientName in its outermost data set
     cleans: bool = True
     opaque: bool = False  # it has opaque values by `+dict`
+    shows: bool = False  # it says that its pixels show identity
 
 
 TREE = {
@@ -104,6 +105,7 @@ TREE = {
     b"private.dcm": Input(file_of(LITTLE, MODALITY + leaf(NAME, "PN", b"Meier") + leaf(ID, "LO", b"21") + PRIVATE), opaque=True),
     b"nameless.dcm": Input(file_of(LITTLE, MODALITY), named=False),
     b"jpeg.dcm": Input(file_of(JPEG, MODALITY + leaf(NAME, "PN", b"Huber") + leaf(ID, "LO", b"22")), converts=False),
+    b"burned.dcm": Input(scan(b"Huber^Jan", b"26", leaf(0x00280301, "CS", b"YES")), shows=True),
     b"cut.dcm": Input(scan(b"Meier^Anna", b"23")[:-1], fails=True),
     b"cut in a name.dcm": Input(scan(b"Meier^Anna")[:-16], fails=True),
     b"notes": Input(b"no DICOM file", fails=True),
@@ -115,6 +117,10 @@ FAILING = [name for name, file in TREE.items() if file.fails]
 
 FILES = {b"scan.dcm": (SCAN, 0o640), b"plan.dcm": (PLAN, 0o640), b"set.bin": (SET, 0o640)}
 CUT = {name: (content[:-4], mode) for name, (content, mode) in FILES.items()}  # within the head of the last element, or its value
+
+# a key of new UIDs, and an output that was not looked at
+KEY = bytes(range(32))
+OUTPUTS = {b"out/deep/left.dcm": SCAN, b"out/no.dcm": b"no DICOM file"}
 
 # ssh to another machine that has a large file
 SSH = "#!/bin/sh\n[ \"$*\" = 'archive cat /store/large.dcm' ] && exec cat scan.dcm\n"
@@ -185,7 +191,7 @@ def holds(run, expected):
     for path, (content, mode) in there.items():
         if path in run.files and content is not None and run.files[path][0] != content:
             wrong.append(f"{path!r} has other bytes: {run.files[path][0][-60:]!r} and not {content[-60:]!r}")
-        if path in run.files and run.files[path][1] != mode:
+        if path in run.files and mode is not None and run.files[path][1] != mode:
             wrong.append(f"{path!r} has mode {run.files[path][1]:o} and not {mode:o}")
     return wrong
 
@@ -282,6 +288,38 @@ def cleaned(run):
     return wrong + names_all(run, [name for name in COPIED if name not in good or not TREE[name].named], run.printed)
 
 
+def without_identity(run, content, key):
+    with tempfile.NamedTemporaryFile() as file:
+        file.write(key)
+        file.flush()
+        return answer(run, ["dcmdeid", "+k", file.name], content)
+
+
+def identity_of_tree(run):
+    good = [name for name, file in COPIED.items() if not file.fails and not file.shows]
+    key = run.files.get(b"site.key", (b"", 0))[0]
+    written = {b"out/" + name: (without_identity(run, TREE[name].content, key), TREE[name].mode) for name in good}
+    wrong = holds(run, written | {b"failed.txt": (None, 0o644), b"site.key": (None, 0o600)})
+    wrong += [f"{path!r} holds {name!r}" for path, (content, _) in run.files.items() if path.startswith(b"out/") for name in NAMES if name in content]
+    wrong += [] if len(key) == 32 else [f"a key of {len(key)} bytes"]
+    text = run.files.get(b"failed.txt", (b"", 0))[0]
+    return wrong + names_all(run, [name for name in COPIED if name not in good], text)
+
+
+def identity_left(run):
+    text = run.files.get(b"left.txt", (b"", 0))[0]
+    wrong = holds(run, {b"left.txt": (None, 0o644)} | {path: (content, None) for path, content in OUTPUTS.items()})
+    for path, line in ((b"out/deep/left.dcm", b"(0010,0010) PN [AB^CD]"), (b"out/no.dcm", b"dcmtools: R1 at byte 13")):
+        shown = text.partition(path + b":\n")[2].partition(b"out/")[0]
+        wrong += [] if line in shown else [f"of {path!r} it shows {shown!r}"]
+    return wrong
+
+
+def identity_replaced(run):
+    put = answer(run, ["dcmodify", "+dict", "-i", "PatientID=P001"], without_identity(run, SCAN, KEY))
+    return holds(run, {b"clean.dcm": (put, 0o640), b"site.key": (KEY, None)})
+
+
 def as_text(run):
     there = run.files.get(b"scan.txt", (b"", 0))[0]
     wrong = [] if b"(0010,0010) PN [Doe^Jane] " in there else [f"scan.txt is {there!r}"]
@@ -304,9 +342,22 @@ def set_made_whole(run):
     return holds(run, {b"set.dcm": (file_of(IMPLICIT, SET), 0o640)})
 
 
+def with_outputs(work):
+    os.makedirs(os.path.join(work, b"out/deep"))
+    for path, content in OUTPUTS.items():
+        with open(os.path.join(work, path), "wb") as file:
+            file.write(content)
+
+
+def with_key(work):
+    with open(os.path.join(work, b"site.key"), "wb") as file:
+        file.write(KEY)
+
+
 class Block(NamedTuple):
     begins: str  # how the block's last command, or the line that is its own, begins
     check: Callable[[Run], list]
+    change: Callable[[bytes], None] | None = None  # what it needs beside the tree
 
 
 BLOCKS = [
@@ -321,6 +372,9 @@ BLOCKS = [
     Block("mkdir fixed", corrected_names),
     Block("name=$(printf", latin_name),
     Block("mkdir clean", cleaned),
+    Block("(umask 077; [ -e site.key ]", identity_of_tree),
+    Block("find out -type f", identity_left, with_outputs),
+    Block("    part=$(mktemp clean.XXXXXX) && dcmtools dcmdeid", identity_replaced, with_key),
     Block("    umask 077", as_text),
     Block("    part=$(mktemp scan.XXXXXX) && dcmtools dcmdump +L scan.dcm |", built),
     Block("    part=$(mktemp large.XXXXXX) && ssh", from_elsewhere),
@@ -339,7 +393,7 @@ def blocks_of(page):
         return re.findall(r"^```sh\n(.*?)^```$", file.read(), re.DOTALL | re.MULTILINE)
 
 
-def run_block(binary, text, start, locale, change=None):
+def run_block(binary, text, start, locale, *changes):
     with tempfile.TemporaryDirectory() as room:
         tools, work = os.path.join(room, "tools"), os.fsencode(os.path.join(room, "work"))
         os.mkdir(tools)
@@ -348,7 +402,7 @@ def run_block(binary, text, start, locale, change=None):
             file.write(SSH)
         os.chmod(file.name, 0o755)
         prepare(work)
-        if change:
+        for change in changes:
             change(work)
         environment = os.environ | {"PATH": f"{tools}:{os.environ['PATH']}", "LC_ALL": locale}
         os.umask(0o022)
@@ -371,7 +425,7 @@ def old_folders(work):
 
 def keeps_cut_files(run):
     """A block whose input is cut leaves it as it was, and makes no file of it but a text."""
-    return [wrong for wrong in holds(run, CUT) if not re.match(r"b'(in/.*|table.txt|failed.txt|scan.txt|(out|fixed|clean)/.*)'", wrong)]
+    return [wrong for wrong in holds(run, CUT) if not re.match(r"b'(in/.*|table.txt|failed.txt|left.txt|site.key|scan.txt|(out|fixed|clean)/.*)'", wrong)]
 
 
 def keeps_older_files(run):
@@ -380,10 +434,11 @@ def keeps_older_files(run):
 
 def failures(binary, text, block):
     """The runs of a block that did not end as they should."""
+    needed = [block.change] if block.change else []
     for mode, start, locale in MODES:
-        run = run_block(binary, text, start, locale)
+        run = run_block(binary, text, start, locale, *needed)
         yield mode, run, block.check(run)
-    run = run_block(binary, text, "", "C", cut_files)
+    run = run_block(binary, text, "", "C", *needed, cut_files)
     yield "files that are cut", run, keeps_cut_files(run)
     run = run_block(binary, text, "", "C", old_folders)
     yield "folders that are there", run, keeps_older_files(run)
@@ -404,8 +459,9 @@ def wrong_commands(binary):
     for command in readme_commands():
         with tempfile.TemporaryDirectory() as folder:
             os.symlink(binary, os.path.join(folder, "dcmtools"))
-            with open(os.path.join(folder, "FILE"), "wb") as file:
-                file.write(content)
+            for name, bytes_of in (("FILE", content), ("site.key", KEY)):
+                with open(os.path.join(folder, name), "wb") as file:
+                    file.write(bytes_of)
             environment = os.environ | {"PATH": f"{folder}:{os.environ['PATH']}"}
             done = subprocess.run(["bash", "-e", "-o", "pipefail", "-c", command], cwd=folder, env=environment, capture_output=True, timeout=60, check=False)
             if done.returncode or done.stderr:
