@@ -42,6 +42,9 @@ JPEG = "1.2.840.10008.1.2.4.50"
 NESTED_OUTER = 1_000
 NESTED_INNER = 10
 
+# frames with seven values in five sequences each
+FRAMES = 18_000
+
 # as many edits as there may be, with the two that look at each element
 PATH_EDITS = 62
 
@@ -208,6 +211,23 @@ def make_report(path):
     Path(path).write_bytes(meta(LITTLE) + front(LITTLE) + undefined_sequence(0x0040, 0xA730, items))
 
 
+def frame_item(number):
+    """What an image of many frames says of one of them, all of which is kept where identity is taken out."""
+    position = leaf(LITTLE, 0x0020, 0x0032, "DS", b"-125.5\\-125.5\\%d" % number)
+    orientation = leaf(LITTLE, 0x0020, 0x0037, "DS", b"1\\0\\0\\0\\1\\0")
+    measures = leaf(LITTLE, 0x0018, 0x0050, "DS", b"2.5") + leaf(LITTLE, 0x0028, 0x0030, "DS", b"0.5\\0.5")
+    window = leaf(LITTLE, 0x0028, 0x1050, "DS", b"40") + leaf(LITTLE, 0x0028, 0x1051, "DS", b"400")
+    content = leaf(LITTLE, 0x0020, 0x9157, "UL", struct.pack("<I", number))
+    parts = [(0x0020, 0x9111, content), (0x0020, 0x9113, position), (0x0020, 0x9116, orientation)]
+    parts += [(0x0028, 0x9110, measures), (0x0028, 0x9132, window)]
+    return b"".join(undefined_sequence(group, element, [part]) for group, element, part in parts)
+
+
+def make_frames(path):
+    frames = [frame_item(number) for number in range(1, FRAMES + 1)]
+    Path(path).write_bytes(meta(LITTLE) + front(LITTLE) + undefined_sequence(0x5200, 0x9230, frames))
+
+
 def make_empty_elements(path):
     """Many elements with no value."""
     Path(path).write_bytes(meta(LITTLE) + front(LITTLE) + leaf(LITTLE, 0x0010, 0x0020, "LO", b"") * EMPTY)
@@ -256,7 +276,7 @@ def make_dump(binary, path, dump):
 
 
 def make_inputs(binary, folder, mebibytes, full_mebibytes):
-    """The dumps, the conversions, the files that are built, those with edits, and the dump of a small file."""
+    """The dumps, the conversions, the files that are built, those with edits, one without identity, and a small file."""
     path = lambda name: os.path.join(folder, name)
     dump = lambda name, option, file: Work("dcmdump", name, [option], path(file))
     convert = lambda name, option, file: Work("dcmconv", name, [option], path(file), path("output"))
@@ -302,9 +322,10 @@ def make_inputs(binary, folder, mebibytes, full_mebibytes):
         modify(nested, all_depths, "private"),
         modify(nested, all_depths + path_edits(), "private", f"-ma, -ep and {PATH_EDITS} of -m with paths"),
     ]
+    identities = [Work("dcmdeid", little, ["+bi"], path("little"), path("output"))]
     # what is still to be written to the disk would slow what writes
     os.sync()
-    return dumps, conversions, builds, modifications, Work("dcmdump", "small", [], path("small"))
+    return dumps, conversions, builds, modifications, identities, Work("dcmdump", "small", [], path("small"))
 
 
 def make_small_elements(binary, folder):
@@ -336,8 +357,12 @@ def make_small_elements(binary, folder):
     edits = ["-ma", "CodeValue=T-1", "-m", "PatientName=Mark^Bench", *report_edits()]
     label = f"-ma, -m and {PATH_EDITS} of -m with paths"
     modifications = [Work("dcmodify", report, edits, path("report"), path("output"), label)]
+    one_edit = [Work("dcmodify", report, ["-m", "PatientName=Mark^Bench"], path("report"), path("output"))]
+    make_frames(path("frames"))
+    frames = f"{FRAMES:,} frames, {7 * FRAMES:,} values"
+    identities = [Work("dcmdeid", frames, [], path("frames"), path("output"))]
     os.sync()
-    return dumps, others, modifications
+    return dumps, others, one_edit + modifications, identities
 
 
 # ---- processes
@@ -410,6 +435,15 @@ def editing_programs(binary, before):
         **({"dcmodify before": tool_of(before)} if before else {}),
         "dcmconv +t=": lambda work: ([binary, "dcmconv", "+t=", work.path, work.output], os.devnull),
         "dcmodify": tool_of(binary),
+    }
+
+
+def identity_programs(binary):
+    """The same for files of which identity is taken out. The output has its name only once it is whole, and is not there before."""
+    return {
+        "cat": cat,
+        "dcmconv +t=": lambda work: ([binary, "dcmconv", "+t=", work.path, work.output], os.devnull),
+        "dcmdeid": tool_of(binary),
     }
 
 
@@ -561,27 +595,32 @@ def main():
     before = chosen.before and os.path.abspath(chosen.before)
     run = programs(binary, before)
     editing = editing_programs(binary, before)
+    identity = identity_programs(binary)
     print(f"Before: {machine()}")
     with tempfile.TemporaryDirectory() as folder:
         inputs = make_inputs(binary, folder, chosen.mebibytes, chosen.full_mebibytes)
-        dumps, conversions, builds, modifications, small = inputs
+        dumps, conversions, builds, modifications, identities, small = inputs
         print_throughput("Dumps, in MB/s of input", dumps, run, chosen.rounds)
         print_throughput("Conversions, in MB/s of input", conversions, run, chosen.rounds)
         print_throughput("Files that are built, in MB/s of input", builds, run, chosen.rounds)
         print_throughput("Files with edits, in MB/s of input", modifications, editing, chosen.rounds)
-        dumps_of_small, others_of_small, edits_of_small = make_small_elements(binary, folder)
+        print_throughput("Files without identity, in MB/s of input", identities, identity, chosen.rounds)
+        dumps_of_small, others_of_small, edits_of_small, identities_of_small = make_small_elements(binary, folder)
         title = f"small elements, in milliseconds, the best of {chosen.rounds} rounds"
         print_best(f"Dumps of {title}", dumps_of_small, with_bound(run, folder), chosen.rounds)
         others = {name: program for name, program in run.items() if name != "cat"}
         print_best(f"Other work on {title}", others_of_small, others, chosen.rounds)
         converting_last = dict(reversed([item for item in editing.items() if item[0] != "cat"]))
         print_best(f"Edits of {title}", edits_of_small, converting_last, chosen.rounds)
+        without_cat = {name: program for name, program in identity.items() if name != "cat"}
+        print_best(f"Identity taken out of {title}", identities_of_small, without_cat, chosen.rounds)
         dictionaries = {option: with_dictionary(binary, option) for option in ("-dict", "+dict")}
         of_report = [dumps_of_small[0], from_implicit(others_of_small), *edits_of_small]
         print_best(f"The same with each dictionary, of {title}", of_report, dictionaries, chosen.rounds)
         print_starts(small, with_both_dictionaries(run, binary), chosen.starts)
         print_memory(dumps + conversions + builds, run)
         print_memory(modifications, editing)
+        print_memory(identities, identity)
     print(f"\nAfter: {machine()}")
 
 
