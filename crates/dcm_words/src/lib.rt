@@ -15,12 +15,13 @@
 #![tactic(auto)]
 
 mod job;
+mod plans;
 mod texts;
 mod topic;
 mod usage;
 mod words;
 
 pub use job::{Build, Convert, Deidentify, Dump, Job, MOST_OF_KEY, Modify, Planned};
+pub use plans::plan;
 pub use topic::{Topic, asked};
 pub use usage::Usage;
-pub use words::plan;

@@ -15,7 +15,7 @@ use dcm_edits::{EditFault, Edits, dictionary_said, dictionary_word};
 use std::alloc::Allocator;
 
 /// The path of a standard stream.
-const STANDARD: &[u8] = b"-";
+pub const STANDARD: &[u8] = b"-";
 
 /// The most bytes that a line may have without an option.
 const USUAL_LIMIT: usize = 4096;
@@ -25,7 +25,7 @@ const LEAST_LIMIT: usize = 80;
 
 /// A tool whose words are options and paths.
 #[derive(Clone, Copy, Debug, PartialEq, Eq)]
-enum Tool {
+pub enum Tool {
     Dump,
     Convert,
     Build,
@@ -34,7 +34,7 @@ enum Tool {
 
 /// The paths among the words so far, in their order.
 #[derive(Clone, Copy)]
-enum Paths<'a> {
+pub enum Paths<'a> {
     None,
     One(&'a [u8]),
     Two(&'a [u8], &'a [u8]),
@@ -43,17 +43,17 @@ enum Paths<'a> {
 
 /// What the words so far have said; of two that exclude each other the last counts.
 #[derive(Clone, Copy)]
-struct Said<'a> {
-    dictionary: Dictionary,
-    mode: Mode,
-    data_set: bool,
-    bare: Option<Syntax>,
-    target: Option<Syntax>,
-    build: Build,
-    options: Options,
-    pixels_dealt: bool,
-    key: Option<&'a [u8]>,
-    paths: Paths<'a>,
+pub struct Said<'a> {
+    pub dictionary: Dictionary,
+    pub mode: Mode,
+    pub data_set: bool,
+    pub bare: Option<Syntax>,
+    pub target: Option<Syntax>,
+    pub build: Build,
+    pub options: Options,
+    pub pixels_dealt: bool,
+    pub key: Option<&'a [u8]>,
+    pub paths: Paths<'a>,
 }
 
 /// No option that keeps more.
@@ -263,7 +263,7 @@ fn and_path<'a>(paths: Paths<'a>, path: &'a [u8]) -> Paths<'a>
 }
 
 /// What the words after a tool's name have said, or the first refusal.
-fn said_by<'a>(tool: Tool, words: &'a [&'a [u8]]) -> Result<Said<'a>, Usage>
+pub fn said_by<'a>(tool: Tool, words: &'a [&'a [u8]]) -> Result<Said<'a>, Usage>
     ensures { SaidAs result (spec.said_by (reader tool) (map (λ w. w.now) words.now)) }
 {
     let mut said: Said<'a> = Said {
@@ -307,188 +307,9 @@ fn said_by<'a>(tool: Tool, words: &'a [&'a [u8]]) -> Result<Said<'a>, Usage>
     Ok(said)
 }
 
-/// What the words of dcmdump after its name mean, or the first refusal.
-fn plan_dump<'a, A: Allocator>(words: &'a [&'a [u8]]) -> Result<Planned<'a, A>, Usage>
-    ensures { Gives result (spec.dump_plan (map (λ w. w.now) words.now)) }
-{
-    let said = said_by(Tool::Dump, words)?;
-    let input = match said.paths {
-        Paths::One(input) if !input.is_empty() => input,
-        _ => return Err(Usage::Whole(WordFault::WrongPaths)),
-    };
-    if said.data_set != said.bare.is_some() {
-        return Err(Usage::Whole(WordFault::OptionsApart));
-    }
-    Ok(Planned {
-        input,
-        output: STANDARD,
-        key: None,
-        job: Job::Dump(Dump {
-            dictionary: said.dictionary,
-            mode: said.mode,
-            bare: said.bare,
-        }),
-    })
-}
-
-/// A job from one path to another, unless they are the same.
-fn plan_if_apart<'a, A: Allocator>(
-    input: &'a [u8],
-    output: &'a [u8],
-    job: Job<A>,
-) -> Result<Planned<'a, A>, Usage>
-    ensures { Gives result (spec.plan_if_apart input.now output.now (job_of job)) }
-{
-    if input == output && input != STANDARD {
-        return Err(Usage::Whole(WordFault::SamePath));
-    }
-    Ok(Planned {
-        input,
-        output,
-        key: None,
-        job,
-    })
-}
-
-/// A job with an input and an output.
-fn plan_with_two<'a, A: Allocator>(paths: Paths<'a>, job: Job<A>) -> Result<Planned<'a, A>, Usage>
-    ensures { (ps : List (List ℕ)) → PathsAre paths.entry ps → Gives result (spec.plan_with_two ps (job_of job)) }
-{
-    match paths {
-        Paths::Two(input, output) if !input.is_empty() && !output.is_empty() => {
-            plan_if_apart(input, output, job)
-        }
-        _ => Err(Usage::Whole(WordFault::WrongPaths)),
-    }
-}
-
-/// What the words of dcmconv after its name mean, or the first refusal.
-fn plan_convert<'a, A: Allocator>(words: &'a [&'a [u8]]) -> Result<Planned<'a, A>, Usage>
-    ensures { Gives result (spec.convert_plan (map (λ w. w.now) words.now)) }
-{
-    let said = said_by(Tool::Convert, words)?;
-    plan_with_two(
-        said.paths,
-        Job::Convert(Convert {
-            dictionary: said.dictionary,
-            target: said.target,
-        }),
-    )
-}
-
-/// What the words of dump2dcm after its name mean, or the first refusal.
-fn plan_build<'a, A: Allocator>(words: &'a [&'a [u8]]) -> Result<Planned<'a, A>, Usage>
-    ensures { Gives result (spec.build_plan (map (λ w. w.now) words.now)) }
-{
-    let said = said_by(Tool::Build, words)?;
-    plan_with_two(said.paths, Job::Build(said.build))
-}
-
-/// Whether the path of a key is that of the output.
-fn is_same_key(key: Option<&[u8]>, output: &[u8]) -> bool
-    ensures { result ≡ spec.is_same_key (option_map (λ k. k.now) key.entry) output.now }
-{
-    match key {
-        Some(key) => key == output,
-        None => false,
-    }
-}
-
-/// A plan with the path of a key, unless the output has it.
-fn plan_with_key<'a, A: Allocator>(
-    planned: Planned<'a, A>,
-    key: Option<&'a [u8]>,
-) -> Result<Planned<'a, A>, Usage>
-    ensures { Gives result (spec.plan_with_key (option_map (λ k. k.now) key.entry) (planned_of planned.entry)) }
-{
-    if is_same_key(key, planned.output) {
-        return Err(Usage::Whole(WordFault::SamePath));
-    }
-    Ok(Planned { key, ..planned })
-}
-
-/// What the words of dcmdeid after its name mean, or the first refusal.
-fn plan_deidentify<'a, A: Allocator>(words: &'a [&'a [u8]]) -> Result<Planned<'a, A>, Usage>
-    ensures { Gives result (spec.deidentify_plan (map (λ w. w.now) words.now)) }
-{
-    let said = said_by(Tool::Deidentify, words)?;
-    let planned = plan_with_two(
-        said.paths,
-        Job::Deidentify(Deidentify {
-            options: said.options,
-            reports: !said.pixels_dealt,
-            key: ArrayVec::new(),
-        }),
-    )?;
-    plan_with_key(planned, said.key)
-}
-
 /// Whether a word is a path of dcmodify.
-fn is_path(word: &[u8]) -> bool
+pub fn is_path(word: &[u8]) -> bool
     ensures { result ≡ spec.is_path word.now }
 {
     !word.is_empty() && other_word(word) == Word::Path
-}
-
-/// The edits that words mean by a dictionary, from one path to another, or the first refusal.
-fn plan_edits<'a, A: Allocator + Copy>(
-    alloc: A,
-    dictionary: Dictionary,
-    edit_words: &[&[u8]],
-    input: &'a [u8],
-    output: &'a [u8],
-) -> Result<Planned<'a, A>, Usage>
-    ensures { GivesUnlessMemory result
-        (spec.modify_plan_in dictionary (edits_between (map (λ w. w.now) edit_words.now) input.now output.now)) }
-{
-    match Edits::parse_in(alloc, dictionary, edit_words) {
-        Ok(edits) => plan_if_apart(input, output, Job::Modify(Modify { dictionary, edits })),
-        Err(EditFault::Refused(refusal, number)) => Err(Usage::InEdit(refusal, number)),
-        Err(EditFault::Memory) => Err(Usage::Memory),
-    }
-}
-
-/// What the words of dcmodify after its name mean, or the first refusal.
-fn plan_modify<'a, A: Allocator + Copy>(
-    alloc: A,
-    words: &'a [&'a [u8]],
-) -> Result<Planned<'a, A>, Usage>
-    ensures meant { GivesUnlessMemory result (spec.modify_plan (map (λ w. w.now) words.now)) }
-    ensures memory { has_paths (map (λ w. w.now) words.now) ≡ false
-        → Gives result (spec.modify_plan (map (λ w. w.now) words.now)) }
-{
-    let [edit_words @ .., input, output] = words else {
-        return Err(Usage::Whole(WordFault::WrongPaths));
-    };
-    if !is_path(input) || !is_path(output) {
-        return Err(Usage::Whole(WordFault::WrongPaths));
-    }
-    plan_edits(
-        alloc,
-        dictionary_said(edit_words),
-        edit_words,
-        input,
-        output,
-    )
-}
-
-/// The job that the words after the program's name mean, with the paths borrowed from them, or the first refusal.
-/// Memory is taken for the edits of dcmodify alone, once its paths are seen.
-#[tactic(auto, unfolding(crate::specs::Words::meant))]
-pub fn plan<'a, A: Allocator + Copy>(
-    alloc: A,
-    words: &'a [&'a [u8]],
-) -> Result<Planned<'a, A>, Usage>
-    ensures meant { GivesUnlessMemory result (spec.meant (map (λ w. w.now) words.now)) }
-    ensures memory { takes_memory (map (λ w. w.now) words.now) ≡ false
-        → Gives result (spec.meant (map (λ w. w.now) words.now)) }
-{
-    match words {
-        [tool, rest @ ..] if *tool == b"dcmdump".as_slice() => plan_dump(rest),
-        [tool, rest @ ..] if *tool == b"dcmconv".as_slice() => plan_convert(rest),
-        [tool, rest @ ..] if *tool == b"dump2dcm".as_slice() => plan_build(rest),
-        [tool, rest @ ..] if *tool == b"dcmodify".as_slice() => plan_modify(alloc, rest),
-        [tool, rest @ ..] if *tool == b"dcmdeid".as_slice() => plan_deidentify(rest),
-        _ => Err(Usage::AtWord(WordFault::UnknownTool, 1)),
-    }
 }

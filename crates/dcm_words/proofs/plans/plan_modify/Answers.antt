@@ -2,8 +2,8 @@ use Rattle.std.proofs.Common.{◌≡◌, ◌∙◌, sym, subst, List, [], ℕ, B
 use Rattle.dcm_words.specs.Words.{modify_plan_in}
 use Rattle.dcm_words.specs.Plans.{GivesUnlessMemory}
 use Rattle.dcm_words.proofs.ModifyWords.{between, few_words, two_paths, paths_here, no_input, no_output}
-use Rattle.dcm_words.proofs.words.plan_modify.Goals as goal
-use Rattle.dcm_words.proofs.words.plan_modify.Goals.{then-not-is_path-via-then-not-is_path, then-not-is_path-via-else-not-is_path+then-not-is_path-2}
+use Rattle.dcm_words.proofs.plans.plan_modify.Goals as goal
+use Rattle.dcm_words.proofs.plans.plan_modify.Goals.{then-not-is_path-via-then-not-is_path, then-not-is_path-via-else-not-is_path+then-not-is_path-2}
 
 abbrev no_word : Bor (List ℕ)
 no_word = record { ref_ptr = (0, 0); now = [] }

@@ -2,8 +2,8 @@ use Rattle.std.proofs.Common.{sym, ◌∙◌, subst}
 use Rattle.dcm_words.specs.Plans.{PathsAre, job_of}
 use Rattle.dcm_words.specs.declared.words.Paths.{Paths}
 use Rattle.dcm_words.proofs.WordLemmas.{AreWrong, empty_first, empty_second, not_two}
-use Rattle.dcm_words.proofs.words.plan_with_two.Goals as goal
-use Rattle.dcm_words.proofs.words.plan_with_two.Goals.{in_default-via-in-Two+then-not-is_empty+else-not-is_empty-2, in_default-via-in-Two+else-not-is_empty, in_default-via-in_default}
+use Rattle.dcm_words.proofs.plans.plan_with_two.Goals as goal
+use Rattle.dcm_words.proofs.plans.plan_with_two.Goals.{in_default-via-in-Two+then-not-is_empty+else-not-is_empty-2, in_default-via-in-Two+else-not-is_empty, in_default-via-in_default}
 
 pub returns-in_default : goal.returns-in_default
 returns-in_default g c = λ ps are. elim c.in_default.branch [
