@@ -50,10 +50,10 @@ pub fn recode_twice()
     ensures { ChangesNothingAgain }
 {}
 
-/// A meta group that is written anew, with a transfer syntax, reads back without fault: the preamble is the same, the
-/// elements are the new length of the group and then the old elements in their normal form, with this transfer
-/// syntax. It has at most 16384 bytes, and the bytes that follow do not go on the group. With the transfer syntax
-/// that it had, its coding is the same.
+/// A meta group that is written anew, with a transfer syntax, reads back without fault. The preamble is the same, the
+/// elements are the new length of the group and then the old elements in their normal form, with this transfer syntax.
+/// So it is where it has at most 16384 bytes, and the bytes that follow do not go on the group. With the transfer
+/// syntax that it had, its coding is the same.
 pub fn new_meta_reads()
     ensures any { NewMetaReads }
     ensures own { (file set : List ℕ) (m : Meta) (coding : Coding) → Renews file m coding m.uid set
