@@ -45,6 +45,7 @@ def manual_text() -> str:
     lines = []
     for line in text.splitlines():
         if re.match(r"\.(Dd|Dt|Os)|    \.", line):
+            lines.append("\n")
             continue
         apart = "\n" if re.match(r"\.(Pp|Sh|Ss|It|Bl|El|Nd|Dl)\b", line) else ""
         words = line.split()[1:] if line.startswith(".") else [line]
@@ -169,16 +170,16 @@ FACTS = [
     (r"([\d,]+)(?: elements)? with one (?:VR|value representation)|the ([\d,]+) rows of `standard.rt`", "crates/dcm_base/src/dictionary/standard.rt", "STANDARD", 0),
     (r"and (\d+) between two|the (\d+) of `ambiguous.rt`|, (\d+) between two", "crates/dcm_base/src/dictionary/ambiguous.rt", "AMBIGUOUS", 0),
     (r"has one of (\d+);", "crates/dcm_base/src/uid.rt", "UIDS", 0),
-    (r"(?:up to|at most) (\d+) edits|edits of dcmodify, indexes of a path \| (\d+) ", "crates/dcm_edits/src/edits.rt", "MOST_EDITS", 0),
+    (r"(?:up to|at most) (\d+) edits", "crates/dcm_edits/src/edits.rt", "MOST_EDITS", 0),
     (r"too many edits \| the (\d+)th", "crates/dcm_edits/src/edits.rt", "MOST_EDITS", 1),
     (r"more than (\d+) indexes", "crates/dcm_edits/src/form.rt", "MOST_INDEXES", 0),
     (r"the (\d+)th open sequence", "crates/dcm_base/src/level.rt", "MOST_LISTS", 1),
-    (r"open sequences and fragment lists \| (\d+) ", "crates/dcm_base/src/level.rt", "MOST_LISTS", 0),
-    (r"meta group \| ([\d,]+) bytes from|passes the ([\d,]+)th byte of the group|meta group has at most ([\d,]+) bytes", "crates/dcm_head/src/group.rt", "META_LIMIT", 0),
-    (r"80 to ([\d,]+)|as `\+l` says, up to ([\d,]+)", "crates/dcm_base/src/limits.rt", "LINE_LIMIT", 0),
+    (r"At most (\d+) sequences and fragment lists are open", "crates/dcm_base/src/level.rt", "MOST_LISTS", 0),
+    (r"passes the ([\d,]+)th byte of the group|meta group has at most ([\d,]+) bytes", "crates/dcm_head/src/group.rt", "META_LIMIT", 0),
+    (r"80 to ([\d,]+)", "crates/dcm_base/src/limits.rt", "LINE_LIMIT", 0),
     (r"may have (?:N|so many) bytes, (\d+) to", "crates/dcm_words/src/words.rt", "LEAST_LIMIT", 0),
-    (r"line of dump2dcm \| ([\d,]+) bytes|\(default ([\d,]+)\)|The default is ([\d,]+)\.", "crates/dcm_words/src/words.rt", "USUAL_LIMIT", 0),
-    (r"value of an edit \| ([\d,]+) bytes|A value has at most ([\d,]+) bytes|or has more than ([\d,]+) bytes", "crates/dcm_base/src/limits.rt", "VALUE_LIMIT", 0),
+    (r"\(default ([\d,]+)\)|The default is ([\d,]+)\.", "crates/dcm_words/src/words.rt", "USUAL_LIMIT", 0),
+    (r"or of an edit ([\d,]+)|A value has at most ([\d,]+) bytes|or has more than ([\d,]+) bytes", "crates/dcm_base/src/limits.rt", "VALUE_LIMIT", 0),
     (r"(\d+) to 4,?096", "crates/dcm_cli/src/key.rt", "LEAST_OF_KEY", 0),
     (r"16 to ([\d,]+)", "crates/dcm_words/src/job.rt", "MOST_OF_KEY", 0),
     (r"writes ([\d,]+) bytes at a time", "crates/dcm_cli/src/convert.rt", "PIECE", 0),

@@ -59,7 +59,7 @@ def table() -> str:
         for name, sentences in laws_of(crate):
             if name not in way:
                 more = " .." if len(sentences) > 1 else ""
-                rows.append(f"| {crate} `{name}` | {sentences[0].rstrip('.')}{more} |")
+                rows.append(f"| `{crate}::{name}` | {sentences[0].rstrip('.')}{more} |")
         if way:
             others.append(f"{crate} {len(way)}")
     return "\n".join(rows) + f"\n\nOn the way to them there are {sum(map(len, ON_THE_WAY.values()))} more: {', '.join(others)}."
