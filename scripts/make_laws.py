@@ -18,7 +18,7 @@ END = "<!-- end of laws -->"
 MOST_WORDS = 30
 
 ON_THE_WAY = {
-    "dcm_base": {"reads_one", "one_shown", "front_shows", "line_reads_back", "rebuilt_recodes", "normal_recodes", "target_fits"},
+    "dcm_base": {"reads_one", "one_shown", "front_shows", "line_reads_back", "keywords_are_lines", "rebuilt_recodes", "normal_recodes", "target_fits"},
     "dcm_head": {"heads_read", "one_head", "heads_written", "meta_reads", "meta_reads_one", "data_set_begins", "meta_steps"},
     "dcm_value": {"text_steps", "value_reads_back"},
     "dcm_stream": {
@@ -28,11 +28,11 @@ ON_THE_WAY = {
     "dcm_sinks": {"dump_steps", "dump_reads", "encode_steps", "encode_reads", "encode_bars"},
     "dcm_build": {"build_steps", "dump_lines", "steps_build", "dump_builds"},
     "dcm_editor": {
-        "edit_steps", "bar_steps", "reads_ascend", "recode_anew", "edits_fit", "edit_reads", "edited_reads", "edited_ascends",
+        "edits_are_few", "edit_steps", "bar_steps", "reads_ascend", "recode_anew", "edits_fit", "edit_reads", "edited_reads", "edited_ascends",
         "edited_is_bytes", "erased_all_is_gone", "erased_private_is_gone", "modified_all_is_so", "others_stay", "others_stay_written",
         "edited_reads_by", "opens_alike", "edited_for_others", "erased_for_all", "edited_twice", "edited_again",
     },
-    "dcm_deid": {"bar_steps", "deidentify_steps", "pixel_steps"},
+    "dcm_deid": {"actions_ascend", "bar_steps", "deidentify_steps", "pixel_steps"},
 }
 
 
