@@ -22,7 +22,7 @@ ON_THE_WAY = {
     "dcm_head": {"heads_read", "one_head", "heads_written", "meta_reads", "meta_reads_one", "data_set_begins", "meta_steps"},
     "dcm_value": {"text_steps", "value_reads_back"},
     "dcm_stream": {
-        "machine_steps", "machine_answers", "machine_halts", "machine_stays_small", "machine_grows", "ascending_by_atoms", "machine_drives",
+        "machine_steps", "machine_answers", "machine_halts", "machine_stays_small", "machine_grows", "reads_one", "reads_some", "ascending_by_atoms", "machine_drives",
         "machine_ends", "machine_refuses", "machine_waits", "sinks_bar", "bars_are_decided",
     },
     "dcm_sinks": {"dump_steps", "dump_reads", "encode_steps", "encode_reads", "encode_bars"},
