@@ -18,22 +18,23 @@ END = "<!-- end of laws -->"
 MOST_WORDS = 30
 
 ON_THE_WAY = {
-    "dcm_base": {"reads_one", "one_shown", "front_shows", "line_reads_back", "keywords_are_lines", "rebuilt_recodes", "normal_recodes", "target_fits"},
-    "dcm_head": {"heads_read", "one_head", "heads_written", "meta_reads", "meta_reads_one", "data_set_begins", "meta_steps"},
-    "dcm_value": {"text_steps", "value_reads_back"},
-    "dcm_stream": {
-        "machine_steps", "machine_answers", "machine_halts", "machine_stays_small", "machine_grows", "reads_one", "reads_some", "ascending_by_atoms", "machine_drives",
-        "machine_ends", "machine_refuses", "machine_waits", "sinks_bar", "bars_are_decided",
-    },
-    "dcm_sinks": {"dump_steps", "dump_reads", "encode_steps", "encode_reads", "encode_bars"},
-    "dcm_build": {"build_steps", "dump_lines", "steps_build", "dump_builds"},
-    "dcm_editor": {
-        "edits_are_few", "edit_steps", "bar_steps", "reads_ascend", "recode_anew", "edits_fit", "edit_reads", "edited_reads", "edited_ascends",
-        "edited_is_bytes", "erased_all_is_gone", "erased_private_is_gone", "modified_all_is_so", "others_stay", "others_stay_written",
-        "edited_reads_by", "opens_alike", "edited_for_others", "erased_for_all", "edited_twice", "edited_again",
-    },
-    "dcm_deid": {"actions_ascend", "bar_steps", "deidentify_steps", "pixel_steps"},
+    "dcm_base": """reads_one one_shown front_shows value_reads_back line_reads_back rebuilt_recodes normal_recodes target_fits
+        keywords_are_lines""",
+    "dcm_head": "heads_read one_head heads_written meta_reads meta_reads_one data_set_begins meta_steps",
+    "dcm_value": "text_steps value_reads_back",
+    "dcm_stream": """machine_steps machine_answers machine_halts machine_stays_small machine_grows reads_one reads_some
+        ascending_by_atoms machine_drives machine_ends machine_refuses machine_waits sinks_bar bars_are_decided""",
+    "dcm_sinks": "dump_steps dump_reads encode_steps encode_reads encode_bars",
+    "dcm_build": "build_steps dump_lines steps_build dump_builds",
+    "dcm_editor": """edits_are_few edits_fit edit_steps bar_steps reads_ascend recode_anew edit_reads edited_reads edited_ascends
+        edited_is_bytes erased_all_is_gone erased_private_is_gone modified_all_is_so others_stay others_stay_written
+        edited_reads_by opens_alike edited_for_others erased_for_all edited_twice edited_again""",
+    "dcm_deid": "actions_ascend bar_steps deidentify_steps pixel_steps",
 }
+
+
+def on_the_way(crate: str) -> set:
+    return set(ON_THE_WAY.get(crate, "").split())
 
 
 def laws_of(crate: str) -> list:
@@ -55,14 +56,14 @@ def crates() -> list:
 def table() -> str:
     rows, others = ["| Law | It says |", "|---|---|"], []
     for crate in crates():
-        way = ON_THE_WAY.get(crate, set())
+        way = on_the_way(crate)
         for name, sentences in laws_of(crate):
             if name not in way:
                 more = " .." if len(sentences) > 1 else ""
                 rows.append(f"| `{crate}::{name}` | {sentences[0].rstrip('.')}{more} |")
         if way:
             others.append(f"{crate} {len(way)}")
-    return "\n".join(rows) + f"\n\nOn the way to them there are {sum(map(len, ON_THE_WAY.values()))} more: {', '.join(others)}."
+    return "\n".join(rows) + f"\n\nOn the way to them there are {sum(map(len, map(on_the_way, ON_THE_WAY)))} more: {', '.join(others)}."
 
 
 def faults() -> list:
@@ -70,7 +71,7 @@ def faults() -> list:
     wrong = []
     for crate in crates():
         laws = dict(laws_of(crate))
-        way = ON_THE_WAY.get(crate, set())
+        way = on_the_way(crate)
         wrong += [f"{crate} has no law {name}" for name in sorted(way - set(laws))]
         for name, sentences in laws.items():
             count = len(sentences[0].split())

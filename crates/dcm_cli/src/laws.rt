@@ -61,6 +61,7 @@ pub fn modified_reads()
 {}
 
 /// What dcmconv writes of one is so too, with the transfer syntax of the target, and the normal form of the data set.
+/// To an implicit one, the dictionary has to tell its values from its sequences.
 pub fn converted_reads()
     ensures { ConvertedReads }
 {}

@@ -40,12 +40,13 @@ pub fn encode_bars()
     ensures { (target : Syntax) → BarsAs (bars_by encode_bar encode_step (encode_start target)) (target_bar target) }
 {}
 
-/// What is converted without fault reads back in the target syntax, without fault, as its normal form.
+/// What is converted without fault reads back in the target syntax, without fault, as its normal form. So it is where it
+/// ends within the limit of an input, and the data set fits the target: its dictionary tells values from sequences.
 pub fn recode_reads()
     ensures { ReadsBack }
 {}
 
-/// To convert it again changes nothing.
+/// To convert it again, where it reads back so, changes nothing.
 pub fn recode_twice()
     ensures { ChangesNothingAgain }
 {}
