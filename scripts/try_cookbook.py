@@ -113,7 +113,9 @@ TREE = {
 COPIED = {name: file for name, file in TREE.items() if name != b"DICOMDIR"}
 FAILING = [name for name, file in TREE.items() if file.fails]
 
-FILES = {b"scan.dcm": (SCAN, 0o640), b"plan.dcm": (PLAN, 0o640), b"set.bin": (SET, 0o640)}
+KEY = b"a key of thirty-two bytes, or so"
+
+FILES = {b"scan.dcm": (SCAN, 0o640), b"plan.dcm": (PLAN, 0o640), b"set.bin": (SET, 0o640), b"site.key": (KEY, 0o600)}
 CUT = {name: (content[:-4], mode) for name, (content, mode) in FILES.items()}  # within the head of the last element, or its value
 
 # ssh to another machine that has a large file
@@ -282,6 +284,32 @@ def cleaned(run):
     return wrong + names_all(run, [name for name in COPIED if name not in good or not TREE[name].named], run.printed)
 
 
+def without_identity(run, content):
+    """What dcmdeid itself writes for this input, under the key that is there."""
+    with tempfile.NamedTemporaryFile() as key:
+        key.write(KEY)
+        key.flush()
+        return answer(run, ["dcmdeid", "+k", key.name], content)
+
+
+def identity_taken(run):
+    good = [name for name, file in COPIED.items() if not file.fails]
+    text = run.files.get(b"failed.txt", (b"", 0))[0]
+    made_files = {b"out/" + name: (without_identity(run, TREE[name].content), TREE[name].mode) for name in good}
+    wrong = holds(run, made_files | {b"failed.txt": (None, 0o644)})
+    wrong += [f"{path!r} holds {name!r}" for path, (content, _) in run.files.items() for name in NAMES if path.startswith(b"out/") and name in content]
+    return wrong + names_all(run, [name for name in COPIED if name not in good], text)
+
+
+def what_is_left(run):
+    return holds(run, {b"left.txt": (None, 0o644)})
+
+
+def new_number(run):
+    taken = without_identity(run, SCAN)
+    return holds(run, {b"clean.dcm": (answer(run, ["dcmodify", "+dict", "-i", "PatientID=P001"], taken), 0o640)})
+
+
 def as_text(run):
     there = run.files.get(b"scan.txt", (b"", 0))[0]
     wrong = [] if b"(0010,0010) PN [Doe^Jane] " in there else [f"scan.txt is {there!r}"]
@@ -321,6 +349,9 @@ BLOCKS = [
     Block("mkdir fixed", corrected_names),
     Block("name=$(printf", latin_name),
     Block("mkdir clean", cleaned),
+    Block("(umask 077; [ -e site.key ]", identity_taken),
+    Block("find out -type f", what_is_left),
+    Block("    part=$(mktemp clean.XXXXXX) && dcmtools dcmdeid", new_number),
     Block("    umask 077", as_text),
     Block("    part=$(mktemp scan.XXXXXX) && dcmtools dcmdump +L scan.dcm |", built),
     Block("    part=$(mktemp large.XXXXXX) && ssh", from_elsewhere),
@@ -371,7 +402,7 @@ def old_folders(work):
 
 def keeps_cut_files(run):
     """A block whose input is cut leaves it as it was, and makes no file of it but a text."""
-    return [wrong for wrong in holds(run, CUT) if not re.match(r"b'(in/.*|table.txt|failed.txt|scan.txt|(out|fixed|clean)/.*)'", wrong)]
+    return [wrong for wrong in holds(run, CUT) if not re.match(r"b'(in/.*|(table|failed|scan|left).txt|(out|fixed|clean)/.*)'", wrong)]
 
 
 def keeps_older_files(run):
@@ -404,8 +435,9 @@ def wrong_commands(binary):
     for command in readme_commands():
         with tempfile.TemporaryDirectory() as folder:
             os.symlink(binary, os.path.join(folder, "dcmtools"))
-            with open(os.path.join(folder, "FILE"), "wb") as file:
-                file.write(content)
+            for name, bytes_of_it in (("FILE", content), ("site.key", KEY)):
+                with open(os.path.join(folder, name), "wb") as file:
+                    file.write(bytes_of_it)
             environment = os.environ | {"PATH": f"{folder}:{os.environ['PATH']}"}
             done = subprocess.run(["bash", "-e", "-o", "pipefail", "-c", command], cwd=folder, env=environment, capture_output=True, timeout=60, check=False)
             if done.returncode or done.stderr:
