@@ -2,7 +2,7 @@
 """Counts what has to be believed for each tool alone: the definitions that its promise is made of, and their lines.
 
     scripts/book_lines.py            writes the table into docs/auditors/DEFINITIONS.md
-    scripts/book_lines.py --check    ends with 1 where the page has another table
+    scripts/book_lines.py --check    ends with 1 where the page has another table, or does not name a file that a promise is made of
     scripts/book_lines.py --files dcmdump    the files of one tool, with the lines of each
     scripts/book_lines.py --names dcmdump    its definitions
 
@@ -268,6 +268,13 @@ def with_table(page: str) -> str:
     return f"{before}{BEGIN}\n\n{table()}\n\n{END}{after}"
 
 
+def unnamed_files(page: str) -> list:
+    """The files that a promise is made of and the table of DEFINITIONS lacks."""
+    named = page.split("## The files that are to be believed")[1].split("### For one tool alone")[0]
+    files = {file for tool in JOBS for part in parts_of(tool) for file, _ in part}
+    return sorted(file for file in files if f"`{file.rsplit('.', 1)[1]}`" not in named)
+
+
 def main() -> int:
     if len(sys.argv) > 2:
         parts = parts_of(sys.argv[2])
@@ -281,12 +288,13 @@ def main() -> int:
         return 0
     page = PAGE.read_text()
     made = with_table(page)
-    if "--check" in sys.argv:
-        if made != page:
-            print("docs/auditors/DEFINITIONS.md: the table of lines is another one: run scripts/book_lines.py")
-        return int(made != page)
-    PAGE.write_text(made)
-    return 0
+    wrong = [f"docs/auditors/DEFINITIONS.md does not name {file}" for file in unnamed_files(page)]
+    if "--check" not in sys.argv:
+        PAGE.write_text(made)
+    elif made != page:
+        wrong.append("docs/auditors/DEFINITIONS.md: the table of lines is another one: run scripts/book_lines.py")
+    print("\n".join(wrong + [f"{len(wrong)} wrong"]))
+    return 1 if wrong else 0
 
 
 if __name__ == "__main__":
