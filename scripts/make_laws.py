@@ -9,6 +9,7 @@ code: they carry what the contracts of its functions say up to the definitions, 
 """
 import re
 import sys
+import textwrap
 from pathlib import Path
 
 ROOT = Path(__file__).resolve().parent.parent
@@ -16,6 +17,7 @@ PAGE = ROOT / "docs/auditors/PROVED.md"
 BEGIN = "<!-- laws: written by scripts/make_laws.py -->"
 END = "<!-- end of laws -->"
 MOST_WORDS = 30
+WIDTH = 138
 
 ON_THE_WAY = {
     "dcm_base": """reads_one one_shown front_shows value_reads_back line_reads_back rebuilt_recodes normal_recodes target_fits
@@ -63,7 +65,8 @@ def table() -> str:
                 rows.append(f"| `{crate}::{name}` | {sentences[0].rstrip('.')}{more} |")
         if way:
             others.append(f"{crate} {len(way)}")
-    return "\n".join(rows) + f"\n\nOn the way to them there are {sum(map(len, map(on_the_way, ON_THE_WAY)))} more: {', '.join(others)}."
+    count = sum(map(len, map(on_the_way, ON_THE_WAY)))
+    return "\n".join(rows) + "\n\n" + textwrap.fill(f"On the way to them there are {count} more: {', '.join(others)}.", WIDTH)
 
 
 def faults() -> list:
