@@ -21,7 +21,7 @@ WIDTH = 138
 
 ON_THE_WAY = {
     "dcm_base": """reads_one one_shown front_shows value_reads_back line_reads_back rebuilt_recodes normal_recodes target_fits
-        keywords_are_lines""",
+        keywords_differ called_back keywords_are_lines""",
     "dcm_head": "heads_read one_head heads_written meta_reads meta_reads_one data_set_begins meta_steps",
     "dcm_value": "text_steps value_reads_back",
     "dcm_stream": """machine_steps machine_answers machine_halts machine_stays_small machine_grows reads_one reads_some
