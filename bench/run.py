@@ -465,7 +465,7 @@ def from_implicit(works):
 
 def keywords_of_the_dictionary():
     """The lines that the bound reads: the rows of the dictionary that dcmtools has."""
-    source = (TOP / "crates/dcm_base/src/dictionary.rt").read_text()
+    source = (TOP / "crates/dcm_base/src/dictionary/extract.rt").read_text()
     rows = re.findall(r'0x([0-9A-F]{4})_([0-9A-F]{4}),\s*Vr::..,\s*"(\w+)"', source)
     return "".join(f"{group}{element} {keyword}\n" for group, element, keyword in rows)
 

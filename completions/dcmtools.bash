@@ -18,7 +18,7 @@ _dcmtools_words() {
     done < <(compgen -W "$1" -- "$2")
 }
 
-# The keywords of the dictionary's extract (crates/dcm_base/src/dictionary.rt) that an edit may name: those of values, and those
+# The keywords of the dictionary's extract (crates/dcm_base/src/dictionary/extract.rt) that an edit may name: those of values, and those
 # of sequences. With +dict it may name more.
 _dcmtools_values='
     SpecificCharacterSet ImageType InstanceCreationDate InstanceCreationTime SOPClassUID SOPInstanceUID StudyDate

@@ -1,22 +1,241 @@
 #!/usr/bin/env python3
-"""Compares the texts that the program shows of itself with the manual page, the completions, and the exit statuses of README.
+"""Checks the pages: README, CHANGELOG, CONTRIBUTING, docs and the manual page. The program is not run.
 
-    scripts/check_texts.py
+    scripts/check_texts.py            all checks below; the words of each page, and the longest sentences
+    scripts/check_texts.py --items    the public items of the crates that have no comment
 
-The texts are in crates/dcm_words/src/texts.rt. Each tool's options have to be the same in its text, in man/dcmtools.1 and in both
-completions; the version is that of the manual page and of CHANGELOG.md, and the edition that of the dictionary. The program is not
-run. Exits with 0 if nothing is wrong.
+- Words: a page's words are those with a letter or a digit, and all pages together have at most MOST_WORDS.
+- Sentences: at most MOST_LONG of more than LONG words on all pages, and none of more than LONGEST. A code span is a word.
+- Links and anchors, paths of files, names of pages in the crates' comments, and numbers of decisions lead somewhere.
+- Numbers that are in the tree are the same on the pages: elements, limits, edits, faults, crates (FACTS).
+- Each tool's options are the same in its text (crates/dcm_words/src/texts.rt), in man/dcmtools.1 and in both completions; so are the
+  version, the edition of the dictionary, and the exit statuses.
+
+Exits with 0 if nothing is wrong.
 """
 import re
 import sys
+from functools import lru_cache
 from pathlib import Path
 
 ROOT = Path(__file__).resolve().parent.parent
 TEXTS = {"dcmdump": "DUMP", "dcmconv": "CONVERT", "dump2dcm": "BUILD", "dcmodify": "MODIFY", "dcmdeid": "DEIDENTIFY"}
+MANUAL = "man/dcmtools.1"
+
+MOST_WORDS = 20_000
+LONG, LONGEST, MOST_LONG = 30, 45, 25
 
 
+@lru_cache
 def read(path: str) -> str:
     return (ROOT / path).read_text()
+
+
+def pages() -> list:
+    docs = sorted(str(path.relative_to(ROOT)) for path in ROOT.glob("docs/*/*.md"))
+    return ["README.md", "CHANGELOG.md", "CONTRIBUTING.md", *docs, MANUAL]
+
+
+# ---- words and sentences
+
+
+def manual_text() -> str:
+    """The manual page without the names of macros: a line that begins with one is a part of its sentence, but for titles and the like."""
+    text = re.sub(r"^\.Bd.*?^\.Ed$", lambda shown: re.sub(r"^", "    ", shown[0], flags=re.M), read(MANUAL), flags=re.M | re.S)
+    lines = []
+    for line in text.splitlines():
+        if re.match(r"\.(Dd|Dt|Os)|    \.", line):
+            lines.append("\n")
+            continue
+        apart = "\n" if re.match(r"\.(Pp|Sh|Ss|It|Bl|El|Nd|Dl)\b", line) else ""
+        words = line.split()[1:] if line.startswith(".") else [line]
+        lines.append(apart + " ".join(word for word in words if not re.fullmatch(r"[A-Z][a-z]", word)) + "\n" + apart)
+    return "".join(lines)
+
+
+def text_of_page(page: str) -> str:
+    return manual_text() if page == MANUAL else read(page)
+
+
+def words_in(text: str) -> list:
+    return [word for word in text.split() if re.search(r"\w", word)]
+
+
+def plain(text: str) -> str:
+    """Text in which a code span, a link and what is marked are words."""
+    text = re.sub(r"`[^`]*`", "Code", text)
+    text = re.sub(r"\[([^\]]*)\]\([^)]*\)", r"\1", text)
+    return re.sub(r"[*<>]", "", text)
+
+
+def blocks(text: str) -> list:
+    """The paragraphs, points and cells of a page, without its code."""
+    text = re.sub(r"^```.*?^```$", "", text, flags=re.M | re.S)
+    found, current = [], []
+    for line in text.split("\n") + [""]:
+        code = re.match(r"^ {4,}\S", line) and not current
+        if re.match(r"^\s*(?:[-*] |\d+\. |#|>?\s*$|\|)", line) or code:
+            found.append(" ".join(current))
+            current = []
+        if code or line.startswith("#"):
+            continue
+        if line.startswith("|"):
+            found += re.split(r"(?<!\\)\|", line)
+        elif line.strip():
+            current.append(re.sub(r"^\s*(?:[-*] |\d+\. |> ?)", "", line).strip())
+    return [block for block in found if block.strip()]
+
+
+def sentences(page: str) -> list:
+    return [sentence for block in blocks(text_of_page(page)) for sentence in re.split(r"(?<=[.!?]) +(?=[A-Z`(]|dcm|dump2dcm)", plain(block))]
+
+
+def wrong_sentences() -> list:
+    long = sorted(((len(words_in(text)), page, text) for page in pages() for text in sentences(page)), reverse=True)
+    long = [sentence for sentence in long if sentence[0] > LONG]
+    print(f"{len(long)} sentences of more than {LONG} words:")
+    for count, page, text in long:
+        print(f"  {count} {page}: {' '.join(text.split()[:9])} ..")
+    wrong = [f"{page}: a sentence of {count} words: {text[:60]}" for count, page, text in long if count > LONGEST]
+    return wrong + ([f"{len(long)} sentences of more than {LONG} words, and not {MOST_LONG}"] if len(long) > MOST_LONG else [])
+
+
+def wrong_sizes() -> list:
+    counts = {page: len(words_in(text_of_page(page))) for page in pages()}
+    for page, count in counts.items():
+        print(f"{count:7,} {page}")
+    total = sum(counts.values())
+    print(f"{total:7,} words")
+    return [f"{total:,} words, more than {MOST_WORDS:,}"] if total > MOST_WORDS else []
+
+
+# ---- links, paths and decisions
+
+
+def anchors(page: str) -> set:
+    """The names that a link may give of a page's headings."""
+    text = re.sub(r"^```.*?^```$", "", read(page), flags=re.M | re.S)
+    titles = re.findall(r"^#+ (.*)$", text, re.M)
+    return {re.sub(r"[^\w\- ]", "", title.lower()).replace(" ", "-") for title in titles}
+
+
+def wrong_links() -> list:
+    wrong = []
+    for page in pages():
+        if page == MANUAL:
+            continue
+        for target in re.findall(r"\]\(([^)\s]+)\)", read(page)):
+            path, _, anchor = target.partition("#")
+            file = (ROOT / page).parent / path if path else ROOT / page
+            if not file.exists():
+                wrong.append(f"{page}: no file {target}")
+            elif anchor and anchor not in anchors(str(file.resolve().relative_to(ROOT))):
+                wrong.append(f"{page}: no heading {target}")
+        for path in set(re.findall(r"`((?:scripts|docs|data|bench|examples|completions|man|crates)/[\w./-]+)`", read(page))):
+            if not re.search("NAME|CRATE|FILE", path) and not list(ROOT.glob(path.rstrip("/"))):
+                wrong.append(f"{page}: no file {path}")
+    return wrong
+
+
+def sources(*suffixes: str) -> list:
+    """The files of the crates' own code, specs and proofs."""
+    return [path for path in sorted(ROOT.glob("crates/*/*/**/*")) if path.suffix in suffixes and "out" not in path.relative_to(ROOT).parts]
+
+
+def wrong_citations() -> list:
+    """Names of pages in the crates that no page has, and numbers of decisions that are not there."""
+    names = {Path(page).name for page in pages()}
+    decisions = [int(number) for number in re.findall(r"^- \*\*D-(\d+)\. ", read("docs/engineers/DECISIONS.md"), re.M)]
+    wrong = [f"two pages have the name {name}" for name in names if sum(Path(page).name == name for page in pages()) > 1]
+    wrong += ["DECISIONS: its numbers are not 1, 2, .."] if decisions != list(range(1, len(decisions) + 1)) else []
+    for path in [*sources(".rt", ".antt"), *map(ROOT.joinpath, pages()), *ROOT.glob("scripts/*.py")]:
+        text, place = path.read_text(), path.relative_to(ROOT)
+        wrong += [f"{place}: no page {name}" for name in set(re.findall(r"\b([A-Z]{5,}\.md)\b", text)) - names]
+        wrong += [f"{place}: no decision D-{n}" for n in set(map(int, re.findall(r"\bD-(\d+)\b", text))) - set(decisions)]
+    return wrong
+
+
+# ---- numbers of the tree
+
+
+def constant(path: str, name: str) -> int:
+    """A constant of a crate: its number, or how many entries it has."""
+    found = re.search(rf"const {name}: (?:\[.*; (\d+)\]|\w+ = ([\d_]+);)", read(path))
+    return int((found[1] or found[2]).replace("_", ""))
+
+
+# what the pages say, and the constant that has it; the number is the pattern's group, with commas
+FACTS = [
+    (r"extract of(?: PS3\.6 with)? (\d+) elements|\| elements \| (\d+), an extract|\| (\d+) elements \|", "crates/dcm_base/src/dictionary/extract.rt", "ELEMENTS", 0),
+    (r"([\d,]+)(?: elements)? with one (?:VR|value representation)|the ([\d,]+) rows of `standard.rt`", "crates/dcm_base/src/dictionary/standard.rt", "STANDARD", 0),
+    (r"and (\d+) between two|the (\d+) of `ambiguous.rt`|, (\d+) between two", "crates/dcm_base/src/dictionary/ambiguous.rt", "AMBIGUOUS", 0),
+    (r"has one of (\d+);", "crates/dcm_base/src/uid.rt", "UIDS", 0),
+    (r"(?:up to|at most) (\d+) edits", "crates/dcm_edits/src/edits.rt", "MOST_EDITS", 0),
+    (r"too many edits \| the (\d+)th", "crates/dcm_edits/src/edits.rt", "MOST_EDITS", 1),
+    (r"more than (\d+) indexes", "crates/dcm_edits/src/form.rt", "MOST_INDEXES", 0),
+    (r"the (\d+)th open sequence", "crates/dcm_base/src/level.rt", "MOST_LISTS", 1),
+    (r"At most (\d+) sequences and fragment lists are open", "crates/dcm_base/src/level.rt", "MOST_LISTS", 0),
+    (r"passes the ([\d,]+)th byte of the group|meta group has at most ([\d,]+) bytes", "crates/dcm_head/src/group.rt", "META_LIMIT", 0),
+    (r"80 to ([\d,]+)", "crates/dcm_base/src/limits.rt", "LINE_LIMIT", 0),
+    (r"may have (?:N|so many) bytes, (\d+) to", "crates/dcm_words/src/words.rt", "LEAST_LIMIT", 0),
+    (r"\(default ([\d,]+)\)|The default is ([\d,]+)\.", "crates/dcm_words/src/words.rt", "USUAL_LIMIT", 0),
+    (r"or of an edit ([\d,]+)|A value has at most ([\d,]+) bytes|or has more than ([\d,]+) bytes", "crates/dcm_base/src/limits.rt", "VALUE_LIMIT", 0),
+    (r"(\d+) to 4,?096", "crates/dcm_cli/src/key.rt", "LEAST_OF_KEY", 0),
+    (r"16 to ([\d,]+)", "crates/dcm_words/src/job.rt", "MOST_OF_KEY", 0),
+    (r"writes ([\d,]+) bytes at a time", "crates/dcm_cli/src/convert.rt", "PIECE", 0),
+    (r"a dump reads ([\d,]+)\.", "crates/dcm_cli/src/dump.rt", "PIECE", 0),
+]
+
+
+def wrong_facts() -> list:
+    wrong = []
+    text = {page: " ".join(text_of_page(page).split()) for page in pages()}
+    for pattern, path, name, more in FACTS:
+        value, seen = constant(path, name) + more, 0
+        for page in pages():
+            for found in re.finditer(pattern, text[page]):
+                seen += 1
+                said = next(group for group in found.groups() if group)
+                if int(said.replace(",", "")) != value:
+                    wrong.append(f"{page}: {found[0]!r}, but {path} has {value} ({name})")
+        wrong += [f"no page says {pattern!r}"] if not seen else []
+    return wrong
+
+
+def wrong_crates() -> list:
+    """The crates of ARCHITECTURE, and the edits and crates of GATE, that are others than those of the tree."""
+    crates = {line.split(":")[0].split()[0] for line in read("crates.txt").splitlines() if line.strip()}
+    table = read("docs/engineers/ARCHITECTURE.md").split("## The crates")[1].split("\n## ")[0]
+    named = {name for row in re.findall(r"^\| ([a-z]\w+(?:, \w+)*) \|", table, re.M) for name in row.split(", ")}
+    wrong = [f"ARCHITECTURE and crates.txt differ in {sorted(named ^ crates)}"] if named != crates else []
+    gate = read("docs/engineers/GATE.md")
+    for name, inside, further in re.findall(r"^\| (\w+) \| (\d+) \| (\d+) \|$", gate, re.M):
+        found = tuple(len(list(ROOT.glob(f"{folder}/*.edit"))) for folder in (f"crates/{name}/must-fail", f"scripts/edits/{name}"))
+        wrong += [f"GATE: {name} has {found[0]} and {found[1]} edits"] if found != (int(inside), int(further)) else []
+    rows = {name for name, _, _ in re.findall(r"^\| (\w+) \| (\d+) \| (\d+) \|$", gate, re.M)}
+    others = {path.parent.name for path in ROOT.glob("crates/*/must-fail")} - rows
+    wrong += [f"GATE lacks the edits of {sorted(others)}"] if others else []
+    for crate, edits in re.findall(r"(dcm_\w+) ((?:`\w+`(?:, )?)+)", gate.split("## Edits")[1].split("These public")[0]):
+        for edit in re.findall(r"`(\w+)`", edits):
+            if not list(ROOT.glob(f"crates/{crate}/must-fail/{edit}.edit")) + list(ROOT.glob(f"scripts/edits/{crate}/{edit}.edit")):
+                wrong.append(f"GATE: {crate} has no edit {edit}")
+    return wrong
+
+
+def wrong_faults() -> list:
+    """The faults and refusals whose number and words PROFILE lacks."""
+    book, profile = read("crates/dcm_base/specs/Tables/Fault.antt"), read("docs/users/PROFILE.md")
+    wrong = []
+    for kind in ("fault", "line_fault", "edit_refusal", "word_fault"):
+        numbers = dict(re.findall(rf'^{kind}_number (\w+) = codes "(\w+)"', book, re.M))
+        texts = dict(re.findall(rf'^{kind}_text (\w+) = codes "([^"]+)"', book, re.M))
+        for name, number in numbers.items():
+            if not re.search(rf"\| {number} \| {texts[name]} \||`{number}[^`]*: {texts[name]}`", profile):
+                wrong.append(f"PROFILE lacks {number}: {texts[name]}")
+    return wrong
+
+
+# ---- the texts of the program
 
 
 def text_of(name: str) -> str:
@@ -24,14 +243,14 @@ def text_of(name: str) -> str:
     return re.search(rf'const {name}: &str = "(?:\\\n)?(.*?)";', read("crates/dcm_words/src/texts.rt"), re.S)[1]
 
 
-def shown_options(tool: str) -> set[str]:
+def shown_options(tool: str) -> set:
     """The options in the text of a tool: the first word of each indented line."""
     return set(re.findall(r"^  ([-+]\S+)", text_of(TEXTS[tool]), re.M))
 
 
-def manual_options(tool: str) -> set[str]:
+def manual_options(tool: str) -> set:
     """The options that the manual page describes of a tool, with those of the dictionaries."""
-    page = read("man/dcmtools.1")
+    page = read(MANUAL)
     title = "Edits of dcmodify" if tool == "dcmodify" else f"Options of {tool}"
     sections = [page.split(f".Ss {title}")[1].split(".Ss")[0]]
     if tool not in ("dump2dcm", "dcmdeid"):
@@ -40,49 +259,84 @@ def manual_options(tool: str) -> set[str]:
     return {("-" if kind == "Fl" else "") + word for kind, word in items}
 
 
-def bash_options(tool: str) -> set[str]:
+def profile_options(tool: str) -> set:
+    """The options and edits in the first tables of a tool's section of PROFILE."""
+    section = read("docs/users/PROFILE.md").split(f"\n# {tool}\n")[1].split("\n## ")[0].split("**How it differs")[0]
+    cells = re.findall(r"^\| (`[-+][^|]*) \|", section, re.M)
+    found = {span.split()[0] for cell in cells for span in re.findall(r"`([^`]*)`", cell)}
+    return found | ({"-dict", "+dict"} if tool == "dcmodify" else set())
+
+
+def bash_options(tool: str) -> set:
     words = re.search(rf"^\s+{tool}\) switches='([^']*)'", read("completions/dcmtools.bash"), re.M)[1].split()
     return {word for word in words if not word.startswith("--")}
 
 
-def zsh_options(tool: str) -> set[str]:
+def zsh_options(tool: str) -> set:
     page = read("completions/_dcmtools")
     case = re.search(rf"^    {tool}\)\n(.*?);;\n    (?=\S)", page, re.M | re.S)[1]
     found = set(re.findall(r"^\s+'([-+][^-:][^:]*):", case, re.M))
     return found | ({"-dict", "+dict"} if "$dictionaries" in case else set())
 
 
-def differences() -> list[str]:
+def wrong_options() -> list:
     wrong = []
+    places = (("the manual page", manual_options), ("PROFILE", profile_options), ("bash", bash_options), ("zsh", zsh_options))
     for tool in TEXTS:
         shown = shown_options(tool)
-        for where, options in (("the manual page", manual_options), ("bash", bash_options), ("zsh", zsh_options)):
-            found = options(tool)
-            if found != shown:
-                wrong.append(f"{tool}: {where} and the text differ in {sorted(found ^ shown)}")
+        for where, options in places:
+            if options(tool) != shown:
+                wrong.append(f"{tool}: {where} and the text differ in {sorted(options(tool) ^ shown)}")
     return wrong
 
 
-def wrong_names() -> list[str]:
+def wrong_names() -> list:
     """The version and the edition, where they are not everywhere the same."""
     version, edition = re.search(r"dcmtools (\S+), with the data dictionary of DICOM PS3.6 (\S+?)\\n", text_of("VERSION")).groups()
     places = {
-        "man/dcmtools.1": f".Os dcmtools {version}\n",
+        MANUAL: f".Os dcmtools {version}\n",
         "CHANGELOG.md": f"\n## {version} ",
         "crates/dcm_base/src/dictionary/standard.rt": f"edition {edition}.",
+        "docs/users/PROFILE.md": f"edition {edition}",
+        "docs/engineers/DECISIONS.md": f"edition {edition}",
     }
     return [f"{path} does not say {text.strip()!r}" for path, text in places.items() if text not in read(path)]
 
 
-def wrong_statuses() -> list[str]:
+def wrong_statuses() -> list:
     """The statuses of README that the text of the program lacks, and those of it that README lacks."""
     named = set(re.findall(r"^\| (\d) \|", read("README.md").split("## Exit status")[1].split("\n## ")[0], re.M))
     shown = set(re.findall(r"^  (\d)  ", text_of("PROGRAM"), re.M))
     return [f"README and the text of the program differ in statuses {sorted(named ^ shown)}"] if named != shown else []
 
 
+# ---- public items
+
+
+def items_without_comment() -> list:
+    found = []
+    for path in sources(".rt"):
+        if "src" not in path.parts or "tests" in path.parts or path.name == "tests.rt":
+            continue
+        lines = path.read_text().splitlines()
+        for number, line in enumerate(lines):
+            if not re.match(r"\s*pub (?:const )?(?:fn|struct|enum|trait|const|type) \w", line):
+                continue
+            above = number - 1
+            while above >= 0 and re.match(r"\s*#\[|\s*\)?\]$", lines[above]):
+                above -= 1
+            if above < 0 or not lines[above].lstrip().startswith("///"):
+                found.append(f"{path.relative_to(ROOT)}:{number + 1}: {line.strip()}")
+    return found
+
+
 def main() -> int:
-    wrong = differences() + wrong_names() + wrong_statuses()
+    if "--items" in sys.argv:
+        found = items_without_comment()
+        print("\n".join(found + [f"{len(found)} public items without a comment"]))
+        return 1 if found else 0
+    checks = (wrong_sentences, wrong_sizes, wrong_links, wrong_citations, wrong_facts, wrong_crates, wrong_faults, wrong_options, wrong_names, wrong_statuses)
+    wrong = [fault for check in checks for fault in check()]
     print("\n".join(wrong + [f"{len(wrong)} wrong"]))
     return 1 if wrong else 0
 

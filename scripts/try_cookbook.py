@@ -1,5 +1,5 @@
 #!/usr/bin/env python3
-"""Runs every block of docs/COOKBOOK.md that is marked `sh`, each on a tree with the traps of real media, and the commands of README.
+"""Runs every block of docs/users/COOKBOOK.md that is marked `sh`, each on a tree with the traps of real media, and the commands of README.
 
 Each block is run by bash as it is, once more after `set -o pipefail`, and once in a UTF-8 locale. After it no file that was there
 may be lost or changed, in content or mode, unless the block says so; no new file may be missing, be of another mode, or be left over;
@@ -20,7 +20,7 @@ import tempfile
 from typing import Callable, NamedTuple
 
 ROOT = os.path.dirname(os.path.dirname(os.path.abspath(__file__)))
-PAGE = os.path.join(ROOT, "docs", "COOKBOOK.md")
+PAGE = os.path.join(ROOT, "docs", "users", "COOKBOOK.md")
 
 IMPLICIT = b"1.2.840.10008.1.2\0"
 LITTLE = b"1.2.840.10008.1.2.1\0"

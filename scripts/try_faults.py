@@ -8,12 +8,12 @@ a fault. Then each call after the start of the program (what the loader does bef
 once and with all later calls of its name; and from each place on all growth of memory is refused. --only takes the runs whose names
 begin so. Needs strace (apt-get install strace) and setarch. Exits with 0 if nothing is wrong. What has to hold:
 
-- The status is 0 to 5, there is no signal and no hang, and at most one line of docs/PROFILE.md on standard error, of that status.
+- The status is 0 to 5, there is no signal and no hang, and at most one line of docs/users/PROFILE.md on standard error, of that status.
 - With the status of the run without a fault, all is as there. Else the status is 4 or 5, OUTPUT is missing, a beginning of what it
   would be, or what it was before, and standard output is a beginning. Nothing is written after a write that failed.
 - Of dcmdeid OUTPUT is the whole new file or what it was before, and OUTPUT.part is gone, unless it could not be removed.
 - FILE is never changed, also where OUTPUT is FILE, and no file gets the number of a standard stream.
-- A close that fails passes in silence (docs/PROFILE.md, "Where it is written").
+- A close that fails passes in silence (docs/users/PROFILE.md, "Where it is written").
 - A file that was opened, or standard output, cannot be asked what it is: `cannot be opened`, status 4, nothing is written. The same
   of standard input, where OUTPUT holds bytes; else the run is as it was. An OUTPUT that cannot be asked for its size before its
   first byte is `output failed`, and keeps what it holds. A call that the system does not have (ENOSYS), or that was interrupted, may

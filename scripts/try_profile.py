@@ -1,9 +1,9 @@
 #!/usr/bin/env python3
-"""Tries the claims of docs/PROFILE.md, in its order, on a built dcmtools.
+"""Tries the claims of docs/users/PROFILE.md, in its order, on a built dcmtools.
 
 What PROFILE says of words, paths, streams and files is tried by try_program.py, too; of devices that fail, of pieces and of 64 and
 65 open sequences by the tests of dcm_runs; of R15 by those of dcm_parts, and of want of memory by try_memory.py. Of two runs into one
-OUTPUT, of overlay file systems, and of DCMTK's tools nothing is tried here.
+OUTPUT, of overlay file systems, of DCMTK's tools and of dcmdeid nothing is tried here.
 
     scripts/try_profile.py [BINARY]
 
@@ -860,7 +860,7 @@ def wrong_text(binary, shows):
 
 def main():
     binary = os.path.abspath(sys.argv[1] if len(sys.argv) > 1 else os.path.join(ROOT, "crates/dcmtools/out/dcmtools"))
-    cases = WORDS + SAME_FILE + READING + DICTIONARIES + SHOWING + WRITING + FILES + BUILDING + EDITING + PRIVACY + FAULTS
+    cases = WORDS + SAME_FILE + READING + DICTIONARIES + FILES + SHOWING + WRITING + BUILDING + EDITING + PRIVACY + FAULTS
     answers = [(case.claim, wrong_case(binary, case)) for case in cases]
     answers += [(shows.claim, wrong_text(binary, shows)) for shows in TEXTS]
     for claim, wrong in answers:

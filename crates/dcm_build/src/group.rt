@@ -107,7 +107,7 @@ impl NewGroup {
         }
     }
 
-    /// Whether so many bytes more are too much for the group.
+    /// Whether so many bytes more are too much for the group (DECISIONS, D-15).
     pub fn is_full_for(&self, size: usize) -> bool
         ensures { result ≡ nat_lt meta.META_LIMIT (trees_size Little (trees_of self.now) + size) }
     {

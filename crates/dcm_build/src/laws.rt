@@ -35,9 +35,9 @@ pub fn steps_build()
     ensures { (coding : Coding) (set : Trees) → Ascend None set → MayStand coding 0 set → BuildAgain coding set }
 {}
 
-/// The full dump of a file that is read without fault builds it again, in its own transfer syntax and but for its
-/// preamble, where its values are of whole units, the tags of each of its data sets ascend, and no line of the dump
-/// passes the limit. So does that of any trees that can be built.
+/// The full dump of a file that is read without fault builds it again, but for its preamble. It does so in its own
+/// transfer syntax, where its values are of whole units, the tags of each of its data sets ascend, and no line of the
+/// dump passes the limit. So does that of any trees that can be built.
 pub fn dump_builds()
     ensures file { laws.FileBuilds }
     ensures trees { laws.TreesBuild }

@@ -27,7 +27,7 @@ pub fn comes_one()
     ensures { (words : List (List ℕ)) (s : MemSystem) (a b : Outcome) → Comes words s a → Comes words s b → a ≡ b }
 {}
 
-/// They come to one, whatever they are and whatever the files hold.
+/// Words come to an outcome over files in memory, whatever they are and whatever the files hold.
 pub fn comes_some()
     ensures { (words : List (List ℕ)) (s : MemSystem) → (o : Outcome) × Comes words s o }
 {}
@@ -38,10 +38,10 @@ pub fn sure_grows()
     ensures { SureGrows }
 {}
 
-/// Two runs in a row: the full dump of a file, and what it builds. Where the file is read without fault, its values
-/// are of whole units, the tags of each of its data sets ascend, and no line of the dump passes the limit, the second
-/// run ends with status 0, and its output is that of a conversion to the file's own transfer syntax, but for the
-/// first 128 bytes, which are 0.
+/// A run that builds the full dump of a file comes to what a conversion of the file to its own transfer syntax writes,
+/// but for the preamble. Where the file is read without fault, its values are of whole units, the tags of each of its
+/// data sets ascend, and no line of the dump passes the limit, the second run ends with status 0, and the first 128
+/// bytes of its output are 0.
 pub fn dump_builds_runs()
     ensures { DumpBuilds }
 {}
@@ -52,7 +52,7 @@ pub fn no_edits_convert()
     ensures { NoEditsConvert }
 {}
 
-/// What dcmodify writes of a file without fault is a file that is read without fault: its preamble and its transfer
+/// What dcmodify writes of a file without fault is a file that is read without fault. Its preamble and its transfer
 /// syntax are those of the input, its meta group is the one that was written anew, and its data set is the normal
 /// form of the edited one. Here and in what follows, a value that is too long for its representation, and so becomes
 /// unknown, may not be of a tag that the dictionary calls a sequence: that would be read as one.
@@ -60,28 +60,29 @@ pub fn modified_reads()
     ensures { ModifiedReads }
 {}
 
-/// So is what dcmconv writes, with the transfer syntax of the target, and the normal form of the data set.
+/// What dcmconv writes of one is so too, with the transfer syntax of the target, and the normal form of the data set.
+/// To an implicit one, the dictionary has to tell its values from its sequences.
 pub fn converted_reads()
     ensures { ConvertedReads }
 {}
 
-/// However the output of dcmodify for a file without fault is read as a file: it is read without fault, after `-ea`
-/// no element has the tag, after `-ep` none is of an odd group, and after `-ma` each of the tag has the value, as it
-/// is written, at any depth.
+/// In the output of dcmodify no element has the tag after `-ea`, none is of an odd group after `-ep`, and each of the
+/// tag has the value after `-ma`. So it is for a file without fault, at any depth, however the output is read as a file,
+/// and that is without fault. The value is as it is written.
 pub fn output_is_edited()
     ensures erased_all { ErasedAll }
     ensures erased_private { ErasedPrivate }
     ensures modified_all { ModifiedAll }
 {}
 
-/// However it is read, what no edit may change is in it: without the elements of the tags that edits may change, it is
+/// What no edit may change is in it, however it is read. Without the elements of the tags that edits may change, it is
 /// the normal form of the data set that was read, without them. In an implicit one that is read by the whole dictionary
 /// no edit may change PixelRepresentation, on which the representations of others depend.
 pub fn output_keeps_others()
     ensures { OthersStay }
 {}
 
-/// What is erased, set and left is so for readers with another dictionary too, where it opens the output alike: in an
+/// What is erased, set and left is so for readers with another dictionary too, where it opens the output alike. In an
 /// implicit one, no value is a sequence by it, and each sequence is one; in an explicit one, no unknown value is a
 /// sequence by it. They read the same data set, with other representations.
 pub fn output_for_others()
@@ -102,25 +103,25 @@ pub fn output_opens_alike()
     ensures standard { StandardOpensAlike }
 {}
 
-/// What was erased is gone for every reader that reads the output to its end, where its values hide nothing from it: a
-/// value that is a sequence by its dictionary is empty, and in an explicit output there is none. They hide nothing from
-/// one that opens the output alike.
+/// What was erased is gone for every reader that reads the output to its end, where its values hide nothing from it. A
+/// value that is a sequence by its dictionary is then empty, and in an explicit output there is none. They hide
+/// nothing from one that opens the output alike.
 pub fn output_erased_for_all()
     ensures erased_all { ErasedAllSeen }
     ensures erased_private { ErasedPrivateSeen }
     ensures alike { AlikeHidesNothing }
 {}
 
-/// Two runs in a row: dcmodify on a file without fault, and then on its output, with the same edits. Where no edit
-/// erases an item by its number, the second run writes the same bytes again and refuses nothing: its status is 0 or
+/// dcmodify on its own output, with the same edits, writes the same bytes again, where no edit erases an item by its
+/// number. So it is where the first run read a file without fault. The second one refuses nothing: its status is 0 or
 /// 3.
 pub fn modified_twice()
     ensures { ModifiedTwice }
 {}
 
-/// Nothing of what dcmdeid takes out of a file is in its answer: two files that are read without fault, of which the same
-/// meta elements stay, and whose data sets differ only in what is taken, have the same output, lines and status. Unique
-/// identifiers that get new ones may differ in their padding alone.
+/// Nothing of what dcmdeid takes out of a file is in its answer. Two files that are read without fault, of which the
+/// same meta elements stay, and whose data sets differ only in what is taken, have the same output, lines and status.
+/// Unique identifiers that get new ones may differ in their padding alone.
 pub fn nothing_flows_in_answers()
     ensures { NothingFlows }
 {}

@@ -78,7 +78,7 @@ impl Editor {
         self.outermost_first.len()
     }
 
-    /// The edits that have found their place so far or find it here.
+    /// The edits that have found their place so far or find it here, by the input (DECISIONS, D-28).
     #[inline(always)]
     fn found_with<A: Allocator>(&self, edits: &[Edit<A>], question: Question) -> u64
         requires { length edits.now ≤ 64 }

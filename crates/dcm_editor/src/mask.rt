@@ -31,7 +31,7 @@ fn with_bit(mask: u64, place: usize) -> u64
     mask | (1 << place)
 }
 
-/// The mask of so many edits.
+/// The mask of so many edits (DECISIONS, D-56).
 pub fn all(count: usize) -> u64
     requires { count ≤ 64 }
     ensures { (k : ℕ) → k < count → masks.is_set result k ≡ true }

@@ -179,7 +179,7 @@ fn pass_on<S: Sink, A: Allocator>(
 }
 
 /// A sink that passes the tokens of a data set on to another one, as edits make them. It bars tags that do not
-/// ascend, and does not ask what the other one bars.
+/// ascend (DECISIONS, D-27), and does not ask what the other one bars.
 #[derive(Drop)]
 pub struct EditSink<'e, S, A: Allocator = Global> {
     edits: &'e Edits<A>,

@@ -15,7 +15,7 @@ use std::marker::Model;
 /// The most edits of a command line: the bits of a mask of 64 bits.
 pub const MOST_EDITS: usize = 64;
 
-/// The edits that some words mean, in the order of the words: at most 64, of which no two overlap.
+/// The edits that some words mean, in the order of the words: at most 64, of which no two overlap (DECISIONS, D-20).
 #[derive(Debug, Drop)]
 pub struct Edits<A: Allocator = Global> {
     list: Vec<Edit<A>, A>,
@@ -49,7 +49,7 @@ impl<A: Allocator> Edits<A> {
     }
 
     /// The edits that words mean by a dictionary, or the first refusal. Words that name a dictionary, `+dict` and
-    /// `-dict`, are no edits and are passed over: `dictionary_said` answers which one they name.
+    /// `-dict`, are no edits and are passed over: `dictionary_said` answers which one they name (DECISIONS, D-25).
     pub fn parse_in(
         alloc: A,
         dictionary: Dictionary,

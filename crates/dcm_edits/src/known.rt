@@ -28,7 +28,7 @@ impl Default for Known {
     }
 }
 
-/// A tag that edits may name.
+/// A tag that edits may name (DECISIONS, D-24).
 fn known_tag(dictionary: Dictionary, index: Option<Index>, tag: Tag) -> Result<Known, EditRefusal>
     ensures { IsKnown known_as result (spec.known_tag dictionary (option_map index_as index) tag) }
 {
@@ -54,7 +54,7 @@ fn known_part(dictionary: Dictionary, part: Part) -> Result<Known, EditRefusal>
     }
 }
 
-/// The parts with their tags, or the first refusal.
+/// The parts with their tags, or the first refusal (DECISIONS, D-17).
 pub fn known_parts(
     dictionary: Dictionary,
     parts: &[Part],

@@ -23,7 +23,7 @@ fn copy_of<A: Allocator>(alloc: A, bytes: &[u8]) -> Result<Vec<u8, A>, Failure>
     Ok(copy)
 }
 
-/// The value that a word means in this representation.
+/// The value that a word means in this representation; of a text the word itself (DECISIONS, D-19).
 fn value_of_word<A: Allocator>(alloc: A, vr: Vr, word: &[u8]) -> Result<Vec<u8, A>, Failure>
     ensures value { Makes (λ v. v.items) result (word_value vr word.now) }
     ensures short { IfOk result (λ v. length v.items ≤ value_spec.VALUE_LIMIT) }

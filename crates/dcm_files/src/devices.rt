@@ -45,7 +45,8 @@ pub trait System {
     fn stdout(&mut self) -> io::Result<Opened<Self::Output>>
         ensures { may_do.stdout self.old result self.new };
 
-    /// What is written at a path. A file that is there keeps what it holds until its first byte is written.
+    /// What is written at a path. A file that is there keeps what it holds until its first byte is written (DECISIONS,
+    /// D-30).
     fn create(&mut self, path: &str) -> io::Result<Opened<Self::Output>>
         ensures { may_do.creates self.old path.now result self.new };
 
@@ -108,7 +109,7 @@ pub fn open_output<S: System>(system: &mut S, word: &[u8]) -> io::Result<Opened<
 }
 
 /// Why an input and an output are not used together: both are one regular file, under whatever names; or they may be,
-/// since the system does not say what is read, and the output holds bytes.
+/// since the system does not say what is read, and the output holds bytes (DECISIONS, D-31).
 pub(crate) fn clash(input: FileKind, output: FileKind) -> Option<Unopened>
     ensures { result ≡ spec.clash input output }
 {

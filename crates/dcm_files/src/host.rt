@@ -51,7 +51,7 @@ fn reserve_if_closed<T: AsFd>(rt: HostRuntime, stream: &T) -> io::Result<Option<
 }
 
 /// Takes the numbers of standard streams that are closed, so that no file that is opened after it gets one of them,
-/// and with it what is written to the stream. They are kept as long as the answer is.
+/// and with it what is written to the stream (DECISIONS, D-32). They are kept as long as the answer is.
 fn reserve(rt: HostRuntime) -> io::Result<Reserved> {
     Ok(Reserved {
         _input: reserve_if_closed(rt, &rt.stdin())?,
@@ -127,7 +127,7 @@ impl Host {
         })
     }
 
-    /// An output, written through a buffer.
+    /// An output, written through a buffer (DECISIONS, D-58).
     fn buffered(
         &self,
         output: Either<Stdout, OutputFile<File>>,

@@ -40,20 +40,21 @@ pub fn encode_bars()
     ensures { (target : Syntax) → BarsAs (bars_by encode_bar encode_step (encode_start target)) (target_bar target) }
 {}
 
-/// What is converted without fault reads back in the target syntax, without fault, as its normal form.
+/// What is converted without fault reads back in the target syntax, without fault, as its normal form. So it is where it
+/// ends within the limit of an input, and the data set fits the target: its dictionary tells values from sequences.
 pub fn recode_reads()
     ensures { ReadsBack }
 {}
 
-/// To convert it again changes nothing.
+/// To convert it again, where it reads back so, changes nothing.
 pub fn recode_twice()
     ensures { ChangesNothingAgain }
 {}
 
-/// A meta group that is written anew, with a transfer syntax, reads back without fault: the preamble is the same, the
-/// elements are the new length of the group and then the old elements in their normal form, with this transfer
-/// syntax. It has at most 16384 bytes, and the bytes that follow do not go on the group. With the transfer syntax
-/// that it had, its coding is the same.
+/// A meta group that is written anew, with a transfer syntax, reads back without fault. The preamble is the same, the
+/// elements are the new length of the group and then the old elements in their normal form, with this transfer syntax.
+/// So it is where it has at most 16384 bytes, and the bytes that follow do not go on the group. With the transfer
+/// syntax that it had, its coding is the same.
 pub fn new_meta_reads()
     ensures any { NewMetaReads }
     ensures own { (file set : List ℕ) (m : Meta) (coding : Coding) → Renews file m coding m.uid set

@@ -28,7 +28,7 @@ Exit status:
   4  a file could not be opened, read or written
   5  out of memory
 
-The manual: man dcmtools, and docs/PROFILE.md
+The manual: man dcmtools, and docs/users/PROFILE.md
 ";
 
 /// How dcmdump is used.
@@ -46,7 +46,7 @@ dcmtools dcmdump [OPTION].. FILE: show a DICOM file as text, an element on a lin
   +dict  read with the whole data dictionary of PS3.6
 
 Exit status: 0 done, 1 words refused, 2 input at fault, 4 file not opened, read or written,
-5 out of memory. The manual: man dcmtools, and docs/PROFILE.md
+5 out of memory. The manual: man dcmtools, and docs/users/PROFILE.md
 ";
 
 /// How dcmconv is used.
@@ -63,7 +63,7 @@ dcmtools dcmconv [OPTION].. FILE OUTPUT: write a DICOM file in a transfer syntax
   +dict  read with the whole data dictionary of PS3.6
 
 Exit status: 0 done, 1 words refused, 2 input at fault, 4 file not opened, read or written,
-5 out of memory. The manual: man dcmtools, and docs/PROFILE.md
+5 out of memory. The manual: man dcmtools, and docs/users/PROFILE.md
 ";
 
 /// How dump2dcm is used.
@@ -74,7 +74,7 @@ dcmtools dump2dcm [OPTION].. LINES OUTPUT: build a DICOM file from the lines of 
   -e     write undefined lengths (always so)
 
 Exit status: 0 done, 1 words refused, 2 input at fault, 4 file not opened, read or written,
-5 out of memory. The manual: man dcmtools, and docs/PROFILE.md
+5 out of memory. The manual: man dcmtools, and docs/users/PROFILE.md
 ";
 
 /// How dcmodify is used.
@@ -95,7 +95,7 @@ ContentSequence[*]. into items.
 
 Exit status: 0 done, 1 words refused, 2 input at fault, 3 an edit found no place and all else was
 done, 4 file not opened, read or written, 5 out of memory. The manual: man dcmtools, and
-docs/PROFILE.md
+docs/users/PROFILE.md
 ";
 
 /// How dcmdeid is used.
@@ -114,5 +114,5 @@ OUTPUT is written as OUTPUT.part, and moved to its name at status 0; else it is 
 
 Exit status: 0 done, 1 words or key refused, 2 input at fault, 3 pixels may show identity and no
 OUTPUT was left, 4 file not opened, read or written, 5 out of memory. The manual: man dcmtools, and
-docs/PROFILE.md
+docs/users/PROFILE.md
 ";

@@ -1,0 +1,103 @@
+#!/usr/bin/env python3
+"""Writes the table of laws into docs/auditors/PROVED.md: each law by its name, with the first sentence of its comment.
+
+    scripts/make_laws.py            writes the table
+    scripts/make_laws.py --check    ends with 1 where the page has another one, or a line is too long
+
+A law is a public function of a crate's src/laws.rt, whose contract is what is proved. Those of ON_THE_WAY speak of the states of the
+code: they carry what the contracts of its functions say up to the definitions, and are counted without a line.
+"""
+import re
+import sys
+import textwrap
+from pathlib import Path
+
+ROOT = Path(__file__).resolve().parent.parent
+PAGE = ROOT / "docs/auditors/PROVED.md"
+BEGIN = "<!-- laws: written by scripts/make_laws.py -->"
+END = "<!-- end of laws -->"
+MOST_WORDS = 30
+WIDTH = 138
+
+ON_THE_WAY = {
+    "dcm_base": """reads_one one_shown front_shows value_reads_back line_reads_back rebuilt_recodes normal_recodes target_fits
+        keywords_differ called_back keywords_are_lines""",
+    "dcm_head": "heads_read one_head heads_written meta_reads meta_reads_one data_set_begins meta_steps",
+    "dcm_value": "text_steps value_reads_back",
+    "dcm_stream": """machine_steps machine_answers machine_halts machine_stays_small machine_grows reads_one reads_some
+        ascending_by_atoms machine_drives machine_ends machine_refuses machine_waits sinks_bar bars_are_decided""",
+    "dcm_sinks": "dump_steps dump_reads encode_steps encode_reads encode_bars",
+    "dcm_build": "build_steps dump_lines steps_build dump_builds",
+    "dcm_editor": """edits_are_few edits_fit edit_steps bar_steps reads_ascend recode_anew edit_reads edited_reads edited_ascends
+        edited_is_bytes erased_all_is_gone erased_private_is_gone modified_all_is_so others_stay others_stay_written
+        edited_reads_by opens_alike edited_for_others erased_for_all edited_twice edited_again""",
+    "dcm_deid": "actions_ascend bar_steps deidentify_steps pixel_steps",
+}
+
+
+def on_the_way(crate: str) -> set:
+    return set(ON_THE_WAY.get(crate, "").split())
+
+
+def laws_of(crate: str) -> list:
+    """The name of each law and the sentences of its comment."""
+    text = (ROOT / "crates" / crate / "src/laws.rt").read_text()
+    laws = []
+    for comment, name in re.findall(r"((?:^///.*\n)+)pub fn (\w+)", text, re.M):
+        words = " ".join(line[3:].strip() for line in comment.splitlines())
+        laws.append((name, re.split(r"(?<=[.]) (?=[A-Z`]|dcm)", words)))
+    return laws
+
+
+def crates() -> list:
+    """The crates that have laws, the lowest first."""
+    names = [line.split(":")[0].split()[0] for line in (ROOT / "crates.txt").read_text().splitlines() if line.strip()]
+    return [name for name in names if (ROOT / "crates" / name / "src/laws.rt").exists()]
+
+
+def table() -> str:
+    rows, others = ["| Law | It says |", "|---|---|"], []
+    for crate in crates():
+        way = on_the_way(crate)
+        for name, sentences in laws_of(crate):
+            if name not in way:
+                more = " .." if len(sentences) > 1 else ""
+                rows.append(f"| `{crate}::{name}` | {sentences[0].rstrip('.')}{more} |")
+        if way:
+            others.append(f"{crate} {len(way)}")
+    count = sum(map(len, map(on_the_way, ON_THE_WAY)))
+    return "\n".join(rows) + "\n\n" + textwrap.fill(f"On the way to them there are {count} more: {', '.join(others)}.", WIDTH)
+
+
+def faults() -> list:
+    """The names that are no laws, and the lines that are too long."""
+    wrong = []
+    for crate in crates():
+        laws = dict(laws_of(crate))
+        way = on_the_way(crate)
+        wrong += [f"{crate} has no law {name}" for name in sorted(way - set(laws))]
+        for name, sentences in laws.items():
+            count = len(sentences[0].split())
+            if name not in way and count > MOST_WORDS:
+                wrong.append(f"{crate} {name}: its first sentence has {count} words, more than {MOST_WORDS}")
+    return wrong
+
+
+def with_table(page: str) -> str:
+    before, _, rest = page.partition(BEGIN)
+    return f"{before}{BEGIN}\n\n{table()}\n\n{END}{rest.partition(END)[2]}"
+
+
+def main() -> int:
+    page, wrong = PAGE.read_text(), faults()
+    made = with_table(page)
+    if "--check" in sys.argv:
+        wrong += ["docs/auditors/PROVED.md: the table of laws is another one: run scripts/make_laws.py"] if made != page else []
+    else:
+        PAGE.write_text(made)
+    print("\n".join(wrong + [f"{len(wrong)} wrong"]))
+    return 1 if wrong else 0
+
+
+if __name__ == "__main__":
+    sys.exit(main())
