@@ -1,0 +1,7 @@
+pub mod NotBarred
+pub mod Ready
+pub mod Named
+pub mod Clean
+pub mod Unsaid
+pub mod Heads
+pub mod ReadsAgain
