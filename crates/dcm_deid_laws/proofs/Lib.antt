@@ -4,4 +4,5 @@ pub mod Named
 pub mod Clean
 pub mod Unsaid
 pub mod Heads
+pub mod Twice
 pub mod ReadsAgain

@@ -1,10 +1,12 @@
 -- What is written without identity reads back as its normal form.
-use Rattle.std.proofs.Common.{◌≡◌, ◌∙◌, ap, sym, refl, subst, ℕ, ◌+◌, ◌≤◌, List, [], length, None}
+use Rattle.std.proofs.Common.{◌≡◌, ◌∙◌, ap, sym, refl, subst, ℕ, ◌+◌, ◌≤◌, List, [], length, None, Option, true, append-nil}
 use Rattle.dcm_base.specs.declared.dictionary.Dictionary.{Dictionary}
+use Rattle.dcm_base.specs.declared.dictionary.Dictionary.TheVariants.{Extract, Standard}
 use Rattle.dcm_base.specs.declared.syntax.Syntax.{Syntax}
+use Rattle.dcm_base.specs.declared.tag.Tag.{Tag}
 use Rattle.dcm_base.specs.Bytes.Spelling.{last_tag}
 use Rattle.dcm_base.specs.Conversion.Normal.{normal, normal_front, whole_front}
-use Rattle.dcm_base.specs.Conversion.Recode.{recode}
+use Rattle.dcm_base.specs.Conversion.Recode.{recode, recode_set}
 use Rattle.dcm_base.specs.Reading.Bars.{identity_bar, target_bar}
 use Rattle.dcm_base.specs.Reading.Reads.{INPUT_LIMIT, Reads}
 use Rattle.dcm_base.specs.Reading.Stop.{Stop, complete}
@@ -31,6 +33,7 @@ use Rattle.dcm_deid_laws.specs.Clean.{NothingIsLeft, WrittenIsClean}
 use Rattle.dcm_deid_laws.specs.Taken.{Takes}
 use Rattle.dcm_deid_laws.proofs.Clean.{set_back, unsaid_clean}
 use Rattle.dcm_deid_laws.proofs.Named.{AreNamed, spelled_named}
+use Rattle.dcm_deid_laws.proofs.Twice.Again.{Knows, twice}
 use Rattle.dcm_deid_laws.proofs.Unsaid.{unsaid_normal}
 use Rattle.dcm_deid_laws.proofs.NotBarred.{not_barred}
 use Rattle.dcm_deid_laws.proofs.Ready.{left_ready, plain_ready}
@@ -103,3 +106,27 @@ module _ (options : Options) (key : List ℕ) (s : Syntax) (at : ℕ) (f : Front
   taken_is_gone again stop reads =
       let one = reads_once (target_bar s) s at (recode s left) again (normal_front s left) stop complete reads own_again in
       (one.1, subst (NothingIsLeft options key) (sym one.0) left_is_clean)
+
+  -- ---- a second time
+
+  written_whole : (reached : Option Tag) (x : Trees) → recode s (read_whole reached x) ≡ recode_set s x
+  unfolding recode
+  written_whole reached x = append-nil (recode_set s x)
+
+  again_is : (set : Trees) → deidentified options (replaced key) (whole_front set) ≡ read_whole (last_tag None set) (left_of set)
+  again_is set = of_whole options (replaced key) (last_tag None set) set
+
+  knows : Knows s
+  knows = λ e. (let no : Standard ≡ Extract = sym h.by_standard ∙ e in cc)
+
+  pub deidentified_twice : options.uids ≡ true → recode s (deidentified options (replaced key) (normal_front s left)) ≡ recode s left
+  deidentified_twice given =
+      let w = source_whole (plain s) s h.start h.bytes f h.begins h.are_bytes in_plain in
+      let is : left ≡ read_whole (last_tag None w.trees) (left_of w.trees) = left_is w.trees w.is in
+      let again : Trees = normal s (left_of w.trees) in
+      ap (λ (g : Front). recode s (deidentified options (replaced key) (normal_front s g))) is
+      ∙ ap (recode s) (again_is again)
+      ∙ written_whole (last_tag None again) (left_of again)
+      ∙ twice options key given s w.trees (spelled_named s w.trees h.bytes [] w.spelled) knows
+      ∙ sym (written_whole (last_tag None w.trees) (left_of w.trees))
+      ∙ ap (recode s) (sym is)

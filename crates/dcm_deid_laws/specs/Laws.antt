@@ -1,5 +1,5 @@
 -- The statements of the laws.
-use Rattle.std.specs.Prelude.{◌≡◌, ℕ, List}
+use Rattle.std.specs.Prelude.{◌≡◌, ℕ, List, true}
 use Rattle.dcm_base.specs.declared.dictionary.Dictionary.{Dictionary}
 use Rattle.dcm_base.specs.declared.syntax.Syntax.{Syntax}
 use Rattle.dcm_base.specs.Conversion.Normal.{normal_front}
@@ -28,3 +28,11 @@ TakenIsGone =
     (options : Options) (key : List ℕ) (s : Syntax) (at : ℕ) (f again : Front) (stop : Stop) → Takes options key s at f
     → Reads (target_bar s) s at (recode s (deidentified options (replaced key) f)) again stop
     → (stop ≡ complete) × NothingIsLeft options key again
+
+-- where unique identifiers are retained, the same options write the same bytes again of what reads back
+abbrev pub DeidentifiedTwice : Type 0
+DeidentifiedTwice =
+    (options : Options) (key : List ℕ) (s : Syntax) (at : ℕ) (f : Front) → Takes options key s at f
+    → options.uids ≡ true
+    → recode s (deidentified options (replaced key) (normal_front s (deidentified options (replaced key) f)))
+    ≡ recode s (deidentified options (replaced key) f)

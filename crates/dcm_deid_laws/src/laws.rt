@@ -1,5 +1,5 @@
 //! Laws of the definitions. Each function takes nothing and makes no call: its contract is the law.
-ghost use Rattle.dcm_deid_laws.specs.Laws.{DeidentifiedReads, TakenIsGone};
+ghost use Rattle.dcm_deid_laws.specs.Laws.{DeidentifiedReads, DeidentifiedTwice, TakenIsGone};
 
 /// What is written without identity of a data set that was read without fault by the whole dictionary reads back
 /// without fault, in the syntax of the input, by that dictionary and by the extract, as its normal form, where it ends
@@ -14,4 +14,10 @@ pub fn deidentified_reads()
 /// elements that say what was done are set aside.
 pub fn written_is_clean()
     ensures { TakenIsGone }
+{}
+
+/// Where unique identifiers are retained, to take identity out of what reads back, with the same options, writes the same
+/// bytes again.
+pub fn deidentified_twice()
+    ensures { DeidentifiedTwice }
 {}
