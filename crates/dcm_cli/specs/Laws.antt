@@ -14,14 +14,17 @@ use Rattle.dcm_editor.specs.Everywhere.{Among, EverywhereIn, IsOther, IsPublic, 
 use Rattle.dcm_editor.specs.Others.{any_changes, set_without, KeepsSign}
 use Rattle.dcm_editor.specs.Readers.{HidesNothing, OpensAlike}
 use Rattle.dcm_editor.specs.Repeating.{EraseByNoNumber}
+use Rattle.dcm_deid.specs.declared.fate.Options.{Options}
+use Rattle.dcm_deid_laws.specs.Clean.{NothingIsLeft}
 use Rattle.dcm_words.specs.declared.job.Job.{Job}
 use Rattle.dcm_cli.specs.Answer.{Answer, Answers, Sure}
-use Rattle.dcm_cli.specs.ReadsAgain.{InOutput, InWholeOutput, IsConverted, IsModified, ReadsConverted, ReadsModified}
+use Rattle.dcm_cli.specs.ReadsAgain.{InOutput, InWholeOutput, IsConverted, IsModified, IsTaken}
+use Rattle.dcm_cli.specs.ReadsAgain.{ReadsConverted, ReadsModified, ReadsTaken}
 use Rattle.dcm_cli.specs.Run.{IsMeant}
 use Rattle.dcm_cli.specs.Status.{DONE, REMARK}
 use Rattle.dcm_words.specs.Plans.{job_of}
 use Rattle.dcm_words.specs.Words as words
-use Rattle.std.specs.Prelude.{◌++◌, ◌≡◌, ◌⊎◌, List, Option, true, ℕ}
+use Rattle.std.specs.Prelude.{◌++◌, ◌≡◌, ◌⊎◌, Bool, List, Option, true, ℕ}
 use Rattle.std.specs.declared.alloc.Global.{Global}
 use Rattle.dcm_base.specs.Tables.Syntax.{read_by}
 
@@ -152,3 +155,15 @@ ModifiedTwice =
     (d : Dictionary) (edits : List Edit) (input : List ℕ) (a b : Answer) (m : Meta) (coding : Coding) (f : Front)
     → IsModified d edits input a m coding f → EraseByNoNumber edits → Answers (words.modify d edits) a.output b
     → (b.output ≡ a.output) × ((b.status ≡ DONE) ⊎ (b.status ≡ REMARK))
+
+-- what dcmdeid writes of a file without fault is read without fault, by each dictionary
+abbrev pub DeidentifiedReads : Type 0
+DeidentifiedReads =
+    (options : Options) (reports : Bool) (key input : List ℕ) (a : Answer) (m : Meta) (coding : Coding) (f : Front)
+    (e : Dictionary) → IsTaken options reports key input a m coding f → ReadsTaken e options key a m coding f
+
+-- and nothing that was taken is in it
+abbrev pub OutputIsClean : Type 0
+OutputIsClean =
+    (options : Options) (reports : Bool) (key input : List ℕ) (a : Answer) (m : Meta) (coding : Coding) (f : Front)
+    → IsTaken options reports key input a m coding f → InOutput Standard (λ s set. NothingIsLeft options key set) a

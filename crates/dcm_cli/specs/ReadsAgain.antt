@@ -1,5 +1,5 @@
--- Files that dcmodify and dcmconv wrote, read again.
-use Rattle.std.specs.Prelude.{◌≡◌, ◌≤◌, ℕ, List, length, drop, Option, None, Some, Ok, true}
+-- Files that dcmodify, dcmconv and dcmdeid wrote, read again.
+use Rattle.std.specs.Prelude.{◌≡◌, ◌≤◌, ℕ, Bool, List, length, drop, Option, None, Some, Ok, true}
 use Rattle.dcm_base.specs.declared.syntax.Coding.{Coding}
 use Rattle.dcm_base.specs.declared.syntax.Syntax.{Syntax}
 use Rattle.dcm_base.specs.Reading.Bars.{no_bar, target_bar}
@@ -16,9 +16,13 @@ use Rattle.dcm_base.specs.Tables.Transfer.{native}
 use Rattle.dcm_edits.specs.Edit.{Edit, edited}
 use Rattle.dcm_sinks.specs.MetaAgain.{meta_again}
 use Rattle.dcm_base.specs.declared.mode.Mode.TheVariants.{Full}
-use Rattle.dcm_base.specs.Tables.Syntax.{dictionary_of, read_by, is_big}
+use Rattle.dcm_base.specs.Tables.Syntax.{coding_by, dictionary_of, read_by, is_big}
 use Rattle.dcm_base.specs.declared.dictionary.Dictionary.{Dictionary}
-use Rattle.dcm_words.specs.Words.{convert, dump, modify}
+use Rattle.dcm_uid.specs.Uid.{replaced}
+use Rattle.dcm_deid.specs.declared.fate.Options.{Options}
+use Rattle.dcm_deid.specs.Meta.{meta_without_identity}
+use Rattle.dcm_deid.specs.Saying.{deidentified}
+use Rattle.dcm_words.specs.Words.{convert, deidentify, dump, modify}
 use Rattle.dcm_cli.specs.Answer.{Answer, HeadIs, FileReads, ReadAnswers, Source, alone, file, set_at, target_syntax}
 use Rattle.dcm_cli.specs.Answer.{target_uid, unopened}
 use Rattle.dcm_edits.specs.EditWords.{meant_edits_in}
@@ -92,3 +96,20 @@ abbrev pub InWholeOutput : Dictionary → (Syntax → Front → Type 0) → Answ
 InWholeOutput d P a =
     (m : Meta) (coding : Coding) (set : Front) → FileReads (dump d Full None) a.output (file m coding set complete)
     → P coding.syntax set
+
+-- dcmdeid answers a file that was read without fault
+pub record IsTaken (options : Options) (reports : Bool) (key input : List ℕ) (a : Answer) (m : Meta) (coding : Coding)
+    (f : Front) : Type 0 where
+  pub are_bytes : AreBytes input
+  pub answers : ReadAnswers (deidentify options reports key) input a
+  pub source_is : answers.source ≡ file m coding f complete
+  pub room : HasRoom a.output (meta_without_identity options key m) m.uid coding.syntax
+      (deidentified options (replaced key) f)
+
+-- its output is read by a dictionary: the new meta group of the elements that stay, and the normal form of the data set
+-- without identity
+abbrev pub ReadsTaken : Dictionary → Options → (key : List ℕ) → Answer → Meta → Coding → Front → Type 0
+ReadsTaken e options key a m coding f =
+    IsRead e a.output (meta_again (meta_without_identity options key m) m.uid)
+    (new_meta (meta_without_identity options key m).elements m.uid) (coding_by e coding)
+    (normal_front (read_by e coding.syntax) (deidentified options (replaced key) f))

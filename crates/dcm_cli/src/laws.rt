@@ -2,7 +2,8 @@
 ghost use Rattle.dcm_cli.specs.Laws.{SureGrows, ModifiedReads, ConvertedReads, ErasedAll, ErasedPrivate, ModifiedAll};
 ghost use Rattle.dcm_cli.specs.Laws.{OthersStay, ReadsAlike, ErasedAllBy, ErasedPrivateBy, ModifiedAllBy, OthersStayBy};
 ghost use Rattle.dcm_cli.specs.Laws.{ExplicitOpensAlike, OwnOpensAlike, StandardOpensAlike, ErasedAllSeen};
-ghost use Rattle.dcm_cli.specs.Laws.{ErasedPrivateSeen, AlikeHidesNothing, ModifiedTwice};
+ghost use Rattle.dcm_cli.specs.Laws.{ErasedPrivateSeen, AlikeHidesNothing, ModifiedTwice, DeidentifiedReads};
+ghost use Rattle.dcm_cli.specs.Laws.{OutputIsClean};
 ghost use Rattle.dcm_cli.specs.Answer.{Answer, Answers};
 ghost use Rattle.dcm_cli.specs.DumpBuilds.{DumpBuilds};
 ghost use Rattle.dcm_cli.specs.InMemory.{Outcome, Comes};
@@ -124,4 +125,17 @@ pub fn modified_twice()
 /// Unique identifiers that get new ones may differ in their padding alone.
 pub fn nothing_flows_in_answers()
     ensures { NothingFlows }
+{}
+
+/// What dcmdeid writes of a file without fault is a file that is read without fault, with the whole dictionary and with
+/// the extract: its transfer syntax is that of the input, its meta group is the one that was written anew of the
+/// elements that stay, and its data set is the normal form of the one without identity.
+pub fn deidentified_reads()
+    ensures { DeidentifiedReads }
+{}
+
+/// However the output of dcmdeid for a file without fault is read as a file by the whole dictionary: it is read without
+/// fault, and nothing that was taken is in its data set, at any depth.
+pub fn output_is_clean()
+    ensures { OutputIsClean }
 {}

@@ -5,3 +5,4 @@ pub mod Kept
 pub mod Said
 pub mod Paired
 pub mod Known
+pub mod Instances

@@ -10,3 +10,4 @@ pub mod Deidentifying
 pub mod Through
 pub mod Laws
 pub mod Meta
+pub mod Uids

@@ -1,7 +1,6 @@
 -- The head of a file without identity (PS3.10 7.1).
 use Rattle.std.specs.Prelude.{ℕ, List, Bool, ◌||◌, Option, Some, None, if◌then◌else◌, replicate}
 use Rattle.dcm_base.specs.declared.tag.Tag.{Tag}
-use Rattle.dcm_base.specs.declared.vr.Vr.{Vr}
 use Rattle.dcm_base.specs.Tables.Tag.{is_tag}
 use Rattle.dcm_base.specs.Conversion.NewMeta.{Renewing, renewed}
 use Rattle.dcm_base.specs.File.MetaReads.{Meta}

@@ -35,20 +35,24 @@ abbrev pub IsKept : Fate → Type 0
 IsKept Keep = Unit {0}
 IsKept _ = ⊥
 
--- nothing that was taken is in a data set, at any depth
+-- the same of all elements of a data set, at any depth
 abbrev mutual
-  pub IsClean : Fates → Renaming → Depth → Trees → Type 0
-  IsClean fates new depth no_tree = Unit {0}
-  IsClean fates new depth (leaf tag vr value rest) = ValueIsClean new (fates depth AsBytes tag) vr value
-      × IsClean fates new depth rest
-  IsClean fates new depth (sequence tag vr declared items rest) =
-      SequenceIsClean (fates depth AsItems tag) items (ItemsAreClean fates new items) × IsClean fates new depth rest
-  IsClean fates new depth (fragments tag vr parts rest) = IsKept (fates depth AsBytes tag)
-      × IsClean fates new depth rest
+  pub AreClean : (Fate → Vr → List ℕ → Type 0) → Fates → Depth → Trees → Type 0
+  AreClean clean fates depth no_tree = Unit {0}
+  AreClean clean fates depth (leaf tag vr value rest) = clean (fates depth AsBytes tag) vr value
+      × AreClean clean fates depth rest
+  AreClean clean fates depth (sequence tag vr declared items rest) =
+      SequenceIsClean (fates depth AsItems tag) items (ItemsAreClean clean fates items) × AreClean clean fates depth rest
+  AreClean clean fates depth (fragments tag vr parts rest) = IsKept (fates depth AsBytes tag)
+      × AreClean clean fates depth rest
 
-  pub ItemsAreClean : Fates → Renaming → Items → Type 0
-  ItemsAreClean fates new no_item = Unit {0}
-  ItemsAreClean fates new (item declared set rest) = IsClean fates new Inside set × ItemsAreClean fates new rest
+  pub ItemsAreClean : (Fate → Vr → List ℕ → Type 0) → Fates → Items → Type 0
+  ItemsAreClean clean fates no_item = Unit {0}
+  ItemsAreClean clean fates (item declared set rest) = AreClean clean fates Inside set × ItemsAreClean clean fates rest
+
+-- nothing that was taken is in a data set, at any depth
+abbrev pub IsClean : Fates → Renaming → Depth → Trees → Type 0
+IsClean fates new depth set = AreClean (ValueIsClean new) fates depth set
 
 -- what is not kept goes
 abbrev pub kept_or_removed : Fate → Fate

@@ -22,6 +22,7 @@ ghost use Rattle.dcm_deid.specs.declared.fate.Fate.TheVariants.{Remove};
 ghost use Rattle.dcm_deid.specs.Laws.{BarSteps, DeidentifySteps, PixelSteps};
 ghost use Rattle.dcm_deid.specs.Pairs.{Pairs};
 ghost use Rattle.dcm_deid.specs.Remains.{IsClean, kept_of};
+ghost use Rattle.dcm_deid.specs.Uids.{HeadsBy, NewByKey, SetsBy, UidsAgree};
 
 /// The numbers of the table ascend, so that it has no tag twice.
 pub fn actions_ascend()
@@ -90,4 +91,13 @@ pub fn what_stays_is_known()
         → fate_as options depth read tag ≢ Remove → is_known tag ≡ true }
     ensures looked_into { (options : Options) (depth : Depth) (tag : Tag) → fate_as options depth AsBytes tag ≢ Remove
         → is_sequence (vr_in Standard tag) ≡ false }
+{}
+
+/// A new unique identifier is a function of the key and of the old one without its padding. Of the instance it is the
+/// same function in the head of a file and in its data set: where they named the same instance, they do so afterwards.
+pub fn uids_agree()
+    ensures by_key { NewByKey }
+    ensures in_head { HeadsBy }
+    ensures in_set { SetsBy }
+    ensures agree { UidsAgree }
 {}

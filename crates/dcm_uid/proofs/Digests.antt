@@ -1,7 +1,7 @@
 -- A digest is of bytes, so the number of its UUID has at most 128 bits.
-use Rattle.std.proofs.Common.{◌≡◌, ℕ, zero, suc, ◌+◌, ◌-◌, ◌^◌, ◌/◌, ◌%◌, ◌<◌, ◌≤◌, List, [], ◌∷◌, ◌++◌, length, slice_index, arith, subst, sym}
+use Rattle.std.proofs.Common.{ℕ, zero, suc, ◌^◌, ◌/◌, ◌%◌, ◌<◌, List, [], ◌∷◌, ◌++◌, slice_index, arith}
 use Rattle.std.specs.Int.{w32, byte_at, bytes_high_first, to_be_bytes}
-use Rattle.sha2.specs.Sha256.{digest_bytes, hash_after, sha256}
+use Rattle.sha2.specs.Sha256.{digest_bytes, sha256}
 use Rattle.dcm_base.specs.Tables.Number.{AreBytes}
 use Rattle.dcm_uid.specs.Hmac.{hmac_sha256}
 use Rattle.dcm_uid.specs.Uid.{uuid_number}

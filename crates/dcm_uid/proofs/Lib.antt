@@ -1,4 +1,5 @@
 pub mod Replaced
 pub mod Decimals
 pub mod Digests
+pub mod NewUids
 mod HmacRows

@@ -44,7 +44,7 @@ use Rattle.dcm_cli.proofs.ReadBack.OutputEdited.{in_output, modifies, was_read}
 use Rattle.dcm_cli.proofs.ReadBack.ReadsAgain.{behind_group, long, modified_reads, of_head, read_of, read_twice, written_reads}
 use Rattle.dcm_editor.proofs.ReadBack.Plain.{plain}
 
-coding_twice : (e d : Dictionary) (c : Coding) → coding_by e (coding_by d c) ≡ coding_by e c
+pub coding_twice : (e d : Dictionary) (c : Coding) → coding_by e (coding_by d c) ≡ coding_by e c
 coding_twice e d c = ap (λ (x : Syntax). record { syntax = x; encapsulated = c.encapsulated }) (read_twice e d c.syntax)
 
 big_alike : (e : Dictionary) (s : Syntax) → is_big (read_by e s) ≡ true → is_big s ≡ true

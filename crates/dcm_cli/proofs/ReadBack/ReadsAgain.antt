@@ -85,13 +85,13 @@ front_ends s n (front whole (open_leaf tag vr size value) reached closed) b h = 
 front_ends s n (front whole (open_sequence tag vr declared items last) reached closed) b h = absurd (let none = h.1 in cc)
 front_ends s n (front whole (open_fragments tag vr values last) reached closed) b h = absurd (let none = h.1 in cc)
 
-ends_by : (s : Syntax) (n : ℕ) (f : Front) → (is_big s ≡ true → group_place n (recode s f) ≡ the_end) → FrontReady s f → group_place n (recode s f) ≡ the_end
+pub ends_by : (s : Syntax) (n : ℕ) (f : Front) → (is_big s ≡ true → group_place n (recode s f) ≡ the_end) → FrontReady s f → group_place n (recode s f) ≡ the_end
 ends_by (implicit_in d) n f h k = front_ends (implicit_in d) n f refl k
 ends_by (little_in d) n f h k = front_ends (little_in d) n f refl k
 ends_by (big_in d) n f h k = h refl
 
 -- in its own syntax nothing is barred
-no_bar_reads : (s : Syntax) (start : ℕ) (bytes : List ℕ) (f : Front) → start ≤ INPUT_LIMIT → Reads (target_bar s) s start bytes f complete → Reads no_bar s start bytes f complete
+pub no_bar_reads : (s : Syntax) (start : ℕ) (bytes : List ℕ) (f : Front) → start ≤ INPUT_LIMIT → Reads (target_bar s) s start bytes f complete → Reads no_bar s start bytes f complete
 no_bar_reads s start bytes f le h =
     let some = plain s start bytes le in
     let one = reads_once (target_bar s) s start bytes some.0 f some.1 complete (own_reads s start bytes some.0 some.1 some.2) h in
@@ -99,7 +99,7 @@ no_bar_reads s start bytes f le h =
 
 -- ---- the output
 
-four_parts : (preamble prefix group set : List ℕ) → preamble ++ prefix ++ group ++ set ≡ preamble ++ (prefix ++ (group ++ set))
+pub four_parts : (preamble prefix group set : List ℕ) → preamble ++ prefix ++ group ++ set ≡ preamble ++ (prefix ++ (group ++ set))
 four_parts preamble prefix group set = append_assoc (preamble ++ prefix) group set ∙ append_assoc preamble prefix (group ++ set)
 
 -- behind the group
@@ -109,7 +109,7 @@ behind_group preamble prefix group set a b =
     let two = length-append (preamble ++ prefix) group in
     drop_at (preamble ++ prefix ++ group) set (132 + length group) (omega (arith, one, two))
 
-all_size : (preamble prefix group set : List ℕ) → length preamble ≡ 128 → length prefix ≡ 4 → length (preamble ++ prefix ++ group ++ set) ≡ 132 + length group + length set
+pub all_size : (preamble prefix group set : List ℕ) → length preamble ≡ 128 → length prefix ≡ 4 → length (preamble ++ prefix ++ group ++ set) ≡ 132 + length group + length set
 all_size preamble prefix group set a b =
     let one = length-append preamble prefix in
     let two = length-append (preamble ++ prefix) group in

@@ -22,12 +22,12 @@ module _ (fates : Fates) (new : Renaming) where
   leaf_clean depth Keep tag vr value rest e h = (subst (λ k. ValueIsClean new k vr (value_by new Keep vr value)) (sym e) tt, h)
 
   sequence_clean : (depth : Depth) (fate : Fate) (tag : Tag) (vr : Vr) (items : Items) (rest : Trees) → fates depth AsItems tag ≡ fate
-      → ItemsAreClean fates new items → IsClean fates new depth rest → IsClean fates new depth (sequence_by fate tag vr items rest)
+      → ItemsAreClean (ValueIsClean new) fates items → IsClean fates new depth rest → IsClean fates new depth (sequence_by fate tag vr items rest)
   sequence_clean depth Remove tag vr items rest e i h = h
   sequence_clean depth Empty tag vr items rest e i h = (subst (λ k. SequenceIsClean k no_item (Unit {0})) (sym e) refl, h)
   sequence_clean depth Replace tag vr items rest e i h = (subst (λ k. SequenceIsClean k no_item (Unit {0})) (sym e) refl, h)
   sequence_clean depth Uid tag vr items rest e i h = (subst (λ k. SequenceIsClean k no_item (Unit {0})) (sym e) refl, h)
-  sequence_clean depth Keep tag vr items rest e i h = (subst (λ k. SequenceIsClean k items (ItemsAreClean fates new items)) (sym e) i, h)
+  sequence_clean depth Keep tag vr items rest e i h = (subst (λ k. SequenceIsClean k items (ItemsAreClean (ValueIsClean new) fates items)) (sym e) i, h)
 
   fragments_clean : (depth : Depth) (fate : Fate) (tag : Tag) (vr : Vr) (values : List (List ℕ)) (rest : Trees) → fates depth AsBytes tag ≡ fate
       → IsClean fates new depth rest → IsClean fates new depth (fragments_by fate tag vr values rest)
@@ -45,6 +45,6 @@ module _ (fates : Fates) (new : Renaming) where
         sequence_clean depth (fates depth AsItems tag) tag vr (items_by_fate fates (value_by new) items) (by_fate fates (value_by new) depth rest) refl (items_clean items) (clean depth rest)
     clean depth (fragments tag vr values rest) = fragments_clean depth (fates depth AsBytes tag) tag vr values (by_fate fates (value_by new) depth rest) refl (clean depth rest)
 
-    pub items_clean : (items : Items) → ItemsAreClean fates new (items_by_fate fates (value_by new) items)
+    pub items_clean : (items : Items) → ItemsAreClean (ValueIsClean new) fates (items_by_fate fates (value_by new) items)
     items_clean no_item = tt
     items_clean (item declared set rest) = (clean Inside set, items_clean rest)

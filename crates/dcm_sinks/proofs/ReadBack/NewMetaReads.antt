@@ -14,7 +14,7 @@ use Rattle.dcm_base.specs.declared.length.Length.TheVariants.{Known}
 use Rattle.dcm_base.specs.declared.form.Form.TheVariants.{Value as a_value}
 use Rattle.dcm_base.specs.Tables.Tag.{is_tag}
 use Rattle.dcm_base.specs.Tree.Tree.{Trees, no_tree, leaf, sequence, fragments}
-use Rattle.dcm_base.specs.Tables.Number.{IsTag}
+use Rattle.dcm_base.specs.Tables.Number.{AreBytes, IsTag}
 use Rattle.dcm_base.specs.Tree.Value.{evened}
 use Rattle.dcm_base.specs.Bytes.Head.{ElementHead}
 use Rattle.dcm_base.specs.Bytes.Spelling.{form, TreesAt, Spells}
@@ -98,7 +98,7 @@ grouped file m group c (with_group preamble bytes others elements behind parts l
 -- ---- the elements of a group
 
 -- each is a value of group 2, whose head can be written
-unfoldable CanWrite : Trees → Type 0
+unfoldable pub CanWrite : Trees → Type 0
 CanWrite no_tree = Unit {0}
 CanWrite (leaf t vr v rest) = (t.group ≡ 2) × IsTag t × (length v < 0xFFFFFFFF) × (form Little vr (Known (length v)) ≡ a_value) × CanWrite rest
 CanWrite (sequence t vr declared items rest) = ⊥
@@ -286,16 +286,31 @@ named_some : (m : Meta) → m.uid ≡ without_pads (syntax_value m.elements) →
 unfolding without_pads
 named_some m is some none = some (is ∙ ap without_pads none)
 
+-- elements of a group, one of which names a transfer syntax
+pub record IsGroup (x : Trees) : Type 0 where
+  pub can : CanWrite x
+  pub meta : AreMeta x
+  pub some : syntax_value x ≢ []
+
+-- such as those that were read of a file
+pub group_read : (file : List ℕ) (m : Meta) (group : List ℕ) (c : Coding) → AreBytes file → MetaReads file (begins m group c) → IsGroup m.elements
+group_read file m group c are reads =
+    let g = grouped file m group c reads in
+    record { can = can_write m.elements g.group [] g.spelled g.meta (g.bytes (bytes_of file are)); meta = g.meta; some = named_some m g.uid_is g.some }
+
+-- are read again where they are written anew, after any preamble
+pub written_anew : (preamble : List ℕ) (x : Trees) (uid set : List ℕ) (coding : Coding) → length preamble ≡ 128 → IsGroup x → length (new_meta x uid) ≤ META_LIMIT → group_place (length (new_meta x uid)) set ≡ the_end → Names uid coding
+    → MetaReads (preamble ++ (PREFIX ++ (new_meta x uid ++ set))) (begins (record { preamble = preamble; elements = elements_again x uid; uid = uid }) (new_meta x uid) coding)
+written_anew preamble x uid set coding long g within ends n =
+    let group : List ℕ = new_meta x uid in
+    let few : length uid < 0xFFFFFFFF = short (length uid) (length group) META_LIMIT (let one = uid_within uid x g.meta g.some in let whole = length-append (group_length (length (new_elements x uid))) (new_elements x uid) in omega (arith, one, whole)) within (omega arith) in
+    let is : without_pads (syntax_value (elements_again x uid)) ≡ uid = names_again uid x g.meta g.some ∙ n.no_pad in
+    with_group preamble (group ++ set) group (elements_again x uid) the_end refl long (again_reads uid x (with_can uid x few g.can) set within ends)
+    (named_again preamble (elements_again x uid) group (without_pads (syntax_value (elements_again x uid))) uid coding is n.some n.coding_is)
+
 pub any : (file uid set : List ℕ) (m : Meta) (was coding : Coding) → Renews file m was uid set → Names uid coding → ReadsRenewed m uid set coding
 any file uid set m was coding r n =
-    let g = grouped file m r.group was r.reads in
-    let some : syntax_value m.elements ≢ [] = named_some m g.uid_is g.some in
-    let group : List ℕ = new_meta m.elements uid in
-    let few : length uid < 0xFFFFFFFF = short (length uid) (length group) META_LIMIT (let one = uid_within uid m.elements g.meta some in let whole = length-append (group_length (length (new_elements m.elements uid))) (new_elements m.elements uid) in omega (arith, one, whole)) r.within (omega arith) in
-    let can = with_can uid m.elements few (can_write m.elements g.group [] g.spelled g.meta (g.bytes (bytes_of file r.are_bytes))) in
-    let is : without_pads (syntax_value (elements_again m.elements uid)) ≡ uid = names_again uid m.elements g.meta some ∙ n.no_pad in
-    with_group m.preamble (group ++ set) group (elements_again m.elements uid) the_end refl g.long (again_reads uid m.elements can set r.within r.ends)
-    (named_again m.preamble (elements_again m.elements uid) group (without_pads (syntax_value (elements_again m.elements uid))) uid coding is n.some n.coding_is)
+    written_anew m.preamble m.elements uid set coding (grouped file m r.group was r.reads).long (group_read file m r.group was r.are_bytes r.reads) r.within r.ends n
 
 before_once : (b : ℕ) (w : List ℕ) → without_pads w ≡ w → without_pads (before_pads b w) ≡ before_pads b w
 unfolding without_pads
@@ -313,6 +328,9 @@ pads_once (b ∷ v) = before_once b (without_pads v) (pads_once v)
 
 own_names : (file : List ℕ) (m : Meta) (coding : Coding) → Grouped file m coding → Names m.uid coding
 own_names file m coding g = record { some = g.some; no_pad = ap without_pads g.uid_is ∙ pads_once (syntax_value m.elements) ∙ sym g.uid_is; coding_is = g.coding_is }
+
+pub names_read : (file : List ℕ) (m : Meta) (group : List ℕ) (coding : Coding) → MetaReads file (begins m group coding) → Names m.uid coding
+names_read file m group coding reads = own_names file m coding (grouped file m group coding reads)
 
 pub own : (file set : List ℕ) (m : Meta) (coding : Coding) → Renews file m coding m.uid set → ReadsRenewed m m.uid set coding
 own file set m coding r = any file m.uid set m coding coding r (own_names file m coding (grouped file m r.group coding r.reads))

@@ -1,0 +1,86 @@
+-- The elements that stay of a meta group can be written, and name the same transfer syntax.
+use Rattle.std.proofs.Common.{◌≡◌, ◌∙◌, ap, sym, refl, ℕ, ◌≤◌, List, length, Bool, true, false, ◌||◌, Option, None, Some, arith, if◌then◌else◌}
+use Rattle.dcm_base.specs.declared.length.Length.TheVariants.{Known}
+use Rattle.dcm_base.specs.declared.tag.Tag.{Tag}
+use Rattle.dcm_base.specs.declared.vr.Vr.{Vr}
+use Rattle.dcm_base.specs.declared.vr.Vr.TheVariants.{SQ}
+use Rattle.dcm_base.specs.Bytes.Spelling.{form}
+use Rattle.dcm_base.specs.Conversion.NewMeta.{leaf_if, renewed}
+use Rattle.dcm_base.specs.File.MetaGroup.{AreMeta}
+use Rattle.dcm_base.specs.File.MetaReads.{syntax_value}
+use Rattle.dcm_base.specs.Tables.Syntax.{Little}
+use Rattle.dcm_base.specs.Tables.Tag.{is_tag}
+use Rattle.dcm_base.specs.Tables.Transfer.{without_pads}
+use Rattle.dcm_base.specs.Tree.Tree.{Trees, no_tree, leaf, sequence, fragments}
+use Rattle.dcm_sinks.proofs.ReadBack.NewMetaReads.{CanWrite, IsGroup}
+use Rattle.dcm_uid.specs.Uid.{new_value}
+use Rattle.dcm_uid.proofs.NewUids.{replaced_short}
+use Rattle.dcm_deid.specs.declared.fate.Options.{Options}
+use Rattle.dcm_deid.specs.declared.meta.MetaFate.{MetaFate}
+use Rattle.dcm_deid.specs.declared.meta.MetaFate.TheVariants.{Remove, Keep, Uid}
+use Rattle.dcm_deid.specs.Meta.{meta_fate, meta_renewing, value_by_fate}
+
+known_form : (vr : Vr) (n m : ℕ) → form Little vr (Known n) ≡ form Little vr (Known m)
+unfolding form
+known_form SQ n m = refl
+known_form vr n m = refl
+
+new_short : (key v : List ℕ) → length (new_value key v) ≤ 64
+unfolding new_value
+new_short key v = replaced_short key (without_pads v)
+
+-- the transfer syntax stays
+stays_by : (a b c d e : Bool) (other : MetaFate) → c ≡ true → (if a || b || c || d || e then Keep else other) ≡ Keep
+stays_by true b true d e other h = refl
+stays_by false true true d e other h = refl
+stays_by false false true d e other h = refl
+stays_by a b false d e other h = absurd (let no : false ≡ true = h in cc)
+
+module _ (options : Options) (key : List ℕ) where
+  abbrev left : Trees → Trees
+  left x = renewed (meta_renewing options key) x
+
+  leaf_can : (fate : MetaFate) (t : Tag) (vr : Vr) (v : List ℕ) (rest more : Trees) → CanWrite (leaf t vr v rest) → CanWrite more → CanWrite (leaf_if (value_by_fate fate key v) t vr more)
+  unfolding CanWrite
+  leaf_can Remove t vr v rest more h k = k
+  leaf_can Keep t vr v rest more h k = (h.0, h.1, h.2, h.3, k)
+  leaf_can Uid t vr v rest more h k =
+      let short = new_short key v in
+      (h.0, h.1, omega (arith, short), known_form vr (length (new_value key v)) (length v) ∙ h.3, k)
+
+  can : (x : Trees) → CanWrite x → CanWrite (left x)
+  unfolding CanWrite
+  can no_tree h = tt
+  can (leaf t vr v rest) h = leaf_can (meta_fate options t) t vr v rest (left rest) h (can rest h.4)
+  can (sequence t vr declared items rest) h = h
+  can (fragments t vr values rest) h = h
+
+  leaf_meta : (new : Option (List ℕ)) (t : Tag) (vr : Vr) (more : Trees) → t.group ≡ 2 → AreMeta more → AreMeta (leaf_if new t vr more)
+  unfolding AreMeta
+  leaf_meta None t vr more g h = h
+  leaf_meta (Some w) t vr more g h = (g, h)
+
+  are_meta : (x : Trees) → AreMeta x → AreMeta (left x)
+  unfolding AreMeta
+  are_meta no_tree h = tt
+  are_meta (leaf t vr v rest) h = leaf_meta (meta_renewing options key t vr v) t vr (left rest) h.0 (are_meta rest h.1)
+  are_meta (sequence t vr declared items rest) h = h
+  are_meta (fragments t vr values rest) h = h
+
+  value_by : (new : Option (List ℕ)) (c : Bool) (t : Tag) (vr : Vr) (v : List ℕ) (more rest : Trees) → is_tag 2 0x10 t ≡ c → (c ≡ true → new ≡ Some v) → syntax_value more ≡ syntax_value rest
+      → syntax_value (leaf_if new t vr more) ≡ syntax_value (leaf t vr v rest)
+  value_by new true t vr v more rest at stays same =
+      ap (λ (w : Option (List ℕ)). syntax_value (leaf_if w t vr more)) (stays refl) ∙ ap (λ (bs : List ℕ). if is_tag 2 0x10 t then v else bs) same
+  value_by None false t vr v more rest at stays same = same ∙ sym (ap (λ (c : Bool). if c then v else syntax_value rest) at)
+  value_by (Some w) false t vr v more rest at stays same = ap (λ (c : Bool). if c then w else syntax_value more) at ∙ same ∙ sym (ap (λ (c : Bool). if c then v else syntax_value rest) at)
+
+  same_syntax : (x : Trees) → syntax_value (left x) ≡ syntax_value x
+  same_syntax no_tree = refl
+  same_syntax (leaf t vr v rest) =
+      value_by (meta_renewing options key t vr v) (is_tag 2 0x10 t) t vr v (left rest) rest refl
+      (λ e. ap (λ (fate : MetaFate). value_by_fate fate key v) (stays_by (is_tag 2 1 t) (is_tag 2 2 t) (is_tag 2 0x10 t) (is_tag 2 0x12 t) (is_tag 2 0x13 t) _ e)) (same_syntax rest)
+  same_syntax (sequence t vr declared items rest) = same_syntax rest
+  same_syntax (fragments t vr values rest) = same_syntax rest
+
+  pub left_group : (x : Trees) → IsGroup x → IsGroup (left x)
+  left_group x g = record { can = can x g.can; meta = are_meta x g.meta; some = λ none. g.some (sym (same_syntax x) ∙ none) }

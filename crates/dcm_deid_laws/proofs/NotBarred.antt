@@ -1,0 +1,108 @@
+-- What is read to its end where a tool bars something of itself is read the same where nothing is barred.
+use Rattle.std.proofs.Common.{◌≡◌, ◌∙◌, ap, sym, ℕ, List, [], ◌∷◌, length, drop, Option, Some, None, Bool, true, false, not, refl, inl, inr, ◌⊎◌}
+use Rattle.std.specs.Prelude.{◌+◌, ◌==◌, ◌&&◌, nat_le, nat_lt, if◌then◌else◌}
+use Rattle.dcm_base.specs.declared.vr.Vr.{Vr}
+use Rattle.dcm_base.specs.declared.syntax.Syntax.{Syntax}
+use Rattle.dcm_base.specs.declared.level.Level.{Level}
+use Rattle.dcm_base.specs.declared.fault.Fault.{Fault}
+use Rattle.dcm_base.specs.declared.fault.Fault.TheVariants.{EndsEarly, PassesEnd, TooDeep, UndefinedLength}
+use Rattle.dcm_base.specs.Reading.Bars.{no_bar}
+use Rattle.dcm_base.specs.Tree.Front.{Front}
+use Rattle.dcm_base.specs.Bytes.Head.{head_size, tag_at, vr_at, length_at, long_length}
+use Rattle.dcm_base.specs.Tables.Number.{number}
+use Rattle.dcm_base.specs.Reading.Place.{depth, passes, room, levels, value_open}
+use Rattle.dcm_base.specs.Reading.Reads.{INPUT_LIMIT, Reads, at_the_cut, end_too_long}
+use Rattle.dcm_base.specs.Bytes.Spelling.{form, read_as}
+use Rattle.dcm_base.specs.Reading.Stop.{Stop, complete, refused, Bar, barred, opens_list, with_length, first_case, has_no_form, element_stop, item_stop, head_stop, innermost_stop, value_stop, stop_at, or_else}
+use Rattle.dcm_base.specs.Tables.Tag.{is_item}
+
+-- with the bar, the same stop, or a refusal where there is none without it
+abbrev Weaker : Option Stop → Option Stop → Type 0
+Weaker a b = (a ≡ b) ⊎ ((b ≡ None) × (fault : Fault) × (offset : ℕ) × (a ≡ Some (refused fault offset)))
+
+-- ---- a head
+
+-- the bar is the last case of all
+last_case : (position : ℕ) (bar : Option Fault) → Weaker (first_case (barred bar position)) None
+last_case position None = inl refl
+last_case position (Some fault) = inr (refl, fault, position, refl)
+
+earlier_case : (c : Bool) (stop : Stop) (a b : Option Stop) → Weaker a b → Weaker (if c then Some stop else a) (if c then Some stop else b)
+earlier_case true stop a b h = inl refl
+earlier_case false stop a b h = h
+
+module _ (bar : Bar) (f : Front) where
+  weaker_element : (s : Syntax) (around : List Level) (position : ℕ) (rest : List ℕ) (o : Option Vr) → Weaker (element_stop (bar f) s around position rest o) (element_stop (no_bar f) s around position rest o)
+  weaker_element s around position rest None = inl refl
+  weaker_element s around position rest (Some vr) =
+      let declared = length_at s vr rest in
+      earlier_case (passes (head_size s vr) (room position around)) (refused PassesEnd position) _ _
+      (earlier_case (nat_lt (length rest) (head_size s vr)) (refused EndsEarly (position + length rest)) _ _
+      (earlier_case (has_no_form (form s (read_as s (tag_at s rest) vr) declared)) (refused UndefinedLength position) _ _
+      (earlier_case (passes (with_length (head_size s vr) declared) (room position around)) (refused PassesEnd position) _ _
+      (earlier_case (opens_list (form s (read_as s (tag_at s rest) vr) declared) && nat_le 64 (depth around)) (refused TooDeep position) _ _
+      (last_case position (bar f (tag_at s rest) vr declared))))))
+
+  weaker_head : (inner : Level) (around : List Level) (position : ℕ) (rest : List ℕ) → Weaker (head_stop (bar f) inner around position rest) (head_stop (no_bar f) inner around position rest)
+  weaker_head inner around position rest = by_test (not ((tag_at inner.syntax rest).group == 0xFFFE))
+    where
+      delimiter : Option Stop
+      delimiter = if is_item (tag_at inner.syntax rest) then item_stop inner.container around position (long_length (number inner.syntax 4 (drop 4 rest))) else None
+
+      by_test : (c : Bool) → Weaker (if c then element_stop (bar f) inner.syntax around position rest (vr_at inner.syntax rest) else delimiter) (if c then element_stop (no_bar f) inner.syntax around position rest (vr_at inner.syntax rest) else delimiter)
+      by_test true = weaker_element inner.syntax around position rest (vr_at inner.syntax rest)
+      by_test false = inl refl
+
+  weaker_after : (before a b : Option Stop) → Weaker a b → Weaker (or_else before a) (or_else before b)
+  weaker_after None a b h = h
+  weaker_after (Some stop) a b h = inl refl
+
+  weaker_place : (ls : List Level) (position : ℕ) (rest : List ℕ) → Weaker (innermost_stop (bar f) ls position rest) (innermost_stop (no_bar f) ls position rest)
+  weaker_place [] position rest = inl refl
+  weaker_place (inner ∷ outer) position rest = weaker_after _ _ _ (weaker_head inner (inner ∷ outer) position rest)
+
+weaker_stop : (bar : Bar) (s : Syntax) (start : ℕ) (f : Front) (position : ℕ) (rest : List ℕ) → Weaker (stop_at bar s start f position rest) (stop_at no_bar s start f position rest)
+unfolding stop_at
+weaker_stop bar s start f position rest = by_test (value_open f)
+  where
+    by_test : (c : Bool) → Weaker (if c then value_stop position rest else innermost_stop (bar f) (levels s start f) position rest) (if c then value_stop position rest else innermost_stop (no_bar f) (levels s start f) position rest)
+    by_test true = inl refl
+    by_test false = weaker_place bar f (levels s start f) position rest
+
+-- ---- an input
+
+none_below : (a b : Option Stop) → Weaker a b → a ≡ None → b ≡ None
+none_below a b (inl same) e = sym same ∙ e
+none_below a b (inr (none, fault, offset, is)) e = none
+
+some_below : (a b : Option Stop) → Weaker a b → a ≡ Some complete → b ≡ Some complete
+some_below a b (inl same) e = sym same ∙ e
+some_below a b (inr (none, fault, offset, is)) e = absurd (let never : Some (refused fault offset) ≡ Some complete = sym is ∙ e in cc)
+
+-- an end without fault is one
+cut_fault : (fault : Fault) (offset : ℕ) → end_too_long fault offset ≡ complete → ⊥
+cut_fault EndsEarly offset e = cc
+cut_fault fault offset e = cc
+
+well_ended : (c : Bool) (why : Stop) → complete ≡ (if c then at_the_cut why else why) → why ≡ complete
+well_ended true complete e = refl
+well_ended true (refused fault offset) e = absurd (cut_fault fault offset (sym e))
+well_ended false why e = sym e
+
+pub not_barred : (bar : Bar) (s : Syntax) (start : ℕ) (bytes : List ℕ) (f : Front) → Reads bar s start bytes f complete → Reads no_bar s start bytes f complete
+not_barred bar s start bytes f (reached, why, first, is, ends) = (
+  reached,
+  why,
+  record {
+    read = first.read;
+    rest = first.rest;
+    parts = first.parts;
+    spelled = first.spelled;
+    stops =
+        let well : why ≡ complete = well_ended (nat_lt INPUT_LIMIT (start + length bytes)) why is in
+        some_below _ _ (weaker_stop bar s start reached (start + length first.read) first.rest) (first.stops ∙ ap (λ (x : Stop). Some x) well) ∙ ap (λ (x : Stop). Some x) (sym well);
+    first = λ earlier later g parts less spelled. none_below _ _ (weaker_stop bar s start g (start + length earlier) later) (first.first earlier later g parts less spelled);
+  },
+  is,
+  ends,
+)

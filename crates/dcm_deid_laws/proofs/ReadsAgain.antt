@@ -1,0 +1,132 @@
+-- What is written without identity reads back as its normal form.
+use Rattle.std.proofs.Common.{◌≡◌, ◌∙◌, ap, sym, refl, subst, ℕ, ◌+◌, ◌≤◌, List, [], length, None, Option, true, append-nil}
+use Rattle.dcm_base.specs.declared.dictionary.Dictionary.{Dictionary}
+use Rattle.dcm_base.specs.declared.dictionary.Dictionary.TheVariants.{Extract, Standard}
+use Rattle.dcm_base.specs.declared.syntax.Syntax.{Syntax}
+use Rattle.dcm_base.specs.declared.tag.Tag.{Tag}
+use Rattle.dcm_base.specs.Bytes.Spelling.{last_tag}
+use Rattle.dcm_base.specs.Conversion.Normal.{normal, normal_front, whole_front}
+use Rattle.dcm_base.specs.Conversion.Recode.{recode, recode_set}
+use Rattle.dcm_base.specs.Reading.Bars.{identity_bar, target_bar}
+use Rattle.dcm_base.specs.Reading.Reads.{INPUT_LIMIT, Reads}
+use Rattle.dcm_base.specs.Reading.Stop.{Stop, complete}
+use Rattle.dcm_base.specs.Tables.Syntax.{read_by}
+use Rattle.dcm_base.specs.Tree.Front.{Front}
+use Rattle.dcm_base.specs.Tree.Tree.{Trees}
+use Rattle.dcm_base.proofs.DataSets.OneAnswer.{reads_once}
+use Rattle.dcm_base.proofs.DataSets.OwnSyntax.{own_reads}
+use Rattle.dcm_sinks.proofs.ReadBack.RecodeReads.{IsReady, read_ready, source_whole}
+use Rattle.dcm_editor.proofs.ReadBack.EditedReads.{front_reads}
+use Rattle.dcm_editor.proofs.ReadBack.Plain.{plain, plain_fits, plain_read}
+use Rattle.dcm_editor.proofs.ReadBack.StaysReady.{FrontReady}
+use Rattle.dcm_editor.proofs.Readers.Bytes.{front_alike}
+use Rattle.dcm_editor.proofs.Readers.Opened.{front_ready_by, standard_opens}
+use Rattle.dcm_uid.specs.Uid.{replaced}
+use Rattle.dcm_deid.specs.declared.fate.Options.{Options}
+use Rattle.dcm_deid.specs.declared.fate.Depth.TheVariants.{Outermost}
+use Rattle.dcm_deid.specs.Deidentify.{deidentified_set}
+use Rattle.dcm_deid.specs.Fate.{fate_as}
+use Rattle.dcm_deid.specs.Remains.{AreClean}
+use Rattle.dcm_deid.specs.Saying.{deidentified, read_whole, said, unsaid, whole_of}
+use Rattle.dcm_deid.proofs.Trees.Said.{of_whole, only_said_is_put, set_with_all}
+use Rattle.dcm_deid_laws.specs.Clean.{NothingIsLeft, WrittenIsClean}
+use Rattle.dcm_deid_laws.specs.Taken.{Takes}
+use Rattle.dcm_deid_laws.proofs.Clean.{set_back, unsaid_clean}
+use Rattle.dcm_deid_laws.proofs.Named.{AreNamed, spelled_named}
+use Rattle.dcm_deid_laws.proofs.Twice.Again.{Knows, twice}
+use Rattle.dcm_deid_laws.proofs.Unsaid.{unsaid_normal}
+use Rattle.dcm_deid_laws.proofs.NotBarred.{not_barred}
+use Rattle.dcm_deid_laws.proofs.Ready.{left_ready, plain_ready}
+
+module _ (options : Options) (key : List ℕ) (s : Syntax) (at : ℕ) (f : Front) (h : Takes options key s at f) where
+  -- what is left
+  abbrev left : Front
+  left = deidentified options (replaced key) f
+
+  abbrev left_of : Trees → Trees
+  left_of set = set_with_all (said options) (deidentified_set options (replaced key) Outermost set)
+
+  own : Reads (target_bar s) s h.start h.bytes f complete
+  own = own_reads s h.start h.bytes f complete (not_barred identity_bar s h.start h.bytes f h.reads)
+
+  in_plain : Reads (target_bar (plain s)) s h.start h.bytes f complete
+  in_plain = plain_read s h.start h.bytes f complete own
+
+  -- it was read whole
+  pub was_ready : IsReady (plain s) f
+  was_ready = read_ready (plain s) s h.start h.bytes f h.begins h.are_bytes in_plain (plain_fits s (target_bar (plain s)) h.start h.bytes f complete in_plain)
+
+  pub left_is : (trees : Trees) → f ≡ whole_front trees → left ≡ read_whole (last_tag None trees) (left_of trees)
+  left_is trees is = ap (deidentified options (replaced key)) is ∙ of_whole options (replaced key) (last_tag None trees) trees
+
+  pub is_ready : FrontReady s left
+  is_ready =
+      let w = was_ready in
+      subst (FrontReady s) (sym (left_is w.trees w.is)) (left_ready options key s h.by_standard w.trees w.ready, refl)
+
+  is_plain : FrontReady (plain s) left
+  is_plain =
+      let w = was_ready in
+      subst (FrontReady (plain s)) (sym (left_is w.trees w.is)) (plain_ready s 0 (left_of w.trees) (left_ready options key s h.by_standard w.trees w.ready), refl)
+
+  -- by each dictionary
+  ready_by : (e : Dictionary) → FrontReady (read_by e s) left
+  ready_by e = front_ready_by e s left (standard_opens e s left h.by_standard is_ready) is_plain
+
+  pub deidentified_reads : (e : Dictionary) → Reads (target_bar (read_by e s)) (read_by e s) at (recode s left) (normal_front (read_by e s) left) complete
+  deidentified_reads e =
+      let same : recode (read_by e s) left ≡ recode s left = front_alike e s s left is_ready in
+      subst (λ (bytes : List ℕ). Reads (target_bar (read_by e s)) (read_by e s) at bytes (normal_front (read_by e s) left) complete) same
+      (front_reads (read_by e s) at left (ready_by e) (subst (λ (bytes : List ℕ). at + length bytes ≤ INPUT_LIMIT) (sym same) h.within))
+
+  own_again : Reads (target_bar s) s at (recode s left) (normal_front s left) complete
+  own_again = front_reads s at left is_ready h.within
+
+  -- ---- nothing that was taken is in it
+
+  abbrev Clean : Trees → Type 0
+  Clean set = AreClean (WrittenIsClean (replaced key)) (fate_as options) Outermost set
+
+  left_unsaid : (trees : Trees) → unsaid (left_of trees) ≡ unsaid (deidentified_set options (replaced key) Outermost trees)
+  left_unsaid trees =
+      sym (ap (λ (g : Front). unsaid (whole_of g)) (of_whole options (replaced key) (last_tag None trees) trees)) ∙ only_said_is_put options (replaced key) (last_tag None trees) trees
+
+  back_is_clean : (trees : Trees) → AreNamed s trees → Clean (unsaid (normal s (left_of trees)))
+  back_is_clean trees named =
+      let set : Trees = deidentified_set options (replaced key) Outermost trees in
+      let same : unsaid (normal s set) ≡ unsaid (normal s (left_of trees)) = unsaid_normal s set ∙ ap (normal s) (sym (left_unsaid trees)) ∙ sym (unsaid_normal s (left_of trees)) in
+      subst Clean same (unsaid_clean options key Outermost (normal s set) (set_back options key s Outermost trees named))
+
+  pub left_is_clean : NothingIsLeft options key (normal_front s left)
+  left_is_clean =
+      let w = source_whole (plain s) s h.start h.bytes f h.begins h.are_bytes in_plain in
+      subst (λ (g : Front). NothingIsLeft options key (normal_front s g)) (sym (left_is w.trees w.is)) (back_is_clean w.trees (spelled_named s w.trees h.bytes [] w.spelled))
+
+  pub taken_is_gone : (again : Front) (stop : Stop) → Reads (target_bar s) s at (recode s left) again stop → (stop ≡ complete) × NothingIsLeft options key again
+  taken_is_gone again stop reads =
+      let one = reads_once (target_bar s) s at (recode s left) again (normal_front s left) stop complete reads own_again in
+      (one.1, subst (NothingIsLeft options key) (sym one.0) left_is_clean)
+
+  -- ---- a second time
+
+  written_whole : (reached : Option Tag) (x : Trees) → recode s (read_whole reached x) ≡ recode_set s x
+  unfolding recode
+  written_whole reached x = append-nil (recode_set s x)
+
+  again_is : (set : Trees) → deidentified options (replaced key) (whole_front set) ≡ read_whole (last_tag None set) (left_of set)
+  again_is set = of_whole options (replaced key) (last_tag None set) set
+
+  knows : Knows s
+  knows = λ e. (let no : Standard ≡ Extract = sym h.by_standard ∙ e in cc)
+
+  pub deidentified_twice : options.uids ≡ true → recode s (deidentified options (replaced key) (normal_front s left)) ≡ recode s left
+  deidentified_twice given =
+      let w = source_whole (plain s) s h.start h.bytes f h.begins h.are_bytes in_plain in
+      let is : left ≡ read_whole (last_tag None w.trees) (left_of w.trees) = left_is w.trees w.is in
+      let again : Trees = normal s (left_of w.trees) in
+      ap (λ (g : Front). recode s (deidentified options (replaced key) (normal_front s g))) is
+      ∙ ap (recode s) (again_is again)
+      ∙ written_whole (last_tag None again) (left_of again)
+      ∙ twice options key given s w.trees (spelled_named s w.trees h.bytes [] w.spelled) knows
+      ∙ sym (written_whole (last_tag None w.trees) (left_of w.trees))
+      ∙ ap (recode s) (sym is)

@@ -1,0 +1,23 @@
+//! Laws of the definitions. Each function takes nothing and makes no call: its contract is the law.
+ghost use Rattle.dcm_deid_laws.specs.Laws.{DeidentifiedReads, DeidentifiedTwice, TakenIsGone};
+
+/// What is written without identity of a data set that was read without fault by the whole dictionary reads back
+/// without fault, in the syntax of the input, by that dictionary and by the extract, as its normal form, where it ends
+/// within the limit of an input. Nothing more is asked: each tag that is left is one of the dictionary, and no value
+/// that is left is a sequence to it.
+pub fn deidentified_reads()
+    ensures { DeidentifiedReads }
+{}
+
+/// So nothing that was taken is in what is read back, at any depth: each element that is not kept has no value, the one
+/// that is put for all, or a new unique identifier, as these are written, and each one has a tag of the dictionary. The
+/// elements that say what was done are set aside.
+pub fn written_is_clean()
+    ensures { TakenIsGone }
+{}
+
+/// Where unique identifiers are retained, to take identity out of what reads back, with the same options, writes the same
+/// bytes again.
+pub fn deidentified_twice()
+    ensures { DeidentifiedTwice }
+{}
