@@ -8,7 +8,6 @@ pub mod Sets
 pub mod Alone
 pub mod MetaHeads
 pub mod MakesEdits
-pub mod IdentityBar
 pub mod DeidentifyReads
 pub mod MakesDeidentified
 pub mod Lines

@@ -5,3 +5,4 @@ pub mod DeidentifiedReads
 pub mod OutputEdited
 pub mod ModifiedTwice
 pub mod OtherReaders
+pub mod DeidentifiedTwice

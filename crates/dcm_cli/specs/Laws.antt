@@ -167,3 +167,11 @@ abbrev pub OutputIsClean : Type 0
 OutputIsClean =
     (options : Options) (reports : Bool) (key input : List ℕ) (a : Answer) (m : Meta) (coding : Coding) (f : Front)
     → IsTaken options reports key input a m coding f → InOutput Standard (λ s set. NothingIsLeft options key set) a
+
+-- where unique identifiers are retained, the same options again write the same bytes
+abbrev pub DeidentifiedTwice : Type 0
+DeidentifiedTwice =
+    (options : Options) (reports : Bool) (key input : List ℕ) (a b : Answer) (m : Meta) (coding : Coding) (f : Front)
+    → IsTaken options reports key input a m coding f → options.uids ≡ true
+    → Answers (words.deidentify options reports key) a.output b
+    → (b.output ≡ a.output) × ((b.status ≡ DONE) ⊎ (b.status ≡ REMARK))

@@ -1,24 +1,27 @@
 -- The elements that stay of a meta group can be written, and name the same transfer syntax.
-use Rattle.std.proofs.Common.{◌≡◌, ◌∙◌, ap, sym, refl, ℕ, ◌≤◌, List, length, Bool, true, false, ◌||◌, Option, None, Some, arith, if◌then◌else◌}
+use Rattle.std.proofs.Common.{◌≡◌, ◌∙◌, ap, sym, refl, ℕ, ◌≤◌, List, length, Bool, true, false, ◌||◌, Option, None, Some, arith, if◌then◌else◌, ◌≢◌, ◌==◌}
 use Rattle.dcm_base.specs.declared.length.Length.TheVariants.{Known}
 use Rattle.dcm_base.specs.declared.tag.Tag.{Tag}
 use Rattle.dcm_base.specs.declared.vr.Vr.{Vr}
 use Rattle.dcm_base.specs.declared.vr.Vr.TheVariants.{SQ}
-use Rattle.dcm_base.specs.Bytes.Spelling.{form}
-use Rattle.dcm_base.specs.Conversion.NewMeta.{leaf_if, renewed}
+use Rattle.dcm_base.specs.declared.syntax.Syntax.{Syntax}
+use Rattle.dcm_base.specs.Bytes.Spelling.{after, form}
+use Rattle.dcm_base.specs.Conversion.NewMeta.{leaf_if, renewed, with_syntax, without_syntax}
+use Rattle.dcm_base.specs.Conversion.Normal.{normal, normal_value, normal_vr}
 use Rattle.dcm_base.specs.File.MetaGroup.{AreMeta}
 use Rattle.dcm_base.specs.File.MetaReads.{syntax_value}
 use Rattle.dcm_base.specs.Tables.Syntax.{Little}
 use Rattle.dcm_base.specs.Tables.Tag.{is_tag}
 use Rattle.dcm_base.specs.Tables.Transfer.{without_pads}
 use Rattle.dcm_base.specs.Tree.Tree.{Trees, no_tree, leaf, sequence, fragments}
+use Rattle.dcm_sinks.specs.MetaAgain.{elements_again}
 use Rattle.dcm_sinks.proofs.ReadBack.NewMetaReads.{CanWrite, IsGroup}
 use Rattle.dcm_uid.specs.Uid.{new_value}
 use Rattle.dcm_uid.proofs.NewUids.{replaced_short}
 use Rattle.dcm_deid.specs.declared.fate.Options.{Options}
 use Rattle.dcm_deid.specs.declared.meta.MetaFate.{MetaFate}
 use Rattle.dcm_deid.specs.declared.meta.MetaFate.TheVariants.{Remove, Keep, Uid}
-use Rattle.dcm_deid.specs.Meta.{meta_fate, meta_renewing, value_by_fate}
+use Rattle.dcm_deid.specs.Meta.{meta_fate, meta_renewing, stays, value_by_fate}
 
 known_form : (vr : Vr) (n m : ℕ) → form Little vr (Known n) ≡ form Little vr (Known m)
 unfolding form
@@ -84,3 +87,66 @@ module _ (options : Options) (key : List ℕ) where
 
   pub left_group : (x : Trees) → IsGroup x → IsGroup (left x)
   left_group x g = record { can = can x g.can; meta = are_meta x g.meta; some = λ none. g.some (sym (same_syntax x) ∙ none) }
+
+-- ---- where unique identifiers are retained, all that is left stays
+
+module _ (options : Options) (key : List ℕ) where
+  abbrev again : Trees → Trees
+  again x = renewed (meta_renewing options key) x
+
+  abbrev AllStay : Trees → Type 0
+  AllStay no_tree = Unit {0}
+  AllStay (leaf t vr v rest) = (meta_fate options t ≡ Keep) × AllStay rest
+  AllStay (sequence t vr declared items rest) = AllStay rest
+  AllStay (fragments t vr values rest) = AllStay rest
+
+  pub they_stay : (x : Trees) → AllStay x → again x ≡ x
+  they_stay no_tree h = refl
+  they_stay (leaf t vr v rest) h = ap (λ (fate : MetaFate). leaf_if (value_by_fate fate key v) t vr (again rest)) h.0 ∙ ap (leaf t vr v) (they_stay rest h.1)
+  they_stay (sequence t vr declared items rest) h = ap (sequence t vr declared items) (they_stay rest h)
+  they_stay (fragments t vr values rest) h = ap (fragments t vr values) (they_stay rest h)
+
+  either_stays : (b : Bool) (x y : Trees) → AllStay x → AllStay y → AllStay (if b then x else y)
+  either_stays true x y h k = h
+  either_stays false x y h k = k
+
+  without_syntax_stays : (x : Trees) → AllStay x → AllStay (without_syntax x)
+  without_syntax_stays no_tree h = tt
+  without_syntax_stays (leaf t vr v rest) h = let more = without_syntax_stays rest h.1 in either_stays (is_tag 2 0x10 t) _ _ more (h.0, more)
+  without_syntax_stays (sequence t vr declared items rest) h = without_syntax_stays rest h
+  without_syntax_stays (fragments t vr values rest) h = without_syntax_stays rest h
+
+  pub with_syntax_stays : (uid : List ℕ) (x : Trees) → AllStay x → AllStay (with_syntax uid x)
+  with_syntax_stays uid no_tree h = tt
+  with_syntax_stays uid (leaf t vr v rest) h = either_stays (is_tag 2 0x10 t) _ _ (h.0, without_syntax_stays rest h.1) (h.0, with_syntax_stays uid rest h.1)
+  with_syntax_stays uid (sequence t vr declared items rest) h = with_syntax_stays uid rest h
+  with_syntax_stays uid (fragments t vr values rest) h = with_syntax_stays uid rest h
+
+  pub normal_stays : (s : Syntax) (x : Trees) → AllStay x → AllStay (normal s x)
+  unfolding normal
+  normal_stays s no_tree h = tt
+  normal_stays s (leaf t vr v rest) h = let more = normal_stays (after s t (normal_vr s t vr (length v)) (normal_value s t vr v)) rest h.1 in either_stays (t.element == 0) _ _ more (h.0, more)
+  normal_stays s (sequence t vr declared items rest) h = let more = normal_stays s rest h in either_stays (t.element == 0) _ _ more more
+  normal_stays s (fragments t vr values rest) h = let more = normal_stays s rest h in either_stays (t.element == 0) _ _ more more
+
+  module _ (given : options.uids ≡ true) where
+    kept_or : (a b c : Bool) → c ≡ true → (if a then Keep else if b then (if c then Keep else Uid) else Remove) ≢ Uid
+    kept_or true b c e = λ k. cc
+    kept_or false true true e = λ k. cc
+    kept_or false true false e = absurd (cc)
+    kept_or false false c e = λ k. cc
+
+    leaf_stays : (fate : MetaFate) (t : Tag) (vr : Vr) (v : List ℕ) (rest : Trees) → meta_fate options t ≡ fate → fate ≢ Uid → AllStay rest → AllStay (leaf_if (value_by_fate fate key v) t vr rest)
+    leaf_stays Remove t vr v rest e other h = h
+    leaf_stays Keep t vr v rest e other h = (e, h)
+    leaf_stays Uid t vr v rest e other h = absurd (other refl)
+
+    pub left_stays : (x : Trees) → AllStay (again x)
+    left_stays no_tree = tt
+    left_stays (leaf t vr v rest) = leaf_stays (meta_fate options t) t vr v (again rest) refl (kept_or (stays t) (is_tag 2 3 t) options.uids given) (left_stays rest)
+    left_stays (sequence t vr declared items rest) = left_stays rest
+    left_stays (fragments t vr values rest) = left_stays rest
+
+    -- what is left of the group that reads back
+    pub group_again : (uid : List ℕ) (x : Trees) → again (elements_again (again x) uid) ≡ normal Little (with_syntax uid (again x))
+    group_again uid x = they_stay (normal Little (with_syntax uid (again x))) (normal_stays Little (with_syntax uid (again x)) (with_syntax_stays uid (again x) (left_stays x)))

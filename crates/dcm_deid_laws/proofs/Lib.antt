@@ -1,4 +1,7 @@
 pub mod NotBarred
+pub mod IdentityBar
+pub mod Allowed
+pub mod IdentityReads
 pub mod Ready
 pub mod Named
 pub mod Clean

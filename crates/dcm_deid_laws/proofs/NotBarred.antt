@@ -1,6 +1,8 @@
--- What is read to its end where a tool bars something of itself is read the same where nothing is barred.
+-- What is read to its end where a tool bars something of itself is read the same where less is barred.
 use Rattle.std.proofs.Common.{◌≡◌, ◌∙◌, ap, sym, ℕ, List, [], ◌∷◌, length, drop, Option, Some, None, Bool, true, false, not, refl, inl, inr, ◌⊎◌}
 use Rattle.std.specs.Prelude.{◌+◌, ◌==◌, ◌&&◌, nat_le, nat_lt, if◌then◌else◌}
+use Rattle.dcm_base.specs.declared.length.Length.{Length}
+use Rattle.dcm_base.specs.declared.tag.Tag.{Tag}
 use Rattle.dcm_base.specs.declared.vr.Vr.{Vr}
 use Rattle.dcm_base.specs.declared.syntax.Syntax.{Syntax}
 use Rattle.dcm_base.specs.declared.level.Level.{Level}
@@ -16,23 +18,27 @@ use Rattle.dcm_base.specs.Bytes.Spelling.{form, read_as}
 use Rattle.dcm_base.specs.Reading.Stop.{Stop, complete, refused, Bar, barred, opens_list, with_length, first_case, has_no_form, element_stop, item_stop, head_stop, innermost_stop, value_stop, stop_at, or_else}
 use Rattle.dcm_base.specs.Tables.Tag.{is_item}
 
--- with the bar, the same stop, or a refusal where there is none without it
+-- with the bar, the same stop, or a refusal
 abbrev Weaker : Option Stop → Option Stop → Type 0
-Weaker a b = (a ≡ b) ⊎ ((b ≡ None) × (fault : Fault) × (offset : ℕ) × (a ≡ Some (refused fault offset)))
+Weaker a b = (a ≡ b) ⊎ ((fault : Fault) × (offset : ℕ) × (a ≡ Some (refused fault offset)))
 
 -- ---- a head
 
 -- the bar is the last case of all
-last_case : (position : ℕ) (bar : Option Fault) → Weaker (first_case (barred bar position)) None
-last_case position None = inl refl
-last_case position (Some fault) = inr (refl, fault, position, refl)
+last_case : (position : ℕ) (more less : Option Fault) → (more ≡ None → less ≡ None) → Weaker (first_case (barred more position)) (first_case (barred less position))
+last_case position None less h = inl (ap (λ (x : Option Fault). first_case (barred x position)) (sym (h refl)))
+last_case position (Some fault) less h = inr (fault, position, refl)
 
 earlier_case : (c : Bool) (stop : Stop) (a b : Option Stop) → Weaker a b → Weaker (if c then Some stop else a) (if c then Some stop else b)
 earlier_case true stop a b h = inl refl
 earlier_case false stop a b h = h
 
-module _ (bar : Bar) (f : Front) where
-  weaker_element : (s : Syntax) (around : List Level) (position : ℕ) (rest : List ℕ) (o : Option Vr) → Weaker (element_stop (bar f) s around position rest o) (element_stop (no_bar f) s around position rest o)
+-- what bars less
+abbrev pub BarsLess : (bar less : Bar) → Type 0
+BarsLess bar less = (f : Front) (tag : Tag) (vr : Vr) (declared : Length) → bar f tag vr declared ≡ None → less f tag vr declared ≡ None
+
+module _ (bar less : Bar) (weaker : BarsLess bar less) (f : Front) where
+  weaker_element : (s : Syntax) (around : List Level) (position : ℕ) (rest : List ℕ) (o : Option Vr) → Weaker (element_stop (bar f) s around position rest o) (element_stop (less f) s around position rest o)
   weaker_element s around position rest None = inl refl
   weaker_element s around position rest (Some vr) =
       let declared = length_at s vr rest in
@@ -41,15 +47,15 @@ module _ (bar : Bar) (f : Front) where
       (earlier_case (has_no_form (form s (read_as s (tag_at s rest) vr) declared)) (refused UndefinedLength position) _ _
       (earlier_case (passes (with_length (head_size s vr) declared) (room position around)) (refused PassesEnd position) _ _
       (earlier_case (opens_list (form s (read_as s (tag_at s rest) vr) declared) && nat_le 64 (depth around)) (refused TooDeep position) _ _
-      (last_case position (bar f (tag_at s rest) vr declared))))))
+      (last_case position (bar f (tag_at s rest) vr declared) (less f (tag_at s rest) vr declared) (weaker f (tag_at s rest) vr declared))))))
 
-  weaker_head : (inner : Level) (around : List Level) (position : ℕ) (rest : List ℕ) → Weaker (head_stop (bar f) inner around position rest) (head_stop (no_bar f) inner around position rest)
+  weaker_head : (inner : Level) (around : List Level) (position : ℕ) (rest : List ℕ) → Weaker (head_stop (bar f) inner around position rest) (head_stop (less f) inner around position rest)
   weaker_head inner around position rest = by_test (not ((tag_at inner.syntax rest).group == 0xFFFE))
     where
       delimiter : Option Stop
       delimiter = if is_item (tag_at inner.syntax rest) then item_stop inner.container around position (long_length (number inner.syntax 4 (drop 4 rest))) else None
 
-      by_test : (c : Bool) → Weaker (if c then element_stop (bar f) inner.syntax around position rest (vr_at inner.syntax rest) else delimiter) (if c then element_stop (no_bar f) inner.syntax around position rest (vr_at inner.syntax rest) else delimiter)
+      by_test : (c : Bool) → Weaker (if c then element_stop (bar f) inner.syntax around position rest (vr_at inner.syntax rest) else delimiter) (if c then element_stop (less f) inner.syntax around position rest (vr_at inner.syntax rest) else delimiter)
       by_test true = weaker_element inner.syntax around position rest (vr_at inner.syntax rest)
       by_test false = inl refl
 
@@ -57,27 +63,27 @@ module _ (bar : Bar) (f : Front) where
   weaker_after None a b h = h
   weaker_after (Some stop) a b h = inl refl
 
-  weaker_place : (ls : List Level) (position : ℕ) (rest : List ℕ) → Weaker (innermost_stop (bar f) ls position rest) (innermost_stop (no_bar f) ls position rest)
+  weaker_place : (ls : List Level) (position : ℕ) (rest : List ℕ) → Weaker (innermost_stop (bar f) ls position rest) (innermost_stop (less f) ls position rest)
   weaker_place [] position rest = inl refl
   weaker_place (inner ∷ outer) position rest = weaker_after _ _ _ (weaker_head inner (inner ∷ outer) position rest)
 
-weaker_stop : (bar : Bar) (s : Syntax) (start : ℕ) (f : Front) (position : ℕ) (rest : List ℕ) → Weaker (stop_at bar s start f position rest) (stop_at no_bar s start f position rest)
+weaker_stop : (bar less : Bar) → BarsLess bar less → (s : Syntax) (start : ℕ) (f : Front) (position : ℕ) (rest : List ℕ) → Weaker (stop_at bar s start f position rest) (stop_at less s start f position rest)
 unfolding stop_at
-weaker_stop bar s start f position rest = by_test (value_open f)
+weaker_stop bar less weaker s start f position rest = by_test (value_open f)
   where
-    by_test : (c : Bool) → Weaker (if c then value_stop position rest else innermost_stop (bar f) (levels s start f) position rest) (if c then value_stop position rest else innermost_stop (no_bar f) (levels s start f) position rest)
+    by_test : (c : Bool) → Weaker (if c then value_stop position rest else innermost_stop (bar f) (levels s start f) position rest) (if c then value_stop position rest else innermost_stop (less f) (levels s start f) position rest)
     by_test true = inl refl
-    by_test false = weaker_place bar f (levels s start f) position rest
+    by_test false = weaker_place bar less weaker f (levels s start f) position rest
 
 -- ---- an input
 
 none_below : (a b : Option Stop) → Weaker a b → a ≡ None → b ≡ None
 none_below a b (inl same) e = sym same ∙ e
-none_below a b (inr (none, fault, offset, is)) e = none
+none_below a b (inr (fault, offset, is)) e = absurd (let never : Some (refused fault offset) ≡ None = sym is ∙ e in cc)
 
 some_below : (a b : Option Stop) → Weaker a b → a ≡ Some complete → b ≡ Some complete
 some_below a b (inl same) e = sym same ∙ e
-some_below a b (inr (none, fault, offset, is)) e = absurd (let never : Some (refused fault offset) ≡ Some complete = sym is ∙ e in cc)
+some_below a b (inr (fault, offset, is)) e = absurd (let never : Some (refused fault offset) ≡ Some complete = sym is ∙ e in cc)
 
 -- an end without fault is one
 cut_fault : (fault : Fault) (offset : ℕ) → end_too_long fault offset ≡ complete → ⊥
@@ -89,8 +95,8 @@ well_ended true complete e = refl
 well_ended true (refused fault offset) e = absurd (cut_fault fault offset (sym e))
 well_ended false why e = sym e
 
-pub not_barred : (bar : Bar) (s : Syntax) (start : ℕ) (bytes : List ℕ) (f : Front) → Reads bar s start bytes f complete → Reads no_bar s start bytes f complete
-not_barred bar s start bytes f (reached, why, first, is, ends) = (
+pub less_barred : (bar less : Bar) → BarsLess bar less → (s : Syntax) (start : ℕ) (bytes : List ℕ) (f : Front) → Reads bar s start bytes f complete → Reads less s start bytes f complete
+less_barred bar less weaker s start bytes f (reached, why, first, is, ends) = (
   reached,
   why,
   record {
@@ -100,9 +106,12 @@ not_barred bar s start bytes f (reached, why, first, is, ends) = (
     spelled = first.spelled;
     stops =
         let well : why ≡ complete = well_ended (nat_lt INPUT_LIMIT (start + length bytes)) why is in
-        some_below _ _ (weaker_stop bar s start reached (start + length first.read) first.rest) (first.stops ∙ ap (λ (x : Stop). Some x) well) ∙ ap (λ (x : Stop). Some x) (sym well);
-    first = λ earlier later g parts less spelled. none_below _ _ (weaker_stop bar s start g (start + length earlier) later) (first.first earlier later g parts less spelled);
+        some_below _ _ (weaker_stop bar less weaker s start reached (start + length first.read) first.rest) (first.stops ∙ ap (λ (x : Stop). Some x) well) ∙ ap (λ (x : Stop). Some x) (sym well);
+    first = λ earlier later g parts shorter spelled. none_below _ _ (weaker_stop bar less weaker s start g (start + length earlier) later) (first.first earlier later g parts shorter spelled);
   },
   is,
   ends,
 )
+
+pub not_barred : (bar : Bar) (s : Syntax) (start : ℕ) (bytes : List ℕ) (f : Front) → Reads bar s start bytes f complete → Reads no_bar s start bytes f complete
+not_barred bar s start bytes f h = less_barred bar no_bar (λ f tag vr declared e. refl) s start bytes f h

@@ -1,5 +1,5 @@
 -- What is written without identity reads back as its normal form.
-use Rattle.std.proofs.Common.{◌≡◌, ◌∙◌, ap, sym, refl, subst, ℕ, ◌+◌, ◌≤◌, List, [], length, None, Option, true, append-nil}
+use Rattle.std.proofs.Common.{◌≡◌, ◌∙◌, ap, sym, refl, subst, ℕ, ◌+◌, ◌≤◌, List, [], length, None, Option, true, append-nil, Some, ◌∷◌, ◌++◌, Bool, false, arith, if◌then◌else◌}
 use Rattle.dcm_base.specs.declared.dictionary.Dictionary.{Dictionary}
 use Rattle.dcm_base.specs.declared.dictionary.Dictionary.TheVariants.{Extract, Standard}
 use Rattle.dcm_base.specs.declared.syntax.Syntax.{Syntax}
@@ -7,9 +7,9 @@ use Rattle.dcm_base.specs.declared.tag.Tag.{Tag}
 use Rattle.dcm_base.specs.Bytes.Spelling.{last_tag}
 use Rattle.dcm_base.specs.Conversion.Normal.{normal, normal_front, whole_front}
 use Rattle.dcm_base.specs.Conversion.Recode.{recode, recode_set}
-use Rattle.dcm_base.specs.Reading.Bars.{identity_bar, target_bar}
+use Rattle.dcm_base.specs.Reading.Bars.{ascending_bar, holds_identity, identity_bar, identity_fault, innermost_reached, target_bar}
 use Rattle.dcm_base.specs.Reading.Reads.{INPUT_LIMIT, Reads}
-use Rattle.dcm_base.specs.Reading.Stop.{Stop, complete}
+use Rattle.dcm_base.specs.Reading.Stop.{Bar, HeadBar, Stop, complete, is_early_bar}
 use Rattle.dcm_base.specs.Tables.Syntax.{read_by}
 use Rattle.dcm_base.specs.Tree.Front.{Front}
 use Rattle.dcm_base.specs.Tree.Tree.{Trees}
@@ -35,8 +35,36 @@ use Rattle.dcm_deid_laws.proofs.Clean.{set_back, unsaid_clean}
 use Rattle.dcm_deid_laws.proofs.Named.{AreNamed, spelled_named}
 use Rattle.dcm_deid_laws.proofs.Twice.Again.{Knows, twice}
 use Rattle.dcm_deid_laws.proofs.Unsaid.{unsaid_normal}
-use Rattle.dcm_deid_laws.proofs.NotBarred.{not_barred}
+use Rattle.dcm_base.specs.declared.fault.Fault.{Fault}
+use Rattle.dcm_base.specs.declared.fault.Fault.TheVariants.{IdentityStays, NotAscending}
+use Rattle.dcm_base.specs.Lines.Ascending.{FrontAscends}
+use Rattle.dcm_base.specs.Steps.Atoms.{Atom, ends, front_atoms}
+use Rattle.dcm_base.specs.Tables.Tag.{is_above}
+use Rattle.dcm_stream.specs.Follows.{BarsAs}
+use Rattle.dcm_stream.specs.Reading.{end_shows, finish, read_all}
+use Rattle.dcm_stream.proofs.Steps.Follows.{answers}
+use Rattle.dcm_sinks.proofs.ReadBack.Accepted.{AllAccepted, machine_accepted}
+use Rattle.dcm_editor.proofs.ReadBack.ReadsAscend.{reads_ascend}
+use Rattle.dcm_deid_laws.proofs.Allowed.{Passes, all_left_passes, identity_heads, normal_passes, read_passes}
+use Rattle.dcm_deid_laws.proofs.IdentityReads.{identity_reads}
+use Rattle.dcm_deid_laws.proofs.NotBarred.{less_barred, not_barred}
 use Rattle.dcm_deid_laws.proofs.Ready.{left_ready, plain_ready}
+
+-- ---- bars
+
+heads_never_early : (b : Bool) → is_early_bar (if b then Some IdentityStays else None) ≡ false
+heads_never_early true = refl
+heads_never_early false = refl
+
+free_head : (a : Bool) (fault : Option Fault) → (if a then fault else Some NotAscending) ≡ None → fault ≡ None
+free_head true fault e = e
+free_head false fault e = absurd (cc)
+
+in_order : (a : Bool) (fault : Option Fault) → (if a then fault else Some NotAscending) ≡ None → (if a then None else Some NotAscending) ≡ None
+in_order true fault e = refl
+in_order false fault e = absurd (cc)
+
+-- ---- what is left
 
 module _ (options : Options) (key : List ℕ) (s : Syntax) (at : ℕ) (f : Front) (h : Takes options key s at f) where
   -- what is left
@@ -130,3 +158,38 @@ module _ (options : Options) (key : List ℕ) (s : Syntax) (at : ℕ) (f : Front
       ∙ twice options key given s w.trees (spelled_named s w.trees h.bytes [] w.spelled) knows
       ∙ sym (written_whole (last_tag None w.trees) (left_of w.trees))
       ∙ ap (recode s) (sym is)
+
+  -- ---- it can be read by dcmdeid again
+
+  -- what was read holds no identity of its own
+  read_heads : (trees : Trees) → f ≡ whole_front trees → AllAccepted identity_heads (front_atoms s (whole_front trees))
+  read_heads trees is =
+      let heads : List Atom → HeadBar = λ atoms. identity_heads in
+      let bar : Bar = λ g. identity_heads in
+      let same : BarsAs heads bar = record { agree = λ g atoms shows tag vr declared. refl; never_early = λ g tag vr declared. heads_never_early (holds_identity tag) } in
+      let a = answers heads bar same s h.start h.bytes h.begins in
+      let end = finish (read_all heads s h.start h.bytes).0 in
+      let own_one = less_barred identity_bar bar (λ g tag vr declared e. free_head (is_above tag (innermost_reached g)) (identity_fault tag) e) s h.start h.bytes f h.reads in
+      let shown : (read_all heads s h.start h.bytes).1 ++ end_shows end ≡ front_atoms s f = a.shown ∙ ap (front_atoms s) (reads_once bar s h.start h.bytes a.f f end complete a.reads own_one).0 in
+      subst (AllAccepted identity_heads) (shown ∙ ap (front_atoms s) is) (machine_accepted identity_heads s h.start h.bytes end)
+
+  read_in_order : FrontAscends f
+  read_in_order =
+      reads_ascend s h.start h.bytes f complete h.begins
+      (less_barred identity_bar ascending_bar (λ g tag vr declared e. in_order (is_above tag (innermost_reached g)) (identity_fault tag) e) s h.start h.bytes f h.reads)
+
+  trees_pass : (trees : Trees) → f ≡ whole_front trees → Passes None trees
+  unfolding front_atoms
+  trees_pass trees is =
+      let ascends : FrontAscends (whole_front trees) = subst FrontAscends is read_in_order in
+      (read_passes s trees (ends ∷ []) None ascends.0 (read_heads trees is)).0
+
+  pub reads_for_it : Reads identity_bar s at (recode s left) (normal_front s left) complete
+  reads_for_it =
+      let w = was_ready in
+      let again : Trees = normal s (left_of w.trees) in
+      let is : normal_front s left ≡ whole_front again = ap (normal_front s) (left_is w.trees w.is) in
+      let limit : at + length (recode s left) ≤ INPUT_LIMIT = h.within in
+      subst (λ (g : Front). Reads identity_bar s at (recode s left) g complete) (sym is)
+      (identity_reads s at (recode s left) again (omega (arith, limit)) (normal_passes s None (left_of w.trees) (all_left_passes options key w.trees (trees_pass w.trees w.is)))
+      (subst (λ (g : Front). Reads (target_bar s) s at (recode s left) g complete) is own_again))

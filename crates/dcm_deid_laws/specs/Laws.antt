@@ -4,7 +4,7 @@ use Rattle.dcm_base.specs.declared.dictionary.Dictionary.{Dictionary}
 use Rattle.dcm_base.specs.declared.syntax.Syntax.{Syntax}
 use Rattle.dcm_base.specs.Conversion.Normal.{normal_front}
 use Rattle.dcm_base.specs.Conversion.Recode.{recode}
-use Rattle.dcm_base.specs.Reading.Bars.{target_bar}
+use Rattle.dcm_base.specs.Reading.Bars.{identity_bar, target_bar}
 use Rattle.dcm_base.specs.Reading.Reads.{Reads}
 use Rattle.dcm_base.specs.Reading.Stop.{Stop, complete}
 use Rattle.dcm_base.specs.Tables.Syntax.{read_by}
@@ -21,6 +21,13 @@ DeidentifiedReads =
     (options : Options) (key : List ℕ) (s : Syntax) (at : ℕ) (f : Front) (e : Dictionary) → Takes options key s at f
     → Reads (target_bar (read_by e s)) (read_by e s) at (recode s (deidentified options (replaced key) f))
     (normal_front (read_by e s) (deidentified options (replaced key) f)) complete
+
+-- and so it does where identity is taken out: its tags ascend, and no element of it is one that dcmdeid refuses
+abbrev pub ReadsForDcmdeid : Type 0
+ReadsForDcmdeid =
+    (options : Options) (key : List ℕ) (s : Syntax) (at : ℕ) (f : Front) → Takes options key s at f
+    → Reads identity_bar s at (recode s (deidentified options (replaced key) f))
+    (normal_front s (deidentified options (replaced key) f)) complete
 
 -- however it is read in its syntax, that is to its end, and nothing that was taken is in it
 abbrev pub TakenIsGone : Type 0

@@ -1,12 +1,13 @@
 //! Laws of the definitions. Each function takes nothing and makes no call: its contract is the law.
-ghost use Rattle.dcm_deid_laws.specs.Laws.{DeidentifiedReads, DeidentifiedTwice, TakenIsGone};
+ghost use Rattle.dcm_deid_laws.specs.Laws.{DeidentifiedReads, DeidentifiedTwice, ReadsForDcmdeid, TakenIsGone};
 
 /// What is written without identity of a data set that was read without fault by the whole dictionary reads back
 /// without fault, in the syntax of the input, by that dictionary and by the extract, as its normal form, where it ends
 /// within the limit of an input. Nothing more is asked: each tag that is left is one of the dictionary, and no value
-/// that is left is a sequence to it.
+/// that is left is a sequence to it. dcmdeid reads it so too.
 pub fn deidentified_reads()
-    ensures { DeidentifiedReads }
+    ensures by_each { DeidentifiedReads }
+    ensures for_dcmdeid { ReadsForDcmdeid }
 {}
 
 /// So nothing that was taken is in what is read back, at any depth: each element that is not kept has no value, the one

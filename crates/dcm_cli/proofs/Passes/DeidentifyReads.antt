@@ -26,7 +26,7 @@ use Rattle.dcm_deid.proofs.Deidentified.{deidentify_steps}
 use Rattle.dcm_deid.proofs.PixelsTold.{pixel_steps}
 use Rattle.dcm_deid.proofs.Shallow.{deidentified_shallow}
 use Rattle.dcm_cli.specs.Answer.{shows_identity}
-use Rattle.dcm_cli.proofs.Passes.IdentityBar.{identity, identity_in_order}
+use Rattle.dcm_deid_laws.proofs.IdentityBar.{identity, identity_in_order}
 
 pub deidentify_encodes : (target : Syntax) (options : Options) (key : List ℕ) (s : Syntax) (f : Front) → Shown s f
     → outputs encode_step encode_writes (encode_start target) (outputs next passed (begun options key) (front_atoms s f)) ≡ recode target (deidentified options (replaced key) f)

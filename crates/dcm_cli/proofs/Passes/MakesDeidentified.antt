@@ -29,7 +29,7 @@ use Rattle.dcm_words.specs.Words.{deidentify}
 use Rattle.dcm_cli.specs.Answer.{shows_identity}
 use Rattle.dcm_cli.proofs.Passes.DeidentifyReads.{deidentify_encodes, pixels_known}
 use Rattle.dcm_cli.proofs.Passes.Files.{FileMaker}
-use Rattle.dcm_cli.proofs.Passes.IdentityBar.{identity, identity_in_order}
+use Rattle.dcm_deid_laws.proofs.IdentityBar.{identity, identity_in_order}
 use Rattle.dcm_cli.proofs.Passes.Makers.{Maker, drives_as}
 use Rattle.dcm_cli.proofs.Passes.Sets.{Last}
 

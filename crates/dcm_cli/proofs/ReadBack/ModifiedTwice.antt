@@ -99,7 +99,7 @@ module _ (uid : List ℕ) (t : Tag) (rest : Trees) (same : recode_set Little (wi
       kept t vr v (with_syntax uid) others (recode_set Little (with_syntax uid rest)) (t.element == 0) refl
       (ap (λ (c : Bool). cond c (leaf t UI uid (without_syntax others)) (leaf t (normal_vr Little t vr (length v)) (normal_value Little t vr v) (with_syntax uid others))) e) h
 
-with_twice : (uid : List ℕ) (x : Trees) → AreMeta x → recode_set Little (with_syntax uid (normal Little (with_syntax uid x))) ≡ recode_set Little (with_syntax uid x)
+pub with_twice : (uid : List ℕ) (x : Trees) → AreMeta x → recode_set Little (with_syntax uid (normal Little (with_syntax uid x))) ≡ recode_set Little (with_syntax uid x)
 unfolding AreMeta normal recode_set
 with_twice uid no_tree m = refl
 with_twice uid (leaf t vr v rest) m = with_at uid t rest (without_twice rest m.1) vr v (is_tag 2 0x10 t) refl (with_twice uid rest m.1)
@@ -113,7 +113,7 @@ group_twice uid x m = ap (λ (bytes : List ℕ). group_length (length bytes) ++ 
 
 -- ---- the second run
 
-zero_or_three : (n : ℕ) (lines : List ℕ) → n ≡ status_of_lines lines → (n ≡ 0) ⊎ (n ≡ 3)
+pub zero_or_three : (n : ℕ) (lines : List ℕ) → n ≡ status_of_lines lines → (n ≡ 0) ⊎ (n ≡ 3)
 zero_or_three n [] e = inl e
 zero_or_three n (c ∷ lines) e = inr e
 

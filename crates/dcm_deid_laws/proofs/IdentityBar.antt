@@ -1,5 +1,5 @@
 -- The bar where identity is taken out, by the atoms so far.
-use Rattle.std.proofs.Common.{◌≡◌, ap, refl, ℕ, ◌≤◌, List, [], ◌∷◌, Option, Some, None, Bool, true, false, cond}
+use Rattle.std.proofs.Common.{◌≡◌, refl, ℕ, ◌≤◌, List, [], ◌∷◌, Option, Some, None, Bool, true, false, cond}
 use Rattle.std.specs.Prelude.{fold, if◌then◌else◌}
 use Rattle.dcm_base.specs.declared.fault.Fault.{Fault}
 use Rattle.dcm_base.specs.declared.fault.Fault.TheVariants.{NotAscending, IdentityStays}
