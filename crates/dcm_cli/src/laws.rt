@@ -127,21 +127,21 @@ pub fn nothing_flows_in_answers()
     ensures { NothingFlows }
 {}
 
-/// What dcmdeid writes of a file without fault is a file that is read without fault, with the whole dictionary and with
-/// the extract: its transfer syntax is that of the input, its meta group is the one that was written anew of the
-/// elements that stay, and its data set is the normal form of the one without identity.
+/// What dcmdeid writes of a file without fault is a file that is read without fault, by each of the two dictionaries.
+/// Its transfer syntax is that of the input, its meta group is the one that was written anew of the elements that stay,
+/// and its data set is the normal form of the one without identity.
 pub fn deidentified_reads()
     ensures { DeidentifiedReads }
 {}
 
-/// However the output of dcmdeid for a file without fault is read as a file by the whole dictionary: it is read without
-/// fault, and nothing that was taken is in its data set, at any depth.
+/// Nothing that dcmdeid took out of a file without fault is in its output, read again by the whole dictionary, at any
+/// depth. However the output is read, it is read without fault.
 pub fn output_is_clean()
     ensures { OutputIsClean }
 {}
 
-/// Two runs in a row: dcmdeid on a file without fault, and then on its output, with the same options. Where unique
-/// identifiers are retained, the second run writes the same bytes again and refuses nothing: its status is 0 or 3.
+/// dcmdeid on its own output, with the same options, writes the same bytes again, where unique identifiers are retained.
+/// The first run is on a file without fault. The second one refuses nothing: its status is 0 or 3.
 pub fn deidentified_twice()
     ensures { DeidentifiedTwice }
 {}

@@ -1,8 +1,8 @@
 //! Laws of the definitions. Each function takes nothing and makes no call: its contract is the law.
 ghost use Rattle.dcm_deid_laws.specs.Laws.{DeidentifiedReads, DeidentifiedTwice, ReadsForDcmdeid, TakenIsGone};
 
-/// What is written without identity of a data set that was read without fault by the whole dictionary reads back
-/// without fault, in the syntax of the input, by that dictionary and by the extract, as its normal form, where it ends
+/// What is written without identity reads back without fault, by each of the two dictionaries, as its normal form. It is
+/// of a data set that was read without fault by the whole dictionary, it is read in the syntax of the input, and it ends
 /// within the limit of an input. Nothing more is asked: each tag that is left is one of the dictionary, and no value
 /// that is left is a sequence to it. dcmdeid reads it so too.
 pub fn deidentified_reads()
@@ -10,7 +10,7 @@ pub fn deidentified_reads()
     ensures for_dcmdeid { ReadsForDcmdeid }
 {}
 
-/// So nothing that was taken is in what is read back, at any depth: each element that is not kept has no value, the one
+/// So nothing that was taken is in what is read back, at any depth. Each element that is not kept has no value, the one
 /// that is put for all, or a new unique identifier, as these are written, and each one has a tag of the dictionary. The
 /// elements that say what was done are set aside.
 pub fn written_is_clean()
