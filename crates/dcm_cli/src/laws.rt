@@ -3,7 +3,7 @@ ghost use Rattle.dcm_cli.specs.Laws.{SureGrows, ModifiedReads, ConvertedReads, E
 ghost use Rattle.dcm_cli.specs.Laws.{OthersStay, ReadsAlike, ErasedAllBy, ErasedPrivateBy, ModifiedAllBy, OthersStayBy};
 ghost use Rattle.dcm_cli.specs.Laws.{ExplicitOpensAlike, OwnOpensAlike, StandardOpensAlike, ErasedAllSeen};
 ghost use Rattle.dcm_cli.specs.Laws.{ErasedPrivateSeen, AlikeHidesNothing, ModifiedTwice, DeidentifiedReads};
-ghost use Rattle.dcm_cli.specs.Laws.{OutputIsClean, DeidentifiedTwice};
+ghost use Rattle.dcm_cli.specs.Laws.{OutputIsClean, InstanceAgrees, DeidentifiedTwice};
 ghost use Rattle.dcm_cli.specs.Answer.{Answer, Answers};
 ghost use Rattle.dcm_cli.specs.DumpBuilds.{DumpBuilds};
 ghost use Rattle.dcm_cli.specs.InMemory.{Outcome, Comes};
@@ -137,6 +137,12 @@ pub fn deidentified_reads()
 /// fault, and nothing that was taken is in its data set, at any depth.
 pub fn output_is_clean()
     ensures { OutputIsClean }
+{}
+
+/// Where unique identifiers are replaced, and the head of the file and its data set named the same instance, their padding
+/// aside, they name the same new one in the output.
+pub fn instance_agrees()
+    ensures { InstanceAgrees }
 {}
 
 /// Two runs in a row: dcmdeid on a file without fault, and then on its output, with the same options. Where unique
