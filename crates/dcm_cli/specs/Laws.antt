@@ -15,18 +15,22 @@ use Rattle.dcm_editor.specs.Others.{any_changes, set_without, KeepsSign}
 use Rattle.dcm_editor.specs.Readers.{HidesNothing, OpensAlike}
 use Rattle.dcm_editor.specs.Repeating.{EraseByNoNumber}
 use Rattle.dcm_deid.specs.declared.fate.Options.{Options}
+use Rattle.dcm_deid.specs.Saying.{whole_of}
+use Rattle.dcm_deid.specs.Uids.{instance_of_head, instance_of_set}
 use Rattle.dcm_deid_laws.specs.Clean.{NothingIsLeft}
 use Rattle.dcm_words.specs.declared.job.Job.{Job}
-use Rattle.dcm_cli.specs.Answer.{Answer, Answers, Sure}
+use Rattle.dcm_cli.specs.Answer.{Answer, Answers, FileReads, Sure, file}
 use Rattle.dcm_cli.specs.ReadsAgain.{InOutput, InWholeOutput, IsConverted, IsModified, IsTaken}
 use Rattle.dcm_cli.specs.ReadsAgain.{ReadsConverted, ReadsModified, ReadsTaken}
 use Rattle.dcm_cli.specs.Run.{IsMeant}
 use Rattle.dcm_cli.specs.Status.{DONE, REMARK}
 use Rattle.dcm_words.specs.Plans.{job_of}
 use Rattle.dcm_words.specs.Words as words
-use Rattle.std.specs.Prelude.{◌++◌, ◌≡◌, ◌⊎◌, Bool, List, Option, true, ℕ}
+use Rattle.std.specs.Prelude.{◌++◌, ◌≡◌, ◌⊎◌, Bool, List, None, Option, false, true, ℕ}
 use Rattle.std.specs.declared.alloc.Global.{Global}
 use Rattle.dcm_base.specs.Tables.Syntax.{read_by}
+use Rattle.dcm_base.specs.declared.mode.Mode.TheVariants.{Full}
+use Rattle.dcm_base.specs.Reading.Stop.{Stop}
 
 -- what is sure of a beginning is a beginning of the output for every input that begins so
 abbrev pub SureGrows : Type 0
@@ -167,6 +171,17 @@ abbrev pub OutputIsClean : Type 0
 OutputIsClean =
     (options : Options) (reports : Bool) (key input : List ℕ) (a : Answer) (m : Meta) (coding : Coding) (f : Front)
     → IsTaken options reports key input a m coding f → InOutput Standard (λ s set. NothingIsLeft options key set) a
+
+-- where unique identifiers are replaced, and the head of the file and its data set named the same instance, they name the same new one in
+-- the output, however the whole dictionary reads that
+abbrev pub InstanceAgrees : Type 0
+InstanceAgrees =
+    (options : Options) (reports : Bool) (key input : List ℕ) (a : Answer) (m : Meta) (coding : Coding) (f : Front)
+    → IsTaken options reports key input a m coding f → options.uids ≡ false
+    → instance_of_head m ≡ instance_of_set (whole_of f)
+    → (n : Meta) (c : Coding) (set : Front) (stop : Stop)
+    → FileReads (words.dump Standard Full None) a.output (file n c set stop)
+    → instance_of_head n ≡ instance_of_set (whole_of set)
 
 -- where unique identifiers are retained, the same options again write the same bytes
 abbrev pub DeidentifiedTwice : Type 0

@@ -3,7 +3,7 @@ ghost use Rattle.dcm_cli.specs.Laws.{SureGrows, ModifiedReads, ConvertedReads, E
 ghost use Rattle.dcm_cli.specs.Laws.{OthersStay, ReadsAlike, ErasedAllBy, ErasedPrivateBy, ModifiedAllBy, OthersStayBy};
 ghost use Rattle.dcm_cli.specs.Laws.{ExplicitOpensAlike, OwnOpensAlike, StandardOpensAlike, ErasedAllSeen};
 ghost use Rattle.dcm_cli.specs.Laws.{ErasedPrivateSeen, AlikeHidesNothing, ModifiedTwice, DeidentifiedReads};
-ghost use Rattle.dcm_cli.specs.Laws.{OutputIsClean, DeidentifiedTwice};
+ghost use Rattle.dcm_cli.specs.Laws.{OutputIsClean, InstanceAgrees, DeidentifiedTwice};
 ghost use Rattle.dcm_cli.specs.Answer.{Answer, Answers};
 ghost use Rattle.dcm_cli.specs.DumpBuilds.{DumpBuilds};
 ghost use Rattle.dcm_cli.specs.InMemory.{Outcome, Comes};
@@ -138,6 +138,12 @@ pub fn deidentified_reads()
 /// depth. However the output is read, it is read without fault.
 pub fn output_is_clean()
     ensures { OutputIsClean }
+{}
+
+/// Where unique identifiers are replaced, and the head of the file and its data set named the same instance, their padding
+/// aside, they name the same new one in the output.
+pub fn instance_agrees()
+    ensures { InstanceAgrees }
 {}
 
 /// dcmdeid on its own output, with the same options, writes the same bytes again, where unique identifiers are retained.

@@ -72,7 +72,7 @@ short_vr (implicit_in d) t vr n h is = sym is
 short_vr (little_in d) t vr n h is = ap (λ (b : Bool). if b then UN else vr) (short_fits (little_in d) vr n h)
 short_vr (big_in d) t vr n h is = ap (λ (b : Bool). if b then UN else vr) (short_fits (big_in d) vr n h)
 
-short_value : (s : Syntax) (t : Tag) (vr : Vr) (v : List ℕ) → length v ≤ 64 → IsNamed s t vr → normal_value s t vr v ≡ order s vr (evened (pad vr) (order s vr v))
+pub short_value : (s : Syntax) (t : Tag) (vr : Vr) (v : List ℕ) → length v ≤ 64 → IsNamed s t vr → normal_value s t vr v ≡ order s vr (evened (pad vr) (order s vr v))
 short_value s t vr v h is =
     ap (λ (w : Vr). order s w (evened (pad vr) (if too_long s vr (length v) then v else order s vr v))) (short_vr s t vr (length v) h is)
     ∙ ap (λ (b : Bool). order s vr (evened (pad vr) (if b then v else order s vr v))) (short_fits s vr (length v) h)

@@ -7,5 +7,6 @@ pub mod Named
 pub mod Clean
 pub mod Unsaid
 pub mod Heads
+pub mod Instance
 pub mod Twice
 pub mod ReadsAgain

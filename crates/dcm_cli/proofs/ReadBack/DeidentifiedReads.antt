@@ -1,29 +1,38 @@
 -- Files that dcmdeid wrote are read again.
-use Rattle.std.proofs.Common.{◌≡◌, ◌∙◌, ap, sym, subst, refl, ℕ, ◌+◌, ◌≤◌, List, ◌++◌, Bool, length, drop, None, arith}
+use Rattle.std.proofs.Common.{◌≡◌, ◌∙◌, ap, sym, subst, refl, ℕ, ◌+◌, ◌≤◌, List, ◌++◌, Bool, length, drop, None, arith, false, Option}
 use Rattle.dcm_base.specs.declared.dictionary.Dictionary.{Dictionary}
 use Rattle.dcm_base.specs.declared.dictionary.Dictionary.TheVariants.{Standard}
 use Rattle.dcm_base.specs.declared.mode.Mode.TheVariants.{Full}
 use Rattle.dcm_base.specs.declared.syntax.Coding.{Coding}
 use Rattle.dcm_base.specs.declared.syntax.Syntax.{Syntax}
+use Rattle.dcm_base.specs.declared.tag.Tag.{Tag}
+use Rattle.dcm_base.specs.Bytes.Spelling.{last_tag}
 use Rattle.dcm_base.specs.Conversion.NewMeta.{new_meta}
 use Rattle.dcm_base.specs.Conversion.Normal.{normal_front}
 use Rattle.dcm_base.specs.Conversion.Recode.{recode}
 use Rattle.dcm_base.specs.File.MetaReads.{Meta, MetaReads, PREFIX, begins}
 use Rattle.dcm_base.specs.Reading.Bars.{target_bar}
 use Rattle.dcm_base.specs.Reading.Reads.{INPUT_LIMIT, Reads}
-use Rattle.dcm_base.specs.Reading.Stop.{complete}
+use Rattle.dcm_base.specs.Reading.Stop.{Stop, complete}
 use Rattle.dcm_base.specs.Tables.Syntax.{coding_by, dictionary_of, read_by}
 use Rattle.dcm_base.specs.Tree.Front.{Front}
+use Rattle.dcm_base.specs.Tree.Tree.{Trees}
 use Rattle.dcm_base.proofs.Conversions.NormalForm.{own_dictionary}
 use Rattle.dcm_sinks.specs.MetaAgain.{meta_again}
 use Rattle.dcm_sinks.proofs.ReadBack.NewMetaReads.{group_read, names_read, written_anew}
 use Rattle.dcm_uid.specs.Uid.{replaced}
 use Rattle.dcm_deid.specs.declared.fate.Options.{Options}
 use Rattle.dcm_deid.specs.Meta.{meta_without_identity, no_preamble}
-use Rattle.dcm_deid.specs.Saying.{deidentified}
+use Rattle.dcm_deid.specs.declared.fate.Depth.TheVariants.{Outermost}
+use Rattle.dcm_deid.specs.Deidentify.{deidentified_set}
+use Rattle.dcm_deid.specs.Saying.{deidentified, said, whole_of}
+use Rattle.dcm_deid.specs.Uids.{instance_of_head, instance_of_set}
+use Rattle.dcm_deid.proofs.Trees.Instances.{uids_agree}
+use Rattle.dcm_deid.proofs.Trees.Said.{of_whole, set_with_all}
 use Rattle.dcm_deid_laws.specs.Clean.{NothingIsLeft}
 use Rattle.dcm_deid_laws.specs.Taken.{Takes}
 use Rattle.dcm_deid_laws.proofs.Heads.{left_group}
+use Rattle.dcm_deid_laws.proofs.Instance.{all_left_names, head_again}
 use Rattle.dcm_deid_laws.proofs.ReadsAgain as laws
 use Rattle.dcm_words.specs.Words.{deidentify, dump}
 use Rattle.dcm_cli.specs.Answer.{Answer, FileReads, HeadIs, Source, answer, file, opened, set_at, written_file}
@@ -115,3 +124,26 @@ module _ (options : Options) (reports : Bool) (key input : List ℕ) (a : Answer
       (opened (meta_again head m.uid) group (coding_by Standard coding) again complete r.head refl r.dumped refl)
       in
       subst (OfWholeFile (λ s set. NothingIsLeft options key set)) (sym one) (refl, clean)
+
+  -- the instance that it names in its head and in its data set
+  pub instance_agrees : options.uids ≡ false → instance_of_head m ≡ instance_of_set (whole_of f) → (n : Meta) (c : Coding) (set : Front) (stop : Stop) → FileReads (dump Standard Full None) a.output (file n c set stop)
+      → instance_of_head n ≡ instance_of_set (whole_of set)
+  instance_agrees new same n c set stop there =
+      let r = deidentified_reads Standard in
+      let w = laws.was_ready options key s (set_at group) f takes in
+      let by : Syntax = read_by Standard s in
+      let again : Front = normal_front by left in
+      let one = one_source (dump Standard Full None) a.output (file n c set stop) (file (meta_again head m.uid) (coding_by Standard coding) again complete) there
+      (opened (meta_again head m.uid) group (coding_by Standard coding) again complete r.head refl r.dumped refl)
+      in
+      let metas : n ≡ meta_again head m.uid = cc in
+      let sets : set ≡ again = cc in
+      let left_set : Trees = set_with_all (said options) (deidentified_set options (replaced key) Outermost w.trees) in
+      let reached : Option Tag = last_tag None w.trees in
+      let in_head : instance_of_head head ≡ instance_of_set left_set =
+      uids_agree options key m reached w.trees (same ∙ ap (λ (g : Front). instance_of_set (whole_of g)) w.is) ∙ ap (λ (g : Front). instance_of_set (whole_of g)) (of_whole options (replaced key) reached w.trees)
+      in
+      ap instance_of_head metas ∙ head_again m.uid head.elements ∙ in_head
+      ∙ sym (all_left_names options key new by w.trees)
+      ∙ sym (ap (λ (g : Front). instance_of_set (whole_of (normal_front by g))) (laws.left_is options key s (set_at group) f takes w.trees w.is))
+      ∙ sym (ap (λ (g : Front). instance_of_set (whole_of g)) sets)

@@ -40,7 +40,7 @@ evened_or_not : (p : ℕ) (v : List ℕ) (b : Bool) → is_pad p ≡ true → wi
 evened_or_not p v true e = refl
 evened_or_not p v false e = pads_more v p e
 
-without_pad : (vr : Vr) (v : List ℕ) → without_pads (evened (pad vr) v) ≡ without_pads v
+pub without_pad : (vr : Vr) (v : List ℕ) → without_pads (evened (pad vr) v) ≡ without_pads v
 without_pad vr v = evened_or_not (pad vr) v (length v % 2 == 0) (text_pads (is_text vr))
 
 -- ---- in the head of a file
@@ -83,7 +83,7 @@ by_uids : (b : Bool) → (if b || false then Keep else Uid) ≡ (if b then Keep 
 by_uids true = refl
 by_uids false = refl
 
-own_fate : (options : Options) → fate_as options Outermost AsBytes own ≡ (if options.uids then Keep else Uid)
+pub own_fate : (options : Options) → fate_as options Outermost AsBytes own ≡ (if options.uids then Keep else Uid)
 unfolding fate_as D.vr_in D.element_in D.elements_in D.entries D.ambiguous actions
 own_fate options = by_uids options.uids
 
