@@ -1,6 +1,6 @@
 -- A row of a table (RFC 4180).
 use Rattle.std.specs.Prelude.{ℕ, List, [], ◌∷◌, ◌++◌, length, take, map, flat_map, slice_index_or, codes, Bool, true, false}
-use Rattle.std.specs.Prelude.{◌&&◌, not}
+use Rattle.std.specs.Prelude.{◌&&◌, not, ◌==◌, ◌/◌}
 use Rattle.std.specs.List.{list_any}
 use Rattle.dcm_base.specs.declared.tag.Tag.{Tag}
 use Rattle.dcm_base.specs.declared.vr.Vr.{Vr}
@@ -55,14 +55,18 @@ joined vr (unit ∷ units) = unit_part vr unit ∷ next_units_parts vr units
 abbrev pub quoted_units : Vr → List (List ℕ) → List Part
 quoted_units vr units = some_bytes (codes "\"") ∷ (joined vr units ++ some_bytes (codes "\"") ∷ [])
 
-abbrev pub is_tag_list : Vr → Bool
-is_tag_list AT = true
-is_tag_list _ = false
-
 -- one number is not quoted
+abbrev pub is_quoted_list : Vr → (count : ℕ) → Bool
+is_quoted_list AT count = true
+is_quoted_list vr count = not (count == 1)
+
 abbrev pub units_parts : Bool → Vr → List (List ℕ) → List Part
-units_parts false vr (unit ∷ []) = unit_part vr unit ∷ []
-units_parts quotes vr units = quoted_units vr units
+units_parts true vr units = quoted_units vr units
+units_parts false vr units = joined vr units
+
+abbrev pub numbers_parts : Vr → List ℕ → List Part
+numbers_parts vr value =
+    units_parts (is_quoted_list vr (length value / shown_unit vr)) vr (units (shown_unit vr) value)
 
 abbrev pub is_quoted_text : Vr → Bool
 is_quoted_text UI = true
@@ -70,7 +74,7 @@ is_quoted_text vr = is_text vr
 
 abbrev pub value_parts : Bool → TextForm → Vr → List ℕ → List Part
 value_parts true form vr value = some_bytes (quoted (text_in form (without_pads value))) ∷ []
-value_parts false form vr value = units_parts (is_tag_list vr) vr (units (shown_unit vr) value)
+value_parts false form vr value = numbers_parts vr value
 
 -- ---- a row
 

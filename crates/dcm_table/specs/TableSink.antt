@@ -35,11 +35,20 @@ cleared s = record { depth = 0; greatest = s.greatest; slots = map (λ (c : Slot
 abbrev pub slot_step : Slot → Atom → Slot
 slot_step c a = (c.0, cell_step c.0 c.1 a)
 
--- heads are looked at where nothing is open, that is at the outermost level
-abbrev pub is_seen : ℕ → Atom → Bool
-is_seen zero a = true
-is_seen (suc n) (opens tag vr declared s) = false
-is_seen (suc n) _ = true
+abbrev pub is_outermost : ℕ → Bool
+is_outermost zero = true
+is_outermost (suc n) = false
+
+-- the atoms that cells take: values, and the heads of the outermost level, where nothing is open
+abbrev pub is_taken : ℕ → Atom → Bool
+is_taken n (opens tag vr declared s) = is_outermost n
+is_taken n (value_byte b) = true
+is_taken n closes_leaf = true
+is_taken n (opens_item declared) = false
+is_taken n closes_item = false
+is_taken n closes_sequence = false
+is_taken n (opens_fragment size) = false
+is_taken n ends = false
 
 abbrev pub slots_step : Bool → List Slot → Atom → List Slot
 slots_step true slots a = map (λ (c : Slot). slot_step c a) slots
@@ -59,7 +68,7 @@ abbrev pub next : State → Atom → State
 next s a = record {
   depth = depth_step s.depth a;
   greatest = s.greatest;
-  slots = slots_step (is_seen s.depth a) s.slots a;
+  slots = slots_step (is_taken s.depth a) s.slots a;
 }
 
 -- nothing is written

@@ -1,15 +1,20 @@
 // The cell of a column, and the room for its value.
-ghost use Rattle.std.specs.Prelude.{◌≡◌, ◌≤◌, fold, vec_len, OnOk, IfOk, true, false};
-ghost use Rattle.dcm_base.specs.Tables.Tag.{same_tag};
+ghost use Rattle.std.specs.Prelude.{◌≡◌, ◌≤◌, ◌+◌, [], ◌++◌, fold, length, take, IfOk};
+ghost use Rattle.dcm_base.specs.Tree.Value.{order, turned};
 ghost use Rattle.dcm_stream.specs.Tokens.{atoms_of};
 ghost use Rattle.dcm_table.specs.Cell as spec;
+ghost use Rattle.dcm_table.specs.Slots as slots;
 ghost use Rattle.dcm_table.specs.Slots.{cell_of, slot_of, value_of};
+ghost use Rattle.dcm_table.specs.TableSink.{slot_step};
+ghost use Rattle.dcm_value.specs.Swap.{IsUnit};
 
+use crate::slot::Slot;
 use dcm_base::{Length, Syntax, Tag, Vr, vr_in};
 use dcm_head::Head;
 use dcm_stream::Token;
 use dcm_value::swap;
 use std::alloc::{AllocError, Global};
+
 
 /// The bytes of a value that a cell holds at most.
 pub const CELL_LIMIT: usize = 16_384;
@@ -27,17 +32,6 @@ pub enum Progress {
     Whole(Vr),
     TooLong,
     NotShown,
-}
-
-/// A column's tag and its cell. The value is the first `size` bytes of the room.
-#[derive(Drop)]
-pub struct Slot {
-    pub tag: Tag,
-    pub progress: Progress,
-    pub room: Vec<u8>,
-    pub size: usize,
-    ghost full: { vec_len room ≡ 16384 },
-    ghost within: { size ≤ 16384 },
 }
 
 /// The representation by which a value is shown: as read, and of UN the dictionary's (PS3.5 6.2.2).
@@ -72,6 +66,46 @@ fn opened(head: Head, syntax: Syntax) -> Progress
     }
 }
 
+/// Whether a value is on its way, and not longer than a cell.
+fn is_open(progress: Progress) -> bool
+    ensures { result ≡ slots.is_open progress }
+{
+    match progress {
+        Progress::Open(_, _, _) => true,
+        _ => false,
+    }
+}
+
+/// Puts bytes into a room at a place.
+fn fill(room: &mut [u8], at: usize, bytes: &[u8])
+    requires { at + length bytes.now ≤ length room.old }
+    ensures front { take (at + length bytes.now) room.new ≡ take at room.old ++ bytes.now }
+    ensures size { length room.new ≡ length room.old }
+{
+    room[at..at + bytes.len()].copy_from_slice(bytes);
+}
+
+/// Turns the units of the first bytes of a room.
+fn turn_front(room: &mut [u8], size: usize, unit: usize)
+    requires within { size ≤ length room.old }
+    requires unit { IsUnit unit }
+    ensures front { take size room.new ≡ turned unit (take size room.old) }
+    ensures size { length room.new ≡ length room.old }
+{
+    swap(unit, &mut room[..size]);
+}
+
+/// Brings the first bytes of a room, which are a value, into little endian order.
+fn order_front(room: &mut [u8], size: usize, vr: Vr, syntax: Syntax)
+    requires { size ≤ length room.old }
+    ensures front { take size room.new ≡ order syntax vr (take size room.old) }
+    ensures size { length room.new ≡ length room.old }
+{
+    if syntax.is_big() {
+        turn_front(room, size, vr.unit());
+    }
+}
+
 impl Slot {
     /// The empty cell of a column, with room for a value. Fails where there is no memory.
     pub fn new(alloc: Global, tag: Tag) -> Result<Slot, AllocError>
@@ -100,6 +134,16 @@ impl Slot {
         &self.room[..self.size]
     }
 
+    /// Whether the value is whole and longer than a cell.
+    pub fn is_too_long(&self) -> bool
+        ensures { result ≡ spec.is_too_long (slot_of self.now).1 }
+    {
+        match self.progress {
+            Progress::TooLong => true,
+            _ => false,
+        }
+    }
+
     /// After the head of an element of the outermost level.
     fn open(&mut self, head: Head, syntax: Syntax)
         ensures { slot_of self.new ≡ (self.old.tag, spec.with_head self.old.tag (slot_of self.old).1 syntax head.tag
@@ -115,16 +159,15 @@ impl Slot {
     fn add(&mut self, bytes: &[u8])
         ensures { slot_of self.new ≡ (self.old.tag, fold spec.with_byte (slot_of self.old).1 bytes.now) }
     {
-        if !matches!(self.progress, Progress::Open(_, _, _)) {
+        if !is_open(self.progress) {
             return;
         }
         if bytes.len() > CELL_LIMIT - self.size {
             self.progress = Progress::OpenTooLong;
             return;
         }
-        let end = self.size + bytes.len();
-        self.room[self.size..end].copy_from_slice(bytes);
-        self.size = end;
+        fill(self.room.as_mut_slice(), self.size, bytes);
+        self.size += bytes.len();
     }
 
     /// After the end of a value.
@@ -133,9 +176,7 @@ impl Slot {
     {
         match self.progress {
             Progress::Open(vr, shown, syntax) => {
-                if syntax.is_big() {
-                    swap(vr.unit(), &mut self.room[..self.size]);
-                }
+                order_front(self.room.as_mut_slice(), self.size, vr, syntax);
                 self.progress = Progress::Whole(shown);
             }
             Progress::OpenTooLong => self.progress = Progress::TooLong,
@@ -145,8 +186,7 @@ impl Slot {
 
     /// After a token, of which a head is one of the outermost level.
     pub fn take(&mut self, token: Token)
-        ensures { slot_of self.new ≡ (self.old.tag, fold (spec.cell_step self.old.tag) (slot_of self.old).1
-            (atoms_of token.entry)) }
+        ensures { slot_of self.new ≡ fold slot_step (slot_of self.old) (atoms_of token.entry) }
     {
         match token {
             Token::Open(head, syntax) => self.open(head, syntax),

@@ -1,14 +1,17 @@
 // The cells of all columns: a sink that holds what a row shows of a file.
-ghost use Rattle.std.specs.Prelude.{◌≡◌, ◌<◌, ◌≤◌, true, false, None, length, fold, map, IfOk};
-ghost use Rattle.dcm_stream.specs.Skip.{depth};
+ghost use Rattle.std.specs.Prelude.{◌≡◌, ◌<◌, false, None, length, fold, map, IfOk};
+ghost use Rattle.dcm_table.specs.Cell.{missing};
+ghost use Rattle.std.specs.List.{list_any};
+ghost use Rattle.dcm_base.specs.Tables.Tag.{same_tag};
+ghost use Rattle.dcm_table.specs.declared.slot.Slot.{Slot as HeldSlot};
 ghost use Rattle.dcm_stream.specs.Tokens.{atoms_of};
-ghost use Rattle.dcm_table.specs.Columns as columns;
-ghost use Rattle.dcm_table.specs.Row.{is_reported, slot_at};
+ghost use Rattle.dcm_table.specs.Columns.{tags_of};
+ghost use Rattle.dcm_table.specs.Row.{is_reported};
 ghost use Rattle.dcm_table.specs.Slots.{slots_of};
 ghost use Rattle.dcm_table.specs.TableSink as spec;
 
-use crate::cell::{Progress, Slot};
 use crate::column::{Column, Columns};
+use crate::slot::Slot;
 use dcm_base::{Tag, WriteFailed};
 use dcm_head::Head;
 use dcm_stream::{Bar, Sink, Skip, Token};
@@ -25,13 +28,12 @@ pub struct Cells {
 }
 
 impl Model for Cells {
-    ghost use Rattle.dcm_stream.specs.Skip.{depth};
-    ghost use Rattle.dcm_table.specs.Slots.{slots_of};
+    ghost use Rattle.dcm_table.specs.Slots.{state_by};
     ghost use Rattle.dcm_table.specs.TableSink.{State};
 
     ghost Value = { State };
 
-    ghost view = { λ c. record { depth = depth c.depth; greatest = c.greatest; slots = slots_of c.slots.items } };
+    ghost view = { λ c. state_by c.depth c.greatest c.slots.items };
 }
 
 /// An empty cell for each column.
@@ -58,17 +60,24 @@ fn take_each(slots: &mut [Slot], token: Token)
 
 /// Each cell where nothing was read.
 fn clear_each(slots: &mut [Slot])
-    ensures { slots_of slots.new ≡ map (λ (c : spec.Slot). (c.0, spec.missing)) (slots_of slots.old) }
+    ensures { slots_of slots.new ≡ map (λ (c : spec.Slot). (c.0, missing)) (slots_of slots.old) }
 {
     for slot in slots.iter_mut() {
         slot.clear();
     }
 }
 
+/// Whether one of the columns has this tag.
+fn has_tag(slots: &[Slot], tag: Tag) -> bool
+    ensures { result ≡ list_any (λ (c : HeldSlot). same_tag c.tag tag) slots.now }
+{
+    slots.iter().any(|slot| slot.tag == tag)
+}
+
 impl Cells {
     /// Empty cells for these columns. Fails where there is no memory for them: 16,384 bytes for each column.
     pub fn new(alloc: Global, columns: &Columns) -> Result<Cells, AllocError>
-        ensures { IfOk result (λ cells. cells ≡ spec.begun (columns.tags_of columns.now)) }
+        ensures { IfOk result (λ cells. cells ≡ spec.begun (tags_of columns.now)) }
     {
         let greatest = columns.greatest();
         let slots = slots_for(alloc, columns.as_slice())?;
@@ -108,8 +117,8 @@ impl Cells {
     {
         let slots = self.slots.as_slice();
         let slot = &slots[column];
-        let before = &slots[..column];
-        matches!(slot.progress, Progress::TooLong) && !before.iter().any(|other| other.tag == slot.tag)
+        let (before, _) = slots.split_at(column);
+        slot.is_too_long() && !has_tag(before, slot.tag)
     }
 
     /// Goes on after a token, of which a head is one of the outermost level.
@@ -118,6 +127,30 @@ impl Cells {
             (atoms_of token.entry)) self.old.slots } }
     {
         take_each(self.slots.as_mut_slice(), token);
+    }
+}
+
+impl Cells {
+    /// Goes on after a token.
+    pub(crate) fn go_on(&mut self, token: Token)
+        ensures { self.new ≡ fold spec.next self.old (atoms_of token.entry) }
+    {
+        match token {
+            Token::Open(_, _) => {
+                if !self.depth.is_open() {
+                    self.take_in(token);
+                }
+                self.depth.open(true);
+            }
+            Token::Bytes(_) => self.take_in(token),
+            Token::CloseLeaf => {
+                self.take_in(token);
+                self.depth.close();
+            }
+            Token::OpenItem(_) | Token::OpenFragment(_) => self.depth.open(true),
+            Token::CloseItem | Token::CloseSeq => self.depth.close(),
+            Token::End => {}
+        }
     }
 }
 
@@ -142,23 +175,9 @@ impl Sink for Cells {
 
     ghost kept = { λ e. tt };
 
+    #[inline(always)]
     fn take(&mut self, token: Token) -> Result<(), WriteFailed> {
-        match token {
-            Token::Open(_, _) => {
-                if !self.depth.is_open() {
-                    self.take_in(token);
-                }
-                self.depth.open(true);
-            }
-            Token::Bytes(_) => self.take_in(token),
-            Token::CloseLeaf => {
-                self.take_in(token);
-                self.depth.close();
-            }
-            Token::OpenItem(_) | Token::OpenFragment(_) => self.depth.open(true),
-            Token::CloseItem | Token::CloseSeq => self.depth.close(),
-            Token::End => {}
-        }
+        self.go_on(token);
         Ok(())
     }
 

@@ -27,6 +27,7 @@ mod meta;
 mod numbers;
 mod quoted;
 mod row;
+mod slot;
 
 pub use cell::CELL_LIMIT;
 pub use cells::Cells;

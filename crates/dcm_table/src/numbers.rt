@@ -128,15 +128,21 @@ fn put_quoted_units<W: DeviceOut>(
     put_all(out, b"\"")
 }
 
-/// Writes the numbers or tags of a value, which is in little endian order: one number as it is, all others in double
-/// quotes.
+/// Whether so many numbers or tags of a value are written in double quotes: one number is not.
+fn is_quoted_list(vr: Vr, count: usize) -> bool
+    ensures { result ≡ spec.is_quoted_list vr count }
+{
+    matches!(vr, Vr::AT) || count != 1
+}
+
+/// Writes the numbers or tags of a value, which is in little endian order, with backslashes between.
 pub fn put_units<W: DeviceOut>(vr: Vr, value: &[u8], out: &mut Watched<W>) -> Result<(), WriteFailed>
-    ensures { parts.WroteParts W.DeviceOut out.old out.new
-        (spec.units_parts (spec.is_tag_list vr) vr (units_of (shown_unit vr) value.now)) result }
+    ensures { parts.WroteParts W.DeviceOut out.old out.new (spec.numbers_parts vr value.now) result }
 {
     let size = shown_unit(vr);
-    if value.len() / size == 1 && !matches!(vr, Vr::AT) {
-        return put_unit(vr, &value[..size], out);
+    if is_quoted_list(vr, value.len() / size) {
+        put_quoted_units(vr, value, out)
+    } else {
+        put_joined(vr, value, out)
     }
-    put_quoted_units(vr, value, out)
 }

@@ -5,6 +5,7 @@ ghost use Rattle.dcm_devices.specs.Writing.{Wrote};
 ghost use Rattle.dcm_table.specs.Quoted as spec;
 
 use dcm_base::{DeviceOut, Watched, WriteFailed, put_all};
+use dcm_value::byte_digits;
 
 /// Whether the bytes of texts and names that are no part of valid UTF-8 are escaped.
 #[derive(Clone, Copy, Debug, PartialEq, Eq)]
@@ -42,9 +43,8 @@ fn put_doubled<W: DeviceOut>(bytes: &[u8], out: &mut Watched<W>) -> Result<(), W
 fn put_escaped<W: DeviceOut>(byte: u8, out: &mut Watched<W>) -> Result<(), WriteFailed>
     ensures { Wrote W.DeviceOut out.old out.new (spec.escaped_byte byte) result }
 {
-    let mut text = *b"\\x00";
-    let _ = hex::encode_to_slice([byte], &mut text[2..]);
-    put_all(out, &text)
+    let [high, low] = byte_digits(byte);
+    put_all(out, &[b'\\', b'x', high, low])
 }
 
 /// Writes bytes with quotes doubled, and those that are no part of valid UTF-8 escaped.
@@ -56,7 +56,8 @@ fn put_valid<W: DeviceOut>(bytes: &[u8], out: &mut Watched<W>) -> Result<(), Wri
         let (valid, after) = rest.split_at(error.valid_up_to());
         put_doubled(valid, out)?;
         put_escaped(after[0], out)?;
-        rest = &after[1..];
+        let (_, behind) = after.split_at(1);
+        rest = behind;
     }
     put_doubled(rest, out)
 }

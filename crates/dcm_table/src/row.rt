@@ -6,11 +6,12 @@ ghost use Rattle.dcm_table.specs.Parts.{WroteParts};
 ghost use Rattle.dcm_table.specs.Row as spec;
 ghost use Rattle.dcm_table.specs.Slots.{slot_of, slots_of};
 
-use crate::cell::{Progress, Slot};
+use crate::cell::Progress;
 use crate::cells::Cells;
 use crate::column::{Column, Columns};
 use crate::numbers::put_units;
 use crate::quoted::{TextForm, put_quoted};
+use crate::slot::Slot;
 use dcm_base::{DeviceOut, Vr, Watched, WriteFailed, put_all};
 use dcm_head::without_pads;
 

@@ -33,6 +33,6 @@ pub use lanes::swap;
 pub use parts::tag_of_text;
 pub use reading::{BadValue, read_value, read_value_into};
 pub use unit_buffer::{UnitBuffer, Units};
-pub use units::{LONGEST, shown_unit, unit_text};
+pub use units::{LONGEST, digits as byte_digits, shown_unit, unit_text};
 pub use value_text::ValueText;
 pub use way::takes_bytes;
