@@ -1,7 +1,8 @@
 -- The cell of a column after bytes of a value.
 use Rattle.std.proofs.Common.{◌≡◌, ◌∙◌, sym, ap, refl, ℕ, zero, suc, ◌+◌, ◌<◌, ◌≤◌, List, [], ◌∷◌, ◌++◌, length, take, fold, arith, append_assoc, Bool, true, false}
 use Rattle.std.specs.Prelude.{nat_lt, if◌then◌else◌}
-use Rattle.std.proofs.lemmas.Bool.{lt-ltb}
+use Rattle.std.proofs.lemmas.Bool.{lt-ltb, cases_lt}
+use mathlib.Core.Logic.{⊎_elim}
 use Rattle.std.proofs.lemmas.Bool.Decides.{nat_tests}
 use Rattle.std.proofs.lemmas.List.{append-nil, length-append}
 use Rattle.dcm_base.specs.declared.vr.Vr.{Vr}
@@ -63,12 +64,15 @@ module _ (vr shown : Vr) (s : Syntax) where
 
   passes : (held v : List ℕ) → length held ≤ 16384 → 16384 < length held + length v → fold with_byte (open_value vr shown s held) v ≡ open_too_long
   passes held [] h k = absurd (omega (arith, h, k))
-  passes held (b ∷ v) h k = by_room (nat_lt (length held) 16384) refl
-    where
-      by_room : (t : Bool) → nat_lt (length held) 16384 ≡ t → fold with_byte (with_byte (open_value vr shown s held) b) v ≡ open_too_long
-      by_room true e = ?
-      by_room false e =
-          ap (λ (c : Cell). fold with_byte c v) (one_too_many (nat_lt (length held) 16384) (open_value vr shown s (held ++ b ∷ [])) open_too_long e) ∙ too_long_stays v
+  passes held (b ∷ v) h k =
+      ⊎_elim
+      (λ (some : length held < 16384).
+      ap (λ (c : Cell). fold with_byte c v) (one_more (nat_lt (length held) 16384) (open_value vr shown s (held ++ b ∷ [])) open_too_long (lt-ltb (length held) 16384 some))
+      ∙ passes (held ++ b ∷ []) v (omega (arith, some, length-append held (b ∷ []))) (omega (arith, k, length-append held (b ∷ []))))
+      (λ (full : 16384 ≤ length held).
+      ap (λ (c : Cell). fold with_byte c v) (one_too_many (nat_lt (length held) 16384) (open_value vr shown s (held ++ b ∷ [])) open_too_long (no_room (length held) 16384 full))
+      ∙ too_long_stays v)
+      (cases_lt (length held) 16384)
 
 -- a value on its way takes bytes
 pub open_takes : (p : Progress) (held v : List ℕ) → is_open p ≡ true → length held + length v ≤ 16384 → cell_of p (held ++ v) ≡ fold with_byte (cell_of p held) v

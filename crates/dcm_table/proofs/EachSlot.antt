@@ -1,16 +1,17 @@
 -- Cells that are changed one after another.
-use Rattle.std.proofs.Common.{◌≡◌, ◌∙◌, sym, ap, refl, subst, ℕ, zero, suc, ◌+◌, ◌<◌, ◌≤◌, List, [], ◌∷◌, ◌++◌, length, take, drop, get_or, set, map, fold, arith, take_more}
-use Rattle.std.specs.Prelude.{Bool, true, false, ◌||◌, slice_index_or}
+use Rattle.std.proofs.Common.{◌≡◌, ◌∙◌, sym, ap, refl, subst, ℕ, zero, suc, ◌+◌, ◌<◌, ◌≤◌, List, [], ◌∷◌, ◌++◌, length, take, drop, get_or, set, map, fold, arith}
+use Rattle.std.specs.Prelude.{Bool, true, false, ◌||◌, ◌&&◌, not, slice_index_or}
 use Rattle.std.specs.List.{list_any}
-use Rattle.std.proofs.lemmas.List.{map-append, take_more_set, drop-set-lt, drop_more, take_all}
+use Rattle.std.proofs.lemmas.List.{map-append, take_more_set, drop-set-lt, drop_more, take_all, take_more}
 use Rattle.dcm_base.specs.declared.tag.Tag.{Tag}
 use Rattle.dcm_base.specs.Tables.Tag.{same_tag}
 use Rattle.dcm_base.specs.Steps.Atoms.{Atom, value_byte}
 use Rattle.dcm_table.specs.declared.slot.Slot.{Slot as HeldSlot}
 use Rattle.dcm_table.specs.declared.column.Column.{Column}
-use Rattle.dcm_table.specs.Cell.{Cell, missing, with_byte}
+use Rattle.dcm_table.specs.Cell.{Cell, missing, with_byte, is_too_long}
 use Rattle.dcm_table.specs.Slots.{slot_of, slots_of}
 use Rattle.dcm_table.specs.TableSink.{Slot, State, next, slot_step, begun_slots}
+use Rattle.dcm_table.specs.Row.{is_reported, slot_at}
 use Rattle.dcm_table.proofs.Folds.{map_map}
 
 -- the slots so far are changed, and the others are as they were
@@ -24,11 +25,11 @@ head_same x y xs ys e = cc
 tail_same : {X : Type 0} (x y : X) (xs ys : List X) → x ∷ xs ≡ y ∷ ys → xs ≡ ys
 tail_same x y xs ys e = cc
 
-pub slots_more : (f : Slot → Slot) (now first : List HeldSlot) (i : ℕ) (item new : HeldSlot) → i < length now → i < length first → item ≡ get_or now i item → slot_of new ≡ f (slot_of item)
+pub slots_more : (f : Slot → Slot) (now first : List HeldSlot) (i : ℕ) (item new : HeldSlot) → i < length now → i < length first → slot_of new ≡ f (slot_of (get_or now i item))
     → SlotsSoFar f now first i → SlotsSoFar f (set now i new) first (i + 1)
-slots_more f now first i item new h k is changed s =
+slots_more f now first i item new h k changed s =
     let both : get_or now i item ∷ drop (i + 1) now ≡ get_or first i item ∷ drop (i + 1) first = sym (drop_more now i item h) ∙ s.after ∙ drop_more first i item k in
-    let same : item ≡ get_or first i item = is ∙ head_same _ _ _ _ both in
+    let same : get_or now i item ≡ get_or first i item = head_same _ _ _ _ both in
     let later : i < i + 1 = omega arith in
     record {
       before =
@@ -93,3 +94,21 @@ pub slot_in : (slots : List HeldSlot) (i : ℕ) (d : Slot) (e : HeldSlot) → i 
 slot_in [] i d e h = absurd (omega (arith, h))
 slot_in (c ∷ slots) zero d e h = refl
 slot_in (c ∷ slots) (suc i) d e h = slot_in slots i d e (omega (arith, h))
+
+pub slots_length : (slots : List HeldSlot) → length (slots_of slots) ≡ length slots
+slots_length [] = refl
+slots_length (c ∷ slots) = ap suc (slots_length slots)
+
+-- a value that is too long is reported where no column before has its tag
+pub reported_as : (items slots before : List HeldSlot) (i : ℕ) (slot : HeldSlot) (b : Bool) → slots ≡ items → i < length (slots_of items) → slot ≡ get_or slots i slot → before ≡ take i slots
+    → is_too_long (slot_of slot).1 ≡ true → b ≡ list_any (λ (c : HeldSlot). same_tag c.tag slot.tag) before
+    → not b ≡ is_reported (slots_of items) i
+reported_as items slots before i slot b same h is front long any =
+    let within : i < length slots = omega (arith, h, slots_length items, ap length same) in
+    let place : slot_at (slots_of slots) i ≡ slot_of slot = slot_in slots i (record { group = 0; element = 0 }, missing) slot within ∙ ap slot_of (sym is) in
+    sym
+    (ap (λ (x : List HeldSlot). is_reported (slots_of x) i) (sym same)
+    ∙ ap (λ (s : Slot). is_too_long s.1 && not (list_any (λ (c : Slot). same_tag c.0 s.0) (take i (slots_of slots)))) place
+    ∙ ap (λ (t : Bool). t && not (list_any (λ (c : Slot). same_tag c.0 slot.tag) (take i (slots_of slots)))) long
+    ∙ ap (λ (x : List Slot). not (list_any (λ (c : Slot). same_tag c.0 slot.tag) x)) (slots_front i slots ∙ ap slots_of (sym front))
+    ∙ ap not (any_slots slot.tag before ∙ sym any))

@@ -15,7 +15,6 @@ use dcm_stream::Token;
 use dcm_value::swap;
 use std::alloc::{AllocError, Global};
 
-
 /// The bytes of a value that a cell holds at most.
 pub const CELL_LIMIT: usize = 16_384;
 
@@ -146,8 +145,11 @@ impl Slot {
 
     /// After the head of an element of the outermost level.
     fn open(&mut self, head: Head, syntax: Syntax)
-        ensures { slot_of self.new ≡ (self.old.tag, spec.with_head self.old.tag (slot_of self.old).1 syntax head.tag
-            head.vr head.length) }
+        ensures { slot_of self.new ≡ (
+          self.old.tag,
+          spec.with_head self.old.tag (slot_of self.old).1 syntax head.tag
+              head.vr head.length,
+        ) }
     {
         if matches!(self.progress, Progress::Missing) && head.tag == self.tag {
             self.progress = opened(head, syntax);

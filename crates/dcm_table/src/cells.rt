@@ -123,8 +123,10 @@ impl Cells {
 
     /// Goes on after a token, of which a head is one of the outermost level.
     fn take_in(&mut self, token: Token)
-        ensures { self.new ≡ record self.old { slots = map (λ (c : spec.Slot). fold spec.slot_step c
-            (atoms_of token.entry)) self.old.slots } }
+        ensures { self.new ≡ record self.old {
+          slots = map (λ (c : spec.Slot). fold spec.slot_step c
+              (atoms_of token.entry)) self.old.slots;
+        } }
     {
         take_each(self.slots.as_mut_slice(), token);
     }

@@ -13,7 +13,8 @@ use dcm_stream::Token;
 /// Gives the cells an element of the meta group, which is spelled in explicit little endian (PS3.10 7.1).
 fn take_element(element: MetaElement, cells: &mut Cells)
     requires { length element.value.now ≤ META_LIMIT }
-    ensures { cells.new ≡ fold sink.next cells.old (spec.element_atoms element.tag element.vr element.value.now) }
+    ensures { cells.new ≡ fold sink.next cells.old (spec.element_atoms element.entry.tag element.entry.vr
+        element.entry.value.now) }
 {
     let length = Length::Known(element.value.len() as u32);
     let head = Head {

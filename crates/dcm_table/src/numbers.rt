@@ -136,7 +136,11 @@ fn is_quoted_list(vr: Vr, count: usize) -> bool
 }
 
 /// Writes the numbers or tags of a value, which is in little endian order, with backslashes between.
-pub fn put_units<W: DeviceOut>(vr: Vr, value: &[u8], out: &mut Watched<W>) -> Result<(), WriteFailed>
+pub fn put_units<W: DeviceOut>(
+    vr: Vr,
+    value: &[u8],
+    out: &mut Watched<W>,
+) -> Result<(), WriteFailed>
     ensures { parts.WroteParts W.DeviceOut out.old out.new (spec.numbers_parts vr value.now) result }
 {
     let size = shown_unit(vr);

@@ -27,7 +27,10 @@ fn put_header_cell<W: DeviceOut>(column: &Column, out: &mut Watched<W>) -> Resul
 }
 
 /// Writes the cells of columns in the header.
-fn put_header_cells<W: DeviceOut>(columns: &[Column], out: &mut Watched<W>) -> Result<(), WriteFailed>
+fn put_header_cells<W: DeviceOut>(
+    columns: &[Column],
+    out: &mut Watched<W>,
+) -> Result<(), WriteFailed>
     ensures { Wrote W.DeviceOut out.old out.new (flat_map spec.header_cell columns.now) result }
 {
     for column in columns {

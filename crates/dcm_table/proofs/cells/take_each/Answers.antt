@@ -9,7 +9,7 @@ loop-slot-init c = slots_none _ _
 
 pub loop-slot-preserved : goal.loop-slot-preserved
 loop-slot-preserved c =
-    slots_more (λ (s : Slot). fold slot_step s (atoms_of c.args.token)) c.loop-slot.slots c.args.slots.now c.loop-slot.slot-index c.slot-item.result c.take.new.self (omega arith) (omega arith) c.slot-item.is c.take.ensures c.loop-slot.invariant
+    slots_more (λ (s : Slot). fold slot_step s (atoms_of c.args.token)) c.loop-slot.slots c.args.slots.now c.loop-slot.slot-index c.slot-item.result c.take.new.self (omega arith) (omega arith) c.take.ensures c.loop-slot.invariant
 
 pub returns : goal.returns
 returns c = slots_all (λ (s : Slot). fold slot_step s (atoms_of c.args.token)) c.loop-slot.slots c.args.slots.now c.loop-slot.slot-index c.loop-slot.invariant (omega arith) (omega arith)
