@@ -16,7 +16,7 @@ use Rattle.dcm_table.specs.declared.cell.Progress.TheVariants.{Missing, Open, Op
 use Rattle.dcm_table.specs.Cell.{Cell, missing, open_value, open_too_long, whole, too_long, not_shown, with_byte, CELL_LIMIT}
 use Rattle.dcm_table.specs.Slots.{cell_of, is_open}
 
-missing_stays : (v : List ℕ) → fold with_byte missing v ≡ missing
+pub missing_stays : (v : List ℕ) → fold with_byte missing v ≡ missing
 missing_stays [] = refl
 missing_stays (b ∷ v) = missing_stays v
 
@@ -24,15 +24,15 @@ pub too_long_stays : (v : List ℕ) → fold with_byte open_too_long v ≡ open_
 too_long_stays [] = refl
 too_long_stays (b ∷ v) = too_long_stays v
 
-whole_stays : (shown : Vr) (value v : List ℕ) → fold with_byte (whole shown value) v ≡ whole shown value
+pub whole_stays : (shown : Vr) (value v : List ℕ) → fold with_byte (whole shown value) v ≡ whole shown value
 whole_stays shown value [] = refl
 whole_stays shown value (b ∷ v) = whole_stays shown value v
 
-long_stays : (v : List ℕ) → fold with_byte too_long v ≡ too_long
+pub long_stays : (v : List ℕ) → fold with_byte too_long v ≡ too_long
 long_stays [] = refl
 long_stays (b ∷ v) = long_stays v
 
-not_shown_stays : (v : List ℕ) → fold with_byte not_shown v ≡ not_shown
+pub not_shown_stays : (v : List ℕ) → fold with_byte not_shown v ≡ not_shown
 not_shown_stays [] = refl
 not_shown_stays (b ∷ v) = not_shown_stays v
 
@@ -55,14 +55,14 @@ no_room : (n m : ℕ) → m ≤ n → nat_lt n m ≡ false
 no_room n m h = grind (arith, nat_tests)
 
 module _ (vr shown : Vr) (s : Syntax) where
-  fits : (held v : List ℕ) → length held + length v ≤ 16384 → fold with_byte (open_value vr shown s held) v ≡ open_value vr shown s (held ++ v)
+  pub fits : (held v : List ℕ) → length held + length v ≤ 16384 → fold with_byte (open_value vr shown s held) v ≡ open_value vr shown s (held ++ v)
   fits held [] h = ap (open_value vr shown s) (sym (append-nil held))
   fits held (b ∷ v) h =
       ap (λ (c : Cell). fold with_byte c v) (one_more (nat_lt (length held) 16384) (open_value vr shown s (held ++ b ∷ [])) open_too_long (lt-ltb (length held) 16384 (omega (arith, h))))
       ∙ fits (held ++ b ∷ []) v (omega (arith, h, length-append held (b ∷ [])))
       ∙ ap (open_value vr shown s) (append_assoc held (b ∷ []) v)
 
-  passes : (held v : List ℕ) → length held ≤ 16384 → 16384 < length held + length v → fold with_byte (open_value vr shown s held) v ≡ open_too_long
+  pub passes : (held v : List ℕ) → length held ≤ 16384 → 16384 < length held + length v → fold with_byte (open_value vr shown s held) v ≡ open_too_long
   passes held [] h k = absurd (omega (arith, h, k))
   passes held (b ∷ v) h k =
       ⊎_elim

@@ -6,3 +6,8 @@ pub mod RowParts
 pub mod EachSlot
 pub mod CellSteps
 pub mod MetaTaken
+pub mod Inside
+pub mod Outside
+pub mod MetaCells
+pub mod RowCells
+pub mod BarCells

@@ -5,6 +5,7 @@ pub mod Slots
 pub mod Meta
 pub mod Ending
 pub mod Quoted
+pub mod Shown
 pub mod Parts
 pub mod Row
 pub mod Laws
