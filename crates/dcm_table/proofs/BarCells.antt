@@ -19,12 +19,10 @@ use Rattle.dcm_stream.specs.Driven.{bars_by}
 use Rattle.dcm_stream.specs.Judging.{fault_of}
 use Rattle.dcm_stream.specs.declared.token.Bar.TheVariants.{Order}
 use Rattle.dcm_table.specs.Cell.{Cell}
-use Rattle.dcm_table.specs.Columns.{greatest_of}
 use Rattle.dcm_table.specs.Shown.{AllSettled, decided_by, table_bar}
-use Rattle.dcm_table.specs.TableSink.{Slot, State, begun, begun_slots, next, slot_step, bar_by, table_bar_of}
+use Rattle.dcm_table.specs.TableSink.{Slot, State, next, slot_step, bar_by, table_bar_of}
 use Rattle.dcm_table.proofs.EachSlot.{bytes_taken}
 use Rattle.dcm_table.proofs.Inside.{at, items_inside, item_inside, fragments_inside, fragment_inside}
-use Rattle.dcm_table.proofs.MetaCells.{begun_settled}
 use Rattle.dcm_table.proofs.Outside.{filled, filled_settled, leaf_here, leaf_state, leaf_settled, list_here, list_state, list_settled, sequence_not_shown}
 
 -- the same comes of a row of atoms as of the rest of it, where nothing is open
@@ -119,11 +117,10 @@ tells_bar false t g tag h =
     ∙ by_test (below g tag)
 tells_bar true t g tag h = ap (λ (d : ℕ). option_map fault_of (bar_by d t.greatest tag)) h.1
 
-pub bars_tell : (tags : List Tag) (f : Front) (atoms : List Atom) (tag : Tag) (vr : Vr) (declared : Length) → StaysShallow 0 atoms → Shows f atoms
-    → bars_by table_bar_of next (begun tags) atoms tag vr declared ≡ table_bar (greatest_of tags) f tag vr declared
+pub bars_tell : (g : Tag) (slots : List Slot) (f : Front) (atoms : List Atom) (tag : Tag) (vr : Vr) (declared : Length) → AllSettled slots → StaysShallow 0 atoms → Shows f atoms
+    → bars_by table_bar_of next (at 0 g slots) atoms tag vr declared ≡ table_bar g f tag vr declared
 unfolding Shows
-bars_tell tags (front trees o r c) atoms tag vr declared low (others, shown, more, may, re) =
-    let g : Tag = greatest_of tags in
-    let p = trees_pass trees g (begun_slots tags) atoms others shown (begun_settled tags) low in
+bars_tell g slots (front trees o r c) atoms tag vr declared settles low (others, shown, more, may, re) =
+    let p = trees_pass trees g slots atoms others shown settles low in
     ap (λ (t : State). option_map fault_of (bar_by t.depth t.greatest tag)) p.comes
     ∙ tells_bar (is_open o) (fold next (at 0 g p.left) others) g tag (open_tells o c g p.left others more p.settles (stays_trees 0 trees atoms others shown low))

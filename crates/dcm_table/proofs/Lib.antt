@@ -11,3 +11,4 @@ pub mod Outside
 pub mod MetaCells
 pub mod RowCells
 pub mod BarCells
+pub mod BarAtoms

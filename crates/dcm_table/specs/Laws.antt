@@ -34,6 +34,11 @@ RowSteps =
 -- the cells bar a head exactly where it is one of the outermost level and above the greatest column
 abbrev pub TableBarSteps : Type 0
 TableBarSteps =
-    (tags : List Tag) (f : Front) (atoms : List Atom) (tag : Tag) (vr : Vr) (declared : Length)
-    → StaysShallow 0 atoms → Shows f atoms
-    → bars_by table_bar_of next (begun tags) atoms tag vr declared ≡ table_bar (greatest_of tags) f tag vr declared
+    (greatest : Tag) (slots : List Slot) (f : Front) (atoms : List Atom) (tag : Tag) (vr : Vr) (declared : Length)
+    → AllSettled slots → StaysShallow 0 atoms → Shows f atoms
+    → bars_by table_bar_of next (record { depth = 0; greatest = greatest; slots = slots }) atoms tag vr declared
+    ≡ table_bar greatest f tag vr declared
+
+-- no value is on its way after the elements of a meta group
+abbrev pub MetaSettles : Type 0
+MetaSettles = (tags : List Tag) (elements : Trees) → AllSettled (meta_slots tags elements)

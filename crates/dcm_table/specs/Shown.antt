@@ -1,5 +1,5 @@
 -- What a row shows of what was read of a file.
-use Rattle.std.specs.Prelude.{◌≡◌, ℕ, nat_le, length, List, [], ◌∷◌, map, Bool, true, false, if◌then◌else◌, Option, Some, None}
+use Rattle.std.specs.Prelude.{◌≡◌, ℕ, zero, suc, nat_le, length, List, [], ◌∷◌, map, fold, Bool, true, false, if◌then◌else◌, Option, Some, None}
 use Rattle.dcm_base.specs.declared.tag.Tag.{Tag}
 use Rattle.dcm_base.specs.declared.vr.Vr.{Vr}
 use Rattle.dcm_base.specs.declared.syntax.Syntax.{Syntax}
@@ -8,7 +8,10 @@ use Rattle.dcm_base.specs.Tables.Tag.{same_tag, below}
 use Rattle.dcm_base.specs.Tree.Tree.{Trees, no_tree, leaf, sequence, fragments}
 use Rattle.dcm_base.specs.Tree.Front.{Front, front, OpenTree, nothing_open, open_leaf, open_sequence, open_fragments}
 use Rattle.dcm_base.specs.Bytes.Spelling.{after, after_trees, holds_open}
-use Rattle.dcm_base.specs.Reading.Stop.{Bar}
+use Rattle.dcm_base.specs.Reading.Stop.{Bar, HeadBar}
+use Rattle.dcm_base.specs.Steps.Atoms.{Atom, opens, value_byte, closes_leaf, opens_item, closes_item, closes_sequence}
+use Rattle.dcm_base.specs.Steps.Atoms.{opens_fragment, ends}
+use Rattle.dcm_stream.specs.Skip.{closed as less_deep}
 use Rattle.dcm_table.specs.Cell.{Cell, missing, open_value, open_too_long, whole, too_long, not_shown, CELL_LIMIT, is_shown, shown_vr}
 use Rattle.dcm_table.specs.Ending.{DECIDED}
 use Rattle.dcm_table.specs.Meta.{META_SYNTAX}
@@ -89,3 +92,22 @@ decided_by false = None
 
 abbrev pub table_bar : (greatest : Tag) → Bar
 table_bar greatest f tag vr declared = if holds_open f then None else decided_by (below greatest tag)
+
+-- how many elements, items and fragments are open after an atom
+abbrev pub open_after : ℕ → Atom → ℕ
+open_after n (opens tag vr declared s) = suc n
+open_after n (value_byte b) = n
+open_after n closes_leaf = less_deep n
+open_after n (opens_item declared) = suc n
+open_after n closes_item = less_deep n
+open_after n closes_sequence = less_deep n
+open_after n (opens_fragment size) = suc n
+open_after n ends = n
+
+abbrev pub decided_at : ℕ → Bool → Option Fault
+decided_at zero is_above = decided_by is_above
+decided_at (suc n) is_above = None
+
+-- the same bar, by the atoms so far
+abbrev pub tabled : (greatest : Tag) → List Atom → HeadBar
+tabled greatest atoms tag vr declared = decided_at (fold open_after 0 atoms) (below greatest tag)
