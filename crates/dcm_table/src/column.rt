@@ -1,7 +1,5 @@
 // The columns of a table.
-ghost use Rattle.std.specs.Prelude.{◌≡◌, ◌<◌, ◌≤◌, ◌++◌, ◌∷◌, [], length, map, slice_get, Some, IsTrue, ◌↔◌};
-ghost use Rattle.dcm_base.specs.declared.dictionary.Dictionary.TheVariants.{Standard};
-ghost use Rattle.dcm_base.specs.Tables.Dictionary as dictionary;
+ghost use Rattle.std.specs.Prelude.{◌≡◌, ◌<◌, ◌≤◌, ◌++◌, ◌∷◌, [], length, map};
 ghost use Rattle.dcm_table.specs.Columns as spec;
 ghost use Rattle.dcm_table.specs.declared.column.Column.{Column};
 ghost use Rattle.dcm_table.specs.declared.column.Header.TheVariants.{Keyword};
@@ -34,10 +32,7 @@ pub struct Column {
 
 impl Default for Column {
     fn default() -> Column {
-        Column {
-            tag: Tag::ITEM,
-            header: Header::Keyword,
-        }
+        Column::of_keyword(Tag::ITEM)
     }
 }
 
@@ -107,13 +102,6 @@ impl Columns {
         self.list.len()
     }
 
-    /// Whether there is none.
-    pub fn is_empty(&self) -> bool
-        ensures { IsTrue result ↔ (spec.list_of self.now ≡ []) }
-    {
-        self.list.is_empty()
-    }
-
     /// All of them.
     pub fn as_slice(&self) -> &[Column]
         ensures value { result.now ≡ spec.list_of self.now }
@@ -126,7 +114,7 @@ impl Columns {
     pub fn greatest(&self) -> Tag
         ensures { result ≡ spec.greatest_of (spec.tags_of self.now) }
     {
-        greatest_of(self.list.as_slice())
+        greatest_of(self.as_slice())
     }
 }
 
