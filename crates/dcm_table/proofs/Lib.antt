@@ -12,3 +12,5 @@ pub mod MetaCells
 pub mod RowCells
 pub mod BarCells
 pub mod BarAtoms
+pub mod ValidTexts
+pub mod ValidRows

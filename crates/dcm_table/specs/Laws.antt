@@ -1,5 +1,5 @@
 -- The statements of the laws.
-use Rattle.std.specs.Prelude.{◌≡◌, ℕ, List, fold}
+use Rattle.std.specs.Prelude.{◌≡◌, ℕ, List, [], ◌∷◌, fold, true, IsUtf8}
 use Rattle.dcm_base.specs.declared.tag.Tag.{Tag}
 use Rattle.dcm_base.specs.declared.vr.Vr.{Vr}
 use Rattle.dcm_base.specs.declared.length.Length.{Length}
@@ -11,8 +11,13 @@ use Rattle.dcm_base.specs.Tree.Front.{Front}
 use Rattle.dcm_base.specs.Tree.Tree.{Trees}
 use Rattle.dcm_sinks.specs.Laws.{StaysShallow}
 use Rattle.dcm_stream.specs.Driven.{bars_by}
+use Rattle.dcm_base.specs.Tables.Number.{AreBytes}
+use Rattle.dcm_table.specs.declared.quoted.TextForm.TheVariants.{ValidUtf8}
+use Rattle.dcm_table.specs.Cell.{Cell, is_shown, missing, open_value, open_too_long, whole, too_long, not_shown}
 use Rattle.dcm_table.specs.Columns.{greatest_of}
 use Rattle.dcm_table.specs.Meta.{meta_atoms}
+use Rattle.dcm_table.specs.Parts.{SpellsParts}
+use Rattle.dcm_table.specs.Row.{row_parts}
 use Rattle.dcm_table.specs.Shown.{AllSettled, meta_slots, settled_slots, slots_with, table_bar}
 use Rattle.dcm_table.specs.TableSink.{Slot, State, begun, next, table_bar_of}
 
@@ -42,3 +47,18 @@ TableBarSteps =
 -- no value is on its way after the elements of a meta group
 abbrev pub MetaSettles : Type 0
 MetaSettles = (tags : List Tag) (elements : Trees) → AllSettled (meta_slots tags elements)
+
+-- a value is of bytes, and is shown
+abbrev pub HoldsBytes : Cell → Type 0
+HoldsBytes (whole shown value) = (is_shown shown ≡ true) × AreBytes value
+HoldsBytes _ = Unit {0}
+
+abbrev pub AllHoldBytes : List Slot → Type 0
+AllHoldBytes [] = Unit {0}
+AllHoldBytes (c ∷ slots) = HoldsBytes c.1 × AllHoldBytes slots
+
+-- a row is valid UTF-8, where that is asked
+abbrev pub RowIsValid : Type 0
+RowIsValid =
+    (name : List ℕ) (slots : List Slot) (text : List ℕ) → AreBytes name → AllHoldBytes slots
+    → SpellsParts (row_parts ValidUtf8 name slots) text → IsUtf8 text
