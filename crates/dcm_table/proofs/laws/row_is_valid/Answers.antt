@@ -1,0 +1,5 @@
+use Rattle.dcm_table.proofs.ValidRows.{row_valid}
+use Rattle.dcm_table.proofs.laws.row_is_valid.Goals as goal
+
+pub returns : goal.returns
+returns c = λ name slots text named held spelled. row_valid name slots text named held spelled
