@@ -140,8 +140,8 @@ pub fn output_is_clean()
     ensures { OutputIsClean }
 {}
 
-/// Where unique identifiers are replaced, and the head of the file and its data set named the same instance, their padding
-/// aside, they name the same new one in the output.
+/// Where the head of a file and its data set named the same instance, they name the same new one in the output of dcmdeid.
+/// That is where unique identifiers are replaced, and padding is set aside.
 pub fn instance_agrees()
     ensures { InstanceAgrees }
 {}
