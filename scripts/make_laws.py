@@ -21,17 +21,22 @@ WIDTH = 138
 
 ON_THE_WAY = {
     "dcm_base": """reads_one one_shown front_shows value_reads_back line_reads_back rebuilt_recodes normal_recodes target_fits
-        keywords_differ called_back keywords_are_lines""",
+        keywords_differ called_back keywords_are_lines elements_ascend""",
     "dcm_head": "heads_read one_head heads_written meta_reads meta_reads_one data_set_begins meta_steps",
     "dcm_value": "text_steps value_reads_back",
     "dcm_stream": """machine_steps machine_answers machine_halts machine_stays_small machine_grows reads_one reads_some
         ascending_by_atoms machine_drives machine_ends machine_refuses machine_waits sinks_bar bars_are_decided""",
-    "dcm_sinks": "dump_steps dump_reads encode_steps encode_reads encode_bars",
+    "dcm_sinks": "dump_steps dump_reads encode_steps encode_reads encode_bars recode_reads recode_twice new_meta_reads",
     "dcm_build": "build_steps dump_lines steps_build dump_builds",
     "dcm_editor": """edits_are_few edits_fit edit_steps bar_steps reads_ascend recode_anew edit_reads edited_reads edited_ascends
         edited_is_bytes erased_all_is_gone erased_private_is_gone modified_all_is_so others_stay others_stay_written
-        edited_reads_by opens_alike edited_for_others erased_for_all edited_twice edited_again""",
-    "dcm_deid": "actions_ascend bar_steps deidentify_steps pixel_steps",
+        edited_reads_by opens_alike edited_for_others erased_for_all edited_twice edited_again edits_are_apart""",
+    "dcm_uid": "new_uids_are_uids",
+    "dcm_deid": """actions_ascend bar_steps deidentify_steps pixel_steps nothing_flows_out only_said_is_put pairs_are_alike
+        what_stays_is_known uids_agree""",
+    "dcm_deid_laws": "deidentified_reads written_is_clean deidentified_twice",
+    "dcm_table": "meta_steps row_steps table_bar_steps table_by_atoms row_is_valid",
+    "dcm_names": "lines_in_pieces",
 }
 
 
