@@ -3,12 +3,14 @@
 
 What PROFILE says of words, paths, streams and files is tried by try_program.py, too; of devices that fail, of pieces and of 64 and
 65 open sequences by the tests of dcm_runs; of R15 by those of dcm_parts, and of want of memory by try_memory.py. Of two runs into one
-OUTPUT, of overlay file systems, of DCMTK's tools and of dcmdeid nothing is tried here.
+OUTPUT, of overlay file systems and of DCMTK's tools nothing is tried here.
 
     scripts/try_profile.py [BINARY]
 
 BINARY is crates/dcmtools/out/dcmtools if it is not given. Exits with 0 if each case ends as the profile says.
 """
+import hashlib
+import hmac
 import os
 import struct
 import subprocess
@@ -774,12 +776,118 @@ PRIVACY = [
     ),
 ]
 
-TOOLS = ["dcmdump", "dcmconv", "dump2dcm", "dcmodify"]
+# ---- dcmdeid
+
+INSTANCE_OF_FILE = 0x00080018
+STATION = 0x00081010
+INSTITUTION = 0x00080080
+STUDY_DATE = 0x00080020
+AGE = 0x00101010
+BURNED_IN = 0x00280301
+
+PROFILE = (b"113100", b"Basic Application Confidentiality Profile")
+RETAINED = {
+    "+ru": (b"113110", b"Retain UIDs Option"),
+    "+rd": (b"113109", b"Retain Device Identity Option"),
+    "+ri": (b"113112", b"Retain Institution Identity Option"),
+    "+rp": (b"113108", b"Retain Patient Characteristics Option"),
+    "+rl": (b"113106", b"Retain Longitudinal Temporal Information Full Dates Option"),
+}
+DATES = 0x00280303
+
+
+def even(text):
+    return text + b" " * (len(text) % 2)
+
+
+def code(number, meaning):
+    return open_item(leaf(0x00080100, "SH", number) + leaf(0x00080102, "SH", b"DCM ") + leaf(0x00080104, "LO", even(meaning)))
+
+
+def said(options):
+    """What says what was done, in group 0012."""
+    codes = [PROFILE, *sorted(RETAINED[word] for word in options.split() if word in RETAINED)]
+    return leaf(0x00120062, "CS", b"YES ") + leaf(0x00120063, "LO", b"dcmtools dcmdeid, PS3.15 2021b") + open_sequence(
+        0x00120064, b"".join(code(*each) for each in codes))
+
+
+def without_identity(options, before=b"", after=b"", dates=b"REMOVED "):
+    """A file of which this is left below group 0012 and above (0028,0303)."""
+    return file_of(LITTLE, before + said(options) + leaf(DATES, "CS", dates) + after)
+
+
+def taken(claim, data_set, before=b"", after=b"", options="", dates=b"REMOVED ", before_run=":", after_run=":"):
+    output = without_identity(options, before, after, dates)
+    return Case(claim, f"dcmdeid {options} FILE -", file_of(LITTLE, data_set), output, before=before_run, after=after_run)
+
+
+def new_uid(key, uid):
+    number = bytearray(hmac.new(key, uid, hashlib.sha256).digest()[:16])
+    number[6] = number[6] & 0x0F | 0x80
+    number[8] = number[8] & 0x3F | 0x80
+    return padded(b"2.25.%d" % int.from_bytes(number, "big"))
+
+
+KEY = bytes(range(65, 97))
+MAKES_KEY = f"printf %s '{KEY.decode().replace(chr(39), '')}' > key"
+MADE_KEY = KEY.replace(b"'", b"")
+UID = leaf(INSTANCE_OF_FILE, "UI", b"1.2.3\0")
+SHOWS_IDENTITY = leaf(BURNED_IN, "CS", b"YES ")
+
+IDENTITY = [
+    taken("names are emptied", AB, leaf(NAME, "PN", b"")),
+    taken("a row with X is removed", leaf(COMMENTS, "LT", b"AB") + leaf(0x7FE10010, "LO", b"AB")),
+    taken("a value is replaced", leaf(STATION, "SH", b"AB"), leaf(STATION, "SH", b"ANONYMIZED")),
+    taken("what the table does not name is kept", leaf(0x00080060, "CS", b"CT") + leaf(PIXELS, "OW", b"\1\2"), leaf(0x00080060, "CS", b"CT"), leaf(PIXELS, "OW", b"\1\2")),
+    taken("private elements, overlays and elements numbered 0000 are removed", leaf(0x00080000, "UL", bytes(4)) + PRIVATE + leaf(0x60000010, "US", b"\1\0")),
+    taken("each item by the table again", open_sequence(IMAGES, open_item(leaf(INSTANCE, "UI", b"1.2\0") + AB)), open_sequence(IMAGES, open_item(leaf(INSTANCE, "UI", new_uid(b"", b"1.2")) + leaf(NAME, "PN", b"")))),
+    taken("a value whose tag is a sequence is gone", leaf(IMAGES, "OB", b"AB")),
+    taken("a UN of known length that is a sequence is looked into", leaf(IMAGES, "UN", item(leaf(NAME, "", b"AB", IMPLICIT))), open_sequence(IMAGES, open_item(leaf(NAME, "PN", b"")))),
+    taken("a new identifier under the empty key", UID, leaf(INSTANCE_OF_FILE, "UI", new_uid(b"", b"1.2.3"))),
+    taken("and under a key", UID, leaf(INSTANCE_OF_FILE, "UI", new_uid(MADE_KEY, b"1.2.3")), options="+k key", before_run=MAKES_KEY, after_run="rm key"),
+    taken("an identifier of the standard's own stays", leaf(INSTANCE_OF_FILE, "UI", b"1.2.840.10008.1\0"), leaf(INSTANCE_OF_FILE, "UI", b"1.2.840.10008.1\0")),
+    taken("several identifiers become empty", leaf(INSTANCE_OF_FILE, "UI", b"1.2\\3.4\0"), leaf(INSTANCE_OF_FILE, "UI", b"")),
+    taken("+ru", UID, UID, options="+ru"),
+    taken("+rd", leaf(STATION, "SH", b"AB"), leaf(STATION, "SH", b"AB"), options="+rd"),
+    taken("+ri", leaf(INSTITUTION, "LO", b"AB"), leaf(INSTITUTION, "LO", b"AB"), options="+ri"),
+    taken("+rp", leaf(AGE, "AS", b"030Y"), leaf(AGE, "AS", b"030Y"), options="+rp"),
+    taken("+rl, and what says so where it is missing", leaf(STUDY_DATE, "DA", b"20200102"), leaf(STUDY_DATE, "DA", b"20200102"), options="+rl", dates=b"UNMODIFIED"),
+    taken("+rl leaves what says so as it is", leaf(DATES, "CS", b"MODIFIED"), options="+rl", dates=b"MODIFIED"),
+    taken("without +rl it is put anew", leaf(DATES, "CS", b"MODIFIED")),
+    taken("several options", leaf(STATION, "SH", b"AB"), leaf(STATION, "SH", b"AB"), options="+rl +rd +ru", dates=b"UNMODIFIED"),
+    Case(
+        "the head: no preamble, and of the meta group what stays",
+        "dcmdeid FILE -",
+        b"P" * 128 + b"DICM" + group(leaf(0x00020003, "UI", b"1.2.3\0"), leaf(0x00020010, "UI", padded(LITTLE)), leaf(0x00020016, "AE", b"AB")),
+        after_prefix(group(leaf(0x00020003, "UI", new_uid(b"", b"1.2.3")), leaf(0x00020010, "UI", padded(LITTLE))) + said("") + leaf(DATES, "CS", b"REMOVED ")),
+    ),
+    fault("tags have to ascend, in what is removed too", "dcmdeid FILE -", file_of(LITTLE, AB + AB), "R12", AT_SET + 10, "tags not ascending", file_of(LITTLE, leaf(NAME, "PN", b""))),
+    fault("a DICOMDIR", "dcmdeid FILE -", file_of(LITTLE, open_sequence(0x00041220, b"")), "R16", AT_SET, "identity cannot be taken out", file_of(LITTLE, b"")),
+    fault("an encapsulated document", "dcmdeid FILE -", file_of(LITTLE, leaf(0x00420011, "OB", b"AB")), "R16", AT_SET, "identity cannot be taken out", file_of(LITTLE, b"")),
+    Case("pixels may show identity", "dcmdeid FILE -", file_of(LITTLE, SHOWS_IDENTITY), file_of(LITTLE, said("") + SHOWS_IDENTITY + leaf(DATES, "CS", b"REMOVED ")), 3, "pixels may show identity"),
+    Case("with +bi this is not said", "dcmdeid +bi FILE -", file_of(LITTLE, SHOWS_IDENTITY), file_of(LITTLE, said("") + SHOWS_IDENTITY + leaf(DATES, "CS", b"REMOVED "))),
+    Case("OUTPUT has its name at status 0", "dcmdeid FILE OUTPUT", file_of(LITTLE, AB), without_identity("", leaf(NAME, "PN", b"")), after="cat OUTPUT; rm OUTPUT"),
+    Case("at status 3 none is left", "dcmdeid FILE OUTPUT", file_of(LITTLE, SHOWS_IDENTITY), b"", 3, "pixels may show identity"),
+    Case("at a fault OUTPUT is as it was", "dcmdeid FILE OUTPUT", file_of(LITTLE, AB + AB), "older\n", 2, f"R12 at byte {AT_SET + 10}: tags not ascending", before="echo older > OUTPUT", after="cat OUTPUT; rm OUTPUT"),
+    Case("OUTPUT.part is there already", "dcmdeid FILE OUTPUT", file_of(LITTLE, AB), "older\n", 4, "output cannot be opened", before="echo older > OUTPUT.part", after="cat OUTPUT.part; rm OUTPUT.part"),
+    Case("OUTPUT is no regular file", "dcmdeid FILE OUTPUT", file_of(LITTLE, AB), b"", 4, "output cannot be opened", before="mkdir OUTPUT", after="rmdir OUTPUT"),
+    Case("OUTPUT is KEY under another name", "dcmdeid +k key FILE OUTPUT", file_of(LITTLE, AB), MADE_KEY, 4, "output cannot be opened", before=f"{MAKES_KEY}; ln key OUTPUT", after="cat key; rm key OUTPUT"),
+    Case("a link at OUTPUT is replaced", "dcmdeid FILE OUTPUT", file_of(LITTLE, AB), "older\n", before="echo older > other; ln -s other OUTPUT", after="cat other; rm other; [ -L OUTPUT ] || rm OUTPUT"),
+    refused("V3: no key after +k", "dcmdeid FILE out +k", "V3 at word 4: bad option value"),
+    refused("V3: a key from standard input", "dcmdeid +k - FILE out", "V3 at word 2: bad option value"),
+    refused("V6: OUTPUT is KEY", "dcmdeid +k out FILE out", "V6: input and output are the same path"),
+    Case("V7", "dcmdeid +k key FILE out", file_of(LITTLE, AB), b"", 1, "V7: key is not 16 to 4096 bytes", before="printf 123456789012345 > key", after="rm key"),
+    Case("a key that is not there", "dcmdeid +k key FILE out", file_of(LITTLE, AB), b"", 4, "key cannot be opened"),
+]
+
+
+TOOLS = ["dcmdump", "dcmconv", "dump2dcm", "dcmodify", "dcmdeid"]
 OPTIONS = [
     ["-L", "+L", "+fo", "-f", "-ti", "-te", "-tb", "-dict", "+dict"],
     ["+t=", "+ti", "+te", "+tb", "-e", "+fo", "-dict", "+dict"],
     ["+l", "-e"],
     ["-i", "-m", "-e", "-ma", "-ea", "-ep", "-dict", "+dict"],
+    ["+ru", "+rd", "+ri", "+rp", "+rl", "+bi", "+k"],
 ]
 
 TEXTS = [Shows(f"{word} of the program", word, TOOLS) for word in ("help", "--help")]
@@ -860,7 +968,7 @@ def wrong_text(binary, shows):
 
 def main():
     binary = os.path.abspath(sys.argv[1] if len(sys.argv) > 1 else os.path.join(ROOT, "crates/dcmtools/out/dcmtools"))
-    cases = WORDS + SAME_FILE + READING + DICTIONARIES + FILES + SHOWING + WRITING + BUILDING + EDITING + PRIVACY + FAULTS
+    cases = WORDS + SAME_FILE + READING + DICTIONARIES + FILES + SHOWING + WRITING + BUILDING + EDITING + PRIVACY + IDENTITY + FAULTS
     answers = [(case.claim, wrong_case(binary, case)) for case in cases]
     answers += [(shows.claim, wrong_text(binary, shows)) for shows in TEXTS]
     for claim, wrong in answers:
