@@ -1,0 +1,4 @@
+pub mod Names
+pub mod Held
+pub mod NamedLines
+pub mod Laws

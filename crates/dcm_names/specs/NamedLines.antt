@@ -1,0 +1,29 @@
+-- The lines on standard error that name a file.
+use Rattle.std.specs.Prelude.{ℕ, List, [], ◌∷◌, ◌++◌, codes, decimal}
+use Rattle.dcm_base.specs.declared.fault.Stop.{Stop}
+use Rattle.dcm_base.specs.declared.tag.Tag.{Tag}
+use Rattle.dcm_base.specs.Tables.Fault.{fault_number, fault_text}
+use Rattle.dcm_base.specs.Dump.ValueText.{tag_text}
+use Rattle.dcm_names.specs.Names.{shown_name}
+
+-- a line: the name of the program, that of the file, a text and a newline
+abbrev pub named_line : (name text : List ℕ) → List ℕ
+named_line name text = codes "dcmtools: " ++ shown_name name ++ codes ": " ++ text ++ 10 ∷ []
+
+-- the file cannot be opened
+abbrev pub unopened_line : List ℕ → List ℕ
+unopened_line name = named_line name (codes "input cannot be opened")
+
+-- reading it failed after so many bytes
+abbrev pub unread_line : List ℕ → ℕ → List ℕ
+unread_line name read = named_line name (codes "reading failed after " ++ decimal read ++ codes " bytes")
+
+-- a fault of it
+abbrev pub fault_line : List ℕ → Stop → List ℕ
+fault_line name stop =
+    named_line name (fault_number stop.fault ++ codes " at byte " ++ decimal stop.at ++ codes ": " ++ fault_text stop.fault)
+
+-- a value of it is too long for a cell
+abbrev pub too_long_line : List ℕ → Tag → List ℕ
+too_long_line name t =
+    named_line name (codes "value of " ++ tag_text t.group t.element ++ codes " is longer than 16384 bytes")

@@ -1,0 +1,23 @@
+//! The names of many files: those in a list, and how a name is shown in a line on standard error.
+//!
+//! - `OpenLine` takes a list piece by piece, and says of each line that has ended what name it is. The pieces do not
+//!   matter: `lines_in_pieces` is the law.
+//! - `can_be_opened` says whether a name is one of a file at all.
+//! - `put_unopened`, `put_unread`, `put_fault` and `put_too_long` write a line that begins with a name.
+//!
+//! A list of two files, in one piece:
+//!
+//!     let mut line = OpenLine::new();
+//!     assert!(rt; line.take(b"a.dcm\nb.dcm") == Some(6) && line.name() == b"a.dcm".as_slice());
+//!     line.clear();
+//!     assert!(rt; line.take(b"b.dcm") == None && line.name() == b"b.dcm".as_slice());
+#![tactic(auto)]
+
+pub mod laws;
+mod list;
+mod named_lines;
+mod shown;
+
+pub use list::{MOST_OF_NAME, OpenLine, can_be_opened};
+pub use named_lines::{put_fault, put_too_long, put_unopened, put_unread};
+pub use shown::shown_name;

@@ -1,0 +1,109 @@
+// Lines on standard error that name a file, each by one write.
+ghost use Rattle.std.specs.Prelude.{◌≡◌, ◌≤◌, ◌+◌, ◌++◌, length, flat_map};
+ghost use Rattle.dcm_devices.specs.Writing.{Wrote};
+ghost use Rattle.dcm_names.specs.NamedLines as spec;
+
+use crate::shown::{MOST_SHOWN, shown_name};
+use arrayvec::ArrayVec;
+use dcm_base::{DeviceOut, Stop, Tag, Watched, WriteFailed, put_all};
+use itoa::Buffer;
+
+/// The most bytes of a line without its name.
+const MOST_WITHOUT_NAME: usize = 192;
+
+/// The most bytes of a line.
+const LONGEST: usize = MOST_SHOWN + MOST_WITHOUT_NAME;
+
+/// The parts of a line, one after the other.
+fn compose(parts: &[&[u8]]) -> ArrayVec<u8, LONGEST>
+    requires { length (flat_map (λ part. part.now) parts.now) ≤ 12480 }
+    ensures { result.items ≡ flat_map (λ part. part.now) parts.now }
+{
+    let mut line = ArrayVec::new();
+    for part in parts {
+        let _ = line.try_extend_from_slice(part);
+    }
+    line
+}
+
+/// Writes a line of a name: the parts of a text come after it.
+fn put_named<E: DeviceOut>(
+    name: &[u8],
+    parts: &[&[u8]],
+    errors: &mut Watched<E>,
+) -> Result<(), WriteFailed>
+    requires { length (flat_map (λ part. part.now) parts.now) ≤ 176 }
+    ensures { Wrote E.DeviceOut errors.old errors.new (spec.named_line name.now (flat_map (λ part. part.now) parts.now))
+        result }
+{
+    let shown = shown_name(name);
+    let text = compose(parts);
+    let line = compose(&[
+        b"dcmtools: ".as_slice(),
+        shown.as_slice(),
+        b": ".as_slice(),
+        text.as_slice(),
+        b"\n".as_slice(),
+    ]);
+    put_all(errors, line.as_slice())
+}
+
+/// Reports that a file cannot be opened.
+pub fn put_unopened<E: DeviceOut>(name: &[u8], errors: &mut Watched<E>) -> Result<(), WriteFailed>
+    ensures { Wrote E.DeviceOut errors.old errors.new (spec.unopened_line name.now) result }
+{
+    put_named(name, &[b"input cannot be opened".as_slice()], errors)
+}
+
+/// Reports that reading a file failed after so many bytes.
+pub fn put_unread<E: DeviceOut>(
+    name: &[u8],
+    read: u64,
+    errors: &mut Watched<E>,
+) -> Result<(), WriteFailed>
+    ensures { Wrote E.DeviceOut errors.old errors.new (spec.unread_line name.now read) result }
+{
+    let mut digits = Buffer::new();
+    let text = [
+        b"reading failed after ".as_slice(),
+        digits.format(read).as_bytes(),
+        b" bytes".as_slice(),
+    ];
+    put_named(name, &text, errors)
+}
+
+/// Reports a fault of a file.
+pub fn put_fault<E: DeviceOut>(
+    name: &[u8],
+    stop: Stop,
+    errors: &mut Watched<E>,
+) -> Result<(), WriteFailed>
+    ensures { Wrote E.DeviceOut errors.old errors.new (spec.fault_line name.now stop) result }
+{
+    let mut digits = Buffer::new();
+    let text = [
+        stop.fault.number().as_bytes(),
+        b" at byte ".as_slice(),
+        digits.format(stop.at).as_bytes(),
+        b": ".as_slice(),
+        stop.fault.text().as_bytes(),
+    ];
+    put_named(name, &text, errors)
+}
+
+/// Reports that a value of a file is too long for a cell.
+pub fn put_too_long<E: DeviceOut>(
+    name: &[u8],
+    tag: Tag,
+    errors: &mut Watched<E>,
+) -> Result<(), WriteFailed>
+    ensures { Wrote E.DeviceOut errors.old errors.new (spec.too_long_line name.now tag) result }
+{
+    let number = tag.text();
+    let text = [
+        b"value of ".as_slice(),
+        number.as_slice(),
+        b" is longer than 16384 bytes".as_slice(),
+    ];
+    put_named(name, &text, errors)
+}
