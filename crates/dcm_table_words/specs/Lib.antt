@@ -1,0 +1,6 @@
+pub mod Keywords
+pub mod Table
+pub mod Usages
+pub mod Columns
+pub mod Said
+pub mod Plans

@@ -1,0 +1,23 @@
+//! The words of dcm2csv, and the table that they mean.
+//!
+//! - `table_plan` reads the words of a command line into a `TablePlan`: the columns, and what the words say of header
+//!   and bytes. `NameWords::after` gives its names one after another.
+//! - Words that it refuses are a `TableUsage`: which word is wrong and why, which column, or the words as a whole.
+//!
+//! No memory is taken: columns are at most 64, and names are read again from the words.
+//!
+//!     let words = [b"dcm2csv".as_slice(), b"-k".as_slice(), b"PatientID".as_slice(), b"a.dcm".as_slice()];
+//!     let Ok(plan) = table_plan(&words) else { return Err("refused".into()) };
+//!     assert!(rt; plan.columns.len() == 1 && plan.has_header);
+//!     assert!(rt; matches!(plan.names.after(0), Some((Name::File(_), 4))));
+#![tactic(auto)]
+
+mod between;
+mod column;
+mod plan;
+mod saying;
+mod usage;
+
+pub use column::{NUMBER_SIZE, TableColumn};
+pub use plan::{MOST_COLUMNS, Name, NameWords, TablePlan, table_plan};
+pub use usage::TableUsage;
