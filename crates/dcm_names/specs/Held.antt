@@ -1,5 +1,5 @@
 -- What an open line holds of the bytes that were taken.
-use Rattle.std.specs.Prelude.{◌≡◌, ℕ, ◌≤◌, nat_lt, List, [], ◌∷◌, length, take, drop, Option, Some, None}
+use Rattle.std.specs.Prelude.{◌≡◌, ℕ, nat_lt, List, [], ◌∷◌, length, take, drop, Option, Some, None}
 use Rattle.dcm_names.specs.declared.list.OpenLine.{OpenLine}
 use Rattle.dcm_names.specs.Names.{NAME_LIMIT, open_line, ended_lines}
 
@@ -12,7 +12,6 @@ pub record Holds (o : OpenLine) (line : List ℕ) : Type 0 where
 pub record EndsLine (o : OpenLine) (line piece : List ℕ) (n : ℕ) : Type 0 where
   pub ended : List ℕ
   pub held : Holds o ended
-  pub within : n ≤ length piece
   pub lines : ended_lines line piece ≡ ended ∷ ended_lines [] (drop n piece)
   pub goes_on : open_line line piece ≡ open_line [] (drop n piece)
 

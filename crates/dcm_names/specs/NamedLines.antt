@@ -10,6 +10,10 @@ use Rattle.dcm_names.specs.Names.{shown_name}
 abbrev pub named_line : (name text : List ℕ) → List ℕ
 named_line name text = codes "dcmtools: " ++ shown_name name ++ codes ": " ++ text ++ 10 ∷ []
 
+-- a line that names no file: a refusal by its number, where it is, and its words
+abbrev pub refusal_line : (number place text : List ℕ) → List ℕ
+refusal_line number place text = codes "dcmtools: " ++ number ++ place ++ codes ": " ++ text ++ 10 ∷ []
+
 -- the file cannot be opened
 abbrev pub unopened_line : List ℕ → List ℕ
 unopened_line name = named_line name (codes "input cannot be opened")

@@ -1,5 +1,5 @@
 // The names in a list of files, one a line.
-ghost use Rattle.std.specs.Prelude.{◌≡◌, [], ◌++◌, List, ℕ, take};
+ghost use Rattle.std.specs.Prelude.{◌≡◌, ◌<◌, ◌≤◌, [], ◌++◌, List, ℕ, take, length, IfSome};
 ghost use Rattle.dcm_names.specs.Names as spec;
 
 use arrayvec::ArrayVec;
@@ -62,7 +62,8 @@ impl OpenLine {
     /// Takes bytes up to a newline. The answer is how many they were, the newline among them, or none where all were
     /// taken and the line goes on.
     pub fn take(&mut self, piece: &[u8]) -> Option<usize>
-        ensures { (line : List ℕ) → Holds self.old line → TakesLine self.new line piece.now result }
+        ensures takes { (line : List ℕ) → Holds self.old line → TakesLine self.new line piece.now result }
+        ensures within { IfSome result (λ n. (0 < n) × (n ≤ length piece.now)) }
     {
         match newline(piece) {
             Some(at) => {
@@ -89,6 +90,13 @@ impl OpenLine {
         ensures { (line : List ℕ) → Holds self.now line → result ≡ spec.can_be_opened line }
     {
         !self.is_longer && can_be_opened(self.kept.as_slice())
+    }
+
+    /// Whether the line so far has bytes: an empty one is no name.
+    pub fn has_bytes(&self) -> bool
+        ensures { (line : List ℕ) → Holds self.now line → result ≡ spec.has_bytes line }
+    {
+        !self.kept.is_empty()
     }
 
     /// Begins the next line.

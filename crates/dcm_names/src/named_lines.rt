@@ -48,6 +48,29 @@ fn put_named<E: DeviceOut>(
     put_all(errors, line.as_slice())
 }
 
+/// Writes a line that names no file: a refusal of words by its number, where it is, and its words.
+pub fn put_refusal<E: DeviceOut>(
+    number: &str,
+    place: &[&[u8]],
+    text: &str,
+    errors: &mut Watched<E>,
+) -> Result<(), WriteFailed>
+    requires { length number.now + length (flat_map (λ part. part.now) place.now) + length text.now ≤ 176 }
+    ensures { Wrote E.DeviceOut errors.old errors.new (spec.refusal_line number.now
+        (flat_map (λ part. part.now) place.now) text.now) result }
+{
+    let place = compose(place);
+    let line = compose(&[
+        b"dcmtools: ".as_slice(),
+        number.as_bytes(),
+        place.as_slice(),
+        b": ".as_slice(),
+        text.as_bytes(),
+        b"\n".as_slice(),
+    ]);
+    put_all(errors, line.as_slice())
+}
+
 /// Reports that a file cannot be opened.
 pub fn put_unopened<E: DeviceOut>(name: &[u8], errors: &mut Watched<E>) -> Result<(), WriteFailed>
     ensures { Wrote E.DeviceOut errors.old errors.new (spec.unopened_line name.now) result }

@@ -2,7 +2,7 @@
 //!
 //! - `table_plan` reads the words of a command line into a `TablePlan`: the columns, and what the words say of header
 //!   and bytes. `NameWords::after` gives its names one after another.
-//! - Words that it refuses are a `TableUsage`: which word is wrong and why, which column, or the words as a whole.
+//! - Words that it refuses are a `TableUsage`: which word is wrong and why, which column, or the words as a whole. `put_usage` writes the line that reports it.
 //!
 //! No memory is taken: columns are at most 64, and names are read again from the words.
 //!
@@ -17,7 +17,9 @@ mod column;
 mod plan;
 mod saying;
 mod usage;
+mod usage_line;
 
 pub use column::{NUMBER_SIZE, TableColumn};
 pub use plan::{MOST_COLUMNS, Name, NameWords, TablePlan, table_plan};
 pub use usage::TableUsage;
+pub use usage_line::put_usage;

@@ -1,0 +1,48 @@
+use Rattle.std.proofs.Common.{◌∙◌, sym, refl, subst, List, ℕ}
+use Rattle.dcm_devices.specs.Device.{no_calls}
+use Rattle.dcm_names.specs.Names.{has_bytes, open_line}
+use Rattle.dcm_names.specs.Held.{Holds}
+use Rattle.dcm_names.specs.declared.list_reader.NextName.{NextName}
+use Rattle.dcm_names.specs.Reader.{Answers, pending}
+use Rattle.dcm_names.proofs.NameByName.{nothing_read, piece_read, a_name_read, list_ended, list_unread, holds_piece, holds_none}
+use Rattle.dcm_names.proofs.list_reader.ListReader.next.Goals as goal
+
+pub loop-self-init : goal.loop-self-init
+loop-self-init g c = record {
+  more = _;
+  gave = no_calls refl refl;
+  read = nothing_read c.args.self.now _ c.clear.ensures refl refl refl;
+}
+
+pub loop-self-preserved : goal.loop-self-preserved
+loop-self-preserved g c =
+    let loop = c.loop-self.invariant in
+    let passes = c.loop-self-test.ensures.takes loop.read.line loop.read.held in
+    let same = c.loop-self-test.ensures.same in
+    let next = piece_read g.R.DeviceIn.gets c.args.input.now c.loop-self.input c.refill.new.input c.args.self.now c.loop-self.self c.take_name.new.self c.refill.new.self loop.more loop.gave loop.read passes same.read same.over (holds_piece g.R.DeviceIn.gets _ _ _ _ c.in-Ok-true.field-0 c.in-Ok-true.field-0-test c.in-Ok-true.ensures) in
+    record { more = next.0; gave = next.1; read = next.2 }
+
+pub returns-in-Ok-false : goal.returns-in-Ok-false
+returns-in-Ok-false g c = λ given named has.
+    let loop = c.loop-self.invariant in
+    let passes = c.loop-self-test.ensures.takes loop.read.line loop.read.held in
+    let none = holds_none g.R.DeviceIn.gets _ _ _ _ c.in-Ok-false.field-0 c.in-Ok-false.field-0-test c.in-Ok-false.ensures in
+    let last : List ℕ = open_line loop.read.line (pending c.loop-self.self) in
+    subst (λ (answer : NextName). Answers g.R.DeviceIn.gets c.args.input.now c.refill.new.input c.end.new.self given named answer)
+    (sym (c.end.ensures.answer last (subst (λ l. Holds l last) (sym none.line) passes.held)))
+    (list_ended g.R.DeviceIn.gets c.args.input.now c.loop-self.input c.refill.new.input c.args.self.now c.loop-self.self c.take_name.new.self c.end.new.self loop.more loop.gave loop.read passes none.call (c.end.ensures.line ∙ none.line) c.end.ensures.over
+    c.if-self.false given named has (has_bytes last) refl)
+
+pub returns-in-Err : goal.returns-in-Err
+returns-in-Err g c = λ given named has.
+    let loop = c.loop-self.invariant in
+    let passes = c.loop-self-test.ensures.takes loop.read.line loop.read.held in
+    list_unread g.R.DeviceIn.gets c.args.input.now c.loop-self.input c.refill.new.input c.args.self.now c.loop-self.self c.take_name.new.self c.refill.new.self loop.more loop.gave loop.read passes c.loop-self-test.ensures.same.read c.in-Err.ensures
+    c.if-self.false given named has
+
+pub returns : goal.returns
+returns g c = λ given named has.
+    let loop = c.loop-self.invariant in
+    let ends = c.loop-self-test.ensures.takes loop.read.line loop.read.held in
+    let same = c.loop-self-test.ensures.same in
+    a_name_read g.R.DeviceIn.gets c.args.input.now c.loop-self.input c.args.self.now c.loop-self.self c.take_name.new.self loop.more loop.gave loop.read ends same.read same.over c.if-self.false given named has
