@@ -42,6 +42,6 @@ pub mod run;
 pub mod status;
 mod syntax;
 
-pub use dcm_words::{Build, Convert, Deidentify, Dump, Job, Planned, Usage, plan};
+pub use dcm_words::{Build, Convert, Deidentify, Dump, Job, Planned, Usage, asked, plan};
 pub use error_lines::{tell, tell_open, tell_output};
-pub use program::{dcmtools, obey, start};
+pub use program::{dcmtools, obey, start, views};

@@ -1,4 +1,11 @@
 // All names of a table, one after another.
+ghost use Rattle.std.specs.Prelude.{◌≡◌};
+ghost use Rattle.dcm_cli.specs.Change.{change_of};
+ghost use Rattle.dcm_table.specs.Columns.{list_of, tags_of};
+ghost use Rattle.dcm_table.specs.TableSink.{begun};
+ghost use Rattle.dcm_table_words.specs.Plans.{names_as};
+ghost use Rattle.dcm_tables.specs.TableProgram.{WritesTable};
+
 use crate::rows::{Shared, do_file};
 use dcm_base::{DeviceOut, Watched, WriteFailed};
 use dcm_cli::status::{DEVICE, DONE};
@@ -153,7 +160,12 @@ pub fn write_table<S: System, W: DeviceOut, E: DeviceOut>(
     cells: &mut Cells,
     out: &mut Watched<W>,
     errors: &mut Watched<E>,
-) -> Ends {
+) -> Ends
+    requires cells { cells.old ≡ begun (tags_of shared.now.columns.now) }
+    ensures { WritesTable S.may_do S.Input.DeviceIn W.DeviceOut (list_of shared.now.columns.now) shared.now.form
+        has_header (names_as names.entry) (change_of E.DeviceOut errors.old errors.new) out.old out.new system.old
+        result system.new }
+{
     if has_header {
         put_header(shared.columns, out)?;
     }

@@ -1,0 +1,10 @@
+-- What the making of a table comes to.
+use Rattle.std.proofs.Common.{◌≡◌, List, ℕ, Result, Ok, Err, inl, inr}
+use Rattle.dcm_devices.specs.Writing.{Writer, Wrote}
+use Rattle.dcm_cli.specs.Change.{change_of}
+use Rattle.dcm_cli.specs.ErrorLines.{Reports}
+
+-- a line was written, or its writer failed with a beginning of it
+pub told : {E T X : Type 0} (w : Writer E) (old new : E) (line : List ℕ) (r : Result T X) → Wrote w old new line r → Reports (change_of w old new) line
+told w old new line (Ok t) wrote = inl (wrote.bytes, wrote.failed)
+told w old new line (Err e) wrote = inr (wrote.bytes, wrote.failed)
