@@ -208,6 +208,18 @@ impl Meta {
         part(self.bytes.as_slice(), GROUP_AT, self.place - GROUP_AT)
     }
 
+    /// The elements of the meta group that are whole so far: bytes after the prefix, also where the head is refused.
+    pub fn elements(&self) -> &[u8]
+        ensures group { result.now ≡ reading.group_of self.now }
+        ensures limit { length result.now ≤ META_LIMIT }
+    {
+        if self.place == GROUP_AT {
+            return &[];
+        }
+        let size = self.place - GROUP_AT;
+        part(self.bytes.as_slice(), GROUP_AT, size)
+    }
+
     /// Writes the meta group anew, with its length and this transfer syntax (PS3.10 7.1).
     ///
     /// Fails where the writer fails, and has then written a beginning of the group.

@@ -5,6 +5,7 @@
 //! - `read_value` reads such a text back into the bytes of the value, in little endian; `read_value_into` does so in a
 //!   buffer.
 //! - `escape` and `unescape` are one byte of a text, `tag_of_text` a tag, `swap` turns the units of a big endian value.
+//! - `unit_text` is one whole unit as it is shown, of `shown_unit` bytes.
 //! - `UnitBuffer` makes the pieces of a value into whole units.
 //!
 //! Two numbers, read back:
@@ -32,5 +33,6 @@ pub use lanes::swap;
 pub use parts::tag_of_text;
 pub use reading::{BadValue, read_value, read_value_into};
 pub use unit_buffer::{UnitBuffer, Units};
+pub use units::{LONGEST, digits as byte_digits, shown_unit, unit_text};
 pub use value_text::ValueText;
 pub use way::takes_bytes;

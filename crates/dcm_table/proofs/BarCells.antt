@@ -1,0 +1,129 @@
+-- The cells know whether anything is open.
+use Rattle.std.proofs.Common.{◌≡◌, ◌∙◌, sym, ap, refl, ℕ, zero, suc, ◌*◌, ◌≤◌, List, [], ◌∷◌, ◌++◌, length, map, fold, arith, Option, Some, None, Bool, true, false}
+use Rattle.std.specs.Prelude.{option_map, if◌then◌else◌}
+use Rattle.dcm_base.specs.declared.tag.Tag.{Tag}
+use Rattle.dcm_base.specs.declared.vr.Vr.{Vr}
+use Rattle.dcm_base.specs.declared.fault.Fault.{Fault}
+use Rattle.dcm_base.specs.declared.length.Length.{Length}
+use Rattle.dcm_base.specs.declared.length.Length.TheVariants.{Known, Undefined}
+use Rattle.dcm_base.specs.declared.form.Form.TheVariants.{Value as a_value, Sequence as a_sequence, FragmentList as a_fragment_list}
+use Rattle.dcm_base.specs.Tables.Tag.{below}
+use Rattle.dcm_base.specs.Tree.Tree.{Trees, no_tree, leaf, sequence, fragments, Items}
+use Rattle.dcm_base.specs.Tree.Front.{Front, front, OpenTree, nothing_open, open_leaf, open_sequence, open_fragments}
+use Rattle.dcm_base.specs.Tree.Value.{order}
+use Rattle.dcm_base.specs.Bytes.Spelling.{is_open}
+use Rattle.dcm_base.specs.Steps.Atoms.{Atom, opens, value_byte, closes_leaf, closes_sequence, fragments_then, open_fragment_atoms, end_atoms, ShowTrees, Shows, ShowsOpen}
+use Rattle.dcm_sinks.specs.Laws.{StaysShallow}
+use Rattle.dcm_sinks.proofs.Dumps.OpenLists.{stays_on, stays_opened, stays_bytes, stays_fragments, stays_same, stays_trees, stays_items}
+use Rattle.dcm_stream.specs.Driven.{bars_by}
+use Rattle.dcm_stream.specs.Judging.{fault_of}
+use Rattle.dcm_stream.specs.declared.token.Bar.TheVariants.{Order}
+use Rattle.dcm_table.specs.Cell.{Cell}
+use Rattle.dcm_table.specs.Columns.{greatest_of}
+use Rattle.dcm_table.specs.Shown.{AllSettled, decided_by, table_bar}
+use Rattle.dcm_table.specs.TableSink.{Slot, State, begun, begun_slots, next, slot_step, bar_by, table_bar_of}
+use Rattle.dcm_table.proofs.EachSlot.{bytes_taken}
+use Rattle.dcm_table.proofs.Inside.{at, items_inside, item_inside, fragments_inside, fragment_inside}
+use Rattle.dcm_table.proofs.MetaCells.{begun_settled}
+use Rattle.dcm_table.proofs.Outside.{filled, filled_settled, leaf_here, leaf_state, leaf_settled, list_here, list_state, list_settled, sequence_not_shown}
+
+-- the same comes of a row of atoms as of the rest of it, where nothing is open
+pub record Passes (g : Tag) (slots : List Slot) (atoms after : List Atom) : Type 0 where
+  pub left : List Slot
+  pub comes : fold next (at 0 g slots) atoms ≡ fold next (at 0 g left) after
+  pub settles : AllSettled left
+
+trees_pass : (t : Trees) (g : Tag) (slots : List Slot) (atoms after : List Atom) → ShowTrees t atoms after → AllSettled slots → StaysShallow 0 atoms → Passes g slots atoms after
+unfolding ShowTrees
+trees_pass no_tree g slots atoms after e settles low = record { left = slots; comes = ap (fold next (at 0 g slots)) e; settles = settles }
+trees_pass (leaf tag vr value rest) g slots atoms after (s, others, fo, is, more) settles low =
+    let here : Tag → Cell = leaf_here s tag vr value in
+    let there = stays_on 0 closes_leaf others (stays_bytes 0 (order s vr value) (closes_leaf ∷ others) (stays_opened 0 a_value tag vr (Known (length value)) s _ fo (stays_same 0 atoms _ is low))) in
+    let r = trees_pass rest g (filled here slots) others after more (filled_settled here (leaf_settled s tag vr value) slots settles) there in
+    record { left = r.left; comes = ap (fold next (at 0 g slots)) is ∙ leaf_state g slots s tag vr value others settles ∙ r.comes; settles = r.settles }
+trees_pass (sequence tag vr declared items rest) g slots atoms after (s, contents, others, fo, is, inner, more) settles low =
+    let here : Tag → Cell = list_here tag in
+    let settles' = filled_settled here (list_settled tag) slots settles in
+    let within = stays_opened 0 a_sequence tag vr declared s contents fo (stays_same 0 atoms _ is low) in
+    let there = stays_on 1 closes_sequence others (stays_items 1 items contents (closes_sequence ∷ others) inner within) in
+    let r = trees_pass rest g (filled here slots) others after more settles' there in
+    record {
+      left = r.left;
+      comes =
+          ap (fold next (at 0 g slots)) is ∙ list_state g slots s tag vr declared contents (sequence_not_shown s tag vr declared fo)
+          ∙ items_inside g (filled here slots) settles' items 1 0 contents (closes_sequence ∷ others) inner within (omega arith) ∙ r.comes;
+      settles = r.settles;
+    }
+trees_pass (fragments tag vr values rest) g slots atoms after (s, others, fo, is, more) settles low =
+    let here : Tag → Cell = list_here tag in
+    let settles' = filled_settled here (list_settled tag) slots settles in
+    let within = stays_opened 0 a_fragment_list tag vr Undefined s (fragments_then values (closes_sequence ∷ others)) fo (stays_same 0 atoms _ is low) in
+    let there = stays_on 1 closes_sequence others (stays_fragments 1 values (closes_sequence ∷ others) within) in
+    let r = trees_pass rest g (filled here slots) others after more settles' there in
+    record {
+      left = r.left;
+      comes =
+          ap (fold next (at 0 g slots)) is ∙ list_state g slots s tag vr Undefined (fragments_then values (closes_sequence ∷ others)) refl
+          ∙ fragments_inside g (filled here slots) settles' 0 values (closes_sequence ∷ others) (omega arith) ∙ r.comes;
+      settles = r.settles;
+    }
+
+-- ---- the depth where something is open, and where nothing is
+
+abbrev Tells : State → Tag → Bool → Type 0
+Tells t g false = (t.depth ≡ 0) × (t.greatest ≡ g)
+Tells t g true = (n : ℕ) × (t.depth ≡ suc n)
+
+deep : (n : ℕ) (g : Tag) (slots : List Slot) (t : State) → t ≡ at (suc n) g slots → Tells t g true
+deep n g slots t e = (n, ap (λ (u : State). u.depth) e)
+
+flat : (g : Tag) (slots : List Slot) (t : State) → t ≡ at 0 g slots → Tells t g false
+flat g slots t e = (ap (λ (u : State). u.depth) e, ap (λ (u : State). u.greatest) e)
+
+at_end : (closed : Bool) (g : Tag) (slots : List Slot) → fold next (at 0 g slots) (end_atoms closed) ≡ at 0 g slots
+at_end true g slots = refl
+at_end false g slots = refl
+
+open_tells : (o : OpenTree) (closed : Bool) (g : Tag) (slots : List Slot) (atoms : List Atom) → ShowsOpen o (end_atoms closed) atoms → AllSettled slots → StaysShallow 0 atoms
+    → Tells (fold next (at 0 g slots) atoms) g (is_open o)
+unfolding ShowsOpen
+open_tells nothing_open closed g slots atoms e settles low = flat g slots _ (ap (fold next (at 0 g slots)) e ∙ at_end closed g slots)
+open_tells (open_leaf tag vr size value) closed g slots atoms (s, fo, le, is) settles low =
+    let opening : Slot → Slot = λ (c : Slot). slot_step c (opens tag vr (Known size) s) in
+    let taking : Slot → Slot = λ (c : Slot). fold slot_step c (map value_byte (order s vr value)) in
+    deep 0 g (map taking (map opening slots)) _ (ap (fold next (at 0 g slots)) is ∙ bytes_taken (at 1 g (map opening slots)) (order s vr value))
+open_tells (open_sequence tag vr declared items last) closed g slots atoms (s, contents, others, fo, is, inner, more) settles low =
+    let here : Tag → Cell = list_here tag in
+    let settles' = filled_settled here (list_settled tag) slots settles in
+    let within = stays_opened 0 a_sequence tag vr declared s contents fo (stays_same 0 atoms _ is low) in
+    let last_one = item_inside g (filled here slots) settles' last 1 0 others more (stays_items 1 items contents others inner within) (omega arith) in
+    deep last_one.depth g (filled here slots) _
+    (ap (fold next (at 0 g slots)) is ∙ list_state g slots s tag vr declared contents (sequence_not_shown s tag vr declared fo)
+    ∙ items_inside g (filled here slots) settles' items 1 0 contents others inner within (omega arith) ∙ last_one.comes)
+open_tells (open_fragments tag vr values last) closed g slots atoms (s, fo, mi, is) settles low =
+    let here : Tag → Cell = list_here tag in
+    let settles' = filled_settled here (list_settled tag) slots settles in
+    let last_one = fragment_inside g (filled here slots) settles' 0 last (omega arith) in
+    deep last_one.depth g (filled here slots) _
+    (ap (fold next (at 0 g slots)) is ∙ list_state g slots s tag vr Undefined (fragments_then values (open_fragment_atoms last)) refl
+    ∙ fragments_inside g (filled here slots) settles' 0 values (open_fragment_atoms last) (omega arith) ∙ last_one.comes)
+
+by_test : (t : Bool) → option_map fault_of (if t then Some Order else None) ≡ decided_by t
+by_test true = refl
+by_test false = refl
+
+tells_bar : (b : Bool) (t : State) (g tag : Tag) → Tells t g b → option_map fault_of (bar_by t.depth t.greatest tag) ≡ (if b then None else decided_by (below g tag))
+tells_bar false t g tag h =
+    ap (λ (d : ℕ). option_map fault_of (bar_by d t.greatest tag)) h.0
+    ∙ ap (λ (x : Tag). option_map fault_of (bar_by 0 x tag)) h.1
+    ∙ by_test (below g tag)
+tells_bar true t g tag h = ap (λ (d : ℕ). option_map fault_of (bar_by d t.greatest tag)) h.1
+
+pub bars_tell : (tags : List Tag) (f : Front) (atoms : List Atom) (tag : Tag) (vr : Vr) (declared : Length) → StaysShallow 0 atoms → Shows f atoms
+    → bars_by table_bar_of next (begun tags) atoms tag vr declared ≡ table_bar (greatest_of tags) f tag vr declared
+unfolding Shows
+bars_tell tags (front trees o r c) atoms tag vr declared low (others, shown, more, may, re) =
+    let g : Tag = greatest_of tags in
+    let p = trees_pass trees g (begun_slots tags) atoms others shown (begun_settled tags) low in
+    ap (λ (t : State). option_map fault_of (bar_by t.depth t.greatest tag)) p.comes
+    ∙ tells_bar (is_open o) (fold next (at 0 g p.left) others) g tag (open_tells o c g p.left others more p.settles (stays_trees 0 trees atoms others shown low))

@@ -1,0 +1,114 @@
+-- Cells that are changed one after another.
+use Rattle.std.proofs.Common.{◌≡◌, ◌∙◌, sym, ap, refl, subst, ℕ, zero, suc, ◌+◌, ◌<◌, ◌≤◌, List, [], ◌∷◌, ◌++◌, length, take, drop, get_or, set, map, fold, arith}
+use Rattle.std.specs.Prelude.{Bool, true, false, ◌||◌, ◌&&◌, not, slice_index_or}
+use Rattle.std.specs.List.{list_any}
+use Rattle.std.proofs.lemmas.List.{map-append, take_more_set, drop-set-lt, drop_more, take_all, take_more}
+use Rattle.dcm_base.specs.declared.tag.Tag.{Tag}
+use Rattle.dcm_base.specs.Tables.Tag.{same_tag}
+use Rattle.dcm_base.specs.Steps.Atoms.{Atom, value_byte}
+use Rattle.dcm_table.specs.declared.slot.Slot.{Slot as HeldSlot}
+use Rattle.dcm_table.specs.declared.column.Column.{Column}
+use Rattle.dcm_table.specs.Cell.{Cell, missing, with_byte, is_too_long}
+use Rattle.dcm_table.specs.Slots.{slot_of, slots_of}
+use Rattle.dcm_table.specs.TableSink.{Slot, State, next, slot_step, begun_slots}
+use Rattle.dcm_table.specs.Row.{is_reported, slot_at}
+use Rattle.dcm_table.proofs.Folds.{map_map}
+
+-- the slots so far are changed, and the others are as they were
+pub record SlotsSoFar (f : Slot → Slot) (now first : List HeldSlot) (i : ℕ) : Type 0 where
+  pub before : slots_of (take i now) ≡ map f (slots_of (take i first))
+  pub after : drop i now ≡ drop i first
+
+head_same : {X : Type 0} (x y : X) (xs ys : List X) → x ∷ xs ≡ y ∷ ys → x ≡ y
+head_same x y xs ys e = cc
+
+tail_same : {X : Type 0} (x y : X) (xs ys : List X) → x ∷ xs ≡ y ∷ ys → xs ≡ ys
+tail_same x y xs ys e = cc
+
+pub slots_more : (f : Slot → Slot) (now first : List HeldSlot) (i : ℕ) (item new : HeldSlot) → i < length now → i < length first → slot_of new ≡ f (slot_of (get_or now i item))
+    → SlotsSoFar f now first i → SlotsSoFar f (set now i new) first (i + 1)
+slots_more f now first i item new h k changed s =
+    let both : get_or now i item ∷ drop (i + 1) now ≡ get_or first i item ∷ drop (i + 1) first = sym (drop_more now i item h) ∙ s.after ∙ drop_more first i item k in
+    let same : get_or now i item ≡ get_or first i item = head_same _ _ _ _ both in
+    let later : i < i + 1 = omega arith in
+    record {
+      before =
+          ap slots_of (take_more_set now i new h)
+          ∙ map-append slot_of (take i now) (new ∷ [])
+          ∙ ap (λ (x : List Slot). x ++ slot_of new ∷ []) s.before
+          ∙ ap (λ (x : Slot). map f (slots_of (take i first)) ++ x ∷ []) (changed ∙ ap (λ (x : HeldSlot). f (slot_of x)) same)
+          ∙ sym (map-append f (slots_of (take i first)) (slot_of (get_or first i item) ∷ []))
+          ∙ ap (map f) (sym (map-append slot_of (take i first) (get_or first i item ∷ [])))
+          ∙ ap (λ (x : List HeldSlot). map f (slots_of x)) (sym (take_more first i item k));
+      after = drop-set-lt (i + 1) now i new later ∙ tail_same _ _ _ _ both;
+    }
+
+pub slots_none : (f : Slot → Slot) (first : List HeldSlot) → SlotsSoFar f first first 0
+slots_none f first = record { before = refl; after = refl }
+
+pub slots_all : (f : Slot → Slot) (now first : List HeldSlot) (i : ℕ) → SlotsSoFar f now first i → length now ≤ i → length first ≤ i → slots_of now ≡ map f (slots_of first)
+slots_all f now first i s h k =
+    ap slots_of (sym (take_all i now h)) ∙ s.before ∙ ap (λ (x : List HeldSlot). map f (slots_of x)) (take_all i first k)
+
+-- one more slot for one more column
+pub slots_made : (held : List HeldSlot) (slot : HeldSlot) (columns : List Column) (i : ℕ) (column : Column) → i < length columns → slot_of slot ≡ ((get_or columns i column).tag, missing)
+    → slots_of held ≡ begun_slots (map (λ (c : Column). c.tag) (take i columns))
+    → slots_of (held ++ slot ∷ []) ≡ begun_slots (map (λ (c : Column). c.tag) (take (i + 1) columns))
+slots_made held slot columns i column h is so_far =
+    let tag : Column → Tag = λ (c : Column). c.tag in
+    map-append slot_of held (slot ∷ [])
+    ∙ ap (λ (x : List Slot). x ++ slot_of slot ∷ []) so_far
+    ∙ ap (λ (x : Slot). begun_slots (map tag (take i columns)) ++ x ∷ []) is
+    ∙ sym (map-append (λ (t : Tag). (t, missing)) (map tag (take i columns)) (tag (get_or columns i column) ∷ []))
+    ∙ ap begun_slots (sym (map-append tag (take i columns) (get_or columns i column ∷ [])))
+    ∙ ap (λ (x : List Column). begun_slots (map tag x)) (sym (take_more columns i column h))
+
+-- ---- bytes of a value
+
+pub bytes_taken : (s : State) (v : List ℕ) → fold next s (map value_byte v) ≡ record s { slots = map (λ (c : Slot). fold slot_step c (map value_byte v)) s.slots }
+bytes_taken s [] = ap (λ (x : List Slot). record s { slots = x }) (same_slots s.slots)
+  where
+    same_slots : (slots : List Slot) → slots ≡ map (λ (c : Slot). c) slots
+    same_slots [] = refl
+    same_slots (c ∷ slots) = ap (λ (x : List Slot). c ∷ x) (same_slots slots)
+bytes_taken s (b ∷ v) =
+    bytes_taken (next s (value_byte b)) v
+    ∙ ap (λ (x : List Slot). record s { slots = x }) (map_map (λ (c : Slot). slot_step c (value_byte b)) (λ (c : Slot). fold slot_step c (map value_byte v)) s.slots)
+
+pub bytes_in_slot : (c : Slot) (v : List ℕ) → fold slot_step c (map value_byte v) ≡ (c.0, fold with_byte c.1 v)
+bytes_in_slot c [] = refl
+bytes_in_slot c (b ∷ v) = bytes_in_slot (slot_step c (value_byte b)) v
+
+-- ---- looking at slots
+
+pub any_slots : (tag : Tag) (slots : List HeldSlot) → list_any (λ (c : Slot). same_tag c.0 tag) (slots_of slots) ≡ list_any (λ (c : HeldSlot). same_tag c.tag tag) slots
+any_slots tag [] = refl
+any_slots tag (c ∷ slots) = ap (λ (b : Bool). same_tag c.tag tag || b) (any_slots tag slots)
+
+pub slots_front : (n : ℕ) (slots : List HeldSlot) → take n (slots_of slots) ≡ slots_of (take n slots)
+slots_front zero slots = refl
+slots_front (suc n) [] = refl
+slots_front (suc n) (c ∷ slots) = ap (λ (x : List Slot). slot_of c ∷ x) (slots_front n slots)
+
+pub slot_in : (slots : List HeldSlot) (i : ℕ) (d : Slot) (e : HeldSlot) → i < length slots → slice_index_or (slots_of slots) i d ≡ slot_of (get_or slots i e)
+slot_in [] i d e h = absurd (omega (arith, h))
+slot_in (c ∷ slots) zero d e h = refl
+slot_in (c ∷ slots) (suc i) d e h = slot_in slots i d e (omega (arith, h))
+
+pub slots_length : (slots : List HeldSlot) → length (slots_of slots) ≡ length slots
+slots_length [] = refl
+slots_length (c ∷ slots) = ap suc (slots_length slots)
+
+-- a value that is too long is reported where no column before has its tag
+pub reported_as : (items slots before : List HeldSlot) (i : ℕ) (slot : HeldSlot) (b : Bool) → slots ≡ items → i < length (slots_of items) → slot ≡ get_or slots i slot → before ≡ take i slots
+    → is_too_long (slot_of slot).1 ≡ true → b ≡ list_any (λ (c : HeldSlot). same_tag c.tag slot.tag) before
+    → not b ≡ is_reported (slots_of items) i
+reported_as items slots before i slot b same h is front long any =
+    let within : i < length slots = omega (arith, h, slots_length items, ap length same) in
+    let place : slot_at (slots_of slots) i ≡ slot_of slot = slot_in slots i (record { group = 0; element = 0 }, missing) slot within ∙ ap slot_of (sym is) in
+    sym
+    (ap (λ (x : List HeldSlot). is_reported (slots_of x) i) (sym same)
+    ∙ ap (λ (s : Slot). is_too_long s.1 && not (list_any (λ (c : Slot). same_tag c.0 s.0) (take i (slots_of slots)))) place
+    ∙ ap (λ (t : Bool). t && not (list_any (λ (c : Slot). same_tag c.0 slot.tag) (take i (slots_of slots)))) long
+    ∙ ap (λ (x : List Slot). not (list_any (λ (c : Slot). same_tag c.0 slot.tag) x)) (slots_front i slots ∙ ap slots_of (sym front))
+    ∙ ap not (any_slots slot.tag before ∙ sym any))

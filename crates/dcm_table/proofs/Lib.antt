@@ -1,0 +1,13 @@
+pub mod PartsOut
+pub mod Folds
+pub mod Texts
+pub mod NumberParts
+pub mod RowParts
+pub mod EachSlot
+pub mod CellSteps
+pub mod MetaTaken
+pub mod Inside
+pub mod Outside
+pub mod MetaCells
+pub mod RowCells
+pub mod BarCells

@@ -1,0 +1,11 @@
+pub mod Cell
+pub mod Columns
+pub mod TableSink
+pub mod Slots
+pub mod Meta
+pub mod Ending
+pub mod Quoted
+pub mod Shown
+pub mod Parts
+pub mod Row
+pub mod Laws

@@ -1,0 +1,104 @@
+-- A row of a table (RFC 4180).
+use Rattle.std.specs.Prelude.{ℕ, List, [], ◌∷◌, ◌++◌, length, take, map, flat_map, slice_index_or, codes, Bool, true, false}
+use Rattle.std.specs.Prelude.{◌&&◌, not, ◌==◌, ◌/◌}
+use Rattle.std.specs.List.{list_any}
+use Rattle.dcm_base.specs.declared.tag.Tag.{Tag}
+use Rattle.dcm_base.specs.declared.vr.Vr.{Vr}
+use Rattle.dcm_base.specs.declared.vr.Vr.TheVariants.{AT, FD, FL, UI}
+use Rattle.dcm_base.specs.Tables.Representation.{is_text}
+use Rattle.dcm_base.specs.Tables.Tag.{same_tag}
+use Rattle.dcm_base.specs.Tables.Transfer.{without_pads}
+use Rattle.dcm_base.specs.Tree.Value.{number_of, units}
+use Rattle.dcm_base.specs.Dump.ValueText.{Shape, text, identifier, shape, shown_unit, unit_text}
+use Rattle.dcm_table.specs.declared.quoted.TextForm.{TextForm}
+use Rattle.dcm_table.specs.declared.column.Column.{Column}
+use Rattle.dcm_table.specs.declared.column.Columns.{Columns}
+use Rattle.dcm_table.specs.Cell.{Cell, missing, open_value, open_too_long, whole, too_long, not_shown, is_too_long}
+use Rattle.dcm_table.specs.Columns.{header_of, list_of}
+use Rattle.dcm_table.specs.Parts.{Part, some_bytes, float_part, single, double}
+use Rattle.dcm_table.specs.Quoted.{quoted, text_in}
+use Rattle.dcm_table.specs.TableSink.{Slot}
+
+abbrev pub comma : List ℕ
+comma = codes ","
+
+abbrev pub newline : List ℕ
+newline = 10 ∷ []
+
+-- ---- the header
+
+abbrev pub header_cell : Column → List ℕ
+header_cell c = comma ++ quoted (header_of c)
+
+abbrev pub header_text : Columns → List ℕ
+header_text columns = quoted (codes "File") ++ (flat_map header_cell (list_of columns) ++ newline)
+
+-- ---- a value
+
+-- a whole unit, in little endian order: a float, a decimal or a tag
+abbrev pub unit_part : Vr → List ℕ → Part
+unit_part FL unit = float_part single (number_of unit)
+unit_part FD unit = float_part double (number_of unit)
+unit_part vr unit = some_bytes (unit_text (shape vr) unit)
+
+abbrev pub next_unit_parts : Vr → List ℕ → List Part
+next_unit_parts vr unit = some_bytes (codes "\\") ∷ unit_part vr unit ∷ []
+
+abbrev pub next_units_parts : Vr → List (List ℕ) → List Part
+next_units_parts vr units = flat_map (next_unit_parts vr) units
+
+-- with backslashes between
+abbrev pub joined : Vr → List (List ℕ) → List Part
+joined vr [] = []
+joined vr (unit ∷ units) = unit_part vr unit ∷ next_units_parts vr units
+
+abbrev pub quoted_units : Vr → List (List ℕ) → List Part
+quoted_units vr units = some_bytes (codes "\"") ∷ (joined vr units ++ some_bytes (codes "\"") ∷ [])
+
+-- one number is not quoted
+abbrev pub is_quoted_list : Vr → (count : ℕ) → Bool
+is_quoted_list AT count = true
+is_quoted_list vr count = not (count == 1)
+
+abbrev pub units_parts : Bool → Vr → List (List ℕ) → List Part
+units_parts true vr units = quoted_units vr units
+units_parts false vr units = joined vr units
+
+abbrev pub numbers_parts : Vr → List ℕ → List Part
+numbers_parts vr value =
+    units_parts (is_quoted_list vr (length value / shown_unit vr)) vr (units (shown_unit vr) value)
+
+abbrev pub is_quoted_text : Vr → Bool
+is_quoted_text UI = true
+is_quoted_text vr = is_text vr
+
+abbrev pub value_parts : Bool → TextForm → Vr → List ℕ → List Part
+value_parts true form vr value = some_bytes (quoted (text_in form (without_pads value))) ∷ []
+value_parts false form vr value = numbers_parts vr value
+
+-- ---- a row
+
+abbrev pub cell_parts : TextForm → Cell → List Part
+cell_parts form (whole vr value) = value_parts (is_quoted_text vr) form vr value
+cell_parts form _ = []
+
+abbrev pub next_cell_parts : TextForm → Slot → List Part
+next_cell_parts form slot = some_bytes comma ∷ cell_parts form slot.1
+
+abbrev pub cells_parts : TextForm → List Slot → List Part
+cells_parts form slots = flat_map (next_cell_parts form) slots
+
+-- the name of the file, the cells, and the end of the row
+abbrev pub row_parts : TextForm → (name : List ℕ) → List Slot → List Part
+row_parts form name slots = some_bytes (quoted (text_in form name)) ∷ (cells_parts form slots ++ some_bytes newline ∷ [])
+
+-- ---- values that are too long
+
+abbrev pub slot_at : List Slot → ℕ → Slot
+slot_at slots column = slice_index_or slots column (record { group = 0; element = 0 }, missing)
+
+-- a column whose value is too long is reported where it is the first one of its tag
+abbrev pub is_reported : List Slot → ℕ → Bool
+is_reported slots column =
+    is_too_long (slot_at slots column).1
+    && not (list_any (λ (c : Slot). same_tag c.0 (slot_at slots column).0) (take column slots))

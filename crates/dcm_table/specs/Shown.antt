@@ -1,0 +1,91 @@
+-- What a row shows of what was read of a file.
+use Rattle.std.specs.Prelude.{◌≡◌, ℕ, nat_le, length, List, [], ◌∷◌, map, Bool, true, false, if◌then◌else◌, Option, Some, None}
+use Rattle.dcm_base.specs.declared.tag.Tag.{Tag}
+use Rattle.dcm_base.specs.declared.vr.Vr.{Vr}
+use Rattle.dcm_base.specs.declared.syntax.Syntax.{Syntax}
+use Rattle.dcm_base.specs.declared.fault.Fault.{Fault}
+use Rattle.dcm_base.specs.Tables.Tag.{same_tag, below}
+use Rattle.dcm_base.specs.Tree.Tree.{Trees, no_tree, leaf, sequence, fragments}
+use Rattle.dcm_base.specs.Tree.Front.{Front, front, OpenTree, nothing_open, open_leaf, open_sequence, open_fragments}
+use Rattle.dcm_base.specs.Bytes.Spelling.{after, after_trees, holds_open}
+use Rattle.dcm_base.specs.Reading.Stop.{Bar}
+use Rattle.dcm_table.specs.Cell.{Cell, missing, open_value, open_too_long, whole, too_long, not_shown, CELL_LIMIT, is_shown, shown_vr}
+use Rattle.dcm_table.specs.Ending.{DECIDED}
+use Rattle.dcm_table.specs.Meta.{META_SYNTAX}
+use Rattle.dcm_table.specs.TableSink.{Slot, State}
+
+-- ---- the cell of a tag
+
+-- of an element with a whole value: the value, where it is shown and not longer than a cell
+abbrev pub leaf_cell : Syntax → Tag → Vr → List ℕ → Cell
+leaf_cell s tag vr value = if is_shown (shown_vr s tag vr)
+    then (if nat_le (length value) CELL_LIMIT then whole (shown_vr s tag vr) value else too_long) else not_shown
+
+-- the first element of the tag counts
+unfoldable pub trees_cell : Syntax → (column : Tag) → Trees → Cell
+trees_cell s column no_tree = missing
+trees_cell s column (leaf tag vr value rest) =
+    if same_tag tag column then leaf_cell s tag vr value else trees_cell (after s tag vr value) column rest
+trees_cell s column (sequence tag vr declared items rest) =
+    if same_tag tag column then not_shown else trees_cell s column rest
+trees_cell s column (fragments tag vr values rest) =
+    if same_tag tag column then not_shown else trees_cell s column rest
+
+-- an element that is not whole is not shown
+abbrev pub open_cell : (column : Tag) → OpenTree → Cell
+open_cell column nothing_open = missing
+open_cell column (open_leaf tag vr size value) = if same_tag tag column then not_shown else missing
+open_cell column (open_sequence tag vr declared items last) = if same_tag tag column then not_shown else missing
+open_cell column (open_fragments tag vr values last) = if same_tag tag column then not_shown else missing
+
+-- an earlier element of the tag counts
+abbrev pub cell_or : Cell → Cell → Cell
+cell_or missing later = later
+cell_or cell later = cell
+
+-- of a data set as far as it was read
+abbrev pub front_cell : Syntax → (column : Tag) → Front → Cell
+front_cell s column (front trees open_tree reached closed) =
+    cell_or (trees_cell s column trees) (open_cell column open_tree)
+
+-- of the elements of a meta group
+unfoldable pub meta_cell : (column : Tag) → Trees → Cell
+meta_cell column no_tree = missing
+meta_cell column (leaf tag vr value rest) =
+    if same_tag tag column then leaf_cell META_SYNTAX tag vr value else meta_cell column rest
+meta_cell column (sequence tag vr declared items rest) = meta_cell column rest
+meta_cell column (fragments tag vr values rest) = meta_cell column rest
+
+-- ---- the cells of a row
+
+-- where a value is not whole its cell is not shown
+abbrev pub settled : Cell → Cell
+settled (open_value vr shown s bytes) = not_shown
+settled open_too_long = not_shown
+settled cell = cell
+
+abbrev pub settled_slots : List Slot → List Slot
+settled_slots slots = map (λ (c : Slot). (c.0, settled c.1)) slots
+
+-- no value is on its way
+abbrev pub AllSettled : List Slot → Type 0
+AllSettled [] = Unit {0}
+AllSettled (c ∷ slots) = (settled c.1 ≡ c.1) × AllSettled slots
+
+-- the cells with what was read of a data set, where these were filled before
+abbrev pub slots_with : Syntax → Front → List Slot → List Slot
+slots_with s f slots = map (λ (c : Slot). (c.0, cell_or c.1 (front_cell s c.0 f))) slots
+
+-- the cells with the elements of a meta group
+abbrev pub meta_slots : List Tag → Trees → List Slot
+meta_slots tags elements = map (λ (t : Tag). (t, meta_cell t elements)) tags
+
+-- ---- how far a file is read
+
+-- up to the first head of the outermost level that is above the greatest column
+abbrev pub decided_by : Bool → Option Fault
+decided_by true = Some DECIDED
+decided_by false = None
+
+abbrev pub table_bar : (greatest : Tag) → Bar
+table_bar greatest f tag vr declared = if holds_open f then None else decided_by (below greatest tag)

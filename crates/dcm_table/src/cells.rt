@@ -1,0 +1,192 @@
+// The cells of all columns: a sink that holds what a row shows of a file.
+ghost use Rattle.std.specs.Prelude.{◌≡◌, ◌<◌, false, None, length, fold, map, IfOk};
+ghost use Rattle.dcm_table.specs.Cell.{missing};
+ghost use Rattle.std.specs.List.{list_any};
+ghost use Rattle.dcm_base.specs.Tables.Tag.{same_tag};
+ghost use Rattle.dcm_table.specs.declared.slot.Slot.{Slot as HeldSlot};
+ghost use Rattle.dcm_stream.specs.Tokens.{atoms_of};
+ghost use Rattle.dcm_table.specs.Columns.{tags_of};
+ghost use Rattle.dcm_table.specs.Row.{is_reported};
+ghost use Rattle.dcm_table.specs.Slots.{slots_of};
+ghost use Rattle.dcm_table.specs.TableSink as spec;
+
+use crate::column::{Column, Columns};
+use crate::slot::Slot;
+use dcm_base::{Tag, WriteFailed};
+use dcm_head::Head;
+use dcm_stream::{Bar, Sink, Skip, Token};
+use std::alloc::{AllocError, Global};
+use std::marker::Model;
+
+/// The cells of a table's columns: of each the first element of its tag at the outermost level of a file. They are
+/// the sink of a machine that reads it. They bar the first head of that level whose tag is above all columns.
+#[derive(Drop)]
+pub struct Cells {
+    slots: Vec<Slot>,
+    depth: Skip,
+    greatest: Tag,
+}
+
+impl Model for Cells {
+    ghost use Rattle.dcm_table.specs.Slots.{state_by};
+    ghost use Rattle.dcm_table.specs.TableSink.{State};
+
+    ghost Value = { State };
+
+    ghost view = { λ c. state_by c.depth c.greatest c.slots.items };
+}
+
+/// An empty cell for each column.
+fn slots_for(alloc: Global, columns: &[Column]) -> Result<Vec<Slot>, AllocError>
+    ensures { IfOk result (λ slots. slots_of slots.items
+        ≡ spec.begun_slots (map (λ (c : Column). c.tag) columns.now)) }
+{
+    let mut slots = Vec::new(alloc);
+    for column in columns {
+        slots.push(Slot::new(alloc, column.tag)?)?;
+    }
+    Ok(slots)
+}
+
+/// Each cell after a token, of which a head is one of the outermost level.
+fn take_each(slots: &mut [Slot], token: Token)
+    ensures { slots_of slots.new ≡ map (λ (c : spec.Slot). fold spec.slot_step c (atoms_of token.entry))
+        (slots_of slots.old) }
+{
+    for slot in slots.iter_mut() {
+        slot.take(token);
+    }
+}
+
+/// Each cell where nothing was read.
+fn clear_each(slots: &mut [Slot])
+    ensures { slots_of slots.new ≡ map (λ (c : spec.Slot). (c.0, missing)) (slots_of slots.old) }
+{
+    for slot in slots.iter_mut() {
+        slot.clear();
+    }
+}
+
+/// Whether one of the columns has this tag.
+fn has_tag(slots: &[Slot], tag: Tag) -> bool
+    ensures { result ≡ list_any (λ (c : HeldSlot). same_tag c.tag tag) slots.now }
+{
+    slots.iter().any(|slot| slot.tag == tag)
+}
+
+impl Cells {
+    /// Empty cells for these columns. Fails where there is no memory for them: 16,384 bytes for each column.
+    pub fn new(alloc: Global, columns: &Columns) -> Result<Cells, AllocError>
+        ensures { IfOk result (λ cells. cells ≡ spec.begun (tags_of columns.now)) }
+    {
+        let greatest = columns.greatest();
+        let slots = slots_for(alloc, columns.as_slice())?;
+        Ok(Cells {
+            slots,
+            depth: Skip::nothing(),
+            greatest,
+        })
+    }
+
+    /// Makes all cells empty, before the next file.
+    pub fn clear(&mut self)
+        ensures { self.new ≡ spec.cleared self.old }
+    {
+        self.depth = Skip::nothing();
+        clear_each(self.slots.as_mut_slice());
+    }
+
+    /// How many columns there are.
+    pub fn len(&self) -> usize
+        ensures { result ≡ length self.now.slots }
+    {
+        self.slots.len()
+    }
+
+    /// The cells, each with the tag of its column.
+    pub(crate) fn slots(&self) -> &[Slot]
+        ensures { slots_of result.now ≡ self.now.slots }
+    {
+        self.slots.as_slice()
+    }
+
+    /// Whether the value of a column is whole and longer than a cell, and no column before has its tag.
+    pub fn is_reported(&self, column: usize) -> bool
+        requires { column < length self.now.slots }
+        ensures { result ≡ is_reported self.now.slots column }
+    {
+        let slots = self.slots.as_slice();
+        let slot = &slots[column];
+        let (before, _) = slots.split_at(column);
+        slot.is_too_long() && !has_tag(before, slot.tag)
+    }
+
+    /// Goes on after a token, of which a head is one of the outermost level.
+    fn take_in(&mut self, token: Token)
+        ensures { self.new ≡ record self.old {
+          slots = map (λ (c : spec.Slot). fold spec.slot_step c
+              (atoms_of token.entry)) self.old.slots;
+        } }
+    {
+        take_each(self.slots.as_mut_slice(), token);
+    }
+}
+
+impl Cells {
+    /// Goes on after a token.
+    pub(crate) fn go_on(&mut self, token: Token)
+        ensures { self.new ≡ fold spec.next self.old (atoms_of token.entry) }
+    {
+        match token {
+            Token::Open(_, _) => {
+                if !self.depth.is_open() {
+                    self.take_in(token);
+                }
+                self.depth.open(true);
+            }
+            Token::Bytes(_) => self.take_in(token),
+            Token::CloseLeaf => {
+                self.take_in(token);
+                self.depth.close();
+            }
+            Token::OpenItem(_) | Token::OpenFragment(_) => self.depth.open(true),
+            Token::CloseItem | Token::CloseSeq => self.depth.close(),
+            Token::End => {}
+        }
+    }
+}
+
+impl Sink for Cells {
+    ghost use Rattle.dcm_table.specs.TableSink.{State as TableState};
+
+    ghost State = { TableState };
+
+    ghost state = { λ e. e };
+
+    ghost step = { spec.next };
+
+    ghost writes = { spec.writes };
+
+    ghost bar = { spec.table_bar_of };
+
+    ghost contents = { λ e. None };
+
+    ghost has_failed = { λ e. false };
+
+    ghost Kept = { Unit {0} };
+
+    ghost kept = { λ e. tt };
+
+    #[inline(always)]
+    fn take(&mut self, token: Token) -> Result<(), WriteFailed> {
+        self.go_on(token);
+        Ok(())
+    }
+
+    fn accepts(&self, head: &Head) -> Result<(), Bar> {
+        if !self.depth.is_open() && self.greatest.is_below(head.tag) {
+            return Err(Bar::Order);
+        }
+        Ok(())
+    }
+}
