@@ -25,7 +25,8 @@ unread_line name read = named_line name (codes "reading failed after " ++ decima
 -- a fault of it
 abbrev pub fault_line : List ℕ → Stop → List ℕ
 fault_line name stop =
-    named_line name (fault_number stop.fault ++ codes " at byte " ++ decimal stop.at ++ codes ": " ++ fault_text stop.fault)
+    named_line name (fault_number stop.fault ++ codes " at byte " ++ decimal stop.at ++ codes ": "
+    ++ fault_text stop.fault)
 
 -- a value of it is too long for a cell
 abbrev pub too_long_line : List ℕ → Tag → List ℕ

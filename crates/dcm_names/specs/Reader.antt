@@ -1,5 +1,6 @@
 -- What the reader of a list has read of it, and answered.
-use Rattle.std.specs.Prelude.{◌≡◌, ◌⊎◌, ℕ, ◌+◌, ◌<◌, ◌≤◌, ◌^◌, Bool, true, false, List, [], ◌∷◌, ◌++◌, length, take, drop, filter}
+use Rattle.std.specs.Prelude.{◌≡◌, ◌⊎◌, ℕ, ◌+◌, ◌<◌, ◌≤◌, ◌^◌, Bool, true, false, List, [], ◌∷◌, ◌++◌, length, take}
+use Rattle.std.specs.Prelude.{drop, filter}
 use Rattle.std.specs.Prelude.{Option, Some, None, Result, Ok, Err}
 use Rattle.dcm_devices.specs.Device.{Gave}
 use Rattle.dcm_names.specs.declared.list_reader.ListReader.{ListReader}
@@ -36,13 +37,14 @@ pub record HasRead (v : ListReader) (given : List ℕ) (named : List (List ℕ))
 -- ---- one call
 
 -- the calls on the device that gave bytes, and at the end of the list one more that gave none
-abbrev pub Calls : {R : Type 0} (gets : R → Option (List ℕ) → R → Type 0) → (is_over : Bool) → (before : R) (more : List ℕ) (after : R) → Type 0
+abbrev pub Calls : {R : Type 0} (gets : R → Option (List ℕ) → R → Type 0)
+    → (is_over : Bool) → (before : R) (more : List ℕ) (after : R) → Type 0
 Calls gets false before more after = Gave gets before more after
 Calls {R} gets true before more after = (mid : R) × Gave gets before more mid × gets mid (Some []) after
 
 -- a name, which the reader holds
-pub record AnswersName {R : Type 0} (gets : R → Option (List ℕ) → R → Type 0) (before after : R) (new : ListReader) (given : List ℕ)
-    (named : List (List ℕ)) : Type 0 where
+pub record AnswersName {R : Type 0} (gets : R → Option (List ℕ) → R → Type 0)
+    (before after : R) (new : ListReader) (given : List ℕ) (named : List (List ℕ)) : Type 0 where
   pub more : List ℕ
   pub name : List ℕ
   pub calls : Calls gets new.is_over before more after
@@ -66,7 +68,8 @@ pub record AnswersUnread {R : Type 0} (gets : R → Option (List ℕ) → R → 
   pub all : named ≡ names_of (given ++ more) false
   pub count : read ≡ length (given ++ more)
 
-abbrev pub Answers : {R : Type 0} (gets : R → Option (List ℕ) → R → Type 0) → (before after : R) → ListReader → (given : List ℕ) → (named : List (List ℕ)) → NextName → Type 0
+abbrev pub Answers : {R : Type 0} (gets : R → Option (List ℕ) → R → Type 0)
+    → (before after : R) → ListReader → (given : List ℕ) → (named : List (List ℕ)) → NextName → Type 0
 Answers gets before after new given named Name = AnswersName gets before after new given named
 Answers gets before after new given named End = AnswersEnd gets before after given named
 Answers gets before after new given named (Unread read) = AnswersUnread gets before after given named read
@@ -114,7 +117,8 @@ TakesName old new line true = EndsName old new line
 TakesName old new line false = PassesNames old new line
 
 -- the next piece is held
-pub record HoldsPiece {R : Type 0} (gets : R → Option (List ℕ) → R → Type 0) (before after : R) (old new : ListReader) : Type 0 where
+pub record HoldsPiece {R : Type 0} (gets : R → Option (List ℕ) → R → Type 0)
+    (before after : R) (old new : ListReader) : Type 0 where
   pub piece : List ℕ
   pub call : gets before (Some piece) after
   pub some : 0 < length piece
@@ -125,17 +129,20 @@ pub record HoldsPiece {R : Type 0} (gets : R → Option (List ℕ) → R → Typ
   pub over : new.is_over ≡ old.is_over
 
 -- there is none
-pub record HoldsNone {R : Type 0} (gets : R → Option (List ℕ) → R → Type 0) (before after : R) (old new : ListReader) : Type 0 where
+pub record HoldsNone {R : Type 0} (gets : R → Option (List ℕ) → R → Type 0)
+    (before after : R) (old new : ListReader) : Type 0 where
   pub call : gets before (Some []) after
   pub count : new.read ≡ old.read
   pub line : new.line ≡ old.line
 
 -- reading failed
-pub record HoldsFailed {R : Type 0} (gets : R → Option (List ℕ) → R → Type 0) (before after : R) (old new : ListReader) : Type 0 where
+pub record HoldsFailed {R : Type 0} (gets : R → Option (List ℕ) → R → Type 0)
+    (before after : R) (old new : ListReader) : Type 0 where
   pub cause : gets before None after ⊎ ((READ_LIMIT < new.read) × (after ≡ before))
   pub count : new.read ≡ old.read
 
-abbrev pub Refills : {R E : Type 0} (gets : R → Option (List ℕ) → R → Type 0) → (before after : R) → (old new : ListReader) → Result Bool E → Type 0
+abbrev pub Refills : {R E : Type 0} (gets : R → Option (List ℕ) → R → Type 0)
+    → (before after : R) → (old new : ListReader) → Result Bool E → Type 0
 Refills gets before after old new (Ok true) = HoldsPiece gets before after old new
 Refills gets before after old new (Ok false) = HoldsNone gets before after old new
 Refills gets before after old new (Err e) = HoldsFailed gets before after old new

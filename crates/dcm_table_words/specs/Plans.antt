@@ -1,5 +1,6 @@
 -- What a function made of the words of dcm2csv.
-use Rattle.std.specs.Prelude.{◌≡◌, ◌<◌, ◌≤◌, ℕ, List, [], ◌∷◌, map, drop, length, Option, Some, None, Result, Ok, Err, Bool}
+use Rattle.std.specs.Prelude.{◌≡◌, ◌<◌, ◌≤◌, ℕ, List, [], ◌∷◌, map, drop, length}
+use Rattle.std.specs.Prelude.{Option, Some, None, Result, Ok, Err, Bool}
 use Rattle.dcm_table_words.specs.declared.column.TableColumn.{TableColumn}
 use Rattle.dcm_table_words.specs.declared.plan.Flag.{Flag}
 use Rattle.dcm_table_words.specs.declared.plan.Flag.TheVariants as flags
@@ -38,7 +39,8 @@ abbrev pub FirstName : Option (Name × ℕ) → NameWords → (place : ℕ) → 
 FirstName None n place = names_from n place ≡ []
 FirstName (Some m) n place = Names (name_as m.0) m.1 n place
 
-abbrev pub GivesColumns : {A : Type 0} → (A → List TableColumn) → Result A TableUsage → Result (List spec.Column) TableUsage → Type 0
+abbrev pub GivesColumns : {A : Type 0} → (A → List TableColumn) → Result A TableUsage
+    → Result (List spec.Column) TableUsage → Type 0
 GivesColumns items (Ok cs) meant = meant ≡ Ok (map column_as (items cs))
 GivesColumns items (Err u) meant = meant ≡ Err u
 
@@ -48,7 +50,12 @@ PassesNames (Ok u) ms = spec.names_meant ms ≡ Ok ms
 PassesNames (Err u) ms = spec.names_meant ms ≡ Err u
 
 abbrev pub table_as : TablePlan → spec.Table
-table_as p = record { columns = map column_as p.columns.items; has_header = p.has_header; as_is = p.as_is; names = names_as p.names }
+table_as p = record {
+  columns = map column_as p.columns.items;
+  has_header = p.has_header;
+  as_is = p.as_is;
+  names = names_as p.names;
+}
 
 -- what a function returned is what the words mean
 abbrev pub GivesTable : Result TablePlan TableUsage → Result spec.Table TableUsage → Type 0

@@ -1,5 +1,6 @@
 -- What the words of dcm2csv mean.
-use Rattle.std.specs.Prelude.{ℕ, ◌+◌, List, [], ◌∷◌, length, Option, Some, None, Result, Ok, Err, Bool, true, false, ◌||◌}
+use Rattle.std.specs.Prelude.{ℕ, ◌+◌, List, [], ◌∷◌, length, Option, Some, None, Result}
+use Rattle.std.specs.Prelude.{Ok, Err, Bool, true, false, ◌||◌}
 use Rattle.std.specs.Prelude.{◌&&◌, not, ◌==◌, nat_le, nat_lt, if◌then◌else◌, codes, bytes_eq, filter_map, option_map}
 use Rattle.std.specs.Prelude.{count_by}
 use Rattle.std.specs.List.{list_any}
@@ -66,7 +67,8 @@ is_column w = bytes_eq w (codes "-k")
 abbrev pub sayings : List (List ℕ) → List Saying
 sayings [] = []
 sayings (w ∷ []) = elim (is_column w) [ true ↦ no_column ∷ [] | false ↦ word_says w ∷ [] ]
-sayings (w ∷ v ∷ words) = elim (is_column w) [ true ↦ column v ∷ sayings words | false ↦ word_says w ∷ sayings (v ∷ words) ]
+sayings (w ∷ v ∷ words) =
+    elim (is_column w) [ true ↦ column v ∷ sayings words | false ↦ word_says w ∷ sayings (v ∷ words) ]
 
 -- how many words say it
 abbrev pub width : Saying → ℕ
@@ -83,7 +85,8 @@ word_fault _ = None
 -- of words of which the first is that of this number
 abbrev pub refused : ℕ → List Saying → Option TableUsage
 refused n [] = None
-refused n (s ∷ others) = elim (word_fault s) [ Some fault ↦ Some (AtWord fault n) | None ↦ refused (n + width s) others ]
+refused n (s ∷ others) =
+    elim (word_fault s) [ Some fault ↦ Some (AtWord fault n) | None ↦ refused (n + width s) others ]
 
 -- ---- columns
 
@@ -186,4 +189,5 @@ table_said said = elim (refused 2 said) [
 -- the table that the words of a command line mean, or the first refusal; the tool's name is word 1
 unfoldable pub meant_table : List (List ℕ) → Result Table TableUsage
 meant_table [] = Err (AtWord UnknownTool 1)
-meant_table (tool ∷ words) = if bytes_eq tool (codes "dcm2csv") then table_said (sayings words) else Err (AtWord UnknownTool 1)
+meant_table (tool ∷ words) =
+    if bytes_eq tool (codes "dcm2csv") then table_said (sayings words) else Err (AtWord UnknownTool 1)

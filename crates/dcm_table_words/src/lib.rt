@@ -2,7 +2,8 @@
 //!
 //! - `table_plan` reads the words of a command line into a `TablePlan`: the columns, and what the words say of header
 //!   and bytes. `NameWords::after` gives its names one after another.
-//! - Words that it refuses are a `TableUsage`: which word is wrong and why, which column, or the words as a whole. `put_usage` writes the line that reports it.
+//! - Words that it refuses are a `TableUsage`: which word is wrong and why, which column, or the words as a
+//!   whole. `put_usage` writes the line that reports it.
 //!
 //! No memory is taken: columns are at most 64, and names are read again from the words.
 //!

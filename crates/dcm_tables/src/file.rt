@@ -1,4 +1,10 @@
 // What one file gives for its row.
+ghost use Rattle.std.specs.Prelude.{◌≡◌, ◌≤◌, ◌<◌, ◌+◌, length};
+ghost use Rattle.dcm_head.specs.MetaReading.{HasEnded};
+ghost use Rattle.dcm_files.specs.Pieces.{BUFFER_LIMIT};
+ghost use Rattle.dcm_cli.specs.Pass.{IsWithin, set_bytes};
+ghost use Rattle.dcm_tables.specs.Files as spec;
+
 use dcm_base::{DeviceIn, Dictionary, Watched};
 use dcm_cli::ending::{Ending, HeadEnding, Verdict};
 use dcm_cli::head::{Beginning, read_head_of, set_start};
@@ -16,7 +22,9 @@ pub enum FileEnd {
 }
 
 /// How the reading of a file ended whose data set was read.
-fn set_end(ending: Ending) -> FileEnd {
+fn set_end(ending: Ending) -> FileEnd
+    ensures { result ≡ spec.set_end ending }
+{
     match ending {
         Ending::Worked(Verdict::Refused(stop)) => FileEnd::Read(row_end(Err(stop))),
         Ending::Unread(read) => FileEnd::Unread(read),
@@ -31,7 +39,14 @@ fn read_data_set<R: DeviceIn>(
     input: &mut Watched<R>,
     buffer: &mut [u8],
     cells: &mut Cells,
-) -> FileEnd {
+) -> FileEnd
+    requires ended { HasEnded meta.now.end }
+    requires room { 0 < length buffer.old }
+    requires bound { length buffer.old ≤ BUFFER_LIMIT }
+    requires within { IsWithin beginning buffer.old }
+    requires count { meta.now.place + length (set_bytes beginning buffer.old) ≡ beginning.read }
+    ensures { spec.ReadsTable R.DeviceIn input.old input.new meta.now beginning buffer.old cells.old cells.new result }
+{
     let start = set_start(meta);
     let coding = meta.coding().read_by(Dictionary::Standard);
     set_end(read_set(beginning, coding, start, input, buffer, cells))
@@ -42,7 +57,11 @@ pub fn read_file<R: DeviceIn>(
     input: &mut Watched<R>,
     buffer: &mut [u8],
     cells: &mut Cells,
-) -> FileEnd {
+) -> FileEnd
+    requires room { 0 < length buffer.old }
+    requires bound { length buffer.old ≤ BUFFER_LIMIT }
+    ensures { spec.ReadsFile R.DeviceIn input.old input.new cells.old cells.new result }
+{
     cells.clear();
     let mut meta = Meta::new();
     match read_head_of(&mut meta, input, buffer) {
