@@ -195,29 +195,35 @@ const TAKING: Taking = Taking {
     has_key: false,
 };
 
+/// What a plan says of it, where that is its job.
+fn said_by(planned: &Planned) -> Option<Taking> {
+    let Job::Deidentify(what) = &planned.job else {
+        return None;
+    };
+    let options = what.options;
+    Some(Taking {
+        kept: [
+            options.uids,
+            options.device,
+            options.institution,
+            options.patient,
+            options.dates,
+        ],
+        reports: what.reports,
+        has_key: planned.key == Some(b"key".as_slice()),
+    })
+}
+
 fn taking_of(rt: HostRuntime, line: &'static str) -> Result<Result<Taking, Usage>, Fail> {
     let words = words_of(rt, line)?;
-    match plan(rt.alloc(), words.as_slice()) {
-        Ok(
-            Planned {
-                key,
-                job: Job::Deidentify(taking),
-                ..
-            },
-        ) => Ok(Ok(Taking {
-            kept: [
-                taking.options.uids,
-                taking.options.device,
-                taking.options.institution,
-                taking.options.patient,
-                taking.options.dates,
-            ],
-            reports: taking.reports,
-            has_key: key == Some(b"key".as_slice()),
-        })),
-        Ok(_) => Err(Fail::new("another job")),
-        Err(Usage::Memory) => Err(Fail::new("out of memory")),
-        Err(usage) => Ok(Err(usage)),
+    let planned = match plan(rt.alloc(), words.as_slice()) {
+        Ok(planned) => planned,
+        Err(Usage::Memory) => return Err(Fail::new("out of memory")),
+        Err(usage) => return Ok(Err(usage)),
+    };
+    match said_by(&planned) {
+        Some(taking) => Ok(Ok(taking)),
+        None => Err(Fail::new("another job")),
     }
 }
 
