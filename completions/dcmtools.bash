@@ -71,7 +71,7 @@ _dcmtools() {
     local current=${COMP_WORDS[COMP_CWORD]} switches
     COMPREPLY=()
     if ((COMP_CWORD == 1)); then
-        _dcmtools_words "dcmdump dcmconv dump2dcm dcmodify dcmdeid $_dcmtools_answered" "$current"
+        _dcmtools_words "dcmdump dcmconv dump2dcm dcmodify dcmdeid dcm2csv $_dcmtools_answered" "$current"
         return
     fi
     case ${COMP_WORDS[1]} in
@@ -80,6 +80,7 @@ _dcmtools() {
         dump2dcm) switches='+l -e' ;;
         dcmodify) switches='-i -m -e -ma -ea -ep -dict +dict' ;;
         dcmdeid) switches='+ru +rd +ri +rp +rl +bi +k' ;;
+        dcm2csv) switches='-k +nh +by' ;;
         *) return ;;
     esac
     case ${COMP_WORDS[1]}${COMP_WORDS[COMP_CWORD - 1]} in
@@ -87,6 +88,7 @@ _dcmtools() {
         dcmodify-e) _dcmtools_paths "$current" ''; return ;;
         dcmodify-ma) _dcmtools_replaced "$current"; return ;;
         dcmdeid+k) _dcmtools_files "$current"; return ;;
+        dcm2csv-k) _dcmtools_words "$_dcmtools_values" "$current"; return ;;
         dcmodify-ea) _dcmtools_words "$_dcmtools_values $_dcmtools_sequences" "$current"; return ;;
     esac
     case $current in

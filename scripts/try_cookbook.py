@@ -10,6 +10,8 @@ end with status 0.
 
 BINARY is crates/dcmtools/out/dcmtools if it is not given. Exits with 0 if each block does what the page says.
 """
+import csv
+import io
 import os
 import re
 import stat
@@ -216,26 +218,40 @@ def element_of_many(run):
 
 
 TABLE_ROWS = {
-    b"seriesA/IM000001.dcm": b"\t7\tCT",
-    b"seriesB/IM000001.dcm": b"\t8\tCT",
-    b"latin.dcm": b"\t\xfc1\tCT",
-    b"plan.dcm": b"\t9\tRTPLAN",
-    b"large.dcm": b"\t18\tCT",
-    b"nameless.dcm": b"\t\tCT",
-    b"notes": b"\tstatus 2: dcmtools: R1 at byte 13: input ends too early",
-    b"video.dcm": b"\tstatus 2: dcmtools: R2 at byte 128: no DICM prefix",
+    b"seriesA/IM000001.dcm": ["7", "CT"],
+    b"seriesB/IM000001.dcm": ["8", "CT"],
+    b"latin.dcm": ["\\xfc1", "CT"],
+    b"plan.dcm": ["9", "RTPLAN"],
+    b"large.dcm": ["18", "CT"],
+    b"nameless.dcm": ["", "CT"],
+    b"cut.dcm": ["", "CT"],
+    b"notes": ["", ""],
+    b"video.dcm": ["", ""],
 }
 
 
+def is_text(name):
+    try:
+        return bool(name.decode("utf-8"))
+    except UnicodeDecodeError:
+        return False
+
+
 def table(run):
-    text = run.files.get(b"table.txt", (b"", 0))[0]
-    wrong = holds(run, {b"table.txt": (None, 0o644)}) + names_all(run, list(TREE), text)
-    for name in TREE:
-        rows = lines_of(run, name, text)
-        if name in TABLE_ROWS and rows != [TABLE_ROWS[name]]:
-            wrong.append(f"{name!r} has {rows!r}")
-        if TREE[name].fails != any(row.startswith(b"\tstatus 2: dcmtools: R") for row in rows):
-            wrong.append(f"{name!r} has {rows!r}")
+    there = run.files.get(b"table.csv", (b"", 0))[0].decode("utf-8")
+    header, *rows = csv.reader(io.StringIO(there, newline="")) if there else [[]]
+    failed = run.files.get(b"failed.txt", (b"", 0))[0]
+    wrong = holds(run, {b"table.csv": (None, 0o644), b"failed.txt": (None, 0o644)})
+    wrong += [] if header == ["File", "PatientID", "Modality"] else [f"the header is {header}"]
+    wrong += [] if len(rows) == sum(map(is_text, TREE)) else [f"there are {len(rows)} rows"]
+    for name, file in TREE.items():
+        found = [row[1:] for row in rows if row[0].encode() == b"in/" + name]
+        if len(found) != int(is_text(name)) or name in TABLE_ROWS and found != [TABLE_ROWS[name]]:
+            wrong.append(f"{name!r} has {found!r}")
+        shown = b"".join(b"\\%02x" % byte if byte < 32 or byte in (92, 127) else bytes([byte]) for byte in name)
+        line = b"dcmtools: in/" + shown + (b": R" if is_text(name) else b": input cannot be opened")
+        if (line in failed) != (file.fails or not is_text(name)):
+            wrong.append(f"{name!r} is in failed.txt or not")
     return wrong
 
 
@@ -363,7 +379,7 @@ class Block(NamedTuple):
 BLOCKS = [
     Block("dcmtools dcmdump +dict scan.dcm |", one_element),
     Block("    found=$(dcmtools dcmdump - <", element_of_many),
-    Block("value() {", table),
+    Block("columns=(-k", table),
     Block("    dcmtools dcmconv +dict +te scan.dcm", in_place),
     Block("convert() {", converted_tree),
     Block("    dcmtools dcmconv +dict +te plan.dcm", converted_plan),
@@ -425,7 +441,7 @@ def old_folders(work):
 
 def keeps_cut_files(run):
     """A block whose input is cut leaves it as it was, and makes no file of it but a text."""
-    return [wrong for wrong in holds(run, CUT) if not re.match(r"b'(in/.*|table.txt|failed.txt|left.txt|site.key|scan.txt|(out|fixed|clean)/.*)'", wrong)]
+    return [wrong for wrong in holds(run, CUT) if not re.match(r"b'(in/.*|table.csv|failed.txt|left.txt|site.key|scan.txt|(out|fixed|clean)/.*)'", wrong)]
 
 
 def keeps_older_files(run):

@@ -161,7 +161,7 @@ EndsSet step writes r state_before contents_before state_after contents_after (O
     (finish r ≡ complete) × (state_after ≡ fold step state_before (end_shows complete))
     × (contents_after ≡ append_known contents_before (outputs step writes state_before (end_shows complete)))
 EndsSet step writes r state_before contents_before state_after contents_after (Err (halts.Refused stop)) =
-    (finish r ≡ refused stop.fault stop.at) × (contents_after ≡ contents_before)
+    (finish r ≡ refused stop.fault stop.at) × (state_after ≡ state_before) × (contents_after ≡ contents_before)
 EndsSet step writes r state_before contents_before state_after contents_after (Err halts.Output) =
     AppendsFront contents_before contents_after (outputs step writes state_before (end_shows (finish r)))
 
@@ -174,8 +174,8 @@ abbrev pub written : {S : Type 0} → (S → Head → Option Bar) → (S → Ato
     → Reading → S → List ℕ → List ℕ
 written bars step writes r s read = outputs (steps bars step) (steps_write bars step writes) (r, s) read
 
--- how the reading of a data set ended, where these bytes of it were read, what was written, and where it was no fault
--- the sink's state
+-- how the reading of a data set ended, where these bytes of it were read, what was written, and the sink's state, unless
+-- a device failed
 pub data Ends {S : Type 0} (bars : S → Head → Option Bar) (step : S → Atom → S) (writes : S → Atom → List ℕ)
     (r : Reading) (s : S) (contents_before left : Option (List ℕ)) (s_after : S) (contents_after : Option (List ℕ))
     (read : List ℕ) (ending : Ending) : Type 0 where
@@ -189,11 +189,12 @@ pub data Ends {S : Type 0} (bars : S → Head → Option Bar) (step : S → Atom
   -- and that is a fault
   at_fault : (stop : HaltStop) → IsAtEnd left → (after_bytes bars step r s read).0.halt ≡ None
       → finish (after_bytes bars step r s read).0 ≡ refused stop.fault stop.at → ending ≡ Worked (Refused stop)
+      → s_after ≡ (after_bytes bars step r s read).1
       → contents_after ≡ append_known contents_before (written bars step writes r s read)
       → Ends bars step writes r s contents_before left s_after contents_after read ending
   -- the data set is at fault
   halted : (stop : HaltStop) → (after_bytes bars step r s read).0.halt ≡ Some (refused stop.fault stop.at)
-      → ending ≡ Worked (Refused stop)
+      → ending ≡ Worked (Refused stop) → s_after ≡ (after_bytes bars step r s read).1
       → contents_after ≡ append_known contents_before (written bars step writes r s read)
       → Ends bars step writes r s contents_before left s_after contents_after read ending
   -- reading failed

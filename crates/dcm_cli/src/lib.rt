@@ -21,16 +21,19 @@ mod build;
 mod convert;
 mod deidentify;
 mod dump;
-mod ending;
+/// How the work on a job ends.
+pub mod ending;
 mod error_lines;
-mod head;
+/// The head of a file, out of a device.
+pub mod head;
 /// Runs over memory.
 pub mod in_memory;
 mod key;
 /// Laws of the definitions.
 pub mod laws;
 mod modify;
-mod pass;
+/// A data set, out of a device into a sink.
+pub mod pass;
 mod program;
 mod rewrite;
 /// A job over devices.
@@ -39,6 +42,6 @@ pub mod run;
 pub mod status;
 mod syntax;
 
-pub use dcm_words::{Build, Convert, Deidentify, Dump, Job, Planned, plan};
-pub use error_lines::{tell, tell_open};
-pub use program::{dcmtools, obey, start};
+pub use dcm_words::{Build, Convert, Deidentify, Dump, Job, Planned, Usage, asked, plan};
+pub use error_lines::{tell, tell_open, tell_output};
+pub use program::{dcmtools, obey, start, views};

@@ -24,7 +24,7 @@ use std::alloc::{AllocError, Global};
 const DONE: Ending = Ending::Worked(Verdict::Done { unplaced: 0 });
 
 /// Words, lent.
-fn views<'a>(alloc: Global, words: &'a [Vec<u8>]) -> Result<Vec<&'a [u8]>, AllocError>
+pub fn views<'a>(alloc: Global, words: &'a [Vec<u8>]) -> Result<Vec<&'a [u8]>, AllocError>
     ensures { IfOk result (λ views. map (λ w. w.now) views.items ≡ map (λ w. w.items) words.now) }
 {
     let mut views = Vec::new(alloc);

@@ -2,7 +2,8 @@
 use Rattle.std.specs.Prelude.{ℕ, List, [], ◌∷◌, Option, Some, None, Bool, ◌||◌, if◌then◌else◌, codes, bytes_eq}
 use Rattle.std.specs.Prelude.{unwrap_or}
 use Rattle.dcm_words.specs.declared.topic.Topic.{Topic}
-use Rattle.dcm_words.specs.declared.topic.Topic.TheVariants.{Program, Dump, Convert, Build, Modify, Deidentify, Version}
+use Rattle.dcm_words.specs.declared.topic.Topic.TheVariants.{Program, Dump, Convert, Build, Modify, Deidentify, Table}
+use Rattle.dcm_words.specs.declared.topic.Topic.TheVariants.{Version}
 use Rattle.dcm_words.specs.declared.texts.TheConstants as texts
 
 -- the bytes of a text
@@ -13,6 +14,7 @@ text Convert = texts.CONVERT.now
 text Build = texts.BUILD.now
 text Modify = texts.MODIFY.now
 text Deidentify = texts.DEIDENTIFY.now
+text Table = texts.TABLE.now
 text Version = texts.VERSION.now
 
 abbrev pub is_help : List ℕ → Bool
@@ -29,6 +31,7 @@ use_of tool =
     else if bytes_eq tool (codes "dump2dcm") then Some Build
     else if bytes_eq tool (codes "dcmodify") then Some Modify
     else if bytes_eq tool (codes "dcmdeid") then Some Deidentify
+    else if bytes_eq tool (codes "dcm2csv") then Some Table
     else None
 
 -- after a first word that asks: the use of the tool that the only other word names, else that of the program

@@ -6,14 +6,15 @@ pub const VERSION: &str = "dcmtools 0.2.0, with the data dictionary of DICOM PS3
 
 /// How the program is used.
 pub const PROGRAM: &str = "\
-dcmtools: look into DICOM files, convert their transfer syntax, build them from text, edit them, and
-take identity out of them
+dcmtools: look into DICOM files, convert their transfer syntax, build them from text, edit them, take
+identity out of them, and write tables of their values
 
   dcmtools dcmdump [OPTION].. FILE           show a file as text
   dcmtools dcmconv [OPTION].. FILE OUTPUT    write a file in a transfer syntax
   dcmtools dump2dcm [OPTION].. LINES OUTPUT  build a file from the lines of a dump
   dcmtools dcmodify EDIT.. FILE OUTPUT       write a file with edits
   dcmtools dcmdeid [OPTION].. FILE OUTPUT    write a file without identity
+  dcmtools dcm2csv -k TAG.. FILE..           write a table, a row for each file
   dcmtools help [TOOL]                       show this text, or that of a tool
   dcmtools version                           show the version and the edition of the dictionary
 
@@ -115,4 +116,20 @@ OUTPUT is written as OUTPUT.part, and moved to its name at status 0; else it is 
 Exit status: 0 done, 1 words or key refused, 2 input at fault, 3 pixels may show identity and no
 OUTPUT was left, 4 file not opened, read or written, 5 out of memory. The manual: man dcmtools, and
 docs/users/PROFILE.md
+";
+
+/// How dcm2csv is used.
+pub const TABLE: &str = "\
+dcmtools dcm2csv -k TAG.. [OPTION].. FILE..: write comma separated values (RFC 4180), a row for each
+DICOM file
+
+  -k TAG a column: a keyword, or a number such as (0010,0010); 1 to 64 of them
+  +nh    no header row
+  +by    bytes of texts and names as they are (else valid UTF-8: other bytes as \\xNN)
+
+@LIST in place of a FILE: the names of files, one a line, from the file LIST. - and @- are standard
+input. The table goes to standard output. A FILE at fault has its row; all others are still done.
+
+Exit status: 0 done, 1 words refused, 2 a file at fault or a value of more than 16384 bytes, 4 a file
+not opened or read, or output failed, 5 out of memory. The manual: man dcmtools, and docs/PROFILE.md
 ";

@@ -2,7 +2,7 @@
 ghost use Rattle.std.specs.Prelude.{◌≡◌, map};
 ghost use Rattle.dcm_words.specs.Topics as spec;
 
-use crate::texts::{BUILD, CONVERT, DEIDENTIFY, DUMP, MODIFY, PROGRAM, VERSION};
+use crate::texts::{BUILD, CONVERT, DEIDENTIFY, DUMP, MODIFY, PROGRAM, TABLE, VERSION};
 
 /// What a command line asks for, in place of a job.
 #[derive(Clone, Copy, Debug, PartialEq, Eq)]
@@ -19,6 +19,8 @@ pub enum Topic {
     Modify,
     /// How dcmdeid is used.
     Deidentify,
+    /// How dcm2csv is used.
+    Table,
     /// Which version of the program this is.
     Version,
 }
@@ -36,6 +38,7 @@ impl Topic {
             Topic::Build => BUILD,
             Topic::Modify => MODIFY,
             Topic::Deidentify => DEIDENTIFY,
+            Topic::Table => TABLE,
             Topic::Version => VERSION,
         }
     }
@@ -69,6 +72,8 @@ fn use_of(tool: &[u8]) -> Option<Topic>
         Some(Topic::Modify)
     } else if tool == b"dcmdeid".as_slice() {
         Some(Topic::Deidentify)
+    } else if tool == b"dcm2csv".as_slice() {
+        Some(Topic::Table)
     } else {
         None
     }

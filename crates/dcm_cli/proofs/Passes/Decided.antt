@@ -122,11 +122,11 @@ module _ (job : Job) (is_file : reads_file job ≡ true) (coding : Coding) (kept
   pub set_decided : (held : Option (List ℕ)) (t : k.maker.State) (holds : Option (List ℕ)) (passed ending : Ending) → ((x : Ending) → IsNotDone x → passed ≡ x → ending ≡ x) → (one : Allows how (0 ∷ []))
       → Ends k.maker.bars k.maker.step k.maker.writes (start_of coding.syntax start) k.maker.first held (Some (0 ∷ [])) t holds (set_bytes b buffer ++ more) passed → IsDecided job (read ++ more) how ending
   set_decided held t holds passed ending same one (at_end over none fin is last e) = absurd (let no : 0 ∷ [] ≡ [] = over in cc)
-  set_decided held t holds passed ending same one (at_fault stop over none fin is e) = absurd (let no : 0 ∷ [] ≡ [] = over in cc)
+  set_decided held t holds passed ending same one (at_fault stop over none fin is state e) = absurd (let no : 0 ∷ [] ≡ [] = over in cc)
   set_decided held t holds passed ending same one (unread none is e) = decided_unread job (read ++ more) how ending _ (same (Unread _) tt is)
   set_decided held t holds passed ending same one (unwritten is e) = decided_output job (read ++ more) how ending (same Output tt is)
   set_decided held t holds passed ending same one (end_unwritten over none is e) = decided_output job (read ++ more) how ending (same Output tt is)
-  set_decided held t holds passed ending same one (halted stop halt is e) =
+  set_decided held t holds passed ending same one (halted stop halt is state e) =
       let o = there (0 ∷ []) one in
       let place : start ≡ 132 + length o.group = h.start_is ∙ o.place_is in
       let le : start ≤ INPUT_LIMIT = (let most = o.within in omega (arith, place, most)) in
@@ -144,11 +144,11 @@ module _ (job : Job) (is_file : reads_file job ≡ true) (coding : Coding) (kept
 pub alone_decided : (d : Dictionary) (mode : Mode) (bare : Syntax) (more : List ℕ) (how : How) (held : Option (List ℕ)) (t : DumpState) (holds : Option (List ℕ)) (ending : Ending)
     → Ends bars_nothing dump_step dump_writes (start_of (read_by d bare) 0) (dump_start d mode) held (Some (0 ∷ [])) t holds more ending → IsDecided (dump d mode (Some bare)) more how ending
 alone_decided d mode bare more how held t holds ending (at_end over none fin is last e) = absurd (let no : 0 ∷ [] ≡ [] = over in cc)
-alone_decided d mode bare more how held t holds ending (at_fault stop over none fin is e) = absurd (let no : 0 ∷ [] ≡ [] = over in cc)
+alone_decided d mode bare more how held t holds ending (at_fault stop over none fin is state e) = absurd (let no : 0 ∷ [] ≡ [] = over in cc)
 alone_decided d mode bare more how held t holds ending (unread none is e) = decided_unread (dump d mode (Some bare)) more how ending _ is
 alone_decided d mode bare more how held t holds ending (unwritten is e) = decided_output (dump d mode (Some bare)) more how ending is
 alone_decided d mode bare more how held t holds ending (end_unwritten over none is e) = decided_output (dump d mode (Some bare)) more how ending is
-alone_decided d mode bare more how held t holds ending (halted stop halt is e) =
+alone_decided d mode bare more how held t holds ending (halted stop halt is state e) =
     let s : Syntax = read_by d bare in
     let f = refuses_as (dumper d mode) s 0 more (omega arith) stop.fault stop.at halt in
     decided_as (dump d mode (Some bare)) more how ending (Refused stop) (set_header (uid_of_syntax s) ++ dump_front d mode 0 f.f) is

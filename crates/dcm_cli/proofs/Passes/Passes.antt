@@ -70,7 +70,7 @@ module _ {S : Type 0} (bars : S → Head → Option Bar) (step : S → Atom → 
   ends_halted left (halt_refused stop) fed =
       let is = is_refused new.reading.halt new.failed stop fed.answer_is in
       let w = subst (λ (f : Bool). Goes (steps bars step) (steps_write bars step writes) (old.reading, s) held (new.reading, t) holds read (well f)) is.0 fed.goes in
-      halted stop (ap (λ (q : Reading × S). q.0.halt) (sym w.0) ∙ is.1) refl w.1
+      halted stop (ap (λ (q : Reading × S). q.0.halt) (sym w.0) ∙ is.1) refl (ap (λ (q : Reading × S). q.1) w.0) w.1
   ends_halted left halt_output fed =
       let is = is_unwritten new.reading.halt new.failed fed.answer_is in
       unwritten refl (subst (λ (f : Bool). Goes (steps bars step) (steps_write bars step writes) (old.reading, s) held (new.reading, t) holds read (well f)) is fed.goes)
@@ -96,7 +96,7 @@ module _ {S : Type 0} (bars : S → Head → Option Bar) (step : S → Atom → 
           (e.2 ∙ ap (λ (known : Option (List ℕ)). append_known known (outputs step writes t (end_shows complete))) w.1 ∙ append_known_twice held out (outputs step writes t (end_shows complete))
           ∙ ap (λ (q : Reading × S). append_known held (out ++ outputs step writes q.1 (end_shows complete))) w.0)
       by_answer (Err (halt_refused stop)) e =
-          at_fault stop over none (ap (λ (q : Reading × S). finish q.0) (sym w.0) ∙ e.0) refl (e.1 ∙ w.1)
+          at_fault stop over none (ap (λ (q : Reading × S). finish q.0) (sym w.0) ∙ e.0) refl (e.1 ∙ ap (λ (q : Reading × S). q.1) w.0) (e.2 ∙ w.1)
       by_answer (Err halt_output) e =
           end_unwritten over none refl
           (subst (λ (q : Reading × S). AppendsFront held after (out ++ outputs step writes q.1 (end_shows (finish q.0)))) w.0
@@ -147,9 +147,10 @@ module _ {S : Type 0} (bars : S → Head → Option Bar) (step : S → Atom → 
       at_end over (ap (λ (q : Reading × S). q.0.halt) same ∙ none) (ap (λ (q : Reading × S). finish q.0) same ∙ fin) is
       (last_is ∙ ap (λ (q : Reading × S). fold step q.1 (end_shows complete)) (sym same))
       (e ∙ ap (λ (known : Option (List ℕ)). append_known known (more_out ++ end)) gone.1 ∙ append_known_twice held first_out (more_out ++ end) ∙ ap (append_known held) (all_is (λ r. complete)))
-  ends_behind left u holds ending (at_fault stop over none fin is e) =
-      at_fault stop over (ap (λ (q : Reading × S). q.0.halt) same ∙ none) (ap (λ (q : Reading × S). finish q.0) same ∙ fin) is (out_is holds e)
-  ends_behind left u holds ending (halted stop halt is e) = halted stop (ap (λ (q : Reading × S). q.0.halt) same ∙ halt) is (out_is holds e)
+  ends_behind left u holds ending (at_fault stop over none fin is state e) =
+      at_fault stop over (ap (λ (q : Reading × S). q.0.halt) same ∙ none) (ap (λ (q : Reading × S). finish q.0) same ∙ fin) is (state ∙ ap (λ (q : Reading × S). q.1) (sym same)) (out_is holds e)
+  ends_behind left u holds ending (halted stop halt is state e) =
+      halted stop (ap (λ (q : Reading × S). q.0.halt) same ∙ halt) is (state ∙ ap (λ (q : Reading × S). q.1) (sym same)) (out_is holds e)
   ends_behind left u holds ending (unread none is e) =
       let count : next_offset mid.reading + length more ≡ next_offset old.reading + length (first ++ more) = omega (arith, fed.place fed.going, length-append first more) in
       unread (ap (λ (q : Reading × S). q.0.halt) same ∙ none) (is ∙ ap Unread count) (out_is holds e)

@@ -102,10 +102,10 @@ module _ {bar : Bar} {text : Front → List ℕ} (m : Maker bar text) (s : Synta
         → SetMade bar text Last s start read rest held t holds ending
     set_made left holds read rest ending some (at_end over none fin is last e) =
         set_read (all_read read).0 complete (ended_there left read rest complete some over fin) (λ _. last_state read t fin last) is (e ∙ ap (append_known held) (last_there read complete fin))
-    set_made left holds read rest ending some (at_fault stop over none fin is e) =
+    set_made left holds read rest ending some (at_fault stop over none fin is state e) =
         set_read (all_read read).0 (refused stop.fault stop.at) (ended_there left read rest (refused stop.fault stop.at) some over fin) (λ never. absurd (cc)) is
         (e ∙ ap (append_known held) (sym (append-nil (made_output m s start read)) ∙ last_there read (refused stop.fault stop.at) fin))
-    set_made left holds read rest ending some (halted stop halt is e) =
+    set_made left holds read rest ending some (halted stop halt is state e) =
         let r = refuses_as m s start read le stop.fault stop.at halt in
         let reads = r.reads rest in
         set_read r.f (refused stop.fault stop.at) reads (λ never. absurd (cc)) is (e ∙ ap (append_known held) (r.output ∙ m.whole s start (read ++ rest) r.f (refused stop.fault stop.at) le reads))

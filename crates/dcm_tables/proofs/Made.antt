@@ -1,0 +1,15 @@
+-- What the making of a table comes to.
+use Rattle.std.proofs.Common.{◌≡◌, List, ℕ, Result, Ok, Err, inl, inr, subst}
+use Rattle.dcm_devices.specs.Writing.{Writer, Wrote}
+use Rattle.dcm_cli.specs.Change.{change_of}
+use Rattle.dcm_cli.specs.ErrorLines.{Reports}
+
+-- a line was written, or its writer failed with a beginning of it
+pub told : {E T X : Type 0} (w : Writer E) (old new : E) (line : List ℕ) (r : Result T X) → Wrote w old new line r → Reports (change_of w old new) line
+told w old new line (Ok t) wrote = inl (wrote.bytes, wrote.failed)
+told w old new line (Err e) wrote = inr (wrote.bytes, wrote.failed)
+
+-- what is so of columns, a form and a result is so of the same ones by other names
+pub alike : {A B C : Type 0} (P : A → B → C → Type 0) {a b : A} {f h : B} {r s : C} → a ≡ b → f ≡ h → r ≡ s → P a f r → P b h s
+alike P {b = b} {f = f} {h = h} {r = r} {s = s} same form result holds =
+    subst (λ z. P b h z) result (subst (λ y. P b y r) form (subst (λ x. P x f r) same holds))

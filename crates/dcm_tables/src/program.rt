@@ -1,0 +1,212 @@
+// The program: words, devices, and the exit status.
+ghost use Rattle.std.specs.Prelude.{◌≡◌, ◌≤◌, map};
+ghost use Rattle.dcm_cli.specs.Change.{change_of};
+ghost use Rattle.dcm_cli.specs.Status as statuses;
+ghost use Rattle.dcm_table.specs.Columns.{list_of, tags_of};
+ghost use Rattle.dcm_table.specs.TableSink.{begun};
+ghost use Rattle.dcm_table_words.specs.Columns.{column_as};
+ghost use Rattle.dcm_table_words.specs.Plans.{table_as};
+ghost use Rattle.dcm_tables.specs.TableProgram as spec;
+
+use crate::rows::Shared;
+use crate::table::write_table;
+use dcm_base::{DeviceOut, Std, Watched, flush_out};
+use dcm_cli::status::{DEVICE, USAGE};
+use dcm_cli::{Usage, asked, tell, tell_open, tell_output, views};
+use dcm_files::{Host, System};
+use dcm_table::{Cells, Column, Columns, TextForm};
+use dcm_table_words::{TableColumn, TablePlan, put_usage, table_plan};
+use std::alloc::{AllocError, Global};
+
+/// The tool that writes tables.
+const DCM2CSV: &[u8] = b"dcm2csv";
+
+/// A column of the table.
+fn column_of(column: TableColumn) -> Column
+    ensures { result ≡ spec.column_of (column_as column) }
+{
+    match column.number {
+        Some(number) => Column::of_number(column.tag, number),
+        None => Column::of_keyword(column.tag),
+    }
+}
+
+/// The columns of a table.
+fn columns_of(plan: &TablePlan) -> Columns
+    ensures { list_of result ≡ map spec.column_of (table_as plan.now).columns }
+{
+    let mut columns = Columns::new();
+    for column in plan.columns.as_slice() {
+        columns.push(column_of(*column));
+    }
+    columns
+}
+
+/// Whether bytes are written as they are.
+fn form_of(plan: &TablePlan) -> TextForm
+    ensures { result ≡ spec.form_of plan.now.as_is }
+{
+    if plan.as_is {
+        TextForm::AsItIs
+    } else {
+        TextForm::ValidUtf8
+    }
+}
+
+/// Flushes an output after a table that reached this status, and answers the status.
+fn flush_table<W: DeviceOut, E: DeviceOut>(
+    reached: u8,
+    out: &mut Watched<W>,
+    errors: &mut Watched<E>,
+) -> u8
+    ensures flushes { spec.FlushesTable W.DeviceOut (change_of E.DeviceOut errors.old errors.new) out.old out.new reached
+        result }
+    ensures within { reached ≤ statuses.DEVICE → result ≤ statuses.DEVICE }
+{
+    match flush_out(out) {
+        Ok(()) => reached,
+        Err(_) => {
+            tell_output(errors);
+            DEVICE
+        }
+    }
+}
+
+/// Writes a table to an output that is open, and answers the status.
+fn put_table<S: System, W: DeviceOut, E: DeviceOut>(
+    plan: &TablePlan,
+    columns: &Columns,
+    system: &mut S,
+    cells: &mut Cells,
+    out: &mut Watched<W>,
+    errors: &mut Watched<E>,
+) -> u8
+    requires columns { list_of columns.now ≡ map spec.column_of (table_as plan.now).columns }
+    requires cells { cells.old ≡ begun (tags_of columns.now) }
+    ensures puts { spec.PutsTable W.DeviceOut
+        (spec.WritesMeant S.may_do S.Input.DeviceIn W.DeviceOut (table_as plan.now))
+        (change_of E.DeviceOut errors.old errors.new) out.old out.new system.old result system.new }
+    ensures within { result ≤ statuses.DEVICE }
+{
+    let shared = Shared {
+        columns,
+        form: form_of(plan),
+    };
+    let written = write_table(
+        &shared,
+        plan.has_header,
+        plan.names,
+        system,
+        cells,
+        out,
+        errors,
+    );
+    match written {
+        Ok(reached) => flush_table(reached, out, errors),
+        Err(_) => {
+            tell_output(errors);
+            DEVICE
+        }
+    }
+}
+
+/// Writes the table of a plan to standard output, and answers the status.
+fn make_table<S: System, E: DeviceOut>(
+    plan: &TablePlan,
+    system: &mut S,
+    alloc: Global,
+    errors: &mut Watched<E>,
+) -> u8
+    ensures makes { spec.MakesTable S.may_do S.Output.DeviceOut
+        (spec.WritesMeant S.may_do S.Input.DeviceIn S.Output.DeviceOut (table_as plan.now))
+        (change_of E.DeviceOut errors.old errors.new) system.old result system.new }
+    ensures within { result ≤ statuses.MEMORY }
+{
+    let columns = columns_of(plan);
+    let Ok(mut cells) = Cells::new(alloc, &columns) else {
+        return tell(&Usage::Memory, errors);
+    };
+    let output = match system.stdout() {
+        Ok(output) => output,
+        Err(_) => return tell_open(true, errors),
+    };
+    let mut out = Watched::new(output.device);
+    let status = put_table(plan, &columns, system, &mut cells, &mut out, errors);
+    system.close(out.into_device());
+    status
+}
+
+/// Whether words ask for a table: they are those of dcm2csv, and ask for no text about it.
+fn asks_table(words: &[&[u8]]) -> bool
+    ensures { result ≡ spec.asks_table (map (λ w. w.now) words.now) }
+{
+    match words {
+        [tool, ..] => *tool == DCM2CSV && asked(words).is_none(),
+        [] => false,
+    }
+}
+
+/// Makes the table that words ask for, or reports why they are refused. It answers the status.
+fn obey_table<S: System, E: DeviceOut>(
+    system: &mut S,
+    alloc: Global,
+    words: &[&[u8]],
+    errors: &mut Watched<E>,
+) -> u8
+    ensures obeys { spec.ObeysTable S.may_do S.Input.DeviceIn S.Output.DeviceOut (map (λ w. w.now) words.now)
+        (change_of E.DeviceOut errors.old errors.new) system.old result system.new }
+    ensures within { result ≤ statuses.MEMORY }
+{
+    match table_plan(words) {
+        Ok(plan) => make_table(&plan, system, alloc, errors),
+        Err(usage) => {
+            let _ = put_usage(usage, errors);
+            USAGE
+        }
+    }
+}
+
+/// Does what the words of a command line say, after the program's name, with the devices that they name. It reports
+/// what is wrong, and answers the exit status.
+pub fn obey<S: System, E: DeviceOut>(
+    system: &mut S,
+    alloc: Global,
+    words: &[&[u8]],
+    errors: &mut Watched<E>,
+) -> u8
+    ensures obeys { spec.ObeysAny S.may_do S.Input.DeviceIn S.Output.DeviceOut (map (λ w. w.now) words.now)
+        (change_of E.DeviceOut errors.old errors.new) system.old result system.new }
+    ensures within { result ≤ statuses.MEMORY }
+{
+    if asks_table(words) {
+        return obey_table(system, alloc, words, errors);
+    }
+    dcm_cli::obey(system, alloc, words, errors)
+}
+
+/// Does what the words of the command line say, with the devices that they name, and answers the exit status.
+pub fn start<S: System, E: DeviceOut>(system: &mut S, alloc: Global, errors: &mut Watched<E>) -> u8
+    ensures starts { spec.StartsAny S.may_do S.Input.DeviceIn S.Output.DeviceOut
+        (change_of E.DeviceOut errors.old errors.new) system.old result system.new }
+    ensures within { result ≤ statuses.MEMORY }
+{
+    let Ok(words) = system.words() else {
+        return tell(&Usage::Memory, errors);
+    };
+    match views(alloc, words.as_slice()) {
+        Ok(words) => obey(system, alloc, words.as_slice(), errors),
+        Err(AllocError) => tell(&Usage::Memory, errors),
+    }
+}
+
+/// Does what the words of the command line say, over the system's devices, and answers the exit status. Where the
+/// numbers of closed streams cannot be taken, no file is opened.
+pub fn dcmtools(rt: HostRuntime) -> u8
+    ensures { result ≤ statuses.MEMORY }
+{
+    let mut errors = Watched::new(Std::new(rt.stderr()));
+    match Host::new(rt) {
+        Ok(mut host) => start(&mut host, rt.alloc(), &mut errors),
+        Err(_) => tell_open(false, &mut errors),
+    }
+}
