@@ -1,6 +1,6 @@
 -- Cells that are changed one after another.
 use Rattle.std.proofs.Common.{◌≡◌, ◌∙◌, sym, ap, refl, subst, ℕ, zero, suc, ◌+◌, ◌<◌, ◌≤◌, List, [], ◌∷◌, ◌++◌, length, take, drop, get_or, set, map, fold, arith}
-use Rattle.std.specs.Prelude.{Bool, true, false, ◌||◌, ◌&&◌, not, slice_index_or}
+use Rattle.std.specs.Prelude.{Bool, true, false, ◌||◌, ◌&&◌, not, slice_index_or, if◌then◌else◌, Option, Some, None}
 use Rattle.std.specs.List.{list_any}
 use Rattle.std.proofs.lemmas.List.{map-append, take_more_set, drop-set-lt, drop_more, take_all, take_more}
 use Rattle.dcm_base.specs.declared.tag.Tag.{Tag}
@@ -10,8 +10,9 @@ use Rattle.dcm_table.specs.declared.slot.Slot.{Slot as HeldSlot}
 use Rattle.dcm_table.specs.declared.column.Column.{Column}
 use Rattle.dcm_table.specs.Cell.{Cell, missing, with_byte, is_too_long}
 use Rattle.dcm_table.specs.Slots.{slot_of, slots_of}
-use Rattle.dcm_table.specs.TableSink.{Slot, State, next, slot_step, begun_slots}
-use Rattle.dcm_table.specs.Row.{is_reported, slot_at}
+use Rattle.dcm_table.specs.TableSink.{Slot, State, next, slot_step, slots_step, depth_step, is_taken, begun, begun_slots, cleared}
+use Rattle.dcm_table.specs.Columns.{greatest_of}
+use Rattle.dcm_table.specs.Row.{reported, reported_after, slot_at}
 use Rattle.dcm_table.proofs.Folds.{map_map}
 
 -- the slots so far are changed, and the others are as they were
@@ -99,16 +100,64 @@ pub slots_length : (slots : List HeldSlot) → length (slots_of slots) ≡ lengt
 slots_length [] = refl
 slots_length (c ∷ slots) = ap suc (slots_length slots)
 
--- a value that is too long is reported where no column before has its tag
-pub reported_as : (items slots before : List HeldSlot) (i : ℕ) (slot : HeldSlot) (b : Bool) → slots ≡ items → i < length (slots_of items) → slot ≡ get_or slots i slot → before ≡ take i slots
-    → is_too_long (slot_of slot).1 ≡ true → b ≡ list_any (λ (c : HeldSlot). same_tag c.tag slot.tag) before
-    → not b ≡ is_reported (slots_of items) i
-reported_as items slots before i slot b same h is front long any =
+-- the tag by which a column is reported, by the slots that are held
+abbrev tag_by : (long any : Bool) → Tag → Option Tag
+tag_by long any tag = if long && not any then Some tag else None
+
+by_tests : (before : List HeldSlot) (slot : HeldSlot) (long any : Bool) → long ≡ is_too_long (slot_of slot).1 → any ≡ list_any (λ (c : HeldSlot). same_tag c.tag slot.tag) before
+    → reported_after (slots_of before) (slot_of slot) ≡ tag_by long any slot.tag
+by_tests before slot long any is has =
+    ap (λ (b : Bool). tag_by (is_too_long (slot_of slot).1) b slot.tag) (any_slots slot.tag before ∙ sym has)
+    ∙ ap (λ (b : Bool). tag_by b any slot.tag) (sym is)
+
+pub reported_short : (before : List HeldSlot) (slot : HeldSlot) → false ≡ is_too_long (slot_of slot).1 → None ≡ reported_after (slots_of before) (slot_of slot)
+reported_short before slot is = sym (by_tests before slot false (list_any (λ (c : HeldSlot). same_tag c.tag slot.tag) before) is refl)
+
+pub reported_again : (before : List HeldSlot) (slot : HeldSlot) → true ≡ is_too_long (slot_of slot).1 → true ≡ list_any (λ (c : HeldSlot). same_tag c.tag slot.tag) before → None ≡ reported_after (slots_of before) (slot_of slot)
+reported_again before slot is has = sym (by_tests before slot true true is has)
+
+pub reported_first : (before : List HeldSlot) (slot : HeldSlot) → true ≡ is_too_long (slot_of slot).1 → false ≡ list_any (λ (c : HeldSlot). same_tag c.tag slot.tag) before → Some slot.tag ≡ reported_after (slots_of before) (slot_of slot)
+reported_first before slot is has = sym (by_tests before slot true false is has)
+
+pub reported_at : (items slots before : List HeldSlot) (i : ℕ) (slot : HeldSlot) → slots ≡ items → i < length (slots_of items) → slot ≡ get_or slots i slot → before ≡ take i slots
+    → reported_after (slots_of before) (slot_of slot) ≡ reported (slots_of items) i
+reported_at items slots before i slot same h is front =
     let within : i < length slots = omega (arith, h, slots_length items, ap length same) in
     let place : slot_at (slots_of slots) i ≡ slot_of slot = slot_in slots i (record { group = 0; element = 0 }, missing) slot within ∙ ap slot_of (sym is) in
     sym
-    (ap (λ (x : List HeldSlot). is_reported (slots_of x) i) (sym same)
-    ∙ ap (λ (s : Slot). is_too_long s.1 && not (list_any (λ (c : Slot). same_tag c.0 s.0) (take i (slots_of slots)))) place
-    ∙ ap (λ (t : Bool). t && not (list_any (λ (c : Slot). same_tag c.0 slot.tag) (take i (slots_of slots)))) long
-    ∙ ap (λ (x : List Slot). not (list_any (λ (c : Slot). same_tag c.0 slot.tag) x)) (slots_front i slots ∙ ap slots_of (sym front))
-    ∙ ap not (any_slots slot.tag before ∙ sym any))
+    (ap (λ (x : List HeldSlot). reported (slots_of x) i) (sym same)
+    ∙ ap (λ (s : Slot). reported_after (take i (slots_of slots)) s) place
+    ∙ ap (λ (x : List Slot). reported_after x (slot_of slot)) (slots_front i slots ∙ ap slots_of (sym front)))
+
+-- ---- what no atom changes
+
+-- cells that go on are those of the same columns
+pub same_columns : (atoms : List Atom) (s : State) → cleared (fold next s atoms) ≡ cleared s
+same_columns [] s = refl
+same_columns (a ∷ atoms) s = same_columns atoms (next s a) ∙ same_next (is_taken s.depth a) s a
+  where
+    same_each : (a : Atom) (slots : List Slot) → map {B = Slot} (λ (c : Slot). (c.0, missing)) (map (λ (c : Slot). slot_step c a) slots) ≡ map {B = Slot} (λ (c : Slot). (c.0, missing)) slots
+    same_each a [] = refl
+    same_each a (c ∷ slots) = ap (λ (x : List Slot). (c.0, missing) ∷ x) (same_each a slots)
+
+    same_next : (t : Bool) (s : State) (a : Atom) → cleared (record { depth = depth_step s.depth a; greatest = s.greatest; slots = slots_step t s.slots a }) ≡ cleared s
+    same_next true s a = ap (λ (x : List Slot). record { depth = 0; greatest = s.greatest; slots = x }) (same_each a s.slots)
+    same_next false s a = refl
+
+pub kept_on : (atoms : List Atom) (old new : State) → new ≡ fold next old atoms → cleared new ≡ cleared old
+kept_on atoms old new e = ap cleared e ∙ same_columns atoms old
+
+-- and those that are emptied
+pub same_cleared : (s : State) → cleared (cleared s) ≡ cleared s
+same_cleared s = ap (λ (x : List Slot). record { depth = 0; greatest = s.greatest; slots = x }) (twice s.slots)
+  where
+    twice : (slots : List Slot) → map {B = Slot} (λ (c : Slot). (c.0, missing)) (map {B = Slot} (λ (c : Slot). (c.0, missing)) slots) ≡ map {B = Slot} (λ (c : Slot). (c.0, missing)) slots
+    twice [] = refl
+    twice (c ∷ slots) = ap (λ (x : List Slot). (c.0, missing) ∷ x) (twice slots)
+
+pub same_begun : (tags : List Tag) → cleared (begun tags) ≡ begun tags
+same_begun tags = ap (λ (x : List Slot). record { depth = 0; greatest = greatest_of tags; slots = x }) (empty tags)
+  where
+    empty : (tags : List Tag) → map {B = Slot} (λ (c : Slot). (c.0, missing)) (begun_slots tags) ≡ begun_slots tags
+    empty [] = refl
+    empty (t ∷ tags) = ap (λ (x : List Slot). (t, missing) ∷ x) (empty tags)

@@ -1,6 +1,6 @@
 -- A row of a table (RFC 4180).
 use Rattle.std.specs.Prelude.{ℕ, List, [], ◌∷◌, ◌++◌, length, take, map, flat_map, slice_index_or, codes, Bool, true, false}
-use Rattle.std.specs.Prelude.{◌&&◌, not, ◌==◌, ◌/◌}
+use Rattle.std.specs.Prelude.{◌&&◌, not, ◌==◌, ◌/◌, if◌then◌else◌, Option, Some, None}
 use Rattle.std.specs.List.{list_any}
 use Rattle.dcm_base.specs.declared.tag.Tag.{Tag}
 use Rattle.dcm_base.specs.declared.vr.Vr.{Vr}
@@ -94,11 +94,13 @@ row_parts form name slots = some_bytes (quoted (text_in form name)) ∷ (cells_p
 
 -- ---- values that are too long
 
+-- the tag by which the value of a column is reported, after these columns: it is too long, and none of them has its tag
+abbrev pub reported_after : (before : List Slot) → Slot → Option Tag
+reported_after before c = if is_too_long c.1 && not (list_any (λ (b : Slot). same_tag b.0 c.0) before) then Some c.0
+    else None
+
 abbrev pub slot_at : List Slot → ℕ → Slot
 slot_at slots column = slice_index_or slots column (record { group = 0; element = 0 }, missing)
 
--- a column whose value is too long is reported where it is the first one of its tag
-abbrev pub is_reported : List Slot → ℕ → Bool
-is_reported slots column =
-    is_too_long (slot_at slots column).1
-    && not (list_any (λ (c : Slot). same_tag c.0 (slot_at slots column).0) (take column slots))
+abbrev pub reported : List Slot → ℕ → Option Tag
+reported slots column = reported_after (take column slots) (slot_at slots column)

@@ -6,8 +6,8 @@ ghost use Rattle.dcm_base.specs.Tables.Tag.{same_tag};
 ghost use Rattle.dcm_table.specs.declared.slot.Slot.{Slot as HeldSlot};
 ghost use Rattle.dcm_stream.specs.Tokens.{atoms_of};
 ghost use Rattle.dcm_table.specs.Columns.{tags_of};
-ghost use Rattle.dcm_table.specs.Row.{is_reported};
-ghost use Rattle.dcm_table.specs.Slots.{slots_of};
+ghost use Rattle.dcm_table.specs.Row as row;
+ghost use Rattle.dcm_table.specs.Slots.{slot_of, slots_of};
 ghost use Rattle.dcm_table.specs.TableSink as spec;
 
 use crate::column::{Column, Columns};
@@ -74,6 +74,19 @@ fn has_tag(slots: &[Slot], tag: Tag) -> bool
     slots.iter().any(|slot| slot.tag == tag)
 }
 
+/// The tag by which a column is reported, after these columns.
+fn reported_after(before: &[Slot], slot: &Slot) -> Option<Tag>
+    ensures { result ≡ row.reported_after (slots_of before.now) (slot_of slot.now) }
+{
+    if !slot.is_too_long() {
+        return None;
+    }
+    if has_tag(before, slot.tag) {
+        return None;
+    }
+    Some(slot.tag)
+}
+
 impl Cells {
     /// Empty cells for these columns. Fails where there is no memory for them: 16,384 bytes for each column.
     pub fn new(alloc: Global, columns: &Columns) -> Result<Cells, AllocError>
@@ -110,15 +123,15 @@ impl Cells {
         self.slots.as_slice()
     }
 
-    /// Whether the value of a column is whole and longer than a cell, and no column before has its tag.
-    pub fn is_reported(&self, column: usize) -> bool
+    /// The tag of a column, where its value is whole and longer than a cell, and no column before has that tag.
+    pub fn reported(&self, column: usize) -> Option<Tag>
         requires { column < length self.now.slots }
-        ensures { result ≡ is_reported self.now.slots column }
+        ensures { result ≡ row.reported self.now.slots column }
     {
         let slots = self.slots.as_slice();
         let slot = &slots[column];
         let (before, _) = slots.split_at(column);
-        slot.is_too_long() && !has_tag(before, slot.tag)
+        reported_after(before, slot)
     }
 
     /// Goes on after a token, of which a head is one of the outermost level.
@@ -157,7 +170,7 @@ impl Cells {
 }
 
 impl Sink for Cells {
-    ghost use Rattle.dcm_table.specs.TableSink.{State as TableState};
+    ghost use Rattle.dcm_table.specs.TableSink.{State as TableState, cleared};
 
     ghost State = { TableState };
 
@@ -173,9 +186,9 @@ impl Sink for Cells {
 
     ghost has_failed = { λ e. false };
 
-    ghost Kept = { Unit {0} };
+    ghost Kept = { TableState };
 
-    ghost kept = { λ e. tt };
+    ghost kept = { cleared };
 
     #[inline(always)]
     fn take(&mut self, token: Token) -> Result<(), WriteFailed> {

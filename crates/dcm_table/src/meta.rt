@@ -32,7 +32,9 @@ fn take_element(element: MetaElement, cells: &mut Cells)
 /// Gives the cells the elements of the meta group, before those of the data set.
 pub fn take_meta(group: &[u8], cells: &mut Cells)
     requires { length group.now ≤ META_LIMIT }
-    ensures { OfElements group.now (λ elements. cells.new ≡ fold sink.next cells.old (spec.meta_atoms elements)) }
+    ensures takes { OfElements group.now (λ elements. cells.new ≡ fold sink.next cells.old
+        (spec.meta_atoms elements)) }
+    ensures kept { sink.cleared cells.new ≡ sink.cleared cells.old }
 {
     let mut rest = group;
     while let Some(element) = first_element(rest) {
