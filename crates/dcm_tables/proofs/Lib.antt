@@ -1,1 +1,4 @@
+pub mod FileReads
+pub mod LinesOut
 pub mod Made
+pub mod Names

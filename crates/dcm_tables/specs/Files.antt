@@ -17,7 +17,7 @@ use Rattle.dcm_cli.specs.declared.ending.Verdict.TheVariants as verdicts
 use Rattle.dcm_cli.specs.declared.head.Beginning.{Beginning}
 use Rattle.dcm_table.specs.Ending.{row_end}
 use Rattle.dcm_table.specs.Meta.{meta_atoms}
-use Rattle.dcm_table.specs.TableSink.{State, cleared, next, writes, table_bar_of}
+use Rattle.dcm_table.specs.TableSink.{State, next, writes, table_bar_of}
 use Rattle.dcm_table.specs.declared.ending.RowEnd.TheVariants as rows
 use Rattle.dcm_tables.specs.declared.file.FileEnd.{FileEnd}
 use Rattle.dcm_tables.specs.declared.file.FileEnd.TheVariants.{Read, Unread}
@@ -33,23 +33,24 @@ abbrev pub TakesMeta : meta.Reading → (before after : State) → Type 0
 TakesMeta m before after = OfElements (meta.group_of m) (λ elements. after ≡ fold next before (meta_atoms elements))
 
 -- a data set was read into the cells, by the whole dictionary, after the head of its file
-pub record ReadsTable {R : Type 0} (r : Reader R) (before after : R) (m : meta.Reading) (b : Beginning) (buffer : List ℕ)
-    (old new : State) (end : FileEnd) : Type 0 where
+pub record ReadsTable {R : Type 0} (r : Reader R) (before after : R) (m : meta.Reading) (b : Beginning)
+    (buffer : List ℕ)
+    (taken new : State) (end : FileEnd) : Type 0 where
   pub coding : Coding
   pub named : m.end ≡ Some (meta_ends.Ended coding)
   pub ending : Ending
   pub reads : pass.ReadsSet table_bar_of next writes r before after b.is_over (pass.set_bytes b buffer)
-      (start_of (coding_by Standard coding).syntax m.place) old None new None ending
+      (start_of (coding_by Standard coding).syntax m.place) taken None new None ending
   pub ends : end ≡ set_end ending
 
--- a file was read into cells that were emptied: its head, the elements of its meta group, and its data set
-pub data ReadsFile {R : Type 0} (r : Reader R) (before after : R) (old new : State) (end : FileEnd) : Type 0 where
+-- a file was read into emptied cells: its head, the elements of its meta group, and its data set
+pub data ReadsFile {R : Type 0} (r : Reader R) (before after : R) (first new : State) (end : FileEnd) : Type 0 where
   no_set : (m : meta.Reading) (had held : List ℕ) (stop : Stop)
-      → pass.HeadReads r before after m had held (Err (heads.Refused stop)) → TakesMeta m (cleared old) new
-      → end ≡ Read (rows.Refused stop) → ReadsFile r before after old new end
+      → pass.HeadReads r before after m had held (Err (heads.Refused stop)) → TakesMeta m first new
+      → end ≡ Read (rows.Refused stop) → ReadsFile r before after first new end
   not_read : (m : meta.Reading) (had held : List ℕ) (count : ℕ)
       → pass.HeadReads r before after m had held (Err (heads.Unread count)) → end ≡ Unread count
-      → ReadsFile r before after old new end
+      → ReadsFile r before after first new end
   set_read : (m : meta.Reading) (had held : List ℕ) (b : Beginning) (mid : R) (taken : State)
-      → pass.HeadReads r before mid m had held (Ok b) → TakesMeta m (cleared old) taken
-      → ReadsTable r mid after m b held taken new end → ReadsFile r before after old new end
+      → pass.HeadReads r before mid m had held (Ok b) → TakesMeta m first taken
+      → ReadsTable r mid after m b held taken new end → ReadsFile r before after first new end

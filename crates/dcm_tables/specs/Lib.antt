@@ -1,2 +1,4 @@
 pub mod Files
+pub mod Rows
+pub mod Table
 pub mod TableProgram

@@ -20,6 +20,7 @@ use Rattle.dcm_cli.specs.Change.{Change, change_of}
 use Rattle.dcm_cli.specs.ErrorLines.{Reports, open_line, output_line}
 use Rattle.dcm_cli.specs.Program.{Follows, NoMemory, Obeys, StartsBy}
 use Rattle.dcm_cli.specs.Status.{DEVICE, USAGE}
+use Rattle.dcm_tables.specs.Table.{Writing, WritesTable}
 
 -- ---- what a table has of its words
 
@@ -34,17 +35,6 @@ abbrev pub form_of : (as_is : Bool) → TextForm
 form_of as_is = if as_is then AsItIs else ValidUtf8
 
 -- ---- tables
-
--- what a table writes, from one output and one state of the system to later ones: with what change of standard error,
--- and with the greatest status of its files and lists, or a failure of the output
-abbrev pub Writing : (S O : Type 0) → Type 1
-Writing S O = (errors : Change) → (from to : O) → (before : S) → Result ℕ WriteFailed → (after : S) → Type 0
-
--- PLACEHOLDER for the relation of write_table
-abbrev pub WritesTable : {S I O W : Type 0} → MayDo S I O → Reader I → Writer W → List Column → TextForm
-    → (has_header : Bool) → List table_words.Name → Writing S W
-WritesTable may r w columns form has_header names errors from to before result after =
-    MatchResult result (λ status. status ≤ DEVICE) (λ e. ⊤)
 
 -- a table that words mean was written
 abbrev pub WritesMeant : {S I O W : Type 0} → MayDo S I O → Reader I → Writer W → table_words.Table → Writing S W

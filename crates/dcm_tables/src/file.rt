@@ -2,6 +2,7 @@
 ghost use Rattle.std.specs.Prelude.{◌≡◌, ◌≤◌, ◌<◌, ◌+◌, length};
 ghost use Rattle.dcm_head.specs.MetaReading.{HasEnded};
 ghost use Rattle.dcm_files.specs.Pieces.{BUFFER_LIMIT};
+ghost use Rattle.dcm_table.specs.TableSink.{cleared};
 ghost use Rattle.dcm_cli.specs.Pass.{IsWithin, set_bytes};
 ghost use Rattle.dcm_tables.specs.Files as spec;
 
@@ -45,7 +46,9 @@ fn read_data_set<R: DeviceIn>(
     requires bound { length buffer.old ≤ BUFFER_LIMIT }
     requires within { IsWithin beginning buffer.old }
     requires count { meta.now.place + length (set_bytes beginning buffer.old) ≡ beginning.read }
-    ensures { spec.ReadsTable R.DeviceIn input.old input.new meta.now beginning buffer.old cells.old cells.new result }
+    ensures reads { spec.ReadsTable R.DeviceIn input.old input.new meta.now beginning buffer.old cells.old cells.new
+        result }
+    ensures kept { cleared cells.new ≡ cleared cells.old }
 {
     let start = set_start(meta);
     let coding = meta.coding().read_by(Dictionary::Standard);
@@ -60,7 +63,8 @@ pub fn read_file<R: DeviceIn>(
 ) -> FileEnd
     requires room { 0 < length buffer.old }
     requires bound { length buffer.old ≤ BUFFER_LIMIT }
-    ensures { spec.ReadsFile R.DeviceIn input.old input.new cells.old cells.new result }
+    ensures reads { spec.ReadsFile R.DeviceIn input.old input.new (cleared cells.old) cells.new result }
+    ensures kept { cleared cells.new ≡ cleared cells.old }
 {
     cells.clear();
     let mut meta = Meta::new();

@@ -1,9 +1,20 @@
 // The row of one file, and the lines on standard error that come after it.
+ghost use Rattle.std.specs.Prelude.{◌≡◌, ◌≤◌, [], flat_map, option_to_list};
+ghost use Rattle.dcm_devices.specs.Writing.{Wrote};
+ghost use Rattle.dcm_names.specs.NamedLines.{too_long_line};
+ghost use Rattle.dcm_table.specs.TableSink.{cleared};
+ghost use Rattle.dcm_cli.specs.Change.{change_of};
+ghost use Rattle.dcm_cli.specs.Status as statuses;
+ghost use Rattle.dcm_tables.specs.Rows as spec;
+
 use crate::file::{FileEnd, read_file};
-use dcm_base::{DeviceIn, DeviceOut, Watched, WriteFailed};
+use dcm_base::{DeviceIn, DeviceOut, Tag, Watched, WriteFailed};
 use dcm_cli::status::{DEVICE, DONE, FAULT};
 use dcm_names::{put_fault, put_too_long, put_unread};
 use dcm_table::{Cells, Columns, RowEnd, TextForm, put_row};
+
+/// The bytes of a file that are read at a time.
+const PIECE: usize = 16_384;
 
 /// What all rows of a table share.
 #[derive(Clone, Copy)]
@@ -12,61 +23,106 @@ pub struct Shared<'a> {
     pub form: TextForm,
 }
 
-/// Reports the columns whose values are too long for a cell, and answers the status.
-fn put_too_long_lines<E: DeviceOut>(
+/// Writes the line of a column, where its value is too long for a cell.
+fn put_column_line<E: DeviceOut>(
     name: &[u8],
-    columns: &Columns,
+    reported: Option<Tag>,
+    errors: &mut Watched<E>,
+) -> Result<(), WriteFailed>
+    ensures { Wrote E.DeviceOut errors.old errors.new (flat_map (too_long_line name.now) (option_to_list reported))
+        result }
+{
+    match reported {
+        Some(tag) => put_too_long(name, tag, errors),
+        None => Ok(()),
+    }
+}
+
+/// Writes the lines of the columns whose values are too long for a cell. After a line that failed no other is tried.
+fn put_long_lines<E: DeviceOut>(
+    name: &[u8],
     cells: &Cells,
     errors: &mut Watched<E>,
-) -> u8 {
-    let mut status = DONE;
+) -> Result<(), WriteFailed>
+    ensures { Wrote E.DeviceOut errors.old errors.new (spec.long_lines name.now [] cells.now.slots) result }
+{
     for column in 0..cells.len() {
-        if cells.is_reported(column) {
-            let _ = put_too_long(name, columns.as_slice()[column].tag, errors);
-            status = FAULT;
-        }
+        put_column_line(name, cells.reported(column), errors)?;
     }
-    status
+    Ok(())
 }
 
-/// Reports the fault of a file, if it has one, and answers the status.
-fn put_fault_line<E: DeviceOut>(name: &[u8], end: RowEnd, errors: &mut Watched<E>) -> u8 {
-    match end {
-        RowEnd::Refused(stop) => {
-            let _ = put_fault(name, stop, errors);
-            FAULT
-        }
-        RowEnd::Whole | RowEnd::Decided => DONE,
-    }
-}
-
-/// Writes the row of a file that was read so, and the lines after it. Answers the status.
-fn put_file<W: DeviceOut, E: DeviceOut>(
-    shared: &Shared,
+/// Writes the line of a file's fault, if it has one.
+fn put_end_line<E: DeviceOut>(
     name: &[u8],
     end: RowEnd,
-    cells: &Cells,
-    out: &mut Watched<W>,
     errors: &mut Watched<E>,
-) -> Result<u8, WriteFailed> {
-    put_row(shared.form, name, cells, out)?;
-    let long = put_too_long_lines(name, shared.columns, cells, errors);
-    let fault = put_fault_line(name, end, errors);
-    Ok(long.max(fault))
+) -> Result<(), WriteFailed>
+    ensures { Wrote E.DeviceOut errors.old errors.new (spec.end_lines name.now end) result }
+{
+    match end {
+        RowEnd::Refused(stop) => put_fault(name, stop, errors),
+        RowEnd::Whole | RowEnd::Decided => Ok(()),
+    }
 }
 
-/// Reads a file, writes its row, and reports what is wrong with it. Answers the status. Fails where the output fails.
+/// Writes the lines of a file that was read, its fault last. After a line that failed no other is tried.
+fn put_file_lines<E: DeviceOut>(
+    name: &[u8],
+    cells: &Cells,
+    end: RowEnd,
+    errors: &mut Watched<E>,
+) -> Result<(), WriteFailed>
+    ensures { Wrote E.DeviceOut errors.old errors.new (spec.file_lines name.now cells.now.slots end) result }
+{
+    put_long_lines(name, cells, errors)?;
+    put_end_line(name, end, errors)
+}
+
+/// The status of a file by its cells.
+fn long_status(cells: &Cells) -> u8
+    ensures { result ≡ spec.long_status (spec.long_tags [] cells.now.slots) }
+{
+    for column in 0..cells.len() {
+        if cells.reported(column).is_some() {
+            return FAULT;
+        }
+    }
+    DONE
+}
+
+/// The status of a file that was read.
+fn file_status(cells: &Cells, end: RowEnd) -> u8
+    ensures value { result ≡ spec.file_status cells.now.slots end }
+    ensures within { result ≤ statuses.DEVICE }
+{
+    match end {
+        RowEnd::Refused(_) => FAULT,
+        RowEnd::Whole | RowEnd::Decided => long_status(cells),
+    }
+}
+
+/// Reads a file, writes its row, and reports what is wrong with it. Answers the status. Fails where the output fails,
+/// and then reports nothing.
 pub fn do_file<R: DeviceIn, W: DeviceOut, E: DeviceOut>(
-    shared: &Shared,
+    form: TextForm,
     name: &[u8],
     input: &mut Watched<R>,
-    buffer: &mut [u8],
     cells: &mut Cells,
     out: &mut Watched<W>,
     errors: &mut Watched<E>,
-) -> Result<u8, WriteFailed> {
-    match read_file(input, buffer, cells) {
-        FileEnd::Read(end) => put_file(shared, name, end, cells, out, errors),
+) -> Result<u8, WriteFailed>
+    ensures does { spec.DoesFile R.DeviceIn W.DeviceOut (cleared cells.old) form name.now
+        (change_of E.DeviceOut errors.old errors.new) out.old out.new input.old result input.new }
+    ensures kept { cleared cells.new ≡ cleared cells.old }
+{
+    let mut buffer = [0u8; PIECE];
+    match read_file(input, &mut buffer, cells) {
+        FileEnd::Read(end) => {
+            put_row(form, name, cells, out)?;
+            let _ = put_file_lines(name, cells, end, errors);
+            Ok(file_status(cells, end))
+        }
         FileEnd::Unread(read) => {
             let _ = put_unread(name, read, errors);
             Ok(DEVICE)

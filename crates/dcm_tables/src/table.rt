@@ -1,105 +1,124 @@
 // All names of a table, one after another.
-ghost use Rattle.std.specs.Prelude.{◌≡◌};
+ghost use Rattle.std.specs.Prelude.{◌≡◌, ◌≤◌, IfOk, List, ℕ};
 ghost use Rattle.dcm_cli.specs.Change.{change_of};
+ghost use Rattle.dcm_devices.specs.Writing.{Wrote};
+ghost use Rattle.dcm_cli.specs.Status as statuses;
+ghost use Rattle.dcm_names.specs.Held.{Holds};
 ghost use Rattle.dcm_table.specs.Columns.{list_of, tags_of};
-ghost use Rattle.dcm_table.specs.TableSink.{begun};
-ghost use Rattle.dcm_table_words.specs.Plans.{names_as};
-ghost use Rattle.dcm_tables.specs.TableProgram.{WritesTable};
+ghost use Rattle.dcm_table.specs.TableSink.{begun, cleared};
+ghost use Rattle.dcm_table_words.specs.Plans.{name_as, names_as};
+ghost use Rattle.dcm_tables.specs.Table as spec;
 
 use crate::rows::{Shared, do_file};
 use dcm_base::{DeviceOut, Watched, WriteFailed};
 use dcm_cli::status::{DEVICE, DONE};
-use dcm_files::{FileKind, Opened, System, open_input};
+use dcm_files::{Opened, System, open_input};
 use dcm_names::{ListReader, NextName, can_be_opened, put_unopened, put_unread};
-use dcm_table::{Cells, put_header};
+use dcm_table::{Cells, Columns, TextForm, put_header};
 use dcm_table_words::{Name, NameWords};
-use std::io::ErrorKind;
-use std::{io, str};
 
-/// The bytes of a file that are read at a time.
-const PIECE: usize = 16_384;
-
-/// How a run over names ended, where the output did not fail: the greatest status of its files and lists.
+/// How the work on names ended, where the output did not fail: the greatest status of files and lists.
 pub type Ends = Result<u8, WriteFailed>;
 
-/// Opens the file of a name, where `-` is no standard input. A directory is refused.
-fn open_named<S: System>(system: &mut S, name: &[u8]) -> io::Result<Opened<S::Input>> {
-    let Ok(path) = str::from_utf8(name) else {
-        return Err(io::Error::from(ErrorKind::InvalidFilename));
-    };
-    let input = system.open(path)?;
-    if input.kind == FileKind::Directory {
-        system.release(input.device);
-        return Err(io::Error::from(ErrorKind::IsADirectory));
+/// The path of standard input.
+const STANDARD: &[u8] = b"-";
+
+/// The path of a file that is called as standard input is.
+const STANDARD_FILE: &[u8] = b"./-";
+
+/// The path of a name in a list.
+fn listed_path(name: &[u8]) -> &[u8]
+    ensures { result.now ≡ spec.listed_path name.now }
+{
+    if name == STANDARD {
+        STANDARD_FILE
+    } else {
+        name
     }
-    Ok(input)
 }
 
-/// Opens what a word names: a file, or standard input.
-fn open_word<S: System>(system: &mut S, name: &[u8]) -> io::Result<Opened<S::Input>> {
-    if !can_be_opened(name) {
-        return Err(io::Error::from(ErrorKind::InvalidFilename));
+/// Opens what is at a path, where that may be opened.
+fn open_at<S: System>(system: &mut S, is_openable: bool, path: &[u8]) -> Option<Opened<S::Input>>
+    ensures { spec.OpensAt S.may_do is_openable path.now system.old result system.new }
+{
+    if !is_openable {
+        return None;
     }
-    open_input(system, name)
+    match open_input(system, path) {
+        Ok(opened) => Some(opened),
+        Err(_) => None,
+    }
 }
 
-/// Does an opened file, and gives it back. Answers its status.
-fn do_opened<S: System, W: DeviceOut, E: DeviceOut>(
-    shared: &Shared,
+/// Does the file of a name, which is at a path, and gives it back. Answers its status.
+fn do_at<S: System, W: DeviceOut, E: DeviceOut>(
+    form: TextForm,
     name: &[u8],
-    opened: io::Result<Opened<S::Input>>,
-    buffer: &mut [u8],
+    path: &[u8],
+    is_openable: bool,
     system: &mut S,
     cells: &mut Cells,
     out: &mut Watched<W>,
     errors: &mut Watched<E>,
-) -> Ends {
-    let Ok(opened) = opened else {
+) -> Ends
+    ensures does { spec.DoesAt S.may_do S.Input.DeviceIn W.DeviceOut (cleared cells.old) form name.now path.now
+        is_openable (change_of E.DeviceOut errors.old errors.new) out.old out.new system.old result system.new }
+    ensures within { IfOk result (λ status. status ≤ statuses.DEVICE) }
+    ensures kept { cleared cells.new ≡ cleared cells.old }
+{
+    let Some(opened) = open_at(system, is_openable, path) else {
         let _ = put_unopened(name, errors);
         return Ok(DEVICE);
     };
     let mut input = Watched::new(opened.device);
-    let ends = do_file(shared, name, &mut input, buffer, cells, out, errors);
+    let ends = do_file(form, name, &mut input, cells, out, errors);
     system.release(input.into_device());
     ends
 }
 
 /// Does the name that the reader of a list holds. Answers its status.
 fn do_listed<S: System, W: DeviceOut, E: DeviceOut>(
-    shared: &Shared,
+    form: TextForm,
     names: &ListReader,
-    buffer: &mut [u8],
     system: &mut S,
     cells: &mut Cells,
     out: &mut Watched<W>,
     errors: &mut Watched<E>,
-) -> Ends {
+) -> Ends
+    ensures does { (name : List ℕ) → Holds names.now.line name → spec.DoesListed S.may_do S.Input.DeviceIn
+        W.DeviceOut (cleared cells.old) form name (change_of E.DeviceOut errors.old errors.new) out.old out.new
+        system.old result system.new }
+    ensures within { IfOk result (λ status. status ≤ statuses.DEVICE) }
+    ensures kept { cleared cells.new ≡ cleared cells.old }
+{
     let name = names.name();
-    if !names.is_openable() {
-        let _ = put_unopened(name, errors);
-        return Ok(DEVICE);
-    }
-    let opened = open_named(system, name);
-    do_opened(shared, name, opened, buffer, system, cells, out, errors)
+    let path = listed_path(name);
+    do_at(form, name, path, names.is_openable(), system, cells, out, errors)
 }
 
 /// Does the names of a list that is open. Answers the greatest status.
 fn do_names<S: System, W: DeviceOut, E: DeviceOut>(
-    shared: &Shared,
+    form: TextForm,
     list: &[u8],
     input: &mut Watched<S::Input>,
-    buffer: &mut [u8],
     system: &mut S,
     cells: &mut Cells,
     out: &mut Watched<W>,
     errors: &mut Watched<E>,
-) -> Ends {
+) -> Ends
+    ensures does { spec.DoesNames S.Input.DeviceIn.gets
+        (spec.DoesListed S.may_do S.Input.DeviceIn W.DeviceOut (cleared cells.old) form) list.now
+        (change_of E.DeviceOut errors.old errors.new) out.old out.new input.old input.new system.old result
+        system.new }
+    ensures within { IfOk result (λ status. status ≤ statuses.DEVICE) }
+    ensures kept { cleared cells.new ≡ cleared cells.old }
+{
     let mut names = ListReader::new();
     let mut status = DONE;
-    for _name in 0..u64::MAX {
+    loop {
         match names.next(input) {
             NextName::Name => {
-                let ended = do_listed(shared, &names, buffer, system, cells, out, errors)?;
+                let ended = do_listed(form, &names, system, cells, out, errors)?;
                 status = status.max(ended);
             }
             NextName::End => return Ok(status),
@@ -109,46 +128,92 @@ fn do_names<S: System, W: DeviceOut, E: DeviceOut>(
             }
         }
     }
-    Ok(status)
 }
 
 /// Does the names of a list. Answers the greatest status.
 fn do_list<S: System, W: DeviceOut, E: DeviceOut>(
-    shared: &Shared,
+    form: TextForm,
     list: &[u8],
-    buffer: &mut [u8],
     system: &mut S,
     cells: &mut Cells,
     out: &mut Watched<W>,
     errors: &mut Watched<E>,
-) -> Ends {
-    let Ok(opened) = open_word(system, list) else {
+) -> Ends
+    ensures does { spec.DoesList S.may_do S.Input.DeviceIn
+        (spec.DoesListed S.may_do S.Input.DeviceIn W.DeviceOut (cleared cells.old) form) list.now
+        (change_of E.DeviceOut errors.old errors.new) out.old out.new system.old result system.new }
+    ensures within { IfOk result (λ status. status ≤ statuses.DEVICE) }
+    ensures kept { cleared cells.new ≡ cleared cells.old }
+{
+    let Some(opened) = open_at(system, can_be_opened(list), list) else {
         let _ = put_unopened(list, errors);
         return Ok(DEVICE);
     };
     let mut input = Watched::new(opened.device);
-    let ends = do_names(shared, list, &mut input, buffer, system, cells, out, errors);
+    let ends = do_names(form, list, &mut input, system, cells, out, errors);
     system.release(input.into_device());
     ends
 }
 
 /// Does one name among the words. Answers its status.
 fn do_name<S: System, W: DeviceOut, E: DeviceOut>(
-    shared: &Shared,
+    form: TextForm,
     name: Name,
-    buffer: &mut [u8],
     system: &mut S,
     cells: &mut Cells,
     out: &mut Watched<W>,
     errors: &mut Watched<E>,
-) -> Ends {
+) -> Ends
+    ensures does { spec.DoesName S.may_do S.Input.DeviceIn W.DeviceOut (cleared cells.old) form (name_as name.entry)
+        (change_of E.DeviceOut errors.old errors.new) out.old out.new system.old result system.new }
+    ensures within { IfOk result (λ status. status ≤ statuses.DEVICE) }
+    ensures kept { cleared cells.new ≡ cleared cells.old }
+{
     match name {
         Name::File(path) => {
-            let opened = open_word(system, path);
-            do_opened(shared, path, opened, buffer, system, cells, out, errors)
+            let is_openable = can_be_opened(path);
+            do_at(form, path, path, is_openable, system, cells, out, errors)
         }
-        Name::List(path) => do_list(shared, path, buffer, system, cells, out, errors),
+        Name::List(path) => do_list(form, path, system, cells, out, errors),
     }
+}
+
+/// Does all names. Answers the greatest status. After a failure of the output nothing more is opened.
+fn do_all<S: System, W: DeviceOut, E: DeviceOut>(
+    form: TextForm,
+    names: NameWords,
+    system: &mut S,
+    cells: &mut Cells,
+    out: &mut Watched<W>,
+    errors: &mut Watched<E>,
+) -> Ends
+    ensures does { spec.DoesAll (spec.DoesName S.may_do S.Input.DeviceIn W.DeviceOut (cleared cells.old) form)
+        (names_as names.entry) (change_of E.DeviceOut errors.old errors.new) out.old out.new system.old result
+        system.new }
+    ensures within { IfOk result (λ status. status ≤ statuses.DEVICE) }
+{
+    let mut status = DONE;
+    let mut place = 0;
+    while let Some((name, next)) = names.after(place) {
+        let ended = do_name(form, name, system, cells, out, errors)?;
+        status = status.max(ended);
+        place = next;
+    }
+    Ok(status)
+}
+
+/// Writes the header, where there is one.
+fn put_header_where<W: DeviceOut>(
+    has_header: bool,
+    columns: &Columns,
+    out: &mut Watched<W>,
+) -> Result<(), WriteFailed>
+    ensures { Wrote W.DeviceOut out.old out.new (spec.header_bytes has_header (list_of columns.now)) result }
+{
+    if !has_header {
+        return Ok(());
+    }
+    put_header(columns, out)
 }
 
 /// Writes the header, where there is one, and the rows of all names. Answers the greatest status.
@@ -162,20 +227,11 @@ pub fn write_table<S: System, W: DeviceOut, E: DeviceOut>(
     errors: &mut Watched<E>,
 ) -> Ends
     requires cells { cells.old ≡ begun (tags_of shared.now.columns.now) }
-    ensures { WritesTable S.may_do S.Input.DeviceIn W.DeviceOut (list_of shared.now.columns.now) shared.now.form
-        has_header (names_as names.entry) (change_of E.DeviceOut errors.old errors.new) out.old out.new system.old
-        result system.new }
+    ensures writes { spec.WritesTable S.may_do S.Input.DeviceIn W.DeviceOut (list_of shared.now.columns.now)
+        shared.now.form has_header (names_as names.entry) (change_of E.DeviceOut errors.old errors.new) out.old
+        out.new system.old result system.new }
+    ensures within { IfOk result (λ status. status ≤ statuses.DEVICE) }
 {
-    if has_header {
-        put_header(shared.columns, out)?;
-    }
-    let mut buffer = [0u8; PIECE];
-    let mut status = DONE;
-    let mut place = 0;
-    while let Some((name, next)) = names.after(place) {
-        let ended = do_name(shared, name, &mut buffer, system, cells, out, errors)?;
-        status = status.max(ended);
-        place = next;
-    }
-    Ok(status)
+    put_header_where(has_header, shared.columns, out)?;
+    do_all(shared.form, names, system, cells, out, errors)
 }

@@ -1,0 +1,34 @@
+use Rattle.std.proofs.Common.{◌∙◌, subst, refl, List, ℕ}
+use Rattle.dcm_base.specs.Tree.Tree.{Trees}
+use Rattle.dcm_head.specs.Rewriting.{OfElements}
+use Rattle.dcm_table.specs.Meta.{meta_atoms}
+use Rattle.dcm_table.specs.TableSink.{State, cleared, next}
+use Rattle.dcm_table.proofs.EachSlot.{same_cleared}
+use Rattle.dcm_tables.specs.Files.{no_set, not_read, set_read}
+use Rattle.dcm_tables.proofs.FileReads.{takes_emptied, kept_emptied}
+use Rattle.dcm_tables.proofs.file.read_file.Goals as goal
+
+pub returns-in-Ok-clause-reads : goal.returns-in-Ok-clause-reads
+returns-in-Ok-clause-reads g c =
+    set_read c.read_head_of.new.meta _ c.read_head_of.new.buffer c.in-Ok.beginning c.read_head_of.new.input c.take_meta.new.cells c.in-Ok.ensures
+    (takes_emptied c.args.cells.now c.clear.new.self c.take_meta.new.cells c.read_head_of.new.meta c.elements.result.now c.elements.ensures.group c.clear.ensures c.take_meta.ensures.takes)
+    c.read_data_set.ensures.reads
+
+pub returns-in-Ok-clause-kept : goal.returns-in-Ok-clause-kept
+returns-in-Ok-clause-kept g c =
+    c.read_data_set.ensures.kept ∙ kept_emptied c.args.cells.now c.clear.new.self c.take_meta.new.cells c.clear.ensures c.take_meta.ensures.kept
+
+pub returns-in-Err-Refused-clause-reads : goal.returns-in-Err-Refused-clause-reads
+returns-in-Err-Refused-clause-reads g c =
+    no_set c.read_head_of.new.meta _ c.read_head_of.new.buffer c.in-Err-Refused.stop c.in-Err-Refused.ensures
+    (takes_emptied c.args.cells.now c.clear.new.self c.take_meta.new.cells c.read_head_of.new.meta c.elements.result.now c.elements.ensures.group c.clear.ensures c.take_meta.ensures.takes)
+    refl
+
+pub returns-in-Err-Refused-clause-kept : goal.returns-in-Err-Refused-clause-kept
+returns-in-Err-Refused-clause-kept g c = kept_emptied c.args.cells.now c.clear.new.self c.take_meta.new.cells c.clear.ensures c.take_meta.ensures.kept
+
+pub returns-in-Err-Unread-clause-reads : goal.returns-in-Err-Unread-clause-reads
+returns-in-Err-Unread-clause-reads g c = not_read c.read_head_of.new.meta _ c.read_head_of.new.buffer c.in-Err-Unread.read c.in-Err-Unread.ensures refl
+
+pub returns-in-Err-Unread-clause-kept : goal.returns-in-Err-Unread-clause-kept
+returns-in-Err-Unread-clause-kept g c = kept_emptied c.args.cells.now c.clear.new.self c.clear.new.self c.clear.ensures refl

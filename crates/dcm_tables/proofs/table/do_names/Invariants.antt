@@ -1,0 +1,22 @@
+use Rattle.std.proofs.Common.{◌≡◌, ◌≤◌, ℕ, List}
+use Rattle.dcm_names.specs.Reader.{HasRead, most_left}
+use Rattle.dcm_table.specs.TableSink.{cleared}
+use Rattle.dcm_cli.specs.Change.{change_of}
+use Rattle.dcm_cli.proofs.Passes.Readers.{members, writer}
+use Rattle.dcm_tables.specs.Table.{DoesListed, Listed}
+use Rattle.dcm_tables.proofs.table.do_names.Given as goal
+
+-- the names so far were read and done
+abbrev pub invariant-loop-names : goal.invariant-loop-names
+invariant-loop-names g l = record {
+  given : List ℕ;
+  front : List (List ℕ);
+  read : HasRead l.names given front;
+  done : Listed g.S.Input.DeviceIn.gets (DoesListed g.S.System.may_do (members g.S.Input.Device g.S.Input.DeviceIn) (writer g.W.Device g.W.DeviceOut) (cleared l.fn.cells) l.form)
+      (change_of (writer g.E.Device g.E.DeviceOut) l.fn.errors l.errors) l.fn.out l.out l.fn.input given l.input l.fn.system front l.status l.system;
+  kept : cleared l.cells ≡ cleared l.fn.cells;
+  within : l.status ≤ 4;
+}
+
+abbrev pub decreases-loop-names : goal.decreases-loop-names
+decreases-loop-names g l = most_left l.names
