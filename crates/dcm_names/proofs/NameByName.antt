@@ -1,14 +1,14 @@
 -- A list that is read name by name.
-use Rattle.std.proofs.Common.{◌≡◌, ◌∙◌, ap, sym, refl, ℕ, ◌+◌, List, [], ◌∷◌, ◌++◌, append_assoc, length, Bool, true, false, arith}
+use Rattle.std.proofs.Common.{◌≡◌, ◌∙◌, ap, sym, refl, ℕ, suc, ◌+◌, ◌-◌, ◌<◌, ◌≤◌, List, [], ◌∷◌, ◌++◌, append_assoc, length, Bool, true, false, arith}
 use Rattle.std.specs.Prelude.{filter}
 use Rattle.std.proofs.lemmas.List.{append-nil}
 use Rattle.dcm_names.specs.declared.list_reader.ListReader.{ListReader}
 use Rattle.dcm_devices.specs.declared.device.ReadFailed.{ReadFailed}
 use Rattle.dcm_names.specs.Held.{Holds}
 use Rattle.dcm_names.specs.Names.{has_bytes, open_line, ended_lines, names_of}
-use Rattle.dcm_names.specs.Reader.{pending, ended_names, EndsPending, PassesPending, EndsName, PassesNames, HoldsPiece, HoldsNone, HoldsFailed, HasRead, Going, Calls, Answers, Refills, last_answer}
+use Rattle.dcm_names.specs.Reader.{pending, ended_names, EndsPending, PassesPending, EndsName, PassesNames, HoldsPiece, HoldsNone, HoldsFailed, HasRead, Going, Calls, Answers, Refills, last_answer, READ_LIMIT, PIECE, bytes_left, most_left}
 use Rattle.std.proofs.Common.{subst, length-append, inl, inr}
-use Rattle.std.specs.Prelude.{Option, Some, Ok}
+use Rattle.std.specs.Prelude.{Option, Some, Ok, if◌then◌else◌}
 use Rattle.std.proofs.lemmas.List.Elements.{filter-append}
 use Rattle.dcm_devices.specs.Device.{Gave, and_call}
 use Rattle.dcm_names.specs.declared.list_reader.NextName.TheVariants.{Name, End, Unread}
@@ -95,6 +95,27 @@ nothing_read old new held same read over = record {
   count = omega (arith, read);
   over = over;
 }
+
+-- ---- how many bytes may still be taken
+
+-- a piece came after all bytes that were held
+pub left_more : (first old taken new : ListReader) (piece : List ℕ) → bytes_left old ≤ bytes_left first → taken.read ≡ old.read → taken.at ≡ taken.filled → taken.read ≤ READ_LIMIT → new.read ≡ taken.read + length piece → length piece ≤ PIECE → new.filled - new.at ≡ length piece
+    → bytes_left new ≤ bytes_left first
+left_more first old taken new piece left same all few count room size = omega (arith, left, same, all, few, count, room, size)
+
+-- a name was taken
+pub one_fewer : (first old new : ListReader) → first.is_over ≡ false → new.is_over ≡ first.is_over → bytes_left old ≤ bytes_left first → new.read ≡ old.read → new.filled ≡ old.filled → old.at < new.at → most_left new < most_left first
+one_fewer first old new going over left same filled later =
+    let within = new.ordered in
+    let fewer : bytes_left new < bytes_left first = omega (arith, left, same, filled, later, within) in
+    subst (λ (b : Bool). (if b then 0 else suc (bytes_left new)) < most_left first) (sym (over ∙ going))
+    (subst (λ (b : Bool). suc (bytes_left new) < (if b then 0 else suc (bytes_left first))) (sym going) (omega (arith, fewer)))
+
+-- or the last one
+pub none_left : (first new : ListReader) → first.is_over ≡ false → new.is_over ≡ true → most_left new < most_left first
+none_left first new going over =
+    subst (λ (b : Bool). (if b then 0 else suc (bytes_left new)) < most_left first) (sym over)
+    (subst (λ (b : Bool). 0 < (if b then 0 else suc (bytes_left first))) (sym going) (omega arith))
 
 module _ {R : Type 0} (gets : R → Option (List ℕ) → R → Type 0) where
   pub piece_read : (start before after : R) (old now taken new : ListReader) (more : List ℕ) → Gave gets start more before → (r : ReadOn old now more) → PassesNames now taken r.line → taken.read ≡ now.read → taken.is_over ≡ now.is_over

@@ -1,6 +1,6 @@
 -- What the reader of a list has read of it, and answered.
-use Rattle.std.specs.Prelude.{◌≡◌, ◌⊎◌, ℕ, ◌+◌, ◌<◌, ◌≤◌, ◌^◌, Bool, true, false, List, [], ◌∷◌, ◌++◌, length, take}
-use Rattle.std.specs.Prelude.{drop, filter}
+use Rattle.std.specs.Prelude.{◌≡◌, ◌⊎◌, ℕ, suc, ◌+◌, ◌-◌, ◌<◌, ◌≤◌, ◌^◌, Bool, true, false, List, [], ◌∷◌, ◌++◌, length, take}
+use Rattle.std.specs.Prelude.{drop, filter, if◌then◌else◌}
 use Rattle.std.specs.Prelude.{Option, Some, None, Result, Ok, Err}
 use Rattle.dcm_devices.specs.Device.{Gave}
 use Rattle.dcm_names.specs.declared.list_reader.ListReader.{ListReader}
@@ -12,6 +12,10 @@ use Rattle.dcm_names.specs.Names.{has_bytes, open_line, ended_lines, names_of}
 -- the most bytes of a list that are read
 abbrev pub READ_LIMIT : ℕ
 READ_LIMIT = 2 ^ 62
+
+-- the most bytes that are held
+abbrev pub PIECE : ℕ
+PIECE = 16384
 
 -- the bytes that are held and were not taken
 abbrev pub pending : ListReader → List ℕ
@@ -33,6 +37,14 @@ pub record Going (v : ListReader) (given : List ℕ) (named : List (List ℕ)) :
 pub record HasRead (v : ListReader) (given : List ℕ) (named : List (List ℕ)) : Type 0 where
   pub going : v.is_over ≡ false → Going v given named
   pub over : v.is_over ≡ true → named ≡ names_of given true
+
+-- how many bytes may still be taken at most
+abbrev pub bytes_left : ListReader → ℕ
+bytes_left v = ((READ_LIMIT + PIECE) - v.read) + (v.filled - v.at)
+
+-- and how many names may still come: none after the last
+abbrev pub most_left : ListReader → ℕ
+most_left v = if v.is_over then 0 else suc (bytes_left v)
 
 -- ---- one call
 
@@ -123,6 +135,8 @@ pub record HoldsPiece {R : Type 0} (gets : R → Option (List ℕ) → R → Typ
   pub call : gets before (Some piece) after
   pub some : 0 < length piece
   pub held : pending new ≡ piece
+  pub size : new.filled - new.at ≡ length piece
+  pub room : length piece ≤ PIECE
   pub count : new.read ≡ old.read + length piece
   pub few : old.read ≤ READ_LIMIT
   pub line : new.line ≡ old.line

@@ -39,6 +39,7 @@ pub struct ListReader {
 impl ListReader {
     ghost use Rattle.dcm_names.specs.Held.{Holds};
     ghost use Rattle.dcm_names.specs.Reader.{HasRead, TakesPending, TakesName, Refills, Answers, Same, last_answer};
+    ghost use Rattle.dcm_names.specs.Reader.{most_left};
 
     /// A reader of a list of which nothing was read.
     pub fn new() -> ListReader
@@ -91,6 +92,7 @@ impl ListReader {
     /// Takes the bytes that are held up to the end of a name, or all. Answers whether a name ended.
     fn take_name(&mut self) -> bool
         ensures takes { (line : List ℕ) → Holds self.old.line line → TakesName self.old self.new line result }
+        ensures later { result ≡ true → self.old.at < self.new.at }
         ensures same { Same self.old self.new }
     {
         while self.take_line() {
@@ -136,8 +138,9 @@ impl ListReader {
 
     /// Reads on to the next name. No call comes after one that failed.
     pub fn next<R: DeviceIn>(&mut self, input: &mut Watched<R>) -> NextName
-        ensures { (given : List ℕ) (named : List (List ℕ)) → HasRead self.old given named
+        ensures answers { (given : List ℕ) (named : List (List ℕ)) → HasRead self.old given named
             → Answers R.gets input.old input.new self.new given named result }
+        ensures fewer { result ≡ NextName.Name → most_left self.new < most_left self.old }
     {
         if self.is_over {
             return NextName::End;

@@ -1,5 +1,6 @@
-use Rattle.std.proofs.Common.{◌+◌, ◌-◌, ◌^◌, ℕ, List}
+use Rattle.std.proofs.Common.{◌+◌, ◌-◌, ◌^◌, ◌≤◌, ℕ, List}
 use Rattle.dcm_devices.specs.Device.{Gave}
+use Rattle.dcm_names.specs.Reader.{bytes_left}
 use Rattle.dcm_names.proofs.NameByName.{ReadOn}
 use Rattle.dcm_names.proofs.list_reader.ListReader.next.Given as goal
 
@@ -9,6 +10,7 @@ invariant-loop-self g l = record {
   more : List ℕ;
   gave : Gave g.R.DeviceIn.gets l.fn.input more l.input;
   read : ReadOn l.fn.self l.self more;
+  left : bytes_left l.self ≤ bytes_left l.fn.self;
 }
 
 abbrev pub decreases-loop-self : goal.decreases-loop-self
