@@ -155,19 +155,3 @@ pub data Obeys {S I O : Type 0} (may : MayDo S I O) (r : Reader I) (w : Writer O
 pub record NoMemory (errors : Change) (status : ℕ) : Type 0 where
   pub line : Reports errors (usage_line usages.Memory)
   pub status_is : status ≡ usage_status usages.Memory
-
--- what words say was done with those that the system gave; or there was no memory for them
-pub data StartsBy {S I O : Type 0} (may : MayDo S I O) (Does : List (List ℕ) → S → ℕ → S → Type 0) (errors : Change)
-    (before : S) (status : ℕ) (after : S) : Type 0 where
-  no_words : may.words before None after → NoMemory errors status → StartsBy may Does errors before status after
-  no_views : (words : List (List ℕ)) → may.words before (Some words) after → NoMemory errors status
-      → StartsBy may Does errors before status after
-  obeyed : (words : List (List ℕ)) (has_words : S) → may.words before (Some words) has_words
-      → Does words has_words status after → StartsBy may Does errors before status after
-
--- the words that the system gave were obeyed; or there was no memory for them
-abbrev pub Starts : {S I O : Type 0} → MayDo S I O → Reader I → Writer O → Change → (before : S) → (status : ℕ)
-    → (after : S) → Type 0
-Starts may r w errors before status after =
-    StartsBy may (λ words has_words status after. Obeys may r w words errors has_words status after) errors before
-    status after

@@ -44,4 +44,4 @@ mod syntax;
 
 pub use dcm_words::{Build, Convert, Deidentify, Dump, Job, Planned, Usage, asked, plan};
 pub use error_lines::{tell, tell_open, tell_output};
-pub use program::{dcmtools, obey, start, views};
+pub use program::obey;

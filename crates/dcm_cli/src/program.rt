@@ -1,5 +1,5 @@
 // The program: words, devices, and the exit status.
-ghost use Rattle.std.specs.Prelude.{◌≤◌, ◌≡◌, map, IfOk};
+ghost use Rattle.std.specs.Prelude.{◌≤◌, ◌≡◌, map};
 ghost use Rattle.dcm_words.specs.Plans as plans;
 ghost use Rattle.dcm_words.specs.Topics as topics;
 ghost use Rattle.dcm_cli.specs.Calls as calls;
@@ -13,26 +13,15 @@ use crate::error_lines::{tell, tell_key, tell_open, tell_output, tell_same};
 use crate::key::{NoKey, take_key};
 use crate::run::{flushed, run, tell_ending};
 use crate::status;
-use dcm_base::{DeviceOut, Std, Watched, WordFault, put_all};
+use dcm_base::{DeviceOut, Watched, WordFault, put_all};
 use dcm_files::{
-    FileKind, Host, Opened, System, Unopened, end_part, open_devices, open_whole_devices, unopened,
+    FileKind, Opened, System, Unopened, end_part, open_devices, open_whole_devices, unopened,
 };
 use dcm_words::{Deidentify, Job, Planned, Topic, Usage, asked, plan};
-use std::alloc::{AllocError, Global};
+use std::alloc::Global;
 
 /// How the writing of a text ends.
 const DONE: Ending = Ending::Worked(Verdict::Done { unplaced: 0 });
-
-/// Words, lent.
-pub fn views<'a>(alloc: Global, words: &'a [Vec<u8>]) -> Result<Vec<&'a [u8]>, AllocError>
-    ensures { IfOk result (λ views. map (λ w. w.now) views.items ≡ map (λ w. w.items) words.now) }
-{
-    let mut views = Vec::new(alloc);
-    for word in words {
-        views.push(word.as_slice())?;
-    }
-    Ok(views)
-}
 
 /// Reports why a job is not begun, and answers the status.
 fn tell_unopened<E: DeviceOut>(unopened: Unopened, errors: &mut Watched<E>) -> u8
@@ -229,32 +218,5 @@ pub fn obey<S: System, E: DeviceOut>(
     match plan(alloc, words) {
         Ok(planned) => work_on(system, &planned, errors),
         Err(usage) => tell(&usage, errors),
-    }
-}
-
-/// Does what the words of the command line say, with the devices that they name, and answers the exit status.
-pub fn start<S: System, E: DeviceOut>(system: &mut S, alloc: Global, errors: &mut Watched<E>) -> u8
-    ensures starts { spec.Starts S.may_do S.Input.DeviceIn S.Output.DeviceOut
-        (change_of E.DeviceOut errors.old errors.new) system.old result system.new }
-    ensures within { result ≤ statuses.MEMORY }
-{
-    let Ok(words) = system.words() else {
-        return tell(&Usage::Memory, errors);
-    };
-    match views(alloc, words.as_slice()) {
-        Ok(words) => obey(system, alloc, words.as_slice(), errors),
-        Err(AllocError) => tell(&Usage::Memory, errors),
-    }
-}
-
-/// Does what the words of the command line say, over the system's devices, and answers the exit status. Where the
-/// numbers of closed streams cannot be taken, no file is opened.
-pub fn dcmtools(rt: HostRuntime) -> u8
-    ensures { result ≤ statuses.MEMORY }
-{
-    let mut errors = Watched::new(Std::new(rt.stderr()));
-    match Host::new(rt) {
-        Ok(mut host) => start(&mut host, rt.alloc(), &mut errors),
-        Err(_) => tell_open(false, &mut errors),
     }
 }

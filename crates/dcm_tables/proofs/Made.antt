@@ -1,8 +1,11 @@
 -- What the making of a table comes to.
-use Rattle.std.proofs.Common.{◌≡◌, List, ℕ, Result, Ok, Err, inl, inr, subst}
+use Rattle.std.proofs.Common.{◌≡◌, List, ℕ, Result, Ok, Err, Some, inl, inr, subst}
 use Rattle.dcm_devices.specs.Writing.{Writer, Wrote}
-use Rattle.dcm_cli.specs.Change.{change_of}
+use Rattle.dcm_cli.specs.Change.{Change, change_of}
 use Rattle.dcm_cli.specs.ErrorLines.{Reports}
+use Rattle.dcm_cli.specs.Calls.{Reader}
+use Rattle.dcm_files.specs.Devices.{MayDo}
+use Rattle.dcm_tables.specs.TableProgram.{ObeysAny, Starts, obeyed}
 
 -- a line was written, or its writer failed with a beginning of it
 pub told : {E T X : Type 0} (w : Writer E) (old new : E) (line : List ℕ) (r : Result T X) → Wrote w old new line r → Reports (change_of w old new) line
@@ -13,3 +16,8 @@ told w old new line (Err e) wrote = inr (wrote.bytes, wrote.failed)
 pub alike : {A B C : Type 0} (P : A → B → C → Type 0) {a b : A} {f h : B} {r s : C} → a ≡ b → f ≡ h → r ≡ s → P a f r → P b h s
 alike P {b = b} {f = f} {h = h} {r = r} {s = s} same form result holds =
     subst (λ z. P b h z) result (subst (λ y. P b y r) form (subst (λ x. P x f r) same holds))
+
+-- words that the system gave were obeyed, lent
+pub started : {S I O : Type 0} (may : MayDo S I O) (r : Reader I) (w : Writer O) (e : Change) (old mid new : S) (status : ℕ) (words views : List (List ℕ)) → may.words old (Some words) mid → views ≡ words
+    → ObeysAny may r w views e mid status new → Starts may r w e old status new
+started may r w e old mid new status words views gave same obeys = obeyed words mid gave (subst (λ (ws : List (List ℕ)). ObeysAny may r w ws e mid status new) same obeys)

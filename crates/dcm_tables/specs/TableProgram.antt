@@ -18,7 +18,7 @@ use Rattle.dcm_table_words.specs.Usages.{usage_line}
 use Rattle.dcm_cli.specs.Calls.{Reader}
 use Rattle.dcm_cli.specs.Change.{Change, change_of}
 use Rattle.dcm_cli.specs.ErrorLines.{Reports, open_line, output_line}
-use Rattle.dcm_cli.specs.Program.{Follows, NoMemory, Obeys, StartsBy}
+use Rattle.dcm_cli.specs.Program.{Follows, NoMemory, Obeys}
 use Rattle.dcm_cli.specs.Status.{DEVICE, USAGE}
 use Rattle.dcm_tables.specs.Table.{Writing, WritesTable}
 
@@ -100,8 +100,10 @@ pub data ObeysAny {S I O : Type 0} (may : MayDo S I O) (r : Reader I) (w : Write
       → ObeysAny may r w words errors before status after
 
 -- the words that the system gave were obeyed; or there was no memory for them
-abbrev pub StartsAny : {S I O : Type 0} → MayDo S I O → Reader I → Writer O → Change → (before : S) → (status : ℕ)
-    → (after : S) → Type 0
-StartsAny may r w errors before status after =
-    StartsBy may (λ words has_words status after. ObeysAny may r w words errors has_words status after) errors before
-    status after
+pub data Starts {S I O : Type 0} (may : MayDo S I O) (r : Reader I) (w : Writer O) (errors : Change) (before : S)
+    (status : ℕ) (after : S) : Type 0 where
+  no_words : may.words before None after → NoMemory errors status → Starts may r w errors before status after
+  no_views : (words : List (List ℕ)) → may.words before (Some words) after → NoMemory errors status
+      → Starts may r w errors before status after
+  obeyed : (words : List (List ℕ)) (has_words : S) → may.words before (Some words) has_words
+      → ObeysAny may r w words errors has_words status after → Starts may r w errors before status after

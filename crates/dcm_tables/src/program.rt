@@ -1,5 +1,5 @@
 // The program: words, devices, and the exit status.
-ghost use Rattle.std.specs.Prelude.{◌≡◌, ◌≤◌, map};
+ghost use Rattle.std.specs.Prelude.{◌≡◌, ◌≤◌, map, IfOk};
 ghost use Rattle.dcm_cli.specs.Change.{change_of};
 ghost use Rattle.dcm_cli.specs.Status as statuses;
 ghost use Rattle.dcm_table.specs.Columns.{list_of, tags_of};
@@ -12,7 +12,7 @@ use crate::rows::Shared;
 use crate::table::write_table;
 use dcm_base::{DeviceOut, Std, Watched, flush_out};
 use dcm_cli::status::{DEVICE, USAGE};
-use dcm_cli::{Usage, asked, tell, tell_open, tell_output, views};
+use dcm_cli::{Usage, asked, tell, tell_open, tell_output};
 use dcm_files::{Host, System};
 use dcm_table::{Cells, Column, Columns, TextForm};
 use dcm_table_words::{TableColumn, TablePlan, put_usage, table_plan};
@@ -20,6 +20,17 @@ use std::alloc::{AllocError, Global};
 
 /// The tool that writes tables.
 const DCM2CSV: &[u8] = b"dcm2csv";
+
+/// Words, lent.
+fn views<'a>(alloc: Global, words: &'a [Vec<u8>]) -> Result<Vec<&'a [u8]>, AllocError>
+    ensures { IfOk result (λ views. map (λ w. w.now) views.items ≡ map (λ w. w.items) words.now) }
+{
+    let mut views = Vec::new(alloc);
+    for word in words {
+        views.push(word.as_slice())?;
+    }
+    Ok(views)
+}
 
 /// A column of the table.
 fn column_of(column: TableColumn) -> Column
@@ -186,7 +197,7 @@ pub fn obey<S: System, E: DeviceOut>(
 
 /// Does what the words of the command line say, with the devices that they name, and answers the exit status.
 pub fn start<S: System, E: DeviceOut>(system: &mut S, alloc: Global, errors: &mut Watched<E>) -> u8
-    ensures starts { spec.StartsAny S.may_do S.Input.DeviceIn S.Output.DeviceOut
+    ensures starts { spec.Starts S.may_do S.Input.DeviceIn S.Output.DeviceOut
         (change_of E.DeviceOut errors.old errors.new) system.old result system.new }
     ensures within { result ≤ statuses.MEMORY }
 {

@@ -1,7 +1,7 @@
 //! The program dcmtools, for the gate to run with an edit that finds no place.
 #![tactic(auto)]
 
-use dcm_cli::dcmtools;
+use dcm_tables::dcmtools;
 use std::process::ExitCode;
 
 fn main(rt: HostRuntime) -> ExitCode {

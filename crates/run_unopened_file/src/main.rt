@@ -1,7 +1,7 @@
 //! The program dcmtools, for the gate to run with a path that cannot be opened.
 #![tactic(auto)]
 
-use dcm_cli::dcmtools;
+use dcm_tables::dcmtools;
 use std::process::ExitCode;
 
 fn main(rt: HostRuntime) -> ExitCode {

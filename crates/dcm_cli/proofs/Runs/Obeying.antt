@@ -18,7 +18,7 @@ use Rattle.dcm_files.specs.Devices.{MayDo}
 use Rattle.dcm_cli.specs.Calls.{Reader}
 use Rattle.dcm_files.specs.Part.{EndsPart}
 use Rattle.dcm_cli.specs.Change.{Change, change_of}
-use Rattle.dcm_cli.specs.Program.{RunsOver, Works, Deidentifies, WorksAs, EndsOutput, named, not_named, removed, Obeys, refused, no_memory, StartsBy, obeyed}
+use Rattle.dcm_cli.specs.Program.{RunsOver, Works, Deidentifies, WorksAs, EndsOutput, named, not_named, removed, Obeys, refused, no_memory}
 use Rattle.dcm_cli.specs.ErrorLines.{Reports, output_line, usage_line, usage_status}
 
 -- a run over the same devices
@@ -40,11 +40,6 @@ module _ {S I O : Type 0} (may : MayDo S I O) (r : Reader I) (w : Writer O) (wor
   refuse (Whole fault) gives gives_all line status_is same = refused (Whole fault) no_text gives line status_is same
   refuse (InEdit fault n) gives gives_all line status_is same = refused (InEdit fault n) no_text gives line status_is same
   refuse Memory gives gives_all line status_is same = memory (takes_memory words) refl gives_all line status_is same
-
--- what words say was done with those that the system gave, lent
-pub started : {S I O : Type 0} (may : MayDo S I O) (Does : List (List ℕ) → S → ℕ → S → Type 0) (e : Change) (old mid new : S) (status : ℕ) (words views : List (List ℕ)) → may.words old (Some words) mid → views ≡ words
-    → Does views mid status new → StartsBy may Does e old status new
-started may Does e old mid new status words views gave same does = obeyed words mid gave (subst (λ (ws : List (List ℕ)). Does ws mid status new) same does)
 
 -- ---- outputs that have their name only once they are whole
 

@@ -1,15 +1,12 @@
 use Rattle.std.proofs.Common.{subst, ap, ◌∙◌, map}
 use Rattle.dcm_files.specs.Devices.{words_given}
-use Rattle.dcm_cli.specs.Change.{change_of}
-use Rattle.dcm_cli.specs.Program.{no_views}
-use Rattle.dcm_cli.proofs.Passes.Readers.{members, writer}
-use Rattle.dcm_cli.proofs.Runs.Obeying.{started}
-use Rattle.dcm_tables.specs.TableProgram.{ObeysAny}
+use Rattle.dcm_tables.specs.TableProgram.{no_views}
+use Rattle.dcm_tables.proofs.Made.{started}
 use Rattle.dcm_tables.proofs.program.start.Goals as goal
 
 pub returns-in-Ok-views-clause-starts : goal.returns-in-Ok-views-clause-starts
 returns-in-Ok-views-clause-starts g c =
-    started _ (λ words has_words status after. ObeysAny g.S.System.may_do (members g.S.Input.Device g.S.Input.DeviceIn) (writer g.S.Output.Device g.S.Output.DeviceOut) words (change_of (writer g.E.Device g.E.DeviceOut) c.args.errors.now c.obey.new.errors) has_words status after) _ _ _ _ _ (map (λ w. w.items) c.in-Ok.words.items) _
+    started _ _ _ _ _ _ _ _ (map (λ w. w.items) c.in-Ok.words.items) _
     (subst (λ r. g.S.System.may_do.words c.args.system.now (words_given r) c.words.new.self) c.in-Ok.is c.words.ensures)
     (ap (map (λ w. w.now)) c.as_slice-in-Ok-views.ensures.value ∙ c.in-Ok-views.ensures ∙ ap (map (λ w. w.items)) c.as_slice.ensures.value)
     c.obey.ensures.obeys

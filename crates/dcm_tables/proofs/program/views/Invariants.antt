@@ -1,5 +1,5 @@
 use Rattle.std.proofs.Common.{◌≡◌, map, take}
-use Rattle.dcm_cli.proofs.program.views.Given as goal
+use Rattle.dcm_tables.proofs.program.views.Given as goal
 
 -- the bytes of the words so far
 abbrev pub invariant-loop-word : goal.invariant-loop-word
