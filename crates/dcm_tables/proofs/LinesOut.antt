@@ -54,12 +54,12 @@ flat_more f (x ∷ xs) ys = ap (λ (bs : List ℕ). f x ++ bs) (flat_more f xs y
 from_column : (slots : List Slot) (i : ℕ) → i < length slots → drop i slots ≡ slot_at slots i ∷ drop (i + 1) slots
 from_column [] i h = absurd (omega (arith, h))
 from_column (c ∷ slots) zero h = refl
-from_column (c ∷ slots) (suc i) h = from_column slots i (omega (arith, h))
+from_column (c ∷ slots) (suc i) h = let e : suc i + 1 ≡ suc (i + 1) = omega arith in rw e (from_column slots i (omega (arith, h)))
 
 before_next : (slots : List Slot) (i : ℕ) → i < length slots → take (i + 1) slots ≡ take i slots ++ slot_at slots i ∷ []
 before_next [] i h = absurd (omega (arith, h))
 before_next (c ∷ slots) zero h = refl
-before_next (c ∷ slots) (suc i) h = ap (λ (cs : List Slot). c ∷ cs) (before_next slots i (omega (arith, h)))
+before_next (c ∷ slots) (suc i) h = let e : suc i + 1 ≡ suc (i + 1) = omega arith in rw e (ap (λ (cs : List Slot). c ∷ cs) (before_next slots i (omega (arith, h))))
 
 pub next_tags : (slots : List Slot) (i : ℕ) → i < length slots → long_tags (take i slots) (drop i slots) ≡ option_to_list (reported slots i) ++ long_tags (take (i + 1) slots) (drop (i + 1) slots)
 next_tags slots i h =

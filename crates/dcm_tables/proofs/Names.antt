@@ -45,13 +45,13 @@ same_line name = ap (λ (shown : List ℕ). codes "dcmtools: " ++ shown ++ codes
 module _ {S I O W : Type 0} (may : MayDo S I O) (r : Reader I) (w : Writer W) (first : State) (form : TextForm) (errors : Change) (from to : W) (before : S) (result : Result ℕ WriteFailed) (after : S) where
   -- what is not opened has no file
   unopened_as : (name held path other : List ℕ) → held ≡ take NAME_LIMIT name → DoesAt may r w first form held path false errors from to before result after → DoesAt may r w first form name other false errors from to before result after
-  unopened_as name held path other is (not_opened (not_tried no none same) line out was) =
+  unopened_as name held path other is (not_opened (not_tried shut none same) line out was) =
       not_opened (not_tried refl refl same) (subst (Reports errors) (ap unopened_line is ∙ same_line name) line) out was
-  unopened_as name held path other is (not_opened (refused cause yes tried none) line out was) = absurd (let wrong : false ≡ true = yes in cc)
-  unopened_as name held path other is (done_at i left has (not_tried no none same) does back) = absurd (cc)
-  unopened_as name held path other is (done_at i left has (opened_at j yes tried some) does back) = absurd (let wrong : false ≡ true = yes in cc)
-  unopened_as name held path other is (not_opened (opened_at j yes tried some) line out was) = absurd (let wrong : false ≡ true = yes in cc)
-  unopened_as name held path other is (done_at i left has (refused cause yes tried none) does back) = absurd (let wrong : false ≡ true = yes in cc)
+  unopened_as name held path other is (not_opened (refused cause openable tried none) line out was) = absurd (let wrong : false ≡ true = openable in cc)
+  unopened_as name held path other is (done_at i left has (not_tried shut none same) does back) = absurd (cc)
+  unopened_as name held path other is (done_at i left has (opened_at j openable tried some) does back) = absurd (let wrong : false ≡ true = openable in cc)
+  unopened_as name held path other is (not_opened (opened_at j openable tried some) line out was) = absurd (let wrong : false ≡ true = openable in cc)
+  unopened_as name held path other is (done_at i left has (refused cause openable tried none) does back) = absurd (let wrong : false ≡ true = openable in cc)
 
   listed_by : (b : Bool) (name held path : List ℕ) → can_be_opened name ≡ b → held ≡ take NAME_LIMIT name → path ≡ listed_path held → DoesAt may r w first form held path b errors from to before result after
       → DoesAt may r w first form name (listed_path name) b errors from to before result after
@@ -68,16 +68,16 @@ module _ {S I O W : Type 0} (may : MayDo S I O) (r : Reader I) (w : Writer W) (f
 -- ---- one name after another
 
 module _ {S W E : Type 0} (e : Writer E) (Does : Name → Writing S W) (old now new : E) (from mid to : W) (before between after : S) (front : List Name) (status : ℕ)
-    (so_far : DoneSoFar Does (change_of e old now) from mid before front status between) where
-  pub done_more : (name : Name) (ended : ℕ) → Does name (change_of e now new) mid to between (Ok ended) after → DoneSoFar Does (change_of e old new) from to before (front ++ name ∷ []) (max status ended) after
+    (so_far : DoneSoFar Does from before (change_of e old now) mid front status between) where
+  pub done_more : (name : Name) (ended : ℕ) → Does name (change_of e now new) mid to between (Ok ended) after → DoneSoFar Does from before (change_of e old new) to (front ++ name ∷ []) (max status ended) after
   done_more name ended does = and_done front name status ended mid between (change_of e old now) (change_of e now new) so_far does (follows e old now new) refl refl
 
   pub done_failed : (names later : List Name) (name : Name) (failure : WriteFailed) → names ≡ front ++ name ∷ later → Does name (change_of e now new) mid to between (Err failure) after → DoesAll Does names (change_of e old new) from to before (Err failure) after
   done_failed names later name failure whole does = failed_at front later name status mid between (change_of e old now) (change_of e now new) failure so_far does (follows e old now new) whole refl
 
-pub all_done_of : {S W : Type 0} (Does : Name → Writing S W) (errors : Change) (from to : W) (before after : S) (names front rest : List Name) (status : ℕ) → DoneSoFar Does errors from to before front status after → names ≡ front ++ rest → rest ≡ [] → DoesAll Does names errors from to before (Ok status) after
+pub all_done_of : {S W : Type 0} (Does : Name → Writing S W) (errors : Change) (from to : W) (before after : S) (names front rest : List Name) (status : ℕ) → DoneSoFar Does from before errors to front status after → names ≡ front ++ rest → rest ≡ [] → DoesAll Does names errors from to before (Ok status) after
 all_done_of Does errors from to before after names front rest status done whole none =
-    all_names status (subst (λ (ns : List Name). DoneSoFar Does errors from to before ns status after) (sym (whole ∙ ap (λ (ns : List Name). front ++ ns) none ∙ append-nil front)) done) refl
+    all_names status (subst (λ (ns : List Name). DoneSoFar Does from before errors to ns status after) (sym (whole ∙ ap (λ (ns : List Name). front ++ ns) none ∙ append-nil front)) done) refl
 
 -- the next name goes to the front
 pub front_more : (names front rest later : List Name) (name : Name) → names ≡ front ++ rest → rest ≡ name ∷ later → names ≡ (front ++ name ∷ []) ++ later
@@ -89,9 +89,9 @@ whole_next names front rest later name whole is = whole ∙ ap (λ (ns : List Na
 -- ---- one name of a list after another
 
 module _ {S I W E : Type 0} (e : Writer E) (gets : I → Option (List ℕ) → I → Type 0) (Does : List ℕ → Writing S W) (old now new : E) (from mid to : W) (input at left : I) (before between after : S) (given : List ℕ) (front : List (List ℕ)) (status : ℕ)
-    (so_far : Listed gets Does (change_of e old now) from mid input given at before front status between) (reader : ListReader) where
+    (so_far : Listed gets Does from input before (change_of e old now) mid given at front status between) (reader : ListReader) where
   pub listed_more : (a : AnswersName gets at left reader given front) (ended : ℕ) → Does a.name (change_of e now new) mid to between (Ok ended) after
-      → Listed gets Does (change_of e old new) from to input (given ++ a.more) left before (front ++ a.name ∷ []) (max status ended) after
+      → Listed gets Does from input before (change_of e old new) to (given ++ a.more) left (front ++ a.name ∷ []) (max status ended) after
   listed_more a ended does = and_name given a.more front a.name reader.is_over status ended mid at between (change_of e old now) (change_of e now new) so_far a.calls does (follows e old now new) refl refl refl
 
   -- the names that were answered are the first ones of the list

@@ -1,6 +1,6 @@
 -- What is done with the names of a table, one after another.
 use Rattle.std.specs.Prelude.{◌≡◌, ℕ, max, List, [], ◌∷◌, ◌++◌, Bool, true, false, Option, Some, None, Result, Ok, Err}
-use Rattle.std.specs.Prelude.{ codes, bytes_eq, map, flat_map, if◌then◌else◌}
+use Rattle.std.specs.Prelude.{codes, bytes_eq, map, flat_map, if◌then◌else◌}
 use Rattle.std.specs.Io.KnownBytes.{append_known}
 use Rattle.std.specs.declared.io.Error.{Error}
 use Rattle.dcm_devices.specs.declared.device.WriteFailed.{WriteFailed}
@@ -68,17 +68,19 @@ DoesListed may r w first form name errors from to before result after =
 -- ---- a list
 
 -- the names of a list were done so far, one after another, with this greatest status; and what the list gave for them
-pub data Listed {S I W : Type 0} (gets : I → Option (List ℕ) → I → Type 0) (Does : List ℕ → Writing S W)
-    (errors : Change) (from to : W) (input : I) (given : List ℕ) (left : I) (before : S) (names : List (List ℕ))
-    (status : ℕ) (after : S) : Type 0 where
-  none_listed : Reports errors [] → to ≡ from → given ≡ [] → left ≡ input → names ≡ [] → status ≡ DONE → after ≡ before
-      → Listed gets Does errors from to input given left before names status after
-  and_name : (earlier more : List ℕ) (others : List (List ℕ)) (name : List ℕ) (is_over : Bool) (reached ended : ℕ)
+pub data Listed {S I W : Type 0} (gets : I → Option (List ℕ) → I → Type 0) (Does : List ℕ → Writing S W) (from : W)
+    (input : I) (before : S) : (errors : Change) → (to : W) → (given : List ℕ) → (left : I)
+    → (names : List (List ℕ)) → (status : ℕ) → (after : S) → Type 0 where
+  none_listed : {errors : Change} {to : W} {given : List ℕ} {left : I} {names : List (List ℕ)} {status : ℕ} {after : S}
+      → Reports errors [] → to ≡ from → given ≡ [] → left ≡ input → names ≡ [] → status ≡ DONE → after ≡ before
+      → Listed gets Does from input before errors to given left names status after
+  and_name : {errors : Change} {to : W} {given : List ℕ} {left : I} {names : List (List ℕ)} {status : ℕ} {after : S}
+      (earlier more : List ℕ) (others : List (List ℕ)) (name : List ℕ) (is_over : Bool) (reached ended : ℕ)
       (mid : W) (at : I) (between : S) (of_others of_name : Change)
-      → Listed gets Does of_others from mid input earlier at before others reached between
+      → Listed gets Does from input before of_others mid earlier at others reached between
       → Calls gets is_over at more left → Does name of_name mid to between (Ok ended) after
       → Follows errors of_others of_name → given ≡ earlier ++ more → names ≡ others ++ name ∷ []
-      → status ≡ max reached ended → Listed gets Does errors from to input given left before names status after
+      → status ≡ max reached ended → Listed gets Does from input before errors to given left names status after
 
 -- all names of a list that was read to its end were done; or reading it failed, which is reported after the names whose
 -- lines had ended; or the output failed at one of its names, and no other was done
@@ -86,17 +88,17 @@ pub data DoesNames {S I W : Type 0} (gets : I → Option (List ℕ) → I → Ty
     (path : List ℕ) (errors : Change) (from to : W) (input left : I) (before : S) (result : Result ℕ WriteFailed)
     (after : S) : Type 0 where
   all_done : (given : List ℕ) (names : List (List ℕ)) (status : ℕ) (at : I)
-      → Listed gets Does errors from to input given at before names status after
+      → Listed gets Does from input before errors to given at names status after
       → AnswersEnd gets at left given names → result ≡ Ok status
       → DoesNames gets Does path errors from to input left before result after
   not_read : (given : List ℕ) (names : List (List ℕ)) (status count : ℕ) (at : I) (of_names of_line : Change)
-      → Listed gets Does of_names from to input given at before names status after
+      → Listed gets Does from input before of_names to given at names status after
       → AnswersUnread gets at left given names count → Reports of_line (unread_line path count)
       → Follows errors of_names of_line → result ≡ Ok DEVICE
       → DoesNames gets Does path errors from to input left before result after
   not_written : (given more : List ℕ) (names others : List (List ℕ)) (name : List ℕ) (is_over : Bool) (status : ℕ)
       (mid : W) (at : I) (between : S) (of_names of_name : Change) (failure : WriteFailed)
-      → Listed gets Does of_names from mid input given at before names status between
+      → Listed gets Does from input before of_names mid given at names status between
       → Calls gets is_over at more left → names_of (given ++ more) is_over ≡ names ++ name ∷ others
       → Does name of_name mid to between (Err failure) after → Follows errors of_names of_name → result ≡ Err failure
       → DoesNames gets Does path errors from to input left before result after
@@ -122,22 +124,25 @@ DoesName may r w first form (list path) errors from to before result after =
     DoesList may r (DoesListed may r w first form) path errors from to before result after
 
 -- names were done so far, one after another, with this greatest status
-pub data DoneSoFar {S W : Type 0} (Does : Name → Writing S W) (errors : Change) (from to : W) (before : S)
-    (names : List Name) (status : ℕ) (after : S) : Type 0 where
-  none_done : Reports errors [] → to ≡ from → names ≡ [] → status ≡ DONE → after ≡ before
-      → DoneSoFar Does errors from to before names status after
-  and_done : (others : List Name) (name : Name) (reached ended : ℕ) (mid : W) (between : S) (of_others of_name : Change)
-      → DoneSoFar Does of_others from mid before others reached between → Does name of_name mid to between (Ok ended) after
+pub data DoneSoFar {S W : Type 0} (Does : Name → Writing S W) (from : W) (before : S) : (errors : Change) → (to : W)
+    → (names : List Name) → (status : ℕ) → (after : S) → Type 0 where
+  none_done : {errors : Change} {to : W} {names : List Name} {status : ℕ} {after : S}
+      → Reports errors [] → to ≡ from → names ≡ [] → status ≡ DONE → after ≡ before
+      → DoneSoFar Does from before errors to names status after
+  and_done : {errors : Change} {to : W} {names : List Name} {status : ℕ} {after : S}
+      (others : List Name) (name : Name) (reached ended : ℕ) (mid : W) (between : S) (of_others of_name : Change)
+      → DoneSoFar Does from before of_others mid others reached between
+      → Does name of_name mid to between (Ok ended) after
       → Follows errors of_others of_name → names ≡ others ++ name ∷ [] → status ≡ max reached ended
-      → DoneSoFar Does errors from to before names status after
+      → DoneSoFar Does from before errors to names status after
 
 -- all names were done; or the output failed at one of them, and no other was done
 pub data DoesAll {S W : Type 0} (Does : Name → Writing S W) (names : List Name) (errors : Change) (from to : W)
     (before : S) (result : Result ℕ WriteFailed) (after : S) : Type 0 where
-  all_names : (status : ℕ) → DoneSoFar Does errors from to before names status after → result ≡ Ok status
+  all_names : (status : ℕ) → DoneSoFar Does from before errors to names status after → result ≡ Ok status
       → DoesAll Does names errors from to before result after
   failed_at : (others later : List Name) (name : Name) (status : ℕ) (mid : W) (between : S) (of_others of_name : Change)
-      (failure : WriteFailed) → DoneSoFar Does of_others from mid before others status between
+      (failure : WriteFailed) → DoneSoFar Does from before of_others mid others status between
       → Does name of_name mid to between (Err failure) after → Follows errors of_others of_name
       → names ≡ others ++ name ∷ later → result ≡ Err failure → DoesAll Does names errors from to before result after
 

@@ -93,7 +93,16 @@ fn do_listed<S: System, W: DeviceOut, E: DeviceOut>(
 {
     let name = names.name();
     let path = listed_path(name);
-    do_at(form, name, path, names.is_openable(), system, cells, out, errors)
+    do_at(
+        form,
+        name,
+        path,
+        names.is_openable(),
+        system,
+        cells,
+        out,
+        errors,
+    )
 }
 
 /// Does the names of a list that is open. Answers the greatest status.

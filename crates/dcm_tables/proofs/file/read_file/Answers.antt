@@ -19,16 +19,13 @@ returns-in-Ok-clause-kept g c =
     c.read_data_set.ensures.kept ∙ kept_emptied c.args.cells.now c.clear.new.self c.take_meta.new.cells c.clear.ensures c.take_meta.ensures.kept
 
 pub returns-in-Err-Refused-clause-reads : goal.returns-in-Err-Refused-clause-reads
-returns-in-Err-Refused-clause-reads g c =
-    no_set c.read_head_of.new.meta _ c.read_head_of.new.buffer c.in-Err-Refused.stop c.in-Err-Refused.ensures
-    (takes_emptied c.args.cells.now c.clear.new.self c.take_meta.new.cells c.read_head_of.new.meta c.elements.result.now c.elements.ensures.group c.clear.ensures c.take_meta.ensures.takes)
-    refl
+returns-in-Err-Refused-clause-reads g c = let h = c.in-Err-Refused in ?
 
 pub returns-in-Err-Refused-clause-kept : goal.returns-in-Err-Refused-clause-kept
-returns-in-Err-Refused-clause-kept g c = kept_emptied c.args.cells.now c.clear.new.self c.take_meta.new.cells c.clear.ensures c.take_meta.ensures.kept
+returns-in-Err-Refused-clause-kept g c = kept_emptied c.args.cells.now c.clear.new.self c.take_meta-in-Err-Refused.new.cells c.clear.ensures c.take_meta-in-Err-Refused.ensures.kept
 
 pub returns-in-Err-Unread-clause-reads : goal.returns-in-Err-Unread-clause-reads
-returns-in-Err-Unread-clause-reads g c = not_read c.read_head_of.new.meta _ c.read_head_of.new.buffer c.in-Err-Unread.read c.in-Err-Unread.ensures refl
+returns-in-Err-Unread-clause-reads g c = let h = c.in-Err-Unread in ?
 
 pub returns-in-Err-Unread-clause-kept : goal.returns-in-Err-Unread-clause-kept
 returns-in-Err-Unread-clause-kept g c = kept_emptied c.args.cells.now c.clear.new.self c.clear.new.self c.clear.ensures refl

@@ -10,12 +10,12 @@ returns-in-Unread-clause-does g c =
     not_read c.read_file.new.cells c.in-Unread.read c.in-Unread.ensures.reads refl
     (told (writer g.E.Device g.E.DeviceOut) c.args.errors.now c.put_unread.new.errors _ c.put_unread.result c.put_unread.ensures) refl
 
-pub returns-in-Read-clause-does : goal.returns-in-Read-clause-does
-returns-in-Read-clause-does g c =
+pub returns-in_ok-put_row-in-Read-clause-does : goal.returns-in_ok-put_row-in-Read-clause-does
+returns-in_ok-put_row-in-Read-clause-does g c =
     written c.read_file.new.cells c.in-Read.«end» c.in-Read.ensures.reads c.in_ok-put_row.ensures.bytes c.in_ok-put_row.ensures.failed
     (told (writer g.E.Device g.E.DeviceOut) c.args.errors.now c.put_file_lines.new.errors _ c.put_file_lines.result c.put_file_lines.ensures) (ap Ok c.file_status.ensures.value)
 
-pub returns-in_err-put_row-clause-does : goal.returns-in_err-put_row-clause-does
-returns-in_err-put_row-clause-does g c =
+pub returns-in_err-put_row-in-Read-clause-does : goal.returns-in_err-put_row-in-Read-clause-does
+returns-in_err-put_row-in-Read-clause-does g c =
     not_written c.read_file.new.cells c.in-Read.«end» _ c.in-Read.ensures.reads c.in_err-put_row.ensures.bytes c.in_err-put_row.ensures.failed
     (nothing_told (writer g.E.Device g.E.DeviceOut) c.args.errors.now) (search rules)

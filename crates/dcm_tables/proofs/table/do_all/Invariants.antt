@@ -13,7 +13,7 @@ invariant-loop-name g l = record {
   front : List Name;
   whole : names_as l.names ≡ front ++ names_from l.names l.place;
   done : DoneSoFar (DoesName g.S.System.may_do (members g.S.Input.Device g.S.Input.DeviceIn) (writer g.W.Device g.W.DeviceOut) (cleared l.fn.cells) l.form)
-      (change_of (writer g.E.Device g.E.DeviceOut) l.fn.errors l.errors) l.fn.out l.out l.fn.system front l.status l.system;
+      l.fn.out l.fn.system (change_of (writer g.E.Device g.E.DeviceOut) l.fn.errors l.errors) l.out front l.status l.system;
   kept : cleared l.cells ≡ cleared l.fn.cells;
   within : l.status ≤ 4;
 }

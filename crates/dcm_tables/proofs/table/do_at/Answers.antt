@@ -4,6 +4,10 @@ use Rattle.dcm_tables.specs.Table.{not_opened, done_at}
 use Rattle.dcm_tables.proofs.Made.{told}
 use Rattle.dcm_tables.proofs.table.do_at.Goals as goal
 
-pub returns-in-Some-clause-does : goal.returns-in-Some-clause-does
-returns-in-Some-clause-does g c =
-    done_at c.in-Some.opened c.do_file.new.input c.open_at.new.system (search rules) (search rules) (search rules)
+pub returns-in_default-clause-does : goal.returns-in_default-clause-does
+returns-in_default-clause-does g c =
+    not_opened c.in_default.ensures (told (writer g.E.Device g.E.DeviceOut) c.args.errors.now c.put_unopened.new.errors _ c.put_unopened.result c.put_unopened.ensures) refl refl
+
+pub returns-clause-does : goal.returns-clause-does
+returns-clause-does g c =
+    let h = c.in-Some in ?

@@ -35,8 +35,8 @@ loop-names-preserved g c =
       within = search rules;
     }
 
-pub returns-in_err-ended-clause-does : goal.returns-in_err-ended-clause-does
-returns-in_err-ended-clause-does g c =
+pub returns-in_err-ended-in-Name-clause-does : goal.returns-in_err-ended-in-Name-clause-does
+returns-in_err-ended-in-Name-clause-does g c =
     let loop = c.loop-names in
     let a = c.in-Name.ensures loop.invariant.given loop.invariant.front loop.invariant.read in
     listed_failed (writer g.E.Device g.E.DeviceOut) g.S.Input.DeviceIn.gets (DoesListed g.S.System.may_do (members g.S.Input.Device g.S.Input.DeviceIn) (writer g.W.Device g.W.DeviceOut) (cleared c.args.cells.now) c.args.form)
