@@ -1,4 +1,6 @@
 pub mod Files
 pub mod Rows
+pub mod RowOf
+pub mod Laws
 pub mod Table
 pub mod TableProgram

@@ -1,0 +1,86 @@
+-- The statements of the laws.
+use Rattle.std.specs.Prelude.{◌≡◌, ◌<◌, ℕ, List, ◌++◌, length}
+use Rattle.dcm_base.specs.declared.tag.Tag.{Tag}
+use Rattle.dcm_table.specs.declared.ending.RowEnd.{RowEnd}
+use Rattle.dcm_table.specs.declared.ending.RowEnd.TheVariants.{Decided}
+use Rattle.dcm_table.specs.declared.quoted.TextForm.{TextForm}
+use Rattle.dcm_table.specs.Row.{row_parts}
+use Rattle.dcm_table.specs.Shown.{settled_slots}
+use Rattle.dcm_table.specs.TableSink.{Slot, State, begun}
+use Rattle.dcm_cli.specs.Calls.{Reader}
+use Rattle.dcm_cli.specs.InputCalls.{How, Allows, ReadsInput}
+use Rattle.dcm_tables.specs.declared.file.FileEnd.{FileEnd}
+use Rattle.dcm_tables.specs.declared.file.FileEnd.TheVariants.{Read, Unread}
+use Rattle.dcm_tables.specs.Files.{ReadsFile}
+use Rattle.dcm_tables.specs.RowOf.{RowOf, IsUndecided}
+use Rattle.dcm_tables.specs.Rows.{file_lines, file_status}
+
+-- ---- what was read of a file
+
+-- each file that begins with these bytes, and may go on so, has these cells and this end; or reading failed after them,
+-- where more bytes could still change that
+abbrev pub Comes : (columns : List Tag) → (given : List ℕ) → How → (cells : List Slot) → FileEnd → Type 0
+Comes columns given how cells (Read end) = (rest : List ℕ) → Allows how rest → RowOf columns (given ++ rest) cells end
+Comes columns given how cells (Unread count) = IsUndecided columns given × (count ≡ length given)
+
+-- a file was read by such calls, each of them only where more bytes could still change how the reading ends
+pub record DecidesRow {R : Type 0} (r : Reader R) (before after : R) (columns : List Tag) (cells : List Slot)
+    (end : FileEnd) : Type 0 where
+  pub given : List ℕ
+  pub how : How
+  pub reads : ReadsInput r (IsUndecided columns) before given how after
+  pub comes : Comes columns given how cells end
+
+-- what is read of a file decides its row
+abbrev pub RowIsRead : {R : Type 0} → Reader R → Type 0
+RowIsRead {R} r =
+    (columns : List Tag) (before after : R) (cells : State) (end : FileEnd)
+    → ReadsFile r before after (begun columns) cells end
+    → DecidesRow r before after columns (settled_slots cells.slots) end
+
+-- a value that is not whole is not written, and not reported
+abbrev pub RowIsSettled : Type 0
+RowIsSettled =
+    (form : TextForm) (name : List ℕ) (slots : List Slot) (end : RowEnd)
+    → (row_parts form name (settled_slots slots) ≡ row_parts form name slots)
+    × (file_lines name (settled_slots slots) end ≡ file_lines name slots end)
+    × (file_status (settled_slots slots) end ≡ file_status slots end)
+
+-- ---- the row of a file
+
+-- a file has at most one row
+abbrev pub RowIsOne : Type 0
+RowIsOne =
+    (columns : List Tag) (bytes : List ℕ) (cells others : List Slot) (end other : RowEnd)
+    → RowOf columns bytes cells end → RowOf columns bytes others other → (cells ≡ others) × (end ≡ other)
+
+-- and at least one
+abbrev pub RowIsSome : Type 0
+RowIsSome =
+    (columns : List Tag) (bytes : List ℕ) → (cells : List Slot) × (end : RowEnd) × RowOf columns bytes cells end
+
+-- where more bytes cannot change how the reading of these ends, all files that begin with them have one row
+abbrev pub RowStays : Type 0
+RowStays =
+    (columns : List Tag) (bytes rest : List ℕ) (cells : List Slot) (end : RowEnd) → (IsUndecided columns bytes → ⊥)
+    → RowOf columns bytes cells end → RowOf columns (bytes ++ rest) cells end
+
+-- these bytes of a file decide its row, and no fewer do
+pub record Decides (columns : List Tag) (bytes : List ℕ) (cells : List Slot) (end : RowEnd) : Type 0 where
+  pub front : List ℕ
+  pub others : List ℕ
+  pub whole : bytes ≡ front ++ others
+  pub row : (rest : List ℕ) → RowOf columns (front ++ rest) cells end
+  pub least : (less more : List ℕ) → front ≡ less ++ more → length less < length front → IsUndecided columns less
+
+-- where more bytes cannot change how the reading ends, some beginning decides the row
+abbrev pub RowIsDecided : Type 0
+RowIsDecided =
+    (columns : List Tag) (bytes : List ℕ) (cells : List Slot) (end : RowEnd) → (IsUndecided columns bytes → ⊥)
+    → RowOf columns bytes cells end → Decides columns bytes cells end
+
+-- so it is where a head above all columns ends it
+abbrev pub DecidedIsSure : Type 0
+DecidedIsSure =
+    (columns : List Tag) (bytes : List ℕ) (cells : List Slot) → RowOf columns bytes cells Decided
+    → IsUndecided columns bytes → ⊥

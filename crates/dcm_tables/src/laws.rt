@@ -1,0 +1,37 @@
+//! Laws of the definitions. Each function takes nothing and makes no call: its contract is the law.
+ghost use Rattle.dcm_tables.specs.Laws.{DecidedIsSure, RowIsDecided, RowIsOne, RowIsRead, RowIsSettled, RowIsSome};
+ghost use Rattle.dcm_tables.specs.Laws.{RowStays};
+
+use dcm_base::DeviceIn;
+
+/// A file has at most one row: its bytes determine the cells and how the reading ends.
+pub fn row_is_one()
+    ensures { RowIsOne }
+{}
+
+/// A file has a row, whatever its bytes are.
+pub fn row_is_some()
+    ensures { RowIsSome }
+{}
+
+/// Where more bytes cannot change how the reading ends, all files that begin with these have the same row.
+pub fn row_stays()
+    ensures { RowStays }
+{}
+
+/// There some beginning of them decides the row, whatever follows it, and no shorter one does. A row that a head above
+/// all columns ends is decided.
+pub fn row_is_decided()
+    ensures front { RowIsDecided }
+    ensures sure { DecidedIsSure }
+{}
+
+/// What is read of a file decides its row. It is read no further than that needs.
+pub fn row_is_read<R: DeviceIn>()
+    ensures { RowIsRead R.DeviceIn }
+{}
+
+/// A value that is not whole is not written and not reported.
+pub fn row_is_settled()
+    ensures { RowIsSettled }
+{}
