@@ -5,3 +5,7 @@ pub mod Names
 pub mod TableReads
 pub mod MetaShown
 pub mod RowReads
+pub mod OneRow
+pub mod SettledRows
+pub mod SureRows
+pub mod ShownCells

@@ -1,6 +1,6 @@
 -- A machine with the cells of a table over the bytes of a data set.
 use Rattle.std.proofs.Common.{◌≡◌, ◌∙◌, ap, sym, subst, refl, ℕ, zero, suc, ◌+◌, ◌≤◌, List, [], ◌∷◌, ◌++◌, length, Bool, true, false, Option, Some, None, inl, inr, arith}
-use Rattle.std.specs.Prelude.{fold, Ok, Err}
+use Rattle.std.specs.Prelude.{fold, ◌⊎◌, Ok, Err}
 use Rattle.std.proofs.Math.Path.{fun_ext}
 use Rattle.std.proofs.lemmas.List.{append-nil}
 use Rattle.std.proofs.lemmas.List.Sums.{fold-append}
@@ -136,6 +136,15 @@ module _ (g : Tag) (slots : List Slot) (settles : AllSettled slots) (s : Syntax)
   table_waits bytes is =
       let q = read_all (tabled g) s start bytes in
       waits_by table_bar_of next writes (table_bar g) first s start bytes q.0 q.1 (driven_same bytes) (output_same bytes) is (follows (tabled g) (table_bar g) (tabled_bars g) s start bytes le)
+
+  -- it is one of both
+  pub table_halts : (bytes : List ℕ) → ((driven table_bar_of next first s start bytes).0.halt ≡ None) ⊎ ((fault : Fault) × (offset : ℕ) × ((driven table_bar_of next first s start bytes).0.halt ≡ Some (refused fault offset)))
+  table_halts bytes =
+      let same : (driven table_bar_of next first s start bytes).0.halt ≡ (read_all (tabled g) s start bytes).0.halt = ap (λ (q : Reading × State). q.0.halt) (driven_same bytes) in
+      elim (follows (tabled g) (table_bar g) (tabled_bars g) s start bytes le) [
+        | inl h ↦ inl (same ∙ h.going)
+        | inr h ↦ inr (h.fault, h.offset, same ∙ h.halt_is)
+      ]
 
   -- the cells after what was read
   cells_of : (bytes : List ℕ) (f : Front) (stop : Stop) (t : State) → Reads (table_bar g) s start bytes f stop → t ≡ fold next first (front_atoms s f) → settled_slots t.slots ≡ slots_with s f slots

@@ -1,10 +1,19 @@
 -- The statements of the laws.
-use Rattle.std.specs.Prelude.{◌≡◌, ◌<◌, ℕ, List, ◌++◌, length}
+use Rattle.std.specs.Prelude.{◌≡◌, ◌<◌, ◌≤◌, ℕ, List, [], ◌∷◌, ◌++◌, length, true, Some}
 use Rattle.dcm_base.specs.declared.tag.Tag.{Tag}
+use Rattle.dcm_base.specs.declared.vr.Vr.{Vr}
+use Rattle.dcm_base.specs.Dump.ValueText.{display}
+use Rattle.dcm_base.specs.Lines.ReadValue.{value_of_text}
+use Rattle.dcm_base.specs.Tables.Number.{AreBytes}
+use Rattle.dcm_base.specs.Tables.Transfer.{without_pads}
 use Rattle.dcm_table.specs.declared.ending.RowEnd.{RowEnd}
 use Rattle.dcm_table.specs.declared.ending.RowEnd.TheVariants.{Decided}
 use Rattle.dcm_table.specs.declared.quoted.TextForm.{TextForm}
-use Rattle.dcm_table.specs.Row.{row_parts}
+use Rattle.dcm_table.specs.declared.quoted.TextForm.TheVariants.{AsItIs}
+use Rattle.dcm_table.specs.Cell.{CELL_LIMIT, whole}
+use Rattle.dcm_table.specs.Parts.{some_bytes}
+use Rattle.dcm_table.specs.Quoted.{quoted}
+use Rattle.dcm_table.specs.Row.{cell_parts, is_quoted_text, row_parts}
 use Rattle.dcm_table.specs.Shown.{settled_slots}
 use Rattle.dcm_table.specs.TableSink.{Slot, State, begun}
 use Rattle.dcm_cli.specs.Calls.{Reader}
@@ -84,3 +93,13 @@ abbrev pub DecidedIsSure : Type 0
 DecidedIsSure =
     (columns : List Tag) (bytes : List ℕ) (cells : List Slot) → RowOf columns bytes cells Decided
     → IsUndecided columns bytes → ⊥
+
+-- ---- cells of texts
+
+-- a text, by its representation as it was read, is what the text of a full dump between the brackets stands for, without
+-- the pads at its end
+abbrev pub CellIsShown : Type 0
+CellIsShown =
+    (vr : Vr) (value : List ℕ) → is_quoted_text vr ≡ true → AreBytes value → length value ≤ CELL_LIMIT
+    → (read : List ℕ) × (value_of_text vr (display vr value) ≡ Some read)
+    × (cell_parts AsItIs (whole vr value) ≡ some_bytes (quoted (without_pads read)) ∷ [])

@@ -1,5 +1,5 @@
 //! Laws of the definitions. Each function takes nothing and makes no call: its contract is the law.
-ghost use Rattle.dcm_tables.specs.Laws.{DecidedIsSure, RowIsDecided, RowIsOne, RowIsRead, RowIsSettled, RowIsSome};
+ghost use Rattle.dcm_tables.specs.Laws.{CellIsShown, DecidedIsSure, RowIsDecided, RowIsOne, RowIsRead, RowIsSettled, RowIsSome};
 ghost use Rattle.dcm_tables.specs.Laws.{RowStays};
 
 use dcm_base::DeviceIn;
@@ -34,4 +34,10 @@ pub fn row_is_read<R: DeviceIn>()
 /// A value that is not whole is not written and not reported.
 pub fn row_is_settled()
     ensures { RowIsSettled }
+{}
+
+/// The cell of a text has, with its bytes as they are, what a full dump shows of the value between the brackets, its
+/// escapes undone and its pads left out: of a name, the unique identifier.
+pub fn cell_is_shown()
+    ensures { CellIsShown }
 {}

@@ -1,0 +1,156 @@
+-- The text of a cell is what a dump shows of its value.
+use Rattle.std.proofs.Common.{◌≡◌, ◌∙◌, ap, sym, subst, refl, ℕ, suc, ◌+◌, ◌-◌, ◌%◌, ◌≤◌, ◌<◌, List, [], ◌∷◌, ◌++◌, length, take, Bool, true, false, get_or, Option, Some, None, arith, codes}
+use Rattle.std.specs.Prelude.{◌==◌, ◌&&◌, nat_le, slice_index, bytes_eq, if◌then◌else◌}
+use Rattle.std.specs.Option.{option_map_or}
+use Rattle.std.proofs.lemmas.Bool.Decides.{nat_tests}
+use Rattle.std.proofs.lemmas.List.{take_all, length-take}
+use Rattle.std.proofs.lemmas.Slice.Eq.{bytes_eq-Decides}
+use Rattle.dcm_base.specs.declared.vr.Vr.{Vr}
+use Rattle.dcm_base.specs.declared.vr.Vr.TheVariants.{AE, AS, CS, DA, DS, DT, IS, LO, LT, PN, SH, ST, TM, UC, UI, UR, UT}
+use Rattle.dcm_base.specs.Dump.ValueText.{Shape, text, identifier, bracketed, display, identified, unpadded}
+use Rattle.dcm_base.specs.Lines.ReadValue.{◌>>=◌, is_no_value, text_value, uid_value, value_of_text, within_limit}
+use Rattle.dcm_base.specs.Tables.Number.{AreBytes}
+use Rattle.dcm_base.specs.Tables.Representation.{is_text, pad}
+use Rattle.dcm_base.specs.Tables.Transfer.{is_pad, without_pads}
+use Rattle.dcm_base.specs.Tables.Uid.{uid_name}
+use Rattle.dcm_head.proofs.MetaGroups.Transfers.{pads_taken}
+use Rattle.dcm_value.proofs.ReadBack.Texts.{text_back, uid_back}
+use Rattle.dcm_value.proofs.ReadBack.Units.{bytes_take}
+use Rattle.dcm_table.specs.declared.quoted.TextForm.TheVariants.{AsItIs}
+use Rattle.dcm_table.specs.Cell.{whole}
+use Rattle.dcm_table.specs.Parts.{some_bytes}
+use Rattle.dcm_table.specs.Quoted.{quoted}
+use Rattle.dcm_table.specs.Row.{cell_parts, is_quoted_text, value_parts}
+
+-- ---- pads
+
+abbrev drops_pad : Vr → List ℕ → Bool
+drops_pad vr v = length v % 2 == 0 && slice_index v (length v - 1) == pad vr
+
+first_of : (a b : Bool) → (a && b) ≡ true → b ≡ true
+first_of true b e = e
+first_of false b e = cc
+
+pad_is : (t : Bool) → is_pad (if t then 32 else 0) ≡ true
+pad_is true = refl
+pad_is false = refl
+
+is_same : (b c : ℕ) → (b == c) ≡ true → b ≡ c
+is_same b c e = grind (arith, nat_tests, e)
+
+-- the pad byte that a dump leaves out is left out of a cell
+pads_same : (vr : Vr) (b : ℕ) (v : List ℕ) → without_pads (unpadded vr (b ∷ v)) ≡ without_pads (b ∷ v)
+pads_same vr b v = by_test (drops_pad vr (b ∷ v)) refl
+  where
+    abbrev w : List ℕ
+    w = b ∷ v
+
+    by_test : (t : Bool) → drops_pad vr w ≡ t → without_pads (if t then take (length w - 1) w else w) ≡ without_pads w
+    by_test false e = refl
+    by_test true e =
+        let same : slice_index w (length w - 1) ≡ pad vr = is_same _ _ (first_of (length w % 2 == 0) (slice_index w (length w - 1) == pad vr) e) in
+        let padded : is_pad (get_or w (length w - 1) 0) ≡ true = ap is_pad same ∙ pad_is (is_text vr) in
+        sym (pads_taken w (length w) (omega arith) (omega arith) padded) ∙ ap without_pads (take_all (length w) w (omega arith))
+
+unpadded_bytes : (vr : Vr) (v : List ℕ) → AreBytes v → AreBytes (unpadded vr v)
+unpadded_bytes vr v h = by_test (drops_pad vr v)
+  where
+    by_test : (t : Bool) → AreBytes (if t then take (length v - 1) v else v)
+    by_test true = bytes_take (length v - 1) v h
+    by_test false = h
+
+unpadded_short : (vr : Vr) (v : List ℕ) → length (unpadded vr v) ≤ length v
+unpadded_short vr v = by_test (drops_pad vr v)
+  where
+    by_test : (t : Bool) → length (if t then take (length v - 1) v else v) ≤ length v
+    by_test true = let size = length-take (length v - 1) v in omega arith
+    by_test false = omega arith
+
+-- ---- what a text reads as
+
+fits : (v : List ℕ) → length v ≤ 16384 → within_limit v ≡ Some v
+fits v short = by_test (nat_le (length v) 65536) (grind (arith, nat_tests, short))
+  where
+    by_test : (t : Bool) → t ≡ true → (if t then Some v else None) ≡ Some v
+    by_test true e = refl
+    by_test false e = absurd (cc)
+
+text_read : (v : List ℕ) → AreBytes v → length v ≤ 16384 → (if is_no_value (bracketed v) then Some [] else (text_value (bracketed v) >>= within_limit)) ≡ Some v
+text_read v bytes short = ap (λ o. o >>= within_limit) (text_back v bytes) ∙ fits v short
+
+uid_read : (v : List ℕ) → AreBytes v → length v ≤ 16384 → (if is_no_value (identified v) then Some [] else (uid_value (identified v) >>= within_limit)) ≡ Some v
+uid_read v bytes short = by_test (is_no_value (identified v)) refl
+  where
+    by_test : (t : Bool) → is_no_value (identified v) ≡ t → (if t then Some [] else (uid_value (identified v) >>= within_limit)) ≡ Some v
+    by_test true e =
+        let same : identified v ≡ codes "(no value available)" = (bytes_eq-Decides (identified v) (codes "(no value available)")).0 e in
+        let no : Some v ≡ None = sym (uid_back v bytes) ∙ ap uid_value same in
+        absurd (cc)
+    by_test false e = ap (λ o. o >>= within_limit) (uid_back v bytes) ∙ fits v short
+
+abbrev Reads : Vr → List ℕ → Type 0
+Reads vr v = value_of_text vr (display vr v) ≡ Some (unpadded vr v)
+
+module _ (vr : Vr) (b : ℕ) (v : List ℕ) (bytes : AreBytes (b ∷ v)) (short : length (b ∷ v) ≤ 16384) where
+  abbrev kept : List ℕ
+  kept = unpadded vr (b ∷ v)
+
+  kept_short : length kept ≤ 16384
+  kept_short = let less = unpadded_short vr (b ∷ v) in omega (arith, less, short)
+
+  of_text : (if is_no_value (bracketed kept) then Some [] else (text_value (bracketed kept) >>= within_limit)) ≡ Some kept
+  of_text = text_read kept (unpadded_bytes vr (b ∷ v) bytes) kept_short
+
+  of_uid : (if is_no_value (identified kept) then Some [] else (uid_value (identified kept) >>= within_limit)) ≡ Some kept
+  of_uid = uid_read kept (unpadded_bytes vr (b ∷ v) bytes) kept_short
+
+some_read : (vr : Vr) (b : ℕ) (v : List ℕ) → is_quoted_text vr ≡ true → AreBytes (b ∷ v) → length (b ∷ v) ≤ 16384 → Reads vr (b ∷ v)
+some_read UI b v q bytes short = of_uid UI b v bytes short
+some_read AE b v q bytes short = of_text AE b v bytes short
+some_read AS b v q bytes short = of_text AS b v bytes short
+some_read CS b v q bytes short = of_text CS b v bytes short
+some_read DA b v q bytes short = of_text DA b v bytes short
+some_read DS b v q bytes short = of_text DS b v bytes short
+some_read DT b v q bytes short = of_text DT b v bytes short
+some_read IS b v q bytes short = of_text IS b v bytes short
+some_read LO b v q bytes short = of_text LO b v bytes short
+some_read LT b v q bytes short = of_text LT b v bytes short
+some_read PN b v q bytes short = of_text PN b v bytes short
+some_read SH b v q bytes short = of_text SH b v bytes short
+some_read ST b v q bytes short = of_text ST b v bytes short
+some_read TM b v q bytes short = of_text TM b v bytes short
+some_read UC b v q bytes short = of_text UC b v bytes short
+some_read UR b v q bytes short = of_text UR b v bytes short
+some_read UT b v q bytes short = of_text UT b v bytes short
+some_read _ b v q bytes short = absurd (cc)
+
+none_read : (vr : Vr) → is_quoted_text vr ≡ true → value_of_text vr (display vr []) ≡ Some []
+none_read UI q = refl
+none_read AE q = refl
+none_read AS q = refl
+none_read CS q = refl
+none_read DA q = refl
+none_read DS q = refl
+none_read DT q = refl
+none_read IS q = refl
+none_read LO q = refl
+none_read LT q = refl
+none_read PN q = refl
+none_read SH q = refl
+none_read ST q = refl
+none_read TM q = refl
+none_read UC q = refl
+none_read UR q = refl
+none_read UT q = refl
+none_read _ q = absurd (cc)
+
+-- ---- cells
+
+quoted_cell : (vr : Vr) (value kept : List ℕ) (t : Bool) → t ≡ true → without_pads kept ≡ without_pads value → value_parts t AsItIs vr value ≡ some_bytes (quoted (without_pads kept)) ∷ []
+quoted_cell vr value kept true e same = ap (λ (bytes : List ℕ). some_bytes (quoted bytes) ∷ []) (sym same)
+quoted_cell vr value kept false e same = absurd (cc)
+
+pub cell_shown : (vr : Vr) (value : List ℕ) → is_quoted_text vr ≡ true → AreBytes value → length value ≤ 16384
+    → (read : List ℕ) × (value_of_text vr (display vr value) ≡ Some read) × (cell_parts AsItIs (whole vr value) ≡ some_bytes (quoted (without_pads read)) ∷ [])
+cell_shown vr [] q bytes short = ([], none_read vr q, quoted_cell vr [] [] (is_quoted_text vr) q refl)
+cell_shown vr (b ∷ v) q bytes short = (unpadded vr (b ∷ v), some_read vr b v q bytes short, quoted_cell vr (b ∷ v) (unpadded vr (b ∷ v)) (is_quoted_text vr) q (pads_same vr b v))
