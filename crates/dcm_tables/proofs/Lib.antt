@@ -9,3 +9,4 @@ pub mod OneRow
 pub mod SettledRows
 pub mod SureRows
 pub mod ShownCells
+pub mod RowDone

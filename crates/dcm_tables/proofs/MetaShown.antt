@@ -130,29 +130,26 @@ place_of_first u size =
     ap (λ (x : List ℕ). (head_read x).place) whole ∙ place_there (take 131 u) last.0 (omega arith)
 
 no_file_place : (file : List ℕ) (preamble prefix rest : List ℕ) → file ≡ preamble ++ (prefix ++ rest) → length preamble ≡ 128 → length prefix ≡ 4 → (prefix ≡ PREFIX → ⊥) → (head_read file).place ≡ 132
-no_file_place file preamble prefix rest parts long four other = by_cases (described u)
+no_file_place file preamble prefix rest parts long four other = by_cases (described (preamble ++ prefix))
   where
-    abbrev u : List ℕ
-    u = preamble ++ prefix
+    there : take 4 (drop 128 (preamble ++ prefix)) ≡ prefix
+    there = fourth (preamble ++ prefix) preamble prefix [] (ap (λ (x : List ℕ). preamble ++ x) (sym (append-nil prefix))) long four
 
-    there : take 4 (drop 128 u) ≡ prefix
-    there = fourth u preamble prefix [] (ap (λ (x : List ℕ). preamble ++ x) (sym (append-nil prefix))) long four
-
-    size : length u ≡ 132
+    size : length (preamble ++ prefix) ≡ 132
     size = let all = length-append preamble prefix in omega arith
 
-    same : (r : Reading) (end : MetaEnd) → r ≡ head_read u → r.end ≡ Some end → head_read file ≡ r
+    same : (r : Reading) (end : MetaEnd) → r ≡ head_read (preamble ++ prefix) → r.end ≡ Some end → head_read file ≡ r
     same r end is e =
         ap head_read (parts ∙ sym (append_assoc preamble prefix rest))
-        ∙ fold-append meta_step at_start u rest
+        ∙ fold-append meta_step at_start (preamble ++ prefix) rest
         ∙ ap (λ (x : Reading). fold meta_step x rest) (sym is)
         ∙ stays r end rest e
 
-    by_cases : Described (head_read u) u → (head_read file).place ≡ 132
+    by_cases : Described (head_read (preamble ++ prefix)) (preamble ++ prefix) → (head_read file).place ≡ 132
     by_cases (before few is) = absurd (omega (arith, few, size))
-    by_cases (within w) = absurd (other (sym there ∙ fourth u w.preamble PREFIX (w.group ++ w.rest) w.parts w.long refl))
-    by_cases (no_file n) = ap (λ (x : Reading). x.place) (same (head_read u) _ refl n.end_is) ∙ place_of_first u size
-    by_cases (over o) = absurd (other (sym there ∙ fourth u o.preamble PREFIX (o.group ++ o.rest) o.parts o.long refl))
+    by_cases (within w) = absurd (other (sym there ∙ fourth (preamble ++ prefix) w.preamble PREFIX (w.group ++ w.rest) w.parts w.long refl))
+    by_cases (no_file n) = ap (λ (x : Reading). x.place) (same (head_read (preamble ++ prefix)) _ refl n.end_is) ∙ place_of_first (preamble ++ prefix) size
+    by_cases (over o) = absurd (other (sym there ∙ fourth (preamble ++ prefix) o.preamble PREFIX (o.group ++ o.rest) o.parts o.long refl))
 
 -- ---- any file
 

@@ -40,7 +40,7 @@ use Rattle.dcm_cli.proofs.Runs.Stopping.{began_gave}
 use Rattle.dcm_tables.specs.declared.file.FileEnd.{FileEnd}
 use Rattle.dcm_tables.specs.declared.file.FileEnd.TheVariants.{Read, Unread}
 use Rattle.dcm_tables.specs.Files.{ReadsFile, ReadsTable, TakesMeta, no_set, not_read, set_read, set_end}
-use Rattle.dcm_tables.specs.Laws.{Comes, DecidesRow}
+use Rattle.dcm_tables.specs.Deciding.{Comes, DecidesRow}
 use Rattle.dcm_tables.specs.RowOf.{RowOf, of_meta, of_set, IsUndecided, in_meta, in_set, end_of}
 use Rattle.dcm_tables.proofs.MetaShown.{Shown, shown}
 use Rattle.dcm_tables.proofs.TableReads.{SetTaken, taken, not_taken, set_taken, set_undecided}
@@ -166,7 +166,7 @@ module _ (columns : List Tag) (read : List ℕ) (how : How) (buffer : List ℕ) 
     -- or reading failed
     row_unread : (new : State) (end : FileEnd) (count : ℕ) (ending : Ending) → end ≡ Unread count → end ≡ set_end ending
         → SetTaken greatest (meta_slots columns p.m.elements) (meta_settles columns p.m.elements) coding.syntax (set_at p.group) (small (more ++ rest) ok) (buffered ++ more) rest new ending
-        → (driven table_bar_of next t coding.syntax m.place (buffered ++ more)).0.halt ≡ None × (count ≡ length (read ++ more))
+        → ((driven table_bar_of next t coding.syntax m.place (buffered ++ more)).0.halt ≡ None) × (count ≡ length (read ++ more))
     row_unread new end count ending is said (taken f stop reads filled came) = absurd (unread_not_read end count ending stop is said came)
     row_unread new end count ending is said (not_taken none came) =
         let there : (driven table_bar_of next t coding.syntax m.place (buffered ++ more)).0.halt ≡ None =

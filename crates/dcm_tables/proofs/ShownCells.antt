@@ -42,15 +42,12 @@ is_same b c e = grind (arith, nat_tests, e)
 pads_same : (vr : Vr) (b : ℕ) (v : List ℕ) → without_pads (unpadded vr (b ∷ v)) ≡ without_pads (b ∷ v)
 pads_same vr b v = by_test (drops_pad vr (b ∷ v)) refl
   where
-    abbrev w : List ℕ
-    w = b ∷ v
-
-    by_test : (t : Bool) → drops_pad vr w ≡ t → without_pads (if t then take (length w - 1) w else w) ≡ without_pads w
+    by_test : (t : Bool) → drops_pad vr (b ∷ v) ≡ t → without_pads (if t then take (length (b ∷ v) - 1) (b ∷ v) else (b ∷ v)) ≡ without_pads (b ∷ v)
     by_test false e = refl
     by_test true e =
-        let same : slice_index w (length w - 1) ≡ pad vr = is_same _ _ (first_of (length w % 2 == 0) (slice_index w (length w - 1) == pad vr) e) in
-        let padded : is_pad (get_or w (length w - 1) 0) ≡ true = ap is_pad same ∙ pad_is (is_text vr) in
-        sym (pads_taken w (length w) (omega arith) (omega arith) padded) ∙ ap without_pads (take_all (length w) w (omega arith))
+        let same : slice_index (b ∷ v) (length (b ∷ v) - 1) ≡ pad vr = is_same _ _ (first_of (length (b ∷ v) % 2 == 0) (slice_index (b ∷ v) (length (b ∷ v) - 1) == pad vr) e) in
+        let padded : is_pad (get_or (b ∷ v) (length (b ∷ v) - 1) 0) ≡ true = ap is_pad same ∙ pad_is (is_text vr) in
+        sym (pads_taken (b ∷ v) (length (b ∷ v)) (omega arith) (omega arith) padded) ∙ ap without_pads (take_all (length (b ∷ v)) (b ∷ v) (omega arith))
 
 unpadded_bytes : (vr : Vr) (v : List ℕ) → AreBytes v → AreBytes (unpadded vr v)
 unpadded_bytes vr v h = by_test (drops_pad vr v)

@@ -1,11 +1,13 @@
 -- The statements of the laws.
-use Rattle.std.specs.Prelude.{◌≡◌, ◌<◌, ◌≤◌, ℕ, List, [], ◌∷◌, ◌++◌, length, true, Some}
+use Rattle.std.specs.Prelude.{◌≡◌, ◌<◌, ◌≤◌, ℕ, List, [], ◌∷◌, ◌++◌, length, true, Result, Some}
 use Rattle.dcm_base.specs.declared.tag.Tag.{Tag}
 use Rattle.dcm_base.specs.declared.vr.Vr.{Vr}
 use Rattle.dcm_base.specs.Dump.ValueText.{display}
 use Rattle.dcm_base.specs.Lines.ReadValue.{value_of_text}
 use Rattle.dcm_base.specs.Tables.Number.{AreBytes}
 use Rattle.dcm_base.specs.Tables.Transfer.{without_pads}
+use Rattle.dcm_devices.specs.declared.device.WriteFailed.{WriteFailed}
+use Rattle.dcm_devices.specs.Writing.{Writer}
 use Rattle.dcm_table.specs.declared.ending.RowEnd.{RowEnd}
 use Rattle.dcm_table.specs.declared.ending.RowEnd.TheVariants.{Decided}
 use Rattle.dcm_table.specs.declared.quoted.TextForm.{TextForm}
@@ -17,28 +19,14 @@ use Rattle.dcm_table.specs.Row.{cell_parts, is_quoted_text, row_parts}
 use Rattle.dcm_table.specs.Shown.{settled_slots}
 use Rattle.dcm_table.specs.TableSink.{Slot, State, begun}
 use Rattle.dcm_cli.specs.Calls.{Reader}
-use Rattle.dcm_cli.specs.InputCalls.{How, Allows, ReadsInput}
+use Rattle.dcm_cli.specs.Change.{Change}
 use Rattle.dcm_tables.specs.declared.file.FileEnd.{FileEnd}
-use Rattle.dcm_tables.specs.declared.file.FileEnd.TheVariants.{Read, Unread}
+use Rattle.dcm_tables.specs.Deciding.{DecidesRow, DoesRow}
 use Rattle.dcm_tables.specs.Files.{ReadsFile}
 use Rattle.dcm_tables.specs.RowOf.{RowOf, IsUndecided}
-use Rattle.dcm_tables.specs.Rows.{file_lines, file_status}
+use Rattle.dcm_tables.specs.Rows.{DoesFile, file_lines, file_status}
 
 -- ---- what was read of a file
-
--- each file that begins with these bytes, and may go on so, has these cells and this end; or reading failed after them,
--- where more bytes could still change that
-abbrev pub Comes : (columns : List Tag) → (given : List ℕ) → How → (cells : List Slot) → FileEnd → Type 0
-Comes columns given how cells (Read end) = (rest : List ℕ) → Allows how rest → RowOf columns (given ++ rest) cells end
-Comes columns given how cells (Unread count) = IsUndecided columns given × (count ≡ length given)
-
--- a file was read by such calls, each of them only where more bytes could still change how the reading ends
-pub record DecidesRow {R : Type 0} (r : Reader R) (before after : R) (columns : List Tag) (cells : List Slot)
-    (end : FileEnd) : Type 0 where
-  pub given : List ℕ
-  pub how : How
-  pub reads : ReadsInput r (IsUndecided columns) before given how after
-  pub comes : Comes columns given how cells end
 
 -- what is read of a file decides its row
 abbrev pub RowIsRead : {R : Type 0} → Reader R → Type 0
@@ -46,6 +34,14 @@ RowIsRead {R} r =
     (columns : List Tag) (before after : R) (cells : State) (end : FileEnd)
     → ReadsFile r before after (begun columns) cells end
     → DecidesRow r before after columns (settled_slots cells.slots) end
+
+-- so does what is done with it
+abbrev pub RowIsDone : {R W : Type 0} → Reader R → Writer W → Type 0
+RowIsDone {R} {W} r w =
+    (columns : List Tag) (form : TextForm) (name : List ℕ) (errors : Change) (from to : W) (before : R)
+    (result : Result ℕ WriteFailed) (after : R)
+    → DoesFile r w (begun columns) form name errors from to before result after
+    → DoesRow r w columns form name errors from to before result after
 
 -- a value that is not whole is not written, and not reported
 abbrev pub RowIsSettled : Type 0

@@ -1,8 +1,8 @@
 //! Laws of the definitions. Each function takes nothing and makes no call: its contract is the law.
-ghost use Rattle.dcm_tables.specs.Laws.{CellIsShown, DecidedIsSure, RowIsDecided, RowIsOne, RowIsRead, RowIsSettled, RowIsSome};
-ghost use Rattle.dcm_tables.specs.Laws.{RowStays};
+ghost use Rattle.dcm_tables.specs.Laws.{CellIsShown, DecidedIsSure, RowIsDecided, RowIsDone, RowIsOne, RowIsRead};
+ghost use Rattle.dcm_tables.specs.Laws.{RowIsSettled, RowIsSome, RowStays};
 
-use dcm_base::DeviceIn;
+use dcm_base::{DeviceIn, DeviceOut};
 
 /// A file has at most one row: its bytes determine the cells and how the reading ends.
 pub fn row_is_one()
@@ -29,6 +29,11 @@ pub fn row_is_decided()
 /// What is read of a file decides its row. It is read no further than that needs.
 pub fn row_is_read<R: DeviceIn>()
     ensures { RowIsRead R.DeviceIn }
+{}
+
+/// What is done with a file is what its row says, and that is decided by what was read of it.
+pub fn row_is_done<R: DeviceIn, W: DeviceOut>()
+    ensures { RowIsDone R.DeviceIn W.DeviceOut }
 {}
 
 /// A value that is not whole is not written and not reported.
