@@ -1,8 +1,7 @@
 -- The elements of a meta group that are whole, by what the reading of a file's head has found.
-use Rattle.std.proofs.Common.{◌≡◌, ◌≢◌, ◌∙◌, ap, sym, subst, refl, ℕ, ◌+◌, ◌-◌, ◌≤◌, ◌<◌, List, [], ◌∷◌, ◌++◌, append_assoc, length, length-append, length-drop, take, drop, Bool, true, false, cond, nat_eq, nat_lt, Option, Some, None, inl, inr, arith, eq-eqb}
-use Rattle.std.specs.Prelude.{fold, bytes_eq, ◌⊎◌}
+use Rattle.std.proofs.Common.{◌≡◌, ◌∙◌, ap, sym, subst, refl, ℕ, ◌+◌, ◌-◌, ◌≤◌, ◌<◌, List, [], ◌∷◌, ◌++◌, append_assoc, length, length-append, length-drop, take, drop, Bool, true, false, cond, nat_eq, nat_lt, Option, Some, None, inl, inr, arith, eq-eqb}
+use Rattle.std.specs.Prelude.{fold, bytes_eq}
 use Rattle.std.proofs.lemmas.Bool.{le-ltb}
-use Rattle.std.proofs.lemmas.Bool.Decides.{leb_tells}
 use Rattle.std.proofs.lemmas.Slice.Eq.{bytes_eq-Decides}
 use Rattle.std.proofs.lemmas.List.{take_at, drop_at, length-take, take-append-drop, append-nil}
 use Rattle.std.proofs.lemmas.List.Sums.{fold-append}
@@ -10,13 +9,12 @@ use Rattle.dcm_base.specs.declared.fault.Fault.TheVariants.{EndsEarly, NoPrefix}
 use Rattle.dcm_base.specs.Tables.Syntax.{Little}
 use Rattle.dcm_base.specs.Tree.Tree.{Trees, no_tree}
 use Rattle.dcm_base.specs.Bytes.Spelling.{Spells}
-use Rattle.dcm_base.specs.File.MetaGroup.{AreMeta, GroupPlace, the_end, too_few, group_place, is_element}
+use Rattle.dcm_base.specs.File.MetaGroup.{AreMeta, group_place, is_element}
 use Rattle.dcm_base.specs.File.MetaReads.{PREFIX}
 use Rattle.dcm_head.specs.declared.meta_read.MetaEnd.{MetaEnd}
-use Rattle.dcm_head.specs.declared.meta_read.MetaEnd.TheVariants.{Refused}
 use Rattle.dcm_head.specs.MetaReading.{Reading, at_start, meta_step, meta_finished, finished_from, group_ended, refusing, group_of, step_from, at_place}
 use Rattle.dcm_head.specs.MetaReading as reading
-use Rattle.dcm_head.proofs.HeadReading.State.{Described, before, within, no_file, over, Within, Over, NoFile, early, described}
+use Rattle.dcm_head.proofs.HeadReading.State.{Described, before, within, no_file, over, early, described}
 use Rattle.dcm_head.proofs.HeadReading.Stays.{stays}
 use Rattle.dcm_head.proofs.MetaGroups.LastElement.{none_meta, none_spelled}
 use Rattle.dcm_head.proofs.MetaGroups.Places.{at_empty}

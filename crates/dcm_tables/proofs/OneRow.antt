@@ -1,15 +1,14 @@
 -- A file has one row.
-use Rattle.std.proofs.Common.{◌≡◌, ◌∙◌, ap, sym, subst, refl, ℕ, ◌+◌, ◌≤◌, List, length, drop, true, false, arith}
+use Rattle.std.proofs.Common.{◌≡◌, ◌∙◌, ap, sym, subst, refl, ℕ, List, drop, true, false, arith}
 use Rattle.dcm_base.specs.declared.tag.Tag.{Tag}
 use Rattle.dcm_base.specs.declared.fault.Fault.{Fault}
-use Rattle.dcm_base.specs.declared.fault.Stop.{Stop as HaltStop}
 use Rattle.dcm_base.specs.declared.syntax.Coding.{Coding}
 use Rattle.dcm_base.specs.declared.dictionary.Dictionary.TheVariants.{Standard}
 use Rattle.dcm_base.specs.Tables.Syntax.{coding_by}
 use Rattle.dcm_base.specs.Tree.Front.{Front}
 use Rattle.dcm_base.specs.Tree.Tree.{Trees}
 use Rattle.dcm_base.specs.File.MetaReads.{Meta, MetaAnswer, MetaReads, begins, refused as meta_refused}
-use Rattle.dcm_base.specs.Reading.Reads.{INPUT_LIMIT, Reads}
+use Rattle.dcm_base.specs.Reading.Reads.{Reads}
 use Rattle.dcm_base.specs.Reading.Stop.{Stop}
 use Rattle.dcm_base.proofs.DataSets.OneAnswer.{reads_once}
 use Rattle.dcm_head.specs.MetaReading.{meta_finished}
@@ -76,8 +75,7 @@ one_set columns bytes m n g h c d f k stop other x y =
 
 pub one_row : (columns : List Tag) (bytes : List ℕ) (cells others : List Slot) (end other : RowEnd) → RowOf columns bytes cells end → RowOf columns bytes others other → (cells ≡ others) × (end ≡ other)
 one_row columns bytes cells others end other (of_meta f n e head shows c x) (of_meta f' n' e' head' shows' c' x') =
-    let same = refused_alike f f' n n' (one_meta bytes (meta_refused f n) (meta_refused f' n') head head') in
-    (
+    let same = refused_alike f f' n n' (one_meta bytes (meta_refused f n) (meta_refused f' n') head head') in (
       c ∙ ap (meta_slots columns) (shows_once bytes e e' shows shows') ∙ sym c',
       x ∙ (λ i. Refused (record { fault = same.0 i; at = same.1 i })) ∙ sym x',
     )
@@ -86,8 +84,7 @@ one_row columns bytes cells others end other (of_meta f n e head shows c x) (of_
 one_row columns bytes cells others end other (of_set m group coding set stop k c' x') (of_meta f n e head shows c x) =
     absurd (never_begins f n m group k.head.named (one_meta bytes (meta_refused f n) (begins m group k.head.named) head k.head.head))
 one_row columns bytes cells others end other (of_set m g coding f stop k c x) (of_set m' g' coding' f' stop' k' c' x') =
-    let one = one_set columns bytes m m' g g' coding coding' f f' stop stop' k k' in
-    (
+    let one = one_set columns bytes m m' g g' coding coding' f f' stop stop' k k' in (
       c ∙ (λ i. (let d : Coding = one.codings i in let n : Meta = one.metas i in slots_with d.syntax (one.fronts i) (meta_slots columns n.elements))) ∙ sym c',
       x ∙ ap end_of one.stops ∙ sym x',
     )

@@ -1,5 +1,5 @@
 -- What is done with a file, by its bytes.
-use Rattle.std.proofs.Common.{◌≡◌, ◌∙◌, ap, sym, subst, ℕ, List}
+use Rattle.std.proofs.Common.{◌∙◌, ap, sym, subst, ℕ, List}
 use Rattle.std.specs.Prelude.{Result, Ok}
 use Rattle.dcm_base.specs.declared.tag.Tag.{Tag}
 use Rattle.dcm_devices.specs.declared.device.WriteFailed.{WriteFailed}

@@ -1,6 +1,6 @@
 -- What was read of a file, and its row.
-use Rattle.std.proofs.Common.{◌≡◌, ◌∙◌, ap, sym, subst, refl, ℕ, ◌+◌, ◌≤◌, List, [], ◌∷◌, ◌++◌, append_assoc, append-nil, length, length-append, drop, true, false, Option, Some, None, inl, inr, arith}
-use Rattle.std.specs.Prelude.{fold, ◌⊎◌, Result, Ok, Err}
+use Rattle.std.proofs.Common.{◌≡◌, ◌∙◌, ap, sym, subst, refl, ℕ, ◌≤◌, List, [], ◌∷◌, ◌++◌, append_assoc, append-nil, length, length-append, drop, Some, None, inl, inr, arith}
+use Rattle.std.specs.Prelude.{◌⊎◌, Ok}
 use Rattle.std.proofs.lemmas.List.{drop-append-le}
 use Rattle.dcm_base.specs.declared.tag.Tag.{Tag}
 use Rattle.dcm_base.specs.declared.fault.Stop.{Stop as HaltStop}
@@ -12,8 +12,7 @@ use Rattle.dcm_base.specs.Tree.Tree.{Trees}
 use Rattle.dcm_base.specs.Bytes.Spelling.{Spells}
 use Rattle.dcm_base.specs.File.MetaGroup.{AreMeta}
 use Rattle.dcm_base.specs.Reading.Reads.{INPUT_LIMIT, Reads}
-use Rattle.dcm_base.specs.Reading.Stop.{Stop, is_undecided}
-use Rattle.dcm_head.specs.declared.meta_read.MetaEnd.{MetaEnd}
+use Rattle.dcm_base.specs.Reading.Stop.{Stop}
 use Rattle.dcm_head.specs.declared.meta_read.MetaEnd.TheVariants as meta_ends
 use Rattle.dcm_head.specs.MetaReading.{Reading as HeadReading, group_of, meta_finished}
 use Rattle.dcm_stream.specs.Driven.{driven}
@@ -21,7 +20,7 @@ use Rattle.dcm_stream.specs.Reading.{start_of}
 use Rattle.dcm_table.specs.declared.ending.RowEnd.{RowEnd}
 use Rattle.dcm_table.specs.declared.ending.RowEnd.TheVariants as rows
 use Rattle.dcm_table.specs.Columns.{greatest_of}
-use Rattle.dcm_table.specs.Shown.{AllSettled, meta_slots, settled_slots, slots_with, table_bar}
+use Rattle.dcm_table.specs.Shown.{AllSettled, meta_slots, settled_slots, table_bar}
 use Rattle.dcm_table.specs.TableSink.{Slot, State, begun, next, writes, table_bar_of}
 use Rattle.dcm_table.proofs.Inside.{at}
 use Rattle.dcm_table.proofs.MetaCells.{meta_fills, meta_settles}
@@ -29,8 +28,8 @@ use Rattle.dcm_cli.specs.declared.ending.Ending.{Ending}
 use Rattle.dcm_cli.specs.declared.ending.Ending.TheVariants as endings
 use Rattle.dcm_cli.specs.declared.ending.HeadEnding.TheVariants as heads
 use Rattle.dcm_cli.specs.declared.head.Beginning.{Beginning}
-use Rattle.dcm_cli.specs.Answer.{HeadIs, set_at}
-use Rattle.dcm_cli.specs.InputCalls.{Reader, How, in_part, to_end, Allows, ReadsInput}
+use Rattle.dcm_cli.specs.Answer.{set_at}
+use Rattle.dcm_cli.specs.InputCalls.{Reader, How, to_end, Allows}
 use Rattle.dcm_cli.specs.Opening.{HeadRead}
 use Rattle.dcm_cli.specs.Pass.{Begins, Ends, FailsHead, HeadGoesOn, HeadReads, SetGoesOn, head_read, set_bytes}
 use Rattle.dcm_cli.proofs.Passes.MetaHeads.{Opened, not_opened, ended_stays, finished_same, goes_on_still}
@@ -42,7 +41,7 @@ use Rattle.dcm_tables.specs.declared.file.FileEnd.TheVariants.{Read, Unread}
 use Rattle.dcm_tables.specs.Files.{ReadsFile, ReadsTable, TakesMeta, no_set, not_read, set_read, set_end}
 use Rattle.dcm_tables.specs.Deciding.{Comes, DecidesRow}
 use Rattle.dcm_tables.specs.RowOf.{RowOf, of_meta, of_set, IsUndecided, in_meta, in_set, end_of}
-use Rattle.dcm_tables.proofs.MetaShown.{Shown, shown}
+use Rattle.dcm_tables.proofs.MetaShown.{shown}
 use Rattle.dcm_tables.proofs.TableReads.{SetTaken, taken, not_taken, set_taken, set_undecided}
 
 -- ---- cells that are settled

@@ -1,18 +1,16 @@
 -- The text of a cell is what a dump shows of its value.
-use Rattle.std.proofs.Common.{◌≡◌, ◌∙◌, ap, sym, subst, refl, ℕ, suc, ◌+◌, ◌-◌, ◌%◌, ◌≤◌, ◌<◌, List, [], ◌∷◌, ◌++◌, length, take, Bool, true, false, get_or, Option, Some, None, arith, codes}
-use Rattle.std.specs.Prelude.{◌==◌, ◌&&◌, nat_le, slice_index, bytes_eq, if◌then◌else◌}
-use Rattle.std.specs.Option.{option_map_or}
+use Rattle.std.proofs.Common.{◌≡◌, ◌∙◌, ap, sym, refl, ℕ, ◌-◌, ◌%◌, ◌≤◌, List, [], ◌∷◌, length, take, Bool, true, false, get_or, Some, None, arith, codes}
+use Rattle.std.specs.Prelude.{◌==◌, ◌&&◌, nat_le, slice_index, if◌then◌else◌}
 use Rattle.std.proofs.lemmas.Bool.Decides.{nat_tests}
 use Rattle.std.proofs.lemmas.List.{take_all, length-take}
 use Rattle.std.proofs.lemmas.Slice.Eq.{bytes_eq-Decides}
 use Rattle.dcm_base.specs.declared.vr.Vr.{Vr}
 use Rattle.dcm_base.specs.declared.vr.Vr.TheVariants.{AE, AS, CS, DA, DS, DT, IS, LO, LT, PN, SH, ST, TM, UC, UI, UR, UT}
-use Rattle.dcm_base.specs.Dump.ValueText.{Shape, text, identifier, bracketed, display, identified, unpadded}
+use Rattle.dcm_base.specs.Dump.ValueText.{bracketed, display, identified, unpadded}
 use Rattle.dcm_base.specs.Lines.ReadValue.{◌>>=◌, is_no_value, text_value, uid_value, value_of_text, within_limit}
 use Rattle.dcm_base.specs.Tables.Number.{AreBytes}
 use Rattle.dcm_base.specs.Tables.Representation.{is_text, pad}
 use Rattle.dcm_base.specs.Tables.Transfer.{is_pad, without_pads}
-use Rattle.dcm_base.specs.Tables.Uid.{uid_name}
 use Rattle.dcm_head.proofs.MetaGroups.Transfers.{pads_taken}
 use Rattle.dcm_value.proofs.ReadBack.Texts.{text_back, uid_back}
 use Rattle.dcm_value.proofs.ReadBack.Units.{bytes_take}

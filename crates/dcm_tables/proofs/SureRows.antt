@@ -1,5 +1,5 @@
 -- Which bytes of a file decide its row.
-use Rattle.std.proofs.Common.{◌≡◌, ◌∙◌, ap, sym, subst, refl, ℕ, suc, ◌+◌, ◌≤◌, ◌<◌, List, [], ◌∷◌, ◌++◌, append_assoc, append-nil, length, length-append, take, drop, nat_eq, Bool, true, false, Option, Some, None, inl, inr, arith}
+use Rattle.std.proofs.Common.{◌≡◌, ◌∙◌, ap, sym, subst, refl, ℕ, ◌+◌, ◌≤◌, ◌<◌, List, [], ◌∷◌, ◌++◌, append_assoc, append-nil, length, length-append, take, drop, nat_eq, true, false, Option, Some, None, inl, inr, arith}
 use Rattle.std.specs.Prelude.{codes, fold, ◌⊎◌}
 use Rattle.std.proofs.lemmas.Bool.Decides.{leb_tells, nat_tests}
 use Rattle.std.proofs.lemmas.List.{take_at, take_all, take-append-le, drop-append-le, drop_all, take-append-drop}
@@ -9,12 +9,12 @@ use Rattle.dcm_base.specs.declared.fault.Fault.TheVariants as faults
 use Rattle.dcm_base.specs.declared.fault.Stop.{Stop as HaltStop}
 use Rattle.dcm_base.specs.declared.syntax.Coding.{Coding}
 use Rattle.dcm_base.specs.declared.dictionary.Dictionary.TheVariants.{Standard}
-use Rattle.dcm_base.specs.Tables.Syntax.{Little, coding_by}
+use Rattle.dcm_base.specs.Tables.Syntax.{Little}
 use Rattle.dcm_base.specs.Tree.Front.{Front}
 use Rattle.dcm_base.specs.Tree.Tree.{Trees}
 use Rattle.dcm_base.specs.Bytes.Spelling.{Spells}
 use Rattle.dcm_base.specs.File.MetaGroup.{AreMeta}
-use Rattle.dcm_base.specs.File.MetaReads.{Meta, MetaAnswer, MetaReads, begins, refused as meta_refused, is_undecided as meta_undecided}
+use Rattle.dcm_base.specs.File.MetaReads.{Meta, begins, is_undecided as meta_undecided}
 use Rattle.dcm_base.specs.Reading.Reads.{INPUT_LIMIT, Reads}
 use Rattle.dcm_base.specs.Reading.Stop.{Stop, complete, refused, is_early, is_undecided}
 use Rattle.dcm_base.proofs.DataSets.OneAnswer.{reads_once}
@@ -25,7 +25,6 @@ use Rattle.dcm_head.specs.MetaReading.{Reading as HeadReading, HasEnded, group_o
 use Rattle.dcm_head.proofs.HeadReading.State.{Described, before, within, no_file, over, described}
 use Rattle.dcm_head.proofs.MetaGroups.OneMeta.{one_meta}
 use Rattle.dcm_stream.specs.Driven.{driven}
-use Rattle.dcm_stream.specs.Reading.{finish}
 use Rattle.dcm_table.specs.declared.ending.RowEnd.{RowEnd}
 use Rattle.dcm_table.specs.declared.ending.RowEnd.TheVariants as rows
 use Rattle.dcm_table.specs.declared.ending.RowEnd.TheVariants.{Decided}
@@ -36,13 +35,13 @@ use Rattle.dcm_table.specs.Shown.{meta_slots, settled_slots, slots_with, table_b
 use Rattle.dcm_table.specs.TableSink.{Slot, State, begun, next, table_bar_of}
 use Rattle.dcm_table.proofs.Inside.{at}
 use Rattle.dcm_table.proofs.MetaCells.{meta_settles}
-use Rattle.dcm_cli.specs.Answer.{HeadIs, set_at}
+use Rattle.dcm_cli.specs.Answer.{set_at}
 use Rattle.dcm_cli.specs.Pass.{head_read}
 use Rattle.dcm_cli.proofs.Passes.MetaHeads.{Opened, opened, one_head as same_opened, ended_stays, finished_same, group_spelled}
 use Rattle.dcm_tables.specs.Laws.{Decides}
 use Rattle.dcm_tables.specs.RowOf.{ShowsSet, RowOf, of_meta, of_set, IsUndecided, in_meta, in_set, end_of}
-use Rattle.dcm_tables.proofs.MetaShown.{Shown, shown}
-use Rattle.dcm_tables.proofs.OneRow.{one_row, one_head, one_set}
+use Rattle.dcm_tables.proofs.MetaShown.{shown}
+use Rattle.dcm_tables.proofs.OneRow.{one_row, one_set}
 use Rattle.dcm_tables.proofs.RowReads.{head_undecided, refused_row}
 use Rattle.dcm_tables.proofs.TableReads.{table_halts, table_refuses, set_undecided}
 

@@ -1,16 +1,14 @@
 -- A machine with the cells of a table over the bytes of a data set.
 use Rattle.std.proofs.Common.{◌≡◌, ◌∙◌, ap, sym, subst, refl, ℕ, zero, suc, ◌+◌, ◌≤◌, List, [], ◌∷◌, ◌++◌, length, Bool, true, false, Option, Some, None, inl, inr, arith}
-use Rattle.std.specs.Prelude.{fold, ◌⊎◌, Ok, Err}
+use Rattle.std.specs.Prelude.{fold, ◌⊎◌}
 use Rattle.std.proofs.Math.Path.{fun_ext}
 use Rattle.std.proofs.lemmas.List.{append-nil}
 use Rattle.std.proofs.lemmas.List.Sums.{fold-append}
-use Rattle.std.specs.Io.KnownBytes.{IsAtEnd}
 use Rattle.dcm_base.specs.declared.tag.Tag.{Tag}
 use Rattle.dcm_base.specs.declared.vr.Vr.{Vr}
 use Rattle.dcm_base.specs.declared.length.Length.{Length}
 use Rattle.dcm_base.specs.declared.syntax.Syntax.{Syntax}
 use Rattle.dcm_base.specs.declared.fault.Fault.{Fault}
-use Rattle.dcm_base.specs.declared.fault.Stop.{Stop as HaltStop}
 use Rattle.dcm_base.specs.Tables.Tag.{below}
 use Rattle.dcm_base.specs.Tree.Front.{Front}
 use Rattle.dcm_base.specs.Steps.Atoms.{Atom, Shows, front_atoms}
@@ -34,8 +32,7 @@ use Rattle.dcm_table.proofs.BarCells.{bars_tell}
 use Rattle.dcm_table.proofs.Inside.{at}
 use Rattle.dcm_table.proofs.RowCells.{rows_fill}
 use Rattle.dcm_cli.specs.declared.ending.Ending.{Ending}
-use Rattle.dcm_cli.specs.declared.ending.Ending.TheVariants.{Worked, Unread, Output}
-use Rattle.dcm_cli.specs.declared.ending.Verdict.TheVariants.{Done, Refused}
+use Rattle.dcm_cli.specs.declared.ending.Ending.TheVariants.{Unread}
 use Rattle.dcm_cli.specs.Pass.{Ends, at_end, at_fault, halted, unread, unwritten, end_unwritten, after_bytes}
 use Rattle.dcm_tables.specs.declared.file.FileEnd.TheVariants.{Read}
 use Rattle.dcm_tables.specs.Files.{set_end}
