@@ -4,6 +4,8 @@ use Rattle.std.specs.Prelude.{◌==◌, ◌&&◌, nat_le, slice_index, if◌then
 use Rattle.std.proofs.lemmas.Bool.Decides.{nat_tests}
 use Rattle.std.proofs.lemmas.List.{take_all, length-take}
 use Rattle.std.proofs.lemmas.Slice.Eq.{bytes_eq-Decides}
+use Rattle.dcm_base.specs.declared.syntax.Syntax.{Syntax}
+use Rattle.dcm_base.specs.declared.tag.Tag.{Tag}
 use Rattle.dcm_base.specs.declared.vr.Vr.{Vr}
 use Rattle.dcm_base.specs.declared.vr.Vr.TheVariants.{AE, AS, CS, DA, DS, DT, IS, LO, LT, PN, SH, ST, TM, UC, UI, UR, UT}
 use Rattle.dcm_base.specs.Dump.ValueText.{bracketed, display, identified, unpadded}
@@ -15,10 +17,11 @@ use Rattle.dcm_head.proofs.MetaGroups.Transfers.{pads_taken}
 use Rattle.dcm_value.proofs.ReadBack.Texts.{text_back, uid_back}
 use Rattle.dcm_value.proofs.ReadBack.Units.{bytes_take}
 use Rattle.dcm_table.specs.declared.quoted.TextForm.TheVariants.{AsItIs}
-use Rattle.dcm_table.specs.Cell.{whole}
+use Rattle.dcm_table.specs.Cell.{too_long, whole}
 use Rattle.dcm_table.specs.Parts.{some_bytes}
 use Rattle.dcm_table.specs.Quoted.{quoted}
 use Rattle.dcm_table.specs.Row.{cell_parts, is_quoted_text, value_parts}
+use Rattle.dcm_table.specs.Shown.{leaf_cell}
 
 -- ---- pads
 
@@ -145,7 +148,41 @@ quoted_cell : (vr : Vr) (value kept : List ℕ) (t : Bool) → t ≡ true → wi
 quoted_cell vr value kept true e same = ap (λ (bytes : List ℕ). some_bytes (quoted bytes) ∷ []) (sym same)
 quoted_cell vr value kept false e same = absurd (cc)
 
-pub cell_shown : (vr : Vr) (value : List ℕ) → is_quoted_text vr ≡ true → AreBytes value → length value ≤ 16384
+-- the cell of a leaf that is a text is that text
+short_cell : (vr : Vr) (value : List ℕ) → length value ≤ 16384 → (if nat_le (length value) 16384 then whole vr value else too_long) ≡ whole vr value
+short_cell vr value short = by_test (nat_le (length value) 16384) (grind (arith, nat_tests, short))
+  where
+    by_test : (t : Bool) → t ≡ true → (if t then whole vr value else too_long) ≡ whole vr value
+    by_test true e = refl
+    by_test false e = absurd (cc)
+
+leaf_is : (s : Syntax) (tag : Tag) (vr : Vr) (value : List ℕ) → is_quoted_text vr ≡ true → length value ≤ 16384 → leaf_cell s tag vr value ≡ whole vr value
+leaf_is s tag UI value q short = short_cell UI value short
+leaf_is s tag AE value q short = short_cell AE value short
+leaf_is s tag AS value q short = short_cell AS value short
+leaf_is s tag CS value q short = short_cell CS value short
+leaf_is s tag DA value q short = short_cell DA value short
+leaf_is s tag DS value q short = short_cell DS value short
+leaf_is s tag DT value q short = short_cell DT value short
+leaf_is s tag IS value q short = short_cell IS value short
+leaf_is s tag LO value q short = short_cell LO value short
+leaf_is s tag LT value q short = short_cell LT value short
+leaf_is s tag PN value q short = short_cell PN value short
+leaf_is s tag SH value q short = short_cell SH value short
+leaf_is s tag ST value q short = short_cell ST value short
+leaf_is s tag TM value q short = short_cell TM value short
+leaf_is s tag UC value q short = short_cell UC value short
+leaf_is s tag UR value q short = short_cell UR value short
+leaf_is s tag UT value q short = short_cell UT value short
+leaf_is s tag _ value q short = absurd (cc)
+
+value_shown : (vr : Vr) (value : List ℕ) → is_quoted_text vr ≡ true → AreBytes value → length value ≤ 16384
     → (read : List ℕ) × (value_of_text vr (display vr value) ≡ Some read) × (cell_parts AsItIs (whole vr value) ≡ some_bytes (quoted (without_pads read)) ∷ [])
-cell_shown vr [] q bytes short = ([], none_read vr q, quoted_cell vr [] [] (is_quoted_text vr) q refl)
-cell_shown vr (b ∷ v) q bytes short = (unpadded vr (b ∷ v), some_read vr b v q bytes short, quoted_cell vr (b ∷ v) (unpadded vr (b ∷ v)) (is_quoted_text vr) q (pads_same vr b v))
+value_shown vr [] q bytes short = ([], none_read vr q, quoted_cell vr [] [] (is_quoted_text vr) q refl)
+value_shown vr (b ∷ v) q bytes short = (unpadded vr (b ∷ v), some_read vr b v q bytes short, quoted_cell vr (b ∷ v) (unpadded vr (b ∷ v)) (is_quoted_text vr) q (pads_same vr b v))
+
+pub cell_shown : (s : Syntax) (tag : Tag) (vr : Vr) (value : List ℕ) → is_quoted_text vr ≡ true → AreBytes value → length value ≤ 16384
+    → (read : List ℕ) × (value_of_text vr (display vr value) ≡ Some read) × (cell_parts AsItIs (leaf_cell s tag vr value) ≡ some_bytes (quoted (without_pads read)) ∷ [])
+cell_shown s tag vr value q bytes short =
+    let x = value_shown vr value q bytes short in
+    (x.0, x.1, ap (cell_parts AsItIs) (leaf_is s tag vr value q short) ∙ x.2)

@@ -1,5 +1,6 @@
 -- The statements of the laws.
 use Rattle.std.specs.Prelude.{◌≡◌, ◌<◌, ◌≤◌, ℕ, List, [], ◌∷◌, ◌++◌, length, true, Result, Some}
+use Rattle.dcm_base.specs.declared.syntax.Syntax.{Syntax}
 use Rattle.dcm_base.specs.declared.tag.Tag.{Tag}
 use Rattle.dcm_base.specs.declared.vr.Vr.{Vr}
 use Rattle.dcm_base.specs.Dump.ValueText.{display}
@@ -12,11 +13,11 @@ use Rattle.dcm_table.specs.declared.ending.RowEnd.{RowEnd}
 use Rattle.dcm_table.specs.declared.ending.RowEnd.TheVariants.{Decided}
 use Rattle.dcm_table.specs.declared.quoted.TextForm.{TextForm}
 use Rattle.dcm_table.specs.declared.quoted.TextForm.TheVariants.{AsItIs}
-use Rattle.dcm_table.specs.Cell.{CELL_LIMIT, whole}
+use Rattle.dcm_table.specs.Cell.{CELL_LIMIT}
 use Rattle.dcm_table.specs.Parts.{some_bytes}
 use Rattle.dcm_table.specs.Quoted.{quoted}
 use Rattle.dcm_table.specs.Row.{cell_parts, is_quoted_text, row_parts}
-use Rattle.dcm_table.specs.Shown.{settled_slots}
+use Rattle.dcm_table.specs.Shown.{leaf_cell, settled_slots}
 use Rattle.dcm_table.specs.TableSink.{Slot, State, begun}
 use Rattle.dcm_cli.specs.Calls.{Reader}
 use Rattle.dcm_cli.specs.Change.{Change}
@@ -92,10 +93,11 @@ DecidedIsSure =
 
 -- ---- cells of texts
 
--- a text, by its representation as it was read, is what the text of a full dump between the brackets stands for, without
--- the pads at its end
+-- the cell of an element that is a text, by its representation as it was read, is what its text in a full dump stands
+-- for, without the pads at its end
 abbrev pub CellIsShown : Type 0
 CellIsShown =
-    (vr : Vr) (value : List ℕ) → is_quoted_text vr ≡ true → AreBytes value → length value ≤ CELL_LIMIT
+    (s : Syntax) (tag : Tag) (vr : Vr) (value : List ℕ) → is_quoted_text vr ≡ true → AreBytes value
+    → length value ≤ CELL_LIMIT
     → (read : List ℕ) × (value_of_text vr (display vr value) ≡ Some read)
-    × (cell_parts AsItIs (whole vr value) ≡ some_bytes (quoted (without_pads read)) ∷ [])
+    × (cell_parts AsItIs (leaf_cell s tag vr value) ≡ some_bytes (quoted (without_pads read)) ∷ [])
