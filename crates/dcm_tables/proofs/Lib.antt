@@ -10,3 +10,4 @@ pub mod SettledRows
 pub mod SureRows
 pub mod ShownCells
 pub mod RowDone
+pub mod RowBytes

@@ -1,5 +1,5 @@
 -- The statements of the laws.
-use Rattle.std.specs.Prelude.{◌≡◌, ◌<◌, ◌≤◌, ℕ, List, [], ◌∷◌, ◌++◌, length, true, Result, Some}
+use Rattle.std.specs.Prelude.{◌≡◌, ◌<◌, ◌≤◌, ℕ, List, [], ◌∷◌, ◌++◌, length, true, Result, Some, IsUtf8}
 use Rattle.dcm_base.specs.declared.syntax.Syntax.{Syntax}
 use Rattle.dcm_base.specs.declared.tag.Tag.{Tag}
 use Rattle.dcm_base.specs.declared.vr.Vr.{Vr}
@@ -12,9 +12,9 @@ use Rattle.dcm_devices.specs.Writing.{Writer}
 use Rattle.dcm_table.specs.declared.ending.RowEnd.{RowEnd}
 use Rattle.dcm_table.specs.declared.ending.RowEnd.TheVariants.{Decided}
 use Rattle.dcm_table.specs.declared.quoted.TextForm.{TextForm}
-use Rattle.dcm_table.specs.declared.quoted.TextForm.TheVariants.{AsItIs}
+use Rattle.dcm_table.specs.declared.quoted.TextForm.TheVariants.{AsItIs, ValidUtf8}
 use Rattle.dcm_table.specs.Cell.{CELL_LIMIT}
-use Rattle.dcm_table.specs.Parts.{some_bytes}
+use Rattle.dcm_table.specs.Parts.{SpellsParts, some_bytes}
 use Rattle.dcm_table.specs.Quoted.{quoted}
 use Rattle.dcm_table.specs.Row.{cell_parts, is_quoted_text, row_parts}
 use Rattle.dcm_table.specs.Shown.{leaf_cell, settled_slots}
@@ -91,7 +91,13 @@ DecidedIsSure =
     (columns : List Tag) (bytes : List ℕ) (cells : List Slot) → RowOf columns bytes cells Decided
     → IsUndecided columns bytes → ⊥
 
--- ---- cells of texts
+-- ---- the text of a row
+
+-- the row of any file is valid UTF-8, where that is asked
+abbrev pub RowIsUtf8 : Type 0
+RowIsUtf8 =
+    (columns : List Tag) (name bytes : List ℕ) (cells : List Slot) (end : RowEnd) (text : List ℕ) → AreBytes name
+    → AreBytes bytes → RowOf columns bytes cells end → SpellsParts (row_parts ValidUtf8 name cells) text → IsUtf8 text
 
 -- the cell of an element that is a text, by its representation as it was read, is what its text in a full dump stands
 -- for, without the pads at its end

@@ -1,6 +1,6 @@
 //! Laws of the definitions. Each function takes nothing and makes no call: its contract is the law.
 ghost use Rattle.dcm_tables.specs.Laws.{CellIsShown, DecidedIsSure, RowIsDecided, RowIsDone, RowIsOne, RowIsRead};
-ghost use Rattle.dcm_tables.specs.Laws.{RowIsSettled, RowIsSome, RowStays};
+ghost use Rattle.dcm_tables.specs.Laws.{RowIsSettled, RowIsSome, RowIsUtf8, RowStays};
 
 use dcm_base::{DeviceIn, DeviceOut};
 
@@ -39,6 +39,11 @@ pub fn row_is_done<R: DeviceIn, W: DeviceOut>()
 /// A value that is not whole is not written and not reported.
 pub fn row_is_settled()
     ensures { RowIsSettled }
+{}
+
+/// The row of any file is valid UTF-8, where that is asked.
+pub fn row_is_utf8()
+    ensures { RowIsUtf8 }
 {}
 
 /// The cell of a text has, with its bytes as they are, what a full dump shows of the value between the brackets, its
