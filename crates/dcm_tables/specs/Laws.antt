@@ -99,8 +99,8 @@ RowIsUtf8 =
     (columns : List Tag) (name bytes : List ℕ) (cells : List Slot) (end : RowEnd) (text : List ℕ) → AreBytes name
     → AreBytes bytes → RowOf columns bytes cells end → SpellsParts (row_parts ValidUtf8 name cells) text → IsUtf8 text
 
--- the cell of an element that is a text, by its representation as it was read, is what its text in a full dump stands
--- for, without the pads at its end
+-- the cell of an element that is a text, by its representation as it was read, is the value that its text in a full dump
+-- means, without the pads at its end
 abbrev pub CellIsShown : Type 0
 CellIsShown =
     (s : Syntax) (tag : Tag) (vr : Vr) (value : List ℕ) → is_quoted_text vr ≡ true → AreBytes value
