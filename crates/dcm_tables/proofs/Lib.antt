@@ -2,3 +2,12 @@ pub mod FileReads
 pub mod LinesOut
 pub mod Made
 pub mod Names
+pub mod TableReads
+pub mod MetaShown
+pub mod RowReads
+pub mod OneRow
+pub mod SettledRows
+pub mod SureRows
+pub mod ShownCells
+pub mod RowDone
+pub mod RowBytes

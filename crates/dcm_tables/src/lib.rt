@@ -6,6 +6,7 @@
 #![tactic(auto)]
 
 mod file;
+pub mod laws;
 mod program;
 mod rows;
 mod table;

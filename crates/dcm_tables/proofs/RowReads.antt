@@ -1,0 +1,226 @@
+-- What was read of a file, and its row.
+use Rattle.std.proofs.Common.{◌≡◌, ◌∙◌, ap, sym, subst, refl, ℕ, ◌≤◌, List, [], ◌∷◌, ◌++◌, append_assoc, append-nil, length, length-append, drop, Some, None, inl, inr, arith}
+use Rattle.std.specs.Prelude.{◌⊎◌, Ok}
+use Rattle.std.proofs.lemmas.List.{drop-append-le}
+use Rattle.dcm_base.specs.declared.tag.Tag.{Tag}
+use Rattle.dcm_base.specs.declared.fault.Stop.{Stop as HaltStop}
+use Rattle.dcm_base.specs.declared.syntax.Coding.{Coding}
+use Rattle.dcm_base.specs.declared.dictionary.Dictionary.TheVariants.{Standard}
+use Rattle.dcm_base.specs.Tables.Syntax.{Little, coding_by}
+use Rattle.dcm_base.specs.Tree.Front.{Front}
+use Rattle.dcm_base.specs.Tree.Tree.{Trees}
+use Rattle.dcm_base.specs.Bytes.Spelling.{Spells}
+use Rattle.dcm_base.specs.File.MetaGroup.{AreMeta}
+use Rattle.dcm_base.specs.Reading.Reads.{INPUT_LIMIT, Reads}
+use Rattle.dcm_base.specs.Reading.Stop.{Stop}
+use Rattle.dcm_head.specs.declared.meta_read.MetaEnd.TheVariants as meta_ends
+use Rattle.dcm_head.specs.MetaReading.{Reading as HeadReading, group_of, meta_finished}
+use Rattle.dcm_stream.specs.Driven.{driven}
+use Rattle.dcm_stream.specs.Reading.{start_of}
+use Rattle.dcm_table.specs.declared.ending.RowEnd.{RowEnd}
+use Rattle.dcm_table.specs.declared.ending.RowEnd.TheVariants as rows
+use Rattle.dcm_table.specs.Columns.{greatest_of}
+use Rattle.dcm_table.specs.Shown.{AllSettled, meta_slots, settled_slots, table_bar}
+use Rattle.dcm_table.specs.TableSink.{Slot, State, begun, next, writes, table_bar_of}
+use Rattle.dcm_table.proofs.Inside.{at}
+use Rattle.dcm_table.proofs.MetaCells.{meta_fills, meta_settles}
+use Rattle.dcm_cli.specs.declared.ending.Ending.{Ending}
+use Rattle.dcm_cli.specs.declared.ending.Ending.TheVariants as endings
+use Rattle.dcm_cli.specs.declared.ending.HeadEnding.TheVariants as heads
+use Rattle.dcm_cli.specs.declared.head.Beginning.{Beginning}
+use Rattle.dcm_cli.specs.Answer.{set_at}
+use Rattle.dcm_cli.specs.InputCalls.{Reader, How, to_end, Allows}
+use Rattle.dcm_cli.specs.Opening.{HeadRead}
+use Rattle.dcm_cli.specs.Pass.{Begins, Ends, FailsHead, HeadGoesOn, HeadReads, SetGoesOn, head_read, set_bytes}
+use Rattle.dcm_cli.proofs.Passes.MetaHeads.{Opened, not_opened, ended_stays, finished_same, goes_on_still}
+use Rattle.dcm_cli.proofs.Passes.Opens.{head_opened}
+use Rattle.dcm_cli.proofs.Passes.Readers.{allows_any, allows_nothing, nothing_follows, ends_empty, for_another, joined}
+use Rattle.dcm_cli.proofs.Runs.Stopping.{began_gave}
+use Rattle.dcm_tables.specs.declared.file.FileEnd.{FileEnd}
+use Rattle.dcm_tables.specs.declared.file.FileEnd.TheVariants.{Read, Unread}
+use Rattle.dcm_tables.specs.Files.{ReadsFile, ReadsTable, TakesMeta, no_set, not_read, set_read, set_end}
+use Rattle.dcm_tables.specs.Deciding.{Comes, DecidesRow}
+use Rattle.dcm_tables.specs.RowOf.{RowOf, of_meta, of_set, IsUndecided, in_meta, in_set, end_of}
+use Rattle.dcm_tables.proofs.MetaShown.{shown}
+use Rattle.dcm_tables.proofs.TableReads.{SetTaken, taken, not_taken, set_taken, set_undecided}
+
+-- ---- cells that are settled
+
+pub all_settle : (slots : List Slot) → AllSettled slots → settled_slots slots ≡ slots
+all_settle [] h = refl
+all_settle (c ∷ slots) h = (λ i. (c.0, h.0 i) ∷ all_settle slots h.1 i)
+
+-- ---- the head of a file
+
+-- while it goes on, more bytes can change how the reading ends
+pub head_undecided : (columns : List Tag) (bytes : List ℕ) → HeadGoesOn bytes → IsUndecided columns bytes
+head_undecided columns bytes going = let still = goes_on_still bytes going in in_meta still.0 still.1 still.2
+
+-- the cells after the elements of its meta group
+pub taken_meta : (columns : List Tag) (m : HeadReading) (t : State) (elements : Trees) → TakesMeta m (begun columns) t → Spells Little elements (group_of m) → AreMeta elements → t ≡ at 0 (greatest_of columns) (meta_slots columns elements)
+taken_meta columns m t elements takes spelled meta = takes elements spelled meta ∙ meta_fills columns elements
+
+-- a head that is at fault is so whatever follows
+finished_over : (m : HeadReading) (read rest : List ℕ) (how : How) (stop : HaltStop) → Allows how rest → FailsHead m how read (heads.Refused stop) → meta_finished (head_read (read ++ rest)) ≡ m
+finished_over m read rest how stop ok f = by_finish f.1
+  where
+    by_finish : (m ≡ head_read read) ⊎ ((how ≡ to_end) × (m ≡ meta_finished (head_read read))) → meta_finished (head_read (read ++ rest)) ≡ m
+    by_finish (inl e) = ap meta_finished (ended_stays m read rest (meta_ends.Refused stop) e f.0) ∙ finished_same m (meta_ends.Refused stop) f.0
+    by_finish (inr x) =
+        ap (λ (bs : List ℕ). meta_finished (head_read (read ++ bs))) (nothing_follows how rest ok x.0)
+        ∙ ap (λ (bs : List ℕ). meta_finished (head_read bs)) (append-nil read)
+        ∙ sym x.1
+
+pub refused_row : (columns : List Tag) (file : List ℕ) (m : HeadReading) (stop : HaltStop) (t : State) → meta_finished (head_read file) ≡ m → m.end ≡ Some (meta_ends.Refused stop) → TakesMeta m (begun columns) t
+    → RowOf columns file (settled_slots t.slots) (rows.Refused stop)
+refused_row columns file m stop t fin is takes =
+    let x = shown m file fin in
+    let cells : settled_slots t.slots ≡ meta_slots columns x.elements =
+    ap (λ (u : State). settled_slots u.slots) (taken_meta columns m t x.elements takes x.spelled x.meta) ∙ all_settle (meta_slots columns x.elements) (meta_settles columns x.elements) in
+    of_meta stop.fault stop.at x.elements (not_opened m file stop fin is) x.shows cells refl
+
+-- ---- a file whose data set was read
+
+-- how the reading ended is how the row says it
+ended_as : (end : FileEnd) (e : RowEnd) (ending : Ending) (stop : Stop) → end ≡ Read e → end ≡ set_end ending → set_end ending ≡ Read (end_of stop) → e ≡ end_of stop
+ended_as end e ending stop is said came = let both : Read e ≡ Read (end_of stop) = sym is ∙ said ∙ came in cc
+
+read_not_unread : (end : FileEnd) (e : RowEnd) (ending : Ending) (n : ℕ) → end ≡ Read e → end ≡ set_end ending → ending ≡ endings.Unread n → ⊥
+read_not_unread end e ending n is said came = let both : Read e ≡ Unread n = sym is ∙ said ∙ ap set_end came in cc
+
+unread_not_read : (end : FileEnd) (count : ℕ) (ending : Ending) (stop : Stop) → end ≡ Unread count → end ≡ set_end ending → set_end ending ≡ Read (end_of stop) → ⊥
+unread_not_read end count ending stop is said came = let both : Unread count ≡ Read (end_of stop) = sym is ∙ said ∙ came in cc
+
+unread_count : (end : FileEnd) (count : ℕ) (ending : Ending) (n : ℕ) → end ≡ Unread count → end ≡ set_end ending → ending ≡ endings.Unread n → count ≡ n
+unread_count end count ending n is said came = let both : Unread count ≡ Unread n = sym is ∙ said ∙ ap set_end came in cc
+
+module _ (columns : List Tag) (read : List ℕ) (how : How) (buffer : List ℕ) (m : HeadReading) (b : Beginning) (named : Coding) (begins : Begins m b buffer how read) (end_is : m.end ≡ Some (meta_ends.Ended named)) (t : State) (takes : TakesMeta m (begun columns) t) where
+  abbrev coding : Coding
+  coding = coding_by Standard named
+
+  abbrev greatest : Tag
+  greatest = greatest_of columns
+
+  abbrev buffered : List ℕ
+  buffered = set_bytes b buffer
+
+  h : HeadRead Standard read how buffer m b coding m.place
+  h = record { begins = begins; named = named; end_is = end_is; coding_is = refl; start_is = refl }
+
+  within : m.place ≤ length read
+  within = let p = begins.place in omega (arith, p)
+
+  -- the bytes of the data set
+  set_there : (more : List ℕ) → drop m.place (read ++ more) ≡ buffered ++ more
+  set_there more = drop-append-le m.place read more within ∙ ap (λ (bs : List ℕ). bs ++ more) begins.set
+
+  module _ (more : List ℕ) (ok : Allows how more) where
+    abbrev o : Opened Standard m (read ++ more)
+    o = head_opened Standard read more how ok buffer m b coding m.place h
+
+    cells : t ≡ at 0 greatest (meta_slots columns o.m.elements)
+    cells = taken_meta columns m t o.m.elements takes (subst (Spells Little o.m.elements) (sym o.group_is) o.spelled) o.meta
+
+    small : set_at o.group ≤ INPUT_LIMIT
+    small = let most = o.within in omega (arith, most)
+
+    abbrev SetReads : List ℕ → Front → Stop → Type 0
+    SetReads bytes f stop = Reads (table_bar greatest) coding.syntax (set_at o.group) bytes f stop
+
+    placed : (f : Front) (stop : Stop) → SetReads (buffered ++ more) f stop → SetReads (drop (set_at o.group) (read ++ more)) f stop
+    placed f stop reads = subst (λ (bs : List ℕ). SetReads bs f stop) (sym (ap (λ (n : ℕ). drop n (read ++ more)) (sym o.place_is) ∙ set_there more)) reads
+
+    -- more bytes can change how the reading ends
+    undecided_at : (driven table_bar_of next t coding.syntax m.place (buffered ++ more)).0.halt ≡ None → IsUndecided columns (read ++ more)
+    undecided_at none =
+        let there : (driven table_bar_of next (at 0 greatest (meta_slots columns o.m.elements)) coding.syntax (set_at o.group) (buffered ++ more)).0.halt ≡ None =
+        subst (λ (n : ℕ). (driven table_bar_of next (at 0 greatest (meta_slots columns o.m.elements)) coding.syntax n (buffered ++ more)).0.halt ≡ None) o.place_is
+        (subst (λ (x : State). (driven table_bar_of next x coding.syntax m.place (buffered ++ more)).0.halt ≡ None) cells none) in
+        let u = set_undecided greatest (meta_slots columns o.m.elements) (meta_settles columns o.m.elements) coding.syntax (set_at o.group) small (buffered ++ more) there in
+        in_set o.m o.group coding u.f u.stop (record { head = o.reads; reads = placed u.f u.stop u.reads }) u.undecided
+
+  module _ (more rest : List ℕ) (ok : Allows how (more ++ rest)) where
+    abbrev p : Opened Standard m (read ++ (more ++ rest))
+    p = o (more ++ rest) ok
+
+    -- what the cells took of the data set
+    set_ended : (new : State) (ending : Ending) → Ends table_bar_of next writes (start_of coding.syntax m.place) t None (Some rest) new None (buffered ++ more) ending
+        → SetTaken greatest (meta_slots columns p.m.elements) (meta_settles columns p.m.elements) coding.syntax (set_at p.group) (small (more ++ rest) ok) (buffered ++ more) rest new ending
+    set_ended new ending ends =
+        set_taken greatest (meta_slots columns p.m.elements) (meta_settles columns p.m.elements) coding.syntax (set_at p.group) (small (more ++ rest) ok) (buffered ++ more) rest new ending
+        (subst (λ (n : ℕ). Ends table_bar_of next writes (start_of coding.syntax n) (at 0 greatest (meta_slots columns p.m.elements)) None (Some rest) new None (buffered ++ more) ending) p.place_is
+        (subst (λ (x : State). Ends table_bar_of next writes (start_of coding.syntax m.place) x None (Some rest) new None (buffered ++ more) ending) (cells (more ++ rest) ok) ends))
+
+    -- it was read
+    row_read : (new : State) (end : FileEnd) (e : RowEnd) (ending : Ending) → end ≡ Read e → end ≡ set_end ending
+        → SetTaken greatest (meta_slots columns p.m.elements) (meta_settles columns p.m.elements) coding.syntax (set_at p.group) (small (more ++ rest) ok) (buffered ++ more) rest new ending
+        → RowOf columns ((read ++ more) ++ rest) (settled_slots new.slots) e
+    row_read new end e ending is said (taken f stop reads filled came) =
+        subst (λ (bs : List ℕ). RowOf columns bs (settled_slots new.slots) e) (sym (append_assoc read more rest))
+        (of_set p.m p.group coding f stop
+        (record { head = p.reads; reads = placed (more ++ rest) ok f stop (subst (λ (bs : List ℕ). SetReads (more ++ rest) ok bs f stop) (append_assoc buffered more rest) reads) })
+        filled (ended_as end e ending stop is said came))
+    row_read new end e ending is said (not_taken none came) = absurd (read_not_unread end e ending _ is said came)
+
+    -- or reading failed
+    row_unread : (new : State) (end : FileEnd) (count : ℕ) (ending : Ending) → end ≡ Unread count → end ≡ set_end ending
+        → SetTaken greatest (meta_slots columns p.m.elements) (meta_settles columns p.m.elements) coding.syntax (set_at p.group) (small (more ++ rest) ok) (buffered ++ more) rest new ending
+        → ((driven table_bar_of next t coding.syntax m.place (buffered ++ more)).0.halt ≡ None) × (count ≡ length (read ++ more))
+    row_unread new end count ending is said (taken f stop reads filled came) = absurd (unread_not_read end count ending stop is said came)
+    row_unread new end count ending is said (not_taken none came) =
+        let there : (driven table_bar_of next t coding.syntax m.place (buffered ++ more)).0.halt ≡ None =
+        subst (λ (x : State). (driven table_bar_of next x coding.syntax m.place (buffered ++ more)).0.halt ≡ None) (sym (cells (more ++ rest) ok))
+        (subst (λ (n : ℕ). (driven table_bar_of next (at 0 greatest (meta_slots columns p.m.elements)) coding.syntax n (buffered ++ more)).0.halt ≡ None) (sym p.place_is) none) in
+        let size = begins.place in
+        let place = p.place_is in
+        let all = length-append buffered more in
+        let whole = length-append read more in
+        (there, unread_count end count ending _ is said came ∙ omega (arith, size, place, all, whole))
+
+-- ---- any file
+
+module _ {R : Type 0} (r : Reader R) (columns : List Tag) (before after : R) where
+  set_comes : (m : HeadReading) (had held : List ℕ) (b : Beginning) (mid : R) (t new : State) (end : FileEnd) → HeadReads r before mid m had held (Ok b) → TakesMeta m (begun columns) t → ReadsTable r mid after m b held t new end
+      → DecidesRow r before after columns (settled_slots new.slots) end
+  set_comes m had held b mid t new end head takes x =
+      let set = x.reads in
+      let coding : Coding = coding_by Standard x.coding in
+      let Going : List ℕ → Type 0 = SetGoesOn table_bar_of next b.is_over (set_bytes b held) (start_of coding.syntax m.place) t in
+      let j = joined r HeadGoesOn Going (IsUndecided columns) before mid after head.read set.more head.how set.how head.reads set.reads (head_undecided columns)
+      (λ more is going. undecided_at columns head.read head.how held m b x.coding head.outcome x.named t takes more (allows_any head.how is more) going.1)
+      (λ more going. began_gave r before mid m b held head.read head.how head.outcome head.reads going.0)
+      in
+      let ends : (rest : List ℕ) → Allows j.how rest → Ends table_bar_of next writes (start_of coding.syntax m.place) t None (Some rest) new None (set_bytes b held ++ set.more) x.ending = λ rest ok.
+      let a = j.allows rest ok in
+      set.ends rest a.1 (λ over. ends_empty set.more rest (nothing_follows head.how (set.more ++ rest) a.0 (head.outcome.over over)))
+      in
+      let comes : (e : FileEnd) → end ≡ e → Comes columns (head.read ++ set.more) j.how (settled_slots new.slots) e = λ e. elim e as (λ (e : FileEnd). end ≡ e → Comes columns (head.read ++ set.more) j.how (settled_slots new.slots) e) [
+        | Read f ↦ λ is rest ok.
+            let a = j.allows rest ok in
+            row_read columns head.read head.how held m b x.coding head.outcome x.named t takes set.more rest a.0 new end f x.ending is x.ends
+            (set_ended columns head.read head.how held m b x.coding head.outcome x.named t takes set.more rest a.0 new x.ending (ends rest ok))
+        | Unread count ↦ λ is.
+            let ok = allows_nothing j.how in
+            let a = j.allows [] ok in
+            let u = row_unread columns head.read head.how held m b x.coding head.outcome x.named t takes set.more [] a.0 new end count x.ending is x.ends
+            (set_ended columns head.read head.how held m b x.coding head.outcome x.named t takes set.more [] a.0 new x.ending (ends [] ok)) in
+            (undecided_at columns head.read head.how held m b x.coding head.outcome x.named t takes set.more (subst (Allows head.how) (append-nil set.more) a.0) u.0, u.1)
+      ] in
+      record { given = head.read ++ set.more; how = j.how; reads = j.reads; comes = comes end refl }
+
+  pub row_comes : (new : State) (end : FileEnd) → ReadsFile r before after (begun columns) new end → DecidesRow r before after columns (settled_slots new.slots) end
+  row_comes new end (no_set m had held stop head takes is) = record {
+    given = head.read;
+    how = head.how;
+    reads = for_another r HeadGoesOn (IsUndecided columns) before after head.read head.how (head_undecided columns) head.reads;
+    comes = subst (Comes columns head.read head.how (settled_slots new.slots)) (sym is)
+        (λ rest ok. refused_row columns (head.read ++ rest) m stop new (finished_over m head.read rest head.how stop ok head.outcome) head.outcome.0 takes);
+  }
+  row_comes new end (not_read m had held count head is) = record {
+    given = head.read;
+    how = head.how;
+    reads = for_another r HeadGoesOn (IsUndecided columns) before after head.read head.how (head_undecided columns) head.reads;
+    comes = subst (Comes columns head.read head.how (settled_slots new.slots)) (sym is)
+        (head_undecided columns head.read (ap (λ (x : HeadReading). x.end) (sym head.outcome.0) ∙ head.outcome.1), head.outcome.2);
+  }
+  row_comes new end (set_read m had held b mid t head takes x) = set_comes m had held b mid t new end head takes x

@@ -1,0 +1,53 @@
+//! Laws of the definitions. Each function takes nothing and makes no call: its contract is the law.
+ghost use Rattle.dcm_tables.specs.Laws.{CellIsShown, DecidedIsSure, RowIsDecided, RowIsDone, RowIsOne, RowIsRead};
+ghost use Rattle.dcm_tables.specs.Laws.{RowIsSettled, RowIsSome, RowIsUtf8, RowStays};
+
+use dcm_base::{DeviceIn, DeviceOut};
+
+/// A file has at most one row: its bytes determine the cells and how the reading ends.
+pub fn row_is_one()
+    ensures { RowIsOne }
+{}
+
+/// A file has a row, whatever its bytes are.
+pub fn row_is_some()
+    ensures { RowIsSome }
+{}
+
+/// Where more bytes cannot change how the reading ends, all files that begin with these have the same row.
+pub fn row_stays()
+    ensures { RowStays }
+{}
+
+/// There some beginning of them decides the row, whatever follows it, and no shorter one does. A row that a head above
+/// all columns ends is decided.
+pub fn row_is_decided()
+    ensures front { RowIsDecided }
+    ensures sure { DecidedIsSure }
+{}
+
+/// What is read of a file decides its row. It is read no further than that needs.
+pub fn row_is_read<R: DeviceIn>()
+    ensures { RowIsRead R.DeviceIn }
+{}
+
+/// What is done with a file is what its row says, and that is decided by what was read of it.
+pub fn row_is_done<R: DeviceIn, W: DeviceOut>()
+    ensures { RowIsDone R.DeviceIn W.DeviceOut }
+{}
+
+/// A value that is not whole is not written and not reported.
+pub fn row_is_settled()
+    ensures { RowIsSettled }
+{}
+
+/// The row of any file is valid UTF-8, where that is asked.
+pub fn row_is_utf8()
+    ensures { RowIsUtf8 }
+{}
+
+/// The cell of a text has, with its bytes as they are, what a full dump shows of the value between the brackets, its
+/// escapes undone and its pads left out: of a name, the unique identifier.
+pub fn cell_is_shown()
+    ensures { CellIsShown }
+{}
