@@ -1,3 +1,4 @@
+pub mod AsRows
 pub mod FileReads
 pub mod LinesOut
 pub mod Made

@@ -18,7 +18,7 @@ use Rattle.dcm_cli.specs.Change.{Change, change_of}
 use Rattle.dcm_cli.specs.ErrorLines.{Reports}
 use Rattle.dcm_cli.specs.Program.{Follows}
 use Rattle.dcm_table_words.specs.Table.{Name}
-use Rattle.dcm_tables.specs.Table.{Writing, DoesAt, DoesListed, OpensAt, not_tried, refused, opened_at, not_opened, done_at, listed_path, DoneSoFar, and_done, DoesAll, all_names, failed_at, Listed, and_name, DoesNames, not_written}
+use Rattle.dcm_tables.specs.Table.{OneFile, Writing, DoesAt, DoesListed, OpensAt, not_tried, refused, opened_at, not_opened, done_at, listed_path, DoneSoFar, and_done, DoesAll, all_names, failed_at, Listed, and_name, DoesNames, not_written}
 
 -- one change of a writer after another
 pub follows : {E : Type 0} (w : Writer E) (first mid last : E) → Follows (change_of w first last) (change_of w first mid) (change_of w mid last)
@@ -42,9 +42,9 @@ shown_front name =
 same_line : (name : List ℕ) → unopened_line (take NAME_LIMIT name) ≡ unopened_line name
 same_line name = ap (λ (shown : List ℕ). codes "dcmtools: " ++ shown ++ codes ": " ++ codes "input cannot be opened" ++ 10 ∷ []) (shown_front name)
 
-module _ {S I O W : Type 0} (may : MayDo S I O) (r : Reader I) (w : Writer W) (first : State) (form : TextForm) (errors : Change) (from to : W) (before : S) (result : Result ℕ WriteFailed) (after : S) where
+module _ {S I O W : Type 0} (may : MayDo S I O) (Does : OneFile I W) (errors : Change) (from to : W) (before : S) (result : Result ℕ WriteFailed) (after : S) where
   -- what is not opened has no file
-  unopened_as : (name held path other : List ℕ) → held ≡ take NAME_LIMIT name → DoesAt may r w first form held path false errors from to before result after → DoesAt may r w first form name other false errors from to before result after
+  unopened_as : (name held path other : List ℕ) → held ≡ take NAME_LIMIT name → DoesAt may Does held path false errors from to before result after → DoesAt may Does name other false errors from to before result after
   unopened_as name held path other is (not_opened (not_tried shut none same) line out was) =
       not_opened (not_tried refl refl same) (subst (Reports errors) (ap unopened_line is ∙ same_line name) line) out was
   unopened_as name held path other is (not_opened (refused cause openable tried none) line out was) = absurd (let wrong : false ≡ true = openable in cc)
@@ -53,27 +53,27 @@ module _ {S I O W : Type 0} (may : MayDo S I O) (r : Reader I) (w : Writer W) (f
   unopened_as name held path other is (not_opened (opened_at j openable tried some) line out was) = absurd (let wrong : false ≡ true = openable in cc)
   unopened_as name held path other is (done_at i left has (refused cause openable tried none) does back) = absurd (let wrong : false ≡ true = openable in cc)
 
-  listed_by : (b : Bool) (name held path : List ℕ) → can_be_opened name ≡ b → held ≡ take NAME_LIMIT name → path ≡ listed_path held → DoesAt may r w first form held path b errors from to before result after
-      → DoesAt may r w first form name (listed_path name) b errors from to before result after
+  listed_by : (b : Bool) (name held path : List ℕ) → can_be_opened name ≡ b → held ≡ take NAME_LIMIT name → path ≡ listed_path held → DoesAt may Does held path b errors from to before result after
+      → DoesAt may Does name (listed_path name) b errors from to before result after
   listed_by true name held path can is at does =
       let whole : held ≡ name = is ∙ openable_whole name can in
-      subst (λ (n : List ℕ). DoesAt may r w first form n (listed_path n) true errors from to before result after) whole
-      (subst (λ (p : List ℕ). DoesAt may r w first form held p true errors from to before result after) at does)
+      subst (λ (n : List ℕ). DoesAt may Does n (listed_path n) true errors from to before result after) whole
+      (subst (λ (p : List ℕ). DoesAt may Does held p true errors from to before result after) at does)
   listed_by false name held path can is at does = unopened_as name held path (listed_path name) is does
 
-  pub listed : (b : Bool) (name held path : List ℕ) → b ≡ can_be_opened name → held ≡ take NAME_LIMIT name → path ≡ listed_path held → DoesAt may r w first form held path b errors from to before result after → DoesListed may r w first form name errors from to before result after
+  pub listed : (b : Bool) (name held path : List ℕ) → b ≡ can_be_opened name → held ≡ take NAME_LIMIT name → path ≡ listed_path held → DoesAt may Does held path b errors from to before result after → DoesListed may Does name errors from to before result after
   listed b name held path can is at does =
-      subst (λ (c : Bool). DoesAt may r w first form name (listed_path name) c errors from to before result after) can (listed_by b name held path (sym can) is at does)
+      subst (λ (c : Bool). DoesAt may Does name (listed_path name) c errors from to before result after) can (listed_by b name held path (sym can) is at does)
 
 -- ---- one name after another
 
 module _ {S W E : Type 0} (e : Writer E) (Does : Name → Writing S W) (old now new : E) (from mid to : W) (before between after : S) (front : List Name) (status : ℕ)
     (so_far : DoneSoFar Does from before (change_of e old now) mid front status between) where
-  pub done_more : (name : Name) (ended : ℕ) → Does name (change_of e now new) mid to between (Ok ended) after → DoneSoFar Does from before (change_of e old new) to (front ++ name ∷ []) (max status ended) after
-  done_more name ended does = and_done front name status ended mid between (change_of e old now) (change_of e now new) so_far does (follows e old now new) refl refl
+  pub done_more : (name : Name) (ended reached : ℕ) → reached ≡ max status ended → Does name (change_of e now new) mid to between (Ok ended) after → DoneSoFar Does from before (change_of e old new) to (front ++ name ∷ []) reached after
+  done_more name ended reached is does = and_done front name status ended mid between (change_of e old now) (change_of e now new) so_far does (follows e old now new) refl is
 
-  pub done_failed : (names later : List Name) (name : Name) (failure : WriteFailed) → names ≡ front ++ name ∷ later → Does name (change_of e now new) mid to between (Err failure) after → DoesAll Does names (change_of e old new) from to before (Err failure) after
-  done_failed names later name failure whole does = failed_at front later name status mid between (change_of e old now) (change_of e now new) failure so_far does (follows e old now new) whole refl
+  pub done_failed : (names later : List Name) (name : Name) (failure : WriteFailed) (r : Result ℕ WriteFailed) → r ≡ Err failure → names ≡ front ++ name ∷ later → Does name (change_of e now new) mid to between (Err failure) after → DoesAll Does names (change_of e old new) from to before r after
+  done_failed names later name failure r is whole does = failed_at front later name status mid between (change_of e old now) (change_of e now new) failure so_far does (follows e old now new) whole is
 
 pub all_done_of : {S W : Type 0} (Does : Name → Writing S W) (errors : Change) (from to : W) (before after : S) (names front rest : List Name) (status : ℕ) → DoneSoFar Does from before errors to front status after → names ≡ front ++ rest → rest ≡ [] → DoesAll Does names errors from to before (Ok status) after
 all_done_of Does errors from to before after names front rest status done whole none =
@@ -90,17 +90,17 @@ whole_next names front rest later name whole is = whole ∙ ap (λ (ns : List Na
 
 module _ {S I W E : Type 0} (e : Writer E) (gets : I → Option (List ℕ) → I → Type 0) (Does : List ℕ → Writing S W) (old now new : E) (from mid to : W) (input at left : I) (before between after : S) (given : List ℕ) (front : List (List ℕ)) (status : ℕ)
     (so_far : Listed gets Does from input before (change_of e old now) mid given at front status between) (reader : ListReader) where
-  pub listed_more : (a : AnswersName gets at left reader given front) (ended : ℕ) → Does a.name (change_of e now new) mid to between (Ok ended) after
-      → Listed gets Does from input before (change_of e old new) to (given ++ a.more) left (front ++ a.name ∷ []) (max status ended) after
-  listed_more a ended does = and_name given a.more front a.name reader.is_over status ended mid at between (change_of e old now) (change_of e now new) so_far a.calls does (follows e old now new) refl refl refl
+  pub listed_more : (a : AnswersName gets at left reader given front) (ended reached : ℕ) → reached ≡ max status ended → Does a.name (change_of e now new) mid to between (Ok ended) after
+      → Listed gets Does from input before (change_of e old new) to (given ++ a.more) left (front ++ a.name ∷ []) reached after
+  listed_more a ended reached is does = and_name given a.more front a.name reader.is_over status ended mid at between (change_of e old now) (change_of e now new) so_far a.calls does (follows e old now new) refl refl is
 
   -- the names that were answered are the first ones of the list
   first_names : (b : Bool) (all : List ℕ) (names : List (List ℕ)) → reader.is_over ≡ b → HasRead reader all names → (others : List (List ℕ)) × (names_of all b ≡ names ++ others)
   first_names true all names over has = ([], sym (has.over over) ∙ sym (append-nil names))
   first_names false all names over has = (ended_names [] (pending reader), (has.going over).names)
 
-  pub listed_failed : (path : List ℕ) (a : AnswersName gets at left reader given front) (failure : WriteFailed) → Does a.name (change_of e now new) mid to between (Err failure) after
-      → DoesNames gets Does path (change_of e old new) from to input left before (Err failure) after
-  listed_failed path a failure does =
+  pub listed_failed : (path : List ℕ) (a : AnswersName gets at left reader given front) (failure : WriteFailed) (r : Result ℕ WriteFailed) → r ≡ Err failure → Does a.name (change_of e now new) mid to between (Err failure) after
+      → DoesNames gets Does path (change_of e old new) from to input left before r after
+  listed_failed path a failure r is does =
       let f = first_names reader.is_over (given ++ a.more) (front ++ a.name ∷ []) refl a.has_read in
-      not_written given a.more front f.0 a.name reader.is_over status mid at between (change_of e old now) (change_of e now new) failure so_far a.calls (f.1 ∙ append_assoc front (a.name ∷ []) f.0) does (follows e old now new) refl
+      not_written given a.more front f.0 a.name reader.is_over status mid at between (change_of e old now) (change_of e now new) failure so_far a.calls (f.1 ∙ append_assoc front (a.name ∷ []) f.0) does (follows e old now new) is

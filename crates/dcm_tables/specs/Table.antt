@@ -15,14 +15,13 @@ use Rattle.dcm_table.specs.declared.column.Column.{Column}
 use Rattle.dcm_table.specs.declared.quoted.TextForm.{TextForm}
 use Rattle.dcm_table.specs.Quoted.{quoted}
 use Rattle.dcm_table.specs.Row.{header_cell, newline}
-use Rattle.dcm_table.specs.TableSink.{State, begun}
 use Rattle.dcm_table_words.specs.Table.{Name, file, list}
 use Rattle.dcm_cli.specs.Calls.{Reader}
 use Rattle.dcm_cli.specs.Change.{Change}
 use Rattle.dcm_cli.specs.ErrorLines.{Reports}
 use Rattle.dcm_cli.specs.Program.{Follows}
 use Rattle.dcm_cli.specs.Status.{DEVICE, DONE}
-use Rattle.dcm_tables.specs.Rows.{DoesFile}
+use Rattle.dcm_tables.specs.Deciding.{DoesRow}
 
 -- what is done with names, from one output and one state of the system to later ones: with what change of standard
 -- error, and with the greatest status, or a failure of the output
@@ -30,6 +29,11 @@ abbrev pub Writing : (S W : Type 0) → Type 1
 Writing S W = (errors : Change) → (from to : W) → (before : S) → Result ℕ WriteFailed → (after : S) → Type 0
 
 -- ---- one file
+
+-- what is done with a file that is open, by its name
+abbrev pub OneFile : (I W : Type 0) → Type 1
+OneFile I W = (name : List ℕ) → (errors : Change) → (from to : W) → (before : I) → Result ℕ WriteFailed → (after : I)
+    → Type 0
 
 -- a name is opened at a path, where it may be
 pub data OpensAt {S I O : Type 0} (may : MayDo S I O) (is_openable : Bool) (path : List ℕ) (before : S)
@@ -42,28 +46,26 @@ pub data OpensAt {S I O : Type 0} (may : MayDo S I O) (is_openable : Bool) (path
 
 -- the file of a name cannot be opened, and that is reported; or it was opened, done, and given back exactly as that left
 -- it
-pub data DoesAt {S I O W : Type 0} (may : MayDo S I O) (r : Reader I) (w : Writer W) (first : State) (form : TextForm)
-    (name path : List ℕ) (is_openable : Bool) (errors : Change) (from to : W) (before : S)
-    (result : Result ℕ WriteFailed) (after : S) : Type 0 where
+pub data DoesAt {S I O W : Type 0} (may : MayDo S I O) (Does : OneFile I W) (name path : List ℕ) (is_openable : Bool)
+    (errors : Change) (from to : W) (before : S) (result : Result ℕ WriteFailed) (after : S) : Type 0 where
   not_opened : OpensAt may is_openable path before None after → Reports errors (unopened_line name) → to ≡ from
-      → result ≡ Ok DEVICE → DoesAt may r w first form name path is_openable errors from to before result after
+      → result ≡ Ok DEVICE → DoesAt may Does name path is_openable errors from to before result after
   done_at : (i : Opened I) (left : I) (has_input : S) → OpensAt may is_openable path before (Some i) has_input
-      → DoesFile r w first form name errors from to i.device result left → may.releases has_input left after
-      → DoesAt may r w first form name path is_openable errors from to before result after
+      → Does name errors from to i.device result left → may.releases has_input left after
+      → DoesAt may Does name path is_openable errors from to before result after
 
 -- a name among the words: `-` is standard input
-abbrev pub DoesWord : {S I O W : Type 0} → MayDo S I O → Reader I → Writer W → State → TextForm → List ℕ → Writing S W
-DoesWord may r w first form name errors from to before result after =
-    DoesAt may r w first form name name (can_be_opened name) errors from to before result after
+abbrev pub DoesWord : {S I O W : Type 0} → MayDo S I O → OneFile I W → List ℕ → Writing S W
+DoesWord may Does name errors from to before result after =
+    DoesAt may Does name name (can_be_opened name) errors from to before result after
 
 -- the path of a name in a list, where `-` is a file
 abbrev pub listed_path : List ℕ → List ℕ
 listed_path name = if bytes_eq name (codes "-") then codes "./-" else name
 
-abbrev pub DoesListed : {S I O W : Type 0} → MayDo S I O → Reader I → Writer W → State → TextForm → List ℕ
-    → Writing S W
-DoesListed may r w first form name errors from to before result after =
-    DoesAt may r w first form name (listed_path name) (can_be_opened name) errors from to before result after
+abbrev pub DoesListed : {S I O W : Type 0} → MayDo S I O → OneFile I W → List ℕ → Writing S W
+DoesListed may Does name errors from to before result after =
+    DoesAt may Does name (listed_path name) (can_be_opened name) errors from to before result after
 
 -- ---- a list
 
@@ -117,11 +119,11 @@ pub data DoesList {S I O W : Type 0} (may : MayDo S I O) (r : Reader I) (Does : 
 -- ---- all names
 
 -- a file, or the files of a list
-abbrev pub DoesName : {S I O W : Type 0} → MayDo S I O → Reader I → Writer W → State → TextForm → Name → Writing S W
-DoesName may r w first form (file path) errors from to before result after =
-    DoesWord may r w first form path errors from to before result after
-DoesName may r w first form (list path) errors from to before result after =
-    DoesList may r (DoesListed may r w first form) path errors from to before result after
+abbrev pub DoesName : {S I O W : Type 0} → MayDo S I O → Reader I → OneFile I W → Name → Writing S W
+DoesName may r Does (file path) errors from to before result after =
+    DoesWord may Does path errors from to before result after
+DoesName may r Does (list path) errors from to before result after =
+    DoesList may r (DoesListed may Does) path errors from to before result after
 
 -- names were done so far, one after another, with this greatest status
 pub data DoneSoFar {S W : Type 0} (Does : Name → Writing S W) (from : W) (before : S) : (errors : Change) → (to : W)
@@ -162,8 +164,8 @@ pub data WritesTable {S I O W : Type 0} (may : MayDo S I O) (r : Reader I) (w : 
     (result : Result ℕ WriteFailed) (after : S) : Type 0 where
   headed : (mid : W) → w.contents mid ≡ append_known (w.contents from) (header_bytes has_header columns)
       → w.has_failed mid ≡ w.has_failed from
-      → DoesAll (DoesName may r w (begun (map (λ (c : Column). c.tag) columns)) form) names errors mid to before result
-      after → WritesTable may r w columns form has_header names errors from to before result after
+      → DoesAll (DoesName may r (DoesRow r w (map (λ (c : Column). c.tag) columns) form)) names errors mid to before
+      result after → WritesTable may r w columns form has_header names errors from to before result after
   not_headed : (failure : WriteFailed)
       → AppendsFront (w.contents from) (w.contents to) (header_bytes has_header columns) → w.has_failed to ≡ true
       → Reports errors [] → after ≡ before → result ≡ Err failure

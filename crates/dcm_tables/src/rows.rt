@@ -1,5 +1,5 @@
 // The row of one file, and the lines on standard error that come after it.
-ghost use Rattle.std.specs.Prelude.{◌≡◌, ◌≤◌, [], flat_map, option_to_list};
+ghost use Rattle.std.specs.Prelude.{◌≡◌, ◌≤◌, [], flat_map, option_to_list, IfOk};
 ghost use Rattle.dcm_devices.specs.Writing.{Wrote};
 ghost use Rattle.dcm_names.specs.NamedLines.{too_long_line};
 ghost use Rattle.dcm_table.specs.TableSink.{cleared};
@@ -114,6 +114,7 @@ pub fn do_file<R: DeviceIn, W: DeviceOut, E: DeviceOut>(
 ) -> Result<u8, WriteFailed>
     ensures does { spec.DoesFile R.DeviceIn W.DeviceOut (cleared cells.old) form name.now
         (change_of E.DeviceOut errors.old errors.new) out.old out.new input.old result input.new }
+    ensures within { IfOk result (λ status. status ≤ statuses.DEVICE) }
     ensures kept { cleared cells.new ≡ cleared cells.old }
 {
     let mut buffer = [0u8; PIECE];

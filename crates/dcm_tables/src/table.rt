@@ -7,6 +7,7 @@ ghost use Rattle.dcm_names.specs.Held.{Holds};
 ghost use Rattle.dcm_table.specs.Columns.{list_of, tags_of};
 ghost use Rattle.dcm_table.specs.TableSink.{begun, cleared};
 ghost use Rattle.dcm_table_words.specs.Plans.{name_as, names_as};
+ghost use Rattle.dcm_tables.specs.Rows.{DoesFile};
 ghost use Rattle.dcm_tables.specs.Table as spec;
 
 use crate::rows::{Shared, do_file};
@@ -61,7 +62,7 @@ fn do_at<S: System, W: DeviceOut, E: DeviceOut>(
     out: &mut Watched<W>,
     errors: &mut Watched<E>,
 ) -> Ends
-    ensures does { spec.DoesAt S.may_do S.Input.DeviceIn W.DeviceOut (cleared cells.old) form name.now path.now
+    ensures does { spec.DoesAt S.may_do (DoesFile S.Input.DeviceIn W.DeviceOut (cleared cells.old) form) name.now path.now
         is_openable (change_of E.DeviceOut errors.old errors.new) out.old out.new system.old result system.new }
     ensures within { IfOk result (λ status. status ≤ statuses.DEVICE) }
     ensures kept { cleared cells.new ≡ cleared cells.old }
@@ -85,8 +86,8 @@ fn do_listed<S: System, W: DeviceOut, E: DeviceOut>(
     out: &mut Watched<W>,
     errors: &mut Watched<E>,
 ) -> Ends
-    ensures does { (name : List ℕ) → Holds names.now.line name → spec.DoesListed S.may_do S.Input.DeviceIn
-        W.DeviceOut (cleared cells.old) form name (change_of E.DeviceOut errors.old errors.new) out.old out.new
+    ensures does { (name : List ℕ) → Holds names.now.line name → spec.DoesListed S.may_do
+        (DoesFile S.Input.DeviceIn W.DeviceOut (cleared cells.old) form) name (change_of E.DeviceOut errors.old errors.new) out.old out.new
         system.old result system.new }
     ensures within { IfOk result (λ status. status ≤ statuses.DEVICE) }
     ensures kept { cleared cells.new ≡ cleared cells.old }
@@ -116,7 +117,7 @@ fn do_names<S: System, W: DeviceOut, E: DeviceOut>(
     errors: &mut Watched<E>,
 ) -> Ends
     ensures does { spec.DoesNames S.Input.DeviceIn.gets
-        (spec.DoesListed S.may_do S.Input.DeviceIn W.DeviceOut (cleared cells.old) form) list.now
+        (spec.DoesListed S.may_do (DoesFile S.Input.DeviceIn W.DeviceOut (cleared cells.old) form)) list.now
         (change_of E.DeviceOut errors.old errors.new) out.old out.new input.old input.new system.old result
         system.new }
     ensures within { IfOk result (λ status. status ≤ statuses.DEVICE) }
@@ -149,7 +150,7 @@ fn do_list<S: System, W: DeviceOut, E: DeviceOut>(
     errors: &mut Watched<E>,
 ) -> Ends
     ensures does { spec.DoesList S.may_do S.Input.DeviceIn
-        (spec.DoesListed S.may_do S.Input.DeviceIn W.DeviceOut (cleared cells.old) form) list.now
+        (spec.DoesListed S.may_do (DoesFile S.Input.DeviceIn W.DeviceOut (cleared cells.old) form)) list.now
         (change_of E.DeviceOut errors.old errors.new) out.old out.new system.old result system.new }
     ensures within { IfOk result (λ status. status ≤ statuses.DEVICE) }
     ensures kept { cleared cells.new ≡ cleared cells.old }
@@ -173,7 +174,8 @@ fn do_name<S: System, W: DeviceOut, E: DeviceOut>(
     out: &mut Watched<W>,
     errors: &mut Watched<E>,
 ) -> Ends
-    ensures does { spec.DoesName S.may_do S.Input.DeviceIn W.DeviceOut (cleared cells.old) form (name_as name.entry)
+    ensures does { spec.DoesName S.may_do S.Input.DeviceIn
+        (DoesFile S.Input.DeviceIn W.DeviceOut (cleared cells.old) form) (name_as name.entry)
         (change_of E.DeviceOut errors.old errors.new) out.old out.new system.old result system.new }
     ensures within { IfOk result (λ status. status ≤ statuses.DEVICE) }
     ensures kept { cleared cells.new ≡ cleared cells.old }
@@ -196,7 +198,8 @@ fn do_all<S: System, W: DeviceOut, E: DeviceOut>(
     out: &mut Watched<W>,
     errors: &mut Watched<E>,
 ) -> Ends
-    ensures does { spec.DoesAll (spec.DoesName S.may_do S.Input.DeviceIn W.DeviceOut (cleared cells.old) form)
+    ensures does { spec.DoesAll
+        (spec.DoesName S.may_do S.Input.DeviceIn (DoesFile S.Input.DeviceIn W.DeviceOut (cleared cells.old) form))
         (names_as names.entry) (change_of E.DeviceOut errors.old errors.new) out.old out.new system.old result
         system.new }
     ensures within { IfOk result (λ status. status ≤ statuses.DEVICE) }

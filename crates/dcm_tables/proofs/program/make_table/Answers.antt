@@ -12,8 +12,8 @@ returns-in-Err-clause-makes g c =
 
 pub returns-clause-makes : goal.returns-clause-makes
 returns-clause-makes g c =
-    made c.in-Ok-output.output c.put_table-status.new.out c.stdout.new.self c.put_table-status.new.system
-    (subst (λ r. g.S.System.may_do.stdout c.args.system.now r c.stdout.new.self) c.in-Ok-output.is c.stdout.ensures)
+    made c.in-Ok-stdout.output c.put_table-status.new.out c.stdout.new.self c.put_table-status.new.system
+    (subst (λ r. g.S.System.may_do.stdout c.args.system.now r c.stdout.new.self) c.in-Ok-stdout.is c.stdout.ensures)
     (subst (λ x. PutsTable (writer g.S.Output.Device g.S.Output.DeviceOut) (WritesMeant g.S.System.may_do (members g.S.Input.Device g.S.Input.DeviceIn) (writer g.S.Output.Device g.S.Output.DeviceOut) (table_as c.args.plan.now))
     (change_of (writer g.E.Device g.E.DeviceOut) c.args.errors.now c.put_table-status.new.errors) x c.put_table-status.new.out c.stdout.new.self c.put_table-status.result c.put_table-status.new.system) c.new-out.ensures c.put_table-status.ensures.puts)
     (search rules)

@@ -12,10 +12,10 @@ returns-in-Unread-clause-does g c =
 
 pub returns-in_ok-put_row-in-Read-clause-does : goal.returns-in_ok-put_row-in-Read-clause-does
 returns-in_ok-put_row-in-Read-clause-does g c =
-    written c.read_file.new.cells c.in-Read.«end» c.in-Read.ensures.reads c.in_ok-put_row.ensures.bytes c.in_ok-put_row.ensures.failed
+    written c.read_file.new.cells c.in-Read.«end» c.in-Read.ensures.reads c.in_ok-put_row-in-Read.ensures.bytes c.in_ok-put_row-in-Read.ensures.failed
     (told (writer g.E.Device g.E.DeviceOut) c.args.errors.now c.put_file_lines.new.errors _ c.put_file_lines.result c.put_file_lines.ensures) (ap Ok c.file_status.ensures.value)
 
 pub returns-in_err-put_row-in-Read-clause-does : goal.returns-in_err-put_row-in-Read-clause-does
 returns-in_err-put_row-in-Read-clause-does g c =
-    not_written c.read_file.new.cells c.in-Read.«end» _ c.in-Read.ensures.reads c.in_err-put_row.ensures.bytes c.in_err-put_row.ensures.failed
+    not_written c.read_file.new.cells c.in-Read.«end» _ c.in-Read.ensures.reads c.in_err-put_row-in-Read.ensures.bytes c.in_err-put_row-in-Read.ensures.failed
     (nothing_told (writer g.E.Device g.E.DeviceOut) c.args.errors.now) (search rules)

@@ -1,5 +1,8 @@
-use Rattle.std.proofs.Common.{refl, subst, rules}
-use Rattle.dcm_cli.proofs.Passes.Readers.{writer}
+use Rattle.std.proofs.Common.{refl, subst}
+use Rattle.dcm_table.specs.TableSink.{cleared}
+use Rattle.dcm_cli.specs.Change.{change_of}
+use Rattle.dcm_cli.proofs.Passes.Readers.{members, writer}
+use Rattle.dcm_tables.specs.Rows.{DoesFile}
 use Rattle.dcm_tables.specs.Table.{not_opened, done_at}
 use Rattle.dcm_tables.proofs.Made.{told}
 use Rattle.dcm_tables.proofs.table.do_at.Goals as goal
@@ -10,4 +13,7 @@ returns-in_default-clause-does g c =
 
 pub returns-clause-does : goal.returns-clause-does
 returns-clause-does g c =
-    let h = c.in-Some in ?
+    done_at c.in-Some.opened c.do_file-ends.new.input c.open_at.new.system c.in-Some.ensures
+    (subst (λ input. DoesFile (members g.S.Input.Device g.S.Input.DeviceIn) (writer g.W.Device g.W.DeviceOut) (cleared c.args.cells.now) c.args.form c.args.name.now (change_of (writer g.E.Device g.E.DeviceOut) c.args.errors.now c.do_file-ends.new.errors) c.args.out.now c.do_file-ends.new.out input c.do_file-ends.result c.do_file-ends.new.input)
+    c.new-input.ensures c.do_file-ends.ensures.does)
+    (subst (λ input. g.S.System.may_do.releases c.open_at.new.system input c.release.new.self) c.into_device.ensures c.release.ensures)

@@ -3,6 +3,7 @@ use Rattle.dcm_names.specs.Reader.{HasRead, most_left}
 use Rattle.dcm_table.specs.TableSink.{cleared}
 use Rattle.dcm_cli.specs.Change.{change_of}
 use Rattle.dcm_cli.proofs.Passes.Readers.{members, writer}
+use Rattle.dcm_tables.specs.Rows.{DoesFile}
 use Rattle.dcm_tables.specs.Table.{DoesListed, Listed}
 use Rattle.dcm_tables.proofs.table.do_names.Given as goal
 
@@ -12,7 +13,7 @@ invariant-loop-names g l = record {
   given : List ℕ;
   front : List (List ℕ);
   read : HasRead l.names given front;
-  done : Listed g.S.Input.DeviceIn.gets (DoesListed g.S.System.may_do (members g.S.Input.Device g.S.Input.DeviceIn) (writer g.W.Device g.W.DeviceOut) (cleared l.fn.cells) l.form)
+  done : Listed g.S.Input.DeviceIn.gets (DoesListed g.S.System.may_do (DoesFile (members g.S.Input.Device g.S.Input.DeviceIn) (writer g.W.Device g.W.DeviceOut) (cleared l.fn.cells) l.form))
       l.fn.out l.fn.input l.fn.system (change_of (writer g.E.Device g.E.DeviceOut) l.fn.errors l.errors) l.out given l.input front l.status l.system;
   kept : cleared l.cells ≡ cleared l.fn.cells;
   within : l.status ≤ 4;
