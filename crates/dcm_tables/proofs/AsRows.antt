@@ -5,7 +5,7 @@ use Rattle.dcm_files.specs.Devices.{MayDo}
 use Rattle.dcm_cli.specs.Calls.{Reader}
 use Rattle.dcm_cli.specs.Change.{Change}
 use Rattle.dcm_table_words.specs.Table.{Name, file, list}
-use Rattle.dcm_tables.specs.Table.{OneFile, DoesAt, not_opened, done_at, DoesListed, Listed, none_listed, and_name, DoesNames, all_done, not_read, not_written, DoesList, no_list, list_done, DoesName, DoneSoFar, none_done, and_done, DoesAll, all_names, failed_at}
+use Rattle.dcm_tables.specs.Table.{OneFile, DoesAt, not_opened, done_at, DoesListed, Listed, none_listed, and_name, DoesNames, all_done, not_read, not_written, no_list, list_done, DoesName, DoneSoFar, none_done, and_done, DoesAll, all_names, failed_at}
 
 module _ {S I O W : Type 0} (may : MayDo S I O) (r : Reader I) (Does Other : OneFile I W)
     (other : (name : List ℕ) (errors : Change) (from to : W) (before : I) (result : Result ℕ WriteFailed) (after : I) → Does name errors from to before result after → Other name errors from to before result after) where

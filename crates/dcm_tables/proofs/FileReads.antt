@@ -1,5 +1,5 @@
 -- Cells that are emptied and take the elements of a meta group.
-use Rattle.std.proofs.Common.{◌≡◌, ◌∙◌, ap, sym, subst, List, ℕ, fold}
+use Rattle.std.proofs.Common.{◌≡◌, ◌∙◌, ap, subst, List, ℕ, fold}
 use Rattle.dcm_base.specs.Tree.Tree.{Trees}
 use Rattle.dcm_head.specs.MetaReading.{Reading, group_of}
 use Rattle.dcm_head.specs.Rewriting.{OfElements}

@@ -1,5 +1,5 @@
 -- Lines that are written one after another.
-use Rattle.std.proofs.Common.{◌≡◌, ◌∙◌, ap, sym, subst, refl, ℕ, zero, suc, ◌+◌, ◌<◌, ◌≤◌, List, [], ◌∷◌, ◌++◌, append_assoc, length, take, drop, Bool, true, false, Option, Result, Ok, Err, arith}
+use Rattle.std.proofs.Common.{◌≡◌, ◌∙◌, ap, sym, subst, refl, ℕ, zero, suc, ◌+◌, ◌<◌, ◌≤◌, List, [], ◌∷◌, ◌++◌, append_assoc, length, take, drop, true, false, Option, Result, Err, arith}
 use Rattle.std.specs.Prelude.{IsErr, flat_map, option_to_list, Some, None, is_some}
 use Rattle.std.specs.Io.KnownBytes.{append_known}
 use Rattle.std.proofs.lemmas.List.{append-nil}
@@ -7,8 +7,7 @@ use Rattle.dcm_base.specs.declared.tag.Tag.{Tag}
 use Rattle.dcm_devices.specs.Device.{AppendsFront, Puts}
 use Rattle.dcm_devices.proofs.Writes.Puts.{append_known_none, append_known_twice, front_longer, puts_behind, puts_err}
 use Rattle.dcm_names.specs.NamedLines.{too_long_line}
-use Rattle.dcm_table.specs.Cell.{missing}
-use Rattle.dcm_table.specs.Row.{reported, reported_after, slot_at}
+use Rattle.dcm_table.specs.Row.{reported, slot_at}
 use Rattle.dcm_table.specs.TableSink.{Slot}
 use Rattle.dcm_tables.specs.Rows.{long_lines, long_tags, long_status}
 

@@ -1,5 +1,5 @@
 -- Names that are done one after another.
-use Rattle.std.proofs.Common.{◌≡◌, ◌∙◌, ap, sym, subst, refl, ℕ, ◌≤◌, List, [], ◌∷◌, ◌++◌, append_assoc, length, take, Bool, true, false, Option, None, Some, Result, Ok, Err, arith, inl, inr}
+use Rattle.std.proofs.Common.{◌≡◌, ◌∙◌, ap, sym, subst, refl, ℕ, List, [], ◌∷◌, ◌++◌, append_assoc, length, take, Bool, true, false, Option, Result, Ok, Err, arith}
 use Rattle.std.specs.Prelude.{codes, max, nat_le, ◌&&◌, flat_map}
 use Rattle.std.proofs.lemmas.List.{append-nil, take_all, length-take}
 use Rattle.std.proofs.lemmas.Bool.{leb-true}
@@ -11,14 +11,11 @@ use Rattle.dcm_names.specs.NamedLines.{unopened_line}
 use Rattle.dcm_names.specs.Names.{names_of}
 use Rattle.dcm_names.specs.Reader.{AnswersName, HasRead, ended_names, pending}
 use Rattle.dcm_names.specs.declared.list_reader.ListReader.{ListReader}
-use Rattle.dcm_table.specs.declared.quoted.TextForm.{TextForm}
-use Rattle.dcm_table.specs.TableSink.{State}
-use Rattle.dcm_cli.specs.Calls.{Reader}
 use Rattle.dcm_cli.specs.Change.{Change, change_of}
 use Rattle.dcm_cli.specs.ErrorLines.{Reports}
 use Rattle.dcm_cli.specs.Program.{Follows}
 use Rattle.dcm_table_words.specs.Table.{Name}
-use Rattle.dcm_tables.specs.Table.{OneFile, Writing, DoesAt, DoesListed, OpensAt, not_tried, refused, opened_at, not_opened, done_at, listed_path, DoneSoFar, and_done, DoesAll, all_names, failed_at, Listed, and_name, DoesNames, not_written}
+use Rattle.dcm_tables.specs.Table.{OneFile, Writing, DoesAt, DoesListed, not_tried, refused, opened_at, not_opened, done_at, listed_path, DoneSoFar, and_done, DoesAll, all_names, failed_at, Listed, and_name, DoesNames, not_written}
 
 -- one change of a writer after another
 pub follows : {E : Type 0} (w : Writer E) (first mid last : E) → Follows (change_of w first last) (change_of w first mid) (change_of w mid last)

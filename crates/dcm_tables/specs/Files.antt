@@ -1,5 +1,5 @@
 -- How a file is read for its row.
-use Rattle.std.specs.Prelude.{◌≡◌, ℕ, List, length, fold, Option, Some, None, Result, Ok, Err}
+use Rattle.std.specs.Prelude.{◌≡◌, ℕ, List, fold, Some, None, Ok, Err}
 use Rattle.dcm_base.specs.declared.syntax.Coding.{Coding}
 use Rattle.dcm_base.specs.declared.fault.Stop.{Stop}
 use Rattle.dcm_base.specs.declared.dictionary.Dictionary.TheVariants.{Standard}

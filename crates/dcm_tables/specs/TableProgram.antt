@@ -1,6 +1,6 @@
 -- What the program does with the words of its command line, which may ask for a table.
-use Rattle.std.specs.Prelude.{◌≡◌, ◌≤◌, ◌&&◌, ℕ, List, [], ◌∷◌, map, Bool, true, false, Option, Some, None, is_none}
-use Rattle.std.specs.Prelude.{Result, Ok, Err, MatchResult, ⊤, codes, bytes_eq, if◌then◌else◌}
+use Rattle.std.specs.Prelude.{◌≡◌, ◌&&◌, ℕ, List, [], ◌∷◌, map, Bool, true, false, Some, None, is_none}
+use Rattle.std.specs.Prelude.{Ok, Err, codes, bytes_eq, if◌then◌else◌}
 use Rattle.std.specs.declared.io.Error.{Error}
 use Rattle.dcm_devices.specs.declared.device.WriteFailed.{WriteFailed}
 use Rattle.dcm_devices.specs.Writing.{Writer}
@@ -16,7 +16,7 @@ use Rattle.dcm_table_words.specs.declared.usage.TableUsage.{TableUsage}
 use Rattle.dcm_table_words.specs.Table as table_words
 use Rattle.dcm_table_words.specs.Usages.{usage_line}
 use Rattle.dcm_cli.specs.Calls.{Reader}
-use Rattle.dcm_cli.specs.Change.{Change, change_of}
+use Rattle.dcm_cli.specs.Change.{Change}
 use Rattle.dcm_cli.specs.ErrorLines.{Reports, open_line, output_line}
 use Rattle.dcm_cli.specs.Program.{Follows, NoMemory, Obeys}
 use Rattle.dcm_cli.specs.Status.{DEVICE, USAGE}

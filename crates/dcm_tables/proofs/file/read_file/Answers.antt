@@ -1,9 +1,4 @@
-use Rattle.std.proofs.Common.{◌∙◌, subst, refl, List, ℕ, Err}
-use Rattle.dcm_base.specs.Tree.Tree.{Trees}
-use Rattle.dcm_head.specs.Rewriting.{OfElements}
-use Rattle.dcm_table.specs.Meta.{meta_atoms}
-use Rattle.dcm_table.specs.TableSink.{State, cleared, next}
-use Rattle.dcm_table.proofs.EachSlot.{same_cleared}
+use Rattle.std.proofs.Common.{◌∙◌, subst, refl, Err}
 use Rattle.dcm_cli.specs.Pass.{HeadReads}
 use Rattle.dcm_cli.specs.declared.ending.HeadEnding.{HeadEnding}
 use Rattle.dcm_cli.proofs.Passes.Readers.{members}

@@ -1,4 +1,4 @@
-use Rattle.std.proofs.Common.{subst, ap, sym, refl, ◌∙◌}
+use Rattle.std.proofs.Common.{refl}
 use Rattle.dcm_table_words.specs.Plans.{names_as}
 use Rattle.dcm_cli.specs.Change.{change_of}
 use Rattle.dcm_cli.proofs.Passes.Readers.{members, writer}

@@ -1,4 +1,4 @@
-use Rattle.std.proofs.Common.{◌≡◌, ◌+◌, ap, refl, rules, subst, arith, take, drop, Option, ℕ, List, [], length}
+use Rattle.std.proofs.Common.{◌≡◌, ◌+◌, refl, rules, subst, arith, take, drop, Option}
 use Rattle.std.specs.Prelude.{flat_map, option_to_list}
 use Rattle.std.specs.Io.KnownBytes.{append_known}
 use Rattle.dcm_base.specs.declared.tag.Tag.{Tag}
@@ -6,7 +6,7 @@ use Rattle.dcm_devices.specs.Device.{AppendsFront}
 use Rattle.dcm_names.specs.NamedLines.{too_long_line}
 use Rattle.dcm_table.specs.Row.{reported}
 use Rattle.dcm_tables.specs.Rows.{long_lines}
-use Rattle.dcm_tables.proofs.LinesOut.{none_so_far, more_so_far, failed_so_far, all_so_far, next_lines, no_lines}
+use Rattle.dcm_tables.proofs.LinesOut.{none_so_far, more_so_far, failed_so_far, next_lines}
 use Rattle.dcm_tables.proofs.rows.put_long_lines.Goals as goal
 
 pub loop-column-init : goal.loop-column-init

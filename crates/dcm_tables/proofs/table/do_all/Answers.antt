@@ -1,4 +1,4 @@
-use Rattle.std.proofs.Common.{◌≡◌, ◌∙◌, ap, sym, subst, refl, rules, arith, Ok, Err, ◌++◌, ◌∷◌, [], List}
+use Rattle.std.proofs.Common.{◌∙◌, subst, refl, rules, arith, Ok, Err, ◌++◌, ◌∷◌, []}
 use Rattle.dcm_table.specs.TableSink.{State, cleared}
 use Rattle.dcm_table_words.specs.Table.{Name}
 use Rattle.dcm_table_words.specs.Plans.{name_as}

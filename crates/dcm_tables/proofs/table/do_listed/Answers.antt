@@ -1,4 +1,3 @@
-use Rattle.std.proofs.Common.{rules}
 use Rattle.dcm_table.specs.TableSink.{cleared}
 use Rattle.dcm_cli.specs.Change.{change_of}
 use Rattle.dcm_cli.proofs.Passes.Readers.{members, writer}

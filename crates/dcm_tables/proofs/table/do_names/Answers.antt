@@ -1,5 +1,4 @@
-use Rattle.std.proofs.Common.{◌≡◌, ◌∙◌, ap, sym, subst, refl, rules, arith, ◌++◌, ◌∷◌, [], List, ℕ, Ok, Err}
-use Rattle.dcm_names.specs.Names.{can_be_opened}
+use Rattle.std.proofs.Common.{◌∙◌, subst, refl, rules, arith, ◌++◌, ◌∷◌, [], Ok, Err}
 use Rattle.dcm_table.specs.TableSink.{State, cleared}
 use Rattle.dcm_cli.specs.Change.{change_of}
 use Rattle.dcm_cli.proofs.Passes.Readers.{members, writer}

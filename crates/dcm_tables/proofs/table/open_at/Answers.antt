@@ -1,5 +1,5 @@
-use Rattle.std.proofs.Common.{refl, subst, rules}
-use Rattle.dcm_tables.specs.Table.{not_tried, refused, opened_at}
+use Rattle.std.proofs.Common.{refl, rules}
+use Rattle.dcm_tables.specs.Table.{refused, opened_at}
 use Rattle.dcm_tables.proofs.table.open_at.Goals as goal
 
 pub returns-in-Ok : goal.returns-in-Ok

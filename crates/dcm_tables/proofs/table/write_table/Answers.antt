@@ -1,5 +1,5 @@
-use Rattle.std.proofs.Common.{◌≡◌, ◌∙◌, ap, sym, subst, refl, rules, List, ℕ}
-use Rattle.dcm_table.specs.Columns.{list_of, tags_of}
+use Rattle.std.proofs.Common.{◌∙◌, ap, subst, refl, rules, List}
+use Rattle.dcm_table.specs.Columns.{tags_of}
 use Rattle.dcm_table.specs.TableSink.{State, begun, cleared}
 use Rattle.dcm_table.proofs.EachSlot.{same_begun}
 use Rattle.dcm_table_words.specs.Plans.{names_as}
