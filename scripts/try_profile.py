@@ -691,7 +691,7 @@ def edits(claim, words, data_set, edited, uid=LITTLE):
 
 
 def lost(claim, words, data_set, edited, *numbers):
-    told = "\ndcmtools: ".join(f"edit {number} found no place" for number in numbers)
+    told = "\n".join(f"edit {number} found no place" for number in numbers)
     return Case(claim, f"dcmodify {words} FILE -", file_of(LITTLE, data_set), file_of(LITTLE, edited), 3, told)
 
 
