@@ -19,7 +19,8 @@ from functools import lru_cache
 from pathlib import Path
 
 ROOT = Path(__file__).resolve().parent.parent
-TEXTS = {"dcmdump": "DUMP", "dcmconv": "CONVERT", "dump2dcm": "BUILD", "dcmodify": "MODIFY", "dcmdeid": "DEIDENTIFY"}
+TEXTS = {"dcmdump": "DUMP", "dcmconv": "CONVERT", "dump2dcm": "BUILD", "dcmodify": "MODIFY", "dcmdeid": "DEIDENTIFY",
+         "dcm2csv": "TABLE"}
 MANUAL = "man/dcmtools.1"
 
 MOST_WORDS = 20_000
@@ -174,7 +175,6 @@ FACTS = [
     (r"too many edits \| the (\d+)th", "crates/dcm_edits/src/edits.rt", "MOST_EDITS", 1),
     (r"more than (\d+) indexes", "crates/dcm_edits/src/form.rt", "MOST_INDEXES", 0),
     (r"the (\d+)th open sequence", "crates/dcm_base/src/level.rt", "MOST_LISTS", 1),
-    (r"At most (\d+) sequences and fragment lists are open", "crates/dcm_base/src/level.rt", "MOST_LISTS", 0),
     (r"passes the ([\d,]+)th byte of the group|meta group has at most ([\d,]+) bytes", "crates/dcm_head/src/group.rt", "META_LIMIT", 0),
     (r"80 to ([\d,]+)", "crates/dcm_base/src/limits.rt", "LINE_LIMIT", 0),
     (r"may have (?:N|so many) bytes, (\d+) to", "crates/dcm_words/src/words.rt", "LEAST_LIMIT", 0),
@@ -182,6 +182,9 @@ FACTS = [
     (r"or of an edit ([\d,]+)|A value has at most ([\d,]+) bytes|or has more than ([\d,]+) bytes", "crates/dcm_base/src/limits.rt", "VALUE_LIMIT", 0),
     (r"(\d+) to 4,?096", "crates/dcm_cli/src/key.rt", "LEAST_OF_KEY", 0),
     (r"16 to ([\d,]+)", "crates/dcm_words/src/job.rt", "MOST_OF_KEY", 0),
+    (r"1 to (\d+), in the order of the row|not 1 to (\d+) columns", "crates/dcm_table_words/src/plan.rt", "MOST_COLUMNS", 0),
+    (r"value of more than (16,?384) bytes", "crates/dcm_table/src/cell.rt", "CELL_LIMIT", 0),
+    (r"has a byte 00 or more than ([\d,]+) bytes|NAME is the name's first ([\d,]+) bytes", "crates/dcm_names/src/list.rt", "MOST_OF_NAME", 0),
     (r"writes ([\d,]+) bytes at a time", "crates/dcm_cli/src/convert.rt", "PIECE", 0),
     (r"a dump reads ([\d,]+)\.", "crates/dcm_cli/src/dump.rt", "PIECE", 0),
 ]
@@ -251,17 +254,17 @@ def shown_options(tool: str) -> set:
 def manual_options(tool: str) -> set:
     """The options that the manual page describes of a tool, with those of the dictionaries."""
     page = read(MANUAL)
-    title = "Edits of dcmodify" if tool == "dcmodify" else f"Options of {tool}"
+    title = {"dcmodify": "Edits of dcmodify", "dcm2csv": "Words of dcm2csv"}.get(tool, f"Options of {tool}")
     sections = [page.split(f".Ss {title}")[1].split(".Ss")[0]]
-    if tool not in ("dump2dcm", "dcmdeid"):
+    if tool not in ("dump2dcm", "dcmdeid", "dcm2csv"):
         sections.append(page.split(".Ss The dictionaries")[1].split(".Ss")[0])
     items = re.findall(r"^\.It (Fl|Cm) (\S+)", "\n".join(sections), re.M)
-    return {("-" if kind == "Fl" else "") + word for kind, word in items}
+    return {("-" if kind == "Fl" else "") + word for kind, word in items if word != "@"}
 
 
 def profile_options(tool: str) -> set:
     """The options and edits in the first tables of a tool's section of PROFILE."""
-    section = read("docs/users/PROFILE.md").split(f"\n# {tool}\n")[1].split("\n## ")[0].split("**How it differs")[0]
+    section = re.split(r"\n##? ", read("docs/users/PROFILE.md").split(f"\n# {tool}\n")[1])[0]
     cells = re.findall(r"^\| (`[-+][^|]*) \|", section, re.M)
     found = {span.split()[0] for cell in cells for span in re.findall(r"`([^`]*)`", cell)}
     return found | ({"-dict", "+dict"} if tool == "dcmodify" else set())

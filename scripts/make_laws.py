@@ -4,12 +4,11 @@
     scripts/make_laws.py            writes the table
     scripts/make_laws.py --check    ends with 1 where the page has another one, or a line is too long
 
-A law is a public function of a crate's src/laws.rt, whose contract is what is proved. Those of ON_THE_WAY speak of the states of the
-code: they carry what the contracts of its functions say up to the definitions, and are counted without a line.
+A law is a public function of a crate's src/laws.rt, whose contract is what is proved. Those of ON_THE_WAY carry what the contracts of
+functions say up to the definitions, and are counted without a line. Those of IN_THE_THEOREM are named in the page's theorem of a run.
 """
 import re
 import sys
-import textwrap
 from pathlib import Path
 
 ROOT = Path(__file__).resolve().parent.parent
@@ -17,11 +16,10 @@ PAGE = ROOT / "docs/auditors/PROVED.md"
 BEGIN = "<!-- laws: written by scripts/make_laws.py -->"
 END = "<!-- end of laws -->"
 MOST_WORDS = 30
-WIDTH = 138
 
 ON_THE_WAY = {
     "dcm_base": """reads_one one_shown front_shows value_reads_back line_reads_back rebuilt_recodes normal_recodes target_fits
-        keywords_differ called_back keywords_are_lines elements_ascend""",
+        keywords_differ called_back keywords_are_lines elements_ascend extract_is_part""",
     "dcm_head": "heads_read one_head heads_written meta_reads meta_reads_one data_set_begins meta_steps",
     "dcm_value": "text_steps value_reads_back",
     "dcm_stream": """machine_steps machine_answers machine_halts machine_stays_small machine_grows reads_one reads_some
@@ -40,8 +38,15 @@ ON_THE_WAY = {
 }
 
 
+IN_THE_THEOREM = {"dcm_cli": "answers_one answers_some comes_one comes_some"}
+
+
 def on_the_way(crate: str) -> set:
     return set(ON_THE_WAY.get(crate, "").split())
+
+
+def in_the_theorem(crate: str) -> set:
+    return set(IN_THE_THEOREM.get(crate, "").split())
 
 
 def laws_of(crate: str) -> list:
@@ -61,17 +66,17 @@ def crates() -> list:
 
 
 def table() -> str:
-    rows, others = ["| Law | It says |", "|---|---|"], []
+    rows, others = ["| Law | It says |", "|---|---|"], set()
     for crate in crates():
         way = on_the_way(crate)
         for name, sentences in laws_of(crate):
-            if name not in way:
+            if name not in way | in_the_theorem(crate):
                 more = " .." if len(sentences) > 1 else ""
                 rows.append(f"| `{crate}::{name}` | {sentences[0].rstrip('.')}{more} |")
         if way:
-            others.append(f"{crate} {len(way)}")
+            others.add(crate)
     count = sum(map(len, map(on_the_way, ON_THE_WAY)))
-    return "\n".join(rows) + "\n\n" + textwrap.fill(f"On the way to them there are {count} more: {', '.join(others)}.", WIDTH)
+    return "\n".join(rows) + f"\n\nOn the way to them there are {count} more, in {len(others)} crates."
 
 
 def faults() -> list:
@@ -80,7 +85,8 @@ def faults() -> list:
     for crate in crates():
         laws = dict(laws_of(crate))
         way = on_the_way(crate)
-        wrong += [f"{crate} has no law {name}" for name in sorted(way - set(laws))]
+        wrong += [f"{crate} has no law {name}" for name in sorted((way | in_the_theorem(crate)) - set(laws))]
+        wrong += [f"docs/auditors/PROVED.md does not name {name}" for name in sorted(in_the_theorem(crate)) if f"`{name}`" not in PAGE.read_text()]
         for name, sentences in laws.items():
             count = len(sentences[0].split())
             if name not in way and count > MOST_WORDS:

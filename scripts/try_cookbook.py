@@ -4,7 +4,8 @@
 Each block is run by bash as it is, once more after `set -o pipefail`, and once in a UTF-8 locale. After it no file that was there
 may be lost or changed, in content or mode, unless the block says so; no new file may be missing, be of another mode, or be left over;
 each file that fails has to be named; and where names are taken out, none is left in the bytes. Of README's table each command has to
-end with status 0.
+end with status 0. sqlite3 and GNU parallel have to be installed. Commands that the page calls not tried (DuckDB, pandas, Slurm, Spark)
+are no blocks, and are not run.
 
     scripts/try_cookbook.py [BINARY]
 
@@ -115,7 +116,6 @@ TREE = {
     b"DICOMDIR": Input(scan(b"Meier^Anna", b"24")),
 }
 COPIED = {name: file for name, file in TREE.items() if name != b"DICOMDIR"}
-FAILING = [name for name, file in TREE.items() if file.fails]
 
 FILES = {b"scan.dcm": (SCAN, 0o640), b"plan.dcm": (PLAN, 0o640), b"set.bin": (SET, 0o640)}
 CUT = {name: (content[:-4], mode) for name, (content, mode) in FILES.items()}  # within the head of the last element, or its value
@@ -206,17 +206,6 @@ def one_element(run):
     return holds(run, {}) + ([] if len(lines) == 2 and all(b"[AB^CD]" in line for line in lines) else [f"printed {run.printed!r}"])
 
 
-def element_of_many(run):
-    wrong = holds(run, {}) + names_all(run, list(TREE), run.printed)
-    for name, file in TREE.items():
-        line = b"".join(lines_of(run, name, run.printed))
-        if file.fails != (b": status 2: " in line and b"dcmtools: R" in run.printed) or file.fails == line.startswith(b": status 0"):
-            wrong.append(f"{name!r} has {line!r}")
-        if not file.fails and file.named != (b"(0010,0010) PN [" in line):
-            wrong.append(f"{name!r} has {line!r}")
-    return wrong
-
-
 TABLE_ROWS = {
     b"seriesA/IM000001.dcm": ["7", "CT"],
     b"seriesB/IM000001.dcm": ["8", "CT"],
@@ -237,22 +226,60 @@ def is_text(name):
         return False
 
 
-def table(run):
+def wrong_rows(run, files, names):
+    """What is wrong with a table of these files, of which those that fail are named in failed.txt."""
     there = run.files.get(b"table.csv", (b"", 0))[0].decode("utf-8")
     header, *rows = csv.reader(io.StringIO(there, newline="")) if there else [[]]
     failed = run.files.get(b"failed.txt", (b"", 0))[0]
-    wrong = holds(run, {b"table.csv": (None, 0o644), b"failed.txt": (None, 0o644)})
+    wrong = holds(run, files | {b"table.csv": (None, 0o644), b"failed.txt": (None, 0o644)})
     wrong += [] if header == ["File", "PatientID", "Modality"] else [f"the header is {header}"]
-    wrong += [] if len(rows) == sum(map(is_text, TREE)) else [f"there are {len(rows)} rows"]
-    for name, file in TREE.items():
+    wrong += [] if len(rows) == sum(map(is_text, names)) else [f"there are {len(rows)} rows"]
+    for name in names:
         found = [row[1:] for row in rows if row[0].encode() == b"in/" + name]
         if len(found) != int(is_text(name)) or name in TABLE_ROWS and found != [TABLE_ROWS[name]]:
             wrong.append(f"{name!r} has {found!r}")
         shown = b"".join(b"\\%02x" % byte if byte < 32 or byte in (92, 127) else bytes([byte]) for byte in name)
         line = b"dcmtools: in/" + shown + (b": R" if is_text(name) else b": input cannot be opened")
-        if (line in failed) != (file.fails or not is_text(name)):
-            wrong.append(f"{name!r} is in failed.txt or not")
+        if failed.count(line) != int(TREE[name].fails or not is_text(name)):
+            wrong.append(f"{name!r} is {failed.count(line)} times in failed.txt")
     return wrong
+
+
+def table(run):
+    return wrong_rows(run, {}, list(TREE))
+
+
+LISTED = [name for name in TREE if b"\n" not in name]
+OF_LINES = [name for name in TREE if b"\n" in name]
+
+
+def wrong_lines(run):
+    """What is wrong with what failed.txt says of names with a newline, which no list has."""
+    failed = run.files.get(b"failed.txt", (b"", 0))[0]
+    lines = subprocess.run(["printf", "%q: has a newline\\n", *(b"in/" + name for name in OF_LINES)], stdout=subprocess.PIPE, env=run.environment, timeout=60, check=True).stdout
+    counts = {line: failed.count(line) for line in lines.splitlines()}
+    return [f"{line!r} is {count} times in failed.txt" for line, count in counts.items() if count != 1]
+
+
+def table_of_list(run):
+    return wrong_rows(run, {}, LISTED) + wrong_lines(run)
+
+
+def table_in_parts(run):
+    names = {b"names.txt": (None, 0o644)}
+    listed = run.files.get(b"names.txt", (b"", 0))[0].split(b"\n")
+    wrong = [] if sorted(listed) == sorted([b"", *(b"in/" + name for name in LISTED)]) else [f"names.txt has {listed!r}"]
+    return wrong + wrong_rows(run, names, LISTED) + wrong_lines(run)
+
+
+def with_table(work):
+    with open(os.path.join(work, b"table.csv"), "wb") as file:
+        file.write(b'"File","PatientID","Modality"\n"in/a",,"CT"\n"in/a ""b"",\nc","NA","CT"\n"in/d","007","M\\xfc"\n')
+
+
+def table_in_sqlite(run):
+    wrong = holds(run, {b"table.csv": (None, 0o644), b"table.db": (None, 0o644)})
+    return wrong + ([] if run.printed == b"CT|2\nM\\xfc|1\n" else [f"printed {run.printed!r}"])
 
 
 def in_place(run):
@@ -378,8 +405,10 @@ class Block(NamedTuple):
 
 BLOCKS = [
     Block("dcmtools dcmdump +dict scan.dcm |", one_element),
-    Block("    found=$(dcmtools dcmdump - <", element_of_many),
     Block("columns=(-k", table),
+    Block("find in -type f ! -path $'*\\n*' |", table_of_list),
+    Block("sqlite3 table.db", table_in_sqlite, with_table),
+    Block("find in -type f ! -path $'*\\n*' > names.txt", table_in_parts),
     Block("    dcmtools dcmconv +dict +te scan.dcm", in_place),
     Block("convert() {", converted_tree),
     Block("    dcmtools dcmconv +dict +te plan.dcm", converted_plan),
@@ -441,7 +470,7 @@ def old_folders(work):
 
 def keeps_cut_files(run):
     """A block whose input is cut leaves it as it was, and makes no file of it but a text."""
-    return [wrong for wrong in holds(run, CUT) if not re.match(r"b'(in/.*|table.csv|failed.txt|left.txt|site.key|scan.txt|(out|fixed|clean)/.*)'", wrong)]
+    return [wrong for wrong in holds(run, CUT) if not re.match(r"b'(in/.*|table.csv|table.db|names.txt|failed.txt|left.txt|site.key|scan.txt|(out|fixed|clean)/.*)'", wrong)]
 
 
 def keeps_older_files(run):

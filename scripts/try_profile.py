@@ -261,9 +261,10 @@ FILES = [
         file_of(LITTLE, head(PIXELS, "OB", 200_000_000)),
         f"{AT_SET + 12 + 200_000_000}\n",
     ),
-    Case("a stack of 400 KB is enough", "dcmconv FILE -", FILE_LIMIT, FILE_LIMIT, before="ulimit -s 400"),
-    Case("a stack of 400 KB is enough for a dump", "dcmdump FILE", WRITTEN, shown(LITTLE, NAME_LINE), before="ulimit -s 400"),
-    Case("a stack of 400 KB is enough for lines", "dump2dcm FILE -", SYNTAX_LINE, file_of(LITTLE, b""), before="ulimit -s 400"),
+    Case("a stack of 600 KB is enough", "dcmconv FILE -", FILE_LIMIT, FILE_LIMIT, before="ulimit -s 600"),
+    Case("a stack of 600 KB is enough for a dump", "dcmdump FILE", WRITTEN, shown(LITTLE, NAME_LINE), before="ulimit -s 600"),
+    Case("a stack of 600 KB is enough for lines", "dump2dcm FILE -", SYNTAX_LINE, file_of(LITTLE, b""), before="ulimit -s 600"),
+    Case("a stack of 600 KB is enough for a table", "dcm2csv -k PatientName FILE", WRITTEN, '"File","PatientName"\n"FILE","AB"\n', before="ulimit -s 600"),
     Case("a stack of 600 KB is enough for edits", "dcmodify -m PatientName=AB FILE -", WRITTEN, WRITTEN, before="ulimit -s 600"),
 ]
 
@@ -690,7 +691,7 @@ def edits(claim, words, data_set, edited, uid=LITTLE):
 
 
 def lost(claim, words, data_set, edited, *numbers):
-    told = "\ndcmtools: ".join(f"edit {number} found no place" for number in numbers)
+    told = "\n".join(f"edit {number} found no place" for number in numbers)
     return Case(claim, f"dcmodify {words} FILE -", file_of(LITTLE, data_set), file_of(LITTLE, edited), 3, told)
 
 
@@ -881,13 +882,105 @@ IDENTITY = [
 ]
 
 
-TOOLS = ["dcmdump", "dcmconv", "dump2dcm", "dcmodify", "dcmdeid"]
+# ---- dcm2csv
+
+RATE = 0x00189074  # FD
+OFFSET = 0x00281052
+
+
+def table(claim, words, data_set, *rows, uid=LITTLE, **more):
+    """A table of FILE by these words, without header."""
+    return Case(claim, f"dcm2csv +nh {words}", file_of(uid, data_set), "".join(f"{row}\n" for row in rows), **more)
+
+
+def cell(claim, tag, vr, value, shown, words="", uid=LITTLE):
+    return table(claim, f"{words} -k '({tag >> 16:04x},{tag & 0xFFFF:04x})' FILE", leaf(tag, vr, value, uid), f'"FILE",{shown}', uid=uid)
+
+
+def no_table(claim, words, text):
+    return Case(claim, f"dcm2csv {words}", file_of(LITTLE, AB), b"", 1, text)
+
+
+NAMED = '"FILE","AB"'
+COMMENT = "PatientComments"
+LONG = leaf(COMMENTS, "UT", b"a" * 16385)
+TOO_LONG = "FILE: value of (0010,4000) is longer than 16384 bytes"
+UNOPENED = "input cannot be opened"
+
+TABLES = [
+    Case("a header, and a row", "dcm2csv -k PatientName -k PatientID FILE", file_of(LITTLE, AB), f'"File","PatientName","PatientID"\n{NAMED},\n'),
+    Case("a number of the dictionary has its keyword, another is as it was given", "dcm2csv -k '(0010,0010)' -k '(7FE1,0001)' FILE", file_of(LITTLE, AB), f'"File","PatientName","(7FE1,0001)"\n{NAMED},\n'),
+    table("the columns in their order, also twice the same", "-k PatientID -k PatientName -k PatientID FILE", AB + leaf(ID, "LO", b"7 "), '"FILE","7","AB","7"'),
+    table("a row for each file, with its name as it was given", "-k PatientName FILE ./FILE FILE", AB, NAMED, '"./FILE","AB"', NAMED),
+    table("standard input", "-k PatientName - < FILE", AB, '"-","AB"'),
+    table("a list: a name on each line, an empty one is none, the last may lack its newline", "-k PatientName @list FILE", AB, '"./FILE","AB"', NAMED, NAMED, before="printf './FILE\\n\\nFILE' > list", after="rm list"),
+    table("a list in standard input", "-k PatientName @- <<< FILE", AB, NAMED),
+    table("a line is a name as it is", "-k PatientName @list", AB, '"-","AB"', '"@x","AB"', '"a\r","AB"', before="cp FILE ./-; cp FILE @x; cp FILE $'a\\r'; printf '%s\\n' - @x $'a\\r' > list", after="rm ./- @x $'a\\r' list"),
+    table("a list of no names", "-k PatientName @/dev/null", AB),
+    table("a name with a quote and a newline", "-k PatientName $'a\\n\"b'", AB, '"a\n""b","AB"', before="cp FILE $'a\\n\"b'", after="rm a*"),
+    table("a file whose name begins with @", "-k PatientName ./@name", AB, '"./@name","AB"', before="cp FILE @name", after="rm @name"),
+    cell("quotes are doubled, bytes 00 and 20 at the end dropped, backslashes stay", COMMENTS, "LT", b'a "b"\\c \0 ', '"a ""b""\\c"'),
+    cell("an empty text", COMMENTS, "LT", b"", '""'),
+    cell("UI", INSTANCE_OF_FILE, "UI", b"1.2\0", '"1.2"'),
+    cell("one number has no quotes", ROWS, "US", b"\1\2", "513"),
+    cell("several are joined by backslashes", ROWS, "SS", b"\1\0\xff\xff\3", '"1\\-1"'),
+    cell("without a whole unit", ROWS, "US", b"\1", '""'),
+    cell("numbers in big endian", ROWS, "UL", b"\0\0\1\2", "258", uid=BIG),
+    cell("UV", ROWS, "UV", b"\xff" * 8, "18446744073709551615"),
+    cell("floats", RATE, "FD", struct.pack("<5d", 1, -0.0, 1e16, float("nan"), float("-inf")), '"1.0\\-0.0\\1e16\\NaN\\-inf"'),
+    cell("a single float", RATE, "FL", struct.pack("<f", 0.1), "0.1"),
+    cell("AT", OFFSET, "AT", b"\x10\0\x10\0", '"(0010,0010)"'),
+    cell("several AT", OFFSET, "AT", b"\x10\0\x10\0\xe0\x7f\x10\0", '"(0010,0010)\\(7fe0,0010)"'),
+    cell("OW is not shown", PIXELS, "OW", b"\1\2", ""),
+    cell("a private UN is not shown", 0x00111001, "UN", b"AB", ""),
+    cell("a sequence is not shown", IMAGES, "SQ", b"", ""),
+    cell("UN of known length has the dictionary's VR", NAME, "UN", b"AB", '"AB"'),
+    cell("its numbers are in little endian", ROWS, "UN", b"\1\2", "513", uid=BIG),
+    cell("in implicit VR too", ROWS, "", b"\1\2", "513", uid=IMPLICIT),
+    cell("bytes that are no UTF-8", NAME, "PN", b"M\xfcller\xc3\xa4", '"M\\xfcller\u00e4"'),
+    cell("they are as they are with +by", NAME, "PN", b"M\xfcller", '"M\udcfcller"', "+by"),
+    table("the first element of the tag counts", "-k PatientName FILE", AB + leaf(NAME, "PN", b"CD"), NAMED),
+    table("at the outermost level", "-k PatientName FILE", sequence(IMAGES, item(leaf(NAME, "PN", b"CD"))) + AB, NAMED),
+    table("the meta group's elements", "-k TransferSyntaxUID FILE", AB, '"FILE","1.2.840.10008.1.2.1"'),
+    table("a column after a greater tag than the greatest column is not seen", "-k PatientName FILE", leaf(ROWS, "US", b"\1\0") + AB, '"FILE",'),
+    table("but before that it is", "-k PatientName -k Rows FILE", leaf(ROWS, "US", b"\1\0") + AB, '"FILE","AB",1'),
+    table("a file is read no further than its row needs", "-k PatientName FILE", AB + leaf(ROWS, "US", b"\1\0") + b"no head", NAMED),
+    table("a fault: what was whole before it", "-k PatientName -k Rows FILE", AB + head(ROWS, "US", 2), f"{NAMED},", status=2, line=f"FILE: R1 at byte {AT_SET + 18}: input ends too early"),
+    table("a value of 16,384 bytes is shown", f"-k {COMMENT} FILE", leaf(COMMENTS, "UT", b"a" * 16384), '"FILE","' + "a" * 16384 + '"'),
+    table("a longer one is reported once a tag", f"-k {COMMENT} -k PatientName -k {COMMENT} FILE", AB + LONG, '"FILE",,"AB",', status=2, line=TOO_LONG),
+    table("before the fault", f"-k {COMMENT} -k Rows FILE", LONG + b"\1", '"FILE",,', status=2, line=f"{TOO_LONG}\nFILE: R1 at byte {AT_SET + 12 + 16385 + 1}: input ends too early"),
+    table("all other files are still done, and the status is the greatest", "-k PatientName . FILE none", AB + b"\1", NAMED, status=4, line=f".: {UNOPENED}\nFILE: R1 at byte {AT_SET + 11}: input ends too early\nnone: {UNOPENED}"),
+    table("a list that is not there", "-k PatientName @none FILE", AB, NAMED, status=4, line=f"none: {UNOPENED}"),
+    table("a name that is no UTF-8", "-k PatientName $'gr\\366sse' FILE", AB, NAMED, status=4, line=f"gr\udcf6sse: {UNOPENED}", before="cp FILE $'gr\\366sse'", after="rm gr*"),
+    table("its file is read as standard input", "-k PatientName - < $'gr\\366sse'", AB, '"-","AB"', before="cp FILE $'gr\\366sse'", after="rm gr*"),
+    table("a name in a line", "-k PatientName $'a\\nb\\\\c\\177'", AB, status=4, line=f"a\\0ab\\5cc\\7f: {UNOPENED}"),
+    table("a name of 4,097 bytes", "-k PatientName $(printf '%04097d' 1)", AB, status=4, line=f"{'0' * 4096}: {UNOPENED}"),
+    table("a name with a byte 00", "-k PatientName @list", AB, status=4, line=f"FILE\\00: {UNOPENED}", before="printf 'FILE\\0' > list", after="rm list"),
+    table("reading fails", "-k PatientName /proc/self/mem FILE", AB, NAMED, status=4, line="/proc/self/mem: reading failed after 0 bytes"),
+    table("the output fails", "-k PatientName FILE > /dev/full", AB, status=4, line="output failed"),
+    no_table("V2 is before U2", "-k what +dict FILE", "V2 at word 4: unknown option"),
+    no_table("V3: no word after -k", "FILE -k", "V3 at word 3: bad option value"),
+    no_table("any word after -k is its TAG", "-k +nh FILE", "U2 in column 1: unknown tag"),
+    no_table("U1: an empty column", "-k Rows -k '' FILE", "U1 in column 2: bad option or path"),
+    no_table("U1: no number", "-k '(0010' FILE", "U1 in column 1: bad option or path"),
+    no_table("U2 is before V8", f"{'-k Rows ' * 65} -k what", "U2 in column 66: unknown tag"),
+    no_table("V8 is before V4", f"{'-k Rows ' * 65}", "V8: not 1 to 64 columns"),
+    no_table("V8: no column", "FILE", "V8: not 1 to 64 columns"),
+    no_table("V4: no file", "-k Rows", "V4: wrong number of paths"),
+    no_table("V4 is before V9", "-k Rows - @- ''", "V4: wrong number of paths"),
+    no_table("V4: an empty name of a list", "-k Rows @", "V4: wrong number of paths"),
+    no_table("V9", "-k Rows - @-", "V9: standard input is named twice"),
+]
+
+
+TOOLS = ["dcmdump", "dcmconv", "dump2dcm", "dcmodify", "dcmdeid", "dcm2csv"]
 OPTIONS = [
     ["-L", "+L", "+fo", "-f", "-ti", "-te", "-tb", "-dict", "+dict"],
     ["+t=", "+ti", "+te", "+tb", "-e", "+fo", "-dict", "+dict"],
     ["+l", "-e"],
     ["-i", "-m", "-e", "-ma", "-ea", "-ep", "-dict", "+dict"],
     ["+ru", "+rd", "+ri", "+rp", "+rl", "+bi", "+k"],
+    ["-k", "+nh", "+by", "@LIST"],
 ]
 
 TEXTS = [Shows(f"{word} of the program", word, TOOLS) for word in ("help", "--help")]
@@ -947,7 +1040,7 @@ def wrong_case(binary, case):
             file.write(case.input)
         words = ["bash", "-c", f'{case.before}\n"$0" {case.words}\nstatus=$?\n{case.after}\nexit $status', binary]
         done = subprocess.run(words, cwd=folder, capture_output=True, timeout=60, check=False)
-        told = f"dcmtools: {case.line}\n".encode() if case.line else b""
+        told = b"".join(bytes_of(f"dcmtools: {line}\n") for line in case.line.split("\n") if line)
         if (done.returncode, done.stderr) != (case.status, told):
             return f"status {done.returncode}, {done.stderr!r}"
         if done.stdout != bytes_of(case.output):
@@ -968,7 +1061,7 @@ def wrong_text(binary, shows):
 
 def main():
     binary = os.path.abspath(sys.argv[1] if len(sys.argv) > 1 else os.path.join(ROOT, "crates/dcmtools/out/dcmtools"))
-    cases = WORDS + SAME_FILE + READING + DICTIONARIES + FILES + SHOWING + WRITING + BUILDING + EDITING + PRIVACY + IDENTITY + FAULTS
+    cases = WORDS + SAME_FILE + READING + DICTIONARIES + FILES + SHOWING + WRITING + BUILDING + EDITING + PRIVACY + IDENTITY + TABLES + FAULTS
     answers = [(case.claim, wrong_case(binary, case)) for case in cases]
     answers += [(shows.claim, wrong_text(binary, shows)) for shows in TEXTS]
     for claim, wrong in answers:

@@ -18,7 +18,7 @@ pub fn answers_one()
     ensures { (job : words.Job) (input : List ℕ) (a b : Answer) → Answers job input a → Answers job input b → a ≡ b }
 {}
 
-/// A job has an answer to each input, whatever its bytes are.
+/// A job has an answer to each input.
 pub fn answers_some()
     ensures { (job : words.Job) (input : List ℕ) → (a : Answer) × Answers job input a }
 {}
@@ -28,48 +28,47 @@ pub fn comes_one()
     ensures { (words : List (List ℕ)) (s : MemSystem) (a b : Outcome) → Comes words s a → Comes words s b → a ≡ b }
 {}
 
-/// Words come to an outcome over files in memory, whatever they are and whatever the files hold.
+/// Words come to an outcome over files in memory, whatever these hold.
 pub fn comes_some()
     ensures { (words : List (List ℕ)) (s : MemSystem) → (o : Outcome) × Comes words s o }
 {}
 
-/// What is sure of a beginning of an input is a beginning of the output for every input that begins so. Edits are
-/// those that some words mean.
+/// What is sure of a beginning is a beginning of the output of every input that begins so. Edits are those that some
+/// words mean.
 pub fn sure_grows()
     ensures { SureGrows }
 {}
 
-/// A run that builds the full dump of a file comes to what a conversion of the file to its own transfer syntax writes,
-/// but for the preamble. Where the file is read without fault, its values are of whole units, the tags of each of its
-/// data sets ascend, and no line of the dump passes the limit, the second run ends with status 0, and the first 128
-/// bytes of its output are 0.
+/// A run that builds the full dump of a file comes to what its conversion writes, but for the preamble. That is the
+/// conversion to its own transfer syntax. Where the file is read without fault, its values are of whole units, the tags
+/// of each of its data sets ascend, and no line of the dump passes the limit, the second run ends with status 0, and
+/// the first 128 bytes of its output are 0.
 pub fn dump_builds_runs()
     ensures { DumpBuilds }
 {}
 
-/// What dcmodify answers without edits is what dcmconv answers for the file's own transfer syntax, where no tag is
-/// refused for its order.
+/// Without edits dcmodify answers what `dcmconv +t=` answers, where no tag is refused for its order.
 pub fn no_edits_convert()
     ensures { NoEditsConvert }
 {}
 
 /// What dcmodify writes of a file without fault is a file that is read without fault. Its preamble and its transfer
-/// syntax are those of the input, its meta group is the one that was written anew, and its data set is the normal
-/// form of the edited one. Here and in what follows, a value that is too long for its representation, and so becomes
+/// syntax are those of the input, its meta group is the one that was written anew, and its data set is the normal form
+/// of the edited one. Here and in what follows, a value that is too long for its representation, and so becomes
 /// unknown, may not be of a tag that the dictionary calls a sequence: that would be read as one.
 pub fn modified_reads()
     ensures { ModifiedReads }
 {}
 
-/// What dcmconv writes of one is so too, with the transfer syntax of the target, and the normal form of the data set.
+/// What dcmconv writes of one is so too. It has the transfer syntax of the target, and the normal form of the data set.
 /// To an implicit one, the dictionary has to tell its values from its sequences.
 pub fn converted_reads()
     ensures { ConvertedReads }
 {}
 
-/// In the output of dcmodify no element has the tag after `-ea`, none is of an odd group after `-ep`, and each of the
-/// tag has the value after `-ma`. So it is for a file without fault, at any depth, however the output is read as a file,
-/// and that is without fault. The value is as it is written.
+/// After `-ea` the output has no element of the tag, after `-ep` none of an odd group, after `-ma` each has the value.
+/// So it is for a file without fault, at any depth, however the output is read as a file, and that is without fault.
+/// The value is as it is written.
 pub fn output_is_edited()
     ensures erased_all { ErasedAll }
     ensures erased_private { ErasedPrivate }
@@ -83,9 +82,9 @@ pub fn output_keeps_others()
     ensures { OthersStay }
 {}
 
-/// What is erased, set and left is so for readers with another dictionary too, where it opens the output alike. In an
-/// implicit one, no value is a sequence by it, and each sequence is one; in an explicit one, no unknown value is a
-/// sequence by it. They read the same data set, with other representations.
+/// What is erased, set and left is so for readers with another dictionary that opens the output alike. In an implicit
+/// one, no value is a sequence by it, and each sequence is one; in an explicit one, no unknown value is a sequence by
+/// it. They read the same data set, with other representations.
 pub fn output_for_others()
     ensures alike { ReadsAlike }
     ensures erased_all { ErasedAllBy }
@@ -94,28 +93,27 @@ pub fn output_for_others()
     ensures others_stay { OthersStayBy }
 {}
 
-/// The extract opens an explicit output alike, and each dictionary one that was edited by that dictionary, or by the
-/// standard one. Where a file was edited by the extract, a reader with the standard one may see more: it opens a
-/// sequence of known length whose tag the extract does not have, or that is unknown in an explicit file, which is one
-/// value to the extract, and in which nothing was edited.
+/// The extract opens explicit outputs alike, and each dictionary those edited by it or by the standard one. Where a
+/// file was edited by the extract, a reader with the standard one may see more: it opens a sequence of known length
+/// whose tag the extract does not have, or that is unknown in an explicit file, which is one value to the extract, and
+/// in which nothing was edited.
 pub fn output_opens_alike()
     ensures explicit { ExplicitOpensAlike }
     ensures own { OwnOpensAlike }
     ensures standard { StandardOpensAlike }
 {}
 
-/// What was erased is gone for every reader that reads the output to its end, where its values hide nothing from it. A
-/// value that is a sequence by its dictionary is then empty, and in an explicit output there is none. They hide
-/// nothing from one that opens the output alike.
+/// What was erased is gone for every reader from whom the values of the output hide nothing. It reads to its end. A
+/// value that is a sequence by its dictionary is then empty, and in an explicit output there is none. They hide nothing
+/// from one that opens the output alike.
 pub fn output_erased_for_all()
     ensures erased_all { ErasedAllSeen }
     ensures erased_private { ErasedPrivateSeen }
     ensures alike { AlikeHidesNothing }
 {}
 
-/// dcmodify on its own output, with the same edits, writes the same bytes again, where no edit erases an item by its
-/// number. So it is where the first run read a file without fault. The second one refuses nothing: its status is 0 or
-/// 3.
+/// dcmodify on its own output, with the same edits, writes the same bytes again. No edit erases an item by its number.
+/// So it is where the first run read a file without fault. The second one refuses nothing: its status is 0 or 3.
 pub fn modified_twice()
     ensures { ModifiedTwice }
 {}
@@ -127,27 +125,27 @@ pub fn nothing_flows_in_answers()
     ensures { NothingFlows }
 {}
 
-/// What dcmdeid writes of a file without fault is a file that is read without fault, by each of the two dictionaries.
-/// Its transfer syntax is that of the input, its meta group is the one that was written anew of the elements that stay,
-/// and its data set is the normal form of the one without identity.
+/// What dcmdeid writes of a file without fault is read without fault, by both dictionaries. Its transfer syntax is that
+/// of the input, its meta group is the one that was written anew of the elements that stay, and its data set is the
+/// normal form of the one without identity.
 pub fn deidentified_reads()
     ensures { DeidentifiedReads }
 {}
 
-/// Nothing that dcmdeid took out of a file without fault is in its output, read again by the whole dictionary, at any
-/// depth. However the output is read, it is read without fault.
+/// Nothing that dcmdeid took out of a file without fault is in its output, at any depth. So it is where the output is
+/// read again by the whole dictionary. However the output is read, it is read without fault.
 pub fn output_is_clean()
     ensures { OutputIsClean }
 {}
 
-/// Where the head of a file and its data set named the same instance, they name the same new one in the output of dcmdeid.
-/// That is where unique identifiers are replaced, and padding is set aside.
+/// Where head and data set named the same instance, they name the same new one in the output of dcmdeid. That is where
+/// unique identifiers are replaced, and padding is set aside.
 pub fn instance_agrees()
     ensures { InstanceAgrees }
 {}
 
-/// dcmdeid on its own output, with the same options, writes the same bytes again, where unique identifiers are retained.
-/// The first run is on a file without fault. The second one refuses nothing: its status is 0 or 3.
+/// dcmdeid on its own output, with the same options, writes the same bytes again. Unique identifiers are retained, and
+/// the first run is on a file without fault. The second one refuses nothing: its status is 0 or 3.
 pub fn deidentified_twice()
     ensures { DeidentifiedTwice }
 {}

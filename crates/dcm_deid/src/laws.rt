@@ -29,7 +29,7 @@ pub fn actions_ascend()
     ensures { IsStrictlyIncreasing (map (λ (a : Action). a.0) actions) }
 {}
 
-/// Nothing of what is taken out of a data set has any influence on what is left of it.
+/// Nothing of what is taken out of a data set has any influence on what is left.
 pub fn nothing_flows()
     ensures { (options : Options) (new : Renaming) (depth : Depth) (f g : Trees) → Alike options depth f g
         → deidentified_set options new depth f ≡ deidentified_set options new depth g }

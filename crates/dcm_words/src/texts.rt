@@ -131,5 +131,6 @@ DICOM file
 input. The table goes to standard output. A FILE at fault has its row; all others are still done.
 
 Exit status: 0 done, 1 words refused, 2 a file at fault or a value of more than 16384 bytes, 4 a file
-not opened or read, or output failed, 5 out of memory. The manual: man dcmtools, and docs/PROFILE.md
+not opened or read, or output failed, 5 out of memory. The manual: man dcmtools, and
+docs/users/PROFILE.md
 ";
