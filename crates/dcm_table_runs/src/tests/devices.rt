@@ -22,7 +22,7 @@ pub enum Failure {
 /// How the devices of a run work.
 #[derive(Clone, Copy)]
 pub struct Devices<'a> {
-    /// The bytes that a reader gives at most.
+    /// The bytes that a reader gives at most: each one, or that which fails.
     pub step: usize,
     /// The path of the reader that fails, and how many of its calls go well.
     pub failing: &'a [u8],
@@ -38,7 +38,7 @@ pub struct Devices<'a> {
 
 /// Devices that do not fail.
 pub const SOUND: Devices<'static> = Devices {
-    step: 7,
+    step: ALL,
     failing: b"",
     reads: ALL,
     hidden: b"",
@@ -211,6 +211,16 @@ impl<'a> Memory<'a> {
         None
     }
 
+    /// The bytes that a reader of a file gives at most.
+    fn step(&self, file: &Loaded) -> usize {
+        let failing = self.devices.failing;
+        if failing.is_empty() || file.path == failing {
+            self.devices.step
+        } else {
+            ALL
+        }
+    }
+
     /// How many reads go well of a file.
     fn good_reads(&self, file: &Loaded) -> usize {
         if file.front == Front::Broken {
@@ -235,7 +245,7 @@ impl<'a> Memory<'a> {
         self.count();
         let steps = Steps {
             rest: file.bytes.as_slice(),
-            step: self.devices.step,
+            step: self.step(file),
             good: self.good_reads(file),
         };
         Opened {
