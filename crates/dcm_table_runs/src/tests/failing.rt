@@ -95,6 +95,11 @@ fn size_at(files: &[Loaded], path: &[u8]) -> usize {
     0
 }
 
+/// Whether so many bytes end within the preamble, of which no byte means anything.
+fn is_in_preamble(read: usize) -> bool {
+    1 < read && read < 128
+}
+
 /// Runs a row over readers of a file that fail, at the last at the call that would give the end.
 fn read_failing(
     rt: HostRuntime,
@@ -107,7 +112,9 @@ fn read_failing(
         return Ok(());
     }
     for read in 0..=size_at(files, entry.path) {
-        read_failing_after(rt, abort, row, files, entry, read)?;
+        if !is_in_preamble(read) {
+            read_failing_after(rt, abort, row, files, entry, read)?;
+        }
     }
     Ok(())
 }
