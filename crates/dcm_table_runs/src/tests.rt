@@ -1,13 +1,20 @@
 mod devices;
 mod ends;
+mod examples;
 mod failing;
+mod lists;
 mod long;
 mod many;
 mod names;
+mod outputs;
 mod plain;
+mod program;
 mod refused;
 mod representations;
 mod rows;
+mod texts;
+mod unopened;
+mod unread_lists;
 
 use dcm_base::{Std, Watched};
 use dcm_tables::obey;
@@ -50,7 +57,11 @@ fn repeated(
 /// The line that reports that reading failed, without its beginning.
 fn unread_line(rt: HostRuntime, read: usize) -> Result<Vec<u8>, Fail> {
     let mut digits = Buffer::new();
-    let line = joined(rt, b": reading failed after ", digits.format(read).as_bytes())?;
+    let line = joined(
+        rt,
+        b": reading failed after ",
+        digits.format(read).as_bytes(),
+    )?;
     joined(rt, line.as_slice(), b" bytes\n")
 }
 
@@ -180,12 +191,17 @@ fn representations_of_values(rt: HostRuntime) -> Result<(), Fail> {
 
 #[test]
 fn texts_that_are_no_utf8(rt: HostRuntime) -> Result<(), Fail> {
-    expect_rows(rt, &rt, &representations::TEXTS)
+    expect_rows(rt, &rt, &texts::TEXTS)
 }
 
 #[test]
 fn ends_of_reading(rt: HostRuntime) -> Result<(), Fail> {
     expect_rows(rt, &rt, &ends::ENDS)
+}
+
+#[test]
+fn files_that_are_not_opened(rt: HostRuntime) -> Result<(), Fail> {
+    expect_rows(rt, &rt, &unopened::UNOPENED)
 }
 
 #[test]
@@ -195,10 +211,10 @@ fn names_among_words(rt: HostRuntime) -> Result<(), Fail> {
 
 #[test]
 fn names_in_lists(rt: HostRuntime) -> Result<(), Fail> {
-    expect_rows(rt, &rt, &names::LISTS)
+    expect_rows(rt, &rt, &lists::LISTS)
 }
 
 #[test]
 fn lists_that_are_not_read(rt: HostRuntime) -> Result<(), Fail> {
-    expect_rows(rt, &rt, &names::LISTS_UNREAD)
+    expect_rows(rt, &rt, &unread_lists::UNREAD_LISTS)
 }

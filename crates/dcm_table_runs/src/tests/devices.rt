@@ -166,6 +166,8 @@ pub struct Memory<'a> {
     devices: Devices<'a>,
     clock: &'a Cell<usize>,
     room: Option<FailWriter<'a>>,
+    /// The words of the command line, where there is memory for them.
+    words: Option<Vec<Vec<u8>>>,
     /// The output, once it was closed.
     pub written: Option<FailWriter<'a>>,
     /// How many inputs were opened, and when the last of them was.
@@ -189,12 +191,26 @@ impl<'a> Memory<'a> {
             devices,
             clock,
             room: Some(output),
+            words: None,
             written: None,
             opened: 0,
             opened_at: 0,
             open: 0,
             most_open: 0,
         }
+    }
+
+    /// The system with these words of a command line.
+    pub fn with_words(self, words: Vec<Vec<u8>>) -> Self {
+        Memory {
+            words: Some(words),
+            ..self
+        }
+    }
+
+    /// The system with no output that can be opened.
+    pub fn without_output(self) -> Self {
+        Memory { room: None, ..self }
     }
 
     /// What is at a path.
@@ -297,7 +313,10 @@ impl<'a> System for Memory<'a> {
     ghost may_do = { anything };
 
     fn words(&mut self) -> Result<Vec<Vec<u8>>, AllocError> {
-        Err(AllocError)
+        match self.words.take() {
+            Some(words) => Ok(words),
+            None => Err(AllocError),
+        }
     }
 
     fn stdin(&mut self) -> Opened<Std<Steps<'a>>> {

@@ -18,10 +18,12 @@ const NAME: &[u8] = b"\x10\0\x10\0PN\x06\0AB^CD ";
 
 /// The head of (0010,4000) with 16,384 bytes, and with 16,385.
 const COMMENTS: &[u8] = b"\x10\0\0@LT\0@";
+
 const LONGER_COMMENTS: &[u8] = b"\x10\0\0@LT\x01@";
 
 /// The head of (7fe0,0010) with 20,000 bytes.
 const PIXELS: &[u8] = b"\xe0\x7f\x10\0OW\0\0 N\0\0";
+
 const PIXELS_SIZE: usize = 20_000;
 
 /// A file at a path.
@@ -94,7 +96,11 @@ fn longest_values(rt: HostRuntime) -> Result<(), Fail> {
     let first = longest_row(rt)?;
     let wanted = Answer {
         status: 2,
-        output: joined(rt, first.as_slice(), b"\"long\",,,,\"AB^CD\"\n\"cut\",,,,\n")?,
+        output: joined(
+            rt,
+            first.as_slice(),
+            b"\"long\",,,,\"AB^CD\"\n\"cut\",,,,\n",
+        )?,
         told: LONG_LINES.to_vec(rt.alloc())?,
     };
     expect_answer(&rt, "longest values", &left, &wanted);
@@ -103,11 +109,18 @@ fn longest_values(rt: HostRuntime) -> Result<(), Fail> {
 
 /// A name of so many bytes.
 const LONGEST_NAME: [u8; NAME_LIMIT] = [b'n'; NAME_LIMIT];
+
 const LONGER_NAME: [u8; NAME_LIMIT + 1] = [b'n'; NAME_LIMIT + 1];
 
 /// What is wanted of the longest name and of longer ones: a row, and lines with the first bytes of the others.
 fn long_names(rt: HostRuntime) -> Result<Answer, Fail> {
-    let line = repeated(rt, b"dcmtools: ", b"n", NAME_LIMIT, b": input cannot be opened\n")?;
+    let line = repeated(
+        rt,
+        b"dcmtools: ",
+        b"n",
+        NAME_LIMIT,
+        b": input cannot be opened\n",
+    )?;
     Ok(Answer {
         status: 4,
         output: repeated(rt, b"\"", b"n", NAME_LIMIT, b"\",\"AB^CD\"\n")?,

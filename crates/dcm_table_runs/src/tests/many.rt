@@ -9,7 +9,9 @@ use std::test::Fail;
 const FOURS: usize = 2500;
 
 const NAME: &[u8] = b"\x10\0\x10\0PN\x06\0AB^CD ";
+
 const PATIENT: &[u8] = b"\x10\0 \0LO\x02\07 ";
+
 const COMMENTS: &[u8] = b"\x10\0\0@LT\x01@";
 
 /// The bytes of the longer comments.
@@ -65,7 +67,11 @@ const COLUMNS: [&[u8]; 7] = [
 ];
 
 /// Words with these after the columns.
-fn words_with<'a>(rt: HostRuntime, names: &[&'a [u8]], times: usize) -> Result<Vec<&'a [u8]>, Fail> {
+fn words_with<'a>(
+    rt: HostRuntime,
+    names: &[&'a [u8]],
+    times: usize,
+) -> Result<Vec<&'a [u8]>, Fail> {
     let mut words: Vec<&[u8]> = Vec::new(rt.alloc());
     words.extend_from_slice(&COLUMNS)?;
     for _ in 0..times {
@@ -86,7 +92,12 @@ fn many_files_in_a_list(rt: HostRuntime) -> Result<(), Fail> {
     let words = words_with(rt, &[b"@-"], 1)?;
     let left = run_over(rt, words.as_slice(), files.as_slice(), SOUND);
     expect_answer(&rt, "many files in a list", &left, &fours(rt, FOURS)?);
-    holds(&rt, "many files in a list", "opened", left.opened == 4 * FOURS + 1);
+    holds(
+        &rt,
+        "many files in a list",
+        "opened",
+        left.opened == 4 * FOURS + 1,
+    );
     holds(&rt, "many files in a list", "open", left.most_open == 2);
     Ok(())
 }
