@@ -18,7 +18,7 @@ mod unread_lists;
 
 use dcm_base::{Std, Watched};
 use dcm_tables::obey;
-use devices::{Devices, FailWriter, Loaded, Memory, SOUND, load};
+use devices::{Counts, Devices, FailWriter, Loaded, Memory, SOUND, load};
 use itoa::Buffer;
 use rows::Row;
 use std::cell::Cell;
@@ -80,38 +80,38 @@ struct Left {
     /// Whether an output was opened, and closed again; how often it was flushed.
     is_closed: bool,
     flushes: usize,
-    /// How many inputs were opened, and how many were open at one time.
-    opened: usize,
-    most_open: usize,
-    /// How many are still open.
-    open: usize,
-    /// Whether one was opened after the output had failed.
+    counts: Counts,
+    /// Whether an input was opened after the output had failed.
     is_late: bool,
 }
 
 /// What a system leaves, with a status and lines.
 fn left_by(rt: HostRuntime, system: Memory, status: u8, told: Vec<u8>) -> Left {
-    let mut left = Left {
-        answer: Answer {
-            status,
-            output: Vec::new(rt.alloc()),
-            told,
+    let counts = system.counts;
+    match system.into_written() {
+        Some(written) => Left {
+            is_closed: true,
+            flushes: written.flushes,
+            counts,
+            is_late: written.failed_at > 0 && written.failed_at < counts.opened_at,
+            answer: Answer {
+                status,
+                output: written.bytes,
+                told,
+            },
         },
-        is_closed: false,
-        flushes: 0,
-        opened: system.opened,
-        most_open: system.most_open,
-        open: system.open,
-        is_late: false,
-    };
-    let opened_at = system.opened_at;
-    if let Some(written) = system.written {
-        left.is_closed = true;
-        left.flushes = written.flushes;
-        left.is_late = written.failed_at > 0 && written.failed_at < opened_at;
-        left.answer.output = written.bytes;
+        None => Left {
+            is_closed: false,
+            flushes: 0,
+            counts,
+            is_late: false,
+            answer: Answer {
+                status,
+                output: Vec::new(rt.alloc()),
+                told,
+            },
+        },
     }
-    left
 }
 
 /// What words leave over files, by devices that work so.
@@ -138,8 +138,8 @@ fn expect_answer(rt: &impl Abort, name: &str, left: &Left, wanted: &Answer) {
     holds(rt, name, "output", answer.output == wanted.output);
     holds(rt, name, "lines", answer.told == wanted.told);
     holds(rt, name, "closed", left.is_closed);
-    holds(rt, name, "left open", left.open == 0);
-    holds(rt, name, "open at one time", left.most_open <= 2);
+    holds(rt, name, "left open", left.counts.open == 0);
+    holds(rt, name, "open at one time", left.counts.most_open <= 2);
     holds(rt, name, "opened late", !left.is_late);
 }
 

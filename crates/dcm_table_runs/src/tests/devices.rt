@@ -159,6 +159,25 @@ impl<'a> Write for FailWriter<'a> {
     }
 }
 
+/// How many inputs a system opened.
+#[derive(Clone, Copy)]
+pub struct Counts {
+    pub opened: usize,
+    /// When the last of them was opened.
+    pub opened_at: usize,
+    /// How many of them are open, and how many were at most.
+    pub open: usize,
+    pub most_open: usize,
+}
+
+/// None.
+const NO_COUNTS: Counts = Counts {
+    opened: 0,
+    opened_at: 0,
+    open: 0,
+    most_open: 0,
+};
+
 /// A system of files in memory. It counts what is opened.
 #[derive(Drop)]
 pub struct Memory<'a> {
@@ -168,14 +187,8 @@ pub struct Memory<'a> {
     room: Option<FailWriter<'a>>,
     /// The words of the command line, where there is memory for them.
     words: Option<Vec<Vec<u8>>>,
-    /// The output, once it was closed.
-    pub written: Option<FailWriter<'a>>,
-    /// How many inputs were opened, and when the last of them was.
-    pub opened: usize,
-    pub opened_at: usize,
-    /// How many of them are open, and how many were at most.
-    pub open: usize,
-    pub most_open: usize,
+    written: Option<FailWriter<'a>>,
+    pub counts: Counts,
 }
 
 impl<'a> Memory<'a> {
@@ -193,11 +206,14 @@ impl<'a> Memory<'a> {
             room: Some(output),
             words: None,
             written: None,
-            opened: 0,
-            opened_at: 0,
-            open: 0,
-            most_open: 0,
+            counts: NO_COUNTS,
         }
+    }
+
+    /// The output, once it was closed.
+    pub fn into_written(self) -> Option<FailWriter<'a>> {
+        let Memory { written, .. } = self;
+        written
     }
 
     /// The system with these words of a command line.
@@ -250,10 +266,14 @@ impl<'a> Memory<'a> {
 
     /// Counts one more input.
     fn count(&mut self) {
-        self.opened = self.opened.saturating_add(1);
-        self.opened_at = tick(self.clock);
-        self.open = self.open.saturating_add(1);
-        self.most_open = self.most_open.max(self.open);
+        let counts = self.counts;
+        let open = counts.open.saturating_add(1);
+        self.counts = Counts {
+            opened: counts.opened.saturating_add(1),
+            opened_at: tick(self.clock),
+            open,
+            most_open: counts.most_open.max(open),
+        };
     }
 
     /// Opens a file.
@@ -334,7 +354,7 @@ impl<'a> System for Memory<'a> {
     }
 
     fn release(&mut self, _input: Std<Steps<'a>>) {
-        self.open = self.open.saturating_sub(1);
+        self.counts.open = self.counts.open.saturating_sub(1);
     }
 
     fn stdout(&mut self) -> io::Result<Opened<Std<FailWriter<'a>>>> {

@@ -96,9 +96,14 @@ fn many_files_in_a_list(rt: HostRuntime) -> Result<(), Fail> {
         &rt,
         "many files in a list",
         "opened",
-        left.opened == 4 * FOURS + 1,
+        left.counts.opened == 4 * FOURS + 1,
     );
-    holds(&rt, "many files in a list", "open", left.most_open == 2);
+    holds(
+        &rt,
+        "many files in a list",
+        "open",
+        left.counts.most_open == 2,
+    );
     Ok(())
 }
 
@@ -109,8 +114,8 @@ fn many_files_among_words(rt: HostRuntime) -> Result<(), Fail> {
     let words = words_with(rt, &[b"a", b"b", b"c", b"d"], FOURS)?;
     let left = run_over(rt, words.as_slice(), files.as_slice(), SOUND);
     expect_answer(&rt, "many words", &left, &fours(rt, FOURS)?);
-    holds(&rt, "many words", "opened", left.opened == 4 * FOURS);
-    holds(&rt, "many words", "open", left.most_open == 1);
+    holds(&rt, "many words", "opened", left.counts.opened == 4 * FOURS);
+    holds(&rt, "many words", "open", left.counts.most_open == 1);
     Ok(())
 }
 

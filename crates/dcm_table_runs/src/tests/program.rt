@@ -62,7 +62,7 @@ fn words_of_a_command_line(rt: HostRuntime) -> Result<(), Fail> {
 fn expect_nothing(rt: &impl Abort, name: &str, left: &Left, line: &[u8], status: u8) {
     holds(rt, name, "status", left.answer.status == status);
     holds(rt, name, "line", left.answer.told.as_slice() == line);
-    holds(rt, name, "inputs", left.opened == 0);
+    holds(rt, name, "inputs", left.counts.opened == 0);
     holds(rt, name, "output", !left.is_closed);
 }
 

@@ -67,7 +67,7 @@ fn split(rt: HostRuntime, line: &'static str) -> Result<Vec<&'static [u8]>, Fail
 fn expect_usage(rt: &impl Abort, words: &str, left: &Left, line: &[u8]) {
     holds(rt, words, "status", left.answer.status == 1);
     holds(rt, words, "line", left.answer.told.as_slice() == line);
-    holds(rt, words, "inputs", left.opened == 0);
+    holds(rt, words, "inputs", left.counts.opened == 0);
     holds(rt, words, "output", !left.is_closed);
 }
 
