@@ -122,8 +122,8 @@ fn many_files_among_words(rt: HostRuntime) -> Result<(), Fail> {
 /// A list without its last newline.
 const THREE_NAMES: &[u8] = b"a\nb\na";
 
-/// How many names it has where reading fails after so many bytes, by these bytes.
-const NAMES_BEFORE: [usize; 6] = [0, 0, 1, 1, 2, 2];
+/// Bytes of it that are read, and how many names are before them.
+const NAMES_BEFORE: [(usize, usize); 6] = [(0, 0), (1, 0), (2, 1), (3, 1), (4, 2), (5, 2)];
 
 /// The output of the first names of the list, and then of `b` from the words.
 const ROWS_BEFORE: [&[u8]; 3] = [
@@ -167,12 +167,10 @@ fn lists_that_fail(rt: HostRuntime) -> Result<(), Fail> {
         front: Front::Nothing,
         bytes: THREE_NAMES.to_vec(rt.alloc())?,
     })?;
-    let mut read = 0;
-    for names in NAMES_BEFORE {
+    for (read, names) in NAMES_BEFORE {
         let left = left_of_list(rt, files.as_slice(), read)?;
         let wanted = list_until(rt, read, names)?;
         expect_answer(&rt, "lists that fail", &left, &wanted);
-        read += 1;
     }
     Ok(())
 }
