@@ -41,10 +41,7 @@ fn told_until(rt: HostRuntime, row: &Row, wrote: usize) -> Result<Vec<u8>, Fail>
 
 /// What is wanted of a run whose output fails after so many bytes.
 fn unwritten(rt: HostRuntime, row: &Row, all: &Answer, wrote: usize) -> Result<Answer, Fail> {
-    let (output, _) = all
-        .output
-        .as_slice()
-        .split_at(wrote.min(all.output.len()));
+    let (output, _) = all.output.as_slice().split_at(wrote.min(all.output.len()));
     Ok(Answer {
         status: DEVICE,
         output: output.to_vec(rt.alloc())?,
