@@ -3,17 +3,21 @@
 changes its input, beside `dcmconv +t=`.
 
     bench/run.py [--binary PATH] [--before PATH] [--mebibytes N] [--full-mebibytes N] [--rounds N] [--starts N]
+        [--table-files N] [--only-tables]
 
 With --before an older build of dcmtools takes turns with the others, so that a change is measured in one run.
 
 The inputs are made in a temporary directory, which takes a little more than five times `--mebibytes` and is removed at
 the end. They are read from the page cache. Dumps go to /dev/null. A conversion, or a file that is built from a dump, is
 written into the same directory, as is that of `cat FILE > OUTPUT` beside it, and each starts without that file; so is a
-file with edits. One run prints eleven tables: throughput of dumps, of conversions, of files that are built and of files
-with edits (the median of the rounds, in which the programs take turns, over the bytes of the input), time of dumps of small
-elements beside a bound, and of other work on them, edits of them and the same work with each dictionary (the best of the rounds),
-time of a whole process on a small file, and peak memory, of files with edits in a table of its own. The bound is dump_bound.c,
-built with `cc` where there is one.
+file with edits. One run prints twelve tables: time and memory of tables of files, throughput of dumps, of conversions, of files that
+are built and of files with edits (the median of the rounds, in which the programs take turns, over the bytes of the input), time of
+dumps of small elements beside a bound, and of other work on them, edits of them and the same work with each dictionary (the best of
+the rounds), time of a whole process on a small file, and peak memory, of files with edits in a table of its own. The bound is
+dump_bound.c, built with `cc` where there is one.
+
+A table of two columns is made of many files of 20 to 500 KB, 2.6 GB of them by default, in /dev/shm where there is one, and of
+fewer where it has no room. Beside it is `dcmdump -q -M +F +P` of DCMTK, also with `+st`, which ends each file after the last column.
 """
 
 import argparse
@@ -51,6 +55,12 @@ PATH_EDITS = 62
 # elements of the structured report, and of the files of many that are empty
 REPORT_ELEMENTS = 200_000
 EMPTY = 1_000_000
+
+# the files of a table, and their pixels, at least and at most
+TABLE_FILES = 10_000
+TABLE_PIXELS = 20_000, 500_000
+TABLE_COLUMNS = "PatientID", "Modality"
+SHARED_MEMORY = "/dev/shm"
 
 TOP = Path(__file__).resolve().parent.parent
 
@@ -561,6 +571,61 @@ def print_starts(small, run, starts):
     print_table(title, with_ratios(run), [cells])
 
 
+# ---- tables of many files
+
+
+def make_table_file(path, number, pixels):
+    """A file with twenty small elements before its pixels."""
+    leaves = leaf(LITTLE, 0x0008, 0x0060, "CS", b"MR") + b"".join(nested_leaf(number) for number in range(len(NESTED_TAGS)))
+    with open(path, "wb") as out:
+        out.write(meta(LITTLE) + leaves + leaf(LITTLE, 0x7FE0, 0x0010, "OW", pixels))
+
+
+def make_table_files(folder, files):
+    """The paths of files, as many as are wanted or as a quarter of the room is for, and all their bytes."""
+    room = shutil.disk_usage(folder).free // 4
+    files = min(files, room // TABLE_PIXELS[1])
+    numbers, pixels = random.Random(2), random.Random(1).randbytes(TABLE_PIXELS[1])
+    paths = [os.path.join(folder, f"f{number:05}.dcm") for number in range(files)]
+    for number, path in enumerate(paths):
+        make_table_file(path, number, pixels[: numbers.randint(*TABLE_PIXELS)])
+    return paths, sum(os.path.getsize(path) for path in paths)
+
+
+def table_programs(binary, paths, names):
+    """The words that make a table of files, which are named in words and in a list."""
+    columns = [word for column in TABLE_COLUMNS for word in ("-k", column)]
+    found = {
+        "dcm2csv FILE..": [binary, "dcm2csv", *columns, *paths],
+        "dcm2csv @LIST": [binary, "dcm2csv", *columns, f"@{names}"],
+    }
+    if dcmdump := shutil.which("dcmdump"):
+        searched = [word for column in TABLE_COLUMNS for word in ("+P", column)]
+        found["dcmdump -q -M +F +P"] = [dcmdump, "-q", "-M", "+F", *searched, *paths]
+        found["the same with +st"] = [dcmdump, "-q", "-M", "+F", "+st", TABLE_COLUMNS[0], *searched, *paths]
+    return found
+
+
+def print_tables(binary, files, rounds):
+    """The best times of tables, and the peak memory."""
+    with tempfile.TemporaryDirectory(dir=SHARED_MEMORY if os.path.isdir(SHARED_MEMORY) else None) as folder:
+        paths, size = make_table_files(folder, files)
+        names = os.path.join(folder, "names")
+        Path(names).write_text("".join(f"{path}\n" for path in paths))
+        run = table_programs(binary, paths, names)
+        best = dict.fromkeys(run, float("inf"))
+        for _ in range(rounds):
+            for name, words in run.items():
+                best[name] = min(best[name], seconds_of(words, os.devnull))
+        first = next(iter(best.values()))
+        rows = []
+        for name, words in run.items():
+            peak = peak_of(words, os.devnull)
+            rows.append([name, f"{best[name] * 1e3:,.0f}", f"{best[name] / first:.2f}", "-" if peak is None else f"{peak:,}"])
+    title = f"Tables of {len(TABLE_COLUMNS)} columns of {len(paths):,} files of {size / 1e6:,.0f} MB, the best of {rounds} rounds"
+    print_table(title, ["Work", "ms", "time / first", "peak memory in KiB"], rows)
+
+
 def print_memory(works, run):
     rows = []
     for work in works:
@@ -588,6 +653,8 @@ def main():
     options.add_argument("--full-mebibytes", type=int, default=32, help="pixels of the inputs that are shown whole")
     options.add_argument("--rounds", type=int, default=5)
     options.add_argument("--starts", type=int, default=200)
+    options.add_argument("--table-files", type=int, default=TABLE_FILES, help="files of a table")
+    options.add_argument("--only-tables", action="store_true", help="tables of files, and nothing else")
     chosen = options.parse_args()
     if not os.access(chosen.binary, os.X_OK):
         sys.exit(f"{chosen.binary} is not there: build it by `cd crates/dcmtools && rt run -- dcmdump ../../examples/name.dcm`")
@@ -597,6 +664,9 @@ def main():
     editing = editing_programs(binary, before)
     identity = identity_programs(binary)
     print(f"Before: {machine()}")
+    print_tables(binary, chosen.table_files, chosen.rounds)
+    if chosen.only_tables:
+        return
     with tempfile.TemporaryDirectory() as folder:
         inputs = make_inputs(binary, folder, chosen.mebibytes, chosen.full_mebibytes)
         dumps, conversions, builds, modifications, identities, small = inputs

@@ -61,13 +61,14 @@ fn reserve(rt: HostRuntime) -> io::Result<Reserved> {
 }
 
 /// A word of the command line by its number, where 0 is the program's name, or none after the last one. It may be any
-/// bytes.
+/// bytes, and takes no more memory than they need.
 fn word(rt: HostRuntime, number: usize) -> Result<Option<Vec<u8>>, AllocError> {
     for doublings in 0..MOST_DOUBLINGS {
         let mut word = vec![in rt.alloc(); 0u8; WORD << doublings]?;
         match rt.arg(number, word.as_mut_slice()) {
             Ok(length) => {
                 word.truncate(length);
+                word.shrink_to_fit();
                 return Ok(Some(word));
             }
             Err(FillError::TooLong) => {}

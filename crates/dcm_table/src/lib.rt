@@ -15,7 +15,7 @@
 //!     let mut cells = Cells::new(rt.alloc(), &columns)?;
 //!     take_meta(meta.elements(), &mut cells);
 //!     let end = row_end(machine.feed(bytes, &mut cells).and_then(|()| machine.finish(&mut cells)));
-//!     put_row(name, &cells, TextForm::ValidUtf8, out)?;
+//!     put_row(TextForm::ValidUtf8, name, &cells, out)?;
 #![tactic(auto)]
 
 mod cell;

@@ -10,7 +10,7 @@
 //!     let words = [b"dcm2csv".as_slice(), b"-k".as_slice(), b"PatientID".as_slice(), b"a.dcm".as_slice()];
 //!     let Ok(plan) = table_plan(&words) else { return Err("refused".into()) };
 //!     assert!(rt; plan.columns.len() == 1 && plan.has_header);
-//!     assert!(rt; matches!(plan.names.after(0), Some((Name::File(_), 4))));
+//!     assert!(rt; matches!(plan.names.after(0), Some((Name::File(_), 3))));
 #![tactic(auto)]
 
 mod between;

@@ -1,0 +1,198 @@
+// Rows of lists on standard input, and of lists that cannot be read.
+use super::rows::{Done, Entry, Front, NEVER, Row};
+
+/// Lists on standard input, and lists that cannot be read.
+pub const UNREAD_LISTS: [Row; 4] = [
+    Row {
+        name: "lists that are not there",
+        words: &[
+            b"dcm2csv",
+            b"+nh",
+            b"-k",
+            b"PatientName",
+            b"-k",
+            b"(0010,0020)",
+            b"@none",
+            b"a",
+            b"@folder",
+            b"@\xff",
+            b"@a\0",
+            b"@@",
+        ],
+        files: &[
+            Entry {
+                path: b"a",
+                front: Front::ExplicitLittle,
+                rest: b"\x10\0\x10\0PN\x06\0AB^CD ",
+                decided: NEVER,
+            },
+            Entry {
+                path: b"folder",
+                front: Front::Folder,
+                rest: b"",
+                decided: 0,
+            },
+        ],
+        header: b"",
+        done: &[
+            Done {
+                path: b"",
+                shown: b"none",
+                row: b"",
+                lines: b"dcmtools: none: input cannot be opened\n",
+                status: 4,
+            },
+            Done {
+                path: b"a",
+                shown: b"a",
+                row: b"\"a\",\"AB^CD\",\n",
+                lines: b"",
+                status: 0,
+            },
+            Done {
+                path: b"",
+                shown: b"folder",
+                row: b"",
+                lines: b"dcmtools: folder: input cannot be opened\n",
+                status: 4,
+            },
+            Done {
+                path: b"",
+                shown: b"\xff",
+                row: b"",
+                lines: b"dcmtools: \xff: input cannot be opened\n",
+                status: 4,
+            },
+            Done {
+                path: b"",
+                shown: b"a\\00",
+                row: b"",
+                lines: b"dcmtools: a\\00: input cannot be opened\n",
+                status: 4,
+            },
+            Done {
+                path: b"",
+                shown: b"@",
+                row: b"",
+                lines: b"dcmtools: @: input cannot be opened\n",
+                status: 4,
+            },
+        ],
+        status: 4,
+    },
+    Row {
+        name: "a list that breaks",
+        words: &[
+            b"dcm2csv",
+            b"+nh",
+            b"-k",
+            b"PatientName",
+            b"-k",
+            b"(0010,0020)",
+            b"@/proc/self/mem",
+            b"a",
+        ],
+        files: &[
+            Entry {
+                path: b"/proc/self/mem",
+                front: Front::Broken,
+                rest: b"",
+                decided: 0,
+            },
+            Entry {
+                path: b"a",
+                front: Front::ExplicitLittle,
+                rest: b"\x10\0\x10\0PN\x06\0AB^CD ",
+                decided: NEVER,
+            },
+        ],
+        header: b"",
+        done: &[
+            Done {
+                path: b"",
+                shown: b"/proc/self/mem",
+                row: b"",
+                lines: b"dcmtools: /proc/self/mem: reading failed after 0 bytes\n",
+                status: 4,
+            },
+            Done {
+                path: b"a",
+                shown: b"a",
+                row: b"\"a\",\"AB^CD\",\n",
+                lines: b"",
+                status: 0,
+            },
+        ],
+        status: 4,
+    },
+    Row {
+        name: "standard input as a list",
+        words: &[
+            b"dcm2csv",
+            b"+nh",
+            b"-k",
+            b"PatientName",
+            b"-k",
+            b"(0010,0020)",
+            b"@-",
+        ],
+        files: &[
+            Entry {
+                path: b"-",
+                front: Front::Nothing,
+                rest: b"-\n\na",
+                decided: 0,
+            },
+            Entry {
+                path: b"./-",
+                front: Front::ExplicitLittle,
+                rest: b"\x10\0\x10\0PN\x06\0AB^CD ",
+                decided: NEVER,
+            },
+            Entry {
+                path: b"a",
+                front: Front::ExplicitLittle,
+                rest: b"\x10\0\x10\0PN\x06\0AB^CD ",
+                decided: NEVER,
+            },
+        ],
+        header: b"",
+        done: &[
+            Done {
+                path: b"./-",
+                shown: b"-",
+                row: b"\"-\",\"AB^CD\",\n",
+                lines: b"",
+                status: 0,
+            },
+            Done {
+                path: b"a",
+                shown: b"a",
+                row: b"\"a\",\"AB^CD\",\n",
+                lines: b"",
+                status: 0,
+            },
+        ],
+        status: 0,
+    },
+    Row {
+        name: "no names on standard input",
+        words: &[
+            b"dcm2csv",
+            b"@-",
+            b"-k",
+            b"PatientName",
+            b"-k",
+            b"(0010,0020)",
+        ],
+        files: &[Entry {
+            path: b"-",
+            front: Front::Nothing,
+            rest: b"",
+            decided: 0,
+        }],
+        header: b"\"File\",\"PatientName\",\"PatientID\"\n",
+        done: &[],
+        status: 0,
+    },
+];
