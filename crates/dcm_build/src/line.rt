@@ -184,11 +184,29 @@ fn only_where(holds: bool, step: Step<'_>) -> Meaning<'_>
     }
 }
 
+/// Whether bytes begin with this text.
+fn begins(bytes: &[u8], text: &[u8]) -> bool
+    ensures { result ≡ spec.begins text.now bytes.now }
+{
+    let mut left = bytes;
+    let mut wanted = text;
+    while let [first, more @ ..] = wanted {
+        match left {
+            [byte, after @ ..] if byte == first => {
+                left = after;
+                wanted = more;
+            }
+            _ => return false,
+        }
+    }
+    true
+}
+
 /// Whether the letters are those of items and delimiters, and what follows begins with this text.
 fn is_named(letters: &[u8; 2], bytes: &[u8], text: &[u8]) -> bool
     ensures { result ≡ (bytes_eq letters.now (codes "na") && spec.begins text.now bytes.now) }
 {
-    letters.as_slice() == NO_LETTERS && bytes.starts_with(text)
+    letters.as_slice() == NO_LETTERS && begins(bytes, text)
 }
 
 /// What an item, a fragment or a delimiter means.
@@ -226,10 +244,10 @@ fn may_be_fragments(vr: Vr) -> bool
 fn element_meaning<'a>(tag: Tag, vr: Vr, bytes: &'a [u8]) -> Meaning<'a>
     ensures { shown.meaning_of result ≡ spec.element_meaning tag (Some vr) bytes.now }
 {
-    if may_be_sequence(vr) && bytes.starts_with(SEQUENCE) {
+    if may_be_sequence(vr) && begins(bytes, SEQUENCE) {
         return Meaning::Step(Step::Sequence(tag, vr));
     }
-    if may_be_fragments(vr) && bytes.starts_with(FRAGMENT_LIST) {
+    if may_be_fragments(vr) && begins(bytes, FRAGMENT_LIST) {
         return Meaning::Step(Step::FragmentList(tag, vr));
     }
     leaf(tag, vr, bytes)
