@@ -340,9 +340,10 @@ pub fn meets<A: Allocator>(edit: &Edit<A>, depth: usize, tag: Tag, last: Option<
     ensures { result ≡ asking.answer_of (Meets tag last) (masks.at_depth depth (edit_of edit.now)) }
 {
     let next = Some(tag);
-    acts(edit, depth, tag) || fills(edit, depth, Gap { last, next })
+    acts(edit, depth, tag) || (is_on_path(edit) && fills(edit, depth, Gap { last, next }))
 }
 
+#[inline(always)]
 fn is_on_path<A: Allocator>(edit: &Edit<A>) -> bool
     ensures { result ≡ asking.is_on_path (edit_of edit.now) }
 {

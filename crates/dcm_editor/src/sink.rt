@@ -146,6 +146,27 @@ fn pass<S: Sink, A: Allocator>(
     }
 }
 
+/// Passes on what a token of the input becomes, and goes on after it.
+#[inline(never)]
+fn pass_edited<S: Sink, A: Allocator>(
+    editor: &mut Editor,
+    edits: &[Edit<A>],
+    token: Token,
+    sink: &mut S,
+) -> Result<(), WriteFailed>
+    requires few { length edits.now ≤ 64 }
+    requires short { asking.AreShort (map edit_of edits.now) }
+    requires sound { IsSound (editing.meant edits.now editor.old) }
+    requires filled { IsFilled token }
+    ensures took { sinks.Took S.Sink sink.old sink.new
+        (editing.passed_of edits.now editor.old (atoms_of token.entry)) result }
+    ensures state { editing.GoesOn edits.now editor.old editor.new (atoms_of token.entry) result }
+{
+    pass(editor, edits, token, sink)?;
+    editor.go_on(edits, token);
+    Ok(())
+}
+
 /// Passes on what a token of the input becomes, and goes on after it. An element that no edit meets is passed on as it
 /// is, and so is what a value, a sequence or a fragment list has beside items. So are the head and the end of an item
 /// where no edit on a path asks something of the data set.
@@ -181,10 +202,7 @@ fn pass_on<S: Sink, A: Allocator>(
             sink.take(token)?;
             editor.leave_item();
         }
-        _ => {
-            pass(editor, edits, token, sink)?;
-            editor.go_on(edits, token);
-        }
+        _ => pass_edited(editor, edits, token, sink)?,
     }
     Ok(())
 }
