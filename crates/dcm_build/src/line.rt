@@ -1,5 +1,5 @@
 // The lines of a dump.
-ghost use Rattle.std.specs.Prelude.{◌≡◌, ◌≤◌, ◌&&◌, Some, option_map, length, take, drop, codes, bytes_eq};
+ghost use Rattle.std.specs.Prelude.{◌≡◌, ◌≤◌, ◌&&◌, true, Some, option_map, length, take, drop, codes, bytes_eq};
 ghost use Rattle.dcm_base.specs.Lines.Build as build;
 ghost use Rattle.dcm_base.specs.declared.vr.Vr.TheVariants.{OB};
 ghost use Rattle.dcm_base.specs.Lines.Line as spec;
@@ -33,6 +33,9 @@ const SEQUENCE: &[u8] = b"(Sequence with";
 /// Where a list of fragments begins.
 const FRAGMENT_LIST: &[u8] = b"(PixelSequence";
 
+/// Eight spaces, as one number.
+const EIGHT_SPACES: u64 = 0x2020_2020_2020_2020;
+
 /// One thing that a line shows. A value is still its text.
 #[derive(Clone, Copy, Debug, PartialEq, Eq)]
 pub enum Step<'a> {
@@ -55,10 +58,30 @@ pub enum Meaning<'a> {
     NoLine,
 }
 
+fn are_spaces(bytes: &[u8; 8]) -> bool
+    ensures { result ≡ true → bytes.now ≡ shown.eight_spaces }
+{
+    u64::from_le_bytes(*bytes) == EIGHT_SPACES
+}
+
+/// What follows spaces, eight of which are passed at a time.
+fn past_eights(bytes: &[u8]) -> &[u8]
+    ensures { spec.without_spaces bytes.now ≡ spec.without_spaces result.now }
+{
+    let mut rest = bytes;
+    while let Some((front, after)) = rest.split_first_chunk() {
+        if !are_spaces(front) {
+            return rest;
+        }
+        rest = after;
+    }
+    rest
+}
+
 fn without_spaces(bytes: &[u8]) -> &[u8]
     ensures { result.now ≡ spec.without_spaces bytes.now }
 {
-    let mut rest = bytes;
+    let mut rest = past_eights(bytes);
     while let [b' ', after @ ..] = rest {
         rest = after;
     }
