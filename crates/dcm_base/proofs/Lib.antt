@@ -4,3 +4,4 @@ pub mod DumpsBack
 pub mod Conversions
 pub mod Writes
 pub mod Dictionaries
+pub mod Letters

@@ -1,4 +1,4 @@
-ghost use Rattle.std.specs.Prelude.{◌≡◌, find, bytes_eq};
+ghost use Rattle.std.specs.Prelude.{◌≡◌, find, bytes_eq, IfSome};
 ghost use Rattle.std.specs.Option.{option_copied};
 ghost use Rattle.dcm_base.specs.Tables.Representation as spec;
 
@@ -171,12 +171,96 @@ fn lettered<'a>(rows: &'a [(Vr, [u8; 2])], letters: &[u8; 2]) -> Option<&'a (Vr,
     rows.iter().find(|row| has_letters(row, letters))
 }
 
-/// The value representation of two letters.
+/// Guesses of the value representation of two letters. They are wrong for AT and SV alone.
+const GUESSES: [Vr; 64] = [
+    Vr::UN,
+    Vr::UN,
+    Vr::PN,
+    Vr::UN,
+    Vr::UN,
+    Vr::OV,
+    Vr::UN,
+    Vr::UN,
+    Vr::US,
+    Vr::UN,
+    Vr::AE,
+    Vr::DA,
+    Vr::UN,
+    Vr::UN,
+    Vr::SS,
+    Vr::UN,
+    Vr::UN,
+    Vr::OB,
+    Vr::UI,
+    Vr::UN,
+    Vr::IS,
+    Vr::OF,
+    Vr::OW,
+    Vr::TM,
+    Vr::UN,
+    Vr::DS,
+    Vr::UN,
+    Vr::UR,
+    Vr::AS,
+    Vr::UN,
+    Vr::CS,
+    Vr::UV,
+    Vr::LT,
+    Vr::UL,
+    Vr::UN,
+    Vr::UN,
+    Vr::UN,
+    Vr::UN,
+    Vr::UN,
+    Vr::SL,
+    Vr::DT,
+    Vr::UN,
+    Vr::UN,
+    Vr::SH,
+    Vr::SQ,
+    Vr::LO,
+    Vr::UN,
+    Vr::UN,
+    Vr::UN,
+    Vr::UN,
+    Vr::FL,
+    Vr::OD,
+    Vr::UN,
+    Vr::UN,
+    Vr::UN,
+    Vr::UN,
+    Vr::UC,
+    Vr::UT,
+    Vr::FD,
+    Vr::OL,
+    Vr::UN,
+    Vr::UN,
+    Vr::UN,
+    Vr::ST,
+];
+
+/// The value representation that two letters are guessed to be, where it has them.
+#[inline(always)]
+fn guessed(letters: &[u8; 2]) -> Option<Vr>
+    ensures { IfSome result (λ v. spec.letters v ≡ letters.now) }
+{
+    let place = (usize::from(letters[0]) ^ (usize::from(letters[1]) * 15)) % GUESSES.len();
+    let guess = GUESSES[place];
+    if guess.letters() == *letters {
+        return Some(guess);
+    }
+    None
+}
+
+/// The value representation of two letters. Where the guess is wrong, the rows are searched.
 #[tactic(auto, unfolding(crate::specs::Tables::Representation::vr_of))]
 #[inline]
 pub fn vr_of(letters: &[u8; 2]) -> Option<Vr>
     ensures { result ≡ spec.vr_of letters.now }
 {
+    if let Some(vr) = guessed(letters) {
+        return Some(vr);
+    }
     let row = lettered(&LETTERS, letters)?;
     Some(row.0)
 }

@@ -7,3 +7,4 @@ pub mod Newlines
 pub mod Ends
 pub mod Pieces
 pub mod Spaces
+pub mod Eights

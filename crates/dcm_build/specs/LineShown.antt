@@ -1,5 +1,5 @@
 -- What the step of a line means: a value is what its text reads as.
-use Rattle.std.specs.Prelude.{ℕ, List, [], ◌∷◌, take, drop, Option, Some, None, Bool, false, ◌&&◌, ◌==◌, if◌then◌else◌}
+use Rattle.std.specs.Prelude.{ℕ, List, [], ◌∷◌, take, drop, Option, Some, None, Bool, false, ◌&&◌, ◌==◌, if◌then◌else◌, codes}
 use Rattle.std.specs.Str.{byte}
 use Rattle.dcm_base.specs.declared.vr.Vr.TheVariants.{OB}
 use Rattle.dcm_base.specs.Lines.Line as spec
@@ -42,3 +42,6 @@ after_tag cs =
 
 abbrev pub parts_of : LineParts → spec.Parts
 parts_of p = record { tag = p.tag; letters = p.letters.now; rest = p.rest.now }
+
+abbrev pub eight_spaces : List ℕ
+eight_spaces = codes "        "

@@ -1,5 +1,5 @@
 // The lines of a dump.
-ghost use Rattle.std.specs.Prelude.{◌≡◌, ◌≤◌, ◌&&◌, Some, option_map, length, take, drop, codes, bytes_eq};
+ghost use Rattle.std.specs.Prelude.{◌≡◌, ◌≤◌, ◌&&◌, true, Some, option_map, length, take, drop, codes, bytes_eq};
 ghost use Rattle.dcm_base.specs.Lines.Build as build;
 ghost use Rattle.dcm_base.specs.declared.vr.Vr.TheVariants.{OB};
 ghost use Rattle.dcm_base.specs.Lines.Line as spec;
@@ -33,6 +33,9 @@ const SEQUENCE: &[u8] = b"(Sequence with";
 /// Where a list of fragments begins.
 const FRAGMENT_LIST: &[u8] = b"(PixelSequence";
 
+/// Eight spaces, as one number.
+const EIGHT_SPACES: u64 = 0x2020_2020_2020_2020;
+
 /// One thing that a line shows. A value is still its text.
 #[derive(Clone, Copy, Debug, PartialEq, Eq)]
 pub enum Step<'a> {
@@ -55,10 +58,30 @@ pub enum Meaning<'a> {
     NoLine,
 }
 
+fn are_spaces(bytes: &[u8; 8]) -> bool
+    ensures { result ≡ true → bytes.now ≡ shown.eight_spaces }
+{
+    u64::from_le_bytes(*bytes) == EIGHT_SPACES
+}
+
+/// What follows spaces, eight of which are passed at a time.
+fn past_eights(bytes: &[u8]) -> &[u8]
+    ensures { spec.without_spaces bytes.now ≡ spec.without_spaces result.now }
+{
+    let mut rest = bytes;
+    while let Some((front, after)) = rest.split_first_chunk() {
+        if !are_spaces(front) {
+            return rest;
+        }
+        rest = after;
+    }
+    rest
+}
+
 fn without_spaces(bytes: &[u8]) -> &[u8]
     ensures { result.now ≡ spec.without_spaces bytes.now }
 {
-    let mut rest = bytes;
+    let mut rest = past_eights(bytes);
     while let [b' ', after @ ..] = rest {
         rest = after;
     }
@@ -184,11 +207,29 @@ fn only_where(holds: bool, step: Step<'_>) -> Meaning<'_>
     }
 }
 
+/// Whether bytes begin with this text.
+fn begins(bytes: &[u8], text: &[u8]) -> bool
+    ensures { result ≡ spec.begins text.now bytes.now }
+{
+    let mut left = bytes;
+    let mut wanted = text;
+    while let [first, more @ ..] = wanted {
+        match left {
+            [byte, after @ ..] if byte == first => {
+                left = after;
+                wanted = more;
+            }
+            _ => return false,
+        }
+    }
+    true
+}
+
 /// Whether the letters are those of items and delimiters, and what follows begins with this text.
 fn is_named(letters: &[u8; 2], bytes: &[u8], text: &[u8]) -> bool
     ensures { result ≡ (bytes_eq letters.now (codes "na") && spec.begins text.now bytes.now) }
 {
-    letters.as_slice() == NO_LETTERS && bytes.starts_with(text)
+    letters.as_slice() == NO_LETTERS && begins(bytes, text)
 }
 
 /// What an item, a fragment or a delimiter means.
@@ -226,10 +267,10 @@ fn may_be_fragments(vr: Vr) -> bool
 fn element_meaning<'a>(tag: Tag, vr: Vr, bytes: &'a [u8]) -> Meaning<'a>
     ensures { shown.meaning_of result ≡ spec.element_meaning tag (Some vr) bytes.now }
 {
-    if may_be_sequence(vr) && bytes.starts_with(SEQUENCE) {
+    if may_be_sequence(vr) && begins(bytes, SEQUENCE) {
         return Meaning::Step(Step::Sequence(tag, vr));
     }
-    if may_be_fragments(vr) && bytes.starts_with(FRAGMENT_LIST) {
+    if may_be_fragments(vr) && begins(bytes, FRAGMENT_LIST) {
         return Meaning::Step(Step::FragmentList(tag, vr));
     }
     leaf(tag, vr, bytes)

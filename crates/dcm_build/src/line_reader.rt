@@ -122,6 +122,10 @@ impl LineReader {
             let fault = Stopped::Refused(LineFault::TooLong);
             return Err(halt(fault, INPUT_LIMIT, 0));
         }
+        if piece[0] == b'\n' {
+            self.end_line(out)?;
+            return Ok(1);
+        }
         let most = (INPUT_LIMIT - read).min(piece.len() as u64) as usize;
         let (front, _) = piece.split_at(most.min(self.limit - self.line.len()));
         let n = line_end(front);
@@ -129,10 +133,6 @@ impl LineReader {
             let (bytes, _) = front.split_at(n);
             self.read_line_bytes(bytes);
             return Ok(n);
-        }
-        if piece[0] == b'\n' {
-            self.end_line(out)?;
-            return Ok(1);
         }
         let fault = Stopped::Refused(LineFault::LineTooLong);
         Err(halt(fault, self.offset, self.number))

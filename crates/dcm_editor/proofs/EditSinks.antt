@@ -13,3 +13,4 @@ pub mod Taken
 pub mod Passing
 pub mod ThroughSink
 pub mod Unmet
+pub mod Free

@@ -77,6 +77,13 @@ lies_in last (Some next) tag = is_between last next tag
 abbrev pub in_gap : Gap → Tag → Bool
 in_gap gap tag = lies_in gap.last gap.next tag
 
+abbrev pub is_on_path : Edit → Bool
+is_on_path (on_path edit) = true
+is_on_path (modify_all tag vr value) = false
+is_on_path (erase_all tag) = false
+is_on_path erase_private = false
+is_on_path elsewhere = false
+
 -- the answers of an edit to the questions about a place of the input
 abbrev pub answer_of : Question → Edit → Bool
 answer_of (questions.AtHead tag last) e = acts (fate e tag) || makes (is_between last tag) (element_of e)
@@ -86,6 +93,7 @@ answer_of questions.AtTop e = has_place (element_of e)
 answer_of (questions.AtEnd last) e = makes (above_last last) (element_of e)
 answer_of (questions.GoesAlong tag n) e = goes_along e tag n
 answer_of (questions.Erases tag n) e = erases e tag n
+answer_of questions.IsOnPath e = is_on_path e
 
 -- ---- the edits of a command line
 

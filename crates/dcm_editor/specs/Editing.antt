@@ -1,6 +1,7 @@
 -- The state of the edits, as the program holds it.
 use Rattle.std.specs.Prelude.{◌≡◌, ◌⊎◌, List, [], ◌∷◌, map, fold, length, reverse, Option, Some, None, Result}
-use Rattle.std.specs.Prelude.{MatchResult, Bool, false, not, ◌&&◌}
+use Rattle.std.specs.Prelude.{MatchResult, ℕ, Bool, false, not, ◌&&◌, ◌==◌}
+use Rattle.std.specs.Int.Bits.{bit_and}
 use Rattle.dcm_base.specs.declared.length.Length.{Length}
 use Rattle.dcm_base.specs.declared.syntax.Syntax.{Syntax}
 use Rattle.dcm_base.specs.declared.tag.Tag.{Tag}
@@ -74,6 +75,10 @@ first_fate edits e tag = together.first_fate (asked_here edits e) tag
 -- whether no edit changes an element that is not dropped, or puts another one before it
 abbrev pub leaves : {A : Type 0} → List (AnEdit A) → Editor → Tag → Bool
 leaves edits e tag = not (is_open (depth e.skip)) && not (any_answer (Meets tag e.level.last) (asked_here edits e))
+
+-- nothing is dropped, and none of the edits of a mask asks something of the innermost open data set
+abbrev pub is_free_of : ℕ → Editor → Bool
+is_free_of paths e = not (is_open (depth e.skip)) && bit_and e.level.mask paths == 0
 
 abbrev pub any_erases : {A : Type 0} → List (AnEdit A) → Editor → Tag → Bool
 any_erases edits e tag = together.any_erases (asked_here edits e) tag e.level.items

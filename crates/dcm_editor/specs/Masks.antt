@@ -1,5 +1,5 @@
 -- The edits that ask something of an open data set, as a mask of the edits of the command line.
-use Rattle.std.specs.Prelude.{◌≡◌, ◌⊎◌, ℕ, zero, suc, min, List, [], ◌∷◌, length, Option, Some, None, Bool, true, false}
+use Rattle.std.specs.Prelude.{◌≡◌, ◌⊎◌, ℕ, zero, suc, min, nat_lt, List, [], ◌∷◌, length, Option, Some, None, Bool, true, false}
 use Rattle.std.specs.Prelude.{◌&&◌, ◌==◌, if◌then◌else◌}
 use Rattle.std.specs.Int.{bit_at}
 use Rattle.dcm_base.specs.declared.tag.Tag.{Tag}
@@ -7,7 +7,7 @@ use Rattle.dcm_base.specs.Tables.Tag.{same_tag}
 use Rattle.dcm_edits.specs.Edit.{number, every, selects, PathEdit, step, insert, modify, erase, erase_item, Edit}
 use Rattle.dcm_edits.specs.Edit.{on_path, modify_all, erase_all, erase_private, elsewhere, acts}
 use Rattle.dcm_edits.specs.Together.{first_fate, any_erases}
-use Rattle.dcm_editor.specs.EditSink.{Level, State, MOST_COUNTED, dropped_after_head, dropped_after_end}
+use Rattle.dcm_editor.specs.EditSink.{Level, State, MOST_AROUND, MOST_COUNTED, dropped_after_head, dropped_after_end}
 
 -- bit k of a mask is for the edit with k others before it
 abbrev pub is_set : ℕ → ℕ → Bool
@@ -64,6 +64,14 @@ bits mask k (e ∷ es) = is_set mask k ∷ bits mask (suc k) es
 abbrev pub AllSet : ℕ → ℕ → List Edit → Type 0
 AllSet mask k [] = Unit {0}
 AllSet mask k (e ∷ es) = (is_set mask k ≡ true) × AllSet mask (suc k) es
+
+-- ---- edits on paths
+
+-- a mask has each edit that is on a path, from number k on
+abbrev pub has_paths : ℕ → ℕ → List Edit → Bool
+has_paths mask k [] = true
+has_paths mask k (on_path edit ∷ es) = is_set mask k && has_paths mask (suc k) es
+has_paths mask k (e ∷ es) = has_paths mask (suc k) es
 
 -- ---- new elements of paths
 
@@ -162,6 +170,29 @@ masks_passed_by s tag = record {
   level = record { mask = s.level.mask; last = Some tag; count = 0 };
   outer = s.outer;
   dropped = dropped_after_head s.dropped false;
+  found = s.found;
+}
+
+-- after the head of an item of which no edit on a path asks something
+abbrev pub masks_entered : MaskState → MaskState
+masks_entered s = record {
+  level = record { mask = s.level.mask; last = None; count = 0 };
+  outer = record { mask = s.level.mask; last = s.level.last; count = min MOST_COUNTED (suc s.level.count) } ∷ s.outer;
+  dropped = dropped_after_head s.dropped false;
+  found = s.found;
+}
+
+abbrev pub masks_item_passed : MaskState → Option Tag → MaskState
+masks_item_passed s None = s
+masks_item_passed s (Some tag) = if nat_lt (length s.outer) MOST_AROUND then masks_entered s else s
+
+-- after the end of an item above whose last element no edit on a path puts something
+abbrev pub masks_item_left : MaskState → List MaskLevel → MaskState
+masks_item_left s [] = record { level = s.level; outer = []; dropped = dropped_after_end s.dropped; found = s.found }
+masks_item_left s (level ∷ outer) = record {
+  level = level;
+  outer = outer;
+  dropped = dropped_after_end s.dropped;
   found = s.found;
 }
 

@@ -53,6 +53,8 @@ pub enum Question {
     GoesAlong(Tag, u32),
     /// Whether it erases this item of a sequence.
     Erases(Tag, u32),
+    /// Whether it is on a path. No other one erases an item, or puts what is missing.
+    IsOnPath,
 }
 
 /// The group of private elements is odd (PS3.5 7.8).
@@ -338,7 +340,17 @@ pub fn meets<A: Allocator>(edit: &Edit<A>, depth: usize, tag: Tag, last: Option<
     ensures { result ≡ asking.answer_of (Meets tag last) (masks.at_depth depth (edit_of edit.now)) }
 {
     let next = Some(tag);
-    acts(edit, depth, tag) || fills(edit, depth, Gap { last, next })
+    acts(edit, depth, tag) || (is_on_path(edit) && fills(edit, depth, Gap { last, next }))
+}
+
+#[inline(always)]
+fn is_on_path<A: Allocator>(edit: &Edit<A>) -> bool
+    ensures { result ≡ asking.is_on_path (edit_of edit.now) }
+{
+    match edit {
+        Edit::OnPath(_) => true,
+        Edit::ModifyAll(_) | Edit::EraseAll(_) | Edit::ErasePrivate => false,
+    }
 }
 
 /// The answer of an edit that asks something of a data set within so many items.
@@ -360,5 +372,6 @@ pub fn answers<A: Allocator>(edit: &Edit<A>, depth: usize, question: Question) -
         Question::AtEnd(last) => makes(edit, depth, Gap { last, next: None }),
         Question::GoesAlong(tag, item) => goes_along(edit, depth, tag, item),
         Question::Erases(tag, item) => erases(edit, depth, tag, item),
+        Question::IsOnPath => is_on_path(edit),
     }
 }

@@ -1,5 +1,5 @@
 // How far edits have come along an input.
-ghost use Rattle.std.specs.Prelude.{◌≡◌, ◌≤◌, ◌<◌, length, map, fold, Some, None, reverse};
+ghost use Rattle.std.specs.Prelude.{◌≡◌, ◌≤◌, ◌<◌, length, map, fold, Some, None, reverse, true};
 ghost use Rattle.dcm_base.specs.Steps.Atoms.{closes_item, opens_item, ends};
 ghost use Rattle.dcm_base.specs.declared.length.Length.{Length as AnyLength};
 ghost use Rattle.dcm_stream.specs.Tokens.{atoms_of};
@@ -36,6 +36,19 @@ pub struct Editor {
     pub outermost_first: ArrayVec<Level, MOST_AROUND>,
     pub skip: Skip,
     pub found: u64,
+}
+
+/// The edits that are on a path.
+pub fn edits_on_paths<A: Allocator>(edits: &[Edit<A>]) -> u64
+    requires { length edits.now ≤ 64 }
+    ensures { masks.has_paths result 0 (map edit_of edits.now) ≡ true }
+{
+    Asked {
+        edits,
+        depth: 0,
+        mask: all(edits.len()),
+    }
+    .answering(Question::IsOnPath)
 }
 
 /// A data set of which these edits ask something.
@@ -169,6 +182,40 @@ impl Editor {
         self.skip.open(false);
         self.level.last = Some(tag);
         self.level.items = 0;
+    }
+
+    /// Whether nothing is dropped, and none of these edits asks something of the innermost data set.
+    #[inline(always)]
+    pub fn is_free_of(&self, paths: u64) -> bool
+        ensures { result ≡ editing.is_free_of paths self.now }
+    {
+        !self.skip.is_open() && self.level.mask & paths == 0
+    }
+
+    /// After the head of an item that is passed on as it is, and of which the same edits ask something.
+    pub fn pass_item(&mut self)
+        ensures { editing.state self.new
+            ≡ masks.masks_item_passed (editing.state self.old) (editing.state self.old).level.last }
+    {
+        if self.level.last.is_none() || self.outermost_first.len() >= MOST_AROUND {
+            return;
+        }
+        let mask = self.level.mask;
+        self.skip.open(false);
+        self.level.items = self.level.items.saturating_add(1);
+        self.outermost_first.push(self.level);
+        self.level = new_level(mask);
+    }
+
+    /// After the end of an item that is passed on as it is.
+    pub fn leave_item(&mut self)
+        ensures { editing.state self.new
+            ≡ masks.masks_item_left (editing.state self.old) (editing.state self.old).outer }
+    {
+        self.close();
+        if let Some(level) = self.outermost_first.pop() {
+            self.level = level;
+        }
     }
 
     /// After the head of an item of the element with this tag, where there is room for its data set.

@@ -1,5 +1,5 @@
 // Edits, between what reads a data set and what takes it.
-ghost use Rattle.std.specs.Prelude.{◌≡◌, ◌≤◌, ◌<◌, ℕ, length, map, not, false};
+ghost use Rattle.std.specs.Prelude.{◌≡◌, ◌≤◌, ◌<◌, ℕ, length, map, not, true, false};
 ghost use Rattle.std.specs.Borrow.{GName};
 ghost use Rattle.dcm_base.specs.Steps.Atoms.{opens_item};
 ghost use Rattle.dcm_stream.specs.Sinks as sinks;
@@ -15,7 +15,7 @@ ghost use Rattle.dcm_editor.specs.Outputs as outputs;
 ghost use Rattle.dcm_editor.specs.Through.{through_step, through_writes, through_bar};
 
 use crate::asked::{Fate, Gap};
-use crate::editor::Editor;
+use crate::editor::{Editor, edits_on_paths};
 use crate::mask::unset_bits;
 use crate::new::{put_leaf_at, put_new};
 use crate::place::Asked;
@@ -146,10 +146,9 @@ fn pass<S: Sink, A: Allocator>(
     }
 }
 
-/// Passes on what a token of the input becomes, and goes on after it. An element that no edit meets is passed on as it
-/// is, and so is what a value, a sequence or a fragment list has beside items.
-#[inline(always)]
-fn pass_on<S: Sink, A: Allocator>(
+/// Passes on what a token of the input becomes, and goes on after it.
+#[inline(never)]
+fn pass_edited<S: Sink, A: Allocator>(
     editor: &mut Editor,
     edits: &[Edit<A>],
     token: Token,
@@ -163,6 +162,31 @@ fn pass_on<S: Sink, A: Allocator>(
         (editing.passed_of edits.now editor.old (atoms_of token.entry)) result }
     ensures state { editing.GoesOn edits.now editor.old editor.new (atoms_of token.entry) result }
 {
+    pass(editor, edits, token, sink)?;
+    editor.go_on(edits, token);
+    Ok(())
+}
+
+/// Passes on what a token of the input becomes, and goes on after it. An element that no edit meets is passed on as it
+/// is, and so is what a value, a sequence or a fragment list has beside items. So are the head and the end of an item
+/// where no edit on a path asks something of the data set.
+#[inline(always)]
+fn pass_on<S: Sink, A: Allocator>(
+    editor: &mut Editor,
+    edits: &[Edit<A>],
+    paths: u64,
+    token: Token,
+    sink: &mut S,
+) -> Result<(), WriteFailed>
+    requires few { length edits.now ≤ 64 }
+    requires short { asking.AreShort (map edit_of edits.now) }
+    requires sound { IsSound (editing.meant edits.now editor.old) }
+    requires paths { masks.has_paths paths 0 (map edit_of edits.now) ≡ true }
+    requires filled { IsFilled token }
+    ensures took { sinks.Took S.Sink sink.old sink.new
+        (editing.passed_of edits.now editor.old (atoms_of token.entry)) result }
+    ensures state { editing.GoesOn edits.now editor.old editor.new (atoms_of token.entry) result }
+{
     match token {
         Token::Open(head, _) if editor.leaves(edits, head.tag) => {
             sink.take(token)?;
@@ -170,10 +194,15 @@ fn pass_on<S: Sink, A: Allocator>(
         }
         Token::Bytes(_) | Token::CloseLeaf | Token::CloseSeq | Token::OpenFragment(_)
             if !editor.skip.is_open() => { sink.take(token)? }
-        _ => {
-            pass(editor, edits, token, sink)?;
-            editor.go_on(edits, token);
+        Token::OpenItem(_) if editor.is_free_of(paths) => {
+            sink.take(token)?;
+            editor.pass_item();
         }
+        Token::CloseItem if editor.is_free_of(paths) => {
+            sink.take(token)?;
+            editor.leave_item();
+        }
+        _ => pass_edited(editor, edits, token, sink)?,
     }
     Ok(())
 }
@@ -185,6 +214,8 @@ pub struct EditSink<'e, S, A: Allocator = Global> {
     edits: &'e Edits<A>,
     inner: &'e mut S,
     editor: Editor,
+    paths: u64,
+    ghost paths_are: { masks.has_paths paths 0 edits.now ≡ true },
     ghost sound: { IsSoundAt edits.now editor } by { IsSoundAt-prop edits.now editor },
 }
 
@@ -200,6 +231,7 @@ impl<'e, S: Sink, A: Allocator> EditSink<'e, S, A> {
             edits,
             inner,
             editor: Editor::new(edits.list()),
+            paths: edits_on_paths(edits.list()),
         }
     }
 
@@ -234,7 +266,13 @@ impl<'e, S: Sink, A: Allocator> Sink for EditSink<'e, S, A> {
 
     #[inline(always)]
     fn take(&mut self, token: Token) -> Result<(), WriteFailed> {
-        pass_on(&mut self.editor, self.edits.list(), token, self.inner)
+        pass_on(
+            &mut self.editor,
+            self.edits.list(),
+            self.paths,
+            token,
+            self.inner,
+        )
     }
 
     fn accepts(&self, head: &Head) -> Result<(), Bar> {

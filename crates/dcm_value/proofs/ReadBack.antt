@@ -3,5 +3,6 @@ pub mod DigitTable
 pub mod Parts
 pub mod Texts
 pub mod Units
-pub mod HexText
+pub mod PlainTexts
+pub mod HexDigits
 pub mod Values

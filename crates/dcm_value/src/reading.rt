@@ -1,11 +1,11 @@
 // Values from their texts.
-ghost use Rattle.std.specs.Prelude.{◌≡◌, ◌≢◌, ◌<◌, [], ◌∷◌, length, codes, MatchOption, MatchResult, IfSome, position};
-ghost use Rattle.std.specs.Prelude.{◌==◌};
+ghost use Rattle.std.specs.Prelude.{◌≡◌, ◌≢◌, ◌<◌, ◌≤◌, [], ◌∷◌, length, take, drop, codes, MatchOption, MatchResult, IfSome, position};
+ghost use Rattle.std.specs.Prelude.{◌==◌, ◌||◌};
 ghost use Rattle.dcm_base.specs.Lines.ReadValue as spec;
 ghost use Rattle.dcm_base.specs.Tables.Representation.{unit};
 ghost use Rattle.dcm_base.specs.Dump.ValueText.{shape};
 ghost use Rattle.dcm_value.specs.Parts.{part_value};
-ghost use Rattle.dcm_value.specs.Taking.{Begins, Reads, TakesPart};
+ghost use Rattle.dcm_value.specs.Taking.{behind, Begins, Reads, TakesPart};
 ghost use Rattle.dcm_value.specs.Swap.{IsUnit};
 
 use crate::digits::unescape;
@@ -101,12 +101,33 @@ fn read_byte(text: &[u8]) -> Option<(u8, &[u8])>
     }
 }
 
+/// The place of the first percent sign or closing bracket.
+fn plain_end(text: &[u8]) -> Option<usize>
+    ensures { result ≡ position (λ b. b == 37 || b == 93) text.now }
+{
+    text.iter().position(|byte| *byte == b'%' || *byte == b']')
+}
+
+/// How many bytes there are before the first percent sign or closing bracket, or in all.
+fn plain_size(text: &[u8]) -> usize
+    ensures value { spec.bracketed_value text.now
+        ≡ behind (take result text.now) (spec.bracketed_value (drop result text.now)) }
+    ensures within { result ≤ length text.now }
+{
+    match plain_end(text) {
+        Some(at) => at,
+        None => text.len(),
+    }
+}
+
 /// The bytes of a text after its opening bracket.
 fn read_bracketed(text: &[u8], value: &mut ArrayVec<u8, VALUE_LIMIT>) -> Result<(), BadValue>
     requires { value.old.items ≡ [] }
     ensures { Reads (spec.bracketed_value text.now) value.new.items result }
 {
-    let mut rest = text;
+    let (plain, after) = text.split_at(plain_size(text));
+    extend(value, plain)?;
+    let mut rest = after;
     while rest != b"]".as_slice() {
         match read_byte(rest) {
             Some((byte, after)) => {

@@ -32,11 +32,11 @@ neither : (a b : Bool) → (a || b) ≡ false → (a ≡ false) × (b ≡ false)
 neither false b e = (refl, e)
 neither true b e = absurd cc
 
-both : (a b : Bool) → true ≡ (a && b) → (true ≡ a) × (true ≡ b)
+pub both : (a b : Bool) → true ≡ (a && b) → (true ≡ a) × (true ≡ b)
 both true b e = (refl, e)
 both false b e = absurd cc
 
-is_not : (b : Bool) → true ≡ not b → false ≡ b
+pub is_not : (b : Bool) → true ≡ not b → false ≡ b
 is_not false e = refl
 is_not true e = absurd cc
 
@@ -53,7 +53,7 @@ makes_none passes no_element e = refl
 makes_none passes (new_leaf tag vr value) e = refl
 makes_none passes (new_sequence tag held) e = e
 
-puts_none : (passes : Tag → Bool) (es : List Edit) (w : NewElement) (set : Trees) → passes_new passes w ≡ false → put_new passes (completed es w) set ≡ set
+pub puts_none : (passes : Tag → Bool) (es : List Edit) (w : NewElement) (set : Trees) → passes_new passes w ≡ false → put_new passes (completed es w) set ≡ set
 puts_none passes es no_element set e = refl
 puts_none passes es (new_leaf tag vr value) set e = ap (λ (b : Bool). if b && not (has tag set) then put tag (new_leaf tag vr value) set else set) e
 puts_none passes es (new_sequence tag held) set e = ap (λ (b : Bool). if b && not (has tag set) then put tag (completed es (new_sequence tag held)) set else set) e

@@ -87,14 +87,14 @@ some_is m n e = cc
 none_is : (m : ℕ) → (let o : Option ℕ = Some m in o ≡ None) → ⊥
 none_is m e = cc
 
-some_place : (n m at : ℕ) → cond (nat_lt n m) (Some n) None ≡ Some at → (n < m) × (at ≡ n)
+pub some_place : (n m at : ℕ) → cond (nat_lt n m) (Some n) None ≡ Some at → (n < m) × (at ≡ n)
 some_place n m at e =
     ⊎_elim
     (λ l. (l, some_is n at (sym (ap (λ b. cond b (Some n) None) (lt-ltb n m l)) ∙ e)))
     (λ l. absurd (none_is at (sym (sym (ap (λ b. cond b (Some n) None) (le-ltb n m l)) ∙ e))))
     (cases_lt n m)
 
-no_place : (n m : ℕ) → cond (nat_lt n m) (Some n) None ≡ None → m ≤ n
+pub no_place : (n m : ℕ) → cond (nat_lt n m) (Some n) None ≡ None → m ≤ n
 no_place n m e =
     ⊎_elim
     (λ l. absurd (none_is n (sym (ap (λ b. cond b (Some n) None) (lt-ltb n m l)) ∙ e)))
