@@ -22,7 +22,7 @@ BEGIN = "<!-- lines: written by scripts/book_lines.py -->"
 END = "<!-- end of lines -->"
 
 # the job that the words of a tool mean, by its name in dcm_words/specs/Words.antt
-JOBS = {"dcmdump": "dump", "dcmconv": "convert", "dump2dcm": "build", "dcmodify": "modify", "dcmdeid": "deidentify"}
+JOBS = {"dcmdump": "dump", "dcmconv": "convert", "dump2dcm": "build", "dcmodify": "modify", "dcmdeid": "deidentify", "dcm2csv": "table"}
 
 # what a tool promises, each part without what an earlier one has
 PARTS = [
@@ -32,11 +32,19 @@ PARTS = [
     ("the words, and what is opened", ["dcm_words.Words.meant", "dcm_cli.Program.Obeys"]),
 ]
 
+# dcm2csv has no job: its rows, how far a file is read, what is done with it, and the words
+TABLE_PARTS = [
+    ["dcm_tables.RowOf.RowOf", "dcm_table.Row.row_parts", "dcm_table.Parts.SpellsParts", "dcm_tables.Rows.file_lines", "dcm_tables.Rows.file_status"],
+    ["dcm_tables.RowOf.IsUndecided"],
+    ["dcm_tables.Deciding.DoesRow"],
+    ["dcm_table_words.Table.meant_table", "dcm_tables.TableProgram.ObeysTable"],
+]
+
 # cases of one tool that no job of another one comes to: only dcmodify has edits, each of which may have found no place
 OWN_CASES = {("dcm_cli.Answer", "unplaced_lines", "unplaced_lines n (e ∷ edits) set ="): "dcmodify"}
 
 # the tools that read files; what the answers of all of them have is read once
-READERS = ["dcmdump", "dcmconv", "dcmodify", "dcmdeid"]
+READERS = ["dcmdump", "dcmconv", "dcmodify", "dcmdeid", "dcm2csv"]
 
 WORD = re.compile(r"[^\s(){}\[\],;|]+")
 
@@ -235,7 +243,7 @@ def reached(tool: str, roots: list, before: set) -> dict:
 def parts_of(tool: str) -> list:
     """For each part its definitions with their lines."""
     before, parts = set(), []
-    for _, roots in PARTS:
+    for roots in TABLE_PARTS if tool == "dcm2csv" else [roots for _, roots in PARTS]:
         lines = reached(tool, roots, before)
         before |= set(lines)
         parts.append(lines)
@@ -258,7 +266,7 @@ def table() -> str:
     chosen = [book().definitions[file][name] for file, name in everything]
     lines = sum(len(chunk.head) + sum(map(len, chunk.cases)) for chunk in chosen)
     files = len({file for file, _ in everything})
-    rows.append(f"\nAll five tools together: {lines:,} lines, {len(everything)} definitions, {files} files.")
+    rows.append(f"\nAll six tools together: {lines:,} lines, {len(everything)} definitions, {files} files.")
     return "\n".join(rows)
 
 

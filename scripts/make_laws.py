@@ -35,10 +35,11 @@ ON_THE_WAY = {
     "dcm_deid_laws": "deidentified_reads written_is_clean deidentified_twice",
     "dcm_table": "meta_steps row_steps table_bar_steps table_by_atoms row_is_valid",
     "dcm_names": "lines_in_pieces",
+    "dcm_tables": "row_is_read row_is_done row_is_settled row_stays",
 }
 
 
-IN_THE_THEOREM = {"dcm_cli": "answers_one answers_some comes_one comes_some"}
+IN_THE_THEOREM = {"dcm_cli": "answers_one answers_some comes_one comes_some", "dcm_tables": "row_is_one row_is_some"}
 
 
 def on_the_way(crate: str) -> set:
