@@ -46,6 +46,9 @@ OWN_CASES = {("dcm_cli.Answer", "unplaced_lines", "unplaced_lines n (e ∷ edits
 # the tools that read files; what the answers of all of them have is read once
 READERS = ["dcmdump", "dcmconv", "dcmodify", "dcmdeid", "dcm2csv"]
 
+# what a tool answers to sound files alone; the law says which answer it is, so that `Answers` is a word in between
+SOUND = {"dcmdump": "DumpsSound", "dcmconv": "ConvertsSound", "dcmodify": "EditsSound"}
+
 WORD = re.compile(r"[^\s(){}\[\],;|]+")
 
 
@@ -270,10 +273,17 @@ def table() -> str:
     return "\n".join(rows)
 
 
+def sound() -> str:
+    """The lines of what is said of sound files."""
+    between = {("dcm_cli.Answer", "Answers")}
+    lines = {tool: sum(reached(tool, [f"dcm_sound.Laws.{name}"], between).values()) for tool, name in SOUND.items()}
+    return f"For sound files alone, as is said below: {', '.join(f'{tool} {count:,}' for tool, count in lines.items())} lines."
+
+
 def with_table(page: str) -> str:
     before, _, rest = page.partition(BEGIN)
     after = rest.partition(END)[2]
-    return f"{before}{BEGIN}\n\n{table()}\n\n{END}{after}"
+    return f"{before}{BEGIN}\n\n{table()}\n\n{sound()}\n\n{END}{after}"
 
 
 def unnamed_files(page: str) -> list:

@@ -39,7 +39,7 @@ ON_THE_WAY = {
 }
 
 
-IN_THE_THEOREM = {"dcm_cli": "answers_one answers_some comes_one comes_some", "dcm_tables": "row_is_one row_is_some"}
+IN_THE_THEOREM = {"dcm_cli": "answers_one answers_some comes_one comes_some", "dcm_tables": "row_is_one row_is_some table_is_one table_is_some"}
 
 
 def on_the_way(crate: str) -> set:

@@ -12,3 +12,7 @@ pub mod SureRows
 pub mod ShownCells
 pub mod RowDone
 pub mod RowBytes
+pub mod RowsAlike
+pub mod TableMemory
+pub mod TableLeft
+pub mod MemoryObeyed

@@ -1,5 +1,5 @@
 -- What was read of a file, and its row.
-use Rattle.std.proofs.Common.{◌≡◌, ◌∙◌, ap, sym, subst, refl, ℕ, ◌≤◌, List, [], ◌∷◌, ◌++◌, append_assoc, append-nil, length, length-append, drop, Some, None, inl, inr, arith}
+use Rattle.std.proofs.Common.{◌≡◌, ◌∙◌, ap, sym, subst, refl, ℕ, ◌≤◌, List, [], ◌∷◌, ◌++◌, append_assoc, append-nil, length, length-append, drop, Bool, Some, None, inl, inr, arith}
 use Rattle.std.specs.Prelude.{◌⊎◌, Ok}
 use Rattle.std.proofs.lemmas.List.{drop-append-le}
 use Rattle.dcm_base.specs.declared.tag.Tag.{Tag}
@@ -27,11 +27,12 @@ use Rattle.dcm_table.proofs.MetaCells.{meta_fills, meta_settles}
 use Rattle.dcm_cli.specs.declared.ending.Ending.{Ending}
 use Rattle.dcm_cli.specs.declared.ending.Ending.TheVariants as endings
 use Rattle.dcm_cli.specs.declared.ending.HeadEnding.TheVariants as heads
+use Rattle.dcm_cli.specs.declared.ending.Verdict.TheVariants as verdicts
 use Rattle.dcm_cli.specs.declared.head.Beginning.{Beginning}
 use Rattle.dcm_cli.specs.Answer.{set_at}
 use Rattle.dcm_cli.specs.InputCalls.{Reader, How, to_end, Allows}
 use Rattle.dcm_cli.specs.Opening.{HeadRead}
-use Rattle.dcm_cli.specs.Pass.{Begins, Ends, FailsHead, HeadGoesOn, HeadReads, SetGoesOn, head_read, set_bytes}
+use Rattle.dcm_cli.specs.Pass.{Begins, Ends, FailsHead, HeadGoesOn, HeadReads, SetGoesOn, TellsUnread, head_read, set_bytes}
 use Rattle.dcm_cli.proofs.Passes.MetaHeads.{Opened, not_opened, ended_stays, finished_same, goes_on_still}
 use Rattle.dcm_cli.proofs.Passes.Opens.{head_opened}
 use Rattle.dcm_cli.proofs.Passes.Readers.{allows_any, allows_nothing, nothing_follows, ends_empty, for_another, joined}
@@ -39,7 +40,7 @@ use Rattle.dcm_cli.proofs.Runs.Stopping.{began_gave}
 use Rattle.dcm_tables.specs.declared.file.FileEnd.{FileEnd}
 use Rattle.dcm_tables.specs.declared.file.FileEnd.TheVariants.{Read, Unread}
 use Rattle.dcm_tables.specs.Files.{ReadsFile, ReadsTable, TakesMeta, no_set, not_read, set_read, set_end}
-use Rattle.dcm_tables.specs.Deciding.{Comes, DecidesRow}
+use Rattle.dcm_tables.specs.Deciding.{Comes, DecidesRow, TellsEnd}
 use Rattle.dcm_tables.specs.RowOf.{RowOf, of_meta, of_set, IsUndecided, in_meta, in_set, end_of}
 use Rattle.dcm_tables.proofs.MetaShown.{shown}
 use Rattle.dcm_tables.proofs.TableReads.{SetTaken, taken, not_taken, set_taken, set_undecided}
@@ -179,6 +180,15 @@ module _ (columns : List Tag) (read : List ℕ) (how : How) (buffer : List ℕ) 
 
 -- ---- any file
 
+-- the reader of a data set failed exactly where that is how the reading of its file ended
+set_failed : (failed_before failed_after : Bool) (ending : Ending) → TellsUnread failed_before failed_after ending → TellsEnd failed_before failed_after (set_end ending)
+set_failed failed_before failed_after (endings.Worked (verdicts.Done mask)) t = t
+set_failed failed_before failed_after (endings.Worked verdicts.PixelsMayShow) t = t
+set_failed failed_before failed_after (endings.Worked (verdicts.Refused stop)) t = t
+set_failed failed_before failed_after (endings.Worked (verdicts.RefusedLine stop)) t = t
+set_failed failed_before failed_after (endings.Unread count) t = t
+set_failed failed_before failed_after endings.Output t = t
+
 module _ {R : Type 0} (r : Reader R) (columns : List Tag) (before after : R) where
   set_comes : (m : HeadReading) (had held : List ℕ) (b : Beginning) (mid : R) (t new : State) (end : FileEnd) → HeadReads r before mid m had held (Ok b) → TakesMeta m (begun columns) t → ReadsTable r mid after m b held t new end
       → DecidesRow r before after columns (settled_slots new.slots) end
@@ -206,7 +216,14 @@ module _ {R : Type 0} (r : Reader R) (columns : List Tag) (before after : R) whe
             (set_ended columns head.read head.how held m b x.coding head.outcome x.named t takes set.more [] a.0 new x.ending (ends [] ok)) in
             (undecided_at columns head.read head.how held m b x.coding head.outcome x.named t takes set.more (subst (Allows head.how) (append-nil set.more) a.0) u.0, u.1)
       ] in
-      record { given = head.read ++ set.more; how = j.how; reads = j.reads; comes = comes end refl }
+      record {
+        given = head.read ++ set.more;
+        how = j.how;
+        reads = j.reads;
+        comes = comes end refl;
+        failed = subst (TellsEnd (r.has_failed before) (r.has_failed after)) (sym x.ends)
+            (set_failed (r.has_failed before) (r.has_failed after) x.ending (subst (λ (f : Bool). TellsUnread f (r.has_failed after) x.ending) head.failed x.unread));
+      }
 
   pub row_comes : (new : State) (end : FileEnd) → ReadsFile r before after (begun columns) new end → DecidesRow r before after columns (settled_slots new.slots) end
   row_comes new end (no_set m had held stop head takes is) = record {
@@ -215,6 +232,7 @@ module _ {R : Type 0} (r : Reader R) (columns : List Tag) (before after : R) whe
     reads = for_another r HeadGoesOn (IsUndecided columns) before after head.read head.how (head_undecided columns) head.reads;
     comes = subst (Comes columns head.read head.how (settled_slots new.slots)) (sym is)
         (λ rest ok. refused_row columns (head.read ++ rest) m stop new (finished_over m head.read rest head.how stop ok head.outcome) head.outcome.0 takes);
+    failed = subst (TellsEnd (r.has_failed before) (r.has_failed after)) (sym is) head.failed;
   }
   row_comes new end (not_read m had held count head is) = record {
     given = head.read;
@@ -222,5 +240,6 @@ module _ {R : Type 0} (r : Reader R) (columns : List Tag) (before after : R) whe
     reads = for_another r HeadGoesOn (IsUndecided columns) before after head.read head.how (head_undecided columns) head.reads;
     comes = subst (Comes columns head.read head.how (settled_slots new.slots)) (sym is)
         (head_undecided columns head.read (ap (λ (x : HeadReading). x.end) (sym head.outcome.0) ∙ head.outcome.1), head.outcome.2);
+    failed = subst (TellsEnd (r.has_failed before) (r.has_failed after)) (sym is) head.failed;
   }
   row_comes new end (set_read m had held b mid t head takes x) = set_comes m had held b mid t new end head takes x

@@ -1,5 +1,5 @@
 -- What was read of a file decides its row, and what is done with it.
-use Rattle.std.specs.Prelude.{◌≡◌, ℕ, List, [], ◌++◌, length, true, Result, Ok, Err}
+use Rattle.std.specs.Prelude.{◌≡◌, ℕ, List, [], ◌++◌, length, Bool, true, Result, Ok, Err}
 use Rattle.dcm_base.specs.declared.tag.Tag.{Tag}
 use Rattle.dcm_devices.specs.declared.device.WriteFailed.{WriteFailed}
 use Rattle.dcm_devices.specs.Writing.{Writer}
@@ -25,6 +25,11 @@ abbrev pub Comes : (columns : List Tag) → (given : List ℕ) → How → (cell
 Comes columns given how cells (Read end) = (rest : List ℕ) → Allows how rest → RowOf columns (given ++ rest) cells end
 Comes columns given how cells (Unread count) = IsUndecided columns given × (count ≡ length given)
 
+-- the reader failed in the calls exactly where that is how the reading ended
+abbrev pub TellsEnd : (failed_before failed_after : Bool) → FileEnd → Type 0
+TellsEnd failed_before failed_after (Read end) = failed_after ≡ failed_before
+TellsEnd failed_before failed_after (Unread count) = failed_after ≡ true
+
 -- a file was read by such calls, each of them only where more bytes could still change how the reading ends
 pub record DecidesRow {R : Type 0} (r : Reader R) (before after : R) (columns : List Tag) (cells : List Slot)
     (end : FileEnd) : Type 0 where
@@ -32,6 +37,7 @@ pub record DecidesRow {R : Type 0} (r : Reader R) (before after : R) (columns : 
   pub how : How
   pub reads : ReadsInput r (IsUndecided columns) before given how after
   pub comes : Comes columns given how cells end
+  pub failed : TellsEnd (r.has_failed before) (r.has_failed after) end
 
 -- a file of this name was read so, its row was written, and what is wrong with it was reported after that; or the output
 -- failed with a beginning of the row, and nothing was reported; or reading failed, and that was reported: it has no row

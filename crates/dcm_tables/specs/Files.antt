@@ -32,7 +32,8 @@ set_end _ = Read (row_end (Ok tt))
 abbrev pub TakesMeta : meta.Reading → (before after : State) → Type 0
 TakesMeta m before after = OfElements (meta.group_of m) (λ elements. after ≡ fold next before (meta_atoms elements))
 
--- a data set was read into the cells, by the whole dictionary, after the head of its file
+-- a data set was read into the cells, by the whole dictionary, after the head of its file; the reader failed exactly
+-- where that is the ending
 pub record ReadsTable {R : Type 0} (r : Reader R) (before after : R) (m : meta.Reading) (b : Beginning)
     (buffer : List ℕ)
     (taken new : State) (end : FileEnd) : Type 0 where
@@ -41,6 +42,7 @@ pub record ReadsTable {R : Type 0} (r : Reader R) (before after : R) (m : meta.R
   pub ending : Ending
   pub reads : pass.ReadsSet table_bar_of next writes r before after b.is_over (pass.set_bytes b buffer)
       (start_of (coding_by Standard coding).syntax m.place) taken None new None ending
+  pub unread : pass.TellsUnread (r.has_failed before) (r.has_failed after) ending
   pub ends : end ≡ set_end ending
 
 -- a file was read into emptied cells: its head, the elements of its meta group, and its data set

@@ -19,6 +19,7 @@ use Rattle.dcm_table.specs.Quoted.{quoted}
 use Rattle.dcm_table.specs.Row.{cell_parts, is_quoted_text, row_parts}
 use Rattle.dcm_table.specs.Shown.{leaf_cell, settled_slots}
 use Rattle.dcm_table.specs.TableSink.{Slot, State, begun}
+use Rattle.dcm_files.specs.declared.memory.MemSystem.{MemSystem}
 use Rattle.dcm_cli.specs.Calls.{Reader}
 use Rattle.dcm_cli.specs.Change.{Change}
 use Rattle.dcm_tables.specs.declared.file.FileEnd.{FileEnd}
@@ -26,6 +27,7 @@ use Rattle.dcm_tables.specs.Deciding.{DecidesRow, DoesRow}
 use Rattle.dcm_tables.specs.Files.{ReadsFile}
 use Rattle.dcm_tables.specs.RowOf.{RowOf, IsUndecided}
 use Rattle.dcm_tables.specs.Rows.{DoesFile, file_lines, file_status}
+use Rattle.dcm_tables.specs.TableInMemory.{TableOutcome, TableComes}
 
 -- ---- what was read of a file
 
@@ -107,3 +109,14 @@ CellIsShown =
     → length value ≤ CELL_LIMIT
     → (read : List ℕ) × (value_of_text vr (display vr value) ≡ Some read)
     × (cell_parts AsItIs (leaf_cell s tag vr value) ≡ some_bytes (quoted (without_pads read)) ∷ [])
+
+-- ---- a table over files in memory
+
+-- words come to at most one outcome: the parts of the table, the lines and the status
+abbrev pub TableIsOne : Type 0
+TableIsOne = (words : List (List ℕ)) (s : MemSystem) (a b : TableOutcome) → TableComes words s a → TableComes words s b
+    → a ≡ b
+
+-- and to at least one
+abbrev pub TableIsSome : Type 0
+TableIsSome = (words : List (List ℕ)) (s : MemSystem) → (o : TableOutcome) × TableComes words s o

@@ -5,3 +5,4 @@ pub mod Deciding
 pub mod Laws
 pub mod Table
 pub mod TableProgram
+pub mod TableInMemory

@@ -1,6 +1,6 @@
 //! Laws of the definitions. Each function takes nothing and makes no call: its contract is the law.
 ghost use Rattle.dcm_tables.specs.Laws.{CellIsShown, DecidedIsSure, RowIsDecided, RowIsDone, RowIsOne, RowIsRead};
-ghost use Rattle.dcm_tables.specs.Laws.{RowIsSettled, RowIsSome, RowIsUtf8, RowStays};
+ghost use Rattle.dcm_tables.specs.Laws.{RowIsSettled, RowIsSome, RowIsUtf8, RowStays, TableIsOne, TableIsSome};
 
 use dcm_base::{DeviceIn, DeviceOut};
 
@@ -19,8 +19,8 @@ pub fn row_stays()
     ensures { RowStays }
 {}
 
-/// There some beginning of them decides the row, whatever follows it, and no shorter one does. A row that a head above
-/// all columns ends is decided.
+/// A row that more bytes cannot change is decided by a beginning of the file, whatever follows it. No shorter one decides
+/// it. A row that a head above all columns ends is decided.
 pub fn row_is_decided()
     ensures front { RowIsDecided }
     ensures sure { DecidedIsSure }
@@ -50,4 +50,15 @@ pub fn row_is_utf8()
 /// its end are left out. Of a unique identifier that the dump shows by its name, it is the identifier.
 pub fn cell_is_shown()
     ensures { CellIsShown }
+{}
+
+/// Words that ask for a table come to at most one outcome over files in memory: the parts of the table, the lines and
+/// the status.
+pub fn table_is_one()
+    ensures { TableIsOne }
+{}
+
+/// They come to an outcome, whatever the files hold.
+pub fn table_is_some()
+    ensures { TableIsSome }
 {}

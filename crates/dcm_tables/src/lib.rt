@@ -3,14 +3,17 @@
 //! - `read_file` reads of one file what its row shows, into `Cells` of dcm_table.
 //! - `write_table` goes over all names: it opens a file, writes its row, and reports what is wrong with it.
 //! - `dcmtools` does what words say: dcm2csv here, all other tools in dcm_cli.
+//! - `obey_in_memory` does so over files in memory.
 #![tactic(auto)]
 
 mod file;
+mod in_memory;
 pub mod laws;
 mod program;
 mod rows;
 mod table;
 
 pub use file::{FileEnd, read_file};
+pub use in_memory::obey_in_memory;
 pub use program::{dcmtools, obey, start};
 pub use table::{Ends, write_table};

@@ -19,6 +19,7 @@ returns-clause-reads g c =
       ending = c.read_set.result;
       reads = subst (λ (place : ℕ). Reads (start_of (coding_by Standard c.coding.result).syntax place)) c.set_start-start.ensures.place
           (subst (λ (coding : Coding). Reads (start_of coding.syntax c.set_start-start.result)) c.read_by-coding.ensures c.read_set.ensures.ends);
+      unread = c.read_set.ensures.unread;
       ends = c.set_end.ensures;
     }
 

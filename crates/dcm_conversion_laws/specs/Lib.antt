@@ -1,0 +1,3 @@
+pub mod Detour
+pub mod Agree
+pub mod Laws

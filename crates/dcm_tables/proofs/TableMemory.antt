@@ -1,0 +1,263 @@
+-- What is done with the names of a table over files in memory.
+use Rattle.std.proofs.Common.{◌≡◌, ◌∙◌, ap, sym, subst, refl, ℕ, ◌+◌, ◌<◌, ◌≤◌, List, [], ◌∷◌, ◌++◌, length, length-append, arith, Bool, true, false, Option, Some, None, Result, Ok, Err, inl, inr}
+use Rattle.std.specs.Prelude.{max, if◌then◌else◌}
+use Rattle.std.specs.Io.KnownBytes.{append_known}
+use Rattle.dcm_base.specs.declared.tag.Tag.{Tag}
+use Rattle.dcm_devices.specs.declared.device.WriteFailed.{WriteFailed}
+use Rattle.dcm_devices.specs.declared.memory.MemIn.{MemIn}
+use Rattle.dcm_devices.specs.declared.memory.Measured.{Measured}
+use Rattle.dcm_devices.specs.Device.{AppendsFront}
+use Rattle.dcm_devices.specs.Memory.{written, size}
+use Rattle.dcm_devices.proofs.Writes.Puts.{append_known_none, append_known_twice}
+use Rattle.dcm_files.specs.declared.memory.MemSystem.{MemSystem}
+use Rattle.dcm_files.specs.declared.opened.Opened.{Opened}
+use Rattle.dcm_files.specs.Memory.{may_do}
+use Rattle.dcm_names.specs.Names.{can_be_opened}
+use Rattle.dcm_table.specs.declared.ending.RowEnd.{RowEnd}
+use Rattle.dcm_table.specs.declared.quoted.TextForm.{TextForm}
+use Rattle.dcm_table.specs.Parts.{Part, some_bytes, a_float, SpellsPart, SpellsParts, AppendsFrontOfParts}
+use Rattle.dcm_table.specs.TableSink.{Slot}
+use Rattle.dcm_table.proofs.PartsOut.{spells_both}
+use Rattle.dcm_table_words.specs.Table as table_words
+use Rattle.dcm_cli.specs.Calls.{Reader}
+use Rattle.dcm_cli.specs.Change.{Change}
+use Rattle.dcm_cli.specs.ErrorLines.{Reports}
+use Rattle.dcm_cli.specs.InMemory.{bytes_at}
+use Rattle.dcm_cli.specs.Program.{Follows}
+use Rattle.dcm_cli.proofs.Passes.Readers.{known}
+use Rattle.dcm_cli.proofs.Runs.InMemory.{memory_writer}
+use Rattle.dcm_cli.proofs.Runs.OpenedMemory.{input_opened}
+use Rattle.dcm_tables.specs.Deciding.{DoesRow, row_written, row_unwritten, row_unread}
+use Rattle.dcm_tables.specs.RowOf.{RowOf}
+use Rattle.dcm_tables.specs.Table as table
+use Rattle.dcm_tables.specs.Table.{OpensAt, not_tried, opened_at, DoesAt, not_opened, done_at, DoesName, DoneSoFar, none_done, and_done, DoesAll, all_names, failed_at, WritesTable, headed, not_headed, header_bytes}
+use Rattle.dcm_tables.specs.TableInMemory.{Rows, no_rows, and_rows, AllCome, file_of, unopened, row_with, FileComes, most_of_part, most_of}
+use Rattle.dcm_tables.proofs.OneRow.{one_row}
+use Rattle.dcm_tables.proofs.RowsAlike.{split, both_rows, rows_none}
+
+-- ---- lines
+
+-- all of the lines were written; or fewer bytes, and the writer has failed
+pub data Told (c : Change) (lines : List ℕ) : Type 0 where
+  told_all : c.after ≡ append_known c.before lines → c.failed_after ≡ c.failed_before → Told c lines
+  told_less : (less : List ℕ) → c.after ≡ append_known c.before less → length less < length lines → c.failed_after ≡ true → Told c lines
+
+-- a beginning that was not all
+pub front_less : {old new : Option (List ℕ)} {bytes : List ℕ} → (a : AppendsFront old new bytes) → length a.front < length bytes
+front_less {old} {new} {bytes} a = let h = ap length a.whole ∙ length-append a.front (a.next ∷ a.rest) in omega (arith, h)
+
+pub told_of : (c : Change) (lines : List ℕ) → Reports c lines → Told c lines
+told_of c lines (inl x) = told_all x.0 x.1
+told_of c lines (inr x) = told_less x.0.front x.0.grown (front_less x.0) x.1
+
+module _ (whole first second : Change) (follows : Follows whole first second) (ls ms : List ℕ) where
+  grown_on : (xs ys : List ℕ) → first.after ≡ append_known first.before xs → second.after ≡ append_known second.before ys → whole.after ≡ append_known whole.before (xs ++ ys)
+  grown_on xs ys a b =
+      follows.ends.0 ∙ b ∙ ap (λ (k : Option (List ℕ)). append_known k ys) (follows.meets.0 ∙ a) ∙ append_known_twice first.before xs ys ∙ ap (λ (k : Option (List ℕ)). append_known k (xs ++ ys)) follows.begins.0
+
+  fewer : (xs ys : List ℕ) → length xs ≤ length ls → length ys ≤ length ms → length xs + length ys < length ls + length ms → length (xs ++ ys) < length (ls ++ ms)
+  fewer xs ys a b less = let x = length-append xs ys in let l = length-append ls ms in omega (arith, x, l, less)
+
+  pub told_then : Told first ls → Told second ms → Told whole (ls ++ ms)
+  told_then (told_all a fine) (told_all b fine') = told_all (grown_on ls ms a b) (follows.ends.1 ∙ fine' ∙ follows.meets.1 ∙ fine ∙ follows.begins.1)
+  told_then (told_all a fine) (told_less less b small failed) =
+      told_less (ls ++ less) (grown_on ls less a b) (fewer ls less (omega arith) (omega (arith, small)) (omega (arith, small))) (follows.ends.1 ∙ failed)
+  told_then (told_less less a small failed) (told_all b fine) =
+      told_less (less ++ ms) (grown_on less ms a b) (fewer less ms (omega (arith, small)) (omega arith) (omega (arith, small))) (follows.ends.1 ∙ fine ∙ follows.meets.1 ∙ failed)
+  told_then (told_less less a small failed) (told_less more b small' failed') =
+      told_less (less ++ more) (grown_on less more a b) (fewer less more (omega (arith, small)) (omega (arith, small')) (omega (arith, small, small'))) (follows.ends.1 ∙ failed')
+
+-- ---- texts of parts
+
+part_most : (p : Part) (text : List ℕ) → SpellsPart p text → length text ≤ most_of_part p
+part_most (some_bytes bytes) text e = let h = ap length e in omega (arith, h)
+part_most (a_float w bits) text h = h.short
+
+pub text_most : (parts : List Part) (text : List ℕ) → SpellsParts parts text → length text ≤ most_of parts
+text_most [] text e = let h = ap length e in omega (arith, h)
+text_most (p ∷ parts) text (first, rest, is, one, more) =
+    let a = part_most p first one in
+    let b = text_most parts rest more in
+    let h = ap length is ∙ length-append first rest in
+    omega (arith, a, b, h)
+
+plus_none : (n : ℕ) → n ≡ 0 + n
+plus_none n = omega arith
+
+pub most_both : (ps qs : List Part) → most_of (ps ++ qs) ≡ most_of ps + most_of qs
+most_both [] qs = plus_none (most_of qs)
+most_both (p ∷ ps) qs = let h = most_both ps qs in omega (arith, h)
+
+-- ---- what was done for rows
+
+abbrev pub held : Measured → Option (List ℕ)
+held m = Some (size m.out ∷ written m.out)
+
+-- all of them were written and reported
+pub record All (rows : Rows) (errors : Change) (from to : Measured) (status : ℕ) : Type 0 where
+  pub text : List ℕ
+  pub spelled : SpellsParts rows.parts text
+  pub grown : held to ≡ append_known (held from) text
+  pub fine : to.out.failed ≡ from.out.failed
+  pub told : Told errors rows.lines
+  pub status_is : status ≡ rows.status
+
+-- the output failed before it had all of them
+pub record Less (rows : Rows) (from to : Measured) : Type 0 where
+  pub less : List ℕ
+  pub grown : held to ≡ append_known (held from) less
+  pub fewer : length less < most_of rows.parts
+  pub failed : to.out.failed ≡ true
+
+abbrev pub Left : Rows → Change → (from to : Measured) → Result ℕ WriteFailed → Type 0
+Left rows errors from to (Ok status) = All rows errors from to status
+Left rows errors from to (Err failure) = Less rows from to
+
+pub max_same : (a b c d m : ℕ) → m ≡ max a c → a ≡ b → c ≡ d → m ≡ max b d
+max_same a b c d m e f g = e ∙ (λ i. max (f i) (g i))
+
+pub all_then : (a b : Rows) (whole first second : Change) (from mid to : Measured) (m n k : ℕ) → All a first from mid n → All b second mid to k → Follows whole first second → m ≡ max n k → All (and_rows a b) whole from to m
+all_then a b whole first second from mid to m n k x y follows is = record {
+  text = x.text ++ y.text;
+  spelled = spells_both a.parts b.parts x.text y.text x.spelled y.spelled;
+  grown = y.grown ∙ ap (λ (h : Option (List ℕ)). append_known h y.text) x.grown ∙ append_known_twice (held from) x.text y.text;
+  fine = y.fine ∙ x.fine;
+  told = told_then whole first second follows a.lines b.lines x.told y.told;
+  status_is = max_same n a.status k b.status m is x.status_is y.status_is;
+}
+
+pub less_then : (a b c : Rows) (first : Change) (from mid to : Measured) (n : ℕ) → All a first from mid n → Less b mid to → Less (and_rows a (and_rows b c)) from to
+less_then a b c first from mid to n x y = record {
+  less = x.text ++ y.less;
+  grown = y.grown ∙ ap (λ (h : Option (List ℕ)). append_known h y.less) x.grown ∙ append_known_twice (held from) x.text y.less;
+  fewer =
+      let t = text_most a.parts x.text x.spelled in
+      let l = length-append x.text y.less in
+      let p = most_both a.parts (b.parts ++ c.parts) in
+      let q = most_both b.parts c.parts in
+      let f = y.fewer in
+      omega (arith, t, l, p, q, f);
+  failed = y.failed;
+}
+
+-- ---- one file
+
+module _ (gets : MemIn → Option (List ℕ) → MemIn → Type 0) where
+  -- the members of a reader of memory, of which the calls may say more
+  abbrev pub reader : Reader MemIn
+  reader = record { has_failed = λ m. false; remaining = λ m. Some m.rest.now; gets = gets }
+
+  module _ (columns : List Tag) (form : TextForm) (name : List ℕ) (errors : Change) (from to : Measured) where
+    alike : (a b : Rows) (r t : Result ℕ WriteFailed) → a ≡ b → r ≡ t → Left a errors from to r → Left b errors from to t
+    alike a b r t e f left = subst (λ (z : Rows). Left z errors from to t) e (subst (Left a errors from to) f left)
+
+    -- it has the row of its bytes
+    same_row : (bytes : List ℕ) (cells : List Slot) (end : RowEnd) (rows : Rows) → RowOf columns bytes cells end → FileComes columns form name (Some bytes) rows → row_with form name cells end ≡ rows
+    same_row bytes cells end rows row (others, other, is, same) =
+        let one = one_row columns bytes cells others end other row is in
+        (λ i. row_with form name (one.0 i) (one.1 i)) ∙ sym same
+
+    pub row_left : (input left : MemIn) (result : Result ℕ WriteFailed) (rows : Rows) → DoesRow reader memory_writer columns form name errors from to input result left → FileComes columns form name (Some input.rest.now) rows
+        → Left rows errors from to result
+    row_left input left result rows (row_written cells end decides went failed reports is) comes =
+        let k = known reader _ input left decides.given decides.how decides.reads input.rest.now refl in
+        let row = subst (λ (bytes : List ℕ). RowOf columns bytes cells end) (sym k.2) (decides.comes k.0 k.1) in
+        alike (row_with form name cells end) rows _ result (same_row input.rest.now cells end rows row comes) (sym is)
+        (record { text = went.text; spelled = went.spelled; grown = went.grown; fine = failed; told = told_of errors _ reports; status_is = refl })
+    row_left input left result rows (row_unwritten cells end failure decides went failed reports is) comes =
+        let k = known reader _ input left decides.given decides.how decides.reads input.rest.now refl in
+        let row = subst (λ (bytes : List ℕ). RowOf columns bytes cells end) (sym k.2) (decides.comes k.0 k.1) in
+        alike (row_with form name cells end) rows (Err failure) result (same_row input.rest.now cells end rows row comes) (sym is)
+        (record { less = went.front.front; grown = went.front.grown; fewer = front_fewer (row_with form name cells end).parts went; failed = failed })
+      where
+        front_fewer : (parts : List Part) (a : AppendsFrontOfParts (held from) (held to) parts) → length a.front.front < most_of parts
+        front_fewer parts a =
+            let short = front_less a.front in
+            let most = text_most a.first a.text a.spelled in
+            let all = ap most_of a.whole ∙ most_both a.first a.others in
+            omega (arith, short, most, all)
+    row_left input left result rows (row_unread cells count decides same reports is) comes = absurd (let no : false ≡ true = decides.failed in cc)
+
+  -- ---- one name
+
+  -- what was opened holds the bytes at the path
+  abbrev IsOpened : Option (List ℕ) → Option (Opened MemIn) → Type 0
+  IsOpened bytes None = bytes ≡ None
+  IsOpened bytes (Some i) = bytes ≡ Some i.device.rest.now
+
+  chosen : (b c : Bool) (x : Option (List ℕ)) → b ≡ c → (if b then x else None) ≡ (if c then x else None)
+  chosen b c x e = ap (λ (t : Bool). if t then x else None) e
+
+  opened_is : (s : MemSystem) (b : Bool) (path : List ℕ) (o : Option (Opened MemIn)) (mid : MemSystem) → OpensAt may_do b path s o mid → IsOpened (if b then bytes_at s path else None) o × (mid ≡ s)
+  opened_is s b path o mid (not_tried shut none same) =
+      (subst (IsOpened (if b then bytes_at s path else None)) (sym none) (chosen b false (bytes_at s path) shut), same)
+  opened_is s b path o mid (table.refused cause can tried none) =
+      let f = input_opened s path (Err cause) mid tried in
+      (subst (IsOpened (if b then bytes_at s path else None)) (sym none) (chosen b true (bytes_at s path) can ∙ f.0.0), f.1)
+  opened_is s b path o mid (opened_at i can tried some) =
+      let f = input_opened s path (Ok i) mid tried in
+      (subst (IsOpened (if b then bytes_at s path else None)) (sym some) (chosen b true (bytes_at s path) can ∙ f.0.0), f.1)
+
+  -- nothing was opened, and that was reported
+  unopened_left : (name : List ℕ) (rows : Rows) (errors : Change) (from to : Measured) (result : Result ℕ WriteFailed) → rows ≡ unopened name → Reports errors (unopened name).lines → to ≡ from → result ≡ Ok (unopened name).status → Left rows errors from to result
+  unopened_left name rows errors from to result none line same is =
+      subst (λ (z : Rows). Left z errors from to result) (sym none)
+      (subst (Left (unopened name) errors from to) (sym is)
+      (record { text = []; spelled = refl; grown = ap held same ∙ sym (append_known_none (held from)); fine = ap (λ (m : Measured). m.out.failed) same; told = told_of errors _ line; status_is = refl }))
+
+  module _ (s : MemSystem) (columns : List Tag) (form : TextForm) where
+    pub at_left : (name path : List ℕ) (rows : Rows) (errors : Change) (from to : Measured) (result : Result ℕ WriteFailed) (after : MemSystem)
+        → DoesAt may_do (DoesRow reader memory_writer columns form) name path (can_be_opened name) errors from to s result after → FileComes columns form name (file_of s name path) rows
+        → Left rows errors from to result × (after ≡ s)
+    at_left name path rows errors from to result after (not_opened opens line same is) comes =
+        let o = opened_is s (can_be_opened name) path None after opens in
+        (unopened_left name rows errors from to result (subst (λ (f : Option (List ℕ)). FileComes columns form name f rows) o.0 comes) line same is, o.1)
+    at_left name path rows errors from to result after (done_at i left has opens does back) comes =
+        let o = opened_is s (can_be_opened name) path (Some i) has opens in
+        (row_left columns form name errors from to i.device left result rows does (subst (λ (f : Option (List ℕ)). FileComes columns form name f rows) o.0 comes), back ∙ o.1)
+
+    -- ---- names, one after another
+
+    abbrev Does : table_words.Name → table.Writing MemSystem Measured
+    Does name errors from to before result after = DoesName may_do reader (DoesRow reader memory_writer columns form) name errors from to before result after
+
+    module _ (Comes : table_words.Name → Rows → Type 0)
+        (name_left : (name : table_words.Name) (rows : Rows) (errors : Change) (from to : Measured) (result : Result ℕ WriteFailed) (after : MemSystem) → Does name errors from to s result after → Comes name rows → Left rows errors from to result × (after ≡ s)) where
+      -- the last of several
+      last_rows : (first later end rows : Rows) → rows ≡ and_rows first later → later ≡ and_rows end no_rows → rows ≡ and_rows first end
+      last_rows first later end rows e f = e ∙ both_rows refl (f ∙ rows_none end)
+
+      so_far_left : (from : Measured) (errors : Change) (to : Measured) (names : List table_words.Name) (status : ℕ) (after : MemSystem) (rows : Rows) → DoneSoFar Does from s errors to names status after → AllCome Comes names rows
+          → All rows errors from to status × (after ≡ s)
+      so_far_left from errors to names status after rows (none_done line same none is was) come =
+          let no : rows ≡ no_rows = subst (λ (ns : List table_words.Name). AllCome Comes ns rows) none come in (
+            subst (λ (z : Rows). All z errors from to status) (sym no)
+                (record { text = []; spelled = refl; grown = ap held same ∙ sym (append_known_none (held from)); fine = ap (λ (m : Measured). m.out.failed) same; told = told_of errors _ line; status_is = is }),
+            was,
+          )
+      so_far_left from errors to names status after rows (and_done others name reached ended mid between of_others of_name so_far does follows whole is) come =
+          let p = split Comes others (name ∷ []) rows (subst (λ (ns : List table_words.Name). AllCome Comes ns rows) whole come) in
+          let first = so_far_left from of_others mid others reached between p.first so_far p.of_first in
+          let one = p.of_later in
+          let next = name_left name one.0 of_name mid to (Ok ended) after (subst (λ (z : MemSystem). Does name of_name mid to z (Ok ended) after) first.1 does) one.2 in
+          let later : p.later ≡ and_rows one.0 no_rows = one.4 ∙ both_rows refl one.3 in (
+            subst (λ (z : Rows). All z errors from to status) (sym (last_rows p.first p.later one.0 rows p.whole later))
+                (all_then p.first one.0 errors of_others of_name from mid to status reached ended first.0 next.0 follows is),
+            next.1,
+          )
+
+      pub all_left : (names : List table_words.Name) (errors : Change) (from to : Measured) (result : Result ℕ WriteFailed) (after : MemSystem) (rows : Rows) → DoesAll Does names errors from to s result after → AllCome Comes names rows
+          → Left rows errors from to result × (after ≡ s)
+      all_left names errors from to result after rows (all_names status so_far is) come =
+          let l = so_far_left from errors to names status after rows so_far come in
+          (subst (Left rows errors from to) (sym is) l.0, l.1)
+      all_left names errors from to result after rows (failed_at others later name status mid between of_others of_name failure so_far does follows whole is) come =
+          let p = split Comes others (name ∷ later) rows (subst (λ (ns : List table_words.Name). AllCome Comes ns rows) whole come) in
+          let first = so_far_left from of_others mid others status between p.first so_far p.of_first in
+          let one = p.of_later in
+          let next = name_left name one.0 of_name mid to (Err failure) after (subst (λ (z : MemSystem). Does name of_name mid to z (Err failure) after) first.1 does) one.2 in (
+            subst (Left rows errors from to) (sym is)
+                (subst (λ (z : Rows). Less z from to) (sym (p.whole ∙ both_rows refl one.4))
+                (less_then p.first one.0 one.1 of_others from mid to status first.0 next.0)),
+            next.1,
+          )

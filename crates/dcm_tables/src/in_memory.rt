@@ -1,0 +1,35 @@
+// Obeying words over files in memory.
+ghost use Rattle.std.specs.Prelude.{◌≡◌, map, true, false};
+ghost use Rattle.dcm_cli.specs.InMemory.{ObeysInMemory};
+ghost use Rattle.dcm_tables.specs.TableInMemory.{NamesNoList, TablesInMemory};
+ghost use Rattle.dcm_tables.specs.TableProgram.{asks_table};
+
+use crate::program::obey;
+use dcm_base::{Measured, MemOut, Watched};
+use dcm_cli::in_memory::Obeyed;
+use dcm_files::MemSystem;
+use std::alloc::Global;
+
+/// Obeys words over files in memory. Where they ask for a table of files and there is room for it, the output is the
+/// header and the row of each file, in the order of the names, and each row is what the bytes of its file give. Where
+/// there is room for the lines, they are written too. Other words are obeyed as `dcm_cli` does.
+pub fn obey_in_memory<'a>(
+    alloc: Global,
+    words: &[&[u8]],
+    system: MemSystem<'a>,
+    errors: MemOut,
+) -> Obeyed
+    ensures tables { asks_table (map (λ w. w.now) words.now) ≡ true → NamesNoList (map (λ w. w.now) words.now)
+        → TablesInMemory (map (λ w. w.now) words.now) system.entry errors result.written result.errors result.status }
+    ensures others { asks_table (map (λ w. w.now) words.now) ≡ false
+        → ObeysInMemory (map (λ w. w.now) words.now) system.entry errors result.written result.errors result.status }
+{
+    let mut system = system;
+    let mut errors = Watched::new(Measured::new(errors));
+    let status = obey(&mut system, alloc, words, &mut errors);
+    Obeyed {
+        written: system.into_written(),
+        errors: errors.into_device().into_inner(),
+        status,
+    }
+}
