@@ -18,7 +18,7 @@ END = "<!-- end of laws -->"
 MOST_WORDS = 30
 
 ON_THE_WAY = {
-    "dcm_base": """reads_one one_shown front_shows value_reads_back line_reads_back rebuilt_recodes normal_recodes target_fits
+    "dcm_base": """one_front reads_one one_shown front_shows value_reads_back line_reads_back rebuilt_recodes normal_recodes target_fits
         keywords_differ called_back keywords_are_lines elements_ascend extract_is_part""",
     "dcm_head": "heads_read one_head heads_written meta_reads meta_reads_one data_set_begins meta_steps",
     "dcm_value": "text_steps value_reads_back",
@@ -30,12 +30,13 @@ ON_THE_WAY = {
         edited_is_bytes erased_all_is_gone erased_private_is_gone modified_all_is_so others_stay others_stay_written
         edited_reads_by opens_alike edited_for_others erased_for_all edited_twice edited_again edits_are_apart""",
     "dcm_uid": "new_uids_are_uids",
-    "dcm_deid": """actions_ascend bar_steps deidentify_steps pixel_steps nothing_flows_out only_said_is_put pairs_are_alike
+    "dcm_deid": """nothing_flows taken_is_gone actions_ascend bar_steps deidentify_steps pixel_steps nothing_flows_out only_said_is_put pairs_are_alike
         what_stays_is_known uids_agree""",
     "dcm_deid_laws": "deidentified_reads written_is_clean deidentified_twice",
     "dcm_table": "meta_steps row_steps table_bar_steps table_by_atoms row_is_valid",
     "dcm_names": "lines_in_pieces",
-    "dcm_tables": "row_is_read row_is_done row_is_settled row_stays",
+    "dcm_cli": "sure_grows output_for_others output_opens_alike",
+    "dcm_tables": "row_is_read row_is_done row_is_settled row_stays row_is_decided",
 }
 
 

@@ -30,12 +30,12 @@ use Rattle.dcm_deid_laws.proofs.NotBarred.{not_barred}
 use Rattle.dcm_conversion_laws.specs.Agree.{FrontSays, ItemsSay, SaysItself}
 
 -- the same syntax, read by the extract
-abbrev plain : Syntax → Syntax
+abbrev pub plain : Syntax → Syntax
 plain s = read_by Extract s
 
 -- ---- forms
 
-form_plain : (s : Syntax) (vr : Vr) (declared : Length) → form (plain s) vr declared ≡ form s vr declared
+pub form_plain : (s : Syntax) (vr : Vr) (declared : Length) → form (plain s) vr declared ≡ form s vr declared
 unfolding form
 form_plain s SQ declared = refl
 form_plain s UN (Known n) = refl
@@ -49,12 +49,12 @@ form_plain (big_in d) OW Undefined = refl
 form_plain s vr (Known n) = refl
 form_plain s vr Undefined = refl
 
-read_plain : (s : Syntax) (tag : Tag) (vr : Vr) → read_as (plain s) tag vr ≡ vr
+pub read_plain : (s : Syntax) (tag : Tag) (vr : Vr) → read_as (plain s) tag vr ≡ vr
 read_plain (implicit_in d) tag vr = refl
 read_plain (little_in d) tag vr = refl
 read_plain (big_in d) tag vr = refl
 
-explicit_read : (s : Syntax) (tag : Tag) (vr : Vr) → is_explicit s ≡ true → read_as s tag vr ≡ read_in (dictionary_of s) tag vr
+pub explicit_read : (s : Syntax) (tag : Tag) (vr : Vr) → is_explicit s ≡ true → read_as s tag vr ≡ read_in (dictionary_of s) tag vr
 explicit_read (implicit_in d) tag vr e = absurd (cc)
 explicit_read (little_in d) tag vr e = refl
 explicit_read (big_in d) tag vr e = refl
@@ -68,7 +68,7 @@ unfolding form
 sequence_form s tag declared = ap (λ (x : Vr). form s x declared) (read_sequence s tag)
 
 -- the head of a fragment list is not unknown
-list_read : (d : Dictionary) (s : Syntax) (tag : Tag) (vr : Vr) → form s vr Undefined ≡ a_fragment_list → read_in d tag vr ≡ vr
+pub list_read : (d : Dictionary) (s : Syntax) (tag : Tag) (vr : Vr) → form s vr Undefined ≡ a_fragment_list → read_in d tag vr ≡ vr
 unfolding form
 list_read d s tag UN h = absurd (cc)
 list_read Extract s tag vr h = refl
@@ -109,12 +109,12 @@ fragments_by s (v ∷ values) b c (others, head, more) = (others, item_by s (Kno
 
 -- ---- trees
 
-after_plain : (s : Syntax) (tag : Tag) (vr : Vr) (v : List ℕ) → after (plain s) tag vr v ≡ plain (after s tag vr v)
+pub after_plain : (s : Syntax) (tag : Tag) (vr : Vr) (v : List ℕ) → after (plain s) tag vr v ≡ plain (after s tag vr v)
 after_plain (implicit_in d) tag vr v = refl
 after_plain (little_in d) tag vr v = refl
 after_plain (big_in d) tag vr v = refl
 
-after_explicit : (s : Syntax) (tag : Tag) (vr : Vr) (v : List ℕ) → is_explicit s ≡ true → is_explicit (after s tag vr v) ≡ true
+pub after_explicit : (s : Syntax) (tag : Tag) (vr : Vr) (v : List ℕ) → is_explicit s ≡ true → is_explicit (after s tag vr v) ≡ true
 after_explicit (implicit_in d) tag vr v e = absurd (cc)
 after_explicit (little_in d) tag vr v e = refl
 after_explicit (big_in d) tag vr v e = refl

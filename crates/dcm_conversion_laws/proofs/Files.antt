@@ -28,7 +28,7 @@ use Rattle.dcm_conversion_laws.specs.Detour.{FrontKeeps}
 use Rattle.dcm_conversion_laws.proofs.Fronts.{front_composes}
 use Rattle.dcm_conversion_laws.proofs.Groups.{group_composes}
 
-two_is_none : FAULT ≡ DONE → ⊥
+pub two_is_none : FAULT ≡ DONE → ⊥
 two_is_none e = cc
 
 -- ---- an answer without fault is that to the one reading of its file
@@ -39,7 +39,7 @@ Done d target bytes b =
     (m : Meta) × (c : Coding) × (g : Front) × FileReads (dump d Full None) bytes (a_file m c g complete) × (b ≡ answer (convert d target) (a_file m c g complete))
 
 module _ (d : Dictionary) (target : Option Syntax) (bytes : List ℕ) where
-  refused_never : (fault : Fault) (offset : ℕ) (b : Answer) (source : Source) → b ≡ answer (convert d target) source → source ≡ unopened fault offset → b.status ≡ DONE → ⊥
+  pub refused_never : (fault : Fault) (offset : ℕ) (b : Answer) (source : Source) → b ≡ answer (convert d target) source → source ≡ unopened fault offset → b.status ≡ DONE → ⊥
   refused_never fault offset b source is e done = two_is_none (sym (ap (λ (x : Answer). x.status) is ∙ ap (λ (x : Source). (answer (convert d target) x).status) e) ∙ done)
 
   by_stop : (n : Meta) (group : List ℕ) (c : Coding) (g : Front) (stop : Stop) (b : Answer) (source : Source) → HeadIs d bytes n group c → Reads (job_bar (convert d target) c) c.syntax (set_at group) (drop (set_at group) bytes) g stop

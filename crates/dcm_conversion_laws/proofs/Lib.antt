@@ -4,4 +4,7 @@ pub mod Fronts
 pub mod Groups
 pub mod Files
 pub mod Agree
+pub mod Stops
+pub mod Machines
+pub mod Once
 pub mod Converters

@@ -2,6 +2,7 @@
 use Rattle.std.specs.Prelude.{◌≡◌, ◌⊎◌, ◌≤◌, ℕ, List, None, Option, Some, true}
 use Rattle.dcm_base.specs.declared.dictionary.Dictionary.{Dictionary}
 use Rattle.dcm_base.specs.declared.dictionary.Dictionary.TheVariants.{Extract}
+use Rattle.dcm_base.specs.declared.mode.Mode.{Mode}
 use Rattle.dcm_base.specs.declared.mode.Mode.TheVariants.{Full}
 use Rattle.dcm_base.specs.declared.syntax.Coding.{Coding}
 use Rattle.dcm_base.specs.declared.syntax.Syntax.{Syntax}
@@ -17,7 +18,7 @@ use Rattle.dcm_base.specs.Tree.Front.{Front}
 use Rattle.dcm_base.specs.Tree.Tree.{Trees}
 use Rattle.dcm_sinks.specs.Conversion.{Converts}
 use Rattle.dcm_words.specs.Words.{convert, dump}
-use Rattle.dcm_cli.specs.Answer.{Answer, Answers, FileReads, file, target_syntax}
+use Rattle.dcm_cli.specs.Answer.{Answer, Answers, FileReads, file, file_output, target_syntax}
 use Rattle.dcm_cli.specs.ReadsAgain.{IsConverted}
 use Rattle.dcm_cli.specs.Status.{DONE}
 use Rattle.dcm_conversion_laws.specs.Agree.{FrontSays}
@@ -58,10 +59,26 @@ ReadingsAgree =
     → AreBytes bytes → is_explicit s ≡ true → Reads a (read_by Extract s) start bytes f complete
     → Reads b (read_by e s) start bytes g complete → FrontSays e f → g ≡ f
 
--- so dcmconv has the same output, lines and status by each dictionary, where it is done by both
+-- what the extract reads to its end, where no head is unknown, the other one reads to its end, and reads the same
+abbrev pub ReadsByOther : Type 0
+ReadsByOther =
+    (e : Dictionary) (target s : Syntax) (start : ℕ) (bytes : List ℕ) (f : Front) → start ≤ INPUT_LIMIT → AreBytes bytes
+    → is_explicit s ≡ true → Reads (target_bar target) (read_by Extract s) start bytes f complete → FrontSays e f
+    → Reads (target_bar target) (read_by e s) start bytes f complete
+
+-- so dcmconv has the same output, lines and status by each dictionary, where all was done by the extract
 abbrev pub ConvertersAgree : Type 0
 ConvertersAgree =
     (e : Dictionary) (target : Option Syntax) (input : List ℕ) (a b : Answer) (m : Meta) (coding : Coding) (f : Front)
     → AreBytes input → FileReads (dump Extract Full None) input (file m coding f complete)
     → is_explicit coding.syntax ≡ true → FrontSays e f → Answers (convert Extract target) input a
-    → Answers (convert e target) input b → a.status ≡ DONE → b.status ≡ DONE → b ≡ a
+    → Answers (convert e target) input b → a.status ≡ DONE → b ≡ a
+
+-- and dcmdump has the same lines and status; its output is that of the same file, with the keywords of the dictionary
+abbrev pub DumpsAgree : Type 0
+DumpsAgree =
+    (e : Dictionary) (mode : Mode) (input : List ℕ) (a b : Answer) (m : Meta) (coding : Coding) (f : Front)
+    → AreBytes input → FileReads (dump Extract Full None) input (file m coding f complete)
+    → is_explicit coding.syntax ≡ true → FrontSays e f → Answers (dump Extract mode None) input a
+    → Answers (dump e mode None) input b
+    → (b.lines ≡ a.lines) × (b.status ≡ a.status) × (b.output ≡ file_output (dump e mode None) m coding f)

@@ -146,11 +146,12 @@ module _ {R : Type 0} (gets : R → Option (List ℕ) → R → Type 0) where
       )
 
   pub a_name_read : (start after : R) (old now new : ListReader) (more : List ℕ) → Gave gets start more after → (r : ReadOn old now more) → EndsName now new r.line → new.read ≡ now.read → new.is_over ≡ now.is_over → old.is_over ≡ false
-      → (given : List ℕ) (named : List (List ℕ)) → HasRead old given named → Answers gets start after new given named Name
+      → (given : List ℕ) (named : List (List ℕ)) → HasRead old given named → Answers gets start after old new given named Name
   a_name_read start after old now new more gave r ends read over going given named has =
       let g = has.going going in
       let not_over = over ∙ r.over ∙ going in
       record {
+        going = going;
         more = more;
         name = ends.name;
         calls = subst (λ b. Calls gets b start more after) (sym not_over) gave;
@@ -177,10 +178,11 @@ module _ {R : Type 0} (gets : R → Option (List ℕ) → R → Type 0) where
       ∙ ap (λ l. named ++ filter has_bytes (l ∷ [])) (last_after given (pending old) more g.last ∙ r.last)
 
   pub list_ended : (start before after : R) (old now taken new : ListReader) (more : List ℕ) → Gave gets start more before → (r : ReadOn old now more) → PassesNames now taken r.line → gets before (Some []) after → new.line ≡ taken.line → new.is_over ≡ true
-      → old.is_over ≡ false → (given : List ℕ) (named : List (List ℕ)) → HasRead old given named → (b : Bool) → has_bytes (open_line r.line (pending now)) ≡ b → Answers gets start after new given named (last_answer b)
+      → old.is_over ≡ false → (given : List ℕ) (named : List (List ℕ)) → HasRead old given named → (b : Bool) → has_bytes (open_line r.line (pending now)) ≡ b → Answers gets start after old new given named (last_answer b)
   list_ended start before after old now taken new more gave r passes call line over going given named has true some =
       let whole = whole_list old now taken more r passes given named (has.going going) in
       record {
+        going = going;
         more = more;
         name = open_line r.line (pending now);
         calls = subst (λ b. Calls gets b start more after) (sym over) (before, gave, call);
@@ -194,15 +196,16 @@ module _ {R : Type 0} (gets : R → Option (List ℕ) → R → Type 0) where
       let whole = whole_list old now taken more r passes given named (has.going going) in
       record {
         more = more;
-        calls = inl (before, gave, call);
+        calls = inl (going, (before, gave, call));
         all = sym (append-nil named) ∙ ap (λ ns. named ++ ns) (sym (no_name (open_line r.line (pending now)) [] none)) ∙ sym whole;
       }
 
   pub list_unread : (start before after : R) (old now taken new : ListReader) (more : List ℕ) → Gave gets start more before → (r : ReadOn old now more) → PassesNames now taken r.line → taken.read ≡ now.read → HoldsFailed gets before after taken new
-      → old.is_over ≡ false → (given : List ℕ) (named : List (List ℕ)) → HasRead old given named → Answers gets start after new given named (Unread new.read)
+      → old.is_over ≡ false → (given : List ℕ) (named : List (List ℕ)) → HasRead old given named → Answers gets start after old new given named (Unread new.read)
   list_unread start before after old now taken new more gave r passes read failed going given named has =
       let g = has.going going in
       record {
+        going = going;
         more = more;
         mid = before;
         calls = gave;
@@ -211,8 +214,8 @@ module _ {R : Type 0} (gets : R → Option (List ℕ) → R → Type 0) where
         count = let size = length-append given more in omega (arith, size, read, r.count, g.count, failed.count);
       }
 
-  pub list_over : (start : R) (old : ListReader) → old.is_over ≡ true → (given : List ℕ) (named : List (List ℕ)) → HasRead old given named → Answers gets start start old given named End
-  list_over start old over given named has = record { more = []; calls = inr (refl, refl); all = has.over over ∙ ap (λ bs. names_of bs true) (sym (append-nil given)) }
+  pub list_over : (start : R) (old : ListReader) → old.is_over ≡ true → (given : List ℕ) (named : List (List ℕ)) → HasRead old given named → Answers gets start start old old given named End
+  list_over start old over given named has = record { more = []; calls = inr (over, refl, refl); all = has.over over ∙ ap (λ bs. names_of bs true) (sym (append-nil given)) }
 
   pub holds_piece : (before after : R) (old new : ListReader) (b : Bool) → b ≡ true → Refills {E = ReadFailed} gets before after old new (Ok b) → HoldsPiece gets before after old new
   holds_piece before after old new true is h = h

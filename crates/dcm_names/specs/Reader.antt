@@ -54,25 +54,28 @@ abbrev pub Calls : {R : Type 0} (gets : R → Option (List ℕ) → R → Type 0
 Calls gets false before more after = Gave gets before more after
 Calls {R} gets true before more after = (mid : R) × Gave gets before more mid × gets mid (Some []) after
 
--- a name, which the reader holds
-pub record AnswersName {R : Type 0} (gets : R → Option (List ℕ) → R → Type 0)
+-- a name, which the reader holds: the list was not over before
+pub record AnswersName {R : Type 0} (gets : R → Option (List ℕ) → R → Type 0) (was_over : Bool)
     (before after : R) (new : ListReader) (given : List ℕ) (named : List (List ℕ)) : Type 0 where
+  pub going : was_over ≡ false
   pub more : List ℕ
   pub name : List ℕ
   pub calls : Calls gets new.is_over before more after
   pub held : Holds new.line name
   pub has_read : HasRead new (given ++ more) (named ++ name ∷ [])
 
--- all names were answered; no call was made where the last one had come to the end already
-pub record AnswersEnd {R : Type 0} (gets : R → Option (List ℕ) → R → Type 0) (before after : R) (given : List ℕ)
-    (named : List (List ℕ)) : Type 0 where
+-- all names were answered; no call was made exactly where the list was over before
+pub record AnswersEnd {R : Type 0} (gets : R → Option (List ℕ) → R → Type 0) (was_over : Bool) (before after : R)
+    (given : List ℕ) (named : List (List ℕ)) : Type 0 where
   pub more : List ℕ
-  pub calls : Calls gets true before more after ⊎ ((more ≡ []) × (after ≡ before))
+  pub calls : ((was_over ≡ false) × Calls gets true before more after)
+      ⊎ ((was_over ≡ true) × (more ≡ []) × (after ≡ before))
   pub all : named ≡ names_of (given ++ more) true
 
 -- reading failed, or there are too many bytes: the names whose lines ended before were answered
-pub record AnswersUnread {R : Type 0} (gets : R → Option (List ℕ) → R → Type 0) (before after : R) (given : List ℕ)
-    (named : List (List ℕ)) (read : ℕ) : Type 0 where
+pub record AnswersUnread {R : Type 0} (gets : R → Option (List ℕ) → R → Type 0) (was_over : Bool) (before after : R)
+    (given : List ℕ) (named : List (List ℕ)) (read : ℕ) : Type 0 where
+  pub going : was_over ≡ false
   pub more : List ℕ
   pub mid : R
   pub calls : Gave gets before more mid
@@ -81,10 +84,11 @@ pub record AnswersUnread {R : Type 0} (gets : R → Option (List ℕ) → R → 
   pub count : read ≡ length (given ++ more)
 
 abbrev pub Answers : {R : Type 0} (gets : R → Option (List ℕ) → R → Type 0)
-    → (before after : R) → ListReader → (given : List ℕ) → (named : List (List ℕ)) → NextName → Type 0
-Answers gets before after new given named Name = AnswersName gets before after new given named
-Answers gets before after new given named End = AnswersEnd gets before after given named
-Answers gets before after new given named (Unread read) = AnswersUnread gets before after given named read
+    → (before after : R) → (old new : ListReader) → (given : List ℕ) → (named : List (List ℕ)) → NextName → Type 0
+Answers gets before after old new given named Name = AnswersName gets old.is_over before after new given named
+Answers gets before after old new given named End = AnswersEnd gets old.is_over before after given named
+Answers gets before after old new given named (Unread read) =
+    AnswersUnread gets old.is_over before after given named read
 
 -- ---- the steps of a call
 

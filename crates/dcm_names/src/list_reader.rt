@@ -1,5 +1,5 @@
 // The names in a list, out of a device.
-ghost use Rattle.std.specs.Prelude.{◌≡◌, ◌<◌, ◌≤◌, true, [], List, ℕ, take};
+ghost use Rattle.std.specs.Prelude.{◌≡◌, ◌<◌, ◌≤◌, true, false, [], List, ℕ, take};
 ghost use Rattle.dcm_names.specs.Names as spec;
 
 use crate::list::OpenLine;
@@ -43,7 +43,8 @@ impl ListReader {
 
     /// A reader of a list of which nothing was read.
     pub fn new() -> ListReader
-        ensures { HasRead result [] [] }
+        ensures read { HasRead result [] [] }
+        ensures going { result.is_over ≡ false }
     {
         ListReader {
             line: OpenLine::new(),
@@ -139,7 +140,7 @@ impl ListReader {
     /// Reads on to the next name. No call comes after one that failed.
     pub fn next<R: DeviceIn>(&mut self, input: &mut Watched<R>) -> NextName
         ensures answers { (given : List ℕ) (named : List (List ℕ)) → HasRead self.old given named
-            → Answers R.gets input.old input.new self.new given named result }
+            → Answers R.gets input.old input.new self.old self.new given named result }
         ensures fewer { result ≡ NextName.Name → most_left self.new < most_left self.old }
     {
         if self.is_over {

@@ -39,7 +39,7 @@ module _ (d : Dictionary) (bytes : List ℕ) (m : Meta) (coding : Coding) (set :
       subst (λ (x : List ℕ). Reads no_bar coding.syntax (set_at h.group) x (whole_front set) complete) (sym (set_is d bytes m coding set h))
       (spelled_reads no_bar free (λ f. refl) coding.syntax (set_at h.group) set h.contents h.set_spelled (may_come coding.syntax 0 set h.contents [] h.set_spelled h.is_set) (set_within d bytes m coding set h))
 
-  dump_reads : (mode : Mode) → FileReads (dump d mode None) bytes (file m coding (whole_front set) complete)
+  pub dump_reads : (mode : Mode) → FileReads (dump d mode None) bytes (file m coding (whole_front set) complete)
   dump_reads mode = opened m h.group coding (whole_front set) complete (head_is d bytes m coding set h) refl set_reads refl
 
   pub dumps_sound : (mode : Mode) (a : Answer) → Answers (dump d mode None) bytes a → a ≡ all_done (meta_header d mode m.elements ++ set_header m.uid ++ dump_set d mode 0 set)

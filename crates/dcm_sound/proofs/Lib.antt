@@ -6,3 +6,4 @@ pub mod Edited
 pub mod DoneSets
 pub mod Done
 pub mod Example
+pub mod Built

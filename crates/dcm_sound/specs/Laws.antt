@@ -1,7 +1,9 @@
 -- The statements of the laws.
 use Rattle.std.specs.Prelude.{◌≡◌, ◌≤◌, ℕ, suc, List, [], ◌∷◌, ◌++◌, length, Option, None, Some, ◌||◌, if◌then◌else◌}
+use Rattle.std.specs.Prelude.{replicate}
 use Rattle.dcm_base.specs.declared.dictionary.Dictionary.{Dictionary}
 use Rattle.dcm_base.specs.declared.mode.Mode.{Mode}
+use Rattle.dcm_base.specs.declared.mode.Mode.TheVariants.{Full}
 use Rattle.dcm_base.specs.declared.syntax.Coding.{Coding}
 use Rattle.dcm_base.specs.declared.syntax.Syntax.{Syntax}
 use Rattle.dcm_base.specs.Tree.Tree.{Trees}
@@ -16,7 +18,8 @@ use Rattle.dcm_base.specs.File.MetaReads.{Meta, PREFIX}
 use Rattle.dcm_base.specs.Dump.Header.{set_header, meta_header}
 use Rattle.dcm_base.specs.Dump.Dump.{dump_set}
 use Rattle.dcm_edits.specs.Edit.{Edit, edited_sets, element_of, found_in, has_place_in}
-use Rattle.dcm_words.specs.Words.{convert, dump, modify}
+use Rattle.dcm_build.specs.DumpBuilds.{FitsLines, WholeUnits}
+use Rattle.dcm_words.specs.Words.{GREATEST_LIMIT, build, convert, dump, modify}
 use Rattle.dcm_cli.specs.Answer.{Answer, Answers, status_of_lines, target_syntax, target_uid, uid_of_syntax}
 use Rattle.dcm_cli.specs.ErrorLines.{unplaced_line}
 use Rattle.dcm_cli.specs.Status.{DONE}
@@ -26,12 +29,16 @@ use Rattle.dcm_sound.specs.Sound.{CanBecome, IsDataSet, IsSound}
 abbrev pub all_done : List ℕ → Answer
 all_done output = record { output = output; lines = []; status = DONE }
 
+-- the dump of a file with these meta elements and this data set
+abbrev pub file_dump : Dictionary → Mode → Meta → Trees → List ℕ
+file_dump d mode m set = meta_header d mode m.elements ++ set_header m.uid ++ dump_set d mode 0 set
+
 -- the dump of a sound file
 abbrev pub DumpsSound : Type 0
 DumpsSound =
     (d : Dictionary) (mode : Mode) (bytes : List ℕ) (m : Meta) (coding : Coding) (set : Trees) (a : Answer)
     → IsSound d bytes m coding set → Answers (dump d mode None) bytes a
-    → a ≡ all_done (meta_header d mode m.elements ++ set_header m.uid ++ dump_set d mode 0 set)
+    → a ≡ all_done (file_dump d mode m set)
 
 -- and where the status says that all was done, the file is sound
 abbrev pub DoneIsSound : Type 0
@@ -75,3 +82,13 @@ EditsSound =
       lines = unplaced 1 edits set;
       status = status_of_lines (unplaced 1 edits set);
     }
+
+-- the full dump of a sound file builds its conversion to its own transfer syntax, with a preamble of zeros: values are
+-- of whole units, tags ascend, and the lines fit
+abbrev pub BuildsSound : Type 0
+BuildsSound =
+    (d : Dictionary) (limit : ℕ) (bytes : List ℕ) (m : Meta) (coding : Coding) (set : Trees) (a : Answer)
+    → IsSound d bytes m coding set → AreBytes bytes → WholeUnits m.elements → WholeUnits set → Ascend None set
+    → limit ≤ GREATEST_LIMIT → FitsLines limit (file_dump d Full m set)
+    → Answers (build limit) (file_dump d Full m set) a
+    → a ≡ all_done (new_file m.uid coding.syntax (record m { preamble = replicate 128 0 }) set)

@@ -69,38 +69,40 @@ DoesListed may Does name errors from to before result after =
 
 -- ---- a list
 
--- the names of a list were done so far, one after another, with this greatest status; and what the list gave for them
+-- the names of a list were done so far, one after another, with this greatest status; what the list gave for them, and
+-- whether it was over with the last of them
 pub data Listed {S I W : Type 0} (gets : I → Option (List ℕ) → I → Type 0) (Does : List ℕ → Writing S W) (from : W)
-    (input : I) (before : S) : (errors : Change) → (to : W) → (given : List ℕ) → (left : I)
+    (input : I) (before : S) : (errors : Change) → (to : W) → (given : List ℕ) → (left : I) → (is_over : Bool)
     → (names : List (List ℕ)) → (status : ℕ) → (after : S) → Type 0 where
-  none_listed : {errors : Change} {to : W} {given : List ℕ} {left : I} {names : List (List ℕ)} {status : ℕ} {after : S}
-      → Reports errors [] → to ≡ from → given ≡ [] → left ≡ input → names ≡ [] → status ≡ DONE → after ≡ before
-      → Listed gets Does from input before errors to given left names status after
-  and_name : {errors : Change} {to : W} {given : List ℕ} {left : I} {names : List (List ℕ)} {status : ℕ} {after : S}
-      (earlier more : List ℕ) (others : List (List ℕ)) (name : List ℕ) (is_over : Bool) (reached ended : ℕ)
+  none_listed : {errors : Change} {to : W} {given : List ℕ} {left : I} {is_over : Bool} {names : List (List ℕ)}
+      {status : ℕ} {after : S} → Reports errors [] → to ≡ from → given ≡ [] → left ≡ input → is_over ≡ false
+      → names ≡ [] → status ≡ DONE → after ≡ before
+      → Listed gets Does from input before errors to given left is_over names status after
+  and_name : {errors : Change} {to : W} {given : List ℕ} {left : I} {is_over : Bool} {names : List (List ℕ)}
+      {status : ℕ} {after : S} (earlier more : List ℕ) (others : List (List ℕ)) (name : List ℕ) (reached ended : ℕ)
       (mid : W) (at : I) (between : S) (of_others of_name : Change)
-      → Listed gets Does from input before of_others mid earlier at others reached between
+      → Listed gets Does from input before of_others mid earlier at false others reached between
       → Calls gets is_over at more left → Does name of_name mid to between (Ok ended) after
       → Follows errors of_others of_name → given ≡ earlier ++ more → names ≡ others ++ name ∷ []
-      → status ≡ max reached ended → Listed gets Does from input before errors to given left names status after
+      → status ≡ max reached ended → Listed gets Does from input before errors to given left is_over names status after
 
 -- all names of a list that was read to its end were done; or reading it failed, which is reported after the names whose
 -- lines had ended; or the output failed at one of its names, and no other was done
 pub data DoesNames {S I W : Type 0} (gets : I → Option (List ℕ) → I → Type 0) (Does : List ℕ → Writing S W)
     (path : List ℕ) (errors : Change) (from to : W) (input left : I) (before : S) (result : Result ℕ WriteFailed)
     (after : S) : Type 0 where
-  all_done : (given : List ℕ) (names : List (List ℕ)) (status : ℕ) (at : I)
-      → Listed gets Does from input before errors to given at names status after
-      → AnswersEnd gets at left given names → result ≡ Ok status
+  all_done : (given : List ℕ) (was_over : Bool) (names : List (List ℕ)) (status : ℕ) (at : I)
+      → Listed gets Does from input before errors to given at was_over names status after
+      → AnswersEnd gets was_over at left given names → result ≡ Ok status
       → DoesNames gets Does path errors from to input left before result after
   not_read : (given : List ℕ) (names : List (List ℕ)) (status count : ℕ) (at : I) (of_names of_line : Change)
-      → Listed gets Does from input before of_names to given at names status after
-      → AnswersUnread gets at left given names count → Reports of_line (unread_line path count)
+      → Listed gets Does from input before of_names to given at false names status after
+      → AnswersUnread gets false at left given names count → Reports of_line (unread_line path count)
       → Follows errors of_names of_line → result ≡ Ok DEVICE
       → DoesNames gets Does path errors from to input left before result after
   not_written : (given more : List ℕ) (names others : List (List ℕ)) (name : List ℕ) (is_over : Bool) (status : ℕ)
       (mid : W) (at : I) (between : S) (of_names of_name : Change) (failure : WriteFailed)
-      → Listed gets Does from input before of_names mid given at names status between
+      → Listed gets Does from input before of_names mid given at false names status between
       → Calls gets is_over at more left → names_of (given ++ more) is_over ≡ names ++ name ∷ others
       → Does name of_name mid to between (Err failure) after → Follows errors of_names of_name → result ≡ Err failure
       → DoesNames gets Does path errors from to input left before result after

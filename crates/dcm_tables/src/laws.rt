@@ -46,8 +46,8 @@ pub fn row_is_utf8()
     ensures { RowIsUtf8 }
 {}
 
-/// The cell of a text has, with its bytes as they are, what a full dump shows of the value, its escapes undone. Pads at
-/// its end are left out. Of a unique identifier that the dump shows by its name, it is the identifier.
+/// The cell of a text has what a full dump shows of it, its escapes undone. Its bytes are as they are, and pads at its end
+/// are left out. Of a unique identifier that the dump shows by its name, it is the identifier.
 pub fn cell_is_shown()
     ensures { CellIsShown }
 {}

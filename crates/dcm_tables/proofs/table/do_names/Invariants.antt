@@ -14,7 +14,7 @@ invariant-loop-names g l = record {
   front : List (List ℕ);
   read : HasRead l.names given front;
   done : Listed g.S.Input.DeviceIn.gets (DoesListed g.S.System.may_do (DoesFile (members g.S.Input.Device g.S.Input.DeviceIn) (writer g.W.Device g.W.DeviceOut) (cleared l.fn.cells) l.form))
-      l.fn.out l.fn.input l.fn.system (change_of (writer g.E.Device g.E.DeviceOut) l.fn.errors l.errors) l.out given l.input front l.status l.system;
+      l.fn.out l.fn.input l.fn.system (change_of (writer g.E.Device g.E.DeviceOut) l.fn.errors l.errors) l.out given l.input l.names.is_over front l.status l.system;
   kept : cleared l.cells ≡ cleared l.fn.cells;
   within : l.status ≤ 4;
 }

@@ -30,7 +30,7 @@ returns-in-Ok-false-clause-answers g c = λ given named has.
     let passes = c.loop-self-test.ensures.takes loop.read.line loop.read.held in
     let none = holds_none g.R.DeviceIn.gets _ _ _ _ c.in-Ok-false.field-0 c.in-Ok-false.field-0-test c.in-Ok-false.ensures in
     let last : List ℕ = open_line loop.read.line (pending c.loop-self.self) in
-    subst (λ (answer : NextName). Answers g.R.DeviceIn.gets c.args.input.now c.refill.new.input c.end.new.self given named answer)
+    subst (λ (answer : NextName). Answers g.R.DeviceIn.gets c.args.input.now c.refill.new.input c.args.self.now c.end.new.self given named answer)
     (sym (c.end.ensures.answer last (subst (λ l. Holds l last) (sym none.line) passes.held)))
     (list_ended g.R.DeviceIn.gets c.args.input.now c.loop-self.input c.refill.new.input c.args.self.now c.loop-self.self c.take_name.new.self c.end.new.self loop.more loop.gave loop.read passes none.call (c.end.ensures.line ∙ none.line) c.end.ensures.over
     c.if-self.false given named has (has_bytes last) refl)
