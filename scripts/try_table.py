@@ -22,6 +22,8 @@ from pathlib import Path
 
 import pydicom
 
+from try_identity import sources
+
 COLUMNS = {"PatientID": 0x0010_0020, "Modality": 0x0008_0060, "StudyDate": 0x0008_0020, "Rows": 0x0028_0010,
            "SOPInstanceUID": 0x0008_0018, "PatientName": 0x0010_0010}
 NUMBERS = {"Rows"}
@@ -32,15 +34,6 @@ REASONS = {
     "pydicom, after R7": "pydicom finds that a data set is implicit, though its transfer syntax is explicit",
     "DCMTK: nothing of the file": "DCMTK prints nothing of a file that is cut, a table has what comes before",
 }
-
-
-def sources(folders):
-    for folder in folders:
-        for path in sorted(Path(folder).rglob("*")):
-            if path.is_file() and path.stat().st_size > 136:
-                with open(path, "rb") as file:
-                    if file.read(132)[128:] == b"DICM":
-                        yield os.fsencode(path)
 
 
 def table_of(binary, paths, options):
@@ -142,7 +135,7 @@ def main():
     binary, folders = sys.argv[1], sys.argv[2:]
     warnings.simplefilter("ignore")
     pydicom.config.settings.reading_validation_mode = pydicom.config.IGNORE
-    paths = list(sources(folders))
+    paths = [os.fsencode(path) for path in sources(folders)]
     differences = Differences()
     _, rows, faults = table_of(binary, paths, ["+by"])
     whole, valid_rows, _ = table_of(binary, paths, [])
