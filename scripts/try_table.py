@@ -18,7 +18,6 @@ import shutil
 import subprocess
 import sys
 import warnings
-from pathlib import Path
 
 import pydicom
 
