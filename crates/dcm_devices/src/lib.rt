@@ -1,11 +1,9 @@
 //! Reading and writing bytes, by devices that remember whether they failed. This crate knows nothing of DICOM.
 //!
 //! - The traits `DeviceIn` and `DeviceOut` are what gives bytes and what takes them; `Device`, below both, says whether
-//! a call
-//!   on it has failed. A call that fails is `ReadFailed` or `WriteFailed`.
+//!   a call on it has failed. A call that fails is `ReadFailed` or `WriteFailed`.
 //! - `MemIn` and `MemOut` are over memory, and tell their bytes; `Measured` tells its size too. `Std` is over std's
-//! readers and
-//!   writers.
+//!   readers and writers: proofs know which bytes they said they gave or took.
 //! - `Watched` is around a device, so that only the calls of this crate reach it: `get_some`, `put_all`, `put_parts`,
 //!   `put_decimal` and `flush_out`. After each of them it is known what went in or out, and whether the device failed.
 //! - `specs` says what a call leaves: `Device` of any device, `Memory` of a `MemOut`.
@@ -20,6 +18,7 @@
 mod calls;
 mod device;
 mod memory;
+mod passed;
 mod std_device;
 mod watched;
 

@@ -1,6 +1,6 @@
 -- Which devices a program opens, and why it does not.
 use Rattle.std.specs.Prelude.{◌≡◌, ◌≢◌, ◌&&◌, ℕ, ◌==◌, nat_lt, List, map, codes, Vec, Option, Some, None, Result}
-use Rattle.std.specs.Prelude.{Ok, Err, if◌then◌else◌}
+use Rattle.std.specs.Prelude.{Ok, Err, IfOk, if◌then◌else◌}
 use Rattle.std.specs.IoError.{error_kind}
 use Rattle.std.specs.Str.{IsUtf8}
 use Rattle.std.specs.declared.io.Error.{Error}
@@ -50,6 +50,22 @@ anything = record {
   creates = λ before path r after. Unit {0};
   looks = λ before path r after. Unit {0};
   makes = λ before path r after. Unit {0};
+  moves = λ before from to r after. Unit {0};
+  removes = λ before path r after. Unit {0};
+  closes = λ before d after. Unit {0};
+}
+
+-- of the system that a program runs on it is known that what it opens is a new input or a new output
+abbrev pub opens_new : {S I O : Type 0} → (IsNewInput : I → Type 0) → (IsNewOutput : O → Type 0) → MayDo S I O
+opens_new IsNewInput IsNewOutput = record {
+  words = λ before r after. Unit {0};
+  stdin = λ before d after. IsNewInput d.device;
+  opens = λ before path r after. IfOk r (λ d. IsNewInput d.device);
+  releases = λ before d after. Unit {0};
+  stdout = λ before r after. IfOk r (λ d. IsNewOutput d.device);
+  creates = λ before path r after. IfOk r (λ d. IsNewOutput d.device);
+  looks = λ before path r after. Unit {0};
+  makes = λ before path r after. IfOk r (λ d. IsNewOutput d.device);
   moves = λ before from to r after. Unit {0};
   removes = λ before path r after. Unit {0};
   closes = λ before d after. Unit {0};

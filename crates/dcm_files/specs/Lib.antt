@@ -3,3 +3,4 @@ pub mod Output
 pub mod Pieces
 pub mod Memory
 pub mod Part
+pub mod Host

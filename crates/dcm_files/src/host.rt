@@ -1,6 +1,7 @@
 // The devices that the system has.
-ghost use Rattle.std.specs.Prelude.{◌≡◌, IfOk};
-ghost use Rattle.dcm_files.specs.Devices.{anything};
+ghost use Rattle.std.specs.Prelude.{◌≡◌, [], false, IfOk};
+ghost use Rattle.dcm_files.specs.Devices.{opens_new};
+ghost use Rattle.dcm_files.specs.Host.{IsNew};
 
 use crate::devices::System;
 use crate::opened::{FileKind, Opened};
@@ -133,7 +134,9 @@ impl Host {
         &self,
         output: Either<Stdout, OutputFile<File>>,
         kind: FileKind,
-    ) -> io::Result<Opened<<Host as System>::Output>> {
+    ) -> io::Result<Opened<<Host as System>::Output>>
+        ensures { IfOk result (λ opened. IsNew opened.device) }
+    {
         let device = Std::new(BufWriter::with_capacity(self.rt.alloc(), BUFFER, output)?);
         Ok(Opened { device, kind })
     }
@@ -144,7 +147,7 @@ impl System for Host {
 
     type Output = Std<BufWriter<Either<Stdout, OutputFile<File>>>>;
 
-    ghost may_do = { anything };
+    ghost may_do = { opens_new IsNew IsNew };
 
     fn words(&mut self) -> Result<Vec<Vec<u8>>, AllocError> {
         let mut words = Vec::new(self.rt.alloc());

@@ -1,0 +1,33 @@
+// The bytes that passed a device, for proofs alone.
+ghost use Rattle.std.specs.Prelude.{◌≡◌, ℕ, List, [], ◌++◌};
+ghost use Rattle.std.specs.Borrow.{ftrue};
+
+use std::marker::{Model, PhantomData};
+
+/// The bytes that a reader gave or a writer took, one call after another. They are known in proofs alone, and take no
+/// memory.
+#[derive(Drop)]
+pub struct Passed {
+    marker: PhantomData<u8>,
+    pub ghost bytes: { List ℕ },
+}
+
+impl Model for Passed {
+    ghost also_owns = { λ _. ftrue };
+}
+
+impl Passed {
+    /// No byte yet.
+    pub(crate) fn new() -> Self
+        ensures { result.bytes ≡ [] }
+    {
+        Passed {
+            marker: PhantomData,
+        }
+    }
+
+    /// Notes the bytes of a call.
+    pub(crate) fn note(&mut self, _bytes: &[u8])
+        ensures { self.new.bytes ≡ self.old.bytes ++ _bytes.now }
+    {}
+}
