@@ -1,5 +1,5 @@
 -- Paths of parts.
-use Rattle.std.proofs.Common.{◌≡◌, List, ◌++◌, ℕ, refl, sym, subst, codes}
+use Rattle.std.proofs.Common.{◌≡◌, List, ℕ, refl, sym, subst, codes}
 use Rattle.std.specs.Str.{IsUtf8}
 use Rattle.std.proofs.lemmas.Str.{IsUtf8-append}
 use Rattle.dcm_files.specs.Part.{part_of}

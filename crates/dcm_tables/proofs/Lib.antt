@@ -16,3 +16,4 @@ pub mod RowsAlike
 pub mod TableMemory
 pub mod TableLeft
 pub mod MemoryObeyed
+pub mod OverStd

@@ -6,3 +6,4 @@ pub mod Laws
 pub mod Table
 pub mod TableProgram
 pub mod TableInMemory
+pub mod OverStd

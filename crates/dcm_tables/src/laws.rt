@@ -1,8 +1,10 @@
 //! Laws of the definitions. Each function takes nothing and makes no call: its contract is the law.
 ghost use Rattle.dcm_tables.specs.Laws.{CellIsShown, DecidedIsSure, RowIsDecided, RowIsDone, RowIsOne, RowIsRead};
+ghost use Rattle.dcm_tables.specs.OverStd.{GivesWhatPassed, RunsByBytes};
 ghost use Rattle.dcm_tables.specs.Laws.{RowIsSettled, RowIsSome, RowIsUtf8, RowStays, TableIsOne, TableIsSome};
 
 use dcm_base::{DeviceIn, DeviceOut};
+use std::io::{Read, Write};
 
 /// A file has at most one row: its bytes determine the cells and how the reading ends.
 pub fn row_is_one()
@@ -61,4 +63,11 @@ pub fn table_is_one()
 /// They come to an outcome, whatever the files hold.
 pub fn table_is_some()
     ensures { TableIsSome }
+{}
+
+/// Over files, pipes and terminals too, the bytes that a run put are what comes of the bytes that it was given. The
+/// devices are those of the system, newly opened; what they said that they gave and took is known.
+pub fn runs_by_bytes<T: Read, U: Write>()
+    ensures given { GivesWhatPassed T T.remaining }
+    ensures runs { RunsByBytes T U T.remaining }
 {}

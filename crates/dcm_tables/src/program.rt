@@ -6,6 +6,7 @@ ghost use Rattle.dcm_table.specs.Columns.{list_of, tags_of};
 ghost use Rattle.dcm_table.specs.TableSink.{begun};
 ghost use Rattle.dcm_table_words.specs.Columns.{column_as};
 ghost use Rattle.dcm_table_words.specs.Plans.{table_as};
+ghost use Rattle.dcm_tables.specs.OverStd as over_std;
 ghost use Rattle.dcm_tables.specs.TableProgram as spec;
 
 use crate::rows::Shared;
@@ -16,7 +17,10 @@ use dcm_cli::{Usage, asked, tell, tell_open, tell_output};
 use dcm_files::{Host, System};
 use dcm_table::{Cells, Column, Columns, TextForm};
 use dcm_table_words::{TableColumn, TablePlan, put_usage, table_plan};
+use either::Either;
 use std::alloc::{AllocError, Global};
+use std::fs::File;
+use std::io::{Read, Stdin};
 
 /// The tool that writes tables.
 const DCM2CSV: &[u8] = b"dcm2csv";
@@ -213,7 +217,9 @@ pub fn start<S: System, E: DeviceOut>(system: &mut S, alloc: Global, errors: &mu
 /// Does what the words of the command line say, over the system's devices, and answers the exit status. Where the
 /// numbers of closed streams cannot be taken, no file is opened.
 pub fn dcmtools(rt: HostRuntime) -> u8
-    ensures { result ≤ statuses.MEMORY }
+    ensures ends { over_std.ProgramEnds ⟦<Host as System>⟧.may_do
+        (over_std.std_reader ⟦<Either<Stdin, File> as Read>⟧.remaining) over_std.std_writer result }
+    ensures within { result ≤ statuses.MEMORY }
 {
     let mut errors = Watched::new(Std::new(rt.stderr()));
     match Host::new(rt) {

@@ -1,0 +1,60 @@
+-- The program over the system that it runs on, whose devices are over readers and writers of the standard library. Of
+-- these it is known which bytes they said they gave or took.
+use Rattle.std.specs.Prelude.{◌≡◌, ℕ, List, [], false, Option, None, Some}
+use Rattle.dcm_devices.specs.Device.{Notes, TakesFrom, Gave}
+use Rattle.dcm_devices.specs.Writing.{Writer}
+use Rattle.dcm_devices.specs.declared.std_device.Std.{Std}
+use Rattle.dcm_files.specs.Devices.{MayDo}
+use Rattle.dcm_files.specs.Host.{IsNew}
+use Rattle.dcm_words.specs.Words.{Job}
+use Rattle.dcm_cli.specs.Calls.{Reader, Runs}
+use Rattle.dcm_cli.specs.Change.{Change, change_of}
+use Rattle.dcm_cli.specs.ErrorLines.{Reports, open_line}
+use Rattle.dcm_cli.specs.InputCalls.{How}
+use Rattle.dcm_cli.specs.Run.{Ran}
+use Rattle.dcm_cli.specs.Status.{DEVICE}
+use Rattle.dcm_tables.specs.TableProgram.{Starts}
+
+-- the members of a device over a reader, of which that tells what it has still to give; and of one over a writer
+abbrev pub std_reader : {T : Type 0} → (tells : T → Option (List ℕ)) → Reader (Std T)
+std_reader tells = record {
+  has_failed = λ s. s.failed;
+  remaining = λ s. None;
+  gets = λ before bytes after. Notes before.passed.bytes after.passed.bytes bytes
+      × TakesFrom (tells before.inner) (tells after.inner) bytes;
+}
+
+abbrev pub std_writer : {T : Type 0} → Writer (Std T)
+std_writer = record {
+  has_failed = λ s. s.failed;
+  contents = λ s. Some s.passed.bytes;
+  room = λ s. None;
+  is_flushed = λ s. s.passed.is_flushed;
+}
+
+-- all bytes that calls of a new reader gave are those that passed it
+abbrev pub GivesWhatPassed : (T : Type 0) → (tells : T → Option (List ℕ)) → Type 0
+GivesWhatPassed T tells =
+    (before after : Std T) (given : List ℕ) → IsNew before
+    → Gave (std_reader tells).gets before given after → given ≡ after.passed.bytes
+
+-- a run over new devices: the bytes that its output took are what comes of the bytes that its input gave
+abbrev pub RunsByBytes : (T U : Type 0) → (tells : T → Option (List ℕ)) → Type 0
+RunsByBytes T U tells =
+    (job : Job) (errors : Change) (before after : Std T) (output_before output_after : Std U) (status : ℕ)
+    → IsNew before → IsNew output_before
+    → Runs (std_reader tells) std_writer job errors before after output_before output_after status
+    → (how : How) × Ran job after.passed.bytes how after.failed (change_of std_writer output_before output_after)
+    errors status
+
+-- nothing was written to the error writer yet, and it has not failed
+abbrev pub IsUnused : Change → Type 0
+IsUnused errors = (errors.before ≡ Some []) × (errors.failed_before ≡ false)
+
+-- the program ended with this status: the words that the system gave were obeyed, or there was no memory for them; or
+-- the numbers of standard streams that are closed cannot be taken, and nothing is opened
+pub data ProgramEnds {S I O : Type 0} (may : MayDo S I O) (r : Reader I) (w : Writer O) (status : ℕ) : Type 0 where
+  started : (errors : Change) (before after : S) → IsUnused errors → Starts may r w errors before status after
+      → ProgramEnds may r w status
+  not_started : (errors : Change) → IsUnused errors → Reports errors (open_line false) → status ≡ DEVICE
+      → ProgramEnds may r w status
