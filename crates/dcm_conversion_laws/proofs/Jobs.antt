@@ -1,5 +1,5 @@
 -- What jobs answer to an explicit file that says of itself what it holds, by each dictionary.
-use Rattle.std.proofs.Common.{◌≡◌, ◌∙◌, ap, sym, subst, refl, ℕ, ◌≤◌, List, [], ◌++◌, drop, Option, None, Some, true, false, arith, inl, inr, ◌⊎◌}
+use Rattle.std.proofs.Common.{◌≡◌, ◌∙◌, ap, sym, subst, refl, ℕ, ◌≤◌, List, [], ◌++◌, drop, Option, None, Some, true, arith, inl, inr, ◌⊎◌}
 use Rattle.dcm_base.specs.declared.dictionary.Dictionary.{Dictionary}
 use Rattle.dcm_base.specs.declared.dictionary.Dictionary.TheVariants.{Extract}
 use Rattle.dcm_base.specs.declared.fault.Fault.{Fault}
@@ -12,7 +12,7 @@ use Rattle.dcm_base.specs.declared.syntax.Syntax.TheVariants.{Implicit as implic
 use Rattle.dcm_base.specs.declared.tag.Tag.{Tag}
 use Rattle.dcm_base.specs.declared.vr.Vr.TheVariants.{SQ}
 use Rattle.dcm_base.specs.Conversion.NewMeta.{new_meta}
-use Rattle.dcm_base.specs.Conversion.Recode.{head as head_bytes, is_explicit, item_head, recode, recode_items, recode_open, recode_open_item, unless_dropped}
+use Rattle.dcm_base.specs.Conversion.Recode.{head as head_bytes, is_explicit, item_head, recode, recode_open, recode_open_item, unless_dropped}
 use Rattle.dcm_base.specs.File.MetaReads.{Meta, PREFIX}
 use Rattle.dcm_base.specs.Dump.Dump.{dump_front}
 use Rattle.dcm_base.specs.Dump.Header.{set_header}
@@ -27,7 +27,7 @@ use Rattle.dcm_words.specs.Words.{Job, convert, dump, modify}
 use Rattle.dcm_cli.specs.Answer.{AloneReads, Answer, Answers, FileReads, HeadIs, InputReads, Source, alone, answer, file as a_file, job_bar, job_dictionary, not_changed, not_opened, opened, output_of, reading_line, refuses_change, set_at, stop_line, stop_status, target_syntax, target_uid, uid_of_syntax, unopened}
 use Rattle.dcm_cli.proofs.Runs.OneAnswer.{one_answer}
 use Rattle.dcm_cli.proofs.ReadBack.ReadsAgain.{begins_within, read_by_it, read_twice}
-use Rattle.dcm_conversion_laws.specs.Agree.{FrontSays, IsTooDeep, LinesSo, SourceSays, StopsSo}
+use Rattle.dcm_conversion_laws.specs.Agree.{FrontSays, LinesSo, SourceSays, StopsSo}
 use Rattle.dcm_conversion_laws.proofs.Plain.{explicit_too}
 use Rattle.dcm_conversion_laws.proofs.Readings.{ascending_agree, readings_agree}
 

@@ -9,3 +9,4 @@ pub mod Stops
 pub mod Machines
 pub mod Readings
 pub mod Jobs
+pub mod EditWords

@@ -24,7 +24,7 @@ use Rattle.dcm_base.specs.declared.fault.Fault.TheVariants.{EndsEarly, PassesEnd
 use Rattle.dcm_base.specs.Steps.Atoms.{Atom, closes_leaf, opens, opens_fragment, value_byte}
 use Rattle.dcm_base.specs.Tables.Dictionary.{if_signed}
 use Rattle.dcm_base.specs.Tables.Number.{number}
-use Rattle.dcm_base.specs.Tables.Syntax.{dictionary_of, read_by}
+use Rattle.dcm_base.specs.Tables.Syntax.{dictionary_of}
 use Rattle.dcm_base.specs.Tables.Tag.{is_item}
 use Rattle.dcm_base.specs.Tree.Value.{order}
 use Rattle.dcm_base.proofs.DataSets.Alike.{Alike, alike_then, read_by_dictionary, sign_alike}
@@ -275,7 +275,7 @@ pub record Follows (e : Dictionary) (x r : Reading × List Atom) : Type 0 where
   pub alike : AllAlike r.1
 
 -- it was halted by a late fault where the other one was as a head was too deep
-pub record Parts (Late : Fault → Type 0) (x r : Reading × List Atom) : Type 0 where
+pub record Parted (Late : Fault → Type 0) (x r : Reading × List Atom) : Type 0 where
   pub fault : Fault
   pub offset : ℕ
   pub late : Late fault
@@ -285,7 +285,7 @@ pub record Parts (Late : Fault → Type 0) (x r : Reading × List Atom) : Type 0
   pub alike : AllAlike r.1
 
 abbrev pub Comes : (Fault → Type 0) → Dictionary → Reading × List Atom → Reading × List Atom → Type 0
-Comes Late e x r = Follows e x r ⊎ Parts Late x r
+Comes Late e x r = Follows e x r ⊎ Parted Late x r
 
 settled_atoms : (e : Dictionary) (p : ℕ) (x o : Opened) → SameOpened e x o → x.atoms ++ (full_closed p x.levels).1 ≡ plain_atoms (o.atoms ++ (full_closed p o.levels).1)
 settled_atoms e p x o h =
@@ -346,8 +346,8 @@ module _ (Late : Fault → Type 0) (decided : Decided Late) (e : Dictionary) (ba
     halts : (r : Reading) (head : List ℕ) (fault : Fault) → is_early fault ≡ false → head_read r head (Some (refused fault r.position)) ≡ (halted r (refused fault r.position), [])
     halts r head fault late = ap (λ (c : Bool). cond {A = Reading × List Atom} c (record r { head = head }, []) (halted r (refused fault r.position), [])) late
 
-    deeper_parts : (head : List ℕ) (x y : Option Stop) → Deeper Late r.position x y → Parts Late (head_read (plain_reading r) head x) (head_read r head y)
-    deeper_parts head x y d =
+    deeper_parted : (head : List ℕ) (x y : Option Stop) → Deeper Late r.position x y → Parted Late (head_read (plain_reading r) head x) (head_read r head y)
+    deeper_parted head x y d =
         let first : head_read (plain_reading r) head x ≡ (halted (plain_reading r) (refused d.fault r.position), []) = ap (head_read (plain_reading r) head) d.first_is ∙ halts (plain_reading r) head d.fault (decided d.fault d.late) in
         let other : head_read r head y ≡ (halted r (refused TooDeep r.position), []) = ap (head_read r head) d.other_is ∙ halts r head TooDeep refl in
         record {
@@ -366,7 +366,7 @@ module _ (Late : Fault → Type 0) (decided : Decided Late) (e : Dictionary) (ba
     same_halt false head stop = record { reading_is = refl; known = known; atoms_are = refl; alike = tt }
 
     by_stop : (head : List ℕ) (x y : Option Stop) → Near Late r.position x y → (y ≡ None → SameOpened e (head_opens (begin head) head (plain_levels r.levels)) (head_opens (begin head) head r.levels)) → Comes Late e (head_read (plain_reading r) head x) (head_read r head y)
-    by_stop head x y (inr d) h = inr (deeper_parts head x y d)
+    by_stop head x y (inr d) h = inr (deeper_parted head x y d)
     by_stop head x None (inl is) h =
         let o = h refl in
         let first : Opened = head_opens (begin head) head (plain_levels r.levels) in

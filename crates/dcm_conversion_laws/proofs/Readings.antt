@@ -1,5 +1,5 @@
 -- What the extract reads of an explicit data set that says of itself what it holds, each dictionary reads.
-use Rattle.std.proofs.Common.{◌≡◌, ◌∙◌, ap, sym, refl, subst, ℕ, ◌≤◌, List, [], ◌∷◌, ◌++◌, Bool, true, false, None, Option, Some, cond, inl, inr, ◌⊎◌}
+use Rattle.std.proofs.Common.{◌≡◌, ◌∙◌, ap, sym, refl, subst, ℕ, ◌≤◌, List, [], ◌∷◌, Bool, true, false, None, Option, Some, cond, inl, inr, ◌⊎◌}
 use Rattle.std.specs.Prelude.{fold, if◌then◌else◌}
 use Rattle.dcm_base.specs.declared.dictionary.Dictionary.{Dictionary}
 use Rattle.dcm_base.specs.declared.fault.Fault.{Fault}
@@ -17,7 +17,7 @@ use Rattle.dcm_base.specs.Reading.Bars.{ascending_bar, is_above, is_fragment_for
 use Rattle.dcm_base.specs.Reading.Reads.{INPUT_LIMIT, Reads, ended}
 use Rattle.dcm_base.specs.Reading.Stop.{Bar, HeadBar, Stop, complete, is_early, is_early_bar, refused}
 use Rattle.dcm_base.specs.Steps.Atoms.{Atom, Shows, front_atoms, opens, value_byte, closes_leaf, opens_item, closes_item, closes_sequence, opens_fragment, ends}
-use Rattle.dcm_base.specs.Tables.Syntax.{Little, dictionary_of, read_by}
+use Rattle.dcm_base.specs.Tables.Syntax.{Little, read_by}
 use Rattle.dcm_base.specs.Tree.Front.{Front, front}
 use Rattle.dcm_base.proofs.DataSets.Alike.{Alike, alike_self, read_by_dictionary}
 use Rattle.dcm_base.proofs.DataSets.OneAnswer.{reads_once}
@@ -25,17 +25,17 @@ use Rattle.dcm_base.proofs.DataSets.OneShown.{front_one}
 use Rattle.dcm_base.proofs.DataSets.Shown.{front_shown}
 use Rattle.dcm_stream.specs.Ascending.{ascending, innermost, reached_after}
 use Rattle.dcm_stream.specs.Follows.{BarsAs}
-use Rattle.dcm_stream.specs.Reading.{Reading, finish, read_all, reads_byte, start_of, stop_at_end}
+use Rattle.dcm_stream.specs.Reading.{Reading, finish, read_all, start_of, stop_at_end}
 use Rattle.dcm_stream.proofs.Heads.Stops.{NeverEarly}
 use Rattle.dcm_stream.proofs.Steps.Follows.{answers}
 use Rattle.dcm_sinks.proofs.ReadBack.IsRead.{far_atoms, not_closed}
 use Rattle.dcm_sinks.proofs.ReadBack.WrittenRead.{target_heads}
 use Rattle.dcm_editor.proofs.ReadBack.Rises.{in_order}
 use Rattle.dcm_conversion_laws.specs.Agree.{FrontSays, StopsSo}
-use Rattle.dcm_conversion_laws.proofs.Machines.{BarsBoth, Comes, Decided, Follows, Parts, bytes_come, finish_plain, plain_reading}
+use Rattle.dcm_conversion_laws.proofs.Machines.{BarsBoth, Comes, Decided, bytes_come, finish_plain}
 use Rattle.dcm_conversion_laws.proofs.Plain.{explicit_too, plain, plain_twice}
-use Rattle.dcm_conversion_laws.proofs.Shown.{AllAlike, AllSay, front_plain, front_says, plain_atom, plain_atoms}
-use Rattle.dcm_conversion_laws.proofs.Stops.{BarsLate, KnownLevels}
+use Rattle.dcm_conversion_laws.proofs.Shown.{AllAlike, front_plain, front_says, plain_atom, plain_atoms}
+use Rattle.dcm_conversion_laws.proofs.Stops.{BarsLate}
 
 -- ---- a reading by a machine
 

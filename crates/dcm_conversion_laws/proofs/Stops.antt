@@ -1,4 +1,5 @@
--- A machine stops where one with the extract stops, where an element that this one goes on with says what it holds.
+-- A machine stops where one with the extract stops, where an element that this one goes on with says what it holds. But an
+-- unknown head may be too deep for it that is barred there.
 use Rattle.std.proofs.Common.{◌≡◌, ◌≢◌, ◌∙◌, ap, sym, refl, subst, ℕ, ◌+◌, List, [], ◌∷◌, length, drop, Option, Some, None, Bool, true, false, not, inl, inr, ◌⊎◌}
 use Rattle.std.specs.Prelude.{◌==◌, ◌&&◌, nat_le, nat_lt, if◌then◌else◌}
 use Rattle.dcm_base.specs.declared.dictionary.Dictionary.{Dictionary}

@@ -1,5 +1,5 @@
 -- The statements of the laws.
-use Rattle.std.specs.Prelude.{◌≡◌, ◌⊎◌, ◌≤◌, ℕ, List, None, Option, Some, true}
+use Rattle.std.specs.Prelude.{◌≡◌, ◌⊎◌, ◌≤◌, ℕ, List, Ok, Option, Some, true}
 use Rattle.dcm_base.specs.declared.dictionary.Dictionary.{Dictionary}
 use Rattle.dcm_base.specs.declared.dictionary.Dictionary.TheVariants.{Extract}
 use Rattle.dcm_base.specs.declared.mode.Mode.{Mode}
@@ -16,6 +16,7 @@ use Rattle.dcm_base.specs.Tree.Front.{Front}
 use Rattle.dcm_base.specs.Tree.Tree.{Trees}
 use Rattle.dcm_sinks.specs.Conversion.{Converts}
 use Rattle.dcm_edits.specs.Edit.{Edit}
+use Rattle.dcm_edits.specs.EditWords.{meant_edits_in}
 use Rattle.dcm_words.specs.Words.{convert, dump, modify}
 use Rattle.dcm_cli.specs.Answer.{Answer, Answers, InputReads, Source, output_of, target_syntax}
 use Rattle.dcm_cli.specs.ReadsAgain.{IsConverted}
@@ -51,12 +52,13 @@ ExplicitKeeps =
     (way target : Syntax) (set : Trees) → is_explicit way ≡ true → (is_big way ≡ is_big target) ⊎ AreEven set
     → KeepsForms way target set
 
--- what the extract reads of explicit bytes, whether to their end or to a fault, another dictionary reads so too: the same
+-- what the extract reads of explicit bytes, to their end or to a fault, another dictionary reads so too: the same
 -- elements, and the same fault at the same offset, where what was read says of itself what it holds
 abbrev pub ReadingsAgree : Type 0
 ReadingsAgree =
-    (e : Dictionary) (target s : Syntax) (start : ℕ) (bytes : List ℕ) (f : Front) (stop : Stop) → start ≤ INPUT_LIMIT
-    → is_explicit s ≡ true → Reads (target_bar target) (read_by Extract s) start bytes f stop → FrontSays e f
+    (e : Dictionary) (target s : Syntax) (start : ℕ) (bytes : List ℕ) (f : Front) (stop : Stop)
+    → start ≤ INPUT_LIMIT → is_explicit s ≡ true
+    → Reads (target_bar target) (read_by Extract s) start bytes f stop → FrontSays e f
     → Reads (target_bar target) (read_by e s) start bytes f stop
 
 -- so it is where tags have to ascend, but for the fault of an unknown head that is too deep
@@ -81,7 +83,14 @@ DumpsAgree =
     → Answers (dump Extract mode bare) input a → Answers (dump e mode bare) input b
     → (b.lines ≡ a.lines) × (b.status ≡ a.status) × (b.output ≡ output_of (dump e mode bare) source)
 
--- dcmodify has the same output and status, and the same lines but for the fault of an unknown head that is too deep
+-- the words of edits that the extract takes mean the same by each dictionary
+abbrev pub EditsAgree : Type 0
+EditsAgree =
+    (e : Dictionary) (words : List (List ℕ)) (edits : List Edit)
+    → meant_edits_in Extract words ≡ Ok edits → meant_edits_in e words ≡ Ok edits
+
+-- with the same edits dcmodify has the same output and status, and the same lines but for the fault of an unknown head
+-- that is too deep
 abbrev pub ModifiersAgree : Type 0
 ModifiersAgree =
     (e : Dictionary) (edits : List Edit) (input : List ℕ) (source : Source) (a b : Answer)
