@@ -3,8 +3,10 @@ pub mod Kept
 pub mod Fronts
 pub mod Groups
 pub mod Files
-pub mod Agree
+pub mod Plain
+pub mod Shown
 pub mod Stops
 pub mod Machines
-pub mod Once
-pub mod Converters
+pub mod Readings
+pub mod Jobs
+pub mod EditWords

@@ -1,4 +1,5 @@
--- A machine stops where one with the extract stops, where an element that this one goes on with says what it holds.
+-- A machine stops where one with the extract stops, where an element that this one goes on with says what it holds. But an
+-- unknown head may be too deep for it that is barred there.
 use Rattle.std.proofs.Common.{◌≡◌, ◌≢◌, ◌∙◌, ap, sym, refl, subst, ℕ, ◌+◌, List, [], ◌∷◌, length, drop, Option, Some, None, Bool, true, false, not, inl, inr, ◌⊎◌}
 use Rattle.std.specs.Prelude.{◌==◌, ◌&&◌, nat_le, nat_lt, if◌then◌else◌}
 use Rattle.dcm_base.specs.declared.dictionary.Dictionary.{Dictionary}
@@ -29,7 +30,7 @@ use Rattle.dcm_base.specs.Tables.Tag.{is_item}
 use Rattle.dcm_base.proofs.DataSets.After.{tag_at_by}
 use Rattle.dcm_base.proofs.DataSets.Alike.{Alike}
 use Rattle.dcm_stream.specs.Reading.{in_syntax}
-use Rattle.dcm_conversion_laws.proofs.Agree.{explicit_read, form_plain, plain, read_plain}
+use Rattle.dcm_conversion_laws.proofs.Plain.{explicit_read, form_plain, plain, read_plain}
 
 -- ---- what is open
 
@@ -154,22 +155,49 @@ stop_of bar head declared space lists kind p rest = first_case (
     ∷ (opens_list kind && nat_le 64 lists, refused TooDeep p)
     ∷ barred bar p)
 
-late : (a b c q : Bool) (x y z w : Stop) (bar : Option Fault) (p : ℕ) → bar ≡ None → ((if a then Some x else if b then Some y else if c then Some z else first_case (barred bar p)) ≡ None → ⊥)
-    → (if a then Some x else if b then Some y else if c then Some z else first_case (barred bar p)) ≡ (if a then Some x else if b then Some y else if c then Some z else if q then Some w else first_case (barred bar p))
-late true b c q x y z w bar p free some = refl
-late false true c q x y z w bar p free some = refl
-late false false true q x y z w bar p free some = refl
-late false false false q x y z w bar p free some = absurd (some (ap (λ (o : Option Fault). first_case (barred o p)) free))
+-- of what bars an unknown head, each fault is a late one: the one stops with it, and the other first as it is too deep
+pub record Deeper (Late : Fault → Type 0) (p : ℕ) (x y : Option Stop) : Type 0 where
+  pub fault : Fault
+  pub late : Late fault
+  pub first_is : x ≡ Some (refused fault p)
+  pub other_is : y ≡ Some (refused TooDeep p)
 
-kinds_late : (bar : Option Fault) (head : ℕ) (declared : Length) (space : Option ℕ) (lists p : ℕ) (rest : List ℕ) → bar ≡ None → (stop_of bar head declared space lists a_value p rest ≡ None → ⊥) → stop_of bar head declared space lists a_value p rest ≡ stop_of bar head declared space lists a_sequence p rest
-kinds_late bar head declared space lists p rest free some =
-    late (passes head space) (nat_lt (length rest) head) (passes (with_length head declared) space) (nat_le 64 lists) (refused PassesEnd p) (refused EndsEarly (p + length rest)) (refused PassesEnd p) (refused TooDeep p) bar p free some
+abbrev pub Near : (Fault → Type 0) → ℕ → Option Stop → Option Stop → Type 0
+Near Late p x y = (x ≡ y) ⊎ Deeper Late p x y
 
--- no bar is of an unknown head
-abbrev pub LetsUnknown : HeadBar → Type 0
-LetsUnknown bar = (tag : Tag) (declared : Length) → bar tag UN declared ≡ None
+last_near : (Late : Fault → Type 0) (q : Bool) (o : Option Fault) (p : ℕ) → ((fault : Fault) → o ≡ Some fault → Late fault) → (first_case (barred o p) ≡ None → ⊥) → Near Late p (first_case (barred o p)) (if q then Some (refused TooDeep p) else first_case (barred o p))
+last_near Late q None p late some = absurd (some refl)
+last_near Late true (Some fault) p late some = inr (record { fault = fault; late = late fault refl; first_is = refl; other_is = refl })
+last_near Late false (Some fault) p late some = inl refl
 
-module _ (e : Dictionary) (bar : HeadBar) (free : LetsUnknown bar) where
+earlier_near : (Late : Fault → Type 0) (c : Bool) (stop : Stop) (a b : Option Stop) (p : ℕ) → ((if c then Some stop else a) ≡ None → ⊥) → ((a ≡ None → ⊥) → Near Late p a b) → Near Late p (if c then Some stop else a) (if c then Some stop else b)
+earlier_near Late true stop a b p some near = inl refl
+earlier_near Late false stop a b p some near = near some
+
+kinds_near : (Late : Fault → Type 0) (bar : Option Fault) (head : ℕ) (declared : Length) (space : Option ℕ) (lists p : ℕ) (rest : List ℕ) → ((fault : Fault) → bar ≡ Some fault → Late fault) → (stop_of bar head declared space lists a_value p rest ≡ None → ⊥)
+    → Near Late p (stop_of bar head declared space lists a_value p rest) (stop_of bar head declared space lists a_sequence p rest)
+kinds_near Late bar head declared space lists p rest late some =
+    let last : Option Stop = first_case (barred bar p) in
+    let deep : Option Stop = if nat_le 64 lists then Some (refused TooDeep p) else last in
+    let c : Bool = passes (with_length head declared) space in
+    let b : Bool = nat_lt (length rest) head in
+    earlier_near Late (passes head space) (refused PassesEnd p) (if b then Some (refused EndsEarly (p + length rest)) else if c then Some (refused PassesEnd p) else last) (if b then Some (refused EndsEarly (p + length rest)) else if c then Some (refused PassesEnd p) else deep) p some (λ some.
+    earlier_near Late b (refused EndsEarly (p + length rest)) (if c then Some (refused PassesEnd p) else last) (if c then Some (refused PassesEnd p) else deep) p some (λ some.
+    earlier_near Late c (refused PassesEnd p) last deep p some (λ some. last_near Late (nat_le 64 lists) bar p late some)))
+
+near_from : (Late : Fault → Type 0) (p : ℕ) (x y z : Option Stop) → x ≡ y → Near Late p y z → Near Late p x z
+near_from Late p x y z e (inl f) = inl (e ∙ f)
+near_from Late p x y z e (inr d) = inr (record { fault = d.fault; late = d.late; first_is = e ∙ d.first_is; other_is = d.other_is })
+
+near_to : (Late : Fault → Type 0) (p : ℕ) (x y z : Option Stop) → Near Late p x y → y ≡ z → Near Late p x z
+near_to Late p x y z (inl f) e = inl (f ∙ e)
+near_to Late p x y z (inr d) e = inr (record { fault = d.fault; late = d.late; first_is = d.first_is; other_is = sym e ∙ d.other_is })
+
+-- an unknown head is barred with a late fault alone
+abbrev pub BarsLate : (Fault → Type 0) → HeadBar → Type 0
+BarsLate Late bar = (tag : Tag) (declared : Length) (fault : Fault) → bar tag UN declared ≡ Some fault → Late fault
+
+module _ (Late : Fault → Type 0) (e : Dictionary) (bar : HeadBar) (bars_late : BarsLate Late bar) where
   module _ (s : Syntax) (explicit : is_explicit s ≡ true) (alike : Alike (dictionary_of s) e) (ls : List Level) (p : ℕ) (rest : List ℕ) where
     abbrev tag : Tag
     tag = tag_at s rest
@@ -187,18 +215,20 @@ module _ (e : Dictionary) (bar : HeadBar) (free : LetsUnknown bar) where
         ∙ ap (λ (n : ℕ). stop_of (bar tag vr (length_at s vr rest)) (head_size s vr) (length_at s vr rest) (room p ls) n (form (plain s) (read_as (plain s) tag vr) (length_at s vr rest)) p rest) (depth_plain ls)
 
     by_forms : (vr : Vr) → Forms s tag vr (length_at s vr rest) → Says (element_stop bar (plain s) (plain_levels ls) p rest (Some vr)) vr
-        → element_stop bar (plain s) (plain_levels ls) p rest (Some vr) ≡ element_stop bar s ls p rest (Some vr)
-    by_forms vr (same is) says = parts_plain vr ∙ ap (λ (k : Form). stop_of (bar tag vr (length_at s vr rest)) (head_size s vr) (length_at s vr rest) (room p ls) (depth ls) k p rest) is
+        → Near Late p (element_stop bar (plain s) (plain_levels ls) p rest (Some vr)) (element_stop bar s ls p rest (Some vr))
+    by_forms vr (same is) says = inl (parts_plain vr ∙ ap (λ (k : Form). stop_of (bar tag vr (length_at s vr rest)) (head_size s vr) (length_at s vr rest) (room p ls) (depth ls) k p rest) is)
     by_forms vr (differ un list value sequence) says =
         let of : Form → Option Stop = λ k. stop_of (bar tag vr (length_at s vr rest)) (head_size s vr) (length_at s vr rest) (room p ls) (depth ls) k p rest in
-        let first = parts_plain vr ∙ ap of value in
-        first
-        ∙ kinds_late (bar tag vr (length_at s vr rest)) (head_size s vr) (length_at s vr rest) (room p ls) (depth ls) p rest (ap (λ (x : Vr). bar tag x (length_at s vr rest)) un ∙ free tag (length_at s vr rest))
-        (λ none. never_list e (dictionary_of s) tag vr alike un list (says (first ∙ none) value))
-        ∙ ap of (sym sequence)
+        let first : element_stop bar (plain s) (plain_levels ls) p rest (Some vr) ≡ of a_value = parts_plain vr ∙ ap of value in
+        near_from Late p (element_stop bar (plain s) (plain_levels ls) p rest (Some vr)) (of a_value) (element_stop bar s ls p rest (Some vr)) first
+        (near_to Late p (of a_value) (of a_sequence) (element_stop bar s ls p rest (Some vr))
+        (kinds_near Late (bar tag vr (length_at s vr rest)) (head_size s vr) (length_at s vr rest) (room p ls) (depth ls) p rest
+        (λ fault is. bars_late tag (length_at s vr rest) fault (sym (ap (λ (x : Vr). bar tag x (length_at s vr rest)) un) ∙ is))
+        (λ none. never_list e (dictionary_of s) tag vr alike un list (says (first ∙ none) value)))
+        (ap of (sym sequence)))
 
-    element_alike : (o : Option Vr) → ((vr : Vr) → o ≡ Some vr → Says (element_stop bar (plain s) (plain_levels ls) p rest o) vr) → element_stop bar (plain s) (plain_levels ls) p rest o ≡ element_stop bar s ls p rest o
-    element_alike None says = refl
+    element_alike : (o : Option Vr) → ((vr : Vr) → o ≡ Some vr → Says (element_stop bar (plain s) (plain_levels ls) p rest o) vr) → Near Late p (element_stop bar (plain s) (plain_levels ls) p rest o) (element_stop bar s ls p rest o)
+    element_alike None says = inl refl
     element_alike (Some vr) says = by_forms vr (forms s tag vr (length_at s vr rest) explicit) (says vr refl)
 
   -- ---- a place
@@ -206,13 +236,13 @@ module _ (e : Dictionary) (bar : HeadBar) (free : LetsUnknown bar) where
   item_alike : (c : Container) (ls : List Level) (p : ℕ) (declared : Length) → item_stop c (plain_levels ls) p declared ≡ item_stop c ls p declared
   item_alike c ls p declared = ap (λ (r : Option ℕ). first_case ((is_fragment_list c && is_undefined declared, refused UndefinedLength p) ∷ (passes (with_length 8 declared) r, refused PassesEnd p) ∷ [])) (room_plain p ls)
 
-  branch_alike : (a : Bool) (x y i j : Option Stop) → (a ≡ true → x ≡ y) → i ≡ j → (if a then x else i) ≡ (if a then y else j)
-  branch_alike true x y i j f g = f refl
-  branch_alike false x y i j f g = g
+  branch_alike : (a : Bool) (x y i j : Option Stop) (p : ℕ) → (a ≡ true → Near Late p x y) → i ≡ j → Near Late p (if a then x else i) (if a then y else j)
+  branch_alike true x y i j p f g = f refl
+  branch_alike false x y i j p f g = inl g
 
-  after_alike : (before x y : Option Stop) → (before ≡ None → x ≡ y) → or_else before x ≡ or_else before y
-  after_alike None x y f = f refl
-  after_alike (Some stop) x y f = refl
+  after_alike : (before x y : Option Stop) (p : ℕ) → (before ≡ None → Near Late p x y) → Near Late p (or_else before x) (or_else before y)
+  after_alike None x y p f = f refl
+  after_alike (Some stop) x y p f = inl refl
 
   after_none : (before x : Option Stop) → before ≡ None → x ≡ None → or_else before x ≡ None
   after_none None x b n = n
@@ -253,12 +283,15 @@ module _ (e : Dictionary) (bar : HeadBar) (free : LetsUnknown bar) where
         ap (λ (o : Option Stop). if is_item (tag_at s rest) then o else None)
         (item_alike l.container around p (long_length (number (plain s) 4 (drop 4 rest))) ∙ ap (λ (n : ℕ). item_stop l.container around p (long_length n)) (number_plain s 4 (drop 4 rest)))
 
-    head_alike : Goes (head_stop bar here (plain_levels around) p rest) → head_stop bar here (plain_levels around) p rest ≡ head_stop bar l around p rest
+    abbrev own_items : Option Stop
+    own_items = if is_item (tag_at s rest) then item_stop l.container around p (long_length (number s 4 (drop 4 rest))) else None
+
+    head_alike : Goes (head_stop bar here (plain_levels around) p rest) → Near Late p (head_stop bar here (plain_levels around) p rest) (head_stop bar l around p rest)
     head_alike goes =
-        head_parts
-        ∙ branch_alike is_element (first_stop (vr_at s rest)) (element_stop bar s around p rest (vr_at s rest)) item_part (if is_item (tag_at s rest) then item_stop l.container around p (long_length (number s 4 (drop 4 rest))) else None)
+        near_from Late p (head_stop bar here (plain_levels around) p rest) (if is_element then first_stop (vr_at s rest) else item_part) (head_stop bar l around p rest) head_parts
+        (branch_alike is_element (first_stop (vr_at s rest)) (element_stop bar s around p rest (vr_at s rest)) item_part own_items p
         (λ t. element_alike s explicit alike around p rest (vr_at s rest) (λ vr is none value. goes (head_parts ∙ branch_none is_element (first_stop (vr_at s rest)) item_part t none) vr is t value))
-        items_plain
+        items_plain)
 
     abbrev before : Option ℕ → Tag → Option Stop
     before r t = first_case (
@@ -273,8 +306,8 @@ module _ (e : Dictionary) (bar : HeadBar) (free : LetsUnknown bar) where
         ap (λ (r : Option ℕ). or_else (before r (tag_at (plain s) rest)) (head_stop bar here (plain_levels around) p rest)) (room_plain p around)
         ∙ ap (λ (t : Tag). or_else (before (room p around) t) (head_stop bar here (plain_levels around) p rest)) (tag_plain s rest)
 
-    pub place_alike : Goes (place_stop bar here (plain_levels around) p rest) → place_stop bar here (plain_levels around) p rest ≡ place_stop bar l around p rest
+    pub place_alike : Goes (place_stop bar here (plain_levels around) p rest) → Near Late p (place_stop bar here (plain_levels around) p rest) (place_stop bar l around p rest)
     place_alike goes =
-        place_parts
-        ∙ after_alike (before (room p around) (tag_at s rest)) (head_stop bar here (plain_levels around) p rest) (head_stop bar l around p rest)
-        (λ b. head_alike (λ none. goes (place_parts ∙ after_none (before (room p around) (tag_at s rest)) (head_stop bar here (plain_levels around) p rest) b none)))
+        near_from Late p (place_stop bar here (plain_levels around) p rest) (or_else (before (room p around) (tag_at s rest)) (head_stop bar here (plain_levels around) p rest)) (place_stop bar l around p rest) place_parts
+        (after_alike (before (room p around) (tag_at s rest)) (head_stop bar here (plain_levels around) p rest) (head_stop bar l around p rest) p
+        (λ b. head_alike (λ none. goes (place_parts ∙ after_none (before (room p around) (tag_at s rest)) (head_stop bar here (plain_levels around) p rest) b none))))

@@ -1,7 +1,7 @@
-use Rattle.dcm_conversion_laws.proofs.Agree as agree
-use Rattle.dcm_conversion_laws.proofs.Converters as converters
-use Rattle.dcm_conversion_laws.proofs.Once as once
+use Rattle.dcm_conversion_laws.proofs.EditWords as words
+use Rattle.dcm_conversion_laws.proofs.Jobs as jobs
+use Rattle.dcm_conversion_laws.proofs.Readings as readings
 use Rattle.dcm_conversion_laws.proofs.laws.dictionaries_agree.Goals as goal
 
 pub returns : goal.returns
-returns c = record { readings = agree.readings_agree; other = once.reads_by_other; converters = converters.converters_agree; dumps = converters.dumps_agree }
+returns c = record { readings = readings.readings_agree; ascending = readings.ascending_agree; converters = jobs.converters_agree; dumps = jobs.dumps_agree; edits = words.words_agree; modifiers = jobs.modifiers_agree }
