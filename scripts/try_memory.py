@@ -62,6 +62,11 @@ RUNS = [
     (["dcmodify", "-i", "(0010,0020)=7", "-m", "PatientName=Q", "-", "-"], 0),
     (["dcmodify", "-i", "(0008,1140)[0].(0008,1155)=1.2.3", "-ma", "(0008,0060)=CT", "-ea", "(0010,4000)", "-ep", "-", "-"], 3),
     (["dcmodify", "-e", "Unknown", "-", "-"], 1),
+    (["dump2dcm", "-", "-"], 2),
+    (["dcmdeid", "-", "-"], 0),
+    (["dcm2csv", "-k", "PatientName", "-"], 0),
+    (["dcm2csv", "-k", "PatientName", *["-k", "PatientID"] * 63, "+nh", "-"], 0),
+    (["dcm2csv", "-k", "Unknown", "-"], 1),
     (["unknown"], 1),
 ]
 
