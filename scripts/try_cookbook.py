@@ -166,7 +166,7 @@ def content_and_mode(path):
 
 
 def files_in(folder):
-    paths = [os.path.join(path, name) for path, _, names in os.walk(folder) for name in names]
+    paths = [os.path.join(path, name) for path, _, names in os.walk(folder, followlinks=True) for name in names]
     return {os.path.relpath(path, folder): content_and_mode(path) for path in paths}
 
 
@@ -475,6 +475,10 @@ def run_block(binary, text, start, locale, *changes):
     with tempfile.TemporaryDirectory() as room:
         tools, work = os.path.join(room, "tools"), os.fsencode(os.path.join(room, "work"))
         os.mkdir(tools)
+        os.mkdir(work)
+        # a folder that is a link is a tree too
+        os.mkdir(os.path.join(room, "tree"))
+        os.symlink("../tree", os.path.join(work, b"in"))
         shutil.copy(binary, os.path.join(tools, "dcmtools"))
         with open(os.path.join(tools, "ssh"), "w", encoding="ascii") as file:
             file.write(SSH)
