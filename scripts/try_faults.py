@@ -16,6 +16,7 @@ begin so. Needs strace (apt-get install strace) and setarch. Exits with 0 if not
   or one line of a device and no row; names that a list has lost have neither. Where the output failed, standard output is a
   beginning of the table. Where a call of one file or list fails once, nothing else is lost, and this is, unless the call may be
   tried again.
+- Where memory is refused, the run goes as it was, or the line is `out of memory`, with status 5, and nothing is written.
 - FILE is never changed, also where OUTPUT is FILE, and no file gets the number of a standard stream.
 - A close that fails passes in silence (docs/users/PROFILE.md, "Where it is written").
 - A file that was opened, or standard output, cannot be asked what it is: `cannot be opened`, status 4, nothing is written. The same
@@ -477,6 +478,15 @@ def wrong_reservation(run, base, ended, fault):
     return "" if is_as_without(base, ended) else wrong_refusal(run, ended, b"(input|output) cannot be opened|out of memory")
 
 
+def wrong_memory(run, base, ended, fault):
+    """Of memory that is refused: the run goes as it was, or says so and nothing else."""
+    if fault.call.name not in MEMORY or is_as_without(base, ended):
+        return ""
+    said = b"" if hides_errors(run, ended) else NO_MEMORY
+    is_said = (ended.status, ended.stderr) == (5, said) and is_untouched(run, ended)
+    return "" if is_said else f"status {ended.status}, {ended.stderr!r} after memory was refused"
+
+
 # Of dcm2csv.
 
 
@@ -616,10 +626,10 @@ def wrong_loss(run, base, ended, fault):
 
 
 ALWAYS = (wrong_status, wrong_line, wrong_output, wrong_part, wrong_input, wrong_writes, wrong_numbers)
-OF_CALLS = (wrong_question, wrong_reservation)
+OF_CALLS = (wrong_question, wrong_reservation, wrong_memory)
 
 ALWAYS_OF_TABLES = (wrong_status, wrong_table, wrong_input, wrong_writes, wrong_numbers)
-OF_CALLS_OF_TABLES = (wrong_loss, wrong_reservation)
+OF_CALLS_OF_TABLES = (wrong_loss, wrong_reservation, wrong_memory)
 
 
 def problems_of(run, base, ended, fault):
