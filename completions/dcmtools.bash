@@ -64,14 +64,20 @@ _dcmtools_replaced() {
     _dcmtools_words "${words[*]}" "$1"
 }
 
-# The words that are answered with usage or the version, alone or as the only word after a tool's name.
+_dcmtools_tools='dcmdump dcmconv dump2dcm dcmodify dcmdeid dcm2csv'
+
+# The words that are answered with usage or the version, as the first word or as the only word after a tool's name.
 _dcmtools_answered='help version --help --version'
 
 _dcmtools() {
     local current=${COMP_WORDS[COMP_CWORD]} switches
     COMPREPLY=()
     if ((COMP_CWORD == 1)); then
-        _dcmtools_words "dcmdump dcmconv dump2dcm dcmodify dcmdeid dcm2csv $_dcmtools_answered" "$current"
+        _dcmtools_words "$_dcmtools_tools $_dcmtools_answered" "$current"
+        return
+    fi
+    if [[ $COMP_CWORD == 2 && ${COMP_WORDS[1]} == *help ]]; then
+        _dcmtools_words "$_dcmtools_tools" "$current"
         return
     fi
     case ${COMP_WORDS[1]} in

@@ -1,7 +1,8 @@
 #!/usr/bin/env python3
 """Runs every block of docs/users/COOKBOOK.md that is marked `sh`, each on a tree with the traps of real media, and the commands of README.
 
-Each block is run by bash as it is, once more after `set -o pipefail`, and once in a UTF-8 locale. After it no file that was there
+Each block is run by bash as it is, once more after `set -o pipefail`, and once in a UTF-8 locale; by root it is run as nobody, so that
+the mode of a file forbids its reading. After it no file that was there
 may be lost or changed, in content or mode, unless the block says so; no new file may be missing, be of another mode, or be left over;
 each file that fails has to be named; and where names are taken out, none is left in the bytes. Of README's table each command has to
 end with status 0. sqlite3 and GNU parallel have to be installed. Commands that the page calls not tried (DuckDB, pandas, Slurm, Spark)
@@ -15,6 +16,7 @@ import csv
 import io
 import os
 import re
+import shutil
 import stat
 import struct
 import subprocess
@@ -84,6 +86,7 @@ class Input(NamedTuple):
     content: bytes
     mode: int = 0o644
     fails: bool = False  # it is no file that can be read
+    opens: bool = True  # its mode lets it be read
     converts: bool = True
     named: bool = True  # it has a PatientName in its outermost data set
     cleans: bool = True
@@ -100,6 +103,17 @@ TREE = {
     b"gr\xf6sse.dcm": Input(scan(b"Huber^Eva", b"15"), 0o600),
     b"two words 'and' \"quotes\" $HOME\nand a newline": Input(scan(b"Huber^Ida", b"16")),
     b"-ends in a newline\n/-te": Input(scan(b"Huber^Udo", b"17")),
+    b"b\xf6d and\na newline": Input(scan(b"Huber^Pia", b"27")),
+    b"a*b?[c]{d}!.dcm": Input(scan(b"Huber^Tom", b"28")),
+    b"back\\slash, 100%s\t\x1b[1m \r": Input(scan(b"Huber^Kai", b"29")),
+    b" blanks at both ends ": Input(scan(b"Huber^Lea", b"30")),
+    b"-k": Input(scan(b"Huber^Jim", b"31")),
+    b"@list": Input(scan(b"Huber^Ute", b"32")),
+    b"#~/..dcm": Input(scan(b"Huber^Ben", b"33")),
+    b"n" * 255: Input(scan(b"Huber^Max", b"34")),
+    b"folder/IM000001.dcm/IM000001.dcm": Input(scan(b"Huber^Amy", b"35")),
+    b"nobody may read.dcm": Input(scan(b"Huber^Leo", b"36"), 0o000, fails=True, opens=False),
+    b"empty": Input(b"", fails=True),
     b"plan.dcm": Input(plan(b"Meier^Anna"), 0o600),
     b"large.dcm": Input(scan(b"Meier^Anna", b"18", LARGE)),
     b"large and opaque.dcm": Input(scan(b"Meier^Anna", b"19", LARGE + OPAQUE), cleans=False, opaque=True),
@@ -122,7 +136,10 @@ CUT = {name: (content[:-4], mode) for name, (content, mode) in FILES.items()}  #
 
 # a key of new UIDs, and an output that was not looked at
 KEY = bytes(range(32))
-OUTPUTS = {b"out/deep/left.dcm": SCAN, b"out/no.dcm": b"no DICOM file"}
+OUTPUTS = {b"out/deep/left.dcm": (SCAN, 0o644), b"out/no.dcm": (b"no DICOM file", 0o644), b"out/closed.dcm": (SCAN, 0o000)}
+
+# root may read any file, so the blocks are run as another user
+NOBODY = {"user": 65534, "group": 65534, "extra_groups": []} if os.geteuid() == 0 else {}
 
 # ssh to another machine that has a large file
 SSH = "#!/bin/sh\n[ \"$*\" = 'archive cat /store/large.dcm' ] && exec cat scan.dcm\n"
@@ -139,14 +156,18 @@ class Run(NamedTuple):
     files: dict  # each file that is there after it, with its content and mode
 
 
+def content_and_mode(path):
+    mode = stat.S_IMODE(os.stat(path).st_mode)
+    os.chmod(path, 0o600)
+    with open(path, "rb") as file:
+        content = file.read()
+    os.chmod(path, mode)
+    return content, mode
+
+
 def files_in(folder):
-    found = {}
-    for path, _, names in os.walk(folder):
-        for name in names:
-            full = os.path.join(path, name)
-            with open(full, "rb") as file:
-                found[os.path.relpath(full, folder)] = (file.read(), stat.S_IMODE(os.stat(full).st_mode))
-    return found
+    paths = [os.path.join(path, name) for path, _, names in os.walk(folder, followlinks=True) for name in names]
+    return {os.path.relpath(path, folder): content_and_mode(path) for path in paths}
 
 
 def before():
@@ -154,13 +175,20 @@ def before():
     return there | FILES
 
 
-def prepare(folder):
-    for name, (content, mode) in before().items():
+def write_files(folder, files):
+    for name, (content, mode) in files.items():
         path = os.path.join(folder, name)
         os.makedirs(os.path.dirname(path), exist_ok=True)
         with open(path, "wb") as file:
             file.write(content)
         os.chmod(path, mode)
+
+
+def give_to_nobody(folder):
+    """Lets the user of the blocks own all that is in a folder."""
+    for path, folders, names in os.walk(folder):
+        for name in [path, *(os.path.join(path, name) for name in folders + names)]:
+            os.chown(name, NOBODY["user"], NOBODY["group"])
 
 
 def answer(run, words, content):
@@ -219,9 +247,10 @@ TABLE_ROWS = {
 }
 
 
-def is_text(name):
+def is_opened(name):
+    """Whether dcm2csv can open a file of the tree: its name is UTF-8, and its mode allows it."""
     try:
-        return bool(name.decode("utf-8"))
+        return bool(name.decode("utf-8")) and TREE[name].opens
     except UnicodeDecodeError:
         return False
 
@@ -233,14 +262,14 @@ def wrong_rows(run, files, names):
     failed = run.files.get(b"failed.txt", (b"", 0))[0]
     wrong = holds(run, files | {b"table.csv": (None, 0o644), b"failed.txt": (None, 0o644)})
     wrong += [] if header == ["File", "PatientID", "Modality"] else [f"the header is {header}"]
-    wrong += [] if len(rows) == sum(map(is_text, names)) else [f"there are {len(rows)} rows"]
+    wrong += [] if len(rows) == sum(map(is_opened, names)) else [f"there are {len(rows)} rows"]
     for name in names:
         found = [row[1:] for row in rows if row[0].encode() == b"in/" + name]
-        if len(found) != int(is_text(name)) or name in TABLE_ROWS and found != [TABLE_ROWS[name]]:
+        if len(found) != int(is_opened(name)) or name in TABLE_ROWS and found != [TABLE_ROWS[name]]:
             wrong.append(f"{name!r} has {found!r}")
         shown = b"".join(b"\\%02x" % byte if byte < 32 or byte in (92, 127) else bytes([byte]) for byte in name)
-        line = b"dcmtools: in/" + shown + (b": R" if is_text(name) else b": input cannot be opened")
-        if failed.count(line) != int(TREE[name].fails or not is_text(name)):
+        line = b"dcmtools: in/" + shown + (b": R" if is_opened(name) else b": input cannot be opened")
+        if failed.count(line) != int(TREE[name].fails or not is_opened(name)):
             wrong.append(f"{name!r} is {failed.count(line)} times in failed.txt")
     return wrong
 
@@ -349,12 +378,19 @@ def identity_of_tree(run):
     return wrong + names_all(run, [name for name in COPIED if name not in good], text)
 
 
+LEFT = {
+    b"out/deep/left.dcm": b"status 0\n(0010,0010) PN [AB^CD]",
+    b"out/no.dcm": b"status 2\ndcmtools: R1 at byte 13",
+    b"out/closed.dcm": b"status 1\n",
+}
+
+
 def identity_left(run):
     text = run.files.get(b"left.txt", (b"", 0))[0]
-    wrong = holds(run, {b"left.txt": (None, 0o644)} | {path: (content, None) for path, content in OUTPUTS.items()})
-    for path, line in ((b"out/deep/left.dcm", b"(0010,0010) PN [AB^CD]"), (b"out/no.dcm", b"dcmtools: R1 at byte 13")):
-        shown = text.partition(path + b":\n")[2].partition(b"out/")[0]
-        wrong += [] if line in shown else [f"of {path!r} it shows {shown!r}"]
+    wrong = holds(run, {b"left.txt": (None, 0o644)} | OUTPUTS)
+    for path, line in LEFT.items():
+        shown = text.partition(path + b": ")[2].partition(b"out/")[0]
+        wrong += [] if shown.startswith(line) else [f"of {path!r} it shows {shown!r}"]
     return wrong
 
 
@@ -386,10 +422,7 @@ def set_made_whole(run):
 
 
 def with_outputs(work):
-    os.makedirs(os.path.join(work, b"out/deep"))
-    for path, content in OUTPUTS.items():
-        with open(os.path.join(work, path), "wb") as file:
-            file.write(content)
+    write_files(work, OUTPUTS)
 
 
 def with_key(work):
@@ -406,9 +439,9 @@ class Block(NamedTuple):
 BLOCKS = [
     Block("dcmtools dcmdump +dict scan.dcm |", one_element),
     Block("columns=(-k", table),
-    Block("find in -type f ! -path $'*\\n*' |", table_of_list),
+    Block("find in/ -type f ! -path $'*\\n*' |", table_of_list),
     Block("sqlite3 table.db", table_in_sqlite, with_table),
-    Block("find in -type f ! -path $'*\\n*' > names.txt", table_in_parts),
+    Block("find in/ -type f ! -path $'*\\n*' > names.txt", table_in_parts),
     Block("    dcmtools dcmconv +dict +te scan.dcm", in_place),
     Block("convert() {", converted_tree),
     Block("    dcmtools dcmconv +dict +te plan.dcm", converted_plan),
@@ -418,7 +451,7 @@ BLOCKS = [
     Block("name=$(printf", latin_name),
     Block("mkdir clean", cleaned),
     Block("(umask 077; [ -e site.key ]", identity_of_tree),
-    Block("find out -type f", identity_left, with_outputs),
+    Block("find out/ -type f", identity_left, with_outputs),
     Block("    part=$(mktemp clean.XXXXXX) && dcmtools dcmdeid", identity_replaced, with_key),
     Block("    umask 077", as_text),
     Block("    part=$(mktemp scan.XXXXXX) && dcmtools dcmdump +L scan.dcm |", built),
@@ -442,16 +475,22 @@ def run_block(binary, text, start, locale, *changes):
     with tempfile.TemporaryDirectory() as room:
         tools, work = os.path.join(room, "tools"), os.fsencode(os.path.join(room, "work"))
         os.mkdir(tools)
-        os.symlink(binary, os.path.join(tools, "dcmtools"))
+        os.mkdir(work)
+        # a folder that is a link is a tree too
+        os.mkdir(os.path.join(room, "tree"))
+        os.symlink("../tree", os.path.join(work, b"in"))
+        shutil.copy(binary, os.path.join(tools, "dcmtools"))
         with open(os.path.join(tools, "ssh"), "w", encoding="ascii") as file:
             file.write(SSH)
         os.chmod(file.name, 0o755)
-        prepare(work)
+        write_files(work, before())
         for change in changes:
             change(work)
-        environment = os.environ | {"PATH": f"{tools}:{os.environ['PATH']}", "LC_ALL": locale}
-        os.umask(0o022)
-        done = subprocess.run(["bash", "-c", start + text], cwd=work, env=environment, stdout=subprocess.PIPE, stderr=subprocess.STDOUT, timeout=600, check=False)
+        if NOBODY:
+            give_to_nobody(room)
+        environment = os.environ | {"PATH": f"{tools}:{os.environ['PATH']}", "HOME": room, "LC_ALL": locale}
+        streams = {"stdin": subprocess.DEVNULL, "stdout": subprocess.PIPE, "stderr": subprocess.STDOUT}
+        done = subprocess.run(["bash", "-c", start + text], cwd=work, env=environment, umask=0o022, timeout=600, check=False, **streams, **NOBODY)
         return Run(binary, environment, work, done.stdout, files_in(work))
 
 

@@ -12,6 +12,11 @@ begin so. Needs strace (apt-get install strace) and setarch. Exits with 0 if not
 - With the status of the run without a fault, all is as there. Else the status is 4 or 5, OUTPUT is missing, a beginning of what it
   would be, or what it was before, and standard output is a beginning. Nothing is written after a write that failed.
 - Of dcmdeid OUTPUT is the whole new file or what it was before, and OUTPUT.part is gone, unless it could not be removed.
+- Of dcm2csv the status is the greatest that a line has, or 0 without a line. Each name has its row and its lines as without the fault,
+  or one line of a device and no row; names that a list has lost have neither. Where the output failed, standard output is a
+  beginning of the table. Where a call of one file or list fails once, nothing else is lost, and this is, unless the call may be
+  tried again.
+- Where memory is refused, the run goes as it was, or the line is `out of memory`, with status 5, and nothing is written.
 - FILE is never changed, also where OUTPUT is FILE, and no file gets the number of a standard stream.
 - A close that fails passes in silence (docs/users/PROFILE.md, "Where it is written").
 - A file that was opened, or standard output, cannot be asked what it is: `cannot be opened`, status 4, nothing is written. The same
@@ -68,7 +73,15 @@ LINES = {
     5: rb"out of memory",
 }
 
+# the lines of a table; those without a name are of the output, of standard streams, and of memory
+TABLE_LINES = {
+    2: rb"[a-z0-9-]+: (R\d+ at byte \d+: [a-zA-Z ]+|value of \([0-9a-f]{4},[0-9a-f]{4}\) is longer than 16384 bytes)",
+    4: rb"[a-z0-9-]+: (input cannot be opened|reading failed after \d+ bytes)|output failed|(in|out)put cannot be opened",
+    5: rb"out of memory",
+}
+
 NO_MEMORY = b"dcmtools: out of memory\n"
+OUTPUT_FAILED = b"dcmtools: output failed\n"
 
 # how many problems of a run are shown
 SHOWN = 5
@@ -78,7 +91,10 @@ PIXELS = 700 * 1024
 
 
 class Run(NamedTuple):
-    """A run: its words, where {in}, {out}, {link} (to the input) and {key} are paths, and how it ends without a fault."""
+    """A run: its words, where {in}, {out}, {link} (to the input) and {key} are paths, and how it ends without a fault.
+
+    It is run in a folder that has the input as the file `in`, and the others by their names. Words of dcm2csv are such names.
+    """
 
     name: str
     words: list
@@ -87,6 +103,7 @@ class Run(NamedTuple):
     # what a shell does with the streams, where $in is the input; without it standard input is /dev/null
     streams: str = ""
     has_older: bool = False
+    others: tuple = ()
 
 
 class Call(NamedTuple):
@@ -127,8 +144,8 @@ def element(tag, vr, value):
     return struct.pack("<HH", tag >> 16, tag & 0xFFFF) + vr + length + value
 
 
-def dicom(pixels):
-    """A file with a sequence, a private element, and this many bytes of pixels."""
+def dicom(pixels, name=b"AB^CD"):
+    """A file with a sequence, a private element, a name, and this many bytes of pixels."""
     group = element(0x00020003, b"UI", b"1.2.3.4") + element(0x00020010, b"UI", b"1.2.840.10008.1.2.1")
     item = element(0x00081150, b"UI", b"1.2.3") + element(0x00081155, b"UI", b"1.2.4")
     return (
@@ -138,7 +155,7 @@ def dicom(pixels):
         + group
         + element(0x00081140, b"SQ", struct.pack("<HHI", 0xFFFE, 0xE000, len(item)) + item)
         + element(0x00090010, b"LO", b"OWNER")
-        + element(0x00100010, b"PN", b"AB^CD")
+        + element(0x00100010, b"PN", name)
         + element(0x00100020, b"LO", b"7")
         + (element(0x7FE00010, b"OW", bytes(range(256)) * (pixels // 256)) if pixels else b"")
     )
@@ -212,7 +229,43 @@ CLOSED = [
     Run("closed streams", ["dcmconv", "+tb", "{in}", "{out}"], SMALL, 0, "<&- >&- 2>&-", True),
 ]
 
-RUNS = [*runs_of_size("small", SMALL, lines(1)), *runs_of_size("big", BIG, lines(4000)), *OTHERS, *SAME, *CLOSED]
+# tables: the last column of FAR is above all elements of a file, which so is read to its end
+COLUMNS = ["dcm2csv", "-k", "PatientName", "-k", "PatientID"]
+FAR = [*COLUMNS, "-k", "(fffc,fffc)"]
+NAMES = b"in\nother\n"
+OTHER = ("other", dicom(0, b"EF^GH"))
+LIST = ("list", NAMES)
+
+# more rows than a buffer of the output holds
+LONG_NAME = b"N" * 16000
+MANY = [(f"file{number:02}", dicom(0, LONG_NAME)) for number in range(20)]
+MANY_NAMES = "".join(f"{name}\n" for name, _ in MANY).encode()
+
+# a file that is cut, one with a value that is too long for a cell, and one that is not there
+FAULTY = [*FAR, "in", "long", "missing", "other"]
+FAULTY_FILES = (("long", dicom(0, b"N" * 16386)), OTHER)
+
+TABLES = [
+    Run("table", [*COLUMNS, "in", "other"], SMALL, others=(OTHER,)),
+    Run("table, list", [*COLUMNS, "@list"], SMALL, others=(OTHER, LIST)),
+    Run("table, list and file", [*COLUMNS, "+nh", "@list", "third"], SMALL, others=(OTHER, LIST, ("third", SMALL))),
+    Run("table, list in standard input", [*COLUMNS, "@-"], SMALL, 0, "< list", others=(OTHER, LIST)),
+    Run("table, standard input", [*COLUMNS, "-", "other"], SMALL, 0, '< "$in"', others=(OTHER,)),
+    Run("table of big files", [*FAR, "in", "other"], BIG, others=(("other", BIG),)),
+    Run("table of many rows", [*COLUMNS, "@list"], SMALL, others=(*MANY, ("list", MANY_NAMES))),
+    Run("table with faults", FAULTY, BIG[:-1000], 4, others=FAULTY_FILES),
+    Run("table of a fault", [*FAR, "in", "other"], SMALL[:-1], 2, others=(OTHER,)),
+    Run("table, list missing", [*COLUMNS, "@list", "in"], SMALL, 4),
+    Run("table, closed input", [*COLUMNS, "in", "other"], SMALL, 0, "<&-", others=(OTHER,)),
+    Run("table, closed input that is read", [*COLUMNS, "-", "other"], SMALL, 4, "<&-", others=(OTHER,)),
+    Run("table, closed output", [*COLUMNS, "in"], SMALL, 4, ">&-"),
+    Run("table, closed error", FAULTY, BIG[:-1000], 4, "2>&-", others=FAULTY_FILES),
+    Run("table, closed streams", [*COLUMNS, "in", "-", "other"], SMALL, 4, "<&- >&- 2>&-", others=(OTHER,)),
+    Run("table, standard output is a file", [*COLUMNS, "in", "other"], SMALL, 0, "> out", others=(OTHER,)),
+    Run("table, refused", ["dcm2csv", "in"], SMALL, 1),
+]
+
+RUNS = [*runs_of_size("small", SMALL, lines(1)), *runs_of_size("big", BIG, lines(4000)), *OTHERS, *SAME, *CLOSED, *TABLES]
 
 
 def content_of(path):
@@ -226,6 +279,8 @@ def traced(binary, room, run, injected=()):
     paths["in"].write_bytes(run.data)
     paths["link"].hardlink_to(paths["in"])
     paths["key"].write_bytes(KEY)
+    for name, content in run.others:
+        (folder / name).write_bytes(content)
     if run.has_older:
         paths["out"].write_bytes(OLDER)
     words = [word.format(**paths) if word.startswith("{") else word for word in run.words]
@@ -238,6 +293,7 @@ def traced(binary, room, run, injected=()):
             [*strace, *faults, *shell, *words],
             stdin=subprocess.DEVNULL,
             capture_output=True,
+            cwd=folder,
             env=environment,
             timeout=30,
             check=False,
@@ -368,8 +424,8 @@ def wrong_numbers(run, base, ended):
     """No file that is read or written may have the number of a standard stream."""
     calls, _ = calls_of(ended.lines)
     for call in calls:
-        found = re.match(r'openat\(.*/(in|out|link)", .*\) = ([012])$', call.line)
-        if found:
+        found = re.match(r'openat\(AT_FDCWD, "(.*)", .*\) = ([012])$', call.line)
+        if found and found[1] != "/":
             return f"the file {found[1]} has the number {found[2]}"
     return ""
 
@@ -422,15 +478,165 @@ def wrong_reservation(run, base, ended, fault):
     return "" if is_as_without(base, ended) else wrong_refusal(run, ended, b"(input|output) cannot be opened|out of memory")
 
 
+def wrong_memory(run, base, ended, fault):
+    """Of memory that is refused: the run goes as it was, or says so and nothing else."""
+    if fault.call.name not in MEMORY or is_as_without(base, ended):
+        return ""
+    said = b"" if hides_errors(run, ended) else NO_MEMORY
+    is_said = (ended.status, ended.stderr) == (5, said) and is_untouched(run, ended)
+    return "" if is_said else f"status {ended.status}, {ended.stderr!r} after memory was refused"
+
+
+# Of dcm2csv.
+
+
+def is_table(run):
+    return run.words[0] == "dcm2csv" and run.status != 1
+
+
+class Row(NamedTuple):
+    """What a name has without a fault: the list that it is in, its row, and its lines."""
+
+    name: bytes
+    in_list: object
+    row: bytes
+    lines: list
+
+
+def names_of(run):
+    """The names of a run in their order, each with the list that it is in."""
+    lists = {b"@list": dict(run.others).get("list", b""), b"@-": dict(run.others).get("list", b"")}
+    words = iter(run.words[1:])
+    for word in words:
+        if word == "-k":
+            next(words)
+        elif word.encode() in lists:
+            yield from ((name, word.encode()[1:]) for name in lists[word.encode()].splitlines())
+        elif not word.startswith("+"):
+            yield word.encode(), None
+
+
+def named(line):
+    """The name of a line on standard error, or none."""
+    found = re.match(rb"dcmtools: ([a-z0-9-]+): ", line)
+    return found and found[1]
+
+
+def rows_of(run, base):
+    """The rows of a run without a fault, after what comes before them."""
+    lines = table_of(run, base).splitlines(keepends=True)
+    header = b"" if "+nh" in run.words or not lines else lines.pop(0)
+    said = base.stderr.splitlines(keepends=True)
+    rows = []
+    for name, in_list in names_of(run):
+        row = lines.pop(0) if lines and lines[0].startswith(b'"%s",' % name) else b""
+        rows.append(Row(name, in_list, row, [line for line in said if named(line) == name]))
+    return header, rows
+
+
+def status_of_table(stderr):
+    """The greatest status of lines, or none where one is no line of dcm2csv."""
+    statuses = [0]
+    for line in stderr.splitlines(keepends=True):
+        found = [status for status, pattern in TABLE_LINES.items() if re.fullmatch(rb"dcmtools: (%s)\n" % pattern, line)]
+        if not found:
+            return None
+        statuses += found
+    return max(statuses)
+
+
+def devices_of(stderr):
+    """The names that have a line of a device, with how much of each was read."""
+    found = re.findall(rb"dcmtools: ([a-z0-9-]+): (?:input cannot be opened|reading failed after (\d+) bytes)\n", stderr)
+    return {name: int(read or 0) for name, read in found}
+
+
+def left_rows(run, rows, lost):
+    """The names that are not lost with their list."""
+    names = dict(run.others).get("list", b"")
+    for in_list in {row.in_list for row in rows} & set(lost):
+        kept = names[: lost[in_list]].count(b"\n")
+        of_list = [row for row in rows if row.in_list == in_list][kept:]
+        rows = [row for row in rows if row not in of_list]
+    return rows
+
+
+def wrong_table(run, base, ended):
+    """Of rows, lines and the status of a table."""
+    header, rows = rows_of(run, base)
+    if hides_errors(run, ended):
+        return "" if is_beginning_of_some(header, rows, table_of(run, ended)) else "rows that nothing explains"
+    if ended.status != status_of_table(ended.stderr):
+        return f"status {ended.status} with {ended.stderr[:200]!r}"
+    if re.fullmatch(rb"dcmtools: (out of memory|(in|out)put cannot be opened)\n", ended.stderr):
+        return "" if is_untouched(run, ended) else "something was written"
+    lost = devices_of(ended.stderr)
+    rows = left_rows(run, rows, lost)
+    table = header + b"".join(row.row for row in rows if row.name not in lost)
+    if ended.stderr.endswith(OUTPUT_FAILED):
+        return "" if table.startswith(table_of(run, ended)) else "no beginning of the table"
+    if table_of(run, ended) != table:
+        return "other rows"
+    silent = [row.name for row in rows if not row.row and row.name not in lost]
+    missing = [line for row in rows if row.name not in lost for line in row.lines if line not in ended.stderr]
+    return f"no row and no line of {silent}" if silent else f"without {missing}" if missing else ""
+
+
+def table_of(run, ended):
+    """What was printed, or written into the file that standard output is."""
+    return ended.output or b"" if run.streams == "> out" else ended.stdout
+
+
+def is_beginning_of_some(header, rows, stdout):
+    """Whether it is a header and rows in their order, of which some may be missing, and a beginning of the next."""
+    if not stdout.startswith(header):
+        return header.startswith(stdout)
+    left = stdout[len(header) :]
+    for row in rows:
+        left = left[len(row.row) :] if left.startswith(row.row) else left
+    return not left or any(row.row.startswith(left) for row in rows)
+
+
+def file_of(calls, call):
+    """The name of the file or list that a call asks or reads, or none."""
+    if call.name == "openat":
+        found = re.match(r'openat\(AT_FDCWD, "([^"/]+)"', call.line)
+        return found and found[1].encode()
+    found = re.match(r"\w+\((\d+),", call.line)
+    if call.name not in (*STATS, "read") or not found:
+        return None
+    if found[1] == "0":
+        return b"-"
+    opened = [other.line for other in calls[: calls.index(call)] if other.line.endswith(f"= {found[1]}")]
+    names = [match[1].encode() for match in (re.match(r'openat\(AT_FDCWD, "([^"/]+)"', line) for line in opened) if match]
+    return names[-1] if names else None
+
+
+def wrong_loss(run, base, ended, fault):
+    """Of a call that fails once: of one file or list it loses this, and nothing else is lost by it."""
+    if hides_errors(run, ended) or fault.injected[0].endswith("+") or len(fault.injected) > 1:
+        return ""
+    calls, _ = calls_of(base.lines)
+    name = file_of(calls, fault.call)
+    lost = set(devices_of(ended.stderr)) - set(devices_of(base.stderr))
+    due = {name} - {None} - set(devices_of(base.stderr))
+    if lost == due or not lost and fault.error in ("EINTR", "ENOSYS"):
+        return ""
+    return "" if ended.stderr == NO_MEMORY else f"{sorted(lost)} are lost, and not {sorted(due)}"
+
+
 ALWAYS = (wrong_status, wrong_line, wrong_output, wrong_part, wrong_input, wrong_writes, wrong_numbers)
-OF_CALLS = (wrong_question, wrong_reservation)
+OF_CALLS = (wrong_question, wrong_reservation, wrong_memory)
+
+ALWAYS_OF_TABLES = (wrong_status, wrong_table, wrong_input, wrong_writes, wrong_numbers)
+OF_CALLS_OF_TABLES = (wrong_loss, wrong_reservation, wrong_memory)
 
 
 def problems_of(run, base, ended, fault):
     if ended.status == "hang":
         return ["a hang"]
-    found = [check(run, base, ended) for check in ALWAYS]
-    found += [check(run, base, ended, fault) for check in OF_CALLS]
+    found = [check(run, base, ended) for check in (ALWAYS_OF_TABLES if is_table(run) else ALWAYS)]
+    found += [check(run, base, ended, fault) for check in (OF_CALLS_OF_TABLES if is_table(run) else OF_CALLS)]
     return [problem for problem in found if problem]
 
 
@@ -439,6 +645,8 @@ def wrong_base(run, base):
     if base.status != run.status:
         return f"status {base.status}, {base.stderr!r}"
     is_line_due = base.status != 0 and "2>&-" not in run.streams
+    if is_table(run) and is_line_due:
+        return "" if status_of_table(base.stderr) == base.status else f"standard error {base.stderr!r}"
     first = base.stderr.split(b"\n", 1)[0] + b"\n"
     if is_line_due != bool(base.stderr) or is_line_due and not is_line_of(first, base.status):
         return f"standard error {base.stderr!r}"

@@ -4,7 +4,8 @@
 usage: try_memory.py PROGRAM
 
 A small library, built with cc and loaded before the C library, lets the Nth call for memory fail, for N from 1 on, until a run
-takes fewer calls than that and goes as it should.
+takes fewer calls than that. A word that was given more room than it needs keeps it where the smaller room is refused: then the run
+goes as it should.
 """
 
 import os
@@ -15,8 +16,10 @@ from pathlib import Path
 
 ALLOCATOR = r"""
 #include <errno.h>
+#include <fcntl.h>
 #include <stddef.h>
 #include <stdlib.h>
+#include <unistd.h>
 
 extern void *__libc_malloc(size_t size);
 extern void *__libc_calloc(size_t count, size_t size);
@@ -33,6 +36,7 @@ static int refuses(void) {
     calls++;
     if (calls != refused)
         return 0;
+    close(open(getenv("REFUSED_MARK"), O_CREAT | O_WRONLY | O_CLOEXEC, 0600));
     errno = ENOMEM;
     return 1;
 }
@@ -53,7 +57,7 @@ int posix_memalign(void **place, size_t align, size_t size) {
 UID = b"1.2.840.10008.1.2.1\0"
 FILE = bytes(128) + b"DICM" + b"\x02\0\0\0UL\x04\0\x1c\0\0\0" + b"\x02\0\x10\0UI\x14\0" + UID + b"\x10\0\x10\0PN\x06\0AB^CD "
 
-MOST_CALLS = 200
+MOST_CALLS = 1000
 
 # Words, and the status where no memory is refused. The edits take memory for their list, paths and values.
 RUNS = [
@@ -62,28 +66,38 @@ RUNS = [
     (["dcmodify", "-i", "(0010,0020)=7", "-m", "PatientName=Q", "-", "-"], 0),
     (["dcmodify", "-i", "(0008,1140)[0].(0008,1155)=1.2.3", "-ma", "(0008,0060)=CT", "-ea", "(0010,4000)", "-ep", "-", "-"], 3),
     (["dcmodify", "-e", "Unknown", "-", "-"], 1),
+    (["dump2dcm", "-", "-"], 2),
+    (["dcmdeid", "-", "-"], 0),
+    (["dcm2csv", "-k", "PatientName", "-"], 0),
+    (["dcm2csv", "-k", "PatientName", *["-k", "PatientID"] * 63, "+nh", "-"], 0),
+    (["dcm2csv", "-k", "Unknown", "-"], 1),
     (["unknown"], 1),
 ]
 
 
 def run(program, shim, words, refused):
-    environment = dict(os.environ, LD_PRELOAD=str(shim), REFUSED_CALL=str(refused))
-    return subprocess.run([program, *words], input=FILE, capture_output=True, env=environment, timeout=20)
+    """How a run ends, and whether a call was refused."""
+    mark = shim.with_name("mark")
+    mark.unlink(missing_ok=True)
+    environment = dict(os.environ, LD_PRELOAD=str(shim), REFUSED_CALL=str(refused), REFUSED_MARK=str(mark))
+    done = subprocess.run([program, *words], input=FILE, capture_output=True, env=environment, timeout=20)
+    return (done.returncode, done.stdout, done.stderr), mark.exists()
 
 
 def try_words(program, shim, words, status):
-    """How many calls were refused, and what went wrong."""
-    whole = run(program, shim, words, 0)
-    if whole.returncode != status:
-        return 0, [f"{words}: status {whole.returncode} without a refusal"]
-    wrong = []
+    """How many calls were refused, how many of them were silent, and what went wrong."""
+    whole, _ = run(program, shim, words, 0)
+    if whole[0] != status:
+        return 0, 0, [f"{words}: status {whole[0]} without a refusal"]
+    silent, wrong = 0, []
     for refused in range(1, MOST_CALLS):
-        left = run(program, shim, words, refused)
-        if (left.returncode, left.stdout, left.stderr) == (whole.returncode, whole.stdout, whole.stderr):
-            return refused - 1, wrong
-        if (left.returncode, left.stdout, left.stderr) != (5, b"", b"dcmtools: out of memory\n"):
-            wrong.append(f"{words}, call {refused}: status {left.returncode}, {left.stdout[:40]!r}, {left.stderr!r}")
-    return MOST_CALLS, wrong + [f"{words}: never went as it should"]
+        left, is_refused = run(program, shim, words, refused)
+        if not is_refused:
+            return refused - 1, silent, wrong
+        silent += left == whole
+        if left not in (whole, (5, b"", b"dcmtools: out of memory\n")):
+            wrong.append(f"{words}, call {refused}: status {left[0]}, {left[1][:40]!r}, {left[2]!r}")
+    return MOST_CALLS, silent, wrong + [f"{words}: takes more than {MOST_CALLS} calls"]
 
 
 def main():
@@ -93,14 +107,13 @@ def main():
         source, shim = Path(folder, "refuse.c"), Path(folder, "refuse.so")
         source.write_text(ALLOCATOR)
         subprocess.run(["cc", "-shared", "-fPIC", "-O1", "-o", shim, source], check=True)
-        refusals, wrong = 0, []
+        refusals, silent, wrong = 0, 0, []
         for words, status in RUNS:
-            refused, problems = try_words(sys.argv[1], shim, words, status)
-            refusals += refused
-            wrong += problems
+            refused, passed, problems = try_words(sys.argv[1], shim, words, status)
+            refusals, silent, wrong = refusals + refused, silent + passed, wrong + problems
     for problem in wrong:
         print(problem)
-    print(f"{refusals} calls refused, {len(wrong)} wrong")
+    print(f"{refusals} calls refused, {silent} of them in silence, {len(wrong)} wrong")
     sys.exit(1 if wrong or not refusals else 0)
 
 
