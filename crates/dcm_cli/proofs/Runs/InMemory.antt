@@ -2,7 +2,7 @@
 use Rattle.std.proofs.Common.{◌≡◌, ◌∙◌, ap, subst, refl, ℕ, ◌-◌, ◌≤◌, List, [], ◌∷◌, ◌++◌, length, Bool, true, false, Option, Some, arith, inl, inr, length-append}
 use Rattle.std.specs.Io.KnownBytes.{append_known}
 use Rattle.std.proofs.lemmas.List.{length-take-le}
-use Rattle.dcm_devices.specs.Device.{AppendsFront}
+use Rattle.dcm_devices.specs.Device.{AppendsFront, TakesFrom}
 use Rattle.dcm_devices.specs.Memory.{written, size, room_of}
 use Rattle.dcm_devices.specs.Writing.{Writer}
 use Rattle.dcm_devices.specs.declared.memory.MemIn.{MemIn}
@@ -110,7 +110,11 @@ line_left errors new_errors line tries room =
 
 -- the members of a reader of memory, and of a writer
 abbrev pub memory_reader : Reader MemIn
-memory_reader = record { has_failed = λ m. false; remaining = λ m. Some m.rest.now; gets = λ before bytes after. Unit {0} }
+memory_reader = record {
+  has_failed = λ m. false;
+  remaining = λ m. Some m.rest.now;
+  gets = λ before bytes after. TakesFrom (Some before.rest.now) (Some after.rest.now) bytes;
+}
 
 abbrev pub memory_writer : Writer Measured
 memory_writer = record {
