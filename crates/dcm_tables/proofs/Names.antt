@@ -1,5 +1,5 @@
 -- Names that are done one after another.
-use Rattle.std.proofs.Common.{◌≡◌, ◌∙◌, ap, sym, subst, refl, ℕ, List, [], ◌∷◌, ◌++◌, append_assoc, length, take, Bool, true, false, Option, Result, Ok, Err, arith}
+use Rattle.std.proofs.Common.{◌≡◌, ◌∙◌, ap, sym, subst, refl, ℕ, List, [], ◌∷◌, ◌++◌, append_assoc, length, take, Bool, true, false, Result, Ok, Err, arith}
 use Rattle.std.specs.Prelude.{codes, max, nat_le, ◌&&◌, flat_map}
 use Rattle.std.proofs.lemmas.List.{append-nil, take_all, length-take}
 use Rattle.std.proofs.lemmas.Bool.{leb-true}
