@@ -6,8 +6,8 @@ use Rattle.dcm_names.specs.declared.list_reader.ListReader.{ListReader}
 use Rattle.dcm_devices.specs.declared.device.ReadFailed.{ReadFailed}
 use Rattle.dcm_names.specs.Held.{Holds}
 use Rattle.dcm_names.specs.Names.{has_bytes, open_line, ended_lines, names_of}
-use Rattle.dcm_names.specs.Reader.{pending, ended_names, EndsPending, PassesPending, EndsName, PassesNames, HoldsPiece, HoldsNone, HoldsFailed, HasRead, Going, Calls, Answers, Refills, last_answer, READ_LIMIT, PIECE, bytes_left, most_left}
-use Rattle.std.proofs.Common.{subst, length-append, inl, inr}
+use Rattle.dcm_names.specs.Reader.{pending, ended_names, EndsPending, PassesPending, EndsName, PassesNames, HoldsPiece, HoldsNone, HoldsFailed, HasRead, Going, Calls, Answers, TellsNext, Refills, last_answer, READ_LIMIT, PIECE, bytes_left, most_left}
+use Rattle.std.proofs.Common.{subst, length-append, ◌⊎◌, inl, inr}
 use Rattle.std.specs.Prelude.{Option, Some, Ok, if◌then◌else◌}
 use Rattle.std.proofs.lemmas.List.Elements.{filter-append}
 use Rattle.dcm_devices.specs.Device.{Gave, and_call}
@@ -116,6 +116,18 @@ pub none_left : (first new : ListReader) → first.is_over ≡ false → new.is_
 none_left first new going over =
     subst (λ (b : Bool). (if b then 0 else suc (bytes_left new)) < most_left first) (sym over)
     (subst (λ (b : Bool). 0 < (if b then 0 else suc (bytes_left first))) (sym going) (omega arith))
+
+-- ---- whether the reader has failed
+
+-- it has not in the last call, whether or not the last line is a name
+pub last_tells : (before after : Bool) (some : Bool) → after ≡ before → TellsNext before after (last_answer some)
+last_tells before after true same = same
+last_tells before after false same = same
+
+-- it had not before the last call
+pub failed_since : (first before after : Bool) (read : ℕ) → (after ≡ true) ⊎ ((READ_LIMIT < read) × (after ≡ before)) → before ≡ first → (after ≡ true) ⊎ ((READ_LIMIT < read) × (after ≡ first))
+failed_since first before after read (inl failed) same = inl failed
+failed_since first before after read (inr long) same = inr (long.0, long.1 ∙ same)
 
 module _ {R : Type 0} (gets : R → Option (List ℕ) → R → Type 0) where
   pub piece_read : (start before after : R) (old now taken new : ListReader) (more : List ℕ) → Gave gets start more before → (r : ReadOn old now more) → PassesNames now taken r.line → taken.read ≡ now.read → taken.is_over ≡ now.is_over

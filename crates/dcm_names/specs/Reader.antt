@@ -90,6 +90,13 @@ Answers gets before after old new given named End = AnswersEnd gets old.is_over 
 Answers gets before after old new given named (Unread read) =
     AnswersUnread gets old.is_over before after given named read
 
+-- the reader failed in the calls exactly where that is why no name came, unless there are too many bytes
+abbrev pub TellsNext : (failed_before failed_after : Bool) → NextName → Type 0
+TellsNext failed_before failed_after Name = failed_after ≡ failed_before
+TellsNext failed_before failed_after End = failed_after ≡ failed_before
+TellsNext failed_before failed_after (Unread read) =
+    (failed_after ≡ true) ⊎ ((READ_LIMIT < read) × (failed_after ≡ failed_before))
+
 -- ---- the steps of a call
 
 -- what taking bytes leaves as it was
@@ -164,6 +171,12 @@ abbrev pub Refills : {R E : Type 0} (gets : R → Option (List ℕ) → R → Ty
 Refills gets before after old new (Ok true) = HoldsPiece gets before after old new
 Refills gets before after old new (Ok false) = HoldsNone gets before after old new
 Refills gets before after old new (Err e) = HoldsFailed gets before after old new
+
+-- the reader failed in it exactly where that is the answer, unless there are too many bytes
+abbrev pub TellsRefill : {E : Type 0} → (failed_before failed_after : Bool) → (read : ℕ) → Result Bool E → Type 0
+TellsRefill failed_before failed_after read (Ok more) = failed_after ≡ failed_before
+TellsRefill failed_before failed_after read (Err e) =
+    (failed_after ≡ true) ⊎ ((READ_LIMIT < read) × (failed_after ≡ failed_before))
 
 -- the last line is a name where it has bytes
 abbrev pub last_answer : Bool → NextName

@@ -39,7 +39,7 @@ pub struct ListReader {
 impl ListReader {
     ghost use Rattle.dcm_names.specs.Held.{Holds};
     ghost use Rattle.dcm_names.specs.Reader.{HasRead, TakesPending, TakesName, Refills, Answers, Same, last_answer};
-    ghost use Rattle.dcm_names.specs.Reader.{most_left};
+    ghost use Rattle.dcm_names.specs.Reader.{most_left, TellsNext, TellsRefill};
 
     /// A reader of a list of which nothing was read.
     pub fn new() -> ListReader
@@ -108,7 +108,8 @@ impl ListReader {
     /// Reads the next piece, where all bytes that are held were taken. Answers whether there is one.
     fn refill<R: DeviceIn>(&mut self, input: &mut Watched<R>) -> Result<bool, ReadFailed>
         requires { self.old.at ≡ self.old.filled }
-        ensures { Refills R.gets input.old input.new self.old self.new result }
+        ensures refills { Refills R.gets input.old input.new self.old self.new result }
+        ensures failed { TellsRefill (R.has_failed input.old) (R.has_failed input.new) self.new.read result }
     {
         if self.read > READ_LIMIT {
             return Err(ReadFailed);
@@ -142,6 +143,7 @@ impl ListReader {
         ensures answers { (given : List ℕ) (named : List (List ℕ)) → HasRead self.old given named
             → Answers R.gets input.old input.new self.old self.new given named result }
         ensures fewer { result ≡ NextName.Name → most_left self.new < most_left self.old }
+        ensures failed { TellsNext (R.has_failed input.old) (R.has_failed input.new) result }
     {
         if self.is_over {
             return NextName::End;

@@ -20,10 +20,10 @@ module _ {S I O W : Type 0} (may : MayDo S I O) (r : Reader I) (Does Other : One
       and_name earlier more others name reached ended mid at between of_others of_name (listed_as from input before of_others mid earlier at false others reached between so_far) calls (at_as name _ _ of_name mid to between _ after does) follows whole all is
 
   names_as : (path : List ℕ) (errors : Change) (from to : W) (input left : I) (before : S) (result : Result ℕ WriteFailed) (after : S)
-      → DoesNames r.gets (DoesListed may Does) path errors from to input left before result after → DoesNames r.gets (DoesListed may Other) path errors from to input left before result after
+      → DoesNames r (DoesListed may Does) path errors from to input left before result after → DoesNames r (DoesListed may Other) path errors from to input left before result after
   names_as path errors from to input left before result after (all_done given was_over names status at so_far ends is) = all_done given was_over names status at (listed_as from input before errors to given at was_over names status after so_far) ends is
-  names_as path errors from to input left before result after (not_read given names status count at of_names of_line so_far unread line follows is) =
-      not_read given names status count at of_names of_line (listed_as from input before of_names to given at false names status after so_far) unread line follows is
+  names_as path errors from to input left before result after (not_read given names status count at of_names of_line so_far unread failed line follows is) =
+      not_read given names status count at of_names of_line (listed_as from input before of_names to given at false names status after so_far) unread failed line follows is
   names_as path errors from to input left before result after (not_written given more names others name is_over status mid at between of_names of_name failure so_far calls all does follows is) =
       not_written given more names others name is_over status mid at between of_names of_name failure (listed_as from input before of_names mid given at false names status between so_far) calls all (at_as name _ _ of_name mid to between _ after does) follows is
 

@@ -1,6 +1,7 @@
 pub mod AsRows
 pub mod FileReads
 pub mod LinesOut
+pub mod ListLeft
 pub mod Made
 pub mod Names
 pub mod TableReads

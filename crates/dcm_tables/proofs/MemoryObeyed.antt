@@ -6,7 +6,7 @@ use Rattle.dcm_files.specs.Memory.{may_do}
 use Rattle.dcm_cli.specs.InMemory.{ObeysInMemory}
 use Rattle.dcm_cli.proofs.Runs.InMemory.{memory_reader, memory_writer, memory_change}
 use Rattle.dcm_cli.proofs.Runs.ObeyingMemory.{obeys_left}
-use Rattle.dcm_tables.specs.TableInMemory.{NamesNoList, TablesInMemory}
+use Rattle.dcm_tables.specs.TableInMemory.{ListsAreReadWhole, TablesInMemory}
 use Rattle.dcm_tables.specs.TableProgram.{ObeysAny, asks_table, of_table, of_others}
 use Rattle.dcm_tables.proofs.TableLeft.{tables_left}
 
@@ -22,9 +22,9 @@ module _ (s new : MemSystem) (errors new_errors : MemOut) (status : ℕ) (words 
   abbrev Obeyed : Type 0
   Obeyed = ObeysAny may_do memory_reader memory_writer words (memory_change errors new_errors) s status new
 
-  pub tabled_of : asks_table words ≡ true → NamesNoList words → Obeyed → TablesInMemory words s errors new.written new_errors status
-  tabled_of asks files (of_table is obeys) = λ o comes room. tables_left (λ before bytes after. Unit {0}) s new errors new_errors status words o comes room files obeys
-  tabled_of asks files (of_others is obeys) = absurd (not_both (asks_table words) asks is)
+  pub tabled_of : asks_table words ≡ true → ListsAreReadWhole words s → Obeyed → TablesInMemory words s errors new.written new_errors status
+  tabled_of asks lists (of_table is obeys) = λ o comes room. tables_left s new errors new_errors status words o comes room lists obeys
+  tabled_of asks lists (of_others is obeys) = absurd (not_both (asks_table words) asks is)
 
   pub others_of : asks_table words ≡ false → Obeyed → ObeysInMemory words s errors new.written new_errors status
   others_of asks (of_table is obeys) = absurd (not_both (asks_table words) is asks)

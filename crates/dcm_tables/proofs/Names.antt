@@ -1,5 +1,5 @@
 -- Names that are done one after another.
-use Rattle.std.proofs.Common.{◌≡◌, ◌∙◌, ap, sym, subst, refl, ℕ, List, [], ◌∷◌, ◌++◌, append_assoc, length, take, Bool, true, false, Option, Result, Ok, Err, arith}
+use Rattle.std.proofs.Common.{◌≡◌, ◌∙◌, ap, sym, subst, refl, ℕ, List, [], ◌∷◌, ◌++◌, append_assoc, length, take, Bool, true, false, Result, Ok, Err, arith}
 use Rattle.std.specs.Prelude.{codes, max, nat_le, ◌&&◌, flat_map}
 use Rattle.std.proofs.lemmas.List.{append-nil, take_all, length-take}
 use Rattle.std.proofs.lemmas.Bool.{leb-true}
@@ -11,6 +11,7 @@ use Rattle.dcm_names.specs.NamedLines.{unopened_line}
 use Rattle.dcm_names.specs.Names.{names_of}
 use Rattle.dcm_names.specs.Reader.{AnswersName, HasRead, ended_names, pending}
 use Rattle.dcm_names.specs.declared.list_reader.ListReader.{ListReader}
+use Rattle.dcm_cli.specs.Calls.{Reader}
 use Rattle.dcm_cli.specs.Change.{Change, change_of}
 use Rattle.dcm_cli.specs.ErrorLines.{Reports}
 use Rattle.dcm_cli.specs.Program.{Follows}
@@ -85,13 +86,13 @@ whole_next names front rest later name whole is = whole ∙ ap (λ (ns : List Na
 
 -- ---- one name of a list after another
 
-module _ {S I W E : Type 0} (e : Writer E) (gets : I → Option (List ℕ) → I → Type 0) (Does : List ℕ → Writing S W) (old now new : E) (from mid to : W) (input at left : I) (before between after : S) (given : List ℕ) (was_over : Bool) (front : List (List ℕ)) (status : ℕ)
-    (so_far : Listed gets Does from input before (change_of e old now) mid given at was_over front status between) (reader : ListReader) where
-  so_far_going : was_over ≡ false → Listed gets Does from input before (change_of e old now) mid given at false front status between
-  so_far_going going = subst (λ (b : Bool). Listed gets Does from input before (change_of e old now) mid given at b front status between) going so_far
+module _ {S I W E : Type 0} (e : Writer E) (r : Reader I) (Does : List ℕ → Writing S W) (old now new : E) (from mid to : W) (input at left : I) (before between after : S) (given : List ℕ) (was_over : Bool) (front : List (List ℕ)) (status : ℕ)
+    (so_far : Listed r.gets Does from input before (change_of e old now) mid given at was_over front status between) (reader : ListReader) where
+  so_far_going : was_over ≡ false → Listed r.gets Does from input before (change_of e old now) mid given at false front status between
+  so_far_going going = subst (λ (b : Bool). Listed r.gets Does from input before (change_of e old now) mid given at b front status between) going so_far
 
-  pub listed_more : (a : AnswersName gets was_over at left reader given front) (ended reached : ℕ) → reached ≡ max status ended → Does a.name (change_of e now new) mid to between (Ok ended) after
-      → Listed gets Does from input before (change_of e old new) to (given ++ a.more) left reader.is_over (front ++ a.name ∷ []) reached after
+  pub listed_more : (a : AnswersName r.gets was_over at left reader given front) (ended reached : ℕ) → reached ≡ max status ended → Does a.name (change_of e now new) mid to between (Ok ended) after
+      → Listed r.gets Does from input before (change_of e old new) to (given ++ a.more) left reader.is_over (front ++ a.name ∷ []) reached after
   listed_more a ended reached is does = and_name given a.more front a.name status ended mid at between (change_of e old now) (change_of e now new) (so_far_going a.going) a.calls does (follows e old now new) refl refl is
 
   -- the names that were answered are the first ones of the list
@@ -99,8 +100,8 @@ module _ {S I W E : Type 0} (e : Writer E) (gets : I → Option (List ℕ) → I
   first_names true all names over has = ([], sym (has.over over) ∙ sym (append-nil names))
   first_names false all names over has = (ended_names [] (pending reader), (has.going over).names)
 
-  pub listed_failed : (path : List ℕ) (a : AnswersName gets was_over at left reader given front) (failure : WriteFailed) (r : Result ℕ WriteFailed) → r ≡ Err failure → Does a.name (change_of e now new) mid to between (Err failure) after
-      → DoesNames gets Does path (change_of e old new) from to input left before r after
-  listed_failed path a failure r is does =
+  pub listed_failed : (path : List ℕ) (a : AnswersName r.gets was_over at left reader given front) (failure : WriteFailed) (result : Result ℕ WriteFailed) → result ≡ Err failure → Does a.name (change_of e now new) mid to between (Err failure) after
+      → DoesNames r Does path (change_of e old new) from to input left before result after
+  listed_failed path a failure result is does =
       let f = first_names reader.is_over (given ++ a.more) (front ++ a.name ∷ []) refl a.has_read in
       not_written given a.more front f.0 a.name reader.is_over status mid at between (change_of e old now) (change_of e now new) failure (so_far_going a.going) a.calls (f.1 ∙ append_assoc front (a.name ∷ []) f.0) does (follows e old now new) is

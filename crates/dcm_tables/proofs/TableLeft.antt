@@ -1,13 +1,10 @@
 -- What obeying words that ask for a table leaves over files in memory.
-use Rattle.std.proofs.Common.{◌≡◌, ◌∙◌, ap, sym, subst, refl, ℕ, ◌<◌, ◌≤◌, List, [], ◌∷◌, ◌++◌, append-nil, length, length-append, arith, map, Bool, true, false, Option, Some, None, Result, Ok, Err, ◌⊎◌, inl, inr}
-use Rattle.std.specs.Prelude.{◌||◌}
-use Rattle.std.specs.List.{list_any}
+use Rattle.std.proofs.Common.{◌≡◌, ◌∙◌, ap, sym, subst, refl, ℕ, ◌<◌, ◌≤◌, List, [], ◌∷◌, ◌++◌, append-nil, length, length-append, arith, map, true, Option, Some, None, Result, Ok, Err, ◌⊎◌, inl, inr}
 use Rattle.std.specs.Io.KnownBytes.{append_known}
 use Rattle.std.specs.declared.io.Error.{Error}
 use Rattle.std.proofs.lemmas.List.{length-take-le}
 use Rattle.dcm_base.specs.declared.tag.Tag.{Tag}
 use Rattle.dcm_devices.specs.declared.device.WriteFailed.{WriteFailed}
-use Rattle.dcm_devices.specs.declared.memory.MemIn.{MemIn}
 use Rattle.dcm_devices.specs.declared.memory.MemOut.{MemOut}
 use Rattle.dcm_devices.specs.declared.memory.Measured.{Measured}
 use Rattle.dcm_devices.specs.Memory.{written, size, room_of}
@@ -23,14 +20,15 @@ use Rattle.dcm_table_words.specs.declared.usage.TableUsage.{TableUsage}
 use Rattle.dcm_table_words.specs.Table as table_words
 use Rattle.dcm_cli.specs.Change.{Change}
 use Rattle.dcm_cli.specs.InMemory.{Took}
-use Rattle.dcm_cli.proofs.Runs.InMemory.{memory_writer, memory_change}
+use Rattle.dcm_cli.proofs.Runs.InMemory.{memory_reader, memory_writer, memory_change}
 use Rattle.dcm_tables.specs.Deciding.{DoesRow}
 use Rattle.dcm_tables.specs.Table.{DoesName, DoesAll, headed, not_headed, header_bytes}
 use Rattle.dcm_tables.specs.TableProgram as program
-use Rattle.dcm_tables.specs.TableProgram.{column_of, form_of, WritesMeant, FlushesTable, PutsTable, MakesTable, ObeysTable}
+use Rattle.dcm_tables.specs.TableProgram.{column_of, form_of, WritesMeant, PutsTable, MakesTable, ObeysTable}
 use Rattle.dcm_tables.specs.TableInMemory as spec
-use Rattle.dcm_tables.specs.TableInMemory.{Rows, AllCome, NameComes, RowsCome, TableOutcome, TableComes, TableComesBy, tags_of, most_of, HasRoomFor, IsTabled, LeavesTable, MeansTable, NamesNoList, is_list, no_memory}
-use Rattle.dcm_tables.proofs.TableMemory.{Told, told_all, told_less, told_of, told_then, front_less, held, All, Left, reader, at_left, all_left}
+use Rattle.dcm_tables.specs.TableInMemory.{Rows, AllCome, NameComes, RowsCome, TableOutcome, TableComes, TableComesBy, tags_of, most_of, HasRoomFor, IsTabled, LeavesTable, MeansTable, IsReadWhole, AreReadWhole, ListsAreReadWhole, no_memory}
+use Rattle.dcm_tables.proofs.TableMemory.{Told, told_all, told_less, told_of, told_then, front_less, held, All, Left, at_left, all_left}
+use Rattle.dcm_tables.proofs.ListLeft.{list_left}
 
 -- ---- the header
 
@@ -91,45 +89,39 @@ room_refused parts None kind cause has gave = has
 room_fits : (parts : List Part) (room : Option MemOut) (m : MemOut) → room ≡ Some m → HasRoomFor (Some parts) room → most_of parts ≤ room_of m
 room_fits parts room m is has = (subst (HasRoomFor (Some parts)) is has).1
 
--- ---- names of files
+-- ---- names
 
-either_false : (a b : Bool) → (a || b) ≡ false → (a ≡ false) × (b ≡ false)
-either_false true b e = absurd (let no : true ≡ false = e in cc)
-either_false false b e = (refl, e)
+module _ (s : MemSystem) (columns : List Tag) (form : TextForm) where
+  -- what the name of a file comes to, or of a list that is read whole
+  abbrev WholeNameComes : table_words.Name → Rows → Type 0
+  WholeNameComes name rows = NameComes s columns form name rows × IsReadWhole s name
 
-module _ (gets : MemIn → Option (List ℕ) → MemIn → Type 0) (s : MemSystem) (columns : List Tag) (form : TextForm) where
-  -- what the name of a file comes to
-  abbrev FileNameComes : table_words.Name → Rows → Type 0
-  FileNameComes name rows = NameComes s columns form name rows × (is_list name ≡ false)
-
-  of_files : (names : List table_words.Name) (rows : Rows) → list_any is_list names ≡ false → AllCome (NameComes s columns form) names rows → AllCome FileNameComes names rows
-  of_files [] rows none come = come
-  of_files (name ∷ names) rows none come =
-      let e = either_false (is_list name) (list_any is_list names) none in
-      (come.0, come.1, (come.2, e.0), of_files names come.1 e.1 come.3, come.4)
+  of_whole : (names : List table_words.Name) (rows : Rows) → AreReadWhole s names → AllCome (NameComes s columns form) names rows → AllCome WholeNameComes names rows
+  of_whole [] rows whole come = come
+  of_whole (name ∷ names) rows whole come = (come.0, come.1, (come.2, whole.0), of_whole names come.1 whole.1 come.3, come.4)
 
   name_left : (name : table_words.Name) (rows : Rows) (errors : Change) (from to : Measured) (result : Result ℕ WriteFailed) (after : MemSystem)
-      → DoesName may_do (reader gets) (DoesRow (reader gets) memory_writer columns form) name errors from to s result after → FileNameComes name rows → Left rows errors from to result × (after ≡ s)
-  name_left (table_words.file path) rows errors from to result after does comes = at_left gets s columns form path path rows errors from to result after does comes.0
-  name_left (table_words.list path) rows errors from to result after does comes = absurd (let no : true ≡ false = comes.1 in cc)
+      → DoesName may_do memory_reader (DoesRow memory_reader memory_writer columns form) name errors from to s result after → WholeNameComes name rows → Left rows errors from to result × (after ≡ s)
+  name_left (table_words.file path) rows errors from to result after does comes = at_left s columns form path path rows errors from to result after does comes.0
+  name_left (table_words.list path) rows errors from to result after does comes = list_left s columns form path rows errors from to result after does comes.0 comes.1
 
-  module _ (names : List table_words.Name) (none : list_any is_list names ≡ false) (rows : Rows) (come : AllCome (NameComes s columns form) names rows) where
-    names_left : (errors : Change) (from to : Measured) (result : Result ℕ WriteFailed) (after : MemSystem) → DoesAll (DoesName may_do (reader gets) (DoesRow (reader gets) memory_writer columns form)) names errors from to s result after
+  module _ (names : List table_words.Name) (whole : AreReadWhole s names) (rows : Rows) (come : AllCome (NameComes s columns form) names rows) where
+    names_left : (errors : Change) (from to : Measured) (result : Result ℕ WriteFailed) (after : MemSystem) → DoesAll (DoesName may_do memory_reader (DoesRow memory_reader memory_writer columns form)) names errors from to s result after
         → Left rows errors from to result × (after ≡ s)
-    names_left errors from to result after does = all_left gets s columns form FileNameComes name_left names errors from to result after rows does (of_files names rows none come)
+    names_left errors from to result after does = all_left s columns form WholeNameComes name_left names errors from to result after rows does (of_whole names rows whole come)
 
 -- ---- a table
 
-module _ (gets : MemIn → Option (List ℕ) → MemIn → Type 0) (s : MemSystem) (t : table_words.Table) (none : list_any is_list t.names ≡ false) (rows : Rows) (come : RowsCome s t rows) where
+module _ (s : MemSystem) (t : table_words.Table) (lists : AreReadWhole s t.names) (rows : Rows) (come : RowsCome s t rows) where
   abbrev header : List ℕ
   header = header_bytes t.has_header (map column_of t.columns)
 
   abbrev Writes : (errors : Change) (from to : Measured) (before : MemSystem) → Result ℕ WriteFailed → (after : MemSystem) → Type 0
-  Writes errors from to before result after = WritesMeant may_do (reader gets) memory_writer t errors from to before result after
+  Writes errors from to before result after = WritesMeant may_do memory_reader memory_writer t errors from to before result after
 
   table_left : (errors : Change) (from to : Measured) (result : Result ℕ WriteFailed) (after : MemSystem) → Writes errors from to s result after → Left (with_header header rows) errors from to result × (after ≡ s)
   table_left errors from to result after (headed mid went fine does) =
-      let n = names_left gets s (tags_of t) (form_of t.as_is) t.names none rows come errors mid to result after does in
+      let n = names_left s (tags_of t) (form_of t.as_is) t.names lists rows come errors mid to result after does in
       (head_then header rows errors from mid to result went fine n.0, n.1)
   table_left errors from to result after (not_headed failure front failed line same is) = (
     subst (Left (with_header header rows) errors from to) (sym is)
@@ -165,7 +157,7 @@ module _ (gets : MemIn → Option (List ℕ) → MemIn → Type 0) (s : MemSyste
 abbrev parts_of : table_words.Table → Rows → List Part
 parts_of t rows = some_bytes (header_bytes t.has_header (map column_of t.columns)) ∷ rows.parts
 
-module _ (gets : MemIn → Option (List ℕ) → MemIn → Type 0) (s new : MemSystem) (errors new_errors : MemOut) (status : ℕ) where
+module _ (s new : MemSystem) (errors new_errors : MemOut) (status : ℕ) where
   abbrev LeftTable : TableOutcome → Type 0
   LeftTable o = LeavesTable o s errors new.written new_errors status
 
@@ -175,11 +167,11 @@ module _ (gets : MemIn → Option (List ℕ) → MemIn → Type 0) (s new : MemS
   leave : (o : TableOutcome) → IsTabled o.parts s new.written → Told e o.lines → status ≡ o.status → LeftTable o
   leave o is told was = record { output_is = is; lines_are = λ room. told_left errors new_errors o.lines told room; status_is = was }
 
-  module _ (words : List (List ℕ)) (o : TableOutcome) (comes : TableComes words s o) (room : HasRoomFor o.parts s.room) (files : NamesNoList words) where
+  module _ (words : List (List ℕ)) (o : TableOutcome) (comes : TableComes words s o) (room : HasRoomFor o.parts s.room) (lists : ListsAreReadWhole words s) where
     by : (meant : Result table_words.Table TableUsage) → table_words.meant_table words ≡ meant → TableComesBy s meant o
     by meant is = subst (λ (m : Result table_words.Table TableUsage). TableComesBy s m o) is comes
 
-    makes_left : (t : table_words.Table) → table_words.meant_table words ≡ Ok t → MakesTable may_do memory_writer (WritesMeant may_do (reader gets) memory_writer t) e s status new → LeftTable o ⊎ (MeansTable words × LeftTable no_memory)
+    makes_left : (t : table_words.Table) → table_words.meant_table words ≡ Ok t → MakesTable may_do memory_writer (WritesMeant may_do memory_reader memory_writer t) e s status new → LeftTable o ⊎ (MeansTable words × LeftTable no_memory)
     makes_left t means (program.no_cells none same) = inr ((t, means), leave no_memory (ap (λ (z : MemSystem). z.written) same) (told_of e _ none.line) none.status_is)
     makes_left t means (program.no_stdout cause gave line is) =
         let c = by (Ok t) means in
@@ -189,8 +181,8 @@ module _ (gets : MemIn → Option (List ℕ) → MemIn → Type 0) (s new : MemS
         let is = room_given s.room Other out gave.0 in
         let enough = room_fits (parts_of t c.0) s.room out.device.out is (subst (λ (q : TableOutcome). HasRoomFor q.parts s.room) c.2 room) in
         let empty : MemSystem = record s { room = None } in
-        let x = (puts_left gets empty t (files t means) c.0 c.1 e out.device output status has_written enough
-        (subst (λ (z : MemSystem). PutsTable memory_writer (WritesMeant may_do (reader gets) memory_writer t) e out.device output z status has_written) gave.1 puts)).0 in
+        let x = (puts_left empty t (lists t means) c.0 c.1 e out.device output status has_written enough
+        (subst (λ (z : MemSystem). PutsTable memory_writer (WritesMeant may_do memory_reader memory_writer t) e out.device output z status has_written) gave.1 puts)).0 in
         let took : Took x.text s.room new.written = record {
           before = out.device.out;
           after = output.out;
@@ -200,7 +192,7 @@ module _ (gets : MemIn → Option (List ℕ) → MemIn → Type 0) (s new : MemS
         } in
         inl (subst LeftTable (sym c.2) (leave (spec.tabled t c.0) (x.text, x.spelled, took) x.told x.status_is))
 
-    pub tables_left : ObeysTable may_do (reader gets) memory_writer words e s status new → LeftTable o ⊎ (MeansTable words × LeftTable no_memory)
+    pub tables_left : ObeysTable may_do memory_reader memory_writer words e s status new → LeftTable o ⊎ (MeansTable words × LeftTable no_memory)
     tables_left (program.refused u means line is same) =
         inl (subst LeftTable (sym (by (Err u) means)) (leave (spec.refused u) (ap (λ (z : MemSystem). z.written) same) (told_of e _ line) is))
     tables_left (program.tabled t means makes) = makes_left t means makes

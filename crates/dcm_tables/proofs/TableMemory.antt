@@ -19,21 +19,21 @@ use Rattle.dcm_table.specs.Parts.{Part, some_bytes, a_float, SpellsPart, SpellsP
 use Rattle.dcm_table.specs.TableSink.{Slot}
 use Rattle.dcm_table.proofs.PartsOut.{spells_both}
 use Rattle.dcm_table_words.specs.Table as table_words
-use Rattle.dcm_cli.specs.Calls.{Reader}
 use Rattle.dcm_cli.specs.Change.{Change}
 use Rattle.dcm_cli.specs.ErrorLines.{Reports}
 use Rattle.dcm_cli.specs.InMemory.{bytes_at}
 use Rattle.dcm_cli.specs.Program.{Follows}
+use Rattle.dcm_cli.specs.Status.{DONE}
 use Rattle.dcm_cli.proofs.Passes.Readers.{known}
-use Rattle.dcm_cli.proofs.Runs.InMemory.{memory_writer}
+use Rattle.dcm_cli.proofs.Runs.InMemory.{memory_reader, memory_writer}
 use Rattle.dcm_cli.proofs.Runs.OpenedMemory.{input_opened}
 use Rattle.dcm_tables.specs.Deciding.{DoesRow, row_written, row_unwritten, row_unread}
 use Rattle.dcm_tables.specs.RowOf.{RowOf}
 use Rattle.dcm_tables.specs.Table as table
-use Rattle.dcm_tables.specs.Table.{OpensAt, not_tried, opened_at, DoesAt, not_opened, done_at, DoesName, DoneSoFar, none_done, and_done, DoesAll, all_names, failed_at, WritesTable, headed, not_headed, header_bytes}
+use Rattle.dcm_tables.specs.Table.{OpensAt, not_tried, opened_at, DoesAt, not_opened, done_at, DoesName, DoneSoFar, none_done, and_done, DoesAll, all_names, failed_at}
 use Rattle.dcm_tables.specs.TableInMemory.{Rows, no_rows, and_rows, AllCome, file_of, unopened, row_with, FileComes, most_of_part, most_of}
 use Rattle.dcm_tables.proofs.OneRow.{one_row}
-use Rattle.dcm_tables.proofs.RowsAlike.{split, both_rows, rows_none}
+use Rattle.dcm_tables.proofs.RowsAlike.{Split, split, both_rows, rows_none}
 
 -- ---- lines
 
@@ -142,122 +142,134 @@ less_then a b c first from mid to n x y = record {
 
 -- ---- one file
 
-module _ (gets : MemIn → Option (List ℕ) → MemIn → Type 0) where
-  -- the members of a reader of memory, of which the calls may say more
-  abbrev pub reader : Reader MemIn
-  reader = record { has_failed = λ m. false; remaining = λ m. Some m.rest.now; gets = gets }
+module _ (columns : List Tag) (form : TextForm) (name : List ℕ) (errors : Change) (from to : Measured) where
+  alike : (a b : Rows) (r t : Result ℕ WriteFailed) → a ≡ b → r ≡ t → Left a errors from to r → Left b errors from to t
+  alike a b r t e f left = subst (λ (z : Rows). Left z errors from to t) e (subst (Left a errors from to) f left)
 
-  module _ (columns : List Tag) (form : TextForm) (name : List ℕ) (errors : Change) (from to : Measured) where
-    alike : (a b : Rows) (r t : Result ℕ WriteFailed) → a ≡ b → r ≡ t → Left a errors from to r → Left b errors from to t
-    alike a b r t e f left = subst (λ (z : Rows). Left z errors from to t) e (subst (Left a errors from to) f left)
+  -- it has the row of its bytes
+  same_row : (bytes : List ℕ) (cells : List Slot) (end : RowEnd) (rows : Rows) → RowOf columns bytes cells end → FileComes columns form name (Some bytes) rows → row_with form name cells end ≡ rows
+  same_row bytes cells end rows row (others, other, is, same) =
+      let one = one_row columns bytes cells others end other row is in
+      (λ i. row_with form name (one.0 i) (one.1 i)) ∙ sym same
 
-    -- it has the row of its bytes
-    same_row : (bytes : List ℕ) (cells : List Slot) (end : RowEnd) (rows : Rows) → RowOf columns bytes cells end → FileComes columns form name (Some bytes) rows → row_with form name cells end ≡ rows
-    same_row bytes cells end rows row (others, other, is, same) =
-        let one = one_row columns bytes cells others end other row is in
-        (λ i. row_with form name (one.0 i) (one.1 i)) ∙ sym same
+  pub row_left : (input left : MemIn) (result : Result ℕ WriteFailed) (rows : Rows) → DoesRow memory_reader memory_writer columns form name errors from to input result left → FileComes columns form name (Some input.rest.now) rows
+      → Left rows errors from to result
+  row_left input left result rows (row_written cells end decides went failed reports is) comes =
+      let k = known memory_reader _ input left decides.given decides.how decides.reads input.rest.now refl in
+      let row = subst (λ (bytes : List ℕ). RowOf columns bytes cells end) (sym k.2) (decides.comes k.0 k.1) in
+      alike (row_with form name cells end) rows _ result (same_row input.rest.now cells end rows row comes) (sym is)
+      (record { text = went.text; spelled = went.spelled; grown = went.grown; fine = failed; told = told_of errors _ reports; status_is = refl })
+  row_left input left result rows (row_unwritten cells end failure decides went failed reports is) comes =
+      let k = known memory_reader _ input left decides.given decides.how decides.reads input.rest.now refl in
+      let row = subst (λ (bytes : List ℕ). RowOf columns bytes cells end) (sym k.2) (decides.comes k.0 k.1) in
+      alike (row_with form name cells end) rows (Err failure) result (same_row input.rest.now cells end rows row comes) (sym is)
+      (record { less = went.front.front; grown = went.front.grown; fewer = front_fewer (row_with form name cells end).parts went; failed = failed })
+    where
+      front_fewer : (parts : List Part) (a : AppendsFrontOfParts (held from) (held to) parts) → length a.front.front < most_of parts
+      front_fewer parts a =
+          let short = front_less a.front in
+          let most = text_most a.first a.text a.spelled in
+          let all = ap most_of a.whole ∙ most_both a.first a.others in
+          omega (arith, short, most, all)
+  row_left input left result rows (row_unread cells count decides same reports is) comes = absurd (let no : false ≡ true = decides.failed in cc)
 
-    pub row_left : (input left : MemIn) (result : Result ℕ WriteFailed) (rows : Rows) → DoesRow reader memory_writer columns form name errors from to input result left → FileComes columns form name (Some input.rest.now) rows
-        → Left rows errors from to result
-    row_left input left result rows (row_written cells end decides went failed reports is) comes =
-        let k = known reader _ input left decides.given decides.how decides.reads input.rest.now refl in
-        let row = subst (λ (bytes : List ℕ). RowOf columns bytes cells end) (sym k.2) (decides.comes k.0 k.1) in
-        alike (row_with form name cells end) rows _ result (same_row input.rest.now cells end rows row comes) (sym is)
-        (record { text = went.text; spelled = went.spelled; grown = went.grown; fine = failed; told = told_of errors _ reports; status_is = refl })
-    row_left input left result rows (row_unwritten cells end failure decides went failed reports is) comes =
-        let k = known reader _ input left decides.given decides.how decides.reads input.rest.now refl in
-        let row = subst (λ (bytes : List ℕ). RowOf columns bytes cells end) (sym k.2) (decides.comes k.0 k.1) in
-        alike (row_with form name cells end) rows (Err failure) result (same_row input.rest.now cells end rows row comes) (sym is)
-        (record { less = went.front.front; grown = went.front.grown; fewer = front_fewer (row_with form name cells end).parts went; failed = failed })
-      where
-        front_fewer : (parts : List Part) (a : AppendsFrontOfParts (held from) (held to) parts) → length a.front.front < most_of parts
-        front_fewer parts a =
-            let short = front_less a.front in
-            let most = text_most a.first a.text a.spelled in
-            let all = ap most_of a.whole ∙ most_both a.first a.others in
-            omega (arith, short, most, all)
-    row_left input left result rows (row_unread cells count decides same reports is) comes = absurd (let no : false ≡ true = decides.failed in cc)
+-- ---- one name
 
-  -- ---- one name
+-- what was opened holds the bytes at the path
+abbrev pub IsOpened : Option (List ℕ) → Option (Opened MemIn) → Type 0
+IsOpened bytes None = bytes ≡ None
+IsOpened bytes (Some i) = bytes ≡ Some i.device.rest.now
 
-  -- what was opened holds the bytes at the path
-  abbrev IsOpened : Option (List ℕ) → Option (Opened MemIn) → Type 0
-  IsOpened bytes None = bytes ≡ None
-  IsOpened bytes (Some i) = bytes ≡ Some i.device.rest.now
+chosen : (b c : Bool) (x : Option (List ℕ)) → b ≡ c → (if b then x else None) ≡ (if c then x else None)
+chosen b c x e = ap (λ (t : Bool). if t then x else None) e
 
-  chosen : (b c : Bool) (x : Option (List ℕ)) → b ≡ c → (if b then x else None) ≡ (if c then x else None)
-  chosen b c x e = ap (λ (t : Bool). if t then x else None) e
+pub opened_is : (s : MemSystem) (b : Bool) (path : List ℕ) (o : Option (Opened MemIn)) (mid : MemSystem) → OpensAt may_do b path s o mid → IsOpened (if b then bytes_at s path else None) o × (mid ≡ s)
+opened_is s b path o mid (not_tried shut none same) =
+    (subst (IsOpened (if b then bytes_at s path else None)) (sym none) (chosen b false (bytes_at s path) shut), same)
+opened_is s b path o mid (table.refused cause can tried none) =
+    let f = input_opened s path (Err cause) mid tried in
+    (subst (IsOpened (if b then bytes_at s path else None)) (sym none) (chosen b true (bytes_at s path) can ∙ f.0.0), f.1)
+opened_is s b path o mid (opened_at i can tried some) =
+    let f = input_opened s path (Ok i) mid tried in
+    (subst (IsOpened (if b then bytes_at s path else None)) (sym some) (chosen b true (bytes_at s path) can ∙ f.0.0), f.1)
 
-  opened_is : (s : MemSystem) (b : Bool) (path : List ℕ) (o : Option (Opened MemIn)) (mid : MemSystem) → OpensAt may_do b path s o mid → IsOpened (if b then bytes_at s path else None) o × (mid ≡ s)
-  opened_is s b path o mid (not_tried shut none same) =
-      (subst (IsOpened (if b then bytes_at s path else None)) (sym none) (chosen b false (bytes_at s path) shut), same)
-  opened_is s b path o mid (table.refused cause can tried none) =
-      let f = input_opened s path (Err cause) mid tried in
-      (subst (IsOpened (if b then bytes_at s path else None)) (sym none) (chosen b true (bytes_at s path) can ∙ f.0.0), f.1)
-  opened_is s b path o mid (opened_at i can tried some) =
-      let f = input_opened s path (Ok i) mid tried in
-      (subst (IsOpened (if b then bytes_at s path else None)) (sym some) (chosen b true (bytes_at s path) can ∙ f.0.0), f.1)
+-- nothing was opened, and that was reported
+pub unopened_left : (name : List ℕ) (rows : Rows) (errors : Change) (from to : Measured) (result : Result ℕ WriteFailed) → rows ≡ unopened name → Reports errors (unopened name).lines → to ≡ from → result ≡ Ok (unopened name).status → Left rows errors from to result
+unopened_left name rows errors from to result none line same is =
+    subst (λ (z : Rows). Left z errors from to result) (sym none)
+    (subst (Left (unopened name) errors from to) (sym is)
+    (record { text = []; spelled = refl; grown = ap held same ∙ sym (append_known_none (held from)); fine = ap (λ (m : Measured). m.out.failed) same; told = told_of errors _ line; status_is = refl }))
 
-  -- nothing was opened, and that was reported
-  unopened_left : (name : List ℕ) (rows : Rows) (errors : Change) (from to : Measured) (result : Result ℕ WriteFailed) → rows ≡ unopened name → Reports errors (unopened name).lines → to ≡ from → result ≡ Ok (unopened name).status → Left rows errors from to result
-  unopened_left name rows errors from to result none line same is =
-      subst (λ (z : Rows). Left z errors from to result) (sym none)
-      (subst (Left (unopened name) errors from to) (sym is)
-      (record { text = []; spelled = refl; grown = ap held same ∙ sym (append_known_none (held from)); fine = ap (λ (m : Measured). m.out.failed) same; told = told_of errors _ line; status_is = refl }))
+module _ (s : MemSystem) (columns : List Tag) (form : TextForm) where
+  pub at_left : (name path : List ℕ) (rows : Rows) (errors : Change) (from to : Measured) (result : Result ℕ WriteFailed) (after : MemSystem)
+      → DoesAt may_do (DoesRow memory_reader memory_writer columns form) name path (can_be_opened name) errors from to s result after → FileComes columns form name (file_of s name path) rows
+      → Left rows errors from to result × (after ≡ s)
+  at_left name path rows errors from to result after (not_opened opens line same is) comes =
+      let o = opened_is s (can_be_opened name) path None after opens in
+      (unopened_left name rows errors from to result (subst (λ (f : Option (List ℕ)). FileComes columns form name f rows) o.0 comes) line same is, o.1)
+  at_left name path rows errors from to result after (done_at i left has opens does back) comes =
+      let o = opened_is s (can_be_opened name) path (Some i) has opens in
+      (row_left columns form name errors from to i.device left result rows does (subst (λ (f : Option (List ℕ)). FileComes columns form name f rows) o.0 comes), back ∙ o.1)
 
-  module _ (s : MemSystem) (columns : List Tag) (form : TextForm) where
-    pub at_left : (name path : List ℕ) (rows : Rows) (errors : Change) (from to : Measured) (result : Result ℕ WriteFailed) (after : MemSystem)
-        → DoesAt may_do (DoesRow reader memory_writer columns form) name path (can_be_opened name) errors from to s result after → FileComes columns form name (file_of s name path) rows
+-- ---- names, one after another
+
+-- nothing was done
+pub nothing_left : (errors : Change) (from to : Measured) (rows : Rows) (status : ℕ) → Reports errors [] → to ≡ from → rows ≡ no_rows → status ≡ DONE → All rows errors from to status
+nothing_left errors from to rows status line same none is =
+    subst (λ (z : Rows). All z errors from to status) (sym none)
+    (record { text = []; spelled = refl; grown = ap held same ∙ sym (append_known_none (held from)); fine = ap (λ (m : Measured). m.out.failed) same; told = told_of errors _ line; status_is = is })
+
+-- the last of several
+last_rows : (first later end rows : Rows) → rows ≡ and_rows first later → later ≡ and_rows end no_rows → rows ≡ and_rows first end
+last_rows first later end rows e f = e ∙ both_rows refl (f ∙ rows_none end)
+
+module _ {X : Type 0} (s : MemSystem) (Does : X → table.Writing MemSystem Measured) (Comes : X → Rows → Type 0)
+    (name_left : (name : X) (rows : Rows) (errors : Change) (from to : Measured) (result : Result ℕ WriteFailed) (after : MemSystem) → Does name errors from to s result after → Comes name rows → Left rows errors from to result × (after ≡ s)) where
+  -- one name after others
+  pub one_more : (others : List X) (name : X) (rows : Rows) (p : Split Comes others (name ∷ []) rows) (errors of_others of_name : Change) (from mid to : Measured) (reached ended status : ℕ) (between after : MemSystem)
+      → All p.first of_others from mid reached × (between ≡ s) → Does name of_name mid to between (Ok ended) after → Follows errors of_others of_name → status ≡ max reached ended → All rows errors from to status × (after ≡ s)
+  one_more others name rows p errors of_others of_name from mid to reached ended status between after first does follows is =
+      let one = p.of_later in
+      let next = name_left name one.0 of_name mid to (Ok ended) after (subst (λ (z : MemSystem). Does name of_name mid to z (Ok ended) after) first.1 does) one.2 in
+      let later : p.later ≡ and_rows one.0 no_rows = one.4 ∙ both_rows refl one.3 in (
+        subst (λ (z : Rows). All z errors from to status) (sym (last_rows p.first p.later one.0 rows p.whole later))
+            (all_then p.first one.0 errors of_others of_name from mid to status reached ended first.0 next.0 follows is),
+        next.1,
+      )
+
+  -- and the output failed at it
+  pub one_failed : (others later : List X) (name : X) (rows : Rows) (p : Split Comes others (name ∷ later) rows) (of_others of_name : Change) (from mid to : Measured) (reached : ℕ) (failure : WriteFailed) (between after : MemSystem)
+      → All p.first of_others from mid reached × (between ≡ s) → Does name of_name mid to between (Err failure) after → Less rows from to × (after ≡ s)
+  one_failed others later name rows p of_others of_name from mid to reached failure between after first does =
+      let one = p.of_later in
+      let next = name_left name one.0 of_name mid to (Err failure) after (subst (λ (z : MemSystem). Does name of_name mid to z (Err failure) after) first.1 does) one.2 in (
+        subst (λ (z : Rows). Less z from to) (sym (p.whole ∙ both_rows refl one.4))
+            (less_then p.first one.0 one.1 of_others from mid to reached first.0 next.0),
+        next.1,
+      )
+
+module _ (s : MemSystem) (columns : List Tag) (form : TextForm) where
+  abbrev Does : table_words.Name → table.Writing MemSystem Measured
+  Does name errors from to before result after = DoesName may_do memory_reader (DoesRow memory_reader memory_writer columns form) name errors from to before result after
+
+  module _ (Comes : table_words.Name → Rows → Type 0)
+      (name_left : (name : table_words.Name) (rows : Rows) (errors : Change) (from to : Measured) (result : Result ℕ WriteFailed) (after : MemSystem) → Does name errors from to s result after → Comes name rows → Left rows errors from to result × (after ≡ s)) where
+    so_far_left : (from : Measured) (errors : Change) (to : Measured) (names : List table_words.Name) (status : ℕ) (after : MemSystem) (rows : Rows) → DoneSoFar Does from s errors to names status after → AllCome Comes names rows
+        → All rows errors from to status × (after ≡ s)
+    so_far_left from errors to names status after rows (none_done line same none is was) come =
+        (nothing_left errors from to rows status line same (subst (λ (ns : List table_words.Name). AllCome Comes ns rows) none come) is, was)
+    so_far_left from errors to names status after rows (and_done others name reached ended mid between of_others of_name so_far does follows whole is) come =
+        let p = split Comes others (name ∷ []) rows (subst (λ (ns : List table_words.Name). AllCome Comes ns rows) whole come) in
+        let first = so_far_left from of_others mid others reached between p.first so_far p.of_first in
+        one_more s Does Comes name_left others name rows p errors of_others of_name from mid to reached ended status between after first does follows is
+
+    pub all_left : (names : List table_words.Name) (errors : Change) (from to : Measured) (result : Result ℕ WriteFailed) (after : MemSystem) (rows : Rows) → DoesAll Does names errors from to s result after → AllCome Comes names rows
         → Left rows errors from to result × (after ≡ s)
-    at_left name path rows errors from to result after (not_opened opens line same is) comes =
-        let o = opened_is s (can_be_opened name) path None after opens in
-        (unopened_left name rows errors from to result (subst (λ (f : Option (List ℕ)). FileComes columns form name f rows) o.0 comes) line same is, o.1)
-    at_left name path rows errors from to result after (done_at i left has opens does back) comes =
-        let o = opened_is s (can_be_opened name) path (Some i) has opens in
-        (row_left columns form name errors from to i.device left result rows does (subst (λ (f : Option (List ℕ)). FileComes columns form name f rows) o.0 comes), back ∙ o.1)
-
-    -- ---- names, one after another
-
-    abbrev Does : table_words.Name → table.Writing MemSystem Measured
-    Does name errors from to before result after = DoesName may_do reader (DoesRow reader memory_writer columns form) name errors from to before result after
-
-    module _ (Comes : table_words.Name → Rows → Type 0)
-        (name_left : (name : table_words.Name) (rows : Rows) (errors : Change) (from to : Measured) (result : Result ℕ WriteFailed) (after : MemSystem) → Does name errors from to s result after → Comes name rows → Left rows errors from to result × (after ≡ s)) where
-      -- the last of several
-      last_rows : (first later end rows : Rows) → rows ≡ and_rows first later → later ≡ and_rows end no_rows → rows ≡ and_rows first end
-      last_rows first later end rows e f = e ∙ both_rows refl (f ∙ rows_none end)
-
-      so_far_left : (from : Measured) (errors : Change) (to : Measured) (names : List table_words.Name) (status : ℕ) (after : MemSystem) (rows : Rows) → DoneSoFar Does from s errors to names status after → AllCome Comes names rows
-          → All rows errors from to status × (after ≡ s)
-      so_far_left from errors to names status after rows (none_done line same none is was) come =
-          let no : rows ≡ no_rows = subst (λ (ns : List table_words.Name). AllCome Comes ns rows) none come in (
-            subst (λ (z : Rows). All z errors from to status) (sym no)
-                (record { text = []; spelled = refl; grown = ap held same ∙ sym (append_known_none (held from)); fine = ap (λ (m : Measured). m.out.failed) same; told = told_of errors _ line; status_is = is }),
-            was,
-          )
-      so_far_left from errors to names status after rows (and_done others name reached ended mid between of_others of_name so_far does follows whole is) come =
-          let p = split Comes others (name ∷ []) rows (subst (λ (ns : List table_words.Name). AllCome Comes ns rows) whole come) in
-          let first = so_far_left from of_others mid others reached between p.first so_far p.of_first in
-          let one = p.of_later in
-          let next = name_left name one.0 of_name mid to (Ok ended) after (subst (λ (z : MemSystem). Does name of_name mid to z (Ok ended) after) first.1 does) one.2 in
-          let later : p.later ≡ and_rows one.0 no_rows = one.4 ∙ both_rows refl one.3 in (
-            subst (λ (z : Rows). All z errors from to status) (sym (last_rows p.first p.later one.0 rows p.whole later))
-                (all_then p.first one.0 errors of_others of_name from mid to status reached ended first.0 next.0 follows is),
-            next.1,
-          )
-
-      pub all_left : (names : List table_words.Name) (errors : Change) (from to : Measured) (result : Result ℕ WriteFailed) (after : MemSystem) (rows : Rows) → DoesAll Does names errors from to s result after → AllCome Comes names rows
-          → Left rows errors from to result × (after ≡ s)
-      all_left names errors from to result after rows (all_names status so_far is) come =
-          let l = so_far_left from errors to names status after rows so_far come in
-          (subst (Left rows errors from to) (sym is) l.0, l.1)
-      all_left names errors from to result after rows (failed_at others later name status mid between of_others of_name failure so_far does follows whole is) come =
-          let p = split Comes others (name ∷ later) rows (subst (λ (ns : List table_words.Name). AllCome Comes ns rows) whole come) in
-          let first = so_far_left from of_others mid others status between p.first so_far p.of_first in
-          let one = p.of_later in
-          let next = name_left name one.0 of_name mid to (Err failure) after (subst (λ (z : MemSystem). Does name of_name mid to z (Err failure) after) first.1 does) one.2 in (
-            subst (Left rows errors from to) (sym is)
-                (subst (λ (z : Rows). Less z from to) (sym (p.whole ∙ both_rows refl one.4))
-                (less_then p.first one.0 one.1 of_others from mid to status first.0 next.0)),
-            next.1,
-          )
+    all_left names errors from to result after rows (all_names status so_far is) come =
+        let l = so_far_left from errors to names status after rows so_far come in
+        (subst (Left rows errors from to) (sym is) l.0, l.1)
+    all_left names errors from to result after rows (failed_at others later name status mid between of_others of_name failure so_far does follows whole is) come =
+        let p = split Comes others (name ∷ later) rows (subst (λ (ns : List table_words.Name). AllCome Comes ns rows) whole come) in
+        let first = so_far_left from of_others mid others status between p.first so_far p.of_first in
+        let l = one_failed s Does Comes name_left others later name rows p of_others of_name from mid to status failure between after first does in
+        (subst (Left rows errors from to) (sym is) l.0, l.1)

@@ -10,7 +10,8 @@ use Rattle.dcm_files.specs.declared.opened.Opened.{Opened}
 use Rattle.dcm_files.specs.Devices.{MayDo, OpensInput}
 use Rattle.dcm_names.specs.NamedLines.{unopened_line, unread_line}
 use Rattle.dcm_names.specs.Names.{can_be_opened, names_of}
-use Rattle.dcm_names.specs.Reader.{Calls, AnswersEnd, AnswersUnread}
+use Rattle.dcm_names.specs.declared.list_reader.NextName.TheVariants.{Unread}
+use Rattle.dcm_names.specs.Reader.{Calls, AnswersEnd, AnswersUnread, TellsNext}
 use Rattle.dcm_table.specs.declared.column.Column.{Column}
 use Rattle.dcm_table.specs.declared.quoted.TextForm.{TextForm}
 use Rattle.dcm_table.specs.Quoted.{quoted}
@@ -86,26 +87,26 @@ pub data Listed {S I W : Type 0} (gets : I → Option (List ℕ) → I → Type 
       → Follows errors of_others of_name → given ≡ earlier ++ more → names ≡ others ++ name ∷ []
       → status ≡ max reached ended → Listed gets Does from input before errors to given left is_over names status after
 
--- all names of a list that was read to its end were done; or reading it failed, which is reported after the names whose
--- lines had ended; or the output failed at one of its names, and no other was done
-pub data DoesNames {S I W : Type 0} (gets : I → Option (List ℕ) → I → Type 0) (Does : List ℕ → Writing S W)
-    (path : List ℕ) (errors : Change) (from to : W) (input left : I) (before : S) (result : Result ℕ WriteFailed)
-    (after : S) : Type 0 where
+-- all names of a list that was read to its end were done; or its reader failed, or it has too many bytes, which is
+-- reported after the names whose lines had ended; or the output failed at one of its names, and no other was done
+pub data DoesNames {S I W : Type 0} (r : Reader I) (Does : List ℕ → Writing S W) (path : List ℕ) (errors : Change)
+    (from to : W) (input left : I) (before : S) (result : Result ℕ WriteFailed) (after : S) : Type 0 where
   all_done : (given : List ℕ) (was_over : Bool) (names : List (List ℕ)) (status : ℕ) (at : I)
-      → Listed gets Does from input before errors to given at was_over names status after
-      → AnswersEnd gets was_over at left given names → result ≡ Ok status
-      → DoesNames gets Does path errors from to input left before result after
+      → Listed r.gets Does from input before errors to given at was_over names status after
+      → AnswersEnd r.gets was_over at left given names → result ≡ Ok status
+      → DoesNames r Does path errors from to input left before result after
   not_read : (given : List ℕ) (names : List (List ℕ)) (status count : ℕ) (at : I) (of_names of_line : Change)
-      → Listed gets Does from input before of_names to given at false names status after
-      → AnswersUnread gets false at left given names count → Reports of_line (unread_line path count)
+      → Listed r.gets Does from input before of_names to given at false names status after
+      → AnswersUnread r.gets false at left given names count
+      → TellsNext (r.has_failed at) (r.has_failed left) (Unread count) → Reports of_line (unread_line path count)
       → Follows errors of_names of_line → result ≡ Ok DEVICE
-      → DoesNames gets Does path errors from to input left before result after
+      → DoesNames r Does path errors from to input left before result after
   not_written : (given more : List ℕ) (names others : List (List ℕ)) (name : List ℕ) (is_over : Bool) (status : ℕ)
       (mid : W) (at : I) (between : S) (of_names of_name : Change) (failure : WriteFailed)
-      → Listed gets Does from input before of_names mid given at false names status between
-      → Calls gets is_over at more left → names_of (given ++ more) is_over ≡ names ++ name ∷ others
+      → Listed r.gets Does from input before of_names mid given at false names status between
+      → Calls r.gets is_over at more left → names_of (given ++ more) is_over ≡ names ++ name ∷ others
       → Does name of_name mid to between (Err failure) after → Follows errors of_names of_name → result ≡ Err failure
-      → DoesNames gets Does path errors from to input left before result after
+      → DoesNames r Does path errors from to input left before result after
 
 -- a list cannot be opened, and that is reported; or it was opened, its names were done, and it was given back exactly as
 -- that left it
@@ -115,7 +116,7 @@ pub data DoesList {S I O W : Type 0} (may : MayDo S I O) (r : Reader I) (Does : 
       → result ≡ Ok DEVICE → DoesList may r Does path errors from to before result after
   list_done : (i : Opened I) (left : I) (has_list has_read : S)
       → OpensAt may (can_be_opened path) path before (Some i) has_list
-      → DoesNames r.gets Does path errors from to i.device left has_list result has_read
+      → DoesNames r Does path errors from to i.device left has_list result has_read
       → may.releases has_read left after → DoesList may r Does path errors from to before result after
 
 -- ---- all names

@@ -1,14 +1,14 @@
 -- What words that ask for a table come to over files in memory: the header, and then the rows of all files in the order
 -- of their names, each as if its file were alone.
-use Rattle.std.specs.Prelude.{◌≡◌, ◌≤◌, ◌⊎◌, ℕ, ◌+◌, max, List, [], ◌∷◌, ◌++◌, length, map, Bool, true, false}
-use Rattle.std.specs.Prelude.{Option, Some, None, Result, Ok, Err, if◌then◌else◌}
-use Rattle.std.specs.List.{list_any}
+use Rattle.std.specs.Prelude.{◌≡◌, ◌≤◌, ◌⊎◌, ℕ, ◌+◌, max, List, [], ◌∷◌, ◌++◌, length, map, true, false}
+use Rattle.std.specs.Prelude.{Option, Some, None, IfSome, Result, Ok, Err, if◌then◌else◌}
 use Rattle.dcm_base.specs.declared.tag.Tag.{Tag}
 use Rattle.dcm_devices.specs.Memory.{written, room_of}
 use Rattle.dcm_devices.specs.declared.memory.MemOut.{MemOut}
 use Rattle.dcm_files.specs.declared.memory.MemSystem.{MemSystem}
 use Rattle.dcm_names.specs.Names.{can_be_opened, names_of}
 use Rattle.dcm_names.specs.NamedLines.{unopened_line}
+use Rattle.dcm_names.specs.Reader.{READ_LIMIT}
 use Rattle.dcm_table.specs.declared.column.Column.{Column}
 use Rattle.dcm_table.specs.declared.ending.RowEnd.{RowEnd}
 use Rattle.dcm_table.specs.declared.quoted.TextForm.{TextForm}
@@ -161,13 +161,19 @@ no_memory = record {
 abbrev pub MeansTable : (words : List (List ℕ)) → Type 0
 MeansTable words = (t : table_words.Table) × (table_words.meant_table words ≡ Ok t)
 
-abbrev pub is_list : table_words.Name → Bool
-is_list (table_words.list path) = true
-is_list (table_words.file path) = false
+-- a list among the words has at most as many bytes as are read of one
+abbrev pub IsReadWhole : MemSystem → table_words.Name → Type 0
+IsReadWhole s (table_words.file path) = Unit {0}
+IsReadWhole s (table_words.list path) = IfSome (file_of s path path) (λ bytes. length bytes ≤ READ_LIMIT)
 
--- all names of the table that they mean are of files
-abbrev pub NamesNoList : (words : List (List ℕ)) → Type 0
-NamesNoList words = (t : table_words.Table) → table_words.meant_table words ≡ Ok t → list_any is_list t.names ≡ false
+abbrev pub AreReadWhole : MemSystem → List table_words.Name → Type 0
+AreReadWhole s [] = Unit {0}
+AreReadWhole s (name ∷ names) = IsReadWhole s name × AreReadWhole s names
+
+-- so has each list of the table that words mean
+abbrev pub ListsAreReadWhole : (words : List (List ℕ)) → MemSystem → Type 0
+ListsAreReadWhole words s =
+    (t : table_words.Table) → table_words.meant_table words ≡ Ok t → AreReadWhole s t.names
 
 -- what the words come to, where there is room for it; or memory was refused to the cells of the table that they mean
 abbrev pub TablesInMemory : (words : List (List ℕ)) → MemSystem → (errors_before : MemOut) → (output : Option MemOut)

@@ -1,7 +1,7 @@
 // Obeying words over files in memory.
 ghost use Rattle.std.specs.Prelude.{◌≡◌, map, true, false};
 ghost use Rattle.dcm_cli.specs.InMemory.{ObeysInMemory};
-ghost use Rattle.dcm_tables.specs.TableInMemory.{NamesNoList, TablesInMemory};
+ghost use Rattle.dcm_tables.specs.TableInMemory.{ListsAreReadWhole, TablesInMemory};
 ghost use Rattle.dcm_tables.specs.TableProgram.{asks_table};
 
 use crate::program::obey;
@@ -10,16 +10,18 @@ use dcm_cli::in_memory::Obeyed;
 use dcm_files::MemSystem;
 use std::alloc::Global;
 
-/// Obeys words over files in memory. Where they ask for a table of files and there is room for it, the output is the
-/// header and the row of each file, in the order of the names, and each row is what the bytes of its file give. Where
-/// there is room for the lines, they are written too. Other words are obeyed as `dcm_cli` does.
+/// Obeys words over files in memory. Where they ask for a table and there is room for it, the output is the header and
+/// the row of each file, in the order of the names, and each row is what the bytes of its file give. A list has the names
+/// in the bytes of its file, and at most 2^62 of them are read. Where there is room for the lines, they are written too.
+/// Other words are obeyed as `dcm_cli` does.
 pub fn obey_in_memory<'a>(
     alloc: Global,
     words: &[&[u8]],
     system: MemSystem<'a>,
     errors: MemOut,
 ) -> Obeyed
-    ensures tables { asks_table (map (λ w. w.now) words.now) ≡ true → NamesNoList (map (λ w. w.now) words.now)
+    ensures tables { asks_table (map (λ w. w.now) words.now) ≡ true
+        → ListsAreReadWhole (map (λ w. w.now) words.now) system.entry
         → TablesInMemory (map (λ w. w.now) words.now) system.entry errors result.written result.errors result.status }
     ensures others { asks_table (map (λ w. w.now) words.now) ≡ false
         → ObeysInMemory (map (λ w. w.now) words.now) system.entry errors result.written result.errors result.status }

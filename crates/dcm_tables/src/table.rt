@@ -116,7 +116,7 @@ fn do_names<S: System, W: DeviceOut, E: DeviceOut>(
     out: &mut Watched<W>,
     errors: &mut Watched<E>,
 ) -> Ends
-    ensures does { spec.DoesNames S.Input.DeviceIn.gets
+    ensures does { spec.DoesNames S.Input.DeviceIn
         (spec.DoesListed S.may_do (DoesFile S.Input.DeviceIn W.DeviceOut (cleared cells.old) form)) list.now
         (change_of E.DeviceOut errors.old errors.new) out.old out.new input.old input.new system.old result
         system.new }

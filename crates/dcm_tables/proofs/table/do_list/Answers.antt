@@ -17,6 +17,6 @@ pub returns-clause-does : goal.returns-clause-does
 returns-clause-does g c =
     list_done c.in-Some.opened c.do_names-ends.new.input c.open_at.new.system c.do_names-ends.new.system
     (subst (λ (b : Bool). OpensAt g.S.System.may_do b c.args.list.now c.args.system.now (Some c.in-Some.opened) c.open_at.new.system) c.can_be_opened.ensures c.in-Some.ensures)
-    (subst (λ input. DoesNames g.S.Input.DeviceIn.gets (DoesListed g.S.System.may_do (DoesFile (members g.S.Input.Device g.S.Input.DeviceIn) (writer g.W.Device g.W.DeviceOut) (cleared c.args.cells.now) c.args.form)) c.args.list.now (change_of (writer g.E.Device g.E.DeviceOut) c.args.errors.now c.do_names-ends.new.errors) c.args.out.now c.do_names-ends.new.out input c.do_names-ends.new.input c.open_at.new.system c.do_names-ends.result c.do_names-ends.new.system)
+    (subst (λ input. DoesNames (members g.S.Input.Device g.S.Input.DeviceIn) (DoesListed g.S.System.may_do (DoesFile (members g.S.Input.Device g.S.Input.DeviceIn) (writer g.W.Device g.W.DeviceOut) (cleared c.args.cells.now) c.args.form)) c.args.list.now (change_of (writer g.E.Device g.E.DeviceOut) c.args.errors.now c.do_names-ends.new.errors) c.args.out.now c.do_names-ends.new.out input c.do_names-ends.new.input c.open_at.new.system c.do_names-ends.result c.do_names-ends.new.system)
     c.new-input.ensures c.do_names-ends.ensures.does)
     (subst (λ input. g.S.System.may_do.releases c.do_names-ends.new.system input c.release.new.self) c.into_device.ensures c.release.ensures)

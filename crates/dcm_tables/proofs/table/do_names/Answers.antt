@@ -28,7 +28,7 @@ loop-names-preserved g c =
       given = loop.invariant.given ++ a.more;
       front = loop.invariant.front ++ a.name ∷ [];
       read = a.has_read;
-      done = listed_more (writer g.E.Device g.E.DeviceOut) g.S.Input.DeviceIn.gets (DoesListed g.S.System.may_do (DoesFile (members g.S.Input.Device g.S.Input.DeviceIn) (writer g.W.Device g.W.DeviceOut) (cleared c.args.cells.now) c.args.form))
+      done = listed_more (writer g.E.Device g.E.DeviceOut) (members g.S.Input.Device g.S.Input.DeviceIn) (DoesListed g.S.System.may_do (DoesFile (members g.S.Input.Device g.S.Input.DeviceIn) (writer g.W.Device g.W.DeviceOut) (cleared c.args.cells.now) c.args.form))
           c.args.errors.now loop.errors c.do_listed.new.errors c.args.out.now loop.out c.do_listed.new.out c.args.input.now loop.input c.next.new.input c.args.system.now loop.system c.do_listed.new.system loop.invariant.given loop.names.is_over loop.invariant.front loop.status loop.invariant.done c.next.new.self a c.in_ok-ended-in-Name.ended _ (search rules)
           (subst (λ (first : State). DoesListed g.S.System.may_do (DoesFile (members g.S.Input.Device g.S.Input.DeviceIn) (writer g.W.Device g.W.DeviceOut) first c.args.form) a.name (change_of (writer g.E.Device g.E.DeviceOut) loop.errors c.do_listed.new.errors) loop.out c.do_listed.new.out loop.system (Ok c.in_ok-ended-in-Name.ended) c.do_listed.new.system)
           loop.invariant.kept (c.in_ok-ended-in-Name.ensures.does a.name a.held));
@@ -40,7 +40,7 @@ pub returns-in_err-ended-in-Name-clause-does : goal.returns-in_err-ended-in-Name
 returns-in_err-ended-in-Name-clause-does g c =
     let loop = c.loop-names in
     let a = c.in-Name.ensures.answers loop.invariant.given loop.invariant.front loop.invariant.read in
-    listed_failed (writer g.E.Device g.E.DeviceOut) g.S.Input.DeviceIn.gets (DoesListed g.S.System.may_do (DoesFile (members g.S.Input.Device g.S.Input.DeviceIn) (writer g.W.Device g.W.DeviceOut) (cleared c.args.cells.now) c.args.form))
+    listed_failed (writer g.E.Device g.E.DeviceOut) (members g.S.Input.Device g.S.Input.DeviceIn) (DoesListed g.S.System.may_do (DoesFile (members g.S.Input.Device g.S.Input.DeviceIn) (writer g.W.Device g.W.DeviceOut) (cleared c.args.cells.now) c.args.form))
     c.args.errors.now loop.errors c.do_listed.new.errors c.args.out.now loop.out c.do_listed.new.out c.args.input.now loop.input c.next.new.input c.args.system.now loop.system c.do_listed.new.system loop.invariant.given loop.names.is_over loop.invariant.front loop.status loop.invariant.done c.next.new.self c.args.list.now a c.in_err-ended-in-Name.field-0.0 _ (search rules)
     (subst (λ (first : State). DoesListed g.S.System.may_do (DoesFile (members g.S.Input.Device g.S.Input.DeviceIn) (writer g.W.Device g.W.DeviceOut) first c.args.form) a.name (change_of (writer g.E.Device g.E.DeviceOut) loop.errors c.do_listed.new.errors) loop.out c.do_listed.new.out loop.system (Err c.in_err-ended-in-Name.field-0.0) c.do_listed.new.system)
     loop.invariant.kept (c.in_err-ended-in-Name.ensures.does a.name a.held))
@@ -59,5 +59,6 @@ returns-in-Unread-clause-does g c =
     (subst (λ (b : Bool). Listed g.S.Input.DeviceIn.gets (DoesListed g.S.System.may_do (DoesFile (members g.S.Input.Device g.S.Input.DeviceIn) (writer g.W.Device g.W.DeviceOut) (cleared c.args.cells.now) c.args.form))
     c.args.out.now c.args.input.now c.args.system.now (change_of (writer g.E.Device g.E.DeviceOut) c.args.errors.now loop.errors) loop.out loop.invariant.given loop.input b loop.invariant.front loop.status loop.system) unread.going loop.invariant.done)
     (subst (λ (b : Bool). AnswersUnread g.S.Input.DeviceIn.gets b loop.input c.next.new.input loop.invariant.given loop.invariant.front c.in-Unread.read) unread.going unread)
+    c.in-Unread.ensures.failed
     (told (writer g.E.Device g.E.DeviceOut) loop.errors c.put_unread.new.errors _ c.put_unread.result c.put_unread.ensures)
     (follows (writer g.E.Device g.E.DeviceOut) c.args.errors.now loop.errors c.put_unread.new.errors) refl

@@ -1,4 +1,4 @@
-use Rattle.std.proofs.Common.{◌+◌, ◌-◌, ◌^◌, ◌≤◌, ℕ, List}
+use Rattle.std.proofs.Common.{◌≡◌, ◌+◌, ◌-◌, ◌^◌, ◌≤◌, ℕ, List}
 use Rattle.dcm_devices.specs.Device.{Gave}
 use Rattle.dcm_names.specs.Reader.{bytes_left}
 use Rattle.dcm_names.proofs.NameByName.{ReadOn}
@@ -11,6 +11,7 @@ invariant-loop-self g l = record {
   gave : Gave g.R.DeviceIn.gets l.fn.input more l.input;
   read : ReadOn l.fn.self l.self more;
   left : bytes_left l.self ≤ bytes_left l.fn.self;
+  failed : g.R.Device.has_failed l.input ≡ g.R.Device.has_failed l.fn.input;
 }
 
 abbrev pub decreases-loop-self : goal.decreases-loop-self
