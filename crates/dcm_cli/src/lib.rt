@@ -3,10 +3,9 @@
 //! - `run::run` does a job: it reads its input in pieces of at most 262,144 bytes, writes its output as it goes,
 //!   reports what is wrong, and answers how it ended. Its contract is the theorem of the whole.
 //! - `dump`, `convert`, `modify` and `build` are the work on the four kinds of jobs, by `head`, `pass` and `rewrite`.
-//! - `tell` and `tell_open` report words that are refused and files that cannot be opened; `status` has the exit
-//!   statuses.
-//! - `obey` does what words say, over any system that opens devices (`System`); `dcmtools` does it over the real one,
-//!   and `main` calls it.
+//! - `tell`, `tell_open` and `tell_unopened` report words that are refused and files that cannot be opened; `status` has
+//!   the exit statuses.
+//! - `obey` does what words say, over any system that opens devices (`System`), but for tables, which are above it.
 //!
 //! A run over memory:
 //!
@@ -44,4 +43,4 @@ mod syntax;
 
 pub use dcm_words::{Build, Convert, Deidentify, Dump, Job, Planned, Usage, asked, plan};
 pub use error_lines::{tell, tell_open, tell_output};
-pub use program::obey;
+pub use program::{obey, tell_unopened};

@@ -24,7 +24,7 @@ use std::alloc::Global;
 const DONE: Ending = Ending::Worked(Verdict::Done { unplaced: 0 });
 
 /// Reports why a job is not begun, and answers the status.
-fn tell_unopened<E: DeviceOut>(unopened: Unopened, errors: &mut Watched<E>) -> u8
+pub fn tell_unopened<E: DeviceOut>(unopened: Unopened, errors: &mut Watched<E>) -> u8
     ensures line { calls.Reports E.DeviceOut errors.old errors.new (spec.unopened_line unopened) }
     ensures status { result ≡ spec.unopened_status unopened }
 {

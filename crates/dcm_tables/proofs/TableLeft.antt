@@ -173,7 +173,7 @@ module _ (s new : MemSystem) (errors new_errors : MemOut) (status : ℕ) where
 
     makes_left : (t : table_words.Table) → table_words.meant_table words ≡ Ok t → MakesTable may_do memory_writer (WritesMeant may_do memory_reader memory_writer t) e s status new → LeftTable o ⊎ (MeansTable words × LeftTable no_memory)
     makes_left t means (program.no_cells none same) = inr ((t, means), leave no_memory (ap (λ (z : MemSystem). z.written) same) (told_of e _ none.line) none.status_is)
-    makes_left t means (program.no_stdout cause gave line is) =
+    makes_left t means (program.no_stdout cause which gave why line is) =
         let c = by (Ok t) means in
         absurd (room_refused (parts_of t c.0) s.room Other cause (subst (λ (q : TableOutcome). HasRoomFor q.parts s.room) c.2 room) gave.0)
     makes_left t means (program.made out output has_output has_written gave puts closes) =

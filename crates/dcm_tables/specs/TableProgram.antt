@@ -1,11 +1,14 @@
 -- What the program does with the words of its command line, which may ask for a table.
 use Rattle.std.specs.Prelude.{◌≡◌, ◌&&◌, ℕ, List, [], ◌∷◌, map, Bool, true, false, Some, None, is_none}
 use Rattle.std.specs.Prelude.{Ok, Err, codes, bytes_eq, if◌then◌else◌}
+use Rattle.std.specs.IoError.{error_kind}
 use Rattle.std.specs.declared.io.Error.{Error}
 use Rattle.dcm_devices.specs.declared.device.WriteFailed.{WriteFailed}
 use Rattle.dcm_devices.specs.Writing.{Writer}
 use Rattle.dcm_files.specs.declared.opened.Opened.{Opened}
-use Rattle.dcm_files.specs.Devices.{MayDo}
+use Rattle.dcm_files.specs.declared.opened.Unopened.{Unopened}
+use Rattle.dcm_files.specs.declared.opened.Unopened.TheVariants.{Output}
+use Rattle.dcm_files.specs.Devices.{MayDo, IsCause}
 use Rattle.dcm_words.specs.Topics.{asked}
 use Rattle.dcm_table.specs.declared.column.Column.{Column}
 use Rattle.dcm_table.specs.declared.column.Header.TheVariants.{Keyword}
@@ -17,8 +20,8 @@ use Rattle.dcm_table_words.specs.Table as table_words
 use Rattle.dcm_table_words.specs.Usages.{usage_line}
 use Rattle.dcm_cli.specs.Calls.{Reader}
 use Rattle.dcm_cli.specs.Change.{Change}
-use Rattle.dcm_cli.specs.ErrorLines.{Reports, open_line, output_line}
-use Rattle.dcm_cli.specs.Program.{Follows, NoMemory, Obeys}
+use Rattle.dcm_cli.specs.ErrorLines.{Reports, output_line}
+use Rattle.dcm_cli.specs.Program.{Follows, NoMemory, Obeys, unopened_line, unopened_status}
 use Rattle.dcm_cli.specs.Status.{DEVICE, USAGE}
 use Rattle.dcm_tables.specs.Table.{Writing, WritesTable}
 
@@ -65,8 +68,9 @@ pub data PutsTable {S O : Type 0} (w : Writer O) (Writes : Writing S O) (errors 
 pub data MakesTable {S I O : Type 0} (may : MayDo S I O) (w : Writer O) (Writes : Writing S O) (errors : Change)
     (before : S) (status : ℕ) (after : S) : Type 0 where
   no_cells : NoMemory errors status → after ≡ before → MakesTable may w Writes errors before status after
-  no_stdout : (cause : Error) → may.stdout before (Err cause) after → Reports errors (open_line true)
-      → status ≡ DEVICE → MakesTable may w Writes errors before status after
+  no_stdout : (cause : Error) (u : Unopened) → may.stdout before (Err cause) after
+      → IsCause (error_kind cause) Output u → Reports errors (unopened_line u) → status ≡ unopened_status u
+      → MakesTable may w Writes errors before status after
   made : (o : Opened O) (output : O) (has_output written : S) → may.stdout before (Ok o) has_output
       → PutsTable w Writes errors o.device output has_output status written → may.closes written output after
       → MakesTable may w Writes errors before status after

@@ -13,8 +13,8 @@ use crate::rows::Shared;
 use crate::table::write_table;
 use dcm_base::{DeviceOut, Std, Watched, flush_out};
 use dcm_cli::status::{DEVICE, USAGE};
-use dcm_cli::{Usage, asked, tell, tell_open, tell_output};
-use dcm_files::{Host, System};
+use dcm_cli::{Usage, asked, tell, tell_open, tell_output, tell_unopened};
+use dcm_files::{Host, System, Unopened, unopened};
 use dcm_table::{Cells, Column, Columns, TextForm};
 use dcm_table_words::{TableColumn, TablePlan, put_usage, table_plan};
 use either::Either;
@@ -143,7 +143,7 @@ fn make_table<S: System, E: DeviceOut>(
     };
     let output = match system.stdout() {
         Ok(output) => output,
-        Err(_) => return tell_open(true, errors),
+        Err(e) => return tell_unopened(unopened(&e, Unopened::Output), errors),
     };
     let mut out = Watched::new(output.device);
     let status = put_table(plan, &columns, system, &mut cells, &mut out, errors);
