@@ -39,12 +39,7 @@ fn unread(alloc: Global, row: &Row, entry: &Entry, read: usize) -> Result<Answer
 }
 
 /// Runs a case over a reader of a file that fails after so many bytes.
-fn read_failing_after(
-    alloc: Global,
-    case: &Case,
-    entry: &Entry,
-    read: usize,
-) -> Result<(), Fail> {
+fn read_failing_after(alloc: Global, case: &Case, entry: &Entry, read: usize) -> Result<(), Fail> {
     let devices = Devices {
         step: 1,
         failing: entry.path(),

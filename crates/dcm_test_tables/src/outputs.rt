@@ -21,12 +21,7 @@ fn answer_before(alloc: Global, row: &Row, wrote: usize) -> Result<Answer, Alloc
 }
 
 /// What is wanted of a run whose output fails after so many bytes.
-fn unwritten(
-    alloc: Global,
-    row: &Row,
-    all: &Answer,
-    wrote: usize,
-) -> Result<Answer, AllocError> {
+fn unwritten(alloc: Global, row: &Row, all: &Answer, wrote: usize) -> Result<Answer, AllocError> {
     let (output, _) = all.output.as_slice().split_at(wrote.min(all.output.len()));
     let mut told = answer_before(alloc, row, wrote)?.told;
     told.extend_from_slice(OUTPUT_FAILED)?;

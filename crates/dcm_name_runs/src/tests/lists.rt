@@ -5,15 +5,16 @@ use dcm_test_tables::Entry::{File, List, Named};
 use dcm_test_tables::{Row, TWO_COLUMNS};
 
 /// Names in lists.
-pub const LISTS: [Row; 6] = [
+pub fn lists() -> &'static [Row] {
+    &LISTS
+}
+
+const LISTS: [Row; 6] = [
     Row {
         name: "a list with empty lines",
         words: TWO_COLUMNS,
         names: &[b"@l"],
-        files: &[
-            List(b"l", b"\n\na\n\n\na\n\n"),
-            Named(b"a"),
-        ],
+        files: &[List(b"l", b"\n\na\n\n\na\n\n"), Named(b"a")],
         header: b"",
         done: &[
             Whole(b"a", b"a", b"\"a\",\"AB^CD\",\n"),
@@ -32,7 +33,12 @@ pub const LISTS: [Row; 6] = [
         header: b"",
         done: &[
             Whole(b"a", b"a", b"\"a\",\"AB^CD\",\n"),
-            Faulty(b"b", b"b", b"\"b\",,\n", b"R1 at byte 2: input ends too early"),
+            Faulty(
+                b"b",
+                b"b",
+                b"\"b\",,\n",
+                b"R1 at byte 2: input ends too early",
+            ),
         ],
     },
     Row {
@@ -76,10 +82,7 @@ pub const LISTS: [Row; 6] = [
         name: "lists of nothing",
         words: "dcm2csv -k PatientName -k (0010,0020)",
         names: &[b"@empty", b"@lines"],
-        files: &[
-            List(b"empty", b""),
-            List(b"lines", b"\n\n\n"),
-        ],
+        files: &[List(b"empty", b""), List(b"lines", b"\n\n\n")],
         header: b"\"File\",\"PatientName\",\"PatientID\"\n",
         done: &[],
     },
@@ -87,10 +90,7 @@ pub const LISTS: [Row; 6] = [
         name: "a list with a byte 00",
         words: TWO_COLUMNS,
         names: &[b"@l"],
-        files: &[
-            List(b"l", b"a\0\n\0\na\n"),
-            Named(b"a"),
-        ],
+        files: &[List(b"l", b"a\0\n\0\na\n"), Named(b"a")],
         header: b"",
         done: &[
             Unopened(b"a\\00"),

@@ -72,7 +72,13 @@ fn words_with<'a>(
 }
 
 /// Expects a large table, and that so many inputs were opened, at most so many of them at one time.
-fn expect_fours(name: &str, alloc: Global, left: &Left, opened: usize, most: usize) -> Result<(), Fail> {
+fn expect_fours(
+    name: &str,
+    alloc: Global,
+    left: &Left,
+    opened: usize,
+    most: usize,
+) -> Result<(), Fail> {
     expect_answer(name, left, &fours(alloc, FOURS)?)?;
     holds(name, "opened", left.counts.opened == opened)?;
     holds(name, "open", left.counts.most_open == most)
@@ -118,7 +124,12 @@ fn list_until(alloc: Global, read: usize, rows: &[u8]) -> Result<Answer, AllocEr
     Ok(Answer {
         status: 4,
         output: joined(alloc, HEADER, rows)?,
-        told: numbered(alloc, b"dcmtools: li\\0ast: reading failed after ", read, b" bytes\n")?,
+        told: numbered(
+            alloc,
+            b"dcmtools: li\\0ast: reading failed after ",
+            read,
+            b" bytes\n",
+        )?,
     })
 }
 

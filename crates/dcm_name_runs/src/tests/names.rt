@@ -5,7 +5,11 @@ use dcm_test_tables::Entry::{File, List, Named};
 use dcm_test_tables::{Row, TWO_COLUMNS};
 
 /// Names among the words.
-pub const NAMES: [Row; 5] = [
+pub fn names() -> &'static [Row] {
+    &NAMES
+}
+
+const NAMES: [Row; 5] = [
     Row {
         name: "names with what a table has",
         words: TWO_COLUMNS,
@@ -21,7 +25,12 @@ pub const NAMES: [Row; 5] = [
             Whole(b"a,b", b"a,b", b"\"a,b\",\"AB^CD\",\n"),
             Whole(b"\"", b"\"", b"\"\"\"\",\"AB^CD\",\n"),
             Whole(b"n\nl\r", b"n\\0al\\0d", b"\"n\nl\r\",\"AB^CD\",\n"),
-            Faulty(b"x\"\",\\y", b"x\"\",\\5cy", b"\"x\"\"\"\",\\y\",,\n", b"R1 at byte 2: input ends too early"),
+            Faulty(
+                b"x\"\",\\y",
+                b"x\"\",\\5cy",
+                b"\"x\"\"\"\",\\y\",,\n",
+                b"R1 at byte 2: input ends too early",
+            ),
         ],
     },
     Row {
@@ -36,9 +45,18 @@ pub const NAMES: [Row; 5] = [
         ],
         header: b"",
         done: &[
-            Faulty(b"\x01\x7f\x1f", b"\\01\\7f\\1f", b"\"\x01\x7f\x1f\",,\n", b"R1 at byte 2: input ends too early"),
+            Faulty(
+                b"\x01\x7f\x1f",
+                b"\\01\\7f\\1f",
+                b"\"\x01\x7f\x1f\",,\n",
+                b"R1 at byte 2: input ends too early",
+            ),
             Unopened(b"\\00"),
-            Whole(b"\x1b]0;t\x07", b"\\1b]0;t\\07", b"\"\x1b]0;t\x07\",\"AB^CD\",\n"),
+            Whole(
+                b"\x1b]0;t\x07",
+                b"\\1b]0;t\\07",
+                b"\"\x1b]0;t\x07\",\"AB^CD\",\n",
+            ),
             Whole(b"=1+1", b"=1+1", b"\"=1+1\",\"AB^CD\",\n"),
             Whole(b" ", b" ", b"\" \",\"AB^CD\",\n"),
         ],
@@ -46,7 +64,14 @@ pub const NAMES: [Row; 5] = [
     Row {
         name: "names in UTF-8 and not",
         words: TWO_COLUMNS,
-        names: &[b"\xc3\xa9", b"\xf0\x9f\x98\x80", b"\xe9", b"a\xc0\x80", b"\xed\xa0\x80", b"\xe2\x82"],
+        names: &[
+            b"\xc3\xa9",
+            b"\xf0\x9f\x98\x80",
+            b"\xe9",
+            b"a\xc0\x80",
+            b"\xed\xa0\x80",
+            b"\xe2\x82",
+        ],
         files: &[
             Named(b"\xc3\xa9"),
             File(b"\xf0\x9f\x98\x80", Start::Nothing, b"no"),
@@ -58,7 +83,12 @@ pub const NAMES: [Row; 5] = [
         header: b"",
         done: &[
             Whole(b"\xc3\xa9", b"\xc3\xa9", b"\"\xc3\xa9\",\"AB^CD\",\n"),
-            Faulty(b"\xf0\x9f\x98\x80", b"\xf0\x9f\x98\x80", b"\"\xf0\x9f\x98\x80\",,\n", b"R1 at byte 2: input ends too early"),
+            Faulty(
+                b"\xf0\x9f\x98\x80",
+                b"\xf0\x9f\x98\x80",
+                b"\"\xf0\x9f\x98\x80\",,\n",
+                b"R1 at byte 2: input ends too early",
+            ),
             Unopened(b"\xe9"),
             Unopened(b"a\xc0\x80"),
             Unopened(b"\xed\xa0\x80"),
@@ -69,10 +99,7 @@ pub const NAMES: [Row; 5] = [
         name: "names in UTF-8 as they are",
         words: "dcm2csv +nh +by -k PatientName -k (0010,0020)",
         names: &[b"\xc3\xa9", b"@l"],
-        files: &[
-            Named(b"\xc3\xa9"),
-            List(b"l", b"\xc3\xa9\n\xff\n"),
-        ],
+        files: &[Named(b"\xc3\xa9"), List(b"l", b"\xc3\xa9\n\xff\n")],
         header: b"",
         done: &[
             Whole(b"\xc3\xa9", b"\xc3\xa9", b"\"\xc3\xa9\",\"AB^CD\",\n"),

@@ -5,16 +5,16 @@ use dcm_test_tables::Entry::{Broken, File, Folder, List, Named};
 use dcm_test_tables::{Row, TWO_COLUMNS};
 
 /// Files that cannot be opened or read, and standard input.
-pub const UNOPENED: [Row; 6] = [
+pub fn unopened() -> &'static [Row] {
+    &UNOPENED
+}
+
+const UNOPENED: [Row; 6] = [
     Row {
         name: "files that are not there",
         words: "dcm2csv -k PatientName -k (0010,0020)",
         names: &[b"gone", b"folder", b"a", b"/proc/self/mem"],
-        files: &[
-            Folder(b"folder"),
-            Named(b"a"),
-            Broken(b"/proc/self/mem"),
-        ],
+        files: &[Folder(b"folder"), Named(b"a"), Broken(b"/proc/self/mem")],
         header: b"\"File\",\"PatientName\",\"PatientID\"\n",
         done: &[
             Unopened(b"gone"),
@@ -27,23 +27,23 @@ pub const UNOPENED: [Row; 6] = [
         name: "the greatest status",
         words: TWO_COLUMNS,
         names: &[b"x\n\x7f\\y\xc3\xa9\x1f ", b"\x1b[31m"],
-        files: &[
-            File(b"\x1b[31m", Start::Nothing, b"no"),
-        ],
+        files: &[File(b"\x1b[31m", Start::Nothing, b"no")],
         header: b"",
         done: &[
             Unopened(b"x\\0a\\7f\\5cy\xc3\xa9\\1f "),
-            Faulty(b"\x1b[31m", b"\\1b[31m", b"\"\x1b[31m\",,\n", b"R1 at byte 2: input ends too early"),
+            Faulty(
+                b"\x1b[31m",
+                b"\\1b[31m",
+                b"\"\x1b[31m\",,\n",
+                b"R1 at byte 2: input ends too early",
+            ),
         ],
     },
     Row {
         name: "a list on standard input",
         words: "dcm2csv @- a -k PatientName -k (0010,0020)",
         names: &[],
-        files: &[
-            List(b"-", b"a\n"),
-            Named(b"a"),
-        ],
+        files: &[List(b"-", b"a\n"), Named(b"a")],
         header: b"\"File\",\"PatientName\",\"PatientID\"\n",
         done: &[
             Whole(b"a", b"a", b"\"a\",\"AB^CD\",\n"),
@@ -54,10 +54,7 @@ pub const UNOPENED: [Row; 6] = [
         name: "standard input and a file",
         words: "dcm2csv - ./- -k PatientName -k (0010,0020)",
         names: &[],
-        files: &[
-            Named(b"-"),
-            File(b"./-", Start::ExplicitLittle, b""),
-        ],
+        files: &[Named(b"-"), File(b"./-", Start::ExplicitLittle, b"")],
         header: b"\"File\",\"PatientName\",\"PatientID\"\n",
         done: &[
             Whole(b"-", b"-", b"\"-\",\"AB^CD\",\n"),
@@ -79,19 +76,25 @@ pub const UNOPENED: [Row; 6] = [
             Whole(b"-", b"-", b"\"-\",\"AB^CD\",\n"),
             Whole(b"./@x", b"./@x", b"\"./@x\",\"AB^CD\",\n"),
             Whole(b"./-k", b"./-k", b"\"./-k\",\"AB^CD\",\n"),
-            Faulty(b"./+nh", b"./+nh", b"\"./+nh\",,\n", b"R1 at byte 0: input ends too early"),
+            Faulty(
+                b"./+nh",
+                b"./+nh",
+                b"\"./+nh\",,\n",
+                b"R1 at byte 0: input ends too early",
+            ),
         ],
     },
     Row {
         name: "an empty standard input",
         words: TWO_COLUMNS,
         names: &[b"-"],
-        files: &[
-            File(b"-", Start::Nothing, b""),
-        ],
+        files: &[File(b"-", Start::Nothing, b"")],
         header: b"",
-        done: &[
-            Faulty(b"-", b"-", b"\"-\",,\n", b"R1 at byte 0: input ends too early"),
-        ],
+        done: &[Faulty(
+            b"-",
+            b"-",
+            b"\"-\",,\n",
+            b"R1 at byte 0: input ends too early",
+        )],
     },
 ];

@@ -4,15 +4,16 @@ use dcm_test_tables::Entry::{Broken, Folder, List, Named};
 use dcm_test_tables::{Row, TWO_COLUMNS};
 
 /// Lists on standard input, and lists that cannot be read.
-pub const UNREAD_LISTS: [Row; 4] = [
+pub fn unread_lists() -> &'static [Row] {
+    &UNREAD_LISTS
+}
+
+const UNREAD_LISTS: [Row; 4] = [
     Row {
         name: "lists that are not there",
         words: TWO_COLUMNS,
         names: &[b"@none", b"a", b"@folder", b"@\xff", b"@a\0", b"@@"],
-        files: &[
-            Named(b"a"),
-            Folder(b"folder"),
-        ],
+        files: &[Named(b"a"), Folder(b"folder")],
         header: b"",
         done: &[
             Unopened(b"none"),
@@ -27,10 +28,7 @@ pub const UNREAD_LISTS: [Row; 4] = [
         name: "a list that breaks",
         words: TWO_COLUMNS,
         names: &[b"@/proc/self/mem", b"a"],
-        files: &[
-            Broken(b"/proc/self/mem"),
-            Named(b"a"),
-        ],
+        files: &[Broken(b"/proc/self/mem"), Named(b"a")],
         header: b"",
         done: &[
             Unread(b"", b"/proc/self/mem"),
@@ -41,11 +39,7 @@ pub const UNREAD_LISTS: [Row; 4] = [
         name: "standard input as a list",
         words: TWO_COLUMNS,
         names: &[b"@-"],
-        files: &[
-            List(b"-", b"-\n\na"),
-            Named(b"./-"),
-            Named(b"a"),
-        ],
+        files: &[List(b"-", b"-\n\na"), Named(b"./-"), Named(b"a")],
         header: b"",
         done: &[
             Whole(b"./-", b"-", b"\"-\",\"AB^CD\",\n"),
@@ -56,9 +50,7 @@ pub const UNREAD_LISTS: [Row; 4] = [
         name: "no names on standard input",
         words: "dcm2csv @- -k PatientName -k (0010,0020)",
         names: &[],
-        files: &[
-            List(b"-", b""),
-        ],
+        files: &[List(b"-", b"")],
         header: b"\"File\",\"PatientName\",\"PatientID\"\n",
         done: &[],
     },

@@ -1,8 +1,8 @@
 // The job of a row, and its files.
-use dcm_test_devices::{joined, split};
-use super::rows::{Row, front_of};
 use super::job_with_key;
+use super::rows::{Row, front_of};
 use dcm_cli::{Job, plan};
+use dcm_test_devices::{joined, split};
 use std::process::Abort;
 use std::test::Fail;
 

@@ -1,5 +1,4 @@
 // Inputs that are cut at each byte.
-use dcm_test_devices::{Start, joined, numbered};
 use super::buildings::buildings;
 use super::conversions::conversions;
 use super::dictionaries::dictionaries;
@@ -8,6 +7,7 @@ use super::rows::{Row, dumps, front_of};
 use super::signs::signs;
 use super::unknown::unknown;
 use super::{Answer, Wanted, expect_answer, holds, over_memory, rows_of};
+use dcm_test_devices::{Start, joined, numbered};
 use std::process::Abort;
 use std::test::Fail;
 

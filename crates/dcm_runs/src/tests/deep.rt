@@ -1,7 +1,7 @@
 // Unknown sequences of known length: as deep as may be, one deeper, and what no sequence is until it is read back.
-use dcm_test_devices::{Start, joined, repeated};
 use super::nested::{ENDS, OPENINGS, letters};
 use super::{Wanted, expect_answer, expect_runs, over_memory};
+use dcm_test_devices::{Start, joined, repeated};
 use std::process::Abort;
 use std::test::Fail;
 
@@ -191,7 +191,11 @@ fn text_that_reads_back_as_a_sequence(rt: HostRuntime) -> Result<(), Fail> {
     let start = Start::ExplicitLittle;
     let text = letters(rt, start, b"\x08\0@\x11LO\xff\xff", b"")?;
     let written = letters(rt, start, b"\x08\0@\x11UN\0\0\0\0\x01\0", b" ")?;
-    let opened = joined(rt.alloc(), start.bytes(), b"\x08\0@\x11SQ\0\0\xff\xff\xff\xff")?;
+    let opened = joined(
+        rt.alloc(),
+        start.bytes(),
+        b"\x08\0@\x11SQ\0\0\xff\xff\xff\xff",
+    )?;
     for (input, wanted) in [
         (
             &text,

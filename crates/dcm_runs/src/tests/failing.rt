@@ -7,10 +7,10 @@ mod dumps;
 mod identities;
 mod modifications;
 
-use dcm_test_devices::{Failure, numbered};
 use super::cases::{Case, case_of};
 use super::rows::Row;
 use super::{holds, rows_of};
+use dcm_test_devices::{Failure, numbered};
 use devices::{Good, Left, SOUND, run_over, sure_of};
 use std::process::Abort;
 use std::test::Fail;
@@ -19,7 +19,12 @@ const OUTPUT_FAILED: &[u8] = b"dcmtools: output failed\n";
 
 /// The line that reports that reading failed.
 fn unread_line(rt: HostRuntime, read: usize) -> Result<Vec<u8>, Fail> {
-    numbered(rt.alloc(), b"dcmtools: reading failed after ", read, b" bytes\n")
+    numbered(
+        rt.alloc(),
+        b"dcmtools: reading failed after ",
+        read,
+        b" bytes\n",
+    )
 }
 
 /// Expects what every run leaves: nothing on a writer that had failed, and lines after all of the output.

@@ -1,10 +1,10 @@
 // Words over files in memory.
-use dcm_test_devices::{Start, joined};
 use super::rows::header_of;
 use super::{Answer, Wanted, expect_answer, holds, room};
 use dcm_base::MemOut;
 use dcm_cli::in_memory::obey_in_memory;
 use dcm_files::{MemFile, MemSystem};
+use dcm_test_devices::{Start, joined};
 use std::process::Abort;
 use std::test::Fail;
 

@@ -1,6 +1,6 @@
 // Identity taken out of files: what becomes of elements, options, and new unique identifiers (PS3.15 E.1).
-use dcm_test_devices::Start;
 use super::rows::{EMPTY, Row};
+use dcm_test_devices::Start;
 
 /// What becomes of elements.
 const FATES: [Row; 16] = [

@@ -1,6 +1,6 @@
 // Identity taken out of files: what pixels show, faults, and inputs that are cut (PS3.15 E.1).
-use dcm_test_devices::Start;
 use super::rows::{EMPTY, Row};
+use dcm_test_devices::Start;
 
 /// What pixels show.
 const PIXELS: [Row; 8] = [

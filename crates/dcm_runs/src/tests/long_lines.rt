@@ -1,7 +1,7 @@
 // Lines of a dump that come to a limit.
-use dcm_test_devices::{Start, joined, repeated};
 use super::nested::OPENINGS;
 use super::{Wanted, expect_runs};
+use dcm_test_devices::{Start, joined, repeated};
 use std::test::Fail;
 
 const SYNTAX_LINE: &[u8] = b"(0002,0010) UI =LittleEndianExplicit\n";

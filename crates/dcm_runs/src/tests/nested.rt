@@ -1,7 +1,7 @@
 // Deep and long files.
-use dcm_test_devices::{Start, joined, repeated};
 use super::rows::header_of;
 use super::{STEPS, Wanted, expect_runs, holds, over_memory};
+use dcm_test_devices::{Start, joined, repeated};
 use std::test::Fail;
 
 const SEQUENCE: &[u8] = b"\x08\0@\x11SQ\0\0\xff\xff\xff\xff";

@@ -1,8 +1,8 @@
 // Files that are dumped in full, and built again of their dumps.
-use dcm_test_devices::{Start, joined};
 use super::nested::{letters, sixty_four};
 use super::rows::header_of;
 use super::{Answer, STEPS, Wanted, expect_answer, holds, over_memory, over_std};
+use dcm_test_devices::{Start, joined};
 use std::process::Abort;
 use std::test::Fail;
 

@@ -5,14 +5,26 @@ use dcm_test_tables::Entry::{Decided, File};
 use dcm_test_tables::Row;
 
 /// Implicit files, values between two representations, and unknown ones.
-pub const REPRESENTATIONS: [Row; 5] = [
+pub fn representations() -> &'static [Row] {
+    &REPRESENTATIONS
+}
+
+const REPRESENTATIONS: [Row; 5] = [
     Row {
         name: "an implicit file",
         words: "dcm2csv +nh -k XRayTubeCurrent -k SmallestImagePixelValue -k PixelRepresentation -k LUTData -k (0029,1001)",
         names: &[b"s", b"u"],
         files: &[
-            File(b"s", Start::Implicit, b"\x18\0Q\x11\x04\0\0\0120 (\0\x03\x01\x02\0\0\0\x01\0(\0\x06\x01\x02\0\0\0\xff\xff(\0\x060\x02\0\0\0\x01\0)\0\x01\x10\x02\0\0\0x "),
-            File(b"u", Start::Implicit, b"(\0\x06\x01\x02\0\0\0\xff\xff(\0\x03\x01\x02\0\0\0\x01\0"),
+            File(
+                b"s",
+                Start::Implicit,
+                b"\x18\0Q\x11\x04\0\0\0120 (\0\x03\x01\x02\0\0\0\x01\0(\0\x06\x01\x02\0\0\0\xff\xff(\0\x060\x02\0\0\0\x01\0)\0\x01\x10\x02\0\0\0x ",
+            ),
+            File(
+                b"u",
+                Start::Implicit,
+                b"(\0\x06\x01\x02\0\0\0\xff\xff(\0\x03\x01\x02\0\0\0\x01\0",
+            ),
         ],
         header: b"",
         done: &[
@@ -25,10 +37,26 @@ pub const REPRESENTATIONS: [Row; 5] = [
         words: "dcm2csv +nh -k SmallestImagePixelValue -k PixelRepresentation",
         names: &[b"x", b"y", b"z", b"un"],
         files: &[
-            File(b"x", Start::Implicit, b"(\0\x03\x01\x02\0\0\0\0\0(\0\x03\x01\x04\0\0\0\x01\0\0\0(\0\x06\x01\x03\0\0\0\xfe\xff\xff"),
-            File(b"y", Start::Implicit, b"(\0\x03\x01\x02\0\0\0\x01\0(\0\x03\x01\0\0\0\0(\0\x06\x01\x02\0\0\0\xfe\xff"),
-            File(b"z", Start::Implicit, b"\x08\0@\x11\x12\0\0\0\xfe\xff\0\xe0\n\0\0\0(\0\x03\x01\x02\0\0\0\x01\0(\0\x06\x01\x02\0\0\0\xfe\xff"),
-            File(b"un", Start::ExplicitLittle, b"(\0\x03\x01US\x02\0\0\0(\0\x03\x01UN\0\0\x02\0\0\0\x01\0(\0\x06\x01UN\0\0\x02\0\0\0\xfe\xff"),
+            File(
+                b"x",
+                Start::Implicit,
+                b"(\0\x03\x01\x02\0\0\0\0\0(\0\x03\x01\x04\0\0\0\x01\0\0\0(\0\x06\x01\x03\0\0\0\xfe\xff\xff",
+            ),
+            File(
+                b"y",
+                Start::Implicit,
+                b"(\0\x03\x01\x02\0\0\0\x01\0(\0\x03\x01\0\0\0\0(\0\x06\x01\x02\0\0\0\xfe\xff",
+            ),
+            File(
+                b"z",
+                Start::Implicit,
+                b"\x08\0@\x11\x12\0\0\0\xfe\xff\0\xe0\n\0\0\0(\0\x03\x01\x02\0\0\0\x01\0(\0\x06\x01\x02\0\0\0\xfe\xff",
+            ),
+            File(
+                b"un",
+                Start::ExplicitLittle,
+                b"(\0\x03\x01US\x02\0\0\0(\0\x03\x01UN\0\0\x02\0\0\0\x01\0(\0\x06\x01UN\0\0\x02\0\0\0\xfe\xff",
+            ),
         ],
         header: b"",
         done: &[
@@ -43,8 +71,16 @@ pub const REPRESENTATIONS: [Row; 5] = [
         words: "dcm2csv +nh -k PatientID -k Rows -k (0029,1001) -k PatientName",
         names: &[b"x", b"y"],
         files: &[
-            File(b"x", Start::ExplicitLittle, b"\x10\0\x10\0UN\0\0\0\0\0\0\x10\0 \0UN\0\0\x02\0\0\07 (\0\x10\0UN\0\0\x02\0\0\0\0\x02)\0\x01\x10UN\0\0\x02\0\0\0x "),
-            File(b"y", Start::ExplicitLittle, b"\x10\0 \0UN\0\0\xff\xff\xff\xff\xfe\xff\xdd\xe0\0\0\0\0"),
+            File(
+                b"x",
+                Start::ExplicitLittle,
+                b"\x10\0\x10\0UN\0\0\0\0\0\0\x10\0 \0UN\0\0\x02\0\0\07 (\0\x10\0UN\0\0\x02\0\0\0\0\x02)\0\x01\x10UN\0\0\x02\0\0\0x ",
+            ),
+            File(
+                b"y",
+                Start::ExplicitLittle,
+                b"\x10\0 \0UN\0\0\xff\xff\xff\xff\xfe\xff\xdd\xe0\0\0\0\0",
+            ),
         ],
         header: b"",
         done: &[
@@ -57,19 +93,51 @@ pub const REPRESENTATIONS: [Row; 5] = [
         words: "dcm2csv +nh -k PatientID -k PerimeterValue -k SmallestImagePixelValue -k ReferencedImageSequence",
         names: &[b"seq", b"big", b"bigun", b"bad", b"open"],
         files: &[
-            File(b"seq", Start::ExplicitLittle, b"\x08\0@\x11UN\0\0\x1c\0\0\0\xfe\xff\0\xe0\x14\0\0\0\x10\0 \0\x02\0\0\0in(\0\x03\x01\x02\0\0\0\x01\0\x10\0 \0LO\x02\07 (\0\x06\x01UN\0\0\x02\0\0\0\xfe\xff"),
-            File(b"big", Start::Big, b"\0(\x01\x03US\0\x02\0\x01\0(\x01\x06UN\0\0\0\0\0\x02\xfe\xff"),
-            File(b"bigun", Start::Big, b"\0(\x01\x03UN\0\0\0\0\0\x02\x01\0\0(\x01\x06UN\0\0\0\0\0\x02\xfe\xff"),
-            Decided(b"bad", Start::ExplicitLittle, b"\x08\0@\x11UN\0\0\x08\0\0\0no items\x10\0 \0LO\x02\07 ", 192),
-            Decided(b"open", Start::Implicit, b"(\0q\0\x02\0\0\0\x01\0(\0\x06\x01\xff\xff\xff\xff", 188),
+            File(
+                b"seq",
+                Start::ExplicitLittle,
+                b"\x08\0@\x11UN\0\0\x1c\0\0\0\xfe\xff\0\xe0\x14\0\0\0\x10\0 \0\x02\0\0\0in(\0\x03\x01\x02\0\0\0\x01\0\x10\0 \0LO\x02\07 (\0\x06\x01UN\0\0\x02\0\0\0\xfe\xff",
+            ),
+            File(
+                b"big",
+                Start::Big,
+                b"\0(\x01\x03US\0\x02\0\x01\0(\x01\x06UN\0\0\0\0\0\x02\xfe\xff",
+            ),
+            File(
+                b"bigun",
+                Start::Big,
+                b"\0(\x01\x03UN\0\0\0\0\0\x02\x01\0\0(\x01\x06UN\0\0\0\0\0\x02\xfe\xff",
+            ),
+            Decided(
+                b"bad",
+                Start::ExplicitLittle,
+                b"\x08\0@\x11UN\0\0\x08\0\0\0no items\x10\0 \0LO\x02\07 ",
+                192,
+            ),
+            Decided(
+                b"open",
+                Start::Implicit,
+                b"(\0q\0\x02\0\0\0\x01\0(\0\x06\x01\xff\xff\xff\xff",
+                188,
+            ),
         ],
         header: b"",
         done: &[
             Whole(b"seq", b"seq", b"\"seq\",\"7\",,65534,\n"),
             Whole(b"big", b"big", b"\"big\",,,-2,\n"),
             Whole(b"bigun", b"bigun", b"\"bigun\",,,-2,\n"),
-            Faulty(b"bad", b"bad", b"\"bad\",,,,\n", b"R9 at byte 184: tag not allowed here"),
-            Faulty(b"open", b"open", b"\"open\",,,,\n", b"R8 at byte 180: undefined length not allowed"),
+            Faulty(
+                b"bad",
+                b"bad",
+                b"\"bad\",,,,\n",
+                b"R9 at byte 184: tag not allowed here",
+            ),
+            Faulty(
+                b"open",
+                b"open",
+                b"\"open\",,,,\n",
+                b"R8 at byte 180: undefined length not allowed",
+            ),
         ],
     },
     Row {
@@ -77,8 +145,17 @@ pub const REPRESENTATIONS: [Row; 5] = [
         words: "dcm2csv +nh -k PatientID -k ReferencedImageSequence -k PatientName",
         names: &[b"x", b"y"],
         files: &[
-            File(b"x", Start::ExplicitLittle, b"\x08\0@\x11SQ\0\0\xff\xff\xff\xff\xfe\xff\0\xe0\xff\xff\xff\xff\x10\0 \0LO\x02\0in\xfe\xff\r\xe0\0\0\0\0\xfe\xff\xdd\xe0\0\0\0\0\x10\0\x10\0PN\x06\0AB^CD \x10\0 \0LO\x02\01 \x10\0 \0LO\x02\02 "),
-            Decided(b"y", Start::ExplicitLittle, b"(\0\x10\0US\x02\0\x01\0\x10\0\x10\0PN\x06\0AB^CD ", 180),
+            File(
+                b"x",
+                Start::ExplicitLittle,
+                b"\x08\0@\x11SQ\0\0\xff\xff\xff\xff\xfe\xff\0\xe0\xff\xff\xff\xff\x10\0 \0LO\x02\0in\xfe\xff\r\xe0\0\0\0\0\xfe\xff\xdd\xe0\0\0\0\0\x10\0\x10\0PN\x06\0AB^CD \x10\0 \0LO\x02\01 \x10\0 \0LO\x02\02 ",
+            ),
+            Decided(
+                b"y",
+                Start::ExplicitLittle,
+                b"(\0\x10\0US\x02\0\x01\0\x10\0\x10\0PN\x06\0AB^CD ",
+                180,
+            ),
         ],
         header: b"",
         done: &[

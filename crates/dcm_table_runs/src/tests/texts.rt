@@ -5,18 +5,34 @@ use dcm_test_tables::Entry::File;
 use dcm_test_tables::{Row, TWO_COLUMNS};
 
 /// Bytes that are no UTF-8.
-pub const TEXTS: [Row; 5] = [
+pub fn texts() -> &'static [Row] {
+    &TEXTS
+}
+
+const TEXTS: [Row; 5] = [
     Row {
         name: "bytes that are no UTF-8",
         words: "dcm2csv -k PatientName -k (0010,0020)",
         names: &[b"a\xc3\xa9", b"cut"],
         files: &[
-            File(b"a\xc3\xa9", Start::ExplicitLittle, b"\x10\0\x10\0PN\x1c\0A\xc3\xa9\xe9\xc3(\xe2\x82\xe2\x82\xac\xf0\x9f\x98\x80\xc0\x80\xed\xa0\x80\xf4\x90\x80\x80\xfe\"\\\x80"),
-            File(b"cut", Start::ExplicitLittle, b"\x10\0\x10\0PN\x04\0\xc3\xa9\xc3 "),
+            File(
+                b"a\xc3\xa9",
+                Start::ExplicitLittle,
+                b"\x10\0\x10\0PN\x1c\0A\xc3\xa9\xe9\xc3(\xe2\x82\xe2\x82\xac\xf0\x9f\x98\x80\xc0\x80\xed\xa0\x80\xf4\x90\x80\x80\xfe\"\\\x80",
+            ),
+            File(
+                b"cut",
+                Start::ExplicitLittle,
+                b"\x10\0\x10\0PN\x04\0\xc3\xa9\xc3 ",
+            ),
         ],
         header: b"\"File\",\"PatientName\",\"PatientID\"\n",
         done: &[
-            Whole(b"a\xc3\xa9", b"a\xc3\xa9", b"\"a\xc3\xa9\",\"A\xc3\xa9\\xe9\\xc3(\\xe2\\x82\xe2\x82\xac\xf0\x9f\x98\x80\\xc0\\x80\\xed\\xa0\\x80\\xf4\\x90\\x80\\x80\\xfe\"\"\\\\x80\",\n"),
+            Whole(
+                b"a\xc3\xa9",
+                b"a\xc3\xa9",
+                b"\"a\xc3\xa9\",\"A\xc3\xa9\\xe9\\xc3(\\xe2\\x82\xe2\x82\xac\xf0\x9f\x98\x80\\xc0\\x80\\xed\\xa0\\x80\\xf4\\x90\\x80\\x80\\xfe\"\"\\\\x80\",\n",
+            ),
             Whole(b"cut", b"cut", b"\"cut\",\"\xc3\xa9\\xc3\",\n"),
         ],
     },
@@ -24,21 +40,33 @@ pub const TEXTS: [Row; 5] = [
         name: "bytes as they are",
         words: "dcm2csv -k PatientName -k (0010,0020) +by",
         names: &[b"a\xc3\xa9"],
-        files: &[
-            File(b"a\xc3\xa9", Start::ExplicitLittle, b"\x10\0\x10\0PN\x1c\0A\xc3\xa9\xe9\xc3(\xe2\x82\xe2\x82\xac\xf0\x9f\x98\x80\xc0\x80\xed\xa0\x80\xf4\x90\x80\x80\xfe\"\\\x80"),
-        ],
+        files: &[File(
+            b"a\xc3\xa9",
+            Start::ExplicitLittle,
+            b"\x10\0\x10\0PN\x1c\0A\xc3\xa9\xe9\xc3(\xe2\x82\xe2\x82\xac\xf0\x9f\x98\x80\xc0\x80\xed\xa0\x80\xf4\x90\x80\x80\xfe\"\\\x80",
+        )],
         header: b"\"File\",\"PatientName\",\"PatientID\"\n",
-        done: &[
-            Whole(b"a\xc3\xa9", b"a\xc3\xa9", b"\"a\xc3\xa9\",\"A\xc3\xa9\xe9\xc3(\xe2\x82\xe2\x82\xac\xf0\x9f\x98\x80\xc0\x80\xed\xa0\x80\xf4\x90\x80\x80\xfe\"\"\\\x80\",\n"),
-        ],
+        done: &[Whole(
+            b"a\xc3\xa9",
+            b"a\xc3\xa9",
+            b"\"a\xc3\xa9\",\"A\xc3\xa9\xe9\xc3(\xe2\x82\xe2\x82\xac\xf0\x9f\x98\x80\xc0\x80\xed\xa0\x80\xf4\x90\x80\x80\xfe\"\"\\\x80\",\n",
+        )],
     },
     Row {
         name: "a name that is no UTF-8",
         words: "dcm2csv -k PatientName -k (0010,0020)",
         names: &[b"a\xff\xc3\xa9", b"cut"],
         files: &[
-            File(b"a\xff\xc3\xa9", Start::ExplicitLittle, b"\x10\0\x10\0PN\x1c\0A\xc3\xa9\xe9\xc3(\xe2\x82\xe2\x82\xac\xf0\x9f\x98\x80\xc0\x80\xed\xa0\x80\xf4\x90\x80\x80\xfe\"\\\x80"),
-            File(b"cut", Start::ExplicitLittle, b"\x10\0\x10\0PN\x04\0\xc3\xa9\xc3 "),
+            File(
+                b"a\xff\xc3\xa9",
+                Start::ExplicitLittle,
+                b"\x10\0\x10\0PN\x1c\0A\xc3\xa9\xe9\xc3(\xe2\x82\xe2\x82\xac\xf0\x9f\x98\x80\xc0\x80\xed\xa0\x80\xf4\x90\x80\x80\xfe\"\\\x80",
+            ),
+            File(
+                b"cut",
+                Start::ExplicitLittle,
+                b"\x10\0\x10\0PN\x04\0\xc3\xa9\xc3 ",
+            ),
         ],
         header: b"\"File\",\"PatientName\",\"PatientID\"\n",
         done: &[
@@ -50,13 +78,13 @@ pub const TEXTS: [Row; 5] = [
         name: "a name as it is",
         words: "dcm2csv -k PatientName -k (0010,0020) +by",
         names: &[b"a\xff\xc3\xa9"],
-        files: &[
-            File(b"a\xff\xc3\xa9", Start::ExplicitLittle, b"\x10\0\x10\0PN\x1c\0A\xc3\xa9\xe9\xc3(\xe2\x82\xe2\x82\xac\xf0\x9f\x98\x80\xc0\x80\xed\xa0\x80\xf4\x90\x80\x80\xfe\"\\\x80"),
-        ],
+        files: &[File(
+            b"a\xff\xc3\xa9",
+            Start::ExplicitLittle,
+            b"\x10\0\x10\0PN\x1c\0A\xc3\xa9\xe9\xc3(\xe2\x82\xe2\x82\xac\xf0\x9f\x98\x80\xc0\x80\xed\xa0\x80\xf4\x90\x80\x80\xfe\"\\\x80",
+        )],
         header: b"\"File\",\"PatientName\",\"PatientID\"\n",
-        done: &[
-            Unopened(b"a\xff\xc3\xa9"),
-        ],
+        done: &[Unopened(b"a\xff\xc3\xa9")],
     },
     Row {
         name: "a line with a name",
@@ -64,8 +92,6 @@ pub const TEXTS: [Row; 5] = [
         names: &[b"\xff"],
         files: &[],
         header: b"",
-        done: &[
-            Unopened(b"\xff"),
-        ],
+        done: &[Unopened(b"\xff")],
     },
 ];
