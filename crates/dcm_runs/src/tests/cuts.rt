@@ -18,12 +18,12 @@ const ROOM: usize = 3000;
 
 /// The line of an input that ends too early after so many bytes.
 fn early_end(rt: HostRuntime, read: usize) -> Result<Vec<u8>, Fail> {
-    numbered(
+    Ok(numbered(
         rt.alloc(),
         b"dcmtools: R1 at byte ",
         read,
         b": input ends too early\n",
-    )
+    )?)
 }
 
 /// Whether a row writes a head. Where its whole input is at fault before that, a cut one may be a file without elements.

@@ -47,7 +47,7 @@ fn around(rt: HostRuntime, before: usize, inside: usize, last: &[u8]) -> Result<
         put_item(&mut all, size_of(left, last))?;
     }
     all.extend_from_slice(last)?;
-    repeated(rt.alloc(), all.as_slice(), ENDS, before, b"")
+    Ok(repeated(rt.alloc(), all.as_slice(), ENDS, before, b"")?)
 }
 
 /// A file of so many sequences, each with an item that holds the next.
@@ -59,7 +59,7 @@ fn sequences(
     count: usize,
 ) -> Result<Vec<u8>, Fail> {
     let opened = repeated(rt.alloc(), start.bytes(), openings, count, b"")?;
-    repeated(rt.alloc(), opened.as_slice(), ends, count, b"")
+    Ok(repeated(rt.alloc(), opened.as_slice(), ends, count, b"")?)
 }
 
 const IMPLICIT_OPENINGS: &[u8] = b"\x08\0@\x11\xff\xff\xff\xff\xfe\xff\0\xe0\xff\xff\xff\xff";

@@ -19,12 +19,12 @@ const OUTPUT_FAILED: &[u8] = b"dcmtools: output failed\n";
 
 /// The line that reports that reading failed.
 fn unread_line(rt: HostRuntime, read: usize) -> Result<Vec<u8>, Fail> {
-    numbered(
+    Ok(numbered(
         rt.alloc(),
         b"dcmtools: reading failed after ",
         read,
         b" bytes\n",
-    )
+    )?)
 }
 
 /// Expects what every run leaves: nothing on a writer that had failed, and lines after all of the output.

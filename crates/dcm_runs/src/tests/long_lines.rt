@@ -17,7 +17,7 @@ const COMMENTS: &[u8] = b"\x10\0\0@LT\xf0\x0f";
 /// The lines of a file with comments of so many letters.
 fn comments(rt: HostRuntime, letters: usize) -> Result<Vec<u8>, Fail> {
     let front = joined(rt.alloc(), SYNTAX_LINE, b"(0010,4000) LT [")?;
-    repeated(rt.alloc(), front.as_slice(), b"a", letters, b"]")
+    Ok(repeated(rt.alloc(), front.as_slice(), b"a", letters, b"]")?)
 }
 
 #[test]

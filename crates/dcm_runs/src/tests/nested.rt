@@ -39,7 +39,7 @@ fn indent(all: &mut Vec<u8>, level: usize, line: &[u8]) -> Result<(), Fail> {
 /// A file of 64 sequences, each with an item that holds the next, and what follows the innermost item's opening.
 fn nested(rt: HostRuntime, behind: &[u8]) -> Result<Vec<u8>, Fail> {
     let group = Start::ExplicitLittle.bytes();
-    repeated(rt.alloc(), group, OPENINGS, DEPTH, behind)
+    Ok(repeated(rt.alloc(), group, OPENINGS, DEPTH, behind)?)
 }
 
 /// The lines of the openings.
@@ -78,7 +78,7 @@ fn sixty_four_sequences(rt: HostRuntime) -> Result<(), Fail> {
 /// A file of 64 sequences, all of them closed.
 pub fn sixty_four(rt: HostRuntime) -> Result<Vec<u8>, Fail> {
     let opened = nested(rt, b"")?;
-    repeated(rt.alloc(), opened.as_slice(), ENDS, DEPTH, b"")
+    Ok(repeated(rt.alloc(), opened.as_slice(), ENDS, DEPTH, b"")?)
 }
 
 #[test]
@@ -134,7 +134,7 @@ const LONGEST_SHORT: usize = 65_535;
 /// What stands before a text, so many letters, and what stands behind them.
 pub fn letters(rt: HostRuntime, start: Start, head: &[u8], behind: &[u8]) -> Result<Vec<u8>, Fail> {
     let front = joined(rt.alloc(), start.bytes(), head)?;
-    repeated(rt.alloc(), front.as_slice(), b"a", LONGEST_SHORT, behind)
+    Ok(repeated(rt.alloc(), front.as_slice(), b"a", LONGEST_SHORT, behind)?)
 }
 
 #[test]
