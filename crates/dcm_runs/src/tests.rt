@@ -26,16 +26,14 @@ use conversions::conversions;
 use dcm_base::{DeviceIn, DeviceOut, MemIn, MemOut, Std, Watched};
 use dcm_cli::run::run;
 use dcm_cli::{Deidentify, Job, Planned, plan, tell};
+use dcm_test_devices::{ALL, Steps, joined, split};
 use dictionaries::dictionaries;
 use identities::identities;
 use identity_faults::identity_faults;
 use identity_put::identity_put;
-use itoa::Buffer;
 use modifications::modifications;
-use rows::{Row, bytes_of, front_of};
+use rows::{Row, front_of};
 use signs::signs;
-use std::io;
-use std::io::{ErrorKind, Read};
 use std::process::Abort;
 use std::test::Fail;
 use unknown::unknown;
@@ -48,49 +46,9 @@ struct Answer {
     told: Vec<u8>,
 }
 
-/// The bytes of a file.
-fn joined(rt: HostRuntime, first: &[u8], second: &[u8]) -> Result<Vec<u8>, Fail> {
-    let mut all = first.to_vec(rt.alloc())?;
-    all.extend_from_slice(second)?;
-    Ok(all)
-}
-
-/// A line with a number in it.
-fn numbered(rt: HostRuntime, front: &[u8], number: usize, behind: &[u8]) -> Result<Vec<u8>, Fail> {
-    let mut digits = Buffer::new();
-    let mut line = joined(rt, front, digits.format(number).as_bytes())?;
-    line.extend_from_slice(behind)?;
-    Ok(line)
-}
-
-/// A beginning, a part so many times, and an end.
-fn repeated(
-    rt: HostRuntime,
-    front: &[u8],
-    part: &[u8],
-    times: usize,
-    behind: &[u8],
-) -> Result<Vec<u8>, Fail> {
-    let mut all = front.to_vec(rt.alloc())?;
-    for _ in 0..times {
-        all.extend_from_slice(part)?;
-    }
-    all.extend_from_slice(behind)?;
-    Ok(all)
-}
-
 /// Room for so many bytes.
 fn room(rt: HostRuntime, size: usize) -> Result<Vec<u8>, Fail> {
     Ok(vec![in rt.alloc(); 0; size]?)
-}
-
-/// The words of a line.
-fn split(rt: HostRuntime, line: &'static str) -> Result<Vec<&'static [u8]>, Fail> {
-    let mut words = Vec::new(rt.alloc());
-    for word in line.split(' ') {
-        words.push(word.as_bytes())?;
-    }
-    Ok(words)
 }
 
 /// The status of a job's run over these devices. It has no clauses, so that those of `run` are taken in here alone.
@@ -145,7 +103,7 @@ fn status_of<R: DeviceIn, W: DeviceOut>(
     out: &mut Watched<W>,
     errors: &mut Watched<W>,
 ) -> Result<u8, Fail> {
-    let words = split(rt, line)?;
+    let words = split(rt.alloc(), line)?;
     let status = match plan(rt.alloc(), words.as_slice()) {
         Ok(planned) => job_status(&job_with_key(planned), input, out, errors),
         Err(usage) => tell(&usage, errors),
@@ -180,31 +138,6 @@ fn over_memory(
         output: bytes_in(rt, out.device())?,
         told: bytes_in(rt, errors.device())?,
     })
-}
-
-/// More calls than a run makes.
-const ALL: usize = usize::MAX;
-
-/// A reader of std that gives at most so many bytes a call, and fails at the call after so many good ones.
-#[derive(Drop)]
-struct Steps<'a> {
-    rest: &'a [u8],
-    step: usize,
-    good: usize,
-}
-
-impl<'a> Read for Steps<'a> {
-    fn read(&mut self, bytes: &mut [u8]) -> io::Result<usize> {
-        if self.good == 0 {
-            return Err(io::Error::from(ErrorKind::Interrupted));
-        }
-        self.good -= 1;
-        let n = self.step.min(bytes.len()).min(self.rest.len());
-        let (front, rest) = self.rest.split_at(n);
-        bytes[..n].copy_from_slice(front);
-        self.rest = rest;
-        Ok(n)
-    }
 }
 
 /// A run over std's reader and writers.
@@ -288,8 +221,8 @@ fn rows_of(rt: HostRuntime, tables: &[&'static [Row]]) -> Result<Vec<Row>, Fail>
 fn expect_rows(rt: HostRuntime, abort: &impl Abort, tables: &[&'static [Row]]) -> Result<(), Fail> {
     let rows = rows_of(rt, tables)?;
     for row in rows.as_slice() {
-        let input = joined(rt, bytes_of(row.start), row.input)?;
-        let output = joined(rt, front_of(row), row.lines)?;
+        let input = joined(rt.alloc(), row.start.bytes(), row.input)?;
+        let output = joined(rt.alloc(), front_of(row), row.lines)?;
         let wanted = Wanted {
             status: row.status,
             output: output.as_slice(),

@@ -1,4 +1,4 @@
-//! Tests of tables of files: runs of dcm2csv over files in memory, and over devices that fail.
+//! Tests of tables of files: the cells of dcm2csv by runs over files in memory, and over devices that fail.
 #![tactic(auto)]
 
 #[cfg(test)]

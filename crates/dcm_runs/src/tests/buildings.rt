@@ -1,5 +1,6 @@
 // Files that are built from the lines of a dump.
-use super::rows::{EMPTY, Row, Start};
+use super::rows::{EMPTY, Row};
+use dcm_test_devices::Start;
 
 /// Lines that build a file.
 const BUILT: [Row; 9] = [

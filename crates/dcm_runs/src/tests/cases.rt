@@ -1,7 +1,8 @@
 // The job of a row, and its files.
-use super::rows::{Row, bytes_of, front_of};
-use super::{job_with_key, joined, split};
+use super::job_with_key;
+use super::rows::{Row, front_of};
 use dcm_cli::{Job, plan};
+use dcm_test_devices::{joined, split};
 use std::process::Abort;
 use std::test::Fail;
 
@@ -14,7 +15,7 @@ pub struct Case {
 }
 
 fn job_of(rt: HostRuntime, abort: &impl Abort, row: &Row) -> Result<Job, Fail> {
-    let words = split(rt, row.words)?;
+    let words = split(rt.alloc(), row.words)?;
     match plan(rt.alloc(), words.as_slice()) {
         Ok(planned) => Ok(job_with_key(planned)),
         Err(_) => panic!(abort; "{}", row.name),
@@ -24,7 +25,7 @@ fn job_of(rt: HostRuntime, abort: &impl Abort, row: &Row) -> Result<Job, Fail> {
 pub fn case_of(rt: HostRuntime, abort: &impl Abort, row: &Row) -> Result<Case, Fail> {
     Ok(Case {
         job: job_of(rt, abort, row)?,
-        input: joined(rt, bytes_of(row.start), row.input)?,
-        whole: joined(rt, front_of(row), row.lines)?,
+        input: joined(rt.alloc(), row.start.bytes(), row.input)?,
+        whole: joined(rt.alloc(), front_of(row), row.lines)?,
     })
 }

@@ -1,5 +1,6 @@
 // Words that are refused.
-use super::{Wanted, expect_answer, joined, over_memory};
+use super::{Wanted, expect_answer, over_memory};
+use dcm_test_devices::joined;
 use std::process::Abort;
 use std::test::Fail;
 
@@ -85,7 +86,7 @@ fn expect_refused(rt: HostRuntime, abort: &impl Abort, line: &'static str) -> Re
     let Some((words, refusal)) = line.split_once(": ") else {
         panic!(abort; "no refusal: {line}");
     };
-    let mut told = joined(rt, b"dcmtools: ", refusal.as_bytes())?;
+    let mut told = joined(rt.alloc(), b"dcmtools: ", refusal.as_bytes())?;
     told.push(b'\n')?;
     let answer = over_memory(rt, words, b"", 1, 10)?;
     let wanted = Wanted {

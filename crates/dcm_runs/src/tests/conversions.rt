@@ -1,5 +1,6 @@
 // Conversions of files: what stands behind the meta group, and the bytes that are wanted of it.
-use super::rows::{EMPTY, Row, Start};
+use super::rows::{EMPTY, Row};
+use dcm_test_devices::Start;
 
 /// Values whose bytes are turned or evened.
 const VALUES: [Row; 10] = [

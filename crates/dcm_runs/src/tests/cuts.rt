@@ -3,10 +3,11 @@ use super::buildings::buildings;
 use super::conversions::conversions;
 use super::dictionaries::dictionaries;
 use super::modifications::modifications;
-use super::rows::{Row, Start, bytes_of, dumps, front_of};
+use super::rows::{Row, dumps, front_of};
 use super::signs::signs;
 use super::unknown::unknown;
-use super::{Answer, Wanted, expect_answer, holds, joined, numbered, over_memory, rows_of};
+use super::{Answer, Wanted, expect_answer, holds, over_memory, rows_of};
+use dcm_test_devices::{Start, joined, numbered};
 use std::process::Abort;
 use std::test::Fail;
 
@@ -17,12 +18,12 @@ const ROOM: usize = 3000;
 
 /// The line of an input that ends too early after so many bytes.
 fn early_end(rt: HostRuntime, read: usize) -> Result<Vec<u8>, Fail> {
-    numbered(
-        rt,
+    Ok(numbered(
+        rt.alloc(),
         b"dcmtools: R1 at byte ",
         read,
         b": input ends too early\n",
-    )
+    )?)
 }
 
 /// Whether a row writes a head. Where its whole input is at fault before that, a cut one may be a file without elements.
@@ -58,8 +59,8 @@ fn expect_cut(rt: &impl Abort, row: &Row, wanted: &[u8], early: &[u8], answer: &
 
 /// Runs a row with its input cut at each byte.
 fn cut_everywhere(rt: HostRuntime, abort: &impl Abort, row: &Row) -> Result<(), Fail> {
-    let input = joined(rt, bytes_of(row.start), row.input)?;
-    let wanted = joined(rt, front_of(row), row.lines)?;
+    let input = joined(rt.alloc(), row.start.bytes(), row.input)?;
+    let wanted = joined(rt.alloc(), front_of(row), row.lines)?;
     for cut in 0..input.len() {
         let (front, _) = input.as_slice().split_at(cut);
         let early = early_end(rt, cut)?;
@@ -100,15 +101,15 @@ fn dictionaries_of_cut_files(rt: HostRuntime) -> Result<(), Fail> {
 
 /// Runs a row with its data set cut at each byte: the bytes before the cut alone, and all bytes in two pieces.
 fn cut_set_everywhere(rt: HostRuntime, abort: &impl Abort, row: &Row) -> Result<(), Fail> {
-    let input = joined(rt, bytes_of(row.start), row.input)?;
-    let output = joined(rt, front_of(row), row.lines)?;
+    let input = joined(rt.alloc(), row.start.bytes(), row.input)?;
+    let output = joined(rt.alloc(), front_of(row), row.lines)?;
     let wanted = Wanted {
         status: row.status,
         output: output.as_slice(),
         told: row.told,
     };
     let size = output.len().saturating_add(ROOM);
-    for cut in bytes_of(row.start).len()..input.len() {
+    for cut in row.start.bytes().len()..input.len() {
         let (front, _) = input.as_slice().split_at(cut);
         let early = early_end(rt, cut)?;
         let answer = over_memory(rt, row.words, front, WHOLE, size)?;
@@ -158,7 +159,7 @@ fn expect_first_lines(rt: &impl Abort, row: &Row, wanted: &[u8], answer: &Answer
 
 /// Runs a row with its lines cut after each of them.
 fn cut_after_lines(rt: HostRuntime, abort: &impl Abort, row: &Row) -> Result<(), Fail> {
-    let wanted = joined(rt, front_of(row), row.lines)?;
+    let wanted = joined(rt.alloc(), front_of(row), row.lines)?;
     let mut cut: usize = 0;
     for byte in row.input {
         cut = cut.saturating_add(1);

@@ -1,7 +1,7 @@
 // Unknown sequences of known length: as deep as may be, one deeper, and what no sequence is until it is read back.
 use super::nested::{ENDS, OPENINGS, letters};
-use super::rows::{Start, bytes_of};
-use super::{Wanted, expect_answer, expect_runs, joined, over_memory, repeated};
+use super::{Wanted, expect_answer, expect_runs, over_memory};
+use dcm_test_devices::{Start, joined, repeated};
 use std::process::Abort;
 use std::test::Fail;
 
@@ -39,15 +39,15 @@ fn put_item(all: &mut Vec<u8>, size: usize) -> Result<(), Fail> {
 /// A file of so many explicit sequences, an unknown one of known length in the last item, and so many implicit ones in its
 /// item, each in an item of the one before it. These bytes are in the last item.
 fn around(rt: HostRuntime, before: usize, inside: usize, last: &[u8]) -> Result<Vec<u8>, Fail> {
-    let group = bytes_of(Start::ExplicitLittle);
-    let mut all = repeated(rt, group, OPENINGS, before, UNKNOWN)?;
+    let group = Start::ExplicitLittle.bytes();
+    let mut all = repeated(rt.alloc(), group, OPENINGS, before, UNKNOWN)?;
     put_item(&mut all, size_of(inside, last))?;
     for left in (0..inside).rev() {
         all.extend_from_slice(SEQUENCE_TAG)?;
         put_item(&mut all, size_of(left, last))?;
     }
     all.extend_from_slice(last)?;
-    repeated(rt, all.as_slice(), ENDS, before, b"")
+    Ok(repeated(rt.alloc(), all.as_slice(), ENDS, before, b"")?)
 }
 
 /// A file of so many sequences, each with an item that holds the next.
@@ -58,8 +58,8 @@ fn sequences(
     ends: &[u8],
     count: usize,
 ) -> Result<Vec<u8>, Fail> {
-    let opened = repeated(rt, bytes_of(start), openings, count, b"")?;
-    repeated(rt, opened.as_slice(), ends, count, b"")
+    let opened = repeated(rt.alloc(), start.bytes(), openings, count, b"")?;
+    Ok(repeated(rt.alloc(), opened.as_slice(), ends, count, b"")?)
 }
 
 const IMPLICIT_OPENINGS: &[u8] = b"\x08\0@\x11\xff\xff\xff\xff\xfe\xff\0\xe0\xff\xff\xff\xff";
@@ -91,7 +91,7 @@ fn expect_too_deep(
     file: &[u8],
     told: &[u8],
 ) -> Result<(), Fail> {
-    let opened = repeated(rt, bytes_of(Start::ExplicitLittle), OPENINGS, 64, b"")?;
+    let opened = repeated(rt.alloc(), Start::ExplicitLittle.bytes(), OPENINGS, 64, b"")?;
     let wanted = Wanted {
         status: 2,
         output: opened.as_slice(),
@@ -137,9 +137,9 @@ fn one_more_level(rt: HostRuntime) -> Result<(), Fail> {
 /// The last one has no bytes.
 #[test]
 fn one_more_unknown(rt: HostRuntime) -> Result<(), Fail> {
-    let group = bytes_of(Start::ExplicitLittle);
+    let group = Start::ExplicitLittle.bytes();
     let last = b"\x08\0@\x11UN\0\0\0\0\0\0";
-    let file = repeated(rt, group, OPENINGS, 64, last)?;
+    let file = repeated(rt.alloc(), group, OPENINGS, 64, last)?;
     let told = b"dcmtools: R11 at byte 1452: nested too deep\n";
     expect_too_deep(rt, &rt, file.as_slice(), told)
 }
@@ -169,10 +169,10 @@ fn sixty_four_in_other_syntaxes(rt: HostRuntime) -> Result<(), Fail> {
 
 #[test]
 fn edit_in_the_last_level(rt: HostRuntime) -> Result<(), Fail> {
-    let group = bytes_of(Start::ExplicitLittle);
+    let group = Start::ExplicitLittle.bytes();
     let file = around(rt, 0, 63, b"\x10\0 \0\x02\0\0\07 ")?;
-    let opened = repeated(rt, group, OPENINGS, 64, b"\x10\0 \0LO\x02\09 ")?;
-    let output = repeated(rt, opened.as_slice(), ENDS, 64, b"")?;
+    let opened = repeated(rt.alloc(), group, OPENINGS, 64, b"\x10\0 \0LO\x02\09 ")?;
+    let output = repeated(rt.alloc(), opened.as_slice(), ENDS, 64, b"")?;
     let wanted = Wanted {
         status: 0,
         output: output.as_slice(),
@@ -191,7 +191,11 @@ fn text_that_reads_back_as_a_sequence(rt: HostRuntime) -> Result<(), Fail> {
     let start = Start::ExplicitLittle;
     let text = letters(rt, start, b"\x08\0@\x11LO\xff\xff", b"")?;
     let written = letters(rt, start, b"\x08\0@\x11UN\0\0\0\0\x01\0", b" ")?;
-    let opened = joined(rt, bytes_of(start), b"\x08\0@\x11SQ\0\0\xff\xff\xff\xff")?;
+    let opened = joined(
+        rt.alloc(),
+        start.bytes(),
+        b"\x08\0@\x11SQ\0\0\xff\xff\xff\xff",
+    )?;
     for (input, wanted) in [
         (
             &text,

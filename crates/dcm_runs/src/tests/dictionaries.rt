@@ -1,6 +1,7 @@
 // Runs with the whole dictionary of PS3.6, and with the extract beside it: dumps, conversions and edits of elements that the
 // extract lacks, and what is wanted of them.
-use super::rows::{EMPTY, Row, Start};
+use super::rows::{EMPTY, Row};
+use dcm_test_devices::Start;
 
 /// Dumps.
 const DUMPS: [Row; 11] = [

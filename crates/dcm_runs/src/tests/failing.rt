@@ -9,8 +9,9 @@ mod modifications;
 
 use super::cases::{Case, case_of};
 use super::rows::Row;
-use super::{holds, numbered, rows_of};
-use devices::{Failure, Good, Left, SOUND, run_over, sure_of};
+use super::{holds, rows_of};
+use dcm_test_devices::{Failure, numbered};
+use devices::{Good, Left, SOUND, run_over, sure_of};
 use std::process::Abort;
 use std::test::Fail;
 
@@ -18,7 +19,12 @@ const OUTPUT_FAILED: &[u8] = b"dcmtools: output failed\n";
 
 /// The line that reports that reading failed.
 fn unread_line(rt: HostRuntime, read: usize) -> Result<Vec<u8>, Fail> {
-    numbered(rt, b"dcmtools: reading failed after ", read, b" bytes\n")
+    Ok(numbered(
+        rt.alloc(),
+        b"dcmtools: reading failed after ",
+        read,
+        b" bytes\n",
+    )?)
 }
 
 /// Expects what every run leaves: nothing on a writer that had failed, and lines after all of the output.

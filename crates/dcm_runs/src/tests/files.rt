@@ -1,9 +1,10 @@
 // Words over files in memory.
-use super::rows::{Start, bytes_of, header_of};
-use super::{Answer, Wanted, expect_answer, holds, joined, room};
+use super::rows::header_of;
+use super::{Answer, Wanted, expect_answer, holds, room};
 use dcm_base::MemOut;
 use dcm_cli::in_memory::obey_in_memory;
 use dcm_files::{MemFile, MemSystem};
+use dcm_test_devices::{Start, joined};
 use std::process::Abort;
 use std::test::Fail;
 
@@ -93,8 +94,8 @@ fn refused(words: &'static [&'static [u8]], told: &'static [u8], status: u8) -> 
 }
 
 fn works() -> [Case; 6] {
-    let file = bytes_of(Start::ExplicitLittle);
-    let big = bytes_of(Start::Big);
+    let file = Start::ExplicitLittle.bytes();
+    let big = Start::Big.bytes();
     [
         done(&[b"dcmdump", b"a"], header_of(Start::ExplicitLittle), LINE),
         done(&[b"dcmconv", b"+tb", b"link", b"new"], big, BIG_NAME),
@@ -129,11 +130,11 @@ fn failures() -> [Case; 6] {
 
 /// Expects what the words of cases come to.
 fn expect_cases(rt: HostRuntime, abort: &impl Abort, cases: &[Case]) -> Result<(), Fail> {
-    let bytes = joined(rt, bytes_of(Start::ExplicitLittle), NAME)?;
+    let bytes = joined(rt.alloc(), Start::ExplicitLittle.bytes(), NAME)?;
     for case in cases {
         let left = left_by(rt, case.words, bytes.as_slice())?;
         let (front, rest) = case.output.unwrap_or((b"", b""));
-        let output = joined(rt, front, rest)?;
+        let output = joined(rt.alloc(), front, rest)?;
         let wanted = Wanted {
             status: case.status,
             output: output.as_slice(),

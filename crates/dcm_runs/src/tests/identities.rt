@@ -1,5 +1,6 @@
 // Identity taken out of files: what becomes of elements, options, and new unique identifiers (PS3.15 E.1).
-use super::rows::{EMPTY, Row, Start};
+use super::rows::{EMPTY, Row};
+use dcm_test_devices::Start;
 
 /// What becomes of elements.
 const FATES: [Row; 16] = [

@@ -1,5 +1,6 @@
 // Identity taken out of files: what pixels show, faults, and inputs that are cut (PS3.15 E.1).
-use super::rows::{EMPTY, Row, Start};
+use super::rows::{EMPTY, Row};
+use dcm_test_devices::Start;
 
 /// What pixels show.
 const PIXELS: [Row; 8] = [

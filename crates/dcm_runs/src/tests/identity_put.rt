@@ -1,5 +1,6 @@
 // Identity taken out of files: what is put in (PS3.15 E.1).
-use super::rows::{EMPTY, Row, Start};
+use super::rows::{EMPTY, Row};
+use dcm_test_devices::Start;
 
 /// What is put in.
 const PUT: [Row; 15] = [

@@ -1,7 +1,7 @@
 // Lines of a dump that come to a limit.
 use super::nested::OPENINGS;
-use super::rows::{Start, bytes_of};
-use super::{Wanted, expect_runs, joined, repeated};
+use super::{Wanted, expect_runs};
+use dcm_test_devices::{Start, joined, repeated};
 use std::test::Fail;
 
 const SYNTAX_LINE: &[u8] = b"(0002,0010) UI =LittleEndianExplicit\n";
@@ -16,15 +16,15 @@ const COMMENTS: &[u8] = b"\x10\0\0@LT\xf0\x0f";
 
 /// The lines of a file with comments of so many letters.
 fn comments(rt: HostRuntime, letters: usize) -> Result<Vec<u8>, Fail> {
-    let front = joined(rt, SYNTAX_LINE, b"(0010,4000) LT [")?;
-    repeated(rt, front.as_slice(), b"a", letters, b"]")
+    let front = joined(rt.alloc(), SYNTAX_LINE, b"(0010,4000) LT [")?;
+    Ok(repeated(rt.alloc(), front.as_slice(), b"a", letters, b"]")?)
 }
 
 #[test]
 fn longest_line(rt: HostRuntime) -> Result<(), Fail> {
     let lines = comments(rt, MOST_LETTERS)?;
-    let front = joined(rt, bytes_of(Start::ExplicitLittle), COMMENTS)?;
-    let file = repeated(rt, front.as_slice(), b"a", MOST_LETTERS, b" ")?;
+    let front = joined(rt.alloc(), Start::ExplicitLittle.bytes(), COMMENTS)?;
+    let file = repeated(rt.alloc(), front.as_slice(), b"a", MOST_LETTERS, b" ")?;
     let wanted = Wanted {
         status: 0,
         output: file.as_slice(),
@@ -46,10 +46,10 @@ fn line_too_long(rt: HostRuntime) -> Result<(), Fail> {
 
 #[test]
 fn value_that_was_cut(rt: HostRuntime) -> Result<(), Fail> {
-    let lines = joined(rt, SYNTAX_LINE, b"(0010,0010) PN [AB...")?;
+    let lines = joined(rt.alloc(), SYNTAX_LINE, b"(0010,0010) PN [AB...")?;
     let wanted = Wanted {
         status: 2,
-        output: bytes_of(Start::ExplicitLittle),
+        output: Start::ExplicitLittle.bytes(),
         told: b"dcmtools: B3 at byte 37, line 2: value does not fit\n",
     };
     expect_runs(
@@ -68,9 +68,9 @@ const OPENING_LINES: &[u8] =
 #[test]
 fn sixty_fifth_sequence(rt: HostRuntime) -> Result<(), Fail> {
     let last = b"(0008,1140) SQ (Sequence with undefined length)";
-    let lines = repeated(rt, SYNTAX_LINE, OPENING_LINES, 64, last)?;
-    let group = bytes_of(Start::ExplicitLittle);
-    let file = repeated(rt, group, OPENINGS, 64, b"")?;
+    let lines = repeated(rt.alloc(), SYNTAX_LINE, OPENING_LINES, 64, last)?;
+    let group = Start::ExplicitLittle.bytes();
+    let file = repeated(rt.alloc(), group, OPENINGS, 64, b"")?;
     let wanted = Wanted {
         status: 2,
         output: file.as_slice(),

@@ -1,5 +1,6 @@
 // Files that are modified: what follows the meta group, and the bytes that are wanted of it.
-use super::rows::{EMPTY, Row, Start};
+use super::rows::{EMPTY, Row};
+use dcm_test_devices::Start;
 
 /// New elements.
 const NEW: [Row; 9] = [

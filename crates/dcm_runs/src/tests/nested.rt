@@ -1,6 +1,7 @@
 // Deep and long files.
-use super::rows::{Start, bytes_of, header_of};
-use super::{STEPS, Wanted, expect_runs, holds, joined, over_memory, repeated};
+use super::rows::header_of;
+use super::{STEPS, Wanted, expect_runs, holds, over_memory};
+use dcm_test_devices::{Start, joined, repeated};
 use std::test::Fail;
 
 const SEQUENCE: &[u8] = b"\x08\0@\x11SQ\0\0\xff\xff\xff\xff";
@@ -37,8 +38,8 @@ fn indent(all: &mut Vec<u8>, level: usize, line: &[u8]) -> Result<(), Fail> {
 
 /// A file of 64 sequences, each with an item that holds the next, and what follows the innermost item's opening.
 fn nested(rt: HostRuntime, behind: &[u8]) -> Result<Vec<u8>, Fail> {
-    let group = bytes_of(Start::ExplicitLittle);
-    repeated(rt, group, OPENINGS, DEPTH, behind)
+    let group = Start::ExplicitLittle.bytes();
+    Ok(repeated(rt.alloc(), group, OPENINGS, DEPTH, behind)?)
 }
 
 /// The lines of the openings.
@@ -77,7 +78,7 @@ fn sixty_four_sequences(rt: HostRuntime) -> Result<(), Fail> {
 /// A file of 64 sequences, all of them closed.
 pub fn sixty_four(rt: HostRuntime) -> Result<Vec<u8>, Fail> {
     let opened = nested(rt, b"")?;
-    repeated(rt, opened.as_slice(), ENDS, DEPTH, b"")
+    Ok(repeated(rt.alloc(), opened.as_slice(), ENDS, DEPTH, b"")?)
 }
 
 #[test]
@@ -113,8 +114,8 @@ const LARGEST: usize = 16_332;
 #[test]
 fn largest_meta_group(rt: HostRuntime) -> Result<(), Fail> {
     let head = b"\x02\0\x02\x01OB\0\0\xcc\x3f\0\0";
-    let front = joined(rt, bytes_of(Start::ExplicitLittle), head)?;
-    let file = repeated(rt, front.as_slice(), b"\0", LARGEST, b"")?;
+    let front = joined(rt.alloc(), Start::ExplicitLittle.bytes(), head)?;
+    let file = repeated(rt.alloc(), front.as_slice(), b"\0", LARGEST, b"")?;
     let wanted =
         b"(0002,0102) OB 00\\00\\00\\00\\00\\00\\00\\00\\00\\00\\00\\00\\00\\00\\00\\00\\00\\00\\00\\00\\00\\... # 16332, 1 PrivateInformation\n\n# Dicom-Data-Set\n# Used TransferSyntax: LittleEndianExplicit\n".as_slice();
     for step in STEPS {
@@ -132,8 +133,8 @@ const LONGEST_SHORT: usize = 65_535;
 
 /// What stands before a text, so many letters, and what stands behind them.
 pub fn letters(rt: HostRuntime, start: Start, head: &[u8], behind: &[u8]) -> Result<Vec<u8>, Fail> {
-    let front = joined(rt, bytes_of(start), head)?;
-    repeated(rt, front.as_slice(), b"a", LONGEST_SHORT, behind)
+    let front = joined(rt.alloc(), start.bytes(), head)?;
+    Ok(repeated(rt.alloc(), front.as_slice(), b"a", LONGEST_SHORT, behind)?)
 }
 
 #[test]

@@ -3,10 +3,11 @@ ghost use Rattle.std.specs.Prelude.{◌≡◌, None, true};
 ghost use Rattle.dcm_files.specs.Devices.{anything};
 ghost use Rattle.dcm_files.specs.Output.{anything as any_file};
 
-use super::{bytes_in, holds, memory_out, split};
+use super::{bytes_in, holds, memory_out};
 use dcm_base::{Device, DeviceIn, DeviceOut, ReadFailed, WriteFailed};
 use dcm_cli::obey;
 use dcm_files::{FileKind, Opened, OutputFile, System, Target};
+use dcm_test_devices::split;
 use std::alloc::AllocError;
 use std::cell::Cell;
 use std::io;
@@ -158,7 +159,7 @@ fn obeyed(
     input: Answer,
     output: Answer,
 ) -> Result<Left, Fail> {
-    let words = split(rt, line)?;
+    let words = split(rt.alloc(), line)?;
     let calls = Cell::new(0usize);
     let mut errors = memory_out(rt, 200)?;
     let mut system = Answers {

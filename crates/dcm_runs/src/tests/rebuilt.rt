@@ -1,7 +1,8 @@
 // Files that are dumped in full, and built again of their dumps.
 use super::nested::{letters, sixty_four};
-use super::rows::{Start, bytes_of, header_of};
-use super::{Answer, STEPS, Wanted, expect_answer, holds, joined, over_memory, over_std};
+use super::rows::header_of;
+use super::{Answer, STEPS, Wanted, expect_answer, holds, over_memory, over_std};
+use dcm_test_devices::{Start, joined};
 use std::process::Abort;
 use std::test::Fail;
 
@@ -264,8 +265,8 @@ fn expect_files(
     files: &[File],
 ) -> Result<(), Fail> {
     for file in files {
-        let input = joined(rt, bytes_of(file.start), file.input)?;
-        let built = joined(rt, bytes_of(file.start), file.built)?;
+        let input = joined(rt.alloc(), file.start.bytes(), file.input)?;
+        let built = joined(rt.alloc(), file.start.bytes(), file.built)?;
         let wanted = Rebuilt {
             name: file.name,
             words,
@@ -301,8 +302,8 @@ const BEHIND_PREAMBLE: &[u8] =
 
 #[test]
 fn a_preamble_is_not_rebuilt(rt: HostRuntime) -> Result<(), Fail> {
-    let file = joined(rt, OTHER_PREAMBLE, BEHIND_PREAMBLE)?;
-    let built = joined(rt, ZEROS, BEHIND_PREAMBLE)?;
+    let file = joined(rt.alloc(), OTHER_PREAMBLE, BEHIND_PREAMBLE)?;
+    let built = joined(rt.alloc(), ZEROS, BEHIND_PREAMBLE)?;
     let wanted = Rebuilt {
         name: "a preamble",
         words: BY_EXTRACT,
@@ -329,10 +330,10 @@ fn sixty_four_sequences_are_rebuilt(rt: HostRuntime) -> Result<(), Fail> {
 /// A value that ends within a number: the dump has its whole numbers alone.
 #[test]
 fn a_byte_behind_numbers_is_not_rebuilt(rt: HostRuntime) -> Result<(), Fail> {
-    let group = bytes_of(Start::Big);
-    let file = joined(rt, group, b"\0(\0\x10US\0\x05\0\x01\x02\0\x05")?;
-    let built = joined(rt, group, b"\0(\0\x10US\0\x04\0\x01\x02\0")?;
-    let converted = joined(rt, group, b"\0(\0\x10US\0\x06\0\x01\x02\0\x05\0")?;
+    let group = Start::Big.bytes();
+    let file = joined(rt.alloc(), group, b"\0(\0\x10US\0\x05\0\x01\x02\0\x05")?;
+    let built = joined(rt.alloc(), group, b"\0(\0\x10US\0\x04\0\x01\x02\0")?;
+    let converted = joined(rt.alloc(), group, b"\0(\0\x10US\0\x06\0\x01\x02\0\x05\0")?;
     let wanted = Rebuilt {
         name: "a byte behind numbers",
         words: BY_EXTRACT,

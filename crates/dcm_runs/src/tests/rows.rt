@@ -1,14 +1,5 @@
 // Dumps of files: what stands behind the meta group, and the lines that are wanted of it.
-
-/// A meta group with the transfer syntax that it names, and the lines that a dump begins with.
-#[derive(Clone, Copy, PartialEq, Eq)]
-pub enum Start {
-    Nothing,
-    ExplicitLittle,
-    Implicit,
-    Big,
-    Jpeg,
-}
+use dcm_test_devices::Start;
 
 /// A run: its words, its input behind its start, the output behind its header, the status, and standard error.
 #[derive(Clone, Copy)]
@@ -35,21 +26,10 @@ pub const EMPTY: Row = Row {
     told: b"",
 };
 
-/// The preamble, the prefix and a meta group of two elements.
-pub fn bytes_of(start: Start) -> &'static [u8] {
-    match start {
-        Start::Nothing => b"",
-        Start::ExplicitLittle => EXPLICIT_LITTLE,
-        Start::Implicit => IMPLICIT,
-        Start::Big => BIG,
-        Start::Jpeg => JPEG,
-    }
-}
-
 /// The header of a dump.
 pub fn header_of(start: Start) -> &'static [u8] {
     match start {
-        Start::Nothing => b"",
+        Start::Nothing | Start::Prefix => b"",
         Start::ExplicitLittle => EXPLICIT_LITTLE_HEADER,
         Start::Implicit => IMPLICIT_HEADER,
         Start::Big => BIG_HEADER,
@@ -62,30 +42,18 @@ pub fn front_of(row: &Row) -> &'static [u8] {
     if row.words.starts_with("dcmdump") {
         header_of(row.header)
     } else {
-        bytes_of(row.header)
+        row.header.bytes()
     }
 }
-
-const EXPLICIT_LITTLE: &[u8] =
-    b"\0\0\0\0\0\0\0\0\0\0\0\0\0\0\0\0\0\0\0\0\0\0\0\0\0\0\0\0\0\0\0\0\0\0\0\0\0\0\0\0\0\0\0\0\0\0\0\0\0\0\0\0\0\0\0\0\0\0\0\0\0\0\0\0\0\0\0\0\0\0\0\0\0\0\0\0\0\0\0\0\0\0\0\0\0\0\0\0\0\0\0\0\0\0\0\0\0\0\0\0\0\0\0\0\0\0\0\0\0\0\0\0\0\0\0\0\0\0\0\0\0\0\0\0\0\0\0\0DICM\x02\0\0\0UL\x04\0\x1c\0\0\0\x02\0\x10\0UI\x14\01.2.840.10008.1.2.1\0";
 
 const EXPLICIT_LITTLE_HEADER: &[u8] =
     b"# Dicom-File-Format\n\n# Dicom-Meta-Information-Header\n# Used TransferSyntax: LittleEndianExplicit\n(0002,0000) UL 28                                       #   4, 1 FileMetaInformationGroupLength\n(0002,0010) UI =LittleEndianExplicit                    #  20, 1 TransferSyntaxUID\n\n# Dicom-Data-Set\n# Used TransferSyntax: LittleEndianExplicit\n";
 
-const IMPLICIT: &[u8] =
-    b"\0\0\0\0\0\0\0\0\0\0\0\0\0\0\0\0\0\0\0\0\0\0\0\0\0\0\0\0\0\0\0\0\0\0\0\0\0\0\0\0\0\0\0\0\0\0\0\0\0\0\0\0\0\0\0\0\0\0\0\0\0\0\0\0\0\0\0\0\0\0\0\0\0\0\0\0\0\0\0\0\0\0\0\0\0\0\0\0\0\0\0\0\0\0\0\0\0\0\0\0\0\0\0\0\0\0\0\0\0\0\0\0\0\0\0\0\0\0\0\0\0\0\0\0\0\0\0\0DICM\x02\0\0\0UL\x04\0\x1a\0\0\0\x02\0\x10\0UI\x12\01.2.840.10008.1.2\0";
-
 const IMPLICIT_HEADER: &[u8] =
     b"# Dicom-File-Format\n\n# Dicom-Meta-Information-Header\n# Used TransferSyntax: LittleEndianExplicit\n(0002,0000) UL 26                                       #   4, 1 FileMetaInformationGroupLength\n(0002,0010) UI =LittleEndianImplicit                    #  18, 1 TransferSyntaxUID\n\n# Dicom-Data-Set\n# Used TransferSyntax: LittleEndianImplicit\n";
 
-const BIG: &[u8] =
-    b"\0\0\0\0\0\0\0\0\0\0\0\0\0\0\0\0\0\0\0\0\0\0\0\0\0\0\0\0\0\0\0\0\0\0\0\0\0\0\0\0\0\0\0\0\0\0\0\0\0\0\0\0\0\0\0\0\0\0\0\0\0\0\0\0\0\0\0\0\0\0\0\0\0\0\0\0\0\0\0\0\0\0\0\0\0\0\0\0\0\0\0\0\0\0\0\0\0\0\0\0\0\0\0\0\0\0\0\0\0\0\0\0\0\0\0\0\0\0\0\0\0\0\0\0\0\0\0\0DICM\x02\0\0\0UL\x04\0\x1c\0\0\0\x02\0\x10\0UI\x14\01.2.840.10008.1.2.2\0";
-
 const BIG_HEADER: &[u8] =
     b"# Dicom-File-Format\n\n# Dicom-Meta-Information-Header\n# Used TransferSyntax: LittleEndianExplicit\n(0002,0000) UL 28                                       #   4, 1 FileMetaInformationGroupLength\n(0002,0010) UI =BigEndianExplicit                       #  20, 1 TransferSyntaxUID\n\n# Dicom-Data-Set\n# Used TransferSyntax: BigEndianExplicit\n";
-
-const JPEG: &[u8] =
-    b"\0\0\0\0\0\0\0\0\0\0\0\0\0\0\0\0\0\0\0\0\0\0\0\0\0\0\0\0\0\0\0\0\0\0\0\0\0\0\0\0\0\0\0\0\0\0\0\0\0\0\0\0\0\0\0\0\0\0\0\0\0\0\0\0\0\0\0\0\0\0\0\0\0\0\0\0\0\0\0\0\0\0\0\0\0\0\0\0\0\0\0\0\0\0\0\0\0\0\0\0\0\0\0\0\0\0\0\0\0\0\0\0\0\0\0\0\0\0\0\0\0\0\0\0\0\0\0\0DICM\x02\0\0\0UL\x04\0\x1e\0\0\0\x02\0\x10\0UI\x16\01.2.840.10008.1.2.4.50";
 
 const JPEG_HEADER: &[u8] =
     b"# Dicom-File-Format\n\n# Dicom-Meta-Information-Header\n# Used TransferSyntax: LittleEndianExplicit\n(0002,0000) UL 30                                       #   4, 1 FileMetaInformationGroupLength\n(0002,0010) UI =JPEGBaseline                            #  22, 1 TransferSyntaxUID\n\n# Dicom-Data-Set\n# Used TransferSyntax: JPEGBaseline\n";

@@ -1,5 +1,6 @@
 // Elements that the standard leaves between two representations, by the sign of the pixels (PS3.3 C.7.6.3.1.4).
-use super::rows::{EMPTY, Row, Start};
+use super::rows::{EMPTY, Row};
+use dcm_test_devices::Start;
 
 /// Dumps of implicit files.
 const DUMPS: [Row; 6] = [

@@ -1,5 +1,6 @@
 // Unknown values of known length: sequences, where the whole dictionary says so (PS3.5 6.2.2).
-use super::rows::{EMPTY, Row, Start};
+use super::rows::{EMPTY, Row};
+use dcm_test_devices::Start;
 
 /// Sequences, and values that are none.
 const SEQUENCES: [Row; 8] = [

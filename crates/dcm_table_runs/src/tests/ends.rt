@@ -1,151 +1,100 @@
 // Rows of files that are read far enough, or up to a fault.
-use super::rows::{Done, Entry, Front, NEVER, Row};
+use dcm_test_devices::Start;
+use dcm_test_tables::Done::{Faulty, Whole};
+use dcm_test_tables::Entry::{Decided, File, Named};
+use dcm_test_tables::{Row, TWO_COLUMNS};
 
 /// Where reading ends.
-pub const ENDS: [Row; 3] = [
+pub fn ends() -> &'static [Row] {
+    &ENDS
+}
+
+const ENDS: [Row; 3] = [
     Row {
         name: "read far enough",
-        words: &[
-            b"dcm2csv",
-            b"+nh",
-            b"-k",
-            b"PatientName",
-            b"-k",
-            b"(0010,0020)",
-            b"beyond",
-            b"at",
-            b"before",
-        ],
+        words: TWO_COLUMNS,
+        names: &[b"beyond", b"at", b"before"],
         files: &[
-            Entry {
-                path: b"beyond",
-                front: Front::ExplicitLittle,
-                rest: b"\x10\0\x10\0PN\x06\0AB^CD (\0\x10\0US\x02\0\x01\0junk, and more junk",
-                decided: 194,
-            },
-            Entry {
-                path: b"at",
-                front: Front::ExplicitLittle,
-                rest: b"\x10\0\x10\0PN\x06\0AB^CD (\0\x10\0us\x02\0\x01\0",
-                decided: 194,
-            },
-            Entry {
-                path: b"before",
-                front: Front::ExplicitLittle,
-                rest: b"\x08\0`\0pn\x02\0\x10\0\x10\0PN\x06\0AB^CD ",
-                decided: 180,
-            },
+            Decided(
+                b"beyond",
+                Start::ExplicitLittle,
+                b"\x10\0\x10\0PN\x06\0AB^CD (\0\x10\0US\x02\0\x01\0junk, and more junk",
+                194,
+            ),
+            Decided(
+                b"at",
+                Start::ExplicitLittle,
+                b"\x10\0\x10\0PN\x06\0AB^CD (\0\x10\0us\x02\0\x01\0",
+                194,
+            ),
+            Decided(
+                b"before",
+                Start::ExplicitLittle,
+                b"\x08\0`\0pn\x02\0\x10\0\x10\0PN\x06\0AB^CD ",
+                180,
+            ),
         ],
         header: b"",
         done: &[
-            Done {
-                path: b"beyond",
-                shown: b"beyond",
-                row: b"\"beyond\",\"AB^CD\",\n",
-                lines: b"",
-                status: 0,
-            },
-            Done {
-                path: b"at",
-                shown: b"at",
-                row: b"\"at\",\"AB^CD\",\n",
-                lines: b"dcmtools: at: R7 at byte 186: unknown value representation\n",
-                status: 2,
-            },
-            Done {
-                path: b"before",
-                shown: b"before",
-                row: b"\"before\",,\n",
-                lines: b"dcmtools: before: R7 at byte 172: unknown value representation\n",
-                status: 2,
-            },
+            Whole(b"beyond", b"beyond", b"\"beyond\",\"AB^CD\",\n"),
+            Faulty(
+                b"at",
+                b"at",
+                b"\"at\",\"AB^CD\",\n",
+                b"R7 at byte 186: unknown value representation",
+            ),
+            Faulty(
+                b"before",
+                b"before",
+                b"\"before\",,\n",
+                b"R7 at byte 172: unknown value representation",
+            ),
         ],
-        status: 2,
     },
     Row {
         name: "cut files",
-        words: &[
-            b"dcm2csv",
-            b"+nh",
-            b"-k",
-            b"PatientName",
-            b"-k",
-            b"(0010,0020)",
-            b"value",
-            b"head",
-            b"end",
-            b"a",
-        ],
+        words: TWO_COLUMNS,
+        names: &[b"value", b"head", b"end", b"a"],
         files: &[
-            Entry {
-                path: b"value",
-                front: Front::ExplicitLittle,
-                rest: b"\x10\0\x10\0PN\x06\0AB^CD \x10\0 \0LO\x04\0AB",
-                decided: NEVER,
-            },
-            Entry {
-                path: b"head",
-                front: Front::ExplicitLittle,
-                rest: b"\x10\0\x10\0PN\x06\0AB^CD \x10\0 \0LO",
-                decided: NEVER,
-            },
-            Entry {
-                path: b"end",
-                front: Front::ExplicitLittle,
-                rest: b"\x10\0\x10\0PN\x06\0AB^CD \x10\0 \0LO\x02\07 ",
-                decided: NEVER,
-            },
-            Entry {
-                path: b"a",
-                front: Front::ExplicitLittle,
-                rest: b"\x10\0\x10\0PN\x06\0AB^CD ",
-                decided: NEVER,
-            },
+            File(
+                b"value",
+                Start::ExplicitLittle,
+                b"\x10\0\x10\0PN\x06\0AB^CD \x10\0 \0LO\x04\0AB",
+            ),
+            File(
+                b"head",
+                Start::ExplicitLittle,
+                b"\x10\0\x10\0PN\x06\0AB^CD \x10\0 \0LO",
+            ),
+            File(
+                b"end",
+                Start::ExplicitLittle,
+                b"\x10\0\x10\0PN\x06\0AB^CD \x10\0 \0LO\x02\07 ",
+            ),
+            Named(b"a"),
         ],
         header: b"",
         done: &[
-            Done {
-                path: b"value",
-                shown: b"value",
-                row: b"\"value\",\"AB^CD\",\n",
-                lines: b"dcmtools: value: R1 at byte 196: input ends too early\n",
-                status: 2,
-            },
-            Done {
-                path: b"head",
-                shown: b"head",
-                row: b"\"head\",\"AB^CD\",\n",
-                lines: b"dcmtools: head: R1 at byte 192: input ends too early\n",
-                status: 2,
-            },
-            Done {
-                path: b"end",
-                shown: b"end",
-                row: b"\"end\",\"AB^CD\",\"7\"\n",
-                lines: b"",
-                status: 0,
-            },
-            Done {
-                path: b"a",
-                shown: b"a",
-                row: b"\"a\",\"AB^CD\",\n",
-                lines: b"",
-                status: 0,
-            },
+            Faulty(
+                b"value",
+                b"value",
+                b"\"value\",\"AB^CD\",\n",
+                b"R1 at byte 196: input ends too early",
+            ),
+            Faulty(
+                b"head",
+                b"head",
+                b"\"head\",\"AB^CD\",\n",
+                b"R1 at byte 192: input ends too early",
+            ),
+            Whole(b"end", b"end", b"\"end\",\"AB^CD\",\"7\"\n"),
+            Whole(b"a", b"a", b"\"a\",\"AB^CD\",\n"),
         ],
-        status: 2,
     },
     Row {
         name: "meta groups",
-        words: &[
-            b"dcm2csv",
-            b"+nh",
-            b"-k",
-            b"TransferSyntaxUID",
-            b"-k",
-            b"FileMetaInformationGroupLength",
-            b"-k",
-            b"PatientName",
+        words: "dcm2csv +nh -k TransferSyntaxUID -k FileMetaInformationGroupLength -k PatientName",
+        names: &[
             b"a",
             b"deflated",
             b"none",
@@ -155,101 +104,70 @@ pub const ENDS: [Row; 3] = [
             b"empty",
         ],
         files: &[
-            Entry {
-                path: b"a",
-                front: Front::ExplicitLittle,
-                rest: b"\x10\0\x10\0PN\x06\0AB^CD ",
-                decided: NEVER,
-            },
-            Entry {
-                path: b"deflated",
-                front: Front::Prefix,
-                rest: b"\x02\0\x10\0UI\x16\01.2.840.10008.1.2.1.99",
-                decided: NEVER,
-            },
-            Entry {
-                path: b"none",
-                front: Front::Prefix,
-                rest: b"\x02\0\x10\0UI\0\0\x10\0\x10\0PN\x06\0AB^CD ",
-                decided: 142,
-            },
-            Entry {
-                path: b"cut",
-                front: Front::Prefix,
-                rest: b"\x02\0\0\0UL\x04\0\x1c\0\0\0\x02\0\x10\0UI\x14\01.2.840.10008.1.2.1",
-                decided: NEVER,
-            },
-            Entry {
-                path: b"jpeg",
-                front: Front::Jpeg,
-                rest: b"\x10\0\x10\0PN\x06\0AB^CD ",
-                decided: NEVER,
-            },
-            Entry {
-                path: b"text",
-                front: Front::Nothing,
-                rest: b"not a DICOM file\nnot a DICOM file\nnot a DICOM file\nnot a DICOM file\nnot a DICOM file\nnot a DICOM file\nnot a DICOM file\nnot a DICOM file\nnot a DICOM file\n",
-                decided: 132,
-            },
-            Entry {
-                path: b"empty",
-                front: Front::Nothing,
-                rest: b"",
-                decided: NEVER,
-            },
+            Named(b"a"),
+            File(
+                b"deflated",
+                Start::Prefix,
+                b"\x02\0\x10\0UI\x16\01.2.840.10008.1.2.1.99",
+            ),
+            Decided(
+                b"none",
+                Start::Prefix,
+                b"\x02\0\x10\0UI\0\0\x10\0\x10\0PN\x06\0AB^CD ",
+                142,
+            ),
+            File(
+                b"cut",
+                Start::Prefix,
+                b"\x02\0\0\0UL\x04\0\x1c\0\0\0\x02\0\x10\0UI\x14\01.2.840.10008.1.2.1",
+            ),
+            File(b"jpeg", Start::Jpeg, b"\x10\0\x10\0PN\x06\0AB^CD "),
+            Decided(
+                b"text",
+                Start::Nothing,
+                b"not a DICOM file\nnot a DICOM file\nnot a DICOM file\nnot a DICOM file\nnot a DICOM file\nnot a DICOM file\nnot a DICOM file\nnot a DICOM file\nnot a DICOM file\n",
+                132,
+            ),
+            File(b"empty", Start::Nothing, b""),
         ],
         header: b"",
         done: &[
-            Done {
-                path: b"a",
-                shown: b"a",
-                row: b"\"a\",\"1.2.840.10008.1.2.1\",28,\"AB^CD\"\n",
-                lines: b"",
-                status: 0,
-            },
-            Done {
-                path: b"deflated",
-                shown: b"deflated",
-                row: b"\"deflated\",\"1.2.840.10008.1.2.1.99\",,\n",
-                lines: b"dcmtools: deflated: R6 at byte 162: deflated transfer syntax\n",
-                status: 2,
-            },
-            Done {
-                path: b"none",
-                shown: b"none",
-                row: b"\"none\",\"\",,\n",
-                lines: b"dcmtools: none: R5 at byte 140: no transfer syntax\n",
-                status: 2,
-            },
-            Done {
-                path: b"cut",
-                shown: b"cut",
-                row: b"\"cut\",,28,\n",
-                lines: b"dcmtools: cut: R1 at byte 171: input ends too early\n",
-                status: 2,
-            },
-            Done {
-                path: b"jpeg",
-                shown: b"jpeg",
-                row: b"\"jpeg\",\"1.2.840.10008.1.2.4.50\",30,\"AB^CD\"\n",
-                lines: b"",
-                status: 0,
-            },
-            Done {
-                path: b"text",
-                shown: b"text",
-                row: b"\"text\",,,\n",
-                lines: b"dcmtools: text: R2 at byte 128: no DICM prefix\n",
-                status: 2,
-            },
-            Done {
-                path: b"empty",
-                shown: b"empty",
-                row: b"\"empty\",,,\n",
-                lines: b"dcmtools: empty: R1 at byte 0: input ends too early\n",
-                status: 2,
-            },
+            Whole(b"a", b"a", b"\"a\",\"1.2.840.10008.1.2.1\",28,\"AB^CD\"\n"),
+            Faulty(
+                b"deflated",
+                b"deflated",
+                b"\"deflated\",\"1.2.840.10008.1.2.1.99\",,\n",
+                b"R6 at byte 162: deflated transfer syntax",
+            ),
+            Faulty(
+                b"none",
+                b"none",
+                b"\"none\",\"\",,\n",
+                b"R5 at byte 140: no transfer syntax",
+            ),
+            Faulty(
+                b"cut",
+                b"cut",
+                b"\"cut\",,28,\n",
+                b"R1 at byte 171: input ends too early",
+            ),
+            Whole(
+                b"jpeg",
+                b"jpeg",
+                b"\"jpeg\",\"1.2.840.10008.1.2.4.50\",30,\"AB^CD\"\n",
+            ),
+            Faulty(
+                b"text",
+                b"text",
+                b"\"text\",,,\n",
+                b"R2 at byte 128: no DICM prefix",
+            ),
+            Faulty(
+                b"empty",
+                b"empty",
+                b"\"empty\",,,\n",
+                b"R1 at byte 0: input ends too early",
+            ),
         ],
-        status: 2,
     },
 ];

@@ -1,10 +1,10 @@
 // The examples in the descriptions of the libraries of a table, at the top of each `lib.rt`.
-use super::rows::{Front, bytes_of};
 use dcm_base::{Coding, Dictionary, MemIn, MemOut, Syntax, Tag, Watched};
 use dcm_names::{ListReader, NextName, OpenLine, can_be_opened, shown_name};
 use dcm_stream::Machine;
 use dcm_table::{Cells, Column, Columns, RowEnd, TextForm, put_row, row_end};
 use dcm_table_words::{Name, TableUsage, table_plan};
+use dcm_test_tables::NAME;
 use std::test::Fail;
 
 const PATIENT_NAME: Tag = Tag {
@@ -90,8 +90,6 @@ const EXPLICIT_LITTLE: Coding = Coding {
     syntax: Syntax::LITTLE,
     encapsulated: false,
 };
-
-const NAME: &[u8] = b"\x10\0\x10\0PN\x06\0AB^CD ";
 
 #[test]
 fn row_of_a_file(rt: HostRuntime) -> Result<(), Fail> {

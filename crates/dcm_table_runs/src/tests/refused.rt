@@ -1,7 +1,8 @@
 // Words that are refused: nothing is opened.
-use super::devices::SOUND;
-use super::{Left, holds, run_over};
-use std::process::Abort;
+use super::program::expect_nothing;
+use dcm_test_devices::{SOUND, joined, split};
+use dcm_test_tables::run_over;
+use std::alloc::Global;
 use std::test::Fail;
 
 /// In each line words, and what is told of them.
@@ -54,41 +55,22 @@ dcm2csv a -k Rows -k Rows -k Rows -k Rows -k Rows -k Rows -k Rows -k Rows -k Row
 dcm2csv -k Rows -k Rows -k Rows -k Rows -k Rows -k Rows -k Rows -k Rows -k Rows -k Rows -k Rows -k Rows -k Rows -k Rows -k Rows -k Rows -k Rows -k Rows -k Rows -k Rows -k Rows -k Rows -k Rows -k Rows -k Rows -k Rows -k Rows -k Rows -k Rows -k Rows -k Rows -k Rows -k Rows -k Rows -k Rows -k Rows -k Rows -k Rows -k Rows -k Rows -k Rows -k Rows -k Rows -k Rows -k Rows -k Rows -k Rows -k Rows -k Rows -k Rows -k Rows -k Rows -k Rows -k Rows -k Rows -k Rows -k Rows -k Rows -k Rows -k Rows -k Rows -k Rows -k Rows -k Rows -k Rows: V8: not 1 to 64 columns
 ";
 
-/// The words of a line.
-fn split(rt: HostRuntime, line: &'static str) -> Result<Vec<&'static [u8]>, Fail> {
-    let mut words = Vec::new(rt.alloc());
-    for word in line.split(' ') {
-        words.push(word.as_bytes())?;
-    }
-    Ok(words)
-}
-
-/// Expects this line, status 1, and that nothing was opened.
-fn expect_usage(rt: &impl Abort, words: &str, left: &Left, line: &[u8]) {
-    holds(rt, words, "status", left.answer.status == 1);
-    holds(rt, words, "line", left.answer.told.as_slice() == line);
-    holds(rt, words, "inputs", left.counts.opened == 0);
-    holds(rt, words, "output", !left.is_closed);
-}
-
-/// Expects that the words of a line are refused as it says.
-fn expect_refused(rt: HostRuntime, abort: &impl Abort, line: &'static str) -> Result<(), Fail> {
+/// Expects that the words of a line are refused as it says: status 1, and nothing is opened.
+fn expect_refused(alloc: Global, line: &'static str) -> Result<(), Fail> {
     let Some((words, refusal)) = line.split_once(": ") else {
-        panic!(abort; "no refusal: {line}");
+        return Err(Fail::new(format_args!("no refusal: {line}")));
     };
-    let mut told = b"dcmtools: ".to_vec(rt.alloc())?;
-    told.extend_from_slice(refusal.as_bytes())?;
+    let mut told = joined(alloc, b"dcmtools: ", refusal.as_bytes())?;
     told.push(b'\n')?;
-    let given = split(rt, words)?;
-    let left = run_over(rt, given.as_slice(), &[], SOUND);
-    expect_usage(abort, words, &left, told.as_slice());
-    Ok(())
+    let given = split(alloc, words)?;
+    let left = run_over(alloc, given.as_slice(), &[], SOUND);
+    expect_nothing(words, &left, told.as_slice(), 1)
 }
 
 #[test]
 fn refuses_words(rt: HostRuntime) -> Result<(), Fail> {
     for line in REFUSED.lines() {
-        expect_refused(rt, &rt, line)?;
+        expect_refused(rt.alloc(), line)?;
     }
     Ok(())
 }

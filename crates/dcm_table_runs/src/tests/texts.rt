@@ -1,170 +1,97 @@
 // Rows of bytes that are no UTF-8, in cells and in names. A name that is no UTF-8 cannot be opened (DECISIONS, D-62).
-use super::rows::{Done, Entry, Front, NEVER, Row};
+use dcm_test_devices::Start;
+use dcm_test_tables::Done::{Unopened, Whole};
+use dcm_test_tables::Entry::File;
+use dcm_test_tables::{Row, TWO_COLUMNS};
 
 /// Bytes that are no UTF-8.
-pub const TEXTS: [Row; 5] = [
+pub fn texts() -> &'static [Row] {
+    &TEXTS
+}
+
+const TEXTS: [Row; 5] = [
     Row {
         name: "bytes that are no UTF-8",
-        words: &[
-            b"dcm2csv",
-            b"-k",
-            b"PatientName",
-            b"-k",
-            b"(0010,0020)",
-            b"a\xc3\xa9",
-            b"cut",
-        ],
+        words: "dcm2csv -k PatientName -k (0010,0020)",
+        names: &[b"a\xc3\xa9", b"cut"],
         files: &[
-            Entry {
-                path: b"a\xc3\xa9",
-                front: Front::ExplicitLittle,
-                rest: b"\x10\0\x10\0PN\x1c\0A\xc3\xa9\xe9\xc3(\xe2\x82\xe2\x82\xac\xf0\x9f\x98\x80\xc0\x80\xed\xa0\x80\xf4\x90\x80\x80\xfe\"\\\x80",
-                decided: NEVER,
-            },
-            Entry {
-                path: b"cut",
-                front: Front::ExplicitLittle,
-                rest: b"\x10\0\x10\0PN\x04\0\xc3\xa9\xc3 ",
-                decided: NEVER,
-            },
+            File(
+                b"a\xc3\xa9",
+                Start::ExplicitLittle,
+                b"\x10\0\x10\0PN\x1c\0A\xc3\xa9\xe9\xc3(\xe2\x82\xe2\x82\xac\xf0\x9f\x98\x80\xc0\x80\xed\xa0\x80\xf4\x90\x80\x80\xfe\"\\\x80",
+            ),
+            File(
+                b"cut",
+                Start::ExplicitLittle,
+                b"\x10\0\x10\0PN\x04\0\xc3\xa9\xc3 ",
+            ),
         ],
         header: b"\"File\",\"PatientName\",\"PatientID\"\n",
         done: &[
-            Done {
-                path: b"a\xc3\xa9",
-                shown: b"a\xc3\xa9",
-                row: b"\"a\xc3\xa9\",\"A\xc3\xa9\\xe9\\xc3(\\xe2\\x82\xe2\x82\xac\xf0\x9f\x98\x80\\xc0\\x80\\xed\\xa0\\x80\\xf4\\x90\\x80\\x80\\xfe\"\"\\\\x80\",\n",
-                lines: b"",
-                status: 0,
-            },
-            Done {
-                path: b"cut",
-                shown: b"cut",
-                row: b"\"cut\",\"\xc3\xa9\\xc3\",\n",
-                lines: b"",
-                status: 0,
-            },
+            Whole(
+                b"a\xc3\xa9",
+                b"a\xc3\xa9",
+                b"\"a\xc3\xa9\",\"A\xc3\xa9\\xe9\\xc3(\\xe2\\x82\xe2\x82\xac\xf0\x9f\x98\x80\\xc0\\x80\\xed\\xa0\\x80\\xf4\\x90\\x80\\x80\\xfe\"\"\\\\x80\",\n",
+            ),
+            Whole(b"cut", b"cut", b"\"cut\",\"\xc3\xa9\\xc3\",\n"),
         ],
-        status: 0,
     },
     Row {
         name: "bytes as they are",
-        words: &[
-            b"dcm2csv",
-            b"-k",
-            b"PatientName",
-            b"-k",
-            b"(0010,0020)",
-            b"+by",
+        words: "dcm2csv -k PatientName -k (0010,0020) +by",
+        names: &[b"a\xc3\xa9"],
+        files: &[File(
             b"a\xc3\xa9",
-        ],
-        files: &[Entry {
-            path: b"a\xc3\xa9",
-            front: Front::ExplicitLittle,
-            rest: b"\x10\0\x10\0PN\x1c\0A\xc3\xa9\xe9\xc3(\xe2\x82\xe2\x82\xac\xf0\x9f\x98\x80\xc0\x80\xed\xa0\x80\xf4\x90\x80\x80\xfe\"\\\x80",
-            decided: NEVER,
-        }],
+            Start::ExplicitLittle,
+            b"\x10\0\x10\0PN\x1c\0A\xc3\xa9\xe9\xc3(\xe2\x82\xe2\x82\xac\xf0\x9f\x98\x80\xc0\x80\xed\xa0\x80\xf4\x90\x80\x80\xfe\"\\\x80",
+        )],
         header: b"\"File\",\"PatientName\",\"PatientID\"\n",
-        done: &[Done {
-            path: b"a\xc3\xa9",
-            shown: b"a\xc3\xa9",
-            row: b"\"a\xc3\xa9\",\"A\xc3\xa9\xe9\xc3(\xe2\x82\xe2\x82\xac\xf0\x9f\x98\x80\xc0\x80\xed\xa0\x80\xf4\x90\x80\x80\xfe\"\"\\\x80\",\n",
-            lines: b"",
-            status: 0,
-        }],
-        status: 0,
+        done: &[Whole(
+            b"a\xc3\xa9",
+            b"a\xc3\xa9",
+            b"\"a\xc3\xa9\",\"A\xc3\xa9\xe9\xc3(\xe2\x82\xe2\x82\xac\xf0\x9f\x98\x80\xc0\x80\xed\xa0\x80\xf4\x90\x80\x80\xfe\"\"\\\x80\",\n",
+        )],
     },
     Row {
         name: "a name that is no UTF-8",
-        words: &[
-            b"dcm2csv",
-            b"-k",
-            b"PatientName",
-            b"-k",
-            b"(0010,0020)",
-            b"a\xff\xc3\xa9",
-            b"cut",
-        ],
+        words: "dcm2csv -k PatientName -k (0010,0020)",
+        names: &[b"a\xff\xc3\xa9", b"cut"],
         files: &[
-            Entry {
-                path: b"a\xff\xc3\xa9",
-                front: Front::ExplicitLittle,
-                rest: b"\x10\0\x10\0PN\x1c\0A\xc3\xa9\xe9\xc3(\xe2\x82\xe2\x82\xac\xf0\x9f\x98\x80\xc0\x80\xed\xa0\x80\xf4\x90\x80\x80\xfe\"\\\x80",
-                decided: NEVER,
-            },
-            Entry {
-                path: b"cut",
-                front: Front::ExplicitLittle,
-                rest: b"\x10\0\x10\0PN\x04\0\xc3\xa9\xc3 ",
-                decided: NEVER,
-            },
+            File(
+                b"a\xff\xc3\xa9",
+                Start::ExplicitLittle,
+                b"\x10\0\x10\0PN\x1c\0A\xc3\xa9\xe9\xc3(\xe2\x82\xe2\x82\xac\xf0\x9f\x98\x80\xc0\x80\xed\xa0\x80\xf4\x90\x80\x80\xfe\"\\\x80",
+            ),
+            File(
+                b"cut",
+                Start::ExplicitLittle,
+                b"\x10\0\x10\0PN\x04\0\xc3\xa9\xc3 ",
+            ),
         ],
         header: b"\"File\",\"PatientName\",\"PatientID\"\n",
         done: &[
-            Done {
-                path: b"",
-                shown: b"a\xff\xc3\xa9",
-                row: b"",
-                lines: b"dcmtools: a\xff\xc3\xa9: input cannot be opened\n",
-                status: 4,
-            },
-            Done {
-                path: b"cut",
-                shown: b"cut",
-                row: b"\"cut\",\"\xc3\xa9\\xc3\",\n",
-                lines: b"",
-                status: 0,
-            },
+            Unopened(b"a\xff\xc3\xa9"),
+            Whole(b"cut", b"cut", b"\"cut\",\"\xc3\xa9\\xc3\",\n"),
         ],
-        status: 4,
     },
     Row {
         name: "a name as it is",
-        words: &[
-            b"dcm2csv",
-            b"-k",
-            b"PatientName",
-            b"-k",
-            b"(0010,0020)",
-            b"+by",
+        words: "dcm2csv -k PatientName -k (0010,0020) +by",
+        names: &[b"a\xff\xc3\xa9"],
+        files: &[File(
             b"a\xff\xc3\xa9",
-        ],
-        files: &[Entry {
-            path: b"a\xff\xc3\xa9",
-            front: Front::ExplicitLittle,
-            rest: b"\x10\0\x10\0PN\x1c\0A\xc3\xa9\xe9\xc3(\xe2\x82\xe2\x82\xac\xf0\x9f\x98\x80\xc0\x80\xed\xa0\x80\xf4\x90\x80\x80\xfe\"\\\x80",
-            decided: NEVER,
-        }],
+            Start::ExplicitLittle,
+            b"\x10\0\x10\0PN\x1c\0A\xc3\xa9\xe9\xc3(\xe2\x82\xe2\x82\xac\xf0\x9f\x98\x80\xc0\x80\xed\xa0\x80\xf4\x90\x80\x80\xfe\"\\\x80",
+        )],
         header: b"\"File\",\"PatientName\",\"PatientID\"\n",
-        done: &[Done {
-            path: b"",
-            shown: b"a\xff\xc3\xa9",
-            row: b"",
-            lines: b"dcmtools: a\xff\xc3\xa9: input cannot be opened\n",
-            status: 4,
-        }],
-        status: 4,
+        done: &[Unopened(b"a\xff\xc3\xa9")],
     },
     Row {
         name: "a line with a name",
-        words: &[
-            b"dcm2csv",
-            b"+nh",
-            b"-k",
-            b"PatientName",
-            b"-k",
-            b"(0010,0020)",
-            b"\xff",
-        ],
+        words: TWO_COLUMNS,
+        names: &[b"\xff"],
         files: &[],
         header: b"",
-        done: &[Done {
-            path: b"",
-            shown: b"\xff",
-            row: b"",
-            lines: b"dcmtools: \xff: input cannot be opened\n",
-            status: 4,
-        }],
-        status: 4,
+        done: &[Unopened(b"\xff")],
     },
 ];

@@ -1,9 +1,10 @@
 // Devices that fail, and what a run over them leaves.
 ghost use Rattle.std.specs.Prelude.{◌≡◌, Some};
 
-use crate::tests::{ALL, Steps, bytes_in, job_status, memory_out};
+use crate::tests::{bytes_in, job_status, memory_out};
 use dcm_base::{Device, DeviceIn, ReadFailed, Std, Watched};
 use dcm_cli::Job;
+use dcm_test_devices::{ALL, Failure, Steps};
 use std::cell::Cell;
 use std::io;
 use std::io::{ErrorKind, Write};
@@ -11,14 +12,6 @@ use std::test::Fail;
 
 /// The room for an output, and for a line.
 const ROOM: usize = 3000;
-
-/// How a write fails.
-#[derive(Clone, Copy)]
-pub enum Failure {
-    Error,
-    /// It takes no byte.
-    NoByte,
-}
 
 /// A writer of std that takes one byte a call, and fails at the write after so many good ones, or at a flush. It counts its
 /// calls by a clock that it shares with other writers.

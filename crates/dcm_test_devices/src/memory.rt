@@ -1,38 +1,33 @@
-// The devices of a run: files in memory, of which reads and writes may fail.
+// A system of files in memory.
 ghost use Rattle.dcm_files.specs.Devices.{anything};
 
-use super::rows::{Entry, Front, bytes_of};
-use super::{ALL, joined};
+use super::steps::{ALL, Steps};
+use super::writer::{FailWriter, Failure, tick};
 use dcm_base::Std;
 use dcm_files::{FileKind, Opened, System};
-use std::alloc::AllocError;
+use std::alloc::{AllocError, Global};
 use std::cell::Cell;
 use std::io;
-use std::io::{ErrorKind, Read, Write};
-use std::test::Fail;
-
-/// How a write fails.
-#[derive(Clone, Copy)]
-pub enum Failure {
-    Error,
-    /// It takes no byte.
-    NoByte,
-}
+use std::io::ErrorKind;
 
 /// How the devices of a run work.
 #[derive(Clone, Copy)]
 pub struct Devices<'a> {
     /// The bytes that a reader gives at most: each one, or that which fails.
     pub step: usize,
-    /// The path of the reader that fails, and how many of its calls go well.
+    /// The path of the reader that fails.
     pub failing: &'a [u8],
+    /// How many of its calls go well.
     pub reads: usize,
     /// A path at which nothing is found.
     pub hidden: &'a [u8],
-    /// How many writes go well of the output and of standard error, how the next one fails, and whether a flush goes well.
+    /// How many bytes of the output go well.
     pub writes: usize,
+    /// How many bytes of lines on standard error go well.
     pub lines: usize,
+    /// How the next write fails.
     pub failure: Failure,
+    /// Whether a flush goes well.
     pub flush: bool,
 }
 
@@ -48,125 +43,61 @@ pub const SOUND: Devices<'static> = Devices {
     flush: true,
 };
 
+impl<'a> Devices<'a> {
+    /// The writer of an output, by this clock.
+    fn output<'c>(&self, alloc: Global, clock: &'c Cell<usize>) -> FailWriter<'c> {
+        FailWriter::new(alloc, self.writes, self.failure, self.flush, clock)
+    }
+
+    /// The writer of lines on standard error, by this clock.
+    pub fn errors<'c>(&self, alloc: Global, clock: &'c Cell<usize>) -> FailWriter<'c> {
+        FailWriter::new(alloc, self.lines, self.failure, self.flush, clock)
+    }
+}
+
+/// What is at a path.
+#[derive(Clone, Copy, PartialEq, Eq)]
+pub enum Kind {
+    /// A file.
+    File,
+    /// A folder.
+    Folder,
+    /// A file whose first read fails.
+    Broken,
+}
+
 /// What is at a path, with all its bytes.
 #[derive(Drop)]
 pub struct Loaded {
+    /// The path, `-` for standard input.
     pub path: &'static [u8],
-    pub front: Front,
+    /// What it is.
+    pub kind: Kind,
+    /// Its bytes, where it is a file.
     pub bytes: Vec<u8>,
 }
 
-/// What is at the paths of entries.
-pub fn load(rt: HostRuntime, entries: &[Entry]) -> Result<Vec<Loaded>, Fail> {
-    let mut files = Vec::new(rt.alloc());
-    for entry in entries {
-        files.push(Loaded {
-            path: entry.path,
-            front: entry.front,
-            bytes: joined(rt, bytes_of(entry.front), entry.rest)?,
-        })?;
-    }
-    Ok(files)
-}
-
-/// A reader of std that gives at most so many bytes a call, and fails at the call after so many good ones.
-#[derive(Drop)]
-pub struct Steps<'a> {
-    rest: &'a [u8],
-    step: usize,
-    good: usize,
-}
-
-impl<'a> Read for Steps<'a> {
-    fn read(&mut self, bytes: &mut [u8]) -> io::Result<usize> {
-        if self.good == 0 {
-            return Err(io::Error::from(ErrorKind::Interrupted));
-        }
-        self.good -= 1;
-        let n = self.step.min(bytes.len()).min(self.rest.len());
-        let (front, rest) = self.rest.split_at(n);
-        bytes[..n].copy_from_slice(front);
-        self.rest = rest;
-        Ok(n)
-    }
-}
-
-/// A writer of std that fails after so many bytes, or at a flush. It notes by a clock when it failed.
-#[derive(Drop)]
-pub struct FailWriter<'a> {
-    pub bytes: Vec<u8>,
-    good: usize,
-    failure: Failure,
-    flushes_well: bool,
-    pub flushes: usize,
-    /// When it failed first, 0 where it did not.
-    pub failed_at: usize,
-    clock: &'a Cell<usize>,
-}
-
-impl<'a> FailWriter<'a> {
-    /// A writer of which so many bytes go well.
-    pub fn new(rt: HostRuntime, good: usize, devices: &Devices, clock: &'a Cell<usize>) -> Self {
-        FailWriter {
-            bytes: Vec::new(rt.alloc()),
-            good,
-            failure: devices.failure,
-            flushes_well: devices.flush,
-            flushes: 0,
-            failed_at: 0,
-            clock,
-        }
-    }
-
-    /// Notes that it fails.
-    fn note_failure(&mut self) {
-        if self.failed_at == 0 {
-            self.failed_at = tick(self.clock);
+impl Loaded {
+    /// A file at a path.
+    pub fn file(path: &'static [u8], bytes: Vec<u8>) -> Self {
+        Loaded {
+            path,
+            kind: Kind::File,
+            bytes,
         }
     }
 }
 
-/// The next time of a clock, from 1.
-fn tick(clock: &Cell<usize>) -> usize {
-    let now = clock.get().saturating_add(1);
-    clock.set(now);
-    now
-}
-
-impl<'a> Write for FailWriter<'a> {
-    fn write(&mut self, bytes: &[u8]) -> io::Result<usize> {
-        let n = self.good.min(bytes.len());
-        if n == 0 {
-            self.note_failure();
-            return match self.failure {
-                Failure::Error => Err(io::Error::from(ErrorKind::Interrupted)),
-                Failure::NoByte => Ok(0),
-            };
-        }
-        let (taken, _) = bytes.split_at(n);
-        self.bytes.extend_from_slice(taken)?;
-        self.good -= n;
-        Ok(n)
-    }
-
-    fn flush(&mut self) -> io::Result<()> {
-        self.flushes = self.flushes.saturating_add(1);
-        if self.flushes_well {
-            return Ok(());
-        }
-        self.note_failure();
-        Err(io::Error::from(ErrorKind::Interrupted))
-    }
-}
-
-/// How many inputs a system opened.
+/// What a system opened.
 #[derive(Clone, Copy)]
 pub struct Counts {
+    /// How many inputs.
     pub opened: usize,
     /// When the last of them was opened.
     pub opened_at: usize,
-    /// How many of them are open, and how many were at most.
+    /// How many of them are open.
     pub open: usize,
+    /// How many were open at one time, at most.
     pub most_open: usize,
 }
 
@@ -188,22 +119,23 @@ pub struct Memory<'a> {
     /// The words of the command line, where there is memory for them.
     words: Option<Vec<Vec<u8>>>,
     written: Option<FailWriter<'a>>,
+    /// What it opened.
     pub counts: Counts,
 }
 
 impl<'a> Memory<'a> {
-    /// A system of these files, with this output.
+    /// A system of these files, by devices that work so. Its writers and those of errors have one clock.
     pub fn new(
+        alloc: Global,
         files: &'a [Loaded],
         devices: Devices<'a>,
         clock: &'a Cell<usize>,
-        output: FailWriter<'a>,
     ) -> Self {
         Memory {
             files,
             devices,
             clock,
-            room: Some(output),
+            room: Some(devices.output(alloc, clock)),
             words: None,
             written: None,
             counts: NO_COUNTS,
@@ -255,7 +187,7 @@ impl<'a> Memory<'a> {
 
     /// How many reads go well of a file.
     fn good_reads(&self, file: &Loaded) -> usize {
-        if file.front == Front::Broken {
+        if file.kind == Kind::Broken {
             0
         } else if file.path == self.devices.failing {
             self.devices.reads
@@ -286,7 +218,7 @@ impl<'a> Memory<'a> {
         };
         Opened {
             device: Std::new(steps),
-            kind: kind_of(file.front),
+            kind: kind_of(file.kind),
         }
     }
 
@@ -317,8 +249,8 @@ impl<'a> Memory<'a> {
 }
 
 /// What a file is opened as.
-fn kind_of(front: Front) -> FileKind {
-    if front == Front::Folder {
+fn kind_of(kind: Kind) -> FileKind {
+    if kind == Kind::Folder {
         FileKind::Directory
     } else {
         FileKind::Other

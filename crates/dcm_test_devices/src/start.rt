@@ -1,67 +1,33 @@
-// Runs of dcm2csv: files, words, and the rows and lines that are wanted of them.
+// What a file begins with.
 
-/// What a file begins with, or what is at a path in place of a file.
+/// What a file has before its data set.
 #[derive(Clone, Copy, PartialEq, Eq)]
-pub enum Front {
-    /// Nothing: the file has the bytes of its rest alone.
+pub enum Start {
+    /// No byte.
     Nothing,
     /// The preamble and the prefix.
     Prefix,
-    /// These, and a meta group with a transfer syntax.
+    /// These, and a meta group of two elements with a transfer syntax: explicit VR little endian.
     ExplicitLittle,
+    /// Implicit VR little endian.
     Implicit,
+    /// Explicit VR big endian.
     Big,
+    /// A JPEG syntax, which is explicit VR little endian.
     Jpeg,
-    /// A folder.
-    Folder,
-    /// A file whose first read fails.
-    Broken,
 }
 
-/// The number of bytes that decide a row of a file that has to be read to its end.
-pub const NEVER: usize = usize::MAX;
-
-/// What is at a path: `-` is standard input.
-#[derive(Clone, Copy)]
-pub struct Entry {
-    pub path: &'static [u8],
-    pub front: Front,
-    pub rest: &'static [u8],
-    /// How many of its bytes decide its row. Where reading fails after fewer, it has none.
-    pub decided: usize,
-}
-
-/// What comes of one name: the path that is opened for it, or none; the name in lines; its row and its lines, where it
-/// has them; the status.
-#[derive(Clone, Copy)]
-pub struct Done {
-    pub path: &'static [u8],
-    pub shown: &'static [u8],
-    pub row: &'static [u8],
-    pub lines: &'static [u8],
-    pub status: u8,
-}
-
-/// A run: its words and files, the header, and what comes of each name in turn.
-#[derive(Clone, Copy)]
-pub struct Row {
-    pub name: &'static str,
-    pub words: &'static [&'static [u8]],
-    pub files: &'static [Entry],
-    pub header: &'static [u8],
-    pub done: &'static [Done],
-    pub status: u8,
-}
-
-/// The bytes that a file begins with.
-pub fn bytes_of(front: Front) -> &'static [u8] {
-    match front {
-        Front::Nothing | Front::Folder | Front::Broken => b"",
-        Front::Prefix => PREFIX,
-        Front::ExplicitLittle => EXPLICIT_LITTLE,
-        Front::Implicit => IMPLICIT,
-        Front::Big => BIG,
-        Front::Jpeg => JPEG,
+impl Start {
+    /// The bytes of it.
+    pub fn bytes(self) -> &'static [u8] {
+        match self {
+            Start::Nothing => b"",
+            Start::Prefix => PREFIX,
+            Start::ExplicitLittle => EXPLICIT_LITTLE,
+            Start::Implicit => IMPLICIT,
+            Start::Big => BIG,
+            Start::Jpeg => JPEG,
+        }
     }
 }
 
