@@ -32,9 +32,8 @@ given_passed T tells before after given is_new calls = sym (gave tells before gi
 pub runs_by_bytes : (T U : Type 0) (tells : T → Option (List ℕ)) → RunsByBytes T U tells
 runs_by_bytes T U tells job errors before after out_before out_after status is_new out_is_new runs =
     let all : after.passed.bytes ≡ runs.given =
-    calls_noted tells before _ runs.given runs.how after runs.reads.calls ∙ ap (λ (b : List ℕ). b ++ runs.given) is_new.unused in
-    (
+    calls_noted tells before _ runs.given runs.how after runs.reads.calls ∙ ap (λ (b : List ℕ). b ++ runs.given) is_new.unused in (
       runs.how,
       subst (λ (bytes : List ℕ). Ran job bytes runs.how after.failed (change_of std_writer out_before out_after) errors status) (sym all)
-      (runs.ran is_new.sound out_is_new.sound),
+          (runs.ran is_new.sound out_is_new.sound),
     )
