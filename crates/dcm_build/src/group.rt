@@ -21,8 +21,8 @@ use dcm_base::{
     put_parts,
 };
 use dcm_head::{
-    Head, LONG_HEAD, META_LIMIT, PREAMBLE, PREFIX, SHORT_HEAD, element_head, first_element,
-    size_without_pads, write_meta,
+    Head, LONG_HEAD, META_LIMIT, PREAMBLE, PREFIX, SHORT_HEAD, SyntaxUid, element_head,
+    first_element, size_without_pads, write_meta,
 };
 use std::marker::Model;
 
@@ -148,6 +148,9 @@ impl NewGroup {
         ensures { Wrote W.DeviceOut out.old out.new (file_head self.now) result }
     {
         put_parts(out, &[&EMPTY_PREAMBLE, PREFIX])?;
-        write_meta(self.spelled.as_slice(), self.transfer_syntax(), out)
+        let Some(uid) = SyntaxUid::new(self.transfer_syntax()) else {
+            unreachable!()
+        };
+        write_meta(&self.spelled, &uid, out)
     }
 }

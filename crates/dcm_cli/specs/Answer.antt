@@ -2,8 +2,6 @@
 use Rattle.std.specs.Prelude.{◌≡◌, ℕ, zero, suc, ◌+◌, ◌<◌, ◌≤◌, Bool, true, false, List, [], ◌∷◌, ◌++◌, length, drop}
 use Rattle.std.specs.Prelude.{codes, decimal, Option, Some, None, if◌then◌else◌, ◌&&◌}
 use Rattle.dcm_base.specs.declared.syntax.Syntax.{Syntax}
-use Rattle.dcm_base.specs.declared.syntax.Syntax.TheVariants.{Implicit as implicit_in, Little as little_in}
-use Rattle.dcm_base.specs.declared.syntax.Syntax.TheVariants.{Big as big_in}
 use Rattle.dcm_base.specs.declared.syntax.Coding.{Coding}
 use Rattle.dcm_base.specs.declared.fault.Fault.{Fault}
 use Rattle.dcm_base.specs.declared.fault.Fault.TheVariants.{CannotChange}
@@ -17,6 +15,7 @@ use Rattle.dcm_base.specs.Conversion.NewMeta.{new_meta}
 use Rattle.dcm_base.specs.Dump.Header.{set_header, meta_header}
 use Rattle.dcm_base.specs.Dump.Dump.{dump_front}
 use Rattle.dcm_base.specs.Conversion.Recode.{recode}
+use Rattle.dcm_head.specs.SyntaxUids.{uid_of_syntax}
 use Rattle.dcm_edits.specs.Edit.{Edit, edited, found}
 use Rattle.dcm_base.specs.Tables.Fault.{fault_number, fault_text, line_fault_number, line_fault_text}
 use Rattle.dcm_base.specs.Lines.Build as build
@@ -46,12 +45,6 @@ pub data Source : Type 0 where
   unopened : (fault : Fault) (offset : ℕ) → Source
   file : (meta : Meta) (coding : Coding) (set : Front) (stop : Stop) → Source
   alone : (syntax : Syntax) (set : Front) (stop : Stop) → Source
-
--- the transfer syntaxes that are not encapsulated (PS3.5 annex A)
-abbrev pub uid_of_syntax : Syntax → List ℕ
-uid_of_syntax (implicit_in d) = codes "1.2.840.10008.1.2"
-uid_of_syntax (little_in d) = codes "1.2.840.10008.1.2.1"
-uid_of_syntax (big_in d) = codes "1.2.840.10008.1.2.2"
 
 -- what a conversion writes, by the dictionary of the input
 abbrev pub target_syntax : Option Syntax → Coding → Syntax

@@ -9,9 +9,8 @@ ghost use Rattle.dcm_cli.specs.Calls as calls;
 use crate::ending::{Ending, ending_of_head};
 use crate::head::{read_head_of, set_start};
 use crate::pass::{read_rest, read_set};
-use crate::syntax::uid_of_syntax;
 use dcm_base::{Coding, DeviceIn, DeviceOut, Dictionary, Mode, Syntax, Watched};
-use dcm_head::Meta;
+use dcm_head::{Meta, SyntaxUid};
 use dcm_sinks::{DumpSink, dump_header_with, set_header};
 use dcm_stream::Machine;
 use dcm_words::Dump;
@@ -66,7 +65,7 @@ fn dump_set<R: DeviceIn, W: DeviceOut>(
     ensures { calls.Works R.DeviceIn W.DeviceOut (dump_job dictionary mode (Some syntax)) input.old input.new
         out.old out.new result }
 {
-    if set_header(uid_of_syntax(syntax), out).is_err() {
+    if set_header(SyntaxUid::of(syntax).as_bytes(), out).is_err() {
         return Ending::Output;
     }
     let coding = Coding {

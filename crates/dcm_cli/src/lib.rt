@@ -39,7 +39,6 @@ mod rewrite;
 pub mod run;
 /// The exit statuses.
 pub mod status;
-mod syntax;
 
 pub use dcm_words::{Build, Convert, Deidentify, Dump, Job, Planned, Usage, asked, plan};
 pub use error_lines::{tell, tell_open, tell_output};

@@ -91,8 +91,7 @@ pub fn modify<R: DeviceIn, W: DeviceOut>(
         input.new out.old out.new result }
     ensures meant { AreMeant modify.now.edits }
 {
-    // The list is asked for since its contract says that some words mean the edits.
-    let _list = modify.edits.list();
+    modify.edits.are_meant();
     let mut buffer = [0u8; PIECE];
     modify_file(modify.dictionary, &modify.edits, input, out, &mut buffer)
 }

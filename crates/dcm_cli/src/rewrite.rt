@@ -14,12 +14,11 @@ ghost use Rattle.dcm_cli.specs.declared.rewrite.NewHead.TheVariants.{WithoutIden
 
 use crate::ending::{Ending, Verdict, ending_of_head};
 use crate::head::{Beginning, read_head_of, set_start};
-use crate::syntax::uid_of_syntax;
 use dcm_base::{
     Coding, DeviceIn, DeviceOut, Dictionary, Fault, Stop, Syntax, Watched, WriteFailed, put_parts,
 };
 use dcm_deid::{MetaWithoutIdentity, NO_PREAMBLE};
-use dcm_head::{Meta, PREFIX};
+use dcm_head::{Meta, PREFIX, SyntaxUid};
 
 /// A file whose data set is to be written again: the coding and the offset of the data set, and what was read of it.
 #[derive(Clone, Copy, Debug, PartialEq, Eq)]
@@ -59,25 +58,23 @@ pub fn target_syntax(target: Option<Syntax>, coding: Coding) -> Syntax
 }
 
 /// The unique identifier of the transfer syntax that is written.
-fn target_uid<'m>(target: Option<Syntax>, meta: &'m Meta) -> &'m [u8]
+fn target_uid<'m>(target: Option<Syntax>, meta: &'m Meta) -> SyntaxUid<'m>
     requires { HasEnded meta.now.end }
-    ensures value { (m : FileMeta) → uid_of meta.now ≡ m.uid → result.now ≡ answer.target_uid target m }
-    ensures limit { length result.now < 65535 }
+    ensures { (m : FileMeta) → uid_of meta.now ≡ m.uid → result ≡ answer.target_uid target m }
 {
     match target {
         None => meta.uid(),
-        Some(syntax) => uid_of_syntax(syntax),
+        Some(syntax) => SyntaxUid::of(syntax),
     }
 }
 
 /// Writes what is before the data set as it is: the preamble, the prefix, and the meta group with this transfer syntax.
 fn write_same<W: DeviceOut>(
     meta: &Meta,
-    uid: &[u8],
+    uid: &SyntaxUid<'_>,
     out: &mut Watched<W>,
 ) -> Result<(), WriteFailed>
-    requires ended { HasEnded meta.now.end }
-    requires uid { length uid.now < 65535 }
+    requires { HasEnded meta.now.end }
     ensures { calls.WritesHead W.DeviceOut out.old out.new opening.unchanged meta.now uid.now result }
 {
     put_parts(out, &[meta.preamble(), PREFIX])?;
@@ -88,11 +85,10 @@ fn write_same<W: DeviceOut>(
 fn write_without_identity<W: DeviceOut>(
     what: &MetaWithoutIdentity,
     meta: &Meta,
-    uid: &[u8],
+    uid: &SyntaxUid<'_>,
     out: &mut Watched<W>,
 ) -> Result<(), WriteFailed>
-    requires ended { HasEnded meta.now.end }
-    requires uid { length uid.now < 65535 }
+    requires { HasEnded meta.now.end }
     ensures { calls.WritesHead W.DeviceOut out.old out.new (opening.change_by (WithoutIdentity what.now)) meta.now
         uid.now result }
 {
@@ -104,11 +100,10 @@ fn write_without_identity<W: DeviceOut>(
 fn write_head<W: DeviceOut>(
     head: &NewHead,
     meta: &Meta,
-    uid: &[u8],
+    uid: &SyntaxUid<'_>,
     out: &mut Watched<W>,
 ) -> Result<(), WriteFailed>
-    requires ended { HasEnded meta.now.end }
-    requires uid { length uid.now < 65535 }
+    requires { HasEnded meta.now.end }
     ensures { calls.WritesHead W.DeviceOut out.old out.new (opening.change_by head.now) meta.now uid.now result }
 {
     match head {
@@ -148,7 +143,8 @@ pub fn open_file<R: DeviceIn, W: DeviceOut>(
             at: start,
         })));
     }
-    if write_head(head, &meta, target_uid(target, &meta), out).is_err() {
+    let uid = target_uid(target, &meta);
+    if write_head(head, &meta, &uid, out).is_err() {
         return Err(Ending::Output);
     }
     Ok(Opened {

@@ -17,7 +17,8 @@ use Rattle.dcm_base.specs.Tables.Syntax.{dictionary_of, read_by}
 use Rattle.dcm_base.specs.Tree.Front.{Front}
 use Rattle.dcm_sinks.specs.MetaAgain.{meta_again}
 use Rattle.dcm_words.specs.Words.{convert, dump}
-use Rattle.dcm_cli.specs.Answer.{Answer, Answers, FileReads, HeadIs, Source, answer, file as a_file, job_bar, not_changed, not_opened, opened, set_at, target_syntax, target_uid, uid_of_syntax, unopened}
+use Rattle.dcm_cli.specs.Answer.{Answer, Answers, FileReads, HeadIs, Source, answer, file as a_file, job_bar, not_changed, not_opened, opened, set_at, target_syntax, target_uid, unopened}
+use Rattle.dcm_head.specs.SyntaxUids.{uid_of_syntax}
 use Rattle.dcm_cli.specs.ReadsAgain.{IsConverted, target_coding}
 use Rattle.dcm_cli.specs.Status.{DONE, FAULT}
 use Rattle.dcm_cli.proofs.Passes.MetaHeads.{group_spelled}

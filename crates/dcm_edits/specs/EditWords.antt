@@ -232,12 +232,13 @@ pub data OptionWord : Type 0 where
 
 abbrev pub option_word : List ℕ → OptionWord
 option_word w =
-    if bytes_eq w (codes "-i") then takes_word inserts
-    else (if bytes_eq w (codes "-m") then takes_word modifies
-    else (if bytes_eq w (codes "-e") then takes_word erases
-    else (if bytes_eq w (codes "-ma") then takes_word modifies_all
-    else (if bytes_eq w (codes "-ea") then takes_word erases_all
-    else (if bytes_eq w (codes "-ep") then private_word else unknown_word)))))
+    if bytes_eq w (codes "-e") then takes_word erases
+    else if bytes_eq w (codes "-ea") then takes_word erases_all
+    else if bytes_eq w (codes "-ep") then private_word
+    else if bytes_eq w (codes "-i") then takes_word inserts
+    else if bytes_eq w (codes "-m") then takes_word modifies
+    else if bytes_eq w (codes "-ma") then takes_word modifies_all
+    else unknown_word
 
 abbrev pub takes_next : OptionWord → Bool
 takes_next (takes_word kind) = true

@@ -74,6 +74,13 @@ impl<A: Allocator> Edits<A> {
         self.list.as_slice()
     }
 
+    /// Does nothing: its contract says that some words mean the edits.
+    pub fn are_meant(&self)
+        ensures { AreMeant self.now }
+    {
+        let _ = &self.list;
+    }
+
     /// How many edits there are.
     pub fn len(&self) -> usize
         ensures { result ≡ length self.now }

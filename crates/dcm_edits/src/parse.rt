@@ -37,18 +37,18 @@ impl OptionWord {
 fn option_word(word: &[u8]) -> OptionWord
     ensures { option_as result ≡ spec.option_word word.now }
 {
-    if word == b"-i".as_slice() {
-        OptionWord::Takes(Kind::Inserts)
-    } else if word == b"-m".as_slice() {
-        OptionWord::Takes(Kind::Modifies)
-    } else if word == b"-e".as_slice() {
+    if word == b"-e".as_slice() {
         OptionWord::Takes(Kind::Erases)
-    } else if word == b"-ma".as_slice() {
-        OptionWord::Takes(Kind::ModifiesAll)
     } else if word == b"-ea".as_slice() {
         OptionWord::Takes(Kind::ErasesAll)
     } else if word == b"-ep".as_slice() {
         OptionWord::Private
+    } else if word == b"-i".as_slice() {
+        OptionWord::Takes(Kind::Inserts)
+    } else if word == b"-m".as_slice() {
+        OptionWord::Takes(Kind::Modifies)
+    } else if word == b"-ma".as_slice() {
+        OptionWord::Takes(Kind::ModifiesAll)
     } else {
         OptionWord::Unknown
     }

@@ -3,4 +3,5 @@ pub mod HeadBytes
 pub mod GroupPlaces
 pub mod MetaReading
 pub mod Rewriting
+pub mod SyntaxUids
 pub mod Laws

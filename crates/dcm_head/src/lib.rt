@@ -4,8 +4,8 @@
 //! - `read_head` reads a head out of the first bytes that it is given, or says how many it needs; `write_head` writes
 //!   one.
 //! - `Meta` reads the head of a file, fed in any pieces, and holds it: at most 16,528 bytes. `Meta::rewritten` writes
-//!   its group anew with another transfer syntax; `write_meta` does so of any group, and `first_element` walks over
-//!   one. `Meta::renewed` and `renew_meta` write what a `Renewal` leaves of its elements.
+//!   its group anew with another transfer syntax, a `SyntaxUid`; `write_meta` does so of any group, and `first_element`
+//!   walks over one. `Meta::renewed` writes what a `Renewal` leaves of its elements.
 //!
 //! A head and its eight bytes:
 //!
@@ -24,6 +24,7 @@ mod meta_read;
 mod pads;
 mod renewal;
 mod rewriting;
+mod syntax_uid;
 mod write;
 
 pub use element::{MetaElement, first_element};
@@ -33,5 +34,6 @@ pub use meta::{Meta, PREAMBLE, PREFIX};
 pub use meta_read::{MetaEnd, MetaRead};
 pub use pads::{size_without_pads, without_pads};
 pub use renewal::{AllStays, Renewal, Renewed};
-pub use rewriting::{renew_meta, write_meta};
+pub use rewriting::write_meta;
+pub use syntax_uid::SyntaxUid;
 pub use write::{element_head, write_head};

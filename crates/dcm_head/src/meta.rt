@@ -8,7 +8,8 @@ use crate::group::{Place, place_of};
 use crate::meta_read::{MetaEnd, MetaRead};
 use crate::pads::size_without_pads;
 use crate::renewal::Renewal;
-use crate::rewriting::{renew_meta, write_meta};
+use crate::rewriting::{renew_meta, write_group};
+use crate::syntax_uid::SyntaxUid;
 use arrayvec::ArrayVec;
 use dcm_base::{Coding, DeviceOut, Fault, Stop, Tag, Watched, WriteFailed, coding_of};
 use std::marker::Model;
@@ -181,12 +182,15 @@ impl Meta {
     }
 
     /// The unique identifier of the transfer syntax, without the bytes 00 and 20 at its end (PS3.10 7.1).
-    pub fn uid(&self) -> &[u8]
+    pub fn uid(&self) -> SyntaxUid<'_>
         requires { reading.HasEnded self.now.end }
-        ensures value { result.now ≡ reading.uid_of self.now }
-        ensures limit { length result.now < 65535 }
+        ensures { result ≡ reading.uid_of self.now }
     {
-        part(self.bytes.as_slice(), self.uid_at, self.uid_size)
+        let uid = part(self.bytes.as_slice(), self.uid_at, self.uid_size);
+        match SyntaxUid::new(uid) {
+            Some(uid) => uid,
+            None => unreachable!(),
+        }
     }
 
     /// The first 128 bytes of the file.
@@ -225,14 +229,13 @@ impl Meta {
     /// Fails where the writer fails, and has then written a beginning of the group.
     pub fn rewritten<W: DeviceOut>(
         &self,
-        uid: &[u8],
+        uid: &SyntaxUid<'_>,
         out: &mut Watched<W>,
     ) -> Result<(), WriteFailed>
-        requires ended { reading.HasEnded self.now.end }
-        requires uid { length uid.now < 65535 }
+        requires { reading.HasEnded self.now.end }
         ensures { WroteGroup W.DeviceOut out.old out.new (reading.group_of self.now) uid.now result }
     {
-        write_meta(self.bytes(), uid, out)
+        write_group(self.bytes(), uid.as_bytes(), out)
     }
 
     /// Writes what stays of the meta group anew, with its length and this transfer syntax (PS3.10 7.1).
@@ -241,15 +244,14 @@ impl Meta {
     pub fn renewed<N: Renewal, W: DeviceOut>(
         &self,
         renewal: &N,
-        uid: &[u8],
+        uid: &SyntaxUid<'_>,
         out: &mut Watched<W>,
     ) -> Result<(), WriteFailed>
-        requires ended { reading.HasEnded self.now.end }
-        requires uid { length uid.now < 65535 }
+        requires { reading.HasEnded self.now.end }
         ensures { WroteRenewed W.DeviceOut out.old out.new (N.renewing renewal.now) (reading.group_of self.now)
             uid.now result }
     {
-        renew_meta(renewal, self.bytes(), uid, out)
+        renew_meta(renewal, self.bytes(), uid.as_bytes(), out)
     }
 
     /// Reads a byte of the preamble or the prefix.

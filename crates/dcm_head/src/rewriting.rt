@@ -4,15 +4,17 @@ ghost use Rattle.std.specs.Int.{to_le_bytes, w32};
 ghost use Rattle.dcm_devices.specs.Writing.{Wrote};
 ghost use Rattle.dcm_base.specs.Conversion.NewMeta.{new_elements, renewed};
 ghost use Rattle.dcm_base.specs.Conversion.Recode.{even as even_size, head as recoded_head, recoded_leaf};
-ghost use Rattle.dcm_base.specs.File.MetaGroup.{META_LIMIT};
+ghost use Rattle.dcm_base.specs.File.MetaGroup.{META_LIMIT as GROUP_LIMIT};
 ghost use Rattle.dcm_base.specs.Tables.Tag.{is_tag};
 ghost use Rattle.dcm_base.specs.declared.length.Length.TheVariants.{Known};
 ghost use Rattle.dcm_base.specs.Tables.Syntax.{Little};
 ghost use Rattle.dcm_head.specs.Rewriting as spec;
 
 use crate::element::{MetaElement, first_element};
+use crate::group::META_LIMIT;
 use crate::head::{Head, LONG_HEAD};
 use crate::renewal::{AllStays, Renewal, Renewed};
+use crate::syntax_uid::SyntaxUid;
 use crate::write::explicit_head;
 use arrayvec::ArrayVec;
 use dcm_base::{DeviceOut, Length, Syntax, Tag, Vr, Watched, WriteFailed, put_parts};
@@ -141,7 +143,7 @@ fn put_renewed<W: DeviceOut>(
 
 /// The size of the elements of the new group.
 fn elements_size<N: Renewal>(renewal: &N, group: &[u8], uid: &[u8]) -> usize
-    requires group { length group.now ≤ META_LIMIT }
+    requires group { length group.now ≤ GROUP_LIMIT }
     requires uid { length uid.now < 65535 }
     ensures size { spec.OfElements group.now (λ elements. result
         ≡ length (new_elements (renewed (N.renewing renewal.now) elements) uid.now)) }
@@ -166,7 +168,7 @@ fn put_elements<N: Renewal, W: DeviceOut>(
     group: &[u8],
     uid: &[u8],
 ) -> Result<(), WriteFailed>
-    requires group { length group.now ≤ META_LIMIT }
+    requires group { length group.now ≤ GROUP_LIMIT }
     requires uid { length uid.now < 65535 }
     ensures { spec.WroteElements W.DeviceOut out.old out.new group.now
         (λ elements. new_elements (renewed (N.renewing renewal.now) elements) uid.now) result }
@@ -187,30 +189,41 @@ fn put_elements<N: Renewal, W: DeviceOut>(
 /// Fails where the writer fails, and has then written a beginning of the group.
 pub fn renew_meta<N: Renewal, W: DeviceOut>(
     renewal: &N,
-    run: &[u8],
+    group: &[u8],
     uid: &[u8],
     out: &mut Watched<W>,
 ) -> Result<(), WriteFailed>
-    requires run { length run.now ≤ META_LIMIT }
+    requires group { length group.now ≤ GROUP_LIMIT }
     requires uid { length uid.now < 65535 }
-    ensures { spec.WroteRenewed W.DeviceOut out.old out.new (N.renewing renewal.now) run.now uid.now result }
+    ensures { spec.WroteRenewed W.DeviceOut out.old out.new (N.renewing renewal.now) group.now uid.now result }
 {
-    let size = elements_size(renewal, run, uid) as u32;
+    let size = elements_size(renewal, group, uid) as u32;
     put_leaf(out, Tag::META_LENGTH, Vr::UL, &size.to_le_bytes())?;
-    put_elements(out, renewal, run, uid)
+    put_elements(out, renewal, group, uid)
+}
+
+/// Writes a whole meta group anew. Fails as `renew_meta` does.
+pub fn write_group<W: DeviceOut>(
+    group: &[u8],
+    uid: &[u8],
+    out: &mut Watched<W>,
+) -> Result<(), WriteFailed>
+    requires group { length group.now ≤ GROUP_LIMIT }
+    requires uid { length uid.now < 65535 }
+    ensures { spec.WroteGroup W.DeviceOut out.old out.new group.now uid.now result }
+{
+    renew_meta(&AllStays, group, uid, out)
 }
 
 /// Writes a whole meta group anew, with its length and this transfer syntax (PS3.10 7.1).
 ///
 /// Fails where the writer fails, and has then written a beginning of the group.
 pub fn write_meta<W: DeviceOut>(
-    run: &[u8],
-    uid: &[u8],
+    group: &ArrayVec<u8, META_LIMIT>,
+    uid: &SyntaxUid<'_>,
     out: &mut Watched<W>,
 ) -> Result<(), WriteFailed>
-    requires run { length run.now ≤ META_LIMIT }
-    requires uid { length uid.now < 65535 }
-    ensures { spec.WroteGroup W.DeviceOut out.old out.new run.now uid.now result }
+    ensures { spec.WroteGroup W.DeviceOut out.old out.new group.now.items uid.now result }
 {
-    renew_meta(&AllStays, run, uid, out)
+    write_group(group.as_slice(), uid.as_bytes(), out)
 }

@@ -15,21 +15,13 @@ use unopened::unopened;
 use unread_lists::unread_lists;
 
 #[test]
-fn files_that_are_not_opened(rt: HostRuntime) -> Result<(), Fail> {
-    expect_rows(rt.alloc(), unopened())
-}
-
-#[test]
-fn names_among_words(rt: HostRuntime) -> Result<(), Fail> {
+fn files_by_name(rt: HostRuntime) -> Result<(), Fail> {
+    expect_rows(rt.alloc(), unopened())?;
     expect_rows(rt.alloc(), names())
 }
 
 #[test]
-fn names_in_lists(rt: HostRuntime) -> Result<(), Fail> {
-    expect_rows(rt.alloc(), lists())
-}
-
-#[test]
-fn lists_that_are_not_read(rt: HostRuntime) -> Result<(), Fail> {
+fn files_by_lists(rt: HostRuntime) -> Result<(), Fail> {
+    expect_rows(rt.alloc(), lists())?;
     expect_rows(rt.alloc(), unread_lists())
 }

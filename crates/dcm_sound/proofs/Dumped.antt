@@ -20,7 +20,8 @@ use Rattle.dcm_base.specs.Tree.Front.{Front}
 use Rattle.dcm_base.specs.Reading.Reads.{INPUT_LIMIT}
 use Rattle.dcm_base.specs.Reading.Stop.{Stop}
 use Rattle.dcm_base.proofs.DataSets.OneAnswer.{reads_once}
-use Rattle.dcm_cli.specs.Answer.{Answer, Answers, FileReads, alone, answer, file, opened, set_at, uid_of_syntax}
+use Rattle.dcm_cli.specs.Answer.{Answer, Answers, FileReads, alone, answer, file, opened, set_at}
+use Rattle.dcm_head.specs.SyntaxUids.{uid_of_syntax}
 use Rattle.dcm_cli.proofs.Runs.OneSource.{one_source}
 use Rattle.dcm_sound.specs.Laws.{all_done}
 use Rattle.dcm_sound.specs.Sound.{IsDataSet, IsSound}

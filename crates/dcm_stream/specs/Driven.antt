@@ -9,7 +9,7 @@ use Rattle.dcm_base.specs.Tables.Syntax.{Little}
 use Rattle.dcm_base.specs.declared.fault.Fault.{Fault}
 use Rattle.dcm_base.specs.Steps.Atoms.{Atom, front_atoms, is_closed}
 use Rattle.dcm_devices.specs.Device.{Puts}
-use Rattle.dcm_base.specs.Reading.Bars.{is_fragment_form, is_above}
+use Rattle.dcm_base.specs.Reading.Bars.{is_fragment_form}
 use Rattle.dcm_base.specs.Tree.Front.{Front}
 use Rattle.dcm_base.specs.Reading.Reads.{Reads, ended}
 use Rattle.dcm_base.specs.Bytes.Spelling.{form}
@@ -17,10 +17,9 @@ use Rattle.dcm_base.specs.Steps.Steps.{outputs}
 use Rattle.dcm_base.specs.Reading.Stop.{Bar, HeadBar, Stop, refused, is_early, is_undecided, is_early_bar}
 use Rattle.dcm_head.specs.declared.head.Head.{Head}
 use Rattle.dcm_stream.specs.declared.token.Bar.{Bar as SinkBar}
-use Rattle.dcm_stream.specs.declared.token.Bar.TheVariants.{Fragments, Order}
+use Rattle.dcm_stream.specs.declared.token.Bar.TheVariants.{Fragments}
 use Rattle.dcm_stream.specs.Reading.{Reading, start_of, finish, end_shows, read_all}
 use Rattle.dcm_stream.specs.Judging.{bars_head}
-use Rattle.dcm_stream.specs.Ascending.{reached_after, innermost}
 use Rattle.dcm_stream.specs.Machine.{steps, steps_write, Progress}
 
 -- heads are barred by the atoms so far as by the state that they lead to
@@ -114,8 +113,3 @@ BarsNone bars step first = (atoms : List Atom) (head : Head) → bars (fold step
 abbrev pub BarsFragments : {S : Type 0} → (S → Head → Option SinkBar) → (S → Atom → S) → S → Type 0
 BarsFragments bars step first = (atoms : List Atom) (head : Head) → bars (fold step first atoms) head
     ≡ (if is_fragment_form (form Little head.vr head.length) then Some Fragments else None)
-
--- exactly the tags that aren't above those before them in their data set
-abbrev pub BarsOrder : {S : Type 0} → (S → Head → Option SinkBar) → (S → Atom → S) → S → Type 0
-BarsOrder bars step first = (atoms : List Atom) (head : Head) → bars (fold step first atoms) head
-    ≡ (if is_above head.tag (innermost (fold reached_after (None ∷ []) atoms)) then None else Some Order)

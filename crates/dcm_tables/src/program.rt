@@ -189,9 +189,9 @@ pub fn obey<S: System, E: DeviceOut>(
     words: &[&[u8]],
     errors: &mut Watched<E>,
 ) -> u8
+    ensures within { result ≤ statuses.MEMORY }
     ensures obeys { spec.ObeysAny S.may_do S.Input.DeviceIn S.Output.DeviceOut (map (λ w. w.now) words.now)
         (change_of E.DeviceOut errors.old errors.new) system.old result system.new }
-    ensures within { result ≤ statuses.MEMORY }
 {
     if asks_table(words) {
         return obey_table(system, alloc, words, errors);

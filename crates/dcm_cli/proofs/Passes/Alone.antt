@@ -20,7 +20,8 @@ use Rattle.dcm_sinks.specs.DumpSink.{DumpState, dump_start, dump_step, dump_writ
 use Rattle.dcm_cli.specs.declared.ending.Ending.{Ending}
 use Rattle.dcm_cli.specs.declared.ending.Ending.TheVariants.{Unread, Output}
 use Rattle.dcm_cli.specs.Pass.{Ends}
-use Rattle.dcm_cli.specs.Answer.{alone, uid_of_syntax, going_on}
+use Rattle.dcm_cli.specs.Answer.{alone, going_on}
+use Rattle.dcm_head.specs.SyntaxUids.{uid_of_syntax}
 use Rattle.dcm_cli.specs.Run.{Answered, Worked, answered, could_not_read, could_not_write, verdict_of_stop}
 use Rattle.dcm_cli.proofs.Passes.Makers.{dumper}
 use Rattle.dcm_cli.proofs.Passes.Sets.{SetMade, set_read, set_unread, set_unwritten, Last, set_made, all_read, told_nothing, dump_tells_nothing}

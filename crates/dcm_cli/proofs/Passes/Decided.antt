@@ -23,7 +23,8 @@ use Rattle.dcm_cli.specs.declared.ending.HeadEnding.TheVariants as heads
 use Rattle.dcm_cli.specs.declared.ending.Verdict.{Verdict}
 use Rattle.dcm_cli.specs.declared.ending.Verdict.TheVariants.{Done, PixelsMayShow, Refused, RefusedLine}
 use Rattle.dcm_cli.specs.declared.head.Beginning.{Beginning}
-use Rattle.dcm_cli.specs.Answer.{job_dictionary, job_bar, refuses_change, uid_of_syntax, file as of_file, file_output, opened as was_opened}
+use Rattle.dcm_cli.specs.Answer.{job_dictionary, job_bar, refuses_change, file as of_file, file_output, opened as was_opened}
+use Rattle.dcm_head.specs.SyntaxUids.{uid_of_syntax}
 use Rattle.dcm_cli.specs.InputCalls.{How, in_part, to_end, with_failure, Allows}
 use Rattle.dcm_cli.specs.Opening.{HeadChange, HeadRead, NotOpened, no_set, no_change, no_head}
 use Rattle.dcm_cli.specs.Pass.{Ends, at_end, at_fault, halted, unread, unwritten, end_unwritten, FailsHead, ending_of_head, set_bytes, with_unplaced, with_pixels}

@@ -35,7 +35,8 @@ use Rattle.dcm_editor.proofs.ReadBack.StaysReady.{FrontReady, edited_ready}
 use Rattle.dcm_edits.proofs.Words.WordValues.{edits_fit}
 use Rattle.dcm_editor.proofs.Words.WordsReady.{edits_ready}
 use Rattle.dcm_words.specs.Words.{Job, convert, modify}
-use Rattle.dcm_cli.specs.Answer.{job_dictionary, HeadIs, Answer, Source, file as a_file, set_at, job_bar, answer, target_syntax, target_uid, uid_of_syntax, written_file, FileReads, not_opened, not_changed, opened}
+use Rattle.dcm_cli.specs.Answer.{job_dictionary, HeadIs, Answer, Source, file as a_file, set_at, job_bar, answer, target_syntax, target_uid, written_file, FileReads, not_opened, not_changed, opened}
+use Rattle.dcm_head.specs.SyntaxUids.{uid_of_syntax}
 use Rattle.dcm_cli.specs.ReadsAgain.{IsRead, HasRoom, IsModified, ReadsModified, IsConverted, ReadsConverted}
 use Rattle.dcm_edits.specs.EditWords.{meant_edits_in}
 

@@ -22,7 +22,8 @@ use Rattle.dcm_cli.specs.declared.ending.Ending.TheVariants.{Unread, Output}
 use Rattle.dcm_cli.specs.declared.ending.HeadEnding.TheVariants as heads
 use Rattle.dcm_cli.specs.declared.head.Beginning.{Beginning}
 use Rattle.dcm_cli.specs.declared.rewrite.Opened.{Opened as OpenedFile}
-use Rattle.dcm_cli.specs.Answer.{Sure, job_dictionary, refuses_change, uid_of_syntax}
+use Rattle.dcm_cli.specs.Answer.{Sure, job_dictionary, refuses_change}
+use Rattle.dcm_head.specs.SyntaxUids.{uid_of_syntax}
 use Rattle.dcm_cli.specs.InputCalls.{Reader, How, in_part, with_failure, how_of, Allows, InputCalls, no_call, last_call, ReadsInput, IsUndecided}
 use Rattle.dcm_cli.specs.Opening.{HeadChange, OpenedAs}
 use Rattle.dcm_cli.specs.Pass.{Begins, HeadGoesOn, head_read, set_bytes, unread}

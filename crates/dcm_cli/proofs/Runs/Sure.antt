@@ -30,7 +30,8 @@ use Rattle.dcm_stream.specs.Reading.{finish}
 use Rattle.dcm_words.specs.declared.job.Job.{Job as RunJob}
 use Rattle.dcm_words.specs.declared.job.Job.TheVariants.{Dump, Convert, Build, Modify, Deidentify}
 use Rattle.dcm_words.specs.Plans.{job_of}
-use Rattle.dcm_cli.specs.Answer.{job_dictionary, Answer, Answers, Sure, ReadAnswers, Source, answer, going_on, job_bar, refuses_change, file_output, uid_of_syntax, AloneReads, AloneSure, FileReads, FileSure, not_opened, not_changed, opened as was_opened, before_set, within_set}
+use Rattle.dcm_cli.specs.Answer.{job_dictionary, Answer, Answers, Sure, ReadAnswers, Source, answer, going_on, job_bar, refuses_change, file_output, AloneReads, AloneSure, FileReads, FileSure, not_opened, not_changed, opened as was_opened, before_set, within_set}
+use Rattle.dcm_head.specs.SyntaxUids.{uid_of_syntax}
 use Rattle.dcm_cli.specs.Pass.{head_read}
 use Rattle.dcm_cli.specs.Run.{IsMeant}
 use Rattle.dcm_cli.proofs.Passes.Makers.{Maker, dumper, made, made_output, last_output, more_made, waits_as, made_behind}

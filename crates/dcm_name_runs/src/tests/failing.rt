@@ -7,22 +7,14 @@ use dcm_test_tables::{files_vanish, reads_fail};
 use std::test::Fail;
 
 #[test]
-fn reading_fails_of_unopened_files(rt: HostRuntime) -> Result<(), Fail> {
-    reads_fail(rt.alloc(), unopened())
-}
-
-#[test]
-fn reading_fails_of_names(rt: HostRuntime) -> Result<(), Fail> {
+fn reading_fails_of_files(rt: HostRuntime) -> Result<(), Fail> {
+    reads_fail(rt.alloc(), unopened())?;
     reads_fail(rt.alloc(), names())
 }
 
 #[test]
 fn reading_fails_of_lists(rt: HostRuntime) -> Result<(), Fail> {
-    reads_fail(rt.alloc(), lists())
-}
-
-#[test]
-fn reading_fails_of_unread_lists(rt: HostRuntime) -> Result<(), Fail> {
+    reads_fail(rt.alloc(), lists())?;
     reads_fail(rt.alloc(), unread_lists())
 }
 

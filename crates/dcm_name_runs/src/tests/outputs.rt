@@ -7,22 +7,14 @@ use dcm_test_tables::{flushes_fail, tells_fail, writes_fail};
 use std::test::Fail;
 
 #[test]
-fn writing_fails_of_unopened_files(rt: HostRuntime) -> Result<(), Fail> {
-    writes_fail(rt.alloc(), unopened())
-}
-
-#[test]
-fn writing_fails_of_names(rt: HostRuntime) -> Result<(), Fail> {
+fn writing_fails_of_files(rt: HostRuntime) -> Result<(), Fail> {
+    writes_fail(rt.alloc(), unopened())?;
     writes_fail(rt.alloc(), names())
 }
 
 #[test]
 fn writing_fails_of_lists(rt: HostRuntime) -> Result<(), Fail> {
-    writes_fail(rt.alloc(), lists())
-}
-
-#[test]
-fn writing_fails_of_unread_lists(rt: HostRuntime) -> Result<(), Fail> {
+    writes_fail(rt.alloc(), lists())?;
     writes_fail(rt.alloc(), unread_lists())
 }
 

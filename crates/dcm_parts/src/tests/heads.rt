@@ -1,8 +1,11 @@
 ghost use Rattle.std.specs.Prelude.{◌<◌};
 ghost use Rattle.dcm_head.specs.MetaReading.{IsOpen};
 
+use arrayvec::ArrayVec;
 use dcm_base::{Coding, Dictionary, Fault, Length, MemOut, Stop, Syntax, Tag, Vr, Watched};
-use dcm_head::{Head, HeadRead, Meta, MetaRead, read_head, write_head, write_meta};
+use dcm_head::{
+    Head, HeadRead, Meta, MetaRead, SyntaxUid, read_head, write_head, write_meta,
+};
 use std::alloc::{AllocError, Global};
 use std::test::Fail;
 
@@ -210,7 +213,7 @@ fn getters(rt: HostRuntime) -> Result<(), Fail> {
     assert!(rt; used == 172 && ahead.is_none());
     assert!(rt; meta.preamble() == [7; 128].as_slice());
     assert!(rt; meta.bytes() == GROUP);
-    assert!(rt; meta.uid() == b"1.2.840.10008.1.2.1".as_slice());
+    assert!(rt; meta.uid().as_bytes() == b"1.2.840.10008.1.2.1".as_slice());
     assert!(rt;
         meta.coding()
             == Coding {
@@ -407,7 +410,8 @@ fn rewritten(rt: HostRuntime) -> Result<(), Fail> {
     let mut room = Vec::new(rt.alloc());
     room.extend_from_slice(&[0; 100])?;
     let mut out = Watched::new(MemOut::new(room));
-    assert!(rt; meta.rewritten(b"1.2.840.10008.1.2", &mut out).is_ok());
+    let uid = SyntaxUid::of(IMPLICIT);
+    assert!(rt; meta.rewritten(&uid, &mut out).is_ok());
     assert!(rt; out.device().written() == NEW_GROUP);
     Ok(())
 }
@@ -417,7 +421,10 @@ fn rewritten_without_room(rt: HostRuntime) -> Result<(), Fail> {
     let mut room = Vec::new(rt.alloc());
     room.extend_from_slice(&[0; 31])?;
     let mut out = Watched::new(MemOut::new(room));
-    assert!(rt; write_meta(OLD_GROUP, b"1.2.840.10008.1.2", &mut out).is_err());
+    let mut group = ArrayVec::new();
+    assert!(rt; group.try_extend_from_slice(OLD_GROUP).is_ok());
+    let uid = SyntaxUid::of(IMPLICIT);
+    assert!(rt; write_meta(&group, &uid, &mut out).is_err());
     assert!(rt; out.failed());
     assert!(rt; NEW_GROUP.starts_with(out.device().written()));
     assert!(rt; out.device().written().len() == 31);

@@ -108,5 +108,5 @@ pub fn dump_header_with<W: DeviceOut>(
     )?;
     put_elements(meta.bytes(), dictionary, mode, out)?;
     put_all(out, b"\n")?;
-    set_header(meta.uid(), out)
+    set_header(meta.uid().as_bytes(), out)
 }

@@ -6,10 +6,10 @@ use Rattle.std.proofs.lemmas.List.Sums.{fold-append}
 use Rattle.dcm_base.specs.declared.syntax.Syntax.{Syntax}
 use Rattle.dcm_base.specs.Tables.Syntax.{Little}
 use Rattle.dcm_base.specs.declared.fault.Fault.{Fault}
-use Rattle.dcm_base.specs.declared.fault.Fault.TheVariants.{FragmentsBarred, NotAscending}
+use Rattle.dcm_base.specs.declared.fault.Fault.TheVariants.{FragmentsBarred}
 use Rattle.dcm_base.specs.Steps.Atoms.{Atom, is_closed}
 use Rattle.dcm_base.specs.Tree.Front.{Front, front}
-use Rattle.dcm_base.specs.Reading.Bars.{is_fragment_form, is_above, no_bar, fragments_bar, ascending_bar}
+use Rattle.dcm_base.specs.Reading.Bars.{is_fragment_form, no_bar, fragments_bar}
 use Rattle.dcm_base.specs.Reading.Reads.{INPUT_LIMIT, Reads, ended}
 use Rattle.dcm_base.specs.Bytes.Spelling.{form, SpellsFront}
 use Rattle.dcm_base.specs.Steps.Steps.{outputs}
@@ -17,14 +17,12 @@ use Rattle.dcm_base.specs.Reading.Stop.{Stop, Bar, refused, is_early, is_early_b
 use Rattle.dcm_base.proofs.Writes.Runs.{outputs-append}
 use Rattle.dcm_head.specs.declared.head.Head.{Head}
 use Rattle.dcm_stream.specs.declared.token.Bar.{Bar as SinkBar}
-use Rattle.dcm_stream.specs.declared.token.Bar.TheVariants.{Fragments, Order}
+use Rattle.dcm_stream.specs.declared.token.Bar.TheVariants.{Fragments}
 use Rattle.dcm_stream.specs.Reading.{Reading, start_of, read_byte, reads_byte, read_all, finish, end_shows}
 use Rattle.dcm_stream.specs.Follows.{BarsAs, GoesOn, HaltsAt, Answered}
 use Rattle.dcm_stream.specs.Judging.{fault_of, bars_head}
-use Rattle.dcm_stream.specs.Ascending.{reached_after, innermost}
 use Rattle.dcm_stream.specs.Machine.{steps, steps_write}
-use Rattle.dcm_stream.specs.Driven.{bars_by, DrivesAs, driven, driven_output, EndsAs, RefusesAs, WaitsAs, BarsNone, BarsFragments, BarsOrder}
-use Rattle.dcm_stream.proofs.Steps.Ascending.{ascending_bars}
+use Rattle.dcm_stream.specs.Driven.{bars_by, DrivesAs, driven, driven_output, EndsAs, RefusesAs, WaitsAs, BarsNone, BarsFragments}
 use Rattle.dcm_stream.proofs.Steps.Follows.{drives, follows, answers}
 
 module _ {S : Type 0} (bars : S → Head → Option SinkBar) (step : S → Atom → S) (writes : S → Atom → List ℕ) where
@@ -147,17 +145,4 @@ module _ {S : Type 0} (bars : S → Head → Option SinkBar) (step : S → Atom 
   bars_fragments first h = record {
     agree = λ f atoms shown tag vr declared. ap (option_map fault_of) (h atoms (record { tag = tag; vr = vr; length = declared })) ∙ fragments_told (is_fragment_form (form Little vr declared));
     never_early = λ f tag vr declared. fragments_late (is_fragment_form (form Little vr declared));
-  }
-
-  order_told : (t : Bool) → option_map fault_of (cond t None (Some Order)) ≡ cond t None (Some NotAscending)
-  order_told true = refl
-  order_told false = refl
-
-  pub bars_order : (first : S) → BarsOrder bars step first → BarsAs (bars_by bars step first) ascending_bar
-  bars_order first h = record {
-    agree = λ f atoms shown tag vr declared.
-        ap (option_map fault_of) (h atoms (record { tag = tag; vr = vr; length = declared }))
-        ∙ order_told (is_above tag (innermost (fold reached_after (None ∷ []) atoms)))
-        ∙ ascending_bars.agree f atoms shown tag vr declared;
-    never_early = ascending_bars.never_early;
   }

@@ -13,6 +13,7 @@ const REPRESENTATIONS: [Row; 5] = [
     Row {
         name: "an implicit file",
         words: "dcm2csv +nh -k XRayTubeCurrent -k SmallestImagePixelValue -k PixelRepresentation -k LUTData -k (0029,1001)",
+        header: b"",
         names: &[b"s", b"u"],
         files: &[
             File(
@@ -26,7 +27,6 @@ const REPRESENTATIONS: [Row; 5] = [
                 b"(\0\x06\x01\x02\0\0\0\xff\xff(\0\x03\x01\x02\0\0\0\x01\0",
             ),
         ],
-        header: b"",
         done: &[
             Whole(b"s", b"s", b"\"s\",\"120\",-1,1,,\n"),
             Whole(b"u", b"u", b"\"u\",,65535,1,,\n"),
@@ -35,6 +35,7 @@ const REPRESENTATIONS: [Row; 5] = [
     Row {
         name: "signed twice",
         words: "dcm2csv +nh -k SmallestImagePixelValue -k PixelRepresentation",
+        header: b"",
         names: &[b"x", b"y", b"z", b"un"],
         files: &[
             File(
@@ -58,7 +59,6 @@ const REPRESENTATIONS: [Row; 5] = [
                 b"(\0\x03\x01US\x02\0\0\0(\0\x03\x01UN\0\0\x02\0\0\0\x01\0(\0\x06\x01UN\0\0\x02\0\0\0\xfe\xff",
             ),
         ],
-        header: b"",
         done: &[
             Whole(b"x", b"x", b"\"x\",-2,0\n"),
             Whole(b"y", b"y", b"\"y\",65534,1\n"),
@@ -69,6 +69,7 @@ const REPRESENTATIONS: [Row; 5] = [
     Row {
         name: "unknown values",
         words: "dcm2csv +nh -k PatientID -k Rows -k (0029,1001) -k PatientName",
+        header: b"",
         names: &[b"x", b"y"],
         files: &[
             File(
@@ -82,7 +83,6 @@ const REPRESENTATIONS: [Row; 5] = [
                 b"\x10\0 \0UN\0\0\xff\xff\xff\xff\xfe\xff\xdd\xe0\0\0\0\0",
             ),
         ],
-        header: b"",
         done: &[
             Whole(b"x", b"x", b"\"x\",\"7\",512,,\"\"\n"),
             Whole(b"y", b"y", b"\"y\",,,,\n"),
@@ -91,6 +91,7 @@ const REPRESENTATIONS: [Row; 5] = [
     Row {
         name: "unknown sequences",
         words: "dcm2csv +nh -k PatientID -k PerimeterValue -k SmallestImagePixelValue -k ReferencedImageSequence",
+        header: b"",
         names: &[b"seq", b"big", b"bigun", b"bad", b"open"],
         files: &[
             File(
@@ -121,7 +122,6 @@ const REPRESENTATIONS: [Row; 5] = [
                 188,
             ),
         ],
-        header: b"",
         done: &[
             Whole(b"seq", b"seq", b"\"seq\",\"7\",,65534,\n"),
             Whole(b"big", b"big", b"\"big\",,,-2,\n"),
@@ -143,6 +143,7 @@ const REPRESENTATIONS: [Row; 5] = [
     Row {
         name: "nested and late elements",
         words: "dcm2csv +nh -k PatientID -k ReferencedImageSequence -k PatientName",
+        header: b"",
         names: &[b"x", b"y"],
         files: &[
             File(
@@ -157,7 +158,6 @@ const REPRESENTATIONS: [Row; 5] = [
                 180,
             ),
         ],
-        header: b"",
         done: &[
             Whole(b"x", b"x", b"\"x\",\"1\",,\"AB^CD\"\n"),
             Whole(b"y", b"y", b"\"y\",,,\n"),

@@ -12,7 +12,7 @@ use Rattle.dcm_base.specs.declared.syntax.Syntax.{Syntax}
 use Rattle.dcm_base.specs.declared.syntax.Syntax.TheVariants.{Implicit as implicit_in, Little as little_in, Big as big_in}
 use Rattle.dcm_base.specs.Tables.Syntax.{read_by}
 use Rattle.dcm_base.specs.declared.dictionary.Dictionary.{Dictionary}
-use Rattle.dcm_cli.specs.Answer.{uid_of_syntax}
+use Rattle.dcm_head.specs.SyntaxUids.{uid_of_syntax}
 use Rattle.dcm_cli.specs.InputCalls.{Allows, Reader, in_part, IsUndecided}
 use Rattle.dcm_cli.specs.declared.ending.Ending.TheVariants.{Output}
 use Rattle.dcm_cli.specs.Run.{Worked}
@@ -37,8 +37,8 @@ returns-then-is_err g c =
       reads = nothing_read (members g.R.Device g.R.DeviceIn) (IsUndecided job) c.args.input.now;
       worked = λ rest ok.
           alone_unheaded c.args.dictionary c.args.mode c.args.syntax rest (Some rest) (g.W.DeviceOut.contents c.args.out.now) (g.W.DeviceOut.contents c.set_header.new.out)
-          (subst (λ uid. AppendsFront (g.W.DeviceOut.contents c.args.out.now) (g.W.DeviceOut.contents c.set_header.new.out) (set_header uid)) (c.uid_of_syntax.ensures.value ∙ uid_alike c.args.dictionary c.args.syntax)
-          (put_failed _ _ (set_header c.uid_of_syntax.result.now) c.set_header.result (sym c.if-is_err.ensures.value) c.set_header.ensures.bytes));
+          (subst (λ uid. AppendsFront (g.W.DeviceOut.contents c.args.out.now) (g.W.DeviceOut.contents c.set_header.new.out) (set_header uid)) (c.as_bytes.ensures.value ∙ uid_alike c.args.dictionary c.args.syntax)
+          (put_failed _ _ (set_header c.as_bytes.result.now) c.set_header.result (sym c.if-is_err.ensures.value) c.set_header.ensures.bytes));
       decided = decided_output job [] in_part Output refl;
       unread = search rules;
       failed = search rules;
@@ -48,7 +48,7 @@ pub returns : goal.returns
 returns g c =
     let reader : Reader g.row.R.Denot = members g.R.Device g.R.DeviceIn in
     let job : Job = dump c.args.dictionary c.args.mode (Some c.args.syntax) in
-    let went = put_whole _ _ (set_header c.uid_of_syntax.result.now) c.set_header.result (sym c.if-is_err.ensures.value) c.set_header.ensures.bytes ∙ ap (λ uid. append_known (g.W.DeviceOut.contents c.args.out.now) (set_header uid)) (c.uid_of_syntax.ensures.value ∙ uid_alike c.args.dictionary c.args.syntax) in
+    let went = put_whole _ _ (set_header c.as_bytes.result.now) c.set_header.result (sym c.if-is_err.ensures.value) c.set_header.ensures.bytes ∙ ap (λ uid. append_known (g.W.DeviceOut.contents c.args.out.now) (set_header uid)) (c.as_bytes.ensures.value ∙ uid_alike c.args.dictionary c.args.syntax) in
     let mid = ap (λ (x : g.row.W.Denot). g.W.DeviceOut.contents x) c.with_dictionary-sink.ensures.out ∙ went in
     let first = ap (λ (p : Progress). p.reading) c.new-machine.ensures ∙ ap (λ (s : Syntax). start_of s 0) c.read_by.ensures in
     let begun : DumpState = dump_start c.args.dictionary c.args.mode in

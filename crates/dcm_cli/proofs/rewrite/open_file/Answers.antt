@@ -38,9 +38,9 @@ returns-then-is_err-clause-opens g c =
       read = head.read;
       how = head.how;
       reads = head.reads;
-      opens = no_head c.read_head_of.new.buffer c.read_head_of.new.meta c.in-Ok.beginning c.read_by-coding.result c.set_start-start.result c.target_uid.result.now
+      opens = no_head c.read_head_of.new.buffer c.read_head_of.new.meta c.in-Ok.beginning c.read_by-coding.result c.set_start-start.result c.target_uid-uid.result
           (record { begins = head.outcome; named = c.coding.result; end_is = c.coding.ensures; coding_is = c.read_by-coding.ensures; start_is = c.set_start-start.ensures.place })
-          (sym (c.if-refuses_change.ensures c.args.dictionary)) c.target_uid.ensures.value
+          (sym (c.if-refuses_change.ensures c.args.dictionary)) c.target_uid-uid.ensures
           (λ elements spelled are. put_failed _ _ _ c.write_head.result (sym c.if-is_err.ensures.value) (c.write_head.ensures.bytes elements spelled are)) refl;
       unread = search rules;
       failed = search rules;
@@ -56,10 +56,10 @@ returns-clause-opens g c =
       reads = head.reads;
       opens = record {
         reading = c.read_head_of.new.meta;
-        uid = c.target_uid.result.now;
+        uid = c.target_uid-uid.result;
         head = record { begins = head.outcome; named = c.coding.result; end_is = c.coding.ensures; coding_is = c.read_by-coding.ensures; start_is = c.set_start-start.ensures.place };
         keeps = sym (c.if-refuses_change.ensures c.args.dictionary);
-        uid_is = c.target_uid.ensures.value;
+        uid_is = c.target_uid-uid.ensures;
         written = λ elements spelled are. put_whole _ _ _ c.write_head.result (sym c.if-is_err.ensures.value) (c.write_head.ensures.bytes elements spelled are);
       };
       unread = search rules;

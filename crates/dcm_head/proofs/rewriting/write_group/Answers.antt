@@ -1,5 +1,5 @@
 use Rattle.dcm_head.proofs.MetaGroups.Rewritten.{stays_put}
-use Rattle.dcm_head.proofs.rewriting.write_meta.Goals as goal
+use Rattle.dcm_head.proofs.rewriting.write_group.Goals as goal
 
 pub returns : goal.returns
 returns g c = record {
