@@ -55,22 +55,6 @@ anything = record {
   closes = λ before d after. Unit {0};
 }
 
--- of the system that a program runs on it is known that what it opens is a new input or a new output
-abbrev pub opens_new : {S I O : Type 0} → (IsNewInput : I → Type 0) → (IsNewOutput : O → Type 0) → MayDo S I O
-opens_new IsNewInput IsNewOutput = record {
-  words = λ before r after. Unit {0};
-  stdin = λ before d after. IsNewInput d.device;
-  opens = λ before path r after. IfOk r (λ d. IsNewInput d.device);
-  releases = λ before d after. Unit {0};
-  stdout = λ before r after. IfOk r (λ d. IsNewOutput d.device);
-  creates = λ before path r after. IfOk r (λ d. IsNewOutput d.device);
-  looks = λ before path r after. Unit {0};
-  makes = λ before path r after. IfOk r (λ d. IsNewOutput d.device);
-  moves = λ before from to r after. Unit {0};
-  removes = λ before path r after. Unit {0};
-  closes = λ before d after. Unit {0};
-}
-
 -- the words that were given, as bytes
 abbrev pub words_given : {A B E : Type 0} → Result (Vec (Vec ℕ A) B) E → Option (List (List ℕ))
 words_given (Ok words) = Some (map (λ w. w.items) words.items)

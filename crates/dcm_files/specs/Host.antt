@@ -1,8 +1,34 @@
--- The devices of the system that a program runs on.
-use Rattle.std.specs.Prelude.{◌≡◌, [], false}
+-- The system that a program runs on.
+use Rattle.std.specs.Prelude.{◌≡◌, ◌++◌, ◌∷◌, [], List, false, IfOk}
 use Rattle.dcm_devices.specs.declared.std_device.Std.{Std}
+use Rattle.dcm_files.specs.Call.{Call, gave_words, gave_input, opened, released, gave_output, created, looked, made}
+use Rattle.dcm_files.specs.Call.{moved, removed, closed, kind_in}
+use Rattle.dcm_files.specs.Devices.{MayDo}
 
 -- a device that has not failed, and has neither given nor taken a byte
 pub record IsNew {T : Type 0} (device : Std T) : Type 0 where
   pub sound : device.failed ≡ false
   pub unused : device.passed.bytes ≡ []
+
+-- a call came after these, and no other did
+abbrev pub Adds : Call → List Call → List Call → Type 0
+Adds call before after = after ≡ before ++ call ∷ []
+
+-- what its calls do: each adds itself to those that were made, and what they open is new
+abbrev pub noted : {S T U : Type 0} → (calls : S → List Call) → MayDo S (Std T) (Std U)
+noted calls = record {
+  words = λ before r after. Adds (gave_words r) (calls before) (calls after);
+  stdin = λ before d after. Adds (gave_input d.kind) (calls before) (calls after) × IsNew d.device;
+  opens = λ before path r after.
+      Adds (opened path (kind_in r)) (calls before) (calls after) × IfOk r (λ d. IsNew d.device);
+  releases = λ before d after. Adds (released d.passed.bytes d.failed) (calls before) (calls after);
+  stdout = λ before r after. Adds (gave_output (kind_in r)) (calls before) (calls after) × IfOk r (λ d. IsNew d.device);
+  creates = λ before path r after.
+      Adds (created path (kind_in r)) (calls before) (calls after) × IfOk r (λ d. IsNew d.device);
+  looks = λ before path r after. Adds (looked path r) (calls before) (calls after);
+  makes = λ before path r after.
+      Adds (made path (kind_in r)) (calls before) (calls after) × IfOk r (λ d. IsNew d.device);
+  moves = λ before from to r after. Adds (moved from to r) (calls before) (calls after);
+  removes = λ before path r after. Adds (removed path r) (calls before) (calls after);
+  closes = λ before d after. Adds (closed d.passed.bytes d.failed) (calls before) (calls after);
+}

@@ -3,4 +3,5 @@ pub mod Output
 pub mod Pieces
 pub mod Memory
 pub mod Part
+pub mod Call
 pub mod Host

@@ -1,8 +1,8 @@
 // The devices that the system has.
-ghost use Rattle.std.specs.Prelude.{◌≡◌, [], false, IfOk};
-ghost use Rattle.dcm_files.specs.Devices.{opens_new};
-ghost use Rattle.dcm_files.specs.Host.{IsNew};
+ghost use Rattle.std.specs.Prelude.{◌≡◌, [], IfOk};
+ghost use Rattle.dcm_files.specs.Host.{IsNew, noted};
 
+use crate::calls::Calls;
 use crate::devices::System;
 use crate::opened::{FileKind, Opened};
 use crate::output::OutputFile;
@@ -111,119 +111,182 @@ fn output_kind(rt: HostRuntime) -> io::Result<FileKind> {
     }
 }
 
-/// The system that the program runs on.
+/// All words of the command line after the program's name.
+fn all_words(rt: HostRuntime) -> Result<Vec<Vec<u8>>, AllocError> {
+    let mut words = Vec::new(rt.alloc());
+    for number in 1..usize::MAX {
+        match word(rt, number)? {
+            Some(word) => words.push(word)?,
+            None => break,
+        }
+    }
+    Ok(words)
+}
+
+/// An input that was opened.
+type HostInput = Std<Either<Stdin, File>>;
+
+/// An output that was opened.
+type HostOutput = Std<BufWriter<Either<Stdout, OutputFile<File>>>>;
+
+fn open_file(rt: HostRuntime, path: &str) -> io::Result<Opened<HostInput>>
+    ensures { IfOk result (λ opened. IsNew opened.device) }
+{
+    let file = File::open(&rt, path)?;
+    let kind = kind_of(&file.metadata()?);
+    Ok(Opened {
+        device: Std::new(Right(file)),
+        kind,
+    })
+}
+
+/// An output, written through a buffer (DECISIONS, D-58).
+fn buffered(
+    rt: HostRuntime,
+    output: Either<Stdout, OutputFile<File>>,
+    kind: FileKind,
+) -> io::Result<Opened<HostOutput>>
+    ensures { IfOk result (λ opened. IsNew opened.device) }
+{
+    let device = Std::new(BufWriter::with_capacity(rt.alloc(), BUFFER, output)?);
+    Ok(Opened { device, kind })
+}
+
+fn buffered_stdout(rt: HostRuntime) -> io::Result<Opened<HostOutput>>
+    ensures { IfOk result (λ opened. IsNew opened.device) }
+{
+    let kind = output_kind(rt)?;
+    buffered(rt, Left(rt.stdout()), kind)
+}
+
+fn create_file(rt: HostRuntime, path: &str) -> io::Result<Opened<HostOutput>>
+    ensures { IfOk result (λ opened. IsNew opened.device) }
+{
+    let file = OpenOptions::new()
+        .write(true)
+        .create(true)
+        .open(&rt, path)?;
+    let kind = kind_of(&file.metadata()?);
+    buffered(rt, Right(OutputFile::new(file)), kind)
+}
+
+/// Nobody asks what a new file is. Without memory for the buffer it is removed again.
+fn create_new_file(rt: HostRuntime, path: &str) -> io::Result<Opened<HostOutput>>
+    ensures { IfOk result (λ opened. IsNew opened.device) }
+{
+    let file = OpenOptions::new()
+        .write(true)
+        .create_new(true)
+        .open(&rt, path)?;
+    match buffered(rt, Right(OutputFile::new(file)), FileKind::Unknown) {
+        Ok(opened) => Ok(opened),
+        Err(e) => {
+            let _ = fs::remove_file(&rt, path);
+            Err(e)
+        }
+    }
+}
+
+fn kind_at_path(rt: HostRuntime, path: &str) -> io::Result<Option<FileKind>> {
+    match fs::metadata(&rt, path) {
+        Ok(file) => Ok(Some(kind_of(&file))),
+        Err(e) if e.kind() == ErrorKind::NotFound => Ok(None),
+        Err(e) => Err(e),
+    }
+}
+
+/// The system that the program runs on. Proofs know the calls that were made of it.
 #[derive(Drop)]
 pub struct Host {
     rt: HostRuntime,
+    calls: Calls,
     _reserved: Reserved,
 }
 
 impl Host {
     /// The system, with the numbers of the standard streams that are closed taken. An error where they cannot be taken.
     pub fn new(rt: HostRuntime) -> io::Result<Self>
-        ensures { IfOk result (λ host. host.rt ≡ rt) }
+        ensures runtime { IfOk result (λ host. host.rt ≡ rt) }
+        ensures calls { IfOk result (λ host. host.calls.made ≡ []) }
     {
         Ok(Host {
             rt,
+            calls: Calls::new(),
             _reserved: reserve(rt)?,
         })
-    }
-
-    /// An output, written through a buffer (DECISIONS, D-58).
-    fn buffered(
-        &self,
-        output: Either<Stdout, OutputFile<File>>,
-        kind: FileKind,
-    ) -> io::Result<Opened<<Host as System>::Output>>
-        ensures { IfOk result (λ opened. IsNew opened.device) }
-    {
-        let device = Std::new(BufWriter::with_capacity(self.rt.alloc(), BUFFER, output)?);
-        Ok(Opened { device, kind })
     }
 }
 
 impl System for Host {
-    type Input = Std<Either<Stdin, File>>;
+    type Input = HostInput;
 
-    type Output = Std<BufWriter<Either<Stdout, OutputFile<File>>>>;
+    type Output = HostOutput;
 
-    ghost may_do = { opens_new IsNew IsNew };
+    ghost may_do = { noted (λ host. host.calls.made) };
 
     fn words(&mut self) -> Result<Vec<Vec<u8>>, AllocError> {
-        let mut words = Vec::new(self.rt.alloc());
-        for number in 1..usize::MAX {
-            match word(self.rt, number)? {
-                Some(word) => words.push(word)?,
-                None => break,
-            }
-        }
-        Ok(words)
+        let words = all_words(self.rt);
+        self.calls.note(b"", &words);
+        words
     }
 
     fn stdin(&mut self) -> Opened<Self::Input> {
-        Opened {
+        let opened = Opened {
             device: Std::new(Left(self.rt.stdin())),
             kind: input_kind(self.rt),
-        }
+        };
+        self.calls.note(b"", &opened);
+        opened
     }
 
     fn open(&mut self, path: &str) -> io::Result<Opened<Self::Input>> {
-        let file = File::open(&self.rt, path)?;
-        let kind = kind_of(&file.metadata()?);
-        Ok(Opened {
-            device: Std::new(Right(file)),
-            kind,
-        })
+        let opened = open_file(self.rt, path);
+        self.calls.note(path.as_bytes(), &opened);
+        opened
     }
 
-    fn release(&mut self, _input: Self::Input) {}
+    fn release(&mut self, input: Self::Input) {
+        self.calls.note(b"", &input);
+    }
 
     fn stdout(&mut self) -> io::Result<Opened<Self::Output>> {
-        let kind = output_kind(self.rt)?;
-        self.buffered(Left(self.rt.stdout()), kind)
+        let opened = buffered_stdout(self.rt);
+        self.calls.note(b"", &opened);
+        opened
     }
 
     fn create(&mut self, path: &str) -> io::Result<Opened<Self::Output>> {
-        let file = OpenOptions::new()
-            .write(true)
-            .create(true)
-            .open(&self.rt, path)?;
-        let kind = kind_of(&file.metadata()?);
-        self.buffered(Right(OutputFile::new(file)), kind)
+        let opened = create_file(self.rt, path);
+        self.calls.note(path.as_bytes(), &opened);
+        opened
     }
 
     fn kind_at(&mut self, path: &str) -> io::Result<Option<FileKind>> {
-        match fs::metadata(&self.rt, path) {
-            Ok(file) => Ok(Some(kind_of(&file))),
-            Err(e) if e.kind() == ErrorKind::NotFound => Ok(None),
-            Err(e) => Err(e),
-        }
+        let kind = kind_at_path(self.rt, path);
+        self.calls.note(path.as_bytes(), &kind);
+        kind
     }
 
     fn create_new(&mut self, path: &str) -> io::Result<Opened<Self::Output>> {
-        let file = OpenOptions::new()
-            .write(true)
-            .create_new(true)
-            .open(&self.rt, path)?;
-        // Nobody asks what a new file is. Without memory for the buffer it is removed again.
-        match self.buffered(Right(OutputFile::new(file)), FileKind::Unknown) {
-            Ok(opened) => Ok(opened),
-            Err(e) => {
-                let _ = fs::remove_file(&self.rt, path);
-                Err(e)
-            }
-        }
+        let opened = create_new_file(self.rt, path);
+        self.calls.note(path.as_bytes(), &opened);
+        opened
     }
 
     fn rename(&mut self, from: &str, to: &str) -> io::Result<()> {
-        fs::rename(&self.rt, from, to)
+        let moved = fs::rename(&self.rt, from, to);
+        self.calls.note(from.as_bytes(), &(to.as_bytes(), &moved));
+        moved
     }
 
     fn remove(&mut self, path: &str) -> io::Result<()> {
-        fs::remove_file(&self.rt, path)
+        let removed = fs::remove_file(&self.rt, path);
+        self.calls.note(path.as_bytes(), &removed);
+        removed
     }
 
     fn close(&mut self, output: Self::Output) {
+        self.calls.note(b"", &output);
         let failed = output.failed();
         let writer = output.into_inner();
         if failed {

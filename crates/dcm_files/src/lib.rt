@@ -18,6 +18,7 @@
 //!     let flushed = file.flush().is_ok();
 #![tactic(auto)]
 
+mod calls;
 mod devices;
 mod host;
 mod memory;
@@ -26,6 +27,7 @@ mod output;
 mod part;
 mod pieces;
 
+pub use calls::Calls;
 pub use devices::{System, open_devices, open_input, open_output, unopened};
 pub use host::Host;
 pub use memory::{MemFile, MemSystem};

@@ -4,6 +4,7 @@ use Rattle.std.specs.Prelude.{◌≡◌, ℕ, List, [], false, Option, None, Som
 use Rattle.dcm_devices.specs.Device.{Notes, TakesFrom, Gave}
 use Rattle.dcm_devices.specs.Writing.{Writer}
 use Rattle.dcm_devices.specs.declared.std_device.Std.{Std}
+use Rattle.dcm_files.specs.Call.{Call}
 use Rattle.dcm_files.specs.Devices.{MayDo}
 use Rattle.dcm_files.specs.Host.{IsNew}
 use Rattle.dcm_words.specs.Words.{Job}
@@ -47,14 +48,13 @@ RunsByBytes T U tells =
     → (how : How) × Ran job after.passed.bytes how after.failed (change_of std_writer output_before output_after)
     errors status
 
--- nothing was written to the error writer yet, and it has not failed
-abbrev pub IsUnused : Change → Type 0
-IsUnused errors = (errors.before ≡ Some []) × (errors.failed_before ≡ false)
-
--- the program ended with this status: the words that the system gave were obeyed, or there was no memory for them; or
--- the numbers of standard streams that are closed cannot be taken, and nothing is opened
-pub data ProgramEnds {S I O : Type 0} (may : MayDo S I O) (r : Reader I) (w : Writer O) (status : ℕ) : Type 0 where
-  started : (errors : Change) (before after : S) → IsUnused errors → Starts may r w errors before status after
-      → ProgramEnds may r w status
-  not_started : (errors : Change) → IsUnused errors → Reports errors (open_line false) → status ≡ DEVICE
-      → ProgramEnds may r w status
+-- the program ended with this status, and these are left: a system of which no call had been made gave words, and they
+-- were obeyed, or there was no memory for them; or the system could not be used, and no call of it was made
+pub data ProgramEnds {S I O E : Type 0} (calls : S → List Call) (may : MayDo S I O) (r : Reader I) (w : Writer O)
+    (host : Option S) (errors : Std E) (status : ℕ) : Type 0 where
+  started : (errors_before : Std E) (before after : S) → IsNew errors_before → calls before ≡ [] → host ≡ Some after
+      → Starts may r w (change_of std_writer errors_before errors) before status after
+      → ProgramEnds calls may r w host errors status
+  not_started : (errors_before : Std E) → IsNew errors_before → host ≡ None
+      → Reports (change_of std_writer errors_before errors) (open_line false) → status ≡ DEVICE
+      → ProgramEnds calls may r w host errors status

@@ -2,7 +2,7 @@
 //!
 //! - `read_file` reads of one file what its row shows, into `Cells` of dcm_table.
 //! - `write_table` goes over all names: it opens a file, writes its row, and reports what is wrong with it.
-//! - `dcmtools` does what words say: dcm2csv here, all other tools in dcm_cli.
+//! - `dcmtools` does what words say: dcm2csv here, all other tools in dcm_cli. It answers how it `Ended`.
 //! - `obey_in_memory` does so over files in memory.
 #![tactic(auto)]
 
@@ -15,5 +15,5 @@ mod table;
 
 pub use file::{FileEnd, read_file};
 pub use in_memory::obey_in_memory;
-pub use program::{dcmtools, obey, start};
+pub use program::{Ended, dcmtools, obey, start};
 pub use table::{Ends, write_table};

@@ -20,7 +20,7 @@ use dcm_table_words::{TableColumn, TablePlan, put_usage, table_plan};
 use either::Either;
 use std::alloc::{AllocError, Global};
 use std::fs::File;
-use std::io::{Read, Stdin};
+use std::io::{Read, Stderr, Stdin};
 
 /// The tool that writes tables.
 const DCM2CSV: &[u8] = b"dcm2csv";
@@ -214,16 +214,40 @@ pub fn start<S: System, E: DeviceOut>(system: &mut S, alloc: Global, errors: &mu
     }
 }
 
-/// Does what the words of the command line say, over the system's devices, and answers the exit status. Where the
-/// numbers of closed streams cannot be taken, no file is opened.
-pub fn dcmtools(rt: HostRuntime) -> u8
-    ensures ends { over_std.ProgramEnds ⟦<Host as System>⟧.may_do
-        (over_std.std_reader ⟦<Either<Stdin, File> as Read>⟧.remaining) over_std.std_writer result }
-    ensures within { result ≤ statuses.MEMORY }
+/// How the program ended: its exit status, and what is left of the system and of standard error. In proofs these have
+/// the calls that were made, with what they answered, and the bytes that standard error took.
+#[derive(Drop)]
+pub struct Ended {
+    /// The exit status.
+    pub status: u8,
+    /// The system, or none where it could not be used.
+    pub host: Option<Host>,
+    /// Standard error.
+    pub errors: Watched<Std<Stderr>>,
+}
+
+/// Does what the words of the command line say, over the system's devices, and answers how it ended. Where the numbers
+/// of closed streams cannot be taken, no file is opened.
+pub fn dcmtools(rt: HostRuntime) -> Ended
+    ensures ends { over_std.ProgramEnds (λ host. host.calls.made) ⟦<Host as System>⟧.may_do
+        (over_std.std_reader ⟦<Either<Stdin, File> as Read>⟧.remaining) over_std.std_writer result.host result.errors
+        result.status }
+    ensures within { result.status ≤ statuses.MEMORY }
 {
     let mut errors = Watched::new(Std::new(rt.stderr()));
     match Host::new(rt) {
-        Ok(mut host) => start(&mut host, rt.alloc(), &mut errors),
-        Err(_) => tell_open(false, &mut errors),
+        Ok(mut host) => {
+            let status = start(&mut host, rt.alloc(), &mut errors);
+            Ended {
+                status,
+                host: Some(host),
+                errors,
+            }
+        }
+        Err(_) => Ended {
+            status: tell_open(false, &mut errors),
+            host: None,
+            errors,
+        },
     }
 }

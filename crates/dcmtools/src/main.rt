@@ -5,5 +5,5 @@ use dcm_tables::dcmtools;
 use std::process::ExitCode;
 
 fn main(rt: HostRuntime) -> ExitCode {
-    ExitCode::from(dcmtools(rt))
+    ExitCode::from(dcmtools(rt).status)
 }

@@ -1,0 +1,32 @@
+-- The calls of the system that a program runs on.
+use Rattle.std.specs.Prelude.{ℕ, Bool, List, Option, Result, Ok, Err}
+use Rattle.std.specs.declared.io.Error.{Error}
+use Rattle.dcm_files.specs.declared.opened.FileKind.{FileKind}
+use Rattle.dcm_files.specs.declared.opened.Opened.{Opened}
+
+-- a call: what it was asked, and what it answered
+pub data Call : Type 0 where
+  -- the words of the command line after the program's name; none where memory for them was refused
+  gave_words : Option (List (List ℕ)) → Call
+  gave_input : FileKind → Call
+  -- a path that is read
+  opened : List ℕ → Result FileKind Error → Call
+  -- an input that was taken back: the bytes that it gave, and whether it failed
+  released : List ℕ → (failed : Bool) → Call
+  gave_output : Result FileKind Error → Call
+  -- a path that is written
+  created : List ℕ → Result FileKind Error → Call
+  -- what is at a path
+  looked : List ℕ → Result (Option FileKind) Error → Call
+  -- a path that is written, and at which nothing was
+  made : List ℕ → Result FileKind Error → Call
+  -- a file that was moved from a path to another one
+  moved : (from to : List ℕ) → Result (Unit {0}) Error → Call
+  removed : List ℕ → Result (Unit {0}) Error → Call
+  -- an output that was taken back: the bytes that it took, and whether it failed
+  closed : List ℕ → (failed : Bool) → Call
+
+-- what a call that opens something says of it
+abbrev pub kind_in : {D : Type 0} → Result (Opened D) Error → Result FileKind Error
+kind_in (Ok d) = Ok d.kind
+kind_in (Err e) = Err e
