@@ -1,4 +1,4 @@
-use Rattle.std.proofs.Common.{rules}
+use Rattle.std.proofs.Common.{rules, refl, ◌∙◌}
 use Rattle.dcm_build.proofs.Files.Meta.{put_whole, put_failed}
 use Rattle.dcm_build.proofs.group.NewGroup.put.Goals as goal
 
@@ -8,7 +8,7 @@ returns-in_err-put_parts g c = record { bytes = put_failed _ _ _ c.from_residual
 pub returns : goal.returns
 returns g c = record {
   bytes =
-      put_whole _ _ _ c.self.inside.spelled.items c.as_slice.result.now c.transfer_syntax.result.now c.args.self.now c.write_meta.result c.self.invariant c.self.view_is c.as_slice.ensures.value c.transfer_syntax.ensures.value
+      put_whole _ _ _ c.self.inside.spelled.items c.self.inside.spelled.items c.in-Some.uid c.args.self.now c.write_meta.result c.self.invariant c.self.view_is refl (c.in-Some.ensures.some ∙ c.transfer_syntax.ensures.value)
       c.in_ok-put_parts.ensures.bytes c.write_meta.ensures.bytes;
   failed = search rules;
 }

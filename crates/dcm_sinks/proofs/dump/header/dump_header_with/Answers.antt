@@ -49,6 +49,6 @@ returns g c =
     record {
       bytes = λ elements s m. parts_put _ _ _ before _ _ _ _ c.set_header.result refl refl (in_parts c.args.dictionary c.args.mode elements (uid_of c.args.meta.now)) c.in_ok-put_all.ensures.wrote.bytes
           (parts_put _ _ _ _ _ rest _ _ c.set_header.result refl refl refl (c.in_ok-put_elements.ensures.bytes elements (subst (Spells Little elements) (sym c.bytes.ensures.group) s) m)
-          (parts_put _ _ _ (10 ∷ []) _ (set_header (uid_of c.args.meta.now)) _ _ c.set_header.result refl refl refl c.in_ok-put_all-2.ensures.wrote.bytes (rw c.uid.ensures.value at c.set_header.ensures.bytes)));
+          (parts_put _ _ _ (10 ∷ []) _ (set_header (uid_of c.args.meta.now)) _ _ c.set_header.result refl refl refl c.in_ok-put_all-2.ensures.wrote.bytes (rw (c.as_bytes.ensures.value ∙ c.uid.ensures) at c.set_header.ensures.bytes)));
       failed = search rules;
     }
