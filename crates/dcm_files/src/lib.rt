@@ -2,13 +2,14 @@
 //! DICOM.
 //!
 //! - `System` is what opens devices; `Host` is the real one, and `MemSystem` is over files in memory. A system answers
-//!   an `Opened`, a device with its `FileKind`.
+//!   an `Opened`, a device with its `FileKind`. `Host` notes its `Calls` for proofs.
 //! - `open_devices` opens the input and the output that words name, `-` for a standard stream, and refuses two that are
 //!   one file. `open_input` and `open_output` open one of them.
 //! - `OutputFile` is a file that keeps what it held until its first byte is written. It is over any `Target`, of which
 //!   a `File` is one.
 //! - `next_piece` reads an input piece by piece.
-//! - `specs` says what a call leaves: `Devices` of opening, `Output` of a file that is written, `Pieces` of a piece.
+//! - `specs` says what a call leaves: `Devices` of opening, `Output` of a file that is written, `Pieces` of a piece;
+//!   `Host` and `Call` of the real system.
 //!
 //! Two writes and a flush. A `target` that held bytes is emptied once, before the first of them:
 //!
