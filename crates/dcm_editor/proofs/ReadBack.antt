@@ -4,3 +4,4 @@ pub mod Ascends
 pub mod ReadsAscend
 pub mod RecodeAnew
 pub mod EditReads
+pub mod BytesRead

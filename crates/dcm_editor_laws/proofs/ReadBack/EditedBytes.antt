@@ -20,7 +20,8 @@ use Rattle.dcm_edits.specs.EditWords.{meant_edits_in}
 use Rattle.dcm_editor_laws.specs.Modification.{OfBytes}
 use Rattle.dcm_editor_laws.proofs.ReadBack.TwiceWritten.{front_recodes}
 use Rattle.dcm_edits.proofs.Words.WordValues.{AllFine}
-use Rattle.dcm_editor_laws.proofs.ReadBack.BytesKept.{AllEditBytes, edited_bytes, trees_read, set_written}
+use Rattle.dcm_editor.proofs.ReadBack.BytesRead.{trees_read}
+use Rattle.dcm_editor_laws.proofs.ReadBack.BytesKept.{AllEditBytes, edited_bytes, set_written}
 use Rattle.dcm_editor_laws.proofs.Words.WordBytes.{words_bytes}
 
 fine_words : (words : List (List ℕ)) → OfBytes words → AllFine Bytes words
