@@ -10,10 +10,10 @@ use Rattle.dcm_base.specs.declared.vr.Vr.{Vr}
 use Rattle.dcm_base.specs.declared.dictionary.Dictionary.{Dictionary}
 use Rattle.dcm_base.specs.declared.dictionary.Dictionary.TheVariants.{Standard, Extract}
 use Rattle.dcm_edits.specs.Edit.{Edit, erase_all, erase_private, modify_all}
-use Rattle.dcm_editor.specs.Everywhere.{Among, EverywhereIn, IsOther, IsPublic, IsWrittenJust}
-use Rattle.dcm_editor.specs.Others.{any_changes, set_without, KeepsSign}
-use Rattle.dcm_editor.specs.Readers.{HidesNothing, OpensAlike}
-use Rattle.dcm_editor.specs.Repeating.{EraseByNoNumber}
+use Rattle.dcm_editor_laws.specs.Everywhere.{Among, EverywhereIn, IsOther, IsPublic, IsWrittenJust}
+use Rattle.dcm_editor_laws.specs.Others.{any_changes, set_without, KeepsSign}
+use Rattle.dcm_editor_laws.specs.Readers.{HidesNothing, OpensAlike}
+use Rattle.dcm_editor_laws.specs.Repeating.{EraseByNoNumber}
 use Rattle.dcm_deid.specs.declared.fate.Options.{Options}
 use Rattle.dcm_deid.specs.Saying.{whole_of}
 use Rattle.dcm_deid.specs.Uids.{instance_of_head, instance_of_set}

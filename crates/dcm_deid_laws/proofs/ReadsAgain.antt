@@ -16,11 +16,11 @@ use Rattle.dcm_base.specs.Tree.Tree.{Trees}
 use Rattle.dcm_base.proofs.DataSets.OneAnswer.{reads_once}
 use Rattle.dcm_base.proofs.DataSets.OwnSyntax.{own_reads}
 use Rattle.dcm_sinks.proofs.ReadBack.RecodeReads.{IsReady, read_ready, source_whole}
-use Rattle.dcm_editor.proofs.ReadBack.EditedReads.{front_reads}
-use Rattle.dcm_editor.proofs.ReadBack.Plain.{plain, plain_fits, plain_read}
-use Rattle.dcm_editor.proofs.ReadBack.StaysReady.{FrontReady}
-use Rattle.dcm_editor.proofs.Readers.Bytes.{front_alike}
-use Rattle.dcm_editor.proofs.Readers.Opened.{front_ready_by, standard_opens}
+use Rattle.dcm_editor_laws.proofs.ReadBack.EditedReads.{front_reads}
+use Rattle.dcm_editor_laws.proofs.ReadBack.Plain.{plain, plain_fits, plain_read}
+use Rattle.dcm_editor_laws.proofs.ReadBack.StaysReady.{FrontReady}
+use Rattle.dcm_editor_laws.proofs.Readers.Bytes.{front_alike}
+use Rattle.dcm_editor_laws.proofs.Readers.Opened.{front_ready_by, standard_opens}
 use Rattle.dcm_uid.specs.Uid.{replaced}
 use Rattle.dcm_deid.specs.declared.fate.Options.{Options}
 use Rattle.dcm_deid.specs.declared.fate.Depth.TheVariants.{Outermost}

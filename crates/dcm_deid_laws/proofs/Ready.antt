@@ -26,7 +26,7 @@ use Rattle.dcm_base.specs.Tree.Value.{evened}
 use Rattle.dcm_base.proofs.Conversions.NormalForm.{evened_size}
 use Rattle.dcm_sinks.proofs.ReadBack.HasRoom.{IsElement, AreShort, Ready, ReadyItems}
 use Rattle.dcm_sinks.proofs.ReadBack.Sources.{spelled_no_sequence}
-use Rattle.dcm_editor.proofs.ReadBack.Plain.{plain}
+use Rattle.dcm_editor_laws.proofs.ReadBack.Plain.{plain}
 use Rattle.dcm_uid.specs.Uid.{replaced}
 use Rattle.dcm_uid.proofs.NewUids.{replaced_short}
 use Rattle.dcm_deid.specs.declared.fate.Fate.{Fate}

@@ -4,4 +4,3 @@ pub mod Trees
 pub mod Masks
 pub mod EditSinks
 pub mod ReadBack
-pub mod Readers

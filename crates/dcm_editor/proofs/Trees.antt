@@ -3,6 +3,3 @@ pub mod SoFar
 pub mod Fronts
 pub mod DepthAtoms
 pub mod NewRows
-pub mod Everywhere
-pub mod Gone
-pub mod Others

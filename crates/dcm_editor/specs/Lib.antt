@@ -4,10 +4,5 @@ pub mod Asking
 pub mod Editing
 pub mod Through
 pub mod Sound
-pub mod Modification
-pub mod Everywhere
-pub mod Others
-pub mod Repeating
 pub mod Laws
 pub mod Outputs
-pub mod Readers

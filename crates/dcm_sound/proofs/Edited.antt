@@ -20,7 +20,7 @@ use Rattle.dcm_base.specs.Reading.Stop.{complete}
 use Rattle.dcm_base.proofs.DataSets.OwnSyntax.{own_reads}
 use Rattle.dcm_edits.specs.Edit.{Edit, NewElement, no_element, new_leaf, new_sequence, changed, edited, edited_sets, element_of, found, found_in, has, has_place_in, has_place_so_far, is_passed, put, with_new, with_new_so_far}
 use Rattle.dcm_edits.proofs.Trees.Laws.{then_trees-none}
-use Rattle.dcm_editor.proofs.ReadBack.RisingReads.{ascending_reads}
+use Rattle.dcm_editor_laws.proofs.ReadBack.RisingReads.{ascending_reads}
 use Rattle.dcm_editor.proofs.Trees.SoFar.{passed_closed}
 use Rattle.dcm_words.specs.Words.{modify}
 use Rattle.dcm_cli.specs.Answer.{Answer, Answers, FileReads, answer, file, opened, set_at, status_of_lines, unplaced_lines}

@@ -22,7 +22,7 @@ use Rattle.dcm_head.proofs.HeadReading.State.{described}
 use Rattle.dcm_head.proofs.HeadReading.Answers.{told}
 use Rattle.dcm_head.proofs.MetaGroups.OneMeta.{one_meta}
 use Rattle.dcm_sinks.proofs.ReadBack.Sources.{a_byte, bytes_parts}
-use Rattle.dcm_editor.proofs.ReadBack.BytesKept.{HoldsBytes, trees_read}
+use Rattle.dcm_editor.proofs.ReadBack.BytesRead.{HoldsBytes, trees_read}
 use Rattle.dcm_table.specs.declared.ending.RowEnd.{RowEnd}
 use Rattle.dcm_table.specs.declared.quoted.TextForm.TheVariants.{ValidUtf8}
 use Rattle.dcm_table.specs.Cell.{Cell, missing, open_value, open_too_long, whole, too_long, not_shown, CELL_LIMIT, is_shown, shown_vr}

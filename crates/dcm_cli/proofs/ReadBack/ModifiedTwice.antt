@@ -22,9 +22,9 @@ use Rattle.dcm_base.specs.Tree.Tree.{Trees, no_tree, leaf, sequence, fragments}
 use Rattle.dcm_base.proofs.Conversions.NormalForm.{leaf_again}
 use Rattle.dcm_base.specs.declared.dictionary.Dictionary.{Dictionary}
 use Rattle.dcm_edits.specs.Edit.{Edit, edited}
-use Rattle.dcm_editor.specs.Repeating.{EraseByNoNumber}
-use Rattle.dcm_editor.proofs.ReadBack.EditedAscends.{edited_ascends}
-use Rattle.dcm_editor.proofs.ReadBack.TwiceWritten.{edited_twice}
+use Rattle.dcm_editor_laws.specs.Repeating.{EraseByNoNumber}
+use Rattle.dcm_editor_laws.proofs.ReadBack.EditedAscends.{edited_ascends}
+use Rattle.dcm_editor_laws.proofs.ReadBack.TwiceWritten.{edited_twice}
 use Rattle.dcm_sinks.specs.MetaAgain.{elements_again, meta_again}
 use Rattle.dcm_words.specs.Words.{modify}
 use Rattle.dcm_cli.specs.Answer.{Answer, Answers, FileReads, Source, answer, file, opened, set_at, status_of_lines, unplaced_lines, written_file}

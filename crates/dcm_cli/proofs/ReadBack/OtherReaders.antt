@@ -19,18 +19,18 @@ use Rattle.dcm_base.specs.Reading.Reads.{Reads}
 use Rattle.dcm_base.specs.Reading.Stop.{complete}
 use Rattle.dcm_base.specs.Tables.Syntax.{coding_by, dictionary_of, is_big, read_by}
 use Rattle.dcm_edits.specs.Edit.{Edit, edited, erase_all, erase_private, modify_all}
-use Rattle.dcm_editor.specs.Everywhere.{Among, EverywhereIn, IsOther, IsPublic, IsWrittenJust}
-use Rattle.dcm_editor.specs.Modification.{Modifies}
-use Rattle.dcm_editor.specs.Others.{any_changes, set_without, KeepsSign}
-use Rattle.dcm_editor.specs.Readers.{HidesNothing, OpensAlike, ReadsBy}
-use Rattle.dcm_editor.proofs.ReadBack.EditedReads.{front_reads}
-use Rattle.dcm_editor.proofs.ReadBack.StaysReady.{FrontReady}
-use Rattle.dcm_editor.proofs.Readers.Bytes.{front_alike}
-use Rattle.dcm_editor.proofs.Readers.Hidden.{alike_hides, no_private_is_seen, none_is_seen}
-use Rattle.dcm_editor.proofs.Readers.NormalForms.{normal_fits, normal_fits_back}
-use Rattle.dcm_editor.proofs.Readers.Opened.{explicit_opens, front_ready_by}
-use Rattle.dcm_editor.proofs.Readers.Others as others
-use Rattle.dcm_editor.proofs.Readers.Renamed.{renamed}
+use Rattle.dcm_editor_laws.specs.Everywhere.{Among, EverywhereIn, IsOther, IsPublic, IsWrittenJust}
+use Rattle.dcm_editor_laws.specs.Modification.{Modifies}
+use Rattle.dcm_editor_laws.specs.Others.{any_changes, set_without, KeepsSign}
+use Rattle.dcm_editor_laws.specs.Readers.{HidesNothing, OpensAlike, ReadsBy}
+use Rattle.dcm_editor_laws.proofs.ReadBack.EditedReads.{front_reads}
+use Rattle.dcm_editor_laws.proofs.ReadBack.StaysReady.{FrontReady}
+use Rattle.dcm_editor_laws.proofs.Readers.Bytes.{front_alike}
+use Rattle.dcm_editor_laws.proofs.Readers.Hidden.{alike_hides, no_private_is_seen, none_is_seen}
+use Rattle.dcm_editor_laws.proofs.Readers.NormalForms.{normal_fits, normal_fits_back}
+use Rattle.dcm_editor_laws.proofs.Readers.Opened.{explicit_opens, front_ready_by}
+use Rattle.dcm_editor_laws.proofs.Readers.Others as others
+use Rattle.dcm_editor_laws.proofs.Readers.Renamed.{renamed}
 use Rattle.dcm_base.proofs.DataSets.OwnSyntax.{own_reads}
 use Rattle.dcm_head.proofs.MetaGroups.OneMeta.{one_meta}
 use Rattle.dcm_sinks.specs.MetaAgain.{meta_again}
@@ -42,7 +42,7 @@ use Rattle.dcm_cli.proofs.Runs.OneSource.{one_source}
 use Rattle.dcm_cli.proofs.Runs.Sure.{beginnings_alike}
 use Rattle.dcm_cli.proofs.ReadBack.OutputEdited.{in_output, modifies, was_read}
 use Rattle.dcm_cli.proofs.ReadBack.ReadsAgain.{behind_group, long, modified_reads, of_head, read_of, read_twice, written_reads}
-use Rattle.dcm_editor.proofs.ReadBack.Plain.{plain}
+use Rattle.dcm_editor_laws.proofs.ReadBack.Plain.{plain}
 
 pub coding_twice : (e d : Dictionary) (c : Coding) → coding_by e (coding_by d c) ≡ coding_by e c
 coding_twice e d c = ap (λ (x : Syntax). record { syntax = x; encapsulated = c.encapsulated }) (read_twice e d c.syntax)

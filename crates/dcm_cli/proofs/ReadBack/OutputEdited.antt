@@ -12,10 +12,10 @@ use Rattle.dcm_base.specs.Conversion.Normal.{normal_front}
 use Rattle.dcm_base.specs.Reading.Stop.{complete}
 use Rattle.dcm_base.specs.declared.dictionary.Dictionary.{Dictionary}
 use Rattle.dcm_edits.specs.Edit.{Edit, edited, erase_all, erase_private, modify_all}
-use Rattle.dcm_editor.specs.Everywhere.{Among, EverywhereIn, IsOther, IsPublic, IsWrittenJust}
-use Rattle.dcm_editor.specs.Modification.{Modifies, ReadsAgain}
-use Rattle.dcm_editor.proofs.ReadBack.EditedReads.{edited_reads}
-use Rattle.dcm_editor.proofs.Trees.Gone.{erased_all_is_gone, erased_private_is_gone, modified_all_is_so}
+use Rattle.dcm_editor_laws.specs.Everywhere.{Among, EverywhereIn, IsOther, IsPublic, IsWrittenJust}
+use Rattle.dcm_editor_laws.specs.Modification.{Modifies, ReadsAgain}
+use Rattle.dcm_editor_laws.proofs.ReadBack.EditedReads.{edited_reads}
+use Rattle.dcm_editor_laws.proofs.Trees.Gone.{erased_all_is_gone, erased_private_is_gone, modified_all_is_so}
 use Rattle.dcm_sinks.specs.MetaAgain.{meta_again}
 use Rattle.dcm_words.specs.Words.{dump, modify}
 use Rattle.dcm_cli.specs.Answer.{Answer, Source, answer, file, opened, set_at}

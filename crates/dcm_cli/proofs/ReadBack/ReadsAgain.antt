@@ -30,10 +30,10 @@ use Rattle.dcm_sinks.proofs.ReadBack.RecodeReads.{IsReady, read_ready, recode_re
 use Rattle.dcm_sinks.proofs.ReadBack.Sources.{a_byte, bytes_behind}
 use Rattle.dcm_build.proofs.Rebuilds.FilesBuild.{headed}
 use Rattle.dcm_edits.specs.Edit.{Edit, edited}
-use Rattle.dcm_editor.proofs.ReadBack.EditedReads.{own_ready, edited_reads}
-use Rattle.dcm_editor.proofs.ReadBack.StaysReady.{FrontReady, edited_ready}
+use Rattle.dcm_editor_laws.proofs.ReadBack.EditedReads.{own_ready, edited_reads}
+use Rattle.dcm_editor_laws.proofs.ReadBack.StaysReady.{FrontReady, edited_ready}
 use Rattle.dcm_edits.proofs.Words.WordValues.{edits_fit}
-use Rattle.dcm_editor.proofs.Words.WordsReady.{edits_ready}
+use Rattle.dcm_editor_laws.proofs.Words.WordsReady.{edits_ready}
 use Rattle.dcm_words.specs.Words.{Job, convert, modify}
 use Rattle.dcm_cli.specs.Answer.{job_dictionary, HeadIs, Answer, Source, file as a_file, set_at, job_bar, answer, target_syntax, target_uid, written_file, FileReads, not_opened, not_changed, opened}
 use Rattle.dcm_head.specs.SyntaxUids.{uid_of_syntax}

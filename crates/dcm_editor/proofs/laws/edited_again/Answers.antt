@@ -1,8 +1,0 @@
-use Rattle.dcm_editor.proofs.ReadBack.EditedAgain.{writes_again, modifies_again}
-use Rattle.dcm_editor.proofs.laws.edited_again.Goals as goal
-
-pub returns : goal.returns
-returns c = record {
-  writes = λ edits s at f again stop h stay r reads. writes_again edits s at f again stop h stay r reads;
-  modifies = λ edits s at f again stop h stay r are reads. modifies_again edits s at f again stop h stay r reads are;
-}

@@ -1,0 +1,5 @@
+use Rattle.dcm_editor_laws.proofs.ReadBack.EditedReads.{edited_reads}
+use Rattle.dcm_editor_laws.proofs.laws.edited_reads.Goals as goal
+
+pub returns : goal.returns
+returns c = λ edits s at f h stay. edited_reads s h.words edits h.mean h.start h.bytes f h.begins h.are_bytes h.reads stay at h.within
