@@ -14,8 +14,4 @@ pub mod Levels
 pub mod Row
 pub mod Stops
 pub mod Between
-pub mod OneShown
-pub mod EmptyElements
-pub mod ImplicitLengths
 pub mod OwnSyntax
-pub mod InOrder

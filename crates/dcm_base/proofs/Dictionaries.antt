@@ -5,7 +5,6 @@ pub mod Entries
 pub mod Private
 pub mod Sequences
 pub mod Lines
-pub mod Unique
 pub mod Parts
 pub mod Items
 pub mod KeywordLengths

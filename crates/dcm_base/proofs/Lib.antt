@@ -1,4 +1,3 @@
-pub mod WorkedRows
 pub mod DataSets
 pub mod DumpsBack
 pub mod Conversions

@@ -14,7 +14,7 @@ use Rattle.dcm_base.specs.declared.vr.Vr.{Vr}
 use Rattle.dcm_base.specs.Tables.Dictionary.{Element, called, element_in, elements, elements_in, tag_in}
 use Rattle.dcm_base.specs.Tables.Tag.{tag_number, tag_of_number}
 use Rattle.dcm_base.proofs.Dictionaries.Parts.{extract_is_part}
-use Rattle.dcm_base.proofs.Dictionaries.Unique.{called_back}
+use Rattle.dcm_base_laws.proofs.Dictionaries.Unique.{called_back}
 use Rattle.dcm_edits.specs.Edit.{Edit, Index, erase_private}
 use Rattle.dcm_edits.specs.EditWords.{EDIT_LIMIT, InEdit, Kind, Known, OptionWord, PathPart, TagName, and_then, apart, at_edit, by_keyword, by_number, cut_at, edit_of_known, edit_of_parts, has_form, in_edit, known_part, known_parts, known_tag, meant_edit, meant_edits_in, meant_from, meant_word, option_word, or_refuse, parts_of, private_word, takes_value, takes_word, unknown_word, without_dictionary, ◌>>=◌}
 

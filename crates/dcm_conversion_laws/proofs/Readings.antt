@@ -21,7 +21,7 @@ use Rattle.dcm_base.specs.Tables.Syntax.{Little, read_by}
 use Rattle.dcm_base.specs.Tree.Front.{Front, front}
 use Rattle.dcm_base.proofs.DataSets.Alike.{Alike, alike_self, read_by_dictionary}
 use Rattle.dcm_base.proofs.DataSets.OneAnswer.{reads_once}
-use Rattle.dcm_base.proofs.DataSets.OneShown.{front_one}
+use Rattle.dcm_base_laws.proofs.DataSets.OneShown.{front_one}
 use Rattle.dcm_base.proofs.DataSets.Shown.{front_shown}
 use Rattle.dcm_stream.specs.Ascending.{ascending, innermost, reached_after}
 use Rattle.dcm_stream.specs.Follows.{BarsAs}

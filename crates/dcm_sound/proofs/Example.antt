@@ -8,7 +8,7 @@ use Rattle.dcm_base.specs.Tree.Tree.{Trees, no_tree, leaf}
 use Rattle.dcm_base.specs.Bytes.Spelling.{Spells}
 use Rattle.dcm_base.specs.File.MetaGroup.{AreMeta}
 use Rattle.dcm_base.specs.File.MetaReads.{Meta, PREFIX}
-use Rattle.dcm_base.proofs.WorkedRows.Readings.{all, name_bytes, patient_name, tag}
+use Rattle.dcm_base_laws.proofs.WorkedRows.Readings.{all, name_bytes, patient_name, tag}
 use Rattle.dcm_sound.specs.Sound.{IsDataSet, IsSound}
 
 abbrev uid : List ℕ

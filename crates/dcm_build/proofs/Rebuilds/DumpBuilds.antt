@@ -25,10 +25,10 @@ use Rattle.dcm_base.specs.Tables.Uid.{Named, uids, uid_name}
 use Rattle.dcm_base.specs.Dump.ValueText.{escaped}
 use Rattle.dcm_base.specs.Lines.Build.{Built, Progress, Lines, lines, lines_of, built, built_cut, built_whole, built_bytes, nothing_built, usable, named_syntax, named_coding, coding_or_little, at_start, at_input_end, end_checks, first_fault, meta_has_ended, tell, is_the_top, innermost, open_levels, rebuilt}
 use Rattle.dcm_base.specs.declared.fault.LineStop.{LineStop}
-use Rattle.dcm_base.proofs.DumpsBack.Fields.{Bytewise, IsPrinted, all_printed, text_shows}
+use Rattle.dcm_base_laws.proofs.DumpsBack.Fields.{Bytewise, IsPrinted, all_printed, text_shows}
 use Rattle.dcm_base.proofs.DumpsBack.Texts.{Bytes, bytes_of}
 use Rattle.dcm_base.proofs.DumpsBack.Values.{found, mapped}
-use Rattle.dcm_base.proofs.DumpsBack.Losses.{recodes_same}
+use Rattle.dcm_base_laws.proofs.DumpsBack.Losses.{recodes_same}
 use Rattle.dcm_base.specs.declared.dictionary.Dictionary.{Dictionary}
 use Rattle.dcm_build.specs.DumpBuilds.{full_dump, CanBuild, FitsLines, BuildsFile}
 use Rattle.dcm_base.specs.Lines.Limits.{LINE_LIMIT}

@@ -15,10 +15,10 @@ use Rattle.dcm_base.specs.Lines.ReadValue.{value_of_text, value_shown}
 use Rattle.dcm_base.specs.Tree.Tree.{Trees, no_tree, leaf, sequence, fragments, Items, no_item, item}
 use Rattle.dcm_base.specs.Dump.Dump.{length_text, line_start, line, leaf_line, fragment_line, fragment_lines, sequence_line, sequence_end_line, item_line, item_end_line, dump_set, dump_items}
 use Rattle.dcm_base.specs.Lines.Line.{Step, show_leaf, show_fragment, Meaning, one, LineMeans}
-use Rattle.dcm_base.proofs.DumpsBack.LineMeanings.{IsSmall}
+use Rattle.dcm_base_laws.proofs.DumpsBack.LineMeanings.{IsSmall}
 use Rattle.dcm_base.proofs.DumpsBack.Texts.{bytes_of}
 use Rattle.dcm_base.proofs.DumpsBack.Values.{value_back}
-use Rattle.dcm_base.proofs.DumpsBack.Steps.{leaf_shows, fragment_shows, sequence_reads, fragments_read, item_reads, item_end_reads, sequence_end_reads}
+use Rattle.dcm_base_laws.proofs.DumpsBack.Steps.{leaf_shows, fragment_shows, sequence_reads, fragments_read, item_reads, item_end_reads, sequence_end_reads}
 use Rattle.dcm_base.specs.declared.dictionary.Dictionary.{Dictionary}
 use Rattle.dcm_base.specs.Lines.Limits.{LINE_LIMIT}
 use Rattle.dcm_build.specs.DumpLines.{fragment_step, set_steps, items_steps, joined, AllWithin, ArePrinted, EachMeans, IsElement, ReadsBack, AllReadBack, SetReadsBack, ItemsReadBack}

@@ -25,7 +25,7 @@ use Rattle.dcm_base.specs.Dump.ValueText.{shape, unpadded}
 use Rattle.dcm_base.specs.Lines.ReadValue.{takes_bytes, value_shown}
 use Rattle.dcm_base.specs.Lines.Line.{Step, show_leaf}
 use Rattle.dcm_base.specs.Lines.Build.{Built, no_elements, named_syntax, named_coding, is_meta, has_place_in, innermost, open_levels, first_fault, step_checks, with_meta, with_step, checked, with_shown, rebuilt}
-use Rattle.dcm_base.proofs.DumpsBack.Losses.{recodes_same}
+use Rattle.dcm_base_laws.proofs.DumpsBack.Losses.{recodes_same}
 use Rattle.dcm_build.specs.DumpLines.{set_steps}
 use Rattle.dcm_build.specs.StepsBuild.{Leads}
 use Rattle.dcm_build.proofs.Files.Meta.{one_shown}

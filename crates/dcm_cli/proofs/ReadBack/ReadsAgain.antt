@@ -15,7 +15,7 @@ use Rattle.dcm_base.specs.Reading.Reads.{INPUT_LIMIT, Reads}
 use Rattle.dcm_base.specs.Conversion.Recode.{recode}
 use Rattle.dcm_base.specs.Reading.Stop.{Stop, Bar, complete}
 use Rattle.dcm_base.specs.Tables.Transfer.{native, without_pads, coding_of}
-use Rattle.dcm_base.proofs.DataSets.ImplicitLengths.{explicit_fits, implicit_fits}
+use Rattle.dcm_base_laws.proofs.DataSets.ImplicitLengths.{explicit_fits, implicit_fits}
 use Rattle.dcm_base.proofs.DataSets.OwnSyntax.{own_reads}
 use Rattle.dcm_base.proofs.DataSets.OneAnswer.{reads_once}
 use Rattle.dcm_base.proofs.DumpsBack.Texts.{bytes_of}

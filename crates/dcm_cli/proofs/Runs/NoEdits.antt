@@ -2,7 +2,7 @@
 use Rattle.std.proofs.Common.{◌≡◌, ◌∙◌, subst, ℕ, List, [], drop, None, refl}
 use Rattle.dcm_base.specs.Reading.Stop.{complete, refused}
 use Rattle.dcm_base.proofs.DataSets.OwnSyntax.{own_reads}
-use Rattle.dcm_base.proofs.DataSets.InOrder.{unbarred_reads}
+use Rattle.dcm_base_laws.proofs.DataSets.InOrder.{unbarred_reads}
 use Rattle.dcm_base.specs.declared.dictionary.Dictionary.{Dictionary}
 use Rattle.dcm_words.specs.Words.{convert, modify}
 use Rattle.dcm_cli.specs.Answer.{Source, unopened, file as a_file, alone, answer, set_at, FileReads, not_opened, not_changed, opened}

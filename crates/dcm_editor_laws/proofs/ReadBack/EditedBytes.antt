@@ -10,7 +10,7 @@ use Rattle.dcm_base.specs.Reading.Bars.{ascending_bar, target_bar}
 use Rattle.dcm_base.specs.Reading.Reads.{INPUT_LIMIT, Reads}
 use Rattle.dcm_base.specs.Conversion.Recode.{recode, recode_set}
 use Rattle.dcm_base.proofs.DataSets.OwnSyntax.{own_reads}
-use Rattle.dcm_base.proofs.DataSets.InOrder.{unbarred_reads}
+use Rattle.dcm_base_laws.proofs.DataSets.InOrder.{unbarred_reads}
 use Rattle.dcm_base.proofs.DumpsBack.Texts.{Bytes, bytes_of}
 use Rattle.dcm_base.specs.Tables.Syntax.{dictionary_of}
 use Rattle.dcm_sinks.proofs.ReadBack.RecodeReads.{Whole, source_whole}

@@ -9,9 +9,9 @@ use Rattle.dcm_base.specs.Reading.Bars.{ascending_bar, target_bar}
 use Rattle.dcm_base.specs.Reading.Reads.{INPUT_LIMIT, Reads}
 use Rattle.dcm_base.specs.Conversion.Recode.{recode}
 use Rattle.dcm_base.specs.Conversion.Normal.{FrontFits, normal_front, FrontStays}
-use Rattle.dcm_base.proofs.DataSets.ImplicitLengths.{explicit_fits, implicit_fits}
+use Rattle.dcm_base_laws.proofs.DataSets.ImplicitLengths.{explicit_fits, implicit_fits}
 use Rattle.dcm_base.proofs.DataSets.OwnSyntax.{own_reads}
-use Rattle.dcm_base.proofs.DataSets.InOrder.{unbarred_reads}
+use Rattle.dcm_base_laws.proofs.DataSets.InOrder.{unbarred_reads}
 use Rattle.dcm_base.specs.Tables.Syntax.{dictionary_of}
 use Rattle.dcm_sinks.proofs.ReadBack.RecodeReads.{IsReady, read_ready, ready_reads}
 use Rattle.dcm_edits.specs.Edit.{Edit, edited}

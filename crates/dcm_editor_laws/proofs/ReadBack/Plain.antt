@@ -16,7 +16,7 @@ use Rattle.dcm_base.specs.Reading.Bars.{target_bar}
 use Rattle.dcm_base.specs.Reading.Reads.{Reads}
 use Rattle.dcm_base.specs.Reading.Stop.{Bar, Stop}
 use Rattle.dcm_base.specs.Tree.Front.{Front}
-use Rattle.dcm_base.proofs.DataSets.ImplicitLengths.{extract_fits, implicit_fits}
+use Rattle.dcm_base_laws.proofs.DataSets.ImplicitLengths.{extract_fits, implicit_fits}
 use Rattle.dcm_sinks.proofs.ReadBack.Sources.{spelled_no_sequence}
 use Rattle.dcm_edits.specs.Edit.{PathEdit, step, insert, modify, erase, erase_item, Edit, on_path, modify_all, erase_all, erase_private, elsewhere}
 use Rattle.dcm_editor_laws.proofs.ReadBack.StaysReady.{LeafReady, StepReady, PathReady, EditReady, AreReady}

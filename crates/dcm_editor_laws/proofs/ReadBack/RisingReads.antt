@@ -24,7 +24,7 @@ use Rattle.dcm_base.specs.Conversion.Normal.{whole_front}
 use Rattle.dcm_base.specs.Steps.Atoms.{Atom, value_byte, closes_leaf, closes_item, closes_sequence, ends, fragments_then, front_atoms, trees_then, items_then}
 use Rattle.dcm_base.proofs.DataSets.OneAnswer.{reads_once}
 use Rattle.dcm_base.proofs.DataSets.OwnSyntax.{own_reads}
-use Rattle.dcm_base.proofs.DataSets.InOrder.{unbarred_reads}
+use Rattle.dcm_base_laws.proofs.DataSets.InOrder.{unbarred_reads}
 use Rattle.dcm_stream.specs.Ascending.{reached_after, innermost, ascending}
 use Rattle.dcm_stream.specs.Follows.{BarsAs}
 use Rattle.dcm_stream.specs.Reading.{Reading, start_of, Opened, settled, full_closed, element_opens, plain_opens, head_opens, head_read, byte_read, read_byte, reads_byte, read_all, finish, end_shows}

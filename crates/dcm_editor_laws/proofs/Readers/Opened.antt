@@ -22,7 +22,7 @@ use Rattle.dcm_base.specs.Bytes.Spelling.{form, read_as, read_in}
 use Rattle.dcm_base.specs.Tables.Syntax.{dictionary_of, read_by}
 use Rattle.dcm_base.specs.Tables.Tag.{is_private, tag_number, tag_of_number}
 use Rattle.dcm_base.specs.Tree.Tree.{Trees, no_tree, leaf, sequence, fragments, Items, no_item, item}
-use Rattle.dcm_base.proofs.DataSets.ImplicitLengths.{extract_fits}
+use Rattle.dcm_base_laws.proofs.DataSets.ImplicitLengths.{extract_fits}
 use Rattle.dcm_base.proofs.Dictionaries.Parts.{extract_is_part, groups_are_even}
 use Rattle.dcm_sinks.proofs.ReadBack.HasRoom.{Ready, ReadyItems}
 use Rattle.dcm_edits.proofs.Words.EditWordLemmas.{found_passes, mapped, same_group}

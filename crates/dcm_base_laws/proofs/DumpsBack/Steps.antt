@@ -19,9 +19,9 @@ use Rattle.dcm_base.specs.Lines.ReadValue.{value_of_text, value_shown}
 use Rattle.dcm_base.specs.Lines.Line.{Step, show_leaf, begin_sequence, begin_fragments, begin_item, show_fragment, end_item, end_sequence, Meaning, one, no_line, begins, is_skipped, with_value, may_be_sequence, may_be_fragments, element_meaning, meaning_of, LineMeans}
 use Rattle.dcm_base.proofs.DumpsBack.Texts.{Bytes}
 use Rattle.dcm_base.proofs.DumpsBack.Values.{value_back}
-use Rattle.dcm_base.proofs.DumpsBack.Fields.{Shows, Bytewise, IsPrinted, printed_text, all_printed}
-use Rattle.dcm_base.proofs.DumpsBack.Displays.{display_shows, hex_begins_plain, BeginsPlain}
-use Rattle.dcm_base.proofs.DumpsBack.LineMeanings.{Meant, line_meant, IsSmall}
+use Rattle.dcm_base_laws.proofs.DumpsBack.Fields.{Shows, Bytewise, IsPrinted, printed_text, all_printed}
+use Rattle.dcm_base_laws.proofs.DumpsBack.Displays.{display_shows, hex_begins_plain, BeginsPlain}
+use Rattle.dcm_base_laws.proofs.DumpsBack.LineMeanings.{Meant, line_meant, IsSmall}
 use Rattle.dcm_base.specs.declared.dictionary.Dictionary.{Dictionary}
 
 if_false : {A : Type 0} (b : Bool) (x y : A) → b ≡ false → (if b then x else y) ≡ y

@@ -9,7 +9,7 @@ use Rattle.dcm_base.specs.Tree.Front.{Front, no_open_item, open_item}
 use Rattle.dcm_base.specs.Bytes.Spelling.{SpellsFront}
 use Rattle.dcm_base.specs.Reading.Stop.{refused, stop_at}
 use Rattle.dcm_base.specs.Reading.Bars.{no_bar, ascending_bar}
-use Rattle.dcm_base.proofs.WorkedRows.Readings.{all, tag, whole_set, open_value, patient_name, instance, leaf_bytes, instance_leaf, leaf_spelled, open_front, opening, pixels}
+use Rattle.dcm_base_laws.proofs.WorkedRows.Readings.{all, tag, whole_set, open_value, patient_name, instance, leaf_bytes, instance_leaf, leaf_spelled, open_front, opening, pixels}
 
 -- ---- tags that do not ascend
 

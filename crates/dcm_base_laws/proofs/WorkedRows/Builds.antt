@@ -4,7 +4,7 @@ use Rattle.std.specs.Prelude.{codes}
 use Rattle.dcm_base.specs.Tables.Representation.{letters}
 use Rattle.dcm_base.specs.Conversion.Recode.{recode, recode_set}
 use Rattle.dcm_base.specs.Lines.Build.{built, built_bytes, written_so_far}
-use Rattle.dcm_base.proofs.WorkedRows.Lines.{all as lines}
+use Rattle.dcm_base_laws.proofs.WorkedRows.Lines.{all as lines}
 
 -- all that a row computes with
 unfoldable all : ℕ

@@ -10,7 +10,7 @@ use Rattle.dcm_base.specs.Reading.Bars.{no_bar}
 use Rattle.dcm_base.specs.Reading.Reads.{StopsFirst, Reads}
 use Rattle.dcm_base.proofs.DataSets.Fronts.{front_same}
 use Rattle.dcm_base.proofs.DataSets.Between.{between}
-use Rattle.dcm_base.proofs.WorkedRows.Readings.{all, patient_name}
+use Rattle.dcm_base_laws.proofs.WorkedRows.Readings.{all, patient_name}
 
 abbrev bytes : List ℕ
 bytes = 0x10 ∷ 0x00 ∷ 0x10 ∷ 0x00 ∷ 0x50 ∷ 0x4E ∷ 0x00 ∷ 0x00 ∷ []

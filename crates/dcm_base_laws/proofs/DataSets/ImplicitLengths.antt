@@ -15,7 +15,8 @@ use Rattle.dcm_base.specs.Tree.Front.{Front, front}
 use Rattle.dcm_base.specs.Tables.Tag.{item_end_tag, sequence_end_tag, tag_number}
 use Rattle.dcm_base.specs.Tables.Dictionary.{vr_in, signed_vr, if_signed, element_in, elements_in, ambiguous, numbered, unlisted_vr}
 use Rattle.dcm_base.specs.Bytes.Head.{ElementHead, vr_at, tag_at}
-use Rattle.dcm_base.specs.Bytes.Spelling.{a_value, a_sequence, form, inside, Enclosed, TreesAt, ItemsAt, SpellsFront, says_sign, is_one, after, dictionary_after, sign_after, read_in, read_as}
+use Rattle.dcm_base.specs.declared.form.Form.TheVariants.{Value as a_value, Sequence as a_sequence}
+use Rattle.dcm_base.specs.Bytes.Spelling.{form, inside, Enclosed, TreesAt, ItemsAt, SpellsFront, says_sign, is_one, after, dictionary_after, sign_after, read_in, read_as}
 use Rattle.dcm_base.specs.Reading.Stop.{Stop, complete, refused, Bar}
 use Rattle.dcm_base.specs.Reading.Reads.{Reads, ended}
 use Rattle.dcm_base.specs.Conversion.Recode.{is_explicit, too_long}

@@ -16,7 +16,7 @@ use Rattle.dcm_base.proofs.DumpsBack.Texts.{Bytes}
 use Rattle.dcm_base.proofs.DumpsBack.Numbers.{Bytes-reverse, length-hex}
 use Rattle.dcm_base.proofs.DumpsBack.Parts.{Each, each_piece, Bytes-take, Bytes-drop}
 use Rattle.dcm_base.proofs.DumpsBack.Values.{Bytes-unpadded, found, mapped, and_one, and_two, below_64, whole, units_are, more_than_none, two_below}
-use Rattle.dcm_base.proofs.DumpsBack.Fields.{printed_text, Bytewise, Shows, IsPlain, IsTagText, text_shows, plain_shows, decimal_is_plain, minus_is_plain, hex_is_plain, joined_is_plain, tags_show}
+use Rattle.dcm_base_laws.proofs.DumpsBack.Fields.{printed_text, Bytewise, Shows, IsPlain, IsTagText, text_shows, plain_shows, decimal_is_plain, minus_is_plain, hex_is_plain, joined_is_plain, tags_show}
 
 -- ---- names of unique identifiers
 

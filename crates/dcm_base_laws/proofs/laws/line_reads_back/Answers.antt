@@ -3,9 +3,9 @@ use Rattle.dcm_base.specs.declared.length.Length.{Length}
 use Rattle.dcm_base.specs.declared.length.Length.TheVariants.{Known, Undefined}
 use Rattle.dcm_base.specs.Tables.Number.{HasLength}
 use Rattle.dcm_base.proofs.DumpsBack.Texts.{bytes_of}
-use Rattle.dcm_base.proofs.DumpsBack.LineMeanings.{IsSmall}
-use Rattle.dcm_base.proofs.DumpsBack.Steps.{leaf_reads, fragment_reads, sequence_reads, fragments_read, item_reads, item_end_reads, sequence_end_reads}
-use Rattle.dcm_base.proofs.laws.line_reads_back.Goals as goal
+use Rattle.dcm_base_laws.proofs.DumpsBack.LineMeanings.{IsSmall}
+use Rattle.dcm_base_laws.proofs.DumpsBack.Steps.{leaf_reads, fragment_reads, sequence_reads, fragments_read, item_reads, item_end_reads, sequence_end_reads}
+use Rattle.dcm_base_laws.proofs.laws.line_reads_back.Goals as goal
 
 is_small : (size : Length) → HasLength size → IsSmall size
 is_small (Known n) h = omega (arith, h)

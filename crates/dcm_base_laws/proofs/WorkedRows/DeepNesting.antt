@@ -11,7 +11,7 @@ use Rattle.dcm_base.specs.Bytes.Spelling.{TreesAt, SpellsFront}
 use Rattle.dcm_base.specs.Reading.Stop.{complete, refused, stop_at}
 use Rattle.dcm_base.specs.Reading.Bars.{no_bar}
 use Rattle.dcm_base.specs.Reading.Reads.{Reads}
-use Rattle.dcm_base.proofs.WorkedRows.Readings.{all}
+use Rattle.dcm_base_laws.proofs.WorkedRows.Readings.{all}
 
 abbrev images : Tag
 images = record { group = 0x0008; element = 0x1140 }

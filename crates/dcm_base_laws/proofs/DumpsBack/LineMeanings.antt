@@ -13,9 +13,9 @@ use Rattle.dcm_base.proofs.Dictionaries.Lines.{standard_keywords, standard_has}
 use Rattle.dcm_base.specs.Dump.ValueText.{tag_text}
 use Rattle.dcm_base.specs.Dump.Dump.{length_text, line}
 use Rattle.dcm_base.specs.Lines.Line.{is_end, is_skipped, meaning_of, means}
-use Rattle.dcm_base.proofs.DumpsBack.Fields.{Bytewise, Bytewise-append, Bytewise-decimal, IsPrinted, printed_text, tag_is_printed}
+use Rattle.dcm_base_laws.proofs.DumpsBack.Fields.{Bytewise, Bytewise-append, Bytewise-decimal, IsPrinted, printed_text, tag_is_printed}
 use Rattle.dcm_base.proofs.Dictionaries.KeywordLengths.{found_has}
-use Rattle.dcm_base.proofs.DumpsBack.LineParts.{past_indent, line_means, tag_from}
+use Rattle.dcm_base_laws.proofs.DumpsBack.LineParts.{past_indent, line_means, tag_from}
 use Rattle.dcm_base.specs.declared.dictionary.Dictionary.{Dictionary}
 use Rattle.dcm_base.specs.declared.dictionary.Dictionary.TheVariants.{Extract, Standard, Signed}
 

@@ -9,7 +9,9 @@ use Rattle.dcm_base.specs.declared.length.Length.TheVariants.{Known, Undefined}
 use Rattle.dcm_base.specs.Tree.Tree.{Trees, no_tree, leaf, sequence, fragments, Items, no_item, item}
 use Rattle.dcm_base.specs.Tree.Front.{Front, front, OpenTree, nothing_open, open_leaf, open_sequence, open_fragments, OpenItem, no_open_item, open_item}
 use Rattle.dcm_base.specs.Tree.Value.{order}
-use Rattle.dcm_base.specs.Bytes.Spelling.{Form, a_value, a_sequence, a_fragment_list, form, reached_tag, read_as}
+use Rattle.dcm_base.specs.declared.form.Form.{Form}
+use Rattle.dcm_base.specs.declared.form.Form.TheVariants.{Value as a_value, Sequence as a_sequence, FragmentList as a_fragment_list}
+use Rattle.dcm_base.specs.Bytes.Spelling.{form, reached_tag, read_as}
 use Rattle.dcm_base.specs.Steps.Atoms.{Atom, opens, value_byte, closes_leaf, opens_item, closes_item, closes_sequence, opens_fragment, ends, fragments_then, ShowTrees, ShowItems, open_fragment_atoms, end_atoms, MayEnd, Shows, ShowsOpen, ShowsOpenItem}
 use Rattle.dcm_base.proofs.DataSets.Heads.{known_same}
 use Rattle.dcm_base.proofs.Conversions.Order.{order_same}

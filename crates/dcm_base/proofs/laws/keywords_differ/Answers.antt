@@ -1,5 +1,0 @@
-use Rattle.dcm_base.proofs.Dictionaries.Unique.{keywords_differ}
-use Rattle.dcm_base.proofs.laws.keywords_differ.Goals as goal
-
-pub returns : goal.returns
-returns c = keywords_differ

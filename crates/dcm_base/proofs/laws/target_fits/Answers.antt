@@ -1,5 +1,0 @@
-use Rattle.dcm_base.proofs.DataSets.ImplicitLengths.{extract_fits, explicit_fits, implicit_fits}
-use Rattle.dcm_base.proofs.laws.target_fits.Goals as goal
-
-pub returns : goal.returns
-returns c = record { extract = extract_fits; explicit = explicit_fits; implicit = implicit_fits }

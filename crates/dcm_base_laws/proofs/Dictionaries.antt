@@ -1,0 +1,2 @@
+-- No two elements have the same keyword.
+pub mod Unique

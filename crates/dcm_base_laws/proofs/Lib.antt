@@ -1,0 +1,4 @@
+pub mod WorkedRows
+pub mod DataSets
+pub mod DumpsBack
+pub mod Dictionaries
