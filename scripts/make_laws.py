@@ -18,8 +18,8 @@ END = "<!-- end of laws -->"
 MOST_WORDS = 30
 
 ON_THE_WAY = {
-    "dcm_base": """one_front reads_one one_shown front_shows value_reads_back line_reads_back rebuilt_recodes normal_recodes target_fits
-        keywords_differ called_back keywords_are_lines elements_ascend extract_is_part""",
+    "dcm_base": "one_front reads_one front_shows value_reads_back normal_recodes keywords_are_lines elements_ascend extract_is_part",
+    "dcm_base_laws": "one_shown line_reads_back rebuilt_recodes target_fits keywords_differ called_back",
     "dcm_head": "heads_read one_head heads_written meta_reads meta_reads_one data_set_begins meta_steps",
     "dcm_value": "text_steps value_reads_back",
     "dcm_stream": """machine_steps machine_answers machine_halts machine_stays_small machine_grows reads_one reads_some
