@@ -35,7 +35,8 @@ ON_THE_WAY = {
     "dcm_deid_laws": "deidentified_reads written_is_clean deidentified_twice",
     "dcm_table": "meta_steps row_steps table_bar_steps table_by_atoms row_is_valid",
     "dcm_names": "lines_in_pieces",
-    "dcm_cli": "sure_grows output_for_others output_opens_alike",
+    "dcm_cli": "sure_grows",
+    "dcm_run_laws": "output_for_others output_opens_alike",
     "dcm_tables": "row_is_read row_is_done row_is_settled row_stays row_is_decided",
 }
 

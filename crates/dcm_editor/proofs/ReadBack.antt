@@ -1,6 +1,7 @@
 -- What is written of an edited data set is read again.
 pub mod Rises
 pub mod Ascends
+pub mod IdentityBar
 pub mod ReadsAscend
 pub mod RecodeAnew
 pub mod EditReads

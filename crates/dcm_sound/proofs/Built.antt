@@ -13,8 +13,8 @@ use Rattle.dcm_base.specs.Tables.Number.{AreBytes}
 use Rattle.dcm_build.specs.DumpBuilds.{FitsLines, WholeUnits}
 use Rattle.dcm_words.specs.Words.{GREATEST_LIMIT, build, convert, dump}
 use Rattle.dcm_cli.specs.Answer.{Answer, Answers}
-use Rattle.dcm_cli.proofs.ReadBack.DumpBuilds.{dump_builds}
-use Rattle.dcm_cli.proofs.ReadBack.ReadsAgain.{four_parts}
+use Rattle.dcm_run_laws.proofs.ReadBack.DumpBuilds.{dump_builds}
+use Rattle.dcm_run_laws.proofs.ReadBack.ReadsAgain.{four_parts}
 use Rattle.dcm_cli.proofs.Runs.OneAnswer.{some_answer}
 use Rattle.dcm_sound.specs.Laws.{all_done, file_dump, new_file}
 use Rattle.dcm_sound.specs.Sound.{IsSound}
