@@ -25,7 +25,7 @@ ON_THE_WAY = {
     "dcm_stream": """machine_steps machine_answers machine_halts machine_stays_small machine_grows reads_one reads_some
         ascending_by_atoms machine_drives machine_ends machine_refuses machine_waits sinks_bar bars_are_decided""",
     "dcm_sinks": "dump_steps dump_reads encode_steps encode_reads encode_bars recode_reads recode_twice new_meta_reads",
-    "dcm_build": "build_steps dump_lines steps_build dump_builds",
+    "dcm_build_laws": "build_steps dump_lines steps_build dump_builds",
     "dcm_editor": """edits_are_few edits_fit edit_steps bar_steps reads_ascend recode_anew edit_reads edited_reads edited_ascends
         edited_is_bytes erased_all_is_gone erased_private_is_gone modified_all_is_so others_stay others_stay_written
         edited_reads_by opens_alike edited_for_others erased_for_all edited_twice edited_again edits_are_apart""",

@@ -9,7 +9,7 @@ use Rattle.dcm_base.specs.Tables.Number.{AreBytes}
 use Rattle.dcm_base.specs.Reading.Stop.{complete}
 use Rattle.dcm_base.specs.Tree.Tree.{Trees}
 use Rattle.dcm_base.specs.declared.dictionary.Dictionary.{Dictionary}
-use Rattle.dcm_build.specs.DumpBuilds.{FitsLines, WholeUnits}
+use Rattle.dcm_build_laws.specs.DumpBuilds.{FitsLines, WholeUnits}
 use Rattle.dcm_words.specs.Words.{GREATEST_LIMIT, dump, convert, build}
 use Rattle.dcm_cli.specs.Answer.{Answer, Answers, FileReads, file as a_file}
 use Rattle.dcm_cli.specs.Status.{DONE}

@@ -10,7 +10,7 @@ use Rattle.dcm_base.specs.Conversion.NewMeta.{new_meta}
 use Rattle.dcm_base.specs.Conversion.Recode.{recode_set}
 use Rattle.dcm_base.specs.File.MetaReads.{Meta, PREFIX}
 use Rattle.dcm_base.specs.Tables.Number.{AreBytes}
-use Rattle.dcm_build.specs.DumpBuilds.{FitsLines, WholeUnits}
+use Rattle.dcm_build_laws.specs.DumpBuilds.{FitsLines, WholeUnits}
 use Rattle.dcm_words.specs.Words.{GREATEST_LIMIT, build, convert, dump}
 use Rattle.dcm_cli.specs.Answer.{Answer, Answers}
 use Rattle.dcm_run_laws.proofs.ReadBack.DumpBuilds.{dump_builds}

@@ -22,8 +22,8 @@ use Rattle.dcm_base.specs.Reading.Stop.{Stop, complete}
 use Rattle.dcm_base.specs.Tree.Tree.{Trees, no_tree, leaf, sequence, fragments, Items, no_item, item}
 use Rattle.dcm_base.specs.Tables.Syntax.{read_by, coding_by}
 use Rattle.dcm_base.specs.declared.dictionary.Dictionary.{Dictionary}
-use Rattle.dcm_build.specs.DumpBuilds.{full_dump, FileRead, FitsLines, BuildsFile}
-use Rattle.dcm_build.proofs.Rebuilds.FilesBuild.{Headed, headed, file_builds}
+use Rattle.dcm_build_laws.specs.DumpBuilds.{full_dump, FileRead, FitsLines, BuildsFile}
+use Rattle.dcm_build_laws.proofs.Rebuilds.FilesBuild.{Headed, headed, file_builds}
 use Rattle.dcm_words.specs.Words.{GREATEST_LIMIT, dump, convert, build as building}
 use Rattle.dcm_cli.specs.Answer.{Answer, Answers, Source, file as a_file, set_at, answer, built_answer, building_line, FileReads, not_opened, not_changed, opened, HeadIs}
 use Rattle.dcm_run_laws.specs.DumpBuilds.{CanBeBuilt, BuildsWhatConverts}

@@ -28,7 +28,7 @@ use Rattle.dcm_sinks.proofs.ReadBack.GroupEnds.{set_ends}
 use Rattle.dcm_sinks.proofs.ReadBack.NewMetaReads.{any, own}
 use Rattle.dcm_sinks.proofs.ReadBack.RecodeReads.{IsReady, read_ready, recode_reads}
 use Rattle.dcm_sinks.proofs.ReadBack.Sources.{a_byte, bytes_behind}
-use Rattle.dcm_build.proofs.Rebuilds.FilesBuild.{headed}
+use Rattle.dcm_build_laws.proofs.Rebuilds.FilesBuild.{headed}
 use Rattle.dcm_edits.specs.Edit.{Edit, edited}
 use Rattle.dcm_editor.proofs.ReadBack.EditedReads.{own_ready, edited_reads}
 use Rattle.dcm_editor.proofs.ReadBack.StaysReady.{FrontReady, edited_ready}

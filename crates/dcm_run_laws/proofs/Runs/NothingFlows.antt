@@ -17,7 +17,7 @@ use Rattle.dcm_base.specs.Tables.Tag.{is_tag}
 use Rattle.dcm_base.specs.Tables.Transfer.{without_pads}
 use Rattle.dcm_base.specs.Tree.Front.{Front}
 use Rattle.dcm_base.specs.Tree.Tree.{Trees, no_tree, leaf, sequence, fragments}
-use Rattle.dcm_build.proofs.Rebuilds.FilesBuild.{headed}
+use Rattle.dcm_build_laws.proofs.Rebuilds.FilesBuild.{headed}
 use Rattle.dcm_uid.specs.Uid.{new_value, replaced}
 use Rattle.dcm_deid.specs.Alike.{Alike}
 use Rattle.dcm_deid.specs.declared.fate.Depth.TheVariants.{Outermost}

@@ -20,8 +20,8 @@ use Rattle.dcm_base.specs.Reading.Size.{trees_size}
 use Rattle.dcm_base.specs.Tree.Tree.{Trees, no_tree, leaf, sequence, fragments, Items, no_item, item}
 use Rattle.dcm_base.specs.Lines.Build.{built, built_bytes, lines_of, named_coding, named_syntax}
 use Rattle.dcm_base.specs.declared.dictionary.Dictionary.{Dictionary}
-use Rattle.dcm_build.specs.DumpLines.{AllWithin, SetReadsBack}
-use Rattle.dcm_build.specs.StepsBuild.{MayStand}
+use Rattle.dcm_build_laws.specs.DumpLines.{AllWithin, SetReadsBack}
+use Rattle.dcm_build_laws.specs.StepsBuild.{MayStand}
 
 -- the full dump, by a dictionary, of a file with these elements in its meta group and in its data set
 abbrev pub full_dump : Dictionary → Trees → Trees → List ℕ

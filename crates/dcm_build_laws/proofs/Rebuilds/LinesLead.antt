@@ -12,10 +12,10 @@ use Rattle.dcm_base.specs.Dump.Dump.{dump_set}
 use Rattle.dcm_base.specs.Lines.Build.{Built, Progress, Lines, lines, lines_of, more_lines, with_line, moved, with_meaning, without_return, without_return_reversed}
 use Rattle.dcm_base.specs.declared.dictionary.Dictionary.{Dictionary}
 use Rattle.dcm_base.specs.Lines.Limits.{LINE_LIMIT}
-use Rattle.dcm_build.specs.DumpLines.{set_steps, joined, AllWithin, ArePrinted, EachMeans, TextMeans, SetReadsBack}
-use Rattle.dcm_build.specs.StepsBuild.{Leads}
+use Rattle.dcm_build_laws.specs.DumpLines.{set_steps, joined, AllWithin, ArePrinted, EachMeans, TextMeans, SetReadsBack}
+use Rattle.dcm_build_laws.specs.StepsBuild.{Leads}
 use Rattle.dcm_build.proofs.Files.Lines.{lines_from, lines_are, run_lines, line_means}
-use Rattle.dcm_build.proofs.Rebuilds.DumpLines.{joined_both, printed_both, first_within, rest_within, ShortMeans, set_means}
+use Rattle.dcm_build_laws.proofs.Rebuilds.DumpLines.{joined_both, printed_both, first_within, rest_within, ShortMeans, set_means}
 
 abbrev pub is_printed : List ℕ → Bool
 is_printed line = list_all (λ c. nat_le 32 c) line

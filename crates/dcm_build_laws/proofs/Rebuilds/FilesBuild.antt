@@ -44,11 +44,11 @@ use Rattle.dcm_base.specs.Reading.Bars.{holds_fragments}
 use Rattle.dcm_sinks.proofs.ReadBack.RecodeReads.{source_whole, source_fine}
 use Rattle.dcm_sinks.proofs.ReadBack.Sources.{bytes_behind, bytes_parts, a_byte, four_bytes, long_known, length_known, bytes_of_head, spelled_no_sequence, fragments_little, Fine, fine_bytes, lists_of, begun, enclosed_ready, element_tag}
 use Rattle.dcm_sinks.proofs.ReadBack.WrittenRead.{target_heads}
-use Rattle.dcm_build.specs.DumpBuilds.{full_dump, CanBuild, FitsLines, BuildsFile, FileRead, WholeUnits, ItemsOfWholeUnits}
+use Rattle.dcm_build_laws.specs.DumpBuilds.{full_dump, CanBuild, FitsLines, BuildsFile, FileRead, WholeUnits, ItemsOfWholeUnits}
 use Rattle.dcm_base.specs.Lines.Limits.{LINE_LIMIT}
-use Rattle.dcm_build.specs.DumpLines.{ReadsBack, AllReadBack, SetReadsBack, ItemsReadBack}
-use Rattle.dcm_build.specs.StepsBuild.{MayStand, ItemsMayStand}
-use Rattle.dcm_build.proofs.Rebuilds.DumpBuilds.{dump_builds}
+use Rattle.dcm_build_laws.specs.DumpLines.{ReadsBack, AllReadBack, SetReadsBack, ItemsReadBack}
+use Rattle.dcm_build_laws.specs.StepsBuild.{MayStand, ItemsMayStand}
+use Rattle.dcm_build_laws.proofs.Rebuilds.DumpBuilds.{dump_builds}
 use Rattle.dcm_base.proofs.DataSets.Alike.{undefined_same}
 use Rattle.dcm_base.proofs.DataSets.After.{read_by_twice}
 

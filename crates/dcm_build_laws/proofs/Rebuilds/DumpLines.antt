@@ -21,7 +21,7 @@ use Rattle.dcm_base.proofs.DumpsBack.Values.{value_back}
 use Rattle.dcm_base.proofs.DumpsBack.Steps.{leaf_shows, fragment_shows, sequence_reads, fragments_read, item_reads, item_end_reads, sequence_end_reads}
 use Rattle.dcm_base.specs.declared.dictionary.Dictionary.{Dictionary}
 use Rattle.dcm_base.specs.Lines.Limits.{LINE_LIMIT}
-use Rattle.dcm_build.specs.DumpLines.{fragment_step, set_steps, items_steps, joined, AllWithin, ArePrinted, EachMeans, IsElement, ReadsBack, AllReadBack, SetReadsBack, ItemsReadBack}
+use Rattle.dcm_build_laws.specs.DumpLines.{fragment_step, set_steps, items_steps, joined, AllWithin, ArePrinted, EachMeans, IsElement, ReadsBack, AllReadBack, SetReadsBack, ItemsReadBack}
 
 -- ---- texts, one behind the other
 

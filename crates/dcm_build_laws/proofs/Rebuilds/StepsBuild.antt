@@ -25,8 +25,8 @@ use Rattle.dcm_base.specs.Lines.Line.{Step, show_leaf, begin_sequence, begin_fra
 use Rattle.dcm_base.specs.Lines.Build.{Built, Refused, refused, no_elements, named_coding, allows_fragments, holds_elements, checked, in_group, accepted, with_meta, is_meta, is_opening, is_fragment_opening, is_after, element_tag, lacks_value, has_place_in, innermost, open_levels, first_fault, step_checks, with_step, step_in_item, finished, with_shown, rebuilt, rebuilt_items}
 use Rattle.dcm_build.specs.declared.open_containers.Open.TheVariants.{Sequence, FragmentList}
 use Rattle.dcm_build.specs.OpenContainers.{OpenContainers, container_of, reached_in, lists_open, entering}
-use Rattle.dcm_build.specs.DumpLines.{fragment_step, set_steps, items_steps}
-use Rattle.dcm_build.specs.StepsBuild.{Leads, MayStand, ItemsMayStand, BuildAgain}
+use Rattle.dcm_build_laws.specs.DumpLines.{fragment_step, set_steps, items_steps}
+use Rattle.dcm_build_laws.specs.StepsBuild.{Leads, MayStand, ItemsMayStand, BuildAgain}
 use Rattle.dcm_build.proofs.Files.OpenContainers.{Where, the_top, within, standing_at, standing_in, standing_of, around, all_alike, all_reached}
 
 -- ---- the open sequences around a set

@@ -12,7 +12,7 @@ use Rattle.dcm_base.specs.declared.fault.LineStop.{LineStop}
 use Rattle.dcm_base.specs.Reading.Reads.{INPUT_LIMIT}
 use Rattle.dcm_build.specs.Builder.{Plain}
 use Rattle.dcm_build.specs.Building.{BuildState, build_start, build_step, going_step, cut_short, line_taken, tells}
-use Rattle.dcm_build.specs.BuildLaws.{Undecided, IsTold, CallRefuses, CallTells}
+use Rattle.dcm_build_laws.specs.Undecided.{Undecided, IsTold, CallRefuses, CallTells}
 use Rattle.dcm_build.proofs.Files.Lines.{lines_from, lines_are, run_lines, Ran, runs, told_of, all_ran}
 use Rattle.dcm_build.proofs.Files.Runs.{so_far, refused}
 use Rattle.dcm_build.proofs.Files.NoFaults.{none_told}

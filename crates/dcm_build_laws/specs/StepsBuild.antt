@@ -9,7 +9,7 @@ use Rattle.dcm_base.specs.Bytes.Spelling.{last_tag}
 use Rattle.dcm_base.specs.Lines.Line.{Step}
 use Rattle.dcm_base.specs.Lines.Build.{Built, no_elements, named_coding, with_shown, rebuilt}
 use Rattle.dcm_base.specs.Reading.Bars.{holds_fragments}
-use Rattle.dcm_build.specs.DumpLines.{set_steps}
+use Rattle.dcm_build_laws.specs.DumpLines.{set_steps}
 
 -- none of the steps is refused
 abbrev pub Leads : List Step → Built → Built → Type 0

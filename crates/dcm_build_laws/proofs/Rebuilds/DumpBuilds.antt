@@ -30,15 +30,15 @@ use Rattle.dcm_base.proofs.DumpsBack.Texts.{Bytes, bytes_of}
 use Rattle.dcm_base.proofs.DumpsBack.Values.{found, mapped}
 use Rattle.dcm_base.proofs.DumpsBack.Losses.{recodes_same}
 use Rattle.dcm_base.specs.declared.dictionary.Dictionary.{Dictionary}
-use Rattle.dcm_build.specs.DumpBuilds.{full_dump, CanBuild, FitsLines, BuildsFile}
+use Rattle.dcm_build_laws.specs.DumpBuilds.{full_dump, CanBuild, FitsLines, BuildsFile}
 use Rattle.dcm_base.specs.Lines.Limits.{LINE_LIMIT}
-use Rattle.dcm_build.specs.DumpLines.{joined, set_steps, AllWithin}
+use Rattle.dcm_build_laws.specs.DumpLines.{joined, set_steps, AllWithin}
 use Rattle.dcm_build.proofs.Files.Lines.{run_lines}
 use Rattle.dcm_build.proofs.Files.OpenContainers.{standing_in, all_alike}
-use Rattle.dcm_build.proofs.Rebuilds.DumpLines.{set_means}
-use Rattle.dcm_build.proofs.Rebuilds.LinesLead.{is_printed, TextLeads, text_leads, texts_lead, silent_line, lines_of_text, lines_run}
-use Rattle.dcm_build.proofs.Rebuilds.MetaBuilds.{group_built, group_leads, same_syntax, same_group}
-use Rattle.dcm_build.proofs.Rebuilds.StepsBuild.{all_built}
+use Rattle.dcm_build_laws.proofs.Rebuilds.DumpLines.{set_means}
+use Rattle.dcm_build_laws.proofs.Rebuilds.LinesLead.{is_printed, TextLeads, text_leads, texts_lead, silent_line, lines_of_text, lines_run}
+use Rattle.dcm_build_laws.proofs.Rebuilds.MetaBuilds.{group_built, group_leads, same_syntax, same_group}
+use Rattle.dcm_build_laws.proofs.Rebuilds.StepsBuild.{all_built}
 
 -- ---- the header
 

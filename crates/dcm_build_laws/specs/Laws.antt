@@ -13,8 +13,8 @@ use Rattle.dcm_base.specs.declared.syntax.Coding.{Coding}
 use Rattle.dcm_base.specs.declared.dictionary.Dictionary.{Dictionary}
 use Rattle.dcm_build.specs.BuildLaws.{Builds, BuiltSoFar, Stays}
 use Rattle.dcm_build.specs.Building.{build_start, build_step, build_writes}
-use Rattle.dcm_build.specs.DumpBuilds.{BuildsFile, CanBuild, FileRead, FitsLines, WholeUnits, full_dump}
-use Rattle.dcm_build.specs.DumpLines.{AllWithin, SetReadsBack, TextMeans, set_steps}
+use Rattle.dcm_build_laws.specs.DumpBuilds.{BuildsFile, CanBuild, FileRead, FitsLines, WholeUnits, full_dump}
+use Rattle.dcm_build_laws.specs.DumpLines.{AllWithin, SetReadsBack, TextMeans, set_steps}
 
 -- over the bytes of an input the state writes what the lines of the input build, and reports their fault
 abbrev pub StepsBuild : Type 0

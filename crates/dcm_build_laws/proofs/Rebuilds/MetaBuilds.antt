@@ -26,11 +26,11 @@ use Rattle.dcm_base.specs.Lines.ReadValue.{takes_bytes, value_shown}
 use Rattle.dcm_base.specs.Lines.Line.{Step, show_leaf}
 use Rattle.dcm_base.specs.Lines.Build.{Built, no_elements, named_syntax, named_coding, is_meta, has_place_in, innermost, open_levels, first_fault, step_checks, with_meta, with_step, checked, with_shown, rebuilt}
 use Rattle.dcm_base.proofs.DumpsBack.Losses.{recodes_same}
-use Rattle.dcm_build.specs.DumpLines.{set_steps}
-use Rattle.dcm_build.specs.StepsBuild.{Leads}
+use Rattle.dcm_build_laws.specs.DumpLines.{set_steps}
+use Rattle.dcm_build_laws.specs.StepsBuild.{Leads}
 use Rattle.dcm_build.proofs.Files.Meta.{one_shown}
 use Rattle.dcm_build.proofs.Files.OpenContainers.{standing_in, all_alike}
-use Rattle.dcm_build.proofs.Rebuilds.StepsBuild.{by_group, by_checks, then_nothing, then_more}
+use Rattle.dcm_build_laws.proofs.Rebuilds.StepsBuild.{by_group, by_checks, then_nothing, then_more}
 
 -- ---- values as they are shown
 

@@ -4,10 +4,10 @@ ghost use Rattle.dcm_base.specs.Lines.Ascending.{Ascend};
 ghost use Rattle.dcm_base.specs.declared.fault.LineStop.{LineStop};
 ghost use Rattle.dcm_base.specs.Tree.Tree.{Trees};
 ghost use Rattle.dcm_base.specs.declared.syntax.Coding.{Coding};
-ghost use Rattle.dcm_build.specs.BuildLaws.{CallRefuses, CallTells, Undecided};
+ghost use Rattle.dcm_build_laws.specs.Undecided.{CallRefuses, CallTells, Undecided};
 ghost use Rattle.dcm_build.specs.Building.{build_start, build_step};
-ghost use Rattle.dcm_build.specs.Laws as laws;
-ghost use Rattle.dcm_build.specs.StepsBuild.{BuildAgain, MayStand};
+ghost use Rattle.dcm_build_laws.specs.Laws as laws;
+ghost use Rattle.dcm_build_laws.specs.StepsBuild.{BuildAgain, MayStand};
 
 /// Over the bytes of an input, one by one, the state of a file that is built writes what the lines of the input build,
 /// and reports their fault; over a beginning of it without fault, it writes what the lines that have ended build; and a
