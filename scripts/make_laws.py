@@ -25,7 +25,7 @@ ON_THE_WAY = {
     "dcm_stream": """machine_steps machine_answers machine_halts machine_stays_small machine_grows reads_one reads_some
         ascending_by_atoms machine_drives machine_ends machine_refuses machine_waits sinks_bar bars_are_decided""",
     "dcm_sinks": "dump_steps dump_reads encode_steps encode_reads encode_bars recode_reads recode_twice new_meta_reads",
-    "dcm_build": "build_steps dump_lines steps_build dump_builds",
+    "dcm_build_laws": "build_steps dump_lines steps_build dump_builds",
     "dcm_editor": "edits_are_few edits_fit edit_steps bar_steps reads_ascend recode_anew edit_reads edits_are_apart",
     "dcm_editor_laws": """edited_reads edited_ascends edited_is_bytes erased_all_is_gone erased_private_is_gone modified_all_is_so
         others_stay others_stay_written edited_reads_by opens_alike edited_for_others erased_for_all edited_twice edited_again""",
@@ -35,7 +35,8 @@ ON_THE_WAY = {
     "dcm_deid_laws": "deidentified_reads written_is_clean deidentified_twice",
     "dcm_table": "meta_steps row_steps table_bar_steps table_by_atoms row_is_valid",
     "dcm_names": "lines_in_pieces",
-    "dcm_cli": "sure_grows output_for_others output_opens_alike",
+    "dcm_cli": "sure_grows",
+    "dcm_run_laws": "output_for_others output_opens_alike",
     "dcm_tables": "row_is_read row_is_done row_is_settled row_stays row_is_decided",
 }
 

@@ -6,7 +6,6 @@ pub mod Steps
 pub mod Lines
 pub mod Runs
 pub mod NoFaults
-pub mod Halts
 pub mod Depth
 pub mod Checks
 pub mod Calls

@@ -8,7 +8,3 @@ pub mod NewFile
 pub mod Outputs
 pub mod Builder
 pub mod BuildLaws
-pub mod DumpLines
-pub mod StepsBuild
-pub mod DumpBuilds
-pub mod Laws

@@ -4,8 +4,8 @@
 //!   group until it ends, and writes each element as soon as its line has ended.
 //! - `BuildHalt` says why it goes no further: a `LineStop` of dcm_base, which is a fault with the offset and the number
 //!   of its line, or a writer that failed.
-//! - `laws` has what it builds of a whole input (`build_steps`), and that a full dump builds again what a conversion
-//!   writes (`dump_builds`).
+//! - The laws are in dcm_build_laws: what it builds of a whole input (`build_steps`), and that a full dump builds again
+//!   what a conversion writes (`dump_builds`).
 //!
 //! A file of two lines:
 //!
@@ -19,7 +19,6 @@ mod build;
 mod checks;
 mod file;
 mod group;
-pub mod laws;
 mod line;
 mod line_reader;
 mod open_containers;

@@ -1,4 +1,3 @@
 pub mod Lines
 pub mod Passes
 pub mod Runs
-pub mod ReadBack

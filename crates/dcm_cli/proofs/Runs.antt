@@ -3,8 +3,6 @@ pub mod Ran
 pub mod LinesGrow
 pub mod Sure
 pub mod OneSource
-pub mod NoEdits
-pub mod NothingFlows
 pub mod OneAnswer
 pub mod Stopping
 pub mod InMemory

@@ -11,10 +11,6 @@ pub mod Run
 pub mod Keys
 pub mod InMemory
 pub mod Program
-pub mod DumpBuilds
-pub mod NoEdits
-pub mod Flows
-pub mod ReadsAgain
 pub mod Opening
 pub mod Calls
 pub mod InputCalls

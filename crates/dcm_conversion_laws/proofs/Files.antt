@@ -19,11 +19,11 @@ use Rattle.dcm_sinks.specs.MetaAgain.{meta_again}
 use Rattle.dcm_words.specs.Words.{convert, dump}
 use Rattle.dcm_cli.specs.Answer.{Answer, Answers, FileReads, HeadIs, Source, answer, file as a_file, job_bar, not_changed, not_opened, opened, set_at, target_syntax, target_uid, unopened}
 use Rattle.dcm_head.specs.SyntaxUids.{uid_of_syntax}
-use Rattle.dcm_cli.specs.ReadsAgain.{IsConverted, target_coding}
+use Rattle.dcm_run_laws.specs.ReadsAgain.{IsConverted, target_coding}
 use Rattle.dcm_cli.specs.Status.{DONE, FAULT}
 use Rattle.dcm_cli.proofs.Passes.MetaHeads.{group_spelled}
 use Rattle.dcm_cli.proofs.Runs.OneSource.{one_source}
-use Rattle.dcm_cli.proofs.ReadBack.ReadsAgain.{begins_within, converted_reads, read_by_it, read_of, rest_bytes}
+use Rattle.dcm_run_laws.proofs.ReadBack.ReadsAgain.{begins_within, converted_reads, read_by_it, read_of, rest_bytes}
 use Rattle.dcm_deid_laws.proofs.NotBarred.{not_barred}
 use Rattle.dcm_conversion_laws.specs.Detour.{FrontKeeps}
 use Rattle.dcm_conversion_laws.proofs.Fronts.{front_composes}

@@ -27,7 +27,7 @@ use Rattle.dcm_words.specs.Words.{Job, convert, dump, modify}
 use Rattle.dcm_cli.specs.Answer.{AloneReads, Answer, Answers, FileReads, HeadIs, InputReads, Source, alone, answer, file as a_file, job_bar, job_dictionary, not_changed, not_opened, opened, output_of, reading_line, refuses_change, set_at, stop_line, stop_status, target_syntax, target_uid, unopened}
 use Rattle.dcm_head.specs.SyntaxUids.{uid_of_syntax}
 use Rattle.dcm_cli.proofs.Runs.OneAnswer.{one_answer}
-use Rattle.dcm_cli.proofs.ReadBack.ReadsAgain.{begins_within, read_by_it, read_twice}
+use Rattle.dcm_run_laws.proofs.ReadBack.ReadsAgain.{begins_within, read_by_it, read_twice}
 use Rattle.dcm_conversion_laws.specs.Agree.{FrontSays, LinesSo, SourceSays, StopsSo}
 use Rattle.dcm_conversion_laws.proofs.Plain.{explicit_too}
 use Rattle.dcm_conversion_laws.proofs.Readings.{ascending_agree, readings_agree}

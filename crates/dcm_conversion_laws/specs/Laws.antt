@@ -19,7 +19,7 @@ use Rattle.dcm_edits.specs.Edit.{Edit}
 use Rattle.dcm_edits.specs.EditWords.{meant_edits_in}
 use Rattle.dcm_words.specs.Words.{convert, dump, modify}
 use Rattle.dcm_cli.specs.Answer.{Answer, Answers, InputReads, Source, output_of, target_syntax}
-use Rattle.dcm_cli.specs.ReadsAgain.{IsConverted}
+use Rattle.dcm_run_laws.specs.ReadsAgain.{IsConverted}
 use Rattle.dcm_cli.specs.Status.{DONE}
 use Rattle.dcm_conversion_laws.specs.Agree.{FrontSays, LinesSo, SourceSays, StopsSo}
 use Rattle.dcm_conversion_laws.specs.Detour.{AreEven, FrontKeeps, KeepsForms}

@@ -27,8 +27,8 @@ use Rattle.dcm_stream.specs.Ascending.{reached_after, innermost}
 use Rattle.dcm_stream.specs.Follows.{BarsAs}
 use Rattle.dcm_stream.specs.Reading.{Reading, start_of, Opened, settled, full_closed, element_opens, plain_opens, head_opens, head_read, byte_read, read_byte, reads_byte, read_all, finish, end_shows}
 use Rattle.dcm_stream.proofs.Steps.Follows.{answers}
+use Rattle.dcm_editor.proofs.ReadBack.IdentityBar.{identity, identity_in_order}
 use Rattle.dcm_deid_laws.proofs.Allowed.{Free, ItemsPass, Passes, barred_at}
-use Rattle.dcm_deid_laws.proofs.IdentityBar.{identity, identity_in_order}
 use Rattle.dcm_deid_laws.proofs.NotBarred.{not_barred}
 
 -- ---- parts of what is allowed

@@ -1,5 +1,4 @@
 pub mod NotBarred
-pub mod IdentityBar
 pub mod Allowed
 pub mod IdentityReads
 pub mod Ready

@@ -10,11 +10,11 @@ use Rattle.dcm_base.specs.Conversion.NewMeta.{new_meta}
 use Rattle.dcm_base.specs.Conversion.Recode.{recode_set}
 use Rattle.dcm_base.specs.File.MetaReads.{Meta, PREFIX}
 use Rattle.dcm_base.specs.Tables.Number.{AreBytes}
-use Rattle.dcm_build.specs.DumpBuilds.{FitsLines, WholeUnits}
+use Rattle.dcm_build_laws.specs.DumpBuilds.{FitsLines, WholeUnits}
 use Rattle.dcm_words.specs.Words.{GREATEST_LIMIT, build, convert, dump}
 use Rattle.dcm_cli.specs.Answer.{Answer, Answers}
-use Rattle.dcm_cli.proofs.ReadBack.DumpBuilds.{dump_builds}
-use Rattle.dcm_cli.proofs.ReadBack.ReadsAgain.{four_parts}
+use Rattle.dcm_run_laws.proofs.ReadBack.DumpBuilds.{dump_builds}
+use Rattle.dcm_run_laws.proofs.ReadBack.ReadsAgain.{four_parts}
 use Rattle.dcm_cli.proofs.Runs.OneAnswer.{some_answer}
 use Rattle.dcm_sound.specs.Laws.{all_done, file_dump, new_file}
 use Rattle.dcm_sound.specs.Sound.{IsSound}

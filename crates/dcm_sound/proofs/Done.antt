@@ -30,7 +30,7 @@ use Rattle.dcm_sinks.proofs.ReadBack.WrittenRead.{target_heads}
 use Rattle.dcm_words.specs.Words.{dump}
 use Rattle.dcm_cli.specs.Answer.{Answer, Answers, FileReads, Source, answer, not_changed, not_opened, opened, set_at, stop_status}
 use Rattle.dcm_cli.specs.Status.{DONE, FAULT}
-use Rattle.dcm_cli.proofs.ReadBack.ReadsAgain.{all_size, behind_group, four_parts, rest_bytes}
+use Rattle.dcm_run_laws.proofs.ReadBack.ReadsAgain.{all_size, behind_group, four_parts, rest_bytes}
 use Rattle.dcm_sound.specs.Sound.{IsSound}
 use Rattle.dcm_sound.proofs.DoneSets.{are_data}
 

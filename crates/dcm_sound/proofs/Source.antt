@@ -20,7 +20,7 @@ use Rattle.dcm_base.specs.File.MetaReads.{Meta, MetaReads, PREFIX, begins, coded
 use Rattle.dcm_base.specs.Reading.Reads.{INPUT_LIMIT}
 use Rattle.dcm_base.proofs.DataSets.Heads.{eight_le_head_size}
 use Rattle.dcm_cli.specs.Answer.{HeadIs, set_at}
-use Rattle.dcm_cli.proofs.ReadBack.ReadsAgain.{all_size, behind_group, four_parts}
+use Rattle.dcm_run_laws.proofs.ReadBack.ReadsAgain.{all_size, behind_group, four_parts}
 use Rattle.dcm_sound.specs.Sound.{IsSound}
 
 -- ---- the end of the meta group

@@ -18,7 +18,7 @@ use Rattle.dcm_base.specs.File.MetaReads.{Meta, PREFIX}
 use Rattle.dcm_base.specs.Dump.Header.{set_header, meta_header}
 use Rattle.dcm_base.specs.Dump.Dump.{dump_set}
 use Rattle.dcm_edits.specs.Edit.{Edit, edited_sets, element_of, found_in, has_place_in}
-use Rattle.dcm_build.specs.DumpBuilds.{FitsLines, WholeUnits}
+use Rattle.dcm_build_laws.specs.DumpBuilds.{FitsLines, WholeUnits}
 use Rattle.dcm_words.specs.Words.{GREATEST_LIMIT, build, convert, dump, modify}
 use Rattle.dcm_cli.specs.Answer.{Answer, Answers, status_of_lines, target_syntax, target_uid}
 use Rattle.dcm_head.specs.SyntaxUids.{uid_of_syntax}

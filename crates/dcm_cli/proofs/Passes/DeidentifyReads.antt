@@ -16,6 +16,7 @@ use Rattle.dcm_sinks.specs.EncodeSink.{encode_start, encode_step, encode_writes}
 use Rattle.dcm_sinks.specs.Laws.{StaysShallow}
 use Rattle.dcm_sinks.proofs.Conversions.DataSets.{encode_steps}
 use Rattle.dcm_editor.proofs.ReadBack.EditReads.{Shown, shown_whole}
+use Rattle.dcm_editor.proofs.ReadBack.IdentityBar.{identity, identity_in_order}
 use Rattle.dcm_editor.proofs.ReadBack.RecodeAnew.{recode_anew}
 use Rattle.dcm_editor.proofs.Trees.DepthAtoms.{front_shallow, front_stays, anew_shallow}
 use Rattle.dcm_uid.specs.Uid.{replaced}
@@ -26,7 +27,6 @@ use Rattle.dcm_deid.proofs.Deidentified.{deidentify_steps}
 use Rattle.dcm_deid.proofs.PixelsTold.{pixel_steps}
 use Rattle.dcm_deid.proofs.Shallow.{deidentified_shallow}
 use Rattle.dcm_cli.specs.Answer.{shows_identity}
-use Rattle.dcm_deid_laws.proofs.IdentityBar.{identity, identity_in_order}
 
 pub deidentify_encodes : (target : Syntax) (options : Options) (key : List ℕ) (s : Syntax) (f : Front) → Shown s f
     → outputs encode_step encode_writes (encode_start target) (outputs next passed (begun options key) (front_atoms s f)) ≡ recode target (deidentified options (replaced key) f)

@@ -17,6 +17,7 @@ use Rattle.dcm_stream.specs.Judging.{bars_head}
 use Rattle.dcm_sinks.specs.EncodeSink.{EncodeState, encode_start, encode_step, encode_writes}
 use Rattle.dcm_editor.proofs.EditSinks.DrivesEdits.{BarsShallowAs}
 use Rattle.dcm_editor.proofs.ReadBack.EditReads.{shown_whole, shown_so_far}
+use Rattle.dcm_editor.proofs.ReadBack.IdentityBar.{identity, identity_in_order}
 use Rattle.dcm_uid.specs.Uid.{replaced}
 use Rattle.dcm_deid.specs.declared.fate.Options.{Options}
 use Rattle.dcm_deid.specs.DeidentifySink.{State as DeidentifyState, begun}
@@ -29,7 +30,6 @@ use Rattle.dcm_words.specs.Words.{deidentify}
 use Rattle.dcm_cli.specs.Answer.{shows_identity}
 use Rattle.dcm_cli.proofs.Passes.DeidentifyReads.{deidentify_encodes, pixels_known}
 use Rattle.dcm_cli.proofs.Passes.Files.{FileMaker}
-use Rattle.dcm_deid_laws.proofs.IdentityBar.{identity, identity_in_order}
 use Rattle.dcm_cli.proofs.Passes.Makers.{Maker, drives_as}
 use Rattle.dcm_cli.proofs.Passes.Sets.{Last}
 

@@ -16,9 +16,9 @@ use Rattle.dcm_base.specs.declared.dictionary.Dictionary.{Dictionary}
 use Rattle.dcm_head.proofs.HeadReading.State.{described}
 use Rattle.dcm_head.proofs.HeadReading.Answers.{told}
 use Rattle.dcm_stream.proofs.Steps.ReadsSome.{plain, in_order, for_target}
+use Rattle.dcm_editor.proofs.ReadBack.IdentityBar.{identity_read}
 use Rattle.dcm_words.specs.Words.{Job, dump, convert, build as building, modify, deidentify}
 use Rattle.dcm_cli.specs.Answer.{job_dictionary, HeadIs, Answer, Answers, Source, unopened, file as a_file, alone, answer, built_answer, set_at, job_bar, target_syntax, refuses_change, FileReads, not_opened, not_changed, opened, AloneReads}
-use Rattle.dcm_deid_laws.proofs.IdentityBar.{identity_read}
 use Rattle.dcm_cli.proofs.Passes.MetaHeads.{group_spelled}
 use Rattle.dcm_cli.proofs.Runs.OneSource.{one_source}
 

@@ -1,5 +1,0 @@
-use Rattle.dcm_build.proofs.Rebuilds.LinesLead.{lines_mean}
-use Rattle.dcm_build.proofs.laws.dump_lines.Goals as goal
-
-pub returns : goal.returns
-returns c = lines_mean

@@ -1,5 +1,0 @@
-use Rattle.dcm_cli.proofs.Runs.NoEdits.{no_edits_convert}
-use Rattle.dcm_cli.proofs.laws.no_edits_convert.Goals as goal
-
-pub returns : goal.returns
-returns c = no_edits_convert

@@ -1,0 +1,5 @@
+pub mod DumpBuilds
+pub mod NoEdits
+pub mod Flows
+pub mod ReadsAgain
+pub mod Laws

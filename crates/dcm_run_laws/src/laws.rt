@@ -1,0 +1,120 @@
+//! Laws of the definitions. Each function takes nothing and makes no call: its contract is the law.
+ghost use Rattle.dcm_run_laws.specs.Laws.{ModifiedReads, ConvertedReads, ErasedAll, ErasedPrivate, ModifiedAll};
+ghost use Rattle.dcm_run_laws.specs.Laws.{OthersStay, ReadsAlike, ErasedAllBy, ErasedPrivateBy, ModifiedAllBy};
+ghost use Rattle.dcm_run_laws.specs.Laws.{OthersStayBy, ExplicitOpensAlike, OwnOpensAlike, StandardOpensAlike};
+ghost use Rattle.dcm_run_laws.specs.Laws.{ErasedAllSeen, ErasedPrivateSeen, AlikeHidesNothing, ModifiedTwice};
+ghost use Rattle.dcm_run_laws.specs.Laws.{DeidentifiedReads, OutputIsClean, InstanceAgrees, DeidentifiedTwice};
+ghost use Rattle.dcm_run_laws.specs.DumpBuilds.{DumpBuilds};
+ghost use Rattle.dcm_run_laws.specs.NoEdits.{NoEditsConvert};
+ghost use Rattle.dcm_run_laws.specs.Flows.{NothingFlows};
+
+/// A run that builds the full dump of a file comes to what its conversion writes, but for the preamble. That is the
+/// conversion to its own transfer syntax. Where the file is read without fault, its values are of whole units, the tags
+/// of each of its data sets ascend, and no line of the dump passes the limit, the second run ends with status 0, and
+/// the first 128 bytes of its output are 0.
+pub fn dump_builds_runs()
+    ensures { DumpBuilds }
+{}
+
+/// Without edits dcmodify answers what `dcmconv +t=` answers, where no tag is refused for its order.
+pub fn no_edits_convert()
+    ensures { NoEditsConvert }
+{}
+
+/// What dcmodify writes of a file without fault is a file that is read without fault. Its preamble and its transfer
+/// syntax are those of the input, its meta group is the one that was written anew, and its data set is the normal form
+/// of the edited one. Here and in what follows, a value that is too long for its representation, and so becomes
+/// unknown, may not be of a tag that the dictionary calls a sequence: that would be read as one.
+pub fn modified_reads()
+    ensures { ModifiedReads }
+{}
+
+/// What dcmconv writes of one is so too. It has the transfer syntax of the target, and the normal form of the data set.
+/// To an implicit one, the dictionary has to tell its values from its sequences.
+pub fn converted_reads()
+    ensures { ConvertedReads }
+{}
+
+/// After `-ea` the output has no element of the tag, after `-ep` none of an odd group, after `-ma` each has the value.
+/// So it is for a file without fault, at any depth, however the output is read as a file, and that is without fault.
+/// The value is as it is written.
+pub fn output_is_edited()
+    ensures erased_all { ErasedAll }
+    ensures erased_private { ErasedPrivate }
+    ensures modified_all { ModifiedAll }
+{}
+
+/// What no edit may change is in it, however it is read. Without the elements of the tags that edits may change, it is
+/// the normal form of the data set that was read, without them. In an implicit one that is read by the whole dictionary
+/// no edit may change PixelRepresentation, on which the representations of others depend.
+pub fn output_keeps_others()
+    ensures { OthersStay }
+{}
+
+/// What is erased, set and left is so for readers with another dictionary that opens the output alike. In an implicit
+/// one, no value is a sequence by it, and each sequence is one; in an explicit one, no unknown value is a sequence by
+/// it. They read the same data set, with other representations.
+pub fn output_for_others()
+    ensures alike { ReadsAlike }
+    ensures erased_all { ErasedAllBy }
+    ensures erased_private { ErasedPrivateBy }
+    ensures modified_all { ModifiedAllBy }
+    ensures others_stay { OthersStayBy }
+{}
+
+/// The extract opens explicit outputs alike, and each dictionary those edited by it or by the standard one. Where a
+/// file was edited by the extract, a reader with the standard one may see more: it opens a sequence of known length
+/// whose tag the extract does not have, or that is unknown in an explicit file, which is one value to the extract, and
+/// in which nothing was edited.
+pub fn output_opens_alike()
+    ensures explicit { ExplicitOpensAlike }
+    ensures own { OwnOpensAlike }
+    ensures standard { StandardOpensAlike }
+{}
+
+/// What was erased is gone for every reader from whom the values of the output hide nothing. It reads to its end. A
+/// value that is a sequence by its dictionary is then empty, and in an explicit output there is none. They hide nothing
+/// from one that opens the output alike.
+pub fn output_erased_for_all()
+    ensures erased_all { ErasedAllSeen }
+    ensures erased_private { ErasedPrivateSeen }
+    ensures alike { AlikeHidesNothing }
+{}
+
+/// dcmodify on its own output, with the same edits, writes the same bytes again. No edit erases an item by its number.
+/// So it is where the first run read a file without fault. The second one refuses nothing: its status is 0 or 3.
+pub fn modified_twice()
+    ensures { ModifiedTwice }
+{}
+
+/// Nothing of what dcmdeid takes out of a file is in its answer. Two files that are read without fault, of which the
+/// same meta elements stay, and whose data sets differ only in what is taken, have the same output, lines and status.
+/// Unique identifiers that get new ones may differ in their padding alone.
+pub fn nothing_flows_in_answers()
+    ensures { NothingFlows }
+{}
+
+/// What dcmdeid writes of a file without fault is read without fault, by both dictionaries. Its transfer syntax is that
+/// of the input, its meta group is the one that was written anew of the elements that stay, and its data set is the
+/// normal form of the one without identity.
+pub fn deidentified_reads()
+    ensures { DeidentifiedReads }
+{}
+
+/// Nothing that dcmdeid took out of a file without fault is in its output, at any depth. So it is where the output is
+/// read again by the whole dictionary. However the output is read, it is read without fault.
+pub fn output_is_clean()
+    ensures { OutputIsClean }
+{}
+
+/// Where head and data set named the same instance, they name the same new one in the output of dcmdeid. That is where
+/// unique identifiers are replaced, and padding is set aside.
+pub fn instance_agrees()
+    ensures { InstanceAgrees }
+{}
+
+/// dcmdeid on its own output, with the same options, writes the same bytes again. Unique identifiers are retained, and
+/// the first run is on a file without fault. The second one refuses nothing: its status is 0 or 3.
+pub fn deidentified_twice()
+    ensures { DeidentifiedTwice }
+{}
