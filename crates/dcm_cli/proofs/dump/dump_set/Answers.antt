@@ -37,7 +37,7 @@ returns-then-is_err g c =
       reads = nothing_read (members g.R.Device g.R.DeviceIn) (IsUndecided job) c.args.input.now;
       worked = λ rest ok.
           alone_unheaded c.args.dictionary c.args.mode c.args.syntax rest (Some rest) (g.W.DeviceOut.contents c.args.out.now) (g.W.DeviceOut.contents c.set_header.new.out)
-          (subst (λ uid. AppendsFront (g.W.DeviceOut.contents c.args.out.now) (g.W.DeviceOut.contents c.set_header.new.out) (set_header uid)) (c.as_bytes.ensures.value ∙ uid_alike c.args.dictionary c.args.syntax)
+          (subst (λ uid. AppendsFront (g.W.DeviceOut.contents c.args.out.now) (g.W.DeviceOut.contents c.set_header.new.out) (set_header uid)) (c.as_bytes.ensures.value ∙ c.of.ensures ∙ uid_alike c.args.dictionary c.args.syntax)
           (put_failed _ _ (set_header c.as_bytes.result.now) c.set_header.result (sym c.if-is_err.ensures.value) c.set_header.ensures.bytes));
       decided = decided_output job [] in_part Output refl;
       unread = search rules;
@@ -48,7 +48,7 @@ pub returns : goal.returns
 returns g c =
     let reader : Reader g.row.R.Denot = members g.R.Device g.R.DeviceIn in
     let job : Job = dump c.args.dictionary c.args.mode (Some c.args.syntax) in
-    let went = put_whole _ _ (set_header c.as_bytes.result.now) c.set_header.result (sym c.if-is_err.ensures.value) c.set_header.ensures.bytes ∙ ap (λ uid. append_known (g.W.DeviceOut.contents c.args.out.now) (set_header uid)) (c.as_bytes.ensures.value ∙ uid_alike c.args.dictionary c.args.syntax) in
+    let went = put_whole _ _ (set_header c.as_bytes.result.now) c.set_header.result (sym c.if-is_err.ensures.value) c.set_header.ensures.bytes ∙ ap (λ uid. append_known (g.W.DeviceOut.contents c.args.out.now) (set_header uid)) (c.as_bytes.ensures.value ∙ c.of.ensures ∙ uid_alike c.args.dictionary c.args.syntax) in
     let mid = ap (λ (x : g.row.W.Denot). g.W.DeviceOut.contents x) c.with_dictionary-sink.ensures.out ∙ went in
     let first = ap (λ (p : Progress). p.reading) c.new-machine.ensures ∙ ap (λ (s : Syntax). start_of s 0) c.read_by.ensures in
     let begun : DumpState = dump_start c.args.dictionary c.args.mode in
