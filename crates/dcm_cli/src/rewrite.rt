@@ -62,10 +62,10 @@ fn target_uid<'m>(target: Option<Syntax>, meta: &'m Meta) -> SyntaxUid<'m>
     requires { HasEnded meta.now.end }
     ensures { (m : FileMeta) → uid_of meta.now ≡ m.uid → result ≡ answer.target_uid target m }
 {
-    match target {
-        None => meta.uid(),
-        Some(syntax) => SyntaxUid::of(syntax),
+    if let Some(syntax) = target {
+        return SyntaxUid::of(syntax);
     }
+    meta.uid()
 }
 
 /// Writes what is before the data set as it is: the preamble, the prefix, and the meta group with this transfer syntax.
