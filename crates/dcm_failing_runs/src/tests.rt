@@ -1,0 +1,4 @@
+mod cases;
+mod cuts;
+mod failing;
+mod rooms;
