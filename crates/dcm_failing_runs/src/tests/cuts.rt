@@ -1,8 +1,8 @@
 // Inputs that are cut at each byte.
 use dcm_test_devices::{Start, joined, numbered};
 use dcm_test_runs::{
-    Answer, Row, Wanted, buildings, conversions, dictionaries, dumps, expect_answer, front_of, holds, modifications,
-    over_memory, rows_of, signs, unknown,
+    Answer, Row, Wanted, buildings, conversions, dictionaries, dumps, expect_answer, front_of,
+    holds, modifications, over_memory, rows_of, signs, unknown,
 };
 use std::alloc::{AllocError, Global};
 use std::test::Fail;

@@ -3,7 +3,8 @@ use super::cases::{Case, case_of};
 use dcm_base::{MemIn, MemOut};
 use dcm_cli::in_memory::run_in_memory;
 use dcm_test_runs::{
-    Answer, Row, Wanted, buildings, bytes_in, conversions, dumps, expect_answer, holds, modifications, room, rows_of,
+    Answer, Row, Wanted, buildings, bytes_in, conversions, dumps, expect_answer, holds,
+    modifications, room, rows_of,
 };
 use std::alloc::{AllocError, Global};
 use std::test::Fail;

@@ -1,8 +1,6 @@
 // Unknown sequences of known length: as deep as may be, one deeper, and what no sequence is until it is read back.
 use dcm_test_devices::{Start, joined, repeated};
-use dcm_test_runs::{
-    ENDS, OPENINGS, Wanted, expect_answer, expect_runs, letters, over_memory,
-};
+use dcm_test_runs::{ENDS, OPENINGS, Wanted, expect_answer, expect_runs, letters, over_memory};
 use std::alloc::{AllocError, Global};
 use std::test::Fail;
 
@@ -39,12 +37,7 @@ fn put_item(all: &mut Vec<u8>, size: usize) -> Result<(), AllocError> {
 
 /// A file of so many explicit sequences, an unknown one of known length in the last item, and so many implicit ones in its
 /// item, each in an item of the one before it. These bytes are in the last item.
-fn around(
-    alloc: Global,
-    before: usize,
-    inside: usize,
-    last: &[u8],
-) -> Result<Vec<u8>, AllocError> {
+fn around(alloc: Global, before: usize, inside: usize, last: &[u8]) -> Result<Vec<u8>, AllocError> {
     let group = Start::ExplicitLittle.bytes();
     let mut all = repeated(alloc, group, OPENINGS, before, UNKNOWN)?;
     put_item(&mut all, size_of(inside, last))?;
@@ -214,7 +207,13 @@ fn text_that_reads_back_as_a_sequence(rt: HostRuntime) -> Result<(), Fail> {
             },
         ),
     ] {
-        let answer = over_memory(rt.alloc(), "dcmconv +dict - -", input.as_slice(), 1000, 70_000)?;
+        let answer = over_memory(
+            rt.alloc(),
+            "dcmconv +dict - -",
+            input.as_slice(),
+            1000,
+            70_000,
+        )?;
         expect_answer("a long text", &answer, wanted)?;
     }
     Ok(())

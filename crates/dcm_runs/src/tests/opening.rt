@@ -218,12 +218,7 @@ const FAILURES: [ErrorKind; 4] = [
 ];
 
 /// Expects a status and a line where an input cannot be opened so, and where an output cannot.
-fn expect_error(
-    alloc: Global,
-    kind: ErrorKind,
-    status: u8,
-    lines: [&[u8]; 2],
-) -> Result<(), Fail> {
+fn expect_error(alloc: Global, kind: ErrorKind, status: u8, lines: [&[u8]; 2]) -> Result<(), Fail> {
     let [of_input, of_output] = lines;
     let left = obeyed(alloc, "dcmconv a b", Answer::Fails(kind), FILE)?;
     expect_left(&left, status, of_input, false)?;
@@ -371,11 +366,7 @@ fn written(holds_bytes: bool, failing: Call) -> ([bool; 3], Calls) {
     ([first, second, flushed], calls.get())
 }
 
-fn expect_calls(
-    left: ([bool; 3], Calls),
-    well: [bool; 3],
-    counts: [usize; 3],
-) -> Result<(), Fail> {
+fn expect_calls(left: ([bool; 3], Calls), well: [bool; 3], counts: [usize; 3]) -> Result<(), Fail> {
     let [empties, writes, flushes] = counts;
     let calls = Calls {
         empties,

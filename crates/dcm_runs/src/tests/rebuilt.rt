@@ -1,7 +1,8 @@
 // Files that are dumped in full, and built again of their dumps.
 use dcm_test_devices::{Start, joined};
 use dcm_test_runs::{
-    Answer, STEPS, Wanted, expect_answer, header_of, holds, letters, over_memory, over_std, sixty_four,
+    Answer, STEPS, Wanted, expect_answer, header_of, holds, letters, over_memory, over_std,
+    sixty_four,
 };
 use std::alloc::{AllocError, Global};
 use std::test::Fail;

@@ -193,12 +193,7 @@ pub fn run_over(alloc: Global, job: &Job, input: &[u8], good: Good) -> Left {
 }
 
 /// What is written where reading fails after so many bytes, by a run that is proved to write exactly what is sure of them.
-pub fn sure_of(
-    alloc: Global,
-    job: &Job,
-    input: &[u8],
-    read: usize,
-) -> Result<Vec<u8>, AllocError> {
+pub fn sure_of(alloc: Global, job: &Job, input: &[u8], read: usize) -> Result<Vec<u8>, AllocError> {
     let mut input = Watched::new(FailMemory {
         rest: input,
         good: read,
