@@ -1,4 +1,4 @@
-//! Tests of the whole program where something is missing: devices that fail, files that are cut, and little room.
+//! Tests of the whole program where something is missing: devices that fail or are not opened, the end of an input, and room.
 #![tactic(auto)]
 
 #[cfg(test)]

@@ -3,7 +3,6 @@ mod deep;
 mod files;
 mod long_lines;
 mod nested;
-mod opening;
 mod rebuilt;
 
 use dcm_test_runs::{
