@@ -1,4 +1,4 @@
-//! Tests of the whole program: its answers on files and on refused words, and over devices that fail.
+//! Tests of the whole program: its answers on files, and on words that are refused.
 #![tactic(auto)]
 
 #[cfg(test)]

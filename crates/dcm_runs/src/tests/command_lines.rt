@@ -1,7 +1,7 @@
 // Words that are refused.
-use super::{Wanted, expect_answer, over_memory};
 use dcm_test_devices::joined;
-use std::process::Abort;
+use dcm_test_runs::{Wanted, expect_answer, over_memory};
+use std::alloc::Global;
 use std::test::Fail;
 
 /// In each line words, and what is told of them.
@@ -82,26 +82,25 @@ dcmodify +dict a a: V6: input and output are the same path
 ";
 
 /// Expects that the words of a line are refused as it says, and nothing is written.
-fn expect_refused(rt: HostRuntime, abort: &impl Abort, line: &'static str) -> Result<(), Fail> {
+fn expect_refused(alloc: Global, line: &'static str) -> Result<(), Fail> {
     let Some((words, refusal)) = line.split_once(": ") else {
-        panic!(abort; "no refusal: {line}");
+        return Err(Fail::new(format_args!("no refusal: {line}")));
     };
-    let mut told = joined(rt.alloc(), b"dcmtools: ", refusal.as_bytes())?;
+    let mut told = joined(alloc, b"dcmtools: ", refusal.as_bytes())?;
     told.push(b'\n')?;
-    let answer = over_memory(rt, words, b"", 1, 10)?;
+    let answer = over_memory(alloc, words, b"", 1, 10)?;
     let wanted = Wanted {
         status: 1,
         output: b"",
         told: told.as_slice(),
     };
-    expect_answer(abort, words, &answer, wanted);
-    Ok(())
+    expect_answer(words, &answer, wanted)
 }
 
 #[test]
 fn refuses_words(rt: HostRuntime) -> Result<(), Fail> {
     for line in REFUSED.lines() {
-        expect_refused(rt, &rt, line)?;
+        expect_refused(rt.alloc(), line)?;
     }
     Ok(())
 }
@@ -109,7 +108,7 @@ fn refuses_words(rt: HostRuntime) -> Result<(), Fail> {
 #[test]
 fn refuses_edits(rt: HostRuntime) -> Result<(), Fail> {
     for line in REFUSED_EDITS.lines() {
-        expect_refused(rt, &rt, line)?;
+        expect_refused(rt.alloc(), line)?;
     }
     Ok(())
 }

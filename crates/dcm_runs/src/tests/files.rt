@@ -1,11 +1,10 @@
 // Words over files in memory.
-use super::rows::header_of;
-use super::{Answer, Wanted, expect_answer, holds, room};
 use dcm_base::MemOut;
 use dcm_cli::in_memory::obey_in_memory;
 use dcm_files::{MemFile, MemSystem};
 use dcm_test_devices::{Start, joined};
-use std::process::Abort;
+use dcm_test_runs::{Answer, Wanted, expect_answer, header_of, holds, room};
+use std::alloc::{AllocError, Global};
 use std::test::Fail;
 
 /// What words leave: the answer, with no bytes where no output was closed, and whether one was.
@@ -16,8 +15,8 @@ struct Left {
 }
 
 /// The bytes of an output that was closed.
-fn closed_bytes(rt: HostRuntime, written: &Option<MemOut>) -> Result<Vec<u8>, Fail> {
-    let mut bytes = Vec::new(rt.alloc());
+fn closed_bytes(alloc: Global, written: &Option<MemOut>) -> Result<Vec<u8>, AllocError> {
+    let mut bytes = Vec::new(alloc);
     if let Some(out) = written {
         bytes.extend_from_slice(out.written())?;
     }
@@ -33,20 +32,20 @@ fn file<'a>(name: &'a [u8], number: u64, bytes: &'a [u8]) -> MemFile<'a> {
 }
 
 /// What words leave over the file `a`, which has a second name `link`, and a file `other`. Standard input has the bytes of `a`.
-fn left_by(rt: HostRuntime, words: &[&[u8]], bytes: &[u8]) -> Result<Left, Fail> {
+fn left_by(alloc: Global, words: &[&[u8]], bytes: &[u8]) -> Result<Left, AllocError> {
     let files = [
         file(b"a", 1, bytes),
         file(b"link", 1, bytes),
         file(b"other", 2, b""),
     ];
-    let system = MemSystem::new(&files, bytes, MemOut::new(room(rt, 1000)?));
-    let errors = MemOut::new(room(rt, 200)?);
-    let obeyed = obey_in_memory(rt.alloc(), words, system, errors);
+    let system = MemSystem::new(&files, bytes, MemOut::new(room(alloc, 1000)?));
+    let errors = MemOut::new(room(alloc, 200)?);
+    let obeyed = obey_in_memory(alloc, words, system, errors);
     Ok(Left {
         answer: Answer {
             status: obeyed.status,
-            output: closed_bytes(rt, &obeyed.written)?,
-            told: obeyed.errors.written().to_vec(rt.alloc())?,
+            output: closed_bytes(alloc, &obeyed.written)?,
+            told: obeyed.errors.written().to_vec(alloc)?,
         },
         is_closed: obeyed.written.is_some(),
     })
@@ -129,35 +128,31 @@ fn failures() -> [Case; 6] {
 }
 
 /// Expects what the words of cases come to.
-fn expect_cases(rt: HostRuntime, abort: &impl Abort, cases: &[Case]) -> Result<(), Fail> {
-    let bytes = joined(rt.alloc(), Start::ExplicitLittle.bytes(), NAME)?;
+fn expect_cases(alloc: Global, cases: &[Case]) -> Result<(), Fail> {
+    let bytes = joined(alloc, Start::ExplicitLittle.bytes(), NAME)?;
     for case in cases {
-        let left = left_by(rt, case.words, bytes.as_slice())?;
+        let left = left_by(alloc, case.words, bytes.as_slice())?;
         let (front, rest) = case.output.unwrap_or((b"", b""));
-        let output = joined(rt.alloc(), front, rest)?;
+        let output = joined(alloc, front, rest)?;
         let wanted = Wanted {
             status: case.status,
             output: output.as_slice(),
             told: case.told,
         };
-        expect_answer(abort, "words over files", &left.answer, wanted);
+        expect_answer("words over files", &left.answer, wanted)?;
         let is_closed = case.output.is_some();
-        holds(
-            abort,
-            "words over files",
-            "closed",
-            left.is_closed == is_closed,
-        );
+        let is_as_wanted = left.is_closed == is_closed;
+        holds("words over files", "closed", is_as_wanted)?;
     }
     Ok(())
 }
 
 #[test]
 fn words_that_work(rt: HostRuntime) -> Result<(), Fail> {
-    expect_cases(rt, &rt, &works())
+    expect_cases(rt.alloc(), &works())
 }
 
 #[test]
 fn words_that_fail(rt: HostRuntime) -> Result<(), Fail> {
-    expect_cases(rt, &rt, &failures())
+    expect_cases(rt.alloc(), &failures())
 }

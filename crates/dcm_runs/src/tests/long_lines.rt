@@ -1,7 +1,7 @@
 // Lines of a dump that come to a limit.
-use super::nested::OPENINGS;
-use super::{Wanted, expect_runs};
 use dcm_test_devices::{Start, joined, repeated};
+use dcm_test_runs::{OPENINGS, Wanted, expect_runs};
+use std::alloc::{AllocError, Global};
 use std::test::Fail;
 
 const SYNTAX_LINE: &[u8] = b"(0002,0010) UI =LittleEndianExplicit\n";
@@ -15,14 +15,14 @@ const MOST_LETTERS: usize = 4079;
 const COMMENTS: &[u8] = b"\x10\0\0@LT\xf0\x0f";
 
 /// The lines of a file with comments of so many letters.
-fn comments(rt: HostRuntime, letters: usize) -> Result<Vec<u8>, Fail> {
-    let front = joined(rt.alloc(), SYNTAX_LINE, b"(0010,4000) LT [")?;
-    Ok(repeated(rt.alloc(), front.as_slice(), b"a", letters, b"]")?)
+fn comments(alloc: Global, letters: usize) -> Result<Vec<u8>, AllocError> {
+    let front = joined(alloc, SYNTAX_LINE, b"(0010,4000) LT [")?;
+    repeated(alloc, front.as_slice(), b"a", letters, b"]")
 }
 
 #[test]
 fn longest_line(rt: HostRuntime) -> Result<(), Fail> {
-    let lines = comments(rt, MOST_LETTERS)?;
+    let lines = comments(rt.alloc(), MOST_LETTERS)?;
     let front = joined(rt.alloc(), Start::ExplicitLittle.bytes(), COMMENTS)?;
     let file = repeated(rt.alloc(), front.as_slice(), b"a", MOST_LETTERS, b" ")?;
     let wanted = Wanted {
@@ -30,18 +30,18 @@ fn longest_line(rt: HostRuntime) -> Result<(), Fail> {
         output: file.as_slice(),
         told: b"",
     };
-    expect_runs(rt, &rt, "longest line", WORDS, lines.as_slice(), wanted)
+    expect_runs(rt.alloc(), "longest line", WORDS, lines.as_slice(), wanted)
 }
 
 #[test]
 fn line_too_long(rt: HostRuntime) -> Result<(), Fail> {
-    let lines = comments(rt, MOST_LETTERS + 1)?;
+    let lines = comments(rt.alloc(), MOST_LETTERS + 1)?;
     let wanted = Wanted {
         status: 2,
         output: b"",
         told: b"dcmtools: B1 at byte 37, line 2: line too long\n",
     };
-    expect_runs(rt, &rt, "line too long", WORDS, lines.as_slice(), wanted)
+    expect_runs(rt.alloc(), "line too long", WORDS, lines.as_slice(), wanted)
 }
 
 #[test]
@@ -53,8 +53,7 @@ fn value_that_was_cut(rt: HostRuntime) -> Result<(), Fail> {
         told: b"dcmtools: B3 at byte 37, line 2: value does not fit\n",
     };
     expect_runs(
-        rt,
-        &rt,
+        rt.alloc(),
         "value that was cut",
         WORDS,
         lines.as_slice(),
@@ -76,5 +75,5 @@ fn sixty_fifth_sequence(rt: HostRuntime) -> Result<(), Fail> {
         output: file.as_slice(),
         told: b"dcmtools: B8 at byte 5925, line 130: nested too deep\n",
     };
-    expect_runs(rt, &rt, "65th sequence", WORDS, lines.as_slice(), wanted)
+    expect_runs(rt.alloc(), "65th sequence", WORDS, lines.as_slice(), wanted)
 }

@@ -1,16 +1,12 @@
 // Deep and long files.
-use super::rows::header_of;
-use super::{STEPS, Wanted, expect_runs, holds, over_memory};
 use dcm_test_devices::{Start, joined, repeated};
+use dcm_test_runs::{
+    DEPTH, STEPS, Wanted, expect_runs, header_of, holds, letters, nested, over_memory, sixty_four,
+};
+use std::alloc::{AllocError, Global};
 use std::test::Fail;
 
 const SEQUENCE: &[u8] = b"\x08\0@\x11SQ\0\0\xff\xff\xff\xff";
-
-/// A sequence and its item.
-pub const OPENINGS: &[u8] = b"\x08\0@\x11SQ\0\0\xff\xff\xff\xff\xfe\xff\0\xe0\xff\xff\xff\xff";
-
-/// The ends of both.
-pub const ENDS: &[u8] = b"\xfe\xff\x0d\xe0\0\0\0\0\xfe\xff\xdd\xe0\0\0\0\0";
 
 const FRAGMENTS: &[u8] = b"\xe0\x7f\x10\0OB\0\0\xff\xff\xff\xff";
 
@@ -25,10 +21,8 @@ const ITEM_END_LINE: &[u8] =
 const SEQUENCE_END_LINE: &[u8] =
     b"(fffe,e0dd) na (SequenceDelimitationItem)               #   0, 0 SequenceDelimitationItem\n";
 
-const DEPTH: usize = 64;
-
 /// A line at a level.
-fn indent(all: &mut Vec<u8>, level: usize, line: &[u8]) -> Result<(), Fail> {
+fn indent(all: &mut Vec<u8>, level: usize, line: &[u8]) -> Result<(), AllocError> {
     for _ in 0..level {
         all.extend_from_slice(b"  ")?;
     }
@@ -36,15 +30,9 @@ fn indent(all: &mut Vec<u8>, level: usize, line: &[u8]) -> Result<(), Fail> {
     Ok(())
 }
 
-/// A file of 64 sequences, each with an item that holds the next, and what follows the innermost item's opening.
-fn nested(rt: HostRuntime, behind: &[u8]) -> Result<Vec<u8>, Fail> {
-    let group = Start::ExplicitLittle.bytes();
-    Ok(repeated(rt.alloc(), group, OPENINGS, DEPTH, behind)?)
-}
-
 /// The lines of the openings.
-fn opening_lines(rt: HostRuntime) -> Result<Vec<u8>, Fail> {
-    let mut lines = header_of(Start::ExplicitLittle).to_vec(rt.alloc())?;
+fn opening_lines(alloc: Global) -> Result<Vec<u8>, AllocError> {
+    let mut lines = header_of(Start::ExplicitLittle).to_vec(alloc)?;
     for level in 0..DEPTH {
         indent(&mut lines, 2 * level, SEQUENCE_LINE)?;
         indent(&mut lines, 2 * level + 1, ITEM_LINE)?;
@@ -54,8 +42,8 @@ fn opening_lines(rt: HostRuntime) -> Result<Vec<u8>, Fail> {
 
 #[test]
 fn sixty_four_sequences(rt: HostRuntime) -> Result<(), Fail> {
-    let file = sixty_four(rt)?;
-    let mut lines = opening_lines(rt)?;
+    let file = sixty_four(rt.alloc())?;
+    let mut lines = opening_lines(rt.alloc())?;
     for level in (0..DEPTH).rev() {
         indent(&mut lines, 2 * level + 1, ITEM_END_LINE)?;
         indent(&mut lines, 2 * level, SEQUENCE_END_LINE)?;
@@ -66,8 +54,7 @@ fn sixty_four_sequences(rt: HostRuntime) -> Result<(), Fail> {
         told: b"",
     };
     expect_runs(
-        rt,
-        &rt,
+        rt.alloc(),
         "64 sequences",
         "dcmdump -",
         file.as_slice(),
@@ -75,35 +62,29 @@ fn sixty_four_sequences(rt: HostRuntime) -> Result<(), Fail> {
     )
 }
 
-/// A file of 64 sequences, all of them closed.
-pub fn sixty_four(rt: HostRuntime) -> Result<Vec<u8>, Fail> {
-    let opened = nested(rt, b"")?;
-    Ok(repeated(rt.alloc(), opened.as_slice(), ENDS, DEPTH, b"")?)
-}
-
 #[test]
 fn sixty_four_sequences_kept(rt: HostRuntime) -> Result<(), Fail> {
-    let file = sixty_four(rt)?;
+    let file = sixty_four(rt.alloc())?;
     let file = file.as_slice();
     let wanted = Wanted {
         status: 0,
         output: file,
         told: b"",
     };
-    expect_runs(rt, &rt, "64 sequences kept", "dcmconv - -", file, wanted)
+    expect_runs(rt.alloc(), "64 sequences kept", "dcmconv - -", file, wanted)
 }
 
 #[test]
 fn one_more(rt: HostRuntime) -> Result<(), Fail> {
-    let lines = opening_lines(rt)?;
+    let lines = opening_lines(rt.alloc())?;
     let wanted = Wanted {
         status: 2,
         output: lines.as_slice(),
         told: b"dcmtools: R11 at byte 1452: nested too deep\n",
     };
     for behind in [SEQUENCE, FRAGMENTS] {
-        let file = nested(rt, behind)?;
-        expect_runs(rt, &rt, "one more", "dcmdump -", file.as_slice(), wanted)?;
+        let file = nested(rt.alloc(), behind)?;
+        expect_runs(rt.alloc(), "one more", "dcmdump -", file.as_slice(), wanted)?;
     }
     Ok(())
 }
@@ -119,37 +100,27 @@ fn largest_meta_group(rt: HostRuntime) -> Result<(), Fail> {
     let wanted =
         b"(0002,0102) OB 00\\00\\00\\00\\00\\00\\00\\00\\00\\00\\00\\00\\00\\00\\00\\00\\00\\00\\00\\00\\00\\... # 16332, 1 PrivateInformation\n\n# Dicom-Data-Set\n# Used TransferSyntax: LittleEndianExplicit\n".as_slice();
     for step in STEPS {
-        let answer = over_memory(rt, "dcmdump -", file.as_slice(), step, 3000)?;
+        let answer = over_memory(rt.alloc(), "dcmdump -", file.as_slice(), step, 3000)?;
         let is_dumped = answer.status == 0 && answer.told.is_empty();
-        holds(&rt, "largest meta group", "status", is_dumped);
+        holds("largest meta group", "status", is_dumped)?;
         let is_shown = answer.output.ends_with(wanted);
-        holds(&rt, "largest meta group", "output", is_shown);
+        holds("largest meta group", "output", is_shown)?;
     }
     Ok(())
 }
 
-/// The longest value of a short form.
-const LONGEST_SHORT: usize = 65_535;
-
-/// What stands before a text, so many letters, and what stands behind them.
-pub fn letters(rt: HostRuntime, start: Start, head: &[u8], behind: &[u8]) -> Result<Vec<u8>, Fail> {
-    let front = joined(rt.alloc(), start.bytes(), head)?;
-    Ok(repeated(rt.alloc(), front.as_slice(), b"a", LONGEST_SHORT, behind)?)
-}
-
 #[test]
 fn text_past_its_short_form(rt: HostRuntime) -> Result<(), Fail> {
-    let file = letters(rt, Start::Implicit, b"\x10\0\0@\xff\xff\0\0", b"")?;
+    let file = letters(rt.alloc(), Start::Implicit, b"\x10\0\0@\xff\xff\0\0", b"")?;
     let head = b"\x10\0\0@UN\0\0\0\0\x01\0";
-    let output = letters(rt, Start::ExplicitLittle, head, b" ")?;
+    let output = letters(rt.alloc(), Start::ExplicitLittle, head, b" ")?;
     let wanted = Wanted {
         status: 0,
         output: output.as_slice(),
         told: b"",
     };
     expect_runs(
-        rt,
-        &rt,
+        rt.alloc(),
         "a long text",
         "dcmconv +te - -",
         file.as_slice(),

@@ -1,9 +1,10 @@
 // Files that are dumped in full, and built again of their dumps.
-use super::nested::{letters, sixty_four};
-use super::rows::header_of;
-use super::{Answer, STEPS, Wanted, expect_answer, holds, over_memory, over_std};
 use dcm_test_devices::{Start, joined};
-use std::process::Abort;
+use dcm_test_runs::{
+    Answer, STEPS, Wanted, expect_answer, header_of, holds, letters, over_memory, over_std,
+    sixty_four,
+};
+use std::alloc::{AllocError, Global};
 use std::test::Fail;
 
 /// A file, and what its dump builds: its start, and the bytes after that.
@@ -176,30 +177,29 @@ enum Devices {
 const ROOM: usize = 60_000;
 
 fn over(
-    rt: HostRuntime,
+    alloc: Global,
     devices: Devices,
     words: &'static str,
     input: &[u8],
     step: usize,
-) -> Result<Answer, Fail> {
+) -> Result<Answer, AllocError> {
     match devices {
-        Devices::Memory => over_memory(rt, words, input, step, ROOM),
-        Devices::Std => over_std(rt, words, input, step),
+        Devices::Memory => over_memory(alloc, words, input, step, ROOM),
+        Devices::Std => over_std(alloc, words, input, step),
     }
 }
 
 /// A run without fault, and its output.
 fn output_of(
-    rt: HostRuntime,
-    abort: &impl Abort,
+    alloc: Global,
     devices: Devices,
     words: &'static str,
     input: &[u8],
     step: usize,
 ) -> Result<Vec<u8>, Fail> {
-    let answer = over(rt, devices, words, input, step)?;
+    let answer = over(alloc, devices, words, input, step)?;
     let is_well = answer.status == 0 && answer.told.is_empty();
-    holds(abort, words, "status", is_well);
+    holds(words, "status", is_well)?;
     Ok(answer.output)
 }
 
@@ -233,40 +233,33 @@ struct Rebuilt<'a> {
 }
 
 fn expect_rebuilt_over(
-    rt: HostRuntime,
-    abort: &impl Abort,
+    alloc: Global,
     devices: Devices,
     wanted: Rebuilt<'_>,
     step: usize,
 ) -> Result<(), Fail> {
-    let dump = output_of(rt, abort, devices, wanted.words.dump, wanted.file, step)?;
-    let built = output_of(rt, abort, devices, BUILD, dump.as_slice(), step)?;
+    let dump = output_of(alloc, devices, wanted.words.dump, wanted.file, step)?;
+    let built = output_of(alloc, devices, BUILD, dump.as_slice(), step)?;
     let is_built = built.as_slice() == wanted.built;
-    holds(abort, wanted.name, "file that is built", is_built);
-    let converted = output_of(rt, abort, devices, wanted.words.convert, wanted.file, step)?;
+    holds(wanted.name, "file that is built", is_built)?;
+    let converted = output_of(alloc, devices, wanted.words.convert, wanted.file, step)?;
     let is_converted = converted.as_slice() == wanted.converted;
-    holds(abort, wanted.name, "conversion", is_converted);
-    Ok(())
+    holds(wanted.name, "conversion", is_converted)
 }
 
-fn expect_rebuilt(rt: HostRuntime, abort: &impl Abort, wanted: Rebuilt<'_>) -> Result<(), Fail> {
+fn expect_rebuilt(alloc: Global, wanted: Rebuilt<'_>) -> Result<(), Fail> {
     for step in STEPS {
-        expect_rebuilt_over(rt, abort, Devices::Memory, wanted, step)?;
-        expect_rebuilt_over(rt, abort, Devices::Std, wanted, step)?;
+        expect_rebuilt_over(alloc, Devices::Memory, wanted, step)?;
+        expect_rebuilt_over(alloc, Devices::Std, wanted, step)?;
     }
     Ok(())
 }
 
 /// Expects that files are rebuilt by a dictionary that words name.
-fn expect_files(
-    rt: HostRuntime,
-    abort: &impl Abort,
-    words: Words,
-    files: &[File],
-) -> Result<(), Fail> {
+fn expect_files(alloc: Global, words: Words, files: &[File]) -> Result<(), Fail> {
     for file in files {
-        let input = joined(rt.alloc(), file.start.bytes(), file.input)?;
-        let built = joined(rt.alloc(), file.start.bytes(), file.built)?;
+        let input = joined(alloc, file.start.bytes(), file.input)?;
+        let built = joined(alloc, file.start.bytes(), file.built)?;
         let wanted = Rebuilt {
             name: file.name,
             words,
@@ -274,20 +267,20 @@ fn expect_files(
             built: built.as_slice(),
             converted: built.as_slice(),
         };
-        expect_rebuilt(rt, abort, wanted)?;
+        expect_rebuilt(alloc, wanted)?;
     }
     Ok(())
 }
 
 #[test]
 fn files_are_rebuilt(rt: HostRuntime) -> Result<(), Fail> {
-    expect_files(rt, &rt, BY_EXTRACT, kept())?;
-    expect_files(rt, &rt, BY_EXTRACT, changed())
+    expect_files(rt.alloc(), BY_EXTRACT, kept())?;
+    expect_files(rt.alloc(), BY_EXTRACT, changed())
 }
 
 #[test]
 fn files_are_rebuilt_by_the_whole_dictionary(rt: HostRuntime) -> Result<(), Fail> {
-    expect_files(rt, &rt, BY_STANDARD, files_of_the_standard())
+    expect_files(rt.alloc(), BY_STANDARD, files_of_the_standard())
 }
 
 /// A meta group of three elements, the preamble of which holds other bytes than zeros.
@@ -311,12 +304,12 @@ fn a_preamble_is_not_rebuilt(rt: HostRuntime) -> Result<(), Fail> {
         built: built.as_slice(),
         converted: file.as_slice(),
     };
-    expect_rebuilt(rt, &rt, wanted)
+    expect_rebuilt(rt.alloc(), wanted)
 }
 
 #[test]
 fn sixty_four_sequences_are_rebuilt(rt: HostRuntime) -> Result<(), Fail> {
-    let file = sixty_four(rt)?;
+    let file = sixty_four(rt.alloc())?;
     let wanted = Rebuilt {
         name: "64 sequences",
         words: BY_EXTRACT,
@@ -324,7 +317,7 @@ fn sixty_four_sequences_are_rebuilt(rt: HostRuntime) -> Result<(), Fail> {
         built: file.as_slice(),
         converted: file.as_slice(),
     };
-    expect_rebuilt(rt, &rt, wanted)
+    expect_rebuilt(rt.alloc(), wanted)
 }
 
 /// A value that ends within a number: the dump has its whole numbers alone.
@@ -341,36 +334,30 @@ fn a_byte_behind_numbers_is_not_rebuilt(rt: HostRuntime) -> Result<(), Fail> {
         built: built.as_slice(),
         converted: converted.as_slice(),
     };
-    expect_rebuilt(rt, &rt, wanted)
+    expect_rebuilt(rt.alloc(), wanted)
 }
 
 /// Expects that the dump of a value that no line holds is refused.
-fn expect_long_line(
-    rt: HostRuntime,
-    abort: &impl Abort,
-    file: &[u8],
-    step: usize,
-) -> Result<(), Fail> {
-    let dump = output_of(rt, abort, Devices::Std, BY_EXTRACT.dump, file, step)?;
+fn expect_long_line(alloc: Global, file: &[u8], step: usize) -> Result<(), Fail> {
+    let dump = output_of(alloc, Devices::Std, BY_EXTRACT.dump, file, step)?;
     let has_header = dump.as_slice().starts_with(header_of(Start::Implicit));
-    holds(abort, "a long line", "header of the dump", has_header);
+    holds("a long line", "header of the dump", has_header)?;
     let wanted = Wanted {
         status: 2,
         output: b"",
         told: b"dcmtools: B1 at byte 338, line 10: line too long\n",
     };
-    let answer = over_memory(rt, BUILD, dump.as_slice(), step, ROOM)?;
-    expect_answer(abort, "a long line", &answer, wanted);
-    let answer = over_std(rt, BUILD, dump.as_slice(), step)?;
-    expect_answer(abort, "a long line", &answer, wanted);
-    Ok(())
+    let answer = over_memory(alloc, BUILD, dump.as_slice(), step, ROOM)?;
+    expect_answer("a long line", &answer, wanted)?;
+    let answer = over_std(alloc, BUILD, dump.as_slice(), step)?;
+    expect_answer("a long line", &answer, wanted)
 }
 
 #[test]
 fn a_long_line_is_refused(rt: HostRuntime) -> Result<(), Fail> {
-    let file = letters(rt, Start::Implicit, b"\x10\0\0@\xff\xff\0\0", b"")?;
+    let file = letters(rt.alloc(), Start::Implicit, b"\x10\0\0@\xff\xff\0\0", b"")?;
     for step in STEPS {
-        expect_long_line(rt, &rt, file.as_slice(), step)?;
+        expect_long_line(rt.alloc(), file.as_slice(), step)?;
     }
     Ok(())
 }

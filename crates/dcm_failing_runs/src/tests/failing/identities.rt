@@ -1,24 +1,24 @@
 // Runs that take identity out over devices that fail.
 use super::{reads_fail, tells_fail, writes_fail};
-use crate::tests::identity_put::identity_put;
+use dcm_test_runs::identity_put;
 use std::test::Fail;
 
 #[test]
 fn reading_fails(rt: HostRuntime) -> Result<(), Fail> {
-    reads_fail(rt, &rt, &identity_put(), true)
+    reads_fail(rt.alloc(), &identity_put(), true)
 }
 
 #[test]
 fn reading_and_flushing_fail(rt: HostRuntime) -> Result<(), Fail> {
-    reads_fail(rt, &rt, &identity_put(), false)
+    reads_fail(rt.alloc(), &identity_put(), false)
 }
 
 #[test]
 fn writing_fails(rt: HostRuntime) -> Result<(), Fail> {
-    writes_fail(rt, &rt, &identity_put())
+    writes_fail(rt.alloc(), &identity_put())
 }
 
 #[test]
 fn telling_fails(rt: HostRuntime) -> Result<(), Fail> {
-    tells_fail(rt, &rt, &identity_put())
+    tells_fail(rt.alloc(), &identity_put())
 }

@@ -1,5 +1,5 @@
 // Files that are modified: what follows the meta group, and the bytes that are wanted of it.
-use super::rows::{EMPTY, Row};
+use crate::rows::{EMPTY, Row};
 use dcm_test_devices::Start;
 
 /// New elements.
@@ -349,7 +349,7 @@ const REMARK: [Row; 6] = [
     },
 ];
 
-/// All modifications.
+/// Files that are edited.
 pub fn modifications() -> [&'static [Row]; 5] {
     [&NEW, &MADE, &VALUES, &ERASED, &REMARK]
 }

@@ -1,62 +1,6 @@
 // Dumps of files: what stands behind the meta group, and the lines that are wanted of it.
+use crate::rows::{EMPTY, Row};
 use dcm_test_devices::Start;
-
-/// A run: its words, its input behind its start, the output behind its header, the status, and standard error.
-#[derive(Clone, Copy)]
-pub struct Row {
-    pub name: &'static str,
-    pub words: &'static str,
-    pub start: Start,
-    pub input: &'static [u8],
-    pub header: Start,
-    pub lines: &'static [u8],
-    pub status: u8,
-    pub told: &'static [u8],
-}
-
-/// A row without bytes, whose words are run well.
-pub const EMPTY: Row = Row {
-    name: "",
-    words: "",
-    start: Start::Nothing,
-    input: b"",
-    header: Start::Nothing,
-    lines: b"",
-    status: 0,
-    told: b"",
-};
-
-/// The header of a dump.
-pub fn header_of(start: Start) -> &'static [u8] {
-    match start {
-        Start::Nothing | Start::Prefix => b"",
-        Start::ExplicitLittle => EXPLICIT_LITTLE_HEADER,
-        Start::Implicit => IMPLICIT_HEADER,
-        Start::Big => BIG_HEADER,
-        Start::Jpeg => JPEG_HEADER,
-    }
-}
-
-/// What the output of a row begins with: the header of a dump, or the head of a file.
-pub fn front_of(row: &Row) -> &'static [u8] {
-    if row.words.starts_with("dcmdump") {
-        header_of(row.header)
-    } else {
-        row.header.bytes()
-    }
-}
-
-const EXPLICIT_LITTLE_HEADER: &[u8] =
-    b"# Dicom-File-Format\n\n# Dicom-Meta-Information-Header\n# Used TransferSyntax: LittleEndianExplicit\n(0002,0000) UL 28                                       #   4, 1 FileMetaInformationGroupLength\n(0002,0010) UI =LittleEndianExplicit                    #  20, 1 TransferSyntaxUID\n\n# Dicom-Data-Set\n# Used TransferSyntax: LittleEndianExplicit\n";
-
-const IMPLICIT_HEADER: &[u8] =
-    b"# Dicom-File-Format\n\n# Dicom-Meta-Information-Header\n# Used TransferSyntax: LittleEndianExplicit\n(0002,0000) UL 26                                       #   4, 1 FileMetaInformationGroupLength\n(0002,0010) UI =LittleEndianImplicit                    #  18, 1 TransferSyntaxUID\n\n# Dicom-Data-Set\n# Used TransferSyntax: LittleEndianImplicit\n";
-
-const BIG_HEADER: &[u8] =
-    b"# Dicom-File-Format\n\n# Dicom-Meta-Information-Header\n# Used TransferSyntax: LittleEndianExplicit\n(0002,0000) UL 28                                       #   4, 1 FileMetaInformationGroupLength\n(0002,0010) UI =BigEndianExplicit                       #  20, 1 TransferSyntaxUID\n\n# Dicom-Data-Set\n# Used TransferSyntax: BigEndianExplicit\n";
-
-const JPEG_HEADER: &[u8] =
-    b"# Dicom-File-Format\n\n# Dicom-Meta-Information-Header\n# Used TransferSyntax: LittleEndianExplicit\n(0002,0000) UL 30                                       #   4, 1 FileMetaInformationGroupLength\n(0002,0010) UI =JPEGBaseline                            #  22, 1 TransferSyntaxUID\n\n# Dicom-Data-Set\n# Used TransferSyntax: JPEGBaseline\n";
 
 /// Texts.
 const TEXTS: [Row; 8] = [
@@ -442,7 +386,7 @@ const ELEMENTS: [Row; 5] = [
     },
 ];
 
-/// All dumps.
+/// Files that are dumped.
 pub fn dumps() -> [&'static [Row]; 5] {
     [&TEXTS, &NUMBERS, &SEQUENCES, &HEADS, &ELEMENTS]
 }

@@ -1,14 +1,10 @@
 // Inputs that are cut at each byte.
-use super::buildings::buildings;
-use super::conversions::conversions;
-use super::dictionaries::dictionaries;
-use super::modifications::modifications;
-use super::rows::{Row, dumps, front_of};
-use super::signs::signs;
-use super::unknown::unknown;
-use super::{Answer, Wanted, expect_answer, holds, over_memory, rows_of};
 use dcm_test_devices::{Start, joined, numbered};
-use std::process::Abort;
+use dcm_test_runs::{
+    Answer, Row, Wanted, buildings, conversions, dictionaries, dumps, expect_answer, front_of,
+    holds, modifications, over_memory, rows_of, signs, unknown,
+};
+use std::alloc::{AllocError, Global};
 use std::test::Fail;
 
 /// More bytes than any of the inputs has, and room for each output.
@@ -17,13 +13,9 @@ const WHOLE: usize = 100_000;
 const ROOM: usize = 3000;
 
 /// The line of an input that ends too early after so many bytes.
-fn early_end(rt: HostRuntime, read: usize) -> Result<Vec<u8>, Fail> {
-    Ok(numbered(
-        rt.alloc(),
-        b"dcmtools: R1 at byte ",
-        read,
-        b": input ends too early\n",
-    )?)
+fn early_end(alloc: Global, read: usize) -> Result<Vec<u8>, AllocError> {
+    let front = b"dcmtools: R1 at byte ";
+    numbered(alloc, front, read, b": input ends too early\n")
 }
 
 /// Whether a row writes a head. Where its whole input is at fault before that, a cut one may be a file without elements.
@@ -43,66 +35,67 @@ fn may_put(row: &Row) -> bool {
 
 /// Expects what is answered to a cut input: an early end at the cut, no transfer syntax so far, the fault of the whole, or
 /// none; and a beginning of the output.
-fn expect_cut(rt: &impl Abort, row: &Row, wanted: &[u8], early: &[u8], answer: &Answer) {
+fn expect_cut(row: &Row, wanted: &[u8], early: &[u8], answer: &Answer) -> Result<(), Fail> {
     let told = answer.told.as_slice();
     let is_answered = if answer.status == 2 {
         told == early || told.starts_with(b"dcmtools: R5 at byte ") || told == row.told
     } else {
         answer.status == 0 || answer.status == 3
     };
-    holds(rt, row.name, "what a cut input is answered", is_answered);
+    holds(row.name, "what a cut input is answered", is_answered)?;
     if has_usual_group(row) && writes_head(row) && (answer.status == 2 || !may_put(row)) {
         let is_front = wanted.starts_with(answer.output.as_slice());
-        holds(rt, row.name, "output of a cut input", is_front);
+        holds(row.name, "output of a cut input", is_front)?;
     }
+    Ok(())
 }
 
 /// Runs a row with its input cut at each byte.
-fn cut_everywhere(rt: HostRuntime, abort: &impl Abort, row: &Row) -> Result<(), Fail> {
-    let input = joined(rt.alloc(), row.start.bytes(), row.input)?;
-    let wanted = joined(rt.alloc(), front_of(row), row.lines)?;
+fn cut_everywhere(alloc: Global, row: &Row) -> Result<(), Fail> {
+    let input = joined(alloc, row.start.bytes(), row.input)?;
+    let wanted = joined(alloc, front_of(row), row.lines)?;
     for cut in 0..input.len() {
         let (front, _) = input.as_slice().split_at(cut);
-        let early = early_end(rt, cut)?;
-        let answer = over_memory(rt, row.words, front, WHOLE, ROOM)?;
-        expect_cut(abort, row, wanted.as_slice(), early.as_slice(), &answer);
+        let early = early_end(alloc, cut)?;
+        let answer = over_memory(alloc, row.words, front, WHOLE, ROOM)?;
+        expect_cut(row, wanted.as_slice(), early.as_slice(), &answer)?;
     }
     Ok(())
 }
 
 /// Runs rows with their inputs cut at each byte.
-fn cut_rows(rt: HostRuntime, abort: &impl Abort, tables: &[&'static [Row]]) -> Result<(), Fail> {
-    let rows = rows_of(rt, tables)?;
+fn cut_rows(alloc: Global, tables: &[&'static [Row]]) -> Result<(), Fail> {
+    let rows = rows_of(alloc, tables)?;
     for row in rows.as_slice() {
-        cut_everywhere(rt, abort, row)?;
+        cut_everywhere(alloc, row)?;
     }
     Ok(())
 }
 
 #[test]
 fn dumps_of_cut_files(rt: HostRuntime) -> Result<(), Fail> {
-    cut_rows(rt, &rt, &dumps())
+    cut_rows(rt.alloc(), &dumps())
 }
 
 #[test]
 fn conversions_of_cut_files(rt: HostRuntime) -> Result<(), Fail> {
-    cut_rows(rt, &rt, &conversions())
+    cut_rows(rt.alloc(), &conversions())
 }
 
 #[test]
 fn edits_of_cut_files(rt: HostRuntime) -> Result<(), Fail> {
-    cut_rows(rt, &rt, &modifications())
+    cut_rows(rt.alloc(), &modifications())
 }
 
 #[test]
 fn dictionaries_of_cut_files(rt: HostRuntime) -> Result<(), Fail> {
-    cut_rows(rt, &rt, &dictionaries())
+    cut_rows(rt.alloc(), &dictionaries())
 }
 
 /// Runs a row with its data set cut at each byte: the bytes before the cut alone, and all bytes in two pieces.
-fn cut_set_everywhere(rt: HostRuntime, abort: &impl Abort, row: &Row) -> Result<(), Fail> {
-    let input = joined(rt.alloc(), row.start.bytes(), row.input)?;
-    let output = joined(rt.alloc(), front_of(row), row.lines)?;
+fn cut_set_everywhere(alloc: Global, row: &Row) -> Result<(), Fail> {
+    let input = joined(alloc, row.start.bytes(), row.input)?;
+    let output = joined(alloc, front_of(row), row.lines)?;
     let wanted = Wanted {
         status: row.status,
         output: output.as_slice(),
@@ -111,37 +104,37 @@ fn cut_set_everywhere(rt: HostRuntime, abort: &impl Abort, row: &Row) -> Result<
     let size = output.len().saturating_add(ROOM);
     for cut in row.start.bytes().len()..input.len() {
         let (front, _) = input.as_slice().split_at(cut);
-        let early = early_end(rt, cut)?;
-        let answer = over_memory(rt, row.words, front, WHOLE, size)?;
-        expect_cut(abort, row, wanted.output, early.as_slice(), &answer);
-        let answer = over_memory(rt, row.words, input.as_slice(), cut, size)?;
-        expect_answer(abort, row.name, &answer, wanted);
+        let early = early_end(alloc, cut)?;
+        let answer = over_memory(alloc, row.words, front, WHOLE, size)?;
+        expect_cut(row, wanted.output, early.as_slice(), &answer)?;
+        let answer = over_memory(alloc, row.words, input.as_slice(), cut, size)?;
+        expect_answer(row.name, &answer, wanted)?;
     }
     Ok(())
 }
 
 /// Runs rows so.
-fn cut_sets(rt: HostRuntime, abort: &impl Abort, tables: &[&'static [Row]]) -> Result<(), Fail> {
-    let rows = rows_of(rt, tables)?;
+fn cut_sets(alloc: Global, tables: &[&'static [Row]]) -> Result<(), Fail> {
+    let rows = rows_of(alloc, tables)?;
     for row in rows.as_slice() {
-        cut_set_everywhere(rt, abort, row)?;
+        cut_set_everywhere(alloc, row)?;
     }
     Ok(())
 }
 
 #[test]
 fn signs_of_cut_files(rt: HostRuntime) -> Result<(), Fail> {
-    cut_sets(rt, &rt, &signs())
+    cut_sets(rt.alloc(), &signs())
 }
 
 #[test]
 fn unknown_sequences_of_cut_files(rt: HostRuntime) -> Result<(), Fail> {
-    cut_sets(rt, &rt, &unknown())
+    cut_sets(rt.alloc(), &unknown())
 }
 
 /// Expects what is answered to the first lines of a dump: a file of them, the fault of the whole, no transfer syntax so far,
 /// or an end that is missing.
-fn expect_first_lines(rt: &impl Abort, row: &Row, wanted: &[u8], answer: &Answer) {
+fn expect_first_lines(row: &Row, wanted: &[u8], answer: &Answer) -> Result<(), Fail> {
     let told = answer.told.as_slice();
     let is_answered = if answer.status == 2 {
         told.starts_with(b"dcmtools: B7 at byte ")
@@ -150,23 +143,24 @@ fn expect_first_lines(rt: &impl Abort, row: &Row, wanted: &[u8], answer: &Answer
     } else {
         answer.status == 0
     };
-    holds(rt, row.name, "what first lines are answered", is_answered);
+    holds(row.name, "what first lines are answered", is_answered)?;
     if writes_head(row) {
         let is_front = wanted.starts_with(answer.output.as_slice());
-        holds(rt, row.name, "output of first lines", is_front);
+        holds(row.name, "output of first lines", is_front)?;
     }
+    Ok(())
 }
 
 /// Runs a row with its lines cut after each of them.
-fn cut_after_lines(rt: HostRuntime, abort: &impl Abort, row: &Row) -> Result<(), Fail> {
-    let wanted = joined(rt.alloc(), front_of(row), row.lines)?;
+fn cut_after_lines(alloc: Global, row: &Row) -> Result<(), Fail> {
+    let wanted = joined(alloc, front_of(row), row.lines)?;
     let mut cut: usize = 0;
     for byte in row.input {
         cut = cut.saturating_add(1);
         if *byte == b'\n' {
             let (front, _) = row.input.split_at(cut.min(row.input.len()));
-            let answer = over_memory(rt, row.words, front, WHOLE, ROOM)?;
-            expect_first_lines(abort, row, wanted.as_slice(), &answer);
+            let answer = over_memory(alloc, row.words, front, WHOLE, ROOM)?;
+            expect_first_lines(row, wanted.as_slice(), &answer)?;
         }
     }
     Ok(())
@@ -174,9 +168,9 @@ fn cut_after_lines(rt: HostRuntime, abort: &impl Abort, row: &Row) -> Result<(),
 
 #[test]
 fn files_of_cut_dumps(rt: HostRuntime) -> Result<(), Fail> {
-    let rows = rows_of(rt, &buildings())?;
+    let rows = rows_of(rt.alloc(), &buildings())?;
     for row in rows.as_slice() {
-        cut_after_lines(rt, &rt, row)?;
+        cut_after_lines(rt.alloc(), row)?;
     }
     Ok(())
 }

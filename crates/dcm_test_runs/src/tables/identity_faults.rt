@@ -1,5 +1,5 @@
 // Identity taken out of files: what pixels show, faults, and inputs that are cut (PS3.15 E.1).
-use super::rows::{EMPTY, Row};
+use crate::rows::{EMPTY, Row};
 use dcm_test_devices::Start;
 
 /// What pixels show.
@@ -286,7 +286,7 @@ const CUTS: [Row; 12] = [
     },
 ];
 
-/// All of these.
+/// Files at fault whose identity is taken out.
 pub fn identity_faults() -> [&'static [Row]; 3] {
     [&PIXELS, &FAULTS, &CUTS]
 }

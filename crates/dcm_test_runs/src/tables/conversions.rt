@@ -1,5 +1,5 @@
 // Conversions of files: what stands behind the meta group, and the bytes that are wanted of it.
-use super::rows::{EMPTY, Row};
+use crate::rows::{EMPTY, Row};
 use dcm_test_devices::Start;
 
 /// Values whose bytes are turned or evened.
@@ -293,7 +293,7 @@ const HEADS: [Row; 10] = [
     },
 ];
 
-/// All conversions.
+/// Files that are converted.
 pub fn conversions() -> [&'static [Row]; 4] {
     [&VALUES, &SEQUENCES, &FRAGMENTS, &HEADS]
 }

@@ -1,5 +1,5 @@
 // Identity taken out of files: what becomes of elements, options, and new unique identifiers (PS3.15 E.1).
-use super::rows::{EMPTY, Row};
+use crate::rows::{EMPTY, Row};
 use dcm_test_devices::Start;
 
 /// What becomes of elements.
@@ -315,7 +315,7 @@ const IDENTIFIERS: [Row; 11] = [
     },
 ];
 
-/// All of these.
+/// Files whose identity is taken out.
 pub fn identities() -> [&'static [Row]; 3] {
     [&FATES, &OPTIONS, &IDENTIFIERS]
 }

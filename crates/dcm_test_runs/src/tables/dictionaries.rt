@@ -1,6 +1,6 @@
 // Runs with the whole dictionary of PS3.6, and with the extract beside it: dumps, conversions and edits of elements that the
 // extract lacks, and what is wanted of them.
-use super::rows::{EMPTY, Row};
+use crate::rows::{EMPTY, Row};
 use dcm_test_devices::Start;
 
 /// Dumps.
@@ -269,7 +269,7 @@ const EDITS: [Row; 10] = [
     },
 ];
 
-/// All of them.
+/// Runs with the whole dictionary.
 pub fn dictionaries() -> [&'static [Row]; 3] {
     [&DUMPS, &CONVERSIONS, &EDITS]
 }

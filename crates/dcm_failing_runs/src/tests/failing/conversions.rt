@@ -1,26 +1,26 @@
 // Conversions over devices that fail.
 use super::{expect_written, first_of, reads_fail, tells_fail, writes_fail};
-use crate::tests::conversions::conversions;
+use dcm_test_runs::conversions;
 use std::test::Fail;
 
 #[test]
 fn reading_fails(rt: HostRuntime) -> Result<(), Fail> {
-    reads_fail(rt, &rt, &conversions(), true)
+    reads_fail(rt.alloc(), &conversions(), true)
 }
 
 #[test]
 fn reading_and_flushing_fail(rt: HostRuntime) -> Result<(), Fail> {
-    reads_fail(rt, &rt, &conversions(), false)
+    reads_fail(rt.alloc(), &conversions(), false)
 }
 
 #[test]
 fn writing_fails(rt: HostRuntime) -> Result<(), Fail> {
-    writes_fail(rt, &rt, &conversions())
+    writes_fail(rt.alloc(), &conversions())
 }
 
 #[test]
 fn telling_fails(rt: HostRuntime) -> Result<(), Fail> {
-    tells_fail(rt, &rt, &conversions())
+    tells_fail(rt.alloc(), &conversions())
 }
 
 /// Of words that are turned to big endian first the meta group is sure, with 172 bytes, then their head,
@@ -36,5 +36,5 @@ fn what_is_sure_is_written(rt: HostRuntime) -> Result<(), Fail> {
         (185, 184),
         (187, 186),
     ];
-    expect_written(rt, &rt, first_of(&rt, values), &counts)
+    expect_written(rt.alloc(), first_of(values)?, &counts)
 }

@@ -1,5 +1,5 @@
 // Identity taken out of files: what is put in (PS3.15 E.1).
-use super::rows::{EMPTY, Row};
+use crate::rows::{EMPTY, Row};
 use dcm_test_devices::Start;
 
 /// What is put in.
@@ -149,7 +149,7 @@ const PUT: [Row; 15] = [
     },
 ];
 
-/// All of these.
+/// What is put in where identity is taken out.
 pub fn identity_put() -> [&'static [Row]; 1] {
     [&PUT]
 }

@@ -1,5 +1,5 @@
 // Elements that the standard leaves between two representations, by the sign of the pixels (PS3.3 C.7.6.3.1.4).
-use super::rows::{EMPTY, Row};
+use crate::rows::{EMPTY, Row};
 use dcm_test_devices::Start;
 
 /// Dumps of implicit files.
@@ -292,7 +292,7 @@ const CONVERSIONS: [Row; 8] = [
     },
 ];
 
-/// All of them.
+/// Values by the sign of the pixels.
 pub fn signs() -> [&'static [Row]; 3] {
     [&DUMPS, &BIG_SIGNS, &CONVERSIONS]
 }

@@ -3,16 +3,15 @@ ghost use Rattle.std.specs.Prelude.{◌≡◌, None, true};
 ghost use Rattle.dcm_files.specs.Devices.{anything};
 ghost use Rattle.dcm_files.specs.Output.{anything as any_file};
 
-use super::{bytes_in, holds, memory_out};
 use dcm_base::{Device, DeviceIn, DeviceOut, ReadFailed, WriteFailed};
 use dcm_cli::obey;
 use dcm_files::{FileKind, Opened, OutputFile, System, Target};
 use dcm_test_devices::split;
-use std::alloc::AllocError;
+use dcm_test_runs::{bytes_in, holds, memory_out};
+use std::alloc::{AllocError, Global};
 use std::cell::Cell;
 use std::io;
 use std::io::{ErrorKind, Write};
-use std::process::Abort;
 use std::test::Fail;
 
 /// What opening a path answers.
@@ -154,33 +153,33 @@ struct Left {
 
 /// What words leave over such a system.
 fn obeyed(
-    rt: HostRuntime,
+    alloc: Global,
     line: &'static str,
     input: Answer,
     output: Answer,
-) -> Result<Left, Fail> {
-    let words = split(rt.alloc(), line)?;
+) -> Result<Left, AllocError> {
+    let words = split(alloc, line)?;
     let calls = Cell::new(0usize);
-    let mut errors = memory_out(rt, 200)?;
+    let mut errors = memory_out(alloc, 200)?;
     let mut system = Answers {
         input,
         output,
         calls: &calls,
     };
-    let status = obey(&mut system, rt.alloc(), words.as_slice(), &mut errors);
+    let status = obey(&mut system, alloc, words.as_slice(), &mut errors);
     Ok(Left {
         words: line,
         status,
-        told: bytes_in(rt, errors.device())?,
+        told: bytes_in(alloc, errors.device())?,
         has_calls: calls.get() > 0,
     })
 }
 
 /// Expects a status and a line, and calls on devices or none.
-fn expect_left(rt: &impl Abort, left: &Left, status: u8, line: &[u8], has_calls: bool) {
-    holds(rt, left.words, "status", left.status == status);
-    holds(rt, left.words, "line", left.told.as_slice() == line);
-    holds(rt, left.words, "calls", left.has_calls == has_calls);
+fn expect_left(left: &Left, status: u8, line: &[u8], has_calls: bool) -> Result<(), Fail> {
+    holds(left.words, "status", left.status == status)?;
+    holds(left.words, "line", left.told.as_slice() == line)?;
+    holds(left.words, "calls", left.has_calls == has_calls)
 }
 
 const NO_INPUT: &[u8] = b"dcmtools: input cannot be opened\n";
@@ -219,41 +218,33 @@ const FAILURES: [ErrorKind; 4] = [
 ];
 
 /// Expects a status and a line where an input cannot be opened so, and where an output cannot.
-fn expect_error(
-    rt: HostRuntime,
-    abort: &impl Abort,
-    kind: ErrorKind,
-    status: u8,
-    lines: [&[u8]; 2],
-) -> Result<(), Fail> {
+fn expect_error(alloc: Global, kind: ErrorKind, status: u8, lines: [&[u8]; 2]) -> Result<(), Fail> {
     let [of_input, of_output] = lines;
-    let left = obeyed(rt, "dcmconv a b", Answer::Fails(kind), FILE)?;
-    expect_left(abort, &left, status, of_input, false);
-    let left = obeyed(rt, "dcmconv a b", FILE, Answer::Fails(kind))?;
-    expect_left(abort, &left, status, of_output, false);
-    Ok(())
+    let left = obeyed(alloc, "dcmconv a b", Answer::Fails(kind), FILE)?;
+    expect_left(&left, status, of_input, false)?;
+    let left = obeyed(alloc, "dcmconv a b", FILE, Answer::Fails(kind))?;
+    expect_left(&left, status, of_output, false)
 }
 
 #[test]
 fn errors_of_opening(rt: HostRuntime) -> Result<(), Fail> {
     for kind in FAILURES {
-        expect_error(rt, &rt, kind, 4, [NO_INPUT, NO_OUTPUT])?;
+        expect_error(rt.alloc(), kind, 4, [NO_INPUT, NO_OUTPUT])?;
     }
     let no_memory = [NO_MEMORY, NO_MEMORY];
-    expect_error(rt, &rt, ErrorKind::OutOfMemory, 5, no_memory)
+    expect_error(rt.alloc(), ErrorKind::OutOfMemory, 5, no_memory)
 }
 
 #[test]
 fn refused_devices(rt: HostRuntime) -> Result<(), Fail> {
     let directory = Answer::Opens(FileKind::Directory);
-    let left = obeyed(rt, "dcmdump a", directory, PIPE)?;
-    expect_left(&rt, &left, 4, NO_INPUT, false);
-    let left = obeyed(rt, "dcmcopy a b", FILE, PIPE)?;
+    let left = obeyed(rt.alloc(), "dcmdump a", directory, PIPE)?;
+    expect_left(&left, 4, NO_INPUT, false)?;
+    let left = obeyed(rt.alloc(), "dcmcopy a b", FILE, PIPE)?;
     let line = b"dcmtools: V1 at word 1: unknown tool\n";
-    expect_left(&rt, &left, 1, line, false);
-    let left = obeyed(rt, "dcmconv a b", FILE, PIPE)?;
-    expect_left(&rt, &left, 4, READ, true);
-    Ok(())
+    expect_left(&left, 1, line, false)?;
+    let left = obeyed(rt.alloc(), "dcmconv a b", FILE, PIPE)?;
+    expect_left(&left, 4, READ, true)
 }
 
 /// Words, kinds of the input and of the output, and the line where they are not used together. With calls on the devices the
@@ -275,8 +266,8 @@ fn clashes() -> [(&'static str, Answer, Answer, &'static [u8]); 8] {
 #[test]
 fn devices_that_are_one_file(rt: HostRuntime) -> Result<(), Fail> {
     for (words, input, output, line) in clashes() {
-        let left = obeyed(rt, words, input, output)?;
-        expect_left(&rt, &left, 4, line, line == READ);
+        let left = obeyed(rt.alloc(), words, input, output)?;
+        expect_left(&left, 4, line, line == READ)?;
     }
     Ok(())
 }
@@ -284,12 +275,11 @@ fn devices_that_are_one_file(rt: HostRuntime) -> Result<(), Fail> {
 #[test]
 fn texts_that_fail(rt: HostRuntime) -> Result<(), Fail> {
     let denied = Answer::Fails(ErrorKind::PermissionDenied);
-    let left = obeyed(rt, "help", FILE, denied)?;
-    expect_left(&rt, &left, 4, NO_OUTPUT, false);
-    let left = obeyed(rt, "dcmdump --version", FILE, PIPE)?;
+    let left = obeyed(rt.alloc(), "help", FILE, denied)?;
+    expect_left(&left, 4, NO_OUTPUT, false)?;
+    let left = obeyed(rt.alloc(), "dcmdump --version", FILE, PIPE)?;
     let line = b"dcmtools: output failed\n";
-    expect_left(&rt, &left, 4, line, true);
-    Ok(())
+    expect_left(&left, 4, line, true)
 }
 
 /// Which call of a file fails.
@@ -376,30 +366,26 @@ fn written(holds_bytes: bool, failing: Call) -> ([bool; 3], Calls) {
     ([first, second, flushed], calls.get())
 }
 
-fn expect_calls(abort: &impl Abort, left: ([bool; 3], Calls), well: [bool; 3], counts: [usize; 3]) {
+fn expect_calls(left: ([bool; 3], Calls), well: [bool; 3], counts: [usize; 3]) -> Result<(), Fail> {
     let [empties, writes, flushes] = counts;
     let calls = Calls {
         empties,
         writes,
         flushes,
     };
-    holds(abort, "a file", "results", left.0 == well);
-    holds(abort, "a file", "calls", left.1 == calls);
+    holds("a file", "results", left.0 == well)?;
+    holds("a file", "calls", left.1 == calls)
 }
 
 #[test]
-fn output_files(rt: HostRuntime) {
+fn output_files() -> Result<(), Fail> {
     let well = [true, true, true];
-    expect_calls(&rt, written(true, Call::None), well, [1, 2, 1]);
-    expect_calls(&rt, written(false, Call::None), well, [0, 2, 1]);
+    expect_calls(written(true, Call::None), well, [1, 2, 1])?;
+    expect_calls(written(false, Call::None), well, [0, 2, 1])?;
     let unwritten = [false, false, true];
-    expect_calls(&rt, written(true, Call::HoldsBytes), unwritten, [0, 0, 1]);
-    expect_calls(&rt, written(true, Call::Empty), unwritten, [2, 0, 1]);
-    expect_calls(&rt, written(true, Call::Write), unwritten, [1, 2, 1]);
-    expect_calls(
-        &rt,
-        written(true, Call::Flush),
-        [true, true, false],
-        [1, 2, 1],
-    );
+    expect_calls(written(true, Call::HoldsBytes), unwritten, [0, 0, 1])?;
+    expect_calls(written(true, Call::Empty), unwritten, [2, 0, 1])?;
+    expect_calls(written(true, Call::Write), unwritten, [1, 2, 1])?;
+    let unflushed = [true, true, false];
+    expect_calls(written(true, Call::Flush), unflushed, [1, 2, 1])
 }

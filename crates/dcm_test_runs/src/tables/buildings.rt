@@ -1,5 +1,5 @@
 // Files that are built from the lines of a dump.
-use super::rows::{EMPTY, Row};
+use crate::rows::{EMPTY, Row};
 use dcm_test_devices::Start;
 
 /// Lines that build a file.
@@ -170,7 +170,7 @@ const FAULTS: [Row; 10] = [
     },
 ];
 
-/// All files that are built.
+/// Files that are built from lines.
 pub fn buildings() -> [&'static [Row]; 2] {
     [&BUILT, &FAULTS]
 }

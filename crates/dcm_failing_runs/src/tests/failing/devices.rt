@@ -1,14 +1,14 @@
 // Devices that fail, and what a run over them leaves.
 ghost use Rattle.std.specs.Prelude.{◌≡◌, Some};
 
-use crate::tests::{bytes_in, job_status, memory_out};
 use dcm_base::{Device, DeviceIn, ReadFailed, Std, Watched};
 use dcm_cli::Job;
 use dcm_test_devices::{ALL, Failure, Steps};
+use dcm_test_runs::{bytes_in, job_status, memory_out};
+use std::alloc::{AllocError, Global};
 use std::cell::Cell;
 use std::io;
 use std::io::{ErrorKind, Write};
-use std::test::Fail;
 
 /// The room for an output, and for a line.
 const ROOM: usize = 3000;
@@ -33,14 +33,14 @@ struct FailWriter<'a> {
 
 impl<'a> FailWriter<'a> {
     fn new(
-        rt: HostRuntime,
+        alloc: Global,
         good: usize,
         failure: Failure,
         flushes_well: bool,
         clock: &'a Cell<usize>,
     ) -> Self {
         FailWriter {
-            bytes: Vec::new(rt.alloc()),
+            bytes: Vec::new(alloc),
             good,
             failure,
             flushes_well,
@@ -167,16 +167,16 @@ pub struct Left {
 }
 
 /// Runs a job over devices of which so many calls go well.
-pub fn run_over(rt: HostRuntime, job: &Job, input: &[u8], good: Good) -> Left {
+pub fn run_over(alloc: Global, job: &Job, input: &[u8], good: Good) -> Left {
     let clock = Cell::new(0);
     let mut input = Watched::new(Std::new(Steps {
         rest: input,
         step: 1,
         good: good.reads,
     }));
-    let out = FailWriter::new(rt, good.writes, good.failure, good.flush, &clock);
+    let out = FailWriter::new(alloc, good.writes, good.failure, good.flush, &clock);
     let mut out = Watched::new(Std::new(out));
-    let errors = FailWriter::new(rt, good.lines, good.failure, true, &clock);
+    let errors = FailWriter::new(alloc, good.lines, good.failure, true, &clock);
     let mut errors = Watched::new(Std::new(errors));
     let status = job_status(job, &mut input, &mut out, &mut errors);
     let wrote = out.into_device().into_inner();
@@ -193,14 +193,14 @@ pub fn run_over(rt: HostRuntime, job: &Job, input: &[u8], good: Good) -> Left {
 }
 
 /// What is written where reading fails after so many bytes, by a run that is proved to write exactly what is sure of them.
-pub fn sure_of(rt: HostRuntime, job: &Job, input: &[u8], read: usize) -> Result<Vec<u8>, Fail> {
+pub fn sure_of(alloc: Global, job: &Job, input: &[u8], read: usize) -> Result<Vec<u8>, AllocError> {
     let mut input = Watched::new(FailMemory {
         rest: input,
         good: read,
         failed: false,
     });
-    let mut out = memory_out(rt, ROOM)?;
-    let mut errors = memory_out(rt, ROOM)?;
+    let mut out = memory_out(alloc, ROOM)?;
+    let mut errors = memory_out(alloc, ROOM)?;
     job_status(job, &mut input, &mut out, &mut errors);
-    bytes_in(rt, out.device())
+    bytes_in(alloc, out.device())
 }

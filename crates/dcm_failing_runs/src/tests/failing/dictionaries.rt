@@ -1,26 +1,26 @@
 // Runs with the whole dictionary over devices that fail.
 use super::{expect_written, first_of, reads_fail, tells_fail, writes_fail};
-use crate::tests::dictionaries::dictionaries;
+use dcm_test_runs::dictionaries;
 use std::test::Fail;
 
 #[test]
 fn reading_fails(rt: HostRuntime) -> Result<(), Fail> {
-    reads_fail(rt, &rt, &dictionaries(), true)
+    reads_fail(rt.alloc(), &dictionaries(), true)
 }
 
 #[test]
 fn reading_and_flushing_fail(rt: HostRuntime) -> Result<(), Fail> {
-    reads_fail(rt, &rt, &dictionaries(), false)
+    reads_fail(rt.alloc(), &dictionaries(), false)
 }
 
 #[test]
 fn writing_fails(rt: HostRuntime) -> Result<(), Fail> {
-    writes_fail(rt, &rt, &dictionaries())
+    writes_fail(rt.alloc(), &dictionaries())
 }
 
 #[test]
 fn telling_fails(rt: HostRuntime) -> Result<(), Fail> {
-    tells_fail(rt, &rt, &dictionaries())
+    tells_fail(rt.alloc(), &dictionaries())
 }
 
 /// Of an implicit sequence that is written in explicit VR first the meta group is sure, with 172 bytes, then the head of the
@@ -38,5 +38,5 @@ fn what_is_sure_is_written(rt: HostRuntime) -> Result<(), Fail> {
         (194, 200),
         (195, 201),
     ];
-    expect_written(rt, &rt, first_of(&rt, conversions), &counts)
+    expect_written(rt.alloc(), first_of(conversions)?, &counts)
 }

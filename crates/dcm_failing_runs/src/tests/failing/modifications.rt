@@ -1,26 +1,26 @@
 // Modifications over devices that fail.
 use super::{expect_written, first_of, reads_fail, tells_fail, writes_fail};
-use crate::tests::modifications::modifications;
+use dcm_test_runs::modifications;
 use std::test::Fail;
 
 #[test]
 fn reading_fails(rt: HostRuntime) -> Result<(), Fail> {
-    reads_fail(rt, &rt, &modifications(), true)
+    reads_fail(rt.alloc(), &modifications(), true)
 }
 
 #[test]
 fn reading_and_flushing_fail(rt: HostRuntime) -> Result<(), Fail> {
-    reads_fail(rt, &rt, &modifications(), false)
+    reads_fail(rt.alloc(), &modifications(), false)
 }
 
 #[test]
 fn writing_fails(rt: HostRuntime) -> Result<(), Fail> {
-    writes_fail(rt, &rt, &modifications())
+    writes_fail(rt.alloc(), &modifications())
 }
 
 #[test]
 fn telling_fails(rt: HostRuntime) -> Result<(), Fail> {
-    tells_fail(rt, &rt, &modifications())
+    tells_fail(rt.alloc(), &modifications())
 }
 
 /// Of a new element in a file that is cut first the meta group is sure, with 172 bytes, and then the new
@@ -29,5 +29,5 @@ fn telling_fails(rt: HostRuntime) -> Result<(), Fail> {
 fn what_is_sure_is_written(rt: HostRuntime) -> Result<(), Fail> {
     let [new, ..] = modifications();
     let counts = [(173, 0), (174, 172), (195, 172), (196, 190)];
-    expect_written(rt, &rt, first_of(&rt, new), &counts)
+    expect_written(rt.alloc(), first_of(new)?, &counts)
 }

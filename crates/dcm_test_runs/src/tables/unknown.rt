@@ -1,5 +1,5 @@
 // Unknown values of known length: sequences, where the whole dictionary says so (PS3.5 6.2.2).
-use super::rows::{EMPTY, Row};
+use crate::rows::{EMPTY, Row};
 use dcm_test_devices::Start;
 
 /// Sequences, and values that are none.
@@ -307,7 +307,7 @@ const CONVERSIONS: [Row; 8] = [
     },
 ];
 
-/// All of them.
+/// Unknown sequences of known length.
 pub fn unknown() -> [&'static [Row]; 4] {
     [&SEQUENCES, &FAULTS, &EDITS, &CONVERSIONS]
 }

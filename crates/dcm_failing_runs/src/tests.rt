@@ -1,0 +1,5 @@
+mod cases;
+mod cuts;
+mod failing;
+mod opening;
+mod rooms;

@@ -1,0 +1,11 @@
+// Tables of rows.
+pub mod buildings;
+pub mod conversions;
+pub mod dictionaries;
+pub mod dumps;
+pub mod identities;
+pub mod identity_faults;
+pub mod identity_put;
+pub mod modifications;
+pub mod signs;
+pub mod unknown;
