@@ -20,12 +20,12 @@ fn early_end(alloc: Global, read: usize) -> Result<Vec<u8>, AllocError> {
 
 /// Whether a row writes a head. Where its whole input is at fault before that, a cut one may be a file without elements.
 fn writes_head(row: &Row) -> bool {
-    row.header != Start::Nothing
+    !matches!(row.header, Start::Nothing)
 }
 
 /// Whether the meta group of a row's file has its usual form. One of another form may end at a cut.
 fn has_usual_group(row: &Row) -> bool {
-    row.start != Start::Nothing
+    !matches!(row.start, Start::Nothing)
 }
 
 /// Whether a row puts elements at the end of a data set, which a cut may bring forward.
