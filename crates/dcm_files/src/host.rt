@@ -162,10 +162,7 @@ fn buffered_stdout(rt: HostRuntime) -> io::Result<Opened<HostOutput>>
 fn create_file(rt: HostRuntime, path: &str) -> io::Result<Opened<HostOutput>>
     ensures { IfOk result (λ opened. IsNew opened.device) }
 {
-    let file = OpenOptions::new()
-        .write(true)
-        .create(true)
-        .open(&rt, path)?;
+    let file = OpenOptions::new().write(true).create(true).open(&rt, path)?;
     let kind = kind_of(&file.metadata()?);
     buffered(rt, Right(OutputFile::new(file)), kind)
 }

@@ -3,9 +3,7 @@ ghost use Rattle.dcm_head.specs.MetaReading.{IsOpen};
 
 use arrayvec::ArrayVec;
 use dcm_base::{Coding, Dictionary, Fault, Length, MemOut, Stop, Syntax, Tag, Vr, Watched};
-use dcm_head::{
-    Head, HeadRead, Meta, MetaRead, SyntaxUid, read_head, write_head, write_meta,
-};
+use dcm_head::{Head, HeadRead, Meta, MetaRead, SyntaxUid, read_head, write_head, write_meta};
 use std::alloc::{AllocError, Global};
 use std::test::Fail;
 
