@@ -5,3 +5,5 @@ pub mod Numbers
 pub mod Pieces
 pub mod HighestFirst
 pub mod Buffers
+pub mod Woven
+pub mod InBlocks

@@ -1,5 +1,6 @@
 pub mod Swap
 pub mod Units
+pub mod Woven
 pub mod Display
 pub mod Plain
 pub mod Way

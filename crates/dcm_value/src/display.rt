@@ -1,18 +1,24 @@
 // What is shown of a value, cut or whole.
-ghost use Rattle.std.specs.Prelude.{◌≡◌, ◌==◌, ◌&&◌, nat_lt, ◌+◌, ◌-◌, ◌<◌, ◌≤◌, ◌++◌, length, take, replicate, List};
+ghost use Rattle.std.specs.Prelude.{◌≡◌, ◌==◌, ◌&&◌, nat_lt, ◌+◌, ◌-◌, ◌*◌, ◌/◌, ◌<◌, ◌≤◌, ◌++◌, length, take, replicate, List};
 ghost use Rattle.std.specs.Prelude.{ℕ, OnOk, true};
 ghost use Rattle.dcm_value.specs.Emits.{Emits};
 ghost use Rattle.dcm_base.specs.Dump.ValueText.{escaped, identified};
 ghost use Rattle.dcm_value.specs.Units.{separated_units};
+ghost use Rattle.dcm_value.specs.Swap.{IsUnit};
+ghost use Rattle.dcm_value.specs.Woven.{woven};
 ghost use Rattle.dcm_value.specs.Display as spec;
 
 use crate::escapes::{append_text, is_plain_text};
-use crate::units::{LONGEST, append_units, shown_unit};
+use crate::hexadecimal::{LANES, weave_blocks};
+use crate::units::{Kind, LONGEST, append_units, kind_of, shown_unit};
 use arrayvec::ArrayVec;
 use dcm_base::{DeviceOut, Mode, Syntax, Vr, Watched, WriteFailed, put_all, uid_name};
 
 /// The most bytes that are shown at a time.
 const TEXT: usize = 3072;
+
+/// The bytes that become text at a time by lanes.
+const WOVEN: usize = 960;
 
 /// What was shown of a value.
 #[derive(Drop)]
@@ -136,6 +142,49 @@ impl Shown {
 
     /// Shows units, each after a backslash.
     pub fn emit_units<W: DeviceOut>(
+        &mut self,
+        vr: Vr,
+        syntax: Syntax,
+        units: &[u8],
+        out: &mut Watched<W>,
+    ) -> Result<(), WriteFailed>
+        ensures { Emits W.DeviceOut out.old out.new (display_of self.old) (display_of self.new)
+            (separated_units vr syntax units.now) result }
+    {
+        if units.len() < LANES || kind_of(vr) != Kind::Hexadecimal {
+            return self.emit_singly(vr, syntax, units, out);
+        }
+        let (blocks, last) = units.split_at(units.len() / LANES * LANES);
+        self.emit_blocks(vr.unit(), !syntax.is_big(), blocks, out)?;
+        self.emit_singly(vr, syntax, last, out)
+    }
+
+    /// Shows units in hexadecimal, each after a backslash, sixteen bytes at a time.
+    fn emit_blocks<W: DeviceOut>(
+        &mut self,
+        size: usize,
+        is_turned: bool,
+        units: &[u8],
+        out: &mut Watched<W>,
+    ) -> Result<(), WriteFailed>
+        requires size { IsUnit size }
+        requires whole { 16 * (length units.now / 16) ≡ length units.now }
+        ensures { Emits W.DeviceOut out.old out.new (display_of self.old) (display_of self.new)
+            (woven size is_turned units.now) result }
+    {
+        let mut text = [0; TEXT];
+        let mut rest = units;
+        while !rest.is_empty() && !self.is_cut() {
+            let (block, after) = rest.split_at(rest.len().min(WOVEN));
+            weave_blocks(size, is_turned, block, &mut text);
+            self.emit(&text[..2 * block.len() + block.len() / size], out)?;
+            rest = after;
+        }
+        Ok(())
+    }
+
+    /// Shows units one by one, each after a backslash.
+    fn emit_singly<W: DeviceOut>(
         &mut self,
         vr: Vr,
         syntax: Syntax,

@@ -17,6 +17,7 @@
 mod digits;
 mod display;
 mod escapes;
+mod hexadecimal;
 mod lanes;
 pub mod laws;
 mod parts;

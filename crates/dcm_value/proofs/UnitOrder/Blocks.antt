@@ -60,7 +60,7 @@ blocks_end n count blocks k xs ys zs some whole so_far room size made =
     done ∙ swapped_turned n xs
 
 -- a fact of each list of sixteen
-each_of_sixteen : (P : List ℕ → Type 0) → ((a b c d e f g h i j k l m n o p : ℕ) → P (a ∷ b ∷ c ∷ d ∷ e ∷ f ∷ g ∷ h ∷ i ∷ j ∷ k ∷ l ∷ m ∷ n ∷ o ∷ p ∷ [])) → (xs : List ℕ) → length xs ≡ 16 → P xs
+pub each_of_sixteen : (P : List ℕ → Type 0) → ((a b c d e f g h i j k l m n o p : ℕ) → P (a ∷ b ∷ c ∷ d ∷ e ∷ f ∷ g ∷ h ∷ i ∷ j ∷ k ∷ l ∷ m ∷ n ∷ o ∷ p ∷ [])) → (xs : List ℕ) → length xs ≡ 16 → P xs
 each_of_sixteen P fact (a ∷ b ∷ c ∷ d ∷ e ∷ f ∷ g ∷ h ∷ i ∷ j ∷ k ∷ l ∷ m ∷ n ∷ o ∷ p ∷ []) size = fact a b c d e f g h i j k l m n o p
 each_of_sixteen P fact _ size = absurd (omega arith)
 

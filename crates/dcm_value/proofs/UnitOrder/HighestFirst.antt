@@ -81,7 +81,7 @@ kinds UT = of_ones (record { plain = plain_text; same = refl; some = lit< tt })
 kinds UV = of_ones (record { plain = plain_unsigned; same = refl; some = lit< tt })
 
 -- a unit
-one_high : (syntax : Syntax) (vr : Vr) → IsOne vr → (u : List ℕ) → length u ≡ unit vr → high_text (kind_of (shape vr)) (high syntax vr u) ≡ one_text vr syntax u
+pub one_high : (syntax : Syntax) (vr : Vr) → IsOne vr → (u : List ℕ) → length u ≡ unit vr → high_text (kind_of (shape vr)) (high syntax vr u) ≡ one_text vr syntax u
 one_high (implicit_in d) vr o u e = turned_text (shape vr) u (turned (unit vr) u) o.plain (sym (ap reverse (turned_unit (unit vr) o.some u e) ∙ reverse-reverse u))
 one_high (little_in d) vr o u e = turned_text (shape vr) u (turned (unit vr) u) o.plain (sym (ap reverse (turned_unit (unit vr) o.some u e) ∙ reverse-reverse u))
 one_high (big_in d) vr o u e = turned_text (shape vr) (turned (unit vr) u) u o.plain (turned_unit (unit vr) o.some u e)
@@ -119,7 +119,7 @@ turns_fours (suc n) v l =
     ∙ ap (λ x. map (turned 2) (units 4 x)) whole)
     (cases_lt (length v) 4)
 
-map_same : (us : List (List ℕ)) → map (λ u. u) us ≡ us
+pub map_same : (us : List (List ℕ)) → map (λ u. u) us ≡ us
 map_same [] = refl
 map_same (u ∷ us) = ap (λ xs. u ∷ xs) (map_same us)
 
@@ -135,14 +135,14 @@ high_tags (little_in d) v = turns_fours (length v) v (omega arith)
 high_tags (big_in d) v = sym (map_same (units 4 v))
 
 -- texts that are alike at each unit
-alike : (f g : List ℕ → List ℕ) (h : List ℕ → List ℕ) (k : ℕ) → ((u : List ℕ) → length u ≡ k → f (h u) ≡ g u) → (n : ℕ) (v : List ℕ) → n * k ≤ length v → separated f (map h (pieces n k v)) ≡ separated g (pieces n k v)
+pub alike : (f g : List ℕ → List ℕ) (h : List ℕ → List ℕ) (k : ℕ) → ((u : List ℕ) → length u ≡ k → f (h u) ≡ g u) → (n : ℕ) (v : List ℕ) → n * k ≤ length v → separated f (map h (pieces n k v)) ≡ separated g (pieces n k v)
 alike f g h k same zero v l = refl
 alike f g h k same (suc n) v l =
     let is_unit : length (take k v) ≡ k = omega (arith, length-take k v, suc-mul n k) in
     ap (λ xs. (92 ∷ xs) ++ separated f (map h (pieces n k (drop k v)))) (same (take k v) is_unit)
     ∙ ap (λ xs. (92 ∷ g (take k v)) ++ xs) (alike f g h k same n (drop k v) (omega (arith, length-drop k v, suc-mul n k)))
 
-whole_units : (k : ℕ) (v : List ℕ) → length v / k * k ≤ length v
+pub whole_units : (k : ℕ) (v : List ℕ) → length v / k * k ≤ length v
 whole_units k v = let e : length v / k * k ≡ k * (length v / k) = omega arith in omega (arith, mul-div-le k (length v))
 
 pub high_units : (syntax : Syntax) (vr : Vr) (v : List ℕ) → separated (high_text (kind_of (shape vr))) (units (shown_unit vr) (high syntax vr v)) ≡ separated (one_text vr syntax) (units (shown_unit vr) v)

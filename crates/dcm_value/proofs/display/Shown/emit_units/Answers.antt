@@ -1,49 +1,46 @@
-use Rattle.std.proofs.Common.{rules, ◌≡◌, ◌∙◌, ap, sym, refl, true, ◌++◌, ◌*◌, List, ℕ, length, min}
-use Rattle.dcm_value.specs.Display.{is_cut}
+use Rattle.std.proofs.Common.{rules, ◌≡◌, ◌*◌, ◌/◌, ℕ, length, not, List, refl}
+use Rattle.dcm_base.specs.Dump.ValueText.{shape}
+use Rattle.dcm_base.specs.Tables.Representation.{unit}
+use Rattle.dcm_base.specs.Tables.Syntax.{is_big}
+use Rattle.dcm_value.specs.declared.units.Kind.TheVariants.{Hexadecimal}
 use Rattle.dcm_value.specs.Shown.{display_of}
-use Rattle.dcm_base.specs.Tree.Value.{units}
-use Rattle.dcm_base.specs.Dump.ValueText.{shown_unit}
-use Rattle.dcm_value.specs.Units.{one_text, separated}
-use Rattle.dcm_value.proofs.UnitOrder.HighestFirst.{shown_some}
-use Rattle.dcm_value.proofs.UnitOrder.Pieces.{units_split}
-use Rattle.dcm_value.proofs.Displays.Emits.{part_starts, part_more, part_failed, part_cut, settled_of, cut_stays}
+use Rattle.dcm_value.specs.Swap.{IsUnit}
+use Rattle.dcm_value.specs.Units.{kind_of, separated_units}
+use Rattle.dcm_value.specs.Woven.{woven}
+use Rattle.dcm_value.proofs.UnitOrder.InBlocks.{units_in_blocks}
+use Rattle.dcm_value.proofs.Displays.Emits.{part_starts, part_more, part_failed, part_last, settled_of}
 use Rattle.dcm_value.proofs.display.Shown.emit_units.Goals as goal
 
-pub loop-self-init : goal.loop-self-init
-loop-self-init g c =
+pub returns-in_err-emit_blocks : goal.returns-in_err-emit_blocks
+returns-in_err-emit_blocks g c =
     let now = c.args.self.now in
-    record { part = part_starts _ _ _ (settled_of now.mode now.count now.front.items now.capped now.filled); failed = refl }
-
-pub returns-else-not-is_cut : goal.returns-else-not-is_cut
-returns-else-not-is_cut g c =
-    let s = c.loop-self.self in
-    let cut : is_cut (display_of s) ≡ true = sym c.is_cut.ensures ∙ c.if-not-is_cut.false in
-    let all = part_cut _ c.loop-self.invariant.part cut (cut_stays s.mode s.count s.front.items _ s.capped s.filled cut) in
-    record { state = all.0; bytes = all.1; failed = search rules }
-
-pub returns-in_err-emit : goal.returns-in_err-emit
-returns-in_err-emit g c =
     let vr = c.args.vr in
-    let one : List ℕ → List ℕ = one_text vr c.args.syntax in
-    let block : List ℕ = c.split_at.result.0.now in
-    let after : List ℕ = c.split_at.result.1.now in
-    let text : c.as_slice.result.now ≡ separated one (units (shown_unit vr) block) = c.as_slice.ensures.value ∙ c.append_units.ensures.text ∙ ap (λ xs. xs ++ separated one (units (shown_unit vr) block)) c.new-text.ensures in
-    let size : c.min.result ≡ min (length c.loop-self.rest.now) (128 * shown_unit vr) = c.min.ensures ∙ ap (λ k. min (length c.loop-self.rest.now) (128 * k)) c.shown_unit.ensures.value in
-    let split = units_split (shown_unit vr) (shown_some vr) one 128 c.min.result c.loop-self.rest.now block after size c.split_at.ensures.front c.split_at.ensures.back in
-    let parts = split ∙ ap (λ xs. xs ++ separated one (units (shown_unit vr) after)) (sym text) in
-    record { state = search rules; bytes = part_failed _ (c.as_slice.result.now) _ _ _ c.loop-self.invariant.part parts c.from_residual.ensures.0 c.in_err-emit.ensures.bytes; failed = search rules }
+    let syntax = c.args.syntax in
+    let front : List ℕ = c.split_at.result.0.now in
+    let back : List ℕ = c.split_at.result.1.now in
+    let size : ℕ = c.unit.result in
+    let is : IsUnit size = search rules in
+    let same : size ≡ unit vr = search rules in
+    let big : c.is_big.result ≡ is_big syntax = search rules in
+    let kind : kind_of (shape vr) ≡ Hexadecimal = search rules in
+    let parts = units_in_blocks syntax vr size (length c.args.units.now / 16 * 16) c.is_big.result c.args.units.now front back is same big kind refl c.split_at.ensures.front c.split_at.ensures.back in
+    let starts = part_starts (display_of now) _ _ (settled_of now.mode now.count now.front.items now.capped now.filled) in
+    record { state = search rules; bytes = part_failed _ (woven size (not c.is_big.result) front) _ _ _ starts parts c.from_residual.ensures.0 c.in_err-emit_blocks.ensures.bytes; failed = search rules }
 
-pub loop-self-preserved : goal.loop-self-preserved
-loop-self-preserved g c =
+pub returns : goal.returns
+returns g c =
+    let now = c.args.self.now in
     let vr = c.args.vr in
-    let one : List ℕ → List ℕ = one_text vr c.args.syntax in
-    let block : List ℕ = c.split_at.result.0.now in
-    let after : List ℕ = c.split_at.result.1.now in
-    let text : c.as_slice.result.now ≡ separated one (units (shown_unit vr) block) = c.as_slice.ensures.value ∙ c.append_units.ensures.text ∙ ap (λ xs. xs ++ separated one (units (shown_unit vr) block)) c.new-text.ensures in
-    let size : c.min.result ≡ min (length c.loop-self.rest.now) (128 * shown_unit vr) = c.min.ensures ∙ ap (λ k. min (length c.loop-self.rest.now) (128 * k)) c.shown_unit.ensures.value in
-    let split = units_split (shown_unit vr) (shown_some vr) one 128 c.min.result c.loop-self.rest.now block after size c.split_at.ensures.front c.split_at.ensures.back in
-    let parts = split ∙ ap (λ xs. xs ++ separated one (units (shown_unit vr) after)) (sym text) in
-    record {
-      part = part_more _ _ (c.as_slice.result.now) _ _ c.loop-self.invariant.part parts c.in_ok-emit.ensures.state c.in_ok-emit.ensures.bytes;
-      failed = c.in_ok-emit.ensures.failed ∙ c.loop-self.invariant.failed;
-    }
+    let syntax = c.args.syntax in
+    let front : List ℕ = c.split_at.result.0.now in
+    let back : List ℕ = c.split_at.result.1.now in
+    let size : ℕ = c.unit.result in
+    let is : IsUnit size = search rules in
+    let same : size ≡ unit vr = search rules in
+    let big : c.is_big.result ≡ is_big syntax = search rules in
+    let kind : kind_of (shape vr) ≡ Hexadecimal = search rules in
+    let parts = units_in_blocks syntax vr size (length c.args.units.now / 16 * 16) c.is_big.result c.args.units.now front back is same big kind refl c.split_at.ensures.front c.split_at.ensures.back in
+    let starts = part_starts (display_of now) _ _ (settled_of now.mode now.count now.front.items now.capped now.filled) in
+    let next = part_more _ _ (woven size (not c.is_big.result) front) (separated_units vr syntax back) _ starts parts c.in_ok-emit_blocks.ensures.state c.in_ok-emit_blocks.ensures.bytes in
+    let last = part_last _ _ _ _ next c.emit_singly-2.ensures.state c.emit_singly-2.ensures.bytes in
+    record { state = last.0; bytes = last.1; failed = search rules }

@@ -4,7 +4,7 @@ use Rattle.dcm_base.specs.Dump.ValueText.{shown_unit}
 use Rattle.dcm_value.specs.Shown.{display_of}
 use Rattle.dcm_value.specs.Units.{one_text, separated}
 use Rattle.dcm_value.proofs.Displays.Emits.{PartShown}
-use Rattle.dcm_value.proofs.display.Shown.emit_units.Given as goal
+use Rattle.dcm_value.proofs.display.Shown.emit_singly.Given as goal
 
 -- a part of the units is shown
 abbrev pub invariant-loop-self : goal.invariant-loop-self
