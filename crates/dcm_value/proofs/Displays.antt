@@ -12,3 +12,4 @@ pub mod TextLaws
 pub mod WholeUnits
 pub mod TextSteps
 pub mod UpperDigits
+pub mod TextLanes

@@ -125,19 +125,31 @@ impl Shown {
         ensures { Emits W.DeviceOut out.old out.new (display_of self.old) (display_of self.new)
             (escaped bytes.now) result }
     {
-        if bytes.len() <= TEXT / 3 && is_plain_text(bytes) {
-            return self.emit(bytes, out);
-        }
-        let mut text: ArrayVec<u8, TEXT> = ArrayVec::new();
         let mut rest = bytes;
         while !rest.is_empty() && !self.is_cut() {
             let (block, after) = rest.split_at(rest.len().min(TEXT / 3));
-            text.clear();
-            append_text(block, &mut text);
-            self.emit(text.as_slice(), out)?;
+            self.emit_part(block, out)?;
             rest = after;
         }
         Ok(())
+    }
+
+    /// Shows a part of a text. One that is plain goes out from where it is.
+    fn emit_part<W: DeviceOut>(
+        &mut self,
+        bytes: &[u8],
+        out: &mut Watched<W>,
+    ) -> Result<(), WriteFailed>
+        requires { 3 * length bytes.now ≤ TEXT }
+        ensures { Emits W.DeviceOut out.old out.new (display_of self.old) (display_of self.new)
+            (escaped bytes.now) result }
+    {
+        if is_plain_text(bytes) {
+            return self.emit(bytes, out);
+        }
+        let mut text: ArrayVec<u8, TEXT> = ArrayVec::new();
+        append_text(bytes, &mut text);
+        self.emit(text.as_slice(), out)
     }
 
     /// Shows units, each after a backslash.

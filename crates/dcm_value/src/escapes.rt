@@ -1,11 +1,15 @@
 // The bytes of a text as a dump shows them.
-ghost use Rattle.std.specs.Prelude.{◌≡◌, ◌≤◌, ◌+◌, ◌*◌, ◌++◌, ◌/◌, ◌%◌, ◌==◌, ◌&&◌, if◌then◌else◌, [], ◌∷◌, length};
+ghost use Rattle.std.specs.Prelude.{◌≡◌, ◌≤◌, ◌+◌, ◌*◌, ◌++◌, ◌/◌, ◌%◌, ◌==◌, ◌&&◌, if◌then◌else◌, [], ◌∷◌, length, not, nat_lt};
 ghost use Rattle.std.specs.Prelude.{count_by};
 ghost use Rattle.dcm_base.specs.Dump.ValueText as spec;
 ghost use Rattle.dcm_value.specs.Plain.{is_plain_byte};
-ghost use Rattle.std.specs.List.{list_all};
+ghost use Rattle.std.specs.List.{list_all, list_any};
 
 use arrayvec::ArrayVec;
+use std::simd::prelude::*;
+
+/// The bytes of a text that are looked at together. Most texts are short, so there are no more.
+const LANES: usize = 8;
 
 /// The two digits of a byte, in upper case.
 fn upper_digits(byte: u8) -> [u8; 2]
@@ -24,11 +28,49 @@ fn is_plain(byte: u8) -> bool
     byte >= 32 && byte != 127 && byte != b'%' && byte != b']'
 }
 
-/// Whether a text is shown as it is.
-pub fn is_plain_text(bytes: &[u8]) -> bool
+/// Whether a control is among eight bytes.
+#[inline(always)]
+fn has_control(bytes: u8x8) -> bool
+    ensures { result ≡ list_any (λ b. nat_lt b 32) bytes }
+{
+    bytes.simd_lt(u8x8::splat(32)).to_bitmask() != 0
+}
+
+/// Whether this byte is among eight bytes.
+#[inline(always)]
+fn has_byte(bytes: u8x8, byte: u8) -> bool
+    ensures { result ≡ list_any (λ b. b == byte) bytes }
+{
+    bytes.simd_eq(u8x8::splat(byte)).to_bitmask() != 0
+}
+
+/// Whether one of eight bytes of a text is not shown as it is.
+#[inline(always)]
+fn has_escapes(bytes: u8x8) -> bool
+    ensures { result ≡ not (list_all is_plain_byte bytes) }
+{
+    has_control(bytes) | has_byte(bytes, 127) | has_byte(bytes, b'%') | has_byte(bytes, b']')
+}
+
+/// Whether a text is shown as it is, byte by byte.
+fn is_plain_singly(bytes: &[u8]) -> bool
     ensures { result ≡ list_all is_plain_byte bytes.now }
 {
     bytes.iter().all(|byte| is_plain(*byte))
+}
+
+/// Whether a text is shown as it is. Eight bytes are looked at together.
+pub fn is_plain_text(bytes: &[u8]) -> bool
+    ensures { result ≡ list_all is_plain_byte bytes.now }
+{
+    let blocks = bytes.len() / LANES;
+    for block in 0..blocks {
+        if has_escapes(u8x8::from_slice(&bytes[LANES * block..])) {
+            return false;
+        }
+    }
+    let (_, last) = bytes.split_at(LANES * blocks);
+    is_plain_singly(last)
 }
 
 /// A byte of a text as a dump shows it: a control, `%` and `]` by `%` and two digits in upper case, and each other byte
@@ -57,20 +99,72 @@ fn append_escaped<const N: usize>(byte: u8, text: &mut ArrayVec<u8, N>)
     }
 }
 
-/// Some bytes more.
-pub fn append_text<const N: usize>(bytes: &[u8], text: &mut ArrayVec<u8, N>)
+/// Some bytes more, byte by byte.
+fn append_singly<const N: usize>(bytes: &[u8], text: &mut ArrayVec<u8, N>)
     requires { length text.old.items + 3 * length bytes.now ≤ N }
-    ensures { text.new.items ≡ text.old.items ++ spec.escaped bytes.now }
+    ensures items { text.new.items ≡ text.old.items ++ spec.escaped bytes.now }
+    ensures len { length text.new.items ≤ length text.old.items + 3 * length bytes.now }
 {
     for byte in bytes {
         append_escaped(*byte, text);
     }
 }
 
-/// How many backslashes there are.
-pub fn backslashes(bytes: &[u8]) -> usize
+/// Eight bytes more. Plain ones are copied together.
+#[inline(always)]
+fn append_eight<const N: usize>(bytes: &[u8], text: &mut ArrayVec<u8, N>)
+    requires eight { length bytes.now ≡ 8 }
+    requires room { length text.old.items + 24 ≤ N }
+    ensures items { text.new.items ≡ text.old.items ++ spec.escaped bytes.now }
+    ensures len { length text.new.items ≤ length text.old.items + 24 }
+{
+    if has_escapes(u8x8::from_slice(bytes)) {
+        append_singly(bytes, text);
+    } else {
+        let _ = text.try_extend_from_slice(bytes);
+    }
+}
+
+/// Some bytes more.
+pub fn append_text<const N: usize>(bytes: &[u8], text: &mut ArrayVec<u8, N>)
+    requires { length text.old.items + 3 * length bytes.now ≤ N }
+    ensures { text.new.items ≡ text.old.items ++ spec.escaped bytes.now }
+{
+    let blocks = bytes.len() / LANES;
+    for block in 0..blocks {
+        append_eight(&bytes[LANES * block..LANES * block + LANES], text);
+    }
+    let (_, last) = bytes.split_at(LANES * blocks);
+    append_singly(last, text);
+}
+
+/// How many backslashes there are in eight bytes.
+#[inline(always)]
+fn backslashes_in(bytes: u8x8) -> u32
+    ensures count { result ≡ count_by (λ b. b == 92) bytes }
+    ensures bound { result ≤ 8 }
+{
+    bytes.simd_eq(u8x8::splat(b'\\')).to_bitmask().count_ones()
+}
+
+/// How many backslashes there are, byte by byte.
+fn backslashes_singly(bytes: &[u8]) -> usize
     ensures count { result ≡ count_by (λ b. b == 92) bytes.now }
     ensures bound { result ≤ length bytes.now }
 {
     bytes.iter().filter(|byte| **byte == b'\\').count()
+}
+
+/// How many backslashes there are. Eight bytes are looked at together.
+pub fn backslashes(bytes: &[u8]) -> usize
+    ensures count { result ≡ count_by (λ b. b == 92) bytes.now }
+    ensures bound { result ≤ length bytes.now }
+{
+    let blocks = bytes.len() / LANES;
+    let mut count = 0;
+    for block in 0..blocks {
+        count += backslashes_in(u8x8::from_slice(&bytes[LANES * block..])) as usize;
+    }
+    let (_, last) = bytes.split_at(LANES * blocks);
+    count + backslashes_singly(last)
 }

@@ -1,0 +1,134 @@
+-- Eight bytes of a text at a time.
+use Rattle.std.proofs.Common.{◌≡◌, ◌≤◌, ◌<◌, ℕ, zero, suc, ◌+◌, ◌*◌, ◌==◌, ◌&&◌, ◌||◌, not, cond, eqb, eqb-true, ltb, Bool, true, false, List, [], ◌∷◌, ◌++◌, length, take, drop, take-add, map, replicate, refl, sym, ap, ◌∙◌, arith, append_assoc}
+use Rattle.std.specs.Prelude.{nat_lt, count_by}
+use Rattle.std.specs.List.{list_all, list_any}
+use Rattle.std.proofs.lemmas.List.{take-append-drop}
+use Rattle.std.proofs.lemmas.List.Sums.{sum_by-append}
+use lib.Lanes.{chunk, mask_l}
+use Rattle.std.proofs.lemmas.Grind.{flat_map-append}
+use Rattle.dcm_base.specs.Dump.ValueText.{escape, escaped}
+use Rattle.dcm_value.specs.Plain.{is_plain_byte}
+
+-- a mask with a bit
+abbrev pub is_set : ℕ → Bool
+is_set n = not (n == 0)
+
+set_some : (n : ℕ) → 0 < n → is_set n ≡ true
+set_some n some = go (n == 0) refl
+  where
+    go : (t : Bool) → (n == 0) ≡ t → not t ≡ true
+    go true e = absurd (omega (arith, eqb-true n 0 e))
+    go false e = refl
+
+set_more : (n : ℕ) → is_set (0 + 2 * n) ≡ is_set n
+set_more zero = refl
+set_more (suc n) = set_some (0 + 2 * suc n) (omega arith) ∙ sym (set_some (suc n) (omega arith))
+
+set_next : (t rest : Bool) (n : ℕ) → is_set n ≡ rest → is_set (cond t 1 0 + 2 * n) ≡ (t || rest)
+set_next true rest n e = set_some (1 + 2 * n) (omega arith)
+set_next false rest n e = set_more n ∙ e
+
+any_set : (p : ℕ → Bool) (v : List ℕ) → is_set (mask_l (map p v)) ≡ list_any p v
+any_set p [] = refl
+any_set p (x ∷ xs) = set_next (p x) (list_any p xs) (mask_l (map p xs)) (any_set p xs)
+
+-- two tests are one
+or_swap : (a b c d : Bool) → (a || c) || (b || d) ≡ (a || b) || (c || d)
+or_swap true true c d = refl
+or_swap true false true d = refl
+or_swap true false false d = refl
+or_swap false true true d = refl
+or_swap false true false d = refl
+or_swap false false c d = refl
+
+any_or : (p q : ℕ → Bool) (v : List ℕ) → list_any p v || list_any q v ≡ list_any (λ x. p x || q x) v
+any_or p q [] = refl
+any_or p q (x ∷ xs) = or_swap (p x) (q x) (list_any p xs) (list_any q xs) ∙ ap (λ t. (p x || q x) || t) (any_or p q xs)
+
+any_not : (p : ℕ → Bool) (v : List ℕ) → list_any p v ≡ not (list_all (λ x. not (p x)) v)
+any_not p [] = refl
+any_not p (x ∷ xs) = go (p x) (any_not p xs)
+  where
+    go : (t : Bool) → list_any p xs ≡ not (list_all (λ x. not (p x)) xs) → (t || list_any p xs) ≡ not (not t && list_all (λ x. not (p x)) xs)
+    go true e = refl
+    go false e = e
+
+abbrev escapes : ℕ → Bool
+escapes b = nat_lt b 32 || b == 127 || b == 37 || b == 93
+
+-- the mask of a test of eight bytes
+pub mask_any : (t : ℕ → ℕ → Bool) (v : List ℕ) (n y : ℕ) → length v ≡ 8 → n ≡ mask_l (map (λ x. t x y) v) → is_set n ≡ list_any (λ x. t x y) v
+mask_any t v n y long e = ap is_set e ∙ any_set (λ x. t x y) v
+
+pub escapes_any : (v : List ℕ) → (list_any (λ x. ltb x 32) v || list_any (λ x. eqb x 127) v || list_any (λ x. eqb x 37) v || list_any (λ x. eqb x 93) v) ≡ not (list_all is_plain_byte v)
+escapes_any v =
+    let controls : ℕ → Bool = λ x. nat_lt x 32 in
+    let deletes : ℕ → Bool = λ x. x == 127 in
+    let percents : ℕ → Bool = λ x. x == 37 in
+    let brackets : ℕ → Bool = λ x. x == 93 in
+    ap (λ t. (t || list_any percents v) || list_any brackets v) (any_or controls deletes v)
+    ∙ ap (λ t. t || list_any brackets v) (any_or (λ x. controls x || deletes x) percents v)
+    ∙ any_or (λ x. (controls x || deletes x) || percents x) brackets v
+    ∙ any_not escapes v
+
+-- what is plain piece by piece
+pub all_append : (p : ℕ → Bool) (v w : List ℕ) → list_all p (v ++ w) ≡ (list_all p v && list_all p w)
+all_append p [] w = refl
+all_append p (x ∷ xs) w = go (p x) (all_append p xs w)
+  where
+    go : (t : Bool) → list_all p (xs ++ w) ≡ (list_all p xs && list_all p w) → (t && list_all p (xs ++ w)) ≡ ((t && list_all p xs) && list_all p w)
+    go true e = e
+    go false e = refl
+
+pub or_alike : {a b c d w x y z : Bool} → a ≡ w → b ≡ x → c ≡ y → d ≡ z → ((a || b) || c) || d ≡ ((w || x) || y) || z
+or_alike p q r s = cc
+
+-- eight bytes more that are plain, and the last ones
+pub plain_more : (p : ℕ → Bool) (v : List ℕ) (n m : ℕ) → list_all p (take n v) ≡ true → list_all p (chunk n m v) ≡ true → list_all p (take (n + m) v) ≡ true
+plain_more p v n m so_far next = ap (list_all p) (take-add n m v) ∙ all_append p (take n v) (chunk n m v) ∙ ap (λ t. t && list_all p (chunk n m v)) so_far ∙ next
+
+pub plain_not : (p : ℕ → Bool) (v : List ℕ) (n m : ℕ) → list_all p (chunk n m v) ≡ false → list_all p v ≡ false
+plain_not p v n m fails =
+    ap (list_all p) (sym (take-append-drop n v))
+    ∙ all_append p (take n v) (drop n v)
+    ∙ ap (λ t. list_all p (take n v) && t) (ap (list_all p) (sym (take-append-drop m (drop n v))) ∙ all_append p (chunk n m v) (drop m (drop n v)) ∙ ap (λ t. t && list_all p (drop m (drop n v))) fails)
+    ∙ and_false (list_all p (take n v))
+  where
+    and_false : (t : Bool) → (t && false) ≡ false
+    and_false true = refl
+    and_false false = refl
+
+pub plain_all : (p : ℕ → Bool) (v : List ℕ) (n : ℕ) → list_all p (take n v) ≡ true → list_all p v ≡ list_all p (drop n v)
+plain_all p v n so_far = ap (list_all p) (sym (take-append-drop n v)) ∙ all_append p (take n v) (drop n v) ∙ ap (λ t. t && list_all p (drop n v)) so_far
+
+-- backslashes of eight bytes more, and of the last ones
+pub count_more : (p : ℕ → Bool) (v : List ℕ) (n m : ℕ) → count_by p (take (n + m) v) ≡ count_by p (take n v) + count_by p (chunk n m v)
+count_more p v n m = ap (count_by p) (take-add n m v) ∙ sum_by-append (λ x. cond (p x) 1 0) (take n v) (chunk n m v)
+
+pub count_all : (p : ℕ → Bool) (v : List ℕ) (n : ℕ) → count_by p v ≡ count_by p (take n v) + count_by p (drop n v)
+count_all p v n = ap (count_by p) (sym (take-append-drop n v)) ∙ sum_by-append (λ x. cond (p x) 1 0) (take n v) (drop n v)
+
+pub none_escaped : {t s : Bool} → t ≡ not s → t ≡ false → s ≡ true
+none_escaped {t} {s} e f = go s (sym f ∙ e)
+  where
+    go : (u : Bool) → false ≡ not u → u ≡ true
+    go true h = refl
+    go false h = cc
+
+pub some_escaped : {t s : Bool} → t ≡ not s → t ≡ true → s ≡ false
+some_escaped {t} {s} e f = go s (sym f ∙ e)
+  where
+    go : (u : Bool) → true ≡ not u → u ≡ false
+    go true h = cc
+    go false h = refl
+
+-- eight bytes more behind those that are shown
+pub escaped_more : (block n : ℕ) (v before text after : List ℕ) → n ≡ 8 → text ≡ before ++ escaped (take (8 * block) v) → after ≡ text ++ escaped (take n (drop (8 * block) v)) → after ≡ before ++ escaped (take (8 * (block + 1)) v)
+escaped_more block n v before text after eight so_far more =
+    let goes : 8 * (block + 1) ≡ 8 * block + n = omega arith in
+    let whole : escaped (take (8 * (block + 1)) v) ≡ escaped (take (8 * block) v) ++ escaped (take n (drop (8 * block) v)) =
+    ap (λ k. escaped (take k v)) goes ∙ ap escaped (take-add (8 * block) n v) ∙ flat_map-append escape (take (8 * block) v) (take n (drop (8 * block) v)) in
+    more
+    ∙ ap (λ xs. xs ++ escaped (take n (drop (8 * block) v))) so_far
+    ∙ append_assoc before (escaped (take (8 * block) v)) (escaped (take n (drop (8 * block) v)))
+    ∙ ap (λ xs. before ++ xs) (sym whole)

@@ -1,0 +1,26 @@
+use Rattle.std.proofs.Common.{◌≡◌, ◌+◌, ◌*◌, ◌/◌, ◌∙◌, ap, sym, arith, ℕ, List, length, take, drop, true}
+use Rattle.std.specs.List.{list_all}
+use Rattle.dcm_value.specs.Plain.{is_plain_byte}
+use Rattle.dcm_value.proofs.Displays.TextLanes.{plain_more, plain_not, plain_all, none_escaped, some_escaped}
+use Rattle.dcm_value.proofs.escapes.is_plain_text.Goals as goal
+
+pub returns-then-has_escapes : goal.returns-then-has_escapes
+returns-then-has_escapes c = sym (plain_not is_plain_byte c.args.bytes.now (8 * c.loop-block.block) 8 (some_escaped c.has_escapes.ensures c.if-has_escapes.true))
+
+pub loop-block-preserved : goal.loop-block-preserved
+loop-block-preserved c =
+    let block : ℕ = c.loop-block.block in
+    let v : List ℕ = c.args.bytes.now in
+    let goes : 8 * block + 8 ≡ 8 * (block + 1) = omega arith in
+    let so_far : list_all is_plain_byte (take (8 * block) v) ≡ true = c.loop-block.invariant in
+    ap (λ n. list_all is_plain_byte (take n v)) (sym goes) ∙ plain_more is_plain_byte v (8 * block) 8 so_far (none_escaped c.has_escapes.ensures c.if-has_escapes.false)
+
+pub returns : goal.returns
+returns c =
+    let v : List ℕ = c.args.bytes.now in
+    let blocks : ℕ = length v / 8 in
+    let all : c.loop-block.block ≡ blocks = omega arith in
+    let here : list_all is_plain_byte (take (8 * c.loop-block.block) v) ≡ true = c.loop-block.invariant in
+    let so_far : list_all is_plain_byte (take (8 * blocks) v) ≡ true = ap (λ k. list_all is_plain_byte (take (8 * k) v)) (sym all) ∙ here in
+    let last : c.is_plain_singly.result ≡ list_all is_plain_byte (drop (8 * blocks) v) = c.is_plain_singly.ensures ∙ ap (list_all is_plain_byte) c.split_at.ensures.back in
+    last ∙ sym (plain_all is_plain_byte v (8 * blocks) so_far)
