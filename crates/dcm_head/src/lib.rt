@@ -36,4 +36,4 @@ pub use pads::{size_without_pads, without_pads};
 pub use renewal::{AllStays, Renewal, Renewed};
 pub use rewriting::write_meta;
 pub use syntax_uid::SyntaxUid;
-pub use write::{element_head, write_head};
+pub use write::{element_head, plain_head, write_head};

@@ -1,11 +1,11 @@
 // Heads as bytes (PS3.5 7.1.2, 7.1.3, 7.5).
-ghost use Rattle.std.specs.Prelude.{◌≡◌, ◌+◌, ◌≤◌, ◌++◌, true, false, length};
+ghost use Rattle.std.specs.Prelude.{◌≡◌, ◌≤◌, ◌∷◌, ◌++◌, true, false};
 ghost use Rattle.std.specs.Int.{w16, w32};
 ghost use Rattle.dcm_base.specs.Conversion.Recode as recode;
-ghost use Rattle.dcm_base.specs.Tables.Representation.{is_long as has_long_form};
+ghost use Rattle.dcm_base.specs.Tables.Representation.{is_long as has_long_form, letters};
 ghost use Rattle.dcm_head.specs.HeadBytes as spec;
 
-use crate::head::{Head, LONG_HEAD, UNDEFINED, is_delimiter};
+use crate::head::{Head, LONG_HEAD, SHORT_HEAD, UNDEFINED, is_delimiter};
 use arrayvec::ArrayVec;
 use dcm_base::{Length, Syntax, Tag};
 
@@ -39,32 +39,51 @@ fn length_number(length: Length) -> u32
     }
 }
 
-fn put(bytes: &mut HeadBytes, more: &[u8])
-    requires { length bytes.old.items + length more.now ≤ 12 }
-    ensures { bytes.new.items ≡ bytes.old.items ++ more.now }
+/// These bytes as a head.
+fn held<const N: usize>(bytes: [u8; N]) -> HeadBytes
+    requires { N ≤ 12 }
+    ensures { result.items ≡ bytes.entry }
 {
-    for byte in more {
-        bytes.push(*byte);
-    }
+    let mut held = HeadBytes::new();
+    let _ = held.try_extend_from_slice(&bytes);
+    held
 }
 
-fn tag_bytes(syntax: Syntax, tag: Tag) -> HeadBytes
-    ensures bytes { result.items ≡ recode.tag_bytes syntax tag }
-    ensures size { length result.items ≡ 4 }
+/// A head without a representation, as that of an item, a fragment or a delimiter (PS3.5 7.5). Its bytes are an array
+/// that is put together at once, which is several times as fast as to push one after another.
+#[inline]
+pub fn plain_head(syntax: Syntax, tag: Tag, length: Length) -> [u8; SHORT_HEAD]
+    ensures { result ≡ recode.plain_head syntax tag length }
 {
-    let mut bytes = HeadBytes::new();
-    put(&mut bytes, &short_bytes(syntax, tag.group));
-    put(&mut bytes, &short_bytes(syntax, tag.element));
-    bytes
+    let [a, b] = short_bytes(syntax, tag.group);
+    let [c, d] = short_bytes(syntax, tag.element);
+    let [e, f, g, h] = long_bytes(syntax, length_number(length));
+    [a, b, c, d, e, f, g, h]
 }
 
-/// A head without a representation.
-fn plain_head(syntax: Syntax, tag: Tag, length: Length) -> HeadBytes
-    ensures { result.items ≡ recode.plain_head syntax tag length }
+/// The head of an element in an explicit syntax, whose length has two bytes.
+fn short_head(syntax: Syntax, head: &Head) -> [u8; SHORT_HEAD]
+    requires fits { spec.FitsShort head.now.length }
+    ensures { result ≡ recode.tag_bytes syntax head.now.tag ++ letters head.now.vr
+        ++ recode.number_bytes syntax w16 (recode.length_number head.now.length) }
 {
-    let mut bytes = tag_bytes(syntax, tag);
-    put(&mut bytes, &long_bytes(syntax, length_number(length)));
-    bytes
+    let [a, b] = short_bytes(syntax, head.tag.group);
+    let [c, d] = short_bytes(syntax, head.tag.element);
+    let [first, second] = head.vr.letters();
+    let [e, f] = short_bytes(syntax, length_number(head.length) as u16);
+    [a, b, c, d, first, second, e, f]
+}
+
+/// The head of an element in an explicit syntax, whose length has four bytes.
+fn long_head(syntax: Syntax, head: &Head) -> [u8; LONG_HEAD]
+    ensures { result ≡ recode.tag_bytes syntax head.now.tag ++ letters head.now.vr
+        ++ 0 ∷ 0 ∷ recode.number_bytes syntax w32 (recode.length_number head.now.length) }
+{
+    let [a, b] = short_bytes(syntax, head.tag.group);
+    let [c, d] = short_bytes(syntax, head.tag.element);
+    let [first, second] = head.vr.letters();
+    let [e, f, g, h] = long_bytes(syntax, length_number(head.length));
+    [a, b, c, d, first, second, 0, 0, e, f, g, h]
 }
 
 /// The head of an element in an explicit syntax.
@@ -73,18 +92,11 @@ pub fn explicit_head(syntax: Syntax, head: &Head) -> HeadBytes
     requires fits { has_long_form head.now.vr ≡ false → spec.FitsShort head.now.length }
     ensures { result.items ≡ recode.head syntax head.now.tag head.now.vr head.now.length }
 {
-    let mut bytes = tag_bytes(syntax, head.tag);
-    put(&mut bytes, &head.vr.letters());
     if head.vr.is_long() {
-        put(&mut bytes, &[0, 0]);
-        put(&mut bytes, &long_bytes(syntax, length_number(head.length)));
+        held(long_head(syntax, head))
     } else {
-        put(
-            &mut bytes,
-            &short_bytes(syntax, length_number(head.length) as u16),
-        );
+        held(short_head(syntax, head))
     }
-    bytes
 }
 
 /// The bytes of an element's head: with its representation's own letters and reserved bytes of zero in an explicit
@@ -94,7 +106,7 @@ pub fn element_head(syntax: Syntax, head: &Head) -> ArrayVec<u8, LONG_HEAD>
     ensures { result.items ≡ recode.head syntax head.now.tag head.now.vr head.now.length }
 {
     match syntax {
-        Syntax::Implicit(_) => plain_head(syntax, head.tag, head.length),
+        Syntax::Implicit(_) => held(plain_head(syntax, head.tag, head.length)),
         Syntax::Little(_) | Syntax::Big(_) => explicit_head(syntax, head),
     }
 }
@@ -106,10 +118,10 @@ pub fn write_head(syntax: Syntax, head: &Head) -> ArrayVec<u8, LONG_HEAD>
 {
     let tag = head.tag;
     if tag.is_item() {
-        return plain_head(syntax, tag, head.length);
+        return held(plain_head(syntax, tag, head.length));
     }
     if is_delimiter(tag) {
-        return plain_head(syntax, tag, Length::Known(0));
+        return held(plain_head(syntax, tag, Length::Known(0)));
     }
     element_head(syntax, head)
 }

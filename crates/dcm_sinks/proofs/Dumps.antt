@@ -10,3 +10,4 @@ pub mod DataSets
 pub mod MetaLines
 pub mod Reads
 pub mod ShortLines
+pub mod WrittenLines

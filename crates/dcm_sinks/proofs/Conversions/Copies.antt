@@ -1,9 +1,10 @@
 -- What a value on its way comes to over any bytes.
-use Rattle.std.proofs.Common.{◌≡◌, ◌≢◌, ◌∙◌, ap, sym, subst, refl, ℕ, zero, suc, ◌+◌, ◌*◌, ◌/◌, ◌==◌, ◌<◌, List, [], ◌∷◌, ◌++◌, append_assoc, length, take, drop, flat_map, Bool, true, false, cond, Option, arith}
+use Rattle.std.proofs.Common.{◌≡◌, ◌≢◌, ◌∙◌, ap, sym, subst, refl, ℕ, zero, suc, ◌+◌, ◌*◌, ◌/◌, ◌%◌, ◌==◌, ◌<◌, List, [], ◌∷◌, ◌++◌, append_assoc, length, take, drop, flat_map, Bool, true, false, cond, Option, inl, arith}
 use Rattle.std.specs.Prelude.{fold, Result, Ok, Err, IsErr}
 use Rattle.std.specs.Io.KnownBytes.{append_known}
 use Rattle.std.proofs.lemmas.Bool.Decides.{eqb_tells}
 use mathlib.Core.Logic.{⊎_elim}
+use Rattle.std.proofs.lemmas.Nat.{div-add-mod'}
 use Rattle.std.proofs.lemmas.List.{length-append, append-nil, length-take, length-drop, take-append-drop}
 use Rattle.dcm_base.specs.Steps.Steps.{outputs, Goes}
 use Rattle.dcm_devices.specs.Device.{AppendsFront, Puts}
@@ -11,7 +12,7 @@ use Rattle.dcm_base.specs.Tree.Value.{units, rest_part, turned}
 use Rattle.dcm_base.proofs.Conversions.UnitLaws.{units_cons, units_none, cut, left, cut_units}
 use Rattle.dcm_base.proofs.Conversions.Order.{rest_cons, rest_short, turned_cons, turned_short}
 use Rattle.std.proofs.lemmas.Grind.{flat_map-append}
-use Rattle.dcm_devices.proofs.Writes.Puts.{puts_behind, front_longer}
+use Rattle.dcm_devices.proofs.Writes.Puts.{puts_behind, front_longer, append_known_none}
 use Rattle.dcm_value.proofs.UnitOrder.Pieces.{units_append}
 use Rattle.dcm_value.proofs.UnitOrder.Buffers.{Fed, fed_parts, first_size, both_size}
 use Rattle.dcm_sinks.specs.EncodeSink.{Copying, copies, copy_writes, ordered}
@@ -137,3 +138,27 @@ module _ (c : Copying) (some : 0 < c.unit) (short : length c.held < c.unit) wher
         by_result : {T E : Type 0} (r : Result T E) → Puts held holds (outputs copies copy_writes c bytes) r → Goes copies copy_writes c held new holds bytes r
         by_result (Ok x) put = (state ∙ sym fed_state, put)
         by_result (Err x) put = put
+
+without_rest : (q r n : ℕ) → q + r ≡ n → r ≡ 0 → q ≡ n
+without_rest q r n e z = omega (arith, e, z)
+
+-- bytes that are whole units, with none begun before them
+pub whole_fed : (k : ℕ) → 0 < k → (held bytes : List ℕ) → held ≡ [] → length bytes % k ≡ 0 → Fed k held bytes [] bytes []
+whole_fed k some held bytes none whole = record {
+  all = ap (λ (h : List ℕ). h ++ bytes) none ∙ sym (append-nil bytes);
+  one = inl refl;
+  whole = without_rest (length bytes / k * k) (length bytes % k) (length bytes) (div-add-mod' (length bytes) k) whole;
+  left = some;
+}
+
+pub whole_goes : {T E : Type 0} (c : Copying) (some : 0 < c.unit) (bytes : List ℕ) → c.held ≡ [] → length bytes % c.unit ≡ 0
+    → (held holds : Option (List ℕ)) (r : Result T E) → Puts held holds (cond c.is_turned (turned c.unit bytes) bytes) r
+    → Goes copies copy_writes c held c holds bytes r
+whole_goes c some bytes none whole held holds r put =
+    let short : length c.held < c.unit = subst (λ (h : List ℕ). length h < c.unit) (sym none) some in
+    fed_goes c some short bytes [] bytes [] (whole_fed c.unit some c.held bytes none whole) held held holds c r (ap (holding c) none)
+    (sym (append_known_none held) ∙ ap (append_known held) (nothing c.is_turned)) put
+  where
+    nothing : (t : Bool) → [] ≡ cond t (turned c.unit []) []
+    nothing true = sym (turned_short c.unit some [] some)
+    nothing false = refl

@@ -1,5 +1,5 @@
 // The lines of a dump.
-ghost use Rattle.std.specs.Prelude.{◌≡◌, ◌<◌, ◌≤◌, ◌*◌, ◌++◌, ◌∷◌, [], length, replicate, decimal, IfSome};
+ghost use Rattle.std.specs.Prelude.{◌≡◌, ◌<◌, ◌≤◌, ◌-◌, ◌*◌, ◌++◌, ◌∷◌, [], length, replicate, drop, decimal, Some, IfSome};
 ghost use Rattle.dcm_devices.specs.Writing.{Wrote};
 ghost use Rattle.dcm_base.specs.Dump.Dump as dump;
 ghost use Rattle.dcm_base.specs.Dump.ValueText.{padded};
@@ -7,6 +7,7 @@ ghost use Rattle.dcm_base.specs.Dump.ValueText.{tag_text};
 ghost use Rattle.dcm_base.specs.declared.length.Length.TheVariants.{Known};
 ghost use Rattle.dcm_base.specs.declared.level.TheConstants.{MOST_OPEN};
 ghost use Rattle.dcm_sinks.specs.Layout.{length_digits_of, length_field, line_rest, rest_start};
+ghost use Rattle.dcm_sinks.specs.Layout.{item_text, item_end_text, sequence_end_text};
 
 use arrayvec::ArrayVec;
 use dcm_base::{
@@ -206,4 +207,67 @@ pub fn put_line<W: DeviceOut>(
     begin_line(line, level, tag, letters);
     append_display(line, display);
     put_rest(out, dictionary, line, tag, declared, count)
+}
+
+/// The level of the lines that are written down whole. Where less is open, they begin with fewer spaces.
+pub const WRITTEN_LEVEL: usize = 16;
+
+/// The line of an item that begins, at that level, where its length is undefined or 0.
+pub fn written_item(declared: Length) -> Option<&'static [u8]>
+    ensures text { IfSome result (λ text. item_text declared ≡ Some text.now) }
+    ensures spaces { IfSome result (λ text. 32 ≤ length text.now) }
+{
+    match declared {
+        Length::Undefined => Some(
+            b"                                (fffe,e000) na (Item with undefined length)             # u/l, 1 Item\n",
+        ),
+        Length::Known(0) => Some(
+            b"                                (fffe,e000) na (Item with explicit length)              #   0, 1 Item\n",
+        ),
+        Length::Known(_) => None,
+    }
+}
+
+/// The line of the end of an item, at that level.
+pub fn written_item_end(declared: Length) -> &'static [u8]
+    ensures text { result.now ≡ item_end_text declared }
+    ensures spaces { 32 ≤ length result.now }
+{
+    match declared {
+        Length::Known(_) => {
+            b"                                (fffe,e00d) na (ItemDelimitationItem for re-encoding)   #   0, 0 ItemDelimitationItem\n"
+        }
+        Length::Undefined => {
+            b"                                (fffe,e00d) na (ItemDelimitationItem)                   #   0, 0 ItemDelimitationItem\n"
+        }
+    }
+}
+
+/// The line of the end of a sequence, at that level.
+pub fn written_sequence_end(declared: Length) -> &'static [u8]
+    ensures text { result.now ≡ sequence_end_text declared }
+    ensures spaces { 32 ≤ length result.now }
+{
+    match declared {
+        Length::Known(_) => {
+            b"                                (fffe,e0dd) na (SequenceDelimitationItem for re-encod.) #   0, 0 SequenceDelimitationItem\n"
+        }
+        Length::Undefined => {
+            b"                                (fffe,e0dd) na (SequenceDelimitationItem)               #   0, 0 SequenceDelimitationItem\n"
+        }
+    }
+}
+
+/// Writes a line that is written down whole, with the spaces of this level before it. To put it together would take
+/// several times as long.
+pub fn put_written<W: DeviceOut>(
+    out: &mut Watched<W>,
+    line: &'static [u8],
+    level: usize,
+) -> Result<(), WriteFailed>
+    requires level { level ≤ 16 }
+    requires line { 32 ≤ length line.now }
+    ensures { Wrote W.DeviceOut out.old out.new (drop (2 * (16 - level)) line.now) result }
+{
+    put_all(out, &line[2 * (WRITTEN_LEVEL - level)..])
 }

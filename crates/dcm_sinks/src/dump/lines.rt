@@ -12,7 +12,10 @@ ghost use Rattle.dcm_sinks.specs.Encoder.{opening};
 ghost use Rattle.dcm_value.specs.Progress as progress;
 ghost use Rattle.dcm_value.specs.ValueText.{progress as text_progress};
 
-use crate::dump::layout::{Line, begin_line, put_line, put_line_start, put_rest};
+use crate::dump::layout::{
+    Line, WRITTEN_LEVEL, begin_line, put_line, put_line_start, put_rest, put_written, written_item,
+    written_item_end, written_sequence_end,
+};
 use crate::dump::lengths::Lengths;
 use dcm_base::{
     DeviceOut, Dictionary, Form, Length, MOST_OPEN, Mode, Syntax, Tag, Vr, Watched, WriteFailed,
@@ -118,6 +121,92 @@ fn item_end(length: Length) -> &'static [u8]
         Length::Known(_) => b"(ItemDelimitationItem for re-encoding)",
         Length::Undefined => b"(ItemDelimitationItem)",
     }
+}
+
+/// Writes the line of an item that begins.
+fn put_item_line<W: DeviceOut>(
+    out: &mut Watched<W>,
+    dictionary: Dictionary,
+    line: &mut Line,
+    level: usize,
+    declared: Length,
+) -> Result<(), WriteFailed>
+    requires { level ≤ MOST_OPEN }
+    ensures { Wrote W.DeviceOut out.old out.new (dump.item_line dictionary level declared) result }
+{
+    if level <= WRITTEN_LEVEL
+        && let Some(written) = written_item(declared)
+    {
+        return put_written(out, written, level);
+    }
+    let display = item_opening(declared);
+    put_line(
+        out,
+        dictionary,
+        line,
+        level,
+        Tag::ITEM,
+        *b"na",
+        display,
+        declared,
+        1,
+    )
+}
+
+/// Writes the line of the end of an item.
+fn put_item_end_line<W: DeviceOut>(
+    out: &mut Watched<W>,
+    dictionary: Dictionary,
+    line: &mut Line,
+    level: usize,
+    declared: Length,
+) -> Result<(), WriteFailed>
+    requires { level ≤ MOST_OPEN }
+    ensures { Wrote W.DeviceOut out.old out.new (dump.item_end_line dictionary level declared) result }
+{
+    if level <= WRITTEN_LEVEL {
+        return put_written(out, written_item_end(declared), level);
+    }
+    let (display, none) = (item_end(declared), Length::Known(0));
+    put_line(
+        out,
+        dictionary,
+        line,
+        level,
+        Tag::ITEM_END,
+        *b"na",
+        display,
+        none,
+        0,
+    )
+}
+
+/// Writes the line of the end of a sequence.
+fn put_sequence_end_line<W: DeviceOut>(
+    out: &mut Watched<W>,
+    dictionary: Dictionary,
+    line: &mut Line,
+    level: usize,
+    declared: Length,
+) -> Result<(), WriteFailed>
+    requires { level ≤ MOST_OPEN }
+    ensures { Wrote W.DeviceOut out.old out.new (dump.sequence_end_line dictionary level declared) result }
+{
+    if level <= WRITTEN_LEVEL {
+        return put_written(out, written_sequence_end(declared), level);
+    }
+    let (display, none) = (sequence_end(declared), Length::Known(0));
+    put_line(
+        out,
+        dictionary,
+        line,
+        level,
+        Tag::SEQUENCE_END,
+        *b"na",
+        display,
+        none,
+        0,
+    )
 }
 
 /// In full a line is begun at once.
@@ -294,17 +383,7 @@ impl Lines {
             result }
     {
         let level = self.lengths.depth();
-        put_line(
-            out,
-            self.dictionary,
-            &mut self.line,
-            level,
-            Tag::ITEM,
-            *b"na",
-            item_opening(declared),
-            declared,
-            1,
-        )?;
+        put_item_line(out, self.dictionary, &mut self.line, level, declared)?;
         self.deepen(declared);
         Ok(())
     }
@@ -315,17 +394,7 @@ impl Lines {
     {
         let declared = self.lengths.close();
         let level = self.lengths.depth();
-        put_line(
-            out,
-            self.dictionary,
-            &mut self.line,
-            level,
-            Tag::ITEM_END,
-            *b"na",
-            item_end(declared),
-            Length::Known(0),
-            0,
-        )
+        put_item_end_line(out, self.dictionary, &mut self.line, level, declared)
     }
 
     fn close_list<W: DeviceOut>(&mut self, out: &mut Watched<W>) -> Result<(), WriteFailed>
@@ -334,17 +403,7 @@ impl Lines {
     {
         let declared = self.lengths.close();
         let level = self.lengths.depth();
-        put_line(
-            out,
-            self.dictionary,
-            &mut self.line,
-            level,
-            Tag::SEQUENCE_END,
-            *b"na",
-            sequence_end(declared),
-            Length::Known(0),
-            0,
-        )
+        put_sequence_end_line(out, self.dictionary, &mut self.line, level, declared)
     }
 
     fn open_fragment<W: DeviceOut>(

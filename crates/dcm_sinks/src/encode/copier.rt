@@ -114,9 +114,25 @@ impl Copier {
         }
     }
 
-    /// Takes bytes of the value in any cut, and writes the units that are whole. Fails where the writer fails, which
+    /// Takes bytes of the value in any cut, and writes the units that are whole. Nearly all bytes come in whole units, and
+    /// go out as they are, with no unit held. Fails where the writer fails, which
     /// has then taken a beginning of them.
     pub fn feed<W: DeviceOut>(
+        &mut self,
+        bytes: &[u8],
+        out: &mut Watched<W>,
+    ) -> Result<(), WriteFailed>
+        ensures { Copied W.DeviceOut out.old out.new self.old self.new bytes.now result }
+    {
+        if self.held.as_slice().is_empty() && bytes.len() % self.vr.unit() == 0 {
+            return self.put_units(bytes, out);
+        }
+        self.feed_cut(bytes, out)
+    }
+
+    /// Takes bytes where a unit is cut by their beginning or end.
+    #[inline(never)]
+    fn feed_cut<W: DeviceOut>(
         &mut self,
         bytes: &[u8],
         out: &mut Watched<W>,

@@ -20,7 +20,7 @@ use arrayvec::ArrayVec;
 use dcm_base::{
     DeviceOut, Form, Length, Syntax, Tag, Vr, Watched, WriteFailed, form_of, put_all, read_as,
 };
-use dcm_head::{Head, LONG_HEAD, element_head, write_head};
+use dcm_head::{Head, LONG_HEAD, element_head, plain_head};
 use dcm_stream::{Skip, Token};
 
 /// The number of the element that holds the length of its group (PS3.5 7.2).
@@ -72,21 +72,17 @@ fn list_head(target: Syntax, tag: Tag, vr: Vr) -> ArrayVec<u8, LONG_HEAD>
     element_head(target, &Head { tag, vr, length })
 }
 
-/// The head of an item or fragment.
-fn item_head(target: Syntax, length: Length) -> ArrayVec<u8, LONG_HEAD>
-    ensures { result.items ≡ recode.item_head target length }
+/// Writes the head of an item or fragment, or a delimiter.
+#[inline(never)]
+fn put_plain<W: DeviceOut>(
+    out: &mut Watched<W>,
+    target: Syntax,
+    tag: Tag,
+    length: Length,
+) -> Result<(), WriteFailed>
+    ensures { Wrote W.DeviceOut out.old out.new (recode.plain_head target tag length) result }
 {
-    let (tag, vr) = (Tag::ITEM, Vr::UN);
-    write_head(target, &Head { tag, vr, length })
-}
-
-/// The delimiter of an item or of a sequence.
-fn delimiter(target: Syntax, tag: Tag) -> ArrayVec<u8, LONG_HEAD>
-    requires { is_delimiter_tag tag ≡ true }
-    ensures { result.items ≡ recode.plain_head target tag (lengths.Known 0) }
-{
-    let (vr, length) = (Vr::UN, Length::Known(0));
-    write_head(target, &Head { tag, vr, length })
+    put_all(out, &plain_head(target, tag, length))
 }
 
 impl Encoder {
@@ -172,24 +168,21 @@ impl Encoder {
         requires { depth self.old.skip ≡ 0 }
         ensures { Took W.DeviceOut out.old out.new self.old self.new (map value_byte bytes.now) result }
     {
-        match self.copier.take() {
-            None => Ok(()),
-            Some(mut copier) => {
-                copier.feed(bytes, out)?;
-                self.copier = Some(copier);
-                Ok(())
-            }
+        if let Some(copier) = &mut self.copier {
+            copier.feed(bytes, out)?;
         }
+        Ok(())
     }
 
     fn close<W: DeviceOut>(&mut self, out: &mut Watched<W>) -> Result<(), WriteFailed>
         ensures state { OnOk result (state self.new ≡ spec.live_step (state self.old) closes_leaf) }
         ensures wrote { Wrote W.DeviceOut out.old out.new (spec.live_writes (state self.old) closes_leaf) result }
     {
-        match self.copier.take() {
-            Some(copier) => copier.close(out),
-            None => Ok(()),
+        if let Some(copier) = &self.copier {
+            copier.close(out)?;
+            self.copier = None;
         }
+        Ok(())
     }
 
     fn open_fragment<W: DeviceOut>(
@@ -201,7 +194,7 @@ impl Encoder {
         ensures wrote { Wrote W.DeviceOut out.old out.new (spec.live_writes (state self.old) (opens_fragment size))
             result }
     {
-        put_all(out, item_head(self.target, even(size)).as_slice())?;
+        put_plain(out, self.target, Tag::ITEM, even(size))?;
         self.copier = Some(Copier::of_fragment(size));
         Ok(())
     }
@@ -219,11 +212,9 @@ impl Encoder {
             Token::Open(head, syntax) => self.open(out, head, syntax),
             Token::Bytes(bytes) => self.copy(out, bytes),
             Token::CloseLeaf => self.close(out),
-            Token::OpenItem(_) => {
-                put_all(out, item_head(self.target, Length::Undefined).as_slice())
-            }
-            Token::CloseItem => put_all(out, delimiter(self.target, Tag::ITEM_END).as_slice()),
-            Token::CloseSeq => put_all(out, delimiter(self.target, Tag::SEQUENCE_END).as_slice()),
+            Token::OpenItem(_) => put_plain(out, self.target, Tag::ITEM, Length::Undefined),
+            Token::CloseItem => put_plain(out, self.target, Tag::ITEM_END, Length::Known(0)),
+            Token::CloseSeq => put_plain(out, self.target, Tag::SEQUENCE_END, Length::Known(0)),
             Token::OpenFragment(size) => self.open_fragment(out, size),
             Token::End => Ok(()),
         }
