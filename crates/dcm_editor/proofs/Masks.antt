@@ -7,3 +7,5 @@ pub mod Editing
 pub mod LeastNew
 pub mod SoundSteps
 pub mod Skips
+pub mod Indexed
+pub mod IndexGrows

@@ -76,6 +76,11 @@ first_fate edits e tag = together.first_fate (asked_here edits e) tag
 abbrev pub leaves : {A : Type 0} → List (AnEdit A) → Editor → Tag → Bool
 leaves edits e tag = not (is_open (depth e.skip)) && not (any_answer (Meets tag e.level.last) (asked_here edits e))
 
+-- whether an edit of a mask changes an element, or puts another one before it
+abbrev pub is_met : {A : Type 0} → List (AnEdit A) → Editor → ℕ → Tag → Bool
+is_met edits e mask tag =
+    any_answer (Meets tag e.level.last) (masks.asked (length (reverse e.outermost_first.items)) mask 0 (map edit_of edits))
+
 -- nothing is dropped, and none of the edits of a mask asks something of the innermost open data set
 abbrev pub is_free_of : ℕ → Editor → Bool
 is_free_of paths e = not (is_open (depth e.skip)) && bit_and e.level.mask paths == 0

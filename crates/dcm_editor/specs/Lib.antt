@@ -6,3 +6,4 @@ pub mod Through
 pub mod Sound
 pub mod Laws
 pub mod Outputs
+pub mod Indexes

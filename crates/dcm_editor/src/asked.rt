@@ -58,7 +58,8 @@ pub enum Question {
 }
 
 /// The group of private elements is odd (PS3.5 7.8).
-fn is_private(tag: Tag) -> bool
+#[inline(always)]
+pub fn is_private(tag: Tag) -> bool
     ensures { result ≡ is_private_tag tag }
 {
     tag.group % 2 == 1

@@ -6,10 +6,13 @@ ghost use Rattle.dcm_stream.specs.Tokens.{atoms_of};
 ghost use Rattle.dcm_editor.specs.Asking as asking;
 ghost use Rattle.dcm_editor.specs.EditSink as spec;
 ghost use Rattle.dcm_editor.specs.Editing as editing;
+ghost use Rattle.dcm_editor.specs.Indexes as indexes;
 ghost use Rattle.dcm_editor.specs.Masks as masks;
+ghost use Rattle.dcm_editor.specs.declared.asked.Question.TheVariants.{AtHead};
 ghost use Rattle.dcm_edits.specs.Meaning.{edit_of};
 
 use crate::asked::{Fate, Question};
+use crate::index::TagIndex;
 use crate::mask::all;
 use crate::place::Asked;
 use arrayvec::ArrayVec;
@@ -106,33 +109,65 @@ impl Editor {
             .answering(question)
     }
 
+    /// The edits that have found their place so far or find it at the head of an element.
+    #[inline(always)]
+    fn found_at<A: Allocator>(&self, edits: &[Edit<A>], index: &TagIndex, tag: Tag) -> u64
+        requires few { length edits.now ≤ 64 }
+        requires index { indexes.has_all index.now 0 (map edit_of edits.now) ≡ true }
+        ensures { masks.bits result 0 (map edit_of edits.now)
+            ≡ editing.found_with edits.now self.now (AtHead tag self.now.level.last) }
+    {
+        let found_here = Asked {
+            edits,
+            depth: self.depth(),
+            mask: index.candidates(self.level.mask, tag),
+        }
+        .answering(Question::AtHead(tag, self.level.last));
+        self.found | found_here
+    }
+
     /// What becomes of an element of the innermost data set.
-    pub fn fate_of<'e, A: Allocator>(&self, edits: &'e [Edit<A>], tag: Tag) -> Fate<'e, A>
-        requires { length edits.now ≤ 64 }
+    pub fn fate_of<'e, A: Allocator>(
+        &self,
+        edits: &'e [Edit<A>],
+        index: &TagIndex,
+        tag: Tag,
+    ) -> Fate<'e, A>
+        requires few { length edits.now ≤ 64 }
+        requires index { indexes.has_all index.now 0 (map edit_of edits.now) ≡ true }
         ensures { asking.fate_of result ≡ editing.first_fate edits.now self.now tag }
     {
         Asked {
             edits,
             depth: self.depth(),
-            mask: self.level.mask,
+            mask: index.candidates(self.level.mask, tag),
         }
         .first_fate(tag)
     }
 
     /// Whether no edit changes an element of the innermost data set, which is not dropped, or puts another one before
     /// it.
-    pub fn leaves<A: Allocator>(&self, edits: &[Edit<A>], tag: Tag) -> bool
-        requires { length edits.now ≤ 64 }
+    #[inline(always)]
+    pub fn leaves<A: Allocator>(&self, edits: &[Edit<A>], index: &TagIndex, tag: Tag) -> bool
+        requires few { length edits.now ≤ 64 }
+        requires index { indexes.has_all index.now 0 (map edit_of edits.now) ≡ true }
         ensures { result ≡ editing.leaves edits.now self.now tag }
     {
-        let level = self.level;
-        !self.skip.is_open()
-            && !Asked {
-                edits,
-                depth: self.depth(),
-                mask: level.mask,
-            }
-            .any_meets(tag, level.last)
+        let mask = index.candidates(self.level.mask, tag);
+        !self.skip.is_open() && (mask == 0 || !self.is_met(edits, mask, tag))
+    }
+
+    /// Whether an edit of a mask changes an element of the innermost data set, or puts another one before it.
+    fn is_met<A: Allocator>(&self, edits: &[Edit<A>], mask: u64, tag: Tag) -> bool
+        requires { length edits.now ≤ 64 }
+        ensures { result ≡ editing.is_met edits.now self.now mask tag }
+    {
+        Asked {
+            edits,
+            depth: self.depth(),
+            mask,
+        }
+        .any_meets(tag, self.level.last)
     }
 
     /// Whether the next item of the last element is erased.
@@ -163,12 +198,13 @@ impl Editor {
     }
 
     /// After the head of an element.
-    fn open<A: Allocator>(&mut self, edits: &[Edit<A>], tag: Tag)
-        requires { length edits.now ≤ 64 }
+    fn open<A: Allocator>(&mut self, edits: &[Edit<A>], index: &TagIndex, tag: Tag)
+        requires few { length edits.now ≤ 64 }
+        requires index { indexes.has_all index.now 0 (map edit_of edits.now) ≡ true }
         ensures { editing.Opens edits.now self.old self.new tag }
     {
-        let found = self.found_with(edits, Question::AtHead(tag, self.level.last));
-        let stays = matches!(self.fate_of(edits, tag), Fate::Stays);
+        let found = self.found_at(edits, index, tag);
+        let stays = matches!(self.fate_of(edits, index, tag), Fate::Stays);
         self.found = found;
         self.skip.open(!stays);
         self.level.last = Some(tag);
@@ -294,13 +330,14 @@ impl Editor {
     }
 
     /// After a token.
-    pub fn go_on<A: Allocator>(&mut self, edits: &[Edit<A>], token: Token)
-        requires { length edits.now ≤ 64 }
+    pub fn go_on<A: Allocator>(&mut self, edits: &[Edit<A>], index: &TagIndex, token: Token)
+        requires few { length edits.now ≤ 64 }
+        requires index { indexes.has_all index.now 0 (map edit_of edits.now) ≡ true }
         ensures { editing.meant edits.now self.new
             ≡ fold spec.next (editing.meant edits.now self.old) (atoms_of token.entry) }
     {
         match token {
-            Token::Open(head, _) => self.open(edits, head.tag),
+            Token::Open(head, _) => self.open(edits, index, head.tag),
             Token::Bytes(_) => {}
             Token::CloseLeaf | Token::CloseSeq => self.close(),
             Token::OpenItem(_) => self.open_item(edits),

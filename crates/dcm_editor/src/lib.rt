@@ -17,6 +17,7 @@
 
 mod asked;
 mod editor;
+mod index;
 pub mod laws;
 mod mask;
 mod new;

@@ -23,7 +23,7 @@ fn is_set(mask: u64, place: usize) -> bool
 
 /// The mask with this bit set.
 #[inline(always)]
-fn with_bit(mask: u64, place: usize) -> u64
+pub fn with_bit(mask: u64, place: usize) -> u64
     requires { place < 64 }
     ensures same { masks.is_set result place ≡ true }
     ensures others { (k : ℕ) → k ≢ place → masks.is_set result k ≡ masks.is_set mask k }

@@ -9,6 +9,7 @@ ghost use Rattle.dcm_editor.specs.Asking as asking;
 ghost use Rattle.dcm_editor.specs.EditSink.{State as EditState, passed, begun};
 ghost use Rattle.dcm_editor.specs.Sound.{IsSound, IsSoundAt, IsSoundAt-prop};
 ghost use Rattle.dcm_editor.specs.Editing as editing;
+ghost use Rattle.dcm_editor.specs.Indexes as indexes;
 ghost use Rattle.dcm_editor.specs.Masks as masks;
 ghost use Rattle.dcm_edits.specs.Meaning.{edit_of};
 ghost use Rattle.dcm_editor.specs.Outputs as outputs;
@@ -16,6 +17,7 @@ ghost use Rattle.dcm_editor.specs.Through.{through_step, through_writes, through
 
 use crate::asked::{Fate, Gap};
 use crate::editor::{Editor, edits_on_paths};
+use crate::index::TagIndex;
 use crate::mask::unset_bits;
 use crate::new::{put_leaf_at, put_new};
 use crate::place::Asked;
@@ -29,14 +31,19 @@ use std::alloc::{Allocator, Global};
 fn put_gap<S: Sink, A: Allocator>(
     editor: &Editor,
     edits: &[Edit<A>],
+    index: &TagIndex,
     next: Option<Tag>,
     sink: &mut S,
 ) -> Result<(), WriteFailed>
     requires few { length edits.now ≤ 64 }
+    requires index { indexes.has_all index.now 0 (map edit_of edits.now) ≡ true }
     requires short { asking.AreShort (map edit_of edits.now) }
     requires sound { IsSound (editing.meant edits.now editor.now) }
     ensures { outputs.TookTrees S.Sink sink.old sink.new (editing.missing edits.now editor.now next) result }
 {
+    if index.makes_nothing(editor.level.mask) {
+        return Ok(());
+    }
     let last = editor.level.last;
     let asked = Asked {
         edits,
@@ -66,19 +73,21 @@ fn put_head<S: Sink, A: Allocator>(
 fn pass_element<S: Sink, A: Allocator>(
     editor: &Editor,
     edits: &[Edit<A>],
+    index: &TagIndex,
     head: Head,
     syntax: Syntax,
     sink: &mut S,
 ) -> Result<(), WriteFailed>
     requires few { length edits.now ≤ 64 }
+    requires index { indexes.has_all index.now 0 (map edit_of edits.now) ≡ true }
     requires short { asking.AreShort (map edit_of edits.now) }
     requires sound { IsSound (editing.meant edits.now editor.now) }
     requires kept { depth editor.now.skip ≡ 0 }
     ensures { sinks.Took S.Sink sink.old sink.new
         (passed (editing.meant edits.now editor.now) (editing.head_of head syntax)) result }
 {
-    put_gap(editor, edits, Some(head.tag), sink)?;
-    put_head(editor.fate_of(edits, head.tag), head, syntax, sink)
+    put_gap(editor, edits, index, Some(head.tag), sink)?;
+    put_head(editor.fate_of(edits, index, head.tag), head, syntax, sink)
 }
 
 /// Passes on the head of an item that is not dropped already.
@@ -103,10 +112,12 @@ fn pass_item<S: Sink, A: Allocator>(
 fn pass_end<S: Sink, A: Allocator>(
     editor: &Editor,
     edits: &[Edit<A>],
+    index: &TagIndex,
     end: Token,
     sink: &mut S,
 ) -> Result<(), WriteFailed>
     requires few { length edits.now ≤ 64 }
+    requires index { indexes.has_all index.now 0 (map edit_of edits.now) ≡ true }
     requires short { asking.AreShort (map edit_of edits.now) }
     requires sound { IsSound (editing.meant edits.now editor.now) }
     requires kept { depth editor.now.skip ≡ 0 }
@@ -115,7 +126,7 @@ fn pass_end<S: Sink, A: Allocator>(
     ensures { sinks.Took S.Sink sink.old sink.new (editing.passed_of edits.now editor.now (atoms_of end.entry))
         result }
 {
-    put_gap(editor, edits, None, sink)?;
+    put_gap(editor, edits, index, None, sink)?;
     sink.take(end)
 }
 
@@ -123,10 +134,12 @@ fn pass_end<S: Sink, A: Allocator>(
 fn pass<S: Sink, A: Allocator>(
     editor: &Editor,
     edits: &[Edit<A>],
+    index: &TagIndex,
     token: Token,
     sink: &mut S,
 ) -> Result<(), WriteFailed>
     requires few { length edits.now ≤ 64 }
+    requires index { indexes.has_all index.now 0 (map edit_of edits.now) ≡ true }
     requires short { asking.AreShort (map edit_of edits.now) }
     requires sound { IsSound (editing.meant edits.now editor.now) }
     requires filled { IsFilled token }
@@ -137,9 +150,9 @@ fn pass<S: Sink, A: Allocator>(
         return Ok(());
     }
     match token {
-        Token::Open(head, syntax) => pass_element(editor, edits, head, syntax, sink),
+        Token::Open(head, syntax) => pass_element(editor, edits, index, head, syntax, sink),
         Token::OpenItem(length) => pass_item(editor, edits, length, sink),
-        Token::CloseItem | Token::End => pass_end(editor, edits, token, sink),
+        Token::CloseItem | Token::End => pass_end(editor, edits, index, token, sink),
         Token::Bytes(_) | Token::CloseLeaf | Token::CloseSeq | Token::OpenFragment(_) => {
             sink.take(token)
         }
@@ -151,10 +164,12 @@ fn pass<S: Sink, A: Allocator>(
 fn pass_edited<S: Sink, A: Allocator>(
     editor: &mut Editor,
     edits: &[Edit<A>],
+    index: &TagIndex,
     token: Token,
     sink: &mut S,
 ) -> Result<(), WriteFailed>
     requires few { length edits.now ≤ 64 }
+    requires index { indexes.has_all index.now 0 (map edit_of edits.now) ≡ true }
     requires short { asking.AreShort (map edit_of edits.now) }
     requires sound { IsSound (editing.meant edits.now editor.old) }
     requires filled { IsFilled token }
@@ -162,8 +177,8 @@ fn pass_edited<S: Sink, A: Allocator>(
         (editing.passed_of edits.now editor.old (atoms_of token.entry)) result }
     ensures state { editing.GoesOn edits.now editor.old editor.new (atoms_of token.entry) result }
 {
-    pass(editor, edits, token, sink)?;
-    editor.go_on(edits, token);
+    pass(editor, edits, index, token, sink)?;
+    editor.go_on(edits, index, token);
     Ok(())
 }
 
@@ -174,11 +189,13 @@ fn pass_edited<S: Sink, A: Allocator>(
 fn pass_on<S: Sink, A: Allocator>(
     editor: &mut Editor,
     edits: &[Edit<A>],
+    index: &TagIndex,
     paths: u64,
     token: Token,
     sink: &mut S,
 ) -> Result<(), WriteFailed>
     requires few { length edits.now ≤ 64 }
+    requires index { indexes.has_all index.now 0 (map edit_of edits.now) ≡ true }
     requires short { asking.AreShort (map edit_of edits.now) }
     requires sound { IsSound (editing.meant edits.now editor.old) }
     requires paths { masks.has_paths paths 0 (map edit_of edits.now) ≡ true }
@@ -188,7 +205,7 @@ fn pass_on<S: Sink, A: Allocator>(
     ensures state { editing.GoesOn edits.now editor.old editor.new (atoms_of token.entry) result }
 {
     match token {
-        Token::Open(head, _) if editor.leaves(edits, head.tag) => {
+        Token::Open(head, _) if editor.leaves(edits, index, head.tag) => {
             sink.take(token)?;
             editor.pass_by(head.tag);
         }
@@ -202,7 +219,7 @@ fn pass_on<S: Sink, A: Allocator>(
             sink.take(token)?;
             editor.leave_item();
         }
-        _ => pass_edited(editor, edits, token, sink)?,
+        _ => pass_edited(editor, edits, index, token, sink)?,
     }
     Ok(())
 }
@@ -215,7 +232,9 @@ pub struct EditSink<'e, S, A: Allocator = Global> {
     inner: &'e mut S,
     editor: Editor,
     paths: u64,
+    index: TagIndex,
     ghost paths_are: { masks.has_paths paths 0 edits.now ≡ true },
+    ghost index_has: { indexes.has_all index 0 edits.now ≡ true },
     ghost sound: { IsSoundAt edits.now editor } by { IsSoundAt-prop edits.now editor },
 }
 
@@ -232,6 +251,7 @@ impl<'e, S: Sink, A: Allocator> EditSink<'e, S, A> {
             inner,
             editor: Editor::new(edits.list()),
             paths: edits_on_paths(edits.list()),
+            index: TagIndex::of(edits.list()),
         }
     }
 
@@ -269,6 +289,7 @@ impl<'e, S: Sink, A: Allocator> Sink for EditSink<'e, S, A> {
         pass_on(
             &mut self.editor,
             self.edits.list(),
+            &self.index,
             self.paths,
             token,
             self.inner,

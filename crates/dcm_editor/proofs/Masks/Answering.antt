@@ -34,7 +34,7 @@ either_bit a b p q = by (small a p) (small b q)
     by (inr x) (inl y) = rw x (rw y refl)
     by (inr x) (inr y) = rw x (rw y refl)
 
-set_in_either : (a b k : ℕ) → is_set (bit_or a b) k ≡ (is_set a k || is_set b k)
+pub set_in_either : (a b k : ℕ) → is_set (bit_or a b) k ≡ (is_set a k || is_set b k)
 set_in_either a b k = ap (λ (n : ℕ). n == 1) (bit_at_or a b k) ∙ either_bit (bit_at a k) (bit_at b k) (bit_at-lt a k) (bit_at-lt b k)
 
 cons_alike : (a b : Bool) (xs ys : List Bool) → a ≡ b → xs ≡ ys → a ∷ xs ≡ b ∷ ys

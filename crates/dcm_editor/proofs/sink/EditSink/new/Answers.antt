@@ -2,6 +2,7 @@ use Rattle.std.proofs.Common.{List, sym, ap, ◌∙◌, subst}
 use Rattle.dcm_edits.specs.Edit.{Edit}
 use Rattle.dcm_editor.specs.EditSink.{State, begun}
 use Rattle.dcm_editor.specs.Editing as editing
+use Rattle.dcm_editor.specs.Indexes as indexes
 use Rattle.dcm_editor.specs.Masks as masks
 use Rattle.dcm_editor.specs.Sound.{IsSound}
 use Rattle.dcm_editor.proofs.Words.MeantEdits.{few_listed, sound_meant}
@@ -13,11 +14,15 @@ new-requires g c = few_listed c.list.result.now c.args.edits.now c.list.ensures.
 pub edits_on_paths-requires : goal.edits_on_paths-requires
 edits_on_paths-requires g c = few_listed c.list-2.result.now c.args.edits.now c.list-2.ensures.list c.list-2.ensures.meant
 
+pub of-requires : goal.of-requires
+of-requires g c = few_listed c.list-3.result.now c.args.edits.now c.list-3.ensures.list c.list-3.ensures.meant
+
 pub invariant_of-result : goal.invariant_of-result
 invariant_of-result g c =
     let at = λ (es : List Edit). masks.meant es (editing.state c.new.result) in
     let is = sym (ap at c.list.ensures.list) ∙ c.new.ensures ∙ ap begun c.list.ensures.list in
     record {
       paths_are = sym (ap (λ (es : List Edit). masks.has_paths c.edits_on_paths.result 0 es) c.list-2.ensures.list) ∙ c.edits_on_paths.ensures;
+      index_has = sym (ap (λ (es : List Edit). indexes.has_all c.of.result 0 es) c.list-3.ensures.list) ∙ c.of.ensures;
       sound = subst (λ (s : State). IsSound s) (sym is) (sound_meant c.args.edits.now c.list.ensures.meant);
     }

@@ -1,5 +1,6 @@
 use Rattle.std.proofs.Common.{◌≡◌, ◌∙◌, ap, List}
 use Rattle.dcm_edits.specs.Edit.{Edit}
+use Rattle.dcm_editor.specs.Indexes.{has_all}
 use Rattle.dcm_editor.specs.Masks.{has_paths}
 use Rattle.std.specs.Prelude.{fold}
 use Rattle.dcm_stream.specs.Tokens.{atoms_of}
@@ -19,11 +20,16 @@ pub pass_on-requires-clause-paths : goal.pass_on-requires-clause-paths
 pass_on-requires-clause-paths g c =
     ap (λ (es : List Edit). has_paths c.args.self.now.paths 0 es) c.list.ensures.list ∙ c.args.self.now.paths_are
 
+pub pass_on-requires-clause-index : goal.pass_on-requires-clause-index
+pass_on-requires-clause-index g c =
+    ap (λ (es : List Edit). has_all c.args.self.now.index 0 es) c.list.ensures.list ∙ c.args.self.now.index_has
+
 pub invariant_of-self : goal.invariant_of-self
 invariant_of-self g c =
     let e = c.args.self.now in
     record {
       paths_are = e.paths_are;
+      index_has = e.index_has;
       sound =
           sound_after c.list.result.now e.edits.now (editing.state e.editor) (editing.state c.pass_on.new.editor) (atoms_of c.args.token) c.pass_on.result c.list.ensures.list
           (same_state (editing.meant c.list.result.now c.pass_on.new.editor ≡ fold next (editing.meant c.list.result.now e.editor) (atoms_of c.args.token)) e.editor c.pass_on.new.editor c.pass_on.result c.pass_on.ensures.state) e.sound;

@@ -1,0 +1,249 @@
+-- The edits outside of the candidates for a tag leave an element of this tag as it is, and put nothing.
+use Rattle.std.proofs.Common.{◌≡◌, ℕ, zero, suc, ◌<◌, List, [], ◌∷◌, map, Option, Bool, true, false, not, ◌||◌, ◌&&◌, refl, sym, ◌∙◌, ap, ◌⊎◌, inl, inr, min, arith}
+use Rattle.std.specs.Prelude.{if◌then◌else◌, ◌==◌}
+use Rattle.std.specs.Int.{bit_at}
+use Rattle.std.specs.Int.Bits.{bit_and, bit_or}
+use Rattle.std.proofs.lemmas.Bool.{eqb-true, false≢true}
+use Rattle.std.proofs.lemmas.Nat.Bits.{bit_at_and, bit_at-lt, bit_at-zero}
+use Rattle.dcm_base.specs.declared.tag.Tag.{Tag}
+use Rattle.dcm_base.specs.Tables.Tag.{same_tag, is_private}
+use Rattle.dcm_base.specs.Tree.Tree.{Trees}
+use Rattle.dcm_edits.specs.Edit.{number, every, PathEdit, step, insert, modify, erase, erase_item, new_element, around}
+use Rattle.dcm_edits.specs.Edit.{Edit, on_path, modify_all, erase_all, erase_private, elsewhere, Fate, stays, becomes, goes, fate, acts}
+use Rattle.dcm_edits.specs.Edit.{no_element, element_of}
+use Rattle.dcm_edits.specs.Together.{first_fate, or_else}
+use Rattle.dcm_edits.specs.NewOnes.{is_between, passes_new, puts}
+use Rattle.dcm_editor.specs.EditSink.{makes}
+use Rattle.dcm_editor.specs.Asking.{answer_of, any_answer, asked_one}
+use Rattle.dcm_editor.specs.Indexes.{bucket_at, names, has_path, has_edit, has_all, named, candidates}
+use Rattle.dcm_editor.specs.Masks.{is_set, at_depth, rest_of_path, asked}
+use Rattle.dcm_editor.specs.declared.asked.Question.TheVariants.{AtHead, Meets}
+use Rattle.dcm_editor.specs.declared.index.TagIndex.{TagIndex}
+use Rattle.dcm_editor.proofs.EditSinks.Unmet.{puts_none}
+use Rattle.dcm_editor.proofs.Masks.Answering.{set_in_either}
+
+-- ---- bits
+
+and_parts : (a b : Bool) → (a && b) ≡ true → (a ≡ true) × (b ≡ true)
+and_parts true b e = (refl, e)
+and_parts false b e = absurd (false≢true e)
+
+or_parts : (a b : Bool) → (a || b) ≡ false → (a ≡ false) × (b ≡ false)
+or_parts false b e = (refl, e)
+or_parts true b e = absurd (false≢true (sym e))
+
+or_unset : (a b k : ℕ) → is_set (bit_or a b) k ≡ false → (is_set a k ≡ false) × (is_set b k ≡ false)
+or_unset a b k e = or_parts (is_set a k) (is_set b k) (sym (set_in_either a b k) ∙ e)
+
+both_bit : (a b : ℕ) → a < 2 → b < 2 → (min a b == 1) ≡ ((a == 1) && (b == 1))
+both_bit a b p q = by (small a p) (small b q)
+  where
+    small : (n : ℕ) → n < 2 → (n ≡ 0) ⊎ (n ≡ 1)
+    small zero l = inl refl
+    small (suc zero) l = inr refl
+    small (suc (suc n)) l = absurd (omega (arith, l))
+
+    by : ((a ≡ 0) ⊎ (a ≡ 1)) → ((b ≡ 0) ⊎ (b ≡ 1)) → (min a b == 1) ≡ ((a == 1) && (b == 1))
+    by (inl x) (inl y) = rw x (rw y refl)
+    by (inl x) (inr y) = rw x (rw y refl)
+    by (inr x) (inl y) = rw x (rw y refl)
+    by (inr x) (inr y) = rw x (rw y refl)
+
+set_in_both : (a b k : ℕ) → is_set (bit_and a b) k ≡ (is_set a k && is_set b k)
+set_in_both a b k = ap (λ (n : ℕ). n == 1) (bit_at_and a b k) ∙ both_bit (bit_at a k) (bit_at b k) (bit_at-lt a k) (bit_at-lt b k)
+
+none_set : (k : ℕ) → is_set 0 k ≡ false
+none_set k = ap (λ (b : ℕ). b == 1) (bit_at-zero k)
+
+-- ---- one edit
+
+-- it leaves an element of this tag as it is, and puts nothing
+abbrev pub Still : Tag → Edit → Type 0
+Still tag e = (fate e tag ≡ stays) × (element_of e ≡ no_element)
+
+abbrev among : (b : Bool) (named private : ℕ) → ℕ
+among b named private = if b then bit_or named private else named
+
+among_parts : (b : Bool) (n p k : ℕ) → is_set (among b n p) k ≡ false → (is_set n k ≡ false) × (b ≡ true → is_set p k ≡ false)
+among_parts true n p k e = let x = or_unset n p k e in (x.0, λ _. x.1)
+among_parts false n p k e = (e, λ t. absurd (false≢true t))
+
+private_stays : (b c : Bool) → (b ≡ true → c ≡ false) → c ≡ true → (if b then goes else stays) ≡ stays
+private_stays false c h s = refl
+private_stays true c h s = absurd (false≢true (sym (h refl) ∙ s))
+
+module _ (index : TagIndex) (k : ℕ) where
+  abbrev Unmade : Type 0
+  Unmade = is_set index.makers k ≡ false
+
+  no_new : (p : PathEdit) → has_path index k p ≡ true → Unmade → new_element p ≡ no_element
+  no_new (step tag (number zero) p) h u = ap (around tag) (no_new p h u)
+  no_new (step tag (number (suc n)) p) h u = refl
+  no_new (step tag every p) h u = refl
+  no_new (insert tag vr value) h u = absurd (false≢true (sym u ∙ h))
+  no_new (modify tag vr value) h u = refl
+  no_new (erase tag) h u = refl
+  no_new (erase_item tag i) h u = refl
+
+  no_new_left : (d : ℕ) (p : PathEdit) → has_path index k p ≡ true → Unmade → new_element (rest_of_path d p) ≡ no_element
+  no_new_left zero p h u = no_new p h u
+  no_new_left (suc d) (step tag i p) h u = no_new_left d p h u
+  no_new_left (suc d) (insert tag vr value) h u = no_new (insert tag vr value) h u
+  no_new_left (suc d) (modify tag vr value) h u = refl
+  no_new_left (suc d) (erase tag) h u = refl
+  no_new_left (suc d) (erase_item tag i) h u = refl
+
+  no_element_of : (d : ℕ) (e : Edit) → has_edit index k e ≡ true → Unmade → element_of (at_depth d e) ≡ no_element
+  no_element_of d (on_path p) h u = no_new_left d p h u
+  no_element_of d (modify_all tag vr value) h u = refl
+  no_element_of d (erase_all tag) h u = refl
+  no_element_of d erase_private h u = refl
+  no_element_of d elsewhere h u = refl
+
+  module _ (tag : Tag) where
+    abbrev Unnamed : Type 0
+    Unnamed = is_set (bucket_at index tag) k ≡ false
+
+    same : (t : Tag) → same_tag t tag ≡ true → t ≡ tag
+    same t e = let x = and_parts (t.group == tag.group) (t.element == tag.element) e in alike t.group t.element tag.group tag.element (eqb-true t.group tag.group x.0) (eqb-true t.element tag.element x.1)
+      where
+        tag_of : ℕ → ℕ → Tag
+        tag_of a b = record { group = a; element = b }
+
+        alike : (a b c d : ℕ) → a ≡ c → b ≡ d → tag_of a b ≡ tag_of c d
+        alike a b c d p q = cc
+
+    other_tag : (t : Tag) → names index k t ≡ true → Unnamed → same_tag t tag ≡ false
+    other_tag t n u = by_test (same_tag t tag) refl
+      where
+        by_test : (b : Bool) → same_tag t tag ≡ b → same_tag t tag ≡ false
+        by_test false e = e
+        by_test true e = absurd (false≢true (sym u ∙ ap (λ (x : Tag). names index k x) (sym (same t e)) ∙ n))
+
+    path_stays : (p : PathEdit) → has_path index k p ≡ true → Unnamed → Unmade → fate (on_path p) tag ≡ stays
+    path_stays (step t i p) h n u = refl
+    path_stays (insert t vr value) h n u = absurd (false≢true (sym u ∙ h))
+    path_stays (modify t vr value) h n u = ap (λ (b : Bool). if b then becomes vr value else stays) (other_tag t h n)
+    path_stays (erase t) h n u = ap (λ (b : Bool). if b then goes else stays) (other_tag t h n)
+    path_stays (erase_item t i) h n u = refl
+
+    path_left_stays : (d : ℕ) (p : PathEdit) → has_path index k p ≡ true → Unnamed → Unmade → fate (on_path (rest_of_path d p)) tag ≡ stays
+    path_left_stays zero p h n u = path_stays p h n u
+    path_left_stays (suc d) (step t i p) h n u = path_left_stays d p h n u
+    path_left_stays (suc d) (insert t vr value) h n u = path_stays (insert t vr value) h n u
+    path_left_stays (suc d) (modify t vr value) h n u = path_stays (modify t vr value) h n u
+    path_left_stays (suc d) (erase t) h n u = path_stays (erase t) h n u
+    path_left_stays (suc d) (erase_item t i) h n u = refl
+
+    edit_stays : (d : ℕ) (e : Edit) → has_edit index k e ≡ true → Unnamed → Unmade → (is_private tag ≡ true → is_set index.private k ≡ false) → fate (at_depth d e) tag ≡ stays
+    edit_stays d (on_path p) h n u o = path_left_stays d p h n u
+    edit_stays d (modify_all t vr value) h n u o = ap (λ (b : Bool). if b then becomes vr value else stays) (other_tag t h n)
+    edit_stays d (erase_all t) h n u o = ap (λ (b : Bool). if b then goes else stays) (other_tag t h n)
+    edit_stays d erase_private h n u o = private_stays (is_private tag) (is_set index.private k) o h
+    edit_stays d elsewhere h n u o = refl
+
+    -- the edits that may be asked at an element of the tag
+    abbrev kept : ℕ
+    kept = among (is_private tag) (named index tag) index.private
+
+    pub still : (d : ℕ) (e : Edit) → has_edit index k e ≡ true → is_set kept k ≡ false → Still tag (at_depth d e)
+    still d e h unset =
+        let x = among_parts (is_private tag) (named index tag) index.private k unset in
+        let y = or_unset (bucket_at index tag) index.makers k x.0 in
+        (edit_stays d e h y.0 y.1 x.1, no_element_of d e h y.1)
+
+-- ---- all edits
+
+abbrev AlikeAt : Tag → Edit → Edit → Type 0
+AlikeAt tag e f = (e ≡ f) ⊎ (Still tag e × (f ≡ elsewhere))
+
+or_alike : (a b c d : Bool) → a ≡ b → c ≡ d → (a || c) ≡ (b || d)
+or_alike a b c d p q = cc
+
+fates_alike : (a b c d : Fate) → a ≡ b → c ≡ d → or_else a c ≡ or_else b d
+fates_alike a b c d p q = cc
+
+cons_alike : (a b : Bool) (xs ys : List Bool) → a ≡ b → xs ≡ ys → a ∷ xs ≡ b ∷ ys
+cons_alike a b xs ys p q = cc
+
+module _ (tag : Tag) (last : Option Tag) where
+  meets_alike : (e f : Edit) → AlikeAt tag e f → answer_of (Meets tag last) f ≡ answer_of (Meets tag last) e
+  meets_alike e f (inl s) = ap (answer_of (Meets tag last)) (sym s)
+  meets_alike e f (inr (quiet, s)) =
+      ap (answer_of (Meets tag last)) s
+      ∙ sym (ap (λ (x : Fate). acts x || passes_new (is_between last tag) (element_of e)) quiet.0 ∙ ap (passes_new (is_between last tag)) quiet.1)
+
+  heads_alike : (e f : Edit) → AlikeAt tag e f → answer_of (AtHead tag last) f ≡ answer_of (AtHead tag last) e
+  heads_alike e f (inl s) = ap (answer_of (AtHead tag last)) (sym s)
+  heads_alike e f (inr (quiet, s)) =
+      ap (answer_of (AtHead tag last)) s
+      ∙ sym (ap (λ (x : Fate). acts x || makes (is_between last tag) (element_of e)) quiet.0 ∙ ap (makes (is_between last tag)) quiet.1)
+
+fate_alike : (tag : Tag) (e f : Edit) → AlikeAt tag e f → fate f tag ≡ fate e tag
+fate_alike tag e f (inl s) = ap (λ (x : Edit). fate x tag) (sym s)
+fate_alike tag e f (inr (quiet, s)) = ap (λ (x : Edit). fate x tag) s ∙ sym quiet.0
+
+abbrev masked : Bool → ℕ → Edit → Edit
+masked b d e = if b then at_depth d e else elsewhere
+
+one_alike : (tag : Tag) (d : ℕ) (e : Edit) (a b c : Bool) → c ≡ (a && b) → (b ≡ false → Still tag (at_depth d e)) → AlikeAt tag (masked a d e) (masked c d e)
+one_alike tag d e false b c is h = inl (ap (λ (x : Bool). masked x d e) (sym is))
+one_alike tag d e true true c is h = inl (ap (λ (x : Bool). masked x d e) (sym is))
+one_alike tag d e true false c is h = inr (h refl, ap (λ (x : Bool). masked x d e) is)
+
+module _ (index : TagIndex) (d mask : ℕ) (tag : Tag) where
+  here_alike : (k : ℕ) (e : Edit) → has_edit index k e ≡ true → AlikeAt tag (asked_one d mask k e) (asked_one d (candidates index mask tag) k e)
+  here_alike k e h = one_alike tag d e (is_set mask k) (is_set (kept index k tag) k) (is_set (candidates index mask tag) k) (set_in_both mask (kept index k tag) k) (λ unset. still index k tag d e h unset)
+
+  pub any_narrowed : (last : Option Tag) (k : ℕ) (es : List Edit) → has_all index k es ≡ true → any_answer (Meets tag last) (asked d (candidates index mask tag) k es) ≡ any_answer (Meets tag last) (asked d mask k es)
+  any_narrowed last k [] h = refl
+  any_narrowed last k (e ∷ es) h =
+      let x = and_parts (has_edit index k e) (has_all index (suc k) es) h in
+      or_alike _ _ _ _ (meets_alike tag last _ _ (here_alike k e x.0)) (any_narrowed last (suc k) es x.1)
+
+  pub fate_narrowed : (k : ℕ) (es : List Edit) → has_all index k es ≡ true → first_fate (asked d (candidates index mask tag) k es) tag ≡ first_fate (asked d mask k es) tag
+  fate_narrowed k [] h = refl
+  fate_narrowed k (e ∷ es) h =
+      let x = and_parts (has_edit index k e) (has_all index (suc k) es) h in
+      fates_alike _ _ _ _ (fate_alike tag _ _ (here_alike k e x.0)) (fate_narrowed (suc k) es x.1)
+
+  pub heads_narrowed : (last : Option Tag) (k : ℕ) (es : List Edit) → has_all index k es ≡ true → map (answer_of (AtHead tag last)) (asked d (candidates index mask tag) k es) ≡ map (answer_of (AtHead tag last)) (asked d mask k es)
+  heads_narrowed last k [] h = refl
+  heads_narrowed last k (e ∷ es) h =
+      let x = and_parts (has_edit index k e) (has_all index (suc k) es) h in
+      cons_alike _ _ _ _ (heads_alike tag last _ _ (here_alike k e x.0)) (heads_narrowed last (suc k) es x.1)
+
+-- no edit of an empty mask is asked
+pub none_asked : (last : Option Tag) (tag : Tag) (d mask k : ℕ) (es : List Edit) → mask ≡ 0 → any_answer (Meets tag last) (asked d mask k es) ≡ false
+none_asked last tag d mask k [] m = refl
+none_asked last tag d mask k (e ∷ es) m =
+    ap (λ (b : Bool). answer_of (Meets tag last) (masked b d e) || any_answer (Meets tag last) (asked d mask (suc k) es)) (ap (λ (n : ℕ). is_set n k) m ∙ none_set k)
+    ∙ none_asked last tag d mask (suc k) es m
+
+-- ---- nothing is put
+
+no_maker : (index : TagIndex) (d k : ℕ) (e : Edit) (b : Bool) → has_edit index k e ≡ true → (b ≡ true → is_set index.makers k ≡ false) → element_of (masked b d e) ≡ no_element
+no_maker index d k e false h u = refl
+no_maker index d k e true h u = no_element_of index k d e h (u refl)
+
+module _ (index : TagIndex) (d mask : ℕ) (nothing : bit_and mask index.makers ≡ 0) where
+  not_both : (k : ℕ) → is_set mask k ≡ true → is_set index.makers k ≡ false
+  not_both k set = by_left (is_set mask k) set (sym (set_in_both mask index.makers k) ∙ ap (λ (n : ℕ). is_set n k) nothing ∙ none_set k)
+    where
+      by_left : (b : Bool) → b ≡ true → (b && is_set index.makers k) ≡ false → is_set index.makers k ≡ false
+      by_left true e f = f
+      by_left false e f = absurd (false≢true e)
+
+  pub none_made : (passes : Tag → Bool) (k : ℕ) (es : List Edit) (set : Trees) → has_all index k es ≡ true → puts passes (asked d mask k es) set ≡ set
+  none_made passes k [] set h = refl
+  none_made passes k (e ∷ es) set h =
+      let x = and_parts (has_edit index k e) (has_all index (suc k) es) h in
+      let none = no_maker index d k e (is_set mask k) x.0 (not_both k) in
+      ap (puts passes (asked d mask (suc k) es)) (puts_none passes (asked d mask (suc k) es) (element_of (asked_one d mask k e)) set (ap (passes_new passes) none))
+      ∙ none_made passes (suc k) es set x.1
+
+-- ---- whether an element is left as it is
+
+pub open_or_met : (dropped met left : Bool) → false ≡ dropped → left ≡ not met → left ≡ (not dropped && not met)
+open_or_met false met left d e = e
+open_or_met true met left d e = absurd (false≢true d)

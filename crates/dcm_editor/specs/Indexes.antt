@@ -1,0 +1,55 @@
+-- The masks of the edits by tags.
+use Rattle.std.specs.Prelude.{◌≡◌, ℕ, ◌+◌, ◌*◌, ◌/◌, ◌%◌, suc, List, [], ◌∷◌, Bool, true, ◌&&◌, ◌==◌, if◌then◌else◌, slice_index}
+use Rattle.std.specs.Int.Bits.{bit_and, bit_or}
+use Rattle.dcm_base.specs.declared.tag.Tag.{Tag}
+use Rattle.dcm_base.specs.Tables.Tag.{is_private}
+use Rattle.dcm_edits.specs.Edit.{PathEdit, step, insert, modify, erase, erase_item}
+use Rattle.dcm_edits.specs.Edit.{Edit, on_path, modify_all, erase_all, erase_private, elsewhere}
+use Rattle.dcm_editor.specs.Masks.{is_set}
+use Rattle.dcm_editor.specs.declared.index.TagIndex.{TagIndex}
+
+-- the number of the mask for a tag
+abbrev pub bucket_of : Tag → ℕ
+bucket_of tag = (tag.group * 65536 + tag.element) * 2654435769 % 4294967296 / 16777216
+
+abbrev pub bucket_at : TagIndex → Tag → ℕ
+bucket_at index tag = slice_index index.buckets (bucket_of tag)
+
+-- edit k is in the mask for a tag
+abbrev pub names : TagIndex → ℕ → Tag → Bool
+names index k tag = is_set (bucket_at index tag) k
+
+-- an edit on a path is where its end says
+abbrev pub has_path : TagIndex → ℕ → PathEdit → Bool
+has_path index k (step tag i edit) = has_path index k edit
+has_path index k (insert tag vr value) = is_set index.makers k
+has_path index k (modify tag vr value) = names index k tag
+has_path index k (erase tag) = names index k tag
+has_path index k (erase_item tag i) = true
+
+abbrev pub has_edit : TagIndex → ℕ → Edit → Bool
+has_edit index k (on_path edit) = has_path index k edit
+has_edit index k (modify_all tag vr value) = names index k tag
+has_edit index k (erase_all tag) = names index k tag
+has_edit index k erase_private = is_set index.private k
+has_edit index k elsewhere = true
+
+-- each edit from number k on
+abbrev pub has_all : TagIndex → ℕ → List Edit → Bool
+has_all index k [] = true
+has_all index k (e ∷ es) = has_edit index k e && has_all index (suc k) es
+
+-- what one has, the other has too
+abbrev pub Grows : (old new : TagIndex) → Type 0
+Grows old new = (k : ℕ) (e : Edit) → has_edit old k e ≡ true → has_edit new k e ≡ true
+
+-- the edits that name a tag or put what is missing
+abbrev pub named : TagIndex → Tag → ℕ
+named index tag = bit_or (bucket_at index tag) index.makers
+
+-- of the edits of a mask, those that may change an element with this tag, or put what is missing
+abbrev pub candidates : TagIndex → ℕ → Tag → ℕ
+candidates index mask tag = bit_and mask (if is_private tag then bit_or (named index tag) index.private else named index tag)
+
+abbrev pub makes_nothing : TagIndex → ℕ → Bool
+makes_nothing index mask = bit_and mask index.makers == 0
