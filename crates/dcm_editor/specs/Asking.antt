@@ -84,6 +84,14 @@ is_on_path (erase_all tag) = false
 is_on_path erase_private = false
 is_on_path elsewhere = false
 
+-- an edit that is asked in each data set
+abbrev pub is_everywhere : Edit → Bool
+is_everywhere (on_path edit) = false
+is_everywhere (modify_all tag vr value) = true
+is_everywhere (erase_all tag) = true
+is_everywhere erase_private = true
+is_everywhere elsewhere = false
+
 -- the answers of an edit to the questions about a place of the input
 abbrev pub answer_of : Question → Edit → Bool
 answer_of (questions.AtHead tag last) e = acts (fate e tag) || makes (is_between last tag) (element_of e)
@@ -93,7 +101,7 @@ answer_of questions.AtTop e = has_place (element_of e)
 answer_of (questions.AtEnd last) e = makes (above_last last) (element_of e)
 answer_of (questions.GoesAlong tag n) e = goes_along e tag n
 answer_of (questions.Erases tag n) e = erases e tag n
-answer_of questions.IsOnPath e = is_on_path e
+answer_of questions.IsEverywhere e = is_everywhere e
 
 -- ---- the edits of a command line
 

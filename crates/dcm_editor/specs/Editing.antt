@@ -1,7 +1,6 @@
 -- The state of the edits, as the program holds it.
 use Rattle.std.specs.Prelude.{◌≡◌, ◌⊎◌, List, [], ◌∷◌, map, fold, length, reverse, Option, Some, None, Result}
-use Rattle.std.specs.Prelude.{MatchResult, ℕ, Bool, false, not, ◌&&◌, ◌==◌}
-use Rattle.std.specs.Int.Bits.{bit_and}
+use Rattle.std.specs.Prelude.{MatchResult, ℕ, Bool, false, not, ◌&&◌}
 use Rattle.dcm_base.specs.declared.length.Length.{Length}
 use Rattle.dcm_base.specs.declared.syntax.Syntax.{Syntax}
 use Rattle.dcm_base.specs.declared.tag.Tag.{Tag}
@@ -12,8 +11,10 @@ use Rattle.dcm_stream.specs.Skip.{depth, is_open}
 use Rattle.dcm_edits.specs.declared.edit.Edit.{Edit as AnEdit}
 use Rattle.dcm_editor.specs.declared.editor.Level.{Level}
 use Rattle.dcm_editor.specs.declared.editor.Editor.{Editor}
+use Rattle.dcm_editor.specs.declared.index.TagIndex.{TagIndex}
 use Rattle.dcm_edits.specs.Edit.{Edit, Fate}
 use Rattle.dcm_editor.specs.EditSink.{State, either, head_by, next, passed}
+use Rattle.dcm_editor.specs.Indexes.{makes_nothing, enters_nothing}
 use Rattle.dcm_editor.specs.Masks as masks
 use Rattle.dcm_base.specs.Steps.Atoms.{Atom, opens, closes_item, ends}
 use Rattle.dcm_base.specs.Tree.Tree.{Trees, no_tree}
@@ -81,9 +82,14 @@ abbrev pub is_met : {A : Type 0} → List (AnEdit A) → Editor → ℕ → Tag 
 is_met edits e mask tag =
     any_answer (Meets tag e.level.last) (masks.asked (length (reverse e.outermost_first.items)) mask 0 (map edit_of edits))
 
--- nothing is dropped, and none of the edits of a mask asks something of the innermost open data set
-abbrev pub is_free_of : ℕ → Editor → Bool
-is_free_of paths e = not (is_open (depth e.skip)) && bit_and e.level.mask paths == 0
+-- nothing is dropped, and no edit puts something above the last element of the innermost open data set
+abbrev pub puts_nothing : TagIndex → Editor → Bool
+puts_nothing index e = not (is_open (depth e.skip)) && makes_nothing index e.level.mask
+
+-- nothing is dropped, and no edit names the items of the last element
+abbrev pub passes_item : TagIndex → Editor → Option Tag → Bool
+passes_item index e None = false
+passes_item index e (Some tag) = not (is_open (depth e.skip)) && enters_nothing index e.level.mask tag
 
 abbrev pub any_erases : {A : Type 0} → List (AnEdit A) → Editor → Tag → Bool
 any_erases edits e tag = together.any_erases (asked_here edits e) tag e.level.items

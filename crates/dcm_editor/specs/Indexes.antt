@@ -1,36 +1,48 @@
 -- The masks of the edits by tags.
-use Rattle.std.specs.Prelude.{◌≡◌, ℕ, ◌+◌, ◌*◌, ◌/◌, ◌%◌, suc, List, [], ◌∷◌, Bool, true, ◌&&◌, ◌==◌, if◌then◌else◌, slice_index}
+use Rattle.std.specs.Prelude.{◌≡◌, ℕ, ◌+◌, ◌*◌, ◌/◌, ◌%◌, suc, List, [], ◌∷◌, map, Bool, true, ◌&&◌, ◌==◌, if◌then◌else◌, slice_index}
 use Rattle.std.specs.Int.Bits.{bit_and, bit_or}
 use Rattle.dcm_base.specs.declared.tag.Tag.{Tag}
 use Rattle.dcm_base.specs.Tables.Tag.{is_private}
 use Rattle.dcm_edits.specs.Edit.{PathEdit, step, insert, modify, erase, erase_item}
 use Rattle.dcm_edits.specs.Edit.{Edit, on_path, modify_all, erase_all, erase_private, elsewhere}
-use Rattle.dcm_editor.specs.Masks.{is_set}
+use Rattle.dcm_editor.specs.Masks.{is_set, bits}
+use Rattle.dcm_edits.specs.declared.edit.Step.{Step}
+use Rattle.dcm_editor.specs.Asking.{is_everywhere}
 use Rattle.dcm_editor.specs.declared.index.TagIndex.{TagIndex}
+use Rattle.dcm_editor.specs.declared.index.TagMasks.{TagMasks}
 
 -- the number of the mask for a tag
 abbrev pub bucket_of : Tag → ℕ
 bucket_of tag = (tag.group * 65536 + tag.element) * 2654435769 % 4294967296 / 16777216
 
-abbrev pub bucket_at : TagIndex → Tag → ℕ
-bucket_at index tag = slice_index index.buckets (bucket_of tag)
+abbrev pub mask_at : TagMasks → Tag → ℕ
+mask_at masks tag = slice_index masks.buckets (bucket_of tag)
 
 -- edit k is in the mask for a tag
-abbrev pub names : TagIndex → ℕ → Tag → Bool
-names index k tag = is_set (bucket_at index tag) k
+abbrev pub names : TagMasks → ℕ → Tag → Bool
+names masks k tag = is_set (mask_at masks tag) k
 
--- an edit on a path is where its end says
+-- it is in those for the tags of these steps
+abbrev pub names_steps : TagMasks → ℕ → List Step → Bool
+names_steps masks k [] = true
+names_steps masks k (s ∷ steps) = names masks k s.tag && names_steps masks k steps
+
+-- what some have, the others have too
+abbrev pub MasksGrow : (old new : TagMasks) → Type 0
+MasksGrow old new = (k : ℕ) (tag : Tag) → names old k tag ≡ true → names new k tag ≡ true
+
+-- an edit on a path is where its steps and its end say
 abbrev pub has_path : TagIndex → ℕ → PathEdit → Bool
-has_path index k (step tag i edit) = has_path index k edit
+has_path index k (step tag i edit) = names index.steps k tag && has_path index k edit
 has_path index k (insert tag vr value) = is_set index.makers k
-has_path index k (modify tag vr value) = names index k tag
-has_path index k (erase tag) = names index k tag
-has_path index k (erase_item tag i) = true
+has_path index k (modify tag vr value) = names index.ends k tag
+has_path index k (erase tag) = names index.ends k tag
+has_path index k (erase_item tag i) = names index.steps k tag
 
 abbrev pub has_edit : TagIndex → ℕ → Edit → Bool
 has_edit index k (on_path edit) = has_path index k edit
-has_edit index k (modify_all tag vr value) = names index k tag
-has_edit index k (erase_all tag) = names index k tag
+has_edit index k (modify_all tag vr value) = names index.ends k tag
+has_edit index k (erase_all tag) = names index.ends k tag
 has_edit index k erase_private = is_set index.private k
 has_edit index k elsewhere = true
 
@@ -45,7 +57,7 @@ Grows old new = (k : ℕ) (e : Edit) → has_edit old k e ≡ true → has_edit 
 
 -- the edits that name a tag or put what is missing
 abbrev pub named : TagIndex → Tag → ℕ
-named index tag = bit_or (bucket_at index tag) index.makers
+named index tag = bit_or (mask_at index.ends tag) index.makers
 
 -- of the edits of a mask, those that may change an element with this tag, or put what is missing
 abbrev pub candidates : TagIndex → ℕ → Tag → ℕ
@@ -53,3 +65,11 @@ candidates index mask tag = bit_and mask (if is_private tag then bit_or (named i
 
 abbrev pub makes_nothing : TagIndex → ℕ → Bool
 makes_nothing index mask = bit_and mask index.makers == 0
+
+-- no edit of a mask names the items of the sequence with this tag
+abbrev pub enters_nothing : TagIndex → ℕ → Tag → Bool
+enters_nothing index mask tag = bit_and mask (mask_at index.steps tag) == 0
+
+-- it tells which edits are asked in each data set
+abbrev pub tells_everywhere : TagIndex → List Edit → Type 0
+tells_everywhere index edits = bits index.everywhere 0 edits ≡ map is_everywhere edits

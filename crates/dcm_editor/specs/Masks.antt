@@ -65,14 +65,6 @@ abbrev pub AllSet : ℕ → ℕ → List Edit → Type 0
 AllSet mask k [] = Unit {0}
 AllSet mask k (e ∷ es) = (is_set mask k ≡ true) × AllSet mask (suc k) es
 
--- ---- edits on paths
-
--- a mask has each edit that is on a path, from number k on
-abbrev pub has_paths : ℕ → ℕ → List Edit → Bool
-has_paths mask k [] = true
-has_paths mask k (on_path edit ∷ es) = is_set mask k && has_paths mask (suc k) es
-has_paths mask k (e ∷ es) = has_paths mask (suc k) es
-
 -- ---- new elements of paths
 
 -- the first tag of a path
@@ -173,20 +165,20 @@ masks_passed_by s tag = record {
   found = s.found;
 }
 
--- after the head of an item of which no edit on a path asks something
-abbrev pub masks_entered : MaskState → MaskState
-masks_entered s = record {
-  level = record { mask = s.level.mask; last = None; count = 0 };
+-- after the head of an item that no edit names, with its mask
+abbrev pub masks_entered : ℕ → MaskState → MaskState
+masks_entered inner s = record {
+  level = record { mask = inner; last = None; count = 0 };
   outer = record { mask = s.level.mask; last = s.level.last; count = min MOST_COUNTED (suc s.level.count) } ∷ s.outer;
   dropped = dropped_after_head s.dropped false;
   found = s.found;
 }
 
-abbrev pub masks_item_passed : MaskState → Option Tag → MaskState
-masks_item_passed s None = s
-masks_item_passed s (Some tag) = if nat_lt (length s.outer) MOST_AROUND then masks_entered s else s
+abbrev pub masks_item_passed : ℕ → MaskState → Option Tag → MaskState
+masks_item_passed inner s None = s
+masks_item_passed inner s (Some tag) = if nat_lt (length s.outer) MOST_AROUND then masks_entered inner s else s
 
--- after the end of an item above whose last element no edit on a path puts something
+-- after the end of an item above whose last element no edit puts something
 abbrev pub masks_item_left : MaskState → List MaskLevel → MaskState
 masks_item_left s [] = record { level = s.level; outer = []; dropped = dropped_after_end s.dropped; found = s.found }
 masks_item_left s (level ∷ outer) = record {

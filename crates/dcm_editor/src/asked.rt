@@ -53,8 +53,8 @@ pub enum Question {
     GoesAlong(Tag, u32),
     /// Whether it erases this item of a sequence.
     Erases(Tag, u32),
-    /// Whether it is on a path. No other one erases an item, or puts what is missing.
-    IsOnPath,
+    /// Whether it asks something of each data set, and nothing of its place.
+    IsEverywhere,
 }
 
 /// The group of private elements is odd (PS3.5 7.8).
@@ -354,6 +354,15 @@ fn is_on_path<A: Allocator>(edit: &Edit<A>) -> bool
     }
 }
 
+fn is_everywhere<A: Allocator>(edit: &Edit<A>) -> bool
+    ensures { result ≡ asking.is_everywhere (edit_of edit.now) }
+{
+    match edit {
+        Edit::OnPath(_) => false,
+        Edit::ModifyAll(_) | Edit::EraseAll(_) | Edit::ErasePrivate => true,
+    }
+}
+
 /// The answer of an edit that asks something of a data set within so many items.
 #[inline(always)]
 pub fn answers<A: Allocator>(edit: &Edit<A>, depth: usize, question: Question) -> bool
@@ -373,6 +382,6 @@ pub fn answers<A: Allocator>(edit: &Edit<A>, depth: usize, question: Question) -
         Question::AtEnd(last) => makes(edit, depth, Gap { last, next: None }),
         Question::GoesAlong(tag, item) => goes_along(edit, depth, tag, item),
         Question::Erases(tag, item) => erases(edit, depth, tag, item),
-        Question::IsOnPath => is_on_path(edit),
+        Question::IsEverywhere => is_everywhere(edit),
     }
 }

@@ -41,19 +41,6 @@ pub struct Editor {
     pub found: u64,
 }
 
-/// The edits that are on a path.
-pub fn edits_on_paths<A: Allocator>(edits: &[Edit<A>]) -> u64
-    requires { length edits.now ≤ 64 }
-    ensures { masks.has_paths result 0 (map edit_of edits.now) ≡ true }
-{
-    Asked {
-        edits,
-        depth: 0,
-        mask: all(edits.len()),
-    }
-    .answering(Question::IsOnPath)
-}
-
 /// A data set of which these edits ask something.
 #[inline(always)]
 fn new_level(mask: u64) -> Level
@@ -220,23 +207,33 @@ impl Editor {
         self.level.items = 0;
     }
 
-    /// Whether nothing is dropped, and none of these edits asks something of the innermost data set.
+    /// Whether nothing is dropped, and no edit puts something above the last element of the innermost data set.
     #[inline(always)]
-    pub fn is_free_of(&self, paths: u64) -> bool
-        ensures { result ≡ editing.is_free_of paths self.now }
+    pub fn puts_nothing(&self, index: &TagIndex) -> bool
+        ensures { result ≡ editing.puts_nothing index.now self.now }
     {
-        !self.skip.is_open() && self.level.mask & paths == 0
+        !self.skip.is_open() && index.makes_nothing(self.level.mask)
     }
 
-    /// After the head of an item that is passed on as it is, and of which the same edits ask something.
-    pub fn pass_item(&mut self)
+    /// Whether nothing is dropped, and no edit names the items of the last element.
+    #[inline(always)]
+    pub fn passes_item(&self, index: &TagIndex) -> bool
+        ensures { result ≡ editing.passes_item index.now self.now self.now.level.last }
+    {
+        match self.level.last {
+            Some(tag) => !self.skip.is_open() && index.enters_nothing(self.level.mask, tag),
+            None => false,
+        }
+    }
+
+    /// After the head of an item that is passed on as it is, and of which these edits ask something.
+    pub fn pass_item(&mut self, mask: u64)
         ensures { editing.state self.new
-            ≡ masks.masks_item_passed (editing.state self.old) (editing.state self.old).level.last }
+            ≡ masks.masks_item_passed mask (editing.state self.old) (editing.state self.old).level.last }
     {
         if self.level.last.is_none() || self.outermost_first.len() >= MOST_AROUND {
             return;
         }
-        let mask = self.level.mask;
         self.skip.open(false);
         self.level.items = self.level.items.saturating_add(1);
         self.outermost_first.push(self.level);

@@ -2,12 +2,16 @@
 ghost use Rattle.std.specs.Prelude.{◌≡◌, ◌≤◌, ◌<◌, ℕ, length, map, true};
 ghost use Rattle.dcm_edits.specs.Edit.{Edit as AnEdit};
 ghost use Rattle.dcm_edits.specs.Meaning.{action_of, edit_of};
+ghost use Rattle.dcm_editor.specs.Asking.{is_everywhere};
 ghost use Rattle.dcm_editor.specs.Indexes as indexes;
+ghost use Rattle.dcm_editor.specs.Masks as masks;
+ghost use Rattle.std.specs.Int.Bits.{bit_and};
 
-use crate::asked::is_private;
-use crate::mask::with_bit;
+use crate::asked::{Question, is_private};
+use crate::mask::{all, with_bit};
+use crate::place::Asked;
 use dcm_base::Tag;
-use dcm_edits::{Action, Edit};
+use dcm_edits::{Action, Edit, Step};
 use std::alloc::Allocator;
 
 /// How many masks there are for the tags.
@@ -22,14 +26,22 @@ const ALL_TAGS: u64 = 0x1_0000_0000;
 /// Spreads tags that are close to each other: 2^32 divided by the golden ratio.
 const SPREAD: u64 = 0x9E37_79B9;
 
-/// For each tag a mask of the edits that name it at the end of their paths, among those of a few other tags; of the
-/// edits that put what is missing; and of those that erase private elements. An element that no edit names is found to
-/// be so by one look, however many edits there are.
+/// For each tag a mask of the edits that name it, among those of a few other tags.
+#[derive(Drop)]
+struct TagMasks {
+    buckets: [u64; BUCKETS],
+}
+
+/// For each tag the edits that name it at the end of their paths, and those that name the sequence with this tag on
+/// the way; the edits that put what is missing, those that erase private elements, and those that are asked in each
+/// data set. That no edit asks something of an element, or of an item, is found by one look, however many there are.
 #[derive(Drop)]
 pub struct TagIndex {
-    buckets: [u64; BUCKETS],
+    ends: TagMasks,
+    steps: TagMasks,
     makers: u64,
     private: u64,
+    everywhere: u64,
 }
 
 /// The number of the mask for a tag.
@@ -42,24 +54,58 @@ fn bucket_of(tag: Tag) -> usize
     (number * SPREAD % ALL_TAGS / TAGS_OF_A_BUCKET) as usize
 }
 
-impl TagIndex {
-    /// That of no edit.
-    fn empty() -> TagIndex {
-        TagIndex {
+impl TagMasks {
+    /// Those of no edit.
+    fn empty() -> TagMasks {
+        TagMasks {
             buckets: [0; BUCKETS],
-            makers: 0,
-            private: 0,
         }
     }
 
     /// Adds an edit that names a tag.
-    fn add_tag(&mut self, tag: Tag, place: usize)
+    fn add(&mut self, tag: Tag, place: usize)
         requires { place < 64 }
         ensures here { indexes.names self.new place tag ≡ true }
-        ensures others { indexes.Grows self.old self.new }
+        ensures others { indexes.MasksGrow self.old self.new }
     {
         let bucket = bucket_of(tag);
         self.buckets[bucket] = with_bit(self.buckets[bucket], place);
+    }
+
+    /// Adds an edit with these steps.
+    fn add_steps(&mut self, steps: &[Step], place: usize)
+        requires { place < 64 }
+        ensures here { indexes.names_steps self.new place steps.now ≡ true }
+        ensures others { indexes.MasksGrow self.old self.new }
+    {
+        let mut rest = steps;
+        while let Some((step, after)) = rest.split_first() {
+            self.add(step.tag, place);
+            rest = after;
+        }
+    }
+
+    /// The edits for a tag.
+    #[inline(always)]
+    fn at(&self, tag: Tag) -> u64
+        ensures { result ≡ indexes.mask_at self.now tag }
+    {
+        self.buckets[bucket_of(tag)]
+    }
+}
+
+impl TagIndex {
+    /// That of no edit, beside those that are asked in each data set.
+    fn empty(everywhere: u64) -> TagIndex
+        ensures { result.everywhere ≡ everywhere }
+    {
+        TagIndex {
+            ends: TagMasks::empty(),
+            steps: TagMasks::empty(),
+            makers: 0,
+            private: 0,
+            everywhere,
+        }
     }
 
     /// Adds an edit with this action at the end of its path.
@@ -67,12 +113,13 @@ impl TagIndex {
         requires { place < 64 }
         ensures here { indexes.has_path self.new place (action_of action.now) ≡ true }
         ensures others { indexes.Grows self.old self.new }
+        ensures same { self.new.everywhere ≡ self.old.everywhere }
     {
         match action {
             Action::Insert(_) => self.makers = with_bit(self.makers, place),
-            Action::Modify(element) => self.add_tag(element.tag, place),
-            Action::Erase(tag) => self.add_tag(*tag, place),
-            Action::EraseItem(_) => {}
+            Action::Modify(element) => self.ends.add(element.tag, place),
+            Action::Erase(tag) => self.ends.add(*tag, place),
+            Action::EraseItem(step) => self.steps.add(step.tag, place),
         }
     }
 
@@ -81,11 +128,15 @@ impl TagIndex {
         requires { place < 64 }
         ensures here { indexes.has_edit self.new place (edit_of edit.now) ≡ true }
         ensures others { indexes.Grows self.old self.new }
+        ensures same { self.new.everywhere ≡ self.old.everywhere }
     {
         match edit {
-            Edit::OnPath(path) => self.add_action(&path.action, place),
-            Edit::ModifyAll(element) => self.add_tag(element.tag, place),
-            Edit::EraseAll(tag) => self.add_tag(*tag, place),
+            Edit::OnPath(path) => {
+                self.add_action(&path.action, place);
+                self.steps.add_steps(path.steps.as_slice(), place);
+            }
+            Edit::ModifyAll(element) => self.ends.add(element.tag, place),
+            Edit::EraseAll(tag) => self.ends.add(*tag, place),
             Edit::ErasePrivate => self.private = with_bit(self.private, place),
         }
     }
@@ -93,9 +144,10 @@ impl TagIndex {
     /// That of the edits of a command line.
     pub fn of<A: Allocator>(edits: &[Edit<A>]) -> TagIndex
         requires { length edits.now ≤ 64 }
-        ensures { indexes.has_all result 0 (map edit_of edits.now) ≡ true }
+        ensures all { indexes.has_all result 0 (map edit_of edits.now) ≡ true }
+        ensures everywhere { indexes.tells_everywhere result (map edit_of edits.now) }
     {
-        let mut index = TagIndex::empty();
+        let mut index = TagIndex::empty(edits_everywhere(edits));
         let mut rest = edits;
         let mut place = 0;
         while let Some((edit, after)) = rest.split_first() {
@@ -111,7 +163,7 @@ impl TagIndex {
     pub fn candidates(&self, mask: u64, tag: Tag) -> u64
         ensures { result ≡ indexes.candidates self.now mask tag }
     {
-        let named = self.buckets[bucket_of(tag)] | self.makers;
+        let named = self.ends.at(tag) | self.makers;
         if is_private(tag) {
             return mask & (named | self.private);
         }
@@ -125,4 +177,33 @@ impl TagIndex {
     {
         mask & self.makers == 0
     }
+
+    /// Whether no edit of a mask names the items of the sequence with this tag.
+    #[inline(always)]
+    pub fn enters_nothing(&self, mask: u64, tag: Tag) -> bool
+        ensures { result ≡ indexes.enters_nothing self.now mask tag }
+    {
+        mask & self.steps.at(tag) == 0
+    }
+
+    /// The edits of a mask that are asked in each data set.
+    #[inline(always)]
+    pub fn everywhere(&self, mask: u64) -> u64
+        ensures { result ≡ bit_and mask self.now.everywhere }
+    {
+        mask & self.everywhere
+    }
+}
+
+/// The edits that are asked in each data set.
+fn edits_everywhere<A: Allocator>(edits: &[Edit<A>]) -> u64
+    requires { length edits.now ≤ 64 }
+    ensures { masks.bits result 0 (map edit_of edits.now) ≡ map is_everywhere (map edit_of edits.now) }
+{
+    Asked {
+        edits,
+        depth: 0,
+        mask: all(edits.len()),
+    }
+    .answering(Question::IsEverywhere)
 }

@@ -16,7 +16,7 @@ ghost use Rattle.dcm_editor.specs.Outputs as outputs;
 ghost use Rattle.dcm_editor.specs.Through.{through_step, through_writes, through_bar};
 
 use crate::asked::{Fate, Gap};
-use crate::editor::{Editor, edits_on_paths};
+use crate::editor::Editor;
 use crate::index::TagIndex;
 use crate::mask::unset_bits;
 use crate::new::{put_leaf_at, put_new};
@@ -183,14 +183,13 @@ fn pass_edited<S: Sink, A: Allocator>(
 }
 
 /// Passes on what a token of the input becomes, and goes on after it. An element that no edit meets is passed on as it
-/// is, and so is what a value, a sequence or a fragment list has beside items. So are the head and the end of an item
-/// where no edit on a path asks something of the data set.
+/// is, and so is what a value, a sequence or a fragment list has beside items. So are the head of an item that no edit
+/// names, and its end where no edit puts what is missing.
 #[inline(always)]
 fn pass_on<S: Sink, A: Allocator>(
     editor: &mut Editor,
     edits: &[Edit<A>],
     index: &TagIndex,
-    paths: u64,
     token: Token,
     sink: &mut S,
 ) -> Result<(), WriteFailed>
@@ -198,7 +197,7 @@ fn pass_on<S: Sink, A: Allocator>(
     requires index { indexes.has_all index.now 0 (map edit_of edits.now) ≡ true }
     requires short { asking.AreShort (map edit_of edits.now) }
     requires sound { IsSound (editing.meant edits.now editor.old) }
-    requires paths { masks.has_paths paths 0 (map edit_of edits.now) ≡ true }
+    requires everywhere { indexes.tells_everywhere index.now (map edit_of edits.now) }
     requires filled { IsFilled token }
     ensures took { sinks.Took S.Sink sink.old sink.new
         (editing.passed_of edits.now editor.old (atoms_of token.entry)) result }
@@ -211,11 +210,11 @@ fn pass_on<S: Sink, A: Allocator>(
         }
         Token::Bytes(_) | Token::CloseLeaf | Token::CloseSeq | Token::OpenFragment(_)
             if !editor.skip.is_open() => { sink.take(token)? }
-        Token::OpenItem(_) if editor.is_free_of(paths) => {
+        Token::OpenItem(_) if editor.passes_item(index) => {
             sink.take(token)?;
-            editor.pass_item();
+            editor.pass_item(index.everywhere(editor.level.mask));
         }
-        Token::CloseItem if editor.is_free_of(paths) => {
+        Token::CloseItem if editor.puts_nothing(index) => {
             sink.take(token)?;
             editor.leave_item();
         }
@@ -231,10 +230,9 @@ pub struct EditSink<'e, S, A: Allocator = Global> {
     edits: &'e Edits<A>,
     inner: &'e mut S,
     editor: Editor,
-    paths: u64,
     index: TagIndex,
-    ghost paths_are: { masks.has_paths paths 0 edits.now ≡ true },
     ghost index_has: { indexes.has_all index 0 edits.now ≡ true },
+    ghost index_tells: { indexes.tells_everywhere index edits.now },
     ghost sound: { IsSoundAt edits.now editor } by { IsSoundAt-prop edits.now editor },
 }
 
@@ -250,7 +248,6 @@ impl<'e, S: Sink, A: Allocator> EditSink<'e, S, A> {
             edits,
             inner,
             editor: Editor::new(edits.list()),
-            paths: edits_on_paths(edits.list()),
             index: TagIndex::of(edits.list()),
         }
     }
@@ -290,7 +287,6 @@ impl<'e, S: Sink, A: Allocator> Sink for EditSink<'e, S, A> {
             &mut self.editor,
             self.edits.list(),
             &self.index,
-            self.paths,
             token,
             self.inner,
         )

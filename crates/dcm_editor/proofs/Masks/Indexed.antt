@@ -8,17 +8,18 @@ use Rattle.std.proofs.lemmas.Nat.Bits.{bit_at_and, bit_at-lt, bit_at-zero}
 use Rattle.dcm_base.specs.declared.tag.Tag.{Tag}
 use Rattle.dcm_base.specs.Tables.Tag.{same_tag, is_private}
 use Rattle.dcm_base.specs.Tree.Tree.{Trees}
-use Rattle.dcm_edits.specs.Edit.{number, every, PathEdit, step, insert, modify, erase, erase_item, new_element, around}
+use Rattle.dcm_edits.specs.Edit.{number, every, selects, erases, within, PathEdit, step, insert, modify, erase, erase_item, new_element, around}
 use Rattle.dcm_edits.specs.Edit.{Edit, on_path, modify_all, erase_all, erase_private, elsewhere, Fate, stays, becomes, goes, fate, acts}
 use Rattle.dcm_edits.specs.Edit.{no_element, element_of}
-use Rattle.dcm_edits.specs.Together.{first_fate, or_else}
+use Rattle.dcm_edits.specs.Together.{any_erases, first_fate, or_else}
 use Rattle.dcm_edits.specs.NewOnes.{is_between, passes_new, puts}
-use Rattle.dcm_editor.specs.EditSink.{makes}
-use Rattle.dcm_editor.specs.Asking.{answer_of, any_answer, asked_one}
-use Rattle.dcm_editor.specs.Indexes.{bucket_at, names, has_path, has_edit, has_all, named, candidates}
-use Rattle.dcm_editor.specs.Masks.{is_set, at_depth, rest_of_path, asked}
+use Rattle.dcm_editor.specs.EditSink.{either, has_place, makes}
+use Rattle.dcm_editor.specs.Asking.{answer_of, any_answer, asked_one, is_everywhere}
+use Rattle.dcm_editor.specs.Indexes.{mask_at, names, has_path, has_edit, has_all, named, candidates}
+use Rattle.dcm_editor.specs.Masks.{is_set, at_depth, rest_of_path, asked, bits, goes_along, GoAlong}
 use Rattle.dcm_editor.specs.declared.asked.Question.TheVariants.{AtHead, Meets}
 use Rattle.dcm_editor.specs.declared.index.TagIndex.{TagIndex}
+use Rattle.dcm_editor.specs.declared.index.TagMasks.{TagMasks}
 use Rattle.dcm_editor.proofs.EditSinks.Unmet.{puts_none}
 use Rattle.dcm_editor.proofs.Masks.Answering.{set_in_either}
 
@@ -77,7 +78,7 @@ module _ (index : TagIndex) (k : ℕ) where
   Unmade = is_set index.makers k ≡ false
 
   no_new : (p : PathEdit) → has_path index k p ≡ true → Unmade → new_element p ≡ no_element
-  no_new (step tag (number zero) p) h u = ap (around tag) (no_new p h u)
+  no_new (step tag (number zero) p) h u = ap (around tag) (no_new p (and_parts (names index.steps k tag) (has_path index k p) h).1 u)
   no_new (step tag (number (suc n)) p) h u = refl
   no_new (step tag every p) h u = refl
   no_new (insert tag vr value) h u = absurd (false≢true (sym u ∙ h))
@@ -87,7 +88,7 @@ module _ (index : TagIndex) (k : ℕ) where
 
   no_new_left : (d : ℕ) (p : PathEdit) → has_path index k p ≡ true → Unmade → new_element (rest_of_path d p) ≡ no_element
   no_new_left zero p h u = no_new p h u
-  no_new_left (suc d) (step tag i p) h u = no_new_left d p h u
+  no_new_left (suc d) (step tag i p) h u = no_new_left d p (and_parts (names index.steps k tag) (has_path index k p) h).1 u
   no_new_left (suc d) (insert tag vr value) h u = no_new (insert tag vr value) h u
   no_new_left (suc d) (modify tag vr value) h u = refl
   no_new_left (suc d) (erase tag) h u = refl
@@ -102,7 +103,7 @@ module _ (index : TagIndex) (k : ℕ) where
 
   module _ (tag : Tag) where
     abbrev Unnamed : Type 0
-    Unnamed = is_set (bucket_at index tag) k ≡ false
+    Unnamed = is_set (mask_at index.ends tag) k ≡ false
 
     same : (t : Tag) → same_tag t tag ≡ true → t ≡ tag
     same t e = let x = and_parts (t.group == tag.group) (t.element == tag.element) e in alike t.group t.element tag.group tag.element (eqb-true t.group tag.group x.0) (eqb-true t.element tag.element x.1)
@@ -113,23 +114,23 @@ module _ (index : TagIndex) (k : ℕ) where
         alike : (a b c d : ℕ) → a ≡ c → b ≡ d → tag_of a b ≡ tag_of c d
         alike a b c d p q = cc
 
-    other_tag : (t : Tag) → names index k t ≡ true → Unnamed → same_tag t tag ≡ false
-    other_tag t n u = by_test (same_tag t tag) refl
+    other_tag : (masks : TagMasks) (t : Tag) → names masks k t ≡ true → is_set (mask_at masks tag) k ≡ false → same_tag t tag ≡ false
+    other_tag masks t n u = by_test (same_tag t tag) refl
       where
         by_test : (b : Bool) → same_tag t tag ≡ b → same_tag t tag ≡ false
         by_test false e = e
-        by_test true e = absurd (false≢true (sym u ∙ ap (λ (x : Tag). names index k x) (sym (same t e)) ∙ n))
+        by_test true e = absurd (false≢true (sym u ∙ ap (λ (x : Tag). names masks k x) (sym (same t e)) ∙ n))
 
     path_stays : (p : PathEdit) → has_path index k p ≡ true → Unnamed → Unmade → fate (on_path p) tag ≡ stays
     path_stays (step t i p) h n u = refl
     path_stays (insert t vr value) h n u = absurd (false≢true (sym u ∙ h))
-    path_stays (modify t vr value) h n u = ap (λ (b : Bool). if b then becomes vr value else stays) (other_tag t h n)
-    path_stays (erase t) h n u = ap (λ (b : Bool). if b then goes else stays) (other_tag t h n)
+    path_stays (modify t vr value) h n u = ap (λ (b : Bool). if b then becomes vr value else stays) (other_tag index.ends t h n)
+    path_stays (erase t) h n u = ap (λ (b : Bool). if b then goes else stays) (other_tag index.ends t h n)
     path_stays (erase_item t i) h n u = refl
 
     path_left_stays : (d : ℕ) (p : PathEdit) → has_path index k p ≡ true → Unnamed → Unmade → fate (on_path (rest_of_path d p)) tag ≡ stays
     path_left_stays zero p h n u = path_stays p h n u
-    path_left_stays (suc d) (step t i p) h n u = path_left_stays d p h n u
+    path_left_stays (suc d) (step t i p) h n u = path_left_stays d p (and_parts (names index.steps k t) (has_path index k p) h).1 n u
     path_left_stays (suc d) (insert t vr value) h n u = path_stays (insert t vr value) h n u
     path_left_stays (suc d) (modify t vr value) h n u = path_stays (modify t vr value) h n u
     path_left_stays (suc d) (erase t) h n u = path_stays (erase t) h n u
@@ -137,8 +138,8 @@ module _ (index : TagIndex) (k : ℕ) where
 
     edit_stays : (d : ℕ) (e : Edit) → has_edit index k e ≡ true → Unnamed → Unmade → (is_private tag ≡ true → is_set index.private k ≡ false) → fate (at_depth d e) tag ≡ stays
     edit_stays d (on_path p) h n u o = path_left_stays d p h n u
-    edit_stays d (modify_all t vr value) h n u o = ap (λ (b : Bool). if b then becomes vr value else stays) (other_tag t h n)
-    edit_stays d (erase_all t) h n u o = ap (λ (b : Bool). if b then goes else stays) (other_tag t h n)
+    edit_stays d (modify_all t vr value) h n u o = ap (λ (b : Bool). if b then becomes vr value else stays) (other_tag index.ends t h n)
+    edit_stays d (erase_all t) h n u o = ap (λ (b : Bool). if b then goes else stays) (other_tag index.ends t h n)
     edit_stays d erase_private h n u o = private_stays (is_private tag) (is_set index.private k) o h
     edit_stays d elsewhere h n u o = refl
 
@@ -149,8 +150,60 @@ module _ (index : TagIndex) (k : ℕ) where
     pub still : (d : ℕ) (e : Edit) → has_edit index k e ≡ true → is_set kept k ≡ false → Still tag (at_depth d e)
     still d e h unset =
         let x = among_parts (is_private tag) (named index tag) index.private k unset in
-        let y = or_unset (bucket_at index tag) index.makers k x.0 in
+        let y = or_unset (mask_at index.ends tag) index.makers k x.0 in
         (edit_stays d e h y.0 y.1 x.1, no_element_of d e h y.1)
+
+    -- an edit that does not name the items of the sequence with this tag
+    abbrev Unentered : Type 0
+    Unentered = is_set (mask_at index.steps tag) k ≡ false
+
+    left_has : (d : ℕ) (p : PathEdit) → has_path index k p ≡ true → has_path index k (rest_of_path d p) ≡ true
+    left_has zero p h = h
+    left_has (suc d) (step t i p) h = left_has d p (and_parts (names index.steps k t) (has_path index k p) h).1
+    left_has (suc d) (insert t vr value) h = h
+    left_has (suc d) (modify t vr value) h = h
+    left_has (suc d) (erase t) h = h
+    left_has (suc d) (erase_item t i) h = h
+
+    path_along : (p : PathEdit) (n : ℕ) → has_path index k p ≡ true → Unentered → goes_along (on_path p) tag n ≡ false
+    path_along (step t i p) n h u = ap (λ (b : Bool). b && selects i n) (other_tag index.steps t (and_parts (names index.steps k t) (has_path index k p) h).0 u)
+    path_along (insert t vr value) n h u = refl
+    path_along (modify t vr value) n h u = refl
+    path_along (erase t) n h u = refl
+    path_along (erase_item t i) n h u = refl
+
+    path_erases : (p : PathEdit) (n : ℕ) → has_path index k p ≡ true → Unentered → erases (on_path p) tag n ≡ false
+    path_erases (step t i p) n h u = refl
+    path_erases (insert t vr value) n h u = refl
+    path_erases (modify t vr value) n h u = refl
+    path_erases (erase t) n h u = refl
+    path_erases (erase_item t i) n h u = ap (λ (b : Bool). b && selects i n) (other_tag index.steps t h u)
+
+    path_place : (p : PathEdit) (n : ℕ) → has_path index k p ≡ true → Unentered → has_place (element_of (within (on_path p) tag n)) ≡ false
+    path_place (step t i p) n h u = ap (λ (b : Bool). has_place (element_of (if b && selects i n then on_path p else elsewhere))) (other_tag index.steps t (and_parts (names index.steps k t) (has_path index k p) h).0 u)
+    path_place (insert t vr value) n h u = refl
+    path_place (modify t vr value) n h u = refl
+    path_place (erase t) n h u = refl
+    path_place (erase_item t i) n h u = refl
+
+    -- it asks nothing of an item
+    abbrev pub Ignores : ℕ → Edit → Type 0
+    Ignores n e = (erases e tag n ≡ false) × (has_place (element_of (within e tag n)) ≡ false)
+
+    pub ignores : (d : ℕ) (e : Edit) (n : ℕ) → has_edit index k e ≡ true → Unentered → Ignores n (at_depth d e)
+    ignores d (on_path p) n h u = (path_erases (rest_of_path d p) n (left_has d p h) u, path_place (rest_of_path d p) n (left_has d p h) u)
+    ignores d (modify_all t vr value) n h u = (refl, refl)
+    ignores d (erase_all t) n h u = (refl, refl)
+    ignores d erase_private n h u = (refl, refl)
+    ignores d elsewhere n h u = (refl, refl)
+
+    -- and goes along into it if it does so into each
+    pub along : (d : ℕ) (e : Edit) (n : ℕ) → has_edit index k e ≡ true → Unentered → is_everywhere e ≡ goes_along (at_depth d e) tag n
+    along d (on_path p) n h u = sym (path_along (rest_of_path d p) n (left_has d p h) u)
+    along d (modify_all t vr value) n h u = refl
+    along d (erase_all t) n h u = refl
+    along d erase_private n h u = refl
+    along d elsewhere n h u = refl
 
 -- ---- all edits
 
@@ -226,21 +279,79 @@ no_maker : (index : TagIndex) (d k : ℕ) (e : Edit) (b : Bool) → has_edit ind
 no_maker index d k e false h u = refl
 no_maker index d k e true h u = no_element_of index k d e h (u refl)
 
+not_both : (mask other k : ℕ) → bit_and mask other ≡ 0 → is_set mask k ≡ true → is_set other k ≡ false
+not_both mask other k nothing set = by_left (is_set mask k) set (sym (set_in_both mask other k) ∙ ap (λ (n : ℕ). is_set n k) nothing ∙ none_set k)
+  where
+    by_left : (b : Bool) → b ≡ true → (b && is_set other k) ≡ false → is_set other k ≡ false
+    by_left true e f = f
+    by_left false e f = absurd (false≢true e)
+
+or_same : (a b : Bool) → b ≡ false → a ≡ (a || b)
+or_same true b e = refl
+or_same false b e = sym e
+
 module _ (index : TagIndex) (d mask : ℕ) (nothing : bit_and mask index.makers ≡ 0) where
-  not_both : (k : ℕ) → is_set mask k ≡ true → is_set index.makers k ≡ false
-  not_both k set = by_left (is_set mask k) set (sym (set_in_both mask index.makers k) ∙ ap (λ (n : ℕ). is_set n k) nothing ∙ none_set k)
-    where
-      by_left : (b : Bool) → b ≡ true → (b && is_set index.makers k) ≡ false → is_set index.makers k ≡ false
-      by_left true e f = f
-      by_left false e f = absurd (false≢true e)
+  made_here : (k : ℕ) (e : Edit) → has_edit index k e ≡ true → element_of (asked_one d mask k e) ≡ no_element
+  made_here k e h = no_maker index d k e (is_set mask k) h (not_both mask index.makers k nothing)
 
   pub none_made : (passes : Tag → Bool) (k : ℕ) (es : List Edit) (set : Trees) → has_all index k es ≡ true → puts passes (asked d mask k es) set ≡ set
   none_made passes k [] set h = refl
   none_made passes k (e ∷ es) set h =
       let x = and_parts (has_edit index k e) (has_all index (suc k) es) h in
-      let none = no_maker index d k e (is_set mask k) x.0 (not_both k) in
-      ap (puts passes (asked d mask (suc k) es)) (puts_none passes (asked d mask (suc k) es) (element_of (asked_one d mask k e)) set (ap (passes_new passes) none))
+      ap (puts passes (asked d mask (suc k) es)) (puts_none passes (asked d mask (suc k) es) (element_of (asked_one d mask k e)) set (ap (passes_new passes) (made_here k e x.0)))
       ∙ none_made passes (suc k) es set x.1
+
+  pub none_found : (passes : Tag → Bool) (found : List Bool) (k : ℕ) (es : List Edit) → has_all index k es ≡ true → found ≡ either found (map (λ e. makes passes (element_of e)) (asked d mask k es))
+  none_found passes [] k es h = refl
+  none_found passes (a ∷ found) k [] h = refl
+  none_found passes (a ∷ found) k (e ∷ es) h =
+      let x = and_parts (has_edit index k e) (has_all index (suc k) es) h in
+      cons_alike _ _ _ _ (or_same a (makes passes (element_of (asked_one d mask k e))) (ap (makes passes) (made_here k e x.0))) (none_found passes found (suc k) es x.1)
+
+-- ---- no edit names an item
+
+neither : (a b c : Bool) → b ≡ false → c ≡ false → a ≡ (a || (b || c))
+neither true b c p q = refl
+neither false b c p q = rw p (sym q)
+
+ignored : (index : TagIndex) (k : ℕ) (tag : Tag) (d : ℕ) (e : Edit) (n : ℕ) (b : Bool) → has_edit index k e ≡ true → (b ≡ true → Unentered index k tag) → Ignores index k tag n (masked b d e)
+ignored index k tag d e n false h u = (refl, refl)
+ignored index k tag d e n true h u = ignores index k tag d e n h (u refl)
+
+both_alike : (a b g : Bool) → (a ≡ true → b ≡ g) → (a && b) ≡ (a && g)
+both_alike true b g h = h refl
+both_alike false b g h = refl
+
+first_alike : (a b : Bool) (xs ys : List Bool) → a ∷ xs ≡ b ∷ ys → (a ≡ b) × (xs ≡ ys)
+first_alike a b xs ys e = (cc, cc)
+
+module _ (index : TagIndex) (d mask : ℕ) (tag : Tag) (n : ℕ) (nothing : bit_and mask (mask_at index.steps tag) ≡ 0) where
+  ignored_here : (k : ℕ) (e : Edit) → has_edit index k e ≡ true → Ignores index k tag n (asked_one d mask k e)
+  ignored_here k e h = ignored index k tag d e n (is_set mask k) h (not_both mask (mask_at index.steps tag) k nothing)
+
+  pub none_erased : (k : ℕ) (es : List Edit) → has_all index k es ≡ true → any_erases (asked d mask k es) tag n ≡ false
+  none_erased k [] h = refl
+  none_erased k (e ∷ es) h =
+      let x = and_parts (has_edit index k e) (has_all index (suc k) es) h in
+      ap (λ (b : Bool). b || any_erases (asked d mask (suc k) es) tag n) (ignored_here k e x.0).0 ∙ none_erased (suc k) es x.1
+
+  pub none_placed : (found : List Bool) (k : ℕ) (es : List Edit) → has_all index k es ≡ true → found ≡ either found (map (λ e. erases e tag n || has_place (element_of (within e tag n))) (asked d mask k es))
+  none_placed [] k es h = refl
+  none_placed (a ∷ found) k [] h = refl
+  none_placed (a ∷ found) k (e ∷ es) h =
+      let x = and_parts (has_edit index k e) (has_all index (suc k) es) h in
+      let y = ignored_here k e x.0 in
+      cons_alike _ _ _ _ (neither a (erases (asked_one d mask k e) tag n) (has_place (element_of (within (asked_one d mask k e) tag n))) y.0 y.1) (none_placed found (suc k) es x.1)
+
+  pub others_along : (k : ℕ) (es : List Edit) → has_all index k es ≡ true → bits index.everywhere k es ≡ map is_everywhere es → GoAlong d mask (bit_and mask index.everywhere) tag n k es
+  others_along k [] h t = tt
+  others_along k (e ∷ es) h t =
+      let x = and_parts (has_edit index k e) (has_all index (suc k) es) h in
+      let y = first_alike (is_set index.everywhere k) (is_everywhere e) (bits index.everywhere (suc k) es) (map is_everywhere es) t in (
+        set_in_both mask index.everywhere k
+            ∙ both_alike (is_set mask k) (is_set index.everywhere k) (goes_along (at_depth d e) tag n) (λ set. y.0 ∙ along index k tag d e n x.0 (not_both mask (mask_at index.steps tag) k nothing set)),
+        others_along (suc k) es x.1 y.1,
+      )
 
 -- ---- whether an element is left as it is
 

@@ -12,7 +12,7 @@ use Rattle.dcm_edits.specs.Together.{first_fate, or_else}
 use Rattle.dcm_editor.specs.Masks.{is_set, bits, at_depth, asked, Skips}
 use Rattle.dcm_editor.specs.Asking.{answer_of, any_answer, asked_one, Seen, seen, seen_in, lesser, least_new}
 use Rattle.dcm_editor.specs.declared.asked.Question.{Question}
-use Rattle.dcm_editor.specs.declared.asked.Question.TheVariants.{AtHead, Meets, AtItem, AtTop, AtEnd, GoesAlong, Erases, IsOnPath}
+use Rattle.dcm_editor.specs.declared.asked.Question.TheVariants.{AtHead, Meets, AtItem, AtTop, AtEnd, GoesAlong, Erases, IsEverywhere}
 use Rattle.dcm_editor.specs.declared.asked.Gap.{Gap}
 use Rattle.dcm_editor.proofs.Masks.Bits.{SoFar}
 
@@ -26,7 +26,7 @@ no_answer AtTop = refl
 no_answer (AtEnd last) = refl
 no_answer (GoesAlong tag n) = refl
 no_answer (Erases tag n) = refl
-no_answer IsOnPath = refl
+no_answer IsEverywhere = refl
 
 lacking : (depth mask k : ℕ) (e : Edit) → is_set mask k ≡ false → asked_one depth mask k e ≡ elsewhere
 lacking depth mask k e unset = ap (λ (b : Bool). if b then at_depth depth e else elsewhere) unset

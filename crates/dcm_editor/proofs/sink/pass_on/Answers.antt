@@ -67,7 +67,7 @@ returns-in_ok-take-in-Bytes-clause-state g c = nothing_changes (meant c.args.edi
 
 pub returns-in_err-take-in-OpenItem-clause-took : goal.returns-in_err-take-in-OpenItem-clause-took
 returns-in_err-take-in-OpenItem-clause-took g c =
-    let same = item_atoms c.args.edits.now c.args.editor.now c.args.paths c.requires.paths c.if-is_free_of.ensures c.in-OpenItem.field-0 ∙ ap (λ (t : Token). outputs next passed (meant c.args.edits.now c.args.editor.now) (atoms_of t)) (sym c.in-OpenItem.is) in
+    let same = item_atoms c.args.edits.now c.args.editor.now c.args.index.now c.requires.index c.requires.everywhere c.if-passes_item.ensures c.in-OpenItem.field-0 ∙ ap (λ (t : Token). outputs next passed (meant c.args.edits.now c.args.editor.now) (atoms_of t)) (sym c.in-OpenItem.is) in
     let is = ap atoms_of c.in-OpenItem.is ∙ same in
     record {
       takes = subst (λ (xs : List Atom). Takes g.S.Sink c.args.sink.now c.take-in-OpenItem.new.self xs c.from_residual-in_err-take-in-OpenItem.result) is
@@ -78,7 +78,7 @@ returns-in_err-take-in-OpenItem-clause-took g c =
 
 pub returns-in_ok-take-in-OpenItem-clause-took : goal.returns-in_ok-take-in-OpenItem-clause-took
 returns-in_ok-take-in-OpenItem-clause-took g c =
-    let same = item_atoms c.args.edits.now c.args.editor.now c.args.paths c.requires.paths c.if-is_free_of.ensures c.in-OpenItem.field-0 ∙ ap (λ (t : Token). outputs next passed (meant c.args.edits.now c.args.editor.now) (atoms_of t)) (sym c.in-OpenItem.is) in
+    let same = item_atoms c.args.edits.now c.args.editor.now c.args.index.now c.requires.index c.requires.everywhere c.if-passes_item.ensures c.in-OpenItem.field-0 ∙ ap (λ (t : Token). outputs next passed (meant c.args.edits.now c.args.editor.now) (atoms_of t)) (sym c.in-OpenItem.is) in
     let is = ap atoms_of c.in-OpenItem.is ∙ same in
     record {
       takes = subst (λ (xs : List Atom). Takes {T = Unit {0}} {E = Unit {0}} g.S.Sink c.args.sink.now c.take-in-OpenItem.new.self xs (Ok tt)) is
@@ -89,12 +89,12 @@ returns-in_ok-take-in-OpenItem-clause-took g c =
 
 pub returns-in_ok-take-in-OpenItem-clause-state : goal.returns-in_ok-take-in-OpenItem-clause-state
 returns-in_ok-take-in-OpenItem-clause-state g c =
-    item_state c.args.edits.now c.args.editor.now c.args.paths c.requires.paths c.if-is_free_of.ensures (state c.pass_item.new.self) c.in-OpenItem.field-0 c.pass_item.ensures
+    item_state c.args.edits.now c.args.editor.now c.args.index.now c.requires.index c.requires.everywhere c.if-passes_item.ensures (state c.pass_item.new.self) c.everywhere.result c.in-OpenItem.field-0 c.pass_item.ensures c.everywhere.ensures
     ∙ ap (λ (t : Token). fold next (meant c.args.edits.now c.args.editor.now) (atoms_of t)) (sym c.in-OpenItem.is)
 
 pub returns-in_err-take-in-CloseItem-clause-took : goal.returns-in_err-take-in-CloseItem-clause-took
 returns-in_err-take-in-CloseItem-clause-took g c =
-    let same = end_atoms c.args.edits.now c.args.editor.now c.args.paths c.requires.paths c.if-is_free_of-2.ensures ∙ ap (λ (t : Token). outputs next passed (meant c.args.edits.now c.args.editor.now) (atoms_of t)) (sym c.in-CloseItem.is) in
+    let same = end_atoms c.args.edits.now c.args.editor.now c.args.index.now c.requires.index c.if-puts_nothing.ensures ∙ ap (λ (t : Token). outputs next passed (meant c.args.edits.now c.args.editor.now) (atoms_of t)) (sym c.in-CloseItem.is) in
     let is = ap atoms_of c.in-CloseItem.is ∙ same in
     record {
       takes = subst (λ (xs : List Atom). Takes g.S.Sink c.args.sink.now c.take-in-CloseItem.new.self xs c.from_residual-in_err-take-in-CloseItem.result) is
@@ -105,7 +105,7 @@ returns-in_err-take-in-CloseItem-clause-took g c =
 
 pub returns-in_ok-take-in-CloseItem-clause-took : goal.returns-in_ok-take-in-CloseItem-clause-took
 returns-in_ok-take-in-CloseItem-clause-took g c =
-    let same = end_atoms c.args.edits.now c.args.editor.now c.args.paths c.requires.paths c.if-is_free_of-2.ensures ∙ ap (λ (t : Token). outputs next passed (meant c.args.edits.now c.args.editor.now) (atoms_of t)) (sym c.in-CloseItem.is) in
+    let same = end_atoms c.args.edits.now c.args.editor.now c.args.index.now c.requires.index c.if-puts_nothing.ensures ∙ ap (λ (t : Token). outputs next passed (meant c.args.edits.now c.args.editor.now) (atoms_of t)) (sym c.in-CloseItem.is) in
     let is = ap atoms_of c.in-CloseItem.is ∙ same in
     record {
       takes = subst (λ (xs : List Atom). Takes {T = Unit {0}} {E = Unit {0}} g.S.Sink c.args.sink.now c.take-in-CloseItem.new.self xs (Ok tt)) is
@@ -116,5 +116,5 @@ returns-in_ok-take-in-CloseItem-clause-took g c =
 
 pub returns-in_ok-take-in-CloseItem-clause-state : goal.returns-in_ok-take-in-CloseItem-clause-state
 returns-in_ok-take-in-CloseItem-clause-state g c =
-    end_state c.args.edits.now c.args.editor.now c.args.paths c.requires.paths c.if-is_free_of-2.ensures (state c.leave_item.new.self) c.leave_item.ensures
+    end_state c.args.edits.now c.args.editor.now c.args.index.now c.requires.index c.if-puts_nothing.ensures (state c.leave_item.new.self) c.leave_item.ensures
     ∙ ap (λ (t : Token). fold next (meant c.args.edits.now c.args.editor.now) (atoms_of t)) (sym c.in-CloseItem.is)

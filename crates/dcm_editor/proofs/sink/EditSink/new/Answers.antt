@@ -11,18 +11,15 @@ use Rattle.dcm_editor.proofs.sink.EditSink.new.Goals as goal
 pub new-requires : goal.new-requires
 new-requires g c = few_listed c.list.result.now c.args.edits.now c.list.ensures.list c.list.ensures.meant
 
-pub edits_on_paths-requires : goal.edits_on_paths-requires
-edits_on_paths-requires g c = few_listed c.list-2.result.now c.args.edits.now c.list-2.ensures.list c.list-2.ensures.meant
-
 pub of-requires : goal.of-requires
-of-requires g c = few_listed c.list-3.result.now c.args.edits.now c.list-3.ensures.list c.list-3.ensures.meant
+of-requires g c = few_listed c.list-2.result.now c.args.edits.now c.list-2.ensures.list c.list-2.ensures.meant
 
 pub invariant_of-result : goal.invariant_of-result
 invariant_of-result g c =
     let at = λ (es : List Edit). masks.meant es (editing.state c.new.result) in
     let is = sym (ap at c.list.ensures.list) ∙ c.new.ensures ∙ ap begun c.list.ensures.list in
     record {
-      paths_are = sym (ap (λ (es : List Edit). masks.has_paths c.edits_on_paths.result 0 es) c.list-2.ensures.list) ∙ c.edits_on_paths.ensures;
-      index_has = sym (ap (λ (es : List Edit). indexes.has_all c.of.result 0 es) c.list-3.ensures.list) ∙ c.of.ensures;
+      index_has = sym (ap (λ (es : List Edit). indexes.has_all c.of.result 0 es) c.list-2.ensures.list) ∙ c.of.ensures.all;
+      index_tells = subst (λ (es : List Edit). indexes.tells_everywhere c.of.result es) c.list-2.ensures.list c.of.ensures.everywhere;
       sound = subst (λ (s : State). IsSound s) (sym is) (sound_meant c.args.edits.now c.list.ensures.meant);
     }

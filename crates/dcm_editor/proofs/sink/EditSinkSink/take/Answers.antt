@@ -1,7 +1,6 @@
-use Rattle.std.proofs.Common.{◌≡◌, ◌∙◌, ap, List}
+use Rattle.std.proofs.Common.{◌≡◌, ◌∙◌, ap, List, subst, sym}
 use Rattle.dcm_edits.specs.Edit.{Edit}
-use Rattle.dcm_editor.specs.Indexes.{has_all}
-use Rattle.dcm_editor.specs.Masks.{has_paths}
+use Rattle.dcm_editor.specs.Indexes.{has_all, tells_everywhere}
 use Rattle.std.specs.Prelude.{fold}
 use Rattle.dcm_stream.specs.Tokens.{atoms_of}
 use Rattle.dcm_editor.specs.EditSink.{next}
@@ -16,9 +15,8 @@ pass_on-requires-clause-few g c = few_listed c.list.result.now c.args.self.now.e
 pub pass_on-requires-clause-short : goal.pass_on-requires-clause-short
 pass_on-requires-clause-short g c = short_listed c.list.result.now c.args.self.now.edits.now c.list.ensures.list c.list.ensures.meant
 
-pub pass_on-requires-clause-paths : goal.pass_on-requires-clause-paths
-pass_on-requires-clause-paths g c =
-    ap (λ (es : List Edit). has_paths c.args.self.now.paths 0 es) c.list.ensures.list ∙ c.args.self.now.paths_are
+pub pass_on-requires-clause-everywhere : goal.pass_on-requires-clause-everywhere
+pass_on-requires-clause-everywhere g c = subst (λ (es : List Edit). tells_everywhere c.args.self.now.index es) (sym c.list.ensures.list) c.args.self.now.index_tells
 
 pub pass_on-requires-clause-index : goal.pass_on-requires-clause-index
 pass_on-requires-clause-index g c =
@@ -28,8 +26,8 @@ pub invariant_of-self : goal.invariant_of-self
 invariant_of-self g c =
     let e = c.args.self.now in
     record {
-      paths_are = e.paths_are;
       index_has = e.index_has;
+      index_tells = e.index_tells;
       sound =
           sound_after c.list.result.now e.edits.now (editing.state e.editor) (editing.state c.pass_on.new.editor) (atoms_of c.args.token) c.pass_on.result c.list.ensures.list
           (same_state (editing.meant c.list.result.now c.pass_on.new.editor ≡ fold next (editing.meant c.list.result.now e.editor) (atoms_of c.args.token)) e.editor c.pass_on.new.editor c.pass_on.result c.pass_on.ensures.state) e.sound;
