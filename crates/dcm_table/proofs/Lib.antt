@@ -14,3 +14,4 @@ pub mod BarCells
 pub mod BarAtoms
 pub mod ValidTexts
 pub mod ValidRows
+pub mod Indexed

@@ -2,6 +2,7 @@ pub mod Cell
 pub mod Columns
 pub mod TableSink
 pub mod Slots
+pub mod Index
 pub mod Meta
 pub mod Ending
 pub mod Quoted

@@ -1,18 +1,22 @@
 // The cells of all columns: a sink that holds what a row shows of a file.
-ghost use Rattle.std.specs.Prelude.{◌≡◌, ◌<◌, false, None, length, fold, map, IfOk};
+ghost use Rattle.std.specs.Prelude.{◌≡◌, ◌<◌, true, false, None, length, fold, map, IfOk};
 ghost use Rattle.dcm_table.specs.Cell.{missing};
 ghost use Rattle.std.specs.List.{list_any};
 ghost use Rattle.dcm_base.specs.Tables.Tag.{same_tag};
 ghost use Rattle.dcm_table.specs.declared.slot.Slot.{Slot as HeldSlot};
+ghost use Rattle.dcm_base.specs.Steps.Atoms.{closes_leaf, value_byte};
 ghost use Rattle.dcm_stream.specs.Tokens.{atoms_of};
+ghost use Rattle.dcm_stream.specs.declared.token.Token.TheVariants.{Open};
 ghost use Rattle.dcm_table.specs.Columns.{tags_of};
+ghost use Rattle.dcm_table.specs.Index as places;
 ghost use Rattle.dcm_table.specs.Row as row;
 ghost use Rattle.dcm_table.specs.Slots.{slot_of, slots_of};
 ghost use Rattle.dcm_table.specs.TableSink as spec;
 
 use crate::column::{Column, Columns};
+use crate::index::{Index, Span};
 use crate::slot::Slot;
-use dcm_base::{Tag, WriteFailed};
+use dcm_base::{Syntax, Tag, WriteFailed};
 use dcm_head::Head;
 use dcm_stream::{Bar, Sink, Skip, Token};
 use std::alloc::{AllocError, Global};
@@ -25,6 +29,10 @@ pub struct Cells {
     slots: Vec<Slot>,
     depth: Skip,
     greatest: Tag,
+    index: Index,
+    busy: Span,
+    ghost indexed: { places.has_each index 0 (slots_of slots.items) ≡ true },
+    ghost idle: { places.holds_busy busy 0 (slots_of slots.items) ≡ true },
 }
 
 impl Model for Cells {
@@ -55,6 +63,20 @@ fn take_each(slots: &mut [Slot], token: Token)
 {
     for slot in slots.iter_mut() {
         slot.take(token);
+    }
+}
+
+/// The cells of a run after a token, of which a head is one of the outermost level.
+#[inline(always)]
+fn take_in_span(slots: &mut [Slot], span: Span, token: Token)
+    ensures changed { slots_of slots.new ≡ places.changed_in (λ (c : spec.Slot). fold spec.slot_step c
+        (atoms_of token.entry)) span 0 (slots_of slots.old) }
+    ensures size { length slots.new ≡ length slots.old }
+{
+    if span.first < span.after {
+        let after = usize::from(span.after).min(slots.len());
+        let first = usize::from(span.first).min(after);
+        take_each(&mut slots[first..after], token);
     }
 }
 
@@ -94,10 +116,13 @@ impl Cells {
     {
         let greatest = columns.greatest();
         let slots = slots_for(alloc, columns.as_slice())?;
+        let index = Index::new(slots.as_slice());
         Ok(Cells {
             slots,
             depth: Skip::nothing(),
             greatest,
+            index,
+            busy: Span::NONE,
         })
     }
 
@@ -106,6 +131,7 @@ impl Cells {
         ensures { self.new ≡ spec.cleared self.old }
     {
         self.depth = Skip::nothing();
+        self.busy = Span::NONE;
         clear_each(self.slots.as_mut_slice());
     }
 
@@ -134,32 +160,59 @@ impl Cells {
         reported_after(before, slot)
     }
 
-    /// Goes on after a token, of which a head is one of the outermost level.
-    fn take_in(&mut self, token: Token)
+    /// Offers an element of the outermost level to the columns of its tag.
+    fn offer(&mut self, head: Head, syntax: Syntax)
         ensures { self.new ≡ record self.old {
           slots = map (λ (c : spec.Slot). fold spec.slot_step c
-              (atoms_of token.entry)) self.old.slots;
+              (atoms_of (Open head syntax))) self.old.slots;
         } }
     {
-        take_each(self.slots.as_mut_slice(), token);
+        self.busy = self.busy.with(self.index.span_of(head.tag));
+        take_in_span(
+            self.slots.as_mut_slice(),
+            self.busy,
+            Token::Open(head, syntax),
+        );
+    }
+
+    /// Goes on after bytes of a value.
+    fn add(&mut self, bytes: &[u8])
+        ensures { self.new ≡ record self.old {
+          slots = map (λ (c : spec.Slot). fold spec.slot_step c
+              (map value_byte bytes.now)) self.old.slots;
+        } }
+    {
+        take_in_span(self.slots.as_mut_slice(), self.busy, Token::Bytes(bytes));
+    }
+
+    /// Goes on after the end of a value.
+    fn close(&mut self)
+        ensures { self.new ≡ record self.old {
+          slots = map (λ (c : spec.Slot). spec.slot_step c closes_leaf) self.old.slots;
+        } }
+    {
+        take_in_span(self.slots.as_mut_slice(), self.busy, Token::CloseLeaf);
+        self.busy = Span::NONE;
     }
 }
 
 impl Cells {
-    /// Goes on after a token.
+    /// Goes on after a token. An element that no column wants is passed at once: its head looks up the columns of its
+    /// tag, and its bytes and its end go to the cells alone that are busy.
+    #[inline(always)]
     pub(crate) fn go_on(&mut self, token: Token)
         ensures { self.new ≡ fold spec.next self.old (atoms_of token.entry) }
     {
         match token {
-            Token::Open(_, _) => {
+            Token::Open(head, syntax) => {
                 if !self.depth.is_open() {
-                    self.take_in(token);
+                    self.offer(head, syntax);
                 }
                 self.depth.open(true);
             }
-            Token::Bytes(_) => self.take_in(token),
+            Token::Bytes(bytes) => self.add(bytes),
             Token::CloseLeaf => {
-                self.take_in(token);
+                self.close();
                 self.depth.close();
             }
             Token::OpenItem(_) | Token::OpenFragment(_) => self.depth.open(true),

@@ -22,6 +22,7 @@ mod cell;
 mod cells;
 mod column;
 mod ending;
+mod index;
 pub mod laws;
 mod meta;
 mod numbers;

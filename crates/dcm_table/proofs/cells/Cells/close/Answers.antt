@@ -1,0 +1,37 @@
+use Rattle.std.proofs.Common.{◌∙◌, ap, map, List, ◌≡◌, refl, length, vec_len}
+use Rattle.std.proofs.lemmas.List.{with_items_is}
+use Rattle.std.specs.Vec.{with_items}
+use Rattle.dcm_base.specs.Steps.Atoms.{closes_leaf}
+use Rattle.dcm_stream.specs.Skip.{depth}
+use Rattle.dcm_table.specs.declared.slot.Slot.{Slot as HeldSlot}
+use Rattle.dcm_table.specs.Index.{holds_busy, has_each, changed_in}
+use Rattle.dcm_table.specs.Slots.{slots_of}
+use Rattle.dcm_table.specs.TableSink.{Slot, State, slot_step}
+use Rattle.dcm_table.proofs.Indexed as indexed
+use Rattle.dcm_table.proofs.cells.Cells.close.Goals as goal
+
+pub invariant_of-self-inside : goal.invariant_of-self-inside
+invariant_of-self-inside c =
+    let f : Slot → Slot = λ (s : Slot). slot_step s closes_leaf in
+    let items = c.self.inside.slots.items in
+    let size : length c.take_in_span.new.slots ≡ vec_len c.self.inside.slots = c.take_in_span.ensures.size ∙ c.as_mut_slice.ensures.len in
+    let held : slots_of (with_items c.self.inside.slots c.take_in_span.new.slots).items ≡ changed_in f c.self.inside.busy 0 (slots_of items) =
+    ap slots_of (with_items_is c.self.inside.slots c.take_in_span.new.slots size) ∙ c.take_in_span.ensures.changed
+    ∙ ap (λ (x : List HeldSlot). changed_in f c.self.inside.busy 0 (slots_of x)) c.as_mut_slice.ensures.value in
+    let all : slots_of (with_items c.self.inside.slots c.take_in_span.new.slots).items ≡ map f (slots_of items) =
+    held ∙ indexed.busy_alone f indexed.end_stays c.self.inside.busy 0 (slots_of items) c.self.inside.idle in (
+      ap (has_each c.self.inside.index 0) all ∙ indexed.each_mapped c.self.inside.index f (λ s. refl) 0 (slots_of items) c.self.inside.indexed,
+      (ap (holds_busy (record { first = 255; after = 0 }) 0) all ∙ indexed.none_busy f indexed.end_rests (record { first = 255; after = 0 }) 0 (slots_of items), tt),
+    )
+
+pub returns : goal.returns
+returns c =
+    let f : Slot → Slot = λ (s : Slot). slot_step s closes_leaf in
+    let items = c.self.inside.slots.items in
+    let size : length c.take_in_span.new.slots ≡ vec_len c.self.inside.slots = c.take_in_span.ensures.size ∙ c.as_mut_slice.ensures.len in
+    let held : slots_of (with_items c.self.inside.slots c.take_in_span.new.slots).items ≡ changed_in f c.self.inside.busy 0 (slots_of items) =
+    ap slots_of (with_items_is c.self.inside.slots c.take_in_span.new.slots size) ∙ c.take_in_span.ensures.changed
+    ∙ ap (λ (x : List HeldSlot). changed_in f c.self.inside.busy 0 (slots_of x)) c.as_mut_slice.ensures.value in
+    rw (← c.self.view_is)
+    (ap (λ (x : List Slot). let s : State = record { depth = depth c.self.inside.depth; greatest = c.self.inside.greatest; slots = x } in s)
+    (held ∙ indexed.busy_alone f indexed.end_stays c.self.inside.busy 0 (slots_of items) c.self.inside.idle))
