@@ -129,12 +129,30 @@ impl Deidentifier {
     {
         let form = form_after(head, syntax);
         let fate = self.fate(options, form, head.tag);
+        self.judge_as(fate, form, head, syntax);
+    }
+
+    /// What becomes of an element of this fate.
+    fn judge_as(&mut self, fate: Fate, form: Form, head: Head, syntax: Syntax)
+        ensures last { self.new.last ≡ self.old.last }
+        ensures place { deidentifying.place self.new
+            ≡ spec.judged (deidentifying.place self.old) fate form head.tag head.vr syntax }
+    {
         self.skip.open(fate != Fate::Keep);
         self.held = if is_held(fate, form, head.tag) {
             Some(HeldValue::new(head.tag, head.vr, syntax))
         } else {
             None
         };
+    }
+
+    /// After the head of an element of this fate, of which nothing is left out so far.
+    pub fn open_as(&mut self, fate: Fate, form: Form, head: Head, syntax: Syntax)
+        ensures { deidentifying.place self.new
+            ≡ spec.with_last (spec.judged (deidentifying.place self.old) fate form head.tag head.vr syntax) head.tag }
+    {
+        self.judge_as(fate, form, head, syntax);
+        self.last = Some(head.tag);
     }
 
     /// After bytes of a value.

@@ -1,5 +1,5 @@
 // Taking identity out, between what reads a data set and what takes it.
-ghost use Rattle.std.specs.Prelude.{◌≡◌, ℕ, List, [], ◌∷◌, true, OnOk};
+ghost use Rattle.std.specs.Prelude.{◌≡◌, ℕ, List, [], ◌∷◌, ◌++◌, Some, true, OnOk};
 ghost use Rattle.std.specs.Borrow.{GName};
 ghost use Rattle.dcm_base.specs.Reading.Bars as bars;
 ghost use Rattle.dcm_base.specs.Steps.Atoms.{opens, ends};
@@ -105,6 +105,23 @@ fn put_head<S: Sink>(
     }
 }
 
+/// Passes on what becomes of the head of an element of this fate, of which nothing is left out so far.
+fn pass_as<S: Sink>(
+    options: &Options,
+    place: &Deidentifier,
+    fate: Fate,
+    form: Form,
+    head: Head,
+    syntax: Syntax,
+    sink: &mut S,
+) -> Result<(), WriteFailed>
+    ensures { sinks.Took S.Sink sink.old sink.new (spec.said_before options.now (deidentifying.place place.now)
+        (Some head.tag) ++ spec.head_by fate form head.tag head.vr head.length syntax) result }
+{
+    put_gap(options, place, Some(head.tag), sink)?;
+    put_head(fate, form, head, syntax, sink)
+}
+
 /// Passes on what becomes of the head of an element, of which nothing is left out so far.
 fn pass_element<S: Sink>(
     options: &Options,
@@ -117,14 +134,28 @@ fn pass_element<S: Sink>(
         (opens head.tag head.vr head.length syntax)) result }
 {
     let form = form_after(head, syntax);
-    put_gap(options, place, Some(head.tag), sink)?;
-    put_head(
-        place.fate(options, form, head.tag),
-        form,
-        head,
-        syntax,
-        sink,
-    )
+    let fate = place.fate(options, form, head.tag);
+    pass_as(options, place, fate, form, head, syntax, sink)
+}
+
+/// The same, and goes on after the head: the fate of the element is looked up once for both.
+fn pass_on_element<S: Sink>(
+    options: &Options,
+    place: &mut Deidentifier,
+    head: Head,
+    syntax: Syntax,
+    sink: &mut S,
+) -> Result<(), WriteFailed>
+    ensures took { sinks.Took S.Sink sink.old sink.new (spec.passed_open options.now (deidentifying.place place.old)
+        (opens head.tag head.vr head.length syntax)) result }
+    ensures state { OnOk result (deidentifying.place place.new ≡ spec.with_last (spec.judged_at options.now
+        (deidentifying.place place.old) head.tag head.vr head.length syntax) head.tag) }
+{
+    let form = form_after(head, syntax);
+    let fate = place.fate(options, form, head.tag);
+    pass_as(options, place, fate, form, head, syntax, sink)?;
+    place.open_as(fate, form, head, syntax);
+    Ok(())
 }
 
 /// Passes on the end of a data set.
@@ -209,8 +240,8 @@ fn pass<S: Sink>(
     }
 }
 
-/// Passes on what a token becomes, and goes on after it.
-fn pass_on<S: Sink>(
+/// Passes on what any token becomes, and goes on after it.
+fn pass_on_any<S: Sink>(
     options: &Options,
     key: &UidKey,
     place: &mut Deidentifier,
@@ -225,6 +256,27 @@ fn pass_on<S: Sink>(
     pass(options, key, place, token, sink)?;
     place.go_on(options, token);
     Ok(())
+}
+
+/// Passes on what a token becomes, and goes on after it.
+fn pass_on<S: Sink>(
+    options: &Options,
+    key: &UidKey,
+    place: &mut Deidentifier,
+    token: Token,
+    sink: &mut S,
+) -> Result<(), WriteFailed>
+    requires filled { IsFilled token }
+    ensures took { sinks.Took S.Sink sink.old sink.new
+        (deidentifying.passed_of options.now key.now.bytes.now place.old (atoms_of token.entry)) result }
+    ensures state { OnOk result (deidentifying.GoesOn options.now place.old place.new (atoms_of token.entry)) }
+{
+    match token {
+        Token::Open(head, syntax) if !place.skip.is_open() => {
+            pass_on_element(options, place, head, syntax, sink)
+        }
+        _ => pass_on_any(options, key, place, token, sink),
+    }
 }
 
 /// A sink that passes the tokens of a data set on to another one, without identity: kept elements as they are, others
