@@ -86,10 +86,10 @@ is_met edits e mask tag =
 abbrev pub puts_nothing : TagIndex → Editor → Bool
 puts_nothing index e = not (is_open (depth e.skip)) && makes_nothing index e.level.mask
 
--- nothing is dropped, and no edit names the items of the last element
+-- nothing is dropped, and no edit names the next item of the last element
 abbrev pub passes_item : TagIndex → Editor → Option Tag → Bool
 passes_item index e None = false
-passes_item index e (Some tag) = not (is_open (depth e.skip)) && enters_nothing index e.level.mask tag
+passes_item index e (Some tag) = not (is_open (depth e.skip)) && enters_nothing index e.level.mask tag e.level.items
 
 abbrev pub any_erases : {A : Type 0} → List (AnEdit A) → Editor → Tag → Bool
 any_erases edits e tag = together.any_erases (asked_here edits e) tag e.level.items

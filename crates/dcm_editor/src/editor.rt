@@ -215,13 +215,15 @@ impl Editor {
         !self.skip.is_open() && index.makes_nothing(self.level.mask)
     }
 
-    /// Whether nothing is dropped, and no edit names the items of the last element.
+    /// Whether nothing is dropped, and no edit names the next item of the last element.
     #[inline(always)]
     pub fn passes_item(&self, index: &TagIndex) -> bool
         ensures { result ≡ editing.passes_item index.now self.now self.now.level.last }
     {
         match self.level.last {
-            Some(tag) => !self.skip.is_open() && index.enters_nothing(self.level.mask, tag),
+            Some(tag) => {
+                !self.skip.is_open() && index.enters_nothing(self.level.mask, tag, self.level.items)
+            }
             None => false,
         }
     }

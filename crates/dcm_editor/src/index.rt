@@ -1,7 +1,7 @@
-// Which edits of a command line may ask something at the head of an element, by its tag.
+// Which edits of a command line may ask something at an element or an item, by its tag.
 ghost use Rattle.std.specs.Prelude.{◌≡◌, ◌≤◌, ◌<◌, ℕ, length, map, true};
 ghost use Rattle.dcm_edits.specs.Edit.{Edit as AnEdit};
-ghost use Rattle.dcm_edits.specs.Meaning.{action_of, edit_of};
+ghost use Rattle.dcm_edits.specs.Meaning.{action_of, edit_of, index_of};
 ghost use Rattle.dcm_editor.specs.Asking.{is_everywhere};
 ghost use Rattle.dcm_editor.specs.Indexes as indexes;
 ghost use Rattle.dcm_editor.specs.Masks as masks;
@@ -11,7 +11,7 @@ use crate::asked::{Question, is_private};
 use crate::mask::{all, with_bit};
 use crate::place::Asked;
 use dcm_base::Tag;
-use dcm_edits::{Action, Edit, Step};
+use dcm_edits::{Action, Edit, Index, Step};
 use std::alloc::Allocator;
 
 /// How many masks there are for the tags.
@@ -32,8 +32,8 @@ struct TagMasks {
     buckets: [u64; BUCKETS],
 }
 
-/// For each tag the edits that name it at the end of their paths, and those that name the sequence with this tag on
-/// the way; the edits that put what is missing, those that erase private elements, and those that are asked in each
+/// For each tag the edits that name it at the end of their paths; for each item of a sequence those that name it on the
+/// way; the edits that put what is missing, those that erase private elements, and those that are asked in each
 /// data set. That no edit asks something of an element, or of an item, is found by one look, however many there are.
 #[derive(Drop)]
 pub struct TagIndex {
@@ -44,14 +44,33 @@ pub struct TagIndex {
     everywhere: u64,
 }
 
+/// The number of the mask for such a number.
+#[inline(always)]
+fn spread(number: u64) -> usize
+    requires { number < 0x1_0000_0000 }
+    ensures value { result ≡ indexes.spread number }
+    ensures small { result < 256 }
+{
+    (number * SPREAD % ALL_TAGS / TAGS_OF_A_BUCKET) as usize
+}
+
 /// The number of the mask for a tag.
 #[inline(always)]
 fn bucket_of(tag: Tag) -> usize
     ensures value { result ≡ indexes.bucket_of tag }
     ensures small { result < 256 }
 {
-    let number = tag.group as u64 * 0x1_0000 + tag.element as u64;
-    (number * SPREAD % ALL_TAGS / TAGS_OF_A_BUCKET) as usize
+    spread(tag.group as u64 * 0x1_0000 + tag.element as u64)
+}
+
+/// The number of the mask for an item of a sequence. That of the sequence itself is for each item.
+#[inline(always)]
+fn bucket_of_item(tag: Tag, item: u32) -> usize
+    ensures value { result ≡ indexes.bucket_of_item tag item }
+    ensures small { result < 256 }
+{
+    let number = tag.group as u64 * 0x1_0000 + tag.element as u64 + item as u64 + 1;
+    spread(number % ALL_TAGS)
 }
 
 impl TagMasks {
@@ -62,14 +81,35 @@ impl TagMasks {
         }
     }
 
+    /// Adds an edit to the mask with this number.
+    fn add_at(&mut self, bucket: usize, place: usize)
+        requires bucket { bucket < 256 }
+        requires place { place < 64 }
+        ensures here { indexes.holds self.new place bucket ≡ true }
+        ensures others { indexes.MasksGrow self.old self.new }
+    {
+        self.buckets[bucket] = with_bit(self.buckets[bucket], place);
+    }
+
     /// Adds an edit that names a tag.
     fn add(&mut self, tag: Tag, place: usize)
         requires { place < 64 }
         ensures here { indexes.names self.new place tag ≡ true }
         ensures others { indexes.MasksGrow self.old self.new }
     {
-        let bucket = bucket_of(tag);
-        self.buckets[bucket] = with_bit(self.buckets[bucket], place);
+        self.add_at(bucket_of(tag), place);
+    }
+
+    /// Adds an edit that names items of a sequence.
+    fn add_step(&mut self, step: Step, place: usize)
+        requires { place < 64 }
+        ensures here { indexes.names_step self.new place step.tag (index_of step.index) ≡ true }
+        ensures others { indexes.MasksGrow self.old self.new }
+    {
+        match step.index {
+            Index::Number(item) => self.add_at(bucket_of_item(step.tag, item), place),
+            Index::Every => self.add(step.tag, place),
+        }
     }
 
     /// Adds an edit with these steps.
@@ -80,7 +120,7 @@ impl TagMasks {
     {
         let mut rest = steps;
         while let Some((step, after)) = rest.split_first() {
-            self.add(step.tag, place);
+            self.add_step(*step, place);
             rest = after;
         }
     }
@@ -91,6 +131,14 @@ impl TagMasks {
         ensures { result ≡ indexes.mask_at self.now tag }
     {
         self.buckets[bucket_of(tag)]
+    }
+
+    /// The edits for an item of a sequence.
+    #[inline(always)]
+    fn at_item(&self, tag: Tag, item: u32) -> u64
+        ensures { result ≡ indexes.item_mask_at self.now tag item }
+    {
+        self.buckets[bucket_of(tag)] | self.buckets[bucket_of_item(tag, item)]
     }
 }
 
@@ -119,7 +167,7 @@ impl TagIndex {
             Action::Insert(_) => self.makers = with_bit(self.makers, place),
             Action::Modify(element) => self.ends.add(element.tag, place),
             Action::Erase(tag) => self.ends.add(*tag, place),
-            Action::EraseItem(step) => self.steps.add(step.tag, place),
+            Action::EraseItem(step) => self.steps.add_step(*step, place),
         }
     }
 
@@ -178,12 +226,12 @@ impl TagIndex {
         mask & self.makers == 0
     }
 
-    /// Whether no edit of a mask names the items of the sequence with this tag.
+    /// Whether no edit of a mask names this item of a sequence.
     #[inline(always)]
-    pub fn enters_nothing(&self, mask: u64, tag: Tag) -> bool
-        ensures { result ≡ indexes.enters_nothing self.now mask tag }
+    pub fn enters_nothing(&self, mask: u64, tag: Tag, item: u32) -> bool
+        ensures { result ≡ indexes.enters_nothing self.now mask tag item }
     {
-        mask & self.steps.at(tag) == 0
+        mask & self.steps.at_item(tag, item) == 0
     }
 
     /// The edits of a mask that are asked in each data set.

@@ -17,7 +17,7 @@ use Rattle.dcm_edits.specs.Meaning.{edit_of}
 use Rattle.dcm_edits.specs.declared.edit.Edit.{Edit as AnEdit}
 use Rattle.dcm_editor.specs.declared.editor.Editor.{Editor}
 use Rattle.dcm_editor.specs.EditSink.{MOST_AROUND, dropped_after_head, next, passed}
-use Rattle.dcm_editor.specs.Indexes.{mask_at, has_all, tells_everywhere, makes_nothing, enters_nothing}
+use Rattle.dcm_editor.specs.Indexes.{item_mask_at, has_all, tells_everywhere, makes_nothing, enters_nothing}
 use Rattle.dcm_editor.specs.Masks.{bits, MaskLevel, MaskState, meant as meaning, masks_entered, masks_item_passed, masks_item_left}
 use Rattle.dcm_editor.specs.declared.index.TagIndex.{TagIndex}
 use Rattle.dcm_editor.specs.Editing.{meant, state, erases_next, puts_nothing, passes_item}
@@ -31,7 +31,7 @@ use Rattle.dcm_editor.proofs.Masks.Indexed.{none_made, none_found, none_erased, 
 abbrev with_dropped : List Edit → ℕ → MaskState → ℕ → MaskState
 with_dropped es inner s d = record { level = (masks_entered inner s).level; outer = (masks_entered inner s).outer; dropped = d; found = s.found }
 
-entered : (index : TagIndex) (es : List Edit) (s : MaskState) (tag : Tag) (declared : Length) → has_all index 0 es ≡ true → tells_everywhere index es → s.level.last ≡ Some tag → bit_and s.level.mask (mask_at index.steps tag) ≡ 0
+entered : (index : TagIndex) (es : List Edit) (s : MaskState) (tag : Tag) (declared : Length) → has_all index 0 es ≡ true → tells_everywhere index es → s.level.last ≡ Some tag → bit_and s.level.mask (item_mask_at index.steps tag s.level.count) ≡ 0
     → meaning es (masks_item_passed (bit_and s.level.mask index.everywhere) s s.level.last) ≡ next (meaning es s) (opens_item declared)
 entered index es s tag declared has tells l nothing = ap (λ (x : Option Tag). meaning es (masks_item_passed inner s x)) l ∙ in_room (nat_lt (length s.outer) MOST_AROUND) refl
   where
@@ -63,11 +63,11 @@ module _ {A : Type 0} (edits : List (AnEdit A)) (e : Editor) (index : TagIndex) 
   depth_here = length (reverse e.outermost_first.items)
 
   module _ (tells : tells_everywhere index (map edit_of edits)) (free : true ≡ passes_item index e e.level.last) where
-    parts : (tag : Tag) → true ≡ passes_item index e (Some tag) → (true ≡ not (is_open (depth e.skip))) × (true ≡ enters_nothing index e.level.mask tag)
-    parts tag f = both (not (is_open (depth e.skip))) (enters_nothing index e.level.mask tag) f
+    parts : (tag : Tag) → true ≡ passes_item index e (Some tag) → (true ≡ not (is_open (depth e.skip))) × (true ≡ enters_nothing index e.level.mask tag e.level.items)
+    parts tag f = both (not (is_open (depth e.skip))) (enters_nothing index e.level.mask tag e.level.items) f
 
-    no_bits : (tag : Tag) → true ≡ passes_item index e (Some tag) → bit_and e.level.mask (mask_at index.steps tag) ≡ 0
-    no_bits tag f = eqb-true (bit_and e.level.mask (mask_at index.steps tag)) 0 (sym (parts tag f).1)
+    no_bits : (tag : Tag) → true ≡ passes_item index e (Some tag) → bit_and e.level.mask (item_mask_at index.steps tag e.level.items) ≡ 0
+    no_bits tag f = eqb-true (bit_and e.level.mask (item_mask_at index.steps tag e.level.items)) 0 (sym (parts tag f).1)
 
     none_open_here : (l : Option Tag) → true ≡ passes_item index e l → depth e.skip ≡ 0
     none_open_here None f = absurd (false≢true (sym f))

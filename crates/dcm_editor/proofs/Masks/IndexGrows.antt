@@ -4,11 +4,12 @@ use Rattle.std.specs.Prelude.{◌==◌}
 use Rattle.std.proofs.lemmas.Bool.{eqb-true, eqb-false, false≢true}
 use Rattle.std.proofs.lemmas.List.{get_or-set_same, get_or-set_other}
 use Rattle.std.proofs.Math.ListN.{set, get_or}
-use Rattle.dcm_edits.specs.Edit.{PathEdit, step, insert, modify, erase, erase_item}
+use Rattle.dcm_base.specs.declared.tag.Tag.{Tag}
+use Rattle.dcm_edits.specs.Edit.{Index, number, every, PathEdit, step, insert, modify, erase, erase_item}
 use Rattle.dcm_edits.specs.Edit.{Edit, on_path, modify_all, erase_all, erase_private, elsewhere}
-use Rattle.dcm_edits.specs.Meaning.{along}
+use Rattle.dcm_edits.specs.Meaning.{index_of, along}
 use Rattle.dcm_edits.specs.declared.edit.Step.{Step}
-use Rattle.dcm_editor.specs.Indexes.{names, names_steps, MasksGrow, has_path, has_edit, has_all, Grows, tells_everywhere}
+use Rattle.dcm_editor.specs.Indexes.{bucket_of, bucket_of_item, names_step, names_steps, MasksGrow, has_path, has_edit, has_all, Grows, tells_everywhere}
 use Rattle.dcm_editor.specs.Masks.{is_set, bits}
 use Rattle.dcm_editor.specs.declared.index.TagIndex.{TagIndex}
 use Rattle.dcm_editor.specs.declared.index.TagMasks.{TagMasks}
@@ -25,23 +26,27 @@ both a b p q = rw p q
 pub along_has : (index : TagIndex) (k : ℕ) (steps : List Step) (edit : PathEdit) → names_steps index.steps k steps ≡ true → has_path index k edit ≡ true → has_path index k (along steps edit) ≡ true
 along_has index k [] edit n h = h
 along_has index k (s ∷ steps) edit n h =
-    let x = and_parts (names index.steps k s.tag) (names_steps index.steps k steps) n in
-    both (names index.steps k s.tag) (has_path index k (along steps edit)) x.0 (along_has index k steps edit x.1 h)
+    let x = and_parts (names_step index.steps k s.tag (index_of s.index)) (names_steps index.steps k steps) n in
+    both (names_step index.steps k s.tag (index_of s.index)) (has_path index k (along steps edit)) x.0 (along_has index k steps edit x.1 h)
+
+step_grows : (old new : TagMasks) → MasksGrow old new → (k : ℕ) (tag : Tag) (i : Index) → names_step old k tag i ≡ true → names_step new k tag i ≡ true
+step_grows old new g k tag (number n) h = g k (bucket_of_item tag n) h
+step_grows old new g k tag every h = g k (bucket_of tag) h
 
 module _ (old new : TagIndex) (ends : MasksGrow old.ends new.ends) (steps : MasksGrow old.steps new.steps) (makers : (k : ℕ) → is_set old.makers k ≡ true → is_set new.makers k ≡ true) (private : (k : ℕ) → is_set old.private k ≡ true → is_set new.private k ≡ true) where
   pub path_grows : (k : ℕ) (p : PathEdit) → has_path old k p ≡ true → has_path new k p ≡ true
   path_grows k (step tag i p) h =
-      let x = and_parts (names old.steps k tag) (has_path old k p) h in
-      both (names new.steps k tag) (has_path new k p) (steps k tag x.0) (path_grows k p x.1)
+      let x = and_parts (names_step old.steps k tag i) (has_path old k p) h in
+      both (names_step new.steps k tag i) (has_path new k p) (step_grows old.steps new.steps steps k tag i x.0) (path_grows k p x.1)
   path_grows k (insert tag vr value) h = makers k h
-  path_grows k (modify tag vr value) h = ends k tag h
-  path_grows k (erase tag) h = ends k tag h
-  path_grows k (erase_item tag i) h = steps k tag h
+  path_grows k (modify tag vr value) h = ends k (bucket_of tag) h
+  path_grows k (erase tag) h = ends k (bucket_of tag) h
+  path_grows k (erase_item tag i) h = step_grows old.steps new.steps steps k tag i h
 
   pub grows : Grows old new
   grows k (on_path p) h = path_grows k p h
-  grows k (modify_all tag vr value) h = ends k tag h
-  grows k (erase_all tag) h = ends k tag h
+  grows k (modify_all tag vr value) h = ends k (bucket_of tag) h
+  grows k (erase_all tag) h = ends k (bucket_of tag) h
   grows k erase_private h = private k h
   grows k elsewhere h = refl
 
@@ -79,9 +84,9 @@ module _ (index : TagIndex) where
 abbrev pub StepsSoFar : TagMasks → ℕ → (left all : List Step) → Type 0
 StepsSoFar now k left all = (final : TagMasks) → MasksGrow now final → names_steps final k left ≡ true → names_steps final k all ≡ true
 
-pub steps_on : (all : List Step) (old new : TagMasks) (k : ℕ) (steps : List Step) (s : Step) (after : List Step) → steps ≡ s ∷ after → StepsSoFar old k steps all → MasksGrow old new → names new k s.tag ≡ true → StepsSoFar new k after all
+pub steps_on : (all : List Step) (old new : TagMasks) (k : ℕ) (steps : List Step) (s : Step) (after : List Step) → steps ≡ s ∷ after → StepsSoFar old k steps all → MasksGrow old new → names_step new k s.tag (index_of s.index) ≡ true → StepsSoFar new k after all
 steps_on all old new k steps s after is so_far grown here = λ final grows rest.
-    so_far final (λ i t h. grows i t (grown i t h)) (ap (λ (xs : List Step). names_steps final k xs) is ∙ both (names final k s.tag) (names_steps final k after) (grows k s.tag here) rest)
+    so_far final (λ i t h. grows i t (grown i t h)) (ap (λ (xs : List Step). names_steps final k xs) is ∙ both (names_step final k s.tag (index_of s.index)) (names_steps final k after) (step_grows new final grows k s.tag (index_of s.index) here) rest)
 
 pub steps_end : (all : List Step) (now : TagMasks) (k : ℕ) (steps : List Step) → length steps ≡ 0 → StepsSoFar now k steps all → names_steps now k all ≡ true
 steps_end all now k [] none so_far = so_far now (λ i t h. h) refl

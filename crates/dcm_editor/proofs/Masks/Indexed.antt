@@ -1,6 +1,6 @@
 -- The edits outside of the candidates for a tag leave an element of this tag as it is, and put nothing.
 use Rattle.std.proofs.Common.{◌≡◌, ℕ, zero, suc, ◌<◌, List, [], ◌∷◌, map, Option, Bool, true, false, not, ◌||◌, ◌&&◌, refl, sym, ◌∙◌, ap, ◌⊎◌, inl, inr, min, arith}
-use Rattle.std.specs.Prelude.{if◌then◌else◌, ◌==◌}
+use Rattle.std.specs.Prelude.{if◌then◌else◌, ◌==◌, slice_index}
 use Rattle.std.specs.Int.{bit_at}
 use Rattle.std.specs.Int.Bits.{bit_and, bit_or}
 use Rattle.std.proofs.lemmas.Bool.{eqb-true, false≢true}
@@ -8,14 +8,14 @@ use Rattle.std.proofs.lemmas.Nat.Bits.{bit_at_and, bit_at-lt, bit_at-zero}
 use Rattle.dcm_base.specs.declared.tag.Tag.{Tag}
 use Rattle.dcm_base.specs.Tables.Tag.{same_tag, is_private}
 use Rattle.dcm_base.specs.Tree.Tree.{Trees}
-use Rattle.dcm_edits.specs.Edit.{number, every, selects, erases, within, PathEdit, step, insert, modify, erase, erase_item, new_element, around}
+use Rattle.dcm_edits.specs.Edit.{Index, number, every, selects, erases, within, PathEdit, step, insert, modify, erase, erase_item, new_element, around}
 use Rattle.dcm_edits.specs.Edit.{Edit, on_path, modify_all, erase_all, erase_private, elsewhere, Fate, stays, becomes, goes, fate, acts}
 use Rattle.dcm_edits.specs.Edit.{no_element, element_of}
 use Rattle.dcm_edits.specs.Together.{any_erases, first_fate, or_else}
 use Rattle.dcm_edits.specs.NewOnes.{is_between, passes_new, puts}
 use Rattle.dcm_editor.specs.EditSink.{either, has_place, makes}
 use Rattle.dcm_editor.specs.Asking.{answer_of, any_answer, asked_one, is_everywhere}
-use Rattle.dcm_editor.specs.Indexes.{mask_at, names, has_path, has_edit, has_all, named, candidates}
+use Rattle.dcm_editor.specs.Indexes.{bucket_of_item, mask_at, item_mask_at, holds, names, names_step, has_path, has_edit, has_all, named, candidates}
 use Rattle.dcm_editor.specs.Masks.{is_set, at_depth, rest_of_path, asked, bits, goes_along, GoAlong}
 use Rattle.dcm_editor.specs.declared.asked.Question.TheVariants.{AtHead, Meets}
 use Rattle.dcm_editor.specs.declared.index.TagIndex.{TagIndex}
@@ -78,7 +78,7 @@ module _ (index : TagIndex) (k : ℕ) where
   Unmade = is_set index.makers k ≡ false
 
   no_new : (p : PathEdit) → has_path index k p ≡ true → Unmade → new_element p ≡ no_element
-  no_new (step tag (number zero) p) h u = ap (around tag) (no_new p (and_parts (names index.steps k tag) (has_path index k p) h).1 u)
+  no_new (step tag (number zero) p) h u = ap (around tag) (no_new p (and_parts (names_step index.steps k tag (number zero)) (has_path index k p) h).1 u)
   no_new (step tag (number (suc n)) p) h u = refl
   no_new (step tag every p) h u = refl
   no_new (insert tag vr value) h u = absurd (false≢true (sym u ∙ h))
@@ -88,7 +88,7 @@ module _ (index : TagIndex) (k : ℕ) where
 
   no_new_left : (d : ℕ) (p : PathEdit) → has_path index k p ≡ true → Unmade → new_element (rest_of_path d p) ≡ no_element
   no_new_left zero p h u = no_new p h u
-  no_new_left (suc d) (step tag i p) h u = no_new_left d p (and_parts (names index.steps k tag) (has_path index k p) h).1 u
+  no_new_left (suc d) (step tag i p) h u = no_new_left d p (and_parts (names_step index.steps k tag i) (has_path index k p) h).1 u
   no_new_left (suc d) (insert tag vr value) h u = no_new (insert tag vr value) h u
   no_new_left (suc d) (modify tag vr value) h u = refl
   no_new_left (suc d) (erase tag) h u = refl
@@ -130,7 +130,7 @@ module _ (index : TagIndex) (k : ℕ) where
 
     path_left_stays : (d : ℕ) (p : PathEdit) → has_path index k p ≡ true → Unnamed → Unmade → fate (on_path (rest_of_path d p)) tag ≡ stays
     path_left_stays zero p h n u = path_stays p h n u
-    path_left_stays (suc d) (step t i p) h n u = path_left_stays d p (and_parts (names index.steps k t) (has_path index k p) h).1 n u
+    path_left_stays (suc d) (step t i p) h n u = path_left_stays d p (and_parts (names_step index.steps k t i) (has_path index k p) h).1 n u
     path_left_stays (suc d) (insert t vr value) h n u = path_stays (insert t vr value) h n u
     path_left_stays (suc d) (modify t vr value) h n u = path_stays (modify t vr value) h n u
     path_left_stays (suc d) (erase t) h n u = path_stays (erase t) h n u
@@ -153,34 +153,49 @@ module _ (index : TagIndex) (k : ℕ) where
         let y = or_unset (mask_at index.ends tag) index.makers k x.0 in
         (edit_stays d e h y.0 y.1 x.1, no_element_of d e h y.1)
 
-    -- an edit that does not name the items of the sequence with this tag
-    abbrev Unentered : Type 0
-    Unentered = is_set (mask_at index.steps tag) k ≡ false
+    -- an edit that does not name item n of the sequence with this tag
+    abbrev Unentered : ℕ → Type 0
+    Unentered n = is_set (item_mask_at index.steps tag n) k ≡ false
+
+    and_false : (a : Bool) → (a && false) ≡ false
+    and_false true = refl
+    and_false false = refl
+
+    other_item : (t : Tag) (i : Index) (n : ℕ) → names_step index.steps k t i ≡ true → Unentered n → (same_tag t tag && selects i n) ≡ false
+    other_item t every n h u = ap (λ (b : Bool). b && true) (other_tag index.steps t h (or_unset (mask_at index.steps tag) (slice_index index.steps.buckets (bucket_of_item tag n)) k u).0)
+    other_item t (number m) n h u = by_test (same_tag t tag) (m == n) refl refl
+      where
+        by_test : (a b : Bool) → same_tag t tag ≡ a → (m == n) ≡ b → (same_tag t tag && (m == n)) ≡ false
+        by_test false b e f = ap (λ (x : Bool). x && (m == n)) e
+        by_test true false e f = ap (λ (x : Bool). same_tag t tag && x) f ∙ and_false (same_tag t tag)
+        by_test true true e f =
+            absurd (false≢true (sym (or_unset (mask_at index.steps tag) (slice_index index.steps.buckets (bucket_of_item tag n)) k u).1
+            ∙ ap (λ (x : ℕ). holds index.steps k (bucket_of_item tag x)) (sym (eqb-true m n f)) ∙ ap (λ (x : Tag). holds index.steps k (bucket_of_item x m)) (sym (same t e)) ∙ h))
 
     left_has : (d : ℕ) (p : PathEdit) → has_path index k p ≡ true → has_path index k (rest_of_path d p) ≡ true
     left_has zero p h = h
-    left_has (suc d) (step t i p) h = left_has d p (and_parts (names index.steps k t) (has_path index k p) h).1
+    left_has (suc d) (step t i p) h = left_has d p (and_parts (names_step index.steps k t i) (has_path index k p) h).1
     left_has (suc d) (insert t vr value) h = h
     left_has (suc d) (modify t vr value) h = h
     left_has (suc d) (erase t) h = h
     left_has (suc d) (erase_item t i) h = h
 
-    path_along : (p : PathEdit) (n : ℕ) → has_path index k p ≡ true → Unentered → goes_along (on_path p) tag n ≡ false
-    path_along (step t i p) n h u = ap (λ (b : Bool). b && selects i n) (other_tag index.steps t (and_parts (names index.steps k t) (has_path index k p) h).0 u)
+    path_along : (p : PathEdit) (n : ℕ) → has_path index k p ≡ true → Unentered n → goes_along (on_path p) tag n ≡ false
+    path_along (step t i p) n h u = other_item t i n (and_parts (names_step index.steps k t i) (has_path index k p) h).0 u
     path_along (insert t vr value) n h u = refl
     path_along (modify t vr value) n h u = refl
     path_along (erase t) n h u = refl
     path_along (erase_item t i) n h u = refl
 
-    path_erases : (p : PathEdit) (n : ℕ) → has_path index k p ≡ true → Unentered → erases (on_path p) tag n ≡ false
+    path_erases : (p : PathEdit) (n : ℕ) → has_path index k p ≡ true → Unentered n → erases (on_path p) tag n ≡ false
     path_erases (step t i p) n h u = refl
     path_erases (insert t vr value) n h u = refl
     path_erases (modify t vr value) n h u = refl
     path_erases (erase t) n h u = refl
-    path_erases (erase_item t i) n h u = ap (λ (b : Bool). b && selects i n) (other_tag index.steps t h u)
+    path_erases (erase_item t i) n h u = other_item t i n h u
 
-    path_place : (p : PathEdit) (n : ℕ) → has_path index k p ≡ true → Unentered → has_place (element_of (within (on_path p) tag n)) ≡ false
-    path_place (step t i p) n h u = ap (λ (b : Bool). has_place (element_of (if b && selects i n then on_path p else elsewhere))) (other_tag index.steps t (and_parts (names index.steps k t) (has_path index k p) h).0 u)
+    path_place : (p : PathEdit) (n : ℕ) → has_path index k p ≡ true → Unentered n → has_place (element_of (within (on_path p) tag n)) ≡ false
+    path_place (step t i p) n h u = ap (λ (b : Bool). has_place (element_of (if b then on_path p else elsewhere))) (other_item t i n (and_parts (names_step index.steps k t i) (has_path index k p) h).0 u)
     path_place (insert t vr value) n h u = refl
     path_place (modify t vr value) n h u = refl
     path_place (erase t) n h u = refl
@@ -190,7 +205,7 @@ module _ (index : TagIndex) (k : ℕ) where
     abbrev pub Ignores : ℕ → Edit → Type 0
     Ignores n e = (erases e tag n ≡ false) × (has_place (element_of (within e tag n)) ≡ false)
 
-    pub ignores : (d : ℕ) (e : Edit) (n : ℕ) → has_edit index k e ≡ true → Unentered → Ignores n (at_depth d e)
+    pub ignores : (d : ℕ) (e : Edit) (n : ℕ) → has_edit index k e ≡ true → Unentered n → Ignores n (at_depth d e)
     ignores d (on_path p) n h u = (path_erases (rest_of_path d p) n (left_has d p h) u, path_place (rest_of_path d p) n (left_has d p h) u)
     ignores d (modify_all t vr value) n h u = (refl, refl)
     ignores d (erase_all t) n h u = (refl, refl)
@@ -198,7 +213,7 @@ module _ (index : TagIndex) (k : ℕ) where
     ignores d elsewhere n h u = (refl, refl)
 
     -- and goes along into it if it does so into each
-    pub along : (d : ℕ) (e : Edit) (n : ℕ) → has_edit index k e ≡ true → Unentered → is_everywhere e ≡ goes_along (at_depth d e) tag n
+    pub along : (d : ℕ) (e : Edit) (n : ℕ) → has_edit index k e ≡ true → Unentered n → is_everywhere e ≡ goes_along (at_depth d e) tag n
     along d (on_path p) n h u = sym (path_along (rest_of_path d p) n (left_has d p h) u)
     along d (modify_all t vr value) n h u = refl
     along d (erase_all t) n h u = refl
@@ -314,7 +329,7 @@ neither : (a b c : Bool) → b ≡ false → c ≡ false → a ≡ (a || (b || c
 neither true b c p q = refl
 neither false b c p q = rw p (sym q)
 
-ignored : (index : TagIndex) (k : ℕ) (tag : Tag) (d : ℕ) (e : Edit) (n : ℕ) (b : Bool) → has_edit index k e ≡ true → (b ≡ true → Unentered index k tag) → Ignores index k tag n (masked b d e)
+ignored : (index : TagIndex) (k : ℕ) (tag : Tag) (d : ℕ) (e : Edit) (n : ℕ) (b : Bool) → has_edit index k e ≡ true → (b ≡ true → Unentered index k tag n) → Ignores index k tag n (masked b d e)
 ignored index k tag d e n false h u = (refl, refl)
 ignored index k tag d e n true h u = ignores index k tag d e n h (u refl)
 
@@ -325,9 +340,9 @@ both_alike false b g h = refl
 first_alike : (a b : Bool) (xs ys : List Bool) → a ∷ xs ≡ b ∷ ys → (a ≡ b) × (xs ≡ ys)
 first_alike a b xs ys e = (cc, cc)
 
-module _ (index : TagIndex) (d mask : ℕ) (tag : Tag) (n : ℕ) (nothing : bit_and mask (mask_at index.steps tag) ≡ 0) where
+module _ (index : TagIndex) (d mask : ℕ) (tag : Tag) (n : ℕ) (nothing : bit_and mask (item_mask_at index.steps tag n) ≡ 0) where
   ignored_here : (k : ℕ) (e : Edit) → has_edit index k e ≡ true → Ignores index k tag n (asked_one d mask k e)
-  ignored_here k e h = ignored index k tag d e n (is_set mask k) h (not_both mask (mask_at index.steps tag) k nothing)
+  ignored_here k e h = ignored index k tag d e n (is_set mask k) h (not_both mask (item_mask_at index.steps tag n) k nothing)
 
   pub none_erased : (k : ℕ) (es : List Edit) → has_all index k es ≡ true → any_erases (asked d mask k es) tag n ≡ false
   none_erased k [] h = refl
@@ -349,7 +364,7 @@ module _ (index : TagIndex) (d mask : ℕ) (tag : Tag) (n : ℕ) (nothing : bit_
       let x = and_parts (has_edit index k e) (has_all index (suc k) es) h in
       let y = first_alike (is_set index.everywhere k) (is_everywhere e) (bits index.everywhere (suc k) es) (map is_everywhere es) t in (
         set_in_both mask index.everywhere k
-            ∙ both_alike (is_set mask k) (is_set index.everywhere k) (goes_along (at_depth d e) tag n) (λ set. y.0 ∙ along index k tag d e n x.0 (not_both mask (mask_at index.steps tag) k nothing set)),
+            ∙ both_alike (is_set mask k) (is_set index.everywhere k) (goes_along (at_depth d e) tag n) (λ set. y.0 ∙ along index k tag d e n x.0 (not_both mask (item_mask_at index.steps tag n) k nothing set)),
         others_along (suc k) es x.1 y.1,
       )
 

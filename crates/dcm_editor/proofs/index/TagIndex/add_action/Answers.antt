@@ -12,4 +12,4 @@ pub returns-in-Erase-clause-others : goal.returns-in-Erase-clause-others
 returns-in-Erase-clause-others g c = ends_grow c.args.self.now c.add-in-Erase.new.self c.add-in-Erase.ensures.others
 
 pub returns-in-EraseItem-clause-others : goal.returns-in-EraseItem-clause-others
-returns-in-EraseItem-clause-others g c = steps_grow c.args.self.now c.add-in-EraseItem.new.self c.add-in-EraseItem.ensures.others
+returns-in-EraseItem-clause-others g c = steps_grow c.args.self.now c.add_step.new.self c.add_step.ensures.others

@@ -8,8 +8,8 @@ pub loop-step-preserved : goal.loop-step-preserved
 loop-step-preserved c =
     let l = c.loop-step in
     record {
-      grown = λ k t h. c.add.ensures.others k t (l.invariant.grown k t h);
-      so_far = steps_on c.args.steps.now l.self c.add.new.self c.args.place l.rest.now c.in-Some.step.now c.in-Some.after.now c.in-Some.ensures.cases.0 l.invariant.so_far c.add.ensures.others c.add.ensures.here;
+      grown = λ k t h. c.add_step.ensures.others k t (l.invariant.grown k t h);
+      so_far = steps_on c.args.steps.now l.self c.add_step.new.self c.args.place l.rest.now c.in-Some.step.now c.in-Some.after.now c.in-Some.ensures.cases.0 l.invariant.so_far c.add_step.ensures.others c.add_step.ensures.here;
     }
 
 pub returns-clause-here : goal.returns-clause-here
