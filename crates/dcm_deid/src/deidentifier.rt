@@ -139,11 +139,21 @@ impl Deidentifier {
             ≡ spec.judged (deidentifying.place self.old) fate form head.tag head.vr syntax }
     {
         self.skip.open(fate != Fate::Keep);
-        self.held = if is_held(fate, form, head.tag) {
-            Some(HeldValue::new(head.tag, head.vr, syntax))
+        if is_held(fate, form, head.tag) {
+            self.held = Some(HeldValue::new(head.tag, head.vr, syntax));
         } else {
-            None
-        };
+            self.let_go();
+        }
+    }
+
+    /// Holds no value. Most elements find none: the room of one is blanked only where one is there.
+    fn let_go(&mut self)
+        ensures last { self.new.last ≡ self.old.last }
+        ensures place { deidentifying.place self.new ≡ spec.holding (deidentifying.place self.old) None }
+    {
+        if self.held.is_some() {
+            self.held = None;
+        }
     }
 
     /// After the head of an element of this fate, of which nothing is left out so far.
@@ -181,7 +191,7 @@ impl Deidentifier {
         if self.shows() {
             self.may_show = true;
         }
-        self.held = None;
+        self.let_go();
         self.skip.close();
     }
 
