@@ -4,7 +4,7 @@ ghost use Rattle.dcm_base.specs.Dump.ValueText as spec;
 ghost use Rattle.dcm_value.specs.Swap.{IsUnit};
 ghost use Rattle.dcm_value.specs.Woven.{woven};
 
-use std::simd::{Simd, u8x16, u8x32, u8x64};
+use std::simd::{u8x16, u8x32, u8x64};
 
 /// The bytes that become text at a time.
 pub const LANES: usize = 16;

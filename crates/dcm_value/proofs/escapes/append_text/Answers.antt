@@ -1,4 +1,4 @@
-use Rattle.std.proofs.Common.{◌+◌, ◌-◌, ◌*◌, ◌≡◌, ◌≤◌, arith, ℕ, length}
+use Rattle.std.proofs.Common.{◌+◌, ◌-◌, ◌*◌, arith, ℕ}
 use Rattle.dcm_value.proofs.Displays.TextLanes.{escaped_more}
 use Rattle.dcm_value.proofs.escapes.append_text.Goals as goal
 

@@ -1,6 +1,5 @@
 use Rattle.std.proofs.Common.{◌≡◌, ◌+◌, ◌*◌, ◌/◌, ◌==◌, ◌∙◌, ap, sym, arith, ℕ, List, length, take, drop}
 use Rattle.std.specs.Prelude.{count_by}
-use Rattle.std.proofs.lemmas.List.{length-drop}
 use Rattle.dcm_value.proofs.Displays.TextLanes.{count_more, count_all}
 use Rattle.dcm_value.proofs.escapes.backslashes.Goals as goal
 

@@ -1,4 +1,4 @@
-use Rattle.std.proofs.Common.{ap, ◌∙◌, ◌||◌}
+use Rattle.std.proofs.Common.{◌∙◌}
 use Rattle.dcm_value.proofs.Displays.TextLanes.{escapes_any, or_alike}
 use Rattle.dcm_value.proofs.escapes.has_escapes.Goals as goal
 
