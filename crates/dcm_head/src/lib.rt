@@ -2,7 +2,7 @@
 //! (PS3.10 7.1).
 //!
 //! - `read_head` reads a head out of the first bytes that it is given, or says how many it needs; `write_head` writes
-//!   one.
+//!   one, and `plain_head` that of an item or a delimiter.
 //! - `Meta` reads the head of a file, fed in any pieces, and holds it: at most 16,528 bytes. `Meta::rewritten` writes
 //!   its group anew with another transfer syntax, a `SyntaxUid`; `write_meta` does so of any group, and `first_element`
 //!   walks over one. `Meta::renewed` writes what a `Renewal` leaves of its elements.
