@@ -354,12 +354,13 @@ fn is_on_path<A: Allocator>(edit: &Edit<A>) -> bool
     }
 }
 
+/// Whether it is asked in each data set, as one is that is on no path.
 fn is_everywhere<A: Allocator>(edit: &Edit<A>) -> bool
     ensures { result ≡ asking.is_everywhere (edit_of edit.now) }
 {
     match edit {
         Edit::OnPath(_) => false,
-        Edit::ModifyAll(_) | Edit::EraseAll(_) | Edit::ErasePrivate => true,
+        Edit::ErasePrivate | Edit::EraseAll(_) | Edit::ModifyAll(_) => true,
     }
 }
 
