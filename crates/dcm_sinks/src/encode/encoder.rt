@@ -168,21 +168,28 @@ impl Encoder {
         requires { depth self.old.skip ≡ 0 }
         ensures { Took W.DeviceOut out.old out.new self.old self.new (map value_byte bytes.now) result }
     {
-        if let Some(copier) = &mut self.copier {
-            copier.feed(bytes, out)?;
+        let Some(copier) = &mut self.copier else {
+            return Ok(());
+        };
+        match copier.feed(bytes, out) {
+            Ok(()) => Ok(()),
+            Err(failed) => {
+                self.copier = None;
+                Err(failed)
+            }
         }
-        Ok(())
     }
 
     fn close<W: DeviceOut>(&mut self, out: &mut Watched<W>) -> Result<(), WriteFailed>
         ensures state { OnOk result (state self.new ≡ spec.live_step (state self.old) closes_leaf) }
         ensures wrote { Wrote W.DeviceOut out.old out.new (spec.live_writes (state self.old) closes_leaf) result }
     {
-        if let Some(copier) = &self.copier {
-            copier.close(out)?;
-            self.copier = None;
-        }
-        Ok(())
+        let Some(copier) = &self.copier else {
+            return Ok(());
+        };
+        let closed = copier.close(out);
+        self.copier = None;
+        closed
     }
 
     fn open_fragment<W: DeviceOut>(

@@ -10,20 +10,20 @@ returns-in_default g c =
     let none : copying_of c.args.self.now.copier ≡ None = ap copying_of c.in_default.is in
     record { state = no_copy_state (state c.args.self.now) c.args.bytes.now c.requires none; bytes = no_copy_bytes (state c.args.self.now) c.args.bytes.now _ c.requires none; failed = search rules }
 
-pub returns-in_err-feed : goal.returns-in_err-feed
-returns-in_err-feed g c =
+pub returns-in-Err : goal.returns-in-Err
+returns-in-Err g c =
     let some : copying_of c.args.self.now.copier ≡ Some (copying c.in-Some.copier) = ap copying_of c.in-Some.is in
     record {
       state = search rules;
-      bytes = puts_err _ _ _ c.from_residual.result c.from_residual.ensures.0 (rw (copy_bytes (state c.args.self.now) (copying c.in-Some.copier) c.args.bytes.now c.requires some) c.in_err-feed.ensures.goes);
+      bytes = rw (copy_bytes (state c.args.self.now) (copying c.in-Some.copier) c.args.bytes.now c.requires some) c.in-Err.ensures.goes;
       failed = search rules;
     }
 
-pub returns-in_ok-feed : goal.returns-in_ok-feed
-returns-in_ok-feed g c =
+pub returns-in-Ok : goal.returns-in-Ok
+returns-in-Ok g c =
     let some : copying_of c.args.self.now.copier ≡ Some (copying c.in-Some.copier) = ap copying_of c.in-Some.is in
     record {
-      state = copy_state (state c.args.self.now) _ (copying c.in-Some.copier) (copying c.feed.new.self) c.args.bytes.now c.requires some c.in_ok-feed.ensures.goes.0 (ap (λ d. record { target = c.args.self.now.target; dropped = d; copying = Some (copying c.feed.new.self) }) c.requires);
-      bytes = rw (copy_bytes (state c.args.self.now) (copying c.in-Some.copier) c.args.bytes.now c.requires some) c.in_ok-feed.ensures.goes.1;
+      state = copy_state (state c.args.self.now) _ (copying c.in-Some.copier) (copying c.feed.new.self) c.args.bytes.now c.requires some c.in-Ok.ensures.goes.0 (ap (λ d. record { target = c.args.self.now.target; dropped = d; copying = Some (copying c.feed.new.self) }) c.requires);
+      bytes = rw (copy_bytes (state c.args.self.now) (copying c.in-Some.copier) c.args.bytes.now c.requires some) c.in-Ok.ensures.goes.1;
       failed = search rules;
     }
