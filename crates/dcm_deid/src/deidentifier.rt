@@ -217,7 +217,8 @@ impl Deidentifier {
         }
     }
 
-    /// After a token.
+    /// After a token. It is taken apart where it is made: a copy would wait for its parts to be stored.
+    #[inline(always)]
     pub fn go_on(&mut self, options: &Options, token: Token)
         ensures { deidentifying.GoesOn options.now self.old self.new (atoms_of token.entry) }
     {
