@@ -147,6 +147,7 @@ impl Encoder {
         }
     }
 
+    #[inline(never)]
     fn open<W: DeviceOut>(
         &mut self,
         out: &mut Watched<W>,
@@ -164,6 +165,7 @@ impl Encoder {
         self.open_element(out, head, syntax)
     }
 
+    #[inline(never)]
     fn copy<W: DeviceOut>(&mut self, out: &mut Watched<W>, bytes: &[u8]) -> Result<(), WriteFailed>
         requires { depth self.old.skip ≡ 0 }
         ensures { Took W.DeviceOut out.old out.new self.old self.new (map value_byte bytes.now) result }
@@ -180,6 +182,7 @@ impl Encoder {
         }
     }
 
+    #[inline(never)]
     fn close<W: DeviceOut>(&mut self, out: &mut Watched<W>) -> Result<(), WriteFailed>
         ensures state { OnOk result (state self.new ≡ spec.live_step (state self.old) closes_leaf) }
         ensures wrote { Wrote W.DeviceOut out.old out.new (spec.live_writes (state self.old) closes_leaf) result }
@@ -192,6 +195,7 @@ impl Encoder {
         closed
     }
 
+    #[inline(never)]
     fn open_fragment<W: DeviceOut>(
         &mut self,
         out: &mut Watched<W>,
@@ -206,7 +210,9 @@ impl Encoder {
         Ok(())
     }
 
-    /// Writes what a token of an element that is not dropped makes of it.
+    /// Writes what a token of an element that is not dropped makes of it. It is taken apart where it is made, so that no
+    /// token is stored and loaded again; the calls behind it are not inlined, so that this stays small.
+    #[inline(always)]
     fn take_live<W: DeviceOut>(
         &mut self,
         out: &mut Watched<W>,
@@ -228,6 +234,7 @@ impl Encoder {
     }
 
     /// Writes what a token shows. Fails where the writer fails, which has then taken a beginning of it.
+    #[inline(always)]
     pub fn take<W: DeviceOut>(
         &mut self,
         out: &mut Watched<W>,
