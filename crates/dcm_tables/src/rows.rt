@@ -1,6 +1,7 @@
 // The row of one file, and the lines on standard error that come after it.
-ghost use Rattle.std.specs.Prelude.{◌≡◌, ◌≤◌, [], flat_map, option_to_list, IfOk};
+ghost use Rattle.std.specs.Prelude.{◌≡◌, ◌≤◌, ◌<◌, [], length, flat_map, option_to_list, IfOk};
 ghost use Rattle.dcm_devices.specs.Writing.{Wrote};
+ghost use Rattle.dcm_files.specs.Pieces.{BUFFER_LIMIT};
 ghost use Rattle.dcm_names.specs.NamedLines.{too_long_line};
 ghost use Rattle.dcm_table.specs.TableSink.{cleared};
 ghost use Rattle.dcm_cli.specs.Change.{change_of};
@@ -12,9 +13,6 @@ use dcm_base::{DeviceIn, DeviceOut, Tag, Watched, WriteFailed};
 use dcm_cli::status::{DEVICE, DONE, FAULT};
 use dcm_names::{put_fault, put_too_long, put_unread};
 use dcm_table::{Cells, Columns, RowEnd, TextForm, put_row};
-
-/// The bytes of a file that are read at a time.
-const PIECE: usize = 16_384;
 
 /// What all rows of a table share.
 #[derive(Clone, Copy)]
@@ -108,17 +106,19 @@ pub fn do_file<R: DeviceIn, W: DeviceOut, E: DeviceOut>(
     form: TextForm,
     name: &[u8],
     input: &mut Watched<R>,
+    buffer: &mut [u8],
     cells: &mut Cells,
     out: &mut Watched<W>,
     errors: &mut Watched<E>,
 ) -> Result<u8, WriteFailed>
+    requires room { 0 < length buffer.old }
+    requires bound { length buffer.old ≤ BUFFER_LIMIT }
     ensures does { spec.DoesFile R.DeviceIn W.DeviceOut (cleared cells.old) form name.now
         (change_of E.DeviceOut errors.old errors.new) out.old out.new input.old result input.new }
     ensures within { IfOk result (λ status. status ≤ statuses.DEVICE) }
     ensures kept { cleared cells.new ≡ cleared cells.old }
 {
-    let mut buffer = [0u8; PIECE];
-    match read_file(input, &mut buffer, cells) {
+    match read_file(input, buffer, cells) {
         FileEnd::Read(end) => {
             put_row(form, name, cells, out)?;
             let _ = put_file_lines(name, cells, end, errors);

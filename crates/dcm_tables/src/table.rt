@@ -1,7 +1,8 @@
 // All names of a table, one after another.
-ghost use Rattle.std.specs.Prelude.{◌≡◌, ◌≤◌, IfOk, List, ℕ};
+ghost use Rattle.std.specs.Prelude.{◌≡◌, ◌≤◌, ◌<◌, IfOk, List, length, ℕ};
 ghost use Rattle.dcm_cli.specs.Change.{change_of};
 ghost use Rattle.dcm_devices.specs.Writing.{Wrote};
+ghost use Rattle.dcm_files.specs.Pieces.{BUFFER_LIMIT};
 ghost use Rattle.dcm_cli.specs.Status as statuses;
 ghost use Rattle.dcm_names.specs.Held.{Holds};
 ghost use Rattle.dcm_table.specs.Columns.{list_of, tags_of};
@@ -20,6 +21,9 @@ use dcm_table_words::{Name, NameWords};
 
 /// How the work on names ended, where the output did not fail: the greatest status of files and lists.
 pub type Ends = Result<u8, WriteFailed>;
+
+/// The bytes of a file that are read at a time.
+const PIECE: usize = 16_384;
 
 /// The path of standard input.
 const STANDARD: &[u8] = b"-";
@@ -58,10 +62,13 @@ fn do_at<S: System, W: DeviceOut, E: DeviceOut>(
     path: &[u8],
     is_openable: bool,
     system: &mut S,
+    buffer: &mut [u8],
     cells: &mut Cells,
     out: &mut Watched<W>,
     errors: &mut Watched<E>,
 ) -> Ends
+    requires room { 0 < length buffer.old }
+    requires bound { length buffer.old ≤ BUFFER_LIMIT }
     ensures does { spec.DoesAt S.may_do (DoesFile S.Input.DeviceIn W.DeviceOut (cleared cells.old) form) name.now path.now
         is_openable (change_of E.DeviceOut errors.old errors.new) out.old out.new system.old result system.new }
     ensures within { IfOk result (λ status. status ≤ statuses.DEVICE) }
@@ -72,7 +79,7 @@ fn do_at<S: System, W: DeviceOut, E: DeviceOut>(
         return Ok(DEVICE);
     };
     let mut input = Watched::new(opened.device);
-    let ends = do_file(form, name, &mut input, cells, out, errors);
+    let ends = do_file(form, name, &mut input, buffer, cells, out, errors);
     system.release(input.into_device());
     ends
 }
@@ -82,10 +89,13 @@ fn do_listed<S: System, W: DeviceOut, E: DeviceOut>(
     form: TextForm,
     names: &ListReader,
     system: &mut S,
+    buffer: &mut [u8],
     cells: &mut Cells,
     out: &mut Watched<W>,
     errors: &mut Watched<E>,
 ) -> Ends
+    requires room { 0 < length buffer.old }
+    requires bound { length buffer.old ≤ BUFFER_LIMIT }
     ensures does { (name : List ℕ) → Holds names.now.line name → spec.DoesListed S.may_do
         (DoesFile S.Input.DeviceIn W.DeviceOut (cleared cells.old) form) name (change_of E.DeviceOut errors.old errors.new) out.old out.new
         system.old result system.new }
@@ -100,6 +110,7 @@ fn do_listed<S: System, W: DeviceOut, E: DeviceOut>(
         path,
         names.is_openable(),
         system,
+        buffer,
         cells,
         out,
         errors,
@@ -112,10 +123,13 @@ fn do_names<S: System, W: DeviceOut, E: DeviceOut>(
     list: &[u8],
     input: &mut Watched<S::Input>,
     system: &mut S,
+    buffer: &mut [u8],
     cells: &mut Cells,
     out: &mut Watched<W>,
     errors: &mut Watched<E>,
 ) -> Ends
+    requires room { 0 < length buffer.old }
+    requires bound { length buffer.old ≤ BUFFER_LIMIT }
     ensures does { spec.DoesNames S.Input.DeviceIn
         (spec.DoesListed S.may_do (DoesFile S.Input.DeviceIn W.DeviceOut (cleared cells.old) form)) list.now
         (change_of E.DeviceOut errors.old errors.new) out.old out.new input.old input.new system.old result
@@ -128,7 +142,7 @@ fn do_names<S: System, W: DeviceOut, E: DeviceOut>(
     loop {
         match names.next(input) {
             NextName::Name => {
-                let ended = do_listed(form, &names, system, cells, out, errors)?;
+                let ended = do_listed(form, &names, system, buffer, cells, out, errors)?;
                 status = status.max(ended);
             }
             NextName::End => return Ok(status),
@@ -145,10 +159,13 @@ fn do_list<S: System, W: DeviceOut, E: DeviceOut>(
     form: TextForm,
     list: &[u8],
     system: &mut S,
+    buffer: &mut [u8],
     cells: &mut Cells,
     out: &mut Watched<W>,
     errors: &mut Watched<E>,
 ) -> Ends
+    requires room { 0 < length buffer.old }
+    requires bound { length buffer.old ≤ BUFFER_LIMIT }
     ensures does { spec.DoesList S.may_do S.Input.DeviceIn
         (spec.DoesListed S.may_do (DoesFile S.Input.DeviceIn W.DeviceOut (cleared cells.old) form)) list.now
         (change_of E.DeviceOut errors.old errors.new) out.old out.new system.old result system.new }
@@ -160,7 +177,7 @@ fn do_list<S: System, W: DeviceOut, E: DeviceOut>(
         return Ok(DEVICE);
     };
     let mut input = Watched::new(opened.device);
-    let ends = do_names(form, list, &mut input, system, cells, out, errors);
+    let ends = do_names(form, list, &mut input, system, buffer, cells, out, errors);
     system.release(input.into_device());
     ends
 }
@@ -170,10 +187,13 @@ fn do_name<S: System, W: DeviceOut, E: DeviceOut>(
     form: TextForm,
     name: Name,
     system: &mut S,
+    buffer: &mut [u8],
     cells: &mut Cells,
     out: &mut Watched<W>,
     errors: &mut Watched<E>,
 ) -> Ends
+    requires room { 0 < length buffer.old }
+    requires bound { length buffer.old ≤ BUFFER_LIMIT }
     ensures does { spec.DoesName S.may_do S.Input.DeviceIn
         (DoesFile S.Input.DeviceIn W.DeviceOut (cleared cells.old) form) (name_as name.entry)
         (change_of E.DeviceOut errors.old errors.new) out.old out.new system.old result system.new }
@@ -183,9 +203,19 @@ fn do_name<S: System, W: DeviceOut, E: DeviceOut>(
     match name {
         Name::File(path) => {
             let is_openable = can_be_opened(path);
-            do_at(form, path, path, is_openable, system, cells, out, errors)
+            do_at(
+                form,
+                path,
+                path,
+                is_openable,
+                system,
+                buffer,
+                cells,
+                out,
+                errors,
+            )
         }
-        Name::List(path) => do_list(form, path, system, cells, out, errors),
+        Name::List(path) => do_list(form, path, system, buffer, cells, out, errors),
     }
 }
 
@@ -194,10 +224,13 @@ fn do_all<S: System, W: DeviceOut, E: DeviceOut>(
     form: TextForm,
     names: NameWords,
     system: &mut S,
+    buffer: &mut [u8],
     cells: &mut Cells,
     out: &mut Watched<W>,
     errors: &mut Watched<E>,
 ) -> Ends
+    requires room { 0 < length buffer.old }
+    requires bound { length buffer.old ≤ BUFFER_LIMIT }
     ensures does { spec.DoesAll
         (spec.DoesName S.may_do S.Input.DeviceIn (DoesFile S.Input.DeviceIn W.DeviceOut (cleared cells.old) form))
         (names_as names.entry) (change_of E.DeviceOut errors.old errors.new) out.old out.new system.old result
@@ -207,7 +240,7 @@ fn do_all<S: System, W: DeviceOut, E: DeviceOut>(
     let mut status = DONE;
     let mut place = 0;
     while let Some((name, next)) = names.after(place) {
-        let ended = do_name(form, name, system, cells, out, errors)?;
+        let ended = do_name(form, name, system, buffer, cells, out, errors)?;
         status = status.max(ended);
         place = next;
     }
@@ -245,5 +278,7 @@ pub fn write_table<S: System, W: DeviceOut, E: DeviceOut>(
     ensures within { IfOk result (λ status. status ≤ statuses.DEVICE) }
 {
     put_header_where(has_header, shared.columns, out)?;
-    do_all(shared.form, names, system, cells, out, errors)
+    // One buffer for all files: to blank one for each file would cost more than to read a small file into it.
+    let mut buffer = [0u8; PIECE];
+    do_all(shared.form, names, system, &mut buffer, cells, out, errors)
 }
