@@ -8,6 +8,7 @@ mod header;
 mod layout;
 mod lengths;
 mod lines;
+mod list_lines;
 
 use crate::dump::lines::Lines;
 use dcm_base::{DeviceOut, Dictionary, Mode, Watched, WriteFailed};

@@ -12,11 +12,9 @@ ghost use Rattle.dcm_sinks.specs.Encoder.{opening};
 ghost use Rattle.dcm_value.specs.Progress as progress;
 ghost use Rattle.dcm_value.specs.ValueText.{progress as text_progress};
 
-use crate::dump::layout::{
-    Line, WRITTEN_LEVEL, begin_line, put_line, put_line_start, put_rest, put_written, written_item,
-    written_item_end, written_sequence_end,
-};
+use crate::dump::layout::{Line, begin_line, put_line, put_line_start, put_rest};
 use crate::dump::lengths::Lengths;
+use crate::dump::list_lines::{put_item_end_line, put_item_line, put_sequence_end_line};
 use dcm_base::{
     DeviceOut, Dictionary, Form, Length, MOST_OPEN, Mode, Syntax, Tag, Vr, Watched, WriteFailed,
     form_of, read_as,
@@ -94,119 +92,6 @@ fn sequence_opening(length: Length) -> &'static [u8]
         Length::Known(_) => b"(Sequence with explicit length)",
         Length::Undefined => b"(Sequence with undefined length)",
     }
-}
-
-fn item_opening(length: Length) -> &'static [u8]
-    ensures { result.now ≡ dump.item_opening length }
-{
-    match length {
-        Length::Known(_) => b"(Item with explicit length)",
-        Length::Undefined => b"(Item with undefined length)",
-    }
-}
-
-fn sequence_end(length: Length) -> &'static [u8]
-    ensures { result.now ≡ dump.sequence_end length }
-{
-    match length {
-        Length::Known(_) => b"(SequenceDelimitationItem for re-encod.)",
-        Length::Undefined => b"(SequenceDelimitationItem)",
-    }
-}
-
-fn item_end(length: Length) -> &'static [u8]
-    ensures { result.now ≡ dump.item_end length }
-{
-    match length {
-        Length::Known(_) => b"(ItemDelimitationItem for re-encoding)",
-        Length::Undefined => b"(ItemDelimitationItem)",
-    }
-}
-
-/// Writes the line of an item that begins.
-fn put_item_line<W: DeviceOut>(
-    out: &mut Watched<W>,
-    dictionary: Dictionary,
-    line: &mut Line,
-    level: usize,
-    declared: Length,
-) -> Result<(), WriteFailed>
-    requires { level ≤ MOST_OPEN }
-    ensures { Wrote W.DeviceOut out.old out.new (dump.item_line dictionary level declared) result }
-{
-    if level <= WRITTEN_LEVEL
-        && let Some(written) = written_item(declared)
-    {
-        return put_written(out, written, level);
-    }
-    let display = item_opening(declared);
-    put_line(
-        out,
-        dictionary,
-        line,
-        level,
-        Tag::ITEM,
-        *b"na",
-        display,
-        declared,
-        1,
-    )
-}
-
-/// Writes the line of the end of an item.
-fn put_item_end_line<W: DeviceOut>(
-    out: &mut Watched<W>,
-    dictionary: Dictionary,
-    line: &mut Line,
-    level: usize,
-    declared: Length,
-) -> Result<(), WriteFailed>
-    requires { level ≤ MOST_OPEN }
-    ensures { Wrote W.DeviceOut out.old out.new (dump.item_end_line dictionary level declared) result }
-{
-    if level <= WRITTEN_LEVEL {
-        return put_written(out, written_item_end(declared), level);
-    }
-    let (display, none) = (item_end(declared), Length::Known(0));
-    put_line(
-        out,
-        dictionary,
-        line,
-        level,
-        Tag::ITEM_END,
-        *b"na",
-        display,
-        none,
-        0,
-    )
-}
-
-/// Writes the line of the end of a sequence.
-fn put_sequence_end_line<W: DeviceOut>(
-    out: &mut Watched<W>,
-    dictionary: Dictionary,
-    line: &mut Line,
-    level: usize,
-    declared: Length,
-) -> Result<(), WriteFailed>
-    requires { level ≤ MOST_OPEN }
-    ensures { Wrote W.DeviceOut out.old out.new (dump.sequence_end_line dictionary level declared) result }
-{
-    if level <= WRITTEN_LEVEL {
-        return put_written(out, written_sequence_end(declared), level);
-    }
-    let (display, none) = (sequence_end(declared), Length::Known(0));
-    put_line(
-        out,
-        dictionary,
-        line,
-        level,
-        Tag::SEQUENCE_END,
-        *b"na",
-        display,
-        none,
-        0,
-    )
 }
 
 /// In full a line is begun at once.

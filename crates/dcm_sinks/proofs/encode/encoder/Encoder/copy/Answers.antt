@@ -1,5 +1,4 @@
 use Rattle.std.proofs.Common.{rules, ◌≡◌, ap, None, Some}
-use Rattle.dcm_devices.proofs.Writes.Puts.{puts_err}
 use Rattle.dcm_sinks.specs.Copier.{copying}
 use Rattle.dcm_sinks.specs.Encoder.{state, copying_of}
 use Rattle.dcm_sinks.proofs.Conversions.Dropping.{no_copy_state, no_copy_bytes, copy_state, copy_bytes}

@@ -1,7 +1,7 @@
 use Rattle.std.proofs.Common.{rules, ◌∙◌, ap, subst, List, ℕ, ◌*◌, ◌-◌, drop}
 use Rattle.dcm_devices.specs.Device.{Puts}
 use Rattle.dcm_sinks.proofs.Dumps.WrittenLines.{item_end_written}
-use Rattle.dcm_sinks.proofs.dump.lines.put_item_end_line.Goals as goal
+use Rattle.dcm_sinks.proofs.dump.list_lines.put_item_end_line.Goals as goal
 
 pub returns-then-level-le-WRITTEN_LEVEL : goal.returns-then-level-le-WRITTEN_LEVEL
 returns-then-level-le-WRITTEN_LEVEL g c =

@@ -1,7 +1,7 @@
 use Rattle.std.proofs.Common.{rules, subst, List, ℕ}
 use Rattle.dcm_devices.specs.Device.{Puts}
 use Rattle.dcm_sinks.proofs.Dumps.WrittenLines.{item_written}
-use Rattle.dcm_sinks.proofs.dump.lines.put_item_line.Goals as goal
+use Rattle.dcm_sinks.proofs.dump.list_lines.put_item_line.Goals as goal
 
 pub returns : goal.returns
 returns g c =
