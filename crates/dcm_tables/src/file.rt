@@ -66,12 +66,29 @@ pub fn read_file<R: DeviceIn>(
     ensures reads { spec.ReadsFile R.DeviceIn input.old input.new (cleared cells.old) cells.new result }
     ensures kept { cleared cells.new ≡ cleared cells.old }
 {
-    cells.clear();
     let mut meta = Meta::new();
-    match read_head_of(&mut meta, input, buffer) {
+    read_file_with(&mut meta, input, buffer, cells)
+}
+
+/// Reads of a file what its row shows, its head by a reader that may have read other files. The cells and the reader are
+/// emptied first.
+pub fn read_file_with<R: DeviceIn>(
+    meta: &mut Meta,
+    input: &mut Watched<R>,
+    buffer: &mut [u8],
+    cells: &mut Cells,
+) -> FileEnd
+    requires room { 0 < length buffer.old }
+    requires bound { length buffer.old ≤ BUFFER_LIMIT }
+    ensures reads { spec.ReadsFile R.DeviceIn input.old input.new (cleared cells.old) cells.new result }
+    ensures kept { cleared cells.new ≡ cleared cells.old }
+{
+    cells.clear();
+    meta.clear();
+    match read_head_of(meta, input, buffer) {
         Ok(beginning) => {
             take_meta(meta.elements(), cells);
-            read_data_set(&meta, beginning, input, buffer, cells)
+            read_data_set(meta, beginning, input, buffer, cells)
         }
         Err(HeadEnding::Refused(stop)) => {
             take_meta(meta.elements(), cells);

@@ -8,9 +8,10 @@ ghost use Rattle.dcm_cli.specs.Change.{change_of};
 ghost use Rattle.dcm_cli.specs.Status as statuses;
 ghost use Rattle.dcm_tables.specs.Rows as spec;
 
-use crate::file::{FileEnd, read_file};
+use crate::file::{FileEnd, read_file_with};
 use dcm_base::{DeviceIn, DeviceOut, Tag, Watched, WriteFailed};
 use dcm_cli::status::{DEVICE, DONE, FAULT};
+use dcm_head::Meta;
 use dcm_names::{put_fault, put_too_long, put_unread};
 use dcm_table::{Cells, Columns, RowEnd, TextForm, put_row};
 
@@ -107,6 +108,7 @@ pub fn do_file<R: DeviceIn, W: DeviceOut, E: DeviceOut>(
     name: &[u8],
     input: &mut Watched<R>,
     buffer: &mut [u8],
+    meta: &mut Meta,
     cells: &mut Cells,
     out: &mut Watched<W>,
     errors: &mut Watched<E>,
@@ -118,7 +120,7 @@ pub fn do_file<R: DeviceIn, W: DeviceOut, E: DeviceOut>(
     ensures within { IfOk result (λ status. status ≤ statuses.DEVICE) }
     ensures kept { cleared cells.new ≡ cleared cells.old }
 {
-    match read_file(input, buffer, cells) {
+    match read_file_with(meta, input, buffer, cells) {
         FileEnd::Read(end) => {
             put_row(form, name, cells, out)?;
             let _ = put_file_lines(name, cells, end, errors);

@@ -15,6 +15,7 @@ use crate::rows::{Shared, do_file};
 use dcm_base::{DeviceOut, Watched, WriteFailed};
 use dcm_cli::status::{DEVICE, DONE};
 use dcm_files::{Opened, System, open_input};
+use dcm_head::Meta;
 use dcm_names::{ListReader, NextName, can_be_opened, put_unopened, put_unread};
 use dcm_table::{Cells, Columns, TextForm, put_header};
 use dcm_table_words::{Name, NameWords};
@@ -63,6 +64,7 @@ fn do_at<S: System, W: DeviceOut, E: DeviceOut>(
     is_openable: bool,
     system: &mut S,
     buffer: &mut [u8],
+    meta: &mut Meta,
     cells: &mut Cells,
     out: &mut Watched<W>,
     errors: &mut Watched<E>,
@@ -79,7 +81,7 @@ fn do_at<S: System, W: DeviceOut, E: DeviceOut>(
         return Ok(DEVICE);
     };
     let mut input = Watched::new(opened.device);
-    let ends = do_file(form, name, &mut input, buffer, cells, out, errors);
+    let ends = do_file(form, name, &mut input, buffer, meta, cells, out, errors);
     system.release(input.into_device());
     ends
 }
@@ -90,6 +92,7 @@ fn do_listed<S: System, W: DeviceOut, E: DeviceOut>(
     names: &ListReader,
     system: &mut S,
     buffer: &mut [u8],
+    meta: &mut Meta,
     cells: &mut Cells,
     out: &mut Watched<W>,
     errors: &mut Watched<E>,
@@ -111,6 +114,7 @@ fn do_listed<S: System, W: DeviceOut, E: DeviceOut>(
         names.is_openable(),
         system,
         buffer,
+        meta,
         cells,
         out,
         errors,
@@ -124,6 +128,7 @@ fn do_names<S: System, W: DeviceOut, E: DeviceOut>(
     input: &mut Watched<S::Input>,
     system: &mut S,
     buffer: &mut [u8],
+    meta: &mut Meta,
     cells: &mut Cells,
     out: &mut Watched<W>,
     errors: &mut Watched<E>,
@@ -142,7 +147,7 @@ fn do_names<S: System, W: DeviceOut, E: DeviceOut>(
     loop {
         match names.next(input) {
             NextName::Name => {
-                let ended = do_listed(form, &names, system, buffer, cells, out, errors)?;
+                let ended = do_listed(form, &names, system, buffer, meta, cells, out, errors)?;
                 status = status.max(ended);
             }
             NextName::End => return Ok(status),
@@ -160,6 +165,7 @@ fn do_list<S: System, W: DeviceOut, E: DeviceOut>(
     list: &[u8],
     system: &mut S,
     buffer: &mut [u8],
+    meta: &mut Meta,
     cells: &mut Cells,
     out: &mut Watched<W>,
     errors: &mut Watched<E>,
@@ -177,7 +183,9 @@ fn do_list<S: System, W: DeviceOut, E: DeviceOut>(
         return Ok(DEVICE);
     };
     let mut input = Watched::new(opened.device);
-    let ends = do_names(form, list, &mut input, system, buffer, cells, out, errors);
+    let ends = do_names(
+        form, list, &mut input, system, buffer, meta, cells, out, errors,
+    );
     system.release(input.into_device());
     ends
 }
@@ -188,6 +196,7 @@ fn do_name<S: System, W: DeviceOut, E: DeviceOut>(
     name: Name,
     system: &mut S,
     buffer: &mut [u8],
+    meta: &mut Meta,
     cells: &mut Cells,
     out: &mut Watched<W>,
     errors: &mut Watched<E>,
@@ -210,12 +219,13 @@ fn do_name<S: System, W: DeviceOut, E: DeviceOut>(
                 is_openable,
                 system,
                 buffer,
+                meta,
                 cells,
                 out,
                 errors,
             )
         }
-        Name::List(path) => do_list(form, path, system, buffer, cells, out, errors),
+        Name::List(path) => do_list(form, path, system, buffer, meta, cells, out, errors),
     }
 }
 
@@ -225,6 +235,7 @@ fn do_all<S: System, W: DeviceOut, E: DeviceOut>(
     names: NameWords,
     system: &mut S,
     buffer: &mut [u8],
+    meta: &mut Meta,
     cells: &mut Cells,
     out: &mut Watched<W>,
     errors: &mut Watched<E>,
@@ -240,7 +251,7 @@ fn do_all<S: System, W: DeviceOut, E: DeviceOut>(
     let mut status = DONE;
     let mut place = 0;
     while let Some((name, next)) = names.after(place) {
-        let ended = do_name(form, name, system, buffer, cells, out, errors)?;
+        let ended = do_name(form, name, system, buffer, meta, cells, out, errors)?;
         status = status.max(ended);
         place = next;
     }
@@ -278,7 +289,17 @@ pub fn write_table<S: System, W: DeviceOut, E: DeviceOut>(
     ensures within { IfOk result (λ status. status ≤ statuses.DEVICE) }
 {
     put_header_where(has_header, shared.columns, out)?;
-    // One buffer for all files: to blank one for each file would cost more than to read a small file into it.
+    // One buffer and one reader of heads for all files: to blank 33 KB for each file costs time that small files feel.
     let mut buffer = [0u8; PIECE];
-    do_all(shared.form, names, system, &mut buffer, cells, out, errors)
+    let mut meta = Meta::new();
+    do_all(
+        shared.form,
+        names,
+        system,
+        &mut buffer,
+        &mut meta,
+        cells,
+        out,
+        errors,
+    )
 }

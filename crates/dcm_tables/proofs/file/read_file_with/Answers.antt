@@ -4,7 +4,7 @@ use Rattle.dcm_cli.specs.declared.ending.HeadEnding.{HeadEnding}
 use Rattle.dcm_cli.proofs.Passes.Readers.{members}
 use Rattle.dcm_tables.specs.Files.{no_set, not_read, set_read}
 use Rattle.dcm_tables.proofs.FileReads.{takes_emptied, kept_emptied}
-use Rattle.dcm_tables.proofs.file.read_file.Goals as goal
+use Rattle.dcm_tables.proofs.file.read_file_with.Goals as goal
 
 pub returns-in-Ok-clause-reads : goal.returns-in-Ok-clause-reads
 returns-in-Ok-clause-reads g c =
