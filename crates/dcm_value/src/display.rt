@@ -10,15 +10,16 @@ ghost use Rattle.dcm_value.specs.Display as spec;
 
 use crate::escapes::{append_text, is_plain_text};
 use crate::hexadecimal::{LANES, weave_blocks};
-use crate::units::{Kind, LONGEST, append_units, kind_of, shown_unit};
+use crate::units::{BLOCK, Kind, LONGEST, append_units, kind_of, shown_unit};
 use arrayvec::ArrayVec;
 use dcm_base::{DeviceOut, Mode, Syntax, Vr, Watched, WriteFailed, put_all, uid_name};
 
 /// The most bytes that are shown at a time.
 const TEXT: usize = 3072;
 
-/// The bytes that become text at a time by lanes.
-const WOVEN: usize = 960;
+/// Room for a block of units in hexadecimal: three bytes of text for each of at most 1,024, and some more, as its last
+/// lanes are stored past the end of its text.
+const WOVEN_TEXT: usize = 3 * 1024 + LANES;
 
 /// What was shown of a value.
 #[derive(Drop)]
@@ -152,7 +153,7 @@ impl Shown {
         self.emit(text.as_slice(), out)
     }
 
-    /// Shows units, each after a backslash.
+    /// Shows units, each after a backslash, 128 at a time. Whole blocks of them become hexadecimal text by lanes.
     pub fn emit_units<W: DeviceOut>(
         &mut self,
         vr: Vr,
@@ -163,15 +164,17 @@ impl Shown {
         ensures { Emits W.DeviceOut out.old out.new (display_of self.old) (display_of self.new)
             (separated_units vr syntax units.now) result }
     {
-        if units.len() < LANES || kind_of(vr) != Kind::Hexadecimal {
+        let size = vr.unit();
+        let block = BLOCK * size;
+        if units.len() < block || self.is_cut() || kind_of(vr) != Kind::Hexadecimal {
             return self.emit_singly(vr, syntax, units, out);
         }
-        let (blocks, last) = units.split_at(units.len() / LANES * LANES);
-        self.emit_blocks(vr.unit(), !syntax.is_big(), blocks, out)?;
+        let (blocks, last) = units.split_at(units.len() / block * block);
+        self.emit_blocks(size, !syntax.is_big(), blocks, out)?;
         self.emit_singly(vr, syntax, last, out)
     }
 
-    /// Shows units in hexadecimal, each after a backslash, sixteen bytes at a time.
+    /// Shows units in hexadecimal, each after a backslash. They become text sixteen bytes at a time.
     fn emit_blocks<W: DeviceOut>(
         &mut self,
         size: usize,
@@ -184,10 +187,10 @@ impl Shown {
         ensures { Emits W.DeviceOut out.old out.new (display_of self.old) (display_of self.new)
             (woven size is_turned units.now) result }
     {
-        let mut text = [0; TEXT];
+        let mut text = [0; WOVEN_TEXT];
         let mut rest = units;
         while !rest.is_empty() && !self.is_cut() {
-            let (block, after) = rest.split_at(rest.len().min(WOVEN));
+            let (block, after) = rest.split_at(rest.len().min(BLOCK * size));
             weave_blocks(size, is_turned, block, &mut text);
             self.emit(&text[..2 * block.len() + block.len() / size], out)?;
             rest = after;

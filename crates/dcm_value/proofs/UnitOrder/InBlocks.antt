@@ -1,5 +1,5 @@
 -- Units in hexadecimal, of which whole blocks are woven and the others shown one by one.
-use Rattle.std.proofs.Common.{◌≡◌, ◌<◌, ◌≤◌, ℕ, ◌*◌, ◌/◌, Bool, not, List, ◌∷◌, ◌++◌, length, take, drop, refl, sym, ap, ◌∙◌, arith}
+use Rattle.std.proofs.Common.{◌≡◌, ◌<◌, ◌≤◌, ℕ, ◌*◌, ◌/◌, Bool, not, List, ◌∷◌, ◌++◌, length, take, drop, refl, sym, ap, ◌∙◌}
 use Rattle.std.specs.Prelude.{flat_map}
 use Rattle.std.proofs.lemmas.Grind.{flat_map-append}
 use Rattle.std.proofs.lemmas.List.{length-take-le, take-append-drop}
@@ -12,12 +12,10 @@ use Rattle.dcm_base.specs.Tree.Value.{pieces, units}
 use Rattle.dcm_base.specs.Dump.ValueText.{shape, shown_unit, hex_byte}
 use Rattle.dcm_base.proofs.Conversions.Order.{turned_unit}
 use Rattle.dcm_value.specs.declared.units.Kind.TheVariants.{Hexadecimal, Tags}
-use Rattle.dcm_value.specs.Swap.{IsUnit}
 use Rattle.dcm_value.specs.Units.{kind_of, high_text, high, one_text, separated, separated_units}
 use Rattle.dcm_value.specs.Woven.{woven, unit_digits}
 use Rattle.dcm_value.proofs.UnitOrder.HighestFirst.{IsOne, Kinds, of_tags, of_ones, kinds, shown_some, one_high, map_same, alike, whole_units}
 use Rattle.dcm_value.proofs.UnitOrder.Pieces.{units_append}
-use Rattle.dcm_value.proofs.UnitOrder.Woven.{in_sixteen}
 
 -- tags are no such units
 tags_apart : Tags ≡ Hexadecimal → ⊥
@@ -56,16 +54,14 @@ split_whole k n m t v some whole within =
     ∙ ap (separated t) (units_append k some n (take m v) (drop m v) (length-take-le m v within ∙ whole))
     ∙ flat_map-append (λ u. 92 ∷ t u) (units k (take m v)) (units k (drop m v))
 
--- whole blocks in front, and the units behind them
-pub units_in_blocks : (syntax : Syntax) (vr : Vr) (size m : ℕ) (big : Bool) (v front back : List ℕ) → IsUnit size → size ≡ unit vr → big ≡ is_big syntax → kind_of (shape vr) ≡ Hexadecimal → m ≡ length v / 16 * 16 → front ≡ take m v → back ≡ drop m v
+-- whole units in front, and those behind them
+pub units_in_blocks : (syntax : Syntax) (vr : Vr) (size n m : ℕ) (big : Bool) (v front back : List ℕ) → size ≡ unit vr → big ≡ is_big syntax → kind_of (shape vr) ≡ Hexadecimal → m ≡ n * size → m ≤ length v → front ≡ take m v → back ≡ drop m v
     → separated_units vr syntax v ≡ woven size (not big) front ++ separated_units vr syntax back
-units_in_blocks syntax vr size m big v front back is same order kind cut f b =
+units_in_blocks syntax vr size n m big v front back same order kind cut within f b =
     let o = is_one vr kind in
     let some : 0 < shown_unit vr = shown_some vr in
-    let blocks = length v / 16 in
     let shown : size ≡ shown_unit vr = same ∙ sym o.same in
-    let whole : m ≡ (16 / size * blocks) * shown_unit vr = (let e : m ≡ 16 * blocks = omega arith in e) ∙ in_sixteen size blocks is ∙ ap (λ k. (16 / size * blocks) * k) shown in
-    split_whole (shown_unit vr) (16 / size * blocks) m (one_text vr syntax) v some whole (omega arith)
+    split_whole (shown_unit vr) n m (one_text vr syntax) v some (cut ∙ ap (λ k. n * k) shown) within
     ∙ ap (λ xs. separated_units vr syntax xs ++ separated_units vr syntax (drop m v)) (sym f)
     ∙ ap (λ xs. separated_units vr syntax front ++ separated_units vr syntax xs) (sym b)
     ∙ ap (λ xs. xs ++ separated_units vr syntax back) (sym (woven_shown syntax vr front kind))

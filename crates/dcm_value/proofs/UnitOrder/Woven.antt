@@ -207,20 +207,17 @@ woven_next size is_turned block step xs text lanes is stepped within room whole 
     ∙ sym (woven_append size (16 / size * block) is_turned (take (16 * block) xs) (chunk (16 * block) 16 xs) some front)
     ∙ ap (woven size is_turned) (sym next)
 
-many_units : (size : ℕ) → IsUnit size → 960 / size * size ≡ 960
-many_units size is =
-    elim is [
-      | inl one ↦ rw one refl
-      | inr (inl two) ↦ rw two refl
-      | inr (inr (inl four)) ↦ rw four refl
-      | inr (inr (inr eight)) ↦ rw eight refl
-    ]
-
 -- blocks in front of others
-pub woven_split : (size : ℕ) (is_turned : Bool) (m : ℕ) (rest front back : List ℕ) → IsUnit size → m ≡ min (length rest) 960 → front ≡ take m rest → back ≡ drop m rest → woven size is_turned rest ≡ woven size is_turned front ++ woven size is_turned back
+pub woven_split : (size : ℕ) (is_turned : Bool) (m : ℕ) (rest front back : List ℕ) → IsUnit size → m ≡ min (length rest) (128 * size) → front ≡ take m rest → back ≡ drop m rest → woven size is_turned rest ≡ woven size is_turned front ++ woven size is_turned back
 woven_split size is_turned m rest front back is size_is f b =
-    units_split size (unit_some size is) (unit_digits is_turned) (960 / size) m rest front back (size_is ∙ ap (min (length rest)) (sym (many_units size is))) f b
+    units_split size (unit_some size is) (unit_digits is_turned) 128 m rest front back size_is f b
 
--- whole blocks are cut into whole blocks
-pub whole_blocks : (m long : ℕ) → 16 * (long / 16) ≡ long → m ≡ min long 960 → (16 * (m / 16) ≡ m) × (16 * ((long - m) / 16) ≡ long - m)
-whole_blocks m long whole size = (omega arith, omega arith)
+-- whole lanes are cut into whole lanes
+pub whole_blocks : (size m long : ℕ) → IsUnit size → 16 * (long / 16) ≡ long → m ≡ min long (128 * size) → (16 * (m / 16) ≡ m) × (16 * ((long - m) / 16) ≡ long - m)
+whole_blocks size m long is whole cut =
+    elim is [
+      | inl one ↦ let e : m ≡ min long 128 = cut ∙ ap (λ k. min long (128 * k)) one in (omega arith, omega arith)
+      | inr (inl two) ↦ let e : m ≡ min long 256 = cut ∙ ap (λ k. min long (128 * k)) two in (omega arith, omega arith)
+      | inr (inr (inl four)) ↦ let e : m ≡ min long 512 = cut ∙ ap (λ k. min long (128 * k)) four in (omega arith, omega arith)
+      | inr (inr (inr eight)) ↦ let e : m ≡ min long 1024 = cut ∙ ap (λ k. min long (128 * k)) eight in (omega arith, omega arith)
+    ]

@@ -39,7 +39,7 @@ loop-self-preserved g c =
     let split = woven_split size c.args.is_turned c.min.result rest block after c.requires.size c.min.ensures c.split_at.ensures.front c.split_at.ensures.back in
     let parts = split ∙ ap (λ xs. xs ++ woven size c.args.is_turned after) (sym c.weave_blocks.ensures.text) in
     let left : length after ≡ length rest - c.min.result = ap length c.split_at.ensures.back ∙ length-drop c.min.result rest in
-    let cut = whole_blocks c.min.result (length rest) c.loop-self.invariant.whole c.min.ensures in
+    let cut = whole_blocks size c.min.result (length rest) c.requires.size c.loop-self.invariant.whole c.min.ensures in
     record {
       part = part_more _ _ shown _ _ c.loop-self.invariant.part parts c.in_ok-emit.ensures.state c.in_ok-emit.ensures.bytes;
       whole = ap (λ n. 16 * (n / 16)) left ∙ cut.1 ∙ sym left;
