@@ -9,7 +9,8 @@ use dcm_base::Tag;
 /// How many places an index has.
 const PLACES: usize = 256;
 
-/// What keeps the numbers of two groups apart, as well as it can be in so many places.
+/// How far apart the places of two groups are that follow each other. It is odd, so that no two groups near each other
+/// have the same places.
 const GROUP_STEP: usize = 37;
 
 /// A run of columns: the first, and the one after the last. It is of no column where the first is not below that.

@@ -114,9 +114,8 @@ impl Copier {
         }
     }
 
-    /// Takes bytes of the value in any cut, and writes the units that are whole. Nearly all bytes come in whole units, and
-    /// go out as they are, with no unit held. Fails where the writer fails, which
-    /// has then taken a beginning of them.
+    /// Takes bytes of the value in any cut, and writes the units that are whole. Nearly all bytes come in whole units,
+    /// and then none has to be held. Fails where the writer fails, which has then taken a beginning of them.
     pub fn feed<W: DeviceOut>(
         &mut self,
         bytes: &[u8],
