@@ -7,3 +7,4 @@ pub mod FragmentRow
 pub mod Reversed
 pub mod Rooms
 pub mod Closes
+pub mod Unfilled

@@ -65,6 +65,18 @@ opened_by begin levels (opening.Item s declared) =
 opened_by begin levels (opening.Fragment size) = value_opens levels None (opens_fragment size) size
 opened_by begin levels (opening.End container) = without_value (drop 1 levels) (closes container)
 
+-- it opens a value or fragment of so many bytes
+abbrev pub OpensValue : Opening → (size : ℕ) → Type 0
+OpensValue (opening.Leaf head s n) size = n ≡ size
+OpensValue (opening.Fragment n) size = n ≡ size
+OpensValue _ size = ⊥
+
+-- it opens or closes a container, and then these are open
+abbrev pub LeadsTo : (begin : ℕ) → List Level → Opening → (behind : List Level) → Type 0
+LeadsTo begin levels (opening.Leaf head s size) behind = ⊥
+LeadsTo begin levels (opening.Fragment size) behind = ⊥
+LeadsTo begin levels o behind = opened_by begin levels o ≡ without_value behind (opening_atom o)
+
 -- the sign of the value that it opens
 abbrev pub opened_sign : Opening → Option Sign
 opened_sign (opening.Leaf head s size) = sign_of head.tag head.vr

@@ -1,20 +1,21 @@
 // How far the reading of a data set has come (PS3.5 7).
-ghost use Rattle.std.specs.Prelude.{◌≡◌, ◌+◌, ◌-◌, ◌<◌, ◌≤◌, [], ◌∷◌, ◌++◌, None, length, option_map, IfOk};
+ghost use Rattle.std.specs.Prelude.{◌≡◌, ◌+◌, ◌-◌, ◌<◌, ◌≤◌, [], ◌∷◌, ◌++◌, None, drop, length, option_map, IfOk};
+ghost use Rattle.dcm_stream.specs.Judging as judging;
 ghost use Rattle.dcm_stream.specs.Judging.{opened_by, opened_sign};
+ghost use Rattle.dcm_stream.specs.Tokens.{IsFilled, atoms_of};
 ghost use Rattle.dcm_stream.specs.Reading as steps;
 ghost use Rattle.dcm_stream.specs.Machine as spec;
 ghost use Rattle.dcm_stream.specs.Sinks as sinks;
-ghost use Rattle.dcm_base.specs.Reading.Place as places;
 ghost use Rattle.dcm_base.specs.Reading.Reads as reads;
 
-use super::close::close_full;
-use super::judge::{Judged, Opening, judge, opening_sign, opening_token, syntax_inside};
+use super::close::{close_full, closing_token};
+use super::judge::{Judged, Opening, judge, opening_sign, syntax_inside};
 use super::levels::{OpenLevels, level_at, passes};
 use super::machine::INPUT_LIMIT;
 use super::sign::OpenSign;
 use super::{Halt, Sink, Token};
 use arrayvec::ArrayVec;
-use dcm_base::{Container, Fault, Length, Stop, Stopped, Syntax, Vr};
+use dcm_base::{Container, Fault, Length, Level, Stop, Stopped, Syntax, Vr};
 use dcm_head::{LONG_HEAD, SHORT_HEAD};
 
 /// The offset up to which heads and values were read whole, the bytes of a head after it, the bytes of a value that
@@ -50,9 +51,23 @@ impl Cursor {
         }
     }
 
-    /// Closes what is full here. No head may come where less room is left than the shortest takes.
+    /// Closes what is full here. No head may come where less room is left than the shortest takes. Where there is room
+    /// for a head, nothing is full: so one comparison is made, and no container is looked at.
     #[inline(always)]
     fn settle<S: Sink>(&mut self, sink: &mut S) -> Result<(), Halt>
+        requires head { self.old.head.items ≡ [] }
+        requires left { self.old.left ≡ 0 }
+        ensures { sinks.Came S.Sink sink.old sink.new (spec.reading self.new) (spec.settles self.old) result }
+    {
+        if passes(SHORT_HEAD as u64, self.levels.room(self.position)) {
+            return self.settle_near_end(sink);
+        }
+        Ok(())
+    }
+
+    /// The same, near the end of a container.
+    #[inline(never)]
+    fn settle_near_end<S: Sink>(&mut self, sink: &mut S) -> Result<(), Halt>
         requires head { self.old.head.items ≡ [] }
         requires left { self.old.left ≡ 0 }
         ensures { sinks.Came S.Sink sink.old sink.new (spec.reading self.new) (spec.settles self.old) result }
@@ -160,20 +175,71 @@ impl Cursor {
         self.settle_value(sink)
     }
 
-    /// A container opens, whose contents begin here.
-    fn open(&mut self, container: Container, syntax: Syntax, declared: Length)
-        requires within { self.old.position ≤ reads.INPUT_LIMIT }
-        requires few { length self.old.levels < 129 }
-        ensures { self.new ≡ record self.old {
-          levels =
-              places.level container syntax declared self.old.position ∷ self.old.levels;
-        } }
+    /// Goes into a value or fragment of so many bytes.
+    #[inline(always)]
+    fn enter_value<S: Sink>(
+        &mut self,
+        opening: Opening,
+        size: u32,
+        token: Token,
+        sink: &mut S,
+    ) -> Result<(), Halt>
+        requires head { self.old.head.items ≡ [] }
+        requires value { judging.OpensValue opening size }
+        requires filled { IsFilled token }
+        requires token { atoms_of token ≡ judging.opening_atom opening ∷ [] }
+        ensures { sinks.Came S.Sink sink.old sink.new (spec.reading self.new)
+            (spec.enters self.old opening) result }
     {
-        self.levels
-            .push(level_at(container, syntax, declared, self.position));
+        sink.take(token)?;
+        self.begin_sign(opening);
+        self.left = size;
+        self.settle_value(sink)
     }
 
-    /// Goes into what a head before this place opens, or out of what it closes.
+    /// Goes into a container.
+    #[inline(always)]
+    fn enter_container<S: Sink>(
+        &mut self,
+        opening: Opening,
+        inner: Level,
+        token: Token,
+        sink: &mut S,
+    ) -> Result<(), Halt>
+        requires head { self.old.head.items ≡ [] }
+        requires left { self.old.left ≡ 0 }
+        requires few { length self.old.levels < 129 }
+        requires inside { judging.LeadsTo self.old.position self.old.levels opening (inner ∷ self.old.levels) }
+        requires filled { IsFilled token }
+        requires token { atoms_of token ≡ judging.opening_atom opening ∷ [] }
+        ensures { sinks.Came S.Sink sink.old sink.new (spec.reading self.new)
+            (spec.enters self.old opening) result }
+    {
+        sink.take(token)?;
+        self.begin_sign(opening);
+        self.levels.push(inner);
+        self.settle(sink)
+    }
+
+    /// Goes out of the innermost container.
+    #[inline(always)]
+    fn leave<S: Sink>(&mut self, opening: Opening, token: Token, sink: &mut S) -> Result<(), Halt>
+        requires head { self.old.head.items ≡ [] }
+        requires left { self.old.left ≡ 0 }
+        requires outside { judging.LeadsTo self.old.position self.old.levels opening (drop 1 self.old.levels) }
+        requires filled { IsFilled token }
+        requires token { atoms_of token ≡ judging.opening_atom opening ∷ [] }
+        ensures { sinks.Came S.Sink sink.old sink.new (spec.reading self.new)
+            (spec.enters self.old opening) result }
+    {
+        sink.take(token)?;
+        self.begin_sign(opening);
+        self.levels.pop();
+        self.settle(sink)
+    }
+
+    /// Goes into what a head before this place opens, or out of what it closes. Each token is given where it is made, so
+    /// that a sink's call, which is inlined, does not ask again what it is.
     #[inline(always)]
     fn enter<S: Sink>(&mut self, opening: Opening, sink: &mut S) -> Result<(), Halt>
         requires head { self.old.head.items ≡ [] }
@@ -183,24 +249,29 @@ impl Cursor {
         ensures { sinks.Came S.Sink sink.old sink.new (spec.reading self.new)
             (spec.enters self.old opening) result }
     {
-        sink.take(opening_token(opening))?;
-        self.begin_sign(opening);
+        let begin = self.position;
         match opening {
-            Opening::Leaf(_, _, size) | Opening::Fragment(size) => {
-                self.left = size;
-                return self.settle_value(sink);
+            Opening::Leaf(head, syntax, size) => {
+                self.enter_value(opening, size, Token::Open(head, syntax), sink)
+            }
+            Opening::Fragment(size) => {
+                self.enter_value(opening, size, Token::OpenFragment(size), sink)
             }
             Opening::Sequence(head, syntax) => {
                 let inner = syntax_inside(syntax, head.vr);
-                self.open(Container::Sequence, inner, head.length);
+                let level = level_at(Container::Sequence, inner, head.length, begin);
+                self.enter_container(opening, level, Token::Open(head, syntax), sink)
             }
-            Opening::FragmentList(_, syntax) => {
-                self.open(Container::FragmentList, syntax, Length::Undefined);
+            Opening::FragmentList(head, syntax) => {
+                let level = level_at(Container::FragmentList, syntax, Length::Undefined, begin);
+                self.enter_container(opening, level, Token::Open(head, syntax), sink)
             }
-            Opening::Item(syntax, declared) => self.open(Container::Item, syntax, declared),
-            Opening::End(_) => self.levels.pop(),
+            Opening::Item(syntax, declared) => {
+                let level = level_at(Container::Item, syntax, declared, begin);
+                self.enter_container(opening, level, Token::OpenItem(declared), sink)
+            }
+            Opening::End(container) => self.leave(opening, closing_token(container), sink),
         }
-        self.settle(sink)
     }
 
     /// Reads bytes that end no head, and holds them.

@@ -1,16 +1,14 @@
 // What a head leads to: a fault, the want of more bytes, or what it opens or closes.
 ghost use Rattle.std.specs.Prelude.{◌≡◌, ◌+◌, ◌≤◌, ◌∷◌, [], length, false, option_map};
 ghost use Rattle.dcm_stream.specs.Places.{innermost};
-ghost use Rattle.dcm_stream.specs.Tokens.{IsFilled, atoms_of};
 ghost use Rattle.dcm_base.specs.Reading.Place as place;
 ghost use Rattle.dcm_base.specs.Reading.Reads.{INPUT_LIMIT};
 ghost use Rattle.dcm_base.specs.Bytes.Spelling as spelling;
 ghost use Rattle.dcm_stream.specs.Judging as spec;
 
-use super::close::closing_token;
 use super::levels::{OpenLevels, is_allowed, opens_list, passes, with_length};
 use super::sign::says_sign;
-use super::{Bar, Sink, Token};
+use super::{Bar, Sink};
 use dcm_base::{
     Container, Fault, Form, ITEM_GROUP, Length, Level, MOST_LISTS, Syntax, Vr, form_of, read_as,
 };
@@ -45,21 +43,6 @@ pub enum Judged {
     Opens(Opening, usize),
     /// The head is refused.
     Refused(Fault),
-}
-
-/// The token of what a head opens or closes.
-pub fn opening_token(opening: Opening) -> Token<'static>
-    ensures atoms { atoms_of result ≡ spec.opening_atom opening ∷ [] }
-    ensures filled { IsFilled result }
-{
-    match opening {
-        Opening::Leaf(head, syntax, _)
-        | Opening::Sequence(head, syntax)
-        | Opening::FragmentList(head, syntax) => Token::Open(head, syntax),
-        Opening::Item(_, declared) => Token::OpenItem(declared),
-        Opening::Fragment(size) => Token::OpenFragment(size),
-        Opening::End(container) => closing_token(container),
-    }
 }
 
 /// The representation of PixelRepresentation where it opens that.

@@ -3,9 +3,7 @@ use Rattle.std.proofs.Common.{None, ◌≡◌, ◌∙◌, sym, ap, subst, refl, 
 use Rattle.std.specs.Prelude.{fold, IsErrAnd}
 use Rattle.std.specs.Io.KnownBytes.{append_known}
 use Rattle.dcm_base.specs.declared.syntax.Syntax.{Syntax}
-use Rattle.dcm_base.specs.declared.level.Container.{Container}
 use Rattle.dcm_base.specs.declared.level.Level.{Level}
-use Rattle.dcm_base.specs.declared.length.Length.{Length}
 use Rattle.dcm_base.specs.declared.length.Length.TheVariants.{Undefined}
 use Rattle.dcm_base.specs.declared.level.Container.TheVariants.{Item as an_item, Sequence as a_sequence, FragmentList as a_fragment_list}
 use Rattle.dcm_base.specs.Reading.Place.{level}
@@ -21,31 +19,36 @@ use Rattle.dcm_stream.specs.declared.cursor.Cursor.{Cursor}
 use Rattle.dcm_stream.specs.Halts.{Halt}
 use Rattle.dcm_base.specs.declared.stopped.Stopped.TheVariants.{Output}
 use Rattle.dcm_stream.specs.Reading.{Reading, Opened, closing, settled, Sign, sign_of, left_levels, left_sign, value_left, without_value}
-use Rattle.dcm_stream.specs.Judging.{opening_atom, opened_by, opened_sign}
+use Rattle.dcm_stream.specs.Judging.{opening_atom, opened_by, opened_sign, OpensValue, LeadsTo}
 use Rattle.dcm_stream.specs.Machine.{Comes, settles, entered, held_sign}
 use Rattle.dcm_stream.proofs.Runs.Parts.{comes_behind, fails_behind}
 
+-- a value that is opened
+pub value_opened : (o : Opening) (size : ℕ) → OpensValue o size → ((head : Head) × (syntax : Syntax) × (o ≡ opening.Leaf head syntax size)) ⊎ (o ≡ opening.Fragment size)
+value_opened (opening.Leaf head s n) size e = inl (head, s, ap (opening.Leaf head s) e)
+value_opened (opening.Fragment n) size e = inr (ap opening.Fragment e)
+value_opened (opening.Sequence head s) size e = absurd e
+value_opened (opening.FragmentList head s) size e = absurd e
+value_opened (opening.Item s declared) size e = absurd e
+value_opened (opening.End container) size e = absurd e
+
 -- what is open after the head or the end of a container
-abbrev pub Leads : (begin : ℕ) → List Level → Opening → List Level → Type 0
-Leads begin levels o behind = opened_by begin levels o ≡ without_value behind (opening_atom o)
+pub led_to : (begin : ℕ) (levels : List Level) (o : Opening) (behind : List Level) → LeadsTo begin levels o behind → opened_by begin levels o ≡ without_value behind (opening_atom o)
+led_to begin levels (opening.Leaf head s size) behind e = absurd e
+led_to begin levels (opening.Sequence head s) behind e = e
+led_to begin levels (opening.FragmentList head s) behind e = e
+led_to begin levels (opening.Item s declared) behind e = e
+led_to begin levels (opening.Fragment size) behind e = absurd e
+led_to begin levels (opening.End container) behind e = e
 
-leads_by : (begin : ℕ) (levels behind inner : List Level) (o p : Opening) → o ≡ p → behind ≡ inner → Leads begin levels p inner → Leads begin levels o behind
-leads_by begin levels behind inner o p e b h =
-    subst (λ (x : Opening). Leads begin levels x behind) (sym e) (subst (λ (ls : List Level). Leads begin levels p ls) (sym b) h)
-
-pub leads_sequence : (begin : ℕ) (levels behind : List Level) (o : Opening) (head : Head) (s inner : Syntax) → o ≡ opening.Sequence head s → inner ≡ inside s head.vr → behind ≡ level a_sequence inner head.length begin ∷ levels → Leads begin levels o behind
-leads_sequence begin levels behind o head s inner e i b =
-    leads_by begin levels behind (level a_sequence (inside s head.vr) head.length begin ∷ levels) o (opening.Sequence head s) e
-    (b ∙ ap (λ (x : Syntax). level a_sequence x head.length begin ∷ levels) i) refl
-
-pub leads_fragments : (begin : ℕ) (levels behind : List Level) (o : Opening) (head : Head) (s : Syntax) → o ≡ opening.FragmentList head s → behind ≡ level a_fragment_list s Undefined begin ∷ levels → Leads begin levels o behind
-leads_fragments begin levels behind o head s e b = leads_by begin levels behind (level a_fragment_list s Undefined begin ∷ levels) o (opening.FragmentList head s) e b refl
-
-pub leads_item : (begin : ℕ) (levels behind : List Level) (o : Opening) (s : Syntax) (declared : Length) → o ≡ opening.Item s declared → behind ≡ level an_item s declared begin ∷ levels → Leads begin levels o behind
-leads_item begin levels behind o s declared e b = leads_by begin levels behind (level an_item s declared begin ∷ levels) o (opening.Item s declared) e b refl
-
-pub leads_out : (begin : ℕ) (levels behind : List Level) (o : Opening) (container : Container) → o ≡ opening.End container → behind ≡ drop 1 levels → Leads begin levels o behind
-leads_out begin levels behind o container e b = leads_by begin levels behind (drop 1 levels) o (opening.End container) e b refl
+-- it opens no sign
+pub no_sign_led : (begin : ℕ) (levels : List Level) (o : Opening) (behind : List Level) → LeadsTo begin levels o behind → opened_sign o ≡ None
+no_sign_led begin levels (opening.Leaf head s size) behind e = absurd e
+no_sign_led begin levels (opening.Sequence head s) behind e = refl
+no_sign_led begin levels (opening.FragmentList head s) behind e = refl
+no_sign_led begin levels (opening.Item s declared) behind e = refl
+no_sign_led begin levels (opening.Fragment size) behind e = absurd e
+no_sign_led begin levels (opening.End container) behind e = refl
 
 module _ {S : Type 0} (step : S → Atom → S) (writes : S → Atom → List ℕ) where
   -- the output failed at the head
@@ -84,11 +87,11 @@ module _ {S : Type 0} (step : S → Atom → S) (writes : S → Atom → List �
 
   -- a container begins or ends
   pub enters_container : {T : Type 0} (position : ℕ) (levels : List Level) (o : Opening) (p : Cursor) (s : S) (held : Option (List ℕ)) (m : S) (mid : Option (List ℕ)) (t : S) (holds : Option (List ℕ)) (new : Option Stop → Reading) (token : List Atom) (r : Result T Halt)
-      → Leads position levels o p.levels → held_sign p ≡ None → p.position ≡ position → token ≡ opening_atom o ∷ []
+      → LeadsTo position levels o p.levels → held_sign p ≡ None → p.position ≡ position → token ≡ opening_atom o ∷ []
       → m ≡ fold step s token → mid ≡ append_known held (outputs step writes s token) → Comes step writes m mid t holds new (settles p) r
       → Comes step writes s held t holds new (entered position (opened_by position levels o)) r
   enters_container position levels o p s held m mid t holds new token r leads none at f a b h =
-      subst (λ (x : Opened). Comes step writes s held t holds new (entered position x) r) (sym leads)
+      subst (λ (x : Opened). Comes step writes s held t holds new (entered position x) r) (sym (led_to position levels o p.levels leads))
       (subst (λ (n : ℕ). Comes step writes s held t holds new (settled n (without_value p.levels (opening_atom o)) 0) r) at
       (comes_behind step writes p.position 0 p.levels None s held m mid t holds new (opening_atom o ∷ []) [] r (a ∙ ap (fold step s) f) (b ∙ ap (λ (xs : List Atom). append_known held (outputs step writes s xs)) f)
       (subst (λ (x : Option Sign). Comes step writes m mid t holds new (settled p.position (record { levels = p.levels; left = 0; sign = x; atoms = [] }) 0) r) none h)))
