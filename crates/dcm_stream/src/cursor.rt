@@ -345,9 +345,26 @@ impl Cursor {
         }
     }
 
+    /// Reads all the bytes, up to the first head at which the data set is refused or the sink's writer fails.
+    #[inline(always)]
+    pub fn read_all<S: Sink>(&mut self, piece: &[u8], sink: &mut S) -> Result<(), Halt>
+        requires stands { spec.Stands (spec.reading self.old None) }
+        ensures fed { sinks.Fed S.Sink sink.old sink.new (spec.reading self.old None) (spec.reading self.new)
+            piece.now result }
+    {
+        let mut rest = piece;
+        while !rest.is_empty() {
+            let n = self.read_some(rest, sink)?;
+            let (_, after) = rest.split_at(n);
+            rest = after;
+        }
+        Ok(())
+    }
+
     /// Reads a beginning of the bytes, and answers how many. Fails where the data set is refused or the sink's writer
     /// fails.
-    pub fn read_some<S: Sink>(&mut self, piece: &[u8], sink: &mut S) -> Result<usize, Halt>
+    #[inline(always)]
+    fn read_some<S: Sink>(&mut self, piece: &[u8], sink: &mut S) -> Result<usize, Halt>
         requires some { 0 < length piece.now }
         requires stands { spec.Stands (spec.reading self.old None) }
         ensures some { IfOk result (λ n. (0 < n) × (n ≤ length piece.now)) }

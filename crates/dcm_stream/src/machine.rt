@@ -59,18 +59,8 @@ impl Machine {
             ≡ spec.next_offset self.old.reading + length piece.now }
         ensures within { spec.is_halted self.new ≡ false → spec.next_offset self.new.reading ≤ reads.INPUT_LIMIT }
     {
-        let mut rest = piece;
-        while !rest.is_empty() && self.halt.is_none() {
-            match self.cursor.read_some(rest, sink) {
-                Ok(n) => {
-                    let (_, after) = rest.split_at(n);
-                    rest = after;
-                }
-                Err(halt) => {
-                    self.halt = Some(halt);
-                    rest = &[];
-                }
-            }
+        if self.halt.is_none() {
+            self.halt = self.cursor.read_all(piece, sink).err();
         }
         Stopped::answer(self.halt)
     }

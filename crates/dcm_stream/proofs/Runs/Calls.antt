@@ -1,6 +1,6 @@
 -- A call of a machine, part by part.
-use Rattle.std.proofs.Common.{◌≡◌, ◌∙◌, sym, ap, subst, refl, ℕ, List, [], ◌++◌, length, Bool, true, false, Option, Some, None, Result, Ok, Err}
-use Rattle.std.specs.Prelude.{◌==◌, is_some, ◌||◌}
+use Rattle.std.proofs.Common.{◌≡◌, ◌∙◌, ◌+◌, sym, ap, subst, refl, ℕ, List, [], ◌++◌, length, Bool, true, false, Option, Some, None, Result, Ok, Err}
+use Rattle.std.specs.Prelude.{◌==◌, is_some, ◌||◌, IsErrAnd, fold}
 use Rattle.std.proofs.lemmas.Bool.{eqb-true}
 use Rattle.std.proofs.lemmas.List.{nil_from_length}
 use Rattle.std.specs.Result.{result_err}
@@ -17,9 +17,9 @@ use Rattle.dcm_stream.specs.declared.cursor.Cursor.{Cursor}
 use Rattle.dcm_stream.specs.Halts.{Halt}
 use Rattle.dcm_base.specs.declared.stopped.Stopped.TheVariants.{Refused, Output}
 use Rattle.dcm_stream.specs.Reading.{Reading, finish, end_shows}
-use Rattle.dcm_stream.specs.Machine.{steps, steps_write, reading, went, TellsHalt, Feeds, EndsWith, Progress, stop_of, is_output, is_halted, well, TellsFailed, ended}
+use Rattle.dcm_stream.specs.Machine.{Stands, next_offset, steps, steps_write, reading, went, TellsHalt, Feeds, EndsWith, Progress, stop_of, is_output, is_halted, well, TellsFailed, ended}
 use Rattle.dcm_stream.proofs.Runs.Parts.{feeds_on}
-use Rattle.dcm_stream.proofs.Runs.StaysSmall.{feeds_halted}
+use Rattle.dcm_stream.proofs.Runs.StaysSmall.{feeds_halted, offset_behind, stands_behind}
 
 pub none_of : (halt : Option Halt) → is_some halt ≡ false → halt ≡ None
 none_of None e = refl
@@ -174,3 +174,57 @@ module _ {S : Type 0} (step : S → Atom → S) (writes : S → Atom → List �
 
   pub still_goes : (cursor : Cursor) (halt : Option Halt) (p : Progress) (s : S) (held : Option (List ℕ)) → View cursor halt p → is_some halt ≡ true → p.failed ≡ false → Goes step writes s held s held (end_shows (finish p.reading)) (well (is_output halt))
   still_goes cursor halt p s held view e fine = subst (λ (q : Progress). Goes step writes s held s held (end_shows (finish q.reading)) (well (is_output halt))) view (silent_at cursor halt s held e (ap (λ (q : Progress). q.failed) view ∙ fine))
+
+-- ---- a call over a piece
+
+-- what a failure tells is passed on
+pub tells_with : (T : Type 0) (old mid new : Bool) (halt : Halt) (r : Result (Unit {0}) Halt) → IsErrAnd r (λ x. x ≡ halt) → mid ≡ old → TellsHalt {T = T} mid new (Err halt) → TellsHalt old new r
+tells_with T old mid new halt (Ok x) f e h = absurd f
+tells_with T old mid new (Refused stop) (Err x) f e h = subst (λ (y : Halt). TellsHalt {T = Unit {0}} old new (Err y)) (sym f) (h ∙ e)
+tells_with T old mid new Output (Err x) f e h = subst (λ (y : Halt). TellsHalt {T = Unit {0}} old new (Err y)) (sym f) h
+
+module _ {S : Type 0} (bars : S → Head → Option Bar) (step : S → Atom → S) (writes : S → Atom → List ℕ) where
+  -- no byte
+  pub fed_nothing : (p : Cursor) (s : S) (held : Option (List ℕ)) → Feeds {T = Unit {0}} bars step writes (reading p None) s held (reading p) s held [] (Ok (tt {0}))
+  fed_nothing p s held = (refl, sym (append_known_none held))
+
+  -- a failure is passed on
+  pub fails_with : (T : Type 0) (old : Reading) (s : S) (held : Option (List ℕ)) (new : Cursor) (t : S) (holds : Option (List ℕ)) (bs : List ℕ) (halt : Halt) (r : Result (Unit {0}) Halt) → IsErrAnd r (λ x. x ≡ halt)
+      → Feeds {T = T} bars step writes old s held (reading new) t holds bs (Err halt) → Feeds bars step writes old s held (reading new) t holds bs r
+  fails_with T old s held new t holds bs halt (Ok x) f h = absurd f
+  fails_with T old s held new t holds bs (Refused stop) (Err x) f h = subst (λ (y : Halt). Feeds {T = Unit {0}} bars step writes old s held (reading new) t holds bs (Err y)) (sym f) h
+  fails_with T old s held new t holds bs Output (Err x) f h = subst (λ (y : Halt). Feeds {T = Unit {0}} bars step writes old s held (reading new) t holds bs (Err y)) (sym f) h
+
+  -- a machine that reads a piece comes to what its cursor came to
+  gone_by : (old : Reading) (s : S) (held : Option (List ℕ)) (new : Cursor) (t : S) (holds : Option (List ℕ)) (bs : List ℕ) (r : Result (Unit {0}) Halt) → Feeds bars step writes old s held (reading new) t holds bs r
+      → Gone bars step writes old s held (reading new (stop_of (result_err r))) t holds bs (is_output (result_err r))
+  gone_by old s held new t holds bs (Ok x) h = h
+  gone_by old s held new t holds bs (Err (Refused stop)) h = h
+  gone_by old s held new t holds bs (Err Output) h = h
+
+  pub gone_fed : (cursor : Cursor) (before after : Option Halt) (p : Progress) (s : S) (held : Option (List ℕ)) (new : Cursor) (t : S) (holds : Option (List ℕ)) (bs : List ℕ) (r : Result (Unit {0}) Halt) → View cursor before p → before ≡ None → after ≡ result_err r
+      → Feeds bars step writes (reading cursor None) s held (reading new) t holds bs r → Gone bars step writes p.reading s held (reading new (stop_of after)) t holds bs (is_output after)
+  gone_fed cursor before after p s held new t holds bs r view none is h =
+      subst (λ (x : Option Halt). Gone bars step writes p.reading s held (reading new (stop_of x)) t holds bs (is_output x)) (sym is)
+      (subst (λ (x : Reading). Gone bars step writes x s held (reading new (stop_of (result_err r))) t holds bs (is_output (result_err r))) (view_at cursor before p view none) (gone_by (reading cursor None) s held new t holds bs r h))
+
+  pub gone_already : (cursor : Cursor) (before : Option Halt) (p : Progress) (s : S) (held : Option (List ℕ)) (bs : List ℕ) → View cursor before p → p.failed ≡ false → is_some before ≡ true
+      → Gone bars step writes p.reading s held (reading cursor (stop_of before)) s held bs (is_output before)
+  gone_already cursor before p s held bs view fine some =
+      gone_still bars step writes p.reading s held cursor s held [] bs before some (gone_nowhere bars step writes (reading cursor (stop_of before)) (is_output before) p s held view fine)
+
+  went_well : (old : Reading) (s : S) (held : Option (List ℕ)) (new : Cursor) (t : S) (holds : Option (List ℕ)) (bs : List ℕ) (r : Result (Unit {0}) Halt) → result_err r ≡ None → Feeds bars step writes old s held (reading new) t holds bs r
+      → (reading new None, t) ≡ fold (steps bars step) (old, s) bs
+  went_well old s held new t holds bs (Ok x) e h = h.0
+  went_well old s held new t holds bs (Err halt) e h = absurd (cc)
+
+  pub fed_place : (cursor : Cursor) (before after : Option Halt) (p : Progress) (s : S) (held : Option (List ℕ)) (new : Cursor) (t : S) (holds : Option (List ℕ)) (bs : List ℕ) (r : Result (Unit {0}) Halt) → View cursor before p → before ≡ None → after ≡ result_err r → after ≡ None
+      → Stands (reading cursor None) → Feeds bars step writes (reading cursor None) s held (reading new) t holds bs r → next_offset (reading new None) ≡ next_offset p.reading + length bs
+  fed_place cursor before after p s held new t holds bs r view none is well stands h =
+      let same : next_offset (reading cursor None) ≡ next_offset p.reading = ap next_offset (view_at cursor before p view none) in
+      offset_behind bars step writes (reading cursor None) s bs (reading new None) t stands (went_well (reading cursor None) s held new t holds bs r (sym is ∙ well) h) refl ∙ ap (λ (n : ℕ). n + length bs) same
+
+  pub fed_stands : (cursor : Cursor) (after : Option Halt) (s : S) (held : Option (List ℕ)) (new : Cursor) (t : S) (holds : Option (List ℕ)) (bs : List ℕ) (r : Result (Unit {0}) Halt) → after ≡ result_err r → after ≡ None
+      → Stands (reading cursor None) → Feeds bars step writes (reading cursor None) s held (reading new) t holds bs r → Stands (reading new None)
+  fed_stands cursor after s held new t holds bs r is well stands h =
+      stands_behind bars step writes (reading cursor None) s bs (reading new None) t stands (went_well (reading cursor None) s held new t holds bs r (sym is ∙ well) h)
