@@ -9,7 +9,7 @@ ghost use Rattle.dcm_stream.specs.Sinks as sinks;
 ghost use Rattle.dcm_base.specs.Reading.Reads as reads;
 
 use super::close::{close_full, closing_token};
-use super::judge::{Judged, Opening, judge, opening_sign, syntax_inside};
+use super::judge::{Judged, Opening, judge, syntax_inside};
 use super::levels::{OpenLevels, level_at, passes};
 use super::machine::INPUT_LIMIT;
 use super::sign::OpenSign;
@@ -77,70 +77,6 @@ impl Cursor {
             return Err(refused(Fault::PassesEnd, self.position));
         }
         Ok(())
-    }
-
-    /// PixelRepresentation ends, where it is open.
-    #[inline(always)]
-    fn end_sign(&mut self)
-        ensures { self.new ≡ record self.old {
-          sign = None;
-          levels = steps.sign_ends (spec.held_sign self.old) self.old.levels;
-        } }
-    {
-        if self.sign.is_some() {
-            self.end_open_sign();
-        }
-    }
-
-    /// It is open, and ends: what comes in its data set is of another syntax.
-    #[inline(never)]
-    fn end_open_sign(&mut self)
-        ensures { self.new ≡ record self.old {
-          sign = None;
-          levels = steps.sign_ends (spec.held_sign self.old) self.old.levels;
-        } }
-    {
-        if let Some(sign) = self.sign.take()
-            && let Some(inner) = self.levels.innermost()
-        {
-            self.levels.set_syntax(sign.syntax_after(inner.syntax));
-        }
-    }
-
-    /// PixelRepresentation begins where that opens it.
-    #[inline(always)]
-    fn begin_sign(&mut self, opening: Opening)
-        ensures sign { spec.held_sign self.new ≡ opened_sign opening }
-        ensures rest { self.new ≡ record self.old { sign = self.new.sign } }
-    {
-        match opening_sign(opening) {
-            Some(vr) => self.set_sign(Some(vr)),
-            None if self.sign.is_some() => self.set_sign(None),
-            None => {}
-        }
-    }
-
-    /// PixelRepresentation of this representation begins, or something else opens or closes.
-    #[inline(never)]
-    fn set_sign(&mut self, vr: Option<Vr>)
-        ensures sign { spec.held_sign self.new ≡ option_map (λ vr. record { vr = vr; first = [] }) vr }
-        ensures rest { self.new ≡ record self.old { sign = self.new.sign } }
-    {
-        self.sign = match vr {
-            Some(vr) => Some(OpenSign::new(vr)),
-            None => None,
-        };
-    }
-
-    /// Bytes of an open PixelRepresentation come.
-    #[inline(always)]
-    fn read_sign(&mut self, value: &[u8])
-        ensures { spec.reading self.new None
-            ≡ record (spec.reading self.old None) { sign = steps.sign_reads value.now (spec.held_sign self.old) } }
-    {
-        if let Some(sign) = &mut self.sign {
-            sign.read(value);
-        }
     }
 
     /// Closes a value of which no byte is left.

@@ -17,6 +17,7 @@
 
 mod close;
 mod cursor;
+mod cursor_signs;
 mod judge;
 pub mod laws;
 mod levels;

@@ -10,15 +10,13 @@ use Rattle.dcm_base.specs.Steps.Atoms.{Atom}
 use Rattle.dcm_base.specs.Steps.Steps.{Goes}
 use Rattle.dcm_base.specs.Reading.Stop.{Stop, complete, refused}
 use Rattle.dcm_devices.proofs.Writes.Puts.{append_known_none}
-use Rattle.dcm_base.proofs.Writes.Runs.{goes_on}
 use Rattle.dcm_head.specs.declared.head.Head.{Head}
 use Rattle.dcm_stream.specs.declared.token.Bar.{Bar}
 use Rattle.dcm_stream.specs.declared.cursor.Cursor.{Cursor}
 use Rattle.dcm_stream.specs.Halts.{Halt}
 use Rattle.dcm_base.specs.declared.stopped.Stopped.TheVariants.{Refused, Output}
 use Rattle.dcm_stream.specs.Reading.{Reading, finish, end_shows}
-use Rattle.dcm_stream.specs.Machine.{Stands, next_offset, steps, steps_write, reading, went, TellsHalt, Feeds, EndsWith, Progress, stop_of, is_output, is_halted, well, TellsFailed, ended}
-use Rattle.dcm_stream.proofs.Runs.Parts.{feeds_on}
+use Rattle.dcm_stream.specs.Machine.{Stands, next_offset, steps, steps_write, reading, went, TellsHalt, Feeds, EndsWith, Progress, stop_of, is_output, well, ended}
 use Rattle.dcm_stream.proofs.Runs.StaysSmall.{feeds_halted, offset_behind, stands_behind}
 
 pub none_of : (halt : Option Halt) → is_some halt ≡ false → halt ≡ None
@@ -33,40 +31,11 @@ pub some_of : (halt : Option Halt) → is_some halt ≡ true → (h : Halt) × (
 some_of None e = absurd (cc)
 some_of (Some halt) e = (halt, refl)
 
-halted_by : (cursor : Cursor) (halt : Option Halt) → halt ≡ None → (is_output halt || is_some (stop_of halt)) ≡ true → ⊥
-halted_by cursor None e h = cc
-halted_by cursor (Some halt) e h = cc
-
--- a machine without a halt is not halted
-pub not_halted : (cursor : Cursor) (halt : Option Halt) (p : Progress) → ◌≡◌ {A = Progress} (record { reading = reading cursor (stop_of halt); failed = is_output halt }) p → halt ≡ None → is_halted p ≡ true → ⊥
-not_halted cursor halt p view e h = halted_by cursor halt e (ap is_halted view ∙ h)
-
 -- one that is not halted has no halt
 pub going_none : (halt : Option Halt) → (is_output halt || is_some (stop_of halt)) ≡ false → halt ≡ None
 going_none None e = refl
 going_none (Some (Refused stop)) e = absurd (cc)
 going_none (Some Output) e = absurd (cc)
-
-tells_not : (x failed halts : Bool) → (failed || halts) ≡ false → TellsFailed x x failed
-tells_not x true halts e = absurd (cc)
-tells_not x false halts e = refl
-
--- nothing was told
-pub tells_begin : (x : Bool) (r : Reading) (failed : Bool) (p : Progress) → ◌≡◌ {A = Progress} (record { reading = r; failed = failed }) p → is_halted p ≡ false → TellsFailed x x failed
-tells_begin x r failed p view e = tells_not x failed (is_some r.halt) (ap is_halted view ∙ e)
-
--- what was told so far, and what a call tells
-pub tells_none : (old new : Bool) (halt : Option Halt) → halt ≡ None → TellsFailed old new (is_output halt) → new ≡ old
-tells_none old new None e h = h
-tells_none old new (Some halt) e h = absurd (cc)
-
-pub tells_still : (old new : Bool) (halt : Option Halt) → halt ≡ None → new ≡ old → TellsFailed old new (is_output halt)
-tells_still old new None e h = h
-tells_still old new (Some halt) e h = absurd (cc)
-
-pub tells_halt : (T : Type 0) (old mid new : Bool) (halt : Halt) → mid ≡ old → TellsHalt {T = T} mid new (Err halt) → TellsFailed old new (is_output (Some halt))
-tells_halt T old mid new (Refused stop) e h = h ∙ e
-tells_halt T old mid new Output e h = h
 
 module _ {S : Type 0} (bars : S → Head → Option Bar) (step : S → Atom → S) (writes : S → Atom → List ℕ) where
   abbrev pub Gone : Reading → S → Option (List ℕ) → Reading → S → Option (List ℕ) → List ℕ → (failed : Bool) → Type 0
@@ -79,28 +48,6 @@ module _ {S : Type 0} (bars : S → Head → Option Bar) (step : S → Atom → 
   -- no byte
   pub gone_nowhere : (r : Reading) (failed : Bool) (p : Progress) (s : S) (held : Option (List ℕ)) → ◌≡◌ {A = Progress} (record { reading = r; failed = failed }) p → p.failed ≡ false → Gone p.reading s held r s held [] failed
   gone_nowhere r failed p s held e fine = subst (λ (q : Progress). Gone q.reading s held r s held [] failed) e (nowhere r s held failed (ap (λ (q : Progress). q.failed) e ∙ fine))
-
-  -- bytes that went well, behind those so far
-  pub gone_on : (old : Reading) (s : S) (held : Option (List ℕ)) (mid : Cursor) (m : S) (mid_held : Option (List ℕ)) (new : Cursor) (t : S) (holds : Option (List ℕ)) (xs ys : List ℕ) (halt : Option Halt) (n : ℕ) → halt ≡ None
-      → Gone old s held (reading mid (stop_of halt)) m mid_held xs (is_output halt) → Feeds {T = ℕ} bars step writes (reading mid None) m mid_held (reading new) t holds ys (Ok n)
-      → Gone old s held (reading new (stop_of halt)) t holds (xs ++ ys) (is_output halt)
-  gone_on old s held mid m mid_held new t holds xs ys None n e a b =
-      let r : Result ℕ Halt = Ok n in
-      feeds_on bars step writes old s held (reading mid None) m mid_held (reading new) t holds xs ys r a.0 a.1 b
-  gone_on old s held mid m mid_held new t holds xs ys (Some halt) n e a b = absurd (cc)
-
-  -- bytes at which it is halted, behind those so far
-  gone_halting : (old : Reading) (s : S) (held : Option (List ℕ)) (mid : Reading) (m : S) (mid_held : Option (List ℕ)) (new : Cursor) (t : S) (holds : Option (List ℕ)) (xs ys : List ℕ) (halt : Halt)
-      → Gone old s held mid m mid_held xs false → Feeds {T = ℕ} bars step writes mid m mid_held (reading new) t holds ys (Err halt)
-      → Gone old s held (reading new (stop_of (Some halt))) t holds (xs ++ ys) (is_output (Some halt))
-  gone_halting old s held mid m mid_held new t holds xs ys (Refused stop) a b = goes_on (steps bars step) (steps_write bars step writes) {T = Unit {0}} {E = Unit {0}} (old, s) held (mid, m) mid_held (reading new (Some (refused stop.fault stop.at)), t) holds xs ys (Ok tt) a.0 a.1 b
-  gone_halting old s held mid m mid_held new t holds xs ys Output a b = goes_on (steps bars step) (steps_write bars step writes) {T = Unit {0}} {E = Unit {0}} (old, s) held (mid, m) mid_held (reading new None, t) holds xs ys (Err tt) a.0 a.1 b
-
-  pub gone_halted : (old : Reading) (s : S) (held : Option (List ℕ)) (mid : Cursor) (m : S) (mid_held : Option (List ℕ)) (new : Cursor) (t : S) (holds : Option (List ℕ)) (xs ys : List ℕ) (before : Option Halt) (halt : Halt) → before ≡ None
-      → Gone old s held (reading mid (stop_of before)) m mid_held xs (is_output before) → Feeds {T = ℕ} bars step writes (reading mid None) m mid_held (reading new) t holds ys (Err halt)
-      → Gone old s held (reading new (stop_of (Some halt))) t holds (xs ++ ys) (is_output (Some halt))
-  gone_halted old s held mid m mid_held new t holds xs ys None halt e a b = gone_halting old s held (reading mid None) m mid_held new t holds xs ys halt a b
-  gone_halted old s held mid m mid_held new t holds xs ys (Some before) halt e a b = absurd (cc)
 
   -- behind a halt nothing more happens
   gone_behind : (old : Reading) (s : S) (held : Option (List ℕ)) (new : Cursor) (t : S) (holds : Option (List ℕ)) (xs ys : List ℕ) (halt : Halt) → Gone old s held (reading new (stop_of (Some halt))) t holds xs (is_output (Some halt))
