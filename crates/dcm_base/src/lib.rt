@@ -34,7 +34,7 @@ mod vr;
 
 pub use dcm_devices::{
     Device, DeviceIn, DeviceOut, Measured, MemIn, MemOut, ReadFailed, Std, Watched, WriteFailed,
-    flush_out, get_some, put_all, put_decimal, put_parts,
+    flush_out, get_some, put_all, put_array, put_decimal, put_parts,
 };
 pub use dictionary::{
     Dictionary, ELEMENTS, dict_vr, element, element_in, keyword, keyword_in, known_vr_in, tag_in,
