@@ -174,6 +174,17 @@ impl Copier {
     pub fn close<W: DeviceOut>(&self, out: &mut Watched<W>) -> Result<(), WriteFailed>
         ensures { Wrote W.DeviceOut out.old out.new (spec.copy_ends (copying self.now)) result }
     {
+        if self.held.as_slice().is_empty() && self.pad.is_none() {
+            return Ok(());
+        }
+        self.put_end(out)
+    }
+
+    /// Writes them, where there are any.
+    #[inline(never)]
+    fn put_end<W: DeviceOut>(&self, out: &mut Watched<W>) -> Result<(), WriteFailed>
+        ensures { Wrote W.DeviceOut out.old out.new (spec.copy_ends (copying self.now)) result }
+    {
         put_all(out, self.held.as_slice())?;
         match self.pad {
             Some(pad) => put_all(out, &[pad]),
