@@ -2,7 +2,7 @@
 //! (PS3.10 7.1).
 //!
 //! - `read_head` reads a head out of the first bytes that it is given, or says how many it needs; `write_head` writes
-//!   one, and `plain_head` that of an item or a delimiter.
+//!   one, and `plain_head` that of an item or a delimiter. `put_element_head` writes one to a device.
 //! - `Meta` reads the head of a file, fed in any pieces, and holds it: at most 16,528 bytes. `Meta::rewritten` writes
 //!   its group anew with another transfer syntax, a `SyntaxUid`; `write_meta` does so of any group, and `first_element`
 //!   walks over one. `Meta::renewed` writes what a `Renewal` leaves of its elements.
@@ -36,4 +36,4 @@ pub use pads::{size_without_pads, without_pads};
 pub use renewal::{AllStays, Renewal, Renewed};
 pub use rewriting::write_meta;
 pub use syntax_uid::SyntaxUid;
-pub use write::{element_head, plain_head, write_head};
+pub use write::{element_head, plain_head, put_element_head, write_head};

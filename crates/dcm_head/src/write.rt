@@ -1,13 +1,14 @@
 // Heads as bytes (PS3.5 7.1.2, 7.1.3, 7.5).
 ghost use Rattle.std.specs.Prelude.{◌≡◌, ◌≤◌, ◌∷◌, ◌++◌, true, false};
 ghost use Rattle.std.specs.Int.{w16, w32};
+ghost use Rattle.dcm_devices.specs.Writing.{Wrote};
 ghost use Rattle.dcm_base.specs.Conversion.Recode as recode;
 ghost use Rattle.dcm_base.specs.Tables.Representation.{is_long as has_long_form, letters};
 ghost use Rattle.dcm_head.specs.HeadBytes as spec;
 
 use crate::head::{Head, LONG_HEAD, SHORT_HEAD, UNDEFINED, is_delimiter};
 use arrayvec::ArrayVec;
-use dcm_base::{Length, Syntax, Tag};
+use dcm_base::{DeviceOut, Length, Syntax, Tag, Watched, WriteFailed, put_all};
 
 /// The bytes of a head.
 type HeadBytes = ArrayVec<u8, LONG_HEAD>;
@@ -108,6 +109,39 @@ pub fn element_head(syntax: Syntax, head: &Head) -> ArrayVec<u8, LONG_HEAD>
     match syntax {
         Syntax::Implicit(_) => held(plain_head(syntax, head.tag, head.length)),
         Syntax::Little(_) | Syntax::Big(_) => explicit_head(syntax, head),
+    }
+}
+
+/// Writes the bytes of an element's head, as `element_head` has them. They go out from the array that they are put together
+/// in, so that none is blanked or copied before. Fails where the writer fails, which has then taken a beginning of them.
+pub fn put_element_head<W: DeviceOut>(
+    out: &mut Watched<W>,
+    syntax: Syntax,
+    head: &Head,
+) -> Result<(), WriteFailed>
+    requires { recode.is_explicit syntax ≡ true → has_long_form head.now.vr ≡ false → spec.FitsShort head.now.length }
+    ensures { Wrote W.DeviceOut out.old out.new (recode.head syntax head.now.tag head.now.vr head.now.length) result }
+{
+    match syntax {
+        Syntax::Implicit(_) => put_all(out, &plain_head(syntax, head.tag, head.length)),
+        Syntax::Little(_) | Syntax::Big(_) => put_explicit_head(out, syntax, head),
+    }
+}
+
+/// Writes the head of an element in an explicit syntax.
+fn put_explicit_head<W: DeviceOut>(
+    out: &mut Watched<W>,
+    syntax: Syntax,
+    head: &Head,
+) -> Result<(), WriteFailed>
+    requires explicit { recode.is_explicit syntax ≡ true }
+    requires fits { has_long_form head.now.vr ≡ false → spec.FitsShort head.now.length }
+    ensures { Wrote W.DeviceOut out.old out.new (recode.head syntax head.now.tag head.now.vr head.now.length) result }
+{
+    if head.vr.is_long() {
+        put_all(out, &long_head(syntax, head))
+    } else {
+        put_all(out, &short_head(syntax, head))
     }
 }
 

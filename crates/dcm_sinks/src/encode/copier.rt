@@ -19,6 +19,9 @@ const LONGEST_SHORT: u32 = 65534;
 /// The bytes that are turned round at a time.
 const BLOCK: usize = 8192;
 
+/// The bytes of a small value, as one or two numbers are.
+const SMALL_BLOCK: usize = 64;
+
 /// The pad byte of a fragment (PS3.5 A.4).
 const FRAGMENT_PAD: u8 = 0;
 
@@ -54,13 +57,26 @@ fn padding(size: u32, pad: u8) -> Option<u8>
     if size % 2 == 0 { None } else { Some(pad) }
 }
 
-/// Writes bytes with each whole unit turned round.
+/// Writes bytes with each whole unit turned round. Nearly all values that are turned are a number or two. A block has to
+/// be blanked before it is filled, which for a large one takes far longer than to turn these, so they have a small one.
+#[inline(never)]
 fn put_turned<W: DeviceOut>(vr: Vr, bytes: &[u8], out: &mut Watched<W>) -> Result<(), WriteFailed>
     ensures { Wrote W.DeviceOut out.old out.new (turned (unit vr) bytes.now) result }
 {
     if vr.unit() == 1 || bytes.is_empty() {
         return put_all(out, bytes);
     }
+    if bytes.len() <= SMALL_BLOCK {
+        return put_block(vr, bytes, &mut [0u8; SMALL_BLOCK], out);
+    }
+    put_blocks(vr, bytes, out)
+}
+
+/// Writes bytes with each whole unit turned round, a large block at a time.
+#[inline(never)]
+fn put_blocks<W: DeviceOut>(vr: Vr, bytes: &[u8], out: &mut Watched<W>) -> Result<(), WriteFailed>
+    ensures { Wrote W.DeviceOut out.old out.new (turned (unit vr) bytes.now) result }
+{
     let mut block = [0u8; BLOCK];
     let mut rest = bytes;
     while !rest.is_empty() {
@@ -72,13 +88,13 @@ fn put_turned<W: DeviceOut>(vr: Vr, bytes: &[u8], out: &mut Watched<W>) -> Resul
 }
 
 /// Writes bytes that a block holds, with each whole unit turned round.
-fn put_block<W: DeviceOut>(
+fn put_block<const N: usize, W: DeviceOut>(
     vr: Vr,
     bytes: &[u8],
-    block: &mut [u8; BLOCK],
+    block: &mut [u8; N],
     out: &mut Watched<W>,
 ) -> Result<(), WriteFailed>
-    requires { length bytes.now ≤ 8192 }
+    requires { length bytes.now ≤ N }
     ensures { Wrote W.DeviceOut out.old out.new (turned (unit vr) bytes.now) result }
 {
     let block = &mut block[..bytes.len()];
@@ -156,6 +172,17 @@ impl Copier {
 
     /// Writes the bytes after the last whole unit, and the pad byte of an odd value. Fails where the writer fails.
     pub fn close<W: DeviceOut>(&self, out: &mut Watched<W>) -> Result<(), WriteFailed>
+        ensures { Wrote W.DeviceOut out.old out.new (spec.copy_ends (copying self.now)) result }
+    {
+        if self.held.as_slice().is_empty() && self.pad.is_none() {
+            return Ok(());
+        }
+        self.put_end(out)
+    }
+
+    /// Writes them, where there are any.
+    #[inline(never)]
+    fn put_end<W: DeviceOut>(&self, out: &mut Watched<W>) -> Result<(), WriteFailed>
         ensures { Wrote W.DeviceOut out.old out.new (spec.copy_ends (copying self.now)) result }
     {
         put_all(out, self.held.as_slice())?;

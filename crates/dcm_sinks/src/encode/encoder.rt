@@ -12,6 +12,7 @@ ghost use Rattle.dcm_base.specs.declared.syntax.Syntax.{Syntax as AnySyntax};
 ghost use Rattle.dcm_base.specs.declared.vr.Vr.TheVariants as representations;
 ghost use Rattle.dcm_stream.specs.Skip.{depth};
 ghost use Rattle.dcm_stream.specs.Tokens.{atoms_of};
+ghost use Rattle.dcm_head.specs.HeadBytes.{FitsShort};
 ghost use Rattle.dcm_head.specs.HeadRead.{is_delimiter as is_delimiter_tag};
 ghost use Rattle.dcm_sinks.specs.EncodeSink as spec;
 
@@ -20,7 +21,7 @@ use arrayvec::ArrayVec;
 use dcm_base::{
     DeviceOut, Form, Length, Syntax, Tag, Vr, Watched, WriteFailed, form_of, put_all, read_as,
 };
-use dcm_head::{Head, LONG_HEAD, element_head, plain_head};
+use dcm_head::{Head, LONG_HEAD, element_head, plain_head, put_element_head};
 use dcm_stream::{Skip, Token};
 
 /// The number of the element that holds the length of its group (PS3.5 7.2).
@@ -55,25 +56,38 @@ fn written_vr(target: Syntax, vr: Vr, size: u32) -> Vr
     }
 }
 
+/// What the head of a value of this size says in the target.
+fn written_head(target: Syntax, tag: Tag, vr: Vr, size: u32) -> Head
+    ensures fits { recode.is_explicit target ≡ true → has_long_form result.vr ≡ false → FitsShort result.length }
+    ensures bytes { recode.head target result.tag result.vr result.length ≡ recode.leaf_head target tag vr size }
+{
+    let (vr, length) = (written_vr(target, vr, size), even(size));
+    Head { tag, vr, length }
+}
+
 /// The head of a value of this size (PS3.5 7.1.2, 7.1.3).
 pub fn leaf_head(target: Syntax, tag: Tag, vr: Vr, size: u32) -> ArrayVec<u8, LONG_HEAD>
     ensures { result.items ≡ recode.leaf_head target tag vr size }
 {
-    let (vr, length) = (written_vr(target, vr, size), even(size));
-    element_head(target, &Head { tag, vr, length })
+    element_head(target, &written_head(target, tag, vr, size))
 }
 
-/// The head of a sequence or fragment list, whose length is undefined.
-fn list_head(target: Syntax, tag: Tag, vr: Vr) -> ArrayVec<u8, LONG_HEAD>
+/// Writes the head of a sequence or fragment list, whose length is undefined.
+fn put_list_head<W: DeviceOut>(
+    out: &mut Watched<W>,
+    target: Syntax,
+    tag: Tag,
+    vr: Vr,
+) -> Result<(), WriteFailed>
     requires { has_long_form vr ≡ true }
-    ensures { result.items ≡ recode.head target tag vr lengths.Undefined }
+    ensures { Wrote W.DeviceOut out.old out.new (recode.head target tag vr lengths.Undefined) result }
 {
     let length = Length::Undefined;
-    element_head(target, &Head { tag, vr, length })
+    put_element_head(out, target, &Head { tag, vr, length })
 }
 
 /// Writes the head of an item or fragment, or a delimiter.
-#[inline(never)]
+#[inline(always)]
 fn put_plain<W: DeviceOut>(
     out: &mut Watched<W>,
     target: Syntax,
@@ -83,6 +97,31 @@ fn put_plain<W: DeviceOut>(
     ensures { Wrote W.DeviceOut out.old out.new (recode.plain_head target tag length) result }
 {
     put_all(out, &plain_head(target, tag, length))
+}
+
+/// Writes the head of an item of undefined length. This and both delimiters have a function each, in which tag and length
+/// are known, so that their bytes are put together when this is compiled.
+#[inline(never)]
+fn put_item<W: DeviceOut>(out: &mut Watched<W>, target: Syntax) -> Result<(), WriteFailed>
+    ensures { Wrote W.DeviceOut out.old out.new (recode.item_head target lengths.Undefined) result }
+{
+    put_plain(out, target, Tag::ITEM, Length::Undefined)
+}
+
+/// Writes the delimiter of an item.
+#[inline(never)]
+fn put_item_end<W: DeviceOut>(out: &mut Watched<W>, target: Syntax) -> Result<(), WriteFailed>
+    ensures { Wrote W.DeviceOut out.old out.new (recode.item_delimiter target) result }
+{
+    put_plain(out, target, Tag::ITEM_END, Length::Known(0))
+}
+
+/// Writes the delimiter of a sequence or fragment list.
+#[inline(never)]
+fn put_sequence_end<W: DeviceOut>(out: &mut Watched<W>, target: Syntax) -> Result<(), WriteFailed>
+    ensures { Wrote W.DeviceOut out.old out.new (recode.sequence_delimiter target) result }
+{
+    put_plain(out, target, Tag::SEQUENCE_END, Length::Known(0))
 }
 
 impl Encoder {
@@ -118,8 +157,8 @@ impl Encoder {
         ensures wrote { Wrote W.DeviceOut out.old out.new (recode.leaf_head self.old.target head.tag head.vr size)
             result }
     {
-        let bytes = leaf_head(self.target, head.tag, head.vr, size);
-        put_all(out, bytes.as_slice())?;
+        let written = written_head(self.target, head.tag, head.vr, size);
+        put_element_head(out, self.target, &written)?;
         self.copier = Some(Copier::of_leaf(syntax, self.target, head.vr, size));
         Ok(())
     }
@@ -137,12 +176,8 @@ impl Encoder {
         let form = form_of(syntax, read_as(syntax, head.tag, head.vr), head.length);
         match (form, head.length) {
             (Form::Value, Length::Known(size)) => self.open_leaf(out, head, size, syntax),
-            (Form::Sequence, _) => {
-                put_all(out, list_head(self.target, head.tag, Vr::SQ).as_slice())
-            }
-            (Form::FragmentList, _) => {
-                put_all(out, list_head(self.target, head.tag, head.vr).as_slice())
-            }
+            (Form::Sequence, _) => put_list_head(out, self.target, head.tag, Vr::SQ),
+            (Form::FragmentList, _) => put_list_head(out, self.target, head.tag, head.vr),
             (Form::Value, Length::Undefined) | (Form::Nothing, _) => Ok(()),
         }
     }
@@ -225,9 +260,9 @@ impl Encoder {
             Token::Open(head, syntax) => self.open(out, head, syntax),
             Token::Bytes(bytes) => self.copy(out, bytes),
             Token::CloseLeaf => self.close(out),
-            Token::OpenItem(_) => put_plain(out, self.target, Tag::ITEM, Length::Undefined),
-            Token::CloseItem => put_plain(out, self.target, Tag::ITEM_END, Length::Known(0)),
-            Token::CloseSeq => put_plain(out, self.target, Tag::SEQUENCE_END, Length::Known(0)),
+            Token::OpenItem(_) => put_item(out, self.target),
+            Token::CloseItem => put_item_end(out, self.target),
+            Token::CloseSeq => put_sequence_end(out, self.target),
             Token::OpenFragment(size) => self.open_fragment(out, size),
             Token::End => Ok(()),
         }

@@ -2,7 +2,7 @@ use Rattle.std.proofs.Common.{◌≡◌, length}
 use Rattle.dcm_base.specs.Tables.Representation.{unit}
 use Rattle.dcm_base.specs.Tree.Value.{turned}
 use Rattle.dcm_sinks.proofs.Conversions.Turned.{PutSoFar}
-use Rattle.dcm_sinks.proofs.encode.copier.put_turned.Given as goal
+use Rattle.dcm_sinks.proofs.encode.copier.put_blocks.Given as goal
 
 -- some of the units went out
 abbrev pub invariant-loop-rest : goal.invariant-loop-rest
