@@ -2,7 +2,7 @@
 ghost use Rattle.std.specs.Prelude.{◌≡◌, ◌==◌, ◌&&◌, nat_lt, ◌+◌, ◌-◌, ◌*◌, ◌/◌, ◌<◌, ◌≤◌, ◌++◌, length, take, replicate, List};
 ghost use Rattle.std.specs.Prelude.{ℕ, OnOk, true};
 ghost use Rattle.dcm_value.specs.Emits.{Emits};
-ghost use Rattle.dcm_base.specs.Dump.ValueText.{escaped, identified};
+ghost use Rattle.dcm_base.specs.Dump.ValueText.{escaped, identified, shown_unit as unit_size};
 ghost use Rattle.dcm_value.specs.Units.{separated_units};
 ghost use Rattle.dcm_value.specs.Swap.{IsUnit};
 ghost use Rattle.dcm_value.specs.Woven.{woven};
@@ -10,12 +10,19 @@ ghost use Rattle.dcm_value.specs.Display as spec;
 
 use crate::escapes::{append_text, is_plain_text};
 use crate::hexadecimal::{LANES, weave_blocks};
-use crate::units::{BLOCK, Kind, LONGEST, append_units, kind_of, shown_unit};
+use crate::units::{BLOCK, FEW, FEW_TEXT, Kind, LONGEST, append_units, kind_of, shown_unit};
 use arrayvec::ArrayVec;
 use dcm_base::{DeviceOut, Mode, Syntax, Vr, Watched, WriteFailed, put_all, uid_name};
 
 /// The most bytes that are shown at a time.
 const TEXT: usize = 3072;
+
+/// The most bytes of a short text that is not plain. The buffer of so many is blanked in a few steps, where that of a
+/// long text takes longer than the text.
+const SHORT: usize = 80;
+
+/// Room for a short text in which each byte is escaped.
+const SHORT_TEXT: usize = 3 * SHORT;
 
 /// Room for a block of units in hexadecimal: three bytes of text for each of at most 1,024, and some more, as its last
 /// lanes are stored past the end of its text.
@@ -35,6 +42,11 @@ pub struct Shown {
 fn fill(front: &mut ArrayVec<u8, 66>, bytes: &[u8])
     ensures { front.new.items ≡ take 66 (front.old.items ++ bytes.now) }
 {
+    // To copy one byte, a bracket, would be a call.
+    if let [byte] = bytes {
+        let _ = front.try_push(*byte);
+        return;
+    }
     let count = front.remaining_capacity().min(bytes.len());
     let _ = front.try_extend_from_slice(&bytes[..count]);
 }
@@ -148,7 +160,25 @@ impl Shown {
         if is_plain_text(bytes) {
             return self.emit(bytes, out);
         }
+        if bytes.len() <= SHORT {
+            return self.emit_short(bytes, out);
+        }
         let mut text: ArrayVec<u8, TEXT> = ArrayVec::new();
+        append_text(bytes, &mut text);
+        self.emit(text.as_slice(), out)
+    }
+
+    /// Shows a short text, which need not be plain.
+    fn emit_short<W: DeviceOut>(
+        &mut self,
+        bytes: &[u8],
+        out: &mut Watched<W>,
+    ) -> Result<(), WriteFailed>
+        requires { length bytes.now ≤ SHORT }
+        ensures { Emits W.DeviceOut out.old out.new (display_of self.old) (display_of self.new)
+            (escaped bytes.now) result }
+    {
+        let mut text: ArrayVec<u8, SHORT_TEXT> = ArrayVec::new();
         append_text(bytes, &mut text);
         self.emit(text.as_slice(), out)
     }
@@ -198,7 +228,7 @@ impl Shown {
         Ok(())
     }
 
-    /// Shows units one by one, each after a backslash.
+    /// Shows units one by one, each after a backslash. Most values have few.
     fn emit_singly<W: DeviceOut>(
         &mut self,
         vr: Vr,
@@ -209,6 +239,9 @@ impl Shown {
         ensures { Emits W.DeviceOut out.old out.new (display_of self.old) (display_of self.new)
             (separated_units vr syntax units.now) result }
     {
+        if !units.is_empty() && units.len() <= FEW * shown_unit(vr) {
+            return self.emit_few(vr, syntax, units, out);
+        }
         let most = TEXT / LONGEST * shown_unit(vr);
         let mut rest = units;
         while !rest.is_empty() && !self.is_cut() {
@@ -219,6 +252,23 @@ impl Shown {
             rest = after;
         }
         Ok(())
+    }
+
+    /// Shows few units, each after a backslash.
+    fn emit_few<W: DeviceOut>(
+        &mut self,
+        vr: Vr,
+        syntax: Syntax,
+        units: &[u8],
+        out: &mut Watched<W>,
+    ) -> Result<(), WriteFailed>
+        requires { length units.now ≤ FEW * unit_size vr }
+        ensures { Emits W.DeviceOut out.old out.new (display_of self.old) (display_of self.new)
+            (separated_units vr syntax units.now) result }
+    {
+        let mut text: ArrayVec<u8, FEW_TEXT> = ArrayVec::new();
+        append_units(vr, syntax, units, &mut text);
+        self.emit(text.as_slice(), out)
     }
 
     /// Shows a unique identifier, by its name where it has one.

@@ -2,7 +2,8 @@
 ghost use Rattle.std.specs.Prelude.{◌≡◌, ◌<◌, ◌≤◌, ◌+◌, ◌*◌, ◌^◌, ◌++◌, [], ◌∷◌, ◌/◌, if◌then◌else◌, codes, length};
 ghost use Rattle.std.specs.Prelude.{reverse, flat_map, decimal};
 ghost use Rattle.dcm_base.specs.Dump.ValueText as spec;
-ghost use Rattle.dcm_base.specs.Tree.Value.{number_of, units as units_of};
+ghost use Rattle.dcm_base.specs.Tree.Value.{number_of, turned, units as units_of};
+ghost use Rattle.dcm_base.specs.Tables.Representation.{unit};
 ghost use Rattle.dcm_value.specs.Units as high;
 ghost use Rattle.dcm_value.specs.Swap.{IsUnit};
 
@@ -222,6 +223,31 @@ fn append_high<const N: usize>(kind: Kind, size: usize, units: &[u8], text: &mut
 /// The most units that are shown at a time.
 pub const BLOCK: usize = 128;
 
+/// Units that are few. Their buffers are blanked in a few steps, where those of a block take longer than the units.
+pub const FEW: usize = 10;
+
+/// Room for the text of few units.
+pub const FEW_TEXT: usize = LONGEST * FEW;
+
+/// The most bytes of few units, and of a block.
+const FEW_BYTES: usize = 8 * FEW;
+
+const BLOCK_BYTES: usize = 8 * BLOCK;
+
+/// The units of a little endian value more, each after a backslash. They are turned in a block.
+fn append_turned<const N: usize>(vr: Vr, units: &[u8], block: &mut [u8], text: &mut ArrayVec<u8, N>)
+    requires room { length text.old.items + LONGEST * (length units.now / spec.shown_unit vr) ≤ N }
+    requires block { length units.now ≤ length block.old }
+    ensures text { text.new.items ≡ text.old.items ++ high.separated (high.high_text (high.kind_of (spec.shape vr)))
+        (units_of (spec.shown_unit vr) (turned (unit vr) units.now)) }
+    ensures size { length text.new.items ≤ length text.old.items + LONGEST * (length units.now / spec.shown_unit vr) }
+{
+    let high = &mut block[..units.len()];
+    high.copy_from_slice(units);
+    swap(vr.unit(), high);
+    append_high(kind_of(vr), shown_unit(vr), high, text);
+}
+
 /// The units of a value more, each after a backslash. They come in the order of the syntax.
 pub fn append_units<const N: usize>(
     vr: Vr,
@@ -235,17 +261,17 @@ pub fn append_units<const N: usize>(
         ++ high.separated (high.one_text vr syntax) (units_of (spec.shown_unit vr) units.now) }
     ensures size { length text.new.items ≤ length text.old.items + LONGEST * (length units.now / spec.shown_unit vr) }
 {
-    let kind = kind_of(vr);
-    let size = shown_unit(vr);
     if syntax.is_big() || vr.unit() == 1 {
-        append_high(kind, size, units, text);
+        append_high(kind_of(vr), shown_unit(vr), units, text);
         return;
     }
-    let mut block = [0; 8 * BLOCK];
-    let high = &mut block[..units.len()];
-    high.copy_from_slice(units);
-    swap(vr.unit(), high);
-    append_high(kind, size, high, text);
+    if units.len() <= FEW_BYTES {
+        let mut block = [0; FEW_BYTES];
+        append_turned(vr, units, &mut block, text);
+        return;
+    }
+    let mut block = [0; BLOCK_BYTES];
+    append_turned(vr, units, &mut block, text);
 }
 
 /// A unit of a value as it is shown.

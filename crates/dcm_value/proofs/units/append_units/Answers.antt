@@ -1,4 +1,4 @@
-use Rattle.std.proofs.Common.{rules, sym, ◌∙◌, ◌≡◌, false, ◌++◌}
+use Rattle.std.proofs.Common.{rules, sym, ◌≡◌, false, ◌++◌}
 use Rattle.dcm_base.specs.Tree.Value.{turned, units}
 use Rattle.dcm_base.specs.Dump.ValueText.{shape, shown_unit}
 use Rattle.dcm_base.specs.Tables.Representation.{unit}
@@ -20,11 +20,14 @@ returns-then-is_big-clause-text g c =
     in
     shows_units c.args.syntax c.args.vr v v _ _ (sym stays) shown
 
+pub returns-then-units-le-FEW_BYTES-clause-text : goal.returns-then-units-le-FEW_BYTES-clause-text
+returns-then-units-le-FEW_BYTES-clause-text g c =
+    let v = c.args.units.now in
+    let not_big : is_big c.args.syntax ≡ false = search rules in
+    shows_units c.args.syntax c.args.vr v (turned (unit c.args.vr) v) _ _ (sym (others_turn c.args.syntax c.args.vr v not_big)) c.append_turned.ensures.text
+
 pub returns-clause-text : goal.returns-clause-text
 returns-clause-text g c =
     let v = c.args.units.now in
-    let h = c.swap.new.bytes in
-    let shown : c.append_high-2.new.text.items ≡ c.args.text.now.items ++ separated (high_text (kind_of (shape c.args.vr))) (units (shown_unit c.args.vr) h) = search rules in
     let not_big : is_big c.args.syntax ≡ false = search rules in
-    let turns : h ≡ turned (unit c.args.vr) v = search rules in
-    shows_units c.args.syntax c.args.vr v h _ _ (turns ∙ sym (others_turn c.args.syntax c.args.vr v not_big)) shown
+    shows_units c.args.syntax c.args.vr v (turned (unit c.args.vr) v) _ _ (sym (others_turn c.args.syntax c.args.vr v not_big)) c.append_turned-2.ensures.text

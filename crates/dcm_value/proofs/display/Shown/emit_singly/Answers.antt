@@ -28,7 +28,7 @@ returns-in_err-emit g c =
     let block : List ℕ = c.split_at.result.0.now in
     let after : List ℕ = c.split_at.result.1.now in
     let text : c.as_slice.result.now ≡ separated one (units (shown_unit vr) block) = c.as_slice.ensures.value ∙ c.append_units.ensures.text ∙ ap (λ xs. xs ++ separated one (units (shown_unit vr) block)) c.new-text.ensures in
-    let size : c.min.result ≡ min (length c.loop-self.rest.now) (128 * shown_unit vr) = c.min.ensures ∙ ap (λ k. min (length c.loop-self.rest.now) (128 * k)) c.shown_unit.ensures.value in
+    let size : c.min.result ≡ min (length c.loop-self.rest.now) (128 * shown_unit vr) = c.min.ensures ∙ ap (λ k. min (length c.loop-self.rest.now) (128 * k)) c.shown_unit-2.ensures.value in
     let split = units_split (shown_unit vr) (shown_some vr) one 128 c.min.result c.loop-self.rest.now block after size c.split_at.ensures.front c.split_at.ensures.back in
     let parts = split ∙ ap (λ xs. xs ++ separated one (units (shown_unit vr) after)) (sym text) in
     record { state = search rules; bytes = part_failed _ (c.as_slice.result.now) _ _ _ c.loop-self.invariant.part parts c.from_residual.ensures.0 c.in_err-emit.ensures.bytes; failed = search rules }
@@ -40,7 +40,7 @@ loop-self-preserved g c =
     let block : List ℕ = c.split_at.result.0.now in
     let after : List ℕ = c.split_at.result.1.now in
     let text : c.as_slice.result.now ≡ separated one (units (shown_unit vr) block) = c.as_slice.ensures.value ∙ c.append_units.ensures.text ∙ ap (λ xs. xs ++ separated one (units (shown_unit vr) block)) c.new-text.ensures in
-    let size : c.min.result ≡ min (length c.loop-self.rest.now) (128 * shown_unit vr) = c.min.ensures ∙ ap (λ k. min (length c.loop-self.rest.now) (128 * k)) c.shown_unit.ensures.value in
+    let size : c.min.result ≡ min (length c.loop-self.rest.now) (128 * shown_unit vr) = c.min.ensures ∙ ap (λ k. min (length c.loop-self.rest.now) (128 * k)) c.shown_unit-2.ensures.value in
     let split = units_split (shown_unit vr) (shown_some vr) one 128 c.min.result c.loop-self.rest.now block after size c.split_at.ensures.front c.split_at.ensures.back in
     let parts = split ∙ ap (λ xs. xs ++ separated one (units (shown_unit vr) after)) (sym text) in
     record {
