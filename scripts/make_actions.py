@@ -22,6 +22,17 @@ pub type Action = (u32, Fate, &'static [Retain]);
 #[rattlefmt::skip]
 pub const ACTIONS: [Action; {count}] = [
 """
+MARKS_HEADER = """
+/// The marks, 64 to a word, the lowest bit first: that of each row is set, and those of nearly all other numbers are not.
+#[rattlefmt::skip]
+pub const MARKS: [u64; {words}] = [
+"""
+# how the code finds the mark of a number: `mark_of` in crates/dcm_deid/src/fate.rt
+SPREAD = 0x9E37_79B9
+NUMBERS_OF_A_MARK = 0x8_0000
+ALL_NUMBERS = 0x1_0000_0000
+MARKS_OF_A_WORD = 64
+WORDS_OF_A_LINE = 4
 
 
 def rows():
@@ -35,12 +46,31 @@ def rows():
             yield int(group + element, 16), FATES[fate], [OPTIONS[letter] for letter in kept_by]
 
 
+def marks(numbers):
+    """The words of the marks of these numbers."""
+    words = [0] * (ALL_NUMBERS // NUMBERS_OF_A_MARK // MARKS_OF_A_WORD)
+    for number in numbers:
+        mark = number * SPREAD % ALL_NUMBERS // NUMBERS_OF_A_MARK
+        words[mark // MARKS_OF_A_WORD] |= 1 << mark % MARKS_OF_A_WORD
+    return words
+
+
+def word(value):
+    """A word as the code writes it."""
+    return "0x" + "_".join(f"{value >> shift & 0xFFFF:04X}" for shift in (48, 32, 16, 0))
+
+
 def main():
     table = sorted(rows())
     print(HEADER.format(count=len(table)), end="")
     for number, fate, kept_by in table:
         options = ", ".join(f"Retain::{name}" for name in kept_by)
         print(f"    (0x{number >> 16:04X}_{number & 0xFFFF:04X}, Fate::{fate}, &[{options}]),")
+    print("];")
+    words = marks(number for number, _, _ in table)
+    print(MARKS_HEADER.format(words=len(words)), end="")
+    for start in range(0, len(words), WORDS_OF_A_LINE):
+        print("    " + ", ".join(map(word, words[start:start + WORDS_OF_A_LINE])) + ",")
     print("];")
 
 

@@ -1,4 +1,5 @@
 pub mod Rows
+pub mod Marked
 pub mod Known
 pub mod Trees
 mod FateRows

@@ -46,11 +46,10 @@ pub row_is : (n : ℕ) (rows : List Row) (o : Option Row) → map action_of rows
 row_is n rows o is found = ap (find (λ (a : Action). a.0 == n)) (sym is) ∙ found_by_number n rows ∙ ap (option_map action_of) (sym found)
 
 -- so an element has the fate of its row, or of its value representation
-pub by_row : (options : Options) (vr : Vr) (n number : ℕ) (rows : List Row) (o : Option Row) → map action_of rows ≡ actions
-    → number ≡ n → o ≡ find (λ (row : Row). row.0 == number) rows
+pub by_row : (options : Options) (vr : Vr) (n number : ℕ) (o : Option Row) → number ≡ n → option_map action_of o ≡ find (λ (a : Action). a.0 == number) actions
     → fate_in_table options (option_map action_of o) vr ≡ fate_in_table options (find (λ (a : Action). a.0 == n) actions) vr
-by_row options vr n number rows o is same found =
-    ap (λ f. fate_in_table options f vr) (sym (row_is number rows o is found) ∙ ap (λ m. find (λ (a : Action). a.0 == m) actions) same)
+by_row options vr n number o same found =
+    ap (λ f. fate_in_table options f vr) (found ∙ ap (λ m. find (λ (a : Action). a.0 == m) actions) same)
 
 pub kept : (options : Options) (vr : Vr) (row : Row) → keeps options row.2.now ≡ true → Keep ≡ fate_in_table options (Some (action_of row)) vr
 kept options vr row e = rw e refl

@@ -1,4 +1,5 @@
 pub mod Fate
+pub mod Marks
 pub mod Deidentify
 pub mod Alike
 pub mod Remains

@@ -41,6 +41,7 @@ pub struct Deidentifier {
 }
 
 /// What follows the head of an element.
+#[inline(always)]
 pub fn form_after(head: Head, syntax: Syntax) -> Form
     ensures { result ≡ spec.form_after head.tag head.vr head.length syntax }
 {
@@ -108,6 +109,7 @@ impl Deidentifier {
     }
 
     /// After the head of an element.
+    #[inline(always)]
     fn open(&mut self, options: &Options, head: Head, syntax: Syntax)
         ensures { deidentifying.place self.new
             ≡ spec.after_head options.now (deidentifying.place self.old) head.tag head.vr head.length syntax }
@@ -121,6 +123,7 @@ impl Deidentifier {
     }
 
     /// What becomes of an element, of which nothing is left out so far.
+    #[inline(never)]
     fn judge(&mut self, options: &Options, head: Head, syntax: Syntax)
         requires { depth self.old.skip ≡ 0 }
         ensures last { self.new.last ≡ self.old.last }
@@ -133,6 +136,7 @@ impl Deidentifier {
     }
 
     /// What becomes of an element of this fate.
+    #[inline(always)]
     fn judge_as(&mut self, fate: Fate, form: Form, head: Head, syntax: Syntax)
         ensures last { self.new.last ≡ self.old.last }
         ensures place { deidentifying.place self.new
@@ -157,6 +161,7 @@ impl Deidentifier {
     }
 
     /// After the head of an element of this fate, of which nothing is left out so far.
+    #[inline(always)]
     pub fn open_as(&mut self, fate: Fate, form: Form, head: Head, syntax: Syntax)
         ensures { deidentifying.place self.new
             ≡ spec.with_last (spec.judged (deidentifying.place self.old) fate form head.tag head.vr syntax) head.tag }

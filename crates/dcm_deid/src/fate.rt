@@ -1,11 +1,27 @@
-ghost use Rattle.std.specs.Prelude.{◌≡◌, map, find, option_map, ◌==◌};
+ghost use Rattle.std.specs.Prelude.{◌≡◌, ◌<◌, map, find, option_map, ◌==◌};
 ghost use Rattle.std.specs.List.{list_any};
 ghost use Rattle.std.specs.List.Sorted.{IsStrictlyIncreasing};
 ghost use Rattle.dcm_base.specs.Tables.Tag.{tag_number};
 ghost use Rattle.dcm_deid.specs.Fate as spec;
+ghost use Rattle.dcm_deid.specs.Marks as marking;
 
-use crate::table::{ACTIONS, Action};
+use crate::table::{ACTIONS, Action, MARKS};
 use dcm_base::{Dictionary, Tag, Vr, known_vr_in};
+
+/// How many marks there are to a word of them.
+const MARKS_OF_A_WORD: usize = 64;
+
+/// How many words of marks there are.
+const WORDS: usize = 128;
+
+/// How many numbers there are for each mark.
+const NUMBERS_OF_A_MARK: u64 = 0x8_0000;
+
+/// How many numbers there are.
+const ALL_NUMBERS: u64 = 0x1_0000_0000;
+
+/// Spreads numbers that are close to each other: 2^32 divided by the golden ratio.
+const SPREAD: u64 = 0x9E37_79B9;
 
 /// What becomes of an element.
 #[derive(Clone, Copy, Debug, PartialEq, Eq)]
@@ -91,7 +107,35 @@ fn actions() -> &'static [Action]
     &ACTIONS
 }
 
+/// The marks of the table.
+#[tactic(auto, unfolding(crate::specs::Marks::marks))]
+#[inline(always)]
+fn marks() -> &'static [u64; WORDS]
+    ensures { result.now ≡ marking.marks }
+{
+    &MARKS
+}
+
+/// The place of a number's mark.
+#[inline(always)]
+fn mark_of(number: u32) -> usize
+    ensures value { result ≡ marking.mark_of number }
+    ensures small { result < 8192 }
+{
+    (number as u64 * SPREAD % ALL_NUMBERS / NUMBERS_OF_A_MARK) as usize
+}
+
+/// Whether the mark of a number is set.
+#[inline(always)]
+fn is_marked(marks: &[u64; WORDS], number: u32) -> bool
+    ensures { result ≡ marking.is_marked marks.now number }
+{
+    let mark = mark_of(number);
+    (marks[mark / MARKS_OF_A_WORD] >> (mark % MARKS_OF_A_WORD)) & 1 == 1
+}
+
 /// The row that has the number, where the numbers ascend.
+#[inline(never)]
 fn row_of(actions: &[Action], number: u32) -> Option<&Action>
     requires ascending { IsStrictlyIncreasing (map (λ a. a.0) actions.now) }
     ensures { option_map (λ a. a.now) result ≡ find (λ a. a.0 == number) actions.now }
@@ -100,6 +144,18 @@ fn row_of(actions: &[Action], number: u32) -> Option<&Action>
         Ok(at) => Some(&actions[at]),
         Err(_) => None,
     }
+}
+
+/// The row of the table that has the number. Nearly all numbers without a row have no mark, and so need no search.
+#[inline(always)]
+fn row_in_table(number: u32) -> Option<&'static Action>
+    ensures { option_map (λ a. (a.0, a.1, a.2.now)) (option_map (λ a. a.now) result)
+        ≡ find (λ a. a.0 == number) spec.actions }
+{
+    if !is_marked(marks(), number) {
+        return None;
+    }
+    row_of(actions(), number)
 }
 
 /// What becomes of an element that the table does not have: dates, times and names of persons are emptied.
@@ -117,7 +173,7 @@ fn fate_of_vr(options: &Options, vr: Vr) -> Fate
 fn fate_of_known(options: &Options, tag: Tag, vr: Vr) -> Fate
     ensures { result ≡ spec.fate_in_table options.now (find (λ a. a.0 == tag_number tag) spec.actions) vr }
 {
-    match row_of(actions(), tag.number()) {
+    match row_in_table(tag.number()) {
         Some(action) if options.keeps(action.2) => Fate::Keep,
         Some(action) => action.1,
         None => fate_of_vr(options, vr),

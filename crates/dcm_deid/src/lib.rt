@@ -1,6 +1,7 @@
 //! Taking identity out of a data set (PS3.15 annex E).
 #![tactic(auto)]
 
+mod by_token;
 mod deidentifier;
 mod dummy;
 mod fate;

@@ -81,6 +81,7 @@ fn is_due(options: &Options, gap: Gap, tag: Tag) -> bool
 }
 
 /// Passes on an element with a whole value.
+#[inline(never)]
 pub fn put_leaf<S: Sink>(tag: Tag, vr: Vr, value: &[u8], sink: &mut S) -> Result<(), WriteFailed>
     requires { length value.now < 2 ^ 32 }
     ensures { sinks.Took S.Sink sink.old sink.new (leaf_atoms tag vr value.now) result }
@@ -220,6 +221,7 @@ fn put_dates_due<S: Sink>(options: &Options, gap: Gap, sink: &mut S) -> Result<(
 }
 
 /// Passes on the elements that say what was done and belong in a gap of the outermost data set.
+#[inline(never)]
 pub fn put_said<S: Sink>(options: &Options, gap: Gap, sink: &mut S) -> Result<(), WriteFailed>
     ensures { sinks.Took S.Sink sink.old sink.new (spec.said_between options.now gap.last gap.next) result }
 {

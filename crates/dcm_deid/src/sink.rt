@@ -12,6 +12,7 @@ ghost use Rattle.dcm_stream.specs.Sinks as sinks;
 ghost use Rattle.dcm_stream.specs.Skip.{depth, is_open};
 ghost use Rattle.dcm_stream.specs.Tokens.{IsFilled, atoms_of, leaf_atoms};
 
+use crate::by_token::pass_on;
 use crate::deidentifier::{Deidentifier, form_after};
 use crate::dummy::dummy;
 use crate::fate::{Depth, Fate, Options};
@@ -42,6 +43,7 @@ fn holds_identity(tag: Tag) -> bool
 }
 
 /// Passes on what says what was done, at the outermost level, before an element of this tag or at the end.
+#[inline(always)]
 fn put_gap<S: Sink>(
     options: &Options,
     place: &Deidentifier,
@@ -61,6 +63,7 @@ fn put_gap<S: Sink>(
 }
 
 /// Passes on the head of an element that is kept. The length of a sequence counts what is taken out of it.
+#[inline(always)]
 fn put_kept<S: Sink>(
     form: Form,
     head: Head,
@@ -78,6 +81,7 @@ fn put_kept<S: Sink>(
 }
 
 /// Passes on a sequence without items.
+#[inline(never)]
 fn put_empty_sequence<S: Sink>(head: Head, sink: &mut S) -> Result<(), WriteFailed>
     ensures { sinks.Took S.Sink sink.old sink.new (spec.empty_sequence head.tag head.vr) result }
 {
@@ -87,6 +91,7 @@ fn put_empty_sequence<S: Sink>(head: Head, sink: &mut S) -> Result<(), WriteFail
 }
 
 /// Passes on what an element becomes, as far as its head determines it.
+#[inline(always)]
 fn put_head<S: Sink>(
     fate: Fate,
     form: Form,
@@ -106,6 +111,7 @@ fn put_head<S: Sink>(
 }
 
 /// Passes on what becomes of the head of an element of this fate, of which nothing is left out so far.
+#[inline(always)]
 fn pass_as<S: Sink>(
     options: &Options,
     place: &Deidentifier,
@@ -123,6 +129,7 @@ fn pass_as<S: Sink>(
 }
 
 /// Passes on what becomes of the head of an element, of which nothing is left out so far.
+#[inline(never)]
 fn pass_element<S: Sink>(
     options: &Options,
     place: &Deidentifier,
@@ -139,7 +146,8 @@ fn pass_element<S: Sink>(
 }
 
 /// The same, and goes on after the head: the fate of the element is looked up once for both.
-fn pass_on_element<S: Sink>(
+#[inline(always)]
+pub fn pass_on_element<S: Sink>(
     options: &Options,
     place: &mut Deidentifier,
     head: Head,
@@ -159,6 +167,7 @@ fn pass_on_element<S: Sink>(
 }
 
 /// Passes on the end of a data set.
+#[inline(never)]
 fn pass_end<S: Sink>(
     options: &Options,
     place: &Deidentifier,
@@ -172,6 +181,7 @@ fn pass_end<S: Sink>(
 }
 
 /// Passes on what a token becomes, of an element that is not left out.
+#[inline(always)]
 fn pass_open<S: Sink>(
     options: &Options,
     place: &Deidentifier,
@@ -196,6 +206,7 @@ fn pass_open<S: Sink>(
 }
 
 /// Passes on a new unique identifier in place of a whole one.
+#[inline(never)]
 fn put_new_uid<S: Sink>(held: &HeldValue, key: &UidKey, sink: &mut S) -> Result<(), WriteFailed>
     ensures { sinks.Took S.Sink sink.old sink.new
         (leaf_atoms held.now.tag held.now.vr (spec.new_of key.now.bytes.now (deidentifying.held held.now))) result }
@@ -205,6 +216,7 @@ fn put_new_uid<S: Sink>(held: &HeldValue, key: &UidKey, sink: &mut S) -> Result<
 }
 
 /// Passes on what a token becomes, of an element that is left out.
+#[inline(always)]
 fn pass_left_out<S: Sink>(
     key: &UidKey,
     place: &Deidentifier,
@@ -222,6 +234,7 @@ fn pass_left_out<S: Sink>(
 }
 
 /// Passes on what a token becomes.
+#[inline(always)]
 fn pass<S: Sink>(
     options: &Options,
     key: &UidKey,
@@ -240,8 +253,10 @@ fn pass<S: Sink>(
     }
 }
 
-/// Passes on what any token becomes, and goes on after it.
-fn pass_on_any<S: Sink>(
+/// Passes on what any token becomes, and goes on after it. Inlined where the kind of token is known, this is but the part
+/// for that kind.
+#[inline(always)]
+pub fn pass_on_any<S: Sink>(
     options: &Options,
     key: &UidKey,
     place: &mut Deidentifier,
@@ -256,27 +271,6 @@ fn pass_on_any<S: Sink>(
     pass(options, key, place, token, sink)?;
     place.go_on(options, token);
     Ok(())
-}
-
-/// Passes on what a token becomes, and goes on after it.
-fn pass_on<S: Sink>(
-    options: &Options,
-    key: &UidKey,
-    place: &mut Deidentifier,
-    token: Token,
-    sink: &mut S,
-) -> Result<(), WriteFailed>
-    requires filled { IsFilled token }
-    ensures took { sinks.Took S.Sink sink.old sink.new
-        (deidentifying.passed_of options.now key.now.bytes.now place.old (atoms_of token.entry)) result }
-    ensures state { OnOk result (deidentifying.GoesOn options.now place.old place.new (atoms_of token.entry)) }
-{
-    match token {
-        Token::Open(head, syntax) if !place.skip.is_open() => {
-            pass_on_element(options, place, head, syntax, sink)
-        }
-        _ => pass_on_any(options, key, place, token, sink),
-    }
 }
 
 /// A sink that passes the tokens of a data set on to another one, without identity: kept elements as they are, others
