@@ -8,7 +8,7 @@ ghost use Rattle.dcm_head.specs.HeadBytes as spec;
 
 use crate::head::{Head, LONG_HEAD, SHORT_HEAD, UNDEFINED, is_delimiter};
 use arrayvec::ArrayVec;
-use dcm_base::{DeviceOut, Length, Syntax, Tag, Watched, WriteFailed, put_all};
+use dcm_base::{DeviceOut, Length, Syntax, Tag, Watched, WriteFailed, put_array};
 
 /// The bytes of a head.
 type HeadBytes = ArrayVec<u8, LONG_HEAD>;
@@ -123,7 +123,7 @@ pub fn put_element_head<W: DeviceOut>(
     ensures { Wrote W.DeviceOut out.old out.new (recode.head syntax head.now.tag head.now.vr head.now.length) result }
 {
     match syntax {
-        Syntax::Implicit(_) => put_all(out, &plain_head(syntax, head.tag, head.length)),
+        Syntax::Implicit(_) => put_array(out, &plain_head(syntax, head.tag, head.length)),
         Syntax::Little(_) | Syntax::Big(_) => put_explicit_head(out, syntax, head),
     }
 }
@@ -139,9 +139,9 @@ fn put_explicit_head<W: DeviceOut>(
     ensures { Wrote W.DeviceOut out.old out.new (recode.head syntax head.now.tag head.now.vr head.now.length) result }
 {
     if head.vr.is_long() {
-        put_all(out, &long_head(syntax, head))
+        put_array(out, &long_head(syntax, head))
     } else {
-        put_all(out, &short_head(syntax, head))
+        put_array(out, &short_head(syntax, head))
     }
 }
 

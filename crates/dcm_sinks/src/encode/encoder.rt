@@ -19,7 +19,7 @@ ghost use Rattle.dcm_sinks.specs.EncodeSink as spec;
 use crate::encode::copier::{Copier, is_too_long};
 use arrayvec::ArrayVec;
 use dcm_base::{
-    DeviceOut, Form, Length, Syntax, Tag, Vr, Watched, WriteFailed, form_of, put_all, read_as,
+    DeviceOut, Form, Length, Syntax, Tag, Vr, Watched, WriteFailed, form_of, put_array, read_as,
 };
 use dcm_head::{Head, LONG_HEAD, element_head, plain_head, put_element_head};
 use dcm_stream::{Skip, Token};
@@ -96,7 +96,7 @@ fn put_plain<W: DeviceOut>(
 ) -> Result<(), WriteFailed>
     ensures { Wrote W.DeviceOut out.old out.new (recode.plain_head target tag length) result }
 {
-    put_all(out, &plain_head(target, tag, length))
+    put_array(out, &plain_head(target, tag, length))
 }
 
 /// Writes the head of an item of undefined length. This and both delimiters have a function each, in which tag and length
