@@ -1,18 +1,18 @@
--- What a binary search finds among rows whose numbers ascend, and that those of the table do.
-use Rattle.std.proofs.Common.{◌≡◌, ℕ, zero, suc, ◌+◌, ◌<◌, ◌≤◌, Bool, true, false, ◌&&◌, ◌==◌, if◌then◌else◌, nat_lt, List, [], ◌∷◌, length, map, get_or, Option, Some, None, option_map, Bor, refl, sym, ap, subst, arith}
+-- Rows whose numbers ascend and are at the places of their remainders, as those of the tables are, and what is found of them.
+use Rattle.std.proofs.Common.{◌≡◌, ℕ, zero, suc, ◌+◌, ◌<◌, Bool, true, false, ◌&&◌, ◌==◌, if◌then◌else◌, nat_lt, List, [], ◌∷◌, length, map, get_or, Option, Some, None, option_map, Bor, refl, sym, ap, subst, arith, ◌∙◌, ◌%◌}
 use mathlib.Core.Bool.{false≢true}
-use Rattle.std.specs.List.{HoldsAt, slice_index}
-use Rattle.std.specs.List.Sorted.{IsStrictlyIncreasing, IsNonDecreasingBy, IsPartitionPoint}
-use Rattle.std.specs.Ordering.{nat_cmp, ordering_index}
-use Rattle.std.specs.declared.cmp.Ordering.TheVariants.{Less, Equal, Greater}
+use Rattle.std.specs.Prelude.{◌≢◌}
+use Rattle.std.specs.List.{slice_index}
+use Rattle.std.specs.List.Sorted.{IsStrictlyIncreasing}
 use Rattle.std.proofs.lemmas.Bool.Decides.{nat_tests}
-use Rattle.std.proofs.lemmas.Cmp.{ranked}
 use Rattle.std.proofs.lemmas.List.{get_or-map, length-map}
 use Rattle.std.proofs.lemmas.List.Kept.{AllPairs-from_increasing}
 use Rattle.std.proofs.lemmas.List.Recursion.{found_at, found_nowhere}
 use Rattle.dcm_base.specs.declared.vr.Vr.{Vr}
 use Rattle.dcm_base.specs.declared.vr.Vr.TheVariants.{AE}
-use Rattle.dcm_base.specs.Tables.Dictionary.{Element, elements, ambiguous, numbered}
+use Rattle.dcm_base.specs.Tables.Dictionary.{Element, elements, ambiguous, numbered, are_placed}
+use Rattle.dcm_base.specs.declared.dictionary.extract.TheConstants.{PLACES}
+use Rattle.dcm_base.specs.declared.dictionary.ambiguous.TheConstants.{PLACES as AMBIGUOUS_PLACES}
 
 abbrev pub Row : Type 0
 Row = ℕ × Vr × Bor (List ℕ)
@@ -77,6 +77,45 @@ rows_ascend = rows_of_ascend elements numbers_ascend
 pub ambiguous_rows_ascend : (rows : List Row) → map element_of rows ≡ ambiguous → IsStrictlyIncreasing (map (λ r. r.0) rows)
 ambiguous_rows_ascend = rows_of_ascend ambiguous ambiguous_numbers_ascend
 
+-- the first of them is at its place
+first_placed : (a i : ℕ) (b : Bool) → (a == i) && b ≡ true → a ≡ i
+first_placed a i b p = grind (arith, nat_tests)
+
+-- and so is each
+placed_at : (places : List ℕ) (n i : ℕ) (ns : List ℕ) → are_placed places i ns ≡ true → (k : ℕ) → k < length ns → get_or ns k 0 ≡ n → slice_index places (n % length places) ≡ i + k
+placed_at places n i [] p k within same = absurd (omega arith)
+placed_at places n i (x ∷ ns) p zero within same =
+    let here : slice_index places (x % length places) ≡ i = first_placed _ i _ p in
+    let there : slice_index places (n % length places) ≡ i = subst (λ m. slice_index places (m % length places) ≡ i) same here in
+    omega (arith, there)
+placed_at places n i (x ∷ ns) p (suc k) within same =
+    let next : slice_index places (n % length places) ≡ (i + 1) + k = placed_at places n (i + 1) ns (rest_passes _ _ p) k (omega arith) same in
+    let along : (i + 1) + k ≡ i + suc k = omega arith in
+    next ∙ along
+
+-- the numbers of both tables are
+numbers_placed : are_placed PLACES 0 (map (λ e. e.0) elements) ≡ true
+unfolding elements
+numbers_placed = refl
+
+ambiguous_numbers_placed : are_placed AMBIGUOUS_PLACES 0 (map (λ e. e.0) ambiguous) ≡ true
+unfolding ambiguous
+ambiguous_numbers_placed = refl
+
+rows_of_placed : (table : List Element) (places : List ℕ) → are_placed places 0 (map (λ e. e.0) table) ≡ true → (rows : List Row) → map element_of rows ≡ table → are_placed places 0 (map (λ r. r.0) rows) ≡ true
+rows_of_placed table places placed rows is =
+    subst (λ ns. are_placed places 0 ns ≡ true) (same_numbers rows) (subst (λ es. are_placed places 0 (map (λ e. e.0) es) ≡ true) (sym is) placed)
+
+pub rows_placed : (rows : List Row) → map element_of rows ≡ elements → are_placed PLACES 0 (map (λ r. r.0) rows) ≡ true
+rows_placed = rows_of_placed elements PLACES numbers_placed
+
+pub ambiguous_rows_placed : (rows : List Row) → map element_of rows ≡ ambiguous → are_placed AMBIGUOUS_PLACES 0 (map (λ r. r.0) rows) ≡ true
+ambiguous_rows_placed = rows_of_placed ambiguous AMBIGUOUS_PLACES ambiguous_numbers_placed
+
+-- a number that another is not
+not_here : (a b : ℕ) → (a ≡ b → (a == b) ≡ false) → (a == b) ≡ false
+not_here a b other = grind (arith, nat_tests, other)
+
 module _ (n : ℕ) where
   abbrev has_number : Row → Bool
   has_number r = r.0 == n
@@ -104,23 +143,21 @@ module _ (n : ℕ) where
         let none_before : (k : ℕ) → k < i → has_number (get_or rows k d) ≡ false = λ k lt. let less = earlier k i d lt within in grind (arith, nat_tests) in
         found_at look_up has_number (λ r. Some (answer_of r)) None refl looks_on rows i d within none_before (grind (arith, nat_tests))
 
-    -- so is one that a search finds
-    pub found : (i : ℕ) (d : Row) → i < length rows → HoldsAt (λ (r : Row). nat_cmp r.0 n ≡ Equal) rows i → look_up rows ≡ Some (answer_of (get_or rows i d))
-    found i d within here = found_at_place i d within (ranked _ n _ (sym (here d)))
+    -- a row that has the number is at the place of its remainder
+    has_place : (places : List ℕ) → are_placed places 0 (map (λ r. r.0) rows) ≡ true → (k : ℕ) → k < length rows → (get_or rows k no_row).0 ≡ n → slice_index places (n % length places) ≡ k
+    has_place places placed k within same =
+        let long : length (map (λ r. r.0) rows) ≡ length rows = length-map rows (λ r. r.0) in
+        let mapped : get_or (map (λ r. r.0) rows) k 0 ≡ (get_or rows k no_row).0 = get_or-map (λ (r : Row). r.0) rows k no_row 0 within in
+        let whole : slice_index places (n % length places) ≡ 0 + k = placed_at places n 0 (map (λ r. r.0) rows) placed k (omega arith) (mapped ∙ same) in
+        omega (arith, whole)
 
-    -- the comparisons with the number rise along the rows, as a binary search asks
-    comparisons_rise : IsNonDecreasingBy (λ (r : Row). ordering_index (nat_cmp r.0 n)) rows
-    comparisons_rise i j d le within =
-        let rise : (get_or rows i d).0 ≤ (get_or rows j d).0 = grind (arith, earlier i j d, λ (same : i ≡ j). ap (λ k. (get_or rows k d).0) same) in
-        grind (arith, nat_tests)
-
-    -- between smaller numbers and greater ones no row has the number
-    in_gap : (i : ℕ) → IsPartitionPoint (λ (r : Row). nat_cmp r.0 n ≡ Less) (λ (r : Row). nat_cmp r.0 n ≡ Greater) rows i → (k : ℕ) → k < length rows → has_number (get_or rows k no_row) ≡ false
-    in_gap i gap k within =
-        let below : k < i → (get_or rows k no_row).0 < n = λ lt. ranked _ n _ (sym (gap.0 k no_row (omega arith) lt)) in
-        let above : i ≤ k → n < (get_or rows k no_row).0 = λ le. ranked _ n _ (sym (gap.1 k no_row le within)) in
-        grind (arith, nat_tests)
-
-    -- where the search ends between two rows, none has the number
-    pub missed : (i : ℕ) → (IsNonDecreasingBy (λ (r : Row). ordering_index (nat_cmp r.0 n)) rows → IsPartitionPoint (λ (r : Row). nat_cmp r.0 n ≡ Less) (λ (r : Row). nat_cmp r.0 n ≡ Greater) rows i) → look_up rows ≡ None
-    missed i parted = found_nowhere look_up has_number (λ r. Some (answer_of r)) None refl looks_on rows no_row (in_gap i (parted comparisons_rise))
+    -- so where the row at that place does not have it, or there is none, no row has it
+    pub missed_at_place : (places : List ℕ) (at : ℕ) → are_placed places 0 (map (λ r. r.0) rows) ≡ true → at ≡ slice_index places (n % length places) → (at < length rows → (get_or rows at no_row).0 ≢ n) → look_up rows ≡ None
+    missed_at_place places at placed is other =
+        let none : (k : ℕ) → k < length rows → has_number (get_or rows k no_row) ≡ false =
+        λ k within. not_here _ _ (λ same.
+        let here : at ≡ k = is ∙ has_place places placed k within same in
+        let there : (get_or rows at no_row).0 ≡ n = subst (λ j. (get_or rows j no_row).0 ≡ n) (sym here) same in
+        absurd (other (omega (arith, here, within)) there))
+        in
+        found_nowhere look_up has_number (λ r. Some (answer_of r)) None refl looks_on rows no_row none

@@ -1,7 +1,7 @@
 -- The data dictionary (PS3.6 section 6), and the extract of it.
 use Rattle.std.specs.Prelude.{◌≡◌, ℕ, ◌+◌, Bool, true, false, ◌&&◌, ◌==◌, nat_le, if◌then◌else◌, List, map, find}
-use Rattle.std.specs.Prelude.{length, codes, Option, Some, None, option_map, bytes_eq}
-use Rattle.std.specs.List.{slice_range, list_all}
+use Rattle.std.specs.Prelude.{[], ◌∷◌, ◌%◌, length, codes, Option, Some, None, option_map, bytes_eq}
+use Rattle.std.specs.List.{slice_index, slice_range, list_all}
 use Rattle.std.specs.Option.{option_map_or}
 use Rattle.dcm_base.specs.declared.tag.Tag.{Tag}
 use Rattle.dcm_base.specs.declared.vr.Vr.{Vr}
@@ -23,6 +23,11 @@ elements = map (λ e. (e.0, e.1, e.2.now)) ELEMENTS
 -- the value representation and the keyword of a number
 abbrev pub numbered : List Element → ℕ → Option (Vr × List ℕ)
 numbered es n = option_map (λ e. (e.1, e.2)) (find (λ e. e.0 == n) es)
+
+-- of these numbers, the first of which has this index, each has its index at the place of its remainder
+abbrev pub are_placed : List ℕ → ℕ → List ℕ → Bool
+are_placed places i [] = true
+are_placed places i (n ∷ ns) = (slice_index places (n % length places) == i) && are_placed places (i + 1) ns
 
 -- the number that has a keyword
 abbrev pub called : List Element → List ℕ → Option ℕ

@@ -60,7 +60,7 @@ pub const AMBIGUOUS: [(u32, Vr, &str); 33] = [
     (0x5400_1010, Vr::OW, "WaveformData"),
 ];
 
-/// A guess at the row of a number in `AMBIGUOUS`, by its remainder. No two numbers of the table have the same.
+/// The row of each number of `AMBIGUOUS`, by its remainder. No two numbers of the table have the same.
 #[rattlefmt::skip]
 const PLACES: [u16; 172] = [
     32, 0, 0, 0, 0, 0, 3, 0, 0, 0, 0, 0, 0, 0, 0, 0, 0, 0, 0, 0, 0, 0, 0, 0, 0, 0, 0, 0, 0, 0, 0, 0, 0, 0, 0, 0, 0, 0,

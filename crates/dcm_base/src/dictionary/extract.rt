@@ -1,4 +1,4 @@
-ghost use Rattle.std.specs.Prelude.{◌≡◌, ◌<◌, length, map, option_map};
+ghost use Rattle.std.specs.Prelude.{◌≡◌, ◌<◌, true, length, map, option_map};
 ghost use Rattle.std.specs.List.Sorted.{IsStrictlyIncreasing};
 ghost use Rattle.dcm_base.specs.Tables.Dictionary as spec;
 ghost use Rattle.dcm_base.specs.declared.dictionary.Dictionary.TheVariants.{Extract};
@@ -104,7 +104,7 @@ pub const ELEMENTS: [(u32, Vr, &str); 90] = [
     (0x7FE0_0010, Vr::OW, "PixelData"),
 ];
 
-/// A guess at the row of a number in `ELEMENTS`, by its remainder. No two numbers of the table have the same.
+/// The row of each number of `ELEMENTS`, by its remainder. No two numbers of the table have the same.
 #[rattlefmt::skip]
 const PLACES: [u16; 583] = [
     0, 0, 0, 0, 0, 0, 0, 0, 0, 0, 53, 0, 42, 0, 0, 0, 0, 0, 0, 0, 0, 0, 0, 0, 0, 0, 54, 0, 0, 0, 0, 0, 0, 0, 0, 0, 0,
@@ -136,22 +136,20 @@ fn rows() -> &'static [Row]
     &ELEMENTS
 }
 
-/// The first row that has the number, where the numbers ascend. The places are a guess by its remainder, which saves
-/// the search where it is right.
+/// The first row that has the number, where the numbers ascend. The places say by its remainder which row that is. So
+/// no search is needed to know that there is none, as for many elements of a file.
 #[inline(always)]
 pub(super) fn numbered(rows: &[Row], places: &[u16], number: u32) -> Option<(Vr, &'static str)>
     requires ascending { IsStrictlyIncreasing (map (λ r. r.0) rows.now) }
     requires places { 0 < length places.now }
+    requires placed { spec.are_placed places.now 0 (map (λ r. r.0) rows.now) ≡ true }
     ensures { option_map (λ r. (r.0, r.1.now)) result ≡ spec.numbered (map (λ r. (r.0, r.1, r.2.now)) rows.now) number }
 {
     let at = usize::from(places[number as usize % places.len()]);
     if at < rows.len() && rows[at].0 == number {
         return Some((rows[at].1, rows[at].2));
     }
-    match rows.binary_search_by_key(&number, |row| row.0) {
-        Ok(at) => Some((rows[at].1, rows[at].2)),
-        Err(_) => None,
-    }
+    None
 }
 
 /// The number in the first row that has the keyword.
