@@ -3,3 +3,4 @@ pub mod Explicit
 pub mod Reads
 pub mod Laws
 pub mod Written
+pub mod Turned

@@ -13,22 +13,29 @@ use dcm_base::{DeviceOut, Length, Syntax, Tag, Watched, WriteFailed, put_array};
 /// The bytes of a head.
 type HeadBytes = ArrayVec<u8, LONG_HEAD>;
 
+/// The bytes of a number. It is turned round as a whole before it is taken apart, so that the compiler sees the bytes of
+/// one number, and a head of them as a few shifts; to choose between bytes costs a choice for each.
+#[tactic(auto, using(crate::proofs::Heads::Turned::short_turned))]
 fn short_bytes(syntax: Syntax, number: u16) -> [u8; 2]
     ensures { result ≡ recode.number_bytes syntax w16 number }
 {
-    match syntax {
-        Syntax::Implicit(_) | Syntax::Little(_) => number.to_le_bytes(),
-        Syntax::Big(_) => number.to_be_bytes(),
-    }
+    let short = match syntax {
+        Syntax::Implicit(_) | Syntax::Little(_) => number,
+        Syntax::Big(_) => number.swap_bytes(),
+    };
+    short.to_le_bytes()
 }
 
+/// The same of a longer number.
+#[tactic(auto, using(crate::proofs::Heads::Turned::long_turned))]
 fn long_bytes(syntax: Syntax, number: u32) -> [u8; 4]
     ensures { result ≡ recode.number_bytes syntax w32 number }
 {
-    match syntax {
-        Syntax::Implicit(_) | Syntax::Little(_) => number.to_le_bytes(),
-        Syntax::Big(_) => number.to_be_bytes(),
-    }
+    let long = match syntax {
+        Syntax::Implicit(_) | Syntax::Little(_) => number,
+        Syntax::Big(_) => number.swap_bytes(),
+    };
+    long.to_le_bytes()
 }
 
 fn length_number(length: Length) -> u32
