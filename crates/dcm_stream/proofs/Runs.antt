@@ -9,4 +9,5 @@ pub mod Inputs
 pub mod Left
 pub mod Skipped
 pub mod Tokens
+pub mod Wholes
 pub mod Taking

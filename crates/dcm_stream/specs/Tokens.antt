@@ -3,6 +3,10 @@ use Rattle.std.specs.Prelude.{◌≡◌, ℕ, ◌<◌, length, List, [], ◌∷�
 use Rattle.dcm_base.specs.Steps.Atoms.{Atom, opens, value_byte, closes_leaf, opens_item, closes_item, closes_sequence}
 use Rattle.dcm_base.specs.Steps.Atoms.{opens_fragment, ends}
 use Rattle.dcm_base.specs.declared.length.Length.TheVariants.{Known}
+use Rattle.dcm_base.specs.declared.form.Form.TheVariants.{Value as a_value}
+use Rattle.dcm_base.specs.declared.syntax.Syntax.{Syntax}
+use Rattle.dcm_base.specs.Bytes.Spelling.{form, read_as}
+use Rattle.dcm_head.specs.declared.head.Head.{Head}
 use Rattle.dcm_base.specs.Tables.Syntax.{Little}
 use Rattle.dcm_base.specs.declared.tag.Tag.{Tag}
 use Rattle.dcm_base.specs.declared.vr.Vr.{Vr}
@@ -28,6 +32,14 @@ leaf_atoms tag vr value = opens tag vr (Known (length value)) Little ∷ (map va
 
 abbrev pub fragment_atoms : List ℕ → List Atom
 fragment_atoms value = opens_fragment (length value) ∷ (map value_byte value ++ closes_leaf ∷ [])
+
+-- an element with its whole value, and the head of one
+abbrev pub whole_atoms : Head → Syntax → List ℕ → List Atom
+whole_atoms head syntax value = opens head.tag head.vr head.length syntax ∷ (map value_byte value ++ closes_leaf ∷ [])
+
+pub record IsLeaf (head : Head) (syntax : Syntax) (value : List ℕ) : Type 0 where
+  pub length_is : head.length ≡ Known (length value)
+  pub form_is : form syntax (read_as syntax head.tag head.vr) head.length ≡ a_value
 
 -- bytes of a value in a token are at least one byte
 abbrev pub IsFilled : Token → Type 0

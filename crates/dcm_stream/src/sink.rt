@@ -5,10 +5,10 @@ ghost use Rattle.dcm_base.specs.Steps.Atoms.{Atom};
 ghost use Rattle.dcm_stream.specs.declared.token.Bar.{Bar};
 ghost use Rattle.dcm_head.specs.declared.head.Head.{Head};
 ghost use Rattle.dcm_base.specs.Steps.Steps.{outputs};
-ghost use Rattle.dcm_stream.specs.Tokens.{atoms_of, Bars, IsFilled};
+ghost use Rattle.dcm_stream.specs.Tokens.{atoms_of, whole_atoms, Bars, IsFilled, IsLeaf};
 
 use super::{Bar, Token};
-use dcm_base::WriteFailed;
+use dcm_base::{Syntax, WriteFailed};
 use dcm_head::Head;
 
 /// What takes tokens, one after another.
@@ -47,6 +47,26 @@ pub trait Sink {
             (outputs step writes (state self.old) (atoms_of token.entry)) result }
         ensures failed { Tells (has_failed self.old) (has_failed self.new) result }
         ensures kept { kept self.new ≡ kept self.old };
+
+    /// Takes an element whose value is whole: its head, its bytes and its end, as `take` does one after another. Most
+    /// elements come so. A sink whose state stays the same over one, or that needs less to be held for it, has a shorter
+    /// way in a body of its own.
+    #[inline(always)]
+    fn take_whole(&mut self, head: Head, syntax: Syntax, value: &[u8]) -> Result<(), WriteFailed>
+        requires { IsLeaf head syntax value.now }
+        ensures state { OnOk result (state self.new
+            ≡ fold step (state self.old) (whole_atoms head syntax value.now)) }
+        ensures bytes { Puts (contents self.old) (contents self.new)
+            (outputs step writes (state self.old) (whole_atoms head syntax value.now)) result }
+        ensures failed { Tells (has_failed self.old) (has_failed self.new) result }
+        ensures kept { kept self.new ≡ kept self.old }
+    {
+        self.take(Token::Open(head, syntax))?;
+        if !value.is_empty() {
+            self.take(Token::Bytes(value))?;
+        }
+        self.take(Token::CloseLeaf)
+    }
 
     /// Whether it takes an element with this head.
     fn accepts(&self, head: &Head) -> Result<(), Bar>
