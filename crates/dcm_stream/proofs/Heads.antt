@@ -7,3 +7,5 @@ pub mod Entered
 pub mod HeadBytes
 pub mod WholeHeads
 pub mod PieceHeads
+pub mod WholeLeaves
+pub mod PieceLeaves

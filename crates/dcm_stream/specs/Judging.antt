@@ -1,9 +1,9 @@
 -- What a head leads to: a fault, the want of more bytes, or what it opens or closes.
 use Rattle.std.specs.Prelude.{◌≡◌, ◌⊎◌, ℕ, ◌+◌, List, length, drop, Bool, true, false, ◌&&◌, ◌==◌, nat_le}
-use Rattle.std.specs.Prelude.{if◌then◌else◌, Option, Some, None, option_map, MatchOption, Result, Ok, Err}
+use Rattle.std.specs.Prelude.{if◌then◌else◌, Option, Some, None, option_map, MatchOption, Result, Ok, Err, ⊤}
 use Rattle.dcm_base.specs.declared.syntax.Syntax.{Syntax}
 use Rattle.dcm_base.specs.declared.length.Length.{Length}
-use Rattle.dcm_base.specs.declared.length.Length.TheVariants.{Undefined}
+use Rattle.dcm_base.specs.declared.length.Length.TheVariants.{Known, Undefined}
 use Rattle.dcm_base.specs.declared.form.Form.{Form}
 use Rattle.dcm_base.specs.declared.form.Form.TheVariants.{Value as a_value, Nothing as no_form}
 use Rattle.dcm_base.specs.declared.level.Container.{Container}
@@ -65,6 +65,20 @@ opened_by begin levels (opening.Item s declared) =
 opened_by begin levels (opening.Fragment size) = value_opens levels None (opens_fragment size) size
 opened_by begin levels (opening.End container) = without_value (drop 1 levels) (closes container)
 
+-- what follows the head of an element
+abbrev pub head_form : Syntax → Head → Form
+head_form s head = form s (read_as s head.tag head.vr) head.length
+
+-- the head of an element with a value is of that form, and tells its size
+abbrev pub IsSized : Opening → Type 0
+IsSized (opening.Leaf head s size) = (head_form s head ≡ a_value) × (head.length ≡ Known size)
+IsSized _ = ⊤
+
+-- where bytes open something, that is so
+abbrev pub OpensSized : Judged → Type 0
+OpensSized (judged.Opens o size) = IsSized o
+OpensSized _ = ⊤
+
 -- it opens a value or fragment of so many bytes
 abbrev pub OpensValue : Opening → (size : ℕ) → Type 0
 OpensValue (opening.Leaf head s n) size = n ≡ size
@@ -104,10 +118,6 @@ item_fault container declared room =
 abbrev pub or_fault : Option Fault → Option Fault → Option Fault
 or_fault None later = later
 or_fault (Some fault) later = Some fault
-
--- what follows the head of an element
-abbrev pub head_form : Syntax → Head → Form
-head_form s head = form s (read_as s head.tag head.vr) head.length
 
 -- why an element with this head of so many bytes is refused
 abbrev pub element_fault : HeadBar → Syntax → List Level → (position : ℕ) → Head → (size : ℕ) → Option Fault

@@ -12,3 +12,4 @@ pub mod Driven
 pub mod Sinks
 pub mod Skip
 pub mod Laws
+pub mod WholeLeaf

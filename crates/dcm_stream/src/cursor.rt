@@ -6,6 +6,7 @@ ghost use Rattle.dcm_stream.specs.Tokens.{IsFilled, atoms_of};
 ghost use Rattle.dcm_stream.specs.Reading as steps;
 ghost use Rattle.dcm_stream.specs.Machine as spec;
 ghost use Rattle.dcm_stream.specs.Sinks as sinks;
+ghost use Rattle.dcm_stream.specs.WholeLeaf as whole;
 ghost use Rattle.dcm_base.specs.Reading.Reads as reads;
 
 use super::close::{close_full, closing_token};
@@ -13,6 +14,7 @@ use super::judge::{Judged, Opening, judge, syntax_inside};
 use super::levels::{OpenLevels, level_at, passes};
 use super::machine::INPUT_LIMIT;
 use super::sign::OpenSign;
+use super::whole_leaf::{WholeLeaf, whole_leaf};
 use super::{Halt, Sink, Token};
 use arrayvec::ArrayVec;
 use dcm_base::{Container, Fault, Length, Level, Stop, Stopped, Syntax, Vr};
@@ -253,7 +255,30 @@ impl Cursor {
         }
     }
 
-    /// Reads the head that the bytes begin with, or all of them where that is not whole.
+    /// Reads an element whose head is before this place and whose value is whole. Nearly all elements are such: a call
+    /// of the sink takes head, bytes and end together, and no count of bytes to come is kept.
+    #[inline(always)]
+    fn read_leaf<S: Sink>(
+        &mut self,
+        opening: Opening,
+        leaf: WholeLeaf<'_>,
+        sink: &mut S,
+    ) -> Result<(), Halt>
+        requires head { self.old.head.items ≡ [] }
+        requires left { self.old.left ≡ 0 }
+        requires leaf { whole.IsWhole opening leaf }
+        requires within { self.old.position + length leaf.value.now ≤ reads.INPUT_LIMIT }
+        ensures { sinks.Came S.Sink sink.old sink.new (spec.reading self.new)
+            (whole.reads_leaf self.old leaf.entry) result }
+    {
+        sink.take_whole(leaf.head, leaf.syntax, leaf.value)?;
+        self.position += leaf.value.len() as u64;
+        self.begin_sign(opening);
+        self.settle(sink)
+    }
+
+    /// Reads the head that the bytes begin with, and its value where that is whole too, or all of the bytes where not even
+    /// the head is.
     #[inline(always)]
     fn read_head<S: Sink>(&mut self, bytes: &[u8], sink: &mut S) -> Result<usize, Halt>
         requires stands { spec.Stands (spec.reading self.old None) }
@@ -275,8 +300,13 @@ impl Cursor {
             Judged::Refused(fault) => Err(refused(fault, self.position)),
             Judged::Opens(opening, size) => {
                 self.position += size as u64;
-                self.enter(opening, sink)?;
-                Ok(size)
+                let (_, rest) = bytes.split_at(size);
+                let Some(leaf) = whole_leaf(opening, rest) else {
+                    self.enter(opening, sink)?;
+                    return Ok(size);
+                };
+                self.read_leaf(opening, leaf, sink)?;
+                Ok(size + leaf.value.len())
             }
         }
     }

@@ -1,5 +1,5 @@
 // What a head leads to: a fault, the want of more bytes, or what it opens or closes.
-ghost use Rattle.std.specs.Prelude.{◌≡◌, ◌+◌, ◌≤◌, ◌∷◌, [], length, false, option_map};
+ghost use Rattle.std.specs.Prelude.{◌≡◌, ◌+◌, ◌≤◌, ◌∷◌, [], length, false, option_map, IfSome, IfOk};
 ghost use Rattle.dcm_stream.specs.Places.{innermost};
 ghost use Rattle.dcm_base.specs.Reading.Place as place;
 ghost use Rattle.dcm_base.specs.Reading.Reads.{INPUT_LIMIT};
@@ -71,7 +71,9 @@ pub fn syntax_inside(syntax: Syntax, vr: Vr) -> Syntax
 
 /// What an element opens, or nothing where its length may not be undefined.
 fn element_opening(form: Form, syntax: Syntax, head: Head) -> Option<Opening>
-    ensures { spec.OpensElement form syntax head result }
+    requires { form ≡ spec.head_form syntax head }
+    ensures opens { spec.OpensElement form syntax head result }
+    ensures sized { IfSome result spec.IsSized }
 {
     match (form, head.length) {
         (Form::Value, Length::Known(size)) => Some(Opening::Leaf(head, syntax, size)),
@@ -91,7 +93,8 @@ fn judge_shape(
     levels: &OpenLevels,
 ) -> Result<Opening, Fault>
     requires { size ≤ INPUT_LIMIT }
-    ensures { spec.JudgesShape syntax head size (place.room position levels.now) (place.depth levels.now) result }
+    ensures judges { spec.JudgesShape syntax head size (place.room position levels.now) (place.depth levels.now) result }
+    ensures sized { IfOk result spec.IsSized }
 {
     let room = levels.room(position);
     if passes(size, room) {
@@ -131,7 +134,9 @@ fn judge_element<S: Sink>(
     sink: &S,
 ) -> Result<Opening, Fault>
     requires { size ≤ INPUT_LIMIT }
-    ensures { spec.JudgesElement (spec.bars_head S.bar (S.state sink.now)) syntax levels.now position head size result }
+    ensures judges { spec.JudgesElement (spec.bars_head S.bar (S.state sink.now)) syntax levels.now position head size
+        result }
+    ensures sized { IfOk result spec.IsSized }
 {
     let opening = judge_shape(syntax, head, size, position, levels)?;
     if let Err(bar) = sink.accepts(&head) {
@@ -142,7 +147,8 @@ fn judge_element<S: Sink>(
 
 /// What an item in this container opens, or nothing where its length may not be undefined.
 fn item_opening(inner: Level, declared: Length) -> Option<Opening>
-    ensures { spec.OpensItem inner declared result }
+    ensures opens { spec.OpensItem inner declared result }
+    ensures sized { IfSome result spec.IsSized }
 {
     if inner.container != Container::FragmentList {
         return Some(Opening::Item(inner.syntax, declared));
@@ -155,7 +161,8 @@ fn item_opening(inner: Level, declared: Length) -> Option<Opening>
 
 /// What an item of this length opens, or why it is refused.
 fn judge_item(inner: Level, declared: Length, room: Option<u64>) -> Result<Opening, Fault>
-    ensures { spec.JudgesItem inner declared room result }
+    ensures judges { spec.JudgesItem inner declared room result }
+    ensures sized { IfOk result spec.IsSized }
 {
     let Some(opening) = item_opening(inner, declared) else {
         return Err(Fault::UndefinedLength);
@@ -177,7 +184,9 @@ fn judge_head<S: Sink>(
     sink: &S,
 ) -> Result<Opening, Fault>
     requires { size ≤ INPUT_LIMIT }
-    ensures { spec.JudgesHead (spec.bars_head S.bar (S.state sink.now)) inner levels.now position head size result }
+    ensures judges { spec.JudgesHead (spec.bars_head S.bar (S.state sink.now)) inner levels.now position head size
+        result }
+    ensures sized { IfOk result spec.IsSized }
 {
     if head.tag.group != ITEM_GROUP {
         return judge_element(inner.syntax, levels, position, head, size, sink);
@@ -201,7 +210,8 @@ pub fn judge<S: Sink>(
     requires within { position + length bytes.now ≤ INPUT_LIMIT }
     requires inner { innermost levels.now ≡ Some inner }
     requires room { place.passes 8 (place.room position levels.now) ≡ false }
-    ensures { spec.Judges (spec.bars_head S.bar (S.state sink.now)) inner levels.now position bytes.now result }
+    ensures judges { spec.Judges (spec.bars_head S.bar (S.state sink.now)) inner levels.now position bytes.now result }
+    ensures sized { spec.OpensSized result }
 {
     let tag = read_tag(inner.syntax, bytes);
     if !is_allowed(inner.container, inner.declared, tag) {

@@ -27,6 +27,7 @@ mod sink;
 mod skip;
 mod taking;
 mod token;
+mod whole_leaf;
 
 pub use machine::{Halt, INPUT_LIMIT, Machine};
 pub use sink::Sink;
