@@ -2,6 +2,7 @@
 pub mod Turned
 pub mod Copies
 pub mod Dropping
+pub mod Wholes
 pub mod EvenLengths
 pub mod Values
 pub mod DataSets

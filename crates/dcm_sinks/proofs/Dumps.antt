@@ -5,6 +5,7 @@ pub mod OpenValues
 pub mod Brackets
 pub mod ValueLines
 pub mod ValueRuns
+pub mod WholeLines
 pub mod OpenLists
 pub mod DataSets
 pub mod MetaLines

@@ -4,6 +4,7 @@ pub mod DumpSink
 pub mod EncodeSink
 pub mod Copier
 pub mod Encoder
+pub mod Wholes
 pub mod Lines
 pub mod Laws
 pub mod Conversion

@@ -11,7 +11,7 @@ mod lines;
 mod list_lines;
 
 use crate::dump::lines::Lines;
-use dcm_base::{DeviceOut, Dictionary, Mode, Watched, WriteFailed};
+use dcm_base::{DeviceOut, Dictionary, Mode, Syntax, Watched, WriteFailed};
 use dcm_head::Head;
 use dcm_stream::{Bar, Sink, Token};
 pub use header::{dump_header, dump_header_with, set_header};
@@ -72,6 +72,11 @@ impl<'w, W: DeviceOut> Sink for DumpSink<'w, W> {
     #[inline(always)]
     fn take(&mut self, token: Token) -> Result<(), WriteFailed> {
         self.lines.take(self.out, token)
+    }
+
+    #[inline(always)]
+    fn take_whole(&mut self, head: Head, syntax: Syntax, value: &[u8]) -> Result<(), WriteFailed> {
+        self.lines.take_whole(self.out, head, syntax, value)
     }
 
     fn accepts(&self, _head: &Head) -> Result<(), Bar> {

@@ -62,6 +62,11 @@ impl<'w, W: DeviceOut> Sink for EncodeSink<'w, W> {
         self.encoder.take(self.out, token)
     }
 
+    #[inline(always)]
+    fn take_whole(&mut self, head: Head, syntax: Syntax, value: &[u8]) -> Result<(), WriteFailed> {
+        self.encoder.take_whole(self.out, head, syntax, value)
+    }
+
     fn accepts(&self, head: &Head) -> Result<(), Bar> {
         if self.encoder.holds_fragments() {
             return Ok(());

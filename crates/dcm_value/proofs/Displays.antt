@@ -9,6 +9,7 @@ pub mod Openings
 pub mod Endings
 pub mod Written
 pub mod TextLaws
+pub mod Wholes
 pub mod WholeUnits
 pub mod TextSteps
 pub mod UpperDigits

@@ -5,6 +5,7 @@ pub mod Display
 pub mod Plain
 pub mod Way
 pub mod Progress
+pub mod Whole
 pub mod Shown
 pub mod ValueText
 pub mod Laws

@@ -53,7 +53,7 @@ fn fill(front: &mut ArrayVec<u8, 66>, bytes: &[u8])
 
 /// Spaces after so many bytes, up to 40.
 #[tactic(auto, using(crate::proofs::Displays::Facts::spaces))]
-fn append_spaces<const N: usize>(shown: usize, line: &mut ArrayVec<u8, N>)
+pub fn append_spaces<const N: usize>(shown: usize, line: &mut ArrayVec<u8, N>)
     requires { length line.old.items + (40 - shown) ≤ N }
     ensures items { line.new.items ≡ line.old.items ++ replicate (40 - shown) 32 }
     ensures len { length line.new.items ≡ length line.old.items + (40 - shown) }

@@ -26,6 +26,7 @@ mod unit_buffer;
 mod units;
 mod value_text;
 mod way;
+mod whole;
 
 pub use dcm_base::Mode;
 pub use digits::unescape;
@@ -37,3 +38,4 @@ pub use unit_buffer::{UnitBuffer, Units};
 pub use units::{LONGEST, digits as byte_digits, shown_unit, unit_text};
 pub use value_text::ValueText;
 pub use way::takes_bytes;
+pub use whole::append_whole;

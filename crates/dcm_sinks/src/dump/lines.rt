@@ -12,6 +12,8 @@ ghost use Rattle.dcm_sinks.specs.Encoder.{opening};
 ghost use Rattle.dcm_value.specs.Progress as progress;
 ghost use Rattle.dcm_value.specs.ValueText.{progress as text_progress};
 
+mod whole;
+
 use crate::dump::layout::{Line, begin_line, put_line, put_line_start, put_rest};
 use crate::dump::lengths::Lengths;
 use crate::dump::list_lines::{put_item_end_line, put_item_line, put_sequence_end_line};

@@ -6,6 +6,7 @@ ghost use Rattle.dcm_base.specs.Conversion.Recode.{too_long as is_long_value};
 ghost use Rattle.dcm_base.specs.Tables.Representation.{unit};
 ghost use Rattle.dcm_base.specs.Tree.Value.{turned};
 ghost use Rattle.dcm_sinks.specs.EncodeSink as spec;
+ghost use Rattle.dcm_sinks.specs.Wholes.{copied_whole};
 
 use dcm_base::{DeviceOut, Syntax, Vr, Watched, WriteFailed, put_all};
 use dcm_value::{UnitBuffer, swap};
@@ -101,6 +102,28 @@ fn put_block<const N: usize, W: DeviceOut>(
     block.copy_from_slice(bytes);
     swap(vr.unit(), block);
     put_all(out, block)
+}
+
+/// Writes a value of this size from its first byte to its pad byte. Its copier lives no longer than this call, so that it is
+/// not stored in a state and loaded again, as that of a value that comes in pieces.
+#[inline(always)]
+pub fn put_value<W: DeviceOut>(
+    out: &mut Watched<W>,
+    source: Syntax,
+    target: Syntax,
+    vr: Vr,
+    size: u32,
+    value: &[u8],
+) -> Result<(), WriteFailed>
+    requires { size ≡ length value.now }
+    ensures { Wrote W.DeviceOut out.old out.new (copied_whole (spec.leaf_copy source target vr size) value.now) result }
+{
+    if value.is_empty() {
+        return Ok(());
+    }
+    let mut copier = Copier::of_leaf(source, target, vr, size);
+    copier.feed(value, out)?;
+    copier.close(out)
 }
 
 impl Copier {

@@ -11,12 +11,12 @@ ghost use Rattle.dcm_base.specs.declared.length.Length.TheVariants as lengths;
 ghost use Rattle.dcm_base.specs.declared.syntax.Syntax.{Syntax as AnySyntax};
 ghost use Rattle.dcm_base.specs.declared.vr.Vr.TheVariants as representations;
 ghost use Rattle.dcm_stream.specs.Skip.{depth};
-ghost use Rattle.dcm_stream.specs.Tokens.{atoms_of};
+ghost use Rattle.dcm_stream.specs.Tokens.{atoms_of, whole_atoms, IsLeaf};
 ghost use Rattle.dcm_head.specs.HeadBytes.{FitsShort};
 ghost use Rattle.dcm_head.specs.HeadRead.{is_delimiter as is_delimiter_tag};
 ghost use Rattle.dcm_sinks.specs.EncodeSink as spec;
 
-use crate::encode::copier::{Copier, is_too_long};
+use crate::encode::copier::{Copier, is_too_long, put_value};
 use arrayvec::ArrayVec;
 use dcm_base::{
     DeviceOut, Form, Length, Syntax, Tag, Vr, Watched, WriteFailed, form_of, put_array, read_as,
@@ -126,6 +126,7 @@ fn put_sequence_end<W: DeviceOut>(out: &mut Watched<W>, target: Syntax) -> Resul
 
 impl Encoder {
     ghost use Rattle.dcm_sinks.specs.Encoder.{Took, opened, opening, opening_writes, state};
+    ghost use Rattle.dcm_sinks.specs.Wholes.{without_value, leaf_writes};
 
     /// The beginning of a data set in this syntax.
     pub fn new(target: Syntax) -> Encoder
@@ -282,5 +283,47 @@ impl Encoder {
             return Ok(());
         }
         self.take_live(out, token)
+    }
+
+    /// Writes an element whose value is whole, of which this state then holds nothing.
+    #[inline(always)]
+    fn put_leaf<W: DeviceOut>(
+        &mut self,
+        out: &mut Watched<W>,
+        head: Head,
+        syntax: Syntax,
+        value: &[u8],
+    ) -> Result<(), WriteFailed>
+        requires { IsLeaf head syntax value.now }
+        ensures state { OnOk result (state self.new ≡ without_value (state self.old)) }
+        ensures wrote { Wrote W.DeviceOut out.old out.new (leaf_writes self.old.target head syntax value.now) result }
+    {
+        let size = value.len() as u32;
+        let written = written_head(self.target, head.tag, head.vr, size);
+        put_element_head(out, self.target, &written)?;
+        self.copier = None;
+        put_value(out, syntax, self.target, head.vr, size, value)
+    }
+
+    /// Writes an element whose value is whole, as `take` does by its head, its bytes and its end. Most elements come so, and
+    /// by one call the form of each is not asked again, and no copier waits in this state for the next token. What is left out
+    /// opens and closes at once.
+    #[inline(never)]
+    pub fn take_whole<W: DeviceOut>(
+        &mut self,
+        out: &mut Watched<W>,
+        head: Head,
+        syntax: Syntax,
+        value: &[u8],
+    ) -> Result<(), WriteFailed>
+        requires { IsLeaf head syntax value.now }
+        ensures { Took W.DeviceOut out.old out.new self.old self.new (whole_atoms head syntax value.now) result }
+    {
+        if self.skip.is_open() || head.tag.element == GROUP_LENGTH {
+            self.skip.open(true);
+            self.skip.close();
+            return Ok(());
+        }
+        self.put_leaf(out, head, syntax, value)
     }
 }

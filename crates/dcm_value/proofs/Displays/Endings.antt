@@ -24,7 +24,7 @@ long_ends d l =
     ∙ ap (λ zs. zs ++ codes "...") (take_front d l)
     ∙ sym (ap (λ b. padded (cond b cut d)) (lt-ltb 66 (length d) l) ∙ ap (λ k. cut ++ replicate k 32) full ∙ append-nil cut)
 
-short_ends : (d : List ℕ) → length d ≤ 66 → ending (emit (blank Short) d) ≡ padded (shortened Short d)
+pub short_ends : (d : List ℕ) → length d ≤ 66 → ending (emit (blank Short) d) ≡ padded (shortened Short d)
 unfolding emit
 short_ends d l =
     ap (λ b. cond b (take 63 (take 66 d) ++ codes "...") (padded (take 66 d))) (le-ltb 66 (min 67 (0 + length d)) (omega arith))

@@ -57,7 +57,7 @@ ends_in p init b e settled last =
     ∙ same_progress p _ _ _ _ _ _ _ _ (omega (arith, length-append init (b ∷ []))) refl (ap (λ k. p.values + k) (counted init b)) refl) in
     subst (Ends p (init ++ b ∷ [])) (last_escaped is_pad init b ∙ ap escaped (sym (without_last p.vr (p.size % 2 == 0) init b))) whole
 
-leads_end : (p : Progress) (v : List ℕ) → way p ≡ InBrackets → IsSettled p.display → p.seen + length v ≡ p.size
+pub leads_end : (p : Progress) (v : List ℕ) → way p ≡ InBrackets → IsSettled p.display → p.seen + length v ≡ p.size
     → Ends p v (escaped (without_pad p.vr (p.size % 2 == 0) v))
 leads_end p [] e settled last =
     let none : [] ≡ escaped (without_pad p.vr (p.size % 2 == 0) []) = sym (ap escaped (without_none (p.size % 2 == 0 && slice_index [] 0 == pad p.vr) [] refl)) in

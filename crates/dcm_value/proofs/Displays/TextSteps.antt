@@ -226,7 +226,7 @@ module _ (vr : Vr) (syntax : Syntax) (mode : Mode) where
           ∙ ap (λ x. padded (shortened mode x)) (sym (display_some vr (order syntax vr v) (omega (arith, length-order syntax vr v))))
 
   -- no bytes
-  unopened_none : opening (started vr syntax 0 mode) ≡ []
+  pub unopened_none : opening (started vr syntax 0 mode) ≡ []
   unopened_none = none (is_bracketed (way_of (shape vr) 0))
     where
       none : (t : Bool) → cond (t && (nat_lt 0 0 && true)) (codes "[") [] ≡ []

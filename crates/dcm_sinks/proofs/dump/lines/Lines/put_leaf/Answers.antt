@@ -1,0 +1,46 @@
+use Rattle.std.proofs.Common.{rules, refl, ap, ◌≡◌, ◌∙◌, List, ℕ, ◌++◌, [], length, OnOk, Result, Ok, Err}
+use Rattle.dcm_base.specs.Dump.Dump.{line_start}
+use Rattle.dcm_base.specs.Tables.Representation.{letters}
+use Rattle.dcm_devices.proofs.Writes.PartsOut.{parts_put}
+use Rattle.dcm_value.specs.Progress.{Progress, end_writes}
+use Rattle.dcm_value.specs.Whole.{whole}
+use Rattle.dcm_sinks.specs.DumpSink.{DumpState}
+use Rattle.dcm_sinks.specs.Layout.{line_rest}
+use Rattle.dcm_sinks.specs.Lines.{state, shows}
+use Rattle.dcm_stream.specs.Tokens.{whole_atoms}
+use Rattle.dcm_sinks.proofs.Dumps.WholeLines.{line_state, line_bytes}
+use Rattle.dcm_sinks.proofs.dump.lines.Lines.put_leaf.Goals as goal
+
+-- what holds in any case
+always : {T E : Type 0} (r : Result T E) (P : Type 0) → P → OnOk r P
+always (Ok x) P h = h
+always (Err x) P h = tt
+
+pub returns-clause-state : goal.returns-clause-state
+returns-clause-state g c =
+    let a = c.args in
+    always c.put_rest.result _ (line_state (state a.self.now) a.head a.syntax a.value.now c.requires.live c.requires.mode c.requires.leaf)
+
+pub returns-clause-wrote : goal.returns-clause-wrote
+returns-clause-wrote g c =
+    let a = c.args in
+    let s : DumpState = state a.self.now in
+    let last : Progress = whole a.head.vr a.syntax a.value.now in
+    let level : ℕ = length a.self.now.lengths in
+    let start : c.begin_line.new.line.items ≡ line_start level a.head.tag (letters a.head.vr) =
+    c.begin_line.ensures.items
+    ∙ ap (λ (n : ℕ). line_start n a.head.tag c.letters.result) c.depth-level.ensures.depth
+    ∙ ap (line_start level a.head.tag) c.letters.ensures
+    in
+    let shown : c.append_value.new.line.items ≡ line_start level a.head.tag (letters a.head.vr) ++ end_writes last =
+    c.in_ok-count.ensures.line ∙ ap (λ (z : List ℕ). z ++ end_writes last) start
+    in
+    let all =
+    ap (λ (z : List ℕ). z ++ line_rest s.dictionary a.head.tag a.head.length c.in_ok-count.count) shown
+    ∙ ap (λ (n : ℕ). (line_start level a.head.tag (letters a.head.vr) ++ end_writes last) ++ line_rest s.dictionary a.head.tag a.head.length n) c.in_ok-count.ensures.count
+    ∙ line_bytes s a.head a.syntax a.value.now c.requires.live c.requires.mode c.requires.leaf
+    in
+    record {
+      bytes = parts_put _ _ _ [] [] (shows s (whole_atoms a.head a.syntax a.value.now)) _ _ c.put_rest.result refl all refl c.in_ok-count.ensures.wrote.bytes c.put_rest.ensures.bytes;
+      failed = search rules;
+    }
