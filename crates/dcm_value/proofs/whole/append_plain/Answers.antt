@@ -1,5 +1,5 @@
-use Rattle.std.proofs.Common.{rules, ◌≡◌, ◌∙◌, ◌++◌, ap, sym, cond, true, codes}
-use Rattle.dcm_base.specs.Dump.ValueText.{padded, escaped, bracketed}
+use Rattle.std.proofs.Common.{◌≡◌, ◌∙◌, ◌++◌, ap, sym, cond, true, codes}
+use Rattle.dcm_base.specs.Dump.ValueText.{padded, bracketed}
 use Rattle.dcm_value.specs.Whole.{is_plain}
 use Rattle.dcm_value.proofs.Displays.PlainTexts.{plain_escaped}
 use Rattle.dcm_value.proofs.whole.append_plain.Goals as goal
