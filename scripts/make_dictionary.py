@@ -15,12 +15,14 @@ In the table is each element that has a keyword and exactly one VR, in tag order
 it are the other elements between two VRs, those of repeating groups (tags with `xx`), items and delimiters, and elements without
 a keyword.
 
-With --ambiguous the elements between two VRs go out, without PixelData, and the guesses at their rows: the two tables of
+With --ambiguous the elements between two VRs go out, without PixelData, and the places of their rows: the two tables of
 crates/dcm_base/src/dictionary/ambiguous.rt. Each has the VR that an implicit head of it has where pixels are not signed: US for
 `US or SS`, but UN for those that come before PixelRepresentation, which says whether they are; OW for all others (PS3.5 A.1).
 
 Beside the table is `PLACES`, a guess at the row of a number by its remainder. It saves a search where it is right, and no proof
-rests on it. With --extract the guesses of the extract go out, for crates/dcm_base/src/dictionary/extract.rt, where its elements are.
+rests on it. With --extract the places of the extract go out, for crates/dcm_base/src/dictionary/extract.rt, where its elements are.
+Of the extract and of the elements between two VRs each row stands at its place, which is proved; where two numbers share a
+remainder, this stops: `EXTRACT_PLACES` or `AMBIGUOUS_PLACES` has to grow.
 """
 import ast
 import re
@@ -121,6 +123,13 @@ def places(numbers: list[int], first: set[int], count: int) -> str:
     return packed([f"{found.get(it, 0)}, " for it in range(count)], "    ")
 
 
+def places_of_all(numbers: list[int], count: int) -> str:
+    """The same, where each number has a remainder of its own. Stops where two share one."""
+    if len({number % count for number in numbers}) < len(numbers):
+        sys.exit(f"two numbers have one remainder by {count}: take a greater one")
+    return places(numbers, set(), count)
+
+
 def tag_of(element: Element) -> str:
     return f"0x{element.number >> 16:04X}_{element.number & 0xFFFF:04X}"
 
@@ -129,7 +138,7 @@ def ambiguous(elements: list[Element]) -> str:
     """The two tables of the elements between two VRs."""
     table = sorted(filter(is_ambiguous, elements))
     rows = [f'    ({tag_of(e)}, Vr::{unsigned_vr(e)}, "{e.keyword}"),' for e in table]
-    return "\n".join([*rows, "", places([e.number for e in table], set(), AMBIGUOUS_PLACES)])
+    return "\n".join([*rows, "", places_of_all([e.number for e in table], AMBIGUOUS_PLACES)])
 
 
 def extract() -> list[int]:
@@ -173,7 +182,7 @@ pub const PLACES: [u16; {PLACES}] = [
 
 def main(words: list[str]) -> int:
     if words == ["--extract"]:
-        print(places(extract(), set(), EXTRACT_PLACES))
+        print(places_of_all(extract(), EXTRACT_PLACES))
         return 0
     paths = [Path(w) for w in words if w not in ("--list", "--ambiguous")]
     if len(paths) != 1:

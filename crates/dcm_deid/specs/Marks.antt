@@ -7,7 +7,8 @@ use Rattle.dcm_deid.specs.declared.table.TheConstants.{MARKS}
 unfoldable pub marks : List ℕ
 marks = MARKS
 
--- the place of a number's mark
+-- the place of a number's mark: the number is spread over all of 32 bits (2^32 divided by the golden ratio, times it), and
+-- there is a mark for each 524,288 of them
 abbrev pub mark_of : ℕ → ℕ
 mark_of number = number * 2654435769 % 4294967296 / 524288
 

@@ -1,7 +1,7 @@
 // How far the reading of a data set has come (PS3.5 7).
-ghost use Rattle.std.specs.Prelude.{◌≡◌, ◌+◌, ◌-◌, ◌<◌, ◌≤◌, [], ◌∷◌, ◌++◌, None, drop, length, option_map, IfOk};
+ghost use Rattle.std.specs.Prelude.{◌≡◌, ◌+◌, ◌-◌, ◌<◌, ◌≤◌, [], ◌∷◌, ◌++◌, None, drop, length, IfOk};
 ghost use Rattle.dcm_stream.specs.Judging as judging;
-ghost use Rattle.dcm_stream.specs.Judging.{opened_by, opened_sign};
+ghost use Rattle.dcm_stream.specs.Judging.{opened_by};
 ghost use Rattle.dcm_stream.specs.Tokens.{IsFilled, atoms_of};
 ghost use Rattle.dcm_stream.specs.Reading as steps;
 ghost use Rattle.dcm_stream.specs.Machine as spec;
@@ -17,7 +17,7 @@ use super::sign::OpenSign;
 use super::whole_leaf::{WholeLeaf, whole_leaf};
 use super::{Halt, Sink, Token};
 use arrayvec::ArrayVec;
-use dcm_base::{Container, Fault, Length, Level, Stop, Stopped, Syntax, Vr};
+use dcm_base::{Container, Fault, Length, Level, Stop, Stopped, Syntax};
 use dcm_head::{LONG_HEAD, SHORT_HEAD};
 
 /// The offset up to which heads and values were read whole, the bytes of a head after it, the bytes of a value that
@@ -54,7 +54,7 @@ impl Cursor {
     }
 
     /// Closes what is full here. No head may come where less room is left than the shortest takes. Where there is room
-    /// for a head, nothing is full: so one comparison is made, and no container is looked at.
+    /// for a head, nothing is full: so one comparison is made, with the nearest end alone.
     #[inline(always)]
     fn settle<S: Sink>(&mut self, sink: &mut S) -> Result<(), Halt>
         requires head { self.old.head.items ≡ [] }
@@ -311,7 +311,7 @@ impl Cursor {
         }
     }
 
-    /// Reads all the bytes, up to the first head at which the data set is refused or the sink's writer fails.
+    /// Reads all the bytes, up to where the data set is refused or the sink's writer fails.
     #[inline(always)]
     pub fn read_all<S: Sink>(&mut self, piece: &[u8], sink: &mut S) -> Result<(), Halt>
         requires stands { spec.Stands (spec.reading self.old None) }

@@ -229,9 +229,10 @@ pub const FEW: usize = 10;
 /// Room for the text of few units.
 pub const FEW_TEXT: usize = LONGEST * FEW;
 
-/// The most bytes of few units, and of a block.
+/// The most bytes of few units.
 const FEW_BYTES: usize = 8 * FEW;
 
+/// The most bytes of a block of units.
 const BLOCK_BYTES: usize = 8 * BLOCK;
 
 /// The units of a little endian value more, each after a backslash. They are turned in a block.

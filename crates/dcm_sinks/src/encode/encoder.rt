@@ -13,7 +13,6 @@ ghost use Rattle.dcm_base.specs.declared.vr.Vr.TheVariants as representations;
 ghost use Rattle.dcm_stream.specs.Skip.{depth};
 ghost use Rattle.dcm_stream.specs.Tokens.{atoms_of, whole_atoms, IsLeaf};
 ghost use Rattle.dcm_head.specs.HeadBytes.{FitsShort};
-ghost use Rattle.dcm_head.specs.HeadRead.{is_delimiter as is_delimiter_tag};
 ghost use Rattle.dcm_sinks.specs.EncodeSink as spec;
 
 use crate::encode::copier::{Copier, is_too_long, put_value};
