@@ -6,4 +6,6 @@ pub mod Pieces
 pub mod HighestFirst
 pub mod Buffers
 pub mod Woven
+pub mod Decimals
+pub mod NumberLists
 pub mod InBlocks

@@ -1,6 +1,7 @@
 pub mod Swap
 pub mod Units
 pub mod Woven
+pub mod Numbers
 pub mod Display
 pub mod Plain
 pub mod Way

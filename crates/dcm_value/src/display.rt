@@ -2,12 +2,14 @@
 ghost use Rattle.std.specs.Prelude.{◌≡◌, ◌==◌, ◌&&◌, nat_lt, ◌+◌, ◌-◌, ◌*◌, ◌/◌, ◌<◌, ◌≤◌, ◌++◌, length, take, replicate, List};
 ghost use Rattle.std.specs.Prelude.{ℕ, OnOk, true};
 ghost use Rattle.dcm_value.specs.Emits.{Emits};
-ghost use Rattle.dcm_base.specs.Dump.ValueText.{escaped, identified, shown_unit as unit_size};
-ghost use Rattle.dcm_value.specs.Units.{separated_units};
+ghost use Rattle.dcm_base.specs.Dump.ValueText.{escaped, identified, shape, shown_unit as unit_size};
+ghost use Rattle.dcm_value.specs.Units.{kind_of as spec_kind, separated_units};
+ghost use Rattle.dcm_value.specs.Numbers.{numbers};
 ghost use Rattle.dcm_value.specs.Swap.{IsUnit};
 ghost use Rattle.dcm_value.specs.Woven.{woven};
 ghost use Rattle.dcm_value.specs.Display as spec;
 
+use crate::decimals::write_numbers;
 use crate::escapes::{append_text, is_plain_text};
 use crate::hexadecimal::{LANES, weave_blocks};
 use crate::units::{BLOCK, FEW, FEW_TEXT, Kind, LONGEST, append_units, kind_of, shown_unit};
@@ -183,7 +185,7 @@ impl Shown {
         self.emit(text.as_slice(), out)
     }
 
-    /// Shows units, each after a backslash, 128 at a time. Whole blocks of them become hexadecimal text by lanes.
+    /// Shows units, each after a backslash, 128 at a time. Many of them have ways of their own.
     pub fn emit_units<W: DeviceOut>(
         &mut self,
         vr: Vr,
@@ -194,14 +196,61 @@ impl Shown {
         ensures { Emits W.DeviceOut out.old out.new (display_of self.old) (display_of self.new)
             (separated_units vr syntax units.now) result }
     {
+        if units.len() <= FEW * shown_unit(vr) || self.is_cut() {
+            return self.emit_singly(vr, syntax, units, out);
+        }
+        match kind_of(vr) {
+            Kind::Unsigned => self.emit_numbers(false, syntax.is_big(), vr.unit(), units, out),
+            Kind::Signed => self.emit_numbers(true, syntax.is_big(), vr.unit(), units, out),
+            Kind::Tags => self.emit_singly(vr, syntax, units, out),
+            Kind::Hexadecimal => self.emit_hexadecimal(vr, syntax, units, out),
+        }
+    }
+
+    /// Shows units in hexadecimal, each after a backslash. Whole blocks of them become text by lanes.
+    fn emit_hexadecimal<W: DeviceOut>(
+        &mut self,
+        vr: Vr,
+        syntax: Syntax,
+        units: &[u8],
+        out: &mut Watched<W>,
+    ) -> Result<(), WriteFailed>
+        requires { spec_kind (shape vr) ≡ Kind.Hexadecimal }
+        ensures { Emits W.DeviceOut out.old out.new (display_of self.old) (display_of self.new)
+            (separated_units vr syntax units.now) result }
+    {
         let size = vr.unit();
         let block = BLOCK * size;
-        if units.len() < block || self.is_cut() || kind_of(vr) != Kind::Hexadecimal {
+        if units.len() < block {
             return self.emit_singly(vr, syntax, units, out);
         }
         let (blocks, last) = units.split_at(units.len() / block * block);
         self.emit_blocks(size, !syntax.is_big(), blocks, out)?;
         self.emit_singly(vr, syntax, last, out)
+    }
+
+    /// Shows numbers, each after a backslash. They become text in a plain array, straight from their bytes.
+    fn emit_numbers<W: DeviceOut>(
+        &mut self,
+        is_signed: bool,
+        is_big: bool,
+        size: usize,
+        units: &[u8],
+        out: &mut Watched<W>,
+    ) -> Result<(), WriteFailed>
+        requires { IsUnit size }
+        ensures { Emits W.DeviceOut out.old out.new (display_of self.old) (display_of self.new)
+            (numbers is_signed is_big size units.now) result }
+    {
+        let mut text = [0; TEXT];
+        let mut rest = units;
+        while !rest.is_empty() && !self.is_cut() {
+            let (block, after) = rest.split_at(rest.len().min(BLOCK * size));
+            let end = write_numbers(is_signed, is_big, size, block, &mut text);
+            self.emit(&text[..end], out)?;
+            rest = after;
+        }
+        Ok(())
     }
 
     /// Shows units in hexadecimal, each after a backslash. They become text sixteen bytes at a time.

@@ -14,6 +14,7 @@
 //!     assert!(rt; value.as_slice() == [1, 0, 0, 2].as_slice());
 #![tactic(auto)]
 
+mod decimals;
 mod digits;
 mod display;
 mod escapes;

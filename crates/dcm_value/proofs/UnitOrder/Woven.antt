@@ -169,7 +169,7 @@ step_room size block blocks room is before h =
       | inr (inr (inr eight)) ↦ rw eight (omega arith)
     ]
 
-unit_some : (size : ℕ) → IsUnit size → 0 < size
+pub unit_some : (size : ℕ) → IsUnit size → 0 < size
 unit_some size is = omega arith
 
 step_small : (size : ℕ) → IsUnit size → 32 + 16 / size ≤ 64

@@ -1,0 +1,15 @@
+use Rattle.std.proofs.Common.{arith, ◌/◌}
+use Rattle.itoa.proofs.Decimal.{length_one, length_two, length_pair}
+use Rattle.dcm_value.proofs.decimals.few_digits.Goals as goal
+
+pub returns-in-0-to-9 : goal.returns-in-0-to-9
+returns-in-0-to-9 c = omega (arith, length_one c.args.number (omega arith))
+
+pub returns-in-10-to-99 : goal.returns-in-10-to-99
+returns-in-10-to-99 c = omega (arith, length_two c.args.number (omega arith) (omega arith))
+
+pub returns-in-100-to-999 : goal.returns-in-100-to-999
+returns-in-100-to-999 c = omega (arith, length_pair c.args.number (omega arith) c.ranges.number.fits, length_one (c.args.number / 100) (omega arith))
+
+pub returns-in_default : goal.returns-in_default
+returns-in_default c = omega (arith, length_pair c.args.number (omega arith) c.ranges.number.fits, length_two (c.args.number / 100) (omega arith) (omega arith))
