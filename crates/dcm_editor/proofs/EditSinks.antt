@@ -13,4 +13,6 @@ pub mod Taken
 pub mod Passing
 pub mod ThroughSink
 pub mod Unmet
+pub mod Whole
+pub mod ByToken
 pub mod Free

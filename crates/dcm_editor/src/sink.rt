@@ -4,7 +4,7 @@ ghost use Rattle.std.specs.Borrow.{GName};
 ghost use Rattle.dcm_base.specs.Steps.Atoms.{opens_item};
 ghost use Rattle.dcm_stream.specs.Sinks as sinks;
 ghost use Rattle.dcm_stream.specs.Skip.{depth};
-ghost use Rattle.dcm_stream.specs.Tokens.{IsFilled, atoms_of};
+ghost use Rattle.dcm_stream.specs.Tokens.{IsFilled, atoms_of, whole_atoms};
 ghost use Rattle.dcm_editor.specs.Asking as asking;
 ghost use Rattle.dcm_editor.specs.EditSink.{State as EditState, passed, begun};
 ghost use Rattle.dcm_editor.specs.Sound.{IsSound, IsSoundAt, IsSoundAt-prop};
@@ -260,6 +260,20 @@ impl<'e, S: Sink, A: Allocator> EditSink<'e, S, A> {
     {
         unset_bits(self.editor.found, self.edits.list().len())
     }
+
+    /// Takes an element with its whole value by its tokens, one after another. It is not inlined: few elements are
+    /// edited or dropped, and the way of the others stays small.
+    #[inline(never)]
+    fn take_by_token(&mut self, head: Head, syntax: Syntax, value: &[u8]) -> Result<(), WriteFailed>
+        ensures { sinks.Took ⟦<EditSink<'e, S, A> as Sink>⟧ self.old self.new
+            (whole_atoms head syntax value.now) result }
+    {
+        self.take(Token::Open(head, syntax))?;
+        if !value.is_empty() {
+            self.take(Token::Bytes(value))?;
+        }
+        self.take(Token::CloseLeaf)
+    }
 }
 
 impl<'e, S: Sink, A: Allocator> Sink for EditSink<'e, S, A> {
@@ -290,6 +304,18 @@ impl<'e, S: Sink, A: Allocator> Sink for EditSink<'e, S, A> {
             token,
             self.inner,
         )
+    }
+
+    /// An element that no edit meets is passed on whole: the edits are asked once for its three tokens, and the other
+    /// sink has a short way for it too. Its value and its end change nothing of where the edits are.
+    #[inline(always)]
+    fn take_whole(&mut self, head: Head, syntax: Syntax, value: &[u8]) -> Result<(), WriteFailed> {
+        if !self.editor.leaves(self.edits.list(), &self.index, head.tag) {
+            return self.take_by_token(head, syntax, value);
+        }
+        self.inner.take_whole(head, syntax, value)?;
+        self.editor.pass_by(head.tag);
+        Ok(())
     }
 
     fn accepts(&self, head: &Head) -> Result<(), Bar> {

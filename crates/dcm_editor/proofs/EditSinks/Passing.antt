@@ -84,7 +84,7 @@ pub bytes_passed : (s : State) (bytes : List ℕ) → s.dropped ≡ 0 → output
 bytes_passed s [] none = refl
 bytes_passed s (b ∷ bytes) none = byte_then s b _ _ none (bytes_passed s bytes none)
 
-one_kept : (s : State) (a : Atom) → s.dropped ≡ 0 → unless_dropped s.dropped (a ∷ []) ++ [] ≡ a ∷ []
+pub one_kept : (s : State) (a : Atom) → s.dropped ≡ 0 → unless_dropped s.dropped (a ∷ []) ++ [] ≡ a ∷ []
 one_kept s a none = ap (λ (xs : List Atom). xs ++ []) (kept s.dropped (a ∷ []) none)
 
 -- tokens of which edits ask nothing
@@ -99,7 +99,7 @@ as_they_are s t none (inr (inr (inl h))) = ap (λ (u : Token). outputs next pass
 as_they_are s t none (inr (inr (inr h))) = ap (λ (u : Token). outputs next passed s (atoms_of u)) h.1 ∙ one_kept s (opens_fragment h.0) none ∙ ap atoms_of (sym h.1)
 
 -- and the state stays as it is
-abbrev dropped_as : State → ℕ → State
+abbrev pub dropped_as : State → ℕ → State
 dropped_as s n = record { level = s.level; outer = s.outer; dropped = n; found = s.found }
 
 abbrev after_token : State → Token → State

@@ -103,7 +103,7 @@ module _ {A : Type 0} (edits : List (AnEdit A)) (e : Editor) (tag : Tag) (left :
       let x = both (not (is_open (depth e.skip))) (not (any_answer (Meets tag e.level.last) (asked_here edits e))) left in
       ap (any_answer (Meets tag e.level.last)) (same_asked edits e) ∙ sym (is_not _ x.1)
 
-  none_dropped : depth e.skip ≡ 0
+  pub none_dropped : depth e.skip ≡ 0
   none_dropped = none_open (depth e.skip) (is_not (is_open (depth e.skip)) (both (not (is_open (depth e.skip))) (not (any_answer (Meets tag e.level.last) (asked_here edits e))) left).0)
 
   pub left_state : (t : masks.MaskState) (vr : Vr) (declared : Length) (syntax : Syntax) → t ≡ masks.masks_passed_by (state e) tag → masks.meant (map edit_of edits) t ≡ next (meant edits e) (opens tag vr declared syntax)
