@@ -288,7 +288,7 @@ impl Shown {
         ensures { Emits W.DeviceOut out.old out.new (display_of self.old) (display_of self.new)
             (separated_units vr syntax units.now) result }
     {
-        if !units.is_empty() && units.len() <= FEW * shown_unit(vr) {
+        if !units.is_empty() && !self.is_cut() && units.len() <= FEW * shown_unit(vr) {
             return self.emit_few(vr, syntax, units, out);
         }
         let most = TEXT / LONGEST * shown_unit(vr);

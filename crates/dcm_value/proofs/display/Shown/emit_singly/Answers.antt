@@ -14,10 +14,10 @@ loop-self-init g c =
     let now = c.args.self.now in
     record { part = part_starts _ _ _ (settled_of now.mode now.count now.front.items now.capped now.filled); failed = refl }
 
-pub returns-else-not-is_cut : goal.returns-else-not-is_cut
-returns-else-not-is_cut g c =
+pub returns-else-not-is_cut-2 : goal.returns-else-not-is_cut-2
+returns-else-not-is_cut-2 g c =
     let s = c.loop-self.self in
-    let cut : is_cut (display_of s) ≡ true = sym c.is_cut.ensures ∙ c.if-not-is_cut.false in
+    let cut : is_cut (display_of s) ≡ true = sym c.is_cut-in-loop-self.ensures ∙ c.if-not-is_cut-2.false in
     let all = part_cut _ c.loop-self.invariant.part cut (cut_stays s.mode s.count s.front.items _ s.capped s.filled cut) in
     record { state = all.0; bytes = all.1; failed = search rules }
 
