@@ -5,6 +5,7 @@ pub mod Trees
 mod FateRows
 pub mod Taking
 pub mod Passing
+pub mod Unheld
 pub mod Through
 pub mod HeldValues
 pub mod Forms

@@ -1,6 +1,7 @@
 -- What a sink takes in parts, where each call answers nothing but whether its writer failed.
-use Rattle.std.proofs.Common.{◌≡◌, List, ◌++◌, Bool, true, sym, subst}
+use Rattle.std.proofs.Common.{◌≡◌, List, [], ◌++◌, Bool, true, sym, subst}
 use Rattle.std.specs.Prelude.{fold, Result, Ok, Err, OnOk, IsErr}
+use Rattle.std.proofs.lemmas.List.{append-nil}
 use Rattle.dcm_devices.specs.declared.device.WriteFailed.{WriteFailed}
 use Rattle.dcm_devices.specs.Device.{Puts, Tells}
 use Rattle.dcm_base.specs.Steps.Atoms.{Atom}
@@ -34,6 +35,10 @@ module _ {X : Type 0} (sink : Ghosts X) where
   -- a failure in the first part
   pub failed : {e : WriteFailed} (old new : X) (first rest : List Atom) (r : Answer) → IsErr r → TookAs sink old new first (Err e) → TookAs sink old new (first ++ rest) r
   failed {e} old new first rest r is a = took_failed sink (Unit {0}) WriteFailed {e = e} old new first rest r is a
+
+  -- a failure in all of it
+  pub all_failed : {e : WriteFailed} (old new : X) (atoms : List Atom) (r : Answer) → IsErr r → TookAs sink old new atoms (Err e) → TookAs sink old new atoms r
+  all_failed {e} old new atoms r is a = subst (λ (xs : List Atom). TookAs sink old new xs r) (append-nil atoms) (failed {e = e} old new atoms [] r is a)
 
   -- what is due
   pub given : (old new : X) (atoms : List Atom) (r : Answer) (b : Bool) → true ≡ b → TookAs sink old new atoms r → TookAs sink old new (atoms_if b atoms) r

@@ -1,12 +1,18 @@
 -- The state of the sink, as the program holds it.
 use Rattle.std.specs.Prelude.{◌≡◌, ℕ, List, option_map, reverse, fold}
+use Rattle.dcm_base.specs.declared.form.Form.TheVariants.{Value as a_value}
+use Rattle.dcm_base.specs.declared.syntax.Syntax.{Syntax}
 use Rattle.dcm_base.specs.Steps.Atoms.{Atom}
 use Rattle.dcm_base.specs.Steps.Steps.{outputs}
+use Rattle.dcm_head.specs.declared.head.Head.{Head}
 use Rattle.dcm_stream.specs.Skip.{depth}
+use Rattle.dcm_stream.specs.Tokens.{whole_atoms}
 use Rattle.dcm_deid.specs.declared.held.HeldValue.{HeldValue}
 use Rattle.dcm_deid.specs.declared.deidentifier.Deidentifier.{Deidentifier}
+use Rattle.dcm_deid.specs.declared.fate.Fate.{Fate}
+use Rattle.dcm_deid.specs.declared.fate.Fate.TheVariants.{Keep}
 use Rattle.dcm_deid.specs.declared.fate.Options.{Options}
-use Rattle.dcm_deid.specs.DeidentifySink.{Held, Place, State, next, passed}
+use Rattle.dcm_deid.specs.DeidentifySink.{Held, Place, State, next, passed, head_by}
 
 abbrev pub held : HeldValue → Held
 held h = record { tag = h.tag; vr = h.vr; syntax = h.syntax; bytes = h.bytes.items; is_longer = h.is_longer }
@@ -31,3 +37,8 @@ passed_of options key d atoms = outputs next passed (state options key d) atoms
 abbrev pub GoesOn : Options → (old new : Deidentifier) → List Atom → Type 0
 GoesOn options old new atoms =
     (key : List ℕ) → state options key new ≡ fold next (state options key old) atoms
+
+-- what is passed on of an element of this fate with its whole value, which is not held
+abbrev pub whole_by : Fate → Head → Syntax → List ℕ → List Atom
+whole_by Keep head syntax value = whole_atoms head syntax value
+whole_by fate head syntax value = head_by fate a_value head.tag head.vr head.length syntax

@@ -66,7 +66,7 @@ fn says_of_pixels(tag: Tag) -> bool
 }
 
 /// Whether the value of an element is held until it ends.
-fn is_held(fate: Fate, form: Form, tag: Tag) -> bool
+pub fn is_held(fate: Fate, form: Form, tag: Tag) -> bool
     ensures { result ≡ spec.is_held fate form tag }
 {
     match (form, fate) {
@@ -168,6 +168,16 @@ impl Deidentifier {
     {
         self.judge_as(fate, form, head, syntax);
         self.last = Some(head.tag);
+    }
+
+    /// After an element with its whole value, which is not held.
+    #[inline(always)]
+    pub fn pass_by(&mut self, tag: Tag)
+        ensures { deidentifying.place self.new
+            ≡ spec.with_last (spec.holding (deidentifying.place self.old) None) tag }
+    {
+        self.let_go();
+        self.last = Some(tag);
     }
 
     /// After bytes of a value.

@@ -12,6 +12,7 @@ mod meta;
 mod said;
 mod sink;
 mod table;
+mod whole;
 
 pub use fate::{Depth, Fate, Options, ReadAs, Retain, fate_of};
 pub use meta::{MetaFate, MetaWithoutIdentity, NO_PREAMBLE, meta_fate};

@@ -10,15 +10,16 @@ ghost use Rattle.dcm_deid.specs.Deidentifying as deidentifying;
 ghost use Rattle.dcm_deid.specs.Through.{through_step, through_writes, through_bar};
 ghost use Rattle.dcm_stream.specs.Sinks as sinks;
 ghost use Rattle.dcm_stream.specs.Skip.{depth, is_open};
-ghost use Rattle.dcm_stream.specs.Tokens.{IsFilled, atoms_of, leaf_atoms};
+ghost use Rattle.dcm_stream.specs.Tokens.{IsFilled, IsLeaf, atoms_of, leaf_atoms, whole_atoms};
 
 use crate::by_token::pass_on;
-use crate::deidentifier::{Deidentifier, form_after};
+use crate::deidentifier::{Deidentifier, form_after, is_held};
 use crate::dummy::dummy;
 use crate::fate::{Depth, Fate, Options};
 use crate::held::HeldValue;
 use crate::key::UidKey;
 use crate::said::{Gap, put_leaf, put_said};
+use crate::whole::pass_unheld;
 use dcm_base::{Form, Length, Syntax, Tag, WriteFailed};
 use dcm_head::Head;
 use dcm_stream::{Bar, Sink, Token};
@@ -44,7 +45,7 @@ fn holds_identity(tag: Tag) -> bool
 
 /// Passes on what says what was done, at the outermost level, before an element of this tag or at the end.
 #[inline(always)]
-fn put_gap<S: Sink>(
+pub fn put_gap<S: Sink>(
     options: &Options,
     place: &Deidentifier,
     next: Option<Tag>,
@@ -92,7 +93,7 @@ fn put_empty_sequence<S: Sink>(head: Head, sink: &mut S) -> Result<(), WriteFail
 
 /// Passes on what an element becomes, as far as its head determines it.
 #[inline(always)]
-fn put_head<S: Sink>(
+pub fn put_head<S: Sink>(
     fate: Fate,
     form: Form,
     head: Head,
@@ -306,6 +307,38 @@ impl<'a, S: Sink> DeidentifySink<'a, S> {
     {
         self.place.may_show
     }
+
+    /// Takes an element with its whole value by its tokens, one after another.
+    #[inline(never)]
+    fn take_by_token(&mut self, head: Head, syntax: Syntax, value: &[u8]) -> Result<(), WriteFailed>
+        ensures { sinks.Took ⟦<DeidentifySink<'a, S> as Sink>⟧ self.old self.new
+            (whole_atoms head syntax value.now) result }
+    {
+        self.take(Token::Open(head, syntax))?;
+        if !value.is_empty() {
+            self.take(Token::Bytes(value))?;
+        }
+        self.take(Token::CloseLeaf)
+    }
+
+    /// Takes an element with its whole value. What becomes of it is looked up once, and passed on by one call, but where
+    /// the value has to be known. It is not inlined, so that what reads heads stays small.
+    #[inline(never)]
+    fn pass_whole(&mut self, head: Head, syntax: Syntax, value: &[u8]) -> Result<(), WriteFailed>
+        requires { IsLeaf head syntax value.now }
+        ensures { sinks.Took ⟦<DeidentifySink<'a, S> as Sink>⟧ self.old self.new
+            (whole_atoms head syntax value.now) result }
+    {
+        if self.place.skip.is_open() {
+            return self.take_by_token(head, syntax, value);
+        }
+        let fate = self.place.fate(&self.options, Form::Value, head.tag);
+        if is_held(fate, Form::Value, head.tag) {
+            return self.take_by_token(head, syntax, value);
+        }
+        let place = &mut self.place;
+        pass_unheld(&self.options, place, fate, head, syntax, value, self.inner)
+    }
 }
 
 impl<'a, S: Sink> Sink for DeidentifySink<'a, S> {
@@ -330,6 +363,11 @@ impl<'a, S: Sink> Sink for DeidentifySink<'a, S> {
     #[inline(always)]
     fn take(&mut self, token: Token) -> Result<(), WriteFailed> {
         pass_on(&self.options, &self.key, &mut self.place, token, self.inner)
+    }
+
+    #[inline(always)]
+    fn take_whole(&mut self, head: Head, syntax: Syntax, value: &[u8]) -> Result<(), WriteFailed> {
+        self.pass_whole(head, syntax, value)
     }
 
     fn accepts(&self, head: &Head) -> Result<(), Bar> {
