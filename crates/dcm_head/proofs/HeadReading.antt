@@ -5,3 +5,4 @@ pub mod MoreBytes
 pub mod State
 pub mod Answers
 pub mod Halts
+pub mod Runs

@@ -21,6 +21,7 @@ mod head;
 pub mod laws;
 mod meta;
 mod meta_read;
+mod meta_runs;
 mod pads;
 mod renewal;
 mod rewriting;

@@ -21,7 +21,7 @@ pub const PREAMBLE: usize = 128;
 pub const PREFIX: &[u8] = b"DICM";
 
 /// The bytes of preamble and prefix, after which the group begins.
-const GROUP_AT: usize = 132;
+pub(crate) const GROUP_AT: usize = 132;
 
 /// Preamble, prefix, a group, and the longest head after it.
 const ROOM: usize = 16_528;
@@ -29,8 +29,8 @@ const ROOM: usize = 16_528;
 /// The reader of a file's head, which is fed in pieces of any size up to the end of the meta group (PS3.10 7.1).
 #[derive(Drop)]
 pub struct Meta {
-    bytes: ArrayVec<u8, ROOM>,
-    place: usize,
+    pub(crate) bytes: ArrayVec<u8, ROOM>,
+    pub(crate) place: usize,
     uid_at: usize,
     uid_size: usize,
     end: Option<MetaEnd>,
@@ -311,7 +311,7 @@ impl Meta {
         }
     }
 
-    fn end(&self) -> Option<MetaEnd>
+    pub(crate) fn end(&self) -> Option<MetaEnd>
         ensures end { result ≡ self.now.end }
         ensures room { self.now.end ≡ None → length self.now.bytes < 16528 }
     {
@@ -326,7 +326,7 @@ impl Meta {
     }
 
     /// Reads a byte.
-    fn step(&mut self, byte: u8)
+    pub(crate) fn step(&mut self, byte: u8)
         requires { self.old.end ≡ None }
         ensures { self.new ≡ reading.meta_step self.old byte }
     {
@@ -334,18 +334,6 @@ impl Meta {
             self.step_before(byte);
         } else {
             self.step_within(byte);
-        }
-    }
-
-    /// Reads bytes as long as there is no end.
-    fn go_over(&mut self, piece: &[u8])
-        ensures { self.new ≡ fold reading.meta_step self.old piece.now }
-    {
-        for byte in piece {
-            if self.end().is_some() {
-                return;
-            }
-            self.step(*byte);
         }
     }
 
