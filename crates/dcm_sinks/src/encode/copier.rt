@@ -104,8 +104,36 @@ fn put_block<const N: usize, W: DeviceOut>(
     put_all(out, block)
 }
 
-/// Writes a value of this size from its first byte to its pad byte. Its copier lives no longer than this call, so that it is
-/// not stored in a state and loaded again, as that of a value that comes in pieces.
+/// Writes bytes of whole units, each turned round where that is asked.
+#[inline(always)]
+fn put_ordered<W: DeviceOut>(
+    is_turned: bool,
+    vr: Vr,
+    bytes: &[u8],
+    out: &mut Watched<W>,
+) -> Result<(), WriteFailed>
+    ensures { Wrote W.DeviceOut out.old out.new (if is_turned then turned (unit vr) bytes.now else bytes.now) result }
+{
+    if is_turned {
+        put_turned(vr, bytes, out)
+    } else {
+        put_all(out, bytes)
+    }
+}
+
+/// Writes a pad byte, where there is one.
+#[inline(always)]
+fn put_padding<W: DeviceOut>(pad: Option<u8>, out: &mut Watched<W>) -> Result<(), WriteFailed>
+    ensures { Wrote W.DeviceOut out.old out.new (option_to_list pad) result }
+{
+    match pad {
+        Some(pad) => put_all(out, &[pad]),
+        None => Ok(()),
+    }
+}
+
+/// Writes a value of this size from its first byte to its pad byte. A copier holds what is cut of a unit until the next
+/// bytes come; here all are there, and nearly every value is of whole units, so that none is made.
 #[inline(always)]
 pub fn put_value<W: DeviceOut>(
     out: &mut Watched<W>,
@@ -118,9 +146,25 @@ pub fn put_value<W: DeviceOut>(
     requires { size ≡ length value.now }
     ensures { Wrote W.DeviceOut out.old out.new (copied_whole (spec.leaf_copy source target vr size) value.now) result }
 {
-    if value.is_empty() {
-        return Ok(());
+    if value.len() % vr.unit() != 0 {
+        return put_cut_value(out, source, target, vr, size, value);
     }
+    put_ordered(is_turned(source, target, vr, size), vr, value, out)?;
+    put_padding(padding(size, vr.pad()), out)
+}
+
+/// Writes a value whose last unit is cut.
+#[inline(never)]
+fn put_cut_value<W: DeviceOut>(
+    out: &mut Watched<W>,
+    source: Syntax,
+    target: Syntax,
+    vr: Vr,
+    size: u32,
+    value: &[u8],
+) -> Result<(), WriteFailed>
+    ensures { Wrote W.DeviceOut out.old out.new (copied_whole (spec.leaf_copy source target vr size) value.now) result }
+{
     let mut copier = Copier::of_leaf(source, target, vr, size);
     copier.feed(value, out)?;
     copier.close(out)

@@ -1,5 +1,5 @@
 // A data set in a target syntax, token by token (PS3.5 7.1, 7.5, A.4).
-ghost use Rattle.std.specs.Prelude.{◌≡◌, ◌<◌, if◌then◌else◌, OnOk, map, false, true};
+ghost use Rattle.std.specs.Prelude.{◌≡◌, ◌<◌, if◌then◌else◌, None, OnOk, map, false, true};
 ghost use Rattle.std.specs.Int.{w32};
 ghost use Rattle.dcm_base.specs.Steps.Atoms.{value_byte, closes_leaf, opens_fragment};
 ghost use Rattle.dcm_base.specs.Reading.Bars.{holds_fragments as syntax_holds_fragments};
@@ -284,6 +284,16 @@ impl Encoder {
         self.take_live(out, token)
     }
 
+    /// No value is on its way. Nearly always none was, and then nothing is stored.
+    #[inline(always)]
+    fn end_value(&mut self)
+        ensures { self.new ≡ record self.old { copier = None } }
+    {
+        if self.copier.is_some() {
+            self.copier = None;
+        }
+    }
+
     /// Writes an element whose value is whole, of which this state then holds nothing.
     #[inline(always)]
     fn put_leaf<W: DeviceOut>(
@@ -297,11 +307,11 @@ impl Encoder {
         ensures state { OnOk result (state self.new ≡ without_value (state self.old)) }
         ensures wrote { Wrote W.DeviceOut out.old out.new (leaf_writes self.old.target head syntax value.now) result }
     {
-        let size = value.len() as u32;
-        let written = written_head(self.target, head.tag, head.vr, size);
-        put_element_head(out, self.target, &written)?;
-        self.copier = None;
-        put_value(out, syntax, self.target, head.vr, size, value)
+        let (target, size) = (self.target, value.len() as u32);
+        let written = written_head(target, head.tag, head.vr, size);
+        put_element_head(out, target, &written)?;
+        self.end_value();
+        put_value(out, syntax, target, head.vr, size, value)
     }
 
     /// Writes an element whose value is whole, as `take` does by its head, its bytes and its end. Most elements come so, and
