@@ -1,5 +1,5 @@
 // The bytes of a text as a dump shows them.
-ghost use Rattle.std.specs.Prelude.{◌≡◌, ◌≤◌, ◌+◌, ◌*◌, ◌++◌, ◌/◌, ◌%◌, ◌==◌, ◌&&◌, if◌then◌else◌, [], ◌∷◌, length, not, nat_lt};
+ghost use Rattle.std.specs.Prelude.{◌≡◌, ◌<◌, ◌≤◌, ◌+◌, ◌*◌, ◌++◌, ◌/◌, ◌%◌, ◌==◌, ◌&&◌, if◌then◌else◌, [], ◌∷◌, length, drop, not, nat_lt};
 ghost use Rattle.std.specs.Prelude.{count_by};
 ghost use Rattle.dcm_base.specs.Dump.ValueText as spec;
 ghost use Rattle.dcm_value.specs.Plain.{is_plain_byte};
@@ -59,18 +59,22 @@ fn is_plain_singly(bytes: &[u8]) -> bool
     bytes.iter().all(|byte| is_plain(*byte))
 }
 
-/// Whether a text is shown as it is. Eight bytes are looked at together.
+/// Whether a text is shown as it is. Eight bytes are looked at together. The last eight are so too, some of them for the
+/// second time, since up to seven one by one take longer.
 pub fn is_plain_text(bytes: &[u8]) -> bool
     ensures { result ≡ list_all is_plain_byte bytes.now }
 {
-    let blocks = bytes.len() / LANES;
+    if bytes.len() < LANES {
+        return is_plain_singly(bytes);
+    }
+    let blocks = (bytes.len() - 1) / LANES;
     for block in 0..blocks {
         if has_escapes(u8x8::from_slice(&bytes[LANES * block..])) {
             return false;
         }
     }
-    let (_, last) = bytes.split_at(LANES * blocks);
-    is_plain_singly(last)
+    let (_, last) = bytes.split_at(bytes.len() - LANES);
+    !has_escapes(u8x8::from_slice(last))
 }
 
 /// A byte of a text as a dump shows it: a control, `%` and `]` by `%` and two digits in upper case, and each other byte
@@ -155,16 +159,30 @@ fn backslashes_singly(bytes: &[u8]) -> usize
     bytes.iter().filter(|byte| **byte == b'\\').count()
 }
 
-/// How many backslashes there are. Eight bytes are looked at together.
+/// How many backslashes there are in eight bytes behind the first ones.
+#[inline(always)]
+fn backslashes_behind(skipped: usize, bytes: u8x8) -> u32
+    requires { skipped < LANES }
+    ensures count { result ≡ count_by (λ b. b == 92) (drop skipped bytes) }
+    ensures bound { result ≤ 8 }
+{
+    (bytes.simd_eq(u8x8::splat(b'\\')).to_bitmask() >> skipped).count_ones()
+}
+
+/// How many backslashes there are. Eight bytes are looked at together. The last eight are so too, but for those that
+/// were counted.
 pub fn backslashes(bytes: &[u8]) -> usize
     ensures count { result ≡ count_by (λ b. b == 92) bytes.now }
     ensures bound { result ≤ length bytes.now }
 {
-    let blocks = bytes.len() / LANES;
+    if bytes.len() < LANES {
+        return backslashes_singly(bytes);
+    }
+    let blocks = (bytes.len() - 1) / LANES;
     let mut count = 0;
     for block in 0..blocks {
         count += backslashes_in(u8x8::from_slice(&bytes[LANES * block..])) as usize;
     }
-    let (_, last) = bytes.split_at(LANES * blocks);
-    count + backslashes_singly(last)
+    let (front, last) = bytes.split_at(bytes.len() - LANES);
+    count + backslashes_behind(LANES * blocks - front.len(), u8x8::from_slice(last)) as usize
 }

@@ -1,26 +1,31 @@
 // The display of a whole value that is known at once.
-ghost use Rattle.std.specs.Prelude.{◌≡◌, ◌==◌, if◌then◌else◌, ◌+◌, ◌<◌, ◌≤◌, ◌++◌, length, codes, count_by, MatchOption};
-ghost use Rattle.dcm_base.specs.Dump.ValueText.{shape, padded, is_single as is_one};
+ghost use Rattle.std.specs.Prelude.{◌≡◌, ◌==◌, if◌then◌else◌, ◌+◌, ◌<◌, ◌≤◌, ◌++◌, length, codes, count_by};
+ghost use Rattle.std.specs.Prelude.{MatchOption, is_some};
+ghost use Rattle.dcm_base.specs.Dump.ValueText.{shape, padded, bracketed, identified, is_single as is_one};
+ghost use Rattle.dcm_base.specs.Dump.ValueText.{unpadded as kept};
 ghost use Rattle.dcm_value.specs.Way as ways;
 ghost use Rattle.dcm_value.specs.Progress.{end_writes, multiplicity};
-ghost use Rattle.dcm_value.specs.Whole.{whole};
+ghost use Rattle.dcm_value.specs.Whole as spec;
 
 use crate::display::append_spaces;
 use crate::escapes::{backslashes, is_plain_text};
 use crate::way::{Way, is_single, unpadded, way_of};
 use arrayvec::ArrayVec;
-use dcm_base::{Syntax, Vr};
+use dcm_base::{Syntax, Vr, uid_name};
 
 /// The most bytes of a text that is shown at once: with its brackets it is not cut.
 const LONGEST_TEXT: usize = 64;
+
+/// The most bytes of a name that is shown at once: with its mark it is not cut.
+const LONGEST_NAME: usize = 65;
 
 /// The bytes that tell of a value without bytes.
 const NO_VALUE: usize = 20;
 
 /// Appends what the short dump shows of a whole value, with the spaces up to 40 bytes, where that is known at once: of
-/// a value without bytes, and of a text of at most 64 bytes that is shown as it is. The answer is how many values there
-/// are; or nothing, and then nothing is appended. Most values of a file are so, and here none needs a `ValueText`, whose
-/// state is larger than they are.
+/// a value without bytes, of a text of at most 64 bytes that is shown as it is, and of a unique identifier that is so or
+/// has a name. The answer is how many values there are; or nothing, and then nothing is appended. Most values of a file
+/// are so, and here none needs a `ValueText`, whose state is larger than they are.
 pub fn append_whole<const N: usize>(
     vr: Vr,
     syntax: Syntax,
@@ -29,45 +34,69 @@ pub fn append_whole<const N: usize>(
 ) -> Option<u64>
     requires room { length line.old.items + 66 ≤ N }
     ensures items { MatchOption result (line.new.items ≡ line.old.items)
-        (λ n. (line.new.items ≡ line.old.items ++ end_writes (whole vr syntax value.now))
-        × (n ≡ multiplicity (whole vr syntax value.now))) }
+        (λ n. (line.new.items ≡ line.old.items ++ end_writes (spec.whole vr syntax value.now))
+        × (n ≡ multiplicity (spec.whole vr syntax value.now))) }
     ensures within { length line.new.items ≤ length line.old.items + 66 }
+    ensures known { is_some result ≡ spec.is_known vr value.now }
 {
     if value.is_empty() {
         append_no_value(line);
         return Some(0);
     }
-    if value.len() > LONGEST_TEXT {
-        return None;
-    }
-    match way_of(vr, value.len() as u32) {
-        Way::InBrackets => append_text(vr, syntax, value, line),
-        Way::ByName | Way::InUnits => None,
+    if value.len() <= LONGEST_TEXT && append_shown(vr, value, line) {
+        Some(count(vr, value))
+    } else {
+        None
     }
 }
 
-/// Appends a text in brackets, if it is shown as it is, and answers how many values it has.
-fn append_text<const N: usize>(
-    vr: Vr,
-    syntax: Syntax,
-    value: &[u8],
-    line: &mut ArrayVec<u8, N>,
-) -> Option<u64>
-    requires way { ways.way_of (shape vr) (length value.now) ≡ Way.InBrackets }
-    requires some { 0 < length value.now }
+/// Appends what is shown of a value in brackets or by its name, with spaces, if it is known at once.
+fn append_shown<const N: usize>(vr: Vr, value: &[u8], line: &mut ArrayVec<u8, N>) -> bool
     requires few { length value.now ≤ LONGEST_TEXT }
     requires room { length line.old.items + 66 ≤ N }
-    ensures items { MatchOption result (line.new.items ≡ line.old.items)
-        (λ n. (line.new.items ≡ line.old.items ++ end_writes (whole vr syntax value.now))
-        × (n ≡ multiplicity (whole vr syntax value.now))) }
+    ensures known { result ≡ spec.is_known_as (ways.way_of (shape vr) (length value.now)) (kept vr value.now) }
+    ensures items { line.new.items ≡ (if result then line.old.items
+        ++ padded (spec.shown_as (ways.way_of (shape vr) (length value.now)) (kept vr value.now)) else line.old.items) }
     ensures within { length line.new.items ≤ length line.old.items + 66 }
 {
-    let text = unpadded(vr, value);
-    if !is_plain_text(text) {
-        return None;
+    match way_of(vr, value.len() as u32) {
+        Way::InBrackets => append_plain(unpadded(vr, value), line),
+        Way::ByName => append_identified(unpadded(vr, value), line),
+        Way::InUnits => false,
     }
-    append_bracketed(text, line);
-    Some(count(vr, value))
+}
+
+/// Appends a text in brackets, with spaces, if it is shown as it is.
+fn append_plain<const N: usize>(text: &[u8], line: &mut ArrayVec<u8, N>) -> bool
+    requires few { length text.now ≤ LONGEST_TEXT }
+    requires room { length line.old.items + 66 ≤ N }
+    ensures known { result ≡ spec.is_plain text.now }
+    ensures items { line.new.items ≡ (if result then line.old.items ++ padded (bracketed text.now) else line.old.items) }
+    ensures within { length line.new.items ≤ length line.old.items + 66 }
+{
+    let is_plain = is_plain_text(text);
+    if is_plain {
+        append_bracketed(text, line);
+    }
+    is_plain
+}
+
+/// Appends a unique identifier by its name, or in brackets if it is shown as it is, with spaces.
+fn append_identified<const N: usize>(uid: &[u8], line: &mut ArrayVec<u8, N>) -> bool
+    requires few { length uid.now ≤ LONGEST_TEXT }
+    requires room { length line.old.items + 66 ≤ N }
+    ensures known { result ≡ spec.is_known_uid uid.now }
+    ensures items { line.new.items ≡ (if result then line.old.items ++ padded (identified uid.now) else line.old.items) }
+    ensures within { length line.new.items ≤ length line.old.items + 66 }
+{
+    let Some(name) = uid_name(uid) else {
+        return append_plain(uid, line);
+    };
+    let is_short = name.len() <= LONGEST_NAME;
+    if is_short {
+        append_name(name.as_bytes(), line);
+    }
+    is_short
 }
 
 /// How many values a text has, one for each backslash and one more.
@@ -92,6 +121,18 @@ fn append_bracketed<const N: usize>(text: &[u8], line: &mut ArrayVec<u8, N>)
     let _ = line.try_extend_from_slice(text);
     line.push(b']');
     append_spaces(text.len() + 2, line);
+}
+
+/// Appends the name of a unique identifier behind its mark, and spaces.
+fn append_name<const N: usize>(name: &[u8], line: &mut ArrayVec<u8, N>)
+    requires few { length name.now ≤ LONGEST_NAME }
+    requires room { length line.old.items + 66 ≤ N }
+    ensures items { line.new.items ≡ line.old.items ++ padded (codes "=" ++ name.now) }
+    ensures within { length line.new.items ≤ length line.old.items + 66 }
+{
+    line.push(b'=');
+    let _ = line.try_extend_from_slice(name);
+    append_spaces(name.len() + 1, line);
 }
 
 /// Appends what is shown of a value without bytes, and spaces.

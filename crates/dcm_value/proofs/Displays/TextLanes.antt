@@ -1,10 +1,14 @@
 -- Eight bytes of a text at a time.
-use Rattle.std.proofs.Common.{◌≡◌, ◌<◌, ℕ, zero, suc, ◌+◌, ◌*◌, ◌==◌, ◌&&◌, ◌||◌, not, cond, eqb, eqb-true, ltb, Bool, true, false, List, [], ◌∷◌, ◌++◌, length, take, drop, take-add, map, refl, sym, ap, ◌∙◌, arith, append_assoc}
+use Rattle.std.proofs.Common.{◌≡◌, ◌<◌, ℕ, zero, suc, ◌+◌, ◌*◌, ◌/◌, ◌^◌, ◌==◌, ◌&&◌, ◌||◌, not, cond, eqb, eqb-true, ltb, Bool, true, false, List, [], ◌∷◌, ◌++◌, length, take, drop, take-add, map, refl, sym, ap, ◌∙◌, arith, append_assoc}
 use Rattle.std.specs.Prelude.{nat_lt, count_by}
 use Rattle.std.specs.List.{list_all, list_any}
-use Rattle.std.proofs.lemmas.List.{take-append-drop}
+use Rattle.std.proofs.lemmas.List.{take-append-drop, length-drop}
 use Rattle.std.proofs.lemmas.List.Sums.{sum_by-append}
 use lib.Lanes.{chunk, mask_l}
+use lib.Count.{ones}
+use Rattle.dcm_value.proofs.Displays.Facts.{take_within}
+use native.Mathlib.Nat.{div-one, zero-div, pow-suc, mul_comm, div-div-eq-div-mul}
+use Rattle.std.proofs.lemmas.Simd.{ones-mask_l}
 use Rattle.std.proofs.lemmas.Grind.{flat_map-append}
 use Rattle.dcm_base.specs.Dump.ValueText.{escape, escaped}
 use Rattle.dcm_value.specs.Plain.{is_plain_byte}
@@ -132,3 +136,36 @@ escaped_more block n v before text after eight so_far more =
     ∙ ap (λ xs. xs ++ escaped (take n (drop (8 * block) v))) so_far
     ∙ append_assoc before (escaped (take (8 * block) v)) (escaped (take n (drop (8 * block) v)))
     ∙ ap (λ xs. before ++ xs) (sym whole)
+
+-- the last ones looked at again
+pub plain_less : (p : ℕ → Bool) (v : List ℕ) (m k : ℕ) → list_all p (take (m + k) v) ≡ true → list_all p (take m v) ≡ true
+plain_less p v m k so_far = first (list_all p (take m v)) (list_all p (chunk m k v)) (sym (ap (list_all p) (take-add m k v) ∙ all_append p (take m v) (chunk m k v)) ∙ so_far)
+  where
+    first : (t u : Bool) → (t && u) ≡ true → t ≡ true
+    first true u e = refl
+    first false u e = cc
+
+pub not_twice : (t : Bool) → not (not t) ≡ t
+not_twice true = refl
+not_twice false = refl
+
+-- the last eight bytes
+pub last_lanes : (v last : List ℕ) (n : ℕ) → last ≡ drop n v → n + 8 ≡ length v → chunk 0 8 last ≡ drop n v
+last_lanes v last n e long = ap (take 8) e ∙ take_within 8 (drop n v) (omega (arith, length-drop n v))
+
+-- a mask without its first bits
+half : (m : Bool) (n : ℕ) → (cond m 1 0 + 2 * n) / 2 ≡ n
+half true n = omega arith
+half false n = omega arith
+
+mask_behind : (p : ℕ → Bool) (k : ℕ) (v : List ℕ) → mask_l (map p v) / 2 ^ k ≡ mask_l (map p (drop k v))
+mask_behind p zero v = div-one (mask_l (map p v))
+mask_behind p (suc k) [] = zero-div (2 ^ suc k)
+mask_behind p (suc k) (x ∷ xs) =
+    ap (λ n. mask_l (map p (x ∷ xs)) / n) (pow-suc 2 k ∙ mul_comm (2 ^ k) 2)
+    ∙ sym (div-div-eq-div-mul (mask_l (map p (x ∷ xs))) 2 (2 ^ k))
+    ∙ ap (λ n. n / 2 ^ k) (half (p x) (mask_l (map p xs)))
+    ∙ mask_behind p k xs
+
+pub ones_behind : (p : ℕ → Bool) (k : ℕ) (v : List ℕ) → ones (mask_l (map p v) / 2 ^ k) ≡ count_by p (drop k v)
+ones_behind p k v = ap ones (mask_behind p k v) ∙ ones-mask_l p (drop k v)

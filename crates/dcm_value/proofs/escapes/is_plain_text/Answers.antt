@@ -1,7 +1,8 @@
-use Rattle.std.proofs.Common.{◌≡◌, ◌+◌, ◌*◌, ◌/◌, ◌∙◌, ap, sym, arith, ℕ, List, length, take, drop, true}
+use Rattle.std.proofs.Common.{◌≡◌, ◌+◌, ◌*◌, ◌∙◌, ap, sym, arith, ℕ, List, length, take, not, ◌-◌, true}
 use Rattle.std.specs.List.{list_all}
+use lib.Lanes.{chunk}
 use Rattle.dcm_value.specs.Plain.{is_plain_byte}
-use Rattle.dcm_value.proofs.Displays.TextLanes.{plain_more, plain_not, plain_all, none_escaped, some_escaped}
+use Rattle.dcm_value.proofs.Displays.TextLanes.{plain_more, plain_not, plain_all, plain_less, last_lanes, not_twice, none_escaped, some_escaped}
 use Rattle.dcm_value.proofs.escapes.is_plain_text.Goals as goal
 
 pub returns-then-has_escapes : goal.returns-then-has_escapes
@@ -18,9 +19,10 @@ loop-block-preserved c =
 pub returns : goal.returns
 returns c =
     let v : List ℕ = c.args.bytes.now in
-    let blocks : ℕ = length v / 8 in
-    let all : c.loop-block.block ≡ blocks = omega arith in
+    let n : ℕ = length v - 8 in
+    let gone : ℕ = 8 * c.loop-block.block - n in
     let here : list_all is_plain_byte (take (8 * c.loop-block.block) v) ≡ true = c.loop-block.invariant in
-    let so_far : list_all is_plain_byte (take (8 * blocks) v) ≡ true = ap (λ k. list_all is_plain_byte (take (8 * k) v)) (sym all) ∙ here in
-    let last : c.is_plain_singly.result ≡ list_all is_plain_byte (drop (8 * blocks) v) = c.is_plain_singly.ensures ∙ ap (list_all is_plain_byte) c.split_at.ensures.back in
-    last ∙ sym (plain_all is_plain_byte v (8 * blocks) so_far)
+    let reached : n + gone ≡ 8 * c.loop-block.block = omega arith in
+    let so_far : list_all is_plain_byte (take n v) ≡ true = plain_less is_plain_byte v n gone (ap (λ k. list_all is_plain_byte (take k v)) reached ∙ here) in
+    let last = last_lanes v c.split_at.result.1.now n c.split_at.ensures.back (omega arith) in
+    ap not c.has_escapes-2.ensures ∙ not_twice (list_all is_plain_byte (chunk 0 8 c.split_at.result.1.now)) ∙ ap (list_all is_plain_byte) last ∙ sym (plain_all is_plain_byte v n so_far)
