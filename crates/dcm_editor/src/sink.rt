@@ -261,6 +261,20 @@ impl<'e, S: Sink, A: Allocator> EditSink<'e, S, A> {
         unset_bits(self.editor.found, self.edits.list().len())
     }
 
+    /// Takes a token of which it is known that edits have to be asked.
+    fn take_edited(&mut self, token: Token) -> Result<(), WriteFailed>
+        requires { IsFilled token }
+        ensures { sinks.Took ⟦<EditSink<'e, S, A> as Sink>⟧ self.old self.new (atoms_of token.entry) result }
+    {
+        pass_edited(
+            &mut self.editor,
+            self.edits.list(),
+            &self.index,
+            token,
+            self.inner,
+        )
+    }
+
     /// Takes an element with its whole value by its tokens, one after another. It is not inlined: few elements are
     /// edited or dropped, and the way of the others stays small.
     #[inline(never)]
@@ -268,7 +282,7 @@ impl<'e, S: Sink, A: Allocator> EditSink<'e, S, A> {
         ensures { sinks.Took ⟦<EditSink<'e, S, A> as Sink>⟧ self.old self.new
             (whole_atoms head syntax value.now) result }
     {
-        self.take(Token::Open(head, syntax))?;
+        self.take_edited(Token::Open(head, syntax))?;
         if !value.is_empty() {
             self.take(Token::Bytes(value))?;
         }

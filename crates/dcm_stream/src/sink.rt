@@ -48,9 +48,9 @@ pub trait Sink {
         ensures failed { Tells (has_failed self.old) (has_failed self.new) result }
         ensures kept { kept self.new ≡ kept self.old };
 
-    /// Takes an element whose value is whole: its head, its bytes and its end, as `take` does one after another. Most
-    /// elements come so. A sink whose state stays the same over one, or that needs less to be held for it, has a shorter
-    /// way in a body of its own.
+    /// Takes an element whose value is whole, as long as its head says: its head, its bytes and its end, as `take` does
+    /// one after another. Most elements come so. A sink whose state stays the same over one, or that needs less to be
+    /// held for it, has a shorter way in a body of its own.
     #[inline(always)]
     fn take_whole(&mut self, head: Head, syntax: Syntax, value: &[u8]) -> Result<(), WriteFailed>
         requires { IsLeaf head syntax value.now }

@@ -1,5 +1,5 @@
 // Numbers as decimals, many at a time.
-ghost use Rattle.std.specs.Prelude.{◌≡◌, ◌<◌, ◌≤◌, ◌+◌, ◌*◌, ◌/◌, ◌^◌, [], ◌∷◌, ◌++◌, decimal, length, take};
+ghost use Rattle.std.specs.Prelude.{◌≡◌, ◌<◌, ◌≤◌, ◌+◌, ◌*◌, ◌/◌, ◌^◌, ◌∷◌, ◌++◌, decimal, length, take};
 ghost use Rattle.dcm_value.specs.Numbers.{number_in, numbers, shown_number};
 ghost use Rattle.dcm_value.specs.Swap.{IsUnit};
 
@@ -113,7 +113,7 @@ fn write_sized<const K: usize>(
 
 /// Writes the whole units of some bytes as decimals at the front of a text, each after a backslash, and returns where
 /// they end. What stands behind them has no meaning. Each number is read as it stands and written where it stays, up
-/// to four digits at a time: nothing is turned, blanked or copied.
+/// to four digits at a time: nothing is turned or copied, and nothing blanked for a number.
 pub fn write_numbers(
     is_signed: bool,
     is_big: bool,
