@@ -1,6 +1,8 @@
 -- The calls of the system that a program runs on.
 use Rattle.std.specs.Prelude.{ℕ, Bool, List, Option, Result, Ok, Err}
 use Rattle.std.specs.declared.io.Error.{Error}
+use Rattle.dcm_files.specs.declared.folders.Found.{Found}
+use Rattle.dcm_files.specs.declared.folders.Links.{Links}
 use Rattle.dcm_files.specs.declared.opened.FileKind.{FileKind}
 use Rattle.dcm_files.specs.declared.opened.Opened.{Opened}
 
@@ -25,8 +27,25 @@ pub data Call : Type 0 where
   removed : List ℕ → Result (Unit {0}) Error → Call
   -- an output that was taken back: the bytes that it took, and whether it failed
   closed : List ℕ → (failed : Bool) → Call
+  -- a folder whose names are listed
+  opened_folder : List ℕ → Result (Unit {0}) Error → Call
+  -- the next name in a folder
+  named : Result (Option (List ℕ)) Error → Call
+  closed_folder : Call
+  -- what is at a path, links followed or not
+  found : List ℕ → Links → Result (Option Found) Error → Call
+  made_folder : List ℕ → Result (Unit {0}) Error → Call
+  -- a new file at a path, of a mode
+  made_as : List ℕ → ℕ → Result FileKind Error → Call
+  -- a file that got a second name
+  linked : (from to : List ℕ) → Result (Unit {0}) Error → Call
 
 -- what a call that opens something says of it
 abbrev pub kind_in : {D : Type 0} → Result (Opened D) Error → Result FileKind Error
 kind_in (Ok d) = Ok d.kind
 kind_in (Err e) = Err e
+
+-- whether a call went well
+abbrev pub whether : {A : Type 0} → Result A Error → Result (Unit {0}) Error
+whether (Ok a) = Ok _
+whether (Err e) = Err e

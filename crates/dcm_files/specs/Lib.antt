@@ -1,4 +1,5 @@
 pub mod Devices
+pub mod Folders
 pub mod Output
 pub mod Pieces
 pub mod Memory

@@ -3,16 +3,20 @@ use Rattle.std.specs.Prelude.{◌≡◌, ℕ, List, length, find, bytes_eq, Opti
 use Rattle.std.specs.Option.{option_map}
 use Rattle.std.specs.IoError.{error_kind}
 use Rattle.std.specs.declared.io.Error.{Error}
-use Rattle.std.specs.declared.io.ErrorKind.TheVariants.{AlreadyExists, NotFound, StorageFull}
+use Rattle.std.specs.declared.io.ErrorKind.TheVariants.{AlreadyExists, NotFound, StorageFull, Unsupported}
 use Rattle.dcm_devices.specs.declared.memory.MemIn.{MemIn}
 use Rattle.dcm_devices.specs.declared.memory.MemOut.{MemOut}
 use Rattle.dcm_devices.specs.declared.memory.Measured.{Measured}
+use Rattle.dcm_files.specs.declared.folders.Found.{Found}
+use Rattle.dcm_files.specs.declared.folders.FoundKind.TheVariants.{File}
 use Rattle.dcm_files.specs.declared.memory.MemFile.{MemFile}
 use Rattle.dcm_files.specs.declared.memory.MemSystem.{MemSystem}
+use Rattle.dcm_files.specs.declared.memory.NoFolder.{NoFolder}
 use Rattle.dcm_files.specs.declared.opened.FileKind.{FileKind}
 use Rattle.dcm_files.specs.declared.opened.FileKind.TheVariants.{Regular, Other}
 use Rattle.dcm_files.specs.declared.opened.Opened.{Opened}
 use Rattle.dcm_files.specs.Devices.{MayDo}
+use Rattle.dcm_files.specs.Folders.{FoldersDo}
 
 -- the first file of a name
 abbrev pub file_named : List MemFile → List ℕ → Option MemFile
@@ -21,6 +25,10 @@ file_named files name = find (λ f. bytes_eq f.name.now name) files
 -- what a file is opened as
 abbrev pub kind_of : MemFile → FileKind
 kind_of f = Regular 0 f.number (length f.bytes.now)
+
+-- what is at its name
+abbrev pub found_as : MemFile → Found
+found_as f = record { kind = File; device = 0; number = f.number; mode = 420 }
 
 -- what is written where this file is, or none
 abbrev pub kind_written : Option MemFile → FileKind
@@ -57,4 +65,17 @@ may_do = record {
   moves = λ before from to r after. (r ≡ Ok _) × (after ≡ before);
   removes = λ before path r after. (r ≡ Ok _) × (after ≡ record before { written = None });
   closes = λ before d after. after ≡ record before { written = Some d.out };
+}
+
+-- it has no folders, and makes none
+abbrev pub folders_do : FoldersDo MemSystem Measured NoFolder
+folders_do = record {
+  opens_folder = λ before path r after. IsErrAnd r (λ e. error_kind e ≡ NotFound) × (after ≡ before);
+  names = λ before folder r left after. (r ≡ Ok None) × (left ≡ folder) × (after ≡ before);
+  closes_folder = λ before folder after. after ≡ before;
+  finds = λ before path links r after.
+      (r ≡ Ok (option_map found_as (file_named before.files.now path))) × (after ≡ before);
+  makes_folder = λ before path r after. IsErrAnd r (λ e. error_kind e ≡ Unsupported) × (after ≡ before);
+  makes_as = λ before path mode r after. MakesFile before (file_named before.files.now path) r after;
+  links = λ before from to r after. IsErrAnd r (λ e. error_kind e ≡ Unsupported) × (after ≡ before);
 }

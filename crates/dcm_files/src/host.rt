@@ -1,19 +1,21 @@
 // The devices that the system has.
 ghost use Rattle.std.specs.Prelude.{◌≡◌, [], IfOk};
-ghost use Rattle.dcm_files.specs.Host.{IsNew, noted};
+ghost use Rattle.dcm_files.specs.Host.{IsNew, noted, noted_folders};
 
 use crate::calls::Calls;
 use crate::devices::System;
+use crate::folders::{EntryName, Folders, Found, FoundKind, Links};
+use crate::host_folder::HostFolder;
 use crate::opened::{FileKind, Opened};
 use crate::output::OutputFile;
 use dcm_devices::{Device, Std};
 use either::{Either, Left, Right};
 use std::alloc::AllocError;
 use std::env::{Env, FillError};
-use std::fs::{File, Metadata, OpenOptions};
+use std::fs::{File, Files, Metadata, OpenOptions};
 use std::io::{BufWriter, ErrorKind, Stdin, Stdout};
 use std::os::fd::AsFd;
-use std::os::unix::fs::MetadataExt;
+use std::os::unix::fs::{MetadataExt, OpenOptionsExt};
 use std::{fs, io};
 
 /// What can be neither read nor written, for a standard stream that is closed.
@@ -129,6 +131,9 @@ type HostInput = Std<Either<Stdin, File>>;
 /// An output that was opened.
 type HostOutput = Std<BufWriter<Either<Stdout, OutputFile<File>>>>;
 
+/// A folder that is listed.
+type HostNames = HostFolder<<HostRuntime as Files>::Dir>;
+
 fn open_file(rt: HostRuntime, path: &str) -> io::Result<Opened<HostInput>>
     ensures { IfOk result (λ opened. IsNew opened.device) }
 {
@@ -167,13 +172,23 @@ fn create_file(rt: HostRuntime, path: &str) -> io::Result<Opened<HostOutput>>
     buffered(rt, Right(OutputFile::new(file)), kind)
 }
 
-/// Nobody asks what a new file is. Without memory for the buffer it is removed again.
-fn create_new_file(rt: HostRuntime, path: &str) -> io::Result<Opened<HostOutput>>
+fn kind_at_path(rt: HostRuntime, path: &str) -> io::Result<Option<FileKind>> {
+    match fs::metadata(&rt, path) {
+        Ok(file) => Ok(Some(kind_of(&file))),
+        Err(e) if e.kind() == ErrorKind::NotFound => Ok(None),
+        Err(e) => Err(e),
+    }
+}
+
+/// Opens what is written at a path at which nothing was, with bits of a mode. Nobody asks what a new file is. Without
+/// memory for the buffer it is removed again.
+fn create_new_as(rt: HostRuntime, path: &str, mode: u32) -> io::Result<Opened<HostOutput>>
     ensures { IfOk result (λ opened. IsNew opened.device) }
 {
     let file = OpenOptions::new()
         .write(true)
         .create_new(true)
+        .mode(mode)
         .open(&rt, path)?;
     match buffered(rt, Right(OutputFile::new(file)), FileKind::Unknown) {
         Ok(opened) => Ok(opened),
@@ -184,12 +199,45 @@ fn create_new_file(rt: HostRuntime, path: &str) -> io::Result<Opened<HostOutput>
     }
 }
 
-fn kind_at_path(rt: HostRuntime, path: &str) -> io::Result<Option<FileKind>> {
-    match fs::metadata(&rt, path) {
-        Ok(file) => Ok(Some(kind_of(&file))),
+/// The bits of a new file's mode where nothing else is said; the process leaves out those of its umask.
+const USUAL_MODE: u32 = 0o666;
+
+/// The bits of a mode that say who may read, write and run a file.
+const MODE_BITS: u32 = 0o777;
+
+/// What is at a path, by what the system says of it.
+fn found_of(file: &Metadata) -> Found {
+    let kind = if file.is_dir() {
+        FoundKind::Folder
+    } else if file.is_file() {
+        FoundKind::File
+    } else {
+        FoundKind::Other
+    };
+    Found {
+        kind,
+        device: file.dev(),
+        number: file.ino(),
+        mode: file.mode() & MODE_BITS,
+    }
+}
+
+/// What is at a path, or none where nothing is.
+fn find_at(rt: HostRuntime, path: &str, links: Links) -> io::Result<Option<Found>> {
+    let looked = match links {
+        Links::Followed => fs::metadata(&rt, path),
+        Links::Kept => fs::symlink_metadata(&rt, path),
+    };
+    match looked {
+        Ok(file) => Ok(Some(found_of(&file))),
         Err(e) if e.kind() == ErrorKind::NotFound => Ok(None),
         Err(e) => Err(e),
     }
+}
+
+/// Opens a folder, to list its names.
+fn open_names(rt: HostRuntime, path: &str) -> io::Result<HostNames> {
+    Ok(HostFolder::new(rt.open_dir(path)?))
 }
 
 /// The system that the program runs on. Proofs know the calls that were made of it.
@@ -265,7 +313,7 @@ impl System for Host {
     }
 
     fn create_new(&mut self, path: &str) -> io::Result<Opened<Self::Output>> {
-        let opened = create_new_file(self.rt, path);
+        let opened = create_new_as(self.rt, path, USUAL_MODE);
         self.calls.note(path.as_bytes(), &opened);
         opened
     }
@@ -289,5 +337,51 @@ impl System for Host {
         if failed {
             let (_output, _unwritten) = writer.into_parts();
         }
+    }
+}
+
+impl Folders for Host {
+    type Folder = HostNames;
+
+    ghost folders_do = { noted_folders (λ host. host.calls.made) };
+
+    fn open_folder(&mut self, path: &str) -> io::Result<HostNames> {
+        let opened = open_names(self.rt, path);
+        self.calls.note(path.as_bytes(), &opened);
+        opened
+    }
+
+    fn next_name(&mut self, folder: &mut HostNames, name: &mut EntryName) -> io::Result<bool> {
+        let given = folder.next(name);
+        self.calls.note(name.as_slice(), &given);
+        given
+    }
+
+    fn close_folder(&mut self, folder: HostNames) {
+        self.calls.note(b"", &folder);
+    }
+
+    fn find(&mut self, path: &str, links: Links) -> io::Result<Option<Found>> {
+        let found = find_at(self.rt, path, links);
+        self.calls.note(path.as_bytes(), &(links, &found));
+        found
+    }
+
+    fn make_folder(&mut self, path: &str) -> io::Result<()> {
+        let made = fs::create_dir(&self.rt, path);
+        self.calls.note(path.as_bytes(), &made);
+        made
+    }
+
+    fn create_as(&mut self, path: &str, mode: u32) -> io::Result<Opened<Self::Output>> {
+        let opened = create_new_as(self.rt, path, mode);
+        self.calls.note(path.as_bytes(), &(mode, &opened));
+        opened
+    }
+
+    fn link(&mut self, from: &str, to: &str) -> io::Result<()> {
+        let linked = fs::hard_link(&self.rt, from, to);
+        self.calls.note(from.as_bytes(), &(to.as_bytes(), &linked));
+        linked
     }
 }

@@ -5,11 +5,13 @@
 //!   an `Opened`, a device with its `FileKind`. `Host` notes its `Calls` for proofs.
 //! - `open_devices` opens the input and the output that words name, `-` for a standard stream, and refuses two that are
 //!   one file. `open_input` and `open_output` open one of them.
+//! - `Folders` is a system that lists folders, says what is at a name, and makes names.
 //! - `OutputFile` is a file that keeps what it held until its first byte is written. It is over any `Target`, of which
 //!   a `File` is one.
 //! - `next_piece` reads an input piece by piece.
 //! - `specs` says what a call leaves: `Devices` of opening, `Output` of a file that is written, `Pieces` of a piece;
-//!   `Host` and `Call` of the real system.
+//!   `Folders` of folders; `Host` and
+//!   `Call` of the real system.
 //!
 //! Two writes and a flush. A `target` that held bytes is emptied once, before the first of them:
 //!
@@ -21,7 +23,9 @@
 
 mod calls;
 mod devices;
+mod folders;
 mod host;
+mod host_folder;
 mod memory;
 mod opened;
 mod output;
@@ -30,8 +34,10 @@ mod pieces;
 
 pub use calls::Calls;
 pub use devices::{System, open_devices, open_input, open_output, unopened};
+pub use folders::{EntryName, Folders, Found, FoundKind, Links, MOST_OF_ENTRY};
 pub use host::Host;
-pub use memory::{MemFile, MemSystem};
+pub use host_folder::HostFolder;
+pub use memory::{MemFile, MemSystem, NoFolder};
 pub use opened::{FileKind, Opened, Unopened};
 pub use output::{OutputFile, Target};
 pub use part::{end_part, open_whole_devices};

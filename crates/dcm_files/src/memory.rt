@@ -3,6 +3,7 @@ ghost use Rattle.std.specs.Prelude.{◌≡◌, Some, None};
 ghost use Rattle.dcm_files.specs.Memory as spec;
 
 use crate::devices::System;
+use crate::folders::{EntryName, Folders, Found, FoundKind, Links};
 use crate::opened::{FileKind, Opened};
 use dcm_devices::{Measured, MemIn, MemOut};
 use std::alloc::AllocError;
@@ -19,6 +20,9 @@ const NEW: FileKind = FileKind::Regular {
     size: 0,
 };
 
+/// The mode of each file.
+const MODE: u32 = 0o644;
+
 /// A file in memory. Two names of one file have one number.
 #[derive(Clone, Copy)]
 pub struct MemFile<'a> {
@@ -31,6 +35,18 @@ pub struct MemFile<'a> {
 }
 
 impl<'a> MemFile<'a> {
+    /// What is at its name.
+    fn found(&self) -> Found
+        ensures { result ≡ spec.found_as self.now }
+    {
+        Found {
+            kind: FoundKind::File,
+            device: 0,
+            number: self.number,
+            mode: MODE,
+        }
+    }
+
     /// What it is opened as.
     fn kind(&self) -> FileKind
         ensures { result ≡ spec.kind_of self.now }
@@ -177,5 +193,44 @@ impl<'a> System for MemSystem<'a> {
 
     fn close(&mut self, output: Measured) {
         self.written = Some(output.into_inner());
+    }
+}
+
+/// A folder in a system that has none.
+#[derive(Drop)]
+pub struct NoFolder;
+
+impl<'a> Folders for MemSystem<'a> {
+    type Folder = NoFolder;
+
+    ghost folders_do = { spec.folders_do };
+
+    fn open_folder(&mut self, _path: &str) -> io::Result<NoFolder> {
+        Err(io::Error::from(ErrorKind::NotFound))
+    }
+
+    fn next_name(&mut self, _folder: &mut NoFolder, _name: &mut EntryName) -> io::Result<bool> {
+        Ok(false)
+    }
+
+    fn close_folder(&mut self, _folder: NoFolder) {}
+
+    fn find(&mut self, path: &str, _links: Links) -> io::Result<Option<Found>> {
+        match file_named(self.files, path.as_bytes()) {
+            Some(file) => Ok(Some(file.found())),
+            None => Ok(None),
+        }
+    }
+
+    fn make_folder(&mut self, _path: &str) -> io::Result<()> {
+        Err(io::Error::from(ErrorKind::Unsupported))
+    }
+
+    fn create_as(&mut self, path: &str, _mode: u32) -> io::Result<Opened<Measured>> {
+        self.create_new(path)
+    }
+
+    fn link(&mut self, _from: &str, _to: &str) -> io::Result<()> {
+        Err(io::Error::from(ErrorKind::Unsupported))
     }
 }
