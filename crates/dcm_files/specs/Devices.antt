@@ -1,6 +1,6 @@
 -- Which devices a program opens, and why it does not.
 use Rattle.std.specs.Prelude.{◌≡◌, ◌≢◌, ◌&&◌, ℕ, ◌==◌, nat_lt, List, map, codes, Vec, Option, Some, None, Result}
-use Rattle.std.specs.Prelude.{Ok, Err, IfOk, if◌then◌else◌}
+use Rattle.std.specs.Prelude.{Ok, Err, if◌then◌else◌}
 use Rattle.std.specs.IoError.{error_kind}
 use Rattle.std.specs.Str.{IsUtf8}
 use Rattle.std.specs.declared.io.Error.{Error}

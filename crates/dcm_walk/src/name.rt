@@ -1,0 +1,90 @@
+// Names and paths.
+ghost use Rattle.std.specs.Prelude.{◌≡◌, ◌≤◌, ◌++◌, length, IfOk, IfErr};
+ghost use Rattle.dcm_walk.specs.Names as spec;
+
+use arrayvec::ArrayVec;
+use dcm_files::MOST_OF_ENTRY;
+
+/// The most bytes of a path that the system takes (PATH_MAX, which counts its byte 00).
+pub const MOST_OF_PATH: usize = 4095;
+
+/// The most bytes of a path that is put together: that of a folder, a slash and a name in it.
+pub const LONGEST: usize = MOST_OF_PATH + 1 + MOST_OF_ENTRY;
+
+/// What the part file of a run begins with, in capitals or not.
+const PART: &[u8] = b".part.";
+
+/// What ends a part of a name.
+const SLASH: u8 = b'/';
+
+/// The path of a name in a folder.
+pub(crate) fn below(folder: &[u8], entry: &[u8]) -> ArrayVec<u8, LONGEST>
+    requires folder { length folder.now ≤ 4095 }
+    requires entry { length entry.now ≤ 4096 }
+    ensures { result.items ≡ spec.below folder.now entry.now }
+{
+    let mut path = ArrayVec::new();
+    let _ = path.try_extend_from_slice(folder);
+    path.push(SLASH);
+    let _ = path.try_extend_from_slice(entry);
+    path
+}
+
+/// Whether a part of a name begins here, and is neither empty nor `.` nor `..`.
+fn begins_part(bytes: &[u8]) -> bool
+    ensures { result ≡ spec.begins_part bytes.now }
+{
+    !matches!(
+        bytes,
+        [] | [b'/', ..] | [b'.'] | [b'.', b'/', ..] | [b'.', b'.'] | [b'.', b'.', b'/', ..]
+    )
+}
+
+/// Whether a relative name leads to something below the folder: it has no byte 00, and no part that is empty, `.` or
+/// `..`.
+pub(crate) fn leads_below(relative: &[u8]) -> bool
+    ensures { result ≡ spec.leads_below relative.now }
+{
+    if !begins_part(relative) {
+        return false;
+    }
+    let mut rest = relative;
+    while let [first, after @ ..] = rest {
+        if *first == 0 || (*first == SLASH && !begins_part(after)) {
+            return false;
+        }
+        rest = after;
+    }
+    true
+}
+
+/// A letter as a small one.
+fn small(byte: u8) -> u8
+    ensures { result ≡ spec.small byte }
+{
+    if byte.is_ascii_uppercase() {
+        byte + 32
+    } else {
+        byte
+    }
+}
+
+/// Whether a relative name is that of the part file of a run.
+pub(crate) fn is_part_file(relative: &[u8]) -> bool
+    ensures { result ≡ spec.is_part_file relative.now }
+{
+    match relative {
+        [a, b, c, d, e, f, ..] => {
+            let begin = [
+                small(*a),
+                small(*b),
+                small(*c),
+                small(*d),
+                small(*e),
+                small(*f),
+            ];
+            begin.as_slice() == PART
+        }
+        _ => false,
+    }
+}
