@@ -212,10 +212,10 @@ def wrong_crates() -> list:
     named = {name for row in re.findall(r"^\| ([a-z]\w+(?:, \w+)*) \|", table, re.M) for name in row.split(", ")}
     wrong = [f"ARCHITECTURE and crates.txt differ in {sorted(named ^ crates)}"] if named != crates else []
     gate = read("docs/engineers/GATE.md")
-    for name, inside, further in re.findall(r"^\| (\w+) \| (\d+) \| (\d+) \|$", gate, re.M):
+    for name, inside, further in re.findall(r"^\| (\w+) \| (\d+) \| (\d+) \|", gate, re.M):
         found = tuple(len(list(ROOT.glob(f"{folder}/*.edit"))) for folder in (f"crates/{name}/must-fail", f"scripts/edits/{name}"))
         wrong += [f"GATE: {name} has {found[0]} and {found[1]} edits"] if found != (int(inside), int(further)) else []
-    rows = {name for name, _, _ in re.findall(r"^\| (\w+) \| (\d+) \| (\d+) \|$", gate, re.M)}
+    rows = {name for name, _, _ in re.findall(r"^\| (\w+) \| (\d+) \| (\d+) \|", gate, re.M)}
     others = {path.parent.name for path in ROOT.glob("crates/*/must-fail")} - rows
     wrong += [f"GATE lacks the edits of {sorted(others)}"] if others else []
     for crate, edits in re.findall(r"(dcm_\w+) ((?:`\w+`(?:, )?)+)", gate.split("## Edits")[1].split("These public")[0]):

@@ -64,8 +64,8 @@ Opens d path before None after = NotOpened d path before after
 Opens d path before (Some folder) after = d.opens_folder before path (Ok folder) after
 
 -- the folder of the output
-abbrev pub is_output : Walk → Found → Bool
-is_output w found = found.device == w.output.device && found.number == w.output.number
+abbrev pub is_output : FolderNumber → Found → Bool
+is_output output found = found.device == output.device && found.number == output.number
 
 -- what is done with a name: it is visited, or entered where it is a folder
 pub data DoesNamed {V S O F : Type 0} (d : FoldersDo S O F) (visits : Visits V S) (Enter : Found → Named → Step V S)
@@ -131,11 +131,11 @@ pub data DoesFolder {V S O F : Type 0} (d : FoldersDo S O F) (visits : Visits V 
 pub data Enters {V S O F : Type 0} (d : FoldersDo S O F) (visits : Visits V S) (w : Walk)
     (Entry : (folder entry : List ℕ) → Step V S) (found : Found) (n : Named) (from : V) (before : S)
     (r : Result (Unit {0}) Stopped) (to : V) (after : S) : Type 0 where
-  of_output : is_output w found ≡ true → visits from before n whats.OfOutput r to after
+  of_output : is_output w.output found ≡ true → visits from before n whats.OfOutput r to after
       → Enters d visits w Entry found n from before r to after
-  not_opened : (tried : S) → is_output w found ≡ false → Opens d n.path before None tried
+  not_opened : (tried : S) → is_output w.output found ≡ false → Opens d n.path before None tried
       → visits from tried n whats.Unlisted r to after → Enters d visits w Entry found n from before r to after
-  entered : (folder : F) (opened : S) → is_output w found ≡ false → Opens d n.path before (Some folder) opened
+  entered : (folder : F) (opened : S) → is_output w.output found ≡ false → Opens d n.path before (Some folder) opened
       → DoesFolder d visits (Entry n.path) n folder from opened r to after
       → Enters d visits w Entry found n from before r to after
 

@@ -1,3 +1,4 @@
 pub mod Names
 pub mod Visits
 pub mod Folder
+pub mod List

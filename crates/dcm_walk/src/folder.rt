@@ -44,7 +44,7 @@ fn named_at(base: usize, path: &[u8]) -> Named<'_>
 }
 
 /// Why a name cannot be looked at, or none where it can.
-fn judge(named: &Named) -> Option<What>
+pub(crate) fn judge(named: &Named) -> Option<What>
     ensures { spec.Judges (name_of named.now) result }
 {
     if named.path.len() > MOST_OF_PATH || !leads_below(named.relative) {
@@ -60,7 +60,7 @@ fn judge(named: &Named) -> Option<What>
 }
 
 /// The text of a path that is one.
-fn text(path: &[u8]) -> &str
+pub(crate) fn text(path: &[u8]) -> &str
     requires { IsUtf8 path.now }
     ensures { result.now ≡ path.now }
 {
@@ -93,10 +93,10 @@ fn opened<S: Folders>(system: &mut S, path: &[u8]) -> Option<S::Folder>
 }
 
 /// Whether a folder is that of the outputs.
-fn is_output(walk: Walk, found: Found) -> bool
-    ensures { result ≡ spec.is_output walk found }
+pub(crate) fn is_output(output: FolderNumber, found: Found) -> bool
+    ensures { result ≡ spec.is_output output found }
 {
-    found.device == walk.output.device && found.number == walk.output.number
+    found.device == output.device && found.number == output.number
 }
 
 /// Does the names of an open folder, within which so many may be open. Answers whether they were listed to the end.
@@ -181,7 +181,7 @@ fn enter<S: Folders, E, V: Visitor<S, E>>(
     if levels == 0 {
         return visitor.visit(system, errors, named, What::TooDeep);
     }
-    if is_output(walk, found) {
+    if is_output(walk.output, found) {
         return visitor.visit(system, errors, named, What::OfOutput);
     }
     match opened(system, named.path) {

@@ -7,9 +7,11 @@
 #![tactic(auto)]
 
 mod folder;
+mod list;
 mod name;
 mod visitor;
 
 pub use folder::{FolderNumber, walk_folder};
+pub use list::{ListEnd, walk_list};
 pub use name::{LONGEST, MOST_OF_PATH};
 pub use visitor::{Named, Stopped, Visitor, What};
