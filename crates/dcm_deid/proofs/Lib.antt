@@ -6,6 +6,7 @@ mod FateRows
 pub mod Taking
 pub mod Passing
 pub mod Unheld
+pub mod Noted
 pub mod Through
 pub mod HeldValues
 pub mod Forms

@@ -8,6 +8,7 @@ pub mod Pairs
 pub mod Pixels
 pub mod DeidentifySink
 pub mod Deidentifying
+pub mod Noting
 pub mod Through
 pub mod Laws
 pub mod Meta

@@ -1,10 +1,11 @@
 // An element with its whole value, by one call.
-ghost use Rattle.std.specs.Prelude.{◌≡◌, ℕ, List, false, OnOk};
+ghost use Rattle.std.specs.Prelude.{◌≡◌, ℕ, List, false, OnOk, OnErr};
 ghost use Rattle.dcm_base.specs.declared.form.Form.TheVariants.{Value as a_value};
 ghost use Rattle.dcm_deid.specs.DeidentifySink as spec;
 ghost use Rattle.dcm_deid.specs.Deidentifying as deidentifying;
 ghost use Rattle.dcm_stream.specs.Sinks as sinks;
 ghost use Rattle.dcm_stream.specs.Skip.{depth};
+ghost use Rattle.dcm_deid.specs.Noting.{NotesFailed, Told, head_put, value_put};
 ghost use Rattle.dcm_stream.specs.Tokens.{IsLeaf, whole_atoms};
 
 use crate::deidentifier::Deidentifier;
@@ -12,9 +13,10 @@ use crate::fate::{Fate, Options};
 use crate::sink::{put_gap, put_head};
 use dcm_base::{Form, Syntax, WriteFailed};
 use dcm_head::Head;
-use dcm_stream::Sink;
+use dcm_stream::{Sink, WholeFailed};
 
-/// Passes on what becomes of an element of this fate, whose value nobody has to know.
+/// Passes on what becomes of an element of this fate, whose value nobody has to know. All that comes of one that is not
+/// kept is put at its head.
 #[inline(always)]
 fn put_whole<S: Sink>(
     fate: Fate,
@@ -22,21 +24,24 @@ fn put_whole<S: Sink>(
     syntax: Syntax,
     value: &[u8],
     sink: &mut S,
-) -> Result<(), WriteFailed>
+) -> Result<(), WholeFailed>
     requires { IsLeaf head syntax value.now }
-    ensures { sinks.Took S.Sink sink.old sink.new (deidentifying.whole_by fate head syntax value.now) result }
+    ensures took { sinks.Took S.Sink sink.old sink.new (deidentifying.whole_by fate head syntax value.now) result }
+    ensures told { Told S.Sink sink.old sink.new (head_put fate head syntax) (value_put fate value.now) result }
 {
-    match fate {
-        Fate::Keep => sink.take_whole(head, syntax, value),
-        Fate::Remove | Fate::Empty | Fate::Replace | Fate::Uid => {
-            put_head(fate, Form::Value, head, syntax, sink)
-        }
+    if let Fate::Keep = fate {
+        return sink.take_whole_telling(head, syntax, value);
+    }
+    match put_head(fate, Form::Value, head, syntax, sink) {
+        Ok(()) => Ok(()),
+        Err(_) => Err(WholeFailed::AtHead),
     }
 }
 
-/// Passes on what becomes of an element of this fate with its whole value, of which nothing is left out so far, and goes
-/// on after it. One call does for its three tokens: nobody has to know its value, so neither its bytes nor its end make
-/// anything of their own, and what its head opens is closed by its end.
+/// Passes on what becomes of an element of this fate with its whole value, of which nothing is left out so far, and
+/// goes on after it. One call does for its three tokens: nobody has to know its value, so neither its bytes nor its end
+/// make anything of their own, and what its head opens is closed by its end. The element is noted once its head is out,
+/// also where the writer then fails.
 #[inline(always)]
 pub fn pass_unheld<S: Sink>(
     options: &Options,
@@ -55,9 +60,20 @@ pub fn pass_unheld<S: Sink>(
         (deidentifying.passed_of options.now key place.old (whole_atoms head syntax value.now)) result }
     ensures state { OnOk result
         (deidentifying.GoesOn options.now place.old place.new (whole_atoms head syntax value.now)) }
+    ensures noted { OnErr result (NotesFailed S.Sink sink.old sink.new options.now place.old place.new fate head syntax
+        value.now) }
 {
     put_gap(options, place, Some(head.tag), sink)?;
-    put_whole(fate, head, syntax, value, sink)?;
-    place.pass_by(head.tag);
-    Ok(())
+    let tag = head.tag;
+    match put_whole(fate, head, syntax, value, sink) {
+        Ok(()) => {
+            place.pass_by(tag);
+            Ok(())
+        }
+        Err(WholeFailed::AtHead) => Err(WriteFailed),
+        Err(WholeFailed::InValue) => {
+            place.pass_by(tag);
+            Err(WriteFailed)
+        }
+    }
 }

@@ -2,6 +2,7 @@ pub mod EditSink
 pub mod Masks
 pub mod Asking
 pub mod Editing
+pub mod Noting
 pub mod Through
 pub mod Sound
 pub mod Laws

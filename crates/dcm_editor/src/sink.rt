@@ -4,11 +4,12 @@ ghost use Rattle.std.specs.Borrow.{GName};
 ghost use Rattle.dcm_base.specs.Steps.Atoms.{opens_item};
 ghost use Rattle.dcm_stream.specs.Sinks as sinks;
 ghost use Rattle.dcm_stream.specs.Skip.{depth};
-ghost use Rattle.dcm_stream.specs.Tokens.{IsFilled, atoms_of, whole_atoms};
+ghost use Rattle.dcm_stream.specs.Tokens.{IsFilled, IsLeaf, atoms_of, whole_atoms};
 ghost use Rattle.dcm_editor.specs.Asking as asking;
 ghost use Rattle.dcm_editor.specs.EditSink.{State as EditState, passed, begun};
 ghost use Rattle.dcm_editor.specs.Sound.{IsSound, IsSoundAt, IsSoundAt-prop};
 ghost use Rattle.dcm_editor.specs.Editing as editing;
+ghost use Rattle.dcm_editor.specs.Noting.{NotesWhole};
 ghost use Rattle.dcm_editor.specs.Indexes as indexes;
 ghost use Rattle.dcm_editor.specs.Masks as masks;
 ghost use Rattle.dcm_edits.specs.Meaning.{edit_of};
@@ -24,7 +25,7 @@ use crate::place::Asked;
 use dcm_base::{Length, Syntax, Tag, WriteFailed};
 use dcm_edits::{Edit, Edits, NewElement};
 use dcm_head::Head;
-use dcm_stream::{Bar, Sink, Token};
+use dcm_stream::{Bar, Sink, Token, WholeFailed};
 use std::alloc::{Allocator, Global};
 
 /// Passes on what edits put in a gap of the innermost open data set.
@@ -223,6 +224,34 @@ fn pass_on<S: Sink, A: Allocator>(
     Ok(())
 }
 
+/// Passes on an element that no edit meets, with its whole value. It is noted once its head is out, also where the
+/// writer then fails: so where the edits are is as by its tokens one after another.
+#[inline(always)]
+fn pass_whole<S: Sink>(
+    editor: &mut Editor,
+    head: Head,
+    syntax: Syntax,
+    value: &[u8],
+    sink: &mut S,
+) -> Result<(), WriteFailed>
+    requires { IsLeaf head syntax value.now }
+    ensures took { sinks.Took S.Sink sink.old sink.new (whole_atoms head syntax value.now) result }
+    ensures noted { NotesWhole S.Sink sink.old sink.new editor.old editor.new head syntax value.now result }
+{
+    let tag = head.tag;
+    match sink.take_whole_telling(head, syntax, value) {
+        Ok(()) => {
+            editor.pass_by(tag);
+            Ok(())
+        }
+        Err(WholeFailed::AtHead) => Err(WriteFailed),
+        Err(WholeFailed::InValue) => {
+            editor.pass_by(tag);
+            Err(WriteFailed)
+        }
+    }
+}
+
 /// A sink that passes the tokens of a data set on to another one, as edits make them. It bars tags that do not
 /// ascend (DECISIONS, D-27), and does not ask what the other one bars.
 #[derive(Drop)]
@@ -327,9 +356,7 @@ impl<'e, S: Sink, A: Allocator> Sink for EditSink<'e, S, A> {
         if !self.editor.leaves(self.edits.list(), &self.index, head.tag) {
             return self.take_by_token(head, syntax, value);
         }
-        self.inner.take_whole(head, syntax, value)?;
-        self.editor.pass_by(head.tag);
-        Ok(())
+        pass_whole(&mut self.editor, head, syntax, value, self.inner)
     }
 
     fn accepts(&self, head: &Head) -> Result<(), Bar> {

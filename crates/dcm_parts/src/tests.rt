@@ -2,6 +2,7 @@ mod data_sets;
 mod dictionaries;
 mod edits;
 mod examples;
+mod failures;
 mod files;
 mod heads;
 mod lines;

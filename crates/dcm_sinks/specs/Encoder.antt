@@ -1,5 +1,5 @@
 -- An `Encoder` in the definitions.
-use Rattle.std.specs.Prelude.{◌≡◌, ℕ, List, Option, None, Some, Result, OnOk, fold}
+use Rattle.std.specs.Prelude.{◌≡◌, ℕ, List, ◌++◌, Option, None, Some, Result, OnOk, fold}
 use Rattle.dcm_base.specs.declared.syntax.Syntax.{Syntax}
 use Rattle.dcm_base.specs.Steps.Atoms.{Atom, opens}
 use Rattle.dcm_base.specs.Steps.Outputs as device
@@ -7,6 +7,8 @@ use Rattle.dcm_stream.specs.Judging.{head_form}
 use Rattle.dcm_base.specs.Steps.Steps.{outputs}
 use Rattle.dcm_head.specs.declared.head.Head.{Head}
 use Rattle.dcm_stream.specs.Skip.{depth}
+use Rattle.dcm_stream.specs.Telling.{PutsWhole}
+use Rattle.dcm_stream.specs.declared.token.WholeFailed.{WholeFailed}
 use Rattle.dcm_sinks.specs.declared.encode.copier.Copier.{Copier}
 use Rattle.dcm_sinks.specs.declared.encode.encoder.Encoder.{Encoder}
 use Rattle.dcm_sinks.specs.Copier.{copying}
@@ -46,4 +48,16 @@ pub record Took {W T E : Type 0} (w : device.Writer W) (held holds : W) (old new
     (r : Result T E) : Type 0 where
   pub state : OnOk r (Encoded old new atoms)
   pub bytes : Encodes w held holds old atoms r
+  pub failed : device.Tells w held holds r
+
+-- the same of an element with its whole value, and how far it came where the call failed
+abbrev pub EncodesWhole : {W T : Type 0} → device.Writer W → (held holds : W) → Encoder → (head value : List Atom)
+    → Result T WholeFailed → Type 0
+EncodesWhole w held holds encoder head value r =
+    PutsWhole encode_step encode_writes (state encoder) (w.contents held) (w.contents holds) head value r
+
+pub record TookWhole {W T : Type 0} (w : device.Writer W) (held holds : W) (old new : Encoder) (head value : List Atom)
+    (r : Result T WholeFailed) : Type 0 where
+  pub state : OnOk r (Encoded old new (head ++ value))
+  pub bytes : EncodesWhole w held holds old head value r
   pub failed : device.Tells w held holds r

@@ -8,7 +8,7 @@ mod encoder;
 
 use dcm_base::{DeviceOut, Form, Syntax, Watched, WriteFailed, form_of};
 use dcm_head::Head;
-use dcm_stream::{Bar, Sink, Token};
+use dcm_stream::{Bar, Sink, Token, WholeFailed};
 pub use encoder::{Encoder, leaf_head};
 
 /// A sink that writes a data set in a target syntax: with undefined lengths and delimiters, each sequence as SQ,
@@ -65,6 +65,17 @@ impl<'w, W: DeviceOut> Sink for EncodeSink<'w, W> {
     #[inline(always)]
     fn take_whole(&mut self, head: Head, syntax: Syntax, value: &[u8]) -> Result<(), WriteFailed> {
         self.encoder.take_whole(self.out, head, syntax, value)
+    }
+
+    #[inline(always)]
+    fn take_whole_telling(
+        &mut self,
+        head: Head,
+        syntax: Syntax,
+        value: &[u8],
+    ) -> Result<(), WholeFailed> {
+        self.encoder
+            .take_whole_telling(self.out, head, syntax, value)
     }
 
     fn accepts(&self, head: &Head) -> Result<(), Bar> {

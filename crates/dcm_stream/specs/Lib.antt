@@ -13,3 +13,4 @@ pub mod Sinks
 pub mod Skip
 pub mod Laws
 pub mod WholeLeaf
+pub mod Telling

@@ -33,7 +33,13 @@ leaf_atoms tag vr value = opens tag vr (Known (length value)) Little ∷ (map va
 abbrev pub fragment_atoms : List ℕ → List Atom
 fragment_atoms value = opens_fragment (length value) ∷ (map value_byte value ++ closes_leaf ∷ [])
 
--- an element with its whole value, and the head of one
+-- an element with its whole value, in two parts and as one, and the head of one
+abbrev pub head_atoms : Head → Syntax → List Atom
+head_atoms head syntax = opens head.tag head.vr head.length syntax ∷ []
+
+abbrev pub value_atoms : List ℕ → List Atom
+value_atoms value = map value_byte value ++ closes_leaf ∷ []
+
 abbrev pub whole_atoms : Head → Syntax → List ℕ → List Atom
 whole_atoms head syntax value = opens head.tag head.vr head.length syntax ∷ (map value_byte value ++ closes_leaf ∷ [])
 

@@ -5,9 +5,10 @@ ghost use Rattle.dcm_base.specs.Steps.Atoms.{Atom};
 ghost use Rattle.dcm_stream.specs.declared.token.Bar.{Bar};
 ghost use Rattle.dcm_head.specs.declared.head.Head.{Head};
 ghost use Rattle.dcm_base.specs.Steps.Steps.{outputs};
-ghost use Rattle.dcm_stream.specs.Tokens.{atoms_of, whole_atoms, Bars, IsFilled, IsLeaf};
+ghost use Rattle.dcm_stream.specs.Telling.{PutsWhole};
+ghost use Rattle.dcm_stream.specs.Tokens.{atoms_of, whole_atoms, head_atoms, value_atoms, Bars, IsFilled, IsLeaf};
 
-use super::{Bar, Token};
+use super::{Bar, Token, WholeFailed};
 use dcm_base::{Syntax, WriteFailed};
 use dcm_head::Head;
 
@@ -66,6 +67,37 @@ pub trait Sink {
             self.take(Token::Bytes(value))?;
         }
         self.take(Token::CloseLeaf)
+    }
+
+    /// Takes such an element as `take_whole` does, and says where the writer failed whether what its head makes was out.
+    /// So a sink that passes it on is then where `take` would have left it.
+    #[inline(always)]
+    fn take_whole_telling(
+        &mut self,
+        head: Head,
+        syntax: Syntax,
+        value: &[u8],
+    ) -> Result<(), WholeFailed>
+        requires { IsLeaf head syntax value.now }
+        ensures state { OnOk result (state self.new
+            ≡ fold step (state self.old) (whole_atoms head syntax value.now)) }
+        ensures bytes { PutsWhole step writes (state self.old) (contents self.old) (contents self.new)
+            (head_atoms head syntax) (value_atoms value.now) result }
+        ensures failed { Tells (has_failed self.old) (has_failed self.new) result }
+        ensures kept { kept self.new ≡ kept self.old }
+    {
+        let Ok(()) = self.take(Token::Open(head, syntax)) else {
+            return Err(WholeFailed::AtHead);
+        };
+        if !value.is_empty() {
+            let Ok(()) = self.take(Token::Bytes(value)) else {
+                return Err(WholeFailed::InValue);
+            };
+        }
+        let Ok(()) = self.take(Token::CloseLeaf) else {
+            return Err(WholeFailed::InValue);
+        };
+        Ok(())
     }
 
     /// Whether it takes an element with this head.

@@ -79,3 +79,12 @@ pub enum Bar {
     /// An element of which identity cannot be taken out, nor the element itself.
     Identity,
 }
+
+/// How far an element had come that a sink takes whole, when its writer failed.
+#[derive(Clone, Copy, Debug, PartialEq, Eq)]
+pub enum WholeFailed {
+    /// What its head makes was not out.
+    AtHead,
+    /// That was out, and of its value and its end not all.
+    InValue,
+}

@@ -1,5 +1,6 @@
 -- An element that no edit meets is passed on whole, with its value and its end.
-use Rattle.std.proofs.Common.{◌≡◌, ℕ, List, [], ◌∷◌, ◌++◌, map, fold, true, false, refl, sym, ◌∙◌, ap}
+use Rattle.std.proofs.Common.{◌≡◌, ℕ, List, [], ◌∷◌, ◌++◌, map, fold, true, false, refl, sym, ◌∙◌, ap, subst, Result, Ok, Err}
+use Rattle.std.specs.Prelude.{OnOk, MatchResult}
 use Rattle.std.proofs.lemmas.List.Sums.{fold-append}
 use Rattle.dcm_base.specs.declared.syntax.Syntax.{Syntax}
 use Rattle.dcm_base.specs.Steps.Atoms.{Atom, opens, value_byte, closes_leaf}
@@ -8,12 +9,18 @@ use Rattle.dcm_base.proofs.Writes.Runs.{outputs-append}
 use Rattle.dcm_head.specs.declared.head.Head.{Head}
 use Rattle.dcm_stream.specs.Skip.{opened, closed}
 use Rattle.dcm_stream.specs.Tokens.{whole_atoms}
+use Rattle.dcm_stream.specs.declared.token.WholeFailed.{WholeFailed}
+use Rattle.dcm_stream.specs.declared.token.WholeFailed.TheVariants.{AtHead, InValue}
 use Rattle.dcm_edits.specs.Meaning.{edit_of}
 use Rattle.dcm_edits.specs.declared.edit.Edit.{Edit as AnEdit}
 use Rattle.dcm_editor.specs.declared.editor.Editor.{Editor}
 use Rattle.dcm_editor.specs.EditSink.{State, next, passed}
 use Rattle.dcm_editor.specs.Editing.{state, meant, leaves}
 use Rattle.dcm_editor.specs.Masks as masks
+use Rattle.dcm_stream.specs.declared.sink.Sink.{Ghosts}
+use Rattle.dcm_editor.specs.Noting.{Notes, NotedAt, NotesFailed, NotesWhole}
+use Rattle.dcm_editor.specs.Sound.{IsSound}
+use Rattle.dcm_editor.proofs.Masks.SoundSteps.{sound_fold}
 use Rattle.dcm_editor.proofs.Masks.Answering.{bytes_stay}
 use Rattle.dcm_editor.proofs.EditSinks.Passing.{bytes_passed, one_kept, dropped_as}
 use Rattle.dcm_editor.proofs.EditSinks.Unmet.{left_state, left_passed, none_dropped}
@@ -64,3 +71,21 @@ module _ {A : Type 0} (edits : List (AnEdit A)) (e : Editor) (head : Head) (synt
       ap (masks.meant (map edit_of edits)) is
       ∙ opened_is
       ∙ sym (behind_stays (next (meant edits e) opening) value none_behind)
+
+  pub noted_state : {T E : Type 0} (r : Result T E) (new : Editor) (Failed : Type 0) → MatchResult r (λ _. Notes e new head) (λ _. Failed)
+      → OnOk r (masks.meant (map edit_of edits) (state new) ≡ fold next (meant edits e) (whole_atoms head syntax value))
+  noted_state (Ok x) new Failed noted = whole_state (state new) noted
+  noted_state (Err d) new Failed failed = tt
+
+  behind_sound : (new : Editor) → Notes e new head → IsSound (meant edits e) → IsSound (meant edits new)
+  behind_sound new is sound =
+      subst (λ (s : State). IsSound s) (sym (left_state edits e head.tag left (state new) head.vr head.length syntax is)) (sound_fold (meant edits e) (opening ∷ []) sound)
+
+  place_sound : (place : WholeFailed) (new : Editor) → NotedAt place e new head → IsSound (meant edits e) → IsSound (meant edits new)
+  place_sound AtHead new noted sound = subst (λ (d : Editor). IsSound (meant edits d)) (sym noted) sound
+  place_sound InValue new noted sound = behind_sound new noted sound
+
+  -- the edits stay apart, however far it came
+  pub noted_sound : {T E X : Type 0} (sink : Ghosts X) (old next : X) (r : Result T E) (new : Editor) → NotesWhole sink old next e new head syntax value r → IsSound (meant edits e) → IsSound (meant edits new)
+  noted_sound sink old next (Ok x) new noted sound = behind_sound new noted sound
+  noted_sound sink old next (Err d) new noted sound = place_sound noted.place new noted.noted sound

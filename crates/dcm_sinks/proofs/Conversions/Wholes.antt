@@ -1,5 +1,5 @@
 -- An element with its whole value, as the encode sink takes it atom by atom.
-use Rattle.std.proofs.Common.{◌≡◌, ◌<◌, ◌∙◌, ap, sym, refl, ℕ, zero, suc, ◌==◌, List, [], ◌∷◌, ◌++◌, length, map, Bool, true, false, cond, Some, None, append_assoc, arith, eq-eqb, ◌⊎◌, inl, inr}
+use Rattle.std.proofs.Common.{◌≡◌, ◌<◌, ◌∙◌, ap, sym, refl, ℕ, zero, suc, ◌==◌, List, [], ◌∷◌, ◌++◌, length, map, Bool, true, false, cond, Some, None, append_assoc, arith, eq-eqb, ◌⊎◌, inl, inr, subst, Option, Result, Ok, Err}
 use Rattle.std.specs.Prelude.{fold}
 use Rattle.std.proofs.lemmas.Bool.{ne_eqb, false≢true}
 use Rattle.std.proofs.lemmas.List.{append-nil}
@@ -16,8 +16,13 @@ use Rattle.dcm_base.specs.declared.vr.Vr.{Vr}
 use Rattle.dcm_head.specs.declared.head.Head.{Head}
 use Rattle.dcm_stream.specs.Skip.{is_open, opened, closed}
 use Rattle.dcm_stream.specs.Tokens.{whole_atoms, IsLeaf}
+use Rattle.std.specs.Io.KnownBytes.{append_known}
+use Rattle.dcm_devices.specs.Device.{AppendsFront}
+use Rattle.dcm_stream.specs.Telling.{PutsWhole}
+use Rattle.dcm_stream.specs.declared.token.WholeFailed.{WholeFailed}
+use Rattle.dcm_stream.specs.declared.token.WholeFailed.TheVariants.{AtHead, InValue}
 use Rattle.dcm_sinks.specs.EncodeSink.{Copying, EncodeState, leaf_copy, copies, copy_writes, copy_ends, encode_opens, encode_opens_writes, step_at, writes_at, encode_step, encode_writes}
-use Rattle.dcm_sinks.specs.Wholes.{copied_whole, leaf_writes, without_value}
+use Rattle.dcm_sinks.specs.Wholes.{PutsLeaf, copied_whole, without_value}
 use Rattle.dcm_sinks.proofs.Conversions.Dropping.{live}
 
 -- the bytes of a value and its end
@@ -64,10 +69,25 @@ module _ (s : EncodeState) (head : Head) (syntax : Syntax) (value : List ℕ) (n
       ∙ sym ((copies_rest s copy value).0)
       ∙ ap (λ (t : EncodeState). fold encode_step t (rest_atoms value)) (sym first_state)
 
-  pub whole_bytes : leaf_writes s.target head syntax value ≡ outputs encode_step encode_writes s (whole_atoms head syntax value)
+  value_bytes : copied_whole copy value ≡ outputs encode_step encode_writes (encode_step s opening) (rest_atoms value)
+  value_bytes = sym ((copies_rest s copy value).1) ∙ ap (λ (t : EncodeState). outputs encode_step encode_writes t (rest_atoms value)) (sym first_state)
+
+  head_bytes : leaf_head s.target head.tag head.vr (length value) ≡ outputs encode_step encode_writes s (opening ∷ [])
+  head_bytes = sym first_bytes ∙ sym (append-nil (encode_writes s opening))
+
+  pub whole_bytes : leaf_head s.target head.tag head.vr (length value) ++ copied_whole copy value ≡ outputs encode_step encode_writes s (whole_atoms head syntax value)
   whole_bytes =
       ap (λ (z : List ℕ). z ++ copied_whole copy value) (sym first_bytes)
-      ∙ ap (λ (z : List ℕ). encode_writes s opening ++ z) (sym ((copies_rest s copy value).1) ∙ ap (λ (t : EncodeState). outputs encode_step encode_writes t (rest_atoms value)) (sym first_state))
+      ∙ ap (λ (z : List ℕ). encode_writes s opening ++ z) value_bytes
+
+  -- and so for each part of it
+  pub whole_puts : {T : Type 0} (held holds : Option (List ℕ)) (r : Result T WholeFailed) → PutsLeaf held holds (leaf_head s.target head.tag head.vr (length value)) (copied_whole copy value) r
+      → PutsWhole encode_step encode_writes s held holds (opening ∷ []) (rest_atoms value) r
+  whole_puts held holds (Ok x) h = h ∙ ap (append_known held) whole_bytes
+  whole_puts held holds (Err AtHead) h = subst (AppendsFront held holds) head_bytes h
+  whole_puts held holds (Err InValue) h =
+      subst (λ (bs : List ℕ). AppendsFront (append_known held (outputs encode_step encode_writes s (opening ∷ []))) holds bs) value_bytes
+      (subst (λ (bs : List ℕ). AppendsFront (append_known held bs) holds (copied_whole copy value)) head_bytes h)
 
 -- ---- one that is not
 

@@ -11,7 +11,7 @@ ghost use Rattle.dcm_base.specs.declared.length.Length.TheVariants as lengths;
 ghost use Rattle.dcm_base.specs.declared.syntax.Syntax.{Syntax as AnySyntax};
 ghost use Rattle.dcm_base.specs.declared.vr.Vr.TheVariants as representations;
 ghost use Rattle.dcm_stream.specs.Skip.{depth};
-ghost use Rattle.dcm_stream.specs.Tokens.{atoms_of, whole_atoms, IsLeaf};
+ghost use Rattle.dcm_stream.specs.Tokens.{atoms_of, head_atoms, value_atoms, whole_atoms, IsLeaf};
 ghost use Rattle.dcm_head.specs.HeadBytes.{FitsShort};
 ghost use Rattle.dcm_sinks.specs.EncodeSink as spec;
 
@@ -21,7 +21,7 @@ use dcm_base::{
     DeviceOut, Form, Length, Syntax, Tag, Vr, Watched, WriteFailed, form_of, put_array, read_as,
 };
 use dcm_head::{Head, LONG_HEAD, element_head, plain_head, put_element_head};
-use dcm_stream::{Skip, Token};
+use dcm_stream::{Skip, Token, WholeFailed};
 
 /// The number of the element that holds the length of its group (PS3.5 7.2).
 const GROUP_LENGTH: u16 = 0x0000;
@@ -98,8 +98,8 @@ fn put_plain<W: DeviceOut>(
     put_array(out, &plain_head(target, tag, length))
 }
 
-/// Writes the head of an item of undefined length. This and both delimiters have a function each, in which tag and length
-/// are known, so that their bytes are put together when this is compiled.
+/// Writes the head of an item of undefined length. This and both delimiters have a function each, in which tag and
+/// length are known, so that their bytes are put together when this is compiled.
 #[inline(never)]
 fn put_item<W: DeviceOut>(out: &mut Watched<W>, target: Syntax) -> Result<(), WriteFailed>
     ensures { Wrote W.DeviceOut out.old out.new (recode.item_head target lengths.Undefined) result }
@@ -124,8 +124,8 @@ fn put_sequence_end<W: DeviceOut>(out: &mut Watched<W>, target: Syntax) -> Resul
 }
 
 impl Encoder {
-    ghost use Rattle.dcm_sinks.specs.Encoder.{Took, opened, opening, opening_writes, state};
-    ghost use Rattle.dcm_sinks.specs.Wholes.{without_value, leaf_writes};
+    ghost use Rattle.dcm_sinks.specs.Encoder.{Took, TookWhole, opened, opening, opening_writes, state};
+    ghost use Rattle.dcm_sinks.specs.Wholes.{PutLeaf, without_value};
 
     /// The beginning of a data set in this syntax.
     pub fn new(target: Syntax) -> Encoder
@@ -245,8 +245,8 @@ impl Encoder {
         Ok(())
     }
 
-    /// Writes what a token of an element that is not dropped makes of it. It is taken apart where it is made, so that no
-    /// token is stored and loaded again; the calls behind it are not inlined, so that this stays small.
+    /// Writes what a token of an element that is not dropped makes of it. It is taken apart where it is made, so that
+    /// no token is stored and loaded again; the calls behind it are not inlined, so that this stays small.
     #[inline(always)]
     fn take_live<W: DeviceOut>(
         &mut self,
@@ -302,22 +302,48 @@ impl Encoder {
         head: Head,
         syntax: Syntax,
         value: &[u8],
-    ) -> Result<(), WriteFailed>
+    ) -> Result<(), WholeFailed>
         requires { IsLeaf head syntax value.now }
         ensures state { OnOk result (state self.new ≡ without_value (state self.old)) }
-        ensures wrote { Wrote W.DeviceOut out.old out.new (leaf_writes self.old.target head syntax value.now) result }
+        ensures wrote { PutLeaf W.DeviceOut out.old out.new self.old.target head syntax value.now result }
     {
         let (target, size) = (self.target, value.len() as u32);
         let written = written_head(target, head.tag, head.vr, size);
-        put_element_head(out, target, &written)?;
+        let Ok(()) = put_element_head(out, target, &written) else {
+            return Err(WholeFailed::AtHead);
+        };
         self.end_value();
-        put_value(out, syntax, target, head.vr, size, value)
+        match put_value(out, syntax, target, head.vr, size, value) {
+            Ok(()) => Ok(()),
+            Err(_) => Err(WholeFailed::InValue),
+        }
     }
 
-    /// Writes an element whose value is whole, as `take` does by its head, its bytes and its end. Most elements come so, and
-    /// by one call the form of each is not asked again, and no copier waits in this state for the next token. What is left out
-    /// opens and closes at once.
+    /// Writes an element whose value is whole, as `take` does by its head, its bytes and its end. Most elements come so,
+    /// and by one call the form of each is not asked again, and no copier waits in this state for the next token. What
+    /// is left out opens and closes at once. An `Err` says whether the head was out.
     #[inline(never)]
+    pub fn take_whole_telling<W: DeviceOut>(
+        &mut self,
+        out: &mut Watched<W>,
+        head: Head,
+        syntax: Syntax,
+        value: &[u8],
+    ) -> Result<(), WholeFailed>
+        requires { IsLeaf head syntax value.now }
+        ensures { TookWhole W.DeviceOut out.old out.new self.old self.new (head_atoms head syntax)
+            (value_atoms value.now) result }
+    {
+        if self.skip.is_open() || head.tag.element == GROUP_LENGTH {
+            self.skip.open(true);
+            self.skip.close();
+            return Ok(());
+        }
+        self.put_leaf(out, head, syntax, value)
+    }
+
+    /// The same, where nobody has to know how far it came.
+    #[inline(always)]
     pub fn take_whole<W: DeviceOut>(
         &mut self,
         out: &mut Watched<W>,
@@ -328,11 +354,9 @@ impl Encoder {
         requires { IsLeaf head syntax value.now }
         ensures { Took W.DeviceOut out.old out.new self.old self.new (whole_atoms head syntax value.now) result }
     {
-        if self.skip.is_open() || head.tag.element == GROUP_LENGTH {
-            self.skip.open(true);
-            self.skip.close();
-            return Ok(());
+        match self.take_whole_telling(out, head, syntax, value) {
+            Ok(()) => Ok(()),
+            Err(_) => Err(WriteFailed),
         }
-        self.put_leaf(out, head, syntax, value)
     }
 }
