@@ -241,7 +241,8 @@ def wrong_faults() -> list:
 
 def lines_on_standard_error() -> list:
     """The beginnings of all lines: numbers of faults and refusals, and the words of the others."""
-    book, lines = read("crates/dcm_base/specs/Tables/Fault.antt"), read("crates/dcm_cli/specs/ErrorLines.antt")
+    book = read("crates/dcm_base/specs/Tables/Fault.antt") + read("crates/dcm_table_words/specs/Usages.antt")
+    lines = read("crates/dcm_cli/specs/ErrorLines.antt")
     numbers = re.findall(r'^\w+_number \w+ = codes "([RBUV]\d+)"', book, re.M)
     whole = re.findall(r'error_line \(codes "([^"]+)"\)', lines)
     return numbers + [text.split(":")[0] for text in whole] + ["reading failed", "edit 1 found no place"]
@@ -272,7 +273,9 @@ TOLD = [
 def text_at(place: str) -> str:
     if place.isupper() and place in TEXTS.values():
         return text_of(place)
-    if "." in place or "/" in place:
+    if place.startswith("scripts/"):
+        return re.match(r"(?:#.*\n)*", read(place))[0]
+    if "." in place:
         return read(place)
     return re.split(r"^\.S[sh] ", read(MANUAL).split(f" {place}\n")[1], flags=re.M)[0]
 
