@@ -196,6 +196,8 @@ WORDS = [
     refused("--help is the only word after a tool's name", "dcmdump --help FILE", "V2 at word 2: unknown option"),
     refused("--version is the only word after a tool's name", "dcmconv FILE out --version", "V2 at word 4: unknown option"),
     refused("a tool that is none, and help", "foo help", "V1 at word 1: unknown tool"),
+    refused("help of no tool", "help foo", "V1 at word 1: unknown tool"),
+    refused("--help of a path", "--help FILE", "V1 at word 1: unknown tool"),
     refused("no words", "", "V1 at word 1: unknown tool"),
     Case("a file that is named help", "dcmdump -f -te ./help; rm help", AB, set_header("LittleEndianExplicit") + NAME_LINE, before="mv FILE help; cp help FILE"),
     Case("a value that is not UTF-8", "dcmodify -m $'PatientName=M\\374ller' FILE -", file_of(LITTLE, AB), file_of(LITTLE, leaf(NAME, "PN", b"M\xfcller"))),

@@ -188,6 +188,8 @@ const NO_OUTPUT: &[u8] = b"dcmtools: output cannot be opened\n";
 
 const SAME: &[u8] = b"dcmtools: output is the input\n";
 
+const NO_TOOL: &[u8] = b"dcmtools: V1 at word 1: unknown tool\n";
+
 const READ: &[u8] = b"dcmtools: reading failed after 0 bytes\n";
 
 const NO_MEMORY: &[u8] = b"dcmtools: out of memory\n";
@@ -241,10 +243,18 @@ fn refused_devices(rt: HostRuntime) -> Result<(), Fail> {
     let left = obeyed(rt.alloc(), "dcmdump a", directory, PIPE)?;
     expect_left(&left, 4, NO_INPUT, false)?;
     let left = obeyed(rt.alloc(), "dcmcopy a b", FILE, PIPE)?;
-    let line = b"dcmtools: V1 at word 1: unknown tool\n";
-    expect_left(&left, 1, line, false)?;
+    expect_left(&left, 1, NO_TOOL, false)?;
     let left = obeyed(rt.alloc(), "dcmconv a b", FILE, PIPE)?;
     expect_left(&left, 4, READ, true)
+}
+
+#[test]
+fn help_of_no_tool(rt: HostRuntime) -> Result<(), Fail> {
+    for words in ["help foo", "--help a", "help help", "foo help"] {
+        let left = obeyed(rt.alloc(), words, FILE, PIPE)?;
+        expect_left(&left, 1, NO_TOOL, false)?;
+    }
+    Ok(())
 }
 
 /// Words, kinds of the input and of the output, and the line where they are not used together. With calls on the devices the
