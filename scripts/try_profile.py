@@ -839,7 +839,7 @@ MADE_KEY = KEY.replace(b"'", b"")
 UID = leaf(INSTANCE_OF_FILE, "UI", b"1.2.3\0")
 SHOWS_IDENTITY = leaf(BURNED_IN, "CS", b"YES ")
 
-PART_IS_THERE = "output cannot be opened"
+PART_IS_THERE = "output part is there: another run is at work, or was cut off"
 
 IDENTITY = [
     taken("names are emptied", AB, leaf(NAME, "PN", b"")),

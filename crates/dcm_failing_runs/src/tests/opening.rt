@@ -188,6 +188,8 @@ const NO_OUTPUT: &[u8] = b"dcmtools: output cannot be opened\n";
 
 const SAME: &[u8] = b"dcmtools: output is the input\n";
 
+const PART: &[u8] = b"dcmtools: output part is there: another run is at work, or was cut off\n";
+
 const NO_TOOL: &[u8] = b"dcmtools: V1 at word 1: unknown tool\n";
 
 const READ: &[u8] = b"dcmtools: reading failed after 0 bytes\n";
@@ -246,6 +248,21 @@ fn refused_devices(rt: HostRuntime) -> Result<(), Fail> {
     expect_left(&left, 1, NO_TOOL, false)?;
     let left = obeyed(rt.alloc(), "dcmconv a b", FILE, PIPE)?;
     expect_left(&left, 4, READ, true)
+}
+
+#[test]
+fn parts_that_are_there(rt: HostRuntime) -> Result<(), Fail> {
+    let there = Answer::Fails(ErrorKind::AlreadyExists);
+    let left = obeyed(rt.alloc(), "dcmdeid a b", FILE, there)?;
+    expect_left(&left, 4, PART, false)?;
+    let denied = Answer::Fails(ErrorKind::PermissionDenied);
+    let left = obeyed(rt.alloc(), "dcmdeid a b", FILE, denied)?;
+    expect_left(&left, 4, NO_OUTPUT, false)?;
+    let full = Answer::Fails(ErrorKind::OutOfMemory);
+    let left = obeyed(rt.alloc(), "dcmdeid a b", FILE, full)?;
+    expect_left(&left, 5, NO_MEMORY, false)?;
+    let left = obeyed(rt.alloc(), "dcmconv a b", FILE, there)?;
+    expect_left(&left, 4, NO_OUTPUT, false)
 }
 
 #[test]
