@@ -656,11 +656,11 @@ def failures(binary, text, before_it, block):
 
 
 # dcmtools as it is, but that it waits before it writes
-WAITS = '#!/bin/sh\n[ "$1" = dcm2csv ] || { : > "$HOME/begun"; sleep 60; }\nexec "$HOME/dcmtools" "$@"\n'
+WAITS = '#!/bin/sh\n[ "$1" = dcm2csv ] || { : > "$HOME/begun.$$"; sleep 5; }\nexec "$HOME/dcmtools" "$@"\n'
 
 
 def interrupted(binary, text, number):
-    """A signal to all that a block started, as from a terminal: no part is left, and no input changed."""
+    """A signal to all that a block started, once dcmtools is at work: no part is left, and no input changed. bash may end a file first."""
     with tempfile.TemporaryDirectory() as room:
         tools, work = os.path.join(room, "tools"), os.fsencode(os.path.join(room, "work"))
         os.mkdir(tools)
@@ -675,18 +675,26 @@ def interrupted(binary, text, number):
         environment = os.environ | {"PATH": f"{tools}:{os.environ['PATH']}", "HOME": room, "LC_ALL": "C"}
         started = subprocess.Popen(["bash", "-c", text], cwd=work, env=environment, start_new_session=True, stdin=subprocess.DEVNULL,
                                    stdout=subprocess.PIPE, stderr=subprocess.STDOUT, **NOBODY)
+        due = len(os.sched_getaffinity(0)) if "nproc" in text else 1
         for _ in range(300):
-            if os.path.exists(os.path.join(room, "begun")):
+            if sum(name.startswith("begun") for name in os.listdir(room)) >= due:
                 break
             time.sleep(0.1)
         os.killpg(started.pid, number)
-        printed = started.communicate(timeout=30)[0]
-        time.sleep(0.5)
+        printed = started.communicate(timeout=120)[0]
+        # the last of them may still remove its part
+        time.sleep(8)
         files = files_in(work)
-        wrong = [f"{path!r} is left" for path in files if path not in SOUND and not re.fullmatch(rb"not-.*\.txt|site\.key", path)]
+        made = [path for path in files if path not in SOUND and not re.fullmatch(rb"not-.*\.txt|site\.key", path)]
+        wrong = [f"{path!r} is left" for path in made if b"/" not in path]
+        wrong += [f"{path!r} is not whole" for path in made if b"/" in path and not is_read(binary, files[path][0])]
         wrong += [f"{path!r} was changed" for path, file in SOUND.items() if files.get(path) != file]
         wrong += [] if started.returncode else ["status 0"]
         return Run(binary, environment, work, printed, files, started.returncode), wrong
+
+
+def is_read(binary, content):
+    return subprocess.run([binary, "dcmdump", "-"], input=content, capture_output=True, timeout=60, check=False).returncode == 0
 
 
 def may_mount():

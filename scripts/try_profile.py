@@ -993,7 +993,7 @@ CAUSES = [
     refused("U1 in edit 1: OUTPUT is missing", "dcmodify -m PatientName=CD FILE", "U1 in edit 1: bad option or path"),
     refused("U1: several files", "dcmodify -m PatientName=CD FILE other out", "U1 in edit 2: bad option or path"),
     refused("U2: a keyword that only +dict has", "dcmodify -m RTPlanLabel=CD FILE out", "U2 in edit 1: unknown tag"),
-    refused("U3: a decimal of a FD", "dcmodify +dict -m ReferenceFrequency=1.5 FILE out", "U3 in edit 1: value does not fit"),
+    refused("U3: a decimal of a FD", "dcmodify +dict -m RealWorldValueSlope=1.5 FILE out", "U3 in edit 1: value does not fit"),
     fault("R1: a text of less than 132 bytes", DUMP, b"no DICOM file\n", "R1", 14, "input ends too early"),
     fault("R2: a longer text", DUMP, b"no DICOM file\n" * 10, "R2", 128, "no DICM prefix"),
     Case("no such file", "dcmdump none", b"", b"", 4, "input cannot be opened"),
