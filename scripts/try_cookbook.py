@@ -609,18 +609,13 @@ def linked(block):
 def keeps_link(run, block):
     """A link that was changed in its place is still one, to a file of the same mode: what it leads to has no other new bytes."""
     there = {path: file for path, file in run.files.items() if path != b"store/real"}
-    wrong = [] if run.files.get(b"store/real") == run.files.get(block.replaces) else ["the link was replaced"]
+    wrong = ["the link was replaced"] if b"is no link" in run.printed else []
+    wrong += [] if run.files.get(b"store/real") == run.files.get(block.replaces) else ["what it leads to was not changed"]
     return wrong + block.check(run._replace(files=there))
-
-
-def owner_of(work, block):
-    found = os.stat(os.path.join(work, block.replaces))
-    return found.st_uid, found.st_gid
 
 
 def wrong_owner(binary, text, block):
     """By root: a file that is changed in its place keeps its owner."""
-    seen = []
     run = run_block(binary, text + f"stat -c %u:%g {os.fsdecode(block.replaces)}\n", "", "C", user={})
     seen = run.printed.split()[-1:]
     return [] if seen == [b"65534:65534"] else [f"the owner is {seen}"]
@@ -642,7 +637,8 @@ def failures(binary, text, before_it, block):
         run = run_block(binary, text, "", "C", *needed, lacks=program)
         yield f"without {program}", run, tells_what_lacks(run, block, program, before_it)
     if block.replaces:
-        run = run_block(binary, text, "", "C", linked(block))
+        is_link = f"status=$?; [ -L {os.fsdecode(block.replaces)} ] || echo is no link; exit $status\n"
+        run = run_block(binary, text + is_link, "", "C", linked(block))
         yield "a link", run, keeps_link(run, block)
     if block.replaces and NOBODY:
         yield "a file of somebody else", run, wrong_owner(binary, text, block)
