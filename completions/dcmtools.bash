@@ -1,5 +1,5 @@
 # Completion of dcmtools for bash: source this file, or install it as
-# /usr/share/bash-completion/completions/dcmtools.
+# /usr/share/bash-completion/completions/dcmtools, with dcmtools.keywords beside it.
 
 # Adds to COMPREPLY the files and directories that begin with $1, but those whose names would be options.
 _dcmtools_files() {
@@ -8,6 +8,18 @@ _dcmtools_files() {
     while IFS= read -r path; do
         [[ $path == [-+]* ]] || COMPREPLY+=("$path")
     done < <(compgen -f -- "$1")
+}
+
+# Adds to COMPREPLY the lists that begin with $1, which begins with `@`, and the directories on their way.
+_dcmtools_lists() {
+    local path
+    while IFS= read -r path; do
+        if [[ -d $path ]]; then
+            path+=/
+            compopt -o nospace 2>/dev/null
+        fi
+        COMPREPLY+=("@$(printf %q "$path")")
+    done < <(compgen -f -- "${1#@}")
 }
 
 # Adds to COMPREPLY those of the words in $1 that begin with $2.
@@ -19,7 +31,7 @@ _dcmtools_words() {
 }
 
 # The keywords of the dictionary's extract (crates/dcm_base/src/dictionary/extract.rt) that an edit may name: those of values, and those
-# of sequences. With +dict it may name more.
+# of sequences.
 _dcmtools_values='
     SpecificCharacterSet ImageType InstanceCreationDate InstanceCreationTime SOPClassUID SOPInstanceUID StudyDate
     SeriesDate AcquisitionDate ContentDate AcquisitionDateTime StudyTime SeriesTime AcquisitionTime ContentTime
@@ -37,14 +49,37 @@ _dcmtools_sequences='
     ReferencedSOPSequence SourceImageSequence ConceptNameCodeSequence ContentSequence
 '
 
+# The file of the keywords of the whole dictionary, one a line after `v ` (a value), `s ` (a sequence) or `c ` (for columns alone).
+_dcmtools_keywords=$(cd "$(dirname "${BASH_SOURCE[0]}")" && pwd)/dcmtools.keywords
+
+# Prints the keywords of the whole dictionary of the kinds in $1; where its file is missing, the words in $2.
+_dcmtools_standard() {
+    if [[ -r $_dcmtools_keywords ]]; then
+        sed -n "s/^[$1] //p" "$_dcmtools_keywords"
+    else
+        printf '%s\n' "$2"
+    fi
+}
+
+# Lets the keywords of values and of sequences be those that the dictionary on the command line has.
+_dcmtools_read_dictionary() {
+    local word
+    for word in "${COMP_WORDS[@]}"; do
+        case $word in
+            +dict) values=$(_dcmtools_standard v "$_dcmtools_values") sequences=$(_dcmtools_standard s "$_dcmtools_sequences") ;;
+            -dict) values=$_dcmtools_values sequences=$_dcmtools_sequences ;;
+        esac
+    done
+}
+
 # Adds to COMPREPLY the paths of an edit that begin with $1. A path to a value ends in $2, which is '=' where a value follows.
 _dcmtools_paths() {
     local keyword before='' words=()
     [[ $1 == *.* ]] && before=${1%.*}.
-    for keyword in $_dcmtools_values; do
+    for keyword in $values; do
         words+=("$keyword$2")
     done
-    for keyword in $_dcmtools_sequences; do
+    for keyword in $sequences; do
         words+=("${keyword}[")
         [[ $2 ]] || words+=("$keyword")
     done
@@ -57,7 +92,7 @@ _dcmtools_paths() {
 # Adds to COMPREPLY the keywords of values that begin with $1, each with a '=' after it.
 _dcmtools_replaced() {
     local keyword words=()
-    for keyword in $_dcmtools_values; do
+    for keyword in $values; do
         words+=("$keyword=")
     done
     compopt -o nospace 2>/dev/null
@@ -70,7 +105,7 @@ _dcmtools_tools='dcmdump dcmconv dump2dcm dcmodify dcmdeid dcm2csv'
 _dcmtools_answered='help version --help --version'
 
 _dcmtools() {
-    local current=${COMP_WORDS[COMP_CWORD]} switches
+    local current=${COMP_WORDS[COMP_CWORD]} switches values=$_dcmtools_values sequences=$_dcmtools_sequences
     COMPREPLY=()
     if ((COMP_CWORD == 1)); then
         _dcmtools_words "$_dcmtools_tools $_dcmtools_answered" "$current"
@@ -89,14 +124,20 @@ _dcmtools() {
         dcm2csv) switches='-k +nh +by' ;;
         *) return ;;
     esac
+    [[ ${COMP_WORDS[1]} != dcmodify ]] || _dcmtools_read_dictionary
     case ${COMP_WORDS[1]}${COMP_WORDS[COMP_CWORD - 1]} in
         dcmodify-i | dcmodify-m) _dcmtools_paths "$current" '='; return ;;
         dcmodify-e) _dcmtools_paths "$current" ''; return ;;
         dcmodify-ma) _dcmtools_replaced "$current"; return ;;
         dcmdeid+k) _dcmtools_files "$current"; return ;;
-        dcm2csv-k) _dcmtools_words "$_dcmtools_values" "$current"; return ;;
-        dcmodify-ea) _dcmtools_words "$_dcmtools_values $_dcmtools_sequences" "$current"; return ;;
+        dcm2csv-k) _dcmtools_words "$(_dcmtools_standard vc "$values")" "$current"; return ;;
+        dcm2csv@) current=@$current ;; # a word is cut at `@`, and what is offered replaces both parts
+        dcmodify-ea) _dcmtools_words "$values $sequences" "$current"; return ;;
     esac
+    if [[ ${COMP_WORDS[1]} == dcm2csv && $current == @* ]]; then
+        _dcmtools_lists "$current"
+        return
+    fi
     case $current in
         [-+]*) _dcmtools_words "$switches" "$current" ;;
         *) _dcmtools_files "$current" ;;

@@ -8,6 +8,7 @@
 - Sentences: at most MOST_LONG of more than LONG words on all pages, and none of more than LONGEST. A code span is a word.
 - Links and anchors, paths of files, names of pages in the crates' comments, and numbers of decisions lead somewhere.
 - Numbers that are in the tree are the same on the pages: elements, limits, edits, faults, crates (FACTS).
+- Each line on standard error has a row in PROFILE's table of causes; what a newcomer has to be told is said in each place (TOLD).
 - Each tool's options are the same in its text (crates/dcm_words/src/texts.rt), in man/dcmtools.1 and in both completions; so are the
   version, the edition of the dictionary, and the exit statuses.
 
@@ -23,7 +24,7 @@ TEXTS = {"dcmdump": "DUMP", "dcmconv": "CONVERT", "dump2dcm": "BUILD", "dcmodify
          "dcm2csv": "TABLE"}
 MANUAL = "man/dcmtools.1"
 
-MOST_WORDS = 20_000
+MOST_WORDS = 21_000
 LONG, LONGEST, MOST_LONG = 30, 45, 25
 
 
@@ -238,6 +239,51 @@ def wrong_faults() -> list:
     return wrong
 
 
+def lines_on_standard_error() -> list:
+    """The beginnings of all lines: numbers of faults and refusals, and the words of the others."""
+    book = read("crates/dcm_base/specs/Tables/Fault.antt") + read("crates/dcm_table_words/specs/Usages.antt")
+    lines = read("crates/dcm_cli/specs/ErrorLines.antt")
+    numbers = re.findall(r'^\w+_number \w+ = codes "([RBUV]\d+)"', book, re.M)
+    whole = re.findall(r'error_line \(codes "([^"]+)"\)', lines)
+    return numbers + [text.split(":")[0] for text in whole] + ["reading failed", "edit 1 found no place"]
+
+
+def wrong_causes() -> list:
+    """The lines that have no row in PROFILE's table of causes."""
+    section = read("docs/users/PROFILE.md").split("\n## What to do at a line\n")[1]
+    named = set()
+    for cell in re.findall(r"^\| ([^|]+) \|", section, re.M):
+        named |= set(re.findall(r"\b[RBUV]\d+\b|`([^`]+)`", cell)) | set(re.findall(r"\b[RBUV]\d+\b", cell))
+    return [f"PROFILE has no cause of {line}" for line in lines_on_standard_error() if line not in named]
+
+
+# What a newcomer has to be told, and where: a page, a title of the manual page, a text of the program, or a script.
+WRAPPERS = ("dcm2csv", "dcmconv", "dcmdeid", "dcmdump", "dcmodify", "dump2dcm")
+TOLD = [
+    ("that dcmodify overwrites its last word", r"overwrit\w+", ("README.md", "Edits of dcmodify", "MODIFY")),
+    ("what edits do not see without +dict", r"names may be left", ("README.md", "Edits of dcmodify", "MODIFY")),
+    ("where the causes of lines are", r"likeliest cause", ("DIAGNOSTICS",)),
+    ("where the causes of lines are", r"#what-to-do-at-a-line", ("README.md",)),
+    ("which names of files it takes", r"UTF-8|any\s+(?:#\s+)?bytes", tuple(f"scripts/{name}" for name in WRAPPERS)),
+    ("how to go on after it was cut off", r"\*\*Cut off\*\*", ("docs/users/COOKBOOK.md",)),
+    ("that a cut behind the last column is not named", r"cut behind its last column", ("docs/users/COOKBOOK.md",)),
+]
+
+
+def text_at(place: str) -> str:
+    if place.isupper() and place in TEXTS.values():
+        return text_of(place)
+    if place.startswith("scripts/"):
+        return re.match(r"(?:#.*\n)*", read(place))[0]
+    if "." in place:
+        return read(place)
+    return re.split(r"^\.S[sh] ", read(MANUAL).split(f" {place}\n")[1], flags=re.M)[0]
+
+
+def wrong_told() -> list:
+    return [f"{place} does not say {what}" for what, pattern, places in TOLD for place in places if not re.search(pattern, text_at(place))]
+
+
 # ---- the texts of the program
 
 
@@ -338,7 +384,7 @@ def main() -> int:
         found = items_without_comment()
         print("\n".join(found + [f"{len(found)} public items without a comment"]))
         return 1 if found else 0
-    checks = (wrong_sentences, wrong_sizes, wrong_links, wrong_citations, wrong_facts, wrong_crates, wrong_faults, wrong_options, wrong_names, wrong_statuses)
+    checks = (wrong_sentences, wrong_sizes, wrong_links, wrong_citations, wrong_facts, wrong_crates, wrong_faults, wrong_causes, wrong_told, wrong_options, wrong_names, wrong_statuses)
     wrong = [fault for check in checks for fault in check()]
     print("\n".join(wrong + [f"{len(wrong)} wrong"]))
     return 1 if wrong else 0

@@ -4,9 +4,11 @@
 Each block is run by bash as it is, once more after `set -o pipefail`, and once in a UTF-8 locale; by root it is run as nobody, so that
 the mode of a file forbids its reading. After it no file that was there
 may be lost or changed, in content or mode, unless the block says so; no new file may be missing, be of another mode, or be left over;
-each file that fails has to be named; and where names are taken out, none is left in the bytes. Of README's table each command has to
-end with status 0. sqlite3 and GNU parallel have to be installed. Commands that the page calls not tried (DuckDB, pandas, Slurm, Spark)
-are no blocks, and are not run.
+each file that fails has to be named, and the status is 0 only where none did; and where names are taken out, none is left in the bytes.
+Each block is also run on a tree of sound files, on files that are cut, where its folders are there, without each program that it needs
+beside the usual ones, with links in place of its files, by signals, and by root on its own files and on a full disk. Of README's table
+and of the manual page each command has to end with status 0. sqlite3 and GNU parallel have to be installed. Commands that the page
+calls not tried (DuckDB, pandas, Slurm, Spark) are no blocks, and are not run.
 
     scripts/try_cookbook.py [BINARY]
 
@@ -17,11 +19,13 @@ import io
 import os
 import re
 import shutil
+import signal
 import stat
 import struct
 import subprocess
 import sys
 import tempfile
+import time
 from typing import Callable, NamedTuple
 
 ROOT = os.path.dirname(os.path.dirname(os.path.abspath(__file__)))
@@ -77,6 +81,13 @@ PRIVATE = leaf(0x00110010, "LO", b"MAKER") + leaf(0x00111001, "UN", item(leaf(NA
 # a dump of this is larger than what a pipe holds
 LARGE = leaf(0x00400275, "SQ", item(leaf(0x00080104, "LO", b"a meaning")) * 1000)
 
+# a DICOMDIR: MediaStorageDirectoryStorage, and a record
+RECORD = leaf(0x00041200, "UL", b"\0\0\0\0") + leaf(0x00041220, "SQ", item(leaf(0x00041430, "CS", b"PATIENT")))
+DIRECTORY = (
+    bytes(128) + b"DICM" + leaf(0x00020000, "UL", struct.pack("<I", 56)) + leaf(0x00020002, "UI", b"1.2.840.10008.1.3.10")
+    + leaf(0x00020010, "UI", LITTLE) + RECORD
+)
+
 SCAN = scan(b"AB^CD")
 PLAN = file_of(IMPLICIT, leaf(0x00080060, "", b"RTPLAN", False) + leaf(DOSES, "", item(leaf(DOSE, "", b"1", False)), False))
 SET = leaf(NAME, "", b"Meier^Anna", False) + leaf(ID, "", b"7", False)
@@ -89,9 +100,10 @@ class Input(NamedTuple):
     opens: bool = True  # its mode lets it be read
     converts: bool = True
     named: bool = True  # it has a PatientName in its outermost data set
-    cleans: bool = True
     opaque: bool = False  # it has opaque values by `+dict`
     shows: bool = False  # it says that its pixels show identity
+    directory: bool = False  # it is a DICOMDIR
+    seen: bool = True  # its fault is seen by a table
 
 
 TREE = {
@@ -116,8 +128,8 @@ TREE = {
     b"empty": Input(b"", fails=True),
     b"plan.dcm": Input(plan(b"Meier^Anna"), 0o600),
     b"large.dcm": Input(scan(b"Meier^Anna", b"18", LARGE)),
-    b"large and opaque.dcm": Input(scan(b"Meier^Anna", b"19", LARGE + OPAQUE), cleans=False, opaque=True),
-    b"opaque": Input(scan(b"Meier^Anna", b"20", OPAQUE), cleans=False, opaque=True),
+    b"large and opaque.dcm": Input(scan(b"Meier^Anna", b"19", LARGE + OPAQUE), opaque=True),
+    b"opaque": Input(scan(b"Meier^Anna", b"20", OPAQUE), opaque=True),
     b"unknown.dcm": Input(scan(b"Meier^Anna", b"25", UNKNOWN)),
     b"private.dcm": Input(file_of(LITTLE, MODALITY + leaf(NAME, "PN", b"Meier") + leaf(ID, "LO", b"21") + PRIVATE), opaque=True),
     b"nameless.dcm": Input(file_of(LITTLE, MODALITY), named=False),
@@ -127,7 +139,9 @@ TREE = {
     b"cut in a name.dcm": Input(scan(b"Meier^Anna")[:-16], fails=True),
     b"notes": Input(b"no DICOM file", fails=True),
     b"video.dcm": Input(bytes(1000), fails=True),
-    b"DICOMDIR": Input(scan(b"Meier^Anna", b"24")),
+    b"cut behind.dcm": Input(scan(b"Meier^Anna", b"37", leaf(0x00280010, "US", b"\1\0"))[:-1], fails=True, seen=False),
+    b"IM_9999": Input(DIRECTORY, directory=True),
+    b"DICOMDIR": Input(DIRECTORY, directory=True),
 }
 COPIED = {name: file for name, file in TREE.items() if name != b"DICOMDIR"}
 
@@ -136,7 +150,11 @@ CUT = {name: (content[:-4], mode) for name, (content, mode) in FILES.items()}  #
 
 # a key of new UIDs, and an output that was not looked at
 KEY = bytes(range(32))
-OUTPUTS = {b"out/deep/left.dcm": (SCAN, 0o644), b"out/no.dcm": (b"no DICOM file", 0o644), b"out/closed.dcm": (SCAN, 0o000)}
+OUTPUTS = {
+    b"deidentified/deep/left.dcm": (SCAN, 0o644),
+    b"deidentified/no.dcm": (b"no DICOM file", 0o644),
+    b"deidentified/closed.dcm": (SCAN, 0o000),
+}
 
 # root may read any file, so the blocks are run as another user
 NOBODY = {"user": 65534, "group": 65534, "extra_groups": []} if os.geteuid() == 0 else {}
@@ -154,6 +172,7 @@ class Run(NamedTuple):
     work: bytes
     printed: bytes
     files: dict  # each file that is there after it, with its content and mode
+    status: int
 
 
 def content_and_mode(path):
@@ -231,7 +250,7 @@ def holds(run, expected):
 
 def one_element(run):
     lines = [line for line in run.printed.split(b"\n") if line]
-    return holds(run, {}) + ([] if len(lines) == 2 and all(b"[AB^CD]" in line for line in lines) else [f"printed {run.printed!r}"])
+    return is_done(run) + holds(run, {}) + ([] if len(lines) == 2 and all(b"[AB^CD]" in line for line in lines) else [f"printed {run.printed!r}"])
 
 
 TABLE_ROWS = {
@@ -262,6 +281,7 @@ def wrong_rows(run, files, names):
     failed = run.files.get(b"failed.txt", (b"", 0))[0]
     wrong = holds(run, files | {b"table.csv": (None, 0o644), b"failed.txt": (None, 0o644)})
     wrong += [] if header == ["File", "PatientID", "Modality"] else [f"the header is {header}"]
+    wrong += [] if run.status else ["status 0"]
     wrong += [] if len(rows) == sum(map(is_opened, names)) else [f"there are {len(rows)} rows"]
     for name in names:
         found = [row[1:] for row in rows if row[0].encode() == b"in/" + name]
@@ -269,13 +289,23 @@ def wrong_rows(run, files, names):
             wrong.append(f"{name!r} has {found!r}")
         shown = b"".join(b"\\%02x" % byte if byte < 32 or byte in (92, 127) else bytes([byte]) for byte in name)
         line = b"dcmtools: in/" + shown + (b": R" if is_opened(name) else b": input cannot be opened")
-        if failed.count(line) != int(TREE[name].fails or not is_opened(name)):
+        if failed.count(line) != int(TREE[name].fails and TREE[name].seen or not is_opened(name)):
             wrong.append(f"{name!r} is {failed.count(line)} times in failed.txt")
     return wrong
 
 
 def table(run):
     return wrong_rows(run, {}, list(TREE))
+
+
+def cut_files_named(run):
+    """Each file at fault is named, also behind its last column."""
+    wrong = holds(run, {}) + ([] if run.status else ["status 0"])
+    for name in TREE:
+        shown = b"".join(b"\\%02x" % byte if byte < 32 or byte in (92, 127) else bytes([byte]) for byte in name)
+        if run.printed.count(b"dcmtools: in/" + shown + b": ") != int(TREE[name].fails or not is_opened(name)):
+            wrong.append(f"{name!r} is not named as it should be")
+    return wrong
 
 
 LISTED = [name for name in TREE if b"\n" not in name]
@@ -285,8 +315,8 @@ OF_LINES = [name for name in TREE if b"\n" in name]
 def wrong_lines(run):
     """What is wrong with what failed.txt says of names with a newline, which no list has."""
     failed = run.files.get(b"failed.txt", (b"", 0))[0]
-    lines = subprocess.run(["printf", "%q: has a newline\\n", *(b"in/" + name for name in OF_LINES)], stdout=subprocess.PIPE, env=run.environment, timeout=60, check=True).stdout
-    counts = {line: failed.count(line) for line in lines.splitlines()}
+    lines = [quoted(run, b"in/" + name) + b": has a newline\n" for name in OF_LINES]
+    counts = {line: failed.count(line) for line in lines}
     return [f"{line!r} is {count} times in failed.txt" for line, count in counts.items() if count != 1]
 
 
@@ -311,53 +341,55 @@ def table_in_sqlite(run):
     return wrong + ([] if run.printed == b"CT|2\nM\\xfc|1\n" else [f"printed {run.printed!r}"])
 
 
+def is_done(run):
+    return [] if run.status == 0 else [f"status {run.status}"]
+
+
 def in_place(run):
-    return holds(run, {b"scan.dcm": (answer(run, ["dcmconv", "+dict", "+te"], SCAN), 0o640)})
+    return is_done(run) + holds(run, {b"scan.dcm": (answer(run, ["dcmconv", "+dict", "+te"], SCAN), 0o640)})
 
 
 def made(run, folder, names, words):
     return {folder + b"/" + name: (answer(run, words, TREE[name].content), TREE[name].mode) for name in names}
 
 
+def wrong_names(run, good, text):
+    """What is wrong with the lines and the status of a block that left these files out."""
+    left = [name for name in COPIED if name not in good]
+    wrong = names_all(run, left, text) + ([] if run.status else ["status 0"])
+    for name, reason in ((b"nobody may read.dcm", b"denied"), (b"IM_9999", b"DICOMDIR"), (b"cut.dcm", b"dcmtools: R1 at byte")):
+        if reason == b"DICOMDIR" and b"dcmtools: R16 at byte" in b"".join(lines_of(run, name, text)):
+            continue
+        wrong += [] if all(reason in line for line in lines_of(run, name, text)) else [f"of {name!r} no line says {reason!r}"]
+    return wrong
+
+
 def converted_tree(run):
-    good = [name for name, file in COPIED.items() if not file.fails and file.converts]
-    text = run.files.get(b"failed.txt", (b"", 0))[0]
-    expected = made(run, b"out", good, ["dcmconv", "+dict", "+te"]) | {b"failed.txt": (None, 0o644)}
-    return holds(run, expected) + names_all(run, [name for name in COPIED if name not in good], text)
-
-
-def converted_plan(run):
-    wrong = holds(run, {b"plan.dcm": (answer(run, ["dcmconv", "+dict", "+te"], PLAN), 0o640)})
-    return wrong + ([] if b"(300a,0010) SQ (Sequence" in run.printed else [f"printed {run.printed!r}"])
+    good = [name for name, file in COPIED.items() if not file.fails and file.converts and not file.directory]
+    expected = made(run, b"converted", good, ["dcmconv", "+dict", "+te"])
+    text = run.files.get(b"not-converted.txt", (b"", 0))[0]
+    wrong = [] if text == run.printed else ["not-converted.txt is not what was printed"]
+    return wrong + holds(run, expected | {b"not-converted.txt": (None, 0o644)}) + wrong_names(run, good, text)
 
 
 def opaque_values(run):
-    return holds(run, {}) + names_all(run, [name for name, file in TREE.items() if file.fails or file.opaque], run.printed)
+    wrong = [] if run.status else ["status 0"]
+    return wrong + holds(run, {}) + names_all(run, [name for name, file in TREE.items() if file.fails or file.opaque], run.printed)
 
 
 def corrected_plan(run):
     words = ["dcmodify", "+dict", "-m", "DoseReferenceSequence[0].DoseReferenceNumber=2", "-i", "RTPlanLabel=Boost"]
-    return holds(run, {b"plan.dcm": (answer(run, words, PLAN), 0o640)})
+    return is_done(run) + holds(run, {b"plan.dcm": (answer(run, words, PLAN), 0o640)})
 
 
 def corrected_names(run):
-    good = [name for name, file in COPIED.items() if not file.fails and file.named]
+    good = [name for name, file in COPIED.items() if not file.fails and file.named and not file.directory]
     expected = made(run, b"fixed", good, ["dcmodify", "+dict", "-m", "PatientName=Doe^Jane"])
-    return holds(run, expected) + names_all(run, [name for name in COPIED if name not in good], run.printed)
+    return holds(run, expected) + wrong_names(run, good, run.printed)
 
 
 def latin_name(run):
-    return holds(run, {b"scan.dcm": (scan(b"M\xfcller^J\xf6rg"), 0o640)})
-
-
-CLEAN = ["dcmodify", "+dict", "-ma", "PatientName=ANON", "-ma", "PatientID=0", "-ea", "PatientBirthDate", "-ea", "OtherPatientNames", "-ep"]
-
-
-def cleaned(run):
-    good = [name for name, file in COPIED.items() if not file.fails and file.cleans]
-    wrong = holds(run, made(run, b"clean", good, CLEAN))
-    wrong += [f"{path!r} holds {name!r}" for path, (content, _) in run.files.items() for name in NAMES if path.startswith(b"clean/") and name in content]
-    return wrong + names_all(run, [name for name in COPIED if name not in good or not TREE[name].named], run.printed)
+    return is_done(run) + holds(run, {b"scan.dcm": (scan(b"M\xfcller^J\xf6rg"), 0o640)})
 
 
 def without_identity(run, content, key):
@@ -368,97 +400,103 @@ def without_identity(run, content, key):
 
 
 def identity_of_tree(run):
-    good = [name for name, file in COPIED.items() if not file.fails and not file.shows]
+    good = [name for name, file in COPIED.items() if not file.fails and not file.shows and not file.directory]
     key = run.files.get(b"site.key", (b"", 0))[0]
-    written = {b"out/" + name: (without_identity(run, TREE[name].content, key), TREE[name].mode) for name in good}
-    wrong = holds(run, written | {b"failed.txt": (None, 0o644), b"site.key": (None, 0o600)})
-    wrong += [f"{path!r} holds {name!r}" for path, (content, _) in run.files.items() if path.startswith(b"out/") for name in NAMES if name in content]
+    written = {b"deidentified/" + name: (without_identity(run, TREE[name].content, key), TREE[name].mode) for name in good}
+    wrong = holds(run, written | {b"not-deidentified.txt": (None, 0o644), b"site.key": (None, 0o600)})
+    wrong += [f"{path!r} holds {name!r}" for path, (content, _) in run.files.items() if path.startswith(b"deidentified/") for name in NAMES if name in content]
     wrong += [] if len(key) == 32 else [f"a key of {len(key)} bytes"]
-    text = run.files.get(b"failed.txt", (b"", 0))[0]
-    return wrong + names_all(run, [name for name in COPIED if name not in good], text)
+    return wrong + wrong_names(run, good, run.files.get(b"not-deidentified.txt", (b"", 0))[0])
 
 
 LEFT = {
-    b"out/deep/left.dcm": b"status 0\n(0010,0010) PN [AB^CD]",
-    b"out/no.dcm": b"status 2\ndcmtools: R1 at byte 13",
-    b"out/closed.dcm": b"status 1\n",
+    b"deidentified/deep/left.dcm": b"status 0\n(0010,0010) PN [AB^CD]",
+    b"deidentified/no.dcm": b"status 2\ndcmtools: R1 at byte 13",
+    b"deidentified/closed.dcm": b"status 1\n",
 }
 
 
 def identity_left(run):
     text = run.files.get(b"left.txt", (b"", 0))[0]
-    wrong = holds(run, {b"left.txt": (None, 0o644)} | OUTPUTS)
+    wrong = holds(run, {b"left.txt": (None, 0o644)} | OUTPUTS) + ([] if run.status else ["status 0"])
     for path, line in LEFT.items():
-        shown = text.partition(path + b": ")[2].partition(b"out/")[0]
-        wrong += [] if shown.startswith(line) else [f"of {path!r} it shows {shown!r}"]
+        shown = text.partition(path + b": ")[2].partition(b"\ndeidentified/")[0]
+        wrong += [] if shown.startswith(line) and (b"denied" in shown) == (b"closed" in path) else [f"of {path!r} it shows {shown!r}"]
     return wrong
 
 
 def identity_replaced(run):
-    put = answer(run, ["dcmodify", "+dict", "-i", "PatientID=P001"], without_identity(run, SCAN, KEY))
-    return holds(run, {b"clean.dcm": (put, 0o640), b"site.key": (KEY, None)})
+    key = run.files.get(b"site.key", (b"", 0))[0]
+    put = answer(run, ["dcmodify", "+dict", "-i", "PatientID=P001"], without_identity(run, SCAN, key))
+    wrong = [] if len(key) == 32 else [f"a key of {len(key)} bytes"]
+    return wrong + is_done(run) + holds(run, {b"clean.dcm": (put, 0o640), b"site.key": (None, 0o600)})
 
 
 def as_text(run):
     there = run.files.get(b"scan.txt", (b"", 0))[0]
     wrong = [] if b"(0010,0010) PN [Doe^Jane] " in there else [f"scan.txt is {there!r}"]
-    return wrong + holds(run, {b"scan.txt": (None, 0o600), b"edited.dcm": (scan(b"Doe^Jane"), 0o640)})
+    return wrong + is_done(run) + holds(run, {b"scan.txt": (None, 0o600), b"edited.dcm": (scan(b"Doe^Jane"), 0o640)})
 
 
 def built(run):
-    return holds(run, {b"built.dcm": (SCAN, 0o640)})
+    return is_done(run) + holds(run, {b"built.dcm": (SCAN, 0o640)})
 
 
 def from_elsewhere(run):
-    return holds(run, {b"large.dcm": (SCAN, 0o600)})
+    return is_done(run) + holds(run, {b"large.dcm": (SCAN, 0o600)})
 
 
 def which_syntax(run):
-    return holds(run, {}) + ([] if run.printed == b"is read with -f -ti\n" else [f"printed {run.printed!r}"])
+    return is_done(run) + holds(run, {}) + ([] if run.printed == b"is read with -f -ti\n" else [f"printed {run.printed!r}"])
 
 
 def set_made_whole(run):
-    return holds(run, {b"set.dcm": (file_of(IMPLICIT, SET), 0o640)})
+    return is_done(run) + holds(run, {b"set.dcm": (file_of(IMPLICIT, SET), 0o640)})
 
 
 def with_outputs(work):
     write_files(work, OUTPUTS)
 
 
-def with_key(work):
-    with open(os.path.join(work, b"site.key"), "wb") as file:
-        file.write(KEY)
+def with_sound_outputs(work):
+    write_files(work, {path: file for path, file in OUTPUTS.items() if path == b"deidentified/deep/left.dcm"})
 
 
 class Block(NamedTuple):
-    begins: str  # how the block's last command, or the line that is its own, begins
+    begins: str  # how a line that is the block's own begins
     check: Callable[[Run], list]
     change: Callable[[bytes], None] | None = None  # what it needs beside the tree
+    needs: tuple = ()  # programs that not each system has
+    folder: bytes = b""  # that it makes, and that may not be there
+    replaces: bytes = b""  # the file that it changes in its place
+    sound: Callable[[bytes], None] | None = None  # what it needs beside a tree of sound files
 
 
 BLOCKS = [
-    Block("dcmtools dcmdump +dict scan.dcm |", one_element),
-    Block("columns=(-k", table),
-    Block("find in/ -type f ! -path $'*\\n*' |", table_of_list),
-    Block("sqlite3 table.db", table_in_sqlite, with_table),
-    Block("find in/ -type f ! -path $'*\\n*' > names.txt", table_in_parts),
-    Block("    dcmtools dcmconv +dict +te scan.dcm", in_place),
-    Block("convert() {", converted_tree),
-    Block("    dcmtools dcmconv +dict +te plan.dcm", converted_plan),
-    Block("    found=$(dcmtools dcmdump +dict - <", opaque_values),
-    Block("    dcmtools dcmodify +dict -m 'DoseReferenceSequence", corrected_plan),
-    Block("mkdir fixed", corrected_names),
-    Block("name=$(printf", latin_name),
-    Block("mkdir clean", cleaned),
-    Block("(umask 077; [ -e site.key ]", identity_of_tree),
-    Block("find out/ -type f", identity_left, with_outputs),
-    Block("    part=$(mktemp clean.XXXXXX) && dcmtools dcmdeid", identity_replaced, with_key),
+    Block("    dcmtools dcmdump +dict scan.dcm |", one_element),
+    Block("    columns=(-k", table),
+    Block("    find in/ -type f -print0 | xargs -0 -r dcmtools dcm2csv +nh -k DataSetTrailingPadding", cut_files_named),
+    Block("    find in/ -type f ! -path $'*\\n*' | dcmtools", table_of_list),
+    Block("sqlite3 table.db", table_in_sqlite, with_table, needs=("sqlite3",)),
+    Block("    type parallel", table_in_parts, needs=("parallel",)),
+    Block("    dcmtools dcmconv +dict +te - - < \"$file\"", in_place, replaces=b"scan.dcm"),
+    Block("    convert() {", converted_tree, folder=b"converted"),
+    Block("        found=$(", opaque_values),
+    Block("    dcmtools dcmodify +dict -m 'DoseReferenceSequence", corrected_plan, replaces=b"plan.dcm"),
+    Block("    correct() {", corrected_names, folder=b"fixed"),
+    Block("    name=$(printf", latin_name, needs=("iconv",), replaces=b"scan.dcm"),
+    Block("    clean() {", identity_of_tree, folder=b"deidentified"),
+    Block("        left=$(", identity_left, with_outputs, sound=with_sound_outputs),
+    Block("    dcmtools dcmdeid +k site.key scan.dcm - |", identity_replaced),
     Block("    umask 077", as_text),
-    Block("    part=$(mktemp scan.XXXXXX) && dcmtools dcmdump +L scan.dcm |", built),
-    Block("    part=$(mktemp large.XXXXXX) && ssh", from_elsewhere),
-    Block("for syntax in", which_syntax),
-    Block("    { head -c 128 /dev/zero;", set_made_whole),
+    Block("    dcmtools dcmdump +L scan.dcm |", built),
+    Block("    ssh archive", from_elsewhere, needs=("ssh",)),
+    Block("    for syntax in", which_syntax),
+    Block("    { head -c 128 /dev/zero", set_made_whole),
 ]
+
+# programs that are no part of each system; a block that has one of these words says so before
+NOT_USUAL = r"\b(parallel|sqlite3|iconv|ssh|awk|perl|python3|jq|rsync)\b"
 
 MODES = [("plain", "", "C"), ("pipefail", "set -o pipefail\n", "C"), ("a UTF-8 locale", "", "C.UTF-8")]
 
@@ -467,11 +505,23 @@ MODES = [("plain", "", "C"), ("pipefail", "set -o pipefail\n", "C"), ("a UTF-8 l
 
 
 def blocks_of(page):
+    """Each block, and the paragraph before it."""
     with open(page, encoding="utf-8") as file:
-        return re.findall(r"^```sh\n(.*?)^```$", file.read(), re.DOTALL | re.MULTILINE)
+        between = re.split(r"^```sh\n(.*?)^```$", file.read(), flags=re.DOTALL | re.MULTILINE)
+    return [(before_it.strip().split("\n\n")[-1], text) for before_it, text in zip(between[::2], between[1::2])]
 
 
-def run_block(binary, text, start, locale, *changes):
+def path_without(folder, program):
+    """A path on which all programs are but one."""
+    os.mkdir(folder)
+    for there in os.environ["PATH"].split(":"):
+        for name in os.listdir(there) if os.path.isdir(there) else []:
+            if name != program and not os.path.lexists(os.path.join(folder, name)):
+                os.symlink(os.path.join(there, name), os.path.join(folder, name))
+    return folder
+
+
+def run_block(binary, text, start, locale, *changes, tree=None, lacks="", user=None):
     with tempfile.TemporaryDirectory() as room:
         tools, work = os.path.join(room, "tools"), os.fsencode(os.path.join(room, "work"))
         os.mkdir(tools)
@@ -480,18 +530,21 @@ def run_block(binary, text, start, locale, *changes):
         os.mkdir(os.path.join(room, "tree"))
         os.symlink("../tree", os.path.join(work, b"in"))
         shutil.copy(binary, os.path.join(tools, "dcmtools"))
-        with open(os.path.join(tools, "ssh"), "w", encoding="ascii") as file:
-            file.write(SSH)
-        os.chmod(file.name, 0o755)
-        write_files(work, before())
+        if lacks != "ssh":
+            with open(os.path.join(tools, "ssh"), "w", encoding="ascii") as file:
+                file.write(SSH)
+            os.chmod(file.name, 0o755)
+        write_files(work, before() if tree is None else tree | FILES)
         for change in changes:
             change(work)
         if NOBODY:
             give_to_nobody(room)
-        environment = os.environ | {"PATH": f"{tools}:{os.environ['PATH']}", "HOME": room, "LC_ALL": locale}
+        there = path_without(os.path.join(room, "path"), lacks) if lacks else os.environ["PATH"]
+        environment = os.environ | {"PATH": f"{tools}:{there}", "HOME": room, "LC_ALL": locale}
         streams = {"stdin": subprocess.DEVNULL, "stdout": subprocess.PIPE, "stderr": subprocess.STDOUT}
-        done = subprocess.run(["bash", "-c", start + text], cwd=work, env=environment, umask=0o022, timeout=600, check=False, **streams, **NOBODY)
-        return Run(binary, environment, work, done.stdout, files_in(work))
+        user = NOBODY if user is None else user
+        done = subprocess.run(["bash", "-c", start + text], cwd=work, env=environment, umask=0o022, timeout=600, check=False, **streams, **user)
+        return Run(binary, environment, work, done.stdout, files_in(work), done.returncode)
 
 
 def cut_files(work):
@@ -501,7 +554,7 @@ def cut_files(work):
 
 
 def old_folders(work):
-    for name in (b"out", b"fixed", b"clean"):
+    for name in (b"converted", b"fixed", b"deidentified"):
         os.mkdir(os.path.join(work, name))
         with open(os.path.join(work, name, b"latin.dcm"), "wb") as file:
             file.write(b"older")
@@ -509,14 +562,66 @@ def old_folders(work):
 
 def keeps_cut_files(run):
     """A block whose input is cut leaves it as it was, and makes no file of it but a text."""
-    return [wrong for wrong in holds(run, CUT) if not re.match(r"b'(in/.*|table.csv|table.db|names.txt|failed.txt|left.txt|site.key|scan.txt|(out|fixed|clean)/.*)'", wrong)]
+    return [wrong for wrong in holds(run, CUT) if not re.match(r"b'(in/.*|table.csv|table.db|names.txt|failed.txt|left.txt|not-.*.txt|site.key|scan.txt|(converted|fixed|deidentified)/.*)'", wrong)]
 
 
-def keeps_older_files(run):
-    return [f"{folder!r} was changed" for folder in (b"out/", b"fixed/", b"clean/") for path, (content, _) in run.files.items() if path.startswith(folder) and content != b"older"]
+OLDER = (b"converted/", b"fixed/", b"deidentified/")
 
 
-def failures(binary, text, block):
+def keeps_older_files(run, block):
+    """A block whose folder is there says so, and changes nothing in it."""
+    wrong = [f"{folder!r} was changed" for folder in OLDER for path, (content, _) in run.files.items() if path.startswith(folder) and content != b"older"]
+    if not block.folder:
+        return wrong
+    wrong += [] if run.status and block.folder + "\u2019: File exists".encode() in run.printed.replace(b"'", "\u2019".encode()) else [f"status {run.status}"]
+    return wrong
+
+
+SOUND = {
+    b"in/" + name: (file.content, file.mode)
+    for name, file in TREE.items()
+    if file == Input(file.content, file.mode) and is_opened(name) and b"\n" not in name
+}
+
+
+def does_all(run):
+    """A block that has sound files ends with status 0, and leaves its input."""
+    wrong = [f"{path!r} was changed" for path, file in SOUND.items() if run.files.get(path) != file]
+    return wrong + is_done(run)
+
+
+def tells_what_lacks(run, block, program, before_it):
+    """Without a program that a block needs nothing is made, and the program is named; so it is on the page."""
+    wrong = holds(run, {b"table.csv": run.files.get(b"table.csv")} if block.check == table_in_sqlite else {})
+    wrong += [] if run.status and program.encode() + b": " in run.printed else [f"status {run.status}, printed {run.printed!r}"]
+    return wrong + ([] if program in before_it else [f"the page does not say that it needs {program}"])
+
+
+def linked(block):
+    """Puts a link in place of the file that a block changes."""
+    def change(work):
+        os.mkdir(os.path.join(work, b"store"))
+        os.rename(os.path.join(work, block.replaces), os.path.join(work, b"store", b"real"))
+        os.symlink(b"store/real", os.path.join(work, block.replaces))
+    return change
+
+
+def keeps_link(run, block):
+    """A link that was changed in its place is still one, to a file of the same mode: what it leads to has no other new bytes."""
+    there = {path: file for path, file in run.files.items() if path != b"store/real"}
+    wrong = ["the link was replaced"] if b"is no link" in run.printed else []
+    wrong += [] if run.files.get(b"store/real") == run.files.get(block.replaces) else ["what it leads to was not changed"]
+    return wrong + block.check(run._replace(files=there))
+
+
+def wrong_owner(binary, text, block):
+    """By root: a file that is changed in its place keeps its owner."""
+    run = run_block(binary, text + f"stat -c %u:%g {os.fsdecode(block.replaces)}\n", "", "C", user={})
+    seen = run.printed.split()[-1:]
+    return [] if seen == [b"65534:65534"] else [f"the owner is {seen}"]
+
+
+def failures(binary, text, before_it, block):
     """The runs of a block that did not end as they should."""
     needed = [block.change] if block.change else []
     for mode, start, locale in MODES:
@@ -525,7 +630,115 @@ def failures(binary, text, block):
     run = run_block(binary, text, "", "C", *needed, cut_files)
     yield "files that are cut", run, keeps_cut_files(run)
     run = run_block(binary, text, "", "C", old_folders)
-    yield "folders that are there", run, keeps_older_files(run)
+    yield "folders that are there", run, keeps_older_files(run, block)
+    run = run_block(binary, text, "", "C", *([block.sound] if block.sound else needed), tree=SOUND)
+    yield "sound files", run, does_all(run)
+    for program in block.needs:
+        run = run_block(binary, text, "", "C", *needed, lacks=program)
+        yield f"without {program}", run, tells_what_lacks(run, block, program, before_it)
+    if block.replaces:
+        is_link = f"status=$?; [ -L {os.fsdecode(block.replaces)} ] || echo is no link; exit $status\n"
+        run = run_block(binary, text + is_link, "", "C", linked(block))
+        yield "a link", run, keeps_link(run, block)
+    if block.replaces and NOBODY:
+        yield "a file of somebody else", run, wrong_owner(binary, text, block)
+    if block.folder:
+        for number in (signal.SIGINT, signal.SIGTERM):
+            run, wrong = interrupted(binary, text, number)
+            yield number.name, run, wrong
+    if block.folder and may_mount():
+        run, wrong = on_full_disk(binary, text, block)
+        yield "a full disk", run, wrong
+
+
+# dcmtools as it is, but that it waits before it writes
+WAITS = '#!/bin/sh\n[ "$1" = dcm2csv ] || { : > "$HOME/begun.$$"; sleep 5; }\nexec "$HOME/dcmtools" "$@"\n'
+
+
+def interrupted(binary, text, number):
+    """A signal to all that a block started, once dcmtools is at work: no part is left, and no input changed. bash may end a file first."""
+    with tempfile.TemporaryDirectory() as room:
+        tools, work = os.path.join(room, "tools"), os.fsencode(os.path.join(room, "work"))
+        os.mkdir(tools)
+        os.mkdir(work)
+        shutil.copy(binary, os.path.join(room, "dcmtools"))
+        with open(os.path.join(tools, "dcmtools"), "w", encoding="ascii") as file:
+            file.write(WAITS)
+        os.chmod(file.name, 0o755)
+        write_files(work, SOUND)
+        if NOBODY:
+            give_to_nobody(room)
+        environment = os.environ | {"PATH": f"{tools}:{os.environ['PATH']}", "HOME": room, "LC_ALL": "C"}
+        started = subprocess.Popen(["bash", "-c", text], cwd=work, env=environment, start_new_session=True, stdin=subprocess.DEVNULL,
+                                   stdout=subprocess.PIPE, stderr=subprocess.STDOUT, **NOBODY)
+        due = len(os.sched_getaffinity(0)) if "nproc" in text else 1
+        for _ in range(300):
+            if sum(name.startswith("begun") for name in os.listdir(room)) >= due:
+                break
+            time.sleep(0.1)
+        os.killpg(started.pid, number)
+        printed = started.communicate(timeout=120)[0]
+        # the last of them may still remove its part
+        time.sleep(8)
+        files = files_in(work)
+        made = [path for path in files if path not in SOUND and not re.fullmatch(rb"not-.*\.txt|site\.key", path)]
+        wrong = [f"{path!r} is left" for path in made if b"/" not in path]
+        wrong += [f"{path!r} is not whole" for path in made if b"/" in path and not is_read(binary, files[path][0])]
+        wrong += [f"{path!r} was changed" for path, file in SOUND.items() if files.get(path) != file]
+        wrong += [] if started.returncode else ["status 0"]
+        return Run(binary, environment, work, printed, files, started.returncode), wrong
+
+
+def is_read(binary, content):
+    return subprocess.run([binary, "dcmdump", "-"], input=content, capture_output=True, timeout=60, check=False).returncode == 0
+
+
+def may_mount():
+    words = ["unshare", "-m", "mount", "-t", "tmpfs", "none", "/mnt"]
+    return bool(NOBODY) and subprocess.run(words, capture_output=True, check=False).returncode == 0
+
+
+# a tree of 1.2 MB for a disk of 2 MB
+FULL = {b"in/%d.dcm" % number: (scan(b"Huber^Eva", b"%d" % number, leaf(0x7FE00010, "OB", bytes(200_000))), 0o644) for number in range(6)}
+
+ON_FULL_DISK = """
+mount -t tmpfs -o size=2M,mode=777 none "$1/full" && cp -a "$1/work/." "$1/full" && cd "$1/full" || exit 99
+setpriv --reuid=65534 --regid=65534 --clear-groups bash -c "$2"
+status=$?
+cp -a . "$1/after"
+exit $status
+"""
+
+
+def on_full_disk(binary, text, block):
+    """On a disk that has no room for all: each file is there whole, or named, and the status is not 0."""
+    with tempfile.TemporaryDirectory() as room:
+        for name in ("tools", "work", "full", "after"):
+            os.mkdir(os.path.join(room, name))
+        shutil.copy(binary, os.path.join(room, "tools", "dcmtools"))
+        work, after = (os.fsencode(os.path.join(room, name)) for name in ("work", "after"))
+        write_files(work, FULL)
+        give_to_nobody(room)
+        environment = os.environ | {"PATH": f"{room}/tools:{os.environ['PATH']}", "HOME": room, "LC_ALL": "C"}
+        done = subprocess.run(["unshare", "-m", "bash", "-c", ON_FULL_DISK, "_", room, text], env=environment, umask=0o022, timeout=600, check=False,
+                              stdin=subprocess.DEVNULL, stdout=subprocess.PIPE, stderr=subprocess.STDOUT)
+        run = Run(binary, environment, after, done.stdout, files_in(after), done.returncode)
+        lists = b"".join(content for path, (content, _) in run.files.items() if path.startswith(b"not-")) + run.printed
+        wrong = [] if run.status and run.status != 99 else [f"status {run.status}"]
+        wrong += [f"{path!r} was changed" for path, file in FULL.items() if run.files.get(path) != file]
+        whole = {path for path in FULL if len(run.files.get(block.folder + path[2:], (b"", 0))[0]) > 200_000}
+        wrong += [f"{path!r} is neither there nor named" for path in FULL if path not in whole and path + b": status" not in lists]
+        wrong += [f"{path!r} is left" for path in run.files if re.search(rb"\.\w{6}$", path) and not path.startswith((b"in/", b"not-"))]
+        return run, wrong + ([] if whole and len(whole) < len(FULL) else [f"{len(whole)} files are there"])
+
+
+def manual_commands():
+    """The examples of the manual page, of one file each: those that take identity out, together."""
+    with open(os.path.join(ROOT, "man", "dcmtools.1"), encoding="utf-8") as file:
+        page = file.read().split(".Sh EXAMPLES\n")[1].split("\n.Sh ")[0]
+    parts = [re.findall(r"^\.Dl (.*)$", part, re.M) for part in page.split("\n.Pp\n")]
+    alone = [line for part in parts for line in part if "site.key" not in line]
+    return [*alone, "\n".join(line for part in parts for line in part if "site.key" in line)]
 
 
 def readme_commands():
@@ -536,14 +749,16 @@ def readme_commands():
 
 
 def wrong_commands(binary):
-    """The commands of README that do not end with status 0, on a file that has all the elements that they name."""
+    """The commands of README and of the manual page that do not end with status 0, on a file that has all the elements that they name."""
     content = scan(b"AB^CD", b"7", PRIVATE + leaf(0x00181151, "IS", b"5"))
     images = leaf(0x00081140, "SQ", item(leaf(0x00081155, "UI", b"1.2\0")))
     content = content.replace(MODALITY, MODALITY + images)
-    for command in readme_commands():
+    # an image, as a scanner makes them, has a value that is longer than a line of dump2dcm
+    image = content + leaf(0x7FE00010, "OB", bytes(20_000))
+    for command in readme_commands() + manual_commands():
         with tempfile.TemporaryDirectory() as folder:
             os.symlink(binary, os.path.join(folder, "dcmtools"))
-            for name, bytes_of in (("FILE", content), ("site.key", KEY)):
+            for name, bytes_of in (("FILE", content), ("site.key", KEY), ("image.dcm", image), ("report.dcm", content)):
                 with open(os.path.join(folder, name), "wb") as file:
                     file.write(bytes_of)
             environment = os.environ | {"PATH": f"{folder}:{os.environ['PATH']}"}
@@ -556,13 +771,16 @@ def main():
     binary = os.path.abspath(sys.argv[1] if len(sys.argv) > 1 else os.path.join(ROOT, "crates/dcmtools/out/dcmtools"))
     texts = blocks_of(PAGE)
     wrong = 0
-    for text in texts:
+    for before_it, text in texts:
         known = [block for block in BLOCKS if f"\n{block.begins}" in f"\n{text}"]
         if len(known) != 1:
             print(f"{len(known)} checks of this block:\n{text}")
             wrong += 1
             continue
-        for mode, run, faults in failures(binary, text, known[0]):
+        if undeclared := set(re.findall(NOT_USUAL, re.sub("'.*?'", "", text))) - {*known[0].needs}:
+            print(f"{known[0].begins.strip()} .. needs {undeclared}")
+            wrong += 1
+        for mode, run, faults in failures(binary, text, before_it, known[0]):
             if faults:
                 wrong += 1
                 print(f"{known[0].begins.strip()} .. ({mode}):", *faults, sep="\n  ")
@@ -570,7 +788,8 @@ def main():
     for command in wrong_commands(binary):
         wrong += 1
         print(command)
-    print(f"{len(texts)} blocks of {len(BLOCKS)}, {len(readme_commands())} commands of README, {wrong} runs wrong")
+    commands = len(readme_commands()), len(manual_commands())
+    print(f"{len(texts)} blocks of {len(BLOCKS)}, {commands[0]} commands of README, {commands[1]} of the manual, {wrong} runs wrong")
     return 1 if wrong or len(texts) != len(BLOCKS) else 0
 
 

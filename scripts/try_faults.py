@@ -44,7 +44,7 @@ from typing import NamedTuple
 ROOT = Path(__file__).resolve().parent.parent
 
 ERRORS = {
-    "openat": ["EMFILE", "ENFILE", "ENOMEM", "EACCES", "EINTR", "EIO", "ENOENT", "ELOOP", "ENOSPC", "EROFS", "EISDIR"],
+    "openat": ["EMFILE", "ENFILE", "ENOMEM", "EACCES", "EINTR", "EIO", "ENOENT", "ELOOP", "ENOSPC", "EROFS", "EISDIR", "EEXIST"],
     "statx": ["EIO", "ENOMEM", "EINTR", "EACCES", "ENOSYS", "EOVERFLOW", "EBADF"],
     "fstat": ["EIO", "EOVERFLOW", "EBADF"],
     "newfstatat": ["EIO", "EOVERFLOW", "EBADF"],
@@ -64,12 +64,15 @@ ERRORS = {
 MEMORY = ("brk", "mmap", "mremap")
 STATS = ("statx", "fstat", "newfstatat")
 
+# the line where OUTPUT.part is there
+PART_IS_THERE = rb"output part is there: another run is at work, or was cut off"
+
 # the lines of each status
 LINES = {
     1: rb"[VU]\d[ :].*",
     2: rb"[RB]\d+ at byte \d+(, line \d+)?: [a-zA-Z ]+",
     3: rb"edit \d+ found no place|pixels may show identity",
-    4: rb"key cannot be opened|reading the key failed|input cannot be opened|output cannot be opened|output is the input|reading failed after \d+ bytes|output failed",
+    4: rb"key cannot be opened|reading the key failed|input cannot be opened|output cannot be opened|output is the input|reading failed after \d+ bytes|output failed|" + PART_IS_THERE,
     5: rb"out of memory",
 }
 
@@ -478,6 +481,15 @@ def wrong_reservation(run, base, ended, fault):
     return "" if is_as_without(base, ended) else wrong_refusal(run, ended, b"(input|output) cannot be opened|out of memory")
 
 
+def wrong_making(run, base, ended, fault):
+    """Of making OUTPUT.part: where it is there, that is said."""
+    if fault.call.name != "openat" or "O_EXCL" not in fault.call.line:
+        return ""
+    if fault.error == "EINTR" and is_as_without(base, ended):
+        return ""
+    return wrong_refusal(run, ended, PART_IS_THERE if fault.error == "EEXIST" else b"output cannot be opened|out of memory")
+
+
 def wrong_memory(run, base, ended, fault):
     """Of memory that is refused: the run goes as it was, or says so and nothing else."""
     if fault.call.name not in MEMORY or is_as_without(base, ended):
@@ -626,7 +638,7 @@ def wrong_loss(run, base, ended, fault):
 
 
 ALWAYS = (wrong_status, wrong_line, wrong_output, wrong_part, wrong_input, wrong_writes, wrong_numbers)
-OF_CALLS = (wrong_question, wrong_reservation, wrong_memory)
+OF_CALLS = (wrong_question, wrong_reservation, wrong_making, wrong_memory)
 
 ALWAYS_OF_TABLES = (wrong_status, wrong_table, wrong_input, wrong_writes, wrong_numbers)
 OF_CALLS_OF_TABLES = (wrong_loss, wrong_reservation, wrong_memory)

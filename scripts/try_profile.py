@@ -195,7 +195,9 @@ WORDS = [
     refused("-- is not known", "dcmdump -- FILE", "V2 at word 2: unknown option"),
     refused("--help is the only word after a tool's name", "dcmdump --help FILE", "V2 at word 2: unknown option"),
     refused("--version is the only word after a tool's name", "dcmconv FILE out --version", "V2 at word 4: unknown option"),
-    refused("help of no tool", "foo help", "V1 at word 1: unknown tool"),
+    refused("a tool that is none, and help", "foo help", "V1 at word 1: unknown tool"),
+    refused("help of no tool", "help foo", "V1 at word 1: unknown tool"),
+    refused("--help of a path", "--help FILE", "V1 at word 1: unknown tool"),
     refused("no words", "", "V1 at word 1: unknown tool"),
     Case("a file that is named help", "dcmdump -f -te ./help; rm help", AB, set_header("LittleEndianExplicit") + NAME_LINE, before="mv FILE help; cp help FILE"),
     Case("a value that is not UTF-8", "dcmodify -m $'PatientName=M\\374ller' FILE -", file_of(LITTLE, AB), file_of(LITTLE, leaf(NAME, "PN", b"M\xfcller"))),
@@ -253,6 +255,8 @@ FILE_LIMIT = file_of(LITTLE, leaf(PIXELS, "OB", bytes(60_000)))
 FILES = [
     Case("a new OUTPUT has the mode of the umask", "dcmconv FILE out", WRITTEN, "644\n", before="umask 022; chmod 600 FILE", after="stat -c %a out; rm out"),
     Case("an older OUTPUT keeps its mode", "dcmconv FILE out", WRITTEN, "640\n", before="umask 022; echo older > out; chmod 640 out", after="stat -c %a out; rm out"),
+    Case("a signal leaves what was written", "dcmconv - out < <(cat FILE; exec sleep 20) & sleep 1; kill $!; wait $!; (exit $?)", WRITTEN, "out\n", 143, before="exec 2> /dev/null", after="ls out; rm out"),
+    Case("two files in DCMTK's habit: the second becomes a copy of the first", "dcmodify -m PatientName=AB FILE out", WRITTEN, WRITTEN, before="echo another patient > out", after="cat out; rm out"),
     Case("a limit of file size ends the program without a line", "dcmconv FILE out 2> out2", FILE_LIMIT, "4096\n0\n", 153, before="ulimit -f 4; exec 2> /dev/null", after="stat -c %s out out2; rm out out2"),
     Case("the same where the signal is ignored", "dcmconv FILE out", FILE_LIMIT, "4096\n", 4, "output failed", before="ulimit -f 4; trap '' XFSZ", after="stat -c %s out; rm out"),
     Case(
@@ -835,6 +839,8 @@ MADE_KEY = KEY.replace(b"'", b"")
 UID = leaf(INSTANCE_OF_FILE, "UI", b"1.2.3\0")
 SHOWS_IDENTITY = leaf(BURNED_IN, "CS", b"YES ")
 
+PART_IS_THERE = "output part is there: another run is at work, or was cut off"
+
 IDENTITY = [
     taken("names are emptied", AB, leaf(NAME, "PN", b"")),
     taken("a row with X is removed", leaf(COMMENTS, "LT", b"AB") + leaf(0x7FE10010, "LO", b"AB")),
@@ -870,7 +876,11 @@ IDENTITY = [
     Case("OUTPUT has its name at status 0", "dcmdeid FILE OUTPUT", file_of(LITTLE, AB), without_identity("", leaf(NAME, "PN", b"")), after="cat OUTPUT; rm OUTPUT"),
     Case("at status 3 none is left", "dcmdeid FILE OUTPUT", file_of(LITTLE, SHOWS_IDENTITY), b"", 3, "pixels may show identity"),
     Case("at a fault OUTPUT is as it was", "dcmdeid FILE OUTPUT", file_of(LITTLE, AB + AB), "older\n", 2, f"R12 at byte {AT_SET + 10}: tags not ascending", before="echo older > OUTPUT", after="cat OUTPUT; rm OUTPUT"),
-    Case("OUTPUT.part is there already", "dcmdeid FILE OUTPUT", file_of(LITTLE, AB), "older\n", 4, "output cannot be opened", before="echo older > OUTPUT.part", after="cat OUTPUT.part; rm OUTPUT.part"),
+    Case("OUTPUT.part is there already", "dcmdeid FILE OUTPUT", file_of(LITTLE, AB), "older\n", 4, PART_IS_THERE, before="echo older > OUTPUT.part", after="cat OUTPUT.part; rm OUTPUT.part"),
+    Case("a part that leads nowhere", "dcmdeid FILE OUTPUT", file_of(LITTLE, AB), b"", 4, PART_IS_THERE, before="ln -s new OUTPUT.part", after="rm OUTPUT.part"),
+    Case("OUTPUT is looked at first", "dcmdeid FILE OUTPUT", file_of(LITTLE, AB), b"", 4, "output cannot be opened", before="mkdir OUTPUT; echo older > OUTPUT.part", after="rm OUTPUT.part; rmdir OUTPUT"),
+    Case("a signal leaves OUTPUT.part", "dcmdeid - OUTPUT < <(cat FILE; exec sleep 20) & sleep 1; kill $!; wait $!; (exit $?)", file_of(LITTLE, AB), "OUTPUT.part\n", 143, before="exec 2> /dev/null", after="ls OUTPUT*; rm OUTPUT.part"),
+    Case("a new OUTPUT always: it has the mode of the umask", "dcmdeid FILE OUTPUT", file_of(LITTLE, AB), "644\n", before="umask 022; echo older > OUTPUT; chmod 600 OUTPUT", after="stat -c %a OUTPUT; rm OUTPUT"),
     Case("OUTPUT is no regular file", "dcmdeid FILE OUTPUT", file_of(LITTLE, AB), b"", 4, "output cannot be opened", before="mkdir OUTPUT", after="rmdir OUTPUT"),
     Case("OUTPUT is KEY under another name", "dcmdeid +k key FILE OUTPUT", file_of(LITTLE, AB), MADE_KEY, 4, "output cannot be opened", before=f"{MAKES_KEY}; ln key OUTPUT", after="cat key; rm key OUTPUT"),
     Case("a link at OUTPUT is replaced", "dcmdeid FILE OUTPUT", file_of(LITTLE, AB), "older\n", before="echo older > other; ln -s other OUTPUT", after="cat other; rm other; [ -L OUTPUT ] || rm OUTPUT"),
@@ -973,6 +983,23 @@ TABLES = [
 ]
 
 
+# ---- the likeliest causes of lines
+
+CAUSES = [
+    refused("V2: the first wrong word", "dcmconv +x FILE +y out", "V2 at word 2: unknown option"),
+    refused("V4: OUTPUT is missing", "dcmconv +te FILE", "V4: wrong number of paths"),
+    refused("V4: an option after the paths of dcmodify", "dcmodify -ep FILE out +dict", "V4: wrong number of paths"),
+    refused("V6: a file was meant to change in its place", "dcmodify -ep FILE FILE", "V6: input and output are the same path"),
+    refused("U1 in edit 1: OUTPUT is missing", "dcmodify -m PatientName=CD FILE", "U1 in edit 1: bad option or path"),
+    refused("U1: several files", "dcmodify -m PatientName=CD FILE other out", "U1 in edit 2: bad option or path"),
+    refused("U2: a keyword that only +dict has", "dcmodify -m RTPlanLabel=CD FILE out", "U2 in edit 1: unknown tag"),
+    refused("U3: a decimal of a FD", "dcmodify +dict -m RealWorldValueSlope=1.5 FILE out", "U3 in edit 1: value does not fit"),
+    fault("R1: a text of less than 132 bytes", DUMP, b"no DICOM file\n", "R1", 14, "input ends too early"),
+    fault("R2: a longer text", DUMP, b"no DICOM file\n" * 10, "R2", 128, "no DICM prefix"),
+    Case("no such file", "dcmdump none", b"", b"", 4, "input cannot be opened"),
+    Case("a directory", "dcmdump .", b"", b"", 4, "input cannot be opened"),
+]
+
 TOOLS = ["dcmdump", "dcmconv", "dump2dcm", "dcmodify", "dcmdeid", "dcm2csv"]
 OPTIONS = [
     ["-L", "+L", "+fo", "-f", "-ti", "-te", "-tb", "-dict", "+dict"],
@@ -1061,7 +1088,7 @@ def wrong_text(binary, shows):
 
 def main():
     binary = os.path.abspath(sys.argv[1] if len(sys.argv) > 1 else os.path.join(ROOT, "crates/dcmtools/out/dcmtools"))
-    cases = WORDS + SAME_FILE + READING + DICTIONARIES + FILES + SHOWING + WRITING + BUILDING + EDITING + PRIVACY + IDENTITY + TABLES + FAULTS
+    cases = WORDS + SAME_FILE + READING + DICTIONARIES + FILES + SHOWING + WRITING + BUILDING + EDITING + PRIVACY + IDENTITY + TABLES + FAULTS + CAUSES
     answers = [(case.claim, wrong_case(binary, case)) for case in cases]
     answers += [(shows.claim, wrong_text(binary, shows)) for shows in TEXTS]
     for claim, wrong in answers:

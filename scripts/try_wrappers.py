@@ -48,7 +48,7 @@ PATHS = "dcmtools: V4: wrong number of paths\n"
 OPTION = "dcmtools: V2 at word 5: unknown option\n"
 PATH_FAULT = "dcmtools: U1 in edit {}: bad option or path\n"
 UNKNOWN_TAG = "dcmtools: U2 in edit 1: unknown tag\n"
-EXISTS = "dcmodify: older exists: give -f first to replace it\n"
+EXISTS = "dcmodify: older exists: give --overwrite first to replace it\n"
 PART = "out.part exists: move it away, or give another OUTPUT\n"
 CONVERTED_PART = "dcmconv: " + PART
 UNNAMED_PART = "dcmconv: OUTPUT.part exists: move it away, or give another OUTPUT\n"
@@ -120,11 +120,11 @@ CASES = [
     ("OUTPUT is standard input by its name", "dcmconv /dev/stdin name.dcm < name.dcm", 4, SAME, {}),
     ("FILE at the end of standard output", "dcmconv name.dcm - >> name.dcm", 4, SAME, {}),
     ("LINES are OUTPUT", "dump2dcm lines ./lines", 4, SAME, {}),
-    ("edits of FILE in its place", "dcmodify -f -ep name.dcm linked", 4, SAME, {}),
-    ("the same without -f", "dcmodify -ep name.dcm linked", 4, SAME, {}),
+    ("edits of FILE in its place", "dcmodify --overwrite -ep name.dcm linked", 4, SAME, {}),
+    ("the same without --overwrite", "dcmodify -ep name.dcm linked", 4, SAME, {}),
     # an OUTPUT.part that is there
     ("an older part", "cp left out.part; dcmconv name.dcm out", 4, CONVERTED_PART, {"out.part": LEFT}),
-    ("an older part of edits", "cp left out.part; dcmodify -f -ep name.dcm out", 4, "dcmodify: " + PART, {"out.part": LEFT}),
+    ("an older part of edits", "cp left out.part; dcmodify --overwrite -ep name.dcm out", 4, "dcmodify: " + PART, {"out.part": LEFT}),
     ("an older part of lines", "cp left out.part; dump2dcm lines out", 4, "dump2dcm: " + PART, {"out.part": LEFT}),
     ("an older part and refused words", "cp left out.part; dcmconv name.dcm out -e -x", 1, OPTION, {"out.part": LEFT}),
     ("an older part that is FILE", "cp left out.part; dcmconv out.part out", 4, CONVERTED_PART, {"out.part": LEFT}),
@@ -143,17 +143,18 @@ CASES = [
     ("a hard link to an older file", "ln older link; dcmconv +tb name.dcm link", 0, "", {"link": BIG}),
     # edits
     ("an edit", "dcmodify -m PatientName=Q name.dcm out", 0, "", {"out": REPLACED}),
-    ("an edit of an older file", "dcmodify -f -m PatientName=Q name.dcm older", 0, "", {"older": REPLACED}),
+    ("an edit of an older file", "dcmodify --overwrite -m PatientName=Q name.dcm older", 0, "", {"older": REPLACED}),
     ("no edits", "dcmodify name.dcm out", 0, "", {"out": NAME}),
     ("an edit that finds no place", "dcmodify -m PatientID=7 name.dcm out", 3, NO_PLACE, {"out": NAME}),
-    ("the same of an older file", "dcmodify -f -m PatientID=7 name.dcm older", 3, NO_PLACE, {"older": NAME}),
-    ("an edit of a cut file", "dcmodify -f -m PatientName=Q cut older", 2, CUT, {}),
+    ("the same of an older file", "dcmodify --overwrite -m PatientID=7 name.dcm older", 3, NO_PLACE, {"older": NAME}),
+    ("an edit of a cut file", "dcmodify --overwrite -m PatientName=Q cut older", 2, CUT, {}),
     ("an edit of standard streams", "dcmodify -m PatientName=Q - - < name.dcm > out", 0, "", {"out": REPLACED}),
     ("an edit to the null device", "dcmodify -m PatientName=Q name.dcm /dev/null", 0, "", {}),
     ("a tag that looks like an option", "dcmodify -e -f name.dcm out", 1, UNKNOWN_TAG, {}),
-    ("-f that is not first", "dcmodify -ep -f name.dcm out", 1, PATH_FAULT.format(2), {}),
-    ("-f alone", "dcmodify -f", 1, PATHS, {}),
-    ("a path that looks like an option", "dcmodify -f -ep name.dcm -x", 1, PATHS, {}),
+    ("--overwrite that is not first", "dcmodify -ep --overwrite name.dcm out", 1, PATH_FAULT.format(2), {}),
+    ("--overwrite alone", "dcmodify --overwrite", 1, PATHS, {}),
+    ("DCMTK's -f", "dcmodify -f -m PatientName=Q name.dcm older", 1, PATH_FAULT.format(1), {}),
+    ("a path that looks like an option", "dcmodify --overwrite -ep name.dcm -x", 1, PATHS, {}),
     ("two files in DCMTK's habit", "dcmodify -m PatientName=Q name.dcm older", 1, EXISTS, {}),
     ("three files in DCMTK's habit", "dcmodify -m PatientName=Q name.dcm twice.dcm older", 1, PATH_FAULT.format(2), {}),
     ("one file in DCMTK's habit", "dcmodify -m PatientName=Q name.dcm", 1, PATH_FAULT.format(1), {}),
@@ -172,7 +173,7 @@ SIGNALS = (signal.SIGHUP, signal.SIGINT, signal.SIGQUIT, signal.SIGTERM)
 THROUGH = """#!/bin/sh
 folder=${0%/*}
 case ${1-} in
-    dcmodify) shift; exec "$folder/dcmodify" -f "$@" ;;
+    dcmodify) shift; exec "$folder/dcmodify" --overwrite "$@" ;;
     dcmconv | dump2dcm) tool=$1; shift; exec "$folder/$tool" "$@" ;;
     *) exec "$folder/dcmtools" "$@" ;;
 esac

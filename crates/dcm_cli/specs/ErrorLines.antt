@@ -62,6 +62,10 @@ open_line true = error_line (codes "output cannot be opened")
 abbrev pub same_line : List ℕ
 same_line = error_line (codes "output is the input")
 
+-- what is written until the output is whole is there
+abbrev pub part_line : List ℕ
+part_line = error_line (codes "output part is there: another run is at work, or was cut off")
+
 -- a fault of the input
 abbrev pub fault_line : Stop → List ℕ
 fault_line stop = error_line (fault_number stop.fault ++ codes " at byte " ++ decimal stop.at ++ codes ": "

@@ -1,12 +1,14 @@
 -- What a run over memory leaves, where there is room for the answer, and what words come to over files in memory.
 use Rattle.std.specs.Prelude.{◌≡◌, ◌≤◌, ◌⊎◌, ◌==◌, ◌||◌, ◌&&◌, not, nat_le, ℕ, List, [], ◌++◌, length, bytes_eq}
 use Rattle.std.specs.Prelude.{if◌then◌else◌, Bool, true, false, Option, None, Some, Result, Ok, Err}
-use Rattle.std.specs.Option.{option_map, is_none}
+use Rattle.std.specs.Option.{option_map, is_some}
 use Rattle.std.specs.Str.{is_utf8}
 use Rattle.dcm_files.specs.Devices.{standard}
 use Rattle.dcm_files.specs.Memory.{file_named}
 use Rattle.dcm_files.specs.Part.{part_of, is_short}
 use Rattle.dcm_files.specs.declared.memory.MemSystem.{MemSystem}
+use Rattle.dcm_files.specs.declared.opened.Unopened.{Unopened}
+use Rattle.dcm_files.specs.declared.opened.Unopened.TheVariants.{Output as OfOutput, Part}
 use Rattle.dcm_devices.specs.Memory.{written, room_of}
 use Rattle.dcm_devices.specs.declared.memory.MemOut.{MemOut}
 use Rattle.dcm_words.specs.declared.topic.Topic.{Topic}
@@ -17,10 +19,11 @@ use Rattle.dcm_words.specs.Words.{Job, Plan, meant, deidentify}
 use Rattle.dcm_words.specs.Plans.{takes_memory}
 use Rattle.dcm_deid.specs.declared.fate.Options.{Options}
 use Rattle.dcm_cli.specs.declared.key.NoKey.{NoKey}
-use Rattle.dcm_cli.specs.declared.key.NoKey.TheVariants.{Unopened, Size}
+use Rattle.dcm_cli.specs.declared.key.NoKey.TheVariants as causes
 use Rattle.dcm_cli.specs.Keys.{LEAST_OF_KEY, MOST_OF_KEY, no_key_line, no_key_status}
 use Rattle.dcm_cli.specs.Answer.{Answer, Answers}
 use Rattle.dcm_cli.specs.ErrorLines.{usage_line, usage_status, open_line, same_line}
+use Rattle.dcm_cli.specs.Program.{unopened_line, unopened_status}
 use Rattle.dcm_cli.specs.Status.{DEVICE, DONE}
 
 -- all of the output, the status, and the lines where there is room for them
@@ -106,9 +109,9 @@ JobComes (Some bytes) true false job o = (a : Answer) × Answers job bytes a × 
 
 -- the key, by the bytes at its path if they can be read; or why there is none
 abbrev pub key_of : Option (List ℕ) → Result (List ℕ) NoKey
-key_of None = Err Unopened
+key_of None = Err causes.Unopened
 key_of (Some bytes) =
-    if nat_le LEAST_OF_KEY (length bytes) && nat_le (length bytes) MOST_OF_KEY then Ok bytes else Err Size
+    if nat_le LEAST_OF_KEY (length bytes) && nat_le (length bytes) MOST_OF_KEY then Ok bytes else Err causes.Size
 
 -- there is no key
 abbrev pub without_key : NoKey → Outcome
@@ -119,18 +122,29 @@ abbrev pub key_number : MemSystem → (key : Option (List ℕ)) → Option ℕ
 key_number s None = None
 key_number s (Some path) = number_at s path
 
--- whether an output can be written until it is whole: its path is a text, and not too long, and no part is there
+-- whether an output has the path of a part: it is a text, and not too long
+abbrev pub has_path : (output : List ℕ) → Bool
+has_path output = is_utf8 output && is_short output
+
+-- whether its part is there
 abbrev pub has_part : MemSystem → (output : List ℕ) → Bool
-has_part s output = is_utf8 output && is_short output && is_none (file_named s.files.now (part_of output))
+has_part s output = is_some (file_named s.files.now (part_of output))
 
 -- whether it is another file than the input and the key
 abbrev pub is_apart : MemSystem → Plan → Bool
 is_apart s p = not (is_one_file (number_at s p.input) (number_at s p.output))
     && not (is_one_file (key_number s p.key) (number_at s p.output))
 
--- whether an output that has its name only once it is whole can be written: standard output can
-abbrev pub can_end : MemSystem → Plan → Bool
-can_end s p = bytes_eq p.output standard || (has_part s p.output && is_apart s p)
+-- why an output that has its name only once it is whole cannot be written, if it cannot: standard output can
+abbrev pub unwritten : MemSystem → Plan → Option Unopened
+unwritten s p =
+    if bytes_eq p.output standard then None
+    else if has_path p.output && is_apart s p then (if has_part s p.output then Some Part else None)
+    else Some OfOutput
+
+-- such an output cannot be opened
+abbrev pub not_begun : Unopened → Outcome
+not_begun why = record { output = no_output; lines = unopened_line why; status = unopened_status why }
 
 -- its job was answered: it is left where all was done, and standard output always; else it is removed
 abbrev pub ended : (is_stream : Bool) → Answer → Outcome
@@ -140,15 +154,16 @@ ended is_stream a = record {
   status = a.status;
 }
 
--- what a job comes to, by the input if it can be read, and by whether such an output can be written
-abbrev pub WholeComes : (input : Option (List ℕ)) → (can_write is_stream : Bool) → Job → Outcome → Type 0
-WholeComes None can_write is_stream job o = o ≡ not_opened false
-WholeComes (Some bytes) false is_stream job o = o ≡ not_opened true
-WholeComes (Some bytes) true is_stream job o = (a : Answer) × Answers job bytes a × (o ≡ ended is_stream a)
+-- what a job comes to, by the input if it can be read, and by why such an output cannot be written, if it cannot
+abbrev pub WholeComes : (input : Option (List ℕ)) → (why : Option Unopened) → (is_stream : Bool) → Job → Outcome
+    → Type 0
+WholeComes None why is_stream job o = o ≡ not_opened false
+WholeComes (Some bytes) (Some why) is_stream job o = o ≡ not_begun why
+WholeComes (Some bytes) None is_stream job o = (a : Answer) × Answers job bytes a × (o ≡ ended is_stream a)
 
 -- over the files of a plan
 abbrev pub WholeAt : MemSystem → Plan → Job → Outcome → Type 0
-WholeAt s p job o = WholeComes (bytes_at s p.input) (can_end s p) (bytes_eq p.output standard) job o
+WholeAt s p job o = WholeComes (bytes_at s p.input) (unwritten s p) (bytes_eq p.output standard) job o
 
 -- what the taking of identity comes to, by the key
 abbrev pub KeyComes : Result (List ℕ) NoKey → MemSystem → Plan → Options → (reports : Bool) → Outcome → Type 0

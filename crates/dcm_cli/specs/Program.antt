@@ -13,7 +13,7 @@ use Rattle.dcm_words.specs.Words.{Job, Plan, meant, deidentify}
 use Rattle.dcm_words.specs.Plans.{takes_memory}
 use Rattle.dcm_files.specs.declared.opened.Opened.{Opened}
 use Rattle.dcm_files.specs.declared.opened.Unopened.{Unopened}
-use Rattle.dcm_files.specs.declared.opened.Unopened.TheVariants.{Input, Output, Same, Memory}
+use Rattle.dcm_files.specs.declared.opened.Unopened.TheVariants.{Input, Output, Same, Part, Memory}
 use Rattle.dcm_files.specs.Devices.{MayDo, IsCause, OpensDevices}
 use Rattle.dcm_files.specs.Part.{OpensWholeDevices, EndsPart}
 use Rattle.dcm_files.specs.declared.opened.FileKind.{FileKind}
@@ -23,7 +23,7 @@ use Rattle.dcm_cli.specs.declared.key.NoKey.{NoKey}
 use Rattle.dcm_cli.specs.Keys.{TakesKey, no_key_line, no_key_status}
 use Rattle.dcm_cli.specs.Calls.{Reader, Runs}
 use Rattle.dcm_cli.specs.Change.{Change, change_of}
-use Rattle.dcm_cli.specs.ErrorLines.{Reports, usage_line, usage_status, open_line, same_line, output_line}
+use Rattle.dcm_cli.specs.ErrorLines.{Reports, usage_line, usage_status, open_line, same_line, part_line, output_line}
 use Rattle.dcm_cli.specs.Status.{DEVICE, DONE, MEMORY}
 
 -- the line that reports why a job was not begun
@@ -31,6 +31,7 @@ abbrev pub unopened_line : Unopened → List ℕ
 unopened_line Input = open_line false
 unopened_line Output = open_line true
 unopened_line Same = same_line
+unopened_line Part = part_line
 unopened_line Memory = usage_line usages.Memory
 
 -- and the status

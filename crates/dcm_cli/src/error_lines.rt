@@ -111,6 +111,18 @@ pub fn tell_same<E: DeviceOut>(errors: &mut Watched<E>) -> u8
     DEVICE
 }
 
+/// Reports that what is written until the output is whole is there, and answers the status.
+pub fn tell_part<E: DeviceOut>(errors: &mut Watched<E>) -> u8
+    ensures line { calls.Reports E.DeviceOut errors.old errors.new spec.part_line }
+    ensures status { result ≡ statuses.DEVICE }
+{
+    tell_line(
+        errors,
+        &[b"dcmtools: output part is there: another run is at work, or was cut off\n".as_slice()],
+    );
+    DEVICE
+}
+
 /// Reports a fault of the input.
 pub fn tell_fault<E: DeviceOut>(stop: Stop, errors: &mut Watched<E>)
     ensures { calls.Reports E.DeviceOut errors.old errors.new (spec.fault_line stop) }

@@ -9,7 +9,7 @@ ghost use Rattle.dcm_cli.specs.Program as spec;
 ghost use Rattle.dcm_cli.specs.Status as statuses;
 
 use crate::ending::{Ending, Verdict};
-use crate::error_lines::{tell, tell_key, tell_open, tell_output, tell_same};
+use crate::error_lines::{tell, tell_key, tell_open, tell_output, tell_part, tell_same};
 use crate::key::{NoKey, take_key};
 use crate::run::{flushed, run, tell_ending};
 use crate::status;
@@ -32,6 +32,7 @@ pub fn tell_unopened<E: DeviceOut>(unopened: Unopened, errors: &mut Watched<E>) 
         Unopened::Input => tell_open(false, errors),
         Unopened::Output => tell_open(true, errors),
         Unopened::Same => tell_same(errors),
+        Unopened::Part => tell_part(errors),
         Unopened::Memory => tell(&Usage::Memory, errors),
     }
 }

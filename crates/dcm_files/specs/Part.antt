@@ -6,12 +6,13 @@ use Rattle.std.specs.Option.{is_some, is_none}
 use Rattle.std.specs.IoError.{error_kind}
 use Rattle.std.specs.Str.{IsUtf8}
 use Rattle.std.specs.declared.io.Error.{Error}
+use Rattle.std.specs.declared.io.ErrorKind.{ErrorKind}
 use Rattle.std.specs.declared.io.ErrorKind.TheVariants as kinds
 use Rattle.dcm_files.specs.declared.opened.FileKind.{FileKind}
 use Rattle.dcm_files.specs.declared.opened.FileKind.TheVariants.{Regular}
 use Rattle.dcm_files.specs.declared.opened.Opened.{Opened}
 use Rattle.dcm_files.specs.declared.opened.Unopened.{Unopened}
-use Rattle.dcm_files.specs.declared.opened.Unopened.TheVariants.{Input, Output}
+use Rattle.dcm_files.specs.declared.opened.Unopened.TheVariants.{Input, Output, Part}
 use Rattle.dcm_files.specs.Devices.{MayDo, IsCause, OpensInput, clash, standard}
 
 -- ---- paths
@@ -50,22 +51,49 @@ pub data BadPath (path : List ℕ) (e : Error) : Type 0 where
   no_text : ¬ (IsUtf8 path) → error_kind e ≡ kinds.InvalidFilename → BadPath path e
   too_long : is_short path ≡ false → error_kind e ≡ kinds.InvalidFilename → BadPath path e
 
+-- of a path what is there is looked at, and no part is made: why
+pub data FindsNoPart {S I O : Type 0} (may : MayDo S I O) (output : List ℕ) (input : FileKind)
+    (earlier : Option FileKind) (before : S) (e : Error) (after : S) : Type 0 where
+  no_text : ¬ (IsUtf8 output) → error_kind e ≡ kinds.InvalidFilename → after ≡ before
+      → FindsNoPart may output input earlier before e after
+  not_seen : IsUtf8 output → may.looks before output (Err e) after → FindsNoPart may output input earlier before e after
+  not_replaced : (there : Option FileKind) → IsUtf8 output → may.looks before output (Ok there) after
+      → may_replace there input earlier ≡ false → error_kind e ≡ kinds.InvalidInput
+      → FindsNoPart may output input earlier before e after
+  too_long : (there : Option FileKind) → IsUtf8 output → may.looks before output (Ok there) after
+      → may_replace there input earlier ≡ true → is_short output ≡ false → error_kind e ≡ kinds.InvalidFilename
+      → FindsNoPart may output input earlier before e after
+
+-- a part may be made, since its output may be put in the place of what is there
+pub record FindsPart {S I O : Type 0} (may : MayDo S I O) (output : List ℕ) (input : FileKind)
+    (earlier : Option FileKind) (before after : S) : Type 0 where
+  pub there : Option FileKind
+  pub text : IsUtf8 output
+  pub fits : is_short output ≡ true
+  pub looked : may.looks before output (Ok there) after
+  pub replaces : may_replace there input earlier ≡ true
+
+-- why a part was not made, after an error of this kind: it is there, or another reason
+pub record IsPartCause (kind : ErrorKind) (cause : Unopened) : Type 0 where
+  pub there : kind ≡ kinds.AlreadyExists → cause ≡ Part
+  pub other : kind ≢ kinds.AlreadyExists → IsCause kind Output cause
+
+-- a part is made at its path
+pub data MakesPart {S I O : Type 0} (may : MayDo S I O) (part : List ℕ) (before : S) (r : Result (Opened O) Unopened)
+    (after : S) : Type 0 where
+  no_part_text : ¬ (IsUtf8 part) → r ≡ Err Output → after ≡ before → MakesPart may part before r after
+  not_made : (e : Error) (u : Unopened) → IsUtf8 part → may.makes before part (Err e) after
+      → IsPartCause (error_kind e) u → r ≡ Err u → MakesPart may part before r after
+  has_made : (o : Opened O) → IsUtf8 part → may.makes before part (Ok o) after → r ≡ Ok o
+      → MakesPart may part before r after
+
 -- of a path: what is there is looked at, and then a part is made
 pub data OpensPart {S I O : Type 0} (may : MayDo S I O) (output : List ℕ) (input : FileKind) (earlier : Option FileKind)
-    (before : S) (r : Result (Opened O) Error) (after : S) : Type 0 where
-  no_text : (e : Error) → ¬ (IsUtf8 output) → error_kind e ≡ kinds.InvalidFilename → r ≡ Err e → after ≡ before
-      → OpensPart may output input earlier before r after
-  not_seen : (e : Error) → IsUtf8 output → may.looks before output (Err e) after → r ≡ Err e
-      → OpensPart may output input earlier before r after
-  not_replaced : (there : Option FileKind) (e : Error) → IsUtf8 output → may.looks before output (Ok there) after
-      → may_replace there input earlier ≡ false → error_kind e ≡ kinds.AlreadyExists → r ≡ Err e
-      → OpensPart may output input earlier before r after
-  too_long : (there : Option FileKind) (e : Error) → IsUtf8 output → may.looks before output (Ok there) after
-      → may_replace there input earlier ≡ true → is_short output ≡ false
-      → error_kind e ≡ kinds.InvalidFilename → r ≡ Err e → OpensPart may output input earlier before r after
-  made : (there : Option FileKind) (has_looked : S) → IsUtf8 output → is_short output ≡ true
-      → may.looks before output (Ok there) has_looked → may_replace there input earlier ≡ true
-      → may.makes has_looked (part_of output) r after → OpensPart may output input earlier before r after
+    (before : S) (r : Result (Opened O) Unopened) (after : S) : Type 0 where
+  not_found : (e : Error) (u : Unopened) → FindsNoPart may output input earlier before e after
+      → IsCause (error_kind e) Output u → r ≡ Err u → OpensPart may output input earlier before r after
+  found : (has_looked : S) → FindsPart may output input earlier before has_looked
+      → MakesPart may (part_of output) has_looked r after → OpensPart may output input earlier before r after
 
 -- of standard output: it is closed again where it is a file that was read
 pub data OpensStream {S I O : Type 0} (may : MayDo S I O) (input : FileKind) (earlier : Option FileKind)
@@ -87,9 +115,7 @@ pub data OpensWhole {S I O : Type 0} (may : MayDo S I O) (output : List ℕ) (in
     (before : S) (r : Result (Opened O) Unopened) (after : S) : Type 0 where
   stream : output ≡ standard → OpensStream may input earlier before r after
       → OpensWhole may output input earlier before r after
-  no_part : (e : Error) (u : Unopened) → output ≢ standard → OpensPart may output input earlier before (Err e) after
-      → IsCause (error_kind e) Output u → r ≡ Err u → OpensWhole may output input earlier before r after
-  part : (o : Opened O) → output ≢ standard → OpensPart may output input earlier before (Ok o) after → r ≡ Ok o
+  part : output ≢ standard → OpensPart may output input earlier before r after
       → OpensWhole may output input earlier before r after
 
 -- of both: the input is opened, and then the output

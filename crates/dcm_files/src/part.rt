@@ -58,6 +58,47 @@ fn was_read(earlier: Option<FileKind>, kind: FileKind) -> bool
     }
 }
 
+/// The path of a part, where its output may be put in the place of what is there.
+fn find_part<S: System>(
+    system: &mut S,
+    output: &[u8],
+    input: FileKind,
+    earlier: Option<FileKind>,
+) -> io::Result<ArrayVec<u8, LONGEST>>
+    ensures ok { IfOk result (λ part. part.items ≡ spec.part_of output.now) }
+    ensures found { OnOk result (spec.FindsPart S.may_do output.now input earlier system.old system.new) }
+    ensures err { IfErr result (λ e. spec.FindsNoPart S.may_do output.now input earlier system.old e system.new) }
+{
+    let there = system.kind_at(path(output)?)?;
+    if !may_replace(there, input, earlier) {
+        return Err(io::Error::from(ErrorKind::InvalidInput));
+    }
+    part_of(output)
+}
+
+/// Why a part was not made, by the error.
+fn unmade(e: &io::Error) -> Unopened
+    ensures { spec.IsPartCause (error_kind e.now) result }
+{
+    match e.kind() {
+        ErrorKind::AlreadyExists => Unopened::Part,
+        _ => unopened(e, Unopened::Output),
+    }
+}
+
+/// Makes a part at its path.
+fn make_part<S: System>(system: &mut S, part: &[u8]) -> Result<Opened<S::Output>, Unopened>
+    ensures { spec.MakesPart S.may_do part.now system.old result system.new }
+{
+    let Ok(part) = path(part) else {
+        return Err(Unopened::Output);
+    };
+    match system.create_new(part) {
+        Ok(output) => Ok(output),
+        Err(e) => Err(unmade(&e)),
+    }
+}
+
 /// Opens what is written at a path until it is whole: a new file, where its output may be put in the place of what is
 /// there.
 fn open_part<S: System>(
@@ -65,15 +106,13 @@ fn open_part<S: System>(
     output: &[u8],
     input: FileKind,
     earlier: Option<FileKind>,
-) -> io::Result<Opened<S::Output>>
+) -> Result<Opened<S::Output>, Unopened>
     ensures { spec.OpensPart S.may_do output.now input earlier system.old result system.new }
 {
-    let there = system.kind_at(path(output)?)?;
-    if !may_replace(there, input, earlier) {
-        return Err(io::Error::from(ErrorKind::AlreadyExists));
+    match find_part(system, output, input, earlier) {
+        Ok(part) => make_part(system, part.as_slice()),
+        Err(e) => Err(unopened(&e, Unopened::Output)),
     }
-    let part = part_of(output)?;
-    system.create_new(path(part.as_slice())?)
 }
 
 /// Opens standard output, unless it is a file that was read.
@@ -111,10 +150,7 @@ fn open_whole<S: System>(
     if output == STANDARD {
         return open_stream(system, input, earlier);
     }
-    match open_part(system, output, input, earlier) {
-        Ok(output) => Ok(output),
-        Err(e) => Err(unopened(&e, Unopened::Output)),
-    }
+    open_part(system, output, input, earlier)
 }
 
 /// Opens the input of a job, and then its output, which has its name only once it is whole. They are refused where the

@@ -1,6 +1,5 @@
 -- The texts that a command line asks for.
 use Rattle.std.specs.Prelude.{ℕ, List, [], ◌∷◌, Option, Some, None, Bool, ◌||◌, if◌then◌else◌, codes, bytes_eq}
-use Rattle.std.specs.Prelude.{unwrap_or}
 use Rattle.dcm_words.specs.declared.topic.Topic.{Topic}
 use Rattle.dcm_words.specs.declared.topic.Topic.TheVariants.{Program, Dump, Convert, Build, Modify, Deidentify, Table}
 use Rattle.dcm_words.specs.declared.topic.Topic.TheVariants.{Version}
@@ -34,10 +33,11 @@ use_of tool =
     else if bytes_eq tool (codes "dcm2csv") then Some Table
     else None
 
--- after a first word that asks: the use of the tool that the only other word names, else that of the program
-abbrev pub use_of_only : List (List ℕ) → Topic
-use_of_only (tool ∷ []) = unwrap_or (use_of tool) Program
-use_of_only others = Program
+-- after a first word that asks: the use of the tool that the only other word names, which may name none; without
+-- another word, or with several, that of the program
+abbrev pub use_of_only : List (List ℕ) → Option Topic
+use_of_only (tool ∷ []) = use_of tool
+use_of_only others = Some Program
 
 -- of a tool by the only word after its name
 abbrev pub asked_of_tool : Topic → List ℕ → Option Topic
@@ -51,5 +51,5 @@ asked_after first others = None
 -- after a tool's name
 unfoldable pub asked : List (List ℕ) → Option Topic
 asked [] = None
-asked (first ∷ others) = if is_help first then Some (use_of_only others) else if is_version first then Some Version
+asked (first ∷ others) = if is_help first then use_of_only others else if is_version first then Some Version
     else asked_after first others

@@ -94,6 +94,9 @@ dcmtools dcmodify EDIT.. FILE OUTPUT: write a DICOM file with edits
 A TAG is a keyword or (gggg,eeee). A PATH is a TAG, after steps such as ContentSequence[0]. or
 ContentSequence[*]. into items.
 
+In implicit VR -ma, -ea and -ep miss most sequences without +dict: names may be left.
+The last word is OUTPUT, which is overwritten: of two files, as DCMTK takes them, the second is lost.
+
 Exit status: 0 done, 1 words refused, 2 input at fault, 3 an edit found no place and all else was
 done, 4 file not opened, read or written, 5 out of memory. The manual: man dcmtools, and
 docs/users/PROFILE.md

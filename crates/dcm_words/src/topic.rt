@@ -79,17 +79,14 @@ fn use_of(tool: &[u8]) -> Option<Topic>
     }
 }
 
-/// What is shown where the first word asks how something is used: the use of the tool that the only other word names,
-/// else that of the program.
-fn use_of_only(others: &[&[u8]]) -> Topic
+/// What is shown where the first word asks how something is used: the use of the tool that the only other word names.
+/// Without another word, or with several, it is that of the program; a single one that names no tool asks for nothing.
+fn use_of_only(others: &[&[u8]]) -> Option<Topic>
     ensures { result ≡ spec.use_of_only (map (λ w. w.now) others.now) }
 {
     match others {
-        [tool] => match use_of(tool) {
-            Some(topic) => topic,
-            None => Topic::Program,
-        },
-        _ => Topic::Program,
+        [tool] => use_of(tool),
+        _ => Some(Topic::Program),
     }
 }
 
@@ -126,7 +123,7 @@ pub fn asked(words: &[&[u8]]) -> Option<Topic>
     ensures { result ≡ spec.asked (map (λ w. w.now) words.now) }
 {
     match words {
-        [first, others @ ..] if is_help(first) => Some(use_of_only(others)),
+        [first, others @ ..] if is_help(first) => use_of_only(others),
         [first, ..] if is_version(first) => Some(Topic::Version),
         [first, others @ ..] => asked_after(first, others),
         [] => None,

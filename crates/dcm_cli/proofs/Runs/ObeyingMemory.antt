@@ -24,7 +24,7 @@ use Rattle.dcm_cli.specs.Answer.{Answer, Answers}
 use Rattle.dcm_cli.specs.Change.{Change}
 use Rattle.dcm_cli.specs.ErrorLines.{Reports, usage_line, usage_status}
 use Rattle.dcm_cli.specs.InMemory as spec
-use Rattle.dcm_cli.specs.InMemory.{Outcome, bytes_at, is_writable, number_at, is_one_file, shown, not_opened, same_file, answered, key_of, can_end, without_key, ended, JobComes, WholeComes, KeyComes, DeidentifyComes, PlanComesAs, ComesBy, Comes, HasRoom, Took, IsWritten, LeavesAnswer}
+use Rattle.dcm_cli.specs.InMemory.{Outcome, bytes_at, is_writable, number_at, is_one_file, shown, not_opened, same_file, answered, key_of, unwritten, not_begun, without_key, ended, JobComes, WholeComes, KeyComes, DeidentifyComes, PlanComesAs, ComesBy, Comes, HasRoom, Took, IsWritten, LeavesAnswer}
 use Rattle.dcm_cli.specs.Program as program
 use Rattle.dcm_cli.specs.Program.{RunsOver, Works, WorksAs, Shows, Obeys, unopened_line, unopened_status}
 use Rattle.dcm_cli.proofs.Runs.InMemory.{memory_reader, memory_writer, memory_change, ran_left, text_left}
@@ -209,17 +209,17 @@ module _ (s : MemSystem) where
   one_job (Some bs) true true job o q a b = a ∙ sym b
   one_job (Some bs) true false job o q a b = a.2 ∙ ap answered (one_answer job bs a.0 b.0 a.1 b.1) ∙ sym b.2
 
-  one_whole : (bytes : Option (List ℕ)) (can is_stream : Bool) (job : Job) (o q : Outcome) → WholeComes bytes can is_stream job o → WholeComes bytes can is_stream job q → o ≡ q
-  one_whole None can is_stream job o q a b = a ∙ sym b
-  one_whole (Some bs) false is_stream job o q a b = a ∙ sym b
-  one_whole (Some bs) true is_stream job o q a b = a.2 ∙ ap (ended is_stream) (one_answer job bs a.0 b.0 a.1 b.1) ∙ sym b.2
+  one_whole : (bytes : Option (List ℕ)) (why : Option Unopened) (is_stream : Bool) (job : Job) (o q : Outcome) → WholeComes bytes why is_stream job o → WholeComes bytes why is_stream job q → o ≡ q
+  one_whole None why is_stream job o q a b = a ∙ sym b
+  one_whole (Some bs) (Some u) is_stream job o q a b = a ∙ sym b
+  one_whole (Some bs) None is_stream job o q a b = a.2 ∙ ap (ended is_stream) (one_answer job bs a.0 b.0 a.1 b.1) ∙ sym b.2
 
   one_key : (key : Result (List ℕ) NoKey) (p : Plan) (options : Options) (reports : Bool) (o q : Outcome) → KeyComes key s p options reports o → KeyComes key s p options reports q → o ≡ q
   one_key (Err cause) p options reports o q a b = a ∙ sym b
-  one_key (Ok key) p options reports o q a b = one_whole (bytes_at s p.input) (can_end s p) (bytes_eq p.output standard) (deidentify options reports key) o q a b
+  one_key (Ok key) p options reports o q a b = one_whole (bytes_at s p.input) (unwritten s p) (bytes_eq p.output standard) (deidentify options reports key) o q a b
 
   one_deidentified : (path : Option (List ℕ)) (p : Plan) (options : Options) (reports : Bool) (o q : Outcome) → DeidentifyComes path s p options reports o → DeidentifyComes path s p options reports q → o ≡ q
-  one_deidentified None p options reports o q a b = one_whole (bytes_at s p.input) (can_end s p) (bytes_eq p.output standard) p.job o q a b
+  one_deidentified None p options reports o q a b = one_whole (bytes_at s p.input) (unwritten s p) (bytes_eq p.output standard) p.job o q a b
   one_deidentified (Some path) p options reports o q a b = one_key (key_of (bytes_at s path)) p options reports o q a b
 
   one_plan : (job : Job) (p : Plan) (o q : Outcome) → PlanComesAs job s p o → PlanComesAs job s p q → o ≡ q
@@ -243,17 +243,17 @@ module _ (s : MemSystem) where
   some_job (Some bs) true true job = (same_file, refl)
   some_job (Some bs) true false job = let a = some_answer job bs in (answered a.0, (a.0, a.1, refl))
 
-  some_whole : (bytes : Option (List ℕ)) (can is_stream : Bool) (job : Job) → (o : Outcome) × WholeComes bytes can is_stream job o
-  some_whole None can is_stream job = (not_opened false, refl)
-  some_whole (Some bs) false is_stream job = (not_opened true, refl)
-  some_whole (Some bs) true is_stream job = let a = some_answer job bs in (ended is_stream a.0, (a.0, a.1, refl))
+  some_whole : (bytes : Option (List ℕ)) (why : Option Unopened) (is_stream : Bool) (job : Job) → (o : Outcome) × WholeComes bytes why is_stream job o
+  some_whole None why is_stream job = (not_opened false, refl)
+  some_whole (Some bs) (Some u) is_stream job = (not_begun u, refl)
+  some_whole (Some bs) None is_stream job = let a = some_answer job bs in (ended is_stream a.0, (a.0, a.1, refl))
 
   some_key : (key : Result (List ℕ) NoKey) (p : Plan) (options : Options) (reports : Bool) → (o : Outcome) × KeyComes key s p options reports o
   some_key (Err cause) p options reports = (without_key cause, refl)
-  some_key (Ok key) p options reports = some_whole (bytes_at s p.input) (can_end s p) (bytes_eq p.output standard) (deidentify options reports key)
+  some_key (Ok key) p options reports = some_whole (bytes_at s p.input) (unwritten s p) (bytes_eq p.output standard) (deidentify options reports key)
 
   some_deidentified : (path : Option (List ℕ)) (p : Plan) (options : Options) (reports : Bool) → (o : Outcome) × DeidentifyComes path s p options reports o
-  some_deidentified None p options reports = some_whole (bytes_at s p.input) (can_end s p) (bytes_eq p.output standard) p.job
+  some_deidentified None p options reports = some_whole (bytes_at s p.input) (unwritten s p) (bytes_eq p.output standard) p.job
   some_deidentified (Some path) p options reports = some_key (key_of (bytes_at s path)) p options reports
 
   some_plan : (job : Job) (p : Plan) → (o : Outcome) × PlanComesAs job s p o

@@ -21,11 +21,12 @@ use Rattle.dcm_files.specs.declared.opened.FileKind.{FileKind}
 use Rattle.dcm_files.specs.declared.opened.FileKind.TheVariants.{Regular, Other}
 use Rattle.dcm_files.specs.declared.opened.Opened.{Opened}
 use Rattle.dcm_files.specs.declared.opened.Unopened.{Unopened}
-use Rattle.dcm_files.specs.declared.opened.Unopened.TheVariants.{Input, Output}
+use Rattle.dcm_files.specs.declared.opened.Unopened.TheVariants.{Input, Output, Part}
 use Rattle.dcm_files.specs.Devices.{OpensInput, standard, clash}
 use Rattle.dcm_files.specs.Memory.{file_named, kind_of, GivesRoom, MakesFile, may_do}
+use Rattle.dcm_files.proofs.Parts.{part_is_text}
 use Rattle.dcm_files.specs.Part as part
-use Rattle.dcm_files.specs.Part.{part_of, is_short, was_read, may_replace, BadPath, OpensPart, OpensStream, OpensWhole, OpensWholeDevices, RemovesPart, MovesPart, EndsPart}
+use Rattle.dcm_files.specs.Part.{part_of, is_short, was_read, may_replace, BadPath, FindsNoPart, FindsPart, IsPartCause, MakesPart, OpensPart, OpensStream, OpensWhole, OpensWholeDevices, RemovesPart, MovesPart, EndsPart}
 use Rattle.arrayvec.specs.ArrayVec.{ArrayVec}
 use Rattle.dcm_deid.specs.declared.fate.Options.{Options}
 use Rattle.dcm_words.specs.Words.{Job, Plan, deidentify}
@@ -43,7 +44,7 @@ use Rattle.dcm_cli.specs.ErrorLines.{Tries, Reports, unread_line, output_line}
 use Rattle.dcm_cli.specs.Status.{DONE}
 use Rattle.dcm_cli.specs.Program as program
 use Rattle.dcm_cli.specs.Program.{EndsOutput, WorksWhole, Deidentifies, unopened_line, unopened_status}
-use Rattle.dcm_cli.specs.InMemory.{Outcome, bytes_at, number_at, is_one_file, key_of, key_number, has_part, is_apart, can_end, without_key, not_opened, ended, WholeComes, WholeAt, KeyComes, DeidentifyComes, holds, removed, Fits, HasRoom, IsWritten, Leaves}
+use Rattle.dcm_cli.specs.InMemory.{Outcome, bytes_at, number_at, is_one_file, key_of, key_number, has_path, has_part, is_apart, unwritten, without_key, not_opened, not_begun, ended, WholeComes, WholeAt, KeyComes, DeidentifyComes, holds, removed, Fits, HasRoom, IsWritten, Leaves}
 use Rattle.dcm_cli.proofs.Passes.Readers.{known}
 use Rattle.dcm_cli.proofs.Runs.InMemory.{memory_reader, memory_writer, memory_change, ran_left}
 use Rattle.dcm_cli.proofs.Runs.LeftMemory.{room_there, room_fits, LeftOf, leave_of}
@@ -56,36 +57,27 @@ either_true : (a b : Bool) → a ≡ true → (a || b) ≡ true
 either_true true b t = refl
 either_true false b t = absurd (no_both false refl t)
 
+first_chosen : {T : Type 0} (a : Bool) (x y : T) → a ≡ true → (if a then x else y) ≡ x
+first_chosen true x y t = refl
+first_chosen false x y t = absurd (no_both false refl t)
+
 both_true : (a b : Bool) → (a && b) ≡ true → (a ≡ true) × (b ≡ true)
 both_true true true e = (refl, refl)
 both_true true false e = absurd (no_both false refl e)
 both_true false b e = absurd (no_both false refl e)
 
-three_true : (a b c : Bool) → (a && b && c) ≡ true → (a ≡ true) × (b ≡ true) × (c ≡ true)
-three_true true true true e = (refl, refl, refl)
-three_true true true false e = absurd (no_both false refl e)
-three_true true false c e = absurd (no_both false refl e)
-three_true false b c e = absurd (no_both false refl e)
-
-no_right : (x : Bool) → (x && false) ≡ false
-no_right true = refl
-no_right false = refl
-
-module _ (a b c d : Bool) where
-  no_first : a ≡ false → ((a && b && c) && d) ≡ false
+module _ (a b c : Bool) where
+  no_first : a ≡ false → ((a && b) && c) ≡ false
   no_first f = rw (f) refl
 
-  no_second : b ≡ false → ((a && b && c) && d) ≡ false
-  no_second f = elim a as (λ x. ((x && b && c) && d) ≡ false) [ true ↦ rw (f) refl | false ↦ refl ]
+  no_second : b ≡ false → ((a && b) && c) ≡ false
+  no_second f = elim a as (λ x. ((x && b) && c) ≡ false) [ true ↦ rw (f) refl | false ↦ refl ]
 
-  no_third : c ≡ false → ((a && b && c) && d) ≡ false
-  no_third f = elim a as (λ x. ((x && b && c) && d) ≡ false) [ true ↦ elim b as (λ x. ((true && x && c) && d) ≡ false) [ true ↦ rw (f) refl | false ↦ refl ] | false ↦ refl ]
+  no_last : c ≡ false → ((a && b) && c) ≡ false
+  no_last f = elim a as (λ x. ((x && b) && c) ≡ false) [ true ↦ elim b as (λ x. ((true && x) && c) ≡ false) [ true ↦ rw (f) refl | false ↦ refl ] | false ↦ refl ]
 
-  no_last : d ≡ false → ((a && b && c) && d) ≡ false
-  no_last f = ap (λ (x : Bool). (a && b && c) && x) f ∙ no_right (a && b && c)
-
-  all_four : a ≡ true → b ≡ true → c ≡ true → d ≡ true → ((a && b && c) && d) ≡ true
-  all_four x y z w = rw (x, y, z, w) refl
+  all_three : a ≡ true → b ≡ true → c ≡ true → ((a && b) && c) ≡ true
+  all_three x y z = rw (x, y, z) refl
 
 -- ---- one file
 
@@ -130,19 +122,24 @@ apart_at (Some g) a b input earlier i e =
 
 -- ---- an output that has its name only once it is whole
 
-abbrev IsPart : (can : Bool) → (room : Option MemOut) → Result (Opened Measured) Error → Type 0
-IsPart can room (Ok d) = (can ≡ true) × (room ≡ Some d.device.out)
-IsPart can room (Err x) = ((can ≡ false) ⊎ (room ≡ None)) × (error_kind x ≢ kinds.OutOfMemory)
+-- of an output that cannot be written for this reason, if it cannot
+abbrev IsWhole : (why : Option Unopened) → (room : Option MemOut) → Result (Opened Measured) Unopened → Type 0
+IsWhole why room (Ok d) = (why ≡ None) × (room ≡ Some d.device.out)
+IsWhole why room (Err u) = (why ≡ Some u) ⊎ ((why ≡ None) × (room ≡ None) × (u ≡ Output))
 
-abbrev IsWhole : (can : Bool) → (room : Option MemOut) → Result (Opened Measured) Unopened → Type 0
-IsWhole can room (Ok d) = (can ≡ true) × (room ≡ Some d.device.out)
-IsWhole can room (Err u) = ((can ≡ false) ⊎ (room ≡ None)) × (u ≡ Output)
+room_given : (why : Option Unopened) (room : Option MemOut) (kind : FileKind) (d : Opened Measured) → why ≡ None → GivesRoom room kind (Ok d) → IsWhole why room (Ok d)
+room_given why (Some m) kind d is g = (is, ap Some (sym g.0))
+room_given why None kind d is g = absurd g
 
-room_made : (can : Bool) (room : Option MemOut) (kind : FileKind) (r : Result (Opened Measured) Error) → can ≡ true → GivesRoom room kind r → IsPart can room r
-room_made can (Some m) kind (Ok d) is g = (is, ap Some (sym g.0))
-room_made can (Some m) kind (Err x) is g = absurd g
-room_made can None kind (Ok d) is g = absurd g
-room_made can None kind (Err x) is g = (inr refl, no_memory_fault x kinds.StorageFull g (λ e. cc))
+no_room : (room : Option MemOut) (kind : FileKind) (x : Error) → GivesRoom room kind (Err x) → (room ≡ None) × (error_kind x ≡ kinds.StorageFull)
+no_room (Some m) kind x g = absurd g
+no_room None kind x g = (refl, g)
+
+same_error : (e x : Error) (r : Result (Opened Measured) Error) → r ≡ Err e → r ≡ Err x → e ≡ x
+same_error e x r a b = let both : Err e ≡ Err x = sym a ∙ b in cc
+
+same_output : (d x : Opened Measured) (r : Result (Opened Measured) Error) → r ≡ Ok d → r ≡ Ok x → d ≡ x
+same_output d x r a b = let both : Ok d ≡ Ok x = sym a ∙ b in cc
 
 -- the device of a room has its kind
 kind_made : (room : Option MemOut) (kind : FileKind) (d : Opened Measured) → GivesRoom room kind (Ok d) → d.kind ≡ kind
@@ -150,18 +147,24 @@ kind_made (Some m) kind d g = g.1
 kind_made None kind d g = absurd g
 
 module _ (s : MemSystem) (output : List ℕ) (a b : Option ℕ) (input : FileKind) (earlier : Option FileKind) (is_input : IsInput a input) (is_earlier : IsEarlier b earlier) where
-  abbrev is_free : Bool
-  is_free = is_none (file_named s.files.now (part_of output))
-
   abbrev apart : Bool
   apart = not (is_one_file a (number_at s output)) && not (is_one_file b (number_at s output))
 
-  abbrev can : Bool
-  can = bytes_eq output standard || (has_part s output && apart)
+  abbrev why : Option Unopened
+  why =
+      if bytes_eq output standard then None
+      else if has_path output && apart then (if has_part s output then Some Part else None)
+      else Some Output
 
   -- under a name
-  under_name : (x : Bool) → output ≢ standard → (has_part s output && apart) ≡ x → can ≡ x
-  under_name x other is = either_is (bytes_eq output standard) (has_part s output && apart) (is_other output other) ∙ is
+  why_at : (x y : Bool) → output ≢ standard → (has_path output && apart) ≡ x → has_part s output ≡ y → why ≡ (if x then (if y then Some Part else None) else Some Output)
+  why_at x y other fits there =
+      other_chosen (bytes_eq output standard) None (if has_path output && apart then (if has_part s output then Some Part else None) else Some Output) (is_other output other)
+      ∙ ap (λ (v : Bool). if v then (if has_part s output then Some Part else None) else Some Output) fits
+      ∙ ap (λ (v : Bool). if x then (if v then Some Part else None) else Some Output) there
+
+  not_fit : output ≢ standard → (has_path output && apart) ≡ false → why ≡ Some Output
+  not_fit other never = why_at false (has_part s output) other never refl
 
   apart_is : output ≢ standard → may_replace (option_map kind_of (file_named s.files.now output)) input earlier ≡ apart
   apart_is other =
@@ -175,91 +178,124 @@ module _ (s : MemSystem) (output : List ℕ) (a b : Option ℕ) (input : FileKin
   replaced : (there : Option FileKind) (had : MemSystem) (x : Bool) → output ≢ standard → may_do.looks s output (Ok there) had → may_replace there input earlier ≡ x → apart ≡ x
   replaced there had x other looks is = sym (apart_is other) ∙ ap (λ (t : Option FileKind). may_replace t input earlier) (sym (seen there had looks).0) ∙ is
 
-  made_by : (f : Option MemFile) (r : Result (Opened Measured) Error) (after : MemSystem) → output ≢ standard → file_named s.files.now (part_of output) ≡ f → MakesFile s f r after
-      → is_utf8 output ≡ true → is_short output ≡ true → apart ≡ true → IsPart can s.room r × (after.written ≡ s.written)
-  made_by None r after other none makes text short free = (
-    room_made can s.room (Regular 1 0 0) r
-        (under_name true other (all_four (is_utf8 output) (is_short output) is_free apart text short (ap (λ (f : Option MemFile). is_none f) none) free)) makes.0,
-    ap (λ (z : MemSystem). z.written) makes.1,
-  )
-  made_by (Some f) (Ok d) after other some makes text short free = absurd makes.0
-  made_by (Some f) (Err x) after other some makes text short free = (
-    (inl (under_name false other (no_third (is_utf8 output) (is_short output) is_free apart (ap (λ (f : Option MemFile). is_none f) some))), no_memory_fault x kinds.AlreadyExists makes.0 (λ e. cc)),
-    ap (λ (z : MemSystem). z.written) makes.1,
-  )
-
-  abbrev Made : MemSystem → Result (Opened Measured) Error → Type 0
-  Made after r = IsPart can s.room r × (after.written ≡ s.written)
-
-  part_made : (r : Result (Opened Measured) Error) (after : MemSystem) → output ≢ standard → OpensPart may_do output input earlier s r after → Made after r
-  part_made r after other (part.no_text x bad kind are same) =
-      subst (Made after) (sym are)
-      ((inl (under_name false other (no_first (is_utf8 output) (is_short output) is_free apart (is_no_text output bad))), no_memory_fault x kinds.InvalidFilename kind (λ e. cc)), ap (λ (z : MemSystem). z.written) same)
-  part_made r after other (part.not_seen x text looks are) = absurd (let no : Err x ≡ Ok (option_map kind_of (file_named s.files.now output)) = looks.0 in cc)
-  part_made r after other (part.not_replaced there x text looks is kind are) =
-      subst (Made after) (sym are) (
-        (inl (under_name false other (no_last (is_utf8 output) (is_short output) is_free apart (replaced there after false other looks is))), no_memory_fault x kinds.AlreadyExists kind (λ e. cc)),
-        ap (λ (z : MemSystem). z.written) looks.1,
-      )
-  part_made r after other (part.too_long there x text looks is long kind are) =
-      subst (Made after) (sym are)
-      ((inl (under_name false other (no_second (is_utf8 output) (is_short output) is_free apart long)), no_memory_fault x kinds.InvalidFilename kind (λ e. cc)), ap (λ (z : MemSystem). z.written) looks.1)
-  part_made r after other (part.made there had text short looks is makes) =
-      made_by (file_named s.files.now (part_of output)) r after other refl
-      (subst (λ (z : MemSystem). MakesFile z (file_named z.files.now (part_of output)) r after) looks.1 makes)
-      (is_text output text) short (replaced there had true other looks is)
-
   abbrev WholeMade : MemSystem → Result (Opened Measured) Unopened → Type 0
-  WholeMade after r = IsWhole can s.room r × (after.written ≡ s.written)
+  WholeMade after r = IsWhole why s.room r × (after.written ≡ s.written)
 
-  can_stream : output ≡ standard → can ≡ true
-  can_stream is = either_true (bytes_eq output standard) (has_part s output && apart) ((bytes_eq-Decides output standard).1 is)
+  -- a part that is made where one may be
+  made_by : (f : Option MemFile) (r : Result (Opened Measured) Unopened) (after : MemSystem) → output ≢ standard → file_named s.files.now (part_of output) ≡ f
+      → (x : Result (Opened Measured) Error) → MakesFile s f x after → (has_path output && apart) ≡ true
+      → ((d : Opened Measured) → x ≡ Ok d → r ≡ Ok d) → ((e : Error) → x ≡ Err e → (u : Unopened) × IsPartCause (error_kind e) u × (r ≡ Err u)) → WholeMade after r
+  made_by None r after other none (Ok d) makes fits whole bad =
+      subst (WholeMade after) (sym (whole d refl)) (
+        room_given why s.room (Regular 1 0 0) d (why_at true false other fits (ap (λ (f : Option MemFile). is_some f) none)) makes.0,
+        ap (λ (z : MemSystem). z.written) makes.1,
+      )
+  made_by None r after other none (Err e) makes fits whole bad =
+      let u = bad e refl in
+      let full = no_room s.room (Regular 1 0 0) e makes.0 in
+      let cause = u.1.other (λ is. let no : kinds.StorageFull ≡ kinds.AlreadyExists = sym full.1 ∙ is in cc) in
+      subst (WholeMade after) (sym u.2) (
+        inr (why_at true false other fits (ap (λ (f : Option MemFile). is_some f) none), full.0, cause.other (no_memory_fault e kinds.StorageFull full.1 (λ e. cc))),
+        ap (λ (z : MemSystem). z.written) makes.1,
+      )
+  made_by (Some f) r after other some (Ok d) makes fits whole bad = absurd makes.0
+  made_by (Some f) r after other some (Err e) makes fits whole bad =
+      let u = bad e refl in
+      subst (WholeMade after) (sym u.2) (
+        inl (why_at true true other fits (ap (λ (f : Option MemFile). is_some f) some) ∙ ap Some (sym (u.1.there makes.0))),
+        ap (λ (z : MemSystem). z.written) makes.1,
+      )
+
+  part_made : (r : Result (Opened Measured) Unopened) (had after : MemSystem) → output ≢ standard → FindsPart may_do output input earlier s had → MakesPart may_do (part_of output) had r after → WholeMade after r
+  part_made r had after other found (part.no_part_text bad are same) = absurd (bad (part_is_text output found.text))
+  part_made r had after other found (part.not_made e u text makes cause are) =
+      made_by (file_named s.files.now (part_of output)) r after other refl (Err e)
+      (subst (λ (z : MemSystem). MakesFile z (file_named z.files.now (part_of output)) (Err e) after) (seen found.there had found.looked).1 makes)
+      (all_three (is_utf8 output) (is_short output) apart (is_text output found.text) found.fits (replaced found.there had true other found.looked found.replaces))
+      (λ d is. let no : Err e ≡ Ok d = is in cc) (λ x is. (u, subst (λ (y : Error). IsPartCause (error_kind y) u) (same_error e x (Err e) refl is) cause, are))
+  part_made r had after other found (part.has_made d text makes are) =
+      made_by (file_named s.files.now (part_of output)) r after other refl (Ok d)
+      (subst (λ (z : MemSystem). MakesFile z (file_named z.files.now (part_of output)) (Ok d) after) (seen found.there had found.looked).1 makes)
+      (all_three (is_utf8 output) (is_short output) apart (is_text output found.text) found.fits (replaced found.there had true other found.looked found.replaces))
+      (λ x is. are ∙ ap Ok (same_output d x (Ok d) refl is)) (λ x is. absurd (let no : Ok d ≡ Err x = is in cc))
+
+  abbrev Unmade : MemSystem → Error → Type 0
+  Unmade after x = (why ≡ Some Output) × (error_kind x ≢ kinds.OutOfMemory) × (after.written ≡ s.written)
+
+  none_found : (x : Error) (after : MemSystem) → output ≢ standard → FindsNoPart may_do output input earlier s x after → Unmade after x
+  none_found x after other (part.no_text bad kind same) = (
+    not_fit other (no_first (is_utf8 output) (is_short output) apart (is_no_text output bad)),
+    no_memory_fault x kinds.InvalidFilename kind (λ e. cc),
+    ap (λ (z : MemSystem). z.written) same,
+  )
+  none_found x after other (part.not_seen text looks) = absurd (let no : Err x ≡ Ok (option_map kind_of (file_named s.files.now output)) = looks.0 in cc)
+  none_found x after other (part.not_replaced there text looks is kind) = (
+    not_fit other (no_last (is_utf8 output) (is_short output) apart (replaced there after false other looks is)),
+    no_memory_fault x kinds.InvalidInput kind (λ e. cc),
+    ap (λ (z : MemSystem). z.written) looks.1,
+  )
+  none_found x after other (part.too_long there text looks is long kind) = (
+    not_fit other (no_second (is_utf8 output) (is_short output) apart long),
+    no_memory_fault x kinds.InvalidFilename kind (λ e. cc),
+    ap (λ (z : MemSystem). z.written) looks.1,
+  )
+
+  part_opened : (r : Result (Opened Measured) Unopened) (after : MemSystem) → output ≢ standard → OpensPart may_do output input earlier s r after → WholeMade after r
+  part_opened r after other (part.not_found x u finds cause are) =
+      let m = none_found x after other finds in
+      subst (WholeMade after) (sym are) (inl (m.0 ∙ ap Some (sym (cause.other m.1))), m.2)
+  part_opened r after other (part.found had finds makes) = part_made r had after other finds makes
+
+  why_stream : output ≡ standard → why ≡ None
+  why_stream is = first_chosen (bytes_eq output standard) None (if has_path output && apart then (if has_part s output then Some Part else None) else Some Output) ((bytes_eq-Decides output standard).1 is)
 
   stream_made : (r : Result (Opened Measured) Unopened) (after : MemSystem) → output ≡ standard → OpensStream may_do input earlier s r after → WholeMade after r
   stream_made r after is (part.no_stdout x u gave cause are) =
-      let m = room_made can s.room Other (Err x) (can_stream is) gave.0 in
-      subst (WholeMade after) (sym are) ((m.0, cause.other m.1), ap (λ (z : MemSystem). z.written) gave.1)
+      let full = no_room s.room Other x gave.0 in
+      subst (WholeMade after) (sym are)
+      (inr (why_stream is, full.0, cause.other (no_memory_fault x kinds.StorageFull full.1 (λ e. cc))), ap (λ (z : MemSystem). z.written) gave.1)
   stream_made r after is (part.was_read_earlier o had gave was closes are) =
       absurd (no_both (was_read earlier o.kind) (ap (was_read earlier) (kind_made s.room Other o gave.0) ∙ stream_unread b earlier is_earlier) was)
   stream_made r after is (part.clashed o cause had gave unread was closes are) =
       absurd (let no : None ≡ Some cause = sym (ap (clash input) (kind_made s.room Other o gave.0) ∙ stream_apart a input is_input) ∙ was in cc)
   stream_made r after is (part.opened o gave unread free are) =
-      subst (WholeMade after) (sym are) (room_made can s.room Other (Ok o) (can_stream is) gave.0, ap (λ (z : MemSystem). z.written) gave.1)
+      subst (WholeMade after) (sym are) (room_given why s.room Other o (why_stream is) gave.0, ap (λ (z : MemSystem). z.written) gave.1)
 
   whole_made : (r : Result (Opened Measured) Unopened) (after : MemSystem) → OpensWhole may_do output input earlier s r after → WholeMade after r
   whole_made r after (part.stream is opens) = stream_made r after is opens
-  whole_made r after (part.no_part x u other opens cause are) =
-      let m = part_made (Err x) after other opens in
-      subst (WholeMade after) (sym are) ((m.0.0, cause.other m.0.1), m.1)
-  whole_made r after (part.part o other opens are) = subst (WholeMade after) (sym are) (part_made (Ok o) after other opens)
+  whole_made r after (part.part other opens) = part_opened r after other opens
 
 -- one that can be written has a path, where it is no stream
-path_of : (s : MemSystem) (output : List ℕ) (x : Bool) → (bytes_eq output standard || (has_part s output && x)) ≡ true → output ≢ standard → IsUtf8 output × (is_short output ≡ true)
+path_fits : (x y : Bool) → (if x then (if y then Some Part else None) else Some Output) ≡ None → x ≡ true
+path_fits true y is = refl
+path_fits false y is = absurd (let no : Some Output ≡ None = is in cc)
+
+path_of : (s : MemSystem) (output : List ℕ) (x : Bool) → (if bytes_eq output standard then None else if has_path output && x then (if has_part s output then Some Part else None) else Some Output) ≡ None → output ≢ standard
+    → IsUtf8 output × (is_short output ≡ true)
 path_of s output x is other =
-    let y = three_true (is_utf8 output) (is_short output) (is_none (file_named s.files.now (part_of output)))
-    (both_true (has_part s output) x (sym (either_is (bytes_eq output standard) (has_part s output && x) (is_other output other)) ∙ is)).0
-    in
+    let fits = path_fits (has_path output && x) (has_part s output) (sym (other_chosen (bytes_eq output standard) None (if has_path output && x then (if has_part s output then Some Part else None) else Some Output) (is_other output other)) ∙ is) in
+    let y = both_true (is_utf8 output) (is_short output) (both_true (has_path output) x fits).0 in
     (IsUtf8-from_is_utf8 output y.0, y.1)
 
 -- ---- both devices
 
 -- why they were not opened, and the output that was closed before
-data NotOpened (bytes : Option (List ℕ)) (can_write : Bool) (room before : Option MemOut) (u : Unopened) (after : Option MemOut) : Type 0 where
-  by_input : bytes ≡ None → u ≡ Input → after ≡ before → NotOpened bytes can_write room before u after
-  by_output : (bs : List ℕ) → bytes ≡ Some bs → (can_write ≡ false) ⊎ (room ≡ None) → u ≡ Output → after ≡ before → NotOpened bytes can_write room before u after
+data NotOpened (bytes : Option (List ℕ)) (why : Option Unopened) (room before : Option MemOut) (u : Unopened) (after : Option MemOut) : Type 0 where
+  by_input : bytes ≡ None → u ≡ Input → after ≡ before → NotOpened bytes why room before u after
+  by_output : (bs : List ℕ) → bytes ≡ Some bs → (why ≡ Some u) ⊎ ((why ≡ None) × (room ≡ None) × (u ≡ Output)) → after ≡ before → NotOpened bytes why room before u after
 
-record BothOpened (bytes : Option (List ℕ)) (can_write : Bool) (room : Option MemOut) (i : Opened MemIn) (o : Opened Measured) : Type 0 where
+record BothOpened (bytes : Option (List ℕ)) (why : Option Unopened) (room : Option MemOut) (i : Opened MemIn) (o : Opened Measured) : Type 0 where
   bytes_are : bytes ≡ Some i.device.rest.now
-  can_is : can_write ≡ true
+  can_is : why ≡ None
   room_is : room ≡ Some o.device.out
 
-abbrev DevicesAre : Option (List ℕ) → (can_write : Bool) → (room before : Option MemOut) → Result (Opened MemIn × Opened Measured) Unopened → (after : Option MemOut) → Type 0
-DevicesAre bytes can_write room before (Ok x) after = BothOpened bytes can_write room x.0 x.1
-DevicesAre bytes can_write room before (Err u) after = NotOpened bytes can_write room before u after
+abbrev DevicesAre : Option (List ℕ) → (why : Option Unopened) → (room before : Option MemOut) → Result (Opened MemIn × Opened Measured) Unopened → (after : Option MemOut) → Type 0
+DevicesAre bytes why room before (Ok x) after = BothOpened bytes why room x.0 x.1
+DevicesAre bytes why room before (Err u) after = NotOpened bytes why room before u after
 
 module _ (s : MemSystem) (p : Plan) (earlier : Option FileKind) (is_earlier : IsEarlier (key_number s p.key) earlier) where
   abbrev Devices : MemSystem → Result (Opened MemIn × Opened Measured) Unopened → Type 0
-  Devices after r = DevicesAre (bytes_at s p.input) (can_end s p) s.room s.written r after.written
+  Devices after r = DevicesAre (bytes_at s p.input) (unwritten s p) s.room s.written r after.written
 
   devices_are : (r : Result (Opened MemIn × Opened Measured) Unopened) (after : MemSystem) → OpensWholeDevices may_do p.input p.output earlier s r after → Devices after r
   devices_are r after (part.no_input x u opens cause are) =
@@ -268,17 +304,13 @@ module _ (s : MemSystem) (p : Plan) (earlier : Option FileKind) (is_earlier : Is
   devices_are r after (part.no_output d u had tried opens whole released are) =
       let i = input_opened s p.input (Ok d) had opens in
       let o = whole_made s p.output (number_at s p.input) (key_number s p.key) d.kind earlier i.0.1 is_earlier (Err u) tried (subst (λ (z : MemSystem). OpensWhole may_do p.output d.kind earlier z (Err u) tried) i.1 whole) in
-      subst (Devices after) (sym are) (by_output d.device.rest.now i.0.0 o.0.0 o.0.1 (ap (λ (z : MemSystem). z.written) released ∙ o.1))
+      subst (Devices after) (sym are) (by_output d.device.rest.now i.0.0 o.0 (ap (λ (z : MemSystem). z.written) released ∙ o.1))
   devices_are r after (part.both d f had opens whole are) =
       let i = input_opened s p.input (Ok d) had opens in
       let o = whole_made s p.output (number_at s p.input) (key_number s p.key) d.kind earlier i.0.1 is_earlier (Ok f) after (subst (λ (z : MemSystem). OpensWhole may_do p.output d.kind earlier z (Ok f) after) i.1 whole) in
       subst (Devices after) (sym are) (record { bytes_are = i.0.0; can_is = o.0.0; room_is = o.0.1 })
 
 -- ---- the end of an output
-
-first_chosen : {T : Type 0} (a : Bool) (x y : T) → a ≡ true → (if a then x else y) ≡ x
-first_chosen true x y t = refl
-first_chosen false x y t = absurd (no_both false refl t)
 
 either_second : (a b : Bool) → b ≡ true → (a || b) ≡ true
 either_second true b t = refl
@@ -469,34 +501,29 @@ module _ (s new : MemSystem) (errors new_errors : MemOut) (status : ℕ) (p : Pl
   left_as q same l = subst Left (sym same) l
 
   module _ (job : Job) (comes : WholeAt s p job o) where
-    comes_at : (bytes : Option (List ℕ)) (can_write : Bool) → bytes_at s p.input ≡ bytes → can_end s p ≡ can_write → WholeComes bytes can_write (bytes_eq p.output standard) job o
-    comes_at bytes can_write a b =
-        subst (λ (x : Option (List ℕ)). WholeComes x can_write (bytes_eq p.output standard) job o) a
-        (subst (λ (x : Bool). WholeComes (bytes_at s p.input) x (bytes_eq p.output standard) job o) b comes)
+    comes_at : (bytes : Option (List ℕ)) (why : Option Unopened) → bytes_at s p.input ≡ bytes → unwritten s p ≡ why → WholeComes bytes why (bytes_eq p.output standard) job o
+    comes_at bytes why a b =
+        subst (λ (x : Option (List ℕ)). WholeComes x why (bytes_eq p.output standard) job o) a
+        (subst (λ (x : Option Unopened). WholeComes (bytes_at s p.input) x (bytes_eq p.output standard) job o) b comes)
 
     -- an output that can be written is written in the room
-    some_room : (bs : List ℕ) → WholeComes (Some bs) true (bytes_eq p.output standard) job o → s.room ≡ None → ⊥
+    some_room : (bs : List ℕ) → WholeComes (Some bs) None (bytes_eq p.output standard) job o → s.room ≡ None → ⊥
     some_room bs c none =
         room_there c.0.output s.room (fits_by (bytes_eq p.output standard || c.0.status == DONE) c.0.output s.room (subst (λ (q : Outcome). HasRoom q.output s.room) c.2 room)) none
 
-    no_output_left : (bs : List ℕ) (x : Bool) → bytes_at s p.input ≡ Some bs → can_end s p ≡ x → (x ≡ false) ⊎ (s.room ≡ None) → Left (not_opened true) → Left o
-    no_output_left bs false bytes is why l = left_as (not_opened true) (comes_at (Some bs) false bytes is) l
-    no_output_left bs true bytes is (inl why) l = absurd (no_both true why refl)
-    no_output_left bs true bytes is (inr why) l = absurd (some_room bs (comes_at (Some bs) true bytes is) why)
-
-    refused_left : (u : Unopened) → NotOpened (bytes_at s p.input) (can_end s p) s.room s.written u new.written → Reports e (unopened_line u) → status ≡ unopened_status u → Left o
+    refused_left : (u : Unopened) → NotOpened (bytes_at s p.input) (unwritten s p) s.room s.written u new.written → Reports e (unopened_line u) → status ≡ unopened_status u → Left o
     refused_left u (by_input none is after) line was =
-        left_as (not_opened false) (comes_at None (can_end s p) none refl)
+        left_as (not_opened false) (comes_at None (unwritten s p) none refl)
         (leave_of s new errors new_errors status (not_opened false) after (subst (λ (v : Unopened). Reports e (unopened_line v)) is line) (was ∙ ap unopened_status is))
-    refused_left u (by_output bs bytes why is after) line was =
-        no_output_left bs (can_end s p) bytes refl why
-        (leave_of s new errors new_errors status (not_opened true) after (subst (λ (v : Unopened). Reports e (unopened_line v)) is line) (was ∙ ap unopened_status is))
+    refused_left u (by_output bs bytes (inl is) after) line was =
+        left_as (not_begun u) (comes_at (Some bs) (Some u) bytes is) (leave_of s new errors new_errors status (not_begun u) after line was)
+    refused_left u (by_output bs bytes (inr none) after) line was = absurd (some_room bs (comes_at (Some bs) None bytes none.0) none.1)
 
     pub whole_left : (earlier : Option FileKind) → IsEarlier (key_number s p.key) earlier → WorksWhole may_do memory_reader memory_writer p job earlier e s status new → Left o
     whole_left earlier is_earlier (program.none_opened u opens line was) = refused_left u (devices_are s p earlier is_earlier (Err u) new opens) line was
     whole_left earlier is_earlier (program.has_ended i d had has_run ran of_run of_end opens runs ends follows) =
         let x = devices_are s p earlier is_earlier (Ok (i, d)) had opens in
-        let c = comes_at (Some i.device.rest.now) true x.bytes_are x.can_is in
+        let c = comes_at (Some i.device.rest.now) None x.bytes_are x.can_is in
         let a = c.0 in
         let fits = room_fits a.output s.room d.device.out x.room_is (fits_by (bytes_eq p.output standard || a.status == DONE) a.output s.room (subst (λ (q : Outcome). HasRoom q.output s.room) c.2 room)) in
         let end = ended_so p.output has_run new (path_of s p.output (is_apart s p) x.can_is) ran status of_end ends in

@@ -188,6 +188,10 @@ const NO_OUTPUT: &[u8] = b"dcmtools: output cannot be opened\n";
 
 const SAME: &[u8] = b"dcmtools: output is the input\n";
 
+const PART: &[u8] = b"dcmtools: output part is there: another run is at work, or was cut off\n";
+
+const NO_TOOL: &[u8] = b"dcmtools: V1 at word 1: unknown tool\n";
+
 const READ: &[u8] = b"dcmtools: reading failed after 0 bytes\n";
 
 const NO_MEMORY: &[u8] = b"dcmtools: out of memory\n";
@@ -241,10 +245,33 @@ fn refused_devices(rt: HostRuntime) -> Result<(), Fail> {
     let left = obeyed(rt.alloc(), "dcmdump a", directory, PIPE)?;
     expect_left(&left, 4, NO_INPUT, false)?;
     let left = obeyed(rt.alloc(), "dcmcopy a b", FILE, PIPE)?;
-    let line = b"dcmtools: V1 at word 1: unknown tool\n";
-    expect_left(&left, 1, line, false)?;
+    expect_left(&left, 1, NO_TOOL, false)?;
     let left = obeyed(rt.alloc(), "dcmconv a b", FILE, PIPE)?;
     expect_left(&left, 4, READ, true)
+}
+
+#[test]
+fn parts_that_are_there(rt: HostRuntime) -> Result<(), Fail> {
+    let there = Answer::Fails(ErrorKind::AlreadyExists);
+    let left = obeyed(rt.alloc(), "dcmdeid a b", FILE, there)?;
+    expect_left(&left, 4, PART, false)?;
+    let denied = Answer::Fails(ErrorKind::PermissionDenied);
+    let left = obeyed(rt.alloc(), "dcmdeid a b", FILE, denied)?;
+    expect_left(&left, 4, NO_OUTPUT, false)?;
+    let full = Answer::Fails(ErrorKind::OutOfMemory);
+    let left = obeyed(rt.alloc(), "dcmdeid a b", FILE, full)?;
+    expect_left(&left, 5, NO_MEMORY, false)?;
+    let left = obeyed(rt.alloc(), "dcmconv a b", FILE, there)?;
+    expect_left(&left, 4, NO_OUTPUT, false)
+}
+
+#[test]
+fn help_of_no_tool(rt: HostRuntime) -> Result<(), Fail> {
+    for words in ["help foo", "--help a", "help help", "foo help"] {
+        let left = obeyed(rt.alloc(), words, FILE, PIPE)?;
+        expect_left(&left, 1, NO_TOOL, false)?;
+    }
+    Ok(())
 }
 
 /// Words, kinds of the input and of the output, and the line where they are not used together. With calls on the devices the
