@@ -1,0 +1,7 @@
+pub mod Headings
+pub mod Texts
+pub mod Shows
+pub mod WorkDumps
+pub mod TextsAlike
+pub mod DumpsMemory
+pub mod DumpsLeft
