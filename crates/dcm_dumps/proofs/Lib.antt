@@ -5,3 +5,4 @@ pub mod WorkDumps
 pub mod TextsAlike
 pub mod DumpsMemory
 pub mod DumpsLeft
+pub mod OneDump

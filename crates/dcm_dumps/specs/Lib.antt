@@ -5,3 +5,4 @@ pub mod Dumps
 pub mod Work
 pub mod DumpsProgram
 pub mod DumpsInMemory
+pub mod Laws
