@@ -1,9 +1,9 @@
 -- What words say, one after another.
-use Rattle.std.proofs.Common.{◌≡◌, ◌∙◌, ap, sym, refl, ℕ, ◌+◌, ◌<◌, ◌≤◌, map, List, [], ◌∷◌, length, drop, get_or, None, Bool, true, false, arith, drop-cons, add-one, Bor}
+use Rattle.std.proofs.Common.{◌≡◌, ◌∙◌, ap, sym, refl, ℕ, ◌+◌, ◌<◌, List, [], ◌∷◌, length, drop, get_or, None, Bool, true, false, arith, drop-cons, add-one, Bor}
 use Rattle.std.specs.Prelude.{codes, bytes_eq, not, ◌==◌, if◌then◌else◌}
 use Rattle.std.specs.Str.{byte}
-use Rattle.dcm_table_words.specs.Table.{Saying, column, no_column, unknown, no_header, as_is, name, file, list, sayings, word_says, other_word, is_option, is_column, width, word_fault, refused}
-use Rattle.dcm_table_words.specs.Said.{alone_of, texts, sayings_of, Says, SaysAlone}
+use Rattle.dcm_table_words.specs.Table.{Saying, unknown, no_header, as_is, name, file, list, sayings, word_says, other_word, is_option, is_column, width, word_fault, refused}
+use Rattle.dcm_table_words.specs.Said.{texts, sayings_of, Says}
 
 -- the word at a place, and those after it
 next_word : (i : ℕ) (ws : List (Bor (List ℕ))) (d : Bor (List ℕ)) → i < length ws → texts (drop i ws) ≡ (get_or ws i d).now ∷ texts (drop (i + 1) ws)
@@ -50,23 +50,3 @@ pub refused_later : (at next : ℕ) (s : Saying) (said others : List Saying) →
 refused_later at next s said others is none place =
     let number : at + 2 + width s ≡ next + 2 = omega (arith, place) in
     ap (refused (at + 2)) is ∙ not_refused (at + 2) s others none ∙ ap (λ n. refused n others) number
-
--- ---- names
-
-pub alone_there : (s : Saying) (at : ℕ) (ws : List (Bor (List ℕ))) (d : Bor (List ℕ)) → at < length ws → s ≡ word_says (get_or ws at d).now → SaysAlone s (at + 1) at ws
-alone_there s at ws d h is = record {
-  said = ap (map word_says) (next_word at ws d h) ∙ ap (λ x. x ∷ alone_of (drop (at + 1) ws)) (sym is);
-  place = refl;
-  within = omega (arith, h);
-}
-
-some_wide : (s : Saying) → 1 ≤ width s
-some_wide (column w) = omega arith
-some_wide no_column = omega arith
-some_wide no_header = omega arith
-some_wide as_is = omega arith
-some_wide (name m) = omega arith
-some_wide unknown = omega arith
-
-pub later_by : (s : Saying) (next at : ℕ) → next ≡ at + width s → at < next
-later_by s next at place = let wide = some_wide s in omega (arith, wide, place)

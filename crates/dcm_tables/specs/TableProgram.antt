@@ -59,11 +59,11 @@ pub data FlushesTable {O : Type 0} (w : Writer O) (errors : Change) (from to : O
 -- reported
 pub data PutsTable {S O : Type 0} (w : Writer O) (Writes : Writing S O) (errors : Change) (from to : O) (before : S)
     (status : ℕ) (after : S) : Type 0 where
-  put : (written : O) (reached : ℕ) (of_table of_flush : Change) → Writes of_table from written before (Ok reached) after
-      → FlushesTable w of_flush written to reached status → Follows errors of_table of_flush
+  put : (written : O) (reached : ℕ) (of_rows of_flush : Change) → Writes of_rows from written before (Ok reached) after
+      → FlushesTable w of_flush written to reached status → Follows errors of_rows of_flush
       → PutsTable w Writes errors from to before status after
-  not_put : (failure : WriteFailed) (of_table of_line : Change) → Writes of_table from to before (Err failure) after
-      → Reports of_line output_line → status ≡ DEVICE → Follows errors of_table of_line
+  not_put : (failure : WriteFailed) (of_rows of_line : Change) → Writes of_rows from to before (Err failure) after
+      → Reports of_line output_line → status ≡ DEVICE → Follows errors of_rows of_line
       → PutsTable w Writes errors from to before status after
 
 -- there was no memory for the cells of a table, or standard output cannot be opened: that is reported, and nothing
