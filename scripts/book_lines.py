@@ -32,12 +32,15 @@ PARTS = [
     ("the words, and what is opened", ["dcm_words.Words.meant", "dcm_cli.Program.Obeys"]),
 ]
 
+# what one tool's words may ask for besides a job
+MORE = {"dcmdump": ["dcm_dumps.Words.asks_dumps", "dcm_dumps.DumpsProgram.ObeysDumps"]}
+
 # dcm2csv has no job: its rows, how far a file is read, what is done with it, and the words
 TABLE_PARTS = [
     ["dcm_tables.RowOf.RowOf", "dcm_table.Row.row_parts", "dcm_table.Parts.SpellsParts", "dcm_tables.Rows.file_lines", "dcm_tables.Rows.file_status"],
     ["dcm_tables.RowOf.IsUndecided"],
     ["dcm_tables.Deciding.DoesRow"],
-    ["dcm_table_words.Table.meant_table", "dcm_tables.TableProgram.ObeysTable"],
+    ["dcm_table_words.Table.meant_table", "dcm_tables.TableProgram.asks_table", "dcm_tables.TableProgram.ObeysTable"],
 ]
 
 # cases of one tool that no job of another one comes to: only dcmodify has edits, each of which may have found no place
@@ -246,7 +249,9 @@ def reached(tool: str, roots: list, before: set) -> dict:
 def parts_of(tool: str) -> list:
     """For each part its definitions with their lines."""
     before, parts = set(), []
-    for roots in TABLE_PARTS if tool == "dcm2csv" else [roots for _, roots in PARTS]:
+    of_jobs = [roots for _, roots in PARTS]
+    of_jobs[-1] = of_jobs[-1] + MORE.get(tool, [])
+    for roots in TABLE_PARTS if tool == "dcm2csv" else of_jobs:
         lines = reached(tool, roots, before)
         before |= set(lines)
         parts.append(lines)

@@ -41,7 +41,8 @@ ON_THE_WAY = {
 }
 
 
-IN_THE_THEOREM = {"dcm_cli": "answers_one answers_some comes_one comes_some", "dcm_tables": "row_is_one row_is_some table_is_one table_is_some"}
+IN_THE_THEOREM = {"dcm_cli": "answers_one answers_some comes_one comes_some", "dcm_tables": "row_is_one row_is_some table_is_one table_is_some",
+                  "dcm_dumps": "dumps_are_one dumps_are_some"}
 
 
 def on_the_way(crate: str) -> set:

@@ -129,6 +129,11 @@ def shown(uid, lines):
 NAME_LINE = line(NAME, "PN", "[AB]", 2, 1, "PatientName")
 
 
+def of_several(number, name, lines=NAME_LINE):
+    """The heading and the dump of a data set alone."""
+    return f"# dcmdump ({number}): {name}\n\n{set_header('LittleEndianExplicit')}{lines}"
+
+
 class Case(NamedTuple):
     claim: str
     words: str
@@ -200,6 +205,18 @@ WORDS = [
     refused("--help of a path", "--help FILE", "V1 at word 1: unknown tool"),
     refused("no words", "", "V1 at word 1: unknown tool"),
     Case("a file that is named help", "dcmdump -f -te ./help; rm help", AB, set_header("LittleEndianExplicit") + NAME_LINE, before="mv FILE help; cp help FILE"),
+    Case("two files have headings, and an empty line between them", "dcmdump -f -te FILE ./FILE", AB, of_several("1/2", "FILE") + "\n" + of_several("2/2", "./FILE")),
+    Case("+F: one file has a heading", "dcmdump -f +F -te FILE", AB, of_several("1/1", "FILE")),
+    Case("of a list the number of names is not known", "dcmdump -f -te @list", AB, of_several("1", "FILE") + "\n" + of_several("2", "FILE"), before="printf 'FILE\\n\\nFILE' > list", after="rm list"),
+    Case("a list on standard input", "dcmdump -f -te @- <<< FILE", AB, of_several("1", "FILE")),
+    Case("a file that cannot be opened is counted, and has no heading", "dcmdump -f -te gone FILE", AB, of_several("2/2", "FILE"), 4, "gone: input cannot be opened"),
+    Case("a fault ends its own file, and its line names it", "dcmdump -f -te cut FILE", AB, of_several("1/2", "cut", "") + "\n" + of_several("2/2", "FILE"), 2, "cut: R1 at byte 9: input ends too early", before="head -c 9 FILE > cut", after="rm cut"),
+    Case("standard output is not read", "dcmdump -f -te +F FILE 1<> FILE", AB, b"", 4, "FILE: output is the input"),
+    Case("a file whose name begins with @", "dcmdump -f -te ./@x", AB, set_header("LittleEndianExplicit") + NAME_LINE, before="cp FILE @x", after="rm @x"),
+    Case("after a failed output nothing more is opened", "dcmdump FILE gone > /dev/full", file_of(LITTLE, AB), b"", 4, "output failed"),
+    refused("several files: V4 is before V5", "dcmdump -f FILE ''", "V4: wrong number of paths"),
+    refused("several files: V5 is before V9", "dcmdump -f - -", "V5: options do not go together"),
+    refused("standard input is named once", "dcmdump - @-", "V9: standard input is named twice"),
     Case("a value that is not UTF-8", "dcmodify -m $'PatientName=M\\374ller' FILE -", file_of(LITTLE, AB), file_of(LITTLE, leaf(NAME, "PN", b"M\xfcller"))),
     Case("a file whose name is not UTF-8", "dcmdump $'gr\\366sse'", AB, b"", 4, "input cannot be opened", before="cp FILE $'gr\\366sse'", after="rm $'gr\\366sse'"),
     Case("an output whose name is not UTF-8", "dcmconv FILE $'gr\\366sse'", file_of(LITTLE, AB), b"", 4, "output cannot be opened"),

@@ -18,10 +18,11 @@ use dcm_words::Dump;
 /// The bytes that are read at a time.
 const PIECE: usize = 65_536;
 
-/// Writes the dump of a file.
+/// Writes the dump of a file, its head by a reader that may have read other files.
 fn dump_file<R: DeviceIn, W: DeviceOut>(
     dictionary: Dictionary,
     mode: Mode,
+    meta: &mut Meta,
     input: &mut Watched<R>,
     out: &mut Watched<W>,
     buffer: &mut [u8],
@@ -31,15 +32,15 @@ fn dump_file<R: DeviceIn, W: DeviceOut>(
     ensures { calls.Works R.DeviceIn W.DeviceOut (dump_job dictionary mode None) input.old input.new out.old
         out.new result }
 {
-    let mut meta = Meta::new();
-    let beginning = match read_head_of(&mut meta, input, buffer) {
+    meta.clear();
+    let beginning = match read_head_of(meta, input, buffer) {
         Ok(beginning) => beginning,
         Err(ending) => return ending_of_head(ending),
     };
-    if dump_header_with(&meta, dictionary, mode, out).is_err() {
+    if dump_header_with(meta, dictionary, mode, out).is_err() {
         return Ending::Output;
     }
-    let start = set_start(&meta);
+    let start = set_start(meta);
     let mut sink = DumpSink::with_dictionary(out, dictionary, mode);
     read_set(
         beginning,
@@ -77,6 +78,26 @@ fn dump_set<R: DeviceIn, W: DeviceOut>(
     read_rest(0, input, buffer, &mut machine, &mut sink)
 }
 
+/// Writes the dump of a file, or of a data set alone, by a reader of heads and a buffer that may have served other files.
+#[inline(never)]
+pub fn dump_with<R: DeviceIn, W: DeviceOut>(
+    dump: Dump,
+    meta: &mut Meta,
+    buffer: &mut [u8],
+    input: &mut Watched<R>,
+    out: &mut Watched<W>,
+) -> Ending
+    requires room { 0 < length buffer.old }
+    requires bound { length buffer.old ≤ BUFFER_LIMIT }
+    ensures { calls.Works R.DeviceIn W.DeviceOut (dump_job dump.dictionary dump.mode dump.bare) input.old
+        input.new out.old out.new result }
+{
+    match dump.bare {
+        None => dump_file(dump.dictionary, dump.mode, meta, input, out, buffer),
+        Some(syntax) => dump_set(dump.dictionary, dump.mode, syntax, input, out, buffer),
+    }
+}
+
 /// Writes the dump of a file, or of a data set alone.
 #[inline(never)]
 pub fn dump<R: DeviceIn, W: DeviceOut>(
@@ -88,8 +109,6 @@ pub fn dump<R: DeviceIn, W: DeviceOut>(
         input.new out.old out.new result }
 {
     let mut buffer = [0u8; PIECE];
-    match dump.bare {
-        None => dump_file(dump.dictionary, dump.mode, input, out, &mut buffer),
-        Some(syntax) => dump_set(dump.dictionary, dump.mode, syntax, input, out, &mut buffer),
-    }
+    let mut meta = Meta::new();
+    dump_with(dump, &mut meta, &mut buffer, input, out)
 }

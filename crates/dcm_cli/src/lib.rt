@@ -2,6 +2,7 @@
 //!
 //! - `run::run` does a job: it reads its input in pieces of at most 262,144 bytes, writes its output as it goes,
 //!   reports what is wrong, and answers how it ended. Its contract is the theorem of the whole.
+//! - `dump_with` of `dump` shows one input after another, for who shows several.
 //! - `dump`, `convert`, `modify` and `build` are the work on the four kinds of jobs, by `head`, `pass` and `rewrite`.
 //! - `tell`, `tell_open` and `tell_unopened` report words that are refused and files that cannot be opened; `status` has
 //!   the exit statuses.
@@ -19,7 +20,8 @@
 mod build;
 mod convert;
 mod deidentify;
-mod dump;
+/// The dump of an input.
+pub mod dump;
 /// How the work on a job ends.
 pub mod ending;
 mod error_lines;

@@ -110,7 +110,7 @@ pub fn open_output<S: System>(system: &mut S, word: &[u8]) -> io::Result<Opened<
 
 /// Why an input and an output are not used together: both are one regular file, under whatever names; or they may be,
 /// since the system does not say what is read, and the output holds bytes (DECISIONS, D-31).
-pub(crate) fn clash(input: FileKind, output: FileKind) -> Option<Unopened>
+pub fn clash(input: FileKind, output: FileKind) -> Option<Unopened>
     ensures { result ≡ spec.clash input output }
 {
     match (input, output) {

@@ -4,6 +4,8 @@ use Rattle.dcm_base.specs.declared.fault.Stop.{Stop}
 use Rattle.dcm_base.specs.declared.tag.Tag.{Tag}
 use Rattle.dcm_base.specs.Tables.Fault.{fault_number, fault_text}
 use Rattle.dcm_base.specs.Dump.ValueText.{tag_text}
+use Rattle.dcm_files.specs.declared.opened.Unopened.{Unopened}
+use Rattle.dcm_files.specs.declared.opened.Unopened.TheVariants.{Same}
 use Rattle.dcm_names.specs.Names.{shown_name}
 
 -- a line: the name of the program, that of the file, a text and a newline
@@ -17,6 +19,14 @@ refusal_line number place text = codes "dcmtools: " ++ number ++ place ++ codes 
 -- the file cannot be opened
 abbrev pub unopened_line : List ℕ → List ℕ
 unopened_line name = named_line name (codes "input cannot be opened")
+
+-- it is the output; or it may be, since the system does not say what it is, and the output holds bytes
+abbrev pub clash_text : Unopened → List ℕ
+clash_text Same = codes "output is the input"
+clash_text _ = codes "output cannot be opened"
+
+abbrev pub clash_line : List ℕ → Unopened → List ℕ
+clash_line name cause = named_line name (clash_text cause)
 
 -- reading it failed after so many bytes
 abbrev pub unread_line : List ℕ → ℕ → List ℕ

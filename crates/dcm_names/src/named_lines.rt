@@ -6,6 +6,7 @@ ghost use Rattle.dcm_names.specs.NamedLines as spec;
 use crate::shown::{MOST_SHOWN, shown_name};
 use arrayvec::ArrayVec;
 use dcm_base::{DeviceOut, Stop, Tag, Watched, WriteFailed, put_all};
+use dcm_files::Unopened;
 use itoa::Buffer;
 
 /// The most bytes of a line without its name.
@@ -76,6 +77,28 @@ pub fn put_unopened<E: DeviceOut>(name: &[u8], errors: &mut Watched<E>) -> Resul
     ensures { Wrote E.DeviceOut errors.old errors.new (spec.unopened_line name.now) result }
 {
     put_named(name, &[b"input cannot be opened".as_slice()], errors)
+}
+
+/// Why a file is not read into an output.
+fn clash_text(cause: Unopened) -> &'static [u8]
+    ensures value { result.now ≡ spec.clash_text cause }
+    ensures within { length result.now ≤ 32 }
+{
+    match cause {
+        Unopened::Same => b"output is the input".as_slice(),
+        _ => b"output cannot be opened".as_slice(),
+    }
+}
+
+/// Reports that a file is the output, or may be.
+pub fn put_clash<E: DeviceOut>(
+    name: &[u8],
+    cause: Unopened,
+    errors: &mut Watched<E>,
+) -> Result<(), WriteFailed>
+    ensures { Wrote E.DeviceOut errors.old errors.new (spec.clash_line name.now cause) result }
+{
+    put_named(name, &[clash_text(cause)], errors)
 }
 
 /// Reports that reading a file failed after so many bytes.

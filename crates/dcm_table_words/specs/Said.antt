@@ -11,6 +11,10 @@ texts words = map (λ w. w.now) words
 abbrev pub sayings_of : List (Bor (List ℕ)) → List spec.Saying
 sayings_of words = spec.sayings (texts words)
 
+-- where no option has a value
+abbrev pub alone_of : List (Bor (List ℕ)) → List spec.Saying
+alone_of words = map spec.word_says (texts words)
+
 abbrev pub said_as : Saying → spec.Saying
 said_as (says.Column w) = spec.column w.now
 said_as says.NoColumn = spec.no_column
@@ -29,3 +33,13 @@ pub record Says (s : spec.Saying) (next at : ℕ) (words : List (Bor (List ℕ))
 abbrev pub SaidAt : Option (Saying × ℕ) → (at : ℕ) → List (Bor (List ℕ)) → Type 0
 SaidAt None at words = sayings_of (drop at words) ≡ []
 SaidAt (Some s) at words = Says (said_as s.0) s.1 at words
+
+-- the word at a place says this
+pub record SaysAlone (s : spec.Saying) (next at : ℕ) (words : List (Bor (List ℕ))) : Type 0 where
+  pub said : alone_of (drop at words) ≡ s ∷ alone_of (drop next words)
+  pub place : next ≡ at + 1
+  pub within : next ≤ length words
+
+abbrev pub AloneAt : Option (Saying × ℕ) → (at : ℕ) → List (Bor (List ℕ)) → Type 0
+AloneAt None at words = alone_of (drop at words) ≡ []
+AloneAt (Some s) at words = SaysAlone (said_as s.0) s.1 at words

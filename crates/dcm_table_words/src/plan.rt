@@ -2,12 +2,12 @@
 ghost use Rattle.std.specs.Prelude.{◌≡◌, nat_lt, count_by, map, option_map};
 ghost use Rattle.std.specs.List.{list_any};
 ghost use Rattle.dcm_table_words.specs.Table as spec;
-ghost use Rattle.dcm_table_words.specs.Said.{said_as, sayings_of};
+ghost use Rattle.dcm_table_words.specs.Said.{alone_of, said_as, sayings_of};
 ghost use Rattle.dcm_table_words.specs.Plans.{gives as gives_flag, name_as, names_as, FirstName, GivesColumns};
-ghost use Rattle.dcm_table_words.specs.Plans.{PassesNames, GivesTable};
+ghost use Rattle.dcm_table_words.specs.Plans.{PassesNames, GivesTable, SaidIn};
 
 use crate::column::{TableColumn, column_of};
-use crate::saying::{Saying, saying_at};
+use crate::saying::{Saying, alone_at, saying_at};
 use crate::usage::TableUsage;
 use arrayvec::ArrayVec;
 use dcm_base::WordFault;
@@ -27,10 +27,11 @@ pub enum Name<'a> {
     List(&'a [u8]),
 }
 
-/// The names among words, in their order.
+/// The names among words, in their order. In some words an option has a column after it, which is no name.
 #[derive(Clone, Copy)]
 pub struct NameWords<'a> {
     words: &'a [&'a [u8]],
+    has_columns: bool,
 }
 
 /// The table that words mean.
@@ -146,12 +147,32 @@ fn columns_in<'a>(words: &'a [&'a [u8]]) -> Result<ArrayVec<TableColumn, MOST_CO
 }
 
 impl<'a> NameWords<'a> {
+    /// The names among words of which no option has a value.
+    pub fn among(words: &'a [&'a [u8]]) -> NameWords<'a>
+        ensures { names_as result ≡ spec.names_in (alone_of words.now) }
+    {
+        NameWords {
+            words,
+            has_columns: false,
+        }
+    }
+
+    /// What the words from this place on say first, and the place of the words after that.
+    fn saying(self, at: usize) -> Option<(Saying<'a>, usize)>
+        ensures { SaidIn result at self.entry }
+    {
+        if self.has_columns {
+            return saying_at(self.words, at);
+        }
+        alone_at(self.words, at)
+    }
+
     /// The first name from a place among the words on, and the place after it. The first place is 0.
     pub fn after(self, place: usize) -> Option<(Name<'a>, usize)>
         ensures { FirstName result self.entry place }
     {
         let mut at = place;
-        while let Some((saying, next)) = saying_at(self.words, at) {
+        while let Some((saying, next)) = self.saying(at) {
             if let Some(name) = name_said(saying) {
                 return Some((name, next));
             }
@@ -174,7 +195,7 @@ impl<'a> Name<'a> {
 }
 
 /// Whether a name is empty.
-fn has_empty(names: NameWords) -> bool
+pub fn has_empty(names: NameWords) -> bool
     ensures { result ≡ list_any spec.is_empty_name (names_as names.entry) }
 {
     let mut place = 0;
@@ -188,7 +209,7 @@ fn has_empty(names: NameWords) -> bool
 }
 
 /// Whether standard input is named more than once.
-fn has_standard_twice(names: NameWords) -> bool
+pub fn has_standard_twice(names: NameWords) -> bool
     ensures { result ≡ nat_lt 1 (count_by spec.is_standard (names_as names.entry)) }
 {
     let mut place = 0;
@@ -226,7 +247,10 @@ fn plan_of<'a>(words: &'a [&'a [u8]]) -> Result<TablePlan<'a>, TableUsage>
         return Err(usage);
     }
     let columns = columns_in(words)?;
-    let names = NameWords { words };
+    let names = NameWords {
+        words,
+        has_columns: true,
+    };
     check_names(names)?;
     Ok(TablePlan {
         columns,

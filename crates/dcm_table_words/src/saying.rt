@@ -1,7 +1,7 @@
 // What the words of dcm2csv say, one after another.
 ghost use Rattle.std.specs.Prelude.{◌≡◌};
 ghost use Rattle.dcm_table_words.specs.Table as spec;
-ghost use Rattle.dcm_table_words.specs.Said.{said_as, SaidAt};
+ghost use Rattle.dcm_table_words.specs.Said.{said_as, AloneAt, SaidAt};
 
 /// The word after which a column comes.
 const COLUMN: &[u8] = b"-k";
@@ -40,6 +40,16 @@ fn word_says<'a>(word: &'a [u8]) -> Saying<'a>
             _ => Saying::File(word),
         }
     }
+}
+
+/// What the word at this place says where no option has a value, and the place after it.
+pub fn alone_at<'a>(words: &'a [&'a [u8]], at: usize) -> Option<(Saying<'a>, usize)>
+    ensures { AloneAt result at words.now }
+{
+    if at >= words.len() {
+        return None;
+    }
+    Some((word_says(words[at]), at + 1))
 }
 
 /// What the words from this place on say first, and the place of the words after that.

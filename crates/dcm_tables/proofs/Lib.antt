@@ -1,9 +1,8 @@
-pub mod AsRows
 pub mod FileReads
+pub mod WorkRows
 pub mod LinesOut
 pub mod ListLeft
 pub mod Made
-pub mod Names
 pub mod TableReads
 pub mod MetaShown
 pub mod RowReads

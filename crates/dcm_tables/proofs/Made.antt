@@ -1,16 +1,10 @@
 -- What the making of a table comes to.
-use Rattle.std.proofs.Common.{◌≡◌, List, ℕ, Result, Ok, Err, Some, inl, inr, subst}
-use Rattle.dcm_devices.specs.Writing.{Writer, Wrote}
-use Rattle.dcm_cli.specs.Change.{Change, change_of}
-use Rattle.dcm_cli.specs.ErrorLines.{Reports}
+use Rattle.std.proofs.Common.{◌≡◌, List, ℕ, Some, subst}
+use Rattle.dcm_devices.specs.Writing.{Writer}
+use Rattle.dcm_cli.specs.Change.{Change}
 use Rattle.dcm_cli.specs.Calls.{Reader}
 use Rattle.dcm_files.specs.Devices.{MayDo}
 use Rattle.dcm_tables.specs.TableProgram.{ObeysAny, Starts, obeyed}
-
--- a line was written, or its writer failed with a beginning of it
-pub told : {E T X : Type 0} (w : Writer E) (old new : E) (line : List ℕ) (r : Result T X) → Wrote w old new line r → Reports (change_of w old new) line
-told w old new line (Ok t) wrote = inl (wrote.bytes, wrote.failed)
-told w old new line (Err e) wrote = inr (wrote.bytes, wrote.failed)
 
 -- what is so of columns, a form and a result is so of the same ones by other names
 pub alike : {A B C : Type 0} (P : A → B → C → Type 0) {a b : A} {f h : B} {r s : C} → a ≡ b → f ≡ h → r ≡ s → P a f r → P b h s

@@ -9,7 +9,7 @@ use Rattle.dcm_names.specs.Names.{names_of}
 use Rattle.dcm_table.specs.declared.quoted.TextForm.{TextForm}
 use Rattle.dcm_table_words.specs.declared.usage.TableUsage.{TableUsage}
 use Rattle.dcm_table_words.specs.Table as table_words
-use Rattle.dcm_tables.specs.Table.{listed_path}
+use Rattle.dcm_each.specs.Each.{listed_path}
 use Rattle.dcm_tables.specs.TableProgram.{form_of}
 use Rattle.dcm_tables.specs.TableInMemory.{Rows, no_rows, and_rows, AllCome, file_of, unopened, row_with, FileComes, ListedComes, ListComes, NameComes, TableOutcome, refused, tabled, tags_of, TableComesBy, TableComes}
 use Rattle.dcm_tables.proofs.OneRow.{one_row, some_row}

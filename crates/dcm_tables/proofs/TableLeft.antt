@@ -21,13 +21,14 @@ use Rattle.dcm_table_words.specs.Table as table_words
 use Rattle.dcm_cli.specs.Change.{Change}
 use Rattle.dcm_cli.specs.InMemory.{Took}
 use Rattle.dcm_cli.proofs.Runs.InMemory.{memory_reader, memory_writer, memory_change}
-use Rattle.dcm_tables.specs.Deciding.{DoesRow}
-use Rattle.dcm_tables.specs.Table.{DoesName, DoesAll, headed, not_headed, header_bytes}
+use Rattle.dcm_each.specs.Each.{DoesName, DoesAll}
+use Rattle.dcm_tables.specs.Table.{rows_into, headed, not_headed, header_bytes}
 use Rattle.dcm_tables.specs.TableProgram as program
 use Rattle.dcm_tables.specs.TableProgram.{column_of, form_of, WritesMeant, PutsTable, MakesTable, ObeysTable}
 use Rattle.dcm_tables.specs.TableInMemory as spec
 use Rattle.dcm_tables.specs.TableInMemory.{Rows, AllCome, NameComes, RowsCome, TableOutcome, TableComes, TableComesBy, tags_of, most_of, HasRoomFor, IsTabled, LeavesTable, MeansTable, IsReadWhole, AreReadWhole, ListsAreReadWhole, no_memory}
-use Rattle.dcm_tables.proofs.TableMemory.{Told, told_all, told_less, told_of, told_then, front_less, held, All, Left, at_left, all_left}
+use Rattle.dcm_each.proofs.InMemory.{Told, told_of, told_then, front_less, held, grew, no_less, told_left}
+use Rattle.dcm_tables.proofs.TableMemory.{All, Left, at_left, all_left}
 use Rattle.dcm_tables.proofs.ListLeft.{list_left}
 
 -- ---- the header
@@ -54,30 +55,6 @@ head_then header rows errors from mid to (Err failure) went fine x = record {
 
 -- ---- rooms
 
-grew : (size now : ℕ) (before after bytes : List ℕ) → Some (now ∷ after) ≡ append_known (Some (size ∷ before)) bytes → after ≡ before ++ bytes
-grew size now before after bytes e = cc
-
-stays : (size now : ℕ) (before after bytes : List ℕ) → Some (now ∷ after) ≡ append_known (Some (size ∷ before)) bytes → now ≡ size
-stays size now before after bytes e = cc
-
--- as many bytes as were put
-taken : (m : MemOut) → length (written m) ≡ m.at
-taken m = length-take-le m.at m.bytes.items (subst (λ (n : ℕ). m.at ≤ n) m.bytes.ok.0 m.within)
-
--- a writer fails only where it is full
-no_less : (m n : MemOut) (less : List ℕ) (most : ℕ) → Some (size n ∷ written n) ≡ append_known (Some (size m ∷ written m)) less → n.failed ≡ true → length less < most → most ≤ room_of m → ⊥
-no_less m n less most grown failed few room =
-    let same = stays (size m) (size n) (written m) (written n) less grown in
-    let all = ap length (grew (size m) (size n) (written m) (written n) less grown) ∙ length-append (written m) less in
-    let had = taken m in
-    let has = taken n ∙ n.full failed in
-    omega (arith, same, all, had, has, few, room)
-
--- lines were written where there was room for them
-told_left : (errors new_errors : MemOut) (lines : List ℕ) → Told (memory_change errors new_errors) lines → length lines ≤ room_of errors → written new_errors ≡ written errors ++ lines
-told_left errors new_errors lines (told_all went fine) room = grew (size errors) (size new_errors) (written errors) (written new_errors) lines went
-told_left errors new_errors lines (told_less less went few failed) room = absurd (no_less errors new_errors less (length lines) went failed few room)
-
 room_given : (room : Option MemOut) (kind : FileKind) (o : Opened Measured) → GivesRoom room kind (Ok o) → room ≡ Some o.device.out
 room_given (Some m) kind o gave = ap Some (sym gave.0)
 room_given None kind o gave = absurd gave
@@ -101,12 +78,12 @@ module _ (s : MemSystem) (columns : List Tag) (form : TextForm) where
   of_whole (name ∷ names) rows whole come = (come.0, come.1, (come.2, whole.0), of_whole names come.1 whole.1 come.3, come.4)
 
   name_left : (name : table_words.Name) (rows : Rows) (errors : Change) (from to : Measured) (result : Result ℕ WriteFailed) (after : MemSystem)
-      → DoesName may_do memory_reader (DoesRow memory_reader memory_writer columns form) name errors from to s result after → WholeNameComes name rows → Left rows errors from to result × (after ≡ s)
+      → DoesName may_do memory_reader (rows_into memory_reader memory_writer columns form) name errors from to s result after → WholeNameComes name rows → Left rows errors from to result × (after ≡ s)
   name_left (table_words.file path) rows errors from to result after does comes = at_left s columns form path path rows errors from to result after does comes.0
   name_left (table_words.list path) rows errors from to result after does comes = list_left s columns form path rows errors from to result after does comes.0 comes.1
 
   module _ (names : List table_words.Name) (whole : AreReadWhole s names) (rows : Rows) (come : AllCome (NameComes s columns form) names rows) where
-    names_left : (errors : Change) (from to : Measured) (result : Result ℕ WriteFailed) (after : MemSystem) → DoesAll (DoesName may_do memory_reader (DoesRow memory_reader memory_writer columns form)) names errors from to s result after
+    names_left : (errors : Change) (from to : Measured) (result : Result ℕ WriteFailed) (after : MemSystem) → DoesAll (DoesName may_do memory_reader (rows_into memory_reader memory_writer columns form)) names errors from to s result after
         → Left rows errors from to result × (after ≡ s)
     names_left errors from to result after does = all_left s columns form WholeNameComes name_left names errors from to result after rows does (of_whole names rows whole come)
 

@@ -29,43 +29,13 @@ use Rattle.dcm_cli.proofs.Runs.InMemory.{memory_reader, memory_writer}
 use Rattle.dcm_cli.proofs.Runs.OpenedMemory.{input_opened}
 use Rattle.dcm_tables.specs.Deciding.{DoesRow, row_written, row_unwritten, row_unread}
 use Rattle.dcm_tables.specs.RowOf.{RowOf}
-use Rattle.dcm_tables.specs.Table as table
-use Rattle.dcm_tables.specs.Table.{OpensAt, not_tried, opened_at, DoesAt, not_opened, done_at, DoesName, DoneSoFar, none_done, and_done, DoesAll, all_names, failed_at}
+use Rattle.dcm_each.specs.Each as each
+use Rattle.dcm_each.specs.Each.{OpensAt, not_tried, opened_at, DoesAt, not_opened, done_at, DoesName, DoneSoFar, none_done, and_done, DoesAll, all_names, failed_at}
+use Rattle.dcm_each.proofs.InMemory.{Told, told_of, told_then, front_less, held, IsOpened, opened_is}
+use Rattle.dcm_tables.specs.Table.{rows_into}
 use Rattle.dcm_tables.specs.TableInMemory.{Rows, no_rows, and_rows, AllCome, file_of, unopened, row_with, FileComes, most_of_part, most_of}
 use Rattle.dcm_tables.proofs.OneRow.{one_row}
 use Rattle.dcm_tables.proofs.RowsAlike.{Split, split, both_rows, rows_none}
-
--- ---- lines
-
--- all of the lines were written; or fewer bytes, and the writer has failed
-pub data Told (c : Change) (lines : List ℕ) : Type 0 where
-  told_all : c.after ≡ append_known c.before lines → c.failed_after ≡ c.failed_before → Told c lines
-  told_less : (less : List ℕ) → c.after ≡ append_known c.before less → length less < length lines → c.failed_after ≡ true → Told c lines
-
--- a beginning that was not all
-pub front_less : {old new : Option (List ℕ)} {bytes : List ℕ} → (a : AppendsFront old new bytes) → length a.front < length bytes
-front_less {old} {new} {bytes} a = let h = ap length a.whole ∙ length-append a.front (a.next ∷ a.rest) in omega (arith, h)
-
-pub told_of : (c : Change) (lines : List ℕ) → Reports c lines → Told c lines
-told_of c lines (inl x) = told_all x.0 x.1
-told_of c lines (inr x) = told_less x.0.front x.0.grown (front_less x.0) x.1
-
-module _ (whole first second : Change) (follows : Follows whole first second) (ls ms : List ℕ) where
-  grown_on : (xs ys : List ℕ) → first.after ≡ append_known first.before xs → second.after ≡ append_known second.before ys → whole.after ≡ append_known whole.before (xs ++ ys)
-  grown_on xs ys a b =
-      follows.ends.0 ∙ b ∙ ap (λ (k : Option (List ℕ)). append_known k ys) (follows.meets.0 ∙ a) ∙ append_known_twice first.before xs ys ∙ ap (λ (k : Option (List ℕ)). append_known k (xs ++ ys)) follows.begins.0
-
-  fewer : (xs ys : List ℕ) → length xs ≤ length ls → length ys ≤ length ms → length xs + length ys < length ls + length ms → length (xs ++ ys) < length (ls ++ ms)
-  fewer xs ys a b less = let x = length-append xs ys in let l = length-append ls ms in omega (arith, x, l, less)
-
-  pub told_then : Told first ls → Told second ms → Told whole (ls ++ ms)
-  told_then (told_all a fine) (told_all b fine') = told_all (grown_on ls ms a b) (follows.ends.1 ∙ fine' ∙ follows.meets.1 ∙ fine ∙ follows.begins.1)
-  told_then (told_all a fine) (told_less less b small failed) =
-      told_less (ls ++ less) (grown_on ls less a b) (fewer ls less (omega arith) (omega (arith, small)) (omega (arith, small))) (follows.ends.1 ∙ failed)
-  told_then (told_less less a small failed) (told_all b fine) =
-      told_less (less ++ ms) (grown_on less ms a b) (fewer less ms (omega (arith, small)) (omega arith) (omega (arith, small))) (follows.ends.1 ∙ fine ∙ follows.meets.1 ∙ failed)
-  told_then (told_less less a small failed) (told_less more b small' failed') =
-      told_less (less ++ more) (grown_on less more a b) (fewer less more (omega (arith, small)) (omega (arith, small')) (omega (arith, small, small'))) (follows.ends.1 ∙ failed')
 
 -- ---- texts of parts
 
@@ -89,9 +59,6 @@ most_both [] qs = plus_none (most_of qs)
 most_both (p ∷ ps) qs = let h = most_both ps qs in omega (arith, h)
 
 -- ---- what was done for rows
-
-abbrev pub held : Measured → Option (List ℕ)
-held m = Some (size m.out ∷ written m.out)
 
 -- all of them were written and reported
 pub record All (rows : Rows) (errors : Change) (from to : Measured) (status : ℕ) : Type 0 where
@@ -175,24 +142,6 @@ module _ (columns : List Tag) (form : TextForm) (name : List ℕ) (errors : Chan
 
 -- ---- one name
 
--- what was opened holds the bytes at the path
-abbrev pub IsOpened : Option (List ℕ) → Option (Opened MemIn) → Type 0
-IsOpened bytes None = bytes ≡ None
-IsOpened bytes (Some i) = bytes ≡ Some i.device.rest.now
-
-chosen : (b c : Bool) (x : Option (List ℕ)) → b ≡ c → (if b then x else None) ≡ (if c then x else None)
-chosen b c x e = ap (λ (t : Bool). if t then x else None) e
-
-pub opened_is : (s : MemSystem) (b : Bool) (path : List ℕ) (o : Option (Opened MemIn)) (mid : MemSystem) → OpensAt may_do b path s o mid → IsOpened (if b then bytes_at s path else None) o × (mid ≡ s)
-opened_is s b path o mid (not_tried shut none same) =
-    (subst (IsOpened (if b then bytes_at s path else None)) (sym none) (chosen b false (bytes_at s path) shut), same)
-opened_is s b path o mid (table.refused cause can tried none) =
-    let f = input_opened s path (Err cause) mid tried in
-    (subst (IsOpened (if b then bytes_at s path else None)) (sym none) (chosen b true (bytes_at s path) can ∙ f.0.0), f.1)
-opened_is s b path o mid (opened_at i can tried some) =
-    let f = input_opened s path (Ok i) mid tried in
-    (subst (IsOpened (if b then bytes_at s path else None)) (sym some) (chosen b true (bytes_at s path) can ∙ f.0.0), f.1)
-
 -- nothing was opened, and that was reported
 pub unopened_left : (name : List ℕ) (rows : Rows) (errors : Change) (from to : Measured) (result : Result ℕ WriteFailed) → rows ≡ unopened name → Reports errors (unopened name).lines → to ≡ from → result ≡ Ok (unopened name).status → Left rows errors from to result
 unopened_left name rows errors from to result none line same is =
@@ -202,7 +151,7 @@ unopened_left name rows errors from to result none line same is =
 
 module _ (s : MemSystem) (columns : List Tag) (form : TextForm) where
   pub at_left : (name path : List ℕ) (rows : Rows) (errors : Change) (from to : Measured) (result : Result ℕ WriteFailed) (after : MemSystem)
-      → DoesAt may_do (DoesRow memory_reader memory_writer columns form) name path (can_be_opened name) errors from to s result after → FileComes columns form name (file_of s name path) rows
+      → DoesAt may_do (rows_into memory_reader memory_writer columns form) name path (can_be_opened name) errors from to s result after → FileComes columns form name (file_of s name path) rows
       → Left rows errors from to result × (after ≡ s)
   at_left name path rows errors from to result after (not_opened opens line same is) comes =
       let o = opened_is s (can_be_opened name) path None after opens in
@@ -223,7 +172,7 @@ nothing_left errors from to rows status line same none is =
 last_rows : (first later end rows : Rows) → rows ≡ and_rows first later → later ≡ and_rows end no_rows → rows ≡ and_rows first end
 last_rows first later end rows e f = e ∙ both_rows refl (f ∙ rows_none end)
 
-module _ {X : Type 0} (s : MemSystem) (Does : X → table.Writing MemSystem Measured) (Comes : X → Rows → Type 0)
+module _ {X : Type 0} (s : MemSystem) (Does : X → each.Writing MemSystem Measured) (Comes : X → Rows → Type 0)
     (name_left : (name : X) (rows : Rows) (errors : Change) (from to : Measured) (result : Result ℕ WriteFailed) (after : MemSystem) → Does name errors from to s result after → Comes name rows → Left rows errors from to result × (after ≡ s)) where
   -- one name after others
   pub one_more : (others : List X) (name : X) (rows : Rows) (p : Split Comes others (name ∷ []) rows) (errors of_others of_name : Change) (from mid to : Measured) (reached ended status : ℕ) (between after : MemSystem)
@@ -249,8 +198,8 @@ module _ {X : Type 0} (s : MemSystem) (Does : X → table.Writing MemSystem Meas
       )
 
 module _ (s : MemSystem) (columns : List Tag) (form : TextForm) where
-  abbrev Does : table_words.Name → table.Writing MemSystem Measured
-  Does name errors from to before result after = DoesName may_do memory_reader (DoesRow memory_reader memory_writer columns form) name errors from to before result after
+  abbrev Does : table_words.Name → each.Writing MemSystem Measured
+  Does name errors from to before result after = DoesName may_do memory_reader (rows_into memory_reader memory_writer columns form) name errors from to before result after
 
   module _ (Comes : table_words.Name → Rows → Type 0)
       (name_left : (name : table_words.Name) (rows : Rows) (errors : Change) (from to : Measured) (result : Result ℕ WriteFailed) (after : MemSystem) → Does name errors from to s result after → Comes name rows → Left rows errors from to result × (after ≡ s)) where

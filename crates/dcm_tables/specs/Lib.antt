@@ -4,6 +4,7 @@ pub mod RowOf
 pub mod Deciding
 pub mod Laws
 pub mod Table
+pub mod TableWork
 pub mod TableProgram
 pub mod TableInMemory
 pub mod OverStd

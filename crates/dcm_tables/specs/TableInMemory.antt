@@ -1,14 +1,13 @@
 -- What words that ask for a table come to over files in memory: the header, and then the rows of all files in the order
 -- of their names, each as if its file were alone.
 use Rattle.std.specs.Prelude.{◌≡◌, ◌≤◌, ◌⊎◌, ℕ, ◌+◌, max, List, [], ◌∷◌, ◌++◌, length, map, true, false}
-use Rattle.std.specs.Prelude.{Option, Some, None, IfSome, Result, Ok, Err, if◌then◌else◌}
+use Rattle.std.specs.Prelude.{Option, Some, None, Result, Ok, Err}
 use Rattle.dcm_base.specs.declared.tag.Tag.{Tag}
 use Rattle.dcm_devices.specs.Memory.{written, room_of}
 use Rattle.dcm_devices.specs.declared.memory.MemOut.{MemOut}
 use Rattle.dcm_files.specs.declared.memory.MemSystem.{MemSystem}
-use Rattle.dcm_names.specs.Names.{can_be_opened, names_of}
+use Rattle.dcm_names.specs.Names.{names_of}
 use Rattle.dcm_names.specs.NamedLines.{unopened_line}
-use Rattle.dcm_names.specs.Reader.{READ_LIMIT}
 use Rattle.dcm_table.specs.declared.column.Column.{Column}
 use Rattle.dcm_table.specs.declared.ending.RowEnd.{RowEnd}
 use Rattle.dcm_table.specs.declared.quoted.TextForm.{TextForm}
@@ -20,11 +19,13 @@ use Rattle.dcm_table_words.specs.Table as table_words
 use Rattle.dcm_table_words.specs.Usages.{usage_line}
 use Rattle.dcm_words.specs.declared.usage.Usage.TheVariants.{Memory}
 use Rattle.dcm_cli.specs.ErrorLines as error_lines
-use Rattle.dcm_cli.specs.InMemory.{bytes_at, Took}
+use Rattle.dcm_cli.specs.InMemory.{Took}
 use Rattle.dcm_cli.specs.Status.{DEVICE, DONE, USAGE}
 use Rattle.dcm_tables.specs.RowOf.{RowOf}
 use Rattle.dcm_tables.specs.Rows.{file_lines, file_status}
-use Rattle.dcm_tables.specs.Table.{listed_path, header_bytes}
+use Rattle.dcm_each.specs.Each.{listed_path}
+pub use Rattle.dcm_each.specs.InMemory.{file_of, IsReadWhole, AreReadWhole}
+use Rattle.dcm_tables.specs.Table.{header_bytes}
 use Rattle.dcm_tables.specs.TableProgram.{column_of, form_of}
 
 -- ---- rows
@@ -49,10 +50,6 @@ AllCome Comes (x ∷ xs) rows = (first : Rows) × (later : Rows) × Comes x firs
     × (rows ≡ and_rows first later)
 
 -- ---- one file
-
--- the bytes of the file of a name, at a path: none where it cannot be opened
-abbrev pub file_of : MemSystem → (name path : List ℕ) → Option (List ℕ)
-file_of s name path = if can_be_opened name then bytes_at s path else None
 
 -- a file or a list cannot be opened
 abbrev pub unopened : (name : List ℕ) → Rows
@@ -160,15 +157,6 @@ no_memory = record {
 -- words mean a table
 abbrev pub MeansTable : (words : List (List ℕ)) → Type 0
 MeansTable words = (t : table_words.Table) × (table_words.meant_table words ≡ Ok t)
-
--- a list among the words has at most as many bytes as are read of one
-abbrev pub IsReadWhole : MemSystem → table_words.Name → Type 0
-IsReadWhole s (table_words.file path) = Unit {0}
-IsReadWhole s (table_words.list path) = IfSome (file_of s path path) (λ bytes. length bytes ≤ READ_LIMIT)
-
-abbrev pub AreReadWhole : MemSystem → List table_words.Name → Type 0
-AreReadWhole s [] = Unit {0}
-AreReadWhole s (name ∷ names) = IsReadWhole s name × AreReadWhole s names
 
 -- so has each list of the table that words mean
 abbrev pub ListsAreReadWhole : (words : List (List ℕ)) → MemSystem → Type 0

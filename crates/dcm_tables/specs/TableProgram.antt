@@ -23,7 +23,10 @@ use Rattle.dcm_cli.specs.Change.{Change}
 use Rattle.dcm_cli.specs.ErrorLines.{Reports, output_line}
 use Rattle.dcm_cli.specs.Program.{Follows, NoMemory, Obeys, unopened_line, unopened_status}
 use Rattle.dcm_cli.specs.Status.{DEVICE, USAGE}
-use Rattle.dcm_tables.specs.Table.{Writing, WritesTable}
+use Rattle.dcm_each.specs.Each.{Writing}
+use Rattle.dcm_dumps.specs.Words.{asks_dumps}
+use Rattle.dcm_dumps.specs.DumpsProgram.{ObeysDumps}
+use Rattle.dcm_tables.specs.Table.{WritesTable}
 
 -- ---- what a table has of its words
 
@@ -56,11 +59,11 @@ pub data FlushesTable {O : Type 0} (w : Writer O) (errors : Change) (from to : O
 -- reported
 pub data PutsTable {S O : Type 0} (w : Writer O) (Writes : Writing S O) (errors : Change) (from to : O) (before : S)
     (status : ℕ) (after : S) : Type 0 where
-  put : (written : O) (reached : ℕ) (of_table of_flush : Change) → Writes of_table from written before (Ok reached) after
-      → FlushesTable w of_flush written to reached status → Follows errors of_table of_flush
+  put : (written : O) (reached : ℕ) (of_rows of_flush : Change) → Writes of_rows from written before (Ok reached) after
+      → FlushesTable w of_flush written to reached status → Follows errors of_rows of_flush
       → PutsTable w Writes errors from to before status after
-  not_put : (failure : WriteFailed) (of_table of_line : Change) → Writes of_table from to before (Err failure) after
-      → Reports of_line output_line → status ≡ DEVICE → Follows errors of_table of_line
+  not_put : (failure : WriteFailed) (of_rows of_line : Change) → Writes of_rows from to before (Err failure) after
+      → Reports of_line output_line → status ≡ DEVICE → Follows errors of_rows of_line
       → PutsTable w Writes errors from to before status after
 
 -- there was no memory for the cells of a table, or standard output cannot be opened: that is reported, and nothing
@@ -95,12 +98,14 @@ pub data ObeysTable {S I O : Type 0} (may : MayDo S I O) (r : Reader I) (w : Wri
       → MakesTable may w (WritesMeant may r w t) errors before status after
       → ObeysTable may r w words errors before status after
 
--- words ask for a table, or they are obeyed as those of the other tools
+-- words ask for a table, or for dumps of several files, or they are obeyed as those of the other tools
 pub data ObeysAny {S I O : Type 0} (may : MayDo S I O) (r : Reader I) (w : Writer O) (words : List (List ℕ))
     (errors : Change) (before : S) (status : ℕ) (after : S) : Type 0 where
   of_table : asks_table words ≡ true → ObeysTable may r w words errors before status after
       → ObeysAny may r w words errors before status after
-  of_others : asks_table words ≡ false → Obeys may r w words errors before status after
+  of_dumps : asks_table words ≡ false → asks_dumps words ≡ true → ObeysDumps may r w words errors before status after
+      → ObeysAny may r w words errors before status after
+  of_others : asks_table words ≡ false → asks_dumps words ≡ false → Obeys may r w words errors before status after
       → ObeysAny may r w words errors before status after
 
 -- the words that the system gave were obeyed; or there was no memory for them

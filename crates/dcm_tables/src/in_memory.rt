@@ -1,6 +1,9 @@
 // Obeying words over files in memory.
 ghost use Rattle.std.specs.Prelude.{◌≡◌, map, true, false};
 ghost use Rattle.dcm_cli.specs.InMemory.{ObeysInMemory};
+ghost use Rattle.dcm_dumps.specs.Words.{asks_dumps};
+ghost use Rattle.dcm_dumps.specs.DumpsInMemory as listed_dumps;
+ghost use Rattle.dcm_dumps.specs.DumpsInMemory.{DumpsInMemory};
 ghost use Rattle.dcm_tables.specs.TableInMemory.{ListsAreReadWhole, TablesInMemory};
 ghost use Rattle.dcm_tables.specs.TableProgram.{asks_table};
 
@@ -13,7 +16,8 @@ use std::alloc::Global;
 /// Obeys words over files in memory. Where they ask for a table and there is room for it, the output is the header and
 /// the row of each file, in the order of the names, and each row is what the bytes of its file give. A list has the names
 /// in the bytes of its file, and at most 2^62 of them are read. Where there is room for the lines, they are written too.
-/// Other words are obeyed as `dcm_cli` does.
+/// Where they ask for dumps of several files, the output is the heading and the dump of each file in the same way. Other
+/// words are obeyed as `dcm_cli` does.
 pub fn obey_in_memory<'a>(
     alloc: Global,
     words: &[&[u8]],
@@ -23,7 +27,11 @@ pub fn obey_in_memory<'a>(
     ensures tables { asks_table (map (λ w. w.now) words.now) ≡ true
         → ListsAreReadWhole (map (λ w. w.now) words.now) system.entry
         → TablesInMemory (map (λ w. w.now) words.now) system.entry errors result.written result.errors result.status }
+    ensures dumps { asks_dumps (map (λ w. w.now) words.now) ≡ true
+        → listed_dumps.ListsAreReadWhole (map (λ w. w.now) words.now) system.entry
+        → DumpsInMemory (map (λ w. w.now) words.now) system.entry errors result.written result.errors result.status }
     ensures others { asks_table (map (λ w. w.now) words.now) ≡ false
+        → asks_dumps (map (λ w. w.now) words.now) ≡ false
         → ObeysInMemory (map (λ w. w.now) words.now) system.entry errors result.written result.errors result.status }
 {
     let mut system = system;

@@ -2,7 +2,8 @@
 //!
 //! - `read_file` reads of one file what its row shows, into `Cells` of dcm_table.
 //! - `write_table` goes over all names: it opens a file, writes its row, and reports what is wrong with it.
-//! - `dcmtools` does what words say: dcm2csv here, all other tools in dcm_cli. It answers how it `Ended`.
+//! - `dcmtools` does what words say: dcm2csv here, dcmdump of several files in dcm_dumps, all else in dcm_cli. It answers
+//!   how it `Ended`.
 //! - `obey_in_memory` does so over files in memory.
 #![tactic(auto)]
 
@@ -13,7 +14,8 @@ mod program;
 mod rows;
 mod table;
 
+pub use dcm_each::Ends;
 pub use file::{FileEnd, read_file};
 pub use in_memory::obey_in_memory;
 pub use program::{Ended, dcmtools, obey, start};
-pub use table::{Ends, write_table};
+pub use table::write_table;

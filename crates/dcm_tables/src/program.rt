@@ -14,6 +14,7 @@ use crate::table::write_table;
 use dcm_base::{DeviceOut, Std, Watched, flush_out};
 use dcm_cli::status::{DEVICE, USAGE};
 use dcm_cli::{Usage, asked, tell, tell_open, tell_output, tell_unopened};
+use dcm_dumps::{asks_dumps, obey_dumps};
 use dcm_files::{Host, System, Unopened, unopened};
 use dcm_table::{Cells, Column, Columns, TextForm};
 use dcm_table_words::{TableColumn, TablePlan, put_usage, table_plan};
@@ -195,6 +196,9 @@ pub fn obey<S: System, E: DeviceOut>(
 {
     if asks_table(words) {
         return obey_table(system, alloc, words, errors);
+    }
+    if asks_dumps(words) {
+        return obey_dumps(system, words, errors);
     }
     dcm_cli::obey(system, alloc, words, errors)
 }

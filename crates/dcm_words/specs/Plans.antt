@@ -10,6 +10,7 @@ use Rattle.dcm_base.specs.declared.fault.WordFault.TheVariants.{BadOptionValue}
 use Rattle.dcm_base.specs.Lines.Limits.{LINE_LIMIT}
 use Rattle.dcm_words.specs.Words as words
 use Rattle.dcm_words.specs.declared.job.Build.{Build}
+use Rattle.dcm_words.specs.declared.job.Dump.{Dump}
 use Rattle.dcm_words.specs.declared.job.Job.{Job}
 use Rattle.dcm_words.specs.declared.job.Job.TheVariants as jobs
 use Rattle.dcm_words.specs.declared.job.Planned.{Planned}
@@ -64,11 +65,20 @@ abbrev pub takes_memory : List (List ℕ) → Bool
 takes_memory [] = false
 takes_memory (tool ∷ others) = bytes_eq tool (codes "dcmodify") && has_paths others
 
+-- what a function made of the options of dcmdump of several files
+abbrev pub dump_job : Dump → words.Job
+dump_job d = words.dump d.dictionary d.mode d.bare
+
+abbrev pub GivesDump : Result (Option Dump) Usage → Result (Option words.Job) Usage → Type 0
+GivesDump (Ok each) meant = meant ≡ Ok (option_map dump_job each)
+GivesDump (Err u) meant = meant ≡ Err u
+
 -- ---- word by word
 
 -- what a word says to a tool
 abbrev pub reader : Tool → List ℕ → Word
 reader tools.Dump w = words.dump_word w
+reader tools.Dumps w = words.dumps_word w
 reader tools.Convert w = words.convert_word w
 reader tools.Build w = words.build_word w
 reader tools.Deidentify w = words.deidentify_word w

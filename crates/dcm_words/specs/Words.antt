@@ -69,6 +69,10 @@ dump_word w =
     else if bytes_eq w (codes "-tb") then Bare Big
     else read_word w
 
+-- to dcmdump of several files, where each file has a heading in any case
+abbrev pub dumps_word : List ℕ → Word
+dumps_word w = if bytes_eq w (codes "+F") then Accepted else dump_word w
+
 abbrev pub convert_word : List ℕ → Word
 convert_word w =
     if bytes_eq w (codes "+t=") then Target None
@@ -238,6 +242,13 @@ dump_plan_with _ s = Err (Whole WrongPaths)
 
 abbrev pub dump_plan : List (List ℕ) → Result Plan Usage
 dump_plan words = elim (said_by dump_word words) [ Ok s ↦ dump_plan_with s.paths s | Err u ↦ Err u ]
+
+-- how dcmdump shows each of several files, by its options; none where they do not go together
+abbrev pub dump_by : Said → Option Job
+dump_by s = if same s.data_set (is_some s.bare) then Some (dump s.dictionary s.mode s.bare) else None
+
+abbrev pub dump_of_each : List (List ℕ) → Result (Option Job) Usage
+dump_of_each words = elim (said_by dumps_word words) [ Ok s ↦ Ok (dump_by s) | Err u ↦ Err u ]
 
 abbrev pub convert_plan : List (List ℕ) → Result Plan Usage
 convert_plan words = elim (said_by convert_word words)

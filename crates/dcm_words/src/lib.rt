@@ -2,7 +2,8 @@
 //!
 //! - `plan` reads the words of a command line into a `Planned`: the paths, and a `Job` with all that its tool has to
 //!   know.
-//! - Words that it refuses are a `Usage`: which word is wrong and why, which edit, or want of memory.
+//! - `dump_of_each` reads the options of dcmdump of several files.
+//! - Words that are refused are a `Usage`: which word is wrong and why, which edit, or want of memory.
 //! - `asked` says whether words ask for a text about the program, a `Topic`, in place of a job.
 //! - The words of dcmdeid may name a key. A `Planned` has its path; a `Deidentify` is to have its bytes.
 //! - The words of dcmodify between its name and its two paths are edits, which `Edits` of dcm_edits reads.
@@ -22,6 +23,6 @@ mod usage;
 mod words;
 
 pub use job::{Build, Convert, Deidentify, Dump, Job, MOST_OF_KEY, Modify, Planned};
-pub use plans::plan;
+pub use plans::{dump_of_each, plan};
 pub use topic::{Topic, asked};
 pub use usage::Usage;

@@ -2,7 +2,7 @@
 ghost use Rattle.std.specs.Prelude.{◌≡◌, ◌+◌, ◌<◌, List, ℕ, drop, length, map, option_map, false};
 ghost use Rattle.dcm_words.specs.Words as spec;
 ghost use Rattle.dcm_words.specs.Plans.{job_of, takes_memory, has_paths, GivesUnlessMemory, edits_between};
-ghost use Rattle.dcm_words.specs.Plans.{Gives, PathsAre, SaidAs, planned as planned_of};
+ghost use Rattle.dcm_words.specs.Plans.{Gives, GivesDump, PathsAre, SaidAs, planned as planned_of};
 
 use crate::job::{Convert, Deidentify, Dump, Job, Modify, Planned};
 use crate::usage::Usage;
@@ -34,6 +34,22 @@ fn plan_dump<'a, A: Allocator>(words: &'a [&'a [u8]]) -> Result<Planned<'a, A>, 
             bare: said.bare,
         }),
     })
+}
+
+/// How dcmdump shows each of several files, by the options among the words after its name; none where they do not go
+/// together. Or the first refusal of a word. Its other words are names, and not looked at.
+pub fn dump_of_each(words: &[&[u8]]) -> Result<Option<Dump>, Usage>
+    ensures { GivesDump result (spec.dump_of_each (map (λ w. w.now) words.now)) }
+{
+    let said = said_by(Tool::Dumps, words)?;
+    if said.data_set != said.bare.is_some() {
+        return Ok(None);
+    }
+    Ok(Some(Dump {
+        dictionary: said.dictionary,
+        mode: said.mode,
+        bare: said.bare,
+    }))
 }
 
 /// A job from one path to another, unless they are the same.

@@ -9,7 +9,7 @@ pub const PROGRAM: &str = "\
 dcmtools: look into DICOM files, convert their transfer syntax, build them from text, edit them, take
 identity out of them, and write tables of their values
 
-  dcmtools dcmdump [OPTION].. FILE           show a file as text
+  dcmtools dcmdump [OPTION].. FILE..         show files as text
   dcmtools dcmconv [OPTION].. FILE OUTPUT    write a file in a transfer syntax
   dcmtools dump2dcm [OPTION].. LINES OUTPUT  build a file from the lines of a dump
   dcmtools dcmodify EDIT.. FILE OUTPUT       write a file with edits
@@ -34,7 +34,7 @@ The manual: man dcmtools, and docs/users/PROFILE.md
 
 /// How dcmdump is used.
 pub const DUMP: &str = "\
-dcmtools dcmdump [OPTION].. FILE: show a DICOM file as text, an element on a line
+dcmtools dcmdump [OPTION].. FILE..: show DICOM files as text, an element on a line
 
   -L     cut displays of more than 66 bytes (default)
   +L     show displays whole
@@ -45,6 +45,10 @@ dcmtools dcmdump [OPTION].. FILE: show a DICOM file as text, an element on a lin
   -tb    with -f: explicit VR big endian
   -dict  read with the extract of 90 elements (default)
   +dict  read with the whole data dictionary of PS3.6
+  +F     show a heading before the dump, of one file too
+
+@LIST in place of a FILE: the names of files, one a line, from the file LIST. - and @- are standard
+input. Of several files each has a heading with its name, and a FILE at fault ends no other.
 
 Exit status: 0 done, 1 words refused, 2 input at fault, 4 file not opened, read or written,
 5 out of memory. The manual: man dcmtools, and docs/users/PROFILE.md

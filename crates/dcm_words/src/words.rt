@@ -17,6 +17,9 @@ use std::alloc::Allocator;
 /// The path of a standard stream.
 pub const STANDARD: &[u8] = b"-";
 
+/// The option by which dcmdump says of one file, too, which it is.
+const SEVERAL: &[u8] = b"+F";
+
 /// The most bytes that a line may have without an option.
 const USUAL_LIMIT: usize = 4096;
 
@@ -27,6 +30,8 @@ const LEAST_LIMIT: usize = 80;
 #[derive(Clone, Copy, Debug, PartialEq, Eq)]
 pub enum Tool {
     Dump,
+    /// dcmdump of several files.
+    Dumps,
     Convert,
     Build,
     Deidentify,
@@ -109,6 +114,17 @@ fn dump_word(word: &[u8]) -> Word
     }
 }
 
+/// What a word says to dcmdump of several files: their names are read apart.
+fn dumps_word(word: &[u8]) -> Word
+    ensures { result ≡ spec.dumps_word word.now }
+{
+    if word == SEVERAL {
+        Word::Accepted
+    } else {
+        dump_word(word)
+    }
+}
+
 /// What a word says to dcmconv, which does anyway what `-e` and `+fo` ask for.
 fn convert_word(word: &[u8]) -> Word
     ensures { result ≡ spec.convert_word word.now }
@@ -172,6 +188,7 @@ fn word_of(tool: Tool, word: &[u8]) -> Word
 {
     match tool {
         Tool::Dump => dump_word(word),
+        Tool::Dumps => dumps_word(word),
         Tool::Convert => convert_word(word),
         Tool::Build => build_word(word),
         Tool::Deidentify => deidentify_word(word),

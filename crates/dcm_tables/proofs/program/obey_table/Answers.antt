@@ -3,7 +3,7 @@ use Rattle.dcm_table_words.specs.Table.{meant_table}
 use Rattle.dcm_table_words.specs.Plans.{table_as, GivesTable}
 use Rattle.dcm_tables.specs.TableProgram.{refused, tabled}
 use Rattle.dcm_cli.proofs.Passes.Readers.{writer}
-use Rattle.dcm_tables.proofs.Made.{told}
+use Rattle.dcm_each.proofs.Names.{told}
 use Rattle.dcm_tables.proofs.program.obey_table.Goals as goal
 
 pub returns-in-Ok-clause-obeys : goal.returns-in-Ok-clause-obeys

@@ -5,7 +5,7 @@ use Rattle.dcm_cli.proofs.Passes.Readers.{members, writer}
 use Rattle.dcm_tables.specs.Table.{WritesTable}
 use Rattle.dcm_tables.specs.TableProgram.{put, not_put}
 use Rattle.dcm_tables.proofs.Made.{alike}
-use Rattle.dcm_tables.proofs.Names.{follows}
+use Rattle.dcm_each.proofs.Names.{follows}
 use Rattle.dcm_tables.proofs.program.put_table.Goals as goal
 
 pub returns-in-Ok-clause-puts : goal.returns-in-Ok-clause-puts

@@ -2,7 +2,7 @@ use Rattle.std.proofs.Common.{rules, refl, ap, Ok}
 use Rattle.dcm_cli.proofs.Passes.Readers.{writer}
 use Rattle.dcm_cli.proofs.Runs.Obeying.{nothing_told}
 use Rattle.dcm_tables.specs.Rows.{written, not_written, not_read}
-use Rattle.dcm_tables.proofs.Made.{told}
+use Rattle.dcm_each.proofs.Names.{told}
 use Rattle.dcm_tables.proofs.rows.do_file.Goals as goal
 
 pub returns-in-Unread-clause-does : goal.returns-in-Unread-clause-does

@@ -1,0 +1,4 @@
+pub mod Names
+pub mod Mapped
+pub mod InMemory
+pub mod ListGiven
