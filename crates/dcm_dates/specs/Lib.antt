@@ -1,0 +1,4 @@
+pub mod Calendar
+pub mod Numbered
+pub mod DateText
+pub mod Moved
