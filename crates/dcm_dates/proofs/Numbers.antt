@@ -1,10 +1,11 @@
 -- Days and their numbers.
 use Rattle.std.proofs.Common.{◌≡◌, ◌<◌, ◌≤◌, inl, inr, ℕ, zero, suc, ◌+◌, ◌-◌, true, refl, arith, ap, ◌∙◌}
 use Rattle.std.specs.Prelude.{◌&&◌, nat_le}
-use Rattle.std.proofs.lemmas.Bool.{cases_lt, and_parts, leb-true, le-leb}
+use Rattle.std.proofs.lemmas.Bool.{cases_lt, lt-ltb, le-ltb, and_parts, leb-true, le-leb}
 use Rattle.dcm_dates.specs.declared.date.Date.{Date}
 use Rattle.dcm_dates.specs.Calendar.{is_between, is_date, days_of_year, days_of_month, days_of_months, days_before, day_number}
 use Rattle.dcm_dates.specs.Numbered.{in_years, in_months, date_of, is_day, number_of}
+use Rattle.dcm_dates.specs.Laws.{next_day}
 use Rattle.dcm_dates.proofs.Years.{counted_years, counted_months, first_before, last_before, months_of_year, later_before, later_months, next_before, years_end, months_end, year_here, year_passed, month_here, month_passed}
 
 -- what the test of a day says
@@ -16,11 +17,11 @@ pub record IsDate (y m d : ℕ) : Type 0 where
   pub first_day : 1 ≤ d
   pub last_day : d ≤ days_of_month y m
 
-between : (least most n : ℕ) → is_between least most n ≡ true → (least ≤ n) × (n ≤ most)
+pub between : (least most n : ℕ) → is_between least most n ≡ true → (least ≤ n) × (n ≤ most)
 between least most n e = let parts = and_parts (nat_le least n) (nat_le n most) e in
     (leb-true least n parts.0, leb-true n most parts.1)
 
-within : (least most n : ℕ) → least ≤ n → n ≤ most → is_between least most n ≡ true
+pub within : (least most n : ℕ) → least ≤ n → n ≤ most → is_between least most n ≡ true
 within least most n low high = rw (le-leb least n low, le-leb n most high) refl
 
 pub date_is : (y m d : ℕ) → is_date y m d ≡ true → IsDate y m d
@@ -181,3 +182,33 @@ day_along date other e h = rw e h
 
 pub number_along : (date other : Date) (n : ℕ) → date ≡ other → number_of other ≡ n → number_of date ≡ n
 number_along date other n e h = rw e h
+
+-- ---- the next day
+
+first_of_month : (y k : ℕ) → day_number y (suc k + 1) 1 ≡ day_number y (suc k) (days_of_month y (suc k)) + 1
+first_of_month y k =
+    let this : suc k - 1 ≡ k = omega arith in
+    let next : suc k + 1 - 1 ≡ suc k = omega arith in
+    omega (arith, ap (days_of_months y) this, ap (days_of_months y) next)
+
+first_of_year : (y : ℕ) → 1 ≤ y → day_number (y + 1) 1 1 ≡ day_number y 12 (days_of_month y 12) + 1
+first_of_year y low =
+    let step = next_before y low in
+    let all = months_of_year y in
+    let next : y + 1 ≡ suc y = omega arith in
+    omega (arith, ap days_before next)
+
+pub next_number : (date : Date) → is_day date ≡ true → number_of (next_day date) ≡ number_of date + 1
+next_number date e = next_of date.year date.month date.day (date_is date.year date.month date.day e)
+  where
+    next_of : (y m d : ℕ) → IsDate y m d → number_of (next_day (record { year = y; month = m; day = d })) ≡ day_number y m d + 1
+    next_of y zero d h = absurd (omega (arith, h.first_month))
+    next_of y (suc k) d h = elim (cases_lt d (days_of_month y (suc k))) [
+      | inl within ↦ rw (lt-ltb d (days_of_month y (suc k)) within) (omega arith)
+      | inr last ↦ rw (le-ltb d (days_of_month y (suc k)) last) (elim (cases_lt (suc k) 12) [
+        | inl month ↦ rw (lt-ltb (suc k) 12 month) (omega (arith, first_of_month y k, h.last_day))
+        | inr december ↦
+            let twelve : suc k ≡ 12 = omega (arith, h.last_month) in
+            rw (le-ltb (suc k) 12 december) (omega (arith, first_of_year y h.first_year, h.last_day, ap (λ (m : ℕ). days_of_month y m) twelve, ap (λ (m : ℕ). days_of_months y (m - 1)) twelve))
+      ])
+    ]

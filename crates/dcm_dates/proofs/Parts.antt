@@ -2,7 +2,7 @@
 use Rattle.std.proofs.Common.{◌≡◌, ◌<◌, ◌≤◌, ℕ, ℤ, ◌+◌, Bool, true, false, List, [], ◌∷◌, ◌++◌, length, take, drop, Option, Some, None, refl, arith, ap, ◌∙◌, sym, ◌⊎◌, inl, inr, length-append, append_assoc}
 use Rattle.std.specs.Prelude.{option_map, option_and_then, position, cond, ◌==◌, if◌then◌else◌}
 use Rattle.std.specs.List.{slice_split, onto_first, join_with_byte}
-use Rattle.dcm_dates.specs.declared.moved.DateKind.{DateKind}
+use Rattle.dcm_dates.specs.declared.moving.DateKind.{DateKind}
 use Rattle.std.proofs.lemmas.Bool.{eqb-true, lt-leb, le-leb}
 use Rattle.std.proofs.lemmas.List.{take-append-drop}
 use Rattle.dcm_dates.specs.Numbered.{date_of}
@@ -12,7 +12,7 @@ use Rattle.dcm_dates.proofs.Dates.{date_moved, digits_length, shown_length}
 use Rattle.dcm_dates.proofs.Places.{parts_first, parts_last}
 
 -- there is a first part
-some_part : (p : ℕ → Bool) (xs : List ℕ) → (q : List ℕ) × (qs : List (List ℕ)) × (slice_split p xs ≡ q ∷ qs)
+pub some_part : (p : ℕ → Bool) (xs : List ℕ) → (q : List ℕ) × (qs : List (List ℕ)) × (slice_split p xs ≡ q ∷ qs)
 some_part p [] = ([], [], refl)
 some_part p (x ∷ xs) = by_test (p x) (slice_split p xs)
   where
@@ -125,7 +125,7 @@ took whole None rest out bytes w p = absurd (cc)
 took whole (Some b) None out bytes w p = w
 took whole (Some b) (Some r) out bytes w p =
     let same : b ≡ bytes = cc in
-    w ∙ ap (λ (l : List ℕ). Some l) (rw (same, append_assoc, append_assoc) refl)
+    w ∙ ap (λ (l : List ℕ). Some l) (rw same (simp append_assoc))
 
 pub failed : (whole part rest : Option (List ℕ)) (out : List ℕ)
     → whole ≡ behind out (option_and_then (λ n. before_others n rest) part) → part ≡ None → whole ≡ None

@@ -2,3 +2,4 @@ pub mod Calendar
 pub mod Numbered
 pub mod DateText
 pub mod Moved
+pub mod Laws

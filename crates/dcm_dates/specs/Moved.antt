@@ -2,8 +2,8 @@
 use Rattle.std.specs.Prelude.{ℕ, ℤ, pos, negsuc, ◌+ℤ◌, Bool, ◌==◌, nat_le, List, [], ◌∷◌, ◌++◌, length, take, drop}
 use Rattle.std.specs.Prelude.{Option, Some, None, option_map, option_and_then, unwrap_or, MatchOption, ◌≡◌, if◌then◌else◌}
 use Rattle.std.specs.List.{slice_split, join_with_byte}
-use Rattle.dcm_dates.specs.declared.moved.DateKind.{DateKind}
-use Rattle.dcm_dates.specs.declared.moved.DateKind.TheVariants.{Da, Dt}
+use Rattle.dcm_dates.specs.declared.moving.DateKind.{DateKind}
+use Rattle.dcm_dates.specs.declared.moving.DateKind.TheVariants.{Da, Dt}
 use Rattle.dcm_dates.specs.Calendar.{is_between, LAST_NUMBER}
 use Rattle.dcm_dates.specs.Numbered.{date_of, number_of}
 use Rattle.dcm_dates.specs.DateText.{shown, shows_day, digits_of, is_nothing, is_rest}

@@ -3,7 +3,7 @@ use Rattle.std.proofs.lemmas.Int.{to_z-of_z}
 use Rattle.dcm_dates.specs.DateText.{is_nothing}
 use Rattle.dcm_dates.specs.Moved.{may_follow, moved_date}
 use Rattle.dcm_dates.proofs.Parts.{part_is_moved}
-use Rattle.dcm_dates.proofs.moved.add_part.Goals as goal
+use Rattle.dcm_dates.proofs.moving.add_part.Goals as goal
 
 pub returns : goal.returns
 returns c =

@@ -4,7 +4,7 @@ use Rattle.std.proofs.lemmas.Int.{to_z-of_z}
 use Rattle.dcm_dates.specs.Moved.{all_moved, moved_part}
 use Rattle.dcm_dates.proofs.Places.{found}
 use Rattle.dcm_dates.proofs.Parts.{all_first, all_last, behind, took, failed, ends, fails, part_length}
-use Rattle.dcm_dates.proofs.moved.add_parts.Goals as goal
+use Rattle.dcm_dates.proofs.moving.add_parts.Goals as goal
 
 pub returns-in_err-add_part : goal.returns-in_err-add_part
 returns-in_err-add_part c =

@@ -2,7 +2,7 @@ use Rattle.std.proofs.Common.{◌∙◌, sym, ap, w32, ℤ}
 use Rattle.std.proofs.lemmas.Int.{to_z-of_z}
 use Rattle.dcm_dates.specs.Moved.{moved_number}
 use Rattle.dcm_dates.proofs.Dates.{shows_none, moved_none, moved_some}
-use Rattle.dcm_dates.proofs.moved.moved_date.Goals as goal
+use Rattle.dcm_dates.proofs.moving.moved_date.Goals as goal
 
 pub number-requires : goal.number-requires
 number-requires c = c.in_ok-date.ensures.day

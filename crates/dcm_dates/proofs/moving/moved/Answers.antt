@@ -2,7 +2,7 @@ use Rattle.std.proofs.Common.{◌∙◌, sym, ap, ℤ, arith, w32}
 use Rattle.std.proofs.lemmas.Int.{to_z-of_z}
 use Rattle.dcm_dates.specs.Moved.{all_moved}
 use Rattle.dcm_dates.proofs.Parts.{moved_long, moved_some, moved_none}
-use Rattle.dcm_dates.proofs.moved.moved.Goals as goal
+use Rattle.dcm_dates.proofs.moving.moved.Goals as goal
 
 pub returns-then-text-gt-MOST_HELD : goal.returns-then-text-gt-MOST_HELD
 returns-then-text-gt-MOST_HELD c =

@@ -1,7 +1,7 @@
 use Rattle.std.proofs.Common.{◌≡◌, ◌+◌, length}
 use Rattle.dcm_dates.specs.Moved.{all_moved}
 use Rattle.dcm_dates.proofs.Parts.{behind}
-use Rattle.dcm_dates.proofs.moved.add_parts.Given as goal
+use Rattle.dcm_dates.proofs.moving.add_parts.Given as goal
 
 -- the parts so far stand there, and those of the rest are to come
 abbrev pub invariant-loop-at : goal.invariant-loop-at
