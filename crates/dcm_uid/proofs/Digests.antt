@@ -1,5 +1,5 @@
 -- A digest is of bytes, so the number of its UUID has at most 128 bits.
-use Rattle.std.proofs.Common.{ℕ, zero, suc, ◌^◌, ◌/◌, ◌%◌, ◌<◌, List, [], ◌∷◌, ◌++◌, slice_index, arith}
+use Rattle.std.proofs.Common.{ℕ, zero, suc, ◌^◌, ◌/◌, ◌%◌, ◌<◌, List, [], ◌∷◌, ◌++◌, slice_index, arith, ◌≡◌, length, ◌*◌, refl, length-append}
 use Rattle.std.specs.Int.{w32, byte_at, bytes_high_first, to_be_bytes}
 use Rattle.sha2.specs.Sha256.{digest_bytes, sha256}
 use Rattle.dcm_base.specs.Tables.Number.{AreBytes}
@@ -45,3 +45,17 @@ uuid_fits d are = omega (arith, are 0, are 1, are 2, are 3, are 4, are 5, are 7,
 pub hmac_fits : (key b : List ℕ) → uuid_number (hmac_sha256 key b) < 2 ^ 128
 unfolding hmac_sha256
 hmac_fits key b = uuid_fits _ (sha256_is _)
+
+-- a code is of 32 bytes
+pub hmac_bytes : (key b : List ℕ) → AreBytes (hmac_sha256 key b)
+unfolding hmac_sha256
+hmac_bytes key b = sha256_is _
+
+digest_length : (h : List ℕ) (n : ℕ) → length (digest_bytes h n) ≡ 4 * n
+unfolding digest_bytes
+digest_length h zero = refl
+digest_length h (suc n) = omega (arith, digest_length h n, length-append (digest_bytes h n) (to_be_bytes w32 (slice_index h n)))
+
+pub hmac_length : (key b : List ℕ) → length (hmac_sha256 key b) ≡ 32
+unfolding hmac_sha256 sha256
+hmac_length key b = digest_length _ 8

@@ -1,5 +1,6 @@
 // HMAC-SHA-256 (RFC 2104), which takes the block of the key once.
-ghost use Rattle.std.specs.Prelude.{◌≡◌, ◌≤◌, ℕ, ⊤, List, length, map, bit_xor};
+ghost use Rattle.std.specs.Prelude.{◌≡◌, ◌≤◌, ℕ, ⊤, List, length, map, bit_xor, ◌++◌};
+ghost use Rattle.sha2.specs.Hashers.{Holds256};
 ghost use Rattle.dcm_uid.specs.Hmac.{IsKey, filled, hmac_sha256, pad, short_key};
 
 use sha2::{Digest, Sha256};
@@ -69,15 +70,35 @@ impl Key {
         }
     }
 
+    /// The authentication code of the message that was hashed after the block of the inner pass.
+    fn code_of(&self, inner: Sha256) -> [u8; 32]
+        ensures { (key message : List ℕ) → IsKey self.now key → Holds256 inner (pad 0x36 key ++ message)
+            → result ≡ hmac_sha256 key message }
+    {
+        let digest = inner.finalize();
+        let mut outer = copied(&self.outer);
+        outer.update(&digest);
+        outer.finalize()
+    }
+
     /// The authentication code of a message under the key.
     pub fn hmac(&self, message: &[u8]) -> [u8; 32]
         ensures { (key : List ℕ) → IsKey self.now key → result ≡ hmac_sha256 key message.now }
     {
         let mut inner = copied(&self.inner);
         inner.update(message);
-        let digest = inner.finalize();
-        let mut outer = copied(&self.outer);
-        outer.update(&digest);
-        outer.finalize()
+        self.code_of(inner)
+    }
+
+    /// The authentication code of a message in three pieces.
+    pub fn hmac_of_three(&self, first: &[u8], second: &[u8], third: &[u8]) -> [u8; 32]
+        ensures { (key : List ℕ) → IsKey self.now key
+            → result ≡ hmac_sha256 key (first.now ++ (second.now ++ third.now)) }
+    {
+        let mut inner = copied(&self.inner);
+        inner.update(first);
+        inner.update(second);
+        inner.update(third);
+        self.code_of(inner)
     }
 }

@@ -9,7 +9,9 @@
 
 mod hmac;
 pub mod laws;
+mod patients;
 mod uid;
 
 pub use hmac::Key;
+pub use patients::{MOST_OF_PATIENT, PSEUDONYM_SIZE, days, patient, pseudonym};
 pub use uid::{new_uid, new_value};

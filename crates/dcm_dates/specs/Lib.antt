@@ -1,0 +1,5 @@
+pub mod Calendar
+pub mod Numbered
+pub mod DateText
+pub mod Moved
+pub mod Laws
