@@ -12,5 +12,6 @@ pub mod TextLaws
 pub mod Wholes
 pub mod WholeUnits
 pub mod TextSteps
+pub mod WholesInModes
 pub mod UpperDigits
 pub mod TextLanes
