@@ -13,5 +13,6 @@ pub mod Wholes
 pub mod WholeUnits
 pub mod TextSteps
 pub mod WholesInModes
+pub mod FewUnits
 pub mod UpperDigits
 pub mod TextLanes

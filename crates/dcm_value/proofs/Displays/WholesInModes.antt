@@ -19,7 +19,7 @@ use Rattle.dcm_value.proofs.Displays.TextSteps.{last_of, whole_none, count_none,
 use Rattle.dcm_value.proofs.Displays.Wholes.{known_length, unpadded_within}
 
 -- what is not cut is the same in both
-uncut : (mode : Mode) (d : List ℕ) → length d ≤ 66 → padded (shortened mode d) ≡ padded d
+pub uncut : (mode : Mode) (d : List ℕ) → length d ≤ 66 → padded (shortened mode d) ≡ padded d
 uncut Short d few = ap (λ b. padded (cond b (take 63 d ++ codes "...") d)) (le-ltb 66 (length d) few)
 uncut Full d few = refl
 

@@ -11,11 +11,11 @@ use crate::dump::layout::{Line, begin_line, put_rest};
 use dcm_base::{DeviceOut, Mode, Syntax, Vr, Watched, WriteFailed};
 use dcm_head::Head;
 use dcm_stream::Token;
-use dcm_value::{ValueText, append_whole};
+use dcm_value::{ValueText, append_few, append_whole};
 
 /// Appends the display of a whole value, with the spaces up to 40 bytes, and answers how many values there are. Nothing
-/// is written of it, so that this never fails. In full mode only what is known at once is appended, since all else may
-/// be longer than a line.
+/// is written of it, so that this never fails. In full mode only what is known at once and few numbers are appended,
+/// since all else may be longer than a line.
 #[inline(always)]
 fn append_value<W: DeviceOut>(
     mode: Mode,
@@ -34,6 +34,9 @@ fn append_value<W: DeviceOut>(
 {
     if let Some(count) = append_whole(vr, syntax, value, line) {
         return Ok(Some(count));
+    }
+    if let Some(numbers) = append_few(vr, syntax, value, line) {
+        return Ok(Some(numbers));
     }
     match mode {
         Mode::Short => Ok(Some(append_by_text(vr, syntax, value, line, out)?)),

@@ -12,4 +12,4 @@ returns-in_ok-append_by_text-in-Short-clause-line g c =
     let new = c.append_by_text.new.line.items in
     let before = a.line.now.items in
     subst (λ (m : Mode). (new ≡ before ++ text_in m a.vr a.syntax a.value.now) × (c.in_ok-append_by_text-in-Short.field-0 ≡ count_in m a.vr a.syntax a.value.now) × (length new ≤ 337)) (sym c.in-Short.is)
-    (told.line ∙ ap (λ (z : List ℕ). z ++ end_writes (whole a.vr a.syntax a.value.now)) c.in_default.ensures.items ∙ ap (λ (z : List ℕ). before ++ z) (short_text a.vr a.syntax a.value.now), told.count, told.within)
+    (told.line ∙ ap (λ (z : List ℕ). z ++ end_writes (whole a.vr a.syntax a.value.now)) (c.in_default-append_few.ensures.none ∙ c.in_default.ensures.items) ∙ ap (λ (z : List ℕ). before ++ z) (short_text a.vr a.syntax a.value.now), told.count, told.within)
