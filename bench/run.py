@@ -344,6 +344,8 @@ def make_small_elements(binary, folder):
     make_report(path("report"))
     make_empty_elements(path("empty_elements"))
     make_empty_items(path("empty_items"))
+    make_frames(path("frames"))
+    frames = f"{FRAMES:,} frames, {7 * FRAMES:,} values"
     make_dump(binary, path("report"), path("report.dump"))
     converted = {option: path(f"report{option}") for option in ("+ti", "+tb")}
     for option, file in converted.items():
@@ -355,6 +357,7 @@ def make_small_elements(binary, folder):
             (report, "report"),
             (f"{EMPTY:,} elements with no value", "empty_elements"),
             (f"{EMPTY:,} items with no element", "empty_items"),
+            (frames, "frames"),
         ]
         for option in ("-L", "+L")
     ]
@@ -368,8 +371,6 @@ def make_small_elements(binary, folder):
     label = f"-ma, -m and {PATH_EDITS} of -m with paths"
     modifications = [Work("dcmodify", report, edits, path("report"), path("output"), label)]
     one_edit = [Work("dcmodify", report, ["-m", "PatientName=Mark^Bench"], path("report"), path("output"))]
-    make_frames(path("frames"))
-    frames = f"{FRAMES:,} frames, {7 * FRAMES:,} values"
     identities = [Work("dcmdeid", frames, [], path("frames"), path("output"))]
     os.sync()
     return dumps, others, one_edit + modifications, identities

@@ -12,5 +12,7 @@ pub mod TextLaws
 pub mod Wholes
 pub mod WholeUnits
 pub mod TextSteps
+pub mod WholesInModes
+pub mod FewUnits
 pub mod UpperDigits
 pub mod TextLanes

@@ -2,8 +2,8 @@
 //!
 //! - `ValueText` is the text of one value as a dump shows it, with its pad byte and its values counted. It is fed the
 //!   value in any pieces and writes the text as it goes; with `Mode::Short` it holds the 66 bytes that may be cut.
-//! - `append_whole` appends to a line what the short dump shows of a whole value, without a state, where that is known at
-//!   once.
+//! - `append_whole` appends to a line what a dump shows of a whole value, without a state, where that is known at once,
+//!   and `append_few` does so for few numbers.
 //! - `read_value` reads such a text back into the bytes of the value, in little endian; `read_value_into` does so in a
 //!   buffer.
 //! - `escape` and `unescape` are one byte of a text, `tag_of_text` a tag, `swap` turns the units of a big endian value.
@@ -20,6 +20,7 @@ mod decimals;
 mod digits;
 mod display;
 mod escapes;
+mod few;
 mod hexadecimal;
 mod lanes;
 pub mod laws;
@@ -34,6 +35,7 @@ mod whole;
 pub use dcm_base::Mode;
 pub use digits::unescape;
 pub use escapes::escape;
+pub use few::append_few;
 pub use lanes::swap;
 pub use parts::tag_of_text;
 pub use reading::{BadValue, read_value, read_value_into};

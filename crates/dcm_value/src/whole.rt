@@ -1,6 +1,7 @@
 // The display of a whole value that is known at once.
 ghost use Rattle.std.specs.Prelude.{◌≡◌, ◌==◌, if◌then◌else◌, ◌+◌, ◌<◌, ◌≤◌, ◌++◌, length, codes, count_by};
-ghost use Rattle.std.specs.Prelude.{MatchOption, is_some};
+ghost use Rattle.std.specs.Prelude.{IfSome, MatchOption, is_some};
+ghost use Rattle.dcm_base.specs.declared.mode.Mode.{Mode as AnyMode};
 ghost use Rattle.dcm_base.specs.Dump.ValueText.{shape, padded, bracketed, identified, is_single as is_one};
 ghost use Rattle.dcm_base.specs.Dump.ValueText.{unpadded as kept};
 ghost use Rattle.dcm_value.specs.Way as ways;
@@ -22,10 +23,11 @@ const LONGEST_NAME: usize = 65;
 /// The bytes that tell of a value without bytes.
 const NO_VALUE: usize = 20;
 
-/// Appends what the short dump shows of a whole value, with the spaces up to 40 bytes, where that is known at once: of
-/// a value without bytes, of a text of at most 64 bytes that is shown as it is, and of a unique identifier that is so or
-/// has a name. The answer is how many values there are; or nothing, and then nothing is appended. Most values of a file
-/// are so, and here none needs a `ValueText`, whose state is larger than they are.
+/// Appends what a dump shows of a whole value, with the spaces up to 40 bytes, where that is known at once: of a value
+/// without bytes, of a text of at most 64 bytes that is shown as it is, and of a unique identifier that is so or has a
+/// name. None of these is cut, so both modes show the same. The answer is how many values there are; or nothing, and
+/// then nothing is appended. Most values of a file are so, and here none needs a `ValueText`, whose state is larger
+/// than they are.
 pub fn append_whole<const N: usize>(
     vr: Vr,
     syntax: Syntax,
@@ -36,6 +38,8 @@ pub fn append_whole<const N: usize>(
     ensures items { MatchOption result (line.new.items ≡ line.old.items)
         (λ n. (line.new.items ≡ line.old.items ++ end_writes (spec.whole vr syntax value.now))
         × (n ≡ multiplicity (spec.whole vr syntax value.now))) }
+    ensures modes { (mode : AnyMode) → IfSome result (λ n. (line.new.items
+        ≡ line.old.items ++ spec.text_in mode vr syntax value.now) × (n ≡ spec.count_in mode vr syntax value.now)) }
     ensures within { length line.new.items ≤ length line.old.items + 66 }
     ensures known { is_some result ≡ spec.is_known vr value.now }
 {

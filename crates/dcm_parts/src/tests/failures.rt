@@ -1,12 +1,12 @@
 // What callers are told of a sink after its writer failed, of an element that came whole as of one that came by tokens.
 use super::{holds, words_of};
 use dcm_base::{Dictionary, Form, Length, MemOut, Syntax, Tag, Vr, Watched, form_of, read_as};
-use dcm_deid::DeidentifySink;
+use dcm_deid::{DeidentifySink, Options};
 use dcm_editor::{EditSink, Edits};
 use dcm_head::Head;
 use dcm_sinks::EncodeSink;
 use dcm_stream::{Bar, Sink, Token, take_all};
-use dcm_words::{Deidentify, Job, plan};
+use dcm_words::{Job, plan};
 use std::test::Fail;
 
 /// The most bytes for which an output has room.
@@ -66,8 +66,7 @@ fn output(rt: HostRuntime, room: usize) -> Result<Watched<MemOut>, Fail> {
 }
 
 /// Gives a sink an element.
-fn took<S: Sink>(sink: &mut S, leaf: &Leaf, way: Way) -> bool {
-    let (tag, vr, value) = (leaf.tag, leaf.vr, leaf.value);
+fn took<S: Sink>(sink: &mut S, tag: Tag, vr: Vr, value: &[u8], way: Way) -> bool {
     if value.len() > MOST_ROOM {
         return false;
     }
@@ -129,7 +128,9 @@ fn told_of_edits(
     let mut out = output(rt, room)?;
     let mut sink = EncodeSink::new(&mut out, TARGET);
     let mut edited = EditSink::new(edits, &mut sink);
-    let took = took(&mut edited, &first(), way) && took(&mut edited, leaf, way);
+    let before = first();
+    let took = took(&mut edited, before.tag, before.vr, before.value, way)
+        && took(&mut edited, leaf.tag, leaf.vr, leaf.value, way);
     let rest = edited.unplaced();
     Ok(answers(&edited, took, leaf.tag, rest))
 }
@@ -137,15 +138,18 @@ fn told_of_edits(
 /// The same of what takes identity out.
 fn told_of_identity(
     rt: HostRuntime,
-    what: &Deidentify,
+    options: Options,
     leaf: &Leaf,
     room: usize,
     way: Way,
 ) -> Result<Told, Fail> {
     let mut out = output(rt, room)?;
     let mut sink = EncodeSink::new(&mut out, TARGET);
-    let mut without = DeidentifySink::new(what.options, b"key", &mut sink);
-    let took = took(&mut without, &first(), way) && took(&mut without, leaf, way);
+    let key = [b'k', b'e', b'y'];
+    let mut without = DeidentifySink::new(options, &key, &mut sink);
+    let before = first();
+    let took = took(&mut without, before.tag, before.vr, before.value, way)
+        && took(&mut without, leaf.tag, leaf.vr, leaf.value, way);
     let rest = u64::from(without.pixels_may_show());
     Ok(answers(&without, took, leaf.tag, rest))
 }
@@ -222,25 +226,34 @@ fn leaves_of_each_fate() -> [Leaf; 9] {
     ]
 }
 
+/// What a plan takes out, where it does that.
+fn options_of(job: &Job) -> Option<Options> {
+    match job {
+        Job::Deidentify(what) => Some(what.options),
+        _ => None,
+    }
+}
+
 /// What a line without further words takes out.
-fn plain_taking(rt: HostRuntime) -> Result<Deidentify, Fail> {
+fn plain_options(rt: HostRuntime) -> Result<Options, Fail> {
     let words = words_of(rt, "dcmdeid a b")?;
-    let Ok(planned) = plan(rt.alloc(), words.as_slice()) else {
-        return Err("refused".into());
+    let options = match plan(rt.alloc(), words.as_slice()) {
+        Ok(planned) => options_of(&planned.job),
+        Err(_refused) => None,
     };
-    match planned.job {
-        Job::Deidentify(what) => Ok(what),
-        _ => Err("another job".into()),
+    match options {
+        Some(options) => Ok(options),
+        None => Err("another job".into()),
     }
 }
 
 #[test]
 fn tells_the_same_of_each_fate(rt: HostRuntime) -> Result<(), Fail> {
-    let what = plain_taking(rt)?;
+    let options = plain_options(rt)?;
     for leaf in leaves_of_each_fate() {
         for room in 0..MOST_ROOM {
-            let whole = told_of_identity(rt, &what, &leaf, room, Way::Whole)?;
-            let by_tokens = told_of_identity(rt, &what, &leaf, room, Way::ByTokens)?;
+            let whole = told_of_identity(rt, options, &leaf, room, Way::Whole)?;
+            let by_tokens = told_of_identity(rt, options, &leaf, room, Way::ByTokens)?;
             holds(&rt, leaf.name, whole == by_tokens);
         }
     }
@@ -271,13 +284,13 @@ fn notes_an_edited_element_once_its_head_is_out(rt: HostRuntime) -> Result<(), F
 #[test]
 fn notes_a_kept_element_once_its_head_is_out(rt: HostRuntime) -> Result<(), Fail> {
     let kind = element("kind", 0x0008, 0x0060, Vr::CS, b"MR");
-    let what = plain_taking(rt)?;
+    let options = plain_options(rt)?;
     for (room, same) in [
         (TO_VALUE - 1, Ok(())),
         (TO_VALUE, Err(Bar::Order)),
         (TO_VALUE + 1, Err(Bar::Order)),
     ] {
-        let told = told_of_identity(rt, &what, &kind, room, Way::Whole)?;
+        let told = told_of_identity(rt, options, &kind, room, Way::Whole)?;
         assert!(rt; !told.took && told.same == same && told.rest == 0);
     }
     Ok(())

@@ -1,4 +1,4 @@
--- The line of an element with its whole value, in short mode.
+-- The line of an element with its whole value.
 use Rattle.std.proofs.Common.{◌≡◌, ◌∙◌, ap, sym, refl, ℕ, ◌+◌, ◌≤◌, List, [], ◌∷◌, ◌++◌, length, map, Bool, false, cond, append_assoc, arith}
 use Rattle.std.specs.Prelude.{fold}
 use Rattle.std.proofs.lemmas.List.{append-nil}
@@ -19,7 +19,8 @@ use Rattle.dcm_stream.specs.Tokens.{whole_atoms, IsLeaf}
 use Rattle.dcm_stream.specs.Reading.{size_of}
 use Rattle.dcm_value.specs.Display.{at_once}
 use Rattle.dcm_value.specs.Progress.{Progress, started, opened, adds, step, writes, feeds, finishes, closing, closing_writes, end_writes, multiplicity}
-use Rattle.dcm_value.specs.Whole.{whole}
+use Rattle.dcm_value.specs.Laws.{after}
+use Rattle.dcm_value.specs.Whole.{whole, text_in, count_in}
 use Rattle.dcm_sinks.specs.declared.dump.lines.Owner.{Owner}
 use Rattle.dcm_sinks.specs.declared.dump.lines.Owner.TheVariants.{Element}
 use Rattle.dcm_sinks.specs.DumpSink.{DumpState, no_value, open_value, begin, begin_writes, owner_rest, dump_opens, dump_opens_writes, live_step, live_writes, dump_step, dump_writes}
@@ -49,9 +50,15 @@ finishes_short : (vr : Vr) (syntax : Syntax) (value : List ℕ) → finishes (wh
 unfolding finishes
 finishes_short vr syntax value = ap (λ (z : List ℕ). z ++ end_writes (whole vr syntax value)) (closing_none vr syntax value)
 
+-- so in short mode all of it comes in the end
+pub short_text : (vr : Vr) (syntax : Syntax) (value : List ℕ) → end_writes (whole vr syntax value) ≡ text_in Short vr syntax value
+short_text vr syntax value =
+    sym (finishes_short vr syntax value)
+    ∙ ap (λ (z : List ℕ). z ++ finishes (whole vr syntax value)) (sym (feeds_none vr syntax (length value) value))
+
 -- ---- an element
 
-module _ (s : DumpState) (head : Head) (syntax : Syntax) (value : List ℕ) (live : s.is_lost ≡ false) (short : s.mode ≡ Short) (leaf : IsLeaf head syntax value) where
+module _ (s : DumpState) (head : Head) (syntax : Syntax) (value : List ℕ) (live : s.is_lost ≡ false) (leaf : IsLeaf head syntax value) where
   abbrev opening : Atom
   opening = opens head.tag head.vr head.length syntax
 
@@ -59,69 +66,64 @@ module _ (s : DumpState) (head : Head) (syntax : Syntax) (value : List ℕ) (liv
   owner = Element head.tag head.vr
 
   abbrev fresh : Progress
-  fresh = started head.vr syntax (length value) Short
+  fresh = started head.vr syntax (length value) s.mode
 
   abbrev none : DumpState
-  none = between s.dictionary Short s.lengths
+  none = between s.dictionary s.mode s.lengths
 
   abbrev rest : List Atom
   rest = map value_byte value ++ closes_leaf ∷ []
 
-  abbrev begun : Mode → Bool → DumpState
-  begun mode lost = record { dictionary = s.dictionary; mode = mode; lengths = s.lengths; value = open_value owner (opened (started head.vr syntax (length value) mode)); is_lost = lost }
+  abbrev begun : Bool → DumpState
+  begun lost = record { dictionary = s.dictionary; mode = s.mode; lengths = s.lengths; value = open_value owner (opened fresh); is_lost = lost }
 
   first_state : dump_step s opening ≡ begin none owner fresh
   first_state =
       ap (λ (t : Bool). cond t s (live_step s opening)) live
       ∙ ap (λ (f : Form). dump_opens f s head.tag head.vr head.length syntax) leaf.form_is
       ∙ ap (λ (l : Length). begin s owner (started head.vr syntax (size_of l) s.mode)) leaf.length_is
-      ∙ ap (λ (m : Mode). begun m s.is_lost) short
-      ∙ ap (begun Short) live
+      ∙ ap begun live
 
   first_bytes : dump_writes s opening ≡ begin_writes none owner fresh
   first_bytes =
       ap (λ (t : Bool). cond t [] (live_writes s opening)) live
       ∙ ap (λ (f : Form). dump_opens_writes f s head.tag head.vr head.length syntax) leaf.form_is
       ∙ ap (λ (l : Length). begin_writes s owner (started head.vr syntax (size_of l) s.mode)) leaf.length_is
-      ∙ ap (λ (m : Mode). let t : DumpState = record s { mode = m } in begin_writes t owner (started head.vr syntax (length value) m)) short
 
   room : (opened fresh).seen + length value ≤ (opened fresh).size
   unfolding opened
   room = omega arith
 
-  takes_rest : fold dump_step (within s.dictionary Short s.lengths owner (opened fresh)) rest ≡ none
+  takes_rest : fold dump_step (within s.dictionary s.mode s.lengths owner (opened fresh)) rest ≡ none
   takes_rest =
-      fold-append dump_step (within s.dictionary Short s.lengths owner (opened fresh)) (map value_byte value) (closes_leaf ∷ [])
-      ∙ ap (λ (t : DumpState). dump_step t closes_leaf) (takes_all s.dictionary Short s.lengths owner (opened fresh) value room)
+      fold-append dump_step (within s.dictionary s.mode s.lengths owner (opened fresh)) (map value_byte value) (closes_leaf ∷ [])
+      ∙ ap (λ (t : DumpState). dump_step t closes_leaf) (takes_all s.dictionary s.mode s.lengths owner (opened fresh) value room)
 
-  abbrev ended : Mode → Bool → DumpState
-  ended mode lost = record { dictionary = s.dictionary; mode = mode; lengths = s.lengths; value = no_value; is_lost = lost }
+  abbrev ended : Bool → DumpState
+  ended lost = record { dictionary = s.dictionary; mode = s.mode; lengths = s.lengths; value = no_value; is_lost = lost }
 
   -- what it leaves
   pub line_state : record s { value = no_value } ≡ fold dump_step s (whole_atoms head syntax value)
   line_state =
-      ap (λ (m : Mode). ended m s.is_lost) short
-      ∙ ap (ended Short) live
+      ap ended live
       ∙ sym takes_rest
       ∙ ap (λ (t : DumpState). fold dump_step t rest) (sym first_state)
 
   -- and what it writes
-  pub line_bytes : (line_start (length s.lengths) head.tag (letters head.vr) ++ end_writes (whole head.vr syntax value)) ++ line_rest s.dictionary head.tag head.length (multiplicity (whole head.vr syntax value))
+  pub line_bytes : (line_start (length s.lengths) head.tag (letters head.vr) ++ text_in s.mode head.vr syntax value) ++ line_rest s.dictionary head.tag head.length (count_in s.mode head.vr syntax value)
       ≡ outputs dump_step dump_writes s (whole_atoms head syntax value)
   line_bytes =
-      let last : Progress = whole head.vr syntax value in
+      let last : Progress = after head.vr syntax (length value) s.mode value in
       let start : List ℕ = line_start (length s.lengths) head.tag (letters head.vr) in
-      let end : List ℕ = end_writes last in
+      let text : List ℕ = text_in s.mode head.vr syntax value in
       let same : line_rest s.dictionary head.tag head.length (multiplicity last) ≡ owner_rest s.dictionary owner last =
       ap (λ (l : Length). line_rest s.dictionary head.tag l (multiplicity last)) leaf.length_is
-      ∙ ap (λ (n : ℕ). line_rest s.dictionary head.tag (Known n) (multiplicity last)) (sym (keeps_size s.dictionary Short s.lengths owner head.vr syntax (length value) value (omega arith)))
+      ∙ ap (λ (n : ℕ). line_rest s.dictionary head.tag (Known n) (multiplicity last)) (sym (keeps_size s.dictionary s.mode s.lengths owner head.vr syntax (length value) value (omega arith)))
       in
       let behind : List ℕ = owner_rest s.dictionary owner last in
-      ap (λ (z : List ℕ). (start ++ end) ++ z) same
-      ∙ append_assoc start end behind
-      ∙ ap (λ (z : List ℕ). start ++ (z ++ behind)) (sym (finishes_short head.vr syntax value))
-      ∙ ap (λ (z : List ℕ). start ++ ((z ++ finishes last) ++ behind)) (sym (feeds_none head.vr syntax (length value) value))
-      ∙ ap (λ (z : List ℕ). start ++ ((feeds fresh value ++ finishes last) ++ z)) (sym (append-nil behind))
-      ∙ sym (closes s.dictionary Short s.lengths owner head.vr syntax (length value) value (omega arith) [])
+      ap (λ (z : List ℕ). (start ++ text) ++ z) same
+      ∙ append_assoc start text behind
+      ∙ ap (λ (z : List ℕ). start ++ (text ++ z)) (sym (append-nil behind))
+      ∙ sym (closes s.dictionary s.mode s.lengths owner head.vr syntax (length value) value (omega arith) [])
       ∙ ap (λ (z : List ℕ). z ++ outputs dump_step dump_writes (begin none owner fresh) rest) (sym first_bytes)
       ∙ ap (λ (t : DumpState). dump_writes s opening ++ outputs dump_step dump_writes t rest) (sym first_state)

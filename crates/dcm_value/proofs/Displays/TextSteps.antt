@@ -112,7 +112,7 @@ one_order (implicit_in d) vr v e = refl
 one_order (little_in d) vr v e = refl
 one_order (big_in d) vr v e = ap (λ k. turned k v) e ∙ turned_bytes v
 
-ordered_none : (syntax : Syntax) (vr : Vr) → order syntax vr [] ≡ []
+pub ordered_none : (syntax : Syntax) (vr : Vr) → order syntax vr [] ≡ []
 ordered_none syntax vr = none (order syntax vr []) (length-order syntax vr [])
   where
     none : (v : List ℕ) → length v ≡ 0 → v ≡ []
@@ -120,12 +120,12 @@ ordered_none syntax vr = none (order syntax vr []) (length-order syntax vr [])
     none (x ∷ xs) e = absurd (omega arith)
 
 -- the bytes before the last, and the last
-record Last (v : List ℕ) : Type 0 where
-  init : List ℕ
-  last : ℕ
-  is : v ≡ init ++ last ∷ []
+pub record Last (v : List ℕ) : Type 0 where
+  pub init : List ℕ
+  pub last : ℕ
+  pub is : v ≡ init ++ last ∷ []
 
-last_of : (b : ℕ) (bs : List ℕ) → Last (b ∷ bs)
+pub last_of : (b : ℕ) (bs : List ℕ) → Last (b ∷ bs)
 last_of b [] = record { init = []; last = b; is = refl }
 last_of b (c ∷ cs) = let r = last_of c cs in record { init = b ∷ r.init; last = r.last; is = ap (λ zs. b ∷ zs) r.is }
 
@@ -233,12 +233,12 @@ module _ (vr : Vr) (syntax : Syntax) (mode : Mode) where
       none true = refl
       none false = refl
 
-  whole_none : written vr syntax 0 mode [] ++ finishes (after vr syntax 0 mode []) ≡ text_of mode vr (order syntax vr [])
+  pub whole_none : written vr syntax 0 mode [] ++ finishes (after vr syntax 0 mode []) ≡ text_of mode vr (order syntax vr [])
   whole_none =
       tells_whole vr syntax 0 mode [] unopened_none [] (begun vr syntax 0 mode []) [] (leads_nowhere (begun vr syntax 0 mode [])) refl
       ∙ ap (λ v. text_of mode vr v) (sym (ordered_none syntax vr))
 
-  count_none : multiplicity (after vr syntax 0 mode []) ≡ count vr (order syntax vr [])
+  pub count_none : multiplicity (after vr syntax 0 mode []) ≡ count vr (order syntax vr [])
   count_none =
       ap multiplicity (tells_state vr syntax 0 mode [] unopened_none [] (begun vr syntax 0 mode []) [] (leads_nowhere (begun vr syntax 0 mode [])))
       ∙ ap (count vr) (sym (ordered_none syntax vr))

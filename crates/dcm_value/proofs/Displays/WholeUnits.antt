@@ -23,7 +23,7 @@ use Rattle.dcm_value.proofs.Displays.UnitSteps.{leads_whole}
 use Rattle.dcm_value.proofs.Displays.Written.{begun, opens_nothing, tells_state, tells_text, tells_whole, closes_some, counts_some}
 
 -- units with backslashes between
-joined_more : (t : List ℕ → List ℕ) (u : List ℕ) (us : List (List ℕ)) → join_with_byte 92 (map t (u ∷ us)) ≡ t u ++ separated t us
+pub joined_more : (t : List ℕ → List ℕ) (u : List ℕ) (us : List (List ℕ)) → join_with_byte 92 (map t (u ∷ us)) ≡ t u ++ separated t us
 joined_more t u [] = sym (append-nil (t u))
 joined_more t u (x ∷ us) = ap (λ zs. t u ++ (92 ∷ zs)) (joined_more t x us)
 

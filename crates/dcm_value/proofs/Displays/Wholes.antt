@@ -28,7 +28,7 @@ use Rattle.dcm_value.proofs.Displays.Written.{begun, opens_bracket, opens_nothin
 whole_ends : (d : List ℕ) → length d ≤ 66 → ending (emit (blank Short) d) ≡ padded d
 whole_ends d few = short_ends d few ∙ ap (λ b. padded (cond b (take 63 d ++ codes "...") d)) (le-ltb 66 (length d) few)
 
-unpadded_within : (vr : Vr) (v : List ℕ) → length (unpadded vr v) ≤ length v
+pub unpadded_within : (vr : Vr) (v : List ℕ) → length (unpadded vr v) ≤ length v
 unpadded_within vr v = of_test (length v % 2 == 0 && slice_index v (length v - 1) == pad vr)
   where
     of_test : (t : Bool) → length (cond t (take (length v - 1) v) v) ≤ length v
@@ -41,7 +41,7 @@ plain_length t few plain =
     let is : bracketed t ≡ codes "[" ++ t ++ codes "]" = ap (λ x. codes "[" ++ x ++ codes "]") (plain_escaped t plain) in
     omega (arith, ap length is, length-append (codes "[" ++ t) (codes "]"))
 
-known_length : (w : Way) (t : List ℕ) → length t ≤ 64 → is_known_as w t ≡ true → length (shown_as w t) ≤ 66
+pub known_length : (w : Way) (t : List ℕ) → length t ≤ 64 → is_known_as w t ≡ true → length (shown_as w t) ≤ 66
 known_length InBrackets t few known = plain_length t few known
 known_length ByName t few known = of_name (uid_name t) known
   where
