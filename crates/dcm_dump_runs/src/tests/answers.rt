@@ -42,7 +42,7 @@ impl<'a> Case<'a> {
 /// What is wanted of the names before that of which the output fails, which takes so many bytes; and how many dumps are
 /// flushed.
 pub fn before(alloc: Global, row: &Row, wrote: usize) -> Result<(Answer, usize), AllocError> {
-    let mut flushes = 0;
+    let mut flushes: usize = 0;
     let mut answer = Answer {
         status: 0,
         output: Vec::new(alloc),
@@ -56,7 +56,7 @@ pub fn before(alloc: Global, row: &Row, wrote: usize) -> Result<(Answer, usize),
         answer.told.extend_from_slice(shown.line())?;
         answer.status = answer.status.max(shown.status());
         if !shown.text().is_empty() {
-            flushes += 1;
+            flushes = flushes.saturating_add(1);
         }
     }
     Ok((answer, flushes))
