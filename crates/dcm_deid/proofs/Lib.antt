@@ -8,7 +8,9 @@ pub mod Passing
 pub mod Unheld
 pub mod Through
 pub mod HeldValues
+pub mod MadeValues
 pub mod Forms
+pub mod Formed
 pub mod Dropped
 pub mod Kept
 pub mod Walked

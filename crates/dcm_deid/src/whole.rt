@@ -28,7 +28,7 @@ fn put_whole<S: Sink>(
 {
     match fate {
         Fate::Keep => sink.take_whole(head, syntax, value),
-        Fate::Remove | Fate::Empty | Fate::Replace | Fate::Uid => {
+        Fate::Remove | Fate::Empty | Fate::Replace | Fate::Anew(_) => {
             put_head(fate, Form::Value, head, syntax, sink)
         }
     }
