@@ -85,7 +85,7 @@ _dcmtools() {
         dcmconv) switches='+t= +ti +te +tb -e +fo -dict +dict' ;;
         dump2dcm) switches='+l -e' ;;
         dcmodify) switches='-i -m -e -ma -ea -ep -dict +dict' ;;
-        dcmdeid) switches='+ru +rd +ri +rp +rl +bi +k' ;;
+        dcmdeid) switches='+ru +rd +ri +rp +rl +rm +pi +bi +k' ;;
         dcm2csv) switches='-k +nh +by' ;;
         *) return ;;
     esac
@@ -94,6 +94,7 @@ _dcmtools() {
         dcmodify-e) _dcmtools_paths "$current" ''; return ;;
         dcmodify-ma) _dcmtools_replaced "$current"; return ;;
         dcmdeid+k) _dcmtools_files "$current"; return ;;
+        dcmdeid+rm) return ;;
         dcm2csv-k) _dcmtools_words "$_dcmtools_values" "$current"; return ;;
         dcmodify-ea) _dcmtools_words "$_dcmtools_values $_dcmtools_sequences" "$current"; return ;;
     esac
