@@ -120,7 +120,7 @@ _dcmtools() {
         dcmconv) switches='+t= +ti +te +tb -e +fo -dict +dict' ;;
         dump2dcm) switches='+l -e' ;;
         dcmodify) switches='-i -m -e -ma -ea -ep -dict +dict' ;;
-        dcmdeid) switches='+ru +rd +ri +rp +rl +bi +k' ;;
+        dcmdeid) switches='+ru +rd +ri +rp +rl +rm +pi +bi +k' ;;
         dcm2csv) switches='-k +nh +by' ;;
         *) return ;;
     esac
@@ -130,6 +130,7 @@ _dcmtools() {
         dcmodify-e) _dcmtools_paths "$current" ''; return ;;
         dcmodify-ma) _dcmtools_replaced "$current"; return ;;
         dcmdeid+k) _dcmtools_files "$current"; return ;;
+        dcmdeid+rm) return ;;
         dcm2csv-k) _dcmtools_words "$(_dcmtools_standard vc "$values")" "$current"; return ;;
         dcm2csv@) current=@$current ;; # a word is cut at `@`, and what is offered replaces both parts
         dcmodify-ea) _dcmtools_words "$values $sequences" "$current"; return ;;

@@ -9,11 +9,11 @@ are removed as what is unknown. The data file says where each row is from.
 from pathlib import Path
 
 DATA = Path(__file__).parent.parent / "data/deidentify.tsv"
-FATES = {"remove": "Remove", "empty": "Empty", "replace": "Replace", "uid": "Uid", "keep": "Keep"}
+FATES = {"remove": "Remove", "empty": "Empty", "replace": "Replace", "uid": "Anew(NewValue::Uid)", "keep": "Keep"}
 OPTIONS = {"u": "Uids", "d": "Device", "i": "Institution", "p": "Patient", "l": "Dates"}
 HEADER = """//! What becomes of the elements of PS3.15 table E.1-1, edition 2021b, and of those that this project adds.
 //! `scripts/make_actions.py` wrote this file from `data/deidentify.tsv`.
-use crate::fate::{{Fate, Retain}};
+use crate::fate::{{Fate, NewValue, Retain}};
 
 /// A row: the number of a tag, what becomes of the element, and the options that keep it.
 pub type Action = (u32, Fate, &'static [Retain]);

@@ -804,6 +804,8 @@ INSTANCE_OF_FILE = 0x00080018
 STATION = 0x00081010
 INSTITUTION = 0x00080080
 STUDY_DATE = 0x00080020
+DATE_TIME = 0x0008002A
+PATIENT = 0x00100020
 AGE = 0x00101010
 BURNED_IN = 0x00280301
 
@@ -814,6 +816,7 @@ RETAINED = {
     "+ri": (b"113112", b"Retain Institution Identity Option"),
     "+rp": (b"113108", b"Retain Patient Characteristics Option"),
     "+rl": (b"113106", b"Retain Longitudinal Temporal Information Full Dates Option"),
+    "+rm": (b"113107", b"Retain Longitudinal Temporal Information Modified Dates Option"),
 }
 DATES = 0x00280303
 
@@ -838,9 +841,14 @@ def without_identity(options, before=b"", after=b"", dates=b"REMOVED "):
     return file_of(LITTLE, before + said(options) + leaf(DATES, "CS", dates) + after)
 
 
-def taken(claim, data_set, before=b"", after=b"", options="", dates=b"REMOVED ", before_run=":", after_run=":"):
-    output = without_identity(options, before, after, dates)
+def taken(claim, data_set, before=b"", after=b"", options="", dates=b"REMOVED ", before_run=":", after_run=":", marks=None):
+    """`marks` are the options that the output names, where they are not all of `options`."""
+    output = without_identity(options if marks is None else marks, before, after, dates)
     return Case(claim, f"dcmdeid {options} FILE -", file_of(LITTLE, data_set), output, before=before_run, after=after_run)
+
+
+def moved(claim, tag, vr, old, new, days):
+    return taken(f"+rm: {claim}", leaf(tag, vr, old), leaf(tag, vr, new), options=f"+rm {days}", dates=b"MODIFIED")
 
 
 def new_uid(key, uid):
@@ -848,6 +856,10 @@ def new_uid(key, uid):
     number[6] = number[6] & 0x0F | 0x80
     number[8] = number[8] & 0x3F | 0x80
     return padded(b"2.25.%d" % int.from_bytes(number, "big"))
+
+
+def pseudonym(key, patient):
+    return b"P" + hmac.new(key, b"PatientID\\" + patient, hashlib.sha256).hexdigest()[:20].encode() + b" "
 
 
 KEY = bytes(range(65, 97))
@@ -878,6 +890,22 @@ IDENTITY = [
     taken("+rl, and what says so where it is missing", leaf(STUDY_DATE, "DA", b"20200102"), leaf(STUDY_DATE, "DA", b"20200102"), options="+rl", dates=b"UNMODIFIED"),
     taken("+rl leaves what says so as it is", leaf(DATES, "CS", b"MODIFIED"), options="+rl", dates=b"MODIFIED"),
     taken("without +rl it is put anew", leaf(DATES, "CS", b"MODIFIED")),
+    moved("days later", STUDY_DATE, "DA", b"19000228", b"19000301", "+1"),
+    moved("and into the past", STUDY_DATE, "DA", b"20000301", b"20000229", "-1"),
+    moved("several dates, one empty", STUDY_DATE, "DA", b"20231231\\\\20240228", b"20240101\\\\20240229", "1"),
+    moved("a date that there is not", STUDY_DATE, "DA", b"20230229", b"", "1"),
+    moved("a date past the calendar's end", STUDY_DATE, "DA", b"99991231", b"", "1"),
+    moved("a range", STUDY_DATE, "DA", b"20240101-20240131 ", b"", "1"),
+    moved("of a date with a time the time stays", DATE_TIME, "DT", b"20231231235960.5+0100 ", b"20240101235960.5+0100 ", "1"),
+    moved("a date with a time that there is not", DATE_TIME, "DT", b"2023123124", b"", "1"),
+    moved("what is read as UN is a date by its tag", STUDY_DATE, "UN", b"20240101", b"20240102", "1"),
+    moved("a time stays", 0x00080030, "TM", b"1200", b"1200", "1"),
+    moved("256 bytes are moved", STUDY_DATE, "DA", b"\\" * 248 + b"20240101", b"\\" * 248 + b"20240102", "1"),
+    moved("257 are not", STUDY_DATE, "DA", b"\\" * 249 + b"20240101 ", b"", "1"),
+    moved("a birth date is none of these", 0x00100030, "DA", b"20240101", b"", "1"),
+    taken("with +rm what says so is put anew", leaf(DATES, "CS", b"REMOVED "), options="+rm 1", dates=b"MODIFIED"),
+    taken("the last of +rl and +rm counts", leaf(STUDY_DATE, "DA", b"20200102"), leaf(STUDY_DATE, "DA", b"20200103"), options="+rl +rm 9 +rm 1", marks="+rm", dates=b"MODIFIED"),
+    taken("+pi", leaf(PATIENT, "LO", b" 1234 "), leaf(PATIENT, "LO", pseudonym(MADE_KEY, b"1234")), options="+pi +k key", before_run=MAKES_KEY, after_run="rm key"),
     taken("several options", leaf(STATION, "SH", b"AB"), leaf(STATION, "SH", b"AB"), options="+rl +rd +ru", dates=b"UNMODIFIED"),
     Case(
         "the head: no preamble, and of the meta group what stays",
@@ -903,6 +931,12 @@ IDENTITY = [
     Case("a link at OUTPUT is replaced", "dcmdeid FILE OUTPUT", file_of(LITTLE, AB), "older\n", before="echo older > other; ln -s other OUTPUT", after="cat other; rm other; [ -L OUTPUT ] || rm OUTPUT"),
     refused("V3: no key after +k", "dcmdeid FILE out +k", "V3 at word 4: bad option value"),
     refused("V3: a key from standard input", "dcmdeid +k - FILE out", "V3 at word 2: bad option value"),
+    refused("V3: no days after +rm", "dcmdeid FILE out +rm", "V3 at word 4: bad option value"),
+    refused("V3: no days at all", "dcmdeid +rm 0 FILE out", "V3 at word 2: bad option value"),
+    refused("V3: too many days", "dcmdeid +rm -36525 FILE out", "V3 at word 2: bad option value"),
+    refused("V3 is before V10", "dcmdeid +pi +rm x FILE out", "V3 at word 3: bad option value"),
+    refused("V6 is before V10", "dcmdeid +pi out out", "V6: input and output are the same path"),
+    refused("V10", "dcmdeid +pi FILE out", "V10: a key is needed"),
     refused("V6: OUTPUT is KEY", "dcmdeid +k out FILE out", "V6: input and output are the same path"),
     Case("V7", "dcmdeid +k key FILE out", file_of(LITTLE, AB), b"", 1, "V7: key is not 16 to 4096 bytes", before="printf 123456789012345 > key", after="rm key"),
     Case("a key that is not there", "dcmdeid +k key FILE out", file_of(LITTLE, AB), b"", 4, "key cannot be opened"),
@@ -1023,7 +1057,7 @@ OPTIONS = [
     ["+t=", "+ti", "+te", "+tb", "-e", "+fo", "-dict", "+dict"],
     ["+l", "-e"],
     ["-i", "-m", "-e", "-ma", "-ea", "-ep", "-dict", "+dict"],
-    ["+ru", "+rd", "+ri", "+rp", "+rl", "+bi", "+k"],
+    ["+ru", "+rd", "+ri", "+rp", "+rl", "+rm", "+pi", "+bi", "+k"],
     ["-k", "+nh", "+by", "@LIST"],
 ]
 

@@ -186,6 +186,7 @@ pub enum WordFault {
     OptionsApart,
     SamePath,
     BadKey,
+    NoKey,
 }
 
 impl WordFault {
@@ -201,6 +202,7 @@ impl WordFault {
             WordFault::OptionsApart => "V5",
             WordFault::SamePath => "V6",
             WordFault::BadKey => "V7",
+            WordFault::NoKey => "V10",
         }
     }
 
@@ -216,6 +218,7 @@ impl WordFault {
             WordFault::OptionsApart => "options do not go together",
             WordFault::SamePath => "input and output are the same path",
             WordFault::BadKey => "key is not 16 to 4096 bytes",
+            WordFault::NoKey => "a key is needed",
         }
     }
 }

@@ -23,7 +23,7 @@ use Rattle.dcm_base.specs.declared.fault.LineStop.{LineStop}
 use Rattle.dcm_base.specs.Tables.Syntax.{dictionary_of, read_by, coding_by}
 use Rattle.dcm_base.specs.declared.dictionary.Dictionary.{Dictionary}
 use Rattle.dcm_base.specs.declared.dictionary.Dictionary.TheVariants.{Extract, Standard}
-use Rattle.dcm_uid.specs.Uid.{replaced}
+use Rattle.dcm_deid.specs.MadeNew.{made_new}
 use Rattle.dcm_deid.specs.declared.fate.Options.{Options}
 use Rattle.dcm_deid.specs.Meta.{meta_without_identity}
 use Rattle.dcm_deid.specs.Pixels.{may_show}
@@ -123,7 +123,7 @@ file_output (dump d mode bare) m coding set = meta_header d mode m.elements ++ s
 file_output (convert d target) m coding set = written_file (target_uid target m) (target_syntax target coding) m set
 file_output (modify d edits) m coding set = written_file m.uid coding.syntax m (edited edits set)
 file_output (deidentify options reports key) m coding set =
-    written_file m.uid coding.syntax (meta_without_identity options key m) (deidentified options (replaced key) set)
+    written_file m.uid coding.syntax (meta_without_identity options key m) (deidentified options (made_new options key) set)
 file_output (building limit) m coding set = []
 
 -- of a data set alone
@@ -158,7 +158,7 @@ edits_of _ = []
 
 -- whether what is written of a data set says that its pixels may show identity
 abbrev pub shows_identity : Options → (key : List ℕ) → Front → Bool
-shows_identity options key set = may_show (whole_of (deidentified options (replaced key) set))
+shows_identity options key set = may_show (whole_of (deidentified options (made_new options key) set))
 
 -- what is reported where all was done
 abbrev pub done_lines : Job → Front → List ℕ

@@ -136,3 +136,14 @@ back_moved kind days text e =
     (all_of kind (neg_ℤ days) (moved kind days text) h.news parts
     ∙ ap (option_map (join_with_byte 92)) (gives_each (moved_part kind (neg_ℤ days)) h.news (parts_of text) zip)
     ∙ ap (λ (l : List ℕ). Some l) (join_with_byte-slice_split 92 text))
+
+-- what a text was moved to is not longer than what is held
+pub moved_short : (kind : DateKind) (days : ℤ) (text : List ℕ) → length (moved kind days text) ≤ 256
+moved_short kind days text = by_any (moved kind days text) refl
+  where
+    by_any : (new : List ℕ) → moved kind days text ≡ new → length (moved kind days text) ≤ 256
+    by_any [] e = omega (arith, ap length e)
+    by_any (b ∷ bs) e =
+        let some : moved kind days text ≢ [] = λ none. (let no : b ∷ bs ≡ [] = sym e ∙ none in cc) in
+        let h = by_parts kind days text some in
+        omega (arith, h.short, ap length h.whole, size_moved kind days text h.news h.each)

@@ -19,6 +19,7 @@ use Rattle.dcm_deid.specs.DeidentifySink.{is_due, is_after}
 use Rattle.dcm_deid.proofs.Walked.{due_trees, then_if}
 use Rattle.dcm_deid.proofs.PutOnes.{Part, AllLess, put_if, put_here, due_append}
 use Rattle.dcm_deid.proofs.Weave.{end_of}
+use Rattle.dcm_deid.specs.MadeNew.{made_new}
 use Rattle.dcm_deid.proofs.Woven.{End, leaf_end, sequence_end, fragments_end}
 use Rattle.dcm_deid.proofs.Placing.{opens_of, kept_other}
 use Rattle.dcm_deid.proofs.PutInPlace.{New}
@@ -68,7 +69,7 @@ module _ (o : Options) (k : List ℕ) (news : List (Tag × Trees)) (n : Tag × T
 
   pub at_open_leaf : (tag : Tag) (vr : Vr) (size : ℕ) (value : List ℕ) (last : Option Tag) → AtEndOf (open_leaf tag vr size value) false last
   at_open_leaf tag vr size value last =
-      open_before last tag _ _ (leaf_end (fate_as o Outermost AsBytes tag) k tag vr)
+      open_before last tag _ _ (leaf_end (fate_as o Outermost AsBytes tag) (made_new o k) tag vr)
       (λ low. kept_other (fate_as o Outermost AsBytes tag) n.0 tag (open_leaf tag vr size value) (below_other_way n.0 tag low))
 
   pub at_open_sequence : (tag : Tag) (vr : Vr) (declared : Length) (items : Items) (last' : OpenItem) (last : Option Tag) → AtEndOf (open_sequence tag vr declared items last') false last

@@ -13,9 +13,9 @@ use Rattle.dcm_base.specs.Steps.Steps.{outputs}
 use Rattle.dcm_sinks.specs.Laws.{StaysShallow}
 use Rattle.dcm_edits.specs.Edit.{has, has_open, is_passed}
 use Rattle.dcm_edits.proofs.Trees.FrontEdits.{then_trees-assoc}
-use Rattle.dcm_uid.specs.Uid.{replaced}
+use Rattle.dcm_deid.specs.MadeNew.{made_new}
 use Rattle.dcm_deid.specs.declared.fate.Fate.{Fate}
-use Rattle.dcm_deid.specs.declared.fate.Fate.TheVariants.{Remove, Empty, Replace, Uid, Keep}
+use Rattle.dcm_deid.specs.declared.fate.Fate.TheVariants.{Remove, Empty, Replace, Anew, Keep}
 use Rattle.dcm_deid.specs.declared.fate.Options.{Options}
 use Rattle.dcm_deid.specs.declared.fate.Depth.TheVariants.{Outermost}
 use Rattle.dcm_deid.specs.declared.fate.ReadAs.TheVariants.{AsBytes, AsItems}
@@ -48,21 +48,21 @@ leaf_then : (fate : Fate) (tag : Tag) (vr : Vr) (v : List ℕ) (x y : Trees) →
 leaf_then Remove tag vr v x y = refl
 leaf_then Empty tag vr v x y = refl
 leaf_then Replace tag vr v x y = refl
-leaf_then Uid tag vr v x y = refl
+leaf_then (Anew made) tag vr v x y = refl
 leaf_then Keep tag vr v x y = refl
 
 sequence_then : (fate : Fate) (tag : Tag) (vr : Vr) (items : Items) (x y : Trees) → then_trees (sequence_by fate tag vr items x) y ≡ sequence_by fate tag vr items (then_trees x y)
 sequence_then Remove tag vr items x y = refl
 sequence_then Empty tag vr items x y = refl
 sequence_then Replace tag vr items x y = refl
-sequence_then Uid tag vr items x y = refl
+sequence_then (Anew made) tag vr items x y = refl
 sequence_then Keep tag vr items x y = refl
 
 fragments_then : (fate : Fate) (tag : Tag) (vr : Vr) (values : List (List ℕ)) (x y : Trees) → then_trees (fragments_by fate tag vr values x) y ≡ fragments_by fate tag vr values (then_trees x y)
 fragments_then Remove tag vr values x y = refl
 fragments_then Empty tag vr values x y = refl
 fragments_then Replace tag vr values x y = refl
-fragments_then Uid tag vr values x y = refl
+fragments_then (Anew made) tag vr values x y = refl
 fragments_then Keep tag vr values x y = refl
 
 module _ (o : Options) (k : List ℕ) (p : OpenTree) (c : Bool) where
@@ -95,7 +95,7 @@ module _ (o : Options) (k : List ℕ) (p : OpenTree) (c : Bool) where
 
   -- ---- with none of them
 
-  end_alone : (q : OpenTree) (d : Bool) (last : Option Tag) → made_whole (fate_as o) (value_by (replaced k)) Outermost q ≡ end_of o k q d [] last
+  end_alone : (q : OpenTree) (d : Bool) (last : Option Tag) → made_whole (fate_as o) (value_by (made_new o k)) Outermost q ≡ end_of o k q d [] last
   end_alone nothing_open true last = refl
   end_alone nothing_open false last = refl
   end_alone (open_leaf tag vr size value) d last = refl
@@ -103,7 +103,7 @@ module _ (o : Options) (k : List ℕ) (p : OpenTree) (c : Bool) where
   end_alone (open_fragments tag vr values last') d last = refl
 
   none_woven : (whole : Trees) (last : Option Tag)
-      → then_trees (by_fate (fate_as o) (value_by (replaced k)) Outermost whole) (made_whole (fate_as o) (value_by (replaced k)) Outermost p) ≡ woven o k p c [] last whole
+      → then_trees (by_fate (fate_as o) (value_by (made_new o k)) Outermost whole) (made_whole (fate_as o) (value_by (made_new o k)) Outermost p) ≡ woven o k p c [] last whole
   none_woven no_tree last = end_alone p c last
   none_woven (leaf tag vr value rest) last =
       let fate = fate_as o Outermost AsBytes tag in
@@ -118,7 +118,7 @@ module _ (o : Options) (k : List ℕ) (p : OpenTree) (c : Bool) where
   -- ---- with one more
 
   abbrev left_open : OpenTree
-  left_open = open_by_fate (fate_as o) (value_by (replaced k)) Outermost p
+  left_open = open_by_fate (fate_as o) (value_by (made_new o k)) Outermost p
 
   put_by : (a b d : Bool) (t : Tag) (e w : Trees) (r : Option Tag)
       → (if a || b || d then front w left_open r c else front (put_in t e w) left_open r c) ≡ front (put_if (a || (b || d)) t e w) left_open r c
@@ -140,7 +140,7 @@ module _ (o : Options) (k : List ℕ) (p : OpenTree) (c : Bool) where
       ∙ sym (placed o k news n less new p c (λ last over. at_an_end o k news n less new p c last may) whole None a up refl))
 
   pub all_placed : (whole : Trees) (r : Option Tag) → MayEnd p c → Ascend None whole → OpenAbove (last_tag None whole) p → r ≡ reach (last_tag None whole) p
-      → front_written o k [] (front whole p r c) ≡ deidentified o (replaced k) (front whole p r c)
+      → front_written o k [] (front whole p r c) ≡ deidentified o (made_new o k) (front whole p r c)
   unfolding deidentified
   all_placed whole r may a up e =
       let one : List (Tag × Trees) = removed_said ∷ [] in
@@ -177,13 +177,13 @@ reach_is (open_fragments tag vr values last') whole = refl
 
 -- ---- the law
 
-written_is : (o : Options) (k : List ℕ) (f : Front) (atoms : List Atom) → FrontAscends f → Shows f atoms → front_written o k [] f ≡ deidentified o (replaced k) f
+written_is : (o : Options) (k : List ℕ) (f : Front) (atoms : List Atom) → FrontAscends f → Shows f atoms → front_written o k [] f ≡ deidentified o (made_new o k) f
 unfolding Shows
 written_is o k (front whole p r c) atoms a (others, shown, more, may, re) =
     all_placed o k p c whole r may a.0 (open_above p whole r c a.1) (re ∙ reach_is p whole)
 
 pub deidentify_steps : (o : Options) (k : List ℕ) (f : Front) (atoms : List Atom) → FrontAscends f → StaysShallow 0 atoms → Shows f atoms
-    → Shows (reached_anew (deidentified o (replaced k) f)) (outputs next passed (begun o k) atoms)
+    → Shows (reached_anew (deidentified o (made_new o k) f)) (outputs next passed (begun o k) atoms)
 deidentify_steps o k f atoms a h shown =
     subst (λ (g : Front). Shows (reached_anew g) (outputs next passed (begun o k) atoms)) (written_is o k f atoms a shown)
     (passes_front f 0 o k [] false atoms shown h refl)

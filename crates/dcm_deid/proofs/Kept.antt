@@ -15,15 +15,17 @@ use Rattle.dcm_base.specs.Tree.Value.{order}
 use Rattle.dcm_base.specs.Steps.Atoms.{Atom, opens, value_byte, closes_leaf, opens_item, closes_item, closes_sequence, opens_fragment, ends, fragments_then, ShowTrees, ShowItems}
 use Rattle.dcm_base.specs.Steps.Steps.{outputs}
 use Rattle.dcm_stream.specs.Tokens.{leaf_atoms}
-use Rattle.dcm_uid.specs.Uid.{replaced}
+use Rattle.dcm_deid.specs.MadeNew.{made_new}
 use Rattle.dcm_deid.specs.declared.fate.Options.{Options}
 use Rattle.dcm_deid.specs.declared.fate.Fate.{Fate}
-use Rattle.dcm_deid.specs.declared.fate.Fate.TheVariants.{Remove, Empty, Replace, Uid, Keep}
-use Rattle.dcm_deid.specs.Fate.{fate_as}
-use Rattle.dcm_deid.specs.Deidentify.{dummy, value_by, leaf_by, sequence_by, fragments_by}
-use Rattle.dcm_deid.specs.DeidentifySink.{Held, Place, State, next, passed, passed_by_depth, nothing_held, held_with, new_of, says_yes, held_if, is_held, is_kept, head_by, read_by, depth_of, said_before, judged_by_depth, after_item, next_place}
+use Rattle.dcm_deid.specs.declared.fate.Fate.TheVariants.{Remove, Empty, Replace, Anew, Keep}
+use Rattle.dcm_deid.specs.declared.fate.NewValue.{NewValue}
+use Rattle.dcm_deid.specs.Fate.{fate_as, is_kept}
+use Rattle.dcm_deid.specs.Deidentify.{Renaming, dummy, value_by, leaf_by, sequence_by, fragments_by}
+use Rattle.dcm_deid.specs.DeidentifySink.{Held, Place, State, next, passed, passed_by_depth, nothing_held, held_with, new_of, says_yes, held_if, is_held, head_by, read_by, depth_of, said_before, judged_by_depth, after_item, next_place}
 use Rattle.dcm_stream.specs.Skip.{opened}
 use Rattle.dcm_deid.proofs.HeldValues.{held_whole, new_is}
+use Rattle.dcm_deid.proofs.MadeValues.{nothing_of_long}
 use Rattle.dcm_deid.proofs.Forms.{value_alone, undefined_sequence, sequence_alone}
 use Rattle.dcm_deid.proofs.Dropped.{at, place_at, state_at, Same, drop_value, drop_close}
 
@@ -97,7 +99,7 @@ out_any o k last outer d m n atoms = out_showing o k (place_at last outer d n) m
 
 abbrev pub judged_state : Options → List ℕ → List (Option Tag) → Bool → Tag → Vr → Syntax → Fate → Form → State
 judged_state o k outer m tag vr s fate f =
-    state_at o k (record { last = Some tag; outer = outer; dropped = opened 0 (not (is_kept fate)); held = held_if (is_held fate f tag) tag vr s; may_show = m })
+    state_at o k (record { last = Some tag; outer = outer; dropped = opened 0 (not (is_kept fate)); held = held_if (is_held fate f tag) fate tag vr s; may_show = m })
 
 abbrev pub fate_here : Options → List (Option Tag) → Form → Tag → Fate
 fate_here o outer f tag = fate_as o (depth_of outer) (read_by f) tag
@@ -119,14 +121,15 @@ pub uid_bytes : (o : Options) (k : List ℕ) (last : Option Tag) (outer : List (
 uid_bytes o k last outer h m [] x = refl
 uid_bytes o k last outer h m (b ∷ v) x = uid_bytes o k last outer (held_with h b) m v x
 
-uid_value : (o : Options) (k : List ℕ) (outer : List (Option Tag)) (m : Bool) (tag : Tag) (vr : Vr) (s : Syntax) (value : List ℕ) (x : List Atom)
-    → out (held_at o k (Some tag) outer 1 (Some (nothing_held tag vr s)) m) (map value_byte (order s vr value) ++ closes_leaf ∷ x) ≡ leaf_atoms tag vr (value_by (replaced k) Uid vr value) ++ out (at o k (Some tag) outer 0 m) x
-uid_value o k outer m tag vr s value x =
-    let h : Held = fold held_with (nothing_held tag vr s) (order s vr value) in
-    let whole = held_whole tag vr s value in
-    uid_bytes o k (Some tag) outer (nothing_held tag vr s) m (order s vr value) (closes_leaf ∷ x)
+new_value_put : (o : Options) (k : List ℕ) (outer : List (Option Tag)) (m : Bool) (made : NewValue) (tag : Tag) (vr : Vr) (s : Syntax) (value : List ℕ) (x : List Atom)
+    → out (held_at o k (Some tag) outer 1 (Some (nothing_held (Anew made) tag vr s)) m) (map value_byte (order s vr value) ++ closes_leaf ∷ x) ≡ leaf_atoms tag vr (value_by (made_new o k) (Anew made) vr value) ++ out (at o k (Some tag) outer 0 m) x
+new_value_put o k outer m made tag vr s value x =
+    let new : Renaming = made_new o k in
+    let h : Held = fold held_with (nothing_held (Anew made) tag vr s) (order s vr value) in
+    let whole = held_whole (Anew made) tag vr s value in
+    uid_bytes o k (Some tag) outer (nothing_held (Anew made) tag vr s) m (order s vr value) (closes_leaf ∷ x)
     ∙ ap (λ (y : List Atom). y ++ out (at o k (Some tag) outer 0 m) x)
-    (ap (λ (g : Held). leaf_atoms g.tag g.vr (new_of k g)) whole ∙ ap (leaf_atoms tag vr) (sym (ap (new_of k) whole) ∙ new_is k tag vr s value))
+    (ap (λ (g : Held). leaf_atoms g.tag g.vr (new_of new g)) whole ∙ ap (leaf_atoms tag vr) (sym (ap (new_of new) whole) ∙ new_is new made tag vr s value (nothing_of_long o k)))
 
 pub keep_value : (o : Options) (k : List ℕ) (last : Option Tag) (outer : List (Option Tag)) (h : Option Held) (m : Bool) (v : List ℕ) (x : List Atom)
     → out (held_at o k last outer 0 h m) (map value_byte v ++ closes_leaf ∷ x) ≡ map value_byte v ++ closes_leaf ∷ out (at o k last outer 0 false) x
@@ -150,17 +153,17 @@ module _ (o : Options) (k : List ℕ) (outer : List (Option Tag)) (m : Bool) (ta
   after_value_left value = shown_at rest _ _ after ((drop_value o k (Some tag) outer 0 m (order s vr value) others).outs ∙ out_any o k (Some tag) outer 0 m false others) more
 
   pub leaf_shown : (fate : Fate) (value : List ℕ) → form s (read_as s tag vr) (Known (length value)) ≡ a_value
-      → ShowTrees (leaf_by fate tag vr (value_by (replaced k) fate vr value) rest) (head_by fate a_value tag vr (Known (length value)) s ++ out (judged_state o k outer m tag vr s fate a_value) (map value_byte (order s vr value) ++ closes_leaf ∷ others)) after
+      → ShowTrees (leaf_by fate tag vr (value_by (made_new o k) fate vr value) rest) (head_by fate a_value tag vr (Known (length value)) s ++ out (judged_state o k outer m tag vr s fate a_value) (map value_byte (order s vr value) ++ closes_leaf ∷ others)) after
   unfolding ShowTrees
   leaf_shown Remove value fo = after_value_left value
   leaf_shown Empty value fo = (Little, _, value_alone s tag vr (length value) 0 fo, refl, after_value_left value)
   leaf_shown Replace value fo = (Little, _, value_alone s tag vr (length value) (length (dummy vr)) fo, leaf_then tag vr (dummy vr) _, after_value_left value)
-  leaf_shown Uid value fo =
-      let new : List ℕ = value_by (replaced k) Uid vr value in (
+  leaf_shown (Anew made) value fo =
+      let new : List ℕ = value_by (made_new o k) (Anew made) vr value in (
         Little,
         out (at o k (Some tag) outer 0 m) others,
         value_alone s tag vr (length value) (length new) fo,
-        uid_value o k outer m tag vr s value others ∙ leaf_then tag vr new (out (at o k (Some tag) outer 0 m) others),
+        new_value_put o k outer m made tag vr s value others ∙ leaf_then tag vr new (out (at o k (Some tag) outer 0 m) others),
         shown_at rest _ _ after (out_any o k (Some tag) outer 0 m false others) more,
       )
   leaf_shown Keep value fo =
@@ -177,7 +180,7 @@ module _ (o : Options) (k : List ℕ) (outer : List (Option Tag)) (m : Bool) (ta
   sequence_shown Remove declared items contents fo dropped kept = after_list_left contents dropped
   sequence_shown Empty declared items contents fo dropped kept = (Little, _, _, sequence_alone s tag vr declared fo, refl, refl, after_list_left contents dropped)
   sequence_shown Replace declared items contents fo dropped kept = (Little, _, _, sequence_alone s tag vr declared fo, refl, refl, after_list_left contents dropped)
-  sequence_shown Uid declared items contents fo dropped kept = (Little, _, _, sequence_alone s tag vr declared fo, refl, refl, after_list_left contents dropped)
+  sequence_shown (Anew made) declared items contents fo dropped kept = (Little, _, _, sequence_alone s tag vr declared fo, refl, refl, after_list_left contents dropped)
   sequence_shown Keep declared items contents fo dropped kept =
       (s, out (at o k (Some tag) outer 0 m) contents, out (at o k (Some tag) outer 0 false) others, undefined_sequence s (read_as s tag vr) declared fo, refl, kept, more)
 
@@ -188,5 +191,5 @@ module _ (o : Options) (k : List ℕ) (outer : List (Option Tag)) (m : Bool) (ta
   fragments_shown Remove values fo dropped = after_list_left _ dropped
   fragments_shown Empty values fo dropped = after_list_left _ dropped
   fragments_shown Replace values fo dropped = after_list_left _ dropped
-  fragments_shown Uid values fo dropped = after_list_left _ dropped
+  fragments_shown (Anew made) values fo dropped = after_list_left _ dropped
   fragments_shown Keep values fo dropped = (s, out (at o k (Some tag) outer 0 false) others, fo, ap (λ (y : List Atom). opens tag vr Undefined s ∷ y) (keep_fragments o k (Some tag) outer m values others), more)

@@ -1,11 +1,9 @@
 -- The fate of an element by what the dictionary says of it.
 use Rattle.std.proofs.Common.{◌≡◌, ℕ, Bool, true, false, ◌&&◌, ◌||◌, not, ◌==◌, if◌then◌else◌, List, Option, Some, None, refl}
-use Rattle.std.specs.Prelude.{find}
 use Rattle.std.specs.Option.{option_map_or}
 use Rattle.dcm_base.specs.declared.tag.Tag.{Tag}
 use Rattle.dcm_base.specs.declared.vr.Vr.{Vr}
 use Rattle.dcm_base.specs.declared.dictionary.Dictionary.TheVariants.{Standard}
-use Rattle.dcm_base.specs.Tables.Tag.{tag_number}
 use Rattle.dcm_base.specs.Tables.Representation.{is_sequence}
 use Rattle.dcm_base.specs.Tables.Dictionary.{element_in, ambiguous_in, known_vr_in, first_vr, unlisted_vr, vr_in}
 use Rattle.dcm_deid.specs.declared.fate.Fate.{Fate}
@@ -14,7 +12,7 @@ use Rattle.dcm_deid.specs.declared.fate.Options.{Options}
 use Rattle.dcm_deid.specs.declared.fate.Depth.{Depth}
 use Rattle.dcm_deid.specs.declared.fate.ReadAs.{ReadAs}
 use Rattle.dcm_deid.specs.declared.fate.ReadAs.TheVariants.{AsBytes, AsItems}
-use Rattle.dcm_deid.specs.Fate.{Action, actions, fate, fate_as, fate_of_known, fate_in_table, is_removed, is_put_at}
+use Rattle.dcm_deid.specs.Fate.{fate, fate_as, fate_by_vr, fate_of_known, is_removed, is_put_at}
 
 -- of an element that the dictionary does not have
 items_gone : (put zero : Bool) (f : Fate) → Remove ≡ (if put || not (not zero && false) then Remove else f)
@@ -48,7 +46,7 @@ bytes_fate true put false f = refl
 bytes_fate false put zero f = items_fate put zero f
 
 abbrev table_fate : Options → Tag → Vr → Fate
-table_fate options tag vr = fate_in_table options (find (λ (a : Action). a.0 == tag_number tag) actions) vr
+table_fate options tag vr = fate_by_vr options tag vr
 
 -- the representation of one that it has is the one by which an implicit head is read
 first_known : (a b : Option (Vr × List ℕ)) (other vr : Vr) → first_vr a b ≡ Some vr → option_map_or (λ e. e.0) a (option_map_or (λ e. e.0) b other) ≡ vr

@@ -9,7 +9,9 @@ pub mod Unheld
 pub mod Noted
 pub mod Through
 pub mod HeldValues
+pub mod MadeValues
 pub mod Forms
+pub mod Formed
 pub mod Dropped
 pub mod Kept
 pub mod Walked

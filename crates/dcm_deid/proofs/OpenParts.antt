@@ -15,10 +15,10 @@ use Rattle.dcm_base.specs.Tree.Front.{Front, front, OpenTree, nothing_open, open
 use Rattle.dcm_base.specs.Tree.Value.{order}
 use Rattle.dcm_base.specs.Steps.Atoms.{Atom, opens, value_byte, closes_leaf, opens_item, opens_fragment, ends, fragments_then, open_fragment_atoms, end_atoms, MissesFragment, MayEnd, is_closed, ShowTrees, ShowItems, Shows, ShowsOpen, ShowsOpenItem}
 use Rattle.dcm_sinks.specs.Laws.{StaysShallow}
-use Rattle.dcm_uid.specs.Uid.{replaced}
+use Rattle.dcm_deid.specs.MadeNew.{made_new}
 use Rattle.dcm_deid.specs.declared.fate.Options.{Options}
 use Rattle.dcm_deid.specs.declared.fate.Fate.{Fate}
-use Rattle.dcm_deid.specs.declared.fate.Fate.TheVariants.{Remove, Empty, Replace, Uid, Keep}
+use Rattle.dcm_deid.specs.declared.fate.Fate.TheVariants.{Remove, Empty, Replace, Anew, Keep}
 use Rattle.dcm_deid.specs.declared.fate.Depth.TheVariants.{Inside}
 use Rattle.dcm_deid.specs.declared.fate.ReadAs.TheVariants.{AsBytes, AsItems}
 use Rattle.dcm_deid.specs.Fate.{fate_as}
@@ -108,11 +108,11 @@ abbrev pub Passed : Trees → OpenTree → List Atom → List Atom → Type 0
 Passed t o at_end x = (y : List Atom) × ShowTrees t x y × ShowsOpen o at_end y
 
 module _ (o : Options) (k : List ℕ) (outer : List (Option Tag)) (m : Bool) (tag : Tag) (vr : Vr) (s : Syntax) where
-  uid_gone : (v : List ℕ) → out (held_at o k (Some tag) outer 1 (Some (nothing_held tag vr s)) m) (map value_byte v) ≡ []
-  uid_gone v = ap (out (held_at o k (Some tag) outer 1 (Some (nothing_held tag vr s)) m)) (sym (append-nil (map value_byte v))) ∙ uid_bytes o k (Some tag) outer (nothing_held tag vr s) m v []
+  held_gone : (fate : Fate) (v : List ℕ) → out (held_at o k (Some tag) outer 1 (Some (nothing_held fate tag vr s)) m) (map value_byte v) ≡ []
+  held_gone fate v = ap (out (held_at o k (Some tag) outer 1 (Some (nothing_held fate tag vr s)) m)) (sym (append-nil (map value_byte v))) ∙ uid_bytes o k (Some tag) outer (nothing_held fate tag vr s) m v []
 
   leaf_open : (fate : Fate) (size : ℕ) (value : List ℕ) → form s (read_as s tag vr) (Known size) ≡ a_value → length value < size
-      → Passed (open_leaf_by fate (value_by (replaced k)) tag vr) (open_anew (while_kept fate (open_leaf tag vr size value))) []
+      → Passed (open_leaf_by fate (value_by (made_new o k)) tag vr) (open_anew (while_kept fate (open_leaf tag vr size value))) []
       (head_by fate a_value tag vr (Known size) s ++ out (judged_state o k outer m tag vr s fate a_value) (map value_byte (order s vr value)))
   unfolding ShowTrees ShowsOpen
   leaf_open Remove size value fo le = ([], bytes_gone o k (Some tag) outer 0 m (order s vr value), refl)
@@ -120,7 +120,7 @@ module _ (o : Options) (k : List ℕ) (outer : List (Option Tag)) (m : Bool) (ta
       ([], (Little, _, value_alone s tag vr size 0 fo, refl, bytes_gone o k (Some tag) outer 0 m (order s vr value)), refl)
   leaf_open Replace size value fo le =
       ([], (Little, _, value_alone s tag vr size (length (dummy vr)) fo, leaf_then tag vr (dummy vr) _, bytes_gone o k (Some tag) outer 0 m (order s vr value)), refl)
-  leaf_open Uid size value fo le = ([], uid_gone (order s vr value), refl)
+  leaf_open (Anew made) size value fo le = ([], held_gone (Anew made) (order s vr value), refl)
   leaf_open Keep size value fo le =
       (opens tag vr (Known size) s ∷ map value_byte (order s vr value), ap (λ (y : List Atom). opens tag vr (Known size) s ∷ y) (keep_bytes o k (Some tag) outer _ m (order s vr value)), (s, fo, le, refl))
 
@@ -132,7 +132,7 @@ module _ (o : Options) (k : List ℕ) (outer : List (Option Tag)) (m : Bool) (ta
   sequence_open Remove declared items last' contents others fo dropped kept more = ([], dropped, refl)
   sequence_open Empty declared items last' contents others fo dropped kept more = ([], (Little, _, _, sequence_alone s tag vr declared fo, refl, refl, dropped), refl)
   sequence_open Replace declared items last' contents others fo dropped kept more = ([], (Little, _, _, sequence_alone s tag vr declared fo, refl, refl, dropped), refl)
-  sequence_open Uid declared items last' contents others fo dropped kept more = ([], (Little, _, _, sequence_alone s tag vr declared fo, refl, refl, dropped), refl)
+  sequence_open (Anew made) declared items last' contents others fo dropped kept more = ([], (Little, _, _, sequence_alone s tag vr declared fo, refl, refl, dropped), refl)
   sequence_open Keep declared items last' contents others fo dropped kept more =
       (opens tag vr Undefined s ∷ out (at o k (Some tag) outer 0 m) contents, refl, (s, out (at o k (Some tag) outer 0 m) contents, others, undefined_sequence s (read_as s tag vr) declared fo, refl, kept, more))
 
@@ -143,7 +143,7 @@ module _ (o : Options) (k : List ℕ) (outer : List (Option Tag)) (m : Bool) (ta
   fragments_open Remove values l fo mi = ([], open_fragments_gone o k (Some tag) outer 0 m values l (omega arith), refl)
   fragments_open Empty values l fo mi = ([], open_fragments_gone o k (Some tag) outer 0 m values l (omega arith), refl)
   fragments_open Replace values l fo mi = ([], open_fragments_gone o k (Some tag) outer 0 m values l (omega arith), refl)
-  fragments_open Uid values l fo mi = ([], open_fragments_gone o k (Some tag) outer 0 m values l (omega arith), refl)
+  fragments_open (Anew made) values l fo mi = ([], open_fragments_gone o k (Some tag) outer 0 m values l (omega arith), refl)
   fragments_open Keep values l fo mi =
       (opens tag vr Undefined s ∷ fragments_then values (open_fragment_atoms l), ap (λ (y : List Atom). opens tag vr Undefined s ∷ y) (keep_open_fragments o k (Some tag) outer m values l), (s, fo, mi, refl))
 
@@ -153,13 +153,13 @@ module _ (o : Options) (k : List ℕ) (outer : List (Option Tag)) (m : Bool) (ta
 abbrev pub tail : Options → List ℕ → List (Option Tag) → Option Tag → OpenTree → Bool → Trees
 tail o k outer last nothing_open true = gap o outer last None no_tree
 tail o k outer last nothing_open false = no_tree
-tail o k outer last (open_leaf tag vr size value) c = gap o outer last (Some tag) (open_leaf_by (fate_as o (depth_of outer) AsBytes tag) (value_by (replaced k)) tag vr)
+tail o k outer last (open_leaf tag vr size value) c = gap o outer last (Some tag) (open_leaf_by (fate_as o (depth_of outer) AsBytes tag) (value_by (made_new o k)) tag vr)
 tail o k outer last (open_sequence tag vr declared items last') c = gap o outer last (Some tag) (open_sequence_by (fate_as o (depth_of outer) AsItems tag) tag vr)
 tail o k outer last (open_fragments tag vr values last') c = gap o outer last (Some tag) no_tree
 
 abbrev pub front_written : Options → List ℕ → List (Option Tag) → Front → Front
 front_written o k outer (front whole opened_tree r c) =
-    front (then_trees (written o k outer None whole) (tail o k outer (last_tag None whole) opened_tree c)) (open_by_fate (fate_as o) (value_by (replaced k)) (depth_of outer) opened_tree) r c
+    front (then_trees (written o k outer None whole) (tail o k outer (last_tag None whole) opened_tree c)) (open_by_fate (fate_as o) (value_by (made_new o k)) (depth_of outer) opened_tree) r c
 
 moved : (t : Trees) (p : OpenTree) (at_end x y : List Atom) → x ≡ y → Passed t p at_end y → Passed t p at_end x
 moved t p at_end x y e h = subst (λ (z : List Atom). Passed t p at_end z) (sym e) h
@@ -183,11 +183,11 @@ anew_reached w (open_leaf tag vr size value) = refl
 anew_reached w (open_sequence tag vr declared items last) = refl
 anew_reached w (open_fragments tag vr values last) = refl
 
-may_end : (o : Options) (k : List ℕ) (outer : List (Option Tag)) (p : OpenTree) (c : Bool) → MayEnd p c → MayEnd (open_anew (open_by_fate (fate_as o) (value_by (replaced k)) (depth_of outer) p)) c
-may_end o k outer p true e = ap (λ (q : OpenTree). open_anew (open_by_fate (fate_as o) (value_by (replaced k)) (depth_of outer) q)) e
+may_end : (o : Options) (k : List ℕ) (outer : List (Option Tag)) (p : OpenTree) (c : Bool) → MayEnd p c → MayEnd (open_anew (open_by_fate (fate_as o) (value_by (made_new o k)) (depth_of outer) p)) c
+may_end o k outer p true e = ap (λ (q : OpenTree). open_anew (open_by_fate (fate_as o) (value_by (made_new o k)) (depth_of outer) q)) e
 may_end o k outer p false e = tt
 
-inside_tail : (o : Options) (k : List ℕ) (l : Option Tag) (outer : List (Option Tag)) (last : Option Tag) (p : OpenTree) (c : Bool) → tail o k (l ∷ outer) last p c ≡ made_whole (fate_as o) (value_by (replaced k)) Inside p
+inside_tail : (o : Options) (k : List ℕ) (l : Option Tag) (outer : List (Option Tag)) (last : Option Tag) (p : OpenTree) (c : Bool) → tail o k (l ∷ outer) last p c ≡ made_whole (fate_as o) (value_by (made_new o k)) Inside p
 inside_tail o k l outer last nothing_open true = refl
 inside_tail o k l outer last nothing_open false = refl
 inside_tail o k l outer last (open_leaf tag vr size value) c = refl
@@ -195,12 +195,12 @@ inside_tail o k l outer last (open_sequence tag vr declared items last') c = ref
 inside_tail o k l outer last (open_fragments tag vr values last') c = refl
 
 -- in an item nothing is put
-inside_front : (o : Options) (k : List ℕ) (l : Option Tag) (outer : List (Option Tag)) (f : Front) → front_written o k (l ∷ outer) f ≡ front_by_fate (fate_as o) (value_by (replaced k)) Inside f
+inside_front : (o : Options) (k : List ℕ) (l : Option Tag) (outer : List (Option Tag)) (f : Front) → front_written o k (l ∷ outer) f ≡ front_by_fate (fate_as o) (value_by (made_new o k)) Inside f
 inside_front o k l outer (front whole p r c) =
-    ap (λ (t : Trees). front (then_trees t (tail o k (l ∷ outer) (last_tag None whole) p c)) (open_by_fate (fate_as o) (value_by (replaced k)) Inside p) r c) (inside_written o k l outer None whole)
-    ∙ ap (λ (t : Trees). front (then_trees (by_fate (fate_as o) (value_by (replaced k)) Inside whole) t) (open_by_fate (fate_as o) (value_by (replaced k)) Inside p) r c) (inside_tail o k l outer (last_tag None whole) p c)
+    ap (λ (t : Trees). front (then_trees t (tail o k (l ∷ outer) (last_tag None whole) p c)) (open_by_fate (fate_as o) (value_by (made_new o k)) Inside p) r c) (inside_written o k l outer None whole)
+    ∙ ap (λ (t : Trees). front (then_trees (by_fate (fate_as o) (value_by (made_new o k)) Inside whole) t) (open_by_fate (fate_as o) (value_by (made_new o k)) Inside p) r c) (inside_tail o k l outer (last_tag None whole) p c)
 
-still_open : (o : Options) (k : List ℕ) (f : Front) → is_closed f ≡ false → is_closed (reached_anew (front_by_fate (fate_as o) (value_by (replaced k)) Inside f)) ≡ false
+still_open : (o : Options) (k : List ℕ) (f : Front) → is_closed f ≡ false → is_closed (reached_anew (front_by_fate (fate_as o) (value_by (made_new o k)) Inside f)) ≡ false
 still_open o k (front whole p r c) e = e
 
 mutual
@@ -212,10 +212,10 @@ mutual
       let last : Option Tag = last_tag None whole in
       let begins = trees_pass whole lists o k None outer m atoms others shown h same in
       let behind = passes_open p lists o k last outer false c others may more (trees_stay whole lists atoms others shown h) same in
-      (behind.0, shown_after (written o k outer None whole) (tail o k outer last p c) _ _ _ begins behind.1, behind.2, may_end o k outer p c may, anew_reached _ (open_by_fate (fate_as o) (value_by (replaced k)) (depth_of outer) p))
+      (behind.0, shown_after (written o k outer None whole) (tail o k outer last p c) _ _ _ begins behind.1, behind.2, may_end o k outer p c may, anew_reached _ (open_by_fate (fate_as o) (value_by (made_new o k)) (depth_of outer) p))
 
   passes_open : (p : OpenTree) (lists : ℕ) (o : Options) (k : List ℕ) (last : Option Tag) (outer : List (Option Tag)) (m c : Bool) (atoms : List Atom) → MayEnd p c → ShowsOpen p (end_atoms c) atoms → StaysShallow lists atoms → length outer ≡ lists
-      → Passed (tail o k outer last p c) (open_anew (open_by_fate (fate_as o) (value_by (replaced k)) (depth_of outer) p)) (end_atoms c) (out (at o k last outer 0 m) atoms)
+      → Passed (tail o k outer last p c) (open_anew (open_by_fate (fate_as o) (value_by (made_new o k)) (depth_of outer) p)) (end_atoms c) (out (at o k last outer 0 m) atoms)
   passes_open nothing_open lists o k last outer m false atoms may shown h same = ([], ap (out (at o k last outer 0 m)) shown, refl)
   passes_open nothing_open lists o k last outer m true atoms may shown h same =
       moved _ nothing_open (ends ∷ []) _ (said_before o (place_at last outer 0 m) None ++ ends ∷ []) (ap (out (at o k last outer 0 m)) shown ∙ append-nil (said_before o (place_at last outer 0 m) None ++ ends ∷ []))
@@ -234,7 +234,7 @@ mutual
       let one : suc (length outer) ≡ suc lists = omega (arith, same) in
       after_gap o k last outer m tag _ _ (head_by fate a_sequence tag vr declared s) _ _
       (ap (out (at o k last outer 0 m)) is ∙ head_out o k last outer m tag vr declared s contents a_sequence fo)
-      (sequence_open o k outer m tag vr s fate declared (items_by_fate (fate_as o) (value_by (replaced k)) items) (open_item_by_fate (fate_as o) (value_by (replaced k)) last') contents (out (at o k (Some tag) outer 0 false) others) fo
+      (sequence_open o k outer m tag vr s fate declared (items_by_fate (fate_as o) (value_by (made_new o k)) items) (open_item_by_fate (fate_as o) (value_by (made_new o k)) last') contents (out (at o k (Some tag) outer 0 false) others) fo
       ((drop_items items (suc lists) o k (Some tag) outer 0 m contents others inner within one (omega arith)).outs
       ∙ drop_open_item last' (suc lists) o k (Some tag) outer 0 m others more there one (omega arith))
       (items_pass items (suc lists) o k (Some tag) outer m contents others inner within one)
@@ -247,7 +247,7 @@ mutual
       (fragments_open o k outer m tag vr s fate values last' fo mi)
 
   passes_open_item : (p : OpenItem) (lists : ℕ) (o : Options) (k : List ℕ) (last : Option Tag) (outer : List (Option Tag)) (m : Bool) (atoms : List Atom) → ShowsOpenItem p atoms → StaysShallow lists atoms → suc (length outer) ≡ lists
-      → ShowsOpenItem (item_anew (open_item_by_fate (fate_as o) (value_by (replaced k)) p)) (out (at o k last outer 0 m) atoms)
+      → ShowsOpenItem (item_anew (open_item_by_fate (fate_as o) (value_by (made_new o k)) p)) (out (at o k last outer 0 m) atoms)
   passes_open_item no_open_item lists o k last outer m atoms shown h same = ap (out (at o k last outer 0 m)) shown
   passes_open_item (open_item declared set) lists o k last outer m atoms (contents, is, still, more) h same =
       let most : lists ≤ 64 = stays_here lists atoms h in

@@ -9,6 +9,7 @@ use Rattle.dcm_base.specs.Steps.Atoms.{Atom, value_byte, closes_leaf, closes_ite
 use Rattle.dcm_base.specs.Steps.Steps.{outputs}
 use Rattle.dcm_deid.specs.declared.fate.Options.{Options}
 use Rattle.dcm_deid.specs.DeidentifySink.{Place, Held, State, next, passed, passed_open, passed_left_out, passed_by_depth, holding, held_with, with_bytes}
+use Rattle.dcm_deid.specs.MadeNew.{made_new}
 
 byte_kept : (d : ℕ) (options : Options) (key : List ℕ) (p : Place) (byte : ℕ) (more rest : List Atom) → d ≡ 0 → more ≡ rest → passed_by_depth d options key p (value_byte byte) ++ more ≡ value_byte byte ∷ rest
 byte_kept zero options key p byte more rest e is = ap (λ (xs : List Atom). value_byte byte ∷ xs) is
@@ -53,7 +54,7 @@ left_open zero e = absurd (cc)
 left_open (suc n) e = omega arith
 
 abbrev NotWhole : Atom → Type 0
-NotWhole a = (options : Options) (key : List ℕ) (p : Place) → passed_left_out key p a ≡ []
+NotWhole a = (options : Options) (key : List ℕ) (p : Place) → passed_left_out (made_new options key) p a ≡ []
 
 gone : (d : ℕ) (options : Options) (key : List ℕ) (p : Place) (a : Atom) → 0 < d → NotWhole a → passed_by_depth d options key p a ++ [] ≡ []
 gone zero options key p a l e = absurd (omega (arith, l))

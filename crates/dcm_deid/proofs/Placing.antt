@@ -10,10 +10,10 @@ use Rattle.dcm_base.specs.Tree.Tree.{Trees, no_tree, leaf, sequence, fragments, 
 use Rattle.dcm_base.specs.Tree.Front.{OpenTree, nothing_open, open_leaf, open_sequence, open_fragments}
 use Rattle.dcm_base.proofs.Dictionaries.TagOrder.{below_trans, below_other_way}
 use Rattle.dcm_edits.specs.Edit.{has, has_open, is_passed}
-use Rattle.dcm_uid.specs.Uid.{replaced}
+use Rattle.dcm_deid.specs.MadeNew.{made_new}
 use Rattle.dcm_deid.specs.declared.fate.Options.{Options}
 use Rattle.dcm_deid.specs.declared.fate.Fate.{Fate}
-use Rattle.dcm_deid.specs.declared.fate.Fate.TheVariants.{Remove, Empty, Replace, Uid, Keep}
+use Rattle.dcm_deid.specs.declared.fate.Fate.TheVariants.{Remove, Empty, Replace, Anew, Keep}
 use Rattle.dcm_deid.specs.declared.fate.Depth.TheVariants.{Outermost}
 use Rattle.dcm_deid.specs.declared.fate.ReadAs.TheVariants.{AsBytes, AsItems}
 use Rattle.dcm_deid.specs.Fate.{fate_as}
@@ -32,7 +32,7 @@ reach last (open_fragments tag vr values last') = Some tag
 
 -- it is open, or was not passed
 abbrev pub opens_of : Options → List ℕ → OpenTree → Bool → Tag → Option Tag → Bool
-opens_of o k p c t last = has_open t (open_by_fate (fate_as o) (value_by (replaced k)) Outermost p) || not (is_passed t (reach last p) c)
+opens_of o k p c t last = has_open t (open_by_fate (fate_as o) (value_by (made_new o k)) Outermost p) || not (is_passed t (reach last p) c)
 
 none_of : (a b : Bool) → a ≡ false → b ≡ false → (a || b) ≡ false
 none_of a b p q = cc
@@ -44,7 +44,7 @@ pub kept_other : (fate : Fate) (t tag : Tag) (p : OpenTree) → has_open t p ≡
 kept_other Remove t tag p h = refl
 kept_other Empty t tag p h = refl
 kept_other Replace t tag p h = refl
-kept_other Uid t tag p h = refl
+kept_other (Anew made) t tag p h = refl
 kept_other Keep t tag p h = h
 
 pub opens_none : (o : Options) (k : List ℕ) (p : OpenTree) (c : Bool) (t : Tag) (rest : Trees) (u : Tag) → below t u ≡ true → Ascend (Some u) rest → OpenAbove (last_tag (Some u) rest) p → opens_of o k p c t (last_tag (Some u) rest) ≡ false

@@ -12,7 +12,7 @@ use Rattle.dcm_edits.specs.Edit.{has}
 use Rattle.dcm_edits.proofs.Trees.NewOnes.{below_not_back, same_above, if_true}
 use Rattle.dcm_deid.specs.declared.fate.Options.{Options}
 use Rattle.dcm_deid.specs.declared.fate.Fate.{Fate}
-use Rattle.dcm_deid.specs.declared.fate.Fate.TheVariants.{Remove, Empty, Replace, Uid, Keep}
+use Rattle.dcm_deid.specs.declared.fate.Fate.TheVariants.{Remove, Empty, Replace, Anew, Keep}
 use Rattle.dcm_deid.specs.Deidentify.{leaf_by, sequence_by, fragments_by}
 use Rattle.dcm_deid.specs.Saying.{put_in}
 use Rattle.dcm_deid.specs.DeidentifySink.{is_due, is_after}
@@ -47,21 +47,21 @@ pub leaf_by_part : (fate : Fate) (tag : Tag) (vr : Vr) (v : List ℕ) → Part t
 leaf_by_part Remove tag vr v = none_part tag
 leaf_by_part Empty tag vr v = leaf_part tag vr v
 leaf_by_part Replace tag vr v = leaf_part tag vr v
-leaf_by_part Uid tag vr v = leaf_part tag vr v
+leaf_by_part (Anew made) tag vr v = leaf_part tag vr v
 leaf_by_part Keep tag vr v = leaf_part tag vr v
 
 pub sequence_by_part : (fate : Fate) (tag : Tag) (vr : Vr) (items : Items) → Part tag (sequence_by fate tag vr items)
 sequence_by_part Remove tag vr items = none_part tag
 sequence_by_part Empty tag vr items = sequence_part tag vr Undefined _
 sequence_by_part Replace tag vr items = sequence_part tag vr Undefined _
-sequence_by_part Uid tag vr items = sequence_part tag vr Undefined _
+sequence_by_part (Anew made) tag vr items = sequence_part tag vr Undefined _
 sequence_by_part Keep tag vr items = sequence_part tag vr Undefined items
 
 pub fragments_by_part : (fate : Fate) (tag : Tag) (vr : Vr) (values : List (List ℕ)) → Part tag (fragments_by fate tag vr values)
 fragments_by_part Remove tag vr values = none_part tag
 fragments_by_part Empty tag vr values = none_part tag
 fragments_by_part Replace tag vr values = none_part tag
-fragments_by_part Uid tag vr values = none_part tag
+fragments_by_part (Anew made) tag vr values = none_part tag
 fragments_by_part Keep tag vr values = fragments_part tag vr values
 
 -- ---- new elements, whose tags are all below one

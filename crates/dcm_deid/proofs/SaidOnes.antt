@@ -15,7 +15,9 @@ use Rattle.dcm_deid.specs.declared.fate.Options.{Options}
 use Rattle.dcm_deid.specs.declared.fate.Depth.TheVariants.{Outermost}
 use Rattle.dcm_deid.specs.declared.fate.ReadAs.{ReadAs}
 use Rattle.dcm_deid.specs.declared.fate.ReadAs.TheVariants.{AsBytes, AsItems}
-use Rattle.dcm_deid.specs.Fate.{actions, fate, fate_as, is_put, is_known, fate_of_known}
+use Rattle.dcm_deid.specs.declared.fate.Temporal.{Temporal}
+use Rattle.dcm_deid.specs.declared.fate.Temporal.TheVariants.{Removed, Full, Modified}
+use Rattle.dcm_deid.specs.Fate.{actions, fate, fate_as, is_put, is_known, fate_of_known, are_full}
 use Rattle.dcm_deid.specs.Saying.{tag_at, leaf_alone, methods, dates_said}
 use Rattle.dcm_deid.proofs.PutOnes.{Part, leaf_part, sequence_part, AllLess}
 use Rattle.dcm_deid.proofs.PutInPlace.{New}
@@ -86,21 +88,21 @@ pub removed_new : (o : Options) → New o removed_said
 removed_new o = record {
   alone = refl;
   gone = λ read h. goes_as o read (tag_at 0x0012 0x0062) (put_goes (is_put o (tag_at 0x0012 0x0062)) (is_known (tag_at 0x0012 0x0062)) (fate_of_known o (tag_at 0x0012 0x0062)) refl);
-  stays = λ read h. absurd (never o.dates h);
+  stays = λ read h. absurd (never (are_full o.dates) h);
 }
 
 pub method_new : (o : Options) → New o method_said
 method_new o = record {
   alone = refl;
   gone = λ read h. goes_as o read (tag_at 0x0012 0x0063) (put_goes (is_put o (tag_at 0x0012 0x0063)) (is_known (tag_at 0x0012 0x0063)) (fate_of_known o (tag_at 0x0012 0x0063)) refl);
-  stays = λ read h. absurd (never o.dates h);
+  stays = λ read h. absurd (never (are_full o.dates) h);
 }
 
 pub codes_new : (o : Options) → New o (codes_said o)
 codes_new o = record {
   alone = refl;
   gone = λ read h. goes_as o read (tag_at 0x0012 0x0064) (put_goes (is_put o (tag_at 0x0012 0x0064)) (is_known (tag_at 0x0012 0x0064)) (fate_of_known o (tag_at 0x0012 0x0064)) refl);
-  stays = λ read h. absurd (never o.dates h);
+  stays = λ read h. absurd (never (are_full o.dates) h);
 }
 
 -- ---- what says what became of dates
@@ -109,24 +111,25 @@ not_dates : (d : Bool) → (d && true) ≡ false → not d ≡ true
 not_dates true e = cc
 not_dates false e = refl
 
-are_dates : (d : Bool) → (d && true) ≡ true → d ≡ true
-are_dates true e = refl
-are_dates false e = cc
+are_dates : (t : Temporal) → (are_full t && true) ≡ true → t ≡ Full
+are_dates Removed e = absurd (cc)
+are_dates Full e = refl
+are_dates (Modified days) e = absurd (cc)
 
-abbrev with_dates : Options → Bool → Options
-with_dates o d = record { uids = o.uids; device = o.device; institution = o.institution; patient = o.patient; dates = d }
+abbrev with_dates : Options → Temporal → Options
+with_dates o d = record o { dates = d }
 
-times_stay : (o : Options) (read : ReadAs) → fate_as (with_dates o true) Outermost read (tag_at 0x0028 0x0303) ≡ Keep
+times_stay : (o : Options) (read : ReadAs) → fate_as (with_dates o Full) Outermost read (tag_at 0x0028 0x0303) ≡ Keep
 unfolding fate_as D.vr_in D.element_in D.elements_in D.entries D.ambiguous actions
 times_stay o AsBytes = refl
 times_stay o AsItems = refl
 
-stays_with : (o : Options) (read : ReadAs) → o.dates ≡ true → fate_as o Outermost read (tag_at 0x0028 0x0303) ≡ Keep
-stays_with o read e = ap (λ (d : Bool). fate_as (with_dates o d) Outermost read (tag_at 0x0028 0x0303)) e ∙ times_stay o read
+stays_with : (o : Options) (read : ReadAs) → o.dates ≡ Full → fate_as o Outermost read (tag_at 0x0028 0x0303) ≡ Keep
+stays_with o read e = ap (λ (d : Temporal). fate_as (with_dates o d) Outermost read (tag_at 0x0028 0x0303)) e ∙ times_stay o read
 
 pub times_new : (o : Options) → New o (times_said o)
 times_new o = record {
   alone = refl;
-  gone = λ read h. goes_as o read (tag_at 0x0028 0x0303) (put_goes (is_put o (tag_at 0x0028 0x0303)) (is_known (tag_at 0x0028 0x0303)) (fate_of_known o (tag_at 0x0028 0x0303)) (not_dates o.dates h));
+  gone = λ read h. goes_as o read (tag_at 0x0028 0x0303) (put_goes (is_put o (tag_at 0x0028 0x0303)) (is_known (tag_at 0x0028 0x0303)) (fate_of_known o (tag_at 0x0028 0x0303)) (not_dates (are_full o.dates) h));
   stays = λ read h. stays_with o read (are_dates o.dates h);
 }

@@ -9,12 +9,12 @@ use Rattle.dcm_base.specs.Tree.Front.{Front, front, OpenTree, nothing_open, open
 use Rattle.dcm_edits.specs.Edit.{has, has_open, is_passed}
 use Rattle.dcm_edits.proofs.Trees.Depths.{IsShallow, AreShallow, FrontShallow, OpenShallow, ItemShallow}
 use Rattle.dcm_deid.specs.declared.fate.Fate.{Fate}
-use Rattle.dcm_deid.specs.declared.fate.Fate.TheVariants.{Remove, Empty, Replace, Uid, Keep}
+use Rattle.dcm_deid.specs.declared.fate.Fate.TheVariants.{Remove, Empty, Replace, Anew, Keep}
 use Rattle.dcm_deid.specs.declared.fate.Options.{Options}
 use Rattle.dcm_deid.specs.declared.fate.Depth.{Depth}
 use Rattle.dcm_deid.specs.declared.fate.Depth.TheVariants.{Outermost, Inside}
 use Rattle.dcm_deid.specs.declared.fate.ReadAs.TheVariants.{AsBytes, AsItems}
-use Rattle.dcm_deid.specs.Fate.{fate_as}
+use Rattle.dcm_deid.specs.Fate.{fate_as, are_left}
 use Rattle.dcm_deid.specs.Deidentify.{Renaming, value_by, leaf_by, sequence_by, fragments_by, Fates, Values, by_fate, items_by_fate}
 use Rattle.dcm_deid.specs.Saying.{open_leaf_by, open_sequence_by, made_whole, while_kept, front_by_fate, open_by_fate, open_item_by_fate, put_in, with_put, all_put, code_if, methods, said, deidentified}
 
@@ -24,42 +24,42 @@ leaf_stays : (n : ℕ) (fate : Fate) (tag : Tag) (vr : Vr) (value : List ℕ) (r
 leaf_stays n Remove tag vr value rest h = h
 leaf_stays n Empty tag vr value rest h = h
 leaf_stays n Replace tag vr value rest h = h
-leaf_stays n Uid tag vr value rest h = h
+leaf_stays n (Anew made) tag vr value rest h = h
 leaf_stays n Keep tag vr value rest h = h
 
 sequence_stays : (n : ℕ) (fate : Fate) (tag : Tag) (vr : Vr) (items : Items) (rest : Trees) → suc n ≤ 64 → AreShallow (suc n) items → IsShallow n rest → IsShallow n (sequence_by fate tag vr items rest)
 sequence_stays n Remove tag vr items rest p h k = k
 sequence_stays n Empty tag vr items rest p h k = (p, tt, k)
 sequence_stays n Replace tag vr items rest p h k = (p, tt, k)
-sequence_stays n Uid tag vr items rest p h k = (p, tt, k)
+sequence_stays n (Anew made) tag vr items rest p h k = (p, tt, k)
 sequence_stays n Keep tag vr items rest p h k = (p, h, k)
 
 fragments_stay : (n : ℕ) (fate : Fate) (tag : Tag) (vr : Vr) (parts : List (List ℕ)) (rest : Trees) → suc n ≤ 64 → IsShallow n rest → IsShallow n (fragments_by fate tag vr parts rest)
 fragments_stay n Remove tag vr parts rest p k = k
 fragments_stay n Empty tag vr parts rest p k = k
 fragments_stay n Replace tag vr parts rest p k = k
-fragments_stay n Uid tag vr parts rest p k = k
+fragments_stay n (Anew made) tag vr parts rest p k = k
 fragments_stay n Keep tag vr parts rest p k = (p, k)
 
 leaf_made : (n : ℕ) (fate : Fate) (values : Values) (tag : Tag) (vr : Vr) → IsShallow n (open_leaf_by fate values tag vr)
 leaf_made n Remove values tag vr = tt
 leaf_made n Empty values tag vr = tt
 leaf_made n Replace values tag vr = tt
-leaf_made n Uid values tag vr = tt
+leaf_made n (Anew made) values tag vr = tt
 leaf_made n Keep values tag vr = tt
 
 sequence_made : (n : ℕ) (fate : Fate) (tag : Tag) (vr : Vr) → suc n ≤ 64 → IsShallow n (open_sequence_by fate tag vr)
 sequence_made n Remove tag vr p = tt
 sequence_made n Empty tag vr p = (p, tt, tt)
 sequence_made n Replace tag vr p = (p, tt, tt)
-sequence_made n Uid tag vr p = (p, tt, tt)
+sequence_made n (Anew made) tag vr p = (p, tt, tt)
 sequence_made n Keep tag vr p = tt
 
 open_stays : (n : ℕ) (fate : Fate) (o : OpenTree) → OpenShallow n o → OpenShallow n (while_kept fate o)
 open_stays n Remove o h = tt
 open_stays n Empty o h = tt
 open_stays n Replace o h = tt
-open_stays n Uid o h = tt
+open_stays n (Anew made) o h = tt
 open_stays n Keep o h = h
 
 then_shallow : (n : ℕ) (a b : Trees) → IsShallow n a → IsShallow n b → IsShallow n (then_trees a b)
@@ -141,7 +141,7 @@ code_shallow false code meaning rest h = h
 methods_shallow : (options : Options) → AreShallow 1 (methods options)
 methods_shallow options = (
   tt,
-  code_shallow options.dates _ _ _
+  code_shallow (are_left options.dates) _ _ _
       (code_shallow options.patient _ _ _ (code_shallow options.device _ _ _ (code_shallow options.uids _ _ _ (code_shallow options.institution _ _ no_item tt)))),
 )
 

@@ -15,10 +15,11 @@ use Rattle.dcm_stream.specs.Skip.{depth, opened}
 use Rattle.dcm_stream.specs.Tokens.{IsLeaf, whole_atoms}
 use Rattle.dcm_deid.specs.declared.deidentifier.Deidentifier.{Deidentifier}
 use Rattle.dcm_deid.specs.declared.fate.Fate.{Fate}
-use Rattle.dcm_deid.specs.declared.fate.Fate.TheVariants.{Remove, Empty, Replace, Uid, Keep}
+use Rattle.dcm_deid.specs.declared.fate.Fate.TheVariants.{Remove, Empty, Replace, Anew, Keep}
 use Rattle.dcm_deid.specs.declared.fate.Options.{Options}
 use Rattle.dcm_deid.specs.Deidentifying.{place, state, passed_of, whole_by}
-use Rattle.dcm_deid.specs.DeidentifySink.{Place, State, next, passed, passed_by_depth, said_before, head_by, fate_at, is_kept, is_held, held_if, holding, moved, judged, judged_by_depth, with_last}
+use Rattle.dcm_deid.specs.Fate.{is_kept}
+use Rattle.dcm_deid.specs.DeidentifySink.{Place, State, next, passed, passed_by_depth, said_before, head_by, fate_at, is_held, held_if, holding, moved, judged, judged_by_depth, with_last}
 use Rattle.dcm_deid.proofs.Passing.{bytes_passed, bytes_gone, bytes_next, bytes_unheld, at_place}
 
 -- ---- behind a head that is left out, or not, where no value is held
@@ -64,7 +65,7 @@ joined said Keep head syntax value = append_assoc said (opens head.tag head.vr h
 joined said Remove head syntax value = append-nil (said ++ whole_by Remove head syntax value)
 joined said Empty head syntax value = append-nil (said ++ whole_by Empty head syntax value)
 joined said Replace head syntax value = append-nil (said ++ whole_by Replace head syntax value)
-joined said Uid head syntax value = append-nil (said ++ whole_by Uid head syntax value)
+joined said (Anew made) head syntax value = append-nil (said ++ whole_by (Anew made) head syntax value)
 
 module _ (options : Options) (key : List ℕ) (d : Deidentifier) (fate : Fate) (head : Head) (syntax : Syntax) (value : List ℕ) (leaf : IsLeaf head syntax value) (none : depth d.skip ≡ 0) (fate_is : fate ≡ fate_at options (place d) a_value head.tag) (unheld : is_held fate a_value head.tag ≡ false) where
   abbrev p : Place
@@ -84,7 +85,7 @@ module _ (options : Options) (key : List ℕ) (d : Deidentifier) (fate : Fate) (
       ap (λ (n : ℕ). with_last (judged_by_depth n options p head.tag head.vr head.length syntax) head.tag) none
       ∙ ap (λ (f : Form). with_last (judged p (fate_at options p f head.tag) f head.tag head.vr syntax) head.tag) leaf.form_is
       ∙ ap (λ (f : Fate). with_last (judged p f a_value head.tag head.vr syntax) head.tag) (sym fate_is)
-      ∙ ap (λ (b : Bool). with_last (holding (moved p p.last p.outer (opened p.dropped left_out)) (held_if b head.tag head.vr syntax)) head.tag) unheld
+      ∙ ap (λ (b : Bool). with_last (holding (moved p p.last p.outer (opened p.dropped left_out)) (held_if b fate head.tag head.vr syntax)) head.tag) unheld
       ∙ ap (λ (n : ℕ). with_last (holding (moved p p.last p.outer (opened n left_out)) None) head.tag) none
 
   head_state : next (state options key d) opening ≡ after_opening

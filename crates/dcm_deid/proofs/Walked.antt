@@ -13,13 +13,13 @@ use Rattle.dcm_base.specs.Tree.Value.{order}
 use Rattle.dcm_base.specs.Steps.Atoms.{Atom, opens, value_byte, closes_leaf, opens_item, closes_item, closes_sequence, fragments_then, ShowTrees, ShowItems}
 use Rattle.dcm_sinks.specs.Laws.{StaysShallow}
 use Rattle.dcm_stream.specs.Tokens.{leaf_atoms}
-use Rattle.dcm_uid.specs.Uid.{replaced}
+use Rattle.dcm_deid.specs.MadeNew.{made_new}
 use Rattle.dcm_deid.specs.declared.fate.Options.{Options}
 use Rattle.dcm_deid.specs.declared.fate.Depth.TheVariants.{Inside}
 use Rattle.dcm_deid.specs.declared.fate.ReadAs.TheVariants.{AsBytes, AsItems}
-use Rattle.dcm_deid.specs.Fate.{fate_as}
+use Rattle.dcm_deid.specs.Fate.{fate_as, are_left}
 use Rattle.dcm_deid.specs.Deidentify.{value_by, leaf_by, sequence_by, fragments_by, by_fate, items_by_fate}
-use Rattle.dcm_deid.specs.Saying.{tag_at, code_item, code_if, methods, said}
+use Rattle.dcm_deid.specs.Saying.{tag_at, code_item, code_if, methods, said, dates_became, dates_code, dates_meaning}
 use Rattle.dcm_deid.specs.DeidentifySink.{depth_of, head_by, is_due, atoms_if, said_between, said_before, removed_due, method_due, codes_due, dates_due, code_atoms, code_atoms_if, method_atoms, methods_said, dates_said}
 use Rattle.dcm_deid.proofs.Dropped.{at, place_at, drop_items, drop_fragments, stays_tail, stays_here, stays_at, bytes_stay, head_stays, fragments_stay, trees_stay, items_stay, entered}
 use Rattle.dcm_deid.proofs.Kept.{out, out_any, head_out, judged_state, fate_here, leaf_shown, sequence_shown, fragments_shown}
@@ -103,13 +103,14 @@ methods_shown : (o : Options) (x : List Atom) → ShowItems (methods o) (method_
 unfolding ShowTrees
 methods_shown o x =
     let basic : List ℕ = codes "Basic Application Confidentiality Profile" in
-    let dates : List ℕ = codes "Retain Longitudinal Temporal Information Full Dates Option" in
+    let code : List ℕ = dates_code o.dates in
+    let dates : List ℕ = dates_meaning o.dates in
     let patient : List ℕ = codes "Retain Patient Characteristics Option" in
     let device : List ℕ = codes "Retain Device Identity Option" in
     let uids : List ℕ = codes "Retain UIDs Option" in
     let institution : List ℕ = codes "Retain Institution Identity Option" in
     let a : List Atom = code_atoms (codes "113100") basic in
-    let b : List Atom = code_atoms_if o.dates (codes "113106") dates in
+    let b : List Atom = code_atoms_if (are_left o.dates) code dates in
     let c : List Atom = code_atoms_if o.patient (codes "113108") patient in
     let d : List Atom = code_atoms_if o.device (codes "113109") device in
     let e : List Atom = code_atoms_if o.uids (codes "113110") uids in
@@ -118,10 +119,10 @@ methods_shown o x =
     let items_e : Items = code_if o.uids (codes "113110") uids items_f in
     let items_d : Items = code_if o.device (codes "113109") device items_e in
     let items_c : Items = code_if o.patient (codes "113108") patient items_d in
-    let items_b : Items = code_if o.dates (codes "113106") dates items_c in
+    let items_b : Items = code_if (are_left o.dates) code dates items_c in
     items_at (methods o) (method_atoms o ++ x) (a ++ (b ++ (c ++ (d ++ (e ++ (f ++ x)))))) x (five a b c d e f x)
     (code_shown (codes "113100") basic items_b (b ++ (c ++ (d ++ (e ++ (f ++ x))))) x
-    (code_if_shown o.dates (codes "113106") dates items_c (c ++ (d ++ (e ++ (f ++ x)))) x
+    (code_if_shown (are_left o.dates) code dates items_c (c ++ (d ++ (e ++ (f ++ x)))) x
     (code_if_shown o.patient (codes "113108") patient items_d (d ++ (e ++ (f ++ x))) x
     (code_if_shown o.device (codes "113109") device items_e (e ++ (f ++ x)) x
     (code_if_shown o.uids (codes "113110") uids items_f (f ++ x) x
@@ -146,7 +147,7 @@ three a b c d x =
 between_shown : (o : Options) (last next : Option Tag) (rest : Trees) (x after : List Atom) → ShowTrees rest x after → ShowTrees (due_trees (is_due o last next) (said o) rest) (said_between o last next ++ x) after
 unfolding form
 between_shown o last next rest x after more =
-    let dates : List ℕ = if o.dates then codes "UNMODIFIED" else codes "REMOVED" in
+    let dates : List ℕ = dates_became o.dates in
     let method : List ℕ = codes "dcmtools dcmdeid, PS3.15 2021b" in
     let a : List Atom = leaf_atoms (tag_at 0x0012 0x0062) CS (codes "YES") in
     let b : List Atom = leaf_atoms (tag_at 0x0012 0x0063) LO method in
@@ -181,17 +182,17 @@ gap_shown o (l ∷ outer) last next d m rest x after more = more
 abbrev pub written : Options → List ℕ → List (Option Tag) → Option Tag → Trees → Trees
 written o k outer last no_tree = no_tree
 written o k outer last (leaf tag vr value rest) =
-    gap o outer last (Some tag) (leaf_by (fate_as o (depth_of outer) AsBytes tag) tag vr (value_by (replaced k) (fate_as o (depth_of outer) AsBytes tag) vr value) (written o k outer (Some tag) rest))
+    gap o outer last (Some tag) (leaf_by (fate_as o (depth_of outer) AsBytes tag) tag vr (value_by (made_new o k) (fate_as o (depth_of outer) AsBytes tag) vr value) (written o k outer (Some tag) rest))
 written o k outer last (sequence tag vr declared items rest) =
-    gap o outer last (Some tag) (sequence_by (fate_as o (depth_of outer) AsItems tag) tag vr (items_by_fate (fate_as o) (value_by (replaced k)) items) (written o k outer (Some tag) rest))
+    gap o outer last (Some tag) (sequence_by (fate_as o (depth_of outer) AsItems tag) tag vr (items_by_fate (fate_as o) (value_by (made_new o k)) items) (written o k outer (Some tag) rest))
 written o k outer last (fragments tag vr values rest) =
     gap o outer last (Some tag) (fragments_by (fate_as o (depth_of outer) AsBytes tag) tag vr values (written o k outer (Some tag) rest))
 
 -- in an item nothing is put
-pub inside_written : (o : Options) (k : List ℕ) (l : Option Tag) (outer : List (Option Tag)) (last : Option Tag) (t : Trees) → written o k (l ∷ outer) last t ≡ by_fate (fate_as o) (value_by (replaced k)) Inside t
+pub inside_written : (o : Options) (k : List ℕ) (l : Option Tag) (outer : List (Option Tag)) (last : Option Tag) (t : Trees) → written o k (l ∷ outer) last t ≡ by_fate (fate_as o) (value_by (made_new o k)) Inside t
 inside_written o k l outer last no_tree = refl
-inside_written o k l outer last (leaf tag vr value rest) = ap (leaf_by (fate_as o Inside AsBytes tag) tag vr (value_by (replaced k) (fate_as o Inside AsBytes tag) vr value)) (inside_written o k l outer (Some tag) rest)
-inside_written o k l outer last (sequence tag vr declared items rest) = ap (sequence_by (fate_as o Inside AsItems tag) tag vr (items_by_fate (fate_as o) (value_by (replaced k)) items)) (inside_written o k l outer (Some tag) rest)
+inside_written o k l outer last (leaf tag vr value rest) = ap (leaf_by (fate_as o Inside AsBytes tag) tag vr (value_by (made_new o k) (fate_as o Inside AsBytes tag) vr value)) (inside_written o k l outer (Some tag) rest)
+inside_written o k l outer last (sequence tag vr declared items rest) = ap (sequence_by (fate_as o Inside AsItems tag) tag vr (items_by_fate (fate_as o) (value_by (made_new o k)) items)) (inside_written o k l outer (Some tag) rest)
 inside_written o k l outer last (fragments tag vr values rest) = ap (fragments_by (fate_as o Inside AsBytes tag) tag vr values) (inside_written o k l outer (Some tag) rest)
 
 -- an element: what is put before it, its head, and what follows
@@ -222,7 +223,7 @@ mutual
       element_shown o k last outer m tag _ (head_by fate a_sequence tag vr declared s) (out (judged_state o k outer m tag vr s fate a_sequence) contents) _ end
       (ap (out (at o k last outer 0 m)) is ∙ head_out o k last outer m tag vr declared s contents a_sequence fo)
       (sequence_shown o k outer m tag vr s others end (written o k outer (Some tag) rest) (trees_pass rest lists o k (Some tag) outer false others after more there same) fate declared
-      (items_by_fate (fate_as o) (value_by (replaced k)) items) contents fo
+      (items_by_fate (fate_as o) (value_by (made_new o k)) items) contents fo
       (drop_items items (suc lists) o k (Some tag) outer 0 m contents (closes_sequence ∷ others) inner within (omega (arith, same)) (omega arith))
       (items_pass items (suc lists) o k (Some tag) outer m contents (closes_sequence ∷ others) inner within (omega (arith, same))))
   trees_pass (fragments tag vr values rest) lists o k last outer m atoms after (s, others, fo, is, more) h same =
@@ -238,7 +239,7 @@ mutual
 
   pub items_pass : (t : Items) (lists : ℕ) (o : Options) (k : List ℕ) (last : Option Tag) (outer : List (Option Tag)) (m : Bool) (atoms after : List Atom)
       → ShowItems t atoms after → StaysShallow lists atoms → suc (length outer) ≡ lists
-      → ShowItems (items_by_fate (fate_as o) (value_by (replaced k)) t) (out (at o k last outer 0 m) atoms) (out (at o k last outer 0 false) after)
+      → ShowItems (items_by_fate (fate_as o) (value_by (made_new o k)) t) (out (at o k last outer 0 m) atoms) (out (at o k last outer 0 false) after)
   items_pass no_item lists o k last outer m atoms after e h same = ap (out (at o k last outer 0 m)) e ∙ out_any o k last outer 0 m false after
   items_pass (item declared set rest) lists o k last outer m atoms after (contents, others, is, inner, more) h same =
       let most : lists ≤ 64 = stays_here lists atoms h in

@@ -9,7 +9,7 @@ use Rattle.dcm_base.specs.Lines.Ascending.{Ascend}
 use Rattle.dcm_base.specs.Tree.Tree.{Trees, no_tree, leaf, sequence, fragments}
 use Rattle.dcm_base.specs.Tree.Front.{OpenTree, nothing_open, open_leaf, open_sequence, open_fragments}
 use Rattle.dcm_base.proofs.Dictionaries.TagOrder.{below_trans, tag_is}
-use Rattle.dcm_uid.specs.Uid.{replaced}
+use Rattle.dcm_deid.specs.MadeNew.{made_new}
 use Rattle.dcm_deid.specs.declared.fate.Options.{Options}
 use Rattle.dcm_deid.specs.declared.fate.Depth.TheVariants.{Outermost}
 use Rattle.dcm_deid.specs.declared.fate.ReadAs.TheVariants.{AsBytes, AsItems}
@@ -53,16 +53,16 @@ none_due o u next (m ∷ news) t x a h = not_first (is_after o (Some u) m.0) _ (
 abbrev pub end_of : Options → List ℕ → OpenTree → Bool → List (Tag × Trees) → Option Tag → Trees
 end_of o k nothing_open true news last = due_trees (is_due o last None) news no_tree
 end_of o k nothing_open false news last = no_tree
-end_of o k (open_leaf tag vr size value) c news last = due_trees (is_due o last (Some tag)) news (open_leaf_by (fate_as o Outermost AsBytes tag) (value_by (replaced k)) tag vr)
+end_of o k (open_leaf tag vr size value) c news last = due_trees (is_due o last (Some tag)) news (open_leaf_by (fate_as o Outermost AsBytes tag) (value_by (made_new o k)) tag vr)
 end_of o k (open_sequence tag vr declared items last') c news last = due_trees (is_due o last (Some tag)) news (open_sequence_by (fate_as o Outermost AsItems tag) tag vr)
 end_of o k (open_fragments tag vr values last') c news last = due_trees (is_due o last (Some tag)) news no_tree
 
 abbrev pub woven : Options → List ℕ → OpenTree → Bool → List (Tag × Trees) → Option Tag → Trees → Trees
 woven o k p c news last no_tree = end_of o k p c news last
 woven o k p c news last (leaf tag vr value rest) =
-    due_trees (is_due o last (Some tag)) news (leaf_by (fate_as o Outermost AsBytes tag) tag vr (value_by (replaced k) (fate_as o Outermost AsBytes tag) vr value) (woven o k p c news (Some tag) rest))
+    due_trees (is_due o last (Some tag)) news (leaf_by (fate_as o Outermost AsBytes tag) tag vr (value_by (made_new o k) (fate_as o Outermost AsBytes tag) vr value) (woven o k p c news (Some tag) rest))
 woven o k p c news last (sequence tag vr declared items rest) =
-    due_trees (is_due o last (Some tag)) news (sequence_by (fate_as o Outermost AsItems tag) tag vr (items_by_fate (fate_as o) (value_by (replaced k)) items) (woven o k p c news (Some tag) rest))
+    due_trees (is_due o last (Some tag)) news (sequence_by (fate_as o Outermost AsItems tag) tag vr (items_by_fate (fate_as o) (value_by (made_new o k)) items) (woven o k p c news (Some tag) rest))
 woven o k p c news last (fragments tag vr values rest) =
     due_trees (is_due o last (Some tag)) news (fragments_by (fate_as o Outermost AsBytes tag) tag vr values (woven o k p c news (Some tag) rest))
 

@@ -10,14 +10,14 @@ use Rattle.dcm_base.specs.Tree.Tree.{Trees, no_tree, leaf, sequence, fragments, 
 use Rattle.dcm_base.specs.Tree.Front.{OpenTree, nothing_open, open_leaf, open_sequence, open_fragments}
 use Rattle.dcm_base.proofs.Dictionaries.TagOrder.{below_trans, below_other_way}
 use Rattle.dcm_edits.specs.Edit.{has}
-use Rattle.dcm_uid.specs.Uid.{replaced}
+use Rattle.dcm_deid.specs.MadeNew.{made_new}
 use Rattle.dcm_deid.specs.declared.fate.Options.{Options}
 use Rattle.dcm_deid.specs.declared.fate.Fate.{Fate}
-use Rattle.dcm_deid.specs.declared.fate.Fate.TheVariants.{Remove, Empty, Replace, Uid, Keep}
+use Rattle.dcm_deid.specs.declared.fate.Fate.TheVariants.{Remove, Empty, Replace, Anew, Keep}
 use Rattle.dcm_deid.specs.declared.fate.Depth.TheVariants.{Outermost}
 use Rattle.dcm_deid.specs.declared.fate.ReadAs.TheVariants.{AsBytes, AsItems}
 use Rattle.dcm_deid.specs.Fate.{fate_as}
-use Rattle.dcm_deid.specs.Deidentify.{dummy, value_by}
+use Rattle.dcm_deid.specs.Deidentify.{Renaming, dummy, value_by}
 use Rattle.dcm_deid.specs.Saying.{put_in, open_leaf_by, open_sequence_by}
 use Rattle.dcm_deid.specs.DeidentifySink.{is_due}
 use Rattle.dcm_deid.proofs.Walked.{due_trees}
@@ -37,18 +37,18 @@ pub record End (tag : Tag) (t : Trees) : Type 0 where
   pub is : Part tag part
   pub whole : t ≡ part no_tree
 
-pub leaf_end : (fate : Fate) (k : List ℕ) (tag : Tag) (vr : Vr) → End tag (open_leaf_by fate (value_by (replaced k)) tag vr)
+pub leaf_end : (fate : Fate) (k : Renaming) (tag : Tag) (vr : Vr) → End tag (open_leaf_by fate (value_by k) tag vr)
 leaf_end Remove k tag vr = record { part = λ x. x; is = none_part tag; whole = refl }
 leaf_end Empty k tag vr = record { part = leaf tag vr []; is = leaf_part tag vr []; whole = refl }
 leaf_end Replace k tag vr = record { part = leaf tag vr (dummy vr); is = leaf_part tag vr (dummy vr); whole = refl }
-leaf_end Uid k tag vr = record { part = λ x. x; is = none_part tag; whole = refl }
+leaf_end (Anew made) k tag vr = record { part = λ x. x; is = none_part tag; whole = refl }
 leaf_end Keep k tag vr = record { part = λ x. x; is = none_part tag; whole = refl }
 
 pub sequence_end : (fate : Fate) (tag : Tag) (vr : Vr) → End tag (open_sequence_by fate tag vr)
 sequence_end Remove tag vr = record { part = λ x. x; is = none_part tag; whole = refl }
 sequence_end Empty tag vr = record { part = sequence tag vr Undefined no_item; is = sequence_part tag vr Undefined no_item; whole = refl }
 sequence_end Replace tag vr = record { part = sequence tag vr Undefined no_item; is = sequence_part tag vr Undefined no_item; whole = refl }
-sequence_end Uid tag vr = record { part = sequence tag vr Undefined no_item; is = sequence_part tag vr Undefined no_item; whole = refl }
+sequence_end (Anew made) tag vr = record { part = sequence tag vr Undefined no_item; is = sequence_part tag vr Undefined no_item; whole = refl }
 sequence_end Keep tag vr = record { part = λ x. x; is = none_part tag; whole = refl }
 
 pub fragments_end : (tag : Tag) → End tag no_tree
@@ -76,7 +76,7 @@ module _ (o : Options) (k : List ℕ) (news : List (Tag × Trees)) (n : Tag × T
   end_first : (p : OpenTree) (c : Bool) (u : Tag) → below n.0 u ≡ true → OpenAbove (Some u) p → First (end_of o k p c news (Some u))
   end_first nothing_open true u low up = first_after u None no_tree low first_none
   end_first nothing_open false u low up = first_none
-  end_first (open_leaf tag vr size value) c u low up = first_end u tag _ (leaf_end (fate_as o Outermost AsBytes tag) k tag vr) low up
+  end_first (open_leaf tag vr size value) c u low up = first_end u tag _ (leaf_end (fate_as o Outermost AsBytes tag) (made_new o k) tag vr) low up
   end_first (open_sequence tag vr declared items last') c u low up = first_end u tag _ (sequence_end (fate_as o Outermost AsItems tag) tag vr) low up
   end_first (open_fragments tag vr values last') c u low up = first_end u tag _ (fragments_end tag) low up
 

@@ -1,27 +1,39 @@
 -- Data sets that differ only in what is taken out of them.
-use Rattle.std.specs.Prelude.{◌≡◌, ℕ, List, []}
+use Rattle.std.specs.Prelude.{◌≡◌, ℕ, ℤ, List, []}
 use Rattle.dcm_base.specs.declared.vr.Vr.{Vr}
 use Rattle.dcm_base.specs.Tree.Tree.{Trees}
 use Rattle.dcm_base.specs.Tables.Transfer.{without_pads}
 use Rattle.dcm_deid.specs.declared.fate.Fate.{Fate}
-use Rattle.dcm_deid.specs.declared.fate.Fate.TheVariants.{Remove, Empty, Replace, Uid, Keep}
+use Rattle.dcm_deid.specs.declared.fate.Fate.TheVariants.{Remove, Empty, Replace, Anew, Keep}
 use Rattle.dcm_deid.specs.declared.fate.Options.{Options}
+use Rattle.dcm_deid.specs.declared.fate.Temporal.{Temporal}
+use Rattle.dcm_deid.specs.declared.fate.Temporal.TheVariants.{Removed, Full, Modified}
 use Rattle.dcm_deid.specs.declared.fate.Depth.{Depth}
 use Rattle.dcm_deid.specs.Fate.{fate_as}
-use Rattle.dcm_deid.specs.Deidentify.{by_fate}
+use Rattle.dcm_deid.specs.Deidentify.{Renaming, by_fate}
+use Rattle.dcm_deid.specs.MadeNew.{left_of}
 
--- what is asked of a value: nothing of one that is taken, of a unique identifier all but its pads
-abbrev pub value_left : Fate → Vr → List ℕ → List ℕ
-value_left Remove vr value = []
-value_left Empty vr value = []
-value_left Replace vr value = []
-value_left Uid vr value = without_pads value
-value_left Keep vr value = value
+-- what is asked of a value: nothing of one that is taken, of one that is made anew what has an influence
+abbrev pub value_left : Renaming → Fate → Vr → List ℕ → List ℕ
+value_left left Remove vr value = []
+value_left left Empty vr value = []
+value_left left Replace vr value = []
+value_left left (Anew made) vr value = left made (without_pads value)
+value_left left Keep vr value = value
 
 -- a data set from which all was struck that is taken out of it
 abbrev pub struck : Options → Depth → Trees → Trees
-struck options depth set = by_fate (fate_as options) value_left depth set
+struck options depth set = by_fate (fate_as options) (value_left (left_of options)) depth set
 
--- two data sets differ only in what is taken
-abbrev pub Alike : Options → Depth → Trees → Trees → Type 0
-Alike options depth f g = struck options depth f ≡ struck options depth g
+-- the options with another number of days, where dates are moved
+abbrev pub moved_by : (days : ℤ) → Temporal → Temporal
+moved_by days Removed = Removed
+moved_by days Full = Full
+moved_by days (Modified other) = Modified days
+
+abbrev pub moving : Options → (days : ℤ) → Options
+moving options days = record options { dates = moved_by days options.dates }
+
+-- two data sets differ only in what is taken, where the dates of one are moved by d days, and of the other by e
+abbrev pub Alike : Options → Depth → (d e : ℤ) → Trees → Trees → Type 0
+Alike options depth d e f g = struck (moving options d) depth f ≡ struck (moving options e) depth g

@@ -11,7 +11,8 @@ use Rattle.dcm_base.specs.Tables.Representation.{pad, unit}
 use Rattle.dcm_base.specs.Tree.Value.{evened}
 use Rattle.dcm_base.specs.Tables.Transfer.{without_pads}
 use Rattle.dcm_deid.specs.declared.fate.Fate.{Fate}
-use Rattle.dcm_deid.specs.declared.fate.Fate.TheVariants.{Remove, Empty, Replace, Uid, Keep}
+use Rattle.dcm_deid.specs.declared.fate.Fate.TheVariants.{Remove, Empty, Replace, Anew, Keep}
+use Rattle.dcm_deid.specs.declared.fate.NewValue.{NewValue}
 use Rattle.dcm_deid.specs.declared.fate.Options.{Options}
 use Rattle.dcm_deid.specs.declared.fate.Depth.{Depth}
 use Rattle.dcm_deid.specs.declared.fate.Depth.TheVariants.{Inside}
@@ -44,16 +45,16 @@ dummy UN = []
 dummy SQ = []
 dummy vr = replicate (unit vr) 0
 
--- what a given function makes of unique identifiers
+-- what is made of a value without its padding, by what it is
 abbrev pub Renaming : Type 0
-Renaming = List ℕ → List ℕ
+Renaming = NewValue → List ℕ → List ℕ
 
 -- the value of an element that stays
 abbrev pub value_by : Renaming → Fate → Vr → List ℕ → List ℕ
 value_by new Remove vr value = []
 value_by new Empty vr value = []
 value_by new Replace vr value = dummy vr
-value_by new Uid vr value = evened (pad vr) (new (without_pads value))
+value_by new (Anew made) vr value = evened (pad vr) (new made (without_pads value))
 value_by new Keep vr value = value
 
 -- an element by its fate, before the elements that follow it: only what is kept has items or fragments

@@ -9,8 +9,8 @@ use Rattle.dcm_base.specs.declared.length.Length.TheVariants.{Undefined}
 use Rattle.dcm_base.specs.declared.syntax.Syntax.{Syntax}
 use Rattle.dcm_base.specs.Tables.Syntax.{Little}
 use Rattle.dcm_base.specs.Tables.Tag.{is_tag, is_above, below}
+use Rattle.dcm_base.specs.Tables.Transfer.{is_pad, without_pads}
 use Rattle.dcm_base.specs.Tables.Representation.{pad}
-use Rattle.dcm_base.specs.Tables.Transfer.{is_pad}
 use Rattle.dcm_base.specs.Tree.Value.{evened, order}
 use Rattle.dcm_base.specs.declared.form.Form.{Form}
 use Rattle.dcm_base.specs.declared.form.Form.TheVariants.{Value as a_value, Sequence as a_sequence}
@@ -23,42 +23,44 @@ use Rattle.dcm_stream.specs.declared.token.Bar.{Bar as SinkBar}
 use Rattle.dcm_stream.specs.declared.token.Bar.TheVariants.{Order, Identity}
 use Rattle.dcm_stream.specs.Skip.{opened, closed}
 use Rattle.dcm_stream.specs.Tokens.{leaf_atoms}
-use Rattle.dcm_uid.specs.Uid.{new_value}
 use Rattle.dcm_deid.specs.declared.fate.Fate.{Fate}
-use Rattle.dcm_deid.specs.declared.fate.Fate.TheVariants.{Empty, Replace, Uid, Keep}
+use Rattle.dcm_deid.specs.declared.fate.Fate.TheVariants.{Empty, Replace, Anew, Keep}
 use Rattle.dcm_deid.specs.declared.fate.Options.{Options}
 use Rattle.dcm_deid.specs.declared.fate.Depth.{Depth}
 use Rattle.dcm_deid.specs.declared.fate.Depth.TheVariants.{Outermost, Inside}
 use Rattle.dcm_deid.specs.declared.fate.ReadAs.{ReadAs}
 use Rattle.dcm_deid.specs.declared.fate.ReadAs.TheVariants.{AsBytes, AsItems}
-use Rattle.dcm_deid.specs.Fate.{fate_as}
-use Rattle.dcm_deid.specs.Deidentify.{dummy}
-use Rattle.dcm_deid.specs.Saying.{tag_at}
+use Rattle.dcm_deid.specs.Fate.{are_full, are_left, fate_as, is_kept}
+use Rattle.dcm_deid.specs.Deidentify.{Renaming, dummy}
+use Rattle.dcm_deid.specs.MadeNew.{made_new}
+use Rattle.dcm_deid.specs.Saying.{dates_became, dates_code, dates_meaning, tag_at}
 use Rattle.dcm_deid.specs.Pixels.{says_of_pixels, means_yes}
 
 -- ---- the value of an open element
 
--- the first bytes of a value, and whether others than padding come after them
+-- what becomes of an element, the first bytes of its value, and whether others than padding come after them
 pub record Held : Type 0 where
+  pub fate : Fate
   pub tag : Tag
   pub vr : Vr
   pub syntax : Syntax
   pub bytes : List ℕ
   pub is_longer : Bool
 
--- the most bytes of a unique identifier (PS3.5 6.2)
-abbrev pub MOST_OF_UID : ℕ
-MOST_OF_UID = 64
+-- the most bytes that are held
+abbrev pub MOST_HELD : ℕ
+MOST_HELD = 256
 
-abbrev pub nothing_held : Tag → Vr → Syntax → Held
-nothing_held tag vr syntax = record { tag = tag; vr = vr; syntax = syntax; bytes = []; is_longer = false }
+abbrev pub nothing_held : Fate → Tag → Vr → Syntax → Held
+nothing_held fate tag vr syntax = record { fate = fate; tag = tag; vr = vr; syntax = syntax; bytes = []; is_longer = false }
 
 -- with one more byte
 abbrev pub held_with : Held → ℕ → Held
 held_with h byte =
-    if nat_lt (length h.bytes) MOST_OF_UID
-    then record { tag = h.tag; vr = h.vr; syntax = h.syntax; bytes = h.bytes ++ byte ∷ []; is_longer = h.is_longer }
+    if nat_lt (length h.bytes) MOST_HELD
+    then record { fate = h.fate; tag = h.tag; vr = h.vr; syntax = h.syntax; bytes = h.bytes ++ byte ∷ []; is_longer = h.is_longer }
     else record {
+      fate = h.fate;
       tag = h.tag;
       vr = h.vr;
       syntax = h.syntax;
@@ -70,9 +72,13 @@ held_with h byte =
 abbrev pub ordered : Held → List ℕ
 ordered h = order h.syntax h.vr h.bytes
 
--- what takes the place of a unique identifier
-abbrev pub new_of : (key : List ℕ) → Held → List ℕ
-new_of key h = if h.is_longer then [] else evened (pad h.vr) (new_value key (ordered h))
+-- what takes the place of a value that is made anew
+abbrev pub made_of : Renaming → Fate → Vr → List ℕ → List ℕ
+made_of new (Anew made) vr value = evened (pad vr) (new made (without_pads value))
+made_of new _ vr value = []
+
+abbrev pub new_of : Renaming → Held → List ℕ
+new_of new h = if h.is_longer then [] else made_of new h.fate h.vr (ordered h)
 
 abbrev pub is_yes : Held → Bool
 is_yes h = not h.is_longer && means_yes (ordered h)
@@ -121,13 +127,9 @@ read_by _ = AsBytes
 abbrev pub fate_at : Options → Place → Form → Tag → Fate
 fate_at options p form tag = fate_as options (depth_of p.outer) (read_by form) tag
 
-abbrev pub is_kept : Fate → Bool
-is_kept Keep = true
-is_kept _ = false
-
 -- the values that have to be known when they end
 abbrev pub is_held : Fate → Form → Tag → Bool
-is_held Uid a_value tag = true
+is_held (Anew made) a_value tag = true
 is_held Keep a_value tag = says_of_pixels tag
 is_held _ _ tag = false
 
@@ -141,13 +143,13 @@ abbrev pub holding : Place → Option Held → Place
 holding p held =
     record { last = p.last; outer = p.outer; dropped = p.dropped; held = held; may_show = p.may_show }
 
-abbrev pub held_if : Bool → Tag → Vr → Syntax → Option Held
-held_if is_held tag vr s = if is_held then Some (nothing_held tag vr s) else None
+abbrev pub held_if : Bool → Fate → Tag → Vr → Syntax → Option Held
+held_if is_held fate tag vr s = if is_held then Some (nothing_held fate tag vr s) else None
 
 -- an element of this fate is left out unless it is kept, and its value is held where it has to be known
 abbrev pub judged : Place → Fate → Form → Tag → Vr → Syntax → Place
 judged p fate form tag vr s = holding
-    (moved p p.last p.outer (opened p.dropped (not (is_kept fate)))) (held_if (is_held fate form tag) tag vr s)
+    (moved p p.last p.outer (opened p.dropped (not (is_kept fate)))) (held_if (is_held fate form tag) fate tag vr s)
 
 abbrev pub judged_at : Options → Place → Tag → Vr → Length → Syntax → Place
 judged_at options p tag vr declared s =
@@ -220,8 +222,7 @@ code_atoms_if given code meaning = if given then code_atoms code meaning else []
 abbrev pub method_atoms : Options → List Atom
 method_atoms options =
     code_atoms (codes "113100") (codes "Basic Application Confidentiality Profile")
-    ++ (code_atoms_if options.dates (codes "113106")
-    (codes "Retain Longitudinal Temporal Information Full Dates Option")
+    ++ (code_atoms_if (are_left options.dates) (dates_code options.dates) (dates_meaning options.dates)
     ++ (code_atoms_if options.patient (codes "113108") (codes "Retain Patient Characteristics Option")
     ++ (code_atoms_if options.device (codes "113109") (codes "Retain Device Identity Option")
     ++ (code_atoms_if options.uids (codes "113110") (codes "Retain UIDs Option")
@@ -232,11 +233,11 @@ methods_said options = opens (tag_at 0x0012 0x0064) SQ Undefined Little ∷ (met
 
 abbrev pub dates_said : Options → List Atom
 dates_said options =
-    leaf_atoms (tag_at 0x0028 0x0303) CS (if options.dates then codes "UNMODIFIED" else codes "REMOVED")
+    leaf_atoms (tag_at 0x0028 0x0303) CS (dates_became options.dates)
 
 -- what says what became of dates is not put where it was there and stays
 abbrev pub is_there : Options → (last tag : Tag) → Bool
-is_there options last tag = options.dates && (is_tag 0x0028 0x0303 tag && is_tag 0x0028 0x0303 last)
+is_there options last tag = are_full options.dates && (is_tag 0x0028 0x0303 tag && is_tag 0x0028 0x0303 last)
 
 abbrev pub is_after : Options → (last : Option Tag) → Tag → Bool
 is_after options None tag = true
@@ -294,7 +295,7 @@ abbrev pub head_by : Fate → Form → Tag → Vr → Length → Syntax → List
 head_by Keep form tag vr declared s = opens tag vr (kept_length form declared) s ∷ []
 head_by Empty a_sequence tag vr declared s = empty_sequence tag vr
 head_by Replace a_sequence tag vr declared s = empty_sequence tag vr
-head_by Uid a_sequence tag vr declared s = empty_sequence tag vr
+head_by (Anew made) a_sequence tag vr declared s = empty_sequence tag vr
 head_by Empty a_value tag vr declared s = leaf_atoms tag vr []
 head_by Replace a_value tag vr declared s = leaf_atoms tag vr (dummy vr)
 head_by _ _ tag vr declared s = []
@@ -315,18 +316,18 @@ passed_open options p closes_sequence = closes_sequence ∷ []
 passed_open options p (opens_fragment size) = opens_fragment size ∷ []
 passed_open options p ends = said_before options p None ++ ends ∷ []
 
-abbrev pub new_uid_atoms : (key : List ℕ) → Option Held → List Atom
-new_uid_atoms key None = []
-new_uid_atoms key (Some h) = leaf_atoms h.tag h.vr (new_of key h)
+abbrev pub new_value_atoms : Renaming → Option Held → List Atom
+new_value_atoms new None = []
+new_value_atoms new (Some h) = leaf_atoms h.tag h.vr (new_of new h)
 
--- of one that is left out: a new unique identifier at its end
-abbrev pub passed_left_out : (key : List ℕ) → Place → Atom → List Atom
-passed_left_out key p closes_leaf = new_uid_atoms key p.held
-passed_left_out key p _ = []
+-- of one that is left out: what is made of its value, at its end
+abbrev pub passed_left_out : Renaming → Place → Atom → List Atom
+passed_left_out new p closes_leaf = new_value_atoms new p.held
+passed_left_out new p _ = []
 
 abbrev pub passed_by_depth : ℕ → Options → (key : List ℕ) → Place → Atom → List Atom
 passed_by_depth zero options key p a = passed_open options p a
-passed_by_depth (suc n) options key p a = passed_left_out key p a
+passed_by_depth (suc n) options key p a = passed_left_out (made_new options key) p a
 
 abbrev pub passed : State → Atom → List Atom
 passed s a = passed_by_depth s.place.dropped s.options s.key s.place a

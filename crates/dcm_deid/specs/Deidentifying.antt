@@ -15,7 +15,7 @@ use Rattle.dcm_deid.specs.declared.fate.Options.{Options}
 use Rattle.dcm_deid.specs.DeidentifySink.{Held, Place, State, next, passed, head_by}
 
 abbrev pub held : HeldValue → Held
-held h = record { tag = h.tag; vr = h.vr; syntax = h.syntax; bytes = h.bytes.items; is_longer = h.is_longer }
+held h = record { fate = h.fate; tag = h.tag; vr = h.vr; syntax = h.syntax; bytes = h.bytes.items; is_longer = h.is_longer }
 
 abbrev pub place : Deidentifier → Place
 place d = record {

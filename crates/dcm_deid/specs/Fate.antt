@@ -10,7 +10,10 @@ use Rattle.dcm_base.specs.Tables.Tag.{tag_number, is_tag}
 use Rattle.dcm_base.specs.Tables.Representation.{is_sequence}
 use Rattle.dcm_base.specs.Tables.Dictionary.{known_vr_in, vr_in}
 use Rattle.dcm_deid.specs.declared.fate.Fate.{Fate}
-use Rattle.dcm_deid.specs.declared.fate.Fate.TheVariants.{Remove, Empty, Keep}
+use Rattle.dcm_deid.specs.declared.fate.Fate.TheVariants.{Remove, Empty, Anew, Keep}
+use Rattle.dcm_deid.specs.declared.fate.NewValue.TheVariants.{Pseudonym, MovedDate, MovedDateTime}
+use Rattle.dcm_deid.specs.declared.fate.Temporal.{Temporal}
+use Rattle.dcm_deid.specs.declared.fate.Temporal.TheVariants.{Full, Modified}
 use Rattle.dcm_deid.specs.declared.fate.Options.{Options}
 use Rattle.dcm_deid.specs.declared.fate.Retain.{Retain}
 use Rattle.dcm_deid.specs.declared.fate.Retain.TheVariants.{Uids, Device, Institution, Patient, Dates}
@@ -27,13 +30,26 @@ Action = ℕ × Fate × List Retain
 unfoldable pub actions : List Action
 actions = map (λ a. (a.0, a.1, a.2.now)) ACTIONS
 
--- whether an option is given (PS3.15 E.3)
+-- whether dates stay as they are, and whether they are moved
+abbrev pub are_full : Temporal → Bool
+are_full Full = true
+are_full _ = false
+
+abbrev pub are_modified : Temporal → Bool
+are_modified (Modified days) = true
+are_modified _ = false
+
+-- whether dates stay or are moved
+abbrev pub are_left : Temporal → Bool
+are_left dates = are_full dates || are_modified dates
+
+-- whether an option is given (PS3.15 E.3): that of full dates and that of modified ones keep the same
 abbrev pub is_given : Options → Retain → Bool
 is_given options Uids = options.uids
 is_given options Device = options.device
 is_given options Institution = options.institution
 is_given options Patient = options.patient
-is_given options Dates = options.dates
+is_given options Dates = are_left options.dates
 
 -- whether one of them is given
 abbrev pub keeps : Options → List Retain → Bool
@@ -43,7 +59,7 @@ keeps options retains = list_any (is_given options) retains
 abbrev pub is_put : Options → Tag → Bool
 is_put options tag =
     is_tag 0x0012 0x0062 tag || is_tag 0x0012 0x0063 tag || is_tag 0x0012 0x0064 tag
-    || (is_tag 0x0028 0x0303 tag && not options.dates)
+    || (is_tag 0x0028 0x0303 tag && not (are_full options.dates))
 
 abbrev pub is_put_at : Options → Depth → Tag → Bool
 is_put_at options Outermost tag = is_put options tag
@@ -51,9 +67,9 @@ is_put_at options Inside tag = false
 
 -- of an element that the table does not have: dates, times and names of persons are emptied
 abbrev pub fate_of_vr : Options → Vr → Fate
-fate_of_vr options DA = if options.dates then Keep else Empty
-fate_of_vr options TM = if options.dates then Keep else Empty
-fate_of_vr options DT = if options.dates then Keep else Empty
+fate_of_vr options DA = if are_left options.dates then Keep else Empty
+fate_of_vr options TM = if are_left options.dates then Keep else Empty
+fate_of_vr options DT = if are_left options.dates then Keep else Empty
 fate_of_vr options PN = Empty
 fate_of_vr options _ = Keep
 
@@ -61,9 +77,29 @@ abbrev pub fate_in_table : Options → Option Action → Vr → Fate
 fate_in_table options (Some action) vr = if keeps options action.2 then Keep else action.1
 fate_in_table options None vr = fate_of_vr options vr
 
+-- what becomes of what would be kept: a date, and a time with one, is moved where dates are
+abbrev pub kept_as : (moved : Bool) → Vr → Fate
+kept_as moved DA = if moved then Anew MovedDate else Keep
+kept_as moved DT = if moved then Anew MovedDateTime else Keep
+kept_as moved _ = Keep
+
+abbrev pub is_kept : Fate → Bool
+is_kept Keep = true
+is_kept _ = false
+
+abbrev pub moved_if : (moved : Bool) → Vr → Fate → Fate
+moved_if moved vr fate = if is_kept fate then kept_as moved vr else fate
+
+-- the fate of an element with this representation in the dictionary
+abbrev pub fate_by_vr : Options → Tag → Vr → Fate
+fate_by_vr options tag vr =
+    if is_tag 0x0010 0x0020 tag && options.pseudonyms then Anew Pseudonym
+    else moved_if (are_modified options.dates) vr
+    (fate_in_table options (find (λ a. a.0 == tag_number tag) actions) vr)
+
 -- of an element that the dictionary has
 abbrev pub fate_of_known : Options → Tag → Fate
-fate_of_known options tag = fate_in_table options (find (λ a. a.0 == tag_number tag) actions) (vr_in Standard tag)
+fate_of_known options tag = fate_by_vr options tag (vr_in Standard tag)
 
 -- whether the dictionary has an element, and it is no length of a group
 abbrev pub is_some_element : {A : Type 0} → Option A → Bool

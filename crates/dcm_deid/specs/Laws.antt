@@ -12,9 +12,9 @@ use Rattle.dcm_base.specs.declared.length.Length.{Length}
 use Rattle.dcm_base.specs.Reading.Bars.{identity_bar}
 use Rattle.dcm_stream.specs.Driven.{bars_by}
 use Rattle.dcm_sinks.specs.Laws.{StaysShallow}
-use Rattle.dcm_uid.specs.Uid.{replaced}
 use Rattle.dcm_deid.specs.declared.fate.Options.{Options}
 use Rattle.dcm_deid.specs.DeidentifySink.{begun, next, passed, deidentify_bar}
+use Rattle.dcm_deid.specs.MadeNew.{made_new}
 use Rattle.dcm_deid.specs.Pixels.{may_show}
 use Rattle.dcm_deid.specs.Saying.{deidentified, read_whole, whole_of}
 
@@ -23,7 +23,7 @@ abbrev pub DeidentifySteps : Type 0
 DeidentifySteps =
     (options : Options) (key : List ℕ) (f : Front) (atoms : List Atom) → FrontAscends f → StaysShallow 0 atoms
     → Shows f atoms
-    → Shows (reached_anew (deidentified options (replaced key) f)) (outputs next passed (begun options key) atoms)
+    → Shows (reached_anew (deidentified options (made_new options key) f)) (outputs next passed (begun options key) atoms)
 
 -- the sink bars a head exactly where identity is barred: its tag is not above the last one of its data set, or identity
 -- cannot be taken out of it
@@ -40,4 +40,4 @@ PixelSteps =
     (options : Options) (key : List ℕ) (reached : Option Tag) (set : Trees) (atoms : List Atom)
     → StaysShallow 0 atoms → Shows (read_whole reached set) atoms
     → (fold next (begun options key) atoms).place.may_show
-    ≡ may_show (whole_of (deidentified options (replaced key) (read_whole reached set)))
+    ≡ may_show (whole_of (deidentified options (made_new options key) (read_whole reached set)))

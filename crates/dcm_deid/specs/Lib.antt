@@ -1,6 +1,8 @@
 pub mod Fate
 pub mod Marks
 pub mod Deidentify
+pub mod MadeNew
+pub mod MadeForms
 pub mod Alike
 pub mod Remains
 pub mod Saying

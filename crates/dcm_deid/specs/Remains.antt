@@ -5,7 +5,7 @@ use Rattle.dcm_base.specs.Tree.Tree.{Trees, no_tree, leaf, sequence, fragments, 
 use Rattle.dcm_base.specs.Tables.Representation.{pad}
 use Rattle.dcm_base.specs.Tree.Value.{evened}
 use Rattle.dcm_deid.specs.declared.fate.Fate.{Fate}
-use Rattle.dcm_deid.specs.declared.fate.Fate.TheVariants.{Remove, Empty, Replace, Uid, Keep}
+use Rattle.dcm_deid.specs.declared.fate.Fate.TheVariants.{Remove, Empty, Replace, Anew, Keep}
 use Rattle.dcm_deid.specs.declared.fate.Options.{Options}
 use Rattle.dcm_deid.specs.declared.fate.Depth.{Depth}
 use Rattle.dcm_deid.specs.declared.fate.Depth.TheVariants.{Inside}
@@ -13,8 +13,8 @@ use Rattle.dcm_deid.specs.declared.fate.ReadAs.TheVariants.{AsBytes, AsItems}
 use Rattle.dcm_deid.specs.Fate.{fate_as}
 use Rattle.dcm_deid.specs.Deidentify.{Renaming, dummy, Fates, by_fate}
 
--- a new unique identifier of some one, with its pad byte
-abbrev pub IsRenamed : Renaming → Vr → List ℕ → Type 0
+-- what was made of some value, with its pad byte
+abbrev pub IsRenamed : (List ℕ → List ℕ) → Vr → List ℕ → Type 0
 IsRenamed new vr value = (old : List ℕ) × (value ≡ evened (pad vr) (new old))
 
 -- nothing that was taken is in a value, by the fate of its element
@@ -22,7 +22,7 @@ abbrev pub ValueIsClean : Renaming → Fate → Vr → List ℕ → Type 0
 ValueIsClean new Remove vr value = ⊥
 ValueIsClean new Empty vr value = value ≡ []
 ValueIsClean new Replace vr value = value ≡ dummy vr
-ValueIsClean new Uid vr value = IsRenamed new vr value
+ValueIsClean new (Anew made) vr value = IsRenamed (new made) vr value
 ValueIsClean new Keep vr value = Unit {0}
 
 -- a sequence whose items, if it is kept, are clean

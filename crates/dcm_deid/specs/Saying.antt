@@ -12,10 +12,12 @@ use Rattle.dcm_edits.specs.Edit.{has, has_open, is_passed}
 use Rattle.dcm_deid.specs.declared.fate.Fate.{Fate}
 use Rattle.dcm_deid.specs.declared.fate.Fate.TheVariants.{Remove, Empty, Replace, Keep}
 use Rattle.dcm_deid.specs.declared.fate.Options.{Options}
+use Rattle.dcm_deid.specs.declared.fate.Temporal.{Temporal}
+use Rattle.dcm_deid.specs.declared.fate.Temporal.TheVariants.{Removed, Full, Modified}
 use Rattle.dcm_deid.specs.declared.fate.Depth.{Depth}
 use Rattle.dcm_deid.specs.declared.fate.Depth.TheVariants.{Outermost, Inside}
 use Rattle.dcm_deid.specs.declared.fate.ReadAs.TheVariants.{AsBytes, AsItems}
-use Rattle.dcm_deid.specs.Fate.{fate_as}
+use Rattle.dcm_deid.specs.Fate.{are_left, fate_as}
 use Rattle.dcm_deid.specs.Deidentify.{Renaming, value_by, Fates, Values, by_fate, items_by_fate}
 
 -- ---- as far as it was read
@@ -104,17 +106,32 @@ code_item code meaning rest =
 abbrev pub code_if : Bool → List ℕ → List ℕ → Items → Items
 code_if given code meaning rest = if given then code_item code meaning rest else rest
 
+-- the code of the option that keeps dates as they are, or moves them, and its meaning
+abbrev pub dates_code : Temporal → List ℕ
+dates_code (Modified days) = codes "113107"
+dates_code _ = codes "113106"
+
+abbrev pub dates_meaning : Temporal → List ℕ
+dates_meaning (Modified days) = codes "Retain Longitudinal Temporal Information Modified Dates Option"
+dates_meaning _ = codes "Retain Longitudinal Temporal Information Full Dates Option"
+
 abbrev pub methods : Options → Items
 methods options =
     code_item (codes "113100") (codes "Basic Application Confidentiality Profile")
-    (code_if options.dates (codes "113106") (codes "Retain Longitudinal Temporal Information Full Dates Option")
+    (code_if (are_left options.dates) (dates_code options.dates) (dates_meaning options.dates)
     (code_if options.patient (codes "113108") (codes "Retain Patient Characteristics Option")
     (code_if options.device (codes "113109") (codes "Retain Device Identity Option")
     (code_if options.uids (codes "113110") (codes "Retain UIDs Option")
     (code_if options.institution (codes "113112") (codes "Retain Institution Identity Option") no_item)))))
 
+-- what became of dates
+abbrev pub dates_became : Temporal → List ℕ
+dates_became Removed = codes "REMOVED"
+dates_became Full = codes "UNMODIFIED"
+dates_became (Modified days) = codes "MODIFIED"
+
 abbrev pub dates_said : Options → List ℕ
-dates_said options = if options.dates then codes "UNMODIFIED" else codes "REMOVED"
+dates_said options = dates_became options.dates
 
 abbrev pub said : Options → List (Tag × Trees)
 said options =

@@ -7,6 +7,7 @@ use Rattle.dcm_base.specs.Tables.Transfer.{without_pads}
 use Rattle.dcm_base.specs.Tree.Tree.{Trees, no_tree, leaf, sequence, fragments}
 use Rattle.dcm_uid.specs.Uid.{new_value, replaced}
 use Rattle.dcm_deid.specs.declared.fate.Options.{Options}
+use Rattle.dcm_deid.specs.MadeNew.{made_new}
 use Rattle.dcm_deid.specs.Meta.{meta_without_identity}
 use Rattle.dcm_deid.specs.Saying.{deidentified, read_whole, tag_at, whole_of}
 
@@ -42,7 +43,7 @@ HeadsBy =
 abbrev pub SetsBy : Type 0
 SetsBy =
     (options : Options) (key : List ℕ) (reached : Option Tag) (set : Trees)
-    → instance_of_set (whole_of (deidentified options (replaced key) (read_whole reached set)))
+    → instance_of_set (whole_of (deidentified options (made_new options key) (read_whole reached set)))
     ≡ option_map (instance_by options key) (instance_of_set set)
 
 -- so where both have the same instance, they have the same one afterwards
@@ -51,4 +52,4 @@ UidsAgree =
     (options : Options) (key : List ℕ) (m : Meta) (reached : Option Tag) (set : Trees)
     → instance_of_head m ≡ instance_of_set set
     → instance_of_head (meta_without_identity options key m)
-    ≡ instance_of_set (whole_of (deidentified options (replaced key) (read_whole reached set)))
+    ≡ instance_of_set (whole_of (deidentified options (made_new options key) (read_whole reached set)))

@@ -70,7 +70,7 @@ pub fn is_held(fate: Fate, form: Form, tag: Tag) -> bool
     ensures { result ≡ spec.is_held fate form tag }
 {
     match (form, fate) {
-        (Form::Value, Fate::Uid) => true,
+        (Form::Value, Fate::Anew(_)) => true,
         (Form::Value, Fate::Keep) => says_of_pixels(tag),
         _ => false,
     }
@@ -144,7 +144,7 @@ impl Deidentifier {
     {
         self.skip.open(fate != Fate::Keep);
         if is_held(fate, form, head.tag) {
-            self.held = Some(HeldValue::new(head.tag, head.vr, syntax));
+            self.held = Some(HeldValue::new(fate, head.tag, head.vr, syntax));
         } else {
             self.let_go();
         }

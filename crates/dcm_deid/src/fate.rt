@@ -20,8 +20,27 @@ const NUMBERS_OF_A_MARK: u64 = 0x8_0000;
 /// How many numbers there are.
 const ALL_NUMBERS: u64 = 0x1_0000_0000;
 
+/// PatientID.
+const PATIENT_ID: Tag = Tag {
+    group: 0x0010,
+    element: 0x0020,
+};
+
 /// Spreads numbers that are close to each other: 2^32 divided by the golden ratio.
 const SPREAD: u64 = 0x9E37_79B9;
+
+/// What a value is that is made anew.
+#[derive(Clone, Copy, Debug, PartialEq, Eq)]
+pub enum NewValue {
+    /// A unique identifier, which becomes another one.
+    Uid,
+    /// A PatientID, which becomes a pseudonym.
+    Pseudonym,
+    /// Dates, which are moved.
+    MovedDate,
+    /// Dates with times, which are moved.
+    MovedDateTime,
+}
 
 /// What becomes of an element.
 #[derive(Clone, Copy, Debug, PartialEq, Eq)]
@@ -32,10 +51,21 @@ pub enum Fate {
     Empty,
     /// Its head stays, with a value that is the same for all.
     Replace,
-    /// Its head stays, with a new unique identifier.
-    Uid,
+    /// Its head stays, with a value that is made of the old one.
+    Anew(NewValue),
     /// It stays as it is.
     Keep,
+}
+
+/// What becomes of dates and times (PS3.15 E.3.6).
+#[derive(Clone, Copy, Debug, PartialEq, Eq)]
+pub enum Temporal {
+    /// They go.
+    Removed,
+    /// They stay.
+    Full,
+    /// They stay, their dates moved by so many days.
+    Modified(i32),
 }
 
 /// The options that keep more (PS3.15 E.3), each given or not.
@@ -49,8 +79,10 @@ pub struct Options {
     pub institution: bool,
     /// Retain Patient Characteristics.
     pub patient: bool,
-    /// Retain Longitudinal Temporal Information, Full Dates.
-    pub dates: bool,
+    /// Retain Longitudinal Temporal Information, Full Dates or Modified Dates.
+    pub dates: Temporal,
+    /// PatientID becomes a pseudonym.
+    pub pseudonyms: bool,
 }
 
 /// One of these options.
@@ -77,6 +109,35 @@ pub enum ReadAs {
     AsItems,
 }
 
+impl Temporal {
+    /// Whether dates stay as they are.
+    pub fn are_full(&self) -> bool
+        ensures { result ≡ spec.are_full self.now }
+    {
+        match self {
+            Temporal::Full => true,
+            Temporal::Removed | Temporal::Modified(_) => false,
+        }
+    }
+
+    /// Whether dates are moved.
+    pub fn are_modified(&self) -> bool
+        ensures { result ≡ spec.are_modified self.now }
+    {
+        match self {
+            Temporal::Modified(_) => true,
+            Temporal::Removed | Temporal::Full => false,
+        }
+    }
+
+    /// Whether dates stay or are moved.
+    pub fn are_left(&self) -> bool
+        ensures { result ≡ spec.are_left self.now }
+    {
+        self.are_full() || self.are_modified()
+    }
+}
+
 impl Options {
     /// Whether an option is given.
     fn gives(&self, retain: Retain) -> bool
@@ -87,7 +148,7 @@ impl Options {
             Retain::Device => self.device,
             Retain::Institution => self.institution,
             Retain::Patient => self.patient,
-            Retain::Dates => self.dates,
+            Retain::Dates => self.dates.are_left(),
         }
     }
 
@@ -163,14 +224,14 @@ fn fate_of_vr(options: &Options, vr: Vr) -> Fate
     ensures { result ≡ spec.fate_of_vr options.now vr }
 {
     match vr {
-        Vr::DA | Vr::TM | Vr::DT if !options.dates => Fate::Empty,
+        Vr::DA | Vr::TM | Vr::DT if !options.dates.are_left() => Fate::Empty,
         Vr::PN => Fate::Empty,
         _ => Fate::Keep,
     }
 }
 
-/// What becomes of an element that the dictionary has, with this representation.
-fn fate_of_known(options: &Options, tag: Tag, vr: Vr) -> Fate
+/// What becomes by the table of an element that the dictionary has, with this representation.
+fn fate_in_table(options: &Options, tag: Tag, vr: Vr) -> Fate
     ensures { result ≡ spec.fate_in_table options.now (find (λ a. a.0 == tag_number tag) spec.actions) vr }
 {
     match row_in_table(tag.number()) {
@@ -180,13 +241,49 @@ fn fate_of_known(options: &Options, tag: Tag, vr: Vr) -> Fate
     }
 }
 
+/// What becomes of an element of this representation that would be kept: a date is moved where dates are.
+fn kept_as(moved: bool, vr: Vr) -> Fate
+    ensures { result ≡ spec.kept_as moved vr }
+{
+    match vr {
+        Vr::DA if moved => Fate::Anew(NewValue::MovedDate),
+        Vr::DT if moved => Fate::Anew(NewValue::MovedDateTime),
+        _ => Fate::Keep,
+    }
+}
+
+/// Whether it stays as it is.
+fn is_kept(fate: Fate) -> bool
+    ensures { result ≡ spec.is_kept fate }
+{
+    match fate {
+        Fate::Keep => true,
+        Fate::Remove | Fate::Empty | Fate::Replace | Fate::Anew(_) => false,
+    }
+}
+
+/// What becomes of an element that the dictionary has, with this representation.
+fn fate_of_known(options: &Options, tag: Tag, vr: Vr) -> Fate
+    ensures { result ≡ spec.fate_by_vr options.now tag vr }
+{
+    if tag == PATIENT_ID && options.pseudonyms {
+        return Fate::Anew(NewValue::Pseudonym);
+    }
+    let fate = fate_in_table(options, tag, vr);
+    if is_kept(fate) {
+        kept_as(options.dates.are_modified(), vr)
+    } else {
+        fate
+    }
+}
+
 /// Whether an element of the file's own data set says what was done. Those are put anew.
 fn is_put(options: &Options, tag: Tag) -> bool
     ensures { result ≡ spec.is_put options.now tag }
 {
     match (tag.group, tag.element) {
         (0x0012, 0x0062..=0x0064) => true,
-        (0x0028, 0x0303) => !options.dates,
+        (0x0028, 0x0303) => !options.dates.are_full(),
         _ => false,
     }
 }

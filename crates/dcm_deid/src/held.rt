@@ -4,23 +4,26 @@ ghost use Rattle.dcm_base.specs.Tables.Transfer.{is_pad};
 ghost use Rattle.dcm_base.specs.Tree.Value.{order};
 ghost use Rattle.dcm_deid.specs.DeidentifySink as spec;
 ghost use Rattle.dcm_deid.specs.Deidentifying.{held};
+ghost use Rattle.dcm_deid.specs.MadeNew.{made_new};
 
+use crate::fate::{Fate, Options};
 use crate::key::UidKey;
 use arrayvec::ArrayVec;
 use dcm_base::{Syntax, Tag, Vr};
 use dcm_head::without_pads;
 use dcm_value::swap;
 
-/// The most bytes of a unique identifier (PS3.5 6.2).
-pub const MOST_OF_UID: usize = 64;
+/// The most bytes that are held: 64 characters of a PatientID (PS3.5 6.2) have up to four each.
+pub const MOST_HELD: usize = 256;
 
-/// The value of an open element: its first bytes, and whether it is longer, its padding aside.
+/// The value of an open element, and what becomes of it: its first bytes, and whether it is longer, its padding aside.
 #[derive(Drop)]
 pub struct HeldValue {
+    pub fate: Fate,
     pub tag: Tag,
     pub vr: Vr,
     pub syntax: Syntax,
-    pub bytes: ArrayVec<u8, MOST_OF_UID>,
+    pub bytes: ArrayVec<u8, MOST_HELD>,
     pub is_longer: bool,
 }
 
@@ -32,7 +35,7 @@ fn is_pad(byte: u8) -> bool
 }
 
 /// The same bytes once more.
-fn copied(bytes: &ArrayVec<u8, MOST_OF_UID>) -> ArrayVec<u8, MOST_OF_UID>
+fn copied(bytes: &ArrayVec<u8, MOST_HELD>) -> ArrayVec<u8, MOST_HELD>
     ensures { result.items ≡ bytes.now.items }
 {
     let mut copy = ArrayVec::new();
@@ -44,10 +47,11 @@ fn copied(bytes: &ArrayVec<u8, MOST_OF_UID>) -> ArrayVec<u8, MOST_OF_UID>
 
 impl HeldValue {
     /// A value that begins.
-    pub fn new(tag: Tag, vr: Vr, syntax: Syntax) -> HeldValue
-        ensures { held result ≡ spec.nothing_held tag vr syntax }
+    pub fn new(fate: Fate, tag: Tag, vr: Vr, syntax: Syntax) -> HeldValue
+        ensures { held result ≡ spec.nothing_held fate tag vr syntax }
     {
         HeldValue {
+            fate,
             tag,
             vr,
             syntax,
@@ -60,7 +64,7 @@ impl HeldValue {
     fn add_byte(&mut self, byte: u8)
         ensures { held self.new ≡ spec.held_with (held self.old) byte }
     {
-        if self.bytes.len() < MOST_OF_UID {
+        if self.bytes.len() < MOST_HELD {
             self.bytes.push(byte);
         } else if !is_pad(byte) {
             self.is_longer = true;
@@ -77,7 +81,7 @@ impl HeldValue {
     }
 
     /// The first bytes, in little endian order.
-    fn ordered(&self) -> ArrayVec<u8, MOST_OF_UID>
+    fn ordered(&self) -> ArrayVec<u8, MOST_HELD>
         ensures { result.items ≡ order self.now.syntax self.now.vr self.now.bytes.items }
     {
         let mut value = copied(&self.bytes);
@@ -87,14 +91,17 @@ impl HeldValue {
         value
     }
 
-    /// What takes its place under a key, of an even number of bytes.
-    pub fn new_value(&self, key: &UidKey) -> ArrayVec<u8, MOST_OF_UID>
-        ensures { result.items ≡ spec.new_of key.now.bytes.now (held self.now) }
+    /// What takes its place, of an even number of bytes, where it is a value that is made anew.
+    pub fn new_value(&self, options: &Options, key: &UidKey) -> ArrayVec<u8, MOST_HELD>
+        ensures { result.items ≡ spec.new_of (made_new options.now key.now.bytes.now) (held self.now) }
     {
         if self.is_longer {
             return ArrayVec::new();
         }
-        let mut new = key.new_value(self.ordered().as_slice());
+        let Fate::Anew(made) = self.fate else {
+            return ArrayVec::new();
+        };
+        let mut new = key.made_new(options, made, self.ordered().as_slice());
         if new.len() % 2 == 1 {
             new.push(self.vr.pad());
         }

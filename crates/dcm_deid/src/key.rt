@@ -1,11 +1,41 @@
-// The key of new unique identifiers.
-ghost use Rattle.std.specs.Prelude.{◌≡◌};
+// The key of what is made anew.
+ghost use Rattle.std.specs.Prelude.{◌≡◌, ◌≤◌, length};
+ghost use Rattle.dcm_base.specs.Tables.Transfer.{without_pads};
 ghost use Rattle.dcm_uid.specs.Hmac.{IsKey};
 ghost use Rattle.dcm_uid.specs.Uid as spec;
+ghost use Rattle.dcm_deid.specs.MadeNew as making;
 
-use crate::held::MOST_OF_UID;
+use crate::fate::{NewValue, Options, Temporal};
+use crate::held::MOST_HELD;
 use arrayvec::ArrayVec;
-use dcm_uid::{Key, new_value};
+use dcm_dates::{DateKind, moved};
+use dcm_head::without_pads;
+use dcm_uid::{Key, new_value, pseudonym};
+
+/// The most bytes of a unique identifier (PS3.5 6.2).
+const MOST_OF_UID: usize = 64;
+
+/// The same bytes, where more have room.
+fn widened(bytes: &[u8]) -> ArrayVec<u8, MOST_HELD>
+    requires { length bytes.now ≤ 256 }
+    ensures { result.items ≡ bytes.now }
+{
+    let mut wide = ArrayVec::new();
+    match wide.try_extend_from_slice(bytes) {
+        Ok(()) => wide,
+        Err(_) => unreachable!(),
+    }
+}
+
+/// By how many days dates are moved.
+fn days_of(dates: Temporal) -> i32
+    ensures { result ≡ making.days_of dates }
+{
+    match dates {
+        Temporal::Removed | Temporal::Full => 0,
+        Temporal::Modified(days) => days,
+    }
+}
 
 /// The bytes of a key, and what was prepared of them once.
 #[derive(Drop)]
@@ -26,10 +56,28 @@ impl<'a> UidKey<'a> {
         }
     }
 
-    /// What takes the place of a value.
+    /// What takes the place of a unique identifier, without padding.
     pub fn new_value(&self, value: &[u8]) -> ArrayVec<u8, MOST_OF_UID>
         ensures { result.items ≡ spec.new_value self.now.bytes.now value.now }
     {
         new_value(&self.prepared, value)
+    }
+
+    /// What takes the place of a value that is made anew, without padding.
+    pub fn made_new(
+        &self,
+        options: &Options,
+        made: NewValue,
+        value: &[u8],
+    ) -> ArrayVec<u8, MOST_HELD>
+        ensures { result.items ≡ making.made_new options.now self.now.bytes.now made (without_pads value.now) }
+    {
+        let days = days_of(options.dates);
+        match made {
+            NewValue::Uid => widened(self.new_value(value).as_slice()),
+            NewValue::Pseudonym => widened(pseudonym(&self.prepared, value).as_slice()),
+            NewValue::MovedDate => moved(DateKind::Da, days, without_pads(value)),
+            NewValue::MovedDateTime => moved(DateKind::Dt, days, without_pads(value)),
+        }
     }
 }

@@ -1,5 +1,5 @@
 //! Laws of the definitions. Each function takes nothing and makes no call: its contract is the law.
-ghost use Rattle.std.specs.Prelude.{◌≡◌, ◌≢◌, true, false, Option, map};
+ghost use Rattle.std.specs.Prelude.{◌≡◌, ◌≢◌, ℕ, ℤ, List, true, false, Option, map};
 ghost use Rattle.std.specs.List.Sorted.{IsStrictlyIncreasing};
 ghost use Rattle.dcm_deid.specs.Fate.{Action, actions};
 ghost use Rattle.dcm_base.specs.declared.tag.Tag.{Tag};
@@ -11,14 +11,17 @@ ghost use Rattle.dcm_deid.specs.declared.fate.Depth.{Depth};
 ghost use Rattle.dcm_deid.specs.declared.fate.Depth.TheVariants.{Outermost};
 ghost use Rattle.dcm_deid.specs.declared.fate.ReadAs.{ReadAs};
 ghost use Rattle.dcm_deid.specs.declared.fate.ReadAs.TheVariants.{AsBytes};
-ghost use Rattle.dcm_deid.specs.Fate.{is_known, fate_as};
+ghost use Rattle.dcm_deid.specs.Fate.{are_modified, fate_as, is_known};
 ghost use Rattle.dcm_deid.specs.Deidentify.{Renaming, deidentified_set};
-ghost use Rattle.dcm_deid.specs.Alike.{Alike};
+ghost use Rattle.dcm_deid.specs.MadeNew.{left_of, made_new};
+ghost use Rattle.dcm_deid.specs.MadeForms.{HasForm, IsDateVr};
+ghost use Rattle.dcm_deid.specs.declared.fate.NewValue.{NewValue};
+ghost use Rattle.dcm_deid.specs.Alike.{Alike, moving};
 ghost use Rattle.dcm_deid.specs.Saying.{deidentified, read_whole, unsaid, whole_of};
 ghost use Rattle.dcm_base.specs.Tables.Dictionary.{vr_in};
 ghost use Rattle.dcm_base.specs.Tables.Representation.{is_sequence};
 ghost use Rattle.dcm_base.specs.declared.dictionary.Dictionary.TheVariants.{Standard};
-ghost use Rattle.dcm_deid.specs.declared.fate.Fate.TheVariants.{Remove};
+ghost use Rattle.dcm_deid.specs.declared.fate.Fate.TheVariants.{Keep, Remove};
 ghost use Rattle.dcm_deid.specs.Laws.{BarSteps, DeidentifySteps, PixelSteps};
 ghost use Rattle.dcm_deid.specs.Pairs.{Pairs};
 ghost use Rattle.dcm_deid.specs.Remains.{IsClean, kept_of};
@@ -29,10 +32,12 @@ pub fn actions_ascend()
     ensures { IsStrictlyIncreasing (map (λ (a : Action). a.0) actions) }
 {}
 
-/// Nothing of what is taken out of a data set has any influence on what is left.
+/// Nothing of what is taken out of a data set has any influence on what is left: old dates none but by the moved ones,
+/// and a PatientID none but by its pseudonym. So it is where the dates of two data sets are moved by other days.
 pub fn nothing_flows()
-    ensures { (options : Options) (new : Renaming) (depth : Depth) (f g : Trees) → Alike options depth f g
-        → deidentified_set options new depth f ≡ deidentified_set options new depth g }
+    ensures { (options : Options) (key : List ℕ) (depth : Depth) (d e : ℤ) (f g : Trees) → Alike options depth d e f g
+        → deidentified_set (moving options d) (made_new (moving options d) key) depth f
+        ≡ deidentified_set (moving options e) (made_new (moving options e) key) depth g }
 {}
 
 /// Nothing that is taken is left, at any depth.
@@ -57,16 +62,18 @@ pub fn only_said_is_put()
 /// So it is with the bytes that are written: data sets that are read without fault and differ only in what is taken
 /// give the same.
 pub fn nothing_flows_out()
-    ensures { (options : Options) (new : Renaming) (target : Syntax) (reached other : Option Tag) (f g : Trees)
-        → Alike options Outermost f g → recode target (deidentified options new (read_whole reached f))
-        ≡ recode target (deidentified options new (read_whole other g)) }
+    ensures { (options : Options) (key : List ℕ) (target : Syntax) (reached other : Option Tag) (d e : ℤ) (f g : Trees)
+        → Alike options Outermost d e f g
+        → recode target (deidentified (moving options d) (made_new (moving options d) key) (read_whole reached f))
+        ≡ recode target (deidentified (moving options e) (made_new (moving options e) key) (read_whole other g)) }
 {}
 
 /// Data sets whose elements pair off, but for those that go and what is taken of those that stay, differ only in what
 /// is taken.
 pub fn pairs_are_alike()
-    ensures { (options : Options) (depth : Depth) (f g : Trees) → Pairs (fate_as options) depth f g
-        → Alike options depth f g }
+    ensures { (options : Options) (depth : Depth) (d e : ℤ) (f g : Trees)
+        → Pairs (left_of (moving options d)) (left_of (moving options e)) (fate_as (moving options d)) depth f g
+        → Alike options depth d e f g }
 {}
 
 /// The bar of the sink is that of tags that ascend and of identity that can be taken out.
@@ -91,6 +98,17 @@ pub fn what_stays_is_known()
         → fate_as options depth read tag ≢ Remove → is_known tag ≡ true }
     ensures looked_into { (options : Options) (depth : Depth) (tag : Tag) → fate_as options depth AsBytes tag ≢ Remove
         → is_sequence (vr_in Standard tag) ≡ false }
+{}
+
+/// What is made of a value has its form: it is empty, an identifier, a pseudonym, or dates that there are.
+pub fn made_values_have_form()
+    ensures { (options : Options) (key : List ℕ) (made : NewValue) (b : List ℕ) → HasForm made (made_new options key made b) }
+{}
+
+/// Where dates are moved, no element of dates stays as it is, at any depth.
+pub fn no_date_stays()
+    ensures { (options : Options) (depth : Depth) (read : ReadAs) (tag : Tag) → are_modified options.dates ≡ true
+        → IsDateVr (vr_in Standard tag) → fate_as options depth read tag ≢ Keep }
 {}
 
 /// A new unique identifier is a function of the key and of the old one without its padding. Of the instance it is the

@@ -14,7 +14,7 @@ mod sink;
 mod table;
 mod whole;
 
-pub use fate::{Depth, Fate, Options, ReadAs, Retain, fate_of};
+pub use fate::{Depth, Fate, NewValue, Options, ReadAs, Retain, Temporal, fate_of};
 pub use meta::{MetaFate, MetaWithoutIdentity, NO_PREAMBLE, meta_fate};
 pub use sink::DeidentifySink;
 pub use table::{ACTIONS, Action};

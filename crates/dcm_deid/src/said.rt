@@ -1,10 +1,12 @@
 // The elements that say what was done, put where they belong.
 ghost use Rattle.std.specs.Prelude.{◌≡◌, ◌<◌, ◌^◌, length};
 ghost use Rattle.dcm_deid.specs.DeidentifySink as spec;
+ghost use Rattle.dcm_deid.specs.Fate.{are_left};
+ghost use Rattle.dcm_deid.specs.Saying as saying;
 ghost use Rattle.dcm_stream.specs.Sinks as sinks;
 ghost use Rattle.dcm_stream.specs.Tokens.{leaf_atoms};
 
-use crate::fate::Options;
+use crate::fate::{Options, Temporal};
 use dcm_base::{Length, Syntax, Tag, Vr, WriteFailed};
 use dcm_head::Head;
 use dcm_stream::{Sink, Token, take_all};
@@ -62,7 +64,7 @@ pub struct Gap {
 fn is_there(options: &Options, last: Tag, tag: Tag) -> bool
     ensures { result ≡ spec.is_there options.now last tag }
 {
-    options.dates && tag == DATES && last == DATES
+    options.dates.are_full() && tag == DATES && last == DATES
 }
 
 /// Whether an element of this tag, which the data set lacks, is put in a gap.
@@ -120,6 +122,51 @@ fn put_code_if<S: Sink>(
     Ok(())
 }
 
+/// The code of the option that keeps dates as they are, or moves them.
+fn dates_code(dates: Temporal) -> &'static [u8]
+    ensures code { result.now ≡ saying.dates_code dates }
+    ensures short { length result.now < 2 ^ 32 }
+{
+    match dates {
+        Temporal::Modified(_) => b"113107",
+        Temporal::Removed | Temporal::Full => b"113106",
+    }
+}
+
+/// Its meaning.
+fn dates_meaning(dates: Temporal) -> &'static [u8]
+    ensures meaning { result.now ≡ saying.dates_meaning dates }
+    ensures short { length result.now < 2 ^ 32 }
+{
+    match dates {
+        Temporal::Modified(_) => b"Retain Longitudinal Temporal Information Modified Dates Option",
+        Temporal::Removed | Temporal::Full => {
+            b"Retain Longitudinal Temporal Information Full Dates Option"
+        }
+    }
+}
+
+/// What became of dates.
+fn dates_became(dates: Temporal) -> &'static [u8]
+    ensures became { result.now ≡ saying.dates_became dates }
+    ensures short { length result.now < 2 ^ 32 }
+{
+    match dates {
+        Temporal::Removed => b"REMOVED",
+        Temporal::Full => b"UNMODIFIED",
+        Temporal::Modified(_) => b"MODIFIED",
+    }
+}
+
+/// Passes on the item of the option that keeps dates as they are, or moves them, where one is given.
+fn put_dates_code<S: Sink>(dates: Temporal, sink: &mut S) -> Result<(), WriteFailed>
+    ensures { sinks.Took S.Sink sink.old sink.new
+        (spec.code_atoms_if (are_left dates) (saying.dates_code dates) (saying.dates_meaning dates)) result }
+{
+    let is_given = dates.are_left();
+    put_code_if(is_given, dates_code(dates), dates_meaning(dates), sink)
+}
+
 /// Passes on the items of the profile and of the options that are given.
 fn put_codes<S: Sink>(options: &Options, sink: &mut S) -> Result<(), WriteFailed>
     ensures { sinks.Took S.Sink sink.old sink.new (spec.method_atoms options.now) result }
@@ -129,12 +176,7 @@ fn put_codes<S: Sink>(options: &Options, sink: &mut S) -> Result<(), WriteFailed
         b"Basic Application Confidentiality Profile",
         sink,
     )?;
-    put_code_if(
-        options.dates,
-        b"113106",
-        b"Retain Longitudinal Temporal Information Full Dates Option",
-        sink,
-    )?;
+    put_dates_code(options.dates, sink)?;
     put_code_if(
         options.patient,
         b"113108",
@@ -174,10 +216,7 @@ fn put_methods<S: Sink>(options: &Options, sink: &mut S) -> Result<(), WriteFail
 fn put_dates<S: Sink>(options: &Options, sink: &mut S) -> Result<(), WriteFailed>
     ensures { sinks.Took S.Sink sink.old sink.new (spec.dates_said options.now) result }
 {
-    if options.dates {
-        return put_leaf(DATES, Vr::CS, b"UNMODIFIED", sink);
-    }
-    put_leaf(DATES, Vr::CS, b"REMOVED", sink)
+    put_leaf(DATES, Vr::CS, dates_became(options.dates), sink)
 }
 
 /// Passes on that identity was removed, where that is due.

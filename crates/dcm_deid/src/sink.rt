@@ -3,10 +3,10 @@ ghost use Rattle.std.specs.Prelude.{◌≡◌, ℕ, List, [], ◌∷◌, ◌++�
 ghost use Rattle.std.specs.Borrow.{GName};
 ghost use Rattle.dcm_base.specs.Reading.Bars as bars;
 ghost use Rattle.dcm_base.specs.Steps.Atoms.{opens, ends};
-ghost use Rattle.dcm_deid.specs.declared.fate.Options.{Options as AnyOptions};
 ghost use Rattle.dcm_deid.specs.DeidentifySink as spec;
 ghost use Rattle.dcm_deid.specs.DeidentifySink.{State as DeidentifyState};
 ghost use Rattle.dcm_deid.specs.Deidentifying as deidentifying;
+ghost use Rattle.dcm_deid.specs.MadeNew.{made_new};
 ghost use Rattle.dcm_deid.specs.Through.{through_step, through_writes, through_bar};
 ghost use Rattle.dcm_stream.specs.Sinks as sinks;
 ghost use Rattle.dcm_stream.specs.Skip.{depth, is_open};
@@ -104,7 +104,9 @@ pub fn put_head<S: Sink>(
 {
     match (fate, form) {
         (Fate::Keep, _) => put_kept(form, head, syntax, sink),
-        (Fate::Empty | Fate::Replace | Fate::Uid, Form::Sequence) => put_empty_sequence(head, sink),
+        (Fate::Empty | Fate::Replace | Fate::Anew(_), Form::Sequence) => put_empty_sequence(
+            head, sink,
+        ),
         (Fate::Empty, Form::Value) => put_leaf(head.tag, head.vr, &[], sink),
         (Fate::Replace, Form::Value) => put_leaf(head.tag, head.vr, dummy(head.vr), sink),
         _ => Ok(()),
@@ -206,30 +208,37 @@ fn pass_open<S: Sink>(
     }
 }
 
-/// Passes on a new unique identifier in place of a whole one.
+/// Passes on what is made of a whole value in its place.
 #[inline(never)]
-fn put_new_uid<S: Sink>(held: &HeldValue, key: &UidKey, sink: &mut S) -> Result<(), WriteFailed>
+fn put_new_value<S: Sink>(
+    options: &Options,
+    held: &HeldValue,
+    key: &UidKey,
+    sink: &mut S,
+) -> Result<(), WriteFailed>
     ensures { sinks.Took S.Sink sink.old sink.new
-        (leaf_atoms held.now.tag held.now.vr (spec.new_of key.now.bytes.now (deidentifying.held held.now))) result }
+        (leaf_atoms held.now.tag held.now.vr (spec.new_of (made_new options.now key.now.bytes.now)
+        (deidentifying.held held.now))) result }
 {
-    let value = held.new_value(key);
+    let value = held.new_value(options, key);
     put_leaf(held.tag, held.vr, value.as_slice(), sink)
 }
 
 /// Passes on what a token becomes, of an element that is left out.
 #[inline(always)]
 fn pass_left_out<S: Sink>(
+    options: &Options,
     key: &UidKey,
     place: &Deidentifier,
     token: Token,
     sink: &mut S,
 ) -> Result<(), WriteFailed>
     requires left_out { is_open (depth place.now.skip) ≡ true }
-    ensures { (options : AnyOptions) → sinks.Took S.Sink sink.old sink.new
-        (deidentifying.passed_of options key.now.bytes.now place.now (atoms_of token.entry)) result }
+    ensures { sinks.Took S.Sink sink.old sink.new
+        (deidentifying.passed_of options.now key.now.bytes.now place.now (atoms_of token.entry)) result }
 {
     match (token, &place.held) {
-        (Token::CloseLeaf, Some(held)) => put_new_uid(held, key, sink),
+        (Token::CloseLeaf, Some(held)) => put_new_value(options, held, key, sink),
         _ => Ok(()),
     }
 }
@@ -248,7 +257,7 @@ fn pass<S: Sink>(
         (deidentifying.passed_of options.now key.now.bytes.now place.now (atoms_of token.entry)) result }
 {
     if place.skip.is_open() {
-        pass_left_out(key, place, token, sink)
+        pass_left_out(options, key, place, token, sink)
     } else {
         pass_open(options, place, token, sink)
     }

@@ -21,14 +21,14 @@ use Rattle.dcm_base.proofs.Dictionaries.TagOrder.{below_other, is_above_below}
 use Rattle.dcm_stream.specs.Ascending.{reached_after, innermost}
 use Rattle.dcm_sinks.proofs.ReadBack.Accepted.{AllAccepted}
 use Rattle.dcm_edits.specs.Edit.{has}
-use Rattle.dcm_uid.specs.Uid.{replaced}
+use Rattle.dcm_deid.specs.MadeNew.{made_new}
 use Rattle.dcm_deid.specs.declared.fate.Fate.{Fate}
-use Rattle.dcm_deid.specs.declared.fate.Fate.TheVariants.{Remove, Empty, Replace, Uid, Keep}
+use Rattle.dcm_deid.specs.declared.fate.Fate.TheVariants.{Remove, Empty, Replace, Anew, Keep}
 use Rattle.dcm_deid.specs.declared.fate.Options.{Options}
 use Rattle.dcm_deid.specs.declared.fate.Depth.{Depth}
 use Rattle.dcm_deid.specs.declared.fate.Depth.TheVariants.{Outermost, Inside}
 use Rattle.dcm_deid.specs.declared.fate.ReadAs.TheVariants.{AsBytes, AsItems}
-use Rattle.dcm_deid.specs.Fate.{fate_as}
+use Rattle.dcm_deid.specs.Fate.{fate_as, are_left}
 use Rattle.dcm_deid.specs.Deidentify.{value_by, leaf_by, sequence_by, fragments_by, deidentified_set, items_by_fate}
 use Rattle.dcm_deid.specs.Saying.{code_if, methods, put_in, said, tag_at}
 use Rattle.dcm_deid.proofs.Trees.Said.{set_with, set_with_all}
@@ -140,30 +140,30 @@ weaker last t (fragments u vr parts rest) e h = (passes_at last u (is_above_belo
 
 module _ (options : Options) (key : List ℕ) where
   abbrev without : Depth → Trees → Trees
-  without depth x = deidentified_set options (replaced key) depth x
+  without depth x = deidentified_set options (made_new options key) depth x
 
   abbrev without_items : Items → Items
-  without_items x = items_by_fate (fate_as options) (value_by (replaced key)) x
+  without_items x = items_by_fate (fate_as options) (value_by (made_new options key)) x
 
   leaf_left : (last : Option Tag) (fate : Fate) (t : Tag) (vr : Vr) (v : List ℕ) (left : Trees) → barred_at last t ≡ None → Passes (Some t) left → Passes last (leaf_by fate t vr v left)
   leaf_left last Remove t vr v left e h = weaker last t left (is_passed_above last t e) h
   leaf_left last Empty t vr v left e h = (e, h)
   leaf_left last Replace t vr v left e h = (e, h)
-  leaf_left last Uid t vr v left e h = (e, h)
+  leaf_left last (Anew made) t vr v left e h = (e, h)
   leaf_left last Keep t vr v left e h = (e, h)
 
   sequence_left : (last : Option Tag) (fate : Fate) (t : Tag) (vr : Vr) (items : Items) (left : Trees) → barred_at last t ≡ None → ItemsPass items → Passes (Some t) left → Passes last (sequence_by fate t vr items left)
   sequence_left last Remove t vr items left e i h = weaker last t left (is_passed_above last t e) h
   sequence_left last Empty t vr items left e i h = (e, tt, h)
   sequence_left last Replace t vr items left e i h = (e, tt, h)
-  sequence_left last Uid t vr items left e i h = (e, tt, h)
+  sequence_left last (Anew made) t vr items left e i h = (e, tt, h)
   sequence_left last Keep t vr items left e i h = (e, i, h)
 
   fragments_left : (last : Option Tag) (fate : Fate) (t : Tag) (vr : Vr) (parts : List (List ℕ)) (left : Trees) → barred_at last t ≡ None → Passes (Some t) left → Passes last (fragments_by fate t vr parts left)
   fragments_left last Remove t vr parts left e h = weaker last t left (is_passed_above last t e) h
   fragments_left last Empty t vr parts left e h = weaker last t left (is_passed_above last t e) h
   fragments_left last Replace t vr parts left e h = weaker last t left (is_passed_above last t e) h
-  fragments_left last Uid t vr parts left e h = weaker last t left (is_passed_above last t e) h
+  fragments_left last (Anew made) t vr parts left e h = weaker last t left (is_passed_above last t e) h
   fragments_left last Keep t vr parts left e h = (e, h)
 
   mutual
@@ -225,7 +225,7 @@ module _ (options : Options) (key : List ℕ) where
 
   methods_pass : ItemsPass (methods options)
   methods_pass =
-      code_passes true (codes "113100") (codes "Basic Application Confidentiality Profile") _ (code_passes options.dates _ _ _ (code_passes options.patient _ _ _ (code_passes options.device _ _ _ (code_passes options.uids _ _ _ (code_passes options.institution _ _ no_item tt)))))
+      code_passes true (codes "113100") (codes "Basic Application Confidentiality Profile") _ (code_passes (are_left options.dates) _ _ _ (code_passes options.patient _ _ _ (code_passes options.device _ _ _ (code_passes options.uids _ _ _ (code_passes options.institution _ _ no_item tt)))))
 
   method_element : IsElement (tag_at 0x0012 0x0064) (sequence (tag_at 0x0012 0x0064) SQ Undefined (methods options) no_tree)
   method_element = record {

@@ -19,9 +19,9 @@ use Rattle.dcm_base.specs.Tree.Value.{evened, order}
 use Rattle.dcm_base.proofs.Conversions.NormalForm.{evened_same, evened_size, normal_size}
 use Rattle.dcm_base.proofs.Conversions.Order.{length-order, order_twice}
 use Rattle.dcm_base.proofs.Dictionaries.TagOrder.{tag_is}
-use Rattle.dcm_uid.specs.Uid.{replaced}
+use Rattle.dcm_deid.specs.declared.fate.NewValue.{NewValue}
 use Rattle.dcm_deid.specs.declared.fate.Fate.{Fate}
-use Rattle.dcm_deid.specs.declared.fate.Fate.TheVariants.{Remove, Empty, Replace, Uid, Keep}
+use Rattle.dcm_deid.specs.declared.fate.Fate.TheVariants.{Remove, Empty, Replace, Anew, Keep}
 use Rattle.dcm_deid.specs.declared.fate.Options.{Options}
 use Rattle.dcm_deid.specs.declared.fate.Depth.{Depth}
 use Rattle.dcm_deid.specs.declared.fate.Depth.TheVariants.{Outermost, Inside}
@@ -29,6 +29,7 @@ use Rattle.dcm_deid.specs.declared.fate.ReadAs.TheVariants.{AsBytes, AsItems}
 use Rattle.dcm_deid.specs.Fate.{actions, fate_as}
 use Rattle.dcm_deid.specs.Deidentify.{dummy, value_by, leaf_by, sequence_by, fragments_by, deidentified_set, items_by_fate}
 use Rattle.dcm_deid.specs.Remains.{AreClean, IsKept, ItemsAreClean, SequenceIsClean}
+use Rattle.dcm_deid.specs.MadeNew.{made_new}
 use Rattle.dcm_deid.specs.Saying.{says, tag_at, unsaid}
 use Rattle.dcm_deid_laws.specs.Clean.{WrittenIsClean}
 use Rattle.dcm_deid_laws.proofs.Named.{AreNamed, IsNamed, ItemsAreNamed, named_after, same_after}
@@ -54,7 +55,7 @@ no_sign options depth t fate e other = by_sign options depth t (says_sign t) ref
 
 -- ---- short values
 
-short_even : (n : ℕ) (b : Bool) → nat_lt 65534 (even n) ≡ b → n ≤ 64 → b ≡ false
+short_even : (n : ℕ) (b : Bool) → nat_lt 65534 (even n) ≡ b → n ≤ 256 → b ≡ false
 short_even n true e h = let more : 65534 < even n = grind (arith, nat_tests, e) in absurd (omega (arith, more))
 short_even n false e h = refl
 
@@ -63,16 +64,16 @@ not_long true true = refl
 not_long true false = refl
 not_long false b = refl
 
-short_fits : (s : Syntax) (vr : Vr) (n : ℕ) → n ≤ 64 → too_long s vr n ≡ false
+short_fits : (s : Syntax) (vr : Vr) (n : ℕ) → n ≤ 256 → too_long s vr n ≡ false
 short_fits s vr n h = ap (λ (b : Bool). is_explicit s && (not (is_long vr) && b)) (short_even n (nat_lt 65534 (even n)) refl h) ∙ not_long (is_explicit s) (not (is_long vr))
 
 -- they keep their representation
-pub short_vr : (s : Syntax) (t : Tag) (vr : Vr) (n : ℕ) → n ≤ 64 → IsNamed s t vr → normal_vr s t vr n ≡ vr
+pub short_vr : (s : Syntax) (t : Tag) (vr : Vr) (n : ℕ) → n ≤ 256 → IsNamed s t vr → normal_vr s t vr n ≡ vr
 short_vr (implicit_in d) t vr n h is = sym is
 short_vr (little_in d) t vr n h is = ap (λ (b : Bool). if b then UN else vr) (short_fits (little_in d) vr n h)
 short_vr (big_in d) t vr n h is = ap (λ (b : Bool). if b then UN else vr) (short_fits (big_in d) vr n h)
 
-pub short_value : (s : Syntax) (t : Tag) (vr : Vr) (v : List ℕ) → length v ≤ 64 → IsNamed s t vr → normal_value s t vr v ≡ order s vr (evened (pad vr) (order s vr v))
+pub short_value : (s : Syntax) (t : Tag) (vr : Vr) (v : List ℕ) → length v ≤ 256 → IsNamed s t vr → normal_value s t vr v ≡ order s vr (evened (pad vr) (order s vr v))
 short_value s t vr v h is =
     ap (λ (w : Vr). order s w (evened (pad vr) (if too_long s vr (length v) then v else order s vr v))) (short_vr s t vr (length v) h is)
     ∙ ap (λ (b : Bool). order s vr (evened (pad vr) (if b then v else order s vr v))) (short_fits s vr (length v) h)
@@ -93,41 +94,42 @@ dummy_ordered (big_in d) vr = refl
 pub dummy_written : (s : Syntax) (t : Tag) (vr : Vr) → IsNamed s t vr → normal_value s t vr (dummy vr) ≡ evened (pad vr) (dummy vr)
 dummy_written s t vr is = short_value s t vr (dummy vr) (dummy_short vr) is ∙ dummy_ordered s vr
 
-renamed_written : (s : Syntax) (t : Tag) (vr : Vr) (key old : List ℕ) → IsNamed s t vr → normal_value s t vr (evened (pad vr) (replaced key old)) ≡ evened (pad vr) (replaced key old)
-renamed_written s t vr key old is =
-    let u : List ℕ = evened (pad vr) (replaced key old) in
-    short_value s t vr u (renamed_short key vr old) is
-    ∙ ap (order s vr) (evened_same (pad vr) (order s vr u) (length (replaced key old)) (length-order s vr u ∙ evened_size (pad vr) (replaced key old)))
+renamed_written : (options : Options) (made : NewValue) (s : Syntax) (t : Tag) (vr : Vr) (key old : List ℕ) → IsNamed s t vr
+    → normal_value s t vr (evened (pad vr) (made_new options key made old)) ≡ evened (pad vr) (made_new options key made old)
+renamed_written options made s t vr key old is =
+    let u : List ℕ = evened (pad vr) (made_new options key made old) in
+    short_value s t vr u (renamed_short options key made vr old) is
+    ∙ ap (order s vr) (evened_same (pad vr) (order s vr u) (length (made_new options key made old)) (length-order s vr u ∙ evened_size (pad vr) (made_new options key made old)))
     ∙ order_twice s vr u
 
 -- ---- data sets
 
 module _ (options : Options) (key : List ℕ) where
   abbrev without : Depth → Trees → Trees
-  without depth x = deidentified_set options (replaced key) depth x
+  without depth x = deidentified_set options (made_new options key) depth x
 
   abbrev without_items : Items → Items
-  without_items x = items_by_fate (fate_as options) (value_by (replaced key)) x
+  without_items x = items_by_fate (fate_as options) (value_by (made_new options key)) x
 
   abbrev Clean : Depth → Trees → Type 0
-  Clean depth x = AreClean (WrittenIsClean (replaced key)) (fate_as options) depth x
+  Clean depth x = AreClean (WrittenIsClean (made_new options key)) (fate_as options) depth x
 
   abbrev CleanItems : Items → Type 0
-  CleanItems x = ItemsAreClean (WrittenIsClean (replaced key)) (fate_as options) x
+  CleanItems x = ItemsAreClean (WrittenIsClean (made_new options key)) (fate_as options) x
 
   set_if : (depth : Depth) (b : Bool) (x y : Trees) → Clean depth x → Clean depth y → Clean depth (if b then x else y)
   set_if depth true x y h k = h
   set_if depth false x y h k = k
 
   -- a leaf with a new value
-  value_back : (s : Syntax) (depth : Depth) (fate : Fate) (t : Tag) (vr : Vr) (v : List ℕ) (rest : Trees) → fate_as options depth AsBytes t ≡ fate → WrittenIsClean (replaced key) fate (normal_vr s t vr (length v)) (normal_value s t vr v)
+  value_back : (s : Syntax) (depth : Depth) (fate : Fate) (t : Tag) (vr : Vr) (v : List ℕ) (rest : Trees) → fate_as options depth AsBytes t ≡ fate → WrittenIsClean (made_new options key) fate (normal_vr s t vr (length v)) (normal_value s t vr v)
       → Clean depth (normal (after s t (normal_vr s t vr (length v)) (normal_value s t vr v)) rest) → Clean depth (normal s (leaf t vr v rest))
   unfolding normal
   value_back s depth fate t vr v rest e is h =
-      set_if depth (t.element == 0) _ _ h (subst (λ (k : Fate). WrittenIsClean (replaced key) k (normal_vr s t vr (length v)) (normal_value s t vr v)) (sym e) is, h)
+      set_if depth (t.element == 0) _ _ h (subst (λ (k : Fate). WrittenIsClean (made_new options key) k (normal_vr s t vr (length v)) (normal_value s t vr v)) (sym e) is, h)
 
   leaf_back : (s : Syntax) (depth : Depth) (fate : Fate) (t : Tag) (vr : Vr) (v : List ℕ) (rest : Trees) → fate_as options depth AsBytes t ≡ fate → IsNamed s t vr → AreNamed (after s t vr v) rest
-      → ((k : Syntax) → AreNamed k rest → Clean depth (normal k (without depth rest))) → Clean depth (normal s (leaf_by fate t vr (value_by (replaced key) fate vr v) (without depth rest)))
+      → ((k : Syntax) → AreNamed k rest → Clean depth (normal k (without depth rest))) → Clean depth (normal s (leaf_by fate t vr (value_by (made_new options key) fate vr v) (without depth rest)))
   leaf_back s depth Remove t vr v rest e is named more = more s (subst (λ (k : Syntax). AreNamed k rest) (same_after s t vr v (no_sign options depth t Remove e (λ k. cc))) named)
   leaf_back s depth Empty t vr v rest e is named more =
       let none = no_sign options depth t Empty e (λ k. cc) in
@@ -139,13 +141,13 @@ module _ (options : Options) (key : List ℕ) where
       value_back s depth Replace t vr (dummy vr) (without depth rest) e
       (dummy_written s t vr is ∙ ap (λ (w : Vr). evened (pad w) (dummy w)) (sym (short_vr s t vr (length (dummy vr)) (dummy_short vr) is)))
       (more _ (subst (λ (k : Syntax). AreNamed k rest) (sym (same_after s t _ _ none)) here))
-  leaf_back s depth Uid t vr v rest e is named more =
-      let none = no_sign options depth t Uid e (λ k. cc) in
+  leaf_back s depth (Anew made) t vr v rest e is named more =
+      let none = no_sign options depth t (Anew made) e (λ k. cc) in
       let here : AreNamed s rest = subst (λ (k : Syntax). AreNamed k rest) (same_after s t vr v none) named in
       let old : List ℕ = without_pads v in
-      let u : List ℕ = evened (pad vr) (replaced key old) in
-      value_back s depth Uid t vr u (without depth rest) e
-      (old, renamed_written s t vr key old is ∙ ap (λ (w : Vr). evened (pad w) (replaced key old)) (sym (short_vr s t vr (length u) (renamed_short key vr old) is)))
+      let u : List ℕ = evened (pad vr) (made_new options key made old) in
+      value_back s depth (Anew made) t vr u (without depth rest) e
+      (old, renamed_written options made s t vr key old is ∙ ap (λ (w : Vr). evened (pad w) (made_new options key made old)) (sym (short_vr s t vr (length u) (renamed_short options key made vr old) is)))
       (more _ (subst (λ (k : Syntax). AreNamed k rest) (sym (same_after s t _ _ none)) here))
   leaf_back s depth Keep t vr v rest e is named more = value_back s depth Keep t vr v (without depth rest) e tt (more _ (named_after s t vr v rest is named))
 
@@ -155,7 +157,7 @@ module _ (options : Options) (key : List ℕ) where
   sequence_back s depth Remove t vr items rest e i h = h
   sequence_back s depth Empty t vr items rest e i h = set_if depth (t.element == 0) _ _ h (subst (λ (k : Fate). SequenceIsClean k no_item (Unit {0})) (sym e) refl, h)
   sequence_back s depth Replace t vr items rest e i h = set_if depth (t.element == 0) _ _ h (subst (λ (k : Fate). SequenceIsClean k no_item (Unit {0})) (sym e) refl, h)
-  sequence_back s depth Uid t vr items rest e i h = set_if depth (t.element == 0) _ _ h (subst (λ (k : Fate). SequenceIsClean k no_item (Unit {0})) (sym e) refl, h)
+  sequence_back s depth (Anew made) t vr items rest e i h = set_if depth (t.element == 0) _ _ h (subst (λ (k : Fate). SequenceIsClean k no_item (Unit {0})) (sym e) refl, h)
   sequence_back s depth Keep t vr items rest e i h =
       set_if depth (t.element == 0) _ _ h (subst (λ (k : Fate). SequenceIsClean k (normal_items s items) (CleanItems (normal_items s items))) (sym e) i, h)
 
@@ -165,7 +167,7 @@ module _ (options : Options) (key : List ℕ) where
   fragments_back s depth Remove t vr parts rest e h = h
   fragments_back s depth Empty t vr parts rest e h = h
   fragments_back s depth Replace t vr parts rest e h = h
-  fragments_back s depth Uid t vr parts rest e h = h
+  fragments_back s depth (Anew made) t vr parts rest e h = h
   fragments_back s depth Keep t vr parts rest e h = set_if depth (t.element == 0) _ _ h (subst IsKept (sym e) tt, h)
 
   mutual

@@ -19,14 +19,15 @@ use Rattle.dcm_base.proofs.Conversions.NormalForm.{evened_same, evened_size}
 use Rattle.dcm_base.proofs.Conversions.Order.{length-order, order_twice}
 use Rattle.dcm_base.proofs.Dictionaries.TagOrder.{tag_is}
 use Rattle.dcm_sinks.specs.MetaAgain.{elements_again}
-use Rattle.dcm_uid.specs.Uid.{replaced}
+use Rattle.dcm_deid.specs.declared.fate.NewValue.TheVariants.{Uid}
 use Rattle.dcm_deid.specs.declared.fate.Fate.{Fate}
-use Rattle.dcm_deid.specs.declared.fate.Fate.TheVariants.{Remove, Empty, Replace, Uid, Keep}
+use Rattle.dcm_deid.specs.declared.fate.Fate.TheVariants.{Remove, Empty, Replace, Anew, Keep}
 use Rattle.dcm_deid.specs.declared.fate.Options.{Options}
 use Rattle.dcm_deid.specs.declared.fate.Depth.TheVariants.{Outermost}
 use Rattle.dcm_deid.specs.declared.fate.ReadAs.TheVariants.{AsBytes, AsItems}
 use Rattle.dcm_deid.specs.Fate.{fate_as}
 use Rattle.dcm_deid.specs.Deidentify.{value_by, leaf_by, sequence_by, fragments_by, deidentified_set}
+use Rattle.dcm_deid.specs.MadeNew.{made_new}
 use Rattle.dcm_deid.specs.Saying.{put_in, said, tag_at}
 use Rattle.dcm_deid.specs.Uids.{unpadded}
 use Rattle.dcm_deid.proofs.Trees.Instances.{own_fate, without_pad}
@@ -40,7 +41,7 @@ abbrev own : Tag
 own = tag_at 0x0008 0x0018
 
 -- the bytes of a short value of even length are written as they are, but for padding
-written_pads : (s : Syntax) (t : Tag) (vr : Vr) (u : List ℕ) (n : ℕ) → length u ≡ even n → length u ≤ 64 → without_pads (normal_value s t vr u) ≡ without_pads u
+written_pads : (s : Syntax) (t : Tag) (vr : Vr) (u : List ℕ) (n : ℕ) → length u ≡ even n → length u ≤ 256 → without_pads (normal_value s t vr u) ≡ without_pads u
 written_pads (implicit_in d) t vr u n e h = without_pad vr u
 written_pads (little_in d) t vr u n e h = ap without_pads (short_value (little_in d) t vr u h tt) ∙ without_pad vr u
 written_pads (big_in d) t vr u n e h =
@@ -49,7 +50,7 @@ written_pads (big_in d) t vr u n e h =
 
 -- so is the instance
 abbrev IsShort : List ℕ → Type 0
-IsShort v = (n : ℕ) × (length v ≡ even n) × (length v ≤ 64)
+IsShort v = (n : ℕ) × (length v ≡ even n) × (length v ≤ 256)
 
 abbrev NamesShort : Trees → Type 0
 NamesShort no_tree = Unit {0}
@@ -92,31 +93,31 @@ normal_names s (fragments t vr parts rest) h = own_if (t.element == 0) _ _ (unpa
 
 module _ (options : Options) (key : List ℕ) (new : options.uids ≡ false) where
   abbrev left : Trees → Trees
-  left x = deidentified_set options (replaced key) Outermost x
+  left x = deidentified_set options (made_new options key) Outermost x
 
-  own_new : (t : Tag) → same_tag t own ≡ true → fate_as options Outermost AsBytes t ≡ Uid
-  own_new t e = ap (fate_as options Outermost AsBytes) (tag_is t own e) ∙ own_fate options ∙ ap (λ (b : Bool). if b then Keep else Uid) new
+  own_new : (t : Tag) → same_tag t own ≡ true → fate_as options Outermost AsBytes t ≡ Anew Uid
+  own_new t e = ap (fate_as options Outermost AsBytes) (tag_is t own e) ∙ own_fate options ∙ ap (λ (b : Bool). if b then Keep else Anew Uid) new
 
-  leaf_left : (fate : Fate) (t : Tag) (vr : Vr) (v : List ℕ) (rest : Trees) → fate_as options Outermost AsBytes t ≡ fate → NamesShort rest → NamesShort (leaf_by fate t vr (value_by (replaced key) fate vr v) rest)
+  leaf_left : (fate : Fate) (t : Tag) (vr : Vr) (v : List ℕ) (rest : Trees) → fate_as options Outermost AsBytes t ≡ fate → NamesShort rest → NamesShort (leaf_by fate t vr (value_by (made_new options key) fate vr v) rest)
   leaf_left Remove t vr v rest e h = h
-  leaf_left Empty t vr v rest e h = (λ same. absurd (let no : Empty ≡ Uid = sym e ∙ own_new t same in cc), h)
-  leaf_left Replace t vr v rest e h = (λ same. absurd (let no : Replace ≡ Uid = sym e ∙ own_new t same in cc), h)
-  leaf_left Uid t vr v rest e h =
-      (λ same. (length (replaced key (without_pads v)), evened_size (pad vr) (replaced key (without_pads v)), renamed_short key vr (without_pads v)), h)
-  leaf_left Keep t vr v rest e h = (λ same. absurd (let no : Keep ≡ Uid = sym e ∙ own_new t same in cc), h)
+  leaf_left Empty t vr v rest e h = (λ same. absurd (let no : Empty ≡ Anew Uid = sym e ∙ own_new t same in cc), h)
+  leaf_left Replace t vr v rest e h = (λ same. absurd (let no : Replace ≡ Anew Uid = sym e ∙ own_new t same in cc), h)
+  leaf_left (Anew made) t vr v rest e h =
+      (λ same. (length (made_new options key made (without_pads v)), evened_size (pad vr) (made_new options key made (without_pads v)), renamed_short options key made vr (without_pads v)), h)
+  leaf_left Keep t vr v rest e h = (λ same. absurd (let no : Keep ≡ Anew Uid = sym e ∙ own_new t same in cc), h)
 
   sequence_left : (fate : Fate) (t : Tag) (vr : Vr) (items : Items) (rest : Trees) → NamesShort rest → NamesShort (sequence_by fate t vr items rest)
   sequence_left Remove t vr items rest h = h
   sequence_left Empty t vr items rest h = h
   sequence_left Replace t vr items rest h = h
-  sequence_left Uid t vr items rest h = h
+  sequence_left (Anew made) t vr items rest h = h
   sequence_left Keep t vr items rest h = h
 
   fragments_left : (fate : Fate) (t : Tag) (vr : Vr) (parts : List (List ℕ)) (rest : Trees) → NamesShort rest → NamesShort (fragments_by fate t vr parts rest)
   fragments_left Remove t vr parts rest h = h
   fragments_left Empty t vr parts rest h = h
   fragments_left Replace t vr parts rest h = h
-  fragments_left Uid t vr parts rest h = h
+  fragments_left (Anew made) t vr parts rest h = h
   fragments_left Keep t vr parts rest h = h
 
   left_names : (x : Trees) → NamesShort (left x)

@@ -21,11 +21,12 @@ use Rattle.dcm_editor_laws.proofs.ReadBack.Plain.{plain, plain_fits, plain_read}
 use Rattle.dcm_editor_laws.proofs.ReadBack.StaysReady.{FrontReady}
 use Rattle.dcm_editor_laws.proofs.Readers.Bytes.{front_alike}
 use Rattle.dcm_editor_laws.proofs.Readers.Opened.{front_ready_by, standard_opens}
-use Rattle.dcm_uid.specs.Uid.{replaced}
+use Rattle.dcm_deid.specs.MadeNew.{made_new}
 use Rattle.dcm_deid.specs.declared.fate.Options.{Options}
 use Rattle.dcm_deid.specs.declared.fate.Depth.TheVariants.{Outermost}
 use Rattle.dcm_deid.specs.Deidentify.{deidentified_set}
 use Rattle.dcm_deid.specs.Fate.{fate_as}
+use Rattle.dcm_deid_laws.specs.Laws.{MakesNothingAnew}
 use Rattle.dcm_deid.specs.Remains.{AreClean}
 use Rattle.dcm_deid.specs.Saying.{deidentified, read_whole, said, unsaid, whole_of}
 use Rattle.dcm_deid.proofs.Trees.Said.{of_whole, only_said_is_put, set_with_all}
@@ -69,10 +70,10 @@ in_order false fault e = absurd (cc)
 module _ (options : Options) (key : List ℕ) (s : Syntax) (at : ℕ) (f : Front) (h : Takes options key s at f) where
   -- what is left
   abbrev left : Front
-  left = deidentified options (replaced key) f
+  left = deidentified options (made_new options key) f
 
   abbrev left_of : Trees → Trees
-  left_of set = set_with_all (said options) (deidentified_set options (replaced key) Outermost set)
+  left_of set = set_with_all (said options) (deidentified_set options (made_new options key) Outermost set)
 
   own : Reads (target_bar s) s h.start h.bytes f complete
   own = own_reads s h.start h.bytes f complete (not_barred identity_bar s h.start h.bytes f h.reads)
@@ -85,7 +86,7 @@ module _ (options : Options) (key : List ℕ) (s : Syntax) (at : ℕ) (f : Front
   was_ready = read_ready (plain s) s h.start h.bytes f h.begins h.are_bytes in_plain (plain_fits s (target_bar (plain s)) h.start h.bytes f complete in_plain)
 
   pub left_is : (trees : Trees) → f ≡ whole_front trees → left ≡ read_whole (last_tag None trees) (left_of trees)
-  left_is trees is = ap (deidentified options (replaced key)) is ∙ of_whole options (replaced key) (last_tag None trees) trees
+  left_is trees is = ap (deidentified options (made_new options key)) is ∙ of_whole options (made_new options key) (last_tag None trees) trees
 
   pub is_ready : FrontReady s left
   is_ready =
@@ -113,15 +114,15 @@ module _ (options : Options) (key : List ℕ) (s : Syntax) (at : ℕ) (f : Front
   -- ---- nothing that was taken is in it
 
   abbrev Clean : Trees → Type 0
-  Clean set = AreClean (WrittenIsClean (replaced key)) (fate_as options) Outermost set
+  Clean set = AreClean (WrittenIsClean (made_new options key)) (fate_as options) Outermost set
 
-  left_unsaid : (trees : Trees) → unsaid (left_of trees) ≡ unsaid (deidentified_set options (replaced key) Outermost trees)
+  left_unsaid : (trees : Trees) → unsaid (left_of trees) ≡ unsaid (deidentified_set options (made_new options key) Outermost trees)
   left_unsaid trees =
-      sym (ap (λ (g : Front). unsaid (whole_of g)) (of_whole options (replaced key) (last_tag None trees) trees)) ∙ only_said_is_put options (replaced key) (last_tag None trees) trees
+      sym (ap (λ (g : Front). unsaid (whole_of g)) (of_whole options (made_new options key) (last_tag None trees) trees)) ∙ only_said_is_put options (made_new options key) (last_tag None trees) trees
 
   back_is_clean : (trees : Trees) → AreNamed s trees → Clean (unsaid (normal s (left_of trees)))
   back_is_clean trees named =
-      let set : Trees = deidentified_set options (replaced key) Outermost trees in
+      let set : Trees = deidentified_set options (made_new options key) Outermost trees in
       let same : unsaid (normal s set) ≡ unsaid (normal s (left_of trees)) = unsaid_normal s set ∙ ap (normal s) (sym (left_unsaid trees)) ∙ sym (unsaid_normal s (left_of trees)) in
       subst Clean same (unsaid_clean options key Outermost (normal s set) (set_back options key s Outermost trees named))
 
@@ -141,18 +142,18 @@ module _ (options : Options) (key : List ℕ) (s : Syntax) (at : ℕ) (f : Front
   unfolding recode
   written_whole reached x = append-nil (recode_set s x)
 
-  again_is : (set : Trees) → deidentified options (replaced key) (whole_front set) ≡ read_whole (last_tag None set) (left_of set)
-  again_is set = of_whole options (replaced key) (last_tag None set) set
+  again_is : (set : Trees) → deidentified options (made_new options key) (whole_front set) ≡ read_whole (last_tag None set) (left_of set)
+  again_is set = of_whole options (made_new options key) (last_tag None set) set
 
   knows : Knows s
   knows = λ e. (let no : Standard ≡ Extract = sym h.by_standard ∙ e in cc)
 
-  pub deidentified_twice : options.uids ≡ true → recode s (deidentified options (replaced key) (normal_front s left)) ≡ recode s left
+  pub deidentified_twice : MakesNothingAnew options → recode s (deidentified options (made_new options key) (normal_front s left)) ≡ recode s left
   deidentified_twice given =
       let w = source_whole (plain s) s h.start h.bytes f h.begins h.are_bytes in_plain in
       let is : left ≡ read_whole (last_tag None w.trees) (left_of w.trees) = left_is w.trees w.is in
       let again : Trees = normal s (left_of w.trees) in
-      ap (λ (g : Front). recode s (deidentified options (replaced key) (normal_front s g))) is
+      ap (λ (g : Front). recode s (deidentified options (made_new options key) (normal_front s g))) is
       ∙ ap (recode s) (again_is again)
       ∙ written_whole (last_tag None again) (left_of again)
       ∙ twice options key given s w.trees (spelled_named s w.trees h.bytes [] w.spelled) knows

@@ -27,17 +27,20 @@ use Rattle.dcm_base.proofs.Conversions.NormalForm.{evened_size}
 use Rattle.dcm_sinks.proofs.ReadBack.HasRoom.{IsElement, AreShort, Ready, ReadyItems}
 use Rattle.dcm_sinks.proofs.ReadBack.Sources.{spelled_no_sequence}
 use Rattle.dcm_editor_laws.proofs.ReadBack.Plain.{plain}
-use Rattle.dcm_uid.specs.Uid.{replaced}
-use Rattle.dcm_uid.proofs.NewUids.{replaced_short}
 use Rattle.dcm_deid.specs.declared.fate.Fate.{Fate}
-use Rattle.dcm_deid.specs.declared.fate.Fate.TheVariants.{Remove, Empty, Replace, Uid, Keep}
+use Rattle.dcm_deid.specs.declared.fate.Fate.TheVariants.{Remove, Empty, Replace, Anew, Keep}
 use Rattle.dcm_deid.specs.declared.fate.Options.{Options}
 use Rattle.dcm_deid.specs.declared.fate.Depth.{Depth}
 use Rattle.dcm_deid.specs.declared.fate.Depth.TheVariants.{Outermost, Inside}
 use Rattle.dcm_deid.specs.declared.fate.ReadAs.TheVariants.{AsBytes, AsItems}
-use Rattle.dcm_deid.specs.Fate.{fate_as}
+use Rattle.dcm_deid.specs.Fate.{fate_as, are_left}
 use Rattle.dcm_deid.specs.Deidentify.{dummy, value_by, leaf_by, sequence_by, fragments_by, deidentified_set, items_by_fate}
-use Rattle.dcm_deid.specs.Saying.{code_if, code_item, dates_said, methods, put_in, said, tag_at}
+use Rattle.dcm_deid.specs.MadeNew.{made_new}
+use Rattle.dcm_deid.specs.Saying.{code_if, code_item, dates_said, methods, put_in, said, tag_at, dates_became, dates_code, dates_meaning}
+use Rattle.dcm_deid.specs.declared.fate.NewValue.{NewValue}
+use Rattle.dcm_deid.specs.declared.fate.Temporal.{Temporal}
+use Rattle.dcm_deid.specs.declared.fate.Temporal.TheVariants.{Removed, Full, Modified}
+use Rattle.dcm_deid.proofs.MadeValues.{made_short}
 use Rattle.dcm_deid.proofs.Trees.Known.{transparent}
 use Rattle.dcm_deid.proofs.Trees.Said.{set_with, set_with_all}
 
@@ -101,18 +104,18 @@ fragments_form (big_in d) vr holds h = absurd (cc)
 
 -- ---- values
 
-dummy_within : (vr : Vr) → nat_le (length (dummy vr)) 64 ≡ true
+dummy_within : (vr : Vr) → nat_le (length (dummy vr)) 256 ≡ true
 unfolding dummy
 dummy_within SQ = refl
 dummy_within vr = refl
 
-pub dummy_short : (vr : Vr) → length (dummy vr) ≤ 64
-dummy_short vr = leb-true (length (dummy vr)) 64 (dummy_within vr)
+pub dummy_short : (vr : Vr) → length (dummy vr) ≤ 256
+dummy_short vr = leb-true (length (dummy vr)) 256 (dummy_within vr)
 
-pub renamed_short : (key : List ℕ) (vr : Vr) (v : List ℕ) → length (evened (pad vr) (replaced key v)) ≤ 64
-renamed_short key vr v =
-    let short = replaced_short key v in
-    let size = evened_size (pad vr) (replaced key v) in
+pub renamed_short : (options : Options) (key : List ℕ) (made : NewValue) (vr : Vr) (v : List ℕ) → length (evened (pad vr) (made_new options key made v)) ≤ 256
+renamed_short options key made vr v =
+    let short = made_short options key made v in
+    let size = evened_size (pad vr) (made_new options key made v) in
     omega (arith, short, size)
 
 -- ---- the elements that are put
@@ -173,10 +176,10 @@ method_vr = refl
 
 module _ (options : Options) (key : List ℕ) (s : Syntax) (standard : dictionary_of s ≡ Standard) where
   abbrev without : Depth → Trees → Trees
-  without depth x = deidentified_set options (replaced key) depth x
+  without depth x = deidentified_set options (made_new options key) depth x
 
   abbrev without_items : Items → Items
-  without_items x = items_by_fate (fate_as options) (value_by (replaced key)) x
+  without_items x = items_by_fate (fate_as options) (value_by (made_new options key)) x
 
   abbrev WasValue : Tag → Vr → List ℕ → Type 0
   WasValue t vr v = IsElement t × (length v < 0xFFFFFFFF) × (form (plain s) (read_as (plain s) t (normal_vr (plain s) t vr (length v))) (Known (even (length v))) ≡ a_value)
@@ -191,14 +194,14 @@ module _ (options : Options) (key : List ℕ) (s : Syntax) (standard : dictionar
   opened depth t fate e other = transparent options depth t (λ k. other (sym e ∙ k))
 
   leaf_ready : (n : ℕ) (depth : Depth) (fate : Fate) (t : Tag) (vr : Vr) (v : List ℕ) (rest : Trees) → fate_as options depth AsBytes t ≡ fate → ((t.element == 0) ≡ false → WasValue t vr v) → Ready s n rest
-      → Ready s n (leaf_by fate t vr (value_by (replaced key) fate vr v) rest)
+      → Ready s n (leaf_by fate t vr (value_by (made_new options key) fate vr v) rest)
   unfolding Ready
   leaf_ready n depth Remove t vr v rest e was h = h
   leaf_ready n depth Empty t vr v rest e was h = (λ g. stays t vr v [] (opened depth t Empty e (λ k. cc)) (omega arith) (was g), h)
   leaf_ready n depth Replace t vr v rest e was h =
       (λ g. let short = dummy_short vr in stays t vr v (dummy vr) (opened depth t Replace e (λ k. cc)) (omega (arith, short)) (was g), h)
-  leaf_ready n depth Uid t vr v rest e was h =
-      (λ g. let short = renamed_short key vr (without_pads v) in stays t vr v (evened (pad vr) (replaced key (without_pads v))) (opened depth t Uid e (λ k. cc)) (omega (arith, short)) (was g), h)
+  leaf_ready n depth (Anew made) t vr v rest e was h =
+      (λ g. let short = renamed_short options key made vr (without_pads v) in stays t vr v (evened (pad vr) (made_new options key made (without_pads v))) (opened depth t (Anew made) e (λ k. cc)) (omega (arith, short)) (was g), h)
   leaf_ready n depth Keep t vr v rest e was h = (λ g. stays t vr v v (opened depth t Keep e (λ k. cc)) (was g).1 (was g), h)
 
   abbrev WasSequence : ℕ → Tag → Items → Type 0
@@ -210,7 +213,7 @@ module _ (options : Options) (key : List ℕ) (s : Syntax) (standard : dictionar
   sequence_ready n Remove t vr items left rest was inner h = h
   sequence_ready n Empty t vr items left rest was inner h = (λ g. ((was g).0, (was g).1, sequence_form s t (was g).2, tt), h)
   sequence_ready n Replace t vr items left rest was inner h = (λ g. ((was g).0, (was g).1, sequence_form s t (was g).2, tt), h)
-  sequence_ready n Uid t vr items left rest was inner h = (λ g. ((was g).0, (was g).1, sequence_form s t (was g).2, tt), h)
+  sequence_ready n (Anew made) t vr items left rest was inner h = (λ g. ((was g).0, (was g).1, sequence_form s t (was g).2, tt), h)
   sequence_ready n Keep t vr items left rest was inner h = (λ g. ((was g).0, (was g).1, sequence_form s t (was g).2, inner g), h)
 
   abbrev WasFragments : ℕ → Tag → Vr → List (List ℕ) → Type 0
@@ -221,7 +224,7 @@ module _ (options : Options) (key : List ℕ) (s : Syntax) (standard : dictionar
   fragments_ready n Remove t vr parts rest was h = h
   fragments_ready n Empty t vr parts rest was h = h
   fragments_ready n Replace t vr parts rest was h = h
-  fragments_ready n Uid t vr parts rest was h = h
+  fragments_ready n (Anew made) t vr parts rest was h = h
   fragments_ready n Keep t vr parts rest was h =
       (λ g. let two = fragments_form s vr (was g).2 (was g).3 in ((was g).0, (was g).1, two.0, two.1, (was g).4), h)
 
@@ -292,11 +295,21 @@ module _ (options : Options) (key : List ℕ) (s : Syntax) (standard : dictionar
   code_if_ready true code meaning rest short few h = code_ready code meaning rest short few h
   code_if_ready false code meaning rest short few h = h
 
+  code_short : (t : Temporal) → length (dates_code t) < 0xFFFFFFFF
+  code_short Removed = omega arith
+  code_short Full = omega arith
+  code_short (Modified days) = omega arith
+
+  meaning_short : (t : Temporal) → length (dates_meaning t) < 0xFFFFFFFF
+  meaning_short Removed = omega arith
+  meaning_short Full = omega arith
+  meaning_short (Modified days) = omega arith
+
   methods_ready : ReadyItems s 1 (methods options)
   unfolding Ready
   methods_ready =
       code_ready (codes "113100") (codes "Basic Application Confidentiality Profile") _ (omega arith) (omega arith)
-      (code_if_ready options.dates (codes "113106") (codes "Retain Longitudinal Temporal Information Full Dates Option") _ (omega arith) (omega arith)
+      (code_if_ready (are_left options.dates) (dates_code options.dates) (dates_meaning options.dates) _ (code_short options.dates) (meaning_short options.dates)
       (code_if_ready options.patient (codes "113108") (codes "Retain Patient Characteristics Option") _ (omega arith) (omega arith)
       (code_if_ready options.device (codes "113109") (codes "Retain Device Identity Option") _ (omega arith) (omega arith)
       (code_if_ready options.uids (codes "113110") (codes "Retain UIDs Option") _ (omega arith) (omega arith)
@@ -314,9 +327,10 @@ module _ (options : Options) (key : List ℕ) (s : Syntax) (standard : dictionar
       let form_is = method_form s standard in
       (λ set k. (λ g. (element_of_method, omega arith, form_is, methods_ready), k), (λ g. (element_of_method, omega arith, form_is, methods_ready), tt))
 
-  dates_short : (b : Bool) → length (if b then codes "UNMODIFIED" else codes "REMOVED") < 0xFFFFFFFF
-  dates_short true = omega arith
-  dates_short false = omega arith
+  dates_short : (t : Temporal) → length (dates_became t) < 0xFFFFFFFF
+  dates_short Removed = omega arith
+  dates_short Full = omega arith
+  dates_short (Modified days) = omega arith
 
   said_put : ArePut (said options)
   said_put =

@@ -4,9 +4,9 @@ use Rattle.dcm_base.specs.declared.vr.Vr.{Vr}
 use Rattle.dcm_base.specs.Tables.Representation.{pad}
 use Rattle.dcm_base.specs.Tree.Front.{Front}
 use Rattle.dcm_base.specs.Tree.Value.{evened}
-use Rattle.dcm_uid.specs.Uid.{replaced}
+use Rattle.dcm_deid.specs.MadeNew.{made_new}
 use Rattle.dcm_deid.specs.declared.fate.Fate.{Fate}
-use Rattle.dcm_deid.specs.declared.fate.Fate.TheVariants.{Remove, Empty, Replace, Uid, Keep}
+use Rattle.dcm_deid.specs.declared.fate.Fate.TheVariants.{Remove, Empty, Replace, Anew, Keep}
 use Rattle.dcm_deid.specs.declared.fate.Options.{Options}
 use Rattle.dcm_deid.specs.declared.fate.Depth.TheVariants.{Outermost}
 use Rattle.dcm_deid.specs.Deidentify.{Renaming, dummy}
@@ -19,10 +19,10 @@ abbrev pub WrittenIsClean : Renaming → Fate → Vr → List ℕ → Type 0
 WrittenIsClean new Remove vr value = ⊥
 WrittenIsClean new Empty vr value = value ≡ []
 WrittenIsClean new Replace vr value = value ≡ evened (pad vr) (dummy vr)
-WrittenIsClean new Uid vr value = IsRenamed new vr value
+WrittenIsClean new (Anew made) vr value = IsRenamed (new made) vr value
 WrittenIsClean new Keep vr value = Unit {0}
 
 -- nor in a data set, at any depth, the elements that say what was done aside
 abbrev pub NothingIsLeft : Options → (key : List ℕ) → Front → Type 0
 NothingIsLeft options key f =
-    AreClean (WrittenIsClean (replaced key)) (fate_as options) Outermost (unsaid (whole_of f))
+    AreClean (WrittenIsClean (made_new options key)) (fate_as options) Outermost (unsaid (whole_of f))

@@ -9,7 +9,7 @@ use Rattle.dcm_base.specs.Reading.Stop.{complete}
 use Rattle.dcm_base.specs.Tables.Number.{AreBytes}
 use Rattle.dcm_base.specs.Tables.Syntax.{dictionary_of}
 use Rattle.dcm_base.specs.Tree.Front.{Front}
-use Rattle.dcm_uid.specs.Uid.{replaced}
+use Rattle.dcm_deid.specs.MadeNew.{made_new}
 use Rattle.dcm_deid.specs.declared.fate.Options.{Options}
 use Rattle.dcm_deid.specs.Saying.{deidentified}
 
@@ -22,4 +22,4 @@ pub record Takes (options : Options) (key : List ℕ) (s : Syntax) (at : ℕ) (f
   pub bytes : List ℕ
   pub are_bytes : AreBytes bytes
   pub reads : Reads identity_bar s start bytes f complete
-  pub within : at + length (recode s (deidentified options (replaced key) f)) ≤ INPUT_LIMIT
+  pub within : at + length (recode s (deidentified options (made_new options key) f)) ≤ INPUT_LIMIT

@@ -17,8 +17,8 @@ pub fn written_is_clean()
     ensures { TakenIsGone }
 {}
 
-/// Where unique identifiers are retained, to take identity out of what reads back, with the same options, writes the same
-/// bytes again.
+/// Where no value is made anew, to take identity out of what reads back, with the same options, writes the same bytes
+/// again.
 pub fn deidentified_twice()
     ensures { DeidentifiedTwice }
 {}

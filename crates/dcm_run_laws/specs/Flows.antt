@@ -1,5 +1,5 @@
 -- That nothing of what is taken out of a file is in the answer to it.
-use Rattle.std.specs.Prelude.{◌≡◌, ℕ, List, Bool, Option, None, Some}
+use Rattle.std.specs.Prelude.{◌≡◌, ℕ, ℤ, List, Bool, Option, None, Some}
 use Rattle.dcm_base.specs.declared.syntax.Coding.{Coding}
 use Rattle.dcm_base.specs.Conversion.NewMeta.{Renewing, renewed}
 use Rattle.dcm_base.specs.File.MetaReads.{Meta}
@@ -7,7 +7,7 @@ use Rattle.dcm_base.specs.Reading.Stop.{complete}
 use Rattle.dcm_base.specs.Tables.Transfer.{without_pads}
 use Rattle.dcm_base.specs.Tree.Front.{Front}
 use Rattle.dcm_base.specs.Tree.Tree.{Trees}
-use Rattle.dcm_deid.specs.Alike.{Alike}
+use Rattle.dcm_deid.specs.Alike.{Alike, moving}
 use Rattle.dcm_deid.specs.declared.fate.Depth.TheVariants.{Outermost}
 use Rattle.dcm_deid.specs.declared.fate.Options.{Options}
 use Rattle.dcm_deid.specs.declared.meta.MetaFate.{MetaFate}
@@ -38,9 +38,11 @@ pub record IsDeidentified (options : Options) (reports : Bool) (key input : List
   pub coding : Coding
   pub source_is : answers.source ≡ file m coding set complete
 
--- two files of which the same meta elements stay, and whose data sets differ only in what is taken, have one answer
+-- two files of which the same meta elements stay, and whose data sets differ only in what is taken, have one answer, be
+-- the dates of the second moved by other days
 abbrev pub NothingFlows : Type 0
 NothingFlows =
-    (options : Options) (reports : Bool) (key first second : List ℕ) (a b : Answer) (m n : Meta) (f g : Front)
-    → IsDeidentified options reports key first a m f → IsDeidentified options reports key second b n g
-    → meta_left options m ≡ meta_left options n → Alike options Outermost (whole_of f) (whole_of g) → a ≡ b
+    (options : Options) (reports : Bool) (key first second : List ℕ) (d e : ℤ) (a b : Answer) (m n : Meta)
+    (f g : Front) → IsDeidentified (moving options d) reports key first a m f
+    → IsDeidentified (moving options e) reports key second b n g → meta_left options m ≡ meta_left options n
+    → Alike options Outermost d e (whole_of f) (whole_of g) → a ≡ b

@@ -18,6 +18,7 @@ use Rattle.dcm_deid.specs.declared.fate.Options.{Options}
 use Rattle.dcm_deid.specs.Saying.{whole_of}
 use Rattle.dcm_deid.specs.Uids.{instance_of_head, instance_of_set}
 use Rattle.dcm_deid_laws.specs.Clean.{NothingIsLeft}
+use Rattle.dcm_deid_laws.specs.Laws.{MakesNothingAnew}
 use Rattle.dcm_words.specs.Words as words
 use Rattle.dcm_cli.specs.Answer.{Answer, Answers, FileReads, file}
 use Rattle.dcm_cli.specs.Status.{DONE, REMARK}
@@ -173,10 +174,10 @@ InstanceAgrees =
     → FileReads (words.dump Standard Full None) a.output (file n c set stop)
     → instance_of_head n ≡ instance_of_set (whole_of set)
 
--- where unique identifiers are retained, the same options again write the same bytes
+-- where no value is made anew, the same options again write the same bytes
 abbrev pub DeidentifiedTwice : Type 0
 DeidentifiedTwice =
     (options : Options) (reports : Bool) (key input : List ℕ) (a b : Answer) (m : Meta) (coding : Coding) (f : Front)
-    → IsTaken options reports key input a m coding f → options.uids ≡ true
+    → IsTaken options reports key input a m coding f → MakesNothingAnew options
     → Answers (words.deidentify options reports key) a.output b
     → (b.output ≡ a.output) × ((b.status ≡ DONE) ⊎ (b.status ≡ REMARK))

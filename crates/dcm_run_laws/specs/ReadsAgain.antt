@@ -18,7 +18,7 @@ use Rattle.dcm_sinks.specs.MetaAgain.{meta_again}
 use Rattle.dcm_base.specs.declared.mode.Mode.TheVariants.{Full}
 use Rattle.dcm_base.specs.Tables.Syntax.{coding_by, dictionary_of, read_by, is_big}
 use Rattle.dcm_base.specs.declared.dictionary.Dictionary.{Dictionary}
-use Rattle.dcm_uid.specs.Uid.{replaced}
+use Rattle.dcm_deid.specs.MadeNew.{made_new}
 use Rattle.dcm_deid.specs.declared.fate.Options.{Options}
 use Rattle.dcm_deid.specs.Meta.{meta_without_identity}
 use Rattle.dcm_deid.specs.Saying.{deidentified}
@@ -104,7 +104,7 @@ pub record IsTaken (options : Options) (reports : Bool) (key input : List ℕ) (
   pub answers : ReadAnswers (deidentify options reports key) input a
   pub source_is : answers.source ≡ file m coding f complete
   pub room : HasRoom a.output (meta_without_identity options key m) m.uid coding.syntax
-      (deidentified options (replaced key) f)
+      (deidentified options (made_new options key) f)
 
 -- its output is read by a dictionary: the new meta group of the elements that stay, and the normal form of the data set
 -- without identity
@@ -112,4 +112,4 @@ abbrev pub ReadsTaken : Dictionary → Options → (key : List ℕ) → Answer �
 ReadsTaken e options key a m coding f =
     IsRead e a.output (meta_again (meta_without_identity options key m) m.uid)
     (new_meta (meta_without_identity options key m).elements m.uid) (coding_by e coding)
-    (normal_front (read_by e coding.syntax) (deidentified options (replaced key) f))
+    (normal_front (read_by e coding.syntax) (deidentified options (made_new options key) f))

@@ -89,7 +89,8 @@ pub fn modified_twice()
 
 /// Nothing of what dcmdeid takes out of a file is in its answer. Two files that are read without fault, of which the
 /// same meta elements stay, and whose data sets differ only in what is taken, have the same output, lines and status.
-/// Unique identifiers that get new ones may differ in their padding alone.
+/// Unique identifiers that get new ones may differ in their padding alone. So may a PatientID that gets a pseudonym, in
+/// front too; and dates that are moved, be it by other days, are moved to the same.
 pub fn nothing_flows_in_answers()
     ensures { NothingFlows }
 {}
@@ -113,8 +114,9 @@ pub fn instance_agrees()
     ensures { InstanceAgrees }
 {}
 
-/// dcmdeid on its own output, with the same options, writes the same bytes again. Unique identifiers are retained, and
-/// the first run is on a file without fault. The second one refuses nothing: its status is 0 or 3.
+/// dcmdeid on its own output, with the same options, writes the same bytes again. No value is made anew (unique
+/// identifiers are retained, and neither pseudonyms nor moved dates are asked for), and the first run is on a file without
+/// fault. The second one refuses nothing: its status is 0 or 3.
 pub fn deidentified_twice()
     ensures { DeidentifiedTwice }
 {}

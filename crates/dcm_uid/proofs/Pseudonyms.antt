@@ -1,5 +1,5 @@
 -- Pseudonyms and days of patients.
-use Rattle.std.proofs.Common.{◌≡◌, ◌≢◌, ◌<◌, ℕ, zero, suc, ◌*◌, ◌/◌, ◌%◌, Bool, true, false, List, [], ◌∷◌, length, take, refl, arith, ap, ◌∙◌, sym, w32, of_z, to_z, length-take}
+use Rattle.std.proofs.Common.{◌≡◌, ◌≢◌, ◌<◌, ◌≤◌, ℕ, zero, suc, ◌*◌, ◌/◌, ◌%◌, Bool, true, false, List, [], ◌∷◌, length, take, refl, arith, ap, ◌∙◌, sym, w32, of_z, to_z, length-take}
 use Rattle.std.specs.Prelude.{negsuc, ◌-ℤ◌, ◌≤ℤ◌, ◌==◌, ◌&&◌, ◌||◌, not, nat_le, nat_lt}
 use Rattle.std.specs.List.{flat_map, list_all, list_any}
 use Rattle.std.proofs.lemmas.Int.{ints}
@@ -55,22 +55,26 @@ first_bytes (suc n) (b ∷ bs) are = along (first_bytes n bs (λ k. are (suc k))
     along others zero = are 0
     along others (suc i) = others i
 
+pub form_of_pseudonym : (key : List ℕ) (b : ℕ) (bs : List ℕ) → IsPseudonym (pseudonym_of key (b ∷ bs))
+unfolding pseudonym_of
+form_of_pseudonym key b bs =
+    let code = hmac_sha256 key (message PSEUDONYM (b ∷ bs)) in
+    let digits = digits_of_bytes (take 10 code) (first_bytes 10 code (hmac_bytes key (message PSEUDONYM (b ∷ bs)))) in
+    let ten : length (take 10 code) ≡ 10 = simp length-take (omega (arith, hmac_length key (message PSEUDONYM (b ∷ bs)))) in
+    record {
+      digits = flat_map hex_byte (take 10 code);
+      whole = refl;
+      all_digits = digits.0;
+      size = omega (arith, digits.1, ten);
+    }
+
 pub pseudonyms_form : (key value : List ℕ) → patient value ≢ [] → IsPseudonym (pseudonym key value)
-unfolding pseudonym pseudonym_of
+unfolding pseudonym
 pseudonyms_form key value some = shown (patient value) some
   where
     shown : (p : List ℕ) → p ≢ [] → IsPseudonym (pseudonym_of key p)
     shown [] none = absurd (none refl)
-    shown (b ∷ bs) none =
-        let code = hmac_sha256 key (message PSEUDONYM (b ∷ bs)) in
-        let digits = digits_of_bytes (take 10 code) (first_bytes 10 code (hmac_bytes key (message PSEUDONYM (b ∷ bs)))) in
-        let ten : length (take 10 code) ≡ 10 = simp length-take (omega (arith, hmac_length key (message PSEUDONYM (b ∷ bs)))) in
-        record {
-          digits = flat_map hex_byte (take 10 code);
-          whole = refl;
-          all_digits = digits.0;
-          size = omega (arith, digits.1, ten);
-        }
+    shown (b ∷ bs) none = form_of_pseudonym key b bs
 
 pub pseudonyms_none : (key value : List ℕ) → patient value ≡ [] → pseudonym key value ≡ []
 unfolding pseudonym pseudonym_of
@@ -112,3 +116,12 @@ days_within key p = omega (arith, ints)
 pub days_past : (key p : List ℕ) → days key p ≤ℤ negsuc 0
 unfolding days
 days_past key p = omega (arith, ints)
+
+pub pseudonyms_short : (key p : List ℕ) → length (pseudonym_of key p) ≤ 21
+unfolding pseudonym_of
+pseudonyms_short key [] = omega arith
+pseudonyms_short key (b ∷ bs) =
+    let code = hmac_sha256 key (message PSEUDONYM (b ∷ bs)) in
+    let digits = digits_of_bytes (take 10 code) (first_bytes 10 code (hmac_bytes key (message PSEUDONYM (b ∷ bs)))) in
+    let ten : length (take 10 code) ≤ 10 = simp length-take (omega arith) in
+    omega (arith, digits.1, ten)

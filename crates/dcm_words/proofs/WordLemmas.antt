@@ -1,15 +1,17 @@
 -- The words of a tool, one after another.
-use Rattle.std.proofs.Common.{◌≡◌, ◌≢◌, ◌==◌, ℕ, zero, suc, ◌<◌, ◌+◌, List, [], ◌∷◌, length, map, drop, get_or, Option, None, Some, option_map, Bool, true, false, Result, Ok, Err, refl, sym, ◌∙◌, ap, subst, arith, drop-cons, add-one, Bor}
+use Rattle.std.proofs.Common.{◌≡◌, ◌≢◌, ◌==◌, ℕ, ℤ, zero, suc, ◌<◌, ◌+◌, List, [], ◌∷◌, length, map, drop, get_or, Option, None, Some, option_map, Bool, true, false, Result, Ok, Err, refl, sym, ◌∙◌, ap, subst, arith, drop-cons, add-one, Bor}
 use Rattle.std.proofs.lemmas.Bool.Decides.{nat_tests}
 use Rattle.dcm_words.specs.declared.usage.Word.{Word}
-use Rattle.dcm_words.specs.declared.usage.Word.TheVariants.{Read, Show, WholeFile, DataSet, Bare, Target, Limit, Retain, PixelsDealt, Key, Accepted, Path, Unknown}
+use Rattle.dcm_words.specs.declared.usage.Word.TheVariants.{Read, Show, WholeFile, DataSet, Bare, Target, Limit, Retain, Move, Pseudonyms, PixelsDealt, Key, Accepted, Path, Unknown}
 use Rattle.dcm_words.specs.declared.usage.Usage.{Usage}
 use Rattle.dcm_words.specs.declared.usage.Usage.TheVariants.{AtWord, Whole}
 use Rattle.dcm_base.specs.declared.fault.WordFault.TheVariants.{UnknownOption, BadOptionValue, WrongPaths}
-use Rattle.dcm_words.specs.Words.{Said, said_with, said_with_value, said_after, and_path, limit_of, key_of, Job, plan_with_two}
+use Rattle.dcm_words.specs.Words.{Said, said_with, said_with_value, said_after, and_path, and_move, limit_of, days_of, key_of, Job, plan_with_two}
 use Rattle.dcm_words.specs.declared.words.Paths.{Paths}
 use Rattle.dcm_words.specs.declared.words.Paths.TheVariants as paths
-use Rattle.dcm_words.specs.Plans.{given, value_after, limit_after, key_after, PathsAre}
+use Rattle.dcm_words.specs.Plans.{given, value_after, limit_after, days_after, key_after, PathsAre, SaidAs}
+use Rattle.std.specs.Prelude.{IsErrAnd}
+use Rattle.dcm_words.specs.declared.words.Said.{Said as Words}
 
 abbrev texts : List (Bor (List ℕ)) → List (List ℕ)
 texts ws = map (λ w. w.now) ws
@@ -18,12 +20,14 @@ texts ws = map (λ w. w.now) ws
 abbrev pub goes : Word → Bool
 goes Unknown = false
 goes Limit = false
+goes Move = false
 goes Key = false
 goes _ = true
 
 -- words that want a value
 abbrev wants_value : Word → Bool
 wants_value Limit = true
+wants_value Move = true
 wants_value Key = true
 wants_value _ = false
 
@@ -50,7 +54,9 @@ module _ (read : List ℕ → Word) where
   one_alone n s w Limit e g = cc
   one_alone n s w (Retain o) e g = rw (e, said_after) refl
   one_alone n s w PixelsDealt e g = rw (e, said_after) refl
+  one_alone n s w Pseudonyms e g = rw (e, said_after) refl
   one_alone n s w Key e g = cc
+  one_alone n s w Move e g = cc
   one_alone n s w Accepted e g = rw (e, said_after) refl
   one_alone n s w Path e g = rw (e, said_after) refl
   one_alone n s w Unknown e g = cc
@@ -65,7 +71,9 @@ module _ (read : List ℕ → Word) where
   one_before n s w v words Limit e g = cc
   one_before n s w v words (Retain o) e g = rw (e, said_after) refl
   one_before n s w v words PixelsDealt e g = rw (e, said_after) refl
+  one_before n s w v words Pseudonyms e g = rw (e, said_after) refl
   one_before n s w v words Key e g = cc
+  one_before n s w v words Move e g = cc
   one_before n s w v words Accepted e g = rw (e, said_after) refl
   one_before n s w v words Path e g = rw (e, said_after) refl
   one_before n s w v words Unknown e g = cc
@@ -90,6 +98,7 @@ module _ (read : List ℕ → Word) where
   value_alone : (n : ℕ) (s : Said) (w : List ℕ) (x : Word) → read w ≡ x → wants_value x ≡ true → said_after read n s (w ∷ []) ≡ Err (AtWord BadOptionValue n)
   value_alone n s w Limit e wants = rw (e, said_after) refl
   value_alone n s w Key e wants = rw (e, said_after) refl
+  value_alone n s w Move e wants = rw (e, said_after) refl
   value_alone n s w (Read d) e wants = cc
   value_alone n s w (Show m) e wants = cc
   value_alone n s w WholeFile e wants = cc
@@ -98,6 +107,7 @@ module _ (read : List ℕ → Word) where
   value_alone n s w (Target y) e wants = cc
   value_alone n s w (Retain o) e wants = cc
   value_alone n s w PixelsDealt e wants = cc
+  value_alone n s w Pseudonyms e wants = cc
   value_alone n s w Accepted e wants = cc
   value_alone n s w Path e wants = cc
   value_alone n s w Unknown e wants = cc
@@ -105,6 +115,7 @@ module _ (read : List ℕ → Word) where
   value_bad : (n : ℕ) (s : Said) (w v : List ℕ) (words : List (List ℕ)) (x : Word) → read w ≡ x → wants_value x ≡ true → said_with_value x v s ≡ None → said_after read n s (w ∷ v ∷ words) ≡ Err (AtWord BadOptionValue n)
   value_bad n s w v words Limit e wants none = rw (e, none, said_after) refl
   value_bad n s w v words Key e wants none = rw (e, none, said_after) refl
+  value_bad n s w v words Move e wants none = rw (e, none, said_after) refl
   value_bad n s w v words (Read d) e wants none = cc
   value_bad n s w v words (Show m) e wants none = cc
   value_bad n s w v words WholeFile e wants none = cc
@@ -113,6 +124,7 @@ module _ (read : List ℕ → Word) where
   value_bad n s w v words (Target y) e wants none = cc
   value_bad n s w v words (Retain o) e wants none = cc
   value_bad n s w v words PixelsDealt e wants none = cc
+  value_bad n s w v words Pseudonyms e wants none = cc
   value_bad n s w v words Accepted e wants none = cc
   value_bad n s w v words Path e wants none = cc
   value_bad n s w v words Unknown e wants none = cc
@@ -120,6 +132,7 @@ module _ (read : List ℕ → Word) where
   value_good : (n : ℕ) (s t : Said) (w v : List ℕ) (words : List (List ℕ)) (x : Word) → read w ≡ x → wants_value x ≡ true → said_with_value x v s ≡ Some t → said_after read n s (w ∷ v ∷ words) ≡ said_after read (n + 2) t words
   value_good n s t w v words Limit e wants some = rw (e, some, said_after) refl
   value_good n s t w v words Key e wants some = rw (e, some, said_after) refl
+  value_good n s t w v words Move e wants some = rw (e, some, said_after) refl
   value_good n s t w v words (Read d) e wants some = cc
   value_good n s t w v words (Show m) e wants some = cc
   value_good n s t w v words WholeFile e wants some = cc
@@ -128,6 +141,7 @@ module _ (read : List ℕ → Word) where
   value_good n s t w v words (Target y) e wants some = cc
   value_good n s t w v words (Retain o) e wants some = cc
   value_good n s t w v words PixelsDealt e wants some = cc
+  value_good n s t w v words Pseudonyms e wants some = cc
   value_good n s t w v words Accepted e wants some = cc
   value_good n s t w v words Path e wants some = cc
   value_good n s t w v words Unknown e wants some = cc
@@ -178,6 +192,9 @@ module _ (read : List ℕ → Word) where
   key_is : (v : List ℕ) (s : Said) → said_with_value Key v s ≡ option_map (λ key. record s { key = Some key }) (key_of v)
   key_is v s = refl
 
+  days_is : (v : List ℕ) (s : Said) → said_with_value Move v s ≡ option_map (λ days. record s { options = and_move s.options days }) (days_of v)
+  days_is v s = refl
+
   pub limit_turn : {M : Result Said Usage} (i : ℕ) (ws : List (Bor (List ℕ))) (d : Bor (List ℕ)) (s t : Said) (limit : ℕ) → i < length ws → Limit ≡ read (get_or ws i d).now → limit_after (i + 2) (texts (drop (i + 1) ws)) ≡ Ok limit
       → record s { limit = limit } ≡ t → said_after read (i + 2) s (texts (drop i ws)) ≡ M → said_after read (i + 1 + 1 + 2) t (texts (drop (i + 1 + 1) ws)) ≡ M
   limit_turn i ws d s t limit h p l e v = value_turn Limit limit_of (λ a s. record s { limit = a }) refl limit_is i ws d s t limit h p l e v
@@ -193,6 +210,14 @@ module _ (read : List ℕ → Word) where
   pub key_refused : (i : ℕ) (ws : List (Bor (List ℕ))) (d : Bor (List ℕ)) (s : Said) (u : Usage) → i < length ws → Key ≡ read (get_or ws i d).now → key_after (i + 2) (texts (drop (i + 1) ws)) ≡ Err u
       → said_after read (i + 2) s (texts (drop i ws)) ≡ Err u
   key_refused i ws d s u h p l = value_refused Key key_of (λ a s. record s { key = Some a }) refl key_is i ws d s u h p l
+
+  pub days_turn : {M : Result Said Usage} (i : ℕ) (ws : List (Bor (List ℕ))) (d : Bor (List ℕ)) (s t : Said) (days : ℤ) → i < length ws → Move ≡ read (get_or ws i d).now → days_after (i + 2) (texts (drop (i + 1) ws)) ≡ Ok days
+      → record s { options = and_move s.options days } ≡ t → said_after read (i + 2) s (texts (drop i ws)) ≡ M → said_after read (i + 1 + 1 + 2) t (texts (drop (i + 1 + 1) ws)) ≡ M
+  days_turn i ws d s t days h p l e v = value_turn Move days_of (λ a s. record s { options = and_move s.options a }) refl days_is i ws d s t days h p l e v
+
+  pub days_refused : (i : ℕ) (ws : List (Bor (List ℕ))) (d : Bor (List ℕ)) (s : Said) (u : Usage) → i < length ws → Move ≡ read (get_or ws i d).now → days_after (i + 2) (texts (drop (i + 1) ws)) ≡ Err u
+      → said_after read (i + 2) s (texts (drop i ws)) ≡ Err u
+  days_refused i ws d s u h p l = value_refused Move days_of (λ a s. record s { options = and_move s.options a }) refl days_is i ws d s u h p l
 
   pub stops : (i : ℕ) (ws : List (Bor (List ℕ))) (d : Bor (List ℕ)) (s : Said) → i < length ws → Unknown ≡ read (get_or ws i d).now
       → said_after read (i + 2) s (texts (drop i ws)) ≡ Err (AtWord UnknownOption (i + 2))
@@ -249,3 +274,10 @@ module _ (job : Job) where
   not_two (paths.One first) ps n are = subst AreWrong (sym are) refl
   not_two (paths.Two first second) ps n are = absurd (n first second refl)
   not_two paths.More ps n are = too_many ps are
+
+-- ---- what was refused
+
+pub refused_as : (r : Result Words Usage) (u : Usage) (meant : Result Said Usage) (R : Usage → Type 0) → IsErrAnd r R → ((e : Usage) → R e → e ≡ u)
+    → meant ≡ Err u → SaidAs r meant
+refused_as (Ok s) u meant R h same m = absurd h
+refused_as (Err e) u meant R h same m = m ∙ ap (λ (v : Usage). Err v) (sym (same e h))

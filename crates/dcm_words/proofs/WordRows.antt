@@ -1,18 +1,19 @@
 -- Worked rows: the words of a command line.
-use Rattle.std.proofs.Common.{◌≡◌, ℕ, List, [], ◌∷◌, ◌++◌, length, flat_map, replicate, Option, Some, None, Bool, true, false, Result, Ok, Err, refl}
+use Rattle.std.proofs.Common.{◌≡◌, ℕ, List, [], ◌∷◌, ◌++◌, pos, negsuc, length, flat_map, replicate, Option, Some, None, Bool, true, false, Result, Ok, Err, refl}
 use Rattle.std.specs.Prelude.{codes}
 use Rattle.dcm_base.specs.declared.tag.Tag.{Tag}
 use Rattle.dcm_base.specs.declared.vr.Vr.TheVariants.{UI, PN, LO, US}
 use Rattle.dcm_base.specs.declared.mode.Mode.TheVariants.{Short, Full}
 use Rattle.dcm_base.specs.Tables.Syntax.{Implicit, Little, Big}
 use Rattle.dcm_base.specs.declared.fault.EditRefusal.TheVariants.{BadOption, UnknownTag, ValueDoesNotFit, SequenceMisused, MetaGroup, Overlap, TooMany}
-use Rattle.dcm_base.specs.declared.fault.WordFault.TheVariants.{UnknownTool, UnknownOption, BadOptionValue, WrongPaths, OptionsApart, SamePath}
+use Rattle.dcm_base.specs.declared.fault.WordFault.TheVariants.{UnknownTool, UnknownOption, BadOptionValue, WrongPaths, OptionsApart, SamePath, NoKey}
 use Rattle.dcm_words.specs.declared.usage.Usage.{Usage}
 use Rattle.dcm_words.specs.declared.usage.Usage.TheVariants.{AtWord, Whole, InEdit}
 use Rattle.dcm_base.specs.declared.dictionary.Dictionary.TheVariants.{Extract, Standard}
 use Rattle.dcm_base.specs.Tables.Dictionary.{elements, entries, keywords, elements_in, element_in, tag_in}
 use Rattle.dcm_edits.specs.Edit.{Edit, number, every, step, insert, modify, erase, erase_item, on_path, modify_all, erase_private}
 use Rattle.dcm_edits.specs.EditWords.{meant_edits, in_edit, InEdit as EditFault}
+use Rattle.dcm_deid.specs.declared.fate.Temporal.TheVariants.{Full as full_dates, Modified}
 use Rattle.dcm_deid.specs.declared.fate.Options.{Options}
 use Rattle.dcm_words.specs.Words.{meant, no_options, Plan, Job, dump, convert, build, modify as modifies, deidentify}
 
@@ -199,13 +200,66 @@ retain_patient : meant (codes "dcmdeid" ∷ codes "+rp" ∷ codes "+rp" ∷ code
 unfolding all
 retain_patient = refl
 
-retain_dates : meant (codes "dcmdeid" ∷ codes "+rl" ∷ codes "in" ∷ codes "out" ∷ []) ≡ taken (record no_options { dates = true }) true None
+retain_dates : meant (codes "dcmdeid" ∷ codes "+rl" ∷ codes "in" ∷ codes "out" ∷ []) ≡ taken (record no_options { dates = full_dates }) true None
 unfolding all
 retain_dates = refl
 
-retain_all : meant (codes "dcmdeid" ∷ codes "+rl" ∷ codes "+rp" ∷ codes "+ri" ∷ codes "+rd" ∷ codes "+ru" ∷ codes "in" ∷ codes "out" ∷ []) ≡ taken (record { uids = true; device = true; institution = true; patient = true; dates = true }) true None
+retain_all : meant (codes "dcmdeid" ∷ codes "+rl" ∷ codes "+rp" ∷ codes "+ri" ∷ codes "+rd" ∷ codes "+ru" ∷ codes "in" ∷ codes "out" ∷ []) ≡ taken (record { uids = true; device = true; institution = true; patient = true; dates = full_dates; pseudonyms = false }) true None
 unfolding all
 retain_all = refl
+
+-- dates that are moved, and pseudonyms
+move_dates : meant (codes "dcmdeid" ∷ codes "+rm" ∷ codes "30" ∷ codes "in" ∷ codes "out" ∷ []) ≡ taken (record no_options { dates = Modified (pos 30) }) true None
+unfolding all
+move_dates = refl
+
+move_dates_back : meant (codes "dcmdeid" ∷ codes "in" ∷ codes "+rm" ∷ codes "-0036524" ∷ codes "out" ∷ []) ≡ taken (record no_options { dates = Modified (negsuc 36523) }) true None
+unfolding all
+move_dates_back = refl
+
+move_after_retain : meant (codes "dcmdeid" ∷ codes "+rl" ∷ codes "+rm" ∷ codes "+1" ∷ codes "in" ∷ codes "out" ∷ []) ≡ taken (record no_options { dates = Modified (pos 1) }) true None
+unfolding all
+move_after_retain = refl
+
+retain_after_move : meant (codes "dcmdeid" ∷ codes "+rm" ∷ codes "1" ∷ codes "+rl" ∷ codes "in" ∷ codes "out" ∷ []) ≡ taken (record no_options { dates = full_dates }) true None
+unfolding all
+retain_after_move = refl
+
+no_days : meant (codes "dcmdeid" ∷ codes "in" ∷ codes "out" ∷ codes "+rm" ∷ []) ≡ Err (AtWord BadOptionValue 4)
+unfolding all
+no_days = refl
+
+days_0 : meant (codes "dcmdeid" ∷ codes "+rm" ∷ codes "0" ∷ codes "in" ∷ codes "out" ∷ []) ≡ Err (AtWord BadOptionValue 2)
+unfolding all
+days_0 = refl
+
+days_36525 : meant (codes "dcmdeid" ∷ codes "+rm" ∷ codes "-36525" ∷ codes "in" ∷ codes "out" ∷ []) ≡ Err (AtWord BadOptionValue 2)
+unfolding all
+days_36525 = refl
+
+two_signs : meant (codes "dcmdeid" ∷ codes "+rm" ∷ codes "+-5" ∷ codes "in" ∷ codes "out" ∷ []) ≡ Err (AtWord BadOptionValue 2)
+unfolding all
+two_signs = refl
+
+half_a_day : meant (codes "dcmdeid" ∷ codes "+rm" ∷ codes "1.5" ∷ codes "in" ∷ codes "out" ∷ []) ≡ Err (AtWord BadOptionValue 2)
+unfolding all
+half_a_day = refl
+
+empty_days : meant (codes "dcmdeid" ∷ codes "+rm" ∷ codes "" ∷ codes "in" ∷ codes "out" ∷ []) ≡ Err (AtWord BadOptionValue 2)
+unfolding all
+empty_days = refl
+
+pseudonyms : meant (codes "dcmdeid" ∷ codes "+pi" ∷ codes "+k" ∷ codes "key" ∷ codes "in" ∷ codes "out" ∷ []) ≡ taken (record no_options { pseudonyms = true }) true (Some (codes "key"))
+unfolding all
+pseudonyms = refl
+
+pseudonyms_without_key : meant (codes "dcmdeid" ∷ codes "+pi" ∷ codes "in" ∷ codes "out" ∷ []) ≡ Err (Whole NoKey)
+unfolding all
+pseudonyms_without_key = refl
+
+paths_before_key : meant (codes "dcmdeid" ∷ codes "+pi" ∷ codes "a" ∷ codes "a" ∷ []) ≡ Err (Whole SamePath)
+unfolding all
+paths_before_key = refl
 
 pixels_dealt : meant (codes "dcmdeid" ∷ codes "+bi" ∷ codes "in" ∷ codes "+ru" ∷ codes "out" ∷ []) ≡ taken (record no_options { uids = true }) false None
 unfolding all

@@ -1,5 +1,5 @@
 -- What a function made of the words of a command line.
-use Rattle.std.specs.Prelude.{◌≡◌, ℕ, ◌+◌, ◌<◌, nat_le, List, [], ◌∷◌, length, Option, Some, None, Result, Ok, Err}
+use Rattle.std.specs.Prelude.{◌≡◌, ℕ, ℤ, ◌+◌, ◌<◌, nat_le, List, [], ◌∷◌, length, Option, Some, None, Result, Ok, Err}
 use Rattle.std.specs.Prelude.{Bool, false, ◌&&◌, if◌then◌else◌, codes, bytes_eq}
 use Rattle.std.specs.Option.{option_map}
 use Rattle.std.specs.Borrow.{Bor}
@@ -7,7 +7,6 @@ use Rattle.dcm_words.specs.declared.usage.Usage.{Usage}
 use Rattle.dcm_words.specs.declared.usage.Usage.TheVariants.{AtWord, Whole, InEdit, Memory}
 use Rattle.dcm_words.specs.declared.usage.Word.{Word}
 use Rattle.dcm_base.specs.declared.fault.WordFault.TheVariants.{BadOptionValue}
-use Rattle.dcm_base.specs.Lines.Limits.{LINE_LIMIT}
 use Rattle.dcm_words.specs.Words as words
 use Rattle.dcm_words.specs.declared.job.Build.{Build}
 use Rattle.dcm_words.specs.declared.job.Dump.{Dump}
@@ -83,9 +82,9 @@ reader tools.Convert w = words.convert_word w
 reader tools.Build w = words.build_word w
 reader tools.Deidentify w = words.deidentify_word w
 
--- a number, or one past the greatest limit where it is higher
-abbrev pub capped : ℕ → ℕ
-capped n = if nat_le n LINE_LIMIT then n else LINE_LIMIT + 1
+-- a number, or one past the most where it is higher
+abbrev pub capped : (most : ℕ) → ℕ → ℕ
+capped most n = if nat_le n most then n else most + 1
 
 -- the value that the words after word n begin with
 abbrev pub given : {A : Type 0} → ℕ → Option A → Result A Usage
@@ -98,6 +97,9 @@ value_after of n (v ∷ others) = given n (of v)
 
 abbrev pub limit_after : ℕ → List (List ℕ) → Result ℕ Usage
 limit_after n others = value_after words.limit_of n others
+
+abbrev pub days_after : ℕ → List (List ℕ) → Result ℤ Usage
+days_after n others = value_after words.days_of n others
 
 abbrev pub key_after : ℕ → List (List ℕ) → Result (List ℕ) Usage
 key_after n others = value_after words.key_of n others

@@ -1,5 +1,5 @@
 -- What the words of a command line mean.
-use Rattle.std.specs.Prelude.{ℕ, suc, ◌+◌, List, [], ◌∷◌, Option, Some, None, Result, Ok, Err, Bool, true, false, ◌||◌}
+use Rattle.std.specs.Prelude.{ℕ, ℤ, pos, negsuc, suc, ◌+◌, ◌-◌, List, [], ◌∷◌, Option, Some, None, Result, Ok, Err, Bool, true, false, ◌||◌}
 use Rattle.std.specs.Prelude.{◌&&◌, not, ◌==◌, nat_le, if◌then◌else◌, codes, bytes_eq}
 use Rattle.std.specs.Option.{is_some, option_map}
 use Rattle.std.specs.Str.{byte}
@@ -10,11 +10,12 @@ use Rattle.dcm_base.specs.Tables.Syntax.{Implicit, Little, Big}
 use Rattle.dcm_base.specs.declared.mode.Mode.{Mode}
 use Rattle.dcm_base.specs.declared.mode.Mode.TheVariants.{Short, Full}
 use Rattle.dcm_base.specs.declared.fault.WordFault.TheVariants.{UnknownTool, UnknownOption, BadOptionValue, WrongPaths}
-use Rattle.dcm_base.specs.declared.fault.WordFault.TheVariants.{OptionsApart, SamePath}
+use Rattle.dcm_base.specs.declared.fault.WordFault.TheVariants.{OptionsApart, SamePath, NoKey}
 use Rattle.dcm_words.specs.declared.usage.Word.{Word}
 use Rattle.dcm_words.specs.declared.usage.Word.TheVariants.{Read, Show, WholeFile, DataSet, Bare, Target, Limit}
-use Rattle.dcm_words.specs.declared.usage.Word.TheVariants.{Retain, PixelsDealt, Key, Accepted, Path, Unknown}
+use Rattle.dcm_words.specs.declared.usage.Word.TheVariants.{Retain, Move, Pseudonyms, PixelsDealt, Key, Accepted, Path, Unknown}
 use Rattle.dcm_deid.specs.declared.fate.Options.{Options}
+use Rattle.dcm_deid.specs.declared.fate.Temporal.TheVariants.{Removed, Full as full_dates, Modified}
 use Rattle.dcm_deid.specs.declared.fate.Retain.{Retain as Kept}
 use Rattle.dcm_deid.specs.declared.fate.Retain.TheVariants.{Uids, Device, Institution, Patient, Dates}
 use Rattle.dcm_words.specs.declared.usage.Usage.{Usage}
@@ -96,6 +97,8 @@ deidentify_word w =
     else if bytes_eq w (codes "+ri") then Retain Institution
     else if bytes_eq w (codes "+rp") then Retain Patient
     else if bytes_eq w (codes "+rl") then Retain Dates
+    else if bytes_eq w (codes "+rm") then Move
+    else if bytes_eq w (codes "+pi") then Pseudonyms
     else if bytes_eq w (codes "+bi") then PixelsDealt
     else if bytes_eq w (codes "+k") then Key
     else other_word w
@@ -114,6 +117,26 @@ limit_within (Some n) = if nat_le LEAST_LIMIT n && nat_le n LINE_LIMIT then Some
 -- the number that digits spell, leading zeros allowed
 abbrev pub limit_of : List ℕ → Option ℕ
 limit_of w = limit_within (number_in 10 0 w)
+
+-- the most days by which dates may be moved: a century
+abbrev pub MOST_DAYS : ℕ
+MOST_DAYS = 36524
+
+abbrev pub days_within : Option ℕ → Option ℕ
+days_within None = None
+days_within (Some n) = if nat_le 1 n && nat_le n MOST_DAYS then Some n else None
+
+-- so many days into the past
+abbrev pub earlier : ℕ → ℤ
+earlier n = negsuc (n - 1)
+
+-- the days by which dates are moved: perhaps a sign, and digits, leading zeros allowed
+abbrev pub days_of : List ℕ → Option ℤ
+days_of [] = None
+days_of (c ∷ cs) =
+    if c == byte "-" then option_map earlier (days_within (number_in 10 0 cs))
+    else if c == byte "+" then option_map pos (days_within (number_in 10 0 cs))
+    else option_map pos (days_within (number_in 10 0 (c ∷ cs)))
 
 abbrev pub is_empty_word : List ℕ → Bool
 is_empty_word [] = true
@@ -140,14 +163,21 @@ pub record Said : Type 0 where
 
 -- the options of dcmdeid that keep more
 abbrev pub no_options : Options
-no_options = record { uids = false; device = false; institution = false; patient = false; dates = false }
+no_options = record { uids = false; device = false; institution = false; patient = false; dates = Removed; pseudonyms = false }
 
 abbrev pub and_option : Options → Kept → Options
 and_option o Uids = record o { uids = true }
 and_option o Device = record o { device = true }
 and_option o Institution = record o { institution = true }
 and_option o Patient = record o { patient = true }
-and_option o Dates = record o { dates = true }
+and_option o Dates = record o { dates = full_dates }
+
+-- of those that keep dates or move them the last counts
+abbrev pub and_move : Options → (days : ℤ) → Options
+and_move o days = record o { dates = Modified days }
+
+abbrev pub and_pseudonyms : Options → Options
+and_pseudonyms o = record o { pseudonyms = true }
 
 abbrev pub nothing_said : Said
 nothing_said = record {
@@ -176,6 +206,7 @@ said_with DataSet w s = record s { data_set = true }
 said_with (Bare syntax) w s = record s { bare = Some syntax }
 said_with (Target syntax) w s = record s { target = syntax }
 said_with (Retain option) w s = record s { options = and_option s.options option }
+said_with Pseudonyms w s = record s { options = and_pseudonyms s.options }
 said_with PixelsDealt w s = record s { pixels_dealt = true }
 said_with Path w s = record s { paths = and_path s.paths w }
 said_with _ w s = s
@@ -183,6 +214,7 @@ said_with _ w s = s
 -- a word that wants a value, and that value
 abbrev pub said_with_value : Word → List ℕ → Said → Option Said
 said_with_value Limit v s = option_map (λ limit. record s { limit = limit }) (limit_of v)
+said_with_value Move v s = option_map (λ days. record s { options = and_move s.options days }) (days_of v)
 said_with_value Key v s = option_map (λ key. record s { key = Some key }) (key_of v)
 said_with_value _ v s = None
 
@@ -192,12 +224,17 @@ said_after read n s [] = Ok s
 said_after read n s (w ∷ []) = elim (read w) [
   | Unknown ↦ Err (AtWord UnknownOption n)
   | Limit ↦ Err (AtWord BadOptionValue n)
+  | Move ↦ Err (AtWord BadOptionValue n)
   | Key ↦ Err (AtWord BadOptionValue n)
   | word ↦ Ok (said_with word w s)
 ]
 said_after read n s (w ∷ v ∷ words) = elim (read w) [
   | Unknown ↦ Err (AtWord UnknownOption n)
   | Limit ↦ elim (said_with_value Limit v s) [
+    | None ↦ Err (AtWord BadOptionValue n)
+    | Some t ↦ said_after read (n + 2) t words
+  ]
+  | Move ↦ elim (said_with_value Move v s) [
     | None ↦ Err (AtWord BadOptionValue n)
     | Some t ↦ said_after read (n + 2) t words
   ]
@@ -262,12 +299,17 @@ abbrev pub is_same_key : Option (List ℕ) → List ℕ → Bool
 is_same_key None output = false
 is_same_key (Some key) output = bytes_eq key output
 
-abbrev pub plan_with_key : Option (List ℕ) → Plan → Result Plan Usage
-plan_with_key key p = if is_same_key key p.output then Err (Whole SamePath) else Ok (record p { key = key })
+-- and it is there where it is needed
+abbrev pub is_missing : Option (List ℕ) → (is_needed : Bool) → Bool
+is_missing key is_needed = is_needed && not (is_some key)
+
+abbrev pub plan_with_key : Option (List ℕ) → (is_needed : Bool) → Plan → Result Plan Usage
+plan_with_key key is_needed p = if is_same_key key p.output then Err (Whole SamePath)
+    else if is_missing key is_needed then Err (Whole NoKey) else Ok (record p { key = key })
 
 abbrev pub deidentify_plan_of : Said → Result Plan Usage
 deidentify_plan_of s = elim (plan_with_two s.paths (deidentify s.options (not s.pixels_dealt) []))
-    [ Ok p ↦ plan_with_key s.key p | Err u ↦ Err u ]
+    [ Ok p ↦ plan_with_key s.key s.options.pseudonyms p | Err u ↦ Err u ]
 
 abbrev pub deidentify_plan : List (List ℕ) → Result Plan Usage
 deidentify_plan words = elim (said_by deidentify_word words) [ Ok s ↦ deidentify_plan_of s | Err u ↦ Err u ]

@@ -115,15 +115,20 @@ fn is_same_key(key: Option<&[u8]>, output: &[u8]) -> bool
     }
 }
 
-/// A plan with the path of a key, unless the output has it.
+/// A plan with the path of a key, unless the output has it, or a key is needed and there is none.
 fn plan_with_key<'a, A: Allocator>(
     planned: Planned<'a, A>,
     key: Option<&'a [u8]>,
+    is_needed: bool,
 ) -> Result<Planned<'a, A>, Usage>
-    ensures { Gives result (spec.plan_with_key (option_map (λ k. k.now) key.entry) (planned_of planned.entry)) }
+    ensures { Gives result
+        (spec.plan_with_key (option_map (λ k. k.now) key.entry) is_needed (planned_of planned.entry)) }
 {
     if is_same_key(key, planned.output) {
         return Err(Usage::Whole(WordFault::SamePath));
+    }
+    if is_needed && key.is_none() {
+        return Err(Usage::Whole(WordFault::NoKey));
     }
     Ok(Planned { key, ..planned })
 }
@@ -141,7 +146,7 @@ fn plan_deidentify<'a, A: Allocator>(words: &'a [&'a [u8]]) -> Result<Planned<'a
             key: ArrayVec::new(),
         }),
     )?;
-    plan_with_key(planned, said.key)
+    plan_with_key(planned, said.key, said.options.pseudonyms)
 }
 
 /// The edits that words mean by a dictionary, from one path to another, or the first refusal.

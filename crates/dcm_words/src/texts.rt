@@ -115,8 +115,10 @@ dcmtools dcmdeid [OPTION].. FILE OUTPUT: write a DICOM file without identity (PS
   +ri    keep the identity of institutions
   +rp    keep characteristics of the patient
   +rl    keep dates and times
+  +rm N  the same, each date moved by N days: -36524 to 36524, not 0
+  +pi    give PatientID a pseudonym, which KEY makes of it, in place of none
   +bi    what pixels show was dealt with: it is not reported
-  +k KEY make new unique identifiers with the bytes of the file KEY, 16 to 4096 of them
+  +k KEY make new identifiers with the bytes of the file KEY, 16 to 4096 of them; +pi needs it
 
 OUTPUT is written as OUTPUT.part, and moved to its name at status 0; else it is removed.
 

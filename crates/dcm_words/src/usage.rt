@@ -23,7 +23,11 @@ pub enum Word {
     Retain(Retain),
     /// What pixels show was dealt with.
     PixelsDealt,
-    /// The next word is the path of the key of new unique identifiers.
+    /// Dates are moved by the days of the next word.
+    Move,
+    /// PatientID becomes a pseudonym.
+    Pseudonyms,
+    /// The next word is the path of the key of what is made anew.
     Key,
     /// An option that changes nothing.
     Accepted,

@@ -1,16 +1,16 @@
 // The words of a command line.
-ghost use Rattle.std.specs.Prelude.{◌≡◌, ◌+◌, ◌<◌, List, ℕ, drop, length, map, option_map, false};
+ghost use Rattle.std.specs.Prelude.{◌≡◌, ◌+◌, ◌<◌, ◌^◌, List, ℕ, pos, drop, length, map, option_map, false};
 ghost use Rattle.dcm_base.specs.Lines.ReadValue.{number_in};
 ghost use Rattle.dcm_words.specs.Words as spec;
 ghost use Rattle.dcm_words.specs.Plans.{reader, job_of, takes_memory, has_paths, GivesUnlessMemory, edits_between};
-ghost use Rattle.dcm_words.specs.Plans.{capped, limit_after as said_limit, key_after as said_key, LimitAs, KeyAs};
+ghost use Rattle.dcm_words.specs.Plans.{capped, limit_after as said_limit, days_after as said_days, key_after as said_key, LimitAs, KeyAs};
 ghost use Rattle.dcm_words.specs.Plans.{Gives, PathsAre, SaidAs, planned as planned_of};
 
 use crate::job::{Build, Convert, Deidentify, Dump, Job, Modify, Planned};
 use crate::usage::{Usage, Word};
 use arrayvec::ArrayVec;
 use dcm_base::{Dictionary, LINE_LIMIT, Mode, Syntax, WordFault, decimal_digit};
-use dcm_deid::{Options, Retain};
+use dcm_deid::{Options, Retain, Temporal};
 use dcm_edits::{EditFault, Edits, dictionary_said, dictionary_word};
 use std::alloc::Allocator;
 
@@ -25,6 +25,9 @@ const USUAL_LIMIT: usize = 4096;
 
 /// The least limit of a line that `+l` may give.
 const LEAST_LIMIT: usize = 80;
+
+/// The most days by which dates may be moved: a century.
+const MOST_DAYS: usize = 36_524;
 
 /// A tool whose words are options and paths.
 #[derive(Clone, Copy, Debug, PartialEq, Eq)]
@@ -67,7 +70,8 @@ const NO_OPTIONS: Options = Options {
     device: false,
     institution: false,
     patient: false,
-    dates: false,
+    dates: Temporal::Removed,
+    pseudonyms: false,
 };
 
 /// A path, unless the word has the form of an option.
@@ -173,6 +177,10 @@ fn deidentify_word(word: &[u8]) -> Word
         Word::Retain(Retain::Patient)
     } else if word == b"+rl".as_slice() {
         Word::Retain(Retain::Dates)
+    } else if word == b"+rm".as_slice() {
+        Word::Move
+    } else if word == b"+pi".as_slice() {
+        Word::Pseudonyms
     } else if word == b"+bi".as_slice() {
         Word::PixelsDealt
     } else if word == b"+k".as_slice() {
@@ -195,13 +203,14 @@ fn word_of(tool: Tool, word: &[u8]) -> Word
     }
 }
 
-/// The number that digits spell, or one past the greatest limit where it is higher.
-fn limited_number(digits: &[u8]) -> Option<usize>
-    ensures { result ≡ option_map capped (number_in 10 0 digits.now) }
+/// The number that digits spell, or one past the most where it is higher.
+fn limited_number(most: usize, digits: &[u8]) -> Option<usize>
+    requires { most < 2 ^ 32 }
+    ensures { result ≡ option_map (capped most) (number_in 10 0 digits.now) }
 {
     let mut number = 0;
     for byte in digits {
-        number = (10 * number + usize::from(decimal_digit(*byte)?)).min(LINE_LIMIT + 1);
+        number = (10 * number + usize::from(decimal_digit(*byte)?)).min(most + 1);
     }
     Some(number)
 }
@@ -210,7 +219,7 @@ fn limited_number(digits: &[u8]) -> Option<usize>
 fn limit_of(word: &[u8]) -> Option<Build>
     ensures { option_map (λ b. b.limit) result ≡ spec.limit_of word.now }
 {
-    let limit = limited_number(word)?;
+    let limit = limited_number(LINE_LIMIT, word)?;
     if limit < LEAST_LIMIT || limit > LINE_LIMIT {
         return None;
     }
@@ -225,6 +234,75 @@ fn limit_after(words: &[&[u8]], place: usize) -> Result<Build, Usage>
     match words.get(place + 1) {
         Some(word) => limit_of(word).ok_or(Usage::AtWord(WordFault::BadOptionValue, place + 2)),
         None => Err(Usage::AtWord(WordFault::BadOptionValue, place + 2)),
+    }
+}
+
+/// The number of days that digits spell, from 1 on.
+fn days_within(digits: &[u8]) -> Option<usize>
+    ensures { result ≡ spec.days_within (number_in 10 0 digits.now) }
+{
+    let days = limited_number(MOST_DAYS, digits)?;
+    if days < 1 || days > MOST_DAYS {
+        return None;
+    }
+    Some(days)
+}
+
+/// The days into the future that digits spell.
+fn days_later(digits: &[u8]) -> Option<i32>
+    ensures { result ≡ option_map pos (spec.days_within (number_in 10 0 digits.now)) }
+{
+    let days = days_within(digits)?;
+    Some(days as i32)
+}
+
+/// The days into the past that digits spell.
+fn days_earlier(digits: &[u8]) -> Option<i32>
+    ensures { result ≡ option_map spec.earlier (spec.days_within (number_in 10 0 digits.now)) }
+{
+    let days = days_within(digits)?;
+    Some(-(days as i32))
+}
+
+/// The days by which a word says that dates are moved: perhaps a sign, and digits.
+fn days_of(word: &[u8]) -> Option<i32>
+    ensures { result ≡ spec.days_of word.now }
+{
+    match word {
+        [b'-', digits @ ..] => days_earlier(digits),
+        [b'+', digits @ ..] => days_later(digits),
+        digits => days_later(digits),
+    }
+}
+
+/// The days that the word after this place gives.
+fn days_after(words: &[&[u8]], place: usize) -> Result<i32, Usage>
+    requires { place < length words.now }
+    ensures { result ≡ said_days (place + 2) (map (λ w. w.now) (drop (place + 1) words.now)) }
+{
+    match words.get(place + 1) {
+        Some(word) => days_of(word).ok_or(Usage::AtWord(WordFault::BadOptionValue, place + 2)),
+        None => Err(Usage::AtWord(WordFault::BadOptionValue, place + 2)),
+    }
+}
+
+/// The options so far, with dates moved by so many days.
+fn and_move(options: Options, days: i32) -> Options
+    ensures { result ≡ spec.and_move options days }
+{
+    Options {
+        dates: Temporal::Modified(days),
+        ..options
+    }
+}
+
+/// The options so far, with pseudonyms.
+fn and_pseudonyms(options: Options) -> Options
+    ensures { result ≡ spec.and_pseudonyms options }
+{
+    Options {
+        pseudonyms: true,
+        ..options
     }
 }
 
@@ -261,7 +339,7 @@ fn and_option(options: Options, retain: Retain) -> Options
             ..options
         },
         Retain::Dates => Options {
-            dates: true,
+            dates: Temporal::Full,
             ..options
         },
     }
@@ -310,6 +388,12 @@ pub fn said_by<'a>(tool: Tool, words: &'a [&'a [u8]]) -> Result<Said<'a>, Usage>
                 i += 1;
             }
             Word::Retain(retain) => said.options = and_option(said.options, retain),
+            Word::Move => {
+                let days = days_after(words, i)?;
+                said.options = and_move(said.options, days);
+                i += 1;
+            }
+            Word::Pseudonyms => said.options = and_pseudonyms(said.options),
             Word::PixelsDealt => said.pixels_dealt = true,
             Word::Key => {
                 said.key = Some(key_after(words, i)?);

@@ -99,6 +99,7 @@ word_fault_number word.WrongPaths = codes "V4"
 word_fault_number word.OptionsApart = codes "V5"
 word_fault_number word.SamePath = codes "V6"
 word_fault_number word.BadKey = codes "V7"
+word_fault_number word.NoKey = codes "V10"
 
 abbrev pub word_fault_text : WordFault → List ℕ
 word_fault_text word.UnknownTool = codes "unknown tool"
@@ -108,3 +109,4 @@ word_fault_text word.WrongPaths = codes "wrong number of paths"
 word_fault_text word.OptionsApart = codes "options do not go together"
 word_fault_text word.SamePath = codes "input and output are the same path"
 word_fault_text word.BadKey = codes "key is not 16 to 4096 bytes"
+word_fault_text word.NoKey = codes "a key is needed"

@@ -19,7 +19,7 @@ use Rattle.dcm_editor.proofs.ReadBack.EditReads.{Shown, shown_whole}
 use Rattle.dcm_editor.proofs.ReadBack.IdentityBar.{identity, identity_in_order}
 use Rattle.dcm_editor.proofs.ReadBack.RecodeAnew.{recode_anew}
 use Rattle.dcm_editor.proofs.Trees.DepthAtoms.{front_shallow, front_stays, anew_shallow}
-use Rattle.dcm_uid.specs.Uid.{replaced}
+use Rattle.dcm_deid.specs.MadeNew.{made_new}
 use Rattle.dcm_deid.specs.declared.fate.Options.{Options}
 use Rattle.dcm_deid.specs.DeidentifySink.{State, begun, next, passed}
 use Rattle.dcm_deid.specs.Saying.{deidentified, read_whole}
@@ -29,13 +29,13 @@ use Rattle.dcm_deid.proofs.Shallow.{deidentified_shallow}
 use Rattle.dcm_cli.specs.Answer.{shows_identity}
 
 pub deidentify_encodes : (target : Syntax) (options : Options) (key : List ℕ) (s : Syntax) (f : Front) → Shown s f
-    → outputs encode_step encode_writes (encode_start target) (outputs next passed (begun options key) (front_atoms s f)) ≡ recode target (deidentified options (replaced key) f)
+    → outputs encode_step encode_writes (encode_start target) (outputs next passed (begun options key) (front_atoms s f)) ≡ recode target (deidentified options (made_new options key) f)
 deidentify_encodes target options key s f r =
-    let left : Front = deidentified options (replaced key) f in
+    let left : Front = deidentified options (made_new options key) f in
     let atoms : List Atom = outputs next passed (begun options key) (front_atoms s f) in
     let shown : Shows (reached_anew left) atoms = deidentify_steps options key f (front_atoms s f) r.ascends r.shallow r.shows in
     let shallow : StaysShallow 0 atoms =
-    front_stays (reached_anew left) 0 atoms shown (omega arith) (anew_shallow 0 left (deidentified_shallow options (replaced key) f (front_shallow f 0 (front_atoms s f) r.shows r.shallow))) in
+    front_stays (reached_anew left) 0 atoms shown (omega arith) (anew_shallow 0 left (deidentified_shallow options (made_new options key) f (front_shallow f 0 (front_atoms s f) r.shows r.shallow))) in
     encode_steps target (reached_anew left) atoms shallow shown ∙ recode_anew target left
 
 -- ---- whether pixels may show identity

@@ -18,7 +18,7 @@ use Rattle.dcm_sinks.specs.EncodeSink.{EncodeState, encode_start, encode_step, e
 use Rattle.dcm_editor.proofs.EditSinks.DrivesEdits.{BarsShallowAs}
 use Rattle.dcm_editor.proofs.ReadBack.EditReads.{shown_whole, shown_so_far}
 use Rattle.dcm_editor.proofs.ReadBack.IdentityBar.{identity, identity_in_order}
-use Rattle.dcm_uid.specs.Uid.{replaced}
+use Rattle.dcm_deid.specs.MadeNew.{made_new}
 use Rattle.dcm_deid.specs.declared.fate.Options.{Options}
 use Rattle.dcm_deid.specs.DeidentifySink.{State as DeidentifyState, begun}
 use Rattle.dcm_deid.specs.Meta.{meta_renewing, no_preamble}
@@ -41,7 +41,7 @@ module _ (options : Options) (key : List ℕ) where
       ∙ bar_steps options key f atoms tag vr declared h shown
 
   -- the data set without identity in a syntax
-  abbrev pub deidentifier : (target : Syntax) → Maker identity_bar (λ f. recode target (deidentified options (replaced key) f))
+  abbrev pub deidentifier : (target : Syntax) → Maker identity_bar (λ f. recode target (deidentified options (made_new options key) f))
   deidentifier target = record {
     State = DeidentifyState × EncodeState;
     bars = through_bar;
@@ -58,7 +58,7 @@ module _ (options : Options) (key : List ℕ) where
   abbrev pub file_deidentifier : (reports : Bool) (coding : Coding) → FileMaker (deidentify options reports key) coding
   file_deidentifier reports coding = record {
     header = λ m. no_preamble ++ PREFIX ++ new_meta (renewed (meta_renewing options key) m.elements) m.uid;
-    text = λ f. recode coding.syntax (deidentified options (replaced key) f);
+    text = λ f. recode coding.syntax (deidentified options (made_new options key) f);
     maker = deidentifier coding.syntax;
     output_is = λ m f. refl;
   }

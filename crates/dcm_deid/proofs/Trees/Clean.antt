@@ -5,7 +5,7 @@ use Rattle.dcm_base.specs.declared.vr.Vr.{Vr}
 use Rattle.dcm_base.specs.Tree.Tree.{Trees, no_tree, leaf, sequence, fragments, Items, no_item, item}
 use Rattle.dcm_base.specs.Tables.Transfer.{without_pads}
 use Rattle.dcm_deid.specs.declared.fate.Fate.{Fate}
-use Rattle.dcm_deid.specs.declared.fate.Fate.TheVariants.{Remove, Empty, Replace, Uid, Keep}
+use Rattle.dcm_deid.specs.declared.fate.Fate.TheVariants.{Remove, Empty, Replace, Anew, Keep}
 use Rattle.dcm_deid.specs.declared.fate.Depth.{Depth}
 use Rattle.dcm_deid.specs.declared.fate.Depth.TheVariants.{Inside}
 use Rattle.dcm_deid.specs.declared.fate.ReadAs.TheVariants.{AsBytes, AsItems}
@@ -18,7 +18,7 @@ module _ (fates : Fates) (new : Renaming) where
   leaf_clean depth Remove tag vr value rest e h = h
   leaf_clean depth Empty tag vr value rest e h = (subst (λ k. ValueIsClean new k vr (value_by new Empty vr value)) (sym e) refl, h)
   leaf_clean depth Replace tag vr value rest e h = (subst (λ k. ValueIsClean new k vr (value_by new Replace vr value)) (sym e) refl, h)
-  leaf_clean depth Uid tag vr value rest e h = (subst (λ k. ValueIsClean new k vr (value_by new Uid vr value)) (sym e) (without_pads value, refl), h)
+  leaf_clean depth (Anew made) tag vr value rest e h = (subst (λ k. ValueIsClean new k vr (value_by new (Anew made) vr value)) (sym e) (without_pads value, refl), h)
   leaf_clean depth Keep tag vr value rest e h = (subst (λ k. ValueIsClean new k vr (value_by new Keep vr value)) (sym e) tt, h)
 
   sequence_clean : (depth : Depth) (fate : Fate) (tag : Tag) (vr : Vr) (items : Items) (rest : Trees) → fates depth AsItems tag ≡ fate
@@ -26,7 +26,7 @@ module _ (fates : Fates) (new : Renaming) where
   sequence_clean depth Remove tag vr items rest e i h = h
   sequence_clean depth Empty tag vr items rest e i h = (subst (λ k. SequenceIsClean k no_item (Unit {0})) (sym e) refl, h)
   sequence_clean depth Replace tag vr items rest e i h = (subst (λ k. SequenceIsClean k no_item (Unit {0})) (sym e) refl, h)
-  sequence_clean depth Uid tag vr items rest e i h = (subst (λ k. SequenceIsClean k no_item (Unit {0})) (sym e) refl, h)
+  sequence_clean depth (Anew made) tag vr items rest e i h = (subst (λ k. SequenceIsClean k no_item (Unit {0})) (sym e) refl, h)
   sequence_clean depth Keep tag vr items rest e i h = (subst (λ k. SequenceIsClean k items (ItemsAreClean (ValueIsClean new) fates items)) (sym e) i, h)
 
   fragments_clean : (depth : Depth) (fate : Fate) (tag : Tag) (vr : Vr) (values : List (List ℕ)) (rest : Trees) → fates depth AsBytes tag ≡ fate
@@ -34,7 +34,7 @@ module _ (fates : Fates) (new : Renaming) where
   fragments_clean depth Remove tag vr values rest e h = h
   fragments_clean depth Empty tag vr values rest e h = h
   fragments_clean depth Replace tag vr values rest e h = h
-  fragments_clean depth Uid tag vr values rest e h = h
+  fragments_clean depth (Anew made) tag vr values rest e h = h
   fragments_clean depth Keep tag vr values rest e h = (subst IsKept (sym e) tt, h)
 
   mutual

@@ -14,12 +14,15 @@ use Rattle.dcm_base.proofs.Dictionaries.TagOrder.{tag_is}
 use Rattle.dcm_head.proofs.MetaGroups.Transfers.{pads_more}
 use Rattle.dcm_uid.specs.Uid.{new_value, replaced}
 use Rattle.dcm_deid.specs.declared.fate.Fate.{Fate}
-use Rattle.dcm_deid.specs.declared.fate.Fate.TheVariants.{Remove, Empty, Replace, Uid, Keep}
+use Rattle.dcm_deid.specs.declared.fate.Fate.TheVariants.{Remove, Empty, Replace, Anew, Keep}
 use Rattle.dcm_deid.specs.declared.fate.Options.{Options}
 use Rattle.dcm_deid.specs.declared.fate.Depth.TheVariants.{Outermost}
 use Rattle.dcm_deid.specs.declared.fate.ReadAs.TheVariants.{AsBytes, AsItems}
 use Rattle.dcm_deid.specs.declared.meta.MetaFate.TheVariants.{Keep as meta_stays, Uid as meta_new}
-use Rattle.dcm_deid.specs.Fate.{actions, fate_as}
+use Rattle.dcm_deid.specs.declared.fate.NewValue.TheVariants.{Uid}
+use Rattle.dcm_base.specs.declared.vr.Vr.TheVariants.{UI}
+use Rattle.dcm_deid.specs.MadeNew.{left_of, made_new}
+use Rattle.dcm_deid.specs.Fate.{actions, fate_as, moved_if}
 use Rattle.dcm_deid.specs.Deidentify.{value_by, leaf_by, sequence_by, fragments_by, items_by_fate, deidentified_set}
 use Rattle.dcm_deid.specs.Meta.{meta_fate, meta_renewing, value_by_fate}
 use Rattle.dcm_deid.specs.Saying.{put_in, said, tag_at, whole_of}
@@ -79,62 +82,63 @@ heads_by options key m = head_by options key m.elements
 abbrev own : Tag
 own = tag_at 0x0008 0x0018
 
-by_uids : (b : Bool) → (if b || false then Keep else Uid) ≡ (if b then Keep else Uid)
+by_uids : (b : Bool) → moved_if false UI (if b || false then Keep else Anew Uid) ≡ (if b then Keep else Anew Uid)
 by_uids true = refl
 by_uids false = refl
 
-pub own_fate : (options : Options) → fate_as options Outermost AsBytes own ≡ (if options.uids then Keep else Uid)
+pub own_fate : (options : Options) → fate_as options Outermost AsBytes own ≡ (if options.uids then Keep else Anew Uid)
 unfolding fate_as D.vr_in D.element_in D.elements_in D.entries D.ambiguous actions
 own_fate options = by_uids options.uids
 
-own_value : (b : Bool) (key value : List ℕ) (tag : Tag) (vr : Vr) (more : Trees) (fate : Fate) → fate ≡ (if b then Keep else Uid) → same_tag tag own ≡ true
-    → unpadded own (leaf_by fate tag vr (value_by (replaced key) fate vr value) more) ≡ Some (if b then without_pads value else without_pads (replaced key (without_pads value)))
-own_value true key value tag vr more fate e at =
-    ap (λ (f : Fate). unpadded own (leaf_by f tag vr (value_by (replaced key) f vr value) more)) e ∙ ap (λ (c : Bool). if c then Some (without_pads value) else unpadded own more) at
-own_value false key value tag vr more fate e at =
+own_value : (b : Bool) (options : Options) (key value : List ℕ) (tag : Tag) (vr : Vr) (more : Trees) (fate : Fate) → fate ≡ (if b then Keep else Anew Uid) → same_tag tag own ≡ true
+    → unpadded own (leaf_by fate tag vr (value_by (made_new options key) fate vr value) more) ≡ Some (if b then without_pads value else without_pads (replaced key (without_pads value)))
+unfolding made_new left_of
+own_value true options key value tag vr more fate e at =
+    ap (λ (f : Fate). unpadded own (leaf_by f tag vr (value_by (made_new options key) f vr value) more)) e ∙ ap (λ (c : Bool). if c then Some (without_pads value) else unpadded own more) at
+own_value false options key value tag vr more fate e at =
     let new : List ℕ = evened (pad vr) (replaced key (without_pads value)) in
-    ap (λ (f : Fate). unpadded own (leaf_by f tag vr (value_by (replaced key) f vr value) more)) e ∙ ap (λ (c : Bool). if c then Some (without_pads new) else unpadded own more) at
+    ap (λ (f : Fate). unpadded own (leaf_by f tag vr (value_by (made_new options key) f vr value) more)) e ∙ ap (λ (c : Bool). if c then Some (without_pads new) else unpadded own more) at
     ∙ ap (λ (bytes : List ℕ). Some bytes) (without_pad vr (replaced key (without_pads value)))
 
 other_value : (fate : Fate) (tag : Tag) (vr : Vr) (value : List ℕ) (more : Trees) → same_tag tag own ≡ false → unpadded own (leaf_by fate tag vr value more) ≡ unpadded own more
 other_value Remove tag vr value more e = refl
 other_value Empty tag vr value more e = ap (λ (c : Bool). if c then Some (without_pads value) else unpadded own more) e
 other_value Replace tag vr value more e = ap (λ (c : Bool). if c then Some (without_pads value) else unpadded own more) e
-other_value Uid tag vr value more e = ap (λ (c : Bool). if c then Some (without_pads value) else unpadded own more) e
+other_value (Anew made) tag vr value more e = ap (λ (c : Bool). if c then Some (without_pads value) else unpadded own more) e
 other_value Keep tag vr value more e = ap (λ (c : Bool). if c then Some (without_pads value) else unpadded own more) e
 
 no_sequence : (fate : Fate) (tag : Tag) (vr : Vr) (items : Items) (more : Trees) → unpadded own (sequence_by fate tag vr items more) ≡ unpadded own more
 no_sequence Remove tag vr items more = refl
 no_sequence Empty tag vr items more = refl
 no_sequence Replace tag vr items more = refl
-no_sequence Uid tag vr items more = refl
+no_sequence (Anew made) tag vr items more = refl
 no_sequence Keep tag vr items more = refl
 
 no_fragments : (fate : Fate) (tag : Tag) (vr : Vr) (parts : List (List ℕ)) (more : Trees) → unpadded own (fragments_by fate tag vr parts more) ≡ unpadded own more
 no_fragments Remove tag vr parts more = refl
 no_fragments Empty tag vr parts more = refl
 no_fragments Replace tag vr parts more = refl
-no_fragments Uid tag vr parts more = refl
+no_fragments (Anew made) tag vr parts more = refl
 no_fragments Keep tag vr parts more = refl
 
 module _ (options : Options) (key : List ℕ) where
   abbrev left : Trees → Trees
-  left set = deidentified_set options (replaced key) Outermost set
+  left set = deidentified_set options (made_new options key) Outermost set
 
   abbrev anew : Option (List ℕ) → Option (List ℕ)
   anew uid = option_map (instance_by options key) uid
 
   set_leaf : (tag : Tag) (vr : Vr) (value : List ℕ) (rest : Trees) (c : Bool) → same_tag tag own ≡ c → unpadded own (left rest) ≡ anew (unpadded own rest)
-      → unpadded own (leaf_by (fate_as options Outermost AsBytes tag) tag vr (value_by (replaced key) (fate_as options Outermost AsBytes tag) vr value) (left rest)) ≡ anew (if c then Some (without_pads value) else unpadded own rest)
+      → unpadded own (leaf_by (fate_as options Outermost AsBytes tag) tag vr (value_by (made_new options key) (fate_as options Outermost AsBytes tag) vr value) (left rest)) ≡ anew (if c then Some (without_pads value) else unpadded own rest)
   set_leaf tag vr value rest true e h =
-      own_value options.uids key value tag vr (left rest) (fate_as options Outermost AsBytes tag) (ap (fate_as options Outermost AsBytes) (tag_is tag own e) ∙ own_fate options) e
+      own_value options.uids options key value tag vr (left rest) (fate_as options Outermost AsBytes tag) (ap (fate_as options Outermost AsBytes) (tag_is tag own e) ∙ own_fate options) e
   set_leaf tag vr value rest false e h =
-      other_value (fate_as options Outermost AsBytes tag) tag vr (value_by (replaced key) (fate_as options Outermost AsBytes tag) vr value) (left rest) e ∙ h
+      other_value (fate_as options Outermost AsBytes tag) tag vr (value_by (made_new options key) (fate_as options Outermost AsBytes tag) vr value) (left rest) e ∙ h
 
   set_by : (set : Trees) → unpadded own (left set) ≡ anew (unpadded own set)
   set_by no_tree = refl
   set_by (leaf tag vr value rest) = set_leaf tag vr value rest (same_tag tag own) refl (set_by rest)
-  set_by (sequence tag vr declared items rest) = no_sequence (fate_as options Outermost AsItems tag) tag vr (items_by_fate (fate_as options) (value_by (replaced key)) items) (left rest) ∙ set_by rest
+  set_by (sequence tag vr declared items rest) = no_sequence (fate_as options Outermost AsItems tag) tag vr (items_by_fate (fate_as options) (value_by (made_new options key)) items) (left rest) ∙ set_by rest
   set_by (fragments tag vr parts rest) = no_fragments (fate_as options Outermost AsBytes tag) tag vr parts (left rest) ∙ set_by rest
 
 -- ---- what is put is another element
@@ -170,7 +174,7 @@ said_other options = (λ set. refl, refl, (λ set. refl, refl, (λ set. refl, re
 
 pub sets_by : SetsBy
 sets_by options key reached set =
-    ap (λ f. unpadded own (whole_of f)) (of_whole options (replaced key) reached set) ∙ all_other (said options) (deidentified_set options (replaced key) Outermost set) (said_other options) ∙ set_by options key set
+    ap (λ f. unpadded own (whole_of f)) (of_whole options (made_new options key) reached set) ∙ all_other (said options) (deidentified_set options (made_new options key) Outermost set) (said_other options) ∙ set_by options key set
 
 pub uids_agree : UidsAgree
 uids_agree options key m reached set same = heads_by options key m ∙ ap (option_map (instance_by options key)) same ∙ sym (sets_by options key reached set)

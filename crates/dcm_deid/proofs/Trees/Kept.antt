@@ -5,7 +5,7 @@ use Rattle.dcm_base.specs.declared.vr.Vr.{Vr}
 use Rattle.dcm_base.specs.declared.length.Length.TheVariants.{Undefined}
 use Rattle.dcm_base.specs.Tree.Tree.{Trees, no_tree, leaf, sequence, fragments, Items, no_item, item}
 use Rattle.dcm_deid.specs.declared.fate.Fate.{Fate}
-use Rattle.dcm_deid.specs.declared.fate.Fate.TheVariants.{Remove, Empty, Replace, Uid, Keep}
+use Rattle.dcm_deid.specs.declared.fate.Fate.TheVariants.{Remove, Empty, Replace, Anew, Keep}
 use Rattle.dcm_deid.specs.declared.fate.Options.{Options}
 use Rattle.dcm_deid.specs.declared.fate.Depth.{Depth}
 use Rattle.dcm_deid.specs.declared.fate.Depth.TheVariants.{Inside}
@@ -24,7 +24,7 @@ module _ (fates : Fates) (new : Renaming) where
   leaf_kept depth Remove tag vr value rest more e h = h
   leaf_kept depth Empty tag vr value rest more e h = rw (e, h) refl
   leaf_kept depth Replace tag vr value rest more e h = rw (e, h) refl
-  leaf_kept depth Uid tag vr value rest more e h = rw (e, h) refl
+  leaf_kept depth (Anew made) tag vr value rest more e h = rw (e, h) refl
   leaf_kept depth Keep tag vr value rest more e h = rw (e, h) refl
 
   sequence_kept : (depth : Depth) (fate : Fate) (tag : Tag) (vr : Vr) (items more_items : Items) (rest more : Trees) → fates depth AsItems tag ≡ fate
@@ -33,7 +33,7 @@ module _ (fates : Fates) (new : Renaming) where
   sequence_kept depth Remove tag vr items more_items rest more e i h = h
   sequence_kept depth Empty tag vr items more_items rest more e i h = rw (e, h) refl
   sequence_kept depth Replace tag vr items more_items rest more e i h = rw (e, h) refl
-  sequence_kept depth Uid tag vr items more_items rest more e i h = rw (e, h) refl
+  sequence_kept depth (Anew made) tag vr items more_items rest more e i h = rw (e, h) refl
   sequence_kept depth Keep tag vr items more_items rest more e i h = rw (e, i, h) refl
 
   fragments_kept : (depth : Depth) (fate : Fate) (tag : Tag) (vr : Vr) (values : List (List ℕ)) (rest more : Trees) → fates depth AsBytes tag ≡ fate
@@ -42,7 +42,7 @@ module _ (fates : Fates) (new : Renaming) where
   fragments_kept depth Remove tag vr values rest more e h = h
   fragments_kept depth Empty tag vr values rest more e h = h
   fragments_kept depth Replace tag vr values rest more e h = h
-  fragments_kept depth Uid tag vr values rest more e h = h
+  fragments_kept depth (Anew made) tag vr values rest more e h = h
   fragments_kept depth Keep tag vr values rest more e h = rw (e, h) refl
 
   item_kept : (set more : Trees) (rest more_items : Items) → by_fate keeping value_itself Inside set ≡ more → items_by_fate keeping value_itself rest ≡ more_items

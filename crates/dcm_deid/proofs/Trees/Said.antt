@@ -1,5 +1,5 @@
 -- The elements that say what was done.
-use Rattle.std.proofs.Common.{◌≡◌, ◌∙◌, ap, sym, refl, List, [], ◌∷◌, Bool, true, false, Option, Some, None}
+use Rattle.std.proofs.Common.{◌≡◌, ◌∙◌, ap, sym, refl, List, [], ◌∷◌, Bool, true, false, Option, Some, None, ℕ, ℤ}
 use Rattle.std.specs.Prelude.{◌||◌, not, if◌then◌else◌}
 use Rattle.dcm_base.specs.declared.tag.Tag.{Tag}
 use Rattle.dcm_base.specs.declared.syntax.Syntax.{Syntax}
@@ -11,7 +11,10 @@ use Rattle.dcm_edits.specs.Edit.{has, is_passed}
 use Rattle.dcm_deid.specs.declared.fate.Options.{Options}
 use Rattle.dcm_deid.specs.declared.fate.Depth.TheVariants.{Outermost}
 use Rattle.dcm_deid.specs.Deidentify.{Renaming, deidentified_set}
-use Rattle.dcm_deid.specs.Alike.{Alike}
+use Rattle.dcm_deid.specs.declared.fate.Temporal.{Temporal}
+use Rattle.dcm_deid.specs.declared.fate.Temporal.TheVariants.{Removed, Full, Modified}
+use Rattle.dcm_deid.specs.MadeNew.{made_new}
+use Rattle.dcm_deid.specs.Alike.{moved_by, moving, Alike}
 use Rattle.dcm_deid.specs.Saying.{put_in, with_put, all_put, said, deidentified, says, unsaid, whole_of, read_whole}
 use Rattle.dcm_deid.proofs.Trees.Again.{nothing_flows}
 
@@ -104,10 +107,24 @@ same_bytes : (target : Syntax) (reached other : Option Tag) (set : Trees) → re
 unfolding recode
 same_bytes target reached other set = refl
 
-pub nothing_flows_out : (options : Options) (new : Renaming) (target : Syntax) (reached other : Option Tag) (f g : Trees) → Alike options Outermost f g
-    → recode target (deidentified options new (read_whole reached f)) ≡ recode target (deidentified options new (read_whole other g))
-nothing_flows_out options new target reached other f g alike =
-    ap (recode target) (of_whole options new reached f)
-    ∙ ap (λ (x : Trees). recode target (read_whole reached (set_with_all (said options) x))) (nothing_flows options new Outermost f g alike)
-    ∙ same_bytes target reached other (set_with_all (said options) (deidentified_set options new Outermost g))
-    ∙ ap (recode target) (sym (of_whole options new other g))
+-- what is said does not depend on by how many days dates are moved
+pub same_said : (options : Options) (d e : ℤ) → said (moving options d) ≡ said (moving options e)
+same_said options d e = by_dates options.dates
+  where
+    by_dates : (t : Temporal) → said (record options { dates = moved_by d t }) ≡ said (record options { dates = moved_by e t })
+    by_dates Removed = refl
+    by_dates Full = refl
+    by_dates (Modified days) = refl
+
+pub nothing_flows_out : (options : Options) (key : List ℕ) (target : Syntax) (reached other : Option Tag) (d e : ℤ) (f g : Trees) → Alike options Outermost d e f g
+    → recode target (deidentified (moving options d) (made_new (moving options d) key) (read_whole reached f))
+    ≡ recode target (deidentified (moving options e) (made_new (moving options e) key) (read_whole other g))
+nothing_flows_out options key target reached other d e f g alike =
+    let one : Options = moving options d in
+    let two : Options = moving options e in
+    let left : Trees = deidentified_set two (made_new two key) Outermost g in
+    ap (recode target) (of_whole one (made_new one key) reached f)
+    ∙ ap (λ (x : Trees). recode target (read_whole reached (set_with_all (said one) x))) (nothing_flows options key Outermost d e f g alike)
+    ∙ ap (λ (news : List (Tag × Trees)). recode target (read_whole reached (set_with_all news left))) (same_said options d e)
+    ∙ same_bytes target reached other (set_with_all (said two) left)
+    ∙ ap (recode target) (sym (of_whole two (made_new two key) other g))

@@ -20,14 +20,15 @@ use Rattle.dcm_base.specs.Tree.Tree.{Trees, no_tree, leaf, sequence, fragments, 
 use Rattle.dcm_base.specs.Tree.Value.{evened}
 use Rattle.dcm_base.proofs.Conversions.NormalForm.{own_dictionary}
 use Rattle.dcm_base.proofs.DataSets.Alike.{read_by_dictionary}
-use Rattle.dcm_uid.specs.Uid.{replaced}
+use Rattle.dcm_deid.specs.MadeNew.{made_new}
 use Rattle.dcm_deid.specs.declared.fate.Fate.{Fate}
-use Rattle.dcm_deid.specs.declared.fate.Fate.TheVariants.{Remove, Empty, Replace, Uid, Keep}
+use Rattle.dcm_deid.specs.declared.fate.Fate.TheVariants.{Remove, Empty, Replace, Anew, Keep}
 use Rattle.dcm_deid.specs.declared.fate.Options.{Options}
 use Rattle.dcm_deid.specs.declared.fate.Depth.{Depth}
 use Rattle.dcm_deid.specs.declared.fate.Depth.TheVariants.{Outermost, Inside}
 use Rattle.dcm_deid.specs.declared.fate.ReadAs.TheVariants.{AsBytes, AsItems}
-use Rattle.dcm_deid.specs.Fate.{actions, fate_as}
+use Rattle.dcm_deid.specs.Fate.{actions, fate_as, are_full}
+use Rattle.dcm_deid_laws.specs.Laws.{MakesNothingAnew}
 use Rattle.dcm_deid.specs.Deidentify.{value_by, leaf_by, sequence_by, fragments_by, deidentified_set, items_by_fate}
 use Rattle.dcm_deid.specs.Remains.{IsClean, ValueIsClean}
 use Rattle.dcm_deid.specs.Saying.{dates_said, leaf_alone, methods, put_in, said, tag_at}
@@ -99,13 +100,13 @@ kept : (b : Bool) (f : Fate) → b ≡ true → f ≡ Keep → (if not b || fals
 kept true f e k = k
 kept false f e k = absurd (cc)
 
-dates_go : (options : Options) → options.dates ≡ false → fate_as options Outermost AsBytes dates_tag ≡ Remove
+dates_go : (options : Options) → are_full options.dates ≡ false → fate_as options Outermost AsBytes dates_tag ≡ Remove
 unfolding fate_as D.vr_in D.element_in D.elements_in D.entries D.ambiguous actions
-dates_go options e = not_kept options.dates Keep e
+dates_go options e = not_kept (are_full options.dates) Keep e
 
-dates_stay : (options : Options) → options.dates ≡ true → fate_as options Outermost AsBytes dates_tag ≡ Keep
+dates_stay : (options : Options) → are_full options.dates ≡ true → fate_as options Outermost AsBytes dates_tag ≡ Keep
 unfolding fate_as D.vr_in D.element_in D.elements_in D.entries D.ambiguous actions
-dates_stay options e = kept options.dates Keep e refl
+dates_stay options e = kept (are_full options.dates) Keep e refl
 
 dates_named : (d : Dictionary) → d ≢ Extract → CS ≡ D.vr_in d dates_tag
 unfolding D.vr_in D.element_in D.elements_in D.entries D.ambiguous
@@ -122,10 +123,10 @@ are_named (big_in d) h = tt
 
 module _ (options : Options) (key : List ℕ) where
   abbrev without : Depth → Trees → Trees
-  without depth x = deidentified_set options (replaced key) depth x
+  without depth x = deidentified_set options (made_new options key) depth x
 
   abbrev without_items : Items → Items
-  without_items x = items_by_fate (fate_as options) (value_by (replaced key)) x
+  without_items x = items_by_fate (fate_as options) (value_by (made_new options key)) x
 
   abbrev first : Tag × Trees
   first = leaf_alone removed_tag CS (codes "YES")
@@ -146,7 +147,7 @@ module _ (options : Options) (key : List ℕ) where
   -- ---- its representations are those of the dictionary
 
   leaf_named : (k : Syntax) (depth : Depth) (fate : Fate) (t : Tag) (vr : Vr) (v : List ℕ) (left : Trees) → fate_as options depth AsBytes t ≡ fate → IsNamed k t vr → AreNamed (after k t vr v) left
-      → AreNamed k (leaf_by fate t vr (value_by (replaced key) fate vr v) left)
+      → AreNamed k (leaf_by fate t vr (value_by (made_new options key) fate vr v) left)
   leaf_named k depth Remove t vr v left e is h = subst (λ (j : Syntax). AreNamed j left) (same_after k t vr v (no_sign options depth t Remove e (λ q. cc))) h
   leaf_named k depth Empty t vr v left e is h =
       let none = no_sign options depth t Empty e (λ q. cc) in
@@ -154,8 +155,8 @@ module _ (options : Options) (key : List ℕ) where
   leaf_named k depth Replace t vr v left e is h =
       let none = no_sign options depth t Replace e (λ q. cc) in
       (is, subst (λ (j : Syntax). AreNamed j left) (same_after k t vr v none ∙ sym (same_after k t vr _ none)) h)
-  leaf_named k depth Uid t vr v left e is h =
-      let none = no_sign options depth t Uid e (λ q. cc) in
+  leaf_named k depth (Anew made) t vr v left e is h =
+      let none = no_sign options depth t (Anew made) e (λ q. cc) in
       (is, subst (λ (j : Syntax). AreNamed j left) (same_after k t vr v none ∙ sym (same_after k t vr _ none)) h)
   leaf_named k depth Keep t vr v left e is h = (is, h)
 
@@ -163,14 +164,14 @@ module _ (options : Options) (key : List ℕ) where
   sequence_named k Remove t vr items left i h = h
   sequence_named k Empty t vr items left i h = (tt, h)
   sequence_named k Replace t vr items left i h = (tt, h)
-  sequence_named k Uid t vr items left i h = (tt, h)
+  sequence_named k (Anew made) t vr items left i h = (tt, h)
   sequence_named k Keep t vr items left i h = (i, h)
 
   fragments_named : (k : Syntax) (fate : Fate) (t : Tag) (vr : Vr) (parts : List (List ℕ)) (left : Trees) → AreNamed k left → AreNamed k (fragments_by fate t vr parts left)
   fragments_named k Remove t vr parts left h = h
   fragments_named k Empty t vr parts left h = h
   fragments_named k Replace t vr parts left h = h
-  fragments_named k Uid t vr parts left h = h
+  fragments_named k (Anew made) t vr parts left h = h
   fragments_named k Keep t vr parts left h = h
 
   mutual
@@ -188,7 +189,7 @@ module _ (options : Options) (key : List ℕ) where
   -- ---- with the element that says of dates what was done, where they are kept
 
   abbrev Clean : Trees → Type 0
-  Clean x = IsClean (fate_as options) (replaced key) Outermost x
+  Clean x = IsClean (fate_as options) (made_new options key) Outermost x
 
   clean_if : (c : Bool) (x y : Trees) → Clean x → Clean y → Clean (if c then x else y)
   clean_if true x y h k = h
@@ -198,9 +199,9 @@ module _ (options : Options) (key : List ℕ) where
   named_if k true x y h g = h
   named_if k false x y h g = g
 
-  module _ (dates : options.dates ≡ true) where
-    dates_clean : ValueIsClean (replaced key) (fate_as options Outermost AsBytes dates_tag) CS (dates_said options)
-    dates_clean = subst (λ (f : Fate). ValueIsClean (replaced key) f CS (dates_said options)) (sym (dates_stay options dates)) tt
+  module _ (dates : are_full options.dates ≡ true) where
+    dates_clean : ValueIsClean (made_new options key) (fate_as options Outermost AsBytes dates_tag) CS (dates_said options)
+    dates_clean = subst (λ (f : Fate). ValueIsClean (made_new options key) f CS (dates_said options)) (sym (dates_stay options dates)) tt
 
     put_clean : (x : Trees) → Clean x → Clean (put_in dates_tag fourth.1 x)
     put_clean no_tree h = (dates_clean, tt)
@@ -231,7 +232,7 @@ module _ (options : Options) (key : List ℕ) where
       let y : List ℕ = normal_value k t vr v in
       let more : Trees = normal (after k t w y) x in
       ap (λ (b : Bool). without Outermost (if b then more else leaf t w y more)) written
-      ∙ ap (λ (f : Fate). leaf_by f t w (value_by (replaced key) f w y) (without Outermost more)) e
+      ∙ ap (λ (f : Fate). leaf_by f t w (value_by (made_new options key) f w y) (without Outermost more)) e
       ∙ ap (λ (j : Syntax). without Outermost (normal j x)) (same_after k t w y none)
 
   leaf_is_gone : (t : Tag) (vr : Vr) (v : List ℕ) → (t.element == 0) ≡ false → says_sign t ≡ false → fate_as options Outermost AsBytes t ≡ Remove → Goes (leaf_alone t vr v)
@@ -266,7 +267,7 @@ module _ (options : Options) (key : List ℕ) where
       let w : Vr = normal_vr k t vr (length v) in
       let y : List ℕ = normal_value k t vr v in
       left_if k (below new.0 t) _ _ (leaf t vr v rest) (g.before k (leaf t vr v rest))
-      (dropped_or (t.element == 0) (leaf t w y) _ _ (ap (leaf_by (fate_as options Outermost AsBytes t) t w (value_by (replaced key) (fate_as options Outermost AsBytes t) w y))) (put_goes new (after k t w y) rest g))
+      (dropped_or (t.element == 0) (leaf t w y) _ _ (ap (leaf_by (fate_as options Outermost AsBytes t) t w (value_by (made_new options key) (fate_as options Outermost AsBytes t) w y))) (put_goes new (after k t w y) rest g))
   put_goes new k (sequence t vr declared items rest) g =
       let w : Vr = normal_sequence_vr k t in
       left_if k (below new.0 t) _ _ (sequence t vr declared items rest) (g.before k (sequence t vr declared items rest))
@@ -334,7 +335,7 @@ module _ (options : Options) (key : List ℕ) where
   fourth_is : IsOf fourth.0 fourth.1
   fourth_is = record { is_there = λ x. refl; alone = refl }
 
-  module _ (given : options.uids ≡ true) (s : Syntax) where
+  module _ (given : MakesNothingAnew options) (s : Syntax) where
     abbrev all_with : Trees → Trees
     all_with x = set_with_all (said options) x
 
@@ -345,7 +346,7 @@ module _ (options : Options) (key : List ℕ) where
     own : s ≡ read_by (dictionary_of s) s
     own = sym (own_dictionary s)
 
-    by_dates : (b : Bool) → options.dates ≡ b → (x : Trees) → AreNamed s x → Knows s → Clean x → recode_set s (all_with (without Outermost (normal s (all_with x)))) ≡ recode_set s (all_with x)
+    by_dates : (b : Bool) → are_full options.dates ≡ b → (x : Trees) → AreNamed s x → Knows s → Clean x → recode_set s (all_with (without Outermost (normal s (all_with x)))) ≡ recode_set s (all_with x)
     by_dates false e x named knows is_clean =
         let gone : Goes fourth = leaf_is_gone dates_tag CS (dates_said options) refl refl (dates_go options e) in
         written_again x (normal s (all_with x)) x (with_goes fourth s (with_three x) gone ∙ three_go s x) (left_again options key given s s Outermost x (dictionary_of s, own) named is_clean) refl
@@ -358,4 +359,4 @@ module _ (options : Options) (key : List ℕ) where
 
     -- what is left of the normal form of what is left is written alike
     pub twice : (x : Trees) → AreNamed s x → Knows s → recode_set s (all_with (without Outermost (normal s (all_with (without Outermost x))))) ≡ recode_set s (all_with (without Outermost x))
-    twice x named knows = by_dates options.dates refl (without Outermost x) (left_named s Outermost x named) knows (clean (fate_as options) (replaced key) Outermost x)
+    twice x named knows = by_dates (are_full options.dates) refl (without Outermost x) (left_named s Outermost x named) knows (clean (fate_as options) (made_new options key) Outermost x)

@@ -1,5 +1,5 @@
--- Where unique identifiers are retained, none is replaced.
-use Rattle.std.proofs.Common.{◌≡◌, ◌≢◌, ◌∙◌, ap, sym, refl, Bool, true, false, ◌&&◌, ◌||◌, not, ◌==◌, if◌then◌else◌, List, [], ◌∷◌, Option, Some, None}
+-- Where unique identifiers are retained, and neither pseudonyms nor moved dates are asked for, no value is made anew.
+use Rattle.std.proofs.Common.{◌≡◌, ◌≢◌, subst, ◌∙◌, ap, sym, refl, Bool, true, false, ◌&&◌, ◌||◌, not, ◌==◌, if◌then◌else◌, List, [], ◌∷◌, Option, Some, None}
 use Rattle.std.specs.Prelude.{find}
 use Rattle.std.specs.List.{list_all, list_any}
 use Rattle.dcm_base.specs.declared.dictionary.Dictionary.TheVariants.{Standard}
@@ -8,20 +8,23 @@ use Rattle.dcm_base.specs.declared.vr.Vr.{Vr}
 use Rattle.dcm_base.specs.declared.vr.Vr.TheVariants.{DA, TM, DT, PN}
 use Rattle.dcm_base.specs.Tables.Dictionary.{vr_in}
 use Rattle.dcm_base.specs.Tables.Representation.{is_sequence}
-use Rattle.dcm_base.specs.Tables.Tag.{tag_number}
+use Rattle.dcm_base.specs.Tables.Tag.{is_tag, tag_number}
 use Rattle.dcm_deid.specs.declared.fate.Fate.{Fate}
-use Rattle.dcm_deid.specs.declared.fate.Fate.TheVariants.{Remove, Empty, Replace, Uid, Keep}
+use Rattle.dcm_deid.specs.declared.fate.Fate.TheVariants.{Remove, Empty, Replace, Anew, Keep}
+use Rattle.dcm_deid.specs.declared.fate.NewValue.{NewValue}
+use Rattle.dcm_deid.specs.declared.fate.NewValue.TheVariants.{Pseudonym}
 use Rattle.dcm_deid.specs.declared.fate.Options.{Options}
+use Rattle.dcm_deid_laws.specs.Laws.{MakesNothingAnew}
 use Rattle.dcm_deid.specs.declared.fate.Retain.{Retain}
 use Rattle.dcm_deid.specs.declared.fate.Retain.TheVariants.{Uids, Device, Institution, Patient, Dates}
 use Rattle.dcm_deid.specs.declared.fate.Depth.{Depth}
 use Rattle.dcm_deid.specs.declared.fate.ReadAs.{ReadAs}
 use Rattle.dcm_deid.specs.declared.fate.ReadAs.TheVariants.{AsBytes, AsItems}
-use Rattle.dcm_deid.specs.Fate.{Action, actions, fate, fate_as, fate_in_table, fate_of_known, fate_of_vr, is_given, is_known, is_put_at, keeps}
+use Rattle.dcm_deid.specs.Fate.{Action, actions, fate, fate_as, are_left, are_modified, fate_in_table, fate_of_known, fate_of_vr, kept_as, moved_if, is_given, is_known, is_put_at, keeps}
 
-abbrev is_uid : Fate → Bool
-is_uid Uid = true
-is_uid _ = false
+abbrev is_anew : Fate → Bool
+is_anew (Anew made) = true
+is_anew _ = false
 
 abbrev is_uids : Retain → Bool
 is_uids Uids = true
@@ -29,7 +32,7 @@ is_uids _ = false
 
 -- each row of the table that replaces a unique identifier is kept by the option
 abbrev retains : Action → Bool
-retains a = not (is_uid a.1) || list_any is_uids a.2
+retains a = not (is_anew a.1) || list_any is_uids a.2
 
 all_retain : list_all retains actions ≡ true
 unfolding actions
@@ -53,7 +56,10 @@ found_passes test passes [] f all is = absurd (cc)
 found_passes test passes (a ∷ rows) f all is =
     found_here passes (test a) a f (find test rows) (both_first (passes a) (list_all passes rows) all) (found_passes test passes rows f (both_second (passes a) (list_all passes rows) all)) is
 
-module _ (options : Options) (given : options.uids ≡ true) where
+module _ (options : Options) (nothing : MakesNothingAnew options) (made : NewValue) where
+  given : options.uids ≡ true
+  given = nothing.0
+
   one_given : (r : Retain) (rest : Bool) → is_uids r ≡ true → (is_given options r || rest) ≡ true
   one_given Uids rest e = ap (λ (b : Bool). b || rest) given
   one_given Device rest e = absurd (cc)
@@ -73,43 +79,66 @@ module _ (options : Options) (given : options.uids ≡ true) where
   any_given [] e = absurd (cc)
   any_given (r ∷ rs) e = first_or_more (is_uids r) r rs refl e (any_given rs)
 
-  kept_or : (b : Bool) (f : Fate) → (if b then Keep else f) ≡ Uid → f ≡ Uid
+  kept_or : (b : Bool) (f : Fate) → (if b then Keep else f) ≡ Anew made → f ≡ Anew made
   kept_or true f k = absurd (cc)
   kept_or false f k = k
 
-  row_fate : (f : Fate) (rs : List Retain) → (not (is_uid f) || list_any is_uids rs) ≡ true → (if keeps options rs then Keep else f) ≢ Uid
-  row_fate Uid rs e = λ k. (let no : Keep ≡ Uid = sym (ap (λ (b : Bool). if b then Keep else Uid) (any_given rs e)) ∙ k in cc)
-  row_fate Remove rs e = λ k. (let no : Remove ≡ Uid = kept_or (keeps options rs) Remove k in cc)
-  row_fate Empty rs e = λ k. (let no : Empty ≡ Uid = kept_or (keeps options rs) Empty k in cc)
-  row_fate Replace rs e = λ k. (let no : Replace ≡ Uid = kept_or (keeps options rs) Replace k in cc)
-  row_fate Keep rs e = λ k. (let no : Keep ≡ Uid = kept_or (keeps options rs) Keep k in cc)
+  row_fate : (f : Fate) (rs : List Retain) → (not (is_anew f) || list_any is_uids rs) ≡ true → (if keeps options rs then Keep else f) ≢ Anew made
+  row_fate (Anew other) rs e = λ k. (let no : Keep ≡ Anew made = sym (ap (λ (b : Bool). if b then Keep else Anew other) (any_given rs e)) ∙ k in cc)
+  row_fate Remove rs e = λ k. (let no : Remove ≡ Anew made = kept_or (keeps options rs) Remove k in cc)
+  row_fate Empty rs e = λ k. (let no : Empty ≡ Anew made = kept_or (keeps options rs) Empty k in cc)
+  row_fate Replace rs e = λ k. (let no : Replace ≡ Anew made = kept_or (keeps options rs) Replace k in cc)
+  row_fate Keep rs e = λ k. (let no : Keep ≡ Anew made = kept_or (keeps options rs) Keep k in cc)
 
-  dates_fate : (b : Bool) → (if b then Keep else Empty) ≢ Uid
+  dates_fate : (b : Bool) → (if b then Keep else Empty) ≢ (Anew made)
   dates_fate true = λ k. cc
   dates_fate false = λ k. cc
 
-  vr_fate : (vr : Vr) → fate_of_vr options vr ≢ Uid
-  vr_fate DA = dates_fate options.dates
-  vr_fate TM = dates_fate options.dates
-  vr_fate DT = dates_fate options.dates
+  vr_fate : (vr : Vr) → fate_of_vr options vr ≢ (Anew made)
+  vr_fate DA = dates_fate (are_left options.dates)
+  vr_fate TM = dates_fate (are_left options.dates)
+  vr_fate DT = dates_fate (are_left options.dates)
   vr_fate PN = λ k. cc
   vr_fate vr = λ k. cc
 
-  in_table : (o : Option Action) (vr : Vr) → ((a : Action) → o ≡ Some a → retains a ≡ true) → fate_in_table options o vr ≢ Uid
+  in_table : (o : Option Action) (vr : Vr) → ((a : Action) → o ≡ Some a → retains a ≡ true) → fate_in_table options o vr ≢ (Anew made)
   in_table None vr h = vr_fate vr
   in_table (Some a) vr h = row_fate a.1 a.2 (h a refl)
 
-  known_fate : (t : Tag) → fate_of_known options t ≢ Uid
-  known_fate t = in_table (find (λ (a : Action). a.0 == tag_number t) actions) (vr_in Standard t) (λ a is. found_passes (λ (a : Action). a.0 == tag_number t) retains actions a all_retain is)
+  -- what is kept stays, where dates are not moved
+  not_moved : (vr : Vr) → kept_as false vr ≡ Keep
+  not_moved DA = refl
+  not_moved DT = refl
+  not_moved vr = refl
 
-  if_removed : (b : Bool) (f : Fate) → f ≢ Uid → (if b then Remove else f) ≢ Uid
+  moved_fate : (vr : Vr) (f : Fate) → f ≢ Anew made → moved_if false vr f ≢ Anew made
+  moved_fate vr Remove h = h
+  moved_fate vr Empty h = h
+  moved_fate vr Replace h = h
+  moved_fate vr (Anew other) h = h
+  moved_fate vr Keep h = λ k. (let no : Keep ≡ Anew made = sym (not_moved vr) ∙ k in cc)
+
+  no_pseudonym : (b p : Bool) (f : Fate) → p ≡ false → f ≢ Anew made → (if b && p then Anew Pseudonym else f) ≢ Anew made
+  no_pseudonym true true f e h = absurd (cc)
+  no_pseudonym false true f e h = absurd (cc)
+  no_pseudonym true false f e h = h
+  no_pseudonym false false f e h = h
+
+  known_fate : (t : Tag) → fate_of_known options t ≢ Anew made
+  known_fate t =
+      let f : Fate = fate_in_table options (find (λ (a : Action). a.0 == tag_number t) actions) (vr_in Standard t) in
+      let in_rows = in_table (find (λ (a : Action). a.0 == tag_number t) actions) (vr_in Standard t) (λ a is. found_passes (λ (a : Action). a.0 == tag_number t) retains actions a all_retain is) in
+      no_pseudonym (is_tag 0x0010 0x0020 t) options.pseudonyms (moved_if (are_modified options.dates) (vr_in Standard t) f) nothing.1
+      (subst (λ (b : Bool). moved_if b (vr_in Standard t) f ≢ Anew made) (sym nothing.2) (moved_fate (vr_in Standard t) f in_rows))
+
+  if_removed : (b : Bool) (f : Fate) → f ≢ (Anew made) → (if b then Remove else f) ≢ (Anew made)
   if_removed true f h = λ k. cc
   if_removed false f h = h
 
-  some_fate : (depth : Depth) (t : Tag) → fate options depth t ≢ Uid
+  some_fate : (depth : Depth) (t : Tag) → fate options depth t ≢ (Anew made)
   some_fate depth t = if_removed (is_put_at options depth t || not (is_known t)) (fate_of_known options t) (known_fate t)
 
-  pub none_replaced : (depth : Depth) (read : ReadAs) (t : Tag) → fate_as options depth read t ≢ Uid
+  pub none_anew : (depth : Depth) (read : ReadAs) (t : Tag) → fate_as options depth read t ≢ (Anew made)
   unfolding fate_as
-  none_replaced depth AsItems t = some_fate depth t
-  none_replaced depth AsBytes t = if_removed (is_sequence (vr_in Standard t)) (fate options depth t) (some_fate depth t)
+  none_anew depth AsItems t = some_fate depth t
+  none_anew depth AsBytes t = if_removed (is_sequence (vr_in Standard t)) (fate options depth t) (some_fate depth t)

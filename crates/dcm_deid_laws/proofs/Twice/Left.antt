@@ -16,9 +16,9 @@ use Rattle.dcm_base.specs.Tree.Tree.{Trees, no_tree, leaf, sequence, fragments, 
 use Rattle.dcm_base.specs.Tree.Value.{evened}
 use Rattle.dcm_base.proofs.Conversions.NormalForm.{leaf_again, recodes_normal}
 use Rattle.dcm_base.proofs.DataSets.After.{read_by_twice}
-use Rattle.dcm_uid.specs.Uid.{replaced}
+use Rattle.dcm_deid.specs.MadeNew.{made_new}
 use Rattle.dcm_deid.specs.declared.fate.Fate.{Fate}
-use Rattle.dcm_deid.specs.declared.fate.Fate.TheVariants.{Remove, Empty, Replace, Uid, Keep}
+use Rattle.dcm_deid.specs.declared.fate.Fate.TheVariants.{Remove, Empty, Replace, Anew, Keep}
 use Rattle.dcm_deid.specs.declared.fate.Options.{Options}
 use Rattle.dcm_deid.specs.declared.fate.Depth.{Depth}
 use Rattle.dcm_deid.specs.declared.fate.Depth.TheVariants.{Inside}
@@ -32,7 +32,8 @@ use Rattle.dcm_deid_laws.proofs.Clean.{no_sign, none_written, short_vr}
 use Rattle.dcm_deid_laws.proofs.Named.{AreNamed, IsNamed, ItemsAreNamed, named_after, same_after}
 use Rattle.dcm_deid_laws.proofs.Ready.{dummy_short}
 use Rattle.dcm_deid_laws.proofs.Twice.Alike.{AreAlike, both_end, two_leaves, two_sequences, two_lists, recodes_alike}
-use Rattle.dcm_deid_laws.proofs.Twice.Fates.{none_replaced}
+use Rattle.dcm_deid_laws.specs.Laws.{MakesNothingAnew}
+use Rattle.dcm_deid_laws.proofs.Twice.Fates.{none_anew}
 
 -- ---- what stays is no length of a group
 
@@ -79,17 +80,17 @@ recoded_as : (k s : Syntax) (t : Tag) (vr wr : Vr) (v w : List ℕ) → IsBy k s
 recoded_as k s t vr wr v w (d, is) e =
     sym (ap (λ (z : Syntax). recoded_leaf z t vr v) is ∙ leaf_by_dictionary d s t vr v) ∙ e ∙ (ap (λ (z : Syntax). recoded_leaf z t wr w) is ∙ leaf_by_dictionary d s t wr w)
 
-module _ (options : Options) (key : List ℕ) (given : options.uids ≡ true) (s : Syntax) where
+module _ (options : Options) (key : List ℕ) (given : MakesNothingAnew options) (s : Syntax) where
   abbrev without : Depth → Trees → Trees
-  without depth x = deidentified_set options (replaced key) depth x
+  without depth x = deidentified_set options (made_new options key) depth x
 
   abbrev without_items : Items → Items
-  without_items x = items_by_fate (fate_as options) (value_by (replaced key)) x
+  without_items x = items_by_fate (fate_as options) (value_by (made_new options key)) x
 
   -- a leaf that stays, with the value that it has again
   leaf_left : (k : Syntax) (depth : Depth) (fate : Fate) (t : Tag) (vr : Vr) (v : List ℕ) (rest : Trees) → fate_as options depth AsBytes t ≡ fate → fate ≢ Remove → IsBy k s
-      → ((r : Trees) → leaf_by fate t (normal_vr k t vr (length v)) (value_by (replaced key) fate (normal_vr k t vr (length v)) (normal_value k t vr v)) r ≡ leaf t (normal_vr k t vr (length v)) (value_by (replaced key) fate (normal_vr k t vr (length v)) (normal_value k t vr v)) r)
-      → recoded_leaf k t (normal_vr k t vr (length v)) (value_by (replaced key) fate (normal_vr k t vr (length v)) (normal_value k t vr v)) ≡ recoded_leaf k t vr v
+      → ((r : Trees) → leaf_by fate t (normal_vr k t vr (length v)) (value_by (made_new options key) fate (normal_vr k t vr (length v)) (normal_value k t vr v)) r ≡ leaf t (normal_vr k t vr (length v)) (value_by (made_new options key) fate (normal_vr k t vr (length v)) (normal_value k t vr v)) r)
+      → recoded_leaf k t (normal_vr k t vr (length v)) (value_by (made_new options key) fate (normal_vr k t vr (length v)) (normal_value k t vr v)) ≡ recoded_leaf k t vr v
       → AreAlike s (without depth (normal (after k t (normal_vr k t vr (length v)) (normal_value k t vr v)) rest)) rest
       → AreAlike s (without depth (normal k (leaf t vr v rest))) (leaf t vr v rest)
   unfolding normal
@@ -98,13 +99,13 @@ module _ (options : Options) (key : List ℕ) (given : options.uids ≡ true) (s
       let x : List ℕ = normal_value k t vr v in
       let more : Trees = normal (after k t w x) rest in
       let written : (t.element == 0) ≡ false = stays_written options depth AsBytes t fate e other in
-      let is : without depth (if t.element == 0 then more else leaf t w x more) ≡ leaf t w (value_by (replaced key) fate w x) (without depth more) =
-      ap (λ (b : Bool). without depth (if b then more else leaf t w x more)) written ∙ ap (λ (f : Fate). leaf_by f t w (value_by (replaced key) f w x) (without depth more)) e ∙ stays (without depth more)
+      let is : without depth (if t.element == 0 then more else leaf t w x more) ≡ leaf t w (value_by (made_new options key) fate w x) (without depth more) =
+      ap (λ (b : Bool). without depth (if b then more else leaf t w x more)) written ∙ ap (λ (f : Fate). leaf_by f t w (value_by (made_new options key) f w x) (without depth more)) e ∙ stays (without depth more)
       in
       subst (λ (z : Trees). AreAlike s z (leaf t vr v rest)) (sym is)
-      (two_leaves s t w vr (value_by (replaced key) fate w x) v (without depth more) rest (leaf_alone s t w vr (value_by (replaced key) fate w x) v (recoded_as k s t w vr (value_by (replaced key) fate w x) v by same)) h)
+      (two_leaves s t w vr (value_by (made_new options key) fate w x) v (without depth more) rest (leaf_alone s t w vr (value_by (made_new options key) fate w x) v (recoded_as k s t w vr (value_by (made_new options key) fate w x) v by same)) h)
 
-  leaf_again_left : (k : Syntax) (depth : Depth) (fate : Fate) (t : Tag) (vr : Vr) (v : List ℕ) (rest : Trees) → fate_as options depth AsBytes t ≡ fate → IsBy k s → IsNamed k t vr → AreNamed (after k t vr v) rest → ValueIsClean (replaced key) fate vr v
+  leaf_again_left : (k : Syntax) (depth : Depth) (fate : Fate) (t : Tag) (vr : Vr) (v : List ℕ) (rest : Trees) → fate_as options depth AsBytes t ≡ fate → IsBy k s → IsNamed k t vr → AreNamed (after k t vr v) rest → ValueIsClean (made_new options key) fate vr v
       → ((j : Syntax) → IsBy j s → AreNamed j rest → AreAlike s (without depth (normal j rest)) rest) → AreAlike s (without depth (normal k (leaf t vr v rest))) (leaf t vr v rest)
   leaf_again_left k depth Remove t vr v rest e by is named clean more = absurd clean
   leaf_again_left k depth Empty t vr v rest e by is named clean more =
@@ -116,10 +117,10 @@ module _ (options : Options) (key : List ℕ) (given : options.uids ≡ true) (s
   leaf_again_left k depth Replace t vr v rest e by is named clean more =
       let none = no_sign options depth t Replace e (λ q. cc) in
       let here : AreNamed k rest = subst (λ (j : Syntax). AreNamed j rest) (same_after k t vr v none) named in
-      let short : length v ≤ 64 = subst (λ (y : List ℕ). length y ≤ 64) (sym clean) (dummy_short vr) in
+      let short : length v ≤ 256 = subst (λ (y : List ℕ). length y ≤ 256) (sym clean) (dummy_short vr) in
       leaf_left k depth Replace t vr v rest e (λ q. cc) by (λ r. refl) (ap (λ (w : Vr). recoded_leaf k t w (dummy w)) (short_vr k t vr (length v) short is) ∙ ap (recoded_leaf k t vr) (sym clean))
       (more _ (by_after k s t _ _ by) (subst (λ (j : Syntax). AreNamed j rest) (sym (same_after k t _ _ none)) here))
-  leaf_again_left k depth Uid t vr v rest e by is named clean more = absurd (none_replaced options given depth AsBytes t e)
+  leaf_again_left k depth (Anew made) t vr v rest e by is named clean more = absurd (none_anew options given made depth AsBytes t e)
   leaf_again_left k depth Keep t vr v rest e by is named clean more =
       leaf_left k depth Keep t vr v rest e (λ q. cc) by (λ r. refl) (leaf_again k t vr v) (more _ (by_after k s t _ _ by) (named_after k t vr v rest is named))
 
@@ -138,13 +139,13 @@ module _ (options : Options) (key : List ℕ) (given : options.uids ≡ true) (s
       subst (λ (z : Trees). AreAlike s z (sequence t vr declared items rest)) (sym is)
       (two_sequences s t w vr Undefined declared left items (without depth more) rest (sequence_alone s t w vr Undefined declared left items same) h)
 
-  sequence_again_left : (k : Syntax) (depth : Depth) (fate : Fate) (t : Tag) (vr : Vr) (declared : Length) (items : Items) (rest : Trees) → fate_as options depth AsItems t ≡ fate → SequenceIsClean fate items (ItemsAreClean (ValueIsClean (replaced key)) (fate_as options) items)
-      → (ItemsAreClean (ValueIsClean (replaced key)) (fate_as options) items → recode_items s (without_items (normal_items k items)) ≡ recode_items s items) → AreAlike s (without depth (normal k rest)) rest
+  sequence_again_left : (k : Syntax) (depth : Depth) (fate : Fate) (t : Tag) (vr : Vr) (declared : Length) (items : Items) (rest : Trees) → fate_as options depth AsItems t ≡ fate → SequenceIsClean fate items (ItemsAreClean (ValueIsClean (made_new options key)) (fate_as options) items)
+      → (ItemsAreClean (ValueIsClean (made_new options key)) (fate_as options) items → recode_items s (without_items (normal_items k items)) ≡ recode_items s items) → AreAlike s (without depth (normal k rest)) rest
       → AreAlike s (without depth (normal k (sequence t vr declared items rest))) (sequence t vr declared items rest)
   sequence_again_left k depth Remove t vr declared items rest e clean inner h = absurd clean
   sequence_again_left k depth Empty t vr declared items rest e clean inner h = sequence_left k depth Empty t vr declared items no_item rest e (λ q. cc) (λ r. refl) (ap (recode_items s) (sym clean)) h
   sequence_again_left k depth Replace t vr declared items rest e clean inner h = sequence_left k depth Replace t vr declared items no_item rest e (λ q. cc) (λ r. refl) (ap (recode_items s) (sym clean)) h
-  sequence_again_left k depth Uid t vr declared items rest e clean inner h = absurd (none_replaced options given depth AsItems t e)
+  sequence_again_left k depth (Anew made) t vr declared items rest e clean inner h = absurd (none_anew options given made depth AsItems t e)
   sequence_again_left k depth Keep t vr declared items rest e clean inner h =
       sequence_left k depth Keep t vr declared items (without_items (normal_items k items)) rest e (λ q. cc) (λ r. refl) (inner clean) h
 
@@ -154,7 +155,7 @@ module _ (options : Options) (key : List ℕ) (given : options.uids ≡ true) (s
   fragments_again_left k depth Remove t vr parts rest e clean h = absurd clean
   fragments_again_left k depth Empty t vr parts rest e clean h = absurd clean
   fragments_again_left k depth Replace t vr parts rest e clean h = absurd clean
-  fragments_again_left k depth Uid t vr parts rest e clean h = absurd clean
+  fragments_again_left k depth (Anew made) t vr parts rest e clean h = absurd clean
   fragments_again_left k depth Keep t vr parts rest e clean h =
       let more : Trees = normal k rest in
       let written : (t.element == 0) ≡ false = stays_written options depth AsBytes t Keep e (λ q. cc) in
@@ -166,7 +167,7 @@ module _ (options : Options) (key : List ℕ) (given : options.uids ≡ true) (s
   mutual
     unfolding normal
 
-    pub left_again : (k : Syntax) (depth : Depth) (x : Trees) → IsBy k s → AreNamed k x → IsClean (fate_as options) (replaced key) depth x → AreAlike s (without depth (normal k x)) x
+    pub left_again : (k : Syntax) (depth : Depth) (x : Trees) → IsBy k s → AreNamed k x → IsClean (fate_as options) (made_new options key) depth x → AreAlike s (without depth (normal k x)) x
     left_again k depth no_tree by named clean = both_end s
     left_again k depth (leaf t vr v rest) by named clean =
         leaf_again_left k depth (fate_as options depth AsBytes t) t vr v rest refl by named.0 named.1 clean.0 (λ j b n. left_again j depth rest b n clean.1)
@@ -174,7 +175,7 @@ module _ (options : Options) (key : List ℕ) (given : options.uids ≡ true) (s
         sequence_again_left k depth (fate_as options depth AsItems t) t vr declared items rest refl clean.0 (λ c. items_left_again k items by named.0 c) (left_again k depth rest by named.1 clean.1)
     left_again k depth (fragments t vr parts rest) by named clean = fragments_again_left k depth (fate_as options depth AsBytes t) t vr parts rest refl clean.0 (left_again k depth rest by named clean.1)
 
-    items_left_again : (k : Syntax) (x : Items) → IsBy k s → ItemsAreNamed k x → ItemsAreClean (ValueIsClean (replaced key)) (fate_as options) x → recode_items s (without_items (normal_items k x)) ≡ recode_items s x
+    items_left_again : (k : Syntax) (x : Items) → IsBy k s → ItemsAreNamed k x → ItemsAreClean (ValueIsClean (made_new options key)) (fate_as options) x → recode_items s (without_items (normal_items k x)) ≡ recode_items s x
     items_left_again k no_item by named clean = refl
     items_left_again k (item declared set rest) by named clean =
         items_alone s Undefined declared _ _ _ _ (recodes_alike s _ _ (left_again k Inside set by named.0 clean.0)) (items_left_again k rest by named.1 clean.1)

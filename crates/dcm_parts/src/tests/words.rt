@@ -207,7 +207,7 @@ fn said_by(planned: &Planned) -> Option<Taking> {
             options.device,
             options.institution,
             options.patient,
-            options.dates,
+            options.dates.are_full(),
         ],
         reports: what.reports,
         has_key: planned.key == Some(b"key".as_slice()),

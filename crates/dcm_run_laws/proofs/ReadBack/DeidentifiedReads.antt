@@ -20,7 +20,7 @@ use Rattle.dcm_base.specs.Tree.Tree.{Trees}
 use Rattle.dcm_base.proofs.Conversions.NormalForm.{own_dictionary}
 use Rattle.dcm_sinks.specs.MetaAgain.{meta_again}
 use Rattle.dcm_sinks.proofs.ReadBack.NewMetaReads.{group_read, names_read, written_anew}
-use Rattle.dcm_uid.specs.Uid.{replaced}
+use Rattle.dcm_deid.specs.MadeNew.{made_new}
 use Rattle.dcm_deid.specs.declared.fate.Options.{Options}
 use Rattle.dcm_deid.specs.Meta.{meta_without_identity, no_preamble}
 use Rattle.dcm_deid.specs.declared.fate.Depth.TheVariants.{Outermost}
@@ -52,7 +52,7 @@ module _ (options : Options) (reports : Bool) (key input : List ℕ) (a : Answer
   group = new_meta head.elements m.uid
 
   abbrev left : Front
-  left = deidentified options (replaced key) f
+  left = deidentified options (made_new options key) f
 
   pub was_read : Read (deidentify options reports key) input m coding f
   was_read = read_of (deidentify options reports key) input m coding f h.answers.source h.source_is h.answers.reads
@@ -138,10 +138,10 @@ module _ (options : Options) (reports : Bool) (key input : List ℕ) (a : Answer
       in
       let metas : n ≡ meta_again head m.uid = cc in
       let sets : set ≡ again = cc in
-      let left_set : Trees = set_with_all (said options) (deidentified_set options (replaced key) Outermost w.trees) in
+      let left_set : Trees = set_with_all (said options) (deidentified_set options (made_new options key) Outermost w.trees) in
       let reached : Option Tag = last_tag None w.trees in
       let in_head : instance_of_head head ≡ instance_of_set left_set =
-      uids_agree options key m reached w.trees (same ∙ ap (λ (g : Front). instance_of_set (whole_of g)) w.is) ∙ ap (λ (g : Front). instance_of_set (whole_of g)) (of_whole options (replaced key) reached w.trees)
+      uids_agree options key m reached w.trees (same ∙ ap (λ (g : Front). instance_of_set (whole_of g)) w.is) ∙ ap (λ (g : Front). instance_of_set (whole_of g)) (of_whole options (made_new options key) reached w.trees)
       in
       ap instance_of_head metas ∙ head_again m.uid head.elements ∙ in_head
       ∙ sym (all_left_names options key new by w.trees)

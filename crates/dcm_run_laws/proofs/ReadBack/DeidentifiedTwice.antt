@@ -1,6 +1,6 @@
 -- A second run of dcmdeid with the same options writes what the first one wrote.
-use Rattle.std.proofs.Common.{◌≡◌, ◌∙◌, ap, sym, subst, refl, ℕ, List, [], ◌++◌, Bool, true, length, drop, if◌then◌else◌}
-use Rattle.std.specs.Prelude.{◌⊎◌, ◌&&◌}
+use Rattle.std.proofs.Common.{◌≡◌, ◌∙◌, ap, sym, subst, refl, ℕ, List, ◌++◌, Bool, length}
+use Rattle.std.specs.Prelude.{◌⊎◌}
 use Rattle.dcm_base.specs.declared.dictionary.Dictionary.TheVariants.{Standard}
 use Rattle.dcm_base.specs.declared.syntax.Coding.{Coding}
 use Rattle.dcm_base.specs.declared.syntax.Syntax.{Syntax}
@@ -16,10 +16,11 @@ use Rattle.dcm_base.specs.Tree.Front.{Front}
 use Rattle.dcm_base.specs.Tree.Tree.{Trees}
 use Rattle.dcm_sinks.specs.MetaAgain.{elements_again, meta_again}
 use Rattle.dcm_sinks.proofs.ReadBack.NewMetaReads.{group_read}
-use Rattle.dcm_uid.specs.Uid.{replaced}
+use Rattle.dcm_deid.specs.MadeNew.{made_new}
 use Rattle.dcm_deid.specs.declared.fate.Options.{Options}
 use Rattle.dcm_deid.specs.Meta.{meta_renewing, meta_without_identity, no_preamble}
 use Rattle.dcm_deid.specs.Saying.{deidentified}
+use Rattle.dcm_deid_laws.specs.Laws.{MakesNothingAnew}
 use Rattle.dcm_deid_laws.proofs.Heads.{group_again, left_group}
 use Rattle.dcm_deid_laws.proofs.ReadsAgain as laws
 use Rattle.dcm_words.specs.Words.{Job, deidentify}
@@ -44,7 +45,7 @@ module _ (options : Options) (reports : Bool) (key input : List ℕ) (a : Answer
   group = new_meta head.elements m.uid
 
   abbrev left : Front
-  left = deidentified options (replaced key) f
+  left = deidentified options (made_new options key) f
 
   abbrev again : Front
   again = normal_front s left
@@ -68,18 +69,18 @@ module _ (options : Options) (reports : Bool) (key input : List ℕ) (a : Answer
   answered : (b : Answer) → Answers job a.output b → b ≡ answer job source
   answered b y = y.answer_is ∙ ap (answer job) (one_source job a.output y.source source y.reads read_again)
 
-  module _ (given : options.uids ≡ true) where
+  module _ (given : MakesNothingAnew options) where
     -- the group is written anew alike
     group_twice : new_meta (renewed (meta_renewing options key) (elements_again head.elements m.uid)) m.uid ≡ group
     group_twice =
         let r = was_read options reports key input a m coding f h in
         let g = left_group options key m.elements (group_read input m r.group r.head.named h.are_bytes r.head.head) in
-        ap (λ (x : Trees). new_meta x m.uid) (group_again options key given m.uid m.elements)
+        ap (λ (x : Trees). new_meta x m.uid) (group_again options key given.0 m.uid m.elements)
         ∙ ap (λ (bytes : List ℕ). group_length (length bytes) ++ bytes) (with_twice m.uid head.elements g.meta)
 
     same_output : (answer job source).output ≡ a.output
     same_output =
-        ap (λ (bytes : List ℕ). no_preamble ++ PREFIX ++ bytes ++ recode s (deidentified options (replaced key) again)) group_twice
+        ap (λ (bytes : List ℕ). no_preamble ++ PREFIX ++ bytes ++ recode s (deidentified options (made_new options key) again)) group_twice
         ∙ ap (λ (bytes : List ℕ). no_preamble ++ PREFIX ++ group ++ bytes) (laws.deidentified_twice options key s (set_at group) f (takes options reports key input a m coding f h) given)
         ∙ sym (output_is options reports key input a m coding f h)
 

@@ -1,5 +1,5 @@
 -- Nothing of what is taken out of a file is in the answer to it.
-use Rattle.std.proofs.Common.{◌≡◌, ◌∙◌, ap, sym, subst, refl, ℕ, ◌≤◌, List, [], ◌++◌, drop, Bool, true, false, ◌||◌, Option, None, Some, arith}
+use Rattle.std.proofs.Common.{◌≡◌, ◌∙◌, ap, sym, subst, refl, ℕ, ℤ, List, [], ◌++◌, Bool, true, false, ◌||◌, Option, None, Some}
 use Rattle.std.specs.Prelude.{if◌then◌else◌, ◌&&◌}
 use Rattle.dcm_base.specs.declared.syntax.Coding.{Coding}
 use Rattle.dcm_base.specs.declared.syntax.Syntax.{Syntax}
@@ -10,8 +10,6 @@ use Rattle.dcm_base.specs.Conversion.NewMeta.{leaf_if, new_meta, renewed}
 use Rattle.dcm_base.specs.Conversion.Recode.{recode}
 use Rattle.dcm_base.specs.File.MetaReads.{Meta, PREFIX, syntax_value}
 use Rattle.dcm_base.specs.Lines.Build.{usable}
-use Rattle.dcm_base.specs.Reading.Reads.{INPUT_LIMIT}
-use Rattle.dcm_base.specs.Reading.Stop.{complete}
 use Rattle.dcm_base.specs.Tables.Syntax.{coding_by}
 use Rattle.dcm_base.specs.Tables.Tag.{is_tag}
 use Rattle.dcm_base.specs.Tables.Transfer.{without_pads}
@@ -19,23 +17,24 @@ use Rattle.dcm_base.specs.Tree.Front.{Front}
 use Rattle.dcm_base.specs.Tree.Tree.{Trees, no_tree, leaf, sequence, fragments}
 use Rattle.dcm_build_laws.proofs.Rebuilds.FilesBuild.{headed}
 use Rattle.dcm_uid.specs.Uid.{new_value, replaced}
-use Rattle.dcm_deid.specs.Alike.{Alike}
+use Rattle.dcm_deid.specs.Alike.{Alike, moving}
 use Rattle.dcm_deid.specs.declared.fate.Depth.TheVariants.{Outermost}
 use Rattle.dcm_deid.specs.declared.fate.Options.{Options}
 use Rattle.dcm_deid.specs.declared.meta.MetaFate.{MetaFate}
 use Rattle.dcm_deid.specs.declared.meta.MetaFate.TheVariants.{Remove, Keep, Uid}
-use Rattle.dcm_deid.specs.Deidentify.{Renaming, deidentified_set}
+use Rattle.dcm_deid.specs.Deidentify.{deidentified_set}
 use Rattle.dcm_deid.specs.Meta.{meta_fate, meta_renewing, no_preamble, value_by_fate}
 use Rattle.dcm_deid.specs.Pixels.{may_show}
-use Rattle.dcm_deid.specs.Saying.{deidentified, read_whole, said, whole_of}
+use Rattle.dcm_deid.specs.MadeNew.{made_new}
+use Rattle.dcm_deid.specs.Saying.{deidentified, said, whole_of}
 use Rattle.dcm_deid.proofs.Trees.Again.{nothing_flows}
-use Rattle.dcm_deid.proofs.Trees.Said.{nothing_flows_out, of_whole, set_with_all}
+use Rattle.dcm_deid.proofs.Trees.Said.{nothing_flows_out, of_whole, same_said, set_with_all}
 use Rattle.dcm_words.specs.Words.{Job, deidentify}
-use Rattle.dcm_cli.specs.Answer.{Answer, Source, answer, file, shows_identity, status_of_lines}
+use Rattle.dcm_cli.specs.Answer.{Answer, answer, shows_identity, status_of_lines}
 use Rattle.dcm_cli.specs.ErrorLines.{pixels_line}
-use Rattle.dcm_run_laws.specs.Flows.{IsDeidentified, NothingFlows, leaves, meta_left, value_left}
+use Rattle.dcm_run_laws.specs.Flows.{NothingFlows, leaves, meta_left, value_left}
 use Rattle.dcm_cli.proofs.Passes.DeidentifyReads.{IsWhole, read_is_whole}
-use Rattle.dcm_run_laws.proofs.ReadBack.ReadsAgain.{Read, begins_within, read_of}
+use Rattle.dcm_run_laws.proofs.ReadBack.ReadsAgain.{begins_within, read_of}
 
 -- ---- the meta group
 
@@ -95,22 +94,32 @@ module _ (options : Options) where
 
 -- ---- the data set
 
-module _ (options : Options) (key : List ℕ) (f g : Front) (v : IsWhole f) (w : IsWhole g) (alike : Alike options Outermost (whole_of f) (whole_of g)) where
-  abbrev without : Front → Front
-  without x = deidentified options (replaced key) x
+module _ (options : Options) (key : List ℕ) (d e : ℤ) (f g : Front) (v : IsWhole f) (w : IsWhole g) (alike : Alike options Outermost d e (whole_of f) (whole_of g)) where
+  abbrev one : Options
+  one = moving options d
 
-  sets_alike : Alike options Outermost v.set w.set
-  sets_alike = subst (λ (x : Front). Alike options Outermost v.set (whole_of x)) w.is (subst (λ (x : Front). Alike options Outermost (whole_of x) (whole_of g)) v.is alike)
+  abbrev two : Options
+  two = moving options e
 
-  pub bytes_alike : (target : Syntax) → recode target (without f) ≡ recode target (without g)
+  abbrev without : Options → Front → Front
+  without o x = deidentified o (made_new o key) x
+
+  sets_alike : Alike options Outermost d e v.set w.set
+  sets_alike = subst (λ (x : Front). Alike options Outermost d e v.set (whole_of x)) w.is (subst (λ (x : Front). Alike options Outermost d e (whole_of x) (whole_of g)) v.is alike)
+
+  pub bytes_alike : (target : Syntax) → recode target (without one f) ≡ recode target (without two g)
   bytes_alike target =
-      ap (λ (x : Front). recode target (without x)) v.is ∙ nothing_flows_out options (replaced key) target v.reached w.reached v.set w.set sets_alike ∙ ap (λ (x : Front). recode target (without x)) (sym w.is)
+      ap (λ (x : Front). recode target (without one x)) v.is ∙ nothing_flows_out options key target v.reached w.reached d e v.set w.set sets_alike
+      ∙ ap (λ (x : Front). recode target (without two x)) (sym w.is)
 
-  shows_set : (x : Front) (u : IsWhole x) → shows_identity options key x ≡ may_show (set_with_all (said options) (deidentified_set options (replaced key) Outermost u.set))
-  shows_set x u = ap (shows_identity options key) u.is ∙ ap (λ (y : Front). may_show (whole_of y)) (of_whole options (replaced key) u.reached u.set)
+  shows_set : (o : Options) (x : Front) (u : IsWhole x) → shows_identity o key x ≡ may_show (set_with_all (said o) (deidentified_set o (made_new o key) Outermost u.set))
+  shows_set o x u = ap (shows_identity o key) u.is ∙ ap (λ (y : Front). may_show (whole_of y)) (of_whole o (made_new o key) u.reached u.set)
 
-  pub shows_alike : shows_identity options key f ≡ shows_identity options key g
-  shows_alike = shows_set f v ∙ ap (λ (x : Trees). may_show (set_with_all (said options) x)) (nothing_flows options (replaced key) Outermost v.set w.set sets_alike) ∙ sym (shows_set g w)
+  pub shows_alike : shows_identity one key f ≡ shows_identity two key g
+  shows_alike =
+      shows_set one f v ∙ ap (λ (x : Trees). may_show (set_with_all (said one) x)) (nothing_flows options key Outermost d e v.set w.set sets_alike)
+      ∙ ap (λ (news : List (Tag × Trees)). may_show (set_with_all news (deidentified_set two (made_new two key) Outermost w.set))) (same_said options d e)
+      ∙ sym (shows_set two g w)
 
 -- ---- the answer
 
@@ -122,10 +131,13 @@ answer_of shows output = record {
 }
 
 pub nothing_flows_in_answers : NothingFlows
-nothing_flows_in_answers options reports key first second a b m n f g h k left alike =
-    let job : Job = deidentify options reports key in
+nothing_flows_in_answers options reports key first second d e a b m n f g h k left alike =
+    let one : Options = moving options d in
+    let two : Options = moving options e in
+    let job : Job = deidentify one reports key in
+    let other : Job = deidentify two reports key in
     let r = read_of job first m h.coding f h.answers.source h.source_is h.answers.reads in
-    let s = read_of job second n k.coding g k.answers.source k.source_is k.answers.reads in
+    let s = read_of other second n k.coding g k.answers.source k.source_is k.answers.reads in
     let v = read_is_whole h.coding.syntax _ _ f (begins_within first m r.group r.head.named r.head.head) r.set in
     let w = read_is_whole k.coding.syntax _ _ g (begins_within second n s.group s.head.named s.head.head) s.set in
     let x = headed first m r.group r.head.named r.head.head in
@@ -133,19 +145,19 @@ nothing_flows_in_answers options reports key first second a b m n f g h k left a
     let values : syntax_value m.elements ≡ syntax_value n.elements = syntax_alike options m n left in
     let uids : m.uid ≡ n.uid = x.uid_is ∙ ap (λ (bs : List ℕ). without_pads bs) values ∙ sym y.uid_is in
     let named : Some r.head.named ≡ Some s.head.named = sym x.names ∙ ap (λ (bs : List ℕ). usable (without_pads bs)) values ∙ y.names in
-    let one : r.head.named ≡ s.head.named = cc in
-    let codings : h.coding ≡ k.coding = r.head.coding_is ∙ ap (coding_by Standard) one ∙ sym s.head.coding_is in
+    let same_name : r.head.named ≡ s.head.named = cc in
+    let codings : h.coding ≡ k.coding = r.head.coding_is ∙ ap (coding_by Standard) same_name ∙ sym s.head.coding_is in
     let groups = group_alike options key m n left in
     let header : Trees → List ℕ → List ℕ = λ elements uid. no_preamble ++ PREFIX ++ new_meta elements uid in
-    let outputs : header (renewed (meta_renewing options key) m.elements) m.uid ++ recode h.coding.syntax (deidentified options (replaced key) f)
-    ≡ header (renewed (meta_renewing options key) n.elements) n.uid ++ recode k.coding.syntax (deidentified options (replaced key) g) =
-    ap (λ (t : Trees). header t m.uid ++ recode h.coding.syntax (deidentified options (replaced key) f)) groups
-    ∙ ap (λ (u : List ℕ). header (renewed (meta_renewing options key) n.elements) u ++ recode h.coding.syntax (deidentified options (replaced key) f)) uids
-    ∙ ap (λ (c : Coding). header (renewed (meta_renewing options key) n.elements) n.uid ++ recode c.syntax (deidentified options (replaced key) f)) codings
-    ∙ ap (λ (bs : List ℕ). header (renewed (meta_renewing options key) n.elements) n.uid ++ bs) (bytes_alike options key f g v w alike k.coding.syntax)
+    let outputs : header (renewed (meta_renewing options key) m.elements) m.uid ++ recode h.coding.syntax (deidentified one (made_new one key) f)
+    ≡ header (renewed (meta_renewing options key) n.elements) n.uid ++ recode k.coding.syntax (deidentified two (made_new two key) g) =
+    ap (λ (t : Trees). header t m.uid ++ recode h.coding.syntax (deidentified one (made_new one key) f)) groups
+    ∙ ap (λ (u : List ℕ). header (renewed (meta_renewing options key) n.elements) u ++ recode h.coding.syntax (deidentified one (made_new one key) f)) uids
+    ∙ ap (λ (c : Coding). header (renewed (meta_renewing options key) n.elements) n.uid ++ recode c.syntax (deidentified one (made_new one key) f)) codings
+    ∙ ap (λ (bs : List ℕ). header (renewed (meta_renewing options key) n.elements) n.uid ++ bs) (bytes_alike options key d e f g v w alike k.coding.syntax)
     in
-    let shows : (reports && shows_identity options key f) ≡ (reports && shows_identity options key g) = ap (λ (b : Bool). reports && b) (shows_alike options key f g v w alike) in
+    let shows : (reports && shows_identity one key f) ≡ (reports && shows_identity two key g) = ap (λ (b : Bool). reports && b) (shows_alike options key d e f g v w alike) in
     h.answers.answer_is ∙ ap (answer job) h.source_is
-    ∙ ap (λ (bs : List ℕ). answer_of (reports && shows_identity options key f) bs) outputs
-    ∙ ap (λ (b : Bool). answer_of b (header (renewed (meta_renewing options key) n.elements) n.uid ++ recode k.coding.syntax (deidentified options (replaced key) g))) shows
-    ∙ sym (k.answers.answer_is ∙ ap (answer job) k.source_is)
+    ∙ ap (λ (bs : List ℕ). answer_of (reports && shows_identity one key f) bs) outputs
+    ∙ ap (λ (b : Bool). answer_of b (header (renewed (meta_renewing options key) n.elements) n.uid ++ recode k.coding.syntax (deidentified two (made_new two key) g))) shows
+    ∙ sym (k.answers.answer_is ∙ ap (answer other) k.source_is)

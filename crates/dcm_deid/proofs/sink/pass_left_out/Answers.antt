@@ -7,6 +7,6 @@ use Rattle.dcm_deid.proofs.Taking.{TookAs}
 use Rattle.dcm_deid.proofs.sink.pass_left_out.Goals as goal
 
 pub returns-in_default-2 : goal.returns-in_default-2
-returns-in_default-2 g c = λ options.
-    subst (λ (xs : List Atom). TookAs g.S.Sink c.args.sink.now c.args.sink.now xs (Ok tt)) (nothing_passed (deidentifying.state options c.args.key.now.bytes.now c.args.place.now) c.args.token c.requires.left_out c.in_default.not-CloseLeaf-0)
+returns-in_default-2 g c =
+    subst (λ (xs : List Atom). TookAs g.S.Sink c.args.sink.now c.args.sink.now xs (Ok tt)) (nothing_passed (deidentifying.state c.args.options.now c.args.key.now.bytes.now c.args.place.now) c.args.token c.requires.left_out c.in_default.not-CloseLeaf-0)
     (took_nothing g.S.Sink c.args.sink.now tt)

@@ -12,8 +12,8 @@ loop-byte-preserved c =
     let d : ℕ = c.from.result in
     let next : ℕ = c.min-number.result in
     let is : digit 10 (get_or c.args.digits.now i 0) ≡ Some d = sym c.in_ok-decimal_digit.ensures.value ∙ ap Some (sym c.from.ensures) in
-    let least : capped (n * 10 + d) ≡ capped next = grind (arith, nat_tests, c.min-number.ensures) in
+    let least : capped c.args.most (n * 10 + d) ≡ capped c.args.most next = grind (arith, nat_tests, c.min-number.ensures) in
     record {
-      same = c.loop-byte.invariant.same ∙ limit_step n d next i c.args.digits.now c.loop-byte-test.true is least;
+      same = c.loop-byte.invariant.same ∙ limit_step c.args.most n d next i c.args.digits.now c.loop-byte-test.true is least;
       small = grind (arith, nat_tests, c.min-number.ensures);
     }

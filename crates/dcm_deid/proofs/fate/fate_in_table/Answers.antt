@@ -2,7 +2,7 @@ use Rattle.std.proofs.Common.{ap, sym, ◌∙◌, Option, Bor, option_map, Some,
 use Rattle.dcm_base.specs.Tables.Tag.{tag_number}
 use Rattle.dcm_deid.specs.Fate.{Action}
 use Rattle.dcm_deid.proofs.Rows.{Row, action_of, by_row, kept, its_own}
-use Rattle.dcm_deid.proofs.fate.fate_of_known.Goals as goal
+use Rattle.dcm_deid.proofs.fate.fate_in_table.Goals as goal
 
 abbrev given : Option (Bor Row) → Option Action
 given o = option_map action_of (option_map (λ (a : Bor Row). a.now) o)
