@@ -13,6 +13,8 @@ use std::io;
 pub enum Workload {
     /// Dumps of reports, images of many frames and slices, as one looks into them; awkward: files of empty elements and items.
     Dumps,
+    /// Full dumps of reports, images of many frames and slices, whose values are short.
+    Lines,
     /// Full dumps of pixels, fragments, lists of numbers and long texts.
     Values,
     /// Conversions between all syntaxes, and files built of dumps; awkward: an input in small pieces.
@@ -30,6 +32,7 @@ pub enum Workload {
 /// The workload of a name. Any other name stands for the first.
 pub fn workload_named(name: &[u8]) -> Workload {
     match name {
+        b"lines" => Workload::Lines,
         b"values" => Workload::Values,
         b"rewriting" => Workload::Rewriting,
         b"edits" => Workload::Edits,
@@ -154,6 +157,7 @@ impl Workload {
     fn run_round(self, alloc: Global, random: &mut Random, jobs: &mut Jobs) -> io::Result<()> {
         match self {
             Workload::Dumps => dumps(alloc, random, jobs),
+            Workload::Lines => lines(alloc, random, jobs),
             Workload::Values => values(alloc, random, jobs),
             Workload::Rewriting => rewriting(alloc, random, jobs),
             Workload::Edits => edits(alloc, random, jobs),
@@ -195,6 +199,17 @@ fn dumps(alloc: Global, random: &mut Random, jobs: &mut Jobs) -> io::Result<()> 
     }
     let file = empties(alloc, Spelling::Little, random, EMPTIES)?;
     jobs.run("dcmdump -", file.bytes())
+}
+
+fn lines(alloc: Global, random: &mut Random, jobs: &mut Jobs) -> io::Result<()> {
+    let file = report(alloc, Spelling::Little, random, SECTIONS)?;
+    jobs.run("dcmdump +L -", file.bytes())?;
+    let file = frames(alloc, Spelling::Little, random, FRAMES)?;
+    jobs.run("dcmdump +L -", file.bytes())?;
+    for file in series(alloc, random, SLICES, SLICE_PIXELS)?.as_slice() {
+        jobs.run("dcmdump +L -", file.bytes())?;
+    }
+    Ok(())
 }
 
 fn values(alloc: Global, random: &mut Random, jobs: &mut Jobs) -> io::Result<()> {
