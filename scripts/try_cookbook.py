@@ -13,6 +13,8 @@ are no blocks, and are not run.
 BINARY is crates/dcmtools/out/dcmtools if it is not given. Exits with 0 if each block does what the page says.
 """
 import csv
+import hashlib
+import hmac
 import io
 import os
 import re
@@ -360,11 +362,11 @@ def cleaned(run):
     return wrong + names_all(run, [name for name in COPIED if name not in good or not TREE[name].named], run.printed)
 
 
-def without_identity(run, content, key):
+def without_identity(run, content, key, *options):
     with tempfile.NamedTemporaryFile() as file:
         file.write(key)
         file.flush()
-        return answer(run, ["dcmdeid", "+k", file.name], content)
+        return answer(run, ["dcmdeid", "+k", file.name, *options], content)
 
 
 def identity_of_tree(run):
@@ -397,6 +399,18 @@ def identity_left(run):
 def identity_replaced(run):
     put = answer(run, ["dcmodify", "+dict", "-i", "PatientID=P001"], without_identity(run, SCAN, KEY))
     return holds(run, {b"clean.dcm": (put, 0o640), b"site.key": (KEY, None)})
+
+
+def moved_study(run):
+    moved = without_identity(run, SCAN, KEY, "+pi", "+rm", "-1234")
+    return holds(run, {b"moved.dcm": (moved, None), b"site.key": (KEY, None)})
+
+
+def patient_found(run):
+    digits = hmac.new(KEY, b"PatientID\\1234", hashlib.sha256).hexdigest().encode()
+    wrong = [] if digits in run.printed else [f"printed {run.printed!r}"]
+    written = without_identity(run, scan(b"AB^CD", b"1234"), KEY, "+pi")
+    return wrong + ([] if b"P" + digits[:20] in written else ["the pseudonym is another"]) + holds(run, {b"site.key": (KEY, None)})
 
 
 def as_text(run):
@@ -453,6 +467,8 @@ BLOCKS = [
     Block("(umask 077; [ -e site.key ]", identity_of_tree),
     Block("find out/ -type f", identity_left, with_outputs),
     Block("    part=$(mktemp clean.XXXXXX) && dcmtools dcmdeid", identity_replaced, with_key),
+    Block("dcmtools dcmdeid +k site.key +pi +rm", moved_study, with_key),
+    Block("printf 'PatientID", patient_found, with_key),
     Block("    umask 077", as_text),
     Block("    part=$(mktemp scan.XXXXXX) && dcmtools dcmdump +L scan.dcm |", built),
     Block("    part=$(mktemp large.XXXXXX) && ssh", from_elsewhere),
