@@ -49,6 +49,9 @@ NESTED_INNER = 10
 # frames with seven values in five sequences each
 FRAMES = 18_000
 
+# dates that are taken, that are kept, and that are moved
+DATES = ([], ["+rl"], ["+rm", "-1234"])
+
 # as many edits as there may be, with the two that look at each element
 PATH_EDITS = 62
 
@@ -332,7 +335,7 @@ def make_inputs(binary, folder, mebibytes, full_mebibytes):
         modify(nested, all_depths, "private"),
         modify(nested, all_depths + path_edits(), "private", f"-ma, -ep and {PATH_EDITS} of -m with paths"),
     ]
-    identities = [Work("dcmdeid", little, ["+bi"], path("little"), path("output"))]
+    identities = [Work("dcmdeid", little, ["+bi", *dates], path("little"), path("output")) for dates in DATES]
     # what is still to be written to the disk would slow what writes
     os.sync()
     return dumps, conversions, builds, modifications, identities, Work("dcmdump", "small", [], path("small"))
@@ -371,7 +374,7 @@ def make_small_elements(binary, folder):
     label = f"-ma, -m and {PATH_EDITS} of -m with paths"
     modifications = [Work("dcmodify", report, edits, path("report"), path("output"), label)]
     one_edit = [Work("dcmodify", report, ["-m", "PatientName=Mark^Bench"], path("report"), path("output"))]
-    identities = [Work("dcmdeid", frames, [], path("frames"), path("output"))]
+    identities = [Work("dcmdeid", frames, dates, path("frames"), path("output")) for dates in DATES]
     os.sync()
     return dumps, others, one_edit + modifications, identities
 

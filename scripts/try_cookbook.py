@@ -15,6 +15,8 @@ calls not tried (DuckDB, pandas, Slurm, Spark) are no blocks, and are not run.
 BINARY is crates/dcmtools/out/dcmtools if it is not given. Exits with 0 if each block does what the page says.
 """
 import csv
+import hashlib
+import hmac
 import io
 import os
 import re
@@ -392,11 +394,11 @@ def latin_name(run):
     return is_done(run) + holds(run, {b"scan.dcm": (scan(b"M\xfcller^J\xf6rg"), 0o640)})
 
 
-def without_identity(run, content, key):
+def without_identity(run, content, key, *options):
     with tempfile.NamedTemporaryFile() as file:
         file.write(key)
         file.flush()
-        return answer(run, ["dcmdeid", "+k", file.name], content)
+        return answer(run, ["dcmdeid", "+k", file.name, *options], content)
 
 
 def identity_of_tree(run):
@@ -432,6 +434,18 @@ def identity_replaced(run):
     return wrong + is_done(run) + holds(run, {b"clean.dcm": (put, 0o640), b"site.key": (None, 0o600)})
 
 
+def moved_study(run):
+    moved = without_identity(run, SCAN, KEY, "+pi", "+rm", "-1234")
+    return holds(run, {b"moved.dcm": (moved, None), b"site.key": (KEY, None)})
+
+
+def patient_found(run):
+    digits = hmac.new(KEY, b"PatientID\\1234", hashlib.sha256).hexdigest().encode()
+    wrong = [] if digits in run.printed else [f"printed {run.printed!r}"]
+    written = without_identity(run, scan(b"AB^CD", b"1234"), KEY, "+pi")
+    return wrong + ([] if b"P" + digits[:20] in written else ["the pseudonym is another"]) + holds(run, {b"site.key": (KEY, None)})
+
+
 def as_text(run):
     there = run.files.get(b"scan.txt", (b"", 0))[0]
     wrong = [] if b"(0010,0010) PN [Doe^Jane] " in there else [f"scan.txt is {there!r}"]
@@ -462,6 +476,11 @@ def with_sound_outputs(work):
     write_files(work, {path: file for path, file in OUTPUTS.items() if path == b"deidentified/deep/left.dcm"})
 
 
+def with_key(work):
+    with open(os.path.join(work, b"site.key"), "wb") as file:
+        file.write(KEY)
+
+
 class Block(NamedTuple):
     begins: str  # how a line that is the block's own begins
     check: Callable[[Run], list]
@@ -488,6 +507,8 @@ BLOCKS = [
     Block("    clean() {", identity_of_tree, folder=b"deidentified"),
     Block("        left=$(", identity_left, with_outputs, sound=with_sound_outputs),
     Block("    dcmtools dcmdeid +k site.key scan.dcm - |", identity_replaced),
+    Block("dcmtools dcmdeid +k site.key +pi +rm", moved_study, with_key, sound=with_key),
+    Block("printf 'PatientID", patient_found, with_key, needs=("openssl", "xxd"), sound=with_key),
     Block("    umask 077", as_text),
     Block("    dcmtools dcmdump +L scan.dcm |", built),
     Block("    ssh archive", from_elsewhere, needs=("ssh",)),

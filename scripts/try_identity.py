@@ -10,9 +10,15 @@ FILE, of at least six bytes, is among the bytes of OUTPUT, unless an element tha
 are there (Debian's libpixelmed-java, and a Java compiler), `scripts/PixelmedFinds.java` asks its own removal of identity what
 it would still take out, and each finding that is no replacement of ours is printed.
 
+Then again with `+pi +rm -1234`: each date of OUTPUT is the one at its place in FILE, so many days earlier, and what follows it is
+the same; where FILE has a date that can be moved, OUTPUT has one or nothing. Files of one PatientID have one pseudonym, and files
+of two have two.
+
 The last line is `N files, M written, K findings`; the status is 1 where K is not 0."""
+import datetime
 import glob
 import os
+import re
 import shutil
 import subprocess
 import sys
@@ -28,6 +34,9 @@ META = {0x0002_0001, 0x0002_0002, 0x0002_0010, 0x0002_0012, 0x0002_0013}
 PUT = {0x0012_0062, 0x0012_0063, 0x0012_0064, 0x0028_0303}
 REPLACED = {"ANONYMIZED", "000Y", "19000101", "000000", "19000101000000", "0", "2.25.0"}
 SHORTEST = 6
+DAYS = -1234
+DATE = re.compile(r"\d{8}")
+PATIENT_ID = 0x0010_0020
 
 
 def fates():
@@ -106,6 +115,63 @@ def judged(source, output, table):
     return found
 
 
+def placed(data_set, place=()):
+    """All elements, at every depth, by their places."""
+    for element in data_set:
+        here = (*place, int(element.tag))
+        yield here, element
+        if element.VR == "SQ":
+            for index, item in enumerate(element.value):
+                yield from placed(item, (*here, index))
+
+
+def parts(element):
+    """The parts of a value, as texts."""
+    value = element.value
+    if value is None or value == "":
+        return []
+    values = value if isinstance(value, (list, pydicom.multival.MultiValue)) else [value]
+    return [str(one).strip(" \0") for one in values]
+
+
+def moved(part):
+    """A part whose date is moved, or nothing where that cannot be."""
+    try:
+        if not DATE.match(part):
+            return ""
+        day = datetime.date(int(part[:4]), int(part[4:6]), int(part[6:8])) + datetime.timedelta(DAYS)
+        return f"{day.year:04}{day.month:02}{day.day:02}{part[8:]}"
+    except (ValueError, OverflowError):
+        return ""
+
+
+def wrong_dates(source, output):
+    """What is wrong with the dates of an output, and how many are right."""
+    before, after = (dict(placed(pydicom.dcmread(path, force=True))) for path in (source, output))
+    found, right = [], 0
+    for place, element in after.items():
+        if element.VR not in ("DA", "DT") or not parts(element):
+            continue
+        wanted = [moved(part) if part else "" for part in parts(before[place])]
+        if parts(element) == wanted:
+            right += len(wanted)
+        else:
+            found.append((str(element.tag), f"is {parts(element)}, of {parts(before[place])}"))
+    return found, right
+
+
+def patient(path):
+    """The PatientID of a file as its bytes, without pads."""
+    element = pydicom.dcmread(path, force=True, stop_before_pixels=True).get_item(PATIENT_ID)
+    return (element.value or b"").strip(b" ").rstrip(b"\0 ") if element is not None else b""
+
+
+def wrong_pseudonyms(pairs):
+    """Of pairs of PatientIDs: those that are two where they should be one, or one where they should be two."""
+    some = {pair for pair in pairs if pair[0]}
+    return [pair for pair in some if sum(pair[0] == other[0] or pair[1] == other[1] for other in some) > 1]
+
+
 def sources(folders):
     for folder in folders:
         for path in sorted(Path(folder).rglob("*")):
@@ -141,6 +207,7 @@ def main():
     with tempfile.TemporaryDirectory() as folder:
         key = os.path.join(folder, "key")
         Path(key).write_bytes(os.urandom(32))
+        shifted, dates, named = os.path.join(folder, "moved"), 0, set()
         for source in sources(folders):
             count += 1
             output = os.path.join(folder, f"{count}.dcm")
@@ -152,6 +219,22 @@ def main():
             for tag, why in judged(source, output, table):
                 found += 1
                 print(f"{source}: {tag}: {why}")
+            run = subprocess.run([binary, "dcmdeid", "+bi", "+k", key, "+pi", "+rm", str(DAYS), str(source), shifted], capture_output=True)
+            if run.returncode:
+                found += 1
+                print(f"status {run.returncode}: {source}: {run.stderr.decode(errors='replace').strip()}")
+                continue
+            wrong, right = wrong_dates(source, shifted)
+            dates += right
+            for tag, why in wrong:
+                found += 1
+                print(f"{source}: {tag}: {why}")
+            named.add((patient(source), patient(shifted)))
+            os.remove(shifted)
+        for pair in wrong_pseudonyms(named):
+            found += 1
+            print("pseudonym:", *pair)
+        print(f"{dates} dates are moved, {len(named)} patients named")
         for finding in pixelmed_findings(folder, written):
             found += 1
             print("PixelMed:", *finding)

@@ -1,14 +1,19 @@
 -- The forms of values that are made anew, and dates that do not stay.
 use Rattle.std.proofs.Common.{◌≡◌, ◌≢◌, ℕ, ℤ, List, [], ◌∷◌, Bool, true, false, refl, sym, ap, ◌∙◌, inl, inr, subst, ◌⊎◌}
-use Rattle.std.specs.Prelude.{not, ◌==◌, ◌&&◌, ◌||◌, if◌then◌else◌}
-use Rattle.std.specs.List.{AllZip, AllByRecursion, find}
+use Rattle.std.specs.Prelude.{not, ◌==◌, ◌&&◌, ◌||◌, if◌then◌else◌, find, Option, Some, None}
+use Rattle.std.specs.List.{AllZip, AllByRecursion, list_all}
+use Rattle.std.specs.Option.{option_map_or}
+use Rattle.std.proofs.lemmas.Bool.{eqb-true}
+use mathlib.Core.Bool.{false≢true}
 use Rattle.dcm_base.specs.declared.tag.Tag.{Tag}
 use Rattle.dcm_base.specs.declared.vr.Vr.{Vr}
-use Rattle.dcm_base.specs.declared.vr.Vr.TheVariants.{DA, DT}
+use Rattle.dcm_base.specs.declared.vr.Vr.TheVariants.{DA, DT, LO, UL, UN}
 use Rattle.dcm_base.specs.declared.dictionary.Dictionary.TheVariants.{Standard}
 use Rattle.dcm_base.specs.Tables.Tag.{is_tag, tag_number}
 use Rattle.dcm_base.specs.Tables.Representation.{is_sequence}
 use Rattle.dcm_base.specs.Tables.Dictionary.{vr_in}
+use Rattle.dcm_base.specs.Tables.Dictionary as D
+use Rattle.dcm_base.proofs.Dictionaries.ByNumber.{rest_passes}
 use Rattle.dcm_dates.specs.declared.moving.DateKind.{DateKind}
 use Rattle.dcm_dates.specs.declared.moving.DateKind.TheVariants.{Da, Dt}
 use Rattle.dcm_dates.specs.Moved.{may_follow, moved, parts_of}
@@ -23,10 +28,12 @@ use Rattle.dcm_deid.specs.declared.fate.Fate.TheVariants.{Remove, Empty, Replace
 use Rattle.dcm_deid.specs.declared.fate.NewValue.{NewValue}
 use Rattle.dcm_deid.specs.declared.fate.NewValue.TheVariants.{Uid, Pseudonym, MovedDate, MovedDateTime}
 use Rattle.dcm_deid.specs.declared.fate.Options.{Options}
+use Rattle.dcm_deid.specs.declared.fate.Retain.{Retain}
+use Rattle.dcm_deid.specs.declared.fate.Retain.TheVariants.{Uids, Device, Institution, Patient, Dates}
 use Rattle.dcm_deid.specs.declared.fate.Depth.{Depth}
 use Rattle.dcm_deid.specs.declared.fate.ReadAs.{ReadAs}
 use Rattle.dcm_deid.specs.declared.fate.ReadAs.TheVariants.{AsBytes, AsItems}
-use Rattle.dcm_deid.specs.Fate.{are_modified, fate, fate_as, fate_in_table, is_known, is_put_at, moved_if, actions, Action}
+use Rattle.dcm_deid.specs.Fate.{Action, actions, are_full, are_left, are_modified, fate, fate_as, fate_in_table, fate_of_known, fate_of_vr, is_given, is_kept, is_known, is_put_at, keeps, moved_if}
 use Rattle.dcm_deid.specs.MadeNew.{days_of, left_of, made_new}
 use Rattle.dcm_deid.specs.MadeForms.{AreDated, HasForm, IsDated, IsDateVr}
 
@@ -73,7 +80,106 @@ made_form options key Pseudonym b = pseudonym_form key (patient_of b)
 made_form options key MovedDate b = moved_form Da (days_of options.dates) b
 made_form options key MovedDateTime b = moved_form Dt (days_of options.dates) b
 
--- ---- dates do not stay where they are moved
+-- ---- dates do not stay
+
+abbrev is_date_vr : Vr → Bool
+is_date_vr DA = true
+is_date_vr DT = true
+is_date_vr _ = false
+
+-- the representation that a number has in the dictionary
+abbrev vr_numbered : ℕ → Vr
+vr_numbered n = option_map_or (λ e. e.0) (D.numbered (D.elements_in Standard) n) (option_map_or (λ e. e.0) (D.numbered D.ambiguous n) UN)
+
+abbrev is_of_dates : Retain → Bool
+is_of_dates Dates = true
+is_of_dates _ = false
+
+-- a row that keeps nothing but by the options of dates
+abbrev keeps_by_dates : Action → Bool
+keeps_by_dates a = not (is_kept a.1) && list_all is_of_dates a.2
+
+abbrev date_goes : Action → Bool
+date_goes a = keeps_by_dates a || not (is_date_vr (vr_numbered a.0))
+
+dates_go : list_all date_goes actions ≡ true
+unfolding actions D.elements_in D.entries D.ambiguous
+dates_go = refl
+
+first_passes : (a b : Bool) → a && b ≡ true → a ≡ true
+first_passes true b p = refl
+first_passes false b p = p
+
+or_false : (a b : Bool) → a ≡ false → b ≡ false → a || b ≡ false
+or_false true b e f = e
+or_false false b e f = f
+
+goes_or : (g d : Bool) → g || not d ≡ true → d ≡ true → g ≡ true
+goes_or true d p q = refl
+goes_or false true p q = p
+goes_or false false p q = q
+
+-- a tag of dates has its representation by its number
+by_number : (tag : Tag) → IsDateVr (vr_in Standard tag) → is_date_vr (vr_numbered (tag_number tag)) ≡ true
+unfolding D.vr_in D.element_in
+by_number tag date = by_entry (D.numbered (D.elements_in Standard) (tag_number tag)) (D.numbered D.ambiguous (tag_number tag)) (said (vr_in Standard tag) date)
+  where
+    said : (vr : Vr) → IsDateVr vr → is_date_vr vr ≡ true
+    said vr (inl e) = ap is_date_vr e
+    said vr (inr e) = ap is_date_vr e
+
+    unlisted : (b c : Bool) → is_date_vr (if b then UL else if c then LO else UN) ≡ false
+    unlisted true c = refl
+    unlisted false true = refl
+    unlisted false false = refl
+
+    by_entry : (e f : Option (Vr × List ℕ)) → is_date_vr (option_map_or (λ e. e.0) e (option_map_or (λ e. e.0) f (D.unlisted_vr tag))) ≡ true
+        → is_date_vr (option_map_or (λ e. e.0) e (option_map_or (λ e. e.0) f UN)) ≡ true
+    by_entry (Some e) f d = d
+    by_entry None (Some f) d = d
+    by_entry None None d = absurd (false≢true (sym (unlisted (D.is_group_length tag) (D.is_private_creator tag)) ∙ d))
+
+-- what the table takes where no dates are left
+module _ (options : Options) (taken : are_left options.dates ≡ false) where
+  none_kept : (retains : List Retain) → list_all is_of_dates retains ≡ true → keeps options retains ≡ false
+  none_kept [] all = refl
+  none_kept (Dates ∷ rest) all = or_false (is_given options Dates) (keeps options rest) taken (none_kept rest all)
+  none_kept (Uids ∷ rest) all = absurd (false≢true all)
+  none_kept (Device ∷ rest) all = absurd (false≢true all)
+  none_kept (Institution ∷ rest) all = absurd (false≢true all)
+  none_kept (Patient ∷ rest) all = absurd (false≢true all)
+
+  not_kept : (f : Fate) → not (is_kept f) ≡ true → f ≢ Keep
+  not_kept Remove e = λ k. cc
+  not_kept Empty e = λ k. cc
+  not_kept Replace e = λ k. cc
+  not_kept (Anew made) e = λ k. cc
+  not_kept Keep e = absurd (false≢true e)
+
+  unless_kept : (b : Bool) (f : Fate) → b ≡ false → f ≢ Keep → (if b then Keep else f) ≢ Keep
+  unless_kept true f e h = absurd (false≢true (sym e))
+  unless_kept false f e h = h
+
+  some_goes : (row : Action) → keeps_by_dates row ≡ true → (if keeps options row.2 then Keep else row.1) ≢ Keep
+  some_goes row goes =
+      unless_kept (keeps options row.2) row.1 (none_kept row.2 (rest_passes (not (is_kept row.1)) (list_all is_of_dates row.2) goes))
+      (not_kept row.1 (first_passes (not (is_kept row.1)) (list_all is_of_dates row.2) goes))
+
+  none_goes : (vr : Vr) → IsDateVr vr → fate_of_vr options vr ≢ Keep
+  none_goes vr (inl e) = subst (λ (v : Vr). fate_of_vr options v ≢ Keep) (sym e) (unless_kept (are_left options.dates) Empty taken (λ k. cc))
+  none_goes vr (inr e) = subst (λ (v : Vr). fate_of_vr options v ≢ Keep) (sym e) (unless_kept (are_left options.dates) Empty taken (λ k. cc))
+
+  module _ (n : ℕ) (vr : Vr) (date : IsDateVr vr) (dated : is_date_vr (vr_numbered n) ≡ true) where
+    table_goes : (rows : List Action) → list_all date_goes rows ≡ true → fate_in_table options (find (λ (a : Action). a.0 == n) rows) vr ≢ Keep
+    table_goes [] all = none_goes vr date
+    table_goes (row ∷ rows) all = by_test (table_goes rows (rest_passes (date_goes row) (list_all date_goes rows) all)) (row.0 == n) refl
+      where
+        by_test : fate_in_table options (find (λ (a : Action). a.0 == n) rows) vr ≢ Keep → (b : Bool) → (row.0 == n) ≡ b
+            → fate_in_table options (if b then Some row else find (λ (a : Action). a.0 == n) rows) vr ≢ Keep
+        by_test rest true same =
+            some_goes row (goes_or (keeps_by_dates row) (is_date_vr (vr_numbered row.0)) (first_passes (date_goes row) (list_all date_goes rows) all)
+            (ap (λ (m : ℕ). is_date_vr (vr_numbered m)) (eqb-true row.0 n same) ∙ dated))
+        by_test rest false same = rest
 
 no_date : (vr : Vr) (f : Fate) → IsDateVr vr → moved_if true vr f ≢ Keep
 no_date vr f (inl e) = subst (λ (v : Vr). moved_if true v f ≢ Keep) (sym e) (by_fate f)
@@ -93,6 +199,13 @@ no_date vr f (inr e) = subst (λ (v : Vr). moved_if true v f ≢ Keep) (sym e) (
     by_fate (Anew made) = λ k. cc
     by_fate Keep = λ k. cc
 
+unmoved : (vr : Vr) (f : Fate) → f ≢ Keep → moved_if false vr f ≢ Keep
+unmoved vr Remove h = h
+unmoved vr Empty h = h
+unmoved vr Replace h = h
+unmoved vr (Anew made) h = h
+unmoved vr Keep h = absurd (h refl)
+
 or_named : (b : Bool) (f : Fate) → f ≢ Keep → (if b then Anew Pseudonym else f) ≢ Keep
 or_named true f h = λ k. cc
 or_named false f h = h
@@ -101,19 +214,20 @@ or_removed : (b : Bool) (f : Fate) → f ≢ Keep → (if b then Remove else f) 
 or_removed true f h = λ k. cc
 or_removed false f h = h
 
-no_known_date : (options : Options) (tag : Tag) (vr : Vr) (f : Fate) → are_modified options.dates ≡ true → IsDateVr vr
-    → (if is_tag 0x0010 0x0020 tag && options.pseudonyms then Anew Pseudonym else moved_if (are_modified options.dates) vr f) ≢ Keep
-no_known_date options tag vr f moved date =
-    or_named (is_tag 0x0010 0x0020 tag && options.pseudonyms) (moved_if (are_modified options.dates) vr f)
-    (subst (λ (b : Bool). moved_if b vr f ≢ Keep) (sym moved) (no_date vr f date))
+no_known_date : (options : Options) (tag : Tag) → are_full options.dates ≡ false → IsDateVr (vr_in Standard tag) → fate_of_known options tag ≢ Keep
+no_known_date options tag full date = or_named (is_tag 0x0010 0x0020 tag && options.pseudonyms) _ (by_moved (are_modified options.dates) refl)
+  where
+    by_moved : (b : Bool) → are_modified options.dates ≡ b → moved_if b (vr_in Standard tag) (fate_in_table options (find (λ (a : Action). a.0 == tag_number tag) actions) (vr_in Standard tag)) ≢ Keep
+    by_moved true e = no_date (vr_in Standard tag) (fate_in_table options (find (λ (a : Action). a.0 == tag_number tag) actions) (vr_in Standard tag)) date
+    by_moved false e =
+        unmoved (vr_in Standard tag) (fate_in_table options (find (λ (a : Action). a.0 == tag_number tag) actions) (vr_in Standard tag))
+        (table_goes options (or_false (are_full options.dates) (are_modified options.dates) full e) (tag_number tag) (vr_in Standard tag) date (by_number tag date) actions dates_go)
 
-no_date_here : (options : Options) (depth : Depth) (tag : Tag) → are_modified options.dates ≡ true → IsDateVr (vr_in Standard tag)
-    → fate options depth tag ≢ Keep
-no_date_here options depth tag moved date =
-    or_removed (is_put_at options depth tag || not (is_known tag)) _ (no_known_date options tag (vr_in Standard tag) (fate_in_table options (find (λ (a : Action). a.0 == tag_number tag) actions) (vr_in Standard tag)) moved date)
+no_date_here : (options : Options) (depth : Depth) (tag : Tag) → are_full options.dates ≡ false → IsDateVr (vr_in Standard tag) → fate options depth tag ≢ Keep
+no_date_here options depth tag full date = or_removed (is_put_at options depth tag || not (is_known tag)) (fate_of_known options tag) (no_known_date options tag full date)
 
-pub no_date_stays : (options : Options) (depth : Depth) (read : ReadAs) (tag : Tag) → are_modified options.dates ≡ true → IsDateVr (vr_in Standard tag)
+pub no_date_stays : (options : Options) (depth : Depth) (read : ReadAs) (tag : Tag) → are_full options.dates ≡ false → IsDateVr (vr_in Standard tag)
     → fate_as options depth read tag ≢ Keep
 unfolding fate_as
-no_date_stays options depth AsItems tag moved date = no_date_here options depth tag moved date
-no_date_stays options depth AsBytes tag moved date = or_removed (is_sequence (vr_in Standard tag)) (fate options depth tag) (no_date_here options depth tag moved date)
+no_date_stays options depth AsItems tag full date = no_date_here options depth tag full date
+no_date_stays options depth AsBytes tag full date = or_removed (is_sequence (vr_in Standard tag)) (fate options depth tag) (no_date_here options depth tag full date)

@@ -11,7 +11,7 @@ ghost use Rattle.dcm_deid.specs.declared.fate.Depth.{Depth};
 ghost use Rattle.dcm_deid.specs.declared.fate.Depth.TheVariants.{Outermost};
 ghost use Rattle.dcm_deid.specs.declared.fate.ReadAs.{ReadAs};
 ghost use Rattle.dcm_deid.specs.declared.fate.ReadAs.TheVariants.{AsBytes};
-ghost use Rattle.dcm_deid.specs.Fate.{are_modified, fate_as, is_known};
+ghost use Rattle.dcm_deid.specs.Fate.{are_full, fate_as, is_known};
 ghost use Rattle.dcm_deid.specs.Deidentify.{Renaming, deidentified_set};
 ghost use Rattle.dcm_deid.specs.MadeNew.{left_of, made_new};
 ghost use Rattle.dcm_deid.specs.MadeForms.{HasForm, IsDateVr};
@@ -105,9 +105,9 @@ pub fn made_values_have_form()
     ensures { (options : Options) (key : List ℕ) (made : NewValue) (b : List ℕ) → HasForm made (made_new options key made b) }
 {}
 
-/// Where dates are moved, no element of dates stays as it is, at any depth.
+/// Unless full dates are kept, no element of dates stays as it is, at any depth.
 pub fn no_date_stays()
-    ensures { (options : Options) (depth : Depth) (read : ReadAs) (tag : Tag) → are_modified options.dates ≡ true
+    ensures { (options : Options) (depth : Depth) (read : ReadAs) (tag : Tag) → are_full options.dates ≡ false
         → IsDateVr (vr_in Standard tag) → fate_as options depth read tag ≢ Keep }
 {}
 

@@ -6,8 +6,8 @@ mod nested;
 mod rebuilt;
 
 use dcm_test_runs::{
-    buildings, conversions, dictionaries, expect_rows, identities, identity_faults, identity_put,
-    modifications, signs, unknown,
+    buildings, conversions, dictionaries, expect_rows, identities, identity_faults, identity_moved,
+    identity_named, identity_put, modifications, signs, unknown,
 };
 use std::test::Fail;
 
@@ -50,6 +50,12 @@ fn reads_unknown_sequences(rt: HostRuntime) -> Result<(), Fail> {
 fn takes_identity_out(rt: HostRuntime) -> Result<(), Fail> {
     expect_rows(rt.alloc(), &identities())?;
     expect_rows(rt.alloc(), &identity_put())
+}
+
+#[test]
+fn moves_dates_and_gives_pseudonyms(rt: HostRuntime) -> Result<(), Fail> {
+    expect_rows(rt.alloc(), &identity_moved())?;
+    expect_rows(rt.alloc(), &identity_named())
 }
 
 #[test]

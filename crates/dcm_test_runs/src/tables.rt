@@ -5,6 +5,8 @@ pub mod dictionaries;
 pub mod dumps;
 pub mod identities;
 pub mod identity_faults;
+pub mod identity_moved;
+pub mod identity_named;
 pub mod identity_put;
 pub mod modifications;
 pub mod signs;
