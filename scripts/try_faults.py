@@ -11,7 +11,9 @@ begin so. Needs strace (apt-get install strace) and setarch. Exits with 0 if not
 - The status is 0 to 5, there is no signal and no hang, and at most one line of docs/users/PROFILE.md on standard error, of that status.
 - With the status of the run without a fault, all is as there. Else the status is 4 or 5, OUTPUT is missing, a beginning of what it
   would be, or what it was before, and standard output is a beginning. Nothing is written after a write that failed.
-- Of dcmdeid OUTPUT is the whole new file or what it was before, and OUTPUT.part is gone, unless it could not be removed.
+- Of dcmdeid OUTPUT is the whole new file or what it was before, and OUTPUT.part is gone, unless it could not be removed. An older
+  OUTPUT has the mode that it had. Where that cannot be asked, or given to OUTPUT.part, the line is `output failed`, with status 4, and
+  OUTPUT is what it was before.
 - Of dcm2csv the status is the greatest that a line has, or 0 without a line. Each name has its row and its lines as without the fault,
   or one line of a device and no row; names that a list has lost have neither. Where the output failed, standard output is a
   beginning of the table. Where a call of one file or list fails once, nothing else is lost, and this is, unless the call may be
@@ -55,6 +57,7 @@ ERRORS = {
     "mremap": ["ENOMEM"],
     "close": ["EIO", "ENOSPC", "EDQUOT", "EINTR"],
     "rename": ["EACCES", "EXDEV", "ENOSPC", "EIO", "EINTR", "EROFS"],
+    "chmod": ["EPERM", "EACCES", "EIO", "EINTR", "EROFS", "ENOENT", "ENOMEM"],
     "unlink": ["EACCES", "EIO", "EROFS"],
     "munmap": ["EINVAL"],
     "getrandom": ["ENOSYS", "EAGAIN", "EINTR"],
@@ -90,6 +93,7 @@ OUTPUT_FAILED = b"dcmtools: output failed\n"
 SHOWN = 5
 
 OLDER = b"an older file, which is longer than it seems\n" * 40
+OLDER_MODE = 0o600
 PIXELS = 700 * 1024
 
 
@@ -126,7 +130,7 @@ class Fault(NamedTuple):
 
 
 class Ended(NamedTuple):
-    """How a run ended: the status, the streams, what the input, OUTPUT and OUTPUT.part hold, and the lines of strace."""
+    """How a run ended: the status, the streams, what the input, OUTPUT and OUTPUT.part hold, OUTPUT's mode, and the lines of strace."""
 
     status: object
     stdout: bytes
@@ -134,6 +138,7 @@ class Ended(NamedTuple):
     input: bytes
     output: object
     part: object
+    mode: object
     lines: list
 
 
@@ -275,6 +280,10 @@ def content_of(path):
     return path.read_bytes() if path.exists() else None
 
 
+def mode_of(path):
+    return path.stat().st_mode & 0o777 if path.exists() else None
+
+
 def traced(binary, room, run, injected=()):
     """Runs it in a folder of its own, with these faults."""
     folder = Path(tempfile.mkdtemp(dir=room))
@@ -286,6 +295,7 @@ def traced(binary, room, run, injected=()):
         (folder / name).write_bytes(content)
     if run.has_older:
         paths["out"].write_bytes(OLDER)
+        paths["out"].chmod(OLDER_MODE)
     words = [word.format(**paths) if word.startswith("{") else word for word in run.words]
     strace = ["setarch", "-R", "strace", "-o", paths["log"], "-s", "0"]
     faults = [word for fault in injected for word in ("-e", f"inject={fault}")]
@@ -306,7 +316,7 @@ def traced(binary, room, run, injected=()):
         status, stdout, stderr = "hang", b"", b""
     log = paths["log"].read_text(errors="replace").splitlines()
     contents = [content_of(path) for path in (paths["in"], paths["out"], folder / "out.part")]
-    ended = Ended(status, stdout, stderr, *contents, log)
+    ended = Ended(status, stdout, stderr, *contents, mode_of(paths["out"]), log)
     shutil.rmtree(folder)
     return ended
 
@@ -406,6 +416,10 @@ def wrong_part(run, base, ended):
     return "OUTPUT.part is left" if ended.part is not None and not is_kept else ""
 
 
+def wrong_mode(run, base, ended):
+    return f"OUTPUT has the mode {ended.mode:o}" if run.has_older and ended.mode not in (OLDER_MODE, None) else ""
+
+
 def wrong_input(run, base, ended):
     return "" if ended.input == run.data else "FILE is changed"
 
@@ -488,6 +502,13 @@ def wrong_making(run, base, ended, fault):
     if fault.error == "EINTR" and is_as_without(base, ended):
         return ""
     return wrong_refusal(run, ended, PART_IS_THERE if fault.error == "EEXIST" else b"output cannot be opened|out of memory")
+
+
+def wrong_giving(run, base, ended, fault):
+    """Of giving OUTPUT.part the mode of an older OUTPUT."""
+    if fault.call.name != "chmod" or fault.error == "EINTR" and is_as_without(base, ended):
+        return ""
+    return wrong_refusal(run, ended, b"output failed")
 
 
 def wrong_memory(run, base, ended, fault):
@@ -637,8 +658,8 @@ def wrong_loss(run, base, ended, fault):
     return "" if ended.stderr == NO_MEMORY else f"{sorted(lost)} are lost, and not {sorted(due)}"
 
 
-ALWAYS = (wrong_status, wrong_line, wrong_output, wrong_part, wrong_input, wrong_writes, wrong_numbers)
-OF_CALLS = (wrong_question, wrong_reservation, wrong_making, wrong_memory)
+ALWAYS = (wrong_status, wrong_line, wrong_output, wrong_part, wrong_mode, wrong_input, wrong_writes, wrong_numbers)
+OF_CALLS = (wrong_question, wrong_reservation, wrong_making, wrong_giving, wrong_memory)
 
 ALWAYS_OF_TABLES = (wrong_status, wrong_table, wrong_input, wrong_writes, wrong_numbers)
 OF_CALLS_OF_TABLES = (wrong_loss, wrong_reservation, wrong_memory)
@@ -664,7 +685,7 @@ def wrong_base(run, base):
         return f"standard error {base.stderr!r}"
     if run in SAME and base.stderr != b"dcmtools: output is the input\n":
         return f"standard error {base.stderr!r}"
-    return wrong_input(run, base, base) or wrong_numbers(run, base, base)
+    return wrong_input(run, base, base) or wrong_mode(run, base, base) or wrong_numbers(run, base, base)
 
 
 def try_run(binary, room, run, jobs):

@@ -1,5 +1,6 @@
 mod cases;
 mod cuts;
+mod ends;
 mod failing;
 mod opening;
 mod rooms;

@@ -22,6 +22,8 @@ pub data Call : Type 0 where
   looked : List ℕ → Result (Option FileKind) Error → Call
   -- a path that is written, and at which nothing was
   made : List ℕ → Result FileKind Error → Call
+  -- a file that got the mode of the regular file at another path, where one was there
+  kept_mode : (from to : List ℕ) → Result (Unit {0}) Error → Call
   -- a file that was moved from a path to another one
   moved : (from to : List ℕ) → Result (Unit {0}) Error → Call
   removed : List ℕ → Result (Unit {0}) Error → Call

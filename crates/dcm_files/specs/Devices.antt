@@ -33,6 +33,8 @@ pub record MayDo (S I O : Type 0) : Type 1 where
   pub looks : S → List ℕ → Result (Option FileKind) Error → S → Type 0
   -- of a path that is written, and at which nothing was
   pub makes : S → List ℕ → Result (Opened O) Error → S → Type 0
+  -- the mode of the regular file at a path, where one is there, goes to the file at another one
+  pub keeps : S → (from to : List ℕ) → Result (Unit {0}) Error → S → Type 0
   -- from a path to another one
   pub moves : S → (from to : List ℕ) → Result (Unit {0}) Error → S → Type 0
   pub removes : S → List ℕ → Result (Unit {0}) Error → S → Type 0
@@ -50,6 +52,7 @@ anything = record {
   creates = λ before path r after. Unit {0};
   looks = λ before path r after. Unit {0};
   makes = λ before path r after. Unit {0};
+  keeps = λ before from to r after. Unit {0};
   moves = λ before from to r after. Unit {0};
   removes = λ before path r after. Unit {0};
   closes = λ before d after. Unit {0};

@@ -3,7 +3,7 @@ use Rattle.std.specs.Prelude.{◌≡◌, ◌++◌, ◌∷◌, [], List, false, I
 use Rattle.dcm_devices.specs.declared.std_device.Std.{Std}
 use Rattle.dcm_files.specs.Call.{Call, gave_words, gave_input, opened, released, gave_output, created, looked, made}
 use Rattle.dcm_files.specs.Call.{moved, removed, closed, kind_in, opened_folder, named, closed_folder, found, made_folder}
-use Rattle.dcm_files.specs.Call.{made_as, linked, whether}
+use Rattle.dcm_files.specs.Call.{made_as, linked, whether, kept_mode}
 use Rattle.dcm_files.specs.Devices.{MayDo}
 use Rattle.dcm_files.specs.Folders.{FoldersDo}
 
@@ -30,6 +30,7 @@ noted calls = record {
   looks = λ before path r after. Adds (looked path r) (calls before) (calls after);
   makes = λ before path r after.
       Adds (made path (kind_in r)) (calls before) (calls after) × IfOk r (λ d. IsNew d.device);
+  keeps = λ before from to r after. Adds (kept_mode from to r) (calls before) (calls after);
   moves = λ before from to r after. Adds (moved from to r) (calls before) (calls after);
   removes = λ before path r after. Adds (removed path r) (calls before) (calls after);
   closes = λ before d after. Adds (closed d.passed.bytes d.failed) (calls before) (calls after);

@@ -50,7 +50,7 @@ abbrev pub MakesFile : MemSystem → Option MemFile → Result (Opened Measured)
 MakesFile before None r after = GivesRoom before.room (Regular 1 0 0) r × (after ≡ record before { room = None })
 MakesFile before (Some f) r after = IsErrAnd r (λ e. error_kind e ≡ AlreadyExists) × (after ≡ before)
 
--- what its calls do. A file that is moved is still the one that was written, and one that is removed is not
+-- what its calls do. Each file has one mode, which is kept. A file that is moved is still the one that was written, and one that is removed is not
 abbrev pub may_do : MayDo MemSystem MemIn Measured
 may_do = record {
   words = λ before r after. (r ≡ None) × (after ≡ before);
@@ -62,6 +62,7 @@ may_do = record {
       × (after ≡ record before { room = None });
   looks = λ before path r after. (r ≡ Ok (option_map kind_of (file_named before.files.now path))) × (after ≡ before);
   makes = λ before path r after. MakesFile before (file_named before.files.now path) r after;
+  keeps = λ before from to r after. (r ≡ Ok _) × (after ≡ before);
   moves = λ before from to r after. (r ≡ Ok _) × (after ≡ before);
   removes = λ before path r after. (r ≡ Ok _) × (after ≡ record before { written = None });
   closes = λ before d after. after ≡ record before { written = Some d.out };

@@ -138,11 +138,14 @@ pub data RemovesPart {S I O : Type 0} (may : MayDo S I O) (output : List ℕ) (b
   no_path : (e : Error) → BadPath output e → r ≡ Err e → after ≡ before → RemovesPart may output before r after
   removed : may.removes before (part_of output) r after → RemovesPart may output before r after
 
--- a part is moved to its name
+-- a part gets the mode of the file that it replaces, where one is there, and is then moved to its name
 pub data MovesPart {S I O : Type 0} (may : MayDo S I O) (output : List ℕ) (before : S)
     (r : Result (Unit {0}) Error) (after : S) : Type 0 where
   no_path : (e : Error) → BadPath output e → r ≡ Err e → after ≡ before → MovesPart may output before r after
-  moved : may.moves before (part_of output) output r after → MovesPart may output before r after
+  not_kept : (e : Error) → may.keeps before output (part_of output) (Err e) after → r ≡ Err e
+      → MovesPart may output before r after
+  moved : (has_mode : S) → may.keeps before output (part_of output) (Ok _) has_mode
+      → may.moves has_mode (part_of output) output r after → MovesPart may output before r after
 
 -- a stream is left as it is; a part that is not whole is removed; one that is whole is moved to its name, and removed
 -- where that fails

@@ -58,6 +58,11 @@ pub trait System {
     fn create_new(&mut self, path: &str) -> io::Result<Opened<Self::Output>>
         ensures { may_do.makes self.old path.now result self.new };
 
+    /// Gives the file at the second path the mode of the regular file at the first one. Where none is there, nothing is
+    /// done.
+    fn keep_mode(&mut self, from: &str, to: &str) -> io::Result<()>
+        ensures { may_do.keeps self.old from.now to.now result self.new };
+
     /// Moves a file to another path, in place of the file that is there.
     fn rename(&mut self, from: &str, to: &str) -> io::Result<()>
         ensures { may_do.moves self.old from.now to.now result self.new };

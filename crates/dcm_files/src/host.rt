@@ -6,6 +6,7 @@ use crate::calls::Calls;
 use crate::devices::System;
 use crate::folders::{EntryName, Folders, Found, FoundKind, Links};
 use crate::host_folder::HostFolder;
+use crate::modes::{USUAL_MODE, give_mode, mode_of};
 use crate::opened::{FileKind, Opened};
 use crate::output::OutputFile;
 use dcm_devices::{Device, Std};
@@ -199,12 +200,6 @@ fn create_new_as(rt: HostRuntime, path: &str, mode: u32) -> io::Result<Opened<Ho
     }
 }
 
-/// The bits of a new file's mode where nothing else is said; the process leaves out those of its umask.
-const USUAL_MODE: u32 = 0o666;
-
-/// The bits of a mode that say who may read, write and run a file.
-const MODE_BITS: u32 = 0o777;
-
 /// What is at a path, by what the system says of it.
 fn found_of(file: &Metadata) -> Found {
     let kind = if file.is_dir() {
@@ -218,7 +213,7 @@ fn found_of(file: &Metadata) -> Found {
         kind,
         device: file.dev(),
         number: file.ino(),
-        mode: file.mode() & MODE_BITS,
+        mode: mode_of(file),
     }
 }
 
@@ -316,6 +311,12 @@ impl System for Host {
         let opened = create_new_as(self.rt, path, USUAL_MODE);
         self.calls.note(path.as_bytes(), &opened);
         opened
+    }
+
+    fn keep_mode(&mut self, from: &str, to: &str) -> io::Result<()> {
+        let kept = give_mode(self.rt, from, to);
+        self.calls.note(from.as_bytes(), &(to.as_bytes(), &kept));
+        kept
     }
 
     fn rename(&mut self, from: &str, to: &str) -> io::Result<()> {

@@ -27,6 +27,7 @@ mod folders;
 mod host;
 mod host_folder;
 mod memory;
+mod modes;
 mod opened;
 mod output;
 mod part;

@@ -182,6 +182,10 @@ impl<'a> System for MemSystem<'a> {
         }
     }
 
+    fn keep_mode(&mut self, _from: &str, _to: &str) -> io::Result<()> {
+        Ok(())
+    }
+
     fn rename(&mut self, _from: &str, _to: &str) -> io::Result<()> {
         Ok(())
     }

@@ -176,12 +176,15 @@ pub fn open_whole_devices<S: System>(
     }
 }
 
-/// Moves a part to its name.
+/// Gives a part the mode of the file that it replaces, and moves it to its name.
 fn move_part<S: System>(system: &mut S, output: &[u8]) -> io::Result<()>
     ensures { spec.MovesPart S.may_do output.now system.old result system.new }
 {
     let part = part_of(output)?;
-    system.rename(path(part.as_slice())?, path(output)?)
+    let part = path(part.as_slice())?;
+    let output = path(output)?;
+    system.keep_mode(output, part)?;
+    system.rename(part, output)
 }
 
 /// Removes a part.

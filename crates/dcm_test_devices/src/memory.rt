@@ -305,6 +305,10 @@ impl<'a> System for Memory<'a> {
         self.output()
     }
 
+    fn keep_mode(&mut self, _from: &str, _to: &str) -> io::Result<()> {
+        Ok(())
+    }
+
     fn rename(&mut self, _from: &str, _to: &str) -> io::Result<()> {
         Ok(())
     }

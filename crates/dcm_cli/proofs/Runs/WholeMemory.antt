@@ -330,11 +330,13 @@ module _ (output : List ℕ) (had after : MemSystem) (path : output ≢ standard
 
   part_moved : output ≢ standard → MovesPart may_do output had (Ok _) after → after.written ≡ had.written
   part_moved other (part.no_path x bad are same) = absurd (not_bad x other bad)
-  part_moved other (part.moved m) = ap (λ (z : MemSystem). z.written) m.1
+  part_moved other (part.not_kept x kept are) = let no : Ok _ ≡ Err x = are in cc
+  part_moved other (part.moved has_mode kept m) = ap (λ (z : MemSystem). z.written) (m.1 ∙ kept.1)
 
   not_moved : (x : Error) (tried : MemSystem) → output ≢ standard → MovesPart may_do output had (Err x) tried → ⊥
   not_moved x tried other (part.no_path y bad are same) = not_bad y other bad
-  not_moved x tried other (part.moved m) = let no : Err x ≡ Ok _ = m.0 in cc
+  not_moved x tried other (part.not_kept y kept are) = let no : Err y ≡ Ok _ = kept.0 in cc
+  not_moved x tried other (part.moved has_mode kept m) = let no : Err x ≡ Ok _ = m.0 in cc
 
   part_removed : (r : Result (Unit {0}) Error) → output ≢ standard → RemovesPart may_do output had r after → after.written ≡ None
   part_removed r other (part.no_path x bad are same) = absurd (not_bad x other bad)

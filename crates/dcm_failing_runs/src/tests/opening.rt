@@ -131,6 +131,10 @@ impl<'a> System for Answers<'a> {
         self.answer(self.output)
     }
 
+    fn keep_mode(&mut self, _from: &str, _to: &str) -> io::Result<()> {
+        Ok(())
+    }
+
     fn rename(&mut self, _from: &str, _to: &str) -> io::Result<()> {
         Ok(())
     }
