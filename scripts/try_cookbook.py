@@ -613,7 +613,8 @@ def does_all(run):
 
 def tells_what_lacks(run, block, program, before_it):
     """Without a program that a block needs nothing is made, and the program is named; so it is on the page."""
-    wrong = holds(run, {b"table.csv": run.files.get(b"table.csv")} if block.check == table_in_sqlite else {})
+    given = {table_in_sqlite: b"table.csv", patient_found: b"site.key"}.get(block.check)
+    wrong = holds(run, {given: run.files.get(given)} if given else {})
     wrong += [] if run.status and program.encode() + b": " in run.printed else [f"status {run.status}, printed {run.printed!r}"]
     return wrong + ([] if program in before_it else [f"the page does not say that it needs {program}"])
 
