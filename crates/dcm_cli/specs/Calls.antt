@@ -54,6 +54,17 @@ pub record Runs {R W : Type 0} (r : Reader R) (w : Writer W) (job : Job) (errors
   pub failed : r.has_failed before ≡ false → w.has_failed output_before ≡ false
       → (status ≡ DEVICE) ↔ ((r.has_failed after ≡ true) ⊎ (w.has_failed output_after ≡ true))
 
+-- a job is done, and then its output is flushed, which may fail; nothing is reported
+pub record Finishes {R W : Type 0} (r : Reader R) (w : Writer W) (job : Job) (before after : R)
+    (output_before output_after : W) (ending : Ending) : Type 0 where
+  pub written : W
+  pub worked : Ending
+  pub works : Works r w job before after output_before written worked
+  pub meant : run.IsMeant job
+  pub contents : w.contents output_after ≡ w.contents written
+  pub flushed : run.FlushedAs worked ending (w.has_failed written) (w.has_failed output_after) (w.room output_after)
+  pub drained : run.IsWritten worked → w.has_failed output_after ≡ false → w.is_flushed output_after ≡ true
+
 -- ---- the head of a file
 
 -- what is before the data set was written, or a beginning of it where the call failed; and the writer has failed where

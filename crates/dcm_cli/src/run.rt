@@ -133,3 +133,15 @@ pub fn run<R: DeviceIn, W: DeviceOut, E: DeviceOut>(
         status: tell_ending(ending, errors),
     }
 }
+
+/// Does a job and flushes its output. It reports nothing, and answers how the job ended.
+pub fn finish<R: DeviceIn, W: DeviceOut>(
+    job: &Job,
+    input: &mut Watched<R>,
+    out: &mut Watched<W>,
+) -> Ending
+    ensures { calls.Finishes R.DeviceIn W.DeviceOut (job_of job.now) input.old input.new out.old out.new result }
+{
+    let ending = work(job, input, out);
+    flushed(ending, out)
+}

@@ -42,3 +42,7 @@ fault_line name stop =
 abbrev pub too_long_line : List ℕ → Tag → List ℕ
 too_long_line name t =
     named_line name (codes "value of " ++ tag_text t.group t.element ++ codes " is longer than 16384 bytes")
+
+-- an edit, counted from 1, found no place in it
+abbrev pub unplaced_line : List ℕ → ℕ → List ℕ
+unplaced_line name edit = named_line name (codes "edit " ++ decimal edit ++ codes " found no place")

@@ -72,6 +72,18 @@ pub fn put_refusal<E: DeviceOut>(
     put_all(errors, line.as_slice())
 }
 
+/// Reports what a text says of a name.
+pub fn put_text<E: DeviceOut>(
+    name: &[u8],
+    text: &[u8],
+    errors: &mut Watched<E>,
+) -> Result<(), WriteFailed>
+    requires { length text.now ≤ 176 }
+    ensures { Wrote E.DeviceOut errors.old errors.new (spec.named_line name.now text.now) result }
+{
+    put_named(name, &[text], errors)
+}
+
 /// Reports that a file cannot be opened.
 pub fn put_unopened<E: DeviceOut>(name: &[u8], errors: &mut Watched<E>) -> Result<(), WriteFailed>
     ensures { Wrote E.DeviceOut errors.old errors.new (spec.unopened_line name.now) result }
@@ -150,6 +162,23 @@ pub fn put_too_long<E: DeviceOut>(
         b"value of ".as_slice(),
         number.as_slice(),
         b" is longer than 16384 bytes".as_slice(),
+    ];
+    put_named(name, &text, errors)
+}
+
+/// Reports that an edit, counted from 1, found no place in a file.
+pub fn put_unplaced<E: DeviceOut>(
+    name: &[u8],
+    edit: usize,
+    errors: &mut Watched<E>,
+) -> Result<(), WriteFailed>
+    ensures { Wrote E.DeviceOut errors.old errors.new (spec.unplaced_line name.now edit) result }
+{
+    let mut digits = Buffer::new();
+    let text = [
+        b"edit ".as_slice(),
+        digits.format(edit).as_bytes(),
+        b" found no place".as_slice(),
     ];
     put_named(name, &text, errors)
 }
