@@ -27,6 +27,18 @@ fn compose(parts: &[&[u8]]) -> ArrayVec<u8, LONGEST>
     line
 }
 
+/// Writes the parts of a line by one write.
+pub fn put_at_once<E: DeviceOut>(
+    parts: &[&[u8]],
+    errors: &mut Watched<E>,
+) -> Result<(), WriteFailed>
+    requires { length (flat_map (λ part. part.now) parts.now) ≤ 12480 }
+    ensures { Wrote E.DeviceOut errors.old errors.new (flat_map (λ part. part.now) parts.now) result }
+{
+    let line = compose(parts);
+    put_all(errors, line.as_slice())
+}
+
 /// Writes a line of a name: the parts of a text come after it.
 fn put_named<E: DeviceOut>(
     name: &[u8],

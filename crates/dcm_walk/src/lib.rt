@@ -12,6 +12,6 @@ mod name;
 mod visitor;
 
 pub use folder::{FolderNumber, walk_folder};
-pub use list::{ListEnd, walk_list};
+pub use list::{ListEnd, slash, walk_list};
 pub use name::{LONGEST, MOST_OF_PATH};
 pub use visitor::{Named, Stopped, Visitor, What};

@@ -34,7 +34,7 @@ fn relative_of(line: &[u8]) -> &[u8]
 }
 
 /// The first slash.
-fn slash(bytes: &[u8]) -> Option<usize>
+pub fn slash(bytes: &[u8]) -> Option<usize>
     ensures { spec.IsSlash bytes.now result }
 {
     bytes.iter().position(|byte| *byte == SLASH)

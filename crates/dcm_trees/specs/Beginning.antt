@@ -1,0 +1,254 @@
+-- The beginning of a run over a tree.
+use Rattle.std.specs.Prelude.{◌≡◌, ◌≢◌, ℕ, ◌==◌, nat_le, length, List, [], ◌∷◌, ◌++◌, codes, Bool, true, false, ◌&&◌, ◌||◌}
+use Rattle.std.specs.Prelude.{not, Option, Some, None, Result, Ok, Err, if◌then◌else◌}
+use Rattle.std.specs.IoError.{error_kind}
+use Rattle.std.specs.Str.{IsUtf8}
+use Rattle.std.specs.declared.io.Error.{Error}
+use Rattle.std.specs.declared.io.ErrorKind.TheVariants.{AlreadyExists}
+use Rattle.dcm_files.specs.Folders.{FoldersDo}
+use Rattle.dcm_files.specs.declared.folders.Found.{Found}
+use Rattle.dcm_files.specs.declared.folders.FoundKind.TheVariants.{Folder}
+use Rattle.dcm_files.specs.declared.folders.Links.TheVariants.{Kept, Followed}
+use Rattle.dcm_walk.specs.declared.folder.FolderNumber.{FolderNumber}
+use Rattle.dcm_walk.specs.Names.{PATH_LIMIT, is_slash}
+use Rattle.dcm_trees.specs.declared.beginning.Refusal.{Refusal}
+use Rattle.dcm_trees.specs.declared.beginning.Refusal.TheVariants.{Output, Same, OutputWithin, InputWithin, PartThere, NotEmpty}
+use Rattle.dcm_trees.specs.declared.beginning.WayUp.{WayUp}
+
+-- ---- looking, links followed
+
+abbrev pub number_of : Found → FolderNumber
+number_of found = record { device = found.device; number = found.number }
+
+-- what is at a path; or it cannot be looked at
+pub data Looks {S O F : Type 0} (d : FoldersDo S O F) (path : List ℕ) (before : S) (r : Result (Option Found) Refusal)
+    (after : S) : Type 0 where
+  no_text : ¬ (IsUtf8 path) → r ≡ Err Output → after ≡ before → Looks d path before r after
+  looked : (found : Option Found) → IsUtf8 path → d.finds before path Followed (Ok found) after → r ≡ Ok found
+      → Looks d path before r after
+  not_looked : (e : Error) → IsUtf8 path → d.finds before path Followed (Err e) after → r ≡ Err Output
+      → Looks d path before r after
+
+-- its number
+pub data Numbers {S O F : Type 0} (d : FoldersDo S O F) (path : List ℕ) (before : S) (r : Result FolderNumber Refusal)
+    (after : S) : Type 0 where
+  numbered : (found : Found) → Looks d path before (Ok (Some found)) after → r ≡ Ok (number_of found)
+      → Numbers d path before r after
+  nothing : Looks d path before (Ok None) after → r ≡ Err Output → Numbers d path before r after
+  not_seen : (refusal : Refusal) → Looks d path before (Err refusal) after → r ≡ Err refusal → Numbers d path before r after
+
+-- ---- the way up
+
+abbrev pub is_same : FolderNumber → FolderNumber → Bool
+is_same a b = a.device == b.device && a.number == b.number
+
+-- the folder that a folder at a path is in
+abbrev pub above : List ℕ → List ℕ
+above path = path ++ codes "/.."
+
+abbrev pub is_short : List ℕ → Bool
+is_short path = nat_le (length path) PATH_LIMIT
+
+abbrev pub short : List ℕ → Option (List ℕ)
+short path = if is_short path then Some path else None
+
+-- a folder and those that it is in were numbered up to one of them, at this path: its number, and whether another one is
+-- among them
+pub data Climbed {S O F : Type 0} (d : FoldersDo S O F) (path : List ℕ) (other : FolderNumber) (before : S)
+    : (at : List ℕ) → (first last : FolderNumber) → (has_other : Bool) → (after : S) → Type 0 where
+  itself : {at : List ℕ} {first last : FolderNumber} {has_other : Bool} {after : S} → Numbers d path before (Ok first) after
+      → is_short path ≡ true → at ≡ path → last ≡ first → has_other ≡ is_same first other
+      → Climbed d path other before at first last has_other after
+  and_above : {at : List ℕ} {first last : FolderNumber} {has_other : Bool} {after : S} (from : List ℕ)
+      (below : FolderNumber) (had_other : Bool) (mid : S) → Climbed d path other before from first below had_other mid
+      → is_short (above from) ≡ true → Numbers d (above from) mid (Ok last) after → is_same last below ≡ false
+      → at ≡ above from → has_other ≡ (had_other || is_same last other)
+      → Climbed d path other before at first last has_other after
+
+-- up to the one that is in itself; or one of them cannot be looked at, or its path is too long
+pub data Climbs {S O F : Type 0} (d : FoldersDo S O F) (path : List ℕ) (other : FolderNumber) (before : S)
+    (r : Result WayUp Refusal) (after : S) : Type 0 where
+  not_begun : (refusal : Refusal) → Numbers d path before (Err refusal) after → r ≡ Err refusal
+      → Climbs d path other before r after
+  too_long : (first : FolderNumber) → Numbers d path before (Ok first) after → is_short path ≡ false → r ≡ Err Output
+      → Climbs d path other before r after
+  to_the_top : (at : List ℕ) (first last again : FolderNumber) (has_other : Bool) (mid : S)
+      → Climbed d path other before at first last has_other mid → is_short (above at) ≡ true
+      → Numbers d (above at) mid (Ok again) after → is_same again last ≡ true
+      → r ≡ Ok (record { first = first; has_other = has_other }) → Climbs d path other before r after
+  not_seen : (at : List ℕ) (first last : FolderNumber) (has_other : Bool) (refusal : Refusal) (mid : S)
+      → Climbed d path other before at first last has_other mid → is_short (above at) ≡ true
+      → Numbers d (above at) mid (Err refusal) after → r ≡ Err refusal → Climbs d path other before r after
+  too_deep : (at : List ℕ) (first last : FolderNumber) (has_other : Bool)
+      → Climbed d path other before at first last has_other after → is_short (above at) ≡ false → r ≡ Err Output
+      → Climbs d path other before r after
+
+-- ---- the folder that something is in, by its path
+
+abbrev pub is_left_out : (slashes : Bool) → ℕ → Bool
+is_left_out slashes b = if slashes then is_slash b else not (is_slash b)
+
+-- without the slashes at its end, or without what is behind its last slash
+unfoldable pub without_end : (slashes : Bool) → List ℕ → List ℕ
+without_end slashes [] = []
+without_end slashes (b ∷ bs) =
+    elim (without_end slashes bs) [ [] ↦ if is_left_out slashes b then [] else b ∷ [] | c ∷ cs ↦ b ∷ c ∷ cs ]
+
+-- of a path without a slash it is the current one, and of one in the root that
+abbrev pub or_root : (path : List ℕ) → List ℕ
+or_root [] = codes "."
+or_root (b ∷ bs) = if is_slash b then codes "/" else codes "."
+
+abbrev pub parent_or : (path parent : List ℕ) → List ℕ
+parent_or path [] = or_root path
+parent_or path (b ∷ bs) = b ∷ bs
+
+abbrev pub parent_of : List ℕ → List ℕ
+parent_of path = parent_or path (without_end true (without_end false (without_end true path)))
+
+-- ---- the folder of the outputs
+
+-- it is there, or nothing is; else it is refused
+pub data IsThere {S O F : Type 0} (d : FoldersDo S O F) (output : List ℕ) (before : S) (r : Result Bool Refusal)
+    (after : S) : Type 0 where
+  nothing : Looks d output before (Ok None) after → r ≡ Ok false → IsThere d output before r after
+  a_folder : (found : Found) → Looks d output before (Ok (Some found)) after → found.kind ≡ Folder → r ≡ Ok true
+      → IsThere d output before r after
+  no_folder : (found : Found) → Looks d output before (Ok (Some found)) after → found.kind ≢ Folder → r ≡ Err Output
+      → IsThere d output before r after
+  not_seen : (refusal : Refusal) → Looks d output before (Err refusal) after → r ≡ Err refusal
+      → IsThere d output before r after
+
+-- a folder is made, or something is there
+pub data MakesFolder {S O F : Type 0} (d : FoldersDo S O F) (path : List ℕ) (before : S) (r : Result (Unit {0}) Refusal)
+    (after : S) : Type 0 where
+  no_text : ¬ (IsUtf8 path) → r ≡ Err Output → after ≡ before → MakesFolder d path before r after
+  made : IsUtf8 path → d.makes_folder before path (Ok _) after → r ≡ Ok _ → MakesFolder d path before r after
+  was_there : (e : Error) → IsUtf8 path → d.makes_folder before path (Err e) after → error_kind e ≡ AlreadyExists
+      → r ≡ Ok _ → MakesFolder d path before r after
+  not_made : (e : Error) → IsUtf8 path → d.makes_folder before path (Err e) after → error_kind e ≢ AlreadyExists
+      → r ≡ Err Output → MakesFolder d path before r after
+
+-- the number of a folder that is there
+pub data NumbersFolder {S O F : Type 0} (d : FoldersDo S O F) (path : List ℕ) (before : S)
+    (r : Result FolderNumber Refusal) (after : S) : Type 0 where
+  a_folder : (found : Found) → Looks d path before (Ok (Some found)) after → found.kind ≡ Folder
+      → r ≡ Ok (number_of found) → NumbersFolder d path before r after
+  no_folder : (found : Found) → Looks d path before (Ok (Some found)) after → found.kind ≢ Folder → r ≡ Err Output
+      → NumbersFolder d path before r after
+  nothing : Looks d path before (Ok None) after → r ≡ Err Output → NumbersFolder d path before r after
+  not_seen : (refusal : Refusal) → Looks d path before (Err refusal) after → r ≡ Err refusal
+      → NumbersFolder d path before r after
+
+-- it is made; one that was made meanwhile does
+pub data MakesOutput {S O F : Type 0} (d : FoldersDo S O F) (output : List ℕ) (before : S)
+    (r : Result FolderNumber Refusal) (after : S) : Type 0 where
+  not_made : (refusal : Refusal) → MakesFolder d output before (Err refusal) after → r ≡ Err refusal
+      → MakesOutput d output before r after
+  made : (mid : S) → MakesFolder d output before (Ok _) mid → NumbersFolder d output mid r after
+      → MakesOutput d output before r after
+
+-- it is within the folder that is read; names of a list may lie around it
+abbrev pub is_within : (is_list : Bool) → WayUp → Bool
+is_within is_list way = not is_list && way.has_other
+
+-- of a folder that is there: why it is not used, by its way up and that of the folder that is read
+abbrev pub clash : (is_list : Bool) → (read : FolderNumber) → WayUp → Option Refusal
+clash is_list read way = if is_same way.first read then Some Same
+    else (if is_within is_list way then Some OutputWithin else None)
+
+pub data Compares {S O F : Type 0} (d : FoldersDo S O F) (input : List ℕ) (is_list : Bool) (output : List ℕ) (before : S)
+    (r : Result FolderNumber Refusal) (after : S) : Type 0 where
+  not_numbered : (refusal : Refusal) → Numbers d input before (Err refusal) after → r ≡ Err refusal
+      → Compares d input is_list output before r after
+  not_climbed : (read : FolderNumber) (refusal : Refusal) (mid : S) → Numbers d input before (Ok read) mid
+      → Climbs d output read mid (Err refusal) after → r ≡ Err refusal → Compares d input is_list output before r after
+  clashed : (read : FolderNumber) (way : WayUp) (refusal : Refusal) (mid : S) → Numbers d input before (Ok read) mid
+      → Climbs d output read mid (Ok way) after → clash is_list read way ≡ Some refusal → r ≡ Err refusal
+      → Compares d input is_list output before r after
+  not_back : (read : FolderNumber) (way : WayUp) (refusal : Refusal) (mid climbed : S)
+      → Numbers d input before (Ok read) mid → Climbs d output read mid (Ok way) climbed
+      → clash is_list read way ≡ None → Climbs d input way.first climbed (Err refusal) after → r ≡ Err refusal
+      → Compares d input is_list output before r after
+  within : (read : FolderNumber) (way back : WayUp) (mid climbed : S) → Numbers d input before (Ok read) mid
+      → Climbs d output read mid (Ok way) climbed → clash is_list read way ≡ None
+      → Climbs d input way.first climbed (Ok back) after → back.has_other ≡ true → r ≡ Err InputWithin
+      → Compares d input is_list output before r after
+  apart : (read : FolderNumber) (way back : WayUp) (mid climbed : S) → Numbers d input before (Ok read) mid
+      → Climbs d output read mid (Ok way) climbed → clash is_list read way ≡ None
+      → Climbs d input way.first climbed (Ok back) after → back.has_other ≡ false → r ≡ Ok way.first
+      → Compares d input is_list output before r after
+
+-- of one that is not there: it is made, unless the folder that it is to be in is read, or within one that is
+pub data MakesApart {S O F : Type 0} (d : FoldersDo S O F) (input : List ℕ) (is_list : Bool) (output : List ℕ)
+    (before : S) (r : Result FolderNumber Refusal) (after : S) : Type 0 where
+  not_numbered : (refusal : Refusal) → Numbers d input before (Err refusal) after → r ≡ Err refusal
+      → MakesApart d input is_list output before r after
+  not_climbed : (read : FolderNumber) (refusal : Refusal) (mid : S) → Numbers d input before (Ok read) mid
+      → Climbs d (parent_of output) read mid (Err refusal) after → r ≡ Err refusal
+      → MakesApart d input is_list output before r after
+  within : (read : FolderNumber) (way : WayUp) (mid : S) → Numbers d input before (Ok read) mid
+      → Climbs d (parent_of output) read mid (Ok way) after → is_within is_list way ≡ true
+      → r ≡ Err OutputWithin → MakesApart d input is_list output before r after
+  made : (read : FolderNumber) (way : WayUp) (mid climbed : S) → Numbers d input before (Ok read) mid
+      → Climbs d (parent_of output) read mid (Ok way) climbed → is_within is_list way ≡ false
+      → MakesOutput d output climbed r after → MakesApart d input is_list output before r after
+
+pub data HasOutput {S O F : Type 0} (d : FoldersDo S O F) (input : List ℕ) (is_list : Bool) (output : List ℕ)
+    (before : S) (r : Result FolderNumber Refusal) (after : S) : Type 0 where
+  not_looked : (refusal : Refusal) → IsThere d output before (Err refusal) after → r ≡ Err refusal
+      → HasOutput d input is_list output before r after
+  was_there : (looked : S) → IsThere d output before (Ok true) looked
+      → Compares d input is_list output looked r after → HasOutput d input is_list output before r after
+  not_there : (looked : S) → IsThere d output before (Ok false) looked
+      → MakesApart d input is_list output looked r after → HasOutput d input is_list output before r after
+
+-- ---- what is in it
+
+-- no part is there that this run would write
+pub data ChecksPart {S O F : Type 0} (d : FoldersDo S O F) (part : List ℕ) (before : S)
+    (r : Result (Unit {0}) Refusal) (after : S) : Type 0 where
+  no_text : ¬ (IsUtf8 part) → r ≡ Err Output → after ≡ before → ChecksPart d part before r after
+  nothing : IsUtf8 part → d.finds before part Kept (Ok None) after → r ≡ Ok _ → ChecksPart d part before r after
+  is_there : (found : Found) → IsUtf8 part → d.finds before part Kept (Ok (Some found)) after → r ≡ Err PartThere
+      → ChecksPart d part before r after
+  not_seen : (e : Error) → IsUtf8 part → d.finds before part Kept (Err e) after → r ≡ Err Output
+      → ChecksPart d part before r after
+
+-- no name is in it
+pub data ChecksEmpty {S O F : Type 0} (d : FoldersDo S O F) (output : List ℕ) (before : S)
+    (r : Result (Unit {0}) Refusal) (after : S) : Type 0 where
+  no_text : ¬ (IsUtf8 output) → r ≡ Err Output → after ≡ before → ChecksEmpty d output before r after
+  not_opened : (e : Error) → IsUtf8 output → d.opens_folder before output (Err e) after → r ≡ Err Output
+      → ChecksEmpty d output before r after
+  empty : (folder left : F) (opened listed : S) → IsUtf8 output → d.opens_folder before output (Ok folder) opened
+      → d.names opened folder (Ok None) left listed → d.closes_folder listed left after → r ≡ Ok _
+      → ChecksEmpty d output before r after
+  not_empty : (folder left : F) (name : List ℕ) (opened listed : S) → IsUtf8 output
+      → d.opens_folder before output (Ok folder) opened → d.names opened folder (Ok (Some name)) left listed
+      → d.closes_folder listed left after → r ≡ Err NotEmpty → ChecksEmpty d output before r after
+  not_listed : (folder left : F) (e : Error) (opened listed : S) → IsUtf8 output
+      → d.opens_folder before output (Ok folder) opened → d.names opened folder (Err e) left listed
+      → d.closes_folder listed left after → r ≡ Err Output → ChecksEmpty d output before r after
+
+-- where no run goes on with it
+pub data ChecksUse {S O F : Type 0} (d : FoldersDo S O F) (output : List ℕ) (continues : Bool) (before : S)
+    (r : Result (Unit {0}) Refusal) (after : S) : Type 0 where
+  goes_on : continues ≡ true → r ≡ Ok _ → after ≡ before → ChecksUse d output continues before r after
+  is_new : continues ≡ false → ChecksEmpty d output before r after → ChecksUse d output continues before r after
+
+-- all of it, one after the other
+pub data Begins {S O F : Type 0} (d : FoldersDo S O F) (input : List ℕ) (is_list : Bool) (output part : List ℕ)
+    (continues : Bool) (before : S) (r : Result FolderNumber Refusal) (after : S) : Type 0 where
+  no_output : (refusal : Refusal) → HasOutput d input is_list output before (Err refusal) after → r ≡ Err refusal
+      → Begins d input is_list output part continues before r after
+  has_part : (number : FolderNumber) (refusal : Refusal) (mid : S) → HasOutput d input is_list output before (Ok number) mid
+      → ChecksPart d part mid (Err refusal) after → r ≡ Err refusal
+      → Begins d input is_list output part continues before r after
+  in_use : (number : FolderNumber) (refusal : Refusal) (mid checked : S)
+      → HasOutput d input is_list output before (Ok number) mid → ChecksPart d part mid (Ok _) checked
+      → ChecksUse d output continues checked (Err refusal) after → r ≡ Err refusal
+      → Begins d input is_list output part continues before r after
+  begun : (number : FolderNumber) (mid checked : S) → HasOutput d input is_list output before (Ok number) mid
+      → ChecksPart d part mid (Ok _) checked → ChecksUse d output continues checked (Ok _) after → r ≡ Ok number
+      → Begins d input is_list output part continues before r after

@@ -1,0 +1,11 @@
+pub mod World
+pub mod Share
+pub mod Fate
+pub mod Row
+pub mod Tally
+pub mod Place
+pub mod Lines
+pub mod File
+pub mod Work
+pub mod Beginning
+pub mod Run

@@ -1,0 +1,364 @@
+// The beginning of a run over a tree: what is there, before anything is made.
+ghost use Rattle.std.specs.Prelude.{◌≡◌, ◌≢◌, ◌||◌, true, false, option_map};
+ghost use Rattle.dcm_trees.specs.Beginning as spec;
+
+use crate::place::{OutputPath, was_there};
+use arrayvec::ArrayVec;
+use dcm_files::{EntryName, Folders, Found, FoundKind, Links};
+use dcm_walk::FolderNumber;
+use std::str;
+
+/// What is behind a path for the folder that it is in.
+const PARENT: &[u8] = b"/..";
+
+/// What ends a part of a name.
+const SLASH: u8 = b'/';
+
+/// Why a run is not begun. Nothing was made then, unless it was the folder of the outputs.
+#[derive(Clone, Copy, Debug, PartialEq, Eq)]
+pub enum Refusal {
+    /// The folder or the list that is read cannot be opened.
+    Input,
+    /// The folder of the outputs cannot be looked at or made, or is no folder.
+    Output,
+    /// It is the folder that is read.
+    Same,
+    /// It is within the folder that is read.
+    OutputWithin,
+    /// The folder that is read is within it.
+    InputWithin,
+    /// What another run writes is there.
+    PartThere,
+    /// It has names in it.
+    NotEmpty,
+}
+
+/// The folders that a folder is in.
+#[derive(Clone, Copy, Debug, PartialEq, Eq)]
+struct WayUp {
+    /// The folder itself.
+    first: FolderNumber,
+    /// Whether another folder is among it and those that it is in.
+    has_other: bool,
+}
+
+/// The number of what was found.
+fn number_of(found: Found) -> FolderNumber
+    ensures { result ≡ spec.number_of found }
+{
+    FolderNumber {
+        device: found.device,
+        number: found.number,
+    }
+}
+
+/// What is at a path, links followed.
+fn look<S: Folders>(path: &[u8], system: &mut S) -> Result<Option<Found>, Refusal>
+    ensures { spec.Looks S.folders_do path.now system.old result system.new }
+{
+    let Ok(text) = str::from_utf8(path) else {
+        return Err(Refusal::Output);
+    };
+    match system.find(text, Links::Followed) {
+        Ok(found) => Ok(found),
+        Err(_) => Err(Refusal::Output),
+    }
+}
+
+/// The number of what is at a path, links followed.
+fn number_at<S: Folders>(path: &[u8], system: &mut S) -> Result<FolderNumber, Refusal>
+    ensures { spec.Numbers S.folders_do path.now system.old result system.new }
+{
+    match look(path, system) {
+        Ok(Some(found)) => Ok(number_of(found)),
+        Ok(None) => Err(Refusal::Output),
+        Err(refusal) => Err(refusal),
+    }
+}
+
+/// Whether two folders are one.
+fn is_same(a: FolderNumber, b: FolderNumber) -> bool
+    ensures { result ≡ spec.is_same a b }
+{
+    a.device == b.device && a.number == b.number
+}
+
+/// Whether another folder was among those so far, or is the last one.
+fn or_same(had_other: bool, last: FolderNumber, other: FolderNumber) -> bool
+    ensures { result ≡ (had_other || spec.is_same last other) }
+{
+    had_other || is_same(last, other)
+}
+
+/// A path that a way up begins at, where it is short enough.
+fn begin_way(path: &[u8]) -> Option<OutputPath>
+    ensures { option_map (λ way. way.items) result ≡ spec.short path.now }
+{
+    let mut way = ArrayVec::new();
+    if way.try_extend_from_slice(path).is_ok() {
+        Some(way)
+    } else {
+        None
+    }
+}
+
+/// Makes a path that of the folder that it is in. Answers whether that is short enough.
+fn go_up(way: &mut OutputPath) -> bool
+    ensures value { result ≡ spec.is_short (spec.above way.old.items) }
+    ensures items { result ≡ true → way.new.items ≡ spec.above way.old.items }
+{
+    way.try_extend_from_slice(PARENT).is_ok()
+}
+
+/// The numbers of a folder and of those that it is in, up to the one that is in itself: whether another is among them.
+fn climb<S: Folders>(path: &[u8], other: FolderNumber, system: &mut S) -> Result<WayUp, Refusal>
+    ensures { spec.Climbs S.folders_do path.now other system.old result system.new }
+{
+    let first = number_at(path, system)?;
+    let Some(mut way) = begin_way(path) else {
+        return Err(Refusal::Output);
+    };
+    let mut last = first;
+    let mut has_other = is_same(first, other);
+    while go_up(&mut way) {
+        let above = number_at(way.as_slice(), system)?;
+        if is_same(above, last) {
+            return Ok(WayUp { first, has_other });
+        }
+        has_other = or_same(has_other, above, other);
+        last = above;
+    }
+    Err(Refusal::Output)
+}
+
+/// Whether a byte is left out.
+fn is_left_out(byte: u8, slashes: bool) -> bool
+    ensures { result ≡ spec.is_left_out slashes byte }
+{
+    if slashes {
+        byte == SLASH
+    } else {
+        byte != SLASH
+    }
+}
+
+/// A path without the slashes at its end, or without what is behind its last slash.
+fn without_end(path: &[u8], slashes: bool) -> &[u8]
+    ensures { result.now ≡ spec.without_end slashes path.now }
+{
+    let mut end = path.len();
+    while end > 0 {
+        if !is_left_out(path[end - 1], slashes) {
+            break;
+        }
+        end -= 1;
+    }
+    let (front, _) = path.split_at(end);
+    front
+}
+
+/// The path of the folder that something at a path is in.
+fn parent_of(path: &[u8]) -> &[u8]
+    ensures { result.now ≡ spec.parent_of path.now }
+{
+    let parent = without_end(without_end(without_end(path, true), false), true);
+    match (parent, path) {
+        ([], [b'/', ..]) => b"/".as_slice(),
+        ([], _) => b".".as_slice(),
+        _ => parent,
+    }
+}
+
+/// Whether it is a folder.
+fn is_folder(found: Found) -> bool
+    ensures yes { result ≡ true → found.kind ≡ FoundKind.Folder }
+    ensures no { result ≡ false → found.kind ≢ FoundKind.Folder }
+{
+    matches!(found.kind, FoundKind::Folder)
+}
+
+/// Whether the folder of the outputs is there. Something else in its place is refused.
+fn is_there<S: Folders>(output: &[u8], system: &mut S) -> Result<bool, Refusal>
+    ensures { spec.IsThere S.folders_do output.now system.old result system.new }
+{
+    match look(output, system) {
+        Ok(None) => Ok(false),
+        Ok(Some(found)) if is_folder(found) => Ok(true),
+        Ok(Some(_)) => Err(Refusal::Output),
+        Err(refusal) => Err(refusal),
+    }
+}
+
+/// Makes a folder, unless something is there.
+fn make_folder<S: Folders>(path: &[u8], system: &mut S) -> Result<(), Refusal>
+    ensures { spec.MakesFolder S.folders_do path.now system.old result system.new }
+{
+    let Ok(text) = str::from_utf8(path) else {
+        return Err(Refusal::Output);
+    };
+    match system.make_folder(text) {
+        Ok(()) => Ok(()),
+        Err(e) if was_there(&e) => Ok(()),
+        Err(_) => Err(Refusal::Output),
+    }
+}
+
+/// The number of a folder that is there.
+fn folder_at<S: Folders>(path: &[u8], system: &mut S) -> Result<FolderNumber, Refusal>
+    ensures { spec.NumbersFolder S.folders_do path.now system.old result system.new }
+{
+    match look(path, system) {
+        Ok(Some(found)) if is_folder(found) => Ok(number_of(found)),
+        Ok(Some(_)) => Err(Refusal::Output),
+        Ok(None) => Err(Refusal::Output),
+        Err(refusal) => Err(refusal),
+    }
+}
+
+/// Makes the folder of the outputs. One that was made meanwhile does.
+fn make_output<S: Folders>(output: &[u8], system: &mut S) -> Result<FolderNumber, Refusal>
+    ensures { spec.MakesOutput S.folders_do output.now system.old result system.new }
+{
+    make_folder(output, system)?;
+    folder_at(output, system)
+}
+
+/// Whether the folder of the outputs is within the folder that is read. Names of a list may lie around it.
+fn is_within(is_list: bool, way: WayUp) -> bool
+    ensures { result ≡ spec.is_within is_list way }
+{
+    !is_list && way.has_other
+}
+
+/// Why a folder that is there is not that of the outputs, by its way up and the folder that is read, if it is not.
+fn clash(is_list: bool, read: FolderNumber, way: WayUp) -> Option<Refusal>
+    ensures { result ≡ spec.clash is_list read way }
+{
+    if is_same(way.first, read) {
+        return Some(Refusal::Same);
+    }
+    if is_within(is_list, way) {
+        Some(Refusal::OutputWithin)
+    } else {
+        None
+    }
+}
+
+/// Looks whether the folder of the outputs, which is there, and the folder that is read are one, or one is within the
+/// other. Names of a list may lie around the folder of the outputs.
+fn compare<S: Folders>(
+    input: &[u8],
+    is_list: bool,
+    output: &[u8],
+    system: &mut S,
+) -> Result<FolderNumber, Refusal>
+    ensures { spec.Compares S.folders_do input.now is_list output.now system.old result system.new }
+{
+    let read = number_at(input, system)?;
+    let way = climb(output, read, system)?;
+    if let Some(refusal) = clash(is_list, read, way) {
+        return Err(refusal);
+    }
+    let back = climb(input, way.first, system)?;
+    if back.has_other {
+        return Err(Refusal::InputWithin);
+    }
+    Ok(way.first)
+}
+
+/// Makes the folder of the outputs where it is not within the folder that is read. It may be within it where that is
+/// the current one and names of a list are read.
+fn make_apart<S: Folders>(
+    input: &[u8],
+    is_list: bool,
+    output: &[u8],
+    system: &mut S,
+) -> Result<FolderNumber, Refusal>
+    ensures { spec.MakesApart S.folders_do input.now is_list output.now system.old result system.new }
+{
+    let read = number_at(input, system)?;
+    let way = climb(parent_of(output), read, system)?;
+    if is_within(is_list, way) {
+        return Err(Refusal::OutputWithin);
+    }
+    make_output(output, system)
+}
+
+/// The folder of the outputs, apart from the folder that is read.
+fn have_output<S: Folders>(
+    input: &[u8],
+    is_list: bool,
+    output: &[u8],
+    system: &mut S,
+) -> Result<FolderNumber, Refusal>
+    ensures { spec.HasOutput S.folders_do input.now is_list output.now system.old result system.new }
+{
+    if is_there(output, system)? {
+        compare(input, is_list, output, system)
+    } else {
+        make_apart(input, is_list, output, system)
+    }
+}
+
+/// Refuses a part that is there.
+fn check_part<S: Folders>(part: &[u8], system: &mut S) -> Result<(), Refusal>
+    ensures { spec.ChecksPart S.folders_do part.now system.old result system.new }
+{
+    let Ok(text) = str::from_utf8(part) else {
+        return Err(Refusal::Output);
+    };
+    match system.find(text, Links::Kept) {
+        Ok(None) => Ok(()),
+        Ok(Some(_)) => Err(Refusal::PartThere),
+        Err(_) => Err(Refusal::Output),
+    }
+}
+
+/// Refuses a folder that has a name in it.
+fn check_empty<S: Folders>(output: &[u8], system: &mut S) -> Result<(), Refusal>
+    ensures { spec.ChecksEmpty S.folders_do output.now system.old result system.new }
+{
+    let Ok(text) = str::from_utf8(output) else {
+        return Err(Refusal::Output);
+    };
+    let Ok(mut folder) = system.open_folder(text) else {
+        return Err(Refusal::Output);
+    };
+    let mut name = EntryName::new();
+    let given = system.next_name(&mut folder, &mut name);
+    system.close_folder(folder);
+    match given {
+        Ok(false) => Ok(()),
+        Ok(true) => Err(Refusal::NotEmpty),
+        Err(_) => Err(Refusal::Output),
+    }
+}
+
+/// Refuses a folder that has a name in it, unless the run goes on with what is there.
+fn check_use<S: Folders>(output: &[u8], continues: bool, system: &mut S) -> Result<(), Refusal>
+    ensures { spec.ChecksUse S.folders_do output.now continues system.old result system.new }
+{
+    if continues {
+        Ok(())
+    } else {
+        check_empty(output, system)
+    }
+}
+
+/// Looks at what is there before a run, and makes the folder of the outputs where it is not there. The names of a list
+/// are read from the current folder.
+pub fn begin<S: Folders>(
+    input: &[u8],
+    is_list: bool,
+    output: &[u8],
+    part: &[u8],
+    continues: bool,
+    system: &mut S,
+) -> Result<FolderNumber, Refusal>
+    ensures { spec.Begins S.folders_do input.now is_list output.now part.now continues system.old result system.new }
+{
+    let number = have_output(input, is_list, output, system)?;
+    check_part(part, system)?;
+    check_use(output, continues, system)?;
+    Ok(number)
+}

@@ -1,0 +1,24 @@
+//! Whole trees of files in one run.
+#![tactic(auto)]
+
+mod beginning;
+mod fate;
+mod file;
+mod lines;
+mod place;
+mod progress;
+mod row;
+mod run;
+mod share;
+mod tally;
+mod work;
+
+pub use beginning::{Refusal, begin};
+pub use fate::{Fate, fate_of, text_of};
+pub use file::{Manner, PartThere, do_name};
+pub use place::{NotMade, OutputPath, Place, make_way, path_in, place_at};
+pub use progress::{Shared, Stop, Work};
+pub use row::{put_header, put_row};
+pub use run::{End, PartName, part_name, tell_refusal};
+pub use share::Share;
+pub use tally::{Tally, put_counts};

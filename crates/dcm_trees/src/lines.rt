@@ -1,0 +1,131 @@
+// Lines on standard error that name a file of a tree.
+ghost use Rattle.std.specs.Prelude.{◌≡◌, ◌≤◌, ◌+◌, length};
+ghost use Rattle.dcm_cli.specs.Calls as calls;
+ghost use Rattle.dcm_devices.specs.Writing.{Wrote};
+ghost use Rattle.dcm_names.specs.NamedLines.{named_line};
+ghost use Rattle.dcm_trees.specs.Lines as spec;
+
+use crate::fate::Fate;
+use crate::place::Place;
+use dcm_base::{DeviceOut, Watched, WriteFailed};
+use dcm_cli::ending::{Ending, Verdict};
+use dcm_editor::MOST_EDITS;
+use dcm_names::{put_fault, put_text, put_unplaced, put_unread};
+
+/// Tells a text of a name.
+pub fn tell_text<E: DeviceOut>(name: &[u8], text: &[u8], errors: &mut Watched<E>)
+    requires { length text.now ≤ 176 }
+    ensures { calls.Reports E.DeviceOut errors.old errors.new (named_line name.now text.now) }
+{
+    let _ = put_text(name, text, errors);
+}
+
+/// Writes the line of an edit, counted from 1, where it found no place.
+fn put_edit<E: DeviceOut>(
+    name: &[u8],
+    is_unplaced: bool,
+    edit: usize,
+    errors: &mut Watched<E>,
+) -> Result<(), WriteFailed>
+    ensures { Wrote E.DeviceOut errors.old errors.new (spec.line_where name.now is_unplaced edit) result }
+{
+    if is_unplaced {
+        put_unplaced(name, edit, errors)
+    } else {
+        Ok(())
+    }
+}
+
+/// Writes which of so many edits found no place, each on a line, from this one on: bit 0 of the mask is set for it. After
+/// a line that failed no other is tried.
+fn put_edits<E: DeviceOut>(
+    name: &[u8],
+    count: usize,
+    edit: usize,
+    mask: u64,
+    errors: &mut Watched<E>,
+) -> Result<(), WriteFailed>
+    requires { edit + count ≤ 65 }
+    ensures { Wrote E.DeviceOut errors.old errors.new (spec.mask_lines name.now count edit mask) result }
+{
+    if count == 0 {
+        return Ok(());
+    }
+    put_edit(name, mask % 2 == 1, edit, errors)?;
+    put_edits(name, count - 1, edit + 1, mask / 2, errors)
+}
+
+/// Whether all edits found a place.
+fn done_fate(unplaced: u64) -> Fate
+    ensures { result ≡ spec.done_fate unplaced }
+{
+    if unplaced == 0 {
+        Fate::Written
+    } else {
+        Fate::Unplaced
+    }
+}
+
+/// Tells what the work on a file came to. Where it was done, its output has no name so far.
+fn tell_verdict<E: DeviceOut>(name: &[u8], verdict: Verdict, errors: &mut Watched<E>) -> Fate
+    ensures line { calls.Reports E.DeviceOut errors.old errors.new (spec.verdict_lines name.now verdict) }
+    ensures fate { result ≡ spec.verdict_fate verdict }
+{
+    match verdict {
+        Verdict::Done { unplaced } => {
+            let _ = put_edits(name, MOST_EDITS, 1, unplaced, errors);
+            done_fate(unplaced)
+        }
+        Verdict::PixelsMayShow => {
+            tell_text(name, b"pixels may show identity", errors);
+            Fate::Pixels
+        }
+        Verdict::Refused(stop) => {
+            let _ = put_fault(name, stop, errors);
+            Fate::Refused
+        }
+        Verdict::RefusedLine(_) => Fate::Refused,
+    }
+}
+
+/// Tells how the run over a file ended, and answers what became of it, once its output has its name.
+pub fn tell_ending<E: DeviceOut>(name: &[u8], ending: Ending, errors: &mut Watched<E>) -> Fate
+    ensures line { calls.Reports E.DeviceOut errors.old errors.new (spec.ending_lines name.now ending) }
+    ensures fate { result ≡ spec.ending_fate ending }
+{
+    match ending {
+        Ending::Worked(verdict) => tell_verdict(name, verdict, errors),
+        Ending::Unread(read) => {
+            let _ = put_unread(name, read, errors);
+            Fate::Unread
+        }
+        Ending::Output => {
+            tell_text(name, b"output failed", errors);
+            Fate::Unwritten
+        }
+    }
+}
+
+/// Tells that the name of an output is not free, unless the run goes on with what is there; and answers what became of
+/// its file.
+pub fn tell_place<E: DeviceOut>(
+    name: &[u8],
+    place: Place,
+    continues: bool,
+    errors: &mut Watched<E>,
+) -> Fate
+    ensures line { calls.Reports E.DeviceOut errors.old errors.new (spec.place_lines name.now place continues) }
+    ensures fate { result ≡ spec.place_fate place continues }
+{
+    match place {
+        Place::There if continues => Fate::There,
+        Place::There => {
+            tell_text(name, b"output is there already", errors);
+            Fate::Occupied
+        }
+        Place::Taken | Place::Free => {
+            tell_text(name, b"output cannot be opened", errors);
+            Fate::Unwritten
+        }
+    }
+}

@@ -1,0 +1,114 @@
+// A run over a tree: its beginning, its names, and its end.
+ghost use Rattle.std.specs.Prelude.{◌≡◌, ◌≤◌, length};
+ghost use Rattle.dcm_cli.specs.Calls as calls;
+ghost use Rattle.dcm_cli.specs.Status as statuses;
+ghost use Rattle.dcm_trees.specs.Run as spec;
+ghost use Rattle.dcm_trees.specs.World.{world};
+
+use crate::beginning::{Refusal, begin};
+use crate::place::{OutputPath, path_in};
+use crate::progress::{Shared, Stop, Work};
+use crate::row::put_header;
+use crate::tally::{Tally, put_counts};
+use arrayvec::ArrayVec;
+use dcm_base::{DeviceOut, Watched, WriteFailed, flush_out};
+use dcm_cli::status::{DEVICE, DONE};
+use dcm_files::Folders;
+use dcm_names::{put_at_once, put_text, put_unread};
+use itoa::Buffer;
+
+/// How the part of a run is named, before its number.
+const PART: &[u8] = b".part.";
+
+/// The most bytes of that name.
+const MOST_OF_PART: usize = 16;
+
+/// The name of a run's part.
+pub type PartName = ArrayVec<u8, MOST_OF_PART>;
+
+/// How the names of a run ended.
+#[derive(Clone, Copy, Debug, PartialEq, Eq)]
+pub enum End {
+    /// All were visited.
+    Whole,
+    /// Reading the list failed after so many bytes.
+    Unread(u64),
+    /// The run ended before its last name.
+    Stopped(Stop),
+}
+
+/// The name of the part of a run, by its number.
+pub fn part_name(number: u32) -> PartName
+    ensures { result.items ≡ spec.part_name number }
+{
+    let mut digits = Buffer::new();
+    let mut name = ArrayVec::new();
+    let _ = name.try_extend_from_slice(PART);
+    let _ = name.try_extend_from_slice(digits.format(number).as_bytes());
+    name
+}
+
+/// Writes a line that names no file.
+fn tell_line<E: DeviceOut>(text: &[u8], errors: &mut Watched<E>)
+    requires { length text.now ≤ 64 }
+    ensures { calls.Reports E.DeviceOut errors.old errors.new (spec.line text.now) }
+{
+    let _ = put_at_once(&[b"dcmtools: ".as_slice(), text, b"\n".as_slice()], errors);
+}
+
+/// Tells that another run's part is there.
+fn tell_part_there<E: DeviceOut>(part: &[u8], errors: &mut Watched<E>)
+    ensures { calls.Reports E.DeviceOut errors.old errors.new (spec.part_line part.now) }
+{
+    let _ = put_text(part, b"another run is at work, or was cut off", errors);
+}
+
+/// Tells why a run is not begun.
+pub fn tell_refusal<E: DeviceOut>(refusal: Refusal, part: &[u8], errors: &mut Watched<E>) -> u8
+    ensures line { calls.Reports E.DeviceOut errors.old errors.new (spec.refusal_line refusal part.now) }
+    ensures status { result ≡ statuses.DEVICE }
+{
+    match refusal {
+        Refusal::Input => tell_line(b"input cannot be opened", errors),
+        Refusal::Output => tell_line(b"output cannot be opened", errors),
+        Refusal::Same => tell_line(b"output is the input", errors),
+        Refusal::OutputWithin => tell_line(b"output is within the input", errors),
+        Refusal::InputWithin => tell_line(b"input is within the output", errors),
+        Refusal::PartThere => tell_part_there(part, errors),
+        Refusal::NotEmpty => tell_line(b"output is not empty", errors),
+    }
+    DEVICE
+}
+
+/// Tells how the names of a run ended, where that is not as it should be. Answers the status by that.
+fn tell_end<E: DeviceOut>(
+    end: End,
+    is_empty: bool,
+    list: &[u8],
+    part: &[u8],
+    errors: &mut Watched<E>,
+) -> u8
+    ensures line { calls.Reports E.DeviceOut errors.old errors.new (spec.end_line end is_empty list.now part.now) }
+    ensures status { result ≡ spec.end_status end is_empty }
+    ensures within { result ≤ statuses.DEVICE }
+{
+    match end {
+        End::Whole if !is_empty => return DONE,
+        End::Whole => tell_line(b"input has no files", errors),
+        End::Unread(read) => {
+            let _ = put_unread(list, read, errors);
+        }
+        End::Stopped(Stop::Manifest) => tell_line(b"output failed", errors),
+        End::Stopped(Stop::PartThere) => tell_part_there(part, errors),
+    }
+    DEVICE
+}
+
+/// Shows the counts at the end of a run, where they are wanted.
+fn tell_counts<E: DeviceOut>(shows: bool, tally: Tally, errors: &mut Watched<E>)
+    ensures { calls.Reports E.DeviceOut errors.old errors.new (spec.last_counts shows tally) }
+{
+    if shows {
+        let _ = put_counts(tally, b"\n", errors);
+    }
+}
