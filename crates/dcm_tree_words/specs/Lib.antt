@@ -1,0 +1,5 @@
+pub mod Parts
+pub mod TreeWords
+pub mod Trees
+pub mod Plans
+pub mod Pieces
