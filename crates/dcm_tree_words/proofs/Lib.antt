@@ -1,5 +1,3 @@
-pub mod Apart
-pub mod PartNumbers
-pub mod Sayings
-pub mod Meanings
+mod PartNumbers
+mod Sayings
 mod TreeRows

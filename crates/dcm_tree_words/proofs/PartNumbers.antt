@@ -1,14 +1,12 @@
 -- The numbers of parts.
-use Rattle.std.proofs.Common.{◌≡◌, ◌∙◌, ap, sym, refl, ℕ, ◌+◌, ◌<◌, ◌≤◌, ◌^◌, List, length, Option, Some, None, Bool, true, false, arith, lit<}
-use Rattle.std.specs.Prelude.{if◌then◌else◌, nat_le, ◌&&◌}
-use Rattle.std.specs.Str.{byte}
+use Rattle.std.proofs.Common.{◌≡◌, ℕ, ◌+◌, ◌≤◌, ◌^◌, List, length, Some, Bool, true, false, arith, lit<}
+use Rattle.std.specs.Prelude.{nat_le, ◌&&◌}
 use Rattle.std.proofs.lemmas.Bool.Decides.{nat_tests}
 use Rattle.std.proofs.Math.Nat.{pow-le-pow_right}
 use Rattle.dcm_base.specs.Lines.ReadValue.{number_in, decimal_number}
 use Rattle.dcm_base.proofs.DumpsBack.DigitNumbers.{if_some}
-use Rattle.dcm_edits.specs.EditWords.{Cut, cut, cut_at}
 use Rattle.dcm_edits.proofs.Words.IndexNumbers.{number_below}
-use Rattle.dcm_tree_words.specs.Parts.{Part, short_number, part_with, part_of_cut, part_of}
+use Rattle.dcm_tree_words.specs.Parts.{short_number}
 
 within_four : (i : ℕ) → i ≤ 4 → 10 ^ i ≤ 10 ^ 4
 within_four i h = pow-le-pow_right {n = 10} (lit< tt) {i = i} {j = 4} h
