@@ -54,10 +54,15 @@ tree_as p = record {
   job = job_of p.job;
 }
 
--- what a function returned is what the words mean, unless the memory for edits was refused
+-- what a function returned is what the words mean
 abbrev pub GivesTree : {A : Type 0} → Result (TreePlan A) Usage → Result spec.Tree Usage → Type 0
 GivesTree (Ok p) meant = meant ≡ Ok (tree_as p)
-GivesTree (Err Memory) meant = Unit {0}
-GivesTree (Err (AtWord fault n)) meant = meant ≡ Err (AtWord fault n)
-GivesTree (Err (Whole fault)) meant = meant ≡ Err (Whole fault)
-GivesTree (Err (InEdit refusal n)) meant = meant ≡ Err (InEdit refusal n)
+GivesTree (Err u) meant = meant ≡ Err u
+
+-- the same, but where the memory for edits was refused
+abbrev pub GivesTreeUnlessMemory : {A : Type 0} → Result (TreePlan A) Usage → Result spec.Tree Usage → Type 0
+GivesTreeUnlessMemory (Ok p) meant = meant ≡ Ok (tree_as p)
+GivesTreeUnlessMemory (Err Memory) meant = Unit {0}
+GivesTreeUnlessMemory (Err (AtWord fault n)) meant = meant ≡ Err (AtWord fault n)
+GivesTreeUnlessMemory (Err (Whole fault)) meant = meant ≡ Err (Whole fault)
+GivesTreeUnlessMemory (Err (InEdit refusal n)) meant = meant ≡ Err (InEdit refusal n)

@@ -6,7 +6,7 @@ use Rattle.std.specs.Option.{option_or}
 use Rattle.std.specs.Str.{byte}
 use Rattle.dcm_base.specs.declared.fault.WordFault.TheVariants.{UnknownTool, BadOptionValue, WrongPaths, OptionsApart}
 use Rattle.dcm_words.specs.declared.usage.Usage.{Usage}
-use Rattle.dcm_words.specs.declared.usage.Usage.TheVariants.{AtWord, Whole, InEdit}
+use Rattle.dcm_words.specs.declared.usage.Usage.TheVariants.{AtWord, Whole, InEdit, Memory}
 use Rattle.dcm_words.specs.Words.{Job, Plan, standard, meant}
 use Rattle.dcm_words.specs.Places.{TwoPaths, two_paths}
 use Rattle.dcm_tree_words.specs.declared.word.TreeTool.{TreeTool}
@@ -191,7 +191,9 @@ fault_among t ps one refusal = first_fault t (record {
   refusal = refusal;
 })
 
+-- want of memory, which no words mean, comes before all else
 abbrev pub meant_by : TreeTool → List Piece → List (List ℕ) → Result Plan Usage → Result Tree Usage
+meant_by t ps one (Err Memory) = Err Memory
 meant_by t ps one plan = unless (fault_among t ps one (refusal_of plan)) (said_of t ps).options plan
 
 abbrev pub meant_apart : TreeTool → List Piece → List (List ℕ) → Result Tree Usage

@@ -1,8 +1,8 @@
 // The runs over trees that words mean.
-ghost use Rattle.std.specs.Prelude.{◌≡◌, map};
-ghost use Rattle.dcm_words.specs.Plans.{planned as planned_of};
+ghost use Rattle.std.specs.Prelude.{◌≡◌, false};
+ghost use Rattle.dcm_words.specs.Plans.{planned as planned_of, takes_memory};
 ghost use Rattle.dcm_tree_words.specs.Pieces.{texts, pieces_of};
-ghost use Rattle.dcm_tree_words.specs.Plans.{GivesTree, source_as, options_as, tree_as};
+ghost use Rattle.dcm_tree_words.specs.Plans.{GivesTree, GivesTreeUnlessMemory, source_as, options_as, tree_as};
 ghost use Rattle.dcm_tree_words.specs.TreeWords.{pieces_among, others_alone};
 ghost use Rattle.dcm_tree_words.specs.Trees as spec;
 
@@ -98,7 +98,10 @@ fn plan_of<'a, A: Allocator + Copy>(
     others: &'a [&'a [u8]],
     one: &'a [&'a [u8]],
 ) -> Result<TreePlan<'a, A>, Usage>
-    ensures { GivesTree result (spec.meant_apart tool (pieces_among tool (texts others.now)) (texts one.now)) }
+    ensures meant { GivesTreeUnlessMemory result
+        (spec.meant_apart tool (pieces_among tool (texts others.now)) (texts one.now)) }
+    ensures memory { takes_memory (texts one.now) ≡ false
+        → GivesTree result (spec.meant_apart tool (pieces_among tool (texts others.now)) (texts one.now)) }
 {
     let (among, _) = apart(tool, others);
     match plan(alloc, one) {
@@ -123,7 +126,8 @@ pub fn tree_plan<'a, A: Allocator + Copy>(
     one: &'a [&'a [u8]],
 ) -> Result<TreePlan<'a, A>, Usage>
     requires { texts one.now ≡ spec.words_of_one (texts words.now) }
-    ensures { GivesTree result (spec.meant_tree (texts words.now)) }
+    ensures meant { GivesTreeUnlessMemory result (spec.meant_tree (texts words.now)) }
+    ensures memory { takes_memory (texts one.now) ≡ false → GivesTree result (spec.meant_tree (texts words.now)) }
 {
     let [name, others @ ..] = words else {
         return Err(Usage::AtWord(WordFault::UnknownTool, 1));
