@@ -1,3 +1,4 @@
 mod PartNumbers
 mod Sayings
 mod TreeRows
+mod NoText

@@ -3,3 +3,4 @@ pub mod TreeWords
 pub mod Trees
 pub mod Plans
 pub mod Pieces
+pub mod Laws

@@ -6,6 +6,7 @@
 //! - `tree_plan` reads both into a `TreePlan`: the source of names, the output, `TreeOptions`, and the `Job`.
 //! - Words that are refused are a `Usage` of dcm_words, with the number that a word has among all of them.
 //! - `part_of` reads a `Part`.
+//! - `laws` has a law of the definitions: words that ask for such a run ask for no text.
 //!
 //! A run over a folder:
 //!
@@ -15,6 +16,7 @@
 //!     assert!(rt; tree.source == Source::Folder(b"in".as_slice()) && !tree.options.continues);
 #![tactic(auto)]
 
+pub mod laws;
 mod own;
 mod part;
 mod part_word;

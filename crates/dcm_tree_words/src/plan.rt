@@ -44,7 +44,7 @@ fn source_of(path: &[u8]) -> Source
 }
 
 /// Whether words ask for a run over a tree: they are those of a tool that runs over trees, and have a word of a tree
-/// where it is one. Then they ask for no text about the tool.
+/// where it is one. They ask for no text then (`laws`).
 #[tactic(auto, unfolding(crate::specs::Trees::asks_tree))]
 pub fn asks_tree<'a>(words: &'a [&'a [u8]]) -> bool
     ensures { result ≡ spec.asks_tree (texts words.now) }
