@@ -1,5 +1,5 @@
 -- Worked rows: the words of runs over trees.
-use Rattle.std.proofs.Common.{◌≡◌, ℕ, [], ◌∷◌, Some, None, true, false, Ok, Err, refl}
+use Rattle.std.proofs.Common.{◌≡◌, ℕ, List, [], ◌∷◌, Option, Some, None, Bool, true, false, Result, Ok, Err, refl}
 use Rattle.std.specs.Prelude.{codes}
 use Rattle.dcm_base.specs.Tables.Syntax.{Little}
 use Rattle.dcm_base.specs.declared.fault.EditRefusal.TheVariants.{BadOption, UnknownTag}
@@ -8,7 +8,7 @@ use Rattle.dcm_base.specs.declared.dictionary.Dictionary.TheVariants.{Extract, S
 use Rattle.dcm_base.specs.Tables.Dictionary.{elements, entries, keywords, elements_in, element_in, tag_in}
 use Rattle.dcm_edits.specs.Edit.{erase_private}
 use Rattle.dcm_words.specs.declared.usage.Usage.TheVariants.{AtWord, Whole, InEdit}
-use Rattle.dcm_words.specs.Words.{meant, no_options, convert, modify, deidentify}
+use Rattle.dcm_words.specs.Words.{Job, Plan, meant, no_options, convert, modify, deidentify}
 use Rattle.dcm_words.specs.Places.{two_paths}
 use Rattle.dcm_tree_words.specs.Parts.{whole, part_of}
 use Rattle.dcm_tree_words.specs.Trees.{Options, folder, list, meant_tree, asks_tree, words_of_one}
@@ -17,6 +17,9 @@ use Rattle.dcm_tree_words.specs.Trees.{Options, folder, list, meant_tree, asks_t
 unfoldable all : ℕ
 unfolding meant two_paths meant_tree asks_tree words_of_one elements entries keywords elements_in element_in tag_in
 all = 0
+
+abbrev planned : (input output : List ℕ) → (key : Option (List ℕ)) → Job → Plan
+planned input output key job = record { input = input; output = output; key = key; job = job }
 
 -- what is said of a run without a word
 abbrev usual : Options
@@ -226,35 +229,35 @@ left_all = refl
 
 -- ---- runs over trees
 
-plain : meant_tree (codes "dcmconv" ∷ codes "+r" ∷ codes "in" ∷ codes "out" ∷ []) ≡ Ok (record { source = folder (codes "in"); output = codes "out"; key = None; options = usual; job = convert Extract None })
+plain : meant_tree (codes "dcmconv" ∷ codes "+r" ∷ codes "in" ∷ codes "out" ∷ []) ≡ Ok (record { source = folder (codes "in"); options = usual; plan = planned (codes "in") (codes "out") None (convert Extract None) })
 unfolding all
 plain = refl
 
-options : meant_tree (codes "dcmconv" ∷ codes "in" ∷ codes "+dict" ∷ codes "+r" ∷ codes "out/" ∷ codes "+te" ∷ codes "+nh" ∷ []) ≡ Ok (record { source = folder (codes "in"); output = codes "out/"; key = None; options = record usual { has_header = false }; job = convert Standard (Some Little) })
+options : meant_tree (codes "dcmconv" ∷ codes "in" ∷ codes "+dict" ∷ codes "+r" ∷ codes "out/" ∷ codes "+te" ∷ codes "+nh" ∷ []) ≡ Ok (record { source = folder (codes "in"); options = record usual { has_header = false }; plan = planned (codes "in") (codes "out/") None (convert Standard (Some Little)) })
 unfolding all
 options = refl
 
-listed : meant_tree (codes "dcmconv" ∷ codes "+r" ∷ codes "@list" ∷ codes "+v" ∷ codes "out" ∷ codes "+c" ∷ []) ≡ Ok (record { source = list (codes "list"); output = codes "out"; key = None; options = record usual { continues = true; counts = true }; job = convert Extract None })
+listed : meant_tree (codes "dcmconv" ∷ codes "+r" ∷ codes "@list" ∷ codes "+v" ∷ codes "out" ∷ codes "+c" ∷ []) ≡ Ok (record { source = list (codes "list"); options = record usual { continues = true; counts = true }; plan = planned (codes "@list") (codes "out") None (convert Extract None) })
 unfolding all
 listed = refl
 
-last_part : meant_tree (codes "dcmconv" ∷ codes "+part" ∷ codes "1/9" ∷ codes "+r" ∷ codes "+part" ∷ codes "03/5" ∷ codes "@-" ∷ codes "out" ∷ []) ≡ Ok (record { source = list (codes "-"); output = codes "out"; key = None; options = record usual { continues = true; part = record { number = 3; count = 5 } }; job = convert Extract None })
+last_part : meant_tree (codes "dcmconv" ∷ codes "+part" ∷ codes "1/9" ∷ codes "+r" ∷ codes "+part" ∷ codes "03/5" ∷ codes "@-" ∷ codes "out" ∷ []) ≡ Ok (record { source = list (codes "-"); options = record usual { continues = true; part = record { number = 3; count = 5 } }; plan = planned (codes "@-") (codes "out") None (convert Extract None) })
 unfolding all
 last_part = refl
 
-edits : meant_tree (codes "dcmodify" ∷ codes "-ep" ∷ codes "+part" ∷ codes "1/1" ∷ codes "+r" ∷ codes "+v" ∷ codes "in" ∷ codes "out" ∷ []) ≡ Ok (record { source = folder (codes "in"); output = codes "out"; key = None; options = record usual { continues = true; counts = true }; job = modify Extract (erase_private ∷ []) })
+edits : meant_tree (codes "dcmodify" ∷ codes "-ep" ∷ codes "+part" ∷ codes "1/1" ∷ codes "+r" ∷ codes "+v" ∷ codes "in" ∷ codes "out" ∷ []) ≡ Ok (record { source = folder (codes "in"); options = record usual { continues = true; counts = true }; plan = planned (codes "in") (codes "out") None (modify Extract (erase_private ∷ [])) })
 unfolding all
 edits = refl
 
-new_names : meant_tree (codes "dcmdeid" ∷ codes "+r" ∷ codes "in" ∷ codes "out" ∷ []) ≡ Ok (record { source = folder (codes "in"); output = codes "out"; key = None; options = record usual { keeps_names = false }; job = deidentify no_options true [] })
+new_names : meant_tree (codes "dcmdeid" ∷ codes "+r" ∷ codes "in" ∷ codes "out" ∷ []) ≡ Ok (record { source = folder (codes "in"); options = record usual { keeps_names = false }; plan = planned (codes "in") (codes "out") None (deidentify no_options true []) })
 unfolding all
 new_names = refl
 
-kept_names : meant_tree (codes "dcmdeid" ∷ codes "+kn" ∷ codes "+bi" ∷ codes "in" ∷ codes "out" ∷ codes "+r" ∷ []) ≡ Ok (record { source = folder (codes "in"); output = codes "out"; key = None; options = usual; job = deidentify no_options false [] })
+kept_names : meant_tree (codes "dcmdeid" ∷ codes "+kn" ∷ codes "+bi" ∷ codes "in" ∷ codes "out" ∷ codes "+r" ∷ []) ≡ Ok (record { source = folder (codes "in"); options = usual; plan = planned (codes "in") (codes "out") None (deidentify no_options false []) })
 unfolding all
 kept_names = refl
 
-with_key : meant_tree (codes "dcmdeid" ∷ codes "+k" ∷ codes "key" ∷ codes "+r" ∷ codes "in" ∷ codes "out" ∷ []) ≡ Ok (record { source = folder (codes "in"); output = codes "out"; key = Some (codes "key"); options = record usual { keeps_names = false }; job = deidentify no_options true [] })
+with_key : meant_tree (codes "dcmdeid" ∷ codes "+k" ∷ codes "key" ∷ codes "+r" ∷ codes "in" ∷ codes "out" ∷ []) ≡ Ok (record { source = folder (codes "in"); options = record usual { keeps_names = false }; plan = planned (codes "in") (codes "out") (Some (codes "key")) (deidentify no_options true []) })
 unfolding all
 with_key = refl
 

@@ -3,7 +3,7 @@ use Rattle.std.specs.Prelude.{◌≡◌, ℕ, Option, Some, Result, Ok, Err}
 use Rattle.std.specs.Option.{option_map}
 use Rattle.dcm_words.specs.declared.usage.Usage.{Usage}
 use Rattle.dcm_words.specs.declared.usage.Usage.TheVariants.{AtWord, Whole, InEdit, Memory}
-use Rattle.dcm_words.specs.Plans.{job_of}
+use Rattle.dcm_words.specs.Plans.{planned}
 use Rattle.dcm_words.specs.PlacesAs.{two_as}
 use Rattle.dcm_tree_words.specs.declared.part.Part.{Part}
 use Rattle.dcm_tree_words.specs.declared.said.TreeOptions.{TreeOptions}
@@ -48,10 +48,8 @@ source_as (sources.List path) = spec.list path.now
 abbrev pub tree_as : {A : Type 0} → TreePlan A → spec.Tree
 tree_as p = record {
   source = source_as p.source;
-  output = p.output.now;
-  key = option_map (λ k. k.now) p.key;
   options = options_as p.options;
-  job = job_of p.job;
+  plan = planned p.planned;
 }
 
 -- what a function returned is what the words mean

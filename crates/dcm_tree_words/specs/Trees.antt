@@ -7,7 +7,7 @@ use Rattle.std.specs.Str.{byte}
 use Rattle.dcm_base.specs.declared.fault.WordFault.TheVariants.{UnknownTool, BadOptionValue, WrongPaths, OptionsApart}
 use Rattle.dcm_words.specs.declared.usage.Usage.{Usage}
 use Rattle.dcm_words.specs.declared.usage.Usage.TheVariants.{AtWord, Whole, InEdit, Memory}
-use Rattle.dcm_words.specs.Words.{Job, Plan, standard, meant}
+use Rattle.dcm_words.specs.Words.{Plan, standard, meant}
 use Rattle.dcm_words.specs.Places.{TwoPaths, two_paths}
 use Rattle.dcm_tree_words.specs.declared.word.TreeTool.{TreeTool}
 use Rattle.dcm_tree_words.specs.declared.word.TreeTool.TheVariants.{Convert, Modify, Deidentify}
@@ -143,22 +143,14 @@ abbrev pub source_of : List ℕ → Source
 source_of [] = folder []
 source_of (c ∷ cs) = if c == byte "@" then list cs else folder (c ∷ cs)
 
--- a run over a tree: the job that is done for each file, and the path of the key, which is not read so far
+-- a run over a tree, and the plan by which each file is done
 pub record Tree : Type 0 where
   pub source : Source
-  pub output : List ℕ
-  pub key : Option (List ℕ)
   pub options : Options
-  pub job : Job
+  pub plan : Plan
 
 abbrev pub tree_with : Options → Plan → Tree
-tree_with options p = record {
-  source = source_of p.input;
-  output = p.output;
-  key = p.key;
-  options = options;
-  job = p.job;
-}
+tree_with options p = record { source = source_of p.input; options = options; plan = p }
 
 -- a word that is refused has the number that was given
 abbrev pub as_given : List Piece → Usage → Usage

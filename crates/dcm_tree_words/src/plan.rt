@@ -11,7 +11,7 @@ use crate::refusal::{Known, first_fault};
 use crate::said::{TreeOptions, has_tree_word, said_by, unfit_part};
 use crate::word::{TreeTool, tree_tool};
 use dcm_base::WordFault;
-use dcm_words::{Job, Planned, Usage, plan, two_paths};
+use dcm_words::{Planned, Usage, plan, two_paths};
 use std::alloc::{Allocator, Global};
 
 /// Where the names of a run come from.
@@ -23,14 +23,13 @@ pub enum Source<'a> {
     List(&'a [u8]),
 }
 
-/// A run over a tree: the job that is done for each file, and the path of the key, which is not read so far.
+/// A run over a tree, and the plan by which each file is done: its output is the folder of all outputs, and its input
+/// the word that names the source.
 #[derive(Drop)]
 pub struct TreePlan<'a, A: Allocator = Global> {
     pub source: Source<'a>,
-    pub output: &'a [u8],
-    pub key: Option<&'a [u8]>,
     pub options: TreeOptions,
-    pub job: Job<A>,
+    pub planned: Planned<'a, A>,
 }
 
 /// The source that a path names: behind `@` it is a list.
@@ -84,10 +83,8 @@ fn tree_with<'a, A: Allocator>(options: TreeOptions, planned: Planned<'a, A>) ->
 {
     TreePlan {
         source: source_of(planned.input),
-        output: planned.output,
-        key: planned.key,
         options,
-        job: planned.job,
+        planned,
     }
 }
 

@@ -54,12 +54,12 @@ fn size_of(job: &Job) -> usize {
 
 /// Whether a run is as it is expected to be.
 fn is_as(tree: &TreePlan, expected: Expected) -> bool {
-    let key = tree.key.unwrap_or(b"");
+    let key = tree.planned.key.unwrap_or(b"");
     tree.source == expected.source
-        && tree.output == expected.output.as_bytes()
+        && tree.planned.output == expected.output.as_bytes()
         && key == expected.key.as_bytes()
         && tree.options == expected.options
-        && size_of(&tree.job) == expected.job
+        && size_of(&tree.planned.job) == expected.job
 }
 
 /// Whether the words of a line mean the run that is expected.
