@@ -4,6 +4,7 @@ use dcm_tree_words::{
     Part, Source, TreeOptions, TreePlan, asks_tree, part_of, tree_plan, words_of_one,
 };
 use dcm_words::{Convert, Deidentify, Job, Modify, Usage};
+use linked_list_allocator::LocalHeap;
 use std::process::Abort;
 use std::test::Fail;
 
@@ -341,5 +342,32 @@ fn reads_parts(rt: HostRuntime) -> Result<(), Fail> {
     }
     let seven = part(&rt, "07/0009");
     holds(&rt, "07/0009", seven.number == 7 && seven.count == 9);
+    Ok(())
+}
+
+/// A heap hands out its memory in units of so many bytes.
+const UNIT: usize = 16;
+
+/// Whether the words without those of a tree fit into a heap. If so they are as many as expected.
+fn fit(heap: &LocalHeap, words: &[&[u8]], expected: usize) -> Result<bool, Fail> {
+    match words_of_one(heap, words) {
+        Ok(one) if one.len() == expected => Ok(true),
+        Ok(_) => Err(Fail::new("other words")),
+        Err(_) => Ok(false),
+    }
+}
+
+#[test]
+fn takes_all_words_or_none(rt: HostRuntime) -> Result<(), Fail> {
+    let words = words_of(rt, "dcmdeid +k key +r +ru +part 1/2 in +c out +rp")?;
+    let mut is_enough = false;
+    for units in 1..64 {
+        let heap = LocalHeap::new(rt.alloc(), units * UNIT)?;
+        let fits = fit(&heap, words.as_slice(), 7)?;
+        holds(&rt, "more memory is enough", fits || !is_enough);
+        holds(&rt, "all memory is given back", heap.used() == 0);
+        is_enough = fits;
+    }
+    holds(&rt, "much memory is enough", is_enough);
     Ok(())
 }
