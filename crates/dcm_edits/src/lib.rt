@@ -4,6 +4,7 @@
 //!   refuses them with an `EditFault`. It is the only call of the tools that takes memory, from the allocator that it
 //!   is given. `dictionary_said` is the dictionary that the words name by `+dict` and `-dict`, and `Edits::parse` takes
 //!   the extract.
+//! - `takes_next` says of a word whether the next one is that edit's own, and `cut_at` cuts a text at a byte.
 //! - An `Edit` is a path with an `Action` at its end, or is of all data sets at every depth. A `Step` of a path leads
 //!   into one item of a sequence, or into every one.
 //! - `specs` has the definitions of edits: what one edit does to a data set (`Edit`), what all do at once (`Together`),
@@ -28,4 +29,5 @@ mod path;
 pub use edit::{Action, Edit, Index, NewElement, PathEdit, Step};
 pub use edits::{Edits, MOST_EDITS};
 pub use fault::EditFault;
-pub use parse::{dictionary_said, dictionary_word};
+pub use parse::{dictionary_said, dictionary_word, takes_next};
+pub use path::cut_at;

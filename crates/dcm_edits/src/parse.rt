@@ -54,6 +54,13 @@ fn option_word(word: &[u8]) -> OptionWord
     }
 }
 
+/// Whether a word is an option of an edit that has the next word, whatever that is.
+pub fn takes_next(word: &[u8]) -> bool
+    ensures { result ≡ spec.takes_next (spec.option_word word.now) }
+{
+    option_word(word).takes_next()
+}
+
 /// The dictionary that a word names: `+dict` the standard, `-dict` the extract. Other words name none.
 pub fn dictionary_word(word: &[u8]) -> Option<Dictionary>
     ensures { result ≡ spec.dictionary_word word.now }
@@ -75,7 +82,7 @@ pub fn dictionary_said(words: &[&[u8]]) -> Dictionary
     let mut dictionary = Dictionary::Extract;
     let mut place = 0;
     while place < words.len() {
-        if option_word(words[place]).takes_next() {
+        if takes_next(words[place]) {
             place += 2;
         } else {
             dictionary = dictionary_word(words[place]).unwrap_or(dictionary);

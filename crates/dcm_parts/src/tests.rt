@@ -8,6 +8,7 @@ mod heads;
 mod lines;
 mod memory;
 mod texts;
+mod tree_words;
 mod values;
 mod words;
 

@@ -2,3 +2,4 @@ pub mod WordLemmas
 pub mod Limits
 pub mod WordRows
 pub mod ModifyWords
+pub mod PathsApart

@@ -6,7 +6,7 @@ use Rattle.dcm_words.specs.declared.usage.Usage.TheVariants.{Whole}
 use Rattle.dcm_words.specs.Words.{Plan, EditWords, and_edit_word, paths_apart, is_path, modify_plan, modify_plan_with}
 use Rattle.dcm_words.specs.Plans.{edits_between, has_paths}
 
-abbrev texts : List (Bor (List ℕ)) → List (List ℕ)
+abbrev pub texts : List (Bor (List ℕ)) → List (List ℕ)
 texts ws = map (λ w. w.now) ws
 
 one_before : (w : List ℕ) (vs : List (List ℕ)) → 2 ≤ length vs → paths_apart (w ∷ vs) ≡ and_edit_word w (paths_apart vs)
@@ -30,7 +30,7 @@ ends (w ∷ v ∷ ws) (suc n) d e =
     one_before w.now (texts (v ∷ ws)) (two_texts (v ∷ ws) n shorter) ∙ ap (λ o. and_edit_word w.now o) (ends (v ∷ ws) n d shorter)
 
 -- the last two words are apart from the edits
-words_end : (ws : List (Bor (List ℕ))) (d : Bor (List ℕ)) → 2 ≤ length ws
+pub words_end : (ws : List (Bor (List ℕ))) (d : Bor (List ℕ)) → 2 ≤ length ws
     → paths_apart (texts ws) ≡ Some (edits_between (texts (take (length ws - 2) ws)) (get_or ws (length ws - 2) d).now (get_or ws (length ws - 1) d).now)
 words_end ws d h =
     let all : length ws ≡ suc (suc (length ws - 2)) = omega (arith, h) in

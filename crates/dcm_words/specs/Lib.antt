@@ -1,3 +1,5 @@
 pub mod Words
 pub mod Plans
 pub mod Topics
+pub mod Places
+pub mod PlacesAs

@@ -4,6 +4,8 @@
 //!   know.
 //! - `dump_of_each` reads the options of dcmdump of several files.
 //! - Words that are refused are a `Usage`: which word is wrong and why, which edit, or want of memory.
+//! - `takes_next` says whether a word of a tool has the next one, and `two_paths` which words are the input and the
+//!   output, for those who have words of their own among these.
 //! - `asked` says whether words ask for a text about the program, a `Topic`, in place of a job.
 //! - The words of dcmdeid may name a key. A `Planned` has its path; a `Deidentify` is to have its bytes.
 //! - The words of dcmodify between its name and its two paths are edits, which `Edits` of dcm_edits reads.
@@ -16,6 +18,7 @@
 #![tactic(auto)]
 
 mod job;
+mod places;
 mod plans;
 mod texts;
 mod topic;
@@ -23,6 +26,7 @@ mod usage;
 mod words;
 
 pub use job::{Build, Convert, Deidentify, Dump, Job, MOST_OF_KEY, Modify, Planned};
+pub use places::{TwoPaths, takes_next, two_paths};
 pub use plans::{dump_of_each, plan};
 pub use topic::{Topic, asked};
 pub use usage::Usage;

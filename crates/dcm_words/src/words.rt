@@ -191,7 +191,7 @@ fn deidentify_word(word: &[u8]) -> Word
 }
 
 /// What a word says to a tool.
-fn word_of(tool: Tool, word: &[u8]) -> Word
+pub fn word_of(tool: Tool, word: &[u8]) -> Word
     ensures { result ≡ reader tool word.now }
 {
     match tool {

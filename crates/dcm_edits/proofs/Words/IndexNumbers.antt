@@ -29,7 +29,7 @@ by_digit : (o : Option ℕ) (cs : List ℕ) (so_far k n : ℕ) → so_far < 10 ^
 by_digit None cs so_far k n h b f p = cc
 by_digit (Some d) cs so_far k n h b f p = one_digit cs so_far k n d h (b d refl) f p
 
-number_below : (cs : List ℕ) (so_far k n : ℕ) → so_far < 10 ^ k → number_in 10 so_far cs ≡ Some n → n < 10 ^ (k + length cs)
+pub number_below : (cs : List ℕ) (so_far k n : ℕ) → so_far < 10 ^ k → number_in 10 so_far cs ≡ Some n → n < 10 ^ (k + length cs)
 number_below [] so_far k n h p = let e : so_far ≡ n = cc in let z : k ≡ k + 0 = omega arith in subst (λ m. n < 10 ^ m) z (subst (λ x. x < 10 ^ k) e h)
 number_below (c ∷ cs) so_far k n h p =
     by_digit (digit 10 c) cs so_far k n h (λ d. digit_below (nat_lt (digit_value c) 10) (digit_value c) d refl) (λ m l. number_below cs m (k + 1) n l) p

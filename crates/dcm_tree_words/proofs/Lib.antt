@@ -1,0 +1,4 @@
+mod PartNumbers
+mod Sayings
+mod TreeRows
+mod NoText
