@@ -1,5 +1,5 @@
 -- A row that goes out and is flushed.
-use Rattle.std.proofs.Common.{◌≡◌, ◌∙◌, refl, subst, ℕ, List, true, Result, Ok, Err, OnOk}
+use Rattle.std.proofs.Common.{◌≡◌, ◌∙◌, refl, subst, inl, inr, ℕ, List, true, Result, Ok, Err, OnOk}
 use Rattle.std.specs.Prelude.{IsErr, IsOk}
 use Rattle.dcm_devices.specs.declared.device.WriteFailed.{WriteFailed}
 use Rattle.dcm_devices.specs.Device.{KeepsRoom, Tells}
@@ -8,6 +8,7 @@ use Rattle.dcm_walk.specs.Visits.{Named}
 use Rattle.dcm_trees.specs.declared.fate.Fate.{Fate}
 use Rattle.dcm_trees.specs.declared.file.PartThere.{PartThere}
 use Rattle.dcm_trees.specs.File.{Manner, DoesPlaced}
+use Rattle.dcm_cli.specs.Calls.{Reports}
 use Rattle.dcm_trees.specs.World.{World}
 use Rattle.dcm_trees.specs.Work.{PutsRow, put, not_put, not_flushed}
 
@@ -26,3 +27,8 @@ row_went w text from mid to (Ok y) (Err e) fine wrote bytes flushed room failed 
 pub placed_at : {S I O F E : Type 0} {w : World S I O F E} {m : Manner} {n : Named} {mode : ℕ} {from : E} {before : S} {r : Result Fate PartThere} {to : E} {after : S} (path other : List ℕ)
     → path ≡ other → DoesPlaced w m n mode path from before r to after → DoesPlaced w m n mode other from before r to after
 placed_at {S} {I} {O} {F} {E} {w} {m} {n} {mode} {from} {before} {r} {to} {after} path other is does = subst (λ (p : List ℕ). DoesPlaced w m n mode p from before r to after) is does
+
+-- where a list cannot be opened, that is told
+pub told : {E : Type 0} (e : Writer E) (from to : E) (lines : List ℕ) (r : Result (Unit {0}) WriteFailed) → Wrote e from to lines r → Reports e from to lines
+told e from to lines (Ok x) wrote = inl (wrote.bytes, wrote.failed)
+told e from to lines (Err f) wrote = inr (wrote.bytes, wrote.failed)

@@ -5,15 +5,18 @@ use Rattle.std.specs.IoError.{error_kind}
 use Rattle.std.specs.Str.{IsUtf8}
 use Rattle.std.specs.declared.io.Error.{Error}
 use Rattle.std.specs.declared.io.ErrorKind.TheVariants.{AlreadyExists}
+use Rattle.arrayvec.specs.ArrayVec.{ArrayVec}
 use Rattle.dcm_files.specs.Folders.{FoldersDo}
 use Rattle.dcm_files.specs.declared.folders.Found.{Found}
 use Rattle.dcm_files.specs.declared.folders.FoundKind.TheVariants.{Folder}
 use Rattle.dcm_files.specs.declared.folders.Links.TheVariants.{Kept, Followed}
 use Rattle.dcm_walk.specs.declared.folder.FolderNumber.{FolderNumber}
 use Rattle.dcm_walk.specs.Names.{PATH_LIMIT, is_slash}
+use Rattle.dcm_trees.specs.declared.beginning.Begun.{Begun}
 use Rattle.dcm_trees.specs.declared.beginning.Refusal.{Refusal}
 use Rattle.dcm_trees.specs.declared.beginning.Refusal.TheVariants.{Output, Same, OutputWithin, InputWithin, PartThere, NotEmpty}
 use Rattle.dcm_trees.specs.declared.beginning.WayUp.{WayUp}
+use Rattle.dcm_trees.specs.Place.{path_in}
 
 -- ---- looking, links followed
 
@@ -237,18 +240,28 @@ pub data ChecksUse {S O F : Type 0} (d : FoldersDo S O F) (output : List ℕ) (c
   goes_on : continues ≡ true → r ≡ Ok _ → after ≡ before → ChecksUse d output continues before r after
   is_new : continues ≡ false → ChecksEmpty d output before r after → ChecksUse d output continues before r after
 
+-- the path of the part in the folder of the outputs
+pub data IsPart (output part : List ℕ) (r : Result (ArrayVec ℕ) Refusal) : Type 0 where
+  fits : (path : ArrayVec ℕ) → path_in output part ≡ Some path.items → r ≡ Ok path → IsPart output part r
+  too_long : path_in output part ≡ None → r ≡ Err Output → IsPart output part r
+
 -- all of it, one after the other
 pub data Begins {S O F : Type 0} (d : FoldersDo S O F) (input : List ℕ) (is_list : Bool) (output part : List ℕ)
-    (continues : Bool) (before : S) (r : Result FolderNumber Refusal) (after : S) : Type 0 where
+    (continues : Bool) (before : S) (r : Result Begun Refusal) (after : S) : Type 0 where
   no_output : (refusal : Refusal) → HasOutput d input is_list output before (Err refusal) after → r ≡ Err refusal
       → Begins d input is_list output part continues before r after
-  has_part : (number : FolderNumber) (refusal : Refusal) (mid : S) → HasOutput d input is_list output before (Ok number) mid
-      → ChecksPart d part mid (Err refusal) after → r ≡ Err refusal
+  no_part : (number : FolderNumber) (refusal : Refusal) → HasOutput d input is_list output before (Ok number) after
+      → IsPart output part (Err refusal) → r ≡ Err refusal
       → Begins d input is_list output part continues before r after
-  in_use : (number : FolderNumber) (refusal : Refusal) (mid checked : S)
-      → HasOutput d input is_list output before (Ok number) mid → ChecksPart d part mid (Ok _) checked
-      → ChecksUse d output continues checked (Err refusal) after → r ≡ Err refusal
+  has_part : (number : FolderNumber) (path : ArrayVec ℕ) (refusal : Refusal) (mid : S)
+      → HasOutput d input is_list output before (Ok number) mid → IsPart output part (Ok path)
+      → ChecksPart d path.items mid (Err refusal) after → r ≡ Err refusal
       → Begins d input is_list output part continues before r after
-  begun : (number : FolderNumber) (mid checked : S) → HasOutput d input is_list output before (Ok number) mid
-      → ChecksPart d part mid (Ok _) checked → ChecksUse d output continues checked (Ok _) after → r ≡ Ok number
-      → Begins d input is_list output part continues before r after
+  in_use : (number : FolderNumber) (path : ArrayVec ℕ) (refusal : Refusal) (mid checked : S)
+      → HasOutput d input is_list output before (Ok number) mid → IsPart output part (Ok path)
+      → ChecksPart d path.items mid (Ok _) checked → ChecksUse d output continues checked (Err refusal) after
+      → r ≡ Err refusal → Begins d input is_list output part continues before r after
+  begun : (number : FolderNumber) (path : ArrayVec ℕ) (mid checked : S)
+      → HasOutput d input is_list output before (Ok number) mid → IsPart output part (Ok path)
+      → ChecksPart d path.items mid (Ok _) checked → ChecksUse d output continues checked (Ok _) after
+      → r ≡ Ok (record { number = number; part = path }) → Begins d input is_list output part continues before r after

@@ -9,3 +9,4 @@ pub mod File
 pub mod Work
 pub mod Beginning
 pub mod Run
+pub mod Tree

@@ -84,13 +84,13 @@ came p = record p { is_empty = false }
 pub data VisitsName {S I O F W E : Type 0} (w : World S I O F E) (manifest : Writer W) (shared : Shared)
     (from : Progress W) (told_before : E) (before : S) (n : Named) (what : What) (r : Result (Unit {0}) Stopped)
     (to : Progress W) (told : E) (after : S) : Type 0 where
-  of_another : is_of shared.share.number shared.share.count n.relative ≡ false → to ≡ came from → told ≡ told_before
+  of_another : is_of shared.part.number shared.part.count n.relative ≡ false → to ≡ came from → told ≡ told_before
       → after ≡ before → r ≡ Ok _ → VisitsName w manifest shared from told_before before n what r to told after
-  was_done : (fate : Fate) (done : E) → is_of shared.share.number shared.share.count n.relative ≡ true
+  was_done : (fate : Fate) (done : E) → is_of shared.part.number shared.part.count n.relative ≡ true
       → DoesName w (manner_of shared.manner) n what told_before before (Ok fate) done after
       → EndsName manifest w.errors shared.shows_counts n fate (came from) done r to told
       → VisitsName w manifest shared from told_before before n what r to told after
-  part_there : (p : PartThere) (s : Stopped) → is_of shared.share.number shared.share.count n.relative ≡ true
+  part_there : (p : PartThere) (s : Stopped) → is_of shared.part.number shared.part.count n.relative ≡ true
       → DoesName w (manner_of shared.manner) n what told_before before (Err p) told after
       → to ≡ record (came from) { stop = Some stops.PartThere } → r ≡ Err s
       → VisitsName w manifest shared from told_before before n what r to told after

@@ -2,7 +2,7 @@
 ghost use Rattle.std.specs.Prelude.{◌≡◌, ◌≢◌, ◌||◌, true, false, option_map};
 ghost use Rattle.dcm_trees.specs.Beginning as spec;
 
-use crate::place::{OutputPath, was_there};
+use crate::place::{OutputPath, path_in, was_there};
 use arrayvec::ArrayVec;
 use dcm_files::{EntryName, Folders, Found, FoundKind, Links};
 use dcm_walk::FolderNumber;
@@ -345,6 +345,25 @@ fn check_use<S: Folders>(output: &[u8], continues: bool, system: &mut S) -> Resu
     }
 }
 
+/// What a run knows of the folder of its outputs.
+#[derive(Drop)]
+pub struct Begun {
+    /// The folder.
+    pub number: FolderNumber,
+    /// The path at which an output is written.
+    pub part: OutputPath,
+}
+
+/// The path of the part in the folder of the outputs.
+fn part_in(output: &[u8], part: &[u8]) -> Result<OutputPath, Refusal>
+    ensures { spec.IsPart output.now part.now result }
+{
+    match path_in(output, part) {
+        Some(path) => Ok(path),
+        None => Err(Refusal::Output),
+    }
+}
+
 /// Looks at what is there before a run, and makes the folder of the outputs where it is not there. The names of a list
 /// are read from the current folder.
 pub fn begin<S: Folders>(
@@ -354,11 +373,12 @@ pub fn begin<S: Folders>(
     part: &[u8],
     continues: bool,
     system: &mut S,
-) -> Result<FolderNumber, Refusal>
+) -> Result<Begun, Refusal>
     ensures { spec.Begins S.folders_do input.now is_list output.now part.now continues system.old result system.new }
 {
     let number = have_output(input, is_list, output, system)?;
-    check_part(part, system)?;
+    let part = part_in(output, part)?;
+    check_part(part.as_slice(), system)?;
     check_use(output, continues, system)?;
-    Ok(number)
+    Ok(Begun { number, part })
 }

@@ -3,9 +3,9 @@ ghost use Rattle.std.specs.Prelude.{◌≤◌};
 ghost use Rattle.dcm_cli.specs.Status as statuses;
 
 use crate::file::Manner;
-use crate::share::Share;
 use crate::tally::Tally;
 use dcm_base::Watched;
+use dcm_tree_words::Part;
 
 /// Why a run ends before its last name.
 #[derive(Clone, Copy, Debug, PartialEq, Eq)]
@@ -21,7 +21,7 @@ pub enum Stop {
 pub struct Shared<'a> {
     pub manner: Manner<'a>,
     /// Which of the names are done.
-    pub share: Share,
+    pub part: Part,
     /// Whether counts are shown.
     pub shows_counts: bool,
 }

@@ -3,18 +3,20 @@ ghost use Rattle.std.specs.Prelude.{◌≡◌, ◌≤◌, length};
 ghost use Rattle.dcm_cli.specs.Calls as calls;
 ghost use Rattle.dcm_cli.specs.Status as statuses;
 ghost use Rattle.dcm_trees.specs.Run as spec;
-ghost use Rattle.dcm_trees.specs.World.{world};
+ghost use Rattle.dcm_trees.specs.Work.{progress};
 
-use crate::beginning::{Refusal, begin};
-use crate::place::{OutputPath, path_in};
+use crate::beginning::Refusal;
+use crate::file::Manner;
 use crate::progress::{Shared, Stop, Work};
 use crate::row::put_header;
 use crate::tally::{Tally, put_counts};
 use arrayvec::ArrayVec;
 use dcm_base::{DeviceOut, Watched, WriteFailed, flush_out};
+use dcm_cli::Job;
 use dcm_cli::status::{DEVICE, DONE};
-use dcm_files::Folders;
 use dcm_names::{put_at_once, put_text, put_unread};
+use dcm_tree_words::TreeOptions;
+use dcm_walk::{ListEnd, Stopped};
 use itoa::Buffer;
 
 /// How the part of a run is named, before its number.
@@ -38,7 +40,7 @@ pub enum End {
 }
 
 /// The name of the part of a run, by its number.
-pub fn part_name(number: u32) -> PartName
+pub fn part_name(number: u16) -> PartName
     ensures { result.items ≡ spec.part_name number }
 {
     let mut digits = Buffer::new();
@@ -111,4 +113,85 @@ fn tell_counts<E: DeviceOut>(shows: bool, tally: Tally, errors: &mut Watched<E>)
     if shows {
         let _ = put_counts(tally, b"\n", errors);
     }
+}
+
+/// What a run over a tree is to do.
+#[derive(Clone, Copy)]
+pub struct TreeRun<'a> {
+    /// What is done with each file.
+    pub job: &'a Job,
+    /// The folder of the outputs.
+    pub output: &'a [u8],
+    pub options: TreeOptions,
+}
+
+/// What all names of a run share.
+pub(crate) fn shared_of<'a>(run: TreeRun<'a>, part: &'a [u8]) -> Shared<'a>
+    ensures { spec.Shares run.entry part.now result }
+{
+    Shared {
+        manner: Manner {
+            job: run.job,
+            output: run.output,
+            part,
+            continues: run.options.continues,
+        },
+        part: run.options.part,
+        shows_counts: run.options.counts,
+    }
+}
+
+/// Writes the header of the manifest, where it is wanted, and flushes it.
+pub(crate) fn put_first_row<W: DeviceOut>(
+    has_header: bool,
+    manifest: &mut Watched<W>,
+) -> Result<(), WriteFailed>
+    ensures { spec.PutsFirstRow W.DeviceOut has_header manifest.old result manifest.new }
+{
+    if !has_header {
+        return Ok(());
+    }
+    put_header(manifest)?;
+    flush_out(manifest)
+}
+
+/// How the names of a run ended, by what the walk answered and why the run ends before its last name, if it does.
+fn end_of(walked: Result<ListEnd, Stopped>, stop: Option<Stop>) -> End
+    ensures { result ≡ spec.end_of walked stop }
+{
+    match (walked, stop) {
+        (Ok(ListEnd::Whole), _) => End::Whole,
+        (Ok(ListEnd::Unread(read)), _) => End::Unread(read),
+        (Err(_), Some(stop)) => End::Stopped(stop),
+        (Err(_), None) => End::Stopped(Stop::Manifest),
+    }
+}
+
+/// Tells how a run ended whose manifest has no header, and answers its status.
+pub(crate) fn end_unwritten<E: DeviceOut>(shows_counts: bool, errors: &mut Watched<E>) -> u8
+    ensures ends { spec.EndsUnwritten E.DeviceOut shows_counts errors.old result errors.new }
+    ensures within { result ≤ statuses.DEVICE }
+{
+    tell_line(b"output failed", errors);
+    tell_counts(shows_counts, Tally::new(), errors);
+    DEVICE
+}
+
+/// Tells how a run ended, and answers its status, and its manifest.
+pub(crate) fn end_run<W: DeviceOut, E: DeviceOut>(
+    work: Work<W>,
+    walked: Result<ListEnd, Stopped>,
+    list: &[u8],
+    part: &[u8],
+    errors: &mut Watched<E>,
+) -> (u8, Watched<W>)
+    ensures ends { spec.EndsRun E.DeviceOut (progress work.entry) work.entry.shared.shows_counts walked list.now part.now
+        errors.old result.0 errors.new }
+    ensures manifest { result.1 ≡ work.entry.manifest }
+    ensures within { result.0 ≤ statuses.DEVICE }
+{
+    let end = end_of(walked, work.stop);
+    let status = tell_end(end, work.is_empty, list, part, errors);
+    tell_counts(work.shared.shows_counts, work.tally, errors);
+    (status.max(work.status), work.manifest)
 }

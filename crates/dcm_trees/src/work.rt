@@ -9,6 +9,7 @@ use crate::fate::Fate;
 use crate::file::{PartThere, do_name};
 use crate::progress::{Shared, Stop, Work};
 use crate::row::put_row;
+use crate::share::is_of;
 use crate::tally::{Tally, put_counts};
 use dcm_base::{DeviceOut, Watched, WriteFailed, flush_out};
 use dcm_cli::status::DONE;
@@ -112,7 +113,7 @@ impl<'a, S: Folders, W: DeviceOut, E: DeviceOut> Visitor<S, Watched<E>> for Work
         what: What,
     ) -> Result<(), Stopped> {
         self.is_empty = false;
-        if !self.shared.share.has(named.relative) {
+        if !is_of(self.shared.part, named.relative) {
             return Ok(());
         }
         match do_name(self.shared.manner, &named, what, system, errors) {
