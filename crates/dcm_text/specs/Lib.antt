@@ -1,0 +1,4 @@
+pub mod Characters
+pub mod Sets
+pub mod Forms
+pub mod First

@@ -1,0 +1,17 @@
+//! Texts by Specific Character Set (PS3.3 C.12.1.1.2, PS3.5 6.1.2), as characters.
+//!
+//!     let mut decoder = Decoder::new(sets_of(b"ISO_IR 100"), TextKind::Names);
+//!     let part = decoder.next(b"\xE9", true);
+#![tactic(auto)]
+
+mod characters;
+mod first;
+mod form;
+mod set;
+mod sets;
+mod tables;
+
+pub use characters::Single;
+pub use first::{Found, Meaning};
+pub use set::{Effect, Halves, Left, Right, Set, TextKind};
+pub use sets::{Sets, sets_of};
