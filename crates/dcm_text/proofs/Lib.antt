@@ -1,1 +1,5 @@
 pub mod Terms
+pub mod Firsts
+pub mod Sizes
+pub mod Pieces
+pub mod Calls

@@ -1,5 +1,5 @@
 -- Forms: which bytes may be a character together.
-use Rattle.std.specs.Prelude.{ℕ, Bool, ◌&&◌, ◌==◌, nat_lt, nat_le, List, [], ◌∷◌, Option, Some, None, if◌then◌else◌}
+use Rattle.std.specs.Prelude.{ℕ, ◌==◌, nat_lt, List, [], ◌∷◌, Option, Some, None, if◌then◌else◌}
 use Rattle.std.specs.List.{slice_index}
 use Rattle.dcm_text.specs.declared.set.Left.{Left}
 use Rattle.dcm_text.specs.declared.set.Left.TheVariants as left

@@ -2,3 +2,4 @@ pub mod Characters
 pub mod Sets
 pub mod Forms
 pub mod First
+pub mod Decoding

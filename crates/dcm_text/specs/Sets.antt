@@ -1,8 +1,7 @@
 -- What a value of Specific Character Set (0008,0005) names (PS3.3 C.12.1.1.2).
-use Rattle.std.specs.Prelude.{ℕ, Bool, true, false, ◌&&◌, ◌||◌, ◌==◌, nat_lt, List, [], ◌∷◌, map, find, fold, length, codes, bytes_eq}
+use Rattle.std.specs.Prelude.{ℕ, Bool, true, false, ◌||◌, ◌==◌, nat_lt, List, [], ◌∷◌, map, find, fold, length, bytes_eq}
 use Rattle.std.specs.Prelude.{Option, option_map, unwrap_or, if◌then◌else◌}
 use Rattle.std.specs.List.{slice_split, slice_set, slice_index_or}
-use Rattle.std.specs.Option.{option_map_or}
 use Rattle.dcm_text.specs.declared.characters.Single.TheVariants.{Ir13, Ir100, Ir101, Ir109, Ir110, Ir126, Ir127, Ir138, Ir144, Ir148, Ir166, Ir203}
 use Rattle.dcm_text.specs.declared.set.Set.{Set}
 use Rattle.dcm_text.specs.declared.set.Set.TheVariants as set

@@ -5,6 +5,7 @@
 #![tactic(auto)]
 
 mod characters;
+mod decoder;
 mod first;
 mod form;
 mod set;
@@ -12,6 +13,7 @@ mod sets;
 mod tables;
 
 pub use characters::Single;
+pub use decoder::{Decoder, Part};
 pub use first::{Found, Meaning};
 pub use set::{Effect, Halves, Left, Right, Set, TextKind};
 pub use sets::{Sets, sets_of};

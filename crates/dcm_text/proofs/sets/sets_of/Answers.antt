@@ -1,5 +1,5 @@
-use Rattle.std.proofs.Common.{◌≡◌, ℕ, ◌+◌, ◌<◌, ◌≤◌, Bool, true, false, List, [], ◌∷◌, length, take, drop, sym, ap, ◌∙◌, refl, drop-drop}
-use Rattle.std.specs.Prelude.{◌==◌, nat_lt, fold, cond}
+use Rattle.std.proofs.Common.{◌≡◌, ℕ, ◌+◌, ◌<◌, ◌≤◌, Bool, List, [], length, take, drop, sym, ap, ◌∙◌, drop-drop}
+use Rattle.std.specs.Prelude.{◌==◌, fold, cond}
 use Rattle.std.proofs.lemmas.Bool.{lt-ltb, le-ltb}
 use Rattle.dcm_text.specs.declared.sets.Sets.{Sets}
 use Rattle.dcm_text.specs.Sets.{sets_of, of_terms, of_first, with_term, terms, terms_of}

@@ -1,4 +1,4 @@
-use Rattle.std.proofs.Common.{◌≡◌, ℕ, ◌+◌, List, take, drop, sym, ap, ◌∙◌, drop-drop, arith}
+use Rattle.std.proofs.Common.{◌≡◌, ℕ, ◌+◌, List, take, drop, sym, ap, ◌∙◌, drop-drop}
 use Rattle.std.specs.Prelude.{◌==◌, fold}
 use Rattle.dcm_text.specs.Sets.{with_term, terms_of}
 use Rattle.dcm_text.specs.declared.sets.Sets.{Sets}
