@@ -3,3 +3,5 @@ pub mod Firsts
 pub mod Sizes
 pub mod Pieces
 pub mod Calls
+pub mod Whole
+pub mod Utf8

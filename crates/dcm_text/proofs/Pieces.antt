@@ -28,7 +28,7 @@ unknown_sized : (halves : Halves) (o : Option Found) (n : ℕ) → 1 ≤ n → I
 unknown_sized halves None n l h = (omega arith, omega arith, omega arith)
 unknown_sized halves (Some f) n l h = h
 
-all_sized : (at_end : Bool) (sets : Sets) (kind : TextKind) (halves : Halves) (text : List ℕ)
+pub all_sized : (at_end : Bool) (sets : Sets) (kind : TextKind) (halves : Halves) (text : List ℕ)
     → IsSized (found at_end sets kind halves text) (length text)
 all_sized false sets kind halves text = first_sized sets kind halves text
 all_sized true sets kind halves [] = omega arith
@@ -95,7 +95,7 @@ enough (suc n) (suc m) sets kind halves (b ∷ rest) l k =
     ap (λ (ps : List Piece). (take f.size (b ∷ rest), f.meaning) ∷ ps)
     (enough n m sets kind f.halves (drop f.size (b ∷ rest)) (omega (arith, s.0, d)) (omega (arith, s.0, d)))
 
-one_piece : (sets : Sets) (kind : TextKind) (halves : Halves) (text : List ℕ) (f : Found) → found true sets kind halves text ≡ Some f
+pub one_piece : (sets : Sets) (kind : TextKind) (halves : Halves) (text : List ℕ) (f : Found) → found true sets kind halves text ≡ Some f
     → decoded_from sets kind halves text ≡ (take f.size text, f.meaning) ∷ decoded_from sets kind f.halves (drop f.size text)
 unfolding decoded_from
 one_piece sets kind halves [] f e = absurd (no_first f e)

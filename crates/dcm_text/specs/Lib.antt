@@ -3,3 +3,4 @@ pub mod Sets
 pub mod Forms
 pub mod First
 pub mod Decoding
+pub mod Laws

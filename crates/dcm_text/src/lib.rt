@@ -8,6 +8,7 @@ mod characters;
 mod decoder;
 mod first;
 mod form;
+pub mod laws;
 mod set;
 mod sets;
 mod tables;

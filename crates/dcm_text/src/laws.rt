@@ -1,0 +1,27 @@
+//! Laws of the definitions. Each function takes nothing and makes no call: its contract is the law.
+ghost use Rattle.std.specs.Prelude.{◌≡◌, ℕ, true, List, map, flat_map, codes, encode_utf8_all};
+ghost use Rattle.std.specs.List.{list_all};
+ghost use Rattle.std.specs.Str.{all_scalars};
+ghost use Rattle.dcm_text.specs.declared.set.TextKind.{TextKind};
+ghost use Rattle.dcm_text.specs.declared.sets.Sets.{Sets};
+ghost use Rattle.dcm_text.specs.Sets.{sets_of};
+ghost use Rattle.dcm_text.specs.Decoding.{decoded};
+ghost use Rattle.dcm_text.specs.Laws.{IsUtf8InForce, is_plain, as_itself, encoded};
+
+/// The bytes of the pieces, in order, are the text.
+pub fn nothing_is_lost()
+    ensures { (sets : Sets) (kind : TextKind) (text : List ℕ) → flat_map (λ p. p.0) (decoded sets kind text) ≡ text }
+{}
+
+/// A text of ASCII is its bytes, whatever is in force, where it designates nothing.
+pub fn ascii_as_before()
+    ensures { (sets : Sets) (kind : TextKind) (text : List ℕ) → list_all (is_plain sets) text ≡ true
+        → decoded sets kind text ≡ map as_itself text }
+{}
+
+/// By ISO_IR 192 a text in UTF-8 is its characters, each by its bytes.
+pub fn utf8_as_it_is()
+    ensures named { IsUtf8InForce (sets_of (codes "ISO_IR 192")) }
+    ensures characters { (sets : Sets) (kind : TextKind) (text : List ℕ) → IsUtf8InForce sets → all_scalars text ≡ true
+        → decoded sets kind (encode_utf8_all text) ≡ map encoded text }
+{}
