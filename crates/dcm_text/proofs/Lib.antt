@@ -5,3 +5,4 @@ pub mod Pieces
 pub mod Calls
 pub mod Whole
 pub mod Utf8
+pub mod OneToOne

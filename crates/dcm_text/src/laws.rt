@@ -1,7 +1,9 @@
 //! Laws of the definitions. Each function takes nothing and makes no call: its contract is the law.
-ghost use Rattle.std.specs.Prelude.{◌≡◌, ℕ, true, List, map, flat_map, codes, encode_utf8_all};
+ghost use Rattle.std.specs.Prelude.{◌≡◌, ℕ, Some, true, List, map, flat_map, codes, encode_utf8_all};
 ghost use Rattle.std.specs.List.{list_all};
 ghost use Rattle.std.specs.Str.{all_scalars};
+ghost use Rattle.dcm_text.specs.Characters.{single_character};
+ghost use Rattle.dcm_text.specs.declared.characters.Single.{Single};
 ghost use Rattle.dcm_text.specs.declared.set.TextKind.{TextKind};
 ghost use Rattle.dcm_text.specs.declared.sets.Sets.{Sets};
 ghost use Rattle.dcm_text.specs.Sets.{sets_of};
@@ -24,4 +26,10 @@ pub fn utf8_as_it_is()
     ensures named { IsUtf8InForce (sets_of (codes "ISO_IR 192")) }
     ensures characters { (sets : Sets) (kind : TextKind) (text : List ℕ) → IsUtf8InForce sets → all_scalars text ≡ true
         → decoded sets kind (encode_utf8_all text) ≡ map encoded text }
+{}
+
+/// In a set of one byte a character no two bytes are the same character.
+pub fn one_to_one()
+    ensures { (single : Single) (a b character : ℕ) → single_character single a ≡ Some character
+        → single_character single b ≡ Some character → a ≡ b }
 {}
