@@ -3,4 +3,5 @@ pub mod Sets
 pub mod Forms
 pub mod First
 pub mod Decoding
+pub mod Shown
 pub mod Laws

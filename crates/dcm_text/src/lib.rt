@@ -11,6 +11,7 @@ mod form;
 pub mod laws;
 mod set;
 mod sets;
+mod shown;
 mod tables;
 
 pub use characters::Single;
@@ -18,3 +19,4 @@ pub use decoder::{Decoder, Part};
 pub use first::{Found, Meaning};
 pub use set::{Effect, Halves, Left, Right, Set, TextKind};
 pub use sets::{Sets, sets_of};
+pub use shown::{dumped, in_cell, is_hidden};
