@@ -6,3 +6,4 @@ pub mod Calls
 pub mod Whole
 pub mod Utf8
 pub mod OneToOne
+pub mod Displays

@@ -1,5 +1,5 @@
 -- What a text shows, in a dump and in a cell of a table.
-use Rattle.std.specs.Prelude.{ℕ, ◌+◌, ◌-◌, ◌*◌, ◌/◌, ◌%◌, Bool, ◌&&◌, ◌||◌, ◌==◌, not, nat_lt, nat_le, List, [], ◌∷◌, ◌++◌, flat_map, if◌then◌else◌}
+use Rattle.std.specs.Prelude.{ℕ, ◌+◌, ◌-◌, ◌/◌, ◌%◌, Bool, ◌&&◌, ◌||◌, ◌==◌, not, nat_lt, nat_le, List, [], ◌∷◌, flat_map, if◌then◌else◌}
 use Rattle.std.specs.Prelude.{encode_utf8}
 use Rattle.std.specs.List.{list_any}
 use Rattle.dcm_text.specs.declared.set.TextKind.{TextKind}

@@ -8,7 +8,8 @@ ghost use Rattle.dcm_text.specs.declared.set.TextKind.{TextKind};
 ghost use Rattle.dcm_text.specs.declared.sets.Sets.{Sets};
 ghost use Rattle.dcm_text.specs.Sets.{sets_of};
 ghost use Rattle.dcm_text.specs.Decoding.{decoded};
-ghost use Rattle.dcm_text.specs.Laws.{IsUtf8InForce, is_plain, as_itself, encoded};
+ghost use Rattle.dcm_text.specs.Laws.{IsUtf8InForce, is_plain, as_itself, ascii_dumped, encoded};
+ghost use Rattle.dcm_text.specs.Shown.{dumped, cell, is_dumped};
 
 /// The bytes of the pieces, in order, are the text.
 pub fn nothing_is_lost()
@@ -17,8 +18,12 @@ pub fn nothing_is_lost()
 
 /// A text of ASCII is its bytes, whatever is in force, where it designates nothing.
 pub fn ascii_as_before()
-    ensures { (sets : Sets) (kind : TextKind) (text : List ℕ) → list_all (is_plain sets) text ≡ true
+    ensures pieces { (sets : Sets) (kind : TextKind) (text : List ℕ) → list_all (is_plain sets) text ≡ true
         → decoded sets kind text ≡ map as_itself text }
+    ensures dumped { (sets : Sets) (kind : TextKind) (text : List ℕ) → list_all (is_plain sets) text ≡ true
+        → dumped sets kind text ≡ flat_map ascii_dumped text }
+    ensures cell { (sets : Sets) (kind : TextKind) (text : List ℕ) → list_all (is_plain sets) text ≡ true
+        → cell sets kind text ≡ text }
 {}
 
 /// By ISO_IR 192 a text in UTF-8 is its characters, each by its bytes.
@@ -26,6 +31,10 @@ pub fn utf8_as_it_is()
     ensures named { IsUtf8InForce (sets_of (codes "ISO_IR 192")) }
     ensures characters { (sets : Sets) (kind : TextKind) (text : List ℕ) → IsUtf8InForce sets → all_scalars text ≡ true
         → decoded sets kind (encode_utf8_all text) ≡ map encoded text }
+    ensures dumped { (sets : Sets) (kind : TextKind) (text : List ℕ) → IsUtf8InForce sets → all_scalars text ≡ true
+        → list_all is_dumped text ≡ true → dumped sets kind (encode_utf8_all text) ≡ encode_utf8_all text }
+    ensures cell { (sets : Sets) (kind : TextKind) (text : List ℕ) → IsUtf8InForce sets → all_scalars text ≡ true
+        → cell sets kind (encode_utf8_all text) ≡ encode_utf8_all text }
 {}
 
 /// In a set of one byte a character no two bytes are the same character.

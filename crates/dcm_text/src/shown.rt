@@ -5,10 +5,9 @@ ghost use Rattle.dcm_text.specs.Characters.{is_between};
 ghost use Rattle.dcm_text.specs.Decoding.{piece_of};
 ghost use Rattle.dcm_text.specs.Shown as spec;
 
-use arrayvec::ArrayVec;
-
 use crate::decoder::Part;
 use crate::first::Meaning;
+use arrayvec::ArrayVec;
 
 /// The first and the last of some characters.
 pub type Characters = (u32, u32);
@@ -71,7 +70,11 @@ fn digit(number: u8, ten: u8) -> u8
     requires room { ten < 240 }
     ensures { result ≡ spec.digit number ten }
 {
-    if number < 10 { b'0' + number } else { ten + (number - 10) }
+    if number < 10 {
+        b'0' + number
+    } else {
+        ten + (number - 10)
+    }
 }
 
 /// A byte as `%XX`.

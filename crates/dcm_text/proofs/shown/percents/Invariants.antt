@@ -1,4 +1,4 @@
-use Rattle.std.proofs.Common.{◌≡◌, ◌*◌, take, length}
+use Rattle.std.proofs.Common.{◌≡◌, take}
 use Rattle.std.specs.Prelude.{flat_map}
 use Rattle.dcm_text.specs.Shown.{percent}
 use Rattle.dcm_text.proofs.shown.percents.Given as goal
