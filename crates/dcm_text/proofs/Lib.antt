@@ -7,3 +7,4 @@ pub mod Whole
 pub mod Utf8
 pub mod OneToOne
 pub mod Displays
+pub mod Sound

@@ -1,5 +1,5 @@
 //! Laws of the definitions. Each function takes nothing and makes no call: its contract is the law.
-ghost use Rattle.std.specs.Prelude.{◌≡◌, ℕ, Some, true, List, map, flat_map, codes, encode_utf8_all};
+ghost use Rattle.std.specs.Prelude.{◌≡◌, ℕ, Some, true, List, map, flat_map, codes, encode_utf8_all, IsUtf8};
 ghost use Rattle.std.specs.List.{list_all};
 ghost use Rattle.std.specs.Str.{all_scalars};
 ghost use Rattle.dcm_text.specs.Characters.{single_character};
@@ -8,7 +8,7 @@ ghost use Rattle.dcm_text.specs.declared.set.TextKind.{TextKind};
 ghost use Rattle.dcm_text.specs.declared.sets.Sets.{Sets};
 ghost use Rattle.dcm_text.specs.Sets.{sets_of};
 ghost use Rattle.dcm_text.specs.Decoding.{decoded};
-ghost use Rattle.dcm_text.specs.Laws.{IsUtf8InForce, is_plain, as_itself, ascii_dumped, encoded};
+ghost use Rattle.dcm_text.specs.Laws.{IsUtf8InForce, is_plain, as_itself, ascii_dumped, encoded, is_byte};
 ghost use Rattle.dcm_text.specs.Shown.{dumped, cell, is_dumped};
 
 /// The bytes of the pieces, in order, are the text.
@@ -41,4 +41,12 @@ pub fn utf8_as_it_is()
 pub fn one_to_one()
     ensures { (single : Single) (a b character : ℕ) → single_character single a ≡ Some character
         → single_character single b ≡ Some character → a ≡ b }
+{}
+
+/// What a dump and a cell show of a text is valid UTF-8, whatever is in force.
+pub fn shown_is_utf8()
+    ensures dumped { (sets : Sets) (kind : TextKind) (text : List ℕ) → list_all is_byte text ≡ true
+        → IsUtf8 (dumped sets kind text) }
+    ensures cell { (sets : Sets) (kind : TextKind) (text : List ℕ) → list_all is_byte text ≡ true
+        → IsUtf8 (cell sets kind text) }
 {}
