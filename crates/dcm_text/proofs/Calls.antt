@@ -1,21 +1,18 @@
 -- What one call of a decoder says of the pieces that are left.
 use Rattle.std.proofs.Common.{◌≡◌, ℕ, ◌+◌, ◌≤◌, ◌<◌, Bool, true, List, [], ◌∷◌, ◌++◌, length, take, drop, Option, Some, None}
-use Rattle.std.proofs.Common.{sym, ap, subst, ◌∙◌, arith, append_assoc, length-append, length-drop}
+use Rattle.std.proofs.Common.{sym, ap, ◌∙◌, arith, length-append, length-drop}
 use Rattle.std.specs.Prelude.{◌==◌, MatchOption, IfSome, IfNone}
-use Rattle.dcm_text.specs.declared.set.Halves.{Halves}
-use Rattle.dcm_text.specs.declared.set.TextKind.{TextKind}
-use Rattle.dcm_text.specs.declared.sets.Sets.{Sets}
 use Rattle.dcm_text.specs.declared.decoder.Decoder.{Decoder}
 use Rattle.dcm_text.specs.declared.decoder.Part.{Part}
-use Rattle.dcm_text.specs.First.{first_of}
-use Rattle.dcm_text.specs.Decoding.{Piece, decoded_from, found, piece_of, pieces_left, bytes_left, IsWaiting, Gives, Waits}
+use Rattle.dcm_text.specs.Decoding.{Piece, found, Gives, Waits}
+use Rattle.dcm_text.specs.Runs.{bytes_left}
 use Rattle.std.proofs.Common.{◌-◌, min, inl, inr, refl}
 use Rattle.std.proofs.lemmas.Bool.{cases_lt}
 use Rattle.std.proofs.Math.Seq.{drop-append-add, drop-length}
 use Rattle.std.proofs.lemmas.List.{take-append-le, drop-append-le}
 use Rattle.dcm_text.specs.declared.first.Meaning.{Meaning}
 use Rattle.dcm_text.specs.declared.first.Found.{Found}
-use Rattle.dcm_text.proofs.Pieces.{found_more, none_more, next_piece, found_sized, none_first, none_left}
+use Rattle.dcm_text.proofs.Pieces.{found_more, none_more, found_sized}
 
 pub if_some : {A : Type 0} (P : Type 0) (Q R : A → Type 0) (r : Option A) → MatchOption r P Q → ((x : A) → Q x → R x) → IfSome r R
 if_some P Q R None h f = tt
@@ -25,20 +22,6 @@ pub if_none : {A : Type 0} (P R : Type 0) (Q : A → Type 0) (r : Option A) → 
 if_none P R Q None h f = f h
 if_none P R Q (Some x) h f = tt
 
-pub gives_part : (at_end : Bool) (old new : Decoder) (input rest more : List ℕ) (p : Part)
-    → Gives at_end old new (old.held.items ++ input) (new.held.items ++ rest) p → (at_end ≡ true → more ≡ [])
-    → pieces_left old (input ++ more) ≡ piece_of p ∷ pieces_left new (rest ++ more)
-unfolding pieces_left
-gives_part at_end old new input rest more p g none =
-    ap (decoded_from old.sets old.kind old.halves) (sym (append_assoc old.held.items input more))
-    ∙ next_piece at_end old.sets old.kind old.halves (old.held.items ++ input) more g.first none g.is_first
-    ∙ ap (λ (x : Piece). x ∷ decoded_from old.sets old.kind g.first.halves (drop g.first.size (old.held.items ++ input) ++ more)) (sym g.piece)
-    ∙ ap (λ (h : Halves). piece_of p ∷ decoded_from old.sets old.kind h (drop g.first.size (old.held.items ++ input) ++ more)) (sym g.halves)
-    ∙ ap (λ (t : List ℕ). piece_of p ∷ decoded_from old.sets old.kind new.halves (t ++ more)) (sym g.left)
-    ∙ ap (λ (t : List ℕ). piece_of p ∷ decoded_from old.sets old.kind new.halves t) (append_assoc new.held.items rest more)
-    ∙ ap (λ (s : Sets). piece_of p ∷ decoded_from s old.kind new.halves (new.held.items ++ (rest ++ more))) (sym g.same.0)
-    ∙ ap (λ (k : TextKind). piece_of p ∷ decoded_from new.sets k new.halves (new.held.items ++ (rest ++ more))) (sym g.same.1)
-
 pub gives_fewer : (at_end : Bool) (old new : Decoder) (input rest : List ℕ) (p : Part)
     → Gives at_end old new (old.held.items ++ input) (new.held.items ++ rest) p → bytes_left new rest < bytes_left old input
 unfolding bytes_left
@@ -46,32 +29,6 @@ gives_fewer at_end old new input rest p g =
     let s = found_sized at_end old.sets old.kind old.halves (old.held.items ++ input) g.first g.is_first in
     let d = length-drop g.first.size (old.held.items ++ input) in
     omega (arith, ap length g.left, d, s.0, s.1)
-
-pub waits_left : (at_end : Bool) (old new : Decoder) (input more : List ℕ) → Waits at_end old new (old.held.items ++ input)
-    → pieces_left old (input ++ more) ≡ pieces_left new more
-unfolding pieces_left
-waits_left at_end old new input more w =
-    ap (decoded_from old.sets old.kind old.halves) (sym (append_assoc old.held.items input more))
-    ∙ ap (λ (t : List ℕ). decoded_from old.sets old.kind old.halves (t ++ more)) (sym w.held)
-    ∙ ap (λ (h : Halves). decoded_from old.sets old.kind h (new.held.items ++ more)) (sym w.halves)
-    ∙ ap (λ (s : Sets). decoded_from s old.kind new.halves (new.held.items ++ more)) (sym w.same.0)
-    ∙ ap (λ (k : TextKind). decoded_from new.sets k new.halves (new.held.items ++ more)) (sym w.same.1)
-
-pub waits : (at_end : Bool) (old new : Decoder) (input : List ℕ) → Waits at_end old new (old.held.items ++ input) → IsWaiting new
-unfolding IsWaiting
-waits at_end old new input w =
-    ap (λ (s : Sets). first_of s new.kind new.halves new.held.items) w.same.0
-    ∙ ap (λ (k : TextKind). first_of old.sets k new.halves new.held.items) w.same.1
-    ∙ ap (λ (h : Halves). first_of old.sets old.kind h new.held.items) w.halves
-    ∙ ap (first_of old.sets old.kind old.halves) w.held
-    ∙ none_first at_end old.sets old.kind old.halves (old.held.items ++ input) w.is_none
-
-pub waits_end : (at_end : Bool) (old new : Decoder) (input : List ℕ) → Waits at_end old new (old.held.items ++ input) → at_end ≡ true
-    → pieces_left old input ≡ []
-unfolding pieces_left
-waits_end at_end old new input w e =
-    none_left old.sets old.kind old.halves (old.held.items ++ input)
-    (subst (λ (b : Bool). found b old.sets old.kind old.halves (old.held.items ++ input) ≡ None) e w.is_none)
 
 -- ---- what is held, and the input behind it
 

@@ -8,3 +8,4 @@ pub mod Utf8
 pub mod OneToOne
 pub mod Displays
 pub mod Sound
+pub mod Runs

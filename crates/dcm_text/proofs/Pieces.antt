@@ -1,7 +1,6 @@
 -- The pieces of a text, one by one.
 use Rattle.std.proofs.Common.{◌≡◌, ℕ, zero, suc, ◌≤◌, ◌<◌, Bool, true, false, List, [], ◌∷◌, ◌++◌, length, take, drop, Option, Some, None}
 use Rattle.std.proofs.Common.{refl, sym, ap, subst, ◌∙◌, arith, append-nil, length-drop}
-use Rattle.std.proofs.lemmas.List.{take-append-le, drop-append-le}
 use Rattle.dcm_text.proofs.Firsts.{Stays, first_stays}
 use Rattle.dcm_text.specs.declared.set.Halves.{Halves}
 use Rattle.dcm_text.specs.declared.set.TextKind.{TextKind}
@@ -49,7 +48,7 @@ stays_some : (o r : Option Found) (f : Found) → Stays o r → o ≡ Some f →
 stays_some None r f s e = absurd (no_first f e)
 stays_some (Some g) r f s e = s ∙ e
 
-first_more : (sets : Sets) (kind : TextKind) (halves : Halves) (text more : List ℕ) (f : Found)
+pub first_more : (sets : Sets) (kind : TextKind) (halves : Halves) (text more : List ℕ) (f : Found)
     → first_of sets kind halves text ≡ Some f → first_of sets kind halves (text ++ more) ≡ Some f
 first_more sets kind halves text more f e =
     stays_some (first_of sets kind halves text) (first_of sets kind halves (text ++ more)) f (first_stays sets kind halves text more) e
@@ -108,38 +107,8 @@ one_piece sets kind halves (b ∷ rest) f e =
     (enough (length rest) (length (drop g.size (b ∷ rest))) sets kind g.halves (drop g.size (b ∷ rest)) (omega (arith, s.0, d)) (omega arith))
     ∙ ap (λ (x : Found). (take x.size (b ∷ rest), x.meaning) ∷ decoded_by (length (drop x.size (b ∷ rest))) sets kind x.halves (drop x.size (b ∷ rest))) same
 
-found_whole : (at_end : Bool) (sets : Sets) (kind : TextKind) (halves : Halves) (text more : List ℕ) (f : Found)
+pub found_whole : (at_end : Bool) (sets : Sets) (kind : TextKind) (halves : Halves) (text more : List ℕ) (f : Found)
     → (at_end ≡ true → more ≡ []) → found at_end sets kind halves text ≡ Some f → found true sets kind halves (text ++ more) ≡ Some f
 found_whole true sets kind halves text more f none e = ap (found true sets kind halves) (nothing_behind text more (none refl)) ∙ e
 found_whole false sets kind halves text more f none e =
     found_some true sets kind halves (text ++ more) f (first_more sets kind halves text more f e)
-
-pub next_piece : (at_end : Bool) (sets : Sets) (kind : TextKind) (halves : Halves) (text more : List ℕ) (f : Found)
-    → (at_end ≡ true → more ≡ []) → found at_end sets kind halves text ≡ Some f
-    → decoded_from sets kind halves (text ++ more) ≡ (take f.size text, f.meaning) ∷ decoded_from sets kind f.halves (drop f.size text ++ more)
-next_piece at_end sets kind halves text more f none e =
-    let s = found_sized at_end sets kind halves text f e in
-    one_piece sets kind halves (text ++ more) f (found_whole at_end sets kind halves text more f none e)
-    ∙ ap (λ (t : List ℕ). (t, f.meaning) ∷ decoded_from sets kind f.halves (drop f.size (text ++ more))) (take-append-le f.size text more s.1)
-    ∙ ap (λ (t : List ℕ). (take f.size text, f.meaning) ∷ decoded_from sets kind f.halves t) (drop-append-le f.size text more s.1)
-
--- ---- nothing found
-
-pub none_first : (at_end : Bool) (sets : Sets) (kind : TextKind) (halves : Halves) (text : List ℕ)
-    → found at_end sets kind halves text ≡ None → first_of sets kind halves text ≡ None
-unfolding first_of
-none_first false sets kind halves text e = e
-none_first true sets kind halves [] e = refl
-none_first true sets kind halves (b ∷ rest) e = absurd (some_none _ e)
-  where
-    some_none : (f : Found) → (let o : Option Found = Some f in o ≡ None) → ⊥
-    some_none f e = cc
-
-pub none_left : (sets : Sets) (kind : TextKind) (halves : Halves) (text : List ℕ)
-    → found true sets kind halves text ≡ None → decoded_from sets kind halves text ≡ []
-unfolding decoded_from
-none_left sets kind halves [] e = refl
-none_left sets kind halves (b ∷ rest) e = absurd (some_none _ e)
-  where
-    some_none : (f : Found) → (let o : Option Found = Some f in o ≡ None) → ⊥
-    some_none f e = cc

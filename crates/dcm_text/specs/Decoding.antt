@@ -1,5 +1,5 @@
 -- A text by what is in force (PS3.5 6.1.2.5), as a whole.
-use Rattle.std.specs.Prelude.{◌≡◌, ℕ, zero, suc, Bool, true, false, List, [], ◌∷◌, ◌++◌, length, take, drop, Option, Some, None}
+use Rattle.std.specs.Prelude.{◌≡◌, ℕ, zero, suc, Bool, true, false, List, [], ◌∷◌, length, take, drop, Option, Some, None}
 use Rattle.dcm_text.specs.declared.set.Halves.{Halves}
 use Rattle.dcm_text.specs.declared.set.TextKind.{TextKind}
 use Rattle.dcm_text.specs.declared.sets.Sets.{Sets}
@@ -45,18 +45,6 @@ found true sets kind halves (b ∷ rest) = Some (or_unknown halves (first_of set
 
 abbrev pub piece_of : Part → Piece
 piece_of part = (part.bytes.items, part.meaning)
-
--- the pieces that a decoder is yet to give, where this is the rest of its text
-unfoldable pub pieces_left : Decoder → List ℕ → List Piece
-pieces_left d rest = decoded_from d.sets d.kind d.halves (d.held.items ++ rest)
-
--- how many bytes that are
-unfoldable pub bytes_left : Decoder → List ℕ → ℕ
-bytes_left d rest = length (d.held.items ++ rest)
-
--- a decoder waits, since nothing is decided of the bytes that it holds
-unfoldable pub IsWaiting : Decoder → Type 0
-IsWaiting d = first_of d.sets d.kind d.halves d.held.items ≡ None
 
 -- ---- one call of a decoder, of which `text` is what it holds and then the input
 

@@ -1,7 +1,7 @@
 //! A text in pieces of any size, as characters.
 ghost use Rattle.std.specs.Prelude.{◌≡◌, ◌<◌, ◌≤◌, ◌+◌, ◌∷◌, [], ◌++◌, true, false, List, ℕ, length, drop, take, IfSome, IfNone, MatchOption, Some, None};
 ghost use Rattle.dcm_text.specs.Decoding as spec;
-ghost use Rattle.dcm_text.specs.First.{start_of};
+ghost use Rattle.dcm_text.specs.Runs as runs;
 
 use crate::first::{Found, Meaning, first_of, one_unknown, start_of};
 use crate::set::{Halves, TextKind};
@@ -87,7 +87,7 @@ fn passed<'a>(held: &mut ArrayVec<u8, MOST_HELD>, input: &'a [u8], size: usize) 
 impl Decoder {
     /// Before a text.
     pub fn new(sets: Sets, kind: TextKind) -> Decoder
-        ensures { (text : List ℕ) → spec.pieces_left result text ≡ spec.decoded sets kind text }
+        ensures { runs.state_of result ≡ runs.begun sets kind }
     {
         Decoder {
             sets,
@@ -168,14 +168,12 @@ impl Decoder {
     /// The next part, and the input behind it; or nothing, where all of the input is taken and nothing is decided of the
     /// bytes that wait. Then the text goes on with the next input. At its end nothing waits.
     pub fn next<'a>(&mut self, input: &'a [u8], at_end: bool) -> Option<(Part, &'a [u8])>
-        // Whatever follows, the part is the first piece that is left.
-        ensures part { IfSome result (λ r. (more : List ℕ) → (at_end ≡ true → more ≡ [])
-            → spec.pieces_left self.old (input.now ++ more) ≡ spec.piece_of r.0 ∷ spec.pieces_left self.new (r.1.now ++ more)) }
-        ensures fewer { IfSome result (λ r. spec.bytes_left self.new r.1.now < spec.bytes_left self.old input.now) }
-        // Or all that is left waits.
-        ensures none { IfNone result ((more : List ℕ) → spec.pieces_left self.old (input.now ++ more) ≡ spec.pieces_left self.new more) }
-        ensures waits { IfNone result (spec.IsWaiting self.new) }
-        ensures end { IfNone result (at_end ≡ true → spec.pieces_left self.old input.now ≡ []) }
+        // The part is the first that a run over the input gives, and the run goes on behind it.
+        ensures part { IfSome result (λ r. runs.run at_end (runs.state_of self.old) input.now
+            ≡ runs.onto (spec.piece_of r.0) (runs.run at_end (runs.state_of self.new) r.1.now)) }
+        ensures fewer { IfSome result (λ r. runs.bytes_left self.new r.1.now < runs.bytes_left self.old input.now) }
+        // Or the run is at its end.
+        ensures none { IfNone result (runs.run at_end (runs.state_of self.old) input.now ≡ ([], runs.state_of self.new)) }
     {
         self.step(input, at_end)
     }

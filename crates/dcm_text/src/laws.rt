@@ -1,6 +1,6 @@
 //! Laws of the definitions. Each function takes nothing and makes no call: its contract is the law.
-ghost use Rattle.std.specs.Prelude.{◌≡◌, ℕ, Some, true, List, map, flat_map, codes, encode_utf8_all, IsUtf8};
-ghost use Rattle.std.specs.List.{list_all};
+ghost use Rattle.std.specs.Prelude.{◌≡◌, ◌++◌, ℕ, Bool, Some, true, false, List, map, flat_map, codes, encode_utf8_all, IsUtf8};
+ghost use Rattle.std.specs.List.{concat, list_all};
 ghost use Rattle.std.specs.Str.{all_scalars};
 ghost use Rattle.dcm_text.specs.Characters.{single_character};
 ghost use Rattle.dcm_text.specs.declared.characters.Single.{Single};
@@ -9,11 +9,20 @@ ghost use Rattle.dcm_text.specs.declared.sets.Sets.{Sets};
 ghost use Rattle.dcm_text.specs.Sets.{sets_of};
 ghost use Rattle.dcm_text.specs.Decoding.{decoded};
 ghost use Rattle.dcm_text.specs.Laws.{IsUtf8InForce, is_plain, as_itself, ascii_dumped, encoded, is_byte};
+ghost use Rattle.dcm_text.specs.Runs.{State, begun, joined, run, run_pieces};
 ghost use Rattle.dcm_text.specs.Shown.{dumped, cell, is_dumped};
 
 /// The bytes of the pieces, in order, are the text.
 pub fn nothing_is_lost()
     ensures { (sets : Sets) (kind : TextKind) (text : List ℕ) → flat_map (λ p. p.0) (decoded sets kind text) ≡ text }
+{}
+
+/// A text that comes in pieces is as it is as a whole, whatever the pieces.
+pub fn pieces_do_not_matter()
+    ensures whole { (sets : Sets) (kind : TextKind) (pieces : List (List ℕ))
+        → (run_pieces (begun sets kind) pieces).0 ≡ decoded sets kind (concat pieces) }
+    ensures two { (at_end : Bool) (state : State) (piece more : List ℕ)
+        → run at_end state (piece ++ more) ≡ joined (run false state piece) (run at_end (run false state piece).1 more) }
 {}
 
 /// A text of ASCII is its bytes, whatever is in force, where it designates nothing.
