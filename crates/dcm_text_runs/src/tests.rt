@@ -1,74 +1,66 @@
 //! Each row in two pieces, cut at each byte, and byte by byte.
 use crate::rows::{EDGES, EXTENDED, ONE_BYTE, RESETS, Row, TERMS, UTF_8};
 use arrayvec::ArrayVec;
-use dcm_text::{Decoder, Meaning, Part, Sets, TextKind, sets_of};
+use dcm_text::{Decoder, Sets, TextKind, dumped, in_cell, is_hidden, sets_of};
 use std::process::Abort;
-
-type Shown = ArrayVec<u8, 512>;
 
 /// More parts than a row has.
 const MOST_PARTS: u32 = 512;
 
-const DIGITS: [u8; 16] = *b"0123456789ABCDEF";
-
-/// A byte without a character, as in the rows.
-fn show_byte(byte: u8, shown: &mut Shown) {
-    let digits = [
-        b'<',
-        DIGITS[usize::from(byte / 16)],
-        DIGITS[usize::from(byte % 16)],
-        b'>',
-    ];
-    let _ = shown.try_extend_from_slice(&digits);
+/// What a dump and a cell show of a text.
+#[derive(Drop)]
+struct Shown {
+    dumped: ArrayVec<u8, 512>,
+    in_cell: ArrayVec<u8, 512>,
 }
 
-fn show(part: &Part, shown: &mut Shown) {
-    match part.meaning {
-        Meaning::Character(character) => {
-            let mut buffer = [0; 4];
-            let text = character.encode_utf8(&mut buffer);
-            let _ = shown.try_extend_from_slice(text.as_bytes());
+impl Shown {
+    fn new() -> Shown {
+        Shown {
+            dumped: ArrayVec::new(),
+            in_cell: ArrayVec::new(),
         }
-        Meaning::Unknown => {
-            for byte in part.bytes.as_slice() {
-                show_byte(*byte, shown);
-            }
-        }
-        Meaning::Designation => (),
     }
-}
 
-/// Shows the parts that a piece decides.
-fn feed(decoder: &mut Decoder, piece: &[u8], at_end: bool, shown: &mut Shown) {
-    let mut input = piece;
-    for _ in 0..MOST_PARTS {
-        let Some((part, rest)) = decoder.next(input, at_end) else {
-            return;
-        };
-        show(&part, shown);
-        input = rest;
+    /// Shows the parts that a piece decides.
+    fn feed(&mut self, decoder: &mut Decoder, piece: &[u8], at_end: bool) {
+        let mut input = piece;
+        for _ in 0..MOST_PARTS {
+            let Some((part, rest)) = decoder.next(input, at_end) else {
+                return;
+            };
+            let _ = self.dumped.try_extend_from_slice(dumped(&part).as_slice());
+            let _ = self
+                .in_cell
+                .try_extend_from_slice(in_cell(&part).as_slice());
+            input = rest;
+        }
+    }
+
+    fn is_of(&self, row: &Row) -> bool {
+        self.dumped.as_slice() == row.3.as_bytes() && self.in_cell.as_slice() == row.4.as_bytes()
     }
 }
 
 /// Whether a text shows this, cut at a byte.
 fn shows(row: &Row, cut: usize) -> bool {
     let mut decoder = Decoder::new(sets_of(row.0), row.1);
-    let mut shown = ArrayVec::new();
+    let mut shown = Shown::new();
     let (front, back) = row.2.split_at(cut.min(row.2.len()));
-    feed(&mut decoder, front, false, &mut shown);
-    feed(&mut decoder, back, true, &mut shown);
-    shown.as_slice() == row.3.as_bytes()
+    shown.feed(&mut decoder, front, false);
+    shown.feed(&mut decoder, back, true);
+    shown.is_of(row)
 }
 
 /// Whether it shows this byte by byte.
 fn shows_byte_by_byte(row: &Row) -> bool {
     let mut decoder = Decoder::new(sets_of(row.0), row.1);
-    let mut shown = ArrayVec::new();
+    let mut shown = Shown::new();
     for byte in row.2 {
-        feed(&mut decoder, &[*byte], false, &mut shown);
+        shown.feed(&mut decoder, &[*byte], false);
     }
-    feed(&mut decoder, &[], true, &mut shown);
-    shown.as_slice() == row.3.as_bytes()
+    shown.feed(&mut decoder, &[], true);
+    shown.is_of(row)
 }
 
 fn try_rows(rt: &impl Abort, rows: &[Row]) {
@@ -125,9 +117,38 @@ fn long_values(rt: HostRuntime) {
 #[test]
 fn waits(rt: HostRuntime) {
     let mut decoder = Decoder::new(sets_of(b"ISO_IR 192"), TextKind::OneValue);
-    let mut shown = ArrayVec::new();
-    feed(&mut decoder, b"A\xF0\x9F\x98", false, &mut shown);
-    assert!(rt; shown.as_slice() == b"A".as_slice());
-    feed(&mut decoder, b"", true, &mut shown);
-    assert!(rt; shown.as_slice() == b"A<F0><9F><98>".as_slice());
+    let mut shown = Shown::new();
+    shown.feed(&mut decoder, b"A\xF0\x9F\x98", false);
+    assert!(rt; shown.dumped.as_slice() == b"A".as_slice());
+    shown.feed(&mut decoder, b"", true);
+    assert!(rt; shown.dumped.as_slice() == b"A%F0%9F%98".as_slice());
+}
+
+/// The first and the last hidden characters, and those beside them.
+#[test]
+fn hidden(rt: HostRuntime) {
+    for character in [
+        '\0',
+        '\x1F',
+        '\x7F',
+        '\u{9F}',
+        '\u{202E}',
+        '\u{FFFE}',
+        '\u{E0FFF}',
+        '\u{10FFFF}',
+    ] {
+        assert!(rt; is_hidden(character));
+    }
+    for character in [
+        ' ',
+        '~',
+        '\u{A0}',
+        '\u{200C}',
+        '\u{200D}',
+        '\u{FFFD}',
+        '\u{E0100}',
+        '\u{10FFFD}',
+    ] {
+        assert!(rt; !is_hidden(character));
+    }
 }
