@@ -15,3 +15,4 @@ pub mod BarAtoms
 pub mod ValidTexts
 pub mod ValidRows
 pub mod Indexed
+pub mod DecodedTexts

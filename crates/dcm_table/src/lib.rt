@@ -21,6 +21,7 @@
 mod cell;
 mod cells;
 mod column;
+mod decoded;
 mod ending;
 mod index;
 pub mod laws;
@@ -33,6 +34,7 @@ mod slot;
 pub use cell::CELL_LIMIT;
 pub use cells::Cells;
 pub use column::{COLUMNS_LIMIT, Column, Columns, NUMBER_SIZE};
+pub use decoded::put_decoded;
 pub use ending::{RowEnd, row_end};
 pub use meta::take_meta;
 pub use quoted::{TextForm, put_quoted};

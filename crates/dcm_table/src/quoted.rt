@@ -16,7 +16,7 @@ pub enum TextForm {
     AsItIs,
 }
 
-const QUOTE: u8 = b'"';
+pub(crate) const QUOTE: u8 = b'"';
 
 /// Writes a quote twice, and another byte once.
 fn put_doubled_byte<W: DeviceOut>(byte: u8, out: &mut Watched<W>) -> Result<(), WriteFailed>
@@ -30,7 +30,10 @@ fn put_doubled_byte<W: DeviceOut>(byte: u8, out: &mut Watched<W>) -> Result<(), 
 }
 
 /// Writes bytes, with quotes doubled.
-fn put_doubled<W: DeviceOut>(bytes: &[u8], out: &mut Watched<W>) -> Result<(), WriteFailed>
+pub(crate) fn put_doubled<W: DeviceOut>(
+    bytes: &[u8],
+    out: &mut Watched<W>,
+) -> Result<(), WriteFailed>
     ensures { Wrote W.DeviceOut out.old out.new (spec.doubled bytes.now) result }
 {
     for byte in bytes {

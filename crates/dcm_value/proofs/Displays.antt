@@ -16,3 +16,4 @@ pub mod WholesInModes
 pub mod FewUnits
 pub mod UpperDigits
 pub mod TextLanes
+pub mod DecodedTexts

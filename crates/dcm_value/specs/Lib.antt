@@ -13,3 +13,4 @@ pub mod Laws
 pub mod Parts
 pub mod Taking
 pub mod Emits
+pub mod Decoded

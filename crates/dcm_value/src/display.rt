@@ -93,6 +93,13 @@ impl Shown {
         self.mode == Mode::Short && self.count > 66
     }
 
+    /// In Short the first bytes that were shown, 66 at most.
+    pub fn front(&self) -> &[u8]
+        ensures { result.now ≡ (display_of self.now).front }
+    {
+        self.front.as_slice()
+    }
+
     /// Shows these bytes.
     #[tactic(auto, unfolding(crate::specs::Display::emit))]
     #[inline(always)]

@@ -17,6 +17,7 @@
 #![tactic(auto)]
 
 mod decimals;
+mod decoded;
 mod digits;
 mod display;
 mod escapes;

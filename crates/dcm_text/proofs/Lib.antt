@@ -1,0 +1,11 @@
+pub mod Terms
+pub mod Firsts
+pub mod Sizes
+pub mod Pieces
+pub mod Calls
+pub mod Whole
+pub mod Utf8
+pub mod OneToOne
+pub mod Displays
+pub mod Sound
+pub mod Runs

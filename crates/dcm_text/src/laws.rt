@@ -1,0 +1,61 @@
+//! Laws of the definitions. Each function takes nothing and makes no call: its contract is the law.
+ghost use Rattle.std.specs.Prelude.{◌≡◌, ◌++◌, ℕ, Bool, Some, true, false, List, map, flat_map, codes, encode_utf8_all, IsUtf8};
+ghost use Rattle.std.specs.List.{concat, list_all};
+ghost use Rattle.std.specs.Str.{all_scalars};
+ghost use Rattle.dcm_text.specs.Characters.{single_character};
+ghost use Rattle.dcm_text.specs.declared.characters.Single.{Single};
+ghost use Rattle.dcm_text.specs.declared.set.TextKind.{TextKind};
+ghost use Rattle.dcm_text.specs.declared.sets.Sets.{Sets};
+ghost use Rattle.dcm_text.specs.Sets.{sets_of};
+ghost use Rattle.dcm_text.specs.Decoding.{decoded};
+ghost use Rattle.dcm_text.specs.Laws.{IsUtf8InForce, is_plain, as_itself, ascii_dumped, encoded, is_byte};
+ghost use Rattle.dcm_text.specs.Runs.{State, begun, joined, run, run_pieces};
+ghost use Rattle.dcm_text.specs.Shown.{dumped, cell, is_dumped};
+
+/// The bytes of the pieces, in order, are the text.
+pub fn nothing_is_lost()
+    ensures { (sets : Sets) (kind : TextKind) (text : List ℕ) → flat_map (λ p. p.0) (decoded sets kind text) ≡ text }
+{}
+
+/// A text that comes in pieces is as it is as a whole, whatever the pieces.
+pub fn pieces_do_not_matter()
+    ensures whole { (sets : Sets) (kind : TextKind) (pieces : List (List ℕ))
+        → (run_pieces (begun sets kind) pieces).0 ≡ decoded sets kind (concat pieces) }
+    ensures two { (at_end : Bool) (state : State) (piece more : List ℕ)
+        → run at_end state (piece ++ more) ≡ joined (run false state piece) (run at_end (run false state piece).1 more) }
+{}
+
+/// A text of ASCII is its bytes, whatever is in force, where it designates nothing.
+pub fn ascii_as_before()
+    ensures pieces { (sets : Sets) (kind : TextKind) (text : List ℕ) → list_all (is_plain sets) text ≡ true
+        → decoded sets kind text ≡ map as_itself text }
+    ensures dumped { (sets : Sets) (kind : TextKind) (text : List ℕ) → list_all (is_plain sets) text ≡ true
+        → dumped sets kind text ≡ flat_map ascii_dumped text }
+    ensures cell { (sets : Sets) (kind : TextKind) (text : List ℕ) → list_all (is_plain sets) text ≡ true
+        → cell sets kind text ≡ text }
+{}
+
+/// By ISO_IR 192 a text in UTF-8 is its characters, each by its bytes.
+pub fn utf8_as_it_is()
+    ensures named { IsUtf8InForce (sets_of (codes "ISO_IR 192")) }
+    ensures characters { (sets : Sets) (kind : TextKind) (text : List ℕ) → IsUtf8InForce sets → all_scalars text ≡ true
+        → decoded sets kind (encode_utf8_all text) ≡ map encoded text }
+    ensures dumped { (sets : Sets) (kind : TextKind) (text : List ℕ) → IsUtf8InForce sets → all_scalars text ≡ true
+        → list_all is_dumped text ≡ true → dumped sets kind (encode_utf8_all text) ≡ encode_utf8_all text }
+    ensures cell { (sets : Sets) (kind : TextKind) (text : List ℕ) → IsUtf8InForce sets → all_scalars text ≡ true
+        → cell sets kind (encode_utf8_all text) ≡ encode_utf8_all text }
+{}
+
+/// In a set of one byte a character no two bytes are the same character.
+pub fn one_to_one()
+    ensures { (single : Single) (a b character : ℕ) → single_character single a ≡ Some character
+        → single_character single b ≡ Some character → a ≡ b }
+{}
+
+/// What a dump and a cell show of a text is valid UTF-8, whatever is in force.
+pub fn shown_is_utf8()
+    ensures dumped { (sets : Sets) (kind : TextKind) (text : List ℕ) → list_all is_byte text ≡ true
+        → IsUtf8 (dumped sets kind text) }
+    ensures cell { (sets : Sets) (kind : TextKind) (text : List ℕ) → list_all is_byte text ≡ true
+        → IsUtf8 (cell sets kind text) }
+{}

@@ -1,0 +1,29 @@
+//! Texts by Specific Character Set (0008,0005), as characters (PS3.3 C.12.1.1.2, PS3.5 6.1.2). This crate knows nothing of
+//! data sets.
+//!
+//! - `sets_of` reads a value of (0008,0005): `Sets` are what is in force by it.
+//! - A `Decoder` takes a text in pieces of any size, and gives `Part`s: a character with its bytes, bytes without a
+//!   character, or a designation, which shows nothing. It holds at most three bytes, those of which nothing is decided yet.
+//! - `dumped` is what a dump shows of a part, and `in_cell` what a cell of a table does.
+//!
+//! A text that is whole:
+//!
+//!     let mut decoder = Decoder::new(sets_of(b"ISO_IR 100"), TextKind::Names);
+//!     while let Some((part, rest)) = decoder.next(text, true) { text = rest; .. }
+#![tactic(auto)]
+
+mod characters;
+mod decoder;
+mod first;
+mod form;
+pub mod laws;
+mod set;
+mod sets;
+mod shown;
+mod tables;
+
+pub use decoder::{Decoder, Part};
+pub use first::Meaning;
+pub use set::TextKind;
+pub use sets::{Sets, sets_of};
+pub use shown::{dumped, in_cell, is_hidden};

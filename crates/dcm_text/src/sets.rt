@@ -1,0 +1,271 @@
+//! What a value of Specific Character Set (0008,0005) names (PS3.3 C.12.1.1.2).
+ghost use Rattle.std.specs.Prelude.{◌≡◌, map, option_map, position, true, length, ◌==◌, fold};
+ghost use Rattle.std.specs.List.{slice_split};
+ghost use Rattle.dcm_text.specs.Sets as spec;
+
+use crate::characters::Single;
+use crate::set::{Right, Set};
+
+/// A term, what it names, and whether it brings code extensions where it stands alone.
+pub type Term = (&'static str, Set, bool);
+
+/// The terms.
+#[rattlefmt::skip]
+pub const TERMS: [Term; 31] = [
+    ("", Set::Ascii, false),
+    ("ISO_IR 6", Set::Ascii, false),
+    ("ISO_IR 13", Set::Single(Single::Ir13), false),
+    ("ISO_IR 100", Set::Single(Single::Ir100), false),
+    ("ISO_IR 101", Set::Single(Single::Ir101), false),
+    ("ISO_IR 109", Set::Single(Single::Ir109), false),
+    ("ISO_IR 110", Set::Single(Single::Ir110), false),
+    ("ISO_IR 126", Set::Single(Single::Ir126), false),
+    ("ISO_IR 127", Set::Single(Single::Ir127), false),
+    ("ISO_IR 138", Set::Single(Single::Ir138), false),
+    ("ISO_IR 144", Set::Single(Single::Ir144), false),
+    ("ISO_IR 148", Set::Single(Single::Ir148), false),
+    ("ISO_IR 166", Set::Single(Single::Ir166), false),
+    ("ISO_IR 203", Set::Single(Single::Ir203), false),
+    ("ISO 2022 IR 6", Set::Ascii, true),
+    ("ISO 2022 IR 13", Set::Single(Single::Ir13), true),
+    ("ISO 2022 IR 100", Set::Single(Single::Ir100), true),
+    ("ISO 2022 IR 101", Set::Single(Single::Ir101), true),
+    ("ISO 2022 IR 109", Set::Single(Single::Ir109), true),
+    ("ISO 2022 IR 110", Set::Single(Single::Ir110), true),
+    ("ISO 2022 IR 126", Set::Single(Single::Ir126), true),
+    ("ISO 2022 IR 127", Set::Single(Single::Ir127), true),
+    ("ISO 2022 IR 138", Set::Single(Single::Ir138), true),
+    ("ISO 2022 IR 144", Set::Single(Single::Ir144), true),
+    ("ISO 2022 IR 148", Set::Single(Single::Ir148), true),
+    ("ISO 2022 IR 166", Set::Single(Single::Ir166), true),
+    ("ISO 2022 IR 203", Set::Single(Single::Ir203), true),
+    ("ISO 2022 IR 87", Set::Ir87, true),
+    ("ISO 2022 IR 149", Set::Ir149, true),
+    ("ISO 2022 IR 58", Set::Ir58, true),
+    ("ISO_IR 192", Set::Utf8, false),
+];
+
+/// A longer value names what the empty one does.
+const LONGEST: usize = 512;
+
+/// How many flags of sets there are.
+const FLAGS: usize = 16;
+
+/// The flags of no set but ASCII, whose flag is the last.
+pub const ASCII_ALONE: [bool; FLAGS] = [
+    false, false, false, false, false, false, false, false, false, false, false, false, false,
+    false, false, true,
+];
+
+/// What is in force: what a text begins with, and what may be designated within it.
+#[derive(Clone, Copy, Debug, PartialEq, Eq)]
+pub struct Sets {
+    /// What bytes from 80 on mean at first; those below 80 are ASCII.
+    start: Right,
+    /// Whether code extensions are in use.
+    extended: bool,
+    /// Which sets were named, by their places.
+    named: [bool; FLAGS],
+}
+
+/// The place of the flag of a set.
+fn place(set: Set) -> usize
+    ensures { result ≡ spec.place set }
+{
+    match set {
+        Set::Single(Single::Ir13) => 0,
+        Set::Single(Single::Ir100) => 1,
+        Set::Single(Single::Ir101) => 2,
+        Set::Single(Single::Ir109) => 3,
+        Set::Single(Single::Ir110) => 4,
+        Set::Single(Single::Ir126) => 5,
+        Set::Single(Single::Ir127) => 6,
+        Set::Single(Single::Ir138) => 7,
+        Set::Single(Single::Ir144) => 8,
+        Set::Single(Single::Ir148) => 9,
+        Set::Single(Single::Ir166) => 10,
+        Set::Single(Single::Ir203) => 11,
+        Set::Ir87 => 12,
+        Set::Ir149 => 13,
+        Set::Ir58 => 14,
+        Set::Ascii | Set::Utf8 => 15,
+    }
+}
+
+impl Sets {
+    /// Those of the empty value.
+    pub const DEFAULT: Sets = Sets {
+        start: Right::Nothing,
+        extended: false,
+        named: ASCII_ALONE,
+    };
+
+    /// What bytes from 80 on mean where a text begins.
+    pub(crate) fn start(&self) -> Right
+        ensures { result ≡ self.now.start }
+    {
+        self.start
+    }
+
+    /// Whether code extensions are in use.
+    pub(crate) fn is_extended(&self) -> bool
+        ensures { result ≡ self.now.extended }
+    {
+        self.extended
+    }
+
+    /// Whether a set was named, so that it may be designated.
+    pub(crate) fn has(&self, set: Set) -> bool
+        ensures { result ≡ spec.has self.now set }
+    {
+        self.named[place(set)]
+    }
+}
+
+/// The table.
+#[tactic(auto, unfolding(crate::specs::Sets::terms))]
+fn terms() -> &'static [Term]
+    ensures { map (λ t. (t.0.now, t.1, t.2)) result.now ≡ spec.terms }
+{
+    &TERMS
+}
+
+/// What a term names in the first row that has it, and whether it brings code extensions.
+fn named_in(mut rows: &[Term], term: &[u8]) -> Option<(Set, bool)>
+    ensures { result ≡ spec.named_in (map (λ t. (t.0.now, t.1, t.2)) rows.entry.now) term.now }
+{
+    while let [row, rest @ ..] = rows {
+        if row.0.as_bytes() == term {
+            return Some((row.1, row.2));
+        }
+        rows = rest;
+    }
+    None
+}
+
+/// A text without spaces before it.
+fn without_spaces(mut text: &[u8]) -> &[u8]
+    ensures { result.now ≡ spec.without_spaces text.entry.now }
+{
+    while let [b' ', rest @ ..] = text {
+        text = rest;
+    }
+    text
+}
+
+/// Whether a byte after a term does not count.
+fn is_pad(byte: u8) -> bool
+    ensures { result ≡ spec.is_pad byte }
+{
+    byte == 0 || byte == b' '
+}
+
+/// A text without bytes 00 and spaces after it.
+fn without_pads(mut text: &[u8]) -> &[u8]
+    ensures { result.now ≡ spec.without_pads text.entry.now }
+{
+    while let [rest @ .., last] = text {
+        if !is_pad(*last) {
+            return text;
+        }
+        text = rest;
+    }
+    text
+}
+
+/// What a term names: what is no term, names what the empty one does.
+fn named(term: &[u8]) -> (Set, bool)
+    ensures { result ≡ spec.named term.now }
+{
+    match named_in(terms(), without_pads(without_spaces(term))) {
+        Some(named) => named,
+        None => (Set::Ascii, false),
+    }
+}
+
+/// What bytes from 80 on mean at first, by the first term.
+fn start_of(set: Set) -> Right
+    ensures { result ≡ spec.start_of set }
+{
+    match set {
+        Set::Ascii | Set::Ir87 => Right::Nothing,
+        Set::Single(single) => Right::Single(single),
+        Set::Ir149 => Right::Ir149,
+        Set::Ir58 => Right::Ir58,
+        Set::Utf8 => Right::Utf8,
+    }
+}
+
+/// The flags with that of one more set.
+fn with_flag(mut named: [bool; FLAGS], set: Set) -> [bool; FLAGS]
+    ensures { result ≡ spec.with_flag named set }
+{
+    named[place(set)] = true;
+    named
+}
+
+/// What the first term names, where no other follows.
+fn of_first(term: &[u8]) -> Sets
+    ensures { result ≡ spec.of_first term.now }
+{
+    let (set, extended) = named(term);
+    Sets {
+        start: start_of(set),
+        extended,
+        named: with_flag(ASCII_ALONE, set),
+    }
+}
+
+/// The same with one more term: beside a set that stands alone there is no other.
+fn with_term(sets: Sets, term: &[u8]) -> Sets
+    ensures { result ≡ spec.with_term sets term.now }
+{
+    if matches!(sets.start, Right::Utf8) {
+        return sets;
+    }
+    let (set, _) = named(term);
+    Sets {
+        start: sets.start,
+        extended: true,
+        named: with_flag(sets.named, set),
+    }
+}
+
+/// The place of the first backslash.
+fn backslash(text: &[u8]) -> Option<usize>
+    ensures { result ≡ position (λ b. b == 0x5C) text.now }
+{
+    text.iter().position(|byte| *byte == b'\\')
+}
+
+/// The same with all terms of a text.
+fn with_terms(first: Sets, text: &[u8]) -> Sets
+    ensures { result ≡ fold spec.with_term first (slice_split (λ b. b == 0x5C) text.now) }
+{
+    let mut sets = first;
+    let mut rest = text;
+    while let Some(at) = backslash(rest) {
+        let (term, after) = rest.split_at(at);
+        sets = with_term(sets, term);
+        let (_, next) = after.split_at(1);
+        rest = next;
+    }
+    with_term(sets, rest)
+}
+
+/// What a value of Specific Character Set names.
+pub fn sets_of(value: &[u8]) -> Sets
+    ensures { result ≡ spec.sets_of value.now }
+{
+    if value.len() > LONGEST {
+        return Sets::DEFAULT;
+    }
+    match backslash(value) {
+        None => of_first(value),
+        Some(at) => {
+            let (term, after) = value.split_at(at);
+            let (_, others) = after.split_at(1);
+            with_terms(of_first(term), others)
+        }
+    }
+}

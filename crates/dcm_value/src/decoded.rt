@@ -1,0 +1,98 @@
+// What is shown of a text by Specific Character Set.
+ghost use Rattle.std.specs.Prelude.{◌≡◌, ◌<◌, ◌≤◌, ◌+◌, ◌++◌, ◌^◌, flat_map, length, slice_index, OnOk};
+ghost use Rattle.dcm_text.specs.Runs.{run, state_of, bytes_left};
+ghost use Rattle.dcm_text.specs.Shown.{dumped_piece};
+ghost use Rattle.dcm_value.specs.Decoded as spec;
+ghost use Rattle.dcm_value.specs.Emits.{Emits};
+
+use crate::display::Shown;
+use crate::units::append;
+use arrayvec::ArrayVec;
+use dcm_base::{DeviceOut, Watched, WriteFailed};
+use dcm_text::{Decoder, Meaning, Part, dumped};
+
+/// Whether a part is a backslash, which parts values.
+fn is_backslash(part: &Part) -> bool
+    ensures { result ≡ spec.is_backslash part.now.meaning }
+{
+    matches!(part.meaning, Meaning::Character('\\'))
+}
+
+/// Whether a byte goes on a character of UTF-8.
+fn goes_on(byte: u8) -> bool
+    ensures { result ≡ spec.goes_on byte }
+{
+    (0x80..=0xBF).contains(&byte)
+}
+
+/// Whether the byte at a place does.
+fn goes_on_at(display: &[u8], at: usize) -> bool
+    ensures { result ≡ spec.goes_on (slice_index display.now at) }
+{
+    match display.get(at) {
+        Some(byte) => goes_on(*byte),
+        None => false,
+    }
+}
+
+/// How many bytes are left of a display of more than 66: 63, or those before the character that byte 64 goes on.
+fn cut_size(display: &[u8]) -> usize
+    ensures value { result ≡ spec.cut_size display.now }
+    ensures most { result ≤ 63 }
+{
+    if !goes_on_at(display, 63) {
+        63
+    } else if !goes_on_at(display, 62) {
+        62
+    } else if !goes_on_at(display, 61) {
+        61
+    } else {
+        60
+    }
+}
+
+impl Shown {
+    ghost use Rattle.dcm_value.specs.Shown.{display_of};
+
+    /// Shows the parts of a text that a piece of it decides, and counts the backslashes among them.
+    pub fn emit_decoded<W: DeviceOut>(
+        &mut self,
+        decoder: &mut Decoder,
+        piece: &[u8],
+        at_end: bool,
+        backslashes: &mut u32,
+        out: &mut Watched<W>,
+    ) -> Result<(), WriteFailed>
+        requires { backslashes.old + bytes_left decoder.old piece.now < 2 ^ 32 }
+        ensures shown { Emits W.DeviceOut out.old out.new (display_of self.old) (display_of self.new)
+            (flat_map dumped_piece (run at_end (state_of decoder.old) piece.now).0) result }
+        ensures state { OnOk result (state_of decoder.new ≡ (run at_end (state_of decoder.old) piece.now).1) }
+        ensures count { OnOk result (backslashes.new
+            ≡ backslashes.old + spec.backslashes (run at_end (state_of decoder.old) piece.now).0) }
+    {
+        let mut rest = piece;
+        while let Some((part, after)) = decoder.next(rest, at_end) {
+            self.emit(dumped(&part).as_slice(), out)?;
+            if is_backslash(&part) {
+                *backslashes += 1;
+            }
+            rest = after;
+        }
+        Ok(())
+    }
+
+    /// Appends what is still to be written, and the spaces after it: a long display is cut, and no character of it.
+    pub fn append_decoded_end<const N: usize>(&self, line: &mut ArrayVec<u8, N>)
+        requires { length line.old.items + 66 ≤ N }
+        ensures items { line.new.items ≡ line.old.items ++ spec.decoded_ending (display_of self.now) }
+        ensures within { length line.new.items ≤ length line.old.items + 66 }
+    {
+        if !self.is_cut() {
+            return self.append_end(line);
+        }
+        let front = self.front();
+        let (left, _) = front.split_at(cut_size(front).min(front.len()));
+        append(left, line);
+        append(b"...", line);
+    }
+}
