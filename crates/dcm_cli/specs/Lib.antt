@@ -9,6 +9,8 @@ pub mod DeidentifyPass
 pub mod Lines
 pub mod Run
 pub mod Keys
+pub mod First
+pub mod Searching
 pub mod InMemory
 pub mod Program
 pub mod Opening

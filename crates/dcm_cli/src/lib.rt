@@ -25,6 +25,7 @@ pub mod dump;
 /// How the work on a job ends.
 pub mod ending;
 mod error_lines;
+mod first;
 /// The head of a file, out of a device.
 pub mod head;
 /// Runs over memory.
