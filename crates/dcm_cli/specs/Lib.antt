@@ -11,6 +11,7 @@ pub mod Run
 pub mod Keys
 pub mod First
 pub mod Searching
+pub mod Days
 pub mod InMemory
 pub mod Program
 pub mod Opening

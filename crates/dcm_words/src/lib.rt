@@ -26,3 +26,4 @@ pub use job::{Build, Convert, Deidentify, Dump, Job, MOST_OF_KEY, Modify, Planne
 pub use plans::{dump_of_each, plan};
 pub use topic::{Topic, asked};
 pub use usage::Usage;
+pub use words::with_days;
