@@ -107,7 +107,10 @@ pub fn tell_irregular<E: DeviceOut>(errors: &mut Watched<E>) -> u8
     ensures line { calls.Reports E.DeviceOut errors.old errors.new spec.irregular_line }
     ensures status { result ≡ statuses.DEVICE }
 {
-    tell_line(errors, &[b"dcmtools: input is no regular file\n".as_slice()]);
+    tell_line(
+        errors,
+        &[b"dcmtools: input is no regular file\n".as_slice()],
+    );
     DEVICE
 }
 

@@ -10,8 +10,8 @@ ghost use Rattle.dcm_cli.specs.Keys as keys;
 ghost use Rattle.dcm_cli.specs.Program as spec;
 ghost use Rattle.dcm_cli.specs.Status as statuses;
 
-use crate::ending::{Ending, Verdict};
 use crate::days::{NoDays, take_days};
+use crate::ending::{Ending, Verdict};
 use crate::error_lines::{
     tell, tell_fault, tell_irregular, tell_key, tell_open, tell_output, tell_part, tell_same,
     tell_unread,
@@ -20,10 +20,10 @@ use crate::key::{KeyRead, NoKey, take_key};
 use crate::run::{flushed, run, tell_ending};
 use crate::status;
 use dcm_base::{DeviceOut, Watched, WordFault, put_all};
+use dcm_deid::Options;
 use dcm_files::{
     FileKind, Opened, System, Unopened, end_part, open_devices, open_whole_devices, unopened,
 };
-use dcm_deid::Options;
 use dcm_words::{Deidentify, Job, Planned, Topic, Usage, asked, plan, with_days};
 use std::alloc::Global;
 
