@@ -130,7 +130,7 @@ _dcmtools() {
         dcmodify-e) _dcmtools_paths "$current" ''; return ;;
         dcmodify-ma) _dcmtools_replaced "$current"; return ;;
         dcmdeid+k) _dcmtools_files "$current"; return ;;
-        dcmdeid+rm) return ;;
+        dcmdeid+rm) _dcmtools_words 'key' "$current"; return ;;
         dcm2csv-k) _dcmtools_words "$(_dcmtools_standard vc "$values")" "$current"; return ;;
         dcm2csv@) current=@$current ;; # a word is cut at `@`, and what is offered replaces both parts
         dcmodify-ea) _dcmtools_words "$values $sequences" "$current"; return ;;

@@ -439,6 +439,12 @@ def moved_study(run):
     return holds(run, {b"moved.dcm": (moved, None), b"site.key": (KEY, None)})
 
 
+def moved_by_key(run):
+    number = int.from_bytes(hmac.new(KEY, b"days\\7", hashlib.sha256).digest()[:8], "big")
+    moved = without_identity(run, SCAN, KEY, "+pi", "+rm", str(-1 - number % 3652))
+    return holds(run, {b"moved.dcm": (moved, None), b"site.key": (KEY, None)})
+
+
 def patient_found(run):
     digits = hmac.new(KEY, b"PatientID\\1234", hashlib.sha256).hexdigest().encode()
     wrong = [] if digits in run.printed else [f"printed {run.printed!r}"]
@@ -507,7 +513,8 @@ BLOCKS = [
     Block("    clean() {", identity_of_tree, folder=b"deidentified"),
     Block("        left=$(", identity_left, with_outputs, sound=with_sound_outputs),
     Block("    dcmtools dcmdeid +k site.key scan.dcm - |", identity_replaced),
-    Block("dcmtools dcmdeid +k site.key +pi +rm", moved_study, with_key, sound=with_key),
+    Block("dcmtools dcmdeid +k site.key +pi +rm key", moved_by_key, with_key, sound=with_key),
+    Block("dcmtools dcmdeid +k site.key +pi +rm -1234", moved_study, with_key, sound=with_key),
     Block("printf 'PatientID", patient_found, with_key, needs=("openssl", "xxd"), sound=with_key),
     Block("    umask 077", as_text),
     Block("    dcmtools dcmdump +L scan.dcm |", built),

@@ -24,6 +24,7 @@ pub enum Fault {
     CannotChange,
     TooLong,
     IdentityStays,
+    NoPatientId,
 }
 
 impl Fault {
@@ -48,6 +49,7 @@ impl Fault {
             Fault::CannotChange => "R14",
             Fault::TooLong => "R15",
             Fault::IdentityStays => "R16",
+            Fault::NoPatientId => "R17",
         }
     }
 
@@ -72,6 +74,7 @@ impl Fault {
             Fault::CannotChange => "encapsulated syntax cannot be changed",
             Fault::TooLong => "input too long",
             Fault::IdentityStays => "identity cannot be taken out",
+            Fault::NoPatientId => "no usable PatientID",
         }
     }
 }
@@ -187,6 +190,7 @@ pub enum WordFault {
     SamePath,
     BadKey,
     NoKey,
+    ReadTwice,
 }
 
 impl WordFault {
@@ -203,6 +207,7 @@ impl WordFault {
             WordFault::SamePath => "V6",
             WordFault::BadKey => "V7",
             WordFault::NoKey => "V10",
+            WordFault::ReadTwice => "V11",
         }
     }
 
@@ -219,6 +224,7 @@ impl WordFault {
             WordFault::SamePath => "input and output are the same path",
             WordFault::BadKey => "key is not 16 to 4096 bytes",
             WordFault::NoKey => "a key is needed",
+            WordFault::ReadTwice => "standard input cannot be read twice",
         }
     }
 }

@@ -17,3 +17,7 @@ pub mod EditPasses
 pub mod DeidentifyPasses
 pub mod Decided
 pub mod KeyBytes
+pub mod Ended
+pub mod PatientBar
+pub mod FirstSets
+pub mod FirstFiles

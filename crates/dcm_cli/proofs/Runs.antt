@@ -3,6 +3,7 @@ pub mod Ran
 pub mod LinesGrow
 pub mod Sure
 pub mod OneSource
+pub mod OneFirst
 pub mod OneAnswer
 pub mod Stopping
 pub mod InMemory

@@ -58,6 +58,10 @@ abbrev pub open_line : Bool → List ℕ
 open_line false = error_line (codes "input cannot be opened")
 open_line true = error_line (codes "output cannot be opened")
 
+-- the input is to be read twice, and is no regular file
+abbrev pub irregular_line : List ℕ
+irregular_line = error_line (codes "input is no regular file")
+
 -- the output is the input
 abbrev pub same_line : List ℕ
 same_line = error_line (codes "output is the input")

@@ -15,11 +15,17 @@ use Rattle.dcm_words.specs.declared.topic.Topic.{Topic}
 use Rattle.dcm_words.specs.Topics.{asked, text}
 use Rattle.dcm_words.specs.declared.usage.Usage.{Usage}
 use Rattle.dcm_words.specs.declared.usage.Usage.TheVariants.{Memory}
-use Rattle.dcm_words.specs.Words.{Job, Plan, meant, deidentify}
+use Rattle.dcm_words.specs.Words.{Job, Plan, meant, deidentify, with_days}
 use Rattle.dcm_words.specs.Plans.{takes_memory}
 use Rattle.dcm_deid.specs.declared.fate.Options.{Options}
+use Rattle.dcm_cli.specs.declared.days.NoDays.{NoDays}
+use Rattle.dcm_cli.specs.declared.days.NoDays.TheVariants as no_days
+use Rattle.dcm_cli.specs.declared.first.FirstEnd.{FirstEnd}
+use Rattle.dcm_cli.specs.declared.first.FirstEnd.TheVariants as ends
 use Rattle.dcm_cli.specs.declared.key.NoKey.{NoKey}
 use Rattle.dcm_cli.specs.declared.key.NoKey.TheVariants as causes
+use Rattle.dcm_cli.specs.Days.{no_days_line, no_days_status}
+use Rattle.dcm_cli.specs.First.{FirstReads}
 use Rattle.dcm_cli.specs.Keys.{LEAST_OF_KEY, MOST_OF_KEY, no_key_line, no_key_status}
 use Rattle.dcm_cli.specs.Answer.{Answer, Answers}
 use Rattle.dcm_cli.specs.ErrorLines.{usage_line, usage_status, open_line, same_line}
@@ -165,10 +171,35 @@ WholeComes (Some bytes) None is_stream job o = (a : Answer) × Answers job bytes
 abbrev pub WholeAt : MemSystem → Plan → Job → Outcome → Type 0
 WholeAt s p job o = WholeComes (bytes_at s p.input) (unwritten s p) (bytes_eq p.output standard) job o
 
--- what the taking of identity comes to, by the key
+-- there are no days
+abbrev pub without_days : NoDays → Outcome
+without_days cause = record { output = no_output; lines = no_days_line cause; status = no_days_status cause }
+
+-- what the taking of identity comes to, by how the first reading ends
+abbrev pub DaysCome : FirstEnd → MemSystem → Plan → Options → (reports : Bool) → (key : List ℕ) → Outcome → Type 0
+DaysCome (ends.Days days) s p options reports key o = WholeAt s p (deidentify (with_days options days) reports key) o
+DaysCome (ends.Refused stop) s p options reports key o = o ≡ without_days (no_days.Refused stop)
+DaysCome (ends.Unread count) s p options reports key o = o ≡ without_days (no_days.Unread count)
+
+-- by the input if it can be read, and by the number of its file: what is no file is not read twice
+abbrev pub FirstComes : (input : Option (List ℕ)) → (number : Option ℕ) → MemSystem → Plan → Options
+    → (reports : Bool) → (key : List ℕ) → Outcome → Type 0
+FirstComes None number s p options reports key o = o ≡ without_days no_days.Unopened
+FirstComes (Some bytes) None s p options reports key o = o ≡ without_days no_days.NotRegular
+FirstComes (Some bytes) (Some number) s p options reports key o =
+    (end : FirstEnd) × FirstReads key bytes end × DaysCome end s p options reports key o
+
+-- by whether the key makes the days by which dates are moved
+abbrev pub ByDays : (days_by_key : Bool) → MemSystem → Plan → Options → (reports : Bool) → (key : List ℕ) → Outcome
+    → Type 0
+ByDays true s p options reports key o =
+    FirstComes (bytes_at s p.input) (number_at s p.input) s p options reports key o
+ByDays false s p options reports key o = WholeAt s p (deidentify options reports key) o
+
+-- by the key
 abbrev pub KeyComes : Result (List ℕ) NoKey → MemSystem → Plan → Options → (reports : Bool) → Outcome → Type 0
 KeyComes (Err cause) s p options reports o = o ≡ without_key cause
-KeyComes (Ok key) s p options reports o = WholeAt s p (deidentify options reports key) o
+KeyComes (Ok key) s p options reports o = ByDays p.days_by_key s p options reports key o
 
 -- by the path of the key, if the plan names one
 abbrev pub DeidentifyComes : Option (List ℕ) → MemSystem → Plan → Options → (reports : Bool) → Outcome → Type 0

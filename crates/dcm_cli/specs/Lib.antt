@@ -9,6 +9,9 @@ pub mod DeidentifyPass
 pub mod Lines
 pub mod Run
 pub mod Keys
+pub mod First
+pub mod Searching
+pub mod Days
 pub mod InMemory
 pub mod Program
 pub mod Opening

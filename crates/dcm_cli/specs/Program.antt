@@ -1,5 +1,5 @@
 -- What a program does with the words of its command line.
-use Rattle.std.specs.Prelude.{◌≡◌, ◌≢◌, ℕ, List, [], Bool, true, false, Option, Some, None, Result, Ok, Err}
+use Rattle.std.specs.Prelude.{◌≡◌, ◌≢◌, ℕ, ℤ, List, [], Bool, true, false, Option, Some, None, Result, Ok, Err}
 use Rattle.std.specs.Io.KnownBytes.{append_known}
 use Rattle.std.specs.IoError.{error_kind}
 use Rattle.std.specs.declared.io.Error.{Error}
@@ -9,7 +9,7 @@ use Rattle.dcm_words.specs.declared.topic.Topic.{Topic}
 use Rattle.dcm_words.specs.Topics.{asked, text}
 use Rattle.dcm_words.specs.declared.usage.Usage.{Usage}
 use Rattle.dcm_words.specs.declared.usage.Usage.TheVariants as usages
-use Rattle.dcm_words.specs.Words.{Job, Plan, meant, deidentify}
+use Rattle.dcm_words.specs.Words.{Job, Plan, meant, deidentify, with_days}
 use Rattle.dcm_words.specs.Plans.{takes_memory}
 use Rattle.dcm_files.specs.declared.opened.Opened.{Opened}
 use Rattle.dcm_files.specs.declared.opened.Unopened.{Unopened}
@@ -18,8 +18,10 @@ use Rattle.dcm_files.specs.Devices.{MayDo, IsCause, OpensDevices}
 use Rattle.dcm_files.specs.Part.{OpensWholeDevices, EndsPart}
 use Rattle.dcm_files.specs.declared.opened.FileKind.{FileKind}
 use Rattle.dcm_deid.specs.declared.fate.Options.{Options}
+use Rattle.dcm_cli.specs.declared.days.NoDays.{NoDays}
 use Rattle.dcm_cli.specs.declared.key.KeyRead.{KeyRead}
 use Rattle.dcm_cli.specs.declared.key.NoKey.{NoKey}
+use Rattle.dcm_cli.specs.Days.{TakesDays, no_days_line, no_days_status}
 use Rattle.dcm_cli.specs.Keys.{TakesKey, no_key_line, no_key_status}
 use Rattle.dcm_cli.specs.Calls.{Reader, Runs}
 use Rattle.dcm_cli.specs.Change.{Change, change_of}
@@ -96,6 +98,18 @@ pub data WorksWhole {S I O : Type 0} (may : MayDo S I O) (r : Reader I) (w : Wri
       → EndsOutput may p.output ran of_end has_run status after → Follows errors of_run of_end
       → WorksWhole may r w p job earlier errors before status after
 
+-- the days are made of the patient whom the input names, which is read for it, and then opened anew; where there are
+-- none, that is reported, and nothing is written
+pub data MovesByKey {S I O : Type 0} (may : MayDo S I O) (r : Reader I) (w : Writer O) (p : Plan) (options : Options)
+    (reports : Bool) (k : KeyRead) (errors : Change) (before : S) (status : ℕ) (after : S) : Type 0 where
+  no_days : (cause : NoDays) → TakesDays may r p.input k.bytes.items before (Err cause) after
+      → Reports errors (no_days_line cause) → status ≡ no_days_status cause
+      → MovesByKey may r w p options reports k errors before status after
+  by_days : (days : ℤ) (has_days : S) → TakesDays may r p.input k.bytes.items before (Ok days) has_days
+      → WorksWhole may r w p (deidentify (with_days options days) reports k.bytes.items) (Some k.kind) errors has_days
+      status after
+      → MovesByKey may r w p options reports k errors before status after
+
 -- the key is read first, where the plan names one; where it cannot be, that is reported, and nothing else is opened
 pub data Deidentifies {S I O : Type 0} (may : MayDo S I O) (r : Reader I) (w : Writer O) (p : Plan)
     (options : Options) (reports : Bool) (errors : Change) (before : S) (status : ℕ) (after : S) : Type 0 where
@@ -105,8 +119,12 @@ pub data Deidentifies {S I O : Type 0} (may : MayDo S I O) (r : Reader I) (w : W
       → Reports errors (no_key_line cause) → status ≡ no_key_status cause
       → Deidentifies may r w p options reports errors before status after
   with_key : (path : List ℕ) (k : KeyRead) (has_key : S) → p.key ≡ Some path
-      → TakesKey may r path before (Ok k) has_key
+      → TakesKey may r path before (Ok k) has_key → p.days_by_key ≡ false
       → WorksWhole may r w p (deidentify options reports k.bytes.items) (Some k.kind) errors has_key status after
+      → Deidentifies may r w p options reports errors before status after
+  with_days_of_key : (path : List ℕ) (k : KeyRead) (has_key : S) → p.key ≡ Some path
+      → TakesKey may r path before (Ok k) has_key → p.days_by_key ≡ true
+      → MovesByKey may r w p options reports k errors has_key status after
       → Deidentifies may r w p options reports errors before status after
 
 -- what is done of a plan with this job

@@ -102,6 +102,18 @@ pub fn tell_open<E: DeviceOut>(output: bool, errors: &mut Watched<E>) -> u8
     DEVICE
 }
 
+/// Reports that the input is no regular file, and answers the status.
+pub fn tell_irregular<E: DeviceOut>(errors: &mut Watched<E>) -> u8
+    ensures line { calls.Reports E.DeviceOut errors.old errors.new spec.irregular_line }
+    ensures status { result ≡ statuses.DEVICE }
+{
+    tell_line(
+        errors,
+        &[b"dcmtools: input is no regular file\n".as_slice()],
+    );
+    DEVICE
+}
+
 /// Reports that the output is the input, and answers the status.
 pub fn tell_same<E: DeviceOut>(errors: &mut Watched<E>) -> u8
     ensures line { calls.Reports E.DeviceOut errors.old errors.new spec.same_line }

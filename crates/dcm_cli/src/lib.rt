@@ -19,12 +19,15 @@
 
 mod build;
 mod convert;
+mod days;
 mod deidentify;
 /// The dump of an input.
 pub mod dump;
 /// How the work on a job ends.
 pub mod ending;
 mod error_lines;
+/// The first reading of a file, up to its patient.
+pub mod first;
 /// The head of a file, out of a device.
 pub mod head;
 /// Runs over memory.

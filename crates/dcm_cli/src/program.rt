@@ -1,23 +1,30 @@
 // The program: words, devices, and the exit status.
-ghost use Rattle.std.specs.Prelude.{◌≤◌, ◌≡◌, map};
+ghost use Rattle.std.specs.Prelude.{◌≤◌, ◌≡◌, map, Some};
+ghost use Rattle.dcm_words.specs.Words.{deidentify as deidentify_job};
 ghost use Rattle.dcm_words.specs.Plans as plans;
 ghost use Rattle.dcm_words.specs.Topics as topics;
 ghost use Rattle.dcm_cli.specs.Calls as calls;
 ghost use Rattle.dcm_cli.specs.Change.{change_of};
+ghost use Rattle.dcm_cli.specs.Days as days;
 ghost use Rattle.dcm_cli.specs.Keys as keys;
 ghost use Rattle.dcm_cli.specs.Program as spec;
 ghost use Rattle.dcm_cli.specs.Status as statuses;
 
+use crate::days::{NoDays, take_days};
 use crate::ending::{Ending, Verdict};
-use crate::error_lines::{tell, tell_key, tell_open, tell_output, tell_part, tell_same};
-use crate::key::{NoKey, take_key};
+use crate::error_lines::{
+    tell, tell_fault, tell_irregular, tell_key, tell_open, tell_output, tell_part, tell_same,
+    tell_unread,
+};
+use crate::key::{KeyRead, NoKey, take_key};
 use crate::run::{flushed, run, tell_ending};
 use crate::status;
 use dcm_base::{DeviceOut, Watched, WordFault, put_all};
+use dcm_deid::Options;
 use dcm_files::{
     FileKind, Opened, System, Unopened, end_part, open_devices, open_whole_devices, unopened,
 };
-use dcm_words::{Deidentify, Job, Planned, Topic, Usage, asked, plan};
+use dcm_words::{Deidentify, Job, Planned, Topic, Usage, asked, plan, with_days};
 use std::alloc::Global;
 
 /// How the writing of a text ends.
@@ -47,6 +54,26 @@ fn tell_no_key<E: DeviceOut>(cause: NoKey, errors: &mut Watched<E>) -> u8
         NoKey::Unread => tell_key(true, errors),
         NoKey::Size => tell(&Usage::Whole(WordFault::BadKey), errors),
         NoKey::Memory => tell(&Usage::Memory, errors),
+    }
+}
+
+/// Reports why there are no days, and answers the status.
+fn tell_no_days<E: DeviceOut>(cause: NoDays, errors: &mut Watched<E>) -> u8
+    ensures line { calls.Reports E.DeviceOut errors.old errors.new (days.no_days_line cause) }
+    ensures status { result ≡ days.no_days_status cause }
+{
+    match cause {
+        NoDays::Unopened => tell_open(false, errors),
+        NoDays::Memory => tell(&Usage::Memory, errors),
+        NoDays::NotRegular => tell_irregular(errors),
+        NoDays::Unread(read) => {
+            tell_unread(read, errors);
+            status::DEVICE
+        }
+        NoDays::Refused(stop) => {
+            tell_fault(stop, errors);
+            status::FAULT
+        }
     }
 }
 
@@ -124,6 +151,49 @@ fn work_whole<S: System, E: DeviceOut>(
     }
 }
 
+/// Takes identity out of a file with a key that was read.
+fn deidentify_with<S: System, E: DeviceOut>(
+    system: &mut S,
+    planned: &Planned,
+    options: Options,
+    reports: bool,
+    key: KeyRead,
+    errors: &mut Watched<E>,
+) -> u8
+    ensures works { spec.WorksWhole S.may_do S.Input.DeviceIn S.Output.DeviceOut (plans.planned planned.now)
+        (deidentify_job options reports key.bytes.items) (Some key.kind) (change_of E.DeviceOut errors.old errors.new)
+        system.old result system.new }
+    ensures within { result ≤ statuses.MEMORY }
+{
+    let job = Job::Deidentify(Deidentify {
+        options,
+        reports,
+        key: key.bytes,
+    });
+    work_whole(system, planned, &job, Some(key.kind), errors)
+}
+
+/// Takes identity out of a file with a key that was read, its dates moved by the days that the key makes of its patient.
+fn deidentify_by_days<S: System, E: DeviceOut>(
+    system: &mut S,
+    planned: &Planned,
+    what: &Deidentify,
+    key: KeyRead,
+    errors: &mut Watched<E>,
+) -> u8
+    ensures works { spec.MovesByKey S.may_do S.Input.DeviceIn S.Output.DeviceOut (plans.planned planned.now)
+        what.now.options what.now.reports key (change_of E.DeviceOut errors.old errors.new) system.old result system.new }
+    ensures within { result ≤ statuses.MEMORY }
+{
+    match take_days(system, planned.input, key.bytes.as_slice()) {
+        Ok(days) => {
+            let options = with_days(what.options, days);
+            deidentify_with(system, planned, options, what.reports, key, errors)
+        }
+        Err(cause) => tell_no_days(cause, errors),
+    }
+}
+
 /// Reads the key, where there is one, and takes identity out of a file.
 fn deidentify<S: System, E: DeviceOut>(
     system: &mut S,
@@ -139,14 +209,8 @@ fn deidentify<S: System, E: DeviceOut>(
         return work_whole(system, planned, &planned.job, None, errors);
     };
     match take_key(system, path) {
-        Ok(key) => {
-            let job = Job::Deidentify(Deidentify {
-                options: what.options,
-                reports: what.reports,
-                key: key.bytes,
-            });
-            work_whole(system, planned, &job, Some(key.kind), errors)
-        }
+        Ok(key) if planned.days_by_key => deidentify_by_days(system, planned, what, key, errors),
+        Ok(key) => deidentify_with(system, planned, what.options, what.reports, key, errors),
         Err(cause) => tell_no_key(cause, errors),
     }
 }

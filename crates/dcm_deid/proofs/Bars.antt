@@ -1,5 +1,5 @@
 -- The sink knows the last tag of the innermost open data set.
-use Rattle.std.proofs.Common.{◌≡◌, ◌≤◌, ◌<◌, ℕ, suc, List, [], ◌∷◌, ◌++◌, length, map, fold, Option, Some, None, Bool, true, false, refl, sym, ◌∙◌, ap, arith, cond, zero}
+use Rattle.std.proofs.Common.{◌≡◌, ◌≤◌, ◌<◌, ℕ, suc, ◌+◌, List, [], ◌∷◌, ◌++◌, length, map, fold, Option, Some, None, Bool, true, false, refl, sym, ◌∙◌, ap, arith, cond, zero}
 use Rattle.std.specs.Prelude.{option_map, nat_lt, if◌then◌else◌}
 use Rattle.std.proofs.lemmas.Bool.{lt-ltb}
 use Rattle.dcm_base.specs.declared.tag.Tag.{Tag}
@@ -13,7 +13,7 @@ use Rattle.dcm_base.specs.declared.form.Form.TheVariants.{Value as a_value, Sequ
 use Rattle.dcm_base.specs.Tree.Front.{Front, front, OpenTree, nothing_open, open_leaf, open_sequence, open_fragments, OpenItem, no_open_item, open_item}
 use Rattle.dcm_base.specs.Tree.Tree.{Trees, no_tree, leaf, sequence, fragments, Items, no_item, item}
 use Rattle.dcm_base.specs.Tables.Tag.{is_above}
-use Rattle.dcm_base.specs.Reading.Bars.{innermost_reached, reached_in_tree, reached_in_item, holds_identity, identity_fault, identity_bar}
+use Rattle.dcm_base.specs.Reading.Bars.{innermost_reached, reached_in_tree, reached_in_item, holds_identity, identity_fault, identity_bar, items_open, items_open_in, items_open_at}
 use Rattle.dcm_base.specs.Bytes.Spelling.{last_tag, reached_tag}
 use Rattle.dcm_base.specs.Tree.Value.{order}
 use Rattle.dcm_base.specs.Steps.Atoms.{Atom, opens, value_byte, closes_leaf, opens_item, closes_item, closes_sequence, opens_fragment, fragments_then, open_fragment_atoms, end_atoms, ShowTrees, ShowItems, Shows, ShowsOpen, ShowsOpenItem}
@@ -118,7 +118,7 @@ fragment_keeps (Some f) s = value_keeps f.1 (next s (opens_fragment f.0))
 mutual
   unfolding Shows innermost_reached
 
-  last_front : (f : Front) (lists : ℕ) (s : State) (outer : List (Option Tag)) (atoms : List Atom) → Shows f atoms → StaysShallow lists atoms → length outer ≡ lists → At s None outer → last_of s atoms ≡ innermost_reached f
+  pub last_front : (f : Front) (lists : ℕ) (s : State) (outer : List (Option Tag)) (atoms : List Atom) → Shows f atoms → StaysShallow lists atoms → length outer ≡ lists → At s None outer → last_of s atoms ≡ innermost_reached f
   last_front (front whole p r c) lists s outer atoms (others, shown, more, may, re) h same a =
       let t = trees_at whole lists s None outer atoms others shown h same a in
       ap (λ (u : State). u.place.last) t.1
@@ -146,6 +146,53 @@ mutual
       let most : lists ≤ 64 = stays_here lists atoms h in
       ap (last_of s) is
       ∙ last_front set lists (next s (opens_item declared)) (Some tag ∷ outer) contents more (stays_tail lists (opens_item declared) contents (stays_at lists atoms _ is h)) (omega (arith, same)) (at_item s (Some tag) outer declared (omega (arith, same, most)) a)
+
+-- ---- so many items are open
+
+abbrev outer_of : State → List Atom → ℕ
+outer_of s atoms = length (fold next s atoms).place.outer
+
+value_outer : (u : List ℕ) (s : State) → outer_of s (map value_byte u) ≡ length s.place.outer
+value_outer [] s = refl
+value_outer (b ∷ u) s = value_outer u (next s (value_byte b))
+
+fragment_outer : (l : Option (ℕ × List ℕ)) (s : State) → outer_of s (open_fragment_atoms l) ≡ length s.place.outer
+fragment_outer None s = refl
+fragment_outer (Some f) s = value_outer f.1 (next s (opens_fragment f.0))
+
+none_more : (n : ℕ) → n ≡ 0 + n
+none_more n = omega arith
+
+mutual
+  unfolding Shows items_open
+
+  pub outer_front : (f : Front) (lists : ℕ) (s : State) (outer : List (Option Tag)) (atoms : List Atom) → Shows f atoms → StaysShallow lists atoms → length outer ≡ lists → At s None outer → outer_of s atoms ≡ items_open f + length outer
+  outer_front (front whole p r c) lists s outer atoms (others, shown, more, may, re) h same a =
+      let t = trees_at whole lists s None outer atoms others shown h same a in
+      ap (λ (u : State). length u.place.outer) t.1 ∙ outer_open p whole lists t.0 outer c others more (trees_stay whole lists atoms others shown h) same t.2
+
+  outer_open : (p : OpenTree) (whole : Trees) (lists : ℕ) (s : State) (outer : List (Option Tag)) (c : Bool) (atoms : List Atom) → ShowsOpen p (end_atoms c) atoms → StaysShallow lists atoms → length outer ≡ lists → At s (last_tag None whole) outer
+      → outer_of s atoms ≡ items_open_in p + length outer
+  outer_open nothing_open whole lists s outer false atoms e h same a = ap (outer_of s) e ∙ ap length a.is_outer ∙ none_more (length outer)
+  outer_open nothing_open whole lists s outer true atoms e h same a = ap (outer_of s) e ∙ ap length a.is_outer ∙ none_more (length outer)
+  outer_open (open_leaf tag vr size value) whole lists s outer c atoms (syntax, fo, le, is) h same a =
+      ap (outer_of s) is ∙ value_outer (order syntax vr value) (next s (opens tag vr (Known size) syntax)) ∙ ap length (at_head s _ outer tag vr (Known size) syntax a).is_outer ∙ none_more (length outer)
+  outer_open (open_sequence tag vr declared items last') whole lists s outer c atoms (syntax, contents, others, fo, is, inner, more) h same a =
+      let within = head_stays lists tag vr declared syntax a_sequence contents fo (stays_at lists atoms _ is h) in
+      let t = items_at items (suc lists) (next s (opens tag vr declared syntax)) (Some tag) outer contents others inner within (omega (arith, same)) (at_head s _ outer tag vr declared syntax a) in
+      ap (outer_of s) is
+      ∙ ap (λ (u : State). length u.place.outer) t.1
+      ∙ outer_item last' tag (suc lists) t.0 outer others more (items_stay items (suc lists) contents others inner within) (omega (arith, same)) t.2
+  outer_open (open_fragments tag vr values last') whole lists s outer c atoms (syntax, fo, mi, is) h same a =
+      let t = at_fragments (next s (opens tag vr Undefined syntax)) (Some tag) outer values (open_fragment_atoms last') (at_head s _ outer tag vr Undefined syntax a) in
+      ap (outer_of s) is ∙ ap (λ (u : State). length u.place.outer) t.1 ∙ fragment_outer last' t.0 ∙ ap length t.2.is_outer ∙ none_more (length outer)
+
+  outer_item : (p : OpenItem) (tag : Tag) (lists : ℕ) (s : State) (outer : List (Option Tag)) (atoms : List Atom) → ShowsOpenItem p atoms → StaysShallow lists atoms → suc (length outer) ≡ lists → At s (Some tag) outer → outer_of s atoms ≡ items_open_at p + length outer
+  outer_item no_open_item tag lists s outer atoms e h same a = ap (outer_of s) e ∙ ap length a.is_outer ∙ none_more (length outer)
+  outer_item (open_item declared set) tag lists s outer atoms (contents, is, still, more) h same a =
+      let most : lists ≤ 64 = stays_here lists atoms h in
+      let inside = outer_front set lists (next s (opens_item declared)) (Some tag ∷ outer) contents more (stays_tail lists (opens_item declared) contents (stays_at lists atoms _ is h)) (omega (arith, same)) (at_item s (Some tag) outer declared (omega (arith, same, most)) a) in
+      ap (outer_of s) is ∙ (let e = inside in omega (arith, e))
 
 by_test : (a b : Bool) → option_map fault_of (cond {A = Option SinkBar} a (cond {A = Option SinkBar} b (Some Identity) None) (Some Order)) ≡ cond {A = Option Fault} a (cond {A = Option Fault} b (Some IdentityStays) None) (Some NotAscending)
 by_test true true = refl

@@ -17,6 +17,7 @@ pub mod Kept
 pub mod Walked
 pub mod OpenParts
 pub mod Bars
+pub mod PatientSteps
 pub mod PutOnes
 pub mod Weave
 pub mod Woven

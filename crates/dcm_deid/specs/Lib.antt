@@ -10,6 +10,7 @@ pub mod Pairs
 pub mod Pixels
 pub mod DeidentifySink
 pub mod Deidentifying
+pub mod Patient
 pub mod Noting
 pub mod Through
 pub mod Laws

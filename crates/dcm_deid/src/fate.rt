@@ -21,7 +21,7 @@ const NUMBERS_OF_A_MARK: u64 = 0x8_0000;
 const ALL_NUMBERS: u64 = 0x1_0000_0000;
 
 /// PatientID.
-const PATIENT_ID: Tag = Tag {
+pub const PATIENT_ID: Tag = Tag {
     group: 0x0010,
     element: 0x0020,
 };

@@ -81,7 +81,7 @@ impl HeldValue {
     }
 
     /// The first bytes, in little endian order.
-    fn ordered(&self) -> ArrayVec<u8, MOST_HELD>
+    pub fn ordered(&self) -> ArrayVec<u8, MOST_HELD>
         ensures { result.items ≡ order self.now.syntax self.now.vr self.now.bytes.items }
     {
         let mut value = copied(&self.bytes);

@@ -9,6 +9,7 @@ mod held;
 mod key;
 pub mod laws;
 mod meta;
+mod patient;
 mod said;
 mod sink;
 mod table;
@@ -16,5 +17,6 @@ mod whole;
 
 pub use fate::{Depth, Fate, NewValue, Options, ReadAs, Retain, Temporal, fate_of};
 pub use meta::{MetaFate, MetaWithoutIdentity, NO_PREAMBLE, meta_fate};
+pub use patient::{Naming, PatientSink, UpToPatient};
 pub use sink::DeidentifySink;
 pub use table::{ACTIONS, Action};

@@ -37,7 +37,7 @@ const ENCAPSULATED_DOCUMENT: Tag = Tag {
 };
 
 /// Whether identity cannot be taken out of an element of this tag.
-fn holds_identity(tag: Tag) -> bool
+pub fn holds_identity(tag: Tag) -> bool
     ensures { result ≡ bars.holds_identity tag }
 {
     tag == DIRECTORY_RECORDS || tag == ENCAPSULATED_DOCUMENT

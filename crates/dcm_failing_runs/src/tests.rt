@@ -1,5 +1,6 @@
 mod cases;
 mod cuts;
+mod days;
 mod ends;
 mod failing;
 mod opening;

@@ -1,3 +1,4 @@
 -- Two runs beside each other.
 pub mod NoEdits
 pub mod NothingFlows
+pub mod FirstLaws

@@ -6,6 +6,8 @@ ghost use Rattle.dcm_run_laws.specs.Laws.{ErasedAllSeen, ErasedPrivateSeen, Alik
 ghost use Rattle.dcm_run_laws.specs.Laws.{DeidentifiedReads, OutputIsClean, InstanceAgrees, DeidentifiedTwice};
 ghost use Rattle.dcm_run_laws.specs.DumpBuilds.{DumpBuilds};
 ghost use Rattle.dcm_run_laws.specs.NoEdits.{NoEditsConvert};
+ghost use Rattle.dcm_run_laws.specs.FirstLaws.{FirstEndsOnce, FirstEnds, DaysAreOfPatient, PatientHasDays};
+ghost use Rattle.dcm_run_laws.specs.FirstLaws.{OnePatientOneMove, MovesBack, NothingFlowsByKey};
 ghost use Rattle.dcm_run_laws.specs.Flows.{NothingFlows};
 
 /// A run that builds the full dump of a file comes to what its conversion writes, but for the preamble. That is the
@@ -93,6 +95,28 @@ pub fn modified_twice()
 /// front too; and dates that are moved, be it by other days, are moved to the same.
 pub fn nothing_flows_in_answers()
     ensures { NothingFlows }
+{}
+
+/// The first reading of a file ends in one way, and in some.
+pub fn first_reading_ends()
+    ensures once { FirstEndsOnce }
+    ensures some { FirstEnds }
+{}
+
+/// By which days the dates of a file are moved where the key makes them: by those of the patient whom PatientID at its
+/// outermost level names. So two files of one patient are moved by the same days under one key: 1 to 3,652 days into the
+/// past.
+pub fn one_patient_one_move()
+    ensures of_patient { DaysAreOfPatient }
+    ensures has_days { PatientHasDays }
+    ensures one { OnePatientOneMove }
+    ensures back { MovesBack }
+{}
+
+/// Nothing of what dcmdeid takes out of a file is in its answer where the key makes the days of each patient. Two such
+/// files may be of two patients, whose dates are moved by other days.
+pub fn nothing_flows_by_key()
+    ensures { NothingFlowsByKey }
 {}
 
 /// What dcmdeid writes of a file without fault is read without fault, by both dictionaries. Its transfer syntax is that

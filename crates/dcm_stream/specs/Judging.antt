@@ -10,7 +10,7 @@ use Rattle.dcm_base.specs.declared.level.Container.{Container}
 use Rattle.dcm_base.specs.declared.level.Level.{Level}
 use Rattle.dcm_base.specs.declared.fault.Fault.{Fault}
 use Rattle.dcm_base.specs.declared.fault.Fault.TheVariants.{EndsEarly, UndefinedLength, PassesEnd, TooDeep}
-use Rattle.dcm_base.specs.declared.fault.Fault.TheVariants.{NotAscending, FragmentsBarred, IdentityStays}
+use Rattle.dcm_base.specs.declared.fault.Fault.TheVariants.{NotAscending, FragmentsBarred, IdentityStays, NoPatientId}
 use Rattle.dcm_base.specs.Steps.Atoms.{Atom, opens, opens_item, opens_fragment}
 use Rattle.dcm_base.specs.declared.level.Container.TheVariants.{Item as an_item, Sequence as a_sequence}
 use Rattle.dcm_base.specs.declared.level.Container.TheVariants.{FragmentList as a_fragment_list}
@@ -24,7 +24,7 @@ use Rattle.dcm_head.specs.declared.head.Head.{Head}
 use Rattle.dcm_head.specs.declared.head.HeadRead.TheVariants.{Done}
 use Rattle.dcm_head.specs.HeadRead.{tag_read}
 use Rattle.dcm_stream.specs.declared.token.Bar.{Bar}
-use Rattle.dcm_stream.specs.declared.token.Bar.TheVariants.{Order, Fragments, Identity}
+use Rattle.dcm_stream.specs.declared.token.Bar.TheVariants.{Order, Fragments, Identity, Patient}
 use Rattle.dcm_stream.specs.declared.judge.Opening.{Opening}
 use Rattle.dcm_stream.specs.declared.judge.Opening.TheVariants as opening
 use Rattle.dcm_stream.specs.declared.judge.Judged.{Judged}
@@ -37,6 +37,7 @@ abbrev pub fault_of : Bar → Fault
 fault_of Order = NotAscending
 fault_of Fragments = FragmentsBarred
 fault_of Identity = IdentityStays
+fault_of Patient = NoPatientId
 
 -- what a sink refuses of itself, in a state
 abbrev pub bars_head : {S : Type 0} → (S → Head → Option Bar) → S → HeadBar

@@ -120,6 +120,7 @@ fn barred(bar: Bar) -> Fault
         Bar::Order => Fault::NotAscending,
         Bar::Fragments => Fault::FragmentsBarred,
         Bar::Identity => Fault::IdentityStays,
+        Bar::Patient => Fault::NoPatientId,
     }
 }
 

@@ -78,6 +78,8 @@ pub enum Bar {
     Fragments,
     /// An element of which identity cannot be taken out, nor the element itself.
     Identity,
+    /// The element that names the patient, or one after it.
+    Patient,
 }
 
 /// How far an element had come that a sink takes whole, when its writer failed.

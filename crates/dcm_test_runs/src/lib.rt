@@ -2,7 +2,7 @@
 //! part of the program.
 //!
 //! - A `Row` is a run: its words and input, and what is wanted of it. `dumps`, `conversions`, `buildings`, `modifications`,
-//!   `dictionaries`, `signs`, `unknown`, `identities`, `identity_put`, `identity_moved`, `identity_named` and
+//!   `dictionaries`, `signs`, `unknown`, `identities`, `identity_days`, `identity_put`, `identity_moved`, `identity_named` and
 //!   `identity_faults` are tables of rows.
 //! - `expect_rows` expects the answers of rows. `expect_runs` expects one, in pieces of several sizes.
 //! - `over_memory` and `over_std` are runs of words over one input, and `expect_answer` compares an `Answer` with what is
@@ -29,6 +29,7 @@ pub use tables::conversions::conversions;
 pub use tables::dictionaries::dictionaries;
 pub use tables::dumps::dumps;
 pub use tables::identities::identities;
+pub use tables::identity_days::identity_days;
 pub use tables::identity_faults::identity_faults;
 pub use tables::identity_moved::identity_moved;
 pub use tables::identity_named::identity_named;

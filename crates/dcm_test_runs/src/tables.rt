@@ -4,6 +4,7 @@ pub mod conversions;
 pub mod dictionaries;
 pub mod dumps;
 pub mod identities;
+pub mod identity_days;
 pub mod identity_faults;
 pub mod identity_moved;
 pub mod identity_named;

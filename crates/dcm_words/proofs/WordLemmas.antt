@@ -3,13 +3,14 @@ use Rattle.std.proofs.Common.{◌≡◌, ◌≢◌, ◌==◌, ℕ, ℤ, zero, su
 use Rattle.std.proofs.lemmas.Bool.Decides.{nat_tests}
 use Rattle.dcm_words.specs.declared.usage.Word.{Word}
 use Rattle.dcm_words.specs.declared.usage.Word.TheVariants.{Read, Show, WholeFile, DataSet, Bare, Target, Limit, Retain, Move, Pseudonyms, PixelsDealt, Key, Accepted, Path, Unknown}
+use Rattle.dcm_words.specs.declared.usage.Move.{Move as Moved}
 use Rattle.dcm_words.specs.declared.usage.Usage.{Usage}
 use Rattle.dcm_words.specs.declared.usage.Usage.TheVariants.{AtWord, Whole}
 use Rattle.dcm_base.specs.declared.fault.WordFault.TheVariants.{UnknownOption, BadOptionValue, WrongPaths}
-use Rattle.dcm_words.specs.Words.{Said, said_with, said_with_value, said_after, and_path, and_move, limit_of, days_of, key_of, Job, plan_with_two}
+use Rattle.dcm_words.specs.Words.{Said, said_with, said_with_value, said_after, and_path, and_move, limit_of, move_of, key_of, Job, plan_with_two}
 use Rattle.dcm_words.specs.declared.words.Paths.{Paths}
 use Rattle.dcm_words.specs.declared.words.Paths.TheVariants as paths
-use Rattle.dcm_words.specs.Plans.{given, value_after, limit_after, days_after, key_after, PathsAre, SaidAs}
+use Rattle.dcm_words.specs.Plans.{given, value_after, limit_after, move_after, key_after, PathsAre, SaidAs}
 use Rattle.std.specs.Prelude.{IsErrAnd}
 use Rattle.dcm_words.specs.declared.words.Said.{Said as Words}
 
@@ -192,8 +193,8 @@ module _ (read : List ℕ → Word) where
   key_is : (v : List ℕ) (s : Said) → said_with_value Key v s ≡ option_map (λ key. record s { key = Some key }) (key_of v)
   key_is v s = refl
 
-  days_is : (v : List ℕ) (s : Said) → said_with_value Move v s ≡ option_map (λ days. record s { options = and_move s.options days }) (days_of v)
-  days_is v s = refl
+  move_is : (v : List ℕ) (s : Said) → said_with_value Move v s ≡ option_map (λ moved. record s { choice = and_move s.choice moved }) (move_of v)
+  move_is v s = refl
 
   pub limit_turn : {M : Result Said Usage} (i : ℕ) (ws : List (Bor (List ℕ))) (d : Bor (List ℕ)) (s t : Said) (limit : ℕ) → i < length ws → Limit ≡ read (get_or ws i d).now → limit_after (i + 2) (texts (drop (i + 1) ws)) ≡ Ok limit
       → record s { limit = limit } ≡ t → said_after read (i + 2) s (texts (drop i ws)) ≡ M → said_after read (i + 1 + 1 + 2) t (texts (drop (i + 1 + 1) ws)) ≡ M
@@ -211,13 +212,13 @@ module _ (read : List ℕ → Word) where
       → said_after read (i + 2) s (texts (drop i ws)) ≡ Err u
   key_refused i ws d s u h p l = value_refused Key key_of (λ a s. record s { key = Some a }) refl key_is i ws d s u h p l
 
-  pub days_turn : {M : Result Said Usage} (i : ℕ) (ws : List (Bor (List ℕ))) (d : Bor (List ℕ)) (s t : Said) (days : ℤ) → i < length ws → Move ≡ read (get_or ws i d).now → days_after (i + 2) (texts (drop (i + 1) ws)) ≡ Ok days
-      → record s { options = and_move s.options days } ≡ t → said_after read (i + 2) s (texts (drop i ws)) ≡ M → said_after read (i + 1 + 1 + 2) t (texts (drop (i + 1 + 1) ws)) ≡ M
-  days_turn i ws d s t days h p l e v = value_turn Move days_of (λ a s. record s { options = and_move s.options a }) refl days_is i ws d s t days h p l e v
+  pub move_turn : {M : Result Said Usage} (i : ℕ) (ws : List (Bor (List ℕ))) (d : Bor (List ℕ)) (s t : Said) (moved : Moved) → i < length ws → Move ≡ read (get_or ws i d).now → move_after (i + 2) (texts (drop (i + 1) ws)) ≡ Ok moved
+      → record s { choice = and_move s.choice moved } ≡ t → said_after read (i + 2) s (texts (drop i ws)) ≡ M → said_after read (i + 1 + 1 + 2) t (texts (drop (i + 1 + 1) ws)) ≡ M
+  move_turn i ws d s t moved h p l e v = value_turn Move move_of (λ a s. record s { choice = and_move s.choice a }) refl move_is i ws d s t moved h p l e v
 
-  pub days_refused : (i : ℕ) (ws : List (Bor (List ℕ))) (d : Bor (List ℕ)) (s : Said) (u : Usage) → i < length ws → Move ≡ read (get_or ws i d).now → days_after (i + 2) (texts (drop (i + 1) ws)) ≡ Err u
+  pub move_refused : (i : ℕ) (ws : List (Bor (List ℕ))) (d : Bor (List ℕ)) (s : Said) (u : Usage) → i < length ws → Move ≡ read (get_or ws i d).now → move_after (i + 2) (texts (drop (i + 1) ws)) ≡ Err u
       → said_after read (i + 2) s (texts (drop i ws)) ≡ Err u
-  days_refused i ws d s u h p l = value_refused Move days_of (λ a s. record s { options = and_move s.options a }) refl days_is i ws d s u h p l
+  move_refused i ws d s u h p l = value_refused Move move_of (λ a s. record s { choice = and_move s.choice a }) refl move_is i ws d s u h p l
 
   pub stops : (i : ℕ) (ws : List (Bor (List ℕ))) (d : Bor (List ℕ)) (s : Said) → i < length ws → Unknown ≡ read (get_or ws i d).now
       → said_after read (i + 2) s (texts (drop i ws)) ≡ Err (AtWord UnknownOption (i + 2))

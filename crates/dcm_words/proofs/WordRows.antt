@@ -6,7 +6,7 @@ use Rattle.dcm_base.specs.declared.vr.Vr.TheVariants.{UI, PN, LO, US}
 use Rattle.dcm_base.specs.declared.mode.Mode.TheVariants.{Short, Full}
 use Rattle.dcm_base.specs.Tables.Syntax.{Implicit, Little, Big}
 use Rattle.dcm_base.specs.declared.fault.EditRefusal.TheVariants.{BadOption, UnknownTag, ValueDoesNotFit, SequenceMisused, MetaGroup, Overlap, TooMany}
-use Rattle.dcm_base.specs.declared.fault.WordFault.TheVariants.{UnknownTool, UnknownOption, BadOptionValue, WrongPaths, OptionsApart, SamePath, NoKey}
+use Rattle.dcm_base.specs.declared.fault.WordFault.TheVariants.{UnknownTool, UnknownOption, BadOptionValue, WrongPaths, OptionsApart, SamePath, NoKey, ReadTwice}
 use Rattle.dcm_words.specs.declared.usage.Usage.{Usage}
 use Rattle.dcm_words.specs.declared.usage.Usage.TheVariants.{AtWord, Whole, InEdit}
 use Rattle.dcm_base.specs.declared.dictionary.Dictionary.TheVariants.{Extract, Standard}
@@ -26,11 +26,11 @@ abbrev tag : ℕ → ℕ → Tag
 tag g e = record { group = g; element = e }
 
 abbrev planned : List ℕ → List ℕ → Job → Result Plan Usage
-planned input output job = Ok (record { input = input; output = output; key = None; job = job })
+planned input output job = Ok (record { input = input; output = output; key = None; days_by_key = false; job = job })
 
 -- of dcmdeid, from "in" to "out"
 abbrev taken : Options → (reports : Bool) → (key : Option (List ℕ)) → Result Plan Usage
-taken options reports key = Ok (record { input = codes "in"; output = codes "out"; key = key; job = deidentify options reports [] })
+taken options reports key = Ok (record { input = codes "in"; output = codes "out"; key = key; days_by_key = false; job = deidentify options reports [] })
 
 abbrev length_of : Result (List Edit) EditFault → Result ℕ EditFault
 length_of (Ok es) = Ok (length es)
@@ -261,6 +261,46 @@ paths_before_key : meant (codes "dcmdeid" ∷ codes "+pi" ∷ codes "a" ∷ code
 unfolding all
 paths_before_key = refl
 
+-- days by the key
+abbrev taken_by_key : Options → Result Plan Usage
+taken_by_key options = Ok (record { input = codes "in"; output = codes "out"; key = Some (codes "site.key"); days_by_key = true; job = deidentify options true [] })
+
+days_by_key : meant (codes "dcmdeid" ∷ codes "+rm" ∷ codes "key" ∷ codes "+k" ∷ codes "site.key" ∷ codes "in" ∷ codes "out" ∷ []) ≡ taken_by_key no_options
+unfolding all
+days_by_key = refl
+
+key_after_days : meant (codes "dcmdeid" ∷ codes "+k" ∷ codes "site.key" ∷ codes "+rl" ∷ codes "+rm" ∷ codes "key" ∷ codes "in" ∷ codes "out" ∷ []) ≡ taken_by_key (record no_options { dates = full_dates })
+unfolding all
+key_after_days = refl
+
+days_after_key : meant (codes "dcmdeid" ∷ codes "+rm" ∷ codes "key" ∷ codes "+rm" ∷ codes "1" ∷ codes "in" ∷ codes "out" ∷ []) ≡ taken (record no_options { dates = Modified (pos 1) }) true None
+unfolding all
+days_after_key = refl
+
+retain_after_key : meant (codes "dcmdeid" ∷ codes "+rm" ∷ codes "key" ∷ codes "+rl" ∷ codes "in" ∷ codes "out" ∷ []) ≡ taken (record no_options { dates = full_dates }) true None
+unfolding all
+retain_after_key = refl
+
+another_after_key : meant (codes "dcmdeid" ∷ codes "+rm" ∷ codes "key" ∷ codes "+ru" ∷ codes "+k" ∷ codes "site.key" ∷ codes "in" ∷ codes "out" ∷ []) ≡ taken_by_key (record no_options { uids = true })
+unfolding all
+another_after_key = refl
+
+days_without_key : meant (codes "dcmdeid" ∷ codes "+rm" ∷ codes "key" ∷ codes "-" ∷ codes "out" ∷ []) ≡ Err (Whole NoKey)
+unfolding all
+days_without_key = refl
+
+stream_twice : meant (codes "dcmdeid" ∷ codes "+rm" ∷ codes "key" ∷ codes "+k" ∷ codes "site.key" ∷ codes "-" ∷ codes "-" ∷ []) ≡ Err (Whole ReadTwice)
+unfolding all
+stream_twice = refl
+
+same_paths_before_twice : meant (codes "dcmdeid" ∷ codes "+rm" ∷ codes "key" ∷ codes "+k" ∷ codes "out" ∷ codes "-" ∷ codes "out" ∷ []) ≡ Err (Whole SamePath)
+unfolding all
+same_paths_before_twice = refl
+
+no_such_days : meant (codes "dcmdeid" ∷ codes "+rm" ∷ codes "+key" ∷ codes "in" ∷ codes "out" ∷ []) ≡ Err (AtWord BadOptionValue 2)
+unfolding all
+no_such_days = refl
+
 pixels_dealt : meant (codes "dcmdeid" ∷ codes "+bi" ∷ codes "in" ∷ codes "+ru" ∷ codes "out" ∷ []) ≡ taken (record no_options { uids = true }) false None
 unfolding all
 pixels_dealt = refl
@@ -331,7 +371,7 @@ paths_before_same_key : meant (codes "dcmdeid" ∷ codes "+k" ∷ codes "a" ∷ 
 unfolding all
 paths_before_same_key = refl
 
-deidentify_streams : meant (codes "dcmdeid" ∷ codes "-" ∷ codes "-" ∷ []) ≡ Ok (record { input = codes "-"; output = codes "-"; key = None; job = deidentify no_options true [] })
+deidentify_streams : meant (codes "dcmdeid" ∷ codes "-" ∷ codes "-" ∷ []) ≡ Ok (record { input = codes "-"; output = codes "-"; key = None; days_by_key = false; job = deidentify no_options true [] })
 unfolding all
 deidentify_streams = refl
 

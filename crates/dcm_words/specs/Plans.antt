@@ -1,10 +1,11 @@
 -- What a function made of the words of a command line.
-use Rattle.std.specs.Prelude.{◌≡◌, ℕ, ℤ, ◌+◌, ◌<◌, nat_le, List, [], ◌∷◌, length, Option, Some, None, Result, Ok, Err}
+use Rattle.std.specs.Prelude.{◌≡◌, ℕ, ◌+◌, ◌<◌, nat_le, List, [], ◌∷◌, length, Option, Some, None, Result, Ok, Err}
 use Rattle.std.specs.Prelude.{Bool, false, ◌&&◌, if◌then◌else◌, codes, bytes_eq}
 use Rattle.std.specs.Option.{option_map}
 use Rattle.std.specs.Borrow.{Bor}
 use Rattle.dcm_words.specs.declared.usage.Usage.{Usage}
 use Rattle.dcm_words.specs.declared.usage.Usage.TheVariants.{AtWord, Whole, InEdit, Memory}
+use Rattle.dcm_words.specs.declared.usage.Move.{Move}
 use Rattle.dcm_words.specs.declared.usage.Word.{Word}
 use Rattle.dcm_base.specs.declared.fault.WordFault.TheVariants.{BadOptionValue}
 use Rattle.dcm_words.specs.Words as words
@@ -31,6 +32,7 @@ planned p = record {
   input = p.input.now;
   output = p.output.now;
   key = option_map (λ k. k.now) p.key;
+  days_by_key = p.days_by_key;
   job = job_of p.job;
 }
 
@@ -98,8 +100,8 @@ value_after of n (v ∷ others) = given n (of v)
 abbrev pub limit_after : ℕ → List (List ℕ) → Result ℕ Usage
 limit_after n others = value_after words.limit_of n others
 
-abbrev pub days_after : ℕ → List (List ℕ) → Result ℤ Usage
-days_after n others = value_after words.days_of n others
+abbrev pub move_after : ℕ → List (List ℕ) → Result Move Usage
+move_after n others = value_after words.move_of n others
 
 abbrev pub key_after : ℕ → List (List ℕ) → Result (List ℕ) Usage
 key_after n others = value_after words.key_of n others
@@ -129,7 +131,7 @@ said_with_paths s ps = record {
   bare = s.bare;
   target = s.target;
   limit = s.build.limit;
-  options = s.options;
+  choice = s.choice;
   pixels_dealt = s.pixels_dealt;
   key = option_map (λ k. k.now) s.key;
   paths = ps;

@@ -10,7 +10,10 @@ use Rattle.dcm_base.specs.Tables.Syntax.{Implicit, Little, Big}
 use Rattle.dcm_base.specs.declared.mode.Mode.{Mode}
 use Rattle.dcm_base.specs.declared.mode.Mode.TheVariants.{Short, Full}
 use Rattle.dcm_base.specs.declared.fault.WordFault.TheVariants.{UnknownTool, UnknownOption, BadOptionValue, WrongPaths}
-use Rattle.dcm_base.specs.declared.fault.WordFault.TheVariants.{OptionsApart, SamePath, NoKey}
+use Rattle.dcm_base.specs.declared.fault.WordFault.TheVariants.{OptionsApart, SamePath, NoKey, ReadTwice}
+use Rattle.dcm_words.specs.declared.usage.Choice.{Choice}
+use Rattle.dcm_words.specs.declared.usage.Move.{Move as Moved}
+use Rattle.dcm_words.specs.declared.usage.Move.TheVariants.{Days, ByKey}
 use Rattle.dcm_words.specs.declared.usage.Word.{Word}
 use Rattle.dcm_words.specs.declared.usage.Word.TheVariants.{Read, Show, WholeFile, DataSet, Bare, Target, Limit}
 use Rattle.dcm_words.specs.declared.usage.Word.TheVariants.{Retain, Move, Pseudonyms, PixelsDealt, Key, Accepted, Path, Unknown}
@@ -40,6 +43,8 @@ pub record Plan : Type 0 where
   pub input : List ℕ
   pub output : List ℕ
   pub key : Option (List ℕ)
+  -- whether dates are moved by the days that the key makes of the patient whom the input names
+  pub days_by_key : Bool
   pub job : Job
 
 -- ---- words
@@ -138,6 +143,10 @@ days_of (c ∷ cs) =
     else if c == byte "+" then option_map pos (days_within (number_in 10 0 cs))
     else option_map pos (days_within (number_in 10 0 (c ∷ cs)))
 
+-- how dates are moved: by so many days, or by those that the key makes
+abbrev pub move_of : List ℕ → Option Moved
+move_of w = if bytes_eq w (codes "key") then Some ByKey else option_map Days (days_of w)
+
 abbrev pub is_empty_word : List ℕ → Bool
 is_empty_word [] = true
 is_empty_word (c ∷ cs) = false
@@ -156,7 +165,7 @@ pub record Said : Type 0 where
   pub bare : Option Syntax
   pub target : Option Syntax
   pub limit : ℕ
-  pub options : Options
+  pub choice : Choice
   pub pixels_dealt : Bool
   pub key : Option (List ℕ)
   pub paths : List (List ℕ)
@@ -165,19 +174,34 @@ pub record Said : Type 0 where
 abbrev pub no_options : Options
 no_options = record { uids = false; device = false; institution = false; patient = false; dates = Removed; pseudonyms = false }
 
-abbrev pub and_option : Options → Kept → Options
-and_option o Uids = record o { uids = true }
-and_option o Device = record o { device = true }
-and_option o Institution = record o { institution = true }
-and_option o Patient = record o { patient = true }
-and_option o Dates = record o { dates = full_dates }
+abbrev pub with_option : Options → Kept → Options
+with_option o Uids = record o { uids = true }
+with_option o Device = record o { device = true }
+with_option o Institution = record o { institution = true }
+with_option o Patient = record o { patient = true }
+with_option o Dates = record o { dates = full_dates }
+
+abbrev pub with_days : Options → (days : ℤ) → Options
+with_days o days = record o { dates = Modified days }
+
+-- they, and whether dates are moved by the days that the key makes
+abbrev pub no_choice : Choice
+no_choice = record { options = no_options; days_by_key = false }
+
+abbrev pub keeps_dates : Kept → Bool
+keeps_dates Dates = true
+keeps_dates _ = false
 
 -- of those that keep dates or move them the last counts
-abbrev pub and_move : Options → (days : ℤ) → Options
-and_move o days = record o { dates = Modified days }
+abbrev pub and_option : Choice → Kept → Choice
+and_option c kept = record { options = with_option c.options kept; days_by_key = c.days_by_key && not (keeps_dates kept) }
 
-abbrev pub and_pseudonyms : Options → Options
-and_pseudonyms o = record o { pseudonyms = true }
+abbrev pub and_move : Choice → Moved → Choice
+and_move c (Days days) = record { options = with_days c.options days; days_by_key = false }
+and_move c ByKey = record { options = c.options; days_by_key = true }
+
+abbrev pub and_pseudonyms : Choice → Choice
+and_pseudonyms c = record { options = record c.options { pseudonyms = true }; days_by_key = c.days_by_key }
 
 abbrev pub nothing_said : Said
 nothing_said = record {
@@ -187,7 +211,7 @@ nothing_said = record {
   bare = None;
   target = None;
   limit = USUAL_LIMIT;
-  options = no_options;
+  choice = no_choice;
   pixels_dealt = false;
   key = None;
   paths = [];
@@ -205,8 +229,8 @@ said_with WholeFile w s = record s { data_set = false }
 said_with DataSet w s = record s { data_set = true }
 said_with (Bare syntax) w s = record s { bare = Some syntax }
 said_with (Target syntax) w s = record s { target = syntax }
-said_with (Retain option) w s = record s { options = and_option s.options option }
-said_with Pseudonyms w s = record s { options = and_pseudonyms s.options }
+said_with (Retain option) w s = record s { choice = and_option s.choice option }
+said_with Pseudonyms w s = record s { choice = and_pseudonyms s.choice }
 said_with PixelsDealt w s = record s { pixels_dealt = true }
 said_with Path w s = record s { paths = and_path s.paths w }
 said_with _ w s = s
@@ -214,7 +238,7 @@ said_with _ w s = s
 -- a word that wants a value, and that value
 abbrev pub said_with_value : Word → List ℕ → Said → Option Said
 said_with_value Limit v s = option_map (λ limit. record s { limit = limit }) (limit_of v)
-said_with_value Move v s = option_map (λ days. record s { options = and_move s.options days }) (days_of v)
+said_with_value Move v s = option_map (λ moved. record s { choice = and_move s.choice moved }) (move_of v)
 said_with_value Key v s = option_map (λ key. record s { key = Some key }) (key_of v)
 said_with_value _ v s = None
 
@@ -256,7 +280,7 @@ differ input output = not (bytes_eq input output) || bytes_eq input standard
 
 abbrev pub plan_if_apart : List ℕ → List ℕ → Job → Result Plan Usage
 plan_if_apart input output job = if differ input output
-    then Ok (record { input = input; output = output; key = None; job = job }) else Err (Whole SamePath)
+    then Ok (record { input = input; output = output; key = None; days_by_key = false; job = job }) else Err (Whole SamePath)
 
 abbrev pub plan_with_two : List (List ℕ) → Job → Result Plan Usage
 plan_with_two (input ∷ output ∷ []) job = if is_empty_word input || is_empty_word output then Err (Whole WrongPaths)
@@ -270,7 +294,7 @@ same false b = not b
 -- a data set alone is read only in a syntax that the words name, which are for it alone
 abbrev pub dump_plan_of : List ℕ → Said → Result Plan Usage
 dump_plan_of input s = if same s.data_set (is_some s.bare)
-    then Ok (record { input = input; output = standard; key = None; job = dump s.dictionary s.mode s.bare })
+    then Ok (record { input = input; output = standard; key = None; days_by_key = false; job = dump s.dictionary s.mode s.bare })
     else Err (Whole OptionsApart)
 
 abbrev pub dump_plan_with : List (List ℕ) → Said → Result Plan Usage
@@ -303,13 +327,23 @@ is_same_key (Some key) output = bytes_eq key output
 abbrev pub is_missing : Option (List ℕ) → (is_needed : Bool) → Bool
 is_missing key is_needed = is_needed && not (is_some key)
 
-abbrev pub plan_with_key : Option (List ℕ) → (is_needed : Bool) → Plan → Result Plan Usage
-plan_with_key key is_needed p = if is_same_key key p.output then Err (Whole SamePath)
-    else if is_missing key is_needed then Err (Whole NoKey) else Ok (record p { key = key })
+-- pseudonyms are made by it, and days
+abbrev pub needs_key : Choice → Bool
+needs_key c = c.options.pseudonyms || c.days_by_key
+
+-- an input that names the patient by whom dates are moved is read twice
+abbrev pub is_twice : List ℕ → Choice → Bool
+is_twice input c = c.days_by_key && bytes_eq input standard
+
+abbrev pub plan_with_key : Option (List ℕ) → Choice → Plan → Result Plan Usage
+plan_with_key key c p = if is_same_key key p.output then Err (Whole SamePath)
+    else if is_missing key (needs_key c) then Err (Whole NoKey)
+    else if is_twice p.input c then Err (Whole ReadTwice)
+    else Ok (record { input = p.input; output = p.output; key = key; days_by_key = c.days_by_key; job = p.job })
 
 abbrev pub deidentify_plan_of : Said → Result Plan Usage
-deidentify_plan_of s = elim (plan_with_two s.paths (deidentify s.options (not s.pixels_dealt) []))
-    [ Ok p ↦ plan_with_key s.key s.options.pseudonyms p | Err u ↦ Err u ]
+deidentify_plan_of s = elim (plan_with_two s.paths (deidentify s.choice.options (not s.pixels_dealt) []))
+    [ Ok p ↦ plan_with_key s.key s.choice p | Err u ↦ Err u ]
 
 abbrev pub deidentify_plan : List (List ℕ) → Result Plan Usage
 deidentify_plan words = elim (said_by deidentify_word words) [ Ok s ↦ deidentify_plan_of s | Err u ↦ Err u ]

@@ -67,5 +67,8 @@ pub struct Planned<'a, A: Allocator = Global> {
     pub input: &'a [u8],
     pub output: &'a [u8],
     pub key: Option<&'a [u8]>,
+    /// Whether dates are moved by the days that the key makes of the patient whom the input names. They are not known
+    /// so far.
+    pub days_by_key: bool,
     pub job: Job<A>,
 }

@@ -30,3 +30,4 @@ pub use places::{TwoPaths, takes_next, two_paths};
 pub use plans::{dump_of_each, plan};
 pub use topic::{Topic, asked};
 pub use usage::Usage;
+pub use words::with_days;

@@ -5,7 +5,7 @@ ghost use Rattle.dcm_words.specs.Plans.{job_of, takes_memory, has_paths, GivesUn
 ghost use Rattle.dcm_words.specs.Plans.{Gives, GivesDump, PathsAre, SaidAs, planned as planned_of};
 
 use crate::job::{Convert, Deidentify, Dump, Job, Modify, Planned};
-use crate::usage::Usage;
+use crate::usage::{Choice, Usage};
 use crate::words::{Paths, STANDARD, Said, Tool, is_path, said_by};
 use arrayvec::ArrayVec;
 use dcm_base::{Dictionary, WordFault};
@@ -28,6 +28,7 @@ fn plan_dump<'a, A: Allocator>(words: &'a [&'a [u8]]) -> Result<Planned<'a, A>, 
         input,
         output: STANDARD,
         key: None,
+        days_by_key: false,
         job: Job::Dump(Dump {
             dictionary: said.dictionary,
             mode: said.mode,
@@ -67,6 +68,7 @@ fn plan_if_apart<'a, A: Allocator>(
         input,
         output,
         key: None,
+        days_by_key: false,
         job,
     })
 }
@@ -115,22 +117,37 @@ fn is_same_key(key: Option<&[u8]>, output: &[u8]) -> bool
     }
 }
 
-/// A plan with the path of a key, unless the output has it, or a key is needed and there is none.
+/// Whether something is made by a key that tells patients apart.
+fn needs_key(choice: Choice) -> bool
+    ensures { result ≡ spec.needs_key choice }
+{
+    choice.options.pseudonyms || choice.days_by_key
+}
+
+/// A plan with the path of a key, unless the output has it, or a key is needed and there is none, or an input is to be
+/// read twice that cannot be.
 fn plan_with_key<'a, A: Allocator>(
     planned: Planned<'a, A>,
     key: Option<&'a [u8]>,
-    is_needed: bool,
+    choice: Choice,
 ) -> Result<Planned<'a, A>, Usage>
     ensures { Gives result
-        (spec.plan_with_key (option_map (λ k. k.now) key.entry) is_needed (planned_of planned.entry)) }
+        (spec.plan_with_key (option_map (λ k. k.now) key.entry) choice (planned_of planned.entry)) }
 {
     if is_same_key(key, planned.output) {
         return Err(Usage::Whole(WordFault::SamePath));
     }
-    if is_needed && key.is_none() {
+    if needs_key(choice) && key.is_none() {
         return Err(Usage::Whole(WordFault::NoKey));
     }
-    Ok(Planned { key, ..planned })
+    if choice.days_by_key && planned.input == STANDARD {
+        return Err(Usage::Whole(WordFault::ReadTwice));
+    }
+    Ok(Planned {
+        key,
+        days_by_key: choice.days_by_key,
+        ..planned
+    })
 }
 
 /// What the words of dcmdeid after its name mean, or the first refusal.
@@ -141,12 +158,12 @@ fn plan_deidentify<'a, A: Allocator>(words: &'a [&'a [u8]]) -> Result<Planned<'a
     let planned = plan_with_two(
         said.paths,
         Job::Deidentify(Deidentify {
-            options: said.options,
+            options: said.choice.options,
             reports: !said.pixels_dealt,
             key: ArrayVec::new(),
         }),
     )?;
-    plan_with_key(planned, said.key, said.options.pseudonyms)
+    plan_with_key(planned, said.key, said.choice)
 }
 
 /// The edits that words mean by a dictionary, from one path to another, or the first refusal.

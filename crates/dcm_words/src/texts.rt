@@ -116,9 +116,13 @@ dcmtools dcmdeid [OPTION].. FILE OUTPUT: write a DICOM file without identity (PS
   +rp    keep characteristics of the patient
   +rl    keep dates and times
   +rm N  the same, each date moved by N days: -36524 to 36524, not 0
+  +rm key
+         the same by 1 to 3652 days into the past, which KEY makes of each PatientID; FILE is
+         read twice, and is no pipe
   +pi    give PatientID a pseudonym, which KEY makes of it, in place of none
   +bi    what pixels show was dealt with: it is not reported
-  +k KEY make new identifiers with the bytes of the file KEY, 16 to 4096 of them; +pi needs it
+  +k KEY make new identifiers with the bytes of the file KEY, 16 to 4096 of them; +pi and
+         +rm key need it
 
 OUTPUT is written as OUTPUT.part, and moved to its name at status 0; else it is removed.
 

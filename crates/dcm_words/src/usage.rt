@@ -1,6 +1,6 @@
 // What the words of a command line say.
 use dcm_base::{Dictionary, EditRefusal, Mode, Syntax, WordFault};
-use dcm_deid::Retain;
+use dcm_deid::{Options, Retain};
 
 /// What one word says to dcmdump, dcmconv, dump2dcm or dcmdeid.
 #[derive(Clone, Copy, Debug, PartialEq, Eq)]
@@ -23,7 +23,7 @@ pub enum Word {
     Retain(Retain),
     /// What pixels show was dealt with.
     PixelsDealt,
-    /// Dates are moved by the days of the next word.
+    /// Dates are moved as the next word says.
     Move,
     /// PatientID becomes a pseudonym.
     Pseudonyms,
@@ -33,6 +33,23 @@ pub enum Word {
     Accepted,
     Path,
     Unknown,
+}
+
+/// How dates are moved.
+#[derive(Clone, Copy, Debug, PartialEq, Eq)]
+pub enum Move {
+    /// By so many days.
+    Days(i32),
+    /// By the days that the key makes of each patient.
+    ByKey,
+}
+
+/// What the options of dcmdeid have said: what more is kept, and whether dates are moved by the days that the key makes
+/// of the patient, whatever else is said of dates.
+#[derive(Clone, Copy, Debug, PartialEq, Eq)]
+pub struct Choice {
+    pub options: Options,
+    pub days_by_key: bool,
 }
 
 /// Why no plan follows from the words of a command line.

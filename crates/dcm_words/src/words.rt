@@ -3,11 +3,11 @@ ghost use Rattle.std.specs.Prelude.{◌≡◌, ◌+◌, ◌<◌, ◌^◌, List, 
 ghost use Rattle.dcm_base.specs.Lines.ReadValue.{number_in};
 ghost use Rattle.dcm_words.specs.Words as spec;
 ghost use Rattle.dcm_words.specs.Plans.{reader, job_of, takes_memory, has_paths, GivesUnlessMemory, edits_between};
-ghost use Rattle.dcm_words.specs.Plans.{capped, limit_after as said_limit, days_after as said_days, key_after as said_key, LimitAs, KeyAs};
+ghost use Rattle.dcm_words.specs.Plans.{capped, limit_after as said_limit, move_after as said_move, key_after as said_key, LimitAs, KeyAs};
 ghost use Rattle.dcm_words.specs.Plans.{Gives, PathsAre, SaidAs, planned as planned_of};
 
 use crate::job::{Build, Convert, Deidentify, Dump, Job, Modify, Planned};
-use crate::usage::{Usage, Word};
+use crate::usage::{Choice, Move, Usage, Word};
 use arrayvec::ArrayVec;
 use dcm_base::{Dictionary, LINE_LIMIT, Mode, Syntax, WordFault, decimal_digit};
 use dcm_deid::{Options, Retain, Temporal};
@@ -58,20 +58,26 @@ pub struct Said<'a> {
     pub bare: Option<Syntax>,
     pub target: Option<Syntax>,
     pub build: Build,
-    pub options: Options,
+    pub choice: Choice,
     pub pixels_dealt: bool,
     pub key: Option<&'a [u8]>,
     pub paths: Paths<'a>,
 }
 
-/// No option that keeps more.
-const NO_OPTIONS: Options = Options {
-    uids: false,
-    device: false,
-    institution: false,
-    patient: false,
-    dates: Temporal::Removed,
-    pseudonyms: false,
+/// The word that asks for the days that the key makes.
+const KEY_DAYS: &[u8] = b"key";
+
+/// No option of dcmdeid.
+const NO_CHOICE: Choice = Choice {
+    options: Options {
+        uids: false,
+        device: false,
+        institution: false,
+        patient: false,
+        dates: Temporal::Removed,
+        pseudonyms: false,
+    },
+    days_by_key: false,
 };
 
 /// A path, unless the word has the form of an option.
@@ -275,20 +281,31 @@ fn days_of(word: &[u8]) -> Option<i32>
     }
 }
 
-/// The days that the word after this place gives.
-fn days_after(words: &[&[u8]], place: usize) -> Result<i32, Usage>
+/// How a word says that dates are moved.
+fn move_of(word: &[u8]) -> Option<Move>
+    ensures { result ≡ spec.move_of word.now }
+{
+    if word == KEY_DAYS {
+        return Some(Move::ByKey);
+    }
+    let days = days_of(word)?;
+    Some(Move::Days(days))
+}
+
+/// How the word after this place says that dates are moved.
+fn move_after(words: &[&[u8]], place: usize) -> Result<Move, Usage>
     requires { place < length words.now }
-    ensures { result ≡ said_days (place + 2) (map (λ w. w.now) (drop (place + 1) words.now)) }
+    ensures { result ≡ said_move (place + 2) (map (λ w. w.now) (drop (place + 1) words.now)) }
 {
     match words.get(place + 1) {
-        Some(word) => days_of(word).ok_or(Usage::AtWord(WordFault::BadOptionValue, place + 2)),
+        Some(word) => move_of(word).ok_or(Usage::AtWord(WordFault::BadOptionValue, place + 2)),
         None => Err(Usage::AtWord(WordFault::BadOptionValue, place + 2)),
     }
 }
 
 /// The options so far, with dates moved by so many days.
-fn and_move(options: Options, days: i32) -> Options
-    ensures { result ≡ spec.and_move options days }
+pub fn with_days(options: Options, days: i32) -> Options
+    ensures { result ≡ spec.with_days options days }
 {
     Options {
         dates: Temporal::Modified(days),
@@ -296,13 +313,32 @@ fn and_move(options: Options, days: i32) -> Options
     }
 }
 
-/// The options so far, with pseudonyms.
-fn and_pseudonyms(options: Options) -> Options
-    ensures { result ≡ spec.and_pseudonyms options }
+/// What was said so far, with dates moved so.
+fn and_move(choice: Choice, moved: Move) -> Choice
+    ensures { result ≡ spec.and_move choice moved }
 {
-    Options {
-        pseudonyms: true,
-        ..options
+    match moved {
+        Move::Days(days) => Choice {
+            options: with_days(choice.options, days),
+            days_by_key: false,
+        },
+        Move::ByKey => Choice {
+            options: choice.options,
+            days_by_key: true,
+        },
+    }
+}
+
+/// What was said so far, with pseudonyms.
+fn and_pseudonyms(choice: Choice) -> Choice
+    ensures { result ≡ spec.and_pseudonyms choice }
+{
+    Choice {
+        options: Options {
+            pseudonyms: true,
+            ..choice.options
+        },
+        days_by_key: choice.days_by_key,
     }
 }
 
@@ -318,8 +354,8 @@ fn key_after<'a>(words: &'a [&'a [u8]], place: usize) -> Result<&'a [u8], Usage>
 }
 
 /// The options so far, and this one.
-fn and_option(options: Options, retain: Retain) -> Options
-    ensures { result ≡ spec.and_option options retain }
+fn with_option(options: Options, retain: Retain) -> Options
+    ensures { result ≡ spec.with_option options retain }
 {
     match retain {
         Retain::Uids => Options {
@@ -342,6 +378,16 @@ fn and_option(options: Options, retain: Retain) -> Options
             dates: Temporal::Full,
             ..options
         },
+    }
+}
+
+/// What was said so far, and this option.
+fn and_option(choice: Choice, retain: Retain) -> Choice
+    ensures { result ≡ spec.and_option choice retain }
+{
+    Choice {
+        options: with_option(choice.options, retain),
+        days_by_key: choice.days_by_key && retain != Retain::Dates,
     }
 }
 
@@ -368,7 +414,7 @@ pub fn said_by<'a>(tool: Tool, words: &'a [&'a [u8]]) -> Result<Said<'a>, Usage>
         bare: None,
         target: None,
         build: Build { limit: USUAL_LIMIT },
-        options: NO_OPTIONS,
+        choice: NO_CHOICE,
         pixels_dealt: false,
         key: None,
         paths: Paths::None,
@@ -387,13 +433,13 @@ pub fn said_by<'a>(tool: Tool, words: &'a [&'a [u8]]) -> Result<Said<'a>, Usage>
                 said.build = limit_after(words, i)?;
                 i += 1;
             }
-            Word::Retain(retain) => said.options = and_option(said.options, retain),
+            Word::Retain(retain) => said.choice = and_option(said.choice, retain),
             Word::Move => {
-                let days = days_after(words, i)?;
-                said.options = and_move(said.options, days);
+                let moved = move_after(words, i)?;
+                said.choice = and_move(said.choice, moved);
                 i += 1;
             }
-            Word::Pseudonyms => said.options = and_pseudonyms(said.options),
+            Word::Pseudonyms => said.choice = and_pseudonyms(said.choice),
             Word::PixelsDealt => said.pixels_dealt = true,
             Word::Key => {
                 said.key = Some(key_after(words, i)?);

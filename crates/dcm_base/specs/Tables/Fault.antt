@@ -27,6 +27,7 @@ fault_number reading.FragmentsBarred = codes "R13"
 fault_number reading.CannotChange = codes "R14"
 fault_number reading.TooLong = codes "R15"
 fault_number reading.IdentityStays = codes "R16"
+fault_number reading.NoPatientId = codes "R17"
 
 abbrev pub fault_text : Fault → List ℕ
 fault_text reading.EndsEarly = codes "input ends too early"
@@ -45,6 +46,7 @@ fault_text reading.FragmentsBarred = codes "fragments not allowed in the target 
 fault_text reading.CannotChange = codes "encapsulated syntax cannot be changed"
 fault_text reading.TooLong = codes "input too long"
 fault_text reading.IdentityStays = codes "identity cannot be taken out"
+fault_text reading.NoPatientId = codes "no usable PatientID"
 
 -- why a line of a dump is refused, where it is built into a file
 abbrev pub line_fault_number : LineFault → List ℕ
@@ -100,6 +102,7 @@ word_fault_number word.OptionsApart = codes "V5"
 word_fault_number word.SamePath = codes "V6"
 word_fault_number word.BadKey = codes "V7"
 word_fault_number word.NoKey = codes "V10"
+word_fault_number word.ReadTwice = codes "V11"
 
 abbrev pub word_fault_text : WordFault → List ℕ
 word_fault_text word.UnknownTool = codes "unknown tool"
@@ -110,3 +113,4 @@ word_fault_text word.OptionsApart = codes "options do not go together"
 word_fault_text word.SamePath = codes "input and output are the same path"
 word_fault_text word.BadKey = codes "key is not 16 to 4096 bytes"
 word_fault_text word.NoKey = codes "a key is needed"
+word_fault_text word.ReadTwice = codes "standard input cannot be read twice"

@@ -17,14 +17,18 @@ use Rattle.dcm_words.specs.declared.topic.Topic.{Topic}
 use Rattle.dcm_words.specs.Topics.{asked, text}
 use Rattle.dcm_words.specs.declared.usage.Usage.{Usage}
 use Rattle.dcm_words.specs.declared.usage.Usage.TheVariants.{Memory}
-use Rattle.dcm_words.specs.Words.{Job, dump, convert, build, modify, deidentify, Plan, meant}
+use Rattle.dcm_words.specs.Words.{Job, dump, convert, build, modify, deidentify, Plan, meant, with_days}
+use Rattle.dcm_cli.specs.declared.days.NoDays.TheVariants as no_days
+use Rattle.dcm_cli.specs.declared.first.FirstEnd.{FirstEnd}
+use Rattle.dcm_cli.specs.declared.first.FirstEnd.TheVariants as ends
+use Rattle.dcm_cli.proofs.Runs.OneFirst.{one_first, some_first}
 use Rattle.dcm_words.specs.Plans.{takes_memory}
 use Rattle.dcm_cli.specs.declared.key.NoKey.{NoKey}
 use Rattle.dcm_cli.specs.Answer.{Answer, Answers}
 use Rattle.dcm_cli.specs.Change.{Change}
 use Rattle.dcm_cli.specs.ErrorLines.{Reports, usage_line, usage_status}
 use Rattle.dcm_cli.specs.InMemory as spec
-use Rattle.dcm_cli.specs.InMemory.{Outcome, bytes_at, is_writable, number_at, is_one_file, shown, not_opened, same_file, answered, key_of, unwritten, not_begun, without_key, ended, JobComes, WholeComes, KeyComes, DeidentifyComes, PlanComesAs, ComesBy, Comes, HasRoom, Took, IsWritten, LeavesAnswer}
+use Rattle.dcm_cli.specs.InMemory.{Outcome, bytes_at, is_writable, number_at, is_one_file, shown, not_opened, same_file, answered, key_of, unwritten, not_begun, without_key, without_days, ByDays, DaysCome, FirstComes, ended, JobComes, WholeComes, KeyComes, DeidentifyComes, PlanComesAs, ComesBy, Comes, HasRoom, Took, IsWritten, LeavesAnswer}
 use Rattle.dcm_cli.specs.Program as program
 use Rattle.dcm_cli.specs.Program.{RunsOver, Works, WorksAs, Shows, Obeys, unopened_line, unopened_status}
 use Rattle.dcm_cli.proofs.Runs.InMemory.{memory_reader, memory_writer, memory_change, ran_left, text_left}
@@ -214,9 +218,24 @@ module _ (s : MemSystem) where
   one_whole (Some bs) (Some u) is_stream job o q a b = a ∙ sym b
   one_whole (Some bs) None is_stream job o q a b = a.2 ∙ ap (ended is_stream) (one_answer job bs a.0 b.0 a.1 b.1) ∙ sym b.2
 
+  one_days : (end : FirstEnd) (p : Plan) (options : Options) (reports : Bool) (key : List ℕ) (o q : Outcome) → DaysCome end s p options reports key o → DaysCome end s p options reports key q → o ≡ q
+  one_days (ends.Days days) p options reports key o q a b = one_whole (bytes_at s p.input) (unwritten s p) (bytes_eq p.output standard) (deidentify (with_days options days) reports key) o q a b
+  one_days (ends.Refused stop) p options reports key o q a b = a ∙ sym b
+  one_days (ends.Unread count) p options reports key o q a b = a ∙ sym b
+
+  one_moved : (bytes : Option (List ℕ)) (number : Option ℕ) (p : Plan) (options : Options) (reports : Bool) (key : List ℕ) (o q : Outcome) → FirstComes bytes number s p options reports key o → FirstComes bytes number s p options reports key q → o ≡ q
+  one_moved None number p options reports key o q a b = a ∙ sym b
+  one_moved (Some bs) None p options reports key o q a b = a ∙ sym b
+  one_moved (Some bs) (Some n) p options reports key o q a b =
+      one_days b.0 p options reports key o q (subst (λ (end : FirstEnd). DaysCome end s p options reports key o) (one_first key bs a.0 b.0 a.1 b.1) a.2) b.2
+
+  one_by_days : (by_key : Bool) (p : Plan) (options : Options) (reports : Bool) (key : List ℕ) (o q : Outcome) → ByDays by_key s p options reports key o → ByDays by_key s p options reports key q → o ≡ q
+  one_by_days true p options reports key o q a b = one_moved (bytes_at s p.input) (number_at s p.input) p options reports key o q a b
+  one_by_days false p options reports key o q a b = one_whole (bytes_at s p.input) (unwritten s p) (bytes_eq p.output standard) (deidentify options reports key) o q a b
+
   one_key : (key : Result (List ℕ) NoKey) (p : Plan) (options : Options) (reports : Bool) (o q : Outcome) → KeyComes key s p options reports o → KeyComes key s p options reports q → o ≡ q
   one_key (Err cause) p options reports o q a b = a ∙ sym b
-  one_key (Ok key) p options reports o q a b = one_whole (bytes_at s p.input) (unwritten s p) (bytes_eq p.output standard) (deidentify options reports key) o q a b
+  one_key (Ok key) p options reports o q a b = one_by_days p.days_by_key p options reports key o q a b
 
   one_deidentified : (path : Option (List ℕ)) (p : Plan) (options : Options) (reports : Bool) (o q : Outcome) → DeidentifyComes path s p options reports o → DeidentifyComes path s p options reports q → o ≡ q
   one_deidentified None p options reports o q a b = one_whole (bytes_at s p.input) (unwritten s p) (bytes_eq p.output standard) p.job o q a b
@@ -248,9 +267,26 @@ module _ (s : MemSystem) where
   some_whole (Some bs) (Some u) is_stream job = (not_begun u, refl)
   some_whole (Some bs) None is_stream job = let a = some_answer job bs in (ended is_stream a.0, (a.0, a.1, refl))
 
+  some_days : (end : FirstEnd) (p : Plan) (options : Options) (reports : Bool) (key : List ℕ) → (o : Outcome) × DaysCome end s p options reports key o
+  some_days (ends.Days days) p options reports key = some_whole (bytes_at s p.input) (unwritten s p) (bytes_eq p.output standard) (deidentify (with_days options days) reports key)
+  some_days (ends.Refused stop) p options reports key = (without_days (no_days.Refused stop), refl)
+  some_days (ends.Unread count) p options reports key = (without_days (no_days.Unread count), refl)
+
+  some_moved : (bytes : Option (List ℕ)) (number : Option ℕ) (p : Plan) (options : Options) (reports : Bool) (key : List ℕ) → (o : Outcome) × FirstComes bytes number s p options reports key o
+  some_moved None number p options reports key = (without_days no_days.Unopened, refl)
+  some_moved (Some bs) None p options reports key = (without_days no_days.NotRegular, refl)
+  some_moved (Some bs) (Some n) p options reports key =
+      let first = some_first key bs in
+      let o = some_days first.0 p options reports key in
+      (o.0, (first.0, first.1, o.1))
+
+  some_by_days : (by_key : Bool) (p : Plan) (options : Options) (reports : Bool) (key : List ℕ) → (o : Outcome) × ByDays by_key s p options reports key o
+  some_by_days true p options reports key = some_moved (bytes_at s p.input) (number_at s p.input) p options reports key
+  some_by_days false p options reports key = some_whole (bytes_at s p.input) (unwritten s p) (bytes_eq p.output standard) (deidentify options reports key)
+
   some_key : (key : Result (List ℕ) NoKey) (p : Plan) (options : Options) (reports : Bool) → (o : Outcome) × KeyComes key s p options reports o
   some_key (Err cause) p options reports = (without_key cause, refl)
-  some_key (Ok key) p options reports = some_whole (bytes_at s p.input) (unwritten s p) (bytes_eq p.output standard) (deidentify options reports key)
+  some_key (Ok key) p options reports = some_by_days p.days_by_key p options reports key
 
   some_deidentified : (path : Option (List ℕ)) (p : Plan) (options : Options) (reports : Bool) → (o : Outcome) × DeidentifyComes path s p options reports o
   some_deidentified None p options reports = some_whole (bytes_at s p.input) (unwritten s p) (bytes_eq p.output standard) p.job

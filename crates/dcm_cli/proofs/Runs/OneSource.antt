@@ -27,7 +27,7 @@ never_both : (job : Job) (c d : Coding) → c ≡ d → refuses_change job c ≡
 never_both job c d same refuses changes = let e : refuses_change job c ≡ refuses_change job d = ap (refuses_change job) same in cc
 
 -- one head, however it is read
-heads_alike : (d : Dictionary) (bytes : List ℕ) (m n : Meta) (g h : List ℕ) (c e : Coding) → HeadIs d bytes m g c → HeadIs d bytes n h e → begins m g c ≡ begins n h e
+pub heads_alike : (d : Dictionary) (bytes : List ℕ) (m n : Meta) (g h : List ℕ) (c e : Coding) → HeadIs d bytes m g c → HeadIs d bytes n h e → begins m g c ≡ begins n h e
 heads_alike d bytes m n g h c e x y =
     let a = beginnings_alike m n g h x.named y.named (one_meta bytes (begins m g x.named) (begins n h y.named) x.head y.head) in
     let metas : m ≡ n = a.0 in

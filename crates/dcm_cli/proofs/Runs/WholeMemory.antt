@@ -1,5 +1,5 @@
 -- Identity taken out of a file, over files in memory.
-use Rattle.std.proofs.Common.{◌≡◌, ◌≢◌, ◌∙◌, ap, sym, subst, refl, ◌⊎◌, inl, inr, ◌||◌, ◌&&◌, not, ◌==◌, ◌≤◌, ◌<◌, nat_le, ℕ, List, [], ◌∷◌, ◌++◌, length, length-append, bytes_eq, if◌then◌else◌, Bool, true, false, Option, None, Some, Result, Ok, Err, arith}
+use Rattle.std.proofs.Common.{◌≡◌, ◌≢◌, ◌∙◌, ap, sym, subst, refl, ◌⊎◌, inl, inr, ◌||◌, ◌&&◌, not, ◌==◌, ◌≤◌, ◌<◌, nat_le, ℕ, ℤ, List, [], ◌∷◌, ◌++◌, length, length-append, bytes_eq, if◌then◌else◌, Bool, true, false, Option, None, Some, Result, Ok, Err, arith}
 use Rattle.std.specs.Option.{option_map, is_some, is_none}
 use Rattle.std.specs.Str.{IsUtf8, is_utf8}
 use Rattle.std.specs.IoError.{error_kind}
@@ -29,7 +29,15 @@ use Rattle.dcm_files.specs.Part as part
 use Rattle.dcm_files.specs.Part.{part_of, is_short, was_read, may_replace, BadPath, FindsNoPart, FindsPart, IsPartCause, MakesPart, OpensPart, OpensStream, OpensWhole, OpensWholeDevices, RemovesPart, MovesPart, EndsPart}
 use Rattle.arrayvec.specs.ArrayVec.{ArrayVec}
 use Rattle.dcm_deid.specs.declared.fate.Options.{Options}
-use Rattle.dcm_words.specs.Words.{Job, Plan, deidentify}
+use Rattle.dcm_words.specs.Words.{Job, Plan, deidentify, with_days}
+use Rattle.dcm_cli.specs.declared.days.NoDays.{NoDays}
+use Rattle.dcm_cli.specs.declared.days.NoDays.TheVariants as no_days
+use Rattle.dcm_cli.specs.declared.first.FirstEnd.{FirstEnd}
+use Rattle.dcm_cli.specs.declared.first.FirstEnd.TheVariants as ends
+use Rattle.dcm_cli.specs.Days as taking
+use Rattle.dcm_cli.specs.Days.{TakesDays, days_of, is_regular}
+use Rattle.dcm_cli.specs.First.{Comes, FirstReads, TellsEnd}
+use Rattle.dcm_cli.proofs.Runs.OneFirst.{one_first}
 use Rattle.dcm_cli.specs.declared.key.KeyRead.{KeyRead}
 use Rattle.dcm_cli.specs.declared.key.NoKey.{NoKey}
 use Rattle.dcm_cli.specs.declared.key.NoKey.TheVariants as causes
@@ -43,8 +51,8 @@ use Rattle.dcm_cli.specs.Run.{Ran, as_answered, not_read, not_written, not_flush
 use Rattle.dcm_cli.specs.ErrorLines.{Tries, Reports, unread_line, output_line}
 use Rattle.dcm_cli.specs.Status.{DONE}
 use Rattle.dcm_cli.specs.Program as program
-use Rattle.dcm_cli.specs.Program.{EndsOutput, WorksWhole, Deidentifies, unopened_line, unopened_status}
-use Rattle.dcm_cli.specs.InMemory.{Outcome, bytes_at, number_at, is_one_file, key_of, key_number, has_path, has_part, is_apart, unwritten, without_key, not_opened, not_begun, ended, WholeComes, WholeAt, KeyComes, DeidentifyComes, holds, removed, Fits, HasRoom, IsWritten, Leaves}
+use Rattle.dcm_cli.specs.Program.{EndsOutput, WorksWhole, Deidentifies, MovesByKey, unopened_line, unopened_status}
+use Rattle.dcm_cli.specs.InMemory.{Outcome, bytes_at, number_at, is_one_file, key_of, key_number, has_path, has_part, is_apart, unwritten, without_key, without_days, not_opened, not_begun, ended, WholeComes, WholeAt, ByDays, DaysCome, FirstComes, KeyComes, DeidentifyComes, holds, removed, Fits, HasRoom, IsWritten, Leaves}
 use Rattle.dcm_cli.proofs.Passes.Readers.{known}
 use Rattle.dcm_cli.proofs.Runs.InMemory.{memory_reader, memory_writer, memory_change, ran_left}
 use Rattle.dcm_cli.proofs.Runs.LeftMemory.{room_there, room_fits, LeftOf, leave_of}
@@ -481,6 +489,47 @@ module _ (s : MemSystem) (path : List ℕ) where
         released ∙ b.1,
       )
 
+-- ---- the days
+
+none_regular : (number : Option ℕ) (kind : FileKind) → IsInput number kind → is_regular kind ≡ false → number ≡ None
+none_regular None kind i not = refl
+none_regular (Some n) kind i not = absurd (no_both true (sym (ap is_regular i.1) ∙ not) refl)
+
+one_regular : (number : Option ℕ) (kind : FileKind) → IsInput number kind → is_regular kind ≡ true → (n : ℕ) × (number ≡ Some n)
+one_regular None kind i is = absurd (no_both false refl (sym (ap is_regular i) ∙ is))
+one_regular (Some n) kind i is = (n, refl)
+
+module _ (s : MemSystem) (path key : List ℕ) where
+  -- a file with these bytes whose first reading ends so
+  abbrev FirstAt : FirstEnd → Type 0
+  FirstAt end = (bs : List ℕ) × (n : ℕ) × (bytes_at s path ≡ Some bs) × (number_at s path ≡ Some n) × FirstReads key bs end
+
+  abbrev DaysFound : Result ℤ NoDays → Type 0
+  DaysFound (Ok days) = FirstAt (ends.Days days)
+  DaysFound (Err no_days.Unopened) = bytes_at s path ≡ None
+  DaysFound (Err no_days.Memory) = ⊥
+  DaysFound (Err no_days.NotRegular) = (bs : List ℕ) × (bytes_at s path ≡ Some bs) × (number_at s path ≡ None)
+  DaysFound (Err (no_days.Refused stop)) = FirstAt (ends.Refused stop)
+  DaysFound (Err (no_days.Unread count)) = ⊥
+
+  found_by : (file given rest : List ℕ) (how : How) (n : ℕ) → bytes_at s path ≡ Some file → number_at s path ≡ Some n → Allows how rest → file ≡ given ++ rest → (end : FirstEnd) → Comes key given how end → TellsEnd false false end → DaysFound (days_of end)
+  found_by file given rest how n bytes number ok is (ends.Days days) comes tells = (file, n, bytes, number, subst (λ (bs : List ℕ). FirstReads key bs (ends.Days days)) (sym is) (comes rest ok))
+  found_by file given rest how n bytes number ok is (ends.Refused stop) comes tells = (file, n, bytes, number, subst (λ (bs : List ℕ). FirstReads key bs (ends.Refused stop)) (sym is) (comes rest ok))
+  found_by file given rest how n bytes number ok is (ends.Unread count) comes tells = absurd (no_both false refl tells)
+
+  days_taken : (r : Result ℤ NoDays) (after : MemSystem) → TakesDays may_do memory_reader path key s r after → DaysFound r × (after ≡ s)
+  days_taken r after (taking.not_opened x cause opens why are) =
+      let i = input_opened s path (Err x) after opens in
+      (subst DaysFound (sym are) (subst (λ (c : NoDays). DaysFound (Err c)) (sym (why.other i.0.1)) i.0.0), i.1)
+  days_taken r after (taking.not_regular i had opens irregular released are) =
+      let b = input_opened s path (Ok i) had opens in
+      (subst DaysFound (sym are) (i.device.rest.now, b.0.0, none_regular (number_at s path) i.kind b.0.1 irregular), released ∙ b.1)
+  days_taken r after (taking.was_read i left had end opens regular reads released are) =
+      let b = input_opened s path (Ok i) had opens in
+      let n = one_regular (number_at s path) i.kind b.0.1 regular in
+      let k = known _ _ _ _ reads.given reads.how reads.reads i.device.rest.now refl in
+      (subst DaysFound (sym are) (found_by i.device.rest.now reads.given k.0 reads.how n.0 b.0.0 n.1 k.1 k.2 end reads.comes reads.failed), released ∙ b.1)
+
 -- ---- what is left
 
 left_by : (b : Bool) (s : MemSystem) (output : Option MemOut) (before after : MemOut) (bytes : List ℕ) → s.room ≡ Some before → written after ≡ written before ++ bytes → output ≡ (if b then Some after else None)
@@ -541,6 +590,33 @@ module _ (s new : MemSystem) (errors new_errors : MemOut) (status : ℕ) (p : Pl
           status_is = end.status_is ∙ l.status_is;
         })
 
+  module _ (options : Options) (reports : Bool) (k : KeyRead) (c : FirstComes (bytes_at s p.input) (number_at s p.input) s p options reports k.bytes.items o) where
+    moved_at : (bytes : Option (List ℕ)) (number : Option ℕ) → bytes_at s p.input ≡ bytes → number_at s p.input ≡ number → FirstComes bytes number s p options reports k.bytes.items o
+    moved_at bytes number a b =
+        subst (λ (x : Option (List ℕ)). FirstComes x number s p options reports k.bytes.items o) a
+        (subst (λ (x : Option ℕ). FirstComes (bytes_at s p.input) x s p options reports k.bytes.items o) b c)
+
+    first_at : (end : FirstEnd) → FirstAt s p.input k.bytes.items end → DaysCome end s p options reports k.bytes.items o
+    first_at end (bs, n, bytes, number, reads) =
+        let x = moved_at (Some bs) (Some n) bytes number in
+        subst (λ (y : FirstEnd). DaysCome y s p options reports k.bytes.items o) (one_first k.bytes.items bs x.0 end x.1 reads) x.2
+
+    without : (cause : NoDays) → DaysFound s p.input k.bytes.items (Err cause) → o ≡ without_days cause
+    without no_days.Unopened none = moved_at None (number_at s p.input) none refl
+    without no_days.Memory never = absurd never
+    without no_days.NotRegular (bs, bytes, number) = moved_at (Some bs) None bytes number
+    without (no_days.Refused stop) found = first_at (ends.Refused stop) found
+    without (no_days.Unread count) never = absurd never
+
+    moved_left : IsEarlier (key_number s p.key) (Some k.kind) → MovesByKey may_do memory_reader memory_writer p options reports k e s status new → Left o
+    moved_left earlier (program.no_days cause takes line was) =
+        let x = days_taken s p.input k.bytes.items (Err cause) new takes in
+        left_as (without_days cause) (without cause x.0) (leave_of s new errors new_errors status (without_days cause) (ap (λ (z : MemSystem). z.written) x.1) line was)
+    moved_left earlier (program.by_days days has_days takes works) =
+        let x = days_taken s p.input k.bytes.items (Ok days) has_days takes in
+        whole_left (deidentify (with_days options days) reports k.bytes.items) (first_at (ends.Days days) x.0) (Some k.kind) earlier
+        (subst (λ (z : MemSystem). WorksWhole may_do memory_reader memory_writer p (deidentify (with_days options days) reports k.bytes.items) (Some k.kind) e z status new) x.1 works)
+
   pub deidentified_left : (options : Options) (reports : Bool) → DeidentifyComes p.key s p options reports o → Deidentifies may_do memory_reader memory_writer p options reports e s status new → Left o
   deidentified_left options reports comes (program.without_key none works) =
       whole_left p.job (subst (λ (k : Option (List ℕ)). DeidentifyComes k s p options reports o) none comes) None (ap (key_number s) none) works
@@ -548,8 +624,13 @@ module _ (s new : MemSystem) (errors new_errors : MemOut) (status : ℕ) (p : Pl
       let k = key_taken s path (Err cause) new takes in
       let missing = subst (λ x. KeyComes x s p options reports o) k.0 (subst (λ (k : Option (List ℕ)). DeidentifyComes k s p options reports o) some comes) in
       left_as (without_key cause) missing (leave_of s new errors new_errors status (without_key cause) (ap (λ (z : MemSystem). z.written) k.1) line was)
-  deidentified_left options reports comes (program.with_key path k had some takes works) =
+  deidentified_left options reports comes (program.with_days_of_key path k had some takes by_key moves) =
       let t = key_taken s path (Ok k) had takes in
       let c = subst (λ x. KeyComes x s p options reports o) t.0.0 (subst (λ (k : Option (List ℕ)). DeidentifyComes k s p options reports o) some comes) in
+      moved_left options reports k (subst (λ (b : Bool). ByDays b s p options reports k.bytes.items o) by_key c) (subst (λ (n : Option ℕ). IsInput n k.kind) (sym (ap (key_number s) some)) t.0.1)
+      (subst (λ (z : MemSystem). MovesByKey may_do memory_reader memory_writer p options reports k e z status new) t.1 moves)
+  deidentified_left options reports comes (program.with_key path k had some takes no_days works) =
+      let t = key_taken s path (Ok k) had takes in
+      let c = subst (λ (b : Bool). ByDays b s p options reports k.bytes.items o) no_days (subst (λ x. KeyComes x s p options reports o) t.0.0 (subst (λ (k : Option (List ℕ)). DeidentifyComes k s p options reports o) some comes)) in
       whole_left (deidentify options reports k.bytes.items) c (Some k.kind) (subst (λ (n : Option ℕ). IsInput n k.kind) (sym (ap (key_number s) some)) t.0.1)
       (subst (λ (z : MemSystem). WorksWhole may_do memory_reader memory_writer p (deidentify options reports k.bytes.items) (Some k.kind) e z status new) t.1 works)

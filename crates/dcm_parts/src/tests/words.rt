@@ -286,6 +286,11 @@ fn refuses_taking_of_identity(rt: HostRuntime) -> Result<(), Fail> {
         ("dcmdeid +k a b", Usage::Whole(WordFault::WrongPaths)),
         ("dcmdeid a a", Usage::Whole(WordFault::SamePath)),
         ("dcmdeid +k b a b", Usage::Whole(WordFault::SamePath)),
+        ("dcmdeid +rm key - b", Usage::Whole(WordFault::NoKey)),
+        (
+            "dcmdeid +rm key +k a - b",
+            Usage::Whole(WordFault::ReadTwice),
+        ),
     ] {
         let planned = taking_of(rt, line)?;
         holds(&rt, line, planned == Err(usage));

@@ -38,6 +38,9 @@ dcmdeid a a: V6: input and output are the same path
 dcmdeid +k b a b: V6: input and output are the same path
 dcmdeid a: V4: wrong number of paths
 dcmdeid +k  - -: V3 at word 2: bad option value
+dcmdeid +rm key - -: V10: a key is needed
+dcmdeid +rm key +k b - -: V11: standard input cannot be read twice
+dcmdeid +rm key +k b - b: V6: input and output are the same path
 ";
 
 /// The same of edits.

@@ -152,6 +152,7 @@ pub fault_not_early : (b : Bar) → is_early (fault_of b) ≡ false
 fault_not_early Rattle.dcm_stream.specs.declared.token.Bar.TheVariants.Order = refl
 fault_not_early Rattle.dcm_stream.specs.declared.token.Bar.TheVariants.Fragments = refl
 fault_not_early Rattle.dcm_stream.specs.declared.token.Bar.TheVariants.Identity = refl
+fault_not_early Rattle.dcm_stream.specs.declared.token.Bar.TheVariants.Patient = refl
 
 -- ---- a head
 

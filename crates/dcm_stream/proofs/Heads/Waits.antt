@@ -8,7 +8,7 @@ use Rattle.dcm_base.specs.declared.length.Length.{Length}
 use Rattle.dcm_base.specs.Reading.Stop.{refused, place_stop, is_undecided, is_early_bar}
 use Rattle.dcm_head.specs.declared.head.Head.{Head}
 use Rattle.dcm_stream.specs.declared.token.Bar.{Bar}
-use Rattle.dcm_stream.specs.declared.token.Bar.TheVariants.{Order, Fragments, Identity}
+use Rattle.dcm_stream.specs.declared.token.Bar.TheVariants.{Order, Fragments, Identity, Patient}
 use Rattle.dcm_stream.specs.declared.judge.Judged.{Judged}
 use Rattle.dcm_stream.specs.declared.judge.Judged.TheVariants as judge
 use Rattle.dcm_stream.specs.Judging.{bars_head, Judges}
@@ -19,6 +19,7 @@ bar_not_early bars s None tag vr l e = rw e refl
 bar_not_early bars s (Some Order) tag vr l e = rw e refl
 bar_not_early bars s (Some Fragments) tag vr l e = rw e refl
 bar_not_early bars s (Some Identity) tag vr l e = rw e refl
+bar_not_early bars s (Some Patient) tag vr l e = rw e refl
 
 -- no sink's bar is an early end
 pub sinks_never_early : {S : Type 0} (bars : S → Head → Option Bar) (s : S) (tag : Tag) (vr : Vr) (l : Length) → is_early_bar (bars_head bars s tag vr l) ≡ false

@@ -1,5 +1,5 @@
 -- The tags reached are told by the atoms.
-use Rattle.std.proofs.Common.{◌≡◌, ℕ, List, [], ◌∷◌, ◌++◌, Option, Some, None, Bool, true, false, cond, refl, sym, ap, ◌∙◌}
+use Rattle.std.proofs.Common.{◌≡◌, ℕ, suc, ◌+◌, List, [], ◌∷◌, ◌++◌, length, Option, Some, None, Bool, true, false, cond, refl, sym, ap, ◌∙◌, arith}
 use Rattle.std.specs.Prelude.{fold, map}
 use Rattle.std.proofs.lemmas.List.{append-nil}
 use Rattle.dcm_base.specs.declared.tag.Tag.{Tag}
@@ -10,7 +10,7 @@ use Rattle.dcm_base.specs.Tree.Front.{Front, front, nothing_open, open_leaf, ope
 use Rattle.dcm_base.specs.Tree.Value.{order}
 use Rattle.dcm_base.specs.Bytes.Spelling.{last_tag}
 use Rattle.dcm_base.specs.Steps.Atoms.{Atom, value_byte, closes_leaf, closes_item, closes_sequence, fragments_then, open_fragment_atoms, end_atoms, ShowTrees, ShowItems, Shows, ShowsOpenItem}
-use Rattle.dcm_base.specs.Reading.Bars.{innermost_reached, reached_in_item, is_above, ascending_bar}
+use Rattle.dcm_base.specs.Reading.Bars.{innermost_reached, reached_in_item, is_above, ascending_bar, items_open, items_open_at}
 use Rattle.dcm_base.specs.Reading.Stop.{is_early_bar}
 use Rattle.dcm_stream.specs.Follows.{BarsAs}
 use Rattle.dcm_stream.specs.Ascending.{reached_after, innermost, ascending}
@@ -68,6 +68,28 @@ mutual
   item_reach : (last : OpenItem) (atoms : List Atom) (tag : Tag) (reached : Option Tag) (st : List (Option Tag)) → ShowsOpenItem last atoms → reached ≡ Some tag → innermost (reach (Some tag ∷ st) atoms) ≡ reached_in_item reached last
   item_reach no_open_item atoms tag reached st h re = ap (λ (x : List Atom). innermost (reach (Some tag ∷ st) x)) h ∙ sym re
   item_reach (open_item declared set) atoms tag reached st (contents, at, open_set, shows) re = ap (λ (x : List Atom). innermost (reach (Some tag ∷ st) x)) at ∙ front_reach set contents (Some tag ∷ st) shows
+
+-- so many items are open
+none_more : (n : ℕ) → suc n ≡ suc (0 + n)
+none_more n = omega arith
+
+mutual
+  unfolding Shows items_open
+
+  pub front_items : (f : Front) (atoms : List Atom) (st : List (Option Tag)) → Shows f atoms → length (reach (None ∷ st) atoms) ≡ suc (items_open f + length st)
+  front_items (front whole nothing_open reached closed) atoms st (others, trees, op, may, re) =
+      ap length (trees_reach whole atoms others None st trees ∙ ap (reach (last_tag None whole ∷ st)) op ∙ end_reach (last_tag None whole) st closed) ∙ none_more (length st)
+  front_items (front whole (open_leaf tag vr size value) reached closed) atoms st (others, trees, (s, fo, le, at), may, re) =
+      ap length (trees_reach whole atoms others None st trees ∙ ap (reach (last_tag None whole ∷ st)) at ∙ ap (reach (Some tag ∷ st)) (sym (append-nil (map value_byte (order s vr value)))) ∙ bytes_reach (Some tag) st (order s vr value) []) ∙ none_more (length st)
+  front_items (front whole (open_sequence tag vr declared items last) reached closed) atoms st (others, trees, (s, contents, more, fo, at, inner, op), may, re) =
+      ap length (trees_reach whole atoms others None st trees ∙ ap (reach (last_tag None whole ∷ st)) at ∙ items_reach items contents more (Some tag) st inner) ∙ item_items last more tag st op
+  front_items (front whole (open_fragments tag vr values last) reached closed) atoms st (others, trees, (s, fo, mi, at), may, re) =
+      ap length (trees_reach whole atoms others None st trees ∙ ap (reach (last_tag None whole ∷ st)) at ∙ fragments_reach (Some tag) st values (open_fragment_atoms last) ∙ fragment_reach (Some tag) st last) ∙ none_more (length st)
+
+  item_items : (last : OpenItem) (atoms : List Atom) (tag : Tag) (st : List (Option Tag)) → ShowsOpenItem last atoms → length (reach (Some tag ∷ st) atoms) ≡ suc (items_open_at last + length st)
+  item_items no_open_item atoms tag st h = ap (λ (x : List Atom). length (reach (Some tag ∷ st) x)) h ∙ none_more (length st)
+  item_items (open_item declared set) atoms tag st (contents, at, open_set, shows) =
+      ap (λ (x : List Atom). length (reach (Some tag ∷ st) x)) at ∙ (let e = front_items set contents (Some tag ∷ st) shows in omega (arith, e))
 
 never : (b : Bool) → is_early_bar (cond b None (Some NotAscending)) ≡ false
 never true = refl

@@ -1,11 +1,10 @@
-use Rattle.std.proofs.Common.{sym, subst, ap, refl, ◌∙◌, get_or, ℕ, List, [], w32, rules}
-use Rattle.std.proofs.lemmas.Int.{to_z-of_z}
-use Rattle.dcm_words.specs.Words.{and_path, and_move}
+use Rattle.std.proofs.Common.{sym, subst, ap, refl, ◌∙◌, get_or, ℕ, List, []}
+use Rattle.dcm_words.specs.Words.{and_path}
 use Rattle.dcm_words.specs.declared.words.Said.{Said}
 use Rattle.dcm_words.specs.Plans.{reader, PathsAre, said_with_paths}
-use Rattle.dcm_words.proofs.WordLemmas.{placed, turn, limit_turn, days_turn, key_turn, days_refused, key_refused, refused_as}
+use Rattle.dcm_words.proofs.WordLemmas.{placed, turn, limit_turn, move_turn, key_turn, move_refused, key_refused, refused_as}
 use Rattle.dcm_words.proofs.words.said_by.Goals as goal
-use Rattle.dcm_words.proofs.words.said_by.Goals.{in-Read, in-Show, in-WholeFile, in-DataSet, in-Bare, in-Target, in-Limit+in_ok-said-in-Limit, in-Retain, in-Pseudonyms, in-Move+in_ok-days-in-Move, in-PixelsDealt, in-Key+in_ok-key_after-in-Key, in-Accepted, in-Path}
+use Rattle.dcm_words.proofs.words.said_by.Goals.{in-Read, in-Show, in-WholeFile, in-DataSet, in-Bare, in-Target, in-Limit+in_ok-said-in-Limit, in-Retain, in-Pseudonyms, in-Move+in_ok-moved-in-Move, in-PixelsDealt, in-Key+in_ok-key_after-in-Key, in-Accepted, in-Path}
 
 pub loop-i-preserved : goal.loop-i-preserved
 loop-i-preserved c =
@@ -45,17 +44,17 @@ loop-i-preserved c =
       | in-Retain w ↦ record {
         read = read;
         paths = subst (λ (s : Said). PathsAre s.paths read) (sym w.said-is) c.loop-i.invariant.paths;
-        the_rest = placed _ _ _ _ _ w.i-is (turn (reader c.args.tool) c.loop-i.i c.args.words.now _ (said_with_paths c.loop-i.said read) _ _ c.loop-i-test.true w.in-Retain.ensures refl (ap (λ o. said_with_paths (record c.loop-i.said { options = o }) read) (sym w.and_option-said.ensures) ∙ ap (λ (s : Said). said_with_paths s read) (sym w.said-is)) c.loop-i.invariant.the_rest);
+        the_rest = placed _ _ _ _ _ w.i-is (turn (reader c.args.tool) c.loop-i.i c.args.words.now _ (said_with_paths c.loop-i.said read) _ _ c.loop-i-test.true w.in-Retain.ensures refl (ap (λ o. said_with_paths (record c.loop-i.said { choice = o }) read) (sym w.and_option-said.ensures) ∙ ap (λ (s : Said). said_with_paths s read) (sym w.said-is)) c.loop-i.invariant.the_rest);
       }
       | in-Pseudonyms w ↦ record {
         read = read;
         paths = subst (λ (s : Said). PathsAre s.paths read) (sym w.said-is) c.loop-i.invariant.paths;
-        the_rest = placed _ _ _ _ _ w.i-is (turn (reader c.args.tool) c.loop-i.i c.args.words.now _ (said_with_paths c.loop-i.said read) _ _ c.loop-i-test.true w.in-Pseudonyms.ensures refl (ap (λ o. said_with_paths (record c.loop-i.said { options = o }) read) (sym w.and_pseudonyms-said.ensures) ∙ ap (λ (s : Said). said_with_paths s read) (sym w.said-is)) c.loop-i.invariant.the_rest);
+        the_rest = placed _ _ _ _ _ w.i-is (turn (reader c.args.tool) c.loop-i.i c.args.words.now _ (said_with_paths c.loop-i.said read) _ _ c.loop-i-test.true w.in-Pseudonyms.ensures refl (ap (λ o. said_with_paths (record c.loop-i.said { choice = o }) read) (sym w.and_pseudonyms-said.ensures) ∙ ap (λ (s : Said). said_with_paths s read) (sym w.said-is)) c.loop-i.invariant.the_rest);
       }
-      | in-Move+in_ok-days-in-Move w ↦ record {
+      | in-Move+in_ok-moved-in-Move w ↦ record {
         read = read;
         paths = subst (λ (s : Said). PathsAre s.paths read) (sym w.said-is) c.loop-i.invariant.paths;
-        the_rest = placed _ _ _ _ _ w.i-is (days_turn (reader c.args.tool) c.loop-i.i c.args.words.now _ (said_with_paths c.loop-i.said read) _ _ c.loop-i-test.true w.in-Move.ensures (sym w.in_ok-days-in-Move.ensures) (ap (λ o. said_with_paths (record c.loop-i.said { options = o }) read) (sym (w.and_move-said.ensures ∙ ap (and_move c.loop-i.said.options) (to_z-of_z w32 w.in_ok-days-in-Move.days (search rules)))) ∙ ap (λ (s : Said). said_with_paths s read) (sym w.said-is)) c.loop-i.invariant.the_rest);
+        the_rest = placed _ _ _ _ _ w.i-is (move_turn (reader c.args.tool) c.loop-i.i c.args.words.now _ (said_with_paths c.loop-i.said read) _ _ c.loop-i-test.true w.in-Move.ensures (sym w.in_ok-moved-in-Move.ensures) (ap (λ o. said_with_paths (record c.loop-i.said { choice = o }) read) (sym w.and_move-said.ensures) ∙ ap (λ (s : Said). said_with_paths s read) (sym w.said-is)) c.loop-i.invariant.the_rest);
       }
       | in-PixelsDealt w ↦ record {
         read = read;
@@ -84,10 +83,10 @@ loop-i-preserved c =
       }
     ]
 
-pub returns-in_err-days-in-Move : goal.returns-in_err-days-in-Move
-returns-in_err-days-in-Move c =
-    let refused = days_refused (reader c.args.tool) c.loop-i.i c.args.words.now (record { ref_ptr = (0, 0); now = [] }) (said_with_paths c.loop-i.said c.loop-i.invariant.read) c.in_err-days-in-Move.field-0.0 c.loop-i-test.true c.in-Move.ensures (sym c.in_err-days-in-Move.ensures) in
-    refused_as _ _ _ _ c.from_residual-in_err-days-in-Move.ensures.1 (λ e is. is) (sym c.loop-i.invariant.the_rest ∙ refused)
+pub returns-in_err-moved-in-Move : goal.returns-in_err-moved-in-Move
+returns-in_err-moved-in-Move c =
+    let refused = move_refused (reader c.args.tool) c.loop-i.i c.args.words.now (record { ref_ptr = (0, 0); now = [] }) (said_with_paths c.loop-i.said c.loop-i.invariant.read) c.in_err-moved-in-Move.field-0.0 c.loop-i-test.true c.in-Move.ensures (sym c.in_err-moved-in-Move.ensures) in
+    refused_as _ _ _ _ c.from_residual-in_err-moved-in-Move.ensures.1 (λ e is. is) (sym c.loop-i.invariant.the_rest ∙ refused)
 
 pub returns-in_err-key_after-in-Key : goal.returns-in_err-key_after-in-Key
 returns-in_err-key_after-in-Key c =
