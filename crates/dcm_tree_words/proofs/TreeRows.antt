@@ -19,7 +19,7 @@ unfolding meant two_paths meant_tree asks_tree words_of_one elements entries key
 all = 0
 
 abbrev planned : (input output : List ℕ) → (key : Option (List ℕ)) → Job → Plan
-planned input output key job = record { input = input; output = output; key = key; job = job }
+planned input output key job = record { input = input; output = output; key = key; days_by_key = false; job = job }
 
 -- what is said of a run without a word
 abbrev usual : Options
