@@ -24,7 +24,7 @@ TEXTS = {"dcmdump": "DUMP", "dcmconv": "CONVERT", "dump2dcm": "BUILD", "dcmodify
          "dcm2csv": "TABLE"}
 MANUAL = "man/dcmtools.1"
 
-MOST_WORDS = 23_400
+MOST_WORDS = 24_200
 LONG, LONGEST, MOST_LONG = 30, 45, 25
 
 

@@ -10,3 +10,4 @@ pub mod Work
 pub mod Beginning
 pub mod Run
 pub mod Tree
+pub mod Program
