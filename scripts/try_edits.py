@@ -39,8 +39,8 @@ OPEN_GOAL = re.compile(r"(?:note: )?(?:\./)?(?P<file>src/[\w/]+\.rt):(?P<line>\d
 OPEN_ANSWER = re.compile(r"\./proofs/(?P<path>[\w+/]+)/(?P<which>Answers|Invariants)\.antt:\d+:\d+: error: `(?P<goal>[^`]+)`: (?P<why>.*)")
 OPEN_LEMMA = re.compile(r"\./(?P<file>(?:proofs|specs)/[\w/]+\.antt):\d+:\d+: error: `(?P<goal>[^`]+)`: (?P<why>.*)")
 
-# The head of a function, or of a constant.
-HEAD = re.compile(r"\s*(?:pub(?:\([^)]*\))? )?(?:(?:const )?fn|const|static) (\w+)")
+# The head of a function, of a constant, or of another name of a type.
+HEAD = re.compile(r"\s*(?:pub(?:\([^)]*\))? )?(?:(?:const )?fn|const|static|type) (\w+)")
 
 # In an answer these speak of names and forms, and not of what is to be shown.
 OF_FORM = ("has no field", "is not in scope", "names no ", "is not a function", "projects from a record", "expected answers", "expected a measure",
@@ -135,6 +135,16 @@ def changed_item(crate: str, edit: Path) -> tuple[str, str]:
     return file, function_at(text, text.count("\n", 0, place) + 1) if place >= 0 else ""
 
 
+def function_of(crate: str, folder: str, goal: str) -> str:
+    """The function of a goal, by the folder of its answers. That of a cycle of calls begins with a plus, and is named after the cycle; a
+    goal begins with its function where the cycle has several."""
+    if not folder.startswith("+"):
+        return folder
+    first = goal.split("-")[0]
+    sources = (path.read_text() for path in (ROOT / "crates" / crate / "src").rglob("*.rt"))
+    return first if any(re.search(rf"\bfn {first}\b", text) for text in sources) else folder[1:]
+
+
 def goal_in(crate: str, edit: Path, words: str) -> tuple[str, str, str]:
     """The goal, the function that has it, and why it says nothing of the contract, if so. Lines of the edited copy are those of the
     source, since an edit is of one line for one."""
@@ -143,8 +153,7 @@ def goal_in(crate: str, edit: Path, words: str) -> tuple[str, str, str]:
         return found["goal"], function_at(text, int(found["line"])), ""
     if found := OPEN_ANSWER.search(words):
         why = next((form for form in OF_FORM if form in found["why"]), "")
-        name = found["path"].split("/")[-1]
-        return found["goal"], found["goal"].split("-")[0] if name.startswith("+") else name, why
+        return found["goal"], function_of(crate, found["path"].split("/")[-1], found["goal"]), why
     if found := OPEN_LEMMA.search(words):
         why = next((form for form in OF_FORM if form in found["why"]), "")
         return found["goal"], found["file"], why
