@@ -1,5 +1,5 @@
 -- A run by other forms of its part's name and of its list.
-use Rattle.std.proofs.Common.{◌≡◌, ◌∙◌, sym, subst, ℕ, List, Bool, Result}
+use Rattle.std.proofs.Common.{◌≡◌, ◌∙◌, sym, subst, ℕ, List, Bool, Result, Err}
 use Rattle.dcm_devices.specs.Writing.{Writer}
 use Rattle.dcm_files.specs.Folders.{FoldersDo}
 use Rattle.dcm_trees.specs.declared.beginning.Begun.{Begun}
@@ -12,7 +12,14 @@ use Rattle.dcm_trees.specs.declared.progress.Shared.{Shared}
 use Rattle.dcm_trees.specs.declared.progress.Work.{Work}
 use Rattle.dcm_trees.specs.Run.{Shares, EndsRun}
 use Rattle.dcm_trees.specs.Work.{Progress, progress, nothing_done}
-use Rattle.dcm_trees.specs.Tree.{DoesNames, BeginsWork}
+use Rattle.dcm_words.specs.declared.usage.Usage.{Usage}
+use Rattle.dcm_words.specs.declared.usage.Usage.TheVariants.{AtWord, Whole, InEdit, Memory}
+use Rattle.dcm_tree_words.specs.Plans.{GivesTreeUnlessMemory}
+use Rattle.dcm_tree_words.specs.Trees.{Source, meant_tree}
+use Rattle.dcm_cli.specs.Calls.{Reports}
+use Rattle.dcm_cli.specs.ErrorLines.{usage_line, usage_status}
+use Rattle.dcm_trees.specs.Program.{ObeysTree, refused, no_memory}
+use Rattle.dcm_trees.specs.Tree.{DoesNames, DoesTree, BeginsWork}
 use Rattle.dcm_trees.specs.World.{World}
 
 pub begins_as : {S O F : Type 0} {d : FoldersDo S O F} {input : List ℕ} {is_list : Bool} {output : List ℕ} {continues : Bool} {before : S} {r : Result Begun Refusal} {after : S} {part name other : List ℕ}
@@ -38,3 +45,17 @@ ends_as {W} {E} {e} {last} {shows} {walked} {listing} {list} {other} {part} {nam
     subst (λ (r : Result ListEnd Stopped). EndsRun e last shows r other named from status to) is
     (subst (λ (l : List ℕ). EndsRun e last shows walked l named from status to) listed
     (subst (λ (p : List ℕ). EndsRun e last shows walked list p from status to) (partly ∙ called) ends))
+
+-- a run by another form of its manifest
+pub tree_of : {S I O F W E : Type 0} {w : World S I O F E} {m : Writer W} {run : TreeRun} {source : Source} {manifest device : W} {from : E} {before : S} {status : ℕ} {left : W} {to : E} {after : S}
+    → manifest ≡ device → DoesTree w m run source manifest from before status left to after → DoesTree w m run source device from before status left to after
+tree_of {S} {I} {O} {F} {W} {E} {w} {m} {run} {source} {manifest} {device} {from} {before} {status} {left} {to} {after} is does =
+    subst (λ (d : W). DoesTree w m run source d from before status left to after) is does
+
+-- words that are refused, or for which there is no memory
+pub refused_of : {A S I O F E : Type 0} {w : World S I O F E} {words : List (List ℕ)} {from : E} {before : S} {status : ℕ} {to : E} {after : S} (u : Usage)
+    → GivesTreeUnlessMemory {A} (Err u) (meant_tree words) → Reports w.errors from to (usage_line u) → status ≡ usage_status u → after ≡ before → ObeysTree w words from before status to after
+refused_of Memory meant told is same = no_memory told is same
+refused_of (AtWord fault n) meant told is same = refused (AtWord fault n) meant told is same
+refused_of (Whole fault) meant told is same = refused (Whole fault) meant told is same
+refused_of (InEdit fault n) meant told is same = refused (InEdit fault n) meant told is same
