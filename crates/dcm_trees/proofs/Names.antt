@@ -1,5 +1,5 @@
 -- A run by other forms of its part's name and of its list.
-use Rattle.std.proofs.Common.{◌≡◌, ◌∙◌, sym, subst, ℕ, List, Bool, Result, Err}
+use Rattle.std.proofs.Common.{Global, ◌≡◌, ◌∙◌, sym, subst, ℕ, List, Bool, Result, Err}
 use Rattle.dcm_devices.specs.Writing.{Writer}
 use Rattle.dcm_files.specs.Folders.{FoldersDo}
 use Rattle.dcm_trees.specs.declared.beginning.Begun.{Begun}
@@ -53,8 +53,8 @@ tree_of {S} {I} {O} {F} {W} {E} {w} {m} {run} {source} {manifest} {device} {from
     subst (λ (d : W). DoesTree w m run source d from before status left to after) is does
 
 -- words that are refused, or for which there is no memory
-pub refused_of : {A S I O F E : Type 0} {w : World S I O F E} {words : List (List ℕ)} {from : E} {before : S} {status : ℕ} {to : E} {after : S} (u : Usage)
-    → GivesTreeUnlessMemory {A} (Err u) (meant_tree words) → Reports w.errors from to (usage_line u) → status ≡ usage_status u → after ≡ before → ObeysTree w words from before status to after
+pub refused_of : {S I O F E : Type 0} {w : World S I O F E} {words : List (List ℕ)} {from : E} {before : S} {status : ℕ} {to : E} {after : S} (u : Usage)
+    → GivesTreeUnlessMemory {A = Global} (Err u) (meant_tree words) → Reports w.errors from to (usage_line u) → status ≡ usage_status u → after ≡ before → ObeysTree w words from before status to after
 refused_of Memory meant told is same = no_memory told is same
 refused_of (AtWord fault n) meant told is same = refused (AtWord fault n) meant told is same
 refused_of (Whole fault) meant told is same = refused (Whole fault) meant told is same
