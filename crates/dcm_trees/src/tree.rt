@@ -215,7 +215,14 @@ fn do_names<S: Folders, W: DeviceOut, E: DeviceOut>(
 {
     let part = part_name(run.options.part.number);
     let continues = run.options.continues;
-    match begin(CURRENT, true, run.output, part.as_slice(), continues, system) {
+    match begin(
+        CURRENT,
+        true,
+        run.output,
+        part.as_slice(),
+        continues,
+        system,
+    ) {
         Ok(begun) => visit_list(run, list, begun, input, manifest, system, errors),
         Err(refusal) => refuse(run, refusal, manifest, errors),
     }
