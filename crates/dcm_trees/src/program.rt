@@ -17,14 +17,21 @@ use std::alloc::Global;
 /// The tool whose runs over trees are not done so far.
 const DCMDEID: &[u8] = b"dcmdeid";
 
+/// Whether words are those of dcmdeid.
+fn is_of_dcmdeid(words: &[&[u8]]) -> bool
+    ensures { result ≡ spec.is_of_dcmdeid (map (λ w. w.now) words.now) }
+{
+    match words {
+        [tool, ..] => *tool == DCMDEID,
+        [] => false,
+    }
+}
+
 /// Whether words ask for a run over a tree: they are those of dcmconv or dcmodify, with a word of such runs.
 pub fn asks_run(words: &[&[u8]]) -> bool
     ensures { result ≡ spec.asks_run (map (λ w. w.now) words.now) }
 {
-    match words {
-        [tool, ..] => *tool != DCMDEID && asks_tree(words),
-        [] => false,
-    }
+    !is_of_dcmdeid(words) && asks_tree(words)
 }
 
 /// Does the run over a tree that words mean, with its manifest on standard output.

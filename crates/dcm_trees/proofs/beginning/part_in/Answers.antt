@@ -1,4 +1,4 @@
-use Rattle.std.proofs.Common.{rules, refl, sym, subst, ◌∙◌, List, ℕ, Result, Ok, Err, Option, Some, None, true, false, Bool}
+use Rattle.std.proofs.Common.{refl, sym}
 use Rattle.dcm_trees.specs.Beginning as spec
 use Rattle.dcm_trees.proofs.beginning.part_in.Goals as goal
 

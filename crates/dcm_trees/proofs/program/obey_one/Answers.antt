@@ -1,4 +1,4 @@
-use Rattle.std.proofs.Common.{rules, refl, sym, subst, ◌∙◌, List, ℕ, Result, Ok, Err, Option, Some, None, true, false, Bool}
+use Rattle.std.proofs.Common.{refl, subst}
 use Rattle.std.proofs.Common.{map}
 use Rattle.dcm_tree_words.specs.Trees.{meant_tree}
 use Rattle.dcm_tree_words.specs.Plans.{tree_as, GivesTreeUnlessMemory}

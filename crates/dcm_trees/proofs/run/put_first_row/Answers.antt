@@ -1,4 +1,4 @@
-use Rattle.std.proofs.Common.{rules, refl, sym, subst, ◌∙◌, List, ℕ, Result, Ok, Err, Option, Some, None, true, false, Bool}
+use Rattle.std.proofs.Common.{rules, Ok, Err}
 use Rattle.dcm_trees.proofs.Rows.{row_failed, row_went}
 use Rattle.dcm_trees.specs.Run as spec
 use Rattle.dcm_trees.proofs.run.put_first_row.Goals as goal

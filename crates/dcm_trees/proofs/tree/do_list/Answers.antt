@@ -1,4 +1,4 @@
-use Rattle.std.proofs.Common.{rules, refl, sym, subst, ◌∙◌, List, ℕ, Result, Ok, Err, Option, Some, None, true, false, Bool}
+use Rattle.std.proofs.Common.{refl, subst}
 use Rattle.dcm_trees.proofs.Rows.{told}
 use Rattle.dcm_trees.proofs.Names.{names_of}
 use Rattle.dcm_trees.specs.Tree as spec

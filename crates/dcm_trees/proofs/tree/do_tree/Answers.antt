@@ -1,4 +1,3 @@
-use Rattle.std.proofs.Common.{rules, refl, sym, subst, ◌∙◌, List, ℕ, Result, Ok, Err, Option, Some, None, true, false, Bool}
 use Rattle.std.proofs.Common.{ap}
 use Rattle.dcm_tree_words.specs.Plans.{source_as}
 use Rattle.dcm_trees.specs.Tree as spec

@@ -1,4 +1,4 @@
-use Rattle.std.proofs.Common.{rules, refl, sym, subst, ◌∙◌, List, ℕ, Result, Ok, Err, Option, Some, None, true, false, Bool}
+use Rattle.std.proofs.Common.{refl, subst, List, ℕ, Ok, Err}
 use Rattle.dcm_trees.specs.Tree as spec
 use Rattle.dcm_trees.proofs.tree.open_tree.Goals as goal
 

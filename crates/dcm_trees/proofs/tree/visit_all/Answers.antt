@@ -1,6 +1,5 @@
-use Rattle.std.proofs.Common.{rules, refl, sym, subst, ◌∙◌, List, ℕ, Result, Ok, Err, Option, Some, None, true, false, Bool}
+use Rattle.std.proofs.Common.{refl}
 use Rattle.dcm_trees.proofs.Names.{begins_work, ends_as}
-use Rattle.dcm_trees.specs.Tree as spec
 use Rattle.dcm_trees.proofs.tree.visit_all.Goals as goal
 
 pub returns-clause-visits : goal.returns-clause-visits

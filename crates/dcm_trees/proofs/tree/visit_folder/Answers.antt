@@ -1,4 +1,3 @@
-use Rattle.std.proofs.Common.{rules, refl, sym, subst, ◌∙◌, List, ℕ, Result, Ok, Err, Option, Some, None, true, false, Bool}
 use Rattle.dcm_trees.specs.Tree as spec
 use Rattle.dcm_trees.proofs.tree.visit_folder.Goals as goal
 
