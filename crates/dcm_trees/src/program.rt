@@ -1,5 +1,5 @@
 // Words that ask for a run over a tree, and the exit status.
-ghost use Rattle.std.specs.Prelude.{◌≡◌, ◌≤◌, map};
+ghost use Rattle.std.specs.Prelude.{◌≡◌, ◌≤◌, map, true};
 ghost use Rattle.dcm_cli.specs.Status as statuses;
 ghost use Rattle.dcm_tree_words.specs.Plans.{tree_as};
 ghost use Rattle.dcm_tree_words.specs.Trees as words_spec;
@@ -79,13 +79,15 @@ fn obey_one<S: Folders, E: DeviceOut>(
     }
 }
 
-/// Does the run over a tree that words ask for, or reports why they are refused. It answers the status.
+/// Does the run over a tree that words ask for, or reports why they are refused. It answers the status. Words of dcmdeid
+/// are not for it: it keeps names, which say who it is.
 pub fn obey_tree<S: Folders, E: DeviceOut>(
     system: &mut S,
     alloc: Global,
     words: &[&[u8]],
     errors: &mut Watched<E>,
 ) -> u8
+    requires { spec.asks_run (map (λ w. w.now) words.now) ≡ true }
     ensures obeys { spec.ObeysTree (world S.may_do S.folders_do S.Input.DeviceIn S.Output.DeviceOut E.DeviceOut)
         (map (λ w. w.now) words.now) errors.old system.old result errors.new system.new }
     ensures within { result ≤ statuses.MEMORY }
