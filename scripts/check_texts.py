@@ -325,7 +325,8 @@ def zsh_options(tool: str) -> set:
     page = read("completions/_dcmtools")
     case = re.search(rf"^    {tool}\)\n(.*?);;\n    (?=\S)", page, re.M | re.S)[1]
     found = set(re.findall(r"^\s+'([-+][^-:][^:]*):", case, re.M))
-    return found | ({"-dict", "+dict"} if "$dictionaries" in case else set())
+    found |= {"-dict", "+dict"} if "$dictionaries" in case else set()
+    return found | (set(re.findall(r"^\s+'(\+\w+):", re.search(r"^  trees=\(\n(.*?)^  \)", page, re.M | re.S)[1], re.M)) if "$trees" in case else set())
 
 
 def wrong_options() -> list:
