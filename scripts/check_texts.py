@@ -25,7 +25,7 @@ TEXTS = {"dcmdump": "DUMP", "dcmconv": "CONVERT", "dump2dcm": "BUILD", "dcmodify
 OF_TREES = ("dcmconv", "dcmodify")
 MANUAL = "man/dcmtools.1"
 
-MOST_WORDS = 24_200
+MOST_WORDS = 25_100
 LONG, LONGEST, MOST_LONG = 30, 45, 25
 
 
