@@ -11,7 +11,7 @@ have TEXT:
 - Rights (as nobody, where this runs as root), a disk that gets full, one without hard links (a mount is not tried: strace refuses the
   links), and OUTPUT mounted within FOLDER (by unshare -m).
 - Parts one after another against one run; runs of one part at once, and four parts at once (--rounds of each: 5, and 50 with --long).
-- Runs that are killed at a random moment, whose part is removed, and that go on (--kills: 20, and 200 with --long).
+- Runs that are killed at a random moment, whose part is removed, and that go on (--kills of them, 200).
 - With --faults: each system call of runs over twelve files fails in turn, by strace. After each fault every name in OUTPUT is whole,
   nothing else is changed, and no part is left but where removing failed.
 
@@ -535,16 +535,18 @@ def mounted_within(room):
 MANY = {**many(60), b"in/cut": CUT, b"in/l": Link(b"cut"), b"in/x/DICOMDIR": NAME, b"in/0/big": NAME + b"\x11\0\x10\0UN\0\0\xa0\x86\1\0" + bytes(100_000)}
 
 
-def one_run(room, words="dcmconv +c +r in out", tree=None):
-    """What one run leaves, and its rows."""
-    folder = room.folder(MANY if tree is None else tree)
-    done = room.run(words, folder)
-    return files_of(folder), sorted(rows_in(done.stdout)), done.returncode
+@functools.lru_cache
+def one_run(room):
+    """What one run leaves, its rows and status, and the seconds that it took."""
+    folder = room.folder(MANY)
+    start = time.monotonic()
+    done = room.run("dcmconv +c +r in out", folder)
+    return files_of(folder), sorted(rows_in(done.stdout)), done.returncode, time.monotonic() - start
 
 
 def parts_in_turn(room):
     """Three parts in any order, then each again."""
-    files, rows, status = one_run(room)
+    files, rows, status, _ = one_run(room)
     wrong = []
     for order in ((1, 2, 3), (3, 1, 2)):
         folder = room.folder(MANY)
@@ -582,7 +584,7 @@ def ended_at_once(room, commands):
 
 def twice_at_once(room):
     """Two runs of one part: one of them may end at the other's part, the other does all."""
-    files, rows, status = one_run(room)
+    files, rows, status, _ = one_run(room)
     folder, ends = ended_at_once(room, ["dcmconv +c +r in out"] * 2)
     refused = [end for end in ends if end[2].endswith(line(b".part.1" + CUT_OFF))]
     wrong = differences_of_trees(files, files_of(folder)) + [f"ended: {end[2]!r:.200}" for end in ends if end not in refused and end[0] != status]
@@ -592,7 +594,7 @@ def twice_at_once(room):
 
 
 def four_at_once(room):
-    files, rows, status = one_run(room)
+    files, rows, status, _ = one_run(room)
     folder, ends = ended_at_once(room, [f"dcmconv +part {part}/4 +r in out" for part in (1, 2, 3, 4)])
     wrong = differences_of_trees(files, files_of(folder)) + difference("rows", rows, sorted(row for end in ends for row in end[1]))
     return wrong + difference("status", status, max(end[0] for end in ends))
@@ -601,9 +603,9 @@ def four_at_once(room):
 # ---- runs that are killed
 
 
-def killed(room, seconds):
-    """A run that is killed after a part of its time, and goes on: the tree is that of one run."""
-    files, _, status = one_run(room)
+def killed(room, cut_off):
+    """A run that is killed after a part of its time, and goes on: the tree is that of one run. What it left is noted."""
+    files, _, status, seconds = one_run(room)
     outputs = {path[4:]: what[0] for path, what in files.items() if path.startswith(b"out/") and what is not None}
     folder = room.folder(MANY)
     process = room.start("dcmconv +c +r in out", folder)
@@ -612,22 +614,25 @@ def killed(room, seconds):
     process.communicate()
     out = os.path.join(folder, "out")
     left_files = files_of(out) if os.path.isdir(out) else {}
+    is_whole = {b"out/" + path for path in left_files} == {path for path in files if path.startswith(b"out/")}
+    cut_off["in a file" if b".part.1" in left_files else "at its end" if is_whole else "between files"] += 1
     wrong = halves({path: what for path, what in left_files.items() if path != b".part.1"}, outputs)
     if b".part.1" in left_files:
         done = room.run("dcmconv +c +r in out", folder)
         wrong += wrong_run(Case("", {}, "", None, (b".part.1" + CUT_OFF,), 4), done) + differences_of_trees(left_files, files_of(out))
         os.remove(os.path.join(out, ".part.1"))
     done = room.run("dcmconv +c +r in out", folder)
-    return wrong + difference("status", status, done.returncode) + differences_of_trees(files, files_of(folder))
+    wrong += difference("status", status, done.returncode) + differences_of_trees(files, files_of(folder))
+    shutil.rmtree(folder)
+    return wrong
 
 
 def try_kills(room, count):
-    """How many of so many runs go wrong, and how many were cut off in the middle of a file."""
-    start = time.monotonic()
-    one_run(room)
-    seconds = time.monotonic() - start
+    """What is wrong with each of so many runs. It is said where they were killed."""
+    cut_off = collections.Counter()
     for _ in range(count):
-        yield killed(room, seconds)
+        yield killed(room, cut_off)
+    print("killed: " + ", ".join(f"{number} {where}" for where, number in cut_off.items()))
 
 
 # ---- faults of the system
@@ -636,7 +641,7 @@ def try_kills(room, count):
 TWELVE = {b"in/%s%d" % (folder, n): NAME[:-6] + b"N%05d" % n for n, folder in enumerate((b"", b"", b"a/", b"a/", b"a/b/", b"c/") * 2)}
 MIXED = {**TWELVE, b"in/a/cut": CUT, b"in/DICOMDIR": NAME, b"in/l": Link(b"cut")}
 FAULTY_RUNS = (
-    ("+r", MIXED, "dcmconv +r in out"),
+    ("+r", TWELVE, "dcmconv +r in out"),
     ("+c", {**MIXED, b"out/0": (b"old", 0o600), b"out/a/2": b"older"}, "dcmodify -m PatientName=X +c +v +r in out"),
     ("+part", {**MIXED, b"out/.part.1": b"another's"}, "dcmconv +part 2/2 +r in out"),
     ("a list", {**MIXED, b"list": b"".join(path + b"\n" for path in MIXED)}, "dcmconv +r @list out"),
@@ -786,13 +791,12 @@ def main():
     parser.add_argument("binary", nargs="?", default=os.path.join(ROOT, "crates/dcmtools/out/dcmtools"))
     parser.add_argument("--only", default="", help="the checks whose names have this text")
     parser.add_argument("--rounds", type=int, help="how often runs are started at once")
-    parser.add_argument("--kills", type=int, help="how many runs are killed")
-    parser.add_argument("--long", action="store_true", help="50 rounds and 200 kills")
+    parser.add_argument("--kills", type=int, default=200, help="how many runs are killed")
+    parser.add_argument("--long", action="store_true", help="50 rounds")
     parser.add_argument("--faults", action="store_true", help="let each system call fail in turn, by strace")
     parser.add_argument("--jobs", type=int, default=os.cpu_count(), help="how many runs with faults at once")
     words = parser.parse_args()
     words.rounds = (50 if words.long else 5) if words.rounds is None else words.rounds
-    words.kills = (200 if words.long else 20) if words.kills is None else words.kills
     if words.faults and not (shutil.which("strace") and shutil.which("setarch")):
         sys.exit("strace or setarch cannot be found: apt-get install strace util-linux")
     with tempfile.TemporaryDirectory(prefix="trees", dir="/dev/shm" if os.path.isdir("/dev/shm") else None) as top:
