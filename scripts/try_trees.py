@@ -214,9 +214,19 @@ def difference(what, wanted, got):
     return [] if wanted == got else [f"{what}: wanted {wanted!r:.{SHOWN}}, got {got!r:.{SHOWN}}"]
 
 
+def described(what):
+    """What is at a path; of a file its size, its mode, and how it ends."""
+    if not isinstance(what, tuple):
+        return "a folder" if what is None else f"a link to {bytes(what)!r}" if isinstance(what, Link) else what
+    content, mode = what
+    return f"{len(content)} bytes, mode {mode:o}, {content[-20:]!r} at the end"
+
+
 def differences_of_trees(wanted, got):
-    paths = sorted(path for path in {**wanted, **got} if wanted.get(path, "nothing") != got.get(path, "nothing"))
-    return [wrong for path in paths[:3] for wrong in difference(repr(path[-80:]), wanted.get(path, "nothing"), got.get(path, "nothing"))]
+    """What is wrong at the first paths that differ."""
+    there = {path: (wanted.get(path, "nothing"), got.get(path, "nothing")) for path in sorted({**wanted, **got})}
+    differing = [(path, *both) for path, both in there.items() if both[0] != both[1]]
+    return [f"{path[-80:]!r}: wanted {described(first)}, got {described(second)}" for path, first, second in differing[:3]]
 
 
 # ---- what is there
