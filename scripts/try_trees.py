@@ -459,6 +459,7 @@ def without_rights(room):
 
 
 def no_rights_at_all(room):
+    """Of FOLDER, of the folder that OUTPUT is to be in, and of OUTPUT, which nobody may then look into or write."""
     if os.getuid() != 0:
         return SKIPPED, "this is not run as root, which alone becomes nobody"
     wrong = []
@@ -472,7 +473,7 @@ def no_rights_at_all(room):
     folder = room.folder({**FOLDER, b"out": None})
     done = room.run("dcmconv +r in out", folder, user=NOBODY)
     case = Case("", {}, "", not_done(b"unwritten", b"a", b"x/b"), told(OUTPUT_UNOPENED, b"a", b"x/b"), 4)
-    return wrong + wrong_run(case, done) + differences_of_trees({**room.left({}, copies((b"a",), NAME)), b"in/x": None, b"in/x/b": (OTHER, PLAIN_MODE), b"out": None}, files_of(folder))
+    return wrong + wrong_run(case, done) + differences_of_trees(room.left({}, {**FOLDER, b"out": None}), files_of(folder))
 
 
 def many(count, size=0):
@@ -481,9 +482,9 @@ def many(count, size=0):
     return {b"in/%d/f%04d" % (n % 7, n): NAME[:-6] + b"N%05d" % n + value for n in range(count)}
 
 
-def whole_outputs(room, before, words="dcmconv"):
-    """What a run over FOLDER writes of each file, by its relative name."""
-    return {path[3:]: room.alone(words, content if isinstance(content, bytes) else content[0]) for path, content in before.items() if content is not None}
+def whole_outputs(room, before):
+    """What dcmconv writes of each file of FOLDER, by its name."""
+    return {path[3:]: room.alone("dcmconv", content) for path, content in before.items()}
 
 
 def halves(kept, outputs):
@@ -523,7 +524,7 @@ def without_links(room):
     case = Case("", {}, "", written(*whole_outputs(room, before)))
     again = room.run("dcmconv +c +r in out", folder, around=words)
     after = {b"out/" + path[3:]: Alone("dcmconv", content) for path, content in before.items()}
-    wrong = differences_of_trees({**room.left(room.left({}, before), after)}, files_of(folder))
+    wrong = differences_of_trees(room.left(room.left({}, before), after), files_of(folder))
     return wrong + wrong_run(case, done) + wrong_run(Case("", {}, "", written(*whole_outputs(room, before), word=b"there")), again)
 
 
