@@ -1,5 +1,6 @@
 -- What is written without identity reads back as its normal form.
-use Rattle.std.proofs.Common.{◌≡◌, ◌∙◌, ap, sym, refl, subst, ℕ, ◌+◌, ◌≤◌, List, [], length, None, Option, true, append-nil, Some, ◌∷◌, ◌++◌, Bool, false, arith, if◌then◌else◌}
+use Rattle.std.proofs.Common.{◌≡◌, ◌∙◌, ap, sym, refl, subst, ℕ, ℤ, ◌+◌, ◌≤◌, List, [], length, None, Option, true, append-nil, Some, ◌∷◌, ◌++◌, Bool, false, arith, if◌then◌else◌}
+use Rattle.std.specs.Prelude.{neg_ℤ}
 use Rattle.dcm_base.specs.declared.dictionary.Dictionary.{Dictionary}
 use Rattle.dcm_base.specs.declared.dictionary.Dictionary.TheVariants.{Extract, Standard}
 use Rattle.dcm_base.specs.declared.syntax.Syntax.{Syntax}
@@ -21,12 +22,13 @@ use Rattle.dcm_editor_laws.proofs.ReadBack.Plain.{plain, plain_fits, plain_read}
 use Rattle.dcm_editor_laws.proofs.ReadBack.StaysReady.{FrontReady}
 use Rattle.dcm_editor_laws.proofs.Readers.Bytes.{front_alike}
 use Rattle.dcm_editor_laws.proofs.Readers.Opened.{front_ready_by, standard_opens}
+use Rattle.dcm_deid.specs.Alike.{moving}
 use Rattle.dcm_deid.specs.MadeNew.{made_new}
 use Rattle.dcm_deid.specs.declared.fate.Options.{Options}
 use Rattle.dcm_deid.specs.declared.fate.Depth.TheVariants.{Outermost}
 use Rattle.dcm_deid.specs.Deidentify.{deidentified_set}
 use Rattle.dcm_deid.specs.Fate.{fate_as}
-use Rattle.dcm_deid_laws.specs.Laws.{MakesNothingAnew}
+use Rattle.dcm_deid_laws.specs.Laws.{MakesNothingAnew, MovesDatesAlone, left_moved}
 use Rattle.dcm_deid.specs.Remains.{AreClean}
 use Rattle.dcm_deid.specs.Saying.{deidentified, read_whole, said, unsaid, whole_of}
 use Rattle.dcm_deid.proofs.Trees.Said.{of_whole, only_said_is_put, set_with_all}
@@ -34,6 +36,7 @@ use Rattle.dcm_deid_laws.specs.Clean.{NothingIsLeft, WrittenIsClean}
 use Rattle.dcm_deid_laws.specs.Taken.{Takes}
 use Rattle.dcm_deid_laws.proofs.Clean.{set_back, unsaid_clean}
 use Rattle.dcm_deid_laws.proofs.Named.{AreNamed, spelled_named}
+use Rattle.dcm_deid_laws.proofs.Back.Again.{left_there_again}
 use Rattle.dcm_deid_laws.proofs.Twice.Again.{Knows, twice}
 use Rattle.dcm_deid_laws.proofs.Unsaid.{unsaid_normal}
 use Rattle.dcm_base.specs.declared.fault.Fault.{Fault}
@@ -194,3 +197,35 @@ module _ (options : Options) (key : List ℕ) (s : Syntax) (at : ℕ) (f : Front
       subst (λ (g : Front). Reads identity_bar s at (recode s left) g complete) (sym is)
       (identity_reads s at (recode s left) again (omega (arith, limit)) (normal_passes s None (left_of w.trees) (all_left_passes options key w.trees (trees_pass w.trees w.is)))
       (subst (λ (g : Front). Reads (target_bar s) s at (recode s left) g complete) is own_again))
+
+-- ---- there and back again
+
+module _ (options : Options) (key : List ℕ) (days : ℤ) (s : Syntax) (at : ℕ) (f : Front) (h : Takes (moving options days) key s at f) (given : MovesDatesAlone options) where
+  abbrev there : Options
+  there = moving options days
+
+  abbrev away : Options
+  away = moving options (neg_ℤ days)
+
+  -- without identity and with what says so, read whole
+  abbrev made : Options → Trees → Trees
+  made by set = set_with_all (said by) (deidentified_set by (made_new by key) Outermost set)
+
+  made_is : (by : Options) (set : Trees) → deidentified by (made_new by key) (whole_front set) ≡ read_whole (last_tag None set) (made by set)
+  made_is by set = of_whole by (made_new by key) (last_tag None set) set
+
+  written : (by : Options) (set : Trees) → recode s (deidentified by (made_new by key) (whole_front set)) ≡ recode_set s (made by set)
+  unfolding recode
+  written by set = ap (recode s) (made_is by set) ∙ append-nil (recode_set s (made by set))
+
+  pub there_and_back : recode s (left_moved options key days (normal_front s (left_moved options key (neg_ℤ days) (normal_front s (left_moved options key days f))))) ≡ recode s (left_moved options key days f)
+  there_and_back =
+      let w = source_whole (plain s) s h.start h.bytes f h.begins h.are_bytes (in_plain there key s at f h) in
+      let first : Trees = normal s (made there w.trees) in
+      let second : Trees = normal s (made away first) in
+      let one : left_moved options key days f ≡ read_whole (last_tag None w.trees) (made there w.trees) = ap (left_moved options key days) w.is ∙ made_is there w.trees in
+      ap (λ (g : Front). recode s (left_moved options key days (normal_front s (left_moved options key (neg_ℤ days) (normal_front s g))))) one
+      ∙ ap (λ (g : Front). recode s (left_moved options key days (normal_front s g))) (made_is away first)
+      ∙ written there second
+      ∙ left_there_again options key days given s w.trees (spelled_named s w.trees h.bytes [] w.spelled)
+      ∙ sym (ap (λ (g : Front). recode s (left_moved options key days g)) w.is ∙ written there w.trees)
