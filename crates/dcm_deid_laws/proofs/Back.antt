@@ -2,4 +2,5 @@
 pub mod Texts
 pub mod Dates
 pub mod Left
+pub mod Framed
 pub mod Again

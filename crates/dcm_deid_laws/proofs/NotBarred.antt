@@ -23,7 +23,7 @@ abbrev Weaker : (Fault → Type 0) → Option Stop → Option Stop → Type 0
 Weaker P a b = (a ≡ b) ⊎ ((fault : Fault) × (offset : ℕ) × P fault × (a ≡ Some (refused fault offset)))
 
 -- bars the same, or more by such a fault
-abbrev Bars : (Fault → Type 0) → (more less : Option Fault) → Type 0
+abbrev pub Bars : (Fault → Type 0) → (more less : Option Fault) → Type 0
 Bars P more less = (more ≡ less) ⊎ ((fault : Fault) × P fault × (more ≡ Some fault))
 
 abbrev pub BarsMore : (Fault → Type 0) → (bar less : Bar) → Type 0

@@ -36,7 +36,8 @@ use Rattle.dcm_deid_laws.specs.Clean.{NothingIsLeft, WrittenIsClean}
 use Rattle.dcm_deid_laws.specs.Taken.{Takes}
 use Rattle.dcm_deid_laws.proofs.Clean.{set_back, unsaid_clean}
 use Rattle.dcm_deid_laws.proofs.Named.{AreNamed, spelled_named}
-use Rattle.dcm_deid_laws.proofs.Back.Again.{left_there_again}
+use Rattle.dcm_deid_laws.proofs.Back.Again.{left_there_again, moved_back_framed as set_framed}
+use Rattle.dcm_deid_laws.proofs.Back.Framed.{IsFramed}
 use Rattle.dcm_deid_laws.proofs.Twice.Again.{Knows, twice}
 use Rattle.dcm_deid_laws.proofs.Unsaid.{unsaid_normal}
 use Rattle.dcm_base.specs.declared.fault.Fault.{Fault}
@@ -218,6 +219,13 @@ module _ (options : Options) (key : List ℕ) (days : ℤ) (s : Syntax) (at : �
   unfolding recode
   written by set = ap (recode s) (made_is by set) ∙ append-nil (recode_set s (made by set))
 
+  recodes_whole : (x : Trees) (reached : Option Tag) → recode s (read_whole reached x) ≡ recode_set s x
+  unfolding recode
+  recodes_whole x reached = append-nil (recode_set s x)
+
+  framed_by : (x y u v : List ℕ) → x ≡ u → y ≡ v → IsFramed u v → IsFramed x y
+  framed_by x y u v e g k = subst (λ (z : List ℕ). IsFramed z y) (sym e) (subst (IsFramed u) (sym g) k)
+
   pub there_and_back : recode s (left_moved options key days (normal_front s (left_moved options key (neg_ℤ days) (normal_front s (left_moved options key days f))))) ≡ recode s (left_moved options key days f)
   there_and_back =
       let w = source_whole (plain s) s h.start h.bytes f h.begins h.are_bytes (in_plain there key s at f h) in
@@ -229,3 +237,12 @@ module _ (options : Options) (key : List ℕ) (days : ℤ) (s : Syntax) (at : �
       ∙ written there second
       ∙ left_there_again options key days given s w.trees (spelled_named s w.trees h.bytes [] w.spelled)
       ∙ sym (ap (λ (g : Front). recode s (left_moved options key days g)) w.is ∙ written there w.trees)
+
+  -- what is written in between is as long, and begins alike
+  pub moved_back_framed : IsFramed (recode s (left_moved options key (neg_ℤ days) (normal_front s (left_moved options key days f)))) (recode s (left_moved options key days f))
+  moved_back_framed =
+      let w = source_whole (plain s) s h.start h.bytes f h.begins h.are_bytes (in_plain there key s at f h) in
+      let first : Trees = normal s (made there w.trees) in
+      let one : left_moved options key days f ≡ read_whole (last_tag None w.trees) (made there w.trees) = ap (left_moved options key days) w.is ∙ made_is there w.trees in
+      subst (λ (g : Front). IsFramed (recode s (left_moved options key (neg_ℤ days) (normal_front s g))) (recode s g)) (sym one)
+      (framed_by _ _ _ _ (written away first) (recodes_whole (made there w.trees) (last_tag None w.trees)) (set_framed options key days given s w.trees (spelled_named s w.trees h.bytes [] w.spelled)))

@@ -60,8 +60,8 @@ MovesDatesAlone options =
 abbrev pub left_moved : Options → (key : List ℕ) → (days : ℤ) → Front → Front
 left_moved options key days f = deidentified (moving options days) (made_new (moving options days) key) f
 
--- moved by some days, moved back as it reads back, and moved by the same days once more as that reads back, it is written as it
--- was the first time
+-- moved by some days, read and moved back, and read and moved by the same days once more, it is written as it was the
+-- first time
 abbrev pub ThereAndBack : Type 0
 ThereAndBack =
     (options : Options) (key : List ℕ) (days : ℤ) (s : Syntax) (at : ℕ) (f : Front)

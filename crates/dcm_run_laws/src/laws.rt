@@ -4,9 +4,11 @@ ghost use Rattle.dcm_run_laws.specs.Laws.{OthersStay, ReadsAlike, ErasedAllBy, E
 ghost use Rattle.dcm_run_laws.specs.Laws.{OthersStayBy, ExplicitOpensAlike, OwnOpensAlike, StandardOpensAlike};
 ghost use Rattle.dcm_run_laws.specs.Laws.{ErasedAllSeen, ErasedPrivateSeen, AlikeHidesNothing, ModifiedTwice};
 ghost use Rattle.dcm_run_laws.specs.Laws.{DeidentifiedReads, OutputIsClean, InstanceAgrees, DeidentifiedTwice};
+ghost use Rattle.dcm_run_laws.specs.Laws.{ThereAndBack};
 ghost use Rattle.dcm_run_laws.specs.DumpBuilds.{DumpBuilds};
 ghost use Rattle.dcm_run_laws.specs.NoEdits.{NoEditsConvert};
 ghost use Rattle.dcm_run_laws.specs.FirstLaws.{FirstEndsOnce, FirstEnds, DaysAreOfPatient, PatientHasDays};
+ghost use Rattle.dcm_run_laws.specs.FirstLaws.{FirstReadingDecides};
 ghost use Rattle.dcm_run_laws.specs.FirstLaws.{OnePatientOneMove, MovesBack, NothingFlowsByKey};
 ghost use Rattle.dcm_run_laws.specs.Flows.{NothingFlows};
 
@@ -103,6 +105,12 @@ pub fn first_reading_ends()
     ensures some { FirstEnds }
 {}
 
+/// Of a file that dcmdeid reads without fault it ends in the days of the patient whom the outermost PatientID names, else
+/// in R17. That tells where PatientID stands, else where the head above it does, else the length of the file.
+pub fn first_reading_decides()
+    ensures { FirstReadingDecides }
+{}
+
 /// By which days the dates of a file are moved where the key makes them: by those of the patient whom PatientID at its
 /// outermost level names. So two files of one patient are moved by the same days under one key: 1 to 3,652 days into the
 /// past.
@@ -143,4 +151,11 @@ pub fn instance_agrees()
 /// fault. The second one refuses nothing: its status is 0 or 3.
 pub fn deidentified_twice()
     ensures { DeidentifiedTwice }
+{}
+
+/// dcmdeid by `+rm N`, by `-N` on that output, and by `N` on the next one writes at last what it wrote at first. Dates
+/// alone are made anew: unique identifiers are retained, and no pseudonyms are asked for. The first two runs are on
+/// files without fault. The third one refuses nothing: its status is 0 or 3.
+pub fn there_and_back()
+    ensures { ThereAndBack }
 {}

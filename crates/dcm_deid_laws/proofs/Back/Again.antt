@@ -1,5 +1,5 @@
 -- Moved dates, moved back and moved again, among the elements that say what was done.
-use Rattle.std.proofs.Common.{◌≡◌, ◌∙◌, ap, sym, ℕ, ℤ, List}
+use Rattle.std.proofs.Common.{◌≡◌, ◌∙◌, ap, sym, subst, ℕ, ℤ, List}
 use Rattle.std.specs.Prelude.{neg_ℤ}
 use Rattle.dcm_base.specs.declared.syntax.Syntax.{Syntax}
 use Rattle.dcm_base.specs.Conversion.Normal.{normal}
@@ -21,10 +21,11 @@ use Rattle.dcm_deid.proofs.Trees.Said.{same_said, set_with_all}
 use Rattle.dcm_deid_laws.specs.Laws.{MovesDatesAlone}
 use Rattle.dcm_deid_laws.proofs.Named.{AreNamed}
 use Rattle.dcm_deid_laws.proofs.Ready.{renamed_short}
-use Rattle.dcm_deid_laws.proofs.Back.Dates.{made_again, not_full}
+use Rattle.dcm_deid_laws.proofs.Back.Dates.{made_again, made_size, not_full}
+use Rattle.dcm_deid_laws.proofs.Back.Framed.{IsAsLong, IsFramed, framed_joins, framed_self, goes_away}
 use Rattle.dcm_deid_laws.proofs.Back.Left.{MadeAgain, again_both}
 use Rattle.dcm_deid_laws.proofs.Twice.Again.{left_named, said_goes}
-use Rattle.dcm_deid_laws.proofs.Twice.Alike.{all_alike, recodes_alike}
+use Rattle.dcm_deid_laws.proofs.Twice.Alike.{ArePaired, all_alike, all_paired, recodes_alike, recodes_paired}
 use Rattle.dcm_deid_laws.proofs.Twice.Fates.{dates_alone}
 
 module _ (options : Options) (key : List ℕ) (days : ℤ) (given : MovesDatesAlone options) (s : Syntax) where
@@ -80,3 +81,17 @@ module _ (options : Options) (key : List ℕ) (days : ℤ) (given : MovesDatesAl
       let left : Trees = without there x in
       let again = again_both there (made_new there key) (made_new back key) can s s Outermost left (dictionary_of s, sym (own_dictionary s)) (left_named there key s Outermost x named) (clean (fate_as there) (made_new there key) Outermost x) in
       ap (λ (z : Trees). recode_set s (with_said there z)) (once_more left) ∙ recodes_alike s _ _ (all_alike s (said there) _ left again)
+
+  -- moved back it is as long, and begins alike
+  long : IsAsLong there (made_new there key) (made_new back key)
+  long = λ depth t made b e. made_size options key days given.2 made b (dates_alone there given.0 given.1 made depth AsBytes t e)
+
+  pub moved_back_framed : (x : Trees) → AreNamed s x
+      → IsFramed (recode_set s (with_said back (without back (normal s (with_said there (without there x)))))) (recode_set s (with_said there (without there x)))
+  moved_back_framed x named =
+      let left : Trees = without there x in
+      let framed : ArePaired IsFramed s (deidentified_set there (made_new back key) Outermost (normal s left)) left =
+      goes_away there (made_new there key) (made_new back key) can long s s Outermost left (dictionary_of s, sym (own_dictionary s)) (left_named there key s Outermost x named) (clean (fate_as there) (made_new there key) Outermost x)
+      in
+      subst (λ (z : Trees). IsFramed (recode_set s z) (recode_set s (with_said there left))) (sym (says_same (without back (normal s (with_said there left))) ∙ ap (with_said there) (taken_back left)))
+      (recodes_paired IsFramed framed_joins s _ _ (all_paired IsFramed framed_self s (said there) _ left framed))
