@@ -60,8 +60,8 @@ abbrev pub PatientHasDays : Type 0
 PatientHasDays =
     (key bytes named : List ℕ) → NamesPatient bytes named → named ≢ [] → FirstReads key bytes (Days (days key named))
 
--- the patient whom the first PatientID among the elements of a data set names; nobody where there is none, or its value is
--- padding alone or too long
+-- the patient whom the first PatientID among the elements of a data set names; nobody where there is none, or its value
+-- is padding alone or too long
 abbrev pub patient_in : Trees → List ℕ
 patient_in set = option_map_or named_by (unpadded PATIENT_ID set) []
 
@@ -74,8 +74,8 @@ place_of (refused fault offset) size = offset
 -- names, and without such a one in R17, where the reading stops that goes up to PatientID
 abbrev pub FirstReadingDecides : Type 0
 FirstReadingDecides =
-    (key bytes : List ℕ) (m : Meta) (group : List ℕ) (coding : Coding) (f before : Front) (up_to : Stop) (end : FirstEnd)
-    → HeadIs Standard bytes m group coding
+    (key bytes : List ℕ) (m : Meta) (group : List ℕ) (coding : Coding) (f before : Front) (up_to : Stop)
+    (end : FirstEnd) → HeadIs Standard bytes m group coding
     → Reads identity_bar coding.syntax (set_at group) (drop (set_at group) bytes) f complete
     → Reads patient_bar coding.syntax (set_at group) (drop (set_at group) bytes) before up_to
     → FirstReads key bytes end → end ≡ patient_end key (patient_in (whole_of f)) (place_of up_to (length bytes))

@@ -105,15 +105,15 @@ pub fn first_reading_ends()
     ensures some { FirstEnds }
 {}
 
-/// Of a file that dcmdeid reads without fault it ends in the days of the patient whom the outermost PatientID names, else
-/// in R17. That tells where PatientID stands, else where the head above it does, else the length of the file.
+/// The first reading of a file without fault ends in the days of its outermost PatientID, or in R17. It is R17 where
+/// there is none that is a value, and where that is padding alone, or too long. Its place is that at which a reading
+/// stops that goes up to PatientID and no further: where that stands, else the head above it, else the end of the file.
 pub fn first_reading_decides()
     ensures { FirstReadingDecides }
 {}
 
-/// By which days the dates of a file are moved where the key makes them: by those of the patient whom PatientID at its
-/// outermost level names. So two files of one patient are moved by the same days under one key: 1 to 3,652 days into the
-/// past.
+/// The days that the key makes of a file are those of the patient whom its outermost PatientID names. So two files of
+/// one patient are moved by the same days under one key: 1 to 3,652 days into the past.
 pub fn one_patient_one_move()
     ensures of_patient { DaysAreOfPatient }
     ensures has_days { PatientHasDays }
@@ -153,9 +153,10 @@ pub fn deidentified_twice()
     ensures { DeidentifiedTwice }
 {}
 
-/// dcmdeid by `+rm N`, by `-N` on that output, and by `N` on the next one writes at last what it wrote at first. Dates
-/// alone are made anew: unique identifiers are retained, and no pseudonyms are asked for. The first two runs are on
-/// files without fault. The third one refuses nothing: its status is 0 or 3.
+/// Dates that dcmdeid moves, moves back and moves again are as at first. It is run by `+rm N` on a file without fault,
+/// by `-N` on that output, and by `N` on the output of that, and writes what the first run wrote. Dates alone are made
+/// anew: unique identifiers are retained, and no pseudonyms are asked for. The last run refuses nothing: its status is
+/// 0 or 3.
 pub fn there_and_back()
     ensures { ThereAndBack }
 {}
