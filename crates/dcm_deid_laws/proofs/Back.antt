@@ -3,4 +3,5 @@ pub mod Texts
 pub mod Dates
 pub mod Left
 pub mod Framed
+pub mod Bytes
 pub mod Again

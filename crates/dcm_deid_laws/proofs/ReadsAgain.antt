@@ -15,8 +15,10 @@ use Rattle.dcm_base.specs.Tables.Syntax.{read_by}
 use Rattle.dcm_base.specs.Tree.Front.{Front}
 use Rattle.dcm_base.specs.Tree.Tree.{Trees}
 use Rattle.dcm_base.proofs.DataSets.OneAnswer.{reads_once}
+use Rattle.dcm_base.proofs.DumpsBack.Texts.{Bytes, bytes_of}
 use Rattle.dcm_base.proofs.DataSets.OwnSyntax.{own_reads}
 use Rattle.dcm_sinks.proofs.ReadBack.RecodeReads.{IsReady, read_ready, source_whole}
+use Rattle.dcm_editor_laws.proofs.ReadBack.BytesKept.{set_written}
 use Rattle.dcm_editor_laws.proofs.ReadBack.EditedReads.{front_reads}
 use Rattle.dcm_editor_laws.proofs.ReadBack.Plain.{plain, plain_fits, plain_read}
 use Rattle.dcm_editor_laws.proofs.ReadBack.StaysReady.{FrontReady}
@@ -26,6 +28,7 @@ use Rattle.dcm_deid.specs.Alike.{moving}
 use Rattle.dcm_deid.specs.MadeNew.{made_new}
 use Rattle.dcm_deid.specs.declared.fate.Options.{Options}
 use Rattle.dcm_deid.specs.declared.fate.Depth.TheVariants.{Outermost}
+use Rattle.dcm_deid.specs.declared.fate.ReadAs.TheVariants.{AsBytes}
 use Rattle.dcm_deid.specs.Deidentify.{deidentified_set}
 use Rattle.dcm_deid.specs.Fate.{fate_as}
 use Rattle.dcm_deid_laws.specs.Laws.{MakesNothingAnew, MovesDatesAlone, left_moved}
@@ -37,7 +40,10 @@ use Rattle.dcm_deid_laws.specs.Taken.{Takes}
 use Rattle.dcm_deid_laws.proofs.Clean.{set_back, unsaid_clean}
 use Rattle.dcm_deid_laws.proofs.Named.{AreNamed, spelled_named}
 use Rattle.dcm_deid_laws.proofs.Back.Again.{left_there_again, moved_back_framed as set_framed}
+use Rattle.dcm_deid_laws.proofs.Back.Bytes.{MakesBytes, left_holds}
+use Rattle.dcm_deid_laws.proofs.Back.Dates.{made_bytes}
 use Rattle.dcm_deid_laws.proofs.Back.Framed.{IsFramed}
+use Rattle.dcm_deid_laws.proofs.Twice.Fates.{dates_alone}
 use Rattle.dcm_deid_laws.proofs.Twice.Again.{Knows, twice}
 use Rattle.dcm_deid_laws.proofs.Unsaid.{unsaid_normal}
 use Rattle.dcm_base.specs.declared.fault.Fault.{Fault}
@@ -49,6 +55,7 @@ use Rattle.dcm_stream.specs.Follows.{BarsAs}
 use Rattle.dcm_stream.specs.Reading.{end_shows, finish, read_all}
 use Rattle.dcm_stream.proofs.Steps.Follows.{answers}
 use Rattle.dcm_sinks.proofs.ReadBack.Accepted.{AllAccepted, machine_accepted}
+use Rattle.dcm_editor.proofs.ReadBack.BytesRead.{HoldsBytes, trees_read}
 use Rattle.dcm_editor.proofs.ReadBack.ReadsAscend.{reads_ascend}
 use Rattle.dcm_deid_laws.proofs.Allowed.{Passes, all_left_passes, identity_heads, normal_passes, read_passes}
 use Rattle.dcm_deid_laws.proofs.IdentityReads.{identity_reads}
@@ -246,3 +253,14 @@ module _ (options : Options) (key : List ℕ) (days : ℤ) (s : Syntax) (at : �
       let one : left_moved options key days f ≡ read_whole (last_tag None w.trees) (made there w.trees) = ap (left_moved options key days) w.is ∙ made_is there w.trees in
       subst (λ (g : Front). IsFramed (recode s (left_moved options key (neg_ℤ days) (normal_front s g))) (recode s g)) (sym one)
       (framed_by _ _ _ _ (written away first) (recodes_whole (made there w.trees) (last_tag None w.trees)) (set_framed options key days given s w.trees (spelled_named s w.trees h.bytes [] w.spelled)))
+
+  -- what is written is bytes
+  makes : MakesBytes there (made_new there key)
+  makes = λ depth t what b e. made_bytes options key days given.2 what b (dates_alone there given.0 given.1 what depth AsBytes t e)
+
+  pub left_bytes : Bytes (recode s (left_moved options key days f))
+  left_bytes =
+      let w = source_whole (plain s) s h.start h.bytes f h.begins h.are_bytes (in_plain there key s at f h) in
+      let source : HoldsBytes w.trees = (trees_read s w.trees h.bytes [] w.spelled (bytes_of h.bytes h.are_bytes)).0 in
+      subst Bytes (sym (ap (λ (g : Front). recode s (left_moved options key days g)) w.is ∙ written there w.trees))
+      (set_written s (made there w.trees) (left_holds there (made_new there key) makes Outermost w.trees source))

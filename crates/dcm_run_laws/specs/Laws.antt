@@ -26,7 +26,6 @@ use Rattle.dcm_cli.specs.Status.{DONE, REMARK}
 use Rattle.dcm_run_laws.specs.ReadsAgain.{InOutput, InWholeOutput, IsConverted, IsModified, IsTaken}
 use Rattle.dcm_run_laws.specs.ReadsAgain.{ReadsConverted, ReadsModified, ReadsTaken}
 use Rattle.std.specs.Prelude.{◌≡◌, ◌⊎◌, Bool, List, None, Option, false, neg_ℤ, true, ℕ, ℤ}
-use Rattle.dcm_base.specs.Tables.Number.{AreBytes}
 use Rattle.dcm_base.specs.Tables.Syntax.{read_by}
 use Rattle.dcm_base.specs.declared.mode.Mode.TheVariants.{Full}
 use Rattle.dcm_base.specs.Reading.Stop.{Stop}
@@ -189,7 +188,7 @@ DeidentifiedTwice =
 abbrev pub ThereAndBack : Type 0
 ThereAndBack =
     (options : Options) (reports : Bool) (days : ℤ) (key input : List ℕ) (a b c : Answer) (m : Meta) (coding : Coding)
-    (f : Front) → IsTaken (moving options days) reports key input a m coding f → AreBytes a.output
+    (f : Front) → IsTaken (moving options days) reports key input a m coding f
     → MovesDatesAlone options → Answers (words.deidentify (moving options (neg_ℤ days)) reports key) a.output b
     → Answers (words.deidentify (moving options days) reports key) b.output c
     → (c.output ≡ a.output) × ((c.status ≡ DONE) ⊎ (c.status ≡ REMARK))

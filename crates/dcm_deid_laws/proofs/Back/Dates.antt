@@ -2,6 +2,7 @@
 use Rattle.std.proofs.Common.{◌≡◌, ◌∙◌, ap, sym, refl, ℕ, ℤ, List, length, true, false}
 use Rattle.std.specs.Prelude.{neg_ℤ}
 use Rattle.dcm_base.specs.Tables.Transfer.{without_pads}
+use Rattle.dcm_base.proofs.DumpsBack.Texts.{Bytes}
 use Rattle.dcm_dates.specs.declared.moving.DateKind.{DateKind}
 use Rattle.dcm_dates.specs.declared.moving.DateKind.TheVariants.{Da, Dt}
 use Rattle.dcm_deid.specs.Alike.{moved_by, moving}
@@ -13,7 +14,7 @@ use Rattle.dcm_deid.specs.declared.fate.Temporal.TheVariants.{Removed, Full, Mod
 use Rattle.dcm_deid.specs.Fate.{are_full, are_modified}
 use Rattle.dcm_deid.specs.MadeNew.{days_of, left_of, made_new}
 use Rattle.dcm_dates.specs.Moved.{moved}
-use Rattle.dcm_deid_laws.proofs.Back.Texts.{anew, back_size, there_again}
+use Rattle.dcm_deid_laws.proofs.Back.Texts.{anew, back_size, moved_bytes, there_again}
 use Rattle.dcm_deid_laws.proofs.Twice.Fates.{IsMoved}
 
 days_are : (dates : Temporal) (days : ℤ) → are_modified dates ≡ true → days_of (moved_by days dates) ≡ days
@@ -53,3 +54,10 @@ module _ (options : Options) (key : List ℕ) (days : ℤ) (given : are_modified
   made_size Pseudonym b h = absurd h
   made_size MovedDate b h = back_size_by Da _ _ days b (days_are options.dates days given) (days_are options.dates (neg_ℤ days) given)
   made_size MovedDateTime b h = back_size_by Dt _ _ days b (days_are options.dates days given) (days_are options.dates (neg_ℤ days) given)
+
+  pub made_bytes : (made : NewValue) (b : List ℕ) → IsMoved made → Bytes (there made b)
+  unfolding made_new left_of
+  made_bytes Uid b h = absurd h
+  made_bytes Pseudonym b h = absurd h
+  made_bytes MovedDate b h = moved_bytes Da _ b
+  made_bytes MovedDateTime b h = moved_bytes Dt _ b

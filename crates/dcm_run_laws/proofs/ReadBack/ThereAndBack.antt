@@ -1,5 +1,5 @@
 -- Runs of dcmdeid that move dates, move them back, and move them again.
-use Rattle.std.proofs.Common.{◌≡◌, ◌∙◌, ap, sym, subst, refl, ℕ, ℤ, ◌≤◌, List, ◌++◌, length, Bool, arith}
+use Rattle.std.proofs.Common.{◌≡◌, ◌∙◌, ap, sym, subst, refl, ℕ, ℤ, ◌≤◌, List, [], ◌++◌, length, Bool, arith}
 use Rattle.std.specs.Prelude.{◌⊎◌, neg_ℤ}
 use Rattle.dcm_base.specs.declared.syntax.Coding.{Coding}
 use Rattle.dcm_base.specs.declared.syntax.Syntax.{Syntax}
@@ -10,15 +10,21 @@ use Rattle.dcm_base.specs.File.MetaGroup.{META_LIMIT, group_place, the_end}
 use Rattle.dcm_base.specs.File.MetaReads.{Meta, PREFIX}
 use Rattle.dcm_base.specs.Reading.Reads.{INPUT_LIMIT}
 use Rattle.dcm_base.specs.Reading.Stop.{complete}
-use Rattle.dcm_base.specs.Tables.Number.{AreBytes}
+use Rattle.dcm_base.specs.Tables.Syntax.{Little}
 use Rattle.dcm_base.specs.Tree.Front.{Front}
+use Rattle.dcm_base.proofs.DumpsBack.Numbers.{Bytes-append}
+use Rattle.dcm_base.proofs.DumpsBack.Texts.{Bytes, bytes_of}
 use Rattle.dcm_sinks.specs.MetaAgain.{meta_again}
+use Rattle.dcm_sinks.proofs.ReadBack.Sources.{a_byte}
+use Rattle.dcm_build_laws.proofs.Rebuilds.FilesBuild.{headed}
+use Rattle.dcm_editor.proofs.ReadBack.BytesRead.{HoldsBytes, trees_read}
 use Rattle.dcm_deid.specs.Alike.{moving}
 use Rattle.dcm_deid.specs.MadeNew.{made_new}
 use Rattle.dcm_deid.specs.declared.fate.Options.{Options}
 use Rattle.dcm_deid.specs.Meta.{meta_without_identity, no_preamble}
 use Rattle.dcm_deid.specs.Saying.{deidentified}
 use Rattle.dcm_deid_laws.specs.Laws.{MovesDatesAlone}
+use Rattle.dcm_deid_laws.proofs.Back.Bytes.{group_bytes, no_preamble_bytes, prefix_bytes}
 use Rattle.dcm_deid_laws.proofs.Back.Framed.{IsFramed, framed_ends}
 use Rattle.dcm_deid_laws.proofs.ReadsAgain as laws
 use Rattle.dcm_words.specs.Words.{Job, deidentify}
@@ -26,7 +32,7 @@ use Rattle.dcm_cli.specs.Answer.{Answer, Answers, Source, answer, done_lines, fi
 use Rattle.dcm_run_laws.specs.Laws.{ThereAndBack}
 use Rattle.dcm_run_laws.specs.ReadsAgain.{IsTaken}
 use Rattle.dcm_cli.proofs.Runs.OneSource.{one_source}
-use Rattle.dcm_run_laws.proofs.ReadBack.DeidentifiedReads.{output_is, takes}
+use Rattle.dcm_run_laws.proofs.ReadBack.DeidentifiedReads.{output_is, takes, was_read}
 use Rattle.dcm_run_laws.proofs.ReadBack.DeidentifiedTwice.{group_twice, read_again}
 use Rattle.dcm_run_laws.proofs.ReadBack.ModifiedTwice.{zero_or_three}
 use Rattle.dcm_run_laws.proofs.ReadBack.ReadsAgain.{all_size}
@@ -94,6 +100,17 @@ module _ (options : Options) (reports : Bool) (days : ℤ) (key input : List ℕ
   framed : IsFramed (recode s (without away set_again)) (recode s (without there f))
   framed = laws.moved_back_framed options key days s (set_at group) f (takes there reports key input a m coding f h) given
 
+  -- what the first one wrote is bytes
+  output_bytes : Bytes a.output
+  output_bytes =
+      let r = was_read there reports key input a m coding f h in
+      let head = headed input m r.group r.head.named r.head.head in
+      let elements : HoldsBytes m.elements = (trees_read Little m.elements r.group [] head.spelled (head.bytes (bytes_of input h.are_bytes))).0 in
+      let set : Bytes (recode s (without there f)) = laws.left_bytes options key days s (set_at group) f (takes there reports key input a m coding f h) given in
+      subst Bytes (sym (output_is there reports key input a m coding f h))
+      (Bytes-append (no_preamble ++ PREFIX ++ group) (recode s (without there f))
+      (Bytes-append (no_preamble ++ PREFIX) group (Bytes-append no_preamble PREFIX no_preamble_bytes prefix_bytes) (group_bytes there key given.0 m.elements m.uid elements head.uid_is)) set)
+
   module _ (y : Answers (deidentify away reports key) a.output b) where
     second_source : y.source ≡ file again coding set_again complete
     second_source = one_source (deidentify away reports key) a.output y.source (file again coding set_again complete) y.reads (read_again there reports key input a m coding f h away)
@@ -110,9 +127,9 @@ module _ (options : Options) (reports : Bool) (days : ℤ) (key input : List ℕ
         let few = h.room.within in
         omega (arith, size, was, groups, sets, few)
 
-    pub second_taken : AreBytes a.output → IsTaken away reports key a.output b again coding set_again
-    second_taken are = record {
-      are_bytes = are;
+    pub second_taken : IsTaken away reports key a.output b again coding set_again
+    second_taken = record {
+      are_bytes = λ i. a_byte a.output i output_bytes;
       answers = y;
       source_is = second_source;
       room = record {
@@ -124,5 +141,5 @@ module _ (options : Options) (reports : Bool) (days : ℤ) (key input : List ℕ
     }
 
 pub there_and_back : ThereAndBack
-there_and_back options reports days key input a b c m coding f h are given y z =
-    third_answer options reports days key input a b m coding f given h (second_taken options reports days key input a b m coding f given h y are) c z
+there_and_back options reports days key input a b c m coding f h given y z =
+    third_answer options reports days key input a b m coding f given h (second_taken options reports days key input a b m coding f given h y) c z
