@@ -57,13 +57,13 @@ more_by false h p = inl refl
 bars_more : BarsMore AtPatient patient_bar identity_bar
 bars_more = λ f tag vr declared. more_by (is_above tag (innermost_reached f)) (holds_identity tag) (reaches_patient (items_open f) tag)
 
-told_as : (n offset : ℕ) (c : Bool) → cond c (at_the_cut (refused NoPatientId offset)) (refused NoPatientId offset) ≡ refused NoPatientId offset
-told_as n offset true = refl
-told_as n offset false = refl
+told_as : (offset : ℕ) (c : Bool) → cond c (at_the_cut (refused NoPatientId offset)) (refused NoPatientId offset) ≡ refused NoPatientId offset
+told_as offset true = refl
+told_as offset false = refl
 
 refused_there : (n : ℕ) (why up_to : Stop) → IsSuch AtPatient why → up_to ≡ told_stop n why → (offset : ℕ) × (up_to ≡ refused NoPatientId offset)
 refused_there n why up_to (fault, offset, at_patient, refuses) is =
-    (offset, is ∙ ap (told_stop n) (refuses ∙ ap (λ (x : Fault). refused x offset) at_patient) ∙ told_as n offset (nat_lt INPUT_LIMIT n))
+    (offset, is ∙ ap (told_stop n) (refuses ∙ ap (λ (x : Fault). refused x offset) at_patient) ∙ told_as offset (nat_lt INPUT_LIMIT n))
 
 -- ---- whom the data set names
 
