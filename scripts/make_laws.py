@@ -34,11 +34,11 @@ ON_THE_WAY = {
     "dcm_uid": "new_uids_are_uids pseudonyms_agree messages_differ one_patient_one_move",
     "dcm_deid": """nothing_flows taken_is_gone actions_ascend bar_steps deidentify_steps pixel_steps nothing_flows_out only_said_is_put pairs_are_alike
         what_stays_is_known uids_agree""",
-    "dcm_deid_laws": "deidentified_reads written_is_clean deidentified_twice",
+    "dcm_deid_laws": "deidentified_reads written_is_clean deidentified_twice there_and_back",
     "dcm_table": "meta_steps row_steps table_bar_steps table_by_atoms row_is_valid",
     "dcm_names": "lines_in_pieces",
     "dcm_cli": "sure_grows",
-    "dcm_run_laws": "output_for_others output_opens_alike",
+    "dcm_run_laws": "output_for_others output_opens_alike first_reading_ends",
     "dcm_tables": "row_is_read row_is_done row_is_settled row_stays row_is_decided",
 }
 

@@ -8,4 +8,5 @@ pub mod Unsaid
 pub mod Heads
 pub mod Instance
 pub mod Twice
+pub mod Back
 pub mod ReadsAgain

@@ -1,5 +1,6 @@
 -- What is written without identity reads back as its normal form.
-use Rattle.std.proofs.Common.{◌≡◌, ◌∙◌, ap, sym, refl, subst, ℕ, ◌+◌, ◌≤◌, List, [], length, None, Option, true, append-nil, Some, ◌∷◌, ◌++◌, Bool, false, arith, if◌then◌else◌}
+use Rattle.std.proofs.Common.{◌≡◌, ◌∙◌, ap, sym, refl, subst, ℕ, ℤ, ◌+◌, ◌≤◌, List, [], length, None, Option, true, append-nil, Some, ◌∷◌, ◌++◌, Bool, false, arith, if◌then◌else◌}
+use Rattle.std.specs.Prelude.{neg_ℤ}
 use Rattle.dcm_base.specs.declared.dictionary.Dictionary.{Dictionary}
 use Rattle.dcm_base.specs.declared.dictionary.Dictionary.TheVariants.{Extract, Standard}
 use Rattle.dcm_base.specs.declared.syntax.Syntax.{Syntax}
@@ -14,19 +15,23 @@ use Rattle.dcm_base.specs.Tables.Syntax.{read_by}
 use Rattle.dcm_base.specs.Tree.Front.{Front}
 use Rattle.dcm_base.specs.Tree.Tree.{Trees}
 use Rattle.dcm_base.proofs.DataSets.OneAnswer.{reads_once}
+use Rattle.dcm_base.proofs.DumpsBack.Texts.{Bytes, bytes_of}
 use Rattle.dcm_base.proofs.DataSets.OwnSyntax.{own_reads}
 use Rattle.dcm_sinks.proofs.ReadBack.RecodeReads.{IsReady, read_ready, source_whole}
+use Rattle.dcm_editor_laws.proofs.ReadBack.BytesKept.{set_written}
 use Rattle.dcm_editor_laws.proofs.ReadBack.EditedReads.{front_reads}
 use Rattle.dcm_editor_laws.proofs.ReadBack.Plain.{plain, plain_fits, plain_read}
 use Rattle.dcm_editor_laws.proofs.ReadBack.StaysReady.{FrontReady}
 use Rattle.dcm_editor_laws.proofs.Readers.Bytes.{front_alike}
 use Rattle.dcm_editor_laws.proofs.Readers.Opened.{front_ready_by, standard_opens}
+use Rattle.dcm_deid.specs.Alike.{moving}
 use Rattle.dcm_deid.specs.MadeNew.{made_new}
 use Rattle.dcm_deid.specs.declared.fate.Options.{Options}
 use Rattle.dcm_deid.specs.declared.fate.Depth.TheVariants.{Outermost}
+use Rattle.dcm_deid.specs.declared.fate.ReadAs.TheVariants.{AsBytes}
 use Rattle.dcm_deid.specs.Deidentify.{deidentified_set}
 use Rattle.dcm_deid.specs.Fate.{fate_as}
-use Rattle.dcm_deid_laws.specs.Laws.{MakesNothingAnew}
+use Rattle.dcm_deid_laws.specs.Laws.{MakesNothingAnew, MovesDatesAlone, left_moved}
 use Rattle.dcm_deid.specs.Remains.{AreClean}
 use Rattle.dcm_deid.specs.Saying.{deidentified, read_whole, said, unsaid, whole_of}
 use Rattle.dcm_deid.proofs.Trees.Said.{of_whole, only_said_is_put, set_with_all}
@@ -34,6 +39,11 @@ use Rattle.dcm_deid_laws.specs.Clean.{NothingIsLeft, WrittenIsClean}
 use Rattle.dcm_deid_laws.specs.Taken.{Takes}
 use Rattle.dcm_deid_laws.proofs.Clean.{set_back, unsaid_clean}
 use Rattle.dcm_deid_laws.proofs.Named.{AreNamed, spelled_named}
+use Rattle.dcm_deid_laws.proofs.Back.Again.{left_there_again, moved_back_framed as set_framed}
+use Rattle.dcm_deid_laws.proofs.Back.Bytes.{MakesBytes, left_holds}
+use Rattle.dcm_deid_laws.proofs.Back.Dates.{made_bytes}
+use Rattle.dcm_deid_laws.proofs.Back.Framed.{IsFramed}
+use Rattle.dcm_deid_laws.proofs.Twice.Fates.{dates_alone}
 use Rattle.dcm_deid_laws.proofs.Twice.Again.{Knows, twice}
 use Rattle.dcm_deid_laws.proofs.Unsaid.{unsaid_normal}
 use Rattle.dcm_base.specs.declared.fault.Fault.{Fault}
@@ -45,6 +55,7 @@ use Rattle.dcm_stream.specs.Follows.{BarsAs}
 use Rattle.dcm_stream.specs.Reading.{end_shows, finish, read_all}
 use Rattle.dcm_stream.proofs.Steps.Follows.{answers}
 use Rattle.dcm_sinks.proofs.ReadBack.Accepted.{AllAccepted, machine_accepted}
+use Rattle.dcm_editor.proofs.ReadBack.BytesRead.{HoldsBytes, trees_read}
 use Rattle.dcm_editor.proofs.ReadBack.ReadsAscend.{reads_ascend}
 use Rattle.dcm_deid_laws.proofs.Allowed.{Passes, all_left_passes, identity_heads, normal_passes, read_passes}
 use Rattle.dcm_deid_laws.proofs.IdentityReads.{identity_reads}
@@ -194,3 +205,62 @@ module _ (options : Options) (key : List ℕ) (s : Syntax) (at : ℕ) (f : Front
       subst (λ (g : Front). Reads identity_bar s at (recode s left) g complete) (sym is)
       (identity_reads s at (recode s left) again (omega (arith, limit)) (normal_passes s None (left_of w.trees) (all_left_passes options key w.trees (trees_pass w.trees w.is)))
       (subst (λ (g : Front). Reads (target_bar s) s at (recode s left) g complete) is own_again))
+
+-- ---- there and back again
+
+module _ (options : Options) (key : List ℕ) (days : ℤ) (s : Syntax) (at : ℕ) (f : Front) (h : Takes (moving options days) key s at f) (given : MovesDatesAlone options) where
+  abbrev there : Options
+  there = moving options days
+
+  abbrev away : Options
+  away = moving options (neg_ℤ days)
+
+  -- without identity and with what says so, read whole
+  abbrev made : Options → Trees → Trees
+  made by set = set_with_all (said by) (deidentified_set by (made_new by key) Outermost set)
+
+  made_is : (by : Options) (set : Trees) → deidentified by (made_new by key) (whole_front set) ≡ read_whole (last_tag None set) (made by set)
+  made_is by set = of_whole by (made_new by key) (last_tag None set) set
+
+  written : (by : Options) (set : Trees) → recode s (deidentified by (made_new by key) (whole_front set)) ≡ recode_set s (made by set)
+  unfolding recode
+  written by set = ap (recode s) (made_is by set) ∙ append-nil (recode_set s (made by set))
+
+  recodes_whole : (x : Trees) (reached : Option Tag) → recode s (read_whole reached x) ≡ recode_set s x
+  unfolding recode
+  recodes_whole x reached = append-nil (recode_set s x)
+
+  framed_by : (x y u v : List ℕ) → x ≡ u → y ≡ v → IsFramed u v → IsFramed x y
+  framed_by x y u v e g k = subst (λ (z : List ℕ). IsFramed z y) (sym e) (subst (IsFramed u) (sym g) k)
+
+  pub there_and_back : recode s (left_moved options key days (normal_front s (left_moved options key (neg_ℤ days) (normal_front s (left_moved options key days f))))) ≡ recode s (left_moved options key days f)
+  there_and_back =
+      let w = source_whole (plain s) s h.start h.bytes f h.begins h.are_bytes (in_plain there key s at f h) in
+      let first : Trees = normal s (made there w.trees) in
+      let second : Trees = normal s (made away first) in
+      let one : left_moved options key days f ≡ read_whole (last_tag None w.trees) (made there w.trees) = ap (left_moved options key days) w.is ∙ made_is there w.trees in
+      ap (λ (g : Front). recode s (left_moved options key days (normal_front s (left_moved options key (neg_ℤ days) (normal_front s g))))) one
+      ∙ ap (λ (g : Front). recode s (left_moved options key days (normal_front s g))) (made_is away first)
+      ∙ written there second
+      ∙ left_there_again options key days given s w.trees (spelled_named s w.trees h.bytes [] w.spelled)
+      ∙ sym (ap (λ (g : Front). recode s (left_moved options key days g)) w.is ∙ written there w.trees)
+
+  -- what is written in between is as long, and begins alike
+  pub moved_back_framed : IsFramed (recode s (left_moved options key (neg_ℤ days) (normal_front s (left_moved options key days f)))) (recode s (left_moved options key days f))
+  moved_back_framed =
+      let w = source_whole (plain s) s h.start h.bytes f h.begins h.are_bytes (in_plain there key s at f h) in
+      let first : Trees = normal s (made there w.trees) in
+      let one : left_moved options key days f ≡ read_whole (last_tag None w.trees) (made there w.trees) = ap (left_moved options key days) w.is ∙ made_is there w.trees in
+      subst (λ (g : Front). IsFramed (recode s (left_moved options key (neg_ℤ days) (normal_front s g))) (recode s g)) (sym one)
+      (framed_by _ _ _ _ (written away first) (recodes_whole (made there w.trees) (last_tag None w.trees)) (set_framed options key days given s w.trees (spelled_named s w.trees h.bytes [] w.spelled)))
+
+  -- what is written is bytes
+  makes : MakesBytes there (made_new there key)
+  makes = λ depth t what b e. made_bytes options key days given.2 what b (dates_alone there given.0 given.1 what depth AsBytes t e)
+
+  pub left_bytes : Bytes (recode s (left_moved options key days f))
+  left_bytes =
+      let w = source_whole (plain s) s h.start h.bytes f h.begins h.are_bytes (in_plain there key s at f h) in
+      let source : HoldsBytes w.trees = (trees_read s w.trees h.bytes [] w.spelled (bytes_of h.bytes h.are_bytes)).0 in
+      subst Bytes (sym (ap (λ (g : Front). recode s (left_moved options key days g)) w.is ∙ written there w.trees))
+      (set_written s (made there w.trees) (left_holds there (made_new there key) makes Outermost w.trees source))

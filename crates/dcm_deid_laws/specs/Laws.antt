@@ -1,5 +1,5 @@
 -- The statements of the laws.
-use Rattle.std.specs.Prelude.{◌≡◌, ℕ, List, true, false}
+use Rattle.std.specs.Prelude.{◌≡◌, ℕ, ℤ, List, neg_ℤ, true, false}
 use Rattle.dcm_base.specs.declared.dictionary.Dictionary.{Dictionary}
 use Rattle.dcm_base.specs.declared.syntax.Syntax.{Syntax}
 use Rattle.dcm_base.specs.Conversion.Normal.{normal_front}
@@ -9,6 +9,7 @@ use Rattle.dcm_base.specs.Reading.Reads.{Reads}
 use Rattle.dcm_base.specs.Reading.Stop.{Stop, complete}
 use Rattle.dcm_base.specs.Tables.Syntax.{read_by}
 use Rattle.dcm_base.specs.Tree.Front.{Front}
+use Rattle.dcm_deid.specs.Alike.{moving}
 use Rattle.dcm_deid.specs.MadeNew.{made_new}
 use Rattle.dcm_deid.specs.declared.fate.Options.{Options}
 use Rattle.dcm_deid.specs.Fate.{are_modified}
@@ -49,3 +50,22 @@ DeidentifiedTwice =
     → MakesNothingAnew options
     → recode s (deidentified options (made_new options key) (normal_front s (deidentified options (made_new options key) f)))
     ≡ recode s (deidentified options (made_new options key) f)
+
+-- nothing but dates is: they are moved by days
+abbrev pub MovesDatesAlone : Options → Type 0
+MovesDatesAlone options =
+    (options.uids ≡ true) × (options.pseudonyms ≡ false) × (are_modified options.dates ≡ true)
+
+-- a data set without identity, its dates moved by so many days
+abbrev pub left_moved : Options → (key : List ℕ) → (days : ℤ) → Front → Front
+left_moved options key days f = deidentified (moving options days) (made_new (moving options days) key) f
+
+-- moved by some days, read and moved back, and read and moved by the same days once more, it is written as it was the
+-- first time
+abbrev pub ThereAndBack : Type 0
+ThereAndBack =
+    (options : Options) (key : List ℕ) (days : ℤ) (s : Syntax) (at : ℕ) (f : Front)
+    → Takes (moving options days) key s at f → MovesDatesAlone options
+    → recode s (left_moved options key days (normal_front s
+    (left_moved options key (neg_ℤ days) (normal_front s (left_moved options key days f)))))
+    ≡ recode s (left_moved options key days f)

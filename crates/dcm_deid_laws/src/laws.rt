@@ -1,5 +1,6 @@
 //! Laws of the definitions. Each function takes nothing and makes no call: its contract is the law.
 ghost use Rattle.dcm_deid_laws.specs.Laws.{DeidentifiedReads, DeidentifiedTwice, ReadsForDcmdeid, TakenIsGone};
+ghost use Rattle.dcm_deid_laws.specs.Laws.{ThereAndBack};
 
 /// What is written without identity reads back without fault, by each of the two dictionaries, as its normal form. It is
 /// of a data set that was read without fault by the whole dictionary, it is read in the syntax of the input, and it ends
@@ -21,4 +22,11 @@ pub fn written_is_clean()
 /// again.
 pub fn deidentified_twice()
     ensures { DeidentifiedTwice }
+{}
+
+/// Dates that are moved by some days, moved back, and moved by the same days again are written as they were at first.
+/// So is all else that is left of a data set, where nothing but dates is made anew. Each time it is what was written
+/// before, read again.
+pub fn there_and_back()
+    ensures { ThereAndBack }
 {}

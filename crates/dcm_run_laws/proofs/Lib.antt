@@ -1,2 +1,3 @@
 pub mod ReadBack
 pub mod Runs
+pub mod Patient

@@ -6,3 +6,4 @@ pub mod OutputEdited
 pub mod ModifiedTwice
 pub mod OtherReaders
 pub mod DeidentifiedTwice
+pub mod ThereAndBack

@@ -1,23 +1,28 @@
 -- By which days the dates of a file are moved where a key makes them.
 use Rattle.std.specs.Prelude.{◌≡◌, ◌≢◌, ℕ, ℤ, negsuc, ◌≤ℤ◌, true, Bool, List, [], drop, length, Some}
+use Rattle.std.specs.Option.{option_map_or}
 use Rattle.dcm_base.specs.declared.dictionary.Dictionary.TheVariants.{Standard}
 use Rattle.dcm_base.specs.declared.fault.Stop.{Stop as FaultAt}
 use Rattle.dcm_base.specs.declared.syntax.Coding.{Coding}
 use Rattle.dcm_base.specs.File.MetaReads.{Meta}
-use Rattle.dcm_base.specs.Reading.Stop.{Stop}
+use Rattle.dcm_base.specs.Reading.Bars.{PATIENT_ID, identity_bar, patient_bar}
+use Rattle.dcm_base.specs.Reading.Reads.{Reads}
+use Rattle.dcm_base.specs.Reading.Stop.{Stop, complete, refused}
 use Rattle.dcm_base.specs.Tree.Front.{Front}
+use Rattle.dcm_base.specs.Tree.Tree.{Trees}
 use Rattle.dcm_deid.specs.declared.fate.Depth.TheVariants.{Outermost}
 use Rattle.dcm_deid.specs.declared.fate.Options.{Options}
 use Rattle.dcm_deid.specs.declared.patient.Naming.TheVariants.{Ended}
 use Rattle.dcm_deid.specs.Alike.{Alike}
 use Rattle.dcm_deid.specs.Patient.{patient_held}
 use Rattle.dcm_deid.specs.Saying.{whole_of}
-use Rattle.dcm_uid.specs.Pseudonym.{days}
+use Rattle.dcm_deid.specs.Uids.{unpadded}
+use Rattle.dcm_uid.specs.Pseudonym.{days, patient_of as named_by}
 use Rattle.dcm_words.specs.Words.{with_days}
 use Rattle.dcm_cli.specs.declared.first.FirstEnd.{FirstEnd}
 use Rattle.dcm_cli.specs.declared.first.FirstEnd.TheVariants.{Days}
 use Rattle.dcm_cli.specs.Answer.{Answer, HeadIs, set_at}
-use Rattle.dcm_cli.specs.First.{FirstReads, SetReads, fault_at, is_at_patient, patient_of}
+use Rattle.dcm_cli.specs.First.{FirstReads, SetReads, fault_at, is_at_patient, patient_end, patient_of}
 use Rattle.dcm_run_laws.specs.Flows.{IsDeidentified, meta_left}
 
 -- a file names this patient: its reading up to PatientID stops at a whole value of that, at the outermost level
@@ -54,6 +59,26 @@ DaysAreOfPatient =
 abbrev pub PatientHasDays : Type 0
 PatientHasDays =
     (key bytes named : List ℕ) → NamesPatient bytes named → named ≢ [] → FirstReads key bytes (Days (days key named))
+
+-- the patient whom the first PatientID among the elements of a data set names; nobody where there is none, or its value
+-- is padding alone or too long
+abbrev pub patient_in : Trees → List ℕ
+patient_in set = option_map_or named_by (unpadded PATIENT_ID set) []
+
+-- where a reading stops, or the end of the input
+abbrev pub place_of : Stop → (size : ℕ) → ℕ
+place_of complete size = size
+place_of (refused fault offset) size = offset
+
+-- of a file that is read without fault the first reading ends in the days of the patient whom its outermost PatientID
+-- names, and without such a one in R17, where the reading stops that goes up to PatientID
+abbrev pub FirstReadingDecides : Type 0
+FirstReadingDecides =
+    (key bytes : List ℕ) (m : Meta) (group : List ℕ) (coding : Coding) (f before : Front) (up_to : Stop)
+    (end : FirstEnd) → HeadIs Standard bytes m group coding
+    → Reads identity_bar coding.syntax (set_at group) (drop (set_at group) bytes) f complete
+    → Reads patient_bar coding.syntax (set_at group) (drop (set_at group) bytes) before up_to
+    → FirstReads key bytes end → end ≡ patient_end key (patient_in (whole_of f)) (place_of up_to (length bytes))
 
 -- so two files of one patient are moved by the same days, under one key
 abbrev pub OnePatientOneMove : Type 0

@@ -15,16 +15,17 @@ use Rattle.dcm_editor_laws.specs.Others.{any_changes, set_without, KeepsSign}
 use Rattle.dcm_editor_laws.specs.Readers.{HidesNothing, OpensAlike}
 use Rattle.dcm_editor_laws.specs.Repeating.{EraseByNoNumber}
 use Rattle.dcm_deid.specs.declared.fate.Options.{Options}
+use Rattle.dcm_deid.specs.Alike.{moving}
 use Rattle.dcm_deid.specs.Saying.{whole_of}
 use Rattle.dcm_deid.specs.Uids.{instance_of_head, instance_of_set}
 use Rattle.dcm_deid_laws.specs.Clean.{NothingIsLeft}
-use Rattle.dcm_deid_laws.specs.Laws.{MakesNothingAnew}
+use Rattle.dcm_deid_laws.specs.Laws.{MakesNothingAnew, MovesDatesAlone}
 use Rattle.dcm_words.specs.Words as words
 use Rattle.dcm_cli.specs.Answer.{Answer, Answers, FileReads, file}
 use Rattle.dcm_cli.specs.Status.{DONE, REMARK}
 use Rattle.dcm_run_laws.specs.ReadsAgain.{InOutput, InWholeOutput, IsConverted, IsModified, IsTaken}
 use Rattle.dcm_run_laws.specs.ReadsAgain.{ReadsConverted, ReadsModified, ReadsTaken}
-use Rattle.std.specs.Prelude.{◌≡◌, ◌⊎◌, Bool, List, None, Option, false, true, ℕ}
+use Rattle.std.specs.Prelude.{◌≡◌, ◌⊎◌, Bool, List, None, Option, false, neg_ℤ, true, ℕ, ℤ}
 use Rattle.dcm_base.specs.Tables.Syntax.{read_by}
 use Rattle.dcm_base.specs.declared.mode.Mode.TheVariants.{Full}
 use Rattle.dcm_base.specs.Reading.Stop.{Stop}
@@ -181,3 +182,13 @@ DeidentifiedTwice =
     → IsTaken options reports key input a m coding f → MakesNothingAnew options
     → Answers (words.deidentify options reports key) a.output b
     → (b.output ≡ a.output) × ((b.status ≡ DONE) ⊎ (b.status ≡ REMARK))
+
+-- where dates alone are made anew: a run moves them by some days, one on its output moves them back, and one on the
+-- output of that moves them by the same days again. It writes what the first one wrote
+abbrev pub ThereAndBack : Type 0
+ThereAndBack =
+    (options : Options) (reports : Bool) (days : ℤ) (key input : List ℕ) (a b c : Answer) (m : Meta) (coding : Coding)
+    (f : Front) → IsTaken (moving options days) reports key input a m coding f
+    → MovesDatesAlone options → Answers (words.deidentify (moving options (neg_ℤ days)) reports key) a.output b
+    → Answers (words.deidentify (moving options days) reports key) b.output c
+    → (c.output ≡ a.output) × ((c.status ≡ DONE) ⊎ (c.status ≡ REMARK))

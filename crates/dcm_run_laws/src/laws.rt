@@ -4,9 +4,11 @@ ghost use Rattle.dcm_run_laws.specs.Laws.{OthersStay, ReadsAlike, ErasedAllBy, E
 ghost use Rattle.dcm_run_laws.specs.Laws.{OthersStayBy, ExplicitOpensAlike, OwnOpensAlike, StandardOpensAlike};
 ghost use Rattle.dcm_run_laws.specs.Laws.{ErasedAllSeen, ErasedPrivateSeen, AlikeHidesNothing, ModifiedTwice};
 ghost use Rattle.dcm_run_laws.specs.Laws.{DeidentifiedReads, OutputIsClean, InstanceAgrees, DeidentifiedTwice};
+ghost use Rattle.dcm_run_laws.specs.Laws.{ThereAndBack};
 ghost use Rattle.dcm_run_laws.specs.DumpBuilds.{DumpBuilds};
 ghost use Rattle.dcm_run_laws.specs.NoEdits.{NoEditsConvert};
 ghost use Rattle.dcm_run_laws.specs.FirstLaws.{FirstEndsOnce, FirstEnds, DaysAreOfPatient, PatientHasDays};
+ghost use Rattle.dcm_run_laws.specs.FirstLaws.{FirstReadingDecides};
 ghost use Rattle.dcm_run_laws.specs.FirstLaws.{OnePatientOneMove, MovesBack, NothingFlowsByKey};
 ghost use Rattle.dcm_run_laws.specs.Flows.{NothingFlows};
 
@@ -103,9 +105,15 @@ pub fn first_reading_ends()
     ensures some { FirstEnds }
 {}
 
-/// By which days the dates of a file are moved where the key makes them: by those of the patient whom PatientID at its
-/// outermost level names. So two files of one patient are moved by the same days under one key: 1 to 3,652 days into the
-/// past.
+/// The first reading of a file without fault ends in the days of its outermost PatientID, or in R17. It is R17 where
+/// there is none that is a value, and where that is padding alone, or too long. Its place is that at which a reading
+/// stops that goes up to PatientID and no further: where that stands, else the head above it, else the end of the file.
+pub fn first_reading_decides()
+    ensures { FirstReadingDecides }
+{}
+
+/// The days that the key makes of a file are those of the patient whom its outermost PatientID names. So two files of
+/// one patient are moved by the same days under one key: 1 to 3,652 days into the past.
 pub fn one_patient_one_move()
     ensures of_patient { DaysAreOfPatient }
     ensures has_days { PatientHasDays }
@@ -143,4 +151,12 @@ pub fn instance_agrees()
 /// fault. The second one refuses nothing: its status is 0 or 3.
 pub fn deidentified_twice()
     ensures { DeidentifiedTwice }
+{}
+
+/// Dates that dcmdeid moves, moves back and moves again are as at first. It is run by `+rm N` on a file without fault,
+/// by `-N` on that output, and by `N` on the output of that, and writes what the first run wrote. Dates alone are made
+/// anew: unique identifiers are retained, and no pseudonyms are asked for. The last run refuses nothing: its status is
+/// 0 or 3.
+pub fn there_and_back()
+    ensures { ThereAndBack }
 {}

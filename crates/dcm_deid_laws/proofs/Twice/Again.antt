@@ -175,7 +175,7 @@ module _ (options : Options) (key : List ℕ) where
   fragments_named k Keep t vr parts left h = h
 
   mutual
-    left_named : (k : Syntax) (depth : Depth) (x : Trees) → AreNamed k x → AreNamed k (without depth x)
+    pub left_named : (k : Syntax) (depth : Depth) (x : Trees) → AreNamed k x → AreNamed k (without depth x)
     left_named k depth no_tree h = tt
     left_named k depth (leaf t vr v rest) h = leaf_named k depth (fate_as options depth AsBytes t) t vr v (without depth rest) refl h.0 (left_named (after k t vr v) depth rest h.1)
     left_named k depth (sequence t vr declared items rest) h =
@@ -285,6 +285,10 @@ module _ (options : Options) (key : List ℕ) where
       ∙ with_goes second k (set_with first x) (leaf_is_gone text_tag LO (codes "dcmtools dcmdeid, PS3.15 2021b") refl refl (text_goes options))
       ∙ with_goes first k x (leaf_is_gone removed_tag CS (codes "YES") refl refl (removed_goes options))
 
+  -- where dates do not stay, all that says what was done goes
+  pub said_goes : are_full options.dates ≡ false → (k : Syntax) (x : Trees) → without Outermost (normal k (set_with_all (said options) x)) ≡ without Outermost (normal k x)
+  said_goes e k x = with_goes fourth k (with_three x) (leaf_is_gone dates_tag CS (dates_said options) refl refl (dates_go options e)) ∙ three_go k x
+
   -- ---- and is put again
 
   first_before : InOrder first fourth
@@ -348,8 +352,7 @@ module _ (options : Options) (key : List ℕ) where
 
     by_dates : (b : Bool) → are_full options.dates ≡ b → (x : Trees) → AreNamed s x → Knows s → Clean x → recode_set s (all_with (without Outermost (normal s (all_with x)))) ≡ recode_set s (all_with x)
     by_dates false e x named knows is_clean =
-        let gone : Goes fourth = leaf_is_gone dates_tag CS (dates_said options) refl refl (dates_go options e) in
-        written_again x (normal s (all_with x)) x (with_goes fourth s (with_three x) gone ∙ three_go s x) (left_again options key given s s Outermost x (dictionary_of s, own) named is_clean) refl
+        written_again x (normal s (all_with x)) x (said_goes e s x) (left_again options key given s s Outermost x (dictionary_of s, own) named is_clean) refl
     by_dates true e x named knows is_clean =
         let u : Trees = set_with fourth x in
         let u_named : AreNamed s u = named_if s _ x (put_in dates_tag fourth.1 x) named (put_named e s x knows named) in

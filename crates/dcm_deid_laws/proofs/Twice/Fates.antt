@@ -1,5 +1,5 @@
--- Where unique identifiers are retained, and neither pseudonyms nor moved dates are asked for, no value is made anew.
-use Rattle.std.proofs.Common.{◌≡◌, ◌≢◌, subst, ◌∙◌, ap, sym, refl, Bool, true, false, ◌&&◌, ◌||◌, not, ◌==◌, if◌then◌else◌, List, [], ◌∷◌, Option, Some, None}
+-- Where unique identifiers are retained, and no pseudonyms are asked for, no value is made anew but of dates that are moved.
+use Rattle.std.proofs.Common.{◌≡◌, ◌≢◌, ◌∙◌, ap, sym, refl, Bool, true, false, ◌&&◌, ◌||◌, not, ◌==◌, if◌then◌else◌, List, [], ◌∷◌, Option, Some, None}
 use Rattle.std.specs.Prelude.{find}
 use Rattle.std.specs.List.{list_all, list_any}
 use Rattle.dcm_base.specs.declared.dictionary.Dictionary.TheVariants.{Standard}
@@ -12,7 +12,7 @@ use Rattle.dcm_base.specs.Tables.Tag.{is_tag, tag_number}
 use Rattle.dcm_deid.specs.declared.fate.Fate.{Fate}
 use Rattle.dcm_deid.specs.declared.fate.Fate.TheVariants.{Remove, Empty, Replace, Anew, Keep}
 use Rattle.dcm_deid.specs.declared.fate.NewValue.{NewValue}
-use Rattle.dcm_deid.specs.declared.fate.NewValue.TheVariants.{Pseudonym}
+use Rattle.dcm_deid.specs.declared.fate.NewValue.TheVariants.{Uid, Pseudonym, MovedDate, MovedDateTime}
 use Rattle.dcm_deid.specs.declared.fate.Options.{Options}
 use Rattle.dcm_deid_laws.specs.Laws.{MakesNothingAnew}
 use Rattle.dcm_deid.specs.declared.fate.Retain.{Retain}
@@ -56,10 +56,8 @@ found_passes test passes [] f all is = absurd (cc)
 found_passes test passes (a ∷ rows) f all is =
     found_here passes (test a) a f (find test rows) (both_first (passes a) (list_all passes rows) all) (found_passes test passes rows f (both_second (passes a) (list_all passes rows) all)) is
 
-module _ (options : Options) (nothing : MakesNothingAnew options) (made : NewValue) where
-  given : options.uids ≡ true
-  given = nothing.0
-
+-- a value of another kind than those that dates get, if any
+module _ (options : Options) (given : options.uids ≡ true) (unnamed : options.pseudonyms ≡ false) (made : NewValue) (other : (vr : Vr) → kept_as (are_modified options.dates) vr ≢ Anew made) where
   one_given : (r : Retain) (rest : Bool) → is_uids r ≡ true → (is_given options r || rest) ≡ true
   one_given Uids rest e = ap (λ (b : Bool). b || rest) given
   one_given Device rest e = absurd (cc)
@@ -84,7 +82,7 @@ module _ (options : Options) (nothing : MakesNothingAnew options) (made : NewVal
   kept_or false f k = k
 
   row_fate : (f : Fate) (rs : List Retain) → (not (is_anew f) || list_any is_uids rs) ≡ true → (if keeps options rs then Keep else f) ≢ Anew made
-  row_fate (Anew other) rs e = λ k. (let no : Keep ≡ Anew made = sym (ap (λ (b : Bool). if b then Keep else Anew other) (any_given rs e)) ∙ k in cc)
+  row_fate (Anew new) rs e = λ k. (let no : Keep ≡ Anew made = sym (ap (λ (b : Bool). if b then Keep else Anew new) (any_given rs e)) ∙ k in cc)
   row_fate Remove rs e = λ k. (let no : Remove ≡ Anew made = kept_or (keeps options rs) Remove k in cc)
   row_fate Empty rs e = λ k. (let no : Empty ≡ Anew made = kept_or (keeps options rs) Empty k in cc)
   row_fate Replace rs e = λ k. (let no : Replace ≡ Anew made = kept_or (keeps options rs) Replace k in cc)
@@ -105,18 +103,12 @@ module _ (options : Options) (nothing : MakesNothingAnew options) (made : NewVal
   in_table None vr h = vr_fate vr
   in_table (Some a) vr h = row_fate a.1 a.2 (h a refl)
 
-  -- what is kept stays, where dates are not moved
-  not_moved : (vr : Vr) → kept_as false vr ≡ Keep
-  not_moved DA = refl
-  not_moved DT = refl
-  not_moved vr = refl
-
-  moved_fate : (vr : Vr) (f : Fate) → f ≢ Anew made → moved_if false vr f ≢ Anew made
+  moved_fate : (vr : Vr) (f : Fate) → f ≢ Anew made → moved_if (are_modified options.dates) vr f ≢ Anew made
   moved_fate vr Remove h = h
   moved_fate vr Empty h = h
   moved_fate vr Replace h = h
-  moved_fate vr (Anew other) h = h
-  moved_fate vr Keep h = λ k. (let no : Keep ≡ Anew made = sym (not_moved vr) ∙ k in cc)
+  moved_fate vr (Anew new) h = h
+  moved_fate vr Keep h = other vr
 
   no_pseudonym : (b p : Bool) (f : Fate) → p ≡ false → f ≢ Anew made → (if b && p then Anew Pseudonym else f) ≢ Anew made
   no_pseudonym true true f e h = absurd (cc)
@@ -128,8 +120,7 @@ module _ (options : Options) (nothing : MakesNothingAnew options) (made : NewVal
   known_fate t =
       let f : Fate = fate_in_table options (find (λ (a : Action). a.0 == tag_number t) actions) (vr_in Standard t) in
       let in_rows = in_table (find (λ (a : Action). a.0 == tag_number t) actions) (vr_in Standard t) (λ a is. found_passes (λ (a : Action). a.0 == tag_number t) retains actions a all_retain is) in
-      no_pseudonym (is_tag 0x0010 0x0020 t) options.pseudonyms (moved_if (are_modified options.dates) (vr_in Standard t) f) nothing.1
-      (subst (λ (b : Bool). moved_if b (vr_in Standard t) f ≢ Anew made) (sym nothing.2) (moved_fate (vr_in Standard t) f in_rows))
+      no_pseudonym (is_tag 0x0010 0x0020 t) options.pseudonyms (moved_if (are_modified options.dates) (vr_in Standard t) f) unnamed (moved_fate (vr_in Standard t) f in_rows)
 
   if_removed : (b : Bool) (f : Fate) → f ≢ (Anew made) → (if b then Remove else f) ≢ (Anew made)
   if_removed true f h = λ k. cc
@@ -138,7 +129,45 @@ module _ (options : Options) (nothing : MakesNothingAnew options) (made : NewVal
   some_fate : (depth : Depth) (t : Tag) → fate options depth t ≢ (Anew made)
   some_fate depth t = if_removed (is_put_at options depth t || not (is_known t)) (fate_of_known options t) (known_fate t)
 
-  pub none_anew : (depth : Depth) (read : ReadAs) (t : Tag) → fate_as options depth read t ≢ (Anew made)
+  not_anew : (depth : Depth) (read : ReadAs) (t : Tag) → fate_as options depth read t ≢ (Anew made)
   unfolding fate_as
-  none_anew depth AsItems t = some_fate depth t
-  none_anew depth AsBytes t = if_removed (is_sequence (vr_in Standard t)) (fate options depth t) (some_fate depth t)
+  not_anew depth AsItems t = some_fate depth t
+  not_anew depth AsBytes t = if_removed (is_sequence (vr_in Standard t)) (fate options depth t) (some_fate depth t)
+
+-- ---- no value at all, where dates are not moved
+
+not_moved : (vr : Vr) → kept_as false vr ≡ Keep
+not_moved DA = refl
+not_moved DT = refl
+not_moved vr = refl
+
+none_moved : (moved : Bool) (made : NewValue) (vr : Vr) → moved ≡ false → kept_as moved vr ≢ Anew made
+none_moved true made vr e = absurd (cc)
+none_moved false made vr e = λ k. (let no : Keep ≡ Anew made = sym (not_moved vr) ∙ k in cc)
+
+pub none_anew : (options : Options) → MakesNothingAnew options → (made : NewValue) (depth : Depth) (read : ReadAs) (t : Tag) → fate_as options depth read t ≢ (Anew made)
+none_anew options nothing made = not_anew options nothing.0 nothing.1 made (λ vr. none_moved (are_modified options.dates) made vr nothing.2)
+
+-- ---- dates alone, where they are
+
+-- a value that dates get
+abbrev pub IsMoved : NewValue → Type 0
+IsMoved Uid = ⊥
+IsMoved Pseudonym = ⊥
+IsMoved MovedDate = Unit {0}
+IsMoved MovedDateTime = Unit {0}
+
+moved_or : (moved : Bool) (made : NewValue) (f : Fate) → f ≢ Anew made → (if moved then f else Keep) ≢ Anew made
+moved_or true made f h = h
+moved_or false made f h = λ k. cc
+
+no_other : (moved : Bool) (made : NewValue) → Anew MovedDate ≢ Anew made → Anew MovedDateTime ≢ Anew made → (vr : Vr) → kept_as moved vr ≢ Anew made
+no_other moved made h k DA = moved_or moved made (Anew MovedDate) h
+no_other moved made h k DT = moved_or moved made (Anew MovedDateTime) k
+no_other moved made h k vr = λ e. cc
+
+pub dates_alone : (options : Options) → options.uids ≡ true → options.pseudonyms ≡ false → (made : NewValue) (depth : Depth) (read : ReadAs) (t : Tag) → fate_as options depth read t ≡ Anew made → IsMoved made
+dates_alone options given unnamed Uid depth read t e = absurd (not_anew options given unnamed Uid (no_other (are_modified options.dates) Uid (λ k. cc) (λ k. cc)) depth read t e)
+dates_alone options given unnamed Pseudonym depth read t e = absurd (not_anew options given unnamed Pseudonym (no_other (are_modified options.dates) Pseudonym (λ k. cc) (λ k. cc)) depth read t e)
+dates_alone options given unnamed MovedDate depth read t e = tt
+dates_alone options given unnamed MovedDateTime depth read t e = tt

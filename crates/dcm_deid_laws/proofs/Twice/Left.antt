@@ -51,32 +51,32 @@ leaf_by_dictionary d (implicit_in e) t vr v = refl
 leaf_by_dictionary d (little_in e) t vr v = refl
 leaf_by_dictionary d (big_in e) t vr v = refl
 
-leaf_alone : (s : Syntax) (t : Tag) (vr wr : Vr) (v w : List ℕ) → recoded_leaf s t vr v ≡ recoded_leaf s t wr w → recode_set s (leaf t vr v no_tree) ≡ recode_set s (leaf t wr w no_tree)
+pub leaf_alone : (s : Syntax) (t : Tag) (vr wr : Vr) (v w : List ℕ) → recoded_leaf s t vr v ≡ recoded_leaf s t wr w → recode_set s (leaf t vr v no_tree) ≡ recode_set s (leaf t wr w no_tree)
 unfolding recode_set
 leaf_alone s t vr wr v w e = ap (λ (x : List ℕ). unless_dropped t x ++ []) e
 
-sequence_alone : (s : Syntax) (t : Tag) (vr wr : Vr) (m n : Length) (i j : Items) → recode_items s i ≡ recode_items s j → recode_set s (sequence t vr m i no_tree) ≡ recode_set s (sequence t wr n j no_tree)
+pub sequence_alone : (s : Syntax) (t : Tag) (vr wr : Vr) (m n : Length) (i j : Items) → recode_items s i ≡ recode_items s j → recode_set s (sequence t vr m i no_tree) ≡ recode_set s (sequence t wr n j no_tree)
 unfolding recode_set
 sequence_alone s t vr wr m n i j e = ap (λ (x : List ℕ). unless_dropped t (head s t SQ Undefined ++ x ++ sequence_delimiter s) ++ []) e
 
-list_alone : (s : Syntax) (t : Tag) (vr : Vr) (parts : List (List ℕ)) → (t.element == 0) ≡ false → recode_set s (fragments t vr (map (evened 0) parts) no_tree) ≡ recode_set s (fragments t vr parts no_tree)
+pub list_alone : (s : Syntax) (t : Tag) (vr : Vr) (parts : List (List ℕ)) → (t.element == 0) ≡ false → recode_set s (fragments t vr (map (evened 0) parts) no_tree) ≡ recode_set s (fragments t vr parts no_tree)
 unfolding normal
 list_alone s t vr parts e = sym (ap (λ (b : Bool). recode_set s (if b then no_tree else fragments t vr (map (evened 0) parts) no_tree)) e) ∙ recodes_normal s (fragments t vr parts no_tree)
 
-items_alone : (s : Syntax) (m n : Length) (a b : Trees) (i j : Items) → recode_set s a ≡ recode_set s b → recode_items s i ≡ recode_items s j → recode_items s (item m a i) ≡ recode_items s (item n b j)
+pub items_alone : (s : Syntax) (m n : Length) (a b : Trees) (i j : Items) → recode_set s a ≡ recode_set s b → recode_items s i ≡ recode_items s j → recode_items s (item m a i) ≡ recode_items s (item n b j)
 unfolding recode_set
 items_alone s m n a b i j e f = ap (λ (x : List ℕ). item_head s Undefined ++ x ++ item_delimiter s ++ recode_items s i) e ∙ ap (λ (x : List ℕ). item_head s Undefined ++ recode_set s b ++ item_delimiter s ++ x) f
 
 -- ---- data sets
 
 -- a syntax by some dictionary
-abbrev IsBy : Syntax → Syntax → Type 0
+abbrev pub IsBy : Syntax → Syntax → Type 0
 IsBy k s = (d : Dictionary) × (k ≡ read_by d s)
 
-by_after : (k s : Syntax) (t : Tag) (vr : Vr) (v : List ℕ) → IsBy k s → IsBy (after k t vr v) s
+pub by_after : (k s : Syntax) (t : Tag) (vr : Vr) (v : List ℕ) → IsBy k s → IsBy (after k t vr v) s
 by_after k s t vr v (d, is) = let e : Dictionary = dictionary_after (dictionary_of k) t vr v in (e, ap (read_by e) is ∙ read_by_twice e d s)
 
-recoded_as : (k s : Syntax) (t : Tag) (vr wr : Vr) (v w : List ℕ) → IsBy k s → recoded_leaf k t vr v ≡ recoded_leaf k t wr w → recoded_leaf s t vr v ≡ recoded_leaf s t wr w
+pub recoded_as : (k s : Syntax) (t : Tag) (vr wr : Vr) (v w : List ℕ) → IsBy k s → recoded_leaf k t vr v ≡ recoded_leaf k t wr w → recoded_leaf s t vr v ≡ recoded_leaf s t wr w
 recoded_as k s t vr wr v w (d, is) e =
     sym (ap (λ (z : Syntax). recoded_leaf z t vr v) is ∙ leaf_by_dictionary d s t vr v) ∙ e ∙ (ap (λ (z : Syntax). recoded_leaf z t wr w) is ∙ leaf_by_dictionary d s t wr w)
 

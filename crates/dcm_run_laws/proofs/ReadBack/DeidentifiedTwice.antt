@@ -1,5 +1,5 @@
 -- A second run of dcmdeid with the same options writes what the first one wrote.
-use Rattle.std.proofs.Common.{◌≡◌, ◌∙◌, ap, sym, subst, refl, ℕ, List, ◌++◌, Bool, length}
+use Rattle.std.proofs.Common.{◌≡◌, ◌∙◌, ap, sym, subst, refl, ℕ, List, ◌++◌, Bool, true, length}
 use Rattle.std.specs.Prelude.{◌⊎◌}
 use Rattle.dcm_base.specs.declared.dictionary.Dictionary.TheVariants.{Standard}
 use Rattle.dcm_base.specs.declared.syntax.Coding.{Coding}
@@ -58,29 +58,29 @@ module _ (options : Options) (reports : Bool) (key input : List ℕ) (a : Answer
       let r = was_read options reports key input a m coding f h in
       ap (coding_by Standard) r.head.coding_is ∙ coding_twice Standard Standard r.head.named ∙ sym r.head.coding_is
 
-  -- the output is read in one way by dcmdeid too
-  read_again : FileReads job a.output source
-  read_again =
+  -- the output is read in one way by dcmdeid too, by whatever options
+  pub read_again : (other : Options) → FileReads (deidentify other reports key) a.output source
+  read_again other =
       opened (meta_again head m.uid) group coding again complete
       (subst (λ (c : Coding). HeadIs Standard a.output (meta_again head m.uid) group c) own_coding (head_is options reports key input a m coding f h Standard)) refl
       (subst (λ (bytes : List ℕ). Reads identity_bar s (set_at group) bytes again complete) (sym (set_is options reports key input a m coding f h))
       (laws.reads_for_it options key s (set_at group) f (takes options reports key input a m coding f h))) refl
 
   answered : (b : Answer) → Answers job a.output b → b ≡ answer job source
-  answered b y = y.answer_is ∙ ap (answer job) (one_source job a.output y.source source y.reads read_again)
+  answered b y = y.answer_is ∙ ap (answer job) (one_source job a.output y.source source y.reads (read_again options))
+
+  -- where unique identifiers are retained, the group is written anew alike
+  pub group_twice : options.uids ≡ true → new_meta (renewed (meta_renewing options key) (elements_again head.elements m.uid)) m.uid ≡ group
+  group_twice retained =
+      let r = was_read options reports key input a m coding f h in
+      let g = left_group options key m.elements (group_read input m r.group r.head.named h.are_bytes r.head.head) in
+      ap (λ (x : Trees). new_meta x m.uid) (group_again options key retained m.uid m.elements)
+      ∙ ap (λ (bytes : List ℕ). group_length (length bytes) ++ bytes) (with_twice m.uid head.elements g.meta)
 
   module _ (given : MakesNothingAnew options) where
-    -- the group is written anew alike
-    group_twice : new_meta (renewed (meta_renewing options key) (elements_again head.elements m.uid)) m.uid ≡ group
-    group_twice =
-        let r = was_read options reports key input a m coding f h in
-        let g = left_group options key m.elements (group_read input m r.group r.head.named h.are_bytes r.head.head) in
-        ap (λ (x : Trees). new_meta x m.uid) (group_again options key given.0 m.uid m.elements)
-        ∙ ap (λ (bytes : List ℕ). group_length (length bytes) ++ bytes) (with_twice m.uid head.elements g.meta)
-
     same_output : (answer job source).output ≡ a.output
     same_output =
-        ap (λ (bytes : List ℕ). no_preamble ++ PREFIX ++ bytes ++ recode s (deidentified options (made_new options key) again)) group_twice
+        ap (λ (bytes : List ℕ). no_preamble ++ PREFIX ++ bytes ++ recode s (deidentified options (made_new options key) again)) (group_twice given.0)
         ∙ ap (λ (bytes : List ℕ). no_preamble ++ PREFIX ++ group ++ bytes) (laws.deidentified_twice options key s (set_at group) f (takes options reports key input a m coding f h) given)
         ∙ sym (output_is options reports key input a m coding f h)
 

@@ -1,11 +1,6 @@
 -- The days of a file are those of the patient whom it names.
-use Rattle.std.proofs.Common.{◌≡◌, ◌≢◌, ◌∙◌, ap, sym, subst, refl, ℕ, ℤ, negsuc, ◌≤ℤ◌, List, [], ◌∷◌, length, drop, Bool, true, false, cond, Option, Some, None}
-use Rattle.dcm_base.specs.declared.dictionary.Dictionary.TheVariants.{Standard}
+use Rattle.std.proofs.Common.{◌≡◌, ◌≢◌, ◌∙◌, ap, sym, subst, refl, ℕ, ℤ, negsuc, ◌≤ℤ◌, List, [], ◌∷◌, length, Bool, true, false, cond, Option, Some, None}
 use Rattle.dcm_base.specs.declared.fault.Stop.{Stop as FaultAt}
-use Rattle.dcm_base.specs.declared.syntax.Coding.{Coding}
-use Rattle.dcm_base.specs.File.MetaReads.{Meta}
-use Rattle.dcm_base.specs.Reading.Stop.{Stop}
-use Rattle.dcm_base.specs.Tree.Front.{Front}
 use Rattle.dcm_deid.specs.declared.patient.Naming.{Naming}
 use Rattle.dcm_deid.specs.declared.patient.Naming.TheVariants.{NotYet, Opened, Ended, Nobody}
 use Rattle.dcm_deid.specs.Patient.{PatientState, patient_held}
@@ -14,8 +9,7 @@ use Rattle.dcm_words.specs.Words.{with_days}
 use Rattle.dcm_uid.proofs.Pseudonyms.{days_past, days_within}
 use Rattle.dcm_cli.specs.declared.first.FirstEnd.{FirstEnd}
 use Rattle.dcm_cli.specs.declared.first.FirstEnd.TheVariants.{Days, Refused}
-use Rattle.dcm_cli.specs.Answer.{HeadIs, set_at}
-use Rattle.dcm_cli.specs.First.{FirstReads, no_set, of_set, SetReads, cut_end, fault_at, first_end, is_at_patient, naming_end, patient_end, patient_of}
+use Rattle.dcm_cli.specs.First.{FirstReads, no_set, of_set, cut_end, fault_at, first_end, is_at_patient, naming_end, patient_end, patient_of}
 use Rattle.dcm_cli.proofs.Runs.OneFirst.{one_first, some_first}
 use Rattle.dcm_run_laws.specs.FirstLaws.{NamesPatient, FirstEndsOnce, FirstEnds, DaysAreOfPatient, PatientHasDays, OnePatientOneMove, MovesBack, NothingFlowsByKey}
 use Rattle.dcm_run_laws.proofs.Runs.NothingFlows.{nothing_flows_in_answers}
