@@ -121,7 +121,7 @@ _dcmtools() {
         dump2dcm) switches='+l -e' ;;
         dcmodify) switches='-i -m -e -ma -ea -ep -dict +dict +r +c +part +nh +v' ;;
         dcmdeid) switches='+ru +rd +ri +rp +rl +rm +pi +bi +k' ;;
-        dcm2csv) switches='-k +nh +by' ;;
+        dcm2csv) switches='-k +nh +by +u8' ;;
         *) return ;;
     esac
     [[ ${COMP_WORDS[1]} != dcmodify ]] || _dcmtools_read_dictionary

@@ -974,6 +974,7 @@ def no_table(claim, words, text):
 
 NAMED = '"FILE","AB"'
 COMMENT = "PatientComments"
+CHARACTER_SET = 0x00080005
 LONG = leaf(COMMENTS, "UT", b"a" * 16385)
 TOO_LONG = "FILE: value of (0010,4000) is longer than 16384 bytes"
 UNOPENED = "input cannot be opened"
@@ -1010,6 +1011,14 @@ TABLES = [
     cell("in implicit VR too", ROWS, "", b"\1\2", "513", uid=IMPLICIT),
     cell("bytes that are no UTF-8", NAME, "PN", b"M\xfcller\xc3\xa4", '"M\\xfcller\u00e4"'),
     cell("they are as they are with +by", NAME, "PN", b"M\xfcller", '"M\udcfcller"', "+by"),
+    cell("of +u8 and +by the last counts", NAME, "PN", b"M\xfcller", '"M\udcfcller"', "+u8 +by"),
+    cell("by the empty value bytes from 80 on have no character", NAME, "PN", b"M\xfcller\xc3\xa4", '"M\\xfcller\\xc3\\xa4"', "+by +u8"),
+    table("texts as characters", "+u8 -k PatientName FILE", leaf(CHARACTER_SET, "CS", b"ISO_IR 100") + leaf(NAME, "PN", b"M\xfcller\x85"), '"FILE","M\u00fcller\\x85"'),
+    table("an item's set ends with it", "+u8 -k PatientName FILE", leaf(CHARACTER_SET, "CS", b"ISO_IR 100") + sequence(IMAGES, item(leaf(CHARACTER_SET, "CS", b"ISO_IR 144"))) + leaf(NAME, "PN", b"\xe9"), '"FILE","\u00e9"'),
+    table("what comes behind the text does not count", "+u8 -k PatientName FILE", leaf(NAME, "PN", b"\xe9") + leaf(CHARACTER_SET, "CS", b"ISO_IR 100"), '"FILE","\\xe9"'),
+    table("an unknown term names ASCII", "+u8 -k PatientName FILE", leaf(CHARACTER_SET, "CS", b"GB18030") + leaf(NAME, "PN", b"\xe9"), '"FILE","\\xe9"'),
+    table("designations are dropped", "+u8 -k PatientName FILE", leaf(CHARACTER_SET, "CS", b"\\ISO 2022 IR 87") + leaf(NAME, "PN", b"\x1b$B;3\x1b(B^A"), '"FILE","\u5c71^A"'),
+    table("codes are as without +u8", "+u8 -k Modality FILE", leaf(CHARACTER_SET, "CS", b"ISO_IR 100") + leaf(0x00080060, "CS", b"\xe9"), '"FILE","\\xe9"'),
     table("the first element of the tag counts", "-k PatientName FILE", AB + leaf(NAME, "PN", b"CD"), NAMED),
     table("at the outermost level", "-k PatientName FILE", sequence(IMAGES, item(leaf(NAME, "PN", b"CD"))) + AB, NAMED),
     table("the meta group's elements", "-k TransferSyntaxUID FILE", AB, '"FILE","1.2.840.10008.1.2.1"'),
@@ -1068,7 +1077,7 @@ OPTIONS = [
     ["+l", "-e"],
     ["-i", "-m", "-e", "-ma", "-ea", "-ep", "-dict", "+dict"],
     ["+ru", "+rd", "+ri", "+rp", "+rl", "+rm", "+pi", "+bi", "+k"],
-    ["-k", "+nh", "+by", "@LIST"],
+    ["-k", "+nh", "+by", "+u8", "@LIST"],
 ]
 
 TEXTS = [Shows(f"{word} of the program", word, TOOLS) for word in ("help", "--help")]

@@ -1,14 +1,13 @@
 -- The cells know whether anything is open.
-use Rattle.std.proofs.Common.{◌≡◌, ◌∙◌, sym, ap, refl, ℕ, zero, suc, ◌*◌, ◌≤◌, List, [], ◌∷◌, ◌++◌, length, map, fold, arith, Option, Some, None, Bool, true, false}
+use Rattle.std.proofs.Common.{◌≡◌, ◌∙◌, ap, refl, ℕ, suc, List, ◌∷◌, length, map, fold, arith, Some, None, Bool, true, false}
 use Rattle.std.specs.Prelude.{option_map, if◌then◌else◌}
 use Rattle.dcm_base.specs.declared.tag.Tag.{Tag}
 use Rattle.dcm_base.specs.declared.vr.Vr.{Vr}
-use Rattle.dcm_base.specs.declared.fault.Fault.{Fault}
 use Rattle.dcm_base.specs.declared.length.Length.{Length}
 use Rattle.dcm_base.specs.declared.length.Length.TheVariants.{Known, Undefined}
 use Rattle.dcm_base.specs.declared.form.Form.TheVariants.{Value as a_value, Sequence as a_sequence, FragmentList as a_fragment_list}
 use Rattle.dcm_base.specs.Tables.Tag.{below}
-use Rattle.dcm_base.specs.Tree.Tree.{Trees, no_tree, leaf, sequence, fragments, Items}
+use Rattle.dcm_base.specs.Tree.Tree.{Trees, no_tree, leaf, sequence, fragments}
 use Rattle.dcm_base.specs.Tree.Front.{Front, front, OpenTree, nothing_open, open_leaf, open_sequence, open_fragments}
 use Rattle.dcm_base.specs.Tree.Value.{order}
 use Rattle.dcm_base.specs.Bytes.Spelling.{is_open}
@@ -23,7 +22,10 @@ use Rattle.dcm_table.specs.Shown.{AllSettled, decided_by, table_bar}
 use Rattle.dcm_table.specs.TableSink.{Slot, State, next, slot_step, bar_by, table_bar_of}
 use Rattle.dcm_table.proofs.EachSlot.{bytes_taken}
 use Rattle.dcm_table.proofs.Inside.{at, items_inside, item_inside, fragments_inside, fragment_inside}
-use Rattle.dcm_table.proofs.Outside.{filled, filled_settled, leaf_here, leaf_state, leaf_settled, list_here, list_state, list_settled, sequence_not_shown}
+use Rattle.dcm_text.specs.declared.sets.Sets.{Sets}
+use Rattle.dcm_table.specs.InForce.{is_setting}
+use Rattle.dcm_table.specs.TableSink.{setting_opened}
+use Rattle.dcm_table.proofs.Outside.{filled, filled_settled, on, same_sets, leaf_here, leaf_sets, leaf_state, leaf_settled, list_here, list_state, list_settled, sequence_not_shown, sequence_sets_nothing}
 
 -- the same comes of a row of atoms as of the rest of it, where nothing is open
 pub record Passes (g : Tag) (slots : List Slot) (atoms after : List Atom) : Type 0 where
@@ -36,33 +38,34 @@ unfolding ShowTrees
 trees_pass no_tree g slots atoms after e settles low = record { left = slots; comes = ap (fold next (at 0 g slots)) e; settles = settles }
 trees_pass (leaf tag vr value rest) g slots atoms after (s, others, fo, is, more) settles low =
     let here : Tag → Cell = leaf_here s tag vr value in
+    let to : Tag → Sets → Sets = leaf_sets tag vr value in
     let there = stays_on 0 closes_leaf others (stays_bytes 0 (order s vr value) (closes_leaf ∷ others) (stays_opened 0 a_value tag vr (Known (length value)) s _ fo (stays_same 0 atoms _ is low))) in
-    let r = trees_pass rest g (filled here slots) others after more (filled_settled here (leaf_settled s tag vr value) slots settles) there in
+    let r = trees_pass rest g (filled here to slots) others after more (filled_settled here to (leaf_settled s tag vr value) slots settles) there in
     record { left = r.left; comes = ap (fold next (at 0 g slots)) is ∙ leaf_state g slots s tag vr value others settles ∙ r.comes; settles = r.settles }
 trees_pass (sequence tag vr declared items rest) g slots atoms after (s, contents, others, fo, is, inner, more) settles low =
     let here : Tag → Cell = list_here tag in
-    let settles' = filled_settled here (list_settled tag) slots settles in
+    let settles' = filled_settled here same_sets (list_settled tag) slots settles in
     let within = stays_opened 0 a_sequence tag vr declared s contents fo (stays_same 0 atoms _ is low) in
     let there = stays_on 1 closes_sequence others (stays_items 1 items contents (closes_sequence ∷ others) inner within) in
-    let r = trees_pass rest g (filled here slots) others after more settles' there in
+    let r = trees_pass rest g (filled here same_sets slots) others after more settles' there in
     record {
       left = r.left;
       comes =
-          ap (fold next (at 0 g slots)) is ∙ list_state g slots s tag vr declared contents (sequence_not_shown s tag vr declared fo)
-          ∙ items_inside g (filled here slots) settles' items 1 0 contents (closes_sequence ∷ others) inner within (omega arith) ∙ r.comes;
+          ap (fold next (at 0 g slots)) is ∙ list_state g slots s tag vr declared contents (sequence_not_shown s tag vr declared fo) (sequence_sets_nothing s tag vr declared fo)
+          ∙ items_inside g (filled here same_sets slots) settles' items 1 0 contents (closes_sequence ∷ others) inner within (omega arith) ∙ r.comes;
       settles = r.settles;
     }
 trees_pass (fragments tag vr values rest) g slots atoms after (s, others, fo, is, more) settles low =
     let here : Tag → Cell = list_here tag in
-    let settles' = filled_settled here (list_settled tag) slots settles in
+    let settles' = filled_settled here same_sets (list_settled tag) slots settles in
     let within = stays_opened 0 a_fragment_list tag vr Undefined s (fragments_then values (closes_sequence ∷ others)) fo (stays_same 0 atoms _ is low) in
     let there = stays_on 1 closes_sequence others (stays_fragments 1 values (closes_sequence ∷ others) within) in
-    let r = trees_pass rest g (filled here slots) others after more settles' there in
+    let r = trees_pass rest g (filled here same_sets slots) others after more settles' there in
     record {
       left = r.left;
       comes =
-          ap (fold next (at 0 g slots)) is ∙ list_state g slots s tag vr Undefined (fragments_then values (closes_sequence ∷ others)) refl
-          ∙ fragments_inside g (filled here slots) settles' 0 values (closes_sequence ∷ others) (omega arith) ∙ r.comes;
+          ap (fold next (at 0 g slots)) is ∙ list_state g slots s tag vr Undefined (fragments_then values (closes_sequence ∷ others)) refl refl
+          ∙ fragments_inside g (filled here same_sets slots) settles' 0 values (closes_sequence ∷ others) (omega arith) ∙ r.comes;
       settles = r.settles;
     }
 
@@ -89,22 +92,22 @@ open_tells nothing_open closed g slots atoms e settles low = flat g slots _ (ap 
 open_tells (open_leaf tag vr size value) closed g slots atoms (s, fo, le, is) settles low =
     let opening : Slot → Slot = λ (c : Slot). slot_step c (opens tag vr (Known size) s) in
     let taking : Slot → Slot = λ (c : Slot). fold slot_step c (map value_byte (order s vr value)) in
-    deep 0 g (map taking (map opening slots)) _ (ap (fold next (at 0 g slots)) is ∙ bytes_taken (at 1 g (map opening slots)) (order s vr value))
+    (0, ap (λ (u : State). u.depth) (ap (fold next (at 0 g slots)) is ∙ bytes_taken (on 1 g (map opening slots) (setting_opened (is_setting tag vr) None)) (order s vr value)))
 open_tells (open_sequence tag vr declared items last) closed g slots atoms (s, contents, others, fo, is, inner, more) settles low =
     let here : Tag → Cell = list_here tag in
-    let settles' = filled_settled here (list_settled tag) slots settles in
+    let settles' = filled_settled here same_sets (list_settled tag) slots settles in
     let within = stays_opened 0 a_sequence tag vr declared s contents fo (stays_same 0 atoms _ is low) in
-    let last_one = item_inside g (filled here slots) settles' last 1 0 others more (stays_items 1 items contents others inner within) (omega arith) in
-    deep last_one.depth g (filled here slots) _
-    (ap (fold next (at 0 g slots)) is ∙ list_state g slots s tag vr declared contents (sequence_not_shown s tag vr declared fo)
-    ∙ items_inside g (filled here slots) settles' items 1 0 contents others inner within (omega arith) ∙ last_one.comes)
+    let last_one = item_inside g (filled here same_sets slots) settles' last 1 0 others more (stays_items 1 items contents others inner within) (omega arith) in
+    deep last_one.depth g (filled here same_sets slots) _
+    (ap (fold next (at 0 g slots)) is ∙ list_state g slots s tag vr declared contents (sequence_not_shown s tag vr declared fo) (sequence_sets_nothing s tag vr declared fo)
+    ∙ items_inside g (filled here same_sets slots) settles' items 1 0 contents others inner within (omega arith) ∙ last_one.comes)
 open_tells (open_fragments tag vr values last) closed g slots atoms (s, fo, mi, is) settles low =
     let here : Tag → Cell = list_here tag in
-    let settles' = filled_settled here (list_settled tag) slots settles in
-    let last_one = fragment_inside g (filled here slots) settles' 0 last (omega arith) in
-    deep last_one.depth g (filled here slots) _
-    (ap (fold next (at 0 g slots)) is ∙ list_state g slots s tag vr Undefined (fragments_then values (open_fragment_atoms last)) refl
-    ∙ fragments_inside g (filled here slots) settles' 0 values (open_fragment_atoms last) (omega arith) ∙ last_one.comes)
+    let settles' = filled_settled here same_sets (list_settled tag) slots settles in
+    let last_one = fragment_inside g (filled here same_sets slots) settles' 0 last (omega arith) in
+    deep last_one.depth g (filled here same_sets slots) _
+    (ap (fold next (at 0 g slots)) is ∙ list_state g slots s tag vr Undefined (fragments_then values (open_fragment_atoms last)) refl refl
+    ∙ fragments_inside g (filled here same_sets slots) settles' 0 values (open_fragment_atoms last) (omega arith) ∙ last_one.comes)
 
 by_test : (t : Bool) → option_map fault_of (if t then Some Order else None) ≡ decided_by t
 by_test true = refl

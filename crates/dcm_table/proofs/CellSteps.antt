@@ -1,5 +1,5 @@
 -- The cell of a column after bytes of a value.
-use Rattle.std.proofs.Common.{◌≡◌, ◌∙◌, sym, ap, refl, ℕ, zero, suc, ◌+◌, ◌<◌, ◌≤◌, List, [], ◌∷◌, ◌++◌, length, take, fold, arith, append_assoc, Bool, true, false}
+use Rattle.std.proofs.Common.{◌≡◌, ◌∙◌, sym, ap, refl, ℕ, ◌+◌, ◌<◌, ◌≤◌, List, [], ◌∷◌, ◌++◌, length, fold, arith, append_assoc, Bool, true, false}
 use Rattle.std.specs.Prelude.{nat_lt, if◌then◌else◌}
 use Rattle.std.proofs.lemmas.Bool.{lt-ltb, cases_lt}
 use mathlib.Core.Logic.{⊎_elim}
@@ -13,7 +13,7 @@ use Rattle.dcm_base.specs.Tables.Syntax.{is_big}
 use Rattle.dcm_base.specs.Tree.Value.{order, turned}
 use Rattle.dcm_table.specs.declared.cell.Progress.{Progress}
 use Rattle.dcm_table.specs.declared.cell.Progress.TheVariants.{Missing, Open, OpenTooLong, Whole, TooLong, NotShown}
-use Rattle.dcm_table.specs.Cell.{Cell, missing, open_value, open_too_long, whole, too_long, not_shown, with_byte, CELL_LIMIT}
+use Rattle.dcm_table.specs.Cell.{Cell, missing, open_value, open_too_long, whole, too_long, not_shown, with_byte}
 use Rattle.dcm_table.specs.Slots.{cell_of, is_open}
 
 pub missing_stays : (v : List ℕ) → fold with_byte missing v ≡ missing

@@ -1,11 +1,11 @@
 -- Texts that are written as characters, part by part.
-use Rattle.std.proofs.Common.{◌≡◌, ◌∙◌, sym, ap, ℕ, true, List, [], ◌∷◌, ◌++◌, Option, append-nil}
+use Rattle.std.proofs.Common.{◌≡◌, ◌∙◌, sym, ap, ℕ, true, List, [], ◌++◌, Option, append-nil}
 use Rattle.std.specs.Prelude.{flat_map}
 use Rattle.std.specs.Io.KnownBytes.{append_known}
 use Rattle.std.proofs.lemmas.Grind.{flat_map-append}
 use Rattle.dcm_text.specs.declared.set.TextKind.{TextKind}
 use Rattle.dcm_text.specs.declared.sets.Sets.{Sets}
-use Rattle.dcm_text.specs.Decoding.{Piece, decoded}
+use Rattle.dcm_text.specs.Decoding.{Piece}
 use Rattle.dcm_text.specs.Runs.{State, Run, begun, onto, run}
 use Rattle.dcm_text.specs.Shown.{cell, cell_piece}
 use Rattle.dcm_text.proofs.Runs.{whole_run}

@@ -1,16 +1,19 @@
 -- Cells that are changed one after another.
-use Rattle.std.proofs.Common.{◌≡◌, ◌∙◌, sym, ap, refl, subst, ℕ, zero, suc, ◌+◌, ◌<◌, ◌≤◌, List, [], ◌∷◌, ◌++◌, length, take, drop, get_or, set, map, fold, arith}
-use Rattle.std.specs.Prelude.{Bool, true, false, ◌||◌, ◌&&◌, not, slice_index_or, if◌then◌else◌, Option, Some, None}
+use Rattle.std.proofs.Common.{◌≡◌, ◌∙◌, sym, ap, refl, ℕ, zero, suc, ◌+◌, ◌<◌, ◌≤◌, List, [], ◌∷◌, ◌++◌, length, take, drop, get_or, set, map, fold, arith}
+use Rattle.std.specs.Prelude.{Bool, true, false, ◌||◌, ◌&&◌, not, slice_index_or, if◌then◌else◌, Option, Some, None, option_map}
 use Rattle.std.specs.List.{list_any}
 use Rattle.std.proofs.lemmas.List.{map-append, take_more_set, drop-set-lt, drop_more, take_all, take_more}
 use Rattle.dcm_base.specs.declared.tag.Tag.{Tag}
 use Rattle.dcm_base.specs.Tables.Tag.{same_tag}
-use Rattle.dcm_base.specs.Steps.Atoms.{Atom, value_byte}
+use Rattle.dcm_base.specs.Steps.Atoms.{Atom, opens, value_byte, closes_leaf, opens_item, closes_item, closes_sequence, opens_fragment, ends}
+use Rattle.dcm_text.specs.declared.sets.Sets.{Sets}
 use Rattle.dcm_table.specs.declared.slot.Slot.{Slot as HeldSlot}
 use Rattle.dcm_table.specs.declared.column.Column.{Column}
-use Rattle.dcm_table.specs.Cell.{Cell, missing, with_byte, is_too_long}
+use Rattle.dcm_table.specs.Cell.{missing, with_byte, is_too_long}
 use Rattle.dcm_table.specs.Slots.{slot_of, slots_of}
-use Rattle.dcm_table.specs.TableSink.{Slot, State, next, slot_step, slots_step, depth_step, is_taken, begun, begun_slots, cleared}
+use Rattle.dcm_table.specs.InForce.{EMPTY}
+use Rattle.dcm_table.specs.TableSink.{Slot, State, next, slot_step, slots_step, slots_set, slot_set, setting_step, with_sets, with_setting_byte, is_taken, begun, begun_slots, cleared}
+use Rattle.dcm_text.specs.Sets.{sets_of}
 use Rattle.dcm_table.specs.Columns.{greatest_of}
 use Rattle.dcm_table.specs.Row.{reported, reported_after, slot_at}
 use Rattle.dcm_table.proofs.Folds.{map_map}
@@ -52,7 +55,7 @@ slots_all f now first i s h k =
     ap slots_of (sym (take_all i now h)) ∙ s.before ∙ ap (λ (x : List HeldSlot). map f (slots_of x)) (take_all i first k)
 
 -- one more slot for one more column
-pub slots_made : (held : List HeldSlot) (slot : HeldSlot) (columns : List Column) (i : ℕ) (column : Column) → i < length columns → slot_of slot ≡ ((get_or columns i column).tag, missing)
+pub slots_made : (held : List HeldSlot) (slot : HeldSlot) (columns : List Column) (i : ℕ) (column : Column) → i < length columns → slot_of slot ≡ ((get_or columns i column).tag, missing, EMPTY)
     → slots_of held ≡ begun_slots (map (λ (c : Column). c.tag) (take i columns))
     → slots_of (held ++ slot ∷ []) ≡ begun_slots (map (λ (c : Column). c.tag) (take (i + 1) columns))
 slots_made held slot columns i column h is so_far =
@@ -60,23 +63,39 @@ slots_made held slot columns i column h is so_far =
     map-append slot_of held (slot ∷ [])
     ∙ ap (λ (x : List Slot). x ++ slot_of slot ∷ []) so_far
     ∙ ap (λ (x : Slot). begun_slots (map tag (take i columns)) ++ x ∷ []) is
-    ∙ sym (map-append (λ (t : Tag). (t, missing)) (map tag (take i columns)) (tag (get_or columns i column) ∷ []))
+    ∙ sym (map-append (λ (t : Tag). (t, missing, EMPTY)) (map tag (take i columns)) (tag (get_or columns i column) ∷ []))
     ∙ ap begun_slots (sym (map-append tag (take i columns) (get_or columns i column ∷ [])))
     ∙ ap (λ (x : List Column). begun_slots (map tag x)) (sym (take_more columns i column h))
 
 -- ---- bytes of a value
 
-pub bytes_taken : (s : State) (v : List ℕ) → fold next s (map value_byte v) ≡ record s { slots = map (λ (c : Slot). fold slot_step c (map value_byte v)) s.slots }
-bytes_taken s [] = ap (λ (x : List Slot). record s { slots = x }) (same_slots s.slots)
+-- the value that is kept after them
+abbrev pub kept_after : List ℕ → Option (List ℕ) → Option (List ℕ)
+kept_after v setting = option_map (λ (x : List ℕ). fold with_setting_byte x v) setting
+
+kept_none : (setting : Option (List ℕ)) → setting ≡ kept_after [] setting
+kept_none None = refl
+kept_none (Some x) = refl
+
+kept_more : (b : ℕ) (v : List ℕ) (setting : Option (List ℕ)) → kept_after v (option_map (λ (x : List ℕ). with_setting_byte x b) setting) ≡ kept_after (b ∷ v) setting
+kept_more b v None = refl
+kept_more b v (Some x) = refl
+
+abbrev with_both : State → List Slot → Option (List ℕ) → State
+with_both s slots setting = record { depth = s.depth; greatest = s.greatest; slots = slots; setting = setting }
+
+pub bytes_taken : (s : State) (v : List ℕ) → fold next s (map value_byte v) ≡ record s { slots = map (λ (c : Slot). fold slot_step c (map value_byte v)) s.slots; setting = kept_after v s.setting }
+bytes_taken s [] = ap (λ (x : List Slot). with_both s x s.setting) (same_slots s.slots) ∙ ap (λ (x : Option (List ℕ)). with_both s (map (λ (c : Slot). c) s.slots) x) (kept_none s.setting)
   where
     same_slots : (slots : List Slot) → slots ≡ map (λ (c : Slot). c) slots
     same_slots [] = refl
     same_slots (c ∷ slots) = ap (λ (x : List Slot). c ∷ x) (same_slots slots)
 bytes_taken s (b ∷ v) =
     bytes_taken (next s (value_byte b)) v
-    ∙ ap (λ (x : List Slot). record s { slots = x }) (map_map (λ (c : Slot). slot_step c (value_byte b)) (λ (c : Slot). fold slot_step c (map value_byte v)) s.slots)
+    ∙ ap (λ (x : List Slot). with_both s x (kept_after v (setting_step s.depth s.setting (value_byte b)))) (map_map (λ (c : Slot). slot_step c (value_byte b)) (λ (c : Slot). fold slot_step c (map value_byte v)) s.slots)
+    ∙ ap (λ (x : Option (List ℕ)). with_both s (map (λ (c : Slot). fold slot_step c (map value_byte (b ∷ v))) s.slots) x) (kept_more b v s.setting)
 
-pub bytes_in_slot : (c : Slot) (v : List ℕ) → fold slot_step c (map value_byte v) ≡ (c.0, fold with_byte c.1 v)
+pub bytes_in_slot : (c : Slot) (v : List ℕ) → fold slot_step c (map value_byte v) ≡ (c.0, fold with_byte c.1 v, c.2)
 bytes_in_slot c [] = refl
 bytes_in_slot c (b ∷ v) = bytes_in_slot (slot_step c (value_byte b)) v
 
@@ -123,7 +142,7 @@ pub reported_at : (items slots before : List HeldSlot) (i : ℕ) (slot : HeldSlo
     → reported_after (slots_of before) (slot_of slot) ≡ reported (slots_of items) i
 reported_at items slots before i slot same h is front =
     let within : i < length slots = omega (arith, h, slots_length items, ap length same) in
-    let place : slot_at (slots_of slots) i ≡ slot_of slot = slot_in slots i (record { group = 0; element = 0 }, missing) slot within ∙ ap slot_of (sym is) in
+    let place : slot_at (slots_of slots) i ≡ slot_of slot = slot_in slots i (record { group = 0; element = 0 }, missing, EMPTY) slot within ∙ ap slot_of (sym is) in
     sym
     (ap (λ (x : List HeldSlot). reported (slots_of x) i) (sym same)
     ∙ ap (λ (s : Slot). reported_after (take i (slots_of slots)) s) place
@@ -131,33 +150,57 @@ reported_at items slots before i slot same h is front =
 
 -- ---- what no atom changes
 
+abbrev empty_slots : List Slot → List Slot
+empty_slots slots = map (λ (c : Slot). (c.0, missing, EMPTY)) slots
+
 -- cells that go on are those of the same columns
 pub same_columns : (atoms : List Atom) (s : State) → cleared (fold next s atoms) ≡ cleared s
 same_columns [] s = refl
-same_columns (a ∷ atoms) s = same_columns atoms (next s a) ∙ same_next (is_taken s.depth a) s a
+same_columns (a ∷ atoms) s = same_columns atoms (next s a) ∙ ap (emptied s.greatest) (same_set a s.setting (slots_step (is_taken s.depth a) s.slots a) ∙ same_step (is_taken s.depth a) a s.slots)
   where
-    same_each : (a : Atom) (slots : List Slot) → map {B = Slot} (λ (c : Slot). (c.0, missing)) (map (λ (c : Slot). slot_step c a) slots) ≡ map {B = Slot} (λ (c : Slot). (c.0, missing)) slots
-    same_each a [] = refl
-    same_each a (c ∷ slots) = ap (λ (x : List Slot). (c.0, missing) ∷ x) (same_each a slots)
+    emptied : Tag → List Slot → State
+    emptied greatest slots = record { depth = 0; greatest = greatest; slots = slots; setting = None }
 
-    same_next : (t : Bool) (s : State) (a : Atom) → cleared (record { depth = depth_step s.depth a; greatest = s.greatest; slots = slots_step t s.slots a }) ≡ cleared s
-    same_next true s a = ap (λ (x : List Slot). record { depth = 0; greatest = s.greatest; slots = x }) (same_each a s.slots)
-    same_next false s a = refl
+    same_each : (a : Atom) (slots : List Slot) → empty_slots (map (λ (c : Slot). slot_step c a) slots) ≡ empty_slots slots
+    same_each a [] = refl
+    same_each a (c ∷ slots) = ap (λ (x : List Slot). (c.0, missing, EMPTY) ∷ x) (same_each a slots)
+
+    same_step : (t : Bool) (a : Atom) (slots : List Slot) → empty_slots (slots_step t slots a) ≡ empty_slots slots
+    same_step true a slots = same_each a slots
+    same_step false a slots = refl
+
+    same_named : (sets : Sets) (slots : List Slot) → empty_slots (map (λ (c : Slot). slot_set sets c) slots) ≡ empty_slots slots
+    same_named sets [] = refl
+    same_named sets (c ∷ slots) = ap (λ (x : List Slot). (c.0, missing, EMPTY) ∷ x) (same_named sets slots)
+
+    same_with : (setting : Option (List ℕ)) (slots : List Slot) → empty_slots (with_sets setting slots) ≡ empty_slots slots
+    same_with None slots = refl
+    same_with (Some value) slots = same_named (sets_of value) slots
+
+    same_set : (a : Atom) (setting : Option (List ℕ)) (slots : List Slot) → empty_slots (slots_set setting slots a) ≡ empty_slots slots
+    same_set (opens tag vr declared s) setting slots = refl
+    same_set (value_byte b) setting slots = refl
+    same_set closes_leaf setting slots = same_with setting slots
+    same_set (opens_item declared) setting slots = refl
+    same_set closes_item setting slots = refl
+    same_set closes_sequence setting slots = refl
+    same_set (opens_fragment size) setting slots = refl
+    same_set ends setting slots = refl
 
 pub kept_on : (atoms : List Atom) (old new : State) → new ≡ fold next old atoms → cleared new ≡ cleared old
 kept_on atoms old new e = ap cleared e ∙ same_columns atoms old
 
 -- and those that are emptied
 pub same_cleared : (s : State) → cleared (cleared s) ≡ cleared s
-same_cleared s = ap (λ (x : List Slot). record { depth = 0; greatest = s.greatest; slots = x }) (twice s.slots)
+same_cleared s = ap (λ (x : List Slot). let t : State = record { depth = 0; greatest = s.greatest; slots = x; setting = None } in t) (twice s.slots)
   where
-    twice : (slots : List Slot) → map {B = Slot} (λ (c : Slot). (c.0, missing)) (map {B = Slot} (λ (c : Slot). (c.0, missing)) slots) ≡ map {B = Slot} (λ (c : Slot). (c.0, missing)) slots
+    twice : (slots : List Slot) → empty_slots (empty_slots slots) ≡ empty_slots slots
     twice [] = refl
-    twice (c ∷ slots) = ap (λ (x : List Slot). (c.0, missing) ∷ x) (twice slots)
+    twice (c ∷ slots) = ap (λ (x : List Slot). (c.0, missing, EMPTY) ∷ x) (twice slots)
 
 pub same_begun : (tags : List Tag) → cleared (begun tags) ≡ begun tags
-same_begun tags = ap (λ (x : List Slot). record { depth = 0; greatest = greatest_of tags; slots = x }) (empty tags)
+same_begun tags = ap (λ (x : List Slot). let t : State = record { depth = 0; greatest = greatest_of tags; slots = x; setting = None } in t) (empty tags)
   where
-    empty : (tags : List Tag) → map {B = Slot} (λ (c : Slot). (c.0, missing)) (begun_slots tags) ≡ begun_slots tags
+    empty : (tags : List Tag) → empty_slots (begun_slots tags) ≡ begun_slots tags
     empty [] = refl
-    empty (t ∷ tags) = ap (λ (x : List Slot). (t, missing) ∷ x) (empty tags)
+    empty (t ∷ tags) = ap (λ (x : List Slot). (t, missing, EMPTY) ∷ x) (empty tags)

@@ -1,5 +1,5 @@
 -- Folds and maps over lists.
-use Rattle.std.proofs.Common.{◌≡◌, ◌∙◌, sym, ap, refl, ℕ, ◌+◌, ◌<◌, List, [], ◌∷◌, ◌++◌, length, take, drop, map, fold, get_or}
+use Rattle.std.proofs.Common.{◌≡◌, ◌∙◌, sym, ap, refl, ℕ, ◌+◌, ◌<◌, List, [], ◌∷◌, length, take, map, fold, get_or}
 use Rattle.dcm_base.proofs.Writes.Runs.{fold_more}
 
 pub fold_map : {A B S : Type 0} (step : S → B → S) (f : A → B) (s : S) (xs : List A) → fold step s (map f xs) ≡ fold (λ (t : S) (x : A). step t (f x)) s xs

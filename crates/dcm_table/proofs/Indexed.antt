@@ -112,6 +112,12 @@ pub busy_wider : (a b : Span) → ((j : ℕ) → is_in a j ≡ true → is_in b 
 busy_wider a b more i [] h = refl
 busy_wider a b more i (c ∷ slots) h = both_hold _ _ (wider (is_in a i) (is_in b i) (is_busy c.1) (more i) (first_holds _ _ h)) (busy_wider a b more (suc i) slots (rest_holds _ _ h))
 
+-- what leaves each cell as busy as it was
+pub busy_mapped : (f : Slot → Slot) → ((c : Slot) → is_busy (f c).1 ≡ is_busy c.1) → (a : Span) (i : ℕ) (slots : List Slot) → holds_busy a i slots ≡ true → holds_busy a i (map f slots) ≡ true
+busy_mapped f same a i [] h = refl
+busy_mapped f same a i (c ∷ slots) h =
+    both_hold _ _ (ap (λ (b : Bool). is_in a i || not b) (same c) ∙ first_holds _ _ h) (busy_mapped f same a (suc i) slots (rest_holds _ _ h))
+
 at_rest : (t b : Bool) → b ≡ false → (t || not b) ≡ true
 at_rest true b e = refl
 at_rest false b e = rw e refl
@@ -204,7 +210,7 @@ none_changed f a slots h = sym (same_run f a (record { first = 0; after = 0 }) 0
 -- ---- what changes no cell that is not busy
 
 pub head_stays : (c : Slot) (tag : Tag) (vr : Vr) (declared : Length) (s : Syntax) → same_tag tag c.0 ≡ false → slot_step c (opens tag vr declared s) ≡ c
-head_stays c tag vr declared s e = ap (λ (x : Cell). let p : Slot = (c.0, x) in p) (by_cell c.0 c.1 e)
+head_stays c tag vr declared s e = ap (λ (x : Cell). let p : Slot = (c.0, x, c.2) in p) (by_cell c.0 c.1 e)
   where
     by_cell : (column : Tag) (cell : Cell) → same_tag tag column ≡ false → with_head column cell s tag vr declared ≡ cell
     by_cell column missing e = rw e refl
@@ -215,7 +221,7 @@ head_stays c tag vr declared s e = ap (λ (x : Cell). let p : Slot = (c.0, x) in
     by_cell column not_shown e = refl
 
 pub bytes_stay : (v : List ℕ) (c : Slot) → is_busy c.1 ≡ false → fold slot_step c (map value_byte v) ≡ c
-bytes_stay v c e = bytes_in_slot c v ∙ ap (λ (x : Cell). let p : Slot = (c.0, x) in p) (by_cell c.1 e)
+bytes_stay v c e = bytes_in_slot c v ∙ ap (λ (x : Cell). let p : Slot = (c.0, x, c.2) in p) (by_cell c.1 e)
   where
     by_cell : (cell : Cell) → is_busy cell ≡ false → fold with_byte cell v ≡ cell
     by_cell missing e = missing_stays v
@@ -229,7 +235,7 @@ pub bytes_tag : (v : List ℕ) (c : Slot) → (fold slot_step c (map value_byte 
 bytes_tag v c = ap (λ (x : Slot). x.0) (bytes_in_slot c v)
 
 pub end_stays : (c : Slot) → is_busy c.1 ≡ false → slot_step c closes_leaf ≡ c
-end_stays c e = ap (λ (x : Cell). let p : Slot = (c.0, x) in p) (by_cell c.1 e)
+end_stays c e = ap (λ (x : Cell). let p : Slot = (c.0, x, c.2) in p) (by_cell c.1 e)
   where
     by_cell : (cell : Cell) → is_busy cell ≡ false → ended cell ≡ cell
     by_cell missing e = refl

@@ -1,14 +1,12 @@
 -- What the cells make of the atoms inside an element: nothing, where no value is on its way.
-use Rattle.std.proofs.Common.{◌≡◌, ◌∙◌, sym, ap, refl, subst, ℕ, zero, suc, ◌+◌, ◌*◌, ◌<◌, ◌≤◌, List, [], ◌∷◌, ◌++◌, length, map, fold, arith, Option, Some, None, Bool, true, false}
+use Rattle.std.proofs.Common.{◌≡◌, ◌∙◌, ap, refl, ℕ, suc, ◌*◌, ◌≤◌, List, [], ◌∷◌, ◌++◌, length, map, fold, arith, Option, Some, None, Bool, true, false}
 use Rattle.dcm_base.specs.declared.tag.Tag.{Tag}
-use Rattle.dcm_base.specs.declared.vr.Vr.{Vr}
-use Rattle.dcm_base.specs.declared.length.Length.{Length}
 use Rattle.dcm_base.specs.declared.length.Length.TheVariants.{Known, Undefined}
 use Rattle.dcm_base.specs.declared.form.Form.TheVariants.{Value as a_value, Sequence as a_sequence, FragmentList as a_fragment_list}
 use Rattle.dcm_base.specs.Tree.Tree.{Trees, no_tree, leaf, sequence, fragments, Items, no_item, item}
 use Rattle.dcm_base.specs.Tree.Front.{Front, front, OpenTree, nothing_open, open_leaf, open_sequence, open_fragments, OpenItem, no_open_item, open_item}
 use Rattle.dcm_base.specs.Tree.Value.{order}
-use Rattle.dcm_base.specs.Steps.Atoms.{Atom, opens, value_byte, closes_leaf, opens_item, closes_item, closes_sequence, opens_fragment, fragments_then, open_fragment_atoms, end_atoms, ShowTrees, ShowItems, Shows, ShowsOpen, ShowsOpenItem}
+use Rattle.dcm_base.specs.Steps.Atoms.{Atom, value_byte, closes_leaf, opens_item, closes_item, closes_sequence, fragments_then, open_fragment_atoms, end_atoms, ShowTrees, ShowItems, Shows, ShowsOpen, ShowsOpenItem}
 use Rattle.dcm_sinks.specs.Laws.{StaysShallow}
 use Rattle.dcm_sinks.proofs.Dumps.OpenLists.{stays_on, stays_opened, stays_bytes, stays_fragments, stays_same, stays_trees, stays_items}
 use Rattle.dcm_stream.specs.Skip.{opened as deeper}
@@ -17,7 +15,7 @@ use Rattle.dcm_table.specs.Shown.{settled, AllSettled}
 use Rattle.dcm_table.specs.TableSink.{Slot, State, next, slot_step}
 
 abbrev pub at : ℕ → Tag → List Slot → State
-at d g slots = record { depth = d; greatest = g; slots = slots }
+at d g slots = record { depth = d; greatest = g; slots = slots; setting = None }
 
 -- ---- cells that are settled
 
@@ -40,13 +38,13 @@ end_stays not_shown e = refl
 bytes_stay : (b : ℕ) (slots : List Slot) → AllSettled slots → map (λ (c : Slot). slot_step c (value_byte b)) slots ≡ slots
 bytes_stay b [] h = refl
 bytes_stay b (c ∷ slots) h =
-    ap (λ (x : Cell). (c.0, x) ∷ map (λ (d : Slot). slot_step d (value_byte b)) slots) (byte_stays c.1 b h.0)
+    ap (λ (x : Cell). (c.0, x, c.2) ∷ map (λ (d : Slot). slot_step d (value_byte b)) slots) (byte_stays c.1 b h.0)
     ∙ ap (λ (x : List Slot). c ∷ x) (bytes_stay b slots h.1)
 
 ends_stay : (slots : List Slot) → AllSettled slots → map (λ (c : Slot). slot_step c closes_leaf) slots ≡ slots
 ends_stay [] h = refl
 ends_stay (c ∷ slots) h =
-    ap (λ (x : Cell). (c.0, x) ∷ map (λ (d : Slot). slot_step d closes_leaf) slots) (end_stays c.1 h.0)
+    ap (λ (x : Cell). (c.0, x, c.2) ∷ map (λ (d : Slot). slot_step d closes_leaf) slots) (end_stays c.1 h.0)
     ∙ ap (λ (x : List Slot). c ∷ x) (ends_stay slots h.1)
 
 -- ---- atoms inside an element

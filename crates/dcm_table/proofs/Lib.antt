@@ -5,6 +5,7 @@ pub mod NumberParts
 pub mod RowParts
 pub mod EachSlot
 pub mod CellSteps
+pub mod Settings
 pub mod MetaTaken
 pub mod Inside
 pub mod Outside
@@ -16,3 +17,4 @@ pub mod ValidTexts
 pub mod ValidRows
 pub mod Indexed
 pub mod DecodedTexts
+pub mod AlikeForms

@@ -1,10 +1,10 @@
 -- The elements of a meta group, taken one after another.
-use Rattle.std.proofs.Common.{◌≡◌, ◌∙◌, sym, ap, refl, subst, ℕ, ◌+◌, ◌≤◌, List, [], ◌∷◌, ◌++◌, length, fold}
+use Rattle.std.proofs.Common.{◌≡◌, ◌∙◌, sym, ap, refl, ℕ, List, fold}
 use Rattle.std.proofs.lemmas.List.Sums.{fold-append}
 use Rattle.dcm_base.specs.declared.tag.Tag.{Tag}
 use Rattle.dcm_base.specs.declared.vr.Vr.{Vr}
 use Rattle.dcm_base.specs.Tables.Syntax.{Little}
-use Rattle.dcm_base.specs.Tree.Tree.{Trees, no_tree, leaf}
+use Rattle.dcm_base.specs.Tree.Tree.{Trees}
 use Rattle.dcm_base.specs.Bytes.Spelling.{Spells}
 use Rattle.dcm_base.specs.File.MetaGroup.{AreMeta}
 use Rattle.dcm_head.specs.Rewriting.{FirstIs, NoneIs, OfElements}

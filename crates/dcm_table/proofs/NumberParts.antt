@@ -1,11 +1,11 @@
 -- Numbers that go out as parts.
-use Rattle.std.proofs.Common.{◌≡◌, ◌≢◌, ◌∙◌, sym, ap, refl, subst, ℕ, ◌+◌, ◌<◌, ◌≤◌, ◌==◌, List, [], ◌∷◌, ◌++◌, length, take, drop, Option, Bool, true, false, arith, eq-eqb}
-use Rattle.std.specs.Prelude.{◌&&◌, not, nat_eq, if◌then◌else◌, flat_map, codes, Result, Ok, Err, IsErr}
+use Rattle.std.proofs.Common.{◌≡◌, ◌≢◌, ◌∙◌, sym, ap, refl, subst, ℕ, ◌<◌, ◌≤◌, List, [], ◌∷◌, ◌++◌, length, take, drop, Option, Bool, true, false, arith, eq-eqb}
+use Rattle.std.specs.Prelude.{◌&&◌, not, nat_eq, if◌then◌else◌, codes, Result, IsErr}
 use Rattle.std.proofs.lemmas.Bool.Decides.{nat_tests}
 use Rattle.std.proofs.lemmas.List.{take-append-drop, length-take-le}
 use lib.Ieee.{nan_bits}
 use Rattle.dcm_base.specs.declared.vr.Vr.{Vr}
-use Rattle.dcm_base.specs.declared.vr.Vr.TheVariants.{AT, FD, FL, OB, OD, OF, OL, OV, OW, SL, SS, SV, UL, US, UV}
+use Rattle.dcm_base.specs.declared.vr.Vr.TheVariants.{AT, FD, FL, OD, OF, OL, OV, OW, SL, SS, SV, UL, US, UV}
 use Rattle.dcm_base.specs.Dump.ValueText.{shape, shown_unit, unit_text}
 use Rattle.dcm_base.specs.Tree.Value.{units}
 use Rattle.dcm_base.proofs.Conversions.UnitLaws.{units_cons, units_none}

@@ -1,5 +1,5 @@
 -- What the cells make of the elements of the outermost level.
-use Rattle.std.proofs.Common.{◌≡◌, ◌∙◌, sym, ap, refl, subst, ℕ, zero, suc, ◌+◌, ◌*◌, ◌<◌, ◌≤◌, List, [], ◌∷◌, ◌++◌, length, map, fold, arith, Option, Some, None, Bool, true, false}
+use Rattle.std.proofs.Common.{◌≡◌, ◌∙◌, sym, ap, refl, ℕ, ◌<◌, ◌≤◌, List, [], ◌∷◌, ◌++◌, length, map, fold, arith, Option, None, Bool, true, false}
 use Rattle.std.specs.Prelude.{nat_le, nat_lt, if◌then◌else◌}
 use Rattle.std.proofs.lemmas.Bool.{cases_lt, lt-ltb}
 use Rattle.std.proofs.lemmas.Bool.Decides.{nat_tests}
@@ -14,27 +14,36 @@ use Rattle.dcm_base.specs.declared.syntax.Syntax.{Syntax}
 use Rattle.dcm_base.specs.declared.syntax.Syntax.TheVariants.{Implicit as implicit_in, Little as little_in, Big as big_in}
 use Rattle.dcm_base.specs.declared.dictionary.Dictionary.{Dictionary}
 use Rattle.dcm_base.specs.declared.dictionary.Dictionary.TheVariants.{Extract, Standard, Signed}
-use Rattle.dcm_base.specs.declared.form.Form.{Form}
-use Rattle.dcm_base.specs.declared.form.Form.TheVariants.{Value as a_value, Sequence as a_sequence, FragmentList as a_fragment_list}
+use Rattle.dcm_base.specs.declared.form.Form.TheVariants.{Sequence as a_sequence}
 use Rattle.dcm_base.specs.Tables.Dictionary.{vr_in}
 use Rattle.dcm_base.specs.Tables.Representation.{is_sequence}
 use Rattle.dcm_base.specs.Tables.Tag.{same_tag}
 use Rattle.dcm_base.specs.Bytes.Spelling.{form, read_as}
 use Rattle.dcm_base.specs.Tree.Value.{order}
-use Rattle.dcm_base.specs.Steps.Atoms.{Atom, opens, value_byte, closes_leaf, closes_sequence}
+use Rattle.dcm_base.specs.Steps.Atoms.{Atom, opens, value_byte, closes_leaf}
 use Rattle.dcm_base.proofs.Conversions.Order.{order_twice, length-order}
+use Rattle.dcm_text.specs.declared.sets.Sets.{Sets}
 use Rattle.dcm_table.specs.Cell.{Cell, missing, open_value, open_too_long, whole, too_long, not_shown, with_byte, with_head, ended, opened, opened_as, is_shown, shown_vr}
+use Rattle.dcm_table.specs.InForce.{is_setting, set_by}
 use Rattle.dcm_table.specs.Shown.{settled, AllSettled, cell_or, leaf_cell}
-use Rattle.dcm_table.specs.TableSink.{Slot, State, next, slot_step}
+use Rattle.dcm_table.specs.TableSink.{Slot, State, next, slot_step, kept_or, opens_setting, setting_opened}
 use Rattle.dcm_table.proofs.CellSteps.{missing_stays, too_long_stays, whole_stays, long_stays, not_shown_stays, fits, passes}
 use Rattle.dcm_table.proofs.EachSlot.{bytes_taken, bytes_in_slot}
 use Rattle.dcm_table.proofs.Folds.{map_map}
 use Rattle.dcm_table.proofs.Inside.{at}
+use Rattle.dcm_table.proofs.Settings.{hidden_sets_nothing, kept_if, kept_leaf, kept_of, kept_same, kept_twice, named_by, set_each, set_slot, sets_with}
 
 -- ---- maps over slots
 
-abbrev pub filled : (Tag → Cell) → List Slot → List Slot
-filled x slots = map (λ (c : Slot). (c.0, cell_or c.1 (x c.0))) slots
+abbrev with_cell : Tag → Sets → Cell → Slot
+with_cell t z c = (t, c, z)
+
+-- with these cells, and what is in force then, where none came before
+abbrev pub filled_slot : (Tag → Cell) → (Tag → Sets → Sets) → Slot → Slot
+filled_slot x to c = (c.0, cell_or c.1 (x c.0), kept_or c.1 c.2 (to c.0 c.2))
+
+abbrev pub filled : (Tag → Cell) → (Tag → Sets → Sets) → List Slot → List Slot
+filled x to slots = map (λ (c : Slot). filled_slot x to c) slots
 
 pub alike : (f g : Slot → Slot) → ((c : Slot) → settled c.1 ≡ c.1 → f c ≡ g c) → (slots : List Slot) → AllSettled slots → map f slots ≡ map g slots
 alike f g same [] h = refl
@@ -52,9 +61,9 @@ or_settled (whole shown value) x e h = e
 or_settled too_long x e h = e
 or_settled not_shown x e h = e
 
-pub filled_settled : (x : Tag → Cell) → ((t : Tag) → settled (x t) ≡ x t) → (slots : List Slot) → AllSettled slots → AllSettled (filled x slots)
-filled_settled x h [] e = tt
-filled_settled x h (c ∷ slots) e = (or_settled c.1 (x c.0) e.0 (h c.0), filled_settled x h slots e.1)
+pub filled_settled : (x : Tag → Cell) (to : Tag → Sets → Sets) → ((t : Tag) → settled (x t) ≡ x t) → (slots : List Slot) → AllSettled slots → AllSettled (filled x to slots)
+filled_settled x to h [] e = tt
+filled_settled x to h (c ∷ slots) e = (or_settled c.1 (x c.0) e.0 (h c.0), filled_settled x to h slots e.1)
 
 pub or_both : (c x y : Cell) → cell_or (cell_or c x) y ≡ cell_or c (cell_or x y)
 or_both missing x y = refl
@@ -72,16 +81,31 @@ or_none (whole shown value) = refl
 or_none too_long = refl
 or_none not_shown = refl
 
-pub filled_twice : (x y : Tag → Cell) (slots : List Slot) → filled y (filled x slots) ≡ filled (λ (t : Tag). cell_or (x t) (y t)) slots
-filled_twice x y slots =
-    map_map (λ (c : Slot). (c.0, cell_or c.1 (x c.0))) (λ (c : Slot). (c.0, cell_or c.1 (y c.0))) slots
-    ∙ everywhere (λ (c : Slot). (c.0, cell_or (cell_or c.1 (x c.0)) (y c.0))) (λ (c : Slot). (c.0, cell_or c.1 (cell_or (x c.0) (y c.0))))
-    (λ (c : Slot). ap (λ (d : Cell). let p : Slot = (c.0, d) in p) (or_both c.1 (x c.0) (y c.0))) slots
+-- two readings one after another
+abbrev pub first_cell : (x y : Tag → Cell) → Tag → Cell
+first_cell x y t = cell_or (x t) (y t)
 
-pub filled_same : (x y : Tag → Cell) → ((t : Tag) → x t ≡ y t) → (slots : List Slot) → filled x slots ≡ filled y slots
-filled_same x y h slots =
-    everywhere (λ (c : Slot). (c.0, cell_or c.1 (x c.0))) (λ (c : Slot). (c.0, cell_or c.1 (y c.0)))
-    (λ (c : Slot). ap (λ (d : Cell). let p : Slot = (c.0, cell_or c.1 d) in p) (h c.0)) slots
+abbrev pub first_sets : (x : Tag → Cell) → (to on : Tag → Sets → Sets) → Tag → Sets → Sets
+first_sets x to on t z = kept_or (x t) (to t z) (on t (to t z))
+
+pub filled_twice : (x y : Tag → Cell) (to on : Tag → Sets → Sets) (slots : List Slot) → filled y on (filled x to slots) ≡ filled (first_cell x y) (first_sets x to on) slots
+filled_twice x y to on slots =
+    map_map (λ (c : Slot). filled_slot x to c) (λ (c : Slot). filled_slot y on c) slots
+    ∙ everywhere (λ (c : Slot). filled_slot y on (filled_slot x to c)) (λ (c : Slot). filled_slot (first_cell x y) (first_sets x to on) c)
+    (λ (c : Slot).
+    ap (λ (d : Cell). with_cell c.0 (kept_or (cell_or c.1 (x c.0)) (kept_or c.1 c.2 (to c.0 c.2)) (on c.0 (kept_or c.1 c.2 (to c.0 c.2)))) d) (or_both c.1 (x c.0) (y c.0))
+    ∙ ap (λ (z : Sets). with_cell c.0 z (cell_or c.1 (cell_or (x c.0) (y c.0)))) (kept_twice c.1 (x c.0) c.2 (to c.0 c.2) (on c.0))) slots
+
+pub filled_same : (x y : Tag → Cell) (to on : Tag → Sets → Sets) → ((t : Tag) → x t ≡ y t) → ((t : Tag) (z : Sets) → to t z ≡ on t z) → (slots : List Slot) → filled x to slots ≡ filled y on slots
+filled_same x y to on h k slots =
+    everywhere (λ (c : Slot). filled_slot x to c) (λ (c : Slot). filled_slot y on c)
+    (λ (c : Slot).
+    ap (λ (d : Cell). with_cell c.0 (kept_or c.1 c.2 (to c.0 c.2)) (cell_or c.1 d)) (h c.0)
+    ∙ ap (λ (z : Sets). with_cell c.0 (kept_or c.1 c.2 z) (cell_or c.1 (y c.0))) (k c.0 c.2)) slots
+
+-- nothing sets anything
+abbrev pub same_sets : Tag → Sets → Sets
+same_sets t z = z
 
 -- ---- a leaf
 
@@ -133,25 +157,51 @@ leaf_makes column not_shown s tag vr value e = ap ended (not_shown_stays (order 
 abbrev pub leaf_here : Syntax → Tag → Vr → List ℕ → Tag → Cell
 leaf_here s tag vr value column = if same_tag tag column then leaf_cell s tag vr value else missing
 
-abbrev with_cell : Tag → Cell → Slot
-with_cell t c = (t, c)
+abbrev pub leaf_sets : Tag → Vr → List ℕ → Tag → Sets → Sets
+leaf_sets tag vr value column sets = if same_tag tag column then sets else set_by tag vr value sets
+
+-- a leaf of the tag is no missing cell
+leaf_there : (b t : Bool) (shown : Vr) (value : List ℕ) (x y : Sets) → kept_or (if b then (if t then whole shown value else too_long) else not_shown) x y ≡ x
+leaf_there true true shown value x y = refl
+leaf_there true false shown value x y = refl
+leaf_there false t shown value x y = refl
+
+leaf_kept : (s : Syntax) (tag : Tag) (vr : Vr) (value : List ℕ) (x y : Sets) → kept_or (leaf_cell s tag vr value) x y ≡ x
+leaf_kept s tag vr value x y = leaf_there (is_shown (shown_vr s tag vr)) (nat_le (length value) 16384) (shown_vr s tag vr) value x y
+
+leaf_reads : (column : Tag) (c : Cell) (s : Syntax) (tag : Tag) (vr : Vr) (value : List ℕ) (sets : Sets)
+    → kept_or (cell_or c (leaf_here s tag vr value column)) sets (sets_with (kept_of s tag vr value) sets) ≡ kept_or c sets (leaf_sets tag vr value column sets)
+leaf_reads column c s tag vr value sets =
+    ap (kept_or (cell_or c (leaf_here s tag vr value column)) sets) (named_by s tag vr value sets)
+    ∙ kept_leaf c (same_tag tag column) (leaf_cell s tag vr value) sets (set_by tag vr value sets) (leaf_kept s tag vr value)
+
+abbrev pub on : ℕ → Tag → List Slot → Option (List ℕ) → State
+on d g slots setting = record { depth = d; greatest = g; slots = slots; setting = setting }
 
 -- the state after a leaf
 pub leaf_state : (g : Tag) (slots : List Slot) (s : Syntax) (tag : Tag) (vr : Vr) (value : List ℕ) (others : List Atom) → AllSettled slots
-    → fold next (at 0 g slots) (opens tag vr (Known (length value)) s ∷ (map value_byte (order s vr value) ++ closes_leaf ∷ others)) ≡ fold next (at 0 g (filled (leaf_here s tag vr value) slots)) others
+    → fold next (at 0 g slots) (opens tag vr (Known (length value)) s ∷ (map value_byte (order s vr value) ++ closes_leaf ∷ others)) ≡ fold next (at 0 g (filled (leaf_here s tag vr value) (leaf_sets tag vr value) slots)) others
 leaf_state g slots s tag vr value others h =
     let head : Atom = opens tag vr (Known (length value)) s in
     let w : List ℕ = order s vr value in
     let opening : Slot → Slot = λ (c : Slot). slot_step c head in
     let taking : Slot → Slot = λ (c : Slot). fold slot_step c (map value_byte w) in
     let closing : Slot → Slot = λ (c : Slot). slot_step c closes_leaf in
-    fold-append next (at 1 g (map opening slots)) (map value_byte w) (closes_leaf ∷ others)
-    ∙ ap (λ (t : State). fold next t (closes_leaf ∷ others)) (bytes_taken (at 1 g (map opening slots)) w)
-    ∙ ap (λ (x : List Slot). fold next (at 0 g (map closing x)) others) (map_map opening taking slots)
-    ∙ ap (λ (x : List Slot). fold next (at 0 g x) others) (map_map (λ (c : Slot). taking (opening c)) closing slots)
+    let setting : Option (List ℕ) = setting_opened (is_setting tag vr) None in
+    let kept : Option (List ℕ) = kept_of s tag vr value in
+    let behind : Slot → Slot = λ (c : Slot). set_slot kept c in
+    fold-append next (on 1 g (map opening slots) setting) (map value_byte w) (closes_leaf ∷ others)
+    ∙ ap (λ (t : State). fold next t (closes_leaf ∷ others)) (bytes_taken (on 1 g (map opening slots) setting) w)
+    ∙ ap (λ (x : List Slot). fold next (at 0 g x) others) (set_each kept (map closing (map taking (map opening slots))))
+    ∙ ap (λ (x : List Slot). fold next (at 0 g (map behind (map closing x))) others) (map_map opening taking slots)
+    ∙ ap (λ (x : List Slot). fold next (at 0 g (map behind x)) others) (map_map (λ (c : Slot). taking (opening c)) closing slots)
+    ∙ ap (λ (x : List Slot). fold next (at 0 g x) others) (map_map (λ (c : Slot). closing (taking (opening c))) behind slots)
     ∙ ap (λ (x : List Slot). fold next (at 0 g x) others)
-    (alike (λ (c : Slot). closing (taking (opening c))) (λ (c : Slot). (c.0, cell_or c.1 (leaf_here s tag vr value c.0)))
-    (λ (c : Slot) (e : settled c.1 ≡ c.1). ap closing (bytes_in_slot (opening c) w) ∙ ap (with_cell c.0) (leaf_makes c.0 c.1 s tag vr value e)) slots h)
+    (alike (λ (c : Slot). behind (closing (taking (opening c)))) (λ (c : Slot). filled_slot (leaf_here s tag vr value) (leaf_sets tag vr value) c)
+    (λ (c : Slot) (e : settled c.1 ≡ c.1).
+    ap (λ (d : Slot). behind (closing d)) (bytes_in_slot (opening c) w)
+    ∙ ap (λ (d : Cell). behind (with_cell c.0 c.2 d)) (leaf_makes c.0 c.1 s tag vr value e)
+    ∙ ap (λ (z : Sets). with_cell c.0 z (cell_or c.1 (leaf_here s tag vr value c.0))) (leaf_reads c.0 c.1 s tag vr value c.2)) slots h)
 
 kept_or_long : (t : Bool) (shown : Vr) (value : List ℕ) → settled (if t then whole shown value else too_long) ≡ (if t then whole shown value else too_long)
 kept_or_long true shown value = refl
@@ -183,6 +233,15 @@ found_if false c y e = refl
 
 pub leaf_first : (s : Syntax) (tag : Tag) (vr : Vr) (value : List ℕ) (column : Tag) (y : Cell) → cell_or (leaf_here s tag vr value column) y ≡ (if same_tag tag column then leaf_cell s tag vr value else y)
 leaf_first s tag vr value column y = found_if (same_tag tag column) (leaf_cell s tag vr value) y (found (is_shown (shown_vr s tag vr)) (nat_le (length value) 16384) (shown_vr s tag vr) value y)
+
+-- and so does what is in force at its head
+pub leaf_first_sets : (s : Syntax) (tag : Tag) (vr : Vr) (value : List ℕ) (column : Tag) (x : Sets) (more : Sets → Sets)
+    → kept_or (leaf_here s tag vr value column) (leaf_sets tag vr value column x) (more (leaf_sets tag vr value column x)) ≡ (if same_tag tag column then x else more (set_by tag vr value x))
+leaf_first_sets s tag vr value column x more = by_test (same_tag tag column)
+  where
+    by_test : (t : Bool) → kept_or (if t then leaf_cell s tag vr value else missing) (if t then x else set_by tag vr value x) (more (if t then x else set_by tag vr value x)) ≡ (if t then x else more (set_by tag vr value x))
+    by_test true = leaf_kept s tag vr value x (more x)
+    by_test false = refl
 
 -- ---- a sequence or a fragment list
 
@@ -220,6 +279,10 @@ pub sequence_not_shown : (s : Syntax) (tag : Tag) (vr : Vr) (declared : Length) 
 sequence_not_shown s tag vr (Known size) e = ap (λ (b : Bool). opened_as b vr (shown_vr s tag vr) s) (list_hidden s tag vr size e)
 sequence_not_shown s tag vr Undefined e = refl
 
+pub sequence_sets_nothing : (s : Syntax) (tag : Tag) (vr : Vr) (declared : Length) → form s (read_as s tag vr) declared ≡ a_sequence → opens_setting tag vr declared ≡ false
+sequence_sets_nothing s tag vr (Known size) e = hidden_sets_nothing s tag vr (list_hidden s tag vr size e)
+sequence_sets_nothing s tag vr Undefined e = refl
+
 abbrev pub list_here : Tag → Tag → Cell
 list_here tag column = if same_tag tag column then not_shown else missing
 
@@ -232,18 +295,24 @@ list_makes column too_long s tag vr declared e = refl
 list_makes column not_shown s tag vr declared e = refl
 
 -- the state after its head
-pub list_state : (g : Tag) (slots : List Slot) (s : Syntax) (tag : Tag) (vr : Vr) (declared : Length) (others : List Atom) → opened s tag vr declared ≡ not_shown
-    → fold next (at 0 g slots) (opens tag vr declared s ∷ others) ≡ fold next (at 1 g (filled (list_here tag) slots)) others
-list_state g slots s tag vr declared others e =
-    ap (λ (x : List Slot). fold next (at 1 g x) others)
-    (everywhere (λ (c : Slot). slot_step c (opens tag vr declared s)) (λ (c : Slot). (c.0, cell_or c.1 (list_here tag c.0)))
-    (λ (c : Slot). ap (with_cell c.0) (list_makes c.0 c.1 s tag vr declared e)) slots)
+pub list_state : (g : Tag) (slots : List Slot) (s : Syntax) (tag : Tag) (vr : Vr) (declared : Length) (others : List Atom) → opened s tag vr declared ≡ not_shown → opens_setting tag vr declared ≡ false
+    → fold next (at 0 g slots) (opens tag vr declared s ∷ others) ≡ fold next (at 1 g (filled (list_here tag) same_sets slots)) others
+list_state g slots s tag vr declared others e none =
+    ap (λ (t : Bool). fold next (on 1 g (map (λ (c : Slot). slot_step c (opens tag vr declared s)) slots) (setting_opened t None)) others) none
+    ∙ ap (λ (x : List Slot). fold next (at 1 g x) others)
+    (everywhere (λ (c : Slot). slot_step c (opens tag vr declared s)) (λ (c : Slot). filled_slot (list_here tag) same_sets c)
+    (λ (c : Slot).
+    ap (with_cell c.0 c.2) (list_makes c.0 c.1 s tag vr declared e)
+    ∙ ap (λ (z : Sets). with_cell c.0 z (cell_or c.1 (list_here tag c.0))) (sym (kept_same c.1 c.2))) slots)
 
 pub list_settled : (tag column : Tag) → settled (list_here tag column) ≡ list_here tag column
 list_settled tag column = if_settled (same_tag tag column) not_shown refl
 
 pub list_first : (tag column : Tag) (y : Cell) → cell_or (list_here tag column) y ≡ (if same_tag tag column then not_shown else y)
 list_first tag column y = found_if (same_tag tag column) not_shown y refl
+
+pub list_first_sets : (tag column : Tag) (x y : Sets) → kept_or (list_here tag column) x y ≡ (if same_tag tag column then x else y)
+list_first_sets tag column x y = kept_if (same_tag tag column) not_shown x y refl
 
 -- ---- an open leaf
 
@@ -280,16 +349,19 @@ part_makes column too_long s tag vr size v e = ap settled (long_stays v)
 part_makes column not_shown s tag vr size v e = ap settled (not_shown_stays v)
 
 abbrev settled_slot : Slot → Slot
-settled_slot c = (c.0, settled c.1)
+settled_slot c = (c.0, settled c.1, c.2)
 
 -- the cells after its bytes so far
 pub part_state : (g : Tag) (slots : List Slot) (s : Syntax) (tag : Tag) (vr : Vr) (size : ℕ) (v : List ℕ) → AllSettled slots
-    → map settled_slot (fold next (at 0 g slots) (opens tag vr (Known size) s ∷ map value_byte v)).slots ≡ filled (list_here tag) slots
+    → map settled_slot (fold next (at 0 g slots) (opens tag vr (Known size) s ∷ map value_byte v)).slots ≡ filled (list_here tag) same_sets slots
 part_state g slots s tag vr size v h =
     let opening : Slot → Slot = λ (c : Slot). slot_step c (opens tag vr (Known size) s) in
     let taking : Slot → Slot = λ (c : Slot). fold slot_step c (map value_byte v) in
-    ap (λ (t : State). map settled_slot t.slots) (bytes_taken (at 1 g (map opening slots)) v)
+    ap (λ (t : State). map settled_slot t.slots) (bytes_taken (on 1 g (map opening slots) (setting_opened (is_setting tag vr) None)) v)
     ∙ ap (map settled_slot) (map_map opening taking slots)
     ∙ map_map (λ (c : Slot). taking (opening c)) settled_slot slots
-    ∙ alike (λ (c : Slot). settled_slot (taking (opening c))) (λ (c : Slot). (c.0, cell_or c.1 (list_here tag c.0)))
-    (λ (c : Slot) (e : settled c.1 ≡ c.1). ap settled_slot (bytes_in_slot (opening c) v) ∙ ap (with_cell c.0) (part_makes c.0 c.1 s tag vr size v e)) slots h
+    ∙ alike (λ (c : Slot). settled_slot (taking (opening c))) (λ (c : Slot). filled_slot (list_here tag) same_sets c)
+    (λ (c : Slot) (e : settled c.1 ≡ c.1).
+    ap settled_slot (bytes_in_slot (opening c) v)
+    ∙ ap (with_cell c.0 c.2) (part_makes c.0 c.1 s tag vr size v e)
+    ∙ ap (λ (z : Sets). with_cell c.0 z (cell_or c.1 (list_here tag c.0))) (sym (kept_same c.1 c.2))) slots h

@@ -1,30 +1,30 @@
 -- The cells after what was read of a data set.
-use Rattle.std.proofs.Common.{◌≡◌, ◌∙◌, sym, ap, refl, subst, ℕ, zero, suc, ◌+◌, ◌*◌, ◌<◌, ◌≤◌, List, [], ◌∷◌, ◌++◌, length, map, fold, arith, Option, Some, None, Bool, true, false}
+use Rattle.std.proofs.Common.{◌≡◌, ◌∙◌, sym, ap, refl, subst, ℕ, suc, List, [], ◌∷◌, length, fold, arith, Option, Bool, true, false}
 use Rattle.std.specs.Prelude.{if◌then◌else◌}
 use Rattle.dcm_base.specs.declared.tag.Tag.{Tag}
-use Rattle.dcm_base.specs.declared.vr.Vr.{Vr}
 use Rattle.dcm_base.specs.declared.length.Length.{Length}
 use Rattle.dcm_base.specs.declared.length.Length.TheVariants.{Known, Undefined}
 use Rattle.dcm_base.specs.declared.syntax.Syntax.{Syntax}
-use Rattle.dcm_base.specs.declared.fault.Fault.{Fault}
 use Rattle.dcm_base.specs.declared.form.Form.TheVariants.{Value as a_value, Sequence as a_sequence, FragmentList as a_fragment_list}
 use Rattle.dcm_base.specs.Tables.Tag.{sequence_end_tag, same_tag}
-use Rattle.dcm_base.specs.Tree.Tree.{Trees, no_tree, leaf, sequence, fragments, Items, no_item, item}
-use Rattle.dcm_base.specs.Tree.Front.{Front, front, OpenTree, nothing_open, open_leaf, open_sequence, open_fragments, OpenItem, no_open_item, open_item}
+use Rattle.dcm_base.specs.Tree.Tree.{Trees, no_tree, leaf, sequence, fragments}
+use Rattle.dcm_base.specs.Tree.Front.{Front, front, OpenTree, nothing_open, open_leaf, open_sequence, open_fragments}
 use Rattle.dcm_base.specs.Tree.Value.{order}
 use Rattle.dcm_base.specs.Bytes.Spelling.{Enclosed, TreesAt, ItemsAt, SpellsFront, inside, after, after_trees}
 use Rattle.dcm_base.specs.Reading.Reads.{Reads, ended as ended_front}
 use Rattle.dcm_base.specs.Reading.Stop.{Bar, Stop, complete, refused}
-use Rattle.dcm_base.specs.Steps.Atoms.{Atom, opens, value_byte, closes_leaf, closes_sequence, fragments_then, open_fragment_atoms, end_atoms, ShowTrees, ShowItems, ShowsOpen, trees_then, items_then, front_atoms, open_atoms}
+use Rattle.dcm_base.specs.Steps.Atoms.{Atom, closes_leaf, closes_sequence, fragments_then, open_fragment_atoms, end_atoms, ShowItems, ShowsOpen, trees_then, items_then, front_atoms, open_atoms}
 use Rattle.dcm_base.proofs.DataSets.Shown.{items_shown, trees_shown, open_shown}
 use Rattle.dcm_sinks.specs.Laws.{StaysShallow}
 use Rattle.dcm_sinks.proofs.Dumps.OpenLists.{stays_on, stays_opened, stays_bytes, stays_fragments, stays_same, stays_trees, stays_items}
-use Rattle.dcm_table.specs.Cell.{Cell, missing, not_shown, opened}
-use Rattle.dcm_table.specs.Shown.{settled, AllSettled, cell_or, leaf_cell, trees_cell, open_cell, front_cell, settled_slots, slots_with}
-use Rattle.dcm_table.specs.TableSink.{Slot, State, next}
-use Rattle.dcm_table.proofs.Folds.{map_map}
-use Rattle.dcm_table.proofs.Inside.{at, shallow, items_inside, item_inside, fragments_inside, fragment_inside, StaysInside}
-use Rattle.dcm_table.proofs.Outside.{filled, filled_settled, filled_twice, filled_same, alike, or_none, leaf_here, leaf_state, leaf_settled, leaf_cell_settled, leaf_first, list_here, list_state, list_settled, list_first, sequence_not_shown, part_state}
+use Rattle.dcm_text.specs.declared.sets.Sets.{Sets}
+use Rattle.dcm_table.specs.Cell.{Cell, missing, not_shown}
+use Rattle.dcm_table.specs.InForce.{trees_sets}
+use Rattle.dcm_table.specs.Shown.{settled, AllSettled, leaf_cell, trees_cell, open_cell, front_cell, settled_slots, slots_with}
+use Rattle.dcm_table.specs.TableSink.{Slot, State, next, kept_or}
+use Rattle.dcm_table.proofs.Inside.{at, items_inside, item_inside, fragments_inside, fragment_inside}
+use Rattle.dcm_table.proofs.Outside.{filled, filled_settled, filled_twice, filled_same, first_cell, first_sets, same_sets, or_none, leaf_here, leaf_sets, leaf_state, leaf_settled, leaf_cell_settled, leaf_first, leaf_first_sets, list_here, list_state, list_settled, list_first, list_first_sets, sequence_not_shown, sequence_sets_nothing, part_state}
+use Rattle.dcm_table.proofs.Settings.{kept_same}
 
 -- what shows the contents shows what encloses them
 contents_shown : (s : Syntax) (end_tag : Tag) (declared : Length) (R : List ℕ → List ℕ → Type 0) (c e : List ℕ) (P : Type 0)
@@ -34,6 +34,9 @@ contents_shown s end_tag Undefined R c e P shown (d, r, x) = shown c d r
 
 abbrev cells_in : Syntax → Trees → Tag → Cell
 cells_in s t column = trees_cell s column t
+
+abbrev sets_in : Trees → Tag → Sets → Sets
+sets_in t column z = trees_sets column z t
 
 if_settled : (t : Bool) (c d : Cell) → settled c ≡ c → settled d ≡ d → settled (if t then c else d) ≡ (if t then c else d)
 if_settled true c d e h = e
@@ -46,27 +49,33 @@ cells_settled (leaf tag vr value rest) s column = if_settled (same_tag tag colum
 cells_settled (sequence tag vr declared items rest) s column = if_settled (same_tag tag column) not_shown (trees_cell s column rest) refl (cells_settled rest s column)
 cells_settled (fragments tag vr values rest) s column = if_settled (same_tag tag column) not_shown (trees_cell s column rest) refl (cells_settled rest s column)
 
-all_stay : (slots : List Slot) → filled (λ (t : Tag). missing) slots ≡ slots
+all_stay : (slots : List Slot) → filled (λ (t : Tag). missing) same_sets slots ≡ slots
 all_stay [] = refl
-all_stay (c ∷ slots) = ap (λ (x : Cell). (c.0, x) ∷ filled (λ (t : Tag). missing) slots) (or_none c.1) ∙ ap (λ (x : List Slot). c ∷ x) (all_stay slots)
+all_stay (c ∷ slots) =
+    ap (λ (x : Cell). (c.0, x, kept_or c.1 c.2 c.2) ∷ filled (λ (t : Tag). missing) same_sets slots) (or_none c.1)
+    ∙ ap (λ (z : Sets). (c.0, c.1, z) ∷ filled (λ (t : Tag). missing) same_sets slots) (kept_same c.1 c.2)
+    ∙ ap (λ (x : List Slot). c ∷ x) (all_stay slots)
 
 -- after them no more lists are open
 trees_low : (t : Trees) (s : Syntax) (b p : List ℕ) (others : List Atom) → TreesAt s t b p → StaysShallow 0 (trees_then s t others) → StaysShallow 0 others
 trees_low t s b p others h low = stays_trees 0 t (trees_then s t others) others (trees_shown s t b p others h) low
 
 trees_fill : (t : Trees) (s : Syntax) (g : Tag) (slots : List Slot) (b p : List ℕ) (others : List Atom) → TreesAt s t b p → AllSettled slots → StaysShallow 0 (trees_then s t others)
-    → fold next (at 0 g slots) (trees_then s t others) ≡ fold next (at 0 g (filled (cells_in s t) slots)) others
-unfolding TreesAt trees_then trees_cell
+    → fold next (at 0 g slots) (trees_then s t others) ≡ fold next (at 0 g (filled (cells_in s t) (sets_in t) slots)) others
+unfolding TreesAt trees_then trees_cell trees_sets
 trees_fill no_tree s g slots b p others h settles low = ap (λ (x : List Slot). fold next (at 0 g x) others) (sym (all_stay slots))
 trees_fill (leaf tag vr value rest) s g slots b p others (b', fo, head, more) settles low =
     let here : Tag → Cell = leaf_here s tag vr value in
+    let to : Tag → Sets → Sets = leaf_sets tag vr value in
     let t : Syntax = after s tag vr value in
     let there = stays_on 0 closes_leaf (trees_then t rest others) (stays_bytes 0 (order s vr value) (closes_leaf ∷ trees_then t rest others) (stays_opened 0 a_value tag vr (Known (length value)) s _ fo low)) in
     leaf_state g slots s tag vr value (trees_then t rest others) settles
-    ∙ trees_fill rest t g (filled here slots) b' p others more (filled_settled here (leaf_settled s tag vr value) slots settles) there
+    ∙ trees_fill rest t g (filled here to slots) b' p others more (filled_settled here to (leaf_settled s tag vr value) slots settles) there
     ∙ ap (λ (x : List Slot). fold next (at 0 g x) others)
-    (filled_twice here (cells_in t rest) slots
-    ∙ filled_same (λ (c : Tag). cell_or (here c) (trees_cell t c rest)) (cells_in s (leaf tag vr value rest)) (λ (c : Tag). leaf_first s tag vr value c (trees_cell t c rest)) slots)
+    (filled_twice here (cells_in t rest) to (sets_in rest) slots
+    ∙ filled_same (first_cell here (cells_in t rest)) (cells_in s (leaf tag vr value rest)) (first_sets here to (sets_in rest)) (sets_in (leaf tag vr value rest))
+    (λ (c : Tag). leaf_first s tag vr value c (trees_cell t c rest))
+    (λ (c : Tag) (z : Sets). leaf_first_sets s tag vr value c z (sets_in rest c)) slots)
 trees_fill (sequence tag vr declared items rest) s g slots b p others (contents, b', fo, head, inner, more) settles low =
     let here : Tag → Cell = list_here tag in
     let behind : List Atom = closes_sequence ∷ trees_then s rest others in
@@ -74,31 +83,35 @@ trees_fill (sequence tag vr declared items rest) s g slots b p others (contents,
     let shown : ShowItems items atoms behind = contents_shown (inside s vr) sequence_end_tag declared (ItemsAt (inside s vr) items) contents b' (ShowItems items atoms behind) (λ c d r. items_shown (inside s vr) items c d behind r) inner in
     let within = stays_opened 0 a_sequence tag vr declared s atoms fo low in
     let there = stays_on 1 closes_sequence (trees_then s rest others) (stays_items 1 items atoms behind shown within) in
-    let settles' = filled_settled here (list_settled tag) slots settles in
-    list_state g slots s tag vr declared atoms (sequence_not_shown s tag vr declared fo)
-    ∙ items_inside g (filled here slots) settles' items 1 0 atoms behind shown within (omega arith)
-    ∙ trees_fill rest s g (filled here slots) b' p others more settles' there
+    let settles' = filled_settled here same_sets (list_settled tag) slots settles in
+    list_state g slots s tag vr declared atoms (sequence_not_shown s tag vr declared fo) (sequence_sets_nothing s tag vr declared fo)
+    ∙ items_inside g (filled here same_sets slots) settles' items 1 0 atoms behind shown within (omega arith)
+    ∙ trees_fill rest s g (filled here same_sets slots) b' p others more settles' there
     ∙ ap (λ (x : List Slot). fold next (at 0 g x) others)
-    (filled_twice here (cells_in s rest) slots
-    ∙ filled_same (λ (c : Tag). cell_or (here c) (trees_cell s c rest)) (cells_in s (sequence tag vr declared items rest)) (λ (c : Tag). list_first tag c (trees_cell s c rest)) slots)
+    (filled_twice here (cells_in s rest) same_sets (sets_in rest) slots
+    ∙ filled_same (first_cell here (cells_in s rest)) (cells_in s (sequence tag vr declared items rest)) (first_sets here same_sets (sets_in rest)) (sets_in (sequence tag vr declared items rest))
+    (λ (c : Tag). list_first tag c (trees_cell s c rest))
+    (λ (c : Tag) (z : Sets). list_first_sets tag c z (trees_sets c z rest)) slots)
 trees_fill (fragments tag vr values rest) s g slots b p others (contents, b', fo, head, inner, more) settles low =
     let here : Tag → Cell = list_here tag in
     let behind : List Atom = closes_sequence ∷ trees_then s rest others in
     let within = stays_opened 0 a_fragment_list tag vr Undefined s (fragments_then values behind) fo low in
     let there = stays_on 1 closes_sequence (trees_then s rest others) (stays_fragments 1 values behind within) in
-    let settles' = filled_settled here (list_settled tag) slots settles in
-    list_state g slots s tag vr Undefined (fragments_then values behind) refl
-    ∙ fragments_inside g (filled here slots) settles' 0 values behind (omega arith)
-    ∙ trees_fill rest s g (filled here slots) b' p others more settles' there
+    let settles' = filled_settled here same_sets (list_settled tag) slots settles in
+    list_state g slots s tag vr Undefined (fragments_then values behind) refl refl
+    ∙ fragments_inside g (filled here same_sets slots) settles' 0 values behind (omega arith)
+    ∙ trees_fill rest s g (filled here same_sets slots) b' p others more settles' there
     ∙ ap (λ (x : List Slot). fold next (at 0 g x) others)
-    (filled_twice here (cells_in s rest) slots
-    ∙ filled_same (λ (c : Tag). cell_or (here c) (trees_cell s c rest)) (cells_in s (fragments tag vr values rest)) (λ (c : Tag). list_first tag c (trees_cell s c rest)) slots)
+    (filled_twice here (cells_in s rest) same_sets (sets_in rest) slots
+    ∙ filled_same (first_cell here (cells_in s rest)) (cells_in s (fragments tag vr values rest)) (first_sets here same_sets (sets_in rest)) (sets_in (fragments tag vr values rest))
+    (λ (c : Tag). list_first tag c (trees_cell s c rest))
+    (λ (c : Tag) (z : Sets). list_first_sets tag c z (trees_sets c z rest)) slots)
 
 -- ---- what is open
 
 all_settle : (slots : List Slot) → AllSettled slots → settled_slots slots ≡ slots
 all_settle [] h = refl
-all_settle (c ∷ slots) h = ap (λ (x : Cell). (c.0, x) ∷ settled_slots slots) h.0 ∙ ap (λ (x : List Slot). c ∷ x) (all_settle slots h.1)
+all_settle (c ∷ slots) h = ap (λ (x : Cell). (c.0, x, c.2) ∷ settled_slots slots) h.0 ∙ ap (λ (x : List Slot). c ∷ x) (all_settle slots h.1)
 
 abbrev open_in : OpenTree → Tag → Cell
 open_in o column = open_cell column o
@@ -111,7 +124,7 @@ slots_of_state : (d : ℕ) (g : Tag) (slots : List Slot) (t : State) → t ≡ a
 slots_of_state d g slots t e = ap (λ (u : State). u.slots) e
 
 open_fills : (o : OpenTree) (closed : Bool) (g : Tag) (slots : List Slot) (atoms : List Atom) → ShowsOpen o (end_atoms closed) atoms → AllSettled slots → StaysShallow 0 atoms
-    → settled_slots (fold next (at 0 g slots) atoms).slots ≡ filled (open_in o) slots
+    → settled_slots (fold next (at 0 g slots) atoms).slots ≡ filled (open_in o) same_sets slots
 unfolding ShowsOpen
 open_fills nothing_open closed g slots atoms e settles low =
     ap (λ (x : List Atom). settled_slots (fold next (at 0 g slots) x).slots) e
@@ -120,23 +133,23 @@ open_fills (open_leaf tag vr size value) closed g slots atoms (s, fo, le, is) se
     ap (λ (x : List Atom). settled_slots (fold next (at 0 g slots) x).slots) is ∙ part_state g slots s tag vr size (order s vr value) settles
 open_fills (open_sequence tag vr declared items last) closed g slots atoms (s, contents, others, fo, is, inner, more) settles low =
     let here : Tag → Cell = list_here tag in
-    let slots' : List Slot = filled here slots in
-    let settles' = filled_settled here (list_settled tag) slots settles in
+    let slots' : List Slot = filled here same_sets slots in
+    let settles' = filled_settled here same_sets (list_settled tag) slots settles in
     let within = stays_opened 0 a_sequence tag vr declared s contents fo (stays_same 0 atoms _ is low) in
     let last_one = item_inside g slots' settles' last 1 0 others more (stays_items 1 items contents others inner within) (omega arith) in
     ap settled_slots
     (slots_of_state (suc last_one.depth) g slots' (fold next (at 0 g slots) atoms)
-    (ap (fold next (at 0 g slots)) is ∙ list_state g slots s tag vr declared contents (sequence_not_shown s tag vr declared fo)
+    (ap (fold next (at 0 g slots)) is ∙ list_state g slots s tag vr declared contents (sequence_not_shown s tag vr declared fo) (sequence_sets_nothing s tag vr declared fo)
     ∙ items_inside g slots' settles' items 1 0 contents others inner within (omega arith) ∙ last_one.comes))
     ∙ all_settle slots' settles'
 open_fills (open_fragments tag vr values last) closed g slots atoms (s, fo, mi, is) settles low =
     let here : Tag → Cell = list_here tag in
-    let slots' : List Slot = filled here slots in
-    let settles' = filled_settled here (list_settled tag) slots settles in
+    let slots' : List Slot = filled here same_sets slots in
+    let settles' = filled_settled here same_sets (list_settled tag) slots settles in
     let last_one = fragment_inside g slots' settles' 0 last (omega arith) in
     ap settled_slots
     (slots_of_state (suc last_one.depth) g slots' (fold next (at 0 g slots) atoms)
-    (ap (fold next (at 0 g slots)) is ∙ list_state g slots s tag vr Undefined (fragments_then values (open_fragment_atoms last)) refl
+    (ap (fold next (at 0 g slots)) is ∙ list_state g slots s tag vr Undefined (fragments_then values (open_fragment_atoms last)) refl refl
     ∙ fragments_inside g slots' settles' 0 values (open_fragment_atoms last) (omega arith) ∙ last_one.comes))
     ∙ all_settle slots' settles'
 
@@ -147,11 +160,13 @@ front_fills : (trees : Trees) (o : OpenTree) (r r' : Option Tag) (c c' : Bool) (
 unfolding SpellsFront front_atoms
 front_fills trees o r r' c c' g slots s read (others, placed, op, re, cl) settles low =
     let atoms : List Atom = open_atoms (after_trees s trees) o (end_atoms c') in
-    let slots' : List Slot = filled (cells_in s trees) slots in
-    let settles' = filled_settled (cells_in s trees) (cells_settled trees s) slots settles in
+    let slots' : List Slot = filled (cells_in s trees) (sets_in trees) slots in
+    let settles' = filled_settled (cells_in s trees) (sets_in trees) (cells_settled trees s) slots settles in
     ap (λ (t : State). settled_slots t.slots) (trees_fill trees s g slots read others atoms placed settles low)
     ∙ open_fills o c' g slots' atoms (open_shown (after_trees s trees) o others (end_atoms c') op) settles' (trees_low trees s read others atoms placed low)
-    ∙ filled_twice (cells_in s trees) (open_in o) slots
+    ∙ filled_twice (cells_in s trees) (open_in o) (sets_in trees) same_sets slots
+    ∙ filled_same (first_cell (cells_in s trees) (open_in o)) (λ (t : Tag). front_cell s t (front trees o r' c')) (first_sets (cells_in s trees) (sets_in trees) same_sets) (sets_in trees)
+    (λ (t : Tag). refl) (λ (t : Tag) (z : Sets). kept_same (trees_cell s t trees) (trees_sets t z trees)) slots
 
 read_fills : (stop : Stop) (f : Front) (g : Tag) (slots : List Slot) (s : Syntax) (read : List ℕ) → SpellsFront s f read → AllSettled slots → StaysShallow 0 (front_atoms s (ended_front stop f))
     → settled_slots (fold next (at 0 g slots) (front_atoms s (ended_front stop f))).slots ≡ slots_with s (ended_front stop f) slots

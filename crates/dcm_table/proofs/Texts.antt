@@ -1,8 +1,7 @@
 -- Texts that are made valid UTF-8, chunk by chunk.
-use Rattle.std.proofs.Common.{◌≡◌, ◌≢◌, ◌∙◌, sym, ap, refl, subst, ℕ, zero, suc, ◌+◌, ◌-◌, ◌<◌, ◌≤◌, ◌==◌, List, [], ◌∷◌, ◌++◌, length, take, drop, Option, Bool, true, false, append_assoc, arith, eq-eqb, drop-drop}
-use Rattle.std.specs.Prelude.{slice_index, ◌/◌, ◌%◌, nat_lt, if◌then◌else◌, flat_map, Result, Ok, Err, IsErr, IsUtf8}
+use Rattle.std.proofs.Common.{◌≡◌, ◌∙◌, sym, ap, refl, subst, ℕ, zero, suc, ◌+◌, ◌<◌, ◌≤◌, ◌==◌, List, [], ◌∷◌, ◌++◌, length, take, drop, Option, Bool, true, false, append_assoc, arith, eq-eqb, drop-drop}
+use Rattle.std.specs.Prelude.{slice_index, ◌/◌, ◌%◌, nat_lt, if◌then◌else◌, Result, Err, IsErr, IsUtf8}
 use Rattle.std.specs.Io.KnownBytes.{append_known}
-use Rattle.std.specs.Str.{IsValidUpTo}
 use Rattle.std.specs.Str.Lossy.{utf8_valid_len}
 use Rattle.std.proofs.lemmas.Str.{utf8_valid_len_le, utf8_valid_len-IsUtf8}
 use Rattle.std.proofs.lemmas.Grind.{flat_map-append}

@@ -1,29 +1,37 @@
 -- Rows are valid UTF-8.
-use Rattle.std.proofs.Common.{◌≡◌, ◌∙◌, sym, ap, refl, subst, ℕ, zero, suc, ◌+◌, ◌-◌, ◌*◌, ◌/◌, ◌%◌, ◌^◌, ◌<◌, ◌≤◌, List, [], ◌∷◌, ◌++◌, length, take, drop, Bool, true, false, arith, map, suc-mul, lit≤}
-use Rattle.std.specs.Prelude.{slice_index, nat_lt, if◌then◌else◌, flat_map, decimal, codes, IsUtf8, IsAscii}
+use Rattle.std.proofs.Common.{◌≡◌, sym, refl, subst, ℕ, zero, suc, ◌-◌, ◌*◌, ◌/◌, ◌%◌, ◌^◌, ◌<◌, ◌≤◌, List, [], ◌∷◌, ◌++◌, length, take, drop, Bool, true, false, arith, suc-mul, lit≤}
+use Rattle.std.specs.Prelude.{nat_lt, ◌&&◌, if◌then◌else◌, decimal, codes, IsUtf8, IsAscii}
 use Rattle.std.proofs.lemmas.Fmt.{IsAscii-decimal, IsAscii-decimal_wide}
-use Rattle.std.proofs.lemmas.Bool.Decides.{nat_tests}
 use Rattle.std.proofs.lemmas.List.{length-take-le, length-drop}
-use Rattle.std.proofs.lemmas.Str.{IsUtf8-append, IsUtf8-nil, IsUtf8-from_ascii, IsAscii-append}
+use Rattle.std.proofs.lemmas.Str.{IsUtf8-append, IsUtf8-nil, IsUtf8-from_ascii}
 use Rattle.std.proofs.lemmas.Str.Ascii.{IsAscii-nil, IsAscii-cons}
 use lib.Ieee.{nan_bits}
 use Rattle.dcm_base.specs.declared.vr.Vr.{Vr}
 use Rattle.dcm_base.specs.declared.vr.Vr.TheVariants.{AT, FD, FL, SL, SS, SV, UI, UL, US, UV}
-use Rattle.dcm_base.specs.Dump.ValueText.{hex_byte, hex_word, lower, shape, shown_unit, signed_text, tag_text, unit_text}
+use Rattle.dcm_base.specs.Dump.ValueText.{hex_byte, hex_word, lower, shown_unit, signed_text, tag_text}
 use Rattle.dcm_base.specs.Tables.Number.{AreBytes}
 use Rattle.dcm_base.specs.Tables.Transfer.{before_pads, is_pad, without_pads}
 use Rattle.dcm_base.specs.Tree.Value.{number_of, pieces, units}
 use Rattle.dcm_base.proofs.DumpsBack.Texts.{Bytes, bytes_of}
 use Rattle.dcm_base.proofs.DumpsBack.Parts.{Bytes-take, Bytes-drop}
 use Rattle.dcm_base.proofs.DumpsBack.Values.{below_64, two_below}
-use Rattle.dcm_table.specs.declared.quoted.TextForm.TheVariants.{ValidUtf8}
+use Rattle.std.specs.Prelude.{Option, Some, None}
+use Rattle.std.specs.List.{list_all}
+use Rattle.std.proofs.lemmas.Bool.{lt-ltb}
+use Rattle.dcm_text.specs.declared.set.TextKind.{TextKind}
+use Rattle.dcm_text.specs.declared.sets.Sets.{Sets}
+use Rattle.dcm_text.specs.Laws.{is_byte}
+use Rattle.dcm_text.specs.Shown.{cell}
+use Rattle.dcm_text.proofs.Sound.{table_utf8}
+use Rattle.dcm_table.specs.declared.quoted.TextForm.{TextForm}
+use Rattle.dcm_table.specs.declared.quoted.TextForm.TheVariants.{ValidUtf8, AsItIs, Decoded}
 use Rattle.dcm_table.specs.Cell.{Cell, missing, open_value, open_too_long, whole, too_long, not_shown, is_shown}
 use Rattle.dcm_table.specs.Parts.{Part, some_bytes, a_float, float_part, single, double, Width, format_of, SpellsPart, SpellsParts}
-use Rattle.dcm_table.specs.Quoted.{quoted, valid_utf8}
-use Rattle.dcm_table.specs.Row.{cell_parts, cells_parts, is_quoted_list, is_quoted_text, joined, newline, next_units_parts, numbers_parts, row_parts, unit_part, units_parts, value_parts}
-use Rattle.dcm_table.specs.Laws.{HoldsBytes, AllHoldBytes}
+use Rattle.dcm_table.specs.Quoted.{quoted, text_in}
+use Rattle.dcm_table.specs.Row.{cell_parts, cells_parts, is_quoted_list, is_quoted_text, joined, newline, next_units_parts, numbers_parts, row_parts, decoded_kind, shown_text, text_by, unit_part, units_parts, value_parts}
+use Rattle.dcm_table.specs.Laws.{HoldsBytes, AllHoldBytes, is_valid_form}
 use Rattle.dcm_table.specs.TableSink.{Slot}
-use Rattle.dcm_table.proofs.ValidTexts.{text_valid, digit_low}
+use Rattle.dcm_table.proofs.ValidTexts.{text_valid, quoted_valid, digit_low}
 
 -- ---- parts whose texts are valid
 
@@ -140,43 +148,61 @@ are_bytes [] h i = omega arith
 are_bytes (b ∷ v) h zero = h.0
 are_bytes (b ∷ v) h (suc i) = are_bytes v h.1 i
 
-text_parts_valid : (t : Bool) (vr : Vr) (v : List ℕ) → t ≡ true → Bytes v → AllValid (value_parts t ValidUtf8 vr v)
-text_parts_valid true vr v e h = (bytes_valid (quoted (valid_utf8 (without_pads v))) (text_valid (without_pads v) (are_bytes (without_pads v) (kept_bytes v h))), tt)
-text_parts_valid false vr v e h = cc
+listed : (v : List ℕ) → Bytes v → list_all is_byte v ≡ true
+listed [] h = refl
+listed (b ∷ v) h = both_listed (is_byte b) (list_all is_byte v) (lt-ltb b 256 h.0) (listed v h.1)
+  where
+    both_listed : (x y : Bool) → x ≡ true → y ≡ true → (x && y) ≡ true
+    both_listed x y e k = rw (e, k) refl
 
-some_text : (vr : Vr) (t : List ℕ) → IsAscii t → ValidPart (some_bytes t)
-some_text vr t h = ascii_valid t h
+-- a name, or a text that is not decoded
+pub text_in_valid : (form : TextForm) (v : List ℕ) → is_valid_form form ≡ true → AreBytes v → IsUtf8 (quoted (text_in form v))
+text_in_valid ValidUtf8 v e h = text_valid v h
+text_in_valid AsItIs v e h = cc
+text_in_valid Decoded v e h = text_valid v h
 
-value_valid : (vr : Vr) (v : List ℕ) → is_shown vr ≡ true → Bytes v → AllValid (value_parts (is_quoted_text vr) ValidUtf8 vr v)
-value_valid AT v e h = numbers_valid AT (λ u l k. ascii_valid _ (tag_ascii u l k)) v (omega arith) h
-value_valid FD v e h = numbers_valid FD (λ u l k. float_valid double (number_of u)) v (omega arith) h
-value_valid FL v e h = numbers_valid FL (λ u l k. float_valid single (number_of u)) v (omega arith) h
-value_valid SL v e h = numbers_valid SL (λ u l k. ascii_valid _ (signed_ascii 4 u (lit≤ tt) (lit≤ tt) l k)) v (omega arith) h
-value_valid SS v e h = numbers_valid SS (λ u l k. ascii_valid _ (signed_ascii 2 u (lit≤ tt) (lit≤ tt) l k)) v (omega arith) h
-value_valid SV v e h = numbers_valid SV (λ u l k. ascii_valid _ (signed_ascii 8 u (lit≤ tt) (lit≤ tt) l k)) v (omega arith) h
-value_valid UL v e h = numbers_valid UL (λ u l k. ascii_valid _ (unsigned_ascii 4 u (lit≤ tt) l k)) v (omega arith) h
-value_valid US v e h = numbers_valid US (λ u l k. ascii_valid _ (unsigned_ascii 2 u (lit≤ tt) l k)) v (omega arith) h
-value_valid UV v e h = numbers_valid UV (λ u l k. ascii_valid _ (unsigned_ascii 8 u (lit≤ tt) l k)) v (omega arith) h
-value_valid UI v e h = text_parts_valid true UI v refl h
-value_valid vr v e h = text_parts_valid (is_quoted_text vr) vr v e h
+by_kind_valid : (kind : Option TextKind) (form : TextForm) (sets : Sets) (v : List ℕ) → is_valid_form form ≡ true → Bytes v → IsUtf8 (quoted (text_by kind form sets v))
+by_kind_valid (Some kind) form sets v e h = quoted_valid (cell sets kind v) (table_utf8 sets kind v (listed v h))
+by_kind_valid None form sets v e h = text_in_valid form v e (are_bytes v h)
+
+module _ (form : TextForm) (sets : Sets) (valid : is_valid_form form ≡ true) where
+  text_parts_valid : (t : Bool) (vr : Vr) (v : List ℕ) → t ≡ true → Bytes v → AllValid (value_parts t form sets vr v)
+  text_parts_valid true vr v e h = (bytes_valid (quoted (shown_text form sets vr (without_pads v))) (by_kind_valid (decoded_kind form vr) form sets (without_pads v) valid (kept_bytes v h)), tt)
+  text_parts_valid false vr v e h = cc
+
+  some_text : (vr : Vr) (t : List ℕ) → IsAscii t → ValidPart (some_bytes t)
+  some_text vr t h = ascii_valid t h
+
+  value_valid : (vr : Vr) (v : List ℕ) → is_shown vr ≡ true → Bytes v → AllValid (value_parts (is_quoted_text vr) form sets vr v)
+  value_valid AT v e h = numbers_valid AT (λ u l k. ascii_valid _ (tag_ascii u l k)) v (omega arith) h
+  value_valid FD v e h = numbers_valid FD (λ u l k. float_valid double (number_of u)) v (omega arith) h
+  value_valid FL v e h = numbers_valid FL (λ u l k. float_valid single (number_of u)) v (omega arith) h
+  value_valid SL v e h = numbers_valid SL (λ u l k. ascii_valid _ (signed_ascii 4 u (lit≤ tt) (lit≤ tt) l k)) v (omega arith) h
+  value_valid SS v e h = numbers_valid SS (λ u l k. ascii_valid _ (signed_ascii 2 u (lit≤ tt) (lit≤ tt) l k)) v (omega arith) h
+  value_valid SV v e h = numbers_valid SV (λ u l k. ascii_valid _ (signed_ascii 8 u (lit≤ tt) (lit≤ tt) l k)) v (omega arith) h
+  value_valid UL v e h = numbers_valid UL (λ u l k. ascii_valid _ (unsigned_ascii 4 u (lit≤ tt) l k)) v (omega arith) h
+  value_valid US v e h = numbers_valid US (λ u l k. ascii_valid _ (unsigned_ascii 2 u (lit≤ tt) l k)) v (omega arith) h
+  value_valid UV v e h = numbers_valid UV (λ u l k. ascii_valid _ (unsigned_ascii 8 u (lit≤ tt) l k)) v (omega arith) h
+  value_valid UI v e h = text_parts_valid true UI v refl h
+  value_valid vr v e h = text_parts_valid (is_quoted_text vr) vr v e h
+
+  pub cell_valid : (c : Cell) → HoldsBytes c → AllValid (cell_parts form sets c)
+  cell_valid missing h = tt
+  cell_valid (open_value vr shown s bytes) h = tt
+  cell_valid open_too_long h = tt
+  cell_valid (whole vr v) h = value_valid vr v h.0 (bytes_of v h.1)
+  cell_valid too_long h = tt
+  cell_valid not_shown h = tt
 
 -- ---- a row
 
-cell_valid : (c : Cell) → HoldsBytes c → AllValid (cell_parts ValidUtf8 c)
-cell_valid missing h = tt
-cell_valid (open_value vr shown s bytes) h = tt
-cell_valid open_too_long h = tt
-cell_valid (whole vr v) h = value_valid vr v h.0 (bytes_of v h.1)
-cell_valid too_long h = tt
-cell_valid not_shown h = tt
+cells_valid : (form : TextForm) → is_valid_form form ≡ true → (slots : List Slot) → AllHoldBytes slots → AllValid (cells_parts form slots)
+cells_valid form e [] h = tt
+cells_valid form e (c ∷ slots) h =
+    (one_valid 44 (omega arith), all_both (cell_parts form c.2 c.1) (cells_parts form slots) (cell_valid form c.2 e c.1 h.0) (cells_valid form e slots h.1))
 
-cells_valid : (slots : List Slot) → AllHoldBytes slots → AllValid (cells_parts ValidUtf8 slots)
-cells_valid [] h = tt
-cells_valid (c ∷ slots) h =
-    (one_valid 44 (omega arith), all_both (cell_parts ValidUtf8 c.1) (cells_parts ValidUtf8 slots) (cell_valid c.1 h.0) (cells_valid slots h.1))
-
-pub row_valid : (name : List ℕ) (slots : List Slot) (text : List ℕ) → AreBytes name → AllHoldBytes slots → SpellsParts (row_parts ValidUtf8 name slots) text → IsUtf8 text
-row_valid name slots text named held spelled =
-    spelled_valid (row_parts ValidUtf8 name slots)
-    (bytes_valid (quoted (valid_utf8 name)) (text_valid name named), all_both (cells_parts ValidUtf8 slots) (some_bytes newline ∷ []) (cells_valid slots held) (one_valid 10 (omega arith), tt))
+pub row_valid : (form : TextForm) (name : List ℕ) (slots : List Slot) (text : List ℕ) → is_valid_form form ≡ true → AreBytes name → AllHoldBytes slots → SpellsParts (row_parts form name slots) text → IsUtf8 text
+row_valid form name slots text e named held spelled =
+    spelled_valid (row_parts form name slots)
+    (bytes_valid (quoted (text_in form name)) (text_in_valid form name e named), all_both (cells_parts form slots) (some_bytes newline ∷ []) (cells_valid form e slots held) (one_valid 10 (omega arith), tt))
     text spelled

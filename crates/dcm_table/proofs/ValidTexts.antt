@@ -1,9 +1,9 @@
 -- Texts in double quotes are valid UTF-8.
-use Rattle.std.proofs.Common.{◌≡◌, ◌∙◌, sym, ap, refl, subst, ℕ, zero, suc, ◌+◌, ◌<◌, ◌≤◌, ◌==◌, List, [], ◌∷◌, ◌++◌, length, take, drop, Bool, true, false, cond, arith, ◌⊎◌, append_assoc}
-use Rattle.std.specs.Prelude.{slice_index, ◌/◌, ◌%◌, nat_lt, if◌then◌else◌, flat_map, ◌&&◌, IsUtf8, IsAscii}
+use Rattle.std.proofs.Common.{◌≡◌, ◌∙◌, sym, ap, refl, subst, ℕ, zero, suc, ◌+◌, ◌<◌, ◌≤◌, ◌==◌, List, [], ◌∷◌, ◌++◌, length, take, drop, Bool, true, false, cond, arith}
+use Rattle.std.specs.Prelude.{slice_index, ◌/◌, ◌%◌, nat_lt, if◌then◌else◌, ◌&&◌, IsUtf8, IsAscii}
 use Rattle.std.specs.Str.{is_utf8}
 use Rattle.std.specs.Str.Lossy.{utf8_valid_len, valid_len_up_to}
-use Rattle.std.proofs.lemmas.Bool.{cases_lt, lt-ltb}
+use Rattle.std.proofs.lemmas.Bool.{cases_lt}
 use Rattle.std.proofs.lemmas.Bool.Decides.{nat_tests}
 use Rattle.std.proofs.lemmas.Grind.{flat_map-append}
 use Rattle.std.proofs.lemmas.List.{length-drop, get_or-drop, append-nil, take_all}
@@ -142,8 +142,9 @@ within_valid (suc n) bytes h le =
 quote_valid : IsUtf8 (34 ∷ [])
 quote_valid = IsUtf8-from_ascii (34 ∷ []) (IsAscii-cons 34 [] (omega arith) IsAscii-nil)
 
+pub quoted_valid : (bytes : List ℕ) → IsUtf8 bytes → IsUtf8 (quoted bytes)
+quoted_valid bytes h = IsUtf8-append (34 ∷ []) (doubled bytes ++ 34 ∷ []) quote_valid (IsUtf8-append (doubled bytes) (34 ∷ []) (doubled_valid bytes h) quote_valid)
+
 pub text_valid : (bytes : List ℕ) → AreBytes bytes → IsUtf8 (quoted (valid_utf8 bytes))
 unfolding valid_utf8
-text_valid bytes h =
-    IsUtf8-append (34 ∷ []) (doubled (valid_within (length bytes) bytes) ++ 34 ∷ []) quote_valid
-    (IsUtf8-append (doubled (valid_within (length bytes) bytes)) (34 ∷ []) (doubled_valid (valid_within (length bytes) bytes) (within_valid (length bytes) bytes h (omega arith))) quote_valid)
+text_valid bytes h = quoted_valid (valid_within (length bytes) bytes) (within_valid (length bytes) bytes h (omega arith))

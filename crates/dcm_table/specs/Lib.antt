@@ -1,5 +1,6 @@
 pub mod Cell
 pub mod Columns
+pub mod InForce
 pub mod TableSink
 pub mod Slots
 pub mod Index

@@ -4,7 +4,7 @@ use Rattle.std.specs.Prelude.{flat_map, slice_index, codes}
 use Rattle.std.specs.Str.Lossy.{utf8_valid_len}
 use Rattle.dcm_base.specs.Dump.ValueText.{hex_byte}
 use Rattle.dcm_table.specs.declared.quoted.TextForm.{TextForm}
-use Rattle.dcm_table.specs.declared.quoted.TextForm.TheVariants.{ValidUtf8, AsItIs}
+use Rattle.dcm_table.specs.declared.quoted.TextForm.TheVariants.{ValidUtf8, AsItIs, Decoded}
 
 -- a quote is doubled
 abbrev pub doubled_byte : ℕ → List ℕ
@@ -32,6 +32,8 @@ valid_within (suc n) bytes =
 unfoldable pub valid_utf8 : List ℕ → List ℕ
 valid_utf8 bytes = valid_within (length bytes) bytes
 
+-- a name, or a text of which (0008,0005) says nothing
 abbrev pub text_in : TextForm → List ℕ → List ℕ
 text_in ValidUtf8 bytes = valid_utf8 bytes
 text_in AsItIs bytes = bytes
+text_in Decoded bytes = valid_utf8 bytes

@@ -7,7 +7,7 @@ use Rattle.dcm_base.specs.declared.fault.Fault.{Fault}
 use Rattle.dcm_base.specs.Tables.Tag.{same_tag, below}
 use Rattle.dcm_base.specs.Tree.Tree.{Trees, no_tree, leaf, sequence, fragments}
 use Rattle.dcm_base.specs.Tree.Front.{Front, front, OpenTree, nothing_open, open_leaf, open_sequence, open_fragments}
-use Rattle.dcm_base.specs.Bytes.Spelling.{after, after_trees, holds_open}
+use Rattle.dcm_base.specs.Bytes.Spelling.{after, holds_open}
 use Rattle.dcm_base.specs.Reading.Stop.{Bar, HeadBar}
 use Rattle.dcm_base.specs.Steps.Atoms.{Atom, opens, value_byte, closes_leaf, opens_item, closes_item, closes_sequence}
 use Rattle.dcm_base.specs.Steps.Atoms.{opens_fragment, ends}
@@ -15,7 +15,8 @@ use Rattle.dcm_stream.specs.Skip.{closed as less_deep}
 use Rattle.dcm_table.specs.Cell.{Cell, missing, open_value, open_too_long, whole, too_long, not_shown, CELL_LIMIT, is_shown, shown_vr}
 use Rattle.dcm_table.specs.Ending.{DECIDED}
 use Rattle.dcm_table.specs.Meta.{META_SYNTAX}
-use Rattle.dcm_table.specs.TableSink.{Slot, State}
+use Rattle.dcm_table.specs.InForce.{EMPTY, front_sets, meta_sets}
+use Rattle.dcm_table.specs.TableSink.{Slot, kept_or}
 
 -- ---- the cell of a tag
 
@@ -68,20 +69,21 @@ settled open_too_long = not_shown
 settled cell = cell
 
 abbrev pub settled_slots : List Slot → List Slot
-settled_slots slots = map (λ (c : Slot). (c.0, settled c.1)) slots
+settled_slots slots = map (λ (c : Slot). (c.0, settled c.1, c.2)) slots
 
 -- no value is on its way
 abbrev pub AllSettled : List Slot → Type 0
 AllSettled [] = Unit {0}
 AllSettled (c ∷ slots) = (settled c.1 ≡ c.1) × AllSettled slots
 
--- the cells with what was read of a data set, where these were filled before
+-- the cells with what was read of a data set, where these were filled before, each with what is in force at its head
 abbrev pub slots_with : Syntax → Front → List Slot → List Slot
-slots_with s f slots = map (λ (c : Slot). (c.0, cell_or c.1 (front_cell s c.0 f))) slots
+slots_with s f slots =
+    map (λ (c : Slot). (c.0, cell_or c.1 (front_cell s c.0 f), kept_or c.1 c.2 (front_sets c.0 c.2 f))) slots
 
 -- the cells with the elements of a meta group
 abbrev pub meta_slots : List Tag → Trees → List Slot
-meta_slots tags elements = map (λ (t : Tag). (t, meta_cell t elements)) tags
+meta_slots tags elements = map (λ (t : Tag). (t, meta_cell t elements, meta_sets t EMPTY elements)) tags
 
 -- ---- how far a file is read
 

@@ -5,13 +5,16 @@ ghost use Rattle.dcm_stream.specs.Tokens.{atoms_of};
 ghost use Rattle.dcm_table.specs.Cell as spec;
 ghost use Rattle.dcm_table.specs.Slots as slots;
 ghost use Rattle.dcm_table.specs.Slots.{cell_of, slot_of, value_of};
-ghost use Rattle.dcm_table.specs.TableSink.{slot_step};
+ghost use Rattle.dcm_table.specs.InForce.{EMPTY};
+ghost use Rattle.dcm_table.specs.TableSink.{slot_set, slot_step};
 ghost use Rattle.dcm_value.specs.Swap.{IsUnit};
 
+use crate::setting::empty;
 use crate::slot::Slot;
 use dcm_base::{Length, Syntax, Tag, Vr, vr_in};
 use dcm_head::Head;
 use dcm_stream::Token;
+use dcm_text::Sets;
 use dcm_value::swap;
 use std::alloc::{AllocError, Global};
 
@@ -108,7 +111,7 @@ fn order_front(room: &mut [u8], size: usize, vr: Vr, syntax: Syntax)
 impl Slot {
     /// The empty cell of a column, with room for a value. Fails where there is no memory.
     pub fn new(alloc: Global, tag: Tag) -> Result<Slot, AllocError>
-        ensures { IfOk result (λ slot. slot_of slot ≡ (tag, spec.missing)) }
+        ensures { IfOk result (λ slot. slot_of slot ≡ (tag, spec.missing, EMPTY)) }
     {
         let room = vec![in alloc; 0; CELL_LIMIT]?;
         Ok(Slot {
@@ -116,14 +119,25 @@ impl Slot {
             progress: Progress::Missing,
             room,
             size: 0,
+            sets: empty(),
         })
     }
 
     /// Nothing was read of a file.
     pub fn clear(&mut self)
-        ensures { slot_of self.new ≡ (self.old.tag, spec.missing) }
+        ensures { slot_of self.new ≡ (self.old.tag, spec.missing, EMPTY) }
     {
         self.progress = Progress::Missing;
+        self.sets = empty();
+    }
+
+    /// After the end of a value that sets what is in force: where no element of the tag came, it is read by these.
+    pub fn set(&mut self, sets: Sets)
+        ensures { slot_of self.new ≡ slot_set sets (slot_of self.old) }
+    {
+        if matches!(self.progress, Progress::Missing) {
+            self.sets = sets;
+        }
     }
 
     /// The bytes of the value that came.
@@ -149,6 +163,7 @@ impl Slot {
           self.old.tag,
           spec.with_head self.old.tag (slot_of self.old).1 syntax head.tag
               head.vr head.length,
+          self.old.sets,
         ) }
     {
         if matches!(self.progress, Progress::Missing) && head.tag == self.tag {
@@ -159,7 +174,7 @@ impl Slot {
 
     /// After bytes of a value.
     fn add(&mut self, bytes: &[u8])
-        ensures { slot_of self.new ≡ (self.old.tag, fold spec.with_byte (slot_of self.old).1 bytes.now) }
+        ensures { slot_of self.new ≡ (self.old.tag, fold spec.with_byte (slot_of self.old).1 bytes.now, self.old.sets) }
     {
         if !is_open(self.progress) {
             return;
@@ -174,7 +189,7 @@ impl Slot {
 
     /// After the end of a value.
     fn close(&mut self)
-        ensures { slot_of self.new ≡ (self.old.tag, spec.ended (slot_of self.old).1) }
+        ensures { slot_of self.new ≡ (self.old.tag, spec.ended (slot_of self.old).1, self.old.sets) }
     {
         match self.progress {
             Progress::Open(vr, shown, syntax) => {

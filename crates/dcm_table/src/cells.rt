@@ -1,5 +1,5 @@
 // The cells of all columns: a sink that holds what a row shows of a file.
-ghost use Rattle.std.specs.Prelude.{◌≡◌, ◌<◌, true, false, None, length, fold, map, IfOk};
+ghost use Rattle.std.specs.Prelude.{◌≡◌, ◌<◌, true, false, None, length, fold, map, option_map, IfOk};
 ghost use Rattle.dcm_table.specs.Cell.{missing};
 ghost use Rattle.std.specs.List.{list_any};
 ghost use Rattle.dcm_base.specs.Tables.Tag.{same_tag};
@@ -10,15 +10,18 @@ ghost use Rattle.dcm_stream.specs.declared.token.Token.TheVariants.{Open};
 ghost use Rattle.dcm_table.specs.Columns.{tags_of};
 ghost use Rattle.dcm_table.specs.Index as places;
 ghost use Rattle.dcm_table.specs.Row as row;
+ghost use Rattle.dcm_table.specs.InForce.{EMPTY};
 ghost use Rattle.dcm_table.specs.Slots.{slot_of, slots_of};
 ghost use Rattle.dcm_table.specs.TableSink as spec;
 
 use crate::column::{Column, Columns};
 use crate::index::{Index, Span};
+use crate::setting::Setting;
 use crate::slot::Slot;
 use dcm_base::{Syntax, Tag, WriteFailed};
 use dcm_head::Head;
 use dcm_stream::{Bar, Sink, Skip, Token};
+use dcm_text::Sets;
 use std::alloc::{AllocError, Global};
 use std::marker::Model;
 
@@ -31,6 +34,7 @@ pub struct Cells {
     greatest: Tag,
     index: Index,
     busy: Span,
+    setting: Setting,
     ghost indexed: { places.has_each index 0 (slots_of slots.items) ≡ true },
     ghost idle: { places.holds_busy busy 0 (slots_of slots.items) ≡ true },
 }
@@ -41,7 +45,7 @@ impl Model for Cells {
 
     ghost Value = { State };
 
-    ghost view = { λ c. state_by c.depth c.greatest c.slots.items };
+    ghost view = { λ c. state_by c.depth c.greatest c.slots.items c.setting };
 }
 
 /// An empty cell for each column.
@@ -82,10 +86,19 @@ fn take_in_span(slots: &mut [Slot], span: Span, token: Token)
 
 /// Each cell where nothing was read.
 fn clear_each(slots: &mut [Slot])
-    ensures { slots_of slots.new ≡ map (λ (c : spec.Slot). (c.0, missing)) (slots_of slots.old) }
+    ensures { slots_of slots.new ≡ map (λ (c : spec.Slot). (c.0, missing, EMPTY)) (slots_of slots.old) }
 {
     for slot in slots.iter_mut() {
         slot.clear();
+    }
+}
+
+/// Each cell after the end of a value that names these sets.
+fn set_each(slots: &mut [Slot], sets: Sets)
+    ensures { slots_of slots.new ≡ map (λ (c : spec.Slot). spec.slot_set sets c) (slots_of slots.old) }
+{
+    for slot in slots.iter_mut() {
+        slot.set(sets);
     }
 }
 
@@ -123,6 +136,7 @@ impl Cells {
             greatest,
             index,
             busy: Span::NONE,
+            setting: Setting::new(),
         })
     }
 
@@ -132,6 +146,7 @@ impl Cells {
     {
         self.depth = Skip::nothing();
         self.busy = Span::NONE;
+        self.setting.close();
         clear_each(self.slots.as_mut_slice());
     }
 
@@ -180,9 +195,12 @@ impl Cells {
         ensures { self.new ≡ record self.old {
           slots = map (λ (c : spec.Slot). fold spec.slot_step c
               (map value_byte bytes.now)) self.old.slots;
+          setting = option_map (λ value. fold spec.with_setting_byte value bytes.now)
+              self.old.setting;
         } }
     {
         take_in_span(self.slots.as_mut_slice(), self.busy, Token::Bytes(bytes));
+        self.setting.add(bytes);
     }
 
     /// Goes on after the end of a value.
@@ -193,6 +211,20 @@ impl Cells {
     {
         take_in_span(self.slots.as_mut_slice(), self.busy, Token::CloseLeaf);
         self.busy = Span::NONE;
+    }
+
+    /// Goes on after the end of a value that sets what is in force, where it did.
+    #[inline(always)]
+    fn set(&mut self)
+        ensures { self.new ≡ record self.old {
+          slots = spec.with_sets self.old.setting self.old.slots;
+          setting = None;
+        } }
+    {
+        if let Some(sets) = self.setting.sets() {
+            set_each(self.slots.as_mut_slice(), sets);
+            self.setting.close();
+        }
     }
 }
 
@@ -207,12 +239,14 @@ impl Cells {
             Token::Open(head, syntax) => {
                 if !self.depth.is_open() {
                     self.offer(head, syntax);
+                    self.setting.open(&head);
                 }
                 self.depth.open(true);
             }
             Token::Bytes(bytes) => self.add(bytes),
             Token::CloseLeaf => {
                 self.close();
+                self.set();
                 self.depth.close();
             }
             Token::OpenItem(_) | Token::OpenFragment(_) => self.depth.open(true),

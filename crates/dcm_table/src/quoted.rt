@@ -7,13 +7,16 @@ ghost use Rattle.dcm_table.specs.Quoted as spec;
 use dcm_base::{DeviceOut, Watched, WriteFailed, put_all};
 use dcm_value::byte_digits;
 
-/// Whether the bytes of texts and names that are no part of valid UTF-8 are escaped.
+/// How texts and names are written.
 #[derive(Clone, Copy, Debug, PartialEq, Eq)]
 pub enum TextForm {
-    /// Each is written as `\xNN`, so that the table is valid UTF-8.
+    /// Each byte that is no part of valid UTF-8 as `\xNN`, so that the table is valid UTF-8.
     ValidUtf8,
-    /// Bytes are written as they are.
+    /// Bytes as they are.
     AsItIs,
+    /// Texts that Specific Character Set concerns by what is in force, as characters in UTF-8, and all others as by
+    /// `ValidUtf8`.
+    Decoded,
 }
 
 pub(crate) const QUOTE: u8 = b'"';
@@ -74,12 +77,12 @@ fn put_text<W: DeviceOut>(
     ensures { Wrote W.DeviceOut out.old out.new (spec.doubled (spec.text_in form bytes.now)) result }
 {
     match form {
-        TextForm::ValidUtf8 => put_valid(bytes, out),
+        TextForm::ValidUtf8 | TextForm::Decoded => put_valid(bytes, out),
         TextForm::AsItIs => put_doubled(bytes, out),
     }
 }
 
-/// Writes a text or a name in double quotes, in this form.
+/// Writes a name, or a text of which (0008,0005) says nothing, in double quotes, in this form.
 pub fn put_quoted<W: DeviceOut>(
     form: TextForm,
     bytes: &[u8],

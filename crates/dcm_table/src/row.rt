@@ -1,6 +1,7 @@
 // A row of a table (RFC 4180).
 ghost use Rattle.std.specs.Prelude.{◌≡◌, ◌∷◌, [], length, flat_map};
 ghost use Rattle.dcm_devices.specs.Writing.{Wrote};
+ghost use Rattle.dcm_table.specs.Quoted.{quoted};
 ghost use Rattle.dcm_table.specs.Columns.{list_of};
 ghost use Rattle.dcm_table.specs.Parts.{WroteParts};
 ghost use Rattle.dcm_table.specs.Row as spec;
@@ -9,11 +10,13 @@ ghost use Rattle.dcm_table.specs.Slots.{slot_of, slots_of};
 use crate::cell::Progress;
 use crate::cells::Cells;
 use crate::column::{Column, Columns};
+use crate::decoded::put_decoded;
 use crate::numbers::put_units;
 use crate::quoted::{TextForm, put_quoted};
 use crate::slot::Slot;
 use dcm_base::{DeviceOut, Vr, Watched, WriteFailed, put_all};
 use dcm_head::without_pads;
+use dcm_text::{Sets, TextKind};
 
 /// The text above the names of files.
 const FILE: &[u8] = b"File";
@@ -57,18 +60,57 @@ fn is_quoted_text(vr: Vr) -> bool
     matches!(vr, Vr::UI) || vr.is_text()
 }
 
+/// What separates the values of a text that Specific Character Set concerns (PS3.5 6.1.2.3).
+fn kind_of(vr: Vr) -> Option<TextKind>
+    ensures { result ≡ spec.kind_of vr }
+{
+    match vr {
+        Vr::PN => Some(TextKind::Names),
+        Vr::LO | Vr::SH | Vr::UC => Some(TextKind::Values),
+        Vr::LT | Vr::ST | Vr::UT => Some(TextKind::OneValue),
+        _ => None,
+    }
+}
+
+/// The same, where such texts are decoded.
+fn decoded_kind(form: TextForm, vr: Vr) -> Option<TextKind>
+    ensures { result ≡ spec.decoded_kind form vr }
+{
+    match form {
+        TextForm::Decoded => kind_of(vr),
+        TextForm::ValidUtf8 | TextForm::AsItIs => None,
+    }
+}
+
+/// Writes a text without pads in double quotes, by what is in force at its head.
+fn put_text<W: DeviceOut>(
+    form: TextForm,
+    sets: Sets,
+    vr: Vr,
+    text: &[u8],
+    out: &mut Watched<W>,
+) -> Result<(), WriteFailed>
+    ensures { Wrote W.DeviceOut out.old out.new (quoted (spec.shown_text form sets vr text.now)) result }
+{
+    match decoded_kind(form, vr) {
+        Some(kind) => put_decoded(sets, kind, text, out),
+        None => put_quoted(form, text, out),
+    }
+}
+
 /// Writes a value, which is in little endian order.
 fn put_value<W: DeviceOut>(
     form: TextForm,
+    sets: Sets,
     vr: Vr,
     value: &[u8],
     out: &mut Watched<W>,
 ) -> Result<(), WriteFailed>
-    ensures { WroteParts W.DeviceOut out.old out.new (spec.value_parts (spec.is_quoted_text vr) form vr value.now)
-        result }
+    ensures { WroteParts W.DeviceOut out.old out.new
+        (spec.value_parts (spec.is_quoted_text vr) form sets vr value.now) result }
 {
     if is_quoted_text(vr) {
-        put_quoted(form, without_pads(value), out)
+        put_text(form, sets, vr, without_pads(value), out)
     } else {
         put_units(vr, value, out)
     }
@@ -80,10 +122,11 @@ fn put_cell<W: DeviceOut>(
     slot: &Slot,
     out: &mut Watched<W>,
 ) -> Result<(), WriteFailed>
-    ensures { WroteParts W.DeviceOut out.old out.new (spec.cell_parts form (slot_of slot.now).1) result }
+    ensures { WroteParts W.DeviceOut out.old out.new (spec.cell_parts form slot.now.sets (slot_of slot.now).1)
+        result }
 {
     match slot.progress {
-        Progress::Whole(vr) => put_value(form, vr, slot.value(), out),
+        Progress::Whole(vr) => put_value(form, slot.sets, vr, slot.value(), out),
         _ => Ok(()),
     }
 }

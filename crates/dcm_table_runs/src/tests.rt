@@ -1,6 +1,8 @@
+mod decoded;
 mod ends;
 mod examples;
 mod failing;
+mod in_force;
 mod long;
 mod outputs;
 mod plain;
@@ -10,7 +12,9 @@ mod representations;
 mod texts;
 
 use dcm_test_tables::expect_rows;
+use decoded::decoded;
 use ends::ends;
+use in_force::in_force;
 use plain::plain;
 use representations::representations;
 use std::test::Fail;
@@ -29,6 +33,16 @@ fn representations_of_values(rt: HostRuntime) -> Result<(), Fail> {
 #[test]
 fn texts_that_are_no_utf8(rt: HostRuntime) -> Result<(), Fail> {
     expect_rows(rt.alloc(), texts())
+}
+
+#[test]
+fn texts_as_characters(rt: HostRuntime) -> Result<(), Fail> {
+    expect_rows(rt.alloc(), decoded())
+}
+
+#[test]
+fn what_is_in_force(rt: HostRuntime) -> Result<(), Fail> {
+    expect_rows(rt.alloc(), in_force())
 }
 
 #[test]

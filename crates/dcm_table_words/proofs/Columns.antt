@@ -6,7 +6,7 @@ use Rattle.std.proofs.lemmas.List.{append-nil, take_all, take-append-le, length-
 use Rattle.std.proofs.lemmas.Bool.{cases_lt}
 use Rattle.dcm_table_words.specs.declared.usage.TableUsage.{TableUsage}
 use Rattle.dcm_table_words.specs.declared.usage.TableUsage.TheVariants.{NumberOfColumns}
-use Rattle.dcm_table_words.specs.Table.{Column, Saying, columns_after, columns_meant, column_said, column_of, within_limit, width, column, no_column, no_header, as_is, name, unknown}
+use Rattle.dcm_table_words.specs.Table.{Column, Saying, columns_after, columns_meant, column_said, column_of, within_limit, width, column, no_column, no_header, as_is, decoded, name, unknown}
 
 -- columns, and those after them
 abbrev pub after_columns : List Column → Result (List Column) TableUsage → Result (List Column) TableUsage
@@ -77,6 +77,7 @@ some_wide (column w) = omega arith
 some_wide no_column = omega arith
 some_wide no_header = omega arith
 some_wide as_is = omega arith
+some_wide decoded = omega arith
 some_wide (name m) = omega arith
 some_wide unknown = omega arith
 

@@ -2,7 +2,7 @@
 use Rattle.std.proofs.Common.{◌≡◌, ◌∙◌, ap, sym, refl, ℕ, ◌+◌, ◌<◌, List, [], ◌∷◌, length, drop, get_or, None, Bool, true, false, arith, drop-cons, add-one, Bor}
 use Rattle.std.specs.Prelude.{codes, bytes_eq, not, ◌==◌, if◌then◌else◌}
 use Rattle.std.specs.Str.{byte}
-use Rattle.dcm_table_words.specs.Table.{Saying, unknown, no_header, as_is, name, file, list, sayings, word_says, other_word, is_option, is_column, width, word_fault, refused}
+use Rattle.dcm_table_words.specs.Table.{Saying, unknown, no_header, as_is, decoded, name, file, list, sayings, word_says, other_word, is_option, is_column, width, word_fault, refused}
 use Rattle.dcm_table_words.specs.Said.{texts, sayings_of, Says}
 
 -- the word at a place, and those after it
@@ -22,7 +22,7 @@ other_wide (c ∷ cs) =
     (one_wide (is_option c) unknown _ refl (one_wide (c == byte "@") (name (list cs)) (name (file (c ∷ cs))) refl refl))
 
 pub says_wide : (w : List ℕ) → width (word_says w) ≡ 1
-says_wide w = one_wide (bytes_eq w (codes "+nh")) no_header _ refl (one_wide (bytes_eq w (codes "+by")) as_is (other_word w) refl (other_wide w))
+says_wide w = one_wide (bytes_eq w (codes "+nh")) no_header _ refl (one_wide (bytes_eq w (codes "+by")) as_is _ refl (one_wide (bytes_eq w (codes "+u8")) decoded (other_word w) refl (other_wide w)))
 
 other_said : (w : List ℕ) (words : List (List ℕ)) → is_column w ≡ false → sayings (w ∷ words) ≡ word_says w ∷ sayings words
 other_said w [] e = rw (e, sayings) refl

@@ -2,8 +2,6 @@
 use Rattle.std.specs.Prelude.{◌≡◌, ◌<◌, ◌≤◌, ℕ, List, [], ◌∷◌, map, drop, length}
 use Rattle.std.specs.Prelude.{Option, Some, None, Result, Ok, Err, Bool, true, false}
 use Rattle.dcm_table_words.specs.declared.column.TableColumn.{TableColumn}
-use Rattle.dcm_table_words.specs.declared.plan.Flag.{Flag}
-use Rattle.dcm_table_words.specs.declared.plan.Flag.TheVariants as flags
 use Rattle.dcm_table_words.specs.declared.plan.Name.{Name}
 use Rattle.dcm_table_words.specs.declared.plan.Name.TheVariants as names
 use Rattle.dcm_table_words.specs.declared.plan.NameWords.{NameWords}
@@ -14,11 +12,6 @@ use Rattle.dcm_table_words.specs.Columns.{column_as}
 use Rattle.dcm_table_words.specs.declared.saying.Saying.{Saying}
 use Rattle.dcm_table_words.specs.Said.{alone_of, said_as, sayings_of}
 use Rattle.std.specs.Borrow.{Bor}
-
--- whether a saying gives a flag
-abbrev pub gives : Flag → spec.Saying → Bool
-gives flags.NoHeader s = spec.is_no_header s
-gives flags.AsIs s = spec.is_as_is s
 
 abbrev pub name_as : Name → spec.Name
 name_as (names.File path) = spec.file path.now
@@ -70,7 +63,7 @@ abbrev pub table_as : TablePlan → spec.Table
 table_as p = record {
   columns = map column_as p.columns.items;
   has_header = p.has_header;
-  as_is = p.as_is;
+  texts = p.texts;
   names = names_as p.names;
 }
 

@@ -20,6 +20,7 @@ said_as (says.Column w) = spec.column w.now
 said_as says.NoColumn = spec.no_column
 said_as says.NoHeader = spec.no_header
 said_as says.AsIs = spec.as_is
+said_as says.Decoded = spec.decoded
 said_as (says.File path) = spec.name (spec.file path.now)
 said_as (says.List path) = spec.name (spec.list path.now)
 said_as says.Unknown = spec.unknown

@@ -2,7 +2,7 @@
 use Rattle.std.specs.Prelude.{ℕ, ◌+◌, List, [], ◌∷◌, length, Option, Some, None, Result}
 use Rattle.std.specs.Prelude.{Ok, Err, Bool, true, false, ◌||◌}
 use Rattle.std.specs.Prelude.{◌&&◌, not, ◌==◌, nat_le, nat_lt, if◌then◌else◌, codes, bytes_eq, filter_map, option_map}
-use Rattle.std.specs.Prelude.{count_by}
+use Rattle.std.specs.Prelude.{count_by, fold}
 use Rattle.std.specs.List.{list_any}
 use Rattle.std.specs.Str.{byte}
 use Rattle.dcm_base.specs.declared.tag.Tag.{Tag}
@@ -11,6 +11,8 @@ use Rattle.dcm_base.specs.declared.fault.WordFault.TheVariants.{UnknownTool, Unk
 use Rattle.dcm_base.specs.declared.fault.EditRefusal.{EditRefusal}
 use Rattle.dcm_base.specs.declared.fault.EditRefusal.TheVariants.{BadOption, UnknownTag}
 use Rattle.dcm_base.specs.Lines.ReadValue.{tag_of_text}
+use Rattle.dcm_table_words.specs.declared.plan.Texts.{Texts}
+use Rattle.dcm_table_words.specs.declared.plan.Texts.TheVariants.{Escaped, AsTheyAre, Characters}
 use Rattle.dcm_table_words.specs.declared.usage.TableUsage.{TableUsage}
 use Rattle.dcm_table_words.specs.declared.usage.TableUsage.TheVariants.{AtWord, InColumn, NumberOfColumns, WrongPaths}
 use Rattle.dcm_table_words.specs.declared.usage.TableUsage.TheVariants.{StandardTwice}
@@ -30,8 +32,7 @@ pub data Name : Type 0 where
 pub record Table : Type 0 where
   pub columns : List Column
   pub has_header : Bool
-  -- bytes of texts and names are written as they are
-  pub as_is : Bool
+  pub texts : Texts
   pub names : List Name
 
 -- ---- what words say
@@ -40,7 +41,7 @@ pub data Saying : Type 0 where
   -- a column, and an option that wants one where no word comes after it
   column : List ℕ → Saying
   no_column : Saying
-  no_header as_is : Saying
+  no_header as_is decoded : Saying
   name : Name → Saying
   unknown : Saying
 
@@ -58,7 +59,8 @@ other_word (c ∷ cs) =
     else name (file (c ∷ cs))
 
 abbrev pub word_says : List ℕ → Saying
-word_says w = if bytes_eq w (codes "+nh") then no_header else if bytes_eq w (codes "+by") then as_is else other_word w
+word_says w = if bytes_eq w (codes "+nh") then no_header else if bytes_eq w (codes "+by") then as_is
+    else if bytes_eq w (codes "+u8") then decoded else other_word w
 
 -- the word after which a column comes, whatever it is
 abbrev pub is_column : List ℕ → Bool
@@ -165,9 +167,15 @@ abbrev pub is_no_header : Saying → Bool
 is_no_header no_header = true
 is_no_header _ = false
 
-abbrev pub is_as_is : Saying → Bool
-is_as_is as_is = true
-is_as_is _ = false
+-- how texts are written after a word that may say it
+abbrev pub texts_after : Texts → Saying → Texts
+texts_after texts as_is = AsTheyAre
+texts_after texts decoded = Characters
+texts_after texts _ = texts
+
+-- the last of such words counts
+abbrev pub texts_said : List Saying → Texts
+texts_said said = fold texts_after Escaped said
 
 abbrev pub table_with : List Saying → List Column → Result Table TableUsage
 table_with said columns = elim (names_meant (names_in said)) [
@@ -175,7 +183,7 @@ table_with said columns = elim (names_meant (names_in said)) [
   | Ok names ↦ Ok (record {
     columns = columns;
     has_header = not (list_any is_no_header said);
-    as_is = list_any is_as_is said;
+    texts = texts_said said;
     names = names;
   })
 ]

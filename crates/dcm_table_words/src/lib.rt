@@ -1,7 +1,7 @@
 //! The words of dcm2csv, and the table that they mean.
 //!
 //! - `table_plan` reads the words of a command line into a `TablePlan`: the columns, and what the words say of header
-//!   and bytes. `NameWords::after` gives its names one after another.
+//!   and texts. `NameWords::after` gives its names one after another.
 //! - `NameWords::among` has the names among the words of a tool of which no option has a value.
 //! - Words that it refuses are a `TableUsage`: which word is wrong and why, which column, or the words as a
 //!   whole. `put_usage` writes the line that reports it.
@@ -23,7 +23,7 @@ mod usage_line;
 
 pub use column::{NUMBER_SIZE, TableColumn};
 pub use plan::{
-    MOST_COLUMNS, Name, NameWords, TablePlan, has_empty, has_standard_twice, table_plan,
+    MOST_COLUMNS, Name, NameWords, TablePlan, Texts, has_empty, has_standard_twice, table_plan,
 };
 pub use usage::TableUsage;
 pub use usage_line::put_usage;

@@ -3,7 +3,7 @@ ghost use Rattle.std.specs.Prelude.{◌≡◌, nat_lt, count_by, map, option_map
 ghost use Rattle.std.specs.List.{list_any};
 ghost use Rattle.dcm_table_words.specs.Table as spec;
 ghost use Rattle.dcm_table_words.specs.Said.{alone_of, said_as, sayings_of};
-ghost use Rattle.dcm_table_words.specs.Plans.{gives as gives_flag, name_as, names_as, FirstName, GivesColumns};
+ghost use Rattle.dcm_table_words.specs.Plans.{name_as, names_as, FirstName, GivesColumns};
 ghost use Rattle.dcm_table_words.specs.Plans.{PassesNames, GivesTable, SaidIn};
 
 use crate::column::{TableColumn, column_of};
@@ -34,21 +34,24 @@ pub struct NameWords<'a> {
     has_columns: bool,
 }
 
+/// How texts and names are written.
+#[derive(Clone, Copy, Debug, PartialEq, Eq)]
+pub enum Texts {
+    /// Bytes that are no part of valid UTF-8 are escaped.
+    Escaped,
+    /// Bytes are written as they are.
+    AsTheyAre,
+    /// Texts are decoded by Specific Character Set, and else written as `Escaped`.
+    Characters,
+}
+
 /// The table that words mean.
 #[derive(Drop)]
 pub struct TablePlan<'a> {
     pub columns: ArrayVec<TableColumn, MOST_COLUMNS>,
     pub has_header: bool,
-    /// Bytes of texts and names are written as they are.
-    pub as_is: bool,
+    pub texts: Texts,
     pub names: NameWords<'a>,
-}
-
-/// What a word without a value may say.
-#[derive(Clone, Copy, Debug, PartialEq, Eq)]
-enum Flag {
-    NoHeader,
-    AsIs,
 }
 
 /// Why a saying is refused, if it is.
@@ -97,28 +100,49 @@ fn refused_word<'a>(words: &'a [&'a [u8]]) -> Option<TableUsage>
     None
 }
 
-/// Whether a saying is that of a flag.
-fn gives(flag: Flag, saying: Saying) -> bool
-    ensures { result ≡ gives_flag flag (said_as saying.entry) }
+/// Whether a saying leaves the header out.
+fn is_no_header(saying: Saying) -> bool
+    ensures { result ≡ spec.is_no_header (said_as saying.entry) }
 {
-    match flag {
-        Flag::NoHeader => matches!(saying, Saying::NoHeader),
-        Flag::AsIs => matches!(saying, Saying::AsIs),
-    }
+    matches!(saying, Saying::NoHeader)
 }
 
-/// Whether words give a flag.
-fn has_flag<'a>(flag: Flag, words: &'a [&'a [u8]]) -> bool
-    ensures { result ≡ list_any (gives_flag flag) (sayings_of words.now) }
+/// Whether words leave the header out.
+fn has_no_header<'a>(words: &'a [&'a [u8]]) -> bool
+    ensures { result ≡ list_any spec.is_no_header (sayings_of words.now) }
 {
     let mut at = 0;
     while let Some((saying, next)) = saying_at(words, at) {
-        if gives(flag, saying) {
+        if is_no_header(saying) {
             return true;
         }
         at = next;
     }
     false
+}
+
+/// How texts are written after a saying, where it may say so.
+fn texts_after(texts: Texts, saying: Saying) -> Texts
+    ensures { result ≡ spec.texts_after texts (said_as saying.entry) }
+{
+    match saying {
+        Saying::AsIs => Texts::AsTheyAre,
+        Saying::Decoded => Texts::Characters,
+        _ => texts,
+    }
+}
+
+/// How texts are written: the last word that says it counts.
+fn texts_said<'a>(words: &'a [&'a [u8]]) -> Texts
+    ensures { result ≡ spec.texts_said (sayings_of words.now) }
+{
+    let mut texts = Texts::Escaped;
+    let mut at = 0;
+    while let Some((saying, next)) = saying_at(words, at) {
+        texts = texts_after(texts, saying);
+        at = next;
+    }
+    texts
 }
 
 /// The columns of words, or the first refusal.
@@ -254,8 +278,8 @@ fn plan_of<'a>(words: &'a [&'a [u8]]) -> Result<TablePlan<'a>, TableUsage>
     check_names(names)?;
     Ok(TablePlan {
         columns,
-        has_header: !has_flag(Flag::NoHeader, words),
-        as_is: has_flag(Flag::AsIs, words),
+        has_header: !has_no_header(words),
+        texts: texts_said(words),
         names,
     })
 }

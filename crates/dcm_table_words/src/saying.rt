@@ -17,6 +17,8 @@ pub enum Saying<'a> {
     NoHeader,
     /// Bytes as they are.
     AsIs,
+    /// Texts as characters.
+    Decoded,
     /// A file.
     File(&'a [u8]),
     /// A list of files.
@@ -32,6 +34,8 @@ fn word_says<'a>(word: &'a [u8]) -> Saying<'a>
         Saying::NoHeader
     } else if word == b"+by".as_slice() {
         Saying::AsIs
+    } else if word == b"+u8".as_slice() {
+        Saying::Decoded
     } else {
         match word {
             [b'-'] => Saying::File(word),

@@ -1,19 +1,14 @@
 -- What is done with the names of a list over files in memory.
-use Rattle.std.proofs.Common.{◌≡◌, ◌∙◌, ap, sym, subst, refl, ℕ, ◌≤◌, List, [], ◌∷◌, ◌++◌, append_assoc, length, length-append, arith, Bool, true, false, Option, Some, None, Result, inl, inr}
-use Rattle.std.specs.Prelude.{IfSome, filter}
-use Rattle.std.proofs.lemmas.List.{append-nil}
-use Rattle.std.proofs.lemmas.List.Elements.{filter-append}
+use Rattle.std.proofs.Common.{◌≡◌, ◌∙◌, ap, sym, subst, ℕ, ◌≤◌, List, [], ◌∷◌, ◌++◌, length, Bool, true, false, Option, Some, None, Result}
+use Rattle.std.specs.Prelude.{IfSome}
 use Rattle.dcm_base.specs.declared.tag.Tag.{Tag}
 use Rattle.dcm_devices.specs.declared.device.WriteFailed.{WriteFailed}
 use Rattle.dcm_devices.specs.declared.memory.MemIn.{MemIn}
 use Rattle.dcm_devices.specs.declared.memory.Measured.{Measured}
-use Rattle.dcm_devices.specs.Device.{Gave, no_calls, and_call}
 use Rattle.dcm_files.specs.declared.memory.MemSystem.{MemSystem}
 use Rattle.dcm_files.specs.Memory.{may_do}
-use Rattle.dcm_names.specs.declared.list_reader.NextName.TheVariants.{Unread}
-use Rattle.dcm_names.specs.Names.{can_be_opened, has_bytes, open_line, ended_lines, names_of}
-use Rattle.dcm_names.specs.Reader.{READ_LIMIT, Calls, AnswersEnd, AnswersUnread, TellsNext}
-use Rattle.dcm_names.proofs.Lists.{lines_of_two}
+use Rattle.dcm_names.specs.Names.{can_be_opened, names_of}
+use Rattle.dcm_names.specs.Reader.{READ_LIMIT}
 use Rattle.dcm_table.specs.declared.quoted.TextForm.{TextForm}
 use Rattle.dcm_cli.specs.Change.{Change}
 use Rattle.dcm_cli.proofs.Runs.InMemory.{memory_reader, memory_writer}
@@ -22,7 +17,7 @@ use Rattle.dcm_tables.specs.Table.{rows_into}
 use Rattle.dcm_tables.specs.TableInMemory.{Rows, AllCome, file_of, ListedComes, ListComes}
 use Rattle.dcm_tables.proofs.RowsAlike.{split}
 use Rattle.dcm_each.proofs.InMemory.{opened_is}
-use Rattle.dcm_each.proofs.ListGiven.{IsGiven, calls_left, given_on, name_within, listed_given, all_given, never_unread}
+use Rattle.dcm_each.proofs.ListGiven.{calls_left, given_on, name_within, listed_given, all_given, never_unread}
 use Rattle.dcm_tables.proofs.TableMemory.{All, Left, unopened_left, at_left, nothing_left, one_more, one_failed}
 
 -- ---- the names of a list, one after another

@@ -1,5 +1,5 @@
 -- What passes the devices of the system.
-use Rattle.std.proofs.Common.{◌≡◌, ◌∙◌, ap, sym, subst, ℕ, List, [], ◌∷◌, ◌++◌, append_assoc, Option, None, Some, unwrap_or, refl}
+use Rattle.std.proofs.Common.{◌≡◌, ◌∙◌, ap, sym, subst, ℕ, List, [], ◌++◌, append_assoc, Option, None, Some, unwrap_or}
 use Rattle.std.proofs.lemmas.List.{append-nil}
 use Rattle.dcm_devices.specs.Device.{Gave, no_calls, and_call, Notes}
 use Rattle.dcm_devices.specs.declared.std_device.Std.{Std}

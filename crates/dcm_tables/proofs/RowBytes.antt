@@ -24,9 +24,9 @@ use Rattle.dcm_head.proofs.MetaGroups.OneMeta.{one_meta}
 use Rattle.dcm_sinks.proofs.ReadBack.Sources.{a_byte, bytes_parts}
 use Rattle.dcm_editor.proofs.ReadBack.BytesRead.{HoldsBytes, trees_read}
 use Rattle.dcm_table.specs.declared.ending.RowEnd.{RowEnd}
-use Rattle.dcm_table.specs.declared.quoted.TextForm.TheVariants.{ValidUtf8}
+use Rattle.dcm_table.specs.declared.quoted.TextForm.{TextForm}
 use Rattle.dcm_table.specs.Cell.{Cell, missing, open_value, open_too_long, whole, too_long, not_shown, CELL_LIMIT, is_shown, shown_vr}
-use Rattle.dcm_table.specs.Laws.{AllHoldBytes, HoldsBytes as CellHolds}
+use Rattle.dcm_table.specs.Laws.{AllHoldBytes, HoldsBytes as CellHolds, is_valid_form}
 use Rattle.dcm_table.specs.Meta.{META_SYNTAX}
 use Rattle.dcm_table.specs.Parts.{SpellsParts}
 use Rattle.dcm_table.specs.Row.{row_parts}
@@ -133,5 +133,6 @@ row_holds columns bytes cells end are (of_set m group coding f stop x is ends) =
     (slots_hold columns m.elements coding.syntax f (shows_hold bytes m.elements (head_shows bytes m group x.head.named x.head.head) all)
     (λ column. set_holds _ coding.syntax (set_at group) (drop (set_at group) bytes) f stop column x.reads (Bytes-drop (set_at group) bytes all)))
 
-pub rows_valid : (columns : List Tag) (name bytes : List ℕ) (cells : List Slot) (end : RowEnd) (text : List ℕ) → AreBytes name → AreBytes bytes → RowOf columns bytes cells end → SpellsParts (row_parts ValidUtf8 name cells) text → IsUtf8 text
-rows_valid columns name bytes cells end text named are row spelled = row_valid name cells text named (row_holds columns bytes cells end are row) spelled
+pub rows_valid : (columns : List Tag) (form : TextForm) (name bytes : List ℕ) (cells : List Slot) (end : RowEnd) (text : List ℕ) → is_valid_form form ≡ true → AreBytes name → AreBytes bytes → RowOf columns bytes cells end
+    → SpellsParts (row_parts form name cells) text → IsUtf8 text
+rows_valid columns form name bytes cells end text valid named are row spelled = row_valid form name cells text valid named (row_holds columns bytes cells end are row) spelled

@@ -49,7 +49,7 @@ use Rattle.dcm_tables.proofs.TableReads.{SetTaken, taken, not_taken, set_taken, 
 
 pub all_settle : (slots : List Slot) → AllSettled slots → settled_slots slots ≡ slots
 all_settle [] h = refl
-all_settle (c ∷ slots) h = (λ i. (c.0, h.0 i) ∷ all_settle slots h.1 i)
+all_settle (c ∷ slots) h = (λ i. (c.0, h.0 i, c.2) ∷ all_settle slots h.1 i)
 
 -- ---- the head of a file
 

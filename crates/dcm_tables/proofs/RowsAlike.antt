@@ -111,7 +111,7 @@ module _ (columns : List Tag) (form : TextForm) where
 one_by : (s : MemSystem) (meant : Result table_words.Table TableUsage) (a b : TableOutcome) → TableComesBy s meant a → TableComesBy s meant b → a ≡ b
 one_by s (Err u) a b p q = p ∙ sym q
 one_by s (Ok t) a b p q =
-    p.2 ∙ ap (tabled t) (all_one (NameComes s (tags_of t) (form_of t.as_is)) (one_name (tags_of t) (form_of t.as_is) s) t.names p.0 q.0 p.1 q.1) ∙ sym q.2
+    p.2 ∙ ap (tabled t) (all_one (NameComes s (tags_of t) (form_of t.texts)) (one_name (tags_of t) (form_of t.texts) s) t.names p.0 q.0 p.1 q.1) ∙ sym q.2
 
 pub one_table : (words : List (List ℕ)) (s : MemSystem) (a b : TableOutcome) → TableComes words s a → TableComes words s b → a ≡ b
 one_table words s a b p q = one_by s (table_words.meant_table words) a b p q
@@ -119,7 +119,7 @@ one_table words s a b p q = one_by s (table_words.meant_table words) a b p q
 some_by : (s : MemSystem) (meant : Result table_words.Table TableUsage) → (o : TableOutcome) × TableComesBy s meant o
 some_by s (Err u) = (refused u, refl)
 some_by s (Ok t) =
-    let rows = all_some (NameComes s (tags_of t) (form_of t.as_is)) (some_name (tags_of t) (form_of t.as_is) s) t.names in
+    let rows = all_some (NameComes s (tags_of t) (form_of t.texts)) (some_name (tags_of t) (form_of t.texts) s) t.names in
     (tabled t rows.0, (rows.0, rows.1, refl))
 
 pub some_table : (words : List (List ℕ)) (s : MemSystem) → (o : TableOutcome) × TableComes words s o

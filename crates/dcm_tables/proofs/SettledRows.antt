@@ -8,6 +8,7 @@ use Rattle.dcm_names.specs.NamedLines.{too_long_line}
 use Rattle.dcm_table.specs.declared.ending.RowEnd.{RowEnd}
 use Rattle.dcm_table.specs.declared.ending.RowEnd.TheVariants.{Whole, Decided, Refused}
 use Rattle.dcm_table.specs.declared.quoted.TextForm.{TextForm}
+use Rattle.dcm_text.specs.declared.sets.Sets.{Sets}
 use Rattle.dcm_table.specs.Cell.{Cell, missing, open_value, open_too_long, whole, too_long, not_shown, is_too_long}
 use Rattle.dcm_table.specs.Parts.{Part, some_bytes}
 use Rattle.dcm_table.specs.Quoted.{quoted, text_in}
@@ -18,17 +19,17 @@ use Rattle.dcm_tables.specs.Rows.{end_lines, file_lines, file_status, long_statu
 
 -- ---- what is written
 
-parts_settled : (form : TextForm) (c : Cell) → cell_parts form (settled c) ≡ cell_parts form c
-parts_settled form missing = refl
-parts_settled form (open_value vr shown s bytes) = refl
-parts_settled form open_too_long = refl
-parts_settled form (whole shown value) = refl
-parts_settled form too_long = refl
-parts_settled form not_shown = refl
+parts_settled : (form : TextForm) (sets : Sets) (c : Cell) → cell_parts form sets (settled c) ≡ cell_parts form sets c
+parts_settled form sets missing = refl
+parts_settled form sets (open_value vr shown s bytes) = refl
+parts_settled form sets open_too_long = refl
+parts_settled form sets (whole shown value) = refl
+parts_settled form sets too_long = refl
+parts_settled form sets not_shown = refl
 
 cells_settled : (form : TextForm) (slots : List Slot) → cells_parts form (settled_slots slots) ≡ cells_parts form slots
 cells_settled form [] = refl
-cells_settled form (c ∷ slots) = (λ i. (some_bytes comma ∷ parts_settled form c.1 i) ++ cells_settled form slots i)
+cells_settled form (c ∷ slots) = (λ i. (some_bytes comma ∷ parts_settled form c.2 c.1 i) ++ cells_settled form slots i)
 
 pub row_settled : (form : TextForm) (name : List ℕ) (slots : List Slot) → row_parts form name (settled_slots slots) ≡ row_parts form name slots
 row_settled form name slots = ap (λ (parts : List Part). some_bytes (quoted (text_in form name)) ∷ (parts ++ some_bytes newline ∷ [])) (cells_settled form slots)
@@ -50,12 +51,12 @@ any_settled t (c ∷ slots) = either (same_tag c.0 t) _ _ (any_settled t slots)
     either : (b x y : Bool) → x ≡ y → (b || x) ≡ (b || y)
     either b x y e = ap (λ (z : Bool). b || z) e
 
-reported_settled : (before : List Slot) (c : Slot) → reported_after (settled_slots before) (c.0, settled c.1) ≡ reported_after before c
+reported_settled : (before : List Slot) (c : Slot) → reported_after (settled_slots before) (c.0, settled c.1, c.2) ≡ reported_after before c
 reported_settled before c = (λ i. if long_settled c.1 i && not (any_settled c.0 before i) then Some c.0 else None)
 
-settled_more : (before : List Slot) (c : Slot) → settled_slots (before ++ c ∷ []) ≡ settled_slots before ++ (c.0, settled c.1) ∷ []
+settled_more : (before : List Slot) (c : Slot) → settled_slots (before ++ c ∷ []) ≡ settled_slots before ++ (c.0, settled c.1, c.2) ∷ []
 settled_more [] c = refl
-settled_more (b ∷ before) c = ap (λ (x : List Slot). (b.0, settled b.1) ∷ x) (settled_more before c)
+settled_more (b ∷ before) c = ap (λ (x : List Slot). (b.0, settled b.1, b.2) ∷ x) (settled_more before c)
 
 tags_settled : (before slots : List Slot) → long_tags (settled_slots before) (settled_slots slots) ≡ long_tags before slots
 tags_settled before [] = refl

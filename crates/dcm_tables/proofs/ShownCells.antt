@@ -16,6 +16,7 @@ use Rattle.dcm_base.specs.Tables.Transfer.{is_pad, without_pads}
 use Rattle.dcm_head.proofs.MetaGroups.Transfers.{pads_taken}
 use Rattle.dcm_value.proofs.ReadBack.Texts.{text_back, uid_back}
 use Rattle.dcm_value.proofs.ReadBack.Units.{bytes_take}
+use Rattle.dcm_text.specs.declared.sets.Sets.{Sets}
 use Rattle.dcm_table.specs.declared.quoted.TextForm.TheVariants.{AsItIs}
 use Rattle.dcm_table.specs.Cell.{too_long, whole}
 use Rattle.dcm_table.specs.Parts.{some_bytes}
@@ -144,9 +145,9 @@ none_read _ q = absurd (cc)
 
 -- ---- cells
 
-quoted_cell : (vr : Vr) (value kept : List ℕ) (t : Bool) → t ≡ true → without_pads kept ≡ without_pads value → value_parts t AsItIs vr value ≡ some_bytes (quoted (without_pads kept)) ∷ []
-quoted_cell vr value kept true e same = ap (λ (bytes : List ℕ). some_bytes (quoted bytes) ∷ []) (sym same)
-quoted_cell vr value kept false e same = absurd (cc)
+quoted_cell : (sets : Sets) (vr : Vr) (value kept : List ℕ) (t : Bool) → t ≡ true → without_pads kept ≡ without_pads value → value_parts t AsItIs sets vr value ≡ some_bytes (quoted (without_pads kept)) ∷ []
+quoted_cell sets vr value kept true e same = ap (λ (bytes : List ℕ). some_bytes (quoted bytes) ∷ []) (sym same)
+quoted_cell sets vr value kept false e same = absurd (cc)
 
 -- the cell of a leaf that is a text is that text
 short_cell : (vr : Vr) (value : List ℕ) → length value ≤ 16384 → (if nat_le (length value) 16384 then whole vr value else too_long) ≡ whole vr value
@@ -176,13 +177,13 @@ leaf_is s tag UR value q short = short_cell UR value short
 leaf_is s tag UT value q short = short_cell UT value short
 leaf_is s tag _ value q short = absurd (cc)
 
-value_shown : (vr : Vr) (value : List ℕ) → is_quoted_text vr ≡ true → AreBytes value → length value ≤ 16384
-    → (read : List ℕ) × (value_of_text vr (display vr value) ≡ Some read) × (cell_parts AsItIs (whole vr value) ≡ some_bytes (quoted (without_pads read)) ∷ [])
-value_shown vr [] q bytes short = ([], none_read vr q, quoted_cell vr [] [] (is_quoted_text vr) q refl)
-value_shown vr (b ∷ v) q bytes short = (unpadded vr (b ∷ v), some_read vr b v q bytes short, quoted_cell vr (b ∷ v) (unpadded vr (b ∷ v)) (is_quoted_text vr) q (pads_same vr b v))
+value_shown : (vr : Vr) (value : List ℕ) (sets : Sets) → is_quoted_text vr ≡ true → AreBytes value → length value ≤ 16384
+    → (read : List ℕ) × (value_of_text vr (display vr value) ≡ Some read) × (cell_parts AsItIs sets (whole vr value) ≡ some_bytes (quoted (without_pads read)) ∷ [])
+value_shown vr [] sets q bytes short = ([], none_read vr q, quoted_cell sets vr [] [] (is_quoted_text vr) q refl)
+value_shown vr (b ∷ v) sets q bytes short = (unpadded vr (b ∷ v), some_read vr b v q bytes short, quoted_cell sets vr (b ∷ v) (unpadded vr (b ∷ v)) (is_quoted_text vr) q (pads_same vr b v))
 
-pub cell_shown : (s : Syntax) (tag : Tag) (vr : Vr) (value : List ℕ) → is_quoted_text vr ≡ true → AreBytes value → length value ≤ 16384
-    → (read : List ℕ) × (value_of_text vr (display vr value) ≡ Some read) × (cell_parts AsItIs (leaf_cell s tag vr value) ≡ some_bytes (quoted (without_pads read)) ∷ [])
-cell_shown s tag vr value q bytes short =
-    let x = value_shown vr value q bytes short in
-    (x.0, x.1, ap (cell_parts AsItIs) (leaf_is s tag vr value q short) ∙ x.2)
+pub cell_shown : (s : Syntax) (tag : Tag) (vr : Vr) (value : List ℕ) (sets : Sets) → is_quoted_text vr ≡ true → AreBytes value → length value ≤ 16384
+    → (read : List ℕ) × (value_of_text vr (display vr value) ≡ Some read) × (cell_parts AsItIs sets (leaf_cell s tag vr value) ≡ some_bytes (quoted (without_pads read)) ∷ [])
+cell_shown s tag vr value sets q bytes short =
+    let x = value_shown vr value sets q bytes short in
+    (x.0, x.1, ap (cell_parts AsItIs sets) (leaf_is s tag vr value q short) ∙ x.2)

@@ -1,8 +1,7 @@
 -- What obeying words that ask for a table leaves over files in memory.
-use Rattle.std.proofs.Common.{◌≡◌, ◌∙◌, ap, sym, subst, refl, ℕ, ◌<◌, ◌≤◌, List, [], ◌∷◌, ◌++◌, append-nil, length, length-append, arith, map, true, Option, Some, None, Result, Ok, Err, ◌⊎◌, inl, inr}
+use Rattle.std.proofs.Common.{◌≡◌, ◌∙◌, ap, sym, subst, refl, ℕ, ◌≤◌, List, [], ◌∷◌, ◌++◌, append-nil, length-append, arith, map, Option, Some, None, Result, Ok, Err, ◌⊎◌, inl, inr}
 use Rattle.std.specs.Io.KnownBytes.{append_known}
 use Rattle.std.specs.declared.io.Error.{Error}
-use Rattle.std.proofs.lemmas.List.{length-take-le}
 use Rattle.dcm_base.specs.declared.tag.Tag.{Tag}
 use Rattle.dcm_devices.specs.declared.device.WriteFailed.{WriteFailed}
 use Rattle.dcm_devices.specs.declared.memory.MemOut.{MemOut}
@@ -98,7 +97,7 @@ module _ (s : MemSystem) (t : table_words.Table) (lists : AreReadWhole s t.names
 
   table_left : (errors : Change) (from to : Measured) (result : Result ℕ WriteFailed) (after : MemSystem) → Writes errors from to s result after → Left (with_header header rows) errors from to result × (after ≡ s)
   table_left errors from to result after (headed mid went fine does) =
-      let n = names_left s (tags_of t) (form_of t.as_is) t.names lists rows come errors mid to result after does in
+      let n = names_left s (tags_of t) (form_of t.texts) t.names lists rows come errors mid to result after does in
       (head_then header rows errors from mid to result went fine n.0, n.1)
   table_left errors from to result after (not_headed failure front failed line same is) = (
     subst (Left (with_header header rows) errors from to) (sym is)

@@ -1,16 +1,13 @@
 -- What is done with the names of a table over files in memory.
-use Rattle.std.proofs.Common.{◌≡◌, ◌∙◌, ap, sym, subst, refl, ℕ, ◌+◌, ◌<◌, ◌≤◌, List, [], ◌∷◌, ◌++◌, length, length-append, arith, Bool, true, false, Option, Some, None, Result, Ok, Err, inl, inr}
-use Rattle.std.specs.Prelude.{max, if◌then◌else◌}
+use Rattle.std.proofs.Common.{◌≡◌, ◌∙◌, ap, sym, subst, refl, ℕ, ◌+◌, ◌<◌, ◌≤◌, List, [], ◌∷◌, ◌++◌, length, length-append, arith, true, false, Option, Some, None, Result, Ok, Err}
+use Rattle.std.specs.Prelude.{max}
 use Rattle.std.specs.Io.KnownBytes.{append_known}
 use Rattle.dcm_base.specs.declared.tag.Tag.{Tag}
 use Rattle.dcm_devices.specs.declared.device.WriteFailed.{WriteFailed}
 use Rattle.dcm_devices.specs.declared.memory.MemIn.{MemIn}
 use Rattle.dcm_devices.specs.declared.memory.Measured.{Measured}
-use Rattle.dcm_devices.specs.Device.{AppendsFront}
-use Rattle.dcm_devices.specs.Memory.{written, size}
 use Rattle.dcm_devices.proofs.Writes.Puts.{append_known_none, append_known_twice}
 use Rattle.dcm_files.specs.declared.memory.MemSystem.{MemSystem}
-use Rattle.dcm_files.specs.declared.opened.Opened.{Opened}
 use Rattle.dcm_files.specs.Memory.{may_do}
 use Rattle.dcm_names.specs.Names.{can_be_opened}
 use Rattle.dcm_table.specs.declared.ending.RowEnd.{RowEnd}
@@ -21,17 +18,15 @@ use Rattle.dcm_table.proofs.PartsOut.{spells_both}
 use Rattle.dcm_table_words.specs.Table as table_words
 use Rattle.dcm_cli.specs.Change.{Change}
 use Rattle.dcm_cli.specs.ErrorLines.{Reports}
-use Rattle.dcm_cli.specs.InMemory.{bytes_at}
 use Rattle.dcm_cli.specs.Program.{Follows}
 use Rattle.dcm_cli.specs.Status.{DONE}
 use Rattle.dcm_cli.proofs.Passes.Readers.{known}
 use Rattle.dcm_cli.proofs.Runs.InMemory.{memory_reader, memory_writer}
-use Rattle.dcm_cli.proofs.Runs.OpenedMemory.{input_opened}
 use Rattle.dcm_tables.specs.Deciding.{DoesRow, row_written, row_unwritten, row_unread}
 use Rattle.dcm_tables.specs.RowOf.{RowOf}
 use Rattle.dcm_each.specs.Each as each
 use Rattle.dcm_each.specs.Each.{OpensAt, not_tried, opened_at, DoesAt, not_opened, done_at, DoesName, DoneSoFar, none_done, and_done, DoesAll, all_names, failed_at}
-use Rattle.dcm_each.proofs.InMemory.{Told, told_of, told_then, front_less, held, IsOpened, opened_is}
+use Rattle.dcm_each.proofs.InMemory.{Told, told_of, told_then, front_less, held, opened_is}
 use Rattle.dcm_tables.specs.Table.{rows_into}
 use Rattle.dcm_tables.specs.TableInMemory.{Rows, no_rows, and_rows, AllCome, file_of, unopened, row_with, FileComes, most_of_part, most_of}
 use Rattle.dcm_tables.proofs.OneRow.{one_row}

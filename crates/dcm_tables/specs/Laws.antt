@@ -12,8 +12,10 @@ use Rattle.dcm_devices.specs.Writing.{Writer}
 use Rattle.dcm_table.specs.declared.ending.RowEnd.{RowEnd}
 use Rattle.dcm_table.specs.declared.ending.RowEnd.TheVariants.{Decided}
 use Rattle.dcm_table.specs.declared.quoted.TextForm.{TextForm}
-use Rattle.dcm_table.specs.declared.quoted.TextForm.TheVariants.{AsItIs, ValidUtf8}
+use Rattle.dcm_table.specs.declared.quoted.TextForm.TheVariants.{AsItIs}
+use Rattle.dcm_text.specs.declared.sets.Sets.{Sets}
 use Rattle.dcm_table.specs.Cell.{CELL_LIMIT}
+use Rattle.dcm_table.specs.Laws.{is_valid_form}
 use Rattle.dcm_table.specs.Parts.{SpellsParts, some_bytes}
 use Rattle.dcm_table.specs.Quoted.{quoted}
 use Rattle.dcm_table.specs.Row.{cell_parts, is_quoted_text, row_parts}
@@ -98,17 +100,18 @@ DecidedIsSure =
 -- the row of any file is valid UTF-8, where that is asked
 abbrev pub RowIsUtf8 : Type 0
 RowIsUtf8 =
-    (columns : List Tag) (name bytes : List ℕ) (cells : List Slot) (end : RowEnd) (text : List ℕ) → AreBytes name
-    → AreBytes bytes → RowOf columns bytes cells end → SpellsParts (row_parts ValidUtf8 name cells) text → IsUtf8 text
+    (columns : List Tag) (form : TextForm) (name bytes : List ℕ) (cells : List Slot) (end : RowEnd) (text : List ℕ)
+    → is_valid_form form ≡ true → AreBytes name → AreBytes bytes → RowOf columns bytes cells end
+    → SpellsParts (row_parts form name cells) text → IsUtf8 text
 
 -- the cell of an element that is a text, by its representation as it was read, is the value that its text in a full dump
 -- means, without the pads at its end
 abbrev pub CellIsShown : Type 0
 CellIsShown =
-    (s : Syntax) (tag : Tag) (vr : Vr) (value : List ℕ) → is_quoted_text vr ≡ true → AreBytes value
+    (s : Syntax) (tag : Tag) (vr : Vr) (value : List ℕ) (sets : Sets) → is_quoted_text vr ≡ true → AreBytes value
     → length value ≤ CELL_LIMIT
     → (read : List ℕ) × (value_of_text vr (display vr value) ≡ Some read)
-    × (cell_parts AsItIs (leaf_cell s tag vr value) ≡ some_bytes (quoted (without_pads read)) ∷ [])
+    × (cell_parts AsItIs sets (leaf_cell s tag vr value) ≡ some_bytes (quoted (without_pads read)) ∷ [])
 
 -- ---- a table over files in memory
 

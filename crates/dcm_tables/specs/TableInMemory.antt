@@ -106,7 +106,7 @@ abbrev pub tags_of : table_words.Table → List Tag
 tags_of t = map (λ (c : Column). c.tag) (map column_of t.columns)
 
 abbrev pub RowsCome : MemSystem → table_words.Table → Rows → Type 0
-RowsCome s t rows = AllCome (NameComes s (tags_of t) (form_of t.as_is)) t.names rows
+RowsCome s t rows = AllCome (NameComes s (tags_of t) (form_of t.texts)) t.names rows
 
 -- by what the words mean
 abbrev pub TableComesBy : MemSystem → Result table_words.Table TableUsage → TableOutcome → Type 0

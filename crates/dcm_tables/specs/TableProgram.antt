@@ -1,6 +1,6 @@
 -- What the program does with the words of its command line, which may ask for a table.
 use Rattle.std.specs.Prelude.{◌≡◌, ◌&&◌, ℕ, List, [], ◌∷◌, map, Bool, true, false, Some, None, is_none}
-use Rattle.std.specs.Prelude.{Ok, Err, codes, bytes_eq, if◌then◌else◌}
+use Rattle.std.specs.Prelude.{Ok, Err, codes, bytes_eq}
 use Rattle.std.specs.IoError.{error_kind}
 use Rattle.std.specs.declared.io.Error.{Error}
 use Rattle.dcm_devices.specs.declared.device.WriteFailed.{WriteFailed}
@@ -13,8 +13,10 @@ use Rattle.dcm_words.specs.Topics.{asked}
 use Rattle.dcm_table.specs.declared.column.Column.{Column}
 use Rattle.dcm_table.specs.declared.column.Header.TheVariants.{Keyword}
 use Rattle.dcm_table.specs.declared.quoted.TextForm.{TextForm}
-use Rattle.dcm_table.specs.declared.quoted.TextForm.TheVariants.{AsItIs, ValidUtf8}
+use Rattle.dcm_table.specs.declared.quoted.TextForm.TheVariants.{AsItIs, Decoded, ValidUtf8}
 use Rattle.dcm_table.specs.Columns.{column_of_number}
+use Rattle.dcm_table_words.specs.declared.plan.Texts.{Texts}
+use Rattle.dcm_table_words.specs.declared.plan.Texts.TheVariants.{Escaped, AsTheyAre, Characters}
 use Rattle.dcm_table_words.specs.declared.usage.TableUsage.{TableUsage}
 use Rattle.dcm_table_words.specs.Table as table_words
 use Rattle.dcm_table_words.specs.Usages.{usage_line}
@@ -38,15 +40,17 @@ column_of c = elim c.number [
   | None ↦ record { tag = c.tag; header = Keyword }
 ]
 
-abbrev pub form_of : (as_is : Bool) → TextForm
-form_of as_is = if as_is then AsItIs else ValidUtf8
+abbrev pub form_of : Texts → TextForm
+form_of Escaped = ValidUtf8
+form_of AsTheyAre = AsItIs
+form_of Characters = Decoded
 
 -- ---- tables
 
 -- a table that words mean was written
 abbrev pub WritesMeant : {S I O W : Type 0} → MayDo S I O → Reader I → Writer W → table_words.Table → Writing S W
 WritesMeant may r w t errors from to before result after =
-    WritesTable may r w (map column_of t.columns) (form_of t.as_is) t.has_header t.names errors from to before result
+    WritesTable may r w (map column_of t.columns) (form_of t.texts) t.has_header t.names errors from to before result
     after
 
 -- an output was flushed after a table that reached this status, and the status stays; or that failed, and it is reported

@@ -19,7 +19,7 @@ use dcm_cli::{Usage, asked, tell, tell_open, tell_output, tell_unopened};
 use dcm_dumps::{asks_dumps, obey_dumps};
 use dcm_files::{Folders, Host, System, Unopened, unopened};
 use dcm_table::{Cells, Column, Columns, TextForm};
-use dcm_table_words::{TableColumn, TablePlan, put_usage, table_plan};
+use dcm_table_words::{TableColumn, TablePlan, Texts, put_usage, table_plan};
 use dcm_trees::{asks_run, obey_tree};
 use either::Either;
 use std::alloc::{AllocError, Global};
@@ -61,14 +61,14 @@ fn columns_of(plan: &TablePlan) -> Columns
     columns
 }
 
-/// Whether bytes are written as they are.
-fn form_of(plan: &TablePlan) -> TextForm
-    ensures { result ≡ spec.form_of plan.now.as_is }
+/// How texts and names are written.
+fn form_of(texts: Texts) -> TextForm
+    ensures { result ≡ spec.form_of texts }
 {
-    if plan.as_is {
-        TextForm::AsItIs
-    } else {
-        TextForm::ValidUtf8
+    match texts {
+        Texts::Escaped => TextForm::ValidUtf8,
+        Texts::AsTheyAre => TextForm::AsItIs,
+        Texts::Characters => TextForm::Decoded,
     }
 }
 
@@ -109,7 +109,7 @@ fn put_table<S: System, W: DeviceOut, E: DeviceOut>(
 {
     let shared = Shared {
         columns,
-        form: form_of(plan),
+        form: form_of(plan.texts),
     };
     let written = write_table(
         &shared,

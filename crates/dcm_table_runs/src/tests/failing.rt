@@ -1,5 +1,6 @@
 // Runs over files of which reading fails, and files that are gone.
 use super::ends::ends;
+use super::in_force::in_force;
 use super::plain::plain;
 use super::representations::representations;
 use super::texts::texts;
@@ -19,6 +20,11 @@ fn reading_fails_of_representations(rt: HostRuntime) -> Result<(), Fail> {
 #[test]
 fn reading_fails_of_texts(rt: HostRuntime) -> Result<(), Fail> {
     reads_fail(rt.alloc(), texts())
+}
+
+#[test]
+fn reading_fails_of_what_is_in_force(rt: HostRuntime) -> Result<(), Fail> {
+    reads_fail(rt.alloc(), in_force())
 }
 
 #[test]

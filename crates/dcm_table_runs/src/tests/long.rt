@@ -15,6 +15,9 @@ const COMMENTS: &[u8] = b"\x10\0\0@LT\0@";
 
 const LONGER_COMMENTS: &[u8] = b"\x10\0\0@LT\x01@";
 
+/// (0008,0005) with ISO_IR 100.
+const LATIN: &[u8] = b"\x08\0\x05\0CS\n\0ISO_IR 100";
+
 /// The head of (7fe0,0010) with 20,000 bytes.
 const PIXELS: &[u8] = b"\xe0\x7f\x10\0OW\0\0 N\0\0";
 
@@ -66,6 +69,8 @@ fn longest_row(alloc: Global) -> Result<Vec<u8>, AllocError> {
     repeated(alloc, first.as_slice(), b"\"\"", CELL_LIMIT, b"\",\n")
 }
 
+const LONG_LINE: &[u8] = b"dcmtools: long: value of (0010,4000) is longer than 16384 bytes\n";
+
 const LONG_LINES: &[u8] = b"dcmtools: long: value of (0010,4000) is longer than 16384 bytes
 dcmtools: cut: R1 at byte 16564: input ends too early
 ";
@@ -87,6 +92,43 @@ fn longest_values(rt: HostRuntime) -> Result<(), Fail> {
         told: LONG_LINES.to_vec(alloc)?,
     };
     expect_answer("longest values", &left, &wanted)
+}
+
+/// A file whose comments have so many bytes E9.
+fn latin(alloc: Global, head: &[u8], count: usize) -> Result<Vec<u8>, AllocError> {
+    let front = joined(alloc, explicit(alloc, LATIN)?.as_slice(), head)?;
+    repeated(alloc, front.as_slice(), b"\xe9", count, b"")
+}
+
+/// The limit is of a value's bytes, of which each becomes two here.
+#[test]
+fn longest_characters(rt: HostRuntime) -> Result<(), Fail> {
+    let alloc = rt.alloc();
+    let mut files = Vec::new(alloc);
+    files.push(Loaded::file(b"just", latin(alloc, COMMENTS, CELL_LIMIT)?))?;
+    files.push(Loaded::file(b"long", latin(alloc, LONGER_COMMENTS, CELL_LIMIT + 1)?))?;
+    let words: [&[u8]; 7] = [
+        b"dcm2csv",
+        b"+nh",
+        b"+u8",
+        b"-k",
+        b"PatientComments",
+        b"just",
+        b"long",
+    ];
+    let left = run_over(alloc, &words, files.as_slice(), SOUND);
+    let wanted = Answer {
+        status: 2,
+        output: repeated(
+            alloc,
+            b"\"just\",\"",
+            b"\xc3\xa9",
+            CELL_LIMIT,
+            b"\"\n\"long\",\n",
+        )?,
+        told: LONG_LINE.to_vec(alloc)?,
+    };
+    expect_answer("longest characters", &left, &wanted)
 }
 
 /// As many columns as there may be.

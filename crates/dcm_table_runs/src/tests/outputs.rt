@@ -1,4 +1,5 @@
 // Runs over an output, or a standard error, that fails.
+use super::decoded::decoded;
 use super::ends::ends;
 use super::plain::plain;
 use super::representations::representations;
@@ -19,6 +20,11 @@ fn writing_fails_of_representations(rt: HostRuntime) -> Result<(), Fail> {
 #[test]
 fn writing_fails_of_texts(rt: HostRuntime) -> Result<(), Fail> {
     writes_fail(rt.alloc(), texts())
+}
+
+#[test]
+fn writing_fails_of_characters(rt: HostRuntime) -> Result<(), Fail> {
+    writes_fail(rt.alloc(), decoded())
 }
 
 #[test]

@@ -1,6 +1,5 @@
 use Rattle.std.proofs.Common.{fold}
 use Rattle.dcm_stream.specs.Tokens.{atoms_of}
-use Rattle.dcm_table.specs.Cell.{missing}
 use Rattle.dcm_table.specs.TableSink.{Slot, slot_step}
 use Rattle.dcm_table.proofs.EachSlot.{SlotsSoFar}
 use Rattle.dcm_table.proofs.cells.take_each.Given as goal

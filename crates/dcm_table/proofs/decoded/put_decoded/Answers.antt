@@ -1,4 +1,4 @@
-use Rattle.std.proofs.Common.{rules, [], ◌∷◌, List, ℕ}
+use Rattle.std.proofs.Common.{rules, [], ◌∷◌}
 use Rattle.dcm_text.specs.Shown.{cell}
 use Rattle.dcm_table.specs.Quoted as spec
 use Rattle.dcm_table.proofs.Texts.{three_failed_first, three_failed_second, three_went}

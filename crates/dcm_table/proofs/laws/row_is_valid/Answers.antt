@@ -2,4 +2,4 @@ use Rattle.dcm_table.proofs.ValidRows.{row_valid}
 use Rattle.dcm_table.proofs.laws.row_is_valid.Goals as goal
 
 pub returns : goal.returns
-returns c = λ name slots text named held spelled. row_valid name slots text named held spelled
+returns c = λ form name slots text valid named held spelled. row_valid form name slots text valid named held spelled

@@ -1,4 +1,3 @@
-use Rattle.std.specs.Prelude.{not}
 use lib.Ieee.{nan_bits}
 use Rattle.dcm_table.proofs.NumberParts.{nan_then, nan_else}
 use Rattle.dcm_table.proofs.numbers.is_nan_single.Goals as goal

@@ -1,8 +1,4 @@
-use Rattle.std.proofs.Common.{rules, subst, sym, ap, [], ◌∷◌, List, length, ◌≤◌}
-use Rattle.dcm_base.specs.Dump.ValueText.{shown_unit}
-use Rattle.dcm_base.specs.Tree.Value.{units}
-use Rattle.dcm_table.specs.Parts.{Part}
-use Rattle.dcm_table.specs.Row as spec
+use Rattle.std.proofs.Common.{rules}
 use Rattle.dcm_table.proofs.NumberParts.{joined_failed, joined_went}
 use Rattle.dcm_table.proofs.numbers.put_joined.Goals as goal
 

@@ -1,8 +1,5 @@
-use Rattle.std.proofs.Common.{rules, refl, arith, ◌∙◌, sym, ◌<◌, ◌≤◌, length, ap}
-use Rattle.dcm_base.specs.Dump.ValueText.{shown_unit}
-use Rattle.dcm_base.specs.Tree.Value.{units}
-use Rattle.dcm_table.specs.Row as spec
-use Rattle.dcm_table.proofs.NumberParts.{next_unit, no_next_unit, shown_some}
+use Rattle.std.proofs.Common.{rules, refl, arith, ◌∙◌}
+use Rattle.dcm_table.proofs.NumberParts.{next_unit, no_next_unit}
 use Rattle.dcm_table.proofs.PartsOut.{so_far_none, so_far_more, so_far_failed, so_far_done}
 use Rattle.dcm_table.proofs.numbers.put_others.Goals as goal
 

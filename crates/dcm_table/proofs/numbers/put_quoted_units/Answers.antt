@@ -1,8 +1,4 @@
-use Rattle.std.proofs.Common.{rules, codes, [], ◌∷◌, ◌++◌}
-use Rattle.dcm_base.specs.Dump.ValueText.{shown_unit}
-use Rattle.dcm_base.specs.Tree.Value.{units}
-use Rattle.dcm_table.specs.Parts.{some_bytes}
-use Rattle.dcm_table.specs.Row as spec
+use Rattle.std.proofs.Common.{rules, codes}
 use Rattle.dcm_table.proofs.PartsOut.{between_failed_first, between_failed, between_went}
 use Rattle.dcm_table.proofs.numbers.put_quoted_units.Goals as goal
 

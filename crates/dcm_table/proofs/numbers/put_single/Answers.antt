@@ -1,4 +1,4 @@
-use Rattle.std.proofs.Common.{sym, ◌∙◌}
+use Rattle.std.proofs.Common.{sym}
 use Rattle.dcm_table.specs.Parts.{single}
 use Rattle.dcm_table.proofs.NumberParts.{nan_out, float_out}
 use Rattle.dcm_table.proofs.numbers.put_single.Goals as goal

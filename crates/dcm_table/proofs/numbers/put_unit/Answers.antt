@@ -1,4 +1,4 @@
-use Rattle.std.proofs.Common.{sym, ◌∙◌}
+use Rattle.std.proofs.Common.{◌∙◌}
 use Rattle.dcm_table.proofs.NumberParts.{plain_out}
 use Rattle.dcm_table.proofs.numbers.put_unit.Goals as goal
 

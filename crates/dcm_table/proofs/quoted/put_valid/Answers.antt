@@ -1,5 +1,5 @@
 use Rattle.std.specs.Prelude.{slice_index}
-use Rattle.std.proofs.Common.{rules, refl, drop, ap, sym, subst, ◌∙◌, List, ℕ, ◌≡◌, ◌<◌, length}
+use Rattle.std.proofs.Common.{rules, refl, drop, sym, subst, ◌∙◌, List, ℕ, ◌<◌, length}
 use Rattle.dcm_devices.specs.Device.{Puts}
 use Rattle.dcm_table.specs.Quoted as spec
 use Rattle.dcm_table.proofs.Texts.{text_none, text_more, text_last, text_failed, text_failed_first, text_step, went_twice, broke_second, valid_all}

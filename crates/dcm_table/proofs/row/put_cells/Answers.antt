@@ -1,4 +1,4 @@
-use Rattle.std.proofs.Common.{rules, refl, arith, ◌∙◌}
+use Rattle.std.proofs.Common.{rules, refl, ◌∙◌}
 use Rattle.dcm_table.proofs.PartsOut.{so_far_none, so_far_more, so_far_failed, so_far_done}
 use Rattle.dcm_table.proofs.RowParts.{next_cell, no_cell}
 use Rattle.dcm_table.proofs.row.put_cells.Goals as goal

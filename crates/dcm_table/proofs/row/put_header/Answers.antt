@@ -1,4 +1,4 @@
-use Rattle.std.proofs.Common.{rules, ap, subst, sym, refl, codes, List, ℕ, ◌≡◌, ◌++◌}
+use Rattle.std.proofs.Common.{rules, subst, codes, List, ◌≡◌}
 use Rattle.std.specs.Prelude.{flat_map}
 use Rattle.std.specs.Io.KnownBytes.{append_known}
 use Rattle.dcm_devices.specs.Device.{AppendsFront}

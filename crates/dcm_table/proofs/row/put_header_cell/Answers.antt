@@ -1,4 +1,4 @@
-use Rattle.std.proofs.Common.{rules, ap, subst, List, ℕ}
+use Rattle.std.proofs.Common.{rules, ap}
 use Rattle.dcm_devices.proofs.Writes.PartsOut.{part_failed, parts_put}
 use Rattle.dcm_table.specs.Quoted.{quoted}
 use Rattle.dcm_table.specs.Row as spec

@@ -1,4 +1,4 @@
-use Rattle.std.proofs.Common.{◌≡◌, ◌∙◌, ap, refl}
+use Rattle.std.proofs.Common.{◌∙◌, ap, refl}
 use Rattle.dcm_tables.specs.OverStd.{started, not_started}
 use Rattle.dcm_tables.proofs.program.dcmtools.Goals as goal
 

@@ -1,11 +1,11 @@
-use Rattle.std.proofs.Common.{◌∙◌, ap, fold, map, List, ◌≡◌, length, vec_len}
+use Rattle.std.proofs.Common.{◌∙◌, ap, fold, map, List, ◌≡◌, length, vec_len, Option, ℕ}
 use Rattle.std.proofs.lemmas.List.{with_items_is}
 use Rattle.std.specs.Vec.{with_items}
 use Rattle.dcm_base.specs.Steps.Atoms.{value_byte}
 use Rattle.dcm_stream.specs.Skip.{depth}
 use Rattle.dcm_table.specs.declared.slot.Slot.{Slot as HeldSlot}
 use Rattle.dcm_table.specs.Index.{holds_busy, has_each, changed_in}
-use Rattle.dcm_table.specs.Slots.{slots_of}
+use Rattle.dcm_table.specs.Slots.{setting_of, slots_of}
 use Rattle.dcm_table.specs.TableSink.{Slot, State, slot_step}
 use Rattle.dcm_table.proofs.Indexed as indexed
 use Rattle.dcm_table.proofs.cells.Cells.add.Goals as goal
@@ -31,5 +31,6 @@ returns c =
     ap slots_of (with_items_is c.self.inside.slots c.take_in_span.new.slots size) ∙ c.take_in_span.ensures.changed
     ∙ ap (λ (x : List HeldSlot). changed_in f c.self.inside.busy 0 (slots_of x)) c.as_mut_slice.ensures.value in
     rw (← c.self.view_is)
-    (ap (λ (x : List Slot). let s : State = record { depth = depth c.self.inside.depth; greatest = c.self.inside.greatest; slots = x } in s)
-    (held ∙ indexed.busy_alone f (indexed.bytes_stay c.args.bytes.now) c.self.inside.busy 0 (slots_of items) c.self.inside.idle))
+    (ap (λ (x : List Slot). let s : State = record { depth = depth c.self.inside.depth; greatest = c.self.inside.greatest; slots = x; setting = setting_of c.add.new.self } in s)
+    (held ∙ indexed.busy_alone f (indexed.bytes_stay c.args.bytes.now) c.self.inside.busy 0 (slots_of items) c.self.inside.idle)
+    ∙ ap (λ (x : Option (List ℕ)). let s : State = record { depth = depth c.self.inside.depth; greatest = c.self.inside.greatest; slots = map f (slots_of items); setting = x } in s) c.add.ensures)

@@ -5,13 +5,14 @@ use Rattle.dcm_table.specs.declared.slot.Slot.{Slot as HeldSlot}
 use Rattle.dcm_table.specs.Index.{holds_busy, has_each}
 use Rattle.dcm_table.specs.Slots.{slots_of}
 use Rattle.dcm_table.specs.Cell.{missing}
+use Rattle.dcm_table.specs.InForce.{EMPTY}
 use Rattle.dcm_table.specs.TableSink.{Slot}
 use Rattle.dcm_table.proofs.Indexed as indexed
 use Rattle.dcm_table.proofs.cells.Cells.clear.Goals as goal
 
 pub invariant_of-self-inside : goal.invariant_of-self-inside
 invariant_of-self-inside c =
-    let f : Slot → Slot = λ (s : Slot). (s.0, missing) in
+    let f : Slot → Slot = λ (s : Slot). (s.0, missing, EMPTY) in
     let items = c.self.inside.slots.items in
     let size : length c.clear_each.new.slots ≡ vec_len c.self.inside.slots =
     indexed.mapped_size f c.clear_each.new.slots c.as_mut_slice.result.now c.clear_each.ensures ∙ c.as_mut_slice.ensures.len in

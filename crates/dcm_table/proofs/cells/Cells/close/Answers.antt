@@ -5,7 +5,7 @@ use Rattle.dcm_base.specs.Steps.Atoms.{closes_leaf}
 use Rattle.dcm_stream.specs.Skip.{depth}
 use Rattle.dcm_table.specs.declared.slot.Slot.{Slot as HeldSlot}
 use Rattle.dcm_table.specs.Index.{holds_busy, has_each, changed_in}
-use Rattle.dcm_table.specs.Slots.{slots_of}
+use Rattle.dcm_table.specs.Slots.{setting_of, slots_of}
 use Rattle.dcm_table.specs.TableSink.{Slot, State, slot_step}
 use Rattle.dcm_table.proofs.Indexed as indexed
 use Rattle.dcm_table.proofs.cells.Cells.close.Goals as goal
@@ -33,5 +33,5 @@ returns c =
     ap slots_of (with_items_is c.self.inside.slots c.take_in_span.new.slots size) ∙ c.take_in_span.ensures.changed
     ∙ ap (λ (x : List HeldSlot). changed_in f c.self.inside.busy 0 (slots_of x)) c.as_mut_slice.ensures.value in
     rw (← c.self.view_is)
-    (ap (λ (x : List Slot). let s : State = record { depth = depth c.self.inside.depth; greatest = c.self.inside.greatest; slots = x } in s)
+    (ap (λ (x : List Slot). let s : State = record { depth = depth c.self.inside.depth; greatest = c.self.inside.greatest; slots = x; setting = setting_of c.self.inside.setting } in s)
     (held ∙ indexed.busy_alone f indexed.end_stays c.self.inside.busy 0 (slots_of items) c.self.inside.idle))

@@ -7,7 +7,7 @@ use Rattle.dcm_stream.specs.declared.token.Token.TheVariants.{Open}
 use Rattle.dcm_table.specs.declared.slot.Slot.{Slot as HeldSlot}
 use Rattle.dcm_table.specs.declared.index.Span.{Span}
 use Rattle.dcm_table.specs.Index.{is_in, span_of, holds_busy, has_each, changed_in}
-use Rattle.dcm_table.specs.Slots.{slots_of}
+use Rattle.dcm_table.specs.Slots.{setting_of, slots_of}
 use Rattle.dcm_table.specs.TableSink.{Slot, State, slot_step}
 use Rattle.dcm_table.proofs.Indexed as indexed
 use Rattle.dcm_table.proofs.cells.Cells.offer.Goals as goal
@@ -38,6 +38,6 @@ returns c =
     let more : (j : ℕ) → is_in (span_of c.self.inside.index c.args.head.tag) j ≡ true → is_in c.with-self-inside.result j ≡ true =
     λ j h. ap (λ (x : Span). is_in x j) c.with-self-inside.ensures ∙ indexed.in_second c.self.inside.busy c.span_of.result j (ap (λ (x : Span). is_in x j) c.span_of.ensures ∙ h) in
     rw (← c.self.view_is)
-    (ap (λ (x : List Slot). let s : State = record { depth = depth c.self.inside.depth; greatest = c.self.inside.greatest; slots = x } in s)
+    (ap (λ (x : List Slot). let s : State = record { depth = depth c.self.inside.depth; greatest = c.self.inside.greatest; slots = x; setting = setting_of c.self.inside.setting } in s)
     (held
     ∙ indexed.tag_alone c.self.inside.index c.args.head.tag f (λ s. indexed.head_stays s c.args.head.tag c.args.head.vr c.args.head.length c.args.syntax) c.with-self-inside.result more 0 (slots_of items) c.self.inside.indexed))

@@ -1,0 +1,5 @@
+use Rattle.dcm_table.proofs.AlikeForms.{utf8_alike}
+use Rattle.dcm_table.proofs.laws.utf8_as_it_is.Goals as goal
+
+pub returns : goal.returns
+returns c = utf8_alike
