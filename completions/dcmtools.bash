@@ -120,7 +120,7 @@ _dcmtools() {
         dcmconv) switches='+t= +ti +te +tb -e +fo -dict +dict +r +c +part +nh +v' ;;
         dump2dcm) switches='+l -e' ;;
         dcmodify) switches='-i -m -e -ma -ea -ep -dict +dict +r +c +part +nh +v' ;;
-        dcmdeid) switches='+ru +rd +ri +rp +rl +rm +pi +bi +k' ;;
+        dcmdeid) switches='+ru +rd +ri +rp +rl +rm +pi +bi +k +r +c +part +nh +v +kn' ;;
         dcm2csv) switches='-k +nh +by +u8' ;;
         *) return ;;
     esac
@@ -132,11 +132,11 @@ _dcmtools() {
         dcmdeid+k) _dcmtools_files "$current"; return ;;
         dcmdeid+rm) _dcmtools_words 'key' "$current"; return ;;
         dcm2csv-k) _dcmtools_words "$(_dcmtools_standard vc "$values")" "$current"; return ;;
-        dcmconv+part | dcmodify+part) return ;;
-        dcm2csv@ | dcmconv@ | dcmodify@) current=@$current ;; # a word is cut at `@`, and what is offered replaces both parts
+        dcmconv+part | dcmodify+part | dcmdeid+part) return ;;
+        dcm2csv@ | dcmconv@ | dcmodify@ | dcmdeid@) current=@$current ;; # a word is cut at `@`, and what is offered replaces both parts
         dcmodify-ea) _dcmtools_words "$values $sequences" "$current"; return ;;
     esac
-    if [[ ${COMP_WORDS[1]} =~ ^(dcm2csv|dcmconv|dcmodify)$ && $current == @* ]]; then
+    if [[ ${COMP_WORDS[1]} =~ ^(dcm2csv|dcmconv|dcmodify|dcmdeid)$ && $current == @* ]]; then
         _dcmtools_lists "$current"
         return
     fi

@@ -22,10 +22,10 @@ from pathlib import Path
 ROOT = Path(__file__).resolve().parent.parent
 TEXTS = {"dcmdump": "DUMP", "dcmconv": "CONVERT", "dump2dcm": "BUILD", "dcmodify": "MODIFY", "dcmdeid": "DEIDENTIFY",
          "dcm2csv": "TABLE"}
-OF_TREES = ("dcmconv", "dcmodify")
+OF_TREES = ("dcmconv", "dcmodify", "dcmdeid")
 MANUAL = "man/dcmtools.1"
 
-MOST_WORDS = 25_100
+MOST_WORDS = 25_500
 LONG, LONGEST, MOST_LONG = 30, 45, 25
 
 

@@ -15,7 +15,7 @@ identity out of them, and write tables of their values
   dcmtools dcmodify EDIT.. FILE OUTPUT       write a file with edits
   dcmtools dcmdeid [OPTION].. FILE OUTPUT    write a file without identity
   dcmtools dcm2csv -k TAG.. FILE..           write a table, a row for each file
-  dcmtools dcmconv|dcmodify .. +r FOLDER OUTPUT
+  dcmtools dcmconv|dcmodify|dcmdeid .. +r FOLDER OUTPUT
                                              do each file of a folder, at any depth
   dcmtools help [TOOL]                       show this text, or that of a tool
   dcmtools version                           show the version and the edition of the dictionary
@@ -131,6 +131,7 @@ greatest. The manual: man dcmtools, and docs/users/PROFILE.md
 /// How dcmdeid is used.
 pub const DEIDENTIFY: &str = "\
 dcmtools dcmdeid [OPTION].. FILE OUTPUT: write a DICOM file without identity (PS3.15 annex E)
+dcmtools dcmdeid [OPTION].. +r FOLDER OUTPUT: do each file of a folder, at any depth
 
   +ru    keep unique identifiers
   +rd    keep the identity of devices
@@ -145,12 +146,21 @@ dcmtools dcmdeid [OPTION].. FILE OUTPUT: write a DICOM file without identity (PS
   +bi    what pixels show was dealt with: it is not reported
   +k KEY make new identifiers with the bytes of the file KEY, 16 to 4096 of them; +pi and
          +rm key need it
+  +r     do each file of FOLDER: its output is OUTPUT/STUDY/SERIES/INSTANCE.dcm, by its new identifiers
+  +c     with +r: continue; an output that is there stays
+  +part I/N
+         with +r: of all names the I-th of N parts, 1 to 9999, each as one run
+  +nh    with +r: no header row
+  +v     with +r: counts on standard error
+  +kn    with +r: names are kept: the output of NAME is OUTPUT/NAME
 
-OUTPUT is written as OUTPUT.part, and moved to its name at status 0; else it is removed.
+OUTPUT is written as OUTPUT.part, and moved to its name at status 0; else it is removed. With +r
+FOLDER may be @LIST: the names of files, one a line, from the file LIST; @- is standard input. Each
+name has a row on standard output: what became of it. The rows are as secret as the key.
 
 Exit status: 0 done, 1 words or key refused, 2 input at fault, 3 pixels may show identity and no
-OUTPUT was left, 4 file not opened, read or written, 5 out of memory. The manual: man dcmtools, and
-docs/users/PROFILE.md
+OUTPUT was left, 4 file not opened, read or written, or a name not done, 5 out of memory; of a folder
+the greatest. The manual: man dcmtools, and docs/users/PROFILE.md
 ";
 
 /// How dcm2csv is used.
@@ -161,6 +171,7 @@ DICOM file
   -k TAG a column: a keyword, or a number such as (0010,0010); 1 to 64 of them
   +nh    no header row
   +by    bytes of texts and names as they are (else valid UTF-8: other bytes as \\xNN)
+  +u8    texts as characters in UTF-8, by Specific Character Set; of +by and +u8 the last counts
 
 @LIST in place of a FILE: the names of files, one a line, from the file LIST. - and @- are standard
 input. The table goes to standard output. A FILE at fault has its row; all others are still done.
