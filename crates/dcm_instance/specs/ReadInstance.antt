@@ -14,8 +14,8 @@ use Rattle.dcm_cli.specs.InputCalls.{Reader, How, Allows, ReadsInput}
 use Rattle.dcm_instance.specs.declared.names.InstanceUid.TheVariants.{Study}
 use Rattle.dcm_instance.specs.declared.names.NoInstance.{NoInstance}
 use Rattle.dcm_instance.specs.declared.names.NoInstance.TheVariants.{Unfit, Unread}
-use Rattle.dcm_instance.specs.UidSink.{is_decided, outcome, uids_at}
-use Rattle.dcm_instance.specs.Uids.{Uids}
+use Rattle.dcm_instance.specs.UidSink.{is_decided, uids_at}
+use Rattle.dcm_instance.specs.Uids.{Uids, instance_in}
 
 -- what a file names: its head is at fault, and no element is there; or its data set follows
 pub data FileNames (bytes : List ℕ) (answer : Result Uids NoInstance) : Type 0 where
@@ -24,7 +24,7 @@ pub data FileNames (bytes : List ℕ) (answer : Result Uids NoInstance) : Type 0
   of_set : (m : Meta) (group : List ℕ) (coding : Coding) (set : Front) (stop : Stop)
       → HeadIs Standard bytes m group coding
       → Reads no_bar coding.syntax (set_at group) (drop (set_at group) bytes) set stop
-      → answer ≡ outcome (uids_at coding.syntax set) → FileNames bytes answer
+      → answer ≡ instance_in coding.syntax set → FileNames bytes answer
 
 -- more bytes after these can still change what they name
 pub data IsUndecided (bytes : List ℕ) : Type 0 where

@@ -5,7 +5,9 @@ use Rattle.dcm_base.specs.declared.tag.Tag.{Tag}
 use Rattle.dcm_base.specs.declared.vr.Vr.{Vr}
 use Rattle.dcm_base.specs.declared.length.Length.{Length}
 use Rattle.dcm_base.specs.declared.syntax.Syntax.{Syntax}
-use Rattle.dcm_base.specs.Bytes.Spelling.{Form, a_value, form, read_as}
+use Rattle.dcm_base.specs.declared.form.Form.{Form}
+use Rattle.dcm_base.specs.declared.form.Form.TheVariants.{Value as a_value}
+use Rattle.dcm_base.specs.Bytes.Spelling.{form, read_as}
 use Rattle.dcm_base.specs.Steps.Atoms.{Atom, opens, value_byte, closes_leaf, opens_item, closes_item, closes_sequence}
 use Rattle.dcm_base.specs.Steps.Atoms.{opens_fragment, ends, front_atoms}
 use Rattle.dcm_base.specs.Tables.Tag.{same_tag}

@@ -17,7 +17,7 @@ use dcm_cli::ending::HeadEnding;
 use dcm_cli::head::{Beginning, read_head_of, set_start};
 use dcm_files::next_piece;
 use dcm_head::Meta;
-use dcm_stream::{Halt, Machine};
+use dcm_stream::{Halt, Machine, Sink};
 
 /// The bytes that are read at a time. The three stand near the front.
 const PIECE: usize = 4096;
@@ -34,9 +34,9 @@ fn halt_of(answer: Result<(), Halt>) -> Option<Stop>
 }
 
 /// Feeds a machine, and answers why it goes no further, if it does.
-fn feed(piece: &[u8], machine: &mut Machine, sink: &mut UidSink) -> Option<Stop>
+fn feed<S: Sink>(piece: &[u8], machine: &mut Machine, sink: &mut S) -> Option<Stop>
     requires { machine.old.failed ≡ false }
-    ensures { Goes UidSink.Sink sink.old sink.new machine.old machine.new piece.now result }
+    ensures { Goes S.Sink sink.old sink.new machine.old machine.new piece.now result }
 {
     halt_of(machine.feed(piece, sink))
 }

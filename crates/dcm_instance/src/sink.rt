@@ -111,8 +111,13 @@ impl UidSink {
 
     /// After the end of a value.
     fn close(&mut self)
-        ensures { self.new ≡ record { depth = self.old.depth; is_past = self.old.is_past; study = spec.after_end self.old.study;
-            series = spec.after_end self.old.series; instance = spec.after_end self.old.instance } }
+        ensures { self.new ≡ record {
+          depth = self.old.depth;
+          is_past = self.old.is_past;
+          study = spec.after_end self.old.study;
+          series = spec.after_end self.old.series;
+          instance = spec.after_end self.old.instance;
+        } }
     {
         self.study.close();
         self.series.close();
