@@ -1,5 +1,5 @@
 -- The reading of a file for the unique identifiers of its instance, in the words of the definitions.
-use Rattle.std.proofs.Common.{◌≡◌, ◌∙◌, ap, sym, subst, refl, ◌⊎◌, inl, inr, ℕ, ◌+◌, ◌≤◌, List, [], ◌++◌, append_assoc, length, drop, Bool, true, Option, Some, None, arith}
+use Rattle.std.proofs.Common.{◌≡◌, ◌∙◌, ap, sym, subst, refl, ◌⊎◌, inl, inr, ℕ, ◌≤◌, List, [], ◌++◌, append_assoc, length, drop, Bool, true, Option, Some, None, arith}
 use Rattle.std.specs.Prelude.{Ok, Err}
 use Rattle.std.proofs.lemmas.List.{append-nil, drop-append-le}
 use Rattle.dcm_base.specs.declared.dictionary.Dictionary.TheVariants.{Standard}

@@ -1,5 +1,5 @@
 -- The unique identifiers after what was read of a data set.
-use Rattle.std.proofs.Common.{◌≡◌, ◌∙◌, sym, ap, refl, subst, ℕ, zero, suc, ◌+◌, ◌<◌, ◌≤◌, List, [], ◌∷◌, ◌++◌, length, map, fold, arith, Option, Some, None, Bool, true, false, ◌&&◌}
+use Rattle.std.proofs.Common.{◌≡◌, ◌∙◌, sym, ap, refl, subst, ℕ, suc, List, [], ◌∷◌, ◌++◌, length, map, fold, arith, Option, Some, None, Bool, true, false, ◌&&◌}
 use Rattle.std.specs.Prelude.{if◌then◌else◌}
 use Rattle.std.proofs.lemmas.List.Sums.{fold-append}
 use Rattle.dcm_base.specs.declared.tag.Tag.{Tag}
@@ -10,13 +10,13 @@ use Rattle.dcm_base.specs.declared.syntax.Syntax.{Syntax}
 use Rattle.dcm_base.specs.declared.form.Form.{Form}
 use Rattle.dcm_base.specs.declared.form.Form.TheVariants.{Value as a_value, Sequence as a_sequence, FragmentList as a_fragment_list}
 use Rattle.dcm_base.specs.Tables.Tag.{sequence_end_tag, same_tag}
-use Rattle.dcm_base.specs.Tree.Tree.{Trees, no_tree, leaf, sequence, fragments, Items, no_item, item}
+use Rattle.dcm_base.specs.Tree.Tree.{Trees, no_tree, leaf, sequence, fragments}
 use Rattle.dcm_base.specs.Tree.Front.{Front, front, OpenTree, nothing_open, open_leaf, open_sequence, open_fragments}
 use Rattle.dcm_base.specs.Tree.Value.{order}
 use Rattle.dcm_base.specs.Bytes.Spelling.{Enclosed, TreesAt, ItemsAt, SpellsFront, inside, after, after_trees, form, read_as}
 use Rattle.dcm_base.specs.Reading.Reads.{Reads, ended as ended_front}
 use Rattle.dcm_base.specs.Reading.Stop.{Bar, Stop, complete, refused}
-use Rattle.dcm_base.specs.Steps.Atoms.{Atom, opens, value_byte, closes_leaf, closes_sequence, fragments_then, open_fragment_atoms, end_atoms, ShowItems, ShowsOpen, trees_then, items_then, front_atoms, open_atoms}
+use Rattle.dcm_base.specs.Steps.Atoms.{Atom, value_byte, closes_leaf, closes_sequence, fragments_then, open_fragment_atoms, end_atoms, ShowItems, ShowsOpen, trees_then, items_then, front_atoms, open_atoms}
 use Rattle.dcm_base.proofs.DataSets.Shown.{items_shown, trees_shown, open_shown}
 use Rattle.dcm_sinks.specs.Laws.{StaysShallow}
 use Rattle.dcm_sinks.proofs.Dumps.OpenLists.{stays_on, stays_opened, stays_bytes, stays_fragments, stays_same, stays_trees, stays_items}
@@ -25,9 +25,9 @@ use Rattle.dcm_instance.specs.declared.names.InstanceUid.TheVariants.{Study, Ser
 use Rattle.dcm_instance.specs.declared.value.Progress.{Progress}
 use Rattle.dcm_instance.specs.declared.value.Progress.TheVariants.{Missing, Open, Ended}
 use Rattle.dcm_instance.specs.UidSink.{Held, UidState, Value, after_bytes, after_end, after_head, held_uid, held_with, is_decided, is_own, is_value, no_value, nothing_held, outcome, step, uid_of, uids_at, uids_begun, uids_next as next, with_bytes}
-use Rattle.dcm_instance.specs.Uids.{fit, fit_of, instance_in, is_behind, named, uid_tag, up_to_series, value_in}
+use Rattle.dcm_instance.specs.Uids.{fit_of, instance_in, is_behind, named, uid_tag, up_to_series, value_in}
 use Rattle.dcm_instance.proofs.HeldValues.{held_is_fit}
-use Rattle.dcm_instance.proofs.Inside.{at, is_settled, items_inside, item_inside, fragments_inside, fragment_inside, StaysInside}
+use Rattle.dcm_instance.proofs.Inside.{at, is_settled, items_inside, item_inside, fragments_inside, fragment_inside}
 use Rattle.dcm_instance.proofs.Steps.{bytes_step, decided_atoms, undecided_bytes}
 
 -- ---- one value
@@ -202,7 +202,7 @@ leaf_named x y a false c bytes study series instance more others ends rest = by_
 leaf_case : (x y : Option Held) (tag : Tag) (vr : Vr) (value : List ℕ) (rest : Trees) (s : Syntax) (f : Form) (tail others : List Atom) → f ≡ a_value
     → ((u v : Option Held) → Named u v (there Study (after s tag vr value) rest) (there Series (after s tag vr value) rest) (there Instance (after s tag vr value) rest) others (fold next (start_at u v) tail))
     → Named x y (there Study s (leaf tag vr value rest)) (there Series s (leaf tag vr value rest)) (there Instance s (leaf tag vr value rest)) others
-        (fold next (head_state (is_behind tag) (is_own (uid_tag Study) tag f) (is_own (uid_tag Series) tag f) (is_own (uid_tag Instance) tag f) x y) (map value_byte (order s vr value) ++ closes_leaf ∷ tail))
+    (fold next (head_state (is_behind tag) (is_own (uid_tag Study) tag f) (is_own (uid_tag Series) tag f) (is_own (uid_tag Instance) tag f) x y) (map value_byte (order s vr value) ++ closes_leaf ∷ tail))
 unfolding value_in up_to_series if_some
 leaf_case x y tag vr value rest s f tail others fo goes = by_place (is_behind tag) refl
   where

@@ -1,5 +1,5 @@
 -- The steps of the sink.
-use Rattle.std.proofs.Common.{◌≡◌, ◌∙◌, ap, sym, refl, ℕ, List, [], ◌∷◌, map, fold, Bool, true, false, not}
+use Rattle.std.proofs.Common.{◌≡◌, ◌∙◌, ap, sym, refl, ℕ, List, [], ◌∷◌, map, fold, Bool, true, false}
 use Rattle.std.specs.Prelude.{if◌then◌else◌}
 use Rattle.dcm_base.specs.Steps.Atoms.{Atom, opens, value_byte, closes_leaf, opens_item, closes_item, closes_sequence, opens_fragment, ends}
 use Rattle.dcm_base.specs.Reading.Stop.{Stop, complete, refused}
@@ -91,13 +91,3 @@ either false p = refl
 pub end_stays : (p : UidState) (stop : Stop) → fold uids_next p (end_shows stop) ≡ p
 end_stays p complete = either (is_decided p) p
 end_stays p (refused fault offset) = refl
-
--- ---- tests
-
-pub not_true : (t : Bool) → not t ≡ true → t ≡ false
-not_true true e = cc
-not_true false e = refl
-
-pub not_false : (t : Bool) → not t ≡ false → t ≡ true
-not_false true e = refl
-not_false false e = cc

@@ -1,5 +1,5 @@
 -- The unique identifiers that name an instance, and the values that a data set has of them.
-use Rattle.std.specs.Prelude.{ℕ, length, List, [], ◌∷◌, ◌++◌, codes, bytes_eq, nat_lt, nat_le, Bool, ◌&&◌, ◌||◌, not}
+use Rattle.std.specs.Prelude.{ℕ, length, List, ◌++◌, codes, bytes_eq, nat_lt, nat_le, Bool, ◌&&◌, ◌||◌, not}
 use Rattle.std.specs.Prelude.{if◌then◌else◌, Option, Some, None, Result, Ok, Err}
 use Rattle.std.specs.List.{list_all}
 use Rattle.dcm_base.specs.declared.tag.Tag.{Tag}

@@ -160,10 +160,7 @@ fn end_of_head(ending: HeadEnding) -> Result<Instance, NoInstance>
 }
 
 /// Reads a file as far as its unique identifiers, into a buffer.
-fn read_into<R: DeviceIn>(
-    input: &mut Watched<R>,
-    buffer: &mut [u8],
-) -> Result<Instance, NoInstance>
+fn read_into<R: DeviceIn>(input: &mut Watched<R>, buffer: &mut [u8]) -> Result<Instance, NoInstance>
     requires room { 0 < length buffer.old }
     requires bound { length buffer.old ≤ BUFFER_LIMIT }
     ensures { spec.ReadsInstance R.DeviceIn input.old input.new (told result) }

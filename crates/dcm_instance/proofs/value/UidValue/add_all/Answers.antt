@@ -1,4 +1,4 @@
-use Rattle.std.proofs.Common.{◌≡◌, ◌∙◌, refl, sym, ap, fold, ℕ, List, [], slice_index_or}
+use Rattle.std.proofs.Common.{◌∙◌, refl, sym, ap, fold, ℕ, List, [], slice_index_or}
 use Rattle.dcm_base.proofs.Writes.Runs.{take_within, fold_more}
 use Rattle.dcm_instance.specs.UidSink.{Held, Value, held_with}
 use Rattle.dcm_instance.proofs.value.UidValue.add_all.Goals as goal
