@@ -4,3 +4,4 @@ pub mod Inside
 pub mod InTrees
 pub mod Sets
 pub mod Files
+pub mod Readings

@@ -18,8 +18,10 @@
 pub mod laws;
 mod names;
 mod reading;
+mod same;
 mod sink;
 mod value;
 
 pub use names::{Instance, InstanceUid, MOST_OF_INSTANCE_NAME, MOST_OF_UID, NoInstance, Uid};
 pub use reading::read_instance;
+pub use same::same_bytes;
