@@ -20,8 +20,8 @@ use Rattle.dcm_stream.proofs.Runs.Inputs.{bars_none as none_barred, ends_by, ref
 use Rattle.dcm_instance.specs.declared.names.NoInstance.{NoInstance}
 use Rattle.dcm_instance.specs.Searching.{decided, driven_at, ended}
 use Rattle.dcm_instance.specs.UidSink.{UidState, bars_none, is_decided, outcome, uids_at, uids_begun, uids_next, writes_nothing}
-use Rattle.dcm_instance.specs.Uids.{Uids, instance_in}
-use Rattle.dcm_instance.proofs.InTrees.{set_names}
+use Rattle.dcm_instance.specs.Uids.{Uids, instance_in, is_known}
+use Rattle.dcm_instance.proofs.InTrees.{Says, set_names}
 use Rattle.dcm_instance.proofs.Steps.{decided_atoms, end_stays}
 
 -- ---- once it is decided, it stays so
@@ -114,9 +114,12 @@ module _ (s : Syntax) (start : ℕ) (le : start ≤ INPUT_LIMIT) where
 
   -- ---- what is read
 
-  names_so : (bytes : List ℕ) (f : Front) (stop : Stop) → Reads no_bar s start bytes f stop → outcome (uids_at s f) ≡ instance_in s f
-  names_so bytes f stop reads =
+  says_so : (bytes : List ℕ) (f : Front) (stop : Stop) → Reads no_bar s start bytes f stop → Says s f
+  says_so bytes f stop reads =
       set_names no_bar s start bytes f stop (whole_read (bars_by bars_none uids_next uids_begun) no_bar no_bars (λ atoms tag vr declared. refl) s start bytes le f stop reads).shallow reads
+
+  names_so : (bytes : List ℕ) (f : Front) (stop : Stop) → Reads no_bar s start bytes f stop → outcome (uids_at s f) ≡ instance_in s f
+  names_so bytes f stop reads = (says_so bytes f stop reads).0
 
   pub record AllRead (bytes : List ℕ) : Type 0 where
     pub set : Front
@@ -166,5 +169,5 @@ module _ (s : Syntax) (start : ℕ) (le : start ≤ INPUT_LIMIT) where
 
   -- ---- more bytes can still change it
 
-  pub still_undecided : (bytes : List ℕ) → Undecided bytes → (is_undecided (Some (finish (driven_at s start bytes).0)) ≡ true) × (is_decided (uids_at s (all_read bytes).set) ≡ false)
-  still_undecided bytes u = ((set_waits bytes u.going).undecided, ap is_decided (sym (all_read bytes).state) ∙ u.undecided)
+  pub still_undecided : (bytes : List ℕ) → Undecided bytes → (is_undecided (Some (finish (driven_at s start bytes).0)) ≡ true) × (is_known (all_read bytes).set ≡ false)
+  still_undecided bytes u = ((set_waits bytes u.going).undecided, sym (says_so bytes (all_read bytes).set _ (all_read bytes).reads).1 ∙ ap is_decided (sym (all_read bytes).state) ∙ u.undecided)

@@ -14,8 +14,7 @@ use Rattle.dcm_cli.specs.InputCalls.{Reader, How, Allows, ReadsInput}
 use Rattle.dcm_instance.specs.declared.names.InstanceUid.TheVariants.{Study}
 use Rattle.dcm_instance.specs.declared.names.NoInstance.{NoInstance}
 use Rattle.dcm_instance.specs.declared.names.NoInstance.TheVariants.{Unfit, Unread}
-use Rattle.dcm_instance.specs.UidSink.{is_decided, uids_at}
-use Rattle.dcm_instance.specs.Uids.{Uids, instance_in}
+use Rattle.dcm_instance.specs.Uids.{Uids, instance_in, is_known}
 
 -- what a file names: its head is at fault, and no element is there; or its data set follows
 pub data FileNames (bytes : List ℕ) (answer : Result Uids NoInstance) : Type 0 where
@@ -33,7 +32,7 @@ pub data IsUndecided (bytes : List ℕ) : Type 0 where
   in_set : (m : Meta) (group : List ℕ) (coding : Coding) (set : Front) (stop : Stop)
       → HeadIs Standard bytes m group coding
       → Reads no_bar coding.syntax (set_at group) (drop (set_at group) bytes) set stop
-      → is_undecided (Some stop) ≡ true → is_decided (uids_at coding.syntax set) ≡ false → IsUndecided bytes
+      → is_undecided (Some stop) ≡ true → is_known set ≡ false → IsUndecided bytes
 
 -- each file that begins with these bytes, and may go on so, names this; or reading failed after them, where more bytes
 -- could still change it

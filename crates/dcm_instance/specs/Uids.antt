@@ -1,5 +1,5 @@
 -- The unique identifiers that name an instance, and the values that a data set has of them.
-use Rattle.std.specs.Prelude.{ℕ, length, List, ◌++◌, codes, bytes_eq, nat_lt, nat_le, Bool, ◌&&◌, ◌||◌, not}
+use Rattle.std.specs.Prelude.{ℕ, length, List, ◌++◌, codes, bytes_eq, nat_lt, nat_le, Bool, false, ◌&&◌, ◌||◌, not}
 use Rattle.std.specs.Prelude.{if◌then◌else◌, Option, Some, None, Result, Ok, Err}
 use Rattle.std.specs.List.{list_all}
 use Rattle.dcm_base.specs.declared.tag.Tag.{Tag}
@@ -7,7 +7,7 @@ use Rattle.dcm_base.specs.declared.syntax.Syntax.{Syntax}
 use Rattle.dcm_base.specs.Bytes.Spelling.{after}
 use Rattle.dcm_base.specs.Tables.Tag.{below, same_tag}
 use Rattle.dcm_base.specs.Tables.Transfer.{without_pads}
-use Rattle.dcm_base.specs.Tree.Front.{Front, front}
+use Rattle.dcm_base.specs.Tree.Front.{Front, front, OpenTree, nothing_open, open_leaf, open_sequence, open_fragments}
 use Rattle.dcm_base.specs.Tree.Tree.{Trees, no_tree, leaf, sequence, fragments}
 use Rattle.dcm_base.specs.Tree.Value.{order}
 use Rattle.dcm_uid.specs.Uid.{is_uid_byte}
@@ -110,3 +110,22 @@ uid_in which s (front whole open_tree reached closed) = fit_of (value_in (uid_ta
 -- the instance that it names
 abbrev pub instance_in : Syntax → Front → Result Uids NoInstance
 instance_in s set = named (uid_in Study s set) (uid_in Series s set) (uid_in Instance s set)
+
+-- ---- when it is known
+
+-- the value of SeriesInstanceUID has ended, or an element came that belongs behind it
+unfoldable pub is_past_series : Trees → Bool
+is_past_series no_tree = false
+is_past_series (leaf tag vr value rest) = is_behind tag || (same_tag tag (uid_tag Series) || is_past_series rest)
+is_past_series (sequence tag vr declared items rest) = is_behind tag || is_past_series rest
+is_past_series (fragments tag vr values rest) = is_behind tag || is_past_series rest
+
+abbrev pub is_open_behind : OpenTree → Bool
+is_open_behind nothing_open = false
+is_open_behind (open_leaf tag vr size value) = is_behind tag
+is_open_behind (open_sequence tag vr declared items last) = is_behind tag
+is_open_behind (open_fragments tag vr values last) = is_behind tag
+
+-- nothing that follows in the data set changes what it names
+abbrev pub is_known : Front → Bool
+is_known (front whole open_tree reached closed) = is_past_series whole || is_open_behind open_tree
