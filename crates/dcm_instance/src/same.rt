@@ -10,8 +10,7 @@ use dcm_stream::INPUT_LIMIT;
 /// The bytes that are compared at a time.
 const PIECE: usize = 16384;
 
-/// Reads at most so many bytes of an input into the front of a buffer, by one call. Answers how many. None is the end of
-/// the input.
+/// Reads at most so many bytes of an input into the front of a buffer, by one call. Answers how many: none at its end.
 fn next_part<R: DeviceIn>(
     input: &mut Watched<R>,
     most: usize,

@@ -43,7 +43,13 @@ impl Model for UidSink {
 
     ghost Value = { UidState };
 
-    ghost view = { λ u. record { depth = depth u.skip; is_past = u.is_past; study = u.study; series = u.series; instance = u.instance } };
+    ghost view = { λ u. record {
+      depth = depth u.skip;
+      is_past = u.is_past;
+      study = u.study;
+      series = u.series;
+      instance = u.instance;
+    } };
 }
 
 impl UidSink {

@@ -31,7 +31,10 @@ impl Model for UidValue {
 
     ghost Value = { SpecValue };
 
-    ghost view = { λ v. record { progress = v.progress; held = record { bytes = v.bytes.items; is_longer = v.is_longer } } };
+    ghost view = { λ v. record {
+      progress = v.progress;
+      held = record { bytes = v.bytes.items; is_longer = v.is_longer };
+    } };
 }
 
 /// Whether a byte pads a value.
@@ -82,7 +85,10 @@ impl UidValue {
 
     /// More bytes.
     fn add_all(&mut self, bytes: &[u8])
-        ensures { self.new ≡ record { progress = self.old.progress; held = fold spec.held_with self.old.held bytes.now } }
+        ensures { self.new ≡ record {
+          progress = self.old.progress;
+          held = fold spec.held_with self.old.held bytes.now;
+        } }
     {
         for byte in bytes {
             self.add_byte(*byte);
