@@ -38,6 +38,7 @@ ON_THE_WAY = {
     "dcm_table": "meta_steps row_steps table_bar_steps table_by_atoms row_is_valid",
     "dcm_names": "lines_in_pieces",
     "dcm_cli": "sure_grows",
+    "dcm_instance": "held_is_fit",
     "dcm_run_laws": "output_for_others output_opens_alike first_reading_ends",
     "dcm_tables": "row_is_read row_is_done row_is_settled row_stays row_is_decided",
 }
