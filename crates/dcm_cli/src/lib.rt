@@ -4,8 +4,9 @@
 //!   reports what is wrong, and answers how it ended. Its contract is the theorem of the whole.
 //! - `dump_with` of `dump` shows one input after another, for who shows several.
 //! - `dump`, `convert`, `modify` and `build` are the work on the four kinds of jobs, by `head`, `pass` and `rewrite`.
-//! - `tell`, `tell_open` and `tell_unopened` report words that are refused and files that cannot be opened; `status` has
-//!   the exit statuses.
+//! - `tell`, `tell_open`, `tell_unopened` and `tell_no_key` report words that are refused, and files and keys that cannot
+//!   be opened; `status` has the exit statuses.
+//! - `take_key` of `key` reads a key, and `first_reading` of `first` a file as far as its patient.
 //! - `obey` does what words say, over any system that opens devices (`System`), but for tables, which are above it.
 //!
 //! A run over memory:
@@ -32,7 +33,8 @@ pub mod first;
 pub mod head;
 /// Runs over memory.
 pub mod in_memory;
-mod key;
+/// The key of new unique identifiers.
+pub mod key;
 /// Laws of the definitions.
 pub mod laws;
 mod modify;
@@ -47,4 +49,4 @@ pub mod status;
 
 pub use dcm_words::{Build, Convert, Deidentify, Dump, Job, Planned, Usage, asked, plan};
 pub use error_lines::{tell, tell_open, tell_output};
-pub use program::{obey, tell_unopened};
+pub use program::{obey, tell_no_key, tell_unopened};

@@ -45,7 +45,7 @@ pub fn tell_unopened<E: DeviceOut>(unopened: Unopened, errors: &mut Watched<E>) 
 }
 
 /// Reports why there is no key, and answers the status.
-fn tell_no_key<E: DeviceOut>(cause: NoKey, errors: &mut Watched<E>) -> u8
+pub fn tell_no_key<E: DeviceOut>(cause: NoKey, errors: &mut Watched<E>) -> u8
     ensures line { calls.Reports E.DeviceOut errors.old errors.new (keys.no_key_line cause) }
     ensures status { result ≡ keys.no_key_status cause }
 {

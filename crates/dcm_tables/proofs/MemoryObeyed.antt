@@ -13,7 +13,8 @@ use Rattle.dcm_dumps.specs.DumpsInMemory as dumps
 use Rattle.dcm_dumps.specs.DumpsInMemory.{DumpsInMemory}
 use Rattle.dcm_dumps.proofs.DumpsLeft.{dumps_left}
 use Rattle.dcm_tables.specs.TableInMemory.{ListsAreReadWhole, TablesInMemory}
-use Rattle.dcm_tables.specs.TableProgram.{ObeysAny, asks_table, of_table, of_dumps, of_others}
+use Rattle.dcm_tree_words.specs.Trees.{asks_tree}
+use Rattle.dcm_tables.specs.TableProgram.{ObeysAny, TreeRuns, asks_table, of_table, of_dumps, of_tree, of_others}
 use Rattle.dcm_tables.proofs.TableLeft.{tables_left}
 
 not_both : (b : Bool) → b ≡ true → b ≡ false → ⊥
@@ -41,21 +42,24 @@ pub moved : {A B C : Type 0} (P : A → B → C → Type 0) {a b : A} {f h : B} 
 moved P {b = b} {f = f} {h = h} {r = r} {s = s} before output after holds =
     subst (λ z. P b h z) after (subst (λ y. P b y r) output (subst (λ x. P x f r) before holds))
 
-module _ (s new : MemSystem) (errors new_errors : MemOut) (status : ℕ) (words : List (List ℕ)) where
+module _ (Trees : TreeRuns MemSystem) (s new : MemSystem) (errors new_errors : MemOut) (status : ℕ) (words : List (List ℕ)) where
   abbrev Obeyed : Type 0
-  Obeyed = ObeysAny may_do memory_reader memory_writer words (memory_change errors new_errors) s status new
+  Obeyed = ObeysAny may_do memory_reader memory_writer Trees words (memory_change errors new_errors) s status new
 
   pub tabled_of : asks_table words ≡ true → ListsAreReadWhole words s → Obeyed → TablesInMemory words s errors new.written new_errors status
   tabled_of asks lists (of_table is obeys) = λ o comes room. tables_left s new errors new_errors status words o comes room lists obeys
   tabled_of asks lists (of_dumps other is obeys) = absurd (not_both (asks_table words) asks other)
-  tabled_of asks lists (of_others other is obeys) = absurd (not_both (asks_table words) asks other)
+  tabled_of asks lists (of_tree other is asked runs) = absurd (not_both (asks_table words) asks other)
+  tabled_of asks lists (of_others other is alone obeys) = absurd (not_both (asks_table words) asks other)
 
   pub dumped_of : asks_dumps words ≡ true → dumps.ListsAreReadWhole words s → Obeyed → DumpsInMemory words s errors new.written new_errors status
   dumped_of asks lists (of_table is obeys) = absurd (not_both (asks_table words) is (no_table words asks))
   dumped_of asks lists (of_dumps other is obeys) = λ o comes room. dumps_left s new errors new_errors status words o comes room lists obeys
-  dumped_of asks lists (of_others other is obeys) = absurd (not_both (asks_dumps words) asks is)
+  dumped_of asks lists (of_tree other is asked runs) = absurd (not_both (asks_dumps words) asks is)
+  dumped_of asks lists (of_others other is alone obeys) = absurd (not_both (asks_dumps words) asks is)
 
-  pub others_of : asks_table words ≡ false → asks_dumps words ≡ false → Obeyed → ObeysInMemory words s errors new.written new_errors status
-  others_of asks shows (of_table is obeys) = absurd (not_both (asks_table words) is asks)
-  others_of asks shows (of_dumps other is obeys) = absurd (not_both (asks_dumps words) is shows)
-  others_of asks shows (of_others other is obeys) = λ o comes room. obeys_left s new errors new_errors status words o comes room obeys
+  pub others_of : asks_table words ≡ false → asks_dumps words ≡ false → asks_tree words ≡ false → Obeyed → ObeysInMemory words s errors new.written new_errors status
+  others_of asks shows alone (of_table is obeys) = absurd (not_both (asks_table words) is asks)
+  others_of asks shows alone (of_dumps other is obeys) = absurd (not_both (asks_dumps words) is shows)
+  others_of asks shows alone (of_tree other is asked runs) = absurd (not_both (asks_tree words) asked alone)
+  others_of asks shows alone (of_others other is one obeys) = λ o comes room. obeys_left s new errors new_errors status words o comes room obeys

@@ -14,7 +14,7 @@ use Rattle.dcm_cli.specs.ErrorLines.{Reports, open_line}
 use Rattle.dcm_cli.specs.InputCalls.{How}
 use Rattle.dcm_cli.specs.Run.{Ran}
 use Rattle.dcm_cli.specs.Status.{DEVICE}
-use Rattle.dcm_tables.specs.TableProgram.{Starts}
+use Rattle.dcm_tables.specs.TableProgram.{Starts, TreeRuns}
 
 -- the members of a device over a reader, of which that tells what it has still to give; and of one over a writer
 abbrev pub std_reader : {T : Type 0} → (tells : T → Option (List ℕ)) → Reader (Std T)
@@ -49,12 +49,13 @@ RunsByBytes T U tells =
     errors status
 
 -- the program ended with this status, and these are left: a system of which no call had been made gave words, and they
--- were obeyed, or there was no memory for them; or the system could not be used, and no call of it was made
+-- were obeyed, or there was no memory for them; or the system could not be used, and no call of it was made. What a run
+-- over a tree does is said of what standard error was and is.
 pub data ProgramEnds {S I O E : Type 0} (calls : S → List Call) (may : MayDo S I O) (r : Reader I) (w : Writer O)
-    (host : Option S) (errors : Std E) (status : ℕ) : Type 0 where
+    (Trees : (from to : Std E) → TreeRuns S) (host : Option S) (errors : Std E) (status : ℕ) : Type 0 where
   started : (errors_before : Std E) (before after : S) → IsNew errors_before → calls before ≡ [] → host ≡ Some after
-      → Starts may r w (change_of std_writer errors_before errors) before status after
-      → ProgramEnds calls may r w host errors status
+      → Starts may r w (Trees errors_before errors) (change_of std_writer errors_before errors) before status after
+      → ProgramEnds calls may r w Trees host errors status
   not_started : (errors_before : Std E) → IsNew errors_before → host ≡ None
       → Reports (change_of std_writer errors_before errors) (open_line false) → status ≡ DEVICE
-      → ProgramEnds calls may r w host errors status
+      → ProgramEnds calls may r w Trees host errors status

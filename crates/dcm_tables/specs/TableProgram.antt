@@ -26,6 +26,7 @@ use Rattle.dcm_cli.specs.Status.{DEVICE, USAGE}
 use Rattle.dcm_each.specs.Each.{Writing}
 use Rattle.dcm_dumps.specs.Words.{asks_dumps}
 use Rattle.dcm_dumps.specs.DumpsProgram.{ObeysDumps}
+use Rattle.dcm_tree_words.specs.Trees.{asks_tree}
 use Rattle.dcm_tables.specs.Table.{WritesTable}
 
 -- ---- what a table has of its words
@@ -98,21 +99,28 @@ pub data ObeysTable {S I O : Type 0} (may : MayDo S I O) (r : Reader I) (w : Wri
       → MakesTable may w (WritesMeant may r w t) errors before status after
       → ObeysTable may r w words errors before status after
 
--- words ask for a table, or for dumps of several files, or they are obeyed as those of the other tools
-pub data ObeysAny {S I O : Type 0} (may : MayDo S I O) (r : Reader I) (w : Writer O) (words : List (List ℕ))
-    (errors : Change) (before : S) (status : ℕ) (after : S) : Type 0 where
+-- that a run over a tree was done as words say: the words, the system before, the exit status, the system after
+abbrev pub TreeRuns : Type 0 → Type 1
+TreeRuns S = (words : List (List ℕ)) → (before : S) → (status : ℕ) → (after : S) → Type 0
+
+-- words ask for a table, or for dumps of several files, or for a run over a tree, or they are obeyed as those of the
+-- other tools
+pub data ObeysAny {S I O : Type 0} (may : MayDo S I O) (r : Reader I) (w : Writer O) (Trees : TreeRuns S)
+    (words : List (List ℕ)) (errors : Change) (before : S) (status : ℕ) (after : S) : Type 0 where
   of_table : asks_table words ≡ true → ObeysTable may r w words errors before status after
-      → ObeysAny may r w words errors before status after
+      → ObeysAny may r w Trees words errors before status after
   of_dumps : asks_table words ≡ false → asks_dumps words ≡ true → ObeysDumps may r w words errors before status after
-      → ObeysAny may r w words errors before status after
-  of_others : asks_table words ≡ false → asks_dumps words ≡ false → Obeys may r w words errors before status after
-      → ObeysAny may r w words errors before status after
+      → ObeysAny may r w Trees words errors before status after
+  of_tree : asks_table words ≡ false → asks_dumps words ≡ false → asks_tree words ≡ true
+      → Trees words before status after → ObeysAny may r w Trees words errors before status after
+  of_others : asks_table words ≡ false → asks_dumps words ≡ false → asks_tree words ≡ false
+      → Obeys may r w words errors before status after → ObeysAny may r w Trees words errors before status after
 
 -- the words that the system gave were obeyed; or there was no memory for them
-pub data Starts {S I O : Type 0} (may : MayDo S I O) (r : Reader I) (w : Writer O) (errors : Change) (before : S)
-    (status : ℕ) (after : S) : Type 0 where
-  no_words : may.words before None after → NoMemory errors status → Starts may r w errors before status after
+pub data Starts {S I O : Type 0} (may : MayDo S I O) (r : Reader I) (w : Writer O) (Trees : TreeRuns S)
+    (errors : Change) (before : S) (status : ℕ) (after : S) : Type 0 where
+  no_words : may.words before None after → NoMemory errors status → Starts may r w Trees errors before status after
   no_views : (words : List (List ℕ)) → may.words before (Some words) after → NoMemory errors status
-      → Starts may r w errors before status after
+      → Starts may r w Trees errors before status after
   obeyed : (words : List (List ℕ)) (has_words : S) → may.words before (Some words) has_words
-      → ObeysAny may r w words errors has_words status after → Starts may r w errors before status after
+      → ObeysAny may r w Trees words errors has_words status after → Starts may r w Trees errors before status after

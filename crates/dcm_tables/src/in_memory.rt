@@ -6,6 +6,7 @@ ghost use Rattle.dcm_dumps.specs.DumpsInMemory as listed_dumps;
 ghost use Rattle.dcm_dumps.specs.DumpsInMemory.{DumpsInMemory};
 ghost use Rattle.dcm_tables.specs.TableInMemory.{ListsAreReadWhole, TablesInMemory};
 ghost use Rattle.dcm_tables.specs.TableProgram.{asks_table};
+ghost use Rattle.dcm_tree_words.specs.Trees.{asks_tree};
 
 use crate::program::obey;
 use dcm_base::{Measured, MemOut, Watched};
@@ -17,7 +18,7 @@ use std::alloc::Global;
 /// the row of each file, in the order of the names, and each row is what the bytes of its file give. A list has the names
 /// in the bytes of its file, and at most 2^62 of them are read. Where there is room for the lines, they are written too.
 /// Where they ask for dumps of several files, the output is the heading and the dump of each file in the same way. Other
-/// words are obeyed as `dcm_cli` does.
+/// words are obeyed as `dcm_cli` does, where they do not ask for a run over a tree.
 pub fn obey_in_memory<'a>(
     alloc: Global,
     words: &[&[u8]],
@@ -31,7 +32,7 @@ pub fn obey_in_memory<'a>(
         → listed_dumps.ListsAreReadWhole (map (λ w. w.now) words.now) system.entry
         → DumpsInMemory (map (λ w. w.now) words.now) system.entry errors result.written result.errors result.status }
     ensures others { asks_table (map (λ w. w.now) words.now) ≡ false
-        → asks_dumps (map (λ w. w.now) words.now) ≡ false
+        → asks_dumps (map (λ w. w.now) words.now) ≡ false → asks_tree (map (λ w. w.now) words.now) ≡ false
         → ObeysInMemory (map (λ w. w.now) words.now) system.entry errors result.written result.errors result.status }
 {
     let mut system = system;

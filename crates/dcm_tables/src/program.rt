@@ -8,6 +8,8 @@ ghost use Rattle.dcm_table_words.specs.Columns.{column_as};
 ghost use Rattle.dcm_table_words.specs.Plans.{table_as};
 ghost use Rattle.dcm_tables.specs.OverStd as over_std;
 ghost use Rattle.dcm_tables.specs.TableProgram as spec;
+ghost use Rattle.dcm_trees.specs.Program.{ObeysTree};
+ghost use Rattle.dcm_trees.specs.World.{world};
 
 use crate::rows::Shared;
 use crate::table::write_table;
@@ -15,9 +17,11 @@ use dcm_base::{DeviceOut, Std, Watched, flush_out};
 use dcm_cli::status::{DEVICE, USAGE};
 use dcm_cli::{Usage, asked, tell, tell_open, tell_output, tell_unopened};
 use dcm_dumps::{asks_dumps, obey_dumps};
-use dcm_files::{Host, System, Unopened, unopened};
+use dcm_files::{Folders, Host, System, Unopened, unopened};
 use dcm_table::{Cells, Column, Columns, TextForm};
 use dcm_table_words::{TableColumn, TablePlan, put_usage, table_plan};
+use dcm_tree_words::asks_tree;
+use dcm_trees::obey_tree;
 use either::Either;
 use std::alloc::{AllocError, Global};
 use std::fs::File;
@@ -184,15 +188,18 @@ fn obey_table<S: System, E: DeviceOut>(
 
 /// Does what the words of a command line say, after the program's name, with the devices that they name. It reports
 /// what is wrong, and answers the exit status.
-pub fn obey<S: System, E: DeviceOut>(
+pub fn obey<S: Folders, E: DeviceOut>(
     system: &mut S,
     alloc: Global,
     words: &[&[u8]],
     errors: &mut Watched<E>,
 ) -> u8
     ensures within { result ≤ statuses.MEMORY }
-    ensures obeys { spec.ObeysAny S.may_do S.Input.DeviceIn S.Output.DeviceOut (map (λ w. w.now) words.now)
-        (change_of E.DeviceOut errors.old errors.new) system.old result system.new }
+    ensures obeys { spec.ObeysAny S.may_do S.Input.DeviceIn S.Output.DeviceOut
+        (λ words before status after.
+            ObeysTree (world S.may_do S.folders_do S.Input.DeviceIn S.Output.DeviceOut E.DeviceOut) words errors.old
+            before status errors.new after)
+        (map (λ w. w.now) words.now) (change_of E.DeviceOut errors.old errors.new) system.old result system.new }
 {
     if asks_table(words) {
         return obey_table(system, alloc, words, errors);
@@ -200,12 +207,22 @@ pub fn obey<S: System, E: DeviceOut>(
     if asks_dumps(words) {
         return obey_dumps(system, words, errors);
     }
+    if asks_tree(words) {
+        return obey_tree(system, alloc, words, errors);
+    }
     dcm_cli::obey(system, alloc, words, errors)
 }
 
 /// Does what the words of the command line say, with the devices that they name, and answers the exit status.
-pub fn start<S: System, E: DeviceOut>(system: &mut S, alloc: Global, errors: &mut Watched<E>) -> u8
+pub fn start<S: Folders, E: DeviceOut>(
+    system: &mut S,
+    alloc: Global,
+    errors: &mut Watched<E>,
+) -> u8
     ensures starts { spec.Starts S.may_do S.Input.DeviceIn S.Output.DeviceOut
+        (λ words before status after.
+            ObeysTree (world S.may_do S.folders_do S.Input.DeviceIn S.Output.DeviceOut E.DeviceOut) words errors.old
+            before status errors.new after)
         (change_of E.DeviceOut errors.old errors.new) system.old result system.new }
     ensures within { result ≤ statuses.MEMORY }
 {
@@ -234,8 +251,12 @@ pub struct Ended {
 /// of closed streams cannot be taken, no file is opened.
 pub fn dcmtools(rt: HostRuntime) -> Ended
     ensures ends { over_std.ProgramEnds (λ host. host.calls.made) ⟦<Host as System>⟧.may_do
-        (over_std.std_reader ⟦<Either<Stdin, File> as Read>⟧.remaining) over_std.std_writer result.host result.errors
-        result.status }
+        (over_std.std_reader ⟦<Either<Stdin, File> as Read>⟧.remaining) over_std.std_writer
+        (λ from to words before status after.
+            ObeysTree (world ⟦<Host as System>⟧.may_do ⟦<Host as Folders>⟧.folders_do
+                (over_std.std_reader ⟦<Either<Stdin, File> as Read>⟧.remaining) over_std.std_writer over_std.std_writer)
+            words from before status to after)
+        result.host result.errors result.status }
     ensures within { result.status ≤ statuses.MEMORY }
 {
     let mut errors = Watched::new(Std::new(rt.stderr()));

@@ -1,10 +1,11 @@
 // A system of files in memory.
 ghost use Rattle.dcm_files.specs.Devices.{anything};
+ghost use Rattle.dcm_files.specs.Folders as folders;
 
 use super::steps::{ALL, Steps};
 use super::writer::{FailWriter, Failure, tick};
 use dcm_base::Std;
-use dcm_files::{FileKind, Opened, System};
+use dcm_files::{EntryName, FileKind, Folders, Found, Links, NoFolder, Opened, System};
 use std::alloc::{AllocError, Global};
 use std::cell::Cell;
 use std::io;
@@ -319,5 +320,37 @@ impl<'a> System for Memory<'a> {
 
     fn close(&mut self, output: Std<FailWriter<'a>>) {
         self.written = Some(output.into_inner());
+    }
+}
+
+impl<'a> Folders for Memory<'a> {
+    type Folder = NoFolder;
+
+    ghost folders_do = { folders.anything };
+
+    fn open_folder(&mut self, _path: &str) -> io::Result<NoFolder> {
+        Err(io::Error::from(ErrorKind::NotFound))
+    }
+
+    fn next_name(&mut self, _folder: &mut NoFolder, _name: &mut EntryName) -> io::Result<bool> {
+        Ok(false)
+    }
+
+    fn close_folder(&mut self, _folder: NoFolder) {}
+
+    fn find(&mut self, _path: &str, _links: Links) -> io::Result<Option<Found>> {
+        Ok(None)
+    }
+
+    fn make_folder(&mut self, _path: &str) -> io::Result<()> {
+        Ok(())
+    }
+
+    fn create_as(&mut self, _path: &str, _mode: u32) -> io::Result<Opened<Std<FailWriter<'a>>>> {
+        self.output()
+    }
+
+    fn link(&mut self, _from: &str, _to: &str) -> io::Result<()> {
+        Ok(())
     }
 }

@@ -15,6 +15,8 @@ identity out of them, and write tables of their values
   dcmtools dcmodify EDIT.. FILE OUTPUT       write a file with edits
   dcmtools dcmdeid [OPTION].. FILE OUTPUT    write a file without identity
   dcmtools dcm2csv -k TAG.. FILE..           write a table, a row for each file
+  dcmtools dcmconv|dcmodify .. +r FOLDER OUTPUT
+                                             do each file of a folder, at any depth
   dcmtools help [TOOL]                       show this text, or that of a tool
   dcmtools version                           show the version and the edition of the dictionary
 
@@ -57,6 +59,7 @@ Exit status: 0 done, 1 words refused, 2 input at fault, 4 file not opened, read 
 /// How dcmconv is used.
 pub const CONVERT: &str = "\
 dcmtools dcmconv [OPTION].. FILE OUTPUT: write a DICOM file in a transfer syntax
+dcmtools dcmconv [OPTION].. +r FOLDER OUTPUT: do each file of a folder, at any depth
 
   +t=    keep the transfer syntax (default)
   +ti    write implicit VR little endian
@@ -66,9 +69,20 @@ dcmtools dcmconv [OPTION].. FILE OUTPUT: write a DICOM file in a transfer syntax
   +fo    the input is a file with a meta group (always so)
   -dict  read with the extract of 90 elements (default)
   +dict  read with the whole data dictionary of PS3.6
+  +r     do each file of FOLDER: the output of NAME is OUTPUT/NAME
+  +c     with +r: continue; an output that is there stays
+  +part I/N
+         with +r: of all names the I-th of N parts, 1 to 9999, each as one run
+  +nh    with +r: no header row
+  +v     with +r: counts on standard error
 
-Exit status: 0 done, 1 words refused, 2 input at fault, 4 file not opened, read or written,
-5 out of memory. The manual: man dcmtools, and docs/users/PROFILE.md
+FOLDER may be @LIST: the names of files, one a line, from the file LIST; @- is standard input. Each
+name has a row on standard output: what became of it. No output is replaced, and none is ever half
+under its name.
+
+Exit status: 0 done, 1 words refused, 2 input at fault, 4 file not opened, read or written, or a name
+not done, 5 out of memory; of a folder the greatest. The manual: man dcmtools, and
+docs/users/PROFILE.md
 ";
 
 /// How dump2dcm is used.
@@ -85,6 +99,7 @@ Exit status: 0 done, 1 words refused, 2 input at fault, 4 file not opened, read 
 /// How dcmodify is used.
 pub const MODIFY: &str = "\
 dcmtools dcmodify EDIT.. FILE OUTPUT: write a DICOM file with edits
+dcmtools dcmodify EDIT.. +r FOLDER OUTPUT: do each file of a folder, at any depth
 
   -i PATH=VALUE  replace an element, or put it where it is missing
   -m PATH=VALUE  replace an element that is there
@@ -94,16 +109,23 @@ dcmtools dcmodify EDIT.. FILE OUTPUT: write a DICOM file with edits
   -ep            erase each element of an odd group, at all depths
   -dict          name elements of the extract of 90 (default)
   +dict          name elements of the whole data dictionary of PS3.6, and read with it
+  +r             do each file of FOLDER: the output of NAME is OUTPUT/NAME
+  +c             with +r: continue; an output that is there stays
+  +part I/N      with +r: of all names the I-th of N parts, 1 to 9999, each as one run
+  +nh            with +r: no header row
+  +v             with +r: counts on standard error
 
 A TAG is a keyword or (gggg,eeee). A PATH is a TAG, after steps such as ContentSequence[0]. or
 ContentSequence[*]. into items.
 
 In implicit VR -ma, -ea and -ep miss most sequences without +dict: names may be left.
 The last word is OUTPUT, which is overwritten: of two files, as DCMTK takes them, the second is lost.
+With +r no output is replaced. FOLDER may be @LIST: the names of files, one a line, from the file
+LIST; @- is standard input. Each name has a row on standard output: what became of it.
 
 Exit status: 0 done, 1 words refused, 2 input at fault, 3 an edit found no place and all else was
-done, 4 file not opened, read or written, 5 out of memory. The manual: man dcmtools, and
-docs/users/PROFILE.md
+done, 4 file not opened, read or written, or a name not done, 5 out of memory; of a folder the
+greatest. The manual: man dcmtools, and docs/users/PROFILE.md
 ";
 
 /// How dcmdeid is used.
