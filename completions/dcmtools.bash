@@ -117,9 +117,9 @@ _dcmtools() {
     fi
     case ${COMP_WORDS[1]} in
         dcmdump) switches='-L +L +fo -f -ti -te -tb -dict +dict +F' ;;
-        dcmconv) switches='+t= +ti +te +tb -e +fo -dict +dict' ;;
+        dcmconv) switches='+t= +ti +te +tb -e +fo -dict +dict +r +c +part +nh +v' ;;
         dump2dcm) switches='+l -e' ;;
-        dcmodify) switches='-i -m -e -ma -ea -ep -dict +dict' ;;
+        dcmodify) switches='-i -m -e -ma -ea -ep -dict +dict +r +c +part +nh +v' ;;
         dcmdeid) switches='+ru +rd +ri +rp +rl +rm +pi +bi +k' ;;
         dcm2csv) switches='-k +nh +by' ;;
         *) return ;;
@@ -132,10 +132,11 @@ _dcmtools() {
         dcmdeid+k) _dcmtools_files "$current"; return ;;
         dcmdeid+rm) _dcmtools_words 'key' "$current"; return ;;
         dcm2csv-k) _dcmtools_words "$(_dcmtools_standard vc "$values")" "$current"; return ;;
-        dcm2csv@) current=@$current ;; # a word is cut at `@`, and what is offered replaces both parts
+        dcmconv+part | dcmodify+part) return ;;
+        dcm2csv@ | dcmconv@ | dcmodify@) current=@$current ;; # a word is cut at `@`, and what is offered replaces both parts
         dcmodify-ea) _dcmtools_words "$values $sequences" "$current"; return ;;
     esac
-    if [[ ${COMP_WORDS[1]} == dcm2csv && $current == @* ]]; then
+    if [[ ${COMP_WORDS[1]} =~ ^(dcm2csv|dcmconv|dcmodify)$ && $current == @* ]]; then
         _dcmtools_lists "$current"
         return
     fi

@@ -22,9 +22,10 @@ from pathlib import Path
 ROOT = Path(__file__).resolve().parent.parent
 TEXTS = {"dcmdump": "DUMP", "dcmconv": "CONVERT", "dump2dcm": "BUILD", "dcmodify": "MODIFY", "dcmdeid": "DEIDENTIFY",
          "dcm2csv": "TABLE"}
+OF_TREES = ("dcmconv", "dcmodify")
 MANUAL = "man/dcmtools.1"
 
-MOST_WORDS = 24_200
+MOST_WORDS = 25_100
 LONG, LONGEST, MOST_LONG = 30, 45, 25
 
 
@@ -304,14 +305,17 @@ def manual_options(tool: str) -> set:
     sections = [page.split(f".Ss {title}")[1].split(".Ss")[0]]
     if tool not in ("dump2dcm", "dcmdeid", "dcm2csv"):
         sections.append(page.split(".Ss The dictionaries")[1].split(".Ss")[0])
+    if tool in OF_TREES:
+        sections.append(page.split(".Ss Trees of files")[1].split(".Ss")[0])
     items = re.findall(r"^\.It (Fl|Cm) (\S+)", "\n".join(sections), re.M)
     return {("-" if kind == "Fl" else "") + word for kind, word in items if word != "@"}
 
 
 def profile_options(tool: str) -> set:
     """The options and edits in the first tables of a tool's section of PROFILE."""
-    section = re.split(r"\n##? ", read("docs/users/PROFILE.md").split(f"\n# {tool}\n")[1])[0]
-    cells = re.findall(r"^\| (`[-+][^|]*) \|", section, re.M)
+    titles = (tool, "Trees of files") if tool in OF_TREES else (tool,)
+    sections = [re.split(r"\n##? ", read("docs/users/PROFILE.md").split(f"\n# {title}\n")[1])[0] for title in titles]
+    cells = re.findall(r"^\| (`[-+][^|]*) \|", "\n".join(sections), re.M)
     found = {span.split()[0] for cell in cells for span in re.findall(r"`([^`]*)`", cell)}
     return found | ({"-dict", "+dict"} if tool == "dcmodify" else set())
 
@@ -325,7 +329,8 @@ def zsh_options(tool: str) -> set:
     page = read("completions/_dcmtools")
     case = re.search(rf"^    {tool}\)\n(.*?);;\n    (?=\S)", page, re.M | re.S)[1]
     found = set(re.findall(r"^\s+'([-+][^-:][^:]*):", case, re.M))
-    return found | ({"-dict", "+dict"} if "$dictionaries" in case else set())
+    found |= {"-dict", "+dict"} if "$dictionaries" in case else set()
+    return found | (set(re.findall(r"^\s+'(\+\w+):", re.search(r"^  trees=\(\n(.*?)^  \)", page, re.M | re.S)[1], re.M)) if "$trees" in case else set())
 
 
 def wrong_options() -> list:

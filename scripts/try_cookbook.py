@@ -322,10 +322,6 @@ def wrong_lines(run):
     return [f"{line!r} is {count} times in failed.txt" for line, count in counts.items() if count != 1]
 
 
-def table_of_list(run):
-    return wrong_rows(run, {}, LISTED) + wrong_lines(run)
-
-
 def table_in_parts(run):
     names = {b"names.txt": (None, 0o644)}
     listed = run.files.get(b"names.txt", (b"", 0))[0].split(b"\n")
@@ -366,12 +362,39 @@ def wrong_names(run, good, text):
     return wrong
 
 
+def is_utf8(name):
+    try:
+        name.decode("utf-8")
+    except UnicodeDecodeError:
+        return False
+    return True
+
+
+def becomes(name, file, is_done):
+    """The last cell of the row of a file in a tree."""
+    if not is_utf8(name) or name == b"DICOMDIR":
+        return "left-out"
+    if not file.opens:
+        return "unread"
+    return "refused" if file.fails or not is_done else "written"
+
+
+def wrong_tree(run, folder, words, wanted):
+    """What is wrong with a run over the tree: one row for each name, and the output of each that is written; lines of the others."""
+    table = run.files.get(folder + b".csv", (b"", 0))[0]
+    rows = sorted(tuple(row) for row in csv.reader(io.StringIO(table.decode("utf-8"), newline="")))
+    written = [name for name in TREE if wanted[name] in ("written", "unplaced")]
+    due = [(name.decode("utf-8", "backslashreplace"), name.decode() if name in written else "", wanted[name]) for name in TREE]
+    wrong = [f"the row {row} is there or missing" for row in sorted({*rows} ^ {*due, ("File", "Output", "Status")})]
+    wrong += [] if len(rows) == len(due) + 1 else [f"{len(rows)} rows"]
+    wrong += [f"printed is not {line!r}" for line in (b"nobody may read.dcm: input cannot be opened", b"cut.dcm: R1 at byte", b"DICOMDIR: DICOMDIR is left out")
+              if b"dcmtools: " + line not in run.printed]
+    wrong += [] if run.status else ["status 0"]
+    return wrong + holds(run, made(run, folder, written, words) | {folder + b".csv": (None, 0o644)})
+
+
 def converted_tree(run):
-    good = [name for name, file in COPIED.items() if not file.fails and file.converts and not file.directory]
-    expected = made(run, b"converted", good, ["dcmconv", "+dict", "+te"])
-    text = run.files.get(b"not-converted.txt", (b"", 0))[0]
-    wrong = [] if text == run.printed else ["not-converted.txt is not what was printed"]
-    return wrong + holds(run, expected | {b"not-converted.txt": (None, 0o644)}) + wrong_names(run, good, text)
+    return wrong_tree(run, b"converted", ["dcmconv", "+dict", "+te"], {name: becomes(name, file, file.converts) for name, file in TREE.items()})
 
 
 def opaque_values(run):
@@ -385,9 +408,9 @@ def corrected_plan(run):
 
 
 def corrected_names(run):
-    good = [name for name, file in COPIED.items() if not file.fails and file.named and not file.directory]
-    expected = made(run, b"fixed", good, ["dcmodify", "+dict", "-m", "PatientName=Doe^Jane"])
-    return holds(run, expected) + wrong_names(run, good, run.printed)
+    wanted = {name: becomes(name, file, True) for name, file in TREE.items()}
+    unplaced = {name: "unplaced" for name, file in TREE.items() if wanted[name] == "written" and (not file.named or file.directory)}
+    return wrong_tree(run, b"fixed", ["dcmodify", "+dict", "-m", "PatientName=Doe^Jane"], wanted | unplaced)
 
 
 def latin_name(run):
@@ -495,20 +518,21 @@ class Block(NamedTuple):
     folder: bytes = b""  # that it makes, and that may not be there
     replaces: bytes = b""  # the file that it changes in its place
     sound: Callable[[bytes], None] | None = None  # what it needs beside a tree of sound files
+    goes_on: bool = False  # its folder may be there, and what is in it stays
 
 
 BLOCKS = [
     Block("    dcmtools dcmdump +dict scan.dcm |", one_element),
     Block("    columns=(-k", table),
     Block("    find in/ -type f -print0 | xargs -0 -r dcmtools dcm2csv +nh -k DataSetTrailingPadding", cut_files_named),
-    Block("    find in/ -type f ! -path $'*\\n*' | dcmtools", table_of_list),
     Block("sqlite3 table.db", table_in_sqlite, with_table, needs=("sqlite3",)),
     Block("    type parallel", table_in_parts, needs=("parallel",)),
     Block("    dcmtools dcmconv +dict +te - - < \"$file\"", in_place, replaces=b"scan.dcm"),
-    Block("    convert() {", converted_tree, folder=b"converted"),
+    Block("dcmtools dcmconv +dict +te +r in converted", converted_tree, folder=b"converted"),
+    Block("    echo '\"File\"", converted_tree, folder=b"converted", goes_on=True),
     Block("        found=$(", opaque_values),
     Block("    dcmtools dcmodify +dict -m 'DoseReferenceSequence", corrected_plan, replaces=b"plan.dcm"),
-    Block("    correct() {", corrected_names, folder=b"fixed"),
+    Block("dcmtools dcmodify +dict -m 'PatientName=Doe^Jane' +r", corrected_names, folder=b"fixed"),
     Block("    name=$(printf", latin_name, needs=("iconv",), replaces=b"scan.dcm"),
     Block("    clean() {", identity_of_tree, folder=b"deidentified"),
     Block("        left=$(", identity_left, with_outputs, sound=with_sound_outputs),
@@ -590,7 +614,7 @@ def old_folders(work):
 
 def keeps_cut_files(run):
     """A block whose input is cut leaves it as it was, and makes no file of it but a text."""
-    return [wrong for wrong in holds(run, CUT) if not re.match(r"b'(in/.*|table.csv|table.db|names.txt|failed.txt|left.txt|not-.*.txt|site.key|scan.txt|(converted|fixed|deidentified)/.*)'", wrong)]
+    return [wrong for wrong in holds(run, CUT) if not re.match(r"b'(in/.*|table.csv|table.db|names.txt|failed.txt|left.txt|not-.*.txt|site.key|scan.txt|(converted|fixed|deidentified)(/.*|.csv))'", wrong)]
 
 
 OLDER = (b"converted/", b"fixed/", b"deidentified/")
@@ -598,11 +622,14 @@ OLDER = (b"converted/", b"fixed/", b"deidentified/")
 
 def keeps_older_files(run, block):
     """A block whose folder is there says so, and changes nothing in it."""
-    wrong = [f"{folder!r} was changed" for folder in OLDER for path, (content, _) in run.files.items() if path.startswith(folder) and content != b"older"]
+    is_kept = {path: content == b"older" for path, (content, _) in run.files.items() if path.startswith(OLDER)}
+    if block.goes_on:
+        return [] if is_kept.get(block.folder + b"/latin.dcm") else ["an older file was changed"]
+    wrong = [f"{path!r} was changed" for path, kept in is_kept.items() if not kept]
     if not block.folder:
         return wrong
-    wrong += [] if run.status and block.folder + "\u2019: File exists".encode() in run.printed.replace(b"'", "\u2019".encode()) else [f"status {run.status}"]
-    return wrong
+    is_told = block.folder + "\u2019: File exists".encode() in run.printed.replace(b"'", "\u2019".encode()) or run.printed == b"dcmtools: output is not empty\n"
+    return wrong + ([] if run.status and is_told else [f"status {run.status}"])
 
 
 SOUND = {
@@ -710,7 +737,7 @@ def interrupted(binary, text, number):
         # the last of them may still remove its part
         time.sleep(8)
         files = files_in(work)
-        made = [path for path in files if path not in SOUND and not re.fullmatch(rb"not-.*\.txt|site\.key", path)]
+        made = [path for path in files if path not in SOUND and not re.fullmatch(rb"not-.*\.txt|site\.key|(converted|fixed)(\.csv|/\.part\.\d+)", path)]
         wrong = [f"{path!r} is left" for path in made if b"/" not in path]
         wrong += [f"{path!r} is not whole" for path in made if b"/" in path and not is_read(binary, files[path][0])]
         wrong += [f"{path!r} was changed" for path, file in SOUND.items() if files.get(path) != file]
@@ -756,7 +783,8 @@ def on_full_disk(binary, text, block):
         wrong = [] if run.status and run.status != 99 else [f"status {run.status}"]
         wrong += [f"{path!r} was changed" for path, file in FULL.items() if run.files.get(path) != file]
         whole = {path for path in FULL if len(run.files.get(block.folder + path[2:], (b"", 0))[0]) > 200_000}
-        wrong += [f"{path!r} is neither there nor named" for path in FULL if path not in whole and path + b": status" not in lists]
+        is_named = {path: path + b": status" in lists or b"dcmtools: " + path[3:] + b": output failed" in lists for path in FULL}
+        wrong += [f"{path!r} is neither there nor named" for path in FULL if path not in whole and not is_named[path]]
         wrong += [f"{path!r} is left" for path in run.files if re.search(rb"\.\w{6}$", path) and not path.startswith((b"in/", b"not-"))]
         return run, wrong + ([] if whole and len(whole) < len(FULL) else [f"{len(whole)} files are there"])
 
@@ -790,6 +818,9 @@ def wrong_commands(binary):
             for name, bytes_of in (("FILE", content), ("site.key", KEY), ("image.dcm", image), ("report.dcm", content)):
                 with open(os.path.join(folder, name), "wb") as file:
                     file.write(bytes_of)
+            for name in ("FOLDER", "in"):
+                os.mkdir(os.path.join(folder, name))
+                shutil.copy(os.path.join(folder, "FILE"), os.path.join(folder, name))
             environment = os.environ | {"PATH": f"{folder}:{os.environ['PATH']}"}
             done = subprocess.run(["bash", "-e", "-o", "pipefail", "-c", command], cwd=folder, env=environment, capture_output=True, timeout=60, check=False)
             if done.returncode or done.stderr:

@@ -1,7 +1,7 @@
 #!/usr/bin/env python3
 """Tries the claims of docs/users/PROFILE.md, in its order, on a built dcmtools.
 
-What PROFILE says of words, paths, streams and files is tried by try_program.py, too; of devices that fail by the tests of
+What PROFILE says of words, paths, streams and files is tried by try_program.py, too, and of trees by try_trees.py; of devices that fail by the tests of
 dcm_failing_runs; of pieces and of 64 and 65 open sequences by those of dcm_runs; of R15 by those of dcm_parts, and of want of memory
 by try_memory.py. Of two runs into one OUTPUT, of overlay file systems and of DCMTK's tools nothing is tried here.
 
@@ -1114,6 +1114,66 @@ FAULTS = [
 ]
 
 
+# ---- trees of files
+
+ROWS_BEGIN = '"File","Output","Status"\n'
+WRITTEN = ROWS_BEGIN + '"a","a","written"\n'
+NOTHING_LEFT = "rm -rf in out list"
+
+
+def tree(claim, words, rows, status=0, line="", before="", holds="", clean=NOTHING_LEFT):
+    """A run over the folder `in`, which has FILE as the file `a`. What `holds` fails leaves a file."""
+    check = f"{{ {holds or 'true'}; }} || touch wrong; {clean}"
+    return Case(claim, words, file_of(LITTLE, AB), rows, status, line, before=f"mkdir in; cp FILE in/a; {before or ':'}", after=check)
+
+
+def no_tree(claim, words, text, before=""):
+    return tree(claim, words, "", 4, text, before)
+
+
+TREES = [
+    tree("the output of NAME is OUTPUT/NAME", "dcmconv +tb +r in out", WRITTEN, holds='"$0" dcmconv +tb FILE - | cmp - out/a'),
+    tree("at any depth, of the same mode", "dcmodify +r in out", ROWS_BEGIN + '"x/y/a","x/y/a","written"\n', before="mkdir -p in/x/y; chmod 640 in/a; mv in/a in/x/y", holds="cmp FILE out/x/y/a && [ $(stat -c %a out/x/y/a) = 640 ]"),
+    tree("an edit without a place: the file is written", "dcmodify -m PatientID=7 +r in out", ROWS_BEGIN + '"a","a","unplaced"\n', 3, "a: edit 1 found no place", holds="cmp FILE out/a"),
+    tree("a file at fault", "dcmconv +r in out", ROWS_BEGIN + '"a",,"refused"\n', 2, f"a: R1 at byte {AT_SET + 9}: input ends too early", before="truncate -s -1 in/a", holds="[ ! -e out/a ]"),
+    tree("+c: what is there stays", "dcmconv +c +r in out", ROWS_BEGIN + '"a","a","there"\n', before="mkdir out; echo old > out/a", holds="[ $(cat out/a) = old ]"),
+    tree("a list names a file twice", "dcmconv +r @list out", ROWS_BEGIN + '"./FILE","FILE","written"\n"FILE","FILE","there"\n', 4, "FILE: output is there already", before="printf './FILE\\nFILE\\n' > list"),
+    tree("a list on standard input", "dcmconv +r @- out <<< in/a", ROWS_BEGIN + '"in/a","in/a","written"\n'),
+    tree("a list follows links", "dcmconv +r @- out <<< in/l", ROWS_BEGIN + '"in/l","in/l","written"\n', before="ln -s a in/l"),
+    tree("of a list OUTPUT may be in the current folder, and is not read", "dcmconv +r @- out <<< out/a", ROWS_BEGIN + '"out/a",,"left-out"\n', 4, "out/a: output is not read"),
+    tree("the first of two parts has a", "dcmconv +r in +part 1/2 out", WRITTEN),
+    tree("the second has it not", "dcmconv +part 2/2 +r in out", ROWS_BEGIN, holds="[ -z \"$(ls out)\" ]"),
+    tree("+part implies +c", "dcmconv +part 1/1 +r in out", WRITTEN, before="mkdir out; touch out/b"),
+    tree("+nh", "dcmconv +nh +r in out", '"a","a","written"\n'),
+    tree("+v", "dcmconv +v +r in out 2>&1 > rows", "1 files, 1 written, 0 there, 0 not done\n", clean=f"{NOTHING_LEFT} rows"),
+    no_tree("FOLDER is no folder", "dcmconv +r in/a out", "input cannot be opened"),
+    no_tree("no such list", "dcmconv +r @none out", "none: input cannot be opened"),
+    no_tree("OUTPUT is a file", "dcmconv +r in out", "output cannot be opened", "touch out"),
+    no_tree("OUTPUT's folder is missing", "dcmconv +r in out/new", "output cannot be opened"),
+    no_tree("OUTPUT is FOLDER", "dcmconv +c +r in ./in", "output is the input"),
+    no_tree("OUTPUT is in FOLDER", "dcmconv +r in in/out", "output is within the input"),
+    no_tree("FOLDER is in OUTPUT", "dcmconv +c +r in .", "input is within the output"),
+    no_tree("a part is there", "dcmconv +c +r in out", ".part.1: another run is at work, or was cut off", "mkdir out; touch out/.part.1"),
+    no_tree("OUTPUT is not empty", "dcmconv +r in out", "output is not empty", "mkdir out; touch out/b"),
+    tree("no files", "dcmconv +r in out", ROWS_BEGIN, 4, "input has no files", before="rm in/a"),
+    tree("a name that does not fit", "dcmconv +r @- out <<< ../in/a", ROWS_BEGIN + '"../in/a",,"left-out"\n', 4, "../in/a: name does not fit"),
+    tree("a name that is no UTF-8", "dcmconv +r in out", ROWS_BEGIN + '"\\xf6",,"left-out"\n', 4, "\udcf6: name is no UTF-8", before="mv in/a in/$'\\366'"),
+    tree("a part of another run", "dcmconv +r in out", ROWS_BEGIN + '".PART.x",,"left-out"\n', 4, ".PART.x: part of another run", before="mv in/a in/.PART.x"),
+    tree("a link", "dcmconv +r in out", ROWS_BEGIN + '"a",,"left-out"\n', 4, "a: no regular file", before="ln -sf ../FILE in/a"),
+    tree("a DICOMDIR", "dcmconv +r in out", ROWS_BEGIN + '"DicomDir",,"left-out"\n', 0, "DicomDir: DICOMDIR is left out", before="mv in/a in/DicomDir"),
+    tree("something else in the way", "dcmconv +c +r in out", ROWS_BEGIN + '"a",,"unwritten"\n', 4, "a: output cannot be opened", before="mkdir -p out/a"),
+    Case("standard output fails", "dcmconv +r in out > /dev/full", file_of(LITTLE, AB), b"", 4, "output failed", before="mkdir in; cp FILE in/a", after=NOTHING_LEFT),
+    refused("any word after +part is its I/N", "dcmconv +r in out +part", "V3 at word 5: bad option value"),
+    refused("a list without a name", "dcmconv +r @ out", "V4: wrong number of paths"),
+    refused("a word of trees without +r", "dcmconv +nh in out", "V5: options do not go together"),
+    refused("V5 is before V6", "dcmodify +c FILE FILE", "V5: options do not go together"),
+    refused("a tree on standard output", "dcmconv +r in -", "V5: options do not go together"),
+    refused("a word of trees after -e is a keyword", "dcmodify -e +r FILE out", "U2 in edit 1: unknown tag"),
+    refused("V3 is after V4", "dcmodify +r +part 2/1 @ out", "V4: wrong number of paths"),
+    refused("V5 is after U7", "dcmodify +c -e None FILE out", "U2 in edit 1: unknown tag"),
+]
+
+
 # ---- the runs
 
 
@@ -1149,7 +1209,7 @@ def wrong_text(binary, shows):
 
 def main():
     binary = os.path.abspath(sys.argv[1] if len(sys.argv) > 1 else os.path.join(ROOT, "crates/dcmtools/out/dcmtools"))
-    cases = WORDS + SAME_FILE + READING + DICTIONARIES + FILES + SHOWING + WRITING + BUILDING + EDITING + PRIVACY + IDENTITY + TABLES + FAULTS + CAUSES
+    cases = WORDS + SAME_FILE + READING + DICTIONARIES + FILES + SHOWING + WRITING + BUILDING + EDITING + PRIVACY + IDENTITY + TABLES + TREES + FAULTS + CAUSES
     answers = [(case.claim, wrong_case(binary, case)) for case in cases]
     answers += [(shows.claim, wrong_text(binary, shows)) for shows in TEXTS]
     for claim, wrong in answers:

@@ -54,6 +54,10 @@ CONVERTED_PART = "dcmconv: " + PART
 UNNAMED_PART = "dcmconv: OUTPUT.part exists: move it away, or give another OUTPUT\n"
 LEFT = b"left by an earlier run"
 
+# a folder, and the rows of a run over it
+TREE = "mkdir in; cp name.dcm in/a"
+ROWS_OF_TREE = '"File","Output","Status"\n"a","a","{}"\n'
+
 # what it is, the words for a shell, the status, what is on standard error, and the files that it changes
 CASES = [
     ("a new file", "dcmconv +tb name.dcm out", 0, "", {"out": BIG}),
@@ -160,6 +164,14 @@ CASES = [
     ("one file in DCMTK's habit", "dcmodify -m PatientName=Q name.dcm", 1, PATH_FAULT.format(1), {}),
     ("two files and a refused edit", "dcmodify -m Patient=Q name.dcm older", 1, UNKNOWN_TAG, {}),
     ("two files, of which one is a link", "ln -s older l; dcmodify name.dcm l 2> /dev/null; s=$?; rm l; exit $s", 1, "", {}),
+    # trees
+    ("a tree", f"{TREE}; dcmconv +tb +r in new > rows", 0, "", {"in/a": NAME, "new/a": BIG, "rows": ROWS_OF_TREE.format("written").encode()}),
+    ("a part of a tree, with an older output", f"{TREE}; mkdir new; cp left new/a; dcmconv +r in +part 1/1 new > rows", 0, "", {"in/a": NAME, "new/a": LEFT, "rows": ROWS_OF_TREE.format("there").encode()}),
+    ("a list", "printf name.dcm > list; dcmconv +r +nh @list new > rows; s=$?; rm list; exit $s", 0, "", {"new/name.dcm": NAME, "rows": b'"name.dcm","name.dcm","written"\n'}),
+    ("edits of a tree", f"{TREE}; dcmodify +r -m PatientName=Q in new > rows", 0, "", {"in/a": NAME, "new/a": REPLACED, "rows": ROWS_OF_TREE.format("written").encode()}),
+    ("a tree that is there", f"{TREE}; mkdir new; cp left new/a; dcmconv +r in new > rows", 4, "dcmtools: output is not empty\n", {"in/a": NAME, "new/a": LEFT, "rows": b""}),
+    ("a tree and --overwrite", f"{TREE}; dcmodify --overwrite +r -m PatientName=Q in new", 1, PATH_FAULT.format(1), {"in/a": NAME}),
+    ("a word of trees without +r", "dcmconv +c name.dcm out", 1, "dcmtools: V5: options do not go together\n", {}),
     ("a value with a space that is not UTF-8", "dcmodify -m $'PatientName=\\374 M' name.dcm out", 0, "", {"out": SPACED}),
 ]
 
