@@ -13,7 +13,7 @@ use Rattle.dcm_dumps.specs.DumpsInMemory as dumps
 use Rattle.dcm_dumps.specs.DumpsInMemory.{DumpsInMemory}
 use Rattle.dcm_dumps.proofs.DumpsLeft.{dumps_left}
 use Rattle.dcm_tables.specs.TableInMemory.{ListsAreReadWhole, TablesInMemory}
-use Rattle.dcm_trees.specs.Program.{asks_run}
+use Rattle.dcm_tree_words.specs.Trees.{asks_tree}
 use Rattle.dcm_tables.specs.TableProgram.{ObeysAny, TreeRuns, asks_table, of_table, of_dumps, of_tree, of_others}
 use Rattle.dcm_tables.proofs.TableLeft.{tables_left}
 
@@ -58,8 +58,8 @@ module _ (Trees : TreeRuns MemSystem) (s new : MemSystem) (errors new_errors : M
   dumped_of asks lists (of_tree other is asked runs) = absurd (not_both (asks_dumps words) asks is)
   dumped_of asks lists (of_others other is alone obeys) = absurd (not_both (asks_dumps words) asks is)
 
-  pub others_of : asks_table words ≡ false → asks_dumps words ≡ false → asks_run words ≡ false → Obeyed → ObeysInMemory words s errors new.written new_errors status
+  pub others_of : asks_table words ≡ false → asks_dumps words ≡ false → asks_tree words ≡ false → Obeyed → ObeysInMemory words s errors new.written new_errors status
   others_of asks shows alone (of_table is obeys) = absurd (not_both (asks_table words) is asks)
   others_of asks shows alone (of_dumps other is obeys) = absurd (not_both (asks_dumps words) is shows)
-  others_of asks shows alone (of_tree other is asked runs) = absurd (not_both (asks_run words) asked alone)
+  others_of asks shows alone (of_tree other is asked runs) = absurd (not_both (asks_tree words) asked alone)
   others_of asks shows alone (of_others other is one obeys) = λ o comes room. obeys_left s new errors new_errors status words o comes room obeys

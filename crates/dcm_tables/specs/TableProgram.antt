@@ -28,7 +28,7 @@ use Rattle.dcm_cli.specs.Status.{DEVICE, USAGE}
 use Rattle.dcm_each.specs.Each.{Writing}
 use Rattle.dcm_dumps.specs.Words.{asks_dumps}
 use Rattle.dcm_dumps.specs.DumpsProgram.{ObeysDumps}
-use Rattle.dcm_trees.specs.Program.{asks_run}
+use Rattle.dcm_tree_words.specs.Trees.{asks_tree}
 use Rattle.dcm_tables.specs.Table.{WritesTable}
 
 -- ---- what a table has of its words
@@ -115,9 +115,9 @@ pub data ObeysAny {S I O : Type 0} (may : MayDo S I O) (r : Reader I) (w : Write
       → ObeysAny may r w Trees words errors before status after
   of_dumps : asks_table words ≡ false → asks_dumps words ≡ true → ObeysDumps may r w words errors before status after
       → ObeysAny may r w Trees words errors before status after
-  of_tree : asks_table words ≡ false → asks_dumps words ≡ false → asks_run words ≡ true
+  of_tree : asks_table words ≡ false → asks_dumps words ≡ false → asks_tree words ≡ true
       → Trees words before status after → ObeysAny may r w Trees words errors before status after
-  of_others : asks_table words ≡ false → asks_dumps words ≡ false → asks_run words ≡ false
+  of_others : asks_table words ≡ false → asks_dumps words ≡ false → asks_tree words ≡ false
       → Obeys may r w words errors before status after → ObeysAny may r w Trees words errors before status after
 
 -- the words that the system gave were obeyed; or there was no memory for them

@@ -6,7 +6,7 @@ ghost use Rattle.dcm_dumps.specs.DumpsInMemory as listed_dumps;
 ghost use Rattle.dcm_dumps.specs.DumpsInMemory.{DumpsInMemory};
 ghost use Rattle.dcm_tables.specs.TableInMemory.{ListsAreReadWhole, TablesInMemory};
 ghost use Rattle.dcm_tables.specs.TableProgram.{asks_table};
-ghost use Rattle.dcm_trees.specs.Program.{asks_run};
+ghost use Rattle.dcm_tree_words.specs.Trees.{asks_tree};
 
 use crate::program::obey;
 use dcm_base::{Measured, MemOut, Watched};
@@ -32,7 +32,7 @@ pub fn obey_in_memory<'a>(
         → listed_dumps.ListsAreReadWhole (map (λ w. w.now) words.now) system.entry
         → DumpsInMemory (map (λ w. w.now) words.now) system.entry errors result.written result.errors result.status }
     ensures others { asks_table (map (λ w. w.now) words.now) ≡ false
-        → asks_dumps (map (λ w. w.now) words.now) ≡ false → asks_run (map (λ w. w.now) words.now) ≡ false
+        → asks_dumps (map (λ w. w.now) words.now) ≡ false → asks_tree (map (λ w. w.now) words.now) ≡ false
         → ObeysInMemory (map (λ w. w.now) words.now) system.entry errors result.written result.errors result.status }
 {
     let mut system = system;

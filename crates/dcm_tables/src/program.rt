@@ -20,7 +20,8 @@ use dcm_dumps::{asks_dumps, obey_dumps};
 use dcm_files::{Folders, Host, System, Unopened, unopened};
 use dcm_table::{Cells, Column, Columns, TextForm};
 use dcm_table_words::{TableColumn, TablePlan, Texts, put_usage, table_plan};
-use dcm_trees::{asks_run, obey_tree};
+use dcm_tree_words::asks_tree;
+use dcm_trees::obey_tree;
 use either::Either;
 use std::alloc::{AllocError, Global};
 use std::fs::File;
@@ -206,7 +207,7 @@ pub fn obey<S: Folders, E: DeviceOut>(
     if asks_dumps(words) {
         return obey_dumps(system, words, errors);
     }
-    if asks_run(words) {
+    if asks_tree(words) {
         return obey_tree(system, alloc, words, errors);
     }
     dcm_cli::obey(system, alloc, words, errors)

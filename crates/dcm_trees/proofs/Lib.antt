@@ -1,3 +1,4 @@
 mod Ends
 mod Rows
 mod Names
+mod Jobs

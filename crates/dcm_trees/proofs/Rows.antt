@@ -6,7 +6,7 @@ use Rattle.dcm_devices.specs.Device.{KeepsRoom, Tells}
 use Rattle.dcm_devices.specs.Writing.{Writer, Wrote}
 use Rattle.dcm_walk.specs.Visits.{Named}
 use Rattle.dcm_trees.specs.declared.fate.Fate.{Fate}
-use Rattle.dcm_trees.specs.declared.file.PartThere.{PartThere}
+use Rattle.dcm_trees.specs.declared.part.PartThere.{PartThere}
 use Rattle.dcm_trees.specs.File.{Manner, DoesPlaced}
 use Rattle.dcm_cli.specs.Calls.{Reports}
 use Rattle.dcm_trees.specs.World.{World}

@@ -18,6 +18,7 @@ word fates.Unread = codes "unread"
 word fates.Unwritten = codes "unwritten"
 word fates.Refused = codes "refused"
 word fates.Pixels = codes "pixels"
+word fates.Unnamed = codes "unnamed"
 
 -- its exit status
 abbrev pub status : Fate → ℕ
@@ -25,6 +26,7 @@ status fates.Written = DONE
 status fates.There = DONE
 status fates.MediaIndex = DONE
 status fates.Refused = FAULT
+status fates.Unnamed = FAULT
 status fates.Unplaced = REMARK
 status fates.Pixels = REMARK
 status _ = DEVICE

@@ -4,7 +4,12 @@ pub mod Fate
 pub mod Row
 pub mod Tally
 pub mod Place
+pub mod Opening
+pub mod Task
 pub mod Lines
+pub mod Manner
+pub mod Part
+pub mod Instance
 pub mod File
 pub mod Work
 pub mod Beginning

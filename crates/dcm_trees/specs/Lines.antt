@@ -1,12 +1,14 @@
 -- What is told of a file of a tree, and what became of it.
 use Rattle.std.specs.Prelude.{ℕ, zero, suc, ◌/◌, ◌%◌, ◌==◌, List, [], ◌++◌, codes, Bool, if◌then◌else◌}
-use Rattle.dcm_names.specs.NamedLines.{named_line, fault_line, unread_line, unplaced_line}
+use Rattle.dcm_names.specs.NamedLines.{named_line, fault_line, unread_line, unplaced_line, unopened_line}
 use Rattle.dcm_cli.specs.declared.ending.Ending.{Ending}
 use Rattle.dcm_cli.specs.declared.ending.Ending.TheVariants.{Worked, Unread, Output}
 use Rattle.dcm_cli.specs.declared.ending.Verdict.{Verdict}
 use Rattle.dcm_cli.specs.declared.ending.Verdict.TheVariants.{Done, PixelsMayShow, Refused, RefusedLine}
 use Rattle.dcm_trees.specs.declared.fate.Fate.{Fate}
 use Rattle.dcm_trees.specs.declared.fate.Fate.TheVariants as fates
+use Rattle.dcm_trees.specs.declared.task.NoDays.{NoDays}
+use Rattle.dcm_trees.specs.declared.task.NoDays.TheVariants as no_days
 use Rattle.dcm_trees.specs.declared.place.Place.{Place}
 use Rattle.dcm_trees.specs.declared.place.Place.TheVariants.{Free, There, Taken}
 
@@ -52,6 +54,17 @@ abbrev pub ending_fate : Ending → Fate
 ending_fate (Worked verdict) = verdict_fate verdict
 ending_fate (Unread count) = fates.Unread
 ending_fate Output = fates.Unwritten
+
+-- ---- no days by which dates are moved
+
+abbrev pub no_days_line : (name : List ℕ) → NoDays → List ℕ
+no_days_line name no_days.Unopened = unopened_line name
+no_days_line name (no_days.Unread count) = unread_line name count
+no_days_line name (no_days.Refused stop) = fault_line name stop
+
+abbrev pub no_days_fate : NoDays → Fate
+no_days_fate (no_days.Refused stop) = fates.Refused
+no_days_fate _ = fates.Unread
 
 -- ---- a name of an output that is not free
 

@@ -12,14 +12,14 @@ use Rattle.dcm_devices.specs.Writing.{Writer}
 use Rattle.dcm_walk.specs.declared.list.ListEnd.{ListEnd}
 use Rattle.dcm_walk.specs.declared.list.ListEnd.TheVariants as lists
 use Rattle.dcm_walk.specs.declared.visitor.Stopped.{Stopped as WasStopped}
-use Rattle.dcm_words.specs.Plans.{job_of}
 use Rattle.dcm_cli.specs.Calls.{Reports}
 use Rattle.dcm_trees.specs.declared.progress.Shared.{Shared}
 use Rattle.dcm_trees.specs.declared.progress.Stop.{Stop}
 use Rattle.dcm_trees.specs.declared.run.TreeRun.{TreeRun}
 use Rattle.dcm_trees.specs.declared.tally.Tally.{Tally}
-use Rattle.dcm_trees.specs.File.{manner_of}
+use Rattle.dcm_trees.specs.Manner.{manner_of}
 use Rattle.dcm_trees.specs.Row.{header}
+use Rattle.dcm_trees.specs.Task.{task_of}
 use Rattle.dcm_trees.specs.Work.{Progress, PutsRow}
 use Rattle.dcm_trees.specs.declared.progress.Stop.TheVariants as stops
 use Rattle.dcm_trees.specs.Tally.{counts, none}
@@ -66,10 +66,11 @@ last_counts shows tally = if shows then counts tally (codes "\n") else []
 
 pub record Shares (run : TreeRun) (part : List ℕ) (shared : Shared) : Type 0 where
   pub manner : manner_of shared.manner ≡ record {
-    job = job_of run.job.now;
+    task = task_of run.task;
     output = run.output.now;
     part = part;
     continues = run.options.continues;
+    keeps_names = run.options.keeps_names;
   }
   pub part_is : shared.part ≡ run.options.part
   pub counts_are : shared.shows_counts ≡ run.options.counts

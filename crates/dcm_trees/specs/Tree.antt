@@ -23,6 +23,7 @@ use Rattle.dcm_trees.specs.declared.beginning.Refusal.TheVariants.{Input}
 use Rattle.dcm_trees.specs.declared.progress.Work.{Work}
 use Rattle.dcm_trees.specs.declared.run.TreeRun.{TreeRun}
 use Rattle.dcm_trees.specs.Beginning.{Begins}
+use Rattle.dcm_trees.specs.Place.{path_in}
 use Rattle.dcm_trees.specs.Run.{part_name, refusal_line, Shares, PutsFirstRow, EndsUnwritten, EndsRun}
 use Rattle.dcm_trees.specs.Work.{progress, nothing_done, visits_of}
 use Rattle.dcm_trees.specs.World.{World}
@@ -31,13 +32,22 @@ use Rattle.dcm_trees.specs.World.{World}
 abbrev pub part_of : TreeRun → List ℕ
 part_of run = part_name run.options.part.number
 
--- the folder whose files are done is opened, or cannot be
+-- a folder is opened, or cannot be
+pub data OpensFolder {S O F : Type 0} (d : FoldersDo S O F) (path : List ℕ) (before : S) (opened : Option F) (after : S)
+    : Type 0 where
+  no_text : ¬ (IsUtf8 path) → opened ≡ None → after ≡ before → OpensFolder d path before opened after
+  not_opened : (e : Error) → IsUtf8 path → d.opens_folder before path (Err e) after → opened ≡ None
+      → OpensFolder d path before opened after
+  was_opened : (f : F) → IsUtf8 path → d.opens_folder before path (Ok f) after → opened ≡ Some f
+      → OpensFolder d path before opened after
+
+-- the folder whose files are done is opened: by the name that it has for itself, behind its path, so that this may be
+-- that of a link to it; but not where that would be too long
 pub data OpensTree {S O F : Type 0} (d : FoldersDo S O F) (path : List ℕ) (before : S) (opened : Option F) (after : S)
     : Type 0 where
-  no_text : ¬ (IsUtf8 path) → opened ≡ None → after ≡ before → OpensTree d path before opened after
-  not_opened : (e : Error) → IsUtf8 path → d.opens_folder before path (Err e) after → opened ≡ None
+  followed : (own : List ℕ) → path_in path (codes ".") ≡ Some own → OpensFolder d own before opened after
       → OpensTree d path before opened after
-  was_opened : (f : F) → IsUtf8 path → d.opens_folder before path (Ok f) after → opened ≡ Some f
+  too_long : path_in path (codes ".") ≡ None → OpensFolder d path before opened after
       → OpensTree d path before opened after
 
 -- ---- the names

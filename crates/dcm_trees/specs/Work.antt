@@ -2,6 +2,7 @@
 use Rattle.std.specs.Prelude.{◌≡◌, ℕ, max, List, [], ◌∷◌, Bool, true, false, ◌&&◌, Option, Some, None, Result, Ok, Err}
 use Rattle.std.specs.Prelude.{if◌then◌else◌}
 use Rattle.std.specs.Io.KnownBytes.{append_known}
+use Rattle.arrayvec.specs.ArrayVec.{ArrayVec}
 use Rattle.dcm_devices.specs.declared.device.WriteFailed.{WriteFailed}
 use Rattle.dcm_devices.specs.Device.{AppendsFront}
 use Rattle.dcm_devices.specs.Writing.{Writer}
@@ -11,14 +12,16 @@ use Rattle.dcm_walk.specs.declared.visitor.What.{What}
 use Rattle.dcm_cli.specs.Calls.{Reports}
 use Rattle.dcm_cli.specs.Status.{DONE}
 use Rattle.dcm_trees.specs.declared.fate.Fate.{Fate}
-use Rattle.dcm_trees.specs.declared.file.PartThere.{PartThere}
+use Rattle.dcm_trees.specs.declared.file.Done.{Done}
+use Rattle.dcm_trees.specs.declared.part.PartThere.{PartThere}
 use Rattle.dcm_trees.specs.declared.tally.Tally.{Tally}
 use Rattle.dcm_trees.specs.declared.progress.Shared.{Shared}
 use Rattle.dcm_trees.specs.declared.progress.Stop.{Stop}
 use Rattle.dcm_trees.specs.declared.progress.Stop.TheVariants as stops
 use Rattle.dcm_trees.specs.declared.progress.Work.{Work}
 use Rattle.dcm_trees.specs.Fate.{status, word, has_output}
-use Rattle.dcm_trees.specs.File.{DoesName, manner_of}
+use Rattle.dcm_trees.specs.File.{DoesName}
+use Rattle.dcm_trees.specs.Manner.{manner_of}
 pub use Rattle.dcm_trees.specs.Row.{row}
 use Rattle.dcm_trees.specs.Share.{is_of}
 use Rattle.dcm_trees.specs.Tally as tallies
@@ -52,9 +55,14 @@ pub data PutsRow {W : Type 0} (w : Writer W) (text : List ℕ) (from : W) (r : R
   not_flushed : (e : WriteFailed) → w.contents to ≡ append_known (w.contents from) text → w.has_failed to ≡ true
       → w.room to ≡ None → r ≡ Err e → PutsRow w text from r to
 
--- the name of an output has a cell where a file is there
-abbrev pub output_of : Named → Fate → Option (List ℕ)
-output_of n fate = if has_output fate then Some n.relative else None
+-- the name of an output: that of its input, or of the instance in it
+abbrev pub name_in : (relative : List ℕ) → Option (ArrayVec ℕ) → List ℕ
+name_in relative None = relative
+name_in relative (Some instance) = instance.items
+
+-- it has a cell where a file is there
+abbrev pub output_of : Named → Done → Option (List ℕ)
+output_of n done = if has_output done.fate then Some (name_in n.relative done.instance) else None
 
 -- the counts behind each hundredth row, where they are wanted
 abbrev pub progress_line : (shows : Bool) → Tally → List ℕ
@@ -65,15 +73,17 @@ with_row p fate = record p { tally = tallies.with p.tally fate; status = max p.s
 
 -- the row of a name was written, and the counts were shown where they are wanted; or it could not be written, which ends
 -- the run
-pub data EndsName {W E : Type 0} (w : Writer W) (e : Writer E) (shows : Bool) (n : Named) (fate : Fate)
+pub data EndsName {W E : Type 0} (w : Writer W) (e : Writer E) (shows : Bool) (n : Named) (done : Done)
     (from : Progress W) (told_before : E) (r : Result (Unit {0}) Stopped) (to : Progress W) (told : E) : Type 0 where
-  has_row : (manifest : W) → PutsRow w (row n.name (output_of n fate) (word fate)) from.manifest (Ok _) manifest
-      → Reports e told_before told (progress_line shows (tallies.with from.tally fate)) → to ≡ with_row (record from { manifest = manifest }) fate
-      → r ≡ Ok _ → EndsName w e shows n fate from told_before r to told
+  has_row : (manifest : W)
+      → PutsRow w (row n.name (output_of n done) (word done.fate)) from.manifest (Ok _) manifest
+      → Reports e told_before told (progress_line shows (tallies.with from.tally done.fate))
+      → to ≡ with_row (record from { manifest = manifest }) done.fate → r ≡ Ok _
+      → EndsName w e shows n done from told_before r to told
   no_row : (manifest : W) (failure : WriteFailed) (s : Stopped)
-      → PutsRow w (row n.name (output_of n fate) (word fate)) from.manifest (Err failure) manifest → told ≡ told_before
-      → to ≡ record from { manifest = manifest; stop = Some stops.Manifest } → r ≡ Err s
-      → EndsName w e shows n fate from told_before r to told
+      → PutsRow w (row n.name (output_of n done) (word done.fate)) from.manifest (Err failure) manifest
+      → told ≡ told_before → to ≡ record from { manifest = manifest; stop = Some stops.Manifest } → r ≡ Err s
+      → EndsName w e shows n done from told_before r to told
 
 -- ---- a name
 
@@ -86,9 +96,9 @@ pub data VisitsName {S I O F W E : Type 0} (w : World S I O F E) (manifest : Wri
     (to : Progress W) (told : E) (after : S) : Type 0 where
   of_another : is_of shared.part.number shared.part.count n.relative ≡ false → to ≡ came from → told ≡ told_before
       → after ≡ before → r ≡ Ok _ → VisitsName w manifest shared from told_before before n what r to told after
-  was_done : (fate : Fate) (done : E) → is_of shared.part.number shared.part.count n.relative ≡ true
-      → DoesName w (manner_of shared.manner) n what told_before before (Ok fate) done after
-      → EndsName manifest w.errors shared.shows_counts n fate (came from) done r to told
+  was_done : (done : Done) (mid : E) → is_of shared.part.number shared.part.count n.relative ≡ true
+      → DoesName w (manner_of shared.manner) n what told_before before (Ok done) mid after
+      → EndsName manifest w.errors shared.shows_counts n done (came from) mid r to told
       → VisitsName w manifest shared from told_before before n what r to told after
   part_there : (p : PartThere) (s : Stopped) → is_of shared.part.number shared.part.count n.relative ≡ true
       → DoesName w (manner_of shared.manner) n what told_before before (Err p) told after

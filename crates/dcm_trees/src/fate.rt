@@ -29,6 +29,8 @@ pub enum Fate {
     Refused,
     /// Its pixels may show identity.
     Pixels,
+    /// A UID that would name its output is missing or unfit.
+    Unnamed,
 }
 
 impl Fate {
@@ -45,6 +47,7 @@ impl Fate {
             Fate::Unwritten => b"unwritten".as_slice(),
             Fate::Refused => b"refused".as_slice(),
             Fate::Pixels => b"pixels".as_slice(),
+            Fate::Unnamed => b"unnamed".as_slice(),
         }
     }
 
@@ -55,7 +58,7 @@ impl Fate {
     {
         match self {
             Fate::Written | Fate::There | Fate::MediaIndex => DONE,
-            Fate::Refused => FAULT,
+            Fate::Refused | Fate::Unnamed => FAULT,
             Fate::Unplaced | Fate::Pixels => REMARK,
             Fate::Occupied | Fate::LeftOut | Fate::Unread | Fate::Unwritten => DEVICE,
         }

@@ -4,18 +4,21 @@ ghost use Rattle.dcm_cli.specs.Calls as calls;
 ghost use Rattle.dcm_walk.specs.Visits.{name_of};
 ghost use Rattle.dcm_words.specs.Plans.{job_of};
 ghost use Rattle.dcm_trees.specs.File as spec;
+ghost use Rattle.dcm_trees.specs.Manner.{manner_of};
 ghost use Rattle.dcm_trees.specs.World.{world};
 
 use crate::fate::{Fate, fate_of, text_of};
-use crate::lines::{tell_ending, tell_place, tell_text};
-use crate::place::{Place, make_way, path_in, place_at, was_there};
+use crate::instance::do_unnamed;
+use crate::lines::{tell_no_days, tell_place, tell_text};
+use crate::part::{NoPart, PartThere, fill_and_name, make_part, open_file, tell_no_part};
+use crate::place::{Place, path_in, place_at};
+use crate::task::{Task, task_of_file};
+use arrayvec::ArrayVec;
 use dcm_base::{DeviceOut, Watched};
 use dcm_cli::Job;
-use dcm_cli::ending::Ending;
-use dcm_cli::run::finish;
-use dcm_files::{FileKind, Folders, System};
+use dcm_files::Folders;
+use dcm_instance::MOST_OF_INSTANCE_NAME;
 use dcm_walk::{Named, What};
-use std::str;
 
 /// What ends a part of a name.
 const SLASH: u8 = b'/';
@@ -26,39 +29,35 @@ const MEDIA_INDEX: &[u8] = b"DICOMDIR";
 /// How the files of a tree are done.
 #[derive(Clone, Copy)]
 pub struct Manner<'a> {
-    pub job: &'a Job,
+    pub task: Task<'a>,
     /// The folder of the outputs.
     pub output: &'a [u8],
     /// The path at which an output is written.
     pub part: &'a [u8],
     /// Whether the run goes on with outputs that are there.
     pub continues: bool,
+    /// Whether an output has the name of its input, and not that of the instance in it.
+    pub keeps_names: bool,
 }
 
-/// What another run writes is there.
-#[derive(Clone, Copy, Debug, PartialEq, Eq)]
-pub struct PartThere;
+/// The name of an output, of the instance in it.
+pub type InstanceName = ArrayVec<u8, MOST_OF_INSTANCE_NAME>;
 
-/// Why no part is there that could be written.
-#[derive(Clone, Copy, Debug, PartialEq, Eq)]
-enum NoPart {
-    /// Another run's is.
-    There,
-    /// It cannot be made.
-    NotMade,
+/// What became of a name, and the name of its output where that is not its own.
+#[derive(Drop)]
+pub struct Done {
+    pub fate: Fate,
+    pub instance: Option<InstanceName>,
 }
 
-/// How an output got its name.
-#[derive(Clone, Copy, Debug, PartialEq, Eq)]
-enum Naming {
-    /// The part has a second name.
-    Linked,
-    /// The part was moved.
-    Moved,
-    /// It did not: something is at that name.
-    NotFree(Place),
-    /// It did not.
-    Failed,
+/// What became of a name that gives its output its own.
+fn under_its_name(done: Result<Fate, PartThere>) -> Result<Done, PartThere>
+    ensures { result ≡ spec.under_its_name done }
+{
+    Ok(Done {
+        fate: done?,
+        instance: None,
+    })
 }
 
 /// Whether a name is that of the index of a medium.
@@ -85,216 +84,30 @@ fn is_media_index(relative: &[u8]) -> bool
     false
 }
 
-/// Whether a folder was opened.
-fn is_directory(kind: FileKind) -> bool
-    ensures yes { result ≡ true → kind ≡ FileKind.Directory }
-    ensures no { result ≡ false → kind ≢ FileKind.Directory }
-{
-    matches!(kind, FileKind::Directory)
-}
-
-/// Opens a file that is read.
-fn open_file<S: System>(path: &[u8], system: &mut S) -> Option<S::Input>
-    ensures { spec.OpensFile S.may_do path.now system.old result system.new }
-{
-    let Ok(text) = str::from_utf8(path) else {
-        return None;
-    };
-    let Ok(opened) = system.open(text) else {
-        return None;
-    };
-    if is_directory(opened.kind) {
-        system.release(opened.device);
-        return None;
-    }
-    Some(opened.device)
-}
-
-/// Makes the part, with bits of a mode.
-fn make_part<S: Folders>(part: &[u8], mode: u32, system: &mut S) -> Result<S::Output, NoPart>
-    ensures { spec.MakesPart S.folders_do part.now mode system.old result system.new }
-{
-    let Ok(text) = str::from_utf8(part) else {
-        return Err(NoPart::NotMade);
-    };
-    match system.create_as(text, mode) {
-        Ok(opened) => Ok(opened.device),
-        Err(e) if was_there(&e) => Err(NoPart::There),
-        Err(_) => Err(NoPart::NotMade),
-    }
-}
-
-/// Removes the part. Where that fails it stays.
-fn remove_part<S: System>(part: &[u8], system: &mut S)
-    ensures { spec.RemovesPart S.may_do part.now system.old system.new }
-{
-    let Ok(text) = str::from_utf8(part) else {
-        return;
-    };
-    let _ = system.remove(text);
-}
-
-/// Does a job from a file into the part, and gives both back.
-fn fill<S: System>(job: &Job, input: S::Input, output: S::Output, system: &mut S) -> Ending
-    ensures { spec.Fills S.may_do S.Input.DeviceIn S.Output.DeviceOut (job_of job.now) input output system.old result
-        system.new }
-{
-    let mut input = Watched::new(input);
-    let mut out = Watched::new(output);
-    let ending = finish(job, &mut input, &mut out);
-    system.close(out.into_device());
-    system.release(input.into_device());
-    ending
-}
-
-/// Moves the part to the name of its output.
-fn move_part<S: System>(part: &str, path: &str, system: &mut S) -> Naming
-    ensures { spec.MovesPart S.may_do part.now path.now system.old result system.new }
-{
-    match system.rename(part, path) {
-        Ok(()) => Naming::Moved,
-        Err(_) => Naming::Failed,
-    }
-}
-
-/// Moves the part to the name of its output, if nothing is there.
-fn move_if_free<S: Folders>(part: &str, path: &str, base: usize, system: &mut S) -> Naming
-    requires { base ≤ length path.now }
-    ensures { spec.MovesIfFree S.may_do S.folders_do part.now path.now base system.old result system.new }
-{
-    let place = place_at(path.as_bytes(), base, system);
-    if place.is_free() {
-        move_part(part, path, system)
-    } else {
-        Naming::NotFree(place)
-    }
-}
-
-/// Gives the part the name of its output, in folders that are there: a second name, which replaces nothing; or, where the
-/// file system has none, the part is moved, if nothing is at that name.
-fn give_second_name<S: Folders>(part: &[u8], path: &[u8], base: usize, system: &mut S) -> Naming
-    requires { base ≤ length path.now }
-    ensures { spec.GivesSecondName S.may_do S.folders_do part.now path.now base system.old result system.new }
-{
-    let Ok(from) = str::from_utf8(part) else {
-        return Naming::Failed;
-    };
-    let Ok(to) = str::from_utf8(path) else {
-        return Naming::Failed;
-    };
-    match system.link(from, to) {
-        Ok(()) => Naming::Linked,
-        Err(_) => move_if_free(from, to, base, system),
-    }
-}
-
-/// Makes the folders on the way to an output, and gives it its name.
-fn give_name<S: Folders>(part: &[u8], path: &[u8], base: usize, system: &mut S) -> Naming
-    requires { base ≤ length path.now }
-    ensures { spec.GivesName S.may_do S.folders_do part.now path.now base system.old result system.new }
-{
-    match make_way(path, base, system) {
-        Ok(()) => give_second_name(part, path, base, system),
-        Err(_) => Naming::Failed,
-    }
-}
-
-/// Whether the part has its place no longer.
-fn is_moved(naming: Naming) -> bool
-    ensures { result ≡ spec.is_moved naming }
-{
-    matches!(naming, Naming::Moved)
-}
-
-/// Removes the part, unless it was moved: another run's may be there then.
-fn clear_part<S: System>(naming: Naming, part: &[u8], system: &mut S)
-    ensures { spec.ClearsPart S.may_do naming part.now system.old system.new }
-{
-    if is_moved(naming) {
-        return;
-    }
-    remove_part(part, system);
-}
-
-/// Tells why an output did not get its name, where it did not. Answers what became of the file, where that is this
-/// otherwise.
-fn tell_naming<E: DeviceOut>(
-    name: &[u8],
-    naming: Naming,
-    fate: Fate,
-    continues: bool,
-    errors: &mut Watched<E>,
-) -> Fate
-    ensures line { calls.Reports E.DeviceOut errors.old errors.new (spec.naming_lines name.now naming continues) }
-    ensures fate { result ≡ spec.naming_fate naming fate continues }
-{
-    match naming {
-        Naming::Linked | Naming::Moved => fate,
-        Naming::NotFree(place) => tell_place(name, place, continues, errors),
-        Naming::Failed => {
-            tell_text(name, b"output failed", errors);
-            Fate::Unwritten
-        }
-    }
-}
-
-/// Gives an output that was written its name, and removes the part, unless it was moved.
-fn name_output<S: Folders, E: DeviceOut>(
+/// Does a job of a file at the name of whose output nothing is.
+fn do_ready<S: Folders, E: DeviceOut>(
+    job: &Job,
     manner: Manner,
-    name: &[u8],
+    named: &Named,
+    mode: u32,
     path: &[u8],
-    fate: Fate,
     system: &mut S,
-    errors: &mut Watched<E>,
-) -> Fate
-    requires { length manner.output.now + 1 ≤ length path.now }
-    ensures { spec.NamesOutput S.may_do S.folders_do E.DeviceOut (spec.manner_of manner.entry) name.now path.now fate
-        errors.old system.old result errors.new system.new }
-{
-    let base = manner.output.len() + 1;
-    let naming = give_name(manner.part, path, base, system);
-    clear_part(naming, manner.part, system);
-    tell_naming(name, naming, fate, manner.continues, errors)
-}
-
-/// Does a file from its input into the part, which gets the name of its output where all was done, and is removed. Tells
-/// what is wrong, and answers what became of the file.
-fn fill_and_name<S: Folders, E: DeviceOut>(
-    manner: Manner,
-    name: &[u8],
-    path: &[u8],
-    input: S::Input,
-    output: S::Output,
-    system: &mut S,
-    errors: &mut Watched<E>,
-) -> Fate
-    requires { length manner.output.now + 1 ≤ length path.now }
-    ensures { spec.FillsAndNames (world S.may_do S.folders_do S.Input.DeviceIn S.Output.DeviceOut E.DeviceOut)
-        (spec.manner_of manner.entry) name.now path.now input output errors.old system.old result errors.new
-        system.new }
-{
-    let ending = fill(manner.job, input, output, system);
-    let fate = tell_ending(name, ending, errors);
-    if fate.is_written() {
-        return name_output(manner, name, path, fate, system, errors);
-    }
-    remove_part(manner.part, system);
-    fate
-}
-
-/// Tells that there is no part to write to. Where another run's is there, the run ends without a line of the file.
-fn tell_no_part<E: DeviceOut>(
-    name: &[u8],
-    cause: NoPart,
     errors: &mut Watched<E>,
 ) -> Result<Fate, PartThere>
-    ensures { spec.TellsNoPart E.DeviceOut name.now cause errors.old result errors.new }
+    requires { length manner.output.now + 1 ≤ length path.now }
+    ensures { spec.DoesReady (world S.may_do S.folders_do S.Input.DeviceIn S.Output.DeviceOut E.DeviceOut)
+        (job_of job.now) (manner_of manner.entry) (name_of named.now) mode path.now errors.old system.old result
+        errors.new system.new }
 {
-    match cause {
-        NoPart::There => Err(PartThere),
-        NoPart::NotMade => {
-            tell_text(name, b"output cannot be opened", errors);
-            Ok(Fate::Unwritten)
+    let Some(input) = open_file(named.path, system) else {
+        tell_text(named.name, b"input cannot be opened", errors);
+        return Ok(Fate::Unread);
+    };
+    match make_part(manner.part, mode, system) {
+        Ok(output) => Ok(fill_and_name(job, manner, named.name, path, input, output, system, errors)),
+        Err(cause) => {
+            system.release(input);
+            tell_no_part(named.name, cause, errors)
         }
     }
 }
@@ -310,19 +123,12 @@ fn do_free<S: Folders, E: DeviceOut>(
 ) -> Result<Fate, PartThere>
     requires { length manner.output.now + 1 ≤ length path.now }
     ensures { spec.DoesFree (world S.may_do S.folders_do S.Input.DeviceIn S.Output.DeviceOut E.DeviceOut)
-        (spec.manner_of manner.entry) (name_of named.now) mode path.now errors.old system.old result errors.new
+        (manner_of manner.entry) (name_of named.now) mode path.now errors.old system.old result errors.new
         system.new }
 {
-    let Some(input) = open_file(named.path, system) else {
-        tell_text(named.name, b"input cannot be opened", errors);
-        return Ok(Fate::Unread);
-    };
-    match make_part(manner.part, mode, system) {
-        Ok(output) => Ok(fill_and_name(manner, named.name, path, input, output, system, errors)),
-        Err(cause) => {
-            system.release(input);
-            tell_no_part(named.name, cause, errors)
-        }
+    match task_of_file(manner.task, named.path, system) {
+        Ok(job) => do_ready(job.job(), manner, named, mode, path, system, errors),
+        Err(cause) => Ok(tell_no_days(named.name, cause, errors)),
     }
 }
 
@@ -337,7 +143,7 @@ fn do_placed<S: Folders, E: DeviceOut>(
 ) -> Result<Fate, PartThere>
     requires { length manner.output.now + 1 ≤ length path.now }
     ensures { spec.DoesPlaced (world S.may_do S.folders_do S.Input.DeviceIn S.Output.DeviceOut E.DeviceOut)
-        (spec.manner_of manner.entry) (name_of named.now) mode path.now errors.old system.old result errors.new
+        (manner_of manner.entry) (name_of named.now) mode path.now errors.old system.old result errors.new
         system.new }
 {
     let base = manner.output.len() + 1;
@@ -349,6 +155,23 @@ fn do_placed<S: Folders, E: DeviceOut>(
     }
 }
 
+/// Does a regular file of a tree whose output has its name.
+fn do_named<S: Folders, E: DeviceOut>(
+    manner: Manner,
+    named: &Named,
+    mode: u32,
+    system: &mut S,
+    errors: &mut Watched<E>,
+) -> Result<Fate, PartThere>
+    ensures { spec.DoesNamed (world S.may_do S.folders_do S.Input.DeviceIn S.Output.DeviceOut E.DeviceOut)
+        (manner_of manner.entry) (name_of named.now) mode errors.old system.old result errors.new system.new }
+{
+    match path_in(manner.output, named.relative) {
+        Some(path) => do_placed(manner, named, mode, path.as_slice(), system, errors),
+        None => Ok(tell_place(named.name, Place::Taken, manner.continues, errors)),
+    }
+}
+
 /// Does a regular file of a tree.
 fn do_file<S: Folders, E: DeviceOut>(
     manner: Manner,
@@ -356,18 +179,18 @@ fn do_file<S: Folders, E: DeviceOut>(
     mode: u32,
     system: &mut S,
     errors: &mut Watched<E>,
-) -> Result<Fate, PartThere>
+) -> Result<Done, PartThere>
     ensures { spec.DoesFile (world S.may_do S.folders_do S.Input.DeviceIn S.Output.DeviceOut E.DeviceOut)
-        (spec.manner_of manner.entry) (name_of named.now) mode errors.old system.old result errors.new system.new }
+        (manner_of manner.entry) (name_of named.now) mode errors.old system.old result errors.new system.new }
 {
     if is_media_index(named.relative) {
         tell_text(named.name, b"DICOMDIR is left out", errors);
-        return Ok(Fate::MediaIndex);
+        return under_its_name(Ok(Fate::MediaIndex));
     }
-    match path_in(manner.output, named.relative) {
-        Some(path) => do_placed(manner, named, mode, path.as_slice(), system, errors),
-        None => Ok(tell_place(named.name, Place::Taken, manner.continues, errors)),
+    if manner.keeps_names {
+        return under_its_name(do_named(manner, named, mode, system, errors));
     }
+    do_unnamed(manner, named, mode, system, errors)
 }
 
 /// Does a name of a tree that is not entered: a file into its output; of another only a line tells why nothing is done.
@@ -378,15 +201,15 @@ pub fn do_name<S: Folders, E: DeviceOut>(
     what: What,
     system: &mut S,
     errors: &mut Watched<E>,
-) -> Result<Fate, PartThere>
+) -> Result<Done, PartThere>
     ensures { spec.DoesName (world S.may_do S.folders_do S.Input.DeviceIn S.Output.DeviceOut E.DeviceOut)
-        (spec.manner_of manner.entry) (name_of named.now) what errors.old system.old result errors.new system.new }
+        (manner_of manner.entry) (name_of named.now) what errors.old system.old result errors.new system.new }
 {
     match what {
         What::File { mode } => do_file(manner, named, mode, system, errors),
         _ => {
             tell_text(named.name, text_of(what), errors);
-            Ok(fate_of(what))
+            under_its_name(Ok(fate_of(what)))
         }
     }
 }

@@ -2,12 +2,13 @@
 ghost use Rattle.std.specs.Prelude.{◌≡◌, ◌≤◌, ◌+◌, length};
 ghost use Rattle.dcm_cli.specs.Calls as calls;
 ghost use Rattle.dcm_devices.specs.Writing.{Wrote};
-ghost use Rattle.dcm_names.specs.NamedLines.{named_line};
+ghost use Rattle.dcm_names.specs.NamedLines.{fault_line, named_line, unread_line};
 ghost use Rattle.dcm_trees.specs.Lines as spec;
 
 use crate::fate::Fate;
 use crate::place::Place;
-use dcm_base::{DeviceOut, Watched, WriteFailed};
+use crate::task::NoDays;
+use dcm_base::{DeviceOut, Stop, Watched, WriteFailed};
 use dcm_cli::ending::{Ending, Verdict};
 use dcm_editor::MOST_EDITS;
 use dcm_names::{put_fault, put_text, put_unplaced, put_unread};
@@ -66,6 +67,24 @@ fn done_fate(unplaced: u64) -> Fate
     }
 }
 
+/// Tells where a file is at fault, and answers what became of it.
+fn tell_fault<E: DeviceOut>(name: &[u8], stop: Stop, errors: &mut Watched<E>) -> Fate
+    ensures line { calls.Reports E.DeviceOut errors.old errors.new (fault_line name.now stop) }
+    ensures fate { result ≡ Fate.Refused }
+{
+    let _ = put_fault(name, stop, errors);
+    Fate::Refused
+}
+
+/// Tells that the reading of a file failed after so many bytes, and answers what became of it.
+fn tell_unread<E: DeviceOut>(name: &[u8], read: u64, errors: &mut Watched<E>) -> Fate
+    ensures line { calls.Reports E.DeviceOut errors.old errors.new (unread_line name.now read) }
+    ensures fate { result ≡ Fate.Unread }
+{
+    let _ = put_unread(name, read, errors);
+    Fate::Unread
+}
+
 /// Tells what the work on a file came to. Where it was done, its output has no name so far.
 fn tell_verdict<E: DeviceOut>(name: &[u8], verdict: Verdict, errors: &mut Watched<E>) -> Fate
     ensures line { calls.Reports E.DeviceOut errors.old errors.new (spec.verdict_lines name.now verdict) }
@@ -80,10 +99,7 @@ fn tell_verdict<E: DeviceOut>(name: &[u8], verdict: Verdict, errors: &mut Watche
             tell_text(name, b"pixels may show identity", errors);
             Fate::Pixels
         }
-        Verdict::Refused(stop) => {
-            let _ = put_fault(name, stop, errors);
-            Fate::Refused
-        }
+        Verdict::Refused(stop) => tell_fault(name, stop, errors),
         Verdict::RefusedLine(_) => Fate::Refused,
     }
 }
@@ -95,14 +111,26 @@ pub fn tell_ending<E: DeviceOut>(name: &[u8], ending: Ending, errors: &mut Watch
 {
     match ending {
         Ending::Worked(verdict) => tell_verdict(name, verdict, errors),
-        Ending::Unread(read) => {
-            let _ = put_unread(name, read, errors);
-            Fate::Unread
-        }
+        Ending::Unread(read) => tell_unread(name, read, errors),
         Ending::Output => {
             tell_text(name, b"output failed", errors);
             Fate::Unwritten
         }
+    }
+}
+
+/// Tells why there are no days by which the dates of a file are moved, and answers what became of it.
+pub fn tell_no_days<E: DeviceOut>(name: &[u8], cause: NoDays, errors: &mut Watched<E>) -> Fate
+    ensures line { calls.Reports E.DeviceOut errors.old errors.new (spec.no_days_line name.now cause) }
+    ensures fate { result ≡ spec.no_days_fate cause }
+{
+    match cause {
+        NoDays::Unopened => {
+            tell_text(name, b"input cannot be opened", errors);
+            Fate::Unread
+        }
+        NoDays::Unread(read) => tell_unread(name, read, errors),
+        NoDays::Refused(stop) => tell_fault(name, stop, errors),
     }
 }
 

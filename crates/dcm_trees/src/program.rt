@@ -1,47 +1,31 @@
 // Words that ask for a run over a tree, and the exit status.
-ghost use Rattle.std.specs.Prelude.{◌≡◌, ◌≤◌, map, true};
+ghost use Rattle.std.specs.Prelude.{◌≡◌, ◌≤◌, map};
 ghost use Rattle.dcm_cli.specs.Status as statuses;
 ghost use Rattle.dcm_tree_words.specs.Plans.{tree_as};
 ghost use Rattle.dcm_tree_words.specs.Trees as words_spec;
 ghost use Rattle.dcm_trees.specs.Program as spec;
+ghost use Rattle.dcm_trees.specs.Task.{task_of};
 ghost use Rattle.dcm_trees.specs.World.{world};
 
 use crate::run::TreeRun;
+use crate::task::Task;
 use crate::tree::do_tree;
 use dcm_base::{DeviceOut, Watched};
-use dcm_cli::{Usage, tell, tell_unopened};
+use dcm_cli::key::take_key;
+use dcm_cli::{Deidentify, Job, Usage, tell, tell_no_key, tell_unopened};
 use dcm_files::{Folders, System, Unopened, unopened};
-use dcm_tree_words::{TreePlan, asks_tree, tree_plan, words_of_one};
+use dcm_tree_words::{TreePlan, tree_plan, words_of_one};
 use std::alloc::Global;
 
-/// The tool whose runs over trees are not done so far.
-const DCMDEID: &[u8] = b"dcmdeid";
-
-/// Whether words are those of dcmdeid.
-fn is_of_dcmdeid(words: &[&[u8]]) -> bool
-    ensures { result ≡ spec.is_of_dcmdeid (map (λ w. w.now) words.now) }
-{
-    match words {
-        [tool, ..] => *tool == DCMDEID,
-        [] => false,
-    }
-}
-
-/// Whether words ask for a run over a tree: they are those of dcmconv or dcmodify, with a word of such runs.
-pub fn asks_run(words: &[&[u8]]) -> bool
-    ensures { result ≡ spec.asks_run (map (λ w. w.now) words.now) }
-{
-    !is_of_dcmdeid(words) && asks_tree(words)
-}
-
-/// Does the run over a tree that words mean, with its manifest on standard output.
-fn run_plan<S: Folders, E: DeviceOut>(
+/// Does the run over a tree that words mean, each file by this task, with its manifest on standard output.
+fn run_task<S: Folders, E: DeviceOut>(
     plan: &TreePlan,
+    task: Task,
     system: &mut S,
     errors: &mut Watched<E>,
 ) -> u8
-    ensures runs { spec.RunsTree (world S.may_do S.folders_do S.Input.DeviceIn S.Output.DeviceOut E.DeviceOut)
-        (tree_as plan.now) errors.old system.old result errors.new system.new }
+    ensures runs { spec.RunsTask (world S.may_do S.folders_do S.Input.DeviceIn S.Output.DeviceOut E.DeviceOut)
+        (tree_as plan.now) (task_of task.entry) errors.old system.old result errors.new system.new }
     ensures within { result ≤ statuses.MEMORY }
 {
     let output = match system.stdout() {
@@ -49,7 +33,7 @@ fn run_plan<S: Folders, E: DeviceOut>(
         Err(e) => return tell_unopened(unopened(&e, Unopened::Output), errors),
     };
     let run = TreeRun {
-        job: &plan.planned.job,
+        task,
         output: plan.planned.output,
         options: plan.options,
     };
@@ -57,6 +41,69 @@ fn run_plan<S: Folders, E: DeviceOut>(
     let (status, manifest) = do_tree(run, plan.source, manifest, system, errors);
     system.close(manifest.into_device());
     status
+}
+
+/// Does the run over a tree that words mean with a key that was read.
+fn run_keyed<S: Folders, E: DeviceOut>(
+    plan: &TreePlan,
+    what: Deidentify,
+    system: &mut S,
+    errors: &mut Watched<E>,
+) -> u8
+    ensures runs { spec.RunsTask (world S.may_do S.folders_do S.Input.DeviceIn S.Output.DeviceOut E.DeviceOut)
+        (tree_as plan.now) (spec.keyed_task plan.now.planned.days_by_key what.options what.reports what.key.items)
+        errors.old system.old result errors.new system.new }
+    ensures within { result ≤ statuses.MEMORY }
+{
+    if plan.planned.days_by_key {
+        return run_task(plan, Task::ByDays(&what), system, errors);
+    }
+    let job = Job::Deidentify(what);
+    run_task(plan, Task::Same(&job), system, errors)
+}
+
+/// Reads the key of a run over a tree, where there is one, and does the run.
+fn run_deidentify<S: Folders, E: DeviceOut>(
+    plan: &TreePlan,
+    what: &Deidentify,
+    system: &mut S,
+    errors: &mut Watched<E>,
+) -> u8
+    requires { plan.now.planned.job ≡ Job.Deidentify what.now }
+    ensures runs { spec.Deidentifies (world S.may_do S.folders_do S.Input.DeviceIn S.Output.DeviceOut E.DeviceOut)
+        (tree_as plan.now) what.now.options what.now.reports errors.old system.old result errors.new system.new }
+    ensures within { result ≤ statuses.MEMORY }
+{
+    let Some(path) = plan.planned.key else {
+        return run_task(plan, Task::Same(&plan.planned.job), system, errors);
+    };
+    match take_key(system, path) {
+        Ok(read) => {
+            let keyed = Deidentify {
+                options: what.options,
+                reports: what.reports,
+                key: read.bytes,
+            };
+            run_keyed(plan, keyed, system, errors)
+        }
+        Err(cause) => tell_no_key(cause, errors),
+    }
+}
+
+/// Does the run over a tree that words mean.
+fn run_plan<S: Folders, E: DeviceOut>(
+    plan: &TreePlan,
+    system: &mut S,
+    errors: &mut Watched<E>,
+) -> u8
+    ensures runs { spec.RunsAs (world S.may_do S.folders_do S.Input.DeviceIn S.Output.DeviceOut E.DeviceOut)
+        (tree_as plan.now) (tree_as plan.now).plan.job errors.old system.old result errors.new system.new }
+    ensures within { result ≤ statuses.MEMORY }
+{
+    match &plan.planned.job {
+        Job::Deidentify(what) => run_deidentify(plan, what, system, errors),
+        _ => run_task(plan, Task::Same(&plan.planned.job), system, errors),
+    }
 }
 
 /// Does the run over a tree that words ask for, or reports why they are refused. Those that mean the job of one file are
@@ -79,15 +126,13 @@ fn obey_one<S: Folders, E: DeviceOut>(
     }
 }
 
-/// Does the run over a tree that words ask for, or reports why they are refused. It answers the status. Words of dcmdeid
-/// are not for it: it keeps names, which say who it is.
+/// Does the run over a tree that words ask for, or reports why they are refused. It answers the status.
 pub fn obey_tree<S: Folders, E: DeviceOut>(
     system: &mut S,
     alloc: Global,
     words: &[&[u8]],
     errors: &mut Watched<E>,
 ) -> u8
-    requires { spec.asks_run (map (λ w. w.now) words.now) ≡ true }
     ensures obeys { spec.ObeysTree (world S.may_do S.folders_do S.Input.DeviceIn S.Output.DeviceOut E.DeviceOut)
         (map (λ w. w.now) words.now) errors.old system.old result errors.new system.new }
     ensures within { result ≤ statuses.MEMORY }

@@ -10,9 +10,9 @@ use crate::file::Manner;
 use crate::progress::{Shared, Stop, Work};
 use crate::row::put_header;
 use crate::tally::{Tally, put_counts};
+use crate::task::Task;
 use arrayvec::ArrayVec;
 use dcm_base::{DeviceOut, Watched, WriteFailed, flush_out};
-use dcm_cli::Job;
 use dcm_cli::status::{DEVICE, DONE};
 use dcm_names::{put_at_once, put_text, put_unread};
 use dcm_tree_words::TreeOptions;
@@ -119,7 +119,7 @@ fn tell_counts<E: DeviceOut>(shows: bool, tally: Tally, errors: &mut Watched<E>)
 #[derive(Clone, Copy)]
 pub struct TreeRun<'a> {
     /// What is done with each file.
-    pub job: &'a Job,
+    pub task: Task<'a>,
     /// The folder of the outputs.
     pub output: &'a [u8],
     pub options: TreeOptions,
@@ -131,10 +131,11 @@ pub(crate) fn shared_of<'a>(run: TreeRun<'a>, part: &'a [u8]) -> Shared<'a>
 {
     Shared {
         manner: Manner {
-            job: run.job,
+            task: run.task,
             output: run.output,
             part,
             continues: run.options.continues,
+            keeps_names: run.options.keeps_names,
         },
         part: run.options.part,
         shows_counts: run.options.counts,

@@ -6,6 +6,7 @@ ghost use Rattle.dcm_tree_words.specs.Plans.{source_as};
 ghost use Rattle.dcm_trees.specs.World.{world};
 
 use crate::beginning::{Begun, Refusal, begin};
+use crate::place::path_in;
 use crate::progress::Work;
 use crate::run::{
     TreeRun, end_run, end_unwritten, part_name, put_first_row, shared_of, tell_refusal,
@@ -21,10 +22,9 @@ use std::str;
 /// The path of the current folder, in which the names of a list are.
 const CURRENT: &[u8] = b".";
 
-/// Opens the folder whose files are done.
-fn open_tree<S: Folders>(path: &[u8], system: &mut S) -> Option<S::Folder>
-    requires { length path.now ≤ 4095 }
-    ensures { spec.OpensTree S.folders_do path.now system.old result system.new }
+/// Opens a folder.
+fn open_at<S: Folders>(path: &[u8], system: &mut S) -> Option<S::Folder>
+    ensures { spec.OpensFolder S.folders_do path.now system.old result system.new }
 {
     let Ok(text) = str::from_utf8(path) else {
         return None;
@@ -32,6 +32,17 @@ fn open_tree<S: Folders>(path: &[u8], system: &mut S) -> Option<S::Folder>
     match system.open_folder(text) {
         Ok(folder) => Some(folder),
         Err(_) => None,
+    }
+}
+
+/// Opens the folder whose files are done. It may be a link to one: the system opens none by the name of a link, and so the
+/// name that the folder has for itself stands behind it, where there is room.
+fn open_tree<S: Folders>(path: &[u8], system: &mut S) -> Option<S::Folder>
+    ensures { spec.OpensTree S.folders_do path.now system.old result system.new }
+{
+    match path_in(path, CURRENT) {
+        Some(followed) => open_at(followed.as_slice(), system),
+        None => open_at(path, system),
     }
 }
 

@@ -6,7 +6,8 @@ ghost use Rattle.dcm_trees.specs.Work as spec;
 ghost use Rattle.dcm_trees.specs.World.{world};
 
 use crate::fate::Fate;
-use crate::file::{PartThere, do_name};
+use crate::file::{Done, InstanceName, do_name};
+use crate::part::PartThere;
 use crate::progress::{Shared, Stop, Work};
 use crate::row::put_row;
 use crate::share::is_of;
@@ -16,12 +17,22 @@ use dcm_cli::status::DONE;
 use dcm_files::Folders;
 use dcm_walk::{Named, Stopped, Visitor, What};
 
-/// The name of the output of a file, where one is there.
-fn output_of<'a>(named: &Named<'a>, fate: Fate) -> Option<&'a [u8]>
-    ensures { option_map (λ o. o.now) result ≡ spec.output_of (name_of named.now) fate }
+/// The name of an output: that of its input, or of the instance in it.
+fn name_in<'a>(relative: &'a [u8], instance: &'a Option<InstanceName>) -> &'a [u8]
+    ensures { result.now ≡ spec.name_in relative.now instance.now }
 {
-    if fate.has_output() {
-        Some(named.relative)
+    match instance {
+        Some(instance) => instance.as_slice(),
+        None => relative,
+    }
+}
+
+/// The name of the output of a file, where one is there.
+fn output_of<'a>(named: &Named<'a>, done: &'a Done) -> Option<&'a [u8]>
+    ensures { option_map (λ o. o.now) result ≡ spec.output_of (name_of named.now) done.now }
+{
+    if done.fate.has_output() {
+        Some(name_in(named.relative, &done.instance))
     } else {
         None
     }
@@ -79,14 +90,15 @@ impl<'a, W: DeviceOut> Work<'a, W> {
     fn end_name<E: DeviceOut>(
         &mut self,
         named: &Named,
-        fate: Fate,
+        done: &Done,
         errors: &mut Watched<E>,
     ) -> Result<(), Stopped>
-        ensures ends { spec.EndsName W.DeviceOut E.DeviceOut self.old.shared.shows_counts (name_of named.now) fate
+        ensures ends { spec.EndsName W.DeviceOut E.DeviceOut self.old.shared.shows_counts (name_of named.now) done.now
             (spec.progress self.old) errors.old result (spec.progress self.new) errors.new }
         ensures shared { self.new.shared ≡ self.old.shared }
     {
-        let output = output_of(named, fate);
+        let fate = done.fate;
+        let output = output_of(named, done);
         match put_whole_row(named.name, output, fate.word(), &mut self.manifest) {
             Ok(()) => {
                 self.count(fate);
@@ -117,7 +129,7 @@ impl<'a, S: Folders, W: DeviceOut, E: DeviceOut> Visitor<S, Watched<E>> for Work
             return Ok(());
         }
         match do_name(self.shared.manner, &named, what, system, errors) {
-            Ok(fate) => self.end_name(&named, fate, errors),
+            Ok(done) => self.end_name(&named, &done, errors),
             Err(PartThere) => {
                 self.stop = Some(Stop::PartThere);
                 Err(Stopped)

@@ -9,12 +9,12 @@ pub returns-then-asks_dumps-clause-obeys : goal.returns-then-asks_dumps-clause-o
 returns-then-asks_dumps-clause-obeys g c =
     of_dumps (sym c.asks_table.ensures ∙ c.if-asks_table.false) (sym c.asks_dumps.ensures ∙ c.if-asks_dumps.true) c.obey_dumps.ensures.obeys
 
-pub returns-then-asks_run-clause-obeys : goal.returns-then-asks_run-clause-obeys
-returns-then-asks_run-clause-obeys g c =
-    of_tree (sym c.asks_table.ensures ∙ c.if-asks_table.false) (sym c.asks_dumps.ensures ∙ c.if-asks_dumps.false) (sym c.asks_run.ensures ∙ c.if-asks_run.true)
+pub returns-then-asks_tree-clause-obeys : goal.returns-then-asks_tree-clause-obeys
+returns-then-asks_tree-clause-obeys g c =
+    of_tree (sym c.asks_table.ensures ∙ c.if-asks_table.false) (sym c.asks_dumps.ensures ∙ c.if-asks_dumps.false) (sym c.asks_tree.ensures ∙ c.if-asks_tree.true)
     c.obey_tree.ensures.obeys
 
 pub returns-clause-obeys : goal.returns-clause-obeys
 returns-clause-obeys g c =
-    of_others (sym c.asks_table.ensures ∙ c.if-asks_table.false) (sym c.asks_dumps.ensures ∙ c.if-asks_dumps.false) (sym c.asks_run.ensures ∙ c.if-asks_run.false)
+    of_others (sym c.asks_table.ensures ∙ c.if-asks_table.false) (sym c.asks_dumps.ensures ∙ c.if-asks_dumps.false) (sym c.asks_tree.ensures ∙ c.if-asks_tree.false)
     c.obey.ensures.obeys

@@ -1,12 +1,10 @@
-use Rattle.std.proofs.Common.{refl}
 use Rattle.dcm_trees.specs.File as spec
+use Rattle.dcm_trees.specs.Task.{job_of_file}
+use Rattle.dcm_trees.proofs.Jobs.{ready_by}
 use Rattle.dcm_trees.proofs.file.do_free.Goals as goal
 
-pub returns-in_default : goal.returns-in_default
-returns-in_default g c = spec.not_opened c.in_default.ensures c.tell_text.ensures refl
-
 pub returns-in-Ok : goal.returns-in-Ok
-returns-in-Ok g c = spec.filled c.in-Some.input c.in-Ok.output c.fill_and_name.result c.open_file.new.system c.make_part.new.system c.in-Some.ensures c.in-Ok.ensures c.fill_and_name.ensures refl
+returns-in-Ok g c = spec.has_job (job_of_file c.in-Ok.job) c.task_of_file.new.system c.in-Ok.ensures (ready_by _ _ c.job.ensures c.do_ready.ensures)
 
 pub returns-in-Err : goal.returns-in-Err
-returns-in-Err g c = spec.no_part c.in-Some.input c.in-Err.cause c.open_file.new.system c.make_part.new.system c.in-Some.ensures c.in-Err.ensures c.release.ensures c.tell_no_part.ensures
+returns-in-Err g c = spec.no_days c.in-Err.cause c.in-Err.ensures c.tell_no_days.ensures.line c.tell_no_days.ensures.fate

@@ -1,0 +1,53 @@
+-- What is done with a file by another form of its job, of its path or of its fate.
+use Rattle.std.proofs.Common.{◌≡◌, subst, ℕ, List, Bool, Result}
+use Rattle.dcm_cli.specs.First.{ReadsFirst}
+use Rattle.dcm_cli.specs.InputCalls.{Reader}
+use Rattle.dcm_cli.specs.declared.first.FirstEnd.{FirstEnd}
+use Rattle.dcm_instance.specs.ReadInstance.{ReadsInstance}
+use Rattle.dcm_instance.specs.Same.{Compares}
+use Rattle.dcm_instance.specs.Uids.{Uids}
+use Rattle.dcm_instance.specs.declared.names.NoInstance.{NoInstance}
+use Rattle.dcm_walk.specs.Visits.{Named}
+use Rattle.dcm_words.specs.Words.{Job}
+use Rattle.dcm_trees.specs.declared.fate.Fate.{Fate}
+use Rattle.dcm_trees.specs.declared.file.Done.{Done}
+use Rattle.dcm_trees.specs.declared.part.PartThere.{PartThere}
+use Rattle.dcm_trees.specs.File.{DoesReady}
+use Rattle.dcm_trees.specs.Instance.{DoesByInstance, PlacesPart, NamesPart}
+use Rattle.dcm_trees.specs.Manner.{Manner}
+use Rattle.dcm_trees.specs.World.{World}
+
+pub ready_by : {S I O F E : Type 0} {w : World S I O F E} {m : Manner} {n : Named} {mode : ℕ} {path : List ℕ} {from : E} {before : S} {r : Result Fate PartThere} {to : E} {after : S} (job other : Job)
+    → job ≡ other → DoesReady w job m n mode path from before r to after → DoesReady w other m n mode path from before r to after
+ready_by {S} {I} {O} {F} {E} {w} {m} {n} {mode} {path} {from} {before} {r} {to} {after} job other is does =
+    subst (λ (j : Job). DoesReady w j m n mode path from before r to after) is does
+
+pub instance_by : {S I O F E : Type 0} {w : World S I O F E} {m : Manner} {n : Named} {mode : ℕ} {from : E} {before : S} {r : Result Done PartThere} {to : E} {after : S} (job other : Job)
+    → job ≡ other → DoesByInstance w job m n mode from before r to after → DoesByInstance w other m n mode from before r to after
+instance_by {S} {I} {O} {F} {E} {w} {m} {n} {mode} {from} {before} {r} {to} {after} job other is does =
+    subst (λ (j : Job). DoesByInstance w j m n mode from before r to after) is does
+
+pub places_at : {S I O F E : Type 0} {w : World S I O F E} {m : Manner} {name : List ℕ} {fate : Fate} {from : E} {before : S} {became : Fate} {to : E} {after : S} (path other : List ℕ)
+    → path ≡ other → PlacesPart w m name path fate from before became to after → PlacesPart w m name other fate from before became to after
+places_at {S} {I} {O} {F} {E} {w} {m} {name} {fate} {from} {before} {became} {to} {after} path other is places =
+    subst (λ (p : List ℕ). PlacesPart w m name p fate from before became to after) is places
+
+pub names_with : {S I O F E : Type 0} {w : World S I O F E} {m : Manner} {name : List ℕ} {from : E} {before : S} {done : Done} {to : E} {after : S} (fate other : Fate)
+    → fate ≡ other → NamesPart w m name fate from before done to after → NamesPart w m name other from before done to after
+names_with {S} {I} {O} {F} {E} {w} {m} {name} {from} {before} {done} {to} {after} fate other is names =
+    subst (λ (f : Fate). NamesPart w m name f from before done to after) is names
+
+-- ---- readers by other forms of them
+
+pub first_of : {R : Type 0} {r : Reader R} {left : R} {key : List ℕ} {end : FirstEnd} (input device : R)
+    → input ≡ device → ReadsFirst r input left key end → ReadsFirst r device left key end
+first_of {R} {r} {left} {key} {end} input device is reads = subst (λ (i : R). ReadsFirst r i left key end) is reads
+
+pub instance_of : {R : Type 0} {r : Reader R} {left : R} {answer : Result Uids NoInstance} (input device : R)
+    → input ≡ device → ReadsInstance r input left answer → ReadsInstance r device left answer
+instance_of {R} {r} {left} {answer} input device is reads = subst (λ (i : R). ReadsInstance r i left answer) is reads
+
+pub compares_of : {A B : Type 0} {a : Reader A} {b : Reader B} {first_left : A} {second_left : B} {same : Bool} (first one : A) (second other : B)
+    → first ≡ one → second ≡ other → Compares a b first first_left second second_left same → Compares a b one first_left other second_left same
+compares_of {A} {B} {a} {b} {first_left} {second_left} {same} first one second other is are compares =
+    subst (λ (x : A). Compares a b x first_left other second_left same) is (subst (λ (y : B). Compares a b first first_left y second_left same) are compares)

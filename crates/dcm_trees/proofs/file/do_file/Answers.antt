@@ -1,7 +1,0 @@
-use Rattle.std.proofs.Common.{sym, ◌∙◌}
-use Rattle.dcm_trees.proofs.Rows.{placed_at}
-use Rattle.dcm_trees.specs.File as spec
-use Rattle.dcm_trees.proofs.file.do_file.Goals as goal
-
-pub returns-in-Some : goal.returns-in-Some
-returns-in-Some g c = spec.placed c.in-Some.path.items (sym c.is_media_index.ensures ∙ c.if-is_media_index.false) (sym c.in-Some.ensures) (placed_at _ _ c.as_slice.ensures.value c.do_placed.ensures)

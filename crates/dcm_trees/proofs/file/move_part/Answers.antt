@@ -1,6 +1,0 @@
-use Rattle.std.proofs.Common.{refl}
-use Rattle.dcm_trees.specs.File as spec
-use Rattle.dcm_trees.proofs.file.move_part.Goals as goal
-
-pub returns-in-Err : goal.returns-in-Err
-returns-in-Err g c = spec.not_moved c.in-Err.field-0 c.in-Err.ensures refl

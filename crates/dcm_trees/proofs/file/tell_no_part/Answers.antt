@@ -1,9 +1,0 @@
-use Rattle.std.proofs.Common.{refl}
-use Rattle.dcm_trees.specs.File as spec
-use Rattle.dcm_trees.proofs.file.tell_no_part.Goals as goal
-
-pub returns-in-There : goal.returns-in-There
-returns-in-There g c = spec.of_another _ c.in-There.is refl refl
-
-pub returns-in-NotMade : goal.returns-in-NotMade
-returns-in-NotMade g c = spec.told c.in-NotMade.is c.tell_text.ensures refl
