@@ -197,8 +197,8 @@ pub fn obey<S: Folders, E: DeviceOut>(
     ensures within { result ≤ statuses.MEMORY }
     ensures obeys { spec.ObeysAny S.may_do S.Input.DeviceIn S.Output.DeviceOut
         (λ words before status after.
-            ObeysTree (world S.may_do S.folders_do S.Input.DeviceIn S.Output.DeviceOut E.DeviceOut) words errors.old
-            before status errors.new after)
+        ObeysTree (world S.may_do S.folders_do S.Input.DeviceIn S.Output.DeviceOut E.DeviceOut) words errors.old
+        before status errors.new after)
         (map (λ w. w.now) words.now) (change_of E.DeviceOut errors.old errors.new) system.old result system.new }
 {
     if asks_table(words) {
@@ -214,15 +214,11 @@ pub fn obey<S: Folders, E: DeviceOut>(
 }
 
 /// Does what the words of the command line say, with the devices that they name, and answers the exit status.
-pub fn start<S: Folders, E: DeviceOut>(
-    system: &mut S,
-    alloc: Global,
-    errors: &mut Watched<E>,
-) -> u8
+pub fn start<S: Folders, E: DeviceOut>(system: &mut S, alloc: Global, errors: &mut Watched<E>) -> u8
     ensures starts { spec.Starts S.may_do S.Input.DeviceIn S.Output.DeviceOut
         (λ words before status after.
-            ObeysTree (world S.may_do S.folders_do S.Input.DeviceIn S.Output.DeviceOut E.DeviceOut) words errors.old
-            before status errors.new after)
+        ObeysTree (world S.may_do S.folders_do S.Input.DeviceIn S.Output.DeviceOut E.DeviceOut) words errors.old
+        before status errors.new after)
         (change_of E.DeviceOut errors.old errors.new) system.old result system.new }
     ensures within { result ≤ statuses.MEMORY }
 {
@@ -253,9 +249,9 @@ pub fn dcmtools(rt: HostRuntime) -> Ended
     ensures ends { over_std.ProgramEnds (λ host. host.calls.made) ⟦<Host as System>⟧.may_do
         (over_std.std_reader ⟦<Either<Stdin, File> as Read>⟧.remaining) over_std.std_writer
         (λ from to words before status after.
-            ObeysTree (world ⟦<Host as System>⟧.may_do ⟦<Host as Folders>⟧.folders_do
-                (over_std.std_reader ⟦<Either<Stdin, File> as Read>⟧.remaining) over_std.std_writer over_std.std_writer)
-            words from before status to after)
+        ObeysTree (world ⟦<Host as System>⟧.may_do ⟦<Host as Folders>⟧.folders_do
+        (over_std.std_reader ⟦<Either<Stdin, File> as Read>⟧.remaining) over_std.std_writer over_std.std_writer)
+        words from before status to after)
         result.host result.errors result.status }
     ensures within { result.status ≤ statuses.MEMORY }
 {
