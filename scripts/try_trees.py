@@ -1,5 +1,5 @@
 #!/usr/bin/env python3
-"""Tries runs over trees of files, `+r` of dcmconv and dcmodify, on folders in a temporary directory.
+"""Tries runs over trees of files, `+r` of dcmconv, dcmodify and dcmdeid, on folders in a temporary directory.
 
     scripts/try_trees.py [BINARY] [--only TEXT] [--rounds N] [--kills N] [--long] [--faults] [--jobs N]
 
@@ -27,6 +27,7 @@ import random
 import re
 import shutil
 import stat
+import struct
 import subprocess
 import sys
 import tempfile
@@ -243,8 +244,25 @@ CUT_OFF = b": another run is at work, or was cut off"
 UNOPENED, OUTPUT_UNOPENED = b"input cannot be opened", b"output cannot be opened"
 
 
+def element(group, number, value):
+    """In implicit VR, its value padded."""
+    value += b"\0" * (len(value) % 2)
+    return struct.pack("<HHI", group, number, len(value)) + value
+
+
+def instance(study, series, uid, *, patient=b"7 ", pixels=b"NO"):
+    """A file of an instance; an identifier that is None is missing."""
+    elements = [(8, 0x18, uid), (0x10, 0x20, patient), (0x20, 0xD, study), (0x20, 0xE, series), (0x28, 0x301, pixels + b" " * (len(pixels) % 2))]
+    return IMPLICIT_GROUP + b"".join(element(*of) for of in elements if of[2] is not None)
+
+
 def written(*names, word=b"written"):
     return [(name, name, word) for name in names]
+
+
+def by_identifiers(*pairs):
+    """Rows of files and the names that their identifiers give."""
+    return [(name, output, b"written") for name, output in pairs]
 
 
 def not_done(word, *names):
@@ -271,6 +289,16 @@ FAR = (b"x" * 200 + b"/") * 20
 PARTS = (b".part.1", b".part.x", b".PART.1")
 IN_THE_WAY = (b"a", b"b/c", b"d/e", b"f")
 EDITS = "dcmodify -m PatientID=7 -ea PatientName -m Rows=2"
+
+# instances, and those that have no fit identifier
+INSTANCE, SECOND = instance(b"1.2", b"1.3", b"1.4"), instance(b"1.2", b"1.5", b"1.6\0\0")
+FIRST_NAME, SECOND_NAME, LONG_NAME = b"1.2/1.3/1.4.dcm", b"1.2/1.5/1.6.dcm", b"1" * 64 + b"/2/....dcm"
+UNFIT_INSTANCES = {
+    b"in/none": instance(None, None, b"1.4"), b"in/up": instance(b"..", b"1.3", b"1.4"), b"in/here": instance(b"1.2", b".", b"1.4"),
+    b"in/text": instance(b"1.2", b"1.3", b"1.x4"), b"in/long": instance(b"1.2", b"1.3", b"1" * 65), b"in/series": instance(b"1.2", b" ", None),
+    b"in/uid": instance(b"1.2", b"1.3", b"1.4\0\0.")}
+KEY = bytes(range(32))
+NOBODY_NAMED = b"R17 at byte %d: no usable PatientID" % (len(IMPLICIT_GROUP) + len(element(8, 0x18, b"1.4")))
 
 # names and the parts that they are of: FNV-1a of a, x/b is e40c292c, dbcc90ee (part 1 of 2), of b, l e70c2de5, e90c310b (part 2)
 HALVES = {b"in/a": NAME, b"in/b": CUT, b"in/x/b": NAME, b"in/l": Link(b"a")}
@@ -374,9 +402,34 @@ CASES = [
     Case("+v of a hundred", copies(b"%d" % n for n in range(100)), "dcmconv +r +v in out", written(*(b"%d" % n for n in range(100))),
          counts=b"100 files, 100 written, 0 there, 0 not done\r100 files, 100 written, 0 there, 0 not done\n", after=copies((b"%d" % n for n in range(100)), CONVERTED, b"out/")),
     no_rows("standard output is full", {}, "dcmconv +r in out", b"output failed", is_full=True, after={b"out": None}),
+    # names by the identifiers that dcmdeid writes
+    Case("identifiers", {b"in/Doe/1": INSTANCE, b"in/Doe/2": (SECOND, 0o600)}, "dcmdeid +ru +r in out", by_identifiers((b"Doe/1", FIRST_NAME), (b"Doe/2", SECOND_NAME)),
+         after={b"out/" + FIRST_NAME: Alone("dcmdeid +ru", INSTANCE), b"out/" + SECOND_NAME: Alone("dcmdeid +ru", SECOND, 0o600)}),
+    Case("+kn", {b"in/Doe/1": INSTANCE, b"in/t": TEXT}, "dcmdeid +kn +ru +r in out", written(b"Doe/1") + not_done(b"refused", b"t"), (b"t: " + NO_PREFIX,), 2,
+         {b"out/Doe/1": Alone("dcmdeid +ru", INSTANCE)}),
+    Case("no fit identifiers", UNFIT_INSTANCES, "dcmdeid +ru +r in out", not_done(b"unnamed", b"none", b"up", b"here", b"text", b"long", b"series", b"uid"),
+         (*told(b"StudyInstanceUID is missing or unfit", b"none", b"up"), *told(b"SeriesInstanceUID is missing or unfit", b"here", b"series"),
+          *told(b"SOPInstanceUID is missing or unfit", b"text", b"long", b"uid")), 2, {b"out": None}),
+    Case("64 digits and padding", {b"in/a": instance(b"1" * 64, b"2" + b"\0 " * 300, b"...")}, "dcmdeid +ru +r in out", by_identifiers((b"a", LONG_NAME)),
+         after={b"out/" + LONG_NAME: Alone("dcmdeid +ru", instance(b"1" * 64, b"2" + b"\0 " * 300, b"..."))}),
+    Case("a copy is there", {b"in/a": INSTANCE, b"out/" + FIRST_NAME: Alone("dcmdeid +ru", INSTANCE)}, "dcmdeid +ru +c +r in out", [(b"a", FIRST_NAME, b"there")]),
+    Case("another file is there", {b"in/a": INSTANCE, b"out/" + FIRST_NAME: b"old"}, "dcmdeid +ru +c +r in out", [(b"a", FIRST_NAME, b"there")], (b"a: output is there already",), 4),
+    Case("a longer file is there", {b"in/a": INSTANCE, b"out/" + FIRST_NAME: Alone("dcmdeid +ru", instance(b"1.2", b"1.3", b"1.4", patient=b""))}, "dcmdeid +ru +rp +c +r in out",
+         [(b"a", FIRST_NAME, b"there")], (b"a: output is there already",), 4),
+    Case("something else is there", {b"in/a": INSTANCE, b"out/1.2": b"old"}, "dcmdeid +ru +c +r in out", not_done(b"unwritten", b"a"), (b"a: " + OUTPUT_UNOPENED,), 4),
+    Case("pixels", {b"in/a": instance(b"1.2", b"1.3", b"1.4", pixels=b"YES")}, "dcmdeid +ru +r in out", not_done(b"pixels", b"a"), (b"a: pixels may show identity",), 3, {b"out": None}),
+    Case("+rm key", {b"key": KEY, b"in/-": instance(b"1.2", b"1.3", b"1.4", patient=b""), b"in/a": INSTANCE, b"in/t": TEXT}, "dcmdeid +k key +ru +rm key +r in out",
+         by_identifiers((b"a", FIRST_NAME)) + not_done(b"refused", b"-", b"t"), (b"-: " + NOBODY_NAMED, b"t: " + NO_PREFIX), 2,
+         {b"out/" + FIRST_NAME: Alone("dcmdeid +ru +rm -1", INSTANCE)}),
+    Case("a list with a name that is no standard stream", {b"key": KEY, b"-": INSTANCE}, "dcmdeid +k key +ru +rm key +r @- out", by_identifiers((b"-", FIRST_NAME)), stdin=b"-\n",
+         after={b"out/" + FIRST_NAME: Alone("dcmdeid +ru +rm -1", INSTANCE)}),
+    no_rows("a key that is missing", {}, "dcmdeid +k gone +r in out", b"key cannot be opened"),
+    no_rows("a short key", {b"key": b"short"}, "dcmdeid +k key +r in out", b"V7: key is not 16 to 4096 bytes", 1),
     # words
     *(no_rows(f"words: {words}", {}, words, text, 1) for words, text in (
         ("dcmconv +r +kn in out", b"V2 at word 3: unknown option"),
+        ("dcmdeid +pi +r in out", b"V10: a key is needed"),
+        ("dcmdeid +kn in out", b"V5: options do not go together"),
         ("dcmconv +r +u8 in out", b"V2 at word 3: unknown option"),
         ("dcmconv in +r +part 0/1 out", b"V3 at word 4: bad option value"),
         ("dcmconv +r in out +part", b"V3 at word 5: bad option value"),
