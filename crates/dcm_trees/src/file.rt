@@ -104,7 +104,9 @@ fn do_ready<S: Folders, E: DeviceOut>(
         return Ok(Fate::Unread);
     };
     match make_part(manner.part, mode, system) {
-        Ok(output) => Ok(fill_and_name(job, manner, named.name, path, input, output, system, errors)),
+        Ok(output) => Ok(fill_and_name(
+            job, manner, named.name, path, input, output, system, errors,
+        )),
         Err(cause) => {
             system.release(input);
             tell_no_part(named.name, cause, errors)

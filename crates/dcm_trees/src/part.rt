@@ -70,7 +70,11 @@ pub(crate) fn open_file<S: System>(path: &[u8], system: &mut S) -> Option<S::Inp
 }
 
 /// Makes the part, with bits of a mode.
-pub(crate) fn make_part<S: Folders>(part: &[u8], mode: u32, system: &mut S) -> Result<S::Output, NoPart>
+pub(crate) fn make_part<S: Folders>(
+    part: &[u8],
+    mode: u32,
+    system: &mut S,
+) -> Result<S::Output, NoPart>
     ensures { spec.MakesPart S.folders_do part.now mode system.old result system.new }
 {
     let Ok(text) = str::from_utf8(part) else {
@@ -94,7 +98,12 @@ pub(crate) fn remove_part<S: System>(part: &[u8], system: &mut S)
 }
 
 /// Does a job from a file into the part, and gives both back.
-pub(crate) fn fill<S: System>(job: &Job, input: S::Input, output: S::Output, system: &mut S) -> Ending
+pub(crate) fn fill<S: System>(
+    job: &Job,
+    input: S::Input,
+    output: S::Output,
+    system: &mut S,
+) -> Ending
     ensures { spec.Fills S.may_do S.Input.DeviceIn S.Output.DeviceOut (job_of job.now) input output system.old result
         system.new }
 {
