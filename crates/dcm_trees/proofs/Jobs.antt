@@ -1,5 +1,5 @@
 -- What is done with a file by another form of its job, of its path or of its fate.
-use Rattle.std.proofs.Common.{◌≡◌, subst, ℕ, List, Bool, Result}
+use Rattle.std.proofs.Common.{◌≡◌, refl, subst, sym, ℕ, List, Bool, Result}
 use Rattle.dcm_cli.specs.First.{ReadsFirst}
 use Rattle.dcm_cli.specs.InputCalls.{Reader}
 use Rattle.dcm_cli.specs.declared.first.FirstEnd.{FirstEnd}
@@ -8,13 +8,20 @@ use Rattle.dcm_instance.specs.Same.{Compares}
 use Rattle.dcm_instance.specs.Uids.{Uids}
 use Rattle.dcm_instance.specs.declared.names.NoInstance.{NoInstance}
 use Rattle.dcm_walk.specs.Visits.{Named}
+use Rattle.dcm_words.specs.Plans.{job_of}
 use Rattle.dcm_words.specs.Words.{Job}
+use Rattle.dcm_words.specs.declared.job.Deidentify.{Deidentify}
+use Rattle.dcm_words.specs.declared.job.Job.{Job as AnyJob}
+use Rattle.dcm_words.specs.declared.job.Job.TheVariants as jobs
 use Rattle.dcm_trees.specs.declared.fate.Fate.{Fate}
 use Rattle.dcm_trees.specs.declared.file.Done.{Done}
 use Rattle.dcm_trees.specs.declared.part.PartThere.{PartThere}
 use Rattle.dcm_trees.specs.File.{DoesReady}
 use Rattle.dcm_trees.specs.Instance.{DoesByInstance, PlacesPart, NamesPart}
 use Rattle.dcm_trees.specs.Manner.{Manner}
+use Rattle.dcm_tree_words.specs.Trees.{Tree}
+use Rattle.dcm_trees.specs.Program.{Deidentifies, RunsAs, RunsTask}
+use Rattle.dcm_trees.specs.Task.{Task, same}
 use Rattle.dcm_trees.specs.World.{World}
 
 pub ready_by : {S I O F E : Type 0} {w : World S I O F E} {m : Manner} {n : Named} {mode : ℕ} {path : List ℕ} {from : E} {before : S} {r : Result Fate PartThere} {to : E} {after : S} (job other : Job)
@@ -36,6 +43,25 @@ pub names_with : {S I O F E : Type 0} {w : World S I O F E} {m : Manner} {name :
     → fate ≡ other → NamesPart w m name fate from before done to after → NamesPart w m name other from before done to after
 names_with {S} {I} {O} {F} {E} {w} {m} {name} {from} {before} {done} {to} {after} fate other is names =
     subst (λ (f : Fate). NamesPart w m name f from before done to after) is names
+
+pub task_by : {S I O F E : Type 0} {w : World S I O F E} {t : Tree} {from : E} {before : S} {status : ℕ} {to : E} {after : S} (task other : Task)
+    → task ≡ other → RunsTask w t task from before status to after → RunsTask w t other from before status to after
+task_by {S} {I} {O} {F} {E} {w} {t} {from} {before} {status} {to} {after} task other is runs =
+    subst (λ (k : Task). RunsTask w t k from before status to after) is runs
+
+-- what is done where the job is not the taking out of identity, and where it is
+pub other_run : {A S I O F E : Type 0} {w : World S I O F E} {t : Tree} {from : E} {before : S} {status : ℕ} {to : E} {after : S} (j : AnyJob A) → ((d : Deidentify) → j ≡ jobs.Deidentify d → ⊥)
+    → RunsTask w t (same t.plan.job) from before status to after → RunsAs w t (job_of j) from before status to after
+other_run (jobs.Dump d) other runs = runs
+other_run (jobs.Convert d) other runs = runs
+other_run (jobs.Build d) other runs = runs
+other_run (jobs.Modify d) other runs = runs
+other_run (jobs.Deidentify d) other runs = absurd (other d refl)
+
+pub identity_run : {A S I O F E : Type 0} {w : World S I O F E} {t : Tree} {from : E} {before : S} {status : ℕ} {to : E} {after : S} (j : AnyJob A) (d : Deidentify) → j ≡ jobs.Deidentify d
+    → Deidentifies w t d.options d.reports from before status to after → RunsAs w t (job_of j) from before status to after
+identity_run {A} {S} {I} {O} {F} {E} {w} {t} {from} {before} {status} {to} {after} j d is runs =
+    subst (λ (x : AnyJob A). RunsAs w t (job_of x) from before status to after) (sym is) runs
 
 -- ---- readers by other forms of them
 

@@ -1,5 +1,6 @@
 -- A file whose output is named by the unique identifiers in it.
 use Rattle.std.specs.Prelude.{◌≡◌, ℕ, ◌+◌, length, List, codes, Bool, true, false, Some, None, Result, Ok, Err}
+use Rattle.arrayvec.specs.ArrayVec.{ArrayVec}
 use Rattle.dcm_files.specs.Devices.{MayDo}
 use Rattle.dcm_files.specs.Folders.{FoldersDo}
 use Rattle.dcm_instance.specs.declared.names.Instance.{Instance}
@@ -20,12 +21,12 @@ use Rattle.dcm_trees.specs.declared.fate.Fate.{Fate}
 use Rattle.dcm_trees.specs.declared.fate.Fate.TheVariants as fates
 use Rattle.dcm_trees.specs.declared.file.Done.{Done}
 use Rattle.dcm_trees.specs.declared.part.Naming.{Naming}
-use Rattle.dcm_trees.specs.declared.part.Naming.TheVariants.{Linked, Moved, NotFree, Failed}
+use Rattle.dcm_trees.specs.declared.part.Naming.TheVariants.{NotFree}
 use Rattle.dcm_trees.specs.declared.part.NoPart.{NoPart}
 use Rattle.dcm_trees.specs.declared.part.PartThere.{PartThere}
 use Rattle.dcm_trees.specs.declared.place.Place.{Place}
 use Rattle.dcm_trees.specs.declared.task.NoDays.{NoDays}
-use Rattle.dcm_trees.specs.declared.place.Place.TheVariants.{Free, There, Taken}
+use Rattle.dcm_trees.specs.declared.place.Place.TheVariants.{There}
 use Rattle.dcm_trees.specs.Fate.{is_written}
 use Rattle.dcm_trees.specs.Lines.{ending_lines, ending_fate, output_line, taken_line, no_days_line, no_days_fate}
 use Rattle.dcm_trees.specs.Manner.{Manner}
@@ -130,12 +131,12 @@ pub record PlacesPart {S I O F E : Type 0} (w : World S I O F E) (m : Manner) (n
 pub data NamesBy {S I O F E : Type 0} (w : World S I O F E) (m : Manner) (name : List ℕ) (instance : Instance)
     (fate : Fate) (from : E) (before : S) (done : Done) (to : E) (after : S) : Type 0 where
   too_long : path_in m.output (name_of_instance instance) ≡ None → RemovesPart w.may m.part before after
-      → Reports w.errors from to (taken_line name) → done.fate ≡ fates.Unwritten
+      → Reports w.errors from to (taken_line name) → done ≡ without_name fates.Unwritten
       → NamesBy w m name instance fate from before done to after
-  placed : (path : List ℕ) (became : Fate) → path_in m.output (name_of_instance instance) ≡ Some path
-      → PlacesPart w m name path fate from before became to after → done.fate ≡ became
-      → (relative : _) × (done.instance ≡ Some relative) × (relative.items ≡ name_of_instance instance)
-      → NamesBy w m name instance fate from before done to after
+  placed : (path : List ℕ) (became : Fate) (relative : ArrayVec ℕ)
+      → path_in m.output (name_of_instance instance) ≡ Some path
+      → PlacesPart w m name path fate from before became to after → relative.items ≡ name_of_instance instance
+      → done ≡ record { fate = became; instance = Some relative } → NamesBy w m name instance fate from before done to after
 
 -- the instance in the part is read, and names it
 pub data NamesPart {S I O F E : Type 0} (w : World S I O F E) (m : Manner) (name : List ℕ) (fate : Fate) (from : E)

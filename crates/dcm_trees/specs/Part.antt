@@ -1,6 +1,6 @@
 -- The part: a file that a job is done into before it gets the name of an output.
 use Rattle.std.specs.Prelude.{◌≡◌, ◌≢◌, ℕ, ◌+◌, length, List, [], Bool, true, false}
-use Rattle.std.specs.Prelude.{Option, Some, None, Result, Ok, Err}
+use Rattle.std.specs.Prelude.{Result, Ok, Err}
 use Rattle.std.specs.IoError.{error_kind}
 use Rattle.std.specs.Str.{IsUtf8}
 use Rattle.std.specs.declared.io.Error.{Error}

@@ -1,5 +1,5 @@
 -- A run over a tree: its beginning, its names, and its end.
-use Rattle.std.specs.Prelude.{◌≡◌, ℕ, max, List, [], ◌∷◌, ◌++◌, codes, decimal, Bool, true, false, Option, Some, None}
+use Rattle.std.specs.Prelude.{◌≡◌, ℕ, max, List, [], ◌++◌, codes, decimal, Bool, true, false, Option, Some, None}
 use Rattle.std.specs.Prelude.{Result, Ok, Err, if◌then◌else◌}
 use Rattle.dcm_names.specs.NamedLines.{named_line, unread_line}
 use Rattle.dcm_cli.specs.Status.{DONE, DEVICE}

@@ -1,5 +1,5 @@
 -- A run over a tree: a folder, or a list.
-use Rattle.std.specs.Prelude.{◌≡◌, ℕ, nat_lt, List, [], length, codes, Bool, true, false, Option, Some, None, Result, Ok, Err}
+use Rattle.std.specs.Prelude.{◌≡◌, ℕ, nat_lt, List, [], length, codes, true, false, Option, Some, None, Result, Ok, Err}
 use Rattle.std.specs.Str.{IsUtf8}
 use Rattle.std.specs.declared.io.Error.{Error}
 use Rattle.dcm_devices.specs.declared.device.WriteFailed.{WriteFailed}

@@ -167,16 +167,15 @@ fn name_by<S: Folders, E: DeviceOut>(
         (manner_of manner.entry) name.now instance.now fate errors.old system.old result errors.new system.new }
 {
     let relative = instance.name();
-    let fate = match path_in(manner.output, relative.as_slice()) {
-        Some(path) => place_part(manner, name, path.as_slice(), fate, system, errors),
+    match path_in(manner.output, relative.as_slice()) {
+        Some(path) => Done {
+            fate: place_part(manner, name, path.as_slice(), fate, system, errors),
+            instance: Some(relative),
+        },
         None => {
             remove_part(manner.part, system);
-            tell_place(name, Place::Taken, false, errors)
+            without_name(tell_place(name, Place::Taken, false, errors))
         }
-    };
-    Done {
-        fate,
-        instance: Some(relative),
     }
 }
 
@@ -231,7 +230,10 @@ fn end_without_part<E: DeviceOut>(
 ) -> Result<Done, PartThere>
     ensures { spec.EndsWithoutPart E.DeviceOut name.now cause errors.old result errors.new }
 {
-    Ok(without_name(tell_no_part(name, cause, errors)?))
+    match tell_no_part(name, cause, errors) {
+        Ok(fate) => Ok(without_name(fate)),
+        Err(there) => Err(there),
+    }
 }
 
 /// Does a job of a file whose output is named by the instance in it.

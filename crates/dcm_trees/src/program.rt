@@ -69,7 +69,6 @@ fn run_deidentify<S: Folders, E: DeviceOut>(
     system: &mut S,
     errors: &mut Watched<E>,
 ) -> u8
-    requires { plan.now.planned.job ≡ Job.Deidentify what.now }
     ensures runs { spec.Deidentifies (world S.may_do S.folders_do S.Input.DeviceIn S.Output.DeviceOut E.DeviceOut)
         (tree_as plan.now) what.now.options what.now.reports errors.old system.old result errors.new system.new }
     ensures within { result ≤ statuses.MEMORY }

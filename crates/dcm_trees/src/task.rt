@@ -91,6 +91,22 @@ fn moved_by(what: &Deidentify, days: i32) -> Job
     })
 }
 
+/// The job of the file at a path, which is read for the days of its patient.
+fn job_by_days<'a, S: System>(
+    what: &Deidentify,
+    path: &[u8],
+    system: &mut S,
+) -> Result<FileJob<'a>, NoDays>
+    ensures { spec.FindsJob S.may_do S.Input.DeviceIn
+        (spec.by_days what.now.options what.now.reports what.now.key.items) path.now system.old (spec.found result)
+        system.new }
+{
+    match take_days(what.key.as_slice(), path, system) {
+        Ok(days) => Ok(FileJob::Own(moved_by(what, days))),
+        Err(cause) => Err(cause),
+    }
+}
+
 /// The job of the file at a path, which is read for it where the days of its patient are wanted.
 pub fn task_of_file<'a, S: System>(
     task: Task<'a>,
@@ -102,9 +118,6 @@ pub fn task_of_file<'a, S: System>(
 {
     match task {
         Task::Same(job) => Ok(FileJob::Lent(job)),
-        Task::ByDays(what) => {
-            let days = take_days(what.key.as_slice(), path, system)?;
-            Ok(FileJob::Own(moved_by(what, days)))
-        }
+        Task::ByDays(what) => job_by_days(what, path, system),
     }
 }

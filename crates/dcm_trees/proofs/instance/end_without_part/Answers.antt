@@ -1,9 +1,9 @@
-use Rattle.std.proofs.Common.{refl}
+use Rattle.std.proofs.Common.{ap, refl, Ok, Err}
 use Rattle.dcm_trees.specs.Instance as spec
 use Rattle.dcm_trees.proofs.instance.end_without_part.Goals as goal
 
-pub returns-in_err-tell_no_part : goal.returns-in_err-tell_no_part
-returns-in_err-tell_no_part g c = spec.ended _ c.in_err-tell_no_part.ensures refl
+pub returns-in-Ok : goal.returns-in-Ok
+returns-in-Ok g c = spec.ended (Ok c.in-Ok.fate) c.in-Ok.ensures (ap Ok c.without_name.ensures)
 
-pub returns : goal.returns
-returns g c = spec.ended _ c.in_ok-tell_no_part.ensures refl
+pub returns-in-Err : goal.returns-in-Err
+returns-in-Err g c = spec.ended (Err c.in-Err.there) c.in-Err.ensures refl

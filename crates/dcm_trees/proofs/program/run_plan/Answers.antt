@@ -1,12 +1,8 @@
-use Rattle.std.proofs.Common.{refl, subst}
-use Rattle.dcm_trees.proofs.Names.{tree_of}
-use Rattle.dcm_trees.specs.Program as spec
+use Rattle.dcm_trees.proofs.Jobs.{identity_run, other_run}
 use Rattle.dcm_trees.proofs.program.run_plan.Goals as goal
 
-pub returns-in-Err-clause-runs : goal.returns-in-Err-clause-runs
-returns-in-Err-clause-runs g c = spec.no_stdout c.in-Err.e c.unopened.result c.in-Err.ensures c.unopened.ensures c.tell_unopened.ensures.line c.tell_unopened.ensures.status
+pub returns-in-Deidentify-clause-runs : goal.returns-in-Deidentify-clause-runs
+returns-in-Deidentify-clause-runs g c = identity_run c.args.plan.now.planned.job c.in-Deidentify.what c.in-Deidentify.is c.run_deidentify.ensures.runs
 
-pub returns-clause-runs : goal.returns-clause-runs
-returns-clause-runs g c = spec.has_run c.in-Ok.output _ c.do_tree-status.result.1 c.stdout.new.self c.do_tree-status.new.system c.in-Ok.ensures (record { job = refl; output = refl; options = refl })
-    (tree_of c.new-manifest.ensures c.do_tree-status.ensures.does)
-    (subst (λ (output : _). g.S.System.may_do.closes c.do_tree-status.new.system output c.close.new.self) c.into_device.ensures c.close.ensures)
+pub returns-in_default-clause-runs : goal.returns-in_default-clause-runs
+returns-in_default-clause-runs g c = other_run c.args.plan.now.planned.job c.in_default.not-Deidentify c.run_task.ensures.runs

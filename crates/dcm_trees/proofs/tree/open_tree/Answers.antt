@@ -8,4 +8,4 @@ returns-in-Some g c =
     (subst (λ (path : List ℕ). spec.OpensFolder g.S.Folders.folders_do path c.args.system.now c.open_at.result c.open_at.new.system) c.as_slice.ensures.value c.open_at.ensures)
 
 pub returns-in-None : goal.returns-in-None
-returns-in-None g c = spec.too_long (sym c.in-None.ensures) c.open_at-2.ensures
+returns-in-None g c = spec.too_long (sym c.in-None.ensures) c.open_at-in-None.ensures

@@ -1,0 +1,12 @@
+use Rattle.std.proofs.Common.{ap, Ok, ◌∙◌}
+use Rattle.dcm_trees.specs.Instance as spec
+use Rattle.dcm_trees.specs.Instance.{without_name}
+use Rattle.dcm_trees.specs.Task.{job_of_file}
+use Rattle.dcm_trees.proofs.Jobs.{instance_by}
+use Rattle.dcm_trees.proofs.instance.do_unnamed.Goals as goal
+
+pub returns-in-Ok : goal.returns-in-Ok
+returns-in-Ok g c = spec.has_job (job_of_file c.in-Ok.job) c.task_of_file.new.system c.in-Ok.ensures (instance_by _ _ c.job.ensures c.do_by_instance.ensures)
+
+pub returns-in-Err : goal.returns-in-Err
+returns-in-Err g c = spec.no_days c.in-Err.cause c.in-Err.ensures c.tell_no_days.ensures.line (ap Ok (c.without_name.ensures ∙ ap without_name c.tell_no_days.ensures.fate))
