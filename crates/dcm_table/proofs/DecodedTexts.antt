@@ -1,4 +1,10 @@
 -- Texts that are written as characters, part by part.
+use Rattle.std.proofs.Common.{arith, Bool, false, nat_lt, refl, ◌∷◌}
+use Rattle.std.specs.Prelude.{◌&&◌, ◌==◌, not, nat_le}
+use Rattle.std.specs.List.{list_all}
+use Rattle.std.proofs.lemmas.Bool.Decides.{nat_tests}
+use Rattle.dcm_text.specs.Laws.{is_plain}
+use Rattle.dcm_text.proofs.Displays.{ascii_cell}
 use Rattle.std.proofs.Common.{◌≡◌, ◌∙◌, sym, ap, ℕ, true, List, [], ◌++◌, Option, append-nil}
 use Rattle.std.specs.Prelude.{flat_map}
 use Rattle.std.specs.Io.KnownBytes.{append_known}
@@ -31,3 +37,41 @@ shown_step r q p bytes e h =
 pub all_written : (old now : Option (List ℕ)) (all rest : List ℕ) → TextSoFar old now all rest → rest ≡ [] → now ≡ append_known old all
 all_written old now all rest s e =
     s.grown ∙ ap (append_known old) (sym (s.whole ∙ ap (λ (r : List ℕ). s.first ++ r) e ∙ append-nil s.first))
+
+-- ---- ASCII without controls
+
+abbrev pub printable : ℕ → Bool
+printable b = nat_le 0x20 b && nat_le b 0x7E
+
+one_of : (a b : Bool) → (a && b) ≡ true → a ≡ true
+one_of true b e = refl
+one_of false b e = cc
+
+other_of : (a b : Bool) → (a && b) ≡ true → b ≡ true
+other_of true b e = e
+other_of false b e = cc
+
+both_of : (a b : Bool) → a ≡ true → b ≡ true → (a && b) ≡ true
+both_of a b e h = rw (e, h) refl
+
+low : (b : ℕ) → printable b ≡ true → nat_lt b 0x80 ≡ true
+low b e = grind (arith, nat_tests)
+
+no_escape : (b : ℕ) → printable b ≡ true → (b == 0x1B) ≡ false
+no_escape b e = grind (arith, nat_tests)
+
+plain_byte : (sets : Sets) (b : ℕ) → printable b ≡ true → is_plain sets b ≡ true
+plain_byte sets b e = both_of (nat_lt b 0x80) _ (low b e) (by_escape (b == 0x1B) sets.extended (no_escape b e))
+  where
+    by_escape : (t x : Bool) → t ≡ false → not (t && x) ≡ true
+    by_escape true x h = cc
+    by_escape false x h = refl
+
+all_plain : (sets : Sets) (text : List ℕ) → list_all printable text ≡ true → list_all (is_plain sets) text ≡ true
+all_plain sets [] e = refl
+all_plain sets (b ∷ text) e =
+    both_of (is_plain sets b) (list_all (is_plain sets) text) (plain_byte sets b (one_of (printable b) (list_all printable text) e))
+    (all_plain sets text (other_of (printable b) (list_all printable text) e))
+
+pub printable_cell : (sets : Sets) (kind : TextKind) (text : List ℕ) → list_all printable text ≡ true → text ≡ cell sets kind text
+printable_cell sets kind text e = sym (ascii_cell sets kind text (all_plain sets text e))
