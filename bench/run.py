@@ -3,7 +3,7 @@
 changes its input, beside `dcmconv +t=`.
 
     bench/run.py [--binary PATH] [--before PATH] [--mebibytes N] [--full-mebibytes N] [--rounds N] [--starts N]
-        [--table-files N] [--only-tables]
+        [--table-files N] [--only-tables] [--only-trees] [--tree-files N] [--small-files N]
 
 With --before an older build of dcmtools takes turns with the others, so that a change is measured in one run.
 
@@ -15,6 +15,10 @@ are built and of files with edits (the median of the rounds, in which the progra
 dumps of small elements beside a bound, and of other work on them, edits of them and the same work with each dictionary (the best of
 the rounds), time of a whole process on a small file, and peak memory, of files with edits in a table of its own. The bound is
 dump_bound.c, built with `cc` where there is one.
+
+With --only-trees trees of files are measured, and nothing else: one run of a tool over 3,000 slices of 30 to 500 KB, and over 10,000 files
+of some hundred bytes, beside the same tool called once a file by a loop that spawns, and beside DCMTK's and GDCM's programs where they are
+installed. Each round has a new OUTPUT beside the input; the best of the rounds counts. Peak memory is that of 100 and of 10,000 files.
 
 A table of two columns is made of many files of 20 to 500 KB, 2.6 GB of them by default, in /dev/shm where there is one, and of
 fewer where it has no room. Beside it is `dcmdump -q -M +F +P` of DCMTK, also with `+st`, which ends each file after the last column.
@@ -63,6 +67,12 @@ EMPTY = 1_000_000
 TABLE_FILES = 10_000
 TABLE_PIXELS = 20_000, 500_000
 TABLE_COLUMNS = "PatientID", "Modality"
+
+# trees of slices and of small files, and how many runs share one
+TREE_FILES, SLICE_PIXELS = 3_000, (30_000, 500_000)
+SMALL_FILES, SMALL_PIXELS = 10_000, (100, 900)
+FEW_FILES, PARTS = 100, 4
+FILES_OF_A_FOLDER = 100
 SHARED_MEMORY = "/dev/shm"
 
 TOP = Path(__file__).resolve().parent.parent
@@ -630,6 +640,156 @@ def print_tables(binary, files, rounds):
     print_table(title, ["Work", "ms", "time / first", "peak memory in KiB"], rows)
 
 
+# ---- trees of files
+
+
+class Tree(NamedTuple):
+    """A folder of files of instances, their paths, a key, and where an output goes."""
+
+    folder: str
+    paths: list
+    key: str
+    output: str
+
+
+def make_tree_file(path, number, pixels):
+    """A file of an instance, with an identifier of its own, a patient and pixels."""
+    elements = [
+        (0x0008, 0x0018, "UI", b"1.2.826.0.1.%d" % number), (0x0008, 0x0020, "DA", b"20240131"), (0x0008, 0x0060, "CS", b"MR"),
+        (0x0010, 0x0010, "PN", b"Doe^Jane"), (0x0010, 0x0020, "LO", b"%06d" % (number // FILES_OF_A_FOLDER)),
+        (0x0020, 0x000D, "UI", b"1.2.826.0.2.%d" % (number // FILES_OF_A_FOLDER)), (0x0020, 0x000E, "UI", b"1.2.826.0.3.%d" % (number // 10))]
+    leaves = b"".join(leaf(LITTLE, group, element, vr, value + b"\0" * (len(value) % 2)) for group, element, vr, value in elements)
+    Path(path).write_bytes(meta(LITTLE) + leaves + leaf(LITTLE, 0x7FE0, 0x0010, "OW", pixels))
+
+
+def make_tree(top, name, files, sizes):
+    """A tree of so many files, a hundred in each folder."""
+    folder, paths = os.path.join(top, name), []
+    numbers, pixels = random.Random(3), random.Random(1).randbytes(sizes[1])
+    for number in range(files):
+        path = os.path.join(folder, f"d{number // FILES_OF_A_FOLDER:03}", f"f{number:05}.dcm")
+        os.makedirs(os.path.dirname(path), exist_ok=True)
+        make_tree_file(path, number, pixels[: numbers.randint(*sizes) // 2 * 2])
+        paths.append(path)
+    key = os.path.join(top, "key")
+    Path(key).write_bytes(bytes(range(32)))
+    return Tree(folder, paths, key, os.path.join(top, "out"))
+
+
+def each_alone(words, tree):
+    """A loop that calls a tool once a file."""
+
+    def run():
+        os.mkdir(tree.output)
+        for number, path in enumerate(tree.paths):
+            seconds_of([*words, path, os.path.join(tree.output, str(number))], os.devnull)
+
+    return run
+
+
+def in_parts(words, tree):
+    """Runs of all parts at once."""
+
+    def run():
+        started = [spawn([*words, "+part", f"{part + 1}/{PARTS}", "+r", tree.folder, tree.output], os.devnull) for part in range(PARTS)]
+        for process in started:
+            check_status(words, os.waitpid(process, 0)[1])
+
+    return run
+
+
+def over_tree(words, tree):
+    return lambda: seconds_of([*words, "+r", tree.folder, tree.output], os.devnull)
+
+
+def on_a_copy(words, tree):
+    """Words that change the files themselves, which are copied first."""
+
+    def prepare():
+        shutil.copytree(tree.folder, tree.output)
+
+    def run():
+        seconds_of([*words, *(path.replace(tree.folder, tree.output) for path in tree.paths)], os.devnull)
+
+    return prepare, run
+
+
+def best_of_trees(run, tree, rounds, keeps=()):
+    """The best times of programs that take turns, each with a new OUTPUT, but those that go on with the one of the program before."""
+    best = dict.fromkeys(run, float("inf"))
+    for _ in range(rounds):
+        for name, program in run.items():
+            prepare, program = program if isinstance(program, tuple) else (lambda: None, program)
+            if name not in keeps:
+                shutil.rmtree(tree.output, ignore_errors=True)
+            prepare()
+            begin = time.perf_counter()
+            program()
+            best[name] = min(best[name], time.perf_counter() - begin)
+    shutil.rmtree(tree.output, ignore_errors=True)
+    return best
+
+
+def print_trees_of(title, run, tree, rounds, keeps=()):
+    best = best_of_trees(run, tree, rounds, keeps)
+    first = next(iter(best.values()))
+    size = sum(map(os.path.getsize, tree.paths)) / 1e6
+    rows = [[name, f"{seconds * 1e3:,.0f}", f"{seconds / first:.2f}"] for name, seconds in best.items()]
+    print_table(f"{title}, {len(tree.paths):,} files of {size:,.0f} MB, the best of {rounds} rounds", ["Work", "ms", "time / first"], rows)
+
+
+def installed(name, words):
+    """Words by their name, where the program is installed."""
+    found = shutil.which(words[0])
+    return {name: [found, *words[1:]]} if found else {}
+
+
+def print_slices(binary, tree, rounds):
+    keyed = [binary, "dcmdeid", "+k", tree.key]
+    edits = ["-i", "PatientName=A", "-i", "PatientID=B"]
+    of_gdcm = installed("gdcmanon -r", ["gdcmanon", "--dumb", "--empty", "10,10", "--empty", "10,20", "-r", tree.folder, tree.output])
+    of_dcmtk = installed("dcmodify -nb -i -i FILE.. of DCMTK, on a copy", ["dcmodify", "-nb", "-i", "(0010,0010)=A", "-i", "(0010,0020)=B"])
+    print_trees_of("dcmdeid", {
+        "dcmdeid +k +r": over_tree(keyed, tree), "dcmdeid +k, once a file": each_alone(keyed, tree),
+        "dcmdeid +k +pi +rm key +r": over_tree([*keyed, "+pi", "+rm", "key"], tree),
+        "dcmdeid +k +rl +r": over_tree([*keyed, "+rl"], tree),
+        **{name: lambda words=words: seconds_of(words, os.devnull) for name, words in of_gdcm.items()}}, tree, rounds)
+    print_trees_of("dcmodify", {
+        "dcmodify +r -i -i": over_tree([binary, "dcmodify", *edits], tree), "once a file": each_alone([binary, "dcmodify", *edits], tree),
+        **{name: on_a_copy(words, tree) for name, words in of_dcmtk.items()}}, tree, rounds)
+
+
+def print_small_files(binary, tree, rounds):
+    keyed = [binary, "dcmdeid", "+k", tree.key]
+    print_trees_of("dcmdeid of small files", {
+        "dcmdeid +k +r": over_tree(keyed, tree), "dcmdeid +k, once a file": each_alone(keyed, tree), f"+part 1/{PARTS} to {PARTS}/{PARTS} at once": in_parts(keyed, tree),
+        "dcmdeid +k +kn +r": over_tree([*keyed, "+kn"], tree), "+c +kn again": over_tree([*keyed, "+kn", "+c"], tree)}, tree, rounds, keeps=("+c +kn again",))
+    print_trees_of("dcmconv of small files", {
+        "dcmconv +te +r": over_tree([binary, "dcmconv", "+te"], tree), "once a file": each_alone([binary, "dcmconv", "+te"], tree)}, tree, rounds)
+    of_dcmtk = installed("dcmdump +F FILE.. of DCMTK", ["dcmdump", "+F", *tree.paths])
+    alone = lambda: [seconds_of([binary, "dcmdump", path], os.devnull) for path in tree.paths]
+    print_trees_of("Dumps of small files", {
+        "dcmdump +F FILE..": lambda: seconds_of([binary, "dcmdump", "+F", *tree.paths], os.devnull), "once a file": alone,
+        **{name: lambda words=words: seconds_of(words, os.devnull) for name, words in of_dcmtk.items()}}, tree, rounds)
+
+
+def print_memory_of_trees(binary, top):
+    rows = []
+    for files in (FEW_FILES, SMALL_FILES):
+        tree = make_tree(top, f"of{files}", files, SMALL_PIXELS)
+        peak = peak_of([binary, "dcmdeid", "+k", tree.key, "+r", tree.folder, tree.output], os.devnull)
+        shutil.rmtree(tree.output)
+        rows.append([f"{files:,}", "-" if peak is None else f"{peak:,}"])
+    print_table("Peak resident memory of dcmdeid +k +r", ["Files", "KiB"], rows)
+
+
+def print_trees(binary, slices, small, rounds):
+    with tempfile.TemporaryDirectory() as folder:
+        print_slices(binary, make_tree(folder, "slices", slices, SLICE_PIXELS), rounds)
+        print_small_files(binary, make_tree(folder, "small", small, SMALL_PIXELS), rounds)
+        print_memory_of_trees(binary, folder)
+
+
 def print_memory(works, run):
     rows = []
     for work in works:
@@ -659,6 +819,9 @@ def main():
     options.add_argument("--starts", type=int, default=200)
     options.add_argument("--table-files", type=int, default=TABLE_FILES, help="files of a table")
     options.add_argument("--only-tables", action="store_true", help="tables of files, and nothing else")
+    options.add_argument("--only-trees", action="store_true", help="trees of files, and nothing else")
+    options.add_argument("--tree-files", type=int, default=TREE_FILES, help="slices of a tree")
+    options.add_argument("--small-files", type=int, default=SMALL_FILES, help="small files of a tree")
     chosen = options.parse_args()
     if not os.access(chosen.binary, os.X_OK):
         sys.exit(f"{chosen.binary} is not there: build it by `cd crates/dcmtools && rt run -- dcmdump ../../examples/name.dcm`")
@@ -668,6 +831,10 @@ def main():
     editing = editing_programs(binary, before)
     identity = identity_programs(binary)
     print(f"Before: {machine()}")
+    if chosen.only_trees:
+        print_trees(binary, chosen.tree_files, chosen.small_files, chosen.rounds)
+        print(f"\nAfter: {machine()}")
+        return
     print_tables(binary, chosen.table_files, chosen.rounds)
     if chosen.only_tables:
         return
