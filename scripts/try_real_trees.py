@@ -37,7 +37,8 @@ import pydicom
 from try_identity import parts, patient, placed, sources
 
 OPTIONS = ["+bi", "+pi", "+rm", "key"]
-LONGEST_RUN = 2.0
+# a run is cut off within so many seconds for each file
+CUT_WITHIN = 0.0002
 STATUS = {"refused": 2, "unnamed": 2, "pixels": 3}
 
 
@@ -146,7 +147,7 @@ def main():
         words = [binary, "dcmdeid", "+k", key, *OPTIONS, "+c", "+r", tree, outputs]
         cuts = 0
         for _ in range(given.cuts):
-            cuts += cut_off(words, LONGEST_RUN)
+            cuts += cut_off(words, CUT_WITHIN * given.files)
             if os.path.exists(os.path.join(outputs, ".part.1")):
                 os.remove(os.path.join(outputs, ".part.1"))
         done = run(words)
@@ -167,7 +168,7 @@ def main():
             found += wrong_files(binary, key, source, output, row, os.path.join(folder, "alone"))
             if row[1]:
                 pairs.append((patient(source), patient(output), tuple(days_between(source, output))))
-                if any(part in row[1] for part in row[0].replace(" ", "/").split("/") if len(part) > 3):
+                if any(part in row[1] for part in row[0].replace(" ", "/").split("/") if len(part) > 3 and not part.isdigit()):
                     found.append(f"{row}: an old name in a new one")
         found += wrong_patients(pairs)
         again = run(words)
