@@ -234,11 +234,19 @@ pub data ChecksEmpty {S O F : Type 0} (d : FoldersDo S O F) (output : List ℕ) 
       → d.opens_folder before output (Ok folder) opened → d.names opened folder (Err e) left listed
       → d.closes_folder listed left after → r ≡ Err Output → ChecksEmpty d output before r after
 
+-- the folder is opened by the name that it has for itself, behind its path, which may be that of a link to it; but not
+-- where that would be too long
+pub data ChecksNew {S O F : Type 0} (d : FoldersDo S O F) (output : List ℕ) (before : S)
+    (r : Result (Unit {0}) Refusal) (after : S) : Type 0 where
+  followed : (own : List ℕ) → path_in output (codes ".") ≡ Some own → ChecksEmpty d own before r after
+      → ChecksNew d output before r after
+  too_long : path_in output (codes ".") ≡ None → ChecksEmpty d output before r after → ChecksNew d output before r after
+
 -- where no run goes on with it
 pub data ChecksUse {S O F : Type 0} (d : FoldersDo S O F) (output : List ℕ) (continues : Bool) (before : S)
     (r : Result (Unit {0}) Refusal) (after : S) : Type 0 where
   goes_on : continues ≡ true → r ≡ Ok _ → after ≡ before → ChecksUse d output continues before r after
-  is_new : continues ≡ false → ChecksEmpty d output before r after → ChecksUse d output continues before r after
+  is_new : continues ≡ false → ChecksNew d output before r after → ChecksUse d output continues before r after
 
 -- the path of the part in the folder of the outputs
 pub data IsPart (output part : List ℕ) (r : Result (ArrayVec ℕ) Refusal) : Type 0 where

@@ -14,6 +14,9 @@ const PARENT: &[u8] = b"/..";
 /// What ends a part of a name.
 const SLASH: u8 = b'/';
 
+/// The name that a folder has for itself.
+pub(crate) const CURRENT: &[u8] = b".";
+
 /// Why a run is not begun. Nothing was made then, unless it was the folder of the outputs.
 #[derive(Clone, Copy, Debug, PartialEq, Eq)]
 pub enum Refusal {
@@ -334,6 +337,16 @@ fn check_empty<S: Folders>(output: &[u8], system: &mut S) -> Result<(), Refusal>
     }
 }
 
+/// Refuses a folder that has a name in it. It may be a link to one, as `open_tree` says.
+fn check_new<S: Folders>(output: &[u8], system: &mut S) -> Result<(), Refusal>
+    ensures { spec.ChecksNew S.folders_do output.now system.old result system.new }
+{
+    match path_in(output, CURRENT) {
+        Some(followed) => check_empty(followed.as_slice(), system),
+        None => check_empty(output, system),
+    }
+}
+
 /// Refuses a folder that has a name in it, unless the run goes on with what is there.
 fn check_use<S: Folders>(output: &[u8], continues: bool, system: &mut S) -> Result<(), Refusal>
     ensures { spec.ChecksUse S.folders_do output.now continues system.old result system.new }
@@ -341,7 +354,7 @@ fn check_use<S: Folders>(output: &[u8], continues: bool, system: &mut S) -> Resu
     if continues {
         Ok(())
     } else {
-        check_empty(output, system)
+        check_new(output, system)
     }
 }
 

@@ -5,7 +5,7 @@ ghost use Rattle.dcm_trees.specs.Tree as spec;
 ghost use Rattle.dcm_tree_words.specs.Plans.{source_as};
 ghost use Rattle.dcm_trees.specs.World.{world};
 
-use crate::beginning::{Begun, Refusal, begin};
+use crate::beginning::{Begun, CURRENT, Refusal, begin};
 use crate::place::path_in;
 use crate::progress::Work;
 use crate::run::{
@@ -18,9 +18,6 @@ use dcm_names::put_unopened;
 use dcm_tree_words::Source;
 use dcm_walk::{ListEnd, MOST_OF_PATH, Stopped, walk_folder, walk_list};
 use std::str;
-
-/// The path of the current folder, in which the names of a list are.
-const CURRENT: &[u8] = b".";
 
 /// Opens a folder.
 fn open_at<S: Folders>(path: &[u8], system: &mut S) -> Option<S::Folder>
