@@ -62,7 +62,8 @@ ERRORS = {
     "mkdir": ["EACCES", "EEXIST", "ENOSPC", "EIO", "EROFS", "ENOENT"],
     "link": ["EPERM", "EEXIST", "EXDEV", "EMLINK", "ENOSPC", "EIO", "EINTR"],
     "linkat": ["EPERM", "EEXIST", "EXDEV", "EMLINK", "ENOSPC", "EIO", "EINTR"],
-    "getdents64": ["EIO", "ENOENT", "EBADF", "ENOMEM"],
+    # ENOENT ends the list: the folder is removed (POSIX, readdir)
+    "getdents64": ["EIO", "EBADF", "ENOMEM"],
     "munmap": ["EINVAL"],
     "getrandom": ["ENOSYS", "EAGAIN", "EINTR"],
     "rt_sigaction": ["EINVAL"],
