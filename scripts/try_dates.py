@@ -4,11 +4,17 @@ calendar; days that there are not become empty.
 
     scripts/try_dates.py BINARY
 
-It makes files of 4,000 values of 28 dates at most. Exits with 0 if all are as they should be.
+It makes files of 4,000 values of 28 dates at most. Then, where strace is there, a file changes between the two readings of `+rm key`: the
+output has to be that of its new bytes with the days of the first patient. Exits with 0 if all are as they should be.
 """
 import datetime
+import os
+import shutil
 import subprocess
 import sys
+import tempfile
+import time
+from pathlib import Path
 
 HEAD = (b"\0" * 128 + b"DICM" + bytes.fromhex("02000000554c04001c000000 020010005549 1400".replace(" ", ""))
         + b"1.2.840.10008.1.2.1\0")
@@ -56,6 +62,54 @@ def expect(binary: str, days: int, values: list, wanted: list) -> int:
     return wrong
 
 
+def leaf(group: int, number: int, vr: bytes, value: bytes) -> bytes:
+    even = value + b" " * (len(value) % 2)
+    return group.to_bytes(2, "little") + number.to_bytes(2, "little") + vr + len(even).to_bytes(2, "little") + even
+
+
+def of_patient(name: bytes, date: datetime.date) -> bytes:
+    """A file of a patient, with a date."""
+    return HEAD + leaf(8, 0x20, b"DA", text(date)) + leaf(0x10, 0x20, b"LO", name)
+
+
+def dates_in(output: bytes) -> list:
+    """The date of an output."""
+    at = output.index(STUDY_DATE) + len(STUDY_DATE) + 2
+    return [datetime.datetime.strptime(output[at:at + 8].decode(), "%Y%m%d").date()]
+
+
+# the second opening of the file waits for so long, and the file changes meanwhile; the openings before it: two of the loader, the key,
+# and the first of the file
+SECOND_OPENING, WAITS, CHANGES_AFTER = 5, 1.0, 0.4
+
+
+def changes_between(binary: str) -> int:
+    """Whether something is wrong where a file changes between its readings."""
+    strace = shutil.which("strace")
+    if not strace:
+        print("strace is not here: no file changes between its readings")
+        return 0
+    first, second = of_patient(b"1234", datetime.date(2024, 1, 31)), of_patient(b"99", datetime.date(2001, 2, 3))
+    with tempfile.TemporaryDirectory() as folder:
+        key, path, output = (os.path.join(folder, name) for name in ("key", "file", "output"))
+        Path(key).write_bytes(bytes(range(32)))
+        words = [binary, "dcmdeid", "+k", key]
+        Path(path).write_bytes(first)
+        subprocess.run([*words, "+rm", "key", path, output], check=True)
+        days = (dates_in(Path(output).read_bytes())[0] - dates_in(first)[0]).days
+        wanted = subprocess.run([*words, "+rm", str(days), "-", "-"], input=second, capture_output=True, check=True).stdout
+        os.remove(output)
+        slow = f"inject=openat:delay_enter={int(WAITS * 1e6)}:when={SECOND_OPENING}"
+        with subprocess.Popen([strace, "-o", os.devnull, "-e", "trace=openat", "-e", slow, *words, "+rm", "key", path, output]) as run:
+            time.sleep(CHANGES_AFTER)
+            Path(path).write_bytes(second)
+        if run.returncode or Path(output).read_bytes() != wanted:
+            print("a file that changed between its readings: another output")
+            return 1
+    print(f"a file that changed between its readings: the new bytes, moved by {days} days")
+    return 0
+
+
 def main(binary: str) -> int:
     all_days = [text(datetime.date.fromordinal(n)) for n in range(1, datetime.date.max.toordinal() + 1)]
     before, after = all_days[:-1], all_days[1:]
@@ -68,6 +122,7 @@ def main(binary: str) -> int:
     wrong = expect(binary, 1, joined, later) + expect(binary, -1, later, joined)
     wrong += expect(binary, 1, none + [all_days[-1]], [b""] * (len(none) + 1)) + expect(binary, -1, [all_days[0]], [b""])
     print(f"{len(all_days):,} days, {len(none):,} that there are not: {wrong} files wrong")
+    wrong += changes_between(os.path.abspath(binary))
     return 1 if wrong else 0
 
 
