@@ -66,14 +66,29 @@ MODALITY = leaf(0x00080060, "CS", b"CT")
 NAME, ID, BIRTH_DATE, DOSES, DOSE, OVERLAY = 0x00100010, 0x00100020, 0x00100030, 0x300A0010, 0x300A0012, 0x60003000
 
 
+STUDY, SERIES, INSTANCE = 0x0020000D, 0x0020000E, 0x00080018
+INSTANCE_UID = b"1.2.3."
+
+
+def uid(tag, number, explicit=True):
+    return leaf(tag, "UI", INSTANCE_UID + number + b"\0" * (len(number) % 2), explicit)
+
+
 def scan(name, number=b"7", after=b""):
     return file_of(LITTLE, MODALITY + leaf(NAME, "PN", name) + leaf(ID, "LO", number) + after)
+
+
+def instance(name, number, after=b"", patient=None, before=b""):
+    """A scan with the identifiers of an instance."""
+    return file_of(LITTLE, before + uid(INSTANCE, number) + MODALITY + leaf(NAME, "PN", name) + leaf(ID, "LO", patient or number) + uid(STUDY, number)
+                   + uid(SERIES, number) + after)
 
 
 def plan(name):
     """In implicit VR, with a name in a sequence of known length that the extract lacks."""
     inside = leaf(NAME, "", name, False) + leaf(DOSE, "", b"1", False)
-    return file_of(IMPLICIT, leaf(0x00080060, "", b"RTPLAN", False) + leaf(NAME, "", name, False) + leaf(ID, "", b"9", False)
+    return file_of(IMPLICIT, uid(INSTANCE, b"9", False) + leaf(0x00080060, "", b"RTPLAN", False) + leaf(NAME, "", name, False) + leaf(ID, "", b"9", False)
+                   + uid(STUDY, b"9", False) + uid(SERIES, b"9", False)
                    + leaf(DOSES, "", item(inside), False))
 
 
@@ -109,39 +124,39 @@ class Input(NamedTuple):
 
 
 TREE = {
-    b"seriesA/IM000001.dcm": Input(scan(b"Meier^Anna"), 0o600),
-    b"seriesB/IM000001.dcm": Input(scan(b"Huber^Otto", b"8")),
-    b"media/IM_0001": Input(scan(b"Meier^Max", b"12")),
-    b"media/IM_0001.part": Input(scan(b"Meier^Moritz", b"13"), 0o640),
-    b"latin.dcm": Input(file_of(LITTLE, leaf(0x00080005, "CS", b"ISO_IR 100") + MODALITY + leaf(NAME, "PN", b"M\xfcller^J\xf6rg") + leaf(ID, "LO", b"\xfc1"))),
-    b"gr\xf6sse.dcm": Input(scan(b"Huber^Eva", b"15"), 0o600),
-    b"two words 'and' \"quotes\" $HOME\nand a newline": Input(scan(b"Huber^Ida", b"16")),
-    b"-ends in a newline\n/-te": Input(scan(b"Huber^Udo", b"17")),
-    b"b\xf6d and\na newline": Input(scan(b"Huber^Pia", b"27")),
-    b"a*b?[c]{d}!.dcm": Input(scan(b"Huber^Tom", b"28")),
-    b"back\\slash, 100%s\t\x1b[1m \r": Input(scan(b"Huber^Kai", b"29")),
-    b" blanks at both ends ": Input(scan(b"Huber^Lea", b"30")),
-    b"-k": Input(scan(b"Huber^Jim", b"31")),
-    b"@list": Input(scan(b"Huber^Ute", b"32")),
-    b"#~/..dcm": Input(scan(b"Huber^Ben", b"33")),
-    b"n" * 255: Input(scan(b"Huber^Max", b"34")),
-    b"folder/IM000001.dcm/IM000001.dcm": Input(scan(b"Huber^Amy", b"35")),
-    b"nobody may read.dcm": Input(scan(b"Huber^Leo", b"36"), 0o000, fails=True, opens=False),
+    b"seriesA/IM000001.dcm": Input(instance(b"Meier^Anna", b"7"), 0o600),
+    b"seriesB/IM000001.dcm": Input(instance(b"Huber^Otto", b"8")),
+    b"media/IM_0001": Input(instance(b"Meier^Max", b"12")),
+    b"media/IM_0001.part": Input(instance(b"Meier^Moritz", b"13"), 0o640),
+    b"latin.dcm": Input(instance(b"M\xfcller^J\xf6rg", b"38", patient=b"\xfc1", before=leaf(0x00080005, "CS", b"ISO_IR 100"))),
+    b"gr\xf6sse.dcm": Input(instance(b"Huber^Eva", b"15"), 0o600),
+    b"two words 'and' \"quotes\" $HOME\nand a newline": Input(instance(b"Huber^Ida", b"16")),
+    b"-ends in a newline\n/-te": Input(instance(b"Huber^Udo", b"17")),
+    b"b\xf6d and\na newline": Input(instance(b"Huber^Pia", b"27")),
+    b"a*b?[c]{d}!.dcm": Input(instance(b"Huber^Tom", b"28")),
+    b"back\\slash, 100%s\t\x1b[1m \r": Input(instance(b"Huber^Kai", b"29")),
+    b" blanks at both ends ": Input(instance(b"Huber^Lea", b"30")),
+    b"-k": Input(instance(b"Huber^Jim", b"31")),
+    b"@list": Input(instance(b"Huber^Ute", b"32")),
+    b"#~/..dcm": Input(instance(b"Huber^Ben", b"33")),
+    b"n" * 255: Input(instance(b"Huber^Max", b"34")),
+    b"folder/IM000001.dcm/IM000001.dcm": Input(instance(b"Huber^Amy", b"35")),
+    b"nobody may read.dcm": Input(instance(b"Huber^Leo", b"36"), 0o000, fails=True, opens=False),
     b"empty": Input(b"", fails=True),
     b"plan.dcm": Input(plan(b"Meier^Anna"), 0o600),
-    b"large.dcm": Input(scan(b"Meier^Anna", b"18", LARGE)),
-    b"large and opaque.dcm": Input(scan(b"Meier^Anna", b"19", LARGE + OPAQUE), opaque=True),
-    b"opaque": Input(scan(b"Meier^Anna", b"20", OPAQUE), opaque=True),
-    b"unknown.dcm": Input(scan(b"Meier^Anna", b"25", UNKNOWN)),
+    b"large.dcm": Input(instance(b"Meier^Anna", b"18", LARGE)),
+    b"large and opaque.dcm": Input(instance(b"Meier^Anna", b"19", LARGE + OPAQUE), opaque=True),
+    b"opaque": Input(instance(b"Meier^Anna", b"20", OPAQUE), opaque=True),
+    b"unknown.dcm": Input(instance(b"Meier^Anna", b"25", UNKNOWN)),
     b"private.dcm": Input(file_of(LITTLE, MODALITY + leaf(NAME, "PN", b"Meier") + leaf(ID, "LO", b"21") + PRIVATE), opaque=True),
     b"nameless.dcm": Input(file_of(LITTLE, MODALITY), named=False),
     b"jpeg.dcm": Input(file_of(JPEG, MODALITY + leaf(NAME, "PN", b"Huber") + leaf(ID, "LO", b"22")), converts=False),
-    b"burned.dcm": Input(scan(b"Huber^Jan", b"26", leaf(0x00280301, "CS", b"YES")), shows=True),
+    b"burned.dcm": Input(instance(b"Huber^Jan", b"26", leaf(0x00280301, "CS", b"YES")), shows=True),
     b"cut.dcm": Input(scan(b"Meier^Anna", b"23")[:-1], fails=True),
     b"cut in a name.dcm": Input(scan(b"Meier^Anna")[:-16], fails=True),
     b"notes": Input(b"no DICOM file", fails=True),
     b"video.dcm": Input(bytes(1000), fails=True),
-    b"cut behind.dcm": Input(scan(b"Meier^Anna", b"37", leaf(0x00280010, "US", b"\1\0"))[:-1], fails=True, seen=False),
+    b"cut behind.dcm": Input(instance(b"Meier^Anna", b"37", leaf(0x00280010, "US", b"\1\0"))[:-1], fails=True, seen=False),
     b"IM_9999": Input(DIRECTORY, directory=True),
     b"DICOMDIR": Input(DIRECTORY, directory=True),
 }
@@ -424,14 +439,38 @@ def without_identity(run, content, key, *options):
         return answer(run, ["dcmdeid", "+k", file.name, *options], content)
 
 
+def uid_in(content, tag):
+    """A unique identifier of a file, without padding."""
+    at = content.index(struct.pack("<HH", tag >> 16, tag & 0xFFFF)) + 4
+    size = struct.unpack_from("<H", content, at + 2)[0] if content[at : at + 2] == b"UI" else struct.unpack_from("<I", content, at)[0]
+    return content[at + 4 : at + 4 + size].rstrip(b"\0 ")
+
+
+def identity_of(file):
+    """What becomes of a file of the tree where identity is taken out of it."""
+    if file.shows:
+        return "pixels"
+    return "written" if INSTANCE_UID in file.content else "unnamed"
+
+
 def identity_of_tree(run):
-    good = [name for name, file in COPIED.items() if not file.fails and not file.shows and not file.directory]
     key = run.files.get(b"site.key", (b"", 0))[0]
-    written = {b"deidentified/" + name: (without_identity(run, TREE[name].content, key), TREE[name].mode) for name in good}
-    wrong = holds(run, written | {b"not-deidentified.txt": (None, 0o644), b"site.key": (None, 0o600)})
-    wrong += [f"{path!r} holds {name!r}" for path, (content, _) in run.files.items() if path.startswith(b"deidentified/") for name in NAMES if name in content]
+    outputs, due = {}, [("File", "Output", "Status")]
+    for name, file in TREE.items():
+        word, output = becomes(name, file, not file.directory), b""
+        word = identity_of(file) if word == "written" else word
+        if word == "written":
+            content = without_identity(run, file.content, key)
+            output = b"/".join(uid_in(content, tag) for tag in (STUDY, SERIES, INSTANCE)) + b".dcm"
+            outputs[b"deidentified/" + output] = (content, file.mode)
+        due.append((name.decode("utf-8", "backslashreplace"), output.decode(), word))
+    table = run.files.get(b"deidentified.csv", (b"", 0))[0]
+    rows = sorted(tuple(row) for row in csv.reader(io.StringIO(table.decode("utf-8"), newline="")))
+    wrong = [f"the row {row} is there or missing" for row in sorted({*rows} ^ {*due})]
+    wrong += [f"{path!r} holds {name!r}" for path, (content, _) in run.files.items() if path.startswith(b"deidentified/") for name in NAMES if name in content + path]
     wrong += [] if len(key) == 32 else [f"a key of {len(key)} bytes"]
-    return wrong + wrong_names(run, good, run.files.get(b"not-deidentified.txt", (b"", 0))[0])
+    wrong += [] if run.status else ["status 0"]
+    return wrong + holds(run, outputs | {b"deidentified.csv": (None, 0o600), b"site.key": (None, 0o600)})
 
 
 LEFT = {
@@ -534,7 +573,7 @@ BLOCKS = [
     Block("    dcmtools dcmodify +dict -m 'DoseReferenceSequence", corrected_plan, replaces=b"plan.dcm"),
     Block("dcmtools dcmodify +dict -m 'PatientName=Doe^Jane' +r", corrected_names, folder=b"fixed"),
     Block("    name=$(printf", latin_name, needs=("iconv",), replaces=b"scan.dcm"),
-    Block("    clean() {", identity_of_tree, folder=b"deidentified"),
+    Block("    (umask 077; > deidentified.csv)", identity_of_tree, folder=b"deidentified"),
     Block("        left=$(", identity_left, with_outputs, sound=with_sound_outputs),
     Block("    dcmtools dcmdeid +k site.key scan.dcm - |", identity_replaced),
     Block("dcmtools dcmdeid +k site.key +pi +rm key", moved_by_key, with_key, sound=with_key),
@@ -737,7 +776,7 @@ def interrupted(binary, text, number):
         # the last of them may still remove its part
         time.sleep(8)
         files = files_in(work)
-        made = [path for path in files if path not in SOUND and not re.fullmatch(rb"not-.*\.txt|site\.key|(converted|fixed)(\.csv|/\.part\.\d+)", path)]
+        made = [path for path in files if path not in SOUND and not re.fullmatch(rb"not-.*\.txt|site\.key|(converted|fixed|deidentified)(\.csv|/\.part\.\d+)", path)]
         wrong = [f"{path!r} is left" for path in made if b"/" not in path]
         wrong += [f"{path!r} is not whole" for path in made if b"/" in path and not is_read(binary, files[path][0])]
         wrong += [f"{path!r} was changed" for path, file in SOUND.items() if files.get(path) != file]
@@ -755,7 +794,7 @@ def may_mount():
 
 
 # a tree of 1.2 MB for a disk of 2 MB
-FULL = {b"in/%d.dcm" % number: (scan(b"Huber^Eva", b"%d" % number, leaf(0x7FE00010, "OB", bytes(200_000))), 0o644) for number in range(6)}
+FULL = {b"in/%d.dcm" % number: (instance(b"Huber^Eva", b"%d" % number, leaf(0x7FE00010, "OB", bytes(200_000))), 0o644) for number in range(6)}
 
 ON_FULL_DISK = """
 mount -t tmpfs -o size=2M,mode=777 none "$1/full" && cp -a "$1/work/." "$1/full" && cd "$1/full" || exit 99
@@ -782,7 +821,11 @@ def on_full_disk(binary, text, block):
         lists = b"".join(content for path, (content, _) in run.files.items() if path.startswith(b"not-")) + run.printed
         wrong = [] if run.status and run.status != 99 else [f"status {run.status}"]
         wrong += [f"{path!r} was changed" for path, file in FULL.items() if run.files.get(path) != file]
-        whole = {path for path in FULL if len(run.files.get(block.folder + path[2:], (b"", 0))[0]) > 200_000}
+        # where outputs have other names, the rows say so
+        renamed = {b"in/" + row[0].encode(): row[1].encode() for row in csv.reader(io.StringIO(run.files.get(block.folder + b".csv", (b"", 0))[0].decode()))
+                   if len(row) > 1}
+        names = {path: block.folder + b"/" + (renamed.get(path) or path[3:]) for path in FULL}
+        whole = {path for path, name in names.items() if len(run.files.get(name, (b"", 0))[0]) > 200_000}
         is_named = {path: path + b": status" in lists or b"dcmtools: " + path[3:] + b": output failed" in lists for path in FULL}
         wrong += [f"{path!r} is neither there nor named" for path in FULL if path not in whole and not is_named[path]]
         wrong += [f"{path!r} is left" for path in run.files if re.search(rb"\.\w{6}$", path) and not path.startswith((b"in/", b"not-"))]
