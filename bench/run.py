@@ -3,7 +3,7 @@
 changes its input, beside `dcmconv +t=`.
 
     bench/run.py [--binary PATH] [--before PATH] [--mebibytes N] [--full-mebibytes N] [--rounds N] [--starts N]
-        [--table-files N] [--only-tables] [--only-trees] [--tree-files N] [--small-files N]
+        [--table-files N] [--only-tables] [--only-trees] [--tree-files N] [--small-files N] [--only-texts]
 
 With --before an older build of dcmtools takes turns with the others, so that a change is measured in one run.
 
@@ -19,6 +19,9 @@ dump_bound.c, built with `cc` where there is one.
 With --only-trees trees of files are measured, and nothing else: one run of a tool over 3,000 slices of 30 to 500 KB, and over 10,000 files
 of some hundred bytes, beside the same tool called once a file by a loop that spawns, and beside DCMTK's and GDCM's programs where they are
 installed. Each round has a new OUTPUT beside the input; the best of the rounds counts. Peak memory is that of 100 and of 10,000 files.
+
+With --only-texts dumps with `+u8` are measured beside dumps without it, and nothing else: of a structured report, whose texts are ASCII, of
+names in Japanese by ISO 2022 IR 87, and of comments in UTF-8.
 
 A table of two columns is made of many files of 20 to 500 KB, 2.6 GB of them by default, in /dev/shm where there is one, and of
 fewer where it has no room. Beside it is `dcmdump -q -M +F +P` of DCMTK, also with `+st`, which ends each file after the last column.
@@ -74,6 +77,11 @@ SMALL_FILES, SMALL_PIXELS = 10_000, (100, 900)
 FEW_FILES, PARTS = 100, 4
 FILES_OF_A_FOLDER = 100
 SHARED_MEMORY = "/dev/shm"
+
+# texts that are shown by characters
+TEXTS = 50_000
+KANJI_NAME = "Yamada^Tarou=山田^太郎=やまだ^たろう".encode("iso2022_jp")
+COMMENT = "Größe der Läsion: 5 µm, am 3. März; Übergang über die Brücke geprüft".encode()
 
 TOP = Path(__file__).resolve().parent.parent
 
@@ -249,6 +257,13 @@ def frame_item(number):
 def make_frames(path):
     frames = [frame_item(number) for number in range(1, FRAMES + 1)]
     Path(path).write_bytes(meta(LITTLE) + front(LITTLE) + undefined_sequence(0x5200, 0x9230, frames))
+
+
+def make_texts(path, sets, group, element, vr, value):
+    """Many items with a text, behind what names its sets."""
+    named = leaf(LITTLE, 0x0008, 0x0005, "CS", sets)
+    items = [leaf(LITTLE, group, element, vr, value)] * TEXTS
+    Path(path).write_bytes(meta(LITTLE) + named + front(LITTLE) + undefined_sequence(0x0040, 0xA730, items))
 
 
 def make_empty_elements(path):
@@ -790,6 +805,18 @@ def print_trees(binary, slices, small, rounds):
         print_memory_of_trees(binary, folder)
 
 
+def print_texts(binary, rounds):
+    with tempfile.TemporaryDirectory() as folder:
+        inputs = {name: os.path.join(folder, name.replace(" ", "_")) for name in ("report", "Japanese names", "comments in UTF-8")}
+        make_report(inputs["report"])
+        make_texts(inputs["Japanese names"], b"\\ISO 2022 IR 87", 0x0010, 0x0010, "PN", KANJI_NAME)
+        make_texts(inputs["comments in UTF-8"], b"ISO_IR 192", 0x0010, 0x4000, "LT", COMMENT)
+        run = {"without": tool_of(binary), "+u8": with_dictionary(binary, "+u8")}
+        works = [Work("dcmdump", name, options, path) for name, path in inputs.items() for options in ([], ["+L"])]
+        print_best(f"Texts by characters, in milliseconds, the best of {rounds} rounds", works, run, rounds)
+        print_memory(works, run)
+
+
 def print_memory(works, run):
     rows = []
     for work in works:
@@ -820,6 +847,7 @@ def main():
     options.add_argument("--table-files", type=int, default=TABLE_FILES, help="files of a table")
     options.add_argument("--only-tables", action="store_true", help="tables of files, and nothing else")
     options.add_argument("--only-trees", action="store_true", help="trees of files, and nothing else")
+    options.add_argument("--only-texts", action="store_true", help="dumps by characters, and nothing else")
     options.add_argument("--tree-files", type=int, default=TREE_FILES, help="slices of a tree")
     options.add_argument("--small-files", type=int, default=SMALL_FILES, help="small files of a tree")
     chosen = options.parse_args()
@@ -831,6 +859,10 @@ def main():
     editing = editing_programs(binary, before)
     identity = identity_programs(binary)
     print(f"Before: {machine()}")
+    if chosen.only_texts:
+        print_texts(binary, chosen.rounds)
+        print(f"\nAfter: {machine()}")
+        return
     if chosen.only_trees:
         print_trees(binary, chosen.tree_files, chosen.small_files, chosen.rounds)
         print(f"\nAfter: {machine()}")

@@ -116,7 +116,7 @@ _dcmtools() {
         return
     fi
     case ${COMP_WORDS[1]} in
-        dcmdump) switches='-L +L +fo -f -ti -te -tb -dict +dict +F' ;;
+        dcmdump) switches='-L +L +u8 +fo -f -ti -te -tb -dict +dict +F' ;;
         dcmconv) switches='+t= +ti +te +tb -e +fo -dict +dict +r +c +part +nh +v' ;;
         dump2dcm) switches='+l -e' ;;
         dcmodify) switches='-i -m -e -ma -ea -ep -dict +dict +r +c +part +nh +v' ;;

@@ -1,27 +1,31 @@
 #!/usr/bin/env python3
-"""Makes crates/dcm_text/src/tables.rt, the characters of the sets of PS3.3 C.12.1.1.2, from the codecs of Python (3.11).
+"""Makes tables.rt and gb_tables.rt of crates/dcm_text/src, the characters of the sets of PS3.3 C.12.1.1.2, from the codecs of Python (3.11).
 
-    scripts/make_charsets.py > crates/dcm_text/src/tables.rt
-    scripts/make_charsets.py --check      fails where the file is another one
+    scripts/make_charsets.py              writes both
+    scripts/make_charsets.py --check      fails where a file is another one
     scripts/make_charsets.py --iconv      tells where iconv of glibc has another character
 
 A right half of one byte is 96 numbers, of the bytes A0 to FF. A set of 94 x 94 is the numbers of its rows, 94 each, from the rows
-in ROWS one after another. 0 is no character.
+in ROWS one after another. GB18030 is 126 rows (81 to FE, in three tables) of 190 (40 to 7E, 80 to FE), and the ranges of its four
+bytes: the number of the first, and its character. 0 is no character.
 """
 import ctypes
 import sys
 from pathlib import Path
 
-TABLES = Path(__file__).parent.parent / "crates/dcm_text/src/tables.rt"
+SOURCES = Path(__file__).parent.parent / "crates/dcm_text/src"
 SINGLE = {"13": "shift_jis", "100": "latin_1", "101": "iso8859_2", "109": "iso8859_3", "110": "iso8859_4", "126": "iso8859_7",
           "127": "iso8859_6", "138": "iso8859_8", "144": "iso8859_5", "148": "iso8859_9", "166": "tis_620", "203": "iso8859_15"}
-DOUBLE = {"87": "euc_jp", "149": "euc_kr", "58": "gb2312"}
-ROWS = {"87": ((1, 8), (16, 84)), "149": ((1, 12), (16, 40), (42, 93)), "58": ((1, 9), (16, 87))}
+DOUBLE = {"87": ("euc_jp", b""), "149": ("euc_kr", b""), "58": ("gb2312", b""), "159": ("euc_jp", b"\x8f")}
+ROWS = {"87": ((1, 8), (16, 84)), "149": ((1, 12), (16, 40), (42, 93)), "58": ((1, 9), (16, 87)), "159": ((2, 2), (6, 7), (9, 11), (16, 77))}
 # what the codec has otherwise than the standard's own tables
-CHANGED = {("149", 0x2268): 0x327E, ("149", 0x2454): 0x3164}
+CHANGED = {("159", 0x2237): 0xFF5E, ("149", 0x2268): 0x327E, ("149", 0x2454): 0x3164}
 ICONV = {n: "ISO-8859-15" if n == "203" else "SHIFT_JIS" if n == "13" else "ISO-IR-" + n for n in SINGLE}
-ICONV.update({"87": "EUC-JP", "149": "EUC-KR", "58": "EUC-CN"})
+ICONV.update({"87": "EUC-JP", "149": "EUC-KR", "58": "EUC-CN", "159": "EUC-JP", "GB": "GB18030"})
 WIDTH = 900
+# the second bytes of pairs of GB18030, and how many numbers of four bytes are below FFFF
+TRAILS = [*range(0x40, 0x7F), *range(0x80, 0xFF)]
+FOURS = 39420
 
 
 def number(codec, b):
@@ -39,25 +43,53 @@ def single(n):
 
 def double(n):
     """The numbers of the rows in ROWS, by the bytes; all other rows are empty, which is checked."""
+    codec, before = DOUBLE[n]
     found, rows = {}, [r for low, high in ROWS[n] for r in range(low, high + 1)]
     for row in range(1, 95):
         for cell in range(1, 95):
-            b = bytes([row + 0xA0, cell + 0xA0])
-            x = CHANGED.get((n, (row + 0x20) << 8 | cell + 0x20)) or number(DOUBLE[n], b)
+            b = before + bytes([row + 0xA0, cell + 0xA0])
+            x = CHANGED.get((n, (row + 0x20) << 8 | cell + 0x20)) or number(codec, b)
             assert x == 0 or (row in rows and 0xA0 <= x < 0x10000)
             if row in rows:
                 found[b] = x
     return found
 
 
-def array(name, what, numbers):
+def gb_pairs():
+    return {bytes([a, b]): number("gb18030", bytes([a, b])) for a in range(0x81, 0xFF) for b in TRAILS}
+
+
+def four_bytes(linear):
+    """The four bytes of a number."""
+    rest, d = divmod(linear, 10)
+    rest, c = divmod(rest, 126)
+    a, b = divmod(rest, 10)
+    return bytes([0x81 + a, 0x30 + b, 0x81 + c, 0x30 + d])
+
+
+def gb_ranges():
+    """Where numbers of four bytes and their characters begin to ascend together: the number, and its character."""
+    ranges, last = [], None
+    for linear in range(FOURS):
+        x = number("gb18030", four_bytes(linear))
+        if last is None or x != last + 1:
+            ranges.append((linear, x))
+        last = x
+    return ranges
+
+
+def packed(parts):
     lines, line = [], "    "
-    for part in (f"0x{x:04X}, " if x else "0, " for x in numbers):
+    for part in parts:
         if len(line) + len(part) > WIDTH:
             lines.append(line.rstrip())
             line = "    "
         line += part
-    body = "\n".join([*lines, line.rstrip()])
+    return "\n".join([*lines, line.rstrip()])
+
+
+def array(name, what, numbers):
+    body = packed([f"0x{x:04X}, " if x else "0, " for x in numbers])
     return f"\n/// {what}\n#[rattlefmt::skip]\npub static {name}: [u16; {len(numbers)}] = [\n{body}\n];\n"
 
 
@@ -69,6 +101,23 @@ def tables():
         rows = ", ".join(f"{a} to {b}" for a, b in ROWS[n])
         text += array(f"ROWS_{n}", f"The rows {rows} of ISO-IR {n}, 94 characters each.", list(double(n).values()))
     return text
+
+
+def gb_tables():
+    text = "//! The characters of GB18030; 0 is none. `scripts/make_charsets.py` wrote this file.\n"
+    numbers = list(gb_pairs().values())
+    size = len(numbers) // 3
+    for k, (low, high) in enumerate((("81", "AA"), ("AB", "D4"), ("D5", "FE"))):
+        what = f"The pairs of GB18030 whose first byte is {low} to {high}: for each the second bytes 40 to 7E and 80 to FE."
+        text += array(f"GB_PAIRS_{low}", what, numbers[size * k:size * (k + 1)])
+    ranges = gb_ranges()
+    body = packed([f"({linear}, 0x{x:04X}), " for linear, x in ranges])
+    return text + (f"\n/// Where ranges of four bytes of GB18030 begin: their number, and their character.\n#[rattlefmt::skip]\n"
+                   f"pub static GB_RANGES: [(u16, u16); {len(ranges)}] = [\n{body}\n];\n")
+
+
+def files():
+    return {SOURCES / "tables.rt": tables(), SOURCES / "gb_tables.rt": gb_tables()}
 
 
 def by_iconv(name, b):
@@ -91,7 +140,7 @@ by_iconv.opened = {}
 
 
 def compare():
-    for n, table in [*((n, single(n)) for n in SINGLE), *((n, double(n)) for n in DOUBLE)]:
+    for n, table in [*((n, single(n)) for n in SINGLE), *((n, double(n)) for n in DOUBLE), ("GB", gb_pairs())]:
         found = [(b, x, by_iconv(ICONV[n], b)) for b, x in table.items()]
         bad = [f"{b.hex()} {x:04X} {'+'.join(f'{ord(y):04X}' for y in g) or 'none'}"
                for b, x, g in found if (chr(x) if x else "") != g]
@@ -102,13 +151,15 @@ def main(words):
     if words == ["--iconv"]:
         compare()
     elif words == ["--check"]:
-        if TABLES.read_text() != tables():
-            sys.exit(f"{TABLES} is not what this script writes")
+        for path, text in files().items():
+            if path.read_text() != text:
+                sys.exit(f"{path} is not what this script writes")
         print("the tables are what the codecs have")
     elif words:
         sys.exit(__doc__)
     else:
-        print(tables(), end="")
+        for path, text in files().items():
+            path.write_text(text)
 
 
 if __name__ == "__main__":

@@ -21,7 +21,7 @@ ON_THE_WAY = {
     "dcm_base": "one_front reads_one front_shows value_reads_back normal_recodes keywords_are_lines elements_ascend extract_is_part",
     "dcm_base_laws": "one_shown line_reads_back rebuilt_recodes target_fits keywords_differ called_back",
     "dcm_head": "heads_read one_head heads_written meta_reads meta_reads_one data_set_begins meta_steps",
-    "dcm_value": "text_steps value_reads_back",
+    "dcm_value": "text_steps value_reads_back decoded_text_steps",
     "dcm_stream": """machine_steps machine_answers machine_halts machine_stays_small machine_grows reads_one reads_some
         ascending_by_atoms machine_drives machine_ends machine_refuses machine_waits sinks_bar bars_are_decided""",
     "dcm_sinks": "dump_steps dump_reads encode_steps encode_reads encode_bars recode_reads recode_twice new_meta_reads",

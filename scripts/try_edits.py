@@ -3,6 +3,8 @@
 
     scripts/try_edits.py [NAME..]      tries all edits of these crates, or of all, and notes the crates whose edits are all refused
     scripts/try_edits.py --others ..   the same, but those of scripts/edits alone; it notes nothing
+    scripts/try_edits.py NAME/EDIT ..  tries these alone; it notes nothing
+    scripts/try_edits.py --applies     says in a second which edits cannot be applied
     scripts/try_edits.py --check       says in a second which crates changed since their edits were tried
     scripts/try_edits.py --table       writes the table of the record into docs/engineers/GATE.md
 
@@ -12,6 +14,11 @@ the repository, and needs `rt`. The record is scripts/edits/tried.tsv: crate, ch
 A refusal counts only where a goal is left open: of the function that the edit changes, or of one that calls it or names what it changes.
 One that comes of a missing name, a type, the shape of a proof or a form that does not compile fails, and so does any line that is not
 understood. It ends with 0 where each edit is refused for a goal, and of --check where no crate changed.
+
+Most of a check is done before its first goal, so edits in the bodies of several functions are tried in one check. That says as much: a
+proof cites what another function's contract says, and never its body, so a goal of a function is left open by its own edit. An edit
+whose function has no goal there is tried by itself, and then a goal of a caller counts too. So is one of a definition or a constant.
+What was refused is kept in the crate's folder out, and is not tried again while the crate and the edit stay as they are.
 """
 import datetime
 import hashlib
@@ -29,22 +36,28 @@ RECORD = OTHERS / "tried.tsv"
 PAGE = ROOT / "docs/engineers/GATE.md"
 BEGIN, END = "<!-- edits: written by scripts/try_edits.py -->", "<!-- end of edits -->"
 
-# What `rt must-fail` says of an edit. Other words than these are not understood, and fail.
-LINE = re.compile(r"rt: must-fail (?P<crate>\w+)/(?P<edit>\w+)\.edit: (?P<words>.*)")
-REFUSED = "refused, as it must be: "
-FOR_A_NAME = "refused, as it must be (only because a proof file names what the edit took away"
-
-# A goal that is left open: in the code, or in the answer to a goal that no longer holds.
-OPEN_GOAL = re.compile(r"(?:note: )?(?:\./)?(?P<file>src/[\w/]+\.rt):(?P<line>\d+):\d+: it is not proved that .*?\(`(?P<goal>[^`]+)`\)")
+# What a check says of a goal that is left open: in the code, or in the answer to a goal that no longer holds.
+OPEN_GOAL = re.compile(
+    r"(?:note: )?(?:\./)?(?P<file>src/[\w/]+\.rt):(?P<line>\d+):\d+: (?:it is not proved that|`search` found no proof) .*?\(`(?P<goal>[^`]+)`\)"
+)
 OPEN_ANSWER = re.compile(r"\./proofs/(?P<path>[\w+/]+)/(?P<which>Answers|Invariants)\.antt:\d+:\d+: error: `(?P<goal>[^`]+)`: (?P<why>.*)")
 OPEN_LEMMA = re.compile(r"\./(?P<file>(?:proofs|specs)/[\w/]+\.antt):\d+:\d+: error: `(?P<goal>[^`]+)`: (?P<why>.*)")
 
+# What a check says of code that does not compile.
+NO_CODE = re.compile(r"(?:\./)?src/[\w/]+\.rt:\d+:\d+: error")
+
+# How many edits are tried in one check at most: 28 of dcm_trees took 8 GB.
+MOST = 20
+
 # The head of a function, of a constant, or of another name of a type.
-HEAD = re.compile(r"\s*(?:pub(?:\([^)]*\))? )?(?:(?:const )?fn|const|static|type) (\w+)")
+HEAD = re.compile(r"(?P<indent>\s*)(?:pub(?:\([^)]*\))? )?(?P<kind>(?:const )?fn|const|static|type) (?P<name>\w+)")
+CYCLE = re.compile(r"#\[cycle\((\w+)\)\]\s*(?:(?://|#\[)[^\n]*\s*)*(?:pub(?:\([^)]*\))? )?fn (\w+)")
 
 # In an answer these speak of names and forms, and not of what is to be shown.
-OF_FORM = ("has no field", "is not in scope", "names no ", "is not a function", "projects from a record", "expected answers", "expected a measure",
-           "mismatched-types", "no constructor", "was not admitted", "is built in")
+OF_FORM = (
+    "has no field", "has no `", "record `Rattle.", "is not in scope", "names no ", "is not a function", "projects from a record", "expected answers",
+    "expected a measure", "mismatched-types", "no constructor", "was not admitted", "is built in",
+)
 
 
 def edits_of(crate: str, others_alone: bool = False) -> list[Path]:
@@ -120,19 +133,63 @@ def function_at(text: str, line: int) -> str:
     while line < len(lines) and re.match(r"\s*(///|#\[)", lines[line - 1]):
         line += 1
     heads = (HEAD.match(words) for words in reversed(lines[:line]))
-    return next((head.group(1) for head in heads if head), "")
+    return next((head["name"] for head in heads if head), "")
+
+
+def changes(crate: str, edit: Path) -> dict[str, dict[int, str]]:
+    """The lines that an edit writes anew, by their file and number, from 1. A pair applies to what those before it made."""
+    texts: dict[str, str] = {}
+    file = old = ""
+    for line in edit.read_text().splitlines():
+        if line.startswith("file: "):
+            file = line[6:].strip()
+        elif line.startswith("old: "):
+            old = line[5:]
+        elif line.startswith("new:"):
+            text = texts.get(file) or (ROOT / "crates" / crate / file).read_text()
+            if text.count(old) != 1:
+                raise ValueError(f"{edit.relative_to(ROOT)}: the old text is {text.count(old)} times in {file}: {old}")
+            texts[file] = text.replace(old, line[4:].removeprefix(" "))
+    lines = {file: zip((ROOT / "crates" / crate / file).read_text().splitlines(), text.splitlines()) for file, text in texts.items()}
+    return {file: {at: new for at, (was, new) in enumerate(pairs, 1) if was != new} for file, pairs in lines.items()}
 
 
 def changed_item(crate: str, edit: Path) -> tuple[str, str]:
-    """The file of an edit, and the function or constant of it that it changes."""
-    words = edit.read_text().splitlines()
-    file = next(line[6:].strip() for line in words if line.startswith("file: "))
-    old = next(line[5:] for line in words if line.startswith("old: "))
+    """The file of an edit, and the function or constant of it that it changes first."""
+    file, lines = next(iter(changes(crate, edit).items()))
     text = (ROOT / "crates" / crate / file).read_text()
-    if not file.endswith(".rt"):
-        return file, ""
-    place = text.find(old)
-    return file, function_at(text, text.count("\n", 0, place) + 1) if place >= 0 else ""
+    return file, function_at(text, min(lines)) if file.endswith(".rt") else ""
+
+
+def is_in_body(text: str, line: int) -> bool:
+    """Whether a line is in the body of a function, from its brace on: of its head and its contract another function's proof may speak."""
+    lines = text.splitlines()
+    heads = ((at, HEAD.match(lines[at - 1])) for at in range(line, 0, -1))
+    first, head = next(((at, head) for at, head in heads if head), (0, None))
+    if not head or head["kind"] != "fn":
+        return False
+    own = re.compile(rf"{head['indent']}\S")
+    begin = next((at for at in range(first, len(lines) + 1) if own.match(lines[at - 1]) and lines[at - 1].rstrip().endswith(("{", "}"))), 0)
+    end = next((at for at in range(begin, len(lines) + 1) if own.match(lines[at - 1]) and lines[at - 1].rstrip().endswith("}")), 0)
+    return 0 < begin <= line <= end
+
+
+def cycles_of(crate: str) -> dict[str, str]:
+    """The cycles of calls that functions are in."""
+    sources = (ROOT / "crates" / crate / "src").rglob("*.rt")
+    return {name: f"+{cycle}" for path in sources for cycle, name in CYCLE.findall(path.read_text())}
+
+
+def bodies(crate: str, edit: Path) -> set[str]:
+    """The functions whose bodies are all that an edit changes, each by its cycle of calls where it is in one; none where it changes more."""
+    cycles = cycles_of(crate)
+    found = set()
+    for file, lines in changes(crate, edit).items():
+        text = (ROOT / "crates" / crate / file).read_text()
+        if not file.endswith(".rt") or not all(is_in_body(text, line) for line in lines):
+            return set()
+        found |= {function_at(text, line) for line in lines}
+    return {cycles.get(name, name) for name in found}
 
 
 def function_of(crate: str, folder: str, goal: str) -> str:
@@ -145,19 +202,21 @@ def function_of(crate: str, folder: str, goal: str) -> str:
     return first if any(re.search(rf"\bfn {first}\b", text) for text in sources) else folder[1:]
 
 
-def goal_in(crate: str, edit: Path, words: str) -> tuple[str, str, str]:
-    """The goal, the function that has it, and why it says nothing of the contract, if so. Lines of the edited copy are those of the
-    source, since an edit is of one line for one."""
-    if found := OPEN_GOAL.search(words):
-        text = (ROOT / "crates" / crate / found["file"]).read_text()
-        return found["goal"], function_at(text, int(found["line"])), ""
-    if found := OPEN_ANSWER.search(words):
-        why = next((form for form in OF_FORM if form in found["why"]), "")
-        return found["goal"], function_of(crate, found["path"].split("/")[-1], found["goal"]), why
-    if found := OPEN_LEMMA.search(words):
-        why = next((form for form in OF_FORM if form in found["why"]), "")
-        return found["goal"], found["file"], why
-    return "", "", "its words are not understood"
+def goals_in(crate: str, said: str) -> list[tuple[str, str, str, str]]:
+    """The goals that a check left open: each with the function that has it, why it says nothing of the contract, if so, and the line.
+    Lines of the edited copy are those of the source, since an edit is of one line for one."""
+    goals = []
+    for line in said.splitlines():
+        if found := OPEN_GOAL.match(line):
+            text = (ROOT / "crates" / crate / found["file"]).read_text()
+            goals.append((found["goal"], function_at(text, int(found["line"])), "", line))
+        elif found := OPEN_ANSWER.match(line) or OPEN_LEMMA.match(line):
+            why = next((form for form in OF_FORM if form in found["why"]), "")
+            why = why or ("a ghost value is picked so no more" if found["goal"].startswith("ghost-") else "")
+            place = found.groupdict()
+            function = function_of(crate, place["path"].split("/")[-1], found["goal"]) if "path" in place else place["file"]
+            goals.append((found["goal"], function, why, line))
+    return goals
 
 
 def speaks_of(crate: str, function: str, item: str) -> bool:
@@ -174,73 +233,199 @@ def speaks_of(crate: str, function: str, item: str) -> bool:
     return False
 
 
-def judge(crate: str, edit: Path, words: str) -> tuple[bool, str]:
-    """Whether an edit is refused for a goal of what it changes, and a line that says which."""
-    if words.startswith(FOR_A_NAME):
-        return False, f"{crate}/{edit.stem}: refused for a name that is gone"
-    if not words.startswith(REFUSED):
-        return False, f"{crate}/{edit.stem}: {words}"
-    goal, function, why = goal_in(crate, edit, words)
+def refusal(crate: str, edit: Path, said: str, is_alone: bool) -> str:
+    """The goal for which a check refused an edit, and its function; nothing where it refused it for no goal of what the edit changes."""
     file, item = changed_item(crate, edit)
-    if why:
-        return False, f"{crate}/{edit.stem}: {why}: {words[len(REFUSED):][:200]}"
-    if file.endswith(".rt") and not speaks_of(crate, function, item):
-        return False, f"{crate}/{edit.stem}: changes {item}, but the goal `{goal}` is of {function}"
-    return True, f"{crate}/{edit.stem}: `{goal}` of {function}"
+    own = bodies(crate, edit)
+    goals = goals_in(crate, said)
+    cycles = cycles_of(crate)
+    is_of_it = lambda function: cycles.get(function, function) in own
+    speaks = lambda function: is_alone and (not file.endswith(".rt") or speaks_of(crate, function, item))
+    # (an answer that holds no more says more than a goal that no answer is for)
+    open_ones = sorted((it for it in goals if not it[2]), key=lambda it: (not is_of_it(it[1]), bool(OPEN_GOAL.match(it[3]))))
+    found = next((it for it in open_ones if is_of_it(it[1]) or speaks(it[1])), None)
+    if not found:
+        return ""
+    lost = [goal for goal, function, _, line in goals if function == found[1] and re.search(r"Goals` has no ", line)]
+    return f"`{found[0]}` of {found[1]}" + (f"; it has no goal `{lost[0]}` any more" if lost and OPEN_GOAL.match(found[3]) else "")
 
 
 # ---- the trying
 
-def copy_with_edits(to: Path, names: list[str], others_alone: bool) -> None:
-    """The repository, in which these crates have all their edits in one folder, or those of scripts/edits alone."""
-    shutil.copytree(ROOT / "crates", to / "crates", ignore=shutil.ignore_patterns("out", "must-fail"))
-    for name in ("crates.txt", "HANDLES"):
-        shutil.copy(ROOT / name, to / name)
-    for name in names:
-        folder = to / "crates" / name / "must-fail"
-        folder.mkdir()
-        for edit in edits_of(name, others_alone):
-            if (folder / edit.name).exists():
-                sys.exit(f"{name}: two edits are called {edit.name}")
-            shutil.copy(edit, folder / edit.name)
+class Bench:
+    """A copy of the repository in which edits of a crate are checked, each time over what a check of the crate as it stands has kept."""
+
+    def __init__(self, room: str):
+        self.top, self.kept = Path(room) / "repository", Path(room) / "kept"
+        shutil.copytree(ROOT / "crates", self.top / "crates", ignore=shutil.ignore_patterns("out", "must-fail"))
+        for name in ("crates.txt", "HANDLES"):
+            shutil.copy(ROOT / name, self.top / name)
+
+    def rt_check(self, crate: str) -> str:
+        how = {"stdout": subprocess.PIPE, "stderr": subprocess.STDOUT, "text": True}
+        run = subprocess.run(["rt", "check", "--jobs", "1"], cwd=self.top / "crates" / crate, **how)
+        return run.stdout
+
+    def begin(self, crate: str) -> bool:
+        """Proves the crate as it stands, and keeps what that left."""
+        said = self.rt_check(crate)
+        shutil.rmtree(self.kept, ignore_errors=True)
+        if "\nlogic=proved" not in said:
+            print(said[-2000:])
+            return False
+        copy_kept(self.top / "crates" / crate / "out/incremental", self.kept)
+        return True
+
+    def check(self, crate: str, edits: list[Path]) -> str:
+        """What a check says of the crate with these edits. No two of them change one line."""
+        folder = self.top / "crates" / crate
+        shutil.rmtree(folder / "out/incremental", ignore_errors=True)
+        copy_kept(self.kept, folder / "out/incremental")
+        texts = {}
+        for edit in edits:
+            for file, lines in changes(crate, edit).items():
+                text = texts.setdefault(file, (folder / file).read_text().split("\n"))
+                for at, line in lines.items():
+                    text[at - 1] = line
+        for file, text in texts.items():
+            (folder / file).write_text("\n".join(text))
+        said = self.rt_check(crate)
+        for file in texts:
+            shutil.copy(ROOT / "crates" / crate / file, folder / file)
+        return said
 
 
-def read_answers(names: list[str], others_alone: bool, output: str) -> int:
-    said: dict[tuple[str, str], str] = {}
-    for found in map(LINE.match, output.splitlines()):
-        if found:
-            said[found["crate"], found["edit"]] = found["words"]
+def copy_kept(work: Path, to: Path) -> None:
+    """Copies what a check kept. Its large files by links: a check replaces such a file, and changes none."""
+    shutil.copytree(work, to, copy_function=lambda one, other: os.link(one, other) if one.endswith(".oantt") else shutil.copy2(one, other))
+
+
+def together(crate: str, edits: list[Path]) -> list[list[Path]]:
+    """The edits in groups, each to be tried in one check: those in which no function is changed twice, and each other edit by itself."""
+    groups: list[tuple[set[str], list[Path]]] = []
+    alone = []
+    for edit in edits:
+        own = bodies(crate, edit)
+        group = next((it for it in groups if not own & it[0] and len(it[1]) < MOST), None)
+        if not own:
+            alone.append([edit])
+        elif group:
+            group[0].update(own)
+            group[1].append(edit)
+        else:
+            groups.append((own, [edit]))
+    return [group for _, group in groups] + alone
+
+
+def try_group(bench: Bench, crate: str, edits: list[Path]) -> dict[Path, tuple[bool, str]]:
+    """Whether each edit is refused for a goal of what it changes, and a line that says which. Those that have none in a check of several
+    are tried anew without the others, which may stand in the way of their proofs."""
+    said = bench.check(crate, edits)
+    if len(edits) == 1:
+        why = refusal(crate, edits[0], said, True)
+        return {edits[0]: (bool(why), why or what_was_said(crate, said))}
+    if "\nlogic=not-proved" not in said:
+        # (one does not compile)
+        faults = [line for line in said.splitlines() if NO_CODE.match(line)]
+        at_fault = {(file, int(at)) for line in faults for file, at in re.findall(r"(src/[\w/]+\.rt):(\d+)", line)}
+        lines = {edit: {(file, at) for file, lines in changes(crate, edit).items() for at in lines} for edit in edits}
+        parts = [edit for edit in edits if lines[edit] & at_fault]
+        parts = parts if 0 < len(parts) < len(edits) else edits[: len(edits) // 2]
+        return try_group(bench, crate, parts) | try_group(bench, crate, [edit for edit in edits if edit not in parts])
+    why = {edit: refusal(crate, edit, said, False) for edit in edits}
+    answers = {edit: (True, line) for edit, line in why.items() if line}
+    rest = [edit for edit, line in why.items() if not line]
+    for group in [rest] if answers and rest else [[edit] for edit in rest]:
+        answers |= try_group(bench, crate, group)
+    return answers
+
+
+def what_was_said(crate: str, said: str) -> str:
+    """Of an edit that no goal refused, what the check said instead."""
+    if "\nlogic=proved" in said:
+        return "NOT REFUSED: the crate is still proved"
+    if goals := goals_in(crate, said):
+        goal, function, why, line = goals[0]
+        return f"{why}: {line[:200]}" if why else f"the goal `{goal}` is of {function}"
+    lines = [line for line in said.splitlines() if re.search(r"error|: no proof: |no verdict|could not tell", line)]
+    return (lines or said.splitlines()[-1:] or ["nothing"])[0][:200]
+
+
+def key_of(crate: str, edit: Path) -> str:
+    """Of an edit and of what it is tried on."""
+    sum_of = hashlib.sha256(edit.read_bytes())
+    for path in sorted(path for name in ("src", "specs", "proofs") for path in (ROOT / "crates" / crate / name).rglob("*") if path.is_file()):
+        sum_of.update(str(path.relative_to(ROOT)).encode() + b"\0" + path.read_bytes() + b"\0")
+    return sum_of.hexdigest()[:32]
+
+
+def try_crate(bench: Bench, crate: str, edits: list[Path]) -> list[tuple[bool, str]]:
+    """Tries edits of a crate, but for those that an earlier run refused of the same text: the folder out of the crate keeps for what."""
+    keys = {edit: key_of(crate, edit) for edit in edits}
+    kept = ROOT / "crates" / crate / "out/refused.tsv"
+    refused = dict(line.split("\t") for line in kept.read_text().splitlines()) if kept.exists() else {}
+    answers = {edit: (True, refused[keys[edit]]) for edit in edits if keys[edit] in refused}
+    new = [edit for edit in edits if edit not in answers]
+    if new and not bench.begin(crate):
+        return [(False, f"{crate}: it is not proved as it stands")] * len(edits)
+    for group in together(crate, new):
+        answers |= try_group(bench, crate, group)
+    refused |= {keys[edit]: line for edit, (is_refused, line) in answers.items() if is_refused}
+    kept.parent.mkdir(exist_ok=True)
+    kept.write_text("".join(f"{key}\t{line}\n" for key, line in refused.items()))
+    return [(answers[edit][0], f"{crate}/{edit.stem}: {answers[edit][1]}") for edit in edits]
+
+
+def applies() -> int:
+    """Says which edits cannot be applied, or have the name of another."""
     failed = 0
-    for name in names:
-        answers = [(edit, said.get((name, edit.stem), "no word of it was said")) for edit in edits_of(name, others_alone)]
-        judged = [judge(name, edit, words) for edit, words in answers]
-        for good, line in judged:
-            print(("   " if good else "!! ") + line)
-        bad = sum(1 for good, _ in judged if not good)
-        failed += bad
-        if not bad and not others_alone:
-            note(name, len(judged))
-    print(f"{sum(len(edits_of(name, others_alone)) for name in names)} edits, {failed} not refused for a goal of what they change")
+    for crate in crates_with_edits():
+        edits = edits_of(crate)
+        for edit in edits:
+            try:
+                if not any(changes(crate, edit).values()):
+                    raise ValueError(f"{edit.relative_to(ROOT)}: it changes nothing")
+                if sum(1 for other in edits if other.name == edit.name) > 1:
+                    raise ValueError(f"{edit.relative_to(ROOT)}: another edit of the crate has this name")
+            except (OSError, ValueError, StopIteration) as error:
+                print(error)
+                failed += 1
+    print(f"{sum(len(edits_of(crate)) for crate in crates_with_edits())} edits, {failed} cannot be applied")
     return 1 if failed else 0
 
 
+def wanted_edits(words: list[str], others_alone: bool) -> dict[str, list[Path]]:
+    """The edits that words name, by their crates, in the order of the words; all where there is no word."""
+    wanted: dict[str, list[Path]] = {}
+    for word in words or [name for name in crates_with_edits() if edits_of(name, others_alone)]:
+        crate, _, stem = word.partition("/")
+        found = [edit for edit in edits_of(crate, others_alone) if stem in ("", edit.stem)]
+        if not found:
+            sys.exit(f"no edits of {word}: there are some of {', '.join(crates_with_edits())}")
+        wanted.setdefault(crate, []).extend(found)
+    return wanted
+
+
 def main(words: list[str]) -> int:
-    if words == ["--check"]:
-        return check()
-    if words == ["--table"]:
-        return table()
+    for word, call in (("--check", check), ("--table", table), ("--applies", applies)):
+        if words == [word]:
+            return call()
     others_alone = words[:1] == ["--others"]
-    names = words[1:] if others_alone else words
-    every = [name for name in crates_with_edits() if edits_of(name, others_alone)]
-    unknown = [name for name in names if name not in every]
-    if unknown:
-        print(f"no edits of {', '.join(unknown)}: there are some of {', '.join(every)}", file=sys.stderr)
-        return 2
-    names = names or every
+    words = words[1:] if others_alone else words
+    wanted = wanted_edits(words, others_alone)
+    failed = 0
     with tempfile.TemporaryDirectory() as room:
-        copy_with_edits(Path(room), names, others_alone)
-        run = subprocess.run(["rt", "must-fail", *names], cwd=room, stdout=subprocess.PIPE, stderr=subprocess.STDOUT, text=True)
-        return read_answers(names, others_alone, run.stdout)
+        bench = Bench(room)
+        for crate, edits in wanted.items():
+            judged = try_crate(bench, crate, edits)
+            for good, line in judged:
+                print(("   " if good else "!! ") + line, flush=True)
+            bad = sum(1 for good, _ in judged if not good)
+            failed += bad
+            if not bad and edits == edits_of(crate):
+                note(crate, len(judged))
+    print(f"{sum(map(len, wanted.values()))} edits, {failed} not refused for a goal of what they change")
+    return 1 if failed else 0
 
 
 if __name__ == "__main__":

@@ -104,7 +104,8 @@ AT_IMPLICIT = len(file_of(IMPLICIT, b""))
 
 def line(tag, vr, display, size, count, keyword, level=0):
     start = f"{'  ' * level}({tag >> 16:04x},{tag & 0xFFFF:04x}) {vr} {display}"
-    return f"{start.ljust(len('  ' * level) + 15 + 40)} # {size:>3}, {count} {keyword}\n"
+    spaces = " " * (40 - len(display.encode("utf-8", "surrogateescape")))
+    return f"{start}{spaces} # {size:>3}, {count} {keyword}\n"
 
 
 FILE_HEADER = "# Dicom-File-Format\n\n# Dicom-Meta-Information-Header\n# Used TransferSyntax: LittleEndianExplicit\n"
@@ -172,6 +173,39 @@ def dumps(claim, uid, data_set, lines, words=DUMP):
 def displays(claim, vr, value, display, count, uid=LITTLE, words=WHOLE):
     keyword = "Unknown Tag & Data"
     return dumps(claim, uid, leaf(0x00111001, vr, value, uid), line(0x00111001, vr, display, len(value), count, keyword), words)
+
+
+SPECIFIC = 0x00080005
+
+
+def decodes(claim, sets, value, display, count, vr="PN", before=b"", before_lines="", words="dcmdump +u8 FILE"):
+    """A dump by characters of a value behind a Specific Character Set."""
+    keyword = "Unknown Tag & Data"
+    named = leaf(SPECIFIC, "CS", sets) if sets else b""
+    named_line = line(SPECIFIC, "CS", f"[{sets.decode().rstrip()}]", len(sets), sets.count(b"\\") + 1, "SpecificCharacterSet") if sets else ""
+    value_line = line(0x00111001, vr, display, len(value), count, keyword)
+    return dumps(claim, LITTLE, named + before + leaf(0x00111001, vr, value), named_line + before_lines + value_line, words)
+
+
+def characters():
+    item_sets = sequence(IMAGES, item(leaf(SPECIFIC, "CS", b"ISO_IR 144")))
+    item_lines = line(IMAGES, "SQ", "(Sequence with explicit length)", len(item_sets) - 12, 1, "ReferencedImageSequence")
+    item_lines += line(0xFFFEE000, "na", "(Item with explicit length)", len(item_sets) - 20, 1, "Item", 1)
+    item_lines += line(SPECIFIC, "CS", "[ISO_IR 144]", 10, 1, "SpecificCharacterSet", 2)
+    item_lines += line(0xFFFEE00D, "na", "(ItemDelimitationItem for re-encoding)", 0, 0, "ItemDelimitationItem", 1)
+    item_lines += line(0xFFFEE0DD, "na", "(SequenceDelimitationItem for re-encod.)", 0, 0, "SequenceDelimitationItem")
+    return [
+        decodes("texts in UTF-8", b"ISO_IR 100", b"M\xfcller", "[M\u00fcller]", 1),
+        decodes("without one it is ASCII", b"", b"M\xfcller", "[M%FCller]", 1),
+        decodes("what an item sets ends with it", b"ISO_IR 100", b"\xe9\xe9", "[\u00e9\u00e9]", 1, before=item_sets, before_lines=item_lines),
+        decodes("a byte without a character", b"ISO_IR 100", b"\x85A", "[%85A]", 1),
+        decodes("what is escaped or shows nothing", b"ISO_IR 192", b"%]\xe2\x80\xaea", "[%25%5D%E2%80%AEa]", 1),
+        decodes("other texts", b"ISO_IR 100", b"\xe9A", "[%E9A]", 1, vr="CS"),
+        decodes("5C in a kanji is no backslash", b"\\ISO 2022 IR 87 ", b"\x1b$B0\\\x1b(B\\a", "[\u79fb\\a]", 2, vr="LO"),
+        decodes("the cut falls into no character", b"ISO_IR 192", b"a" + "\u00fc".encode() * 39 + b"a", "[a" + "\u00fc" * 30 + "...", 1, vr="LT"),
+        decodes("GB18030", b"GB18030 ", b"\xcd\xf5", "[\u738b]", 1),
+        refused("V2: +u8 of dcmconv", "dcmconv +u8 FILE -", "V2 at word 2: unknown option"),
+    ]
 
 
 def converts(claim, words, source, target, data_set, converted):
@@ -543,6 +577,7 @@ SHOWING = [
     displays("escapes", "LO", b"50%\n]\x7f\xe4", "[50%25%0A%5D%7F\udce4]", 1),
     displays("values of a text", "LO", b"a\\b\\c ", "[a\\b\\c]", 3),
     displays("LT has one value", "LT", b"a\\b ", "[a\\b]", 1),
+    *characters(),
     displays("UI with a name", "UI", b"1.2.840.10008.5.1.4.1.1.2\0", "=CTImageStorage", 1),
     displays("UI without a name", "UI", b"1.2.3\0", "[1.2.3]", 1),
     displays("US", "US", struct.pack("<HH", 1, 65535), "1\\65535", 2),
@@ -1016,7 +1051,7 @@ TABLES = [
     table("texts as characters", "+u8 -k PatientName FILE", leaf(CHARACTER_SET, "CS", b"ISO_IR 100") + leaf(NAME, "PN", b"M\xfcller\x85"), '"FILE","M\u00fcller\\x85"'),
     table("an item's set ends with it", "+u8 -k PatientName FILE", leaf(CHARACTER_SET, "CS", b"ISO_IR 100") + sequence(IMAGES, item(leaf(CHARACTER_SET, "CS", b"ISO_IR 144"))) + leaf(NAME, "PN", b"\xe9"), '"FILE","\u00e9"'),
     table("what comes behind the text does not count", "+u8 -k PatientName FILE", leaf(NAME, "PN", b"\xe9") + leaf(CHARACTER_SET, "CS", b"ISO_IR 100"), '"FILE","\\xe9"'),
-    table("an unknown term names ASCII", "+u8 -k PatientName FILE", leaf(CHARACTER_SET, "CS", b"GB18030") + leaf(NAME, "PN", b"\xe9"), '"FILE","\\xe9"'),
+    table("an unknown term names ASCII", "+u8 -k PatientName FILE", leaf(CHARACTER_SET, "CS", b"GB2312") + leaf(NAME, "PN", b"\xe9"), '"FILE","\\xe9"'),
     table("designations are dropped", "+u8 -k PatientName FILE", leaf(CHARACTER_SET, "CS", b"\\ISO 2022 IR 87") + leaf(NAME, "PN", b"\x1b$B;3\x1b(B^A"), '"FILE","\u5c71^A"'),
     table("codes are as without +u8", "+u8 -k Modality FILE", leaf(CHARACTER_SET, "CS", b"ISO_IR 100") + leaf(0x00080060, "CS", b"\xe9"), '"FILE","\\xe9"'),
     table("the first element of the tag counts", "-k PatientName FILE", AB + leaf(NAME, "PN", b"CD"), NAMED),
@@ -1072,7 +1107,7 @@ CAUSES = [
 
 TOOLS = ["dcmdump", "dcmconv", "dump2dcm", "dcmodify", "dcmdeid", "dcm2csv"]
 OPTIONS = [
-    ["-L", "+L", "+fo", "-f", "-ti", "-te", "-tb", "-dict", "+dict"],
+    ["-L", "+L", "+u8", "+fo", "-f", "-ti", "-te", "-tb", "-dict", "+dict"],
     ["+t=", "+ti", "+te", "+tb", "-e", "+fo", "-dict", "+dict"],
     ["+l", "-e"],
     ["-i", "-m", "-e", "-ma", "-ea", "-ep", "-dict", "+dict"],

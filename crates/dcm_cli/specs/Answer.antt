@@ -14,6 +14,9 @@ use Rattle.dcm_base.specs.File.MetaReads.{Meta, MetaReads, PREFIX}
 use Rattle.dcm_base.specs.Conversion.NewMeta.{new_meta}
 use Rattle.dcm_base.specs.Dump.Header.{set_header, meta_header}
 use Rattle.dcm_base.specs.Dump.Dump.{dump_front}
+use Rattle.dcm_sinks.specs.DecodedDump.{decoded_front}
+use Rattle.dcm_sinks.specs.DecodedHeader.{decoded_meta_header, decoded_set_header}
+use Rattle.dcm_sinks.specs.InForce.{EMPTY}
 use Rattle.dcm_base.specs.Conversion.Recode.{recode}
 use Rattle.dcm_head.specs.SyntaxUids.{uid_of_syntax}
 use Rattle.dcm_edits.specs.Edit.{Edit, edited, found}
@@ -28,7 +31,7 @@ use Rattle.dcm_deid.specs.declared.fate.Options.{Options}
 use Rattle.dcm_deid.specs.Meta.{meta_without_identity}
 use Rattle.dcm_deid.specs.Pixels.{may_show}
 use Rattle.dcm_deid.specs.Saying.{deidentified, whole_of}
-use Rattle.dcm_words.specs.Words.{Job, dump, convert, build as building, modify, deidentify}
+use Rattle.dcm_words.specs.Words.{Job, dump, dump_decoded, convert, build as building, modify, deidentify}
 use Rattle.dcm_cli.specs.ErrorLines.{error_line, pixels_line, unplaced_line}
 use Rattle.dcm_cli.specs.Status.{DONE, FAULT, REMARK}
 
@@ -54,6 +57,7 @@ target_syntax (Some syntax) coding = read_by (dictionary_of coding.syntax) synta
 -- the dictionary that a job reads with; lines name their representations
 abbrev pub job_dictionary : Job → Dictionary
 job_dictionary (dump d mode bare) = d
+job_dictionary (dump_decoded d mode bare) = d
 job_dictionary (convert d target) = d
 job_dictionary (building limit) = Extract
 job_dictionary (modify d edits) = d
@@ -108,6 +112,7 @@ pub record AloneReads (syntax : Syntax) (bytes : List ℕ) (source : Source) : T
 -- how an input is read for a job
 abbrev pub InputReads : Job → List ℕ → Source → Type 0
 InputReads (dump d mode (Some syntax)) bytes source = AloneReads (read_by d syntax) bytes source
+InputReads (dump_decoded d mode (Some syntax)) bytes source = AloneReads (read_by d syntax) bytes source
 InputReads job bytes source = FileReads job bytes source
 
 -- ---- what is written of it
@@ -120,6 +125,8 @@ written_file uid syntax m set = m.preamble ++ PREFIX ++ new_meta m.elements uid 
 abbrev pub file_output : Job → Meta → Coding → Front → List ℕ
 file_output (dump d mode bare) m coding set = meta_header d mode m.elements ++ set_header m.uid
     ++ dump_front d mode 0 set
+file_output (dump_decoded d mode bare) m coding set = decoded_meta_header d mode m.elements ++ decoded_set_header m.uid
+    ++ decoded_front d mode EMPTY 0 set
 file_output (convert d target) m coding set = written_file (target_uid target m) (target_syntax target coding) m set
 file_output (modify d edits) m coding set = written_file m.uid coding.syntax m (edited edits set)
 file_output (deidentify options reports key) m coding set =
@@ -129,6 +136,8 @@ file_output (building limit) m coding set = []
 -- of a data set alone
 abbrev pub alone_output : Job → Syntax → Front → List ℕ
 alone_output (dump d mode bare) syntax set = set_header (uid_of_syntax syntax) ++ dump_front d mode 0 set
+alone_output (dump_decoded d mode bare) syntax set = set_header (uid_of_syntax syntax)
+    ++ decoded_front d mode EMPTY 0 set
 alone_output _ syntax set = []
 
 -- of an input, by how it was read
@@ -262,4 +271,5 @@ pub record LinesSure (limit : ℕ) (p out : List ℕ) : Type 0 where
 abbrev pub Sure : Job → List ℕ → List ℕ → Type 0
 Sure (building limit) p out = LinesSure limit p out
 Sure (dump d mode (Some syntax)) p out = AloneSure (dump d mode (Some syntax)) (read_by d syntax) p out
+Sure (dump_decoded d mode (Some syntax)) p out = AloneSure (dump_decoded d mode (Some syntax)) (read_by d syntax) p out
 Sure job p out = FileSure job p out

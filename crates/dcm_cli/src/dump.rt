@@ -2,10 +2,11 @@
 ghost use Rattle.std.specs.Prelude.{◌≤◌, ◌<◌, length, None, Some};
 ghost use Rattle.dcm_base.specs.declared.mode.Mode.{Mode};
 ghost use Rattle.dcm_base.specs.declared.syntax.Syntax.{Syntax};
-ghost use Rattle.dcm_words.specs.Words.{dump as dump_job};
+ghost use Rattle.dcm_words.specs.Words.{dump as dump_job, dump_as};
 ghost use Rattle.dcm_files.specs.Pieces.{BUFFER_LIMIT};
 ghost use Rattle.dcm_cli.specs.Calls as calls;
 
+use crate::decode::decode_with;
 use crate::ending::{Ending, ending_of_head};
 use crate::head::{read_head_of, set_start};
 use crate::pass::{read_rest, read_set};
@@ -13,7 +14,7 @@ use dcm_base::{Coding, DeviceIn, DeviceOut, Dictionary, Mode, Syntax, Watched};
 use dcm_head::{Meta, SyntaxUid};
 use dcm_sinks::{DumpSink, dump_header_with, set_header};
 use dcm_stream::Machine;
-use dcm_words::Dump;
+use dcm_words::{Dump, Texts};
 
 /// The bytes that are read at a time.
 const PIECE: usize = 65_536;
@@ -78,9 +79,8 @@ fn dump_set<R: DeviceIn, W: DeviceOut>(
     read_rest(0, input, buffer, &mut machine, &mut sink)
 }
 
-/// Writes the dump of a file, or of a data set alone, by a reader of heads and a buffer that may have served other files.
-#[inline(never)]
-pub fn dump_with<R: DeviceIn, W: DeviceOut>(
+/// Writes the dump of a file, or of a data set alone, with texts by their bytes.
+fn dump_by_bytes<R: DeviceIn, W: DeviceOut>(
     dump: Dump,
     meta: &mut Meta,
     buffer: &mut [u8],
@@ -98,6 +98,26 @@ pub fn dump_with<R: DeviceIn, W: DeviceOut>(
     }
 }
 
+/// Writes the dump of a file, or of a data set alone, by a reader of heads and a buffer that may have served other files.
+#[inline(never)]
+pub fn dump_with<R: DeviceIn, W: DeviceOut>(
+    dump: Dump,
+    meta: &mut Meta,
+    buffer: &mut [u8],
+    input: &mut Watched<R>,
+    out: &mut Watched<W>,
+) -> Ending
+    requires room { 0 < length buffer.old }
+    requires bound { length buffer.old ≤ BUFFER_LIMIT }
+    ensures { calls.Works R.DeviceIn W.DeviceOut (dump_as dump.texts dump.dictionary dump.mode dump.bare) input.old
+        input.new out.old out.new result }
+{
+    match dump.texts {
+        Texts::Bytes => dump_by_bytes(dump, meta, buffer, input, out),
+        Texts::Characters => decode_with(dump, meta, buffer, input, out),
+    }
+}
+
 /// Writes the dump of a file, or of a data set alone.
 #[inline(never)]
 pub fn dump<R: DeviceIn, W: DeviceOut>(
@@ -105,7 +125,7 @@ pub fn dump<R: DeviceIn, W: DeviceOut>(
     input: &mut Watched<R>,
     out: &mut Watched<W>,
 ) -> Ending
-    ensures { calls.Works R.DeviceIn W.DeviceOut (dump_job dump.dictionary dump.mode dump.bare) input.old
+    ensures { calls.Works R.DeviceIn W.DeviceOut (dump_as dump.texts dump.dictionary dump.mode dump.bare) input.old
         input.new out.old out.new result }
 {
     let mut buffer = [0u8; PIECE];

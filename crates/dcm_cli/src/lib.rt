@@ -23,6 +23,7 @@ mod convert;
 mod days;
 mod deidentify;
 /// The dump of an input.
+pub mod decode;
 pub mod dump;
 /// How the work on a job ends.
 pub mod ending;

@@ -11,7 +11,7 @@ use Rattle.dcm_base.specs.Tree.Front.{Front}
 use Rattle.dcm_base.proofs.DataSets.OneAnswer.{reads_once}
 use Rattle.dcm_devices.specs.Device.{AppendsFront}
 use Rattle.dcm_devices.proofs.Writes.Puts.{append_known_twice}
-use Rattle.dcm_words.specs.Words.{Job, dump, convert, build as building, modify, deidentify}
+use Rattle.dcm_words.specs.Words.{Job, dump, dump_decoded, convert, build as building, modify, deidentify}
 use Rattle.dcm_cli.specs.declared.ending.Verdict.{Verdict}
 use Rattle.dcm_cli.specs.Answer.{Source, alone, AloneReads, output_of}
 use Rattle.dcm_cli.specs.Run.{Answered, ReadEnds, verdict_of_source}
@@ -33,9 +33,14 @@ dumped_once : (d : Dictionary) (mode : Mode) (bare : Option Syntax) (input a b :
 dumped_once d mode None input a b v u x y = alike (dump d mode None) input a b v u x y (one_source (dump d mode None) input x.source y.source x.reads y.reads)
 dumped_once d mode (Some s) input a b v u x y = alike (dump d mode (Some s)) input a b v u x y (alone_once (read_by d s) input x.source y.source x.reads y.reads)
 
+decoded_once : (d : Dictionary) (mode : Mode) (bare : Option Syntax) (input a b : List ℕ) (v u : Verdict) → Answered (dump_decoded d mode bare) input a v → Answered (dump_decoded d mode bare) input b u → (a ≡ b) × (v ≡ u)
+decoded_once d mode None input a b v u x y = alike (dump_decoded d mode None) input a b v u x y (one_source (dump_decoded d mode None) input x.source y.source x.reads y.reads)
+decoded_once d mode (Some s) input a b v u x y = alike (dump_decoded d mode (Some s)) input a b v u x y (alone_once (read_by d s) input x.source y.source x.reads y.reads)
+
 -- a file has one output and one verdict
 pub one_text : (job : Job) (input a b : List ℕ) (v u : Verdict) → Answered job input a v → Answered job input b u → (a ≡ b) × (v ≡ u)
 one_text (dump d mode bare) input a b v u x y = dumped_once d mode bare input a b v u x y
+one_text (dump_decoded d mode bare) input a b v u x y = decoded_once d mode bare input a b v u x y
 one_text (convert d target) input a b v u x y = alike (convert d target) input a b v u x y (one_source (convert d target) input x.source y.source x.reads y.reads)
 one_text (building limit) input a b v u x y = (x.out_is ∙ sym y.out_is, x.verdict_is ∙ sym y.verdict_is)
 one_text (modify d edits) input a b v u x y = alike (modify d edits) input a b v u x y (one_source (modify d edits) input x.source y.source x.reads y.reads)

@@ -1,4 +1,5 @@
 mod data_sets;
+mod decoded_dumps;
 mod dictionaries;
 mod edits;
 mod examples;

@@ -7,13 +7,22 @@ mod rebuilt;
 
 use dcm_test_runs::{
     buildings, conversions, dictionaries, expect_rows, identities, identity_faults, identity_moved,
-    identity_named, identity_put, modifications, signs, unknown,
+    identity_named, identity_put, modifications, signs, text_cuts, text_extensions, text_sets,
+    text_terms, unknown,
 };
 use std::test::Fail;
 
 #[test]
 fn dumps(rt: HostRuntime) -> Result<(), Fail> {
     expect_rows(rt.alloc(), &dcm_test_runs::dumps())
+}
+
+#[test]
+fn dumps_by_characters(rt: HostRuntime) -> Result<(), Fail> {
+    expect_rows(rt.alloc(), &text_sets())?;
+    expect_rows(rt.alloc(), &text_extensions())?;
+    expect_rows(rt.alloc(), &text_terms())?;
+    expect_rows(rt.alloc(), &text_cuts())
 }
 
 #[test]

@@ -1,3 +1,4 @@
 pub mod Dumps
 pub mod Conversions
 pub mod ReadBack
+pub mod DecodedDumps

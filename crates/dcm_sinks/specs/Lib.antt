@@ -10,3 +10,13 @@ pub mod Laws
 pub mod Conversion
 pub mod MetaAgain
 pub mod MetaLines
+pub mod InForce
+pub mod SettingValue
+pub mod DecodedDump
+pub mod TextDump
+pub mod TextLines
+pub mod DecodedSink
+pub mod DecodedLines
+pub mod DecodedLaws
+pub mod DecodedHeader
+pub mod PlainTexts

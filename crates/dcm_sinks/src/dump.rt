@@ -4,7 +4,10 @@ ghost use Rattle.std.specs.Borrow.{GName};
 ghost use Rattle.dcm_base.specs.declared.dictionary.Dictionary.TheVariants.{Extract};
 ghost use Rattle.dcm_sinks.specs.DumpSink.{DumpState, dump_step, dump_writes, dump_start, bars_nothing};
 
+mod decoded;
+mod decoded_header;
 mod header;
+mod in_force;
 mod layout;
 mod lengths;
 mod lines;
@@ -14,6 +17,8 @@ use crate::dump::lines::Lines;
 use dcm_base::{DeviceOut, Dictionary, Mode, Syntax, Watched, WriteFailed};
 use dcm_head::Head;
 use dcm_stream::{Bar, Sink, Token};
+pub use decoded::DecodedDumpSink;
+pub use decoded_header::{decoded_dump_header, decoded_set_header};
 pub use header::{dump_header, dump_header_with, set_header};
 
 /// A sink that writes the lines of a data set. It bars nothing.

@@ -6,6 +6,7 @@ ghost use Rattle.dcm_base.specs.File.MetaReads.{Meta};
 ghost use Rattle.dcm_base.specs.declared.syntax.Syntax.{Syntax};
 ghost use Rattle.dcm_stream.specs.Driven.{bars_by};
 ghost use Rattle.dcm_stream.specs.Follows.{BarsAs};
+ghost use Rattle.dcm_sinks.specs.DecodedLaws.{DecodedDumpsShown, DecodedDumpsWhole, DecodedDumpsSoFar, DecodedOfAscii};
 ghost use Rattle.dcm_sinks.specs.EncodeSink.{encode_bar, encode_start, encode_step};
 ghost use Rattle.dcm_sinks.specs.Laws.{DumpsShown, DumpsWhole, DumpsSoFar, EncodesShown, EncodesWhole, EncodesSoFar};
 ghost use Rattle.dcm_sinks.specs.Laws.{ReadsBack, ChangesNothingAgain, NewMetaReads};
@@ -21,6 +22,23 @@ pub fn dump_steps()
 pub fn dump_reads()
     ensures whole { DumpsWhole }
     ensures so_far { DumpsSoFar }
+{}
+
+/// Over such atoms the sink of texts in UTF-8 writes the dump by what is in force of Specific Character Set.
+pub fn decoded_dump_steps()
+    ensures { DecodedDumpsShown }
+{}
+
+/// So it is with all that is read of an input, and with what was read of it so far.
+pub fn decoded_dump_reads()
+    ensures whole { DecodedDumpsWhole }
+    ensures so_far { DecodedDumpsSoFar }
+{}
+
+/// A data set whose texts are of bytes 20 to 7E without `%` and `]` is dumped so as without characters, whatever is in
+/// force.
+pub fn decoded_dump_of_ascii()
+    ensures { DecodedOfAscii }
 {}
 
 /// Over atoms that show a data set, whole or as far as it was read, the encode sink writes it in the target syntax,

@@ -1,10 +1,12 @@
 //! What the tools write of a data set: its dump, or itself in another syntax.
 //!
 //! - `DumpSink` writes the lines of a dump, `Lines` in it; `dump_header` and `set_header` write what comes before them.
+//! - `DecodedDumpSink` writes the same lines with texts in UTF-8, by what is in force of Specific Character Set, which
+//!   `InForce` keeps; `decoded_dump_header` and `decoded_set_header` write what comes before them.
 //! - `EncodeSink` writes the data set in a target syntax, with undefined lengths and without lengths of groups, by an
 //!   `Encoder`, which dcm_build uses too. A value is copied or turned by units as it comes, and never held.
-//! - `laws` has what both sinks make of all tokens of a data set: `dump_steps` and `encode_steps`, and the premises of
-//!   their bars.
+//! - `laws` has what the sinks make of all tokens of a data set: `dump_steps`, `decoded_dump_steps` and `encode_steps`,
+//!   and the premises of their bars.
 //!
 //! A dump:
 //!
@@ -18,5 +20,8 @@ mod dump;
 mod encode;
 pub mod laws;
 
-pub use dump::{DumpSink, dump_header, dump_header_with, set_header};
+pub use dump::{
+    DecodedDumpSink, DumpSink, decoded_dump_header, decoded_set_header, dump_header,
+    dump_header_with, set_header,
+};
 pub use encode::{EncodeSink, Encoder, leaf_head};

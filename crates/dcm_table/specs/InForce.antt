@@ -1,36 +1,11 @@
 -- What is in force of Specific Character Set (0008,0005) where an element stands (PS3.3 C.12.1.1.2).
-use Rattle.std.specs.Prelude.{ℕ, List, [], Bool, true, ◌&&◌, if◌then◌else◌}
+use Rattle.std.specs.Prelude.{if◌then◌else◌}
 use Rattle.dcm_base.specs.declared.tag.Tag.{Tag}
-use Rattle.dcm_base.specs.declared.vr.Vr.{Vr}
-use Rattle.dcm_base.specs.declared.vr.Vr.TheVariants.{UI, UN}
-use Rattle.dcm_base.specs.Tables.Representation.{is_text}
 use Rattle.dcm_base.specs.Tables.Tag.{same_tag}
 use Rattle.dcm_base.specs.Tree.Tree.{Trees, no_tree, leaf, sequence, fragments}
 use Rattle.dcm_base.specs.Tree.Front.{Front, front}
 use Rattle.dcm_text.specs.declared.sets.Sets.{Sets}
-use Rattle.dcm_text.specs.Sets.{sets_of}
-
--- Specific Character Set
-abbrev pub CHARACTER_SET : Tag
-CHARACTER_SET = record { group = 8; element = 5 }
-
--- what the empty value names
-abbrev pub EMPTY : Sets
-EMPTY = sets_of []
-
--- texts, unique identifiers and values that are unknown
-abbrev pub may_set : Vr → Bool
-may_set UI = true
-may_set UN = true
-may_set vr = is_text vr
-
--- whether a leaf sets what is in force behind it
-abbrev pub is_setting : Tag → Vr → Bool
-is_setting tag vr = same_tag tag CHARACTER_SET && may_set vr
-
--- what is in force behind a leaf, where this is in front of it
-abbrev pub set_by : Tag → Vr → (value : List ℕ) → Sets → Sets
-set_by tag vr value sets = if is_setting tag vr then sets_of value else sets
+pub use Rattle.dcm_sinks.specs.InForce.{CHARACTER_SET, EMPTY, may_set, is_setting, set_by}
 
 -- where the first element of a tag stands, or behind all of them: what an item sets ends with it
 unfoldable pub trees_sets : (column : Tag) → Sets → Trees → Sets

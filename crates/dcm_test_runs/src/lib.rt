@@ -2,7 +2,7 @@
 //! part of the program.
 //!
 //! - A `Row` is a run: its words and input, and what is wanted of it. `dumps`, `conversions`, `buildings`, `modifications`,
-//!   `dictionaries`, `signs`, `unknown`, `identities`, `identity_days`, `identity_put`, `identity_moved`, `identity_named` and
+//!   `dictionaries`, `signs`, `unknown`, `text_sets`, `text_extensions`, `text_terms`, `text_cuts`, `identities`, `identity_days`, `identity_put`, `identity_moved`, `identity_named` and
 //!   `identity_faults` are tables of rows.
 //! - `expect_rows` expects the answers of rows. `expect_runs` expects one, in pieces of several sizes.
 //! - `over_memory` and `over_std` are runs of words over one input, and `expect_answer` compares an `Answer` with what is
@@ -36,4 +36,8 @@ pub use tables::identity_named::identity_named;
 pub use tables::identity_put::identity_put;
 pub use tables::modifications::modifications;
 pub use tables::signs::signs;
+pub use tables::text_cuts::text_cuts;
+pub use tables::text_extensions::text_extensions;
+pub use tables::text_sets::text_sets;
+pub use tables::text_terms::text_terms;
 pub use tables::unknown::unknown;

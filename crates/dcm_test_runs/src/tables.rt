@@ -11,4 +11,8 @@ pub mod identity_named;
 pub mod identity_put;
 pub mod modifications;
 pub mod signs;
+pub mod text_cuts;
+pub mod text_extensions;
+pub mod text_sets;
+pub mod text_terms;
 pub mod unknown;

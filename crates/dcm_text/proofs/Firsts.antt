@@ -14,8 +14,8 @@ use Rattle.dcm_text.specs.declared.form.Opening.TheVariants as opening
 use Rattle.dcm_text.specs.declared.first.Found.{Found}
 use Rattle.dcm_text.specs.Sets.{has}
 use Rattle.dcm_text.specs.Characters.{is_between}
-use Rattle.dcm_text.specs.Forms.{Range, fit_of, starts, ranges, character_of}
-use Rattle.dcm_text.specs.First.{Designation, by_fit, fits, designated, designations, of_form, one_unknown, meaning_of, opened, opening_of, is_escape, first_of}
+use Rattle.dcm_text.specs.Forms.{Range, fit_of, starts, forms, character_of}
+use Rattle.dcm_text.specs.First.{Designation, by_fit, fits, designated, designations, formed, of_forms, of_form, meaning_of, opened, opening_of, is_escape, first_of}
 
 -- ---- what is settled stays, with more bytes
 
@@ -66,7 +66,7 @@ designated_stays sets (d ∷ ds) halves bs more =
     by_fit_stays (fits sets d bs) (fits sets d (bs ++ more)) _ _ (designated sets ds halves bs) (designated sets ds halves (bs ++ more))
     (fits_settle sets d bs more) (λ e. refl) (designated_stays sets ds halves bs more)
 
-fit_size : (rs : List Range) (bs : List ℕ) → fit_of rs bs ≡ Whole → length rs ≤ length bs
+pub fit_size : (rs : List Range) (bs : List ℕ) → fit_of rs bs ≡ Whole → length rs ≤ length bs
 fit_size [] bs e = omega arith
 fit_size (r ∷ rs) [] e = absurd (not_whole e)
   where
@@ -81,14 +81,20 @@ fit_size (r ∷ rs) (b ∷ bs) e = of_test (is_between r.0 r.1 b) (fit_size rs b
     of_test true h e = let l = h e in omega arith
     of_test false h e = absurd (not_whole e)
 
+forms_stay : (f : Form) (halves : Halves) (b : ℕ) (bs more : List ℕ) (others : List (List Range))
+    → Stays (of_forms f halves (b ∷ bs) bs others) (of_forms f halves (b ∷ (bs ++ more)) (bs ++ more) others)
+forms_stay f halves b bs more [] = refl
+forms_stay f halves b bs more (rs ∷ others) =
+    by_fit_stays (fit_of rs bs) (fit_of rs (bs ++ more)) (formed f halves (b ∷ bs) (1 + length rs)) (formed f halves (b ∷ (bs ++ more)) (1 + length rs))
+    (of_forms f halves (b ∷ bs) bs others) (of_forms f halves (b ∷ (bs ++ more)) (bs ++ more) others)
+    (fit_settles rs bs more)
+    (λ e. ap (λ (text : List ℕ). let x : Found = record { size = 1 + length rs; meaning = meaning_of (character_of f text); halves = halves } in x)
+    (take-append-le (1 + length rs) (b ∷ bs) more (let l = fit_size rs bs e in omega arith)))
+    (forms_stay f halves b bs more others)
+
 form_stays : (f : Form) (halves : Halves) (bs more : List ℕ) → Stays (of_form f halves bs) (of_form f halves (bs ++ more))
 form_stays f halves [] more = tt
-form_stays f halves (b ∷ bs) more =
-    by_fit_stays (fit_of (ranges f b) bs) (fit_of (ranges f b) (bs ++ more)) _ _ (Some (one_unknown halves)) (Some (one_unknown halves))
-    (fit_settles (ranges f b) bs more)
-    (λ e. ap (λ (text : List ℕ). let x : Found = record { size = 1 + length (ranges f b); meaning = meaning_of (character_of f text); halves = halves } in x)
-    (take-append-le (1 + length (ranges f b)) (b ∷ bs) more (let l = fit_size (ranges f b) bs e in omega arith)))
-    refl
+form_stays f halves (b ∷ bs) more = forms_stay f halves b bs more (forms f b)
 
 opened_stays : (o : Opening) (sets : Sets) (kind : TextKind) (halves : Halves) (bs more : List ℕ)
     → Stays (opened o sets kind halves bs) (opened o sets kind halves (bs ++ more))

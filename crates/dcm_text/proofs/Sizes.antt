@@ -14,8 +14,8 @@ use Rattle.dcm_text.specs.declared.form.Opening.TheVariants as opening
 use Rattle.dcm_text.specs.declared.first.Found.{Found}
 use Rattle.dcm_text.specs.Sets.{has}
 use Rattle.dcm_text.specs.Characters.{is_between}
-use Rattle.dcm_text.specs.Forms.{Range, fit_of, starts, ranges, utf8_ranges}
-use Rattle.dcm_text.specs.First.{Designation, by_fit, fits, designated, designations, of_form, one_unknown, opened, opening_of, is_escape, first_of}
+use Rattle.dcm_text.specs.Forms.{Range, fit_of, starts, forms, utf8_ranges}
+use Rattle.dcm_text.specs.First.{Designation, by_fit, fits, designated, designations, formed, of_forms, of_form, opened, opening_of, is_escape, first_of}
 
 -- so many bytes of a text of so many
 abbrev pub IsSized : Option Found → ℕ → Type 0
@@ -95,17 +95,29 @@ few_utf8 b = of_tests (nat_lt b 0xE0) (b == 0xE0) (b == 0xED) (nat_lt b 0xF0) (b
     of_tests false false false false false true = omega arith
     of_tests false false false false false false = omega arith
 
-few_ranges : (f : Form) (b : ℕ) → length (ranges f b) ≤ 3
-few_ranges form.Ir87 b = omega arith
-few_ranges form.Ir149 b = omega arith
-few_ranges form.Ir58 b = omega arith
-few_ranges form.Utf8 b = few_utf8 b
+-- each of the forms wants at most three bytes behind the first
+abbrev pub AreFew : List (List Range) → Type 0
+AreFew [] = Unit {0}
+AreFew (rs ∷ others) = (length rs ≤ 3) × AreFew others
+
+few_forms : (f : Form) (b : ℕ) → AreFew (forms f b)
+few_forms form.Ir87 b = (omega arith, tt)
+few_forms form.Ir159 b = (omega arith, tt)
+few_forms form.Ir149 b = (omega arith, tt)
+few_forms form.Ir58 b = (omega arith, tt)
+few_forms form.Gb18030 b = (omega arith, (omega arith, (omega arith, tt)))
+few_forms form.Utf8 b = (few_utf8 b, tt)
+
+forms_sized : (f : Form) (halves : Halves) (b : ℕ) (bs : List ℕ) (others : List (List Range)) → AreFew others
+    → IsSized (of_forms f halves (b ∷ bs) bs others) (suc (length bs))
+forms_sized f halves b bs [] few = (omega arith, omega arith, omega arith)
+forms_sized f halves b bs (rs ∷ others) few =
+    by_fit_sized (fit_of rs bs) (formed f halves (b ∷ bs) (1 + length rs)) (of_forms f halves (b ∷ bs) bs others) (length rs) (length bs)
+    (fit_fills rs bs) refl few.0 (forms_sized f halves b bs others few.1)
 
 form_sized : (f : Form) (halves : Halves) (bs : List ℕ) → IsSized (of_form f halves bs) (length bs)
 form_sized f halves [] = omega arith
-form_sized f halves (b ∷ bs) =
-    by_fit_sized (fit_of (ranges f b) bs) _ (Some (one_unknown halves)) (length (ranges f b)) (length bs) (fit_fills (ranges f b) bs) refl
-    (few_ranges f b) (omega arith, omega arith, omega arith)
+form_sized f halves (b ∷ bs) = forms_sized f halves b bs (forms f b) (few_forms f b)
 
 opened_sized : (o : Opening) (sets : Sets) (kind : TextKind) (halves : Halves) (bs : List ℕ) → IsSized (opened o sets kind halves bs) (length bs)
 opened_sized (opening.Byte c) sets kind halves [] = omega arith

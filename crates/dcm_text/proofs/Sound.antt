@@ -1,7 +1,7 @@
 -- What is shown is valid UTF-8.
 use Rattle.std.proofs.Common.{◌≡◌, ℕ, zero, suc, ◌+◌, ◌-◌, ◌*◌, ◌/◌, ◌%◌, ◌<◌, Bool, true, false, cond, List, [], ◌∷◌, length, take, drop, get_or, Option, Some, None}
 use Rattle.std.proofs.Common.{refl, sym, ap, subst, ◌∙◌, arith}
-use Rattle.std.specs.Prelude.{◌==◌, nat_lt, flat_map, IsUtf8}
+use Rattle.std.specs.Prelude.{◌==◌, nat_lt, flat_map, option_and_then, IsUtf8}
 use Rattle.std.specs.Char.{encode_utf8}
 use Rattle.std.specs.List.{list_all}
 use Rattle.std.proofs.lemmas.Bool.{and_parts}
@@ -27,9 +27,10 @@ use Rattle.dcm_text.specs.declared.form.Opening.TheVariants as opening
 use Rattle.dcm_text.specs.declared.first.Found.{Found}
 use Rattle.dcm_text.specs.declared.first.Meaning.{Meaning}
 use Rattle.dcm_text.specs.declared.first.Meaning.TheVariants as meaning
-use Rattle.dcm_text.specs.Characters.{numbered, entry, in_row, single_character, right_half, rows_87, rows_149, rows_58, place_87, place_149, place_58, character_utf8, number_utf8, is_between}
-use Rattle.dcm_text.specs.Forms.{character_of, left_opening, right_opening, pair_or_none, ranges, fit_of}
-use Rattle.dcm_text.specs.First.{Designation, by_fit, fits, as_designation, designated, designations, of_form, one_unknown, meaning_of, opened, opening_of, is_escape, first_of, start_of}
+use Rattle.dcm_text.specs.Characters.{numbered, entry, in_row, single_character, right_half, rows_87, rows_149, rows_58, rows_159, place_87, place_149, place_58, place_159, character_utf8, number_utf8, is_between}
+use Rattle.dcm_text.specs.Gb18030.{pairs, column, pair_character, number, numbered_four, four_character}
+use Rattle.dcm_text.specs.Forms.{Range, character_of, left_opening, right_opening, pair_or_none, forms, fit_of}
+use Rattle.dcm_text.specs.First.{Designation, by_fit, fits, as_designation, designated, designations, formed, of_forms, of_form, meaning_of, opened, opening_of, is_escape, first_of, start_of}
 use Rattle.dcm_text.specs.Decoding.{Piece, or_unknown, decoded_by, decoded_from, decoded}
 use Rattle.dcm_text.specs.Shown.{digit, percent, backslashed, is_dumped, dumped_piece, cell_piece, dumped, cell}
 use Rattle.dcm_text.specs.Laws.{is_byte}
@@ -82,10 +83,29 @@ utf8_fair : (b d e f : ℕ) → FairNumber (character_utf8 b d e f)
 unfolding character_utf8
 utf8_fair b d e f = numbered_fair (number_utf8 b d e f)
 
+pair_fair_at : (first : ℕ) (c : Option ℕ) → FairNumber (option_and_then (λ k. entry (pairs first) (190 * ((first - 0x81) % 42) + k)) c)
+pair_fair_at first None = tt
+pair_fair_at first (Some c) = entry_fair (pairs first) (190 * ((first - 0x81) % 42) + c)
+
+four_fair_at : (n : Option ℕ) → FairNumber (option_and_then numbered n)
+four_fair_at None = tt
+four_fair_at (Some n) = numbered_fair n
+
+gb_fair : (bytes : List ℕ) → FairNumber (character_of form.Gb18030 bytes)
+gb_fair bytes = of_test (length bytes == 2) (pair_fair_at (get_or bytes 0 0) (column (get_or bytes 1 0)))
+    (four_fair_at (numbered_four (number (get_or bytes 0 0) (get_or bytes 1 0) (get_or bytes 2 0) (get_or bytes 3 0))))
+  where
+    of_test : (t : Bool) → FairNumber (pair_character (get_or bytes 0 0) (get_or bytes 1 0)) → FairNumber (four_character (get_or bytes 0 0) (get_or bytes 1 0) (get_or bytes 2 0) (get_or bytes 3 0))
+        → FairNumber (cond t (pair_character (get_or bytes 0 0) (get_or bytes 1 0)) (four_character (get_or bytes 0 0) (get_or bytes 1 0) (get_or bytes 2 0) (get_or bytes 3 0)))
+    of_test true h k = h
+    of_test false h k = k
+
 form_fair : (f : Form) (bytes : List ℕ) → FairNumber (character_of f bytes)
 form_fair form.Ir87 bytes = row_fair rows_87 (place_87 (get_or bytes 0 0 - 0x20)) (get_or bytes 1 0 - 0x20)
 form_fair form.Ir149 bytes = row_fair rows_149 (place_149 (get_or bytes 0 0 - 0xA0)) (get_or bytes 1 0 - 0xA0)
 form_fair form.Ir58 bytes = row_fair rows_58 (place_58 (get_or bytes 0 0 - 0xA0)) (get_or bytes 1 0 - 0xA0)
+form_fair form.Ir159 bytes = row_fair rows_159 (place_159 (get_or bytes 0 0 - 0x20)) (get_or bytes 1 0 - 0x20)
+form_fair form.Gb18030 bytes = gb_fair bytes
 form_fair form.Utf8 bytes = utf8_fair (get_or bytes 0 0) (get_or bytes 1 0) (get_or bytes 2 0) (get_or bytes 3 0)
 
 left_fair : (l : Left) (b : ℕ) → b < 128 → FairOpening (left_opening l b)
@@ -93,6 +113,11 @@ left_fair left.Ascii b h = low_scalar b (omega arith)
 left_fair left.Ir87 b h = of_test (is_between 0x21 0x7E b)
   where
     of_test : (t : Bool) → FairOpening (cond t (opening.Form form.Ir87) (opening.Byte (Some b)))
+    of_test true = tt
+    of_test false = low_scalar b (omega arith)
+left_fair left.Ir159 b h = of_test (is_between 0x21 0x7E b)
+  where
+    of_test : (t : Bool) → FairOpening (cond t (opening.Form form.Ir159) (opening.Byte (Some b)))
     of_test true = tt
     of_test false = low_scalar b (omega arith)
 
@@ -108,6 +133,11 @@ right_fair right.Nothing b = tt
 right_fair (right.Single s) b = single_fair s b
 right_fair right.Ir149 b = pair_fair form.Ir149 b
 right_fair right.Ir58 b = pair_fair form.Ir58 b
+right_fair right.Gb18030 b = of_test (is_between 0x81 0xFE b)
+  where
+    of_test : (t : Bool) → FairOpening (cond t (opening.Form form.Gb18030) (opening.Byte None))
+    of_test true = tt
+    of_test false = tt
 right_fair right.Utf8 b = of_test (is_between 0xC2 0xF4 b)
   where
     of_test : (t : Bool) → FairOpening (cond t (opening.Form form.Utf8) (opening.Byte None))
@@ -135,11 +165,15 @@ designated_fair sets [] halves bs = tt
 designated_fair sets (d ∷ ds) halves bs =
     by_fit_fair (fits sets d bs) (as_designation halves d) (designated sets ds halves bs) tt (designated_fair sets ds halves bs)
 
+of_forms_fair : (f : Form) (halves : Halves) (bytes bs : List ℕ) (others : List (List Range)) → FairFound (of_forms f halves bytes bs others)
+of_forms_fair f halves bytes bs [] = tt
+of_forms_fair f halves bytes bs (rs ∷ others) =
+    by_fit_fair (fit_of rs bs) (Some (formed f halves bytes (1 + length rs))) (of_forms f halves bytes bs others)
+    (meaning_fair (character_of f (take (1 + length rs) bytes)) (form_fair f (take (1 + length rs) bytes))) (of_forms_fair f halves bytes bs others)
+
 of_form_fair : (f : Form) (halves : Halves) (bs : List ℕ) → FairFound (of_form f halves bs)
 of_form_fair f halves [] = tt
-of_form_fair f halves (b ∷ bs) =
-    by_fit_fair (fit_of (ranges f b) bs) _ (Some (one_unknown halves))
-    (meaning_fair (character_of f (take (1 + length (ranges f b)) (b ∷ bs))) (form_fair f (take (1 + length (ranges f b)) (b ∷ bs)))) tt
+of_form_fair f halves (b ∷ bs) = of_forms_fair f halves (b ∷ bs) bs (forms f b)
 
 opened_fair : (o : Opening) (sets : Sets) (kind : TextKind) (halves : Halves) (bs : List ℕ) → FairOpening o → FairFound (opened o sets kind halves bs)
 opened_fair (opening.Byte c) sets kind halves [] h = tt

@@ -5,7 +5,7 @@ use lib.Utf8.{scalar}
 use Rattle.dcm_text.specs.declared.characters.Single.{Single}
 use Rattle.dcm_text.specs.declared.characters.Single.TheVariants.{Ir13, Ir100, Ir101, Ir109, Ir110, Ir126, Ir127, Ir138, Ir144, Ir148, Ir166, Ir203}
 use Rattle.dcm_text.specs.declared.tables.TheConstants.{RIGHT_13, RIGHT_100, RIGHT_101, RIGHT_109, RIGHT_110, RIGHT_126}
-use Rattle.dcm_text.specs.declared.tables.TheConstants.{RIGHT_127, RIGHT_138, RIGHT_144, RIGHT_148, RIGHT_166, RIGHT_203, ROWS_87, ROWS_149, ROWS_58}
+use Rattle.dcm_text.specs.declared.tables.TheConstants.{RIGHT_127, RIGHT_138, RIGHT_144, RIGHT_148, RIGHT_166, RIGHT_203, ROWS_87, ROWS_149, ROWS_58, ROWS_159}
 
 -- the numbers of a right half, from byte A0 on
 unfoldable pub right_half : Single → List ℕ
@@ -51,6 +51,11 @@ place_149 row =
 abbrev pub place_58 : (row : ℕ) → Option ℕ
 place_58 row = if is_between 1 9 row then Some (row - 1) else if is_between 16 87 row then Some (row - 7) else None
 
+abbrev pub place_159 : (row : ℕ) → Option ℕ
+place_159 row =
+    if row == 2 then Some 0 else if is_between 6 7 row then Some (row - 5) else if is_between 9 11 row then Some (row - 6)
+    else if is_between 16 77 row then Some (row - 10) else None
+
 unfoldable pub rows_87 : List ℕ
 rows_87 = ROWS_87
 
@@ -59,6 +64,9 @@ rows_149 = ROWS_149
 
 unfoldable pub rows_58 : List ℕ
 rows_58 = ROWS_58
+
+unfoldable pub rows_159 : List ℕ
+rows_159 = ROWS_159
 
 -- the character in a column, counted from 1, of a row that stands at a place in a table of 94 columns
 abbrev pub in_row : List ℕ → Option ℕ → (column : ℕ) → Option ℕ
@@ -72,6 +80,9 @@ character_149 first second = in_row rows_149 (place_149 (first - 0xA0)) (second 
 
 abbrev pub character_58 : (first second : ℕ) → Option ℕ
 character_58 first second = in_row rows_58 (place_58 (first - 0xA0)) (second - 0xA0)
+
+abbrev pub character_159 : (first second : ℕ) → Option ℕ
+character_159 first second = in_row rows_159 (place_159 (first - 0x20)) (second - 0x20)
 
 -- ---- UTF-8 (Unicode, table 3-6)
 

@@ -18,7 +18,7 @@ use Rattle.dcm_text.specs.declared.first.Meaning.TheVariants as meaning
 use Rattle.dcm_text.specs.declared.first.Found.{Found}
 use Rattle.dcm_text.specs.declared.first.TheConstants.{DESIGNATIONS}
 use Rattle.dcm_text.specs.Sets.{has}
-use Rattle.dcm_text.specs.Forms.{fit_of, starts, left_opening, right_opening, ranges, character_of}
+use Rattle.dcm_text.specs.Forms.{Range, fit_of, starts, left_opening, right_opening, forms, character_of}
 
 -- what a character means, where there is one
 abbrev pub meaning_of : Option ℕ → Meaning
@@ -63,14 +63,20 @@ designated sets (d ∷ ds) halves bytes =
 
 -- ---- forms
 
--- the first byte of a form that is not there has no character
+-- so many bytes that are a form
+abbrev pub formed : Form → Halves → List ℕ → (size : ℕ) → Found
+formed form halves bytes size =
+    record { size = size; meaning = meaning_of (character_of form (take size bytes)); halves = halves }
+
+-- bytes by the first of these forms that those behind the first fit; the first has no character, where there is none
+abbrev pub of_forms : Form → Halves → List ℕ → (rest : List ℕ) → List (List Range) → Option Found
+of_forms form halves bytes rest [] = Some (one_unknown halves)
+of_forms form halves bytes rest (ranges ∷ others) =
+    by_fit (fit_of ranges rest) (Some (formed form halves bytes (1 + length ranges))) (of_forms form halves bytes rest others)
+
 abbrev pub of_form : Form → Halves → List ℕ → Option Found
 of_form form halves [] = None
-of_form form halves (b ∷ rest) =
-    let size = 1 + length (ranges form b) in
-    let character = character_of form (take size (b ∷ rest)) in
-    by_fit (fit_of (ranges form b) rest) (Some (record { size = size; meaning = meaning_of character; halves = halves }))
-    (Some (one_unknown halves))
+of_form form halves (b ∷ rest) = of_forms form halves (b ∷ rest) rest (forms form b)
 
 -- ---- bytes that stand for themselves
 

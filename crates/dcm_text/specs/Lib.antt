@@ -1,5 +1,6 @@
 pub mod Characters
 pub mod Sets
+pub mod Gb18030
 pub mod Forms
 pub mod First
 pub mod Decoding

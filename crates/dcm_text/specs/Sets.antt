@@ -37,8 +37,10 @@ place (set.Single Ir203) = 11
 place set.Ir87 = 12
 place set.Ir149 = 13
 place set.Ir58 = 14
-place set.Ascii = 15
-place set.Utf8 = 15
+place set.Ir159 = 15
+place set.Ascii = 16
+place set.Gb18030 = 16
+place set.Utf8 = 16
 
 -- whether a set was named, so that it may be designated; ASCII always may
 abbrev pub has : Sets → Set → Bool
@@ -78,6 +80,8 @@ start_of (set.Single s) = right.Single s
 start_of set.Ir87 = right.Nothing
 start_of set.Ir149 = right.Ir149
 start_of set.Ir58 = right.Ir58
+start_of set.Ir159 = right.Nothing
+start_of set.Gb18030 = right.Gb18030
 start_of set.Utf8 = right.Utf8
 
 abbrev pub with_flag : List Bool → Set → List Bool
@@ -95,6 +99,7 @@ is_alone right.Nothing = false
 is_alone (right.Single s) = false
 is_alone right.Ir149 = false
 is_alone right.Ir58 = false
+is_alone right.Gb18030 = true
 is_alone right.Utf8 = true
 
 -- with one more term code extensions are in use, and what it names may be designated; beside a set that stands alone

@@ -46,7 +46,7 @@ fn right_half(single: Single) -> &'static [u16]
 }
 
 /// The character that an entry of a table is, or none.
-fn entry(table: &[u16], at: usize) -> Option<char>
+pub(crate) fn entry(table: &[u16], at: usize) -> Option<char>
     ensures { result ≡ spec.entry table.now at }
 {
     match table.get(at) {
@@ -108,6 +108,19 @@ fn place_58(row: u8) -> Option<u8>
     }
 }
 
+/// Where a row of ISO-IR 159 stands in its table: rows 2, 6 and 7, 9 to 11, and 16 to 77.
+fn place_159(row: u8) -> Option<u8>
+    ensures { result ≡ spec.place_159 row }
+{
+    match row {
+        2 => Some(0),
+        6..=7 => Some(row - 5),
+        9..=11 => Some(row - 6),
+        16..=77 => Some(row - 10),
+        _ => None,
+    }
+}
+
 /// The table of ISO-IR 87.
 #[tactic(auto, unfolding(crate::specs::Characters::rows_87))]
 fn rows_87() -> &'static [u16]
@@ -130,6 +143,14 @@ fn rows_58() -> &'static [u16]
     ensures { result.now ≡ spec.rows_58 }
 {
     &ROWS_58
+}
+
+/// The table of ISO-IR 159.
+#[tactic(auto, unfolding(crate::specs::Characters::rows_159))]
+fn rows_159() -> &'static [u16]
+    ensures { result.now ≡ spec.rows_159 }
+{
+    &ROWS_159
 }
 
 /// The character in a column, counted from 1, of a row that stands at a place in a table.
@@ -163,6 +184,14 @@ pub(crate) fn character_58(first: u8, second: u8) -> Option<char>
 {
     let place = place_58(first.saturating_sub(BELOW_RIGHT_ROWS));
     in_row(rows_58(), place, second.saturating_sub(BELOW_RIGHT_ROWS))
+}
+
+/// The character of two bytes of ISO-IR 159.
+pub(crate) fn character_159(first: u8, second: u8) -> Option<char>
+    ensures { result ≡ spec.character_159 first second }
+{
+    let place = place_159(first.saturating_sub(BELOW_ROWS));
+    in_row(rows_159(), place, second.saturating_sub(BELOW_ROWS))
 }
 
 /// The low six bits of a byte that goes on a character of UTF-8.

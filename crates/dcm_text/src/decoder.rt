@@ -97,6 +97,14 @@ impl Decoder {
         }
     }
 
+    /// Whether a text goes on as it began: nothing is held, and all bytes mean what they did at first.
+    pub fn is_at_start(&self) -> bool
+        ensures start { result ≡ true → runs.state_of self.now ≡ runs.begun self.now.sets self.now.kind }
+        ensures other { runs.state_of self.now ≡ runs.begun self.now.sets self.now.kind → result ≡ true }
+    {
+        self.held.is_empty() && self.halves == start_of(&self.sets)
+    }
+
     /// The same as `next`, where nothing is held.
     fn next_of<'a>(&mut self, input: &'a [u8], at_end: bool) -> Option<(Part, &'a [u8])>
         requires { self.old.held.items ≡ [] }

@@ -1,10 +1,12 @@
 //! What a text begins with.
-ghost use Rattle.std.specs.Prelude.{◌≡◌, map};
+ghost use Rattle.std.specs.Prelude.{◌≡◌, ◌≤◌, ◌+◌, length, map, Some};
+ghost use Rattle.dcm_text.specs.Forms.{fit_of, other_forms};
 ghost use Rattle.dcm_text.specs.First as spec;
 
 use crate::characters::Single;
 use crate::form::{
-    Fit, Form, Opening, character_of, fit_of, left_opening, ranges, right_opening, starts,
+    Fit, Form, Opening, Range, character_of, fit_of, high_pair, left_opening, low_pair, ranges,
+    right_opening, starts,
 };
 use crate::set::{Effect, Halves, Left, Right, Set, TextKind};
 use crate::sets::Sets;
@@ -36,11 +38,13 @@ pub type Designation = (&'static str, Set, Effect);
 
 /// The designations (PS3.3 C.12.1.1.2).
 #[rattlefmt::skip]
-pub const DESIGNATIONS: [Designation; 18] = [
+pub const DESIGNATIONS: [Designation; 20] = [
     ("(B", Set::Ascii, Effect::Left(Left::Ascii)),
     ("(J", Set::Single(Single::Ir13), Effect::Left(Left::Ascii)),
     ("(J", Set::Ir87, Effect::Left(Left::Ascii)),
+    ("(J", Set::Ir159, Effect::Left(Left::Ascii)),
     ("$B", Set::Ir87, Effect::Left(Left::Ir87)),
+    ("$(D", Set::Ir159, Effect::Left(Left::Ir159)),
     ("$)C", Set::Ir149, Effect::Right(Right::Ir149)),
     ("$)A", Set::Ir58, Effect::Right(Right::Ir58)),
     (")I", Set::Single(Single::Ir13), Effect::Right(Right::Single(Single::Ir13))),
@@ -134,6 +138,54 @@ fn designated(sets: &Sets, mut rows: &[Designation], halves: Halves, bytes: &[u8
     Some(one_unknown(halves))
 }
 
+/// So many bytes that are a form.
+fn formed(form: Form, halves: Halves, bytes: &[u8], size: usize) -> Found
+    requires { size ≤ length bytes.now }
+    ensures { result ≡ spec.formed form halves bytes.now size }
+{
+    let (bytes, _) = bytes.split_at(size);
+    Found {
+        size,
+        meaning: meaning_of(character_of(form, bytes)),
+        halves,
+    }
+}
+
+/// What bytes are that are a form, a part of one, or something else.
+fn by_ranges(
+    form: Form,
+    halves: Halves,
+    bytes: &[u8],
+    rest: &[u8],
+    ranges: &[Range],
+    other: Option<Found>,
+) -> Option<Found>
+    requires { length bytes.now ≡ 1 + length rest.now }
+    ensures { result ≡ spec.by_fit (fit_of ranges.now rest.now)
+        (Some (spec.formed form halves bytes.now (1 + length ranges.now))) other }
+{
+    match fit_of(ranges, rest) {
+        Fit::Whole => Some(formed(form, halves, bytes, 1 + ranges.len())),
+        Fit::Part => None,
+        Fit::Not => other,
+    }
+}
+
+/// What bytes are that are not the first form which is tried: the first byte has no character, where there is no other.
+fn of_others(form: Form, halves: Halves, bytes: &[u8], rest: &[u8]) -> Option<Found>
+    requires { length bytes.now ≡ 1 + length rest.now }
+    ensures { result ≡ spec.of_forms form halves bytes.now rest.now (other_forms form) }
+{
+    let none = Some(one_unknown(halves));
+    match form {
+        Form::Gb18030 => {
+            let high = by_ranges(form, halves, bytes, rest, high_pair(), none);
+            by_ranges(form, halves, bytes, rest, low_pair(), high)
+        }
+        Form::Ir87 | Form::Ir159 | Form::Ir149 | Form::Ir58 | Form::Utf8 => none,
+    }
+}
+
 /// What bytes are that perhaps begin with a form: the first has no character, where they do not.
 fn of_form(form: Form, halves: Halves, bytes: &[u8]) -> Option<Found>
     ensures { result ≡ spec.of_form form halves bytes.now }
@@ -141,21 +193,8 @@ fn of_form(form: Form, halves: Halves, bytes: &[u8]) -> Option<Found>
     let [first, rest @ ..] = bytes else {
         return None;
     };
-    let ranges = ranges(form, *first);
-    match fit_of(ranges, rest) {
-        Fit::Whole => {
-            let size = 1 + ranges.len();
-            let (bytes, _) = bytes.split_at(size);
-            let meaning = meaning_of(character_of(form, bytes));
-            Some(Found {
-                size,
-                meaning,
-                halves,
-            })
-        }
-        Fit::Part => None,
-        Fit::Not => Some(one_unknown(halves)),
-    }
+    let others = of_others(form, halves, bytes, rest);
+    by_ranges(form, halves, bytes, rest, ranges(form, *first), others)
 }
 
 /// What all bytes mean where a text begins.

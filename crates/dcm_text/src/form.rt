@@ -3,8 +3,10 @@ ghost use Rattle.std.specs.Prelude.{◌≡◌, slice_index};
 ghost use Rattle.dcm_text.specs.Forms as spec;
 
 use crate::characters::{
-    Single, character_58, character_87, character_149, character_utf8, single_character,
+    Single, character_58, character_87, character_149, character_159, character_utf8,
+    single_character,
 };
+use crate::gb18030::{four_character, pair_character};
 use crate::set::{Left, Right};
 
 /// The least and the greatest of the bytes that may stand at a place.
@@ -24,8 +26,10 @@ pub enum Fit {
 #[derive(Clone, Copy, Debug, PartialEq, Eq)]
 pub enum Form {
     Ir87,
+    Ir159,
     Ir149,
     Ir58,
+    Gb18030,
     Utf8,
 }
 
@@ -82,7 +86,8 @@ pub(crate) fn left_opening(left: Left, byte: u8) -> Opening
 {
     match left {
         Left::Ir87 if (0x21..=0x7E).contains(&byte) => Opening::Form(Form::Ir87),
-        Left::Ascii | Left::Ir87 => Opening::Byte(Some(char::from(byte))),
+        Left::Ir159 if (0x21..=0x7E).contains(&byte) => Opening::Form(Form::Ir159),
+        Left::Ascii | Left::Ir87 | Left::Ir159 => Opening::Byte(Some(char::from(byte))),
     }
 }
 
@@ -95,8 +100,11 @@ pub(crate) fn right_opening(right: Right, byte: u8) -> Opening
         Right::Single(single) => Opening::Byte(single_character(single, byte)),
         Right::Ir149 if is_pair => Opening::Form(Form::Ir149),
         Right::Ir58 if is_pair => Opening::Form(Form::Ir58),
+        Right::Gb18030 if (0x81..=0xFE).contains(&byte) => Opening::Form(Form::Gb18030),
         Right::Utf8 if (0xC2..=0xF4).contains(&byte) => Opening::Form(Form::Utf8),
-        Right::Nothing | Right::Ir149 | Right::Ir58 | Right::Utf8 => Opening::Byte(None),
+        Right::Nothing | Right::Ir149 | Right::Ir58 | Right::Gb18030 | Right::Utf8 => Opening::Byte(
+            None,
+        ),
     }
 }
 
@@ -119,15 +127,30 @@ fn utf8_ranges(first: u8) -> &'static [Range]
     }
 }
 
-/// What may follow the first byte of a form.
+/// What may follow the first byte of a form. Of GB18030 it is the form of four bytes.
 pub(crate) fn ranges(form: Form, first: u8) -> &'static [Range]
     ensures { result.now ≡ spec.ranges form first }
 {
     match form {
-        Form::Ir87 => &[(0x21, 0x7E)],
+        Form::Ir87 | Form::Ir159 => &[(0x21, 0x7E)],
         Form::Ir149 | Form::Ir58 => &[(0xA1, 0xFE)],
+        Form::Gb18030 => &[(0x30, 0x39), (0x81, 0xFE), (0x30, 0x39)],
         Form::Utf8 => utf8_ranges(first),
     }
+}
+
+/// What may follow the first byte of two bytes of GB18030, below 80.
+pub(crate) fn low_pair() -> &'static [Range]
+    ensures { result.now ≡ spec.low_pair }
+{
+    &[(0x40, 0x7E)]
+}
+
+/// The same from 80 on.
+pub(crate) fn high_pair() -> &'static [Range]
+    ensures { result.now ≡ spec.high_pair }
+{
+    &[(0x80, 0xFE)]
 }
 
 /// The byte at a place, or 0 behind the last.
@@ -146,6 +169,9 @@ pub(crate) fn character_of(form: Form, bytes: &[u8]) -> Option<char>
 {
     let (first, second) = (byte_at(bytes, 0), byte_at(bytes, 1));
     match form {
+        Form::Gb18030 if bytes.len() == 2 => pair_character(first, second),
+        Form::Gb18030 => four_character(first, second, byte_at(bytes, 2), byte_at(bytes, 3)),
+        Form::Ir159 => character_159(first, second),
         Form::Ir87 => character_87(first, second),
         Form::Ir149 => character_149(first, second),
         Form::Ir58 => character_58(first, second),

@@ -16,6 +16,8 @@ mod characters;
 mod decoder;
 mod first;
 mod form;
+mod gb18030;
+mod gb_tables;
 pub mod laws;
 mod set;
 mod sets;

@@ -8,10 +8,14 @@ pub enum Set {
     Single(Single),
     /// Japanese, two bytes from 21 to 7E.
     Ir87,
+    /// More of Japanese, the same.
+    Ir159,
     /// Korean, two bytes from A1 to FE.
     Ir149,
     /// Chinese, two bytes from A1 to FE.
     Ir58,
+    /// Chinese, two or four bytes from 81 on; GBK, which is a part of it, too.
+    Gb18030,
     Utf8,
 }
 
@@ -22,6 +26,7 @@ pub enum Right {
     Single(Single),
     Ir149,
     Ir58,
+    Gb18030,
     Utf8,
 }
 
@@ -30,6 +35,7 @@ pub enum Right {
 pub enum Left {
     Ascii,
     Ir87,
+    Ir159,
 }
 
 /// What all bytes mean: G0 and G1.

@@ -11,7 +11,7 @@ pub type Term = (&'static str, Set, bool);
 
 /// The terms.
 #[rattlefmt::skip]
-pub const TERMS: [Term; 31] = [
+pub const TERMS: [Term; 34] = [
     ("", Set::Ascii, false),
     ("ISO_IR 6", Set::Ascii, false),
     ("ISO_IR 13", Set::Single(Single::Ir13), false),
@@ -42,6 +42,9 @@ pub const TERMS: [Term; 31] = [
     ("ISO 2022 IR 87", Set::Ir87, true),
     ("ISO 2022 IR 149", Set::Ir149, true),
     ("ISO 2022 IR 58", Set::Ir58, true),
+    ("ISO 2022 IR 159", Set::Ir159, true),
+    ("GB18030", Set::Gb18030, false),
+    ("GBK", Set::Gb18030, false),
     ("ISO_IR 192", Set::Utf8, false),
 ];
 
@@ -49,12 +52,12 @@ pub const TERMS: [Term; 31] = [
 const LONGEST: usize = 512;
 
 /// How many flags of sets there are.
-const FLAGS: usize = 16;
+const FLAGS: usize = 17;
 
 /// The flags of no set but ASCII, whose flag is the last.
 pub const ASCII_ALONE: [bool; FLAGS] = [
     false, false, false, false, false, false, false, false, false, false, false, false, false,
-    false, false, true,
+    false, false, false, true,
 ];
 
 /// What is in force: what a text begins with, and what may be designated within it.
@@ -88,7 +91,8 @@ fn place(set: Set) -> usize
         Set::Ir87 => 12,
         Set::Ir149 => 13,
         Set::Ir58 => 14,
-        Set::Ascii | Set::Utf8 => 15,
+        Set::Ir159 => 15,
+        Set::Ascii | Set::Gb18030 | Set::Utf8 => 16,
     }
 }
 
@@ -119,6 +123,13 @@ impl Sets {
         ensures { result ≡ spec.has self.now set }
     {
         self.named[place(set)]
+    }
+}
+
+/// A place of a list of sets where nothing is kept yet: those of the empty value.
+impl Default for Sets {
+    fn default() -> Sets {
+        Sets::DEFAULT
     }
 }
 
@@ -188,10 +199,11 @@ fn start_of(set: Set) -> Right
     ensures { result ≡ spec.start_of set }
 {
     match set {
-        Set::Ascii | Set::Ir87 => Right::Nothing,
+        Set::Ascii | Set::Ir87 | Set::Ir159 => Right::Nothing,
         Set::Single(single) => Right::Single(single),
         Set::Ir149 => Right::Ir149,
         Set::Ir58 => Right::Ir58,
+        Set::Gb18030 => Right::Gb18030,
         Set::Utf8 => Right::Utf8,
     }
 }
@@ -220,7 +232,7 @@ fn of_first(term: &[u8]) -> Sets
 fn with_term(sets: Sets, term: &[u8]) -> Sets
     ensures { result ≡ spec.with_term sets term.now }
 {
-    if matches!(sets.start, Right::Utf8) {
+    if matches!(sets.start, Right::Gb18030 | Right::Utf8) {
         return sets;
     }
     let (set, _) = named(term);

@@ -343,3 +343,106 @@ pub const EDGES: [Row; 15] = [
         "\u{7F}\\x80\\x9f\\xa0｡｢ﾞﾟ\\xff",
     ),
 ];
+
+/// GB18030 and ISO-IR 159, and the edges of their tables.
+#[rattlefmt::skip]
+pub const LONGER: [Row; 14] = [
+    (
+        b"GB18030",
+        TextKind::Names,
+        b"Wang^XiaoDong=\xCD\xF5^\xD0\xA1\xB6\xAB=",
+        "Wang^XiaoDong=王^小东=",
+        "Wang^XiaoDong=王^小东=",
+    ),
+    (
+        b"GB18030",
+        TextKind::Values,
+        b"\x952\x826\x811\x810\x810\x810\xE32\x9A5\xFE9\xFE9",
+        "𠀀\u{60A}%81%30%81%30%E3%32%9A%35%FE%39%FE%39",
+        "𠀀\u{60A}\u{80}\u{10FFFF}\\xfe\\x39\\xfe\\x39",
+    ),
+    (
+        b"GBK",
+        TextKind::Values,
+        b"\x81\\\\\x81\\\x952\x826",
+        "乗\\乗𠀀",
+        "乗\\乗𠀀",
+    ),
+    (
+        b"GB18030",
+        TextKind::Values,
+        b"\xD5]]\xA6\\\\",
+        "誡%5D\u{E6C2}\\",
+        "誡]\u{E6C2}\\",
+    ),
+    (
+        b"GB18030",
+        TextKind::Values,
+        b"\x81 \x80\xFFA\x810A\x810\x81 \x81\xFF",
+        "%81 %80%FFA%810A%810%81 %81%FF",
+        "\\x81 \\x80\\xffA\\x810A\\x810\\x81 \\x81\\xff",
+    ),
+    (
+        b"GB18030",
+        TextKind::OneValue,
+        b"A\x810\x81",
+        "A%810%81",
+        "A\\x810\\x81",
+    ),
+    (
+        b"GB18030\\ISO 2022 IR 87",
+        TextKind::Values,
+        b"\x1B$B;3",
+        "%1B$B;3",
+        "\u{1B}$B;3",
+    ),
+    (
+        b"ISO 2022 IR 6\\GB18030",
+        TextKind::Values,
+        b"\xCD\xF5",
+        "%CD%F5",
+        "\\xcd\\xf5",
+    ),
+    (
+        b"\\ISO 2022 IR 6\\ISO 2022 IR 13\\ISO 2022 IR 100\\ISO 2022 IR 101\\ISO 2022 IR 109\\ISO 2022 IR 110\\ISO 2022 IR 126\\ISO 2022 IR 127\\ISO 2022 IR 138\\ISO 2022 IR 144\\ISO 2022 IR 148\\ISO 2022 IR 166\\ISO 2022 IR 203\\ISO 2022 IR 87\\ISO 2022 IR 159\\ISO 2022 IR 149\\ISO 2022 IR 58",
+        TextKind::Values,
+        b"\x1B$B;3\x1B$(D0!\"7\x1B(J~\x1B$B;3\x1B(BA",
+        "山丂\u{FF5E}~山A",
+        "山丂\u{FF5E}~山A",
+    ),
+    (
+        b"ISO 2022 IR 159",
+        TextKind::Values,
+        b"\x1B$(D0!\\0!\x1B(J~",
+        "丂衜%21~",
+        "丂衜\\x21~",
+    ),
+    (
+        b"\\ISO 2022 IR 159",
+        TextKind::Names,
+        b"\x1B$(D0!0\"^0!\x1B$(D!!~~",
+        "丂丄諟%21%21%21%7E%7E",
+        "丂丄諟\\x21\\x21\\x21\\x7e\\x7e",
+    ),
+    (
+        b"GB18030",
+        TextKind::Values,
+        b"\x81@\x81~\x81\x80\x81\xFE\xAA\xFE\xAB@\xD4\xFE\xD5@\xFE@\xFE\xFE",
+        "丂亊亐侢\u{E05D}獲轧誁\u{FA0C}\u{E4C5}",
+        "丂亊亐侢\u{E05D}獲轧誁\u{FA0C}\u{E4C5}",
+    ),
+    (
+        b"GB18030",
+        TextKind::Values,
+        b"\x810\x810\x841\xA49\x841\xA50\x900\x810\xE32\x9A5\xE32\x9A6",
+        "%81%30%81%30%84%31%A4%39%84%31%A5%30\u{10000}%E3%32%9A%35%E3%32%9A%36",
+        "\u{80}\u{FFFF}\\x84\\x31\\xa5\\x30\u{10000}\u{10FFFF}\\xe3\\x32\\x9a\\x36",
+    ),
+    (
+        b"\\ISO 2022 IR 159",
+        TextKind::Values,
+        b"\x1B$(D\"/&a'B)!+w0!m~n!",
+        "\u{2D8}\u{386}\u{402}Æż丂%6D%7E%6E%21",
+        "\u{2D8}\u{386}\u{402}Æż丂\\x6d\\x7e\\x6e\\x21",
+    ),
+];

@@ -1,5 +1,5 @@
 //! Each row in two pieces, cut at each byte, and byte by byte.
-use crate::rows::{EDGES, EXTENDED, ONE_BYTE, RESETS, Row, TERMS, UTF_8};
+use crate::rows::{EDGES, EXTENDED, LONGER, ONE_BYTE, RESETS, Row, TERMS, UTF_8};
 use arrayvec::ArrayVec;
 use dcm_text::{Decoder, Sets, TextKind, dumped, in_cell, is_hidden, sets_of};
 use std::process::Abort;
@@ -100,6 +100,11 @@ fn terms(rt: HostRuntime) {
 #[test]
 fn edges_of_tables(rt: HostRuntime) {
     try_rows(&rt, &EDGES);
+}
+
+#[test]
+fn gb18030_and_159(rt: HostRuntime) {
+    try_rows(&rt, &LONGER);
 }
 
 /// A value of 512 bytes is read, and a longer one is not.

@@ -1,5 +1,5 @@
 -- What is done with a file by another form of its job, of its path or of its fate.
-use Rattle.std.proofs.Common.{◌≡◌, refl, subst, sym, ℕ, List, Bool, Result}
+use Rattle.std.proofs.Common.{◌≡◌, refl, subst, sym, ℕ, List, Option, Bool, Result}
 use Rattle.dcm_cli.specs.First.{ReadsFirst}
 use Rattle.dcm_cli.specs.InputCalls.{Reader}
 use Rattle.dcm_cli.specs.declared.first.FirstEnd.{FirstEnd}
@@ -8,8 +8,13 @@ use Rattle.dcm_instance.specs.Same.{Compares}
 use Rattle.dcm_instance.specs.Uids.{Uids}
 use Rattle.dcm_instance.specs.declared.names.NoInstance.{NoInstance}
 use Rattle.dcm_walk.specs.Visits.{Named}
+use Rattle.dcm_base.specs.declared.dictionary.Dictionary.{Dictionary}
+use Rattle.dcm_base.specs.declared.mode.Mode.{Mode}
+use Rattle.dcm_base.specs.declared.syntax.Syntax.{Syntax}
+use Rattle.dcm_words.specs.declared.job.Texts.{Texts}
+use Rattle.dcm_words.specs.declared.job.Texts.TheVariants.{Bytes, Characters}
 use Rattle.dcm_words.specs.Plans.{job_of}
-use Rattle.dcm_words.specs.Words.{Job}
+use Rattle.dcm_words.specs.Words.{Job, dump_as}
 use Rattle.dcm_words.specs.declared.job.Deidentify.{Deidentify}
 use Rattle.dcm_words.specs.declared.job.Job.{Job as AnyJob}
 use Rattle.dcm_words.specs.declared.job.Job.TheVariants as jobs
@@ -49,10 +54,16 @@ pub task_by : {S I O F E : Type 0} {w : World S I O F E} {t : Tree} {from : E} {
 task_by {S} {I} {O} {F} {E} {w} {t} {from} {before} {status} {to} {after} task other is runs =
     subst (λ (k : Task). RunsTask w t k from before status to after) is runs
 
+-- what is done where the job is a dump
+dumped_run : {S I O F E : Type 0} {w : World S I O F E} {t : Tree} {from : E} {before : S} {status : ℕ} {to : E} {after : S} (texts : Texts) (d : Dictionary) (mode : Mode) (bare : Option Syntax)
+    → RunsTask w t (same t.plan.job) from before status to after → RunsAs w t (dump_as texts d mode bare) from before status to after
+dumped_run Bytes d mode bare runs = runs
+dumped_run Characters d mode bare runs = runs
+
 -- what is done where the job is not the taking out of identity, and where it is
 pub other_run : {A S I O F E : Type 0} {w : World S I O F E} {t : Tree} {from : E} {before : S} {status : ℕ} {to : E} {after : S} (j : AnyJob A) → ((d : Deidentify) → j ≡ jobs.Deidentify d → ⊥)
     → RunsTask w t (same t.plan.job) from before status to after → RunsAs w t (job_of j) from before status to after
-other_run (jobs.Dump d) other runs = runs
+other_run (jobs.Dump d) other runs = dumped_run d.texts d.dictionary d.mode d.bare runs
 other_run (jobs.Convert d) other runs = runs
 other_run (jobs.Build d) other runs = runs
 other_run (jobs.Modify d) other runs = runs

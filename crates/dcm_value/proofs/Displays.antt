@@ -17,3 +17,13 @@ pub mod FewUnits
 pub mod UpperDigits
 pub mod TextLanes
 pub mod DecodedTexts
+pub mod DecodedRuns
+pub mod DecodedSteps
+pub mod DecodedOpenings
+pub mod DecodedEndings
+pub mod DecodedAscii
+pub mod DecodedWholes
+pub mod DecodedAsBefore
+pub mod DecodedUtf8
+pub mod DecodedShort
+pub mod PlainRuns

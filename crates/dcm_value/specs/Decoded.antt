@@ -1,5 +1,5 @@
 -- A text by Specific Character Set: the values in it, and the end of its display.
-use Rattle.std.specs.Prelude.{ℕ, Bool, true, false, ◌==◌, ◌&&◌, not, nat_le, List, ◌++◌, take, codes, count_by, slice_index, if◌then◌else◌}
+use Rattle.std.specs.Prelude.{ℕ, Bool, false, ◌==◌, ◌&&◌, not, nat_le, List, ◌++◌, take, codes, count_by, slice_index, if◌then◌else◌}
 use Rattle.dcm_text.specs.declared.first.Meaning.{Meaning}
 use Rattle.dcm_text.specs.declared.first.Meaning.TheVariants as meaning
 use Rattle.dcm_text.specs.Decoding.{Piece}

@@ -14,3 +14,8 @@ pub mod Parts
 pub mod Taking
 pub mod Emits
 pub mod Decoded
+pub mod DecodedProgress
+pub mod DecodedText
+pub mod DecodedDisplay
+pub mod DecodedLaws
+pub mod NextShown

@@ -1,6 +1,15 @@
 -- Bytes of a text that are shown as they are.
-use Rattle.std.specs.Prelude.{ℕ, Bool, not, nat_lt, ◌||◌, ◌==◌}
+use Rattle.std.specs.Prelude.{ℕ, Bool, not, nat_lt, ◌||◌, ◌==◌, List}
+use Rattle.std.specs.List.{position_or_len}
 
 -- controls, the percent sign and the closing bracket are not
 abbrev pub is_plain_byte : ℕ → Bool
 is_plain_byte b = not (nat_lt b 32 || b == 127 || b == 37 || b == 93)
+
+-- nor, by Specific Character Set, any byte above 7E
+abbrev pub is_ascii_byte : ℕ → Bool
+is_ascii_byte b = not (nat_lt b 32 || nat_lt 126 b || b == 37 || b == 93)
+
+-- how many bytes in front are so
+abbrev pub ascii_size : List ℕ → ℕ
+ascii_size v = position_or_len (λ b. not (is_ascii_byte b)) v

@@ -1,18 +1,29 @@
 // What is shown of a text by Specific Character Set.
-ghost use Rattle.std.specs.Prelude.{◌≡◌, ◌<◌, ◌≤◌, ◌+◌, ◌++◌, ◌^◌, flat_map, length, slice_index, OnOk};
+ghost use Rattle.std.specs.Prelude.{◌≡◌, ◌<◌, ◌≤◌, ◌+◌, [], ◌++◌, ◌^◌, codes, flat_map, length, slice_index, OnOk};
 ghost use Rattle.dcm_text.specs.Runs.{run, state_of, bytes_left};
-ghost use Rattle.dcm_text.specs.Shown.{dumped_piece};
+ghost use Rattle.dcm_text.specs.Sets.{sets_of};
+ghost use Rattle.dcm_text.specs.Shown.{dumped as dumped_text, dumped_piece};
+ghost use Rattle.dcm_text.specs.declared.set.TextKind.TheVariants.{OneValue};
 ghost use Rattle.dcm_value.specs.Decoded as spec;
+ghost use Rattle.dcm_value.specs.DecodedProgress.{decoded_identified};
 ghost use Rattle.dcm_value.specs.Emits.{Emits};
 
 use crate::display::Shown;
+use crate::next_shown::next_shown;
 use crate::units::append;
 use arrayvec::ArrayVec;
-use dcm_base::{DeviceOut, Watched, WriteFailed};
-use dcm_text::{Decoder, Meaning, Part, dumped};
+use dcm_base::{DeviceOut, Watched, WriteFailed, uid_name};
+use dcm_text::{Decoder, Meaning, Part, Sets, TextKind};
+
+/// What the empty value of Specific Character Set names: bytes from 80 on have no character.
+pub fn default_sets() -> Sets
+    ensures { result ≡ sets_of [] }
+{
+    Sets::DEFAULT
+}
 
 /// Whether a part is a backslash, which parts values.
-fn is_backslash(part: &Part) -> bool
+pub fn is_backslash(part: &Part) -> bool
     ensures { result ≡ spec.is_backslash part.now.meaning }
 {
     matches!(part.meaning, Meaning::Character('\\'))
@@ -69,16 +80,52 @@ impl Shown {
         ensures state { OnOk result (state_of decoder.new ≡ (run at_end (state_of decoder.old) piece.now).1) }
         ensures count { OnOk result (backslashes.new
             ≡ backslashes.old + spec.backslashes (run at_end (state_of decoder.old) piece.now).0) }
+        ensures few { backslashes.new + length (state_of decoder.new).held
+            ≤ backslashes.old + bytes_left decoder.old piece.now }
     {
         let mut rest = piece;
-        while let Some((part, after)) = decoder.next(rest, at_end) {
-            self.emit(dumped(&part).as_slice(), out)?;
-            if is_backslash(&part) {
-                *backslashes += 1;
-            }
+        while let Some((next, after)) = next_shown(decoder, rest, at_end) {
+            self.emit(next.bytes(), out)?;
+            *backslashes += next.backslashes() as u32;
             rest = after;
         }
         Ok(())
+    }
+
+    /// Shows a unique identifier, by its name where it has one, or as ASCII.
+    pub fn emit_decoded_name<W: DeviceOut>(
+        &mut self,
+        uid: &[u8],
+        out: &mut Watched<W>,
+    ) -> Result<(), WriteFailed>
+        requires { length uid.now < 2 ^ 32 }
+        ensures { Emits W.DeviceOut out.old out.new (display_of self.old) (display_of self.new)
+            (decoded_identified uid.now) result }
+    {
+        match uid_name(uid) {
+            Some(name) => {
+                self.emit(b"=", out)?;
+                self.emit(name.as_bytes(), out)
+            }
+            None => self.emit_ascii(uid, out),
+        }
+    }
+
+    /// Shows a text as ASCII, in brackets.
+    fn emit_ascii<W: DeviceOut>(
+        &mut self,
+        text: &[u8],
+        out: &mut Watched<W>,
+    ) -> Result<(), WriteFailed>
+        requires { length text.now < 2 ^ 32 }
+        ensures { Emits W.DeviceOut out.old out.new (display_of self.old) (display_of self.new)
+            (codes "[" ++ dumped_text (sets_of []) OneValue text.now ++ codes "]") result }
+    {
+        let mut decoder = Decoder::new(default_sets(), TextKind::OneValue);
+        let mut values = 0;
+        self.emit(b"[", out)?;
+        self.emit_decoded(&mut decoder, text, true, &mut values, out)?;
+        self.emit(b"]", out)
     }
 
     /// Appends what is still to be written, and the spaces after it: a long display is cut, and no character of it.

@@ -1,8 +1,8 @@
 // The bytes of a text as a dump shows them.
 ghost use Rattle.std.specs.Prelude.{◌≡◌, ◌<◌, ◌≤◌, ◌+◌, ◌*◌, ◌++◌, ◌/◌, ◌%◌, ◌==◌, ◌&&◌, if◌then◌else◌, [], ◌∷◌, length, drop, not, nat_lt};
-ghost use Rattle.std.specs.Prelude.{count_by};
+ghost use Rattle.std.specs.Prelude.{count_by, position};
 ghost use Rattle.dcm_base.specs.Dump.ValueText as spec;
-ghost use Rattle.dcm_value.specs.Plain.{is_plain_byte};
+ghost use Rattle.dcm_value.specs.Plain.{is_plain_byte, is_ascii_byte, ascii_size};
 ghost use Rattle.std.specs.List.{list_all, list_any};
 
 use arrayvec::ArrayVec;
@@ -10,6 +10,9 @@ use std::simd::prelude::*;
 
 /// The bytes of a text that are looked at together. Most texts are short, so there are no more.
 const LANES: usize = 8;
+
+/// The last byte of ASCII that is no control: `~`.
+const LAST_ASCII: u8 = 126;
 
 /// The two digits of a byte, in upper case.
 fn upper_digits(byte: u8) -> [u8; 2]
@@ -75,6 +78,72 @@ pub fn is_plain_text(bytes: &[u8]) -> bool
     }
     let (_, last) = bytes.split_at(bytes.len() - LANES);
     !has_escapes(u8x8::from_slice(last))
+}
+
+/// Whether a byte of a text is shown as it is by each Specific Character Set.
+fn is_ascii(byte: u8) -> bool
+    ensures { result ≡ is_ascii_byte byte }
+{
+    byte >= 32 && byte <= LAST_ASCII && byte != b'%' && byte != b']'
+}
+
+/// Whether a byte above 7E is among eight bytes.
+#[inline(always)]
+fn has_high(bytes: u8x8) -> bool
+    ensures { result ≡ list_any (λ b. nat_lt 126 b) bytes }
+{
+    bytes.simd_gt(u8x8::splat(LAST_ASCII)).to_bitmask() != 0
+}
+
+/// Whether one of eight bytes may not be shown as it is.
+#[inline(always)]
+fn has_others(bytes: u8x8) -> bool
+    ensures { result ≡ not (list_all is_ascii_byte bytes) }
+{
+    has_control(bytes) | has_high(bytes) | has_byte(bytes, b'%') | has_byte(bytes, b']')
+}
+
+/// The same as `is_plain_ascii`, byte by byte.
+fn is_ascii_singly(bytes: &[u8]) -> bool
+    ensures { result ≡ list_all is_ascii_byte bytes.now }
+{
+    bytes.iter().all(|byte| is_ascii(*byte))
+}
+
+/// Whether a text is shown as it is, whatever Specific Character Set is in force: its bytes are 20 to 7E, and no `%` or
+/// `]`. Eight bytes are looked at together, as by `is_plain_text`.
+pub fn is_plain_ascii(bytes: &[u8]) -> bool
+    ensures { result ≡ list_all is_ascii_byte bytes.now }
+{
+    if bytes.len() < LANES {
+        return is_ascii_singly(bytes);
+    }
+    let blocks = (bytes.len() - 1) / LANES;
+    for block in 0..blocks {
+        if has_others(u8x8::from_slice(&bytes[LANES * block..])) {
+            return false;
+        }
+    }
+    let (_, last) = bytes.split_at(bytes.len() - LANES);
+    !has_others(u8x8::from_slice(last))
+}
+
+/// The place of the first byte that may not be shown as it is.
+fn other_byte(bytes: &[u8]) -> Option<usize>
+    ensures { result ≡ position (λ b. not (is_ascii_byte b)) bytes.now }
+{
+    bytes.iter().position(|byte| !is_ascii(*byte))
+}
+
+/// How many bytes in front are shown as they are, whatever Specific Character Set is in force.
+pub fn ascii_front(bytes: &[u8]) -> usize
+    ensures value { result ≡ ascii_size bytes.now }
+    ensures most { result ≤ length bytes.now }
+{
+    match other_byte(bytes) {
+        Some(at) => at,
+        None => bytes.len(),
+    }
 }
 
 /// A byte of a text as a dump shows it: a control, `%` and `]` by `%` and two digits in upper case, and each other byte

@@ -1,4 +1,6 @@
 //! What the clauses of this crate come to together. The functions do nothing.
+ghost use Rattle.dcm_value.specs.DecodedLaws.{DecodedInPieces, DecodedWhole, DecodedCounts, DecodedSoFar};
+ghost use Rattle.dcm_value.specs.DecodedLaws.{AsciiAsBefore, DecodedAsBefore, DecodedIsUtf8, SoFarIsUtf8};
 ghost use Rattle.dcm_value.specs.Laws.{InPieces, ReadsBack, WholeText, WholeCount, TextSoFar};
 
 /// A value that comes in any pieces is written as its text, counted, and shown as far as it came.
@@ -13,4 +15,24 @@ pub fn text_steps()
 /// none.
 pub fn value_reads_back()
     ensures { ReadsBack }
+{}
+
+/// A value that comes in any pieces is written as its characters, counted, and shown as far as it is decided.
+pub fn decoded_text_steps()
+    ensures pieces { DecodedInPieces }
+    ensures whole { DecodedWhole }
+    ensures count { DecodedCounts }
+    ensures so_far { DecodedSoFar }
+{}
+
+/// A text of 20 to 7E without `%` and `]` is shown and counted as without Specific Character Set, whatever its pad byte.
+pub fn ascii_as_before()
+    ensures all { AsciiAsBefore }
+    ensures unpadded { DecodedAsBefore }
+{}
+
+/// What is shown by Specific Character Set is valid UTF-8: of a whole value, also where it is cut, and of an open one.
+pub fn decoded_is_utf8()
+    ensures whole { DecodedIsUtf8 }
+    ensures so_far { SoFarIsUtf8 }
 {}

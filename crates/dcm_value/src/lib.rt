@@ -2,6 +2,10 @@
 //!
 //! - `ValueText` is the text of one value as a dump shows it, with its pad byte and its values counted. It is fed the
 //!   value in any pieces and writes the text as it goes; with `Mode::Short` it holds the 66 bytes that may be cut.
+//! - `DecodedText` is the same by Specific Character Set, for values that are shown in brackets or by name: characters in
+//!   UTF-8, and bytes without a character by their numbers.
+//! - `append_decoded` appends to a line what `DecodedText` shows of a whole value, without a state, where it is not cut.
+//! - `is_plain_value` tells whether a value is its bytes by each of these sets, so that `ValueText` shows the same.
 //! - `append_whole` appends to a line what a dump shows of a whole value, without a state, where that is known at once,
 //!   and `append_few` does so for few numbers.
 //! - `read_value` reads such a text back into the bytes of the value, in little endian; `read_value_into` does so in a
@@ -18,6 +22,7 @@
 
 mod decimals;
 mod decoded;
+mod decoded_text;
 mod digits;
 mod display;
 mod escapes;
@@ -25,6 +30,7 @@ mod few;
 mod hexadecimal;
 mod lanes;
 pub mod laws;
+mod next_shown;
 mod parts;
 mod reading;
 mod unit_buffer;
@@ -32,10 +38,12 @@ mod units;
 mod value_text;
 mod way;
 mod whole;
+mod whole_decoded;
 
 pub use dcm_base::Mode;
+pub use decoded_text::{DecodedText, is_plain_value};
 pub use digits::unescape;
-pub use escapes::escape;
+pub use escapes::{escape, is_plain_ascii};
 pub use few::append_few;
 pub use lanes::swap;
 pub use parts::tag_of_text;
@@ -45,3 +53,4 @@ pub use units::{LONGEST, digits as byte_digits, shown_unit, unit_text};
 pub use value_text::ValueText;
 pub use way::takes_bytes;
 pub use whole::append_whole;
+pub use whole_decoded::append_decoded;

@@ -140,7 +140,7 @@ fn append_name<const N: usize>(name: &[u8], line: &mut ArrayVec<u8, N>)
 }
 
 /// Appends what is shown of a value without bytes, and spaces.
-fn append_no_value<const N: usize>(line: &mut ArrayVec<u8, N>)
+pub fn append_no_value<const N: usize>(line: &mut ArrayVec<u8, N>)
     requires room { length line.old.items + 66 ≤ N }
     ensures items { line.new.items ≡ line.old.items ++ padded (codes "(no value available)") }
     ensures within { length line.new.items ≤ length line.old.items + 66 }

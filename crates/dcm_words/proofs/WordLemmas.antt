@@ -2,7 +2,7 @@
 use Rattle.std.proofs.Common.{◌≡◌, ◌≢◌, ◌==◌, ℕ, ℤ, zero, suc, ◌<◌, ◌+◌, List, [], ◌∷◌, length, map, drop, get_or, Option, None, Some, option_map, Bool, true, false, Result, Ok, Err, refl, sym, ◌∙◌, ap, subst, arith, drop-cons, add-one, Bor}
 use Rattle.std.proofs.lemmas.Bool.Decides.{nat_tests}
 use Rattle.dcm_words.specs.declared.usage.Word.{Word}
-use Rattle.dcm_words.specs.declared.usage.Word.TheVariants.{Read, Show, WholeFile, DataSet, Bare, Target, Limit, Retain, Move, Pseudonyms, PixelsDealt, Key, Accepted, Path, Unknown}
+use Rattle.dcm_words.specs.declared.usage.Word.TheVariants.{Read, Show, Decode, WholeFile, DataSet, Bare, Target, Limit, Retain, Move, Pseudonyms, PixelsDealt, Key, Accepted, Path, Unknown}
 use Rattle.dcm_words.specs.declared.usage.Move.{Move as Moved}
 use Rattle.dcm_words.specs.declared.usage.Usage.{Usage}
 use Rattle.dcm_words.specs.declared.usage.Usage.TheVariants.{AtWord, Whole}
@@ -48,6 +48,7 @@ module _ (read : List ℕ → Word) where
   one_alone : (n : ℕ) (s : Said) (w : List ℕ) (x : Word) → read w ≡ x → goes x ≡ true → said_after read n s (w ∷ []) ≡ said_after read (suc n) (said_with x w s) []
   one_alone n s w (Read d) e g = rw (e, said_after) refl
   one_alone n s w (Show m) e g = rw (e, said_after) refl
+  one_alone n s w Decode e g = rw (e, said_after) refl
   one_alone n s w WholeFile e g = rw (e, said_after) refl
   one_alone n s w DataSet e g = rw (e, said_after) refl
   one_alone n s w (Bare y) e g = rw (e, said_after) refl
@@ -65,6 +66,7 @@ module _ (read : List ℕ → Word) where
   one_before : (n : ℕ) (s : Said) (w v : List ℕ) (words : List (List ℕ)) (x : Word) → read w ≡ x → goes x ≡ true → said_after read n s (w ∷ v ∷ words) ≡ said_after read (suc n) (said_with x w s) (v ∷ words)
   one_before n s w v words (Read d) e g = rw (e, said_after) refl
   one_before n s w v words (Show m) e g = rw (e, said_after) refl
+  one_before n s w v words Decode e g = rw (e, said_after) refl
   one_before n s w v words WholeFile e g = rw (e, said_after) refl
   one_before n s w v words DataSet e g = rw (e, said_after) refl
   one_before n s w v words (Bare y) e g = rw (e, said_after) refl
@@ -102,6 +104,7 @@ module _ (read : List ℕ → Word) where
   value_alone n s w Move e wants = rw (e, said_after) refl
   value_alone n s w (Read d) e wants = cc
   value_alone n s w (Show m) e wants = cc
+  value_alone n s w Decode e wants = cc
   value_alone n s w WholeFile e wants = cc
   value_alone n s w DataSet e wants = cc
   value_alone n s w (Bare y) e wants = cc
@@ -119,6 +122,7 @@ module _ (read : List ℕ → Word) where
   value_bad n s w v words Move e wants none = rw (e, none, said_after) refl
   value_bad n s w v words (Read d) e wants none = cc
   value_bad n s w v words (Show m) e wants none = cc
+  value_bad n s w v words Decode e wants none = cc
   value_bad n s w v words WholeFile e wants none = cc
   value_bad n s w v words DataSet e wants none = cc
   value_bad n s w v words (Bare y) e wants none = cc
@@ -136,6 +140,7 @@ module _ (read : List ℕ → Word) where
   value_good n s t w v words Move e wants some = rw (e, some, said_after) refl
   value_good n s t w v words (Read d) e wants some = cc
   value_good n s t w v words (Show m) e wants some = cc
+  value_good n s t w v words Decode e wants some = cc
   value_good n s t w v words WholeFile e wants some = cc
   value_good n s t w v words DataSet e wants some = cc
   value_good n s t w v words (Bare y) e wants some = cc

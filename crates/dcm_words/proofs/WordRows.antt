@@ -15,7 +15,7 @@ use Rattle.dcm_edits.specs.Edit.{Edit, number, every, step, insert, modify, eras
 use Rattle.dcm_edits.specs.EditWords.{meant_edits, in_edit, InEdit as EditFault}
 use Rattle.dcm_deid.specs.declared.fate.Temporal.TheVariants.{Full as full_dates, Modified}
 use Rattle.dcm_deid.specs.declared.fate.Options.{Options}
-use Rattle.dcm_words.specs.Words.{meant, no_options, Plan, Job, dump, convert, build, modify as modifies, deidentify}
+use Rattle.dcm_words.specs.Words.{meant, no_options, Plan, Job, dump, dump_decoded, convert, build, modify as modifies, deidentify}
 
 -- all that a row computes with
 unfoldable all : ℕ
@@ -57,6 +57,10 @@ dump_full = refl
 last_mode_counts : meant (codes "dcmdump" ∷ codes "+L" ∷ codes "-L" ∷ codes "in" ∷ []) ≡ planned (codes "in") (codes "-") (dump Extract Short None)
 unfolding all
 last_mode_counts = refl
+
+dump_of_characters : meant (codes "dcmdump" ∷ codes "+u8" ∷ codes "+L" ∷ codes "in" ∷ []) ≡ planned (codes "in") (codes "-") (dump_decoded Extract Full None)
+unfolding all
+dump_of_characters = refl
 
 dump_of_set : meant (codes "dcmdump" ∷ codes "-f" ∷ codes "-te" ∷ codes "-" ∷ []) ≡ planned (codes "-") (codes "-") (dump Extract Short (Some Little))
 unfolding all

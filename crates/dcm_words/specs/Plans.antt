@@ -21,7 +21,7 @@ use Rattle.dcm_words.specs.declared.words.Paths.TheVariants as paths
 use Rattle.dcm_words.specs.declared.words.Said.{Said}
 
 abbrev pub job_of : {A : Type 0} → Job A → words.Job
-job_of (jobs.Dump d) = words.dump d.dictionary d.mode d.bare
+job_of (jobs.Dump d) = words.dump_as d.texts d.dictionary d.mode d.bare
 job_of (jobs.Convert c) = words.convert c.dictionary c.target
 job_of (jobs.Build b) = words.build b.limit
 job_of (jobs.Modify m) = words.modify m.dictionary m.edits
@@ -68,7 +68,7 @@ takes_memory (tool ∷ others) = bytes_eq tool (codes "dcmodify") && has_paths o
 
 -- what a function made of the options of dcmdump of several files
 abbrev pub dump_job : Dump → words.Job
-dump_job d = words.dump d.dictionary d.mode d.bare
+dump_job d = words.dump_as d.texts d.dictionary d.mode d.bare
 
 abbrev pub GivesDump : Result (Option Dump) Usage → Result (Option words.Job) Usage → Type 0
 GivesDump (Ok each) meant = meant ≡ Ok (option_map dump_job each)
@@ -127,6 +127,7 @@ abbrev pub said_with_paths : Said → List (List ℕ) → words.Said
 said_with_paths s ps = record {
   dictionary = s.dictionary;
   mode = s.mode;
+  texts = s.texts;
   data_set = s.data_set;
   bare = s.bare;
   target = s.target;

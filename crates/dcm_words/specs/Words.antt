@@ -11,11 +11,13 @@ use Rattle.dcm_base.specs.declared.mode.Mode.{Mode}
 use Rattle.dcm_base.specs.declared.mode.Mode.TheVariants.{Short, Full}
 use Rattle.dcm_base.specs.declared.fault.WordFault.TheVariants.{UnknownTool, UnknownOption, BadOptionValue, WrongPaths}
 use Rattle.dcm_base.specs.declared.fault.WordFault.TheVariants.{OptionsApart, SamePath, NoKey, ReadTwice}
+use Rattle.dcm_words.specs.declared.job.Texts.{Texts}
+use Rattle.dcm_words.specs.declared.job.Texts.TheVariants.{Bytes, Characters}
 use Rattle.dcm_words.specs.declared.usage.Choice.{Choice}
 use Rattle.dcm_words.specs.declared.usage.Move.{Move as Moved}
 use Rattle.dcm_words.specs.declared.usage.Move.TheVariants.{Days, ByKey}
 use Rattle.dcm_words.specs.declared.usage.Word.{Word}
-use Rattle.dcm_words.specs.declared.usage.Word.TheVariants.{Read, Show, WholeFile, DataSet, Bare, Target, Limit}
+use Rattle.dcm_words.specs.declared.usage.Word.TheVariants.{Read, Show, Decode, WholeFile, DataSet, Bare, Target, Limit}
 use Rattle.dcm_words.specs.declared.usage.Word.TheVariants.{Retain, Move, Pseudonyms, PixelsDealt, Key, Accepted, Path, Unknown}
 use Rattle.dcm_deid.specs.declared.fate.Options.{Options}
 use Rattle.dcm_deid.specs.declared.fate.Temporal.TheVariants.{Removed, Full as full_dates, Modified}
@@ -32,6 +34,8 @@ use Rattle.dcm_edits.specs.EditWords.{dictionary_word, dictionary_said, meant_ed
 -- what a tool is to do, with the dictionary that it reads with
 pub data Job : Type 0 where
   dump : (dictionary : Dictionary) (mode : Mode) (bare : Option Syntax) → Job
+  -- the same, with texts by Specific Character Set, in UTF-8
+  dump_decoded : (dictionary : Dictionary) (mode : Mode) (bare : Option Syntax) → Job
   convert : (dictionary : Dictionary) (target : Option Syntax) → Job
   build : (limit : ℕ) → Job
   modify : (dictionary : Dictionary) (edits : List Edit) → Job
@@ -68,6 +72,7 @@ abbrev pub dump_word : List ℕ → Word
 dump_word w =
     if bytes_eq w (codes "-L") then Show Short
     else if bytes_eq w (codes "+L") then Show Full
+    else if bytes_eq w (codes "+u8") then Decode
     else if bytes_eq w (codes "+fo") then WholeFile
     else if bytes_eq w (codes "-f") then DataSet
     else if bytes_eq w (codes "-ti") then Bare Implicit
@@ -161,6 +166,7 @@ key_of w = if is_empty_word w || bytes_eq w standard then None else Some w
 pub record Said : Type 0 where
   pub dictionary : Dictionary
   pub mode : Mode
+  pub texts : Texts
   pub data_set : Bool
   pub bare : Option Syntax
   pub target : Option Syntax
@@ -207,6 +213,7 @@ abbrev pub nothing_said : Said
 nothing_said = record {
   dictionary = Extract;
   mode = Short;
+  texts = Bytes;
   data_set = false;
   bare = None;
   target = None;
@@ -225,6 +232,7 @@ and_path (p ∷ ps) w = p ∷ and_path ps w
 abbrev pub said_with : Word → List ℕ → Said → Said
 said_with (Read dictionary) w s = record s { dictionary = dictionary }
 said_with (Show mode) w s = record s { mode = mode }
+said_with Decode w s = record s { texts = Characters }
 said_with WholeFile w s = record s { data_set = false }
 said_with DataSet w s = record s { data_set = true }
 said_with (Bare syntax) w s = record s { bare = Some syntax }
@@ -291,10 +299,19 @@ abbrev pub same : Bool → Bool → Bool
 same true b = b
 same false b = not b
 
+-- a dump, by how texts are shown
+abbrev pub dump_as : Texts → Dictionary → Mode → Option Syntax → Job
+dump_as Bytes d mode bare = dump d mode bare
+dump_as Characters d mode bare = dump_decoded d mode bare
+
+-- that the words ask for
+abbrev pub dump_said : Said → Job
+dump_said s = dump_as s.texts s.dictionary s.mode s.bare
+
 -- a data set alone is read only in a syntax that the words name, which are for it alone
 abbrev pub dump_plan_of : List ℕ → Said → Result Plan Usage
 dump_plan_of input s = if same s.data_set (is_some s.bare)
-    then Ok (record { input = input; output = standard; key = None; days_by_key = false; job = dump s.dictionary s.mode s.bare })
+    then Ok (record { input = input; output = standard; key = None; days_by_key = false; job = dump_said s })
     else Err (Whole OptionsApart)
 
 abbrev pub dump_plan_with : List (List ℕ) → Said → Result Plan Usage
@@ -306,7 +323,7 @@ dump_plan words = elim (said_by dump_word words) [ Ok s ↦ dump_plan_with s.pat
 
 -- how dcmdump shows each of several files, by its options; none where they do not go together
 abbrev pub dump_by : Said → Option Job
-dump_by s = if same s.data_set (is_some s.bare) then Some (dump s.dictionary s.mode s.bare) else None
+dump_by s = if same s.data_set (is_some s.bare) then Some (dump_said s) else None
 
 abbrev pub dump_of_each : List (List ℕ) → Result (Option Job) Usage
 dump_of_each words = elim (said_by dumps_word words) [ Ok s ↦ Ok (dump_by s) | Err u ↦ Err u ]

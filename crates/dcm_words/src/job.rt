@@ -19,11 +19,21 @@ pub enum Job<A: Allocator = Global> {
     Deidentify(Deidentify),
 }
 
+/// How the texts of a file are shown.
+#[derive(Clone, Copy, Debug, PartialEq, Eq)]
+pub enum Texts {
+    /// By their bytes.
+    Bytes,
+    /// By Specific Character Set (0008,0005), in UTF-8.
+    Characters,
+}
+
 /// The dump of a file, or of a data set alone in a syntax, read with a dictionary.
 #[derive(Clone, Copy, Debug, PartialEq, Eq)]
 pub struct Dump {
     pub dictionary: Dictionary,
     pub mode: Mode,
+    pub texts: Texts,
     pub bare: Option<Syntax>,
 }
 

@@ -32,6 +32,7 @@ fn plan_dump<'a, A: Allocator>(words: &'a [&'a [u8]]) -> Result<Planned<'a, A>, 
         job: Job::Dump(Dump {
             dictionary: said.dictionary,
             mode: said.mode,
+            texts: said.texts,
             bare: said.bare,
         }),
     })
@@ -49,6 +50,7 @@ pub fn dump_of_each(words: &[&[u8]]) -> Result<Option<Dump>, Usage>
     Ok(Some(Dump {
         dictionary: said.dictionary,
         mode: said.mode,
+        texts: said.texts,
         bare: said.bare,
     }))
 }

@@ -40,6 +40,7 @@ dcmtools dcmdump [OPTION].. FILE..: show DICOM files as text, an element on a li
 
   -L     cut displays of more than 66 bytes (default)
   +L     show displays whole
+  +u8    show texts by Specific Character Set, in UTF-8
   +fo    the input is a file with a meta group (default)
   -f     the input is a data set alone, in one of the next three syntaxes
   -ti    with -f: implicit VR little endian

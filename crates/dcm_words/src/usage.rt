@@ -9,6 +9,8 @@ pub enum Word {
     Read(Dictionary),
     /// How much of a long value is shown.
     Show(Mode),
+    /// Texts are shown by Specific Character Set, in UTF-8.
+    Decode,
     /// The input is a file with a meta group.
     WholeFile,
     /// The input is a data set alone.

@@ -6,7 +6,7 @@ ghost use Rattle.dcm_words.specs.Plans.{reader, job_of, takes_memory, has_paths,
 ghost use Rattle.dcm_words.specs.Plans.{capped, limit_after as said_limit, move_after as said_move, key_after as said_key, LimitAs, KeyAs};
 ghost use Rattle.dcm_words.specs.Plans.{Gives, PathsAre, SaidAs, planned as planned_of};
 
-use crate::job::{Build, Convert, Deidentify, Dump, Job, Modify, Planned};
+use crate::job::{Build, Convert, Deidentify, Dump, Job, Modify, Planned, Texts};
 use crate::usage::{Choice, Move, Usage, Word};
 use arrayvec::ArrayVec;
 use dcm_base::{Dictionary, LINE_LIMIT, Mode, Syntax, WordFault, decimal_digit};
@@ -54,6 +54,7 @@ pub enum Paths<'a> {
 pub struct Said<'a> {
     pub dictionary: Dictionary,
     pub mode: Mode,
+    pub texts: Texts,
     pub data_set: bool,
     pub bare: Option<Syntax>,
     pub target: Option<Syntax>,
@@ -109,6 +110,8 @@ fn dump_word(word: &[u8]) -> Word
         Word::Show(Mode::Short)
     } else if word == b"+L".as_slice() {
         Word::Show(Mode::Full)
+    } else if word == b"+u8".as_slice() {
+        Word::Decode
     } else if word == b"+fo".as_slice() {
         Word::WholeFile
     } else if word == b"-f".as_slice() {
@@ -410,6 +413,7 @@ pub fn said_by<'a>(tool: Tool, words: &'a [&'a [u8]]) -> Result<Said<'a>, Usage>
     let mut said: Said<'a> = Said {
         dictionary: Dictionary::Extract,
         mode: Mode::Short,
+        texts: Texts::Bytes,
         data_set: false,
         bare: None,
         target: None,
@@ -425,6 +429,7 @@ pub fn said_by<'a>(tool: Tool, words: &'a [&'a [u8]]) -> Result<Said<'a>, Usage>
         match word_of(tool, word) {
             Word::Read(dictionary) => said.dictionary = dictionary,
             Word::Show(mode) => said.mode = mode,
+            Word::Decode => said.texts = Texts::Characters,
             Word::WholeFile => said.data_set = false,
             Word::DataSet => said.data_set = true,
             Word::Bare(syntax) => said.bare = Some(syntax),

@@ -29,7 +29,7 @@ use Rattle.dcm_cli.specs.InputCalls.{How, in_part, to_end, with_failure, Allows}
 use Rattle.dcm_cli.specs.Opening.{HeadChange, HeadRead, NotOpened, no_set, no_change, no_head}
 use Rattle.dcm_cli.specs.Pass.{Ends, at_end, at_fault, halted, unread, unwritten, end_unwritten, FailsHead, ending_of_head, set_bytes, with_unplaced, with_pixels}
 use Rattle.dcm_cli.specs.Run.{Answered, AnsweredAll, IsDecided, Worked, answered, could_not_read, could_not_write}
-use Rattle.dcm_cli.proofs.Passes.Alone.{read_as}
+use Rattle.dcm_cli.proofs.Passes.Alone.{AloneMaker}
 use Rattle.dcm_cli.proofs.Passes.Files.{FileMaker, reads_file, file_opened, file_answered, unopened_answered, unchanged_answered}
 use Rattle.dcm_cli.proofs.Passes.Makers.{dumper, refuses_as}
 use Rattle.dcm_cli.proofs.Passes.MetaHeads.{Opened, one_head}
@@ -142,15 +142,14 @@ module _ (job : Job) (is_file : reads_file job ≡ true) (coding : Coding) (kept
 
 -- ---- a data set alone
 
-pub alone_decided : (d : Dictionary) (mode : Mode) (bare : Syntax) (more : List ℕ) (how : How) (held : Option (List ℕ)) (t : DumpState) (holds : Option (List ℕ)) (ending : Ending)
-    → Ends bars_nothing dump_step dump_writes (start_of (read_by d bare) 0) (dump_start d mode) held (Some (0 ∷ [])) t holds more ending → IsDecided (dump d mode (Some bare)) more how ending
-alone_decided d mode bare more how held t holds ending (at_end over none fin is last e) = absurd (let no : 0 ∷ [] ≡ [] = over in cc)
-alone_decided d mode bare more how held t holds ending (at_fault stop over none fin is state e) = absurd (let no : 0 ∷ [] ≡ [] = over in cc)
-alone_decided d mode bare more how held t holds ending (unread none is e) = decided_unread (dump d mode (Some bare)) more how ending _ is
-alone_decided d mode bare more how held t holds ending (unwritten is e) = decided_output (dump d mode (Some bare)) more how ending is
-alone_decided d mode bare more how held t holds ending (end_unwritten over none is e) = decided_output (dump d mode (Some bare)) more how ending is
-alone_decided d mode bare more how held t holds ending (halted stop halt is state e) =
-    let s : Syntax = read_by d bare in
-    let f = refuses_as (dumper d mode) s 0 more (omega arith) stop.fault stop.at halt in
-    decided_as (dump d mode (Some bare)) more how ending (Refused stop) (set_header (uid_of_syntax s) ++ dump_front d mode 0 f.f) is
-    (λ rest ok. read_as d mode bare (more ++ rest) (Some rest) held f.f (refused stop.fault stop.at) (f.reads rest))
+pub alone_decided : (job : Job) (s : Syntax) (k : AloneMaker job s) (more : List ℕ) (how : How) (held : Option (List ℕ)) (t : k.maker.State) (holds : Option (List ℕ)) (ending : Ending)
+    → Ends k.maker.bars k.maker.step k.maker.writes (start_of s 0) k.maker.first held (Some (0 ∷ [])) t holds more ending → IsDecided job more how ending
+alone_decided job s k more how held t holds ending (at_end over none fin is last e) = absurd (let no : 0 ∷ [] ≡ [] = over in cc)
+alone_decided job s k more how held t holds ending (at_fault stop over none fin is state e) = absurd (let no : 0 ∷ [] ≡ [] = over in cc)
+alone_decided job s k more how held t holds ending (unread none is e) = decided_unread job more how ending _ is
+alone_decided job s k more how held t holds ending (unwritten is e) = decided_output job more how ending is
+alone_decided job s k more how held t holds ending (end_unwritten over none is e) = decided_output job more how ending is
+alone_decided job s k more how held t holds ending (halted stop halt is state e) =
+    let f = refuses_as k.maker s 0 more (omega arith) stop.fault stop.at halt in
+    decided_as job more how ending (Refused stop) (k.header ++ k.text f.f) is
+    (λ rest ok. k.answered_as (more ++ rest) f.f (refused stop.fault stop.at) (f.reads rest))

@@ -11,13 +11,16 @@ use Rattle.dcm_base.specs.declared.syntax.Syntax.{Syntax}
 use Rattle.dcm_devices.specs.Device.{AppendsFront}
 use Rattle.dcm_base.specs.Dump.Dump.{dump_front}
 use Rattle.dcm_base.specs.Dump.Header.{set_header, meta_header}
+use Rattle.dcm_sinks.specs.DecodedDump.{decoded_front}
+use Rattle.dcm_sinks.specs.DecodedHeader.{decoded_meta_header, decoded_set_header}
+use Rattle.dcm_sinks.specs.InForce.{EMPTY}
 use Rattle.dcm_base.specs.Tree.Front.{Front}
 use Rattle.dcm_base.specs.Reading.Stop.{Stop, complete, refused as stop_refused, is_undecided}
 use Rattle.dcm_base.specs.File.MetaReads.{Meta, PREFIX}
 use Rattle.dcm_base.specs.Conversion.NewMeta.{new_meta}
 use Rattle.dcm_base.specs.Conversion.Recode.{recode}
 use Rattle.dcm_base.specs.Reading.Reads.{INPUT_LIMIT, Reads}
-use Rattle.dcm_words.specs.Words.{Job, dump, convert, build, modify, deidentify}
+use Rattle.dcm_words.specs.Words.{Job, dump, dump_decoded, convert, build, modify, deidentify}
 use Rattle.dcm_devices.proofs.Writes.Puts.{append_known_twice, append_known_none, front_longer, puts_behind}
 use Rattle.dcm_base.specs.declared.dictionary.Dictionary.{Dictionary}
 use Rattle.dcm_head.specs.declared.meta_read.MetaEnd.{MetaEnd}
@@ -37,7 +40,7 @@ use Rattle.dcm_cli.specs.Pass.{Begins, FailsHead, Ends, WasRead, head_read, set_
 use Rattle.dcm_cli.specs.Answer.{job_dictionary, Source, file as of_file, unopened, going_on, job_bar, refuses_change, target_syntax, target_uid, file_output, output_of, Sure, FileReads, FileSure, not_opened as was_not_opened, not_changed, opened as was_opened, before_set, within_set}
 use Rattle.dcm_cli.specs.Run.{Answered, Worked, answered, could_not_read, could_not_write, verdict_of_source, verdict_of_stop, verdict_at, done_verdict}
 use Rattle.dcm_cli.proofs.Passes.Readers.{nothing_follows}
-use Rattle.dcm_cli.proofs.Passes.Makers.{Maker, dumper, encoder}
+use Rattle.dcm_cli.proofs.Passes.Makers.{Maker, dumper, decoder, encoder}
 use Rattle.dcm_cli.proofs.Passes.Sets.{SetMade, set_read, set_unread, set_unwritten, Last, set_made, all_read, TellsNothing, told_nothing}
 use Rattle.dcm_cli.proofs.Passes.MetaHeads.{Opened, opened, one_head, not_opened, ended_stays, finished_same, has_end, goes_on_still, ends_before}
 
@@ -45,7 +48,9 @@ use Rattle.dcm_cli.proofs.Passes.MetaHeads.{Opened, opened, one_head, not_opened
 
 abbrev pub reads_file : Job → Bool
 reads_file (dump d mode None) = true
+reads_file (dump_decoded d mode None) = true
 reads_file (dump d mode (Some syntax)) = false
+reads_file (dump_decoded d mode (Some syntax)) = false
 reads_file (convert d target) = true
 reads_file (build limit) = false
 reads_file (modify d edits) = true
@@ -53,7 +58,9 @@ reads_file (deidentify options reports key) = true
 
 pub file_answered : (job : Job) → reads_file job ≡ true → (bytes : List ℕ) (source : Source) → FileReads job bytes source → Answered job bytes (output_of job source) (verdict_of_source job source)
 file_answered (dump d mode None) is bytes source reads = record { source = source; reads = reads; out_is = refl; verdict_is = refl }
+file_answered (dump_decoded d mode None) is bytes source reads = record { source = source; reads = reads; out_is = refl; verdict_is = refl }
 file_answered (dump d mode (Some syntax)) is bytes source reads = cc
+file_answered (dump_decoded d mode (Some syntax)) is bytes source reads = cc
 file_answered (convert d target) is bytes source reads = record { source = source; reads = reads; out_is = refl; verdict_is = refl }
 file_answered (build limit) is bytes source reads = cc
 file_answered (modify d edits) is bytes source reads = record { source = source; reads = reads; out_is = refl; verdict_is = refl }
@@ -61,7 +68,9 @@ file_answered (deidentify options reports key) is bytes source reads = record { 
 
 file_sure : (job : Job) → reads_file job ≡ true → (p out : List ℕ) → FileSure job p out → Sure job p out
 file_sure (dump d mode None) is p out sure = sure
+file_sure (dump_decoded d mode None) is p out sure = sure
 file_sure (dump d mode (Some syntax)) is p out sure = cc
+file_sure (dump_decoded d mode (Some syntax)) is p out sure = cc
 file_sure (convert d target) is p out sure = sure
 file_sure (build limit) is p out sure = cc
 file_sure (modify d edits) is p out sure = sure
@@ -80,6 +89,15 @@ file_dumper d mode coding = record {
   header = λ m. meta_header d mode m.elements ++ set_header m.uid;
   text = dump_front d mode 0;
   maker = dumper d mode;
+  output_is = λ m f. refl;
+}
+
+-- the dump by characters
+abbrev pub file_decoder : (d : Dictionary) (mode : Mode) (coding : Coding) → FileMaker (dump_decoded d mode None) coding
+file_decoder d mode coding = record {
+  header = λ m. decoded_meta_header d mode m.elements ++ decoded_set_header m.uid;
+  text = decoded_front d mode EMPTY 0;
+  maker = decoder d mode;
   output_is = λ m f. refl;
 }
 

@@ -25,6 +25,10 @@ use Rattle.dcm_stream.proofs.Steps.Follows.{follows, answers}
 use Rattle.dcm_editor.proofs.EditSinks.DrivesEdits.{BarsShallowAs, driven_same, output_same}
 use Rattle.dcm_editor.proofs.ReadBack.Rises.{KeepsOrder}
 use Rattle.dcm_sinks.specs.DumpSink.{DumpState, dump_start, dump_step, dump_writes, bars_nothing}
+use Rattle.dcm_sinks.specs.DecodedDump.{decoded_front}
+use Rattle.dcm_sinks.specs.DecodedSink.{DecodedState, decoded_start, decoded_step, decoded_writes, bars_no_head}
+use Rattle.dcm_sinks.specs.InForce.{EMPTY}
+use Rattle.dcm_sinks.proofs.DecodedDumps.Reads.{reads_whole as decoded_reads_whole, reads_so_far as decoded_reads_so_far}
 use Rattle.dcm_sinks.specs.EncodeSink.{EncodeState, encode_bar, encode_start, encode_step, encode_writes}
 use Rattle.dcm_sinks.proofs.Dumps.Reads.{reads_whole, reads_so_far}
 use Rattle.dcm_sinks.proofs.Conversions.Reads.{encode_bars, reads_whole as encode_reads_whole, reads_so_far as encode_reads_so_far}
@@ -112,6 +116,19 @@ dumper d mode = record {
   drives = drives_by bars_nothing dump_step dump_writes no_bar (dump_start d mode) (bars_none bars_nothing dump_step dump_writes (dump_start d mode) (λ atoms head. refl));
   whole = reads_whole d mode;
   so_far = reads_so_far d mode;
+}
+
+-- the dump by characters
+abbrev pub decoder : (d : Dictionary) (mode : Mode) → Maker no_bar (decoded_front d mode EMPTY 0)
+decoder d mode = record {
+  State = DecodedState;
+  bars = bars_no_head;
+  step = decoded_step;
+  writes = decoded_writes;
+  first = decoded_start d mode;
+  drives = drives_by bars_no_head decoded_step decoded_writes no_bar (decoded_start d mode) (bars_none bars_no_head decoded_step decoded_writes (decoded_start d mode) (λ atoms head. refl));
+  whole = decoded_reads_whole d mode;
+  so_far = decoded_reads_so_far d mode;
 }
 
 -- the conversion

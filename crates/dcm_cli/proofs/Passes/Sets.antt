@@ -18,7 +18,7 @@ use Rattle.dcm_cli.specs.declared.ending.Ending.TheVariants.{Worked, Unread, Out
 use Rattle.dcm_cli.specs.Pass.{Ends, at_end, at_fault, halted, unread, unwritten, end_unwritten}
 use Rattle.dcm_base.specs.declared.dictionary.Dictionary.{Dictionary}
 use Rattle.dcm_base.specs.declared.mode.Mode.{Mode}
-use Rattle.dcm_words.specs.Words.{Job, dump, convert}
+use Rattle.dcm_words.specs.Words.{Job, dump, dump_decoded, convert}
 use Rattle.dcm_cli.specs.declared.ending.Verdict.TheVariants.{Done}
 use Rattle.dcm_cli.specs.Answer.{going_on}
 use Rattle.dcm_cli.specs.Run.{verdict_of_stop, verdict_at, done_verdict, unplaced_mask}
@@ -44,6 +44,10 @@ told_nothing job none set (refused fault offset) = refl
 pub dump_tells_nothing : (d : Dictionary) (mode : Mode) (bare : Option Syntax) → TellsNothing (dump d mode bare)
 unfolding unplaced_mask
 dump_tells_nothing d mode bare set = refl
+
+pub decoded_tells_nothing : (d : Dictionary) (mode : Mode) (bare : Option Syntax) → TellsNothing (dump_decoded d mode bare)
+unfolding unplaced_mask
+decoded_tells_nothing d mode bare set = refl
 
 pub convert_tells_nothing : (d : Dictionary) (target : Option Syntax) → TellsNothing (convert d target)
 unfolding unplaced_mask

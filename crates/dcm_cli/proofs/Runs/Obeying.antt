@@ -10,7 +10,12 @@ use Rattle.dcm_words.specs.declared.job.Job.{Job as AnyJob}
 use Rattle.dcm_words.specs.declared.job.Job.TheVariants as jobs
 use Rattle.dcm_words.specs.declared.usage.Usage.{Usage}
 use Rattle.dcm_words.specs.declared.usage.Usage.TheVariants.{AtWord, Whole, InEdit, Memory}
-use Rattle.dcm_words.specs.Words.{Job, Plan, meant}
+use Rattle.dcm_base.specs.declared.dictionary.Dictionary.{Dictionary}
+use Rattle.dcm_base.specs.declared.mode.Mode.{Mode}
+use Rattle.dcm_base.specs.declared.syntax.Syntax.{Syntax}
+use Rattle.dcm_words.specs.declared.job.Texts.{Texts}
+use Rattle.dcm_words.specs.declared.job.Texts.TheVariants.{Bytes, Characters}
+use Rattle.dcm_words.specs.Words.{Job, Plan, meant, dump_as}
 use Rattle.dcm_words.specs.Topics.{asked}
 use Rattle.dcm_words.specs.Plans.{job_of, Gives, GivesUnlessMemory, takes_memory}
 use Rattle.dcm_devices.specs.Writing.{Writer}
@@ -69,10 +74,16 @@ module _ {S I O : Type 0} (may : MayDo S I O) (output : List ℕ) (ran : ℕ) (e
   end_kept (Ok x) ends (inr done) nothing = named done.0 (subst (λ (b : Bool). EndsPart may output b old (Ok x) new) (is_done ran done.0) ends) nothing done.0
   end_kept (Err x) ends (inr done) nothing = absurd (let no = done.1 in cc)
 
+-- what is done of a plan whose job is a dump
+dumped_job : {S I O : Type 0} (may : MayDo S I O) (r : Reader I) (w : Writer O) (p : Plan) (e : Change) (old : S) (status : ℕ) (new : S) (texts : Texts) (d : Dictionary) (mode : Mode) (bare : Option Syntax)
+    → Works may r w p e old status new → WorksAs (dump_as texts d mode bare) may r w p e old status new
+dumped_job may r w p e old status new Bytes d mode bare works = works
+dumped_job may r w p e old status new Characters d mode bare works = works
+
 -- what is done of a plan whose job is another one
 pub other_job : {A S I O : Type 0} (may : MayDo S I O) (r : Reader I) (w : Writer O) (p : Plan) (e : Change) (old : S) (status : ℕ) (new : S) (j : AnyJob A) → ((d : Deidentify) → j ≡ jobs.Deidentify d → ⊥)
     → Works may r w p e old status new → WorksAs (job_of j) may r w p e old status new
-other_job may r w p e old status new (jobs.Dump d) other works = works
+other_job may r w p e old status new (jobs.Dump d) other works = dumped_job may r w p e old status new d.texts d.dictionary d.mode d.bare works
 other_job may r w p e old status new (jobs.Convert d) other works = works
 other_job may r w p e old status new (jobs.Build d) other works = works
 other_job may r w p e old status new (jobs.Modify d) other works = works

@@ -17,7 +17,7 @@ use Rattle.dcm_words.specs.declared.topic.Topic.{Topic}
 use Rattle.dcm_words.specs.Topics.{asked, text}
 use Rattle.dcm_words.specs.declared.usage.Usage.{Usage}
 use Rattle.dcm_words.specs.declared.usage.Usage.TheVariants.{Memory}
-use Rattle.dcm_words.specs.Words.{Job, dump, convert, build, modify, deidentify, Plan, meant, with_days}
+use Rattle.dcm_words.specs.Words.{Job, dump, dump_decoded, convert, build, modify, deidentify, Plan, meant, with_days}
 use Rattle.dcm_cli.specs.declared.days.NoDays.TheVariants as no_days
 use Rattle.dcm_cli.specs.declared.first.FirstEnd.{FirstEnd}
 use Rattle.dcm_cli.specs.declared.first.FirstEnd.TheVariants as ends
@@ -173,6 +173,7 @@ module _ (s new : MemSystem) (errors new_errors : MemOut) (status : ℕ) where
 
     plan_left : (job : Job) → p.job ≡ job → PlanComesAs job s p o → WorksAs job may_do memory_reader memory_writer p e s status new → Left o
     plan_left (dump d m b) is comes works = job_left p o (subst Job_comes (sym is) comes) room works
+    plan_left (dump_decoded d m b) is comes works = job_left p o (subst Job_comes (sym is) comes) room works
     plan_left (convert d t) is comes works = job_left p o (subst Job_comes (sym is) comes) room works
     plan_left (build l) is comes works = job_left p o (subst Job_comes (sym is) comes) room works
     plan_left (modify d es) is comes works = job_left p o (subst Job_comes (sym is) comes) room works
@@ -243,6 +244,7 @@ module _ (s : MemSystem) where
 
   one_plan : (job : Job) (p : Plan) (o q : Outcome) → PlanComesAs job s p o → PlanComesAs job s p q → o ≡ q
   one_plan (dump d m t) p o q a b = one_job (bytes_at s p.input) (is_writable p.output) (is_one_file (number_at s p.input) (number_at s p.output)) (dump d m t) o q a b
+  one_plan (dump_decoded d m t) p o q a b = one_job (bytes_at s p.input) (is_writable p.output) (is_one_file (number_at s p.input) (number_at s p.output)) (dump_decoded d m t) o q a b
   one_plan (convert d t) p o q a b = one_job (bytes_at s p.input) (is_writable p.output) (is_one_file (number_at s p.input) (number_at s p.output)) (convert d t) o q a b
   one_plan (build l) p o q a b = one_job (bytes_at s p.input) (is_writable p.output) (is_one_file (number_at s p.input) (number_at s p.output)) (build l) o q a b
   one_plan (modify d es) p o q a b = one_job (bytes_at s p.input) (is_writable p.output) (is_one_file (number_at s p.input) (number_at s p.output)) (modify d es) o q a b
@@ -294,6 +296,7 @@ module _ (s : MemSystem) where
 
   some_plan : (job : Job) (p : Plan) → (o : Outcome) × PlanComesAs job s p o
   some_plan (dump d m t) p = some_job (bytes_at s p.input) (is_writable p.output) (is_one_file (number_at s p.input) (number_at s p.output)) (dump d m t)
+  some_plan (dump_decoded d m t) p = some_job (bytes_at s p.input) (is_writable p.output) (is_one_file (number_at s p.input) (number_at s p.output)) (dump_decoded d m t)
   some_plan (convert d t) p = some_job (bytes_at s p.input) (is_writable p.output) (is_one_file (number_at s p.input) (number_at s p.output)) (convert d t)
   some_plan (build l) p = some_job (bytes_at s p.input) (is_writable p.output) (is_one_file (number_at s p.input) (number_at s p.output)) (build l)
   some_plan (modify d es) p = some_job (bytes_at s p.input) (is_writable p.output) (is_one_file (number_at s p.input) (number_at s p.output)) (modify d es)

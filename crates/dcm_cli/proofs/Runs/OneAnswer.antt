@@ -17,7 +17,7 @@ use Rattle.dcm_head.proofs.HeadReading.State.{described}
 use Rattle.dcm_head.proofs.HeadReading.Answers.{told}
 use Rattle.dcm_stream.proofs.Steps.ReadsSome.{plain, in_order, for_target}
 use Rattle.dcm_editor.proofs.ReadBack.IdentityBar.{identity_read}
-use Rattle.dcm_words.specs.Words.{Job, dump, convert, build as building, modify, deidentify}
+use Rattle.dcm_words.specs.Words.{Job, dump, dump_decoded, convert, build as building, modify, deidentify}
 use Rattle.dcm_cli.specs.Answer.{job_dictionary, HeadIs, Answer, Answers, Source, unopened, file as a_file, alone, answer, built_answer, set_at, job_bar, target_syntax, refuses_change, FileReads, not_opened, not_changed, opened, AloneReads}
 use Rattle.dcm_cli.proofs.Passes.MetaHeads.{group_spelled}
 use Rattle.dcm_cli.proofs.Runs.OneSource.{one_source}
@@ -36,8 +36,13 @@ dumped_once : (d : Dictionary) (mode : Mode) (bare : Option Syntax) (input : Lis
 dumped_once d mode None input a b x y = alike (dump d mode None) a b x.source y.source x.answer_is y.answer_is (one_source (dump d mode None) input x.source y.source x.reads y.reads)
 dumped_once d mode (Some s) input a b x y = alike (dump d mode (Some s)) a b x.source y.source x.answer_is y.answer_is (alone_once (read_by d s) input x.source y.source x.reads y.reads)
 
+decoded_once : (d : Dictionary) (mode : Mode) (bare : Option Syntax) (input : List ℕ) (a b : Answer) → Answers (dump_decoded d mode bare) input a → Answers (dump_decoded d mode bare) input b → a ≡ b
+decoded_once d mode None input a b x y = alike (dump_decoded d mode None) a b x.source y.source x.answer_is y.answer_is (one_source (dump_decoded d mode None) input x.source y.source x.reads y.reads)
+decoded_once d mode (Some s) input a b x y = alike (dump_decoded d mode (Some s)) a b x.source y.source x.answer_is y.answer_is (alone_once (read_by d s) input x.source y.source x.reads y.reads)
+
 pub one_answer : (job : Job) (input : List ℕ) (a b : Answer) → Answers job input a → Answers job input b → a ≡ b
 one_answer (dump d mode bare) input a b x y = dumped_once d mode bare input a b x y
+one_answer (dump_decoded d mode bare) input a b x y = decoded_once d mode bare input a b x y
 one_answer (convert d target) input a b x y = alike (convert d target) a b x.source y.source x.answer_is y.answer_is (one_source (convert d target) input x.source y.source x.reads y.reads)
 one_answer (building limit) input a b x y = x ∙ sym y
 one_answer (modify d edits) input a b x y = alike (modify d edits) a b x.source y.source x.answer_is y.answer_is (one_source (modify d edits) input x.source y.source x.reads y.reads)
@@ -48,6 +53,7 @@ one_answer (deidentify options reports key) input a b x y =
 
 set_read : (job : Job) (coding : Coding) (start : ℕ) (bytes : List ℕ) → start ≤ INPUT_LIMIT → (f : Front) × (stop : Stop) × Reads (job_bar job coding) coding.syntax start bytes f stop
 set_read (dump d mode bare) coding start bytes le = plain coding.syntax start bytes le
+set_read (dump_decoded d mode bare) coding start bytes le = plain coding.syntax start bytes le
 set_read (convert d target) coding start bytes le = for_target (target_syntax target coding) coding.syntax start bytes le
 set_read (building limit) coding start bytes le = plain coding.syntax start bytes le
 set_read (modify d edits) coding start bytes le = in_order coding.syntax start bytes le
@@ -81,8 +87,17 @@ dumped : (d : Dictionary) (mode : Mode) (bare : Option Syntax) (input : List ℕ
 dumped d mode None input = let x = file_read (dump d mode None) input in (answer (dump d mode None) x.0, record { source = x.0; reads = x.1; answer_is = refl })
 dumped d mode (Some s) input = alone_read d mode s input (plain (read_by d s) 0 input (omega arith))
 
+decoded_alone : (d : Dictionary) (mode : Mode) (s : Syntax) (input : List ℕ) → (f : Front) × (stop : Stop) × Reads no_bar (read_by d s) 0 input f stop → (a : Answer) × Answers (dump_decoded d mode (Some s)) input a
+decoded_alone d mode s input (f, stop, reads) =
+    (answer (dump_decoded d mode (Some s)) (alone (read_by d s) f stop), record { source = alone (read_by d s) f stop; reads = record { set = f; stop = stop; reads = reads; source_is = refl }; answer_is = refl })
+
+decoded : (d : Dictionary) (mode : Mode) (bare : Option Syntax) (input : List ℕ) → (a : Answer) × Answers (dump_decoded d mode bare) input a
+decoded d mode None input = let x = file_read (dump_decoded d mode None) input in (answer (dump_decoded d mode None) x.0, record { source = x.0; reads = x.1; answer_is = refl })
+decoded d mode (Some s) input = decoded_alone d mode s input (plain (read_by d s) 0 input (omega arith))
+
 pub some_answer : (job : Job) (input : List ℕ) → (a : Answer) × Answers job input a
 some_answer (dump d mode bare) input = dumped d mode bare input
+some_answer (dump_decoded d mode bare) input = decoded d mode bare input
 some_answer (convert d target) input = let x = file_read (convert d target) input in (answer (convert d target) x.0, record { source = x.0; reads = x.1; answer_is = refl })
 some_answer (building limit) input = (built_answer (build.built limit input), refl)
 some_answer (modify d edits) input = let x = file_read (modify d edits) input in (answer (modify d edits) x.0, record { source = x.0; reads = x.1; answer_is = refl })

@@ -13,7 +13,9 @@ use Rattle.dcm_base.specs.declared.mode.Mode.{Mode}
 use Rattle.dcm_base.specs.declared.syntax.Syntax.{Syntax}
 use Rattle.dcm_deid.specs.declared.fate.Options.{Options}
 use Rattle.dcm_edits.specs.Edit.{Edit}
-use Rattle.dcm_words.specs.Words.{Job, dump, convert, build as building, modify, deidentify}
+use Rattle.dcm_words.specs.declared.job.Texts.{Texts}
+use Rattle.dcm_words.specs.declared.job.Texts.TheVariants.{Bytes, Characters}
+use Rattle.dcm_words.specs.Words.{Job, dump, dump_decoded, dump_as, convert, build as building, modify, deidentify}
 use Rattle.dcm_words.specs.declared.job.Job.{Job as RunJob}
 use Rattle.dcm_words.specs.declared.job.Job.TheVariants.{Dump, Convert, Build, Modify, Deidentify}
 use Rattle.dcm_cli.specs.declared.ending.Ending.{Ending}
@@ -84,6 +86,9 @@ pixels_status false = refl
 dump_told : (d : Dictionary) (mode : Mode) (bare : Option Syntax) → IsTold (dump d mode bare)
 dump_told d mode bare = record { lines = edits_lines [] few_without; status = edits_status [] few_without }
 
+decoded_told : (d : Dictionary) (mode : Mode) (bare : Option Syntax) → IsTold (dump_decoded d mode bare)
+decoded_told d mode bare = record { lines = edits_lines [] few_without; status = edits_status [] few_without }
+
 convert_told : (d : Dictionary) (target : Option Syntax) → IsTold (convert d target)
 convert_told d target = record { lines = edits_lines [] few_without; status = edits_status [] few_without }
 
@@ -148,8 +153,13 @@ module _ (limit : ℕ) (input out : List ℕ) (verdict : Verdict) (h : BuildEnds
   built_given : Given (building limit) input out verdict
   built_given = by_told (build.built limit input).told refl
 
+-- by how texts are shown
+dumped_given : (texts : Texts) (d : Dictionary) (mode : Mode) (bare : Option Syntax) (input out : List ℕ) (verdict : Verdict) → Answered (dump_as texts d mode bare) input out verdict → Given (dump_as texts d mode bare) input out verdict
+dumped_given Bytes d mode bare input out verdict h = reads_given (dump d mode bare) input out verdict (dump_told d mode bare) (λ a reads. reads) h
+dumped_given Characters d mode bare input out verdict h = reads_given (dump_decoded d mode bare) input out verdict (decoded_told d mode bare) (λ a reads. reads) h
+
 given : {A : Type 0} (job : RunJob A) → IsMeant (job_of job) → (input out : List ℕ) (verdict : Verdict) → Answered (job_of job) input out verdict → Given (job_of job) input out verdict
-given (Dump d) meant input out verdict h = reads_given (dump d.dictionary d.mode d.bare) input out verdict (dump_told d.dictionary d.mode d.bare) (λ a reads. reads) h
+given (Dump d) meant input out verdict h = dumped_given d.texts d.dictionary d.mode d.bare input out verdict h
 given (Convert c) meant input out verdict h = reads_given (convert c.dictionary c.target) input out verdict (convert_told c.dictionary c.target) (λ a reads. reads) h
 given (Build b) meant input out verdict h = built_given b.limit input out verdict h
 given (Modify m) meant input out verdict h = reads_given (modify m.dictionary m.edits) input out verdict (modify_told m.dictionary m.edits (are_few m.dictionary m.edits meant)) (λ a reads. reads) h

@@ -28,7 +28,7 @@ use Rattle.dcm_cli.specs.InputCalls.{Reader, How, in_part, with_failure, how_of,
 use Rattle.dcm_cli.specs.Opening.{HeadChange, OpenedAs}
 use Rattle.dcm_cli.specs.Pass.{Begins, HeadGoesOn, head_read, set_bytes, unread}
 use Rattle.dcm_cli.specs.Run.{Worked, answered, could_not_read, could_not_write, verdict_of_stop}
-use Rattle.dcm_cli.proofs.Passes.Alone.{alone_worked}
+use Rattle.dcm_cli.proofs.Passes.Alone.{AloneMaker, alone_worked}
 use Rattle.dcm_cli.proofs.Passes.Files.{FileMaker, Concludes, reads_file, file_unopened, file_worked}
 use Rattle.dcm_cli.proofs.Passes.MetaHeads.{Opened}
 use Rattle.dcm_cli.proofs.Passes.Opens.{head_opened}
@@ -119,11 +119,10 @@ opened_undecided target change job is_file maker read more how ok held holds buf
 
 -- ---- a data set alone
 
-pub alone_undecided : (d : Dictionary) (mode : Mode) (bare : Syntax) (bytes : List ℕ) → (fold (steps bars_nothing dump_step) (start_of (read_by d bare) 0, dump_start d mode) bytes).0.halt ≡ None → IsUndecided (dump d mode (Some bare)) bytes
-alone_undecided d mode bare bytes going =
-    let s : Syntax = read_by d bare in
-    let mid : Option (List ℕ) = append_known None (set_header (uid_of_syntax s)) in
-    let out : Option (List ℕ) = append_known mid (outputs (steps bars_nothing dump_step) (steps_write bars_nothing dump_step dump_writes) (start_of s 0, dump_start d mode) bytes) in
+pub alone_undecided : (job : Job) (s : Syntax) (k : AloneMaker job s) (bytes : List ℕ) → (fold (steps k.maker.bars k.maker.step) (start_of s 0, k.maker.first) bytes).0.halt ≡ None → IsUndecided job bytes
+alone_undecided job s k bytes going =
+    let mid : Option (List ℕ) = append_known None k.header in
+    let out : Option (List ℕ) = append_known mid (outputs (steps k.maker.bars k.maker.step) (steps_write k.maker.bars k.maker.step k.maker.writes) (start_of s 0, k.maker.first) bytes) in
     let n = next_offset (start_of s 0) + length bytes in
-    undecided_of (dump d mode (Some bare)) (bytes ++ []) bytes (Some []) None out n (Unread n) refl refl
-    (alone_worked d mode bare (bytes ++ []) (Some []) None bytes [] mid (dump_start d mode) out (Unread n) refl refl refl (unread going refl refl))
+    undecided_of job (bytes ++ []) bytes (Some []) None out n (Unread n) refl refl
+    (alone_worked job s k (bytes ++ []) (Some []) None bytes [] mid k.maker.first out (Unread n) refl refl refl (unread going refl refl))

@@ -16,7 +16,9 @@ use Rattle.dcm_base.specs.Reading.Stop.{Bar, Stop, refused, is_undecided}
 use Rattle.dcm_edits.specs.Edit.{Edit}
 use Rattle.dcm_edits.specs.Meaning.{AreMeant}
 use Rattle.dcm_deid.specs.declared.fate.Options.{Options}
-use Rattle.dcm_words.specs.Words.{Job, dump, convert, build as building, modify, deidentify}
+use Rattle.dcm_words.specs.declared.job.Texts.{Texts}
+use Rattle.dcm_words.specs.declared.job.Texts.TheVariants.{Bytes, Characters}
+use Rattle.dcm_words.specs.Words.{Job, dump, dump_decoded, dump_as, convert, build as building, modify, deidentify}
 use Rattle.dcm_base.proofs.DataSets.OneAnswer.{reads_once}
 use Rattle.dcm_base.specs.Tables.Syntax.{read_by, coding_by}
 use Rattle.dcm_base.specs.declared.dictionary.Dictionary.{Dictionary}
@@ -38,7 +40,9 @@ use Rattle.dcm_cli.proofs.Passes.Makers.{Maker, dumper, made, made_output, last_
 use Rattle.dcm_cli.proofs.Passes.Sets.{all_read, going_back}
 use Rattle.dcm_cli.proofs.Passes.MetaHeads.{opened, same_head, ended_stays, finished_same, group_spelled}
 use Rattle.dcm_cli.proofs.Runs.LinesGrow.{sure_lines_grow, answer_output}
-use Rattle.dcm_cli.proofs.Passes.Files.{FileMaker, file_dumper, file_encoder}
+use Rattle.dcm_base.specs.Reading.Bars.{no_bar}
+use Rattle.dcm_cli.proofs.Passes.Alone.{AloneMaker, alone_dumper, alone_decoder}
+use Rattle.dcm_cli.proofs.Passes.Files.{FileMaker, file_dumper, file_decoder, file_encoder}
 use Rattle.dcm_cli.proofs.Passes.MakesEdits.{file_editor}
 use Rattle.dcm_cli.proofs.Passes.MakesDeidentified.{file_deidentifier}
 
@@ -79,17 +83,11 @@ module _ {bar : Bar} {text : Front → List ℕ} (m : Maker bar text) (s : Synta
 behind : (header whole part rest : List ℕ) → whole ≡ part ++ rest → header ++ whole ≡ (header ++ part) ++ rest
 behind header whole part rest e = ap (λ (bs : List ℕ). header ++ bs) e ∙ sym (append_assoc header part rest)
 
-pub alone_grows : (d : Dictionary) (mode : Mode) (bare : Syntax) (p later out : List ℕ) (a : Answer) → AloneSure (dump d mode (Some bare)) (read_by d bare) p out → ReadAnswers (dump d mode (Some bare)) (p ++ later) a
-    → (rest : List ℕ) × (a.output ≡ out ++ rest)
-alone_grows d mode bare p later out a sure x =
-    let s : Syntax = read_by d bare in
-    let r : AloneReads s (p ++ later) x.source = x.reads in
-    let more = set_grows (dumper d mode) s 0 (omega arith) p later sure.set r.set sure.stop r.stop sure.reads sure.open_end r.reads in (
-      more.0,
-      ap (λ (b : Answer). b.output) x.answer_is ∙ ap (λ (z : Source). (answer (dump d mode (Some bare)) z).output) r.source_is
-          ∙ behind (set_header (uid_of_syntax s)) (dump_front d mode 0 r.set) (dump_front d mode 0 (going_on sure.set)) more.0 more.1
-          ∙ ap (λ (bs : List ℕ). bs ++ more.0) (sym sure.out_is),
-    )
+pub alone_grows : (job : Job) (s : Syntax) (k : AloneMaker job s) (p later out : List ℕ) (f g : Front) (stop end : Stop) (a : Answer) → Reads no_bar s 0 p f stop → is_undecided (Some stop) ≡ true → out ≡ k.header ++ k.text (going_on f)
+    → Reads no_bar s 0 (p ++ later) g end → a.output ≡ k.header ++ k.text g → (rest : List ℕ) × (a.output ≡ out ++ rest)
+alone_grows job s k p later out f g stop end a reads undecided out_is others is =
+    let more = set_grows k.maker s 0 (omega arith) p later f g stop end reads undecided others in
+    (more.0, is ∙ behind k.header (k.text g) (k.text (going_on f)) more.0 more.1 ∙ ap (λ (bs : List ℕ). bs ++ more.0) (sym out_is))
 
 -- ---- a file
 
@@ -158,7 +156,24 @@ file_grows job k p later out a source (within_set m group coding set stop head l
 
 dump_grows : (d : Dictionary) (mode : Mode) (bare : Option Syntax) (p later out : List ℕ) (a : Answer) → Sure (dump d mode bare) p out → Answers (dump d mode bare) (p ++ later) a → (rest : List ℕ) × (a.output ≡ out ++ rest)
 dump_grows d mode None p later out a sure x = file_grows (dump d mode None) (file_dumper d mode) p later out a x.source sure x.answer_is x.reads
-dump_grows d mode (Some s) p later out a sure x = alone_grows d mode s p later out a sure x
+dump_grows d mode (Some bare) p later out a sure x =
+    let s : Syntax = read_by d bare in
+    let r : AloneReads s (p ++ later) x.source = x.reads in
+    alone_grows (dump d mode (Some bare)) s (alone_dumper d mode bare) p later out sure.set r.set sure.stop r.stop a sure.reads sure.open_end sure.out_is r.reads
+    (ap (λ (b : Answer). b.output) x.answer_is ∙ ap (λ (z : Source). (answer (dump d mode (Some bare)) z).output) r.source_is)
+
+decoded_grows : (d : Dictionary) (mode : Mode) (bare : Option Syntax) (p later out : List ℕ) (a : Answer) → Sure (dump_decoded d mode bare) p out → Answers (dump_decoded d mode bare) (p ++ later) a → (rest : List ℕ) × (a.output ≡ out ++ rest)
+decoded_grows d mode None p later out a sure x = file_grows (dump_decoded d mode None) (file_decoder d mode) p later out a x.source sure x.answer_is x.reads
+decoded_grows d mode (Some bare) p later out a sure x =
+    let s : Syntax = read_by d bare in
+    let r : AloneReads s (p ++ later) x.source = x.reads in
+    alone_grows (dump_decoded d mode (Some bare)) s (alone_decoder d mode bare) p later out sure.set r.set sure.stop r.stop a sure.reads sure.open_end sure.out_is r.reads
+    (ap (λ (b : Answer). b.output) x.answer_is ∙ ap (λ (z : Source). (answer (dump_decoded d mode (Some bare)) z).output) r.source_is)
+
+-- by how texts are shown
+dumped_grows : (texts : Texts) (d : Dictionary) (mode : Mode) (bare : Option Syntax) (p later out : List ℕ) (a : Answer) → Sure (dump_as texts d mode bare) p out → Answers (dump_as texts d mode bare) (p ++ later) a → (rest : List ℕ) × (a.output ≡ out ++ rest)
+dumped_grows Bytes d mode bare p later out a sure x = dump_grows d mode bare p later out a sure x
+dumped_grows Characters d mode bare p later out a sure x = decoded_grows d mode bare p later out a sure x
 
 -- lines that are built
 build_grows : (limit : ℕ) (p later out : List ℕ) (a : Answer) → Sure (building limit) p out → Answers (building limit) (p ++ later) a → (rest : List ℕ) × (a.output ≡ out ++ rest)
@@ -175,7 +190,7 @@ deidentify_grows : (options : Options) (reports : Bool) (key : List ℕ) (p late
 deidentify_grows options reports key p later out a sure x = file_grows (deidentify options reports key) (file_deidentifier options key reports) p later out a x.source sure x.answer_is x.reads
 
 pub sure_grows : {A : Type 0} (job : RunJob A) (p later out : List ℕ) (a : Answer) → IsMeant (job_of job) → Sure (job_of job) p out → Answers (job_of job) (p ++ later) a → (rest : List ℕ) × (a.output ≡ out ++ rest)
-sure_grows (Dump d) p later out a meant sure x = dump_grows d.dictionary d.mode d.bare p later out a sure x
+sure_grows (Dump d) p later out a meant sure x = dumped_grows d.texts d.dictionary d.mode d.bare p later out a sure x
 sure_grows (Convert c) p later out a meant sure x = file_grows (convert c.dictionary c.target) (file_encoder c.dictionary c.target) p later out a x.source sure x.answer_is x.reads
 sure_grows (Build b) p later out a meant sure x = build_grows b.limit p later out a sure x
 sure_grows (Modify m) p later out a meant sure x = modify_grows m.dictionary m.edits meant p later out a sure x

@@ -17,6 +17,9 @@ use std::test::Fail;
 /// A key of 16 bytes.
 const KEY: &[u8] = b"a key of 16 byte";
 
+/// A key that is too short by a byte.
+const SHORT_KEY: &[u8] = b"a key of 15 byt";
+
 /// A regular file.
 const REGULAR: FileKind = FileKind::Regular {
     device: 1,
@@ -93,11 +96,11 @@ impl<'a> Twice<'a> {
     }
 }
 
-/// The key.
-fn key() -> Opened<Std<Steps<'static>>> {
+/// A key.
+fn key(bytes: &'static [u8]) -> Opened<Std<Steps<'static>>> {
     Opened {
         device: Std::new(Steps {
-            rest: KEY,
+            rest: bytes,
             step: ALL,
             good: ALL,
         }),
@@ -122,7 +125,10 @@ impl<'a> System for Twice<'a> {
 
     fn open(&mut self, path: &str) -> io::Result<Opened<Std<Steps<'a>>>> {
         if path == "KEY" {
-            return Ok(key());
+            return Ok(key(KEY));
+        }
+        if path == "SHORT" {
+            return Ok(key(SHORT_KEY));
         }
         Ok(self.file_now())
     }
@@ -297,6 +303,27 @@ fn no_regular_file(rt: HostRuntime) -> Result<(), Fail> {
         };
         let left = obeyed(alloc, WORDS, pipe)?;
         expect_none("a pipe", &left, 4, told)?;
+    }
+    Ok(())
+}
+
+#[test]
+fn a_key_that_is_too_short(rt: HostRuntime) -> Result<(), Fail> {
+    let alloc = rt.alloc();
+    let file = file_of(alloc, NAMED)?;
+    let told = b"dcmtools: V7: key is not 16 to 4096 bytes\n";
+    for line in [
+        "dcmdeid +pi +k SHORT FILE -",
+        "dcmdeid +rm key +k SHORT FILE -",
+    ] {
+        let left = obeyed(alloc, line, staying(file.as_slice(), 7))?;
+        let wanted = Wanted {
+            status: 1,
+            output: b"",
+            told,
+        };
+        expect_answer("a key of 15 bytes", &left.answer, wanted)?;
+        holds("a key of 15 bytes", "not opened", left.opened == 0)?;
     }
     Ok(())
 }

@@ -6,6 +6,7 @@ mod dictionaries;
 mod dumps;
 mod identities;
 mod modifications;
+mod texts;
 
 use super::cases::{Case, case_of};
 use dcm_test_devices::{Failure, numbered};

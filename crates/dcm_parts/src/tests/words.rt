@@ -1,6 +1,6 @@
 use super::{holds, words_of};
 use dcm_base::{Dictionary, EditRefusal, Mode, Syntax, WordFault};
-use dcm_words::{Convert, Dump, Job, Modify, Planned, Usage, plan};
+use dcm_words::{Convert, Dump, Job, Modify, Planned, Texts, Usage, plan};
 use std::test::Fail;
 
 /// How many edits the words of a line mean from one path to another, or the refusal.
@@ -46,6 +46,7 @@ struct Said {
     dictionary: Dictionary,
     syntax: Option<Syntax>,
     mode: Option<Mode>,
+    texts: Option<Texts>,
 }
 
 fn said_of(rt: HostRuntime, line: &'static str) -> Result<Result<Said, Usage>, Fail> {
@@ -60,22 +61,26 @@ fn said_of(rt: HostRuntime, line: &'static str) -> Result<Result<Said, Usage>, F
             Dump {
                 dictionary,
                 mode,
+                texts,
                 bare,
             },
         ) => Ok(Ok(Said {
             dictionary,
             syntax: bare,
             mode: Some(mode),
+            texts: Some(texts),
         })),
         Job::Convert(Convert { dictionary, target }) => Ok(Ok(Said {
             dictionary,
             syntax: target,
             mode: None,
+            texts: None,
         })),
         Job::Modify(Modify { dictionary, .. }) => Ok(Ok(Said {
             dictionary,
             syntax: None,
             mode: None,
+            texts: None,
         })),
         Job::Build(_) | Job::Deidentify(_) => Err(Fail::new("another job")),
     }
@@ -84,6 +89,22 @@ fn said_of(rt: HostRuntime, line: &'static str) -> Result<Result<Said, Usage>, F
 /// The dictionary that the words of a line name.
 fn dictionary_of(rt: HostRuntime, line: &'static str) -> Result<Result<Dictionary, Usage>, Fail> {
     Ok(said_of(rt, line)?.map(|said| said.dictionary))
+}
+
+#[test]
+fn plans_texts(rt: HostRuntime) -> Result<(), Fail> {
+    for (line, texts) in [
+        ("dcmdump -", Texts::Bytes),
+        ("dcmdump +u8 -", Texts::Characters),
+        ("dcmdump +L - +u8", Texts::Characters),
+        ("dcmdump +u8 -f -te +u8 -", Texts::Characters),
+    ] {
+        match said_of(rt, line)? {
+            Ok(said) => assert!(rt; said.texts == Some(texts)),
+            Err(_) => assert!(rt; false),
+        }
+    }
+    Ok(())
 }
 
 #[test]

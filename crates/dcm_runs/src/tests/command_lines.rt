@@ -13,6 +13,9 @@ dcmdump -f a: V5: options do not go together
 dcmdump -f -te +fo a: V5: options do not go together
 dcmconv a -L b: V2 at word 3: unknown option
 dcmconv a a -x: V2 at word 4: unknown option
+dcmconv +u8 a b: V2 at word 2: unknown option
+dump2dcm a b +u8: V2 at word 4: unknown option
+dcmdeid +u8 a b: V2 at word 2: unknown option
 dcmconv a: V4: wrong number of paths
 dcmconv a b c: V4: wrong number of paths
 dcmconv a a a: V4: wrong number of paths
@@ -38,6 +41,8 @@ dcmdeid a a: V6: input and output are the same path
 dcmdeid +k b a b: V6: input and output are the same path
 dcmdeid a: V4: wrong number of paths
 dcmdeid +k  - -: V3 at word 2: bad option value
+dcmdeid +rm  - -: V3 at word 2: bad option value
+dcmdeid +pi a a -: V4: wrong number of paths
 dcmdeid +rm key - -: V10: a key is needed
 dcmdeid +rm key +k b - -: V11: standard input cannot be read twice
 dcmdeid +rm key +k b - b: V6: input and output are the same path
@@ -54,6 +59,7 @@ dcmodify -e Rows a a: V6: input and output are the same path
 dcmodify a a: V6: input and output are the same path
 dcmodify -e a b: U1 in edit 1: bad option or path
 dcmodify +x a b: U1 in edit 1: bad option or path
+dcmodify +u8 a b: U1 in edit 1: bad option or path
 dcmodify -e Rows c a b: U1 in edit 2: bad option or path
 dcmodify -m PatientName[0]=A a b: U1 in edit 1: bad option or path
 dcmodify -e ReferencedImageSequence[1234567890] a b: U1 in edit 1: bad option or path

@@ -13,16 +13,16 @@ use Rattle.dcm_value.specs.Progress.{Progress, way, is_bracketed, is_unopened, o
 later_shown : (n m : ℕ) → n == 0 ≡ false → n ≤ m → m == 0 ≡ false
 later_shown n m e le = ne_eqb m 0 (λ z. let t : eqb n 0 ≡ true = eq-eqb n 0 (omega arith) in false≢true (sym e ∙ t))
 
-still : (a b : Bool) (n m : ℕ) → (a && (b && n == 0)) ≡ false → n ≤ m → m ≤ 67 ⊎ (n ≤ m) → (a && (b && m == 0)) ≡ false
+pub still : (a b : Bool) (n m : ℕ) → (a && (b && n == 0)) ≡ false → n ≤ m → m ≤ 67 ⊎ (n ≤ m) → (a && (b && m == 0)) ≡ false
 still false b n m e le h = refl
 still true false n m e le h = refl
 still true true n m e le h = later_shown n m e le
 
-emitted : (d : Display) (bytes : List ℕ) → d.shown ≤ 67 → d.shown ≤ (emit d bytes).shown
+pub emitted : (d : Display) (bytes : List ℕ) → d.shown ≤ 67 → d.shown ≤ (emit d bytes).shown
 unfolding emit
 emitted d bytes h = omega arith
 
-capped : (d : Display) (bytes : List ℕ) → (emit d bytes).shown ≤ 67
+pub capped : (d : Display) (bytes : List ℕ) → (emit d bytes).shown ≤ 67
 unfolding emit
 capped d bytes = omega arith
 
@@ -43,7 +43,7 @@ bracket_at : (t : Bool) (n : ℕ) → n == 0 ≡ t → (min 67 (n + length (cond
 bracket_at true n e = ne_eqb (min 67 (n + 1)) 0 (λ z. omega (arith, z))
 bracket_at false n e = ne_eqb (min 67 (n + 0)) 0 (λ z. let t : eqb n 0 ≡ true = eq-eqb n 0 (omega (arith, z)) in false≢true (sym e ∙ t))
 
-bracket : (a b : Bool) (n : ℕ) → (a && (b && (min 67 (n + length (cond (a && (b && n == 0)) (codes "[") []))) == 0)) ≡ false
+pub bracket : (a b : Bool) (n : ℕ) → (a && (b && (min 67 (n + length (cond (a && (b && n == 0)) (codes "[") []))) == 0)) ≡ false
 bracket false b n = refl
 bracket true false n = refl
 bracket true true n = bracket_at (n == 0) n refl
@@ -65,7 +65,7 @@ pub opened_same : (p : Progress) → is_unopened p ≡ false → p.display ≡ e
 unfolding opened
 opened_same p e settled = ap (λ bytes. let q : Progress = record p { display = emit p.display bytes } in q) (no_opening p e) ∙ ap (λ (d : Display). let q : Progress = record p { display = d } in q) (sym settled)
 
-once_none : (mode : Mode) → at_once mode [] ≡ []
+pub once_none : (mode : Mode) → at_once mode [] ≡ []
 once_none Short = refl
 once_none Full = refl
 

@@ -41,25 +41,25 @@ use Rattle.dcm_sinks.proofs.Dumps.ValueRuns.{dumps, closes, stays, keeps_size}
 line_joined : (d : Dictionary) (level : ℕ) (t : Tag) (vr display : List ℕ) (n count : ℕ) (behind : List ℕ) → line_start level t vr ++ (padded display ++ (line_rest d t (Known n) count ++ behind)) ≡ line d level t vr display (Known n) count ++ behind
 line_joined d level t vr display n count behind = simp append_assoc
 
-four : (a b c d e : List ℕ) → a ++ (b ++ (c ++ (d ++ e))) ≡ (((a ++ b) ++ c) ++ d) ++ e
+pub four : (a b c d e : List ℕ) → a ++ (b ++ (c ++ (d ++ e))) ≡ (((a ++ b) ++ c) ++ d) ++ e
 four a b c d e = simp append_assoc
 
-open_same : (mode : Mode) (start x : List ℕ) → open_line mode start (at_once mode x) ≡ open_line mode start x
+pub open_same : (mode : Mode) (start x : List ℕ) → open_line mode start (at_once mode x) ≡ open_line mode start x
 open_same Short start x = refl
 open_same Full start x = refl
 
-deeper_level : (declared : Length) (lengths : List Length) → length (declared ∷ lengths) ≡ length lengths + 1
+pub deeper_level : (declared : Length) (lengths : List Length) → length (declared ∷ lengths) ≡ length lengths + 1
 deeper_level declared lengths = omega arith
 
-is_within : (n : ℕ) → n < 128 → nat_lt n 128 ≡ true
+pub is_within : (n : ℕ) → n < 128 → nat_lt n 128 ≡ true
 is_within n h = grind (arith, nat_tests)
 
 module _ (d : Dictionary) (mode : Mode) where
-  deepens : (lengths : List Length) (declared : Length) → length lengths < 128 → deeper (between d mode lengths) declared ≡ between d mode (declared ∷ lengths)
+  pub deepens : (lengths : List Length) (declared : Length) → length lengths < 128 → deeper (between d mode lengths) declared ≡ between d mode (declared ∷ lengths)
   deepens lengths declared h = ap (λ (t : Bool). cond t (between d mode (declared ∷ lengths)) (lost d mode lengths no_value)) (is_within (length lengths) h)
 
   -- the opening of an element of this form
-  opening : (lengths : List Length) (f g : Form) (tag : Tag) (vr : Vr) (declared : Length) (s : Syntax) (atoms : List Atom) → f ≡ g
+  pub opening : (lengths : List Length) (f g : Form) (tag : Tag) (vr : Vr) (declared : Length) (s : Syntax) (atoms : List Atom) → f ≡ g
       → dump_opens_writes f (between d mode lengths) tag vr declared s ++ dumps (dump_opens f (between d mode lengths) tag vr declared s) atoms
       ≡ dump_opens_writes g (between d mode lengths) tag vr declared s ++ dumps (dump_opens g (between d mode lengths) tag vr declared s) atoms
   opening lengths f g tag vr declared s atoms e = ap (λ (f : Form). dump_opens_writes f (between d mode lengths) tag vr declared s ++ dumps (dump_opens f (between d mode lengths) tag vr declared s) atoms) e
@@ -84,7 +84,7 @@ module _ (d : Dictionary) (mode : Mode) where
       ∙ ap (λ k. start ++ (text_of mode vr value ++ (line_rest d tag (Known n) k ++ behind))) counted
       ∙ line_joined d (length lengths) tag (letters vr) (shortened mode (display vr value)) n (count vr value) behind
 
-  fragment_dumps : (lengths : List Length) (value : List ℕ) (others : List Atom)
+  pub fragment_dumps : (lengths : List Length) (value : List ℕ) (others : List Atom)
       → dumps (between d mode lengths) (opens_fragment (length value) ∷ (map value_byte value ++ closes_leaf ∷ others)) ≡ fragment_line d mode (length lengths) value ++ dumps (between d mode lengths) others
   fragment_dumps lengths value others =
       let n : ℕ = length value in
@@ -106,17 +106,17 @@ module _ (d : Dictionary) (mode : Mode) where
       ∙ sym (append_assoc (fragment_line d mode (length lengths) value) _ _)
 
   -- what a set at this level, and an item at this one, may hold
-  set_fits : (n : ℕ) (level : ℕ) → level ≡ n + n → suc n ≤ 64 → level < 128
+  pub set_fits : (n : ℕ) (level : ℕ) → level ≡ n + n → suc n ≤ 64 → level < 128
   set_fits n level e h = omega arith
 
-  items_fit : (n : ℕ) (level : ℕ) → level + 1 ≡ n + n → n ≤ 64 → level < 128
+  pub items_fit : (n : ℕ) (level : ℕ) → level + 1 ≡ n + n → n ≤ 64 → level < 128
   items_fit n level e h = omega arith
 
-  in_list : (n : ℕ) (declared : Length) (lengths : List Length) → length lengths ≡ n + n → length (declared ∷ lengths) + 1 ≡ suc n + suc n
+  pub in_list : (n : ℕ) (declared : Length) (lengths : List Length) → length lengths ≡ n + n → length (declared ∷ lengths) + 1 ≡ suc n + suc n
   in_list n declared lengths e = omega arith
 
   -- an opening of a sequence or fragment list, and of an item
-  open_shallow : (n : ℕ) (atoms : List Atom) → StaysShallow n atoms → n ≤ 64
+  pub open_shallow : (n : ℕ) (atoms : List Atom) → StaysShallow n atoms → n ≤ 64
   open_shallow n atoms h = h [] atoms refl
 
   sequence_opens : (n : ℕ) (lengths : List Length) (tag : Tag) (vr : Vr) (declared : Length) (s : Syntax) (contents : List Atom) → form s (read_as s tag vr) declared ≡ a_sequence → length lengths ≡ n + n → StaysShallow (suc n) contents
@@ -191,7 +191,7 @@ module _ (d : Dictionary) (mode : Mode) where
         ∙ ap (λ z. first ++ (dump_set d mode (level + 1) set ++ (last ++ z))) (items_dump n lengths rest w.1 after e rest_h w.4)
         ∙ four first (dump_set d mode (level + 1) set) last (dump_items d mode level rest) (dumps (between d mode lengths) after)
 
-  fragment_open : (lengths : List Length) (last : Option (ℕ × List ℕ)) → MissesFragment last → dumps (between d mode lengths) (open_fragment_atoms last) ≡ open_fragment mode (length lengths) last
+  pub fragment_open : (lengths : List Length) (last : Option (ℕ × List ℕ)) → MissesFragment last → dumps (between d mode lengths) (open_fragment_atoms last) ≡ open_fragment mode (length lengths) last
   fragment_open lengths None h = refl
   fragment_open lengths (Some f) h =
       let start : List ℕ = line_start (length lengths) item_tag (codes "pi") in

@@ -22,13 +22,13 @@ use Rattle.dcm_sinks.proofs.ReadBack.IsRead.{IsRead, whole_read, far_read}
 
 -- ---- a machine that bars nothing
 
-abbrev no_bars : List Atom → HeadBar
+abbrev pub no_bars : List Atom → HeadBar
 no_bars = λ atoms tag vr declared. None
 
-bars_none : BarsAs no_bars no_bar
+pub bars_none : BarsAs no_bars no_bar
 bars_none = record { agree = λ f atoms w tag vr declared. refl; never_early = λ f tag vr declared. refl }
 
-bars_late : (atoms : List Atom) → NeverEarly (no_bars atoms)
+pub bars_late : (atoms : List Atom) → NeverEarly (no_bars atoms)
 bars_late atoms = λ tag vr declared. refl
 
 -- ---- what is read, and its dump

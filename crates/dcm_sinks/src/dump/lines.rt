@@ -12,6 +12,7 @@ ghost use Rattle.dcm_sinks.specs.Encoder.{opening};
 ghost use Rattle.dcm_value.specs.Progress as progress;
 ghost use Rattle.dcm_value.specs.ValueText.{progress as text_progress};
 
+pub mod texts;
 mod whole;
 
 use crate::dump::layout::{Line, begin_line, put_line, put_line_start, put_rest};

@@ -172,7 +172,29 @@ const WORDS: [Row; 10] = [
     },
 ];
 
+/// Of the words for dates the last counts.
+const LAST: [Row; 2] = [
+    Row {
+        name: "the last counts: +rm key +rl",
+        words: "dcmdeid +rm key +rl - -",
+        start: Start::ExplicitLittle,
+        input: b"\x08\0 \0DA\x08\020231231",
+        header: Start::ExplicitLittle,
+        lines: b"\x08\0 \0DA\x08\020231231\x12\0b\0CS\x04\0YES \x12\0c\0LO\x1e\0dcmtools dcmdeid, PS3.15 2021b\x12\0d\0SQ\0\0\xff\xff\xff\xff\xfe\xff\0\xe0\xff\xff\xff\xff\x08\0\0\x01SH\x06\0113100\x08\0\x02\x01SH\x04\0DCM \x08\0\x04\x01LO*\0Basic Application Confidentiality Profile \xfe\xff\x0d\xe0\0\0\0\0\xfe\xff\0\xe0\xff\xff\xff\xff\x08\0\0\x01SH\x06\0113106\x08\0\x02\x01SH\x04\0DCM \x08\0\x04\x01LO:\0Retain Longitudinal Temporal Information Full Dates Option\xfe\xff\x0d\xe0\0\0\0\0\xfe\xff\xdd\xe0\0\0\0\0(\0\x03\x03CS\n\0UNMODIFIED",
+        ..EMPTY
+    },
+    Row {
+        name: "the last counts: +rm key +rm +1",
+        words: "dcmdeid +rm key +rm +1 - -",
+        start: Start::ExplicitLittle,
+        input: b"\x08\0 \0DA\x08\020231231",
+        header: Start::ExplicitLittle,
+        lines: b"\x08\0 \0DA\x08\020240101\x12\0b\0CS\x04\0YES \x12\0c\0LO\x1e\0dcmtools dcmdeid, PS3.15 2021b\x12\0d\0SQ\0\0\xff\xff\xff\xff\xfe\xff\0\xe0\xff\xff\xff\xff\x08\0\0\x01SH\x06\0113100\x08\0\x02\x01SH\x04\0DCM \x08\0\x04\x01LO*\0Basic Application Confidentiality Profile \xfe\xff\x0d\xe0\0\0\0\0\xfe\xff\0\xe0\xff\xff\xff\xff\x08\0\0\x01SH\x06\0113107\x08\0\x02\x01SH\x04\0DCM \x08\0\x04\x01LO>\0Retain Longitudinal Temporal Information Modified Dates Option\xfe\xff\x0d\xe0\0\0\0\0\xfe\xff\xdd\xe0\0\0\0\0(\0\x03\x03CS\x08\0MODIFIED",
+        ..EMPTY
+    },
+];
+
 /// Pseudonyms, and words that are refused.
-pub fn identity_named() -> [&'static [Row]; 2] {
-    [&PSEUDONYMS, &WORDS]
+pub fn identity_named() -> [&'static [Row]; 3] {
+    [&PSEUDONYMS, &WORDS, &LAST]
 }

@@ -1,31 +1,33 @@
 -- A text by Specific Character Set, part by part.
-use Rattle.std.proofs.Common.{◌≡◌, ◌∙◌, sym, ap, subst, ℕ, ◌+◌, ◌<◌, ◌≤◌, Bool, true, false, cond, List, ◌++◌, arith, add_assoc}
-use Rattle.std.specs.Prelude.{flat_map}
-use Rattle.std.proofs.lemmas.List.Sums.{sum_by-cons}
-use Rattle.dcm_text.specs.declared.first.Meaning.{Meaning}
-use Rattle.dcm_text.specs.Decoding.{Piece}
-use Rattle.dcm_text.specs.Runs.{Run, onto}
-use Rattle.dcm_text.specs.Shown.{dumped_piece}
-use Rattle.dcm_value.specs.Decoded.{is_backslash, backslashes}
+use Rattle.std.proofs.Common.{◌≡◌, ◌∙◌, sym, ap, ℕ, ◌+◌, true, List, [], ◌++◌, length, length-append, append_assoc, Some}
+use Rattle.std.specs.Prelude.{flat_map, codes}
+use Rattle.std.specs.Option.{option_map_or}
+use Rattle.dcm_text.specs.declared.decoder.Decoder.{Decoder}
+use Rattle.dcm_text.specs.declared.set.TextKind.TheVariants.{OneValue}
+use Rattle.dcm_text.specs.Runs.{State, begun, run, state_of, bytes_left}
+use Rattle.dcm_text.specs.Sets.{sets_of}
+use Rattle.dcm_text.specs.Shown.{dumped, dumped_piece}
+use Rattle.dcm_text.proofs.Runs.{whole_run}
+use Rattle.dcm_base.specs.Tables.Uid.{uid_name}
+use Rattle.dcm_value.specs.DecodedProgress.{decoded_identified, shown_pieces}
 
-pub shown_step : (r q : Run) (p : Piece) (bytes : List ℕ) → r ≡ onto p q → bytes ≡ dumped_piece p
-    → flat_map dumped_piece r.0 ≡ bytes ++ flat_map dumped_piece q.0
-shown_step r q p bytes e h =
-    ap (λ (x : Run). flat_map dumped_piece x.0) e ∙ ap (λ (b : List ℕ). b ++ flat_map dumped_piece q.0) (sym h)
+-- bytes that wait are among those that are left
+pub bytes_are : (d : Decoder) (rest : List ℕ) → bytes_left d rest ≡ length (state_of d).held + length rest
+unfolding bytes_left
+bytes_are d rest = length-append (state_of d).held rest
 
-counted : (r q : Run) (p : Piece) → r ≡ onto p q → backslashes r.0 ≡ cond (is_backslash p.1) 1 0 + backslashes q.0
-counted r q p e =
-    ap (λ (x : Run). backslashes x.0) e ∙ sum_by-cons (λ (x : Piece). cond (is_backslash x.1) 1 0) p q.0
+-- the name of an identifier, or the identifier
+pub decoded_named : (uid name : List ℕ) → Some name ≡ uid_name uid → decoded_identified uid ≡ codes "=" ++ name
+decoded_named uid name e = ap (λ n. option_map_or (λ name. codes "=" ++ name) n (codes "[" ++ dumped (sets_of []) OneValue uid ++ codes "]")) (sym e)
 
--- one backslash more, or none
-pub counted_one : (r q : Run) (p : Piece) (n all : ℕ) → r ≡ onto p q → is_backslash p.1 ≡ true → n + backslashes r.0 ≡ all
-    → (n + 1) + backslashes q.0 ≡ all
-counted_one r q p n all e b h =
-    let one : backslashes r.0 ≡ 1 + backslashes q.0 = counted r q p e ∙ ap (λ (t : Bool). cond t 1 0 + backslashes q.0) b in
-    omega arith
-
-pub counted_none : (r q : Run) (p : Piece) (n all : ℕ) → r ≡ onto p q → is_backslash p.1 ≡ false → n + backslashes r.0 ≡ all
-    → n + backslashes q.0 ≡ all
-counted_none r q p n all e b h =
-    let one : backslashes r.0 ≡ 0 + backslashes q.0 = counted r q p e ∙ ap (λ (t : Bool). cond t 1 0 + backslashes q.0) b in
-    omega arith
+-- a text as ASCII, part by part
+pub ascii_run : (s : State) (uid shown : List ℕ) → s ≡ begun (sets_of []) OneValue → shown ≡ shown_pieces (run true s uid)
+    → codes "[" ++ dumped (sets_of []) OneValue uid ++ codes "]" ≡ codes "[" ++ (shown ++ codes "]")
+unfolding dumped
+ascii_run s uid shown e h =
+    let all : dumped (sets_of []) OneValue uid ≡ shown =
+    ap (flat_map dumped_piece) (sym (whole_run (sets_of []) OneValue uid))
+    ∙ ap (λ (x : State). shown_pieces (run true x uid)) (sym e)
+    ∙ sym h
+    in
+    append_assoc (codes "[") (dumped (sets_of []) OneValue uid) (codes "]") ∙ ap (λ (x : List ℕ). codes "[" ++ (x ++ codes "]")) all

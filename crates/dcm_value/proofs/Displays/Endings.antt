@@ -32,7 +32,7 @@ short_ends d l =
     ∙ sym (ap (λ b. padded (cond b (take 63 d ++ codes "...") d)) (le-ltb 66 (length d) l))
 
 -- at once and in the end
-all_ends : (mode : Mode) (d : List ℕ) → at_once mode d ++ ending (emit (blank mode) d) ≡ padded (shortened mode d)
+pub all_ends : (mode : Mode) (d : List ℕ) → at_once mode d ++ ending (emit (blank mode) d) ≡ padded (shortened mode d)
 unfolding emit
 all_ends Full d = ap (λ k. d ++ replicate k 32) (let e : 40 - min 67 (0 + length d) ≡ 40 - length d = omega arith in e)
 all_ends Short d = ⊎_elim (long_ends d) (short_ends d) (cases_lt 66 (length d))

@@ -15,11 +15,11 @@ pub record IsReady (p : Progress) : Type 0 where
   pub is_opened : is_unopened p ≡ false
   pub settled : IsSettled p.display
 
-shown_more : (d : Display) (b : List ℕ) → 0 < d.shown → 0 < (emit d b).shown
+pub shown_more : (d : Display) (b : List ℕ) → 0 < d.shown → 0 < (emit d b).shown
 unfolding emit
 shown_more d b l = omega arith
 
-still : (a b : Bool) (m n : ℕ) → (0 < m → 0 < n) → (a && (b && m == 0)) ≡ false → (a && (b && n == 0)) ≡ false
+pub still : (a b : Bool) (m n : ℕ) → (0 < m → 0 < n) → (a && (b && m == 0)) ≡ false → (a && (b && n == 0)) ≡ false
 still false b m n more h = refl
 still true false m n more h = refl
 still true true m n more h = ne_eqb n 0 (λ e. ⊎_elim (λ l. let some : 0 < n = more l in omega (arith, some, e)) (λ l. false≢true (sym h ∙ eq-eqb m 0 (omega arith))) (cases_lt 0 m))
@@ -35,7 +35,7 @@ pub ready_fold : (p : Progress) (v : List ℕ) → IsReady p → IsReady (fold s
 ready_fold p [] r = r
 ready_fold p (b ∷ bs) r = ready_fold (step p b) bs (ready_step p b r)
 
-and_none : (a b : Bool) → (a && (b && false)) ≡ false
+pub and_none : (a b : Bool) → (a && (b && false)) ≡ false
 and_none true true = refl
 and_none true false = refl
 and_none false b = refl

@@ -17,7 +17,7 @@ use Rattle.dcm_value.proofs.Displays.Emits.{IsSettled, emit_mode}
 use Rattle.dcm_value.proofs.Displays.Steps.{Leads, leads_nowhere, leads_on, leads_to, leads_text, leads_last, last_apart, further_twice, same_progress}
 
 -- without the pad byte, where the last byte is known
-without_last : (vr : Vr) (is_even : Bool) (init : List ℕ) (b : ℕ) → without_pad vr is_even (init ++ b ∷ []) ≡ cond (is_even && b == pad vr) init (init ++ b ∷ [])
+pub without_last : (vr : Vr) (is_even : Bool) (init : List ℕ) (b : ℕ) → without_pad vr is_even (init ++ b ∷ []) ≡ cond (is_even && b == pad vr) init (init ++ b ∷ [])
 without_last vr is_even init b =
     let v : List ℕ = init ++ b ∷ [] in
     let back : length v - 1 ≡ length init = omega (arith, length-append init (b ∷ [])) in
@@ -26,7 +26,7 @@ without_last vr is_even init b =
     ∙ ap (λ zs. cond (is_even && b == pad vr) zs v) (take-append_seam init (b ∷ []))
 
 -- none of no bytes
-without_none : (t : Bool) (xs : List ℕ) → xs ≡ [] → cond t (take 0 xs) xs ≡ []
+pub without_none : (t : Bool) (xs : List ℕ) → xs ≡ [] → cond t (take 0 xs) xs ≡ []
 without_none true xs e = refl
 without_none false xs e = e
 

@@ -11,7 +11,7 @@ use native.Mathlib.Nat.{div-one, zero-div, pow-suc, mul_comm, div-div-eq-div-mul
 use Rattle.std.proofs.lemmas.Simd.{ones-mask_l}
 use Rattle.std.proofs.lemmas.Grind.{flat_map-append}
 use Rattle.dcm_base.specs.Dump.ValueText.{escape, escaped}
-use Rattle.dcm_value.specs.Plain.{is_plain_byte}
+use Rattle.dcm_value.specs.Plain.{is_plain_byte, is_ascii_byte}
 
 -- a mask with a bit
 abbrev pub is_set : ℕ → Bool
@@ -74,6 +74,17 @@ escapes_any v =
     ∙ ap (λ t. t || list_any brackets v) (any_or (λ x. controls x || deletes x) percents v)
     ∙ any_or (λ x. (controls x || deletes x) || percents x) brackets v
     ∙ any_not escapes v
+
+pub others_any : (v : List ℕ) → (list_any (λ x. ltb x 32) v || list_any (λ x. nat_lt 126 x) v || list_any (λ x. eqb x 37) v || list_any (λ x. eqb x 93) v) ≡ not (list_all is_ascii_byte v)
+others_any v =
+    let controls : ℕ → Bool = λ x. nat_lt x 32 in
+    let above : ℕ → Bool = λ x. nat_lt 126 x in
+    let percents : ℕ → Bool = λ x. x == 37 in
+    let brackets : ℕ → Bool = λ x. x == 93 in
+    ap (λ t. (t || list_any percents v) || list_any brackets v) (any_or controls above v)
+    ∙ ap (λ t. t || list_any brackets v) (any_or (λ x. controls x || above x) percents v)
+    ∙ any_or (λ x. (controls x || above x) || percents x) brackets v
+    ∙ any_not (λ b. nat_lt b 32 || nat_lt 126 b || b == 37 || b == 93) v
 
 -- what is plain piece by piece
 pub all_append : (p : ℕ → Bool) (v w : List ℕ) → list_all p (v ++ w) ≡ (list_all p v && list_all p w)

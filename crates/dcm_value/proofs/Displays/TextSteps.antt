@@ -168,11 +168,11 @@ none_named (u ∷ us) uid e l =
     ap (λ t. option_map (λ (x : Named). x.1) (cond t (Some u) (find (λ x. bytes_eq x.0 uid) us))) (shorter u.0 uid (omega arith))
     ∙ none_named us uid parts.1 l
 
-long_unnamed : (uid : List ℕ) → 64 ≤ length uid → identified uid ≡ bracketed uid
+pub long_unnamed : (uid : List ℕ) → 64 ≤ length uid → identified uid ≡ bracketed uid
 unfolding uid_name
 long_unnamed uid l = ap (λ n. option_map_or (λ name. codes "=" ++ name) n (bracketed uid)) (none_named uids uid short_uids l)
 
-length_unpadded : (vr : Vr) (v : List ℕ) → length v ≤ length (unpadded vr v) + 1
+pub length_unpadded : (vr : Vr) (v : List ℕ) → length v ≤ length (unpadded vr v) + 1
 length_unpadded vr v = of_test (length v % 2 == 0 && slice_index v (length v - 1) == pad vr)
   where
     of_test : (t : Bool) → length v ≤ length (cond t (take (length v - 1) v) v) + 1

@@ -1,4 +1,4 @@
-use Rattle.std.proofs.Common.{◌≡◌, ◌∷◌, ◌∙◌, ap, sym, subst, refl, ℕ, List, [], ◌++◌, append_assoc, Bool, Option, Some, None, rules}
+use Rattle.std.proofs.Common.{◌∷◌, ◌∙◌, ap, sym, subst, refl, ℕ, List, [], ◌++◌, append_assoc, Bool, Option, Some, None, rules}
 use Rattle.std.specs.Prelude.{◌&&◌}
 use Rattle.dcm_base.specs.declared.dictionary.Dictionary.TheVariants.{Standard}
 use Rattle.dcm_words.specs.Words.{Job, deidentify}

@@ -17,7 +17,7 @@ use Rattle.dcm_cli.specs.InputCalls.{Allows, Reader, in_part, IsUndecided}
 use Rattle.dcm_cli.specs.declared.ending.Ending.TheVariants.{Output}
 use Rattle.dcm_cli.specs.Run.{Worked}
 use Rattle.dcm_cli.proofs.Passes.Decided.{decided_output, decided_by, alone_decided}
-use Rattle.dcm_cli.proofs.Passes.Alone.{alone_unheaded, alone_worked, put_failed, put_whole}
+use Rattle.dcm_cli.proofs.Passes.Alone.{alone_dumper, alone_unheaded, alone_worked, put_failed, put_whole}
 use Rattle.dcm_cli.proofs.Passes.Readers.{members, allows_nothing, nothing_read, for_another}
 use Rattle.dcm_cli.proofs.Runs.Stopping.{alone_undecided}
 use Rattle.dcm_cli.proofs.dump.dump_set.Goals as goal
@@ -36,7 +36,7 @@ returns-then-is_err g c =
       how = in_part;
       reads = nothing_read (members g.R.Device g.R.DeviceIn) (IsUndecided job) c.args.input.now;
       worked = λ rest ok.
-          alone_unheaded c.args.dictionary c.args.mode c.args.syntax rest (Some rest) (g.W.DeviceOut.contents c.args.out.now) (g.W.DeviceOut.contents c.set_header.new.out)
+          alone_unheaded job (read_by c.args.dictionary c.args.syntax) (alone_dumper c.args.dictionary c.args.mode c.args.syntax) rest (Some rest) (g.W.DeviceOut.contents c.args.out.now) (g.W.DeviceOut.contents c.set_header.new.out)
           (subst (λ uid. AppendsFront (g.W.DeviceOut.contents c.args.out.now) (g.W.DeviceOut.contents c.set_header.new.out) (set_header uid)) (c.as_bytes.ensures.value ∙ c.of.ensures ∙ uid_alike c.args.dictionary c.args.syntax)
           (put_failed _ _ (set_header c.as_bytes.result.now) c.set_header.result (sym c.if-is_err.ensures.value) c.set_header.ensures.bytes));
       decided = decided_output job [] in_part Output refl;
@@ -62,7 +62,7 @@ returns g c =
     in
     let Going : List ℕ → Type 0 = spec.SetGoesOn bars_nothing dump_step false [] begins begun in
     let worked : (rest : List ℕ) → Allows set.how rest → Worked job (set.more ++ rest) (Some rest) (g.W.DeviceOut.contents c.args.out.now) holds c.read_rest.result = λ rest ok.
-    alone_worked c.args.dictionary c.args.mode c.args.syntax (set.more ++ rest) (Some rest) (g.W.DeviceOut.contents c.args.out.now) set.more rest held last holds c.read_rest.result refl refl mid
+    alone_worked job (read_by c.args.dictionary c.args.syntax) (alone_dumper c.args.dictionary c.args.mode c.args.syntax) (set.more ++ rest) (Some rest) (g.W.DeviceOut.contents c.args.out.now) set.more rest held last holds c.read_rest.result refl refl mid
     (set.ends rest ok (λ over. absurd (let no : false ≡ true = over in cc)))
     in
     let k = c.read_rest.ensures.kept in
@@ -70,11 +70,11 @@ returns g c =
     record {
       given = set.more;
       how = set.how;
-      reads = for_another reader Going (IsUndecided job) c.args.input.now c.read_rest.new.input set.more set.how (λ bytes going. alone_undecided c.args.dictionary c.args.mode c.args.syntax bytes going.1) set.reads;
+      reads = for_another reader Going (IsUndecided job) c.args.input.now c.read_rest.new.input set.more set.how (λ bytes going. alone_undecided job (read_by c.args.dictionary c.args.syntax) (alone_dumper c.args.dictionary c.args.mode c.args.syntax) bytes going.1) set.reads;
       worked = λ rest ok.
           subst (λ (known : Option (List ℕ)). Worked job (set.more ++ rest) (Some rest) (g.W.DeviceOut.contents c.args.out.now) known c.read_rest.result) (search (rules, k, n)) (worked rest ok);
       decided = decided_by job set.more set.how c.read_rest.result (g.W.DeviceOut.contents c.args.out.now) holds (worked [] (allows_nothing set.how)) (λ one.
-          alone_decided c.args.dictionary c.args.mode c.args.syntax set.more set.how held last holds c.read_rest.result
+          alone_decided job (read_by c.args.dictionary c.args.syntax) (alone_dumper c.args.dictionary c.args.mode c.args.syntax) set.more set.how held last holds c.read_rest.result
           (set.ends (0 ∷ []) one (λ over. absurd (let no : false ≡ true = over in cc))));
       unread = search rules;
       failed = search rules;

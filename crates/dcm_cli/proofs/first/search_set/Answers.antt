@@ -1,4 +1,4 @@
-use Rattle.std.proofs.Common.{◌≡◌, ◌∙◌, ap, ℕ, ◌+◌, ◌≤◌, List, [], ◌++◌, append_assoc, length, length-append, take, sym, subst, refl, inl, inr, None, Some, false, arith}
+use Rattle.std.proofs.Common.{◌≡◌, ◌∙◌, ap, ℕ, ◌+◌, List, [], ◌++◌, append_assoc, length, length-append, take, sym, subst, refl, inl, inr, None, Some, arith}
 use Rattle.std.proofs.lemmas.List.{append-nil, length-take-le}
 use Rattle.dcm_devices.specs.Device.{no_calls}
 use Rattle.dcm_cli.specs.InputCalls.{in_part, to_end, with_failure}

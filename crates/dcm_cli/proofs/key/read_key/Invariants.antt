@@ -1,4 +1,4 @@
-use Rattle.std.proofs.Common.{ℕ, ◌-◌, length}
+use Rattle.std.proofs.Common.{◌-◌, length}
 use Rattle.dcm_cli.proofs.Passes.Readers.{members}
 use Rattle.dcm_cli.proofs.Passes.KeyBytes.{KeySoFar}
 use Rattle.dcm_cli.proofs.key.read_key.Given as goal

@@ -1,10 +1,21 @@
-use Rattle.std.proofs.Common.{Global, sym, subst}
+use Rattle.std.proofs.Common.{Global, Option, sym, subst}
+use Rattle.dcm_base.specs.declared.dictionary.Dictionary.{Dictionary}
+use Rattle.dcm_base.specs.declared.mode.Mode.{Mode}
+use Rattle.dcm_base.specs.declared.syntax.Syntax.{Syntax}
+use Rattle.dcm_words.specs.declared.job.Texts.{Texts}
+use Rattle.dcm_words.specs.declared.job.Texts.TheVariants.{Bytes, Characters}
+use Rattle.dcm_words.specs.Words.{dump_as}
 use Rattle.dcm_words.specs.declared.job.Job.{Job}
 use Rattle.dcm_words.specs.Plans.{job_of}
 use Rattle.dcm_cli.specs.Calls.{Works}
 use Rattle.dcm_cli.specs.Run.{IsMeant}
 use Rattle.dcm_cli.proofs.Passes.Readers.{members, writer}
 use Rattle.dcm_cli.proofs.run.work.Goals as goal
+
+-- a dump needs nothing
+dump_meant : (texts : Texts) (d : Dictionary) (mode : Mode) (bare : Option Syntax) → IsMeant (dump_as texts d mode bare)
+dump_meant Bytes d mode bare = tt
+dump_meant Characters d mode bare = tt
 
 pub returns-in-Dump-clause-worked : goal.returns-in-Dump-clause-worked
 returns-in-Dump-clause-worked g c =
@@ -26,7 +37,7 @@ pub returns-in-Modify-clause-meant : goal.returns-in-Modify-clause-meant
 returns-in-Modify-clause-meant g c = subst (λ (job : Job Global). IsMeant (job_of job)) (sym c.in-Modify.is) c.modify.ensures.meant
 
 pub returns-in-Dump-clause-meant : goal.returns-in-Dump-clause-meant
-returns-in-Dump-clause-meant g c = subst (λ (job : Job Global). IsMeant (job_of job)) (sym c.in-Dump.is) tt
+returns-in-Dump-clause-meant g c = subst (λ (job : Job Global). IsMeant (job_of job)) (sym c.in-Dump.is) (let d = c.in-Dump.what in dump_meant d.texts d.dictionary d.mode d.bare)
 
 pub returns-in-Convert-clause-meant : goal.returns-in-Convert-clause-meant
 returns-in-Convert-clause-meant g c = subst (λ (job : Job Global). IsMeant (job_of job)) (sym c.in-Convert.is) tt

@@ -4,7 +4,7 @@ use Rattle.dcm_words.specs.declared.words.Said.{Said}
 use Rattle.dcm_words.specs.Plans.{reader, PathsAre, said_with_paths}
 use Rattle.dcm_words.proofs.WordLemmas.{placed, turn, limit_turn, move_turn, key_turn, move_refused, key_refused, refused_as}
 use Rattle.dcm_words.proofs.words.said_by.Goals as goal
-use Rattle.dcm_words.proofs.words.said_by.Goals.{in-Read, in-Show, in-WholeFile, in-DataSet, in-Bare, in-Target, in-Limit+in_ok-said-in-Limit, in-Retain, in-Pseudonyms, in-Move+in_ok-moved-in-Move, in-PixelsDealt, in-Key+in_ok-key_after-in-Key, in-Accepted, in-Path}
+use Rattle.dcm_words.proofs.words.said_by.Goals.{in-Read, in-Show, in-Decode, in-WholeFile, in-DataSet, in-Bare, in-Target, in-Limit+in_ok-said-in-Limit, in-Retain, in-Pseudonyms, in-Move+in_ok-moved-in-Move, in-PixelsDealt, in-Key+in_ok-key_after-in-Key, in-Accepted, in-Path}
 
 pub loop-i-preserved : goal.loop-i-preserved
 loop-i-preserved c =
@@ -20,6 +20,11 @@ loop-i-preserved c =
         read = read;
         paths = subst (λ (s : Said). PathsAre s.paths read) (sym w.said-is) c.loop-i.invariant.paths;
         the_rest = placed _ _ _ _ _ w.i-is (turn (reader c.args.tool) c.loop-i.i c.args.words.now _ _ _ _ c.loop-i-test.true w.in-Show.ensures refl (ap (λ (s : Said). said_with_paths s read) (sym w.said-is)) c.loop-i.invariant.the_rest);
+      }
+      | in-Decode w ↦ record {
+        read = read;
+        paths = subst (λ (s : Said). PathsAre s.paths read) (sym w.said-is) c.loop-i.invariant.paths;
+        the_rest = placed _ _ _ _ _ w.i-is (turn (reader c.args.tool) c.loop-i.i c.args.words.now _ _ _ _ c.loop-i-test.true w.in-Decode.ensures refl (ap (λ (s : Said). said_with_paths s read) (sym w.said-is)) c.loop-i.invariant.the_rest);
       }
       | in-WholeFile w ↦ record {
         read = read;

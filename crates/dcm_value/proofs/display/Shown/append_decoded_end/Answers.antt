@@ -1,6 +1,5 @@
-use Rattle.std.proofs.Common.{◌≡◌, ◌≤◌, ◌<◌, ◌+◌, ℕ, Bool, true, cond, List, ◌++◌, length, take, min, ap, sym, ◌∙◌, refl, rules, arith, append_assoc, codes, inl, inr}
+use Rattle.std.proofs.Common.{◌≡◌, ℕ, Bool, true, cond, List, ◌++◌, length, take, min, ap, sym, ◌∙◌, arith, append_assoc, codes, inl, inr}
 use Rattle.std.proofs.lemmas.Bool.{cases_lt}
-use Rattle.std.proofs.lemmas.List.{take_all}
 use Rattle.std.proofs.Math.Seq.{take-length}
 use Rattle.dcm_value.specs.Display.{Display, is_cut, ending}
 use Rattle.dcm_value.specs.Decoded.{cut_size}

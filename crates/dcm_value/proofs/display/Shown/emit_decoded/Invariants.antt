@@ -1,6 +1,6 @@
 use Rattle.std.proofs.Common.{◌≡◌, ◌+◌, ◌≤◌}
 use Rattle.std.specs.Prelude.{flat_map}
-use Rattle.dcm_text.specs.Runs.{Run, run, state_of, bytes_left}
+use Rattle.dcm_text.specs.Runs.{run, state_of, bytes_left}
 use Rattle.dcm_text.specs.Shown.{dumped_piece}
 use Rattle.dcm_value.specs.Decoded.{backslashes}
 use Rattle.dcm_value.specs.Shown.{display_of}
@@ -8,8 +8,8 @@ use Rattle.dcm_value.proofs.Displays.Emits.{PartShown}
 use Rattle.dcm_value.proofs.display.Shown.emit_decoded.Given as goal
 
 -- a part of the run is shown
-abbrev pub invariant-loop-part : goal.invariant-loop-part
-invariant-loop-part g l =
+abbrev pub invariant-loop-next : goal.invariant-loop-next
+invariant-loop-next g l =
     let all = run l.at_end (state_of l.fn.decoder) l.fn.piece in
     let left = run l.at_end (state_of l.decoder) l.rest in
     record {
@@ -21,5 +21,5 @@ invariant-loop-part g l =
       failed : g.W.Device.has_failed l.out ≡ g.W.Device.has_failed l.fn.out;
     }
 
-abbrev pub decreases-loop-part : goal.decreases-loop-part
-decreases-loop-part g l = bytes_left l.decoder l.rest
+abbrev pub decreases-loop-next : goal.decreases-loop-next
+decreases-loop-next g l = bytes_left l.decoder l.rest

@@ -1,0 +1,45 @@
+-- What the laws of the dump of texts speak of.
+use Rattle.std.specs.Prelude.{◌≡◌, ℕ, ◌≤◌, List, false}
+use Rattle.dcm_base.specs.declared.dictionary.Dictionary.{Dictionary}
+use Rattle.dcm_base.specs.declared.mode.Mode.{Mode}
+use Rattle.dcm_base.specs.declared.syntax.Syntax.{Syntax}
+use Rattle.dcm_base.specs.Dump.Dump.{dump_front}
+use Rattle.dcm_base.specs.Reading.Bars.{no_bar}
+use Rattle.dcm_base.specs.Reading.Reads.{INPUT_LIMIT, Reads, ended}
+use Rattle.dcm_base.specs.Reading.Stop.{Stop}
+use Rattle.dcm_base.specs.Steps.Atoms.{Atom, Shows, front_atoms, is_closed}
+use Rattle.dcm_base.specs.Steps.Steps.{outputs}
+use Rattle.dcm_base.specs.Tree.Front.{Front}
+use Rattle.dcm_text.specs.declared.sets.Sets.{Sets}
+use Rattle.dcm_sinks.specs.InForce.{EMPTY}
+use Rattle.dcm_sinks.specs.DecodedDump.{decoded_front}
+use Rattle.dcm_sinks.specs.DecodedSink.{decoded_start, decoded_step, decoded_writes}
+use Rattle.dcm_sinks.specs.Laws.{StaysShallow}
+use Rattle.dcm_sinks.specs.PlainTexts.{PlainFront}
+
+-- what the sink writes of the atoms of a data set is its dump by characters
+abbrev pub DecodedDumpsShown : Type 0
+DecodedDumpsShown =
+    (d : Dictionary) (mode : Mode) (f : Front) (atoms : List Atom) → StaysShallow 0 atoms → Shows f atoms
+    → outputs decoded_step decoded_writes (decoded_start d mode) atoms ≡ decoded_front d mode EMPTY 0 f
+
+-- what it writes of all that is read of an input is that
+abbrev pub DecodedDumpsWhole : Type 0
+DecodedDumpsWhole =
+    (d : Dictionary) (mode : Mode) (s : Syntax) (start : ℕ) (bytes : List ℕ) (f : Front) (stop : Stop)
+    → start ≤ INPUT_LIMIT
+    → Reads no_bar s start bytes f stop
+    → outputs decoded_step decoded_writes (decoded_start d mode) (front_atoms s f) ≡ decoded_front d mode EMPTY 0 f
+
+-- what it writes of what was read of an input so far is that
+abbrev pub DecodedDumpsSoFar : Type 0
+DecodedDumpsSoFar =
+    (d : Dictionary) (mode : Mode) (s : Syntax) (start : ℕ) (bytes : List ℕ) (f : Front) (stop : Stop)
+    → start ≤ INPUT_LIMIT
+    → is_closed f ≡ false → Reads no_bar s start bytes (ended stop f) stop
+    → outputs decoded_step decoded_writes (decoded_start d mode) (front_atoms s f) ≡ decoded_front d mode EMPTY 0 f
+
+-- where all texts are ASCII, the dump is the one without characters, whatever is in force
+abbrev pub DecodedOfAscii : Type 0
+DecodedOfAscii = (d : Dictionary) (mode : Mode) (sets : Sets) (level : ℕ) (f : Front) → PlainFront f
+    → decoded_front d mode sets level f ≡ dump_front d mode level f

@@ -1,0 +1,76 @@
+// The dump of a data set whose texts are shown as characters.
+ghost use Rattle.std.specs.Prelude.{◌≡◌};
+ghost use Rattle.std.specs.Borrow.{GName};
+ghost use Rattle.dcm_sinks.specs.DecodedSink.{DecodedState, decoded_step, decoded_writes, decoded_start, bars_no_head};
+
+use crate::dump::in_force::InForce;
+use crate::dump::lines::texts::TextLines;
+use dcm_base::{DeviceOut, Dictionary, Mode, Syntax, Watched, WriteFailed};
+use dcm_head::Head;
+use dcm_stream::{Bar, Sink, Token};
+
+/// A sink that writes the lines of a data set as `DumpSink` does, but with its texts in UTF-8, by what is in force of
+/// Specific Character Set (PS3.3 C.12.1.1.2). It bars nothing.
+#[derive(Drop)]
+pub struct DecodedDumpSink<'w, W> {
+    out: &'w mut Watched<W>,
+    lines: TextLines,
+    in_force: InForce,
+}
+
+impl<'w, W: DeviceOut> DecodedDumpSink<'w, W> {
+    ghost use Rattle.dcm_sinks.specs.DecodedLines.{state_of};
+
+    /// The beginning of a dump whose elements are called as the dictionary says.
+    pub fn new(out: &'w mut Watched<W>, dictionary: Dictionary, mode: Mode) -> Self
+        ensures same_reference { result.out.ghost_name ≡ out.entry.ghost_name }
+        ensures out { result.out.now ≡ out.old }
+        ensures state { state_of result.lines result.in_force ≡ decoded_start dictionary mode }
+    {
+        DecodedDumpSink {
+            out,
+            lines: TextLines::new(dictionary, mode),
+            in_force: InForce::new(),
+        }
+    }
+}
+
+impl<'w, W: DeviceOut> Sink for DecodedDumpSink<'w, W> {
+    ghost use Rattle.dcm_sinks.specs.DecodedLines.{state_of as decoded_state_of};
+
+    ghost State = { DecodedState };
+
+    ghost state = { λ d. decoded_state_of d.lines d.in_force };
+
+    ghost step = { decoded_step };
+
+    ghost writes = { decoded_writes };
+
+    ghost bar = { bars_no_head };
+
+    ghost contents = { λ d. W.contents d.out.now };
+
+    ghost has_failed = { λ d. W.has_failed d.out.now };
+
+    ghost Kept = { GName };
+
+    ghost kept = { λ d. d.out.ghost_name };
+
+    #[inline(always)]
+    fn take(&mut self, token: Token) -> Result<(), WriteFailed> {
+        let sets = self.in_force.sets();
+        self.in_force.take(token);
+        self.lines.take(self.out, token, sets)
+    }
+
+    #[inline(always)]
+    fn take_whole(&mut self, head: Head, syntax: Syntax, value: &[u8]) -> Result<(), WriteFailed> {
+        let sets = self.in_force.sets();
+        self.in_force.take_whole(head, syntax, value);
+        self.lines.take_whole(self.out, head, syntax, value, sets)
+    }
+
+    fn accepts(&self, _head: &Head) -> Result<(), Bar> {
+        Ok(())
+    }
+}

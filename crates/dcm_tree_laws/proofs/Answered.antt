@@ -1,0 +1,103 @@
+-- What an output took of a job that was done is the answer to what its input had to give.
+use Rattle.std.proofs.Common.{◌≡◌, ◌∙◌, refl, sym, ap, subst, ℕ, List, [], ◌++◌, Bool, true, false, Option, Some, None, length}
+use Rattle.std.specs.Io.KnownBytes.{append_known}
+use Rattle.dcm_base.specs.Lines.Build as build
+use Rattle.dcm_base.specs.declared.fault.LineStop.{LineStop}
+use Rattle.dcm_devices.specs.Writing.{Writer}
+use Rattle.dcm_words.specs.Words.{Job, dump, dump_decoded, convert, build as building, modify, deidentify}
+use Rattle.dcm_cli.specs.Answer.{Answer, Answers, ReadAnswers, Source, unopened, file, alone, answer, output_of, built_answer}
+use Rattle.dcm_cli.specs.Calls.{Reader, Finishes}
+use Rattle.dcm_cli.specs.InputCalls.{IsUndecided}
+use Rattle.dcm_cli.specs.Run as run
+use Rattle.dcm_cli.specs.Run.{Answered, ReadEnds, BuildEnds, FlushedAs}
+use Rattle.dcm_cli.specs.declared.ending.Ending.{Ending}
+use Rattle.dcm_cli.specs.declared.ending.Ending.TheVariants.{Worked, Unread, Output}
+use Rattle.dcm_cli.specs.declared.ending.Verdict.{Verdict}
+use Rattle.dcm_trees.specs.Fate.{is_written}
+use Rattle.dcm_trees.specs.Lines.{ending_fate}
+use Rattle.dcm_tree_laws.specs.FileSystem.{Host}
+use Rattle.dcm_tree_laws.proofs.Held.{GivesAll, Left, reads_left}
+
+-- ---- an answer has these bytes
+
+pub record Gives (job : Job) (input out : List ℕ) : Type 0 where
+  pub a : Answer
+  pub answers : Answers job input a
+  pub output_is : out ≡ a.output
+
+answer_output : (job : Job) (source : Source) → output_of job source ≡ (answer job source).output
+answer_output job (unopened fault offset) = refl
+answer_output job (file meta coding set stop) = refl
+answer_output job (alone syntax set stop) = refl
+
+read_gives : (job : Job) (input out : List ℕ) (verdict : Verdict) → ((a : Answer) → ReadAnswers job input a → Answers job input a) → ReadEnds job input out verdict → Gives job input out
+read_gives job input out verdict answers h = record {
+  a = answer job h.source;
+  answers = answers (answer job h.source) (record { source = h.source; reads = h.reads; answer_is = refl });
+  output_is = h.out_is ∙ answer_output job h.source;
+}
+
+told_output : (p : build.Progress) (told : Option LineStop) → p.told ≡ told → build.built_bytes p.built ≡ (built_answer p).output
+told_output p None e = sym (ap (λ (t : Option LineStop). (built_answer (record p { told = t })).output) e)
+told_output p (Some t) e = sym (ap (λ (t : Option LineStop). (built_answer (record p { told = t })).output) e)
+
+pub gives_answer : (job : Job) (input out : List ℕ) (verdict : Verdict) → Answered job input out verdict → Gives job input out
+gives_answer (dump d mode bare) input out verdict h = read_gives (dump d mode bare) input out verdict (λ a reads. reads) h
+gives_answer (dump_decoded d mode bare) input out verdict h = read_gives (dump_decoded d mode bare) input out verdict (λ a reads. reads) h
+gives_answer (convert d target) input out verdict h = read_gives (convert d target) input out verdict (λ a reads. reads) h
+gives_answer (building limit) input out verdict h = record {
+  a = built_answer (build.built limit input);
+  answers = refl;
+  output_is = h.out_is ∙ told_output (build.built limit input) (build.built limit input).told refl;
+}
+gives_answer (modify d edits) input out verdict h = read_gives (modify d edits) input out verdict (λ a reads. reads) h
+gives_answer (deidentify options reports key) input out verdict h = read_gives (deidentify options reports key) input out verdict (λ a reads. reads) h
+
+-- ---- how the work ended
+
+true_false : {A : Type 0} (b : Bool) → b ≡ true → b ≡ false → A
+true_false b e f = absurd (cc)
+
+not_so : {A : Type 0} (ending other : Ending) → ending ≡ other → is_written (ending_fate other) ≡ false → is_written (ending_fate ending) ≡ true → A
+not_so ending other is not done = true_false (is_written (ending_fate ending)) done (ap (λ (x : Ending). is_written (ending_fate x)) is ∙ not)
+
+-- where all was done, no device failed in it
+worked_is : (worked ending : Ending) (before after : Bool) (room : Option ℕ) → FlushedAs worked ending before after room → is_written (ending_fate ending) ≡ true → (verdict : Verdict) × (worked ≡ Worked verdict)
+worked_is (Worked verdict) ending before after room flushed done = (verdict, refl)
+worked_is (Unread count) ending before after room flushed done = not_so ending (Unread count) flushed refl done
+worked_is Output ending before after room flushed done = not_so ending Output flushed.0 refl done
+
+no_unread : (worked : Ending) (verdict : Verdict) (count : ℕ) → worked ≡ Worked verdict → worked ≡ Unread count → ⊥
+no_unread worked verdict count a b = absurd (cc)
+
+no_output : (worked : Ending) (verdict : Verdict) → worked ≡ Worked verdict → worked ≡ Output → ⊥
+no_output worked verdict a b = absurd (cc)
+
+-- all of an output, where its writer held this before and after
+pub record Wrote (job : Job) (input : List ℕ) (before after : Option (List ℕ)) : Type 0 where
+  pub out : List ℕ
+  pub gives : Gives job input out
+  pub grown : after ≡ append_known before out
+
+wrote : (job : Job) (input : List ℕ) (left before after : Option (List ℕ)) (worked : Ending) (verdict : Verdict) → worked ≡ Worked verdict → run.Worked job input left before after worked → Wrote job input before after
+wrote job input left before after worked verdict is (run.answered out other h e grown) = record { out = out; gives = gives_answer job input out other h; grown = grown }
+wrote job input left before after worked verdict is (run.could_not_read p rest out whole at sure e grown) = absurd (no_unread worked verdict (length p) is e)
+wrote job input left before after worked verdict is (run.could_not_write out other h e grown) = absurd (no_output worked verdict is e)
+
+some_same : (a b : List ℕ) → Some a ≡ Some b → a ≡ b
+some_same a b e = cc
+
+from_nothing : (known : Option (List ℕ)) (out : List ℕ) → known ≡ Some [] → append_known known out ≡ Some out
+from_nothing known out is = ap (λ (x : Option (List ℕ)). append_known x out) is
+
+-- what a new output took of a job that was done
+pub finishes_gives : {I O : Type 0} (h : Host I O) (r : Reader I) (w : Writer O) → GivesAll h r w → (job : Job) (input left : I) (made written : O) (ending : Ending) → h.took made ≡ [] → Finishes r w job input left made written ending
+    → is_written (ending_fate ending) ≡ true → Gives job (h.holds input) (h.took written)
+finishes_gives h r w all job input left made written ending new f done =
+    let held : Left h input f.works.given f.works.how = reads_left h r w all (IsUndecided job) input left f.works.given f.works.how f.works.reads in
+    let ended : (verdict : Verdict) × (f.worked ≡ Worked verdict) = worked_is f.worked ending (w.has_failed f.written) (w.has_failed written) (w.room written) f.flushed done in
+    let x : Wrote job (f.works.given ++ held.rest) (w.contents made) (w.contents f.written) =
+    wrote job (f.works.given ++ held.rest) (Some held.rest) (w.contents made) (w.contents f.written) f.worked ended.0 ended.1 (f.works.worked held.rest held.allowed) in
+    let same : h.took written ≡ x.out = some_same (h.took written) x.out
+    (sym (all.tells written) ∙ f.contents ∙ x.grown ∙ from_nothing (w.contents made) x.out (all.tells made ∙ ap Some new)) in
+    subst (λ (bytes : List ℕ). Gives job bytes (h.took written)) (sym held.whole) (record { a = x.gives.a; answers = x.gives.answers; output_is = same ∙ x.gives.output_is })

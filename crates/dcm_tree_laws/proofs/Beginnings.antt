@@ -1,0 +1,127 @@
+-- The beginning of a run makes the folder of the outputs, and else only looks.
+use Rattle.std.proofs.Common.{◌≡◌, ◌∙◌, refl, ℕ, List, Bool, true, false, Option, Some, None, Result, Ok, Err}
+use Rattle.dcm_files.specs.Folders.{FoldersDo}
+use Rattle.dcm_files.specs.declared.folders.Found.{Found}
+use Rattle.dcm_files.specs.declared.folders.Links.TheVariants.{Kept, Followed}
+use Rattle.dcm_walk.specs.declared.folder.FolderNumber.{FolderNumber}
+use Rattle.dcm_trees.specs.declared.beginning.Begun.{Begun}
+use Rattle.dcm_trees.specs.declared.beginning.Refusal.{Refusal}
+use Rattle.dcm_trees.specs.Beginning as spec
+use Rattle.dcm_trees.specs.Beginning.{Looks, Numbers, Climbed, Climbs, IsThere, MakesFolder, NumbersFolder, MakesOutput, Compares, MakesApart, HasOutput, ChecksPart, ChecksEmpty, ChecksNew, ChecksUse, Begins, parent_of}
+use Rattle.dcm_tree_laws.specs.FileSystem.{FileSystem, Host, folders_do}
+use Rattle.dcm_tree_laws.specs.Stays.{itself}
+use Rattle.dcm_tree_laws.proofs.Quiet.{Quiet, are_quiet}
+use Rattle.dcm_tree_laws.proofs.Steps.{Phase, is_writing, Steps, folder, goes_on, one, quiet}
+
+pub looks : {S O F : Type 0} (d : FoldersDo S O F) → Quiet d → (path : List ℕ) (before : S) (r : Result (Option Found) Refusal) (after : S) → Looks d path before r after → after ≡ before
+looks d q path before r after (spec.no_text t is same) = same
+looks d q path before r after (spec.looked found t call is) = q.finds before path Followed (Ok found) after call
+looks d q path before r after (spec.not_looked e t call is) = q.finds before path Followed (Err e) after call
+
+pub numbers : {S O F : Type 0} (d : FoldersDo S O F) → Quiet d → (path : List ℕ) (before : S) (r : Result FolderNumber Refusal) (after : S) → Numbers d path before r after → after ≡ before
+numbers d q path before r after (spec.numbered found l is) = looks d q path before (Ok (Some found)) after l
+numbers d q path before r after (spec.nothing l is) = looks d q path before (Ok None) after l
+numbers d q path before r after (spec.not_seen refusal l is) = looks d q path before (Err refusal) after l
+
+climbed : {S O F : Type 0} (d : FoldersDo S O F) → Quiet d → (path : List ℕ) (other : FolderNumber) (before : S) (at : List ℕ) (first last : FolderNumber) (has_other : Bool) (after : S) → Climbed d path other before at first last has_other after → after ≡ before
+climbed d q path other before at first last has_other after (spec.itself n short a l o) = numbers d q path before (Ok first) after n
+climbed d q path other before at first last has_other after (spec.and_above from below had_other mid more short n apart a o) =
+    numbers d q (spec.above from) mid (Ok last) after n ∙ climbed d q path other before from first below had_other mid more
+
+pub climbs : {S O F : Type 0} (d : FoldersDo S O F) → Quiet d → (path : List ℕ) (other : FolderNumber) (before : S) (r : Result _ Refusal) (after : S) → Climbs d path other before r after → after ≡ before
+climbs d q path other before r after (spec.not_begun refusal n is) = numbers d q path before (Err refusal) after n
+climbs d q path other before r after (spec.too_long first n short is) = numbers d q path before (Ok first) after n
+climbs d q path other before r after (spec.to_the_top at first last again has_other mid c short n same is) = numbers d q (spec.above at) mid (Ok again) after n ∙ climbed d q path other before at first last has_other mid c
+climbs d q path other before r after (spec.not_seen at first last has_other refusal mid c short n is) = numbers d q (spec.above at) mid (Err refusal) after n ∙ climbed d q path other before at first last has_other mid c
+climbs d q path other before r after (spec.too_deep at first last has_other c short is) = climbed d q path other before at first last has_other after c
+
+pub is_there : {S O F : Type 0} (d : FoldersDo S O F) → Quiet d → (output : List ℕ) (before : S) (r : Result Bool Refusal) (after : S) → IsThere d output before r after → after ≡ before
+is_there d q output before r after (spec.nothing l is) = looks d q output before (Ok None) after l
+is_there d q output before r after (spec.a_folder found l k is) = looks d q output before (Ok (Some found)) after l
+is_there d q output before r after (spec.no_folder found l k is) = looks d q output before (Ok (Some found)) after l
+is_there d q output before r after (spec.not_seen refusal l is) = looks d q output before (Err refusal) after l
+
+pub numbers_folder : {S O F : Type 0} (d : FoldersDo S O F) → Quiet d → (path : List ℕ) (before : S) (r : Result FolderNumber Refusal) (after : S) → NumbersFolder d path before r after → after ≡ before
+numbers_folder d q path before r after (spec.a_folder found l k is) = looks d q path before (Ok (Some found)) after l
+numbers_folder d q path before r after (spec.no_folder found l k is) = looks d q path before (Ok (Some found)) after l
+numbers_folder d q path before r after (spec.nothing l is) = looks d q path before (Ok None) after l
+numbers_folder d q path before r after (spec.not_seen refusal l is) = looks d q path before (Err refusal) after l
+
+pub compares : {S O F : Type 0} (d : FoldersDo S O F) → Quiet d → (input : List ℕ) (is_list : Bool) (output : List ℕ) (before : S) (r : Result FolderNumber Refusal) (after : S) → Compares d input is_list output before r after → after ≡ before
+compares d q input is_list output before r after (spec.not_numbered refusal n is) = numbers d q input before (Err refusal) after n
+compares d q input is_list output before r after (spec.not_climbed read refusal mid n c is) = climbs d q output read mid (Err refusal) after c ∙ numbers d q input before (Ok read) mid n
+compares d q input is_list output before r after (spec.clashed read way refusal mid n c k is) = climbs d q output read mid (Ok way) after c ∙ numbers d q input before (Ok read) mid n
+compares d q input is_list output before r after (spec.not_back read way refusal mid was n c k b is) =
+    climbs d q input way.first was (Err refusal) after b ∙ climbs d q output read mid (Ok way) was c ∙ numbers d q input before (Ok read) mid n
+compares d q input is_list output before r after (spec.within read way back mid was n c k b o is) =
+    climbs d q input way.first was (Ok back) after b ∙ climbs d q output read mid (Ok way) was c ∙ numbers d q input before (Ok read) mid n
+compares d q input is_list output before r after (spec.apart read way back mid was n c k b o is) =
+    climbs d q input way.first was (Ok back) after b ∙ climbs d q output read mid (Ok way) was c ∙ numbers d q input before (Ok read) mid n
+
+pub checks_part : {S O F : Type 0} (d : FoldersDo S O F) → Quiet d → (part : List ℕ) (before : S) (r : Result (Unit {0}) Refusal) (after : S) → ChecksPart d part before r after → after ≡ before
+checks_part d q part before r after (spec.no_text t is same) = same
+checks_part d q part before r after (spec.nothing t call is) = q.finds before part Kept (Ok None) after call
+checks_part d q part before r after (spec.is_there found t call is) = q.finds before part Kept (Ok (Some found)) after call
+checks_part d q part before r after (spec.not_seen e t call is) = q.finds before part Kept (Err e) after call
+
+checks_empty : {S O F : Type 0} (d : FoldersDo S O F) → Quiet d → (output : List ℕ) (before : S) (r : Result (Unit {0}) Refusal) (after : S) → ChecksEmpty d output before r after → after ≡ before
+checks_empty d q output before r after (spec.no_text t is same) = same
+checks_empty d q output before r after (spec.not_opened e t call is) = q.opens before output (Err e) after call
+checks_empty d q output before r after (spec.empty f left opened listed t o n c is) = q.closes listed left after c ∙ q.names opened f (Ok None) left listed n ∙ q.opens before output (Ok f) opened o
+checks_empty d q output before r after (spec.not_empty f left name opened listed t o n c is) = q.closes listed left after c ∙ q.names opened f (Ok (Some name)) left listed n ∙ q.opens before output (Ok f) opened o
+checks_empty d q output before r after (spec.not_listed f left e opened listed t o n c is) = q.closes listed left after c ∙ q.names opened f (Err e) left listed n ∙ q.opens before output (Ok f) opened o
+
+checks_new : {S O F : Type 0} (d : FoldersDo S O F) → Quiet d → (output : List ℕ) (before : S) (r : Result (Unit {0}) Refusal) (after : S) → ChecksNew d output before r after → after ≡ before
+checks_new d q output before r after (spec.followed own is c) = checks_empty d q own before r after c
+checks_new d q output before r after (spec.too_long is c) = checks_empty d q output before r after c
+
+pub checks_use : {S O F : Type 0} (d : FoldersDo S O F) → Quiet d → (output : List ℕ) (continues : Bool) (before : S) (r : Result (Unit {0}) Refusal) (after : S) → ChecksUse d output continues before r after → after ≡ before
+checks_use d q output continues before r after (spec.goes_on c is same) = same
+checks_use d q output continues before r after (spec.is_new c n) = checks_new d q output before r after n
+
+-- ---- the folder of the outputs
+
+makes_folder : {I O F : Type 0} (h : Host I O) (IsWhole : ℕ → List ℕ → Type 0) (part output : List ℕ) (at : Phase) → is_writing at ≡ false → (before : FileSystem) (r : Result (Unit {0}) Refusal) (after : FileSystem)
+    → MakesFolder (folders_do {F = F} h) output before r after → Steps h IsWhole part output at before at after
+makes_folder h IsWhole part output at rest before r after (spec.no_text t is same) = quiet same
+makes_folder h IsWhole part output at rest before r after (spec.made t call is) = one (folder output rest (itself refl) call refl)
+makes_folder h IsWhole part output at rest before r after (spec.was_there e t call k is) = quiet call
+makes_folder h IsWhole part output at rest before r after (spec.not_made e t call k is) = quiet call
+
+makes_output : {I O F : Type 0} (h : Host I O) (IsWhole : ℕ → List ℕ → Type 0) (part output : List ℕ) (at : Phase) → is_writing at ≡ false → (before : FileSystem) (r : Result FolderNumber Refusal) (after : FileSystem)
+    → MakesOutput (folders_do {F = F} h) output before r after → Steps h IsWhole part output at before at after
+makes_output {I} {O} {F} h IsWhole part output at rest before r after (spec.not_made refusal m is) = makes_folder {F = F} h IsWhole part output at rest before (Err refusal) after m
+makes_output {I} {O} {F} h IsWhole part output at rest before r after (spec.made mid m n) =
+    goes_on (makes_folder {F = F} h IsWhole part output at rest before (Ok _) mid m) (quiet (numbers_folder (folders_do {F = F} h) (are_quiet h) output mid r after n))
+
+makes_apart : {I O F : Type 0} (h : Host I O) (IsWhole : ℕ → List ℕ → Type 0) (part output : List ℕ) (at : Phase) → is_writing at ≡ false → (input : List ℕ) (is_list : Bool) (before : FileSystem) (r : Result FolderNumber Refusal) (after : FileSystem)
+    → MakesApart (folders_do {F = F} h) input is_list output before r after → Steps h IsWhole part output at before at after
+makes_apart {I} {O} {F} h IsWhole part output at rest input is_list before r after (spec.not_numbered refusal n is) = quiet (numbers (folders_do {F = F} h) (are_quiet h) input before (Err refusal) after n)
+makes_apart {I} {O} {F} h IsWhole part output at rest input is_list before r after (spec.not_climbed read refusal mid n c is) =
+    quiet (climbs (folders_do {F = F} h) (are_quiet h) (parent_of output) read mid (Err refusal) after c ∙ numbers (folders_do {F = F} h) (are_quiet h) input before (Ok read) mid n)
+makes_apart {I} {O} {F} h IsWhole part output at rest input is_list before r after (spec.within read way mid n c k is) =
+    quiet (climbs (folders_do {F = F} h) (are_quiet h) (parent_of output) read mid (Ok way) after c ∙ numbers (folders_do {F = F} h) (are_quiet h) input before (Ok read) mid n)
+makes_apart {I} {O} {F} h IsWhole part output at rest input is_list before r after (spec.made read way mid was n c k m) =
+    goes_on (quiet (climbs (folders_do {F = F} h) (are_quiet h) (parent_of output) read mid (Ok way) was c ∙ numbers (folders_do {F = F} h) (are_quiet h) input before (Ok read) mid n))
+    (makes_output {F = F} h IsWhole part output at rest was r after m)
+
+has_output : {I O F : Type 0} (h : Host I O) (IsWhole : ℕ → List ℕ → Type 0) (part output : List ℕ) (at : Phase) → is_writing at ≡ false → (input : List ℕ) (is_list : Bool) (before : FileSystem) (r : Result FolderNumber Refusal) (after : FileSystem)
+    → HasOutput (folders_do {F = F} h) input is_list output before r after → Steps h IsWhole part output at before at after
+has_output {I} {O} {F} h IsWhole part output at rest input is_list before r after (spec.not_looked refusal l is) = quiet (is_there (folders_do {F = F} h) (are_quiet h) output before (Err refusal) after l)
+has_output {I} {O} {F} h IsWhole part output at rest input is_list before r after (spec.was_there looked l c) =
+    quiet (compares (folders_do {F = F} h) (are_quiet h) input is_list output looked r after c ∙ is_there (folders_do {F = F} h) (are_quiet h) output before (Ok true) looked l)
+has_output {I} {O} {F} h IsWhole part output at rest input is_list before r after (spec.not_there looked l m) =
+    goes_on (quiet (is_there (folders_do {F = F} h) (are_quiet h) output before (Ok false) looked l)) (makes_apart {F = F} h IsWhole part output at rest input is_list looked r after m)
+
+pub begins_by : {I O F : Type 0} (h : Host I O) (IsWhole : ℕ → List ℕ → Type 0) (part output : List ℕ) (at : Phase) → is_writing at ≡ false → (input : List ℕ) (is_list : Bool) (name : List ℕ) (continues : Bool) (before : FileSystem) (r : Result Begun Refusal) (after : FileSystem)
+    → Begins (folders_do {F = F} h) input is_list output name continues before r after → Steps h IsWhole part output at before at after
+begins_by {I} {O} {F} h IsWhole part output at rest input is_list name continues before r after (spec.no_output refusal has is) = has_output {F = F} h IsWhole part output at rest input is_list before (Err refusal) after has
+begins_by {I} {O} {F} h IsWhole part output at rest input is_list name continues before r after (spec.no_part number refusal has p is) = has_output {F = F} h IsWhole part output at rest input is_list before (Ok number) after has
+begins_by {I} {O} {F} h IsWhole part output at rest input is_list name continues before r after (spec.has_part number path refusal mid has p c is) =
+    goes_on (has_output {F = F} h IsWhole part output at rest input is_list before (Ok number) mid has) (quiet (checks_part (folders_do {F = F} h) (are_quiet h) path.items mid (Err refusal) after c))
+begins_by {I} {O} {F} h IsWhole part output at rest input is_list name continues before r after (spec.in_use number path refusal mid checked has p c u is) =
+    goes_on (has_output {F = F} h IsWhole part output at rest input is_list before (Ok number) mid has)
+    (quiet (checks_use (folders_do {F = F} h) (are_quiet h) output continues checked (Err refusal) after u ∙ checks_part (folders_do {F = F} h) (are_quiet h) path.items mid (Ok _) checked c))
+begins_by {I} {O} {F} h IsWhole part output at rest input is_list name continues before r after (spec.begun number path mid checked has p c u is) =
+    goes_on (has_output {F = F} h IsWhole part output at rest input is_list before (Ok number) mid has)
+    (quiet (checks_use (folders_do {F = F} h) (are_quiet h) output continues checked (Ok _) after u ∙ checks_part (folders_do {F = F} h) (are_quiet h) path.items mid (Ok _) checked c))

@@ -1,0 +1,178 @@
+-- A part that gets a name is there under it, whole.
+use Rattle.std.proofs.Common.{◌≡◌, ◌∙◌, refl, sym, ap, subst, inl, inr, ◌⊎◌, ℕ, ◌+◌, ◌<◌, List, length, Bool, true, false, Option, Some, None, Ok, Err, arith}
+use Rattle.std.specs.Prelude.{◌≢◌}
+use Rattle.dcm_files.specs.declared.folders.Found.{Found}
+use Rattle.dcm_files.specs.declared.folders.FoundKind.TheVariants.{File, Folder}
+use Rattle.dcm_walk.specs.Names.{below}
+use Rattle.dcm_trees.specs.declared.fate.Fate.{Fate}
+use Rattle.dcm_trees.specs.declared.part.Naming.{Naming}
+use Rattle.dcm_trees.specs.declared.part.Naming.TheVariants.{Linked, Moved, NotFree, Failed}
+use Rattle.dcm_trees.specs.declared.place.Place.TheVariants as places
+use Rattle.dcm_trees.specs.Fate.{is_written}
+use Rattle.dcm_trees.specs.Instance as instance
+use Rattle.dcm_trees.specs.Instance.{GivesFreeName}
+use Rattle.dcm_trees.specs.Part as spec
+use Rattle.dcm_trees.specs.Part.{RemovesPart, MovesPart, MovesIfFree, GivesSecondName, GivesName, ClearsPart, naming_fate}
+use Rattle.dcm_tree_laws.specs.FileSystem.{FileSystem, Host, Tree, number_of, place_of, may_do, folders_do, HasWay, at_path, MakesLink, MovesWhat, a_file, same_file, a_folder, Removes, SameBytes}
+use Rattle.dcm_tree_laws.specs.Outputs.{HasOutput}
+use Rattle.dcm_tree_laws.specs.Stays.{IsOfOutput}
+use Rattle.dcm_tree_laws.proofs.Both.{Both}
+use Rattle.dcm_tree_laws.proofs.Forgets.{after_any, with_past}
+use Rattle.dcm_tree_laws.proofs.Looking.{finds, free_nothing}
+use Rattle.dcm_tree_laws.proofs.Making.{makes_way}
+use Rattle.dcm_tree_laws.proofs.Quiet.{are_quiet}
+use Rattle.dcm_tree_laws.proofs.Steps.{idle, whole, Steps, goes_on, quiet}
+
+-- ---- the part is whole
+
+-- a whole part, on the way from a state in which nothing was written
+pub record IsReady {I O : Type 0} (h : Host I O) (IsWhole : ℕ → List ℕ → Type 0) (part output bytes : List ℕ) (start s : FileSystem) : Type 0 where
+  pub none : start.written ≡ None
+  pub of_output : IsOfOutput output part
+  pub steps : Steps h IsWhole part output idle start (whole bytes) s
+
+-- its file
+pub record Ready {I O : Type 0} (h : Host I O) (IsWhole : ℕ → List ℕ → Type 0) (part : List ℕ) (t : Tree) : Type 0 where
+  pub file : Found
+  pub is : at_path h t part ≡ Some file
+  pub kind : file.kind ≡ File
+  pub done : IsWhole file.mode (t.bytes (number_of file))
+
+pub ready : {I O : Type 0} {h : Host I O} {IsWhole : ℕ → List ℕ → Type 0} {part output bytes : List ℕ} {start s : FileSystem} → IsReady h IsWhole part output bytes start s → Ready h IsWhole part s.now
+ready {I} {O} {h} {IsWhole} {part} {output} {bytes} {start} {s} r =
+    let x : (past : _) × Both h IsWhole part output start.now (whole bytes) (with_past past s) = after_any h IsWhole part output start r.none r.of_output (whole bytes) s r.steps in
+    record { file = x.1.holds.part_at.has.file; is = x.1.holds.part_at.has.is; kind = x.1.holds.part_at.has.kind; done = x.1.holds.part_at.done }
+
+pub then_steps : {I O : Type 0} {h : Host I O} {IsWhole : ℕ → List ℕ → Type 0} {part output bytes : List ℕ} {start s t : FileSystem} → IsReady h IsWhole part output bytes start s → Steps h IsWhole part output (whole bytes) s (whole bytes) t
+    → IsReady h IsWhole part output bytes start t
+then_steps r more = record { none = r.none; of_output = r.of_output; steps = goes_on r.steps more }
+
+pub same_found : (o : Option Found) (f g : Found) → o ≡ Some f → o ≡ Some g → f ≡ g
+same_found o f g a b = cc
+
+as_file : {I O : Type 0} (h : Host I O) (IsWhole : ℕ → List ℕ → Type 0) (part path : List ℕ) (t u : Tree) (f : Found) → Ready h IsWhole part t → at_path h t part ≡ Some f → at_path h u path ≡ Some f → SameBytes t u
+    → place_of h path ≢ place_of h part → HasOutput h IsWhole part path u
+as_file h IsWhole part path t u f r was there same apart =
+    let e : r.file ≡ f = same_found (at_path h t part) r.file f r.is was in
+    record {
+      file = f;
+      is = there;
+      kind = subst (λ (g : Found). g.kind ≡ File) e r.kind;
+      whole = subst (IsWhole f.mode) (sym (same (number_of f))) (subst (λ (g : Found). IsWhole g.mode (t.bytes (number_of g))) e r.done);
+      apart = apart;
+    }
+
+-- ---- it is linked or moved
+
+other_place : (t : Tree) (to part : List ℕ) (f : Found) → t.at to ≡ None → t.at part ≡ Some f → to ≢ part
+other_place t to part f none is e = absurd (cc)
+
+linked_out : {I O : Type 0} {h : Host I O} {IsWhole : ℕ → List ℕ → Type 0} {part output bytes : List ℕ} {start s after : FileSystem} (path : List ℕ) → IsReady h IsWhole part output bytes start s → MakesLink h part path s after
+    → HasOutput h IsWhole part path after.now
+linked_out {I} {O} {h} {IsWhole} {part} {output} {bytes} {start} {s} {after} path r l =
+    as_file h IsWhole part path s.now after.now l.linked (ready r) l.was l.puts.there l.bytes (other_place s.now (place_of h path) (place_of h part) l.linked l.nothing l.was)
+
+pub is_file : (f : Found) → f.kind ≡ File → f.kind ≡ Folder → ⊥
+is_file f e other = absurd (cc)
+
+pub none_some : (o : Option Found) (f : Found) → o ≡ None → o ≡ Some f → ⊥
+none_some o f a b = absurd (cc)
+
+gone_apart : (u : Tree) (to part : List ℕ) (f : Found) → u.at to ≡ Some f → u.at part ≡ None → to ≢ part
+gone_apart u to part f is none e = absurd (cc)
+
+moved_out : {I O : Type 0} {h : Host I O} {IsWhole : ℕ → List ℕ → Type 0} {part output bytes : List ℕ} {start s after : FileSystem} (path : List ℕ) → IsReady h IsWhole part output bytes start s → (HasWay h s.now path → at_path h s.now path ≡ None)
+    → MovesWhat h part path s after → HasOutput h IsWhole part path after.now
+moved_out {I} {O} {h} {IsWhole} {part} {output} {bytes} {start} {s} {after} path r nothing (a_file m) =
+    as_file h IsWhole part path s.now after.now m.moved (ready r) m.was m.there m.bytes (gone_apart after.now (place_of h path) (place_of h part) m.moved m.there m.gone)
+moved_out {I} {O} {h} {IsWhole} {part} {output} {bytes} {start} {s} {after} path r nothing (same_file one other way from to same e) = absurd (none_some (at_path h s.now path) other (nothing way) to)
+moved_out {I} {O} {h} {IsWhole} {part} {output} {bytes} {start} {s} {after} path r nothing (a_folder one is kind stays) =
+    let f : Ready h IsWhole part s.now = ready r in
+    absurd (is_file one (subst (λ (g : Found). g.kind ≡ File) (same_found (at_path h s.now part) f.file one f.is is) f.kind) kind)
+
+-- ---- how it is named
+
+abbrev pub is_named : Naming → Bool
+is_named Linked = true
+is_named Moved = true
+is_named (NotFree place) = false
+is_named Failed = false
+
+true_false : (b : Bool) → b ≡ true → b ≡ false → ⊥
+true_false b e f = absurd (cc)
+
+not_named : {A : Type 0} (naming other : Naming) → naming ≡ other → is_named other ≡ false → is_named naming ≡ true → A
+not_named {A} naming other is not named = absurd (true_false (is_named naming) named (ap is_named is ∙ not))
+
+move_named : {I O : Type 0} {h : Host I O} {IsWhole : ℕ → List ℕ → Type 0} {part output bytes : List ℕ} {start s after : FileSystem} (path : List ℕ) → IsReady h IsWhole part output bytes start s → (HasWay h s.now path → at_path h s.now path ≡ None)
+    → (naming : Naming) → MovesPart (may_do {I = I} h) part path s naming after → is_named naming ≡ true → HasOutput h IsWhole part path after.now
+move_named path r nothing naming (spec.moved call is) named = moved_out path r nothing call
+move_named path r nothing naming (spec.not_moved e call is) named = not_named naming Failed is refl named
+
+if_free_named : {I O F : Type 0} {h : Host I O} {IsWhole : ℕ → List ℕ → Type 0} {part output bytes : List ℕ} {start s after : FileSystem} (path : List ℕ) (base : ℕ) → 0 < base → IsReady h IsWhole part output bytes start s → (naming : Naming)
+    → MovesIfFree (may_do {I = I} h) (folders_do {F = F} h) part path base s naming after → is_named naming ≡ true → HasOutput h IsWhole part path after.now
+if_free_named path base some r naming (spec.not_free place f nf is) named = not_named naming (NotFree place) is refl named
+if_free_named {I} {O} {F} {h} {IsWhole} {part} {output} {bytes} {start} {s} {after} path base some r naming (spec.free place looked f nf m) named =
+    let same : looked ≡ s = finds (folders_do {F = F} h) (are_quiet h) path base s place looked f in
+    move_named {I = I} path (then_steps r (quiet same))
+    (subst (λ (x : FileSystem). HasWay h x.now path → at_path h x.now path ≡ None) (sym same) (free_nothing {F = F} h path base s place looked some f nf)) naming m named
+
+second_named : {I O F : Type 0} {h : Host I O} {IsWhole : ℕ → List ℕ → Type 0} {part output bytes : List ℕ} {start s after : FileSystem} (path : List ℕ) (base : ℕ) → 0 < base → IsReady h IsWhole part output bytes start s → (naming : Naming)
+    → GivesSecondName (may_do {I = I} h) (folders_do {F = F} h) part path base s naming after → is_named naming ≡ true → HasOutput h IsWhole part path after.now
+second_named path base some r naming (spec.no_part_text t is same) named = not_named naming Failed is refl named
+second_named path base some r naming (spec.no_text t u is same) named = not_named naming Failed is refl named
+second_named path base some r naming (spec.linked t u call is) named = linked_out path r call
+second_named {I} {O} {F} path base some r naming (spec.not_linked e tried t u call m) named = if_free_named {I = I} {F = F} path base some (then_steps r (quiet call)) naming m named
+
+pub name_given : {I O F : Type 0} {h : Host I O} {IsWhole : ℕ → List ℕ → Type 0} {part output bytes : List ℕ} {start s after : FileSystem} (path relative : List ℕ) → path ≡ below output relative → IsReady h IsWhole part output bytes start s → (naming : Naming)
+    → GivesName (may_do {I = I} h) (folders_do {F = F} h) part path (length output + 1) s naming after → is_named naming ≡ true → HasOutput h IsWhole part path after.now
+name_given path relative is r naming (spec.no_way e m n) named = not_named naming Failed n refl named
+name_given {I} {O} {F} {h} {IsWhole} {part} {output} {bytes} {start} {s} {after} path relative is r naming (spec.on_its_way has_way m g) named =
+    second_named {I = I} {F = F} path (length output + 1) (omega arith)
+    (then_steps r (makes_way {F = F} h IsWhole part output (whole bytes) refl path relative is (length output + 1) (omega arith) s (Ok _) has_way m)) naming g named
+
+pub free_name_given : {I O F : Type 0} {h : Host I O} {IsWhole : ℕ → List ℕ → Type 0} {part output bytes : List ℕ} {start s after : FileSystem} (path relative : List ℕ) → path ≡ below output relative → IsReady h IsWhole part output bytes start s → (naming : Naming)
+    → GivesFreeName (may_do {I = I} h) (folders_do {F = F} h) part path (length output + 1) s naming after → is_named naming ≡ true → HasOutput h IsWhole part path after.now
+free_name_given path relative is r naming (instance.not_free place f nf e) named = not_named naming (NotFree place) e refl named
+free_name_given {I} {O} {F} {h} {IsWhole} {part} {output} {bytes} {start} {s} {after} path relative is r naming (instance.free place looked f nf g) named =
+    name_given {I = I} {F = F} path relative is (then_steps r (quiet (finds (folders_do {F = F} h) (are_quiet h) path (length output + 1) s place looked f))) naming g named
+
+-- ---- the part is removed
+
+other_than : (t u : Tree) (p part : List ℕ) (f : Found) → p ≢ part → t.at p ≡ Some f → (p ≡ part) ⊎ (u.at p ≡ t.at p) → u.at p ≡ Some f
+other_than t u p part f apart is (inl e) = absurd (apart e)
+other_than t u p part f apart is (inr e) = e ∙ is
+
+removed_out : {I O : Type 0} (h : Host I O) (IsWhole : ℕ → List ℕ → Type 0) (part path : List ℕ) (before after : FileSystem) → Removes h part before after → HasOutput h IsWhole part path before.now → HasOutput h IsWhole part path after.now
+removed_out h IsWhole part path before after r out = record {
+  file = out.file;
+  is = other_than before.now after.now (place_of h path) (place_of h part) out.file out.apart out.is (r.puts.elsewhere (place_of h path));
+  kind = out.kind;
+  whole = subst (IsWhole out.file.mode) (sym (r.bytes (number_of out.file))) out.whole;
+  apart = out.apart;
+}
+
+still_out : {I O : Type 0} (h : Host I O) (IsWhole : ℕ → List ℕ → Type 0) (part path : List ℕ) (before after : FileSystem) → after ≡ before → HasOutput h IsWhole part path before.now → HasOutput h IsWhole part path after.now
+still_out h IsWhole part path before after same out = subst (λ (s : FileSystem). HasOutput h IsWhole part path s.now) (sym same) out
+
+clears_by : {I O : Type 0} (h : Host I O) (IsWhole : ℕ → List ℕ → Type 0) (part path : List ℕ) (before after : FileSystem) → RemovesPart (may_do {I = I} h) part before after → HasOutput h IsWhole part path before.now
+    → HasOutput h IsWhole part path after.now
+clears_by h IsWhole part path before after (spec.no_text t is) out = still_out h IsWhole part path before after is out
+clears_by h IsWhole part path before after (spec.removed (Ok u) t call) out = removed_out h IsWhole part path before after call out
+clears_by h IsWhole part path before after (spec.removed (Err e) t call) out = subst (λ (s : FileSystem). HasOutput h IsWhole part path s.now) (sym call) out
+
+pub cleared_out : {I O : Type 0} (h : Host I O) (IsWhole : ℕ → List ℕ → Type 0) (part path : List ℕ) (naming : Naming) (before after : FileSystem) → ClearsPart (may_do {I = I} h) naming part before after → HasOutput h IsWhole part path before.now
+    → HasOutput h IsWhole part path after.now
+cleared_out h IsWhole part path naming before after (spec.moved is same) out = still_out h IsWhole part path before after same out
+cleared_out {I} h IsWhole part path naming before after (spec.removed is r) out = clears_by {I = I} h IsWhole part path before after r out
+
+-- ---- what is told of it
+
+pub written_named : (naming : Naming) (fate : Fate) (continues : Bool) → is_written (naming_fate naming fate continues) ≡ true → is_named naming ≡ true
+written_named Linked fate continues e = refl
+written_named Moved fate continues e = refl
+written_named (NotFree places.There) fate true e = absurd (cc)
+written_named (NotFree places.There) fate false e = absurd (cc)
+written_named (NotFree places.Taken) fate continues e = absurd (cc)
+written_named (NotFree places.Free) fate continues e = absurd (cc)
+written_named Failed fate continues e = absurd (cc)

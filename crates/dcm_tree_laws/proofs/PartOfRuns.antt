@@ -1,0 +1,141 @@
+-- So it is of a run over a tree as a whole.
+use Rattle.std.specs.Prelude.{◌≢◌}
+use Rattle.std.proofs.Common.{◌≡◌, ◌∙◌, refl, sym, ap, inl, inr, ◌⊎◌, ℕ, List, Bool, true, false, Some, None, Result, Ok, Err}
+use Rattle.dcm_devices.specs.Writing.{Writer}
+use Rattle.dcm_cli.specs.Calls.{Reader}
+use Rattle.dcm_walk.specs.declared.folder.FolderNumber.{FolderNumber}
+use Rattle.dcm_trees.specs.declared.beginning.Begun.{Begun}
+use Rattle.dcm_trees.specs.declared.beginning.Refusal.{Refusal}
+use Rattle.dcm_trees.specs.declared.run.TreeRun.{TreeRun}
+use Rattle.dcm_trees.specs.Beginning as beginning
+use Rattle.dcm_trees.specs.Beginning.{MakesFolder, MakesOutput, MakesApart, HasOutput, Begins, parent_of}
+use Rattle.dcm_trees.specs.Tree as spec
+use Rattle.dcm_trees.specs.Tree.{VisitsFolder, VisitsList, DoesOpened, DoesFolder, DoesNames, DoesList, DoesTree, part_of}
+use Rattle.dcm_tree_laws.specs.FileSystem.{FileSystem, Tree, Host, folders_do, place_of}
+use Rattle.dcm_tree_laws.specs.Laws.{over, part_path}
+use Rattle.dcm_tree_laws.specs.Part.{LeavesPart, NoPartAfterRun}
+use Rattle.dcm_tree_laws.specs.Stays.{within}
+use Rattle.dcm_tree_laws.proofs.Beginnings.{numbers, climbs, is_there, numbers_folder, compares, checks_part, checks_use, begins_by}
+use Rattle.dcm_tree_laws.proofs.ClearedBy.{still_leaves, then_leaves}
+use Rattle.dcm_tree_laws.proofs.OutputsBy.{Leaves, leaves}
+use Rattle.dcm_tree_laws.proofs.PartsBy.{no_part_left, no_part_left_by_list}
+use Rattle.dcm_tree_laws.proofs.Quiet.{are_quiet}
+use Rattle.dcm_tree_laws.proofs.Runs.{begun_part, opens_tree, opens_input}
+use Rattle.dcm_tree_laws.proofs.Steps.{idle}
+
+-- ---- the folder of the outputs is at another place
+
+elsewhere : (t u : Tree) (part output : List ℕ) → output ≢ part → (part ≡ output) ⊎ (u.at part ≡ t.at part) → u.at part ≡ t.at part
+elsewhere t u part output apart (inl e) = absurd (apart (sym e))
+elsewhere t u part output apart (inr e) = e
+
+folder_leaves : {I O F : Type 0} (h : Host I O) (part output : List ℕ) → place_of h output ≢ place_of h part → (before : FileSystem) (r : Result (Unit {0}) Refusal) (after : FileSystem) → MakesFolder (folders_do {F = F} h) output before r after
+    → LeavesPart h part before after
+folder_leaves h part output apart before r after (beginning.no_text t is same) = still_leaves h part before after same
+folder_leaves h part output apart before r after (beginning.made t call is) = λ none. (sym call.notes.unremoved_is ∙ none, elsewhere before.now after.now (place_of h part) (place_of h output) apart (call.puts.elsewhere (place_of h part)))
+folder_leaves h part output apart before r after (beginning.was_there e t call k is) = still_leaves h part before after call
+folder_leaves h part output apart before r after (beginning.not_made e t call k is) = still_leaves h part before after call
+
+output_leaves : {I O F : Type 0} (h : Host I O) (part output : List ℕ) → place_of h output ≢ place_of h part → (before : FileSystem) (r : Result FolderNumber Refusal) (after : FileSystem) → MakesOutput (folders_do {F = F} h) output before r after
+    → LeavesPart h part before after
+output_leaves {I} {O} {F} h part output apart before r after (beginning.not_made refusal m is) = folder_leaves {F = F} h part output apart before (Err refusal) after m
+output_leaves {I} {O} {F} h part output apart before r after (beginning.made mid m n) =
+    then_leaves h part before mid after (folder_leaves {F = F} h part output apart before (Ok _) mid m) (still_leaves h part mid after (numbers_folder (folders_do {F = F} h) (are_quiet h) output mid r after n))
+
+apart_leaves : {I O F : Type 0} (h : Host I O) (part output : List ℕ) → place_of h output ≢ place_of h part → (input : List ℕ) (is_list : Bool) (before : FileSystem) (r : Result FolderNumber Refusal) (after : FileSystem)
+    → MakesApart (folders_do {F = F} h) input is_list output before r after → LeavesPart h part before after
+apart_leaves {I} {O} {F} h part output apart input is_list before r after (beginning.not_numbered refusal n is) = still_leaves h part before after (numbers (folders_do {F = F} h) (are_quiet h) input before (Err refusal) after n)
+apart_leaves {I} {O} {F} h part output apart input is_list before r after (beginning.not_climbed read refusal mid n c is) =
+    still_leaves h part before after (climbs (folders_do {F = F} h) (are_quiet h) (parent_of output) read mid (Err refusal) after c ∙ numbers (folders_do {F = F} h) (are_quiet h) input before (Ok read) mid n)
+apart_leaves {I} {O} {F} h part output apart input is_list before r after (beginning.within read way mid n c k is) =
+    still_leaves h part before after (climbs (folders_do {F = F} h) (are_quiet h) (parent_of output) read mid (Ok way) after c ∙ numbers (folders_do {F = F} h) (are_quiet h) input before (Ok read) mid n)
+apart_leaves {I} {O} {F} h part output apart input is_list before r after (beginning.made read way mid was n c k m) =
+    then_leaves h part before was after
+    (still_leaves h part before was (climbs (folders_do {F = F} h) (are_quiet h) (parent_of output) read mid (Ok way) was c ∙ numbers (folders_do {F = F} h) (are_quiet h) input before (Ok read) mid n))
+    (output_leaves {F = F} h part output apart was r after m)
+
+has_leaves : {I O F : Type 0} (h : Host I O) (part output : List ℕ) → place_of h output ≢ place_of h part → (input : List ℕ) (is_list : Bool) (before : FileSystem) (r : Result FolderNumber Refusal) (after : FileSystem)
+    → HasOutput (folders_do {F = F} h) input is_list output before r after → LeavesPart h part before after
+has_leaves {I} {O} {F} h part output apart input is_list before r after (beginning.not_looked refusal l is) = still_leaves h part before after (is_there (folders_do {F = F} h) (are_quiet h) output before (Err refusal) after l)
+has_leaves {I} {O} {F} h part output apart input is_list before r after (beginning.was_there looked l c) =
+    still_leaves h part before after (compares (folders_do {F = F} h) (are_quiet h) input is_list output looked r after c ∙ is_there (folders_do {F = F} h) (are_quiet h) output before (Ok true) looked l)
+has_leaves {I} {O} {F} h part output apart input is_list before r after (beginning.not_there looked l m) =
+    then_leaves h part before looked after (still_leaves h part before looked (is_there (folders_do {F = F} h) (are_quiet h) output before (Ok false) looked l)) (apart_leaves {F = F} h part output apart input is_list looked r after m)
+
+begins_leaves : {I O F : Type 0} (h : Host I O) (part output : List ℕ) → place_of h output ≢ place_of h part → (input : List ℕ) (is_list : Bool) (name : List ℕ) (continues : Bool) (before : FileSystem) (r : Result Begun Refusal) (after : FileSystem)
+    → Begins (folders_do {F = F} h) input is_list output name continues before r after → LeavesPart h part before after
+begins_leaves {I} {O} {F} h part output apart input is_list name continues before r after (beginning.no_output refusal has is) = has_leaves {F = F} h part output apart input is_list before (Err refusal) after has
+begins_leaves {I} {O} {F} h part output apart input is_list name continues before r after (beginning.no_part number refusal has p is) = has_leaves {F = F} h part output apart input is_list before (Ok number) after has
+begins_leaves {I} {O} {F} h part output apart input is_list name continues before r after (beginning.has_part number path refusal mid has p c is) =
+    then_leaves h part before mid after (has_leaves {F = F} h part output apart input is_list before (Ok number) mid has) (still_leaves h part mid after (checks_part (folders_do {F = F} h) (are_quiet h) path.items mid (Err refusal) after c))
+begins_leaves {I} {O} {F} h part output apart input is_list name continues before r after (beginning.in_use number path refusal mid checked has p c u is) =
+    then_leaves h part before mid after (has_leaves {F = F} h part output apart input is_list before (Ok number) mid has)
+    (still_leaves h part mid after (checks_use (folders_do {F = F} h) (are_quiet h) output continues checked (Err refusal) after u ∙ checks_part (folders_do {F = F} h) (are_quiet h) path.items mid (Ok _) checked c))
+begins_leaves {I} {O} {F} h part output apart input is_list name continues before r after (beginning.begun number path mid checked has p c u is) =
+    then_leaves h part before mid after (has_leaves {F = F} h part output apart input is_list before (Ok number) mid has)
+    (still_leaves h part mid after (checks_use (folders_do {F = F} h) (are_quiet h) output continues checked (Ok _) after u ∙ checks_part (folders_do {F = F} h) (are_quiet h) path.items mid (Ok _) checked c))
+
+-- ---- the run
+
+-- what is not begun, and that nothing is being written after a beginning
+still_none : {I O F : Type 0} (h : Host I O) (run : TreeRun) (input : List ℕ) (is_list : Bool) (before : FileSystem) (r : Result Begun Refusal) (after : FileSystem) → before.written ≡ None
+    → Begins (folders_do {F = F} h) input is_list run.output.now (part_of run) run.options.continues before r after → after.written ≡ None
+still_none {I} {O} {F} h run input is_list before r after none b =
+    let x : Leaves h (part_path run) run.output.now before after = leaves h (λ mode bytes. ⊥) (part_path run) run.output.now before after none (within (part_of run) refl)
+    (begins_by {F = F} h (λ mode bytes. ⊥) (part_path run) run.output.now idle refl input is_list (part_of run) run.options.continues before r after b) in
+    x.none
+
+visits_folder_leaves : {I O F W E : Type 0} (h : Host I O) (r : Reader I) (w : Writer O) (e : Writer E) (rows : Writer W) (run : TreeRun) (path : List ℕ) (begun : Begun) (opened : F) (manifest : W) (from : E) (before : FileSystem) (status : ℕ) (left : W) (to : E)
+    (after : FileSystem) → before.written ≡ None → begun.part.items ≡ part_path run → VisitsFolder (over {F = F} h r w e) rows run path begun opened manifest from before status left to after → LeavesPart h (part_path run) before after
+visits_folder_leaves h r w e rows run path begun opened manifest from before status left to after none part (spec.no_header failure puts close ends) = still_leaves h (part_path run) before after close
+visits_folder_leaves {I} {O} {F} h r w e rows run path begun opened manifest from before status left to after none part (spec.visited headed puts v) =
+    no_part_left {F = F} r w rows e h run path begun opened headed from before status left to after none part v
+
+opened_leaves : {I O F W E : Type 0} (h : Host I O) (r : Reader I) (w : Writer O) (e : Writer E) (rows : Writer W) (run : TreeRun) (path : List ℕ) (opened : F) (manifest : W) (from : E) (before : FileSystem) (status : ℕ) (left : W) (to : E) (after : FileSystem)
+    → place_of h run.output.now ≢ place_of h (part_path run) → before.written ≡ None → DoesOpened (over {F = F} h r w e) rows run path opened manifest from before status left to after → LeavesPart h (part_path run) before after
+opened_leaves {I} {O} {F} h r w e rows run path opened manifest from before status left to after apart none (spec.not_begun refusal tried b close refuses is) =
+    then_leaves h (part_path run) before tried after (begins_leaves {F = F} h (part_path run) run.output.now apart path false (part_of run) run.options.continues before (Err refusal) tried b) (still_leaves h (part_path run) tried after close)
+opened_leaves {I} {O} {F} h r w e rows run path opened manifest from before status left to after apart none (spec.was_begun begun mid b v) =
+    then_leaves h (part_path run) before mid after (begins_leaves {F = F} h (part_path run) run.output.now apart path false (part_of run) run.options.continues before (Ok begun) mid b)
+    (visits_folder_leaves {F = F} h r w e rows run path begun opened manifest from mid status left to after (still_none {F = F} h run path false before (Ok begun) mid none b)
+    (begun_part (folders_do {F = F} h) path false run.output.now (part_of run) run.options.continues before begun mid b) v)
+
+still_written : (before after : FileSystem) → after ≡ before → before.written ≡ None → after.written ≡ None
+still_written before after same none = ap (λ (s : FileSystem). s.written) same ∙ none
+
+in_folder : {I O F W E : Type 0} (h : Host I O) (r : Reader I) (w : Writer O) (e : Writer E) (rows : Writer W) (run : TreeRun) (path : List ℕ) (manifest : W) (from : E) (before : FileSystem) (status : ℕ) (left : W) (to : E) (after : FileSystem)
+    → place_of h run.output.now ≢ place_of h (part_path run) → before.written ≡ None → DoesFolder (over {F = F} h r w e) rows run path manifest from before status left to after → LeavesPart h (part_path run) before after
+in_folder h r w e rows run path manifest from before status left to after apart none (spec.too_long long refuses is same) = still_leaves h (part_path run) before after same
+in_folder {I} {O} {F} h r w e rows run path manifest from before status left to after apart none (spec.not_opened o refuses is) = still_leaves h (part_path run) before after (opens_tree {F = F} h path before None after o)
+in_folder {I} {O} {F} h r w e rows run path manifest from before status left to after apart none (spec.was_opened opened mid o does) =
+    let same : mid ≡ before = opens_tree {F = F} h path before (Some opened) mid o in
+    then_leaves h (part_path run) before mid after (still_leaves h (part_path run) before mid same)
+    (opened_leaves {F = F} h r w e rows run path opened manifest from mid status left to after apart (still_written before mid same none) does)
+
+visits_list_leaves : {I O F W E : Type 0} (h : Host I O) (r : Reader I) (w : Writer O) (e : Writer E) (rows : Writer W) (run : TreeRun) (list : List ℕ) (begun : Begun) (input : I) (manifest : W) (from : E) (before : FileSystem) (status : ℕ) (left : W) (to : E)
+    (after : FileSystem) (read : I) → before.written ≡ None → begun.part.items ≡ part_path run → VisitsList (over {F = F} h r w e) rows run list begun input manifest from before status left to after read → LeavesPart h (part_path run) before after
+visits_list_leaves h r w e rows run list begun input manifest from before status left to after read none part (spec.no_header failure puts ends same is) = still_leaves h (part_path run) before after same
+visits_list_leaves {I} {O} {F} h r w e rows run list begun input manifest from before status left to after read none part (spec.visited headed puts v) =
+    no_part_left_by_list {F = F} r w rows e h run list begun input headed from before status left to after read none part v
+
+names_leave : {I O F W E : Type 0} (h : Host I O) (r : Reader I) (w : Writer O) (e : Writer E) (rows : Writer W) (run : TreeRun) (list : List ℕ) (input : I) (manifest : W) (from : E) (before : FileSystem) (status : ℕ) (left : W) (to : E) (after : FileSystem) (read : I)
+    → place_of h run.output.now ≢ place_of h (part_path run) → before.written ≡ None → DoesNames (over {F = F} h r w e) rows run list input manifest from before status left to after read → LeavesPart h (part_path run) before after
+names_leave {I} {O} {F} h r w e rows run list input manifest from before status left to after read apart none (spec.not_begun refusal b refuses l is) =
+    begins_leaves {F = F} h (part_path run) run.output.now apart _ true (part_of run) run.options.continues before (Err refusal) after b
+names_leave {I} {O} {F} h r w e rows run list input manifest from before status left to after read apart none (spec.was_begun begun mid b v) =
+    then_leaves h (part_path run) before mid after (begins_leaves {F = F} h (part_path run) run.output.now apart _ true (part_of run) run.options.continues before (Ok begun) mid b)
+    (visits_list_leaves {F = F} h r w e rows run list begun input manifest from mid status left to after read (still_none {F = F} h run _ true before (Ok begun) mid none b)
+    (begun_part (folders_do {F = F} h) _ true run.output.now (part_of run) run.options.continues before begun mid b) v)
+
+in_list : {I O F W E : Type 0} (h : Host I O) (r : Reader I) (w : Writer O) (e : Writer E) (rows : Writer W) (run : TreeRun) (path : List ℕ) (manifest : W) (from : E) (before : FileSystem) (status : ℕ) (left : W) (to : E) (after : FileSystem)
+    → place_of h run.output.now ≢ place_of h (part_path run) → before.written ≡ None → DoesList (over {F = F} h r w e) rows run path manifest from before status left to after → LeavesPart h (part_path run) before after
+in_list {I} h r w e rows run path manifest from before status left to after apart none (spec.not_opened error o told s l) = still_leaves h (part_path run) before after (opens_input {I = I} h path before (Err error) after o)
+in_list {I} {O} {F} h r w e rows run path manifest from before status left to after apart none (spec.was_opened o read mid done opens does back) =
+    let same : mid ≡ before = opens_input {I = I} h path before (Ok o) mid opens in
+    then_leaves h (part_path run) before mid after (still_leaves h (part_path run) before mid same)
+    (then_leaves h (part_path run) mid done after
+    (names_leave {F = F} h r w e rows run path o.device manifest from mid status left to done read apart (still_written before mid same none) does) (still_leaves h (part_path run) done after back))
+
+pub after_run : {I O F W E : Type 0} (r : Reader I) (w : Writer O) (rows : Writer W) (e : Writer E) → NoPartAfterRun F r w rows e
+after_run {I} {O} {F} r w rows e h run source start manifest from status left to after apart (spec.of_folder path is does) = in_folder {F = F} h r w e rows run path manifest from _ status left to after apart refl does
+after_run {I} {O} {F} r w rows e h run source start manifest from status left to after apart (spec.of_list path is does) = in_list {F = F} h r w e rows run path manifest from _ status left to after apart refl does

@@ -1,0 +1,9 @@
+pub mod FileSystem
+pub mod Stays
+pub mod Whole
+pub mod Rows
+pub mod Laws
+pub mod OneRow
+pub mod Outputs
+pub mod Part
+pub mod Single

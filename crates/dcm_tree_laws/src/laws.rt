@@ -1,0 +1,57 @@
+//! Laws of the definitions. Each function takes nothing and makes no call: its contract is the law.
+ghost use Rattle.dcm_trees.specs.World.{world};
+ghost use Rattle.dcm_tree_laws.specs.Laws.{NeverHalf, NeverHalfByWords, OthersStay, OthersStayByWords};
+ghost use Rattle.dcm_tree_laws.specs.OneRow.{OneRow, OneRowOfList};
+ghost use Rattle.dcm_tree_laws.specs.Outputs.{WrittenIsThere, WrittenIsThereOfList};
+ghost use Rattle.dcm_tree_laws.specs.Part.{NoPartAfterRun, NoPartLeft, NoPartLeftByList};
+ghost use Rattle.dcm_tree_laws.specs.Single.{SingleRuns, SingleRunsOfList};
+
+use dcm_base::{DeviceIn, DeviceOut};
+use dcm_files::Folders;
+
+/// A run over a tree leaves what was there. Each file stays, with its bytes, its number and its mode, each folder and
+/// each link. So it is after each of its calls, also where it is cut off there, and whatever calls fail. What is new is
+/// below the folder of the outputs, or that folder. Where a path leads is not changed by others meanwhile.
+pub fn others_stay<I: DeviceIn, O: DeviceOut, W: DeviceOut, E: DeviceOut, F>()
+    ensures run { OthersStay F I.DeviceIn O.DeviceOut W.DeviceOut E.DeviceOut }
+    ensures words { OthersStayByWords F I.DeviceIn O.DeviceOut E.DeviceOut }
+{}
+
+/// No output of a tree is half under its name. After each call of a run over one, whatever calls fail, each file that
+/// was not there before has all the bytes that its output took of a job that was done. The run's own part is set aside.
+pub fn never_half<I: DeviceIn, O: DeviceOut, W: DeviceOut, E: DeviceOut, F>()
+    ensures run { NeverHalf F I.DeviceIn O.DeviceOut W.DeviceOut E.DeviceOut }
+    ensures words { NeverHalfByWords F I.DeviceIn O.DeviceOut E.DeviceOut }
+{}
+
+/// The manifest of a tree has one row for each name. These are the names of a run's share that it visits, in their
+/// order. So it is over any system, where the run does not end before its last name.
+pub fn one_row<S: Folders, W: DeviceOut, E: DeviceOut>()
+    ensures folder { OneRow (world S.may_do S.folders_do S.Input.DeviceIn S.Output.DeviceOut E.DeviceOut) W.DeviceOut }
+    ensures list { OneRowOfList (world S.may_do S.folders_do S.Input.DeviceIn S.Output.DeviceOut E.DeviceOut)
+        W.DeviceOut }
+{}
+
+/// A row that says that an output was written is right. At the end of a run the file is at its path in the folder of
+/// the outputs, by its name or by that of the instance in it, with all the bytes that its output took of a job that was
+/// done. So it is of a run that was begun and did not end before its last name.
+pub fn written_is_there<I: DeviceIn, O: DeviceOut, W: DeviceOut, E: DeviceOut, F>()
+    ensures folder { WrittenIsThere F I.DeviceIn O.DeviceOut W.DeviceOut E.DeviceOut }
+    ensures list { WrittenIsThereOfList F I.DeviceIn O.DeviceOut W.DeviceOut E.DeviceOut }
+{}
+
+/// A run over a tree leaves no part. So it is where no removing of a file failed, also of a run that ends before its
+/// last name. At the path of the part is what was there before, and that is nothing where a run is begun.
+pub fn no_part_left<I: DeviceIn, O: DeviceOut, W: DeviceOut, E: DeviceOut, F>()
+    ensures run { NoPartAfterRun F I.DeviceIn O.DeviceOut W.DeviceOut E.DeviceOut }
+    ensures folder { NoPartLeft F I.DeviceIn O.DeviceOut W.DeviceOut E.DeviceOut }
+    ensures list { NoPartLeftByList F I.DeviceIn O.DeviceOut W.DeviceOut E.DeviceOut }
+{}
+
+/// Each output of a tree is that of a single run. The file of a row that says that it was written has the mode of the
+/// file that was found at the row's name, less the bits that the system takes away. Its bytes are the answer of the
+/// tool to the bytes that the file there had at the start of the run, be it named by that or by the instance in it.
+pub fn outputs_are_single_runs<I: DeviceIn, O: DeviceOut, W: DeviceOut, E: DeviceOut, F>()
+    ensures folder { SingleRuns F I.DeviceIn O.DeviceOut W.DeviceOut E.DeviceOut }
+    ensures list { SingleRunsOfList F I.DeviceIn O.DeviceOut W.DeviceOut E.DeviceOut }
+{}
