@@ -168,6 +168,23 @@ pub fn dumped(part: &Part) -> ArrayVec<u8, MOST_DUMPED>
     }
 }
 
+/// Appends what a dump shows of some bytes, at most four: what `dumped` gives of a part that they are.
+pub fn append_dumped<const N: usize>(bytes: &[u8], meaning: Meaning, text: &mut ArrayVec<u8, N>)
+    requires few { length bytes.now ≤ 4 }
+    requires room { length text.old.items + 12 ≤ N }
+    ensures items { text.new.items ≡ text.old.items ++ spec.dumped_piece (bytes.now, meaning) }
+    ensures within { length text.new.items ≤ length text.old.items + 12 }
+{
+    match meaning {
+        Meaning::Character(character) if is_dumped(character) => {
+            let mut buffer = [0; 4];
+            append(character.encode_utf8(&mut buffer).as_bytes(), text);
+        }
+        Meaning::Character(_) | Meaning::Unknown => append(percents(bytes).as_slice(), text),
+        Meaning::Designation => (),
+    }
+}
+
 /// What a cell shows of a part: a character as it is, and bytes without a character as `\xNN`; of a designation nothing.
 pub fn in_cell(part: &Part) -> ArrayVec<u8, MOST_IN_CELL>
     ensures { result.items ≡ spec.cell_piece (piece_of part.now) }
