@@ -1,5 +1,5 @@
 //! A text that is there as a whole, piece by piece.
-ghost use Rattle.std.specs.Prelude.{◌≡◌, ◌≤◌, ◌∷◌, [], ◌++◌, true, List, length, take, map, IfSome, MatchOption};
+ghost use Rattle.std.specs.Prelude.{◌≡◌, ◌≤◌, ◌∷◌, [], ◌++◌, true, List, length, take, map, IfSome, IfNone, MatchOption};
 ghost use Rattle.std.specs.List.{list_all};
 ghost use Rattle.dcm_text.specs.Decoding.{decoded};
 ghost use Rattle.dcm_text.specs.First as first;
@@ -56,6 +56,7 @@ impl<'a> TextPieces<'a> {
     pub fn next(&mut self) -> Option<(&'a [u8], Meaning)>
         ensures left { MatchOption result (pieces_left self.old ≡ [])
             (λ p. pieces_left self.old ≡ (p.0.now, p.1) ∷ pieces_left self.new) }
+        ensures ended { IfNone result (self.new ≡ self.old) }
         ensures bytes { IfSome result (λ p. self.old.rest.now ≡ p.0.now ++ self.new.rest.now) }
         ensures some { IfSome result (λ p. 1 ≤ length p.0.now) }
         ensures few { IfSome result (λ p. length p.0.now ≤ 4) }
