@@ -1,5 +1,5 @@
 // The lines of a dump whose texts are shown by characters.
-ghost use Rattle.std.specs.Prelude.{◌≡◌, OnOk, false, map, fold};
+ghost use Rattle.std.specs.Prelude.{◌≡◌, true, OnOk, false, map, fold};
 ghost use Rattle.std.specs.Option.{ForSome};
 ghost use Rattle.dcm_base.specs.Steps.Atoms.{value_byte, closes_leaf};
 ghost use Rattle.dcm_devices.specs.Writing.{Wrote};
