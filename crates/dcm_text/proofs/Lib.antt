@@ -1,5 +1,6 @@
 pub mod Terms
 pub mod Firsts
+pub mod Gaps
 pub mod Sizes
 pub mod Pieces
 pub mod Calls

@@ -112,3 +112,13 @@ pub found_whole : (at_end : Bool) (sets : Sets) (kind : TextKind) (halves : Halv
 found_whole true sets kind halves text more f none e = ap (found true sets kind halves) (nothing_behind text more (none refl)) ∙ e
 found_whole false sets kind halves text more f none e =
     found_some true sets kind halves (text ++ more) f (first_more sets kind halves text more f e)
+
+-- where nothing is found to the end, nothing is left
+pub none_left : (sets : Sets) (kind : TextKind) (halves : Halves) (text : List ℕ) → found true sets kind halves text ≡ None
+    → decoded_from sets kind halves text ≡ []
+unfolding decoded_from
+none_left sets kind halves [] e = refl
+none_left sets kind halves (b ∷ rest) e = absurd (some_none (or_unknown halves (first_of sets kind halves (b ∷ rest))) e)
+  where
+    some_none : (f : Found) → (let o : Option Found = Some f in o ≡ None) → ⊥
+    some_none f h = cc

@@ -76,3 +76,27 @@ pub plain_decoded : (sets : Sets) (kind : TextKind) (text : List ℕ) → list_a
     → decoded sets kind text ≡ map as_itself text
 unfolding decoded
 plain_decoded sets kind text e = plain_from sets kind text e
+
+-- in front of other bytes it stands for itself too
+plain_ahead : (sets : Sets) (kind : TextKind) (front after : List ℕ) → list_all (is_plain sets) front ≡ true
+    → decoded_from sets kind (start_of sets) (front ++ after) ≡ map as_itself front ++ decoded_from sets kind (start_of sets) after
+plain_ahead sets kind [] after e = refl
+plain_ahead sets kind (b ∷ front) after e =
+    let both = and_parts (is_plain sets b) (list_all (is_plain sets) front) e in
+    let this = and_parts (nat_lt b 0x80) (not (is_escape sets b)) both.0 in
+    one_piece sets kind (start_of sets) (b ∷ (front ++ after)) (plain_found sets b)
+    (ap (λ (o : Option Found). Some (or_unknown (start_of sets) o))
+    (plain_first sets kind b (front ++ after) this.0 (not_false (is_escape sets b) this.1)))
+    ∙ ap (λ (ps : List Piece). as_itself b ∷ ps) (plain_ahead sets kind front after both.1)
+
+pub plain_passed : (sets : Sets) (kind : TextKind) (halves : Halves) (text front after : List ℕ) (size : ℕ) → halves ≡ start_of sets
+    → list_all (is_plain sets) (take size text) ≡ true → front ≡ take size text → after ≡ drop size text
+    → decoded_from sets kind halves text ≡ map as_itself front ++ decoded_from sets kind halves after
+plain_passed sets kind halves text front after size is e f a =
+    let start : Halves = start_of sets in
+    let whole : front ++ after ≡ text =
+    ap (λ (x : List ℕ). x ++ after) f ∙ ap (λ (x : List ℕ). take size text ++ x) a ∙ take-append-drop size text in
+    ap (λ (h : Halves). decoded_from sets kind h text) is
+    ∙ ap (decoded_from sets kind start) (sym whole)
+    ∙ plain_ahead sets kind front after (ap (list_all (is_plain sets)) f ∙ e)
+    ∙ ap (λ (h : Halves). map as_itself front ++ decoded_from sets kind h after) (sym is)

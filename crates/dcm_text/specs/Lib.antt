@@ -5,5 +5,6 @@ pub mod Forms
 pub mod First
 pub mod Decoding
 pub mod Runs
+pub mod TextPieces
 pub mod Shown
 pub mod Laws

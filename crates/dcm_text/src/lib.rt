@@ -4,6 +4,7 @@
 //! - `sets_of` reads a value of (0008,0005): `Sets` are what is in force by it.
 //! - A `Decoder` takes a text in pieces of any size, and gives `Part`s: a character with its bytes, bytes without a
 //!   character, or a designation, which shows nothing. It holds at most three bytes, those of which nothing is decided yet.
+//! - `TextPieces` takes a text that is there as a whole, copies nothing, and gives the same.
 //! - `dumped` is what a dump shows of a part, and `in_cell` what a cell of a table does.
 //!
 //! A text that is whole:
@@ -23,9 +24,11 @@ mod set;
 mod sets;
 mod shown;
 mod tables;
+mod text_pieces;
 
 pub use decoder::{Decoder, Part};
 pub use first::Meaning;
 pub use set::TextKind;
 pub use sets::{Sets, sets_of};
-pub use shown::{dumped, in_cell, is_hidden};
+pub use shown::{append_dumped, dumped, in_cell, is_hidden};
+pub use text_pieces::TextPieces;

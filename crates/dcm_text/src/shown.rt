@@ -1,5 +1,5 @@
 //! What a part shows, in a dump and in a cell of a table.
-ghost use Rattle.std.specs.Prelude.{◌≡◌, ◌≤◌, ◌<◌, ◌+◌, ◌*◌, ◌++◌, flat_map, length, encode_utf8};
+ghost use Rattle.std.specs.Prelude.{◌≡◌, true, false, ◌≤◌, ◌<◌, ◌+◌, ◌*◌, ◌++◌, flat_map, length, encode_utf8};
 ghost use Rattle.std.specs.List.{list_any};
 ghost use Rattle.dcm_text.specs.Characters.{is_between};
 ghost use Rattle.dcm_text.specs.Decoding.{piece_of};
@@ -54,7 +54,26 @@ pub fn is_hidden(character: char) -> bool
     ensures { result ≡ spec.is_hidden character }
 {
     let number = u32::from(character);
+    if is_in_gap(number) {
+        return false;
+    }
     number % 0x1_0000 >= 0xFFFE || is_in(hidden(), number)
+}
+
+/// Whether a character lies in one of the long gaps between those of the table. Nearly all letters do: ASCII, Latin,
+/// Greek and Cyrillic, Hebrew to Georgian, kana, and kanji with hangul. The table is not looked through for them.
+fn is_in_gap(number: u32) -> bool
+    ensures { result ≡ true → spec.is_hidden number ≡ false }
+{
+    matches!(
+        number,
+        0x20..=0x7E
+            | 0xAE..=0x34E
+            | 0x350..=0x61B
+            | 0x61D..=0x115E
+            | 0x2070..=0x3163
+            | 0x3165..=0xFDCF
+    )
 }
 
 /// Whether a dump shows a character as it is.
@@ -146,6 +165,23 @@ pub fn dumped(part: &Part) -> ArrayVec<u8, MOST_DUMPED>
         Meaning::Character(character) if is_dumped(character) => encoded(character),
         Meaning::Character(_) | Meaning::Unknown => percents(part.bytes.as_slice()),
         Meaning::Designation => ArrayVec::new(),
+    }
+}
+
+/// Appends what a dump shows of some bytes, at most four: what `dumped` gives of a part that they are.
+pub fn append_dumped<const N: usize>(bytes: &[u8], meaning: Meaning, text: &mut ArrayVec<u8, N>)
+    requires few { length bytes.now ≤ 4 }
+    requires room { length text.old.items + 12 ≤ N }
+    ensures items { text.new.items ≡ text.old.items ++ spec.dumped_piece (bytes.now, meaning) }
+    ensures within { length text.new.items ≤ length text.old.items + 12 }
+{
+    match meaning {
+        Meaning::Character(character) if is_dumped(character) => {
+            let mut buffer = [0; 4];
+            append(character.encode_utf8(&mut buffer).as_bytes(), text);
+        }
+        Meaning::Character(_) | Meaning::Unknown => append(percents(bytes).as_slice(), text),
+        Meaning::Designation => (),
     }
 }
 

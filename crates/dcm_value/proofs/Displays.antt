@@ -27,3 +27,4 @@ pub mod DecodedAsBefore
 pub mod DecodedUtf8
 pub mod DecodedShort
 pub mod PlainRuns
+pub mod WholeTexts

@@ -1,13 +1,13 @@
 -- What a dump shows of a whole value by Specific Character Set.
-use Rattle.std.specs.Prelude.{ℕ, ◌+◌, false, nat_lt, if◌then◌else◌, List, [], ◌∷◌, ◌++◌, length, take, codes}
+use Rattle.std.specs.Prelude.{ℕ, ◌+◌, Bool, true, false, flat_map, nat_lt, if◌then◌else◌, List, [], ◌∷◌, ◌++◌, length, take, codes}
 use Rattle.dcm_base.specs.declared.vr.Vr.{Vr}
 use Rattle.dcm_base.specs.declared.mode.Mode.{Mode}
 use Rattle.dcm_base.specs.declared.mode.Mode.TheVariants.{Short, Full}
 use Rattle.dcm_base.specs.Dump.ValueText.{is_single, unpadded, padded}
 use Rattle.dcm_text.specs.declared.sets.Sets.{Sets}
-use Rattle.dcm_text.specs.Decoding.{decoded}
+use Rattle.dcm_text.specs.Decoding.{Piece, decoded}
 use Rattle.dcm_text.specs.Runs.{begun, run}
-use Rattle.dcm_text.specs.Shown.{dumped}
+use Rattle.dcm_text.specs.Shown.{dumped, dumped_piece}
 use Rattle.dcm_value.specs.Decoded.{backslashes, cut_size}
 use Rattle.dcm_value.specs.DecodedProgress.{sets_for, kind_of, is_named, decoded_identified, shown_pieces}
 
@@ -39,3 +39,11 @@ decoded_text_of mode vr sets v = padded (decoded_shortened mode (decoded_display
 abbrev pub decoded_so_far : Vr → Sets → ℕ → List ℕ → List ℕ
 decoded_so_far vr sets size v =
     if is_named vr size then [] else codes "[" ++ shown_pieces (run false (begun (sets_for vr sets) (kind_of vr)) v)
+
+-- pieces of a text, in brackets
+abbrev pub bracketed_pieces : List Piece → List ℕ
+bracketed_pieces pieces = codes "[" ++ flat_map dumped_piece pieces ++ codes "]"
+
+abbrev pub is_short : Mode → Bool
+is_short Short = true
+is_short Full = false

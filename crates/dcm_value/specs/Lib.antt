@@ -18,4 +18,5 @@ pub mod DecodedProgress
 pub mod DecodedText
 pub mod DecodedDisplay
 pub mod DecodedLaws
+pub mod NextPiece
 pub mod NextShown

@@ -13,7 +13,7 @@ use crate::next_shown::next_shown;
 use crate::units::append;
 use arrayvec::ArrayVec;
 use dcm_base::{DeviceOut, Watched, WriteFailed, uid_name};
-use dcm_text::{Decoder, Meaning, Part, Sets, TextKind};
+use dcm_text::{Decoder, Meaning, Sets, TextKind};
 
 /// What the empty value of Specific Character Set names: bytes from 80 on have no character.
 pub fn default_sets() -> Sets
@@ -22,11 +22,11 @@ pub fn default_sets() -> Sets
     Sets::DEFAULT
 }
 
-/// Whether a part is a backslash, which parts values.
-pub fn is_backslash(part: &Part) -> bool
-    ensures { result ≡ spec.is_backslash part.now.meaning }
+/// Whether something is a backslash, which parts values.
+pub fn is_backslash(meaning: Meaning) -> bool
+    ensures { result ≡ spec.is_backslash meaning }
 {
-    matches!(part.meaning, Meaning::Character('\\'))
+    matches!(meaning, Meaning::Character('\\'))
 }
 
 /// Whether a byte goes on a character of UTF-8.
@@ -47,7 +47,7 @@ fn goes_on_at(display: &[u8], at: usize) -> bool
 }
 
 /// How many bytes are left of a display of more than 66: 63, or those before the character that byte 64 goes on.
-fn cut_size(display: &[u8]) -> usize
+pub fn cut_size(display: &[u8]) -> usize
     ensures value { result ≡ spec.cut_size display.now }
     ensures most { result ≤ 63 }
 {

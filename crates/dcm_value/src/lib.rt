@@ -4,7 +4,7 @@
 //!   value in any pieces and writes the text as it goes; with `Mode::Short` it holds the 66 bytes that may be cut.
 //! - `DecodedText` is the same by Specific Character Set, for values that are shown in brackets or by name: characters in
 //!   UTF-8, and bytes without a character by their numbers.
-//! - `append_decoded` appends to a line what `DecodedText` shows of a whole value, without a state, where it is not cut.
+//! - `append_decoded` appends to a line what `DecodedText` shows of a whole value, without a state, where that fits a line.
 //! - `is_plain_value` tells whether a value is its bytes by each of these sets, so that `ValueText` shows the same.
 //! - `append_whole` appends to a line what a dump shows of a whole value, without a state, where that is known at once,
 //!   and `append_few` does so for few numbers.
@@ -30,6 +30,7 @@ mod few;
 mod hexadecimal;
 mod lanes;
 pub mod laws;
+mod next_piece;
 mod next_shown;
 mod parts;
 mod reading;

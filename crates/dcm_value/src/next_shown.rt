@@ -80,7 +80,7 @@ fn next_part<'a>(
     ensures none { IfNone result (run at_end (state_of decoder.old) input.now ≡ ([], state_of decoder.new)) }
 {
     match decoder.next(input, at_end) {
-        Some((part, after)) => Some((Next::Part(dumped(&part), is_backslash(&part)), after)),
+        Some((part, after)) => Some((Next::Part(dumped(&part), is_backslash(part.meaning)), after)),
         None => None,
     }
 }

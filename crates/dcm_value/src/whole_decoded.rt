@@ -1,32 +1,40 @@
-// The display of a whole value by Specific Character Set, where it is not cut.
-ghost use Rattle.std.specs.Prelude.{◌≡◌, ◌&&◌, if◌then◌else◌, ◌+◌, ◌<◌, ◌≤◌, ◌^◌, true, [], ◌++◌, length, codes, not, nat_le};
-ghost use Rattle.std.specs.Prelude.{IfSome, MatchOption, is_some};
-ghost use Rattle.dcm_base.specs.declared.mode.Mode.{Mode as AnyMode};
+// The display of a whole value by Specific Character Set.
+ghost use Rattle.std.specs.Prelude.{◌≡◌, ◌&&◌, ◌||◌, ◌==◌, if◌then◌else◌, ◌+◌, ◌<◌, ◌≤◌, ◌^◌, true, [], ◌++◌, length};
+ghost use Rattle.std.specs.Prelude.{codes, take, flat_map, not, nat_le, MatchOption, is_some};
 ghost use Rattle.dcm_base.specs.Dump.ValueText.{padded, is_single as is_one};
-ghost use Rattle.dcm_text.specs.Decoding.{decoded};
-ghost use Rattle.dcm_text.specs.Runs.{run, state_of, bytes_left};
-ghost use Rattle.dcm_text.specs.Shown.{dumped as dumped_text};
-ghost use Rattle.dcm_value.specs.Decoded.{backslashes};
+ghost use Rattle.dcm_text.specs.Shown.{dumped_piece};
+ghost use Rattle.dcm_text.specs.TextPieces.{pieces_left};
+ghost use Rattle.dcm_value.specs.Decoded.{backslashes, cut_size as spec_cut};
 ghost use Rattle.dcm_value.specs.DecodedDisplay as spec;
-ghost use Rattle.dcm_value.specs.DecodedProgress.{is_named, shown_pieces};
+ghost use Rattle.dcm_value.specs.DecodedProgress.{is_named};
 
+use crate::decoded::cut_size;
 use crate::decoded_text::{kind_of, may_have_name, read_by};
 use crate::display::append_spaces;
-use crate::next_shown::next_shown;
+use crate::next_piece::next_of;
 use crate::units::append;
 use crate::way::{is_single, unpadded};
 use crate::whole::append_no_value;
 use arrayvec::ArrayVec;
-use dcm_base::Vr;
-use dcm_text::{Decoder, Sets, TextKind};
+use dcm_base::{Mode, Vr};
+use dcm_text::{Sets, TextPieces};
 
 /// The longest display that is not cut.
 const UNCUT: usize = 66;
 
-/// Appends what a dump shows of a whole value by Specific Character Set, with the spaces up to 40 bytes, where it is not
-/// cut, so that both modes show the same. The answer is how many values there are; or nothing, and then nothing is
-/// appended. A value that may have a name, a unique identifier of at most 64 bytes, is left to `DecodedText`.
+/// The most bytes of ASCII that are shown at once.
+const RUN: usize = 64;
+
+/// The room for a display that is not cut, or for the front of a longer one: one step shows at most so many bytes, or
+/// the twelve of a piece.
+const ROOM: usize = UNCUT + RUN + 12;
+
+/// Appends what a dump shows of a whole value by Specific Character Set, with the spaces up to 40 bytes. In short mode a
+/// long display is cut, and no character of it. The answer is how many values there are; or nothing, and then nothing is
+/// appended: of a value that may have a name, a unique identifier of at most 64 bytes, and in full mode of a display of
+/// more than 66 bytes. Both are left to `DecodedText`.
 pub fn append_decoded<const N: usize>(
+    mode: Mode,
     vr: Vr,
     sets: Sets,
     value: &[u8],
@@ -34,13 +42,11 @@ pub fn append_decoded<const N: usize>(
 ) -> Option<u64>
     requires room { length line.old.items + 66 ≤ N }
     ensures items { MatchOption result (line.new.items ≡ line.old.items)
-        (λ n. (line.new.items ≡ line.old.items ++ padded (spec.decoded_display vr sets value.now))
+        (λ n. (line.new.items ≡ line.old.items ++ spec.decoded_text_of mode vr sets value.now)
         × (n ≡ spec.decoded_count vr sets value.now)) }
-    ensures modes { (mode : AnyMode) → IfSome result (λ n.
-        line.new.items ≡ line.old.items ++ spec.decoded_text_of mode vr sets value.now) }
     ensures within { length line.new.items ≤ length line.old.items + 66 }
-    ensures known { is_some result
-        ≡ (not (is_named vr (length value.now)) && nat_le (length (spec.decoded_display vr sets value.now)) 66) }
+    ensures known { is_some result ≡ (not (is_named vr (length value.now))
+        && (spec.is_short mode || nat_le (length (spec.decoded_display vr sets value.now)) 66)) }
 {
     if may_have_name(vr, value.len()) {
         return None;
@@ -49,14 +55,43 @@ pub fn append_decoded<const N: usize>(
         append_no_value(line);
         return Some(0);
     }
-    let mut shown = ArrayVec::new();
     let text = unpadded(vr, value);
-    let Some(backslashes) = show_bracketed(read_by(vr, sets), kind_of(vr), text, &mut shown) else {
-        return None;
-    };
-    append(shown.as_slice(), line);
-    append_spaces(shown.len(), line);
-    Some(count(vr, backslashes))
+    let mut pieces = TextPieces::new(read_by(vr, sets), kind_of(vr), text);
+    append_text(mode, vr, &mut pieces, line)
+}
+
+/// The same for a text that has some bytes, or had a pad byte, and has no name.
+fn append_text<const N: usize>(
+    mode: Mode,
+    vr: Vr,
+    pieces: &mut TextPieces,
+    line: &mut ArrayVec<u8, N>,
+) -> Option<u64>
+    requires room { length line.old.items + 66 ≤ N }
+    ensures items { MatchOption result (line.new.items ≡ line.old.items)
+        (λ n. (line.new.items ≡ line.old.items
+            ++ padded (spec.decoded_shortened mode (spec.bracketed_pieces (pieces_left pieces.old))))
+        × (n ≡ (if is_one vr then 1 else 1 + backslashes (pieces_left pieces.old)))) }
+    ensures within { length line.new.items ≤ length line.old.items + 66 }
+    ensures known { is_some result
+        ≡ (spec.is_short mode || nat_le (length (spec.bracketed_pieces (pieces_left pieces.old))) 66) }
+{
+    let mut shown = ArrayVec::new();
+    shown.push(b'[');
+    let front = show_front(pieces, &mut shown);
+    if shown.len() < UNCUT {
+        shown.push(b']');
+        append(shown.as_slice(), line);
+        append_spaces(shown.len(), line);
+        return Some(count(vr, front));
+    }
+    match mode {
+        Mode::Short => {
+            append_cut(shown.as_slice(), line);
+            Some(count_all(vr, front, pieces))
+        }
+        Mode::Full => None,
+    }
 }
 
 /// How many values a text has that has so many backslashes.
@@ -67,58 +102,58 @@ fn count(vr: Vr, backslashes: u64) -> u64
     if is_single(vr) { 1 } else { backslashes + 1 }
 }
 
-/// Shows a text in brackets, unless it is too long, and counts its backslashes.
-fn show_bracketed(
-    sets: Sets,
-    kind: TextKind,
-    text: &[u8],
-    shown: &mut ArrayVec<u8, UNCUT>,
-) -> Option<u64>
-    requires { shown.old.items ≡ [] }
-    ensures { MatchOption result (66 < length (codes "[" ++ dumped_text sets kind text.now ++ codes "]"))
-        (λ n. (shown.new.items ≡ codes "[" ++ dumped_text sets kind text.now ++ codes "]")
-        × (n ≡ backslashes (decoded sets kind text.now)) × (n < 2 ^ 63)) }
+/// The same, where some pieces were not looked at: they need not be, where a text is always one value.
+fn count_all(vr: Vr, front: u64, pieces: &mut TextPieces) -> u64
+    requires { front + length pieces.old.rest.now < 2 ^ 63 }
+    ensures { result ≡ (if is_one vr then 1 else 1 + (front + backslashes (pieces_left pieces.old))) }
 {
-    let mut decoder = Decoder::new(sets, kind);
-    shown.push(b'[');
-    let Some(count) = show_parts(&mut decoder, text, shown) else {
-        return None;
-    };
-    if append_within(b"]", shown) {
-        Some(count)
-    } else {
-        None
+    if is_single(vr) {
+        return 1;
     }
+    front + count_rest(pieces) + 1
 }
 
-/// Shows all parts of a text, unless they are too long, and counts the backslashes among them.
-fn show_parts(decoder: &mut Decoder, text: &[u8], shown: &mut ArrayVec<u8, UNCUT>) -> Option<u64>
-    requires { bytes_left decoder.old text.now < 2 ^ 63 }
-    ensures { let all = run true (state_of decoder.old) text.now in
-        MatchOption result (66 < length (shown.old.items ++ shown_pieces all))
-        (λ n. (shown.new.items ≡ shown.old.items ++ shown_pieces all) × (n ≡ backslashes all.0)
-        × (n ≤ bytes_left decoder.old text.now)) }
+/// How many backslashes there are in what is left.
+fn count_rest(pieces: &mut TextPieces) -> u64
+    requires { length pieces.old.rest.now < 2 ^ 63 }
+    ensures count { result ≡ backslashes (pieces_left pieces.old) }
+    ensures few { result ≤ length pieces.old.rest.now }
 {
     let mut count = 0;
-    let mut rest = text;
-    while let Some((next, after)) = next_shown(decoder, rest, true) {
-        if !append_within(next.bytes(), shown) {
-            return None;
-        }
+    while let Some(next) = next_of(pieces, usize::MAX) {
         count += next.backslashes() as u64;
-        rest = after;
     }
-    Some(count)
+    count
 }
 
-/// Appends bytes, if there is room for all of them.
-fn append_within<const N: usize>(bytes: &[u8], text: &mut ArrayVec<u8, N>) -> bool
-    ensures fits { result ≡ nat_le (length text.old.items + length bytes.now) N }
-    ensures items { text.new.items ≡ (if result then text.old.items ++ bytes.now else text.old.items) }
+/// Shows pieces until nothing is left, or the display will be long, and counts the backslashes among them.
+fn show_front(pieces: &mut TextPieces, shown: &mut ArrayVec<u8, ROOM>) -> u64
+    requires begun { length shown.old.items ≤ 65 }
+    requires few { length pieces.old.rest.now < 2 ^ 63 }
+    ensures shown { shown.new.items ++ flat_map dumped_piece (pieces_left pieces.new)
+        ≡ shown.old.items ++ flat_map dumped_piece (pieces_left pieces.old) }
+    ensures ended { length shown.new.items ≤ 65 → pieces_left pieces.new ≡ [] }
+    ensures count { result + backslashes (pieces_left pieces.new) ≡ backslashes (pieces_left pieces.old) }
+    ensures few { result + length pieces.new.rest.now ≤ length pieces.old.rest.now }
 {
-    let fits = bytes.len() <= text.remaining_capacity();
-    if fits {
-        append(bytes, text);
+    let mut count = 0;
+    while shown.len() < UNCUT {
+        let Some(next) = next_of(pieces, RUN) else {
+            return count;
+        };
+        next.show(RUN, shown);
+        count += next.backslashes() as u64;
     }
-    fits
+    count
+}
+
+/// Appends the front of a display that is longer than 66 bytes, and the dots.
+fn append_cut<const N: usize>(display: &[u8], line: &mut ArrayVec<u8, N>)
+    requires { length line.old.items + 66 ≤ N }
+    ensures items { line.new.items ≡ line.old.items ++ (take (spec_cut display.now) display.now ++ codes "...") }
+    ensures within { length line.new.items ≤ length line.old.items + 66 }
+{
+    let (left, _) = display.split_at(cut_size(display).min(display.len()));
+    append(left, line);
+    append(b"...", line);
 }

@@ -226,6 +226,35 @@ module _ (sets : Sets) (s : TextState) (tag : Tag) (vr : Vr) (declared : Length)
       ap (λ (t : Bool). text_opens_writes t sets s tag vr declared syntax ++ text_dumps sets (text_opens t sets s tag vr declared syntax) (map value_byte v ++ closes_leaf ∷ [])) e
       ∙ ap (λ (xs : List ℕ). dump_writes s.lines opening ++ xs) (value_passed sets (dump_step s.lines opening) v)
 
+-- ---- a text that is whole
+
+module _ (sets : Sets) (s : TextState) (head : Head) (syntax : Syntax) (v : List ℕ) (leaf : IsLeaf head syntax v) (text : opens_text s head.tag head.vr head.length syntax ≡ true) where
+  abbrev whole : Length → List Atom
+  whole l = opens head.tag head.vr l syntax ∷ (map value_byte v ++ closes_leaf ∷ [])
+
+  opens_whole : opens_text s head.tag head.vr (Known (length v)) syntax ≡ true
+  opens_whole = sym (ap (λ (l : Length). opens_text s head.tag head.vr l syntax) leaf.length_is) ∙ text
+
+  pub whole_leaves : fold (text_step sets) s (whole_atoms head syntax v) ≡ out_of_text (closed_lines s.lines)
+  whole_leaves =
+      ap (λ (l : Length). fold (text_step sets) s (whole l)) leaf.length_is
+      ∙ text_leaves sets s head.tag head.vr syntax v opens_whole
+
+  pub whole_shown : text_dumps sets s (whole_atoms head syntax v)
+      ≡ (line_start (length s.lines.lengths) head.tag (letters head.vr) ++ decoded_text_of s.lines.mode head.vr sets v)
+      ++ line_rest s.lines.dictionary head.tag head.length (decoded_count head.vr sets v)
+  whole_shown =
+      let d = s.lines.dictionary in
+      let mode : Mode = s.lines.mode in
+      let level : ℕ = length s.lines.lengths in
+      let vr : Vr = head.vr in
+      let start : List ℕ = line_start level head.tag (letters vr) in
+      ap (λ (l : Length). text_dumps sets s (whole l)) leaf.length_is
+      ∙ text_shown sets s head.tag vr syntax v opens_whole
+      ∙ line_in_parts d level head.tag (letters vr) (decoded_shortened mode (decoded_display vr sets v)) (Known (length v)) (decoded_count vr sets v)
+      ∙ sym (ap (λ (l : Length). start ++ (decoded_text_of mode vr sets v ++ line_rest d head.tag l (decoded_count vr sets v))) leaf.length_is)
+      ∙ sym (append_assoc start (decoded_text_of mode vr sets v) (line_rest d head.tag head.length (decoded_count vr sets v)))
+
 -- ---- one that is shown as before
 
 lives : (lost : Bool) (f : Form) (vr : Vr) → is_text lost f vr ≡ true → lost ≡ false

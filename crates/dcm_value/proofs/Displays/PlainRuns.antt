@@ -25,7 +25,7 @@ use Rattle.dcm_value.proofs.Displays.DecodedAsBefore.{alike, all_as, text_plain,
 
 -- ---- the bytes in front
 
-ascii_front : (v : List ℕ) → list_all is_ascii_byte (take (ascii_size v) v) ≡ true
+pub ascii_front : (v : List ℕ) → list_all is_ascii_byte (take (ascii_size v) v) ≡ true
 ascii_front [] = refl
 ascii_front (b ∷ bs) = go (is_ascii_byte b) refl (ascii_front bs)
   where
@@ -60,7 +60,7 @@ plain_run at_end sets kind (b ∷ bs) w e =
     ∙ ap (joined (as_itself b ∷ [], s)) (plain_run at_end sets kind bs w both.1)
 
 -- what is shown of them, and the backslashes among them
-plain_shown : (v : List ℕ) → list_all is_ascii_byte v ≡ true → flat_map dumped_piece (map as_itself v) ≡ v
+pub plain_shown : (v : List ℕ) → list_all is_ascii_byte v ≡ true → flat_map dumped_piece (map as_itself v) ≡ v
 unfolding dumped
 plain_shown v e =
     let sets : Sets = sets_of [] in

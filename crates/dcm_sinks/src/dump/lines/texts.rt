@@ -1,5 +1,5 @@
 // The lines of a dump whose texts are shown by characters.
-ghost use Rattle.std.specs.Prelude.{◌≡◌, OnOk, false, map, fold};
+ghost use Rattle.std.specs.Prelude.{◌≡◌, true, OnOk, false, map, fold};
 ghost use Rattle.std.specs.Option.{ForSome};
 ghost use Rattle.dcm_base.specs.Steps.Atoms.{value_byte, closes_leaf};
 ghost use Rattle.dcm_devices.specs.Writing.{Wrote};
@@ -11,14 +11,14 @@ ghost use Rattle.dcm_value.specs.DecodedProgress as progress;
 ghost use Rattle.dcm_value.specs.DecodedText.{decoded_progress};
 
 use super::{Lines, Owner, begin_late, put_early_start, size_of};
-use crate::dump::layout::put_rest;
+use crate::dump::layout::{begin_line, put_rest};
 use dcm_base::{
     DeviceOut, Dictionary, Form, Length, Mode, Syntax, Vr, Watched, WriteFailed, form_of, read_as,
 };
 use dcm_head::Head;
 use dcm_stream::Token;
 use dcm_text::Sets;
-use dcm_value::{DecodedText, is_plain_value, takes_bytes};
+use dcm_value::{DecodedText, append_decoded, is_plain_value, takes_bytes};
 
 /// Where a dump is whose texts are shown by characters: the lines of all else, whose text is being shown, and the text.
 /// Where none is, the text is of none.
@@ -205,8 +205,44 @@ impl TextLines {
         self.take(out, Token::CloseLeaf, sets)
     }
 
+    /// Writes the line of a text that is whole. It is put together and goes out at once, but in full mode where it is
+    /// long.
+    #[inline(never)]
+    fn put_text<W: DeviceOut>(
+        &mut self,
+        out: &mut Watched<W>,
+        head: Head,
+        syntax: Syntax,
+        value: &[u8],
+        sets: Sets,
+    ) -> Result<(), WriteFailed>
+        requires leaf { IsLeaf head syntax value.now }
+        requires text { spec.opens_text (state self.old) head.tag head.vr head.length syntax ≡ true }
+        ensures state { OnOk result (state self.new
+            ≡ fold (spec.text_step sets) (state self.old) (whole_atoms head syntax value.now)) }
+        ensures wrote { Wrote W.DeviceOut out.old out.new
+            (shows sets (state self.old) (whole_atoms head syntax value.now)) result }
+    {
+        let level = self.lines.lengths.depth();
+        begin_line(&mut self.lines.line, level, head.tag, head.vr.letters());
+        let shown = append_decoded(self.lines.mode, head.vr, sets, value, &mut self.lines.line);
+        let Some(count) = shown else {
+            return self.take_in_parts(out, head, syntax, value, sets);
+        };
+        self.owner = None;
+        self.lines.owner = None;
+        put_rest(
+            out,
+            self.lines.dictionary,
+            &mut self.lines.line,
+            head.tag,
+            head.length,
+            count,
+        )
+    }
+
     /// Writes what an element makes whose value is whole, as `take` does by its head, its bytes and its end. What is
-    /// shown as without characters goes the way of `Lines`.
+    /// shown as without characters goes the way of `Lines`, and most other texts are appended right to the line.
     #[inline(always)]
     pub fn take_whole<W: DeviceOut>(
         &mut self,
@@ -225,6 +261,9 @@ impl TextLines {
         if is_as_before(head.vr, value) {
             self.owner = None;
             return self.lines.take_whole(out, head, syntax, value);
+        }
+        if self.opens_text(head, syntax) {
+            return self.put_text(out, head, syntax, value, sets);
         }
         self.take_in_parts(out, head, syntax, value, sets)
     }

@@ -1,4 +1,4 @@
-use Rattle.std.proofs.Common.{rules, ◌≡◌, ◌≤◌, ◌∙◌, ◌++◌, ◌-◌, List, ℕ, [], ap, sym, length, drop, replicate, append_assoc, arith}
+use Rattle.std.proofs.Common.{rules, ◌≡◌, ◌≤◌, ◌∙◌, ◌++◌, ◌-◌, List, ℕ, ap, sym, length, drop, replicate, append_assoc}
 use Rattle.dcm_base.specs.Dump.ValueText.{shown_unit}
 use Rattle.dcm_base.specs.Tree.Value.{units}
 use Rattle.dcm_value.specs.Units.{one_text, separated}

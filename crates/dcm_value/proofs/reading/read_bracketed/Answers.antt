@@ -1,4 +1,4 @@
-use Rattle.std.proofs.Common.{◌≡◌, ◌∙◌, ap, sym, Some, ◌∷◌, [], subst}
+use Rattle.std.proofs.Common.{◌≡◌, ◌∙◌, ap, sym, Some, ◌∷◌, []}
 use Rattle.dcm_base.specs.Lines.ReadValue.{bracketed_value}
 use Rattle.dcm_value.specs.Taking.{behind}
 use Rattle.dcm_value.proofs.ReadBack.Parts.{took, failed, reads_err}

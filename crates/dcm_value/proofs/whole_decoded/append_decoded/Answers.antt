@@ -1,35 +1,64 @@
-use Rattle.std.proofs.Common.{◌≡◌, ◌==◌, ◌+◌, rules, sym, ap, ◌∙◌, List, ℕ, ◌++◌, cond, false, length, arith}
-use Rattle.dcm_base.specs.Dump.ValueText.{is_single, padded}
-use Rattle.dcm_value.specs.DecodedDisplay.{decoded_display}
-use Rattle.dcm_value.specs.DecodedProgress.{is_named}
-use Rattle.dcm_value.proofs.Displays.DecodedShort.{not_cut, shown_display, shown_count, same_text, same_count, line_shown}
+use Rattle.std.proofs.Common.{◌≡◌, ◌==◌, ◌+◌, rules, sym, ap, subst, ◌∙◌, Bool, List, ℕ, ◌++◌, cond, false, length}
+use Rattle.std.specs.Prelude.{MatchOption, not, ◌&&◌, ◌||◌, nat_le}
+use Rattle.dcm_base.specs.declared.vr.Vr.{Vr}
+use Rattle.dcm_base.specs.Dump.ValueText.{is_single, padded, unpadded}
+use Rattle.dcm_text.specs.declared.set.TextKind.{TextKind}
+use Rattle.dcm_text.specs.declared.sets.Sets.{Sets}
+use Rattle.dcm_text.specs.Decoding.{Piece, decoded}
+use Rattle.dcm_text.specs.Shown.{dumped}
+use Rattle.dcm_text.specs.TextPieces.{pieces_left}
+use Rattle.dcm_value.specs.Decoded.{backslashes}
+use Rattle.dcm_value.specs.DecodedDisplay.{bracketed_pieces, decoded_display, decoded_count, decoded_shortened, is_short}
+use Rattle.dcm_value.specs.DecodedProgress.{sets_for, kind_of, is_named}
+use Rattle.dcm_value.proofs.Displays.DecodedShort.{shown_display, shown_count, same_text, same_count}
 use Rattle.dcm_value.proofs.whole_decoded.append_decoded.Goals as goal
+
+-- all pieces of a value, in brackets, are its display
+pieces_display : (vr : Vr) (sets : Sets) (v : List ℕ) (pieces : List Piece) (s : Sets) (k : TextKind) (t : List ℕ)
+    → (length v == 0) ≡ false → is_named vr (length v) ≡ false → pieces ≡ decoded s k t → s ≡ sets_for vr sets → k ≡ kind_of vr
+    → t ≡ unpadded vr v → bracketed_pieces pieces ≡ decoded_display vr sets v
+unfolding dumped
+pieces_display vr sets v pieces s k t some text p e f g =
+    ap bracketed_pieces p ∙ same_text s (sets_for vr sets) k (kind_of vr) t (unpadded vr v) e f g
+    ∙ sym (shown_display vr sets v some text)
+
+pieces_count : (vr : Vr) (sets : Sets) (v : List ℕ) (pieces : List Piece) (s : Sets) (k : TextKind) (t : List ℕ)
+    → (length v == 0) ≡ false → pieces ≡ decoded s k t → s ≡ sets_for vr sets → k ≡ kind_of vr → t ≡ unpadded vr v
+    → cond (is_single vr) 1 (1 + backslashes pieces) ≡ decoded_count vr sets v
+pieces_count vr sets v pieces s k t some p e f g =
+    ap (λ (n : ℕ). cond (is_single vr) 1 (1 + n))
+    (ap backslashes p ∙ same_count s (sets_for vr sets) k (kind_of vr) t (unpadded vr v) e f g)
+    ∙ sym (shown_count vr sets v some)
 
 pub returns-clause-items : goal.returns-clause-items
 returns-clause-items g c =
     let vr = c.args.vr in
     let sets = c.args.sets in
     let v : List ℕ = c.args.value.now in
+    let line : List ℕ = c.args.line.now.items in
+    let now : List ℕ = c.append_text.new.line.items in
     let some : (length v == 0) ≡ false = search rules in
     let text : is_named vr (length v) ≡ false = search rules in
-    let all = c.in-Some.ensures in
-    let shown : c.as_slice.result.now ≡ decoded_display vr sets v =
-    c.as_slice.ensures.value ∙ all.0 ∙ same_text _ _ _ _ _ _ c.read_by.ensures c.kind_of.ensures c.unpadded-text.ensures ∙ sym (shown_display vr sets v some text) in
-    let size : c.len.result ≡ length (decoded_display vr sets v) = c.len.ensures.value ∙ ap length (sym c.as_slice.ensures.value ∙ shown) in (
-      line_shown c.args.line.now.items c.append.new.text.items _ (decoded_display vr sets v) c.len.result (c.append.ensures ∙ ap (λ (x : List ℕ). c.args.line.now.items ++ x) shown) size c.append_spaces.ensures.items,
-      c.count.ensures ∙ ap (λ (n : ℕ). cond (is_single vr) 1 (1 + n)) (all.1 ∙ same_count _ _ _ _ _ _ c.read_by.ensures c.kind_of.ensures c.unpadded-text.ensures) ∙ sym (shown_count vr sets v some),
-    )
+    let pieces : List Piece = pieces_left c.new-pieces.result in
+    let display : bracketed_pieces pieces ≡ decoded_display vr sets v =
+    pieces_display vr sets v pieces _ _ _ some text c.new-pieces.ensures.pieces c.read_by.ensures c.kind_of.ensures c.unpadded-text.ensures in
+    let counted : cond (is_single vr) 1 (1 + backslashes pieces) ≡ decoded_count vr sets v =
+    pieces_count vr sets v pieces _ _ _ some c.new-pieces.ensures.pieces c.read_by.ensures c.kind_of.ensures c.unpadded-text.ensures in
+    subst (λ (d : List ℕ). MatchOption c.append_text.result (now ≡ line)
+    (λ n. (now ≡ line ++ padded (decoded_shortened c.args.mode d)) × (n ≡ decoded_count vr sets v))) display
+    (subst (λ (k : ℕ). MatchOption c.append_text.result (now ≡ line)
+    (λ n. (now ≡ line ++ padded (decoded_shortened c.args.mode (bracketed_pieces pieces))) × (n ≡ k))) counted c.append_text.ensures.items)
 
-pub returns-clause-modes : goal.returns-clause-modes
-returns-clause-modes g c mode =
+pub returns-clause-known : goal.returns-clause-known
+returns-clause-known g c =
     let vr = c.args.vr in
     let sets = c.args.sets in
     let v : List ℕ = c.args.value.now in
     let some : (length v == 0) ≡ false = search rules in
     let text : is_named vr (length v) ≡ false = search rules in
-    let all = c.in-Some.ensures in
-    let shown : c.as_slice.result.now ≡ decoded_display vr sets v =
-    c.as_slice.ensures.value ∙ all.0 ∙ same_text _ _ _ _ _ _ c.read_by.ensures c.kind_of.ensures c.unpadded-text.ensures ∙ sym (shown_display vr sets v some text) in
-    let size : c.len.result ≡ length (decoded_display vr sets v) = c.len.ensures.value ∙ ap length (sym c.as_slice.ensures.value ∙ shown) in
-    line_shown c.args.line.now.items c.append.new.text.items _ (decoded_display vr sets v) c.len.result (c.append.ensures ∙ ap (λ (x : List ℕ). c.args.line.now.items ++ x) shown) size c.append_spaces.ensures.items
-    ∙ ap (λ (d : List ℕ). c.args.line.now.items ++ padded d) (sym (not_cut mode (decoded_display vr sets v) (omega (arith, size, c.len.ensures))))
+    let pieces : List Piece = pieces_left c.new-pieces.result in
+    let display : bracketed_pieces pieces ≡ decoded_display vr sets v =
+    pieces_display vr sets v pieces _ _ _ some text c.new-pieces.ensures.pieces c.read_by.ensures c.kind_of.ensures c.unpadded-text.ensures in
+    c.append_text.ensures.known
+    ∙ ap (λ (d : List ℕ). is_short c.args.mode || nat_le (length d) 66) display
+    ∙ ap (λ (t : Bool). not t && (is_short c.args.mode || nat_le (length (decoded_display vr sets v)) 66)) (sym text)
