@@ -1,5 +1,5 @@
 -- What a sink takes in parts, where each call answers nothing but whether its writer failed.
-use Rattle.std.proofs.Common.{◌≡◌, List, [], ◌++◌, Bool, true, sym, subst}
+use Rattle.std.proofs.Common.{◌≡◌, ℕ, List, [], ◌++◌, Bool, true, sym, subst}
 use Rattle.std.specs.Prelude.{fold, Result, Ok, Err, OnOk, IsErr}
 use Rattle.std.proofs.lemmas.List.{append-nil}
 use Rattle.dcm_devices.specs.declared.device.WriteFailed.{WriteFailed}
@@ -12,7 +12,7 @@ use Rattle.dcm_stream.specs.Tokens.{atoms_of}
 use Rattle.dcm_stream.specs.declared.token.Token.{Token}
 use Rattle.dcm_deid.specs.declared.deidentifier.Deidentifier.{Deidentifier}
 use Rattle.dcm_deid.specs.declared.fate.Options.{Options}
-use Rattle.dcm_deid.specs.Deidentifying.{GoesOn}
+use Rattle.dcm_deid.specs.Deidentifying.{GoesOn, passed_of}
 use Rattle.dcm_deid.specs.DeidentifySink.{atoms_if}
 use Rattle.dcm_stream.proofs.Runs.Taking.{took_token, took_then, took_failed}
 
@@ -44,6 +44,11 @@ module _ {X : Type 0} (sink : Ghosts X) where
   pub given : (old new : X) (atoms : List Atom) (r : Answer) (b : Bool) → true ≡ b → TookAs sink old new atoms r → TookAs sink old new (atoms_if b atoms) r
   given old new atoms r b is a = subst (λ (t : Bool). TookAs sink old new (atoms_if t atoms) r) is a
 
--- a token of a known kind is where it goes on
+  -- a token of a known kind is where it is passed on
+  pub passed_by : (old new : X) (options : Options) (key : List ℕ) (d : Deidentifier) (t known : Token) (r : Answer) → t ≡ known
+      → TookAs sink old new (passed_of options key d (atoms_of known)) r → TookAs sink old new (passed_of options key d (atoms_of t)) r
+  passed_by old new options key d t known r same took = subst (λ (x : Token). TookAs sink old new (passed_of options key d (atoms_of x)) r) (sym same) took
+
+-- and where it goes on
 pub goes_on_by : (r : Answer) (options : Options) (old new : Deidentifier) (t known : Token) → t ≡ known → OnOk r (GoesOn options old new (atoms_of known)) → OnOk r (GoesOn options old new (atoms_of t))
 goes_on_by r options old new t known same state = subst (λ (x : Token). OnOk r (GoesOn options old new (atoms_of x))) (sym same) state

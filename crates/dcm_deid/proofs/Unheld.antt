@@ -1,6 +1,6 @@
--- An element with its whole value, which nobody has to know.
-use Rattle.std.proofs.Common.{◌≡◌, ℕ, List, [], ◌∷◌, ◌++◌, map, fold, Some, None, Bool, true, false, not, refl, sym, ◌∙◌, ap, append_assoc, arith}
-use Rattle.std.specs.Prelude.{if◌then◌else◌}
+-- An element with its whole value, which nobody has to know, or within what is left out.
+use Rattle.std.proofs.Common.{◌≡◌, ◌<◌, ℕ, zero, suc, Option, List, [], ◌∷◌, ◌++◌, map, fold, Some, None, Bool, true, false, not, refl, sym, ◌∙◌, ap, append_assoc, arith}
+use Rattle.std.specs.Prelude.{if◌then◌else◌, is_some, option_map}
 use Rattle.std.proofs.lemmas.List.{append-nil}
 use Rattle.std.proofs.lemmas.List.Sums.{fold-append}
 use Rattle.dcm_base.specs.declared.form.Form.{Form}
@@ -11,15 +11,16 @@ use Rattle.dcm_base.specs.Steps.Atoms.{Atom, opens, value_byte, closes_leaf}
 use Rattle.dcm_base.specs.Steps.Steps.{outputs}
 use Rattle.dcm_base.proofs.Writes.Runs.{outputs-append}
 use Rattle.dcm_head.specs.declared.head.Head.{Head}
-use Rattle.dcm_stream.specs.Skip.{depth, opened}
+use Rattle.dcm_stream.specs.Skip.{depth, opened, closed}
 use Rattle.dcm_stream.specs.Tokens.{IsLeaf, whole_atoms}
 use Rattle.dcm_deid.specs.declared.deidentifier.Deidentifier.{Deidentifier}
 use Rattle.dcm_deid.specs.declared.fate.Fate.{Fate}
 use Rattle.dcm_deid.specs.declared.fate.Fate.TheVariants.{Remove, Empty, Replace, Anew, Keep}
 use Rattle.dcm_deid.specs.declared.fate.Options.{Options}
-use Rattle.dcm_deid.specs.Deidentifying.{place, state, passed_of, whole_by}
+use Rattle.dcm_deid.specs.declared.held.HeldValue.{HeldValue}
+use Rattle.dcm_deid.specs.Deidentifying.{held, place, state, passed_of, whole_by}
 use Rattle.dcm_deid.specs.Fate.{is_kept}
-use Rattle.dcm_deid.specs.DeidentifySink.{Place, State, next, passed, passed_by_depth, said_before, head_by, fate_at, is_held, held_if, holding, moved, judged, judged_by_depth, with_last}
+use Rattle.dcm_deid.specs.DeidentifySink.{Held, Place, State, whole_within, next, passed, passed_by_depth, said_before, head_by, fate_at, is_held, held_if, holding, moved, judged, judged_by_depth, with_last}
 use Rattle.dcm_deid.proofs.Passing.{bytes_passed, bytes_gone, bytes_next, bytes_unheld, at_place}
 
 -- ---- behind a head that is left out, or not, where no value is held
@@ -56,6 +57,24 @@ module _ (options : Options) (key : List ℕ) (p : Place) (tag : Tag) (value : L
   behind_passed : (is_left_out : Bool) → outputs next passed (noted_at (opened 0 is_left_out)) (behind value) ≡ (if is_left_out then [] else behind value)
   behind_passed true = behind_is 1 [] (bytes_gone (noted_at 1) value (omega arith))
   behind_passed false = behind_is 0 (map value_byte value) (bytes_passed (noted_at 0) value refl)
+
+  -- within what is left out
+  value_ends_within : (dropped : ℕ) → next (noted_at dropped) closes_leaf ≡ noted_at (closed dropped)
+  value_ends_within zero = refl
+  value_ends_within (suc n) = refl
+
+  end_within : (dropped : ℕ) → 0 < dropped → outputs next passed (noted_at dropped) (closes_leaf ∷ []) ≡ []
+  end_within zero l = absurd (omega (arith, l))
+  end_within (suc n) l = refl
+
+  behind_stays_within : (dropped : ℕ) → fold next (noted_at dropped) (behind value) ≡ noted_at (closed dropped)
+  behind_stays_within dropped =
+      fold-append next (noted_at dropped) (map value_byte value) (closes_leaf ∷ [])
+      ∙ ap (λ (t : State). next t closes_leaf) (bytes_stay dropped)
+      ∙ value_ends_within dropped
+
+  behind_gone : (dropped : ℕ) → 0 < dropped → outputs next passed (noted_at dropped) (behind value) ≡ []
+  behind_gone dropped l = behind_is dropped [] (bytes_gone (noted_at dropped) value l) ∙ end_within dropped l
 
 -- ---- with the head
 
@@ -109,3 +128,48 @@ module _ (options : Options) (key : List ℕ) (d : Deidentifier) (fate : Fate) (
   whole_state new is =
       ap (at_place options key) (is ∙ ap (λ (n : ℕ). noted p n head.tag) none)
       ∙ sym (ap (λ (t : State). fold next t (behind value)) head_state ∙ behind_stays options key p head.tag value left_out)
+
+-- ---- within what is left out, where no value is held
+
+opens_deeper : (n : ℕ) → 0 < n → 0 < opened n true
+opens_deeper zero l = absurd (omega (arith, l))
+opens_deeper (suc n) l = omega arith
+
+module _ (options : Options) (key : List ℕ) (d : Deidentifier) (head : Head) (syntax : Syntax) (value : List ℕ) (shut : 0 < depth d.skip) (unheld : (place d).held ≡ None) where
+  abbrev within : Place
+  within = place d
+
+  abbrev opening_within : Atom
+  opening_within = opens head.tag head.vr head.length syntax
+
+  abbrev deeper : ℕ
+  deeper = opened within.dropped true
+
+  abbrev placed : ℕ → Option Held → Place
+  placed dropped held = record { last = Some head.tag; outer = within.outer; dropped = dropped; held = held; may_show = within.may_show }
+
+  judged_within : (n : ℕ) → 0 < n → with_last (judged_by_depth n options within head.tag head.vr head.length syntax) head.tag ≡ placed deeper within.held
+  judged_within zero l = absurd (omega (arith, l))
+  judged_within (suc n) l = refl
+
+  passed_within : (n : ℕ) → 0 < n → passed_by_depth n options key within opening_within ≡ []
+  passed_within zero l = absurd (omega (arith, l))
+  passed_within (suc n) l = refl
+
+  head_state_within : next (state options key d) opening_within ≡ noted_at options key within head.tag value deeper
+  head_state_within = ap (at_place options key) (judged_within within.dropped shut ∙ ap (placed deeper) unheld)
+
+  pub within_passed : [] ≡ passed_of options key d (whole_atoms head syntax value)
+  within_passed =
+      sym (ap (λ (xs : List Atom). xs ++ outputs next passed (next (state options key d) opening_within) (behind value)) (passed_within within.dropped shut)
+      ∙ ap (λ (t : State). outputs next passed t (behind value)) head_state_within
+      ∙ behind_gone options key within head.tag value deeper (opens_deeper within.dropped shut))
+
+  pub within_state : (new : Deidentifier) → place new ≡ whole_within within head.tag → state options key new ≡ fold next (state options key d) (whole_atoms head syntax value)
+  within_state new is =
+      ap (at_place options key) (is ∙ ap (placed (closed deeper)) unheld)
+      ∙ sym (ap (λ (t : State). fold next t (behind value)) head_state_within ∙ behind_stays_within options key within head.tag value deeper)
+
+pub none_held : (o : Option HeldValue) → false ≡ is_some o → option_map held o ≡ None
+none_held None e = refl
+none_held (Some h) e = absurd (cc)

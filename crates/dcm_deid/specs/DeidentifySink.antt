@@ -167,6 +167,13 @@ with_last p tag = moved p (Some tag) p.outer p.dropped
 abbrev pub after_head : Options → Place → Tag → Vr → Length → Syntax → Place
 after_head options p tag vr declared s = with_last (judged_by_depth p.dropped options p tag vr declared s) tag
 
+-- within what is left out, after a head, and after an element with its whole value
+abbrev pub head_within : Place → Tag → Place
+head_within p tag = moved p (Some tag) p.outer (opened p.dropped true)
+
+abbrev pub whole_within : Place → Tag → Place
+whole_within p tag = moved p (Some tag) p.outer (closed (opened p.dropped true))
+
 abbrev pub with_byte : Place → ℕ → Place
 with_byte p byte = holding p (option_map (λ h. held_with h byte) p.held)
 

@@ -1,5 +1,5 @@
 -- The state of the sink, as the program holds it.
-use Rattle.std.specs.Prelude.{◌≡◌, ℕ, List, option_map, reverse, fold}
+use Rattle.std.specs.Prelude.{◌≡◌, ℕ, List, option_map, reverse, fold, ⊤}
 use Rattle.dcm_base.specs.declared.form.Form.TheVariants.{Value as a_value}
 use Rattle.dcm_base.specs.declared.syntax.Syntax.{Syntax}
 use Rattle.dcm_base.specs.Steps.Atoms.{Atom}
@@ -7,6 +7,9 @@ use Rattle.dcm_base.specs.Steps.Steps.{outputs}
 use Rattle.dcm_head.specs.declared.head.Head.{Head}
 use Rattle.dcm_stream.specs.Skip.{depth}
 use Rattle.dcm_stream.specs.Tokens.{whole_atoms}
+use Rattle.dcm_stream.specs.declared.token.Token.{Token}
+use Rattle.dcm_stream.specs.declared.token.Token.TheVariants.{Open, Bytes, CloseLeaf, OpenItem, CloseItem, CloseSeq}
+use Rattle.dcm_stream.specs.declared.token.Token.TheVariants.{OpenFragment, End}
 use Rattle.dcm_deid.specs.declared.held.HeldValue.{HeldValue}
 use Rattle.dcm_deid.specs.declared.deidentifier.Deidentifier.{Deidentifier}
 use Rattle.dcm_deid.specs.declared.fate.Fate.{Fate}
@@ -42,3 +45,14 @@ GoesOn options old new atoms =
 abbrev pub whole_by : Fate → Head → Syntax → List ℕ → List Atom
 whole_by Keep head syntax value = whole_atoms head syntax value
 whole_by fate head syntax value = head_by fate a_value head.tag head.vr head.length syntax
+
+-- the tokens that are passed on as they are where nothing is left out, and of which nothing is made where something is
+abbrev pub IsPlain : Token → Type 0
+IsPlain (Open head syntax) = ⊥
+IsPlain (Bytes bytes) = ⊤
+IsPlain CloseLeaf = ⊥
+IsPlain (OpenItem declared) = ⊥
+IsPlain CloseItem = ⊤
+IsPlain CloseSeq = ⊤
+IsPlain (OpenFragment size) = ⊤
+IsPlain End = ⊥

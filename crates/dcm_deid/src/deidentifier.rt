@@ -108,31 +108,37 @@ impl Deidentifier {
         fate_of(options, self.depth(), read_by(form), tag)
     }
 
+    /// After the head of an element within what is left out.
+    #[inline(always)]
+    pub fn open_within(&mut self, head: Head)
+        ensures { deidentifying.place self.new ≡ spec.head_within (deidentifying.place self.old) head.tag }
+    {
+        self.skip.open(true);
+        self.last = Some(head.tag);
+    }
+
+    /// After an element with its whole value within what is left out, where no value is held.
+    #[inline(always)]
+    pub fn pass_within(&mut self, head: Head)
+        ensures { deidentifying.place self.new ≡ spec.whole_within (deidentifying.place self.old) head.tag }
+    {
+        self.open_within(head);
+        self.skip.close();
+    }
+
     /// After the head of an element.
     #[inline(always)]
     fn open(&mut self, options: &Options, head: Head, syntax: Syntax)
         ensures { deidentifying.place self.new
             ≡ spec.after_head options.now (deidentifying.place self.old) head.tag head.vr head.length syntax }
     {
-        if !self.skip.is_open() {
-            self.judge(options, head, syntax);
+        if self.skip.is_open() {
+            self.open_within(head);
         } else {
-            self.skip.open(true);
+            let form = form_after(head, syntax);
+            let fate = self.fate(options, form, head.tag);
+            self.open_as(fate, form, head, syntax);
         }
-        self.last = Some(head.tag);
-    }
-
-    /// What becomes of an element, of which nothing is left out so far.
-    #[inline(never)]
-    fn judge(&mut self, options: &Options, head: Head, syntax: Syntax)
-        requires { depth self.old.skip ≡ 0 }
-        ensures last { self.new.last ≡ self.old.last }
-        ensures place { deidentifying.place self.new
-            ≡ spec.judged_at options.now (deidentifying.place self.old) head.tag head.vr head.length syntax }
-    {
-        let form = form_after(head, syntax);
-        let fate = self.fate(options, form, head.tag);
-        self.judge_as(fate, form, head, syntax);
     }
 
     /// What becomes of an element of this fate.

@@ -2,10 +2,11 @@
 ghost use Rattle.std.specs.Prelude.{◌≡◌, ℕ, List, [], ◌∷◌, ◌++◌, Some, true, OnOk};
 ghost use Rattle.std.specs.Borrow.{GName};
 ghost use Rattle.dcm_base.specs.Reading.Bars as bars;
-ghost use Rattle.dcm_base.specs.Steps.Atoms.{opens, ends};
+ghost use Rattle.dcm_base.specs.Steps.Atoms.{opens, closes_leaf, opens_item, ends};
 ghost use Rattle.dcm_deid.specs.DeidentifySink as spec;
 ghost use Rattle.dcm_deid.specs.DeidentifySink.{State as DeidentifyState};
 ghost use Rattle.dcm_deid.specs.Deidentifying as deidentifying;
+ghost use Rattle.dcm_deid.specs.Deidentifying.{IsPlain};
 ghost use Rattle.dcm_deid.specs.MadeNew.{made_new};
 ghost use Rattle.dcm_deid.specs.Through.{through_step, through_writes, through_bar};
 ghost use Rattle.dcm_stream.specs.Sinks as sinks;
@@ -131,23 +132,6 @@ fn pass_as<S: Sink>(
     put_head(fate, form, head, syntax, sink)
 }
 
-/// Passes on what becomes of the head of an element, of which nothing is left out so far.
-#[inline(never)]
-fn pass_element<S: Sink>(
-    options: &Options,
-    place: &Deidentifier,
-    head: Head,
-    syntax: Syntax,
-    sink: &mut S,
-) -> Result<(), WriteFailed>
-    ensures { sinks.Took S.Sink sink.old sink.new (spec.passed_open options.now (deidentifying.place place.now)
-        (opens head.tag head.vr head.length syntax)) result }
-{
-    let form = form_after(head, syntax);
-    let fate = place.fate(options, form, head.tag);
-    pass_as(options, place, fate, form, head, syntax, sink)
-}
-
 /// The same, and goes on after the head: the fate of the element is looked up once for both.
 #[inline(always)]
 pub fn pass_on_element<S: Sink>(
@@ -169,9 +153,39 @@ pub fn pass_on_element<S: Sink>(
     Ok(())
 }
 
-/// Passes on the end of a data set.
+/// Passes on a token that is passed on as it is, but within what is left out.
+#[inline(always)]
+pub fn put_plain<S: Sink>(
+    place: &Deidentifier,
+    token: Token,
+    sink: &mut S,
+) -> Result<(), WriteFailed>
+    requires plain { IsPlain token }
+    requires filled { IsFilled token }
+    ensures { (options : Options) (key : List ℕ) → sinks.Took S.Sink sink.old sink.new
+        (deidentifying.passed_of options key place.now (atoms_of token.entry)) result }
+{
+    if place.skip.is_open() {
+        return Ok(());
+    }
+    sink.take(token)
+}
+
+/// Passes on the head of an item, but within what is left out. Its length counts what is taken out of it.
+#[inline(always)]
+pub fn put_item<S: Sink>(place: &Deidentifier, sink: &mut S) -> Result<(), WriteFailed>
+    ensures { (options : Options) (key : List ℕ) (declared : Length) → sinks.Took S.Sink sink.old sink.new
+        (deidentifying.passed_of options key place.now (opens_item declared ∷ [])) result }
+{
+    if place.skip.is_open() {
+        return Ok(());
+    }
+    sink.take(Token::OpenItem(Length::Undefined))
+}
+
+/// Passes on the end of a data set, which ends nothing that is left out.
 #[inline(never)]
-fn pass_end<S: Sink>(
+fn put_open_end<S: Sink>(
     options: &Options,
     place: &Deidentifier,
     sink: &mut S,
@@ -183,29 +197,20 @@ fn pass_end<S: Sink>(
     sink.take(Token::End)
 }
 
-/// Passes on what a token becomes, of an element that is not left out.
+/// Passes on the end of a data set, but within what is left out.
 #[inline(always)]
-fn pass_open<S: Sink>(
+pub fn put_end<S: Sink>(
     options: &Options,
     place: &Deidentifier,
-    token: Token,
     sink: &mut S,
 ) -> Result<(), WriteFailed>
-    requires kept { depth place.now.skip ≡ 0 }
-    requires filled { IsFilled token }
     ensures { (key : List ℕ) → sinks.Took S.Sink sink.old sink.new
-        (deidentifying.passed_of options.now key place.now (atoms_of token.entry)) result }
+        (deidentifying.passed_of options.now key place.now (ends ∷ [])) result }
 {
-    match token {
-        Token::Open(head, syntax) => pass_element(options, place, head, syntax, sink),
-        Token::OpenItem(_) => sink.take(Token::OpenItem(Length::Undefined)),
-        Token::End => pass_end(options, place, sink),
-        Token::Bytes(_)
-        | Token::CloseLeaf
-        | Token::CloseItem
-        | Token::CloseSeq
-        | Token::OpenFragment(_) => sink.take(token),
+    if place.skip.is_open() {
+        return Ok(());
     }
+    put_open_end(options, place, sink)
 }
 
 /// Passes on what is made of a whole value in its place.
@@ -224,63 +229,38 @@ fn put_new_value<S: Sink>(
     put_leaf(held.tag, held.vr, value.as_slice(), sink)
 }
 
-/// Passes on what a token becomes, of an element that is left out.
+/// Passes on what is made of a value that is left out, where it was held.
 #[inline(always)]
-fn pass_left_out<S: Sink>(
+fn put_made<S: Sink>(
     options: &Options,
     key: &UidKey,
     place: &Deidentifier,
-    token: Token,
     sink: &mut S,
 ) -> Result<(), WriteFailed>
-    requires left_out { is_open (depth place.now.skip) ≡ true }
-    ensures { sinks.Took S.Sink sink.old sink.new
-        (deidentifying.passed_of options.now key.now.bytes.now place.now (atoms_of token.entry)) result }
+    ensures { sinks.Took S.Sink sink.old sink.new (spec.new_value_atoms (made_new options.now key.now.bytes.now)
+        (deidentifying.place place.now).held) result }
 {
-    match (token, &place.held) {
-        (Token::CloseLeaf, Some(held)) => put_new_value(options, held, key, sink),
-        _ => Ok(()),
+    match &place.held {
+        Some(held) => put_new_value(options, held, key, sink),
+        None => Ok(()),
     }
 }
 
-/// Passes on what a token becomes.
+/// Passes on the end of a value: of one that is left out what is made of it.
 #[inline(always)]
-fn pass<S: Sink>(
+pub fn put_value_end<S: Sink>(
     options: &Options,
     key: &UidKey,
     place: &Deidentifier,
-    token: Token,
     sink: &mut S,
 ) -> Result<(), WriteFailed>
-    requires filled { IsFilled token }
     ensures { sinks.Took S.Sink sink.old sink.new
-        (deidentifying.passed_of options.now key.now.bytes.now place.now (atoms_of token.entry)) result }
+        (deidentifying.passed_of options.now key.now.bytes.now place.now (closes_leaf ∷ [])) result }
 {
     if place.skip.is_open() {
-        pass_left_out(options, key, place, token, sink)
-    } else {
-        pass_open(options, place, token, sink)
+        return put_made(options, key, place, sink);
     }
-}
-
-/// Passes on what any token becomes, and goes on after it. Inlined where the kind of token is known, this is but the part
-/// for that kind.
-#[inline(always)]
-pub fn pass_on_any<S: Sink>(
-    options: &Options,
-    key: &UidKey,
-    place: &mut Deidentifier,
-    token: Token,
-    sink: &mut S,
-) -> Result<(), WriteFailed>
-    requires filled { IsFilled token }
-    ensures took { sinks.Took S.Sink sink.old sink.new
-        (deidentifying.passed_of options.now key.now.bytes.now place.old (atoms_of token.entry)) result }
-    ensures state { OnOk result (deidentifying.GoesOn options.now place.old place.new (atoms_of token.entry)) }
-{
-    pass(options, key, place, token, sink)?;
-    place.go_on(options, token);
-    Ok(())
+    sink.take(Token::CloseLeaf)
 }
 
 /// A sink that passes the tokens of a data set on to another one, without identity: kept elements as they are, others
@@ -330,6 +310,20 @@ impl<'a, S: Sink> DeidentifySink<'a, S> {
         self.take(Token::CloseLeaf)
     }
 
+    /// Takes an element with its whole value within what is left out. Nothing comes of it, unless a value is held.
+    #[inline(always)]
+    fn pass_within(&mut self, head: Head, syntax: Syntax, value: &[u8]) -> Result<(), WriteFailed>
+        requires { is_open (depth self.old.place.skip) ≡ true }
+        ensures { sinks.Took ⟦<DeidentifySink<'a, S> as Sink>⟧ self.old self.new
+            (whole_atoms head syntax value.now) result }
+    {
+        if self.place.held.is_some() {
+            return self.take_by_token(head, syntax, value);
+        }
+        self.place.pass_within(head);
+        Ok(())
+    }
+
     /// Takes an element with its whole value. What becomes of it is looked up once, and passed on by one call, but where
     /// the value has to be known. It is not inlined, so that what reads heads stays small.
     #[inline(never)]
@@ -339,7 +333,7 @@ impl<'a, S: Sink> DeidentifySink<'a, S> {
             (whole_atoms head syntax value.now) result }
     {
         if self.place.skip.is_open() {
-            return self.take_by_token(head, syntax, value);
+            return self.pass_within(head, syntax, value);
         }
         let fate = self.place.fate(&self.options, Form::Value, head.tag);
         if is_held(fate, Form::Value, head.tag) {

@@ -18,3 +18,4 @@ pub mod ValidRows
 pub mod Indexed
 pub mod DecodedTexts
 pub mod AlikeForms
+pub mod PassedBy

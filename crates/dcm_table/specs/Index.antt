@@ -2,10 +2,12 @@
 use Rattle.std.specs.Prelude.{ℕ, suc, List, [], ◌∷◌, ◌+◌, ◌*◌, ◌%◌, get_or, set, min, max, nat_le, nat_lt, Bool, true, false}
 use Rattle.std.specs.Prelude.{◌&&◌, ◌||◌, not, if◌then◌else◌}
 use Rattle.dcm_base.specs.declared.tag.Tag.{Tag}
+use Rattle.dcm_head.specs.declared.head.Head.{Head}
+use Rattle.dcm_stream.specs.Skip.{is_open}
 use Rattle.dcm_table.specs.declared.index.Span.{Span}
 use Rattle.dcm_table.specs.declared.index.Index.{Index}
 use Rattle.dcm_table.specs.Cell.{Cell, open_value, open_too_long}
-use Rattle.dcm_table.specs.TableSink.{Slot}
+use Rattle.dcm_table.specs.TableSink.{Slot, opens_setting}
 
 -- no column
 abbrev pub NONE : Span
@@ -18,6 +20,10 @@ both a b = record { first = min a.first b.first; after = max a.after b.after }
 -- whether a column is one of a run
 abbrev pub is_in : Span → ℕ → Bool
 is_in span column = nat_le span.first column && nat_lt column span.after
+
+-- whether a run is of no column
+abbrev pub is_empty : Span → Bool
+is_empty span = nat_le span.after span.first
 
 abbrev pub place_of : Tag → ℕ
 place_of tag = (tag.group * 37 + tag.element) % 256
@@ -46,6 +52,13 @@ is_busy _ = false
 abbrev pub holds_busy : Span → ℕ → List Slot → Bool
 holds_busy span column [] = true
 holds_busy span column (c ∷ slots) = (is_in span column || not (is_busy c.1)) && holds_busy span (suc column) slots
+
+-- whether an element with its whole value changes no cell: no value is on its way, and it is within another element, or
+-- no column has its tag and it sets nothing
+abbrev pub passes_by : (is_setting : Bool) → (busy : Span) → (depth : ℕ) → Index → Head → Bool
+passes_by is_setting busy depth index head =
+    (not is_setting && is_empty busy)
+    && (is_open depth || (is_empty (span_of index head.tag) && not (opens_setting head.tag head.vr head.length)))
 
 -- of these columns, of which the first has this number, those of a run are changed
 abbrev pub changed_in : (Slot → Slot) → Span → ℕ → List Slot → List Slot

@@ -139,6 +139,15 @@ next s a = record {
   setting = setting_step s.depth s.setting a;
 }
 
+-- after an element with its whole value that changes no cell
+abbrev pub passed_by : State → State
+passed_by s = record {
+  depth = less_deep (deeper s.depth true);
+  greatest = s.greatest;
+  slots = s.slots;
+  setting = s.setting;
+}
+
 -- nothing is written
 abbrev pub writes : State → Atom → List ℕ
 writes s a = []

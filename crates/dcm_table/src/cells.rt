@@ -1,11 +1,12 @@
 // The cells of all columns: a sink that holds what a row shows of a file.
-ghost use Rattle.std.specs.Prelude.{◌≡◌, ◌<◌, true, false, None, length, fold, map, option_map, IfOk};
+ghost use Rattle.std.specs.Prelude.{◌≡◌, ◌<◌, ℕ, List, true, false, None, length, fold, map, option_map, IfOk};
 ghost use Rattle.dcm_table.specs.Cell.{missing};
 ghost use Rattle.std.specs.List.{list_any};
 ghost use Rattle.dcm_base.specs.Tables.Tag.{same_tag};
 ghost use Rattle.dcm_table.specs.declared.slot.Slot.{Slot as HeldSlot};
 ghost use Rattle.dcm_base.specs.Steps.Atoms.{closes_leaf, value_byte};
-ghost use Rattle.dcm_stream.specs.Tokens.{atoms_of};
+ghost use Rattle.dcm_stream.specs.Skip.{depth as open_things};
+ghost use Rattle.dcm_stream.specs.Tokens.{atoms_of, whole_atoms};
 ghost use Rattle.dcm_stream.specs.declared.token.Token.TheVariants.{Open};
 ghost use Rattle.dcm_table.specs.Columns.{tags_of};
 ghost use Rattle.dcm_table.specs.Index as places;
@@ -16,7 +17,7 @@ ghost use Rattle.dcm_table.specs.TableSink as spec;
 
 use crate::column::{Column, Columns};
 use crate::index::{Index, Span};
-use crate::setting::Setting;
+use crate::setting::{Setting, opens_setting};
 use crate::slot::Slot;
 use dcm_base::{Syntax, Tag, WriteFailed};
 use dcm_head::Head;
@@ -228,6 +229,18 @@ impl Cells {
     }
 }
 
+/// Whether an element with its whole value changes no cell: no value is on its way, and it is within another element, or
+/// no column has its tag and it sets nothing.
+#[inline(always)]
+fn passes_by(setting: &Setting, busy: Span, depth: Skip, index: &Index, head: &Head) -> bool
+    ensures { result ≡ places.passes_by setting.now.is_open busy (open_things depth) index.now head.now }
+{
+    if setting.is_open || !busy.is_empty() {
+        return false;
+    }
+    depth.is_open() || (index.span_of(head.tag).is_empty() && !opens_setting(head))
+}
+
 impl Cells {
     /// Goes on after a token. An element that no column wants is passed at once: its head looks up the columns of its
     /// tag, and its bytes and its end go to the cells alone that are busy.
@@ -252,6 +265,46 @@ impl Cells {
             Token::OpenItem(_) | Token::OpenFragment(_) => self.depth.open(true),
             Token::CloseItem | Token::CloseSeq => self.depth.close(),
             Token::End => {}
+        }
+    }
+
+    /// Whether an element with this head and its whole value changes no cell.
+    #[inline(always)]
+    fn passes(&self, head: &Head) -> bool
+        ensures { result ≡ true → (syntax : Syntax) (value : List ℕ)
+            → fold spec.next self.now (whole_atoms head.now syntax value) ≡ spec.passed_by self.now }
+    {
+        passes_by(&self.setting, self.busy, self.depth, &self.index, head)
+    }
+
+    /// Goes on after an element with its whole value that changes no cell.
+    #[inline(always)]
+    fn pass_by(&mut self)
+        ensures { self.new ≡ spec.passed_by self.old }
+    {
+        self.depth.open(true);
+        self.depth.close();
+    }
+
+    /// Goes on after an element with its whole value by its tokens, one after another.
+    #[inline(never)]
+    fn go_on_by_token(&mut self, head: Head, syntax: Syntax, value: &[u8])
+        ensures { self.new ≡ fold spec.next self.old (whole_atoms head syntax value.now) }
+    {
+        self.go_on(Token::Open(head, syntax));
+        self.go_on(Token::Bytes(value));
+        self.go_on(Token::CloseLeaf);
+    }
+
+    /// Goes on after an element with its whole value. One that changes no cell is passed by at once, as most are.
+    #[inline(always)]
+    pub(crate) fn go_on_whole(&mut self, head: Head, syntax: Syntax, value: &[u8])
+        ensures { self.new ≡ fold spec.next self.old (whole_atoms head syntax value.now) }
+    {
+        if self.passes(&head) {
+            self.pass_by();
+        } else {
+            self.go_on_by_token(head, syntax, value);
         }
     }
 }
@@ -280,6 +333,12 @@ impl Sink for Cells {
     #[inline(always)]
     fn take(&mut self, token: Token) -> Result<(), WriteFailed> {
         self.go_on(token);
+        Ok(())
+    }
+
+    #[inline(always)]
+    fn take_whole(&mut self, head: Head, syntax: Syntax, value: &[u8]) -> Result<(), WriteFailed> {
+        self.go_on_whole(head, syntax, value);
         Ok(())
     }
 

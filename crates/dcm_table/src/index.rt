@@ -36,6 +36,13 @@ impl Span {
             after: self.after.max(other.after),
         }
     }
+
+    /// Whether it is of no column.
+    pub fn is_empty(self) -> bool
+        ensures { result ≡ spec.is_empty self }
+    {
+        self.after <= self.first
+    }
 }
 
 /// The place of a tag in an index. Tags that share one are told apart where the columns are.

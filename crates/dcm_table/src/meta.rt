@@ -8,7 +8,6 @@ ghost use Rattle.dcm_table.specs.TableSink as sink;
 use crate::cells::Cells;
 use dcm_base::{Dictionary, Length, Syntax};
 use dcm_head::{Head, MetaElement, first_element};
-use dcm_stream::Token;
 
 /// Gives the cells an element of the meta group, which is spelled in explicit little endian (PS3.10 7.1).
 fn take_element(element: MetaElement, cells: &mut Cells)
@@ -22,11 +21,7 @@ fn take_element(element: MetaElement, cells: &mut Cells)
         vr: element.vr,
         length,
     };
-    cells.go_on(Token::Open(head, Syntax::Little(Dictionary::Standard)));
-    if !element.value.is_empty() {
-        cells.go_on(Token::Bytes(element.value));
-    }
-    cells.go_on(Token::CloseLeaf);
+    cells.go_on_whole(head, Syntax::Little(Dictionary::Standard), element.value);
 }
 
 /// Gives the cells the elements of the meta group, before those of the data set.

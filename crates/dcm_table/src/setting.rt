@@ -51,7 +51,8 @@ fn is_setting(tag: Tag, vr: Vr) -> bool
 }
 
 /// Whether a head is that of a leaf that sets what is in force.
-fn opens_setting(head: &Head) -> bool
+#[inline(always)]
+pub fn opens_setting(head: &Head) -> bool
     ensures { result ≡ spec.opens_setting head.now.tag head.now.vr head.now.length }
 {
     match head.length {

@@ -3,7 +3,7 @@ use Rattle.dcm_base.specs.Steps.Atoms.{ends}
 use Rattle.dcm_deid.specs.DeidentifySink as spec
 use Rattle.dcm_deid.specs.Deidentifying as deidentifying
 use Rattle.dcm_deid.proofs.Taking.{token, on, failed}
-use Rattle.dcm_deid.proofs.sink.pass_end.Goals as goal
+use Rattle.dcm_deid.proofs.sink.put_open_end.Goals as goal
 
 pub returns-in_err-put_gap : goal.returns-in_err-put_gap
 returns-in_err-put_gap g c =
