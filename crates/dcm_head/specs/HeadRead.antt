@@ -9,7 +9,8 @@ use Rattle.dcm_base.specs.declared.length.Length.TheVariants.{Known}
 use Rattle.dcm_base.specs.Tables.Number.{number}
 use Rattle.dcm_base.specs.Tables.Tag.{is_item, is_item_end, is_sequence_end}
 use Rattle.dcm_base.specs.Bytes.Head.{tag_at, vr_at, length_at, head_size, long_length, HeadAt}
-use Rattle.dcm_base.specs.Tables.Representation.{is_capital}
+use Rattle.dcm_base.specs.Tables.Representation.{is_capital, is_long}
+use Rattle.dcm_base.specs.Reading.Place.{is_data}
 use Rattle.dcm_base.specs.Conversion.Recode.{is_explicit}
 use Rattle.dcm_head.specs.declared.head.Head.{Head}
 use Rattle.dcm_head.specs.declared.head.HeadRead.{HeadRead}
@@ -35,6 +36,14 @@ tag_read s bytes tag =
     if is_item tag then Done (record { tag = tag; vr = UN; length = long_length (number s 4 (drop 4 bytes)) }) 8
     else if is_delimiter tag then Done (record { tag = tag; vr = UN; length = Known 0 }) 8
     else element_read s bytes (vr_at s bytes)
+
+-- they begin with the head of an element that is of neither an item nor the meta group, with a length of two bytes
+pub record BeginsShort (s : Syntax) (bytes : List ℕ) (head : Head) : Type 0 where
+  pub read : Done head 8 ≡ tag_read s bytes (tag_at s bytes)
+  pub tag_is : head.tag ≡ tag_at s bytes
+  pub of_data : is_data head.tag ≡ true
+  pub short : is_long head.vr ≡ false
+  pub known : (n : ℕ) × (head.length ≡ Known n)
 
 -- the head that the bytes begin with, or what is missing to it
 unfoldable pub head_read : Syntax → List ℕ → HeadRead

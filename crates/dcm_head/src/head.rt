@@ -1,13 +1,14 @@
 // Heads as bytes (PS3.5 7.1.2, 7.1.3, 7.5).
-ghost use Rattle.std.specs.Prelude.{◌≡◌, true, ◌≤◌, length};
+ghost use Rattle.std.specs.Prelude.{◌≡◌, true, ◌≤◌, length, IfSome};
 ghost use Rattle.dcm_base.specs.Bytes.Head.{tag_at, vr_at, long_length};
+ghost use Rattle.dcm_base.specs.declared.syntax.Syntax.TheVariants.{Little as little_in};
 ghost use Rattle.dcm_base.specs.Tables.Number.{number};
 ghost use Rattle.dcm_base.specs.Conversion.Recode as recode;
 ghost use Rattle.dcm_base.specs.Tables.Representation.{is_capital as is_capital_letter, vr_read};
 ghost use Rattle.dcm_head.specs.HeadRead as spec;
 
 use byteorder::{BigEndian, ByteOrder, LittleEndian};
-use dcm_base::{Length, Syntax, Tag, Vr, vr_in, vr_of};
+use dcm_base::{Dictionary, ITEM_GROUP, Length, META_GROUP, Syntax, Tag, Vr, vr_in, vr_of};
 
 /// A head: tag, value representation and declared length (PS3.5 7.1). Items and delimiters have UN.
 #[derive(Clone, Copy, Debug, PartialEq, Eq)]
@@ -87,12 +88,18 @@ fn is_capital(letter: u8) -> bool
     b'A' <= letter && letter <= b'Z'
 }
 
-/// How two letters are read: capitals that name nothing are UN.
+/// How two letters are read: capitals that name nothing are UN. The letters of a representation are capitals, so these
+/// are looked for only where there is none.
+#[tactic(auto, using(crate::proofs::Heads::Capitals::named_read, crate::proofs::Heads::Capitals::unnamed_read))]
+#[inline(always)]
 fn read_vr(first: u8, second: u8) -> Option<Vr>
     ensures { result ≡ vr_read first second }
 {
+    if let Some(vr) = vr_of(&[first, second]) {
+        return Some(vr);
+    }
     if is_capital(first) && is_capital(second) {
-        Some(vr_of(&[first, second]).unwrap_or(Vr::UN))
+        Some(Vr::UN)
     } else {
         None
     }
@@ -118,6 +125,26 @@ pub fn read_explicit(syntax: Syntax, tag: Tag, bytes: &[u8]) -> HeadRead
     }
     let length = read_long(syntax, &bytes[8..]);
     HeadRead::Done(Head { tag, vr, length }, LONG_HEAD)
+}
+
+/// The head that the bytes begin with, where it is that of an element in explicit little endian with a length of two
+/// bytes. Nearly all heads are such. Items, and elements of the meta group, are left out.
+#[inline(always)]
+pub fn read_short_head(dictionary: Dictionary, bytes: &[u8]) -> Option<Head>
+    requires { 8 ≤ length bytes.now }
+    ensures { IfSome result (spec.BeginsShort (little_in dictionary) bytes.now) }
+{
+    let syntax = Syntax::Little(dictionary);
+    let tag = read_tag(syntax, bytes);
+    if tag.group == ITEM_GROUP || tag.group == META_GROUP {
+        return None;
+    }
+    let vr = read_vr(bytes[4], bytes[5])?;
+    if vr.is_long() {
+        return None;
+    }
+    let length = Length::Known(u32::from(read_short(syntax, &bytes[6..])));
+    Some(Head { tag, vr, length })
 }
 
 /// The head of an element with this tag.

@@ -9,3 +9,4 @@ pub mod WholeHeads
 pub mod PieceHeads
 pub mod WholeLeaves
 pub mod PieceLeaves
+pub mod PlainLeaves

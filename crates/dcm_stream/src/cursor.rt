@@ -280,7 +280,7 @@ impl Cursor {
     /// Reads the head that the bytes begin with, and its value where that is whole too, or all of the bytes where not even
     /// the head is.
     #[inline(always)]
-    fn read_head<S: Sink>(&mut self, bytes: &[u8], sink: &mut S) -> Result<usize, Halt>
+    pub fn read_head<S: Sink>(&mut self, bytes: &[u8], sink: &mut S) -> Result<usize, Halt>
         requires stands { spec.Stands (spec.reading self.old None) }
         requires left { self.old.left ≡ 0 }
         requires head { self.old.head.items ≡ [] }
@@ -350,7 +350,7 @@ impl Cursor {
         }
         if self.head.is_empty() && most >= SHORT_HEAD as u64 {
             let (bytes, _) = piece.split_at(most as usize);
-            return self.read_head(bytes, sink);
+            return self.read_heads(bytes, sink);
         }
         let n = (most as usize).min((SHORT_HEAD - 1).saturating_sub(self.head.len()));
         if n > 0 {

@@ -1,12 +1,13 @@
 // An element whose value is whole in a piece.
 ghost use Rattle.std.specs.Prelude.{IfSome};
+ghost use Rattle.dcm_base.specs.declared.syntax.Syntax.TheVariants.{Little as little_in};
 ghost use Rattle.dcm_stream.specs.Judging.{IsSized};
 ghost use Rattle.dcm_stream.specs.WholeLeaf as spec;
 
 use super::judge::Opening;
 use super::sign::says_sign;
-use dcm_base::Syntax;
-use dcm_head::Head;
+use dcm_base::{Dictionary, Length, Syntax};
+use dcm_head::{Head, SHORT_HEAD, read_short_head};
 
 /// An element whose value is whole in a piece.
 #[derive(Clone, Copy)]
@@ -48,4 +49,29 @@ pub fn whole_leaf<'p>(opening: Opening, rest: &'p [u8]) -> Option<WholeLeaf<'p>>
         }
         _ => None,
     }
+}
+
+/// The element in explicit little endian that the bytes begin with, where its length has two bytes and its value is
+/// whole in them. Nearly all elements are such. PixelRepresentation is left out here too.
+#[inline(always)]
+pub fn plain_leaf(dictionary: Dictionary, bytes: &[u8]) -> Option<WholeLeaf<'_>>
+    ensures { IfSome result (spec.IsPlain (little_in dictionary) bytes.now) }
+{
+    if bytes.len() < SHORT_HEAD {
+        return None;
+    }
+    let head = read_short_head(dictionary, bytes)?;
+    let Length::Known(size) = head.length else {
+        return None;
+    };
+    if says_sign(head.tag) {
+        return None;
+    }
+    let (_, rest) = bytes.split_at(SHORT_HEAD);
+    let value = front(rest, size)?;
+    Some(WholeLeaf {
+        head,
+        syntax: Syntax::Little(dictionary),
+        value,
+    })
 }

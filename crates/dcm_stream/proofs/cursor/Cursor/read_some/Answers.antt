@@ -48,4 +48,4 @@ returns-in_err-read_head_byte-clause-fed g c =
 
 pub returns-then-most-clause-fed : goal.returns-then-most-clause-fed
 returns-then-most-clause-fed g c =
-    record { feeds = within_piece g.S.Sink.bar g.S.Sink.step g.S.Sink.writes c.args.self.now (g.S.Sink.state c.args.sink.now) (g.S.Sink.contents c.args.sink.now) (g.S.Sink.state c.read_head.new.sink) (g.S.Sink.contents c.read_head.new.sink) c.read_head.new.self c.split_at-then-most.result.0.now c.args.piece.now _ c.read_head.result c.split_at-then-most.ensures.front c.read_head.ensures.some c.read_head.ensures.fed.feeds; failed = search rules; kept = search rules }
+    record { feeds = within_piece g.S.Sink.bar g.S.Sink.step g.S.Sink.writes c.args.self.now (g.S.Sink.state c.args.sink.now) (g.S.Sink.contents c.args.sink.now) (g.S.Sink.state c.read_heads.new.sink) (g.S.Sink.contents c.read_heads.new.sink) c.read_heads.new.self c.split_at-then-most.result.0.now c.args.piece.now _ c.read_heads.result c.split_at-then-most.ensures.front c.read_heads.ensures.some c.read_heads.ensures.fed.feeds; failed = search rules; kept = search rules }
