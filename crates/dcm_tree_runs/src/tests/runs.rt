@@ -73,13 +73,12 @@ fn wanted_of(alloc: Global, row: &Row) -> Result<Answer, AllocError> {
     })
 }
 
-/// The system of a row, by readers that give so many bytes at a time.
-fn system_of(alloc: Global, row: &Row, step: usize) -> Result<MemoryTree, AllocError> {
+/// The system of a row, by devices that work so but for what the row says.
+fn system_of(alloc: Global, row: &Row, devices: TreeDevices) -> Result<MemoryTree, AllocError> {
     let devices = TreeDevices {
-        step,
         room: row.room,
         umask: row.umask,
-        ..SOUND
+        ..devices
     };
     let tree = tree_of(alloc, row.before)?;
     let stdin = row.stdin.all(alloc)?;
@@ -89,15 +88,50 @@ fn system_of(alloc: Global, row: &Row, step: usize) -> Result<MemoryTree, AllocE
 /// The bytes that a reader gives at a time.
 const STEPS: [usize; 5] = [1, 2, 3, 7, 100_000];
 
-/// Expects the answer of a row by readers that give so many bytes at a time.
-fn expect_row(alloc: Global, row: &Row) -> Result<(), Fail> {
-    let words = split(alloc, row.words)?;
-    let wanted = wanted_of(alloc, row)?;
-    for step in STEPS {
-        let system = system_of(alloc, row, step)?;
-        expect_run(alloc, row.name, words.as_slice(), system, &wanted)?;
+/// A file system on which no file has two names.
+const NO_LINKS: TreeDevices = TreeDevices {
+    has_links: false,
+    ..SOUND
+};
+
+/// A row with its words, and what is wanted of it.
+#[derive(Drop)]
+struct Case<'a> {
+    row: &'a Row,
+    words: Vec<&'static [u8]>,
+    wanted: Answer,
+}
+
+impl<'a> Case<'a> {
+    /// The case of a row.
+    fn new(alloc: Global, row: &'a Row) -> Result<Self, AllocError> {
+        Ok(Case {
+            row,
+            words: split(alloc, row.words)?,
+            wanted: wanted_of(alloc, row)?,
+        })
     }
-    Ok(())
+
+    /// Expects the answer, by devices that work so but for what the row says.
+    fn expect(&self, alloc: Global, devices: TreeDevices) -> Result<(), Fail> {
+        let system = system_of(alloc, self.row, devices)?;
+        expect_run(
+            alloc,
+            self.row.name,
+            self.words.as_slice(),
+            system,
+            &self.wanted,
+        )
+    }
+}
+
+/// Expects the answer of a row by readers that give so many bytes at a time, and where no file has two names.
+fn expect_row(alloc: Global, row: &Row) -> Result<(), Fail> {
+    let case = Case::new(alloc, row)?;
+    for step in STEPS {
+        case.expect(alloc, TreeDevices { step, ..SOUND })?;
+    }
+    case.expect(alloc, NO_LINKS)
 }
 
 /// Expects the answers of rows.
